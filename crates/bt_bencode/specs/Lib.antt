@@ -1,0 +1,6 @@
+pub mod Data
+pub mod Spelling
+pub mod Field
+pub mod Fault
+pub mod View
+pub mod Reading

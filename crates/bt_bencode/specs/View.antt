@@ -1,0 +1,25 @@
+-- The data that a `Value` holds.
+use Rattle.std.specs.Prelude.{ℕ, List, [], ◌∷◌, map}
+use Rattle.std.specs.Global.{Vec}
+use Rattle.bt_bencode.specs.Data.{Data, integer, string, list, dictionary, Items, no_items, item, Entries, no_entries, entry}
+use Rattle.bt_bencode.specs.declared.value.Value.{Value}
+use Rattle.bt_bencode.specs.declared.value.Value.TheOpen.{Value-F}
+use Rattle.bt_bencode.specs.declared.value.Value.TheFolds.{fold-Value}
+
+abbrev pub items_from : List Data → Items
+items_from [] = no_items
+items_from (d ∷ ds) = item d (items_from ds)
+
+abbrev pub entries_from : List (Vec ℕ × Data) → Entries
+entries_from [] = no_entries
+entries_from (e ∷ es) = entry e.0.items e.1 (entries_from es)
+
+-- one level, with the values inside it already seen as data
+abbrev pub data_step : Value-F Data → Data
+data_step (Value-F.Int z) = integer z
+data_step (Value-F.Bytes v) = string v.items
+data_step (Value-F.List v) = list (items_from v.items)
+data_step (Value-F.Dict v) = dictionary (entries_from v.items)
+
+abbrev pub data_of : Value → Data
+data_of = fold-Value Data data_step

@@ -1,0 +1,85 @@
+//! Numerals: runs of decimal digits, and the numbers that they write.
+ghost use Rattle.std.specs.Prelude.{◌≡◌, ◌^◌, ◌<◌, ◌≤◌, ◌↔◌, length, slice_index, slice_range, IsTrue, IfOk, IfErr, FitsSigned};
+ghost use Rattle.std.specs.Option.{SomeIff};
+ghost use Rattle.std.specs.Char.{IsAsciiDigit};
+ghost use Rattle.std.specs.Int.{w64};
+ghost use Rattle.std.specs.Str.{IsAscii};
+ghost use Rattle.std.specs.Str.Parse.{AllDigits, IsNumeral, digits_value, without_leading_sign, signed_digits_value};
+ghost use Rattle.bt_bencode.specs.Fault.{AtFault, LeadsWithZero, NumeralStops};
+ghost use Rattle.bt_bencode.specs.Reading.{FaultFrom, IsNumeralAt};
+
+use crate::error::BencodeError;
+use std::str;
+
+/// Where the run of decimal digits that begins at `at` ends.
+fn digits_end(bytes: &[u8], at: usize) -> usize
+    requires { at ≤ length bytes.now }
+    ensures from { at ≤ result }
+    ensures inside { result ≤ length bytes.now }
+    ensures digits { AllDigits 10 (slice_range bytes.now at result) }
+    ensures ended { ¬ IsAsciiDigit (slice_index bytes.now result) }
+{
+    let mut end = at;
+    while end < bytes.len() && bytes[end].is_ascii_digit() {
+        end += 1;
+    }
+    end
+}
+
+/// Whether the text begins with a zero that may not stand: behind a minus, or before another digit.
+fn leads_with_zero(text: &[u8], negative: bool) -> bool
+    ensures { IsTrue result ↔ LeadsWithZero negative text.now }
+{
+    match text {
+        [b'0', next, ..] => negative || next.is_ascii_digit(),
+        [b'0'] => negative,
+        _ => false,
+    }
+}
+
+/// Where the numeral that begins at `at` ends: the index of the byte `stop` behind its last digit.
+pub fn numeral_end(bytes: &[u8], at: usize, negative: bool, stop: u8) -> Result<usize, BencodeError>
+    requires { at ≤ length bytes.now }
+    ensures found { IfOk result (IsNumeralAt negative stop bytes.now at) }
+    ensures fault { IfErr result (AtFault (FaultFrom (NumeralStops negative stop) bytes.now at)) }
+{
+    if leads_with_zero(&bytes[at..], negative) {
+        return Err(BencodeError::LeadingZero(at));
+    }
+    let end = digits_end(bytes, at);
+    if end == bytes.len() {
+        return Err(BencodeError::Truncated(end));
+    }
+    if end == at || bytes[end] != stop {
+        return Err(BencodeError::BadByte(end));
+    }
+    Ok(end)
+}
+
+/// The bytes as text.
+fn ascii_text(bytes: &[u8]) -> &str
+    requires { IsAscii bytes.now }
+    ensures { result.now ≡ bytes.now }
+{
+    match str::from_utf8(bytes) {
+        Ok(text) => text,
+        Err(_) => unreachable!(),
+    }
+}
+
+/// The length that the digits write; None where it is more than any slice has.
+pub fn length_of(digits: &[u8]) -> Option<usize>
+    requires { IsNumeral 10 digits.now }
+    ensures { SomeIff result (digits_value 10 digits.now < 2 ^ 64) (digits_value 10 digits.now) }
+{
+    ascii_text(digits).parse().ok()
+}
+
+/// The integer that a sign and digits write; None where it has more than 64 bits.
+pub fn integer_of(numeral: &[u8]) -> Option<i64>
+    requires ascii { IsAscii numeral.now }
+    requires digits { IsNumeral 10 (without_leading_sign numeral.now) }
+    ensures { SomeIff result (FitsSigned w64 (signed_digits_value 10 numeral.now)) (signed_digits_value 10 numeral.now) }
+{
+    ascii_text(numeral).parse().ok()
+}

@@ -1,0 +1,147 @@
+//! Reading canonical bencoding from the left.
+ghost use Rattle.std.specs.Prelude.{◌≡◌, ◌≢◌, ◌^◌, ◌<◌, ◌≤◌, ◌↔◌, ◌++◌, length, codes, slice_index, take, IsTrue, IfOk, IfErr};
+ghost use Rattle.bt_bencode.specs.Data.{Data};
+ghost use Rattle.bt_bencode.specs.Spelling.{spelling_of, string_spelling, IsCanonical, IsCanonicalWithin};
+ghost use Rattle.bt_bencode.specs.Fault.{AtFault, StringStops, Stops, IsFirstFault};
+ghost use Rattle.bt_bencode.specs.View.{data_of};
+ghost use Rattle.bt_bencode.specs.Reading.{Spans, FaultFrom, ReadsString, ReadsInteger, ReadsValue};
+
+use crate::doc::Doc;
+use crate::error::BencodeError;
+use crate::number::{integer_of, length_of, numeral_end};
+use crate::value::Value;
+use std::alloc::Global;
+
+/// How many lists and dictionaries may lie in one another.
+pub const MAX_NESTING: usize = 128;
+
+/// The value that the bytes spell, all of them.
+pub fn parse(alloc: Global, bytes: &[u8]) -> Result<Doc, BencodeError>
+{
+    let (value, end) = value_at(alloc, bytes, 0, MAX_NESTING)?;
+    if end < bytes.len() {
+        return Err(BencodeError::Trailing(end));
+    }
+    Ok(Doc::new(value))
+}
+
+/// The value that begins at `at`, of nesting at most `depth`, and where it ends.
+#[cycle(value)]
+fn value_at(alloc: Global, bytes: &[u8], at: usize, depth: usize) -> Result<(Value, usize), BencodeError>
+    requires { at ≤ length bytes.now }
+    ensures found { IfOk result (λ x. ReadsValue depth bytes.now at x.1 (data_of x.0)) }
+    ensures fault { IfErr result (AtFault (FaultFrom (Stops depth) bytes.now at)) }
+{
+    if at == bytes.len() {
+        return Err(BencodeError::Truncated(at));
+    }
+    match bytes[at] {
+        b'i' => {
+            let (integer, end) = integer_at(bytes, at)?;
+            Ok((Value::Int(integer), end))
+        }
+        b'0'..=b'9' => {
+            let (string, end) = string_at(alloc, bytes, at)?;
+            Ok((Value::Bytes(string), end))
+        }
+        b'l' => list_at(alloc, bytes, at, depth),
+        b'd' => dictionary_at(alloc, bytes, at, depth),
+        _ => Err(BencodeError::BadByte(at)),
+    }
+}
+
+/// The list whose `l` is at `at`, and where it ends.
+#[cycle(value)]
+fn list_at(alloc: Global, bytes: &[u8], at: usize, depth: usize) -> Result<(Value, usize), BencodeError>
+    requires inside { at < length bytes.now }
+    requires first { slice_index bytes.now at ≡ 108 }
+    ensures found { IfOk result (λ x. ReadsValue depth bytes.now at x.1 (data_of x.0)) }
+    ensures fault { IfErr result (AtFault (FaultFrom (Stops depth) bytes.now at)) }
+{
+    if depth == 0 {
+        return Err(BencodeError::TooDeep(at));
+    }
+    let mut items = Vec::new(alloc);
+    let mut next = at + 1;
+    while !is_end(bytes, next) {
+        let (item, end) = value_at(alloc, bytes, next, depth - 1)?;
+        items.push(item)?;
+        next = end;
+    }
+    Ok((Value::List(items), next + 1))
+}
+
+/// The dictionary whose `d` is at `at`, and where it ends.
+#[cycle(value)]
+fn dictionary_at(alloc: Global, bytes: &[u8], at: usize, depth: usize) -> Result<(Value, usize), BencodeError>
+    requires inside { at < length bytes.now }
+    requires first { slice_index bytes.now at ≡ 100 }
+    ensures found { IfOk result (λ x. ReadsValue depth bytes.now at x.1 (data_of x.0)) }
+    ensures fault { IfErr result (AtFault (FaultFrom (Stops depth) bytes.now at)) }
+{
+    if depth == 0 {
+        return Err(BencodeError::TooDeep(at));
+    }
+    let mut entries: Vec<(Vec<u8>, Value)> = Vec::new(alloc);
+    let mut next = at + 1;
+    while !is_end(bytes, next) {
+        let (key, colon) = string_at(alloc, bytes, next)?;
+        if !ascends(&entries, &key) {
+            return Err(BencodeError::KeyOrder(next));
+        }
+        let (value, end) = value_at(alloc, bytes, colon, depth - 1)?;
+        entries.push((key, value))?;
+        next = end;
+    }
+    Ok((Value::Dict(entries), next + 1))
+}
+
+/// Whether the key may follow the entries.
+fn ascends(entries: &[(Vec<u8>, Value)], key: &[u8]) -> bool
+{
+    match entries.last() {
+        Some((last, _)) => last.as_slice() < key,
+        None => true,
+    }
+}
+
+/// Whether the byte at `at` ends a list or a dictionary.
+fn is_end(bytes: &[u8], at: usize) -> bool
+    ensures { IsTrue result ↔ (slice_index bytes.now at ≡ 101) }
+{
+    at < bytes.len() && bytes[at] == b'e'
+}
+
+/// The integer whose `i` is at `at`, and where it ends.
+fn integer_at(bytes: &[u8], at: usize) -> Result<(i64, usize), BencodeError>
+    requires inside { at < length bytes.now }
+    requires first { slice_index bytes.now at ≡ 105 }
+    ensures found { IfOk result (λ x. ReadsInteger bytes.now at x.1 x.0) }
+    ensures fault { IfErr result (AtFault (FaultFrom (Stops 0) bytes.now at)) }
+{
+    let start = at + 1;
+    let negative = start < bytes.len() && bytes[start] == b'-';
+    let digits = if negative { start + 1 } else { start };
+    let end = numeral_end(bytes, digits, negative, b'e')?;
+    match integer_of(&bytes[start..end]) {
+        Some(integer) => Ok((integer, end + 1)),
+        None => Err(BencodeError::IntRange(start)),
+    }
+}
+
+/// The string that begins at `at`, and where it ends.
+fn string_at(alloc: Global, bytes: &[u8], at: usize) -> Result<(Vec<u8>, usize), BencodeError>
+    requires { at ≤ length bytes.now }
+    ensures found { IfOk result (λ x. ReadsString bytes.now at x.1 x.0.items) }
+    ensures fault { IfErr result (AtFault (FaultFrom StringStops bytes.now at)) }
+{
+    let colon = numeral_end(bytes, at, false, b':')?;
+    let rest = &bytes[colon + 1..];
+    match length_of(&bytes[at..colon]) {
+        Some(length) if length <= rest.len() => {
+            let string = Vec::from_slice(alloc, &rest[..length])?;
+            Ok((string, colon + 1 + length))
+        }
+        _ => Err(BencodeError::Truncated(bytes.len())),
+    }
+}
