@@ -1,1 +1,5 @@
 pub mod Splits
+pub mod Numerals
+pub mod Passing
+pub mod Strings
+pub mod Integers

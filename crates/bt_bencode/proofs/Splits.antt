@@ -1,9 +1,10 @@
 -- Where a range of some bytes ends, the rest goes on; and what a run of digits tells.
-use Rattle.std.proofs.Common.{◌≡◌, ◌≢◌, ℕ, zero, suc, ◌+◌, ◌-◌, ◌<◌, ◌≤◌, Bool, true, false, List, [], ◌∷◌, ◌++◌, length, take, drop, get_or, refl, sym, ap, ◌∙◌, subst, arith, length-drop, add-zero}
-use Rattle.std.specs.Prelude.{slice_range, IsTrue, ◌⊎◌}
+use Rattle.std.proofs.Common.{◌≡◌, ◌≢◌, ℕ, zero, suc, ◌+◌, ◌-◌, ◌<◌, ◌≤◌, List, [], ◌∷◌, ◌++◌, length, take, drop, get_or, refl, sym, ap, ◌∙◌, subst, arith, length-drop, add-zero}
+use Rattle.std.specs.Prelude.{slice_range, Option, None, Some}
+use Rattle.std.specs.Option.{SomeIff}
 use Rattle.std.specs.Char.{IsAsciiDigit, digit_value}
 use Rattle.std.specs.Str.Parse.{AllDigits, IsNumeral}
-use Rattle.std.proofs.lemmas.List.{take-append-drop, drop_more, length-take-le, get_or-drop}
+use Rattle.std.proofs.lemmas.List.{take-append-drop, length-take-le, get_or-drop}
 use Rattle.std.proofs.lemmas.Str.{digit_value_digit}
 use Rattle.std.proofs.lemmas.Int.Digits.{digits_more}
 
@@ -36,3 +37,17 @@ drop_first i xs = get_or-drop i xs 0 0 ∙ ap (λ k. get_or xs k 0) (add-zero i)
 
 pub nothing_between : (xs : List ℕ) (at end : ℕ) → end ≤ at → slice_range xs at end ≡ []
 nothing_between xs at end le = let e : end - at ≡ 0 = omega arith in rw e refl
+
+pub length-between : (xs : List ℕ) (at end : ℕ) → end ≤ length xs → length (slice_range xs at end) ≡ end - at
+length-between xs at end le = length-take-le (end - at) (drop at xs) (omega (arith, length-drop at xs))
+
+-- what is answered by `None` does not hold
+pub unless_some : {X : Type 0} → (r : Option X) (P : Type 0) (v : X) → SomeIff r P v → ((x : X) → r ≡ Some x → ⊥) → ¬ P
+unless_some None P v iff not_some = iff
+unless_some (Some x) P v iff not_some = absurd (not_some x refl)
+
+-- a byte that is not 0 stands inside
+pub in_range : (xs : List ℕ) (i c : ℕ) → c ≢ 0 → get_or xs i 0 ≡ c → i < length xs
+in_range [] i c some e = absurd (some (sym e))
+in_range (x ∷ xs) zero c some e = omega arith
+in_range (x ∷ xs) (suc i) c some e = let lt : i < length xs = in_range xs i c some e in omega arith

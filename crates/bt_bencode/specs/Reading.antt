@@ -1,5 +1,6 @@
 -- What a reader at an offset of the bytes tells.
-use Rattle.std.specs.Prelude.{◌≡◌, ℕ, ℤ, Bool, ◌<◌, ◌≤◌, List, ◌++◌, length, drop, slice_index, slice_range}
+use Rattle.std.specs.Prelude.{◌≡◌, ℕ, ℤ, Bool, ◌<◌, ◌≤◌, List, ◌++◌, length, drop, slice_index, slice_range, FitsSigned}
+use Rattle.std.specs.Int.{w64}
 use Rattle.std.specs.Str.Parse.{AllDigits}
 use Rattle.bt_bencode.specs.Data.{Data, integer}
 use Rattle.bt_bencode.specs.Spelling.{string_spelling, spelling_of, IsCanonicalWithin}
@@ -32,5 +33,6 @@ abbrev pub ReadsString : List ℕ → ℕ → ℕ → List ℕ → Type 0
 ReadsString bytes at end s = Spans bytes at end (string_spelling s)
 
 -- an integer from `at` to `end`
-abbrev pub ReadsInteger : List ℕ → ℕ → ℕ → ℤ → Type 0
-ReadsInteger bytes at end z = Spans bytes at end (spelling_of (integer z))
+pub record ReadsInteger (bytes : List ℕ) (at end : ℕ) (z : ℤ) : Type 0 where
+  pub spans : Spans bytes at end (spelling_of (integer z))
+  pub fits : FitsSigned w64 z

@@ -1,10 +1,9 @@
 //! Numerals: runs of decimal digits, and the numbers that they write.
-ghost use Rattle.std.specs.Prelude.{◌≡◌, ◌^◌, ◌<◌, ◌≤◌, ◌↔◌, length, slice_index, slice_range, IsTrue, IfOk, IfErr, FitsSigned};
+ghost use Rattle.std.specs.Prelude.{◌≡◌, ◌^◌, ◌<◌, ◌≤◌, ◌↔◌, length, drop, slice_index, slice_range, pos, neg_ℤ, IsTrue, IfOk, IfErr};
 ghost use Rattle.std.specs.Option.{SomeIff};
 ghost use Rattle.std.specs.Char.{IsAsciiDigit};
-ghost use Rattle.std.specs.Int.{w64};
 ghost use Rattle.std.specs.Str.{IsAscii};
-ghost use Rattle.std.specs.Str.Parse.{AllDigits, IsNumeral, digits_value, without_leading_sign, signed_digits_value};
+ghost use Rattle.std.specs.Str.Parse.{AllDigits, IsNumeral, digits_value};
 ghost use Rattle.bt_bencode.specs.Fault.{AtFault, LeadsWithZero, NumeralStops};
 ghost use Rattle.bt_bencode.specs.Reading.{FaultFrom, IsNumeralAt};
 
@@ -75,11 +74,11 @@ pub fn length_of(digits: &[u8]) -> Option<usize>
     ascii_text(digits).parse().ok()
 }
 
-/// The integer that a sign and digits write; None where it has more than 64 bits.
+/// The integer that digits, perhaps behind a minus, write; None where it has more than 64 bits.
 pub fn integer_of(numeral: &[u8]) -> Option<i64>
     requires ascii { IsAscii numeral.now }
-    requires digits { IsNumeral 10 (without_leading_sign numeral.now) }
-    ensures { SomeIff result (FitsSigned w64 (signed_digits_value 10 numeral.now)) (signed_digits_value 10 numeral.now) }
+    ensures plain { IsNumeral 10 numeral.now → SomeIff result (digits_value 10 numeral.now < 2 ^ 63) (pos (digits_value 10 numeral.now)) }
+    ensures minus { slice_index numeral.now 0 ≡ 45 → IsNumeral 10 (drop 1 numeral.now) → SomeIff result (digits_value 10 (drop 1 numeral.now) ≤ 2 ^ 63) (neg_ℤ (pos (digits_value 10 (drop 1 numeral.now)))) }
 {
     ascii_text(numeral).parse().ok()
 }

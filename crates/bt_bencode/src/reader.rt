@@ -1,5 +1,5 @@
 //! Reading canonical bencoding from the left.
-ghost use Rattle.std.specs.Prelude.{◌≡◌, ◌≢◌, ◌^◌, ◌<◌, ◌≤◌, ◌↔◌, ◌++◌, length, codes, slice_index, take, IsTrue, IfOk, IfErr};
+ghost use Rattle.std.specs.Prelude.{ℕ, ◌≡◌, ◌≢◌, ◌^◌, ◌<◌, ◌≤◌, ◌↔◌, ◌++◌, length, codes, slice_index, take, IsTrue, IfOk, IfErr};
 ghost use Rattle.bt_bencode.specs.Data.{Data};
 ghost use Rattle.bt_bencode.specs.Spelling.{spelling_of, string_spelling, IsCanonical, IsCanonicalWithin};
 ghost use Rattle.bt_bencode.specs.Fault.{AtFault, StringStops, Stops, IsFirstFault};
@@ -63,7 +63,7 @@ fn list_at(alloc: Global, bytes: &[u8], at: usize, depth: usize) -> Result<(Valu
     }
     let mut items = Vec::new(alloc);
     let mut next = at + 1;
-    while !is_end(bytes, next) {
+    while !stands_at(bytes, next, b'e') {
         let (item, end) = value_at(alloc, bytes, next, depth - 1)?;
         items.push(item)?;
         next = end;
@@ -84,7 +84,7 @@ fn dictionary_at(alloc: Global, bytes: &[u8], at: usize, depth: usize) -> Result
     }
     let mut entries: Vec<(Vec<u8>, Value)> = Vec::new(alloc);
     let mut next = at + 1;
-    while !is_end(bytes, next) {
+    while !stands_at(bytes, next, b'e') {
         let (key, colon) = string_at(alloc, bytes, next)?;
         if !ascends(&entries, &key) {
             return Err(BencodeError::KeyOrder(next));
@@ -105,11 +105,11 @@ fn ascends(entries: &[(Vec<u8>, Value)], key: &[u8]) -> bool
     }
 }
 
-/// Whether the byte at `at` ends a list or a dictionary.
-fn is_end(bytes: &[u8], at: usize) -> bool
-    ensures { IsTrue result ↔ (slice_index bytes.now at ≡ 101) }
+/// Whether this byte stands at `at`.
+fn stands_at(bytes: &[u8], at: usize, byte: u8) -> bool
+    ensures { IsTrue result ↔ ((at < length bytes.now) × (slice_index bytes.now at ≡ byte)) }
 {
-    at < bytes.len() && bytes[at] == b'e'
+    at < bytes.len() && bytes[at] == byte
 }
 
 /// The integer whose `i` is at `at`, and where it ends.
@@ -117,15 +117,14 @@ fn integer_at(bytes: &[u8], at: usize) -> Result<(i64, usize), BencodeError>
     requires inside { at < length bytes.now }
     requires first { slice_index bytes.now at ≡ 105 }
     ensures found { IfOk result (λ x. ReadsInteger bytes.now at x.1 x.0) }
-    ensures fault { IfErr result (AtFault (FaultFrom (Stops 0) bytes.now at)) }
+    ensures fault { (n : ℕ) → IfErr result (AtFault (FaultFrom (Stops n) bytes.now at)) }
 {
-    let start = at + 1;
-    let negative = start < bytes.len() && bytes[start] == b'-';
-    let digits = if negative { start + 1 } else { start };
+    let negative = stands_at(bytes, at + 1, b'-');
+    let digits = at + 1 + usize::from(negative);
     let end = numeral_end(bytes, digits, negative, b'e')?;
-    match integer_of(&bytes[start..end]) {
+    match integer_of(&bytes[at + 1..end]) {
         Some(integer) => Ok((integer, end + 1)),
-        None => Err(BencodeError::IntRange(start)),
+        None => Err(BencodeError::IntRange(at + 1)),
     }
 }
 
@@ -136,11 +135,13 @@ fn string_at(alloc: Global, bytes: &[u8], at: usize) -> Result<(Vec<u8>, usize),
     ensures fault { IfErr result (AtFault (FaultFrom StringStops bytes.now at)) }
 {
     let colon = numeral_end(bytes, at, false, b':')?;
-    let rest = &bytes[colon + 1..];
+    let start = colon + 1;
+    let left = bytes.len() - start;
     match length_of(&bytes[at..colon]) {
-        Some(length) if length <= rest.len() => {
-            let string = Vec::from_slice(alloc, &rest[..length])?;
-            Ok((string, colon + 1 + length))
+        Some(length) if length <= left => {
+            let end = start + length;
+            let string = Vec::from_slice(alloc, &bytes[start..end])?;
+            Ok((string, end))
         }
         _ => Err(BencodeError::Truncated(bytes.len())),
     }

@@ -2,7 +2,7 @@
 ///
 /// A dictionary is its keys and values in the order in which they stand: [`crate::write`] spells any
 /// value, and [`crate::parse`] makes only those whose keys ascend.
-#[derive(Clone, Debug, PartialEq, Eq, Drop)]
+#[derive(Debug, PartialEq, Eq, Drop)]
 pub enum Value {
     /// An integer of 64 bits.
     Int(i64),

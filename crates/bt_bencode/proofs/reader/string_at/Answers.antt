@@ -1,0 +1,37 @@
+use Rattle.std.proofs.Common.{◌≡◌, ◌+◌, ◌-◌, ◌<◌, ◌≤◌, ◌^◌, false, length, take, drop, sym, ap, ◌∙◌, subst, arith}
+use Rattle.std.specs.Prelude.{slice_range}
+use Rattle.std.specs.Str.Parse.{digits_value}
+use Rattle.std.proofs.lemmas.Result.{err_from_is_err_and}
+use Rattle.bt_bencode.specs.Fault.{NumeralStops, StringStops, in_length}
+use Rattle.bt_bencode.specs.Reading.{FaultFrom}
+use Rattle.bt_bencode.proofs.Passing.{fault_passed}
+use Rattle.bt_bencode.proofs.Splits.{unless_some}
+use Rattle.bt_bencode.proofs.Strings.{string_read, string_short}
+use Rattle.bt_bencode.proofs.reader.string_at.Goals as goal
+use Rattle.bt_bencode.proofs.reader.string_at.Goals.{in_default-via-in-Some+else-length-left, in_default-via-in_default}
+
+pub returns-in_err-colon-clause-fault : goal.returns-in_err-colon-clause-fault
+returns-in_err-colon-clause-fault c =
+    let p = err_from_is_err_and c.from_residual.result c.from_residual.ensures.1 in
+    rw (p.1, p.2) (fault_passed (FaultFrom (NumeralStops false 58) c.args.bytes.now c.args.at) (FaultFrom StringStops c.args.bytes.now c.args.at)
+    (λ f offset h. (h.0, in_length f (drop offset c.args.bytes.now) h.1)) c.in_err-colon.field-0.0 c.in_err-colon.ensures.fault)
+
+pub returns-in_ok-string-in-Some-clause-found : goal.returns-in_ok-string-in-Some-clause-found
+returns-in_ok-string-in-Some-clause-found c =
+    let bytes = c.args.bytes.now in
+    let colon = c.in_ok-colon.colon in
+    let inside : colon < length bytes = c.in_ok-colon.ensures.found.inside in
+    let size : colon + 1 + c.in-Some.length - (colon + 1) ≡ c.in-Some.length = omega arith in
+    let value = c.in-Some.ensures.1 in
+    string_read bytes c.args.at colon c.in-Some.length c.in_ok-string-in-Some.string.items c.in_ok-colon.ensures.found (sym value) (subst (λ k. k < 2 ^ 64) (sym value) c.in-Some.ensures.0)
+    (omega arith) (c.in_ok-string-in-Some.ensures.items ∙ ap (λ k. take k (drop (colon + 1) bytes)) size)
+
+pub returns-in_default-clause-fault : goal.returns-in_default-clause-fault
+returns-in_default-clause-fault c =
+    let bytes = c.args.bytes.now in
+    let colon = c.in_ok-colon.colon in
+    let long : length bytes - (colon + 1) < digits_value 10 (slice_range bytes c.args.at colon) = elim c.in_default.branch [
+      | in_default-via-in-Some+else-length-left w ↦ omega (arith, w.if-length-left.false, w.in-Some.ensures.1)
+      | in_default-via-in_default w ↦ omega (arith, unless_some c.length_of.result _ _ c.length_of.ensures w.in_default.not-Some)
+    ] in
+    string_short bytes c.args.at colon c.in_ok-colon.ensures.found long
