@@ -1,6 +1,6 @@
 -- Where a range of some bytes ends, the rest goes on; and what a run of digits tells.
 use Rattle.std.proofs.Common.{◌≡◌, ◌≢◌, ℕ, zero, suc, ◌+◌, ◌-◌, ◌<◌, ◌≤◌, List, [], ◌∷◌, ◌++◌, length, take, drop, get_or, refl, sym, ap, ◌∙◌, subst, arith, length-drop, add-zero}
-use Rattle.std.specs.Prelude.{slice_range, Option, None, Some}
+use Rattle.std.specs.Prelude.{slice_range, Option, None, Some, IsTrue, true, false}
 use Rattle.std.specs.Option.{SomeIff}
 use Rattle.std.specs.Char.{IsAsciiDigit, digit_value}
 use Rattle.std.specs.Str.Parse.{AllDigits, IsNumeral}
@@ -51,3 +51,7 @@ pub in_range : (xs : List ℕ) (i c : ℕ) → c ≢ 0 → get_or xs i 0 ≡ c �
 in_range [] i c some e = absurd (some (sym e))
 in_range (x ∷ xs) zero c some e = omega arith
 in_range (x ∷ xs) (suc i) c some e = let lt : i < length xs = in_range xs i c some e in omega arith
+
+-- what a test for a byte denies
+pub not_standing : (xs : List ℕ) (i c : ℕ) → c ≢ 0 → ((i < length xs) × (get_or xs i 0 ≡ c) → IsTrue false) → get_or xs i 0 ≢ c
+not_standing xs i c some denied e = let impossible : false ≡ true = denied (in_range xs i c some e, e) in cc

@@ -23,3 +23,12 @@ data_step (Value-F.Dict v) = dictionary (entries_from v.items)
 
 abbrev pub data_of : Value → Data
 data_of = fold-Value Data data_step
+
+abbrev pub items_of : List Value → Items
+items_of vs = items_from (map data_of vs)
+
+abbrev pub entry_data : Vec ℕ × Value → Vec ℕ × Data
+entry_data e = (e.0, data_of e.1)
+
+abbrev pub entries_of : List (Vec ℕ × Value) → Entries
+entries_of es = entries_from (map entry_data es)

@@ -2,8 +2,8 @@
 ghost use Rattle.std.specs.Prelude.{ℕ, ◌≡◌, ◌≢◌, ◌^◌, ◌<◌, ◌≤◌, ◌↔◌, ◌++◌, length, codes, slice_index, take, IsTrue, IfOk, IfErr};
 ghost use Rattle.bt_bencode.specs.Data.{Data};
 ghost use Rattle.bt_bencode.specs.Spelling.{spelling_of, string_spelling, IsCanonical, IsCanonicalWithin};
-ghost use Rattle.bt_bencode.specs.Fault.{AtFault, StringStops, Stops, IsFirstFault};
-ghost use Rattle.bt_bencode.specs.View.{data_of};
+ghost use Rattle.bt_bencode.specs.Fault.{AtFault, EndsBefore, StringStops, Stops, IsFirstFault};
+ghost use Rattle.bt_bencode.specs.View.{data_of, entries_of};
 ghost use Rattle.bt_bencode.specs.Reading.{Spans, FaultFrom, ReadsString, ReadsInteger, ReadsValue};
 
 use crate::doc::Doc;
@@ -35,17 +35,18 @@ fn value_at(alloc: Global, bytes: &[u8], at: usize, depth: usize) -> Result<(Val
     if at == bytes.len() {
         return Err(BencodeError::Truncated(at));
     }
-    match bytes[at] {
+    let first = bytes[at];
+    match first {
         b'i' => {
             let (integer, end) = integer_at(bytes, at)?;
             Ok((Value::Int(integer), end))
         }
-        b'0'..=b'9' => {
+        b'l' => list_at(alloc, bytes, at, depth),
+        b'd' => dictionary_at(alloc, bytes, at, depth),
+        _ if first.is_ascii_digit() => {
             let (string, end) = string_at(alloc, bytes, at)?;
             Ok((Value::Bytes(string), end))
         }
-        b'l' => list_at(alloc, bytes, at, depth),
-        b'd' => dictionary_at(alloc, bytes, at, depth),
         _ => Err(BencodeError::BadByte(at)),
     }
 }
@@ -86,7 +87,7 @@ fn dictionary_at(alloc: Global, bytes: &[u8], at: usize, depth: usize) -> Result
     let mut next = at + 1;
     while !stands_at(bytes, next, b'e') {
         let (key, colon) = string_at(alloc, bytes, next)?;
-        if !ascends(&entries, &key) {
+        if !may_follow(&entries, &key) {
             return Err(BencodeError::KeyOrder(next));
         }
         let (value, end) = value_at(alloc, bytes, colon, depth - 1)?;
@@ -96,12 +97,13 @@ fn dictionary_at(alloc: Global, bytes: &[u8], at: usize, depth: usize) -> Result
     Ok((Value::Dict(entries), next + 1))
 }
 
-/// Whether the key may follow the entries.
-fn ascends(entries: &[(Vec<u8>, Value)], key: &[u8]) -> bool
+/// Whether the key stands after the last one of the entries.
+fn may_follow(entries: &[(Vec<u8>, Value)], key: &[u8]) -> bool
+    ensures { IsTrue result ↔ EndsBefore (entries_of entries.now) key.now }
 {
-    match entries.last() {
-        Some((last, _)) => last.as_slice() < key,
-        None => true,
+    match entries {
+        [.., (last, _)] => last.as_slice().cmp(key).is_lt(),
+        [] => true,
     }
 }
 
