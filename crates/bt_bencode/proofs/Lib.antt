@@ -6,3 +6,4 @@ pub mod Integers
 pub mod Views
 pub mod Lists
 pub mod Dictionaries
+pub mod Prefixes

@@ -90,3 +90,23 @@ pub record IsCanonicalWithin (n : ℕ) (d : Data) : Type 0 where
 
 abbrev pub IsCanonical : Data → Type 0
 IsCanonical = IsCanonicalWithin 128
+
+unfoldable mutual
+  -- what a `Value` can hold: integers of 64 bits, and strings shorter than 2 ^ 64 bytes
+  pub IsRepresentable : Data → Type 0
+  IsRepresentable (integer z) = FitsSigned w64 z
+  IsRepresentable (string s) = length s < 2 ^ 64
+  IsRepresentable (list ds) = ItemsAreRepresentable ds
+  IsRepresentable (dictionary es) = EntriesAreRepresentable es
+
+  pub ItemsAreRepresentable : Items → Type 0
+  ItemsAreRepresentable no_items = Unit {0}
+  ItemsAreRepresentable (item d ds) = IsRepresentable d × ItemsAreRepresentable ds
+
+  pub EntriesAreRepresentable : Entries → Type 0
+  EntriesAreRepresentable no_entries = Unit {0}
+  EntriesAreRepresentable (entry key d es) = (length key < 2 ^ 64) × IsRepresentable d × EntriesAreRepresentable es
+
+-- neither of two spellings begins the other, but where they are one
+abbrev pub IsPrefixFree : Data → Data → Type 0
+IsPrefixFree d e = (rest more : List ℕ) → spelling_of d ++ rest ≡ spelling_of e ++ more → (d ≡ e) × (rest ≡ more)
