@@ -7,3 +7,5 @@ pub mod Views
 pub mod Lists
 pub mod Dictionaries
 pub mod Prefixes
+pub mod Representable
+pub mod Refusals

@@ -120,7 +120,7 @@ no_end (list ds) x y fits h = omega (arith, ap (λ t. get_or t 0 0) h)
 no_end (dictionary es) x y fits h = omega (arith, ap (λ t. get_or t 0 0) h)
 
 -- a string begins with a digit, and another value with this byte
-string_apart : (s x y : List ℕ) (c : ℕ) → length s < 2 ^ 64 → 57 < c → string_spelling s ++ x ≡ c ∷ y → ⊥
+pub string_apart : (s x y : List ℕ) (c : ℕ) → length s < 2 ^ 64 → 57 < c → string_spelling s ++ x ≡ c ∷ y → ⊥
 string_apart s x y c fits other h =
     let digit : IsAsciiDigit (get_or (string_spelling s ++ x) 0 0) = first_of_string s x fits in
     let first : get_or (string_spelling s ++ x) 0 0 ≡ c = ap (λ t. get_or t 0 0) h in
