@@ -9,3 +9,4 @@ pub mod Dictionaries
 pub mod Prefixes
 pub mod Representable
 pub mod Refusals
+pub mod Faults

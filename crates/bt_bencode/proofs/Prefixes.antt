@@ -49,7 +49,7 @@ string_parts s x = append_assoc (decimal (length s) ++ 58 ∷ []) s x ∙ append
 pub first_of_string : (s x : List ℕ) → length s < 2 ^ 64 → IsAsciiDigit (get_or (string_spelling s ++ x) 0 0)
 first_of_string s x fits = subst (λ t. IsAsciiDigit (get_or t 0 0)) (sym (string_parts s x)) (first_digit (length s) (58 ∷ (s ++ x)) fits)
 
-same_front : (a b x y : List ℕ) → length a ≡ length b → a ++ x ≡ b ++ y → (a ≡ b) × (x ≡ y)
+pub same_front : (a b x y : List ℕ) → length a ≡ length b → a ++ x ≡ b ++ y → (a ≡ b) × (x ≡ y)
 same_front [] [] x y l e = (refl, e)
 same_front [] (c ∷ b) x y l e = absurd (omega arith)
 same_front (c ∷ a) [] x y l e = absurd (omega arith)

@@ -1,5 +1,5 @@
 -- What first stops a reading, from the left, of a canonical spelling (BEP 3), and with which bytes left.
-use Rattle.std.specs.Prelude.{◌≡◌, ◌≢◌, ℕ, suc, ◌^◌, ◌<◌, ◌≤◌, Bool, true, false, IsTrue, ◌⊎◌, List, [], ◌∷◌, ◌++◌, length, drop, codes, slice_index, Option, None, Some, IfSome, unwrap_or}
+use Rattle.std.specs.Prelude.{◌≡◌, ◌≢◌, ℕ, suc, ◌^◌, ◌<◌, ◌≤◌, Bool, true, false, IsTrue, ◌⊎◌, List, [], ◌∷◌, ◌++◌, length, take, drop, codes, slice_index, Option, None, Some, IfSome, unwrap_or}
 use Rattle.std.specs.Char.{IsAsciiDigit}
 use Rattle.std.specs.Str.Parse.{AllDigits, IsNumeral, digits_value}
 use Rattle.bt_bencode.specs.Data.{Data, list, dictionary, Items, Entries, no_entries, entry}
@@ -60,6 +60,13 @@ pub data Stops : ℕ → List ℕ → Fault → List ℕ → Type 0 where
 pub data IsFirstFault (bytes : List ℕ) : Fault → ℕ → Type 0 where
   in_the_value : (f : Fault) (offset : ℕ) → offset ≤ length bytes → Stops 128 bytes f (drop offset bytes) → IsFirstFault bytes f offset
   behind_the_value : (d : Data) (offset : ℕ) → IsCanonical d → offset < length bytes → spelling_of d ++ drop offset bytes ≡ bytes → IsFirstFault bytes trailing offset
+
+-- a canonical value's spelling ends at the offset, and bytes follow
+pub record IsProperSpelling (bytes : List ℕ) (offset : ℕ) : Type 0 where
+  pub value : Data
+  pub canonical : IsCanonical value
+  pub spelled : spelling_of value ≡ take offset bytes
+  pub followed : offset < length bytes
 
 -- what an error says of its fault and offset; want of memory says nothing
 abbrev pub AtFault : (Fault → ℕ → Type 0) → BencodeError → Type 0

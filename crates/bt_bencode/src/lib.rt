@@ -3,11 +3,15 @@
 
 mod doc;
 mod error;
+mod look_up;
 mod number;
 mod reader;
 mod value;
+mod writer;
 
 pub use doc::Doc;
 pub use error::BencodeError;
+pub use look_up::field;
 pub use reader::{MAX_NESTING, parse};
 pub use value::Value;
+pub use writer::write;

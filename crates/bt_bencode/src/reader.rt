@@ -2,7 +2,7 @@
 ghost use Rattle.std.specs.Prelude.{ℕ, ◌≡◌, ◌≢◌, ◌^◌, ◌<◌, ◌≤◌, ◌↔◌, ◌++◌, length, codes, slice_index, take, IsTrue, IfOk, IfErr};
 ghost use Rattle.bt_bencode.specs.Data.{Data};
 ghost use Rattle.bt_bencode.specs.Spelling.{spelling_of, string_spelling, IsCanonical, IsCanonicalWithin};
-ghost use Rattle.bt_bencode.specs.Fault.{AtFault, EndsBefore, StringStops, Stops, IsFirstFault};
+ghost use Rattle.bt_bencode.specs.Fault.{AtFault, EndsBefore, StringStops, Stops, IsFirstFault, IsProperSpelling, truncated, trailing};
 ghost use Rattle.bt_bencode.specs.View.{data_of, entries_of};
 ghost use Rattle.bt_bencode.specs.Reading.{Spans, FaultFrom, ReadsString, ReadsInteger, ReadsValue};
 
@@ -16,10 +16,22 @@ use std::alloc::Global;
 pub const MAX_NESTING: usize = 128;
 
 /// The value that the bytes spell, all of them.
+///
+/// An error is the first fault from the left, with its offset; the bytes are read once, and memory
+/// grows with the value alone. Errors: all of [`BencodeError`].
 pub fn parse(alloc: Global, bytes: &[u8]) -> Result<Doc, BencodeError>
+    ensures canonical { IfOk result (λ doc. IsCanonical (data_of doc)) }
+    ensures spelled { IfOk result (λ doc. spelling_of (data_of doc) ≡ bytes.now) }
+    ensures first_fault { IfErr result (AtFault (IsFirstFault bytes.now)) }
+
+    // Want of memory aside, an error comes only where no canonical value spells the bytes.
+    ensures none_spells { IfErr result (AtFault (λ _ _. (d : Data) → IsCanonical d → spelling_of d ≢ bytes.now)) }
+    ensures truncated_at_end { IfErr result (AtFault (λ f offset. f ≡ truncated → offset ≡ length bytes.now)) }
+    ensures trailing_behind_value { IfErr result (AtFault (λ f offset. f ≡ trailing → IsProperSpelling bytes.now offset)) }
 {
+    let length = bytes.len();
     let (value, end) = value_at(alloc, bytes, 0, MAX_NESTING)?;
-    if end < bytes.len() {
+    if end < length {
         return Err(BencodeError::Trailing(end));
     }
     Ok(Doc::new(value))

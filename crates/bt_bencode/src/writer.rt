@@ -1,0 +1,55 @@
+//! Writing bencoding.
+ghost use Rattle.std.specs.Prelude.{◌≡◌, ◌++◌, IfOk, OnOk};
+ghost use Rattle.bt_bencode.specs.Spelling.{spelling_of, string_spelling};
+ghost use Rattle.bt_bencode.specs.View.{data_of};
+
+use crate::value::Value;
+use std::alloc::{AllocError, Global};
+
+/// The spelling of any value, of one that is not canonical too. The error is want of memory.
+pub fn write(alloc: Global, value: &Value) -> Result<Vec<u8>, AllocError>
+    ensures { IfOk result (λ bytes. bytes.items ≡ spelling_of (data_of value.now)) }
+{
+    let mut out = Vec::new(alloc);
+    put_value(alloc, &mut out, value)?;
+    Ok(out)
+}
+
+/// Puts the value's spelling behind `out`.
+fn put_value(alloc: Global, out: &mut Vec<u8>, value: &Value) -> Result<(), AllocError>
+    ensures { OnOk result (out.new.items ≡ out.old.items ++ spelling_of (data_of value.now)) }
+{
+    match value {
+        Value::Int(integer) => {
+            let digits = format!(in alloc; "i{integer}e")?;
+            out.extend_from_slice(digits.as_bytes())?;
+        }
+        Value::Bytes(bytes) => put_string(alloc, out, bytes)?,
+        Value::List(items) => {
+            out.push(b'l')?;
+            for item in items {
+                put_value(alloc, out, item)?;
+            }
+            out.push(b'e')?;
+        }
+        Value::Dict(entries) => {
+            out.push(b'd')?;
+            for (key, item) in entries {
+                put_string(alloc, out, key)?;
+                put_value(alloc, out, item)?;
+            }
+            out.push(b'e')?;
+        }
+    }
+    Ok(())
+}
+
+/// Puts the string's spelling behind `out`.
+fn put_string(alloc: Global, out: &mut Vec<u8>, string: &[u8]) -> Result<(), AllocError>
+    ensures { OnOk result (out.new.items ≡ out.old.items ++ string_spelling string.now) }
+{
+    let length = string.len();
+    let head = format!(in alloc; "{length}:")?;
+    out.extend_from_slice(head.as_bytes())?;
+    out.extend_from_slice(string)
+}
