@@ -10,3 +10,5 @@ pub mod Prefixes
 pub mod Representable
 pub mod Refusals
 pub mod Faults
+pub mod Fields
+pub mod Written
