@@ -3,6 +3,7 @@
 
 mod doc;
 mod error;
+mod law;
 mod look_up;
 mod number;
 mod reader;
@@ -11,6 +12,7 @@ mod writer;
 
 pub use doc::Doc;
 pub use error::BencodeError;
+pub use law::spellings_are_prefix_free;
 pub use look_up::field;
 pub use reader::{MAX_NESTING, parse};
 pub use value::Value;
