@@ -17,3 +17,6 @@ pub use look_up::field;
 pub use reader::{MAX_NESTING, parse};
 pub use value::Value;
 pub use writer::write;
+
+#[cfg(test)]
+mod tests;
