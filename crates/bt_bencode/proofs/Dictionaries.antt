@@ -1,16 +1,16 @@
 -- A dictionary in the bytes, entry by entry.
-use Rattle.std.proofs.Common.{◌≡◌, ◌≢◌, ℕ, zero, suc, ◌+◌, ◌-◌, ◌<◌, ◌≤◌, max, List, [], ◌∷◌, ◌++◌, length, take, drop, get_or, map, refl, sym, ap, ◌∙◌, subst, arith, append_assoc}
-use Rattle.std.specs.Prelude.{Option, None, Some, IfSome, unwrap_or, IsTrue, ◌↔◌, true, false}
+use Rattle.std.proofs.Common.{◌≡◌, ◌≢◌, ℕ, zero, suc, ◌+◌, ◌-◌, ◌<◌, ◌≤◌, List, [], ◌∷◌, ◌++◌, length, take, drop, get_or, map, refl, sym, ap, ◌∙◌, subst, arith, append_assoc}
+use Rattle.std.specs.Prelude.{Some, IfSome, unwrap_or, IsTrue, ◌↔◌, true, false}
 use Rattle.std.specs.Global.{Vec}
 use Rattle.std.specs.Ordering.{nat_cmp, is_lt}
 use Rattle.std.specs.Cmp.Lexicographic.{slice_cmp}
 use Rattle.std.specs.declared.cmp.Ordering.{Ordering}
 use Rattle.std.specs.declared.cmp.Ordering.TheVariants.{Less, Equal, Greater}
 use Rattle.std.proofs.lemmas.List.{append-nil, map_push, drop_more, take_more, take_all}
-use Rattle.bt_bencode.specs.Data.{Data, dictionary, Entries, no_entries, entry}
+use Rattle.bt_bencode.specs.Data.{Data, dictionary, no_entries}
 use Rattle.bt_bencode.specs.Spelling.{string_spelling, spelling_of, entries_spelling, IsBefore, nesting_of, entries_nesting, HasAscendingKeys, EntriesAscend, HasSmallIntegers, EntriesHaveSmallIntegers, IsCanonicalWithin}
 use Rattle.bt_bencode.specs.Fault.{Fault, StringStops, Stops, last_key_of, EndsBefore, key_order, too_deep, too_deep_dictionary, in_key, at_key, in_value}
-use Rattle.bt_bencode.specs.Reading.{Spans, FaultFrom, ReadsValue, ReadsString}
+use Rattle.bt_bencode.specs.Reading.{FaultFrom, ReadsValue, ReadsString}
 use Rattle.bt_bencode.specs.View.{data_of, entries_of, entries_from, entry_data}
 use Rattle.bt_bencode.specs.declared.value.Value.{Value}
 use Rattle.bt_bencode.proofs.Splits.{drop_first}
@@ -81,16 +81,18 @@ dictionary_more n bytes at next colon end es fs key v so_far string last read is
       forward = omega arith;
       inside = read.spans.inside;
       spelled = ap (λ ds. 100 ∷ (entries_spelling ds ++ drop end bytes)) entries ∙ ap (λ xs. 100 ∷ (xs ++ drop end bytes)) (entries_spelling-push done key (data_of v))
-      ∙ ap (λ xs. 100 ∷ xs) (append_assoc (entries_spelling (entries_of es)) (string_spelling key.items ++ spelling_of (data_of v)) (drop end bytes) ∙ ap (λ xs. entries_spelling (entries_of es) ++ xs) pair) ∙ so_far.spelled;
+          ∙ ap (λ xs. 100 ∷ xs) (append_assoc (entries_spelling (entries_of es)) (string_spelling key.items ++ spelling_of (data_of v)) (drop end bytes) ∙ ap (λ xs. entries_spelling (entries_of es) ++ xs) pair) ∙ so_far.spelled;
       canonical = subst (λ ds. IsCanonicalWithin n (dictionary ds)) (sym entries) (canonical-push n done key (data_of v) so_far.canonical last read.canonical);
     }
 
 pub key_stops : (n : ℕ) (bytes : List ℕ) (at next : ℕ) (es : List (Vec ℕ × Value)) → 0 < n → EntriesTo n bytes at next es → get_or bytes next 0 ≢ 101 → (f : Fault) (offset : ℕ)
     → FaultFrom StringStops bytes next f offset → FaultFrom (Stops n) bytes at f offset
 key_stops zero bytes at next es some so_far going f offset h = absurd (omega arith)
-key_stops (suc n) bytes at next es some so_far going f offset h =
-    (h.0, subst (λ text. Stops (suc n) text f (drop offset bytes)) so_far.spelled
-    (in_key n (entries_of es) (drop next bytes) f (drop offset bytes) so_far.canonical (λ e. going (sym (drop_first next bytes) ∙ e)) h.1))
+key_stops (suc n) bytes at next es some so_far going f offset h = (
+  h.0,
+  subst (λ text. Stops (suc n) text f (drop offset bytes)) so_far.spelled
+      (in_key n (entries_of es) (drop next bytes) f (drop offset bytes) so_far.canonical (λ e. going (sym (drop_first next bytes) ∙ e)) h.1),
+)
 
 -- the entries so far, a key, and the bytes behind it
 with_key : (n : ℕ) (bytes : List ℕ) (at next colon : ℕ) (es : List (Vec ℕ × Value)) (key : List ℕ) → EntriesTo n bytes at next es → ReadsString bytes next colon key
@@ -110,9 +112,11 @@ pub value_stops : (n : ℕ) (bytes : List ℕ) (at next colon : ℕ) (es : List 
 value_stops zero bytes at next colon es key some so_far string order f offset h = absurd (omega arith)
 value_stops (suc n) bytes at next colon es key some so_far string order f offset h =
     let one : suc n - 1 ≡ n = omega arith in
-    let here : Stops n (drop colon bytes) f (drop offset bytes) = subst (λ k. Stops k (drop colon bytes) f (drop offset bytes)) one h.1 in
-    (h.0, subst (λ text. Stops (suc n) text f (drop offset bytes)) (with_key (suc n) bytes at next colon es key so_far string)
-    (in_value n (entries_of es) key (drop colon bytes) f (drop offset bytes) so_far.canonical order here))
+    let here : Stops n (drop colon bytes) f (drop offset bytes) = subst (λ k. Stops k (drop colon bytes) f (drop offset bytes)) one h.1 in (
+      h.0,
+      subst (λ text. Stops (suc n) text f (drop offset bytes)) (with_key (suc n) bytes at next colon es key so_far string)
+          (in_value n (entries_of es) key (drop colon bytes) f (drop offset bytes) so_far.canonical order here),
+    )
 
 pub dictionary_found : (n : ℕ) (bytes : List ℕ) (at next : ℕ) (es : List (Vec ℕ × Value)) → EntriesTo n bytes at next es → next < length bytes → get_or bytes next 0 ≡ 101
     → ReadsValue n bytes at (next + 1) (dictionary (entries_of es))

@@ -1,5 +1,5 @@
 -- What the first fault of some bytes tells of them.
-use Rattle.std.proofs.Common.{◌≡◌, ◌≢◌, Bool, false, true, ℕ, ◌+◌, ◌-◌, ◌^◌, ◌<◌, ◌≤◌, List, [], ◌∷◌, ◌++◌, length, take, drop, refl, sym, ap, ◌∙◌, subst, arith, length-drop, length-append}
+use Rattle.std.proofs.Common.{◌≡◌, ◌≢◌, Bool, ℕ, ◌^◌, ◌<◌, List, [], ◌++◌, length, take, drop, refl, sym, ap, ◌∙◌, arith, length-drop, length-append}
 use Rattle.std.proofs.lemmas.List.{append-nil, take-append-drop, length-take-le}
 use Rattle.bt_bencode.specs.Data.{Data}
 use Rattle.bt_bencode.specs.Spelling.{spelling_of, IsCanonical}

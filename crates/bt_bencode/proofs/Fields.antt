@@ -1,11 +1,10 @@
 -- The first entry of a key, by the entries that are left to look at.
-use Rattle.std.proofs.Common.{◌≡◌, ◌≢◌, ℕ, ◌+◌, ◌<◌, ◌≤◌, Bool, true, false, List, [], ◌∷◌, length, drop, get_or, map, refl, sym, ap, ◌∙◌, subst, arith}
-use Rattle.std.specs.Prelude.{Option, None, Some, nat_eq, if◌then◌else◌}
+use Rattle.std.proofs.Common.{◌≡◌, ℕ, ◌+◌, ◌<◌, true, false, List, ◌∷◌, length, drop, get_or, sym, ap, ◌∙◌}
+use Rattle.std.specs.Prelude.{None, Some, nat_eq, if◌then◌else◌}
 use Rattle.std.specs.Cmp.Lexicographic.{pointwise}
 use Rattle.std.specs.Global.{Vec}
 use Rattle.std.proofs.lemmas.List.{drop_more}
 use Rattle.std.proofs.Math.Seq.{drop-length}
-use Rattle.bt_bencode.specs.Data.{Data, dictionary}
 use Rattle.bt_bencode.specs.Field.{first_value_of, field_of}
 use Rattle.bt_bencode.specs.View.{data_of, entries_of}
 use Rattle.bt_bencode.specs.declared.value.Value.{Value}

@@ -1,5 +1,5 @@
 -- An integer in the bytes.
-use Rattle.std.proofs.Common.{◌≡◌, ◌≢◌, ℕ, zero, suc, ◌+◌, ◌-◌, ◌^◌, ◌<◌, ◌≤◌, Bool, true, false, inl, inr, List, [], ◌∷◌, ◌++◌, length, take, drop, get_or, refl, sym, ap, ◌∙◌, subst, arith, length-append, append_assoc, ℤ, pos, negsuc}
+use Rattle.std.proofs.Common.{◌≡◌, ◌≢◌, ℕ, zero, suc, ◌+◌, ◌-◌, ◌^◌, ◌<◌, ◌≤◌, Bool, true, false, inl, List, [], ◌∷◌, ◌++◌, length, drop, get_or, refl, sym, ap, ◌∙◌, subst, arith, append_assoc, ℤ, pos}
 use Rattle.std.specs.Prelude.{slice_range, slice_index, neg_ℤ, IsTrue, ◌↔◌, FitsSigned, Option, None, Some}
 use Rattle.std.proofs.lemmas.Int.{ints}
 use Rattle.std.specs.Str.{IsAscii}
@@ -14,7 +14,7 @@ use Rattle.bt_bencode.specs.Spelling.{spelling_of}
 use Rattle.bt_bencode.specs.Fault.{Fault, LeadsWithZero, NumeralStops, Stops, int_range, in_integer, in_negative, too_large, too_small}
 use Rattle.bt_bencode.specs.Reading.{Spans, FaultFrom, IsNumeralAt, ReadsInteger}
 use Rattle.bt_bencode.proofs.Splits.{length-between, drop_first, in_range}
-use Rattle.bt_bencode.proofs.Numerals.{digits_model, decimal_again, numeral_split}
+use Rattle.bt_bencode.proofs.Numerals.{decimal_again, numeral_split}
 
 -- the integer's text behind `i`, written with its sign
 text_after_i : (bytes : List ℕ) (at : ℕ) → at < length bytes → get_or bytes at 0 ≡ 105 → drop at bytes ≡ 105 ∷ drop (at + 1) bytes
@@ -81,7 +81,7 @@ minus_read bytes at end lt first lt' second numeral small =
       forward = omega arith;
       inside = omega arith;
       spelled = ap (λ xs. 105 ∷ xs) (append_assoc (signed_decimal (neg_ℤ (pos (digits_value 10 ds)))) (101 ∷ []) rest ∙ ap (λ xs. xs ++ 101 ∷ rest) signed ∙ ap (λ xs. 45 ∷ xs) parts)
-      ∙ sym (text_after_minus bytes at lt first lt' second);
+          ∙ sym (text_after_minus bytes at lt first lt' second);
     }
 
 pub plain_too_large : (n : ℕ) (bytes : List ℕ) (at end : ℕ) → at < length bytes → get_or bytes at 0 ≡ 105 → IsNumeralAt false 101 bytes (at + 1) end → 2 ^ 63 ≤ digits_value 10 (slice_range bytes (at + 1) end)

@@ -1,8 +1,7 @@
 -- The laws of spellings, for values that fit memory.
-use Rattle.std.proofs.Common.{◌≡◌, ℕ, List, [], ◌++◌, sym, ◌∙◌}
+use Rattle.std.proofs.Common.{[], sym, ◌∙◌}
 use Rattle.std.proofs.lemmas.List.{append-nil}
-use Rattle.bt_bencode.specs.Data.{Data}
-use Rattle.bt_bencode.specs.Spelling.{spelling_of, FitsMemory, NoProperPrefix, BeginsOnce}
+use Rattle.bt_bencode.specs.Spelling.{spelling_of, NoProperPrefix, BeginsOnce}
 use Rattle.bt_bencode.proofs.Representable.{representable}
 use Rattle.bt_bencode.proofs.Prefixes.{same_spelling}
 

@@ -1,12 +1,12 @@
 -- A list in the bytes, item by item.
-use Rattle.std.proofs.Common.{◌≡◌, ◌≢◌, ℕ, zero, suc, ◌+◌, ◌-◌, ◌<◌, ◌≤◌, max, List, [], ◌∷◌, ◌++◌, length, drop, get_or, map, refl, sym, ap, ◌∙◌, subst, arith, append_assoc, length-drop, ℤ}
+use Rattle.std.proofs.Common.{◌≡◌, ◌≢◌, ℕ, zero, suc, ◌+◌, ◌-◌, ◌<◌, ◌≤◌, List, [], ◌∷◌, ◌++◌, length, drop, get_or, map, sym, ap, ◌∙◌, subst, arith, append_assoc, length-drop, ℤ}
 use Rattle.std.specs.Char.{IsAsciiDigit}
 use Rattle.std.proofs.Math.Seq.{drop-length}
 use Rattle.std.proofs.lemmas.List.{append-nil, map_push, drop_more}
-use Rattle.bt_bencode.specs.Data.{Data, integer, string, list, Items, no_items, item}
+use Rattle.bt_bencode.specs.Data.{Data, integer, string, list, no_items}
 use Rattle.bt_bencode.specs.Spelling.{spelling_of, items_spelling, nesting_of, items_nesting, HasAscendingKeys, ItemsHaveAscendingKeys, HasSmallIntegers, ItemsHaveSmallIntegers, IsCanonicalWithin}
 use Rattle.bt_bencode.specs.Fault.{Fault, StringStops, Stops, truncated, bad_byte, too_deep, at_end, at_other, in_string, too_deep_list, in_item}
-use Rattle.bt_bencode.specs.Reading.{Spans, FaultFrom, ReadsValue, ReadsString, ReadsInteger}
+use Rattle.bt_bencode.specs.Reading.{FaultFrom, ReadsValue, ReadsString, ReadsInteger}
 use Rattle.bt_bencode.specs.View.{data_of, items_of, items_from}
 use Rattle.bt_bencode.specs.declared.value.Value.{Value}
 use Rattle.bt_bencode.proofs.Splits.{drop_first}
@@ -68,7 +68,7 @@ list_more n bytes at next end vs ws v so_far read is =
       forward = omega arith;
       inside = read.spans.inside;
       spelled = ap (λ ds. 108 ∷ (items_spelling ds ++ drop end bytes)) items ∙ ap (λ xs. 108 ∷ (xs ++ drop end bytes)) (items_spelling-push (map data_of vs) (data_of v))
-      ∙ ap (λ xs. 108 ∷ xs) (append_assoc (items_spelling (items_of vs)) (spelling_of (data_of v)) (drop end bytes) ∙ ap (λ xs. items_spelling (items_of vs) ++ xs) read.spans.spelled) ∙ so_far.spelled;
+          ∙ ap (λ xs. 108 ∷ xs) (append_assoc (items_spelling (items_of vs)) (spelling_of (data_of v)) (drop end bytes) ∙ ap (λ xs. items_spelling (items_of vs) ++ xs) read.spans.spelled) ∙ so_far.spelled;
       canonical = subst (λ ds. IsCanonicalWithin n (list ds)) (sym items) (canonical-push n (map data_of vs) (data_of v) so_far.canonical read.canonical);
     }
 
@@ -77,9 +77,11 @@ pub list_stops : (n : ℕ) (bytes : List ℕ) (at next : ℕ) (vs : List Value) 
 list_stops zero bytes at next vs some so_far going f offset h = absurd (omega arith)
 list_stops (suc n) bytes at next vs some so_far going f offset h =
     let one : suc n - 1 ≡ n = omega arith in
-    let here : Stops n (drop next bytes) f (drop offset bytes) = subst (λ k. Stops k (drop next bytes) f (drop offset bytes)) one h.1 in
-    (h.0, subst (λ text. Stops (suc n) text f (drop offset bytes)) so_far.spelled
-    (in_item n (items_of vs) (drop next bytes) f (drop offset bytes) so_far.canonical (λ e. going (sym (drop_first next bytes) ∙ e)) here))
+    let here : Stops n (drop next bytes) f (drop offset bytes) = subst (λ k. Stops k (drop next bytes) f (drop offset bytes)) one h.1 in (
+      h.0,
+      subst (λ text. Stops (suc n) text f (drop offset bytes)) so_far.spelled
+          (in_item n (items_of vs) (drop next bytes) f (drop offset bytes) so_far.canonical (λ e. going (sym (drop_first next bytes) ∙ e)) here),
+    )
 
 pub list_found : (n : ℕ) (bytes : List ℕ) (at next : ℕ) (vs : List Value) → ItemsTo n bytes at next vs → next < length bytes → get_or bytes next 0 ≡ 101 → ReadsValue n bytes at (next + 1) (list (items_of vs))
 unfolding spelling_of

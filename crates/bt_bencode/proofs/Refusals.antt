@@ -1,17 +1,17 @@
 -- Where a reading stops, no canonical value's spelling begins the text.
-use Rattle.std.proofs.Common.{◌≡◌, ◌≢◌, ℕ, ℤ, zero, suc, pos, negsuc, ◌+◌, ◌-◌, ◌^◌, ◌<◌, ◌≤◌, Bool, true, false, inl, inr, ◌⊎◌, List, [], ◌∷◌, ◌++◌, length, drop, get_or, refl, sym, ap, ◌∙◌, subst, arith, max, length-append, append_assoc}
-use Rattle.std.specs.Prelude.{FitsSigned, Option, None, Some, IfSome, unwrap_or}
+use Rattle.std.proofs.Common.{◌≡◌, ◌≢◌, ℕ, ℤ, zero, suc, pos, negsuc, ◌+◌, ◌^◌, ◌<◌, ◌≤◌, Bool, true, false, inl, inr, List, [], ◌∷◌, ◌++◌, length, get_or, refl, sym, ap, ◌∙◌, subst, arith, max, length-append, append_assoc}
+use Rattle.std.specs.Prelude.{FitsSigned, IfSome}
 use Rattle.std.specs.Int.{w64}
 use Rattle.std.specs.Char.{IsAsciiDigit}
 use Rattle.std.specs.Fmt.{decimal, signed_decimal}
-use Rattle.std.specs.Str.Parse.{AllDigits, IsNumeral, digits_value}
+use Rattle.std.specs.Str.Parse.{IsNumeral, digits_value}
 use Rattle.std.proofs.lemmas.Str.Parse.{digit_at}
 use Rattle.std.proofs.lemmas.Fmt.{decimal_is_IsNumeral, decimal_nonempty, decimal_digit, first_decimal}
-use Rattle.std.proofs.lemmas.List.{append-nil, get_or_append_left, get_or_at}
+use Rattle.std.proofs.lemmas.List.{append-nil, get_or_append_left}
 use Rattle.bt_bencode.specs.Data.{Data, integer, string, list, dictionary, Items, no_items, item, Entries, no_entries, entry}
 use Rattle.bt_bencode.specs.Spelling.{string_spelling, spelling_of, items_spelling, entries_spelling, IsBefore, first_key_of, nesting_of, items_nesting, entries_nesting, HasAscendingKeys, ItemsHaveAscendingKeys, EntriesAscend, HasSmallIntegers, ItemsHaveSmallIntegers, EntriesHaveSmallIntegers, IsCanonicalWithin}
-use Rattle.bt_bencode.specs.Fault.{Fault, LeadsWithZero, NumeralStops, at_zero, at_end as numeral_at_end, at_other as numeral_at_other, StringStops, in_length, in_bytes, last_key_of, EndsBefore, Stops, at_end, at_other, in_integer, in_negative, too_large, too_small, in_string, too_deep_list, too_deep_dictionary, in_item, in_key, at_key, in_value}
-use Rattle.bt_bencode.proofs.Prefixes.{tails, same_digits, decimal_digits, first_digit, string_parts, first_of_string, same_string, fits_pos, fits_negsuc, no_minus, end_behind, item_parts, entry_parts, no_end, string_apart, same_spelling, same_entries}
+use Rattle.bt_bencode.specs.Fault.{Fault, LeadsWithZero, NumeralStops, at_zero, at_end as numeral_at_end, at_other as numeral_at_other, StringStops, in_length, in_bytes, EndsBefore, Stops, at_end, at_other, in_integer, in_negative, too_large, too_small, in_string, too_deep_list, too_deep_dictionary, in_item, in_key, at_key, in_value}
+use Rattle.bt_bencode.proofs.Prefixes.{tails, same_digits, decimal_digits, string_parts, first_of_string, same_string, fits_pos, fits_negsuc, no_minus, end_behind, item_parts, entry_parts, no_end, string_apart, same_spelling, same_entries}
 use Rattle.bt_bencode.proofs.Representable.{IsRepresentable, ItemsAreRepresentable, EntriesAreRepresentable, representable, items_representable, entries_representable}
 
 no_digit : (stop : ℕ) → 57 < stop → ¬ IsAsciiDigit stop
@@ -22,7 +22,7 @@ decimal_no_zero : (n stop : ℕ) (rest : List ℕ) → n < 2 ^ 64 → 57 < stop 
 decimal_no_zero zero stop rest fits other leads = elim leads.1 [
   | inl negative ↦ let impossible : false ≡ true = negative in cc
   | inr digit ↦ let text : decimal 0 ++ stop ∷ rest ≡ 48 ∷ stop ∷ rest = ap (λ ds. ds ++ stop ∷ rest) (decimal_digit 0 (omega arith)) in
-    no_digit stop other (subst (λ t. IsAsciiDigit (get_or t 1 0)) text digit)
+      no_digit stop other (subst (λ t. IsAsciiDigit (get_or t 1 0)) text digit)
 ]
 decimal_no_zero (suc n) stop rest fits other leads =
     let some : 0 < length (decimal (suc n)) = decimal_nonempty (suc n) fits in

@@ -1,8 +1,8 @@
 -- A string in the bytes.
-use Rattle.std.proofs.Common.{◌≡◌, ◌≢◌, ℕ, ◌+◌, ◌-◌, ◌^◌, ◌<◌, ◌≤◌, Bool, true, false, List, [], ◌∷◌, ◌++◌, length, take, drop, refl, sym, ap, ◌∙◌, subst, arith, length-append, length-drop, append_assoc}
+use Rattle.std.proofs.Common.{◌≡◌, ℕ, ◌+◌, ◌-◌, ◌^◌, ◌<◌, ◌≤◌, false, List, [], ◌∷◌, ◌++◌, length, take, drop, sym, ap, ◌∙◌, subst, arith, length-drop, append_assoc}
 use Rattle.std.specs.Prelude.{slice_range}
 use Rattle.std.specs.Fmt.{decimal}
-use Rattle.std.specs.Str.Parse.{IsNumeral, digits_value}
+use Rattle.std.specs.Str.Parse.{digits_value}
 use Rattle.std.proofs.lemmas.List.{take-append-drop, length-take-le}
 use Rattle.std.proofs.Math.Seq.{drop-length}
 use Rattle.bt_bencode.specs.Spelling.{string_spelling}
@@ -27,7 +27,7 @@ string_read bytes at colon n s numeral value small inside is =
       forward = omega arith;
       inside = inside;
       spelled = append_assoc (decimal (length s) ++ 58 ∷ []) s (drop (colon + 1 + n) bytes) ∙ append_assoc (decimal (length s)) (58 ∷ []) (s ++ drop (colon + 1 + n) bytes)
-      ∙ ap (λ xs. xs ++ 58 ∷ (s ++ drop (colon + 1 + n) bytes)) digits ∙ ap (λ xs. ds ++ 58 ∷ xs) whole ∙ parts;
+          ∙ ap (λ xs. xs ++ 58 ∷ (s ++ drop (colon + 1 + n) bytes)) digits ∙ ap (λ xs. ds ++ 58 ∷ xs) whole ∙ parts;
     }
 
 pub string_short : (bytes : List ℕ) (at colon : ℕ) → IsNumeralAt false 58 bytes at colon → length bytes - (colon + 1) < digits_value 10 (slice_range bytes at colon) → FaultFrom StringStops bytes at truncated (length bytes)

@@ -1,5 +1,5 @@
 -- What first stops a reading, from the left, of a canonical spelling (BEP 3), and with which bytes left.
-use Rattle.std.specs.Prelude.{◌≡◌, ◌≢◌, ℕ, suc, ◌^◌, ◌<◌, ◌≤◌, Bool, true, false, IsTrue, ◌⊎◌, List, [], ◌∷◌, ◌++◌, length, take, drop, codes, slice_index, Option, None, Some, IfSome, unwrap_or}
+use Rattle.std.specs.Prelude.{◌≡◌, ◌≢◌, ℕ, suc, ◌^◌, ◌<◌, ◌≤◌, Bool, true, false, IsTrue, ◌⊎◌, List, [], ◌++◌, length, take, drop, codes, slice_index, Option, None, Some, IfSome, unwrap_or}
 use Rattle.std.specs.Char.{IsAsciiDigit}
 use Rattle.std.specs.Str.Parse.{AllDigits, IsNumeral, digits_value}
 use Rattle.bt_bencode.specs.Data.{Data, list, dictionary, Items, Entries, no_entries, entry}
@@ -19,7 +19,7 @@ pub data NumeralStops (negative : Bool) (stop : ℕ) (text : List ℕ) : Fault �
   at_zero : LeadsWithZero negative text → NumeralStops negative stop text leading_zero text
   at_end : AllDigits 10 text → ¬ LeadsWithZero negative text → NumeralStops negative stop text truncated []
   at_other : (ds more : List ℕ) → text ≡ ds ++ more → AllDigits 10 ds → ¬ LeadsWithZero negative text → 0 < length more → ¬ IsAsciiDigit (slice_index more 0) → (ds ≡ []) ⊎ (slice_index more 0 ≢ stop)
-    → NumeralStops negative stop text bad_byte more
+      → NumeralStops negative stop text bad_byte more
 
 -- the text does not begin with a string
 pub data StringStops (text : List ℕ) : Fault → List ℕ → Type 0 where
@@ -41,20 +41,20 @@ pub data Stops : ℕ → List ℕ → Fault → List ℕ → Type 0 where
   in_integer : (n : ℕ) (more : List ℕ) (f : Fault) (rest : List ℕ) → slice_index more 0 ≢ 45 → NumeralStops false 101 more f rest → Stops n (codes "i" ++ more) f rest
   in_negative : (n : ℕ) (more : List ℕ) (f : Fault) (rest : List ℕ) → NumeralStops true 101 more f rest → Stops n (codes "i-" ++ more) f rest
   too_large : (n : ℕ) (ds more : List ℕ) → IsNumeral 10 ds → ¬ LeadsWithZero false (ds ++ codes "e" ++ more) → 2 ^ 63 ≤ digits_value 10 ds
-    → Stops n (codes "i" ++ (ds ++ codes "e" ++ more)) int_range (ds ++ codes "e" ++ more)
+      → Stops n (codes "i" ++ (ds ++ codes "e" ++ more)) int_range (ds ++ codes "e" ++ more)
   too_small : (n : ℕ) (ds more : List ℕ) → IsNumeral 10 ds → ¬ LeadsWithZero true (ds ++ codes "e" ++ more) → 2 ^ 63 < digits_value 10 ds
-    → Stops n (codes "i-" ++ (ds ++ codes "e" ++ more)) int_range (codes "-" ++ (ds ++ codes "e" ++ more))
+      → Stops n (codes "i-" ++ (ds ++ codes "e" ++ more)) int_range (codes "-" ++ (ds ++ codes "e" ++ more))
   in_string : (n : ℕ) (text : List ℕ) (f : Fault) (rest : List ℕ) → IsAsciiDigit (slice_index text 0) → StringStops text f rest → Stops n text f rest
   too_deep_list : (more : List ℕ) → Stops 0 (codes "l" ++ more) too_deep (codes "l" ++ more)
   too_deep_dictionary : (more : List ℕ) → Stops 0 (codes "d" ++ more) too_deep (codes "d" ++ more)
   in_item : (n : ℕ) (done : Items) (more : List ℕ) (f : Fault) (rest : List ℕ) → IsCanonicalWithin (suc n) (list done) → slice_index more 0 ≢ 101 → Stops n more f rest
-    → Stops (suc n) (codes "l" ++ (items_spelling done ++ more)) f rest
+      → Stops (suc n) (codes "l" ++ (items_spelling done ++ more)) f rest
   in_key : (n : ℕ) (done : Entries) (more : List ℕ) (f : Fault) (rest : List ℕ) → IsCanonicalWithin (suc n) (dictionary done) → slice_index more 0 ≢ 101 → StringStops more f rest
-    → Stops (suc n) (codes "d" ++ (entries_spelling done ++ more)) f rest
+      → Stops (suc n) (codes "d" ++ (entries_spelling done ++ more)) f rest
   at_key : (n : ℕ) (done : Entries) (key more : List ℕ) → IsCanonicalWithin (suc n) (dictionary done) → ¬ EndsBefore done key
-    → Stops (suc n) (codes "d" ++ (entries_spelling done ++ (string_spelling key ++ more))) key_order (string_spelling key ++ more)
+      → Stops (suc n) (codes "d" ++ (entries_spelling done ++ (string_spelling key ++ more))) key_order (string_spelling key ++ more)
   in_value : (n : ℕ) (done : Entries) (key more : List ℕ) (f : Fault) (rest : List ℕ) → IsCanonicalWithin (suc n) (dictionary done) → EndsBefore done key → Stops n more f rest
-    → Stops (suc n) (codes "d" ++ (entries_spelling done ++ (string_spelling key ++ more))) f rest
+      → Stops (suc n) (codes "d" ++ (entries_spelling done ++ (string_spelling key ++ more))) f rest
 
 -- the first fault of the bytes as one value's whole spelling, and its offset
 pub data IsFirstFault (bytes : List ℕ) : Fault → ℕ → Type 0 where

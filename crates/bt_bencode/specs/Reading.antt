@@ -4,7 +4,7 @@ use Rattle.std.specs.Int.{w64}
 use Rattle.std.specs.Str.Parse.{AllDigits}
 use Rattle.bt_bencode.specs.Data.{Data, integer}
 use Rattle.bt_bencode.specs.Spelling.{string_spelling, spelling_of, IsCanonicalWithin}
-use Rattle.bt_bencode.specs.Fault.{Fault, LeadsWithZero, NumeralStops, StringStops, Stops}
+use Rattle.bt_bencode.specs.Fault.{Fault, LeadsWithZero}
 
 -- the bytes from `at` to `end` are this text
 pub record Spans (bytes : List ℕ) (at end : ℕ) (text : List ℕ) : Type 0 where

@@ -25,6 +25,7 @@ impl Model for Doc {
 
     ghost invariant = { λ d. IsCanonical (data_of d.value) };
 }
+
 impl Doc {
     ghost use Rattle.bt_bencode.specs.View.{data_of};
     ghost use Rattle.bt_bencode.specs.Spelling.{IsCanonical};

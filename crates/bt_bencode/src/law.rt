@@ -5,5 +5,4 @@ ghost use Rattle.bt_bencode.specs.Spelling.{NoProperPrefix, BeginsOnce};
 pub fn spellings_are_prefix_free()
     ensures no_proper_prefix { NoProperPrefix }
     ensures one_value { BeginsOnce }
-{
-}
+{}

@@ -1,10 +1,10 @@
 //! Reading canonical bencoding from the left.
-ghost use Rattle.std.specs.Prelude.{ℕ, ◌≡◌, ◌≢◌, ◌^◌, ◌<◌, ◌≤◌, ◌↔◌, ◌++◌, length, codes, slice_index, take, IsTrue, IfOk, IfErr};
+ghost use Rattle.std.specs.Prelude.{ℕ, ◌≡◌, ◌≢◌, ◌<◌, ◌≤◌, ◌↔◌, length, slice_index, IsTrue, IfOk, IfErr};
 ghost use Rattle.bt_bencode.specs.Data.{Data};
-ghost use Rattle.bt_bencode.specs.Spelling.{spelling_of, string_spelling, IsCanonical, IsCanonicalWithin};
+ghost use Rattle.bt_bencode.specs.Spelling.{spelling_of, IsCanonical};
 ghost use Rattle.bt_bencode.specs.Fault.{AtFault, EndsBefore, StringStops, Stops, IsFirstFault, IsProperSpelling, truncated, trailing};
 ghost use Rattle.bt_bencode.specs.View.{data_of, entries_of};
-ghost use Rattle.bt_bencode.specs.Reading.{Spans, FaultFrom, ReadsString, ReadsInteger, ReadsValue};
+ghost use Rattle.bt_bencode.specs.Reading.{FaultFrom, ReadsString, ReadsInteger, ReadsValue};
 
 use crate::doc::Doc;
 use crate::error::BencodeError;
@@ -39,7 +39,12 @@ pub fn parse(alloc: Global, bytes: &[u8]) -> Result<Doc, BencodeError>
 
 /// The value that begins at `at`, of nesting at most `depth`, and where it ends.
 #[cycle(value)]
-fn value_at(alloc: Global, bytes: &[u8], at: usize, depth: usize) -> Result<(Value, usize), BencodeError>
+fn value_at(
+    alloc: Global,
+    bytes: &[u8],
+    at: usize,
+    depth: usize,
+) -> Result<(Value, usize), BencodeError>
     requires { at ≤ length bytes.now }
     ensures found { IfOk result (λ x. ReadsValue depth bytes.now at x.1 (data_of x.0)) }
     ensures fault { IfErr result (AtFault (FaultFrom (Stops depth) bytes.now at)) }
@@ -65,7 +70,12 @@ fn value_at(alloc: Global, bytes: &[u8], at: usize, depth: usize) -> Result<(Val
 
 /// The list whose `l` is at `at`, and where it ends.
 #[cycle(value)]
-fn list_at(alloc: Global, bytes: &[u8], at: usize, depth: usize) -> Result<(Value, usize), BencodeError>
+fn list_at(
+    alloc: Global,
+    bytes: &[u8],
+    at: usize,
+    depth: usize,
+) -> Result<(Value, usize), BencodeError>
     requires inside { at < length bytes.now }
     requires first { slice_index bytes.now at ≡ 108 }
     ensures found { IfOk result (λ x. ReadsValue depth bytes.now at x.1 (data_of x.0)) }
@@ -86,7 +96,12 @@ fn list_at(alloc: Global, bytes: &[u8], at: usize, depth: usize) -> Result<(Valu
 
 /// The dictionary whose `d` is at `at`, and where it ends.
 #[cycle(value)]
-fn dictionary_at(alloc: Global, bytes: &[u8], at: usize, depth: usize) -> Result<(Value, usize), BencodeError>
+fn dictionary_at(
+    alloc: Global,
+    bytes: &[u8],
+    at: usize,
+    depth: usize,
+) -> Result<(Value, usize), BencodeError>
     requires inside { at < length bytes.now }
     requires first { slice_index bytes.now at ≡ 100 }
     ensures found { IfOk result (λ x. ReadsValue depth bytes.now at x.1 (data_of x.0)) }

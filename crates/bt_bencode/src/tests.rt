@@ -50,19 +50,33 @@ fn reads_and_writes_values(rt: HostRuntime) -> Result<(), Fail> {
     expect_value(&rt, b"4:\x00e:\xff", &bytes(alloc, b"\x00e:\xff")?)?;
     expect_value(&rt, b"le", &Value::List(Vec::new(alloc)))?;
     expect_value(&rt, b"de", &Value::Dict(Vec::new(alloc)))?;
-    let items = vec![in alloc; Value::Int(1), bytes(alloc, b"ab")?, Value::List(Vec::new(alloc))]?;
+    let items = vec![in alloc;
+        Value::Int(1),
+        bytes(alloc, b"ab")?,
+        Value::List(Vec::new(alloc)),
+    ]?;
     expect_value(&rt, b"li1e2:ablee", &Value::List(items))
 }
 
 #[test]
 fn reads_dictionaries(rt: HostRuntime) -> Result<(), Fail> {
     let alloc = rt.alloc();
-    let letters = vec![in alloc; entry(alloc, b"a", Value::Int(1))?, entry(alloc, b"b", Value::Int(2))?]?;
+    let letters = vec![in alloc;
+        entry(alloc, b"a", Value::Int(1))?,
+        entry(alloc, b"b", Value::Int(2))?,
+    ]?;
     expect_value(&rt, b"d1:ai1e1:bi2ee", &Value::Dict(letters))?;
     // Keys go by their raw bytes, and the empty one is the least.
-    let raw = vec![in alloc; entry(alloc, b"", Value::Int(0))?, entry(alloc, b"\x7f", Value::Int(1))?, entry(alloc, b"\x80", Value::Int(2))?]?;
+    let raw = vec![in alloc;
+        entry(alloc, b"", Value::Int(0))?,
+        entry(alloc, b"\x7f", Value::Int(1))?,
+        entry(alloc, b"\x80", Value::Int(2))?,
+    ]?;
     expect_value(&rt, b"d0:i0e1:\x7fi1e1:\x80i2ee", &Value::Dict(raw))?;
-    let longer = vec![in alloc; entry(alloc, b"a", Value::Int(1))?, entry(alloc, b"aa", Value::Int(2))?]?;
+    let longer = vec![in alloc;
+        entry(alloc, b"a", Value::Int(1))?,
+        entry(alloc, b"aa", Value::Int(2))?,
+    ]?;
     expect_value(&rt, b"d1:ai1e2:aai2ee", &Value::Dict(longer))
 }
 
@@ -112,26 +126,41 @@ fn nests_to_the_limit(rt: HostRuntime) -> Result<(), Fail> {
     let lists = nested(alloc, b"l", b"e", MAX_NESTING)?;
     let doc = parse(alloc, &lists)?;
     assert_eq!(rt; write(alloc, doc.value())?.as_slice(), lists.as_slice());
-    expect_fault(&rt, &nested(alloc, b"l", b"e", MAX_NESTING + 1)?, BencodeError::TooDeep(128));
+    expect_fault(
+        &rt,
+        &nested(alloc, b"l", b"e", MAX_NESTING + 1)?,
+        BencodeError::TooDeep(128),
+    );
     // Each dictionary but the innermost has the empty key alone.
     let mut dictionaries = nested(alloc, b"d0:", b"", MAX_NESTING - 1)?;
     dictionaries.extend_from_slice(b"d")?;
     dictionaries.extend_from_slice(&nested(alloc, b"", b"e", MAX_NESTING)?)?;
     assert!(rt; parse(alloc, &dictionaries).is_ok());
-    expect_fault(&rt, &nested(alloc, b"d0:", b"", MAX_NESTING + 1)?, BencodeError::TooDeep(384));
+    expect_fault(
+        &rt,
+        &nested(alloc, b"d0:", b"", MAX_NESTING + 1)?,
+        BencodeError::TooDeep(384),
+    );
     Ok(())
 }
 
 #[test]
 fn finds_the_first_entry_of_a_key(rt: HostRuntime) -> Result<(), Fail> {
     let alloc = rt.alloc();
-    let twice = Value::Dict(vec![in alloc; entry(alloc, b"b", Value::Int(1))?, entry(alloc, b"a", Value::Int(2))?, entry(alloc, b"b", Value::Int(3))?]?);
+    let twice = Value::Dict(vec![in alloc;
+        entry(alloc, b"b", Value::Int(1))?,
+        entry(alloc, b"a", Value::Int(2))?,
+        entry(alloc, b"b", Value::Int(3))?,
+    ]?);
     assert!(rt; field(&twice, b"b") == Some(&Value::Int(1)));
     assert!(rt; field(&twice, b"a") == Some(&Value::Int(2)));
     assert!(rt; field(&twice, b"").is_none());
     assert!(rt; field(&Value::Int(1), b"b").is_none());
     // A value that is not canonical is written as it stands.
-    assert_eq!(rt; write(alloc, &twice)?.as_slice(), b"d1:bi1e1:ai2e1:bi3ee".as_slice());
+    assert_eq!(rt;
+        write(alloc, &twice)?.as_slice(),
+        b"d1:bi1e1:ai2e1:bi3ee".as_slice()
+    );
     spellings_are_prefix_free();
     Ok(())
 }

@@ -1,4 +1,4 @@
-use Rattle.std.proofs.Common.{◌≡◌, ◌<◌, sym, ap, ◌∙◌, length, drop, refl, arith, true, false}
+use Rattle.std.proofs.Common.{◌≡◌, sym, ap, ◌∙◌, length, refl, arith, true, false}
 use Rattle.std.specs.Prelude.{nat_eq}
 use Rattle.std.specs.Cmp.Lexicographic.{pointwise}
 use Rattle.bt_bencode.specs.Field.{first_value_of}

@@ -1,4 +1,4 @@
-use Rattle.std.proofs.Common.{◌+◌, arith, rules}
+use Rattle.std.proofs.Common.{arith, rules}
 use Rattle.std.specs.Char.{IsAsciiDigit}
 use Rattle.std.specs.Prelude.{slice_index}
 use Rattle.bt_bencode.proofs.Splits.{digits_one_more}

@@ -1,10 +1,9 @@
-use Rattle.std.proofs.Common.{◌≡◌, ◌≢◌, ◌-◌, ◌<◌, ◌++◌, [], ◌⊎◌, inl, inr, length, take, drop, slice_index, IsTrue, true, false, subst, sym, ap, ◌∙◌, refl, arith, length-drop, add-zero}
+use Rattle.std.proofs.Common.{◌≡◌, ◌≢◌, [], ◌⊎◌, inl, inr, length, drop, slice_index, true, false, sym, ◌∙◌, refl, arith, length-drop}
 use Rattle.std.specs.Prelude.{slice_range}
-use Rattle.std.specs.Char.{IsAsciiDigit}
 use Rattle.std.specs.Str.Parse.{AllDigits}
-use Rattle.std.proofs.lemmas.List.{take_rest, get_or-drop}
+use Rattle.std.proofs.lemmas.List.{take_rest}
 use Rattle.std.proofs.Math.Seq.{drop-length}
-use Rattle.bt_bencode.specs.Fault.{LeadsWithZero, NumeralStops, leading_zero, truncated, at_zero, at_end, at_other}
+use Rattle.bt_bencode.specs.Fault.{LeadsWithZero, at_zero, at_end, at_other}
 use Rattle.bt_bencode.proofs.Splits.{split, nothing_between, drop_first}
 use Rattle.bt_bencode.proofs.number.numeral_end.Goals as goal
 use Rattle.bt_bencode.proofs.number.numeral_end.Goals.{then-end-at-via-then-end-at, then-end-at-via-else-end-at+then-bytes-end}
@@ -31,6 +30,8 @@ returns-then-end-at-clause-fault c =
     let other : (slice_range bytes c.args.at end ≡ []) ⊎ (slice_index (drop end bytes) 0 ≢ c.args.stop) = elim c.then-end-at.branch [
       | then-end-at-via-then-end-at w ↦ inl (nothing_between bytes c.args.at end (omega arith))
       | then-end-at-via-else-end-at+then-bytes-end w ↦ inr (λ same. w.if-bytes-end.true (sym first ∙ same))
-    ] in
-    (c.digits_end-end.ensures.inside, at_other (slice_range bytes c.args.at end) (drop end bytes) (sym (split bytes c.args.at end c.digits_end-end.ensures.from)) c.digits_end-end.ensures.digits no_zero
-    (omega (arith, length-drop end bytes)) (rw first c.digits_end-end.ensures.ended) other)
+    ] in (
+      c.digits_end-end.ensures.inside,
+      at_other (slice_range bytes c.args.at end) (drop end bytes) (sym (split bytes c.args.at end c.digits_end-end.ensures.from)) c.digits_end-end.ensures.digits no_zero
+          (omega (arith, length-drop end bytes)) (rw first c.digits_end-end.ensures.ended) other,
+    )

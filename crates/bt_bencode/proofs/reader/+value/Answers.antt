@@ -1,11 +1,10 @@
-use Rattle.std.proofs.Common.{refl, ◌≡◌, ◌≢◌, ◌+◌, ◌-◌, ◌<◌, length, get_or, sym, ap, ◌∙◌, subst, arith, rules, true, false}
+use Rattle.std.proofs.Common.{refl, ◌≡◌, ◌≢◌, ◌+◌, ◌-◌, get_or, sym, subst, arith, rules, true, false}
 use Rattle.std.specs.Char.{IsAsciiDigit}
 use Rattle.std.proofs.lemmas.Result.{err_from_is_err_and}
 use Rattle.std.proofs.lemmas.Int.{to_z-of_z}
-use Rattle.bt_bencode.specs.Data.{integer}
 use Rattle.bt_bencode.specs.Fault.{StringStops, Stops, EndsBefore}
 use Rattle.bt_bencode.specs.Reading.{FaultFrom, ReadsValue}
-use Rattle.bt_bencode.specs.View.{data_of, entries_of}
+use Rattle.bt_bencode.specs.View.{entries_of}
 use Rattle.bt_bencode.proofs.Passing.{fault_passed}
 use Rattle.bt_bencode.proofs.Splits.{not_standing}
 use Rattle.bt_bencode.proofs.Views.{data_of-Int, data_of-Bytes, data_of-List, data_of-Dict}

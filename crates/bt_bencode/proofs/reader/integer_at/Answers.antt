@@ -1,12 +1,12 @@
-use Rattle.std.proofs.Common.{◌≡◌, ◌+◌, ℕ, Bool, List, subst, sym, drop, Option, None, Some}
+use Rattle.std.proofs.Common.{◌+◌, subst, sym, None, Some}
 use Rattle.std.specs.Prelude.{slice_range}
 use Rattle.std.specs.Int.{from_bool}
 use Rattle.std.proofs.lemmas.Result.{err_from_is_err_and}
 use Rattle.std.proofs.lemmas.Int.{to_z-of_z}
 use Rattle.bt_bencode.specs.Fault.{NumeralStops, Stops}
-use Rattle.bt_bencode.specs.Reading.{FaultFrom, IsNumeralAt, ReadsInteger}
+use Rattle.bt_bencode.specs.Reading.{FaultFrom, ReadsInteger}
 use Rattle.bt_bencode.proofs.Passing.{fault_passed}
-use Rattle.bt_bencode.proofs.Integers.{IsSigned, is_signed, integer_stops, integer_is_ascii, Answers, integer_found, integer_out_of_range}
+use Rattle.bt_bencode.proofs.Integers.{is_signed, integer_stops, integer_is_ascii, Answers, integer_found, integer_out_of_range}
 use Rattle.bt_bencode.proofs.reader.integer_at.Goals as goal
 
 pub returns-in_err-end-clause-fault : goal.returns-in_err-end-clause-fault

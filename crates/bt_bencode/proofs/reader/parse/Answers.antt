@@ -1,6 +1,5 @@
-use Rattle.std.proofs.Common.{◌≡◌, ◌<◌, ◌^◌, length, arith}
+use Rattle.std.proofs.Common.{◌<◌, ◌^◌, length, arith}
 use Rattle.std.proofs.lemmas.Result.{err_from_is_err_and}
-use Rattle.bt_bencode.specs.Data.{Data}
 use Rattle.bt_bencode.specs.Fault.{Stops}
 use Rattle.bt_bencode.specs.Reading.{FaultFrom}
 use Rattle.bt_bencode.specs.View.{data_of}

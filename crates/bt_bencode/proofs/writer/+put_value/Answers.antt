@@ -1,4 +1,4 @@
-use Rattle.std.proofs.Common.{◌≡◌, ◌<◌, ◌≤◌, ◌++◌, ◌∷◌, [], length, take, sym, ap, ◌∙◌, arith, rules, refl}
+use Rattle.std.proofs.Common.{◌≡◌, ◌++◌, ◌∷◌, [], take, ap, ◌∙◌, arith, refl}
 use Rattle.std.proofs.lemmas.List.{take_all}
 use Rattle.bt_bencode.specs.Spelling.{string_spelling, items_spelling, entries_spelling}
 use Rattle.bt_bencode.specs.View.{items_of, entries_of}
