@@ -1,0 +1,9 @@
+pub mod Blocks
+pub mod TreeShape
+pub mod Digest
+pub mod Tree
+pub mod Layer
+pub mod Clash
+pub mod Row
+pub mod Building
+pub mod Comparison
