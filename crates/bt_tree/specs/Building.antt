@@ -32,10 +32,15 @@ pub record BuildsFrom (dig : List ℕ → List ℕ) (b : Building) (file : List 
   pub file_length : length file ≡ b.file_length
   pub peaks : b.peaks ≡ peaks_of dig (λ i. node_digest dig file 0 (first_block b + i)) b.count
 
--- so many bytes are one or more whole blocks, the next ones below the node
+-- the byte at which the node's blocks end, in the file
+abbrev pub node_end : Building → ℕ
+node_end b = min (16384 * (first_block b + 2 ^ b.layer)) b.file_length
+
+-- so many bytes are one or more whole blocks, the next ones below the node: they end where a block does, at the
+-- node's end at most
 pub record IsNextRun (b : Building) (bytes : ℕ) : Type 0 where
   pub some : 0 < bytes
-  pub inside : b.count + block_count bytes ≤ blocks_below b
+  pub inside : 16384 * next_block b + bytes ≤ node_end b
   pub whole : (bytes % 16384 ≡ 0) ⊎ (16384 * next_block b + bytes ≡ b.file_length)
 
 -- the run is one or more blocks of the file, from this block on

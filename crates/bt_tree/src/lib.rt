@@ -23,3 +23,6 @@ pub use node_hash::{Hash32, NodeHash, Plain, Weak};
 pub use padding::pad;
 pub use root_builder::{RootBuilder, Shape};
 pub use tree_shape::{BLOCK_LEN, Geometry, piece_layer};
+
+#[cfg(test)]
+mod tests;

@@ -77,7 +77,7 @@ impl<H: NodeHash> RootBuilder<H> {
             → HasRun file (16384 * next_block self.old) run.now → BuildsFrom H.digest self.new file) }
         ensures err { OnErr result (self.new ≡ self.old) }
     {
-        if !self.is_next(run.len()) {
+        if !self.is_next(run.len() as u64) {
             return Err(Shape);
         }
         push_blocks(self.hash, &mut self.peaks, self.count, run);
@@ -106,12 +106,15 @@ impl<H: NodeHash> RootBuilder<H> {
     }
 
     /// Whether a run of so many bytes is made of next blocks below the node.
-    fn is_next(&self, len: usize) -> bool
+    fn is_next(&self, len: u64) -> bool
         ensures { IsTrue result ↔ IsNextRun self.now len }
     {
-        let next = (self.index << self.layer) as u64 + self.count as u64;
-        let is_whole = len % BLOCK_LEN == 0 || BLOCK_LEN as u64 * next + len as u64 == self.geometry.length();
-        len > 0 && len.div_ceil(BLOCK_LEN) <= (self.blocks_below() - self.count) as usize && is_whole
+        let first = (self.index as u64) << self.layer;
+        let start = BLOCK_LEN as u64 * (first + self.count as u64);
+        let length = self.geometry.length();
+        let end = length.min(BLOCK_LEN as u64 * (first + (1 << self.layer)));
+        let rest = end.saturating_sub(start);
+        len > 0 && len <= rest && (len % BLOCK_LEN as u64 == 0 || start + len == length)
     }
 }
 
