@@ -1,7 +1,6 @@
 -- What a builder of one node has of the blocks below it.
 use Rattle.std.specs.Prelude.{◌≡◌, ℕ, ◌+◌, ◌-◌, ◌*◌, ◌%◌, ◌^◌, ◌<◌, ◌≤◌, ◌⊎◌, min, List, length}
 use Rattle.bt_tree.specs.Blocks.{IsFileLength, block_count, HasRun}
-use Rattle.bt_tree.specs.TreeShape.{CoversBlock}
 use Rattle.bt_tree.specs.Tree.{node_digest}
 use Rattle.bt_tree.specs.Row.{peaks_of, peak_count}
 
@@ -62,6 +61,7 @@ IsComplete b = b.count ≡ blocks_below b
 -- what holds of every builder
 pub record IsSound (b : Building) : Type 0 where
   pub lawful : IsFileLength b.file_length
-  pub covers : CoversBlock (block_count b.file_length) b.layer b.index
+  pub high : b.layer ≤ 26
+  pub real : first_block b < block_count b.file_length
   pub within : b.count ≤ blocks_below b
   pub size : length b.peaks ≡ peak_count 26 b.count

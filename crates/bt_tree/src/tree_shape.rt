@@ -102,5 +102,5 @@ pub fn piece_layer(piece_length: u32) -> u8
     requires { IsPieceLength piece_length }
     ensures { piece_length ≡ 16384 * 2 ^ result }
 {
-    (piece_length.ilog2() - BLOCK_LEN.ilog2()) as u8
+    (piece_length / BLOCK_LEN as u32).ilog2() as u8
 }

@@ -1,0 +1,4 @@
+pub mod Shapes
+pub mod RowNodes
+pub mod PeakLists
+pub mod Runs
