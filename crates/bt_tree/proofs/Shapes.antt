@@ -5,7 +5,6 @@ use Rattle.std.specs.Int.Count.{count_leading_zeros}
 use Rattle.std.proofs.Math.Nat.{pow-suc, mul-le-mul_right, pow-le-pow_right}
 use Rattle.std.proofs.lemmas.Nat.{pow_pos, pow-add, pow_below, div-add-mod', leading_length}
 use Rattle.std.proofs.lemmas.Bool.{cases_lt, lt-ltb, le-ltb}
-use Rattle.bt_tree.specs.Blocks.{IsFileLength, block_count}
 use Rattle.bt_tree.specs.TreeShape.{height_up_to, height_of, IsHeight, real_width, CoversBlock}
 
 -- a smaller power has a smaller exponent
@@ -46,9 +45,9 @@ pub height_limit : (n : ℕ) → n ≤ 2 ^ 26 → height_of n ≤ 26
 height_limit n h = (height_is n).least 26 h
 
 -- the height by leading zeros
-pub height_from_zeros : (n zeros : ℕ) → 0 < n → n < 2 ^ 32 → zeros ≡ count_leading_zeros 32 (n - 1) → IsHeight n (32 - zeros)
-height_from_zeros n zeros some limit e =
-    let top = leading_length 32 (n - 1) (omega arith) in
+pub height_from_zeros : (n blocks zeros : ℕ) → blocks ≡ n → 0 < blocks → blocks < 2 ^ 32 → zeros ≡ count_leading_zeros 32 (blocks - 1) → IsHeight n (32 - zeros)
+height_from_zeros n blocks zeros all some limit e =
+    let top = leading_length 32 (blocks - 1) (omega arith) in
     let m : ℕ = top.0 in
     let same : 32 - zeros ≡ m = omega (arith, top.1, e) in
     rw same record {
@@ -91,11 +90,11 @@ pub record IsRealNode (n layer index : ℕ) : Type 0 where
   pub high : layer ≤ 26
   pub real : index * 2 ^ layer < n
 
-pub real_node : (bytes layer index : ℕ) → IsFileLength bytes → CoversBlock (block_count bytes) layer index → IsRealNode (block_count bytes) layer index
-real_node bytes layer index lawful covers =
+pub real_node : (n layer index : ℕ) → n ≤ 2 ^ 26 → CoversBlock n layer index → IsRealNode n layer index
+real_node n layer index limit covers =
     record {
-      high = omega (arith, covers.inside.in_height, height_limit (block_count bytes) (omega (arith, lawful.limit)));
-      real = real_lt (block_count bytes) (2 ^ layer) index (pow_pos layer) covers.real;
+      high = omega (arith, covers.inside.in_height, height_limit n limit);
+      real = real_lt n (2 ^ layer) index (pow_pos layer) covers.real;
     }
 
 -- the layer of a piece by its logarithm

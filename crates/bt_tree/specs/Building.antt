@@ -1,6 +1,6 @@
 -- What a builder of one node has of the blocks below it.
 use Rattle.std.specs.Prelude.{◌≡◌, ℕ, ◌+◌, ◌-◌, ◌*◌, ◌%◌, ◌^◌, ◌<◌, ◌≤◌, ◌⊎◌, min, List, length}
-use Rattle.bt_tree.specs.Blocks.{IsFileLength, block_count, HasRun}
+use Rattle.bt_tree.specs.Blocks.{block_count, HasRun}
 use Rattle.bt_tree.specs.Tree.{node_digest}
 use Rattle.bt_tree.specs.Row.{peaks_of, peak_count}
 
@@ -58,10 +58,10 @@ pub record TakesBlocks (old new : Building) (blocks : ℕ) : Type 0 where
 abbrev pub IsComplete : Building → Type 0
 IsComplete b = b.count ≡ blocks_below b
 
--- what holds of every builder
-pub record IsSound (b : Building) : Type 0 where
-  pub lawful : IsFileLength b.file_length
+-- what holds of every builder, which keeps how many blocks lie below its node
+pub record IsSound (b : Building) (blocks : ℕ) : Type 0 where
   pub high : b.layer ≤ 26
   pub real : first_block b < block_count b.file_length
-  pub within : b.count ≤ blocks_below b
+  pub below : blocks ≡ blocks_below b
+  pub within : b.count ≤ blocks
   pub size : length b.peaks ≡ peak_count 26 b.count

@@ -4,7 +4,7 @@ ghost use Rattle.bt_tree.specs.Blocks.{block_count, HasRun};
 ghost use Rattle.bt_tree.specs.TreeShape.{height_of, CoversBlock};
 ghost use Rattle.bt_tree.specs.Tree.{node_digest};
 ghost use Rattle.bt_tree.specs.Row.{peaks_of, peak_count};
-ghost use Rattle.bt_tree.specs.Building.{Building, BuildsFrom, IsNextRun, TakesBlocks, IsComplete, IsBlocksOf, blocks_below, next_block};
+ghost use Rattle.bt_tree.specs.Building.{Building, BuildsFrom, IsNextRun, TakesBlocks, IsComplete, IsBlocksOf, next_block};
 
 use crate::node_hash::{Hash32, NodeHash};
 use crate::peaks::{self, Peaks};
@@ -26,6 +26,9 @@ pub struct RootBuilder<H: NodeHash> {
     geometry: Geometry,
     layer: u8,
     index: u32,
+    /// How many blocks lie below the node.
+    blocks: u32,
+    /// How many of them came.
     count: u32,
     peaks: Peaks,
 }
@@ -37,7 +40,7 @@ impl<H: NodeHash> Model for RootBuilder<H> {
 
     ghost view = { λ b. record { file_length = b.geometry; layer = b.layer; index = b.index; count = b.count; peaks = b.peaks.items } };
 
-    ghost invariant = { λ b. IsSound (record { file_length = b.geometry; layer = b.layer; index = b.index; count = b.count; peaks = b.peaks.items }) };
+    ghost invariant = { λ b. IsSound (record { file_length = b.geometry; layer = b.layer; index = b.index; count = b.count; peaks = b.peaks.items }) b.blocks };
 }
 
 impl<H: NodeHash> RootBuilder<H> {
@@ -56,11 +59,13 @@ impl<H: NodeHash> RootBuilder<H> {
         ensures place { result ≡ record { file_length = geometry; layer = layer; index = index; count = 0; peaks = [] } }
         ensures from { (file : List ℕ) → length file ≡ geometry → BuildsFrom H.digest result file }
     {
+        let from_first = geometry.blocks() - (index << layer);
         RootBuilder {
             hash,
             geometry,
             layer,
             index,
+            blocks: from_first.min(1 << layer),
             count: 0,
             peaks: Peaks::new(),
         }
@@ -91,18 +96,10 @@ impl<H: NodeHash> RootBuilder<H> {
         ensures value { IfOk result (λ digest. (file : List ℕ) → BuildsFrom H.digest self.now file
             → digest ≡ node_digest H.digest file self.now.layer self.now.index) }
     {
-        if self.count < self.blocks_below() {
+        if self.count < self.blocks {
             return Err(Shape);
         }
         Ok(peaks::close(self.hash, self.peaks.as_slice(), self.count, self.layer, [0; 32]))
-    }
-
-    /// How many blocks lie below the node.
-    fn blocks_below(&self) -> u32
-        ensures { result ≡ blocks_below self.now }
-    {
-        let from_first = self.geometry.blocks() - (self.index << self.layer);
-        from_first.min(1 << self.layer)
     }
 
     /// Whether a run of so many bytes is made of next blocks below the node.

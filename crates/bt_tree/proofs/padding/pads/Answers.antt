@@ -6,7 +6,19 @@ use Rattle.bt_tree.proofs.RowNodes.{padding_suc}
 use Rattle.bt_tree.proofs.padding.pads.Goals as goal
 
 pub loop-layer-init : goal.loop-layer-init
-loop-layer-init g c = ?
+unfolding padding_digest
+loop-layer-init g c = record { count = refl; done = λ k low. let none : k ≡ 0 = omega arith in rw none refl }
 
 pub loop-layer-preserved : goal.loop-layer-preserved
-loop-layer-preserved g c = ?
+loop-layer-preserved g c =
+    let layer : ℕ = c.loop-layer.layer in
+    let inside : layer + 1 < length c.loop-layer.digests = omega (arith, c.loop-layer.invariant.count) in
+    record {
+      count = length-set _ _ _ ∙ c.loop-layer.invariant.count;
+      done = λ k low. elim (cases_lt k (layer + 1)) [
+        | inl below ↦ let other : k ≢ layer + 1 = omega arith in rw get_or-set_other (c.loop-layer.invariant.done k (omega arith))
+        | inr here ↦
+            let same : k ≡ layer + 1 = omega arith in
+            rw (same, get_or-set_same, add-one layer) (let h = c.pair.ensures in ?)
+      ];
+    }

@@ -1,19 +1,10 @@
 use Rattle.std.proofs.Common.{◌≡◌, ℕ, ◌+◌, ◌*◌, ◌^◌, length, arith, sym, ap, ◌∙◌}
+use Rattle.bt_tree.specs.Blocks.{block_count}
 use Rattle.bt_tree.specs.Tree.{node_digest}
 use Rattle.bt_tree.specs.Row.{row_node}
 use Rattle.bt_tree.proofs.Shapes.{real_node}
 use Rattle.bt_tree.proofs.PeakLists.{peaks_none, peak_count_none}
 use Rattle.bt_tree.proofs.root_builder.RootBuilder.for_node.Goals as goal
-
-pub invariant_of-result : goal.invariant_of-result
-invariant_of-result g c =
-    record {
-      lawful = ?;
-      high = ?;
-      real = ?;
-      within = omega arith;
-      size = ap length c.new.ensures ∙ sym (peak_count_none 26);
-    }
 
 pub returns-clause-from : goal.returns-clause-from
 returns-clause-from g c = λ file len. record {
