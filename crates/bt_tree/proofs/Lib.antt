@@ -2,3 +2,5 @@ pub mod Shapes
 pub mod RowNodes
 pub mod PeakLists
 pub mod Runs
+pub mod Places
+pub mod Twins

@@ -241,10 +241,18 @@ closing_even dig row k n j m l c left padding open_node up down even room h =
     }
 
 -- where every node is whole
-pub closing_whole : (dig : List ℕ → List ℕ) (row : ℕ → List ℕ) (layers count : ℕ) (peaks : List (List ℕ)) (first : List ℕ) → layers ≤ 26 → count ≡ 2 ^ layers
-    → peaks ≡ peaks_of dig row count → first ≡ get_or peaks 0 first → first ≡ row_node dig row layers 0
-closing_whole dig row layers count peaks first high e held read =
+pub closing_whole : (dig : List ℕ → List ℕ) (row : ℕ → List ℕ) (layers count : ℕ) (peaks : List (List ℕ)) → layers ≤ 26 → count ≡ 2 ^ layers
+    → peaks ≡ peaks_of dig row count → get_or peaks 0 [] ≡ row_node dig row layers 0
+closing_whole dig row layers count peaks high e held =
     let none : 0 + layers ≡ layers = omega arith in
     let one : peaks ≡ row_node dig row layers 0 ∷ [] =
     held ∙ ap (λ c. peaks_of dig row c) e ∙ peaks_whole (row_node dig row) 0 26 layers high ∙ ap (λ k. row_node dig row k 0 ∷ []) none in
-    read ∙ ap (λ xs. get_or xs 0 first) one
+    ap (λ xs. get_or xs 0 []) one
+
+-- where none is left
+pub closing_done : (dig : List ℕ → List ℕ) (row : ℕ → List ℕ) (k n m layers c : ℕ) (left : List (List ℕ)) (padding open_node : List ℕ) → k ≡ layers → m ≡ 0 → c < 2 ^ m
+    → IsClosing dig row k n m c left padding open_node → open_node ≡ row_node dig row layers 0
+closing_done dig row k n m layers c left padding open_node top down room h =
+    let power : 2 ^ m ≡ 1 = ap (λ i. 2 ^ i) down in
+    let none : c ≡ 0 = omega arith in
+    h.here ∙ ap (row_node dig row k) none ∙ ap (λ l. row_node dig row l 0) top

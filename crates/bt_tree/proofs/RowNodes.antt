@@ -1,11 +1,12 @@
 -- Nodes over a row of digests, and the nodes of a file's tree as such.
-use Rattle.std.proofs.Common.{◌≡◌, ℕ, zero, suc, ◌+◌, ◌-◌, ◌*◌, ◌^◌, ◌<◌, ◌≤◌, List, [], ◌++◌, length, take, drop, get_or, refl, sym, ap, ◌∙◌, arith}
+use Rattle.std.proofs.Common.{◌≡◌, ℕ, zero, suc, ◌+◌, ◌-◌, ◌*◌, ◌^◌, ◌<◌, ◌≤◌, List, [], ◌++◌, length, take, drop, get_or, replicate, inl, inr, refl, sym, ap, ◌∙◌, arith}
 use Rattle.std.proofs.Math.Nat.{pow-suc, mul-le-mul_right}
 use Rattle.std.proofs.lemmas.Nat.{pow_pos}
-use Rattle.std.proofs.lemmas.Bool.{lt-ltb, le-ltb}
+use Rattle.std.proofs.lemmas.Bool.{cases_lt, lt-ltb, le-ltb}
 use Rattle.std.proofs.lemmas.List.{get_or-take, get_or-drop}
 use Rattle.bt_tree.specs.Blocks.{block_count, block_at}
-use Rattle.bt_tree.specs.Tree.{padding_digest, node_digest}
+use Rattle.bt_tree.specs.Digest.{IsDigest}
+use Rattle.bt_tree.specs.Tree.{padding_digest, node_digest, input_at}
 use Rattle.bt_tree.specs.Row.{row_node}
 use Rattle.bt_tree.specs.Layer.{fold_of}
 
@@ -64,6 +65,10 @@ pub leaf_past : (dig : List ℕ → List ℕ) (file : List ℕ) (i : ℕ) → bl
 unfolding node_digest
 leaf_past dig file i h = rw le-ltb refl
 
+pub padding_zero : (dig : List ℕ → List ℕ) → padding_digest dig 0 ≡ replicate 32 0
+unfolding padding_digest
+padding_zero dig = refl
+
 pub padding_suc : (dig : List ℕ → List ℕ) (k : ℕ) → dig (padding_digest dig k ++ padding_digest dig k) ≡ padding_digest dig (suc k)
 unfolding padding_digest
 padding_suc dig k = refl
@@ -92,3 +97,29 @@ fold_is dig (suc k) digests =
     ∙ row_node_shift dig (λ i. get_or digests i []) k 1 (2 ^ k) 0 (omega arith) in
     ap (λ d. dig (d ++ fold_of dig k (drop (2 ^ k) digests))) left
     ∙ ap (λ d. dig (row_node dig (λ i. get_or digests i []) k 0 ++ d)) right
+
+-- a node above the leaves has the digest of its input
+pub node_parent : (dig : List ℕ → List ℕ) (file : List ℕ) (k i : ℕ) → node_digest dig file (suc k) i ≡ dig (node_digest dig file k (2 * i) ++ node_digest dig file k (2 * i + 1))
+unfolding node_digest
+node_parent dig file k i = refl
+
+pub input_leaf : (dig : List ℕ → List ℕ) (file : List ℕ) (i : ℕ) → input_at dig file 0 i ≡ block_at file i
+unfolding input_at
+input_leaf dig file i = refl
+
+pub input_parent : (dig : List ℕ → List ℕ) (file : List ℕ) (k i : ℕ) → input_at dig file (suc k) i ≡ node_digest dig file k (2 * i) ++ node_digest dig file k (2 * i + 1)
+unfolding input_at
+input_parent dig file k i = refl
+
+pub length-padding_digest : (dig : List ℕ → List ℕ) → IsDigest dig → (k : ℕ) → length (padding_digest dig k) ≡ 32
+unfolding padding_digest
+length-padding_digest dig h zero = refl
+length-padding_digest dig h (suc k) = h (padding_digest dig k ++ padding_digest dig k)
+
+pub length-node_digest : (dig : List ℕ → List ℕ) → IsDigest dig → (file : List ℕ) (k i : ℕ) → length (node_digest dig file k i) ≡ 32
+length-node_digest dig h file zero i = elim (cases_lt i (block_count (length file))) [
+  | inl real ↦ ap length (leaf_is dig file i real) ∙ h (block_at file i)
+  | inr past ↦ ap length (leaf_past dig file i past) ∙ length-padding_digest dig h 0
+]
+length-node_digest dig h file (suc k) i =
+    ap length (node_parent dig file k i) ∙ h (node_digest dig file k (2 * i) ++ node_digest dig file k (2 * i + 1))

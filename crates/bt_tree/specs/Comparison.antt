@@ -30,11 +30,16 @@ pub record IsHighestUnder (dig : List ℕ → List ℕ) (a b : List ℕ) (layer 
   pub clash : HasTwoInputs dig a b l j
   pub highest : (k i : ℕ) → IsUnder layer index k i → HasTwoInputs dig a b k i → (k < l) ⊎ ((k ≡ l) × (j ≤ i))
 
+-- the place is the first such one below the node, and none is given where there is none
+abbrev pub IsHighestIn : (List ℕ → List ℕ) → List ℕ → List ℕ → ℕ → ℕ → Option Place → Type 0
+IsHighestIn dig a b layer index found =
+    MatchOption found (NoClashUnder dig a b layer index) (λ p. IsHighestUnder dig a b layer index p.layer p.index)
+
 -- what is known of one node of the two trees
 pub record IsTwinAt (dig : List ℕ → List ℕ) (a b : List ℕ) (layer index : ℕ) (twin : Twin) : Type 0 where
   pub ours : twin.ours ≡ node_digest dig a layer index
   pub theirs : twin.theirs ≡ node_digest dig b layer index
-  pub clash : MatchOption twin.clash (NoClashUnder dig a b layer index) (λ p. IsHighestUnder dig a b layer index p.layer p.index)
+  pub clash : IsHighestIn dig a b layer index twin.clash
 
 -- the place in the greater layer, and the left one in one layer
 abbrev pub higher_of : Option Place → Option Place → Option Place

@@ -106,9 +106,9 @@ impl<H: NodeHash> RootBuilder<H> {
     fn is_next(&self, len: u64) -> bool
         ensures { IsTrue result ↔ IsNextRun self.now len }
     {
+        let length = self.geometry.length();
         let first = (self.index as u64) << self.layer;
         let start = BLOCK_LEN as u64 * (first + self.count as u64);
-        let length = self.geometry.length();
         let end = length.min(BLOCK_LEN as u64 * (first + (1 << self.layer)));
         let rest = end.saturating_sub(start);
         len > 0 && len <= rest && (len % BLOCK_LEN as u64 == 0 || start + len == length)

@@ -19,6 +19,6 @@ loop-layer-preserved g c =
         | inl below ↦ let other : k ≢ layer + 1 = omega arith in rw get_or-set_other (c.loop-layer.invariant.done k (omega arith))
         | inr here ↦
             let same : k ≡ layer + 1 = omega arith in
-            rw (same, get_or-set_same, add-one layer) (let h = c.pair.ensures in ?)
+            rw (same, get_or-set_same, add-one layer) (c.pair.ensures ∙ ap (λ d. g.H.NodeHash.digest (d ++ d)) (c.loop-layer.invariant.done layer (omega arith)) ∙ padding_suc g.H.NodeHash.digest layer)
       ];
     }

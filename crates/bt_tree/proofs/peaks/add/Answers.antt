@@ -17,7 +17,7 @@ loop-rest-preserved g c =
     (carry_more _ _ _ _ _ _ _ _ _ c.in-Some.left _ c.loop-rest-test.true c.in-Some.ensures.items c.in-Some.ensures.len c.loop-rest.invariant)
 
 pub push-requires : goal.push-requires
-push-requires g c = ?
+push-requires g c = (omega arith, carry_room _ _ _ _ _ _ _ _ (omega arith) c.loop-rest.invariant)
 
 pub returns-clause-size : goal.returns-clause-size
 returns-clause-size g c =
