@@ -4,3 +4,4 @@ pub mod PeakLists
 pub mod Runs
 pub mod Places
 pub mod Twins
+pub mod TwinNodes

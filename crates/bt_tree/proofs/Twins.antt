@@ -197,8 +197,9 @@ pub same_files : (dig : List ℕ → List ℕ) → IsDigest dig → (a b : List 
     → node_digest dig a (height_of (block_count (length a))) 0 ≡ node_digest dig b (height_of (block_count (length a))) 0 → a ≡ b
 same_files dig h a b len none e = same_blocks a b len (λ j real.
     let all = height_is (block_count (length a)) in
+    let whole : height_of (block_count (length a)) - 0 ≡ height_of (block_count (length a)) = omega arith in
     same_below dig h a b len (height_of (block_count (length a))) 0 none e j
-    (under_root (height_of (block_count (length a))) 0 j (omega arith) (omega (arith, all.enough))) real)
+    (under_root (height_of (block_count (length a))) 0 j (omega arith) (rw whole (omega (arith, all.enough)))) real)
 
 -- the first clash below the root is the first of the trees
 pub highest_clash : (dig : List ℕ → List ℕ) (a b : List ℕ) (l j : ℕ) → length a ≡ length b → IsHighestUnder dig a b (height_of (block_count (length a))) 0 l j → IsHighestClash dig a b l j

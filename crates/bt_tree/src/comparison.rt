@@ -1,4 +1,4 @@
-ghost use Rattle.std.specs.Prelude.{◌≡◌, ◌≢◌, ℕ, ◌+◌, ◌*◌, ◌^◌, ◌<◌, ◌≤◌, ◌↔◌, List, [], length, slice_index_or, MatchOption};
+ghost use Rattle.std.specs.Prelude.{◌≡◌, ◌≢◌, ℕ, ◌+◌, ◌*◌, ◌^◌, ◌<◌, ◌≤◌, ◌↔◌, List, [], length, slice_index_or, IsTrue};
 ghost use Rattle.bt_tree.specs.Blocks.{IsFileLength, block_count, block_at};
 ghost use Rattle.bt_tree.specs.Tree.{padding_digest, file_root};
 ghost use Rattle.bt_tree.specs.Comparison.{FitsFiles, IsTwinAt, higher_of};
@@ -35,6 +35,15 @@ struct Twin {
     clash: Option<Place>,
 }
 
+impl Twin {
+    /// Whether the two digests are equal.
+    fn is_even(&self) -> bool
+        ensures { IsTrue result ↔ (self.now.ours ≡ self.now.theirs) }
+    {
+        self.ours == self.theirs
+    }
+}
+
 /// Compares two files of one length, 1 to 2^40 bytes, by their trees, in one pass that digests each node once.
 ///
 /// `Same` where the files are equal, and `RootsDiffer` where their roots differ. Else the answer is the place nearest
@@ -51,7 +60,7 @@ pub fn compare_files<H: NodeHash>(hash: H, a: &[u8], b: &[u8]) -> Compared
     };
     let height = geometry.height();
     let root = compare_node(hash, a, b, &pads(hash, height), height, 0);
-    if root.ours != root.theirs {
+    if !root.is_even() {
         return Compared::RootsDiffer;
     }
     match root.clash {
@@ -92,10 +101,16 @@ fn compare_blocks<H: NodeHash>(hash: H, index: u32, ours: &[u8], theirs: &[u8]) 
     ensures { (a b : List ℕ) → index < block_count (length a) → length a ≡ length b → ours.now ≡ block_at a index
         → theirs.now ≡ block_at b index → IsTwinAt H.digest a b 0 index result }
 {
-    let is_same = ours == theirs;
     let our_digest = hash.block(ours);
-    let their_digest = if is_same { our_digest } else { hash.block(theirs) };
-    let clash = if !is_same && our_digest == their_digest {
+    if ours == theirs {
+        return Twin {
+            ours: our_digest,
+            theirs: our_digest,
+            clash: None,
+        };
+    }
+    let their_digest = hash.block(theirs);
+    let clash = if our_digest == their_digest {
         Some(Place { layer: 0, index })
     } else {
         None
@@ -113,10 +128,16 @@ fn join<H: NodeHash>(hash: H, below: u8, index: u32, left: Twin, right: Twin) ->
     ensures { (a b : List ℕ) → IsTwinAt H.digest a b below (2 * index) left → IsTwinAt H.digest a b below (2 * index + 1) right
         → IsTwinAt H.digest a b (below + 1) index result }
 {
-    let is_same = left.ours == left.theirs && right.ours == right.theirs;
     let ours = hash.pair(&left.ours, &right.ours);
-    let theirs = if is_same { ours } else { hash.pair(&left.theirs, &right.theirs) };
-    let clash = if !is_same && ours == theirs {
+    if left.is_even() && right.is_even() {
+        return Twin {
+            ours,
+            theirs: ours,
+            clash: higher(left.clash, right.clash),
+        };
+    }
+    let theirs = hash.pair(&left.theirs, &right.theirs);
+    let clash = if ours == theirs {
         Some(Place {
             layer: below + 1,
             index,
@@ -124,7 +145,11 @@ fn join<H: NodeHash>(hash: H, below: u8, index: u32, left: Twin, right: Twin) ->
     } else {
         higher(left.clash, right.clash)
     };
-    Twin { ours, theirs, clash }
+    Twin {
+        ours,
+        theirs,
+        clash,
+    }
 }
 
 /// The place in the greater layer, and the left one in one layer.
