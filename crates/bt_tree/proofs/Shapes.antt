@@ -1,11 +1,11 @@
 -- The height of a tree and the widths of its layers.
-use Rattle.std.proofs.Common.{◌≡◌, ℕ, zero, suc, ◌+◌, ◌-◌, ◌*◌, ◌/◌, ◌%◌, ◌^◌, ◌<◌, ◌≤◌, inl, inr, refl, sym, ap, ◌∙◌, arith}
-use Rattle.std.specs.Int.{div_ceil}
-use Rattle.std.specs.Int.Count.{count_leading_zeros}
+use Rattle.std.proofs.Common.{rules, ◌≡◌, ℕ, IsTrue, zero, suc, ◌+◌, ◌-◌, ◌*◌, ◌/◌, ◌%◌, ◌^◌, ◌<◌, ◌≤◌, inl, inr, refl, sym, ap, ◌∙◌, arith}
+use Rattle.std.specs.Int.{div_ceil, is_power_of_two}
+use Rattle.std.specs.Int.Count.{count_leading_zeros, ones, ones_step}
 use Rattle.std.proofs.Math.Nat.{pow-suc, mul-le-mul_right, pow-le-pow_right}
-use Rattle.std.proofs.lemmas.Nat.{pow_pos, pow-add, pow_below, div-add-mod', leading_length}
-use Rattle.std.proofs.lemmas.Bool.{cases_lt, lt-ltb, le-ltb}
-use Rattle.bt_tree.specs.TreeShape.{height_up_to, height_of, IsHeight, real_width, CoversBlock}
+use Rattle.std.proofs.lemmas.Nat.{pow_pos, pow-add, pow_below, div-add-mod', leading_length, zero_from_ones}
+use Rattle.std.proofs.lemmas.Bool.{cases_lt, cases_eq, lt-ltb, le-ltb}
+use Rattle.bt_tree.specs.TreeShape.{height_up_to, height_of, IsHeight, real_width, CoversBlock, IsPieceLength}
 
 -- a smaller power has a smaller exponent
 pub le_from_pow : (i j : ℕ) → 2 ^ i ≤ 2 ^ j → i ≤ j
@@ -97,11 +97,48 @@ real_node n layer index limit covers =
       real = real_lt n (2 ^ layer) index (pow_pos layer) covers.real;
     }
 
--- the layer of a piece by its logarithm
-pub piece_layer_is : (bytes log : ℕ) → (layer : ℕ) → bytes ≡ 16384 * 2 ^ layer → 2 ^ log ≤ bytes / 16384 → bytes / 16384 < 2 * 2 ^ log → bytes ≡ 16384 * 2 ^ log
-piece_layer_is bytes log layer e low high =
-    let blocks : bytes / 16384 ≡ 2 ^ layer = omega arith in
-    let a : log ≤ layer = le_from_pow log layer (omega arith) in
-    let b : layer ≤ log = elim (cases_lt log layer) [ inl lt ↦ absurd (omega (arith, pow-suc 2 log, pow_le (suc log) layer (omega arith))) | inr le ↦ le ] in
-    let same : layer ≡ log = omega arith in
-    e ∙ ap (λ k. 16384 * 2 ^ k) same
+ones_none : ones 0 ≡ 0
+unfolding ones
+ones_none = refl
+
+one_from_test : (n : ℕ) → IsTrue (is_power_of_two n) → ones n ≡ 1
+one_from_test n h = search rules
+
+-- a number with one binary digit 1 is a power of two
+power_within : (digits n : ℕ) → n ≤ digits → ones n ≡ 1 → (k : ℕ) × (n ≡ 2 ^ k)
+power_within zero n h one = let none : n ≡ 0 = omega arith in absurd (omega (arith, ap ones none ∙ ones_none, one))
+power_within (suc digits) n h one =
+    let half : ℕ = n / 2 in
+    let split : ones n ≡ n % 2 + ones half = ones_step n in
+    elim (cases_eq (n % 2) 0) [
+      | inl even ↦
+          let rest = power_within digits half (omega (arith, some n one)) (omega (arith, split)) in
+          (suc rest.0, omega (arith, rest.1, pow-suc 2 rest.0))
+      | inr odd ↦
+          let none : half ≡ 0 = zero_from_ones half (omega (arith, split)) in
+          (0, omega (arith, none))
+    ]
+  where
+    some : (n : ℕ) → ones n ≡ 1 → 0 < n
+    some zero one = absurd (omega (arith, ones_none, one))
+    some (suc n) one = omega arith
+
+-- the layer of a piece by the logarithm of its blocks
+pub record IsPieceLayer (bytes layer : ℕ) : Type 0 where
+  pub value : bytes ≡ 16384 * 2 ^ layer
+  pub limit : layer ≤ 14
+
+pub piece_layer_is : (bytes log : ℕ) → IsPieceLength bytes → 2 ^ log ≤ bytes / 16384 → bytes / 16384 < 2 * 2 ^ log → IsPieceLayer bytes log
+piece_layer_is bytes log h low high =
+    let power = power_within bytes bytes (omega arith) (one_from_test bytes h.power) in
+    let k : ℕ = power.0 in
+    let least : 14 ≤ k = le_from_pow 14 k (omega (arith, h.least, power.1)) in
+    let split : k ≡ (k - 14) + 14 = omega arith in
+    let whole : bytes ≡ 2 ^ (k - 14) * 16384 = power.1 ∙ ap (λ n. 2 ^ n) split ∙ pow-add 2 (k - 14) 14 in
+    let a : log ≤ k - 14 = le_from_pow log (k - 14) (omega arith) in
+    let b : k - 14 ≤ log = elim (cases_lt log (k - 14)) [ inl lt ↦ absurd (omega (arith, pow-suc 2 log, pow_le (suc log) (k - 14) (omega arith))) | inr le ↦ le ] in
+    let same : k - 14 ≡ log = omega arith in
+    record {
+      value = whole ∙ ap (λ n. 2 ^ n * 16384) same ∙ omega arith;
+      limit = le_from_pow log 14 (omega (arith, h.greatest));
+    }

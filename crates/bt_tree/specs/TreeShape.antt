@@ -1,7 +1,7 @@
 -- The shape of the complete binary tree over n blocks (BEP 52). A node is named by its layer, which counts up from
 -- the leaves at 0 to the root at the tree's height, and by its index in the layer, from the left, from 0 on.
-use Rattle.std.specs.Prelude.{◌≡◌, ℕ, zero, suc, ◌-◌, ◌*◌, ◌^◌, ◌<◌, ◌≤◌, nat_lt, if◌then◌else◌}
-use Rattle.std.specs.Int.{div_ceil}
+use Rattle.std.specs.Prelude.{◌≡◌, ℕ, zero, suc, ◌-◌, ◌*◌, ◌^◌, ◌<◌, ◌≤◌, IsTrue, nat_lt, if◌then◌else◌}
+use Rattle.std.specs.Int.{div_ceil, is_power_of_two}
 
 -- of the heights up to k, the least at which a tree has a leaf for each of n blocks, where k is such a height
 unfoldable pub height_up_to : ℕ → ℕ → ℕ
@@ -36,6 +36,8 @@ pub record IsPadding (n layer index : ℕ) : Type 0 where
   pub inside : IsInside n layer index
   pub past : real_width n layer ≤ index
 
--- a piece length: a power of two from 2 ^ 14 to 2 ^ 28, so a piece has 2 ^ layer blocks, for a layer up to 14
-abbrev pub IsPieceLength : ℕ → Type 0
-IsPieceLength bytes = (layer : ℕ) × (layer ≤ 14) × (bytes ≡ 16384 * 2 ^ layer)
+-- a piece length that is taken here: a power of two from 2 ^ 14 (BEP 52) to 2 ^ 28
+pub record IsPieceLength (bytes : ℕ) : Type 0 where
+  pub power : IsTrue (is_power_of_two bytes)
+  pub least : 2 ^ 14 ≤ bytes
+  pub greatest : bytes ≤ 2 ^ 28

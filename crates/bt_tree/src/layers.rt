@@ -1,4 +1,4 @@
-ghost use Rattle.std.specs.Prelude.{◌≡◌, ◌-◌, ◌^◌, ◌≤◌, ◌↔◌, ◌++◌, length, replicate, IsOk};
+ghost use Rattle.std.specs.Prelude.{◌≡◌, ◌≢◌, ◌-◌, ◌^◌, ◌≤◌, ◌↔◌, ◌++◌, length, replicate, IsOk};
 ghost use Rattle.bt_tree.specs.Blocks.{block_count};
 ghost use Rattle.bt_tree.specs.Layer.{fold_of, IsLayer, HasLayerSize};
 
@@ -29,6 +29,7 @@ pub fn check_layer<H: NodeHash>(hash: H, geometry: Geometry, root: &Hash32, laye
     ensures size { (result ≡ Err LayerError.Size) ↔ (¬ HasLayerSize (block_count geometry) layer bytes.now) }
     ensures differs { (result ≡ Err LayerError.Differs) ↔ (HasLayerSize (block_count geometry) layer bytes.now
         × (¬ IsLayer H.digest (block_count geometry) root.now layer bytes.now)) }
+    ensures no_memory { result ≢ Err LayerError.OutOfMemory }
 {
     let height = geometry.height();
     if layer > height || bytes.len() != 32 * geometry.real(layer) as usize {

@@ -127,9 +127,10 @@ fn shapes_follow_from_lengths(rt: HostRuntime) -> Result<(), Fail> {
     assert_eq!(rt; geometry.real(2), 17);
     assert_eq!(rt; geometry.block_len(63), 16384);
     assert_eq!(rt; geometry.block_len(64), 1);
-    assert_eq!(rt; piece_layer(16384), 0);
-    assert_eq!(rt; piece_layer(65536), 2);
-    assert_eq!(rt; piece_layer(1 << 28), 14);
+    for (length, layer) in [(1u32 << 14, 0), (1 << 16, 2), (1 << 28, 14)] {
+        assert!(rt; length >= 1 << 14 && length <= 1 << 28 && length.is_power_of_two());
+        assert_eq!(rt; piece_layer(length), layer);
+    }
     Ok(())
 }
 
@@ -137,7 +138,7 @@ fn shapes_follow_from_lengths(rt: HostRuntime) -> Result<(), Fail> {
 #[test]
 fn short_files_have_short_trees(rt: HostRuntime) -> Result<(), Fail> {
     let mut file = Vec::new(rt.alloc());
-    for i in 0..49152 {
+    for i in 0..49152u32 {
         file.push((i / 16384 + 1) as u8)?;
     }
     let root = digest(b"35754ee03360cacab5e9e27647da3d2a4ab6f97614ed7d1692b9eb3c42a65d69");
@@ -150,17 +151,16 @@ fn nodes_of_a_layer_give_its_root(rt: HostRuntime) -> Result<(), Fail> {
     let file = content(rt.alloc(), 1048577)?;
     let geometry = Geometry::new(1048577).ok_or("no geometry")?;
     assert!(rt; 2 <= geometry.height());
-    let mut layer = Vec::new(rt.alloc());
+    let mut layer = [0; 544];
     for (index, piece) in file.chunks(65536).enumerate() {
         assert!(rt; index < 17 && index < geometry.real(2) as usize);
         let mut builder = RootBuilder::for_node(Plain, geometry, 2, index as u32);
         builder.push(piece)?;
         let node = builder.finish()?;
         assert_eq!(rt; node, digest(LAYER_2[index]), "at {index}");
-        layer.extend_from_slice(&node)?;
+        layer[32 * index..32 * (index + 1)].copy_from_slice(&node);
     }
     let root = root_of(&file)?;
-    assert_eq!(rt; layer.len(), 544);
     assert_eq!(rt; check_layer(Plain, geometry, &root, 2, &layer), Ok(()));
     assert_eq!(rt; check_layer(Plain, geometry, &root, 2, &layer[..543]), Err(LayerError::Size));
     assert_eq!(rt; check_layer(Plain, geometry, &root, 8, &layer), Err(LayerError::Size));
@@ -172,12 +172,13 @@ fn nodes_of_a_layer_give_its_root(rt: HostRuntime) -> Result<(), Fail> {
 #[test]
 fn runs_of_another_shape_change_nothing(rt: HostRuntime) -> Result<(), Fail> {
     let file = content(rt.alloc(), 49152)?;
+    let file = file.as_slice();
     assert_eq!(rt; file.len(), 49152);
     let geometry = Geometry::new(40000).ok_or("no geometry")?;
     let mut builder = RootBuilder::new(Plain, geometry);
     builder.push(&file[..16384])?;
-    for refused in [0..0, 16384..16385, 16384..39999, 16384..40001, 16384..49152] {
-        assert_eq!(rt; builder.push(&file[refused]), Err(Shape));
+    for end in [16384, 16385, 39999, 40001, 49152] {
+        assert_eq!(rt; builder.push(&file[16384..end]), Err(Shape), "up to {end}");
     }
     assert_eq!(rt; builder.finish(), Err(Shape));
     builder.push(&file[16384..40000])?;
