@@ -157,11 +157,10 @@ carry_more dig old count leaf items popped len fewer rest left digest odd split 
           let before = h.holds row held here in
           let node = row_node dig row in
           let parts = same_from_push popped (peaks_from node (suc h.level) n (rest / 2)) left (node h.level (rest - 1))
-          (sym split ∙ before.0 ∙ peaks_odd node h.level h.above n rest up odd) in
-          (
+          (sym split ∙ before.0 ∙ peaks_odd node h.level h.above n rest up odd) in (
             parts.0,
             ap (λ d. dig (d ++ digest)) parts.1 ∙ ap (λ d. dig (node h.level (rest - 1) ++ d)) before.1
-            ∙ row_parent dig row h.level (rest / 2) (rest - 1) rest (omega arith) (omega arith),
+                ∙ row_parent dig row h.level (rest / 2) (rest - 1) rest (omega arith) (omega arith),
             before.2 ∙ peaks_odd_next node h.level h.above n rest up odd,
           );
     }
@@ -224,7 +223,7 @@ closing_odd dig row k n j m l c a at stack x padding open_node d up down odd nex
       peaks = parts.0;
       past = past_parent dig row k m l c padding down h.past;
       here = ap (λ y. dig (y ++ open_node)) (read ∙ parts.1) ∙ ap (λ y. dig (node k (c - 1) ++ y)) h.here
-      ∙ row_parent dig row k (c / 2) (c - 1) c (omega arith) (omega arith);
+          ∙ row_parent dig row k (c / 2) (c - 1) c (omega arith) (omega arith);
     }
 
 pub closing_even : (dig : List ℕ → List ℕ) (row : ℕ → List ℕ) (k n j m l c : ℕ) (left : List (List ℕ)) (padding open_node : List ℕ)
@@ -237,7 +236,7 @@ closing_even dig row k n j m l c left padding open_node up down even room h =
       peaks = h.peaks ∙ peaks_half node k n j c up even;
       past = past_parent dig row k m l c padding down h.past;
       here = ap (λ y. dig (y ++ padding)) h.here ∙ ap (λ y. dig (node k c ++ y)) (sym (h.past (c + 1) (omega arith) (omega arith)))
-      ∙ row_parent dig row k (c / 2) c (c + 1) (omega arith) (omega arith);
+          ∙ row_parent dig row k (c / 2) c (c + 1) (omega arith) (omega arith);
     }
 
 -- where every node is whole

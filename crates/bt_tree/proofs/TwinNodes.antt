@@ -78,8 +78,8 @@ join_same dig a b k i left right d found l r e even_left even_right f =
       ours = digest_is dig a k i left.ours right.ours d l.ours r.ours e;
       theirs = digest_is dig b k i left.theirs right.theirs d l.theirs r.theirs (e ∙ ap dig same);
       clash = rw f (highest_join dig a b k i
-      (λ h. h.inputs (sym (input_is dig a k i left.ours right.ours l.ours r.ours) ∙ same ∙ input_is dig b k i left.theirs right.theirs l.theirs r.theirs))
-      left.clash right.clash l.clash r.clash);
+          (λ h. h.inputs (sym (input_is dig a k i left.ours right.ours l.ours r.ours) ∙ same ∙ input_is dig b k i left.theirs right.theirs l.theirs r.theirs))
+          left.clash right.clash l.clash r.clash);
     }
 
 pub join_clash : (dig : List ℕ → List ℕ) → IsDigest dig → (a b : List ℕ) (k i : ℕ) (left right : Twin) (d e : List ℕ)

@@ -214,5 +214,5 @@ highest_clash dig a b l j len h =
         digests = h.clash.digests;
       };
       highest = λ k i clash. h.highest k i (under_root top k i clash.inside.in_height clash.inside.in_width)
-      (record { leaf = clash.leaf; inputs = clash.inputs; digests = clash.digests });
+          (record { leaf = clash.leaf; inputs = clash.inputs; digests = clash.digests });
     }

@@ -70,7 +70,14 @@ pub fn compare_files<H: NodeHash>(hash: H, a: &[u8], b: &[u8]) -> Compared
 }
 
 /// Compares the two trees at a node and below it.
-fn compare_node<H: NodeHash>(hash: H, a: &[u8], b: &[u8], pads: &[Hash32; 27], layer: u8, index: u32) -> Twin
+fn compare_node<H: NodeHash>(
+    hash: H,
+    a: &[u8],
+    b: &[u8],
+    pads: &[Hash32; 27],
+    layer: u8,
+    index: u32,
+) -> Twin
     requires lengths { length a.now ≡ length b.now }
     requires limit { length a.now ≤ 2 ^ 40 }
     requires high { layer ≤ 26 }

@@ -99,7 +99,13 @@ impl<H: NodeHash> RootBuilder<H> {
         if self.count < self.blocks {
             return Err(Shape);
         }
-        Ok(peaks::close(self.hash, self.peaks.as_slice(), self.count, self.layer, [0; 32]))
+        Ok(peaks::close(
+            self.hash,
+            self.peaks.as_slice(),
+            self.count,
+            self.layer,
+            [0; 32],
+        ))
     }
 
     /// Whether a run of so many bytes is made of next blocks below the node.

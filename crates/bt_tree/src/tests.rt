@@ -2,19 +2,39 @@
 //! files whose byte i is (7 i + i / 16384) mod 256.
 
 use crate::{
-    Compared, Geometry, Hash32, LayerError, Plain, RootBuilder, Shape, Weak, check_layer, compare_files, pad, piece_layer,
+    Compared, Geometry, Hash32, LayerError, Plain, RootBuilder, Shape, Weak, check_layer,
+    compare_files, pad, piece_layer,
 };
 use std::alloc::{AllocError, Global};
+use std::process::Abort;
 use std::test::Fail;
 
 /// Lengths and roots of such files.
 const ROOTS: [(u32, &[u8; 64]); 6] = [
-    (1, b"6e340b9cffb37a989ca544e6bb780a2c78901d3fb33738768511a30617afa01d"),
-    (16383, b"3dca48b1d28d07caf25513928a7b8251049b07ec8d845ae6bd38768c725c777c"),
-    (16384, b"582bf46c154f087f3ba98b298fbe978c18f8b60cae2d67d7cb5c233396744125"),
-    (16385, b"9ca50d170fb77fee536d8a214f872ba216bdf9b438be43526da85832e223d2b8"),
-    (49152, b"ae0ccd972b102f14c7538484af0c78725d093b5d6771667ee3dce4b598a32c0b"),
-    (1048577, b"33f4ac8eb36703deb23139e4dc7a7a7b911d108c906e9d197b3cad85455f9763"),
+    (
+        1,
+        b"6e340b9cffb37a989ca544e6bb780a2c78901d3fb33738768511a30617afa01d",
+    ),
+    (
+        16383,
+        b"3dca48b1d28d07caf25513928a7b8251049b07ec8d845ae6bd38768c725c777c",
+    ),
+    (
+        16384,
+        b"582bf46c154f087f3ba98b298fbe978c18f8b60cae2d67d7cb5c233396744125",
+    ),
+    (
+        16385,
+        b"9ca50d170fb77fee536d8a214f872ba216bdf9b438be43526da85832e223d2b8",
+    ),
+    (
+        49152,
+        b"ae0ccd972b102f14c7538484af0c78725d093b5d6771667ee3dce4b598a32c0b",
+    ),
+    (
+        1048577,
+        b"33f4ac8eb36703deb23139e4dc7a7a7b911d108c906e9d197b3cad85455f9763",
+    ),
 ];
 
 /// The nodes of layer 2 of the last of them that cover a block.
@@ -146,12 +166,10 @@ fn short_files_have_short_trees(rt: HostRuntime) -> Result<(), Fail> {
     Ok(())
 }
 
-#[test]
-fn nodes_of_a_layer_give_its_root(rt: HostRuntime) -> Result<(), Fail> {
-    let file = content(rt.alloc(), 1048577)?;
-    let geometry = Geometry::new(1048577).ok_or("no geometry")?;
-    assert!(rt; 2 <= geometry.height());
+/// Layer 2 of the last of them, by a builder for each of its nodes.
+fn layer_2(rt: &impl Abort, file: &[u8], geometry: Geometry) -> Result<[u8; 544], Fail> {
     let mut layer = [0; 544];
+    assert!(rt; 2 <= geometry.height());
     for (index, piece) in file.chunks(65536).enumerate() {
         assert!(rt; index < 17 && index < geometry.real(2) as usize);
         let mut builder = RootBuilder::for_node(Plain, geometry, 2, index as u32);
@@ -160,44 +178,75 @@ fn nodes_of_a_layer_give_its_root(rt: HostRuntime) -> Result<(), Fail> {
         assert_eq!(rt; node, digest(LAYER_2[index]), "at {index}");
         layer[32 * index..32 * (index + 1)].copy_from_slice(&node);
     }
+    Ok(layer)
+}
+
+#[test]
+fn nodes_of_a_layer_give_its_root(rt: HostRuntime) -> Result<(), Fail> {
+    let file = content(rt.alloc(), 1048577)?;
+    let geometry = Geometry::new(1048577).ok_or("no geometry")?;
+    let mut layer = layer_2(&rt, &file, geometry)?;
     let root = root_of(&file)?;
+    let short = layer.get(..543).ok_or("too short")?;
     assert_eq!(rt; check_layer(Plain, geometry, &root, 2, &layer), Ok(()));
-    assert_eq!(rt; check_layer(Plain, geometry, &root, 2, &layer[..543]), Err(LayerError::Size));
-    assert_eq!(rt; check_layer(Plain, geometry, &root, 8, &layer), Err(LayerError::Size));
+    assert_eq!(rt;
+        check_layer(Plain, geometry, &root, 2, short),
+        Err(LayerError::Size)
+    );
+    assert_eq!(rt;
+        check_layer(Plain, geometry, &root, 8, &layer),
+        Err(LayerError::Size)
+    );
     layer[543] ^= 1;
-    assert_eq!(rt; check_layer(Plain, geometry, &root, 2, &layer), Err(LayerError::Differs));
+    assert_eq!(rt;
+        check_layer(Plain, geometry, &root, 2, &layer),
+        Err(LayerError::Differs)
+    );
     Ok(())
+}
+
+/// Part of a file, to be pushed.
+fn part(file: &[u8], from: usize, to: usize) -> Result<&[u8], Fail> {
+    Ok(file.get(from..to).ok_or("past the end")?)
 }
 
 #[test]
 fn runs_of_another_shape_change_nothing(rt: HostRuntime) -> Result<(), Fail> {
     let file = content(rt.alloc(), 49152)?;
-    let file = file.as_slice();
-    assert_eq!(rt; file.len(), 49152);
     let geometry = Geometry::new(40000).ok_or("no geometry")?;
     let mut builder = RootBuilder::new(Plain, geometry);
-    builder.push(&file[..16384])?;
-    for end in [16384, 16385, 39999, 40001, 49152] {
-        assert_eq!(rt; builder.push(&file[16384..end]), Err(Shape), "up to {end}");
+    builder.push(part(&file, 0, 16384)?)?;
+    for to in [16384, 16385, 39999, 40001, 49152] {
+        let refused = part(&file, 16384, to)?;
+        assert_eq!(rt; builder.push(refused), Err(Shape), "up to {to}");
     }
     assert_eq!(rt; builder.finish(), Err(Shape));
-    builder.push(&file[16384..40000])?;
-    assert_eq!(rt; builder.finish()?, root_of(&file[..40000])?);
-    assert_eq!(rt; builder.push(&file[40000..]), Err(Shape));
+    builder.push(part(&file, 16384, 40000)?)?;
+    assert_eq!(rt; builder.finish()?, root_of(part(&file, 0, 40000)?)?);
+    assert_eq!(rt; builder.push(part(&file, 40000, 49152)?), Err(Shape));
     Ok(())
 }
 
 #[test]
 fn weak_digests_clash(rt: HostRuntime) -> Result<(), Fail> {
-    assert_eq!(rt; compare_files(Weak, b"ab", b"ba"), Compared::Clash { layer: 0, index: 0 });
+    assert_eq!(rt;
+        compare_files(Weak, b"ab", b"ba"),
+        Compared::Clash { layer: 0, index: 0 }
+    );
     assert_eq!(rt; compare_files(Weak, b"ab", b"ac"), Compared::RootsDiffer);
     assert_eq!(rt; compare_files(Weak, b"ab", b"ab"), Compared::Same);
     let mut first = vec![in rt.alloc(); 0; 32768]?;
     let mut second = vec![in rt.alloc(); 0; 32768]?;
     first[0] = 1;
     second[16384] = 1;
-    assert_eq!(rt; compare_files(Weak, &first, &second), Compared::Clash { layer: 1, index: 0 });
-    assert_eq!(rt; compare_files(Plain, &first, &second), Compared::RootsDiffer);
+    assert_eq!(rt;
+        compare_files(Weak, &first, &second),
+        Compared::Clash { layer: 1, index: 0 }
+    );
+    assert_eq!(rt;
+        compare_files(Plain, &first, &second),
+        Compared::RootsDiffer
+    );
     assert_eq!(rt; compare_files(Plain, &first, &first), Compared::Same);
     Ok(())
 }

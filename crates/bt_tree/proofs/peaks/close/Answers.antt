@@ -26,7 +26,7 @@ loop-init g c =
       size = c.requires.size;
       within = omega arith;
       closing = λ row held past. closing_none g.H.NodeHash.digest row c.args.layers c.args.count (take (length c.args.peaks.now) c.args.peaks.now) c.args.padding room
-      (take_all (length c.args.peaks.now) c.args.peaks.now (omega arith) ∙ held) past;
+          (take_all (length c.args.peaks.now) c.args.peaks.now (omega arith) ∙ held) past;
     }
 
 pub overflow_sub-left : goal.overflow_sub-left
