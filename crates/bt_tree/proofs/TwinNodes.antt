@@ -11,11 +11,10 @@ use Rattle.bt_tree.specs.declared.comparison.Twin.{Twin}
 use Rattle.bt_tree.specs.Digest.{IsDigest}
 use Rattle.bt_tree.specs.Blocks.{block_count, block_at}
 use Rattle.bt_tree.specs.TreeShape.{height_of}
-use Rattle.bt_tree.specs.Tree.{node_digest, file_root, input_at}
-use Rattle.bt_tree.specs.Clash.{IsHighestClash}
-use Rattle.bt_tree.specs.Comparison.{HasTwoInputs, IsTwinAt, IsHighestIn, NoClashUnder, IsHighestUnder, higher_of}
+use Rattle.bt_tree.specs.Tree.{node_digest, input_at}
+use Rattle.bt_tree.specs.Twin.{HasTwoInputs, IsTwinAt, IsHighestIn, NoClashUnder, higher_of}
 use Rattle.bt_tree.proofs.RowNodes.{leaf_is, node_parent, input_leaf, input_parent, length-node_digest}
-use Rattle.bt_tree.proofs.Twins.{same_parts, none_leaf, highest_here, highest_join, same_files, highest_clash}
+use Rattle.bt_tree.proofs.Twins.{same_parts, none_leaf, highest_here, highest_join, same_files}
 
 -- ---- `==` of two byte strings
 pub same_bytes : (xs ys : List ℕ) (r : Bool) → r ≡ pointwise eqb xs ys → r ≡ true → xs ≡ ys
@@ -125,11 +124,7 @@ block_of_slice file start end i place last inside =
       | inr full ↦ let size : end - start ≡ 16384 = omega arith in ap (λ n. take n (drop start file)) size ∙ ap (λ n. take 16384 (drop n file)) place
     ]
 
--- ---- the roots
-pub root_is : (dig : List ℕ → List ℕ) (file : List ℕ) (h n : ℕ) (d : List ℕ) → h ≡ height_of (block_count n) → n ≡ length file → d ≡ node_digest dig file h 0 → d ≡ file_root dig file
-root_is dig file h n d top len e =
-    e ∙ ap (λ k. node_digest dig file k 0) (top ∙ ap (λ m. height_of (block_count m)) len)
-
+-- ---- the root
 pub same_roots : (dig : List ℕ → List ℕ) → IsDigest dig → (a b : List ℕ) (h n : ℕ) (twin : Twin) → length a ≡ length b → h ≡ height_of (block_count n) → n ≡ length a
     → IsTwinAt dig a b h 0 twin → twin.ours ≡ twin.theirs → twin.clash ≡ None → a ≡ b
 same_roots dig digest a b h n twin len top size at even none =
@@ -137,10 +132,3 @@ same_roots dig digest a b h n twin len top size at even none =
     let P : ℕ → Type 0 = λ k. NoClashUnder dig a b k 0 in
     let Q : ℕ → Type 0 = λ k. node_digest dig a k 0 ≡ node_digest dig b k 0 in
     same_files dig digest a b len (subst P e (rw none at at.clash)) (subst Q e (sym at.ours ∙ even ∙ at.theirs))
-
-pub clash_found : (dig : List ℕ → List ℕ) (a b : List ℕ) (h n : ℕ) (twin : Twin) (p : Place) → length a ≡ length b → h ≡ height_of (block_count n) → n ≡ length a
-    → IsTwinAt dig a b h 0 twin → twin.clash ≡ Some p → IsHighestClash dig a b p.layer p.index
-clash_found dig a b h n twin p len top size at found =
-    let e : h ≡ height_of (block_count (length a)) = top ∙ ap (λ m. height_of (block_count m)) size in
-    let P : ℕ → Type 0 = λ k. IsHighestUnder dig a b k 0 p.layer p.index in
-    highest_clash dig a b p.layer p.index len (subst P e (rw found at at.clash))

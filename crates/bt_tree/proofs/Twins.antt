@@ -7,9 +7,8 @@ use Rattle.bt_tree.specs.declared.comparison.Place.{Place}
 use Rattle.bt_tree.specs.Digest.{IsDigest}
 use Rattle.bt_tree.specs.Blocks.{block_count, block_at}
 use Rattle.bt_tree.specs.TreeShape.{height_of}
-use Rattle.bt_tree.specs.Tree.{padding_digest, node_digest, file_root, input_at}
-use Rattle.bt_tree.specs.Clash.{IsClash, IsHighestClash}
-use Rattle.bt_tree.specs.Comparison.{IsUnder, HasTwoInputs, NoClashUnder, IsHighestUnder, IsHighestIn, higher_of}
+use Rattle.bt_tree.specs.Tree.{padding_digest, node_digest, input_at}
+use Rattle.bt_tree.specs.Twin.{IsUnder, HasTwoInputs, NoClashUnder, IsHighestUnder, IsHighestIn, higher_of}
 use Rattle.bt_tree.proofs.RowNodes.{leaf_is, node_past, node_parent, input_leaf, input_parent, length-node_digest}
 use Rattle.bt_tree.proofs.Places.{under_self, under_top, under_left, under_right, under_split, under_before, under_past}
 use Rattle.bt_tree.proofs.Shapes.{height_is}
@@ -200,19 +199,3 @@ same_files dig h a b len none e = same_blocks a b len (λ j real.
     let whole : height_of (block_count (length a)) - 0 ≡ height_of (block_count (length a)) = omega arith in
     same_below dig h a b len (height_of (block_count (length a))) 0 none e j
     (under_root (height_of (block_count (length a))) 0 j (omega arith) (rw whole (omega (arith, all.enough)))) real)
-
--- the first clash below the root is the first of the trees
-pub highest_clash : (dig : List ℕ → List ℕ) (a b : List ℕ) (l j : ℕ) → length a ≡ length b → IsHighestUnder dig a b (height_of (block_count (length a))) 0 l j → IsHighestClash dig a b l j
-highest_clash dig a b l j len h =
-    let top : ℕ = height_of (block_count (length a)) in
-    record {
-      clash = record {
-        lengths = len;
-        inside = record { in_height = h.under.below; in_width = omega (arith, h.under.to) };
-        leaf = h.clash.leaf;
-        inputs = h.clash.inputs;
-        digests = h.clash.digests;
-      };
-      highest = λ k i clash. h.highest k i (under_root top k i clash.inside.in_height clash.inside.in_width)
-          (record { leaf = clash.leaf; inputs = clash.inputs; digests = clash.digests });
-    }

@@ -133,7 +133,7 @@ fn push_blocks<H: NodeHash>(hash: H, peaks: &mut Peaks, count: u32, run: &[u8])
 {
     let mut count = count;
     let mut rest = run;
-    while rest.len() > 0 {
+    while !rest.is_empty() {
         let (block, after) = rest.split_at(rest.len().min(BLOCK_LEN));
         peaks::add(hash, peaks, count, hash.block(block));
         count += 1;
