@@ -7,7 +7,8 @@ use Rattle.bt_tree.specs.declared.comparison.Place.{Place}
 use Rattle.bt_tree.specs.Digest.{IsDigest}
 use Rattle.bt_tree.specs.Blocks.{block_count, block_at}
 use Rattle.bt_tree.specs.TreeShape.{height_of}
-use Rattle.bt_tree.specs.Tree.{padding_digest, node_digest, input_at}
+use Rattle.bt_tree.specs.Tree.{padding_digest, node_digest, file_root, input_at}
+use Rattle.bt_tree.specs.Clash.{IsClash}
 use Rattle.bt_tree.specs.Twin.{IsUnder, HasTwoInputs, NoClashUnder, IsHighestUnder, IsHighestIn, higher_of}
 use Rattle.bt_tree.proofs.RowNodes.{leaf_is, node_past, node_parent, input_leaf, input_parent, length-node_digest}
 use Rattle.bt_tree.proofs.Places.{under_self, under_top, under_left, under_right, under_split, under_before, under_past}
@@ -162,27 +163,45 @@ highest_join dig a b k i none (Some p) (Some r) left right = elim (cases_lt p.la
 ]
 
 -- ---- whole trees
--- below nodes of one digest, where nothing clashes, the blocks are the same
-pub same_below : (dig : List ℕ → List ℕ) → IsDigest dig → (a b : List ℕ) → length a ≡ length b → (k i : ℕ) → NoClashUnder dig a b k i → node_digest dig a k i ≡ node_digest dig b k i
-    → (j : ℕ) → IsUnder k i 0 j → j < block_count (length a) → block_at a j ≡ block_at b j
-same_below dig h a b len zero i none e j under real = elim (under_top 0 i 0 j under) [
-  | inl lower ↦ absurd (omega arith)
-  | inr top ↦ elim (same_input dig a b 0 i len (λ z. omega (arith, top.1)) e) [
-    | inl same ↦ rw top.1 (sym (input_leaf dig a i) ∙ same ∙ input_leaf dig b i)
-    | inr clash ↦ absurd (none 0 i (under_self 0 i) clash)
+-- below a node the two files have the same blocks
+pub SameBelow : List ℕ → List ℕ → ℕ → ℕ → Type 0
+SameBelow a b k i = (j : ℕ) → IsUnder k i 0 j → j < block_count (length a) → block_at a j ≡ block_at b j
+
+-- something clashes below a node
+pub record ClashUnder (dig : List ℕ → List ℕ) (a b : List ℕ) (k i : ℕ) : Type 0 where
+  pub layer : ℕ
+  pub index : ℕ
+  pub under : IsUnder k i layer index
+  pub clash : HasTwoInputs dig a b layer index
+
+-- below nodes of one digest the blocks are the same, or something clashes
+same_below : (dig : List ℕ → List ℕ) → IsDigest dig → (a b : List ℕ) → length a ≡ length b → (k i : ℕ) → node_digest dig a k i ≡ node_digest dig b k i
+    → SameBelow a b k i ⊎ ClashUnder dig a b k i
+unfolding SameBelow
+same_below dig h a b len zero i e = elim (cases_lt i (block_count (length a))) [
+  | inr past ↦ inl (λ j under real. elim (under_top 0 i 0 j under) [ inl lower ↦ absurd (omega arith) | inr top ↦ absurd (omega (arith, top.1)) ])
+  | inl leaf ↦ elim (same_input dig a b 0 i len (λ z. leaf) e) [
+    | inr clash ↦ inr record { layer = 0; index = i; under = under_self 0 i; clash = clash }
+    | inl same ↦ inl (λ j under real. elim (under_top 0 i 0 j under) [
+      | inl lower ↦ absurd (omega arith)
+      | inr top ↦ rw top.1 (sym (input_leaf dig a i) ∙ same ∙ input_leaf dig b i)
+    ])
   ]
 ]
-same_below dig h a b len (suc k) i none e j under real = elim (same_input dig a b (suc k) i len (λ z. absurd (omega arith)) e) [
-  | inr clash ↦ absurd (none (suc k) i (under_self (suc k) i) clash)
+same_below dig h a b len (suc k) i e = elim (same_input dig a b (suc k) i len (λ z. absurd (omega arith)) e) [
+  | inr clash ↦ inr record { layer = suc k; index = i; under = under_self (suc k) i; clash = clash }
   | inl same ↦
       let parts = same_parts (node_digest dig a k (2 * i)) (node_digest dig b k (2 * i)) (node_digest dig a k (2 * i + 1)) (node_digest dig b k (2 * i + 1))
       (length-node_digest dig h a k (2 * i) ∙ sym (length-node_digest dig h b k (2 * i)))
       (sym (input_parent dig a k i) ∙ same ∙ input_parent dig b k i) in
-      elim (under_split k i 0 j under) [
-        | inl top ↦ absurd (omega (arith, top.0))
-        | inr lower ↦ elim lower [
-          | inl x ↦ same_below dig h a b len k (2 * i) (λ l n u. none l n (under_left k i l n u)) parts.0 j x real
-          | inr y ↦ same_below dig h a b len k (2 * i + 1) (λ l n u. none l n (under_right k i l n u)) parts.1 j y real
+      elim (same_below dig h a b len k (2 * i) parts.0) [
+        | inr c ↦ inr record { layer = c.layer; index = c.index; under = under_left k i c.layer c.index c.under; clash = c.clash }
+        | inl left ↦ elim (same_below dig h a b len k (2 * i + 1) parts.1) [
+          | inr c ↦ inr record { layer = c.layer; index = c.index; under = under_right k i c.layer c.index c.under; clash = c.clash }
+          | inl right ↦ inl (λ j under real. elim (under_split k i 0 j under) [
+            | inl top ↦ absurd (omega (arith, top.0))
+            | inr lower ↦ elim lower [ inl x ↦ left j x real | inr y ↦ right j y real ]
+          ])
         ]
       ]
 ]
@@ -191,11 +210,43 @@ same_below dig h a b len (suc k) i none e j under real = elim (same_input dig a 
 under_root : (h l j : ℕ) → l ≤ h → j < 2 ^ (h - l) → IsUnder h 0 l j
 under_root h l j below inside = record { below = below; from = omega arith; to = omega arith }
 
+-- files of one length and root are equal, or something clashes
+same_or_clash_under : (dig : List ℕ → List ℕ) → IsDigest dig → (a b : List ℕ) → length a ≡ length b
+    → node_digest dig a (height_of (block_count (length a))) 0 ≡ node_digest dig b (height_of (block_count (length a))) 0
+    → (a ≡ b) ⊎ ClashUnder dig a b (height_of (block_count (length a))) 0
+unfolding SameBelow
+same_or_clash_under dig h a b len e = elim (same_below dig h a b len (height_of (block_count (length a))) 0 e) [
+  | inr clash ↦ inr clash
+  | inl same ↦ inl (same_blocks a b len (λ j real.
+      let all = height_is (block_count (length a)) in
+      let whole : height_of (block_count (length a)) - 0 ≡ height_of (block_count (length a)) = omega arith in
+      same j (under_root (height_of (block_count (length a))) 0 j (omega arith) (rw whole (omega (arith, all.enough)))) real))
+]
+
 -- files of one length and root without a clash are equal
 pub same_files : (dig : List ℕ → List ℕ) → IsDigest dig → (a b : List ℕ) → length a ≡ length b → NoClashUnder dig a b (height_of (block_count (length a))) 0
     → node_digest dig a (height_of (block_count (length a))) 0 ≡ node_digest dig b (height_of (block_count (length a))) 0 → a ≡ b
-same_files dig h a b len none e = same_blocks a b len (λ j real.
-    let all = height_is (block_count (length a)) in
-    let whole : height_of (block_count (length a)) - 0 ≡ height_of (block_count (length a)) = omega arith in
-    same_below dig h a b len (height_of (block_count (length a))) 0 none e j
-    (under_root (height_of (block_count (length a))) 0 j (omega arith) (rw whole (omega (arith, all.enough)))) real)
+same_files dig h a b len none e = elim (same_or_clash_under dig h a b len e) [
+  | inl same ↦ same
+  | inr c ↦ absurd (none c.layer c.index c.under c.clash)
+]
+
+-- The law behind the comparison, for any two files: of one length and root they are equal, or clash at some node.
+pub same_or_clash : (dig : List ℕ → List ℕ) → IsDigest dig → (a b : List ℕ) → length a ≡ length b → file_root dig a ≡ file_root dig b
+    → (a ≡ b) ⊎ ((layer : ℕ) × (index : ℕ) × IsClash dig a b layer index)
+same_or_clash dig h a b len e =
+    let count : height_of (block_count (length b)) ≡ height_of (block_count (length a)) = ap (λ n. height_of (block_count n)) (sym len) in
+    elim (same_or_clash_under dig h a b len (e ∙ ap (λ k. node_digest dig b k 0) count)) [
+      | inl same ↦ inl same
+      | inr c ↦ inr (
+        c.layer,
+        c.index,
+        record {
+          lengths = len;
+          inside = record { in_height = c.under.below; in_width = omega (arith, c.under.to) };
+          leaf = c.clash.leaf;
+          inputs = c.clash.inputs;
+          digests = c.clash.digests;
+        },
+      )
+    ]
