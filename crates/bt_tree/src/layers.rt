@@ -49,7 +49,7 @@ pub fn check_layer<H: NodeHash>(
     }
 }
 
-/// The digest that 2^layers digests fold to pairwise: these, and then the one of the padding.
+/// The digest that 2^layers digests fold to pairwise: the given ones, and after them that of the padding.
 fn fold<H: NodeHash>(hash: H, digests: &[Hash32], layers: u8, padding: Hash32) -> Hash32
     requires high { layers ≤ 26 }
     requires within { length digests.now ≤ 2 ^ layers }
