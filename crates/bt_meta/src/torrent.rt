@@ -1,4 +1,9 @@
+ghost use Rattle.std.specs.Prelude.{◌≡◌, ◌+◌, ◌*◌, ◌^◌, ◌<◌, ◌≤◌, map};
+ghost use Rattle.bt_meta.specs.Files.{file_of};
+ghost use Rattle.bt_meta.specs.Torrent.{total_pieces};
+
 use bt_tree::Hash32;
+use std::marker::Model;
 
 /// A file of a torrent.
 #[derive(Debug, Drop)]
@@ -23,6 +28,18 @@ pub struct Torrent {
     pieces: u32,
     infohash: Hash32,
     files: Vec<FileEntry>,
+}
+
+impl Model for Torrent {
+    ghost use Rattle.std.specs.Prelude.{◌≡◌, map};
+    ghost use Rattle.bt_meta.specs.Files.{file_of};
+    ghost use Rattle.bt_meta.specs.Torrent.{Metainfo, total_pieces};
+
+    ghost Value = { Metainfo };
+
+    ghost view = { λ t. record { name = t.name.items; piece_length = t.piece_length; infohash = t.infohash; files = map file_of t.files.items } };
+
+    ghost invariant = { λ t. t.pieces ≡ total_pieces (record { name = t.name.items; piece_length = t.piece_length; infohash = t.infohash; files = map file_of t.files.items }) };
 }
 
 impl Torrent {
