@@ -15,7 +15,7 @@ use Rattle.bt_bencode.specs.View.{data_of, entries_of, entries_from, entry_data}
 use Rattle.bt_bencode.specs.declared.value.Value.{Value}
 use Rattle.bt_bencode.proofs.Splits.{drop_first}
 
-entries_spelling-push : (es : List (Vec ℕ × Data)) (key : Vec ℕ) (d : Data) → entries_spelling (entries_from (es ++ (key, d) ∷ [])) ≡ entries_spelling (entries_from es) ++ (string_spelling key.items ++ spelling_of d)
+pub entries_spelling-push : (es : List (Vec ℕ × Data)) (key : Vec ℕ) (d : Data) → entries_spelling (entries_from (es ++ (key, d) ∷ [])) ≡ entries_spelling (entries_from es) ++ (string_spelling key.items ++ spelling_of d)
 unfolding entries_spelling
 entries_spelling-push [] key d = append-nil (string_spelling key.items ++ spelling_of d)
 entries_spelling-push (e ∷ es) key d =

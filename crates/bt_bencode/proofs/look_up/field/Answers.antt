@@ -1,21 +1,32 @@
-use Rattle.std.proofs.Common.{rules, ◌≡◌, option_copied, ℕ, ◌+◌, ◌-◌, ◌*◌, ◌<◌, ◌≤◌, length, ◌/◌, ◌%◌, Bool, true, false, nat_eq, nat_lt, List, [], ◌∷◌, ◌++◌, slice_index_or, slice_set, bit_and, bit_or, Fits, w8, w32, w64, Bor, MutBor}
-use Rattle.std.specs.Option.{option_map}
-use Rattle.bt_bencode.specs.Field.{field_of}
-use Rattle.bt_bencode.specs.View.{data_of}
+use Rattle.std.proofs.Common.{◌≡◌, ◌<◌, sym, ap, ◌∙◌, length, drop, refl, arith, true, false}
+use Rattle.std.specs.Prelude.{nat_eq}
+use Rattle.std.specs.Cmp.Lexicographic.{pointwise}
+use Rattle.bt_bencode.specs.Field.{first_value_of}
+use Rattle.bt_bencode.specs.View.{entries_of}
+use Rattle.bt_bencode.proofs.Fields.{other_key, this_key, no_key, field-Dict}
 use Rattle.bt_bencode.proofs.look_up.field.Goals as goal
 
--- src/look_up.rt:16:5
 pub loop-name-init : goal.loop-name-init
-loop-name-init c = ?
+loop-name-init c = refl
 
--- src/look_up.rt:18:13
 pub returns-then-eq : goal.returns-then-eq
-returns-then-eq c = ?
+returns-then-eq c =
+    let es = c.deref-name-items.result.now in
+    let key = c.args.key.now in
+    let same : pointwise nat_eq c.loop-name-item.result.0.items key ≡ true = ap (λ xs. pointwise nat_eq xs key) (sym c.as_slice.ensures.value) ∙ sym c.if-eq.ensures in
+    let here = this_key es c.loop-name.name-index c.loop-name-item.result key c.loop-name-test.true c.loop-name-item.is same in
+    sym (field-Dict c.args.value.now c.in-Dict.entries key c.in-Dict.is ∙ ap (λ xs. first_value_of (entries_of xs) key) (sym c.deref-name-items.ensures.value) ∙ c.loop-name.invariant ∙ here)
 
--- src/look_up.rt:16:5
 pub loop-name-preserved : goal.loop-name-preserved
-loop-name-preserved c = ?
+loop-name-preserved c =
+    let es = c.deref-name-items.result.now in
+    let key = c.args.key.now in
+    let differs : pointwise nat_eq c.loop-name-item.result.0.items key ≡ false = ap (λ xs. pointwise nat_eq xs key) (sym c.as_slice.ensures.value) ∙ sym c.if-eq.ensures in
+    c.loop-name.invariant ∙ other_key es c.loop-name.name-index c.loop-name-item.result key c.loop-name-test.true c.loop-name-item.is differs
 
--- src/look_up.rt:10:1
 pub returns : goal.returns
-returns c = ?
+returns c =
+    let es = c.deref-name-items.result.now in
+    let key = c.args.key.now in
+    let whole : length es ≡ c.loop-name.name-index = omega arith in
+    sym (field-Dict c.args.value.now c.in-Dict.entries key c.in-Dict.is ∙ ap (λ xs. first_value_of (entries_of xs) key) (sym c.deref-name-items.ensures.value) ∙ c.loop-name.invariant ∙ no_key es c.loop-name.name-index key whole)
