@@ -10,5 +10,6 @@ pub mod Prefixes
 pub mod Representable
 pub mod Refusals
 pub mod Faults
+pub mod Laws
 pub mod Fields
 pub mod Written

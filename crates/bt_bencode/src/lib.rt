@@ -3,6 +3,7 @@
 
 mod doc;
 mod error;
+mod law;
 mod look_up;
 mod number;
 mod reader;
@@ -11,7 +12,11 @@ mod writer;
 
 pub use doc::Doc;
 pub use error::BencodeError;
+pub use law::spellings_are_prefix_free;
 pub use look_up::field;
 pub use reader::{MAX_NESTING, parse};
 pub use value::Value;
 pub use writer::write;
+
+#[cfg(test)]
+mod tests;

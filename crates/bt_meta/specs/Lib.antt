@@ -1,0 +1,7 @@
+pub mod Refusal
+pub mod Fields
+pub mod Places
+pub mod Files
+pub mod Layers
+pub mod Faults
+pub mod Torrent
