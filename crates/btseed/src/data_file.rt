@@ -1,7 +1,9 @@
 //! Checking the bytes of a data file against the file's pieces root (BEP 52).
-ghost use Rattle.std.specs.Prelude.{◌≡◌, ◌≢◌, ◌+◌, ◌*◌, ◌<◌, ◌≤◌, ℕ, List, length, take, IsTrue, IfOk, IfSome, OnErr, MatchOption};
+ghost use Rattle.std.specs.Prelude.{◌≡◌, ◌≢◌, ◌+◌, ◌*◌, ◌<◌, ◌≤◌, ℕ, List, length, take, IsTrue, IfOk, IfNone, IfSome, OnErr};
 ghost use Rattle.std.specs.Io.KnownBytes.{Consumes};
-ghost use Rattle.btseed.specs.Reading.{Gives, LosesFront};
+ghost use Rattle.bt_tree.specs.Building.{first_block, node_end};
+ghost use Rattle.btseed.specs.Reading.{Gives, LosesFront, EndsEarly, GivesNode, TellsMore};
+ghost use Rattle.btseed.specs.Checking.{IsFindingOf};
 
 use bt_tree::{BLOCK_LEN, Geometry, Hash32, Plain, RootBuilder};
 use std::io::{ErrorKind, Read};
@@ -43,4 +45,36 @@ fn fill<R: Read>(reader: &mut R, buffer: &mut [u8]) -> Result<usize, DeviceFault
         }
     }
     Err(DeviceFault)
+}
+
+/// Reads the bytes below the builder's node, of which none came before, and gives the node's digest: none where the
+/// bytes end before.
+fn read_node<R: Read>(reader: &mut R, builder: RootBuilder<Plain>, length: u64, buffer: &mut [u8; BUFFER_LEN]) -> Result<Option<Hash32>, DeviceFault>
+    requires fresh { builder.count ≡ 0 }
+    requires all { 16384 * first_block builder + length ≡ node_end builder }
+    ensures early { IfOk result (λ found. IfNone found (EndsEarly (R.remaining reader.old) (R.remaining reader.new) length)) }
+    ensures node { IfOk result (λ found. IfSome found (GivesNode (R.remaining reader.old) (R.remaining reader.new) length builder)) }
+    ensures err { OnErr result (LosesFront (R.remaining reader.old) (R.remaining reader.new)) }
+{
+    let mut builder = builder;
+    let mut rest = length;
+    while rest > 0 {
+        let wanted = rest.min(BUFFER_LEN as u64) as usize;
+        let run = &mut buffer[..wanted];
+        if fill(reader, run)? < wanted {
+            return Ok(None);
+        }
+        builder.push(run).unwrap();
+        rest -= wanted as u64;
+    }
+    Ok(Some(builder.finish().unwrap()))
+}
+
+/// Whether the reader has one byte more.
+fn has_more<R: Read>(reader: &mut R) -> Result<bool, DeviceFault>
+    ensures ok { IfOk result (TellsMore (R.remaining reader.old) (R.remaining reader.new)) }
+    ensures err { OnErr result (LosesFront (R.remaining reader.old) (R.remaining reader.new)) }
+{
+    let mut byte = [0];
+    Ok(fill(reader, &mut byte)? == 1)
 }
