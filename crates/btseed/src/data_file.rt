@@ -3,7 +3,7 @@ ghost use Rattle.std.specs.Prelude.{◌≡◌, ◌≢◌, ◌+◌, ◌*◌, ◌<
 ghost use Rattle.std.specs.Io.KnownBytes.{Consumes};
 ghost use Rattle.bt_tree.specs.Building.{first_block, node_end};
 ghost use Rattle.btseed.specs.Reading.{Gives, LosesFront, EndsEarly, GivesNode, TellsMore};
-ghost use Rattle.btseed.specs.Checking.{IsFindingOf};
+ghost use Rattle.btseed.specs.Checking.{IsFindingOf, IsFindingAt};
 
 use bt_tree::{BLOCK_LEN, Geometry, Hash32, Plain, RootBuilder};
 use std::io::{ErrorKind, Read};
@@ -77,4 +77,45 @@ fn has_more<R: Read>(reader: &mut R) -> Result<bool, DeviceFault>
 {
     let mut byte = [0];
     Ok(fill(reader, &mut byte)? == 1)
+}
+
+/// How many of so many blocks are marked: all where the digest that was built is the one wanted, else none.
+fn marked_blocks(blocks: u32, built: &Hash32, wanted: &Hash32) -> u32
+    ensures all { built.now ≡ wanted.now → result ≡ blocks }
+    ensures none { built.now ≢ wanted.now → result ≡ 0 }
+{
+    if built == wanted { blocks } else { 0 }
+}
+
+/// Checks the bytes of a reader, from where it stands, against a file of this geometry and pieces root.
+///
+/// It reads up to one byte past the file's length, in runs that fit the buffer. All blocks are marked where the bytes
+/// begin with a file of that root, and none where they don't or end before. After a fault the reader has lost what it
+/// gave.
+pub fn check_file<R: Read>(reader: &mut R, geometry: Geometry, root: &Hash32, buffer: &mut [u8; BUFFER_LEN]) -> Result<Finding, DeviceFault>
+    // of the reader's bytes, where it tells them
+    ensures told { IfSome (R.remaining reader.old) (λ bytes. IfOk result (IsFindingOf bytes geometry root.now)) }
+
+    // of the bytes that it gave, at every reader
+    ensures given { IfOk result (IsFindingAt (R.remaining reader.old) (R.remaining reader.new) geometry root.now) }
+    ensures err { OnErr result (LosesFront (R.remaining reader.old) (R.remaining reader.new)) }
+{
+    let blocks = geometry.blocks();
+    let builder = RootBuilder::new(Plain, geometry);
+    let Some(found) = read_node(reader, builder, geometry.length(), buffer)? else {
+        return Ok(Finding { blocks, marked: 0, longer: false });
+    };
+    let longer = has_more(reader)?;
+    let marked = marked_blocks(blocks, &found, root);
+    Ok(Finding { blocks, marked, longer })
+}
+
+/// Checks the bytes of a reader against an empty file, which has no blocks: whether there are any.
+pub fn check_empty<R: Read>(reader: &mut R) -> Result<Finding, DeviceFault>
+    ensures told { IfSome (R.remaining reader.old) (λ bytes. IfOk result (λ finding. (root : List ℕ) → IsFindingOf bytes 0 root finding)) }
+    ensures given { IfOk result (λ finding. (root : List ℕ) → IsFindingAt (R.remaining reader.old) (R.remaining reader.new) 0 root finding) }
+    ensures err { OnErr result (LosesFront (R.remaining reader.old) (R.remaining reader.new)) }
+{
+    let longer = has_more(reader)?;
+    Ok(Finding { blocks: 0, marked: 0, longer })
 }
