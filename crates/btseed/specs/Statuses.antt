@@ -17,3 +17,8 @@ device = Device
 
 abbrev pub out_of_memory : Fault
 out_of_memory = OutOfMemory
+
+-- a refused growth is no refusal of the torrent
+abbrev pub fault_of : MetaError → Fault
+fault_of no_memory = OutOfMemory
+fault_of refusal = Refused refusal

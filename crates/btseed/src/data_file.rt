@@ -1,21 +1,16 @@
 //! Checking the bytes of a data file against the file's pieces root (BEP 52).
-ghost use Rattle.std.specs.Prelude.{◌≡◌, ◌≢◌, ◌+◌, ◌*◌, ◌<◌, ◌≤◌, ℕ, List, length, take, IsTrue, IfOk, IfNone, IfSome, OnErr};
+ghost use Rattle.std.specs.Prelude.{◌≡◌, ◌≢◌, ◌+◌, ◌*◌, ◌<◌, ◌≤◌, ◌↔◌, false, ℕ, List, length, take, IsTrue, IfOk, IfNone, IfSome, OnErr};
 ghost use Rattle.std.specs.Io.KnownBytes.{Consumes};
 ghost use Rattle.bt_tree.specs.Building.{first_block, node_end};
 ghost use Rattle.btseed.specs.Reading.{Gives, LosesFront, EndsEarly, GivesNode, TellsMore};
 ghost use Rattle.btseed.specs.Checking.{IsFindingOf, IsFindingAt};
 
+use crate::fault::DeviceFault;
 use bt_tree::{BLOCK_LEN, Geometry, Hash32, Plain, RootBuilder};
 use std::io::{ErrorKind, Read};
-use thiserror::Error;
 
 /// How many bytes are read at a time: four blocks.
 pub const BUFFER_LEN: usize = 4 * BLOCK_LEN;
-
-/// A file, or a stream, could not be read or written.
-#[derive(Clone, Copy, Debug, PartialEq, Eq, Error)]
-#[error("device fault")]
-pub struct DeviceFault;
 
 /// What a check found of one file: how many blocks it has, how many of them are marked as right, and whether its data
 /// file is longer than the torrent says.
@@ -26,8 +21,17 @@ pub struct Finding {
     pub longer: bool,
 }
 
+impl Finding {
+    /// Whether the data file is the torrent's: all its blocks are marked, and it is not longer.
+    pub fn is_complete(self) -> bool
+        ensures { IsTrue result ↔ ((self.marked ≡ self.blocks) × (self.longer ≡ false)) }
+    {
+        self.marked == self.blocks && !self.longer
+    }
+}
+
 /// Reads until the buffer is full or the bytes end, and says how many came. A read that was interrupted is made again.
-fn fill<R: Read>(reader: &mut R, buffer: &mut [u8]) -> Result<usize, DeviceFault>
+pub fn fill<R: Read>(reader: &mut R, buffer: &mut [u8]) -> Result<usize, DeviceFault>
     ensures count { IfOk result (λ count. count ≤ length buffer.new) }
     ensures given { IfOk result (λ count. Gives (R.remaining reader.old) (R.remaining reader.new) (length buffer.new) (take count buffer.new)) }
     ensures err { OnErr result (LosesFront (R.remaining reader.old) (R.remaining reader.new)) }

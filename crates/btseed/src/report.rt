@@ -1,0 +1,51 @@
+//! The lines that tell what a check found.
+ghost use Rattle.std.specs.Prelude.{◌≡◌, ◌×◌, IfOk, IsTrue, ◌↔◌, string_bytes, true};
+ghost use Rattle.btseed.specs.Shown.{is_plain, shown_of};
+
+use crate::data_file::Finding;
+use std::alloc::{AllocError, Global};
+use std::fmt::Write;
+use std::str;
+
+/// A name or a path as it is printed: as it is where it is text without control characters that does not begin with
+/// `0x`, and else as `0x` and its bytes in hexadecimal.
+pub fn shown(alloc: Global, name: &[u8]) -> Result<String, AllocError>
+    ensures { IfOk result (λ text. string_bytes text ≡ shown_of name.now) }
+{
+    match str::from_utf8(name) {
+        Ok(text) if is_unmarked(text) => String::from_str(alloc, text),
+        _ => {
+            let mut text = String::from_str(alloc, "0x")?;
+            text.push_str(hex::encode(alloc, name)?.as_str())?;
+            Ok(text)
+        }
+    }
+}
+
+/// Whether a text is printed as it is.
+fn is_unmarked(text: &str) -> bool
+    ensures { result ≡ is_plain text.now }
+{
+    !text.starts_with("0x") && text.bytes().all(|byte| byte >= 0x20 && byte != 0x7f)
+}
+
+/// Adds the line of one file.
+pub fn push_line(lines: &mut String, finding: Finding, path: &str) -> Result<(), AllocError> {
+    let Finding { blocks, marked, longer } = finding;
+    if longer {
+        writeln!(lines, "longer {path}")
+    } else if marked == blocks {
+        writeln!(lines, "complete {path}")
+    } else {
+        writeln!(lines, "{marked} of {blocks} {path}")
+    }
+}
+
+/// Adds the last line.
+pub fn push_end(lines: &mut String, complete: bool) -> Result<(), AllocError> {
+    if complete {
+        writeln!(lines, "complete")
+    } else {
+        writeln!(lines, "not complete")
+    }
+}
