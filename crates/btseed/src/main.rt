@@ -34,3 +34,6 @@ fn main(rt: HostRuntime) -> ExitCode {
 
 
 
+
+#[cfg(test)]
+mod tests;

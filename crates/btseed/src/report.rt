@@ -1,5 +1,5 @@
 //! The lines that tell what a check found.
-ghost use Rattle.std.specs.Prelude.{◌≡◌, ◌×◌, IfOk, IsTrue, ◌↔◌, string_bytes, true};
+ghost use Rattle.std.specs.Prelude.{◌≡◌, IfOk, string_bytes};
 ghost use Rattle.btseed.specs.Shown.{is_plain, shown_of};
 
 use crate::data_file::Finding;
