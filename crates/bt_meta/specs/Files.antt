@@ -14,12 +14,18 @@ is_file p = has_key p.value []
 abbrev pub properties_of : Place → Data
 properties_of p = unwrap_or (dictionary_at p.value []) no_dictionary
 
-unfoldable pub length_of : Place → ℕ
-length_of p = unwrap_or (natural_at (properties_of p) (codes "length")) 0
+unfoldable pub length_in : Data → ℕ
+length_in properties = unwrap_or (natural_at properties (codes "length")) 0
 
 -- zeros for an empty file, whose `pieces root` is ignored
-unfoldable pub root_of : Place → List ℕ
-root_of p = if length_of p == 0 then replicate 32 0 else unwrap_or (string_at (properties_of p) (codes "pieces root")) []
+unfoldable pub root_in : Data → List ℕ
+root_in properties = if length_in properties == 0 then replicate 32 0 else unwrap_or (string_at properties (codes "pieces root")) []
+
+abbrev pub length_of : Place → ℕ
+length_of p = length_in (properties_of p)
+
+abbrev pub root_of : Place → List ℕ
+root_of p = root_in (properties_of p)
 
 -- a file begins at a piece's boundary, and its last piece may be shorter
 abbrev pub piece_count : ℕ → ℕ → ℕ
