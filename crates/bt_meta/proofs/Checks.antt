@@ -1,5 +1,5 @@
 -- What a list of checks answers.
-use Rattle.std.proofs.Common.{◌≡◌, Bool, true, false, List, [], ◌∷◌, ◌++◌, Option, None, Some, refl, sym, ◌∙◌, ap}
+use Rattle.std.proofs.Common.{◌≡◌, Bool, true, false, List, [], ◌∷◌, ◌++◌, None, Some, refl}
 use Rattle.bt_meta.specs.Faults.{Check, first_of, fault_if}
 use Rattle.bt_meta.specs.declared.error.MetaError.{MetaError}
 

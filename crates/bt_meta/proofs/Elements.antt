@@ -1,6 +1,6 @@
 -- Path elements, and what is read of one file.
-use Rattle.std.proofs.Common.{◌≡◌, ◌≢◌, ℕ, Bool, true, false, List, [], ◌∷◌, map, length, Option, None, Some, refl, sym, ◌∙◌, ap, arith}
-use Rattle.std.specs.Prelude.{codes, not, ◌==◌, ◌||◌, ◌&&◌, replicate, string_bytes, if◌then◌else◌}
+use Rattle.std.proofs.Common.{◌≡◌, ◌≢◌, ℕ, Bool, true, false, List, [], ◌∷◌, map, length, None, Some, refl, arith}
+use Rattle.std.specs.Prelude.{codes, not, ◌==◌, ◌||◌, replicate, string_bytes, if◌then◌else◌}
 use Rattle.std.specs.List.{list_any}
 use Rattle.std.specs.Str.{IsUtf8, is_utf8}
 use Rattle.std.proofs.lemmas.Bool.{and_right}
@@ -8,7 +8,7 @@ use Rattle.std.proofs.lemmas.Bool.Decides.{nat_tests}
 use Rattle.std.proofs.lemmas.Str.{IsUtf8-from_is_utf8, is_utf8-from_IsUtf8}
 use Rattle.bt_bencode.specs.Data.{Data}
 use Rattle.bt_meta.specs.Fields.{string_at}
-use Rattle.bt_meta.specs.Files.{File, file_of, length_in, root_in}
+use Rattle.bt_meta.specs.Files.{file_of, length_in, root_in}
 use Rattle.bt_meta.specs.Faults.{is_dots, is_path_element, has_lawful_root}
 use Rattle.bt_meta.specs.declared.torrent.FileEntry.{FileEntry}
 
@@ -36,7 +36,7 @@ pub refused_bytes : (element : List ℕ) → ¬ IsUtf8 element → None ≡ (if 
 unfolding is_path_element
 refused_bytes element broken =
     refused element (and_right (not (is_dots element || list_any (λ b. b == 47) element || list_any (λ b. b == 0) element)) (is_utf8 element)
-      (false_unless_true (is_utf8 element) (λ t. broken (IsUtf8-from_is_utf8 element t))))
+    (false_unless_true (is_utf8 element) (λ t. broken (IsUtf8-from_is_utf8 element t))))
 
 pub taken : (element text : List ℕ) → false ≡ is_dots element → false ≡ list_any (λ b. b == 47) element → false ≡ list_any (λ b. b == 0) element → IsUtf8 element
     → text ≡ element → Some text ≡ (if is_path_element element then Some element else None)

@@ -1,19 +1,19 @@
 -- What the checks of an info dictionary's head come to, and what follows for the whole.
-use Rattle.std.proofs.Common.{◌≡◌, ℕ, Bool, true, false, List, [], ◌∷◌, ◌++◌, map, Option, None, Some, refl, sym, ◌∙◌, ap, subst}
+use Rattle.std.proofs.Common.{◌≡◌, ℕ, Bool, true, false, List, [], ◌∷◌, ◌++◌, map, Option, None, Some, refl, sym, ◌∙◌}
 use Rattle.std.specs.Prelude.{codes, is_none, not}
 use Rattle.sha2.specs.Sha256.{sha256}
 use Rattle.bt_bencode.specs.Data.{Data}
 use Rattle.bt_bencode.specs.Spelling.{spelling_of}
 use Rattle.bt_bencode.specs.View.{data_of}
 use Rattle.bt_meta.specs.Fields.{integer_at, string_at, dictionary_at}
-use Rattle.bt_meta.specs.Files.{file_of, files_of}
+use Rattle.bt_meta.specs.Files.{file_of}
 use Rattle.bt_meta.specs.Faults.{Check, first_of, fault_if, head_checks, info_checks, tree_checks, layer_checks, version_check, is_hybrid, is_piece_length, piece_length_of, tree_of, info_of, layers_of, first_fault}
-use Rattle.bt_meta.specs.Torrent.{Metainfo, metainfo_of}
+use Rattle.bt_meta.specs.Torrent.{metainfo_of}
 use Rattle.bt_meta.specs.Reading.{IsHead, IsShortListing}
 use Rattle.bt_meta.specs.declared.reader.Head.{Head}
 use Rattle.bt_meta.specs.declared.reader.Listing.{Listing}
 use Rattle.bt_meta.specs.declared.error.MetaError.{MetaError}
-use Rattle.bt_meta.specs.declared.error.MetaError.TheVariants.{NoInfo, Hybrid, NoName, PieceLength, Tree}
+use Rattle.bt_meta.specs.declared.error.MetaError.TheVariants.{Hybrid, NoName, PieceLength, Tree}
 use Rattle.bt_meta.proofs.Checks.{first_of-append}
 
 -- the five checks of a head, over what they look at
@@ -74,11 +74,12 @@ pub head_is : (info : Data) (head : Head) → None ≡ version_in info → false
     → lawful_in info ≡ true → head.piece_length ≡ piece_length_of info → Some (data_of head.tree.now) ≡ dictionary_at info (codes "file tree") → IsHead info head
 unfolding head_checks
 head_is info head p q r s l t = record {
-    faultless = five_none (version_in info) (is_hybrid info) (string_at info (codes "name")) (lawful_in info) (dictionary_at info (codes "file tree")) head.name.now (data_of head.tree.now) p q r s t;
-    name = sym r;
-    piece_length = sym l;
-    lawful = rw l s;
-    tree = tree_is info (data_of head.tree.now) t }
+  faultless = five_none (version_in info) (is_hybrid info) (string_at info (codes "name")) (lawful_in info) (dictionary_at info (codes "file tree")) head.name.now (data_of head.tree.now) p q r s t;
+  name = sym r;
+  piece_length = sym l;
+  lawful = rw l s;
+  tree = tree_is info (data_of head.tree.now) t;
+}
 
 pub first_fault_in : (torrent info : Data) → Some info ≡ dictionary_at torrent (codes "info")
     → first_fault torrent ≡ first_of (info_checks info ++ layer_checks (piece_length_of info) (layers_of torrent) (tree_of info))
@@ -96,7 +97,7 @@ no_fault torrent info head listing e h l =
     let layers : first_of (layer_checks (piece_length_of info) (layers_of torrent) (tree_of info)) ≡ None = rw (h.piece_length, h.tree) (l.layerless (layers_of torrent)) in
     first_fault_in torrent info e
     ∙ first_of-append (info_checks info) (layer_checks (piece_length_of info) (layers_of torrent) (tree_of info))
-      (first_of-append (head_checks info) (tree_checks (piece_length_of info) (tree_of info)) h.faultless ∙ checks)
+    (first_of-append (head_checks info) (tree_checks (piece_length_of info) (tree_of info)) h.faultless ∙ checks)
     ∙ layers
 
 pub metainfo_is : (info layers : Data) (head : Head) (listing : Listing) → IsHead info head → IsShortListing head.piece_length (data_of head.tree.now) listing

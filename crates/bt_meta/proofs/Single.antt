@@ -1,17 +1,17 @@
 -- A tree of one file at the top, of at most one piece.
-use Rattle.std.proofs.Common.{◌≡◌, ◌≤◌, ◌<◌, ◌+◌, ◌*◌, ◌/◌, ◌%◌, ◌^◌, ℕ, Bool, true, false, List, [], ◌∷◌, ◌++◌, map, length, Option, None, Some, refl, sym, ◌∙◌, ap, subst, arith}
-use Rattle.std.specs.Prelude.{codes, is_none, not, ◌&&◌, ◌==◌, min, nat_lt, filter}
+use Rattle.std.proofs.Common.{◌≡◌, ◌≤◌, ◌<◌, ◌+◌, ◌*◌, ◌/◌, ◌%◌, ◌^◌, ℕ, true, false, List, [], ◌∷◌, map, length, None, refl, sym, ◌∙◌, ap, arith}
+use Rattle.std.specs.Prelude.{codes, not, ◌&&◌, ◌==◌, nat_lt, filter}
 use Rattle.std.specs.List.{list_any}
 use Rattle.std.specs.Int.{div_ceil}
-use Rattle.std.proofs.Common.{inl, inr, ◌⊎◌}
+use Rattle.std.proofs.Common.{inl, inr}
 use Rattle.std.proofs.lemmas.Bool.{cases_lt, and_right}
 use Rattle.std.proofs.Math.Nat.{div-add-mod', mul-le-mul_right}
 use Rattle.std.proofs.lemmas.Bool.Decides.{nat_tests}
 use Rattle.bt_bencode.specs.Data.{Data, integer, string, list, dictionary, no_entries, entry, Entries}
 use Rattle.bt_meta.specs.Fields.{has_key, dictionary_at}
-use Rattle.bt_meta.specs.Places.{Place, places_below, places_among, with_earlier}
-use Rattle.bt_meta.specs.Files.{File, is_file, properties_of, length_of, root_of, length_in, root_in, pieces_of, file_of, file_at, layer_at, files_of, piece_count}
-use Rattle.bt_meta.specs.Faults.{Check, first_of, fault_if, is_node, has_lawful_name, is_path_element, has_lawful_length, has_lawful_root, conflict, is_too_many, file_checks, entry_check, tree_checks, layer_check, layer_checks, is_dictionary}
+use Rattle.bt_meta.specs.Places.{Place, places_below, places_among}
+use Rattle.bt_meta.specs.Files.{is_file, properties_of, length_of, length_in, file_of, file_at, files_of}
+use Rattle.bt_meta.specs.Faults.{first_of, is_node, has_lawful_name, has_lawful_length, has_lawful_root, conflict, is_too_many, entry_check, tree_checks, layer_check, layer_checks, is_dictionary}
 use Rattle.bt_meta.specs.Reading.{IsShortFile, IsShortListing, pieces_in}
 use Rattle.bt_meta.specs.declared.reader.Listing.{Listing}
 use Rattle.bt_meta.specs.declared.torrent.FileEntry.{FileEntry}
@@ -79,8 +79,8 @@ entry_passes : (piece_length : ℕ) (element : List ℕ) (es : Entries) (e : Fil
 entry_passes piece_length element es e some f =
     let same = properties_with element es in
     file_passes piece_length [] (place_with element (dictionary es)) (place_is_node element es) f.named (place_is_file element (dictionary es))
-      (rw same f.no_link) (rw same f.lawful) (rw same f.rooted) (and_right (not (length_of (place_with element (dictionary es)) == 0)) false refl)
-      (few_with piece_length element es some f.short)
+    (rw same f.no_link) (rw same f.lawful) (rw same f.rooted) (and_right (not (length_of (place_with element (dictionary es)) == 0)) false refl)
+    (few_with piece_length element es some f.short)
 
 tree_passes : (piece_length byte : ℕ) (bytes : List ℕ) (es : Entries) (e : FileEntry) → 0 < piece_length → IsShortFile piece_length (byte ∷ bytes) (dictionary es) e
     → first_of (tree_checks piece_length (tree_with (byte ∷ bytes) (dictionary es))) ≡ None
@@ -117,10 +117,11 @@ single piece_length (byte ∷ bytes) (integer z) e listing some named d f items 
 single piece_length (byte ∷ bytes) (string z) e listing some named d f items pieces = cc
 single piece_length (byte ∷ bytes) (list z) e listing some named d f items pieces = cc
 single piece_length (byte ∷ bytes) (dictionary es) e listing some named d f items pieces = record {
-    faultless = tree_passes piece_length byte bytes es e some f;
-    layerless = λ layers. layers_pass piece_length byte bytes es layers f.short;
-    files = λ layers. ap (map file_of) items ∙ sym (file_with piece_length byte bytes es layers e f);
-    pieces = pieces ∙ (let sum : div_ceil e.length piece_length ≡ pieces_in piece_length (e ∷ []) = omega arith in sum) ∙ ap (pieces_in piece_length) (sym items) }
+  faultless = tree_passes piece_length byte bytes es e some f;
+  layerless = λ layers. layers_pass piece_length byte bytes es layers f.short;
+  files = λ layers. ap (map file_of) items ∙ sym (file_with piece_length byte bytes es layers e f);
+  pieces = pieces ∙ (let sum : div_ceil e.length piece_length ≡ pieces_in piece_length (e ∷ []) = omega arith in sum) ∙ ap (pieces_in piece_length) (sym items);
+}
 
 not_empty : (byte : ℕ) (bytes : List ℕ) → true ≡ (length (byte ∷ bytes) == 0) → ⊥
 not_empty byte bytes k = grind (arith, nat_tests)

@@ -1,5 +1,5 @@
 -- Which faults a torrent has, in the order in which they are looked for.
-use Rattle.std.specs.Prelude.{ℕ, ℤ, pos, ◌+◌, ◌^◌, Bool, true, false, not, ◌&&◌, ◌||◌, ◌==◌, List, [], ◌∷◌, ◌++◌, length, map, filter, codes, Option, None, Some, is_some, is_none, unwrap_or, nat_eq, nat_lt, nat_le, if◌then◌else◌}
+use Rattle.std.specs.Prelude.{ℕ, ℤ, ◌^◌, Bool, true, false, not, ◌&&◌, ◌||◌, ◌==◌, List, [], ◌∷◌, ◌++◌, length, map, filter, codes, Option, None, Some, is_some, is_none, unwrap_or, nat_eq, nat_lt, nat_le, if◌then◌else◌}
 use Rattle.std.specs.Option.{option_map_or}
 use Rattle.std.specs.List.{list_any, last_or}
 use Rattle.std.specs.Int.{is_power_of_two}
@@ -9,7 +9,7 @@ use Rattle.bt_bencode.specs.Data.{Data, integer, string, list, dictionary, no_en
 use Rattle.bt_bencode.specs.Field.{field_of}
 use Rattle.bt_meta.specs.Fields.{integer_at, natural_at, string_at, dictionary_at, has_key, as_natural, no_dictionary}
 use Rattle.bt_meta.specs.Places.{Place, places_below, with_earlier}
-use Rattle.bt_meta.specs.Files.{is_file, properties_of, length_in, root_in, length_of, root_of, piece_count, pieces_of, layer_at}
+use Rattle.bt_meta.specs.Files.{is_file, properties_of, length_in, root_in, length_of, root_of, pieces_of, layer_at}
 use Rattle.bt_meta.specs.Layers.{has_layer_size, has_root}
 use Rattle.bt_meta.specs.declared.error.MetaError.{MetaError}
 use Rattle.bt_meta.specs.declared.error.MetaError.TheVariants.{NoInfo, NotV2, Version, Hybrid, NoName, PieceLength, Tree, BadPath, Symlink, FileLength, BadRoot, RootConflict, TooMany, LayerMissing, LayerSize, LayerDiffers}
@@ -137,10 +137,10 @@ abbrev pub layer_check : ℕ → Data → Place → Check
 layer_check piece_length layers p =
     let layer = layer_at piece_length layers p in
     if nat_lt piece_length (length_of p) then first_of (
-      fault_if (is_none (string_at layers (root_of p))) LayerMissing
-      ∷ fault_if (not (has_layer_size piece_length (length_of p) layer)) LayerSize
-      ∷ fault_if (not (has_root piece_length (length_of p) (root_of p) layer)) LayerDiffers
-      ∷ []) else None
+    fault_if (is_none (string_at layers (root_of p))) LayerMissing
+    ∷ fault_if (not (has_layer_size piece_length (length_of p) layer)) LayerSize
+    ∷ fault_if (not (has_root piece_length (length_of p) (root_of p) layer)) LayerDiffers
+    ∷ []) else None
 
 unfoldable pub layer_checks : ℕ → Data → Data → List Check
 layer_checks piece_length layers tree = map (layer_check piece_length layers) (filter is_file (places_below [] tree))
@@ -159,8 +159,8 @@ unfoldable pub first_fault : Data → Check
 first_fault torrent =
     let info = info_of torrent in
     first_of (fault_if (is_none (dictionary_at torrent (codes "info"))) NoInfo
-      ∷ info_checks info
-      ++ layer_checks (piece_length_of info) (layers_of torrent) (tree_of info))
+    ∷ info_checks info
+    ++ layer_checks (piece_length_of info) (layers_of torrent) (tree_of info))
 
 -- the first fault of an info dictionary alone
 unfoldable pub first_info_fault : Data → Check

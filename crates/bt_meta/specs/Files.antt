@@ -1,5 +1,5 @@
 -- The files of a file tree (BEP 52).
-use Rattle.std.specs.Prelude.{◌≡◌, ℕ, ◌+◌, ◌^◌, Bool, true, false, not, ◌&&◌, ◌==◌, List, [], ◌∷◌, map, filter, sum_by, replicate, codes, string_bytes, unwrap_or, nat_lt, if◌then◌else◌}
+use Rattle.std.specs.Prelude.{ℕ, Bool, ◌==◌, List, [], map, filter, sum_by, replicate, codes, string_bytes, unwrap_or, nat_lt, if◌then◌else◌}
 use Rattle.std.specs.Int.{div_ceil}
 use Rattle.bt_bencode.specs.Data.{Data}
 use Rattle.bt_meta.specs.Fields.{natural_at, string_at, dictionary_at, has_key, no_dictionary}
@@ -53,8 +53,13 @@ layer_at piece_length layers p = if nat_lt piece_length (length_of p) then unwra
 
 -- a place as a file; its first piece is the one after those of the files before
 abbrev pub file_at : ℕ → Data → List Place → Place → File
-file_at piece_length layers before p = record { path = p.path; length = length_of p; root = root_of p;
-    first_piece = pieces_of piece_length before; layer = layer_at piece_length layers p }
+file_at piece_length layers before p = record {
+  path = p.path;
+  length = length_of p;
+  root = root_of p;
+  first_piece = pieces_of piece_length before;
+  layer = layer_at piece_length layers p;
+}
 
 -- the files of a tree, in tree order, with their layers
 unfoldable pub files_of : ℕ → Data → Data → List File

@@ -1,10 +1,10 @@
 -- What the parts of a reading tell.
-use Rattle.std.specs.Prelude.{◌≡◌, ℕ, ◌≤◌, List, [], ◌∷◌, map, sum_by, codes, Option, None, Some, true, false}
+use Rattle.std.specs.Prelude.{◌≡◌, ℕ, ◌≤◌, List, [], ◌∷◌, map, sum_by, codes, None, Some, true, false}
 use Rattle.bt_bencode.specs.Data.{Data}
 use Rattle.bt_bencode.specs.View.{data_of}
-use Rattle.bt_meta.specs.Fields.{string_at, dictionary_at, has_key}
-use Rattle.bt_meta.specs.Files.{File, file_of, piece_count, files_of, length_in, root_in}
-use Rattle.bt_meta.specs.Faults.{Check, first_of, head_checks, piece_length_of, is_piece_length, tree_of, tree_checks, layer_checks, is_path_element, has_lawful_length, has_lawful_root}
+use Rattle.bt_meta.specs.Fields.{string_at, has_key}
+use Rattle.bt_meta.specs.Files.{file_of, piece_count, files_of, length_in, root_in}
+use Rattle.bt_meta.specs.Faults.{first_of, head_checks, piece_length_of, is_piece_length, tree_of, tree_checks, layer_checks, is_path_element, has_lawful_length, has_lawful_root}
 use Rattle.bt_meta.specs.declared.reader.Head.{Head}
 use Rattle.bt_meta.specs.declared.reader.Listing.{Listing}
 use Rattle.bt_meta.specs.declared.torrent.FileEntry.{FileEntry}

@@ -54,13 +54,24 @@ fn torrent_in(alloc: Global, value: &Value) -> Result<Torrent, MetaError>
 }
 
 /// The torrent of these parts.
-fn torrent_of(alloc: Global, info: &Value, head: &Head<'_>, listing: Listing) -> Result<Torrent, AllocError>
+fn torrent_of(
+    alloc: Global,
+    info: &Value,
+    head: &Head<'_>,
+    listing: Listing,
+) -> Result<Torrent, AllocError>
     requires { listing.pieces ≡ pieces_in head.now.piece_length listing.files.items }
     ensures { IfOk result (λ torrent. torrent ≡ record { name = head.now.name.now; piece_length = head.now.piece_length; infohash = sha256 (spelling_of (data_of info.now)); files = map file_of listing.files.items }) }
 {
     let name = Vec::from_slice(alloc, head.name)?;
     let infohash = infohash(alloc, info)?;
-    Ok(Torrent::new(name, head.piece_length, listing.pieces, infohash, listing.files))
+    Ok(Torrent::new(
+        name,
+        head.piece_length,
+        listing.pieces,
+        infohash,
+        listing.files,
+    ))
 }
 
 /// What `info` says beside the files.
@@ -182,7 +193,12 @@ fn only_entry(value: &Value) -> Option<(&[u8], &Value)>
 }
 
 /// The file with these properties at the top of the tree, of at most one piece.
-fn read_file(alloc: Global, element: &[u8], properties: &Value, piece_length: u32) -> Result<FileEntry, MetaError>
+fn read_file(
+    alloc: Global,
+    element: &[u8],
+    properties: &Value,
+    piece_length: u32,
+) -> Result<FileEntry, MetaError>
     ensures { IfOk result (IsShortFile piece_length element.now (data_of properties.now)) }
 {
     let Some(element) = path_element(element) else {

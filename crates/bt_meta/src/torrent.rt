@@ -43,7 +43,13 @@ impl Model for Torrent {
 }
 
 impl Torrent {
-    pub(crate) fn new(name: Vec<u8>, piece_length: u32, pieces: u32, infohash: Hash32, files: Vec<FileEntry>) -> Self
+    pub(crate) fn new(
+        name: Vec<u8>,
+        piece_length: u32,
+        pieces: u32,
+        infohash: Hash32,
+        files: Vec<FileEntry>,
+    ) -> Self
         requires { pieces ≡ total_pieces (record { name = name.items; piece_length = piece_length; infohash = infohash; files = map file_of files.items }) }
         ensures { result ≡ record { name = name.items; piece_length = piece_length; infohash = infohash; files = map file_of files.items } }
     {

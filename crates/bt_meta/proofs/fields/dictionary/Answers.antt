@@ -1,6 +1,6 @@
-use Rattle.std.proofs.Common.{ap, sym, ◌∙◌}
-use Rattle.std.specs.Option.{option_and_then, is_some}
-use Rattle.bt_meta.specs.Fields.{as_integer, as_string, as_dictionary, integer_at, string_at, dictionary_at, has_key}
+use Rattle.std.proofs.Common.{ap, ◌∙◌}
+use Rattle.std.specs.Option.{option_and_then}
+use Rattle.bt_meta.specs.Fields.{as_dictionary, dictionary_at}
 use Rattle.bt_meta.proofs.fields.dictionary.Goals as goal
 
 pub returns-in-Some : goal.returns-in-Some

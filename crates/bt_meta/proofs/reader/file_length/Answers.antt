@@ -1,4 +1,4 @@
-use Rattle.std.proofs.Common.{◌≡◌, ◌^◌, ◌≤◌, false, true, arith}
+use Rattle.std.proofs.Common.{◌≡◌, ◌^◌, false, true, arith}
 use Rattle.std.specs.Prelude.{codes, nat_le}
 use Rattle.std.proofs.lemmas.Bool.Decides.{nat_tests}
 use Rattle.bt_bencode.specs.View.{data_of}

@@ -1,6 +1,5 @@
-use Rattle.std.proofs.Common.{sym, ◌∙◌, ap, subst, Some, ◌≢◌, ◌≡◌, length}
+use Rattle.std.proofs.Common.{sym, ◌∙◌, ap, Some}
 use Rattle.bt_bencode.specs.View.{data_of}
-use Rattle.bt_meta.specs.Files.{length_in}
 use Rattle.bt_meta.proofs.Elements.{root_of_nothing, root_there, root_of_other_size, root_nowhere}
 use Rattle.bt_meta.proofs.reader.file_root.Goals as goal
 

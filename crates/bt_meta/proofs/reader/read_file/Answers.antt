@@ -1,4 +1,4 @@
-use Rattle.std.proofs.Common.{refl, sym, ◌∙◌, ap, arith, map, ◌∷◌, [], ◌≡◌, ◌≤◌}
+use Rattle.std.proofs.Common.{refl, sym, ◌∙◌, ap, arith, map, ◌∷◌, [], ◌≡◌}
 use Rattle.std.specs.Prelude.{string_bytes}
 use Rattle.bt_bencode.specs.View.{data_of}
 use Rattle.bt_meta.specs.Files.{length_in, root_in}
@@ -22,4 +22,5 @@ returns c =
       rooted = rooted.0;
       short = omega (arith, long.1);
       kept = file_is c.args.element.now properties (record { path = c.in_ok-path.path; length = c.in-Some-file_length.length; root = c.in-Some-file_root.root; first_piece = 0; layer = c.new.result })
-        path long.1 rooted.1 refl c.new.ensures.items }
+          path long.1 rooted.1 refl c.new.ensures.items;
+    }

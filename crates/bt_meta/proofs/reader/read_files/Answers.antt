@@ -1,4 +1,3 @@
-use Rattle.std.proofs.Common.{◌∙◌, ap}
 use Rattle.bt_bencode.specs.View.{data_of}
 use Rattle.bt_meta.proofs.Single.{single_at}
 use Rattle.bt_meta.proofs.reader.read_files.Goals as goal

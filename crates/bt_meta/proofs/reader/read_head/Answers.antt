@@ -1,5 +1,3 @@
-use Rattle.std.proofs.Common.{sym}
-
 use Rattle.std.proofs.lemmas.Result.{err_from_is_err_and}
 use Rattle.bt_bencode.specs.View.{data_of}
 use Rattle.bt_meta.specs.Faults.{piece_length_of}
