@@ -1,5 +1,5 @@
 -- The files of a file tree (BEP 52).
-use Rattle.std.specs.Prelude.{◌≡◌, ℕ, ◌+◌, ◌^◌, Bool, true, false, not, ◌&&◌, ◌==◌, List, [], ◌∷◌, map, filter, sum_by, replicate, codes, string_bytes, unwrap_or, nat_lt, if◌then◌else◌}
+use Rattle.std.specs.Prelude.{ℕ, Bool, ◌==◌, List, [], map, filter, sum_by, replicate, codes, string_bytes, unwrap_or, nat_lt, if◌then◌else◌}
 use Rattle.std.specs.Int.{div_ceil}
 use Rattle.bt_bencode.specs.Data.{Data}
 use Rattle.bt_meta.specs.Fields.{natural_at, string_at, dictionary_at, has_key, no_dictionary}
@@ -14,12 +14,18 @@ is_file p = has_key p.value []
 abbrev pub properties_of : Place → Data
 properties_of p = unwrap_or (dictionary_at p.value []) no_dictionary
 
-unfoldable pub length_of : Place → ℕ
-length_of p = unwrap_or (natural_at (properties_of p) (codes "length")) 0
+unfoldable pub length_in : Data → ℕ
+length_in properties = unwrap_or (natural_at properties (codes "length")) 0
 
 -- zeros for an empty file, whose `pieces root` is ignored
-unfoldable pub root_of : Place → List ℕ
-root_of p = if length_of p == 0 then replicate 32 0 else unwrap_or (string_at (properties_of p) (codes "pieces root")) []
+unfoldable pub root_in : Data → List ℕ
+root_in properties = if length_in properties == 0 then replicate 32 0 else unwrap_or (string_at properties (codes "pieces root")) []
+
+abbrev pub length_of : Place → ℕ
+length_of p = length_in (properties_of p)
+
+abbrev pub root_of : Place → List ℕ
+root_of p = root_in (properties_of p)
 
 -- a file begins at a piece's boundary, and its last piece may be shorter
 abbrev pub piece_count : ℕ → ℕ → ℕ
@@ -47,8 +53,13 @@ layer_at piece_length layers p = if nat_lt piece_length (length_of p) then unwra
 
 -- a place as a file; its first piece is the one after those of the files before
 abbrev pub file_at : ℕ → Data → List Place → Place → File
-file_at piece_length layers before p = record { path = p.path; length = length_of p; root = root_of p;
-    first_piece = pieces_of piece_length before; layer = layer_at piece_length layers p }
+file_at piece_length layers before p = record {
+  path = p.path;
+  length = length_of p;
+  root = root_of p;
+  first_piece = pieces_of piece_length before;
+  layer = layer_at piece_length layers p;
+}
 
 -- the files of a tree, in tree order, with their layers
 unfoldable pub files_of : ℕ → Data → Data → List File

@@ -5,3 +5,4 @@ pub mod Files
 pub mod Layers
 pub mod Faults
 pub mod Torrent
+pub mod Reading

@@ -16,10 +16,11 @@ pub record Metainfo : Type 0 where
 -- what an info dictionary and these layers say
 unfoldable pub metainfo_of : Data → Data → Metainfo
 metainfo_of info layers = record {
-    name = unwrap_or (string_at info (codes "name")) [];
-    piece_length = piece_length_of info;
-    infohash = sha256 (spelling_of info);
-    files = files_of (piece_length_of info) layers (tree_of info) }
+  name = unwrap_or (string_at info (codes "name")) [];
+  piece_length = piece_length_of info;
+  infohash = sha256 (spelling_of info);
+  files = files_of (piece_length_of info) layers (tree_of info);
+}
 
 -- the bytes spell the torrent: they are the canonical spelling of a value that has no fault, and it says this
 pub record IsTorrent (bytes : List ℕ) (torrent : Metainfo) : Type 0 where

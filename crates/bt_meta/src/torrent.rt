@@ -49,7 +49,10 @@ impl Torrent {
         pieces: u32,
         infohash: Hash32,
         files: Vec<FileEntry>,
-    ) -> Self {
+    ) -> Self
+        requires { pieces ≡ total_pieces (record { name = name.items; piece_length = piece_length; infohash = infohash; files = map file_of files.items }) }
+        ensures { result ≡ record { name = name.items; piece_length = piece_length; infohash = infohash; files = map file_of files.items } }
+    {
         Torrent {
             name,
             piece_length,
@@ -60,27 +63,37 @@ impl Torrent {
     }
 
     /// The name that its maker gave it. It is advice, and may be any bytes.
-    pub fn name(&self) -> &[u8] {
+    pub fn name(&self) -> &[u8]
+        ensures { result.now ≡ self.now.name }
+    {
         &self.name
     }
 
     /// How many bytes a piece has: a power of two from 2^14 to 2^28.
-    pub fn piece_length(&self) -> u32 {
+    pub fn piece_length(&self) -> u32
+        ensures { result ≡ self.now.piece_length }
+    {
         self.piece_length
     }
 
     /// How many pieces its files have: at most 2^21.
-    pub fn pieces(&self) -> u32 {
+    pub fn pieces(&self) -> u32
+        ensures { result ≡ total_pieces self.now }
+    {
         self.pieces
     }
 
     /// The SHA-256 of the spelling of `info`.
-    pub fn infohash(&self) -> Hash32 {
+    pub fn infohash(&self) -> Hash32
+        ensures { result ≡ self.now.infohash }
+    {
         self.infohash
     }
 
     /// Its files, in the order of their paths.
-    pub fn files(&self) -> &[FileEntry] {
+    pub fn files(&self) -> &[FileEntry]
+        ensures { map file_of result.now ≡ self.now.files }
+    {
         &self.files
     }
 }
