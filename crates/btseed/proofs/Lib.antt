@@ -1,3 +1,4 @@
 pub mod Fills
 pub mod NodeReads
 pub mod Findings
+pub mod TextReads

@@ -1,4 +1,7 @@
 //! The command `check`.
+ghost use Rattle.std.specs.Prelude.{◌≡◌, ◌+◌, ◌^◌, take, IfOk, IfSome};
+ghost use Rattle.btseed.specs.Reading.{Gives};
+
 use crate::data_file::{BUFFER_LEN, Finding, check_empty, check_file, fill};
 use crate::fault::Fault;
 use crate::report::{push_end, push_line, shown};
@@ -42,14 +45,18 @@ fn load<R: Files + AllocGlobal>(rt: &R, path: &str, buffer: &mut [u8; BUFFER_LEN
 }
 
 /// The bytes of a torrent: all that the reader has, but no more than show that they are too many.
-pub fn read_text<R: Read>(alloc: Global, reader: &mut R, buffer: &mut [u8; BUFFER_LEN]) -> Result<Vec<u8>, Fault> {
+pub fn read_text<R: Read>(alloc: Global, reader: &mut R, buffer: &mut [u8; BUFFER_LEN]) -> Result<Vec<u8>, Fault>
+    ensures told { IfSome (R.remaining reader.old) (λ bytes. IfOk result (λ text. text.items ≡ take (2 ^ 27 + 1) bytes)) }
+    ensures given { IfOk result (λ text. Gives (R.remaining reader.old) (R.remaining reader.new) (2 ^ 27 + 1) text.items) }
+{
     let mut text = Vec::new(alloc);
     while text.len() <= MAX_TEXT_LENGTH {
         let wanted = BUFFER_LEN.min(MAX_TEXT_LENGTH + 1 - text.len());
-        let count = fill(reader, &mut buffer[..wanted])?;
-        text.extend_from_slice(&buffer[..count])?;
+        let run = &mut buffer[..wanted];
+        let count = fill(reader, run)?;
+        text.extend_from_slice(&run[..count])?;
         if count < wanted {
-            break;
+            return Ok(text);
         }
     }
     Ok(text)

@@ -10,7 +10,7 @@ pub enum Task<'a> {
     Check { torrent: &'a str, dir: &'a str },
 }
 
-const ABOUT: &str = "Checks the files of a BitTorrent v2 torrent.";
+const ABOUT: &str = "A seed store for the files of one BitTorrent v2 torrent: it tells which files are right, by their pieces roots.";
 
 /// Reads the words that follow the program's name. Where they ask for help, or are refused, the error has the text.
 pub fn parse<'a>(alloc: Global, words: &'a [String]) -> Result<Task<'a>, Error> {
@@ -37,6 +37,7 @@ fn command<'a>(alloc: Global) -> Result<Command<'a>, AllocError> {
         .arg(torrent)?
         .arg(dir)?;
     Command::new(alloc, "btseed")
+        .bin_name("btseed")?
         .about(ABOUT)
         .no_binary_name(true)
         .subcommand_required(true)

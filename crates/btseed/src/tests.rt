@@ -13,13 +13,14 @@ use std::test::Fail;
 use std::{env, fs, io, process};
 
 /// What the program wrote, and its status.
+#[derive(Drop)]
 struct Answer {
     status: u8,
     output: String,
     faults: String,
 }
 
-fn answer(rt: &HostRuntime, words: &[&str]) -> Result<Answer, Fail> {
+fn answer_to(rt: &HostRuntime, words: &[&str]) -> Result<Answer, Fail> {
     let alloc = rt.alloc();
     let mut list = Vec::new(alloc);
     for word in words {
@@ -41,7 +42,8 @@ fn folder(rt: &HostRuntime, name: &str) -> Result<String, Fail> {
     let alloc = rt.alloc();
     let top = env::temp_dir(rt)?;
     let id = process::id(rt.process());
-    let path = format!(in alloc; "{}/btseed-{name}-{id}", top.to_str())?;
+    let top = top.to_str().ok_or("a folder whose name is no text")?;
+    let path = format!(in alloc; "{top}/btseed-{name}-{id}")?;
     let _ = fs::remove_dir_all(rt, path.as_str());
     fs::create_dir(rt, path.as_str())?;
     Ok(path)
@@ -72,7 +74,7 @@ fn checked(rt: &HostRuntime, test: &str, torrent: &[u8], data: Option<(&str, &[u
     if let Some((name, bytes)) = data {
         fs::write(rt, format!(in alloc; "{dir}/{name}")?.as_str(), bytes)?;
     }
-    let found = answer(rt, &["check", torrent_path.as_str(), dir.as_str()])?;
+    let found = answer_to(rt, &["check", torrent_path.as_str(), dir.as_str()])?;
     fs::remove_dir_all(rt, top.as_str())?;
     Ok(found)
 }
@@ -155,7 +157,7 @@ fn a_device_fault_is_told(rt: HostRuntime) -> Result<(), Fail> {
 
     // no torrent, a folder in its place, and a path through a file
     for words in [[absent.as_str(), dir.as_str()], [dir.as_str(), dir.as_str()], [torrent.as_str(), through.as_str()]] {
-        let found = answer(&rt, &["check", words[0], words[1]])?;
+        let found = answer_to(&rt, &["check", words[0], words[1]])?;
         assert_eq!(rt; found.faults.as_str(), "btseed: device fault\n");
         assert_eq!(rt; found.output.as_str(), "");
         assert_eq!(rt; found.status, 3);
@@ -163,12 +165,12 @@ fn a_device_fault_is_told(rt: HostRuntime) -> Result<(), Fail> {
 
     // a folder in a data file's place
     fs::create_dir(&rt, data.as_str())?;
-    let found = answer(&rt, &["check", torrent.as_str(), dir.as_str()])?;
+    let found = answer_to(&rt, &["check", torrent.as_str(), dir.as_str()])?;
     assert_eq!(rt; found.faults.as_str(), "btseed: device fault\n");
     assert_eq!(rt; found.status, 3);
 
     // no folder at all: its files are absent
-    let found = answer(&rt, &["check", torrent.as_str(), absent.as_str()])?;
+    let found = answer_to(&rt, &["check", torrent.as_str(), absent.as_str()])?;
     assert_eq!(rt; found.output.as_str(), "0 of 1 a.txt\nnot complete\n");
     assert_eq!(rt; found.status, 1);
     fs::remove_dir_all(&rt, top.as_str())?;
@@ -179,25 +181,26 @@ fn a_device_fault_is_told(rt: HostRuntime) -> Result<(), Fail> {
 fn refused_words_are_told_what_helps(rt: HostRuntime) -> Result<(), Fail> {
     let lists: [&[&str]; 5] = [&[], &["chek"], &["check"], &["check", "t"], &["check", "t", "d", "e"]];
     for words in lists {
-        let found = answer(&rt, words)?;
+        let found = answer_to(&rt, words)?;
         assert_eq!(rt; found.status, 2);
         assert_eq!(rt; found.output.as_str(), "");
         assert!(rt; found.faults.as_str().contains("Usage: btseed"));
     }
     for words in [["--help"], ["help"]] {
-        let found = answer(&rt, &words)?;
+        let found = answer_to(&rt, &words)?;
         assert_eq!(rt; found.status, 0);
         assert_eq!(rt; found.faults.as_str(), "");
         assert!(rt; found.output.as_str().contains("BitTorrent v2"));
         assert!(rt; found.output.as_str().contains("check"));
     }
-    let found = answer(&rt, &["check", "--help"])?;
+    let found = answer_to(&rt, &["check", "--help"])?;
     assert_eq!(rt; found.status, 0);
     assert!(rt; found.output.as_str().contains("TORRENT"));
     Ok(())
 }
 
 /// A writer that takes nothing.
+#[derive(Drop)]
 struct Full;
 
 impl Write for Full {
@@ -231,6 +234,7 @@ fn an_output_that_fails_is_a_device_fault(rt: HostRuntime) -> Result<(), Fail> {
 }
 
 /// A reader of bytes that gives at most so many at a time, is interrupted before each read, and fails at one of them.
+#[derive(Drop)]
 struct Slow<'a> {
     bytes: &'a [u8],
     most: usize,
