@@ -1,5 +1,5 @@
 //! The program, over any runtime and streams.
-ghost use Rattle.std.specs.Prelude.{◌≤◌};
+ghost use Rattle.std.specs.Prelude.{◌≤◌, IfOk};
 
 use crate::check::check;
 use crate::command_line::{Task, parse};
@@ -17,18 +17,26 @@ use std::rt::Files;
 pub fn run<R: Files + AllocGlobal, I: Read, O: Write, E: Write>(rt: &R, words: &[String], _reader: &mut I, writer: &mut O, faults: &mut E) -> u8
     ensures { result ≤ 4 }
 {
-    let done = match parse(rt.alloc(), words) {
-        Ok(task) => perform(rt, task, writer),
-        Err(error) => explain(&error, writer, faults),
-    };
-    match done {
+    match attempt(rt, words, writer, faults) {
         Ok(status) => status,
         Err(fault) => tell(fault, faults),
     }
 }
 
+/// Reads the words, and does what they ask for.
+fn attempt<R: Files + AllocGlobal, O: Write, E: Write>(rt: &R, words: &[String], writer: &mut O, faults: &mut E) -> Result<u8, Fault>
+    ensures { IfOk result (λ status. status ≤ 2) }
+{
+    match parse(rt.alloc(), words) {
+        Ok(task) => perform(rt, task, writer),
+        Err(error) => explain(&error, writer, faults),
+    }
+}
+
 /// Does a task, and answers its status.
-fn perform<R: Files + AllocGlobal, O: Write>(rt: &R, task: Task<'_>, writer: &mut O) -> Result<u8, Fault> {
+fn perform<R: Files + AllocGlobal, O: Write>(rt: &R, task: Task<'_>, writer: &mut O) -> Result<u8, Fault>
+    ensures { IfOk result (λ status. status ≤ 1) }
+{
     let Task::Check { torrent, dir } = task;
     let report = check(rt, torrent, dir)?;
     print(writer, report.lines.as_str())?;
@@ -36,7 +44,9 @@ fn perform<R: Files + AllocGlobal, O: Write>(rt: &R, task: Task<'_>, writer: &mu
 }
 
 /// Prints help, or why the words are refused.
-fn explain<O: Write, E: Write>(error: &Error, writer: &mut O, faults: &mut E) -> Result<u8, Fault> {
+fn explain<O: Write, E: Write>(error: &Error, writer: &mut O, faults: &mut E) -> Result<u8, Fault>
+    ensures { IfOk result (λ status. status ≤ 2) }
+{
     if error.kind() == ErrorKind::OutOfMemory {
         return Err(Fault::OutOfMemory);
     }
