@@ -54,6 +54,13 @@ pub record TakesBlocks (old new : Building) (blocks : ℕ) : Type 0 where
   pub index : new.index ≡ old.index
   pub count : new.count ≡ old.count + blocks
 
+-- as many blocks of the same node came
+pub record IsAsFar (b c : Building) : Type 0 where
+  pub file_length : b.file_length ≡ c.file_length
+  pub layer : b.layer ≡ c.layer
+  pub index : b.index ≡ c.index
+  pub count : b.count ≡ c.count
+
 -- every block below the node came
 abbrev pub IsComplete : Building → Type 0
 IsComplete b = b.count ≡ blocks_below b

@@ -24,7 +24,13 @@ pub enum LayerError {
 
 /// Whether the bytes are a layer of a tree with this root: the digests of the layer's nodes that cover a block, from
 /// the left, 32 bytes each. The others are known: they have the digest of `pad`.
-pub fn check_layer<H: NodeHash>(hash: H, geometry: Geometry, root: &Hash32, layer: u8, bytes: &[u8]) -> Result<(), LayerError>
+pub fn check_layer<H: NodeHash>(
+    hash: H,
+    geometry: Geometry,
+    root: &Hash32,
+    layer: u8,
+    bytes: &[u8],
+) -> Result<(), LayerError>
     ensures variant { IsOk result ↔ IsLayer H.digest (block_count geometry) root.now layer bytes.now }
     ensures size { (result ≡ Err LayerError.Size) ↔ (¬ HasLayerSize (block_count geometry) layer bytes.now) }
     ensures differs { (result ≡ Err LayerError.Differs) ↔ (HasLayerSize (block_count geometry) layer bytes.now
@@ -43,7 +49,7 @@ pub fn check_layer<H: NodeHash>(hash: H, geometry: Geometry, root: &Hash32, laye
     }
 }
 
-/// The digest that 2^layers digests fold to pairwise: these, and then the one of the padding.
+/// The digest that 2^layers digests fold to pairwise: the given ones, and after them that of the padding.
 fn fold<H: NodeHash>(hash: H, digests: &[Hash32], layers: u8, padding: Hash32) -> Hash32
     requires high { layers ≤ 26 }
     requires within { length digests.now ≤ 2 ^ layers }

@@ -32,7 +32,13 @@ pub(crate) fn add<H: NodeHash>(hash: H, peaks: &mut Peaks, count: u32, digest: H
 
 /// The digest of the node that lies so many layers above the first 2^layers nodes of the row. The row's nodes past
 /// the first `count` all have the digest `padding`.
-pub(crate) fn close<H: NodeHash>(hash: H, peaks: &[Hash32], count: u32, layers: u8, padding: Hash32) -> Hash32
+pub(crate) fn close<H: NodeHash>(
+    hash: H,
+    peaks: &[Hash32],
+    count: u32,
+    layers: u8,
+    padding: Hash32,
+) -> Hash32
     requires high { layers ≤ 26 }
     requires within { count ≤ 2 ^ layers }
     requires size { length peaks.now ≡ peak_count 26 count }

@@ -4,7 +4,7 @@ ghost use Rattle.bt_tree.specs.Blocks.{block_count, HasRun};
 ghost use Rattle.bt_tree.specs.TreeShape.{height_of, CoversBlock};
 ghost use Rattle.bt_tree.specs.Tree.{node_digest};
 ghost use Rattle.bt_tree.specs.Row.{peaks_of, peak_count};
-ghost use Rattle.bt_tree.specs.Building.{Building, BuildsFrom, IsNextRun, TakesBlocks, IsComplete, IsBlocksOf, next_block};
+ghost use Rattle.bt_tree.specs.Building.{Building, BuildsFrom, IsNextRun, TakesBlocks, IsAsFar, IsComplete, IsBlocksOf, next_block};
 
 use crate::node_hash::{Hash32, NodeHash};
 use crate::peaks::{self, Peaks};
@@ -74,12 +74,16 @@ impl<H: NodeHash> RootBuilder<H> {
     /// Takes one or more next blocks below the node, each of 16,384 bytes but for the file's last.
     ///
     /// `Shape` where the run is empty, ends inside a block or goes past the node; the builder then stays as it was.
-    /// The digest at the end is the same however the bytes are cut into runs.
+    /// It makes no difference how the bytes are cut into runs.
     pub fn push(&mut self, run: &[u8]) -> Result<(), Shape>
         ensures variant { IsOk result ↔ IsNextRun self.old (length run.now) }
         ensures place { OnOk result (TakesBlocks self.old self.new (block_count (length run.now))) }
         ensures from { OnOk result ((file : List ℕ) → BuildsFrom H.digest self.old file
             → HasRun file (16384 * next_block self.old) run.now → BuildsFrom H.digest self.new file) }
+
+        // However the bytes were cut into runs, a builder that took as many blocks of the same file is the same.
+        ensures cut { OnOk result ((file : List ℕ) (other : Building) → BuildsFrom H.digest self.new file
+            → BuildsFrom H.digest other file → IsAsFar other self.new → other ≡ self.new) }
         ensures err { OnErr result (self.new ≡ self.old) }
     {
         if !self.is_next(run.len() as u64) {
@@ -99,7 +103,13 @@ impl<H: NodeHash> RootBuilder<H> {
         if self.count < self.blocks {
             return Err(Shape);
         }
-        Ok(peaks::close(self.hash, self.peaks.as_slice(), self.count, self.layer, [0; 32]))
+        Ok(peaks::close(
+            self.hash,
+            self.peaks.as_slice(),
+            self.count,
+            self.layer,
+            [0; 32],
+        ))
     }
 
     /// Whether a run of so many bytes is made of next blocks below the node.
@@ -127,7 +137,7 @@ fn push_blocks<H: NodeHash>(hash: H, peaks: &mut Peaks, count: u32, run: &[u8])
 {
     let mut count = count;
     let mut rest = run;
-    while rest.len() > 0 {
+    while !rest.is_empty() {
         let (block, after) = rest.split_at(rest.len().min(BLOCK_LEN));
         peaks::add(hash, peaks, count, hash.block(block));
         count += 1;
