@@ -69,9 +69,9 @@ next_run old new asked rest wanted first b fresh all w r =
       whole = elim w.whole [
         | inl full ↦ inl full
         | inr last ↦ elim (min_is (16384 * (first_block first + 2 ^ first.layer)) first.file_length) [
-            | inl inner ↦ inl (omega (arith, last, even, so_far, all, inner))
-            | inr outer ↦ inr (omega (arith, next, last, so_far, all, outer, size))
-          ]
+          | inl inner ↦ inl (omega (arith, last, even, so_far, all, inner))
+          | inr outer ↦ inr (omega (arith, next, last, so_far, all, outer, size))
+        ]
       ];
     }
 

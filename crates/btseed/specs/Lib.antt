@@ -1,3 +1,4 @@
 pub mod Reading
 pub mod Checking
 pub mod Statuses
+pub mod Shown

@@ -38,14 +38,22 @@ pub fn check<R: Files + AllocGlobal>(rt: &R, torrent: &str, dir: &str) -> Result
 }
 
 /// Reads a torrent from its file.
-fn load<R: Files + AllocGlobal>(rt: &R, path: &str, buffer: &mut [u8; BUFFER_LEN]) -> Result<Torrent, Fault> {
+fn load<R: Files + AllocGlobal>(
+    rt: &R,
+    path: &str,
+    buffer: &mut [u8; BUFFER_LEN],
+) -> Result<Torrent, Fault> {
     let mut file = fs::open(rt, path).map_err(|_| Fault::Device)?;
     let text = read_text(rt.alloc(), &mut file, buffer)?;
     Ok(read_torrent(rt.alloc(), &text)?)
 }
 
 /// The bytes of a torrent: all that the reader has, but no more than show that they are too many.
-pub fn read_text<R: Read>(alloc: Global, reader: &mut R, buffer: &mut [u8; BUFFER_LEN]) -> Result<Vec<u8>, Fault>
+pub fn read_text<R: Read>(
+    alloc: Global,
+    reader: &mut R,
+    buffer: &mut [u8; BUFFER_LEN],
+) -> Result<Vec<u8>, Fault>
     ensures told { IfSome (R.remaining reader.old) (λ bytes. IfOk result (λ text. text.items ≡ take (2 ^ 27 + 1) bytes)) }
     ensures given { IfOk result (λ text. Gives (R.remaining reader.old) (R.remaining reader.new) (2 ^ 27 + 1) text.items) }
 {
@@ -63,7 +71,12 @@ pub fn read_text<R: Read>(alloc: Global, reader: &mut R, buffer: &mut [u8; BUFFE
 }
 
 /// Checks the data file of an entry. Where there is no such file, it is empty.
-fn check_data<R: Files + AllocGlobal>(rt: &R, dir: &str, entry: &FileEntry, buffer: &mut [u8; BUFFER_LEN]) -> Result<Finding, Fault> {
+fn check_data<R: Files + AllocGlobal>(
+    rt: &R,
+    dir: &str,
+    entry: &FileEntry,
+    buffer: &mut [u8; BUFFER_LEN],
+) -> Result<Finding, Fault> {
     let path = data_path(rt.alloc(), dir, &entry.path)?;
     match fs::open(rt, path) {
         Ok(mut file) => check_entry(&mut file, entry, buffer),
@@ -76,7 +89,11 @@ fn check_data<R: Files + AllocGlobal>(rt: &R, dir: &str, entry: &FileEntry, buff
 }
 
 /// Checks the bytes of a reader against an entry.
-fn check_entry<R: Read>(reader: &mut R, entry: &FileEntry, buffer: &mut [u8; BUFFER_LEN]) -> Result<Finding, Fault> {
+fn check_entry<R: Read>(
+    reader: &mut R,
+    entry: &FileEntry,
+    buffer: &mut [u8; BUFFER_LEN],
+) -> Result<Finding, Fault> {
     match Geometry::new(entry.length) {
         Some(geometry) => Ok(check_file(reader, geometry, &entry.root, buffer)?),
         None if entry.length == 0 => Ok(check_empty(reader)?),

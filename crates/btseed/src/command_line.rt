@@ -10,7 +10,8 @@ pub enum Task<'a> {
     Check { torrent: &'a str, dir: &'a str },
 }
 
-const ABOUT: &str = "A seed store for the files of one BitTorrent v2 torrent: it tells which files are right, by their pieces roots.";
+const ABOUT: &str =
+    "A seed store for the files of one BitTorrent v2 torrent: it tells which files are right, by their pieces roots.";
 
 /// Reads the words that follow the program's name. Where they ask for help, or are refused, the error has the text.
 pub fn parse<'a>(alloc: Global, words: &'a [String]) -> Result<Task<'a>, Error> {
@@ -21,7 +22,10 @@ pub fn parse<'a>(alloc: Global, words: &'a [String]) -> Result<Task<'a>, Error> 
             return Ok(Task::Check { torrent, dir });
         }
     }
-    Err(command.error(ErrorKind::MissingRequiredArgument, "a command and its words are wanted")?)
+    Err(command.error(
+        ErrorKind::MissingRequiredArgument,
+        "a command and its words are wanted",
+    )?)
 }
 
 /// The commands and their words.

@@ -53,7 +53,12 @@ pub fn fill<R: Read>(reader: &mut R, buffer: &mut [u8]) -> Result<usize, DeviceF
 
 /// Reads the bytes below the builder's node, of which none came before, and gives the node's digest: none where the
 /// bytes end before.
-fn read_node<R: Read>(reader: &mut R, builder: RootBuilder<Plain>, length: u64, buffer: &mut [u8; BUFFER_LEN]) -> Result<Option<Hash32>, DeviceFault>
+fn read_node<R: Read>(
+    reader: &mut R,
+    builder: RootBuilder<Plain>,
+    length: u64,
+    buffer: &mut [u8; BUFFER_LEN],
+) -> Result<Option<Hash32>, DeviceFault>
     requires fresh { builder.count ≡ 0 }
     requires all { 16384 * first_block builder + length ≡ node_end builder }
     ensures early { IfOk result (λ found. IfNone found (EndsEarly (R.remaining reader.old) (R.remaining reader.new) length)) }
@@ -96,7 +101,12 @@ fn marked_blocks(blocks: u32, built: &Hash32, wanted: &Hash32) -> u32
 /// It reads up to one byte past the file's length, in runs that fit the buffer. All blocks are marked where the bytes
 /// begin with a file of that root, and none where they don't or end before. After a fault the reader has lost what it
 /// gave.
-pub fn check_file<R: Read>(reader: &mut R, geometry: Geometry, root: &Hash32, buffer: &mut [u8; BUFFER_LEN]) -> Result<Finding, DeviceFault>
+pub fn check_file<R: Read>(
+    reader: &mut R,
+    geometry: Geometry,
+    root: &Hash32,
+    buffer: &mut [u8; BUFFER_LEN],
+) -> Result<Finding, DeviceFault>
     // of the reader's bytes, where it tells them
     ensures told { IfSome (R.remaining reader.old) (λ bytes. IfOk result (IsFindingOf bytes geometry root.now)) }
 
@@ -107,11 +117,19 @@ pub fn check_file<R: Read>(reader: &mut R, geometry: Geometry, root: &Hash32, bu
     let blocks = geometry.blocks();
     let builder = RootBuilder::new(Plain, geometry);
     let Some(found) = read_node(reader, builder, geometry.length(), buffer)? else {
-        return Ok(Finding { blocks, marked: 0, longer: false });
+        return Ok(Finding {
+            blocks,
+            marked: 0,
+            longer: false,
+        });
     };
     let longer = has_more(reader)?;
     let marked = marked_blocks(blocks, &found, root);
-    Ok(Finding { blocks, marked, longer })
+    Ok(Finding {
+        blocks,
+        marked,
+        longer,
+    })
 }
 
 /// Checks the bytes of a reader against an empty file, which has no blocks: whether there are any.
@@ -121,5 +139,9 @@ pub fn check_empty<R: Read>(reader: &mut R) -> Result<Finding, DeviceFault>
     ensures err { OnErr result (LosesFront (R.remaining reader.old) (R.remaining reader.new)) }
 {
     let longer = has_more(reader)?;
-    Ok(Finding { blocks: 0, marked: 0, longer })
+    Ok(Finding {
+        blocks: 0,
+        marked: 0,
+        longer,
+    })
 }

@@ -26,14 +26,17 @@ fn words(rt: &(impl Env + AllocGlobal)) -> Result<Vec<String>, Fault> {
 fn main(rt: HostRuntime) -> ExitCode {
     let mut faults = rt.stderr();
     let status = match words(&rt) {
-        Ok(words) => run(&rt, words.as_slice(), &mut rt.stdin(), &mut rt.stdout(), &mut faults),
+        Ok(words) => run(
+            &rt,
+            words.as_slice(),
+            &mut rt.stdin(),
+            &mut rt.stdout(),
+            &mut faults,
+        ),
         Err(fault) => tell(fault, &mut faults),
     };
     ExitCode::from(status)
 }
-
-
-
 
 #[cfg(test)]
 mod tests;

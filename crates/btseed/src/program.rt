@@ -14,7 +14,13 @@ use std::rt::Files;
 /// of memory.
 ///
 /// What is found, and help, go to the writer; why there is no answer goes to `faults`.
-pub fn run<R: Files + AllocGlobal, I: Read, O: Write, E: Write>(rt: &R, words: &[String], _reader: &mut I, writer: &mut O, faults: &mut E) -> u8
+pub fn run<R: Files + AllocGlobal, I: Read, O: Write, E: Write>(
+    rt: &R,
+    words: &[String],
+    _reader: &mut I,
+    writer: &mut O,
+    faults: &mut E,
+) -> u8
     ensures { result ≤ 4 }
 {
     match attempt(rt, words, writer, faults) {
@@ -24,7 +30,12 @@ pub fn run<R: Files + AllocGlobal, I: Read, O: Write, E: Write>(rt: &R, words: &
 }
 
 /// Reads the words, and does what they ask for.
-fn attempt<R: Files + AllocGlobal, O: Write, E: Write>(rt: &R, words: &[String], writer: &mut O, faults: &mut E) -> Result<u8, Fault>
+fn attempt<R: Files + AllocGlobal, O: Write, E: Write>(
+    rt: &R,
+    words: &[String],
+    writer: &mut O,
+    faults: &mut E,
+) -> Result<u8, Fault>
     ensures { IfOk result (λ status. status ≤ 2) }
 {
     match parse(rt.alloc(), words) {
@@ -34,7 +45,11 @@ fn attempt<R: Files + AllocGlobal, O: Write, E: Write>(rt: &R, words: &[String],
 }
 
 /// Does a task, and answers its status.
-fn perform<R: Files + AllocGlobal, O: Write>(rt: &R, task: Task<'_>, writer: &mut O) -> Result<u8, Fault>
+fn perform<R: Files + AllocGlobal, O: Write>(
+    rt: &R,
+    task: Task<'_>,
+    writer: &mut O,
+) -> Result<u8, Fault>
     ensures { IfOk result (λ status. status ≤ 1) }
 {
     let Task::Check { torrent, dir } = task;
@@ -60,7 +75,9 @@ fn explain<O: Write, E: Write>(error: &Error, writer: &mut O, faults: &mut E) ->
 }
 
 fn print<O: Write>(writer: &mut O, text: &str) -> Result<(), Fault> {
-    writer.write_all(text.as_bytes()).map_err(|_| Fault::Device)?;
+    writer
+        .write_all(text.as_bytes())
+        .map_err(|_| Fault::Device)?;
     writer.flush().map_err(|_| Fault::Device)
 }
 

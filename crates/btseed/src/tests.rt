@@ -57,14 +57,24 @@ const ABC_ROOT: &str = "ba7816bf8f01cfea414140de5dae2223b00361a396177a9cb410ff61
 
 /// The torrent of a file `a.txt` of the bytes `abc`.
 fn abc_torrent(alloc: Global) -> Result<Vec<u8>, Fail> {
-    let mut text = Vec::from_slice(alloc, b"d4:infod9:file treed5:a.txtd0:d6:lengthi3e11:pieces root32:")?;
+    let mut text = Vec::from_slice(
+        alloc,
+        b"d4:infod9:file treed5:a.txtd0:d6:lengthi3e11:pieces root32:",
+    )?;
     text.extend_from_slice(&digest(ABC_ROOT)?)?;
-    text.extend_from_slice(b"eee12:meta versioni2e4:name5:a.txt12:piece lengthi16384ee12:piece layersdee")?;
+    text.extend_from_slice(
+        b"eee12:meta versioni2e4:name5:a.txt12:piece lengthi16384ee12:piece layersdee",
+    )?;
     Ok(text)
 }
 
 /// What a check of a torrent answers, where the folder has this data file or none.
-fn checked(rt: &HostRuntime, test: &str, torrent: &[u8], data: Option<(&str, &[u8])>) -> Result<Answer, Fail> {
+fn checked(
+    rt: &HostRuntime,
+    test: &str,
+    torrent: &[u8],
+    data: Option<(&str, &[u8])>,
+) -> Result<Answer, Fail> {
     let alloc = rt.alloc();
     let top = folder(rt, test)?;
     let torrent_path = format!(in alloc; "{top}/t.torrent")?;
@@ -106,7 +116,8 @@ fn a_file_is_checked(rt: HostRuntime) -> Result<(), Fail> {
 
 #[test]
 fn an_empty_file_is_checked(rt: HostRuntime) -> Result<(), Fail> {
-    let torrent = b"d4:infod9:file treed1:ed0:d6:lengthi0eeee12:meta versioni2e4:name1:e12:piece lengthi16384ee12:piece layersdee";
+    let torrent =
+        b"d4:infod9:file treed1:ed0:d6:lengthi0eeee12:meta versioni2e4:name1:e12:piece lengthi16384ee12:piece layersdee";
     for (data, status, output) in [
         (None, 0, "complete e\ncomplete\n"),
         (Some(""), 0, "complete e\ncomplete\n"),
@@ -130,7 +141,10 @@ fn a_refusal_is_told(rt: HostRuntime) -> Result<(), Fail> {
     let found = checked(&rt, "refused", cut, Some(("a.txt", b"abc")))?;
     assert_eq!(rt; found.status, 2);
     assert_eq!(rt; found.output.as_str(), "");
-    assert_eq!(rt; found.faults.as_str(), "btseed: M1 Bencode B1 Truncated 100\n");
+    assert_eq!(rt;
+        found.faults.as_str(),
+        "btseed: M1 Bencode B1 Truncated 100\n"
+    );
     for (text, faults) in [
         ("", "btseed: M1 Bencode B1 Truncated 0\n"),
         ("de", "btseed: M2 NoInfo\n"),
@@ -156,7 +170,11 @@ fn a_device_fault_is_told(rt: HostRuntime) -> Result<(), Fail> {
     let data = format!(in alloc; "{dir}/a.txt")?;
 
     // no torrent, a folder in its place, and a path through a file
-    for words in [[absent.as_str(), dir.as_str()], [dir.as_str(), dir.as_str()], [torrent.as_str(), through.as_str()]] {
+    for words in [
+        [absent.as_str(), dir.as_str()],
+        [dir.as_str(), dir.as_str()],
+        [torrent.as_str(), through.as_str()],
+    ] {
         let found = answer_to(&rt, &["check", words[0], words[1]])?;
         assert_eq!(rt; found.faults.as_str(), "btseed: device fault\n");
         assert_eq!(rt; found.output.as_str(), "");
@@ -179,7 +197,13 @@ fn a_device_fault_is_told(rt: HostRuntime) -> Result<(), Fail> {
 
 #[test]
 fn refused_words_are_told_what_helps(rt: HostRuntime) -> Result<(), Fail> {
-    let lists: [&[&str]; 5] = [&[], &["chek"], &["check"], &["check", "t"], &["check", "t", "d", "e"]];
+    let lists: [&[&str]; 5] = [
+        &[],
+        &["chek"],
+        &["check"],
+        &["check", "t"],
+        &["check", "t", "d", "e"],
+    ];
     for words in lists {
         let found = answer_to(&rt, words)?;
         assert_eq!(rt; found.status, 2);
@@ -276,7 +300,12 @@ fn short_reads_go_on(rt: HostRuntime) -> Result<(), Fail> {
     let root = digest(THREE_ROOT)?;
     let mut buffer = [0; BUFFER_LEN];
     for most in [1, 7, 16384, 65536] {
-        for (size, marked, longer) in [(0, 0, false), (49151, 0, false), (49152, 3, false), (49153, 3, true)] {
+        for (size, marked, longer) in [
+            (0, 0, false),
+            (49151, 0, false),
+            (49152, 3, false),
+            (49153, 3, true),
+        ] {
             let bytes = file.as_slice().get(..size).ok_or("too short")?;
             let mut reader = Slow {
                 bytes,
@@ -285,7 +314,15 @@ fn short_reads_go_on(rt: HostRuntime) -> Result<(), Fail> {
                 fails_at: u32::MAX,
             };
             let found = check_file(&mut reader, geometry, &root, &mut buffer);
-            assert_eq!(rt; found, Ok(Finding { blocks: 3, marked, longer }), "{size} bytes, {most} at a time");
+            assert_eq!(rt;
+                found,
+                Ok(Finding {
+                    blocks: 3,
+                    marked,
+                    longer
+                }),
+                "{size} bytes, {most} at a time"
+            );
         }
         let mut reader = Slow {
             bytes: file.as_slice(),
@@ -293,7 +330,10 @@ fn short_reads_go_on(rt: HostRuntime) -> Result<(), Fail> {
             reads: 0,
             fails_at: u32::MAX,
         };
-        assert_eq!(rt; read_text(rt.alloc(), &mut reader, &mut buffer)?.as_slice(), file.as_slice());
+        assert_eq!(rt;
+            read_text(rt.alloc(), &mut reader, &mut buffer)?.as_slice(),
+            file.as_slice()
+        );
     }
     Ok(())
 }
@@ -311,14 +351,23 @@ fn a_read_that_fails_is_a_device_fault(rt: HostRuntime) -> Result<(), Fail> {
             reads: 0,
             fails_at,
         };
-        assert_eq!(rt; check_file(&mut reader, geometry, &root, &mut buffer), Err(DeviceFault), "at read {fails_at}");
+        assert_eq!(rt;
+            check_file(&mut reader, geometry, &root, &mut buffer),
+            Err(DeviceFault),
+            "at read {fails_at}"
+        );
         let mut reader = Slow {
             bytes: file.as_slice(),
             most: 12288,
             reads: 0,
             fails_at,
         };
-        assert!(rt; matches!(read_text(rt.alloc(), &mut reader, &mut buffer), Err(Fault::Device)));
+        assert!(rt;
+            matches!(
+                read_text(rt.alloc(), &mut reader, &mut buffer),
+                Err(Fault::Device)
+            )
+        );
     }
     for fails_at in 0..2 {
         let mut reader = Slow {
