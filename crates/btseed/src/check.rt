@@ -1,6 +1,7 @@
 //! The command `check`.
 ghost use Rattle.std.specs.Prelude.{◌≡◌, ◌+◌, ◌^◌, take, IfOk, IfSome};
 ghost use Rattle.btseed.specs.Reading.{Gives};
+ghost use Rattle.btseed.specs.Telling.{TellsFiles};
 
 use crate::data_file::{BUFFER_LEN, Finding, check_empty, check_file, fill};
 use crate::fault::Fault;
@@ -21,7 +22,9 @@ pub struct Report {
 }
 
 /// Checks the files of a folder against a torrent, in the order of the torrent. The first fault ends it.
-pub fn check<R: Files + AllocGlobal>(rt: &R, torrent: &str, dir: &str) -> Result<Report, Fault> {
+pub fn check<R: Files + AllocGlobal>(rt: &R, torrent: &str, dir: &str) -> Result<Report, Fault>
+    ensures { IfOk result TellsFiles }
+{
     let alloc = rt.alloc();
     let mut buffer = [0; BUFFER_LEN];
     let torrent = load(rt, torrent, &mut buffer)?;
@@ -29,7 +32,7 @@ pub fn check<R: Files + AllocGlobal>(rt: &R, torrent: &str, dir: &str) -> Result
     let mut complete = true;
     for entry in torrent.files() {
         let finding = check_data(rt, dir, entry, &mut buffer)?;
-        complete = complete && finding.is_complete();
+        complete = complete & finding.is_complete();
         let path = joined(alloc, &entry.path)?;
         push_line(&mut lines, finding, shown(alloc, path.as_bytes())?.as_str())?;
     }

@@ -1,5 +1,5 @@
 //! Checking the bytes of a data file against the file's pieces root (BEP 52).
-ghost use Rattle.std.specs.Prelude.{◌≡◌, ◌≢◌, ◌+◌, ◌*◌, ◌<◌, ◌≤◌, ◌↔◌, false, ℕ, List, length, take, IsTrue, IfOk, IfNone, IfSome, OnErr};
+ghost use Rattle.std.specs.Prelude.{◌≡◌, ◌≢◌, ◌+◌, ◌*◌, ◌<◌, ◌≤◌, ℕ, List, length, take, IsTrue, IfOk, IfNone, IfSome, OnErr};
 ghost use Rattle.std.specs.Io.KnownBytes.{Consumes};
 ghost use Rattle.bt_tree.specs.Building.{first_block, node_end};
 ghost use Rattle.btseed.specs.Reading.{Gives, LosesFront, EndsEarly, GivesNode, TellsMore};
@@ -22,9 +22,11 @@ pub struct Finding {
 }
 
 impl Finding {
+    ghost use Rattle.btseed.specs.Telling.{is_whole};
+
     /// Whether the data file is the torrent's: all its blocks are marked, and it is not longer.
     pub fn is_complete(self) -> bool
-        ensures { IsTrue result ↔ ((self.marked ≡ self.blocks) × (self.longer ≡ false)) }
+        ensures { result ≡ is_whole self }
     {
         self.marked == self.blocks && !self.longer
     }

@@ -1,6 +1,6 @@
 //! The lines that tell what a check found.
-ghost use Rattle.std.specs.Prelude.{◌≡◌, ◌≢◌, ◌≤◌, ◌↔◌, IsTrue, IfOk, string_bytes, slice_index, EachIndex};
-ghost use Rattle.btseed.specs.Shown.{IsPrinted, IsUnmarked, IsPlain, in_hex};
+ghost use Rattle.std.specs.Prelude.{◌≡◌, ◌≢◌, ◌≤◌, ◌↔◌, ◌++◌, IsTrue, IfOk, OnOk, string_bytes, slice_index, EachIndex};
+ghost use Rattle.btseed.specs.Shown.{IsPrinted, IsUnmarked, IsPlain, in_hex, line_of, end_of};
 
 use crate::data_file::Finding;
 use std::alloc::{AllocError, Global};
@@ -44,7 +44,9 @@ fn is_printed(text: &[u8]) -> bool
 }
 
 /// Adds the line of one file.
-pub fn push_line(lines: &mut String, finding: Finding, path: &str) -> Result<(), AllocError> {
+pub fn push_line(lines: &mut String, finding: Finding, path: &str) -> Result<(), AllocError>
+    ensures { OnOk result (string_bytes lines.new ≡ string_bytes lines.old ++ line_of finding path.now) }
+{
     let Finding {
         blocks,
         marked,
@@ -60,7 +62,9 @@ pub fn push_line(lines: &mut String, finding: Finding, path: &str) -> Result<(),
 }
 
 /// Adds the last line.
-pub fn push_end(lines: &mut String, complete: bool) -> Result<(), AllocError> {
+pub fn push_end(lines: &mut String, complete: bool) -> Result<(), AllocError>
+    ensures { OnOk result (string_bytes lines.new ≡ string_bytes lines.old ++ end_of complete) }
+{
     if complete {
         writeln!(lines, "complete")
     } else {
