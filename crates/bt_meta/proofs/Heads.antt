@@ -1,0 +1,106 @@
+-- What the checks of an info dictionary's head come to, and what follows for the whole.
+use Rattle.std.proofs.Common.{◌≡◌, ℕ, Bool, true, false, List, [], ◌∷◌, ◌++◌, map, Option, None, Some, refl, sym, ◌∙◌}
+use Rattle.std.specs.Prelude.{codes, is_none, not}
+use Rattle.sha2.specs.Sha256.{sha256}
+use Rattle.bt_bencode.specs.Data.{Data}
+use Rattle.bt_bencode.specs.Spelling.{spelling_of}
+use Rattle.bt_bencode.specs.View.{data_of}
+use Rattle.bt_meta.specs.Fields.{integer_at, string_at, dictionary_at}
+use Rattle.bt_meta.specs.Files.{file_of}
+use Rattle.bt_meta.specs.Faults.{Check, first_of, fault_if, head_checks, info_checks, tree_checks, layer_checks, version_check, is_hybrid, is_piece_length, piece_length_of, tree_of, info_of, layers_of, first_fault}
+use Rattle.bt_meta.specs.Torrent.{metainfo_of}
+use Rattle.bt_meta.specs.Reading.{IsHead, IsShortListing}
+use Rattle.bt_meta.specs.declared.reader.Head.{Head}
+use Rattle.bt_meta.specs.declared.reader.Listing.{Listing}
+use Rattle.bt_meta.specs.declared.error.MetaError.{MetaError}
+use Rattle.bt_meta.specs.declared.error.MetaError.TheVariants.{Hybrid, NoName, PieceLength, Tree}
+use Rattle.bt_meta.proofs.Checks.{first_of-append}
+
+-- the five checks of a head, over what they look at
+abbrev five : Check → Bool → Option (List ℕ) → Bool → Option Data → List Check
+five version hybrid name lawful tree =
+    version ∷ fault_if hybrid Hybrid ∷ fault_if (is_none name) NoName ∷ fault_if (not lawful) PieceLength ∷ fault_if (is_none tree) Tree ∷ []
+
+five_version : (v : Check) (h : Bool) (n : Option (List ℕ)) (l : Bool) (t : Option Data) (e : MetaError) → Some e ≡ v → first_of (five v h n l t) ≡ Some e
+five_version v h n l t e p = rw (← p) refl
+
+five_hybrid : (v : Check) (h : Bool) (n : Option (List ℕ)) (l : Bool) (t : Option Data) → None ≡ v → true ≡ h → first_of (five v h n l t) ≡ Some Hybrid
+five_hybrid v h n l t p q = rw (← p, ← q) refl
+
+five_name : (v : Check) (h : Bool) (n : Option (List ℕ)) (l : Bool) (t : Option Data) → None ≡ v → false ≡ h → None ≡ n → first_of (five v h n l t) ≡ Some NoName
+five_name v h n l t p q r = rw (← p, ← q, ← r) refl
+
+five_length : (v : Check) (h : Bool) (n : Option (List ℕ)) (l : Bool) (t : Option Data) (name : List ℕ) → None ≡ v → false ≡ h → Some name ≡ n → l ≡ false → first_of (five v h n l t) ≡ Some PieceLength
+five_length v h n l t name p q r s = rw (← p, ← q, ← r, s) refl
+
+five_tree : (v : Check) (h : Bool) (n : Option (List ℕ)) (l : Bool) (t : Option Data) (name : List ℕ) → None ≡ v → false ≡ h → Some name ≡ n → l ≡ true → None ≡ t → first_of (five v h n l t) ≡ Some Tree
+five_tree v h n l t name p q r s u = rw (← p, ← q, ← r, s, ← u) refl
+
+five_none : (v : Check) (h : Bool) (n : Option (List ℕ)) (l : Bool) (t : Option Data) (name : List ℕ) (tree : Data) → None ≡ v → false ≡ h → Some name ≡ n → l ≡ true → Some tree ≡ t → first_of (five v h n l t) ≡ None
+five_none v h n l t name tree p q r s u = rw (← p, ← q, ← r, s, ← u) refl
+
+-- the same, of an info dictionary
+abbrev pub version_in : Data → Check
+version_in info = version_check (integer_at info (codes "meta version"))
+
+abbrev pub lawful_in : Data → Bool
+lawful_in info = is_piece_length (piece_length_of info)
+
+pub head_version : (info : Data) (e : MetaError) → Some e ≡ version_in info → first_of (head_checks info) ≡ Some e
+unfolding head_checks
+head_version info e p = five_version (version_in info) (is_hybrid info) (string_at info (codes "name")) (lawful_in info) (dictionary_at info (codes "file tree")) e p
+
+pub head_hybrid : (info : Data) → None ≡ version_in info → true ≡ is_hybrid info → first_of (head_checks info) ≡ Some Hybrid
+unfolding head_checks
+head_hybrid info p q = five_hybrid (version_in info) (is_hybrid info) (string_at info (codes "name")) (lawful_in info) (dictionary_at info (codes "file tree")) p q
+
+pub head_name : (info : Data) → None ≡ version_in info → false ≡ is_hybrid info → None ≡ string_at info (codes "name") → first_of (head_checks info) ≡ Some NoName
+unfolding head_checks
+head_name info p q r = five_name (version_in info) (is_hybrid info) (string_at info (codes "name")) (lawful_in info) (dictionary_at info (codes "file tree")) p q r
+
+pub head_length : (info : Data) (name : List ℕ) → None ≡ version_in info → false ≡ is_hybrid info → Some name ≡ string_at info (codes "name") → lawful_in info ≡ false → first_of (head_checks info) ≡ Some PieceLength
+unfolding head_checks
+head_length info name p q r s = five_length (version_in info) (is_hybrid info) (string_at info (codes "name")) (lawful_in info) (dictionary_at info (codes "file tree")) name p q r s
+
+pub head_tree : (info : Data) (name : List ℕ) → None ≡ version_in info → false ≡ is_hybrid info → Some name ≡ string_at info (codes "name") → lawful_in info ≡ true → None ≡ dictionary_at info (codes "file tree") → first_of (head_checks info) ≡ Some Tree
+unfolding head_checks
+head_tree info name p q r s t = five_tree (version_in info) (is_hybrid info) (string_at info (codes "name")) (lawful_in info) (dictionary_at info (codes "file tree")) name p q r s t
+
+tree_is : (info tree : Data) → Some tree ≡ dictionary_at info (codes "file tree") → tree_of info ≡ tree
+unfolding tree_of
+tree_is info tree e = rw (← e) refl
+
+pub head_is : (info : Data) (head : Head) → None ≡ version_in info → false ≡ is_hybrid info → Some head.name.now ≡ string_at info (codes "name")
+    → lawful_in info ≡ true → head.piece_length ≡ piece_length_of info → Some (data_of head.tree.now) ≡ dictionary_at info (codes "file tree") → IsHead info head
+unfolding head_checks
+head_is info head p q r s l t = record {
+  faultless = five_none (version_in info) (is_hybrid info) (string_at info (codes "name")) (lawful_in info) (dictionary_at info (codes "file tree")) head.name.now (data_of head.tree.now) p q r s t;
+  name = sym r;
+  piece_length = sym l;
+  lawful = rw l s;
+  tree = tree_is info (data_of head.tree.now) t;
+}
+
+pub first_fault_in : (torrent info : Data) → Some info ≡ dictionary_at torrent (codes "info")
+    → first_fault torrent ≡ first_of (info_checks info ++ layer_checks (piece_length_of info) (layers_of torrent) (tree_of info))
+unfolding first_fault info_of
+first_fault_in torrent info e = rw (← e) refl
+
+pub info_is : (torrent info : Data) → Some info ≡ dictionary_at torrent (codes "info") → info_of torrent ≡ info
+unfolding info_of
+info_is torrent info e = rw (← e) refl
+
+pub no_fault : (torrent info : Data) (head : Head) (listing : Listing) → Some info ≡ dictionary_at torrent (codes "info") → IsHead info head
+    → IsShortListing head.piece_length (data_of head.tree.now) listing → first_fault torrent ≡ None
+no_fault torrent info head listing e h l =
+    let checks : first_of (tree_checks (piece_length_of info) (tree_of info)) ≡ None = rw (h.piece_length, h.tree) l.faultless in
+    let layers : first_of (layer_checks (piece_length_of info) (layers_of torrent) (tree_of info)) ≡ None = rw (h.piece_length, h.tree) (l.layerless (layers_of torrent)) in
+    first_fault_in torrent info e
+    ∙ first_of-append (info_checks info) (layer_checks (piece_length_of info) (layers_of torrent) (tree_of info))
+    (first_of-append (head_checks info) (tree_checks (piece_length_of info) (tree_of info)) h.faultless ∙ checks)
+    ∙ layers
+
+pub metainfo_is : (info layers : Data) (head : Head) (listing : Listing) → IsHead info head → IsShortListing head.piece_length (data_of head.tree.now) listing
+    → metainfo_of info layers ≡ record { name = head.name.now; piece_length = head.piece_length; infohash = sha256 (spelling_of info); files = map file_of listing.files.items }
+unfolding metainfo_of
+metainfo_is info layers head listing h l = rw (h.name, h.piece_length, h.tree, l.files layers) refl

@@ -1,0 +1,5 @@
+pub mod Checks
+pub mod Kept
+pub mod Heads
+pub mod Single
+pub mod Elements

@@ -1,0 +1,45 @@
+-- The torrent that bytes spell (BEP 52, "metainfo files").
+use Rattle.std.specs.Prelude.{◌≡◌, ℕ, ◌^◌, ◌≤◌, List, [], length, codes, sum_by, unwrap_or, None}
+use Rattle.sha2.specs.Sha256.{sha256}
+use Rattle.bt_bencode.specs.Data.{Data}
+use Rattle.bt_bencode.specs.Spelling.{spelling_of, IsCanonical}
+use Rattle.bt_meta.specs.Fields.{string_at, no_dictionary}
+use Rattle.bt_meta.specs.Files.{File, files_of, piece_count}
+use Rattle.bt_meta.specs.Faults.{first_fault, first_info_fault, info_of, layers_of, piece_length_of, tree_of}
+
+pub record Metainfo : Type 0 where
+  pub name : List ℕ
+  pub piece_length : ℕ
+  pub infohash : List ℕ
+  pub files : List File
+
+-- what an info dictionary and these layers say
+unfoldable pub metainfo_of : Data → Data → Metainfo
+metainfo_of info layers = record {
+  name = unwrap_or (string_at info (codes "name")) [];
+  piece_length = piece_length_of info;
+  infohash = sha256 (spelling_of info);
+  files = files_of (piece_length_of info) layers (tree_of info);
+}
+
+-- the bytes spell the torrent: they are the canonical spelling of a value that has no fault, and it says this
+pub record IsTorrent (bytes : List ℕ) (torrent : Metainfo) : Type 0 where
+  pub value : Data
+  pub small : length bytes ≤ 2 ^ 27
+  pub canonical : IsCanonical value
+  pub spelled : spelling_of value ≡ bytes
+  pub faultless : first_fault value ≡ None
+  pub described : torrent ≡ metainfo_of (info_of value) (layers_of value)
+
+-- the same of an info dictionary alone, which says nothing of layers
+pub record IsInfo (bytes : List ℕ) (torrent : Metainfo) : Type 0 where
+  pub value : Data
+  pub small : length bytes ≤ 2 ^ 27
+  pub canonical : IsCanonical value
+  pub spelled : spelling_of value ≡ bytes
+  pub faultless : first_info_fault value ≡ None
+  pub described : torrent ≡ metainfo_of value no_dictionary
+
+-- how many pieces the files have together
+abbrev pub total_pieces : Metainfo → ℕ
+total_pieces torrent = sum_by (λ f. piece_count torrent.piece_length f.length) torrent.files

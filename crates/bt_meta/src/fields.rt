@@ -1,0 +1,92 @@
+//! What a dictionary holds at a key, by kind.
+ghost use Rattle.std.specs.Prelude.{◌≡◌, option_copied};
+ghost use Rattle.std.specs.Option.{option_map};
+ghost use Rattle.bt_bencode.specs.View.{data_of};
+ghost use Rattle.bt_meta.specs.Fields.{as_integer as integer_in, as_string as string_in, as_dictionary as dictionary_in, integer_at, natural_at, string_at, dictionary_at, has_key};
+ghost use Rattle.bt_meta.specs.Faults.{is_dictionary as is_dictionary_data};
+
+use bt_bencode::{Value, field};
+
+/// The integer at the key.
+pub fn integer(value: &Value, key: &[u8]) -> Option<i64>
+    ensures { result ≡ integer_at (data_of value.now) key.now }
+{
+    match field(value, key) {
+        Some(found) => as_integer(found),
+        None => None,
+    }
+}
+
+/// The integer at the key, if it is not negative.
+pub fn natural(value: &Value, key: &[u8]) -> Option<u64>
+    ensures { result ≡ natural_at (data_of value.now) key.now }
+{
+    match integer(value, key) {
+        Some(integer) => u64::try_from(integer).ok(),
+        None => None,
+    }
+}
+
+/// The string at the key.
+pub fn string<'a>(value: &'a Value, key: &[u8]) -> Option<&'a [u8]>
+    ensures { option_copied result ≡ string_at (data_of value.now) key.now }
+{
+    match field(value, key) {
+        Some(found) => as_string(found),
+        None => None,
+    }
+}
+
+/// The value at the key, which is a dictionary.
+pub fn dictionary<'a>(value: &'a Value, key: &[u8]) -> Option<&'a Value>
+    ensures { option_map data_of (option_copied result) ≡ dictionary_at (data_of value.now) key.now }
+{
+    match field(value, key) {
+        Some(found) => as_dictionary(found),
+        None => None,
+    }
+}
+
+/// Whether the dictionary has the key.
+pub fn has(value: &Value, key: &[u8]) -> bool
+    ensures { result ≡ has_key (data_of value.now) key.now }
+{
+    match field(value, key) {
+        Some(_) => true,
+        None => false,
+    }
+}
+
+/// Whether the value is a dictionary.
+pub fn is_dictionary(value: &Value) -> bool
+    ensures { result ≡ is_dictionary_data (data_of value.now) }
+{
+    matches!(value, Value::Dict(_))
+}
+
+fn as_integer(value: &Value) -> Option<i64>
+    ensures { result ≡ integer_in (data_of value.now) }
+{
+    match value {
+        Value::Int(integer) => Some(*integer),
+        Value::Bytes(_) | Value::List(_) | Value::Dict(_) => None,
+    }
+}
+
+fn as_string(value: &Value) -> Option<&[u8]>
+    ensures { option_copied result ≡ string_in (data_of value.now) }
+{
+    match value {
+        Value::Bytes(string) => Some(string.as_slice()),
+        Value::Int(_) | Value::List(_) | Value::Dict(_) => None,
+    }
+}
+
+fn as_dictionary(value: &Value) -> Option<&Value>
+    ensures { option_map data_of (option_copied result) ≡ dictionary_in (data_of value.now) }
+{
+    match value {
+        Value::Dict(_) => Some(value),
+        Value::Int(_) | Value::Bytes(_) | Value::List(_) => None,
+    }
+}

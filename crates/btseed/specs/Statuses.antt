@@ -1,0 +1,24 @@
+-- The statuses that the program exits with.
+use Rattle.std.specs.Prelude.{ℕ}
+use Rattle.bt_meta.specs.declared.error.MetaError.{MetaError}
+use Rattle.bt_meta.specs.declared.error.MetaError.TheVariants.{OutOfMemory as no_memory}
+use Rattle.btseed.specs.declared.fault.Fault.{Fault}
+use Rattle.btseed.specs.declared.fault.Fault.TheVariants.{Words, Refused, Device, OutOfMemory}
+
+-- 2 where the input is refused, 3 for a device, 4 for want of memory
+abbrev pub status_of : Fault → ℕ
+status_of Words = 2
+status_of (Refused refusal) = 2
+status_of Device = 3
+status_of OutOfMemory = 4
+
+abbrev pub device : Fault
+device = Device
+
+abbrev pub out_of_memory : Fault
+out_of_memory = OutOfMemory
+
+-- a refused growth is no refusal of the torrent
+abbrev pub fault_of : MetaError → Fault
+fault_of no_memory = OutOfMemory
+fault_of refusal = Refused refusal

@@ -1,0 +1,76 @@
+//! Why the program ends without an answer.
+ghost use Rattle.std.specs.Prelude.{◌≡◌};
+ghost use Rattle.btseed.specs.Statuses.{status_of, fault_of, out_of_memory, device};
+
+use bt_meta::MetaError;
+use std::alloc::{AllocError, AllocFailed};
+use thiserror::Error;
+
+/// A file, or a stream, could not be opened, read or written.
+#[derive(Clone, Copy, Debug, PartialEq, Eq, Error)]
+#[error("device fault")]
+pub struct DeviceFault;
+
+/// Why the program ends without an answer, as it tells it on standard error.
+#[derive(Clone, Copy, Debug, PartialEq, Eq, Error)]
+pub enum Fault {
+    /// A word of the command line is no text.
+    #[error("a word of the command line is not UTF-8")]
+    Words,
+    /// The torrent is refused.
+    #[error("{0}")]
+    Refused(MetaError),
+    /// A file, or a stream, could not be opened, read or written.
+    #[error("device fault")]
+    Device,
+    #[error("out of memory")]
+    OutOfMemory,
+}
+
+impl Fault {
+    /// The status that the program exits with: 2 where its input is refused, 3 for a device, 4 for memory.
+    pub fn status(self) -> u8
+        ensures { result ≡ status_of self }
+    {
+        match self {
+            Fault::Words | Fault::Refused(_) => 2,
+            Fault::Device => 3,
+            Fault::OutOfMemory => 4,
+        }
+    }
+}
+
+impl From<DeviceFault> for Fault {
+    ghost from_gives = { λ _ fault. fault ≡ device };
+
+    fn from(_fault: DeviceFault) -> Self {
+        Fault::Device
+    }
+}
+
+impl From<MetaError> for Fault {
+    ghost from_gives = { λ refusal fault. fault ≡ fault_of refusal };
+
+    fn from(refusal: MetaError) -> Self {
+        match refusal {
+            MetaError::OutOfMemory => Fault::OutOfMemory,
+            _ => Fault::Refused(refusal),
+        }
+    }
+}
+
+impl From<AllocError> for Fault {
+    ghost from_gives = { λ _ fault. fault ≡ out_of_memory };
+
+    fn from(_error: AllocError) -> Self {
+        Fault::OutOfMemory
+    }
+}
+
+impl<T: Drop> From<AllocFailed<T>> for Fault {
+    ghost from_gives = { λ _ fault. fault ≡ out_of_memory };
+
+    fn from(_error: AllocFailed<T>) -> Self {
+        Fault::OutOfMemory
+    }
+}

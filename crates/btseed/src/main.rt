@@ -1,0 +1,42 @@
+//! The program `btseed`, a seed store for the files of a BitTorrent v2 torrent (BEP 52).
+#![tactic(auto)]
+
+mod check;
+mod command_line;
+mod data_file;
+mod fault;
+mod program;
+mod report;
+
+use fault::Fault;
+use program::{run, tell};
+use std::env::{self, Env};
+use std::io::ErrorKind;
+use std::process::ExitCode;
+
+/// The words that follow the program's name.
+fn words(rt: &(impl Env + AllocGlobal)) -> Result<Vec<String>, Fault> {
+    match env::args(rt) {
+        Ok(words) => Ok(words.skip(1).collect(rt.alloc())?),
+        Err(error) if error.kind() == ErrorKind::OutOfMemory => Err(Fault::OutOfMemory),
+        Err(_) => Err(Fault::Words),
+    }
+}
+
+fn main(rt: HostRuntime) -> ExitCode {
+    let mut faults = rt.stderr();
+    let status = match words(&rt) {
+        Ok(words) => run(
+            &rt,
+            words.as_slice(),
+            &mut rt.stdin(),
+            &mut rt.stdout(),
+            &mut faults,
+        ),
+        Err(fault) => tell(fault, &mut faults),
+    };
+    ExitCode::from(status)
+}
+
+#[cfg(test)]
+mod tests;

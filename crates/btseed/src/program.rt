@@ -1,0 +1,90 @@
+//! The program, over any runtime and streams.
+ghost use Rattle.std.specs.Prelude.{◌≤◌, IfOk};
+
+use crate::check::check;
+use crate::command_line::{Task, parse};
+use crate::fault::Fault;
+use clap::Error;
+use clap::error::ErrorKind;
+use std::io::{Read, Write};
+use std::rt::Files;
+
+/// Does what the words ask for, which follow the program's name, and answers the exit status: 0 where all is complete
+/// or done, 1 where it is not, 2 where the words or the torrent are refused, 3 for a device that failed and 4 for want
+/// of memory.
+///
+/// What is found, and help, go to the writer; why there is no answer goes to `faults`.
+pub fn run<R: Files + AllocGlobal, I: Read, O: Write, E: Write>(
+    rt: &R,
+    words: &[String],
+    _reader: &mut I,
+    writer: &mut O,
+    faults: &mut E,
+) -> u8
+    ensures { result ≤ 4 }
+{
+    match attempt(rt, words, writer, faults) {
+        Ok(status) => status,
+        Err(fault) => tell(fault, faults),
+    }
+}
+
+/// Reads the words, and does what they ask for.
+fn attempt<R: Files + AllocGlobal, O: Write, E: Write>(
+    rt: &R,
+    words: &[String],
+    writer: &mut O,
+    faults: &mut E,
+) -> Result<u8, Fault>
+    ensures { IfOk result (λ status. status ≤ 2) }
+{
+    match parse(rt.alloc(), words) {
+        Ok(task) => perform(rt, task, writer),
+        Err(error) => explain(&error, writer, faults),
+    }
+}
+
+/// Does a task, and answers its status.
+fn perform<R: Files + AllocGlobal, O: Write>(
+    rt: &R,
+    task: Task<'_>,
+    writer: &mut O,
+) -> Result<u8, Fault>
+    ensures { IfOk result (λ status. status ≤ 1) }
+{
+    let Task::Check { torrent, dir } = task;
+    let report = check(rt, torrent, dir)?;
+    print(writer, report.lines.as_str())?;
+    Ok(if report.complete { 0 } else { 1 })
+}
+
+/// Prints help, or why the words are refused.
+fn explain<O: Write, E: Write>(error: &Error, writer: &mut O, faults: &mut E) -> Result<u8, Fault>
+    ensures { IfOk result (λ status. status ≤ 2) }
+{
+    if error.kind() == ErrorKind::OutOfMemory {
+        return Err(Fault::OutOfMemory);
+    }
+    if error.use_stderr() {
+        let _ = write!(faults, "{error}");
+        Ok(2)
+    } else {
+        write!(writer, "{error}").map_err(|_| Fault::Device)?;
+        Ok(0)
+    }
+}
+
+fn print<O: Write>(writer: &mut O, text: &str) -> Result<(), Fault> {
+    writer
+        .write_all(text.as_bytes())
+        .map_err(|_| Fault::Device)?;
+    writer.flush().map_err(|_| Fault::Device)
+}
+
+/// Tells why there is no answer, and answers the status. Where it can't be told, there is the status alone.
+pub fn tell<E: Write>(fault: Fault, faults: &mut E) -> u8
+    ensures { result ≤ 4 }
+{
+    let _ = writeln!(faults, "btseed: {fault}");
+    fault.status()
+}
