@@ -1,16 +1,15 @@
 -- Lemmas on what is found of a data file's bytes.
-use Rattle.std.proofs.Common.{◌≡◌, ◌≢◌, ℕ, ◌+◌, ◌*◌, ◌^◌, ◌<◌, ◌≤◌, ◌⊎◌, ◌↔◌, inl, inr, Bool, true, false, IsTrue, Option, None, Some, IfSome, List, [], ◌++◌, arith, length, take, drop, refl, sym, ap, ◌∙◌, subst, length-append, take_all, append-nil, true≢false}
+use Rattle.std.proofs.Common.{◌≡◌, ◌≢◌, ℕ, ◌+◌, ◌*◌, ◌^◌, ◌≤◌, inl, inr, false, Option, None, Some, IfSome, List, [], ◌++◌, arith, length, take, sym, ap, ◌∙◌, subst, length-append, take_all, append-nil, true≢false}
 use Rattle.std.proofs.lemmas.Bool.{cases_lt}
 use Rattle.std.proofs.KnownBytes.{Consumes-trans}
-use Rattle.std.specs.Io.KnownBytes.{Consumes, IsAtEnd}
 use Rattle.sha2.specs.Sha256.{sha256}
 use Rattle.bt_tree.specs.Blocks.{block_count, HasRun}
 use Rattle.bt_tree.specs.Building.{Building, BuildsFrom, first_block, node_end}
 use Rattle.bt_tree.specs.Tree.{file_root, node_digest}
-use Rattle.bt_tree.specs.TreeShape.{height_of, IsHeight}
+use Rattle.bt_tree.specs.TreeShape.{height_of}
 use Rattle.bt_tree.proofs.Shapes.{height_is}
-use Rattle.btseed.specs.Reading.{Gives, LosesFront, EndsEarly, GivesNode, TellsMore}
-use Rattle.btseed.specs.Checking.{HasFile, IsFindingOf, IsFindingAt}
+use Rattle.btseed.specs.Reading.{LosesFront, EndsEarly, GivesNode, TellsMore}
+use Rattle.btseed.specs.Checking.{IsFindingOf, IsFindingAt}
 use Rattle.btseed.specs.declared.data_file.Finding.{Finding}
 use lib.Seq.{take-append-le}
 

@@ -1,12 +1,12 @@
 -- Lemmas on the bytes below a node, which are read in runs of whole blocks.
-use Rattle.std.proofs.Common.{◌≡◌, ℕ, ◌+◌, ◌-◌, ◌*◌, ◌/◌, ◌%◌, ◌^◌, ◌<◌, ◌≤◌, ◌⊎◌, inl, inr, min, List, [], ◌++◌, Option, arith, length, take, drop, refl, sym, ap, ◌∙◌, length-append, take_all, subst, length-take-le}
+use Rattle.std.proofs.Common.{◌≡◌, ℕ, ◌+◌, ◌-◌, ◌*◌, ◌%◌, ◌^◌, ◌<◌, ◌≤◌, ◌⊎◌, inl, inr, min, List, [], ◌++◌, Option, arith, length, take, drop, refl, sym, ap, ◌∙◌, length-append, take_all, subst, length-take-le}
 use Rattle.std.proofs.KnownBytes.{Consumes-nil, Consumes-trans}
 use Rattle.std.proofs.lemmas.Bool.{cases_lt}
 use Rattle.std.proofs.lemmas.List.{take-take, drop-take, drop-drop}
 use Rattle.std.specs.Io.KnownBytes.{Consumes}
 use Rattle.sha2.specs.Sha256.{sha256}
 use Rattle.bt_tree.specs.Blocks.{block_count, HasRun}
-use Rattle.bt_tree.specs.Building.{Building, BuildsFrom, IsNextRun, TakesBlocks, IsComplete, first_block, next_block, node_end, blocks_below}
+use Rattle.bt_tree.specs.Building.{Building, BuildsFrom, IsNextRun, TakesBlocks, IsComplete, first_block, next_block, node_end}
 use Rattle.bt_tree.specs.Tree.{node_digest}
 use Rattle.btseed.specs.Reading.{Gives, LosesFront, EndsEarly, GivesNode}
 use lib.Seq.{take-append-le, drop_at}

@@ -1,5 +1,5 @@
 -- What was read of a reader, whose bytes left are known or not.
-use Rattle.std.specs.Prelude.{◌≡◌, ℕ, ◌+◌, ◌*◌, ◌<◌, ◌≤◌, ◌↔◌, List, Option, Bool, length, IsTrue}
+use Rattle.std.specs.Prelude.{◌≡◌, ℕ, ◌*◌, ◌<◌, ◌≤◌, ◌↔◌, List, Option, Bool, length, IsTrue}
 use Rattle.std.specs.Io.KnownBytes.{Consumes, IsAtEnd}
 use Rattle.sha2.specs.Sha256.{sha256}
 use Rattle.bt_tree.specs.Blocks.{HasRun}

@@ -33,7 +33,7 @@ abbrev pub line_of : Finding → List ℕ → List ℕ
 line_of finding path = ended (
     if finding.longer then codes "longer " ++ path
     else (if finding.marked == finding.blocks then codes "complete " ++ path
-      else decimal finding.marked ++ codes " of " ++ decimal finding.blocks ++ codes " " ++ path))
+    else decimal finding.marked ++ codes " of " ++ decimal finding.blocks ++ codes " " ++ path))
 
 -- the last line
 abbrev pub end_of : Bool → List ℕ

@@ -1,4 +1,4 @@
-use Rattle.std.proofs.Common.{◌≡◌, ◌+◌, ◌-◌, ◌^◌, ◌≤◌, rules, arith, length}
+use Rattle.std.proofs.Common.{◌≡◌, ◌+◌, ◌-◌, ◌^◌, ◌≤◌, rules, length}
 use Rattle.btseed.proofs.TextReads.{text_ended, text_full, text_told}
 use Rattle.btseed.proofs.check.read_text.Goals as goal
 

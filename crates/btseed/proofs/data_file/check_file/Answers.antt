@@ -1,4 +1,4 @@
-use Rattle.std.proofs.Common.{◌≡◌, List, rules, ap, refl}
+use Rattle.std.proofs.Common.{ap}
 use Rattle.std.proofs.lemmas.Result.{err_from_is_err_and}
 use Rattle.bt_tree.specs.Building.{Building}
 use Rattle.btseed.proofs.Findings.{root_covers, found_node, finding_told, node_lost}

@@ -1,4 +1,3 @@
-use Rattle.std.proofs.Common.{rules, ◌-◌, length}
 use Rattle.btseed.proofs.Fills.{filled_more, filled_kept}
 use Rattle.btseed.proofs.data_file.fill.Goals as goal
 use Rattle.btseed.proofs.data_file.fill.Goals.{in-Ok, in-Err}

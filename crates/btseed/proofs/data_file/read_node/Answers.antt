@@ -1,6 +1,6 @@
-use Rattle.std.proofs.Common.{◌≡◌, rules, arith, length}
+use Rattle.std.proofs.Common.{◌≡◌, rules, length}
 use Rattle.std.proofs.lemmas.Result.{err_from_is_err_and}
-use Rattle.btseed.proofs.NodeReads.{reading_begun, reading_lost, reading_more, reading_complete, reading_done, next_run, wanted_of, all_came, some_came}
+use Rattle.btseed.proofs.NodeReads.{reading_begun, reading_lost, reading_more, next_run, wanted_of, all_came, some_came}
 use Rattle.btseed.proofs.data_file.read_node.Goals as goal
 
 pub loop-rest-init : goal.loop-rest-init
