@@ -3,3 +3,4 @@ pub mod Kept
 pub mod Heads
 pub mod Single
 pub mod Elements
+pub mod Placing

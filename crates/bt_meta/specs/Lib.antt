@@ -6,3 +6,4 @@ pub mod Layers
 pub mod Faults
 pub mod Torrent
 pub mod Reading
+pub mod Place

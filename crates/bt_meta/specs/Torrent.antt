@@ -1,5 +1,5 @@
 -- The torrent that bytes spell (BEP 52, "metainfo files").
-use Rattle.std.specs.Prelude.{◌≡◌, ℕ, ◌^◌, ◌≤◌, List, [], length, codes, sum_by, unwrap_or, None}
+use Rattle.std.specs.Prelude.{◌≡◌, ℕ, ◌^◌, ◌<◌, ◌≤◌, List, [], length, take, get_or, codes, sum_by, unwrap_or, None}
 use Rattle.sha2.specs.Sha256.{sha256}
 use Rattle.bt_bencode.specs.Data.{Data}
 use Rattle.bt_bencode.specs.Spelling.{spelling_of, IsCanonical}
@@ -43,3 +43,9 @@ pub record IsInfo (bytes : List ℕ) (torrent : Metainfo) : Type 0 where
 -- how many pieces the files have together
 abbrev pub total_pieces : Metainfo → ℕ
 total_pieces torrent = sum_by (λ f. piece_count torrent.piece_length f.length) torrent.files
+
+-- the files take the pieces one after the other, and are no more than 65,536
+pub record IsLaidOut (torrent : Metainfo) : Type 0 where
+  pub few : length torrent.files ≤ 65536
+  pub in_turn : (k : ℕ) (d : File) → k < length torrent.files
+      → (get_or torrent.files k d).first_piece ≡ sum_by (λ f. piece_count torrent.piece_length f.length) (take k torrent.files)

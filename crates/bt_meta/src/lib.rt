@@ -8,7 +8,7 @@ mod torrent;
 
 pub use error::MetaError;
 pub use reader::{MAX_TEXT_LENGTH, read_torrent};
-pub use torrent::{FileEntry, Torrent};
+pub use torrent::{FileEntry, Span, Torrent};
 
 #[cfg(test)]
 mod tests;

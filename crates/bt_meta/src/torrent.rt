@@ -1,6 +1,7 @@
-ghost use Rattle.std.specs.Prelude.{◌≡◌, ◌+◌, ◌*◌, ◌^◌, ◌<◌, ◌≤◌, map};
+ghost use Rattle.std.specs.Prelude.{◌≡◌, ◌+◌, ◌*◌, ◌^◌, ◌<◌, ◌≤◌, map, IfSome, IfNone};
 ghost use Rattle.bt_meta.specs.Files.{file_of};
-ghost use Rattle.bt_meta.specs.Torrent.{total_pieces};
+ghost use Rattle.bt_meta.specs.Torrent.{total_pieces, IsLaidOut};
+ghost use Rattle.bt_meta.specs.Place.{IsPlace, IsLastBegun, HasNoneBegun};
 
 use bt_tree::Hash32;
 use std::marker::Model;
@@ -20,6 +21,20 @@ pub struct FileEntry {
     pub layer: Vec<u8>,
 }
 
+/// Where a range of a piece lies: in one file of the torrent.
+#[derive(Clone, Copy, Debug, PartialEq, Eq)]
+pub struct Span {
+    /// The index of the file.
+    pub file: u32,
+    /// The byte of the file at which the range begins.
+    pub start: u64,
+    /// How many bytes it has.
+    pub length: u32,
+}
+
+/// The longest range that a peer may ask for: one block (BEP 3).
+const MAX_RANGE: u32 = 16_384;
+
 /// A torrent: its name, its piece length, its infohash and its files.
 #[derive(Debug, Drop)]
 pub struct Torrent {
@@ -33,13 +48,13 @@ pub struct Torrent {
 impl Model for Torrent {
     ghost use Rattle.std.specs.Prelude.{◌≡◌, map};
     ghost use Rattle.bt_meta.specs.Files.{file_of};
-    ghost use Rattle.bt_meta.specs.Torrent.{Metainfo, total_pieces};
+    ghost use Rattle.bt_meta.specs.Torrent.{Metainfo, total_pieces, IsLaidOut};
 
     ghost Value = { Metainfo };
 
     ghost view = { λ t. record { name = t.name.items; piece_length = t.piece_length; infohash = t.infohash; files = map file_of t.files.items } };
 
-    ghost invariant = { λ t. t.pieces ≡ total_pieces (record { name = t.name.items; piece_length = t.piece_length; infohash = t.infohash; files = map file_of t.files.items }) };
+    ghost invariant = { λ t. (t.pieces ≡ total_pieces (record { name = t.name.items; piece_length = t.piece_length; infohash = t.infohash; files = map file_of t.files.items })) × IsLaidOut (record { name = t.name.items; piece_length = t.piece_length; infohash = t.infohash; files = map file_of t.files.items }) };
 }
 
 impl Torrent {
@@ -50,7 +65,8 @@ impl Torrent {
         infohash: Hash32,
         files: Vec<FileEntry>,
     ) -> Self
-        requires { pieces ≡ total_pieces (record { name = name.items; piece_length = piece_length; infohash = infohash; files = map file_of files.items }) }
+        requires counted { pieces ≡ total_pieces (record { name = name.items; piece_length = piece_length; infohash = infohash; files = map file_of files.items }) }
+        requires laid_out { IsLaidOut (record { name = name.items; piece_length = piece_length; infohash = infohash; files = map file_of files.items }) }
         ensures { result ≡ record { name = name.items; piece_length = piece_length; infohash = infohash; files = map file_of files.items } }
     {
         Torrent {
@@ -95,5 +111,39 @@ impl Torrent {
         ensures { map file_of result.now ≡ self.now.files }
     {
         &self.files
+    }
+
+    /// Where so many bytes of a piece lie, from one of its bytes on. None where they are none, more than 16,384, or not
+    /// all in the piece.
+    pub fn place(&self, piece: u32, begin: u32, length: u32) -> Option<Span>
+        ensures some { IfSome result (IsPlace self.now piece begin length) }
+        ensures none { IfNone result ((span : Span) → ¬ IsPlace self.now piece begin length span) }
+    {
+        let Some(index) = self.last_begun(piece) else {
+            return None;
+        };
+        let file = &self.files[index];
+        let at = (piece - file.first_piece) as u64 * self.piece_length as u64;
+        let end = begin as u64 + length as u64;
+        if length == 0 || length > MAX_RANGE || end > self.piece_length as u64 || at + end > file.length
+        {
+            return None;
+        }
+        Some(Span {
+            file: index as u32,
+            start: at + begin as u64,
+            length,
+        })
+    }
+
+    /// The last file that begins at the piece or before it. Where a piece is a file's, it is this one's.
+    fn last_begun(&self, piece: u32) -> Option<usize>
+        ensures some { IfSome result (IsLastBegun self.now.files piece) }
+        ensures none { IfNone result (HasNoneBegun self.now.files piece) }
+    {
+        let begun = self
+            .files
+            .partition_point(|file| file.first_piece <= piece);
+        begun.checked_sub(1)
     }
 }

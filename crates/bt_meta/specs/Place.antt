@@ -1,0 +1,28 @@
+-- Where a range of a piece lies (BEP 52: each file that is not empty begins at a piece's boundary).
+use Rattle.std.specs.Prelude.{◌≡◌, ℕ, ◌+◌, ◌-◌, ◌*◌, ◌<◌, ◌≤◌, List, length, get_or}
+use Rattle.bt_meta.specs.Files.{File, piece_count}
+use Rattle.bt_meta.specs.Torrent.{Metainfo}
+use Rattle.bt_meta.specs.declared.torrent.Span.{Span}
+
+-- so many bytes of a piece, from the byte `begin` on, are those of the span
+pub record IsPlace (torrent : Metainfo) (piece begin count : ℕ) (span : Span) : Type 0 where
+  pub file : File
+  pub listed : span.file < length torrent.files
+  pub found : (d : File) → get_or torrent.files span.file d ≡ file
+  pub from : file.first_piece ≤ piece
+  pub below : piece < file.first_piece + piece_count torrent.piece_length file.length
+  pub start : span.start ≡ (piece - file.first_piece) * torrent.piece_length + begin
+  pub all : span.length ≡ count
+  pub some : 1 ≤ count
+  pub block : count ≤ 16384
+  pub in_piece : begin + count ≤ torrent.piece_length
+  pub in_file : span.start + count ≤ file.length
+
+-- the file is the last that begins at the piece or before it
+pub record IsLastBegun (files : List File) (piece index : ℕ) : Type 0 where
+  pub listed : index < length files
+  pub begun : (d : File) → (get_or files index d).first_piece ≤ piece
+  pub last : (k : ℕ) (d : File) → index < k → k < length files → piece < (get_or files k d).first_piece
+
+abbrev pub HasNoneBegun : List File → ℕ → Type 0
+HasNoneBegun files piece = (k : ℕ) (d : File) → k < length files → piece < (get_or files k d).first_piece
