@@ -4,3 +4,4 @@ pub mod Heads
 pub mod Single
 pub mod Elements
 pub mod Placing
+pub mod Turns
