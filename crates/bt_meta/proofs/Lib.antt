@@ -1,5 +1,4 @@
 pub mod Checks
 pub mod Kept
 pub mod Heads
-pub mod Single
-pub mod Elements
+pub mod Facts

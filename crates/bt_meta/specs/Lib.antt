@@ -5,4 +5,6 @@ pub mod Files
 pub mod Layers
 pub mod Faults
 pub mod Torrent
+pub mod Refusals
 pub mod Reading
+pub mod Walks
