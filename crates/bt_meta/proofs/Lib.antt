@@ -1,7 +1,6 @@
 pub mod Checks
 pub mod Kept
 pub mod Heads
-pub mod Single
-pub mod Elements
+pub mod Facts
 pub mod Placing
 pub mod Turns

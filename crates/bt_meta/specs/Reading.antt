@@ -1,13 +1,21 @@
 -- What the parts of a reading tell.
-use Rattle.std.specs.Prelude.{◌≡◌, ℕ, ◌≤◌, List, [], ◌∷◌, map, sum_by, codes, None, Some, true, false}
+use Rattle.std.specs.Prelude.{◌≡◌, ℕ, ◌≤◌, ◌^◌, ◌⊎◌, List, [], ◌∷◌, map, sum_by, codes, unwrap_or, is_none, not, nat_lt, if◌then◌else◌, None, Some, true}
+use Rattle.std.specs.List.{All}
 use Rattle.bt_bencode.specs.Data.{Data}
 use Rattle.bt_bencode.specs.View.{data_of}
-use Rattle.bt_meta.specs.Fields.{string_at, has_key}
-use Rattle.bt_meta.specs.Files.{file_of, piece_count, files_of, length_in, root_in}
-use Rattle.bt_meta.specs.Faults.{first_of, head_checks, piece_length_of, is_piece_length, tree_of, tree_checks, layer_checks, is_path_element, has_lawful_length, has_lawful_root}
+use Rattle.bt_meta.specs.Fields.{string_at, no_dictionary}
+use Rattle.bt_meta.specs.Files.{File, file_of, piece_count, files_of}
+use Rattle.bt_meta.specs.Layers.{has_layer_size, has_root}
+use Rattle.bt_meta.specs.Faults.{Check, first_of, fault_if, head_checks, piece_length_of, is_piece_length, tree_of, tree_checks}
+use Rattle.bt_meta.specs.declared.error.MetaError.{MetaError}
+use Rattle.bt_meta.specs.declared.error.MetaError.TheVariants.{LayerMissing, LayerSize, LayerDiffers, OutOfMemory}
 use Rattle.bt_meta.specs.declared.reader.Head.{Head}
-use Rattle.bt_meta.specs.declared.reader.Listing.{Listing}
+use Rattle.bt_meta.specs.declared.walk.Listing.{Listing}
 use Rattle.bt_meta.specs.declared.torrent.FileEntry.{FileEntry}
+
+-- want of memory, or the fault that the check finds
+abbrev pub Refuses : Check → MetaError → Type 0
+Refuses check e = (e ≡ OutOfMemory) ⊎ (check ≡ Some e)
 
 -- an info dictionary whose head has no fault says this
 pub record IsHead (info : Data) (head : Head) : Type 0 where
@@ -21,18 +29,45 @@ pub record IsHead (info : Data) (head : Head) : Type 0 where
 abbrev pub pieces_in : ℕ → List FileEntry → ℕ
 pieces_in piece_length files = sum_by (λ f. piece_count piece_length f.length) (map file_of files)
 
--- a file at the top of a tree, of at most one piece, with these properties
-pub record IsShortFile (piece_length : ℕ) (element : List ℕ) (properties : Data) (entry : FileEntry) : Type 0 where
-  pub named : is_path_element element ≡ true
-  pub no_link : has_key properties (codes "symlink path") ≡ false
-  pub lawful : has_lawful_length properties ≡ true
-  pub rooted : has_lawful_root properties ≡ true
-  pub short : length_in properties ≤ piece_length
-  pub kept : file_of entry ≡ record { path = element ∷ []; length = length_in properties; root = root_in properties; first_piece = 0; layer = [] }
+-- no file is longer than 2 ^ 40 bytes
+abbrev pub AreShort : List File → Type 0
+AreShort files = All (λ f. f.length ≤ 2 ^ 40) files
 
--- the files of a tree without a fault, which need no layer
-pub record IsShortListing (piece_length : ℕ) (tree : Data) (listing : Listing) : Type 0 where
+-- the files of a tree without a fault, without their layers
+pub record IsListing (piece_length : ℕ) (tree : Data) (listing : Listing) : Type 0 where
   pub faultless : first_of (tree_checks piece_length tree) ≡ None
-  pub layerless : (layers : Data) → first_of (layer_checks piece_length layers tree) ≡ None
-  pub files : (layers : Data) → map file_of listing.files.items ≡ files_of piece_length layers tree
+  pub files : map file_of listing.files.items ≡ files_of piece_length no_dictionary tree
   pub pieces : listing.pieces ≡ pieces_in piece_length listing.files.items
+  pub short : AreShort (map file_of listing.files.items)
+
+-- ---- layers
+
+-- the string at the root, for a file longer than a piece
+abbrev pub layer_for : ℕ → Data → File → List ℕ
+layer_for piece_length layers f = if nat_lt piece_length f.length then unwrap_or (string_at layers f.root) [] else []
+
+-- the file with its layer
+abbrev pub with_layer : ℕ → Data → File → File
+with_layer piece_length layers f = record f { layer = layer_for piece_length layers f }
+
+-- what is wrong with these bytes as the layer of a file of so many bytes with this root
+abbrev pub layer_bytes_fault : ℕ → ℕ → List ℕ → List ℕ → Check
+layer_bytes_fault piece_length bytes root layer = first_of (
+    fault_if (not (has_layer_size piece_length bytes layer)) LayerSize
+    ∷ fault_if (not (has_root piece_length bytes root layer)) LayerDiffers
+    ∷ [])
+
+-- what is wrong with the layer of the file
+abbrev pub layer_fault : ℕ → Data → File → Check
+layer_fault piece_length layers f =
+    if nat_lt piece_length f.length then first_of (
+    fault_if (is_none (string_at layers f.root)) LayerMissing
+    ∷ layer_bytes_fault piece_length f.length f.root (layer_for piece_length layers f)
+    ∷ []) else None
+
+abbrev pub layer_faults : ℕ → Data → List File → List Check
+layer_faults piece_length layers files = map (layer_fault piece_length layers) files
+
+-- both hold the same strings
+abbrev pub HasStringsOf : Data → Data → Type 0
+HasStringsOf layers others = (key : List ℕ) → string_at layers key ≡ string_at others key

@@ -8,7 +8,7 @@ ghost use Rattle.bt_meta.specs.Faults.{is_dictionary as is_dictionary_data};
 use bt_bencode::{Value, field};
 
 /// The integer at the key.
-pub fn integer(value: &Value, key: &[u8]) -> Option<i64>
+pub(crate) fn integer(value: &Value, key: &[u8]) -> Option<i64>
     ensures { result ≡ integer_at (data_of value.now) key.now }
 {
     match field(value, key) {
@@ -18,7 +18,7 @@ pub fn integer(value: &Value, key: &[u8]) -> Option<i64>
 }
 
 /// The integer at the key, if it is not negative.
-pub fn natural(value: &Value, key: &[u8]) -> Option<u64>
+pub(crate) fn natural(value: &Value, key: &[u8]) -> Option<u64>
     ensures { result ≡ natural_at (data_of value.now) key.now }
 {
     match integer(value, key) {
@@ -28,7 +28,7 @@ pub fn natural(value: &Value, key: &[u8]) -> Option<u64>
 }
 
 /// The string at the key.
-pub fn string<'a>(value: &'a Value, key: &[u8]) -> Option<&'a [u8]>
+pub(crate) fn string<'a>(value: &'a Value, key: &[u8]) -> Option<&'a [u8]>
     ensures { option_copied result ≡ string_at (data_of value.now) key.now }
 {
     match field(value, key) {
@@ -38,7 +38,7 @@ pub fn string<'a>(value: &'a Value, key: &[u8]) -> Option<&'a [u8]>
 }
 
 /// The value at the key, which is a dictionary.
-pub fn dictionary<'a>(value: &'a Value, key: &[u8]) -> Option<&'a Value>
+pub(crate) fn dictionary<'a>(value: &'a Value, key: &[u8]) -> Option<&'a Value>
     ensures { option_map data_of (option_copied result) ≡ dictionary_at (data_of value.now) key.now }
 {
     match field(value, key) {
@@ -48,7 +48,7 @@ pub fn dictionary<'a>(value: &'a Value, key: &[u8]) -> Option<&'a Value>
 }
 
 /// Whether the dictionary has the key.
-pub fn has(value: &Value, key: &[u8]) -> bool
+pub(crate) fn has(value: &Value, key: &[u8]) -> bool
     ensures { result ≡ has_key (data_of value.now) key.now }
 {
     match field(value, key) {
@@ -58,7 +58,7 @@ pub fn has(value: &Value, key: &[u8]) -> bool
 }
 
 /// Whether the value is a dictionary.
-pub fn is_dictionary(value: &Value) -> bool
+pub(crate) fn is_dictionary(value: &Value) -> bool
     ensures { result ≡ is_dictionary_data (data_of value.now) }
 {
     matches!(value, Value::Dict(_))
@@ -73,7 +73,7 @@ fn as_integer(value: &Value) -> Option<i64>
     }
 }
 
-fn as_string(value: &Value) -> Option<&[u8]>
+pub(crate) fn as_string(value: &Value) -> Option<&[u8]>
     ensures { option_copied result ≡ string_in (data_of value.now) }
 {
     match value {

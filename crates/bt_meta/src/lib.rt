@@ -1,13 +1,18 @@
 //! Torrents of BitTorrent v2 (BEP 52).
 #![tactic(auto)]
 
+mod elements;
 mod error;
 mod fields;
+mod layers;
+mod make;
 mod reader;
 mod torrent;
+mod walk;
 
 pub use error::MetaError;
-pub use reader::{MAX_TEXT_LENGTH, read_torrent};
+pub use make::{Made, MakeError, make};
+pub use reader::{MAX_TEXT_LENGTH, read_info, read_torrent};
 pub use torrent::{FileEntry, Span, Torrent};
 
 #[cfg(test)]

@@ -1,36 +1,35 @@
 //! Reading torrents.
-ghost use Rattle.std.specs.Prelude.{◌≡◌, ℕ, ◌^◌, ◌<◌, ◌≤◌, ◌∷◌, [], map, codes, replicate, length, IfOk, IfErr, IfSome, MatchResult, option_copied, Option, None, Some, true, false, if◌then◌else◌};
+ghost use Rattle.std.specs.Prelude.{◌≡◌, ℕ, map, codes, IfOk, IfErr, MatchResult, Option, None, Some, if◌then◌else◌};
 ghost use Rattle.std.specs.Result.{result_err};
 ghost use Rattle.sha2.specs.Sha256.{sha256};
-ghost use Rattle.bt_bencode.specs.Data.{Data, dictionary as dictionary_of, no_entries, entry};
-ghost use Rattle.bt_bencode.specs.Spelling.{spelling_of};
+ghost use Rattle.bt_bencode.specs.Spelling.{spelling_of, HasAscendingKeys};
 ghost use Rattle.bt_bencode.specs.View.{data_of};
-ghost use Rattle.bt_meta.specs.Fields.{integer_at};
-ghost use Rattle.bt_meta.specs.Files.{file_of, files_of, length_in, root_in};
-ghost use Rattle.bt_meta.specs.Faults.{first_of, head_checks, tree_checks, first_fault, version_check, is_hybrid as is_hybrid_info, is_piece_length as is_lawful_piece_length, piece_length_of, info_of, layers_of, is_path_element, is_dots as is_dots_element, has_lawful_length, has_lawful_root};
-ghost use Rattle.bt_meta.specs.Torrent.{IsTorrent, Metainfo, metainfo_of};
-ghost use Rattle.bt_meta.specs.Reading.{IsHead, IsShortFile, IsShortListing, pieces_in};
+ghost use Rattle.bt_meta.specs.Fields.{integer_at, no_dictionary};
+ghost use Rattle.bt_meta.specs.Files.{file_of};
+ghost use Rattle.bt_meta.specs.Faults.{first_of, head_checks, first_fault, first_info_fault, version_check, is_hybrid as is_hybrid_info, is_piece_length as is_lawful_piece_length, piece_length_of, info_of, layers_of};
+ghost use Rattle.bt_meta.specs.Torrent.{IsTorrent, IsInfo, metainfo_of};
+ghost use Rattle.bt_meta.specs.Refusals.{IsRefused};
+ghost use Rattle.bt_meta.specs.Reading.{IsHead, Refuses, pieces_in};
 
 use crate::error::MetaError;
 use crate::fields::{dictionary, has, integer, is_dictionary, natural, string};
-use crate::torrent::{FileEntry, Torrent};
+use crate::layers::add_layers;
+use crate::torrent::Torrent;
+use crate::walk::{Listing, read_tree};
 use bt_bencode::{Value, parse, write};
 use bt_tree::Hash32;
 use sha2::{Digest, Sha256};
 use std::alloc::{AllocError, Global};
-use std::str;
 
 /// The longest text of a torrent that is read: 2^27 bytes.
 pub const MAX_TEXT_LENGTH: usize = 1 << 27;
 
-/// The longest file: 2^40 bytes.
-const MAX_FILE_LENGTH: u64 = 1 << 40;
-
 /// The torrent that the bytes spell.
 ///
-/// The file tree has one file, at the top, of at most one piece; another tree is `Tree`, a longer file `FileLength`.
+/// Errors: the first of [`MetaError`] that applies; want of memory may stand in place of any.
 pub fn read_torrent(alloc: Global, bytes: &[u8]) -> Result<Torrent, MetaError>
-    ensures { IfOk result (IsTorrent bytes.now) }
+    ensures torrent { IfOk result (IsTorrent bytes.now) }
+    ensures refused { IfErr result (IsRefused first_fault bytes.now) }
 {
     if bytes.len() > MAX_TEXT_LENGTH {
         return Err(MetaError::TooMany);
@@ -39,16 +38,48 @@ pub fn read_torrent(alloc: Global, bytes: &[u8]) -> Result<Torrent, MetaError>
     torrent_in(alloc, doc.value())
 }
 
+/// The torrent whose `info` the bytes spell: it has no layers, and none is looked for.
+///
+/// Errors: those of [`read_torrent`] but the three of layers, in its order.
+pub fn read_info(alloc: Global, bytes: &[u8]) -> Result<Torrent, MetaError>
+    ensures torrent { IfOk result (IsInfo bytes.now) }
+    ensures refused { IfErr result (IsRefused first_info_fault bytes.now) }
+{
+    if bytes.len() > MAX_TEXT_LENGTH {
+        return Err(MetaError::TooMany);
+    }
+    let doc = parse(alloc, bytes)?;
+    info_in(alloc, doc.value())
+}
+
 /// The torrent that the value describes.
 fn torrent_in(alloc: Global, value: &Value) -> Result<Torrent, MetaError>
+    requires { HasAscendingKeys (data_of value.now) }
     ensures faultless { IfOk result (λ _. first_fault (data_of value.now) ≡ None) }
     ensures described { IfOk result (λ torrent. torrent ≡ metainfo_of (info_of (data_of value.now)) (layers_of (data_of value.now))) }
+    ensures refused { IfErr result (Refuses (first_fault (data_of value.now))) }
 {
     let Some(info) = dictionary(value, b"info") else {
         return Err(MetaError::NoInfo);
     };
     let head = read_head(info)?;
-    let listing = read_files(alloc, head.tree, head.piece_length)?;
+    let mut listing = read_tree(alloc, head.tree, head.piece_length)?;
+    add_layers(alloc, &mut listing.files, value, head.piece_length)?;
+    let torrent = torrent_of(alloc, info, &head, listing)?;
+    Ok(torrent)
+}
+
+/// The torrent that the value describes as its `info`.
+fn info_in(alloc: Global, info: &Value) -> Result<Torrent, MetaError>
+    ensures faultless { IfOk result (λ _. first_info_fault (data_of info.now) ≡ None) }
+    ensures described { IfOk result (λ torrent. torrent ≡ metainfo_of (data_of info.now) no_dictionary) }
+    ensures refused { IfErr result (Refuses (first_info_fault (data_of info.now))) }
+{
+    if !is_dictionary(info) {
+        return Err(MetaError::NoInfo);
+    }
+    let head = read_head(info)?;
+    let listing = read_tree(alloc, head.tree, head.piece_length)?;
     let torrent = torrent_of(alloc, info, &head, listing)?;
     Ok(torrent)
 }
@@ -150,129 +181,4 @@ fn infohash(alloc: Global, info: &Value) -> Result<Hash32, AllocError>
 {
     let spelling = write(alloc, info)?;
     Ok(Sha256::digest(spelling.as_slice()))
-}
-
-/// The files of a tree, and how many pieces they have together.
-#[derive(Drop)]
-struct Listing {
-    files: Vec<FileEntry>,
-    pieces: u32,
-}
-
-/// The only file of the tree, of at most one piece.
-fn read_files(alloc: Global, tree: &Value, piece_length: u32) -> Result<Listing, MetaError>
-    requires { 0 < piece_length }
-    ensures { IfOk result (IsShortListing piece_length (data_of tree.now)) }
-{
-    let Some((element, node)) = only_entry(tree) else {
-        return Err(MetaError::Tree);
-    };
-    let Some((key, properties)) = only_entry(node) else {
-        return Err(MetaError::Tree);
-    };
-    if element.is_empty() || !key.is_empty() || !is_dictionary(properties) {
-        return Err(MetaError::Tree);
-    }
-    let file = read_file(alloc, element, properties, piece_length)?;
-    let pieces = file.length.div_ceil(piece_length as u64) as u32;
-    let files = vec![in alloc; file]?;
-    Ok(Listing { files, pieces })
-}
-
-/// The only entry of a dictionary.
-fn only_entry(value: &Value) -> Option<(&[u8], &Value)>
-    ensures { IfSome result (λ x. data_of value.now ≡ dictionary_of (entry x.0.now (data_of x.1.now) no_entries)) }
-{
-    let Value::Dict(entries) = value else {
-        return None;
-    };
-    match entries.as_slice() {
-        [(key, item)] => Some((key.as_slice(), item)),
-        _ => None,
-    }
-}
-
-/// The file with these properties at the top of the tree, of at most one piece.
-fn read_file(
-    alloc: Global,
-    element: &[u8],
-    properties: &Value,
-    piece_length: u32,
-) -> Result<FileEntry, MetaError>
-    ensures { IfOk result (IsShortFile piece_length element.now (data_of properties.now)) }
-{
-    let Some(element) = path_element(element) else {
-        return Err(MetaError::BadPath);
-    };
-    if has(properties, b"symlink path") {
-        return Err(MetaError::Symlink);
-    }
-    let Some(length) = file_length(properties) else {
-        return Err(MetaError::FileLength);
-    };
-    if length > piece_length as u64 {
-        return Err(MetaError::FileLength);
-    }
-    let Some(root) = file_root(properties, length) else {
-        return Err(MetaError::BadRoot);
-    };
-    let name = String::from_str(alloc, element)?;
-    let path = vec![in alloc; name]?;
-    Ok(FileEntry {
-        path,
-        length,
-        root,
-        first_piece: 0,
-        layer: Vec::new(alloc),
-    })
-}
-
-/// The element as text, if it may stand in a path.
-fn path_element(element: &[u8]) -> Option<&str>
-    ensures { option_copied result ≡ (if is_path_element element.now then Some element.now else None) }
-{
-    if is_dots(element) || element.contains(&b'/') || element.contains(&0) {
-        return None;
-    }
-    match str::from_utf8(element) {
-        Ok(text) => Some(text),
-        Err(_) => None,
-    }
-}
-
-/// Whether the element names its folder, or the one above.
-fn is_dots(element: &[u8]) -> bool
-    ensures { result ≡ is_dots_element element.now }
-{
-    element == b".".as_slice() || element == b"..".as_slice()
-}
-
-/// The length of a file, if it is lawful: 0 to 2^40 bytes.
-fn file_length(properties: &Value) -> Option<u64>
-    ensures { result ≡ (if has_lawful_length (data_of properties.now) then Some (length_in (data_of properties.now)) else None) }
-{
-    let Some(length) = natural(properties, b"length") else {
-        return None;
-    };
-    if length > MAX_FILE_LENGTH {
-        return None;
-    }
-    Some(length)
-}
-
-/// The root of a file of this length, if it is lawful: zeros for an empty file.
-fn file_root(properties: &Value, length: u64) -> Option<Hash32>
-    requires { length ≡ length_in (data_of properties.now) }
-    ensures { result ≡ (if has_lawful_root (data_of properties.now) then Some (root_in (data_of properties.now)) else None) }
-{
-    if length == 0 {
-        return Some([0; 32]);
-    }
-    match string(properties, b"pieces root") {
-        Some(root) => match Hash32::try_from(root) {
-            Ok(root) => Some(root),
-            Err(_) => None,
-        },
-        None => None,
-    }
 }

@@ -1,6 +1,6 @@
-use Rattle.bt_meta.proofs.Elements.{refused_dots, refused_slash, refused_zero, refused_bytes, taken}
-use Rattle.bt_meta.proofs.reader.path_element.Goals.{then-is_dots-via-then-is_dots, then-is_dots-via-else-is_dots+then-contains, then-is_dots-via-else-is_dots+else-contains+then-contains-2}
-use Rattle.bt_meta.proofs.reader.path_element.Goals as goal
+use Rattle.bt_meta.proofs.Facts.{refused_dots, refused_slash, refused_zero, refused_bytes, taken}
+use Rattle.bt_meta.proofs.elements.path_element.Goals.{then-is_dots-via-then-is_dots, then-is_dots-via-else-is_dots+then-contains, then-is_dots-via-else-is_dots+else-contains+then-contains-2}
+use Rattle.bt_meta.proofs.elements.path_element.Goals as goal
 
 pub returns-then-is_dots : goal.returns-then-is_dots
 returns-then-is_dots c =

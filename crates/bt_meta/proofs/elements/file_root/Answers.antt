@@ -1,7 +1,7 @@
 use Rattle.std.proofs.Common.{sym, ◌∙◌, ap, Some}
 use Rattle.bt_bencode.specs.View.{data_of}
-use Rattle.bt_meta.proofs.Elements.{root_of_nothing, root_there, root_of_other_size, root_nowhere}
-use Rattle.bt_meta.proofs.reader.file_root.Goals as goal
+use Rattle.bt_meta.proofs.Facts.{root_of_nothing, root_there, root_of_other_size, root_nowhere}
+use Rattle.bt_meta.proofs.elements.file_root.Goals as goal
 
 pub returns-then-length-eq0 : goal.returns-then-length-eq0
 returns-then-length-eq0 c = root_of_nothing (data_of c.args.properties.now) (sym c.requires ∙ c.if-length-eq0.true)

@@ -6,7 +6,7 @@ use Rattle.bt_meta.specs.Fields.{natural_at}
 use Rattle.bt_meta.specs.Files.{length_in}
 use Rattle.bt_meta.specs.Faults.{has_lawful_length}
 use Rattle.bt_meta.proofs.Kept.{picked_there, left_there, left_nowhere}
-use Rattle.bt_meta.proofs.reader.file_length.Goals as goal
+use Rattle.bt_meta.proofs.elements.file_length.Goals as goal
 
 pub returns-in_default : goal.returns-in_default
 unfolding has_lawful_length length_in
