@@ -1,6 +1,7 @@
 //! Torrents of BitTorrent v2 (BEP 52).
 #![tactic(auto)]
 
+mod described;
 mod elements;
 mod error;
 mod fields;
@@ -17,3 +18,6 @@ pub use torrent::{FileEntry, Span, Torrent};
 
 #[cfg(test)]
 mod tests;
+
+#[cfg(test)]
+mod make_tests;

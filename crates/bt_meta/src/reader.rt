@@ -169,7 +169,7 @@ fn piece_length(info: &Value) -> Option<u32>
 }
 
 /// Whether a piece may have this length: a power of two from 2^14 (BEP 52) to 2^28.
-fn is_piece_length(length: u64) -> bool
+pub(crate) fn is_piece_length(length: u64) -> bool
     ensures { result ≡ is_lawful_piece_length length }
 {
     length.is_power_of_two() && 1 << 14 <= length && length <= 1 << 28

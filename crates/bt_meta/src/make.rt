@@ -1,0 +1,176 @@
+//! Making torrents.
+use crate::described::value_of;
+use crate::elements::{MAX_FILE_LENGTH, note_length, path_element};
+use crate::error::MetaError;
+use crate::layers::check_layer_of;
+use crate::reader::{MAX_TEXT_LENGTH, is_piece_length};
+use crate::walk::{MAX_FILES, MAX_PATH_LENGTH, MAX_PIECES};
+use bt_bencode::write;
+use bt_tree::Hash32;
+use std::alloc::{AllocError, Global};
+use std::cmp::Ordering;
+use std::collections::BTreeMap;
+use thiserror::Error;
+
+/// A file that a torrent is made of.
+#[derive(Debug, Drop)]
+pub struct Made {
+    /// The names of the folders that it lies in, from the top, and then its own: 1 to 64 elements.
+    pub path: Vec<String>,
+    /// How many bytes it has: at most 2^40.
+    pub length: u64,
+    /// The root of its tree. That of an empty file is not looked at.
+    pub root: Hash32,
+    /// The digests of its pieces, 32 bytes each: for a file longer than one piece, and empty for any other.
+    pub layer: Vec<u8>,
+}
+
+/// Why no torrent is made. The first that applies is answered: that of the piece length, then that there is no file,
+/// then those of each file in the order given, then that paths exclude each other, and then that the text is too long;
+/// but want of memory may stand in place of any.
+#[derive(Clone, Copy, Debug, PartialEq, Eq, Error)]
+pub enum MakeError {
+    /// The piece length is no power of two from 2^14 to 2^28.
+    #[error("N1 PieceLength")]
+    PieceLength,
+    /// A path has no element; or one that is empty, `.` or `..`, or has `/` or a zero byte. Or a path is that of another
+    /// file, or of a folder that another file lies in.
+    #[error("N2 BadPath")]
+    BadPath,
+    /// A file has more than 2^40 bytes.
+    #[error("N3 FileLength")]
+    FileLength,
+    /// A layer has not 32 bytes for each piece of its file; or stands where none belongs.
+    #[error("N4 LayerSize")]
+    LayerSize,
+    /// A layer gives another root than its file's.
+    #[error("N5 LayerDiffers")]
+    LayerDiffers,
+    /// Two files have one root and two lengths.
+    #[error("N6 RootConflict")]
+    RootConflict,
+    /// No file; or more than 64 elements in a path, 65,536 files, 2^21 pieces or 2^27 bytes of text.
+    #[error("N7 Count")]
+    Count,
+    #[error("N8 OutOfMemory")]
+    OutOfMemory,
+}
+
+impl From<AllocError> for MakeError {
+    fn from(_error: AllocError) -> Self {
+        MakeError::OutOfMemory
+    }
+}
+
+/// The torrent of these files, with this name: the canonical bencoding of its keys, with the files in the order of their
+/// paths.
+pub fn make(
+    alloc: Global,
+    name: &[u8],
+    piece_length: u32,
+    files: &[Made],
+) -> Result<Vec<u8>, MakeError> {
+    if !is_piece_length(piece_length as u64) {
+        return Err(MakeError::PieceLength);
+    }
+    if files.is_empty() {
+        return Err(MakeError::Count);
+    }
+    check_files(alloc, piece_length, files)?;
+    let ordered = in_tree_order(alloc, files)?;
+    if has_overlap(&ordered) {
+        return Err(MakeError::BadPath);
+    }
+    let value = value_of(alloc, name, piece_length, &ordered)?;
+    let text = write(alloc, &value)?;
+    if text.len() > MAX_TEXT_LENGTH {
+        return Err(MakeError::Count);
+    }
+    Ok(text)
+}
+
+/// Refuses the first file that is not lawful, in the order given.
+fn check_files(alloc: Global, piece_length: u32, files: &[Made]) -> Result<(), MakeError> {
+    let mut lengths = BTreeMap::new(alloc);
+    let mut pieces = 0;
+    for (i, file) in files.iter().enumerate() {
+        check_file(piece_length, file)?;
+        check_root(&mut lengths, file)?;
+        pieces += file.length.div_ceil(piece_length as u64);
+        if file.path.len() > MAX_PATH_LENGTH || i >= MAX_FILES || pieces > MAX_PIECES {
+            return Err(MakeError::Count);
+        }
+    }
+    Ok(())
+}
+
+/// Refuses a file whose path, length or layer is not lawful.
+fn check_file(piece_length: u32, file: &Made) -> Result<(), MakeError> {
+    if !is_path(&file.path) {
+        return Err(MakeError::BadPath);
+    }
+    if file.length > MAX_FILE_LENGTH {
+        return Err(MakeError::FileLength);
+    }
+    check_layer(piece_length, file)
+}
+
+/// Whether the elements may be a file's path.
+fn is_path(path: &[String]) -> bool {
+    !path.is_empty() && path.iter().all(|element| is_element(element.as_str()))
+}
+
+/// Whether the element may stand in a path.
+fn is_element(element: &str) -> bool {
+    !element.is_empty() && path_element(element.as_bytes()).is_some()
+}
+
+/// Refuses a file whose layer is not the one of its pieces.
+fn check_layer(piece_length: u32, file: &Made) -> Result<(), MakeError> {
+    if file.length <= piece_length as u64 {
+        return if file.layer.is_empty() {
+            Ok(())
+        } else {
+            Err(MakeError::LayerSize)
+        };
+    }
+    match check_layer_of(&file.root, file.length, piece_length, &file.layer) {
+        Ok(()) => Ok(()),
+        Err(MetaError::LayerSize) => Err(MakeError::LayerSize),
+        Err(_) => Err(MakeError::LayerDiffers),
+    }
+}
+
+/// Refuses a file whose root is that of an earlier file of another length.
+fn check_root(lengths: &mut BTreeMap<Hash32, u64>, file: &Made) -> Result<(), MakeError> {
+    if file.length == 0 {
+        return Ok(());
+    }
+    match note_length(lengths, file.root, file.length) {
+        Ok(()) => Ok(()),
+        Err(MetaError::OutOfMemory) => Err(MakeError::OutOfMemory),
+        Err(_) => Err(MakeError::RootConflict),
+    }
+}
+
+/// The files by their paths, in ascending order.
+fn in_tree_order<'a>(alloc: Global, files: &'a [Made]) -> Result<Vec<&'a Made>, AllocError> {
+    let mut ordered = Vec::with_capacity(alloc, files.len())?;
+    for file in files {
+        ordered.push(file)?;
+    }
+    ordered.sort_by(|file, other| order_of(&file.path, &other.path))?;
+    Ok(ordered)
+}
+
+/// How two paths stand to each other, as lists of byte strings.
+fn order_of(path: &[String], other: &[String]) -> Ordering {
+    path.cmp(other)
+}
+
+/// Whether, of files in ascending order of their paths, one path is another's or begins it.
+fn has_overlap(files: &[&Made]) -> bool {
+    files
+        .windows(2)
+        .any(|pair| pair[1].path.starts_with(pair[0].path.as_slice()))
+}
