@@ -9,3 +9,4 @@ pub mod Refusals
 pub mod Reading
 pub mod Place
 pub mod Walks
+pub mod Making

@@ -1,5 +1,5 @@
 //! The value that a torrent spells (BEP 52, "metainfo files").
-use crate::make::Made;
+use crate::making::Made;
 use bt_bencode::Value;
 use bt_tree::Hash32;
 use std::alloc::{AllocError, Global};

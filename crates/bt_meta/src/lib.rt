@@ -6,13 +6,13 @@ mod elements;
 mod error;
 mod fields;
 mod layers;
-mod make;
+mod making;
 mod reader;
 mod torrent;
 mod walk;
 
 pub use error::MetaError;
-pub use make::{Made, MakeError, make};
+pub use making::{Made, MakeError, make};
 pub use reader::{MAX_TEXT_LENGTH, read_info, read_torrent};
 pub use torrent::{FileEntry, Span, Torrent};
 
@@ -20,4 +20,4 @@ pub use torrent::{FileEntry, Span, Torrent};
 mod tests;
 
 #[cfg(test)]
-mod make_tests;
+mod making_tests;

@@ -1,4 +1,11 @@
 //! Making torrents.
+ghost use Rattle.std.specs.Prelude.{◌≡◌, ℕ, ◌^◌, ◌<◌, ◌≤◌, ◌++◌, ◌∷◌, [], ◌⊎◌, List, map, IfOk, OnOk, IfErr, MatchResult, string_bytes, None, true, false};
+ghost use Rattle.std.specs.Result.{result_err};
+ghost use Rattle.bt_meta.specs.Places.{with_earlier};
+ghost use Rattle.bt_meta.specs.Faults.{is_piece_length as is_lawful_piece_length};
+ghost use Rattle.bt_meta.specs.Making.{Given, given_of, first_refusal, file_refusal, own_refusal, layer_refusal, is_path as is_lawful_path, is_element as is_lawful_element, HasLengths, HasTaken, IsWithin, Refuses, conflict_with};
+ghost use Rattle.bt_meta.specs.declared.making.MakeError.TheVariants.{OutOfMemory as out_of_memory, RootConflict as root_conflict};
+
 use crate::described::value_of;
 use crate::elements::{MAX_FILE_LENGTH, note_length, path_element};
 use crate::error::MetaError;
@@ -57,6 +64,8 @@ pub enum MakeError {
 }
 
 impl From<AllocError> for MakeError {
+    ghost from_gives = { λ _ e. e ≡ out_of_memory };
+
     fn from(_error: AllocError) -> Self {
         MakeError::OutOfMemory
     }
@@ -90,22 +99,57 @@ pub fn make(
 }
 
 /// Refuses the first file that is not lawful, in the order given.
-fn check_files(alloc: Global, piece_length: u32, files: &[Made]) -> Result<(), MakeError> {
-    let mut lengths = BTreeMap::new(alloc);
-    let mut pieces = 0;
-    for (i, file) in files.iter().enumerate() {
-        check_file(piece_length, file)?;
-        check_root(&mut lengths, file)?;
-        pieces += file.length.div_ceil(piece_length as u64);
-        if file.path.len() > MAX_PATH_LENGTH || i >= MAX_FILES || pieces > MAX_PIECES {
-            return Err(MakeError::Count);
-        }
+fn check_files(alloc: Global, piece_length: u32, files: &[Made]) -> Result<(), MakeError>
+    requires { is_lawful_piece_length piece_length ≡ true }
+    ensures { MatchResult result (λ _. first_refusal (with_earlier (file_refusal piece_length) [] (map given_of files.now)) ≡ None) (Refuses (first_refusal (with_earlier (file_refusal piece_length) [] (map given_of files.now)))) }
+{
+    let mut tally = Tally {
+        files: 0,
+        pieces: 0,
+        lengths: BTreeMap::new(alloc),
+    };
+    for file in files {
+        tally.take(piece_length, file)?;
     }
     Ok(())
 }
 
+/// What was taken of the files so far.
+#[derive(Drop)]
+struct Tally {
+    files: usize,
+    pieces: u64,
+    /// The length of the files of each root; those that are empty are left out.
+    lengths: BTreeMap<Hash32, u64>,
+}
+
+impl Tally {
+    /// Takes one file more, or refuses it.
+    fn take(&mut self, piece_length: u32, file: &Made) -> Result<(), MakeError>
+        requires lawful { is_lawful_piece_length piece_length ≡ true }
+        requires within { IsWithin self.old }
+        ensures within { OnOk result (IsWithin self.new) }
+        ensures taken { OnOk result ((files : List Given) → HasTaken piece_length files self.old → HasTaken piece_length (files ++ given_of file.now ∷ []) self.new) }
+        ensures faultless { OnOk result ((files : List Given) → HasTaken piece_length files self.old → file_refusal piece_length files (given_of file.now) ≡ None) }
+        ensures refused { IfErr result (λ e. (files : List Given) → HasTaken piece_length files self.old → Refuses (file_refusal piece_length files (given_of file.now)) e) }
+    {
+        check_file(piece_length, file)?;
+        check_root(&mut self.lengths, file)?;
+        self.files += 1;
+        self.pieces += file.length.div_ceil(piece_length as u64);
+        if file.path.len() > MAX_PATH_LENGTH || self.files > MAX_FILES || self.pieces > MAX_PIECES {
+            return Err(MakeError::Count);
+        }
+        Ok(())
+    }
+}
+
 /// Refuses a file whose path, length or layer is not lawful.
-fn check_file(piece_length: u32, file: &Made) -> Result<(), MakeError> {
+fn check_file(piece_length: u32, file: &Made) -> Result<(), MakeError>
+    requires { is_lawful_piece_length piece_length ≡ true }
+    ensures refusal { result_err result ≡ own_refusal piece_length (given_of file.now) }
+    ensures short { OnOk result (file.now.length ≤ 2 ^ 40) }
+{
     if !is_path(&file.path) {
         return Err(MakeError::BadPath);
     }
@@ -116,17 +160,25 @@ fn check_file(piece_length: u32, file: &Made) -> Result<(), MakeError> {
 }
 
 /// Whether the elements may be a file's path.
-fn is_path(path: &[String]) -> bool {
+fn is_path(path: &[String]) -> bool
+    ensures { result ≡ is_lawful_path (map string_bytes path.now) }
+{
     !path.is_empty() && path.iter().all(|element| is_element(element.as_str()))
 }
 
 /// Whether the element may stand in a path.
-fn is_element(element: &str) -> bool {
+fn is_element(element: &str) -> bool
+    ensures { result ≡ is_lawful_element element.now }
+{
     !element.is_empty() && path_element(element.as_bytes()).is_some()
 }
 
 /// Refuses a file whose layer is not the one of its pieces.
-fn check_layer(piece_length: u32, file: &Made) -> Result<(), MakeError> {
+fn check_layer(piece_length: u32, file: &Made) -> Result<(), MakeError>
+    requires lawful { is_lawful_piece_length piece_length ≡ true }
+    requires short { file.now.length ≤ 2 ^ 40 }
+    ensures { result_err result ≡ layer_refusal piece_length (given_of file.now) }
+{
     if file.length <= piece_length as u64 {
         return if file.layer.is_empty() {
             Ok(())
@@ -142,7 +194,11 @@ fn check_layer(piece_length: u32, file: &Made) -> Result<(), MakeError> {
 }
 
 /// Refuses a file whose root is that of an earlier file of another length.
-fn check_root(lengths: &mut BTreeMap<Hash32, u64>, file: &Made) -> Result<(), MakeError> {
+fn check_root(lengths: &mut BTreeMap<Hash32, u64>, file: &Made) -> Result<(), MakeError>
+    ensures noted { OnOk result ((files : List Given) → HasLengths lengths.old files → HasLengths lengths.new (files ++ given_of file.now ∷ [])) }
+    ensures alike { OnOk result ((files : List Given) → HasLengths lengths.old files → conflict_with files (given_of file.now) ≡ false) }
+    ensures refused { IfErr result (λ e. (files : List Given) → HasLengths lengths.old files → (e ≡ out_of_memory) ⊎ ((e ≡ root_conflict) × (conflict_with files (given_of file.now) ≡ true))) }
+{
     if file.length == 0 {
         return Ok(());
     }
