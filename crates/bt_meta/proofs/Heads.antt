@@ -6,15 +6,16 @@ use Rattle.bt_bencode.specs.Data.{Data}
 use Rattle.bt_bencode.specs.Spelling.{spelling_of}
 use Rattle.bt_bencode.specs.View.{data_of}
 use Rattle.bt_meta.specs.Fields.{integer_at, string_at, dictionary_at}
-use Rattle.bt_meta.specs.Files.{file_of}
-use Rattle.bt_meta.specs.Faults.{Check, first_of, fault_if, head_checks, info_checks, tree_checks, layer_checks, version_check, is_hybrid, is_piece_length, piece_length_of, tree_of, info_of, layers_of, first_fault}
+use Rattle.bt_meta.specs.Files.{File, file_of, files_of}
+use Rattle.bt_meta.specs.Faults.{Check, first_of, fault_if, head_checks, info_checks, tree_checks, layer_checks, version_check, is_hybrid, is_piece_length, piece_length_of, tree_of, info_of, layers_of, first_fault, first_info_fault, is_dictionary}
 use Rattle.bt_meta.specs.Torrent.{metainfo_of}
-use Rattle.bt_meta.specs.Reading.{IsHead, IsShortListing}
+use Rattle.bt_meta.specs.Reading.{IsHead, IsListing, layer_faults}
 use Rattle.bt_meta.specs.declared.reader.Head.{Head}
-use Rattle.bt_meta.specs.declared.reader.Listing.{Listing}
+use Rattle.bt_meta.specs.declared.walk.Listing.{Listing}
 use Rattle.bt_meta.specs.declared.error.MetaError.{MetaError}
-use Rattle.bt_meta.specs.declared.error.MetaError.TheVariants.{Hybrid, NoName, PieceLength, Tree}
-use Rattle.bt_meta.proofs.Checks.{first_of-append}
+use Rattle.bt_meta.specs.declared.error.MetaError.TheVariants.{NoInfo, Hybrid, NoName, PieceLength, Tree}
+use Rattle.bt_meta.proofs.Checks.{first_of-append, first_of-append_some}
+use Rattle.bt_meta.proofs.Layered.{layer_faults_are}
 
 -- the five checks of a head, over what they look at
 abbrev five : Check → Bool → Option (List ℕ) → Bool → Option Data → List Check
@@ -90,17 +91,56 @@ pub info_is : (torrent info : Data) → Some info ≡ dictionary_at torrent (cod
 unfolding info_of
 info_is torrent info e = rw (← e) refl
 
-pub no_fault : (torrent info : Data) (head : Head) (listing : Listing) → Some info ≡ dictionary_at torrent (codes "info") → IsHead info head
-    → IsShortListing head.piece_length (data_of head.tree.now) listing → first_fault torrent ≡ None
-no_fault torrent info head listing e h l =
-    let checks : first_of (tree_checks (piece_length_of info) (tree_of info)) ≡ None = rw (h.piece_length, h.tree) l.faultless in
-    let layers : first_of (layer_checks (piece_length_of info) (layers_of torrent) (tree_of info)) ≡ None = rw (h.piece_length, h.tree) (l.layerless (layers_of torrent)) in
-    first_fault_in torrent info e
-    ∙ first_of-append (info_checks info) (layer_checks (piece_length_of info) (layers_of torrent) (tree_of info))
-    (first_of-append (head_checks info) (tree_checks (piece_length_of info) (tree_of info)) h.faultless ∙ checks)
-    ∙ layers
+-- the checks of an info dictionary are those of its head and those of its tree
+info_faults : (info : Data) (head : Head) → IsHead info head → first_of (info_checks info) ≡ first_of (tree_checks head.piece_length (data_of head.tree.now))
+info_faults info head h =
+    first_of-append (head_checks info) (tree_checks (piece_length_of info) (tree_of info)) h.faultless ∙ rw (h.piece_length, h.tree) refl
 
-pub metainfo_is : (info layers : Data) (head : Head) (listing : Listing) → IsHead info head → IsShortListing head.piece_length (data_of head.tree.now) listing
-    → metainfo_of info layers ≡ record { name = head.name.now; piece_length = head.piece_length; infohash = sha256 (spelling_of info); files = map file_of listing.files.items }
+pub info_head_fault : (info : Data) (e : MetaError) → first_of (head_checks info) ≡ Some e → first_of (info_checks info) ≡ Some e
+info_head_fault info e h = first_of-append_some (head_checks info) (tree_checks (piece_length_of info) (tree_of info)) e h
+
+pub info_tree_fault : (info : Data) (head : Head) (e : MetaError) → IsHead info head → first_of (tree_checks head.piece_length (data_of head.tree.now)) ≡ Some e → first_of (info_checks info) ≡ Some e
+info_tree_fault info head e h f = info_faults info head h ∙ f
+
+pub info_passes : (info : Data) (head : Head) (listing : Listing) → IsHead info head → IsListing head.piece_length (data_of head.tree.now) listing → first_of (info_checks info) ≡ None
+info_passes info head listing h l = info_faults info head h ∙ l.faultless
+
+-- ---- the whole of a torrent
+
+pub torrent_info_fault : (torrent info : Data) (e : MetaError) → Some info ≡ dictionary_at torrent (codes "info") → first_of (info_checks info) ≡ Some e → first_fault torrent ≡ Some e
+torrent_info_fault torrent info e i f =
+    first_fault_in torrent info i ∙ first_of-append_some (info_checks info) (layer_checks (piece_length_of info) (layers_of torrent) (tree_of info)) e f
+
+-- the files of a listing, with their layers
+layers_here : (layers info : Data) (head : Head) (listing : Listing) → IsHead info head → IsListing head.piece_length (data_of head.tree.now) listing
+    → first_of (layer_checks (piece_length_of info) layers (tree_of info)) ≡ first_of (layer_faults head.piece_length layers (map file_of listing.files.items))
+layers_here layers info head listing h l =
+    ap first_of (rw (h.piece_length, h.tree) (sym (ap (layer_faults head.piece_length layers) l.files ∙ layer_faults_are head.piece_length layers (data_of head.tree.now))))
+
+pub torrent_layers : (torrent info : Data) (head : Head) (listing : Listing) → Some info ≡ dictionary_at torrent (codes "info") → IsHead info head
+    → IsListing head.piece_length (data_of head.tree.now) listing → first_fault torrent ≡ first_of (layer_faults head.piece_length (layers_of torrent) (map file_of listing.files.items))
+torrent_layers torrent info head listing i h l =
+    first_fault_in torrent info i
+    ∙ first_of-append (info_checks info) (layer_checks (piece_length_of info) (layers_of torrent) (tree_of info)) (info_passes info head listing h l)
+    ∙ layers_here (layers_of torrent) info head listing h l
+
+pub no_info : (torrent : Data) → None ≡ dictionary_at torrent (codes "info") → first_fault torrent ≡ Some NoInfo
+unfolding first_fault
+no_info torrent e = rw (← e) refl
+
+-- ---- the whole of an info dictionary
+
+pub first_info_fault_in : (info : Data) → true ≡ is_dictionary info → first_info_fault info ≡ first_of (info_checks info)
+unfolding first_info_fault
+first_info_fault_in info e = rw (← e) refl
+
+pub not_info : (info : Data) → false ≡ is_dictionary info → first_info_fault info ≡ Some NoInfo
+unfolding first_info_fault
+not_info info e = rw (← e) refl
+
+-- ---- what is said
+
+pub metainfo_is : (info layers : Data) (head : Head) (files : List File) → IsHead info head → files ≡ files_of head.piece_length layers (data_of head.tree.now)
+    → metainfo_of info layers ≡ record { name = head.name.now; piece_length = head.piece_length; infohash = sha256 (spelling_of info); files = files }
 unfolding metainfo_of
-metainfo_is info layers head listing h l = rw (h.name, h.piece_length, h.tree, l.files layers) refl
+metainfo_is info layers head files h f = rw (h.name, h.piece_length, h.tree, f) refl

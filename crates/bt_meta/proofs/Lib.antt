@@ -1,6 +1,10 @@
 pub mod Checks
 pub mod Kept
+pub mod Layered
 pub mod Heads
 pub mod Facts
 pub mod Placing
 pub mod Turns
+pub mod WalkSteps
+pub mod FileSteps
+pub mod ElementTests

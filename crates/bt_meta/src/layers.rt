@@ -10,7 +10,7 @@ ghost use Rattle.bt_tree.specs.Blocks.{IsFileLength};
 ghost use Rattle.bt_meta.specs.Fields.{string_at};
 ghost use Rattle.bt_meta.specs.Files.{file_of};
 ghost use Rattle.bt_meta.specs.Faults.{first_of, is_piece_length, layers_of};
-ghost use Rattle.bt_meta.specs.Reading.{Refuses, AreShort, HasStringsOf, with_layer, layer_fault, layer_faults, layer_bytes_fault, IsLayerOf};
+ghost use Rattle.bt_meta.specs.Reading.{Refuses, AreShort, HasStringsOf, with_layer, layer_fault, layer_faults, layer_bytes_fault};
 
 use crate::error::MetaError;
 use crate::fields::as_string;

@@ -1,5 +1,5 @@
 //! The walk over a file tree, in tree order.
-ghost use Rattle.std.specs.Prelude.{◌≡◌, ℕ, ◌+◌, ◌*◌, ◌<◌, ◌≤◌, ◌++◌, ◌∷◌, [], List, map, IfOk, OnOk, IfErr, MatchOption, MatchResult, true, false};
+ghost use Rattle.std.specs.Prelude.{◌≡◌, ℕ, ◌+◌, ◌*◌, ◌<◌, ◌≤◌, ◌++◌, ◌∷◌, [], List, map, IfOk, OnOk, IfErr, MatchOption, MatchResult, string_bytes, true, false};
 ghost use Rattle.bt_bencode.specs.View.{data_of, entries_of};
 ghost use Rattle.bt_meta.specs.Places.{places_below};
 ghost use Rattle.bt_meta.specs.Faults.{first_of, is_node, is_piece_length, tree_checks};

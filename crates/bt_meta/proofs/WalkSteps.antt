@@ -1,0 +1,102 @@
+-- How the steps of a walk join.
+use Rattle.std.proofs.Common.{◌≡◌, ℕ, ◌+◌, ◌<◌, List, [], ◌∷◌, ◌++◌, length, take, drop, get_or, map, None, Some, refl, sym, ap, ◌∙◌, append_assoc, inl, inr, arith}
+use Rattle.std.specs.Global.{Vec}
+use Rattle.std.proofs.lemmas.List.{append-nil, take_more, drop_more, map_push, take_all}
+use Rattle.std.proofs.lemmas.List.{take-append-drop}
+use Rattle.bt_bencode.specs.Data.{Data, Entries, no_entries, entry}
+use Rattle.bt_bencode.specs.View.{data_of, entries_of, entries_from, entry_data}
+use Rattle.bt_bencode.specs.declared.value.Value.{Value}
+use Rattle.bt_meta.specs.Places.{Place, places_below, places_among, with_earlier}
+use Rattle.bt_meta.specs.Faults.{first_of, entry_check}
+use Rattle.bt_meta.specs.Reading.{Refuses}
+use Rattle.bt_meta.specs.Walks.{HasWalked, Passes, Stops, entry_places}
+use Rattle.bt_meta.specs.declared.walk.Walk.{Walk}
+use Rattle.bt_meta.specs.declared.error.MetaError.{MetaError}
+use Rattle.bt_meta.specs.declared.error.MetaError.TheVariants.{OutOfMemory}
+use Rattle.bt_meta.proofs.Checks.{first_of-append, first_of-append_some}
+
+pub with_earlier-append : {A B : Type 0} (f : List A → A → B) (before xs ys : List A) → with_earlier f before (xs ++ ys) ≡ with_earlier f before xs ++ with_earlier f (before ++ xs) ys
+with_earlier-append f before [] ys = ap (λ b. with_earlier f b ys) (sym (append-nil before))
+with_earlier-append f before (x ∷ xs) ys =
+    ap (λ r. f before x ∷ r) (with_earlier-append f (before ++ x ∷ []) xs ys ∙ ap (λ b. with_earlier f (before ++ x ∷ []) xs ++ with_earlier f b ys) (append_assoc before (x ∷ []) xs))
+
+-- ---- passing and stopping
+
+pub passes_nothing : (piece_length : ℕ) (w : Walk) → Passes piece_length [] w w
+passes_nothing piece_length w = λ before h. (rw (append-nil before) h, refl)
+
+pub passes_more : (piece_length : ℕ) (xs ys : List Place) (a b c : Walk) → Passes piece_length xs a b → Passes piece_length ys b c → Passes piece_length (xs ++ ys) a c
+passes_more piece_length xs ys a b c p q = λ before h.
+    let f = entry_check piece_length in
+    let first = p before h in
+    let second = q (before ++ xs) first.0 in
+    let walked : HasWalked piece_length (before ++ (xs ++ ys)) c = rw (← append_assoc before xs ys) second.0 in
+    (walked, ap first_of (with_earlier-append f before xs ys) ∙ first_of-append (with_earlier f before xs) (with_earlier f (before ++ xs) ys) first.1 ∙ second.1)
+
+pub stops_later : (piece_length : ℕ) (xs ys : List Place) (a b : Walk) (e : MetaError) → Passes piece_length xs a b → Stops piece_length ys b e → Stops piece_length (xs ++ ys) a e
+stops_later piece_length xs ys a b e p s = λ before h.
+    let f = entry_check piece_length in
+    let first = p before h in
+    elim (s (before ++ xs) first.0) [
+      | inl m ↦ inl m
+      | inr k ↦ inr (ap first_of (with_earlier-append f before xs ys) ∙ first_of-append (with_earlier f before xs) (with_earlier f (before ++ xs) ys) first.1 ∙ k)
+    ]
+
+pub stops_sooner : (piece_length : ℕ) (xs ys : List Place) (a : Walk) (e : MetaError) → Stops piece_length xs a e → Stops piece_length (xs ++ ys) a e
+stops_sooner piece_length xs ys a e s = λ before h.
+    let f = entry_check piece_length in
+    elim (s before h) [
+      | inl m ↦ inl m
+      | inr k ↦ inr (ap first_of (with_earlier-append f before xs ys) ∙ first_of-append_some (with_earlier f before xs) (with_earlier f (before ++ xs) ys) e k)
+    ]
+
+pub stops_for_memory : (piece_length : ℕ) (xs : List Place) (a : Walk) (e : MetaError) → e ≡ OutOfMemory → Stops piece_length xs a e
+stops_for_memory piece_length xs a e m = λ before h. inl m
+
+-- ---- the places of entries
+
+among_key : (path : List (List ℕ)) (key : List ℕ) (d : Data) (es : Entries) → places_among path (entry key d es) ≡ entry_places path key d ++ places_among path es
+unfolding places_among
+among_key path [] d es = refl
+among_key path (byte ∷ bytes) d es =
+    let inner = path ++ (byte ∷ bytes) ∷ [] in
+    ap (λ xs. record { path = inner; value = d } ∷ (xs ++ places_among path es)) (sym (append-nil (places_below inner d)))
+
+among-append : (path : List (List ℕ)) (xs ys : List (Vec ℕ × Data)) → places_among path (entries_from (xs ++ ys)) ≡ places_among path (entries_from xs) ++ places_among path (entries_from ys)
+unfolding places_among
+among-append path [] ys = refl
+among-append path (e ∷ xs) ys =
+    among_key path e.0.items e.1 (entries_from (xs ++ ys)) ∙ ap (λ zs. entry_places path e.0.items e.1 ++ zs) (among-append path xs ys)
+    ∙ sym (append_assoc (entry_places path e.0.items e.1) (places_among path (entries_from xs)) (places_among path (entries_from ys)))
+    ∙ ap (λ zs. zs ++ places_among path (entries_from ys)) (sym (among_key path e.0.items e.1 (entries_from xs)))
+
+among_none : (path : List (List ℕ)) → places_among path no_entries ≡ []
+unfolding places_among
+among_none path = refl
+
+-- the places of the first i entries, with one entry more
+pub places_more : (path : List (List ℕ)) (es : List (Vec ℕ × Value)) (i : ℕ) (e : Vec ℕ × Value) → i < length es → e ≡ get_or es i e
+    → places_among path (entries_of (take (i + 1) es)) ≡ places_among path (entries_of (take i es)) ++ entry_places path e.0.items (data_of e.1)
+places_more path es i e lt is =
+    let more : take (i + 1) es ≡ take i es ++ e ∷ [] = take_more es i e lt ∙ ap (λ x. take i es ++ x ∷ []) (sym is) in
+    let seen : map entry_data (take (i + 1) es) ≡ map entry_data (take i es) ++ (e.0, data_of e.1) ∷ [] = ap (map entry_data) more ∙ map_push entry_data (take i es) e in
+    ap (λ ds. places_among path (entries_from ds)) seen ∙ among-append path (map entry_data (take i es)) ((e.0, data_of e.1) ∷ [])
+
+map-append : {A B : Type 0} (f : A → B) (xs ys : List A) → map f (xs ++ ys) ≡ map f xs ++ map f ys
+map-append f [] ys = refl
+map-append f (x ∷ xs) ys = ap (λ zs. f x ∷ zs) (map-append f xs ys)
+
+-- the places of all entries: those of the first i, of the next, and of the rest
+pub places_split : (path : List (List ℕ)) (es : List (Vec ℕ × Value)) (i : ℕ) (e : Vec ℕ × Value) → i < length es → e ≡ get_or es i e
+    → places_among path (entries_of es) ≡ places_among path (entries_of (take i es)) ++ (entry_places path e.0.items (data_of e.1) ++ places_among path (entries_of (drop (i + 1) es)))
+places_split path es i e lt is =
+    let rest : drop i es ≡ e ∷ drop (i + 1) es = drop_more es i e lt ∙ ap (λ x. x ∷ drop (i + 1) es) (sym is) in
+    let whole : es ≡ take i es ++ e ∷ drop (i + 1) es = sym (take-append-drop i es) ∙ ap (λ xs. take i es ++ xs) rest in
+    ap (λ xs. places_among path (entries_of xs)) whole
+    ∙ ap (λ ds. places_among path (entries_from ds)) (map-append entry_data (take i es) (e ∷ drop (i + 1) es))
+    ∙ among-append path (map entry_data (take i es)) (map entry_data (e ∷ drop (i + 1) es))
+    ∙ ap (λ zs. places_among path (entries_of (take i es)) ++ zs) (among_key path e.0.items (data_of e.1) (entries_of (drop (i + 1) es)))
+
+pub places_first : (path : List (List ℕ)) (es : List (Vec ℕ × Value)) → places_among path (entries_of (take 0 es)) ≡ []
+unfolding places_among
+places_first path es = refl
