@@ -8,3 +8,4 @@ pub mod Turns
 pub mod WalkSteps
 pub mod FileSteps
 pub mod ElementTests
+pub mod Takings

@@ -91,7 +91,7 @@ fn add_layer(
     let Some(layer) = layer_at(entries, &file.root) else {
         return Err(MetaError::LayerMissing);
     };
-    check_layer_of(&file.root, length, piece_length, layer)?;
+    check(&file.root, length, piece_length, layer)?;
     file.layer = Vec::from_slice(alloc, layer)?;
     Ok(())
 }
@@ -119,7 +119,7 @@ fn find<'a>(entries: &'a [(Vec<u8>, Value)], key: &[u8]) -> Option<&'a Value>
 }
 
 /// Refuses a layer that is not the one of a file's pieces.
-pub(crate) fn check_layer_of(root: &Hash32, length: u64, piece_length: u32, layer: &[u8]) -> Result<(), MetaError>
+pub(crate) fn check(root: &Hash32, length: u64, piece_length: u32, layer: &[u8]) -> Result<(), MetaError>
     requires lawful { is_piece_length piece_length ≡ true }
     requires long { piece_length < length }
     requires short { length ≤ 2 ^ 40 }

@@ -9,7 +9,7 @@ ghost use Rattle.bt_meta.specs.declared.making.MakeError.TheVariants.{OutOfMemor
 use crate::described::value_of;
 use crate::elements::{MAX_FILE_LENGTH, note_length, path_element};
 use crate::error::MetaError;
-use crate::layers::check_layer_of;
+use crate::layers::check as check_bytes;
 use crate::reader::{MAX_TEXT_LENGTH, is_piece_length};
 use crate::walk::{MAX_FILES, MAX_PATH_LENGTH, MAX_PIECES};
 use bt_bencode::write;
@@ -186,7 +186,7 @@ fn check_layer(piece_length: u32, file: &Made) -> Result<(), MakeError>
             Err(MakeError::LayerSize)
         };
     }
-    match check_layer_of(&file.root, file.length, piece_length, &file.layer) {
+    match check_bytes(&file.root, file.length, piece_length, &file.layer) {
         Ok(()) => Ok(()),
         Err(MetaError::LayerSize) => Err(MakeError::LayerSize),
         Err(_) => Err(MakeError::LayerDiffers),
