@@ -82,7 +82,7 @@ places_more path es i e lt is =
     let seen : map entry_data (take (i + 1) es) ≡ map entry_data (take i es) ++ (e.0, data_of e.1) ∷ [] = ap (map entry_data) more ∙ map_push entry_data (take i es) e in
     ap (λ ds. places_among path (entries_from ds)) seen ∙ among-append path (map entry_data (take i es)) ((e.0, data_of e.1) ∷ [])
 
-map-append : {A B : Type 0} (f : A → B) (xs ys : List A) → map f (xs ++ ys) ≡ map f xs ++ map f ys
+pub map-append : {A B : Type 0} (f : A → B) (xs ys : List A) → map f (xs ++ ys) ≡ map f xs ++ map f ys
 map-append f [] ys = refl
 map-append f (x ∷ xs) ys = ap (λ zs. f x ∷ zs) (map-append f xs ys)
 
