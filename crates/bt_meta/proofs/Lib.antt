@@ -9,3 +9,5 @@ pub mod WalkSteps
 pub mod FileSteps
 pub mod ElementTests
 pub mod Takings
+pub mod Ordered
+pub mod Folders

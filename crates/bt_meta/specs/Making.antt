@@ -1,14 +1,18 @@
 -- A torrent that is made of files (BEP 52, "metainfo files").
-use Rattle.std.specs.Prelude.{◌≡◌, ℕ, ◌^◌, ◌<◌, ◌≤◌, ◌⊎◌, pos, Bool, true, false, not, ◌&&◌, ◌||◌, ◌==◌, List, [], ◌∷◌, ◌++◌, length, map, sum_by, codes, string_bytes, Option, None, Some, nat_eq, nat_lt, nat_le, if◌then◌else◌}
-use Rattle.std.specs.List.{list_any, list_all, starts_with}
-use Rattle.std.specs.Ordering.{nat_cmp}
+use Rattle.std.specs.Prelude.{◌≡◌, ℕ, ◌^◌, ◌<◌, ◌≤◌, ◌⊎◌, pos, Bool, true, false, not, ◌&&◌, ◌||◌, ◌==◌, List, [], ◌∷◌, ◌++◌, length, map, sum_by, codes, string_bytes, Option, None, Some, nat_eq, nat_lt, nat_le, unwrap_or, if◌then◌else◌}
+use Rattle.std.specs.List.{list_any, list_all, starts_with, fold, count_by}
+use Rattle.std.specs.Ordering.{nat_cmp, is_lt, match_ordering}
+use Rattle.std.specs.Borrow.{Bor}
+use Rattle.bt_bencode.specs.Field.{first_value_of}
+use Rattle.bt_meta.specs.Fields.{no_dictionary}
 use Rattle.std.specs.declared.cmp.Ordering.{Ordering}
-use Rattle.std.specs.List.Sorted.{IsPermutation}
+use Rattle.std.specs.declared.cmp.Ordering.TheVariants.{Greater}
+use Rattle.std.specs.List.Sorted.{IsPermutation, IsSortedBy}
 use Rattle.std.specs.Cmp.Lexicographic.{pointwise, slice_cmp}
-use Rattle.std.specs.BTreeMap.{BTreeMap, insert_entry}
+use Rattle.std.specs.BTreeMap.{BTreeMap}
 use Rattle.bt_meta.specs.Walks.{is_other, length_at}
 use Rattle.bt_meta.specs.declared.making.Tally.{Tally}
-use Rattle.bt_bencode.specs.Data.{Data, integer, string, dictionary, Entries, no_entries, entry}
+use Rattle.bt_bencode.specs.Data.{Data, integer, string, list, dictionary, Entries, no_entries, entry}
 use Rattle.bt_bencode.specs.Spelling.{spelling_of}
 use Rattle.bt_meta.specs.Places.{with_earlier}
 use Rattle.bt_meta.specs.Files.{piece_count}
@@ -93,9 +97,9 @@ begins path other = starts_with (pointwise nat_eq) other path
 abbrev pub overlap : Given → Given → Bool
 overlap f g = begins f.path g.path || begins g.path f.path
 
+-- of each two files; a file has one overlap, with itself, where it has none with another
 abbrev pub any_overlap : List Given → Bool
-any_overlap [] = false
-any_overlap (f ∷ files) = list_any (overlap f) files || any_overlap files
+any_overlap files = list_any (λ f. nat_le 2 (count_by (overlap f) files)) files
 
 -- the first refusal, apart from that of a text too long
 unfoldable pub refusal_of_files : ℕ → List Given → Check
@@ -134,3 +138,97 @@ Refuses check e = (e ≡ OutOfMemory) ⊎ (check ≡ Some e)
 -- the order of a file tree: by the elements of the paths, each by its bytes
 abbrev pub path_order : List (List ℕ) → List (List ℕ) → Ordering
 path_order = slice_cmp (slice_cmp nat_cmp)
+
+abbrev pub is_before : Given → Given → Bool
+is_before f g = is_lt (path_order f.path g.path)
+
+-- the same files, with no path before that of an earlier one
+pub record IsInTreeOrder (files ordered : List Given) : Type 0 where
+  pub same : IsPermutation files ordered
+  pub ascending : IsSortedBy is_before ordered
+
+abbrev pub lent_of : Bor Made → Given
+lent_of m = given_of m.now
+
+-- the dictionary with this value at the key, among the ascending keys of the others
+unfoldable pub with_entry : List ℕ → Data → Entries → Entries
+with_entry key d no_entries = entry key d no_entries
+with_entry key d (entry other e es) = match_ordering (slice_cmp nat_cmp key other) (entry key d (entry other e es)) (entry key d es) (entry other e (with_entry key d es))
+
+abbrev pub entries_in : Data → Entries
+entries_in (integer z) = no_entries
+entries_in (string s) = no_entries
+entries_in (list ds) = no_entries
+entries_in (dictionary es) = es
+
+-- what a folder with these entries has in the folder with this name
+abbrev pub folder_in : List ℕ → Entries → Entries
+folder_in name es = entries_in (unwrap_or (first_value_of es name) no_dictionary)
+
+-- the tree with a file at this path, which its properties describe
+unfoldable pub with_file : List (List ℕ) → Data → Entries → Entries
+with_file [] properties es = with_entry [] properties es
+with_file (name ∷ path) properties es = with_entry name (dictionary (with_file path properties (folder_in name es))) es
+
+-- an empty file has no root
+abbrev pub properties_made : Given → Data
+properties_made f = dictionary (entry (codes "length") (integer (pos f.length)) (if f.length == 0 then no_entries else entry (codes "pieces root") (string f.root) no_entries))
+
+unfoldable pub tree_made : List Given → Entries
+tree_made files = fold (λ es f. with_file f.path (properties_made f) es) no_entries files
+
+-- the layers by their roots: of files with one root that of the first
+unfoldable pub layers_made : ℕ → List Given → Entries
+layers_made piece_length [] = no_entries
+layers_made piece_length (f ∷ files) = if nat_lt piece_length f.length then with_entry f.root (string f.layer) (layers_made piece_length files) else layers_made piece_length files
+
+abbrev pub info_made : List ℕ → ℕ → List Given → Data
+info_made name piece_length files = dictionary (
+    entry (codes "file tree") (dictionary (tree_made files)) (
+    entry (codes "meta version") (integer (pos 2)) (
+    entry (codes "name") (string name) (
+    entry (codes "piece length") (integer (pos piece_length)) no_entries))))
+
+-- the value of a torrent of files in tree order
+abbrev pub value_made : List ℕ → ℕ → List Given → Data
+value_made name piece_length files = dictionary (
+    entry (codes "info") (info_made name piece_length files) (
+    entry (codes "piece layers") (dictionary (layers_made piece_length files)) no_entries))
+
+-- ---- the steps of the making
+
+-- the entries, and the others behind them
+abbrev pub entries_before : Entries → Entries → Entries
+entries_before no_entries others = others
+entries_before (entry key d es) others = entry key d (entries_before es others)
+
+-- each key stands before the name
+abbrev pub AreBefore : List ℕ → Entries → Type 0
+AreBefore name no_entries = Unit {0}
+AreBefore name (entry key d es) = (slice_cmp nat_cmp name key ≡ Greater) × AreBefore name es
+
+-- the path stands behind those of a folder's files: its first name is behind theirs, or is that of the last folder, in which the rest is behind
+pub record IsInLast (IsIn : Entries → Type 0) (name : List ℕ) (es : Entries) : Type 0 where
+  pub earlier : Entries
+  pub inner : Entries
+  pub last : es ≡ entries_before earlier (entry name (dictionary inner) no_entries)
+  pub before : AreBefore name earlier
+  pub behind : IsIn inner
+
+abbrev pub IsBehind : List (List ℕ) → Entries → Type 0
+IsBehind [] es = es ≡ no_entries
+IsBehind (name ∷ path) es = AreBefore name es ⊎ IsInLast (IsBehind path) name es
+
+-- the last folder was opened, if it has the name: these entries stand before it, and these in it
+pub record IsOpened (name : List ℕ) (path : List (List ℕ)) (es earlier inner : Entries) : Type 0 where
+  pub kept : (d : Data) → with_entry name d es ≡ entries_before earlier (entry name d no_entries)
+  pub opened : folder_in name es ≡ inner
+  pub behind : IsBehind path inner
+
+-- the bytes are the torrent's spelling
+pub record IsMade (name : List ℕ) (piece_length : ℕ) (files : List Given) (bytes : List ℕ) : Type 0 where
+  pub ordered : List Given
+  pub in_order : IsInTreeOrder files ordered
+  pub spelled : bytes ≡ spelling_of (value_made name piece_length ordered)
+  pub small : length bytes ≤ 2 ^ 27
+  pub faultless : refusal_of_files piece_length files ≡ None

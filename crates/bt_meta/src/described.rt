@@ -1,4 +1,9 @@
 //! The value that a torrent spells (BEP 52, "metainfo files").
+ghost use Rattle.std.specs.Prelude.{◌≡◌, ℕ, ◌<◌, ◌≤◌, ◌^◌, List, ◌∷◌, map, IfOk, OnOk, string_bytes};
+ghost use Rattle.bt_bencode.specs.Data.{no_entries, entry};
+ghost use Rattle.bt_bencode.specs.View.{data_of, entries_of};
+ghost use Rattle.bt_meta.specs.Making.{given_of, lent_of, entries_before, with_file, properties_made, tree_made, layers_made, info_made, value_made, IsBehind, IsOpened};
+
 use crate::making::Made;
 use bt_bencode::Value;
 use bt_tree::Hash32;
@@ -18,8 +23,8 @@ pub(crate) fn value_of(
     let info = info_of(alloc, name, piece_length, files)?;
     let layers = layers_of(alloc, piece_length, files)?;
     let mut entries = Vec::new(alloc);
-    push_entry(alloc, &mut entries, b"info", info)?;
-    push_entry(alloc, &mut entries, b"piece layers", Value::Dict(layers))?;
+    entries = entries_with(alloc, entries, b"info", info)?;
+    entries = entries_with(alloc, entries, b"piece layers", Value::Dict(layers))?;
     Ok(Value::Dict(entries))
 }
 
@@ -33,11 +38,11 @@ fn info_of(
     let tree = tree_of(alloc, files)?;
     let name = Vec::from_slice(alloc, name)?;
     let mut entries = Vec::new(alloc);
-    push_entry(alloc, &mut entries, b"file tree", Value::Dict(tree))?;
-    push_entry(alloc, &mut entries, b"meta version", Value::Int(2))?;
-    push_entry(alloc, &mut entries, b"name", Value::Bytes(name))?;
+    entries = entries_with(alloc, entries, b"file tree", Value::Dict(tree))?;
+    entries = entries_with(alloc, entries, b"meta version", Value::Int(2))?;
+    entries = entries_with(alloc, entries, b"name", Value::Bytes(name))?;
     let piece_length = Value::Int(piece_length as i64);
-    push_entry(alloc, &mut entries, b"piece length", piece_length)?;
+    entries = entries_with(alloc, entries, b"piece length", piece_length)?;
     Ok(Value::Dict(entries))
 }
 
@@ -45,38 +50,64 @@ fn info_of(
 fn tree_of(alloc: Global, files: &[&Made]) -> Result<Entries, AllocError> {
     let mut tree = Vec::new(alloc);
     for file in files {
-        put_file(alloc, &mut tree, &file.path, properties_of(alloc, file)?)?;
+        tree = folder_with(alloc, tree, &file.path, properties_of(alloc, file)?)?;
     }
     Ok(tree)
 }
 
-/// Puts a file behind those of a folder, at a path that stands behind theirs.
-fn put_file(
+/// The folder with a file behind the others, at a path that stands behind theirs.
+fn folder_with(
     alloc: Global,
-    folder: &mut Entries,
+    folder: Entries,
     path: &[String],
     properties: Value,
-) -> Result<(), AllocError> {
-    let Some((element, rest)) = path.split_first() else {
-        return push_entry(alloc, folder, b"", properties);
+) -> Result<Entries, AllocError>
+    requires { IsBehind (map string_bytes path.now) (entries_of folder.items) }
+    ensures { IfOk result (λ entries. entries_of entries.items ≡ with_file (map string_bytes path.now) (data_of properties) (entries_of folder.items)) }
+{
+    let Some((name, rest)) = path.split_first() else {
+        return entries_with(alloc, folder, b"", properties);
     };
-    if let Some((key, Value::Dict(inner))) = folder.last_mut() {
-        if key.as_slice() == element.as_bytes() {
-            return put_file(alloc, inner, rest, properties);
+    let (folder, inner) = open_last(alloc, folder, name.as_bytes())?;
+    let inner = folder_with(alloc, inner, rest, properties)?;
+    entries_with(alloc, folder, name.as_bytes(), Value::Dict(inner))
+}
+
+/// A folder without its last entry, and the entries of that one, where it is a folder of this name; else the folder as
+/// it is, and no entries.
+fn open_last(
+    alloc: Global,
+    folder: Entries,
+    name: &[u8],
+) -> Result<(Entries, Entries), AllocError>
+    ensures { IfOk result (λ opened. (path : List (List ℕ)) → IsBehind (name.now ∷ path) (entries_of folder.items) → IsOpened name.now path (entries_of folder.items) (entries_of opened.0.items) (entries_of opened.1.items)) }
+{
+    let mut folder = folder;
+    let Some((key, value)) = folder.pop() else {
+        return Ok((folder, Vec::new(alloc)));
+    };
+    match value {
+        Value::Dict(inner) => {
+            if key.as_slice() == name {
+                return Ok((folder, inner));
+            }
+            folder.push((key, Value::Dict(inner)))?;
         }
+        other => folder.push((key, other))?,
     }
-    let mut inner = Vec::new(alloc);
-    put_file(alloc, &mut inner, rest, properties)?;
-    push_entry(alloc, folder, element.as_bytes(), Value::Dict(inner))
+    Ok((folder, Vec::new(alloc)))
 }
 
 /// What a tree says of a file: an empty one has no root.
-fn properties_of(alloc: Global, file: &Made) -> Result<Value, AllocError> {
+fn properties_of(alloc: Global, file: &Made) -> Result<Value, AllocError>
+    requires { file.now.length ≤ 2 ^ 40 }
+    ensures { IfOk result (λ value. data_of value ≡ properties_made (given_of file.now)) }
+{
     let mut entries = Vec::new(alloc);
-    push_entry(alloc, &mut entries, b"length", Value::Int(file.length as i64))?;
+    entries = entries_with(alloc, entries, b"length", Value::Int(file.length as i64))?;
     if file.length > 0 {
         let root = Vec::from_slice(alloc, &file.root)?;
-        push_entry(alloc, &mut entries, b"pieces root", Value::Bytes(root))?;
+        entries = entries_with(alloc, entries, b"pieces root", Value::Bytes(root))?;
     }
     Ok(Value::Dict(entries))
 }
@@ -92,18 +123,22 @@ fn layers_of(alloc: Global, piece_length: u32, files: &[&Made]) -> Result<Entrie
     let mut entries = Vec::new(alloc);
     for (root, layer) in &layers {
         let layer = Vec::from_slice(alloc, layer)?;
-        push_entry(alloc, &mut entries, root, Value::Bytes(layer))?;
+        entries = entries_with(alloc, entries, root, Value::Bytes(layer))?;
     }
     Ok(entries)
 }
 
-/// Adds an entry behind the others.
-fn push_entry(
+/// The entries with one behind them.
+fn entries_with(
     alloc: Global,
-    entries: &mut Entries,
+    entries: Entries,
     key: &[u8],
     value: Value,
-) -> Result<(), AllocError> {
+) -> Result<Entries, AllocError>
+    ensures { IfOk result (λ more. entries_of more.items ≡ entries_before (entries_of entries.items) (entry key.now (data_of value) no_entries)) }
+{
+    let mut entries = entries;
     let key = Vec::from_slice(alloc, key)?;
-    Ok(entries.push((key, value))?)
+    entries.push((key, value))?;
+    Ok(entries)
 }

@@ -3,7 +3,7 @@ ghost use Rattle.std.specs.Prelude.{◌≡◌, ℕ, ◌^◌, ◌<◌, ◌≤◌,
 ghost use Rattle.std.specs.Result.{result_err};
 ghost use Rattle.bt_meta.specs.Places.{with_earlier};
 ghost use Rattle.bt_meta.specs.Faults.{is_piece_length as is_lawful_piece_length};
-ghost use Rattle.bt_meta.specs.Making.{Given, given_of, first_refusal, file_refusal, own_refusal, layer_refusal, is_path as is_lawful_path, is_element as is_lawful_element, HasLengths, HasTaken, IsWithin, Refuses, conflict_with};
+ghost use Rattle.bt_meta.specs.Making.{Given, given_of, first_refusal, file_refusal, own_refusal, layer_refusal, is_path as is_lawful_path, is_element as is_lawful_element, HasLengths, HasTaken, IsWithin, Refuses, conflict_with, IsInTreeOrder, lent_of, path_order};
 ghost use Rattle.bt_meta.specs.declared.making.MakeError.TheVariants.{OutOfMemory as out_of_memory, RootConflict as root_conflict};
 
 use crate::described::value_of;
@@ -210,17 +210,29 @@ fn check_root(lengths: &mut BTreeMap<Hash32, u64>, file: &Made) -> Result<(), Ma
 }
 
 /// The files by their paths, in ascending order.
-fn in_tree_order<'a>(alloc: Global, files: &'a [Made]) -> Result<Vec<&'a Made>, AllocError> {
-    let mut ordered = Vec::with_capacity(alloc, files.len())?;
-    for file in files {
-        ordered.push(file)?;
-    }
+fn in_tree_order<'a>(alloc: Global, files: &'a [Made]) -> Result<Vec<&'a Made>, AllocError>
+    ensures { IfOk result (λ ordered. IsInTreeOrder (map given_of files.now) (map lent_of ordered.items)) }
+{
+    let mut ordered = lent(alloc, files)?;
     ordered.sort_by(|file, other| order_of(&file.path, &other.path))?;
     Ok(ordered)
 }
 
+/// The files, by reference.
+fn lent<'a>(alloc: Global, files: &'a [Made]) -> Result<Vec<&'a Made>, AllocError>
+    ensures { IfOk result (λ lent. map lent_of lent.items ≡ map given_of files.now) }
+{
+    let mut lent = Vec::new(alloc);
+    for file in files {
+        lent.push(file)?;
+    }
+    Ok(lent)
+}
+
 /// How two paths stand to each other, as lists of byte strings.
-fn order_of(path: &[String], other: &[String]) -> Ordering {
+fn order_of(path: &[String], other: &[String]) -> Ordering
+    ensures { result ≡ path_order (map string_bytes path.now) (map string_bytes other.now) }
+{
     path.cmp(other)
 }
 

@@ -1,0 +1,7 @@
+use Rattle.std.proofs.Common.{◌∙◌, ap}
+use Rattle.bt_bencode.specs.View.{entries_of}
+use Rattle.bt_meta.proofs.Folders.{entries_push}
+use Rattle.bt_meta.proofs.described.entries_with.Goals as goal
+
+pub returns : goal.returns
+returns c = rw (c.in_ok-push.ensures.items, ← c.in_ok-key.ensures.items) (entries_push c.args.entries.items c.in_ok-key.key c.args.value)
