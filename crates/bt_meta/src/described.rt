@@ -92,10 +92,13 @@ fn open_last(
                 return Ok((folder, inner));
             }
             folder.push((key, Value::Dict(inner)))?;
+            Ok((folder, Vec::new(alloc)))
         }
-        other => folder.push((key, other))?,
+        other => {
+            folder.push((key, other))?;
+            Ok((folder, Vec::new(alloc)))
+        }
     }
-    Ok((folder, Vec::new(alloc)))
 }
 
 /// What a tree says of a file: an empty one has no root.
