@@ -1,5 +1,5 @@
 -- What a walk has found behind one place more.
-use Rattle.std.proofs.Common.{◌≡◌, ℕ, ◌+◌, ◌<◌, ◌≤◌, ◌^◌, Bool, true, false, List, [], ◌∷◌, ◌++◌, length, map, Option, None, Some, refl, sym, ap, ◌∙◌, cc, arith, inl, inr}
+use Rattle.std.proofs.Common.{◌≡◌, ℕ, ◌+◌, ◌<◌, ◌≤◌, ◌^◌, Bool, true, false, List, [], ◌∷◌, ◌++◌, length, map, Option, None, Some, refl, sym, ap, ◌∙◌, arith, length-append}
 use Rattle.std.specs.Prelude.{string_bytes, nat_eq, filter, sum_by, not, ◌&&◌, ◌||◌, ◌==◌, cond, unwrap_or, nat_lt, if◌then◌else◌}
 use Rattle.std.specs.List.{list_any}
 use Rattle.std.specs.Ordering.{nat_cmp, is_eq}
@@ -23,6 +23,9 @@ use Rattle.bt_meta.specs.declared.walk.Walk.{Walk}
 use Rattle.bt_meta.proofs.WalkSteps.{with_earlier-append}
 
 -- ---- files among places
+
+pub length_push : {A : Type 0} (xs : List A) (x : A) → length (xs ++ x ∷ []) ≡ length xs + 1
+length_push xs x = omega (arith, length-append xs (x ∷ []))
 
 filter_file : (before : List Place) (p : Place) → is_file p ≡ true → filter is_file (before ++ p ∷ []) ≡ filter is_file before ++ p ∷ []
 filter_file before p e = filter-append is_file before (p ∷ []) ∙ ap (λ b. filter is_file before ++ cond b (p ∷ []) []) e
@@ -51,7 +54,7 @@ pieces_push piece_length before p e =
     ap (sum_by g) (filter_file before p e) ∙ sum_by-append g (filter is_file before) (p ∷ []) ∙ ap (λ n. pieces_of piece_length before + n) one
 
 pub count_push : (before : List Place) (p : Place) → is_file p ≡ true → length (filter is_file (before ++ p ∷ [])) ≡ length (filter is_file before) + 1
-count_push before p e = ap length (filter_file before p e) ∙ (let n : length (filter is_file before ++ p ∷ []) ≡ length (filter is_file before) + 1 = grind arith in n)
+count_push before p e = ap length (filter_file before p e) ∙ length_push (filter is_file before) p
 
 no_layer : (b : Bool) (key : List ℕ) → (if b then unwrap_or (string_at no_dictionary key) [] else []) ≡ []
 unfolding string_at

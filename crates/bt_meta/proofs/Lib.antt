@@ -1,8 +1,11 @@
 pub mod Checks
 pub mod Kept
 pub mod Layered
+pub mod Dictionaries
 pub mod Heads
 pub mod Facts
 pub mod WalkSteps
 pub mod FileSteps
 pub mod ElementTests
+pub mod FileAdding
+pub mod PathSteps

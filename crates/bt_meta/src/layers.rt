@@ -13,9 +13,9 @@ ghost use Rattle.bt_meta.specs.Faults.{first_of, is_piece_length, layers_of};
 ghost use Rattle.bt_meta.specs.Reading.{Refuses, AreShort, HasStringsOf, with_layer, layer_fault, layer_faults, layer_bytes_fault};
 
 use crate::error::MetaError;
-use crate::fields::as_string;
+use crate::fields::{as_string, dictionary, entries};
 use crate::torrent::FileEntry;
-use bt_bencode::{Value, field};
+use bt_bencode::Value;
 use bt_tree::{Geometry, Hash32, LayerError, Plain, check_layer};
 use std::alloc::Global;
 
@@ -43,9 +43,9 @@ fn layer_entries(torrent: &Value) -> &[(Vec<u8>, Value)]
     ensures strings { HasStringsOf (dictionary_of (entries_of result.now)) (layers_of (data_of torrent.now)) }
     ensures ascending { EntriesAscend (entries_of result.now) }
 {
-    match field(torrent, b"piece layers") {
-        Some(Value::Dict(entries)) => entries.as_slice(),
-        _ => &[],
+    match dictionary(torrent, b"piece layers") {
+        Some(layers) => entries(layers),
+        None => &[],
     }
 }
 
