@@ -9,3 +9,4 @@ pub mod FileSteps
 pub mod ElementTests
 pub mod FileAdding
 pub mod PathSteps
+pub mod Trees

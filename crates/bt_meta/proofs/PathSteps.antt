@@ -3,7 +3,6 @@ use Rattle.std.proofs.Common.{◌≡◌, ℕ, ◌+◌, ◌-◌, ◌<◌, ◌≤�
 use Rattle.std.specs.Prelude.{String, string_bytes, IsSome}
 use Rattle.std.specs.Option.{option_to_list}
 use Rattle.std.specs.Borrow.{Bor}
-use Rattle.std.specs.Global.{Vec}
 use Rattle.std.specs.declared.alloc.Global.{Global}
 use Rattle.std.proofs.lemmas.List.{take_more, map_push, take_all, append-nil}
 use Rattle.std.proofs.Math.Seq.{take-append_seam}
@@ -11,7 +10,6 @@ use Rattle.bt_bencode.specs.Data.{Data}
 use Rattle.bt_meta.specs.Walks.{texts, entry_places, Passes, IsEntered, StopsEntry}
 use Rattle.bt_meta.specs.declared.walk.Walk.{Walk}
 use Rattle.bt_meta.specs.declared.error.MetaError.{MetaError}
-use Rattle.bt_meta.proofs.FileSteps.{length_push}
 
 pub texts_push : (path : List (Bor (List ℕ))) (t : Bor (List ℕ)) → texts (path ++ t ∷ []) ≡ texts path ++ t.now ∷ []
 texts_push path t = map_push (λ x. x.now) path t
@@ -28,13 +26,8 @@ named_last names more s path i name le h e is =
     ap (map string_bytes) is ∙ map_push string_bytes names s ∙ ap (λ xs. xs ++ string_bytes s ∷ []) (h ∙ ap texts (take_all i path le)) ∙ ap (λ x. texts path ++ x ∷ []) e
 
 -- what is left of a path without its last element
-pub popped : {A : Type 0} (xs ys old : List A) (x : A) (n : ℕ) → old ≡ xs ++ x ∷ [] → n ≡ length old → ys ≡ take (n - 1) old → ys ≡ xs
-popped xs ys old x n e l t =
-    let count : n - 1 ≡ length xs = count_of (length old) n (length xs) l (ap length e ∙ length_push xs x) in
-    t ∙ ap (λ k. take k old) count ∙ ap (take (length xs)) e ∙ take-append_seam xs (x ∷ [])
-  where
-    count_of : (m n k : ℕ) → n ≡ m → m ≡ k + 1 → n - 1 ≡ k
-    count_of m n k a b = omega arith
+pub cut_back : {A : Type 0} (xs ys old : List A) (x : A) (n : ℕ) → old ≡ xs ++ x ∷ [] → n ≡ length xs → ys ≡ take n old → ys ≡ xs
+cut_back xs ys old x n e l t = t ∙ ap (λ k. take k old) l ∙ ap (take (length xs)) e ∙ take-append_seam xs (x ∷ [])
 
 -- ---- what entering an entry of a folder told
 
@@ -66,6 +59,3 @@ not_entered piece_length at path name key d old new r a k is h =
 
 pub inner_path : (at path pushed : List (Bor (List ℕ))) (name : Bor (List ℕ)) → at ≡ path → pushed ≡ at ++ name ∷ [] → texts pushed ≡ texts path ++ name.now ∷ []
 inner_path at path pushed name a p = ap texts p ∙ texts_push at name ∙ ap (λ x. texts x ++ name.now ∷ []) a
-
-pub vec_count : {A : Type 0} (v : Vec A) → v.len ≡ length v.items
-vec_count v = let h = v.ok in ?

@@ -67,7 +67,7 @@ pub(crate) fn read_tree(
     };
     let mut path = Vec::new(alloc);
     walk_folder(alloc, &mut walk, &mut path, tree, piece_length)?;
-    if walk.files.is_empty() {
+    if walk.files.as_slice().is_empty() {
         return Err(MetaError::Tree);
     }
     Ok(Listing {
@@ -95,9 +95,10 @@ fn walk_folder<'a>(
     };
     for (key, value) in entries {
         if let Some(name) = enter(alloc, walk, path, key, value, piece_length)? {
+            let depth = path.as_slice().len();
             path.push(name)?;
             walk_folder(alloc, walk, path, value, piece_length)?;
-            path.pop();
+            path.truncate(depth);
         }
     }
     Ok(())

@@ -9,7 +9,7 @@ use Rattle.bt_meta.specs.Walks.{texts, entry_places, Passes, Stops, IsEntered}
 use Rattle.bt_meta.specs.declared.walk.Walk.{Walk}
 use Rattle.bt_meta.proofs.Dictionaries.{below_entries, nothing_below, no_dictionary_is}
 use Rattle.bt_meta.proofs.WalkSteps.{passes_nothing, places_first, folder_stops, inner_stops, inner_passes, folder_passes_more}
-use Rattle.bt_meta.proofs.PathSteps.{vec_count, popped, entry_stopped, entered_at, not_entered, inner_path}
+use Rattle.bt_meta.proofs.PathSteps.{cut_back, entry_stopped, entered_at, not_entered, inner_path}
 use Rattle.bt_meta.proofs.walk.+walk_folder.Goals.{in-Some+in_ok-push+in_ok-walk_folder, in_default}
 use Rattle.bt_meta.proofs.walk.+walk_folder.Goals as goal
 
@@ -87,8 +87,9 @@ loop-key-preserved t c =
         record {
           passed = subst W (sym w.walk-is) (folder_passes_more pl path es c.loop-key.key-index e c.args.walk.now c.loop-key.walk w.walk_folder.new.walk c.loop-key-test.true c.loop-key-item.is c.loop-key.invariant.passed more);
           path = ap (λ v. v.items) w.path-is
-            ∙ popped c.args.path.now.items w.pop.new.self.items w.walk_folder.new.path.items name w.walk_folder.new.path.len
-              (w.in_ok-walk_folder.ensures.path ∙ w.in_ok-push.ensures.items ∙ ap (λ xs. xs ++ name ∷ []) c.loop-key.invariant.path) (vec_count w.walk_folder.new.path) w.pop.ensures.rest;
+            ∙ cut_back c.args.path.now.items w.truncate.new.self.items w.walk_folder.new.path.items name (length w.as_slice-depth.result.now)
+              (w.in_ok-walk_folder.ensures.path ∙ w.in_ok-push.ensures.items ∙ ap (λ xs. xs ++ name ∷ []) c.loop-key.invariant.path)
+              (ap length (w.as_slice-depth.ensures.value ∙ c.loop-key.invariant.path)) w.truncate.ensures.items;
         }
       | in_default w ↦
         let more = not_entered pl c.deref.result.now c.args.path.now.items c.deref-in-loop-key.result.now e.0.items (data_of e.1) c.loop-key.walk c.enter.new.walk c.in_ok-name.field-0 same key w.in_default.is c.in_ok-name.ensures in
