@@ -10,3 +10,5 @@ pub mod ElementTests
 pub mod FileAdding
 pub mod PathSteps
 pub mod Trees
+pub mod Lookup
+pub mod LayerChecks

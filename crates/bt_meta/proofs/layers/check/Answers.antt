@@ -1,25 +1,14 @@
-use Rattle.std.proofs.Common.{rules, ◌≡◌, ℕ, List, ◌^◌, ◌<◌, ◌≤◌, map, IfOk, OnOk, IfErr, MatchResult, option_copied, None, true, ◌+◌, ◌-◌, ◌*◌, length, ◌/◌, ◌%◌, Bool, false, nat_eq, nat_lt, [], ◌∷◌, ◌++◌, slice_index_or, slice_set, bit_and, bit_or, Fits, w8, w32, w64, Bor, MutBor}
-use Rattle.std.specs.Option.{option_map}
-use Rattle.std.specs.Result.{result_err}
-use Rattle.bt_bencode.specs.Data.{dictionary as dictionary_of}
-use Rattle.bt_bencode.specs.Spelling.{HasAscendingKeys, EntriesAscend}
-use Rattle.bt_bencode.specs.Field.{first_value_of}
-use Rattle.bt_bencode.specs.View.{data_of, entries_of}
-use Rattle.bt_tree.specs.Blocks.{IsFileLength}
-use Rattle.bt_meta.specs.Fields.{string_at}
-use Rattle.bt_meta.specs.Files.{file_of}
-use Rattle.bt_meta.specs.Faults.{first_of, is_piece_length, layers_of}
-use Rattle.bt_meta.specs.Reading.{Refuses, AreShort, HasStringsOf, with_layer, layer_fault, layer_faults, layer_bytes_fault}
+use Rattle.std.proofs.Common.{◌≡◌, ◌∙◌, ◌≤◌, sym, ap, subst}
+use Rattle.bt_tree.specs.Blocks.{block_count}
+use Rattle.bt_tree.specs.TreeShape.{height_of}
+use Rattle.bt_meta.proofs.LayerChecks.{layer_right, layer_sized_wrong, layer_differs, piece_has_tree, file_has_tree}
 use Rattle.bt_meta.proofs.layers.check.Goals as goal
 
--- src/layers.rt:122:1
 pub returns-in-Ok : goal.returns-in-Ok
 returns-in-Ok c = ?
 
--- src/layers.rt:122:1
 pub returns-in-Err-Size : goal.returns-in-Err-Size
 returns-in-Err-Size c = ?
 
--- src/layers.rt:122:1
 pub returns-in-Err-Differs : goal.returns-in-Err-Differs
 returns-in-Err-Differs c = ?

@@ -1,21 +1,24 @@
-use Rattle.std.proofs.Common.{rules, ◌≡◌, ℕ, List, ◌^◌, ◌<◌, ◌≤◌, map, IfOk, OnOk, IfErr, MatchResult, option_copied, None, true, ◌+◌, ◌-◌, ◌*◌, length, ◌/◌, ◌%◌, Bool, false, nat_eq, nat_lt, [], ◌∷◌, ◌++◌, slice_index_or, slice_set, bit_and, bit_or, Fits, w8, w32, w64, Bor, MutBor}
-use Rattle.std.specs.Option.{option_map}
-use Rattle.std.specs.Result.{result_err}
-use Rattle.bt_bencode.specs.Data.{dictionary as dictionary_of}
-use Rattle.bt_bencode.specs.Spelling.{HasAscendingKeys, EntriesAscend}
-use Rattle.bt_bencode.specs.Field.{first_value_of}
+use Rattle.std.proofs.Common.{◌≡◌, ◌<◌, length, get_or, Some, refl, sym, ap, subst, ◌∙◌, arith}
+use Rattle.std.specs.Ordering.{nat_cmp}
+use Rattle.std.specs.Cmp.Lexicographic.{slice_cmp}
+use Rattle.std.proofs.lemmas.Fn.{always_returns_same}
+use Rattle.std.proofs.lemmas.Map.Lookups.{exact_bytes}
 use Rattle.bt_bencode.specs.View.{data_of, entries_of}
-use Rattle.bt_tree.specs.Blocks.{IsFileLength}
-use Rattle.bt_meta.specs.Fields.{string_at}
-use Rattle.bt_meta.specs.Files.{file_of}
-use Rattle.bt_meta.specs.Faults.{first_of, is_piece_length, layers_of}
-use Rattle.bt_meta.specs.Reading.{Refuses, AreShort, HasStringsOf, with_layer, layer_fault, layer_faults, layer_bytes_fault}
+use Rattle.bt_meta.proofs.Lookup.{entry_cmp, rising, found_at, found_nowhere, apart}
 use Rattle.bt_meta.proofs.layers.find.Goals as goal
 
--- src/layers.rt:111:1
 pub returns-in-Ok : goal.returns-in-Ok
-returns-in-Ok c = ?
+returns-in-Ok c =
+    let es = c.args.entries.now in
+    let key = c.args.key.now in
+    let at = c.in-Ok.at in
+    let d = c.index-entries-at.result in
+    let equal = c.in-Ok.ensures.position (entry_cmp key) (always_returns_same _ _ _ (λ a r f' k. ?)) in
+    found_at es at d key c.requires ? (exact_bytes (get_or es at d).0.items key (equal d))
 
--- src/layers.rt:111:1
 pub returns-in-Err : goal.returns-in-Err
-returns-in-Err c = ?
+returns-in-Err c =
+    let es = c.args.entries.now in
+    let key = c.args.key.now in
+    let parts = c.in-Err.ensures.position (entry_cmp key) (always_returns_same _ _ _ (λ a r f' k. ?)) (rising es key c.requires) in
+    found_nowhere es key (apart es key c.in-Err.field-0 parts)
