@@ -84,13 +84,13 @@ noted_lengths piece_length path name properties p facts before old mid at f h no
     let from = root_is path name properties p facts at f in
     elim noted.lengths [
       | inl e ↦
-        let none : (is_file p && not (length_of p == 0)) ≡ false = and_right (is_file p) (not (length_of p == 0)) (ap not (zero_length (length_of p) (sym long ∙ e.0))) in
-        ap (λ l. is_other (length_at l root) n) e.1 ∙ h.lengths root n ∙ sym (others_same before p root n none)
+          let none : (is_file p && not (length_of p == 0)) ≡ false = and_right (is_file p) (not (length_of p == 0)) (ap not (zero_length (length_of p) (sym long ∙ e.0))) in
+          ap (λ l. is_other (length_at l root) n) e.1 ∙ h.lengths root n ∙ sym (others_same before p root n none)
       | inr s ↦
-        let P : List ℕ → Type 0 = λ r. IsNoted old.lengths mid.lengths r facts.length in
-        let Q : ℕ → Type 0 = λ m. IsNoted old.lengths mid.lengths (root_of p) m in
-        let some : 0 < length_of p = omega (arith, long, s.0) in
-        others_noted before p old.lengths mid.lengths root n at.file (positive (length_of p) some) h.lengths (subst Q long (subst P from s.1))
+          let P : List ℕ → Type 0 = λ r. IsNoted old.lengths mid.lengths r facts.length in
+          let Q : ℕ → Type 0 = λ m. IsNoted old.lengths mid.lengths (root_of p) m in
+          let some : 0 < length_of p = omega (arith, long, s.0) in
+          others_noted before p old.lengths mid.lengths root n at.file (positive (length_of p) some) h.lengths (subst Q long (subst P from s.1))
     ]
 
 -- ---- how many there are
@@ -149,24 +149,24 @@ conflict_stops piece_length path name properties p facts old e at f some (inr c)
     let root = root_is path name properties p facts at f in
     let more : 0 < length_of p = omega (arith, long, some) in
     stops_at piece_length p old e (λ before h.
-      let here : list_any (conflict p) before ≡ true = alike_here piece_length before p old facts.root facts.length true h root long c.0 in
-      let both : has_conflict before p ≡ true = rw (positive (length_of p) more, here) refl in
-      bad_root piece_length before p at.node at.named at.file (checks_are path name properties p None at f.faultless) both ∙ ap Some (sym c.1))
+    let here : list_any (conflict p) before ≡ true = alike_here piece_length before p old facts.root facts.length true h root long c.0 in
+    let both : has_conflict before p ≡ true = rw (positive (length_of p) more, here) refl in
+    bad_root piece_length before p at.node at.named at.file (checks_are path name properties p None at f.faultless) both ∙ ap Some (sym c.1))
 
 pub many_stop : (piece_length : ℕ) (path : List (List ℕ)) (name : List ℕ) (properties : Data) (p : Place) (facts : FileFacts) (old mid : Walk) (pieces : ℕ) → IsFilePlace path name properties p
     → IsFileFacts properties facts → IsNotedWalk facts old mid → pieces ≡ mid.pieces + div_ceil facts.length piece_length
     → (64 ≤ length path) ⊎ ((65536 ≤ length mid.files.items) ⊎ (2 ^ 21 < pieces)) → Stops piece_length (p ∷ []) old TooMany
 many_stop piece_length path name properties p facts old mid pieces at f noted e over =
     stops_at piece_length p old TooMany (λ before h.
-      let long = path_length path name p.path at.path_is in
-      let count = files_count piece_length facts before old mid h noted in
-      let sum = counts piece_length path name properties p facts before old mid pieces at f h noted e in
-      let n = length p.path in
-      let m = length (filter is_file before) + 1 in
-      let k = pieces_of piece_length before + piece_count piece_length (length_of p) in
-      let past : (64 < n) ⊎ ((65536 < m) ⊎ (2 ^ 21 < k)) = past_limits (length path) (length mid.files.items) pieces n m k long (ap (λ x. x + 1) count) sum over in
-      file_counted piece_length before p true at.node at.named at.file (checks_are path name properties p None at f.faultless) (no_conflict piece_length path name properties p facts before old mid at f h noted)
-      (too_many_is piece_length before p at.file ∙ many n m k past))
+    let long = path_length path name p.path at.path_is in
+    let count = files_count piece_length facts before old mid h noted in
+    let sum = counts piece_length path name properties p facts before old mid pieces at f h noted e in
+    let n = length p.path in
+    let m = length (filter is_file before) + 1 in
+    let k = pieces_of piece_length before + piece_count piece_length (length_of p) in
+    let past : (64 < n) ⊎ ((65536 < m) ⊎ (2 ^ 21 < k)) = past_limits (length path) (length mid.files.items) pieces n m k long (ap (λ x. x + 1) count) sum over in
+    file_counted piece_length before p true at.node at.named at.file (checks_are path name properties p None at f.faultless) (no_conflict piece_length path name properties p facts before old mid at f h noted)
+    (too_many_is piece_length before p at.file ∙ many n m k past))
   where
     past_limits : (a b c n m k : ℕ) → n ≡ a + 1 → b + 1 ≡ m → c ≡ k → (64 ≤ a) ⊎ ((65536 ≤ b) ⊎ (2 ^ 21 < c)) → (64 < n) ⊎ ((65536 < m) ⊎ (2 ^ 21 < k))
     past_limits a b c n m k x y z (inl h) = inl (omega arith)
@@ -179,18 +179,20 @@ pub file_passes : (piece_length : ℕ) (path : List (List ℕ)) (name : List ℕ
     → entry.first_piece ≡ mid.pieces → entry.layer.items ≡ [] → Passes piece_length (p ∷ []) old new
 file_passes piece_length path name properties p facts old mid new entry at f noted near few_files few_pieces pieces files lengths named sized root first layer =
     passes_one piece_length p old new (λ before h.
-      let long = path_length path name p.path at.path_is in
-      let count = files_count piece_length facts before old mid h noted in
-      let sum = counts piece_length path name properties p facts before old mid new.pieces at f h noted pieces in
-      let entry_long = sized ∙ length_is path name properties p facts at f in
-      let a : size p.path ≤ 64 = omega arith in
-      let test = few (size p.path) (size (filter is_file before) + 1) (pieces_of piece_length before + piece_count piece_length (length_of p)) a (omega arith) (omega arith) in
-      let walked = file_walked piece_length before p old new entry h at.file (named ∙ sym at.path_is) entry_long (root ∙ root_is path name properties p facts at f)
-          (first ∙ noted.pieces) layer (let s = f.short in omega (arith, sized, s)) (files ∙ ap (λ v. v.items ++ entry ∷ []) noted.files)
-          (sum ∙ ap (λ n. n + piece_count piece_length (length_of p)) (sym h.pieces))
-          (λ r n. ap (λ l. is_other (length_at l r) n) lengths ∙ noted_lengths piece_length path name properties p facts before old mid at f h noted r n) in
-      (walked, file_counted piece_length before p false at.node at.named at.file (checks_are path name properties p None at f.faultless) (no_conflict piece_length path name properties p facts before old mid at f h noted)
-      (too_many_is piece_length before p at.file ∙ test)))
+    let long = path_length path name p.path at.path_is in
+    let count = files_count piece_length facts before old mid h noted in
+    let sum = counts piece_length path name properties p facts before old mid new.pieces at f h noted pieces in
+    let entry_long = sized ∙ length_is path name properties p facts at f in
+    let a : size p.path ≤ 64 = omega arith in
+    let test = few (size p.path) (size (filter is_file before) + 1) (pieces_of piece_length before + piece_count piece_length (length_of p)) a (omega arith) (omega arith) in
+    let walked = file_walked piece_length before p old new entry h at.file (named ∙ sym at.path_is) entry_long (root ∙ root_is path name properties p facts at f)
+    (first ∙ noted.pieces) layer (let s = f.short in omega (arith, sized, s)) (files ∙ ap (λ v. v.items ++ entry ∷ []) noted.files)
+    (sum ∙ ap (λ n. n + piece_count piece_length (length_of p)) (sym h.pieces))
+    (λ r n. ap (λ l. is_other (length_at l r) n) lengths ∙ noted_lengths piece_length path name properties p facts before old mid at f h noted r n) in (
+      walked,
+      file_counted piece_length before p false at.node at.named at.file (checks_are path name properties p None at f.faultless) (no_conflict piece_length path name properties p facts before old mid at f h noted)
+          (too_many_is piece_length before p at.file ∙ test),
+    ))
 
 -- ---- entries
 
@@ -206,18 +208,18 @@ pub folder_many : (piece_length : ℕ) (path : List (List ℕ)) (key : List ℕ)
 folder_many piece_length path key d w node name folder deep =
     let p : Place = record { path = path ++ key ∷ []; value = d } in
     stops_at piece_length p w TooMany (λ before h.
-      let long = path_length path key p.path refl in
-      let past : nat_lt 64 (length p.path) ≡ true = grind (arith, nat_tests) in
-      folder_counted piece_length before p true node (name_of path key d true name) folder (too_many_folder piece_length before p folder ∙ past))
+    let long = path_length path key p.path refl in
+    let past : nat_lt 64 (length p.path) ≡ true = grind (arith, nat_tests) in
+    folder_counted piece_length before p true node (name_of path key d true name) folder (too_many_folder piece_length before p folder ∙ past))
 
 pub folder_passes : (piece_length : ℕ) (path : List (List ℕ)) (key : List ℕ) (d : Data) (w : Walk) → is_node d ≡ true → is_path_element key ≡ true → has_key d [] ≡ false → length path < 64
     → Passes piece_length ((record { path = path ++ key ∷ []; value = d }) ∷ []) w w
 folder_passes piece_length path key d w node name folder near =
     let p : Place = record { path = path ++ key ∷ []; value = d } in
     passes_one piece_length p w w (λ before h.
-      let long = path_length path key p.path refl in
-      let within : nat_lt 64 (length p.path) ≡ false = grind (arith, nat_tests) in
-      (folder_walked piece_length before p w h folder, folder_counted piece_length before p false node (name_of path key d true name) folder (too_many_folder piece_length before p folder ∙ within)))
+    let long = path_length path key p.path refl in
+    let within : nat_lt 64 (length p.path) ≡ false = grind (arith, nat_tests) in
+    (folder_walked piece_length before p w h folder, folder_counted piece_length before p false node (name_of path key d true name) folder (too_many_folder piece_length before p folder ∙ within)))
 
 pub no_node_stops : (piece_length : ℕ) (path : List (List ℕ)) (key : List ℕ) (d : Data) (w : Walk) → is_node d ≡ false → Stops piece_length ((record { path = path ++ key ∷ []; value = d }) ∷ []) w Tree
 no_node_stops piece_length path key d w node = let p : Place = record { path = path ++ key ∷ []; value = d } in stops_at piece_length p w Tree (λ before h. no_node piece_length before p node)

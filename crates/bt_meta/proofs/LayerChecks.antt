@@ -106,7 +106,7 @@ changed_more f W i old new e x lt less is h change =
     let after : i < i + 1 = omega arith in
     record {
       done = ap (map f) (take_more_set new i x lt) ∙ map_push f (take i new) x ∙ ap (λ ys. ys ++ f x ∷ []) h.done ∙ ap (λ y. map W (map f (take i old)) ++ y ∷ []) change
-        ∙ sym (ap (λ ys. map W (map f ys)) more ∙ ap (map W) (map_push f (take i old) e) ∙ map_push W (map f (take i old)) (f e));
+          ∙ sym (ap (λ ys. map W (map f ys)) more ∙ ap (map W) (map_push f (take i old) e) ∙ map_push W (map f (take i old)) (f e));
       rest = drop-set-lt (i + 1) new i x after ∙ (cons_parts (get_or new i e) (get_or old i e) (drop (i + 1) new) (drop (i + 1) old) (sym (drop_more new i e lt) ∙ h.rest ∙ drop_more old i e less)).1;
     }
 

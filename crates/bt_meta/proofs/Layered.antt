@@ -6,11 +6,12 @@ use Rattle.std.proofs.lemmas.List.Sums.{sum-map}
 use Rattle.bt_bencode.specs.Data.{Data}
 use Rattle.bt_meta.specs.Fields.{no_dictionary, string_at}
 use Rattle.bt_meta.specs.Places.{Place, places_below, with_earlier}
-use Rattle.bt_meta.specs.Files.{File, is_file, length_of, root_of, layer_at, file_at, files_of, piece_count}
+use Rattle.bt_meta.specs.Files.{File, file_of, is_file, length_of, root_of, layer_at, file_at, files_of, piece_count}
+use Rattle.bt_meta.specs.declared.torrent.FileEntry.{FileEntry}
 use Rattle.bt_meta.specs.Faults.{Check, layer_check, layer_checks, first_of, fault_if}
 use Rattle.bt_meta.specs.Layers.{has_layer_size, has_root}
 use Rattle.bt_meta.specs.declared.error.MetaError.TheVariants.{LayerMissing, LayerSize, LayerDiffers}
-use Rattle.bt_meta.specs.Reading.{with_layer, layer_fault, layer_faults, HasStringsOf}
+use Rattle.bt_meta.specs.Reading.{pieces_in, with_layer, layer_fault, layer_faults, HasStringsOf}
 
 with_layers : (piece_length : ℕ) (layers : Data) (before places : List Place)
     → map (with_layer piece_length layers) (with_earlier (file_at piece_length no_dictionary) before places) ≡ with_earlier (file_at piece_length layers) before places
@@ -68,3 +69,8 @@ same_fault piece_length layers others f h = rw (h f.root) refl
 pub same_faults : (piece_length : ℕ) (layers others : Data) (files : List File) → HasStringsOf layers others → layer_faults piece_length layers files ≡ layer_faults piece_length others files
 same_faults piece_length layers others [] h = refl
 same_faults piece_length layers others (f ∷ files) h = ap (λ c. c ∷ layer_faults piece_length layers files) (same_fault piece_length layers others f h) ∙ ap (λ cs. layer_fault piece_length others f ∷ cs) (same_faults piece_length layers others files h)
+
+pub pieces_after : (piece_length : ℕ) (layers : Data) (pieces : ℕ) (old new : List FileEntry) → pieces ≡ pieces_in piece_length old → map file_of new ≡ map (with_layer piece_length layers) (map file_of old)
+    → pieces ≡ pieces_in piece_length new
+pieces_after piece_length layers pieces old new e h =
+    e ∙ sym (ap (sum_by (λ (f : File). piece_count piece_length f.length)) h ∙ pieces_with_layers piece_length piece_length layers (map file_of old))

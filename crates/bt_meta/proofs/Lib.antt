@@ -12,3 +12,4 @@ pub mod PathSteps
 pub mod Trees
 pub mod Lookup
 pub mod LayerChecks
+pub mod Refused

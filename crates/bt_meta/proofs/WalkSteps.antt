@@ -110,7 +110,7 @@ folder_stops piece_length path es i e old mid fault lt is passed stopped =
     let P : List Place → Type 0 = λ places. Stops piece_length places old fault in
     subst P (sym (places_split path es i e lt is))
     (stops_later piece_length (places_among path (entries_of (take i es))) (entry_places path e.0.items (data_of e.1) ++ places_among path (entries_of (drop (i + 1) es))) old mid fault passed
-      (stops_sooner piece_length (entry_places path e.0.items (data_of e.1)) (places_among path (entries_of (drop (i + 1) es))) mid fault stopped))
+    (stops_sooner piece_length (entry_places path e.0.items (data_of e.1)) (places_among path (entries_of (drop (i + 1) es))) mid fault stopped))
 
 -- a fault below an entry's own place is one of the entry
 pub inner_stops : (piece_length : ℕ) (p : Place) (below places : List Place) (old mid : Walk) (fault : MetaError) → places ≡ p ∷ below → Passes piece_length (p ∷ []) old mid

@@ -5,7 +5,7 @@ use Rattle.bt_bencode.specs.Data.{dictionary}
 use Rattle.bt_bencode.specs.View.{entries_of}
 use Rattle.bt_meta.specs.Files.{file_of}
 use Rattle.bt_meta.specs.Faults.{Check, first_of}
-use Rattle.bt_meta.specs.Reading.{with_layer, layer_fault}
+use Rattle.bt_meta.specs.Reading.{Refuses, with_layer, layer_fault}
 use Rattle.bt_meta.specs.declared.torrent.FileEntry.{FileEntry}
 use Rattle.bt_meta.proofs.LayerChecks.{ChangedBelow, unchanged_item, changed_more, faultless_more, faulty_at, faults_seen, short_at, refused_at, nothing_changed, all_changed}
 use Rattle.bt_meta.proofs.layers.add_layers_of.Goals as goal
@@ -28,7 +28,8 @@ returns-in_err-add_layer-clause-refused c =
     let lt : c.loop-file.file-index < length c.loop-file.files = omega arith in
     let e = c.file-item.result in
     let item = unchanged_item c.args.files.now c.loop-file.files c.loop-file.file-index e lt less c.file-item.is c.loop-file.invariant.changed.rest in
-    rw (q.1, q.2) (refused_at c.args.piece_length (dictionary (entries_of c.args.entries.now)) c.loop-file.file-index c.args.files.now e c.in_err-add_layer.field-0.0 less item c.loop-file.invariant.faultless ?)
+    let R : FileEntry → Type 0 = λ f. Refuses (layer_fault c.args.piece_length (dictionary (entries_of c.args.entries.now)) (file_of f)) c.in_err-add_layer.field-0.0 in
+    rw (q.1, q.2) (refused_at c.args.piece_length (dictionary (entries_of c.args.entries.now)) c.loop-file.file-index c.args.files.now e c.in_err-add_layer.field-0.0 less item c.loop-file.invariant.faultless (subst R (sym c.file-item.is) c.in_err-add_layer.ensures.refused))
 
 pub loop-file-preserved : goal.loop-file-preserved
 loop-file-preserved c =
@@ -38,8 +39,8 @@ loop-file-preserved c =
     let item = unchanged_item c.args.files.now c.loop-file.files c.loop-file.file-index e lt less c.file-item.is c.loop-file.invariant.changed.rest in
     let layers = dictionary (entries_of c.args.entries.now) in
     record {
-      changed = changed_more file_of (with_layer c.args.piece_length layers) c.loop-file.file-index c.args.files.now c.loop-file.files e c.add_layer.new.file lt less c.file-item.is c.loop-file.invariant.changed ?;
-      faultless = faultless_more (λ (f : FileEntry). layer_fault c.args.piece_length layers (file_of f)) c.loop-file.file-index c.args.files.now e less item c.loop-file.invariant.faultless ?;
+      changed = changed_more file_of (with_layer c.args.piece_length layers) c.loop-file.file-index c.args.files.now c.loop-file.files e c.add_layer.new.file lt less c.file-item.is c.loop-file.invariant.changed (c.in_ok-add_layer.ensures.whole ∙ ap (λ f. with_layer c.args.piece_length layers (file_of f)) (sym c.file-item.is));
+      faultless = faultless_more (λ (f : FileEntry). layer_fault c.args.piece_length layers (file_of f)) c.loop-file.file-index c.args.files.now e less item c.loop-file.invariant.faultless (ap (λ f. layer_fault c.args.piece_length layers (file_of f)) c.file-item.is ∙ c.in_ok-add_layer.ensures.faultless);
     }
 
 pub returns-clause-whole : goal.returns-clause-whole

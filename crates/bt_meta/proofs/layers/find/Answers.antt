@@ -1,24 +1,32 @@
-use Rattle.std.proofs.Common.{◌≡◌, ◌<◌, length, get_or, Some, refl, sym, ap, subst, ◌∙◌, arith}
+use Rattle.std.proofs.Common.{◌≡◌, ◌∙◌, ◌<◌, ◌≤◌, ◌+◌, ◌-◌, ◌/◌, Some, length, refl, sym, ap, arith}
 use Rattle.std.specs.Ordering.{nat_cmp}
 use Rattle.std.specs.Cmp.Lexicographic.{slice_cmp}
-use Rattle.std.proofs.lemmas.Fn.{always_returns_same}
 use Rattle.std.proofs.lemmas.Map.Lookups.{exact_bytes}
-use Rattle.bt_bencode.specs.View.{data_of, entries_of}
-use Rattle.bt_meta.proofs.Lookup.{entry_cmp, rising, found_at, found_nowhere, apart}
+use Rattle.bt_bencode.specs.View.{data_of}
+use Rattle.bt_meta.proofs.Lookup.{whole, upper_half, lower_half, nothing_between, found_here, found_nowhere}
 use Rattle.bt_meta.proofs.layers.find.Goals as goal
 
-pub returns-in-Ok : goal.returns-in-Ok
-returns-in-Ok c =
-    let es = c.args.entries.now in
-    let key = c.args.key.now in
-    let at = c.in-Ok.at in
-    let d = c.index-entries-at.result in
-    let equal = c.in-Ok.ensures.position (entry_cmp key) (always_returns_same _ _ _ (λ a r f' k. ?)) in
-    found_at es at d key c.requires ? (exact_bytes (get_or es at d).0.items key (equal d))
+pub loop-low-init : goal.loop-low-init
+loop-low-init c = whole c.args.entries.now c.args.key.now (length c.args.entries.now) refl
 
-pub returns-in-Err : goal.returns-in-Err
-returns-in-Err c =
-    let es = c.args.entries.now in
+pub loop-low-preserved-in-Less : goal.loop-low-preserved-in-Less
+loop-low-preserved-in-Less c =
     let key = c.args.key.now in
-    let parts = c.in-Err.ensures.position (entry_cmp key) (always_returns_same _ _ _ (λ a r f' k. ?)) (rising es key c.requires) in
-    found_nowhere es key (apart es key c.in-Err.field-0 parts)
+    upper_half c.args.entries.now key c.loop-low.low c.loop-low.high (c.loop-low.low + (c.loop-low.high - c.loop-low.low) / 2) c.index-entries-middle.result c.requires c.loop-low.invariant (omega arith) c.index-entries-middle.is
+    (ap (λ k. slice_cmp nat_cmp k key) (sym c.as_slice.ensures.value) ∙ sym c.in-Less.ensures)
+
+pub returns-in-Equal : goal.returns-in-Equal
+returns-in-Equal c =
+    let key = c.args.key.now in
+    let inside = c.loop-low.invariant.inside in
+    found_here c.args.entries.now (c.loop-low.low + (c.loop-low.high - c.loop-low.low) / 2) c.index-entries-middle.result key c.requires (omega arith) c.index-entries-middle.is
+    (exact_bytes c.index-entries-middle.result.0.items key (ap (λ k. slice_cmp nat_cmp k key) (sym c.as_slice.ensures.value) ∙ sym c.in-Equal.ensures))
+
+pub loop-low-preserved : goal.loop-low-preserved
+loop-low-preserved c =
+    let key = c.args.key.now in
+    lower_half c.args.entries.now key c.loop-low.low c.loop-low.high (c.loop-low.low + (c.loop-low.high - c.loop-low.low) / 2) c.index-entries-middle.result c.requires c.loop-low.invariant (omega arith) (omega arith) c.index-entries-middle.is
+    (ap (λ k. slice_cmp nat_cmp k key) (sym c.as_slice.ensures.value) ∙ sym c.in-Greater.ensures)
+
+pub returns : goal.returns
+returns c = found_nowhere c.args.entries.now c.args.key.now (nothing_between c.args.entries.now c.args.key.now c.loop-low.low c.loop-low.high c.loop-low.invariant (omega arith))

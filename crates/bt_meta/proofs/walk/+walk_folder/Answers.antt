@@ -45,7 +45,7 @@ returns-in_err-name-clause-stopped t c =
     let stopped = entry_stopped c.args.piece_length c.deref.result.now c.args.path.now.items c.deref-in-loop-key.result.now e.0.items (data_of e.1) c.loop-key.walk fault (c.deref.ensures.value ∙ c.loop-key.invariant.path) c.deref-in-loop-key.ensures.value c.in_err-name.ensures in
     rw (q.1, q.2)
     (subst P (sym (below_entries path (data_of c.args.folder.now) (entries_of es) folder))
-      (folder_stops c.args.piece_length path es c.loop-key.key-index e c.args.walk.now c.loop-key.walk fault c.loop-key-test.true c.loop-key-item.is c.loop-key.invariant.passed stopped))
+    (folder_stops c.args.piece_length path es c.loop-key.key-index e c.args.walk.now c.loop-key.walk fault c.loop-key-test.true c.loop-key-item.is c.loop-key.invariant.passed stopped))
 
 pub returns-in_err-walk_folder-clause-stopped : goal.returns-in_err-walk_folder-clause-stopped
 returns-in_err-walk_folder-clause-stopped t c =
@@ -57,14 +57,14 @@ returns-in_err-walk_folder-clause-stopped t c =
     let folder : data_of c.args.folder.now ≡ dictionary (entries_of es) = ap data_of c.in-Dict.is ∙ data_of-Dict c.in-Dict.entries ∙ ap (λ xs. dictionary (entries_of xs)) (sym c.deref-key-items.ensures.value) in
     let P : List Place → Type 0 = λ places. Stops c.args.piece_length places c.args.walk.now fault in
     let entered = entered_at c.args.piece_length c.deref.result.now c.args.path.now.items c.deref-in-loop-key.result.now e.0.items (data_of e.1) c.loop-key.walk c.enter.new.walk c.in_ok-name.field-0 c.in-Some.name
-        (c.deref.ensures.value ∙ c.loop-key.invariant.path) c.deref-in-loop-key.ensures.value c.in-Some.is c.in_ok-name.ensures in
+    (c.deref.ensures.value ∙ c.loop-key.invariant.path) c.deref-in-loop-key.ensures.value c.in-Some.is c.in_ok-name.ensures in
     let inner = inner_path c.loop-key.path.items c.args.path.now.items c.push.new.self.items c.in-Some.name c.loop-key.invariant.path c.in_ok-push.ensures.items in
     let Q : List (List ℕ) → Type 0 = λ at. Stops c.args.piece_length (places_below at (data_of e.1)) c.enter.new.walk fault in
     rw (q.1, q.2)
     (subst P (sym (below_entries path (data_of c.args.folder.now) (entries_of es) folder))
-      (folder_stops c.args.piece_length path es c.loop-key.key-index e c.args.walk.now c.loop-key.walk fault c.loop-key-test.true c.loop-key-item.is c.loop-key.invariant.passed
-        (inner_stops c.args.piece_length (record { path = path ++ c.in-Some.name.now ∷ []; value = data_of e.1 }) (places_below (path ++ c.in-Some.name.now ∷ []) (data_of e.1)) (entry_places path e.0.items (data_of e.1)) c.loop-key.walk c.enter.new.walk fault entered.1 entered.0
-          (subst Q inner c.in_err-walk_folder.ensures.stopped))))
+    (folder_stops c.args.piece_length path es c.loop-key.key-index e c.args.walk.now c.loop-key.walk fault c.loop-key-test.true c.loop-key-item.is c.loop-key.invariant.passed
+    (inner_stops c.args.piece_length (record { path = path ++ c.in-Some.name.now ∷ []; value = data_of e.1 }) (places_below (path ++ c.in-Some.name.now ∷ []) (data_of e.1)) (entry_places path e.0.items (data_of e.1)) c.loop-key.walk c.enter.new.walk fault entered.1 entered.0
+    (subst Q inner c.in_err-walk_folder.ensures.stopped))))
 
 pub loop-key-preserved : goal.loop-key-preserved
 loop-key-preserved t c =
@@ -77,26 +77,26 @@ loop-key-preserved t c =
     let W : Walk → Type 0 = λ w. Passes pl (places_among path (entries_of (take (c.loop-key.key-index + 1) es))) c.args.walk.now w in
     elim c.match-branch-2.branch [
       | in-Some+in_ok-push+in_ok-walk_folder w ↦
-        let name = w.in-Some.name in
-        let entered = entered_at pl c.deref.result.now c.args.path.now.items c.deref-in-loop-key.result.now e.0.items (data_of e.1) c.loop-key.walk c.enter.new.walk c.in_ok-name.field-0 name same key w.in-Some.is c.in_ok-name.ensures in
-        let inner = inner_path c.loop-key.path.items c.args.path.now.items w.push.new.self.items name c.loop-key.invariant.path w.in_ok-push.ensures.items in
-        let Q : List (List ℕ) → Type 0 = λ at. Passes pl (places_below at (data_of e.1)) c.enter.new.walk w.walk_folder.new.walk in
-        let p : Place = record { path = path ++ name.now ∷ []; value = data_of e.1 } in
-        let more = inner_passes pl p (places_below (path ++ name.now ∷ []) (data_of e.1)) (entry_places path e.0.items (data_of e.1)) c.loop-key.walk c.enter.new.walk w.walk_folder.new.walk entered.1 entered.0
-            (subst Q inner w.in_ok-walk_folder.ensures.passed) in
-        record {
-          passed = subst W (sym w.walk-is) (folder_passes_more pl path es c.loop-key.key-index e c.args.walk.now c.loop-key.walk w.walk_folder.new.walk c.loop-key-test.true c.loop-key-item.is c.loop-key.invariant.passed more);
-          path = ap (λ v. v.items) w.path-is
-            ∙ cut_back c.args.path.now.items w.truncate.new.self.items w.walk_folder.new.path.items name (length w.as_slice-depth.result.now)
-              (w.in_ok-walk_folder.ensures.path ∙ w.in_ok-push.ensures.items ∙ ap (λ xs. xs ++ name ∷ []) c.loop-key.invariant.path)
-              (ap length (w.as_slice-depth.ensures.value ∙ c.loop-key.invariant.path)) w.truncate.ensures.items;
-        }
+          let name = w.in-Some.name in
+          let entered = entered_at pl c.deref.result.now c.args.path.now.items c.deref-in-loop-key.result.now e.0.items (data_of e.1) c.loop-key.walk c.enter.new.walk c.in_ok-name.field-0 name same key w.in-Some.is c.in_ok-name.ensures in
+          let inner = inner_path c.loop-key.path.items c.args.path.now.items w.push.new.self.items name c.loop-key.invariant.path w.in_ok-push.ensures.items in
+          let Q : List (List ℕ) → Type 0 = λ at. Passes pl (places_below at (data_of e.1)) c.enter.new.walk w.walk_folder.new.walk in
+          let p : Place = record { path = path ++ name.now ∷ []; value = data_of e.1 } in
+          let more = inner_passes pl p (places_below (path ++ name.now ∷ []) (data_of e.1)) (entry_places path e.0.items (data_of e.1)) c.loop-key.walk c.enter.new.walk w.walk_folder.new.walk entered.1 entered.0
+          (subst Q inner w.in_ok-walk_folder.ensures.passed) in
+          record {
+            passed = subst W (sym w.walk-is) (folder_passes_more pl path es c.loop-key.key-index e c.args.walk.now c.loop-key.walk w.walk_folder.new.walk c.loop-key-test.true c.loop-key-item.is c.loop-key.invariant.passed more);
+            path = ap (λ v. v.items) w.path-is
+                ∙ cut_back c.args.path.now.items w.truncate.new.self.items w.walk_folder.new.path.items name (length w.as_slice-depth.result.now)
+                (w.in_ok-walk_folder.ensures.path ∙ w.in_ok-push.ensures.items ∙ ap (λ xs. xs ++ name ∷ []) c.loop-key.invariant.path)
+                (ap length (w.as_slice-depth.ensures.value ∙ c.loop-key.invariant.path)) w.truncate.ensures.items;
+          }
       | in_default w ↦
-        let more = not_entered pl c.deref.result.now c.args.path.now.items c.deref-in-loop-key.result.now e.0.items (data_of e.1) c.loop-key.walk c.enter.new.walk c.in_ok-name.field-0 same key w.in_default.is c.in_ok-name.ensures in
-        record {
-          passed = subst W (sym w.walk-is) (folder_passes_more pl path es c.loop-key.key-index e c.args.walk.now c.loop-key.walk c.enter.new.walk c.loop-key-test.true c.loop-key-item.is c.loop-key.invariant.passed more);
-          path = ap (λ v. v.items) w.path-is ∙ c.loop-key.invariant.path;
-        }
+          let more = not_entered pl c.deref.result.now c.args.path.now.items c.deref-in-loop-key.result.now e.0.items (data_of e.1) c.loop-key.walk c.enter.new.walk c.in_ok-name.field-0 same key w.in_default.is c.in_ok-name.ensures in
+          record {
+            passed = subst W (sym w.walk-is) (folder_passes_more pl path es c.loop-key.key-index e c.args.walk.now c.loop-key.walk c.enter.new.walk c.loop-key-test.true c.loop-key-item.is c.loop-key.invariant.passed more);
+            path = ap (λ v. v.items) w.path-is ∙ c.loop-key.invariant.path;
+          }
     ]
 
 pub returns-clause-passed : goal.returns-clause-passed

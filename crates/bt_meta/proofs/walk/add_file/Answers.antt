@@ -13,7 +13,7 @@ pub returns-in_err-note_length-clause-stopped : goal.returns-in_err-note_length-
 returns-in_err-note_length-clause-stopped c =
     let q = err_from_is_err_and c.from_residual-in_err-note_length.result c.from_residual-in_err-note_length.ensures.1 in
     rw (q.1, q.2) (λ p at. conflict_stops c.args.piece_length (texts c.args.path.now) c.args.name.now (data_of c.args.properties.now) p c.in_ok-length.field-0 c.args.walk.now c.in_err-note_length.field-0.0 at
-      c.in_ok-length.ensures c.if-length-gt0.true c.in_err-note_length.ensures.refused)
+    c.in_ok-length.ensures c.if-length-gt0.true c.in_err-note_length.ensures.refused)
 
 pub returns-then-path-ge-MAX_PATH_LENGTH-clause-stopped : goal.returns-then-path-ge-MAX_PATH_LENGTH-clause-stopped
 returns-then-path-ge-MAX_PATH_LENGTH-clause-stopped c =
@@ -27,7 +27,7 @@ returns-then-path-ge-MAX_PATH_LENGTH-clause-stopped c =
       | then-path-ge-MAX_PATH_LENGTH-via-else-path-ge-MAX_PATH_LENGTH+else-len-ge-MAX_FILES+then-pieces-gt-MAX_PIECES w ↦ inr (inr (omega arith))
     ] in
     λ p at. many_stop c.args.piece_length (texts c.args.path.now) c.args.name.now (data_of c.args.properties.now) p c.in_ok-length.field-0 c.args.walk.now c.if-length-gt0.walk (c.if-length-gt0.walk.pieces + c.div_ceil.result) at
-      c.in_ok-length.ensures noted (ap (λ n. c.if-length-gt0.walk.pieces + n) c.div_ceil.ensures) over
+    c.in_ok-length.ensures noted (ap (λ n. c.if-length-gt0.walk.pieces + n) c.div_ceil.ensures) over
 
 pub returns-clause-passed : goal.returns-clause-passed
 returns-clause-passed c =
@@ -38,5 +38,5 @@ returns-clause-passed c =
     let entry : FileEntry = record { path = c.in_ok-path.path; length = c.in_ok-length.field-0.length; root = c.in_ok-length.field-0.root; first_piece = c.if-length-gt0.walk.pieces; layer = c.new.result } in
     let new : Walk = record { files = c.push.new.self; pieces = c.if-length-gt0.walk.pieces + c.div_ceil.result; lengths = c.if-length-gt0.walk.lengths } in
     λ p at. file_passes c.args.piece_length (texts c.args.path.now) c.args.name.now (data_of c.args.properties.now) p c.in_ok-length.field-0 c.args.walk.now c.if-length-gt0.walk
-      new entry at c.in_ok-length.ensures noted (omega (arith, length-map c.args.path.now (λ t. t.now))) (omega arith) (omega arith)
-      (ap (λ n. c.if-length-gt0.walk.pieces + n) c.div_ceil.ensures) c.in_ok-push.ensures.items refl c.in_ok-path.ensures refl refl refl c.new.ensures.items
+    new entry at c.in_ok-length.ensures noted (omega (arith, length-map c.args.path.now (λ t. t.now))) (omega arith) (omega arith)
+    (ap (λ n. c.if-length-gt0.walk.pieces + n) c.div_ceil.ensures) c.in_ok-push.ensures.items refl c.in_ok-path.ensures refl refl refl c.new.ensures.items

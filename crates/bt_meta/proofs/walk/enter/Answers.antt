@@ -43,7 +43,7 @@ returns-in_err-add_file-in-File c =
     let node = subst P c.in-File.is c.in-Some.ensures in
     let p : Place = record { path = path ++ key ∷ []; value = d } in
     rw (q.1, q.2) (entry_stops c.args.piece_length path key d c.args.walk.now c.in_err-add_file-in-File.field-0.0 (key_places path key d c.if-is_empty.ensures)
-      (c.in_err-add_file-in-File.ensures.stopped p (file_place path c.in-Some-path_element.name.now key d (data_of c.in-File.properties.now) named.1 node.0 named.0 node.1 node.2)))
+    (c.in_err-add_file-in-File.ensures.stopped p (file_place path c.in-Some-path_element.name.now key d (data_of c.in-File.properties.now) named.1 node.0 named.0 node.1 node.2)))
 
 pub returns-then-path-ge-MAX_PATH_LENGTH : goal.returns-then-path-ge-MAX_PATH_LENGTH
 returns-then-path-ge-MAX_PATH_LENGTH c =

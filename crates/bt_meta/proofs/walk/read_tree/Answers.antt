@@ -23,7 +23,7 @@ returns-then-is_empty c =
     let old : Walk = record { files = c.new.result; pieces = 0; lengths = c.new-2.result } in
     let begun = start c.args.piece_length old c.new.ensures.items refl c.new-2.ensures.empty in
     inr (no_file c.args.piece_length (data_of c.args.tree.now) c.new-path.result.items old c.walk_folder.new.walk c.new-path.ensures.items c.if-has.ensures begun c.in_ok-walk_folder.ensures.passed
-      (c.if-is_empty.ensures ∙ ap (λ xs. length xs == 0) c.as_slice.ensures.value))
+    (c.if-is_empty.ensures ∙ ap (λ xs. length xs == 0) c.as_slice.ensures.value))
 
 pub returns : goal.returns
 returns c =
