@@ -50,7 +50,7 @@ file_counted piece_length before p many node name file none c m =
 
 pub folder_counted : (piece_length : ℕ) (before : List Place) (p : Place) (many : Bool) → is_node p.value ≡ true → has_lawful_name p ≡ true → is_file p ≡ false → is_too_many piece_length before p ≡ many
     → entry_check piece_length before p ≡ first_of (fault_if many TooMany ∷ [])
-folder_counted piece_length before p many node name folder m = rw (node, name, folder, m) refl
+folder_counted piece_length before p many node name folder m = rw (m, node, name, folder) refl
 
 only : (c : Check) → first_of (c ∷ []) ≡ c
 only None = refl

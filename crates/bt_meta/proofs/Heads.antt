@@ -1,5 +1,5 @@
 -- What the checks of an info dictionary's head come to, and what follows for the whole.
-use Rattle.std.proofs.Common.{◌≡◌, ℕ, Bool, true, false, List, [], ◌∷◌, ◌++◌, map, Option, None, Some, refl, sym, ◌∙◌}
+use Rattle.std.proofs.Common.{◌≡◌, ℕ, Bool, true, false, List, [], ◌∷◌, ◌++◌, map, Option, None, Some, refl, sym, ap, ◌∙◌, inl, inr}
 use Rattle.std.specs.Prelude.{codes, is_none, not}
 use Rattle.sha2.specs.Sha256.{sha256}
 use Rattle.bt_bencode.specs.Data.{Data}
@@ -9,7 +9,7 @@ use Rattle.bt_meta.specs.Fields.{integer_at, string_at, dictionary_at}
 use Rattle.bt_meta.specs.Files.{File, file_of, files_of}
 use Rattle.bt_meta.specs.Faults.{Check, first_of, fault_if, head_checks, info_checks, tree_checks, layer_checks, version_check, is_hybrid, is_piece_length, piece_length_of, tree_of, info_of, layers_of, first_fault, first_info_fault, is_dictionary}
 use Rattle.bt_meta.specs.Torrent.{metainfo_of}
-use Rattle.bt_meta.specs.Reading.{IsHead, IsListing, layer_faults}
+use Rattle.bt_meta.specs.Reading.{Refuses, IsHead, IsListing, layer_faults}
 use Rattle.bt_meta.specs.declared.reader.Head.{Head}
 use Rattle.bt_meta.specs.declared.walk.Listing.{Listing}
 use Rattle.bt_meta.specs.declared.error.MetaError.{MetaError}
@@ -115,7 +115,10 @@ torrent_info_fault torrent info e i f =
 layers_here : (layers info : Data) (head : Head) (listing : Listing) → IsHead info head → IsListing head.piece_length (data_of head.tree.now) listing
     → first_of (layer_checks (piece_length_of info) layers (tree_of info)) ≡ first_of (layer_faults head.piece_length layers (map file_of listing.files.items))
 layers_here layers info head listing h l =
-    ap first_of (rw (h.piece_length, h.tree) (sym (ap (layer_faults head.piece_length layers) l.files ∙ layer_faults_are head.piece_length layers (data_of head.tree.now))))
+    let pl = head.piece_length in
+    let tree = data_of head.tree.now in
+    let here : layer_faults pl layers (map file_of listing.files.items) ≡ layer_checks pl layers tree = ap (layer_faults pl layers) l.files ∙ layer_faults_are pl layers tree in
+    rw (h.piece_length, h.tree) (ap first_of (sym here))
 
 pub torrent_layers : (torrent info : Data) (head : Head) (listing : Listing) → Some info ≡ dictionary_at torrent (codes "info") → IsHead info head
     → IsListing head.piece_length (data_of head.tree.now) listing → first_fault torrent ≡ first_of (layer_faults head.piece_length (layers_of torrent) (map file_of listing.files.items))
@@ -144,3 +147,19 @@ pub metainfo_is : (info layers : Data) (head : Head) (files : List File) → IsH
     → metainfo_of info layers ≡ record { name = head.name.now; piece_length = head.piece_length; infohash = sha256 (spelling_of info); files = files }
 unfolding metainfo_of
 metainfo_is info layers head files h f = rw (h.name, h.piece_length, h.tree, f) refl
+
+-- ---- refusals
+
+pub info_tree_refuses : (info : Data) (head : Head) (e : MetaError) (c : Check) → IsHead info head → c ≡ first_of (info_checks info) → Refuses (first_of (tree_checks head.piece_length (data_of head.tree.now))) e → Refuses c e
+info_tree_refuses info head e c h is (inl m) = inl m
+info_tree_refuses info head e c h is (inr k) = inr (is ∙ info_tree_fault info head e h k)
+
+pub torrent_tree_refuses : (torrent info : Data) (head : Head) (e : MetaError) → Some info ≡ dictionary_at torrent (codes "info") → IsHead info head
+    → Refuses (first_of (tree_checks head.piece_length (data_of head.tree.now))) e → Refuses (first_fault torrent) e
+torrent_tree_refuses torrent info head e i h (inl m) = inl m
+torrent_tree_refuses torrent info head e i h (inr k) = inr (torrent_info_fault torrent info e i (info_tree_fault info head e h k))
+
+pub torrent_layers_refuse : (torrent info : Data) (head : Head) (listing : Listing) (e : MetaError) → Some info ≡ dictionary_at torrent (codes "info") → IsHead info head
+    → IsListing head.piece_length (data_of head.tree.now) listing → Refuses (first_of (layer_faults head.piece_length (layers_of torrent) (map file_of listing.files.items))) e → Refuses (first_fault torrent) e
+torrent_layers_refuse torrent info head listing e i h l (inl m) = inl m
+torrent_layers_refuse torrent info head listing e i h l (inr k) = inr (torrent_layers torrent info head listing i h l ∙ k)

@@ -1,12 +1,17 @@
 -- The files of a tree with their layers, from those without.
 use Rattle.std.proofs.Common.{◌≡◌, ℕ, ◌+◌, Bool, true, false, List, [], ◌∷◌, ◌++◌, map, None, Some, refl, sym, ap, ◌∙◌}
-use Rattle.std.specs.Prelude.{filter, sum_by, nat_lt, unwrap_or, if◌then◌else◌}
+use Rattle.std.specs.Prelude.{filter, sum_by, nat_lt, unwrap_or, is_none, not, if◌then◌else◌}
+use Rattle.std.specs.Prelude.{sum}
+use Rattle.std.proofs.lemmas.List.Sums.{sum-map}
 use Rattle.bt_bencode.specs.Data.{Data}
-use Rattle.bt_meta.specs.Fields.{no_dictionary}
+use Rattle.bt_meta.specs.Fields.{no_dictionary, string_at}
 use Rattle.bt_meta.specs.Places.{Place, places_below, with_earlier}
-use Rattle.bt_meta.specs.Files.{File, is_file, file_at, files_of, piece_count}
-use Rattle.bt_meta.specs.Faults.{layer_check, layer_checks, first_of, fault_if}
-use Rattle.bt_meta.specs.Reading.{with_layer, layer_fault, layer_faults, HasStringsOf}
+use Rattle.bt_meta.specs.Files.{File, file_of, is_file, length_of, root_of, layer_at, file_at, files_of, piece_count}
+use Rattle.bt_meta.specs.declared.torrent.FileEntry.{FileEntry}
+use Rattle.bt_meta.specs.Faults.{Check, layer_check, layer_checks, first_of, fault_if}
+use Rattle.bt_meta.specs.Layers.{has_layer_size, has_root}
+use Rattle.bt_meta.specs.declared.error.MetaError.TheVariants.{LayerMissing, LayerSize, LayerDiffers}
+use Rattle.bt_meta.specs.Reading.{pieces_in, with_layer, layer_fault, layer_faults, HasStringsOf}
 
 with_layers : (piece_length : ℕ) (layers : Data) (before places : List Place)
     → map (with_layer piece_length layers) (with_earlier (file_at piece_length no_dictionary) before places) ≡ with_earlier (file_at piece_length layers) before places
@@ -17,8 +22,17 @@ pub files_with_layers : (piece_length : ℕ) (layers tree : Data) → map (with_
 unfolding files_of
 files_with_layers piece_length layers tree = with_layers piece_length layers [] (filter is_file (places_below [] tree))
 
+nested : (a b c : Check) → first_of (a ∷ first_of (b ∷ c ∷ []) ∷ []) ≡ first_of (a ∷ b ∷ c ∷ [])
+nested (Some x) b c = refl
+nested None (Some x) c = refl
+nested None None (Some x) = refl
+nested None None None = refl
+
 one_layer : (piece_length : ℕ) (layers : Data) (before : List Place) (p : Place) → layer_fault piece_length layers (file_at piece_length no_dictionary before p) ≡ layer_check piece_length layers p
-one_layer piece_length layers before p = ?
+one_layer piece_length layers before p =
+    let layer = layer_at piece_length layers p in
+    ap (λ c. if nat_lt piece_length (length_of p) then c else None)
+    (nested (fault_if (is_none (string_at layers (root_of p))) LayerMissing) (fault_if (not (has_layer_size piece_length (length_of p) layer)) LayerSize) (fault_if (not (has_root piece_length (length_of p) (root_of p) layer)) LayerDiffers))
 
 faults_of_places : (piece_length : ℕ) (layers : Data) (before places : List Place)
     → layer_faults piece_length layers (with_earlier (file_at piece_length no_dictionary) before places) ≡ map (layer_check piece_length layers) places
@@ -31,9 +45,14 @@ pub layer_faults_are : (piece_length : ℕ) (layers tree : Data) → layer_fault
 unfolding files_of layer_checks
 layer_faults_are piece_length layers tree = faults_of_places piece_length layers [] (filter is_file (places_below [] tree))
 
+counts_with_layers : (piece_length size : ℕ) (layers : Data) (files : List File) → map (λ f. piece_count size f.length) (map (with_layer piece_length layers) files) ≡ map (λ f. piece_count size f.length) files
+counts_with_layers piece_length size layers [] = refl
+counts_with_layers piece_length size layers (f ∷ files) = ap (λ ns. piece_count size f.length ∷ ns) (counts_with_layers piece_length size layers files)
+
 pub pieces_with_layers : (piece_length size : ℕ) (layers : Data) (files : List File) → sum_by (λ f. piece_count size f.length) (map (with_layer piece_length layers) files) ≡ sum_by (λ f. piece_count size f.length) files
-pieces_with_layers piece_length size layers [] = refl
-pieces_with_layers piece_length size layers (f ∷ files) = ap (λ n. piece_count size f.length + n) (pieces_with_layers piece_length size layers files)
+pieces_with_layers piece_length size layers files =
+    let count = λ (f : File). piece_count size f.length in
+    sym (sum-map count (map (with_layer piece_length layers) files)) ∙ ap sum (counts_with_layers piece_length size layers files) ∙ sum-map count files
 
 -- ---- layers that hold the same strings
 
@@ -50,3 +69,8 @@ same_fault piece_length layers others f h = rw (h f.root) refl
 pub same_faults : (piece_length : ℕ) (layers others : Data) (files : List File) → HasStringsOf layers others → layer_faults piece_length layers files ≡ layer_faults piece_length others files
 same_faults piece_length layers others [] h = refl
 same_faults piece_length layers others (f ∷ files) h = ap (λ c. c ∷ layer_faults piece_length layers files) (same_fault piece_length layers others f h) ∙ ap (λ cs. layer_fault piece_length others f ∷ cs) (same_faults piece_length layers others files h)
+
+pub pieces_after : (piece_length : ℕ) (layers : Data) (pieces : ℕ) (old new : List FileEntry) → pieces ≡ pieces_in piece_length old → map file_of new ≡ map (with_layer piece_length layers) (map file_of old)
+    → pieces ≡ pieces_in piece_length new
+pieces_after piece_length layers pieces old new e h =
+    e ∙ sym (ap (sum_by (λ (f : File). piece_count piece_length f.length)) h ∙ pieces_with_layers piece_length piece_length layers (map file_of old))

@@ -1,6 +1,7 @@
 pub mod Checks
 pub mod Kept
 pub mod Layered
+pub mod Dictionaries
 pub mod Heads
 pub mod Facts
 pub mod Placing
@@ -11,3 +12,9 @@ pub mod ElementTests
 pub mod Takings
 pub mod Ordered
 pub mod Folders
+pub mod FileAdding
+pub mod PathSteps
+pub mod Trees
+pub mod Lookup
+pub mod LayerChecks
+pub mod Refused

@@ -1,5 +1,5 @@
 -- How the steps of a walk join.
-use Rattle.std.proofs.Common.{◌≡◌, ℕ, ◌+◌, ◌<◌, List, [], ◌∷◌, ◌++◌, length, take, drop, get_or, map, None, Some, refl, sym, ap, ◌∙◌, append_assoc, inl, inr, arith}
+use Rattle.std.proofs.Common.{◌≡◌, ℕ, ◌+◌, ◌<◌, List, [], ◌∷◌, ◌++◌, length, take, drop, get_or, map, None, Some, refl, sym, ap, subst, ◌∙◌, append_assoc, inl, inr, arith}
 use Rattle.std.specs.Global.{Vec}
 use Rattle.std.proofs.lemmas.List.{append-nil, take_more, drop_more, map_push, take_all}
 use Rattle.std.proofs.lemmas.List.{take-append-drop}
@@ -100,3 +100,34 @@ places_split path es i e lt is =
 pub places_first : (path : List (List ℕ)) (es : List (Vec ℕ × Value)) → places_among path (entries_of (take 0 es)) ≡ []
 unfolding places_among
 places_first path es = refl
+
+-- ---- the steps of a folder
+
+pub folder_stops : (piece_length : ℕ) (path : List (List ℕ)) (es : List (Vec ℕ × Value)) (i : ℕ) (e : Vec ℕ × Value) (old mid : Walk) (fault : MetaError) → i < length es → e ≡ get_or es i e
+    → Passes piece_length (places_among path (entries_of (take i es))) old mid → Stops piece_length (entry_places path e.0.items (data_of e.1)) mid fault
+    → Stops piece_length (places_among path (entries_of es)) old fault
+folder_stops piece_length path es i e old mid fault lt is passed stopped =
+    let P : List Place → Type 0 = λ places. Stops piece_length places old fault in
+    subst P (sym (places_split path es i e lt is))
+    (stops_later piece_length (places_among path (entries_of (take i es))) (entry_places path e.0.items (data_of e.1) ++ places_among path (entries_of (drop (i + 1) es))) old mid fault passed
+    (stops_sooner piece_length (entry_places path e.0.items (data_of e.1)) (places_among path (entries_of (drop (i + 1) es))) mid fault stopped))
+
+-- a fault below an entry's own place is one of the entry
+pub inner_stops : (piece_length : ℕ) (p : Place) (below places : List Place) (old mid : Walk) (fault : MetaError) → places ≡ p ∷ below → Passes piece_length (p ∷ []) old mid
+    → Stops piece_length below mid fault → Stops piece_length places old fault
+inner_stops piece_length p below places old mid fault is passed stopped =
+    let P : List Place → Type 0 = λ xs. Stops piece_length xs old fault in
+    subst P (sym is) (stops_later piece_length (p ∷ []) below old mid fault passed stopped)
+
+pub inner_passes : (piece_length : ℕ) (p : Place) (below places : List Place) (old mid new : Walk) → places ≡ p ∷ below → Passes piece_length (p ∷ []) old mid
+    → Passes piece_length below mid new → Passes piece_length places old new
+inner_passes piece_length p below places old mid new is first more =
+    let P : List Place → Type 0 = λ xs. Passes piece_length xs old new in
+    subst P (sym is) (passes_more piece_length (p ∷ []) below old mid new first more)
+
+pub folder_passes_more : (piece_length : ℕ) (path : List (List ℕ)) (es : List (Vec ℕ × Value)) (i : ℕ) (e : Vec ℕ × Value) (old mid new : Walk) → i < length es → e ≡ get_or es i e
+    → Passes piece_length (places_among path (entries_of (take i es))) old mid → Passes piece_length (entry_places path e.0.items (data_of e.1)) mid new
+    → Passes piece_length (places_among path (entries_of (take (i + 1) es))) old new
+folder_passes_more piece_length path es i e old mid new lt is passed more =
+    let P : List Place → Type 0 = λ xs. Passes piece_length xs old new in
+    subst P (sym (places_more path es i e lt is)) (passes_more piece_length (places_among path (entries_of (take i es))) (entry_places path e.0.items (data_of e.1)) old mid new passed more)

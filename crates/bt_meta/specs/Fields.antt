@@ -1,7 +1,7 @@
 -- What a dictionary holds at a key, by kind.
 use Rattle.std.specs.Prelude.{ℕ, ℤ, pos, negsuc, Bool, List, Option, None, Some, is_some}
 use Rattle.std.specs.Option.{option_and_then}
-use Rattle.bt_bencode.specs.Data.{Data, integer, string, list, dictionary, no_entries}
+use Rattle.bt_bencode.specs.Data.{Data, integer, string, list, dictionary, Entries, no_entries}
 use Rattle.bt_bencode.specs.Field.{field_of}
 
 abbrev pub as_integer : Data → Option ℤ
@@ -48,3 +48,10 @@ has_key d key = is_some (field_of d key)
 
 abbrev pub no_dictionary : Data
 no_dictionary = dictionary no_entries
+
+-- the entries of a dictionary
+abbrev pub entries_in : Data → Entries
+entries_in (integer z) = no_entries
+entries_in (string s) = no_entries
+entries_in (list ds) = no_entries
+entries_in (dictionary es) = es

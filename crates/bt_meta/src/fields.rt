@@ -1,9 +1,9 @@
 //! What a dictionary holds at a key, by kind.
 ghost use Rattle.std.specs.Prelude.{◌≡◌, option_copied};
 ghost use Rattle.std.specs.Option.{option_map};
-ghost use Rattle.bt_bencode.specs.View.{data_of};
-ghost use Rattle.bt_meta.specs.Fields.{as_integer as integer_in, as_string as string_in, as_dictionary as dictionary_in, integer_at, natural_at, string_at, dictionary_at, has_key};
-ghost use Rattle.bt_meta.specs.Faults.{is_dictionary as is_dictionary_data};
+ghost use Rattle.bt_bencode.specs.View.{data_of, entries_of};
+ghost use Rattle.bt_meta.specs.Fields.{as_integer as integer_in, as_string as string_in, as_dictionary as dictionary_in, integer_at, natural_at, string_at, dictionary_at, has_key, entries_in};
+ghost use Rattle.bt_meta.specs.Faults.{is_dictionary as is_dictionary_data, is_single as is_single_data};
 
 use bt_bencode::{Value, field};
 
@@ -62,6 +62,26 @@ pub(crate) fn is_dictionary(value: &Value) -> bool
     ensures { result ≡ is_dictionary_data (data_of value.now) }
 {
     matches!(value, Value::Dict(_))
+}
+
+/// Whether the value is a dictionary of one entry.
+pub(crate) fn is_single(value: &Value) -> bool
+    ensures { result ≡ is_single_data (data_of value.now) }
+{
+    match value {
+        Value::Dict(entries) => entries.as_slice().len() == 1,
+        Value::Int(_) | Value::Bytes(_) | Value::List(_) => false,
+    }
+}
+
+/// The entries of a dictionary; none of another value.
+pub(crate) fn entries(value: &Value) -> &[(Vec<u8>, Value)]
+    ensures { entries_of result.now ≡ entries_in (data_of value.now) }
+{
+    match value {
+        Value::Dict(entries) => entries.as_slice(),
+        Value::Int(_) | Value::Bytes(_) | Value::List(_) => &[],
+    }
 }
 
 fn as_integer(value: &Value) -> Option<i64>

@@ -13,11 +13,12 @@ ghost use Rattle.bt_meta.specs.Faults.{first_of, is_piece_length, layers_of};
 ghost use Rattle.bt_meta.specs.Reading.{Refuses, AreShort, HasStringsOf, with_layer, layer_fault, layer_faults, layer_bytes_fault};
 
 use crate::error::MetaError;
-use crate::fields::as_string;
+use crate::fields::{as_string, dictionary, entries};
 use crate::torrent::FileEntry;
-use bt_bencode::{Value, field};
+use bt_bencode::Value;
 use bt_tree::{Geometry, Hash32, LayerError, Plain, check_layer};
 use std::alloc::Global;
+use std::cmp::Ordering;
 
 /// Gives each file that is longer than a piece its layer, out of the `piece layers` of the torrent.
 pub(crate) fn add_layers(
@@ -43,9 +44,9 @@ fn layer_entries(torrent: &Value) -> &[(Vec<u8>, Value)]
     ensures strings { HasStringsOf (dictionary_of (entries_of result.now)) (layers_of (data_of torrent.now)) }
     ensures ascending { EntriesAscend (entries_of result.now) }
 {
-    match field(torrent, b"piece layers") {
-        Some(Value::Dict(entries)) => entries.as_slice(),
-        _ => &[],
+    match dictionary(torrent, b"piece layers") {
+        Some(layers) => entries(layers),
+        None => &[],
     }
 }
 
@@ -112,10 +113,18 @@ fn find<'a>(entries: &'a [(Vec<u8>, Value)], key: &[u8]) -> Option<&'a Value>
     requires { EntriesAscend (entries_of entries.now) }
     ensures { option_map data_of (option_copied result) ≡ first_value_of (entries_of entries.now) key.now }
 {
-    match entries.binary_search_by(|(name, _)| name.as_slice().cmp(key)) {
-        Ok(at) => Some(&entries[at].1),
-        Err(_) => None,
+    let mut low = 0;
+    let mut high = entries.len();
+    while low < high {
+        let middle = low + (high - low) / 2;
+        let (name, value) = &entries[middle];
+        match name.as_slice().cmp(key) {
+            Ordering::Less => low = middle + 1,
+            Ordering::Equal => return Some(value),
+            Ordering::Greater => high = middle,
+        }
     }
+    None
 }
 
 /// Refuses a layer that is not the one of a file's pieces.

@@ -8,7 +8,7 @@ ghost use Rattle.bt_meta.specs.Walks.{Passes, Stops, IsEntered, StopsEntry, IsNo
 
 use crate::elements::{FileFacts, file_facts, note_length, path_element};
 use crate::error::MetaError;
-use crate::fields::{dictionary, has};
+use crate::fields::{dictionary, has, is_dictionary, is_single};
 use crate::torrent::FileEntry;
 use bt_bencode::Value;
 use bt_tree::Hash32;
@@ -67,7 +67,7 @@ pub(crate) fn read_tree(
     };
     let mut path = Vec::new(alloc);
     walk_folder(alloc, &mut walk, &mut path, tree, piece_length)?;
-    if walk.files.is_empty() {
+    if walk.files.as_slice().is_empty() {
         return Err(MetaError::Tree);
     }
     Ok(Listing {
@@ -89,14 +89,16 @@ fn walk_folder<'a>(
     ensures path { OnOk result (path.new.items ≡ path.old.items) }
     ensures stopped { IfErr result (Stops piece_length (places_below (texts path.old.items) (data_of folder.now)) walk.old) }
 {
-    let Value::Dict(entries) = folder else {
-        return Ok(());
+    let entries = match folder {
+        Value::Dict(entries) => entries,
+        Value::Int(_) | Value::Bytes(_) | Value::List(_) => return Ok(()),
     };
     for (key, value) in entries {
         if let Some(name) = enter(alloc, walk, path, key, value, piece_length)? {
+            let depth = path.as_slice().len();
             path.push(name)?;
             walk_folder(alloc, walk, path, value, piece_length)?;
-            path.pop();
+            path.truncate(depth);
         }
     }
     Ok(())
@@ -141,13 +143,13 @@ fn enter<'a>(
 fn node_of(value: &Value) -> Option<Node<'_>>
     ensures { MatchOption result (is_node (data_of value.now) ≡ false) (IsNodeOf (data_of value.now)) }
 {
-    let Value::Dict(entries) = value else {
+    if !is_dictionary(value) {
         return None;
-    };
+    }
     if !has(value, b"") {
         return Some(Node::Folder);
     }
-    if entries.len() != 1 {
+    if !is_single(value) {
         return None;
     }
     match dictionary(value, b"") {

@@ -1,37 +1,52 @@
-use Rattle.std.proofs.Common.{rules, ◌≡◌, ℕ, List, ◌^◌, ◌<◌, ◌≤◌, map, IfOk, OnOk, IfErr, MatchResult, option_copied, None, true, ◌+◌, ◌-◌, ◌*◌, length, ◌/◌, ◌%◌, Bool, false, nat_eq, nat_lt, [], ◌∷◌, ◌++◌, slice_index_or, slice_set, bit_and, bit_or, Fits, w8, w32, w64, Bor, MutBor}
-use Rattle.std.specs.Option.{option_map}
-use Rattle.std.specs.Result.{result_err}
-use Rattle.bt_bencode.specs.Data.{dictionary as dictionary_of}
-use Rattle.bt_bencode.specs.Spelling.{HasAscendingKeys, EntriesAscend}
-use Rattle.bt_bencode.specs.Field.{first_value_of}
-use Rattle.bt_bencode.specs.View.{data_of, entries_of}
-use Rattle.bt_tree.specs.Blocks.{IsFileLength}
-use Rattle.bt_meta.specs.Fields.{string_at}
+use Rattle.std.proofs.Common.{◌≡◌, ◌<◌, ◌≤◌, ◌^◌, length, take, drop, get_or, map, None, refl, sym, ap, subst, ◌∙◌, arith, inl, inr}
+use Rattle.std.proofs.lemmas.List.{take_all, get_or-map, length-map}
+use Rattle.std.proofs.lemmas.Result.{err_from_is_err_and}
+use Rattle.bt_bencode.specs.Data.{dictionary}
+use Rattle.bt_bencode.specs.View.{entries_of}
 use Rattle.bt_meta.specs.Files.{file_of}
-use Rattle.bt_meta.specs.Faults.{first_of, is_piece_length, layers_of}
-use Rattle.bt_meta.specs.Reading.{Refuses, AreShort, HasStringsOf, with_layer, layer_fault, layer_faults, layer_bytes_fault}
+use Rattle.bt_meta.specs.Faults.{Check, first_of}
+use Rattle.bt_meta.specs.Reading.{Refuses, with_layer, layer_fault}
+use Rattle.bt_meta.specs.declared.torrent.FileEntry.{FileEntry}
+use Rattle.bt_meta.proofs.LayerChecks.{ChangedBelow, unchanged_item, changed_more, faultless_more, faulty_at, faults_seen, short_at, refused_at, nothing_changed, all_changed}
 use Rattle.bt_meta.proofs.layers.add_layers_of.Goals as goal
 
--- src/layers.rt:66:5
 pub loop-file-init : goal.loop-file-init
-loop-file-init c = ?
+loop-file-init c = record { changed = nothing_changed file_of (with_layer c.args.piece_length (dictionary (entries_of c.args.entries.now))) c.args.files.now; faultless = refl }
 
--- src/layers.rt:67:9
 pub add_layer-requires-clause-short : goal.add_layer-requires-clause-short
-add_layer-requires-clause-short c = ?
+add_layer-requires-clause-short c =
+    let less : c.loop-file.file-index < length c.args.files.now = c.loop-file-test.true in
+    let lt : c.loop-file.file-index < length c.loop-file.files = omega arith in
+    let item = unchanged_item c.args.files.now c.loop-file.files c.loop-file.file-index c.file-item.result lt less c.file-item.is c.loop-file.invariant.changed.rest in
+    let P : FileEntry → Type 0 = λ f. f.length ≤ 2 ^ 40 in
+    subst P c.file-item.is (subst P (sym item) (short_at c.args.files.now c.loop-file.file-index c.file-item.result less c.requires.short))
 
--- src/layers.rt:67:9
 pub returns-in_err-add_layer-clause-refused : goal.returns-in_err-add_layer-clause-refused
-returns-in_err-add_layer-clause-refused c = ?
+returns-in_err-add_layer-clause-refused c =
+    let q = err_from_is_err_and c.from_residual.result c.from_residual.ensures.1 in
+    let less : c.loop-file.file-index < length c.args.files.now = c.loop-file-test.true in
+    let lt : c.loop-file.file-index < length c.loop-file.files = omega arith in
+    let e = c.file-item.result in
+    let item = unchanged_item c.args.files.now c.loop-file.files c.loop-file.file-index e lt less c.file-item.is c.loop-file.invariant.changed.rest in
+    let R : FileEntry → Type 0 = λ f. Refuses (layer_fault c.args.piece_length (dictionary (entries_of c.args.entries.now)) (file_of f)) c.in_err-add_layer.field-0.0 in
+    rw (q.1, q.2) (refused_at c.args.piece_length (dictionary (entries_of c.args.entries.now)) c.loop-file.file-index c.args.files.now e c.in_err-add_layer.field-0.0 less item c.loop-file.invariant.faultless (subst R (sym c.file-item.is) c.in_err-add_layer.ensures.refused))
 
--- src/layers.rt:66:5
 pub loop-file-preserved : goal.loop-file-preserved
-loop-file-preserved c = ?
+loop-file-preserved c =
+    let less : c.loop-file.file-index < length c.args.files.now = c.loop-file-test.true in
+    let lt : c.loop-file.file-index < length c.loop-file.files = omega arith in
+    let e = c.file-item.result in
+    let item = unchanged_item c.args.files.now c.loop-file.files c.loop-file.file-index e lt less c.file-item.is c.loop-file.invariant.changed.rest in
+    let layers = dictionary (entries_of c.args.entries.now) in
+    record {
+      changed = changed_more file_of (with_layer c.args.piece_length layers) c.loop-file.file-index c.args.files.now c.loop-file.files e c.add_layer.new.file lt less c.file-item.is c.loop-file.invariant.changed (c.in_ok-add_layer.ensures.whole ∙ ap (λ f. with_layer c.args.piece_length layers (file_of f)) (sym c.file-item.is));
+      faultless = faultless_more (λ (f : FileEntry). layer_fault c.args.piece_length layers (file_of f)) c.loop-file.file-index c.args.files.now e less item c.loop-file.invariant.faultless (ap (λ f. layer_fault c.args.piece_length layers (file_of f)) c.file-item.is ∙ c.in_ok-add_layer.ensures.faultless);
+    }
 
--- src/layers.rt:53:1
 pub returns-clause-whole : goal.returns-clause-whole
-returns-clause-whole c = ?
+returns-clause-whole c =
+    all_changed file_of (with_layer c.args.piece_length (dictionary (entries_of c.args.entries.now))) c.loop-file.file-index c.args.files.now c.loop-file.files (omega arith) (omega arith) c.loop-file.invariant.changed
 
--- src/layers.rt:53:1
 pub returns-clause-faultless : goal.returns-clause-faultless
-returns-clause-faultless c = ?
+returns-clause-faultless c =
+    faults_seen c.args.piece_length (dictionary (entries_of c.args.entries.now)) c.loop-file.file-index c.args.files.now (omega arith) c.loop-file.invariant.faultless

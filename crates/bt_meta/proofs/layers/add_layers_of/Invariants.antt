@@ -1,16 +1,14 @@
-use Rattle.std.proofs.Common.{◌≡◌, ℕ, List, ◌^◌, ◌<◌, ◌≤◌, map, IfOk, OnOk, IfErr, MatchResult, option_copied, None, true, ◌+◌, ◌-◌, ◌*◌, length}
-use Rattle.std.specs.Option.{option_map}
-use Rattle.std.specs.Result.{result_err}
-use Rattle.bt_bencode.specs.Data.{dictionary as dictionary_of}
-use Rattle.bt_bencode.specs.Spelling.{HasAscendingKeys, EntriesAscend}
-use Rattle.bt_bencode.specs.Field.{first_value_of}
-use Rattle.bt_bencode.specs.View.{data_of, entries_of}
-use Rattle.bt_tree.specs.Blocks.{IsFileLength}
-use Rattle.bt_meta.specs.Fields.{string_at}
+use Rattle.std.proofs.Common.{◌≡◌, take, map, None}
+use Rattle.bt_bencode.specs.Data.{dictionary}
+use Rattle.bt_bencode.specs.View.{entries_of}
 use Rattle.bt_meta.specs.Files.{file_of}
-use Rattle.bt_meta.specs.Faults.{first_of, is_piece_length, layers_of}
-use Rattle.bt_meta.specs.Reading.{Refuses, AreShort, HasStringsOf, with_layer, layer_fault, layer_faults, layer_bytes_fault}
+use Rattle.bt_meta.specs.Faults.{first_of}
+use Rattle.bt_meta.specs.Reading.{with_layer, layer_fault}
+use Rattle.bt_meta.proofs.LayerChecks.{ChangedBelow}
 use Rattle.bt_meta.proofs.layers.add_layers_of.Given as goal
 
 abbrev pub invariant-loop-file : goal.invariant-loop-file
-invariant-loop-file l = ?
+invariant-loop-file l = record {
+  changed : ChangedBelow file_of (with_layer l.piece_length (dictionary (entries_of l.entries))) l.file-index l.fn.files l.files;
+  faultless : first_of (map (λ f. layer_fault l.piece_length (dictionary (entries_of l.entries)) (file_of f)) (take l.file-index l.fn.files)) ≡ None;
+}

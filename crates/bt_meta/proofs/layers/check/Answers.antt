@@ -1,25 +1,31 @@
-use Rattle.std.proofs.Common.{rules, ◌≡◌, ℕ, List, ◌^◌, ◌<◌, ◌≤◌, map, IfOk, OnOk, IfErr, MatchResult, option_copied, None, true, ◌+◌, ◌-◌, ◌*◌, length, ◌/◌, ◌%◌, Bool, false, nat_eq, nat_lt, [], ◌∷◌, ◌++◌, slice_index_or, slice_set, bit_and, bit_or, Fits, w8, w32, w64, Bor, MutBor}
-use Rattle.std.specs.Option.{option_map}
-use Rattle.std.specs.Result.{result_err}
-use Rattle.bt_bencode.specs.Data.{dictionary as dictionary_of}
-use Rattle.bt_bencode.specs.Spelling.{HasAscendingKeys, EntriesAscend}
-use Rattle.bt_bencode.specs.Field.{first_value_of}
-use Rattle.bt_bencode.specs.View.{data_of, entries_of}
-use Rattle.bt_tree.specs.Blocks.{IsFileLength}
-use Rattle.bt_meta.specs.Fields.{string_at}
-use Rattle.bt_meta.specs.Files.{file_of}
-use Rattle.bt_meta.specs.Faults.{first_of, is_piece_length, layers_of}
-use Rattle.bt_meta.specs.Reading.{Refuses, AreShort, HasStringsOf, with_layer, layer_fault, layer_faults, layer_bytes_fault}
+use Rattle.std.proofs.Common.{◌≡◌, ℕ, ◌∙◌, ◌≤◌, Err, refl, sym, ap, subst}
+use Rattle.sha2.specs.Sha256.{sha256}
+use Rattle.bt_tree.specs.Blocks.{block_count}
+use Rattle.bt_tree.specs.TreeShape.{height_of, IsHeight}
+use Rattle.bt_tree.specs.Layer.{IsLayer, HasLayerSize}
+use Rattle.bt_tree.proofs.Shapes.{height_is}
+use Rattle.bt_meta.specs.Layers.{piece_layer_of}
+use Rattle.bt_meta.proofs.LayerChecks.{layer_right, layer_sized_wrong, layer_differs, layer_inside}
 use Rattle.bt_meta.proofs.layers.check.Goals as goal
 
--- src/layers.rt:122:1
 pub returns-in-Ok : goal.returns-in-Ok
-returns-in-Ok c = ?
+returns-in-Ok c =
+    let k : c.height.result ≡ piece_layer_of c.args.piece_length = c.height.ensures.value ∙ ap (λ n. height_of (block_count n)) c.shape-piece.ensures in
+    let P = λ (n : ℕ). IsLayer sha256 (block_count n) c.args.root.now c.height.result c.args.layer.now in
+    layer_right c.args.piece_length c.args.length c.args.root.now c.args.layer.now c.height.result k (subst P c.shape.ensures (c.in-Ok.ensures.variant.0 refl))
 
--- src/layers.rt:122:1
 pub returns-in-Err-Size : goal.returns-in-Err-Size
-returns-in-Err-Size c = ?
+returns-in-Err-Size c =
+    let k : c.height.result ≡ piece_layer_of c.args.piece_length = c.height.ensures.value ∙ ap (λ n. height_of (block_count n)) c.shape-piece.ensures in
+    let P = λ (n : ℕ). ¬ HasLayerSize (block_count n) c.height.result c.args.layer.now in
+    let Q = λ (n : ℕ). IsHeight (block_count n) c.height.result in
+    let inside = layer_inside c.args.piece_length c.args.length (height_of (block_count c.args.length)) c.height.result c.requires.long (subst Q c.shape-piece.ensures c.height.ensures.least) (height_is (block_count c.args.length)) in
+    layer_sized_wrong c.args.piece_length c.args.length c.args.root.now c.args.layer.now c.height.result k inside (subst P c.shape.ensures (c.check_layer.ensures.size.0 (c.in-Err-Size.is ∙ ap Err c.in-Err-Size.field-0-is)))
 
--- src/layers.rt:122:1
 pub returns-in-Err-Differs : goal.returns-in-Err-Differs
-returns-in-Err-Differs c = ?
+returns-in-Err-Differs c =
+    let k : c.height.result ≡ piece_layer_of c.args.piece_length = c.height.ensures.value ∙ ap (λ n. height_of (block_count n)) c.shape-piece.ensures in
+    let P = λ (n : ℕ). HasLayerSize (block_count n) c.height.result c.args.layer.now in
+    let Q = λ (n : ℕ). ¬ IsLayer sha256 (block_count n) c.args.root.now c.height.result c.args.layer.now in
+    let both = c.check_layer.ensures.differs.0 (c.in-Err-Differs.is ∙ ap Err c.in-Err-Differs.field-0-is) in
+    layer_differs c.args.piece_length c.args.length c.args.root.now c.args.layer.now c.height.result k (subst P c.shape.ensures both.0) (subst Q c.shape.ensures both.1)

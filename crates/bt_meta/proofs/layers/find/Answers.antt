@@ -1,21 +1,32 @@
-use Rattle.std.proofs.Common.{rules, ◌≡◌, ℕ, List, ◌^◌, ◌<◌, ◌≤◌, map, IfOk, OnOk, IfErr, MatchResult, option_copied, None, true, ◌+◌, ◌-◌, ◌*◌, length, ◌/◌, ◌%◌, Bool, false, nat_eq, nat_lt, [], ◌∷◌, ◌++◌, slice_index_or, slice_set, bit_and, bit_or, Fits, w8, w32, w64, Bor, MutBor}
-use Rattle.std.specs.Option.{option_map}
-use Rattle.std.specs.Result.{result_err}
-use Rattle.bt_bencode.specs.Data.{dictionary as dictionary_of}
-use Rattle.bt_bencode.specs.Spelling.{HasAscendingKeys, EntriesAscend}
-use Rattle.bt_bencode.specs.Field.{first_value_of}
-use Rattle.bt_bencode.specs.View.{data_of, entries_of}
-use Rattle.bt_tree.specs.Blocks.{IsFileLength}
-use Rattle.bt_meta.specs.Fields.{string_at}
-use Rattle.bt_meta.specs.Files.{file_of}
-use Rattle.bt_meta.specs.Faults.{first_of, is_piece_length, layers_of}
-use Rattle.bt_meta.specs.Reading.{Refuses, AreShort, HasStringsOf, with_layer, layer_fault, layer_faults, layer_bytes_fault}
+use Rattle.std.proofs.Common.{◌≡◌, ◌∙◌, ◌<◌, ◌≤◌, ◌+◌, ◌-◌, ◌/◌, Some, length, refl, sym, ap, arith}
+use Rattle.std.specs.Ordering.{nat_cmp}
+use Rattle.std.specs.Cmp.Lexicographic.{slice_cmp}
+use Rattle.std.proofs.lemmas.Map.Lookups.{exact_bytes}
+use Rattle.bt_bencode.specs.View.{data_of}
+use Rattle.bt_meta.proofs.Lookup.{whole, upper_half, lower_half, nothing_between, found_here, found_nowhere}
 use Rattle.bt_meta.proofs.layers.find.Goals as goal
 
--- src/layers.rt:111:1
-pub returns-in-Ok : goal.returns-in-Ok
-returns-in-Ok c = ?
+pub loop-low-init : goal.loop-low-init
+loop-low-init c = whole c.args.entries.now c.args.key.now (length c.args.entries.now) refl
 
--- src/layers.rt:111:1
-pub returns-in-Err : goal.returns-in-Err
-returns-in-Err c = ?
+pub loop-low-preserved-in-Less : goal.loop-low-preserved-in-Less
+loop-low-preserved-in-Less c =
+    let key = c.args.key.now in
+    upper_half c.args.entries.now key c.loop-low.low c.loop-low.high (c.loop-low.low + (c.loop-low.high - c.loop-low.low) / 2) c.index-entries-middle.result c.requires c.loop-low.invariant (omega arith) c.index-entries-middle.is
+    (ap (λ k. slice_cmp nat_cmp k key) (sym c.as_slice.ensures.value) ∙ sym c.in-Less.ensures)
+
+pub returns-in-Equal : goal.returns-in-Equal
+returns-in-Equal c =
+    let key = c.args.key.now in
+    let inside = c.loop-low.invariant.inside in
+    found_here c.args.entries.now (c.loop-low.low + (c.loop-low.high - c.loop-low.low) / 2) c.index-entries-middle.result key c.requires (omega arith) c.index-entries-middle.is
+    (exact_bytes c.index-entries-middle.result.0.items key (ap (λ k. slice_cmp nat_cmp k key) (sym c.as_slice.ensures.value) ∙ sym c.in-Equal.ensures))
+
+pub loop-low-preserved : goal.loop-low-preserved
+loop-low-preserved c =
+    let key = c.args.key.now in
+    lower_half c.args.entries.now key c.loop-low.low c.loop-low.high (c.loop-low.low + (c.loop-low.high - c.loop-low.low) / 2) c.index-entries-middle.result c.requires c.loop-low.invariant (omega arith) (omega arith) c.index-entries-middle.is
+    (ap (λ k. slice_cmp nat_cmp k key) (sym c.as_slice.ensures.value) ∙ sym c.in-Greater.ensures)
+
+pub returns : goal.returns
+returns c = found_nowhere c.args.entries.now c.args.key.now (nothing_between c.args.entries.now c.args.key.now c.loop-low.low c.loop-low.high c.loop-low.invariant (omega arith))

@@ -1,29 +1,16 @@
-use Rattle.std.proofs.Common.{rules, ◌≡◌, ℕ, List, ◌^◌, ◌<◌, ◌≤◌, map, IfOk, OnOk, IfErr, MatchResult, option_copied, None, true, ◌+◌, ◌-◌, ◌*◌, length, ◌/◌, ◌%◌, Bool, false, nat_eq, nat_lt, [], ◌∷◌, ◌++◌, slice_index_or, slice_set, bit_and, bit_or, Fits, w8, w32, w64, Bor, MutBor}
-use Rattle.std.specs.Option.{option_map}
-use Rattle.std.specs.Result.{result_err}
-use Rattle.bt_bencode.specs.Data.{dictionary as dictionary_of}
-use Rattle.bt_bencode.specs.Spelling.{HasAscendingKeys, EntriesAscend}
-use Rattle.bt_bencode.specs.Field.{first_value_of}
+use Rattle.std.proofs.Common.{sym, ap, ◌∙◌}
 use Rattle.bt_bencode.specs.View.{data_of, entries_of}
-use Rattle.bt_tree.specs.Blocks.{IsFileLength}
-use Rattle.bt_meta.specs.Fields.{string_at}
-use Rattle.bt_meta.specs.Files.{file_of}
-use Rattle.bt_meta.specs.Faults.{first_of, is_piece_length, layers_of}
-use Rattle.bt_meta.specs.Reading.{Refuses, AreShort, HasStringsOf, with_layer, layer_fault, layer_faults, layer_bytes_fault}
+use Rattle.bt_meta.proofs.Dictionaries.{layers_ascend, layers_strings, layers_absent, nothing_ascends}
 use Rattle.bt_meta.proofs.layers.layer_entries.Goals as goal
 
--- src/layers.rt:41:1
-pub returns-in-Some-Dict-clause-strings : goal.returns-in-Some-Dict-clause-strings
-returns-in-Some-Dict-clause-strings c = ?
+pub returns-in-Some-clause-strings : goal.returns-in-Some-clause-strings
+returns-in-Some-clause-strings c = λ key. layers_strings (data_of c.args.torrent.now) (data_of c.in-Some.layers.now) (entries_of c.entries.result.now) key c.in-Some.ensures c.entries.ensures
 
--- src/layers.rt:41:1
-pub returns-in-Some-Dict-clause-ascending : goal.returns-in-Some-Dict-clause-ascending
-returns-in-Some-Dict-clause-ascending c = ?
+pub returns-in-Some-clause-ascending : goal.returns-in-Some-clause-ascending
+returns-in-Some-clause-ascending c = layers_ascend (data_of c.args.torrent.now) (data_of c.in-Some.layers.now) (entries_of c.entries.result.now) c.requires c.in-Some.ensures c.entries.ensures
 
--- src/layers.rt:41:1
-pub returns-in_default-clause-strings : goal.returns-in_default-clause-strings
-returns-in_default-clause-strings c = ?
+pub returns-in-None-clause-strings : goal.returns-in-None-clause-strings
+returns-in-None-clause-strings c = λ key. layers_absent (data_of c.args.torrent.now) key c.in-None.ensures
 
--- src/layers.rt:41:1
-pub returns-in_default-clause-ascending : goal.returns-in_default-clause-ascending
-returns-in_default-clause-ascending c = ?
+pub returns-in-None-clause-ascending : goal.returns-in-None-clause-ascending
+returns-in-None-clause-ascending c = nothing_ascends

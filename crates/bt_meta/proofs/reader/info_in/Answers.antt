@@ -1,36 +1,33 @@
-use Rattle.std.proofs.Common.{rules, ◌≡◌, ℕ, map, codes, IfOk, IfErr, MatchResult, Option, None, Some, if◌then◌else◌, ◌+◌, ◌-◌, ◌*◌, ◌<◌, ◌≤◌, length, ◌/◌, ◌%◌, Bool, true, false, nat_eq, nat_lt, List, [], ◌∷◌, ◌++◌, slice_index_or, slice_set, bit_and, bit_or, Fits, w8, w32, w64, Bor, MutBor}
-use Rattle.std.specs.Result.{result_err}
-use Rattle.sha2.specs.Sha256.{sha256}
-use Rattle.bt_bencode.specs.Spelling.{spelling_of, HasAscendingKeys}
+use Rattle.std.proofs.Common.{◌∙◌, sym, map, inl, inr}
+use Rattle.std.proofs.lemmas.Result.{err_from_is_err_and}
 use Rattle.bt_bencode.specs.View.{data_of}
-use Rattle.bt_meta.specs.Fields.{integer_at, no_dictionary}
+use Rattle.bt_meta.specs.Fields.{no_dictionary}
 use Rattle.bt_meta.specs.Files.{file_of}
-use Rattle.bt_meta.specs.Faults.{first_of, head_checks, first_fault, first_info_fault, version_check}
-use Rattle.bt_meta.specs.Faults.{is_hybrid as is_hybrid_info}
-use Rattle.bt_meta.specs.Faults.{is_piece_length as is_lawful_piece_length}
-use Rattle.bt_meta.specs.Faults.{piece_length_of, info_of, layers_of}
-use Rattle.bt_meta.specs.Torrent.{IsTorrent, IsInfo, metainfo_of}
-use Rattle.bt_meta.specs.Refusals.{IsRefused}
-use Rattle.bt_meta.specs.Reading.{IsHead, Refuses, pieces_in}
+use Rattle.bt_meta.specs.Faults.{first_info_fault}
+use Rattle.bt_meta.proofs.Heads.{not_info, first_info_fault_in, info_head_fault, info_tree_refuses, info_passes, metainfo_is}
 use Rattle.bt_meta.proofs.reader.info_in.Goals as goal
 
--- src/reader.rt:79:9
-pub returns-then-not-is_dictionary-clause-refused :
-    goal.returns-then-not-is_dictionary-clause-refused
-returns-then-not-is_dictionary-clause-refused c = ?
+pub returns-then-not-is_dictionary-clause-refused : goal.returns-then-not-is_dictionary-clause-refused
+returns-then-not-is_dictionary-clause-refused c = inr (not_info (data_of c.args.info.now) c.if-not-is_dictionary.ensures)
 
--- src/reader.rt:81:16
 pub returns-in_err-head-clause-refused : goal.returns-in_err-head-clause-refused
-returns-in_err-head-clause-refused c = ?
+returns-in_err-head-clause-refused c =
+    let d = data_of c.args.info.now in
+    let q = err_from_is_err_and c.from_residual.result c.from_residual.ensures.1 in
+    rw (q.1, q.2) (inr (first_info_fault_in d c.if-not-is_dictionary.ensures ∙ info_head_fault d c.in_err-head.field-0.0 c.in_err-head.ensures))
 
--- src/reader.rt:82:19
 pub returns-in_err-listing-clause-refused : goal.returns-in_err-listing-clause-refused
-returns-in_err-listing-clause-refused c = ?
+returns-in_err-listing-clause-refused c =
+    let d = data_of c.args.info.now in
+    let q = err_from_is_err_and c.from_residual-in_err-listing.result c.from_residual-in_err-listing.ensures.1 in
+    rw (q.1, q.2) (info_tree_refuses d c.in_ok-head.head c.in_err-listing.field-0.0 (first_info_fault d) c.in_ok-head.ensures (first_info_fault_in d c.if-not-is_dictionary.ensures) c.in_err-listing.ensures)
 
--- src/reader.rt:73:1
 pub returns-clause-faultless : goal.returns-clause-faultless
-returns-clause-faultless c = ?
+returns-clause-faultless c =
+    let d = data_of c.args.info.now in
+    first_info_fault_in d c.if-not-is_dictionary.ensures ∙ info_passes d c.in_ok-head.head c.in_ok-listing.listing c.in_ok-head.ensures c.in_ok-listing.ensures
 
--- src/reader.rt:73:1
 pub returns-clause-described : goal.returns-clause-described
-returns-clause-described c = ?
+returns-clause-described c =
+    c.in_ok-torrent.ensures
+    ∙ sym (metainfo_is (data_of c.args.info.now) no_dictionary c.in_ok-head.head (map file_of c.in_ok-listing.listing.files.items) c.in_ok-head.ensures c.in_ok-listing.ensures.files)

@@ -1,28 +1,21 @@
-use Rattle.std.proofs.Common.{rules, ◌≡◌, ℕ, map, codes, IfOk, IfErr, MatchResult, Option, None, Some, if◌then◌else◌, ◌+◌, ◌-◌, ◌*◌, ◌<◌, ◌≤◌, length, ◌/◌, ◌%◌, Bool, true, false, nat_eq, nat_lt, List, [], ◌∷◌, ◌++◌, slice_index_or, slice_set, bit_and, bit_or, Fits, w8, w32, w64, Bor, MutBor}
-use Rattle.std.specs.Result.{result_err}
-use Rattle.sha2.specs.Sha256.{sha256}
-use Rattle.bt_bencode.specs.Spelling.{spelling_of, HasAscendingKeys}
+use Rattle.std.proofs.Common.{◌≤◌, ◌^◌, length, ap, ◌∙◌, subst, arith}
+use Rattle.std.proofs.lemmas.Result.{err_from_is_err_and}
+use Rattle.bt_bencode.specs.Spelling.{spelling_of, IsCanonical}
 use Rattle.bt_bencode.specs.View.{data_of}
-use Rattle.bt_meta.specs.Fields.{integer_at, no_dictionary}
-use Rattle.bt_meta.specs.Files.{file_of}
-use Rattle.bt_meta.specs.Faults.{first_of, head_checks, first_fault, first_info_fault, version_check}
-use Rattle.bt_meta.specs.Faults.{is_hybrid as is_hybrid_info}
-use Rattle.bt_meta.specs.Faults.{is_piece_length as is_lawful_piece_length}
-use Rattle.bt_meta.specs.Faults.{piece_length_of, info_of, layers_of}
-use Rattle.bt_meta.specs.Torrent.{IsTorrent, IsInfo, metainfo_of}
-use Rattle.bt_meta.specs.Refusals.{IsRefused}
-use Rattle.bt_meta.specs.Reading.{IsHead, Refuses, pieces_in}
+use Rattle.bt_meta.specs.Faults.{first_info_fault}
+use Rattle.bt_meta.specs.Refusals.{too_long, no_spelling}
+use Rattle.bt_meta.proofs.Refused.{value_refused}
 use Rattle.bt_meta.proofs.reader.read_info.Goals as goal
 
--- src/reader.rt:49:9
-pub returns-then-bytes-gt-MAX_TEXT_LENGTH-clause-refused :
-    goal.returns-then-bytes-gt-MAX_TEXT_LENGTH-clause-refused
-returns-then-bytes-gt-MAX_TEXT_LENGTH-clause-refused c = ?
+pub returns-then-bytes-gt-MAX_TEXT_LENGTH-clause-refused : goal.returns-then-bytes-gt-MAX_TEXT_LENGTH-clause-refused
+returns-then-bytes-gt-MAX_TEXT_LENGTH-clause-refused c = too_long c.if-bytes-gt-MAX_TEXT_LENGTH.true
 
--- src/reader.rt:51:15
 pub returns-in_err-doc-clause-refused : goal.returns-in_err-doc-clause-refused
-returns-in_err-doc-clause-refused c = ?
+returns-in_err-doc-clause-refused c =
+    let q = err_from_is_err_and c.from_residual.result c.from_residual.ensures.1 in
+    rw (q.1, q.2) (no_spelling c.in_err-doc.field-0.0 (omega arith) (record { first = c.in_err-doc.ensures.first_fault; spells_none = c.in_err-doc.ensures.none_spells }))
 
--- src/reader.rt:44:1
 pub returns-clause-refused : goal.returns-clause-refused
-returns-clause-refused c = ?
+returns-clause-refused c =
+    let same = ap data_of c.value.ensures.same in
+    value_refused first_info_fault c.args.bytes.now (data_of c.value.result.now) c.info_in.result (omega arith) (rw same c.value.ensures.canonical) (ap spelling_of same ∙ c.in_ok-doc.ensures.spelled) c.info_in.ensures.refused

@@ -1,17 +1,52 @@
-use Rattle.std.proofs.Common.{sym, ◌∙◌, ap}
+use Rattle.std.proofs.Common.{sym, ◌∙◌, ap, map, inr}
+use Rattle.std.proofs.lemmas.Result.{err_from_is_err_and}
 use Rattle.bt_bencode.specs.View.{data_of}
-use Rattle.bt_meta.specs.Faults.{layers_of}
+use Rattle.bt_meta.specs.Files.{file_of}
+use Rattle.bt_meta.specs.Faults.{first_fault, layers_of}
 use Rattle.bt_meta.specs.Torrent.{metainfo_of}
-use Rattle.bt_meta.proofs.Heads.{no_fault, info_is, metainfo_is}
+use Rattle.bt_meta.specs.Reading.{with_layer}
+use Rattle.bt_meta.proofs.Heads.{no_info, info_is, torrent_info_fault, info_head_fault, torrent_tree_refuses, torrent_layers, torrent_layers_refuse, metainfo_is}
+use Rattle.bt_meta.proofs.Layered.{files_with_layers, pieces_after}
 use Rattle.bt_meta.proofs.reader.torrent_in.Goals as goal
+
+pub returns-in_default-clause-refused : goal.returns-in_default-clause-refused
+returns-in_default-clause-refused c = inr (no_info (data_of c.args.value.now) c.in_default.ensures)
+
+pub returns-in_err-head-clause-refused : goal.returns-in_err-head-clause-refused
+returns-in_err-head-clause-refused c =
+    let q = err_from_is_err_and c.from_residual.result c.from_residual.ensures.1 in
+    let info = data_of c.in-Some.info.now in
+    rw (q.1, q.2) (inr (torrent_info_fault (data_of c.args.value.now) info c.in_err-head.field-0.0 c.in-Some.ensures (info_head_fault info c.in_err-head.field-0.0 c.in_err-head.ensures)))
+
+pub returns-in_err-listing-clause-refused : goal.returns-in_err-listing-clause-refused
+returns-in_err-listing-clause-refused c =
+    let q = err_from_is_err_and c.from_residual-in_err-listing.result c.from_residual-in_err-listing.ensures.1 in
+    rw (q.1, q.2)
+    (torrent_tree_refuses (data_of c.args.value.now) (data_of c.in-Some.info.now) c.in_ok-head.head c.in_err-listing.field-0.0 c.in-Some.ensures c.in_ok-head.ensures c.in_err-listing.ensures)
+
+pub returns-in_err-add_layers-clause-refused : goal.returns-in_err-add_layers-clause-refused
+returns-in_err-add_layers-clause-refused c =
+    let q = err_from_is_err_and c.from_residual-in_err-add_layers.result c.from_residual-in_err-add_layers.ensures.1 in
+    rw (q.1, q.2)
+    (torrent_layers_refuse (data_of c.args.value.now) (data_of c.in-Some.info.now) c.in_ok-head.head c.in_ok-listing.listing c.in_err-add_layers.field-0.0 c.in-Some.ensures c.in_ok-head.ensures c.in_ok-listing.ensures
+    c.in_err-add_layers.ensures.refused)
+
+pub torrent_of-requires : goal.torrent_of-requires
+torrent_of-requires c =
+    pieces_after c.in_ok-head.head.piece_length (layers_of (data_of c.args.value.now)) c.in_ok-listing.listing.pieces c.in_ok-listing.listing.files.items c.add_layers.new.files.items c.in_ok-listing.ensures.pieces
+    c.in_ok-add_layers.ensures.whole
 
 pub returns-clause-faultless : goal.returns-clause-faultless
 returns-clause-faultless c =
-    no_fault (data_of c.args.value.now) (data_of c.in-Some.info.now) c.in_ok-head.head c.in_ok-listing.listing c.in-Some.ensures c.in_ok-head.ensures c.in_ok-listing.ensures
+    torrent_layers (data_of c.args.value.now) (data_of c.in-Some.info.now) c.in_ok-head.head c.in_ok-listing.listing c.in-Some.ensures c.in_ok-head.ensures c.in_ok-listing.ensures ∙ c.in_ok-add_layers.ensures.faultless
 
 pub returns-clause-described : goal.returns-clause-described
 returns-clause-described c =
     let d = data_of c.args.value.now in
+    let info = data_of c.in-Some.info.now in
+    let pl = c.in_ok-head.head.piece_length in
+    let tree = data_of c.in_ok-head.head.tree.now in
     c.in_ok-torrent.ensures
-    ∙ sym (metainfo_is (data_of c.in-Some.info.now) (layers_of d) c.in_ok-head.head c.in_ok-listing.listing c.in_ok-head.ensures c.in_ok-listing.ensures)
-    ∙ ap (λ info. metainfo_of info (layers_of d)) (sym (info_is d (data_of c.in-Some.info.now) c.in-Some.ensures))
+    ∙ sym (metainfo_is info (layers_of d) c.in_ok-head.head (map file_of c.add_layers.new.files.items) c.in_ok-head.ensures
+    (c.in_ok-add_layers.ensures.whole ∙ ap (map (with_layer pl (layers_of d))) c.in_ok-listing.ensures.files ∙ files_with_layers pl (layers_of d) tree))
+    ∙ ap (λ i. metainfo_of i (layers_of d)) (sym (info_is d info c.in-Some.ensures))

@@ -1,35 +1,81 @@
-use Rattle.std.proofs.Common.{rules, ◌≡◌, ℕ, ◌+◌, ◌*◌, ◌<◌, ◌≤◌, ◌++◌, ◌∷◌, [], List, map, IfOk, OnOk, IfErr, MatchOption, MatchResult, string_bytes, true, false, ◌-◌, length, ◌/◌, ◌%◌, Bool, nat_eq, nat_lt, slice_index_or, slice_set, bit_and, bit_or, Fits, w8, w32, w64, Bor, MutBor}
-use Rattle.bt_bencode.specs.View.{data_of, entries_of}
-use Rattle.bt_meta.specs.Places.{places_below}
-use Rattle.bt_meta.specs.Faults.{first_of, is_node, is_piece_length, tree_checks}
-use Rattle.bt_meta.specs.Reading.{Refuses, IsListing}
-use Rattle.bt_meta.specs.Walks.{Passes, Stops, IsEntered, StopsEntry, IsNodeOf, AtFile, texts}
+use Rattle.std.proofs.Common.{◌≡◌, List, ◌∷◌, ◌++◌, [], Some, true, false, refl, sym, ap, subst, ◌∙◌, arith}
+use Rattle.std.proofs.lemmas.List.{length-map}
+use Rattle.std.proofs.lemmas.Result.{err_from_is_err_and}
+use Rattle.bt_bencode.specs.View.{data_of}
+use Rattle.bt_meta.specs.Places.{Place, places_below}
+use Rattle.bt_meta.specs.Faults.{is_path_element, is_node}
+use Rattle.bt_meta.specs.Walks.{texts, entry_places, IsNodeOf, Passes}
+use Rattle.bt_meta.specs.declared.walk.Node.{Node}
+use Rattle.bt_meta.proofs.Kept.{kept, dropped}
+use Rattle.bt_meta.proofs.Dictionaries.{empty_key, key_places}
+use Rattle.bt_meta.proofs.WalkSteps.{passes_nothing}
+use Rattle.bt_meta.proofs.FileAdding.{no_node_stops, bad_name_stops, folder_many, folder_passes, entry_stops, file_place, node_is, file_entered, folder_entered}
 use Rattle.bt_meta.proofs.walk.enter.Goals as goal
 
--- src/walk.rt:118:9
 pub returns-then-is_empty : goal.returns-then-is_empty
-returns-then-is_empty c = ?
+returns-then-is_empty c =
+    let P = λ (places : List Place). Passes c.args.piece_length places c.args.walk.now c.args.walk.now in
+    subst P (sym (empty_key (texts c.args.path.now) c.args.key.now (data_of c.args.value.now) c.if-is_empty.ensures)) (passes_nothing c.args.piece_length c.args.walk.now)
 
--- src/walk.rt:121:9
 pub returns-in_default : goal.returns-in_default
-returns-in_default c = ?
+returns-in_default c =
+    let path = texts c.args.path.now in
+    let key = c.args.key.now in
+    let d = data_of c.args.value.now in
+    entry_stops c.args.piece_length path key d c.args.walk.now _ (key_places path key d c.if-is_empty.ensures) (no_node_stops c.args.piece_length path key d c.args.walk.now c.in_default.ensures)
 
--- src/walk.rt:124:9
 pub returns-in_default-path_element : goal.returns-in_default-path_element
-returns-in_default-path_element c = ?
+returns-in_default-path_element c =
+    let path = texts c.args.path.now in
+    let key = c.args.key.now in
+    let d = data_of c.args.value.now in
+    entry_stops c.args.piece_length path key d c.args.walk.now _ (key_places path key d c.if-is_empty.ensures)
+    (bad_name_stops c.args.piece_length path key d c.args.walk.now (node_is d c.in-Some.node c.in-Some.ensures) (dropped (is_path_element key) key c.in_default-path_element.ensures))
 
--- src/walk.rt:128:13
 pub returns-in_err-add_file-in-File : goal.returns-in_err-add_file-in-File
-returns-in_err-add_file-in-File c = ?
+returns-in_err-add_file-in-File c =
+    let path = texts c.args.path.now in
+    let key = c.args.key.now in
+    let d = data_of c.args.value.now in
+    let q = err_from_is_err_and c.from_residual.result c.from_residual.ensures.1 in
+    let named = kept (is_path_element key) key c.in-Some-path_element.name.now c.in-Some-path_element.ensures in
+    let P = λ (n : Node). IsNodeOf d n in
+    let node = subst P c.in-File.is c.in-Some.ensures in
+    let p : Place = record { path = path ++ key ∷ []; value = d } in
+    rw (q.1, q.2) (entry_stops c.args.piece_length path key d c.args.walk.now c.in_err-add_file-in-File.field-0.0 (key_places path key d c.if-is_empty.ensures)
+    (c.in_err-add_file-in-File.ensures.stopped p (file_place path c.in-Some-path_element.name.now key d (data_of c.in-File.properties.now) named.1 node.0 named.0 node.1 node.2)))
 
--- src/walk.rt:133:17
 pub returns-then-path-ge-MAX_PATH_LENGTH : goal.returns-then-path-ge-MAX_PATH_LENGTH
-returns-then-path-ge-MAX_PATH_LENGTH c = ?
+returns-then-path-ge-MAX_PATH_LENGTH c =
+    let path = texts c.args.path.now in
+    let key = c.args.key.now in
+    let d = data_of c.args.value.now in
+    let named = kept (is_path_element key) key c.in-Some-path_element.name.now c.in-Some-path_element.ensures in
+    let P = λ (n : Node). IsNodeOf d n in
+    let node = subst P c.in-Folder.is c.in-Some.ensures in
+    entry_stops c.args.piece_length path key d c.args.walk.now _ (key_places path key d c.if-is_empty.ensures)
+    (folder_many c.args.piece_length path key d c.args.walk.now node.0 named.0 node.1 (omega (arith, length-map c.args.path.now (λ t. t.now), c.if-path-ge-MAX_PATH_LENGTH.true)))
 
--- src/walk.rt:106:1
 pub returns-in_ok-add_file-in-File : goal.returns-in_ok-add_file-in-File
-returns-in_ok-add_file-in-File c = ?
+returns-in_ok-add_file-in-File c =
+    let path = texts c.args.path.now in
+    let key = c.args.key.now in
+    let d = data_of c.args.value.now in
+    let named = kept (is_path_element key) key c.in-Some-path_element.name.now c.in-Some-path_element.ensures in
+    let P = λ (n : Node). IsNodeOf d n in
+    let node = subst P c.in-File.is c.in-Some.ensures in
+    let p : Place = record { path = path ++ key ∷ []; value = d } in
+    file_entered c.args.piece_length path key d c.args.walk.now c.add_file.new.walk (key_places path key d c.if-is_empty.ensures) (node.3 (path ++ key ∷ []))
+    (c.in_ok-add_file-in-File.ensures.passed p (file_place path c.in-Some-path_element.name.now key d (data_of c.in-File.properties.now) named.1 node.0 named.0 node.1 node.2))
 
--- src/walk.rt:106:1
 pub returns-else-path-ge-MAX_PATH_LENGTH : goal.returns-else-path-ge-MAX_PATH_LENGTH
-returns-else-path-ge-MAX_PATH_LENGTH c = ?
+returns-else-path-ge-MAX_PATH_LENGTH c =
+    let path = texts c.args.path.now in
+    let key = c.args.key.now in
+    let d = data_of c.args.value.now in
+    let name = c.in-Some-path_element.name.now in
+    let named = kept (is_path_element key) key name c.in-Some-path_element.ensures in
+    let P = λ (n : Node). IsNodeOf d n in
+    let node = subst P c.in-Folder.is c.in-Some.ensures in
+    folder_entered c.args.piece_length path key name d c.args.walk.now named.1 (key_places path key d c.if-is_empty.ensures)
+    (folder_passes c.args.piece_length path key d c.args.walk.now node.0 named.0 node.1 (omega (arith, length-map c.args.path.now (λ t. t.now), c.if-path-ge-MAX_PATH_LENGTH.false)))

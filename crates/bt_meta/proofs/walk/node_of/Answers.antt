@@ -1,27 +1,25 @@
-use Rattle.std.proofs.Common.{rules, ◌≡◌, ℕ, ◌+◌, ◌*◌, ◌<◌, ◌≤◌, ◌++◌, ◌∷◌, [], List, map, IfOk, OnOk, IfErr, MatchOption, MatchResult, string_bytes, true, false, ◌-◌, length, ◌/◌, ◌%◌, Bool, nat_eq, nat_lt, slice_index_or, slice_set, bit_and, bit_or, Fits, w8, w32, w64, Bor, MutBor}
-use Rattle.bt_bencode.specs.View.{data_of, entries_of}
-use Rattle.bt_meta.specs.Places.{places_below}
-use Rattle.bt_meta.specs.Faults.{first_of, is_node, is_piece_length, tree_checks}
-use Rattle.bt_meta.specs.Reading.{Refuses, IsListing}
-use Rattle.bt_meta.specs.Walks.{Passes, Stops, IsEntered, StopsEntry, IsNodeOf, AtFile, texts}
+use Rattle.std.proofs.Common.{sym}
+use Rattle.bt_bencode.specs.View.{data_of}
+use Rattle.bt_meta.proofs.Dictionaries.{not_node, folder_node, crowded_node, file_node_is, empty_node, single_below}
 use Rattle.bt_meta.proofs.walk.node_of.Goals as goal
 
--- src/walk.rt:145:9
-pub returns-in_default : goal.returns-in_default
-returns-in_default c = ?
+pub returns-then-not-is_dictionary : goal.returns-then-not-is_dictionary
+returns-then-not-is_dictionary c = not_node (data_of c.args.value.now) (sym c.if-not-is_dictionary.ensures)
 
--- src/walk.rt:148:9
 pub returns-then-not-has : goal.returns-then-not-has
-returns-then-not-has c = ?
+returns-then-not-has c = (folder_node (data_of c.args.value.now) (sym c.if-not-is_dictionary.ensures) (sym c.if-not-has.ensures), sym c.if-not-has.ensures)
 
--- src/walk.rt:151:9
-pub returns-then-len-ne1 : goal.returns-then-len-ne1
-returns-then-len-ne1 c = ?
+pub returns-then-not-is_single : goal.returns-then-not-is_single
+returns-then-not-is_single c = crowded_node (data_of c.args.value.now) (sym c.if-not-is_dictionary.ensures) (sym c.if-not-has.ensures) (sym c.if-not-is_single.ensures)
 
--- src/walk.rt:141:1
 pub returns-in-Some : goal.returns-in-Some
-returns-in-Some c = ?
+returns-in-Some c =
+    let d = data_of c.args.value.now in (
+      file_node_is d (data_of c.in-Some.properties.now) (sym c.if-not-is_dictionary.ensures) (sym c.if-not-has.ensures) (sym c.if-not-is_single.ensures) c.in-Some.ensures,
+      sym c.if-not-has.ensures,
+      sym c.in-Some.ensures,
+      λ path. single_below path d (sym c.if-not-is_single.ensures) (sym c.if-not-has.ensures),
+    )
 
--- src/walk.rt:141:1
 pub returns-in-None : goal.returns-in-None
-returns-in-None c = ?
+returns-in-None c = empty_node (data_of c.args.value.now) (sym c.if-not-is_dictionary.ensures) (sym c.if-not-has.ensures) (sym c.if-not-is_single.ensures) c.in-None.ensures

@@ -1,19 +1,17 @@
-use Rattle.std.proofs.Common.{rules, ◌≡◌, ℕ, ◌+◌, ◌*◌, ◌<◌, ◌≤◌, ◌++◌, ◌∷◌, [], List, map, IfOk, OnOk, IfErr, MatchOption, MatchResult, string_bytes, true, false, ◌-◌, length, ◌/◌, ◌%◌, Bool, nat_eq, nat_lt, slice_index_or, slice_set, bit_and, bit_or, Fits, w8, w32, w64, Bor, MutBor}
-use Rattle.bt_bencode.specs.View.{data_of, entries_of}
-use Rattle.bt_meta.specs.Places.{places_below}
-use Rattle.bt_meta.specs.Faults.{first_of, is_node, is_piece_length, tree_checks}
-use Rattle.bt_meta.specs.Reading.{Refuses, IsListing}
-use Rattle.bt_meta.specs.Walks.{Passes, Stops, IsEntered, StopsEntry, IsNodeOf, AtFile, texts}
+use Rattle.std.proofs.Common.{[], ap, map, arith, get_or}
+use Rattle.std.specs.Prelude.{string_bytes}
+use Rattle.bt_meta.proofs.PathSteps.{named_more, named_last}
 use Rattle.bt_meta.proofs.walk.path_with.Goals as goal
 
--- src/walk.rt:197:5
 pub loop-element-init : goal.loop-element-init
-loop-element-init c = ?
+loop-element-init c = ap (map string_bytes) c.new-names.ensures.items
 
--- src/walk.rt:197:5
 pub loop-element-preserved : goal.loop-element-preserved
-loop-element-preserved c = ?
+loop-element-preserved c =
+    named_more c.loop-element.names.items c.push.new.self.items c.in_ok-from_str.field-0 c.args.path.now c.loop-element.element-index (record { ref_ptr = (0, 0); now = [] }) c.loop-element-test.true c.loop-element.invariant
+    c.in_ok-from_str.ensures.ok c.in_ok-push.ensures.items
 
--- src/walk.rt:193:1
 pub returns : goal.returns
-returns c = ?
+returns c =
+    named_last c.loop-element.names.items c.push-2.new.self.items c.in_ok-from_str-2.field-0 c.args.path.now c.loop-element.element-index c.args.name.now (omega arith) c.loop-element.invariant c.in_ok-from_str-2.ensures.ok
+    c.in_ok-push-2.ensures.items

@@ -1,23 +1,34 @@
-use Rattle.std.proofs.Common.{rules, ◌≡◌, ℕ, ◌+◌, ◌*◌, ◌<◌, ◌≤◌, ◌++◌, ◌∷◌, [], List, map, IfOk, OnOk, IfErr, MatchOption, MatchResult, string_bytes, true, false, ◌-◌, length, ◌/◌, ◌%◌, Bool, nat_eq, nat_lt, slice_index_or, slice_set, bit_and, bit_or, Fits, w8, w32, w64, Bor, MutBor}
-use Rattle.bt_bencode.specs.View.{data_of, entries_of}
-use Rattle.bt_meta.specs.Places.{places_below}
-use Rattle.bt_meta.specs.Faults.{first_of, is_node, is_piece_length, tree_checks}
-use Rattle.bt_meta.specs.Reading.{Refuses, IsListing}
-use Rattle.bt_meta.specs.Walks.{Passes, Stops, IsEntered, StopsEntry, IsNodeOf, AtFile, texts}
+use Rattle.std.proofs.Common.{◌≡◌, ◌∙◌, [], length, refl, sym, ap, inr}
+use Rattle.std.specs.Prelude.{◌==◌}
+use Rattle.std.proofs.lemmas.Result.{err_from_is_err_and}
+use Rattle.bt_bencode.specs.View.{data_of}
+use Rattle.bt_meta.specs.Walks.{HasWalked}
+use Rattle.bt_meta.specs.declared.walk.Walk.{Walk}
+use Rattle.bt_meta.specs.declared.walk.Listing.{Listing}
+use Rattle.bt_meta.proofs.Trees.{start, key_at_top, tree_stops, no_file, whole_tree}
 use Rattle.bt_meta.proofs.walk.read_tree.Goals as goal
 
--- src/walk.rt:61:9
 pub returns-then-has : goal.returns-then-has
-returns-then-has c = ?
+returns-then-has c = inr (key_at_top c.args.piece_length (data_of c.args.tree.now) c.if-has.ensures)
 
--- src/walk.rt:69:5
 pub returns-in_err-walk_folder : goal.returns-in_err-walk_folder
-returns-in_err-walk_folder c = ?
+returns-in_err-walk_folder c =
+    let q = err_from_is_err_and c.from_residual.result c.from_residual.ensures.1 in
+    let old : Walk = record { files = c.new.result; pieces = 0; lengths = c.new-2.result } in
+    let begun = start c.args.piece_length old c.new.ensures.items refl c.new-2.ensures.empty in
+    rw (q.1, q.2) (tree_stops c.args.piece_length (data_of c.args.tree.now) c.new-path.result.items old c.in_err-walk_folder.field-0.0 c.new-path.ensures.items c.if-has.ensures begun c.in_err-walk_folder.ensures.stopped)
 
--- src/walk.rt:71:9
 pub returns-then-is_empty : goal.returns-then-is_empty
-returns-then-is_empty c = ?
+returns-then-is_empty c =
+    let old : Walk = record { files = c.new.result; pieces = 0; lengths = c.new-2.result } in
+    let begun = start c.args.piece_length old c.new.ensures.items refl c.new-2.ensures.empty in
+    inr (no_file c.args.piece_length (data_of c.args.tree.now) c.new-path.result.items old c.walk_folder.new.walk c.new-path.ensures.items c.if-has.ensures begun c.in_ok-walk_folder.ensures.passed
+    (c.if-is_empty.ensures ∙ ap (λ xs. length xs == 0) c.as_slice.ensures.value))
 
--- src/walk.rt:52:1
 pub returns : goal.returns
-returns c = ?
+returns c =
+    let old : Walk = record { files = c.new.result; pieces = 0; lengths = c.new-2.result } in
+    let begun = start c.args.piece_length old c.new.ensures.items refl c.new-2.ensures.empty in
+    let listing : Listing = record { files = c.walk_folder.new.walk.files; pieces = c.walk_folder.new.walk.pieces } in
+    whole_tree c.args.piece_length (data_of c.args.tree.now) c.new-path.result.items old c.walk_folder.new.walk listing c.new-path.ensures.items c.if-has.ensures begun c.in_ok-walk_folder.ensures.passed
+    (c.if-is_empty.ensures ∙ ap (λ xs. length xs == 0) c.as_slice.ensures.value) refl refl

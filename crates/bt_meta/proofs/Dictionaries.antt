@@ -1,0 +1,173 @@
+-- What dictionaries have.
+use Rattle.std.proofs.Common.{◌≡◌, ◌⊎◌, inl, inr, ℕ, ℤ, Bool, true, false, List, [], ◌∷◌, ◌++◌, length, Option, None, Some, refl, sym, ap, subst, ◌∙◌, arith}
+use Rattle.std.specs.Prelude.{codes, unwrap_or, nat_eq, not, ◌&&◌, ◌||◌, ◌==◌, is_some, if◌then◌else◌}
+use Rattle.std.specs.Option.{option_and_then}
+use Rattle.std.specs.Cmp.Lexicographic.{pointwise}
+use Rattle.std.specs.Global.{Vec}
+use Rattle.std.proofs.lemmas.List.{append-nil}
+use Rattle.std.proofs.lemmas.Bool.Decides.{nat_tests}
+use Rattle.bt_bencode.specs.Data.{Data, integer, string, list, dictionary, Entries, no_entries, entry}
+use Rattle.bt_bencode.specs.Field.{field_of, first_value_of}
+use Rattle.bt_bencode.specs.Spelling.{HasAscendingKeys, EntriesAscend}
+use Rattle.bt_bencode.specs.View.{data_of, entries_of}
+use Rattle.bt_bencode.proofs.Views.{data_of-Int, data_of-Bytes, data_of-List}
+use Rattle.bt_bencode.specs.declared.value.Value.TheViews as views
+use Rattle.bt_bencode.specs.declared.value.Value.{Value, Int, Bytes}
+use Rattle.bt_meta.specs.Fields.{as_dictionary, has_key, dictionary_at, string_at, entries_in, no_dictionary}
+use Rattle.bt_meta.specs.Places.{Place, places_below, places_among}
+use Rattle.bt_meta.specs.Faults.{is_dictionary, is_single, is_node, layers_of}
+use Rattle.bt_meta.specs.Walks.{entry_places}
+
+-- ---- entries of a file tree
+
+pub nothing_below : (path : List (List ℕ)) (d : Data) → is_dictionary d ≡ false → places_below path d ≡ []
+unfolding places_below
+nothing_below path (integer z) e = refl
+nothing_below path (string s) e = refl
+nothing_below path (list ds) e = refl
+nothing_below path (dictionary es) e = cc
+
+pub below_entries : (path : List (List ℕ)) (d : Data) (es : Entries) → d ≡ dictionary es → places_below path d ≡ places_among path es
+unfolding places_below
+below_entries path d es e = rw e refl
+
+pub single_entry : (es : List (Vec ℕ × Value)) → (length es == 1) ≡ is_single (dictionary (entries_of es))
+single_entry [] = refl
+single_entry (e ∷ []) = refl
+single_entry (e ∷ f ∷ es) = let more : (length (e ∷ f ∷ es) == 1) ≡ false = grind (arith, nat_tests) in more
+
+pub single_below : (path : List (List ℕ)) (d : Data) → is_single d ≡ true → has_key d [] ≡ true → places_below path d ≡ []
+unfolding places_below places_among has_key
+single_below path (integer z) s h = cc
+single_below path (string z) s h = cc
+single_below path (list z) s h = cc
+single_below path (dictionary no_entries) s h = cc
+single_below path (dictionary (entry [] d no_entries)) s h = refl
+single_below path (dictionary (entry (byte ∷ bytes) d no_entries)) s h = cc
+single_below path (dictionary (entry key d (entry other e es))) s h = cc
+
+pub not_node : (d : Data) → is_dictionary d ≡ false → is_node d ≡ false
+unfolding is_node
+not_node d e = rw e refl
+
+pub folder_node : (d : Data) → is_dictionary d ≡ true → has_key d [] ≡ false → is_node d ≡ true
+unfolding is_node
+folder_node d e h = rw (e, h) refl
+
+pub crowded_node : (d : Data) → is_dictionary d ≡ true → has_key d [] ≡ true → is_single d ≡ false → is_node d ≡ false
+unfolding is_node
+crowded_node d e h s = rw (e, h, s) refl
+
+pub file_node_is : (d properties : Data) → is_dictionary d ≡ true → has_key d [] ≡ true → is_single d ≡ true → Some properties ≡ dictionary_at d [] → is_node d ≡ true
+unfolding is_node
+file_node_is d properties e h s p = rw (e, h, s, ← p) refl
+
+pub empty_node : (d : Data) → is_dictionary d ≡ true → has_key d [] ≡ true → is_single d ≡ true → None ≡ dictionary_at d [] → is_node d ≡ false
+unfolding is_node
+empty_node d e h s p = rw (e, h, s, ← p) refl
+
+pub empty_key : (path : List (List ℕ)) (key : List ℕ) (d : Data) → true ≡ (length key == 0) → entry_places path key d ≡ []
+unfolding places_among
+empty_key path [] d e = refl
+empty_key path (byte ∷ bytes) d e = absurd (not_empty byte bytes e)
+  where
+    not_empty : (byte : ℕ) (bytes : List ℕ) → true ≡ (length (byte ∷ bytes) == 0) → ⊥
+    not_empty byte bytes e = grind (arith, nat_tests)
+
+pub key_places : (path : List (List ℕ)) (key : List ℕ) (d : Data) → false ≡ (length key == 0)
+    → entry_places path key d ≡ (record { path = path ++ key ∷ []; value = d }) ∷ places_below (path ++ key ∷ []) d
+unfolding places_among
+key_places path [] d e = cc
+key_places path (byte ∷ bytes) d e = let inner = path ++ (byte ∷ bytes) ∷ [] in ap (λ xs. record { path = inner; value = d } ∷ xs) (append-nil (places_below inner d))
+
+-- ---- `piece layers`
+
+value_ascends : (es : Entries) (key : List ℕ) (d : Data) → EntriesAscend es → first_value_of es key ≡ Some d → HasAscendingKeys d
+unfolding EntriesAscend
+value_ascends no_entries key d h e = cc
+value_ascends (entry k v es) key d h e = value_at (pointwise nat_eq k key) v es key d h.1 (λ f. value_ascends es key d h.2 f) e
+  where
+    value_at : (b : Bool) (v : Data) (es : Entries) (key : List ℕ) (d : Data) → HasAscendingKeys v → (first_value_of es key ≡ Some d → HasAscendingKeys d) → (if b then Some v else first_value_of es key) ≡ Some d → HasAscendingKeys d
+    value_at true v es key d h more e = let same : v ≡ d = cc in let P : Data → Type 0 = λ x. HasAscendingKeys x in subst P same h
+    value_at false v es key d h more e = more e
+
+field_ascends : (d : Data) (key : List ℕ) (v : Data) → HasAscendingKeys d → field_of d key ≡ Some v → HasAscendingKeys v
+unfolding HasAscendingKeys
+field_ascends (integer z) key v h e = cc
+field_ascends (string s) key v h e = cc
+field_ascends (list ds) key v h e = cc
+field_ascends (dictionary es) key v h e = value_ascends es key v h e
+
+entries_ascend : (d : Data) → HasAscendingKeys d → EntriesAscend (entries_in d)
+unfolding HasAscendingKeys EntriesAscend
+entries_ascend (integer z) h = tt
+entries_ascend (string s) h = tt
+entries_ascend (list ds) h = tt
+entries_ascend (dictionary es) h = h
+
+abbrev as_dictionary_of : Option Data → Option Data
+as_dictionary_of None = None
+as_dictionary_of (Some (integer z)) = None
+as_dictionary_of (Some (string s)) = None
+as_dictionary_of (Some (list ds)) = None
+as_dictionary_of (Some (dictionary es)) = Some (dictionary es)
+
+dictionary_is_field : (o : Option Data) (v : Data) → Some v ≡ as_dictionary_of o → o ≡ Some v
+dictionary_is_field None v e = cc
+dictionary_is_field (Some (integer z)) v e = cc
+dictionary_is_field (Some (string s)) v e = cc
+dictionary_is_field (Some (list ds)) v e = cc
+dictionary_is_field (Some (dictionary es)) v e = sym e
+
+at_is : (d : Data) (key : List ℕ) → dictionary_at d key ≡ as_dictionary_of (field_of d key)
+unfolding dictionary_at
+at_is d key = same (field_of d key)
+  where
+    same : (o : Option Data) → option_and_then as_dictionary o ≡ as_dictionary_of o
+    same None = refl
+    same (Some (integer z)) = refl
+    same (Some (string s)) = refl
+    same (Some (list ds)) = refl
+    same (Some (dictionary es)) = refl
+
+field_at : (d : Data) (key : List ℕ) (v : Data) → Some v ≡ dictionary_at d key → field_of d key ≡ Some v
+field_at d key v e = dictionary_is_field (field_of d key) v (e ∙ at_is d key)
+
+pub layers_ascend : (torrent layers : Data) (es : Entries) → HasAscendingKeys torrent → Some layers ≡ dictionary_at torrent (codes "piece layers") → es ≡ entries_in layers → EntriesAscend es
+layers_ascend torrent layers es h e is =
+    let P : Entries → Type 0 = λ x. EntriesAscend x in
+    subst P (sym is) (entries_ascend layers (field_ascends torrent (codes "piece layers") layers h (field_at torrent (codes "piece layers") layers e)))
+
+strings_in : (d : Data) (key : List ℕ) → string_at (dictionary (entries_in d)) key ≡ string_at d key
+unfolding string_at
+strings_in (integer z) key = refl
+strings_in (string s) key = refl
+strings_in (list ds) key = refl
+strings_in (dictionary es) key = refl
+
+pub layers_strings : (torrent layers : Data) (es : Entries) (key : List ℕ) → Some layers ≡ dictionary_at torrent (codes "piece layers") → es ≡ entries_in layers
+    → string_at (dictionary es) key ≡ string_at (layers_of torrent) key
+unfolding layers_of
+layers_strings torrent layers es key e is =
+    ap (λ x. string_at (dictionary x) key) is ∙ strings_in layers key ∙ ap (λ o. string_at (unwrap_or o no_dictionary) key) (sym (field_at torrent (codes "piece layers") layers e))
+
+no_strings : (o : Option Data) (key : List ℕ) → None ≡ as_dictionary_of o → string_at (dictionary no_entries) key ≡ string_at (unwrap_or o no_dictionary) key
+unfolding string_at
+no_strings None key e = refl
+no_strings (Some (integer z)) key e = refl
+no_strings (Some (string s)) key e = refl
+no_strings (Some (list ds)) key e = refl
+no_strings (Some (dictionary es)) key e = cc
+
+pub layers_absent : (torrent : Data) (key : List ℕ) → None ≡ dictionary_at torrent (codes "piece layers") → string_at (dictionary no_entries) key ≡ string_at (layers_of torrent) key
+unfolding layers_of
+layers_absent torrent key e = no_strings (field_of torrent (codes "piece layers")) key (e ∙ at_is torrent (codes "piece layers"))
+
+pub nothing_ascends : EntriesAscend no_entries
+unfolding EntriesAscend
+nothing_ascends = tt
+
+pub no_dictionary_is : (v : Value) → ((x : ℤ) × (v ≡ Int x)) ⊎ (((x : Vec ℕ) × (v ≡ Bytes x)) ⊎ ((x : Vec Value) × (v ≡ views.List x))) → is_dictionary (data_of v) ≡ false
+no_dictionary_is v (inl h) = ap is_dictionary (ap data_of h.1 ∙ data_of-Int h.0)
+no_dictionary_is v (inr (inl h)) = ap is_dictionary (ap data_of h.1 ∙ data_of-Bytes h.0)
+no_dictionary_is v (inr (inr h)) = ap is_dictionary (ap data_of h.1 ∙ data_of-List h.0)
