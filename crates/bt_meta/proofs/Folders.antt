@@ -1,5 +1,5 @@
 -- The entries of a folder, and a file put behind them.
-use Rattle.std.proofs.Common.{◌≡◌, ℕ, Bool, true, false, List, [], ◌∷◌, ◌++◌, map, refl, sym, ap, ◌∙◌, inl, inr, Some, None}
+use Rattle.std.proofs.Common.{◌≡◌, ℕ, Bool, true, false, List, [], ◌∷◌, ◌++◌, map, length, arith, refl, sym, ap, ◌∙◌, inl, inr, Some, None}
 use Rattle.std.specs.Prelude.{unwrap_or, nat_eq, if◌then◌else◌}
 use Rattle.bt_meta.specs.Fields.{no_dictionary}
 use Rattle.std.specs.Global.{Vec}
@@ -131,3 +131,7 @@ file_in name path d es earlier inner h = sym (h.kept (dictionary (with_file path
 pub file_alone : (d : Data) (es : Entries) → es ≡ no_entries → entries_before es (entry [] d no_entries) ≡ with_file [] d es
 unfolding with_file with_entry
 file_alone d es e = rw e refl
+
+pub no_path : {X : Type 0} (path : List X) → length path ≡ 0 → path ≡ []
+no_path [] e = refl
+no_path (x ∷ xs) e = absurd (omega (arith, e))

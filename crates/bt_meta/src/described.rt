@@ -1,6 +1,6 @@
 //! The value that a torrent spells (BEP 52, "metainfo files").
-ghost use Rattle.std.specs.Prelude.{◌≡◌, ℕ, ◌<◌, ◌≤◌, ◌^◌, List, ◌∷◌, map, IfOk, OnOk, string_bytes};
-ghost use Rattle.bt_bencode.specs.Data.{no_entries, entry};
+ghost use Rattle.std.specs.Prelude.{◌≡◌, ◌≢◌, ℕ, ◌<◌, ◌≤◌, ◌^◌, List, ◌∷◌, map, IfOk, IfErr, OnOk, OnErr, string_bytes};
+ghost use Rattle.bt_bencode.specs.Data.{Entries, dictionary, no_entries, entry};
 ghost use Rattle.bt_bencode.specs.View.{data_of, entries_of};
 ghost use Rattle.bt_meta.specs.Making.{given_of, lent_of, entries_before, with_file, properties_made, tree_made, layers_made, info_made, value_made, IsBehind, IsOpened};
 
@@ -86,18 +86,32 @@ fn open_last(
     let Some((key, value)) = folder.pop() else {
         return Ok((folder, Vec::new(alloc)));
     };
-    match value {
-        Value::Dict(inner) => {
+    match entries_in(value) {
+        Ok(inner) => {
             if key.as_slice() == name {
                 return Ok((folder, inner));
             }
             folder.push((key, Value::Dict(inner)))?;
             Ok((folder, Vec::new(alloc)))
         }
-        other => {
+        Err(other) => {
             folder.push((key, other))?;
             Ok((folder, Vec::new(alloc)))
         }
+    }
+}
+
+/// The entries of a dictionary. Any other value is handed back.
+fn entries_in(value: Value) -> Result<Entries, Value>
+    ensures entries { IfOk result (λ entries. data_of value ≡ dictionary (entries_of entries.items)) }
+    ensures back { IfErr result (λ other. data_of other ≡ data_of value) }
+    ensures other { OnErr result ((es : Entries) → data_of value ≢ dictionary es) }
+{
+    match value {
+        Value::Dict(entries) => Ok(entries),
+        Value::Int(integer) => Err(Value::Int(integer)),
+        Value::Bytes(string) => Err(Value::Bytes(string)),
+        Value::List(items) => Err(Value::List(items)),
     }
 }
 
