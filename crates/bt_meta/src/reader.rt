@@ -48,8 +48,8 @@ pub fn read_info(alloc: Global, bytes: &[u8]) -> Result<Torrent, MetaError>
     if bytes.len() > MAX_TEXT_LENGTH {
         return Err(MetaError::TooMany);
     }
-    let doc = parse(alloc, bytes)?;
-    info_in(alloc, doc.value())
+    let info = parse(alloc, bytes)?;
+    info_in(alloc, info.value())
 }
 
 /// The torrent that the value describes.

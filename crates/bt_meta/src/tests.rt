@@ -1,4 +1,4 @@
-use crate::{MetaError, Torrent, read_torrent};
+use crate::{MetaError, Torrent, read_info, read_torrent};
 use bt_bencode::BencodeError;
 use sha2::{Digest, Sha256};
 use std::process::Abort;
@@ -59,16 +59,43 @@ fn refuses_each_proper_prefix(rt: HostRuntime) -> Result<(), Fail> {
     Ok(())
 }
 
+#[test]
+fn reads_the_abc_info(rt: HostRuntime) -> Result<(), Fail> {
+    let bytes = abc_torrent(&rt)?;
+    assert_eq!(rt; bytes.len(), 166);
+    let torrent = read_info(rt.alloc(), &bytes[7..148])?;
+    let whole = read_torrent(rt.alloc(), &bytes)?;
+    assert_eq!(rt; torrent.name(), b"a.txt".as_slice());
+    assert_eq!(rt; torrent.infohash(), whole.infohash());
+    assert_eq!(rt; torrent.files().len(), 1);
+    let refused = read_info(rt.alloc(), b"le");
+    assert!(rt; refused.is_err_and(|error| error == MetaError::NoInfo));
+    Ok(())
+}
+
+/// What is printed of a torrent's refusal.
+fn answer(rt: &(impl AllocGlobal + Abort), bytes: &[u8]) -> Result<String, Fail> {
+    match read_torrent(rt.alloc(), bytes) {
+        Ok(_) => Ok(String::from_str(rt.alloc(), "taken")?),
+        Err(error) => Ok(error.to_string(rt.alloc())?),
+    }
+}
+
 /// How the torrent of this `info` is refused.
 fn refusal(rt: &(impl AllocGlobal + Abort), info: &[u8]) -> Result<String, Fail> {
     let mut bytes = Vec::new(rt.alloc());
     bytes.extend_from_slice(b"d4:info")?;
     bytes.extend_from_slice(info)?;
     bytes.push(b'e')?;
-    match read_torrent(rt.alloc(), &bytes) {
-        Ok(_) => Ok(String::from_str(rt.alloc(), "taken")?),
-        Err(error) => Ok(error.to_string(rt.alloc())?),
-    }
+    answer(rt, &bytes)
+}
+
+/// How the torrent of this tree is refused, with pieces of 16,384 bytes and no layers.
+fn tree_refusal(rt: &(impl AllocGlobal + Abort), tree: &str) -> Result<String, Fail> {
+    let mut info = String::from_str(rt.alloc(), "d9:file tree")?;
+    info.push_str(tree)?;
+    info.push_str("12:meta versioni2e4:name1:a12:piece lengthi16384ee")?;
+    refusal(rt, info.as_bytes())
 }
 
 #[test]
@@ -135,11 +162,204 @@ fn refuses_by_name(rt: HostRuntime) -> Result<(), Fail> {
         ("d1:ad0:d6:lengthi0eeee", "taken"),
     ];
     for (tree, wanted) in trees {
-        let mut info = String::from_str(rt.alloc(), "d9:file tree")?;
-        info.push_str(tree)?;
-        info.push_str("12:meta versioni2e4:name1:a12:piece lengthi16384ee")?;
-        let answer = refusal(&rt, info.as_bytes())?;
+        let answer = tree_refusal(&rt, tree)?;
         assert_eq!(rt; answer.as_str(), wanted, "at {tree}");
     }
+    Ok(())
+}
+
+/// Torrents of two faults, and which is answered.
+const TEXTS: [(&str, &str); 8] = [
+    ("i00e", "M1 Bencode B3 LeadingZero 1"),
+    ("le", "M2 NoInfo"),
+    ("d4:infolee", "M2 NoInfo"),
+    ("d4:infod6:pieces0:ee", "M3 NotV2"),
+    ("d4:infod12:meta versioni3e6:pieces0:ee", "M4 Version 3"),
+    ("d4:infod12:meta versioni2e6:pieces0:ee", "M5 Hybrid"),
+    ("d4:infod12:meta versioni2eee", "M6 NoName"),
+    ("d4:infod12:meta versioni2e4:name1:aee", "M7 PieceLength"),
+];
+
+/// The same of file trees.
+const TREES: [(&str, &str); 11] = [
+    ("d1:.0:e", "M8 Tree"),
+    ("d0:d1:xd0:deeee", "M8 Tree"),
+    ("d1:.d0:d12:symlink path1:beee", "M9 BadPath"),
+    ("d1:ad0:d6:lengthi-1e12:symlink path1:beee", "M10 Symlink"),
+    ("d1:ad0:d6:lengthi-1e11:pieces root0:eee", "M11 FileLength"),
+    (
+        "d1:ad0:d6:lengthi1099511627776e11:pieces root0:eee",
+        "M12 BadRoot",
+    ),
+    (
+        "d1:ad0:d6:lengthi1099511627776e11:pieces root32:aaaaaaaaaaaaaaaaaaaaaaaaaaaaaaaaeee",
+        "M14 TooMany",
+    ),
+    (
+        "d1:ad0:d6:lengthi32769e11:pieces root32:aaaaaaaaaaaaaaaaaaaaaaaaaaaaaaaaeee",
+        "M15 LayerMissing",
+    ),
+    // A fault of a later entry is answered before one of the layers.
+    (
+        "d1:ad0:d6:lengthi32769e11:pieces root32:aaaaaaaaaaaaaaaaaaaaaaaaaaaaaaaaee1:bd0:deee",
+        "M11 FileLength",
+    ),
+    // So is that of an earlier entry before one of a later one.
+    ("d1:a0:1:bd0:deee", "M8 Tree"),
+    ("d1:ad0:dee1:b0:e", "M11 FileLength"),
+];
+
+#[test]
+fn refuses_in_order(rt: HostRuntime) -> Result<(), Fail> {
+    for (text, wanted) in TEXTS {
+        let answer = answer(&rt, text.as_bytes())?;
+        assert_eq!(rt; answer.as_str(), wanted, "at {text}");
+    }
+    for (tree, wanted) in TREES {
+        let answer = tree_refusal(&rt, tree)?;
+        assert_eq!(rt; answer.as_str(), wanted, "at {tree}");
+    }
+    Ok(())
+}
+
+/// How the torrent of two files of these lengths and one root is refused.
+fn twins(rt: &(impl AllocGlobal + Abort), first: u64, second: u64) -> Result<String, Fail> {
+    let root = "11:pieces root32:aaaaaaaaaaaaaaaaaaaaaaaaaaaaaaaa";
+    let info = format!(in rt.alloc();
+        "d9:file treed1:ad0:d6:lengthi{first}e{root}ee1:bd0:d6:lengthi{second}e{root}eee12:meta versioni2e4:name1:a12:piece lengthi65536ee"
+    )?;
+    refusal(rt, info.as_bytes())
+}
+
+#[test]
+fn compares_files_of_one_root(rt: HostRuntime) -> Result<(), Fail> {
+    let table = [
+        (49152, 49152, "taken"),
+        (49152, 49151, "M13 RootConflict"),
+        (49152, 1099511627776, "M13 RootConflict"),
+        (49152, 0, "taken"),
+        (0, 49152, "taken"),
+    ];
+    for (first, second, wanted) in table {
+        let answer = twins(&rt, first, second)?;
+        assert_eq!(rt; answer.as_str(), wanted, "at {first} and {second}");
+    }
+    Ok(())
+}
+
+/// Of each file its path, its first piece, its length and its layer's.
+fn summary(rt: &impl AllocGlobal, torrent: &Torrent) -> Result<String, Fail> {
+    let mut text = String::new(rt.alloc());
+    for file in torrent.files() {
+        for element in &file.path {
+            text.push_str(element)?;
+            text.push_str("/")?;
+        }
+        let first = file.first_piece;
+        let length = file.length;
+        let layer = file.layer.len();
+        let facts = format!(in rt.alloc(); " {first} {length} {layer};")?;
+        text.push_str(&facts)?;
+    }
+    Ok(text)
+}
+
+#[test]
+fn counts_pieces_and_elements(rt: HostRuntime) -> Result<(), Fail> {
+    let tree =
+        "d1:ad1:bd0:d6:lengthi3e11:pieces root32:aaaaaaaaaaaaaaaaaaaaaaaaaaaaaaaaeee1:cd0:d6:lengthi0eee1:dde1:ed0:d6:lengthi16384e11:pieces root32:bbbbbbbbbbbbbbbbbbbbbbbbbbbbbbbbeee";
+    let text = format!(in rt.alloc();
+        "d4:infod9:file tree{tree}12:meta versioni2e4:name1:a12:piece lengthi16384eee"
+    )?;
+    let torrent = read_torrent(rt.alloc(), text.as_bytes())?;
+    assert_eq!(rt; torrent.pieces(), 2);
+    let summary = summary(&rt, &torrent)?;
+    assert_eq!(rt; summary.as_str(), "a/b/ 0 3 0;c/ 1 0 0;e/ 1 16384 0;");
+    Ok(())
+}
+
+/// How the torrent of an empty file with a path of so many elements is refused.
+fn deep_refusal(rt: &(impl AllocGlobal + Abort), elements: usize) -> Result<String, Fail> {
+    let mut tree = String::new(rt.alloc());
+    for _ in 0..elements {
+        tree.push_str("d1:a")?;
+    }
+    tree.push_str("d0:d6:lengthi0eee")?;
+    for _ in 0..elements {
+        tree.push_str("e")?;
+    }
+    tree_refusal(rt, &tree)
+}
+
+#[test]
+fn bounds_paths_and_files(rt: HostRuntime) -> Result<(), Fail> {
+    let deepest = deep_refusal(&rt, 64)?;
+    assert_eq!(rt; deepest.as_str(), "taken");
+    let deeper = deep_refusal(&rt, 65)?;
+    assert_eq!(rt; deeper.as_str(), "M14 TooMany");
+    Ok(())
+}
+
+/// The root of the tree of 1,048,577 bytes whose layer of 17 pieces of 65,536 bytes has the digests 00.., 01.. up to
+/// 10.. of one byte each.
+const LAYERED_ROOT: [u8; 32] = [
+    0x81, 0xe8, 0xe4, 0xbc, 0x61, 0xe7, 0x6d, 0x28, 0x18, 0x4d, 0x9d, 0xaa, 0x52, 0xc6, 0x32, 0xb1,
+    0x54, 0x07, 0xe4, 0xa1, 0xf5, 0xa1, 0x12, 0xb8, 0xe2, 0x89, 0xe5, 0x4b, 0x3b, 0x67, 0x6f, 0x21,
+];
+
+/// The first `length` bytes of that layer.
+fn layer(rt: &impl AllocGlobal, length: usize) -> Result<Vec<u8>, Fail> {
+    let mut bytes = Vec::new(rt.alloc());
+    for i in 0..length {
+        bytes.push((i / 32 % 256) as u8)?;
+    }
+    Ok(bytes)
+}
+
+/// The torrent of two such files, with these bytes at this key of `piece layers`, between two others.
+fn layered(rt: &impl AllocGlobal, key: &[u8], layer: &[u8]) -> Result<Vec<u8>, Fail> {
+    let mut bytes = Vec::new(rt.alloc());
+    let before = b"d4:infod9:file treed";
+    bytes.extend_from_slice(before)?;
+    for name in [b"1:f", b"1:g"] {
+        bytes.extend_from_slice(name)?;
+        bytes.extend_from_slice(b"d0:d6:lengthi1048577e11:pieces root32:")?;
+        bytes.extend_from_slice(&LAYERED_ROOT)?;
+        bytes.extend_from_slice(b"ee")?;
+    }
+    let length = layer.len();
+    bytes.extend_from_slice(
+        b"e12:meta versioni2e4:name1:f12:piece lengthi65536ee12:piece layersd1:0le32:",
+    )?;
+    bytes.extend_from_slice(key)?;
+    let head = format!(in rt.alloc(); "{length}:")?;
+    bytes.extend_from_slice(head.as_bytes())?;
+    bytes.extend_from_slice(layer)?;
+    bytes.extend_from_slice(b"ee")?;
+    Ok(bytes)
+}
+
+#[test]
+fn reads_layers(rt: HostRuntime) -> Result<(), Fail> {
+    let whole = layer(&rt, 544)?;
+    let bytes = layered(&rt, &LAYERED_ROOT, &whole)?;
+    let torrent = read_torrent(rt.alloc(), &bytes)?;
+    assert_eq!(rt; torrent.pieces(), 34);
+    for file in torrent.files() {
+        assert_eq!(rt; file.layer.as_slice(), whole.as_slice());
+    }
+    let summary = summary(&rt, &torrent)?;
+    assert_eq!(rt; summary.as_str(), "f/ 0 1048577 544;g/ 17 1048577 544;");
+    let short = layer(&rt, 543)?;
+    let sized = answer(&rt, &layered(&rt, &LAYERED_ROOT, &short)?)?;
+    assert_eq!(rt; sized.as_str(), "M16 LayerSize");
+    let mut changed = layer(&rt, 544)?;
+    if let Some(last) = changed.last_mut() {
+        *last ^= 1;
+    }
+    let differs = answer(&rt, &layered(&rt, &LAYERED_ROOT, &changed)?)?;
+    assert_eq!(rt; differs.as_str(), "M17 LayerDiffers");
+    let missing = answer(&rt, &layered(&rt, &ABC_ROOT, &whole)?)?;
+    assert_eq!(rt; missing.as_str(), "M15 LayerMissing");
     Ok(())
 }
