@@ -76,7 +76,7 @@ files_push piece_length before p files e file h is =
     map_push file_of files e ∙ ap (λ xs. xs ++ file_of e ∷ []) h ∙ ap (λ x. with_earlier f [] (filter is_file before) ++ x ∷ []) is
     ∙ sym (with_earlier-append f [] (filter is_file before) (p ∷ [])) ∙ ap (with_earlier f []) (sym (filter_file before p file))
 
-length-with_earlier : {A B : Type 0} (f : List A → A → B) (before xs : List A) → length (with_earlier f before xs) ≡ length xs
+pub length-with_earlier : {A B : Type 0} (f : List A → A → B) (before xs : List A) → length (with_earlier f before xs) ≡ length xs
 length-with_earlier f before [] = refl
 length-with_earlier f before (x ∷ xs) = let n = length-with_earlier f (before ++ x ∷ []) xs in grind arith
 

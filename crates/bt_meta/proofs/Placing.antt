@@ -28,12 +28,12 @@ sums_rise f files j k d le within = elim (cases_lt j k) [
     | inr ge ↦ let same : j ≡ k = omega arith in rw same (omega arith)
 ]
 
-begins : (torrent : Metainfo) → IsLaidOut torrent → (j k : ℕ) (d : File) → j < k → k < length torrent.files
+begins : (torrent : Metainfo) → IsLaidOut torrent.piece_length torrent.files → (j k : ℕ) (d : File) → j < k → k < length torrent.files
     → (get_or torrent.files j d).first_piece + piece_count torrent.piece_length (get_or torrent.files j d).length ≤ (get_or torrent.files k d).first_piece
 begins torrent lay j k d lt within =
     rw (lay.in_turn j d (omega arith), lay.in_turn k d within) (ends_before (λ f. piece_count torrent.piece_length f.length) torrent.files j k d lt (omega arith))
 
-entries_rise : (torrent : Metainfo) (items : List FileEntry) → map file_of items ≡ torrent.files → IsLaidOut torrent → IsNonDecreasingBy (λ e. e.first_piece) items
+entries_rise : (torrent : Metainfo) (items : List FileEntry) → map file_of items ≡ torrent.files → IsLaidOut torrent.piece_length torrent.files → IsNonDecreasingBy (λ e. e.first_piece) items
 entries_rise torrent items same lay i j d le within =
     let all : length torrent.files ≡ length items = rw (← same) (length-map items file_of) in
     let here : get_or torrent.files i (file_of d) ≡ file_of (get_or items i d) = rw (← same) (get_or-map file_of items i d (file_of d) (omega arith)) in
@@ -42,7 +42,7 @@ entries_rise torrent items same lay i j d le within =
     let second = sym (ap (λ f. f.first_piece) there) ∙ lay.in_turn j (file_of d) (omega arith) in
     rw (first, second) (sums_rise (λ f. piece_count torrent.piece_length f.length) torrent.files i j (file_of d) le (omega arith))
 
-pub entries_parted : (torrent : Metainfo) (items : List FileEntry) (piece : ℕ) → map file_of items ≡ torrent.files → IsLaidOut torrent
+pub entries_parted : (torrent : Metainfo) (items : List FileEntry) (piece : ℕ) → map file_of items ≡ torrent.files → IsLaidOut torrent.piece_length torrent.files
     → IsPartitionedBy (λ e. leb e.first_piece piece) items
 entries_parted torrent items piece same lay = IsPartitionedBy-leb (λ e. e.first_piece) items piece (entries_rise torrent items same lay)
 
@@ -71,7 +71,7 @@ none_begun items piece point h none k d listed =
 -- ---- the place of a range
 
 -- a place lies in the last file that begins at the piece or before it
-pub only_there : (torrent : Metainfo) (piece begin count index : ℕ) (span : Span) → IsLaidOut torrent → IsLastBegun torrent.files piece index → IsPlace torrent piece begin count span
+pub only_there : (torrent : Metainfo) (piece begin count index : ℕ) (span : Span) → IsLaidOut torrent.piece_length torrent.files → IsLastBegun torrent.files piece index → IsPlace torrent piece begin count span
     → span.file ≡ index
 only_there torrent piece begin count index span lay last place = elim (cases_lt span.file index) [
     | inl before ↦
@@ -116,7 +116,7 @@ below_of : (piece first count : ℕ) → first ≤ piece → piece - first < cou
 below_of piece first count from lt = omega arith
 
 -- what a place asks for, said of the file in which it must lie
-pub fits : (torrent : Metainfo) (piece begin count index : ℕ) (span : Span) (f : File) → IsLaidOut torrent → IsLastBegun torrent.files piece index
+pub fits : (torrent : Metainfo) (piece begin count index : ℕ) (span : Span) (f : File) → IsLaidOut torrent.piece_length torrent.files → IsLastBegun torrent.files piece index
     → ((d : File) → get_or torrent.files index d ≡ f) → IsPlace torrent piece begin count span
     → (1 ≤ count) × (count ≤ 16384) × (begin + count ≤ torrent.piece_length) × ((piece - f.first_piece) * torrent.piece_length + (begin + count) ≤ f.length)
 fits torrent piece begin count index span f lay last at place =

@@ -1,10 +1,19 @@
 -- The files of a tree take the pieces one after the other.
-use Rattle.std.proofs.Common.{◌≡◌, ◌<◌, ◌+◌, ℕ, zero, suc, Bool, true, false, cond, List, [], ◌∷◌, ◌++◌, length, refl, sym, ◌∙◌, ap, arith, inl, inr}
-use Rattle.std.specs.Prelude.{take, get_or, sum_by, filter}
+use Rattle.std.proofs.Common.{◌≡◌, ◌<◌, ◌+◌, ℕ, zero, suc, Bool, true, false, cond, List, [], ◌∷◌, ◌++◌, length, refl, sym, ◌∙◌, ap, arith, inl, inr, ◌≤◌, ◌^◌, None, Some, append_assoc}
+use Rattle.std.specs.Prelude.{take, get_or, sum_by, filter, ◌&&◌, ◌||◌, not, nat_lt, if◌then◌else◌}
 use Rattle.std.proofs.lemmas.Bool.{cases_Bool}
 use Rattle.std.proofs.lemmas.List.Elements.{filter-append}
 use Rattle.std.proofs.lemmas.List.Sums.{sum_by-append, sum_by-cons}
+use Rattle.std.proofs.lemmas.List.{append-nil}
+use Rattle.std.proofs.lemmas.Bool.Decides.{nat_tests}
 use Rattle.bt_bencode.specs.Data.{Data}
+use Rattle.bt_meta.specs.Faults.{Check, first_of, fault_if, entry_check, file_checks, is_node, has_lawful_name, is_too_many, tree_checks}
+use Rattle.std.specs.List.{list_any}
+use Rattle.bt_meta.specs.Fields.{has_key}
+use Rattle.bt_meta.specs.Torrent.{IsLaidOut}
+use Rattle.bt_meta.specs.declared.error.MetaError.{MetaError}
+use Rattle.bt_meta.specs.declared.error.MetaError.TheVariants.{Tree, BadPath, TooMany}
+use Rattle.bt_meta.proofs.FileSteps.{length-with_earlier}
 use Rattle.bt_meta.specs.Places.{Place, places_below, with_earlier}
 use Rattle.bt_meta.specs.Files.{File, is_file, length_of, piece_count, pieces_of, file_at, files_of}
 
@@ -41,3 +50,62 @@ pub in_turn : (piece_length : ℕ) (layers tree : Data) (k : ℕ) (d : File) →
     → (get_or (files_of piece_length layers tree) k d).first_piece ≡ sum_by (count piece_length) (take k (files_of piece_length layers tree))
 unfolding files_of
 in_turn piece_length layers tree k d lt = turn piece_length layers [] (places_below [] tree) k d lt ∙ omega arith
+
+-- ---- no more than 65,536 files
+
+first_of_front : (xs ys : List Check) → first_of (xs ++ ys) ≡ None → first_of xs ≡ None
+first_of_front [] ys e = refl
+first_of_front (None ∷ xs) ys e = first_of_front xs ys e
+first_of_front (Some x ∷ xs) ys e = cc
+
+fourth : (a b c d : Check) → first_of (a ∷ b ∷ c ∷ d ∷ []) ≡ None → d ≡ None
+fourth None None None None e = refl
+fourth None None None (Some x) e = cc
+fourth None None (Some x) d e = cc
+fourth None (Some x) c d e = cc
+fourth (Some x) b c d e = cc
+
+head_none : (x : Check) (xs : List Check) → first_of (x ∷ xs) ≡ None → x ≡ None
+head_none None xs e = refl
+head_none (Some x) xs e = cc
+
+tail_none : (x : Check) (xs : List Check) → first_of (x ∷ xs) ≡ None → first_of xs ≡ None
+tail_none None xs e = e
+tail_none (Some x) xs e = cc
+
+not_faulty : (test : Bool) (e : MetaError) → fault_if test e ≡ None → test ≡ false
+not_faulty true e h = cc
+not_faulty false e h = refl
+
+within_count : (n m : ℕ) (a b : Bool) → (a || (true && (nat_lt 65536 n || b))) ≡ false → n ≤ 65536
+within_count n m a b e = grind (arith, nat_tests)
+
+count_one : (piece_length : ℕ) (before : List Place) (p : Place) → entry_check piece_length before p ≡ None → length (filter is_file before) ≤ 65536 → length (filter is_file (before ++ p ∷ [])) ≤ 65536
+count_one piece_length before p h few =
+    let many : is_too_many piece_length before p ≡ false = not_faulty (is_too_many piece_length before p) TooMany (fourth (fault_if (not (is_node p.value)) Tree) (fault_if (not (has_lawful_name p)) BadPath)
+        (if is_file p then first_of (file_checks before p) else None) (fault_if (is_too_many piece_length before p) TooMany) h) in
+    elim (cases_Bool (is_file p)) [
+      | inl file ↦ within_count (length (filter is_file (before ++ p ∷ []))) 0 (nat_lt 64 (length p.path)) (nat_lt (2 ^ 21) (pieces_of piece_length (before ++ p ∷ []))) (rw file at many)
+      | inr folder ↦
+          let same : filter is_file (before ++ p ∷ []) ≡ filter is_file before = filter-append is_file before (p ∷ []) ∙ rw folder (append-nil (filter is_file before)) in
+          rw same few
+    ]
+
+few_files : (piece_length : ℕ) (before places : List Place) → first_of (with_earlier (entry_check piece_length) before places) ≡ None → length (filter is_file before) ≤ 65536
+    → length (filter is_file (before ++ places)) ≤ 65536
+few_files piece_length before [] h few = rw (append-nil before) few
+few_files piece_length before (p ∷ places) h few =
+    let rest = with_earlier (entry_check piece_length) (before ++ p ∷ []) places in
+    let one = count_one piece_length before p (head_none (entry_check piece_length before p) rest h) few in
+    rw (← append_assoc before (p ∷ []) places) (few_files piece_length (before ++ p ∷ []) places (tail_none (entry_check piece_length before p) rest h) one)
+
+pub laid_out : (piece_length : ℕ) (layers tree : Data) → first_of (tree_checks piece_length tree) ≡ None → IsLaidOut piece_length (files_of piece_length layers tree)
+unfolding tree_checks files_of
+laid_out piece_length layers tree h = record {
+  few =
+      let places = places_below [] tree in
+      let last = fault_if (not (list_any is_file places)) Tree ∷ [] in
+      let entries = first_of_front (with_earlier (entry_check piece_length) [] places) last (tail_none (fault_if (has_key tree []) Tree) (with_earlier (entry_check piece_length) [] places ++ last) h) in
+      rw (length-with_earlier (file_at piece_length layers) [] (filter is_file places)) (few_files piece_length [] places entries (omega arith));
+  in_turn = λ k d lt. in_turn piece_length layers tree k d lt;
+}

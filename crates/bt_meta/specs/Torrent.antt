@@ -45,7 +45,6 @@ abbrev pub total_pieces : Metainfo → ℕ
 total_pieces torrent = sum_by (λ f. piece_count torrent.piece_length f.length) torrent.files
 
 -- the files take the pieces one after the other, and are no more than 65,536
-pub record IsLaidOut (torrent : Metainfo) : Type 0 where
-  pub few : length torrent.files ≤ 65536
-  pub in_turn : (k : ℕ) (d : File) → k < length torrent.files
-      → (get_or torrent.files k d).first_piece ≡ sum_by (λ f. piece_count torrent.piece_length f.length) (take k torrent.files)
+pub record IsLaidOut (piece_length : ℕ) (files : List File) : Type 0 where
+  pub few : length files ≤ 65536
+  pub in_turn : (k : ℕ) (d : File) → k < length files → (get_or files k d).first_piece ≡ sum_by (λ f. piece_count piece_length f.length) (take k files)

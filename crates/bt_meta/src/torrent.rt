@@ -54,7 +54,7 @@ impl Model for Torrent {
 
     ghost view = { λ t. record { name = t.name.items; piece_length = t.piece_length; infohash = t.infohash; files = map file_of t.files.items } };
 
-    ghost invariant = { λ t. (t.pieces ≡ total_pieces (record { name = t.name.items; piece_length = t.piece_length; infohash = t.infohash; files = map file_of t.files.items })) × IsLaidOut (record { name = t.name.items; piece_length = t.piece_length; infohash = t.infohash; files = map file_of t.files.items }) };
+    ghost invariant = { λ t. (t.pieces ≡ total_pieces (record { name = t.name.items; piece_length = t.piece_length; infohash = t.infohash; files = map file_of t.files.items })) × IsLaidOut t.piece_length (map file_of t.files.items) };
 }
 
 impl Torrent {
@@ -66,7 +66,7 @@ impl Torrent {
         files: Vec<FileEntry>,
     ) -> Self
         requires counted { pieces ≡ total_pieces (record { name = name.items; piece_length = piece_length; infohash = infohash; files = map file_of files.items }) }
-        requires laid_out { IsLaidOut (record { name = name.items; piece_length = piece_length; infohash = infohash; files = map file_of files.items }) }
+        requires laid_out { IsLaidOut piece_length (map file_of files.items) }
         ensures { result ≡ record { name = name.items; piece_length = piece_length; infohash = infohash; files = map file_of files.items } }
     {
         Torrent {
