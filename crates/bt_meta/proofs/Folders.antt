@@ -54,18 +54,18 @@ absent name (entry key e es) h = ap (λ b. if b then Some e else first_value_of 
 
 -- ---- opening the last folder
 
-behind_none : (path : List (List ℕ)) → IsBehind path no_entries
+pub behind_none : (path : List (List ℕ)) → IsBehind path no_entries
 behind_none [] = refl
 behind_none (name ∷ path) = inl tt
 
-opened_behind : (name : List ℕ) (path : List (List ℕ)) (es : Entries) → AreBefore name es → IsOpened name path es es no_entries
+pub opened_behind : (name : List ℕ) (path : List (List ℕ)) (es : Entries) → AreBefore name es → IsOpened name path es es no_entries
 opened_behind name path es h = record {
   kept = λ d. with_behind name d es h;
   opened = ap (λ o. entries_in (unwrap_or o no_dictionary)) (absent name es h);
   behind = behind_none path;
 }
 
-opened_within : (name : List ℕ) (path : List (List ℕ)) (es earlier inner : Entries) → es ≡ entries_before earlier (entry name (dictionary inner) no_entries) → AreBefore name earlier → IsBehind path inner
+pub opened_within : (name : List ℕ) (path : List (List ℕ)) (es earlier inner : Entries) → es ≡ entries_before earlier (entry name (dictionary inner) no_entries) → AreBefore name earlier → IsBehind path inner
     → IsOpened name path es earlier inner
 opened_within name path es earlier inner e h behind = rw e (record {
   kept = λ d. with_last name d (dictionary inner) earlier h;

@@ -18,3 +18,4 @@ pub mod Trees
 pub mod Lookup
 pub mod LayerChecks
 pub mod Refused
+pub mod Parted

@@ -1,12 +1,12 @@
 -- A torrent that is made of files (BEP 52, "metainfo files").
-use Rattle.std.specs.Prelude.{◌≡◌, ℕ, ◌^◌, ◌<◌, ◌≤◌, ◌⊎◌, pos, Bool, true, false, not, ◌&&◌, ◌||◌, ◌==◌, List, [], ◌∷◌, ◌++◌, length, map, sum_by, codes, string_bytes, Option, None, Some, nat_eq, nat_lt, nat_le, unwrap_or, if◌then◌else◌}
-use Rattle.std.specs.List.{list_any, list_all, starts_with, fold, count_by}
+use Rattle.std.specs.Prelude.{◌≡◌, ℕ, ◌+◌, ◌^◌, ◌<◌, ◌≤◌, ◌⊎◌, pos, Bool, true, false, not, ◌&&◌, ◌||◌, ◌==◌, List, [], ◌∷◌, ◌++◌, length, map, get_or, sum_by, codes, string_bytes, Option, None, Some, nat_eq, nat_lt, nat_le, unwrap_or, if◌then◌else◌}
+use Rattle.std.specs.List.{list_any, list_all, starts_with, fold, count_by, All}
 use Rattle.std.specs.Ordering.{nat_cmp, is_lt, match_ordering}
 use Rattle.std.specs.Borrow.{Bor}
 use Rattle.bt_bencode.specs.Field.{first_value_of}
 use Rattle.bt_meta.specs.Fields.{no_dictionary}
 use Rattle.std.specs.declared.cmp.Ordering.{Ordering}
-use Rattle.std.specs.declared.cmp.Ordering.TheVariants.{Greater}
+use Rattle.std.specs.declared.cmp.Ordering.TheVariants.{Less, Greater}
 use Rattle.std.specs.List.Sorted.{IsPermutation, IsSortedBy}
 use Rattle.std.specs.Cmp.Lexicographic.{pointwise, slice_cmp}
 use Rattle.std.specs.BTreeMap.{BTreeMap}
@@ -218,6 +218,15 @@ pub record IsInLast (IsIn : Entries → Type 0) (name : List ℕ) (es : Entries)
 abbrev pub IsBehind : List (List ℕ) → Entries → Type 0
 IsBehind [] es = es ≡ no_entries
 IsBehind (name ∷ path) es = AreBefore name es ⊎ IsInLast (IsBehind path) name es
+
+-- each path stands before the next one, and does not begin it
+abbrev pub IsParted : List Given → Type 0
+IsParted files = (k : ℕ) (d : Given) → k + 1 < length files
+    → (path_order (get_or files k d).path (get_or files (k + 1) d).path ≡ Less) × (begins (get_or files k d).path (get_or files (k + 1) d).path ≡ false)
+
+-- no file is longer than 2 ^ 40 bytes
+abbrev pub AreLentShort : List (Bor Made) → Type 0
+AreLentShort files = All (λ m. m.now.length ≤ 2 ^ 40) files
 
 -- the last folder was opened, if it has the name: these entries stand before it, and these in it
 pub record IsOpened (name : List ℕ) (path : List (List ℕ)) (es earlier inner : Entries) : Type 0 where

@@ -2,7 +2,7 @@
 ghost use Rattle.std.specs.Prelude.{◌≡◌, ◌≢◌, ℕ, ◌<◌, ◌≤◌, ◌^◌, List, ◌∷◌, map, IfOk, IfErr, OnOk, OnErr, string_bytes};
 ghost use Rattle.bt_bencode.specs.Data.{Entries, dictionary, no_entries, entry};
 ghost use Rattle.bt_bencode.specs.View.{data_of, entries_of};
-ghost use Rattle.bt_meta.specs.Making.{given_of, lent_of, entries_before, with_file, properties_made, tree_made, layers_made, info_made, value_made, IsBehind, IsOpened};
+ghost use Rattle.bt_meta.specs.Making.{given_of, lent_of, entries_before, with_file, properties_made, tree_made, layers_made, info_made, value_made, IsBehind, IsOpened, IsParted, AreLentShort};
 
 use crate::making::Made;
 use bt_bencode::Value;
@@ -47,7 +47,11 @@ fn info_of(
 }
 
 /// The tree of files that are in ascending order of their paths.
-fn tree_of(alloc: Global, files: &[&Made]) -> Result<Entries, AllocError> {
+fn tree_of(alloc: Global, files: &[&Made]) -> Result<Entries, AllocError>
+    requires parted { IsParted (map lent_of files.now) }
+    requires short { AreLentShort files.now }
+    ensures { IfOk result (λ tree. entries_of tree.items ≡ tree_made (map lent_of files.now)) }
+{
     let mut tree = Vec::new(alloc);
     for file in files {
         tree = folder_with(alloc, tree, &file.path, properties_of(alloc, file)?)?;
