@@ -1,5 +1,5 @@
 -- Files in tree order, of which no path begins the next, go into a tree one behind the other.
-use Rattle.std.proofs.Common.{◌≡◌, ℕ, ◌+◌, ◌<◌, ◌≤◌, Bool, true, false, List, [], ◌∷◌, ◌++◌, length, map, refl, sym, ap, ◌∙◌, arith, inl, inr}
+use Rattle.std.proofs.Common.{subst, ◌≡◌, ℕ, ◌+◌, ◌<◌, ◌≤◌, Bool, true, false, List, [], ◌∷◌, ◌++◌, length, map, refl, sym, ap, ◌∙◌, arith, inl, inr}
 use Rattle.std.specs.Prelude.{nat_eq, take, get_or, ◌&&◌}
 use Rattle.std.specs.Ordering.{nat_cmp, ordering_reverse, ordering_then, is_eq}
 use Rattle.std.specs.Cmp.Lexicographic.{slice_cmp, pointwise, nat_list_cmp_total}
@@ -9,10 +9,12 @@ use Rattle.std.proofs.lemmas.Bool.{true≢false}
 use Rattle.std.proofs.lemmas.Map.Text.{is_eq-slice_cmp}
 use Rattle.std.proofs.lemmas.Slice.Eq.{bytes_eq-Decides}
 use Rattle.bt_bencode.specs.Data.{Data, dictionary, Entries, no_entries, entry}
-use Rattle.bt_meta.specs.Making.{with_file, path_order, begins, entries_before, AreBefore, IsInLast, IsBehind, IsOpened, Given, properties_made, tree_made, IsParted}
+use Rattle.bt_meta.specs.Making.{with_file, path_order, begins, entries_before, AreBefore, IsInLast, IsBehind, IsOpened, Given, properties_made, tree_made, IsParted, lent_of}
+use Rattle.std.specs.Borrow.{Bor}
+use Rattle.bt_meta.specs.declared.making.Made.{Made}
 use Rattle.bt_meta.proofs.Folders.{behind_none, opened_behind, opened_within, file_in}
 use Rattle.std.specs.List.{fold}
-use Rattle.std.proofs.lemmas.List.{take_more, take_all, get_or_default}
+use Rattle.std.proofs.lemmas.List.{take_more, take_all, get_or_default, get_or-map, length-map}
 use Rattle.std.proofs.lemmas.List.Sums.{fold_push}
 
 above : (m n k : List ℕ) → slice_cmp nat_cmp n m ≡ Less → slice_cmp nat_cmp n k ≡ Greater → slice_cmp nat_cmp m k ≡ Greater
@@ -99,3 +101,11 @@ grown_more files i f tree parted lt is h = record {
 
 pub grown_found : (files : List Given) (i : ℕ) (tree : Entries) → IsGrown files i tree → length files ≤ i → tree ≡ tree_made files
 grown_found files i tree h all = h.made ∙ ap tree_made (take_all i files all)
+
+pub lent_at : (files : List (Bor Made)) (i : ℕ) (m : Bor Made) → i < length files → m ≡ get_or files i m → lent_of m ≡ get_or (map lent_of files) i (lent_of m)
+lent_at files i m lt is = ap lent_of is ∙ sym (get_or-map lent_of files i m (lent_of m) lt)
+
+pub behind_here : (files : List (Bor Made)) (i : ℕ) (m : Bor Made) (tree : Entries) → i < length files → m ≡ get_or files i m → IsGrown (map lent_of files) i tree → IsBehind (lent_of m).path tree
+behind_here files i m tree lt is h =
+    let within : i < length (map lent_of files) = rw (length-map files lent_of) lt in
+    subst (λ (g : Given). IsBehind g.path tree) (sym (lent_at files i m lt is)) (h.behind (lent_of m) within)

@@ -124,13 +124,14 @@ fn properties_of(alloc: Global, file: &Made) -> Result<Value, AllocError>
     requires { file.now.length ≤ 2 ^ 40 }
     ensures { IfOk result (λ value. data_of value ≡ properties_made (given_of file.now)) }
 {
-    let mut entries = Vec::new(alloc);
-    entries = entries_with(alloc, entries, b"length", Value::Int(file.length as i64))?;
-    if file.length > 0 {
-        let root = Vec::from_slice(alloc, &file.root)?;
-        entries = entries_with(alloc, entries, b"pieces root", Value::Bytes(root))?;
+    let length = Value::Int(file.length as i64);
+    let alone = entries_with(alloc, Vec::new(alloc), b"length", length)?;
+    if file.length == 0 {
+        return Ok(Value::Dict(alone));
     }
-    Ok(Value::Dict(entries))
+    let root = Vec::from_slice(alloc, &file.root)?;
+    let both = entries_with(alloc, alone, b"pieces root", Value::Bytes(root))?;
+    Ok(Value::Dict(both))
 }
 
 /// The layers by their roots: of the files with one root that of the first.
