@@ -19,3 +19,4 @@ pub mod Lookup
 pub mod LayerChecks
 pub mod Refused
 pub mod Parted
+pub mod Apart

@@ -26,7 +26,7 @@ all_above : (m n : List ℕ) (d : Data) (es : Entries) → slice_cmp nat_cmp n m
 all_above m n d no_entries less h = (nat_list_cmp_total.antisymm m n ∙ ap ordering_reverse less, tt)
 all_above m n d (entry key e es) less h = (above m n key less h.0, all_above m n d es less h.1)
 
-same_bytes : (n m : List ℕ) → slice_cmp nat_cmp n m ≡ Equal → n ≡ m
+pub same_bytes : (n m : List ℕ) → slice_cmp nat_cmp n m ≡ Equal → n ≡ m
 same_bytes n m e = (bytes_eq-Decides n m).0 (sym (is_eq-slice_cmp n m) ∙ ap is_eq e)
 
 -- where the first names are the same, the rests decide

@@ -90,24 +90,20 @@ file_refusal piece_length before f = first_refusal (
     ∷ refused_if (is_beyond piece_length before f) Count
     ∷ [])
 
--- one path begins the other, or is the other
+-- the first path begins the second, or is the second
 abbrev pub begins : List (List ℕ) → List (List ℕ) → Bool
 begins path other = starts_with (pointwise nat_eq) other path
 
-abbrev pub overlap : Given → Given → Bool
-overlap f g = begins f.path g.path || begins g.path f.path
-
--- of each two files; a file has one overlap, with itself, where it has none with another
-abbrev pub any_overlap : List Given → Bool
-any_overlap files = list_any (λ f. nat_le 2 (count_by (overlap f) files)) files
-
--- the first refusal, apart from that of a text too long
+-- the first refusal of the piece length and of the files one by one
 unfoldable pub refusal_of_files : ℕ → List Given → Check
 refusal_of_files piece_length files = first_refusal (
     refused_if (not (is_piece_length piece_length)) PieceLength
     ∷ refused_if (length files == 0) Count
-    ∷ with_earlier (file_refusal piece_length) [] files
-    ++ refused_if (any_overlap files) BadPath ∷ [])
+    ∷ with_earlier (file_refusal piece_length) [] files)
+
+-- want of memory, or that first refusal; or where there is none, that a path begins another, or that the text is too long
+abbrev pub IsNotMade : ℕ → List Given → MakeError → Type 0
+IsNotMade piece_length files e = (e ≡ OutOfMemory) ⊎ (refusal_of_files piece_length files ≡ Some e) ⊎ ((refusal_of_files piece_length files ≡ None) × ((e ≡ BadPath) ⊎ (e ≡ Count)))
 
 -- ---- the steps of the check
 
@@ -147,6 +143,11 @@ pub record IsInTreeOrder (files ordered : List Given) : Type 0 where
   pub same : IsPermutation files ordered
   pub ascending : IsSortedBy is_before ordered
 
+-- each path stands before the next one, and does not begin it
+abbrev pub IsParted : List Given → Type 0
+IsParted files = (k : ℕ) (d : Given) → k + 1 < length files
+    → (path_order (get_or files k d).path (get_or files (k + 1) d).path ≡ Less) × (begins (get_or files k d).path (get_or files (k + 1) d).path ≡ false)
+
 abbrev pub lent_of : Bor Made → Given
 lent_of m = given_of m.now
 
@@ -177,11 +178,6 @@ properties_made f = dictionary (entry (codes "length") (integer (pos f.length)) 
 unfoldable pub tree_made : List Given → Entries
 tree_made files = fold (λ es f. with_file f.path (properties_made f) es) no_entries files
 
--- the layers by their roots: of files with one root that of the first
-unfoldable pub layers_made : ℕ → List Given → Entries
-layers_made piece_length [] = no_entries
-layers_made piece_length (f ∷ files) = if nat_lt piece_length f.length then with_entry f.root (string f.layer) (layers_made piece_length files) else layers_made piece_length files
-
 abbrev pub info_made : List ℕ → ℕ → List Given → Data
 info_made name piece_length files = dictionary (
     entry (codes "file tree") (dictionary (tree_made files)) (
@@ -189,11 +185,30 @@ info_made name piece_length files = dictionary (
     entry (codes "name") (string name) (
     entry (codes "piece length") (integer (pos piece_length)) no_entries))))
 
--- the value of a torrent of files in tree order
-abbrev pub value_made : List ℕ → ℕ → List Given → Data
-value_made name piece_length files = dictionary (
+-- the value of a torrent of files in tree order, with these layers
+abbrev pub value_made : List ℕ → ℕ → List Given → Entries → Data
+value_made name piece_length files layers = dictionary (
     entry (codes "info") (info_made name piece_length files) (
-    entry (codes "piece layers") (dictionary (layers_made piece_length files)) no_entries))
+    entry (codes "piece layers") (dictionary layers) no_entries))
+
+-- the bytes are the spelling of a torrent of the files in tree order
+pub record IsMade (name : List ℕ) (piece_length : ℕ) (files : List Given) (bytes : List ℕ) : Type 0 where
+  pub faultless : refusal_of_files piece_length files ≡ None
+  pub ordered : List Given
+  pub in_order : IsInTreeOrder files ordered
+  pub parted : IsParted ordered
+  pub layers : Entries
+  pub spelled : bytes ≡ spelling_of (value_made name piece_length ordered layers)
+  pub small : length bytes ≤ 2 ^ 27
+
+-- no path begins the next one
+abbrev pub AreApart : List Given → Type 0
+AreApart files = (k : ℕ) (d : Given) → k + 1 < length files → begins (get_or files k d).path (get_or files (k + 1) d).path ≡ false
+
+-- a value of a torrent of the files in tree order
+pub record IsValueOf (name : List ℕ) (piece_length : ℕ) (files : List Given) (value : Data) : Type 0 where
+  pub layers : Entries
+  pub made : value ≡ value_made name piece_length files layers
 
 -- ---- the steps of the making
 
@@ -219,11 +234,6 @@ abbrev pub IsBehind : List (List ℕ) → Entries → Type 0
 IsBehind [] es = es ≡ no_entries
 IsBehind (name ∷ path) es = AreBefore name es ⊎ IsInLast (IsBehind path) name es
 
--- each path stands before the next one, and does not begin it
-abbrev pub IsParted : List Given → Type 0
-IsParted files = (k : ℕ) (d : Given) → k + 1 < length files
-    → (path_order (get_or files k d).path (get_or files (k + 1) d).path ≡ Less) × (begins (get_or files k d).path (get_or files (k + 1) d).path ≡ false)
-
 -- no file is longer than 2 ^ 40 bytes
 abbrev pub AreLentShort : List (Bor Made) → Type 0
 AreLentShort files = All (λ m. m.now.length ≤ 2 ^ 40) files
@@ -233,11 +243,3 @@ pub record IsOpened (name : List ℕ) (path : List (List ℕ)) (es earlier inner
   pub kept : (d : Data) → with_entry name d es ≡ entries_before earlier (entry name d no_entries)
   pub opened : folder_in name es ≡ inner
   pub behind : IsBehind path inner
-
--- the bytes are the torrent's spelling
-pub record IsMade (name : List ℕ) (piece_length : ℕ) (files : List Given) (bytes : List ℕ) : Type 0 where
-  pub ordered : List Given
-  pub in_order : IsInTreeOrder files ordered
-  pub spelled : bytes ≡ spelling_of (value_made name piece_length ordered)
-  pub small : length bytes ≤ 2 ^ 27
-  pub faultless : refusal_of_files piece_length files ≡ None

@@ -2,7 +2,7 @@
 ghost use Rattle.std.specs.Prelude.{◌≡◌, ◌≢◌, ℕ, ◌<◌, ◌≤◌, ◌^◌, List, ◌∷◌, map, IfOk, IfErr, OnOk, OnErr, string_bytes};
 ghost use Rattle.bt_bencode.specs.Data.{Entries, dictionary, no_entries, entry};
 ghost use Rattle.bt_bencode.specs.View.{data_of, entries_of};
-ghost use Rattle.bt_meta.specs.Making.{given_of, lent_of, entries_before, with_file, properties_made, tree_made, layers_made, info_made, value_made, IsBehind, IsOpened, IsParted, AreLentShort};
+ghost use Rattle.bt_meta.specs.Making.{given_of, lent_of, entries_before, with_file, properties_made, tree_made, info_made, IsBehind, IsOpened, IsParted, AreLentShort, IsValueOf};
 
 use crate::making::Made;
 use bt_bencode::Value;
@@ -19,13 +19,17 @@ pub(crate) fn value_of(
     name: &[u8],
     piece_length: u32,
     files: &[&Made],
-) -> Result<Value, AllocError> {
+) -> Result<Value, AllocError>
+    requires parted { IsParted (map lent_of files.now) }
+    requires short { AreLentShort files.now }
+    ensures { IfOk result (λ value. IsValueOf name.now piece_length (map lent_of files.now) (data_of value)) }
+{
     let info = info_of(alloc, name, piece_length, files)?;
     let layers = layers_of(alloc, piece_length, files)?;
-    let mut entries = Vec::new(alloc);
-    entries = entries_with(alloc, entries, b"info", info)?;
-    entries = entries_with(alloc, entries, b"piece layers", Value::Dict(layers))?;
-    Ok(Value::Dict(entries))
+    let layers = Value::Dict(layers);
+    let one = entries_with(alloc, Vec::new(alloc), b"info", info)?;
+    let both = entries_with(alloc, one, b"piece layers", layers)?;
+    Ok(Value::Dict(both))
 }
 
 /// The value of `info`.
@@ -34,16 +38,19 @@ fn info_of(
     name: &[u8],
     piece_length: u32,
     files: &[&Made],
-) -> Result<Value, AllocError> {
+) -> Result<Value, AllocError>
+    requires parted { IsParted (map lent_of files.now) }
+    requires short { AreLentShort files.now }
+    ensures { IfOk result (λ value. data_of value ≡ info_made name.now piece_length (map lent_of files.now)) }
+{
     let tree = tree_of(alloc, files)?;
     let name = Vec::from_slice(alloc, name)?;
-    let mut entries = Vec::new(alloc);
-    entries = entries_with(alloc, entries, b"file tree", Value::Dict(tree))?;
-    entries = entries_with(alloc, entries, b"meta version", Value::Int(2))?;
-    entries = entries_with(alloc, entries, b"name", Value::Bytes(name))?;
+    let one = entries_with(alloc, Vec::new(alloc), b"file tree", Value::Dict(tree))?;
+    let two = entries_with(alloc, one, b"meta version", Value::Int(2))?;
+    let three = entries_with(alloc, two, b"name", Value::Bytes(name))?;
     let piece_length = Value::Int(piece_length as i64);
-    entries = entries_with(alloc, entries, b"piece length", piece_length)?;
-    Ok(Value::Dict(entries))
+    let four = entries_with(alloc, three, b"piece length", piece_length)?;
+    Ok(Value::Dict(four))
 }
 
 /// The tree of files that are in ascending order of their paths.

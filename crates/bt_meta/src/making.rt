@@ -3,7 +3,7 @@ ghost use Rattle.std.specs.Prelude.{◌≡◌, ℕ, ◌^◌, ◌<◌, ◌≤◌,
 ghost use Rattle.std.specs.Result.{result_err};
 ghost use Rattle.bt_meta.specs.Places.{with_earlier};
 ghost use Rattle.bt_meta.specs.Faults.{is_piece_length as is_lawful_piece_length};
-ghost use Rattle.bt_meta.specs.Making.{Given, given_of, first_refusal, file_refusal, own_refusal, layer_refusal, is_path as is_lawful_path, is_element as is_lawful_element, HasLengths, HasTaken, IsWithin, Refuses, conflict_with, IsInTreeOrder, lent_of, path_order};
+ghost use Rattle.bt_meta.specs.Making.{Given, given_of, first_refusal, file_refusal, own_refusal, layer_refusal, is_path as is_lawful_path, is_element as is_lawful_element, HasLengths, HasTaken, IsWithin, Refuses, conflict_with, IsInTreeOrder, lent_of, path_order, AreApart, begins as begins_path, IsMade, IsNotMade};
 ghost use Rattle.bt_meta.specs.declared.making.MakeError.TheVariants.{OutOfMemory as out_of_memory, RootConflict as root_conflict};
 
 use crate::described::value_of;
@@ -78,7 +78,10 @@ pub fn make(
     name: &[u8],
     piece_length: u32,
     files: &[Made],
-) -> Result<Vec<u8>, MakeError> {
+) -> Result<Vec<u8>, MakeError>
+    ensures made { IfOk result (λ text. IsMade name.now piece_length (map given_of files.now) text.items) }
+    ensures refused { IfErr result (IsNotMade piece_length (map given_of files.now)) }
+{
     if !is_piece_length(piece_length as u64) {
         return Err(MakeError::PieceLength);
     }
@@ -236,9 +239,21 @@ fn order_of(path: &[String], other: &[String]) -> Ordering
     path.cmp(other)
 }
 
-/// Whether, of files in ascending order of their paths, one path is another's or begins it.
-fn has_overlap(files: &[&Made]) -> bool {
-    files
-        .windows(2)
-        .any(|pair| pair[1].path.starts_with(pair[0].path.as_slice()))
+/// Whether a path begins the next one. In tree order this is so where any path begins another.
+fn has_overlap(files: &[&Made]) -> bool
+    ensures { result ≡ false → AreApart (map lent_of files.now) }
+{
+    for i in 1..files.len() {
+        if begins(&files[i - 1].path, &files[i].path) {
+            return true;
+        }
+    }
+    false
+}
+
+/// Whether the path begins the other, or is the other.
+fn begins(path: &[String], other: &[String]) -> bool
+    ensures { result ≡ begins_path (map string_bytes path.now) (map string_bytes other.now) }
+{
+    other.starts_with(path)
 }

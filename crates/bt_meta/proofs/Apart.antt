@@ -1,0 +1,146 @@
+-- Of files in tree order, whether a path begins the next one.
+use Rattle.std.proofs.Common.{subst, ◌≡◌, ℕ, ◌+◌, ◌-◌, ◌<◌, ◌≤◌, ◌^◌, Bool, true, false, List, [], ◌∷◌, ◌++◌, length, map, refl, sym, ap, ◌∙◌, arith, inl, inr, Option, None, Some}
+use Rattle.std.specs.Prelude.{String, string_bytes, get_or, take, nat_eq, nat_le, not, ◌&&◌, ◌==◌}
+use Rattle.std.specs.Global.{Global}
+use Rattle.std.specs.Borrow.{Bor}
+use Rattle.std.specs.String.{string_eq}
+use Rattle.std.specs.Ordering.{nat_cmp, is_lt, ordering_then, ordering_reverse}
+use Rattle.std.specs.Cmp.Lexicographic.{slice_cmp, pointwise, lists_total, nat_list_cmp_total}
+use Rattle.std.specs.List.{starts_with, All}
+use Rattle.std.specs.List.Sorted.{IsPermutation, IsSortedBy}
+use Rattle.std.specs.declared.cmp.Ordering.{Ordering}
+use Rattle.std.specs.declared.cmp.Ordering.TheVariants.{Less, Equal, Greater}
+use Rattle.std.proofs.lemmas.Bool.{cases_lt, true≢false}
+use Rattle.std.proofs.lemmas.List.{get_or-map, length-map}
+use Rattle.std.proofs.lemmas.Slice.Eq.{bytes_eq-Decides}
+use Rattle.bt_meta.specs.Making.{Given, given_of, lent_of, begins, path_order, is_before, IsInTreeOrder, IsParted, AreApart, Check, first_refusal, refused_if, file_refusal, own_refusal, layer_refusal, conflict_with, is_beyond, is_path, refusal_of_files, Refuses, IsNotMade}
+use Rattle.bt_meta.specs.Faults.{is_piece_length}
+use Rattle.std.proofs.lemmas.Bool.{cases_Bool}
+use Rattle.std.proofs.lemmas.Bool.Decides.{nat_tests}
+use Rattle.std.proofs.lemmas.List.Elements.{All-nil, All-cons}
+use Rattle.std.proofs.lemmas.List.Sorted.{All-permutation}
+use Rattle.bt_meta.specs.Places.{with_earlier}
+use Rattle.bt_meta.specs.declared.making.Made.{Made}
+use Rattle.bt_meta.specs.declared.making.MakeError.{MakeError}
+use Rattle.bt_meta.specs.declared.making.MakeError.TheVariants.{PieceLength, BadPath, FileLength, RootConflict, Count}
+use Rattle.bt_meta.proofs.Parted.{same_bytes}
+
+pub begins_by_bytes : (path other : List (String Global)) → starts_with string_eq other path ≡ begins (map string_bytes path) (map string_bytes other)
+begins_by_bytes [] other = refl
+begins_by_bytes (x ∷ xs) [] = refl
+begins_by_bytes (x ∷ xs) (y ∷ ys) = ap (λ b. string_eq x y && b) (begins_by_bytes xs ys)
+
+-- none of the first i paths begins the next one
+abbrev pub AreApartTo : List (Bor Made) → ℕ → Type 0
+AreApartTo files i = (k : ℕ) (d : Given) → k + 1 < i → begins (get_or (map lent_of files) k d).path (get_or (map lent_of files) (k + 1) d).path ≡ false
+
+pub apart_begun : (files : List (Bor Made)) → AreApartTo files 1
+apart_begun files k d lt = absurd (omega arith)
+
+pub apart_more : (files : List (Bor Made)) (i : ℕ) (m n : Bor Made) → 1 ≤ i → i < length files → m ≡ get_or files (i - 1) m → n ≡ get_or files i n
+    → begins (lent_of m).path (lent_of n).path ≡ false → AreApartTo files i → AreApartTo files (i + 1)
+apart_more files i m n some lt first second apart h k d below = elim (cases_lt (k + 1) i) [
+    | inl sooner ↦ h k d sooner
+    | inr here ↦
+        let last : k ≡ i - 1 = omega arith in
+        let next : k + 1 ≡ i = omega arith in
+        let a : lent_of m ≡ get_or (map lent_of files) k d = ap lent_of first ∙ ap (λ j. lent_of (get_or files j m)) (sym last) ∙ sym (get_or-map lent_of files k m d (omega arith)) in
+        let b : lent_of n ≡ get_or (map lent_of files) (k + 1) d = ap lent_of second ∙ ap (λ j. lent_of (get_or files j n)) (sym next) ∙ sym (get_or-map lent_of files (k + 1) n d (omega arith)) in
+        ap (λ g. begins g.path (get_or (map lent_of files) (k + 1) d).path) (sym a) ∙ ap (λ g. begins (lent_of m).path g.path) (sym b) ∙ apart
+]
+
+pub apart_found : (files : List (Bor Made)) (i : ℕ) → AreApartTo files i → length files ≤ i → AreApart (map lent_of files)
+apart_found files i h all k d lt = let n : length (map lent_of files) ≡ length files = length-map files lent_of in h k d (omega arith)
+
+-- ---- in tree order, with no path that begins the next one
+
+tied_step : (n m : List ℕ) (p q : List (List ℕ)) (o : Ordering) → o ≡ slice_cmp nat_cmp n m → path_order (n ∷ p) (m ∷ q) ≡ Equal → (path_order p q ≡ Equal → begins p q ≡ true) → begins (n ∷ p) (m ∷ q) ≡ true
+tied_step n m p q Less is e later = let f : Less ≡ Equal = ap (λ o. ordering_then o (path_order p q)) is ∙ e in cc
+tied_step n m p q Greater is e later = let f : Greater ≡ Equal = ap (λ o. ordering_then o (path_order p q)) is ∙ e in cc
+tied_step n m p q Equal is e later =
+    let same : pointwise nat_eq n m ≡ true = (bytes_eq-Decides n m).1 (same_bytes n m (sym is)) in
+    let rest : path_order p q ≡ Equal = ap (λ o. ordering_then o (path_order p q)) is ∙ e in
+    ap (λ b. b && begins p q) same ∙ later rest
+
+tied_begins : (p q : List (List ℕ)) → path_order p q ≡ Equal → begins p q ≡ true
+tied_begins [] [] e = refl
+tied_begins [] (m ∷ q) e = cc
+tied_begins (n ∷ p) [] e = cc
+tied_begins (n ∷ p) (m ∷ q) e = tied_step n m p q (slice_cmp nat_cmp n m) refl e (λ r. tied_begins p q r)
+
+before_next : (p q : List (List ℕ)) (o : Ordering) → o ≡ path_order p q → is_lt (path_order q p) ≡ false → begins p q ≡ false → path_order p q ≡ Less
+before_next p q Less is up apart = sym is
+before_next p q Equal is up apart = absurd (true≢false (sym (tied_begins p q (sym is)) ∙ apart))
+before_next p q Greater is up apart =
+    let back : path_order q p ≡ Less = (lists_total nat_list_cmp_total).antisymm q p ∙ ap ordering_reverse (sym is) in
+    absurd (true≢false (sym (ap is_lt back) ∙ up))
+
+pub parted : (files ordered : List Given) → IsInTreeOrder files ordered → AreApart ordered → IsParted ordered
+parted files ordered h apart k d lt =
+    let p = (get_or ordered k d).path in
+    let q = (get_or ordered (k + 1) d).path in
+    (before_next p q (path_order p q) refl (h.ascending k d (omega arith) lt) (apart k d lt), apart k d lt)
+
+-- ---- no file is longer than 2 ^ 40 bytes
+
+first_none : (x : Check) (xs : List Check) → first_refusal (x ∷ xs) ≡ None → x ≡ None
+first_none None xs e = refl
+first_none (Some x) xs e = cc
+
+rest_none : (x : Check) (xs : List Check) → first_refusal (x ∷ xs) ≡ None → first_refusal xs ≡ None
+rest_none None xs e = e
+rest_none (Some x) xs e = cc
+
+short_from : (n : ℕ) (e : MakeError) → refused_if (not (nat_le n (2 ^ 40))) e ≡ None → n ≤ 2 ^ 40
+short_from n e h = elim (cases_Bool (nat_le n (2 ^ 40))) [
+    | inl within ↦ grind (arith, nat_tests)
+    | inr beyond ↦ let f : Some e ≡ None = rw beyond at h in cc
+]
+
+short_given : (piece_length : ℕ) (before : List Given) (f : Given) → file_refusal piece_length before f ≡ None → f.length ≤ 2 ^ 40
+short_given piece_length before f h =
+    let own : own_refusal piece_length f ≡ None = first_none (own_refusal piece_length f) (refused_if (conflict_with before f) RootConflict ∷ refused_if (is_beyond piece_length before f) Count ∷ []) h in
+    let rest = rest_none (refused_if (not (is_path f.path)) BadPath) (refused_if (not (nat_le f.length (2 ^ 40))) FileLength ∷ layer_refusal piece_length f ∷ []) own in
+    short_from f.length FileLength (first_none (refused_if (not (nat_le f.length (2 ^ 40))) FileLength) (layer_refusal piece_length f ∷ []) rest)
+
+abbrev IsShort : Given → Type 0
+IsShort g = g.length ≤ 2 ^ 40
+
+all_short : (piece_length : ℕ) (before files : List Given) → first_refusal (with_earlier (file_refusal piece_length) before files) ≡ None → All IsShort files
+all_short piece_length before [] h = All-nil IsShort
+all_short piece_length before (f ∷ files) h =
+    let rest = with_earlier (file_refusal piece_length) (before ++ f ∷ []) files in
+    All-cons IsShort f files (short_given piece_length before f (first_none (file_refusal piece_length before f) rest h)) (all_short piece_length (before ++ f ∷ []) files (rest_none (file_refusal piece_length before f) rest h))
+
+pub lent_short : (piece_length : ℕ) (files : List Given) (ordered : List (Bor Made)) → first_refusal (with_earlier (file_refusal piece_length) [] files) ≡ None → IsInTreeOrder files (map lent_of ordered)
+    → All (λ (m : Bor Made). m.now.length ≤ 2 ^ 40) ordered
+lent_short piece_length files ordered h order k d lt =
+    let short : All IsShort (map lent_of ordered) = All-permutation IsShort files (map lent_of ordered) order.same (all_short piece_length [] files h) in
+    let within : k < length (map lent_of ordered) = rw (length-map ordered lent_of) lt in
+    let at : get_or (map lent_of ordered) k (lent_of d) ≡ lent_of (get_or ordered k d) = get_or-map lent_of ordered k d (lent_of d) lt in
+    subst IsShort at (short k (lent_of d) within)
+
+-- ---- the first refusal
+
+count_of : (files : List Made) (b : Bool) → b ≡ (length files == 0) → (length (map given_of files) == 0) ≡ b
+count_of files b is = ap (λ n. n == 0) (length-map files given_of) ∙ sym is
+
+pub length_refused : (piece_length : ℕ) (files : List Given) → false ≡ is_piece_length piece_length → refusal_of_files piece_length files ≡ Some PieceLength
+unfolding refusal_of_files
+length_refused piece_length files is = rw (← is) refl
+
+pub none_refused : (piece_length : ℕ) (files : List Made) → true ≡ is_piece_length piece_length → true ≡ (length files == 0) → refusal_of_files piece_length (map given_of files) ≡ Some Count
+unfolding refusal_of_files
+none_refused piece_length files is none = rw (← is, count_of files true none) refl
+
+pub files_refused : (piece_length : ℕ) (files : List Made) → true ≡ is_piece_length piece_length → false ≡ (length files == 0)
+    → refusal_of_files piece_length (map given_of files) ≡ first_refusal (with_earlier (file_refusal piece_length) [] (map given_of files))
+unfolding refusal_of_files
+files_refused piece_length files is some = rw (← is, count_of files false some) refl
+
+pub refused_as : (piece_length : ℕ) (files : List Made) (e : MakeError) → true ≡ is_piece_length piece_length → false ≡ (length files == 0)
+    → Refuses (first_refusal (with_earlier (file_refusal piece_length) [] (map given_of files))) e → IsNotMade piece_length (map given_of files) e
+refused_as piece_length files e is some h = elim h [
+    | inl memory ↦ inl memory
+    | inr found ↦ inr (inl (files_refused piece_length files is some ∙ found))
+]

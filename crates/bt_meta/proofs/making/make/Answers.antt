@@ -1,0 +1,48 @@
+use Rattle.std.proofs.Common.{arith, ap, sym, ◌∙◌, refl, inl, inr, map, ◌≡◌, Bool, false}
+use Rattle.std.proofs.lemmas.Result.{err_from_is_err_and}
+use Rattle.bt_bencode.specs.Spelling.{spelling_of}
+use Rattle.bt_meta.specs.Making.{given_of, lent_of, value_made}
+use Rattle.bt_meta.proofs.Apart.{parted, lent_short, length_refused, none_refused, files_refused, refused_as}
+use Rattle.bt_meta.proofs.making.make.Goals as goal
+
+pub returns-then-not-is_piece_length-clause-refused : goal.returns-then-not-is_piece_length-clause-refused
+returns-then-not-is_piece_length-clause-refused c = inr (inl (length_refused c.args.piece_length (map given_of c.args.files.now) c.if-not-is_piece_length.ensures))
+
+pub returns-then-is_empty-clause-refused : goal.returns-then-is_empty-clause-refused
+returns-then-is_empty-clause-refused c = inr (inl (none_refused c.args.piece_length c.args.files.now c.if-not-is_piece_length.ensures c.if-is_empty.ensures))
+
+pub returns-in_err-check_files-clause-refused : goal.returns-in_err-check_files-clause-refused
+returns-in_err-check_files-clause-refused c =
+    let p = err_from_is_err_and c.from_residual.result c.from_residual.ensures.1 in
+    rw (p.1, p.2) (refused_as c.args.piece_length c.args.files.now c.in_err-check_files.field-0.0 c.if-not-is_piece_length.ensures c.if-is_empty.ensures c.in_err-check_files.ensures)
+
+pub returns-then-has_overlap-clause-refused : goal.returns-then-has_overlap-clause-refused
+returns-then-has_overlap-clause-refused c =
+    inr (inr (files_refused c.args.piece_length c.args.files.now c.if-not-is_piece_length.ensures c.if-is_empty.ensures ∙ c.in_ok-check_files.ensures, inl refl))
+
+pub value_of-requires-clause-parted : goal.value_of-requires-clause-parted
+value_of-requires-clause-parted c =
+    rw (c.deref-2.ensures.value) (parted (map given_of c.args.files.now) (map lent_of c.in_ok-ordered.ordered.items) c.in_ok-ordered.ensures
+        (rw (c.deref.ensures.value) at (c.has_overlap.ensures c.if-has_overlap.false)))
+
+pub value_of-requires-clause-short : goal.value_of-requires-clause-short
+value_of-requires-clause-short c =
+    rw (c.deref-2.ensures.value) (lent_short c.args.piece_length (map given_of c.args.files.now) c.in_ok-ordered.ordered.items c.in_ok-check_files.ensures c.in_ok-ordered.ensures)
+
+pub returns-then-len-gt-MAX_TEXT_LENGTH-clause-refused : goal.returns-then-len-gt-MAX_TEXT_LENGTH-clause-refused
+returns-then-len-gt-MAX_TEXT_LENGTH-clause-refused c =
+    inr (inr (files_refused c.args.piece_length c.args.files.now c.if-not-is_piece_length.ensures c.if-is_empty.ensures ∙ c.in_ok-check_files.ensures, inr refl))
+
+pub returns-clause-made : goal.returns-clause-made
+returns-clause-made c =
+    let value = c.in_ok-value.ensures in
+    let ordered = map lent_of c.in_ok-ordered.ordered.items in
+    record {
+      faultless = files_refused c.args.piece_length c.args.files.now c.if-not-is_piece_length.ensures c.if-is_empty.ensures ∙ c.in_ok-check_files.ensures;
+      ordered = ordered;
+      in_order = c.in_ok-ordered.ensures;
+      parted = parted (map given_of c.args.files.now) ordered c.in_ok-ordered.ensures (rw (c.deref.ensures.value) at (c.has_overlap.ensures c.if-has_overlap.false));
+      layers = value.layers;
+      spelled = c.in_ok-text.ensures ∙ ap spelling_of (value.made ∙ ap (λ ms. value_made c.args.name.now c.args.piece_length (map lent_of ms) value.layers) c.deref-2.ensures.value);
+      small = omega arith;
+    }
