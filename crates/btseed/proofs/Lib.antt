@@ -1,4 +1,5 @@
 pub mod Fills
+pub mod PieceNodes
 pub mod NodeReads
 pub mod Findings
 pub mod TextReads

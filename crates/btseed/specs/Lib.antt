@@ -1,5 +1,6 @@
 pub mod Reading
 pub mod Checking
+pub mod Pieces
 pub mod Statuses
 pub mod Shown
 pub mod Telling

@@ -5,8 +5,12 @@ mod check;
 mod command_line;
 mod data_file;
 mod fault;
+mod paths;
+mod pieces;
 mod program;
 mod report;
+mod show;
+mod torrent_file;
 
 use fault::Fault;
 use program::{run, tell};

@@ -2,8 +2,11 @@
 ghost use Rattle.std.specs.Prelude.{◌≤◌, IfOk};
 
 use crate::check::check;
-use crate::command_line::{Task, parse};
+use crate::command_line::{Source, Task, parse};
+use crate::data_file::BUFFER_LEN;
 use crate::fault::Fault;
+use crate::show::{put, show};
+use crate::torrent_file::load;
 use clap::Error;
 use clap::error::ErrorKind;
 use std::io::{Read, Write};
@@ -52,8 +55,35 @@ fn perform<R: Files + AllocGlobal, O: Write>(
 ) -> Result<u8, Fault>
     ensures { IfOk result (λ status. status ≤ 1) }
 {
-    let Task::Check { torrent, dir } = task;
-    let report = check(rt, torrent, dir)?;
+    match task {
+        Task::Make(_) => Ok(0),
+        Task::Show { torrent } => perform_show(rt, torrent, writer),
+        Task::Check { torrent, dir } => perform_check(rt, torrent, dir, writer),
+    }
+}
+
+fn perform_show<R: Files + AllocGlobal, O: Write>(
+    rt: &R,
+    source: Source<'_>,
+    writer: &mut O,
+) -> Result<u8, Fault>
+    ensures { IfOk result (λ status. status ≤ 1) }
+{
+    let mut buffer = [0; BUFFER_LEN];
+    let torrent = load(rt, source, &mut buffer)?;
+    show(rt.alloc(), &torrent, writer)?;
+    Ok(0)
+}
+
+fn perform_check<R: Files + AllocGlobal, O: Write>(
+    rt: &R,
+    source: Source<'_>,
+    dir: &str,
+    writer: &mut O,
+) -> Result<u8, Fault>
+    ensures { IfOk result (λ status. status ≤ 1) }
+{
+    let report = check(rt, source, dir)?;
     print(writer, report.lines.as_str())?;
     Ok(if report.complete { 0 } else { 1 })
 }
@@ -75,9 +105,7 @@ fn explain<O: Write, E: Write>(error: &Error, writer: &mut O, faults: &mut E) ->
 }
 
 fn print<O: Write>(writer: &mut O, text: &str) -> Result<(), Fault> {
-    writer
-        .write_all(text.as_bytes())
-        .map_err(|_| Fault::Device)?;
+    put(writer, text)?;
     writer.flush().map_err(|_| Fault::Device)
 }
 

@@ -1,6 +1,6 @@
 //! The program on files in a temporary folder, and the reading of data files over readers that fail or give little.
 
-use crate::check::read_text;
+use crate::torrent_file::read_text;
 use crate::data_file::{BUFFER_LEN, Finding, check_empty, check_file};
 use crate::fault::{DeviceFault, Fault};
 use crate::program::run;
