@@ -1,5 +1,5 @@
 -- Lemmas on the nodes of pieces, and on how many of their blocks are right.
-use Rattle.std.proofs.Common.{◌≡◌, Option, ℕ, zero, suc, ◌+◌, ◌-◌, ◌*◌, ◌^◌, ◌<◌, ◌≤◌, min, true, false, ◌&&◌, ◌==◌, List, [], ◌++◌, length, take, drop, replicate, inl, inr, arith, refl, sym, ap, ◌∙◌, subst, add-one, length-append, take_all, length-take-le, if◌then◌else◌}
+use Rattle.std.proofs.Common.{◌≡◌, Option, ℕ, ◌/◌, ◌%◌, zero, suc, ◌+◌, ◌-◌, ◌*◌, ◌^◌, ◌<◌, ◌≤◌, min, true, false, ◌&&◌, ◌==◌, List, [], ◌++◌, length, take, drop, replicate, inl, inr, arith, refl, sym, ap, ◌∙◌, subst, add-one, length-append, take_all, length-take-le, if◌then◌else◌}
 use Rattle.std.specs.Prelude.{slice_index_or, nat_eq, nat_le}
 use Rattle.std.specs.Cmp.Lexicographic.{pointwise}
 use Rattle.std.proofs.Math.Nat.{mul-le-mul_right}
@@ -142,3 +142,17 @@ piece_front bytes more file_length layer j digest short len h =
     ∙ ap (λ d. pointwise nat_eq d digest) (node_front bytes more layer j h)
     ∙ ap (λ f. pointwise nat_eq (node_digest sha256 f layer j) digest) (sym (take_all file_length bytes short))
     ∙ ap (λ t. t && pointwise nat_eq (node_digest sha256 (take file_length bytes) layer j) digest) (sym in_front)
+
+-- the nodes of a layer that cover a block cover all blocks
+pub width_covers : (n layer : ℕ) → n ≤ real_width n layer * 2 ^ layer
+width_covers n layer = elim (cases_lt (real_width n layer * 2 ^ layer) n) [
+  | inr le ↦ le
+  | inl lt ↦
+      let p : ℕ = 2 ^ layer in
+      let some : 0 < p = pow_pos layer in
+      let whole : n / p * p + n % p ≡ n = div-add-mod' n p in
+      elim (cases_lt 0 (n % p)) [
+        | inl odd ↦ let up : n / p + 1 ≤ real_width n layer = omega (arith, odd) in let far = mul-le-mul_right p up in absurd (omega (arith, far, whole, lt, some))
+        | inr even ↦ let up : n / p ≤ real_width n layer = omega (arith, even) in let far = mul-le-mul_right p up in absurd (omega (arith, far, whole, lt, even))
+      ]
+]
