@@ -2,9 +2,10 @@
 ghost use Rattle.std.specs.Prelude.{◌≤◌, IfOk};
 
 use crate::check::check;
-use crate::command_line::{Source, Task, parse};
+use crate::command_line::{Making, Source, Task, parse};
 use crate::data_file::BUFFER_LEN;
 use crate::fault::Fault;
+use crate::make::make;
 use crate::show::{put, show};
 use crate::torrent_file::load;
 use clap::Error;
@@ -17,7 +18,7 @@ use std::rt::Files;
 /// of memory.
 ///
 /// What is found, and help, go to the writer; why there is no answer goes to `faults`.
-pub fn run<R: Files + AllocGlobal, I: Read, O: Write, E: Write>(
+pub fn run<R: Files + AllocGlobal + Clone + Drop, I: Read, O: Write, E: Write>(
     rt: &R,
     words: &[String],
     _reader: &mut I,
@@ -33,7 +34,7 @@ pub fn run<R: Files + AllocGlobal, I: Read, O: Write, E: Write>(
 }
 
 /// Reads the words, and does what they ask for.
-fn attempt<R: Files + AllocGlobal, O: Write, E: Write>(
+fn attempt<R: Files + AllocGlobal + Clone + Drop, O: Write, E: Write>(
     rt: &R,
     words: &[String],
     writer: &mut O,
@@ -48,7 +49,7 @@ fn attempt<R: Files + AllocGlobal, O: Write, E: Write>(
 }
 
 /// Does a task, and answers its status.
-fn perform<R: Files + AllocGlobal, O: Write>(
+fn perform<R: Files + AllocGlobal + Clone + Drop, O: Write>(
     rt: &R,
     task: Task<'_>,
     writer: &mut O,
@@ -56,10 +57,24 @@ fn perform<R: Files + AllocGlobal, O: Write>(
     ensures { IfOk result (λ status. status ≤ 1) }
 {
     match task {
-        Task::Make(_) => Ok(0),
+        Task::Make(making) => perform_make(rt, making, writer),
         Task::Show { torrent } => perform_show(rt, torrent, writer),
         Task::Check { torrent, dir } => perform_check(rt, torrent, dir, writer),
     }
+}
+
+fn perform_make<R: Files + AllocGlobal + Clone + Drop, O: Write>(
+    rt: &R,
+    making: Making<'_>,
+    writer: &mut O,
+) -> Result<u8, Fault>
+    ensures { IfOk result (λ status. status ≤ 1) }
+{
+    let infohash = make(rt, making)?;
+    let digits = hex::encode(rt.alloc(), &infohash)?;
+    let line = format!(in rt.alloc(); "infohash {digits}\n")?;
+    print(writer, line.as_str())?;
+    Ok(0)
 }
 
 fn perform_show<R: Files + AllocGlobal, O: Write>(
