@@ -108,15 +108,15 @@ checking_early old mid new file_length layer digests index rest marked size find
     ∙ take_all (length c.front) c.front (omega arith) in
     let before : right_blocks (bytes ++ zeros) file_length layer digests index ≡ right_blocks bytes file_length layer digests index =
     right_same (bytes ++ zeros) bytes file_length layer digests index (λ j lt.
-        let next : j + 1 ≤ index = omega (arith, lt) in
-        let far = mul-le-mul_right (2 ^ layer) next in
-        piece_front bytes zeros file_length layer j (slice_index_or digests j []) (omega (arith, ends)) len (omega (arith, far, joined, place, real))) in
+    let next : j + 1 ≤ index = omega (arith, lt) in
+    let far = mul-le-mul_right (2 ^ layer) next in
+    piece_front bytes zeros file_length layer j (slice_index_or digests j []) (omega (arith, ends)) len (omega (arith, far, joined, place, real))) in
     let rest_of : length digests ≡ index + (length digests - index) = omega (arith, among) in
     let after : right_blocks bytes file_length layer digests (index + (length digests - index)) ≡ right_blocks bytes file_length layer digests index =
     right_rest bytes file_length layer digests index (length digests - index) (λ j le.
-        let far = mul-le-mul_right (2 ^ layer) le in
-        let wide = pow_pos layer in
-        omega (arith, far, joined, short, e, place, count, real, ends, wide)) in
+    let far = mul-le-mul_right (2 ^ layer) le in
+    let wide = pow_pos layer in
+    omega (arith, far, joined, short, e, place, count, real, ends, wide)) in
     record {
       bytes = bytes;
       given = record {

@@ -25,11 +25,7 @@ pub struct Report {
 }
 
 /// Checks the files of a folder against a torrent, in the order of the torrent. The first fault ends it.
-pub fn check<R: Files + AllocGlobal>(
-    rt: &R,
-    source: Source<'_>,
-    dir: &str,
-) -> Result<Report, Fault>
+pub fn check<R: Files + AllocGlobal>(rt: &R, source: Source<'_>, dir: &str) -> Result<Report, Fault>
     ensures { IfOk result TellsFiles }
 {
     let alloc = rt.alloc();

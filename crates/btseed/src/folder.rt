@@ -4,9 +4,9 @@ use crate::paths::data_path;
 use bt_meta::MakeError;
 use std::alloc::{AllocError, Global};
 use std::collections::BTreeMap;
+use std::fs;
 use std::io::{self, ErrorKind};
 use std::rt::Files;
-use std::fs;
 
 /// A file or a folder, by its path below the folder that is walked.
 #[derive(Drop)]

@@ -17,9 +17,7 @@ pub fn show<W: Write>(alloc: Global, torrent: &Torrent, writer: &mut W) -> Resul
 
 /// Writes a text.
 pub fn put<W: Write>(writer: &mut W, text: &str) -> Result<(), Fault> {
-    writer
-        .write_all(text.as_bytes())
-        .map_err(|_| Fault::Device)
+    writer.write_all(text.as_bytes()).map_err(|_| Fault::Device)
 }
 
 /// The lines on the whole torrent.
@@ -29,7 +27,9 @@ fn head(alloc: Global, torrent: &Torrent) -> Result<String, AllocError> {
     let piece_length = torrent.piece_length();
     let pieces = torrent.pieces();
     let files = torrent.files().len();
-    format!(in alloc; "name {name}\ninfohash {infohash}\npiece length {piece_length}\npieces {pieces}\nfiles {files}\n")
+    format!(in alloc;
+        "name {name}\ninfohash {infohash}\npiece length {piece_length}\npieces {pieces}\nfiles {files}\n"
+    )
 }
 
 /// The line of a file: its length, its root and its path.
