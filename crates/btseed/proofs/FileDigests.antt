@@ -7,7 +7,7 @@ use Rattle.std.specs.Io.KnownBytes.{Consumes}
 use Rattle.sha2.specs.Sha256.{sha256}
 use Rattle.bt_tree.specs.Blocks.{block_count, HasRun}
 use Rattle.bt_tree.specs.Building.{Building, BuildsFrom, first_block}
-use Rattle.bt_tree.specs.TreeShape.{height_of}
+use Rattle.bt_tree.specs.TreeShape.{height_of, real_width}
 use Rattle.bt_tree.specs.Tree.{node_digest, file_root}
 use Rattle.bt_tree.proofs.Shapes.{height_is, pow_le}
 use Rattle.btseed.specs.Reading.{GivesNode, TellsMore}
@@ -59,7 +59,7 @@ long_file old new file_length layer piece_bytes above bytes root digests long si
     let row = row_of_layer g.file layer bytes inside g.layer_is in
     let up : above ≡ height_of n - layer = above_is ∙ ap (λ h. h - layer) same in
     let top : layer + above ≡ height_of n = omega (arith, up, inside) in
-    let built = value g.file 0 _ (subst (λ a. IsRow g.file layer a 0 _ bytes) (sym up) row) in
+    let built = value g.file 0 (real_width n layer) (subst (λ a. IsRow g.file layer a 0 (real_width n layer) bytes) (sym up) row) in
     record {
       file = g.file;
       given = g.given;
