@@ -1,5 +1,5 @@
 -- Lemmas on the digests of whole files.
-use Rattle.std.proofs.Common.{◌≡◌, ℕ, ◌+◌, ◌-◌, ◌*◌, ◌^◌, ◌<◌, ◌≤◌, List, [], ◌++◌, Option, None, Some, IfSome, false, length, take, replicate, inl, inr, arith, refl, sym, ap, ◌∙◌, subst, length-append, take_all, append-nil, true≢false, ◌∷◌}
+use Rattle.std.proofs.Common.{◌≡◌, ℕ, ◌+◌, ◌-◌, ◌*◌, ◌^◌, ◌<◌, ◌≤◌, List, [], ◌++◌, Option, None, Some, IfSome, false, length, inl, inr, arith, refl, sym, ap, ◌∙◌, subst, take_all, append-nil, true≢false, ◌∷◌}
 use Rattle.std.proofs.lemmas.Bool.{cases_lt}
 use Rattle.std.proofs.lemmas.Nat.{pow_below}
 use Rattle.std.proofs.KnownBytes.{Consumes-nil, Consumes-trans}
@@ -8,8 +8,8 @@ use Rattle.sha2.specs.Sha256.{sha256}
 use Rattle.bt_tree.specs.Blocks.{block_count, HasRun}
 use Rattle.bt_tree.specs.Building.{Building, BuildsFrom, first_block}
 use Rattle.bt_tree.specs.TreeShape.{height_of, real_width}
-use Rattle.bt_tree.specs.Tree.{node_digest, file_root}
-use Rattle.bt_tree.proofs.Shapes.{height_is, pow_le}
+use Rattle.bt_tree.specs.Tree.{node_digest}
+use Rattle.bt_tree.proofs.Shapes.{height_is}
 use Rattle.btseed.specs.Reading.{GivesNode, TellsMore}
 use Rattle.btseed.specs.Digesting.{AreDigestsOf, IsPieceLayer, IsRow, GivesLayer, GivesFile, GivesAll}
 use Rattle.btseed.specs.declared.digests.Digests.{Digests}

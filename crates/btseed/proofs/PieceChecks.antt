@@ -1,5 +1,5 @@
 -- Lemmas on a check by pieces, which are read one after the other.
-use Rattle.std.proofs.Common.{◌≡◌, ℕ, ◌+◌, ◌-◌, ◌*◌, ◌^◌, ◌<◌, ◌≤◌, min, Bool, true, false, true≢false, List, [], ◌++◌, Option, None, Some, IfSome, length, take, drop, replicate, inl, inr, arith, refl, sym, ap, ◌∙◌, subst, length-append, take_all, append-nil, append_assoc, if◌then◌else◌}
+use Rattle.std.proofs.Common.{◌≡◌, ℕ, ◌+◌, ◌-◌, ◌*◌, ◌^◌, ◌<◌, ◌≤◌, min, Bool, true, false, true≢false, List, [], ◌++◌, Option, None, Some, IfSome, length, take, replicate, inl, inr, arith, sym, ap, ◌∙◌, subst, length-append, take_all, append-nil, append_assoc, if◌then◌else◌}
 use Rattle.std.specs.Prelude.{slice_index_or, nat_eq}
 use Rattle.std.specs.Cmp.Lexicographic.{pointwise}
 use Rattle.std.proofs.Math.Nat.{mul-le-mul_right}
@@ -8,10 +8,8 @@ use Rattle.std.proofs.lemmas.Bool.{cases_lt}
 use Rattle.std.proofs.lemmas.List.{length-replicate}
 use Rattle.std.proofs.KnownBytes.{Consumes-nil, Consumes-trans}
 use Rattle.std.specs.Io.KnownBytes.{Consumes}
-use Rattle.sha2.specs.Sha256.{sha256}
 use Rattle.bt_tree.specs.Blocks.{block_count, HasRun}
 use Rattle.bt_tree.specs.TreeShape.{real_width}
-use Rattle.bt_tree.specs.Tree.{node_digest}
 use Rattle.bt_tree.proofs.Shapes.{real_lt}
 use Rattle.btseed.specs.Reading.{LosesFront, EndsEarly, TellsMore}
 use Rattle.btseed.specs.Pieces.{piece_start, piece_size, has_piece, right_blocks, GivesPiece, IsFindingByPieces, IsFindingByPiecesAt}

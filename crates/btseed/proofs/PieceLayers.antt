@@ -1,5 +1,5 @@
 -- Lemmas on the digests of a file's pieces, as they are read, and on the nodes above them.
-use Rattle.std.proofs.Common.{◌≡◌, ℕ, suc, ◌+◌, ◌-◌, ◌*◌, ◌/◌, ◌^◌, ◌<◌, ◌≤◌, min, List, [], ◌++◌, Option, None, Some, IfSome, length, take, drop, replicate, inl, inr, arith, refl, sym, ap, ◌∙◌, subst, length-append, take_all, append-nil, drop_at}
+use Rattle.std.proofs.Common.{◌≡◌, ℕ, suc, ◌+◌, ◌-◌, ◌*◌, ◌^◌, ◌<◌, ◌≤◌, min, List, [], ◌++◌, Option, length, take, drop, replicate, inl, inr, arith, refl, sym, ap, ◌∙◌, subst, length-append, take_all, drop_at}
 use Rattle.std.proofs.Math.Nat.{mul-le-mul_right, pow-suc}
 use Rattle.std.proofs.lemmas.Nat.{pow_pos, pow-add}
 use Rattle.std.proofs.lemmas.Bool.{cases_lt}
@@ -9,7 +9,7 @@ use Rattle.std.specs.Io.KnownBytes.{Consumes}
 use Rattle.sha2.specs.Sha256.{sha256}
 use Rattle.bt_tree.specs.Blocks.{block_count, HasRun}
 use Rattle.bt_tree.specs.TreeShape.{real_width, height_of}
-use Rattle.bt_tree.specs.Tree.{node_digest, padding_digest, file_root}
+use Rattle.bt_tree.specs.Tree.{node_digest, padding_digest}
 use Rattle.bt_tree.proofs.Shapes.{real_limit}
 use Rattle.bt_tree.proofs.RowNodes.{node_parent, node_past, length-node_digest}
 use Rattle.bt_tree.specs.Digest.{length-sha256}

@@ -1,19 +1,18 @@
 -- Lemmas on the nodes of pieces, and on how many of their blocks are right.
-use Rattle.std.proofs.Common.{◌≡◌, Option, ℕ, ◌/◌, ◌%◌, zero, suc, ◌+◌, ◌-◌, ◌*◌, ◌^◌, ◌<◌, ◌≤◌, min, true, false, ◌&&◌, ◌==◌, List, [], ◌++◌, length, take, drop, replicate, inl, inr, arith, refl, sym, ap, ◌∙◌, subst, add-one, length-append, take_all, length-take-le, if◌then◌else◌}
+use Rattle.std.proofs.Common.{◌≡◌, Option, ℕ, ◌/◌, ◌%◌, zero, suc, ◌+◌, ◌-◌, ◌*◌, ◌^◌, ◌<◌, ◌≤◌, true, false, ◌&&◌, List, [], ◌++◌, length, take, drop, inl, inr, arith, refl, sym, ap, ◌∙◌, subst, add-one, length-append, take_all, if◌then◌else◌}
 use Rattle.std.specs.Prelude.{slice_index_or, nat_eq, nat_le}
 use Rattle.std.specs.Cmp.Lexicographic.{pointwise}
 use Rattle.std.proofs.Math.Nat.{mul-le-mul_right}
 use Rattle.std.proofs.lemmas.Nat.{pow_pos, div-add-mod'}
-use Rattle.std.proofs.lemmas.Bool.{cases_lt, le-leb, leb-true}
-use Rattle.std.proofs.lemmas.List.{drop-append-le, length-replicate, length-drop}
+use Rattle.std.proofs.lemmas.Bool.{cases_lt, le-leb}
+use Rattle.std.proofs.lemmas.List.{drop-append-le, length-drop}
 use Rattle.std.proofs.lemmas.Bool.Decides.{leb_tells}
-use Rattle.std.specs.Int.{div_ceil}
 use Rattle.sha2.specs.Sha256.{sha256}
 use Rattle.bt_tree.specs.Blocks.{block_count, block_at, HasRun}
 use Rattle.bt_tree.specs.Building.{Building, BuildsFrom, first_block, node_end}
 use Rattle.bt_tree.specs.Tree.{node_digest}
 use Rattle.bt_tree.specs.TreeShape.{height_of, real_width, CoversBlock}
-use Rattle.bt_tree.proofs.Shapes.{real_limit, real_lt, real_le}
+use Rattle.bt_tree.proofs.Shapes.{real_limit}
 use Rattle.bt_tree.proofs.RowNodes.{row_node_same, node_digest_row, leaf_is}
 use Rattle.btseed.specs.Reading.{GivesNode}
 use Rattle.btseed.specs.Pieces.{piece_start, piece_size, has_piece, right_blocks, GivesPiece}

@@ -1,4 +1,9 @@
 //! The command `show`.
+ghost use Rattle.std.specs.Prelude.{◌≡◌, string_bytes, IfOk, OnOk};
+ghost use Rattle.std.specs.Io.KnownBytes.{Appends};
+ghost use Rattle.bt_meta.specs.Files.{file_of};
+ghost use Rattle.btseed.specs.Shown.{root_text};
+
 use crate::fault::Fault;
 use crate::paths::joined;
 use crate::report::shown;
@@ -16,8 +21,13 @@ pub fn show<W: Write>(alloc: Global, torrent: &Torrent, writer: &mut W) -> Resul
 }
 
 /// Writes a text.
-pub fn put<W: Write>(writer: &mut W, text: &str) -> Result<(), Fault> {
-    writer.write_all(text.as_bytes()).map_err(|_| Fault::Device)
+pub fn put<W: Write>(writer: &mut W, text: &str) -> Result<(), Fault>
+    ensures { OnOk result (Appends (W.contents writer.old) (W.contents writer.new) text.now) }
+{
+    match writer.write_all(text.as_bytes()) {
+        Ok(()) => Ok(()),
+        Err(_) => Err(Fault::Device),
+    }
 }
 
 /// The lines on the whole torrent.
@@ -42,7 +52,9 @@ fn file_line(alloc: Global, file: &FileEntry) -> Result<String, AllocError> {
 }
 
 /// The root of a file in hexadecimal, and `-` for an empty file, which has none.
-fn shown_root(alloc: Global, file: &FileEntry) -> Result<String, AllocError> {
+fn shown_root(alloc: Global, file: &FileEntry) -> Result<String, AllocError>
+    ensures { IfOk result (λ text. string_bytes text ≡ root_text (file_of file.now)) }
+{
     if file.length == 0 {
         return String::from_str(alloc, "-");
     }
