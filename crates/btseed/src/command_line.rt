@@ -1,4 +1,8 @@
 //! What the words of the command line ask for.
+ghost use Rattle.std.specs.Prelude.{◌≡◌, Some, codes, IfSome};
+ghost use Rattle.clap.specs.Words.{first_value, found_of, subcommand_name_of};
+ghost use Rattle.btseed.specs.Asking.{command_of};
+
 use clap::error::ErrorKind;
 use clap::{Arg, ArgAction, ArgMatches, Command, Error};
 use std::alloc::{AllocError, Global};
@@ -48,7 +52,9 @@ pub fn parse<'a>(alloc: Global, words: &'a [String]) -> Result<Task<'a>, Error> 
 }
 
 /// The task that the words ask for; none where a number is refused.
-fn task_of<'a>(matches: &ArgMatches<'a>) -> Option<Task<'a>> {
+fn task_of<'a>(matches: &ArgMatches<'a>) -> Option<Task<'a>>
+    ensures { IfSome result (λ task. subcommand_name_of matches.now ≡ Some (command_of task)) }
+{
     if let Some(make) = matches.subcommand_matches("make") {
         return Some(Task::Make(making_of(make)?));
     }
@@ -62,7 +68,11 @@ fn task_of<'a>(matches: &ArgMatches<'a>) -> Option<Task<'a>> {
     Some(Task::Check { torrent, dir })
 }
 
-fn making_of<'a>(matches: &ArgMatches<'a>) -> Option<Making<'a>> {
+fn making_of<'a>(matches: &ArgMatches<'a>) -> Option<Making<'a>>
+    ensures dir { IfSome result (λ making. first_value (found_of matches.now) (codes "DIR") ≡ Some making.dir.now) }
+    ensures out { IfSome result (λ making. first_value (found_of matches.now) (codes "OUT") ≡ Some making.out.now) }
+    ensures name { IfSome result (λ making. first_value (found_of matches.now) (codes "name") ≡ Some making.name.now) }
+{
     Some(Making {
         dir: matches.get_str("DIR")?,
         out: matches.get_str("OUT")?,
@@ -71,7 +81,9 @@ fn making_of<'a>(matches: &ArgMatches<'a>) -> Option<Making<'a>> {
     })
 }
 
-fn source_of<'a>(matches: &ArgMatches<'a>) -> Option<Source<'a>> {
+fn source_of<'a>(matches: &ArgMatches<'a>) -> Option<Source<'a>>
+    ensures { IfSome result (λ source. first_value (found_of matches.now) (codes "TORRENT") ≡ Some source.path.now) }
+{
     Some(Source {
         path: matches.get_str("TORRENT")?,
         is_info: matches.get_flag("info"),
