@@ -107,9 +107,9 @@ pub fn expect_help(rt: &HostRuntime, line: &str, part: &str) -> Result<(), Fail>
 /// Runs the program on the words of a line, and expects that they are refused, with a reason.
 pub fn expect_refused(rt: &HostRuntime, line: &str) -> Result<(), Fail> {
     let found = answer_to(rt, "", line)?;
-    let is_wanted = found.status == 2
-        && found.output.is_empty()
-        && found.faults.as_str().contains("error: ");
+    let faults = found.faults.as_str();
+    let is_told = faults.contains("error: ") || faults.contains("Usage: btseed");
+    let is_wanted = found.status == 2 && found.output.is_empty() && is_told;
     confirmed(found, is_wanted)?;
     Ok(())
 }
