@@ -1,4 +1,8 @@
 pub mod Fills
+pub mod PieceNodes
+pub mod PieceChecks
+pub mod PieceLayers
+pub mod FileDigests
 pub mod NodeReads
 pub mod Findings
 pub mod TextReads

@@ -76,14 +76,14 @@ next_run old new asked rest wanted first b fresh all w r =
     }
 
 -- the first part of a run lies where the run does
-front_has_run : (file front part : List ℕ) (start : ℕ) → HasRun file start (front ++ part) → HasRun file start front
+pub front_has_run : (file front part : List ℕ) (start : ℕ) → HasRun file start (front ++ part) → HasRun file start front
 front_has_run file front part start here =
     let size = length-append front part in
     sym (take-take (length front) (length (front ++ part)) (drop start file) (omega (arith, size)))
     ∙ ap (take (length front)) here ∙ take-append-le (length front) front part (omega arith) ∙ take_all (length front) front (omega arith)
 
 -- and the other part behind it
-part_has_run : (file front part : List ℕ) (start next : ℕ) → next ≡ start + length front → HasRun file start (front ++ part) → HasRun file next part
+pub part_has_run : (file front part : List ℕ) (start next : ℕ) → next ≡ start + length front → HasRun file start (front ++ part) → HasRun file next part
 part_has_run file front part start next e here =
     let size = length-append front part in
     let m : ℕ = length part in

@@ -4,6 +4,7 @@ use Rattle.std.specs.Fmt.{decimal}
 use Rattle.std.specs.List.{starts_with}
 use Rattle.std.specs.Str.{IsUtf8}
 use Rattle.hex.specs.Hex.{encode_lower}
+use Rattle.bt_meta.specs.Files.{File}
 use Rattle.btseed.specs.declared.data_file.Finding.{Finding}
 
 -- neither below U+0020 nor U+007F: in UTF-8 these are characters of one byte
@@ -38,3 +39,7 @@ line_of finding path = ended (
 -- the last line
 abbrev pub end_of : Bool → List ℕ
 end_of complete = ended (if complete then codes "complete" else codes "not complete")
+
+-- the root of a file; an empty file has none
+abbrev pub root_text : File → List ℕ
+root_text file = if file.length == 0 then codes "-" else encode_lower file.root

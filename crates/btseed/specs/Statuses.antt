@@ -2,13 +2,16 @@
 use Rattle.std.specs.Prelude.{ℕ}
 use Rattle.bt_meta.specs.declared.error.MetaError.{MetaError}
 use Rattle.bt_meta.specs.declared.error.MetaError.TheVariants.{OutOfMemory as no_memory}
+use Rattle.bt_meta.specs.declared.making.MakeError.{MakeError}
+use Rattle.bt_meta.specs.declared.making.MakeError.TheVariants.{OutOfMemory as no_memory_to_make}
 use Rattle.btseed.specs.declared.fault.Fault.{Fault}
-use Rattle.btseed.specs.declared.fault.Fault.TheVariants.{Words, Refused, Device, OutOfMemory}
+use Rattle.btseed.specs.declared.fault.Fault.TheVariants.{Words, Refused, Unmade, Device, OutOfMemory}
 
 -- 2 where the input is refused, 3 for a device, 4 for want of memory
 abbrev pub status_of : Fault → ℕ
 status_of Words = 2
 status_of (Refused refusal) = 2
+status_of (Unmade refusal) = 2
 status_of Device = 3
 status_of OutOfMemory = 4
 
@@ -22,3 +25,7 @@ out_of_memory = OutOfMemory
 abbrev pub fault_of : MetaError → Fault
 fault_of no_memory = OutOfMemory
 fault_of refusal = Refused refusal
+
+abbrev pub unmade_of : MakeError → Fault
+unmade_of no_memory_to_make = OutOfMemory
+unmade_of refusal = Unmade refusal

@@ -1,5 +1,6 @@
 //! Checking the bytes of a data file against the file's pieces root (BEP 52).
-ghost use Rattle.std.specs.Prelude.{◌≡◌, ◌≢◌, ◌+◌, ◌*◌, ◌<◌, ◌≤◌, ℕ, List, length, take, IsTrue, IfOk, IfNone, IfSome, OnErr};
+ghost use Rattle.std.specs.Prelude.{◌≡◌, ◌≢◌, ◌+◌, ◌*◌, ◌<◌, ◌≤◌, ℕ, List, length, take, nat_eq, if◌then◌else◌, IsTrue, IfOk, IfNone, IfSome, OnErr};
+ghost use Rattle.std.specs.Cmp.Lexicographic.{pointwise};
 ghost use Rattle.std.specs.Io.KnownBytes.{Consumes};
 ghost use Rattle.bt_tree.specs.Building.{first_block, node_end};
 ghost use Rattle.btseed.specs.Reading.{Gives, LosesFront, EndsEarly, GivesNode, TellsMore};
@@ -55,7 +56,7 @@ pub fn fill<R: Read>(reader: &mut R, buffer: &mut [u8]) -> Result<usize, DeviceF
 
 /// Reads the bytes below the builder's node, of which none came before, and gives the node's digest: none where the
 /// bytes end before.
-fn read_node<R: Read>(
+pub fn read_node<R: Read>(
     reader: &mut R,
     builder: RootBuilder<Plain>,
     length: u64,
@@ -82,7 +83,7 @@ fn read_node<R: Read>(
 }
 
 /// Whether the reader has one byte more.
-fn has_more<R: Read>(reader: &mut R) -> Result<bool, DeviceFault>
+pub fn has_more<R: Read>(reader: &mut R) -> Result<bool, DeviceFault>
     ensures ok { IfOk result (TellsMore (R.remaining reader.old) (R.remaining reader.new)) }
     ensures err { OnErr result (LosesFront (R.remaining reader.old) (R.remaining reader.new)) }
 {
@@ -91,9 +92,10 @@ fn has_more<R: Read>(reader: &mut R) -> Result<bool, DeviceFault>
 }
 
 /// How many of so many blocks are marked: all where the digest that was built is the one wanted, else none.
-fn marked_blocks(blocks: u32, built: &Hash32, wanted: &Hash32) -> u32
+pub fn marked_blocks(blocks: u32, built: &Hash32, wanted: &Hash32) -> u32
     ensures all { built.now ≡ wanted.now → result ≡ blocks }
     ensures none { built.now ≢ wanted.now → result ≡ 0 }
+    ensures value { result ≡ (if pointwise nat_eq built.now wanted.now then blocks else 0) }
 {
     if built == wanted { blocks } else { 0 }
 }

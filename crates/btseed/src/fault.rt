@@ -1,8 +1,8 @@
 //! Why the program ends without an answer.
 ghost use Rattle.std.specs.Prelude.{◌≡◌};
-ghost use Rattle.btseed.specs.Statuses.{status_of, fault_of, out_of_memory, device};
+ghost use Rattle.btseed.specs.Statuses.{status_of, fault_of, unmade_of, out_of_memory, device};
 
-use bt_meta::MetaError;
+use bt_meta::{MakeError, MetaError};
 use std::alloc::{AllocError, AllocFailed};
 use thiserror::Error;
 
@@ -20,6 +20,9 @@ pub enum Fault {
     /// The torrent is refused.
     #[error("{0}")]
     Refused(MetaError),
+    /// No torrent is made of the folder.
+    #[error("{0}")]
+    Unmade(MakeError),
     /// A file, or a stream, could not be opened, read or written.
     #[error("device fault")]
     Device,
@@ -33,7 +36,7 @@ impl Fault {
         ensures { result ≡ status_of self }
     {
         match self {
-            Fault::Words | Fault::Refused(_) => 2,
+            Fault::Words | Fault::Refused(_) | Fault::Unmade(_) => 2,
             Fault::Device => 3,
             Fault::OutOfMemory => 4,
         }
@@ -55,6 +58,17 @@ impl From<MetaError> for Fault {
         match refusal {
             MetaError::OutOfMemory => Fault::OutOfMemory,
             _ => Fault::Refused(refusal),
+        }
+    }
+}
+
+impl From<MakeError> for Fault {
+    ghost from_gives = { λ refusal fault. fault ≡ unmade_of refusal };
+
+    fn from(refusal: MakeError) -> Self {
+        match refusal {
+            MakeError::OutOfMemory => Fault::OutOfMemory,
+            _ => Fault::Unmade(refusal),
         }
     }
 }

@@ -4,9 +4,17 @@
 mod check;
 mod command_line;
 mod data_file;
+mod digests;
 mod fault;
+mod folder;
+mod make;
+mod paths;
+mod pieces;
 mod program;
 mod report;
+mod show;
+mod torrent_file;
+mod whole_file;
 
 use fault::Fault;
 use program::{run, tell};

@@ -2,8 +2,12 @@
 ghost use Rattle.std.specs.Prelude.{◌≤◌, IfOk};
 
 use crate::check::check;
-use crate::command_line::{Task, parse};
+use crate::command_line::{Making, Source, Task, parse};
+use crate::data_file::BUFFER_LEN;
 use crate::fault::Fault;
+use crate::make::make;
+use crate::show::{put, show};
+use crate::torrent_file::load;
 use clap::Error;
 use clap::error::ErrorKind;
 use std::io::{Read, Write};
@@ -14,7 +18,7 @@ use std::rt::Files;
 /// of memory.
 ///
 /// What is found, and help, go to the writer; why there is no answer goes to `faults`.
-pub fn run<R: Files + AllocGlobal, I: Read, O: Write, E: Write>(
+pub fn run<R: Files + AllocGlobal + Clone + Drop, I: Read, O: Write, E: Write>(
     rt: &R,
     words: &[String],
     _reader: &mut I,
@@ -30,7 +34,7 @@ pub fn run<R: Files + AllocGlobal, I: Read, O: Write, E: Write>(
 }
 
 /// Reads the words, and does what they ask for.
-fn attempt<R: Files + AllocGlobal, O: Write, E: Write>(
+fn attempt<R: Files + AllocGlobal + Clone + Drop, O: Write, E: Write>(
     rt: &R,
     words: &[String],
     writer: &mut O,
@@ -45,15 +49,56 @@ fn attempt<R: Files + AllocGlobal, O: Write, E: Write>(
 }
 
 /// Does a task, and answers its status.
-fn perform<R: Files + AllocGlobal, O: Write>(
+fn perform<R: Files + AllocGlobal + Clone + Drop, O: Write>(
     rt: &R,
     task: Task<'_>,
     writer: &mut O,
 ) -> Result<u8, Fault>
     ensures { IfOk result (λ status. status ≤ 1) }
 {
-    let Task::Check { torrent, dir } = task;
-    let report = check(rt, torrent, dir)?;
+    match task {
+        Task::Make(making) => perform_make(rt, making, writer),
+        Task::Show { torrent } => perform_show(rt, torrent, writer),
+        Task::Check { torrent, dir } => perform_check(rt, torrent, dir, writer),
+    }
+}
+
+fn perform_make<R: Files + AllocGlobal + Clone + Drop, O: Write>(
+    rt: &R,
+    making: Making<'_>,
+    writer: &mut O,
+) -> Result<u8, Fault>
+    ensures { IfOk result (λ status. status ≤ 1) }
+{
+    let infohash = make(rt, making)?;
+    let digits = hex::encode(rt.alloc(), &infohash)?;
+    let line = format!(in rt.alloc(); "infohash {digits}\n")?;
+    print(writer, line.as_str())?;
+    Ok(0)
+}
+
+fn perform_show<R: Files + AllocGlobal, O: Write>(
+    rt: &R,
+    source: Source<'_>,
+    writer: &mut O,
+) -> Result<u8, Fault>
+    ensures { IfOk result (λ status. status ≤ 1) }
+{
+    let mut buffer = [0; BUFFER_LEN];
+    let torrent = load(rt, source, &mut buffer)?;
+    show(rt.alloc(), &torrent, writer)?;
+    Ok(0)
+}
+
+fn perform_check<R: Files + AllocGlobal, O: Write>(
+    rt: &R,
+    source: Source<'_>,
+    dir: &str,
+    writer: &mut O,
+) -> Result<u8, Fault>
+    ensures { IfOk result (λ status. status ≤ 1) }
+{
+    let report = check(rt, source, dir)?;
     print(writer, report.lines.as_str())?;
     Ok(if report.complete { 0 } else { 1 })
 }
@@ -75,9 +120,7 @@ fn explain<O: Write, E: Write>(error: &Error, writer: &mut O, faults: &mut E) ->
 }
 
 fn print<O: Write>(writer: &mut O, text: &str) -> Result<(), Fault> {
-    writer
-        .write_all(text.as_bytes())
-        .map_err(|_| Fault::Device)?;
+    put(writer, text)?;
     writer.flush().map_err(|_| Fault::Device)
 }
 

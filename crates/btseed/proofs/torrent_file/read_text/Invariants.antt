@@ -1,6 +1,6 @@
 use Rattle.std.proofs.Common.{◌+◌, ◌-◌, ◌^◌, vec_len}
 use Rattle.btseed.proofs.TextReads.{IsText}
-use Rattle.btseed.proofs.check.read_text.Given as goal
+use Rattle.btseed.proofs.torrent_file.read_text.Given as goal
 
 abbrev pub invariant-loop-text : goal.invariant-loop-text
 invariant-loop-text g l = IsText (g.R.Read.remaining l.initial.reader) (g.R.Read.remaining l.reader) (2 ^ 27 + 1) l.text.items

@@ -1,6 +1,6 @@
 use Rattle.std.proofs.Common.{◌≡◌, ◌+◌, ◌-◌, ◌^◌, ◌≤◌, rules, length}
 use Rattle.btseed.proofs.TextReads.{text_ended, text_full, text_told}
-use Rattle.btseed.proofs.check.read_text.Goals as goal
+use Rattle.btseed.proofs.torrent_file.read_text.Goals as goal
 
 pub returns-then-count-wanted-clause-told : goal.returns-then-count-wanted-clause-told
 returns-then-count-wanted-clause-told g c =

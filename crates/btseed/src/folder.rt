@@ -1,0 +1,94 @@
+//! The files of a folder and its subfolders.
+use crate::fault::Fault;
+use crate::paths::data_path;
+use bt_meta::MakeError;
+use std::alloc::{AllocError, Global};
+use std::collections::BTreeMap;
+use std::fs;
+use std::io::{self, ErrorKind};
+use std::rt::Files;
+
+/// A file or a folder, by its path below the folder that is walked.
+#[derive(Drop)]
+struct Entry {
+    path: Vec<String>,
+    is_folder: bool,
+}
+
+/// The paths of the files in a folder and its subfolders, folder by folder in the order of the names' bytes. A symbolic
+/// link is left out, and so is anything else that is neither a file nor a folder.
+///
+/// A name that is not UTF-8 is refused; a folder that can't be listed is a device fault.
+pub fn files_in<R: Files + AllocGlobal + Clone + Drop>(
+    rt: &R,
+    dir: &str,
+) -> Result<Vec<Vec<String>>, Fault> {
+    let alloc = rt.alloc();
+    let mut files = Vec::new(alloc);
+    let mut waiting = Vec::new(alloc);
+    push_entries(rt, dir, &[], &mut waiting)?;
+    for _ in 0..u64::MAX {
+        let Some(Entry { path, is_folder }) = waiting.pop() else {
+            return Ok(files);
+        };
+        if is_folder {
+            push_entries(rt, dir, &path, &mut waiting)?;
+        } else {
+            files.push(path)?;
+        }
+    }
+    Err(Fault::Device)
+}
+
+/// Puts the entries of a folder onto those that wait, the first one last.
+fn push_entries<R: Files + AllocGlobal + Clone + Drop>(
+    rt: &R,
+    dir: &str,
+    folder: &[String],
+    waiting: &mut Vec<Entry>,
+) -> Result<(), Fault> {
+    let names = names_in(rt, dir, folder)?;
+    for (name, is_folder) in names.into_iter().rev() {
+        let path = path_with(rt.alloc(), folder, name)?;
+        waiting.push(Entry { path, is_folder })?;
+    }
+    Ok(())
+}
+
+/// The names of the files and the folders in a folder, with which of them are folders.
+fn names_in<R: Files + AllocGlobal + Clone + Drop>(
+    rt: &R,
+    dir: &str,
+    folder: &[String],
+) -> Result<BTreeMap<String, bool>, Fault> {
+    let alloc = rt.alloc();
+    let mut names = BTreeMap::new(alloc);
+    for entry in fs::read_dir(rt, data_path(alloc, dir, folder)?).map_err(|e| listing_fault(&e))? {
+        let entry = entry.map_err(|e| listing_fault(&e))?;
+        let kind = entry.file_type().map_err(|e| listing_fault(&e))?;
+        if kind.is_dir() || kind.is_file() {
+            let name = String::from_str(alloc, entry.file_name())?;
+            names.insert(name, kind.is_dir())?;
+        }
+    }
+    Ok(names)
+}
+
+/// What an error in listing a folder is told as. A name that is not UTF-8 comes as one that is not valid.
+fn listing_fault(error: &io::Error) -> Fault {
+    match error.kind() {
+        ErrorKind::InvalidFilename => Fault::Unmade(MakeError::BadPath),
+        ErrorKind::OutOfMemory => Fault::OutOfMemory,
+        _ => Fault::Device,
+    }
+}
+
+/// The path of an entry of a folder.
+fn path_with(alloc: Global, folder: &[String], name: String) -> Result<Vec<String>, AllocError> {
+    let mut path = Vec::new(alloc);
+    for element in folder {
+        path.push(element.clone()?)?;
+    }
+    path.push(name)?;
+    Ok(path)
+}

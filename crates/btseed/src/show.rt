@@ -1,0 +1,62 @@
+//! The command `show`.
+ghost use Rattle.std.specs.Prelude.{◌≡◌, string_bytes, IfOk, OnOk};
+ghost use Rattle.std.specs.Io.KnownBytes.{Appends};
+ghost use Rattle.bt_meta.specs.Files.{file_of};
+ghost use Rattle.btseed.specs.Shown.{root_text};
+
+use crate::fault::Fault;
+use crate::paths::joined;
+use crate::report::shown;
+use bt_meta::{FileEntry, Torrent};
+use std::alloc::{AllocError, Global};
+use std::io::Write;
+
+/// Writes what a torrent says: five lines on the whole, and a line for each file.
+pub fn show<W: Write>(alloc: Global, torrent: &Torrent, writer: &mut W) -> Result<(), Fault> {
+    put(writer, head(alloc, torrent)?.as_str())?;
+    for file in torrent.files() {
+        put(writer, file_line(alloc, file)?.as_str())?;
+    }
+    writer.flush().map_err(|_| Fault::Device)
+}
+
+/// Writes a text.
+pub fn put<W: Write>(writer: &mut W, text: &str) -> Result<(), Fault>
+    ensures { OnOk result (Appends (W.contents writer.old) (W.contents writer.new) text.now) }
+{
+    match writer.write_all(text.as_bytes()) {
+        Ok(()) => Ok(()),
+        Err(_) => Err(Fault::Device),
+    }
+}
+
+/// The lines on the whole torrent.
+fn head(alloc: Global, torrent: &Torrent) -> Result<String, AllocError> {
+    let name = shown(alloc, torrent.name())?;
+    let infohash = hex::encode(alloc, &torrent.infohash())?;
+    let piece_length = torrent.piece_length();
+    let pieces = torrent.pieces();
+    let files = torrent.files().len();
+    format!(in alloc;
+        "name {name}\ninfohash {infohash}\npiece length {piece_length}\npieces {pieces}\nfiles {files}\n"
+    )
+}
+
+/// The line of a file: its length, its root and its path.
+fn file_line(alloc: Global, file: &FileEntry) -> Result<String, AllocError> {
+    let path = joined(alloc, &file.path)?;
+    let path = shown(alloc, path.as_bytes())?;
+    let root = shown_root(alloc, file)?;
+    let length = file.length;
+    format!(in alloc; "{length} {root} {path}\n")
+}
+
+/// The root of a file in hexadecimal, and `-` for an empty file, which has none.
+fn shown_root(alloc: Global, file: &FileEntry) -> Result<String, AllocError>
+    ensures { IfOk result (λ text. string_bytes text ≡ root_text (file_of file.now)) }
+{
+    if file.length == 0 {
+        return String::from_str(alloc, "-");
+    }
+    hex::encode(alloc, &file.root)
+}

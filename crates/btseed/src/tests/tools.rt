@@ -1,0 +1,146 @@
+//! What the tests share: folders of their own, the files in them, and runs of the program.
+
+use crate::program::run;
+use bt_tree::Hash32;
+use hex::FromHex;
+use std::alloc::{AllocError, Global};
+use std::test::Fail;
+use std::{env, fs, process};
+
+/// A folder of this test's own, empty.
+pub fn folder(rt: &HostRuntime, name: &str) -> Result<String, Fail> {
+    let top = env::temp_dir(rt)?;
+    let top = top.to_str().ok_or("a folder whose name is no text")?;
+    let id = process::id(rt.process());
+    let path = format!(in rt.alloc(); "{top}/btseed-{name}-{id}")?;
+    let _ = fs::remove_dir_all(rt, path.as_str());
+    fs::create_dir(rt, path.as_str())?;
+    Ok(path)
+}
+
+/// Writes a file below a folder.
+pub fn put(rt: &HostRuntime, top: &str, name: &str, bytes: &[u8]) -> Result<(), Fail> {
+    let path = format!(in rt.alloc(); "{top}/{name}")?;
+    fs::write(rt, path.as_str(), bytes)?;
+    Ok(())
+}
+
+/// Makes a folder below a folder.
+pub fn put_folder(rt: &HostRuntime, top: &str, name: &str) -> Result<(), Fail> {
+    let path = format!(in rt.alloc(); "{top}/{name}")?;
+    fs::create_dir(rt, path.as_str())?;
+    Ok(())
+}
+
+/// The bytes of a file below a folder.
+pub fn bytes_of(rt: &HostRuntime, top: &str, name: &str) -> Result<Vec<u8>, Fail> {
+    let path = format!(in rt.alloc(); "{top}/{name}")?;
+    Ok(fs::read(rt, path.as_str())?)
+}
+
+/// The words of a line. `@` stands for the folder.
+pub fn words_of(alloc: Global, top: &str, line: &str) -> Result<Vec<String>, AllocError> {
+    let mut words = Vec::new(alloc);
+    for word in line.split_whitespace() {
+        words.push(word.replace(alloc, "@", top)?)?;
+    }
+    Ok(words)
+}
+
+/// What the program answered to the words of a line: its status, and what it wrote. The error of a test whose answer is
+/// another.
+#[derive(Debug, Drop)]
+pub struct Answer {
+    line: String,
+    status: u8,
+    output: String,
+    faults: String,
+}
+
+/// Runs the program on the words of a line.
+fn answer_to(rt: &HostRuntime, top: &str, line: &str) -> Result<Answer, Fail> {
+    let words = words_of(rt.alloc(), top, line)?;
+    let mut input: &[u8] = &[];
+    let mut output = Vec::new(rt.alloc());
+    let mut faults = Vec::new(rt.alloc());
+    let status = run(rt, words.as_slice(), &mut input, &mut output, &mut faults);
+    Ok(Answer {
+        line: String::from_str(rt.alloc(), line)?,
+        status,
+        output: String::from_utf8(output)?,
+        faults: String::from_utf8(faults)?,
+    })
+}
+
+/// The answer is an error where it is not the one wanted.
+fn confirmed(answer: Answer, is_wanted: bool) -> Result<(), Answer> {
+    if is_wanted { Ok(()) } else { Err(answer) }
+}
+
+/// Runs the program on the words of a line, and expects this status, output and fault.
+pub fn expect(
+    rt: &HostRuntime,
+    top: &str,
+    line: &str,
+    status: u8,
+    output: &str,
+    faults: &str,
+) -> Result<(), Fail> {
+    let found = answer_to(rt, top, line)?;
+    let is_wanted = found.status == status
+        && found.output.as_str() == output
+        && found.faults.as_str() == faults;
+    confirmed(found, is_wanted)?;
+    Ok(())
+}
+
+/// Runs the program on the words of a line, and expects help, with this text in it.
+pub fn expect_help(rt: &HostRuntime, line: &str, part: &str) -> Result<(), Fail> {
+    let found = answer_to(rt, "", line)?;
+    let is_wanted = found.status == 0
+        && found.faults.is_empty()
+        && found.output.as_str().contains(part);
+    confirmed(found, is_wanted)?;
+    Ok(())
+}
+
+/// Runs the program on the words of a line, and expects that they are refused, with a reason.
+pub fn expect_refused(rt: &HostRuntime, line: &str) -> Result<(), Fail> {
+    let found = answer_to(rt, "", line)?;
+    let faults = found.faults.as_str();
+    let is_told = faults.contains("error: ") || faults.contains("Usage: btseed");
+    let is_wanted = found.status == 2 && found.output.is_empty() && is_told;
+    confirmed(found, is_wanted)?;
+    Ok(())
+}
+
+pub fn digest(hex: &str) -> Result<Hash32, Fail> {
+    Ok(<[u8; 32] as FromHex>::from_hex(hex)?)
+}
+
+pub const ABC_ROOT: &str = "ba7816bf8f01cfea414140de5dae2223b00361a396177a9cb410ff61f20015ad";
+
+/// The torrent of a file `a.txt` of the bytes `abc`, of which bytes 7 to 148 are the info dictionary.
+pub fn abc_torrent(alloc: Global) -> Result<Vec<u8>, Fail> {
+    let mut text = Vec::from_slice(
+        alloc,
+        b"d4:infod9:file treed5:a.txtd0:d6:lengthi3e11:pieces root32:",
+    )?;
+    text.extend_from_slice(&digest(ABC_ROOT)?)?;
+    text.extend_from_slice(
+        b"eee12:meta versioni2e4:name5:a.txt12:piece lengthi16384ee12:piece layersdee",
+    )?;
+    Ok(text)
+}
+
+/// The file of three blocks, filled with 1, 2 and 3, and one byte more.
+pub fn three_blocks(alloc: Global) -> Result<Vec<u8>, AllocError> {
+    let mut file = Vec::new(alloc);
+    for i in 0..49153u32 {
+        file.push((i / 16384 + 1) as u8)?;
+    }
+    Ok(file)
+}
+
+/// The root of the three blocks.
+pub const THREE_ROOT: &str = "35754ee03360cacab5e9e27647da3d2a4ab6f97614ed7d1692b9eb3c42a65d69";

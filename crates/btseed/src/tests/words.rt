@@ -1,0 +1,89 @@
+//! The command line, and an output that fails.
+
+use super::tools::{abc_torrent, expect_help, expect_refused, folder, put, words_of};
+use crate::program::run;
+use std::io::{ErrorKind, Write};
+use std::test::Fail;
+use std::{fs, io};
+
+#[test]
+fn refused_words_are_told_why(rt: HostRuntime) -> Result<(), Fail> {
+    for line in [
+        "",
+        "chek",
+        "check",
+        "check t",
+        "check t d e",
+        "check t d --inf",
+        "show",
+        "show t u",
+        "make",
+        "make d",
+        "make d o",
+        "make d o --name",
+        "make d o e --name n",
+        "make d o --name n --name m",
+        "make d o --name n --info",
+        "make d o --name n --piece-length",
+        "make d o --name n --piece-length=x",
+        "make d o --name n --piece-length=+16384",
+        "make d o --name n --piece-length=-16384",
+        "make d o --name n --piece-length=4294967296",
+        "make d o --name n --piece-length=",
+    ] {
+        expect_refused(&rt, line)?;
+    }
+    Ok(())
+}
+
+#[test]
+fn help_is_told(rt: HostRuntime) -> Result<(), Fail> {
+    for (line, part) in [
+        ("--help", "BitTorrent v2"),
+        ("help", "check"),
+        ("help", "make"),
+        ("help", "show"),
+        ("check --help", "TORRENT"),
+        ("show --help", "--info"),
+        ("make --help", "--piece-length"),
+    ] {
+        expect_help(&rt, line, part)?;
+    }
+    Ok(())
+}
+
+/// A writer that takes nothing.
+#[derive(Drop)]
+struct Full;
+
+impl Write for Full {
+    fn write(&mut self, _buf: &[u8]) -> io::Result<usize> {
+        Err(io::Error::from(ErrorKind::StorageFull))
+    }
+
+    fn flush(&mut self) -> io::Result<()> {
+        Ok(())
+    }
+}
+
+#[test]
+fn an_output_that_fails_is_a_device_fault(rt: HostRuntime) -> Result<(), Fail> {
+    let top = folder(&rt, "output")?;
+    put(&rt, top.as_str(), "t", &abc_torrent(rt.alloc())?)?;
+    for line in ["check @/t @", "show @/t", "--help"] {
+        let words = words_of(rt.alloc(), top.as_str(), line)?;
+        let mut input: &[u8] = &[];
+        let mut faults = Vec::new(rt.alloc());
+        assert_eq!(rt;
+            run(&rt, words.as_slice(), &mut input, &mut Full, &mut faults),
+            3
+        );
+        assert_eq!(rt; faults.as_slice(), b"btseed: device fault\n".as_slice());
+        assert_eq!(rt;
+            run(&rt, words.as_slice(), &mut input, &mut Full, &mut Full),
+            3
+        );
+    }
+    fs::remove_dir_all(&rt, top.as_str())?;
+    Ok(())
+}

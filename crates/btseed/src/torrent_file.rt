@@ -1,0 +1,49 @@
+//! Reading torrents from files.
+ghost use Rattle.std.specs.Prelude.{◌≡◌, ◌+◌, ◌^◌, take, IfOk, IfSome};
+ghost use Rattle.btseed.specs.Reading.{Gives};
+
+use crate::command_line::Source;
+use crate::data_file::{BUFFER_LEN, fill};
+use crate::fault::Fault;
+use bt_meta::{MAX_TEXT_LENGTH, Torrent, read_info, read_torrent};
+use std::alloc::Global;
+use std::fs;
+use std::io::Read;
+use std::rt::Files;
+
+/// Reads a torrent from its file.
+pub fn load<R: Files + AllocGlobal>(
+    rt: &R,
+    source: Source<'_>,
+    buffer: &mut [u8; BUFFER_LEN],
+) -> Result<Torrent, Fault> {
+    let mut file = fs::open(rt, source.path).map_err(|_| Fault::Device)?;
+    let text = read_text(rt.alloc(), &mut file, buffer)?;
+    if source.is_info {
+        Ok(read_info(rt.alloc(), &text)?)
+    } else {
+        Ok(read_torrent(rt.alloc(), &text)?)
+    }
+}
+
+/// The bytes of a torrent: all that the reader has, but no more than show that they are too many.
+pub fn read_text<R: Read>(
+    alloc: Global,
+    reader: &mut R,
+    buffer: &mut [u8; BUFFER_LEN],
+) -> Result<Vec<u8>, Fault>
+    ensures told { IfSome (R.remaining reader.old) (λ bytes. IfOk result (λ text. text.items ≡ take (2 ^ 27 + 1) bytes)) }
+    ensures given { IfOk result (λ text. Gives (R.remaining reader.old) (R.remaining reader.new) (2 ^ 27 + 1) text.items) }
+{
+    let mut text = Vec::new(alloc);
+    while text.len() <= MAX_TEXT_LENGTH {
+        let wanted = BUFFER_LEN.min(MAX_TEXT_LENGTH + 1 - text.len());
+        let run = &mut buffer[..wanted];
+        let count = fill(reader, run)?;
+        text.extend_from_slice(&run[..count])?;
+        if count < wanted {
+            return Ok(text);
+        }
+    }
+    Ok(text)
+}

@@ -1,0 +1,57 @@
+//! Writing a file wholly or not at all.
+use crate::fault::Fault;
+use std::alloc::{AllocError, Global};
+use std::fs::{self, File, OpenFile};
+use std::io::{ErrorKind, Write};
+use std::rt::Files;
+
+/// Writes a file: wholly, or it stays as it was. The bytes go into a new file beside it, which then takes its name.
+pub fn write_whole<R: Files + AllocGlobal>(rt: &R, path: &str, bytes: &[u8]) -> Result<(), Fault> {
+    refuse_other_kinds(rt, path)?;
+    let beside = unused_path(rt, path)?;
+    let mut file = File::create_new(rt, beside.as_str()).map_err(|_| Fault::Device)?;
+    let done = match fill_file(&mut file, bytes) {
+        Ok(()) => fs::rename(rt, beside.as_str(), path).map_err(|_| Fault::Device),
+        Err(fault) => Err(fault),
+    };
+    if done.is_err() {
+        let _ = fs::remove_file(rt, beside.as_str());
+    }
+    done
+}
+
+/// A folder or a device in the file's place is not replaced.
+fn refuse_other_kinds<R: Files>(rt: &R, path: &str) -> Result<(), Fault> {
+    match fs::metadata(rt, path) {
+        Ok(metadata) if metadata.is_file() => Ok(()),
+        Err(error) if error.kind() == ErrorKind::NotFound => Ok(()),
+        Ok(_) | Err(_) => Err(Fault::Device),
+    }
+}
+
+/// A path in the same folder at which there is nothing.
+fn unused_path<R: Files + AllocGlobal>(rt: &R, path: &str) -> Result<String, Fault> {
+    for attempt in 0..u32::MAX {
+        let beside = path_beside(rt.alloc(), path, attempt)?;
+        match fs::symlink_metadata(rt, beside.as_str()) {
+            Err(error) if error.kind() == ErrorKind::NotFound => return Ok(beside),
+            Err(_) => return Err(Fault::Device),
+            Ok(_) => {}
+        }
+    }
+    Err(Fault::Device)
+}
+
+/// A path in the same folder, by a number.
+fn path_beside(alloc: Global, path: &str, number: u32) -> Result<String, AllocError> {
+    match path.rsplit_once('/') {
+        Some((folder, _)) => format!(in alloc; "{folder}/.btseed-{number}.part"),
+        None => format!(in alloc; ".btseed-{number}.part"),
+    }
+}
+
+fn fill_file<F: OpenFile + Write>(file: &mut F, bytes: &[u8]) -> Result<(), Fault> {
+    file.write_all(bytes).map_err(|_| Fault::Device)?;
+    file.flush().map_err(|_| Fault::Device)?;
+    file.sync_all().map_err(|_| Fault::Device)
+}
