@@ -40,13 +40,13 @@ apart_begun files k d lt = absurd (omega arith)
 pub apart_more : (files : List (Bor Made)) (i : ℕ) (m n : Bor Made) → 1 ≤ i → i < length files → m ≡ get_or files (i - 1) m → n ≡ get_or files i n
     → begins (lent_of m).path (lent_of n).path ≡ false → AreApartTo files i → AreApartTo files (i + 1)
 apart_more files i m n some lt first second apart h k d below = elim (cases_lt (k + 1) i) [
-    | inl sooner ↦ h k d sooner
-    | inr here ↦
-        let last : k ≡ i - 1 = omega arith in
-        let next : k + 1 ≡ i = omega arith in
-        let a : lent_of m ≡ get_or (map lent_of files) k d = ap lent_of first ∙ ap (λ j. lent_of (get_or files j m)) (sym last) ∙ sym (get_or-map lent_of files k m d (omega arith)) in
-        let b : lent_of n ≡ get_or (map lent_of files) (k + 1) d = ap lent_of second ∙ ap (λ j. lent_of (get_or files j n)) (sym next) ∙ sym (get_or-map lent_of files (k + 1) n d (omega arith)) in
-        ap (λ g. begins g.path (get_or (map lent_of files) (k + 1) d).path) (sym a) ∙ ap (λ g. begins (lent_of m).path g.path) (sym b) ∙ apart
+  | inl sooner ↦ h k d sooner
+  | inr here ↦
+      let last : k ≡ i - 1 = omega arith in
+      let next : k + 1 ≡ i = omega arith in
+      let a : lent_of m ≡ get_or (map lent_of files) k d = ap lent_of first ∙ ap (λ j. lent_of (get_or files j m)) (sym last) ∙ sym (get_or-map lent_of files k m d (omega arith)) in
+      let b : lent_of n ≡ get_or (map lent_of files) (k + 1) d = ap lent_of second ∙ ap (λ j. lent_of (get_or files j n)) (sym next) ∙ sym (get_or-map lent_of files (k + 1) n d (omega arith)) in
+      ap (λ g. begins g.path (get_or (map lent_of files) (k + 1) d).path) (sym a) ∙ ap (λ g. begins (lent_of m).path g.path) (sym b) ∙ apart
 ]
 
 pub apart_found : (files : List (Bor Made)) (i : ℕ) → AreApartTo files i → length files ≤ i → AreApart (map lent_of files)
@@ -93,8 +93,8 @@ rest_none (Some x) xs e = cc
 
 short_from : (n : ℕ) (e : MakeError) → refused_if (not (nat_le n (2 ^ 40))) e ≡ None → n ≤ 2 ^ 40
 short_from n e h = elim (cases_Bool (nat_le n (2 ^ 40))) [
-    | inl within ↦ grind (arith, nat_tests)
-    | inr beyond ↦ let f : Some e ≡ None = rw beyond at h in cc
+  | inl within ↦ grind (arith, nat_tests)
+  | inr beyond ↦ let f : Some e ≡ None = rw beyond at h in cc
 ]
 
 short_given : (piece_length : ℕ) (before : List Given) (f : Given) → file_refusal piece_length before f ≡ None → f.length ≤ 2 ^ 40
@@ -141,6 +141,6 @@ files_refused piece_length files is some = rw (← is, count_of files false some
 pub refused_as : (piece_length : ℕ) (files : List Made) (e : MakeError) → true ≡ is_piece_length piece_length → false ≡ (length files == 0)
     → Refuses (first_refusal (with_earlier (file_refusal piece_length) [] (map given_of files))) e → IsNotMade piece_length (map given_of files) e
 refused_as piece_length files e is some h = elim h [
-    | inl memory ↦ inl memory
-    | inr found ↦ inr (inl (files_refused piece_length files is some ∙ found))
+  | inl memory ↦ inl memory
+  | inr found ↦ inr (inl (files_refused piece_length files is some ∙ found))
 ]

@@ -112,10 +112,10 @@ opened_folder name path es key v inner seen named behind =
 pub opened_other : (name : List ℕ) (path : List (List ℕ)) (es : List (Vec ℕ × Value)) (key : Vec ℕ) (v : Value) → ((inner : Entries) → data_of v ≡ dictionary inner → key.items ≡ name → ⊥)
     → IsBehind (name ∷ path) (entries_of (es ++ (key, v) ∷ [])) → IsOpened name path (entries_of (es ++ (key, v) ∷ [])) (entries_of (es ++ (key, v) ∷ [])) no_entries
 opened_other name path es key v other behind = elim behind [
-    | inl before ↦ opened_behind name path (entries_of (es ++ (key, v) ∷ [])) before
-    | inr last ↦
-        let p = last_same (entries_of es) last.earlier key.items name (data_of v) (dictionary last.inner) (sym (entries_push es key v) ∙ last.last) in
-        absurd (other last.inner p.2 p.1)
+  | inl before ↦ opened_behind name path (entries_of (es ++ (key, v) ∷ [])) before
+  | inr last ↦
+      let p = last_same (entries_of es) last.earlier key.items name (data_of v) (dictionary last.inner) (sym (entries_push es key v) ∙ last.last) in
+      absurd (other last.inner p.2 p.1)
 ]
 
 pub opened_nothing : (name : List ℕ) (path : List (List ℕ)) → IsOpened name path no_entries no_entries no_entries

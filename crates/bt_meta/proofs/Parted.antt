@@ -45,8 +45,8 @@ pub next_behind : (p q : List (List ℕ)) (d : Data) (es : Entries) → IsBehind
 next_behind [] q d es h less apart = absurd (true≢false apart)
 next_behind (n ∷ p) [] d es h less apart = cc
 next_behind (n ∷ p) (m ∷ q) d es h less apart = elim h [
-    | inl before ↦ next_in n m p q d es es no_entries (opened_behind n p es before) before less apart (λ r s t. next_behind p q d no_entries r s t)
-    | inr last ↦ next_in n m p q d es last.earlier last.inner (opened_within n p es last.earlier last.inner last.last last.before last.behind) last.before less apart (λ r s t. next_behind p q d last.inner r s t)
+  | inl before ↦ next_in n m p q d es es no_entries (opened_behind n p es before) before less apart (λ r s t. next_behind p q d no_entries r s t)
+  | inr last ↦ next_in n m p q d es last.earlier last.inner (opened_within n p es last.earlier last.inner last.last last.before last.behind) last.before less apart (λ r s t. next_behind p q d last.inner r s t)
 ]
   where
     next_in : (n m : List ℕ) (p q : List (List ℕ)) (d : Data) (es earlier inner : Entries) → IsOpened n p es earlier inner → AreBefore n earlier → path_order (n ∷ p) (m ∷ q) ≡ Less → begins (n ∷ p) (m ∷ q) ≡ false
@@ -78,7 +78,7 @@ pub record IsGrown (files : List Given) (i : ℕ) (tree : Entries) : Type 0 wher
 
 pub grown_begun : (files : List Given) → IsGrown files 0 no_entries
 unfolding tree_made
-grown_begun files = record { made = refl; behind = λ d lt. behind_none (get_or files 0 d).path; }
+grown_begun files = record { made = refl; behind = λ d lt. behind_none (get_or files 0 d).path }
 
 made_more : (files : List Given) (i : ℕ) (f : Given) → i < length files → f ≡ get_or files i f → tree_made (take (i + 1) files) ≡ put (tree_made (take i files)) f
 unfolding tree_made

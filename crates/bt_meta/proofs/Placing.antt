@@ -24,8 +24,8 @@ ends_before f files j k d lt le =
 
 sums_rise : (f : File → ℕ) (files : List File) (j k : ℕ) (d : File) → j ≤ k → k ≤ length files → sum_by f (take j files) ≤ sum_by f (take k files)
 sums_rise f files j k d le within = elim (cases_lt j k) [
-    | inl lt ↦ omega (arith, ends_before f files j k d lt within)
-    | inr ge ↦ let same : j ≡ k = omega arith in rw same (omega arith)
+  | inl lt ↦ omega (arith, ends_before f files j k d lt within)
+  | inr ge ↦ let same : j ≡ k = omega arith in rw same (omega arith)
 ]
 
 begins : (torrent : Metainfo) → IsLaidOut torrent.piece_length torrent.files → (j k : ℕ) (d : File) → j < k → k < length torrent.files
@@ -74,16 +74,16 @@ none_begun items piece point h none k d listed =
 pub only_there : (torrent : Metainfo) (piece begin count index : ℕ) (span : Span) → IsLaidOut torrent.piece_length torrent.files → IsLastBegun torrent.files piece index → IsPlace torrent piece begin count span
     → span.file ≡ index
 only_there torrent piece begin count index span lay last place = elim (cases_lt span.file index) [
-    | inl before ↦
-        let ends = begins torrent lay span.file index place.file before last.listed in
+  | inl before ↦
+      let ends = begins torrent lay span.file index place.file before last.listed in
+      let found = place.found place.file in
+      absurd (omega (arith, ends, last.begun place.file, place.below, ap (λ f. f.first_piece + piece_count torrent.piece_length f.length) found))
+  | inr not_before ↦ elim (cases_lt index span.file) [
+    | inl after ↦
         let found = place.found place.file in
-        absurd (omega (arith, ends, last.begun place.file, place.below, ap (λ f. f.first_piece + piece_count torrent.piece_length f.length) found))
-    | inr not_before ↦ elim (cases_lt index span.file) [
-        | inl after ↦
-            let found = place.found place.file in
-            absurd (omega (arith, last.last span.file place.file after place.listed, place.from, ap (λ f. f.first_piece) found))
-        | inr not_after ↦ omega arith
-    ]
+        absurd (omega (arith, last.last span.file place.file after place.listed, place.from, ap (λ f. f.first_piece) found))
+    | inr not_after ↦ omega arith
+  ]
 ]
 
 pub nowhere : (torrent : Metainfo) (piece begin count : ℕ) (span : Span) → HasNoneBegun torrent.files piece → IsPlace torrent piece begin count span → ⊥
@@ -102,8 +102,8 @@ none_of files items piece point (Some index) same h one = tt
 
 within_pieces : (n p q : ℕ) → 0 < p → q * p < n → q < div_ceil n p
 within_pieces n p q some lt = elim (cases_lt q (div_ceil n p)) [
-    | inl below ↦ below
-    | inr above ↦ let most : div_ceil n p * p ≤ q * p = mul-le-mul_right p above in absurd (omega (arith, (div_ceil_times n p some).0))
+  | inl below ↦ below
+  | inr above ↦ let most : div_ceil n p * p ≤ q * p = mul-le-mul_right p above in absurd (omega (arith, (div_ceil_times n p some).0))
 ]
 
 pub entry_at : (files : List File) (items : List FileEntry) (k : ℕ) (e : FileEntry) → map file_of items ≡ files → e ≡ get_or items k e → k < length files

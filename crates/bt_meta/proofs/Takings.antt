@@ -69,8 +69,8 @@ pub record Taking (piece_length : ℕ) (files : List Made) (i : ℕ) (tally : Ta
 
 pub taking_begun : (piece_length : ℕ) (files : List Made) (tally : Tally) → tally.files ≡ 0 → tally.pieces ≡ 0 → tally.lengths.entries ≡ [] → Taking piece_length files 0 tally
 taking_begun piece_length files tally none no_pieces no_lengths = record {
-  within = record { files = omega arith; pieces = omega arith; };
-  taken = record { count = none; pieces = no_pieces; lengths = λ root n. rw no_lengths refl; };
+  within = record { files = omega arith; pieces = omega arith };
+  taken = record { count = none; pieces = no_pieces; lengths = λ root n. rw no_lengths refl };
   faultless = refl;
 }
 

@@ -40,10 +40,10 @@ turn : (piece_length : ℕ) (layers : Data) (before places : List Place) (k : �
     ≡ pieces_of piece_length before + sum_by (count piece_length) (take k (files_from piece_length layers before places))
 turn piece_length layers before [] k d lt = elim lt [ ]
 turn piece_length layers before (p ∷ places) k d lt = elim (cases_Bool (is_file p)) [
-    | inl file ↦ rw file (step (pieces_of piece_length before) (count piece_length) (file_at piece_length layers before p) (files_from piece_length layers (before ++ p ∷ []) places) k d refl
-        (λ j below. turn piece_length layers (before ++ p ∷ []) places j d below ∙ ap (λ n. n + sum_by (count piece_length) (take j (files_from piece_length layers (before ++ p ∷ []) places))) (pieces_after piece_length before p file))
-        (rw file at lt))
-    | inr folder ↦ rw folder (turn piece_length layers before places k d (rw folder at lt))
+  | inl file ↦ rw file (step (pieces_of piece_length before) (count piece_length) (file_at piece_length layers before p) (files_from piece_length layers (before ++ p ∷ []) places) k d refl
+      (λ j below. turn piece_length layers (before ++ p ∷ []) places j d below ∙ ap (λ n. n + sum_by (count piece_length) (take j (files_from piece_length layers (before ++ p ∷ []) places))) (pieces_after piece_length before p file))
+      (rw file at lt))
+  | inr folder ↦ rw folder (turn piece_length layers before places k d (rw folder at lt))
 ]
 
 pub in_turn : (piece_length : ℕ) (layers tree : Data) (k : ℕ) (d : File) → k < length (files_of piece_length layers tree)
@@ -83,7 +83,7 @@ within_count n m a b e = grind (arith, nat_tests)
 count_one : (piece_length : ℕ) (before : List Place) (p : Place) → entry_check piece_length before p ≡ None → length (filter is_file before) ≤ 65536 → length (filter is_file (before ++ p ∷ [])) ≤ 65536
 count_one piece_length before p h few =
     let many : is_too_many piece_length before p ≡ false = not_faulty (is_too_many piece_length before p) TooMany (fourth (fault_if (not (is_node p.value)) Tree) (fault_if (not (has_lawful_name p)) BadPath)
-        (if is_file p then first_of (file_checks before p) else None) (fault_if (is_too_many piece_length before p) TooMany) h) in
+    (if is_file p then first_of (file_checks before p) else None) (fault_if (is_too_many piece_length before p) TooMany) h) in
     elim (cases_Bool (is_file p)) [
       | inl file ↦ within_count (length (filter is_file (before ++ p ∷ []))) 0 (nat_lt 64 (length p.path)) (nat_lt (2 ^ 21) (pieces_of piece_length (before ++ p ∷ []))) (rw file at many)
       | inr folder ↦

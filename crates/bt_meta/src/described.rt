@@ -86,11 +86,7 @@ fn folder_with(
 
 /// A folder without its last entry, and the entries of that one, where it is a folder of this name; else the folder as
 /// it is, and no entries.
-fn open_last(
-    alloc: Global,
-    folder: Entries,
-    name: &[u8],
-) -> Result<(Entries, Entries), AllocError>
+fn open_last(alloc: Global, folder: Entries, name: &[u8]) -> Result<(Entries, Entries), AllocError>
     ensures { IfOk result (λ opened. (path : List (List ℕ)) → IsBehind (name.now ∷ path) (entries_of folder.items) → IsOpened name.now path (entries_of folder.items) (entries_of opened.0.items) (entries_of opened.1.items)) }
 {
     let mut folder = folder;

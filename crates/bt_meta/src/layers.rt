@@ -128,7 +128,12 @@ fn find<'a>(entries: &'a [(Vec<u8>, Value)], key: &[u8]) -> Option<&'a Value>
 }
 
 /// Refuses a layer that is not the one of a file's pieces.
-pub(crate) fn check(root: &Hash32, length: u64, piece_length: u32, layer: &[u8]) -> Result<(), MetaError>
+pub(crate) fn check(
+    root: &Hash32,
+    length: u64,
+    piece_length: u32,
+    layer: &[u8],
+) -> Result<(), MetaError>
     requires lawful { is_piece_length piece_length ≡ true }
     requires long { piece_length < length }
     requires short { length ≤ 2 ^ 40 }

@@ -17,7 +17,6 @@ pub use reader::{MAX_TEXT_LENGTH, read_info, read_torrent};
 pub use torrent::{FileEntry, Span, Torrent};
 
 #[cfg(test)]
-mod tests;
-
-#[cfg(test)]
 mod making_tests;
+#[cfg(test)]
+mod tests;

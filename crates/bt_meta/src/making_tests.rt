@@ -1,4 +1,4 @@
-use crate::{Made, MakeError, make, read_torrent};
+use crate::{Made, MakeError, Span, make, read_torrent};
 use bt_tree::Hash32;
 use sha2::{Digest, Sha256};
 use std::alloc::{AllocError, Global};
@@ -69,7 +69,88 @@ fn puts_the_files_in_tree_order(rt: HostRuntime) -> Result<(), Fail> {
         paths.push(' ')?;
     }
     assert_eq!(rt; paths.as_str(), "/a/b/c /a/empty /a/z /a.b/x /b ");
-    assert_eq!(rt; torrent.files()[1].root, [0; 32]);
+    let empty = torrent.files().get(1);
+    assert!(rt; empty.is_some_and(|file| file.root == [0; 32]));
     assert_eq!(rt; torrent.pieces(), 4);
+    Ok(())
+}
+
+/// One refusal of `make` for each rule, and of each pair of neighbouring rules the earlier one.
+#[test]
+fn refuses_files_by_name(rt: HostRuntime) -> Result<(), Fail> {
+    let alloc = rt.alloc();
+    let bad_path = made(alloc, "..", 1 << 41, [7; 32], &[])?;
+    let bad_length = made(alloc, "a", 1 << 41, [7; 32], &[1])?;
+    let bad_size = made(alloc, "a", 16_385, [7; 32], &[1])?;
+    let bad_layer = made(alloc, "a", 16_385, [7; 32], &[1; 64])?;
+    assert_eq!(rt;
+        make(alloc, b"n", 20_000, &[]).err(),
+        Some(MakeError::PieceLength)
+    );
+    assert_eq!(rt; refusal(alloc, &[bad_path]), Some(MakeError::BadPath));
+    assert_eq!(rt; refusal(alloc, &[bad_length]), Some(MakeError::FileLength));
+    assert_eq!(rt; refusal(alloc, &[bad_size]), Some(MakeError::LayerSize));
+    assert_eq!(rt; refusal(alloc, &[bad_layer]), Some(MakeError::LayerDiffers));
+    let twin = made(alloc, "b", 2, [7; 32], &[])?;
+    assert_eq!(rt;
+        refusal(alloc, &[small(alloc, "a")?, twin]),
+        Some(MakeError::RootConflict)
+    );
+    Ok(())
+}
+
+#[test]
+fn refuses_paths_that_exclude_each_other(rt: HostRuntime) -> Result<(), Fail> {
+    let alloc = rt.alloc();
+    let folder = [small(alloc, "a/b")?, small(alloc, "a")?];
+    assert_eq!(rt; refusal(alloc, &folder), Some(MakeError::BadPath));
+    let same = [small(alloc, "a/b")?, small(alloc, "a/b")?];
+    assert_eq!(rt; refusal(alloc, &same), Some(MakeError::BadPath));
+    let apart = [small(alloc, "a/b")?, small(alloc, "a.b")?];
+    assert_eq!(rt; refusal(alloc, &apart), None);
+    assert_eq!(rt;
+        refusal(alloc, &[small(alloc, "a//b")?]),
+        Some(MakeError::BadPath)
+    );
+    Ok(())
+}
+
+#[test]
+fn refuses_a_path_of_65_elements(rt: HostRuntime) -> Result<(), Fail> {
+    let alloc = rt.alloc();
+    let mut path = String::from_str(alloc, "a")?;
+    for _ in 0..63 {
+        path.push_str("/a")?;
+    }
+    assert_eq!(rt; refusal(alloc, &[small(alloc, path.as_str())?]), None);
+    path.push_str("/a")?;
+    assert_eq!(rt;
+        refusal(alloc, &[small(alloc, path.as_str())?]),
+        Some(MakeError::Count)
+    );
+    Ok(())
+}
+
+#[test]
+fn places_ranges_in_their_files(rt: HostRuntime) -> Result<(), Fail> {
+    let alloc = rt.alloc();
+    let files = [
+        made(alloc, "a", 0, [0; 32], &[])?,
+        made(alloc, "b", 16_384, [1; 32], &[])?,
+        made(alloc, "c", 5, [2; 32], &[])?,
+    ];
+    let torrent = read_torrent(alloc, &make(alloc, b"n", 16_384, &files)?)?;
+    let span = |file, start, length| Some(Span {
+        file,
+        start,
+        length,
+    });
+    assert_eq!(rt; torrent.place(0, 0, 16_384), span(1, 0, 16_384));
+    assert_eq!(rt; torrent.place(0, 384, 16_000), span(1, 384, 16_000));
+    assert_eq!(rt; torrent.place(0, 385, 16_000), None);
+    assert_eq!(rt; torrent.place(1, 1, 4), span(2, 1, 4));
+    assert_eq!(rt; torrent.place(1, 1, 5), None);
+    assert_eq!(rt; torrent.place(1, 1, 0), None);
+    assert_eq!(rt; torrent.place(2, 0, 1), None);
     Ok(())
 }

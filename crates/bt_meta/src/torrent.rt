@@ -125,7 +125,10 @@ impl Torrent {
         let file = &self.files[index];
         let at = (piece - file.first_piece) as u64 * self.piece_length as u64;
         let end = begin as u64 + length as u64;
-        if length == 0 || length > MAX_RANGE || end > self.piece_length as u64 || at + end > file.length
+        if length == 0
+            || length > MAX_RANGE
+            || end > self.piece_length as u64
+            || at + end > file.length
         {
             return None;
         }
@@ -141,9 +144,7 @@ impl Torrent {
         ensures some { IfSome result (IsLastBegun self.now.files piece) }
         ensures none { IfNone result (HasNoneBegun self.now.files piece) }
     {
-        let begun = self
-            .files
-            .partition_point(|file| file.first_piece <= piece);
+        let begun = self.files.partition_point(|file| file.first_piece <= piece);
         begun.checked_sub(1)
     }
 }

@@ -1,4 +1,4 @@
-use Rattle.std.proofs.Common.{arith, rules, ◌≡◌, ◌∷◌, [], map, sym, ◌∙◌, ap}
+use Rattle.std.proofs.Common.{arith, ◌≡◌, ◌∷◌, map, sym, ◌∙◌, ap}
 use Rattle.std.specs.Prelude.{string_bytes}
 use Rattle.std.proofs.lemmas.Result.{IfOk-weaker}
 use Rattle.bt_bencode.specs.Data.{dictionary, no_entries, entry}
@@ -14,7 +14,7 @@ returns-in_default t c =
     let none = no_path c.args.path.now c.in_default.ensures.cases in
     let empty : entries_of c.args.folder.items ≡ no_entries = rw (none) at c.requires in
     IfOk-weaker c.entries_with.result _ _ (λ x h. h ∙ file_alone (data_of c.args.properties) (entries_of c.args.folder.items) empty ∙ ap (λ p. with_file (map string_bytes p) (data_of c.args.properties) (entries_of c.args.folder.items)) (sym none))
-        c.entries_with.ensures
+    c.entries_with.ensures
 
 pub folder_with-requires : goal.folder_with-requires
 folder_with-requires t c =
@@ -33,7 +33,7 @@ returns t c =
     let opened = c.in_ok-folder.ensures rest behind in
     let inner : data_of (views.Dict c.in_ok-inner.inner) ≡ dictionary (with_file rest d (entries_of c.in_ok-folder.inner.items)) = data_of-Dict c.in_ok-inner.inner ∙ ap dictionary c.in_ok-inner.ensures in
     let made = ap (λ v. entries_before (entries_of c.in_ok-folder.folder.items) (entry name v no_entries)) inner
-        ∙ file_in name rest d (entries_of c.args.folder.items) (entries_of c.in_ok-folder.folder.items) (entries_of c.in_ok-folder.inner.items) opened
-        ∙ ap (λ p. with_file p d (entries_of c.args.folder.items)) (sym whole) in
+    ∙ file_in name rest d (entries_of c.args.folder.items) (entries_of c.in_ok-folder.folder.items) (entries_of c.in_ok-folder.inner.items) opened
+    ∙ ap (λ p. with_file p d (entries_of c.args.folder.items)) (sym whole) in
     IfOk-weaker c.entries_with-2.result _ _ (λ x h. h ∙ ap (λ n. entries_before (entries_of c.in_ok-folder.folder.items) (entry n (data_of (views.Dict c.in_ok-inner.inner)) no_entries)) (c.as_bytes-2.ensures.value ∙ sym c.as_bytes.ensures.value) ∙ made)
-        c.entries_with-2.ensures
+    c.entries_with-2.ensures

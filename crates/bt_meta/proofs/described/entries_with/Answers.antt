@@ -1,5 +1,3 @@
-use Rattle.std.proofs.Common.{◌∙◌, ap}
-use Rattle.bt_bencode.specs.View.{entries_of}
 use Rattle.bt_meta.proofs.Folders.{entries_push}
 use Rattle.bt_meta.proofs.described.entries_with.Goals as goal
 

@@ -1,6 +1,6 @@
-use Rattle.std.proofs.Common.{arith, rules, map, length, get_or, sym, ◌∙◌, ap, ◌≡◌, ◌<◌, ◌+◌, refl}
-use Rattle.std.proofs.lemmas.List.{length-map, get_or-map}
-use Rattle.bt_bencode.specs.View.{data_of, entries_of}
+use Rattle.std.proofs.Common.{arith, map, length, ◌∙◌, ◌≡◌, ◌<◌, refl}
+use Rattle.std.proofs.lemmas.List.{length-map}
+use Rattle.bt_bencode.specs.View.{entries_of}
 use Rattle.bt_meta.specs.Making.{lent_of, with_file, properties_made}
 use Rattle.bt_meta.proofs.Parted.{grown_begun, grown_more, grown_found, lent_at, behind_here}
 use Rattle.bt_meta.proofs.described.tree_of.Goals as goal
@@ -20,7 +20,7 @@ loop-file-preserved c =
     let i = c.loop-file.file-index in
     let lt : i < length (map lent_of c.args.files.now) = rw (length-map c.args.files.now lent_of) c.loop-file-test.true in
     let put : entries_of c.in_ok-tree.tree.items ≡ with_file (lent_of m).path (properties_made (lent_of m)) (entries_of c.loop-file.tree.items) =
-        c.in_ok-tree.ensures ∙ rw (c.deref.ensures.value, c.in_ok-properties_of.ensures) refl in
+    c.in_ok-tree.ensures ∙ rw (c.deref.ensures.value, c.in_ok-properties_of.ensures) refl in
     rw put (grown_more (map lent_of c.args.files.now) i (lent_of m) (entries_of c.loop-file.tree.items) c.requires.parted lt (lent_at c.args.files.now i m c.loop-file-test.true c.file-item.is) c.loop-file.invariant)
 
 pub returns : goal.returns

@@ -1,4 +1,4 @@
-use Rattle.std.proofs.Common.{◌≡◌, ◌∙◌, ap, map, refl}
+use Rattle.std.proofs.Common.{◌∙◌, ap, map}
 use Rattle.std.specs.Prelude.{codes}
 use Rattle.bt_bencode.specs.Data.{dictionary, no_entries, entry}
 use Rattle.bt_bencode.specs.View.{data_of, entries_of}

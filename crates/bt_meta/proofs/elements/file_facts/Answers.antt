@@ -1,7 +1,7 @@
 use Rattle.bt_bencode.specs.View.{data_of}
 use Rattle.bt_meta.specs.Files.{length_in, root_in}
 use Rattle.bt_meta.specs.Faults.{has_lawful_length, has_lawful_root}
-use Rattle.std.proofs.Common.{◌≤◌, ◌^◌, arith}
+use Rattle.std.proofs.Common.{arith}
 use Rattle.bt_meta.proofs.Kept.{kept}
 use Rattle.bt_meta.proofs.FileAdding.{lawful_is_short, properties_pass}
 use Rattle.bt_meta.proofs.elements.file_facts.Goals as goal

@@ -1,4 +1,4 @@
-use Rattle.std.proofs.Common.{◌≡◌, ℕ, ◌∙◌, ◌≤◌, Err, refl, sym, ap, subst}
+use Rattle.std.proofs.Common.{◌≡◌, ℕ, ◌∙◌, Err, refl, ap, subst}
 use Rattle.sha2.specs.Sha256.{sha256}
 use Rattle.bt_tree.specs.Blocks.{block_count}
 use Rattle.bt_tree.specs.TreeShape.{height_of, IsHeight}

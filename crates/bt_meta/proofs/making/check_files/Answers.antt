@@ -1,6 +1,6 @@
-use Rattle.std.proofs.Common.{rules, refl, arith}
+use Rattle.std.proofs.Common.{refl, arith}
 use Rattle.std.proofs.lemmas.Result.{err_from_is_err_and}
-use Rattle.bt_meta.proofs.Takings.{Taking, taking_begun, taking_more, taking_stops, taking_found}
+use Rattle.bt_meta.proofs.Takings.{taking_begun, taking_more, taking_stops, taking_found}
 use Rattle.bt_meta.proofs.making.check_files.Goals as goal
 
 pub loop-file-init : goal.loop-file-init
@@ -13,7 +13,7 @@ pub returns-in_err-take : goal.returns-in_err-take
 returns-in_err-take c =
     let p = err_from_is_err_and c.from_residual.result c.from_residual.ensures.1 in
     rw (p.1, p.2) (taking_stops c.args.piece_length c.args.files.now c.loop-file.file-index c.file-item.result c.loop-file.tally c.in_err-take.field-0.0 c.loop-file-test.true c.file-item.is
-        c.loop-file.invariant c.in_err-take.ensures.refused)
+    c.loop-file.invariant c.in_err-take.ensures.refused)
 
 pub loop-file-preserved : goal.loop-file-preserved
 loop-file-preserved c =

@@ -1,4 +1,4 @@
-use Rattle.std.proofs.Common.{arith, sym, ◌∙◌, ap, refl}
+use Rattle.std.proofs.Common.{arith, sym, ◌∙◌, refl}
 use Rattle.bt_meta.proofs.Apart.{apart_begun, apart_more, apart_found}
 use Rattle.bt_meta.proofs.making.has_overlap.Goals as goal
 
@@ -8,7 +8,7 @@ loop-i-init c = apart_begun c.args.files.now
 pub loop-i-preserved : goal.loop-i-preserved
 loop-i-preserved c =
     apart_more c.args.files.now c.loop-i.i c.index-files-i.result c.index-files-i-in-loop-i.result c.loop-i.auto.i c.loop-i-test.true c.index-files-i.is c.index-files-i-in-loop-i.is
-        (sym (c.if-begins.ensures ∙ rw (c.deref.ensures.value, c.deref-in-loop-i.ensures.value, ← c.index-files-i.is, ← c.index-files-i-in-loop-i.is) refl)) c.loop-i.invariant
+    (sym (c.if-begins.ensures ∙ rw (c.deref.ensures.value, c.deref-in-loop-i.ensures.value, ← c.index-files-i.is, ← c.index-files-i-in-loop-i.is) refl)) c.loop-i.invariant
 
 pub returns : goal.returns
 returns c none = apart_found c.args.files.now c.loop-i.i c.loop-i.invariant (omega (arith, c.loop-i-test.false))

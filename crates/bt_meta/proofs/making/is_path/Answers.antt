@@ -1,9 +1,7 @@
-use Rattle.std.proofs.Common.{rules, tests, arith, ◌≡◌, ◌∙◌, sym, map}
-use Rattle.std.specs.Prelude.{string_bytes, not, ◌&&◌, ◌==◌, length}
-use Rattle.std.specs.List.{list_all}
+use Rattle.std.proofs.Common.{rules, tests}
+use Rattle.std.specs.Prelude.{string_bytes}
 use Rattle.std.proofs.lemmas.Iterator.{YieldsList-from_slice}
 use Rattle.std.proofs.lemmas.Iterator.Search.{all_from_yields_List}
-use Rattle.std.proofs.lemmas.List.Folds.{list_all-map}
 use Rattle.bt_meta.specs.Making.{is_element}
 use Rattle.bt_meta.proofs.Takings.{path_test}
 use Rattle.bt_meta.proofs.making.is_path.Goals as goal

@@ -1,4 +1,4 @@
-use Rattle.std.proofs.Common.{arith, ap, sym, ◌∙◌, refl, inl, inr, map, ◌≡◌, Bool, false}
+use Rattle.std.proofs.Common.{arith, ap, ◌∙◌, refl, inl, inr, map}
 use Rattle.std.proofs.lemmas.Result.{err_from_is_err_and}
 use Rattle.bt_bencode.specs.Spelling.{spelling_of}
 use Rattle.bt_meta.specs.Making.{given_of, lent_of, value_made}
@@ -23,7 +23,7 @@ returns-then-has_overlap-clause-refused c =
 pub value_of-requires-clause-parted : goal.value_of-requires-clause-parted
 value_of-requires-clause-parted c =
     rw (c.deref-2.ensures.value) (parted (map given_of c.args.files.now) (map lent_of c.in_ok-ordered.ordered.items) c.in_ok-ordered.ensures
-        (rw (c.deref.ensures.value) at (c.has_overlap.ensures c.if-has_overlap.false)))
+    (rw (c.deref.ensures.value) at (c.has_overlap.ensures c.if-has_overlap.false)))
 
 pub value_of-requires-clause-short : goal.value_of-requires-clause-short
 value_of-requires-clause-short c =

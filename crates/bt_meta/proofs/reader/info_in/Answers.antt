@@ -1,4 +1,4 @@
-use Rattle.std.proofs.Common.{◌∙◌, sym, map, inl, inr}
+use Rattle.std.proofs.Common.{◌∙◌, sym, map, inr}
 use Rattle.std.proofs.lemmas.Result.{err_from_is_err_and}
 use Rattle.bt_bencode.specs.View.{data_of}
 use Rattle.bt_meta.specs.Fields.{no_dictionary}

@@ -1,6 +1,6 @@
-use Rattle.std.proofs.Common.{◌≤◌, ◌^◌, length, ap, ◌∙◌, subst, arith}
+use Rattle.std.proofs.Common.{ap, ◌∙◌, arith}
 use Rattle.std.proofs.lemmas.Result.{err_from_is_err_and}
-use Rattle.bt_bencode.specs.Spelling.{spelling_of, IsCanonical}
+use Rattle.bt_bencode.specs.Spelling.{spelling_of}
 use Rattle.bt_bencode.specs.View.{data_of}
 use Rattle.bt_meta.specs.Faults.{first_info_fault}
 use Rattle.bt_meta.specs.Refusals.{too_long, no_spelling}

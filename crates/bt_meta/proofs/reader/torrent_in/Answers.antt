@@ -2,7 +2,7 @@ use Rattle.std.proofs.Common.{◌≡◌, sym, ◌∙◌, ap, map, inr}
 use Rattle.std.proofs.lemmas.Result.{err_from_is_err_and}
 use Rattle.bt_bencode.specs.View.{data_of}
 use Rattle.bt_meta.specs.Files.{file_of, files_of}
-use Rattle.bt_meta.specs.Faults.{first_fault, layers_of}
+use Rattle.bt_meta.specs.Faults.{layers_of}
 use Rattle.bt_meta.specs.Torrent.{metainfo_of}
 use Rattle.bt_meta.specs.Reading.{with_layer}
 use Rattle.bt_meta.proofs.Heads.{no_info, info_is, torrent_info_fault, info_head_fault, torrent_tree_refuses, torrent_layers, torrent_layers_refuse, metainfo_is}
@@ -38,7 +38,7 @@ torrent_of-requires-clause-laid_out c =
     let pl = c.in_ok-head.head.piece_length in
     let tree = data_of c.in_ok-head.head.tree.now in
     let files : map file_of c.add_layers.new.files.items ≡ files_of pl layers tree =
-        c.in_ok-add_layers.ensures.whole ∙ ap (map (with_layer pl layers)) c.in_ok-listing.ensures.files ∙ files_with_layers pl layers tree in
+    c.in_ok-add_layers.ensures.whole ∙ ap (map (with_layer pl layers)) c.in_ok-listing.ensures.files ∙ files_with_layers pl layers tree in
     rw files (laid_out pl layers tree c.in_ok-listing.ensures.faultless)
 
 pub torrent_of-requires-clause-counted : goal.torrent_of-requires-clause-counted

@@ -1,11 +1,11 @@
-use Rattle.std.proofs.Common.{◌≡◌, ℕ, ◌+◌, ◌∷◌, ◌++◌, [], List, Some, take, length, refl, sym, ap, subst, ◌∙◌, arith}
+use Rattle.std.proofs.Common.{◌≡◌, ℕ, ◌+◌, ◌∷◌, ◌++◌, [], List, take, length, refl, sym, ap, subst, ◌∙◌, arith}
 use Rattle.std.proofs.lemmas.List.{take_all}
 use Rattle.std.proofs.lemmas.Result.{err_from_is_err_and}
-use Rattle.bt_bencode.specs.Data.{Data, dictionary}
+use Rattle.bt_bencode.specs.Data.{dictionary}
 use Rattle.bt_bencode.specs.View.{data_of, entries_of}
 use Rattle.bt_bencode.proofs.Views.{data_of-Dict}
 use Rattle.bt_meta.specs.Places.{Place, places_below, places_among}
-use Rattle.bt_meta.specs.Walks.{texts, entry_places, Passes, Stops, IsEntered}
+use Rattle.bt_meta.specs.Walks.{texts, entry_places, Passes, Stops}
 use Rattle.bt_meta.specs.declared.walk.Walk.{Walk}
 use Rattle.bt_meta.proofs.Dictionaries.{below_entries, nothing_below, no_dictionary_is}
 use Rattle.bt_meta.proofs.WalkSteps.{passes_nothing, places_first, folder_stops, inner_stops, inner_passes, folder_passes_more}

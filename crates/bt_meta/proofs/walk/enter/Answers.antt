@@ -1,10 +1,10 @@
-use Rattle.std.proofs.Common.{◌≡◌, List, ◌∷◌, ◌++◌, [], Some, true, false, refl, sym, ap, subst, ◌∙◌, arith}
+use Rattle.std.proofs.Common.{List, ◌∷◌, ◌++◌, [], sym, subst, arith}
 use Rattle.std.proofs.lemmas.List.{length-map}
 use Rattle.std.proofs.lemmas.Result.{err_from_is_err_and}
 use Rattle.bt_bencode.specs.View.{data_of}
-use Rattle.bt_meta.specs.Places.{Place, places_below}
-use Rattle.bt_meta.specs.Faults.{is_path_element, is_node}
-use Rattle.bt_meta.specs.Walks.{texts, entry_places, IsNodeOf, Passes}
+use Rattle.bt_meta.specs.Places.{Place}
+use Rattle.bt_meta.specs.Faults.{is_path_element}
+use Rattle.bt_meta.specs.Walks.{texts, IsNodeOf, Passes}
 use Rattle.bt_meta.specs.declared.walk.Node.{Node}
 use Rattle.bt_meta.proofs.Kept.{kept, dropped}
 use Rattle.bt_meta.proofs.Dictionaries.{empty_key, key_places}

@@ -1,5 +1,5 @@
 use Rattle.std.proofs.Common.{◌≡◌, ◌≤◌, ◌-◌, ◌*◌, map, arith, ap}
-use Rattle.bt_meta.specs.Files.{File, file_of}
+use Rattle.bt_meta.specs.Files.{file_of}
 use Rattle.bt_meta.specs.Torrent.{IsLaidOut}
 use Rattle.bt_meta.specs.Place.{IsLastBegun}
 use Rattle.bt_meta.proofs.Placing.{entry_at, fits, place_at}
@@ -42,4 +42,4 @@ returns-clause-some c =
     let found = entry_at torrent.files c.self.inside.files.items c.in-Some.index e same c.index-file.ensures last.listed in
     let some : 1 ≤ c.args.length = omega (arith, c.if-length-eq0.false) in
     rw (ap (λ t. t.piece_length) c.self.view_is) (place_at torrent c.args.piece c.args.begin c.args.length c.in-Some.index (file_of e) last found some c.if-length-gt-MAX_RANGE.false
-        (rw (← ap (λ t. t.piece_length) c.self.view_is) c.if-end-self.false) (rw (← ap (λ t. t.piece_length) c.self.view_is) c.if-at-end.false))
+    (rw (← ap (λ t. t.piece_length) c.self.view_is) c.if-end-self.false) (rw (← ap (λ t. t.piece_length) c.self.view_is) c.if-at-end.false))
