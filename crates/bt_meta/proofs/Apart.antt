@@ -1,19 +1,18 @@
 -- Of files in tree order, whether a path begins the next one.
-use Rattle.std.proofs.Common.{subst, ◌≡◌, ℕ, ◌+◌, ◌-◌, ◌<◌, ◌≤◌, ◌^◌, Bool, true, false, List, [], ◌∷◌, ◌++◌, length, map, refl, sym, ap, ◌∙◌, arith, inl, inr, Option, None, Some}
-use Rattle.std.specs.Prelude.{String, string_bytes, get_or, take, nat_eq, nat_le, not, ◌&&◌, ◌==◌}
+use Rattle.std.proofs.Common.{subst, ◌≡◌, ℕ, ◌+◌, ◌-◌, ◌<◌, ◌≤◌, ◌^◌, Bool, true, false, List, [], ◌∷◌, ◌++◌, length, map, refl, sym, ap, ◌∙◌, arith, inl, inr, None, Some}
+use Rattle.std.specs.Prelude.{String, string_bytes, get_or, nat_eq, nat_le, not, ◌&&◌, ◌==◌}
 use Rattle.std.specs.Global.{Global}
 use Rattle.std.specs.Borrow.{Bor}
 use Rattle.std.specs.String.{string_eq}
 use Rattle.std.specs.Ordering.{nat_cmp, is_lt, ordering_then, ordering_reverse}
 use Rattle.std.specs.Cmp.Lexicographic.{slice_cmp, pointwise, lists_total, nat_list_cmp_total}
 use Rattle.std.specs.List.{starts_with, All}
-use Rattle.std.specs.List.Sorted.{IsPermutation, IsSortedBy}
 use Rattle.std.specs.declared.cmp.Ordering.{Ordering}
 use Rattle.std.specs.declared.cmp.Ordering.TheVariants.{Less, Equal, Greater}
 use Rattle.std.proofs.lemmas.Bool.{cases_lt, true≢false}
 use Rattle.std.proofs.lemmas.List.{get_or-map, length-map}
 use Rattle.std.proofs.lemmas.Slice.Eq.{bytes_eq-Decides}
-use Rattle.bt_meta.specs.Making.{Given, given_of, lent_of, begins, path_order, is_before, IsInTreeOrder, IsParted, AreApart, Check, first_refusal, refused_if, file_refusal, own_refusal, layer_refusal, conflict_with, is_beyond, is_path, refusal_of_files, Refuses, IsNotMade}
+use Rattle.bt_meta.specs.Making.{Given, given_of, lent_of, begins, path_order, IsInTreeOrder, IsParted, AreApart, Check, first_refusal, refused_if, file_refusal, own_refusal, layer_refusal, conflict_with, is_beyond, is_path, refusal_of_files, Refuses, IsNotMade}
 use Rattle.bt_meta.specs.Faults.{is_piece_length}
 use Rattle.std.proofs.lemmas.Bool.{cases_Bool}
 use Rattle.std.proofs.lemmas.Bool.Decides.{nat_tests}

@@ -1,6 +1,6 @@
 -- What dictionaries have.
 use Rattle.std.proofs.Common.{◌≡◌, ◌⊎◌, inl, inr, ℕ, ℤ, Bool, true, false, List, [], ◌∷◌, ◌++◌, length, Option, None, Some, refl, sym, ap, subst, ◌∙◌, arith}
-use Rattle.std.specs.Prelude.{codes, unwrap_or, nat_eq, not, ◌&&◌, ◌||◌, ◌==◌, is_some, if◌then◌else◌}
+use Rattle.std.specs.Prelude.{codes, unwrap_or, nat_eq, ◌==◌, if◌then◌else◌}
 use Rattle.std.specs.Option.{option_and_then}
 use Rattle.std.specs.Cmp.Lexicographic.{pointwise}
 use Rattle.std.specs.Global.{Vec}
@@ -14,7 +14,7 @@ use Rattle.bt_bencode.proofs.Views.{data_of-Int, data_of-Bytes, data_of-List}
 use Rattle.bt_bencode.specs.declared.value.Value.TheViews as views
 use Rattle.bt_bencode.specs.declared.value.Value.{Value, Int, Bytes}
 use Rattle.bt_meta.specs.Fields.{as_dictionary, has_key, dictionary_at, string_at, entries_in, no_dictionary}
-use Rattle.bt_meta.specs.Places.{Place, places_below, places_among}
+use Rattle.bt_meta.specs.Places.{places_below, places_among}
 use Rattle.bt_meta.specs.Faults.{is_dictionary, is_single, is_node, layers_of}
 use Rattle.bt_meta.specs.Walks.{entry_places}
 

@@ -1,9 +1,8 @@
 -- What the checks of one entry come to.
-use Rattle.std.proofs.Common.{◌≡◌, ℕ, Bool, true, false, List, [], ◌∷◌, ◌++◌, None, Some, refl, sym, ap, ◌∙◌, inl, inr}
-use Rattle.std.specs.Prelude.{codes, not, ◌&&◌, ◌==◌}
+use Rattle.std.proofs.Common.{◌≡◌, ℕ, Bool, true, false, List, [], ◌∷◌, ◌++◌, None, Some, refl, ap, ◌∙◌, inr}
+use Rattle.std.specs.Prelude.{not, ◌&&◌, ◌==◌}
 use Rattle.std.specs.List.{list_any}
-use Rattle.bt_meta.specs.Fields.{has_key}
-use Rattle.bt_meta.specs.Places.{Place, with_earlier}
+use Rattle.bt_meta.specs.Places.{Place}
 use Rattle.bt_meta.specs.Files.{is_file, properties_of, length_of}
 use Rattle.bt_meta.specs.Faults.{Check, first_of, fault_if, is_node, has_lawful_name, conflict, is_too_many, entry_check, file_checks}
 use Rattle.bt_meta.specs.Walks.{property_checks, HasWalked, Passes, Stops}

@@ -1,6 +1,6 @@
 -- What adding a file to a walk tells of its place.
 use Rattle.std.proofs.Common.{◌≡◌, ◌⊎◌, ℕ, ◌+◌, ◌<◌, ◌≤◌, ◌^◌, Bool, true, false, List, [], ◌∷◌, ◌++◌, length, length as size, map, Option, None, Some, refl, sym, ap, subst, ◌∙◌, arith, inl, inr}
-use Rattle.std.specs.Prelude.{codes, string_bytes, nat_eq, nat_lt, filter, not, ◌&&◌, ◌||◌, ◌==◌, option_copied, unwrap_or, if◌then◌else◌}
+use Rattle.std.specs.Prelude.{codes, string_bytes, nat_lt, filter, not, ◌&&◌, ◌||◌, ◌==◌, unwrap_or}
 use Rattle.std.specs.Option.{option_map_or}
 use Rattle.std.specs.Prelude.{nat_le}
 use Rattle.std.specs.List.{list_any, last_or}
@@ -10,16 +10,16 @@ use Rattle.std.proofs.lemmas.Bool.Decides.{nat_tests}
 use Rattle.bt_bencode.specs.Data.{Data}
 use Rattle.bt_meta.specs.Fields.{has_key, natural_at, dictionary_at, no_dictionary}
 use Rattle.bt_meta.specs.Places.{Place, places_below}
-use Rattle.bt_meta.specs.Files.{is_file, properties_of, length_in, root_in, length_of, root_of, file_of, pieces_of, piece_count}
-use Rattle.bt_meta.specs.Faults.{Check, first_of, is_node, has_lawful_name, has_lawful_length, has_lawful_root, is_path_element, conflict, is_too_many, entry_check}
-use Rattle.bt_meta.specs.Walks.{property_checks, IsFileFacts, Lengths, length_at, is_other, IsNoted, IsConflict, has_other, HasWalked, Passes, Stops, IsFilePlace, IsNodeOf, entry_places, StopsEntry}
+use Rattle.bt_meta.specs.Files.{is_file, properties_of, length_in, root_in, length_of, root_of, pieces_of, piece_count}
+use Rattle.bt_meta.specs.Faults.{Check, first_of, is_node, has_lawful_name, has_lawful_length, has_lawful_root, is_path_element, conflict, is_too_many}
+use Rattle.bt_meta.specs.Walks.{property_checks, IsFileFacts, length_at, is_other, IsNoted, IsConflict, has_other, HasWalked, Passes, Stops, IsFilePlace, IsNodeOf, entry_places, StopsEntry}
 use Rattle.bt_meta.specs.declared.walk.Node.{Node}
 use Rattle.bt_meta.specs.declared.walk.Node.TheVariants.{Folder, File as file_node}
 use Rattle.bt_meta.specs.declared.elements.FileFacts.{FileFacts}
 use Rattle.bt_meta.specs.declared.torrent.FileEntry.{FileEntry}
 use Rattle.bt_meta.specs.declared.walk.Walk.{Walk}
 use Rattle.bt_meta.specs.declared.error.MetaError.{MetaError}
-use Rattle.bt_meta.specs.declared.error.MetaError.TheVariants.{Tree, BadPath, RootConflict, TooMany, OutOfMemory}
+use Rattle.bt_meta.specs.declared.error.MetaError.TheVariants.{Tree, BadPath, TooMany}
 use Rattle.bt_meta.proofs.FileSteps.{length_push, pieces_push, count_push, count_of_files, others_same, others_noted, file_walked, folder_walked}
 use Rattle.bt_meta.proofs.ElementTests.{has_conflict, no_node, bad_name, bad_properties, bad_root, file_counted, folder_counted, stops_at, passes_one}
 use Rattle.bt_meta.proofs.WalkSteps.{stops_sooner, stops_for_memory}

@@ -1,10 +1,9 @@
 -- What a walk has found behind one place more.
-use Rattle.std.proofs.Common.{◌≡◌, ℕ, ◌+◌, ◌<◌, ◌≤◌, ◌^◌, Bool, true, false, List, [], ◌∷◌, ◌++◌, length, map, Option, None, Some, refl, sym, ap, ◌∙◌, arith, length-append}
+use Rattle.std.proofs.Common.{◌≡◌, ℕ, ◌+◌, ◌≤◌, ◌^◌, Bool, true, false, List, [], ◌∷◌, ◌++◌, length, map, Option, None, Some, refl, sym, ap, ◌∙◌, arith, length-append}
 use Rattle.std.specs.Prelude.{string_bytes, nat_eq, filter, sum_by, not, ◌&&◌, ◌||◌, ◌==◌, cond, unwrap_or, nat_lt, if◌then◌else◌}
-use Rattle.std.specs.List.{list_any}
 use Rattle.std.specs.Ordering.{nat_cmp, is_eq}
 use Rattle.std.specs.Cmp.Lexicographic.{pointwise, slice_cmp}
-use Rattle.std.proofs.lemmas.Bool.{and_right, and_left, cases_Bool}
+use Rattle.std.proofs.lemmas.Bool.{and_left}
 use Rattle.std.proofs.lemmas.Bool.Decides.{nat_tests}
 use Rattle.std.proofs.lemmas.List.{append-nil, map_push, length-map}
 use Rattle.std.proofs.lemmas.List.Elements.{filter-append, All-push, All-same}
@@ -12,11 +11,9 @@ use Rattle.std.proofs.lemmas.List.Folds.{list_any-append}
 use Rattle.std.proofs.lemmas.List.Sums.{sum_by-append}
 use Rattle.std.proofs.lemmas.Map.Text.{is_eq-slice_cmp}
 use Rattle.std.proofs.lemmas.Slice.Eq.{bytes_eq-Decides}
-use Rattle.bt_bencode.specs.Data.{Data}
 use Rattle.bt_meta.specs.Fields.{string_at, no_dictionary}
 use Rattle.bt_meta.specs.Places.{Place, with_earlier}
 use Rattle.bt_meta.specs.Files.{File, is_file, length_of, root_of, file_of, file_at, pieces_of, piece_count, layer_at}
-use Rattle.bt_meta.specs.Reading.{AreShort}
 use Rattle.bt_meta.specs.Walks.{Lengths, length_at, is_other, IsNoted, has_other, HasWalked}
 use Rattle.bt_meta.specs.declared.torrent.FileEntry.{FileEntry}
 use Rattle.bt_meta.specs.declared.walk.Walk.{Walk}

@@ -1,6 +1,6 @@
 -- The files of a tree with their layers, from those without.
-use Rattle.std.proofs.Common.{◌≡◌, ℕ, ◌+◌, Bool, true, false, List, [], ◌∷◌, ◌++◌, map, None, Some, refl, sym, ap, ◌∙◌}
-use Rattle.std.specs.Prelude.{filter, sum_by, nat_lt, unwrap_or, is_none, not, if◌then◌else◌}
+use Rattle.std.proofs.Common.{◌≡◌, ℕ, List, [], ◌∷◌, ◌++◌, map, None, Some, refl, sym, ap, ◌∙◌}
+use Rattle.std.specs.Prelude.{filter, sum_by, nat_lt, is_none, not, if◌then◌else◌}
 use Rattle.std.specs.Prelude.{sum}
 use Rattle.std.proofs.lemmas.List.Sums.{sum-map}
 use Rattle.bt_bencode.specs.Data.{Data}

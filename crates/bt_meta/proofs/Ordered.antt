@@ -1,20 +1,17 @@
 -- Files in tree order.
-use Rattle.std.proofs.Common.{◌≡◌, ℕ, ◌+◌, ◌<◌, Bool, false, List, [], ◌∷◌, ◌++◌, length, map, refl, sym, ap, ◌∙◌, arith}
-use Rattle.std.specs.Prelude.{String, string_bytes, get_or, take}
+use Rattle.std.proofs.Common.{◌≡◌, ◌+◌, ◌<◌, Bool, List, [], ◌∷◌, length, map, refl, ap, arith}
+use Rattle.std.specs.Prelude.{String, string_bytes}
 use Rattle.std.specs.Global.{Global}
 use Rattle.std.specs.Borrow.{Bor}
-use Rattle.std.specs.Ordering.{nat_cmp, is_lt, ordering_then}
+use Rattle.std.specs.Ordering.{ordering_then}
 use Rattle.std.specs.String.{string_cmp}
 use Rattle.std.specs.Cmp.{IsStrictWeakOrder}
 use Rattle.std.specs.Cmp.Lexicographic.{slice_cmp, lists_total, nat_list_cmp_total}
-use Rattle.std.specs.Fn.{Called, Mut, ComparesAs}
-use Rattle.std.specs.declared.cmp.Ordering.{Ordering}
 use Rattle.std.specs.List.Sorted.{IsPermutation, IsSortedBy}
-use Rattle.std.proofs.lemmas.Fn.{always_returns_same}
 use Rattle.std.proofs.lemmas.List.{get_or-map, length-map}
 use Rattle.std.proofs.lemmas.List.Sorted.{IsPermutation-map}
 use Rattle.std.proofs.lemmas.List.MinMax.{ranks_by}
-use Rattle.bt_meta.specs.Making.{Given, given_of, lent_of, path_order, is_before, IsInTreeOrder}
+use Rattle.bt_meta.specs.Making.{Given, lent_of, path_order, is_before, IsInTreeOrder}
 use Rattle.bt_meta.specs.declared.making.Made.{Made}
 
 pub order_by_bytes : (path other : List (String Global)) → slice_cmp string_cmp path other ≡ path_order (map string_bytes path) (map string_bytes other)

@@ -1,5 +1,5 @@
 -- Files in tree order, of which no path begins the next, go into a tree one behind the other.
-use Rattle.std.proofs.Common.{subst, ◌≡◌, ℕ, ◌+◌, ◌<◌, ◌≤◌, Bool, true, false, List, [], ◌∷◌, ◌++◌, length, map, refl, sym, ap, ◌∙◌, arith, inl, inr}
+use Rattle.std.proofs.Common.{subst, ◌≡◌, ℕ, ◌+◌, ◌<◌, ◌≤◌, Bool, true, false, List, [], ◌∷◌, ◌++◌, length, map, refl, sym, ap, ◌∙◌, inl, inr}
 use Rattle.std.specs.Prelude.{nat_eq, take, get_or, ◌&&◌}
 use Rattle.std.specs.Ordering.{nat_cmp, ordering_reverse, ordering_then, is_eq}
 use Rattle.std.specs.Cmp.Lexicographic.{slice_cmp, pointwise, nat_list_cmp_total}
@@ -9,7 +9,7 @@ use Rattle.std.proofs.lemmas.Bool.{true≢false}
 use Rattle.std.proofs.lemmas.Map.Text.{is_eq-slice_cmp}
 use Rattle.std.proofs.lemmas.Slice.Eq.{bytes_eq-Decides}
 use Rattle.bt_bencode.specs.Data.{Data, dictionary, Entries, no_entries, entry}
-use Rattle.bt_meta.specs.Making.{with_file, path_order, begins, entries_before, AreBefore, IsInLast, IsBehind, IsOpened, Given, properties_made, tree_made, IsParted, lent_of}
+use Rattle.bt_meta.specs.Making.{with_file, path_order, begins, entries_before, AreBefore, IsBehind, IsOpened, Given, properties_made, tree_made, IsParted, lent_of}
 use Rattle.std.specs.Borrow.{Bor}
 use Rattle.bt_meta.specs.declared.making.Made.{Made}
 use Rattle.bt_meta.proofs.Folders.{behind_none, opened_behind, opened_within, file_in}

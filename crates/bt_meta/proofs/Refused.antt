@@ -1,5 +1,5 @@
 -- How a refusal of a value is one of its bytes.
-use Rattle.std.proofs.Common.{◌≡◌, ℕ, ◌^◌, ◌≤◌, List, length, Some, Result, Ok, Err, refl, sym, ap, subst, ◌∙◌, inl, inr}
+use Rattle.std.proofs.Common.{◌≡◌, ℕ, ◌^◌, ◌≤◌, List, length, Result, Ok, Err, sym, subst, inl, inr}
 use Rattle.std.specs.Prelude.{IfErr}
 use Rattle.bt_bencode.specs.Data.{Data}
 use Rattle.bt_bencode.specs.Spelling.{spelling_of, IsCanonical}
@@ -7,7 +7,6 @@ use Rattle.bt_meta.specs.Faults.{Check}
 use Rattle.bt_meta.specs.Reading.{Refuses}
 use Rattle.bt_meta.specs.Refusals.{IsRefused, no_memory, faulty}
 use Rattle.bt_meta.specs.declared.error.MetaError.{MetaError}
-use Rattle.bt_meta.specs.declared.error.MetaError.TheVariants.{OutOfMemory}
 
 refused_by : (first : Data → Check) (bytes : List ℕ) (value : Data) (e : MetaError) → length bytes ≤ 2 ^ 27 → IsCanonical value → spelling_of value ≡ bytes → Refuses (first value) e → IsRefused first bytes e
 refused_by first bytes value e small canonical spelled (inl m) = let P : MetaError → Type 0 = λ x. IsRefused first bytes x in subst P (sym m) no_memory

@@ -1,12 +1,11 @@
 -- What was taken of the files that a torrent is made of.
-use Rattle.std.proofs.Common.{◌≡◌, ℕ, ◌+◌, ◌<◌, ◌≤◌, ◌^◌, Bool, true, false, List, [], ◌∷◌, ◌++◌, length, map, Option, None, Some, refl, sym, ap, ◌∙◌, arith, inl, inr}
-use Rattle.std.specs.Prelude.{string_bytes, nat_eq, sum_by, not, ◌&&◌, ◌||◌, ◌==◌, cond, nat_lt, if◌then◌else◌}
+use Rattle.std.proofs.Common.{◌≡◌, ℕ, ◌+◌, ◌<◌, ◌≤◌, Bool, true, false, List, [], ◌∷◌, ◌++◌, length, map, None, Some, refl, sym, ap, ◌∙◌, arith, inl, inr}
+use Rattle.std.specs.Prelude.{string_bytes, nat_eq, not, ◌&&◌, ◌||◌, ◌==◌}
 use Rattle.std.specs.Prelude.{String}
 use Rattle.std.specs.Global.{Global}
-use Rattle.std.specs.List.{list_any, list_all}
+use Rattle.std.specs.List.{list_all}
 use Rattle.std.specs.Ordering.{nat_cmp, is_eq}
 use Rattle.std.specs.Cmp.Lexicographic.{pointwise, slice_cmp}
-use Rattle.std.proofs.lemmas.Bool.Decides.{nat_tests}
 use Rattle.std.proofs.lemmas.List.{length-map}
 use Rattle.std.proofs.lemmas.List.Folds.{list_any-append, list_all-map}
 use Rattle.std.proofs.lemmas.Map.Text.{is_eq-slice_cmp}

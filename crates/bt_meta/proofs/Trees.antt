@@ -1,5 +1,5 @@
 -- What the walk over a whole tree tells.
-use Rattle.std.proofs.Common.{◌≡◌, ◌≢◌, ℕ, ◌≤◌, ◌^◌, ◌+◌, Bool, true, false, List, [], ◌∷◌, ◌++◌, length, map, None, Some, refl, sym, ap, subst, ◌∙◌, inl, inr, arith}
+use Rattle.std.proofs.Common.{◌≡◌, ℕ, ◌≤◌, ◌^◌, Bool, true, false, List, [], ◌∷◌, ◌++◌, length, map, None, Some, refl, sym, ap, subst, ◌∙◌, inl, inr, arith}
 use Rattle.std.specs.Prelude.{filter, sum, sum_by, not, ◌||◌, ◌==◌, cond}
 use Rattle.std.proofs.lemmas.List.Sums.{sum-map}
 use Rattle.std.specs.List.{list_any}
@@ -11,13 +11,13 @@ use Rattle.bt_meta.specs.Fields.{has_key, no_dictionary}
 use Rattle.bt_meta.specs.Places.{Place, places_below, with_earlier}
 use Rattle.bt_meta.specs.Files.{File, is_file, file_of, file_at, files_of, pieces_of, piece_count, length_of}
 use Rattle.bt_meta.specs.Faults.{Check, first_of, fault_if, entry_check, tree_checks}
-use Rattle.bt_meta.specs.Reading.{Refuses, AreShort, IsListing, pieces_in}
-use Rattle.bt_meta.specs.Walks.{Lengths, length_at, is_other, HasWalked, Passes, Stops, texts}
+use Rattle.bt_meta.specs.Reading.{Refuses, IsListing}
+use Rattle.bt_meta.specs.Walks.{HasWalked, Passes, Stops, texts}
 use Rattle.bt_meta.specs.declared.walk.Walk.{Walk}
 use Rattle.bt_meta.specs.declared.walk.Listing.{Listing}
 use Rattle.bt_meta.specs.declared.error.MetaError.{MetaError}
 use Rattle.bt_meta.specs.declared.error.MetaError.TheVariants.{Tree}
-use Rattle.bt_meta.proofs.Checks.{first_of-append, first_of-append_some, skips}
+use Rattle.bt_meta.proofs.Checks.{first_of-append, first_of-append_some}
 use Rattle.bt_meta.proofs.FileSteps.{count_of_files}
 
 pub start : (piece_length : ℕ) (walk : Walk) → walk.files.items ≡ [] → walk.pieces ≡ 0 → walk.lengths.entries ≡ [] → HasWalked piece_length [] walk

@@ -1,14 +1,13 @@
 -- How the steps of a walk join.
-use Rattle.std.proofs.Common.{◌≡◌, ℕ, ◌+◌, ◌<◌, List, [], ◌∷◌, ◌++◌, length, take, drop, get_or, map, None, Some, refl, sym, ap, subst, ◌∙◌, append_assoc, inl, inr, arith}
+use Rattle.std.proofs.Common.{◌≡◌, ℕ, ◌+◌, ◌<◌, List, [], ◌∷◌, ◌++◌, length, take, drop, get_or, map, refl, sym, ap, subst, ◌∙◌, append_assoc, inl, inr}
 use Rattle.std.specs.Global.{Vec}
-use Rattle.std.proofs.lemmas.List.{append-nil, take_more, drop_more, map_push, take_all}
+use Rattle.std.proofs.lemmas.List.{append-nil, take_more, drop_more, map_push}
 use Rattle.std.proofs.lemmas.List.{take-append-drop}
 use Rattle.bt_bencode.specs.Data.{Data, Entries, no_entries, entry}
 use Rattle.bt_bencode.specs.View.{data_of, entries_of, entries_from, entry_data}
 use Rattle.bt_bencode.specs.declared.value.Value.{Value}
 use Rattle.bt_meta.specs.Places.{Place, places_below, places_among, with_earlier}
 use Rattle.bt_meta.specs.Faults.{first_of, entry_check}
-use Rattle.bt_meta.specs.Reading.{Refuses}
 use Rattle.bt_meta.specs.Walks.{HasWalked, Passes, Stops, entry_places}
 use Rattle.bt_meta.specs.declared.walk.Walk.{Walk}
 use Rattle.bt_meta.specs.declared.error.MetaError.{MetaError}

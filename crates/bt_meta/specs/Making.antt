@@ -1,6 +1,6 @@
 -- A torrent that is made of files (BEP 52, "metainfo files").
-use Rattle.std.specs.Prelude.{◌≡◌, ℕ, ◌+◌, ◌^◌, ◌<◌, ◌≤◌, ◌⊎◌, pos, Bool, true, false, not, ◌&&◌, ◌||◌, ◌==◌, List, [], ◌∷◌, ◌++◌, length, map, get_or, sum_by, codes, string_bytes, Option, None, Some, nat_eq, nat_lt, nat_le, unwrap_or, if◌then◌else◌}
-use Rattle.std.specs.List.{list_any, list_all, starts_with, fold, count_by, All}
+use Rattle.std.specs.Prelude.{◌≡◌, ℕ, ◌+◌, ◌^◌, ◌<◌, ◌≤◌, ◌⊎◌, pos, Bool, false, not, ◌&&◌, ◌||◌, ◌==◌, List, [], ◌∷◌, ◌++◌, length, map, get_or, sum_by, codes, string_bytes, Option, None, Some, nat_eq, nat_lt, nat_le, unwrap_or, if◌then◌else◌}
+use Rattle.std.specs.List.{list_any, list_all, starts_with, fold, All}
 use Rattle.std.specs.Ordering.{nat_cmp, is_lt, match_ordering}
 use Rattle.std.specs.Borrow.{Bor}
 use Rattle.bt_bencode.specs.Field.{first_value_of}
