@@ -1,6 +1,7 @@
 -- A torrent that is made of files (BEP 52, "metainfo files").
 use Rattle.std.specs.Prelude.{◌≡◌, ℕ, ◌+◌, ◌^◌, ◌<◌, ◌≤◌, ◌⊎◌, pos, Bool, false, not, ◌&&◌, ◌||◌, ◌==◌, List, [], ◌∷◌, ◌++◌, length, map, get_or, sum_by, codes, string_bytes, Option, None, Some, nat_eq, nat_lt, nat_le, unwrap_or, if◌then◌else◌}
-use Rattle.std.specs.List.{list_any, list_all, starts_with, fold, All}
+use Rattle.std.specs.List.{list_any, list_all, starts_with, fold, find, All}
+use Rattle.std.specs.Option.{option_map}
 use Rattle.std.specs.Ordering.{nat_cmp, is_lt, match_ordering}
 use Rattle.std.specs.Borrow.{Bor}
 use Rattle.bt_bencode.specs.Field.{first_value_of}
@@ -9,11 +10,11 @@ use Rattle.std.specs.declared.cmp.Ordering.{Ordering}
 use Rattle.std.specs.declared.cmp.Ordering.TheVariants.{Less, Greater}
 use Rattle.std.specs.List.Sorted.{IsPermutation, IsSortedBy}
 use Rattle.std.specs.Cmp.Lexicographic.{pointwise, slice_cmp}
-use Rattle.std.specs.BTreeMap.{BTreeMap}
+use Rattle.std.specs.BTreeMap.{BTreeMap, get}
 use Rattle.bt_meta.specs.Walks.{is_other, length_at}
 use Rattle.bt_meta.specs.declared.making.Tally.{Tally}
 use Rattle.bt_bencode.specs.Data.{Data, integer, string, list, dictionary, Entries, no_entries, entry}
-use Rattle.bt_bencode.specs.Spelling.{spelling_of}
+use Rattle.bt_bencode.specs.Spelling.{spelling_of, EntriesAscend}
 use Rattle.bt_meta.specs.Places.{with_earlier}
 use Rattle.bt_meta.specs.Files.{piece_count}
 use Rattle.bt_meta.specs.Layers.{has_layer_size, has_root}
@@ -185,6 +186,15 @@ info_made name piece_length files = dictionary (
     entry (codes "name") (string name) (
     entry (codes "piece length") (integer (pos piece_length)) no_entries))))
 
+-- the layer of the first file longer than a piece that has this root
+abbrev pub first_layer : ℕ → List Given → List ℕ → Option (List ℕ)
+first_layer piece_length files root = option_map (λ f. f.layer) (find (λ f. nat_lt piece_length f.length && pointwise nat_eq f.root root) files)
+
+-- one layer for each root, in ascending order of the roots: that of the first file that has it
+pub record AreLayersOf (piece_length : ℕ) (files : List Given) (layers : Entries) : Type 0 where
+  pub ascending : EntriesAscend layers
+  pub first : (root : List ℕ) → first_value_of layers root ≡ option_map string (first_layer piece_length files root)
+
 -- the value of a torrent of files in tree order, with these layers
 abbrev pub value_made : List ℕ → ℕ → List Given → Entries → Data
 value_made name piece_length files layers = dictionary (
@@ -198,6 +208,7 @@ pub record IsMade (name : List ℕ) (piece_length : ℕ) (files : List Given) (b
   pub in_order : IsInTreeOrder files ordered
   pub parted : IsParted ordered
   pub layers : Entries
+  pub layered : AreLayersOf piece_length ordered layers
   pub spelled : bytes ≡ spelling_of (value_made name piece_length ordered layers)
   pub small : length bytes ≤ 2 ^ 27
 
@@ -208,6 +219,7 @@ AreApart files = (k : ℕ) (d : Given) → k + 1 < length files → begins (get_
 -- a value of a torrent of the files in tree order
 pub record IsValueOf (name : List ℕ) (piece_length : ℕ) (files : List Given) (value : Data) : Type 0 where
   pub layers : Entries
+  pub layered : AreLayersOf piece_length files layers
   pub made : value ≡ value_made name piece_length files layers
 
 -- ---- the steps of the making
@@ -233,6 +245,10 @@ pub record IsInLast (IsIn : Entries → Type 0) (name : List ℕ) (es : Entries)
 abbrev pub IsBehind : List (List ℕ) → Entries → Type 0
 IsBehind [] es = es ≡ no_entries
 IsBehind (name ∷ path) es = AreBefore name es ⊎ IsInLast (IsBehind path) name es
+
+-- the map has the first layer of each root
+abbrev pub HasFirstLayers : ℕ → List Given → BTreeMap (List ℕ) (Bor (List ℕ)) → Type 0
+HasFirstLayers piece_length files layers = (root : List ℕ) → option_map (λ layer. layer.now) (get (slice_cmp nat_cmp) layers root) ≡ first_layer piece_length files root
 
 -- no file is longer than 2 ^ 40 bytes
 abbrev pub AreLentShort : List (Bor Made) → Type 0

@@ -43,6 +43,7 @@ returns-clause-made c =
       in_order = c.in_ok-ordered.ensures;
       parted = parted (map given_of c.args.files.now) ordered c.in_ok-ordered.ensures (rw (c.deref.ensures.value) at (c.has_overlap.ensures c.if-has_overlap.false));
       layers = value.layers;
+      layered = rw (c.deref-2.ensures.value) at value.layered;
       spelled = c.in_ok-text.ensures ∙ ap spelling_of (value.made ∙ ap (λ ms. value_made c.args.name.now c.args.piece_length (map lent_of ms) value.layers) c.deref-2.ensures.value);
       small = omega arith;
     }
