@@ -6,13 +6,13 @@ use Rattle.std.specs.Borrow.{Bor}
 use Rattle.std.specs.String.{string_eq}
 use Rattle.std.specs.Ordering.{nat_cmp, is_lt, ordering_then, ordering_reverse}
 use Rattle.std.specs.Cmp.Lexicographic.{slice_cmp, pointwise, lists_total, nat_list_cmp_total}
-use Rattle.std.specs.List.{starts_with, All}
+use Rattle.std.specs.List.{starts_with, list_all, All}
 use Rattle.std.specs.declared.cmp.Ordering.{Ordering}
 use Rattle.std.specs.declared.cmp.Ordering.TheVariants.{Less, Equal, Greater}
 use Rattle.std.proofs.lemmas.Bool.{cases_lt, true≢false}
 use Rattle.std.proofs.lemmas.List.{get_or-map, length-map}
 use Rattle.std.proofs.lemmas.Slice.Eq.{bytes_eq-Decides}
-use Rattle.bt_meta.specs.Making.{Given, given_of, lent_of, begins, path_order, IsInTreeOrder, IsParted, AreApart, Check, first_refusal, refused_if, file_refusal, own_refusal, layer_refusal, conflict_with, is_beyond, is_path, refusal_of_files, Refuses, IsNotMade}
+use Rattle.bt_meta.specs.Making.{Given, given_of, lent_of, begins, path_order, IsInTreeOrder, IsParted, AreApart, Check, first_refusal, refused_if, file_refusal, own_refusal, layer_refusal, conflict_with, is_beyond, is_path, is_element, AreNamed, refusal_of_files, Refuses, IsNotMade}
 use Rattle.bt_meta.specs.Faults.{is_piece_length}
 use Rattle.std.proofs.lemmas.Bool.{cases_Bool}
 use Rattle.std.proofs.lemmas.Bool.Decides.{nat_tests}
@@ -110,6 +110,42 @@ all_short piece_length before [] h = All-nil IsShort
 all_short piece_length before (f ∷ files) h =
     let rest = with_earlier (file_refusal piece_length) (before ++ f ∷ []) files in
     All-cons IsShort f files (short_given piece_length before f (first_none (file_refusal piece_length before f) rest h)) (all_short piece_length (before ++ f ∷ []) files (rest_none (file_refusal piece_length before f) rest h))
+
+second : (a b : Bool) → (a && b) ≡ true → b ≡ true
+second true b h = h
+second false b h = cc
+
+named_from : (path : List (List ℕ)) → list_all is_element path ≡ true → AreNamed path
+named_from [] e = tt
+named_from ([] ∷ path) e = cc
+named_from ((byte ∷ bytes) ∷ path) e = (refl, named_from path (second (is_element (byte ∷ bytes)) (list_all is_element path) e))
+
+path_from : (path : List (List ℕ)) (e : MakeError) → refused_if (not (is_path path)) e ≡ None → is_path path ≡ true
+path_from path e h = elim (cases_Bool (is_path path)) [
+  | inl lawful ↦ lawful
+  | inr other ↦ let f : Some e ≡ None = rw other at h in cc
+]
+
+named_path : (path : List (List ℕ)) → is_path path ≡ true → AreNamed path
+named_path [] e = tt
+named_path (name ∷ path) e = named_from (name ∷ path) (second (not (length (name ∷ path) == 0)) (list_all is_element (name ∷ path)) e)
+
+named_given : (piece_length : ℕ) (before : List Given) (f : Given) → file_refusal piece_length before f ≡ None → AreNamed f.path
+named_given piece_length before f h =
+    let own : own_refusal piece_length f ≡ None = first_none (own_refusal piece_length f) (refused_if (conflict_with before f) RootConflict ∷ refused_if (is_beyond piece_length before f) Count ∷ []) h in
+    named_path f.path (path_from f.path BadPath (first_none (refused_if (not (is_path f.path)) BadPath) (refused_if (not (nat_le f.length (2 ^ 40))) FileLength ∷ layer_refusal piece_length f ∷ []) own))
+
+abbrev HasNames : Given → Type 0
+HasNames g = AreNamed g.path
+
+all_named : (piece_length : ℕ) (before files : List Given) → first_refusal (with_earlier (file_refusal piece_length) before files) ≡ None → All HasNames files
+all_named piece_length before [] h = All-nil HasNames
+all_named piece_length before (f ∷ files) h =
+    let rest = with_earlier (file_refusal piece_length) (before ++ f ∷ []) files in
+    All-cons HasNames f files (named_given piece_length before f (first_none (file_refusal piece_length before f) rest h)) (all_named piece_length (before ++ f ∷ []) files (rest_none (file_refusal piece_length before f) rest h))
+
+pub ordered_named : (piece_length : ℕ) (files ordered : List Given) → first_refusal (with_earlier (file_refusal piece_length) [] files) ≡ None → IsInTreeOrder files ordered → All (λ g. AreNamed g.path) ordered
+ordered_named piece_length files ordered h order = All-permutation HasNames files ordered order.same (all_named piece_length [] files h)
 
 pub lent_short : (piece_length : ℕ) (files : List Given) (ordered : List (Bor Made)) → first_refusal (with_earlier (file_refusal piece_length) [] files) ≡ None → IsInTreeOrder files (map lent_of ordered)
     → All (λ (m : Bor Made). m.now.length ≤ 2 ^ 40) ordered

@@ -1,5 +1,5 @@
 -- A torrent that is made of files (BEP 52, "metainfo files").
-use Rattle.std.specs.Prelude.{◌≡◌, ℕ, ◌+◌, ◌^◌, ◌<◌, ◌≤◌, ◌⊎◌, pos, Bool, false, not, ◌&&◌, ◌||◌, ◌==◌, List, [], ◌∷◌, ◌++◌, length, map, get_or, sum_by, codes, string_bytes, Option, None, Some, nat_eq, nat_lt, nat_le, unwrap_or, if◌then◌else◌}
+use Rattle.std.specs.Prelude.{◌≡◌, ℕ, ◌+◌, ◌^◌, ◌<◌, ◌≤◌, ◌⊎◌, pos, Bool, true, false, not, ◌&&◌, ◌||◌, ◌==◌, List, [], ◌∷◌, ◌++◌, length, map, get_or, sum_by, codes, string_bytes, Option, None, Some, nat_eq, nat_lt, nat_le, unwrap_or, if◌then◌else◌}
 use Rattle.std.specs.List.{list_any, list_all, starts_with, fold, find, All}
 use Rattle.std.specs.Option.{option_map}
 use Rattle.std.specs.Ordering.{nat_cmp, is_lt, match_ordering}
@@ -229,10 +229,20 @@ abbrev pub entries_before : Entries → Entries → Entries
 entries_before no_entries others = others
 entries_before (entry key d es) others = entry key d (entries_before es others)
 
--- each key stands before the name
+-- it is not empty
+abbrev pub is_named : List ℕ → Bool
+is_named [] = false
+is_named (byte ∷ bytes) = true
+
+-- no element is empty
+abbrev pub AreNamed : List (List ℕ) → Type 0
+AreNamed [] = Unit {0}
+AreNamed (name ∷ path) = (is_named name ≡ true) × AreNamed path
+
+-- each key stands before the name, and is not empty
 abbrev pub AreBefore : List ℕ → Entries → Type 0
 AreBefore name no_entries = Unit {0}
-AreBefore name (entry key d es) = (slice_cmp nat_cmp name key ≡ Greater) × AreBefore name es
+AreBefore name (entry key d es) = (slice_cmp nat_cmp name key ≡ Greater) × (is_named key ≡ true) × AreBefore name es
 
 -- the path stands behind those of a folder's files: its first name is behind theirs, or is that of the last folder, in which the rest is behind
 pub record IsInLast (IsIn : Entries → Type 0) (name : List ℕ) (es : Entries) : Type 0 where

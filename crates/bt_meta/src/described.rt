@@ -1,6 +1,7 @@
 //! The value that a torrent spells (BEP 52, "metainfo files").
 ghost use Rattle.std.specs.Prelude.{◌≡◌, ◌≢◌, ℕ, ◌<◌, ◌≤◌, ◌^◌, List, [], ◌∷◌, ◌++◌, map, IfOk, IfErr, OnOk, OnErr, string_bytes};
 ghost use Rattle.std.specs.Option.{option_map};
+ghost use Rattle.std.specs.List.{All};
 ghost use Rattle.std.specs.Ordering.{nat_cmp};
 ghost use Rattle.std.specs.Cmp.Lexicographic.{slice_cmp};
 ghost use Rattle.std.specs.BTreeMap.{get};
@@ -8,7 +9,7 @@ ghost use Rattle.bt_bencode.specs.Field.{first_value_of};
 ghost use Rattle.bt_bencode.specs.Spelling.{EntriesAscend};
 ghost use Rattle.bt_bencode.specs.Data.{Entries, string, dictionary, no_entries, entry};
 ghost use Rattle.bt_bencode.specs.View.{data_of, entries_of};
-ghost use Rattle.bt_meta.specs.Making.{Given, given_of, AreLayersOf, HasFirstLayers, lent_of, entries_before, with_file, properties_made, tree_made, info_made, IsBehind, IsOpened, IsParted, AreLentShort, IsValueOf};
+ghost use Rattle.bt_meta.specs.Making.{Given, given_of, AreLayersOf, HasFirstLayers, AreNamed, lent_of, entries_before, with_file, properties_made, tree_made, info_made, IsBehind, IsOpened, IsParted, AreLentShort, IsValueOf};
 
 use crate::making::Made;
 use bt_bencode::Value;
@@ -27,6 +28,7 @@ pub(crate) fn value_of(
     files: &[&Made],
 ) -> Result<Value, AllocError>
     requires parted { IsParted (map lent_of files.now) }
+    requires named { All (λ f. AreNamed f.path) (map lent_of files.now) }
     requires short { AreLentShort files.now }
     ensures { IfOk result (λ value. IsValueOf name.now piece_length (map lent_of files.now) (data_of value)) }
 {
@@ -46,6 +48,7 @@ fn info_of(
     files: &[&Made],
 ) -> Result<Value, AllocError>
     requires parted { IsParted (map lent_of files.now) }
+    requires named { All (λ f. AreNamed f.path) (map lent_of files.now) }
     requires short { AreLentShort files.now }
     ensures { IfOk result (λ value. data_of value ≡ info_made name.now piece_length (map lent_of files.now)) }
 {
@@ -62,6 +65,7 @@ fn info_of(
 /// The tree of files that are in ascending order of their paths.
 fn tree_of(alloc: Global, files: &[&Made]) -> Result<Entries, AllocError>
     requires parted { IsParted (map lent_of files.now) }
+    requires named { All (λ f. AreNamed f.path) (map lent_of files.now) }
     requires short { AreLentShort files.now }
     ensures { IfOk result (λ tree. entries_of tree.items ≡ tree_made (map lent_of files.now)) }
 {

@@ -2,7 +2,7 @@ use Rattle.std.proofs.Common.{arith, ap, ◌∙◌, refl, inl, inr, map}
 use Rattle.std.proofs.lemmas.Result.{err_from_is_err_and}
 use Rattle.bt_bencode.specs.Spelling.{spelling_of}
 use Rattle.bt_meta.specs.Making.{given_of, lent_of, value_made}
-use Rattle.bt_meta.proofs.Apart.{parted, lent_short, length_refused, none_refused, files_refused, refused_as}
+use Rattle.bt_meta.proofs.Apart.{parted, ordered_named, lent_short, length_refused, none_refused, files_refused, refused_as}
 use Rattle.bt_meta.proofs.making.make.Goals as goal
 
 pub returns-then-not-is_piece_length-clause-refused : goal.returns-then-not-is_piece_length-clause-refused
@@ -24,6 +24,10 @@ pub value_of-requires-clause-parted : goal.value_of-requires-clause-parted
 value_of-requires-clause-parted c =
     rw (c.deref-2.ensures.value) (parted (map given_of c.args.files.now) (map lent_of c.in_ok-ordered.ordered.items) c.in_ok-ordered.ensures
     (rw (c.deref.ensures.value) at (c.has_overlap.ensures c.if-has_overlap.false)))
+
+pub value_of-requires-clause-named : goal.value_of-requires-clause-named
+value_of-requires-clause-named c =
+    rw (c.deref-2.ensures.value) (ordered_named c.args.piece_length (map given_of c.args.files.now) (map lent_of c.in_ok-ordered.ordered.items) c.in_ok-check_files.ensures c.in_ok-ordered.ensures)
 
 pub value_of-requires-clause-short : goal.value_of-requires-clause-short
 value_of-requires-clause-short c =
