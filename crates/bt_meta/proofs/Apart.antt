@@ -23,6 +23,7 @@ use Rattle.bt_meta.specs.declared.making.Made.{Made}
 use Rattle.bt_meta.specs.declared.making.MakeError.{MakeError}
 use Rattle.bt_meta.specs.declared.making.MakeError.TheVariants.{PieceLength, BadPath, FileLength, RootConflict, Count}
 use Rattle.bt_meta.proofs.Parted.{same_bytes}
+use Rattle.bt_meta.proofs.MadePlaces.{put_in}
 
 pub begins_by_bytes : (path other : List (String Global)) → starts_with string_eq other path ≡ begins (map string_bytes path) (map string_bytes other)
 begins_by_bytes [] other = refl

@@ -20,4 +20,5 @@ pub mod LayerChecks
 pub mod Refused
 pub mod Parted
 pub mod Apart
-mod Roots
+pub mod Roots
+pub mod MadePlaces

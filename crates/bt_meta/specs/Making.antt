@@ -1,5 +1,5 @@
 -- A torrent that is made of files (BEP 52, "metainfo files").
-use Rattle.std.specs.Prelude.{◌≡◌, ℕ, ◌+◌, ◌^◌, ◌<◌, ◌≤◌, ◌⊎◌, pos, Bool, true, false, not, ◌&&◌, ◌||◌, ◌==◌, List, [], ◌∷◌, ◌++◌, length, map, get_or, sum_by, codes, string_bytes, Option, None, Some, nat_eq, nat_lt, nat_le, unwrap_or, if◌then◌else◌}
+use Rattle.std.specs.Prelude.{◌≡◌, ℕ, ◌+◌, ◌^◌, ◌<◌, ◌≤◌, ◌⊎◌, pos, Bool, true, false, not, ◌&&◌, ◌||◌, ◌==◌, List, [], ◌∷◌, ◌++◌, length, map, get_or, sum_by, replicate, codes, string_bytes, Option, None, Some, nat_eq, nat_lt, nat_le, unwrap_or, if◌then◌else◌}
 use Rattle.std.specs.List.{list_any, list_all, starts_with, fold, find, All}
 use Rattle.std.specs.Option.{option_map}
 use Rattle.std.specs.Ordering.{nat_cmp, is_lt, match_ordering}
@@ -16,7 +16,9 @@ use Rattle.bt_meta.specs.declared.making.Tally.{Tally}
 use Rattle.bt_bencode.specs.Data.{Data, integer, string, list, dictionary, Entries, no_entries, entry}
 use Rattle.bt_bencode.specs.Spelling.{spelling_of, EntriesAscend}
 use Rattle.bt_meta.specs.Places.{with_earlier}
-use Rattle.bt_meta.specs.Files.{piece_count}
+use Rattle.bt_meta.specs.Files.{File, piece_count}
+use Rattle.bt_meta.specs.Torrent.{Metainfo, IsTorrent}
+use Rattle.sha2.specs.Sha256.{sha256}
 use Rattle.bt_meta.specs.Layers.{has_layer_size, has_root}
 use Rattle.bt_meta.specs.Faults.{is_path_element, is_piece_length}
 use Rattle.bt_meta.specs.declared.making.Made.{Made}
@@ -200,6 +202,25 @@ abbrev pub value_made : List ℕ → ℕ → List Given → Entries → Data
 value_made name piece_length files layers = dictionary (
     entry (codes "info") (info_made name piece_length files) (
     entry (codes "piece layers") (dictionary layers) no_entries))
+
+-- a file as the torrent has it: none of an empty file's root, and of the files of one root each has the layer of the first
+abbrev pub file_made : ℕ → List Given → List Given → Given → File
+file_made piece_length files before f = record {
+  path = f.path;
+  length = f.length;
+  root = if f.length == 0 then replicate 32 0 else f.root;
+  first_piece = sum_by (λ g. piece_count piece_length g.length) before;
+  layer = if nat_lt piece_length f.length then unwrap_or (first_layer piece_length files f.root) [] else [];
+}
+
+-- the torrent of files in tree order
+unfoldable pub torrent_made : List ℕ → ℕ → List Given → Metainfo
+torrent_made name piece_length files = record {
+  name = name;
+  piece_length = piece_length;
+  infohash = sha256 (spelling_of (info_made name piece_length files));
+  files = with_earlier (file_made piece_length files) [] files;
+}
 
 -- the bytes are the spelling of a torrent of the files in tree order
 pub record IsMade (name : List ℕ) (piece_length : ℕ) (files : List Given) (bytes : List ℕ) : Type 0 where
