@@ -23,7 +23,6 @@ use Rattle.bt_meta.specs.declared.making.Made.{Made}
 use Rattle.bt_meta.specs.declared.making.MakeError.{MakeError}
 use Rattle.bt_meta.specs.declared.making.MakeError.TheVariants.{PieceLength, BadPath, FileLength, RootConflict, Count}
 use Rattle.bt_meta.proofs.Parted.{same_bytes}
-use Rattle.bt_meta.proofs.MadePlaces.{put_in}
 
 pub begins_by_bytes : (path other : List (String Global)) → starts_with string_eq other path ≡ begins (map string_bytes path) (map string_bytes other)
 begins_by_bytes [] other = refl
@@ -83,15 +82,15 @@ parted files ordered h apart k d lt =
 
 -- ---- no file is longer than 2 ^ 40 bytes
 
-first_none : (x : Check) (xs : List Check) → first_refusal (x ∷ xs) ≡ None → x ≡ None
+pub first_none : (x : Check) (xs : List Check) → first_refusal (x ∷ xs) ≡ None → x ≡ None
 first_none None xs e = refl
 first_none (Some x) xs e = cc
 
-rest_none : (x : Check) (xs : List Check) → first_refusal (x ∷ xs) ≡ None → first_refusal xs ≡ None
+pub rest_none : (x : Check) (xs : List Check) → first_refusal (x ∷ xs) ≡ None → first_refusal xs ≡ None
 rest_none None xs e = e
 rest_none (Some x) xs e = cc
 
-short_from : (n : ℕ) (e : MakeError) → refused_if (not (nat_le n (2 ^ 40))) e ≡ None → n ≤ 2 ^ 40
+pub short_from : (n : ℕ) (e : MakeError) → refused_if (not (nat_le n (2 ^ 40))) e ≡ None → n ≤ 2 ^ 40
 short_from n e h = elim (cases_Bool (nat_le n (2 ^ 40))) [
   | inl within ↦ grind (arith, nat_tests)
   | inr beyond ↦ let f : Some e ≡ None = rw beyond at h in cc
@@ -121,7 +120,7 @@ named_from [] e = tt
 named_from ([] ∷ path) e = cc
 named_from ((byte ∷ bytes) ∷ path) e = (refl, named_from path (second (is_element (byte ∷ bytes)) (list_all is_element path) e))
 
-path_from : (path : List (List ℕ)) (e : MakeError) → refused_if (not (is_path path)) e ≡ None → is_path path ≡ true
+pub path_from : (path : List (List ℕ)) (e : MakeError) → refused_if (not (is_path path)) e ≡ None → is_path path ≡ true
 path_from path e h = elim (cases_Bool (is_path path)) [
   | inl lawful ↦ lawful
   | inr other ↦ let f : Some e ≡ None = rw other at h in cc

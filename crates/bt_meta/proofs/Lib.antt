@@ -22,3 +22,4 @@ pub mod Parted
 pub mod Apart
 pub mod Roots
 pub mod MadePlaces
+pub mod MadeGiven

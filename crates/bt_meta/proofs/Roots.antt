@@ -50,7 +50,7 @@ list_ascends [] h = tt
 list_ascends (e ∷ []) h = (tt, tt, tt)
 list_ascends (e ∷ f ∷ es) h = (h.0.0, tt, list_ascends (f ∷ es) h.1)
 
-same_bytes_either_way : (a b : List ℕ) → pointwise nat_eq a b ≡ pointwise nat_eq b a
+pub same_bytes_either_way : (a b : List ℕ) → pointwise nat_eq a b ≡ pointwise nat_eq b a
 same_bytes_either_way a b = elim (cases_Bool (pointwise nat_eq a b)) [
   | inl same ↦ same ∙ sym ((bytes_eq-Decides b a).1 (sym ((bytes_eq-Decides a b).0 same)))
   | inr other ↦ elim (cases_Bool (pointwise nat_eq b a)) [
