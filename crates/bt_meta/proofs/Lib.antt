@@ -19,5 +19,6 @@ pub mod Lookup
 pub mod LayerChecks
 pub mod Refused
 pub mod Parted
+pub mod MadeValues
 pub mod Apart
 mod Roots
