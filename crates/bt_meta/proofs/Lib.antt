@@ -19,6 +19,7 @@ pub mod Lookup
 pub mod LayerChecks
 pub mod Refused
 pub mod Parted
+pub mod MadeValues
 pub mod Apart
 pub mod Roots
 pub mod MadePlaces
