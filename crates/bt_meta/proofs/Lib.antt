@@ -24,3 +24,4 @@ pub mod Apart
 pub mod Roots
 pub mod MadePlaces
 pub mod MadeGiven
+pub mod MadeTree

@@ -198,7 +198,7 @@ last_folder prefix name path properties inner new named lawful shallow put =
           ∙ ap (λ (whole : List (List ℕ)). filter is_file (places_among (prefix ++ name ∷ []) inner) ++ at whole ∷ []) (append_assoc prefix (name ∷ []) path);
     }
 
-second : (a b : Bool) → (a && b) ≡ true → b ≡ true
+pub second : (a b : Bool) → (a && b) ≡ true → b ≡ true
 second true b e = e
 second false b e = cc
 

@@ -81,7 +81,7 @@ pub grown_begun : (files : List Given) → IsGrown files 0 no_entries
 unfolding tree_made
 grown_begun files = record { made = refl; behind = λ d lt. behind_none (get_or files 0 d).path }
 
-made_more : (files : List Given) (i : ℕ) (f : Given) → i < length files → f ≡ get_or files i f → tree_made (take (i + 1) files) ≡ put (tree_made (take i files)) f
+pub made_more : (files : List Given) (i : ℕ) (f : Given) → i < length files → f ≡ get_or files i f → tree_made (take (i + 1) files) ≡ put (tree_made (take i files)) f
 unfolding tree_made
 made_more files i f lt is =
     ap (λ fs. fold put no_entries fs) (take_more files i f lt ∙ ap (λ x. take i files ++ x ∷ []) (sym is)) ∙ fold_push put no_entries (take i files) f
