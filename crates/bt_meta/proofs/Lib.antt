@@ -25,3 +25,4 @@ pub mod Roots
 pub mod MadePlaces
 pub mod MadeGiven
 pub mod MadeTree
+pub mod MadeChecks
