@@ -26,3 +26,4 @@ pub mod MadePlaces
 pub mod MadeGiven
 pub mod MadeTree
 pub mod MadeChecks
+pub mod MadeTorrent

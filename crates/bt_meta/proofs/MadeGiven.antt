@@ -43,7 +43,7 @@ pub record AreLawful (piece_length : ℕ) (files : List Given) : Type 0 where
 
 -- ---- one file
 
-not_refused : (test : Bool) (e : MakeError) → refused_if test e ≡ None → test ≡ false
+pub not_refused : (test : Bool) (e : MakeError) → refused_if test e ≡ None → test ≡ false
 not_refused true e h = cc
 not_refused false e h = refl
 

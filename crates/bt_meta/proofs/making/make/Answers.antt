@@ -4,9 +4,7 @@ use Rattle.bt_bencode.specs.Spelling.{spelling_of}
 use Rattle.bt_meta.specs.Making.{given_of, lent_of, value_made}
 use Rattle.bt_meta.proofs.Apart.{parted, ordered_named, lent_short, length_refused, none_refused, files_refused, refused_as}
 use Rattle.bt_meta.proofs.MadeGiven.{lawful_ordered}
-use Rattle.bt_meta.proofs.MadeTree.{tree_is}
-use Rattle.bt_meta.proofs.MadeChecks.{tree_passes}
-use Rattle.bt_meta.proofs.MadeValues.{canonical_made}
+use Rattle.bt_meta.proofs.MadeTorrent.{torrent_is}
 use Rattle.bt_meta.proofs.making.make.Goals as goal
 
 pub returns-then-not-is_piece_length-clause-refused : goal.returns-then-not-is_piece_length-clause-refused
