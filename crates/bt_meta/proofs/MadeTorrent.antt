@@ -6,7 +6,8 @@ use Rattle.std.specs.List.{All, find}
 use Rattle.std.specs.Cmp.Lexicographic.{pointwise}
 use Rattle.std.proofs.lemmas.Bool.{cases_Bool}
 use Rattle.std.proofs.lemmas.Bool.Decides.{nat_tests}
-use Rattle.std.proofs.lemmas.List.{map_push}
+use Rattle.std.proofs.lemmas.List.{map_push, length-map}
+use Rattle.std.proofs.lemmas.List.Sorted.{All-permutation, length_permutation}
 use Rattle.std.proofs.lemmas.List.Elements.{All-nil, All-cons, All-head, All-tail, All-weaker}
 use Rattle.std.proofs.lemmas.Slice.Eq.{bytes_eq-Decides}
 use Rattle.sha2.specs.Sha256.{sha256}
@@ -20,13 +21,14 @@ use Rattle.bt_meta.specs.Layers.{has_layer_size, has_root}
 use Rattle.bt_meta.specs.Faults.{Check, first_of, fault_if, is_piece_length, head_checks, piece_length_of, tree_of, tree_checks, info_checks, layer_check, layer_checks, info_of, layers_of, first_fault}
 use Rattle.bt_meta.specs.Torrent.{metainfo_of, IsTorrent}
 use Rattle.bt_meta.specs.declared.error.MetaError.TheVariants.{NoInfo, LayerMissing, LayerSize, LayerDiffers}
+use Rattle.bt_meta.specs.declared.making.Made.{Made}
 use Rattle.bt_meta.specs.declared.making.MakeError.{MakeError}
 use Rattle.bt_meta.specs.declared.making.MakeError.TheVariants.{LayerSize as layer_size, LayerDiffers as layer_differs}
-use Rattle.bt_meta.specs.Making.{Given, AreNamed, IsParted, first_refusal, refused_if, layer_refusal, first_layer, AreLayersOf, tree_made, info_made, value_made, file_made, torrent_made}
+use Rattle.bt_meta.specs.Making.{Given, given_of, HasRoot, file_refusal, IsInTreeOrder, AreNamed, IsParted, first_refusal, refused_if, layer_refusal, first_layer, AreLayersOf, tree_made, info_made, value_made, file_made, torrent_made}
 use Rattle.bt_meta.proofs.Checks.{skips, first_of-append}
-use Rattle.bt_meta.proofs.Apart.{first_none, rest_none}
+use Rattle.bt_meta.proofs.Apart.{first_none, rest_none, ordered_named}
 use Rattle.bt_meta.proofs.MadeValues.{canonical_made}
-use Rattle.bt_meta.proofs.MadeGiven.{clash, AreAlike, AreLawful, IsLawful, not_refused}
+use Rattle.bt_meta.proofs.MadeGiven.{clash, AreLawful, IsLawful, lawful_ordered}
 use Rattle.bt_meta.proofs.MadePlaces.{All-back, second, value_is_file}
 use Rattle.bt_meta.proofs.MadeTree.{place_made, length_of_made, root_of_made, IsTreeOf, tree_is}
 use Rattle.bt_meta.proofs.MadeChecks.{tree_passes, count_made}
@@ -238,7 +240,7 @@ said name piece_length files layers layered tree =
 -- ---- the torrent
 
 pub torrent_is : (name : List ℕ) (piece_length : ℕ) (files : List Given) (layers : Entries) (bytes : List ℕ) → is_piece_length piece_length ≡ true → IsParted files → All (λ f. AreNamed f.path) files
-    → AreLawful piece_length files → All (λ f. length f.root ≡ 32) files → length files ≢ 0 → AreLayersOf piece_length files layers → length bytes ≤ 2 ^ 27
+    → AreLawful piece_length files → All HasRoot files → length files ≢ 0 → AreLayersOf piece_length files layers → length bytes ≤ 2 ^ 27
     → bytes ≡ spelling_of (value_made name piece_length files layers) → IsTorrent bytes (torrent_made name piece_length files)
 torrent_is name piece_length files layers bytes lawful parted named h rooted some layered small spelled =
     let tree = tree_is piece_length files parted named h.each rooted in
@@ -251,3 +253,13 @@ torrent_is name piece_length files layers bytes lawful parted named h rooted som
       faultless = made_passes name piece_length files layers lawful h layered tree some;
       described = said name piece_length files layers layered tree;
     }
+
+pub torrent_of_given : (name : List ℕ) (piece_length : ℕ) (files : List Made) (ordered : List Given) (layers : Entries) (bytes : List ℕ) → is_piece_length piece_length ≡ true → false ≡ (length files == 0)
+    → first_refusal (with_earlier (file_refusal piece_length) [] (map given_of files)) ≡ None → All HasRoot (map given_of files) → IsInTreeOrder (map given_of files) ordered → IsParted ordered
+    → AreLayersOf piece_length ordered layers → length bytes ≤ 2 ^ 27 → bytes ≡ spelling_of (value_made name piece_length ordered layers) → IsTorrent bytes (torrent_made name piece_length ordered)
+torrent_of_given name piece_length files ordered layers bytes lawful some none rooted order parted layered small spelled =
+    let given = map given_of files in
+    let more : length files ≢ 0 = grind (arith, nat_tests) in
+    let as_many : length ordered ≡ length files = length_permutation given ordered order.same ∙ length-map files given_of in
+    torrent_is name piece_length ordered layers bytes lawful parted (ordered_named piece_length given ordered none order) (lawful_ordered piece_length given ordered none order)
+    (All-permutation HasRoot given ordered order.same rooted) (rw as_many more) layered small spelled

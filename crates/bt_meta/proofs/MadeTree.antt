@@ -13,7 +13,7 @@ use Rattle.bt_meta.specs.Places.{Place, places_among}
 use Rattle.bt_meta.specs.Files.{is_file, properties_of, length_in, root_in, length_of, root_of}
 use Rattle.bt_meta.specs.Faults.{first_of, has_lawful_length, has_lawful_root}
 use Rattle.bt_meta.specs.Walks.{property_checks}
-use Rattle.bt_meta.specs.Making.{Given, is_path, is_element, AreNamed, IsBehind, IsParted, with_file, properties_made, tree_made}
+use Rattle.bt_meta.specs.Making.{Given, HasRoot, is_path, is_element, AreNamed, IsBehind, IsParted, with_file, properties_made, tree_made}
 use Rattle.bt_meta.proofs.Parted.{IsGrown, grown_begun, grown_more, made_more}
 use Rattle.bt_meta.proofs.MadeGiven.{IsLawful}
 use Rattle.bt_meta.proofs.MadePlaces.{IsGood, IsPut, put_in, second, properties_there, value_is_file}
@@ -72,9 +72,6 @@ pub record IsTreeOf (files : List Given) (tree : Entries) : Type 0 where
   pub good : All IsGood (places_among [] tree)
   pub places : filter is_file (places_among [] tree) ≡ map place_made files
   pub nameless : first_value_of tree [] ≡ None
-
-abbrev HasRoot : Given → Type 0
-HasRoot f = length f.root ≡ 32
 
 tree_begun : IsTreeOf [] no_entries
 unfolding places_among

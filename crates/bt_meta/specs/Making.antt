@@ -35,6 +35,10 @@ pub record Given : Type 0 where
 abbrev pub given_of : Made → Given
 given_of m = record { path = map string_bytes m.path.items; length = m.length; root = m.root; layer = m.layer.items }
 
+-- its root is a digest of 32 bytes, as any is in memory
+abbrev pub HasRoot : Given → Type 0
+HasRoot f = length f.root ≡ 32
+
 -- ---- what is refused
 
 -- A check answers a refusal, or nothing.
@@ -231,6 +235,7 @@ pub record IsMade (name : List ℕ) (piece_length : ℕ) (files : List Given) (b
   pub layers : Entries
   pub layered : AreLayersOf piece_length ordered layers
   pub spelled : bytes ≡ spelling_of (value_made name piece_length ordered layers)
+  pub torrent : IsTorrent bytes (torrent_made name piece_length ordered)
   pub small : length bytes ≤ 2 ^ 27
 
 -- no path begins the next one
