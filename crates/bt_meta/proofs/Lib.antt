@@ -27,3 +27,4 @@ pub mod MadeGiven
 pub mod MadeTree
 pub mod MadeChecks
 pub mod MadeTorrent
+pub mod ReadBack

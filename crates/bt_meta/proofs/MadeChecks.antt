@@ -1,21 +1,20 @@
 -- No check refuses the tree of files that are lawful.
-use Rattle.std.proofs.Common.{subst, ◌≡◌, ◌≢◌, ℕ, ◌+◌, ◌≤◌, ◌<◌, ◌^◌, Bool, true, false, List, [], ◌∷◌, ◌++◌, length, map, None, Some, refl, sym, ap, ◌∙◌, arith, inl, inr, append_assoc, length-append}
-use Rattle.std.specs.Prelude.{filter, nat_eq, nat_lt, slice_index_or, not, ◌&&◌, ◌||◌, ◌==◌, sum_by, replicate, if◌then◌else◌}
+use Rattle.std.proofs.Common.{◌≡◌, ◌≢◌, ℕ, ◌+◌, ◌≤◌, ◌^◌, Bool, true, false, List, [], ◌∷◌, ◌++◌, length, map, None, refl, sym, ap, ◌∙◌, arith, inl, inr, append_assoc, length-append}
+use Rattle.std.specs.Prelude.{filter, nat_eq, nat_lt, not, ◌&&◌, ◌||◌, ◌==◌, sum_by, replicate, if◌then◌else◌}
 use Rattle.std.specs.List.{All, list_any}
 use Rattle.std.specs.Cmp.Lexicographic.{pointwise}
 use Rattle.std.proofs.lemmas.Bool.{cases_Bool}
 use Rattle.std.proofs.lemmas.Bool.Decides.{nat_tests}
-use Rattle.std.proofs.lemmas.List.Elements.{All-nil, All-cons, All-head, All-tail, All-map, All-weaker, filter-append}
+use Rattle.std.proofs.lemmas.List.Elements.{All-head, All-tail, All-map, All-weaker, filter-append}
 use Rattle.std.proofs.lemmas.List.{length-map}
 use Rattle.std.proofs.lemmas.List.Sums.{sum_by-append, sum_by-cons}
-use Rattle.bt_bencode.specs.Data.{Data, dictionary, Entries}
-use Rattle.bt_bencode.specs.Field.{first_value_of}
+use Rattle.bt_bencode.specs.Data.{dictionary, Entries}
 use Rattle.bt_meta.specs.Fields.{has_key}
 use Rattle.bt_meta.specs.Places.{Place, places_below, places_among, with_earlier}
-use Rattle.bt_meta.specs.Files.{is_file, length_of, root_of, properties_of, pieces_of, piece_count}
-use Rattle.bt_meta.specs.Faults.{Check, first_of, fault_if, conflict, is_too_many, entry_check, tree_checks}
-use Rattle.bt_meta.specs.declared.error.MetaError.TheVariants.{Tree, TooMany}
-use Rattle.bt_meta.specs.Making.{Given, tree_made}
+use Rattle.bt_meta.specs.Files.{is_file, length_of, root_of, pieces_of, piece_count}
+use Rattle.bt_meta.specs.Faults.{first_of, fault_if, conflict, is_too_many, entry_check, tree_checks}
+use Rattle.bt_meta.specs.declared.error.MetaError.TheVariants.{Tree}
+use Rattle.bt_meta.specs.Making.{Given}
 use Rattle.bt_meta.proofs.Checks.{skips, first_of-append}
 use Rattle.bt_meta.proofs.ElementTests.{has_conflict, file_counted, folder_counted}
 use Rattle.bt_meta.proofs.MadeGiven.{clash, AreAlike}

@@ -1,5 +1,5 @@
 -- What is known of files that none of the checks before the making refuses.
-use Rattle.std.proofs.Common.{◌≡◌, ℕ, ◌<◌, ◌≤◌, ◌^◌, Bool, true, false, List, [], ◌∷◌, ◌++◌, length, None, Some, refl, sym, ap, ◌∙◌, inl, inr, arith, append_assoc}
+use Rattle.std.proofs.Common.{◌≡◌, ℕ, ◌≤◌, ◌^◌, Bool, true, false, List, [], ◌∷◌, ◌++◌, length, None, refl, ap, ◌∙◌, inl, inr, arith, append_assoc}
 use Rattle.std.specs.Prelude.{nat_eq, nat_le, nat_lt, slice_index_or, not, ◌&&◌, ◌||◌, ◌==◌, sum_by}
 use Rattle.std.specs.List.{All, list_any}
 use Rattle.std.specs.Cmp.Lexicographic.{pointwise}
@@ -10,7 +10,7 @@ use Rattle.std.proofs.lemmas.List.Elements.{All-nil, All-cons, All-push, All-wea
 use Rattle.std.proofs.lemmas.List.Sorted.{All-permutation, length_permutation, sum_by-IsPermutation}
 use Rattle.bt_meta.specs.Places.{with_earlier}
 use Rattle.bt_meta.specs.Files.{piece_count}
-use Rattle.bt_meta.specs.Making.{Given, Check, first_refusal, refused_if, file_refusal, own_refusal, layer_refusal, conflict_with, is_beyond, is_path, IsInTreeOrder}
+use Rattle.bt_meta.specs.Making.{Given, first_refusal, refused_if, file_refusal, own_refusal, layer_refusal, conflict_with, is_beyond, is_path, IsInTreeOrder}
 use Rattle.bt_meta.specs.declared.making.MakeError.{MakeError}
 use Rattle.bt_meta.specs.declared.making.MakeError.TheVariants.{BadPath, FileLength, RootConflict, Count}
 use Rattle.bt_meta.proofs.Roots.{same_bytes_either_way}

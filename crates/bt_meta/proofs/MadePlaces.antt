@@ -1,6 +1,6 @@
 -- The places of a tree that files are put into one behind the other.
-use Rattle.std.proofs.Common.{subst, ◌≡◌, ℕ, ◌+◌, ◌≤◌, Bool, true, false, List, [], ◌∷◌, ◌++◌, length, length-append, arith, None, Some, refl, sym, ap, ◌∙◌, inl, inr, append_assoc}
-use Rattle.std.specs.Prelude.{filter, not, ◌==◌, ◌&&◌, if◌then◌else◌, cond}
+use Rattle.std.proofs.Common.{◌≡◌, ℕ, ◌≤◌, Bool, true, false, List, [], ◌∷◌, ◌++◌, length, length-append, arith, None, refl, sym, ap, ◌∙◌, inl, inr, append_assoc}
+use Rattle.std.specs.Prelude.{filter, not, ◌==◌, ◌&&◌}
 use Rattle.std.specs.List.{All, list_all}
 use Rattle.std.proofs.lemmas.List.{append-nil}
 use Rattle.std.proofs.lemmas.List.Elements.{All-nil, All-cons, All-head, All-tail, All-append, filter-append}
@@ -11,7 +11,7 @@ use Rattle.bt_meta.specs.Places.{Place, places_below, places_among}
 use Rattle.bt_meta.specs.Files.{is_file, properties_of}
 use Rattle.bt_meta.specs.Faults.{first_of, is_node, has_lawful_name, is_path_element}
 use Rattle.bt_meta.specs.Walks.{property_checks}
-use Rattle.bt_meta.specs.Making.{with_file, with_entry, entries_before, is_named, is_element, AreNamed, AreBefore, IsBehind, IsInLast, IsOpened}
+use Rattle.bt_meta.specs.Making.{with_file, with_entry, entries_before, is_named, is_element, AreBefore, IsBehind, IsOpened}
 use Rattle.bt_meta.proofs.FileAdding.{name_of}
 use Rattle.bt_meta.proofs.Folders.{opened_behind, opened_within, file_in}
 
@@ -246,6 +246,6 @@ put_in prefix name (n ∷ p) properties es lawful shallow faultless behind =
     let rest = second (is_element name) (list_all is_element (n ∷ p)) lawful in
     let inside : length ((prefix ++ name ∷ []) ++ n ∷ p) ≤ 64 = rw (append_assoc prefix (name ∷ []) (n ∷ p)) shallow in
     let last = λ (inner : Entries) (behind : IsBehind (n ∷ p) inner).
-        last_folder prefix name (n ∷ p) properties inner (with_file (n ∷ p) (dictionary properties) inner) (element_named name element) (second (not (length name == 0)) (is_path_element name) element) (shorter prefix name (n ∷ p) shallow)
-        (put_in (prefix ++ name ∷ []) n p properties inner rest inside faultless behind) in
+    last_folder prefix name (n ∷ p) properties inner (with_file (n ∷ p) (dictionary properties) inner) (element_named name element) (second (not (length name == 0)) (is_path_element name) element) (shorter prefix name (n ∷ p) shallow)
+    (put_in (prefix ++ name ∷ []) n p properties inner rest inside faultless behind) in
     put_either prefix name (n ∷ p) properties es (element_named name element) rest last behind

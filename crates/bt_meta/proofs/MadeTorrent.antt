@@ -1,26 +1,23 @@
 -- What is made of lawful files is a torrent, and gives them back.
-use Rattle.std.proofs.Common.{subst, ◌≡◌, ◌≢◌, ℕ, ◌+◌, ◌≤◌, ◌<◌, ◌^◌, Bool, true, false, List, [], ◌∷◌, ◌++◌, length, map, Option, None, Some, refl, sym, ap, ◌∙◌, arith, inl, inr, append_assoc}
-use Rattle.std.specs.Prelude.{ℤ, pos, filter, codes, nat_eq, nat_lt, slice_index_or, not, ◌&&◌, ◌==◌, sum_by, replicate, unwrap_or, is_none, if◌then◌else◌}
+use Rattle.std.proofs.Common.{subst, ◌≡◌, ◌≢◌, ℕ, ◌≤◌, ◌^◌, Bool, true, false, List, [], ◌∷◌, ◌++◌, length, map, Option, None, Some, refl, sym, ap, ◌∙◌, arith, inl, inr, append_assoc}
+use Rattle.std.specs.Prelude.{filter, codes, nat_eq, nat_lt, not, ◌&&◌, ◌==◌, sum_by, unwrap_or, if◌then◌else◌}
 use Rattle.std.specs.Option.{option_map, option_and_then}
-use Rattle.std.specs.List.{All, find}
+use Rattle.std.specs.List.{All}
 use Rattle.std.specs.Cmp.Lexicographic.{pointwise}
 use Rattle.std.proofs.lemmas.Bool.{cases_Bool}
 use Rattle.std.proofs.lemmas.Bool.Decides.{nat_tests}
 use Rattle.std.proofs.lemmas.List.{map_push, length-map}
 use Rattle.std.proofs.lemmas.List.Sorted.{All-permutation, length_permutation}
-use Rattle.std.proofs.lemmas.List.Elements.{All-nil, All-cons, All-head, All-tail, All-weaker}
+use Rattle.std.proofs.lemmas.List.Elements.{All-head, All-tail, All-weaker}
 use Rattle.std.proofs.lemmas.Slice.Eq.{bytes_eq-Decides}
-use Rattle.sha2.specs.Sha256.{sha256}
-use Rattle.bt_bencode.specs.Data.{Data, integer, string, dictionary, Entries, no_entries, entry}
-use Rattle.bt_bencode.specs.Field.{first_value_of}
+use Rattle.bt_bencode.specs.Data.{string, dictionary, Entries}
 use Rattle.bt_bencode.specs.Spelling.{spelling_of}
-use Rattle.bt_meta.specs.Fields.{integer_at, natural_at, string_at, dictionary_at, has_key, as_string}
-use Rattle.bt_meta.specs.Places.{Place, places_below, places_among, with_earlier}
-use Rattle.bt_meta.specs.Files.{File, is_file, length_of, root_of, pieces_of, piece_count, layer_at, file_at, files_of}
+use Rattle.bt_meta.specs.Fields.{integer_at, string_at, dictionary_at, has_key, as_string}
+use Rattle.bt_meta.specs.Places.{places_below, with_earlier}
+use Rattle.bt_meta.specs.Files.{is_file, length_of, pieces_of, piece_count, layer_at, file_at, files_of}
 use Rattle.bt_meta.specs.Layers.{has_layer_size, has_root}
-use Rattle.bt_meta.specs.Faults.{Check, first_of, fault_if, is_piece_length, head_checks, piece_length_of, tree_of, tree_checks, info_checks, layer_check, layer_checks, info_of, layers_of, first_fault}
+use Rattle.bt_meta.specs.Faults.{first_of, is_piece_length, head_checks, piece_length_of, tree_of, tree_checks, layer_check, layer_checks, info_of, layers_of, first_fault}
 use Rattle.bt_meta.specs.Torrent.{metainfo_of, IsTorrent}
-use Rattle.bt_meta.specs.declared.error.MetaError.TheVariants.{NoInfo, LayerMissing, LayerSize, LayerDiffers}
 use Rattle.bt_meta.specs.declared.making.Made.{Made}
 use Rattle.bt_meta.specs.declared.making.MakeError.{MakeError}
 use Rattle.bt_meta.specs.declared.making.MakeError.TheVariants.{LayerSize as layer_size, LayerDiffers as layer_differs}
@@ -234,8 +231,14 @@ said : (name : List ℕ) (piece_length : ℕ) (files : List Given) (layers : Ent
     → torrent_made name piece_length files ≡ metainfo_of (info_of (value_made name piece_length files layers)) (layers_of (value_made name piece_length files layers))
 unfolding torrent_made metainfo_of
 said name piece_length files layers layered tree =
-    rw (info_is name piece_length files layers, layers_are name piece_length files layers, length_is name piece_length files, tree_there name piece_length files, name_is name piece_length files,
-    files_back piece_length layers files layered tree) refl
+    rw (
+      info_is name piece_length files layers,
+      layers_are name piece_length files layers,
+      length_is name piece_length files,
+      tree_there name piece_length files,
+      name_is name piece_length files,
+      files_back piece_length layers files layered tree,
+    ) refl
 
 -- ---- the torrent
 

@@ -1,22 +1,22 @@
 -- The tree of files that are put into it in their order.
-use Rattle.std.proofs.Common.{subst, ◌≡◌, ℕ, zero, suc, ◌+◌, ◌<◌, ◌≤◌, ◌^◌, Bool, true, false, List, [], ◌∷◌, ◌++◌, length, map, None, Some, refl, sym, ap, ◌∙◌, arith, inl, inr}
-use Rattle.std.specs.Prelude.{filter, get_or, take, replicate, codes, nat_le, not, ◌||◌, ◌==◌, if◌then◌else◌}
+use Rattle.std.proofs.Common.{subst, ◌≡◌, ℕ, zero, suc, ◌+◌, ◌<◌, ◌≤◌, ◌^◌, Bool, true, false, List, [], ◌∷◌, ◌++◌, length, map, None, refl, sym, ap, ◌∙◌, arith, inl, inr}
+use Rattle.std.specs.Prelude.{filter, get_or, take, replicate, codes, not, ◌||◌, ◌==◌, if◌then◌else◌}
 use Rattle.std.specs.List.{All, list_all}
 use Rattle.std.proofs.lemmas.Bool.{cases_Bool}
 use Rattle.std.proofs.lemmas.Bool.Decides.{nat_tests}
 use Rattle.std.proofs.lemmas.List.{take_more, take_all, map_push, get_or_default}
 use Rattle.std.proofs.lemmas.List.Elements.{All-nil, All-get_or}
-use Rattle.bt_bencode.specs.Data.{Data, dictionary, Entries, no_entries, entry}
+use Rattle.bt_bencode.specs.Data.{dictionary, Entries, no_entries, entry}
 use Rattle.bt_bencode.specs.Field.{first_value_of}
 use Rattle.bt_meta.specs.Fields.{integer_at, string_at, has_key}
 use Rattle.bt_meta.specs.Places.{Place, places_among}
-use Rattle.bt_meta.specs.Files.{is_file, properties_of, length_in, root_in, length_of, root_of}
+use Rattle.bt_meta.specs.Files.{is_file, length_in, root_in, length_of, root_of}
 use Rattle.bt_meta.specs.Faults.{first_of, has_lawful_length, has_lawful_root}
 use Rattle.bt_meta.specs.Walks.{property_checks}
 use Rattle.bt_meta.specs.Making.{Given, HasRoot, is_path, is_element, AreNamed, IsBehind, IsParted, with_file, properties_made, tree_made}
 use Rattle.bt_meta.proofs.Parted.{IsGrown, grown_begun, grown_more, made_more}
 use Rattle.bt_meta.proofs.MadeGiven.{IsLawful}
-use Rattle.bt_meta.proofs.MadePlaces.{IsGood, IsPut, put_in, second, properties_there, value_is_file}
+use Rattle.bt_meta.proofs.MadePlaces.{IsGood, IsPut, put_in, second, properties_there}
 
 -- ---- the properties of a file
 

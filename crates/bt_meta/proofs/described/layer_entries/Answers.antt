@@ -1,9 +1,7 @@
-use Rattle.std.proofs.Common.{◌≡◌, ap, ◌∙◌, sym, refl, map}
-use Rattle.std.specs.Prelude.{ℕ, List}
+use Rattle.std.proofs.Common.{ap, ◌∙◌}
 use Rattle.bt_bencode.specs.Data.{string, no_entries, entry}
-use Rattle.bt_bencode.specs.Spelling.{EntriesAscend}
 use Rattle.bt_bencode.specs.Field.{first_value_of}
-use Rattle.bt_bencode.specs.View.{data_of, entries_of}
+use Rattle.bt_bencode.specs.View.{entries_of}
 use Rattle.bt_bencode.proofs.Views.{data_of-Bytes}
 use Rattle.bt_meta.specs.Making.{entries_before}
 use Rattle.bt_meta.proofs.Roots.{layer_list, list_more, list_found, list_ascends, list_finds}
