@@ -20,3 +20,4 @@ pub mod LayerChecks
 pub mod Refused
 pub mod Parted
 pub mod Apart
+pub mod Overlap

@@ -10,3 +10,4 @@ pub mod Reading
 pub mod Place
 pub mod Walks
 pub mod Making
+pub mod NotMade
