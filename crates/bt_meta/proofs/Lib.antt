@@ -21,3 +21,4 @@ pub mod Refused
 pub mod Parted
 pub mod Apart
 pub mod Overlap
+pub mod Ascending
