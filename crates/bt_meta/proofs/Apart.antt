@@ -12,7 +12,8 @@ use Rattle.std.specs.declared.cmp.Ordering.TheVariants.{Less, Equal, Greater}
 use Rattle.std.proofs.lemmas.Bool.{cases_lt, true≢false}
 use Rattle.std.proofs.lemmas.List.{get_or-map, length-map}
 use Rattle.std.proofs.lemmas.Slice.Eq.{bytes_eq-Decides}
-use Rattle.bt_meta.specs.Making.{Given, given_of, lent_of, begins, path_order, IsInTreeOrder, IsParted, AreApart, Check, first_refusal, refused_if, file_refusal, own_refusal, layer_refusal, conflict_with, is_beyond, is_path, is_element, AreNamed, refusal_of_files, Refuses, IsNotMade}
+use Rattle.bt_meta.specs.Making.{Given, given_of, lent_of, begins, path_order, IsInTreeOrder, IsParted, Check, first_refusal, refused_if, file_refusal, own_refusal, layer_refusal, conflict_with, is_beyond, is_path, is_element, AreNamed, refusal_of_files, Refuses}
+use Rattle.bt_meta.specs.NotMade.{have_overlap, IsNotMade, no_memory, unlawful}
 use Rattle.bt_meta.specs.Faults.{is_piece_length}
 use Rattle.std.proofs.lemmas.Bool.{cases_Bool}
 use Rattle.std.proofs.lemmas.Bool.Decides.{nat_tests}
@@ -23,6 +24,7 @@ use Rattle.bt_meta.specs.declared.making.Made.{Made}
 use Rattle.bt_meta.specs.declared.making.MakeError.{MakeError}
 use Rattle.bt_meta.specs.declared.making.MakeError.TheVariants.{PieceLength, BadPath, FileLength, RootConflict, Count}
 use Rattle.bt_meta.proofs.Parted.{same_bytes}
+use Rattle.bt_meta.proofs.Overlap.{AreApart, next_apart}
 
 pub begins_by_bytes : (path other : List (String Global)) → starts_with string_eq other path ≡ begins (map string_bytes path) (map string_bytes other)
 begins_by_bytes [] other = refl
@@ -74,8 +76,9 @@ before_next p q Greater is up apart =
     let back : path_order q p ≡ Less = (lists_total nat_list_cmp_total).antisymm q p ∙ ap ordering_reverse (sym is) in
     absurd (true≢false (sym (ap is_lt back) ∙ up))
 
-pub parted : (files ordered : List Given) → IsInTreeOrder files ordered → AreApart ordered → IsParted ordered
-parted files ordered h apart k d lt =
+pub parted : (files ordered : List Given) → IsInTreeOrder files ordered → have_overlap ordered ≡ false → IsParted ordered
+parted files ordered h none k d lt =
+    let apart : AreApart ordered = next_apart ordered none in
     let p = (get_or ordered k d).path in
     let q = (get_or ordered (k + 1) d).path in
     (before_next p q (path_order p q) refl (h.ascending k d (omega arith) lt) (apart k d lt), apart k d lt)
@@ -173,9 +176,9 @@ pub files_refused : (piece_length : ℕ) (files : List Made) → true ≡ is_pie
 unfolding refusal_of_files
 files_refused piece_length files is some = rw (← is, count_of files false some) refl
 
-pub refused_as : (piece_length : ℕ) (files : List Made) (e : MakeError) → true ≡ is_piece_length piece_length → false ≡ (length files == 0)
-    → Refuses (first_refusal (with_earlier (file_refusal piece_length) [] (map given_of files))) e → IsNotMade piece_length (map given_of files) e
-refused_as piece_length files e is some h = elim h [
-  | inl memory ↦ inl memory
-  | inr found ↦ inr (inl (files_refused piece_length files is some ∙ found))
+pub refused_as : (name : List ℕ) (piece_length : ℕ) (files : List Made) (e : MakeError) → true ≡ is_piece_length piece_length → false ≡ (length files == 0)
+    → Refuses (first_refusal (with_earlier (file_refusal piece_length) [] (map given_of files))) e → IsNotMade name piece_length (map given_of files) e
+refused_as name piece_length files e is some h = elim h [
+  | inl memory ↦ subst (λ x. IsNotMade name piece_length (map given_of files) x) (sym memory) no_memory
+  | inr found ↦ unlawful e (files_refused piece_length files is some ∙ found)
 ]

@@ -91,7 +91,7 @@ value_ascends (entry k v es) key d h e = value_at (pointwise nat_eq k key) v es 
     value_at true v es key d h more e = let same : v ≡ d = cc in let P : Data → Type 0 = λ x. HasAscendingKeys x in subst P same h
     value_at false v es key d h more e = more e
 
-field_ascends : (d : Data) (key : List ℕ) (v : Data) → HasAscendingKeys d → field_of d key ≡ Some v → HasAscendingKeys v
+pub field_ascends : (d : Data) (key : List ℕ) (v : Data) → HasAscendingKeys d → field_of d key ≡ Some v → HasAscendingKeys v
 unfolding HasAscendingKeys
 field_ascends (integer z) key v h e = cc
 field_ascends (string s) key v h e = cc

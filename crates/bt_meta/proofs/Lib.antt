@@ -28,3 +28,5 @@ pub mod MadeTree
 pub mod MadeChecks
 pub mod MadeTorrent
 pub mod ReadBack
+pub mod Overlap
+pub mod Ascending

@@ -11,3 +11,4 @@ pub mod Place
 pub mod Walks
 pub mod Making
 pub mod ReadBack
+pub mod NotMade

@@ -108,10 +108,6 @@ refusal_of_files piece_length files = first_refusal (
     ∷ refused_if (length files == 0) Count
     ∷ with_earlier (file_refusal piece_length) [] files)
 
--- want of memory, or that first refusal; or where there is none, that a path begins another, or that the text is too long
-abbrev pub IsNotMade : ℕ → List Given → MakeError → Type 0
-IsNotMade piece_length files e = (e ≡ OutOfMemory) ⊎ (refusal_of_files piece_length files ≡ Some e) ⊎ ((refusal_of_files piece_length files ≡ None) × ((e ≡ BadPath) ⊎ (e ≡ Count)))
-
 -- ---- the steps of the check
 
 abbrev pub Lengths : Type 0
@@ -237,10 +233,6 @@ pub record IsMade (name : List ℕ) (piece_length : ℕ) (files : List Given) (b
   pub spelled : bytes ≡ spelling_of (value_made name piece_length ordered layers)
   pub torrent : IsTorrent bytes (torrent_made name piece_length ordered)
   pub small : length bytes ≤ 2 ^ 27
-
--- no path begins the next one
-abbrev pub AreApart : List Given → Type 0
-AreApart files = (k : ℕ) (d : Given) → k + 1 < length files → begins (get_or files k d).path (get_or files (k + 1) d).path ≡ false
 
 -- a value of a torrent of the files in tree order
 pub record IsValueOf (name : List ℕ) (piece_length : ℕ) (files : List Given) (value : Data) : Type 0 where

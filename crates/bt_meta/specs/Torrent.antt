@@ -1,5 +1,9 @@
 -- The torrent that bytes spell (BEP 52, "metainfo files").
 use Rattle.std.specs.Prelude.{◌≡◌, ℕ, ◌^◌, ◌<◌, ◌≤◌, List, [], length, take, get_or, codes, sum_by, unwrap_or, None}
+use Rattle.std.specs.List.{AllPairs}
+use Rattle.std.specs.Ordering.{nat_cmp}
+use Rattle.std.specs.Cmp.Lexicographic.{slice_cmp}
+use Rattle.std.specs.declared.cmp.Ordering.TheVariants.{Less}
 use Rattle.sha2.specs.Sha256.{sha256}
 use Rattle.bt_bencode.specs.Data.{Data}
 use Rattle.bt_bencode.specs.Spelling.{spelling_of, IsCanonical}
@@ -48,3 +52,7 @@ total_pieces torrent = sum_by (λ f. piece_count torrent.piece_length f.length) 
 pub record IsLaidOut (piece_length : ℕ) (files : List File) : Type 0 where
   pub few : length files ≤ 65536
   pub in_turn : (k : ℕ) (d : File) → k < length files → (get_or files k d).first_piece ≡ sum_by (λ f. piece_count piece_length f.length) (take k files)
+
+-- each file's path stands before those of the later files, as lists of byte strings
+abbrev pub HaveAscendingPaths : List File → Type 0
+HaveAscendingPaths files = AllPairs (λ f g. slice_cmp (slice_cmp nat_cmp) f.path g.path ≡ Less) files

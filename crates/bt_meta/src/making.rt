@@ -1,10 +1,12 @@
 //! Making torrents.
 ghost use Rattle.std.specs.Prelude.{◌≡◌, ℕ, ◌^◌, ◌<◌, ◌≤◌, ◌++◌, ◌∷◌, [], ◌⊎◌, List, map, IfOk, OnOk, IfErr, MatchResult, string_bytes, None, true, false};
 ghost use Rattle.std.specs.List.{All};
+ghost use Rattle.std.specs.List.Sorted.{IsSortedBy};
 ghost use Rattle.std.specs.Result.{result_err};
 ghost use Rattle.bt_meta.specs.Places.{with_earlier};
 ghost use Rattle.bt_meta.specs.Faults.{is_piece_length as is_lawful_piece_length};
-ghost use Rattle.bt_meta.specs.Making.{Given, given_of, HasRoot, first_refusal, file_refusal, own_refusal, layer_refusal, is_path as is_lawful_path, is_element as is_lawful_element, HasLengths, HasTaken, IsWithin, Refuses, conflict_with, IsInTreeOrder, lent_of, path_order, AreApart, begins as begins_path, IsMade, IsNotMade};
+ghost use Rattle.bt_meta.specs.Making.{Given, given_of, HasRoot, first_refusal, file_refusal, own_refusal, layer_refusal, is_path as is_lawful_path, is_element as is_lawful_element, HasLengths, HasTaken, IsWithin, Refuses, conflict_with, IsInTreeOrder, lent_of, path_order, is_before, begins as begins_path, IsMade};
+ghost use Rattle.bt_meta.specs.NotMade.{have_overlap, IsNotMade};
 ghost use Rattle.bt_meta.specs.declared.making.MakeError.TheVariants.{OutOfMemory as out_of_memory, RootConflict as root_conflict};
 
 use crate::described::value_of;
@@ -81,7 +83,8 @@ pub fn make(
     files: &[Made],
 ) -> Result<Vec<u8>, MakeError>
     ensures made { IfOk result (λ text. IsMade name.now piece_length (map given_of files.now) text.items) }
-    ensures refused { IfErr result (IsNotMade piece_length (map given_of files.now)) }
+    ensures apart { OnOk result (have_overlap (map given_of files.now) ≡ false) }
+    ensures refused { IfErr result (IsNotMade name.now piece_length (map given_of files.now)) }
 {
     if !is_piece_length(piece_length as u64) {
         return Err(MakeError::PieceLength);
@@ -244,9 +247,10 @@ fn order_of(path: &[String], other: &[String]) -> Ordering
     path.cmp(other)
 }
 
-/// Whether a path begins the next one. In tree order this is so where any path begins another.
+/// Whether a path begins another, or is another. In tree order this is so just where a path begins the next one.
 fn has_overlap(files: &[&Made]) -> bool
-    ensures { result ≡ false → AreApart (map lent_of files.now) }
+    requires { IsSortedBy is_before (map lent_of files.now) }
+    ensures { result ≡ have_overlap (map lent_of files.now) }
 {
     for i in 1..files.len() {
         if begins(&files[i - 1].path, &files[i].path) {

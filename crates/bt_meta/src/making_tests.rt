@@ -24,14 +24,16 @@ fn made(
     })
 }
 
-/// A file of one byte.
-fn small(alloc: Global, path: &str) -> Result<Made, AllocError> {
-    made(alloc, path, 1, [7; 32], &[])
-}
+/// A file of the root of sevens: its path, its length and its layer.
+type Row<'a> = (&'a str, u64, &'a [u8]);
 
-/// The refusal of files of pieces of 16,384 bytes.
-fn refusal(alloc: Global, files: &[Made]) -> Option<MakeError> {
-    make(alloc, b"n", 16_384, files).err()
+/// The refusal of such files, of pieces of 16,384 bytes.
+fn refusal(alloc: Global, rows: &[Row<'_>]) -> Result<Option<MakeError>, AllocError> {
+    let mut files = Vec::new(alloc);
+    for (path, length, layer) in rows {
+        files.push(made(alloc, path, *length, [7; 32], layer)?)?;
+    }
+    Ok(make(alloc, b"n", 16_384, &files).err())
 }
 
 #[test]
@@ -47,7 +49,6 @@ fn makes_the_abc_torrent(rt: HostRuntime) -> Result<(), Fail> {
         b"eee12:meta versioni2e4:name5:a.txt12:piece lengthi16384ee12:piece layersdee",
     )?;
     assert_eq!(rt; text, wanted);
-    assert_eq!(rt; refusal(alloc, &[]), Some(MakeError::Count));
     Ok(())
 }
 
@@ -75,59 +76,79 @@ fn puts_the_files_in_tree_order(rt: HostRuntime) -> Result<(), Fail> {
     Ok(())
 }
 
-/// One refusal of `make` for each rule, and of each pair of neighbouring rules the earlier one.
+/// A path of so many elements.
+fn deep(alloc: Global, elements: usize) -> Result<String, AllocError> {
+    let mut path = String::from_str(alloc, "a")?;
+    for _ in 1..elements {
+        path.push_str("/a")?;
+    }
+    Ok(path)
+}
+
+const TOO_LONG: u64 = 1 << 41;
+
+/// One refusal of `make` for each rule, and of neighbouring rules that are broken together the earlier one.
 #[test]
-fn refuses_files_by_name(rt: HostRuntime) -> Result<(), Fail> {
+fn refuses_in_order(rt: HostRuntime) -> Result<(), Fail> {
     let alloc = rt.alloc();
-    let bad_path = made(alloc, "..", 1 << 41, [7; 32], &[])?;
-    let bad_length = made(alloc, "a", 1 << 41, [7; 32], &[1])?;
-    let bad_size = made(alloc, "a", 16_385, [7; 32], &[1])?;
-    let bad_layer = made(alloc, "a", 16_385, [7; 32], &[1; 64])?;
-    assert_eq!(rt;
-        make(alloc, b"n", 20_000, &[]).err(),
-        Some(MakeError::PieceLength)
-    );
-    assert_eq!(rt; refusal(alloc, &[bad_path]), Some(MakeError::BadPath));
-    assert_eq!(rt; refusal(alloc, &[bad_length]), Some(MakeError::FileLength));
-    assert_eq!(rt; refusal(alloc, &[bad_size]), Some(MakeError::LayerSize));
-    assert_eq!(rt; refusal(alloc, &[bad_layer]), Some(MakeError::LayerDiffers));
-    let twin = made(alloc, "b", 2, [7; 32], &[])?;
-    assert_eq!(rt;
-        refusal(alloc, &[small(alloc, "a")?, twin]),
-        Some(MakeError::RootConflict)
-    );
+    let table: [(&[Row<'_>], MakeError); 9] = [
+        (&[], MakeError::Count),
+        (&[("..", TOO_LONG, &[])], MakeError::BadPath),
+        (&[("a//b", 1, &[])], MakeError::BadPath),
+        (&[("a", TOO_LONG, &[1])], MakeError::FileLength),
+        (&[("a", 1, &[]), ("b", 16_385, &[1])], MakeError::LayerSize),
+        (
+            &[("a", 1, &[]), ("b", 16_385, &[1; 64])],
+            MakeError::LayerDiffers,
+        ),
+        (&[("a", 1, &[]), ("a", 1, &[])], MakeError::BadPath),
+        // The paths are compared after the last file, and each with each.
+        (
+            &[("a", 1, &[]), ("a", 1, &[]), ("b", TOO_LONG, &[])],
+            MakeError::FileLength,
+        ),
+        (
+            &[("a/b", 1, &[]), ("c", 1, &[]), ("a", 1, &[])],
+            MakeError::BadPath,
+        ),
+    ];
+    for (rows, wanted) in table {
+        assert_eq!(rt; refusal(alloc, rows)?, Some(wanted));
+    }
+    let none = make(alloc, b"n", 20_000, &[]);
+    assert_eq!(rt; none.err(), Some(MakeError::PieceLength));
     Ok(())
 }
 
-#[test]
-fn refuses_paths_that_exclude_each_other(rt: HostRuntime) -> Result<(), Fail> {
-    let alloc = rt.alloc();
-    let folder = [small(alloc, "a/b")?, small(alloc, "a")?];
-    assert_eq!(rt; refusal(alloc, &folder), Some(MakeError::BadPath));
-    let same = [small(alloc, "a/b")?, small(alloc, "a/b")?];
-    assert_eq!(rt; refusal(alloc, &same), Some(MakeError::BadPath));
-    let apart = [small(alloc, "a/b")?, small(alloc, "a.b")?];
-    assert_eq!(rt; refusal(alloc, &apart), None);
-    assert_eq!(rt;
-        refusal(alloc, &[small(alloc, "a//b")?]),
-        Some(MakeError::BadPath)
-    );
-    Ok(())
-}
-
+/// Before a path of 65 elements stands the conflict of its root, and behind it a later file and the paths together.
 #[test]
 fn refuses_a_path_of_65_elements(rt: HostRuntime) -> Result<(), Fail> {
     let alloc = rt.alloc();
-    let mut path = String::from_str(alloc, "a")?;
-    for _ in 0..63 {
-        path.push_str("/a")?;
-    }
-    assert_eq!(rt; refusal(alloc, &[small(alloc, path.as_str())?]), None);
-    path.push_str("/a")?;
-    assert_eq!(rt;
-        refusal(alloc, &[small(alloc, path.as_str())?]),
-        Some(MakeError::Count)
-    );
+    let path = deep(alloc, 65)?;
+    let twins: [Row<'_>; 2] = [("a", 1, &[]), (path.as_str(), 2, &[])];
+    assert_eq!(rt; refusal(alloc, &twins)?, Some(MakeError::RootConflict));
+    let parent: [Row<'_>; 2] = [(path.as_str(), 1, &[]), ("..", 1, &[])];
+    assert_eq!(rt; refusal(alloc, &parent)?, Some(MakeError::Count));
+    let overlap: [Row<'_>; 2] = [("a", 1, &[]), (path.as_str(), 1, &[])];
+    assert_eq!(rt; refusal(alloc, &overlap)?, Some(MakeError::Count));
+    Ok(())
+}
+
+#[test]
+fn takes_paths_that_begin_alike(rt: HostRuntime) -> Result<(), Fail> {
+    let alloc = rt.alloc();
+    let path = deep(alloc, 64)?;
+    let rows: [Row<'_>; 3] = [("a.b", 1, &[]), (path.as_str(), 1, &[]), ("a/b", 1, &[])];
+    assert_eq!(rt; refusal(alloc, &rows)?, None);
+    Ok(())
+}
+
+/// The file that is one too many is refused before a later one, and before the paths are compared.
+#[test]
+fn refuses_65537_files(rt: HostRuntime) -> Result<(), Fail> {
+    let alloc = rt.alloc();
+    let rows: Vec<Row<'_>> = vec![in alloc; ("a", 1, b"".as_slice()); 65_537]?;
+    assert_eq!(rt; refusal(alloc, &rows)?, Some(MakeError::Count));
     Ok(())
 }
 

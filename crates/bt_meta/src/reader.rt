@@ -7,7 +7,7 @@ ghost use Rattle.bt_bencode.specs.View.{data_of};
 ghost use Rattle.bt_meta.specs.Fields.{integer_at, no_dictionary};
 ghost use Rattle.bt_meta.specs.Files.{file_of};
 ghost use Rattle.bt_meta.specs.Faults.{first_of, head_checks, first_fault, first_info_fault, version_check, is_hybrid as is_hybrid_info, is_piece_length as is_lawful_piece_length, piece_length_of, info_of, layers_of};
-ghost use Rattle.bt_meta.specs.Torrent.{IsTorrent, IsInfo, metainfo_of, IsLaidOut};
+ghost use Rattle.bt_meta.specs.Torrent.{IsTorrent, IsInfo, metainfo_of, IsLaidOut, HaveAscendingPaths};
 ghost use Rattle.bt_meta.specs.Refusals.{IsRefused};
 ghost use Rattle.bt_meta.specs.Reading.{IsHead, Refuses, pieces_in};
 
@@ -29,6 +29,7 @@ pub const MAX_TEXT_LENGTH: usize = 1 << 27;
 /// Errors: the first of [`MetaError`] that applies; want of memory may stand in place of any.
 pub fn read_torrent(alloc: Global, bytes: &[u8]) -> Result<Torrent, MetaError>
     ensures torrent { IfOk result (IsTorrent bytes.now) }
+    ensures ascending { IfOk result (λ torrent. HaveAscendingPaths torrent.files) }
     ensures refused { IfErr result (IsRefused first_fault bytes.now) }
 {
     if bytes.len() > MAX_TEXT_LENGTH {
@@ -43,6 +44,7 @@ pub fn read_torrent(alloc: Global, bytes: &[u8]) -> Result<Torrent, MetaError>
 /// Errors: those of [`read_torrent`] but the three of layers, in its order.
 pub fn read_info(alloc: Global, bytes: &[u8]) -> Result<Torrent, MetaError>
     ensures torrent { IfOk result (IsInfo bytes.now) }
+    ensures ascending { IfOk result (λ torrent. HaveAscendingPaths torrent.files) }
     ensures refused { IfErr result (IsRefused first_info_fault bytes.now) }
 {
     if bytes.len() > MAX_TEXT_LENGTH {

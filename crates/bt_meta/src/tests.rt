@@ -300,6 +300,29 @@ fn bounds_paths_and_files(rt: HostRuntime) -> Result<(), Fail> {
     Ok(())
 }
 
+#[test]
+fn refuses_65537_files(rt: HostRuntime) -> Result<(), Fail> {
+    let mut tree = String::from_str(rt.alloc(), "d")?;
+    for i in 0..65_537u32 {
+        let file = format!(in rt.alloc(); "5:{i:05}d0:d6:lengthi0eee")?;
+        tree.push_str(&file)?;
+    }
+    tree.push_str("e")?;
+    let answer = tree_refusal(&rt, &tree)?;
+    assert_eq!(rt; answer.as_str(), "M14 TooMany");
+    Ok(())
+}
+
+#[test]
+fn refuses_names_that_are_no_text(rt: HostRuntime) -> Result<(), Fail> {
+    let answer = refusal(
+        &rt,
+        b"d9:file treed1:\xffd0:d6:lengthi0eeee12:meta versioni2e4:name1:a12:piece lengthi16384ee",
+    )?;
+    assert_eq!(rt; answer.as_str(), "M9 BadPath");
+    Ok(())
+}
+
 /// The root of the tree of 1,048,577 bytes whose layer of 17 pieces of 65,536 bytes has the digests 00.., 01.. up to
 /// 10.. of one byte each.
 const LAYERED_ROOT: [u8; 32] = [

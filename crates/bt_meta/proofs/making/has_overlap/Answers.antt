@@ -1,5 +1,7 @@
-use Rattle.std.proofs.Common.{arith, sym, ◌∙◌, refl}
+use Rattle.std.proofs.Common.{arith, sym, ◌∙◌, refl, map}
+use Rattle.bt_meta.specs.Making.{lent_of}
 use Rattle.bt_meta.proofs.Apart.{apart_begun, apart_more, apart_found}
+use Rattle.bt_meta.proofs.Overlap.{overlap_found, none_overlap}
 use Rattle.bt_meta.proofs.making.has_overlap.Goals as goal
 
 pub loop-i-init : goal.loop-i-init
@@ -10,5 +12,10 @@ loop-i-preserved c =
     apart_more c.args.files.now c.loop-i.i c.index-files-i.result c.index-files-i-in-loop-i.result c.loop-i.auto.i c.loop-i-test.true c.index-files-i.is c.index-files-i-in-loop-i.is
     (sym (c.if-begins.ensures ∙ rw (c.deref.ensures.value, c.deref-in-loop-i.ensures.value, ← c.index-files-i.is, ← c.index-files-i-in-loop-i.is) refl)) c.loop-i.invariant
 
+pub returns-then-begins : goal.returns-then-begins
+returns-then-begins c =
+    overlap_found c.args.files.now c.loop-i.i c.index-files-i.result c.index-files-i-in-loop-i.result c.loop-i.auto.i c.loop-i-test.true c.index-files-i.is c.index-files-i-in-loop-i.is
+    (sym (c.if-begins.ensures ∙ rw (c.deref.ensures.value, c.deref-in-loop-i.ensures.value, ← c.index-files-i.is, ← c.index-files-i-in-loop-i.is) refl))
+
 pub returns : goal.returns
-returns c none = apart_found c.args.files.now c.loop-i.i c.loop-i.invariant (omega (arith, c.loop-i-test.false))
+returns c = none_overlap (map lent_of c.args.files.now) c.requires (apart_found c.args.files.now c.loop-i.i c.loop-i.invariant (omega (arith, c.loop-i-test.false)))

@@ -1,10 +1,12 @@
 use Rattle.std.proofs.Common.{ap, ◌∙◌, arith}
 use Rattle.std.proofs.lemmas.Result.{err_from_is_err_and}
-use Rattle.bt_bencode.specs.Spelling.{spelling_of}
+use Rattle.bt_bencode.specs.Spelling.{spelling_of, IsCanonical}
 use Rattle.bt_bencode.specs.View.{data_of}
+use Rattle.bt_meta.specs.Fields.{no_dictionary}
 use Rattle.bt_meta.specs.Faults.{first_info_fault}
 use Rattle.bt_meta.specs.Refusals.{too_long, no_spelling}
 use Rattle.bt_meta.proofs.Refused.{value_refused}
+use Rattle.bt_meta.proofs.Ascending.{info_ascends}
 use Rattle.bt_meta.proofs.reader.read_info.Goals as goal
 
 pub returns-then-bytes-gt-MAX_TEXT_LENGTH-clause-refused : goal.returns-then-bytes-gt-MAX_TEXT_LENGTH-clause-refused
@@ -19,3 +21,9 @@ pub returns-clause-refused : goal.returns-clause-refused
 returns-clause-refused c =
     let same = ap data_of c.value.ensures.same in
     value_refused first_info_fault c.args.bytes.now (data_of c.value.result.now) c.info_in.result (omega arith) (rw same c.value.ensures.canonical) (ap spelling_of same ∙ c.in_ok-info.ensures.spelled) c.info_in.ensures.refused
+
+pub returns-clause-ascending : goal.returns-clause-ascending
+returns-clause-ascending c =
+    let same = ap data_of c.value.ensures.same in
+    let canonical : IsCanonical (data_of c.value.result.now) = rw same c.value.ensures.canonical in
+    info_ascends (data_of c.value.result.now) no_dictionary c.info_in.result canonical.keys c.info_in.ensures.described
