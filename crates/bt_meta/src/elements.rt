@@ -13,7 +13,7 @@ use std::collections::BTreeMap;
 use std::str;
 
 /// The longest file: 2^40 bytes.
-pub(crate) const MAX_FILE_LENGTH: u64 = 1 << 40;
+pub const MAX_FILE_LENGTH: u64 = 1 << 40;
 
 /// What the properties of a file say.
 #[derive(Clone, Copy)]

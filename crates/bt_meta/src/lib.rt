@@ -12,11 +12,13 @@ mod reader;
 mod torrent;
 mod walk;
 
+pub use elements::MAX_FILE_LENGTH;
 pub use error::MetaError;
 pub use law::torrents_are_read_back;
 pub use making::{Made, MakeError, make};
 pub use reader::{MAX_TEXT_LENGTH, read_info, read_torrent};
 pub use torrent::{FileEntry, Span, Torrent};
+pub use walk::{MAX_FILES, MAX_PATH_LENGTH, MAX_PIECES};
 
 #[cfg(test)]
 mod making_tests;

@@ -16,13 +16,13 @@ use std::alloc::{AllocError, Global};
 use std::collections::BTreeMap;
 
 /// How many elements a path has at most.
-pub(crate) const MAX_PATH_LENGTH: usize = 64;
+pub const MAX_PATH_LENGTH: usize = 64;
 
 /// How many files a torrent has at most.
-pub(crate) const MAX_FILES: usize = 65536;
+pub const MAX_FILES: usize = 65536;
 
 /// How many pieces a torrent has at most: 2^21.
-pub(crate) const MAX_PIECES: u64 = 1 << 21;
+pub const MAX_PIECES: u64 = 1 << 21;
 
 /// The files of a tree, without their layers, and how many pieces they have together.
 #[derive(Drop)]

@@ -3,6 +3,7 @@
 
 mod check;
 mod command_line;
+mod counts;
 mod data_file;
 mod digests;
 mod fault;

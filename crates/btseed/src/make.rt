@@ -1,7 +1,8 @@
 //! The command `make`.
 use crate::command_line::Making;
+use crate::counts::Counts;
 use crate::data_file::BUFFER_LEN;
-use crate::digests::digest_reader;
+use crate::digests::{Digests, digest_reader};
 use crate::fault::Fault;
 use crate::folder::files_in;
 use crate::paths::data_path;
@@ -9,7 +10,7 @@ use crate::pieces::PieceSize;
 use crate::whole_file::write_whole;
 use bt_meta::{Made, MakeError, read_torrent};
 use bt_tree::Hash32;
-use std::fs::{self, OpenFile};
+use std::fs;
 use std::rt::Files;
 
 /// Writes the torrent of a folder, and gives its infohash. The first fault ends it, and is looked for in the piece
@@ -24,8 +25,8 @@ pub fn make<R: Files + AllocGlobal + Clone + Drop>(
     };
     let mut buffer = [0; BUFFER_LEN];
     let mut files = Vec::new(alloc);
-    for path in files_in(rt, making.dir)? {
-        files.push(digested(rt, making.dir, path, size, &mut buffer)?)?;
+    for file in sized_files(rt, making.dir, size)? {
+        files.push(digested(rt, making.dir, file, size, &mut buffer)?)?;
     }
     let text = bt_meta::make(alloc, making.name.as_bytes(), making.piece_length, &files)?;
     let infohash = read_torrent(alloc, &text)?.infohash();
@@ -33,23 +34,48 @@ pub fn make<R: Files + AllocGlobal + Clone + Drop>(
     Ok(infohash)
 }
 
+/// A file of the folder: its path below it, and how many bytes it has.
+#[derive(Drop)]
+struct SizedFile {
+    path: Vec<String>,
+    length: u64,
+}
+
+/// The files of a folder. Where one is too long for a torrent, or they are too many, that is told before any is read.
+fn sized_files<R: Files + AllocGlobal + Clone + Drop>(
+    rt: &R,
+    dir: &str,
+    size: PieceSize,
+) -> Result<Vec<SizedFile>, Fault> {
+    let alloc = rt.alloc();
+    let mut counts = Counts::new();
+    let mut files = Vec::new(alloc);
+    for path in files_in(rt, dir)? {
+        let place = data_path(alloc, dir, &path)?;
+        let length = fs::metadata(rt, place).map_err(|_| Fault::Device)?.len();
+        counts = counts.with(path.len(), length, size)?;
+        files.push(SizedFile { path, length })?;
+    }
+    Ok(files)
+}
+
 /// What a torrent says of a file of the folder.
 fn digested<R: Files + AllocGlobal>(
     rt: &R,
     dir: &str,
-    path: Vec<String>,
+    file: SizedFile,
     size: PieceSize,
     buffer: &mut [u8; BUFFER_LEN],
 ) -> Result<Made, Fault> {
     let alloc = rt.alloc();
+    let SizedFile { path, length } = file;
     let place = data_path(alloc, dir, &path)?;
-    let mut file = fs::open(rt, place).map_err(|_| Fault::Device)?;
-    let length = file.metadata().map_err(|_| Fault::Device)?.len();
-    let digests = digest_reader(alloc, &mut file, length, size, buffer)?;
+    let mut reader = fs::open(rt, place).map_err(|_| Fault::Device)?;
+    let Digests { root, layer } = digest_reader(alloc, &mut reader, length, size, buffer)?;
     Ok(Made {
         path,
         length,
-        root: digests.root,
-        layer: digests.layer,
+        root,
+        layer,
     })
 }
