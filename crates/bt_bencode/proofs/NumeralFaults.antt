@@ -1,10 +1,10 @@
 -- One text of a numeral, a string or an integer stops a reading in one way.
-use Rattle.std.proofs.Common.{◌≡◌, ◌≢◌, ℕ, ◌^◌, ◌<◌, ◌≤◌, Bool, true, false, inl, inr, List, [], ◌∷◌, ◌++◌, length, get_or, refl, sym, ap, ◌∙◌, subst, arith, append_assoc}
+use Rattle.std.proofs.Common.{◌≡◌, ◌≢◌, ℕ, ◌<◌, Bool, true, false, inl, inr, List, [], ◌∷◌, ◌++◌, length, get_or, refl, sym, ap, ◌∙◌, subst, arith, append_assoc}
 use Rattle.std.specs.Char.{IsAsciiDigit}
 use Rattle.std.specs.Str.Parse.{AllDigits, IsNumeral}
 use Rattle.std.proofs.lemmas.Str.Parse.{digit_at}
 use Rattle.std.proofs.lemmas.List.{append-nil, get_or_append_left}
-use Rattle.bt_bencode.specs.Fault.{Fault, truncated, int_range, LeadsWithZero, NumeralStops, at_zero, at_end, at_other, StringStops, in_length, in_bytes}
+use Rattle.bt_bencode.specs.Fault.{Fault, int_range, LeadsWithZero, NumeralStops, at_zero, at_end, at_other, StringStops, in_length, in_bytes}
 use Rattle.bt_bencode.proofs.Prefixes.{tails, same_digits}
 use Rattle.bt_bencode.proofs.Refusals.{no_digit}
 

@@ -5,13 +5,13 @@ use Rattle.std.proofs.Math.Dec.{eqb}
 use Rattle.std.proofs.lemmas.Bool.{ne_eqb}
 use Rattle.bt_bencode.specs.Data.{Data}
 use Rattle.bt_bencode.specs.Spelling.{string_spelling, spelling_of, IsCanonical}
-use Rattle.bt_bencode.specs.Fault.{Fault, truncated, bad_byte, too_deep, trailing, StringStops, Stops, at_end, at_other, in_integer, in_negative, too_large, too_small, in_string, too_deep_list, too_deep_dictionary, in_item, in_key, at_key, in_value, IsFirstFault, in_the_value, behind_the_value}
+use Rattle.bt_bencode.specs.Fault.{Fault, truncated, bad_byte, too_deep, StringStops, Stops, at_end, at_other, in_integer, in_negative, too_large, too_small, in_string, too_deep_list, too_deep_dictionary, in_item, in_key, at_key, in_value, in_the_value, behind_the_value}
 use Rattle.bt_bencode.specs.FaultLaw.{FirstFaultIsOne}
 use Rattle.bt_bencode.proofs.Prefixes.{same_spelling}
 use Rattle.bt_bencode.proofs.Representable.{representable}
 use Rattle.bt_bencode.proofs.Refusals.{none_begins}
 use Rattle.bt_bencode.proofs.NumeralFaults.{same_string_fault, numeral, range, IntegerStops, plain, minus, same_integer_fault, numeral_is_plain}
-use Rattle.bt_bencode.proofs.StopsAfter.{StopsOnce, ItemStops, EntryStops, in_its_key, at_its_key, in_its_value, EntriesStop, same_item_fault, same_entries_fault}
+use Rattle.bt_bencode.proofs.StopsAfter.{StopsOnce, ItemStops, in_its_key, at_its_key, in_its_value, EntriesStop, same_item_fault, same_entries_fault}
 
 -- what a text's first byte says of the value
 data Kind : Type 0 where
