@@ -10,6 +10,10 @@ pub mod Prefixes
 pub mod Representable
 pub mod Refusals
 pub mod Faults
+pub mod NumeralFaults
+pub mod PartsRead
+pub mod StopsAfter
+pub mod OneFault
 pub mod Laws
 pub mod Fields
 pub mod Written

@@ -14,7 +14,7 @@ use Rattle.bt_bencode.specs.Fault.{Fault, LeadsWithZero, NumeralStops, at_zero, 
 use Rattle.bt_bencode.proofs.Prefixes.{tails, same_digits, decimal_digits, string_parts, first_of_string, same_string, fits_pos, fits_negsuc, no_minus, end_behind, item_parts, entry_parts, no_end, string_apart, same_spelling, same_entries}
 use Rattle.bt_bencode.proofs.Representable.{IsRepresentable, ItemsAreRepresentable, EntriesAreRepresentable, representable, items_representable, entries_representable}
 
-no_digit : (stop : ℕ) → 57 < stop → ¬ IsAsciiDigit stop
+pub no_digit : (stop : ℕ) → 57 < stop → ¬ IsAsciiDigit stop
 no_digit stop other digit = absurd (omega (arith, digit.1))
 
 -- a number's digits have no zero that may not stand, and behind a minus none but 0 itself begins with one
@@ -51,7 +51,7 @@ no_numeral negative stop text f rest (numeral_at_other ds behind parts digits no
       | inr differs ↦ differs (sym (ap (λ t. get_or t 0 0) same.1))
     ]
 
-no_string : (text : List ℕ) (f : Fault) (rest : List ℕ) → StringStops text f rest → (s more : List ℕ) → length s < 2 ^ 64 → string_spelling s ++ more ≡ text → ⊥
+pub no_string : (text : List ℕ) (f : Fault) (rest : List ℕ) → StringStops text f rest → (s more : List ℕ) → length s < 2 ^ 64 → string_spelling s ++ more ≡ text → ⊥
 no_string text f rest (in_length g left numeral) s more fits h =
     no_numeral false 58 text g left numeral (length s) (s ++ more) fits (omega arith) (decimal_no_zero (length s) 58 (s ++ more) fits (omega arith)) (sym (string_parts s more) ∙ h)
 no_string text f rest (in_bytes ds behind parts numeral no_lead short) s more fits h =
@@ -76,17 +76,17 @@ string_begins (list ds) more text fits digit h = absurd (omega (arith, digit.1, 
 string_begins (dictionary es) more text fits digit h = absurd (omega (arith, digit.1, ap (λ t. get_or t 0 0) h))
 
 -- what is known of a list's items, and of a dictionary's entries
-record ItemsKept (n : ℕ) (ds : Items) : Type 0 where
-  nesting : suc (items_nesting ds) ≤ n
-  keys : ItemsHaveAscendingKeys ds
-  integers : ItemsHaveSmallIntegers ds
-  sizes : ItemsAreRepresentable ds
+pub record ItemsKept (n : ℕ) (ds : Items) : Type 0 where
+  pub nesting : suc (items_nesting ds) ≤ n
+  pub keys : ItemsHaveAscendingKeys ds
+  pub integers : ItemsHaveSmallIntegers ds
+  pub sizes : ItemsAreRepresentable ds
 
-record EntriesKept (n : ℕ) (es : Entries) : Type 0 where
-  nesting : suc (entries_nesting es) ≤ n
-  keys : EntriesAscend es
-  integers : EntriesHaveSmallIntegers es
-  sizes : EntriesAreRepresentable es
+pub record EntriesKept (n : ℕ) (es : Entries) : Type 0 where
+  pub nesting : suc (entries_nesting es) ≤ n
+  pub keys : EntriesAscend es
+  pub integers : EntriesHaveSmallIntegers es
+  pub sizes : EntriesAreRepresentable es
 
 list_begins : (n : ℕ) (d : Data) (more text : List ℕ) → IsCanonicalWithin n d → IsRepresentable d → spelling_of d ++ more ≡ 108 ∷ text → (ds : Items) × ItemsKept n ds × (items_spelling ds ++ 101 ∷ more ≡ text)
 unfolding spelling_of IsRepresentable nesting_of HasAscendingKeys HasSmallIntegers
@@ -151,13 +151,13 @@ entries_front n (entry k d done) (entry l f es) x more sizes kept h =
     (rest.0, rest.1, follows_entry k d done rest.0 rest.2 alone, rest.3)
 
 -- one item of those that a list has, and one entry of those that a dictionary has
-item_within : (n : ℕ) (d : Data) (ds : Items) → ItemsKept (suc n) (item d ds) → IsCanonicalWithin n d
+pub item_within : (n : ℕ) (d : Data) (ds : Items) → ItemsKept (suc n) (item d ds) → IsCanonicalWithin n d
 unfolding items_nesting ItemsHaveAscendingKeys ItemsHaveSmallIntegers
 item_within n d ds kept =
     let deep : suc (max (nesting_of d) (items_nesting ds)) ≤ suc n = kept.nesting in
     record { nesting = omega arith; keys = kept.keys.0; integers = kept.integers.0 }
 
-entry_within : (n : ℕ) (key : List ℕ) (d : Data) (es : Entries) → EntriesKept (suc n) (entry key d es) → IsCanonicalWithin n d
+pub entry_within : (n : ℕ) (key : List ℕ) (d : Data) (es : Entries) → EntriesKept (suc n) (entry key d es) → IsCanonicalWithin n d
 unfolding entries_nesting EntriesAscend EntriesHaveSmallIntegers
 entry_within n key d es kept =
     let deep : suc (max (nesting_of d) (entries_nesting es)) ≤ suc n = kept.nesting in
@@ -247,11 +247,11 @@ next_value n (entry k d es) more key behind kept h fits short none =
     let same : spelling_of d ++ (entries_spelling es ++ 101 ∷ more) ≡ behind = (same_string k key (spelling_of d ++ (entries_spelling es ++ 101 ∷ more)) behind kept.sizes.0 fits whole).1 in
     none d (entries_spelling es ++ 101 ∷ more) (record { canonical = entry_within n k d es kept; spelled = same; short = short })
 
-done_items : (n : ℕ) (done : Items) (behind : List ℕ) → IsCanonicalWithin n (list done) → length (items_spelling done ++ behind) < 2 ^ 64 → ItemsAreRepresentable done
+pub done_items : (n : ℕ) (done : Items) (behind : List ℕ) → IsCanonicalWithin n (list done) → length (items_spelling done ++ behind) < 2 ^ 64 → ItemsAreRepresentable done
 unfolding HasSmallIntegers
 done_items n done behind canonical short = items_representable done canonical.integers (omega (arith, length-append (items_spelling done) behind))
 
-done_entries : (n : ℕ) (done : Entries) (behind : List ℕ) → IsCanonicalWithin n (dictionary done) → length (entries_spelling done ++ behind) < 2 ^ 64 → EntriesAreRepresentable done
+pub done_entries : (n : ℕ) (done : Entries) (behind : List ℕ) → IsCanonicalWithin n (dictionary done) → length (entries_spelling done ++ behind) < 2 ^ 64 → EntriesAreRepresentable done
 unfolding HasSmallIntegers
 done_entries n done behind canonical short = entries_representable done canonical.integers (omega (arith, length-append (entries_spelling done) behind))
 

@@ -1,8 +1,16 @@
 ghost use Rattle.bt_bencode.specs.Spelling.{NoProperPrefix, BeginsOnce};
+ghost use Rattle.bt_bencode.specs.FaultLaw.{FirstFaultIsOne, FirstFaultRefuses};
 
 /// The law by which a reader knows where a value ends: no spelling is a proper prefix of another,
 /// and no two values have spellings that begin one text. It does nothing when it runs.
 pub fn spellings_are_prefix_free()
     ensures no_proper_prefix { NoProperPrefix }
     ensures one_value { BeginsOnce }
+{}
+
+/// The law by which a refusal is settled: bytes have one first fault at most, at one offset, and
+/// bytes that have one spell no canonical value. It does nothing when it runs.
+pub fn first_fault_is_one()
+    ensures one_fault { FirstFaultIsOne }
+    ensures no_value { FirstFaultRefuses }
 {}

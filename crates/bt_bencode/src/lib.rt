@@ -12,7 +12,7 @@ mod writer;
 
 pub use doc::Doc;
 pub use error::BencodeError;
-pub use law::spellings_are_prefix_free;
+pub use law::{first_fault_is_one, spellings_are_prefix_free};
 pub use look_up::field;
 pub use reader::{MAX_NESTING, parse};
 pub use value::Value;

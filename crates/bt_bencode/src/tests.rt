@@ -1,4 +1,7 @@
-use crate::{BencodeError, MAX_NESTING, Value, field, parse, spellings_are_prefix_free, write};
+use crate::{
+    BencodeError, MAX_NESTING, Value, field, first_fault_is_one, parse, spellings_are_prefix_free,
+    write,
+};
 use std::alloc::{AllocError, Global};
 use std::process::Abort;
 use std::test::Fail;
@@ -162,6 +165,7 @@ fn finds_the_first_entry_of_a_key(rt: HostRuntime) -> Result<(), Fail> {
         b"d1:bi1e1:ai2e1:bi3ee".as_slice()
     );
     spellings_are_prefix_free();
+    first_fault_is_one();
     Ok(())
 }
 
