@@ -6,13 +6,13 @@ use Rattle.std.specs.Borrow.{Bor}
 use Rattle.std.specs.String.{string_eq}
 use Rattle.std.specs.Ordering.{nat_cmp, is_lt, ordering_then, ordering_reverse}
 use Rattle.std.specs.Cmp.Lexicographic.{slice_cmp, pointwise, lists_total, nat_list_cmp_total}
-use Rattle.std.specs.List.{starts_with, All}
+use Rattle.std.specs.List.{starts_with, list_all, All}
 use Rattle.std.specs.declared.cmp.Ordering.{Ordering}
 use Rattle.std.specs.declared.cmp.Ordering.TheVariants.{Less, Equal, Greater}
 use Rattle.std.proofs.lemmas.Bool.{cases_lt, true≢false}
 use Rattle.std.proofs.lemmas.List.{get_or-map, length-map}
 use Rattle.std.proofs.lemmas.Slice.Eq.{bytes_eq-Decides}
-use Rattle.bt_meta.specs.Making.{Given, given_of, lent_of, begins, path_order, IsInTreeOrder, IsParted, file_refusal, own_refusal, layer_refusal, conflict_with, is_beyond, is_path, refusal_of_files, Refuses}
+use Rattle.bt_meta.specs.Making.{Given, given_of, lent_of, begins, path_order, IsInTreeOrder, IsParted, file_refusal, own_refusal, layer_refusal, conflict_with, is_beyond, is_path, is_element, AreNamed, refusal_of_files, Refuses}
 use Rattle.bt_meta.specs.NotMade.{have_overlap, IsNotMade, no_memory, unlawful}
 use Rattle.bt_meta.specs.Faults.{first_of, fault_if, is_piece_length}
 use Rattle.std.proofs.lemmas.Bool.{cases_Bool}
@@ -24,7 +24,7 @@ use Rattle.bt_meta.specs.declared.making.Made.{Made}
 use Rattle.bt_meta.specs.declared.making.MakeError.{MakeError}
 use Rattle.bt_meta.specs.declared.making.MakeError.TheVariants.{PieceLength, BadPath, FileLength, RootConflict, Count}
 use Rattle.bt_meta.proofs.Parted.{same_bytes}
-use Rattle.bt_meta.proofs.Checks.{head_none, tail_none}
+use Rattle.bt_meta.proofs.Checks.{head_none, tail_none, holds_unless}
 use Rattle.bt_meta.proofs.Overlap.{AreApart, next_apart}
 
 pub begins_by_bytes : (path other : List (String Global)) → starts_with string_eq other path ≡ begins (map string_bytes path) (map string_bytes other)
@@ -86,7 +86,7 @@ parted files ordered h none k d lt =
 
 -- ---- no file is longer than 2 ^ 40 bytes
 
-short_from : (n : ℕ) (e : MakeError) → fault_if (not (nat_le n (2 ^ 40))) e ≡ None → n ≤ 2 ^ 40
+pub short_from : (n : ℕ) (e : MakeError) → fault_if (not (nat_le n (2 ^ 40))) e ≡ None → n ≤ 2 ^ 40
 short_from n e h = elim (cases_Bool (nat_le n (2 ^ 40))) [
   | inl within ↦ grind (arith, nat_tests)
   | inr beyond ↦ let f : Some e ≡ None = rw beyond at h in cc
@@ -106,6 +106,36 @@ all_short piece_length before [] h = All-nil IsShort
 all_short piece_length before (f ∷ files) h =
     let rest = with_earlier (file_refusal piece_length) (before ++ f ∷ []) files in
     All-cons IsShort f files (short_given piece_length before f (head_none (file_refusal piece_length before f) rest h)) (all_short piece_length (before ++ f ∷ []) files (tail_none (file_refusal piece_length before f) rest h))
+
+second : (a b : Bool) → (a && b) ≡ true → b ≡ true
+second true b h = h
+second false b h = cc
+
+named_from : (path : List (List ℕ)) → list_all is_element path ≡ true → AreNamed path
+named_from [] e = tt
+named_from ([] ∷ path) e = cc
+named_from ((byte ∷ bytes) ∷ path) e = (refl, named_from path (second (is_element (byte ∷ bytes)) (list_all is_element path) e))
+
+named_path : (path : List (List ℕ)) → is_path path ≡ true → AreNamed path
+named_path [] e = tt
+named_path (name ∷ path) e = named_from (name ∷ path) (second (not (length (name ∷ path) == 0)) (list_all is_element (name ∷ path)) e)
+
+named_given : (piece_length : ℕ) (before : List Given) (f : Given) → file_refusal piece_length before f ≡ None → AreNamed f.path
+named_given piece_length before f h =
+    let own : own_refusal piece_length f ≡ None = head_none (own_refusal piece_length f) (fault_if (conflict_with before f) RootConflict ∷ fault_if (is_beyond piece_length before f) Count ∷ []) h in
+    named_path f.path (holds_unless (is_path f.path) BadPath (head_none (fault_if (not (is_path f.path)) BadPath) (fault_if (not (nat_le f.length (2 ^ 40))) FileLength ∷ layer_refusal piece_length f ∷ []) own))
+
+abbrev HasNames : Given → Type 0
+HasNames g = AreNamed g.path
+
+all_named : (piece_length : ℕ) (before files : List Given) → first_of (with_earlier (file_refusal piece_length) before files) ≡ None → All HasNames files
+all_named piece_length before [] h = All-nil HasNames
+all_named piece_length before (f ∷ files) h =
+    let rest = with_earlier (file_refusal piece_length) (before ++ f ∷ []) files in
+    All-cons HasNames f files (named_given piece_length before f (head_none (file_refusal piece_length before f) rest h)) (all_named piece_length (before ++ f ∷ []) files (tail_none (file_refusal piece_length before f) rest h))
+
+pub ordered_named : (piece_length : ℕ) (files ordered : List Given) → first_of (with_earlier (file_refusal piece_length) [] files) ≡ None → IsInTreeOrder files ordered → All (λ g. AreNamed g.path) ordered
+ordered_named piece_length files ordered h order = All-permutation HasNames files ordered order.same (all_named piece_length [] files h)
 
 pub lent_short : (piece_length : ℕ) (files : List Given) (ordered : List (Bor Made)) → first_of (with_earlier (file_refusal piece_length) [] files) ≡ None → IsInTreeOrder files (map lent_of ordered)
     → All (λ (m : Bor Made). m.now.length ≤ 2 ^ 40) ordered

@@ -1,5 +1,6 @@
 -- What a list of checks answers.
 use Rattle.std.proofs.Common.{◌≡◌, Bool, true, false, List, [], ◌∷◌, ◌++◌, Option, None, Some, refl}
+use Rattle.std.specs.Prelude.{not}
 use Rattle.bt_meta.specs.Faults.{first_of, fault_if}
 
 module _ {E : Type 0} where
@@ -32,3 +33,11 @@ module _ {E : Type 0} where
   pub tail_none : (check : Option E) (checks : List (Option E)) → first_of (check ∷ checks) ≡ None → first_of checks ≡ None
   tail_none None checks e = e
   tail_none (Some fault) checks e = cc
+
+  pub not_faulty : (test : Bool) (fault : E) → fault_if test fault ≡ None → test ≡ false
+  not_faulty true fault e = cc
+  not_faulty false fault e = refl
+
+  pub holds_unless : (test : Bool) (fault : E) → fault_if (not test) fault ≡ None → test ≡ true
+  holds_unless true fault e = refl
+  holds_unless false fault e = cc

@@ -27,14 +27,14 @@ itself name = tied_itself nat_list_cmp_total name
 pub with_behind : (name : List ℕ) (d : Data) (es : Entries) → AreBefore name es → with_entry name d es ≡ entries_before es (entry name d no_entries)
 unfolding with_entry
 with_behind name d no_entries h = refl
-with_behind name d (entry key e es) h = ap (λ o. match_ordering o (entry name d (entry key e es)) (entry name d es) (entry key e (with_entry name d es))) h.0 ∙ ap (entry key e) (with_behind name d es h.1)
+with_behind name d (entry key e es) h = ap (λ o. match_ordering o (entry name d (entry key e es)) (entry name d es) (entry key e (with_entry name d es))) h.0 ∙ ap (entry key e) (with_behind name d es h.2)
 
 pub with_last : (name : List ℕ) (d f : Data) (es : Entries) → AreBefore name es → with_entry name d (entries_before es (entry name f no_entries)) ≡ entries_before es (entry name d no_entries)
 unfolding with_entry
 with_last name d f no_entries h = ap (λ o. match_ordering o (entry name d (entry name f no_entries)) (entry name d no_entries) (entry name f (with_entry name d no_entries))) (itself name)
 with_last name d f (entry key e es) h =
     let rest = entries_before es (entry name f no_entries) in
-    ap (λ o. match_ordering o (entry name d (entry key e rest)) (entry name d rest) (entry key e (with_entry name d rest))) h.0 ∙ ap (entry key e) (with_last name d f es h.1)
+    ap (λ o. match_ordering o (entry name d (entry key e rest)) (entry name d rest) (entry key e (with_entry name d rest))) h.0 ∙ ap (entry key e) (with_last name d f es h.2)
 
 -- ---- the value at a name
 
@@ -46,11 +46,11 @@ other_name name key h = sym (is_eq-slice_cmp key name) ∙ ap is_eq (nat_list_cm
 
 found : (name : List ℕ) (d : Data) (es : Entries) → AreBefore name es → first_value_of (entries_before es (entry name d no_entries)) name ≡ Some d
 found name d no_entries h = ap (λ b. if b then Some d else None) (same_name name)
-found name d (entry key e es) h = ap (λ b. if b then Some e else first_value_of (entries_before es (entry name d no_entries)) name) (other_name name key h.0) ∙ found name d es h.1
+found name d (entry key e es) h = ap (λ b. if b then Some e else first_value_of (entries_before es (entry name d no_entries)) name) (other_name name key h.0) ∙ found name d es h.2
 
 absent : (name : List ℕ) (es : Entries) → AreBefore name es → first_value_of es name ≡ None
 absent name no_entries h = refl
-absent name (entry key e es) h = ap (λ b. if b then Some e else first_value_of es name) (other_name name key h.0) ∙ absent name es h.1
+absent name (entry key e es) h = ap (λ b. if b then Some e else first_value_of es name) (other_name name key h.0) ∙ absent name es h.2
 
 -- ---- opening the last folder
 
@@ -90,7 +90,7 @@ last_same (entry key g a) (entry other h b) n m d f e =
 
 before_last : (name n : List ℕ) (d : Data) (es : Entries) → AreBefore name (entries_before es (entry n d no_entries)) → slice_cmp nat_cmp name n ≡ Greater
 before_last name n d no_entries h = h.0
-before_last name n d (entry key e es) h = before_last name n d es h.1
+before_last name n d (entry key e es) h = before_last name n d es h.2
 
 not_greater : (o : Ordering) → o ≡ Equal → o ≡ Greater → ⊥
 not_greater o e g = cc

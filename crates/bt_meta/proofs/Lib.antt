@@ -19,6 +19,14 @@ pub mod Lookup
 pub mod LayerChecks
 pub mod Refused
 pub mod Parted
+pub mod MadeValues
 pub mod Apart
+pub mod Roots
+pub mod MadePlaces
+pub mod MadeGiven
+pub mod MadeTree
+pub mod MadeChecks
+pub mod MadeTorrent
+pub mod ReadBack
 pub mod Overlap
 pub mod Ascending

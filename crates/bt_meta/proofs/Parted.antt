@@ -9,11 +9,12 @@ use Rattle.std.proofs.lemmas.Bool.{true≢false}
 use Rattle.std.proofs.lemmas.Map.Text.{is_eq-slice_cmp}
 use Rattle.std.proofs.lemmas.Slice.Eq.{bytes_eq-Decides}
 use Rattle.bt_bencode.specs.Data.{Data, dictionary, Entries, no_entries, entry}
-use Rattle.bt_meta.specs.Making.{with_file, path_order, begins, entries_before, AreBefore, IsBehind, IsOpened, Given, properties_made, tree_made, IsParted, lent_of}
+use Rattle.bt_meta.specs.Making.{with_file, path_order, begins, entries_before, is_named, AreNamed, AreBefore, IsBehind, IsOpened, Given, properties_made, tree_made, IsParted, lent_of}
 use Rattle.std.specs.Borrow.{Bor}
 use Rattle.bt_meta.specs.declared.making.Made.{Made}
 use Rattle.bt_meta.proofs.Folders.{behind_none, opened_behind, opened_within, file_in}
-use Rattle.std.specs.List.{fold}
+use Rattle.std.specs.List.{fold, All}
+use Rattle.std.proofs.lemmas.List.Elements.{All-get_or}
 use Rattle.std.proofs.lemmas.List.{take_more, take_all, get_or_default, get_or-map, length-map}
 use Rattle.std.proofs.lemmas.List.Sums.{fold_push}
 
@@ -22,9 +23,9 @@ above m n k less greater =
     let below : slice_cmp nat_cmp k n ≡ Less = nat_list_cmp_total.antisymm k n ∙ ap ordering_reverse greater in
     nat_list_cmp_total.antisymm m k ∙ ap ordering_reverse (nat_list_cmp_total.trans k n m below less)
 
-all_above : (m n : List ℕ) (d : Data) (es : Entries) → slice_cmp nat_cmp n m ≡ Less → AreBefore n es → AreBefore m (entries_before es (entry n d no_entries))
-all_above m n d no_entries less h = (nat_list_cmp_total.antisymm m n ∙ ap ordering_reverse less, tt)
-all_above m n d (entry key e es) less h = (above m n key less h.0, all_above m n d es less h.1)
+all_above : (m n : List ℕ) (d : Data) (es : Entries) → is_named n ≡ true → slice_cmp nat_cmp n m ≡ Less → AreBefore n es → AreBefore m (entries_before es (entry n d no_entries))
+all_above m n d no_entries named less h = (nat_list_cmp_total.antisymm m n ∙ ap ordering_reverse less, named, tt)
+all_above m n d (entry key e es) named less h = (above m n key less h.0, h.1, all_above m n d es named less h.2)
 
 pub same_bytes : (n m : List ℕ) → slice_cmp nat_cmp n m ≡ Equal → n ≡ m
 same_bytes n m e = (bytes_eq-Decides n m).0 (sym (is_eq-slice_cmp n m) ∙ ap is_eq e)
@@ -41,20 +42,20 @@ rest_apart n m b e apart =
     let one : pointwise nat_eq n m ≡ true = (bytes_eq-Decides n m).1 e in
     rw one at apart
 
-pub next_behind : (p q : List (List ℕ)) (d : Data) (es : Entries) → IsBehind p es → path_order p q ≡ Less → begins p q ≡ false → IsBehind q (with_file p d es)
-next_behind [] q d es h less apart = absurd (true≢false apart)
-next_behind (n ∷ p) [] d es h less apart = cc
-next_behind (n ∷ p) (m ∷ q) d es h less apart = elim h [
-  | inl before ↦ next_in n m p q d es es no_entries (opened_behind n p es before) before less apart (λ r s t. next_behind p q d no_entries r s t)
-  | inr last ↦ next_in n m p q d es last.earlier last.inner (opened_within n p es last.earlier last.inner last.last last.before last.behind) last.before less apart (λ r s t. next_behind p q d last.inner r s t)
+pub next_behind : (p q : List (List ℕ)) (d : Data) (es : Entries) → AreNamed p → IsBehind p es → path_order p q ≡ Less → begins p q ≡ false → IsBehind q (with_file p d es)
+next_behind [] q d es named h less apart = absurd (true≢false apart)
+next_behind (n ∷ p) [] d es named h less apart = cc
+next_behind (n ∷ p) (m ∷ q) d es named h less apart = elim h [
+  | inl before ↦ next_in n m p q d es es no_entries named.0 (opened_behind n p es before) before less apart (λ r s t. next_behind p q d no_entries named.1 r s t)
+  | inr last ↦ next_in n m p q d es last.earlier last.inner named.0 (opened_within n p es last.earlier last.inner last.last last.before last.behind) last.before less apart (λ r s t. next_behind p q d last.inner named.1 r s t)
 ]
   where
-    next_in : (n m : List ℕ) (p q : List (List ℕ)) (d : Data) (es earlier inner : Entries) → IsOpened n p es earlier inner → AreBefore n earlier → path_order (n ∷ p) (m ∷ q) ≡ Less → begins (n ∷ p) (m ∷ q) ≡ false
+    next_in : (n m : List ℕ) (p q : List (List ℕ)) (d : Data) (es earlier inner : Entries) → is_named n ≡ true → IsOpened n p es earlier inner → AreBefore n earlier → path_order (n ∷ p) (m ∷ q) ≡ Less → begins (n ∷ p) (m ∷ q) ≡ false
         → (IsBehind p inner → path_order p q ≡ Less → begins p q ≡ false → IsBehind q (with_file p d inner)) → IsBehind (m ∷ q) (with_file (n ∷ p) d es)
-    next_in n m p q d es earlier inner opened before less apart later = rw (← file_in n p d es earlier inner opened) (by_order (slice_cmp nat_cmp n m) refl)
+    next_in n m p q d es earlier inner named opened before less apart later = rw (← file_in n p d es earlier inner opened) (by_order (slice_cmp nat_cmp n m) refl)
       where
         by_order : (o : Ordering) → o ≡ slice_cmp nat_cmp n m → IsBehind (m ∷ q) (entries_before earlier (entry n (dictionary (with_file p d inner)) no_entries))
-        by_order Less e = inl (all_above m n (dictionary (with_file p d inner)) earlier (sym e) before)
+        by_order Less e = inl (all_above m n (dictionary (with_file p d inner)) earlier named (sym e) before)
         by_order Equal e =
             let same : n ≡ m = same_bytes n m (sym e) in
             inr (record {
@@ -80,14 +81,14 @@ pub grown_begun : (files : List Given) → IsGrown files 0 no_entries
 unfolding tree_made
 grown_begun files = record { made = refl; behind = λ d lt. behind_none (get_or files 0 d).path }
 
-made_more : (files : List Given) (i : ℕ) (f : Given) → i < length files → f ≡ get_or files i f → tree_made (take (i + 1) files) ≡ put (tree_made (take i files)) f
+pub made_more : (files : List Given) (i : ℕ) (f : Given) → i < length files → f ≡ get_or files i f → tree_made (take (i + 1) files) ≡ put (tree_made (take i files)) f
 unfolding tree_made
 made_more files i f lt is =
     ap (λ fs. fold put no_entries fs) (take_more files i f lt ∙ ap (λ x. take i files ++ x ∷ []) (sym is)) ∙ fold_push put no_entries (take i files) f
 
-pub grown_more : (files : List Given) (i : ℕ) (f : Given) (tree : Entries) → IsParted files → i < length files → f ≡ get_or files i f → IsGrown files i tree
+pub grown_more : (files : List Given) (i : ℕ) (f : Given) (tree : Entries) → IsParted files → All (λ g. AreNamed g.path) files → i < length files → f ≡ get_or files i f → IsGrown files i tree
     → IsGrown files (i + 1) (put tree f)
-grown_more files i f tree parted lt is h = record {
+grown_more files i f tree parted named lt is h = record {
   made = ap (λ es. put es f) h.made ∙ sym (made_more files i f lt is);
   behind = λ d more.
       let p = parted i f more in
@@ -96,7 +97,8 @@ grown_more files i f tree parted lt is h = record {
       let apart : begins f.path q.path ≡ false = ap (λ g. begins g.path q.path) is ∙ p.1 in
       let here : IsBehind f.path tree = rw is (h.behind f lt) in
       let default : get_or files (i + 1) d ≡ q = get_or_default files (i + 1) d f more in
-      rw default (next_behind f.path q.path (properties_made f) tree here less apart);
+      let full : AreNamed f.path = rw is (All-get_or (λ (g : Given). AreNamed g.path) files i f lt named) in
+      rw default (next_behind f.path q.path (properties_made f) tree full here less apart);
 }
 
 pub grown_found : (files : List Given) (i : ℕ) (tree : Entries) → IsGrown files i tree → length files ≤ i → tree ≡ tree_made files

@@ -1,24 +1,25 @@
 -- What was taken of the files that a torrent is made of.
-use Rattle.std.proofs.Common.{◌≡◌, ℕ, ◌+◌, ◌<◌, ◌≤◌, Bool, true, false, List, [], ◌∷◌, ◌++◌, length, map, None, refl, sym, ap, ◌∙◌, arith, inl, inr}
+use Rattle.std.proofs.Common.{subst, ◌≡◌, ℕ, ◌+◌, ◌<◌, ◌≤◌, Bool, true, false, List, [], ◌∷◌, ◌++◌, length, map, None, refl, sym, ap, ◌∙◌, arith, inl, inr}
 use Rattle.std.specs.Prelude.{string_bytes, nat_eq, not, ◌&&◌, ◌||◌, ◌==◌}
 use Rattle.std.specs.Prelude.{String}
 use Rattle.std.specs.Global.{Global}
-use Rattle.std.specs.List.{list_all}
+use Rattle.std.specs.List.{list_all, All}
+use Rattle.std.proofs.lemmas.List.Elements.{All-nil, All-push}
 use Rattle.std.specs.Ordering.{nat_cmp, is_eq}
 use Rattle.std.specs.Cmp.Lexicographic.{pointwise, slice_cmp}
 use Rattle.std.proofs.lemmas.List.{length-map}
 use Rattle.std.proofs.lemmas.List.Folds.{list_any-append, list_all-map}
 use Rattle.std.proofs.lemmas.Map.Text.{is_eq-slice_cmp}
 use Rattle.std.proofs.lemmas.Slice.Eq.{bytes_eq-Decides}
+use Rattle.bt_meta.specs.Faults.{first_of}
 use Rattle.bt_meta.specs.Walks.{Lengths, length_at, is_other, IsNoted}
 use Rattle.std.specs.Prelude.{take, drop, get_or}
 use Rattle.std.proofs.lemmas.List.{take_all, take-append-drop, map_more, drop_more}
 use Rattle.bt_meta.specs.Places.{with_earlier}
-use Rattle.bt_meta.specs.Making.{Given, given_of, Check, file_refusal, is_element, is_path, has_conflict, HasTaken, IsWithin, Refuses}
+use Rattle.bt_meta.specs.Making.{Given, given_of, HasRoot, Check, file_refusal, is_element, is_path, has_conflict, HasTaken, IsWithin, Refuses}
 use Rattle.bt_meta.specs.declared.making.Made.{Made}
 use Rattle.bt_meta.specs.declared.making.MakeError.{MakeError}
 use Rattle.bt_meta.specs.declared.making.Tally.{Tally}
-use Rattle.bt_meta.specs.Faults.{first_of}
 use Rattle.bt_meta.proofs.Checks.{first_of-append, skips, stops}
 use Rattle.bt_meta.proofs.WalkSteps.{with_earlier-append, map-append}
 use Rattle.bt_meta.proofs.FileSteps.{or_false, noted_at}
@@ -53,12 +54,14 @@ pub record Taking (piece_length : ℕ) (files : List Made) (i : ℕ) (tally : Ta
   pub within : IsWithin tally
   pub taken : HasTaken piece_length (map given_of (take i files)) tally
   pub faultless : first_of (checks_of piece_length (map given_of (take i files))) ≡ None
+  pub rooted : All HasRoot (map given_of (take i files))
 
 pub taking_begun : (piece_length : ℕ) (files : List Made) (tally : Tally) → tally.files ≡ 0 → tally.pieces ≡ 0 → tally.lengths.entries ≡ [] → Taking piece_length files 0 tally
 taking_begun piece_length files tally none no_pieces no_lengths = record {
   within = record { files = omega arith; pieces = omega arith };
   taken = record { count = none; pieces = no_pieces; lengths = λ root n. rw no_lengths refl };
   faultless = refl;
+  rooted = All-nil HasRoot;
 }
 
 next_given : (files : List Made) (i : ℕ) (m : Made) → i < length files → m ≡ get_or files i m → map given_of (take (i + 1) files) ≡ map given_of (take i files) ++ given_of m ∷ []
@@ -79,14 +82,15 @@ checks_behind piece_length before f rest none =
 
 pub taking_more : (piece_length : ℕ) (files : List Made) (i : ℕ) (m : Made) (old new : Tally) → i < length files → m ≡ get_or files i m → Taking piece_length files i old → IsWithin new
     → ((fs : List Given) → HasTaken piece_length fs old → HasTaken piece_length (fs ++ given_of m ∷ []) new)
-    → ((fs : List Given) → HasTaken piece_length fs old → file_refusal piece_length fs (given_of m) ≡ None) → Taking piece_length files (i + 1) new
-taking_more piece_length files i m old new lt is h within taken faultless =
+    → ((fs : List Given) → HasTaken piece_length fs old → file_refusal piece_length fs (given_of m) ≡ None) → HasRoot (given_of m) → Taking piece_length files (i + 1) new
+taking_more piece_length files i m old new lt is h within taken faultless rooted =
     let before = map given_of (take i files) in
     let more = next_given files i m lt is in
     record {
       within = within;
       taken = rw more (taken before h.taken);
       faultless = ap (λ fs. first_of (checks_of piece_length fs)) more ∙ checks_behind piece_length before (given_of m) [] h.faultless ∙ skips (file_refusal piece_length before (given_of m)) [] (faultless before h.taken);
+      rooted = rw more (All-push HasRoot before (given_of m) h.rooted rooted);
     }
 
 pub taking_stops : (piece_length : ℕ) (files : List Made) (i : ℕ) (m : Made) (old : Tally) (e : MakeError) → i < length files → m ≡ get_or files i m → Taking piece_length files i old
@@ -103,3 +107,6 @@ taking_stops piece_length files i m old e lt is h refused =
 
 pub taking_found : (piece_length : ℕ) (files : List Made) (i : ℕ) (tally : Tally) → Taking piece_length files i tally → length files ≤ i → first_of (checks_of piece_length (map given_of files)) ≡ None
 taking_found piece_length files i tally h all = ap (λ fs. first_of (checks_of piece_length (map given_of fs))) (sym (take_all i files all)) ∙ h.faultless
+
+pub taking_rooted : (piece_length : ℕ) (files : List Made) (i : ℕ) (tally : Tally) → Taking piece_length files i tally → length files ≤ i → All HasRoot (map given_of files)
+taking_rooted piece_length files i tally h all = subst (λ fs. All HasRoot (map given_of fs)) (take_all i files all) h.rooted

@@ -10,4 +10,5 @@ pub mod Reading
 pub mod Place
 pub mod Walks
 pub mod Making
+pub mod ReadBack
 pub mod NotMade

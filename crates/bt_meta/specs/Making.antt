@@ -1,6 +1,7 @@
 -- A torrent that is made of files (BEP 52, "metainfo files").
-use Rattle.std.specs.Prelude.{◌≡◌, ℕ, ◌+◌, ◌^◌, ◌<◌, ◌≤◌, ◌⊎◌, pos, Bool, false, not, ◌&&◌, ◌||◌, ◌==◌, List, [], ◌∷◌, ◌++◌, length, map, get_or, sum_by, codes, string_bytes, Option, None, Some, nat_eq, nat_lt, nat_le, unwrap_or, if◌then◌else◌}
-use Rattle.std.specs.List.{list_any, list_all, starts_with, fold, All}
+use Rattle.std.specs.Prelude.{◌≡◌, ℕ, ◌+◌, ◌^◌, ◌<◌, ◌≤◌, ◌⊎◌, pos, Bool, true, false, not, ◌&&◌, ◌||◌, ◌==◌, List, [], ◌∷◌, ◌++◌, length, map, get_or, sum_by, replicate, codes, string_bytes, Option, None, Some, nat_eq, nat_lt, nat_le, unwrap_or, if◌then◌else◌}
+use Rattle.std.specs.List.{list_any, list_all, starts_with, fold, find, All}
+use Rattle.std.specs.Option.{option_map}
 use Rattle.std.specs.Ordering.{nat_cmp, is_lt, match_ordering}
 use Rattle.std.specs.Borrow.{Bor}
 use Rattle.bt_bencode.specs.Field.{first_value_of}
@@ -9,12 +10,15 @@ use Rattle.std.specs.declared.cmp.Ordering.{Ordering}
 use Rattle.std.specs.declared.cmp.Ordering.TheVariants.{Less, Greater}
 use Rattle.std.specs.List.Sorted.{IsPermutation, IsSortedBy}
 use Rattle.std.specs.Cmp.Lexicographic.{pointwise, slice_cmp}
+use Rattle.std.specs.BTreeMap.{BTreeMap, get}
 use Rattle.bt_meta.specs.Walks.{Lengths, is_other, length_at}
 use Rattle.bt_meta.specs.declared.making.Tally.{Tally}
 use Rattle.bt_bencode.specs.Data.{Data, integer, string, list, dictionary, Entries, no_entries, entry}
-use Rattle.bt_bencode.specs.Spelling.{spelling_of}
+use Rattle.bt_bencode.specs.Spelling.{spelling_of, EntriesAscend}
 use Rattle.bt_meta.specs.Places.{with_earlier}
-use Rattle.bt_meta.specs.Files.{piece_count}
+use Rattle.bt_meta.specs.Files.{File, piece_count}
+use Rattle.bt_meta.specs.Torrent.{Metainfo, IsTorrent}
+use Rattle.sha2.specs.Sha256.{sha256}
 use Rattle.bt_meta.specs.Layers.{has_layer_size, has_root}
 use Rattle.bt_meta.specs.Faults.{first_of, fault_if, is_path_element, is_piece_length}
 use Rattle.bt_meta.specs.declared.making.Made.{Made}
@@ -30,6 +34,10 @@ pub record Given : Type 0 where
 
 abbrev pub given_of : Made → Given
 given_of m = record { path = map string_bytes m.path.items; length = m.length; root = m.root; layer = m.layer.items }
+
+-- its root is a digest of 32 bytes, as any is in memory
+abbrev pub HasRoot : Given → Type 0
+HasRoot f = length f.root ≡ 32
 
 -- ---- what is refused
 
@@ -168,11 +176,39 @@ info_made name piece_length files = dictionary (
     entry (codes "name") (string name) (
     entry (codes "piece length") (integer (pos piece_length)) no_entries))))
 
+-- the layer of the first file longer than a piece that has this root
+abbrev pub first_layer : ℕ → List Given → List ℕ → Option (List ℕ)
+first_layer piece_length files root = option_map (λ f. f.layer) (find (λ f. nat_lt piece_length f.length && pointwise nat_eq f.root root) files)
+
+-- one layer for each root, in ascending order of the roots: that of the first file that has it
+pub record AreLayersOf (piece_length : ℕ) (files : List Given) (layers : Entries) : Type 0 where
+  pub ascending : EntriesAscend layers
+  pub first : (root : List ℕ) → first_value_of layers root ≡ option_map string (first_layer piece_length files root)
+
 -- the value of a torrent of files in tree order, with these layers
 abbrev pub value_made : List ℕ → ℕ → List Given → Entries → Data
 value_made name piece_length files layers = dictionary (
     entry (codes "info") (info_made name piece_length files) (
     entry (codes "piece layers") (dictionary layers) no_entries))
+
+-- a file as the torrent has it: none of an empty file's root, and of the files of one root each has the layer of the first
+abbrev pub file_made : ℕ → List Given → List Given → Given → File
+file_made piece_length files before f = record {
+  path = f.path;
+  length = f.length;
+  root = if f.length == 0 then replicate 32 0 else f.root;
+  first_piece = sum_by (λ g. piece_count piece_length g.length) before;
+  layer = if nat_lt piece_length f.length then unwrap_or (first_layer piece_length files f.root) [] else [];
+}
+
+-- the torrent of files in tree order
+unfoldable pub torrent_made : List ℕ → ℕ → List Given → Metainfo
+torrent_made name piece_length files = record {
+  name = name;
+  piece_length = piece_length;
+  infohash = sha256 (spelling_of (info_made name piece_length files));
+  files = with_earlier (file_made piece_length files) [] files;
+}
 
 -- the bytes are the spelling of a torrent of the files in tree order
 pub record IsMade (name : List ℕ) (piece_length : ℕ) (files : List Given) (bytes : List ℕ) : Type 0 where
@@ -181,12 +217,15 @@ pub record IsMade (name : List ℕ) (piece_length : ℕ) (files : List Given) (b
   pub in_order : IsInTreeOrder files ordered
   pub parted : IsParted ordered
   pub layers : Entries
+  pub layered : AreLayersOf piece_length ordered layers
   pub spelled : bytes ≡ spelling_of (value_made name piece_length ordered layers)
+  pub torrent : IsTorrent bytes (torrent_made name piece_length ordered)
   pub small : length bytes ≤ 2 ^ 27
 
 -- a value of a torrent of the files in tree order
 pub record IsValueOf (name : List ℕ) (piece_length : ℕ) (files : List Given) (value : Data) : Type 0 where
   pub layers : Entries
+  pub layered : AreLayersOf piece_length files layers
   pub made : value ≡ value_made name piece_length files layers
 
 -- ---- the steps of the making
@@ -196,10 +235,20 @@ abbrev pub entries_before : Entries → Entries → Entries
 entries_before no_entries others = others
 entries_before (entry key d es) others = entry key d (entries_before es others)
 
--- each key stands before the name
+-- it is not empty
+abbrev pub is_named : List ℕ → Bool
+is_named [] = false
+is_named (byte ∷ bytes) = true
+
+-- no element is empty
+abbrev pub AreNamed : List (List ℕ) → Type 0
+AreNamed [] = Unit {0}
+AreNamed (name ∷ path) = (is_named name ≡ true) × AreNamed path
+
+-- each key stands before the name, and is not empty
 abbrev pub AreBefore : List ℕ → Entries → Type 0
 AreBefore name no_entries = Unit {0}
-AreBefore name (entry key d es) = (slice_cmp nat_cmp name key ≡ Greater) × AreBefore name es
+AreBefore name (entry key d es) = (slice_cmp nat_cmp name key ≡ Greater) × (is_named key ≡ true) × AreBefore name es
 
 -- the path stands behind those of a folder's files: its first name is behind theirs, or is that of the last folder, in which the rest is behind
 pub record IsInLast (IsIn : Entries → Type 0) (name : List ℕ) (es : Entries) : Type 0 where
@@ -212,6 +261,10 @@ pub record IsInLast (IsIn : Entries → Type 0) (name : List ℕ) (es : Entries)
 abbrev pub IsBehind : List (List ℕ) → Entries → Type 0
 IsBehind [] es = es ≡ no_entries
 IsBehind (name ∷ path) es = AreBefore name es ⊎ IsInLast (IsBehind path) name es
+
+-- the map has the first layer of each root
+abbrev pub HasFirstLayers : ℕ → List Given → BTreeMap (List ℕ) (Bor (List ℕ)) → Type 0
+HasFirstLayers piece_length files layers = (root : List ℕ) → option_map (λ layer. layer.now) (get (slice_cmp nat_cmp) layers root) ≡ first_layer piece_length files root
 
 -- no file is longer than 2 ^ 40 bytes
 abbrev pub AreLentShort : List (Bor Made) → Type 0

@@ -3,7 +3,7 @@ use Rattle.std.specs.Prelude.{◌≡◌, ℕ, ◌^◌, ◌<◌, Bool, true, fals
 use Rattle.std.specs.List.{list_any}
 use Rattle.bt_bencode.specs.Data.{Entries}
 use Rattle.bt_bencode.specs.Spelling.{spelling_of}
-use Rattle.bt_meta.specs.Making.{Given, begins, refusal_of_files, IsInTreeOrder, value_made}
+use Rattle.bt_meta.specs.Making.{Given, begins, refusal_of_files, IsInTreeOrder, AreLayersOf, value_made}
 use Rattle.bt_meta.specs.declared.making.MakeError.{MakeError}
 use Rattle.bt_meta.specs.declared.making.MakeError.TheVariants.{BadPath, Count, OutOfMemory}
 
@@ -21,6 +21,7 @@ pub record IsTooLong (name : List ℕ) (piece_length : ℕ) (files : List Given)
   pub ordered : List Given
   pub in_order : IsInTreeOrder files ordered
   pub layers : Entries
+  pub layered : AreLayersOf piece_length ordered layers
   pub long : 2 ^ 27 < length (spelling_of (value_made name piece_length ordered layers))
 
 -- the first cause for which no torrent is made, or want of memory

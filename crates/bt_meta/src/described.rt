@@ -1,8 +1,15 @@
 //! The value that a torrent spells (BEP 52, "metainfo files").
-ghost use Rattle.std.specs.Prelude.{◌≡◌, ◌≢◌, ℕ, ◌<◌, ◌≤◌, ◌^◌, List, ◌∷◌, map, IfOk, IfErr, OnOk, OnErr, string_bytes};
-ghost use Rattle.bt_bencode.specs.Data.{Entries, dictionary, no_entries, entry};
+ghost use Rattle.std.specs.Prelude.{◌≡◌, ◌≢◌, ℕ, ◌<◌, ◌≤◌, ◌^◌, List, [], ◌∷◌, ◌++◌, map, IfOk, IfErr, OnOk, OnErr, string_bytes};
+ghost use Rattle.std.specs.Option.{option_map};
+ghost use Rattle.std.specs.List.{All};
+ghost use Rattle.std.specs.Ordering.{nat_cmp};
+ghost use Rattle.std.specs.Cmp.Lexicographic.{slice_cmp};
+ghost use Rattle.std.specs.BTreeMap.{get};
+ghost use Rattle.bt_bencode.specs.Field.{first_value_of};
+ghost use Rattle.bt_bencode.specs.Spelling.{EntriesAscend};
+ghost use Rattle.bt_bencode.specs.Data.{Entries, string, dictionary, no_entries, entry};
 ghost use Rattle.bt_bencode.specs.View.{data_of, entries_of};
-ghost use Rattle.bt_meta.specs.Making.{given_of, lent_of, entries_before, with_file, properties_made, tree_made, info_made, IsBehind, IsOpened, IsParted, AreLentShort, IsValueOf};
+ghost use Rattle.bt_meta.specs.Making.{Given, given_of, AreLayersOf, HasFirstLayers, AreNamed, lent_of, entries_before, with_file, properties_made, tree_made, info_made, IsBehind, IsOpened, IsParted, AreLentShort, IsValueOf};
 
 use crate::making::Made;
 use bt_bencode::Value;
@@ -21,6 +28,7 @@ pub(crate) fn value_of(
     files: &[&Made],
 ) -> Result<Value, AllocError>
     requires parted { IsParted (map lent_of files.now) }
+    requires named { All (λ f. AreNamed f.path) (map lent_of files.now) }
     requires short { AreLentShort files.now }
     ensures { IfOk result (λ value. IsValueOf name.now piece_length (map lent_of files.now) (data_of value)) }
 {
@@ -40,6 +48,7 @@ fn info_of(
     files: &[&Made],
 ) -> Result<Value, AllocError>
     requires parted { IsParted (map lent_of files.now) }
+    requires named { All (λ f. AreNamed f.path) (map lent_of files.now) }
     requires short { AreLentShort files.now }
     ensures { IfOk result (λ value. data_of value ≡ info_made name.now piece_length (map lent_of files.now)) }
 {
@@ -56,6 +65,7 @@ fn info_of(
 /// The tree of files that are in ascending order of their paths.
 fn tree_of(alloc: Global, files: &[&Made]) -> Result<Entries, AllocError>
     requires parted { IsParted (map lent_of files.now) }
+    requires named { All (λ f. AreNamed f.path) (map lent_of files.now) }
     requires short { AreLentShort files.now }
     ensures { IfOk result (λ tree. entries_of tree.items ≡ tree_made (map lent_of files.now)) }
 {
@@ -138,15 +148,38 @@ fn properties_of(alloc: Global, file: &Made) -> Result<Value, AllocError>
 }
 
 /// The layers by their roots: of the files with one root that of the first.
-fn layers_of(alloc: Global, piece_length: u32, files: &[&Made]) -> Result<Entries, AllocError> {
-    let mut layers: BTreeMap<Hash32, &[u8]> = BTreeMap::new(alloc);
-    for file in files.iter().rev() {
-        if file.length > piece_length as u64 {
-            layers.insert(file.root, file.layer.as_slice())?;
-        }
+fn layers_of(alloc: Global, piece_length: u32, files: &[&Made]) -> Result<Entries, AllocError>
+    ensures { IfOk result (λ entries. AreLayersOf piece_length (map lent_of files.now) (entries_of entries.items)) }
+{
+    let mut layers = BTreeMap::new(alloc);
+    for file in files {
+        add_layer(&mut layers, piece_length, file)?;
     }
+    layer_entries(alloc, &layers)
+}
+
+/// Adds the layer of a file, if it is longer than a piece and there is none of its root yet.
+fn add_layer<'a>(
+    layers: &mut BTreeMap<Hash32, &'a [u8]>,
+    piece_length: u32,
+    file: &'a Made,
+) -> Result<(), AllocError>
+    ensures { OnOk result ((files : List Given) → HasFirstLayers piece_length files layers.old → HasFirstLayers piece_length (files ++ given_of file.now ∷ []) layers.new) }
+{
+    if file.length <= piece_length as u64 || layers.contains_key(&file.root) {
+        return Ok(());
+    }
+    layers.insert(file.root, file.layer.as_slice())?;
+    Ok(())
+}
+
+/// The layers as strings at their roots, in ascending order.
+fn layer_entries(alloc: Global, layers: &BTreeMap<Hash32, &[u8]>) -> Result<Entries, AllocError>
+    ensures ascending { IfOk result (λ entries. EntriesAscend (entries_of entries.items)) }
+    ensures layers { IfOk result (λ entries. (root : List ℕ) → first_value_of (entries_of entries.items) root ≡ option_map (λ layer. string layer.now) (get (slice_cmp nat_cmp) layers.now root)) }
+{
     let mut entries = Vec::new(alloc);
-    for (root, layer) in &layers {
+    for (root, layer) in layers {
         let layer = Vec::from_slice(alloc, layer)?;
         entries = entries_with(alloc, entries, root, Value::Bytes(layer))?;
     }

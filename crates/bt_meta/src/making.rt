@@ -1,10 +1,11 @@
 //! Making torrents.
 ghost use Rattle.std.specs.Prelude.{◌≡◌, ℕ, ◌^◌, ◌<◌, ◌≤◌, ◌++◌, ◌∷◌, [], ◌⊎◌, List, map, IfOk, OnOk, IfErr, MatchResult, string_bytes, None, true, false};
+ghost use Rattle.std.specs.List.{All};
 ghost use Rattle.std.specs.List.Sorted.{IsSortedBy};
 ghost use Rattle.std.specs.Result.{result_err};
 ghost use Rattle.bt_meta.specs.Places.{with_earlier};
 ghost use Rattle.bt_meta.specs.Faults.{first_of, is_piece_length as is_lawful_piece_length};
-ghost use Rattle.bt_meta.specs.Making.{Given, given_of, file_refusal, own_refusal, layer_refusal, is_path as is_lawful_path, is_element as is_lawful_element, HasLengths, HasTaken, IsWithin, Refuses, conflict_with, IsInTreeOrder, lent_of, path_order, is_before, begins as begins_path, IsMade};
+ghost use Rattle.bt_meta.specs.Making.{Given, given_of, HasRoot, file_refusal, own_refusal, layer_refusal, is_path as is_lawful_path, is_element as is_lawful_element, HasLengths, HasTaken, IsWithin, Refuses, conflict_with, IsInTreeOrder, lent_of, path_order, is_before, begins as begins_path, IsMade};
 ghost use Rattle.bt_meta.specs.NotMade.{have_overlap, IsNotMade};
 ghost use Rattle.bt_meta.specs.declared.making.MakeError.TheVariants.{OutOfMemory as out_of_memory, RootConflict as root_conflict};
 
@@ -107,7 +108,8 @@ pub fn make(
 /// Refuses the first file that is not lawful, in the order given.
 fn check_files(alloc: Global, piece_length: u32, files: &[Made]) -> Result<(), MakeError>
     requires { is_lawful_piece_length piece_length ≡ true }
-    ensures { MatchResult result (λ _. first_of (with_earlier (file_refusal piece_length) [] (map given_of files.now)) ≡ None) (Refuses (first_of (with_earlier (file_refusal piece_length) [] (map given_of files.now)))) }
+    ensures rooted { OnOk result (All HasRoot (map given_of files.now)) }
+    ensures checked { MatchResult result (λ _. first_of (with_earlier (file_refusal piece_length) [] (map given_of files.now)) ≡ None) (Refuses (first_of (with_earlier (file_refusal piece_length) [] (map given_of files.now)))) }
 {
     let mut tally = Tally {
         files: 0,
@@ -134,6 +136,7 @@ impl Tally {
     fn take(&mut self, piece_length: u32, file: &Made) -> Result<(), MakeError>
         requires lawful { is_lawful_piece_length piece_length ≡ true }
         requires within { IsWithin self.old }
+        ensures rooted { OnOk result (HasRoot (given_of file.now)) }
         ensures within { OnOk result (IsWithin self.new) }
         ensures taken { OnOk result ((files : List Given) → HasTaken piece_length files self.old → HasTaken piece_length (files ++ given_of file.now ∷ []) self.new) }
         ensures faultless { OnOk result ((files : List Given) → HasTaken piece_length files self.old → file_refusal piece_length files (given_of file.now) ≡ None) }
@@ -201,14 +204,16 @@ fn check_layer(piece_length: u32, file: &Made) -> Result<(), MakeError>
 
 /// Refuses a file whose root is that of an earlier file of another length.
 fn check_root(lengths: &mut BTreeMap<Hash32, u64>, file: &Made) -> Result<(), MakeError>
+    ensures rooted { HasRoot (given_of file.now) }
     ensures noted { OnOk result ((files : List Given) → HasLengths lengths.old files → HasLengths lengths.new (files ++ given_of file.now ∷ [])) }
     ensures alike { OnOk result ((files : List Given) → HasLengths lengths.old files → conflict_with files (given_of file.now) ≡ false) }
     ensures refused { IfErr result (λ e. (files : List Given) → HasLengths lengths.old files → (e ≡ out_of_memory) ⊎ ((e ≡ root_conflict) × (conflict_with files (given_of file.now) ≡ true))) }
 {
+    let root = file.root;
     if file.length == 0 {
         return Ok(());
     }
-    match note_length(lengths, file.root, file.length) {
+    match note_length(lengths, root, file.length) {
         Ok(()) => Ok(()),
         Err(MetaError::OutOfMemory) => Err(MakeError::OutOfMemory),
         Err(_) => Err(MakeError::RootConflict),

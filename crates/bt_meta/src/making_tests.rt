@@ -1,3 +1,4 @@
+use crate::tests::{LAYERED_ROOT, layer, layered, summary};
 use crate::{Made, MakeError, Span, make, read_torrent};
 use bt_tree::Hash32;
 use sha2::{Digest, Sha256};
@@ -73,6 +74,22 @@ fn puts_the_files_in_tree_order(rt: HostRuntime) -> Result<(), Fail> {
     let empty = torrent.files().get(1);
     assert!(rt; empty.is_some_and(|file| file.root == [0; 32]));
     assert_eq!(rt; torrent.pieces(), 4);
+    Ok(())
+}
+
+#[test]
+fn makes_one_layer_for_a_root(rt: HostRuntime) -> Result<(), Fail> {
+    let alloc = rt.alloc();
+    let whole = layer(&rt, 544)?;
+    let files = [
+        made(alloc, "g", 1_048_577, LAYERED_ROOT, &whole)?,
+        made(alloc, "f", 1_048_577, LAYERED_ROOT, &whole)?,
+    ];
+    let text = make(alloc, b"f", 65_536, &files)?;
+    let with_another_key = layered(&rt, &LAYERED_ROOT, &whole)?;
+    assert_eq!(rt; text.len() + b"1:0le".len(), with_another_key.len());
+    let summary = summary(&rt, &read_torrent(alloc, &text)?)?;
+    assert_eq!(rt; summary.as_str(), "f/ 0 1048577 544;g/ 17 1048577 544;");
     Ok(())
 }
 

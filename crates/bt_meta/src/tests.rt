@@ -248,7 +248,7 @@ fn compares_files_of_one_root(rt: HostRuntime) -> Result<(), Fail> {
 }
 
 /// Of each file its path, its first piece, its length and its layer's.
-fn summary(rt: &impl AllocGlobal, torrent: &Torrent) -> Result<String, Fail> {
+pub(crate) fn summary(rt: &impl AllocGlobal, torrent: &Torrent) -> Result<String, Fail> {
     let mut text = String::new(rt.alloc());
     for file in torrent.files() {
         for element in &file.path {
@@ -325,13 +325,13 @@ fn refuses_names_that_are_no_text(rt: HostRuntime) -> Result<(), Fail> {
 
 /// The root of the tree of 1,048,577 bytes whose layer of 17 pieces of 65,536 bytes has the digests 00.., 01.. up to
 /// 10.. of one byte each.
-const LAYERED_ROOT: [u8; 32] = [
+pub(crate) const LAYERED_ROOT: [u8; 32] = [
     0x81, 0xe8, 0xe4, 0xbc, 0x61, 0xe7, 0x6d, 0x28, 0x18, 0x4d, 0x9d, 0xaa, 0x52, 0xc6, 0x32, 0xb1,
     0x54, 0x07, 0xe4, 0xa1, 0xf5, 0xa1, 0x12, 0xb8, 0xe2, 0x89, 0xe5, 0x4b, 0x3b, 0x67, 0x6f, 0x21,
 ];
 
 /// The first `length` bytes of that layer.
-fn layer(rt: &impl AllocGlobal, length: usize) -> Result<Vec<u8>, Fail> {
+pub(crate) fn layer(rt: &impl AllocGlobal, length: usize) -> Result<Vec<u8>, Fail> {
     let mut bytes = Vec::new(rt.alloc());
     for i in 0..length {
         bytes.push((i / 32 % 256) as u8)?;
@@ -340,7 +340,7 @@ fn layer(rt: &impl AllocGlobal, length: usize) -> Result<Vec<u8>, Fail> {
 }
 
 /// The torrent of two such files, with these bytes at this key of `piece layers`, between two others.
-fn layered(rt: &impl AllocGlobal, key: &[u8], layer: &[u8]) -> Result<Vec<u8>, Fail> {
+pub(crate) fn layered(rt: &impl AllocGlobal, key: &[u8], layer: &[u8]) -> Result<Vec<u8>, Fail> {
     let mut bytes = Vec::new(rt.alloc());
     let before = b"d4:infod9:file treed";
     bytes.extend_from_slice(before)?;

@@ -21,7 +21,7 @@ loop-file-preserved c =
     let lt : i < length (map lent_of c.args.files.now) = rw (length-map c.args.files.now lent_of) c.loop-file-test.true in
     let put : entries_of c.in_ok-tree.tree.items ≡ with_file (lent_of m).path (properties_made (lent_of m)) (entries_of c.loop-file.tree.items) =
     c.in_ok-tree.ensures ∙ rw (c.deref.ensures.value, c.in_ok-properties_of.ensures) refl in
-    rw put (grown_more (map lent_of c.args.files.now) i (lent_of m) (entries_of c.loop-file.tree.items) c.requires.parted lt (lent_at c.args.files.now i m c.loop-file-test.true c.file-item.is) c.loop-file.invariant)
+    rw put (grown_more (map lent_of c.args.files.now) i (lent_of m) (entries_of c.loop-file.tree.items) c.requires.parted c.requires.named lt (lent_at c.args.files.now i m c.loop-file-test.true c.file-item.is) c.loop-file.invariant)
 
 pub returns : goal.returns
 returns c = grown_found (map lent_of c.args.files.now) c.loop-file.file-index (entries_of c.loop-file.tree.items) c.loop-file.invariant (rw (length-map c.args.files.now lent_of) (omega (arith, c.loop-file-test.false)))

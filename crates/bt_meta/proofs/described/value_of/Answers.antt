@@ -14,6 +14,7 @@ returns c =
     let one = c.in_ok-one.ensures ∙ ap (λ es. entries_before (entries_of es) (entry info (data_of c.in_ok-info.info) no_entries)) c.new.ensures.items in
     record {
       layers = entries_of c.in_ok-layers.layers.items;
+      layered = c.in_ok-layers.ensures;
       made = data_of-Dict c.in_ok-both.both ∙ ap dictionary (c.in_ok-both.ensures ∙ ap (λ es. entries_before es rest) one)
           ∙ ap (λ d. dictionary (entry info d rest)) c.in_ok-info.ensures
           ∙ ap (λ d. dictionary (entry info (info_made c.args.name.now c.args.piece_length (map lent_of c.args.files.now)) (entry (codes "piece layers") d no_entries))) (data_of-Dict c.in_ok-layers.layers);
