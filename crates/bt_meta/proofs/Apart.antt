@@ -12,9 +12,9 @@ use Rattle.std.specs.declared.cmp.Ordering.TheVariants.{Less, Equal, Greater}
 use Rattle.std.proofs.lemmas.Bool.{cases_lt, true≢false}
 use Rattle.std.proofs.lemmas.List.{get_or-map, length-map}
 use Rattle.std.proofs.lemmas.Slice.Eq.{bytes_eq-Decides}
-use Rattle.bt_meta.specs.Making.{Given, given_of, lent_of, begins, path_order, IsInTreeOrder, IsParted, Check, first_refusal, refused_if, file_refusal, own_refusal, layer_refusal, conflict_with, is_beyond, is_path, is_element, AreNamed, refusal_of_files, Refuses}
+use Rattle.bt_meta.specs.Making.{Given, given_of, lent_of, begins, path_order, IsInTreeOrder, IsParted, file_refusal, own_refusal, layer_refusal, conflict_with, is_beyond, is_path, is_element, AreNamed, refusal_of_files, Refuses}
 use Rattle.bt_meta.specs.NotMade.{have_overlap, IsNotMade, no_memory, unlawful}
-use Rattle.bt_meta.specs.Faults.{is_piece_length}
+use Rattle.bt_meta.specs.Faults.{first_of, fault_if, is_piece_length}
 use Rattle.std.proofs.lemmas.Bool.{cases_Bool}
 use Rattle.std.proofs.lemmas.Bool.Decides.{nat_tests}
 use Rattle.std.proofs.lemmas.List.Elements.{All-nil, All-cons}
@@ -24,6 +24,7 @@ use Rattle.bt_meta.specs.declared.making.Made.{Made}
 use Rattle.bt_meta.specs.declared.making.MakeError.{MakeError}
 use Rattle.bt_meta.specs.declared.making.MakeError.TheVariants.{PieceLength, BadPath, FileLength, RootConflict, Count}
 use Rattle.bt_meta.proofs.Parted.{same_bytes}
+use Rattle.bt_meta.proofs.Checks.{head_none, tail_none, holds_unless}
 use Rattle.bt_meta.proofs.Overlap.{AreApart, next_apart}
 
 pub begins_by_bytes : (path other : List (String Global)) → starts_with string_eq other path ≡ begins (map string_bytes path) (map string_bytes other)
@@ -85,15 +86,7 @@ parted files ordered h none k d lt =
 
 -- ---- no file is longer than 2 ^ 40 bytes
 
-pub first_none : (x : Check) (xs : List Check) → first_refusal (x ∷ xs) ≡ None → x ≡ None
-first_none None xs e = refl
-first_none (Some x) xs e = cc
-
-pub rest_none : (x : Check) (xs : List Check) → first_refusal (x ∷ xs) ≡ None → first_refusal xs ≡ None
-rest_none None xs e = e
-rest_none (Some x) xs e = cc
-
-pub short_from : (n : ℕ) (e : MakeError) → refused_if (not (nat_le n (2 ^ 40))) e ≡ None → n ≤ 2 ^ 40
+pub short_from : (n : ℕ) (e : MakeError) → fault_if (not (nat_le n (2 ^ 40))) e ≡ None → n ≤ 2 ^ 40
 short_from n e h = elim (cases_Bool (nat_le n (2 ^ 40))) [
   | inl within ↦ grind (arith, nat_tests)
   | inr beyond ↦ let f : Some e ≡ None = rw beyond at h in cc
@@ -101,18 +94,18 @@ short_from n e h = elim (cases_Bool (nat_le n (2 ^ 40))) [
 
 short_given : (piece_length : ℕ) (before : List Given) (f : Given) → file_refusal piece_length before f ≡ None → f.length ≤ 2 ^ 40
 short_given piece_length before f h =
-    let own : own_refusal piece_length f ≡ None = first_none (own_refusal piece_length f) (refused_if (conflict_with before f) RootConflict ∷ refused_if (is_beyond piece_length before f) Count ∷ []) h in
-    let rest = rest_none (refused_if (not (is_path f.path)) BadPath) (refused_if (not (nat_le f.length (2 ^ 40))) FileLength ∷ layer_refusal piece_length f ∷ []) own in
-    short_from f.length FileLength (first_none (refused_if (not (nat_le f.length (2 ^ 40))) FileLength) (layer_refusal piece_length f ∷ []) rest)
+    let own : own_refusal piece_length f ≡ None = head_none (own_refusal piece_length f) (fault_if (conflict_with before f) RootConflict ∷ fault_if (is_beyond piece_length before f) Count ∷ []) h in
+    let rest = tail_none (fault_if (not (is_path f.path)) BadPath) (fault_if (not (nat_le f.length (2 ^ 40))) FileLength ∷ layer_refusal piece_length f ∷ []) own in
+    short_from f.length FileLength (head_none (fault_if (not (nat_le f.length (2 ^ 40))) FileLength) (layer_refusal piece_length f ∷ []) rest)
 
 abbrev IsShort : Given → Type 0
 IsShort g = g.length ≤ 2 ^ 40
 
-all_short : (piece_length : ℕ) (before files : List Given) → first_refusal (with_earlier (file_refusal piece_length) before files) ≡ None → All IsShort files
+all_short : (piece_length : ℕ) (before files : List Given) → first_of (with_earlier (file_refusal piece_length) before files) ≡ None → All IsShort files
 all_short piece_length before [] h = All-nil IsShort
 all_short piece_length before (f ∷ files) h =
     let rest = with_earlier (file_refusal piece_length) (before ++ f ∷ []) files in
-    All-cons IsShort f files (short_given piece_length before f (first_none (file_refusal piece_length before f) rest h)) (all_short piece_length (before ++ f ∷ []) files (rest_none (file_refusal piece_length before f) rest h))
+    All-cons IsShort f files (short_given piece_length before f (head_none (file_refusal piece_length before f) rest h)) (all_short piece_length (before ++ f ∷ []) files (tail_none (file_refusal piece_length before f) rest h))
 
 second : (a b : Bool) → (a && b) ≡ true → b ≡ true
 second true b h = h
@@ -123,34 +116,28 @@ named_from [] e = tt
 named_from ([] ∷ path) e = cc
 named_from ((byte ∷ bytes) ∷ path) e = (refl, named_from path (second (is_element (byte ∷ bytes)) (list_all is_element path) e))
 
-pub path_from : (path : List (List ℕ)) (e : MakeError) → refused_if (not (is_path path)) e ≡ None → is_path path ≡ true
-path_from path e h = elim (cases_Bool (is_path path)) [
-  | inl lawful ↦ lawful
-  | inr other ↦ let f : Some e ≡ None = rw other at h in cc
-]
-
 named_path : (path : List (List ℕ)) → is_path path ≡ true → AreNamed path
 named_path [] e = tt
 named_path (name ∷ path) e = named_from (name ∷ path) (second (not (length (name ∷ path) == 0)) (list_all is_element (name ∷ path)) e)
 
 named_given : (piece_length : ℕ) (before : List Given) (f : Given) → file_refusal piece_length before f ≡ None → AreNamed f.path
 named_given piece_length before f h =
-    let own : own_refusal piece_length f ≡ None = first_none (own_refusal piece_length f) (refused_if (conflict_with before f) RootConflict ∷ refused_if (is_beyond piece_length before f) Count ∷ []) h in
-    named_path f.path (path_from f.path BadPath (first_none (refused_if (not (is_path f.path)) BadPath) (refused_if (not (nat_le f.length (2 ^ 40))) FileLength ∷ layer_refusal piece_length f ∷ []) own))
+    let own : own_refusal piece_length f ≡ None = head_none (own_refusal piece_length f) (fault_if (conflict_with before f) RootConflict ∷ fault_if (is_beyond piece_length before f) Count ∷ []) h in
+    named_path f.path (holds_unless (is_path f.path) BadPath (head_none (fault_if (not (is_path f.path)) BadPath) (fault_if (not (nat_le f.length (2 ^ 40))) FileLength ∷ layer_refusal piece_length f ∷ []) own))
 
 abbrev HasNames : Given → Type 0
 HasNames g = AreNamed g.path
 
-all_named : (piece_length : ℕ) (before files : List Given) → first_refusal (with_earlier (file_refusal piece_length) before files) ≡ None → All HasNames files
+all_named : (piece_length : ℕ) (before files : List Given) → first_of (with_earlier (file_refusal piece_length) before files) ≡ None → All HasNames files
 all_named piece_length before [] h = All-nil HasNames
 all_named piece_length before (f ∷ files) h =
     let rest = with_earlier (file_refusal piece_length) (before ++ f ∷ []) files in
-    All-cons HasNames f files (named_given piece_length before f (first_none (file_refusal piece_length before f) rest h)) (all_named piece_length (before ++ f ∷ []) files (rest_none (file_refusal piece_length before f) rest h))
+    All-cons HasNames f files (named_given piece_length before f (head_none (file_refusal piece_length before f) rest h)) (all_named piece_length (before ++ f ∷ []) files (tail_none (file_refusal piece_length before f) rest h))
 
-pub ordered_named : (piece_length : ℕ) (files ordered : List Given) → first_refusal (with_earlier (file_refusal piece_length) [] files) ≡ None → IsInTreeOrder files ordered → All (λ g. AreNamed g.path) ordered
+pub ordered_named : (piece_length : ℕ) (files ordered : List Given) → first_of (with_earlier (file_refusal piece_length) [] files) ≡ None → IsInTreeOrder files ordered → All (λ g. AreNamed g.path) ordered
 ordered_named piece_length files ordered h order = All-permutation HasNames files ordered order.same (all_named piece_length [] files h)
 
-pub lent_short : (piece_length : ℕ) (files : List Given) (ordered : List (Bor Made)) → first_refusal (with_earlier (file_refusal piece_length) [] files) ≡ None → IsInTreeOrder files (map lent_of ordered)
+pub lent_short : (piece_length : ℕ) (files : List Given) (ordered : List (Bor Made)) → first_of (with_earlier (file_refusal piece_length) [] files) ≡ None → IsInTreeOrder files (map lent_of ordered)
     → All (λ (m : Bor Made). m.now.length ≤ 2 ^ 40) ordered
 lent_short piece_length files ordered h order k d lt =
     let short : All IsShort (map lent_of ordered) = All-permutation IsShort files (map lent_of ordered) order.same (all_short piece_length [] files h) in
@@ -172,12 +159,12 @@ unfolding refusal_of_files
 none_refused piece_length files is none = rw (← is, count_of files true none) refl
 
 pub files_refused : (piece_length : ℕ) (files : List Made) → true ≡ is_piece_length piece_length → false ≡ (length files == 0)
-    → refusal_of_files piece_length (map given_of files) ≡ first_refusal (with_earlier (file_refusal piece_length) [] (map given_of files))
+    → refusal_of_files piece_length (map given_of files) ≡ first_of (with_earlier (file_refusal piece_length) [] (map given_of files))
 unfolding refusal_of_files
 files_refused piece_length files is some = rw (← is, count_of files false some) refl
 
 pub refused_as : (name : List ℕ) (piece_length : ℕ) (files : List Made) (e : MakeError) → true ≡ is_piece_length piece_length → false ≡ (length files == 0)
-    → Refuses (first_refusal (with_earlier (file_refusal piece_length) [] (map given_of files))) e → IsNotMade name piece_length (map given_of files) e
+    → Refuses (first_of (with_earlier (file_refusal piece_length) [] (map given_of files))) e → IsNotMade name piece_length (map given_of files) e
 refused_as name piece_length files e is some h = elim h [
   | inl memory ↦ subst (λ x. IsNotMade name piece_length (map given_of files) x) (sym memory) no_memory
   | inr found ↦ unlawful e (files_refused piece_length files is some ∙ found)

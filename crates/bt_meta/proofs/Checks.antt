@@ -1,26 +1,43 @@
 -- What a list of checks answers.
-use Rattle.std.proofs.Common.{◌≡◌, Bool, true, false, List, [], ◌∷◌, ◌++◌, None, Some, refl}
-use Rattle.bt_meta.specs.Faults.{Check, first_of, fault_if}
-use Rattle.bt_meta.specs.declared.error.MetaError.{MetaError}
+use Rattle.std.proofs.Common.{◌≡◌, Bool, true, false, List, [], ◌∷◌, ◌++◌, Option, None, Some, refl}
+use Rattle.std.specs.Prelude.{not}
+use Rattle.bt_meta.specs.Faults.{first_of, fault_if}
 
-pub first_of-append : (xs ys : List Check) → first_of xs ≡ None → first_of (xs ++ ys) ≡ first_of ys
-first_of-append [] ys e = refl
-first_of-append (None ∷ xs) ys e = first_of-append xs ys e
-first_of-append (Some fault ∷ xs) ys e = cc
+module _ {E : Type 0} where
+  pub first_of-append : (xs ys : List (Option E)) → first_of xs ≡ None → first_of (xs ++ ys) ≡ first_of ys
+  first_of-append [] ys e = refl
+  first_of-append (None ∷ xs) ys e = first_of-append xs ys e
+  first_of-append (Some fault ∷ xs) ys e = cc
 
-pub first_of-append_some : (xs ys : List Check) (fault : MetaError) → first_of xs ≡ Some fault → first_of (xs ++ ys) ≡ Some fault
-first_of-append_some [] ys fault e = cc
-first_of-append_some (None ∷ xs) ys fault e = first_of-append_some xs ys fault e
-first_of-append_some (Some other ∷ xs) ys fault e = e
+  pub first_of-append_some : (xs ys : List (Option E)) (fault : E) → first_of xs ≡ Some fault → first_of (xs ++ ys) ≡ Some fault
+  first_of-append_some [] ys fault e = cc
+  first_of-append_some (None ∷ xs) ys fault e = first_of-append_some xs ys fault e
+  first_of-append_some (Some other ∷ xs) ys fault e = e
 
-pub skips : (check : Check) (checks : List Check) → check ≡ None → first_of (check ∷ checks) ≡ first_of checks
-skips check checks e = rw e refl
+  pub skips : (check : Option E) (checks : List (Option E)) → check ≡ None → first_of (check ∷ checks) ≡ first_of checks
+  skips check checks e = rw e refl
 
-pub stops : (check : Check) (checks : List Check) (fault : MetaError) → check ≡ Some fault → first_of (check ∷ checks) ≡ Some fault
-stops check checks fault e = rw e refl
+  pub stops : (check : Option E) (checks : List (Option E)) (fault : E) → check ≡ Some fault → first_of (check ∷ checks) ≡ Some fault
+  stops check checks fault e = rw e refl
 
-pub passes : (test : Bool) (fault : MetaError) → test ≡ false → fault_if test fault ≡ None
-passes test fault e = rw e refl
+  pub passes : (test : Bool) (fault : E) → test ≡ false → fault_if test fault ≡ None
+  passes test fault e = rw e refl
 
-pub fails : (test : Bool) (fault : MetaError) → test ≡ true → fault_if test fault ≡ Some fault
-fails test fault e = rw e refl
+  pub fails : (test : Bool) (fault : E) → test ≡ true → fault_if test fault ≡ Some fault
+  fails test fault e = rw e refl
+
+  pub head_none : (check : Option E) (checks : List (Option E)) → first_of (check ∷ checks) ≡ None → check ≡ None
+  head_none None checks e = refl
+  head_none (Some fault) checks e = cc
+
+  pub tail_none : (check : Option E) (checks : List (Option E)) → first_of (check ∷ checks) ≡ None → first_of checks ≡ None
+  tail_none None checks e = e
+  tail_none (Some fault) checks e = cc
+
+  pub not_faulty : (test : Bool) (fault : E) → fault_if test fault ≡ None → test ≡ false
+  not_faulty true fault e = cc
+  not_faulty false fault e = refl
+
+  pub holds_unless : (test : Bool) (fault : E) → fault_if (not test) fault ≡ None → test ≡ true
+  holds_unless true fault e = refl
+  holds_unless false fault e = cc

@@ -8,13 +8,14 @@ use Rattle.std.proofs.lemmas.Bool.Decides.{nat_tests}
 use Rattle.std.proofs.lemmas.List.{append-nil}
 use Rattle.std.proofs.lemmas.List.Elements.{All-nil, All-cons, All-push, All-weaker}
 use Rattle.std.proofs.lemmas.List.Sorted.{All-permutation, length_permutation, sum_by-IsPermutation}
+use Rattle.bt_meta.specs.Faults.{first_of, fault_if}
 use Rattle.bt_meta.specs.Places.{with_earlier}
 use Rattle.bt_meta.specs.Files.{piece_count}
-use Rattle.bt_meta.specs.Making.{Given, first_refusal, refused_if, file_refusal, own_refusal, layer_refusal, conflict_with, is_beyond, is_path, IsInTreeOrder}
-use Rattle.bt_meta.specs.declared.making.MakeError.{MakeError}
+use Rattle.bt_meta.specs.Making.{Given, file_refusal, own_refusal, layer_refusal, conflict_with, is_beyond, is_path, IsInTreeOrder}
 use Rattle.bt_meta.specs.declared.making.MakeError.TheVariants.{BadPath, FileLength, RootConflict, Count}
 use Rattle.bt_meta.proofs.Roots.{same_bytes_either_way}
-use Rattle.bt_meta.proofs.Apart.{first_none, rest_none, short_from, path_from}
+use Rattle.bt_meta.proofs.Checks.{head_none, tail_none, not_faulty, holds_unless}
+use Rattle.bt_meta.proofs.Apart.{short_from}
 
 -- a file that is lawful by itself
 pub record IsLawful (piece_length : ℕ) (f : Given) : Type 0 where
@@ -43,10 +44,6 @@ pub record AreLawful (piece_length : ℕ) (files : List Given) : Type 0 where
 
 -- ---- one file
 
-pub not_refused : (test : Bool) (e : MakeError) → refused_if test e ≡ None → test ≡ false
-not_refused true e h = cc
-not_refused false e h = refl
-
 within_limits : (path count pieces : ℕ) → (nat_lt 64 path || (nat_lt 65536 count || nat_lt (2 ^ 21) pieces)) ≡ false → (path ≤ 64) × (count ≤ 65536) × (pieces ≤ 2 ^ 21)
 within_limits path count pieces e = (grind (arith, nat_tests), grind (arith, nat_tests), grind (arith, nat_tests))
 
@@ -58,24 +55,24 @@ record IsTaken (piece_length : ℕ) (before : List Given) (f : Given) : Type 0 w
 
 taken : (piece_length : ℕ) (before : List Given) (f : Given) → file_refusal piece_length before f ≡ None → IsTaken piece_length before f
 taken piece_length before f h =
-    let path = refused_if (not (is_path f.path)) BadPath in
-    let short = refused_if (not (nat_le f.length (2 ^ 40))) FileLength in
-    let conflict = refused_if (conflict_with before f) RootConflict in
-    let beyond = refused_if (is_beyond piece_length before f) Count in
-    let own : own_refusal piece_length f ≡ None = first_none (own_refusal piece_length f) (conflict ∷ beyond ∷ []) h in
-    let both : first_refusal (conflict ∷ beyond ∷ []) ≡ None = rest_none (own_refusal piece_length f) (conflict ∷ beyond ∷ []) h in
-    let sized : first_refusal (short ∷ layer_refusal piece_length f ∷ []) ≡ None = rest_none path (short ∷ layer_refusal piece_length f ∷ []) own in
-    let layered : first_refusal (layer_refusal piece_length f ∷ []) ≡ None = rest_none short (layer_refusal piece_length f ∷ []) sized in
+    let path = fault_if (not (is_path f.path)) BadPath in
+    let short = fault_if (not (nat_le f.length (2 ^ 40))) FileLength in
+    let conflict = fault_if (conflict_with before f) RootConflict in
+    let beyond = fault_if (is_beyond piece_length before f) Count in
+    let own : own_refusal piece_length f ≡ None = head_none (own_refusal piece_length f) (conflict ∷ beyond ∷ []) h in
+    let both : first_of (conflict ∷ beyond ∷ []) ≡ None = tail_none (own_refusal piece_length f) (conflict ∷ beyond ∷ []) h in
+    let sized : first_of (short ∷ layer_refusal piece_length f ∷ []) ≡ None = tail_none path (short ∷ layer_refusal piece_length f ∷ []) own in
+    let layered : first_of (layer_refusal piece_length f ∷ []) ≡ None = tail_none short (layer_refusal piece_length f ∷ []) sized in
     let limits = within_limits (length f.path) (length (before ++ f ∷ [])) (count_in piece_length (before ++ f ∷ []))
-    (not_refused (is_beyond piece_length before f) Count (first_none beyond [] (rest_none conflict (beyond ∷ []) both))) in
+    (not_faulty (is_beyond piece_length before f) Count (head_none beyond [] (tail_none conflict (beyond ∷ []) both))) in
     record {
       lawful = record {
-        path = path_from f.path BadPath (first_none path (short ∷ layer_refusal piece_length f ∷ []) own);
-        short = short_from f.length FileLength (first_none short (layer_refusal piece_length f ∷ []) sized);
-        layer = first_none (layer_refusal piece_length f) [] layered;
+        path = holds_unless (is_path f.path) BadPath (head_none path (short ∷ layer_refusal piece_length f ∷ []) own);
+        short = short_from f.length FileLength (head_none short (layer_refusal piece_length f ∷ []) sized);
+        layer = head_none (layer_refusal piece_length f) [] layered;
         shallow = limits.0;
       };
-      alike = not_refused (conflict_with before f) RootConflict (first_none conflict (beyond ∷ []) both);
+      alike = not_faulty (conflict_with before f) RootConflict (head_none conflict (beyond ∷ []) both);
       few = limits.1;
       pieces = limits.2;
     }
@@ -133,25 +130,25 @@ alike_more before f h apart =
 
 -- ---- all files
 
-lawful_behind : (piece_length : ℕ) (before files : List Given) → AreLawful piece_length before → first_refusal (with_earlier (file_refusal piece_length) before files) ≡ None → AreLawful piece_length (before ++ files)
+lawful_behind : (piece_length : ℕ) (before files : List Given) → AreLawful piece_length before → first_of (with_earlier (file_refusal piece_length) before files) ≡ None → AreLawful piece_length (before ++ files)
 lawful_behind piece_length before [] h none = rw (append-nil before) h
 lawful_behind piece_length before (f ∷ files) h none =
     let rest = with_earlier (file_refusal piece_length) (before ++ f ∷ []) files in
-    let one = taken piece_length before f (first_none (file_refusal piece_length before f) rest none) in
+    let one = taken piece_length before f (head_none (file_refusal piece_length before f) rest none) in
     let more : AreLawful piece_length (before ++ f ∷ []) = record {
       each = All-push (IsLawful piece_length) before f h.each one.lawful;
       alike = alike_more before f h.alike (none_clash before f one.alike);
       few = one.few;
       pieces = one.pieces;
     } in
-    rw (← append_assoc before (f ∷ []) files) (lawful_behind piece_length (before ++ f ∷ []) files more (rest_none (file_refusal piece_length before f) rest none))
+    rw (← append_assoc before (f ∷ []) files) (lawful_behind piece_length (before ++ f ∷ []) files more (tail_none (file_refusal piece_length before f) rest none))
 
-lawful_all : (piece_length : ℕ) (files : List Given) → first_refusal (with_earlier (file_refusal piece_length) [] files) ≡ None → AreLawful piece_length files
+lawful_all : (piece_length : ℕ) (files : List Given) → first_of (with_earlier (file_refusal piece_length) [] files) ≡ None → AreLawful piece_length files
 lawful_all piece_length files none =
     lawful_behind piece_length [] files (record { each = All-nil (IsLawful piece_length); alike = All-nil (λ f. All (λ g. clash f g ≡ false) []); few = omega arith; pieces = omega arith }) none
 
 -- in another order too
-pub lawful_ordered : (piece_length : ℕ) (files ordered : List Given) → first_refusal (with_earlier (file_refusal piece_length) [] files) ≡ None → IsInTreeOrder files ordered → AreLawful piece_length ordered
+pub lawful_ordered : (piece_length : ℕ) (files ordered : List Given) → first_of (with_earlier (file_refusal piece_length) [] files) ≡ None → IsInTreeOrder files ordered → AreLawful piece_length ordered
 lawful_ordered piece_length files ordered none order =
     let h = lawful_all piece_length files none in
     record {

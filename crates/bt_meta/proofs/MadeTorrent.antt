@@ -16,14 +16,13 @@ use Rattle.bt_meta.specs.Fields.{integer_at, string_at, dictionary_at, has_key, 
 use Rattle.bt_meta.specs.Places.{places_below, with_earlier}
 use Rattle.bt_meta.specs.Files.{is_file, length_of, pieces_of, piece_count, layer_at, file_at, files_of}
 use Rattle.bt_meta.specs.Layers.{has_layer_size, has_root}
-use Rattle.bt_meta.specs.Faults.{first_of, is_piece_length, head_checks, piece_length_of, tree_of, tree_checks, layer_check, layer_checks, info_of, layers_of, first_fault}
+use Rattle.bt_meta.specs.Faults.{fault_if, first_of, is_piece_length, head_checks, piece_length_of, tree_of, tree_checks, layer_check, layer_checks, info_of, layers_of, first_fault}
 use Rattle.bt_meta.specs.Torrent.{metainfo_of, IsTorrent}
 use Rattle.bt_meta.specs.declared.making.Made.{Made}
-use Rattle.bt_meta.specs.declared.making.MakeError.{MakeError}
 use Rattle.bt_meta.specs.declared.making.MakeError.TheVariants.{LayerSize as layer_size, LayerDiffers as layer_differs}
-use Rattle.bt_meta.specs.Making.{Given, given_of, HasRoot, file_refusal, IsInTreeOrder, AreNamed, IsParted, first_refusal, refused_if, layer_refusal, first_layer, AreLayersOf, tree_made, info_made, value_made, file_made, torrent_made}
-use Rattle.bt_meta.proofs.Checks.{skips, first_of-append}
-use Rattle.bt_meta.proofs.Apart.{first_none, rest_none, ordered_named}
+use Rattle.bt_meta.specs.Making.{Given, given_of, HasRoot, file_refusal, IsInTreeOrder, AreNamed, IsParted, layer_refusal, first_layer, AreLayersOf, tree_made, info_made, value_made, file_made, torrent_made}
+use Rattle.bt_meta.proofs.Checks.{skips, first_of-append, head_none, tail_none, holds_unless}
+use Rattle.bt_meta.proofs.Apart.{ordered_named}
 use Rattle.bt_meta.proofs.MadeValues.{canonical_made}
 use Rattle.bt_meta.proofs.MadeGiven.{clash, AreLawful, IsLawful, lawful_ordered}
 use Rattle.bt_meta.proofs.MadePlaces.{All-back, second, value_is_file}
@@ -88,18 +87,14 @@ record IsLayer (piece_length : ℕ) (f : Given) (layer : List ℕ) : Type 0 wher
   size : has_layer_size piece_length f.length layer ≡ true
   root : has_root piece_length f.length f.root layer ≡ true
 
-unless : (b : Bool) (e : MakeError) → refused_if (not b) e ≡ None → b ≡ true
-unless true e h = refl
-unless false e h = cc
-
 own_layer : (piece_length : ℕ) (f : Given) → nat_lt piece_length f.length ≡ true → layer_refusal piece_length f ≡ None → IsLayer piece_length f f.layer
 own_layer piece_length f long none =
-    let size = refused_if (not (has_layer_size piece_length f.length f.layer)) layer_size in
-    let root = refused_if (not (has_root piece_length f.length f.root f.layer)) layer_differs in
-    let both : first_refusal (size ∷ root ∷ []) ≡ None = rw long at none in
+    let size = fault_if (not (has_layer_size piece_length f.length f.layer)) layer_size in
+    let root = fault_if (not (has_root piece_length f.length f.root f.layer)) layer_differs in
+    let both : first_of (size ∷ root ∷ []) ≡ None = rw long at none in
     record {
-      size = unless (has_layer_size piece_length f.length f.layer) layer_size (first_none size (root ∷ []) both);
-      root = unless (has_root piece_length f.length f.root f.layer) layer_differs (first_none root [] (rest_none size (root ∷ []) both));
+      size = holds_unless (has_layer_size piece_length f.length f.layer) layer_size (head_none size (root ∷ []) both);
+      root = holds_unless (has_root piece_length f.length f.root f.layer) layer_differs (head_none root [] (tail_none size (root ∷ []) both));
     }
 
 -- the layer at its root is one of the file
@@ -258,7 +253,7 @@ torrent_is name piece_length files layers bytes lawful parted named h rooted som
     }
 
 pub torrent_of_given : (name : List ℕ) (piece_length : ℕ) (files : List Made) (ordered : List Given) (layers : Entries) (bytes : List ℕ) → is_piece_length piece_length ≡ true → false ≡ (length files == 0)
-    → first_refusal (with_earlier (file_refusal piece_length) [] (map given_of files)) ≡ None → All HasRoot (map given_of files) → IsInTreeOrder (map given_of files) ordered → IsParted ordered
+    → first_of (with_earlier (file_refusal piece_length) [] (map given_of files)) ≡ None → All HasRoot (map given_of files) → IsInTreeOrder (map given_of files) ordered → IsParted ordered
     → AreLayersOf piece_length ordered layers → length bytes ≤ 2 ^ 27 → bytes ≡ spelling_of (value_made name piece_length ordered layers) → IsTorrent bytes (torrent_made name piece_length ordered)
 torrent_of_given name piece_length files ordered layers bytes lawful some none rooted order parted layered small spelled =
     let given = map given_of files in

@@ -1,5 +1,5 @@
 -- What was taken of the files that a torrent is made of.
-use Rattle.std.proofs.Common.{subst, ◌≡◌, ℕ, ◌+◌, ◌<◌, ◌≤◌, Bool, true, false, List, [], ◌∷◌, ◌++◌, length, map, None, Some, refl, sym, ap, ◌∙◌, arith, inl, inr}
+use Rattle.std.proofs.Common.{subst, ◌≡◌, ℕ, ◌+◌, ◌<◌, ◌≤◌, Bool, true, false, List, [], ◌∷◌, ◌++◌, length, map, None, refl, sym, ap, ◌∙◌, arith, inl, inr}
 use Rattle.std.specs.Prelude.{string_bytes, nat_eq, not, ◌&&◌, ◌||◌, ◌==◌}
 use Rattle.std.specs.Prelude.{String}
 use Rattle.std.specs.Global.{Global}
@@ -11,14 +11,16 @@ use Rattle.std.proofs.lemmas.List.{length-map}
 use Rattle.std.proofs.lemmas.List.Folds.{list_any-append, list_all-map}
 use Rattle.std.proofs.lemmas.Map.Text.{is_eq-slice_cmp}
 use Rattle.std.proofs.lemmas.Slice.Eq.{bytes_eq-Decides}
+use Rattle.bt_meta.specs.Faults.{first_of}
 use Rattle.bt_meta.specs.Walks.{Lengths, length_at, is_other, IsNoted}
 use Rattle.std.specs.Prelude.{take, drop, get_or}
 use Rattle.std.proofs.lemmas.List.{take_all, take-append-drop, map_more, drop_more}
 use Rattle.bt_meta.specs.Places.{with_earlier}
-use Rattle.bt_meta.specs.Making.{Given, given_of, HasRoot, Check, first_refusal, file_refusal, is_element, is_path, has_conflict, HasTaken, IsWithin, Refuses}
+use Rattle.bt_meta.specs.Making.{Given, given_of, HasRoot, Check, file_refusal, is_element, is_path, has_conflict, HasTaken, IsWithin, Refuses}
 use Rattle.bt_meta.specs.declared.making.Made.{Made}
 use Rattle.bt_meta.specs.declared.making.MakeError.{MakeError}
 use Rattle.bt_meta.specs.declared.making.Tally.{Tally}
+use Rattle.bt_meta.proofs.Checks.{first_of-append, skips, stops}
 use Rattle.bt_meta.proofs.WalkSteps.{with_earlier-append, map-append}
 use Rattle.bt_meta.proofs.FileSteps.{or_false, noted_at}
 
@@ -42,20 +44,6 @@ lengths_noted files f old new other n some h noted =
     ∙ noted_at old f.root other f.length n (is_eq (slice_cmp nat_cmp f.root other)) noted.alike same
     ∙ sym (conflict_push files f other n ∙ rw (some, at, ← h) refl)
 
--- ---- a list of checks
-
-first_after : (xs ys : List Check) → first_refusal xs ≡ None → first_refusal (xs ++ ys) ≡ first_refusal ys
-first_after [] ys e = refl
-first_after (None ∷ xs) ys e = first_after xs ys e
-first_after (Some x ∷ xs) ys e = cc
-
-refusal_first : (e : MakeError) (ys : List Check) (check : Check) → check ≡ Some e → first_refusal (check ∷ ys) ≡ Some e
-refusal_first e ys None is = cc
-refusal_first e ys (Some x) is = is
-
-pass_first : (ys : List Check) (check : Check) → check ≡ None → first_refusal (check ∷ ys) ≡ first_refusal ys
-pass_first ys check is = rw is refl
-
 -- ---- the loop
 
 abbrev checks_of : ℕ → List Given → List Check
@@ -65,7 +53,7 @@ checks_of piece_length files = with_earlier (file_refusal piece_length) [] files
 pub record Taking (piece_length : ℕ) (files : List Made) (i : ℕ) (tally : Tally) : Type 0 where
   pub within : IsWithin tally
   pub taken : HasTaken piece_length (map given_of (take i files)) tally
-  pub faultless : first_refusal (checks_of piece_length (map given_of (take i files))) ≡ None
+  pub faultless : first_of (checks_of piece_length (map given_of (take i files))) ≡ None
   pub rooted : All HasRoot (map given_of (take i files))
 
 pub taking_begun : (piece_length : ℕ) (files : List Made) (tally : Tally) → tally.files ≡ 0 → tally.pieces ≡ 0 → tally.lengths.entries ≡ [] → Taking piece_length files 0 tally
@@ -86,11 +74,11 @@ given_split files i m lt is =
     let whole : files ≡ take i files ++ m ∷ drop (i + 1) files = sym (take-append-drop i files) ∙ ap (λ xs. take i files ++ xs) rest in
     ap (map given_of) whole ∙ map-append given_of (take i files) (m ∷ drop (i + 1) files)
 
-checks_behind : (piece_length : ℕ) (before : List Given) (f : Given) (rest : List Given) → first_refusal (checks_of piece_length before) ≡ None
-    → first_refusal (checks_of piece_length (before ++ f ∷ rest)) ≡ first_refusal (file_refusal piece_length before f ∷ with_earlier (file_refusal piece_length) (before ++ f ∷ []) rest)
+checks_behind : (piece_length : ℕ) (before : List Given) (f : Given) (rest : List Given) → first_of (checks_of piece_length before) ≡ None
+    → first_of (checks_of piece_length (before ++ f ∷ rest)) ≡ first_of (file_refusal piece_length before f ∷ with_earlier (file_refusal piece_length) (before ++ f ∷ []) rest)
 checks_behind piece_length before f rest none =
     let check = file_refusal piece_length in
-    ap first_refusal (with_earlier-append check [] before (f ∷ rest)) ∙ first_after (checks_of piece_length before) (with_earlier check before (f ∷ rest)) none
+    ap first_of (with_earlier-append check [] before (f ∷ rest)) ∙ first_of-append (checks_of piece_length before) (with_earlier check before (f ∷ rest)) none
 
 pub taking_more : (piece_length : ℕ) (files : List Made) (i : ℕ) (m : Made) (old new : Tally) → i < length files → m ≡ get_or files i m → Taking piece_length files i old → IsWithin new
     → ((fs : List Given) → HasTaken piece_length fs old → HasTaken piece_length (fs ++ given_of m ∷ []) new)
@@ -101,24 +89,24 @@ taking_more piece_length files i m old new lt is h within taken faultless rooted
     record {
       within = within;
       taken = rw more (taken before h.taken);
-      faultless = ap (λ fs. first_refusal (checks_of piece_length fs)) more ∙ checks_behind piece_length before (given_of m) [] h.faultless ∙ pass_first [] (file_refusal piece_length before (given_of m)) (faultless before h.taken);
+      faultless = ap (λ fs. first_of (checks_of piece_length fs)) more ∙ checks_behind piece_length before (given_of m) [] h.faultless ∙ skips (file_refusal piece_length before (given_of m)) [] (faultless before h.taken);
       rooted = rw more (All-push HasRoot before (given_of m) h.rooted rooted);
     }
 
 pub taking_stops : (piece_length : ℕ) (files : List Made) (i : ℕ) (m : Made) (old : Tally) (e : MakeError) → i < length files → m ≡ get_or files i m → Taking piece_length files i old
-    → ((fs : List Given) → HasTaken piece_length fs old → Refuses (file_refusal piece_length fs (given_of m)) e) → Refuses (first_refusal (checks_of piece_length (map given_of files))) e
+    → ((fs : List Given) → HasTaken piece_length fs old → Refuses (file_refusal piece_length fs (given_of m)) e) → Refuses (first_of (checks_of piece_length (map given_of files))) e
 taking_stops piece_length files i m old e lt is h refused =
     let before = map given_of (take i files) in
     let rest = map given_of (drop (i + 1) files) in
     elim (refused before h.taken) [
       | inl memory ↦ inl memory
       | inr found ↦ inr (
-          ap (λ fs. first_refusal (checks_of piece_length fs)) (given_split files i m lt is) ∙ checks_behind piece_length before (given_of m) rest h.faultless
-          ∙ refusal_first e (with_earlier (file_refusal piece_length) (before ++ given_of m ∷ []) rest) (file_refusal piece_length before (given_of m)) found)
+          ap (λ fs. first_of (checks_of piece_length fs)) (given_split files i m lt is) ∙ checks_behind piece_length before (given_of m) rest h.faultless
+          ∙ stops (file_refusal piece_length before (given_of m)) (with_earlier (file_refusal piece_length) (before ++ given_of m ∷ []) rest) e found)
     ]
 
-pub taking_found : (piece_length : ℕ) (files : List Made) (i : ℕ) (tally : Tally) → Taking piece_length files i tally → length files ≤ i → first_refusal (checks_of piece_length (map given_of files)) ≡ None
-taking_found piece_length files i tally h all = ap (λ fs. first_refusal (checks_of piece_length (map given_of fs))) (sym (take_all i files all)) ∙ h.faultless
+pub taking_found : (piece_length : ℕ) (files : List Made) (i : ℕ) (tally : Tally) → Taking piece_length files i tally → length files ≤ i → first_of (checks_of piece_length (map given_of files)) ≡ None
+taking_found piece_length files i tally h all = ap (λ fs. first_of (checks_of piece_length (map given_of fs))) (sym (take_all i files all)) ∙ h.faultless
 
 pub taking_rooted : (piece_length : ℕ) (files : List Made) (i : ℕ) (tally : Tally) → Taking piece_length files i tally → length files ≤ i → All HasRoot (map given_of files)
 taking_rooted piece_length files i tally h all = subst (λ fs. All HasRoot (map given_of fs)) (take_all i files all) h.rooted

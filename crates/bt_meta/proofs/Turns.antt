@@ -11,8 +11,8 @@ use Rattle.bt_meta.specs.Faults.{Check, first_of, fault_if, entry_check, file_ch
 use Rattle.std.specs.List.{list_any}
 use Rattle.bt_meta.specs.Fields.{has_key}
 use Rattle.bt_meta.specs.Torrent.{IsLaidOut}
-use Rattle.bt_meta.specs.declared.error.MetaError.{MetaError}
 use Rattle.bt_meta.specs.declared.error.MetaError.TheVariants.{Tree, BadPath, TooMany}
+use Rattle.bt_meta.proofs.Checks.{head_none, tail_none, not_faulty}
 use Rattle.bt_meta.proofs.FileSteps.{length-with_earlier}
 use Rattle.bt_meta.specs.Places.{Place, places_below, with_earlier}
 use Rattle.bt_meta.specs.Files.{File, is_file, length_of, piece_count, pieces_of, file_at, files_of}
@@ -64,18 +64,6 @@ fourth None None None (Some x) e = cc
 fourth None None (Some x) d e = cc
 fourth None (Some x) c d e = cc
 fourth (Some x) b c d e = cc
-
-head_none : (x : Check) (xs : List Check) → first_of (x ∷ xs) ≡ None → x ≡ None
-head_none None xs e = refl
-head_none (Some x) xs e = cc
-
-tail_none : (x : Check) (xs : List Check) → first_of (x ∷ xs) ≡ None → first_of xs ≡ None
-tail_none None xs e = e
-tail_none (Some x) xs e = cc
-
-not_faulty : (test : Bool) (e : MetaError) → fault_if test e ≡ None → test ≡ false
-not_faulty true e h = cc
-not_faulty false e h = refl
 
 within_count : (n m : ℕ) (a b : Bool) → (a || (true && (nat_lt 65536 n || b))) ≡ false → n ≤ 65536
 within_count n m a b e = grind (arith, nat_tests)

@@ -18,11 +18,11 @@ use Rattle.bt_meta.specs.declared.error.MetaError.TheVariants.{NoInfo, NotV2, Ve
 abbrev pub Check : Type 0
 Check = Option MetaError
 
-abbrev pub fault_if : Bool → MetaError → Check
+abbrev pub fault_if : {E : Type 0} → Bool → E → Option E
 fault_if test fault = if test then Some fault else None
 
 -- the fault of the first check that has one
-abbrev pub first_of : List Check → Check
+abbrev pub first_of : {E : Type 0} → List (Option E) → Option E
 first_of [] = None
 first_of (None ∷ checks) = first_of checks
 first_of (Some fault ∷ checks) = Some fault

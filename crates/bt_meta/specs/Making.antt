@@ -11,7 +11,7 @@ use Rattle.std.specs.declared.cmp.Ordering.TheVariants.{Less, Greater}
 use Rattle.std.specs.List.Sorted.{IsPermutation, IsSortedBy}
 use Rattle.std.specs.Cmp.Lexicographic.{pointwise, slice_cmp}
 use Rattle.std.specs.BTreeMap.{BTreeMap, get}
-use Rattle.bt_meta.specs.Walks.{is_other, length_at}
+use Rattle.bt_meta.specs.Walks.{Lengths, is_other, length_at}
 use Rattle.bt_meta.specs.declared.making.Tally.{Tally}
 use Rattle.bt_bencode.specs.Data.{Data, integer, string, list, dictionary, Entries, no_entries, entry}
 use Rattle.bt_bencode.specs.Spelling.{spelling_of, EntriesAscend}
@@ -20,7 +20,7 @@ use Rattle.bt_meta.specs.Files.{File, piece_count}
 use Rattle.bt_meta.specs.Torrent.{Metainfo, IsTorrent}
 use Rattle.sha2.specs.Sha256.{sha256}
 use Rattle.bt_meta.specs.Layers.{has_layer_size, has_root}
-use Rattle.bt_meta.specs.Faults.{is_path_element, is_piece_length}
+use Rattle.bt_meta.specs.Faults.{first_of, fault_if, is_path_element, is_piece_length}
 use Rattle.bt_meta.specs.declared.making.Made.{Made}
 use Rattle.bt_meta.specs.declared.making.MakeError.{MakeError}
 use Rattle.bt_meta.specs.declared.making.MakeError.TheVariants.{PieceLength, BadPath, FileLength, LayerSize, LayerDiffers, RootConflict, Count, OutOfMemory}
@@ -45,15 +45,6 @@ HasRoot f = length f.root ≡ 32
 abbrev pub Check : Type 0
 Check = Option MakeError
 
-abbrev pub refused_if : Bool → MakeError → Check
-refused_if test e = if test then Some e else None
-
--- the refusal of the first check that has one
-abbrev pub first_refusal : List Check → Check
-first_refusal [] = None
-first_refusal (None ∷ checks) = first_refusal checks
-first_refusal (Some e ∷ checks) = Some e
-
 abbrev pub is_element : List ℕ → Bool
 is_element element = not (length element == 0) && is_path_element element
 
@@ -64,10 +55,10 @@ is_path path = not (length path == 0) && list_all is_element path
 -- the layer of a file longer than a piece, which folds to its root; no layer for any other
 abbrev pub layer_refusal : ℕ → Given → Check
 layer_refusal piece_length f =
-    if nat_lt piece_length f.length then first_refusal (
-    refused_if (not (has_layer_size piece_length f.length f.layer)) LayerSize
-    ∷ refused_if (not (has_root piece_length f.length f.root f.layer)) LayerDiffers
-    ∷ []) else refused_if (not (length f.layer == 0)) LayerSize
+    if nat_lt piece_length f.length then first_of (
+    fault_if (not (has_layer_size piece_length f.length f.layer)) LayerSize
+    ∷ fault_if (not (has_root piece_length f.length f.root f.layer)) LayerDiffers
+    ∷ []) else fault_if (not (length f.layer == 0)) LayerSize
 
 -- a file that is not empty has this root and another length
 abbrev pub has_conflict : List Given → List ℕ → ℕ → Bool
@@ -83,18 +74,18 @@ is_beyond piece_length before f =
     nat_lt 64 (length f.path) || (nat_lt 65536 (length files) || nat_lt (2 ^ 21) (sum_by (λ g. piece_count piece_length g.length) files))
 
 abbrev pub own_refusal : ℕ → Given → Check
-own_refusal piece_length f = first_refusal (
-    refused_if (not (is_path f.path)) BadPath
-    ∷ refused_if (not (nat_le f.length (2 ^ 40))) FileLength
+own_refusal piece_length f = first_of (
+    fault_if (not (is_path f.path)) BadPath
+    ∷ fault_if (not (nat_le f.length (2 ^ 40))) FileLength
     ∷ layer_refusal piece_length f
     ∷ [])
 
 -- a file, behind those that were given before it
 abbrev pub file_refusal : ℕ → List Given → Given → Check
-file_refusal piece_length before f = first_refusal (
+file_refusal piece_length before f = first_of (
     own_refusal piece_length f
-    ∷ refused_if (conflict_with before f) RootConflict
-    ∷ refused_if (is_beyond piece_length before f) Count
+    ∷ fault_if (conflict_with before f) RootConflict
+    ∷ fault_if (is_beyond piece_length before f) Count
     ∷ [])
 
 -- the first path begins the second, or is the second
@@ -103,15 +94,12 @@ begins path other = starts_with (pointwise nat_eq) other path
 
 -- the first refusal of the piece length and of the files one by one
 unfoldable pub refusal_of_files : ℕ → List Given → Check
-refusal_of_files piece_length files = first_refusal (
-    refused_if (not (is_piece_length piece_length)) PieceLength
-    ∷ refused_if (length files == 0) Count
+refusal_of_files piece_length files = first_of (
+    fault_if (not (is_piece_length piece_length)) PieceLength
+    ∷ fault_if (length files == 0) Count
     ∷ with_earlier (file_refusal piece_length) [] files)
 
 -- ---- the steps of the check
-
-abbrev pub Lengths : Type 0
-Lengths = BTreeMap (List ℕ) ℕ
 
 -- the map has the lengths of the roots of these files
 abbrev pub HasLengths : Lengths → List Given → Type 0

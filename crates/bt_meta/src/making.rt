@@ -4,8 +4,8 @@ ghost use Rattle.std.specs.List.{All};
 ghost use Rattle.std.specs.List.Sorted.{IsSortedBy};
 ghost use Rattle.std.specs.Result.{result_err};
 ghost use Rattle.bt_meta.specs.Places.{with_earlier};
-ghost use Rattle.bt_meta.specs.Faults.{is_piece_length as is_lawful_piece_length};
-ghost use Rattle.bt_meta.specs.Making.{Given, given_of, HasRoot, first_refusal, file_refusal, own_refusal, layer_refusal, is_path as is_lawful_path, is_element as is_lawful_element, HasLengths, HasTaken, IsWithin, Refuses, conflict_with, IsInTreeOrder, lent_of, path_order, is_before, begins as begins_path, IsMade};
+ghost use Rattle.bt_meta.specs.Faults.{first_of, is_piece_length as is_lawful_piece_length};
+ghost use Rattle.bt_meta.specs.Making.{Given, given_of, HasRoot, file_refusal, own_refusal, layer_refusal, is_path as is_lawful_path, is_element as is_lawful_element, HasLengths, HasTaken, IsWithin, Refuses, conflict_with, IsInTreeOrder, lent_of, path_order, is_before, begins as begins_path, IsMade};
 ghost use Rattle.bt_meta.specs.NotMade.{have_overlap, IsNotMade};
 ghost use Rattle.bt_meta.specs.declared.making.MakeError.TheVariants.{OutOfMemory as out_of_memory, RootConflict as root_conflict};
 
@@ -109,7 +109,7 @@ pub fn make(
 fn check_files(alloc: Global, piece_length: u32, files: &[Made]) -> Result<(), MakeError>
     requires { is_lawful_piece_length piece_length ≡ true }
     ensures rooted { OnOk result (All HasRoot (map given_of files.now)) }
-    ensures checked { MatchResult result (λ _. first_refusal (with_earlier (file_refusal piece_length) [] (map given_of files.now)) ≡ None) (Refuses (first_refusal (with_earlier (file_refusal piece_length) [] (map given_of files.now)))) }
+    ensures checked { MatchResult result (λ _. first_of (with_earlier (file_refusal piece_length) [] (map given_of files.now)) ≡ None) (Refuses (first_of (with_earlier (file_refusal piece_length) [] (map given_of files.now)))) }
 {
     let mut tally = Tally {
         files: 0,
