@@ -7,3 +7,4 @@ pub mod NodeReads
 pub mod Findings
 pub mod TextReads
 pub mod Tellings
+pub mod ShownTexts

@@ -6,3 +6,4 @@ pub mod Digesting
 pub mod Statuses
 pub mod Shown
 pub mod Telling
+pub mod Places
