@@ -8,3 +8,5 @@ pub mod Findings
 pub mod TextReads
 pub mod Tellings
 pub mod ShownTexts
+pub mod Entries
+pub mod Askings

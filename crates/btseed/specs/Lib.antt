@@ -1,6 +1,7 @@
 pub mod Reading
 pub mod Checking
 pub mod Pieces
+pub mod Entries
 pub mod Asking
 pub mod Digesting
 pub mod Statuses

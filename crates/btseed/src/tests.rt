@@ -4,5 +4,6 @@ mod checking;
 mod making;
 mod reading;
 mod showing;
+mod steps;
 mod tools;
 mod words;

@@ -9,32 +9,42 @@ use std::{env, fs, process};
 
 /// A folder of this test's own, empty.
 pub fn folder(rt: &HostRuntime, name: &str) -> Result<String, Fail> {
-    let top = env::temp_dir(rt)?;
-    let top = top.to_str().ok_or("a folder whose name is no text")?;
-    let id = process::id(rt.process());
-    let path = format!(in rt.alloc(); "{top}/btseed-{name}-{id}")?;
+    let path = own_path(rt, name)?;
     let _ = fs::remove_dir_all(rt, path.as_str());
     fs::create_dir(rt, path.as_str())?;
     Ok(path)
 }
 
+/// A path in the folder for temporary files, by the test's name and the process.
+fn own_path(rt: &HostRuntime, name: &str) -> Result<String, Fail> {
+    let top = env::temp_dir(rt)?;
+    let top = top.to_str().ok_or("a folder whose name is no text")?;
+    let id = process::id(rt.process());
+    Ok(format!(in rt.alloc(); "{top}/btseed-{name}-{id}")?)
+}
+
+/// The path of a name below a folder.
+pub fn path_in(rt: &HostRuntime, top: &str, name: &str) -> Result<String, AllocError> {
+    format!(in rt.alloc(); "{top}/{name}")
+}
+
 /// Writes a file below a folder.
 pub fn put(rt: &HostRuntime, top: &str, name: &str, bytes: &[u8]) -> Result<(), Fail> {
-    let path = format!(in rt.alloc(); "{top}/{name}")?;
+    let path = path_in(rt, top, name)?;
     fs::write(rt, path.as_str(), bytes)?;
     Ok(())
 }
 
 /// Makes a folder below a folder.
 pub fn put_folder(rt: &HostRuntime, top: &str, name: &str) -> Result<(), Fail> {
-    let path = format!(in rt.alloc(); "{top}/{name}")?;
+    let path = path_in(rt, top, name)?;
     fs::create_dir(rt, path.as_str())?;
     Ok(())
 }
 
 /// The bytes of a file below a folder.
 pub fn bytes_of(rt: &HostRuntime, top: &str, name: &str) -> Result<Vec<u8>, Fail> {
-    let path = format!(in rt.alloc(); "{top}/{name}")?;
+    let path = path_in(rt, top, name)?;
     Ok(fs::read(rt, path.as_str())?)
 }
 
@@ -140,6 +150,22 @@ pub fn three_blocks(alloc: Global) -> Result<Vec<u8>, AllocError> {
         file.push((i / 16384 + 1) as u8)?;
     }
     Ok(file)
+}
+
+/// The first bytes of a file, so many where it has them.
+pub fn front(bytes: &[u8], length: usize) -> &[u8] {
+    &bytes[..length.min(bytes.len())]
+}
+
+/// The info dictionary of a file `f` of the three blocks.
+pub fn three_info(alloc: Global) -> Result<Vec<u8>, Fail> {
+    let mut info = Vec::from_slice(
+        alloc,
+        b"d9:file treed1:fd0:d6:lengthi49152e11:pieces root32:",
+    )?;
+    info.extend_from_slice(&digest(THREE_ROOT)?)?;
+    info.extend_from_slice(b"eee12:meta versioni2e4:name1:f12:piece lengthi16384ee")?;
+    Ok(info)
 }
 
 /// The root of the three blocks.
