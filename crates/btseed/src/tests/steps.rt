@@ -1,11 +1,12 @@
 //! Tests as rows: files that are put down, and runs of the program with what they must answer.
 
-use super::tools::{bytes_of, expect, folder, path_in, put, put_folder};
+use super::tools::{bytes_of, confirm, expect, folder, path_in, put, put_folder};
 use std::fs;
 use std::os::unix::fs::symlink;
 use std::test::Fail;
 
 /// A step of a test, in the test's own folder, to which names are relative.
+#[derive(Clone, Copy)]
 pub enum Step<'a> {
     /// Makes a folder.
     Folder(&'a str),
@@ -56,17 +57,20 @@ fn put_link(rt: &HostRuntime, top: &str, target: &str, name: &str) -> Result<(),
 }
 
 fn expect_size(rt: &HostRuntime, top: &str, name: &str, size: usize) -> Result<(), Fail> {
-    assert_eq!(rt; bytes_of(rt, top, name)?.len(), size);
+    let bytes = bytes_of(rt, top, name)?;
+    confirm(bytes.len() == size, "a file of another size")?;
     Ok(())
 }
 
 fn expect_bytes(rt: &HostRuntime, top: &str, name: &str, bytes: &[u8]) -> Result<(), Fail> {
-    assert_eq!(rt; bytes_of(rt, top, name)?.as_slice(), bytes);
+    let found = bytes_of(rt, top, name)?;
+    confirm(found.as_slice() == bytes, "a file of other bytes")?;
     Ok(())
 }
 
 fn expect_entries(rt: &HostRuntime, top: &str, name: &str, count: usize) -> Result<(), Fail> {
     let path = path_in(rt, top, name)?;
-    assert_eq!(rt; fs::read_dir(rt, path.as_str())?.count(), count);
+    let found = fs::read_dir(rt, path.as_str())?.count();
+    confirm(found == count, "a folder of another size")?;
     Ok(())
 }

@@ -87,6 +87,11 @@ fn confirmed(answer: Answer, is_wanted: bool) -> Result<(), Answer> {
     if is_wanted { Ok(()) } else { Err(answer) }
 }
 
+/// The error that says what is wrong, where something does not hold.
+pub fn confirm(holds: bool, otherwise: &'static str) -> Result<(), &'static str> {
+    if holds { Ok(()) } else { Err(otherwise) }
+}
+
 /// Runs the program on the words of a line, and expects this status, output and fault.
 pub fn expect(
     rt: &HostRuntime,
