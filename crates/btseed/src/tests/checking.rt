@@ -1,7 +1,7 @@
 //! The command `check`.
 
 use super::steps::{Step, play};
-use super::tools::{abc_torrent, front, three_blocks, three_info};
+use super::tools::{THREE_INFO, abc_torrent, front, three_blocks};
 use std::test::Fail;
 
 const CHECK: &str = "check @/t @/files";
@@ -86,19 +86,9 @@ fn a_device_fault_is_told(rt: HostRuntime) -> Result<(), Fail> {
     play(&rt, "device", &steps)
 }
 
-/// The three blocks, with a byte of the second changed.
-fn changed_blocks(rt: &HostRuntime) -> Result<Vec<u8>, Fail> {
-    let mut file = three_blocks(rt.alloc())?;
-    if let Some(byte) = file.get_mut(16384) {
-        *byte = 9;
-    }
-    Ok(file)
-}
-
 #[test]
 fn pieces_are_checked(rt: HostRuntime) -> Result<(), Fail> {
     let file = three_blocks(rt.alloc())?;
-    let changed = changed_blocks(&rt)?;
     let make = "make @/files @/t --name f --piece-length 16384";
     let infohash = "infohash 37c15b2c37dd8058793b38aa95fd7a52339cdecad68f4d4a1c08bb2820d131f2\n";
     let steps = [
@@ -112,11 +102,14 @@ fn pieces_are_checked(rt: HostRuntime) -> Result<(), Fail> {
         Step::Run(CHECK, 1, "2 of 3 f\nnot complete\n"),
         Step::File("files/f", front(&file, 16383)),
         Step::Run(CHECK, 1, "0 of 3 f\nnot complete\n"),
-        Step::File("files/f", front(&changed, 49152)),
+        Step::File("files/f", front(&file, 49152)),
+        Step::Change("files/f", 16384),
         Step::Run(CHECK, 1, "2 of 3 f\nnot complete\n"),
-        Step::File("files/f", front(&changed, 40000)),
+        Step::File("files/f", front(&file, 40000)),
+        Step::Change("files/f", 16384),
         Step::Run(CHECK, 1, "1 of 3 f\nnot complete\n"),
-        Step::File("files/f", &changed),
+        Step::File("files/f", front(&file, 49153)),
+        Step::Change("files/f", 16384),
         Step::Size("files/f", 49153),
         Step::Run(CHECK, 1, "longer f\nnot complete\n"),
     ];
@@ -126,12 +119,11 @@ fn pieces_are_checked(rt: HostRuntime) -> Result<(), Fail> {
 #[test]
 fn an_info_dictionary_counts_whole_files(rt: HostRuntime) -> Result<(), Fail> {
     let file = three_blocks(rt.alloc())?;
-    let info = three_info(rt.alloc())?;
     let check = "check @/i @/files --info";
     let steps = [
         Step::Folder("files"),
         Step::File("files/f", front(&file, 49152)),
-        Step::File("i", &info),
+        Step::File("i", THREE_INFO),
         Step::Run(check, 0, "complete f\ncomplete\n"),
         Step::File("files/f", front(&file, 40000)),
         Step::Run(check, 1, "0 of 3 f\nnot complete\n"),

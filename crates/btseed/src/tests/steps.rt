@@ -12,6 +12,8 @@ pub enum Step<'a> {
     Folder(&'a str),
     /// Writes a file.
     File(&'a str, &'a [u8]),
+    /// Changes the byte of a file that stands at this index.
+    Change(&'a str, usize),
     /// Runs the program on a line, and expects this status and output.
     Run(&'a str, u8, &'a str),
     /// Runs the program on a line, and expects this status and fault, and no output.
@@ -42,11 +44,19 @@ fn step_in(rt: &HostRuntime, top: &str, step: &Step<'_>) -> Result<(), Fail> {
         Step::File(name, bytes) => put(rt, top, name, bytes),
         Step::Run(line, status, output) => expect(rt, top, line, *status, output, ""),
         Step::Fault(line, status, faults) => expect(rt, top, line, *status, "", faults),
+        Step::Change(name, index) => change(rt, top, name, *index),
         Step::Link(target, name) => put_link(rt, top, target, name),
         Step::Size(name, size) => expect_size(rt, top, name, *size),
         Step::Has(name, bytes) => expect_bytes(rt, top, name, bytes),
         Step::Entries(name, count) => expect_entries(rt, top, name, *count),
     }
+}
+
+fn change(rt: &HostRuntime, top: &str, name: &str, index: usize) -> Result<(), Fail> {
+    let mut bytes = bytes_of(rt, top, name)?;
+    let byte = bytes.get_mut(index).ok_or("too short")?;
+    *byte ^= 1;
+    put(rt, top, name, &bytes)
 }
 
 fn put_link(rt: &HostRuntime, top: &str, target: &str, name: &str) -> Result<(), Fail> {

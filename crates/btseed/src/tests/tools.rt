@@ -163,15 +163,8 @@ pub fn front(bytes: &[u8], length: usize) -> &[u8] {
 }
 
 /// The info dictionary of a file `f` of the three blocks.
-pub fn three_info(alloc: Global) -> Result<Vec<u8>, Fail> {
-    let mut info = Vec::from_slice(
-        alloc,
-        b"d9:file treed1:fd0:d6:lengthi49152e11:pieces root32:",
-    )?;
-    info.extend_from_slice(&digest(THREE_ROOT)?)?;
-    info.extend_from_slice(b"eee12:meta versioni2e4:name1:f12:piece lengthi16384ee")?;
-    Ok(info)
-}
+pub const THREE_INFO: &[u8] =
+    b"d9:file treed1:fd0:d6:lengthi49152e11:pieces root32:\x35\x75\x4e\xe0\x33\x60\xca\xca\xb5\xe9\xe2\x76\x47\xda\x3d\x2a\x4a\xb6\xf9\x76\x14\xed\x7d\x16\x92\xb9\xeb\x3c\x42\xa6\x5d\x69eee12:meta versioni2e4:name1:f12:piece lengthi16384ee";
 
 /// The root of the three blocks.
 pub const THREE_ROOT: &str = "35754ee03360cacab5e9e27647da3d2a4ab6f97614ed7d1692b9eb3c42a65d69";
