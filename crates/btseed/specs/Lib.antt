@@ -8,3 +8,4 @@ pub mod Statuses
 pub mod Shown
 pub mod Telling
 pub mod Places
+pub mod Commands

@@ -1,4 +1,10 @@
 //! The command `make`.
+ghost use Rattle.std.specs.Prelude.{◌≡◌, IfOk, IsErrAnd};
+ghost use Rattle.bt_tree.specs.TreeShape.{IsPieceLength};
+ghost use Rattle.bt_meta.specs.declared.making.MakeError.TheVariants.{PieceLength};
+ghost use Rattle.btseed.specs.Commands.{IsHashMade};
+ghost use Rattle.btseed.specs.Statuses.{unmade_of};
+
 use crate::command_line::Making;
 use crate::data_file::BUFFER_LEN;
 use crate::digests::digest_reader;
@@ -17,7 +23,10 @@ use std::rt::Files;
 pub fn make<R: Files + AllocGlobal + Clone + Drop>(
     rt: &R,
     making: Making<'_>,
-) -> Result<Hash32, Fault> {
+) -> Result<Hash32, Fault>
+    ensures hash { IfOk result (IsHashMade making.entry.name.now making.entry.piece_length) }
+    ensures length { ¬ IsPieceLength making.entry.piece_length → IsErrAnd result (λ fault. fault ≡ unmade_of PieceLength) }
+{
     let alloc = rt.alloc();
     let Some(size) = PieceSize::new(making.piece_length) else {
         return Err(Fault::Unmade(MakeError::PieceLength));
