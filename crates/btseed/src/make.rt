@@ -2,7 +2,7 @@
 ghost use Rattle.std.specs.Prelude.{◌≡◌, IfOk, IsErrAnd};
 ghost use Rattle.bt_tree.specs.TreeShape.{IsPieceLength};
 ghost use Rattle.bt_meta.specs.declared.making.MakeError.TheVariants.{PieceLength};
-ghost use Rattle.btseed.specs.Commands.{IsHashMade};
+ghost use Rattle.btseed.specs.Commands.{IsDigested, IsHashMade};
 ghost use Rattle.btseed.specs.Statuses.{unmade_of};
 
 use crate::command_line::Making;
@@ -33,7 +33,8 @@ pub fn make<R: Files + AllocGlobal + Clone + Drop>(
     };
     let mut buffer = [0; BUFFER_LEN];
     let mut files = Vec::new(alloc);
-    for path in files_in(rt, making.dir)? {
+    let paths = files_in(rt, making.dir)?;
+    for path in paths {
         files.push(digested(rt, making.dir, path, size, &mut buffer)?)?;
     }
     let text = bt_meta::make(alloc, making.name.as_bytes(), making.piece_length, &files)?;
@@ -49,7 +50,10 @@ fn digested<R: Files + AllocGlobal>(
     path: Vec<String>,
     size: PieceSize,
     buffer: &mut [u8; BUFFER_LEN],
-) -> Result<Made, Fault> {
+) -> Result<Made, Fault>
+    ensures digests { IfOk result (IsDigested size.layer) }
+    ensures path { IfOk result (λ made. made.path ≡ path) }
+{
     let alloc = rt.alloc();
     let place = data_path(alloc, dir, &path)?;
     let mut file = fs::open(rt, place).map_err(|_| Fault::Device)?;
