@@ -7,3 +7,6 @@ pub mod NodeReads
 pub mod Findings
 pub mod TextReads
 pub mod Tellings
+pub mod ShownTexts
+pub mod Entries
+pub mod Askings

@@ -1,44 +1,39 @@
 -- Lemmas on the lines that a check tells.
-use Rattle.std.proofs.Common.{◌≡◌, ℕ, Bool, true, false, ◌&&◌, List, [], ◌∷◌, ◌++◌, refl, sym, ap, ◌∙◌, append_assoc, append-nil}
+use Rattle.std.proofs.Common.{◌≡◌, ℕ, Bool, true, ◌&&◌, List, [], ◌∷◌, ◌++◌, map, refl, sym, ap, ◌∙◌, append-nil}
+use Rattle.std.specs.List.{flat_map, list_all}
+use Rattle.std.proofs.Math.Bool.{and-true}
+use Rattle.std.proofs.lemmas.Grind.{flat_map-append}
+use Rattle.std.proofs.lemmas.List.Folds.{list_all-append}
+use Rattle.std.proofs.lemmas.List.{map-append}
+use Rattle.bt_meta.specs.Files.{file_of}
+use Rattle.bt_meta.specs.declared.torrent.FileEntry.{FileEntry}
 use Rattle.btseed.specs.declared.data_file.Finding.{Finding}
-use Rattle.btseed.specs.Shown.{line_of}
-use Rattle.btseed.specs.Telling.{FileFound, lines_of, all_whole, is_whole}
+use Rattle.btseed.specs.Shown.{line_of, path_text, shown_text}
+use Rattle.btseed.specs.Telling.{FileFound, lines_of, is_whole}
 
 -- the lines of the files so far, and whether each is complete
-pub record IsTelling (lines : List ℕ) (complete : Bool) : Type 0 where
-  pub files : List FileFound
-  pub told : lines ≡ lines_of files
-  pub all : complete ≡ all_whole files
+pub record IsTelling (entries : List FileEntry) (lines : List ℕ) (complete : Bool) : Type 0 where
+  pub found : List FileFound
+  pub each : map (λ f. f.file) found ≡ map file_of entries
+  pub told : lines ≡ lines_of found
+  pub all : complete ≡ list_all (λ f. is_whole f.finding) found
 
-pub telling_begun : IsTelling [] true
-telling_begun = record { files = []; told = refl; all = refl }
+pub telling_begun : (lines : List ℕ) → lines ≡ [] → IsTelling [] lines true
+telling_begun lines none = record { found = []; each = refl; told = none; all = refl }
 
-lines_of-append : (files : List FileFound) (file : FileFound) → lines_of (files ++ file ∷ []) ≡ lines_of files ++ line_of file.finding file.path
-lines_of-append [] file = append-nil (line_of file.finding file.path)
-lines_of-append (first ∷ files) file =
-    ap (λ l. line_of first.finding first.path ++ l) (lines_of-append files file)
-    ∙ sym (append_assoc (line_of first.finding first.path) (lines_of files) (line_of file.finding file.path))
-
-and_true : (a : Bool) → (a && true) ≡ a
-and_true true = refl
-and_true false = refl
-
-and_assoc : (a b c : Bool) → (a && (b && c)) ≡ ((a && b) && c)
-and_assoc true b c = refl
-and_assoc false b c = refl
-
-all_whole-append : (files : List FileFound) (file : FileFound) → all_whole (files ++ file ∷ []) ≡ (all_whole files && is_whole file.finding)
-all_whole-append [] file = and_true (is_whole file.finding)
-all_whole-append (first ∷ files) file =
-    ap (λ b. is_whole first.finding && b) (all_whole-append files file)
-    ∙ and_assoc (is_whole first.finding) (all_whole files) (is_whole file.finding)
-
-pub telling_more : (lines next path : List ℕ) (complete now whole : Bool) (finding : Finding) → IsTelling lines complete
-    → next ≡ lines ++ line_of finding path → whole ≡ is_whole finding → now ≡ (complete && whole) → IsTelling next now
-telling_more lines next path complete now whole finding t line is both =
-    let file : FileFound = record { finding = finding; path = path } in
+pub telling_more : (entries more : List FileEntry) (entry : FileEntry) (lines next path : List ℕ) (complete now whole : Bool) (finding : Finding)
+    → IsTelling entries lines complete → more ≡ entries ++ entry ∷ [] → path ≡ shown_text (path_text (file_of entry).path)
+    → next ≡ lines ++ line_of finding path → whole ≡ is_whole finding → now ≡ (complete && whole) → IsTelling more next now
+telling_more entries more entry lines next path complete now whole finding t one shown line is both =
+    let file : FileFound = record { file = file_of entry; finding = finding } in
+    let text : FileFound → List ℕ = λ f. line_of f.finding (shown_text (path_text f.file.path)) in
+    let test : FileFound → Bool = λ f. is_whole f.finding in
+    let last : flat_map text (file ∷ []) ≡ line_of finding path = append-nil (text file) ∙ ap (line_of finding) (sym shown) in
     record {
-      files = t.files ++ file ∷ [];
-      told = line ∙ ap (λ l. l ++ line_of finding path) t.told ∙ sym (lines_of-append t.files file);
-      all = both ∙ ap (λ b. b && whole) t.all ∙ ap (λ b. all_whole t.files && b) is ∙ sym (all_whole-append t.files file);
+      found = t.found ++ file ∷ [];
+      each = map-append (λ (f : FileFound). f.file) t.found (file ∷ []) ∙ ap (λ l. l ++ file_of entry ∷ []) t.each
+          ∙ sym (map-append file_of entries (entry ∷ [])) ∙ ap (map file_of) (sym one);
+      told = line ∙ ap (λ l. l ++ line_of finding path) t.told ∙ ap (λ l. lines_of t.found ++ l) (sym last) ∙ sym (flat_map-append text t.found (file ∷ []));
+      all = both ∙ ap (λ b. b && whole) t.all ∙ ap (λ b. list_all test t.found && b) (is ∙ sym (and-true (is_whole finding)))
+          ∙ sym (list_all-append test t.found (file ∷ []));
     }

@@ -1,9 +1,94 @@
--- Which word of the command line asks for a task.
-use Rattle.std.specs.Prelude.{ℕ, List, codes}
+-- What the words of the command line ask for. How words are read is the kit's: `subcommand_of` names the subcommand that they
+-- name, with its matches, a row for each word or option; `fault_of` lists the kinds of error, and is empty where there is none.
+use Rattle.std.specs.Prelude.{◌≡◌, ℕ, ◌^◌, ◌<◌, ◌⊎◌, true, false, List, [], ◌∷◌, Option, None, Some, codes}
+use Rattle.std.specs.Str.Parse.{IsNumeral, digits_value}
+use Rattle.clap.specs.Words.{App, IsAmong, Row, Rule, Text, fault_of, first_of, new_app, new_rule, one_of, subcommand_of, with_rule, with_subcommand}
+use Rattle.clap.specs.declared.builder.action.ArgAction.TheVariants.{SetTrue}
+use Rattle.clap.specs.declared.error.kind.ErrorKind.{ErrorKind}
+use Rattle.clap.specs.declared.error.kind.ErrorKind.TheVariants.{OutOfMemory, ValueValidation}
+use Rattle.btseed.specs.declared.command_line.Making.{Making}
+use Rattle.btseed.specs.declared.command_line.Source.{Source}
 use Rattle.btseed.specs.declared.command_line.Task.{Task}
 use Rattle.btseed.specs.declared.command_line.Task.TheVariants.{Make, Show, Check}
 
-abbrev pub command_of : Task → List ℕ
-command_of (Make making) = codes "make"
-command_of (Show torrent) = codes "show"
-command_of (Check torrent dir) = codes "check"
+-- ---- the subcommands and their words
+
+-- a word that must be there
+abbrev pub needed : Text → Rule
+needed id = record (new_rule id) { required = true }
+
+abbrev pub name_option : Rule
+name_option = record (needed (codes "name")) { long = Some (codes "name") }
+
+abbrev pub piece_length_option : Rule
+piece_length_option = record (new_rule (codes "piece-length")) { long = Some (codes "piece-length"); defaults = codes "262144" ∷ [] }
+
+abbrev pub info_option : Rule
+info_option = record (new_rule (codes "info")) { long = Some (codes "info"); action = Some SetTrue }
+
+abbrev pub make_words : App
+make_words =
+    with_rule (with_rule (with_rule (with_rule (new_app (codes "make")) (needed (codes "DIR"))) (needed (codes "OUT"))) name_option) piece_length_option
+
+abbrev pub show_words : App
+show_words = with_rule (with_rule (new_app (codes "show")) (needed (codes "TORRENT"))) info_option
+
+abbrev pub check_words : App
+check_words = with_rule (with_rule (with_rule (new_app (codes "check")) (needed (codes "TORRENT"))) (needed (codes "DIR"))) info_option
+
+-- a subcommand is needed, and with no word at all help is the answer
+abbrev pub no_subcommand : App
+no_subcommand = record (new_app (codes "btseed")) {
+  top = record (new_app (codes "btseed")).top { no_binary_name = true; subcommand_required = true; arg_required_else_help = true };
+}
+
+abbrev pub all_words : App
+all_words = with_subcommand (with_subcommand (with_subcommand no_subcommand make_words.top) show_words.top) check_words.top
+
+-- ---- tasks
+
+-- a decimal number of 32 bits: digits alone, with leading zeros or not
+pub record IsNumber (text : List ℕ) (n : ℕ) : Type 0 where
+  pub digits : IsNumeral 10 text
+  pub value : n ≡ digits_value 10 text
+  pub fits : n < 2 ^ 32
+
+-- the value of an option is a number
+pub record HasNumber (rows : List Row) (id : Text) (n : ℕ) : Type 0 where
+  pub text : List ℕ
+  pub given : first_of id rows ≡ Some text
+  pub number : IsNumber text n
+
+pub record IsMakingIn (rows : List Row) (making : Making) : Type 0 where
+  pub dir : first_of (codes "DIR") rows ≡ Some making.dir.now
+  pub out : first_of (codes "OUT") rows ≡ Some making.out.now
+  pub name : first_of (codes "name") rows ≡ Some making.name.now
+  pub piece_length : HasNumber rows (codes "piece-length") making.piece_length
+
+pub record IsSourceIn (rows : List Row) (source : Source) : Type 0 where
+  pub path : first_of (codes "TORRENT") rows ≡ Some source.path.now
+  pub info : one_of (codes "info") rows ≡ Some (codes "true") → source.is_info ≡ true
+  pub whole : one_of (codes "info") rows ≡ Some (codes "false") → source.is_info ≡ false
+
+-- a subcommand of this name with these rows asks for the task
+abbrev pub AsksFor : Text → List Row → Task → Type 0
+AsksFor name rows (Make making) = (name ≡ codes "make") × IsMakingIn rows making
+AsksFor name rows (Show torrent) = (name ≡ codes "show") × IsSourceIn rows torrent
+AsksFor name rows (Check torrent dir) = (name ≡ codes "check") × IsSourceIn rows torrent × (first_of (codes "DIR") rows ≡ Some dir.now)
+
+-- the subcommand that was met asks for the task
+abbrev pub IsTaskIn : Option (Text × List Row) → Task → Type 0
+IsTaskIn None task = ⊥
+IsTaskIn (Some met) task = AsksFor met.0 met.1 task
+
+-- the words have no fault, and ask for the task
+pub record IsAsked (words : List Text) (task : Task) : Type 0 where
+  pub faultless : fault_of all_words words ≡ []
+  pub asked : IsTaskIn (subcommand_of all_words words) task
+
+-- want of memory; a fault of the words, help among these; or words without a fault that ask for no task, as by a number that is none
+abbrev pub IsNotAsked : List Text → ErrorKind → Type 0
+IsNotAsked words kind =
+    (kind ≡ OutOfMemory)
+    ⊎ IsAmong kind (fault_of all_words words)
+    ⊎ ((kind ≡ ValueValidation) × ((task : Task) → ¬ IsAsked words task))

@@ -1,9 +1,12 @@
 pub mod Reading
 pub mod Checking
 pub mod Pieces
+pub mod Entries
 pub mod Asking
 pub mod Digesting
 pub mod Statuses
 pub mod Shown
 pub mod Telling
 pub mod Counting
+pub mod Places
+pub mod Commands

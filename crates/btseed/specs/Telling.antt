@@ -1,29 +1,27 @@
 -- What a check tells of the files of a torrent.
-use Rattle.std.specs.Prelude.{◌≡◌, ℕ, ◌++◌, ◌==◌, ◌&&◌, Bool, true, not, List, [], ◌∷◌, string_bytes}
+use Rattle.std.specs.Prelude.{◌≡◌, ℕ, ◌++◌, ◌==◌, ◌&&◌, Bool, not, List, map, string_bytes}
+use Rattle.std.specs.List.{flat_map, list_all}
+use Rattle.bt_meta.specs.Files.{File}
 use Rattle.btseed.specs.declared.data_file.Finding.{Finding}
 use Rattle.btseed.specs.declared.check.Report.{Report}
-use Rattle.btseed.specs.Shown.{line_of, end_of}
+use Rattle.btseed.specs.Shown.{path_text, shown_text, line_of, end_of}
 
 -- the data file is the torrent's
 abbrev pub is_whole : Finding → Bool
 is_whole finding = finding.marked == finding.blocks && not finding.longer
 
--- what was found of a file, and its path as it is printed
+-- a file of a torrent, and what was found of its data file
 pub record FileFound : Type 0 where
+  pub file : File
   pub finding : Finding
-  pub path : List ℕ
 
 -- a line for each file
 abbrev pub lines_of : List FileFound → List ℕ
-lines_of [] = []
-lines_of (file ∷ files) = line_of file.finding file.path ++ lines_of files
+lines_of found = flat_map (λ f. line_of f.finding (shown_text (path_text f.file.path))) found
 
-abbrev pub all_whole : List FileFound → Bool
-all_whole [] = true
-all_whole (file ∷ files) = is_whole file.finding && all_whole files
-
--- the report has the lines of some findings, and says complete where each of them is
-pub record TellsFiles (report : Report) : Type 0 where
-  pub files : List FileFound
-  pub lines : string_bytes report.lines ≡ lines_of files ++ end_of report.complete
-  pub complete : report.complete ≡ all_whole files
+-- the report has a line for each of the files, in their order, as some finding says, and says complete where each of them is
+pub record TellsFiles (files : List File) (report : Report) : Type 0 where
+  pub found : List FileFound
+  pub each : map (λ f. f.file) found ≡ files
+  pub lines : string_bytes report.lines ≡ lines_of found ++ end_of report.complete
+  pub complete : report.complete ≡ list_all (λ f. is_whole f.finding) found

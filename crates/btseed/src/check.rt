@@ -1,7 +1,8 @@
 //! The command `check`.
-ghost use Rattle.std.specs.Prelude.{◌≡◌, ◌≤◌, length, IsTrue, IfOk};
-ghost use Rattle.bt_tree.specs.Blocks.{block_count};
-ghost use Rattle.bt_tree.specs.TreeShape.{height_of, real_width};
+ghost use Rattle.std.specs.Prelude.{◌≡◌, ◌↔◌, ◌⊎◌, List, map, IsTrue, IfOk, IfErr, IfSome};
+ghost use Rattle.bt_meta.specs.Files.{File, file_of};
+ghost use Rattle.btseed.specs.Entries.{IsEntryFinding, IsEntryFindingAt, IsEntryFault, HasLayerOf};
+ghost use Rattle.btseed.specs.Statuses.{out_of_memory};
 ghost use Rattle.btseed.specs.Telling.{TellsFiles};
 
 use crate::command_line::Source;
@@ -26,16 +27,29 @@ pub struct Report {
 
 /// Checks the files of a folder against a torrent, in the order of the torrent. The first fault ends it.
 pub fn check<R: Files + AllocGlobal>(rt: &R, source: Source<'_>, dir: &str) -> Result<Report, Fault>
-    ensures { IfOk result TellsFiles }
+    ensures { IfOk result (λ report. (files : List File) × TellsFiles files report) }
 {
-    let alloc = rt.alloc();
     let mut buffer = [0; BUFFER_LEN];
     let torrent = load(rt, source, &mut buffer)?;
     let size = PieceSize::new(torrent.piece_length()).ok_or(MetaError::PieceLength)?;
+    check_files(rt, dir, torrent.files(), size, &mut buffer)
+}
+
+/// Checks the data files of some entries, in turn.
+fn check_files<R: Files + AllocGlobal>(
+    rt: &R,
+    dir: &str,
+    entries: &[FileEntry],
+    size: PieceSize,
+    buffer: &mut [u8; BUFFER_LEN],
+) -> Result<Report, Fault>
+    ensures { IfOk result (TellsFiles (map file_of entries.now)) }
+{
+    let alloc = rt.alloc();
     let mut lines = String::new(alloc);
     let mut complete = true;
-    for entry in torrent.files() {
-        let finding = check_data(rt, dir, entry, size, &mut buffer)?;
+    for entry in entries {
+        let finding = check_data(rt, dir, entry, size, buffer)?;
         complete = complete & finding.is_complete();
         let path = joined(alloc, &entry.path)?;
         push_line(&mut lines, finding, shown(alloc, path.as_bytes())?.as_str())?;
@@ -51,7 +65,9 @@ fn check_data<R: Files + AllocGlobal>(
     entry: &FileEntry,
     size: PieceSize,
     buffer: &mut [u8; BUFFER_LEN],
-) -> Result<Finding, Fault> {
+) -> Result<Finding, Fault>
+    ensures { IfErr result (λ fault. (fault ≡ out_of_memory) ⊎ IsEntryFault size.layer (file_of entry.now) fault) }
+{
     let path = data_path(rt.alloc(), dir, &entry.path)?;
     match fs::open(rt, path) {
         Ok(mut file) => check_entry(&mut file, entry, size, buffer),
@@ -69,7 +85,14 @@ fn check_entry<R: Read>(
     entry: &FileEntry,
     size: PieceSize,
     buffer: &mut [u8; BUFFER_LEN],
-) -> Result<Finding, Fault> {
+) -> Result<Finding, Fault>
+    // of the reader's bytes, where it tells them
+    ensures told { IfSome (R.remaining reader.old) (λ bytes. IfOk result (IsEntryFinding bytes size.layer (file_of entry.now))) }
+
+    // of the bytes that it gave, at every reader
+    ensures given { IfOk result (IsEntryFindingAt (R.remaining reader.old) (R.remaining reader.new) size.layer (file_of entry.now)) }
+    ensures fault { IfErr result (IsEntryFault size.layer (file_of entry.now)) }
+{
     let Some(geometry) = Geometry::new(entry.length) else {
         return match entry.length {
             0 => Ok(check_empty(reader)?),
@@ -88,7 +111,7 @@ fn check_entry<R: Read>(
 
 /// Whether they are as many as the layer has nodes that cover a block.
 fn are_of_layer(geometry: Geometry, layer: u8, digests: &[Hash32]) -> bool
-    ensures { IsTrue result → (layer ≤ height_of (block_count geometry)) × (length digests.now ≡ real_width (block_count geometry) layer) }
+    ensures { IsTrue result ↔ HasLayerOf layer geometry digests.now }
 {
     layer <= geometry.height() && digests.len() == geometry.real(layer) as usize
 }

@@ -1,7 +1,8 @@
 //! What the words of the command line ask for.
-ghost use Rattle.std.specs.Prelude.{◌≡◌, Some, codes, IfSome};
-ghost use Rattle.clap.specs.Words.{first_value, found_of, subcommand_name_of};
-ghost use Rattle.btseed.specs.Asking.{command_of};
+ghost use Rattle.std.specs.Prelude.{◌≡◌, ℕ, map, false, codes, string_bytes, IfOk, IfErr, IfSome, IfNone};
+ghost use Rattle.clap.specs.Words.{app_of, found_of, kind_of, rows_of, rule_of, subcommand_rows_of};
+ghost use Rattle.clap.specs.declared.builder.command.Command.TheViews.{out-Command as fields_of};
+ghost use Rattle.btseed.specs.Asking.{IsAsked, IsNotAsked, IsTaskIn, IsMakingIn, IsSourceIn, IsNumber, make_words, show_words, check_words, no_subcommand, all_words, needed, name_option, piece_length_option, info_option};
 
 use clap::error::ErrorKind;
 use clap::{Arg, ArgAction, ArgMatches, Command, Error};
@@ -38,8 +39,13 @@ pub struct Making<'a> {
 const ABOUT: &str =
     "A seed store for the files of one BitTorrent v2 torrent: it tells which files are right, by their pieces roots.";
 
+const TORRENT_HELP: &str = "The torrent file";
+
 /// Reads the words that follow the program's name. Where they ask for help, or are refused, the error has the text.
-pub fn parse<'a>(alloc: Global, words: &'a [String]) -> Result<Task<'a>, Error> {
+pub fn parse<'a>(alloc: Global, words: &'a [String]) -> Result<Task<'a>, Error>
+    ensures task { IfOk result (IsAsked (map string_bytes words.now)) }
+    ensures error { IfErr result (λ error. IsNotAsked (map string_bytes words.now) (kind_of error)) }
+{
     let mut command = commands(alloc)?;
     let matches = command.try_get_matches_from_mut(words)?;
     if let Some(task) = task_of(&matches) {
@@ -53,7 +59,8 @@ pub fn parse<'a>(alloc: Global, words: &'a [String]) -> Result<Task<'a>, Error> 
 
 /// The task that the words ask for; none where a number is refused.
 fn task_of<'a>(matches: &ArgMatches<'a>) -> Option<Task<'a>>
-    ensures { IfSome result (λ task. subcommand_name_of matches.now ≡ Some (command_of task)) }
+    ensures some { IfSome result (IsTaskIn (subcommand_rows_of matches.now)) }
+    ensures none { IfNone result ((task : Task) → ¬ IsTaskIn (subcommand_rows_of matches.now) task) }
 {
     if let Some(make) = matches.subcommand_matches("make") {
         return Some(Task::Make(making_of(make)?));
@@ -69,9 +76,8 @@ fn task_of<'a>(matches: &ArgMatches<'a>) -> Option<Task<'a>>
 }
 
 fn making_of<'a>(matches: &ArgMatches<'a>) -> Option<Making<'a>>
-    ensures dir { IfSome result (λ making. first_value (found_of matches.now) (codes "DIR") ≡ Some making.dir.now) }
-    ensures out { IfSome result (λ making. first_value (found_of matches.now) (codes "OUT") ≡ Some making.out.now) }
-    ensures name { IfSome result (λ making. first_value (found_of matches.now) (codes "name") ≡ Some making.name.now) }
+    ensures some { IfSome result (IsMakingIn (rows_of (found_of matches.now))) }
+    ensures none { IfNone result ((making : Making) → ¬ IsMakingIn (rows_of (found_of matches.now)) making) }
 {
     Some(Making {
         dir: matches.get_str("DIR")?,
@@ -82,7 +88,8 @@ fn making_of<'a>(matches: &ArgMatches<'a>) -> Option<Making<'a>>
 }
 
 fn source_of<'a>(matches: &ArgMatches<'a>) -> Option<Source<'a>>
-    ensures { IfSome result (λ source. first_value (found_of matches.now) (codes "TORRENT") ≡ Some source.path.now) }
+    ensures some { IfSome result (IsSourceIn (rows_of (found_of matches.now))) }
+    ensures none { IfNone result ((source : Source) → ¬ IsSourceIn (rows_of (found_of matches.now)) source) }
 {
     Some(Source {
         path: matches.get_str("TORRENT")?,
@@ -91,7 +98,10 @@ fn source_of<'a>(matches: &ArgMatches<'a>) -> Option<Source<'a>>
 }
 
 /// The number that decimal digits write, if it fits. Leading zeros are allowed, a sign is not.
-fn decimal(text: &str) -> Option<u32> {
+fn decimal(text: &str) -> Option<u32>
+    ensures some { IfSome result (IsNumber text.now) }
+    ensures none { IfNone result ((n : ℕ) → ¬ IsNumber text.now n) }
+{
     if text.starts_with('+') {
         return None;
     }
@@ -99,66 +109,97 @@ fn decimal(text: &str) -> Option<u32> {
 }
 
 /// The commands and their words.
-fn commands<'a>(alloc: Global) -> Result<Command<'a>, AllocError> {
-    Command::new(alloc, "btseed")
-        .bin_name("btseed")?
-        .about(ABOUT)
-        .no_binary_name(true)
-        .subcommand_required(true)
-        .arg_required_else_help(true)
+fn commands<'a>(alloc: Global) -> Result<Command<'a>, AllocError>
+    ensures { IfOk result (λ command. app_of command ≡ all_words) }
+{
+    top_command(alloc)?
         .subcommand(make_command(alloc)?)?
         .subcommand(show_command(alloc)?)?
         .subcommand(check_command(alloc)?)
 }
 
-fn make_command<'a>(alloc: Global) -> Result<Command<'a>, AllocError> {
-    let dir = Arg::new(alloc, "DIR")
-        .required(true)
-        .help("The folder whose files the torrent is made of");
-    let out = Arg::new(alloc, "OUT")
-        .required(true)
-        .help("The file that the torrent is written to");
-    let name = Arg::new(alloc, "name")
-        .long("name")
-        .required(true)
-        .help("The name that the torrent gives its files as a whole");
-    let piece_length = Arg::new(alloc, "piece-length")
-        .long("piece-length")
-        .default_value("262144")
-        .help("How many bytes a piece has: a power of two from 16384 to 268435456");
+/// The program, of which each command is a subcommand.
+fn top_command<'a>(alloc: Global) -> Result<Command<'a>, AllocError>
+    ensures { IfOk result (λ command. app_of command ≡ no_subcommand) }
+{
+    let command = Command::new(alloc, "btseed").bin_name("btseed")?;
+    Ok(
+        command
+            .about(ABOUT)
+            .no_binary_name(true)
+            .subcommand_required(true)
+            .arg_required_else_help(true),
+    )
+}
+
+fn make_command<'a>(alloc: Global) -> Result<Command<'a>, AllocError>
+    ensures words { IfOk result (λ command. app_of command ≡ make_words) }
+    ensures local { IfOk result (λ command. (fields_of command).has_globals ≡ false) }
+{
+    let dir = "The folder whose files the torrent is made of";
+    let out = "The file that the torrent is written to";
     Command::new(alloc, "make")
         .about("Writes the torrent of a folder, and prints its infohash")
-        .arg(dir)?
-        .arg(out)?
-        .arg(name)?
-        .arg(piece_length)
+        .arg(needed_word(alloc, "DIR", dir))?
+        .arg(needed_word(alloc, "OUT", out))?
+        .arg(name_word(alloc))?
+        .arg(piece_length_word(alloc))
 }
 
-fn show_command<'a>(alloc: Global) -> Result<Command<'a>, AllocError> {
+fn show_command<'a>(alloc: Global) -> Result<Command<'a>, AllocError>
+    ensures words { IfOk result (λ command. app_of command ≡ show_words) }
+    ensures local { IfOk result (λ command. (fields_of command).has_globals ≡ false) }
+{
     Command::new(alloc, "show")
         .about("Prints what a torrent says")
-        .arg(torrent_word(alloc))?
+        .arg(needed_word(alloc, "TORRENT", TORRENT_HELP))?
         .arg(info_flag(alloc))
 }
 
-fn check_command<'a>(alloc: Global) -> Result<Command<'a>, AllocError> {
-    let dir = Arg::new(alloc, "DIR")
-        .required(true)
-        .help("The folder in which the torrent's files lie");
+fn check_command<'a>(alloc: Global) -> Result<Command<'a>, AllocError>
+    ensures words { IfOk result (λ command. app_of command ≡ check_words) }
+    ensures local { IfOk result (λ command. (fields_of command).has_globals ≡ false) }
+{
+    let dir = "The folder in which the torrent's files lie";
     Command::new(alloc, "check")
         .about("Tells which files of a folder are those of the torrent, and changes nothing")
-        .arg(torrent_word(alloc))?
-        .arg(dir)?
+        .arg(needed_word(alloc, "TORRENT", TORRENT_HELP))?
+        .arg(needed_word(alloc, "DIR", dir))?
         .arg(info_flag(alloc))
 }
 
-fn torrent_word<'a>(alloc: Global) -> Arg<'a> {
-    Arg::new(alloc, "TORRENT")
-        .required(true)
-        .help("The torrent file")
+/// A word that must be there, by its place.
+fn needed_word<'a>(alloc: Global, id: &'a str, help: &'a str) -> Arg<'a>
+    ensures rule { rule_of result ≡ needed id.now }
+    ensures local { result.global ≡ false }
+{
+    Arg::new(alloc, id).required(true).help(help)
 }
 
-fn info_flag<'a>(alloc: Global) -> Arg<'a> {
+fn name_word<'a>(alloc: Global) -> Arg<'a>
+    ensures rule { rule_of result ≡ name_option }
+    ensures local { result.global ≡ false }
+{
+    Arg::new(alloc, "name")
+        .long("name")
+        .required(true)
+        .help("The name that the torrent gives its files as a whole")
+}
+
+fn piece_length_word<'a>(alloc: Global) -> Arg<'a>
+    ensures rule { rule_of result ≡ piece_length_option }
+    ensures local { result.global ≡ false }
+{
+    Arg::new(alloc, "piece-length")
+        .long("piece-length")
+        .default_value("262144")
+        .help("How many bytes a piece has: a power of two from 16384 to 268435456")
+}
+
+fn info_flag<'a>(alloc: Global) -> Arg<'a>
+    ensures rule { rule_of result ≡ info_option }
+    ensures local { result.global ≡ false }
+{
     Arg::new(alloc, "info")
         .long("info")
         .action(ArgAction::SetTrue)

@@ -1,4 +1,10 @@
 //! The command `make`.
+ghost use Rattle.std.specs.Prelude.{◌≡◌, IfOk, IsErrAnd};
+ghost use Rattle.bt_tree.specs.TreeShape.{IsPieceLength};
+ghost use Rattle.bt_meta.specs.declared.making.MakeError.TheVariants.{PieceLength};
+ghost use Rattle.btseed.specs.Commands.{IsDigested, IsHashMade};
+ghost use Rattle.btseed.specs.Statuses.{unmade_of};
+
 use crate::command_line::Making;
 use crate::counts::Counts;
 use crate::data_file::BUFFER_LEN;
@@ -18,14 +24,18 @@ use std::rt::Files;
 pub fn make<R: Files + AllocGlobal + Clone + Drop>(
     rt: &R,
     making: Making<'_>,
-) -> Result<Hash32, Fault> {
+) -> Result<Hash32, Fault>
+    ensures hash { IfOk result (IsHashMade making.entry.name.now making.entry.piece_length) }
+    ensures length { ¬ IsPieceLength making.entry.piece_length → IsErrAnd result (λ fault. fault ≡ unmade_of PieceLength) }
+{
     let alloc = rt.alloc();
     let Some(size) = PieceSize::new(making.piece_length) else {
         return Err(Fault::Unmade(MakeError::PieceLength));
     };
     let mut buffer = [0; BUFFER_LEN];
     let mut files = Vec::new(alloc);
-    for file in sized_files(rt, making.dir, size)? {
+    let sized = sized_files(rt, making.dir, size)?;
+    for file in sized {
         files.push(digested(rt, making.dir, file, size, &mut buffer)?)?;
     }
     let text = bt_meta::make(alloc, making.name.as_bytes(), making.piece_length, &files)?;
@@ -66,7 +76,11 @@ fn digested<R: Files + AllocGlobal>(
     file: SizedFile,
     size: PieceSize,
     buffer: &mut [u8; BUFFER_LEN],
-) -> Result<Made, Fault> {
+) -> Result<Made, Fault>
+    ensures digests { IfOk result (IsDigested size.layer) }
+    ensures path { IfOk result (λ made. made.path ≡ file.path) }
+    ensures length { IfOk result (λ made. made.length ≡ file.length) }
+{
     let alloc = rt.alloc();
     let SizedFile { path, length } = file;
     let place = data_path(alloc, dir, &path)?;

@@ -1,6 +1,7 @@
 //! The lines that tell what a check found.
-ghost use Rattle.std.specs.Prelude.{◌≡◌, ◌≢◌, ◌≤◌, ◌↔◌, ◌++◌, IsTrue, IfOk, OnOk, string_bytes, slice_index, EachIndex};
-ghost use Rattle.btseed.specs.Shown.{IsPrinted, IsUnmarked, IsPlain, in_hex, line_of, end_of};
+ghost use Rattle.std.specs.Prelude.{◌≡◌, ◌++◌, IfOk, OnOk, string_bytes};
+ghost use Rattle.std.specs.List.{list_all};
+ghost use Rattle.btseed.specs.Shown.{is_visible, stands_unmarked, shown_text, in_hex, line_of, end_of};
 
 use crate::data_file::Finding;
 use std::alloc::{AllocError, Global};
@@ -10,8 +11,7 @@ use std::str;
 /// A name or a path as it is printed: as it is where it is text without control characters that does not begin with
 /// `0x`, and else as `0x` and its bytes in hexadecimal.
 pub fn shown(alloc: Global, name: &[u8]) -> Result<String, AllocError>
-    ensures plain { IsPlain name.now → IfOk result (λ text. string_bytes text ≡ name.now) }
-    ensures other { ¬ IsPlain name.now → IfOk result (λ text. string_bytes text ≡ in_hex name.now) }
+    ensures { IfOk result (λ text. string_bytes text ≡ shown_text name.now) }
 {
     match str::from_utf8(name) {
         Ok(text) if is_unmarked(name) => String::from_str(alloc, text),
@@ -31,14 +31,14 @@ fn hexadecimal(alloc: Global, name: &[u8]) -> Result<String, AllocError>
 
 /// Whether a text is printed as it is, by its bytes.
 fn is_unmarked(text: &[u8]) -> bool
-    ensures { IsTrue result ↔ IsUnmarked text.now }
+    ensures { result ≡ stands_unmarked text.now }
 {
     is_printed(text) && !text.starts_with(b"0x")
 }
 
 /// Whether a text has no control character, by its bytes.
 fn is_printed(text: &[u8]) -> bool
-    ensures { IsTrue result ↔ EachIndex text.now (λ k. IsPrinted (slice_index text.now k)) }
+    ensures { result ≡ list_all is_visible text.now }
 {
     text.iter().all(|byte| *byte >= 0x20 && *byte != 0x7f)
 }

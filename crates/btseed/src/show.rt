@@ -1,8 +1,10 @@
 //! The command `show`.
-ghost use Rattle.std.specs.Prelude.{◌≡◌, string_bytes, IfOk, OnOk};
+ghost use Rattle.std.specs.Prelude.{◌≡◌, ◌⊎◌, string_bytes, IfOk, OnOk, IfErr};
 ghost use Rattle.std.specs.Io.KnownBytes.{Appends};
+ghost use Rattle.std.specs.List.{flat_map};
 ghost use Rattle.bt_meta.specs.Files.{file_of};
-ghost use Rattle.btseed.specs.Shown.{root_text};
+ghost use Rattle.btseed.specs.Shown.{ended, root_text, head_lines, line_on, show_text};
+ghost use Rattle.btseed.specs.Statuses.{device, out_of_memory};
 
 use crate::fault::Fault;
 use crate::paths::joined;
@@ -11,10 +13,15 @@ use bt_meta::{FileEntry, Torrent};
 use std::alloc::{AllocError, Global};
 use std::io::Write;
 
-/// Writes what a torrent says: five lines on the whole, and a line for each file.
-pub fn show<W: Write>(alloc: Global, torrent: &Torrent, writer: &mut W) -> Result<(), Fault> {
+/// Writes what a torrent says: five lines on the whole, and a line for each file. After a fault the writer has a part of
+/// the text, or all.
+pub fn show<W: Write>(alloc: Global, torrent: &Torrent, writer: &mut W) -> Result<(), Fault>
+    ensures text { OnOk result (Appends (W.contents writer.old) (W.contents writer.new) (show_text torrent.now)) }
+    ensures fault { IfErr result (λ fault. (fault ≡ device) ⊎ (fault ≡ out_of_memory)) }
+{
     put(writer, head(alloc, torrent)?.as_str())?;
-    for file in torrent.files() {
+    let files = torrent.files();
+    for file in files {
         put(writer, file_line(alloc, file)?.as_str())?;
     }
     writer.flush().map_err(|_| Fault::Device)
@@ -22,7 +29,8 @@ pub fn show<W: Write>(alloc: Global, torrent: &Torrent, writer: &mut W) -> Resul
 
 /// Writes a text.
 pub fn put<W: Write>(writer: &mut W, text: &str) -> Result<(), Fault>
-    ensures { OnOk result (Appends (W.contents writer.old) (W.contents writer.new) text.now) }
+    ensures text { OnOk result (Appends (W.contents writer.old) (W.contents writer.new) text.now) }
+    ensures fault { IfErr result (λ fault. fault ≡ device) }
 {
     match writer.write_all(text.as_bytes()) {
         Ok(()) => Ok(()),
@@ -31,7 +39,9 @@ pub fn put<W: Write>(writer: &mut W, text: &str) -> Result<(), Fault>
 }
 
 /// The lines on the whole torrent.
-fn head(alloc: Global, torrent: &Torrent) -> Result<String, AllocError> {
+fn head(alloc: Global, torrent: &Torrent) -> Result<String, AllocError>
+    ensures { IfOk result (λ text. string_bytes text ≡ flat_map ended (head_lines torrent.now)) }
+{
     let name = shown(alloc, torrent.name())?;
     let infohash = hex::encode(alloc, &torrent.infohash())?;
     let piece_length = torrent.piece_length();
@@ -43,7 +53,9 @@ fn head(alloc: Global, torrent: &Torrent) -> Result<String, AllocError> {
 }
 
 /// The line of a file: its length, its root and its path.
-fn file_line(alloc: Global, file: &FileEntry) -> Result<String, AllocError> {
+fn file_line(alloc: Global, file: &FileEntry) -> Result<String, AllocError>
+    ensures { IfOk result (λ text. string_bytes text ≡ ended (line_on (file_of file.now))) }
+{
     let path = joined(alloc, &file.path)?;
     let path = shown(alloc, path.as_bytes())?;
     let root = shown_root(alloc, file)?;

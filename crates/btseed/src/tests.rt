@@ -5,5 +5,6 @@ mod limits;
 mod making;
 mod reading;
 mod showing;
+mod steps;
 mod tools;
 mod words;

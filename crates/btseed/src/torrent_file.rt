@@ -1,5 +1,6 @@
 //! Reading torrents from files.
 ghost use Rattle.std.specs.Prelude.{◌≡◌, ◌+◌, ◌^◌, take, IfOk, IfSome};
+ghost use Rattle.btseed.specs.Commands.{IsLoaded};
 ghost use Rattle.btseed.specs.Reading.{Gives};
 
 use crate::command_line::Source;
@@ -16,7 +17,9 @@ pub fn load<R: Files + AllocGlobal>(
     rt: &R,
     source: Source<'_>,
     buffer: &mut [u8; BUFFER_LEN],
-) -> Result<Torrent, Fault> {
+) -> Result<Torrent, Fault>
+    ensures { IfOk result (IsLoaded source.entry.is_info) }
+{
     let mut file = fs::open(rt, source.path).map_err(|_| Fault::Device)?;
     let text = read_text(rt.alloc(), &mut file, buffer)?;
     if source.is_info {

@@ -1,4 +1,7 @@
 //! Writing a file wholly or not at all.
+ghost use Rattle.std.specs.Prelude.{◌≡◌, ◌⊎◌, IfErr};
+ghost use Rattle.btseed.specs.Statuses.{device, out_of_memory};
+
 use crate::fault::Fault;
 use std::alloc::{AllocError, Global};
 use std::fs::{self, File, OpenFile};
@@ -6,7 +9,9 @@ use std::io::{ErrorKind, Write};
 use std::rt::Files;
 
 /// Writes a file: wholly, or it stays as it was. The bytes go into a new file beside it, which then takes its name.
-pub fn write_whole<R: Files + AllocGlobal>(rt: &R, path: &str, bytes: &[u8]) -> Result<(), Fault> {
+pub fn write_whole<R: Files + AllocGlobal>(rt: &R, path: &str, bytes: &[u8]) -> Result<(), Fault>
+    ensures { IfErr result (λ fault. (fault ≡ device) ⊎ (fault ≡ out_of_memory)) }
+{
     refuse_other_kinds(rt, path)?;
     let beside = unused_path(rt, path)?;
     let mut file = File::create_new(rt, beside.as_str()).map_err(|_| Fault::Device)?;
@@ -21,7 +26,9 @@ pub fn write_whole<R: Files + AllocGlobal>(rt: &R, path: &str, bytes: &[u8]) -> 
 }
 
 /// A folder or a device in the file's place is not replaced.
-fn refuse_other_kinds<R: Files>(rt: &R, path: &str) -> Result<(), Fault> {
+fn refuse_other_kinds<R: Files>(rt: &R, path: &str) -> Result<(), Fault>
+    ensures { IfErr result (λ fault. fault ≡ device) }
+{
     match fs::metadata(rt, path) {
         Ok(metadata) if metadata.is_file() => Ok(()),
         Err(error) if error.kind() == ErrorKind::NotFound => Ok(()),
@@ -30,7 +37,9 @@ fn refuse_other_kinds<R: Files>(rt: &R, path: &str) -> Result<(), Fault> {
 }
 
 /// A path in the same folder at which there is nothing.
-fn unused_path<R: Files + AllocGlobal>(rt: &R, path: &str) -> Result<String, Fault> {
+fn unused_path<R: Files + AllocGlobal>(rt: &R, path: &str) -> Result<String, Fault>
+    ensures { IfErr result (λ fault. (fault ≡ device) ⊎ (fault ≡ out_of_memory)) }
+{
     for attempt in 0..u32::MAX {
         let beside = path_beside(rt.alloc(), path, attempt)?;
         match fs::symlink_metadata(rt, beside.as_str()) {
@@ -50,7 +59,9 @@ fn path_beside(alloc: Global, path: &str, number: u32) -> Result<String, AllocEr
     }
 }
 
-fn fill_file<F: OpenFile + Write>(file: &mut F, bytes: &[u8]) -> Result<(), Fault> {
+fn fill_file<F: OpenFile + Write>(file: &mut F, bytes: &[u8]) -> Result<(), Fault>
+    ensures { IfErr result (λ fault. fault ≡ device) }
+{
     file.write_all(bytes).map_err(|_| Fault::Device)?;
     file.flush().map_err(|_| Fault::Device)?;
     file.sync_all().map_err(|_| Fault::Device)

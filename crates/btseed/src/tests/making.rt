@@ -1,8 +1,7 @@
 //! The command `make`.
 
-use super::tools::{abc_torrent, bytes_of, expect, folder, put, put_folder, three_blocks};
-use std::fs;
-use std::os::unix::fs::symlink;
+use super::steps::{Step, play};
+use super::tools::{abc_torrent, front, three_blocks};
 use std::test::Fail;
 
 const ABC_HASH: &str =
@@ -10,23 +9,21 @@ const ABC_HASH: &str =
 
 #[test]
 fn the_torrent_of_one_file_is_made(rt: HostRuntime) -> Result<(), Fail> {
-    let top = folder(&rt, "make")?;
-    put_folder(&rt, top.as_str(), "files")?;
-    put(&rt, top.as_str(), "files/a.txt", b"abc")?;
-    let line = "make @/files @/t --name a.txt --piece-length 16384";
-    expect(&rt, top.as_str(), line, 0, ABC_HASH, "")?;
-    assert_eq!(rt;
-        bytes_of(&rt, top.as_str(), "t")?.as_slice(),
-        abc_torrent(rt.alloc())?.as_slice()
-    );
+    let torrent = abc_torrent(rt.alloc())?;
 
     // a torrent that was there is replaced, also by one of the folder that it lies in
-    let line = "make @/files @/files/t --name a.txt --piece-length 0016384";
-    expect(&rt, top.as_str(), line, 0, ABC_HASH, "")?;
-    assert_eq!(rt; bytes_of(&rt, top.as_str(), "files/t")?.len(), 166);
-    assert_eq!(rt; fs::read_dir(&rt, top.as_str())?.count(), 2);
-    fs::remove_dir_all(&rt, top.as_str())?;
-    Ok(())
+    let first = "make @/files @/t --name a.txt --piece-length 16384";
+    let second = "make @/files @/files/t --name a.txt --piece-length 0016384";
+    let steps = [
+        Step::Folder("files"),
+        Step::File("files/a.txt", b"abc"),
+        Step::Run(first, 0, ABC_HASH),
+        Step::Has("t", &torrent),
+        Step::Run(second, 0, ABC_HASH),
+        Step::Size("files/t", 166),
+        Step::Entries("", 2),
+    ];
+    play(&rt, "make", &steps)
 }
 
 const MANY_LINES: &str = "name many
@@ -41,83 +38,60 @@ files 3
 
 #[test]
 fn a_folder_is_walked(rt: HostRuntime) -> Result<(), Fail> {
-    let top = folder(&rt, "walk")?;
-    for name in ["files", "files/b", "files/b/none", "aside"] {
-        put_folder(&rt, top.as_str(), name)?;
-    }
     let three = three_blocks(rt.alloc())?;
-    put(&rt, top.as_str(), "files/b.txt", b"")?;
-    put(&rt, top.as_str(), "files/b/c", b"abc")?;
-    put(
-        &rt,
-        top.as_str(),
-        "files/a",
-        three.as_slice().get(..49152).ok_or("too short")?,
-    )?;
-    let aside = format!(in rt.alloc(); "{top}/aside")?;
-    let link = format!(in rt.alloc(); "{top}/files/link")?;
-    symlink(&rt, aside.as_str(), link.as_str())?;
-    let line = "make @/files @/t --name many --piece-length 16384";
-    let output = "infohash 4155fefd690291d509024601618eac812271ee966768d5ceeb8713f0c9f9d5b8\n";
-    expect(&rt, top.as_str(), line, 0, output, "")?;
-    assert_eq!(rt; bytes_of(&rt, top.as_str(), "t")?.len(), 397);
-    expect(&rt, top.as_str(), "show @/t", 0, MANY_LINES, "")?;
-    let output = "complete a\ncomplete b/c\ncomplete b.txt\ncomplete\n";
-    expect(&rt, top.as_str(), "check @/t @/files", 0, output, "")?;
-    fs::remove_dir_all(&rt, top.as_str())?;
-    Ok(())
+    let make = "make @/files @/t --name many --piece-length 16384";
+    let infohash = "infohash 4155fefd690291d509024601618eac812271ee966768d5ceeb8713f0c9f9d5b8\n";
+    let steps = [
+        Step::Folder("files"),
+        Step::Folder("files/b"),
+        Step::Folder("files/b/none"),
+        Step::Folder("aside"),
+        Step::File("files/b.txt", b""),
+        Step::File("files/b/c", b"abc"),
+        Step::File("files/a", front(&three, 49152)),
+        Step::Link("aside", "files/link"),
+        Step::Run(make, 0, infohash),
+        Step::Size("t", 397),
+        Step::Run("show @/t", 0, MANY_LINES),
+        Step::Run(
+            "check @/t @/files",
+            0,
+            "complete a\ncomplete b/c\ncomplete b.txt\ncomplete\n",
+        ),
+    ];
+    play(&rt, "walk", &steps)
 }
 
 #[test]
 fn faults_of_making_are_told_in_order(rt: HostRuntime) -> Result<(), Fail> {
-    let top = folder(&rt, "unmade")?;
-    for name in ["files", "empty", "there"] {
-        put_folder(&rt, top.as_str(), name)?;
-    }
-    put(&rt, top.as_str(), "files/a.txt", b"abc")?;
-    put(&rt, top.as_str(), "kept", b"kept")?;
-    for (line, status, faults) in [
-        (
+    let length = "btseed: N1 PieceLength\n";
+    let count = "btseed: N7 Count\n";
+    let device = "btseed: device fault\n";
+    let steps = [
+        Step::Folder("files"),
+        Step::Folder("empty"),
+        Step::Folder("there"),
+        Step::File("files/a.txt", b"abc"),
+        Step::File("kept", b"kept"),
+        Step::Fault(
             "make @/absent @/absent/t --name n --piece-length 20000",
             2,
-            "btseed: N1 PieceLength\n",
+            length,
         ),
-        (
+        Step::Fault(
             "make @/absent @/absent/t --name n --piece-length 0",
             2,
-            "btseed: N1 PieceLength\n",
+            length,
         ),
-        (
-            "make @/absent @/absent/t --name n",
-            3,
-            "btseed: device fault\n",
-        ),
-        (
-            "make @/kept @/absent/t --name n",
-            3,
-            "btseed: device fault\n",
-        ),
-        ("make @/empty @/absent/t --name n", 2, "btseed: N7 Count\n"),
-        (
-            "make @/files @/absent/t --name n",
-            3,
-            "btseed: device fault\n",
-        ),
-        ("make @/files @/there --name n", 3, "btseed: device fault\n"),
-        (
-            "make @/files @/kept/t --name n",
-            3,
-            "btseed: device fault\n",
-        ),
-        ("make @/empty @/kept --name n", 2, "btseed: N7 Count\n"),
-    ] {
-        expect(&rt, top.as_str(), line, status, "", faults)?;
-    }
-    assert_eq!(rt;
-        bytes_of(&rt, top.as_str(), "kept")?.as_slice(),
-        b"kept".as_slice()
-    );
-    assert_eq!(rt; fs::read_dir(&rt, top.as_str())?.count(), 4);
-    fs::remove_dir_all(&rt, top.as_str())?;
-    Ok(())
+        Step::Fault("make @/absent @/absent/t --name n", 3, device),
+        Step::Fault("make @/kept @/absent/t --name n", 3, device),
+        Step::Fault("make @/empty @/absent/t --name n", 2, count),
+        Step::Fault("make @/files @/absent/t --name n", 3, device),
+        Step::Fault("make @/files @/there --name n", 3, device),
+        Step::Fault("make @/files @/kept/t --name n", 3, device),
+        Step::Fault("make @/empty @/kept --name n", 2, count),
+        Step::Has("kept", b"kept"),
+        Step::Entries("", 4),
+    ];
+    play(&rt, "unmade", &steps)
 }

@@ -1,6 +1,6 @@
 //! The reading of files over readers that fail or give little.
 
-use super::tools::{THREE_ROOT, digest, three_blocks};
+use super::tools::{THREE_ROOT, confirm, digest, front, three_blocks};
 use crate::data_file::{BUFFER_LEN, Finding, check_empty, check_file};
 use crate::digests::digest_reader;
 use crate::fault::{DeviceFault, Fault};
@@ -56,25 +56,26 @@ fn found_of(reader: &mut Slow<'_>) -> Result<Result<Finding, DeviceFault>, Fail>
     Ok(check_file(reader, geometry, &root, &mut buffer))
 }
 
+/// Expects what is found of the first bytes of a file, so many, by a reader that gives at most so many at a time.
+fn expect_found(bytes: &[u8], most: usize, marked: u32, longer: bool) -> Result<(), Fail> {
+    let found = found_of(&mut slow_reader(bytes, most, NEVER))?;
+    let wanted = Finding {
+        blocks: 3,
+        marked,
+        longer,
+    };
+    confirm(found == Ok(wanted), "another finding")?;
+    Ok(())
+}
+
 #[test]
 fn short_reads_go_on(rt: HostRuntime) -> Result<(), Fail> {
     let file = three_blocks(rt.alloc())?;
     for most in [1, 7, 16384, 65536] {
-        for (size, marked, longer) in [
-            (0, 0, false),
-            (49151, 0, false),
-            (49152, 3, false),
-            (49153, 3, true),
-        ] {
-            let bytes = file.as_slice().get(..size).ok_or("too short")?;
-            let found = found_of(&mut slow_reader(bytes, most, NEVER))?;
-            let wanted = Finding {
-                blocks: 3,
-                marked,
-                longer,
-            };
-            assert_eq!(rt; found, Ok(wanted), "{size} bytes, {most} at a time");
-        }
+        expect_found(front(&file, 0), most, 0, false)?;
+        expect_found(front(&file, 49151), most, 0, false)?;
+        expect_found(front(&file, 49152), most, 3, false)?;
+        expect_found(front(&file, 49153), most, 3, true)?;
         let text = text_of(rt.alloc(), &mut slow_reader(&file, most, NEVER))?;
         assert_eq!(rt; text.as_slice(), file.as_slice());
     }

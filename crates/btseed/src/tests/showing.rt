@@ -1,8 +1,8 @@
 //! The command `show`, and how names are printed.
 
-use super::tools::{abc_torrent, expect, folder, put};
+use super::steps::{Step, play};
+use super::tools::abc_torrent;
 use crate::report::shown;
-use std::fs;
 use std::test::Fail;
 
 const ABC_LINES: &str = "name a.txt
@@ -15,28 +15,17 @@ files 1
 
 #[test]
 fn a_torrent_is_shown(rt: HostRuntime) -> Result<(), Fail> {
-    let top = folder(&rt, "show")?;
     let torrent = abc_torrent(rt.alloc())?;
-    put(&rt, top.as_str(), "t", &torrent)?;
-    put(
-        &rt,
-        top.as_str(),
-        "i",
-        torrent.as_slice().get(7..148).ok_or("too short")?,
-    )?;
-    expect(&rt, top.as_str(), "show @/t", 0, ABC_LINES, "")?;
-    expect(&rt, top.as_str(), "show --info @/i", 0, ABC_LINES, "")?;
-    expect(
-        &rt,
-        top.as_str(),
-        "show --info @/t",
-        2,
-        "",
-        "btseed: M3 NotV2\n",
-    )?;
-    expect(&rt, top.as_str(), "show @/i", 2, "", "btseed: M2 NoInfo\n")?;
-    fs::remove_dir_all(&rt, top.as_str())?;
-    Ok(())
+    let info = torrent.as_slice().get(7..148).ok_or("too short")?;
+    let steps = [
+        Step::File("t", &torrent),
+        Step::File("i", info),
+        Step::Run("show @/t", 0, ABC_LINES),
+        Step::Run("show --info @/i", 0, ABC_LINES),
+        Step::Fault("show --info @/t", 2, "btseed: M3 NotV2\n"),
+        Step::Fault("show @/i", 2, "btseed: M2 NoInfo\n"),
+    ];
+    play(&rt, "show", &steps)
 }
 
 #[test]

@@ -9,32 +9,42 @@ use std::{env, fs, process};
 
 /// A folder of this test's own, empty.
 pub fn folder(rt: &HostRuntime, name: &str) -> Result<String, Fail> {
-    let top = env::temp_dir(rt)?;
-    let top = top.to_str().ok_or("a folder whose name is no text")?;
-    let id = process::id(rt.process());
-    let path = format!(in rt.alloc(); "{top}/btseed-{name}-{id}")?;
+    let path = own_path(rt, name)?;
     let _ = fs::remove_dir_all(rt, path.as_str());
     fs::create_dir(rt, path.as_str())?;
     Ok(path)
 }
 
+/// A path in the folder for temporary files, by the test's name and the process.
+fn own_path(rt: &HostRuntime, name: &str) -> Result<String, Fail> {
+    let top = env::temp_dir(rt)?;
+    let top = top.to_str().ok_or("a folder whose name is no text")?;
+    let id = process::id(rt.process());
+    Ok(format!(in rt.alloc(); "{top}/btseed-{name}-{id}")?)
+}
+
+/// The path of a name below a folder.
+pub fn path_in(rt: &HostRuntime, top: &str, name: &str) -> Result<String, AllocError> {
+    format!(in rt.alloc(); "{top}/{name}")
+}
+
 /// Writes a file below a folder.
 pub fn put(rt: &HostRuntime, top: &str, name: &str, bytes: &[u8]) -> Result<(), Fail> {
-    let path = format!(in rt.alloc(); "{top}/{name}")?;
+    let path = path_in(rt, top, name)?;
     fs::write(rt, path.as_str(), bytes)?;
     Ok(())
 }
 
 /// Makes a folder below a folder.
 pub fn put_folder(rt: &HostRuntime, top: &str, name: &str) -> Result<(), Fail> {
-    let path = format!(in rt.alloc(); "{top}/{name}")?;
+    let path = path_in(rt, top, name)?;
     fs::create_dir(rt, path.as_str())?;
     Ok(())
 }
 
 /// The bytes of a file below a folder.
 pub fn bytes_of(rt: &HostRuntime, top: &str, name: &str) -> Result<Vec<u8>, Fail> {
-    let path = format!(in rt.alloc(); "{top}/{name}")?;
+    let path = path_in(rt, top, name)?;
     Ok(fs::read(rt, path.as_str())?)
 }
 
@@ -75,6 +85,11 @@ fn answer_to(rt: &HostRuntime, top: &str, line: &str) -> Result<Answer, Fail> {
 /// The answer is an error where it is not the one wanted.
 fn confirmed(answer: Answer, is_wanted: bool) -> Result<(), Answer> {
     if is_wanted { Ok(()) } else { Err(answer) }
+}
+
+/// The error that says what is wrong, where something does not hold.
+pub fn confirm(holds: bool, otherwise: &'static str) -> Result<(), &'static str> {
+    if holds { Ok(()) } else { Err(otherwise) }
 }
 
 /// Runs the program on the words of a line, and expects this status, output and fault.
@@ -141,6 +156,15 @@ pub fn three_blocks(alloc: Global) -> Result<Vec<u8>, AllocError> {
     }
     Ok(file)
 }
+
+/// The first bytes of a file, so many where it has them.
+pub fn front(bytes: &[u8], length: usize) -> &[u8] {
+    &bytes[..length.min(bytes.len())]
+}
+
+/// The info dictionary of a file `f` of the three blocks.
+pub const THREE_INFO: &[u8] =
+    b"d9:file treed1:fd0:d6:lengthi49152e11:pieces root32:\x35\x75\x4e\xe0\x33\x60\xca\xca\xb5\xe9\xe2\x76\x47\xda\x3d\x2a\x4a\xb6\xf9\x76\x14\xed\x7d\x16\x92\xb9\xeb\x3c\x42\xa6\x5d\x69eee12:meta versioni2e4:name1:f12:piece lengthi16384ee";
 
 /// The root of the three blocks.
 pub const THREE_ROOT: &str = "35754ee03360cacab5e9e27647da3d2a4ab6f97614ed7d1692b9eb3c42a65d69";

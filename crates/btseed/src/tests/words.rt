@@ -1,6 +1,6 @@
 //! The command line, and an output that fails.
 
-use super::tools::{abc_torrent, expect_help, expect_refused, folder, put, words_of};
+use super::tools::{abc_torrent, confirm, expect_help, expect_refused, folder, put, words_of};
 use crate::program::run;
 use std::io::{ErrorKind, Write};
 use std::test::Fail;
@@ -66,23 +66,28 @@ impl Write for Full {
     }
 }
 
+/// Runs the program on a line with an output that fails: once with a place for the fault, and once with none.
+fn expect_device_fault(rt: &HostRuntime, top: &str, line: &str) -> Result<(), Fail> {
+    let words = words_of(rt.alloc(), top, line)?;
+    let mut input: &[u8] = &[];
+    let mut faults = Vec::new(rt.alloc());
+    let status = run(rt, words.as_slice(), &mut input, &mut Full, &mut faults);
+    let untold = run(rt, words.as_slice(), &mut input, &mut Full, &mut Full);
+    confirm(status == 3 && untold == 3, "another status")?;
+    confirm(
+        faults.as_slice() == b"btseed: device fault\n".as_slice(),
+        "another fault",
+    )?;
+    Ok(())
+}
+
 #[test]
 fn an_output_that_fails_is_a_device_fault(rt: HostRuntime) -> Result<(), Fail> {
     let top = folder(&rt, "output")?;
-    put(&rt, top.as_str(), "t", &abc_torrent(rt.alloc())?)?;
+    let torrent = abc_torrent(rt.alloc())?;
+    put(&rt, top.as_str(), "t", &torrent)?;
     for line in ["check @/t @", "show @/t", "--help"] {
-        let words = words_of(rt.alloc(), top.as_str(), line)?;
-        let mut input: &[u8] = &[];
-        let mut faults = Vec::new(rt.alloc());
-        assert_eq!(rt;
-            run(&rt, words.as_slice(), &mut input, &mut Full, &mut faults),
-            3
-        );
-        assert_eq!(rt; faults.as_slice(), b"btseed: device fault\n".as_slice());
-        assert_eq!(rt;
-            run(&rt, words.as_slice(), &mut input, &mut Full, &mut Full),
-            3
-        );
+        expect_device_fault(&rt, top.as_str(), line)?;
     }
     fs::remove_dir_all(&rt, top.as_str())?;
     Ok(())

@@ -1,0 +1,6 @@
+use Rattle.std.proofs.Common.{take, string_bytes}
+use Rattle.btseed.proofs.Tellings.{IsTelling}
+use Rattle.btseed.proofs.check.check_files.Given as goal
+
+abbrev pub invariant-loop-entry : goal.invariant-loop-entry
+invariant-loop-entry g l = IsTelling (take l.entry-index l.entries) (string_bytes l.lines) l.complete

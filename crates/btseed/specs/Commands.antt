@@ -1,0 +1,31 @@
+-- What the commands rest on. No contract speaks of files themselves: these say that there are some bytes.
+use Rattle.std.specs.Prelude.{◌≡◌, ℕ, ◌*◌, ◌^◌, Bool, true, false, List, length, map}
+use Rattle.std.specs.List.{All}
+use Rattle.bt_meta.specs.Making.{IsMade, given_of}
+use Rattle.bt_meta.specs.Torrent.{Metainfo, IsTorrent, IsInfo}
+use Rattle.bt_meta.specs.declared.making.Made.{Made}
+use Rattle.btseed.specs.Digesting.{AreDigestsOf}
+
+-- a torrent that some text spells, as an info dictionary alone or as a whole
+pub record IsLoaded (is_info : Bool) (torrent : Metainfo) : Type 0 where
+  pub text : List ℕ
+  pub whole : is_info ≡ false → IsTorrent text torrent
+  pub info : is_info ≡ true → IsInfo text torrent
+
+-- what is told of a file, of which some bytes are the content
+pub record IsDigested (layer : ℕ) (file : Made) : Type 0 where
+  pub bytes : List ℕ
+  pub whole : length bytes ≡ file.length
+  pub are : AreDigestsOf bytes layer (record { root = file.root; layer = file.layer })
+
+-- the infohash of a torrent that was made of such files, by pieces of 2 ^ layer blocks
+pub record IsHashMade (name : List ℕ) (piece_length : ℕ) (infohash : List ℕ) : Type 0 where
+  pub layer : ℕ
+  pub pieces : piece_length ≡ 16384 * 2 ^ layer
+  pub files : List Made
+  pub digested : All (IsDigested layer) files
+  pub text : List ℕ
+  pub made : IsMade name piece_length (map given_of files) text
+  pub torrent : Metainfo
+  pub read : IsTorrent text torrent
+  pub hash : infohash ≡ torrent.infohash
