@@ -5,6 +5,8 @@ use Rattle.bt_meta.specs.Making.{IsMade, given_of}
 use Rattle.bt_meta.specs.Torrent.{Metainfo, IsTorrent, IsInfo}
 use Rattle.bt_meta.specs.declared.making.Made.{Made}
 use Rattle.btseed.specs.Digesting.{AreDigestsOf}
+use Rattle.btseed.specs.Telling.{TellsFiles}
+use Rattle.btseed.specs.declared.check.Report.{Report}
 
 -- a torrent that some text spells, as an info dictionary alone or as a whole
 pub record IsLoaded (is_info : Bool) (torrent : Metainfo) : Type 0 where
@@ -29,3 +31,9 @@ pub record IsHashMade (name : List ℕ) (piece_length : ℕ) (infohash : List �
   pub torrent : Metainfo
   pub read : IsTorrent text torrent
   pub hash : infohash ≡ torrent.infohash
+
+-- a report on the files of a torrent that some text spells
+pub record IsReport (is_info : Bool) (report : Report) : Type 0 where
+  pub torrent : Metainfo
+  pub loaded : IsLoaded is_info torrent
+  pub told : TellsFiles torrent.files report

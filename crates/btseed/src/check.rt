@@ -1,9 +1,10 @@
 //! The command `check`.
-ghost use Rattle.std.specs.Prelude.{◌≡◌, ◌↔◌, ◌⊎◌, List, map, IsTrue, IfOk, IfErr, IfSome};
-ghost use Rattle.bt_meta.specs.Files.{File, file_of};
+ghost use Rattle.std.specs.Prelude.{◌≡◌, ◌↔◌, ◌⊎◌, map, IsTrue, IfOk, IfErr, IfSome};
+ghost use Rattle.bt_meta.specs.Files.{file_of};
 ghost use Rattle.btseed.specs.Entries.{IsEntryFinding, IsEntryFindingAt, IsEntryFault, HasLayerOf};
 ghost use Rattle.btseed.specs.Statuses.{out_of_memory};
 ghost use Rattle.btseed.specs.Telling.{TellsFiles};
+ghost use Rattle.btseed.specs.Commands.{IsReport};
 
 use crate::command_line::Source;
 use crate::data_file::{BUFFER_LEN, Finding, check_empty, check_file};
@@ -27,7 +28,7 @@ pub struct Report {
 
 /// Checks the files of a folder against a torrent, in the order of the torrent. The first fault ends it.
 pub fn check<R: Files + AllocGlobal>(rt: &R, source: Source<'_>, dir: &str) -> Result<Report, Fault>
-    ensures { IfOk result (λ report. (files : List File) × TellsFiles files report) }
+    ensures { IfOk result (IsReport source.entry.is_info) }
 {
     let mut buffer = [0; BUFFER_LEN];
     let torrent = load(rt, source, &mut buffer)?;
