@@ -1,4 +1,4 @@
-use crate::{MetaError, Torrent, read_info, read_torrent};
+use crate::{MAX_TEXT_LENGTH, MetaError, Torrent, read_info, read_torrent};
 use bt_bencode::BencodeError;
 use sha2::{Digest, Sha256};
 use std::process::Abort;
@@ -297,6 +297,9 @@ fn bounds_paths_and_files(rt: HostRuntime) -> Result<(), Fail> {
     assert_eq!(rt; deepest.as_str(), "taken");
     let deeper = deep_refusal(&rt, 65)?;
     assert_eq!(rt; deeper.as_str(), "M14 TooMany");
+    // Here the entry of 65 elements is a folder.
+    let deep_folder = deep_refusal(&rt, 66)?;
+    assert_eq!(rt; deep_folder.as_str(), "M14 TooMany");
     Ok(())
 }
 
@@ -310,6 +313,21 @@ fn refuses_65537_files(rt: HostRuntime) -> Result<(), Fail> {
     tree.push_str("e")?;
     let answer = tree_refusal(&rt, &tree)?;
     assert_eq!(rt; answer.as_str(), "M14 TooMany");
+    Ok(())
+}
+
+/// A text that is too long is not read: these bytes would be refused by their bencoding.
+#[test]
+fn refuses_a_long_text(rt: HostRuntime) -> Result<(), Fail> {
+    let alloc = rt.alloc();
+    let bytes = vec![in alloc; b'x'; MAX_TEXT_LENGTH + 1]?;
+    let torrent = read_torrent(alloc, &bytes).err();
+    assert_eq!(rt; torrent, Some(MetaError::TooMany));
+    let info = read_info(alloc, &bytes).err();
+    assert_eq!(rt; info, Some(MetaError::TooMany));
+    let longest = read_torrent(alloc, &bytes[1..]).err();
+    let fault = MetaError::Bencode(BencodeError::BadByte(0));
+    assert_eq!(rt; longest, Some(fault));
     Ok(())
 }
 
