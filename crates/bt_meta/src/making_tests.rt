@@ -192,3 +192,23 @@ fn places_ranges_in_their_files(rt: HostRuntime) -> Result<(), Fail> {
     assert_eq!(rt; torrent.place(2, 0, 1), None);
     Ok(())
 }
+
+/// The names and codes that are printed.
+#[test]
+fn names_its_refusals(rt: HostRuntime) -> Result<(), Fail> {
+    let table = [
+        (MakeError::PieceLength, "N1 PieceLength"),
+        (MakeError::BadPath, "N2 BadPath"),
+        (MakeError::FileLength, "N3 FileLength"),
+        (MakeError::LayerSize, "N4 LayerSize"),
+        (MakeError::LayerDiffers, "N5 LayerDiffers"),
+        (MakeError::RootConflict, "N6 RootConflict"),
+        (MakeError::Count, "N7 Count"),
+        (MakeError::OutOfMemory, "N8 OutOfMemory"),
+    ];
+    for (error, wanted) in table {
+        let text = error.to_string(rt.alloc())?;
+        assert_eq!(rt; text.as_str(), wanted);
+    }
+    Ok(())
+}
