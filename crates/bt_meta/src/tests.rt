@@ -1,5 +1,5 @@
 use crate::{MAX_TEXT_LENGTH, MetaError, Torrent, read_info, read_torrent};
-use bt_bencode::BencodeError;
+use bt_bencode::{BencodeError, parse, write};
 use sha2::{Digest, Sha256};
 use std::process::Abort;
 use std::test::Fail;
@@ -45,6 +45,15 @@ fn reads_the_abc_torrent(rt: HostRuntime) -> Result<(), Fail> {
     assert_eq!(rt; file.root, ABC_ROOT);
     assert_eq!(rt; file.first_piece, 0);
     assert_eq!(rt; file.layer.len(), 0);
+    Ok(())
+}
+
+#[test]
+fn writes_the_abc_torrent_as_it_was_read(rt: HostRuntime) -> Result<(), Fail> {
+    let bytes = abc_torrent(&rt)?;
+    let doc = parse(rt.alloc(), &bytes)?;
+    let written = write(rt.alloc(), doc.value())?;
+    assert_eq!(rt; written.as_slice(), bytes.as_slice());
     Ok(())
 }
 
