@@ -10,3 +10,5 @@ pub mod Tellings
 pub mod ShownTexts
 pub mod Entries
 pub mod Askings
+pub mod Walks
+pub mod Unmade

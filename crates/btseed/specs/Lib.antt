@@ -10,3 +10,5 @@ pub mod Telling
 pub mod Counting
 pub mod Places
 pub mod Commands
+pub mod Walking
+pub mod Making

@@ -1,5 +1,5 @@
 //! The limits on a torrent's files, by what is known of them before they are read.
-ghost use Rattle.std.specs.Prelude.{◌≡◌, ◌+◌, ◌≤◌, ◌^◌, IfOk};
+ghost use Rattle.std.specs.Prelude.{◌≡◌, ◌+◌, ◌≤◌, ◌^◌, IfOk, OnOk};
 ghost use Rattle.std.specs.Result.{result_err};
 ghost use Rattle.bt_meta.specs.Files.{piece_count};
 ghost use Rattle.btseed.specs.Counting.{count_refusal};
@@ -32,6 +32,7 @@ impl Counts {
     /// refuses it once it has its digests: where it is too long, or a file, an element or a piece too much.
     pub fn with(self, elements: usize, length: u64, size: PieceSize) -> Result<Self, MakeError>
         ensures refused { result_err result ≡ count_refusal self.files self.pieces size.bytes elements length }
+        ensures short { OnOk result (length ≤ 2 ^ 40) }
         ensures files { IfOk result (λ counts. counts.files ≡ self.files + 1) }
         ensures pieces { IfOk result (λ counts. counts.pieces ≡ self.pieces + piece_count size.bytes length) }
     {

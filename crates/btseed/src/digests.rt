@@ -1,9 +1,11 @@
 //! The digests that a torrent says of a file, from one reading of its bytes.
-ghost use Rattle.std.specs.Prelude.{◌≡◌, ℕ, ◌+◌, ◌^◌, ◌*◌, ◌≤◌, List, [], length, IfOk, IfSome};
+ghost use Rattle.std.specs.Prelude.{◌≡◌, ℕ, ◌+◌, ◌^◌, ◌*◌, ◌≤◌, ◌⊎◌, List, [], length, IfOk, IfErr, IfSome};
 ghost use Rattle.bt_tree.specs.Blocks.{block_count};
 ghost use Rattle.bt_tree.specs.Tree.{node_digest};
 ghost use Rattle.bt_tree.specs.TreeShape.{height_of};
 ghost use Rattle.sha2.specs.Sha256.{sha256};
+ghost use Rattle.btseed.specs.Statuses.{device, out_of_memory};
+ghost use Rattle.btseed.specs.Making.{IsDigestFault};
 ghost use Rattle.btseed.specs.Digesting.{AreDigestsOf, GivesLayer, GivesFile, GivesAll, IsRow};
 
 use crate::data_file::{BUFFER_LEN, has_more, read_node};
@@ -35,6 +37,7 @@ pub fn digest_reader<R: Read>(
 
     // of the bytes that it gave, at every reader
     ensures given { IfOk result (GivesAll (R.remaining reader.old) (R.remaining reader.new) length size.layer) }
+    ensures fault { IfErr result (IsDigestFault length) }
 {
     let digests = match Geometry::new(length) {
         Some(geometry) => digest_file(alloc, reader, geometry, size, buffer)?,
@@ -65,7 +68,8 @@ fn digest_file<R: Read>(
     size: PieceSize,
     buffer: &mut [u8; BUFFER_LEN],
 ) -> Result<Digests, Fault>
-    ensures { IfOk result (GivesFile (R.remaining reader.old) (R.remaining reader.new) geometry size.layer) }
+    ensures given { IfOk result (GivesFile (R.remaining reader.old) (R.remaining reader.new) geometry size.layer) }
+    ensures fault { IfErr result (λ fault. (fault ≡ device) ⊎ (fault ≡ out_of_memory)) }
 {
     if geometry.length() <= size.bytes as u64 {
         let builder = RootBuilder::new(Plain, geometry);
@@ -91,7 +95,8 @@ fn read_layer<R: Read>(
     buffer: &mut [u8; BUFFER_LEN],
 ) -> Result<Vec<u8>, Fault>
     requires { size.layer ≤ height_of (block_count geometry) }
-    ensures { IfOk result (λ layer. GivesLayer (R.remaining reader.old) (R.remaining reader.new) geometry size.layer layer.items) }
+    ensures given { IfOk result (λ layer. GivesLayer (R.remaining reader.old) (R.remaining reader.new) geometry size.layer layer.items) }
+    ensures fault { IfErr result (λ fault. (fault ≡ device) ⊎ (fault ≡ out_of_memory)) }
 {
     let count = geometry.real(size.layer);
     let mut layer = Vec::new(alloc);

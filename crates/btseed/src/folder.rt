@@ -1,4 +1,8 @@
 //! The files of a folder and its subfolders.
+ghost use Rattle.std.specs.Prelude.{◌≡◌, ◌++◌, [], ◌∷◌, map, string_bytes, IfOk, OnOk, IfErr};
+ghost use Rattle.std.specs.List.{All};
+ghost use Rattle.btseed.specs.Walking.{HasElement, IsListingFault, PutsEntries};
+
 use crate::fault::Fault;
 use crate::paths::data_path;
 use bt_meta::MakeError;
@@ -22,7 +26,10 @@ struct Entry {
 pub fn files_in<R: Files + AllocGlobal + Clone + Drop>(
     rt: &R,
     dir: &str,
-) -> Result<Vec<Vec<String>>, Fault> {
+) -> Result<Vec<Vec<String>>, Fault>
+    ensures named { IfOk result (λ files. All (λ path. HasElement (map string_bytes path.items)) files.items) }
+    ensures fault { IfErr result IsListingFault }
+{
     let alloc = rt.alloc();
     let mut files = Vec::new(alloc);
     let mut waiting = Vec::new(alloc);
@@ -46,7 +53,10 @@ fn push_entries<R: Files + AllocGlobal + Clone + Drop>(
     dir: &str,
     folder: &[String],
     waiting: &mut Vec<Entry>,
-) -> Result<(), Fault> {
+) -> Result<(), Fault>
+    ensures put { OnOk result (PutsEntries (map string_bytes folder.now) waiting.old.items waiting.new.items) }
+    ensures fault { IfErr result IsListingFault }
+{
     let names = names_in(rt, dir, folder)?;
     for (name, is_folder) in names.into_iter().rev() {
         let path = path_with(rt.alloc(), folder, name)?;
@@ -60,7 +70,9 @@ fn names_in<R: Files + AllocGlobal + Clone + Drop>(
     rt: &R,
     dir: &str,
     folder: &[String],
-) -> Result<BTreeMap<String, bool>, Fault> {
+) -> Result<BTreeMap<String, bool>, Fault>
+    ensures { IfErr result IsListingFault }
+{
     let alloc = rt.alloc();
     let mut names = BTreeMap::new(alloc);
     for entry in fs::read_dir(rt, data_path(alloc, dir, folder)?).map_err(|e| listing_fault(&e))? {
@@ -75,7 +87,9 @@ fn names_in<R: Files + AllocGlobal + Clone + Drop>(
 }
 
 /// What an error in listing a folder is told as. A name that is not UTF-8 comes as one that is not valid.
-fn listing_fault(error: &io::Error) -> Fault {
+fn listing_fault(error: &io::Error) -> Fault
+    ensures { IsListingFault result }
+{
     match error.kind() {
         ErrorKind::InvalidFilename => Fault::Unmade(MakeError::BadPath),
         ErrorKind::OutOfMemory => Fault::OutOfMemory,
@@ -84,7 +98,9 @@ fn listing_fault(error: &io::Error) -> Fault {
 }
 
 /// The path of an entry of a folder.
-fn path_with(alloc: Global, folder: &[String], name: String) -> Result<Vec<String>, AllocError> {
+fn path_with(alloc: Global, folder: &[String], name: String) -> Result<Vec<String>, AllocError>
+    ensures { IfOk result (λ path. map string_bytes path.items ≡ map string_bytes folder.now ++ string_bytes name ∷ []) }
+{
     let mut path = Vec::new(alloc);
     for element in folder {
         path.push(element.clone()?)?;

@@ -1,9 +1,12 @@
 //! The command `make`.
-ghost use Rattle.std.specs.Prelude.{◌≡◌, IfOk, IsErrAnd};
+ghost use Rattle.std.specs.Prelude.{◌≡◌, ◌≤◌, ◌^◌, map, string_bytes, IfOk, IfErr, IsErrAnd};
+ghost use Rattle.std.specs.List.{All};
 ghost use Rattle.bt_tree.specs.TreeShape.{IsPieceLength};
 ghost use Rattle.bt_meta.specs.declared.making.MakeError.TheVariants.{PieceLength};
 ghost use Rattle.btseed.specs.Commands.{IsDigested, IsHashMade};
+ghost use Rattle.btseed.specs.Making.{IsDigestFault, IsFolderFault, IsMakeFault};
 ghost use Rattle.btseed.specs.Statuses.{unmade_of};
+ghost use Rattle.btseed.specs.Walking.{HasElement};
 
 use crate::command_line::Making;
 use crate::counts::Counts;
@@ -27,6 +30,7 @@ pub fn make<R: Files + AllocGlobal + Clone + Drop>(
 ) -> Result<Hash32, Fault>
     ensures hash { IfOk result (IsHashMade making.entry.name.now making.entry.piece_length) }
     ensures length { ¬ IsPieceLength making.entry.piece_length → IsErrAnd result (λ fault. fault ≡ unmade_of PieceLength) }
+    ensures fault { IfErr result (IsMakeFault making.entry.name.now making.entry.piece_length) }
 {
     let alloc = rt.alloc();
     let Some(size) = PieceSize::new(making.piece_length) else {
@@ -56,7 +60,11 @@ fn sized_files<R: Files + AllocGlobal + Clone + Drop>(
     rt: &R,
     dir: &str,
     size: PieceSize,
-) -> Result<Vec<SizedFile>, Fault> {
+) -> Result<Vec<SizedFile>, Fault>
+    ensures named { IfOk result (λ files. All (λ file. HasElement (map string_bytes file.path.items)) files.items) }
+    ensures short { IfOk result (λ files. All (λ file. file.length ≤ 2 ^ 40) files.items) }
+    ensures fault { IfErr result (IsFolderFault size.bytes) }
+{
     let alloc = rt.alloc();
     let mut counts = Counts::new();
     let mut files = Vec::new(alloc);
@@ -80,6 +88,7 @@ fn digested<R: Files + AllocGlobal>(
     ensures digests { IfOk result (IsDigested size.layer) }
     ensures path { IfOk result (λ made. made.path ≡ file.path) }
     ensures length { IfOk result (λ made. made.length ≡ file.length) }
+    ensures fault { IfErr result (IsDigestFault file.length) }
 {
     let alloc = rt.alloc();
     let SizedFile { path, length } = file;

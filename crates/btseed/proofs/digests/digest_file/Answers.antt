@@ -19,8 +19,8 @@ overflow_sub-above g c =
     let inside = layer_inside c.args.geometry c.args.size.layer (omega (arith, c.if-length-size.false, c.length.ensures.value, c.args.size.of_layer)) in
     rw c.height.ensures.value inside
 
-pub returns : goal.returns
-returns g c =
+pub returns-clause-given : goal.returns-clause-given
+returns-clause-given g c =
     long_file _ _ c.args.geometry c.args.size.layer c.args.size.bytes _ c.in_ok-layer.layer.items c.node_above-root.result _
     (omega (arith, c.if-length-size.false, c.length.ensures.value)) c.args.size.of_layer (ap (λ h. h - c.args.size.layer) c.height.ensures.value)
-    c.in_ok-layer.ensures (rw c.as_slice.ensures.value at c.node_above-root.ensures) refl refl
+    c.in_ok-layer.ensures.given (rw c.as_slice.ensures.value at c.node_above-root.ensures) refl refl

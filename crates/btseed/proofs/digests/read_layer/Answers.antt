@@ -16,6 +16,6 @@ loop-index-preserved g c =
     let piece = rw c.in-Some.is at c.in_ok-digest.ensures.node in
     layering_more _ _ _ _ _ _ _ size _ c.in-Some.digest _ real size_is c.loop-index.invariant piece c.in_ok-extend_from_slice.ensures.items
 
-pub returns : goal.returns
-returns g c =
+pub returns-clause-given : goal.returns-clause-given
+returns-clause-given g c =
     layering_done _ _ _ _ _ _ _ (omega (arith, c.loop-index-test.false, c.loop-index.auto.index-end, c.real-count.ensures.value)) c.loop-index.invariant
