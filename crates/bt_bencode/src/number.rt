@@ -1,5 +1,5 @@
 //! Numerals: runs of decimal digits, and the numbers that they write.
-ghost use Rattle.std.specs.Prelude.{◌≡◌, ◌^◌, ◌<◌, ◌≤◌, ◌↔◌, length, slice_index, slice_range, FitsSigned, IsTrue, IfOk, IfErr};
+ghost use Rattle.std.specs.Prelude.{◌≡◌, ◌≢◌, ◌^◌, ◌<◌, ◌≤◌, ◌↔◌, length, slice_index, slice_range, FitsSigned, IsTrue, IfOk, IfErr};
 ghost use Rattle.std.specs.Int.{w64};
 ghost use Rattle.std.specs.Option.{SomeIff};
 ghost use Rattle.std.specs.Char.{IsAsciiDigit};
@@ -7,6 +7,7 @@ ghost use Rattle.std.specs.Str.{IsAscii};
 ghost use Rattle.std.specs.Str.Parse.{AllDigits, IsNumeral, digits_value, without_leading_sign, signed_digits_value};
 ghost use Rattle.bt_bencode.specs.Fault.{AtFault, LeadsWithZero, NumeralStops};
 ghost use Rattle.bt_bencode.specs.Reading.{FaultFrom, IsNumeralAt};
+ghost use Rattle.bt_bencode.specs.declared.error.BencodeError.TheVariants.{OutOfMemory};
 
 use crate::error::BencodeError;
 use std::str;
@@ -47,6 +48,7 @@ pub(crate) fn numeral_end(
     requires { at ≤ length bytes.now }
     ensures found { IfOk result (IsNumeralAt negative stop bytes.now at) }
     ensures fault { IfErr result (AtFault (FaultFrom (NumeralStops negative stop) bytes.now at)) }
+    ensures memory { IfErr result (λ e. e ≢ OutOfMemory) }
 {
     if leads_with_zero(&bytes[at..], negative) {
         return Err(BencodeError::LeadingZero(at));
