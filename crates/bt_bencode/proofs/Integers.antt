@@ -6,7 +6,9 @@ use Rattle.std.specs.Str.{IsAscii}
 use Rattle.std.specs.Int.{from_bool, w64}
 use Rattle.std.specs.Option.{SomeIff}
 use Rattle.std.specs.Fmt.{decimal, signed_decimal}
-use Rattle.std.specs.Str.Parse.{AllDigits, IsNumeral, digits_value}
+use Rattle.std.specs.Str.Parse.{AllDigits, IsNumeral, digits_value, without_leading_sign, signed_digits_value}
+use Rattle.std.proofs.lemmas.Str.Parse.{parse_signed_digits, parse_signed_minus}
+use Rattle.std.specs.Prelude.{Result, Ok, Err}
 use Rattle.std.proofs.lemmas.List.{drop_more, get_or_append_left}
 use Rattle.std.proofs.lemmas.Fmt.{decimal_digit, IsAscii-from_digits}
 use Rattle.bt_bencode.specs.Data.{integer}
@@ -14,7 +16,7 @@ use Rattle.bt_bencode.specs.Spelling.{spelling_of}
 use Rattle.bt_bencode.specs.Fault.{Fault, LeadsWithZero, NumeralStops, Stops, int_range, in_integer, in_negative, too_large, too_small}
 use Rattle.bt_bencode.specs.Reading.{Spans, FaultFrom, IsNumeralAt, ReadsInteger}
 use Rattle.bt_bencode.proofs.Splits.{length-between, drop_first, in_range}
-use Rattle.bt_bencode.proofs.Numerals.{decimal_again, numeral_split}
+use Rattle.bt_bencode.proofs.Numerals.{digits_model, decimal_again, numeral_split}
 
 -- the integer's text behind `i`, written with its sign
 text_after_i : (bytes : List ℕ) (at : ℕ) → at < length bytes → get_or bytes at 0 ≡ 105 → drop at bytes ≡ 105 ∷ drop (at + 1) bytes
@@ -149,6 +151,20 @@ integer_is_ascii bytes at end true signed numeral =
 pub record Answers (text : List ℕ) (r : Option ℤ) : Type 0 where
   pub plain : IsNumeral 10 text → SomeIff r (digits_value 10 text < 2 ^ 63) (pos (digits_value 10 text))
   pub minus : slice_index text 0 ≡ 45 → IsNumeral 10 (drop 1 text) → SomeIff r (digits_value 10 (drop 1 text) ≤ 2 ^ 63) (neg_ℤ (pos (digits_value 10 (drop 1 text))))
+
+pub answers_of : (text : List ℕ) (r : Option ℤ) → SomeIff r (IsNumeral 10 (without_leading_sign text) × FitsSigned w64 (signed_digits_value 10 text)) (signed_digits_value 10 text) → Answers text r
+answers_of text None h =
+    let read : Result ℤ (Unit {0}) = Err (tt {0}) in
+    record {
+      plain = λ digits small. parse_signed_digits digits_model w64 text read h digits.1 (digits.0, small);
+      minus = λ sign digits small. parse_signed_minus digits_model w64 text read h sign (digits.1, digits.0, small);
+    }
+answers_of text (Some z) h =
+    let read : Result ℤ (Unit {0}) = Ok z in
+    record {
+      plain = λ digits. let said = parse_signed_digits digits_model w64 text read h digits.1 in (said.0.1, said.1);
+      minus = λ sign digits. let said = parse_signed_minus digits_model w64 text read h sign in (said.0.2, said.1);
+    }
 
 minus_answer : (bytes : List ℕ) (at end : ℕ) (r : Option ℤ) → at + 1 < length bytes → get_or bytes (at + 1) 0 ≡ 45 → IsNumeralAt true 101 bytes (at + 1 + 1) end → Answers (slice_range bytes (at + 1) end) r
     → SomeIff r (digits_value 10 (slice_range bytes (at + 1 + 1) end) ≤ 2 ^ 63) (neg_ℤ (pos (digits_value 10 (slice_range bytes (at + 1 + 1) end))))

@@ -1,11 +1,13 @@
 //! Numerals: runs of decimal digits, and the numbers that they write.
-ghost use Rattle.std.specs.Prelude.{◌≡◌, ◌^◌, ◌<◌, ◌≤◌, ◌↔◌, length, drop, slice_index, slice_range, pos, neg_ℤ, IsTrue, IfOk, IfErr};
+ghost use Rattle.std.specs.Prelude.{◌≡◌, ◌≢◌, ◌^◌, ◌<◌, ◌≤◌, ◌↔◌, length, slice_index, slice_range, FitsSigned, IsTrue, IfOk, IfErr};
+ghost use Rattle.std.specs.Int.{w64};
 ghost use Rattle.std.specs.Option.{SomeIff};
 ghost use Rattle.std.specs.Char.{IsAsciiDigit};
 ghost use Rattle.std.specs.Str.{IsAscii};
-ghost use Rattle.std.specs.Str.Parse.{AllDigits, IsNumeral, digits_value};
+ghost use Rattle.std.specs.Str.Parse.{AllDigits, IsNumeral, digits_value, without_leading_sign, signed_digits_value};
 ghost use Rattle.bt_bencode.specs.Fault.{AtFault, LeadsWithZero, NumeralStops};
 ghost use Rattle.bt_bencode.specs.Reading.{FaultFrom, IsNumeralAt};
+ghost use Rattle.bt_bencode.specs.declared.error.BencodeError.TheVariants.{OutOfMemory};
 
 use crate::error::BencodeError;
 use std::str;
@@ -37,10 +39,16 @@ fn leads_with_zero(text: &[u8], negative: bool) -> bool
 }
 
 /// Where the numeral that begins at `at` ends: the index of the byte `stop` behind its last digit.
-pub fn numeral_end(bytes: &[u8], at: usize, negative: bool, stop: u8) -> Result<usize, BencodeError>
+pub(crate) fn numeral_end(
+    bytes: &[u8],
+    at: usize,
+    negative: bool,
+    stop: u8,
+) -> Result<usize, BencodeError>
     requires { at ≤ length bytes.now }
     ensures found { IfOk result (IsNumeralAt negative stop bytes.now at) }
     ensures fault { IfErr result (AtFault (FaultFrom (NumeralStops negative stop) bytes.now at)) }
+    ensures memory { IfErr result (λ e. e ≢ OutOfMemory) }
 {
     if leads_with_zero(&bytes[at..], negative) {
         return Err(BencodeError::LeadingZero(at));
@@ -67,18 +75,17 @@ fn ascii_text(bytes: &[u8]) -> &str
 }
 
 /// The length that the digits write; None where it is more than any slice has.
-pub fn length_of(digits: &[u8]) -> Option<usize>
+pub(crate) fn length_of(digits: &[u8]) -> Option<usize>
     requires { IsNumeral 10 digits.now }
     ensures { SomeIff result (digits_value 10 digits.now < 2 ^ 64) (digits_value 10 digits.now) }
 {
     ascii_text(digits).parse().ok()
 }
 
-/// The integer that digits, perhaps behind a minus, write; None where it has more than 64 bits.
-pub fn integer_of(numeral: &[u8]) -> Option<i64>
-    requires ascii { IsAscii numeral.now }
-    ensures plain { IsNumeral 10 numeral.now → SomeIff result (digits_value 10 numeral.now < 2 ^ 63) (pos (digits_value 10 numeral.now)) }
-    ensures minus { slice_index numeral.now 0 ≡ 45 → IsNumeral 10 (drop 1 numeral.now) → SomeIff result (digits_value 10 (drop 1 numeral.now) ≤ 2 ^ 63) (neg_ℤ (pos (digits_value 10 (drop 1 numeral.now)))) }
+/// The integer that digits, perhaps behind a sign, write; None for any other text, and where it has more than 64 bits.
+pub(crate) fn integer_of(numeral: &[u8]) -> Option<i64>
+    requires { IsAscii numeral.now }
+    ensures { SomeIff result (IsNumeral 10 (without_leading_sign numeral.now) × FitsSigned w64 (signed_digits_value 10 numeral.now)) (signed_digits_value 10 numeral.now) }
 {
     ascii_text(numeral).parse().ok()
 }

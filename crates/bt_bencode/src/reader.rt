@@ -5,6 +5,7 @@ ghost use Rattle.bt_bencode.specs.Spelling.{spelling_of, IsCanonical};
 ghost use Rattle.bt_bencode.specs.Fault.{AtFault, EndsBefore, StringStops, Stops, IsFirstFault, IsProperSpelling, truncated, trailing};
 ghost use Rattle.bt_bencode.specs.View.{data_of, entries_of};
 ghost use Rattle.bt_bencode.specs.Reading.{FaultFrom, ReadsString, ReadsInteger, ReadsValue};
+ghost use Rattle.bt_bencode.specs.declared.error.BencodeError.TheVariants.{OutOfMemory};
 
 use crate::doc::Doc;
 use crate::error::BencodeError;
@@ -147,6 +148,7 @@ fn integer_at(bytes: &[u8], at: usize) -> Result<(i64, usize), BencodeError>
     requires first { slice_index bytes.now at ≡ 105 }
     ensures found { IfOk result (λ x. ReadsInteger bytes.now at x.1 x.0) }
     ensures fault { (n : ℕ) → IfErr result (AtFault (FaultFrom (Stops n) bytes.now at)) }
+    ensures memory { IfErr result (λ e. e ≢ OutOfMemory) }
 {
     let negative = stands_at(bytes, at + 1, b'-');
     let digits = at + 1 + usize::from(negative);

@@ -143,15 +143,15 @@ properties_stop piece_length path name properties p old e at f =
 
 pub conflict_stops : (piece_length : ℕ) (path : List (List ℕ)) (name : List ℕ) (properties : Data) (p : Place) (facts : FileFacts) (old : Walk) (e : MetaError) → IsFilePlace path name properties p
     → IsFileFacts properties facts → 0 < facts.length → IsConflict old.lengths facts.root facts.length e → Stops piece_length (p ∷ []) old e
-conflict_stops piece_length path name properties p facts old e at f some (inl m) = stops_for_memory piece_length (p ∷ []) old e m
+conflict_stops piece_length path name properties p facts old e at f some (inl m) = stops_for_memory piece_length (p ∷ []) old e m.0
 conflict_stops piece_length path name properties p facts old e at f some (inr c) =
     let long = length_is path name properties p facts at f in
     let root = root_is path name properties p facts at f in
     let more : 0 < length_of p = omega (arith, long, some) in
     stops_at piece_length p old e (λ before h.
-    let here : list_any (conflict p) before ≡ true = alike_here piece_length before p old facts.root facts.length true h root long c.0 in
+    let here : list_any (conflict p) before ≡ true = alike_here piece_length before p old facts.root facts.length true h root long c.1 in
     let both : has_conflict before p ≡ true = rw (positive (length_of p) more, here) refl in
-    bad_root piece_length before p at.node at.named at.file (checks_are path name properties p None at f.faultless) both ∙ ap Some (sym c.1))
+    bad_root piece_length before p at.node at.named at.file (checks_are path name properties p None at f.faultless) both ∙ ap Some (sym c.0))
 
 pub many_stop : (piece_length : ℕ) (path : List (List ℕ)) (name : List ℕ) (properties : Data) (p : Place) (facts : FileFacts) (old mid : Walk) (pieces : ℕ) → IsFilePlace path name properties p
     → IsFileFacts properties facts → IsNotedWalk facts old mid → pieces ≡ mid.pieces + div_ceil facts.length piece_length

@@ -54,8 +54,9 @@ pub record IsNoted (old new : Lengths) (root : List ℕ) (n : ℕ) : Type 0 wher
   pub alike : is_other (length_at old root) n ≡ false
   pub noted : (other : List ℕ) → length_at new other ≡ cond (is_eq (slice_cmp nat_cmp root other)) (Some n) (length_at old other)
 
+-- no length was noted, and want of memory is told; or another length was, and this is told
 abbrev pub IsConflict : Lengths → List ℕ → ℕ → MetaError → Type 0
-IsConflict lengths root n e = (e ≡ OutOfMemory) ⊎ ((is_other (length_at lengths root) n ≡ true) × (e ≡ RootConflict))
+IsConflict lengths root n e = ((e ≡ OutOfMemory) × (length_at lengths root ≡ None)) ⊎ ((e ≡ RootConflict) × (is_other (length_at lengths root) n ≡ true))
 
 -- a file that is not empty has this root and another length
 abbrev pub has_other : List Place → List ℕ → ℕ → Bool

@@ -38,7 +38,8 @@ pub(crate) fn file_facts(properties: &Value) -> Result<FileFacts, MetaError>
     Ok(FileFacts { length, root })
 }
 
-/// Notes the length of the files of a root; another length was noted where this is refused as a conflict.
+/// Notes the length of the files of a root. It is refused where another was noted; and where none was, for want of
+/// memory alone.
 pub(crate) fn note_length(
     lengths: &mut BTreeMap<Hash32, u64>,
     root: Hash32,

@@ -7,6 +7,7 @@ ghost use Rattle.bt_meta.specs.Places.{with_earlier};
 ghost use Rattle.bt_meta.specs.Faults.{first_of, is_piece_length as is_lawful_piece_length};
 ghost use Rattle.bt_meta.specs.Making.{Given, given_of, HasRoot, file_refusal, own_refusal, layer_refusal, is_path as is_lawful_path, is_element as is_lawful_element, HasLengths, HasTaken, IsWithin, Refuses, conflict_with, IsInTreeOrder, lent_of, path_order, is_before, begins as begins_path, IsMade};
 ghost use Rattle.bt_meta.specs.NotMade.{have_overlap, IsNotMade};
+ghost use Rattle.bt_meta.specs.Walks.{length_at};
 ghost use Rattle.bt_meta.specs.declared.making.MakeError.TheVariants.{OutOfMemory as out_of_memory, RootConflict as root_conflict};
 
 use crate::described::value_of;
@@ -207,7 +208,7 @@ fn check_root(lengths: &mut BTreeMap<Hash32, u64>, file: &Made) -> Result<(), Ma
     ensures rooted { HasRoot (given_of file.now) }
     ensures noted { OnOk result ((files : List Given) → HasLengths lengths.old files → HasLengths lengths.new (files ++ given_of file.now ∷ [])) }
     ensures alike { OnOk result ((files : List Given) → HasLengths lengths.old files → conflict_with files (given_of file.now) ≡ false) }
-    ensures refused { IfErr result (λ e. (files : List Given) → HasLengths lengths.old files → (e ≡ out_of_memory) ⊎ ((e ≡ root_conflict) × (conflict_with files (given_of file.now) ≡ true))) }
+    ensures refused { IfErr result (λ e. (files : List Given) → HasLengths lengths.old files → ((e ≡ out_of_memory) × (length_at lengths.old file.now.root ≡ None)) ⊎ ((e ≡ root_conflict) × (conflict_with files (given_of file.now) ≡ true))) }
 {
     let root = file.root;
     if file.length == 0 {
