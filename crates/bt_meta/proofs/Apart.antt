@@ -12,7 +12,9 @@ use Rattle.std.specs.declared.cmp.Ordering.TheVariants.{Less, Equal, Greater}
 use Rattle.std.proofs.lemmas.Bool.{cases_lt, true≢false}
 use Rattle.std.proofs.lemmas.List.{get_or-map, length-map}
 use Rattle.std.proofs.lemmas.Slice.Eq.{bytes_eq-Decides}
-use Rattle.bt_meta.specs.Making.{Given, given_of, lent_of, begins, path_order, IsInTreeOrder, IsParted, file_refusal, own_refusal, layer_refusal, conflict_with, is_beyond, is_path, is_element, AreNamed, refusal_of_files, Refuses}
+use Rattle.bt_meta.specs.GivenFiles.{Given, given_of, begins, path_order, IsInTreeOrder, IsParted}
+use Rattle.bt_meta.specs.FileRefusals.{file_refusal, own_refusal, layer_refusal, conflict_with, is_beyond, is_path, is_element, refusal_of_files}
+use Rattle.bt_meta.specs.MakingSteps.{lent_of, AreNamed, Refuses}
 use Rattle.bt_meta.specs.NotMade.{have_overlap, IsNotMade, no_memory, unlawful}
 use Rattle.bt_meta.specs.Faults.{first_of, fault_if, is_piece_length}
 use Rattle.std.proofs.lemmas.Bool.{cases_Bool}

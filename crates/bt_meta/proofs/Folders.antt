@@ -13,7 +13,8 @@ use Rattle.bt_bencode.specs.Data.{Data, dictionary, Entries, no_entries, entry}
 use Rattle.bt_bencode.specs.Field.{first_value_of}
 use Rattle.bt_bencode.specs.View.{data_of, entries_of}
 use Rattle.bt_bencode.specs.declared.value.Value.{Value}
-use Rattle.bt_meta.specs.Making.{with_entry, with_file, entries_in, entries_before, AreBefore, IsBehind, IsOpened}
+use Rattle.bt_meta.specs.Making.{with_entry, with_file, entries_in}
+use Rattle.bt_meta.specs.MakingSteps.{entries_before, AreBefore, IsBehind, IsOpened}
 
 pub entries_push : (es : List (Vec ℕ × Value)) (key : Vec ℕ) (v : Value) → entries_of (es ++ (key, v) ∷ []) ≡ entries_before (entries_of es) (entry key.items (data_of v) no_entries)
 entries_push [] key v = refl

@@ -14,7 +14,7 @@ use Rattle.bt_meta.specs.Places.{Place, places_below, places_among, with_earlier
 use Rattle.bt_meta.specs.Files.{is_file, length_of, root_of, pieces_of, piece_count}
 use Rattle.bt_meta.specs.Faults.{first_of, fault_if, conflict, is_too_many, entry_check, tree_checks}
 use Rattle.bt_meta.specs.declared.error.MetaError.TheVariants.{Tree}
-use Rattle.bt_meta.specs.Making.{Given}
+use Rattle.bt_meta.specs.GivenFiles.{Given}
 use Rattle.bt_meta.proofs.Checks.{skips, first_of-append}
 use Rattle.bt_meta.proofs.ElementTests.{has_conflict, file_counted, folder_counted}
 use Rattle.bt_meta.proofs.MadeGiven.{clash, AreAlike}

@@ -11,7 +11,8 @@ use Rattle.std.proofs.lemmas.List.Sorted.{All-permutation, length_permutation, s
 use Rattle.bt_meta.specs.Faults.{first_of, fault_if}
 use Rattle.bt_meta.specs.Places.{with_earlier}
 use Rattle.bt_meta.specs.Files.{piece_count}
-use Rattle.bt_meta.specs.Making.{Given, file_refusal, own_refusal, layer_refusal, conflict_with, is_beyond, is_path, IsInTreeOrder}
+use Rattle.bt_meta.specs.GivenFiles.{Given, IsInTreeOrder}
+use Rattle.bt_meta.specs.FileRefusals.{file_refusal, own_refusal, layer_refusal, conflict_with, is_beyond, is_path}
 use Rattle.bt_meta.specs.declared.making.MakeError.TheVariants.{BadPath, FileLength, RootConflict, Count}
 use Rattle.bt_meta.proofs.Roots.{same_bytes_either_way}
 use Rattle.bt_meta.proofs.Checks.{head_none, tail_none, not_faulty, holds_unless}

@@ -11,7 +11,9 @@ use Rattle.bt_meta.specs.Places.{Place, places_below, places_among}
 use Rattle.bt_meta.specs.Files.{is_file, properties_of}
 use Rattle.bt_meta.specs.Faults.{first_of, is_node, has_lawful_name, is_path_element}
 use Rattle.bt_meta.specs.Walks.{property_checks}
-use Rattle.bt_meta.specs.Making.{with_file, with_entry, entries_before, is_named, is_element, AreBefore, IsBehind, IsOpened}
+use Rattle.bt_meta.specs.FileRefusals.{is_element}
+use Rattle.bt_meta.specs.Making.{with_file, with_entry}
+use Rattle.bt_meta.specs.MakingSteps.{entries_before, is_named, AreBefore, IsBehind, IsOpened}
 use Rattle.bt_meta.proofs.FileAdding.{name_of}
 use Rattle.bt_meta.proofs.Folders.{opened_behind, opened_within, file_in}
 

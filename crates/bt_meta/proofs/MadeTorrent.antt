@@ -20,7 +20,10 @@ use Rattle.bt_meta.specs.Faults.{fault_if, first_of, is_piece_length, head_check
 use Rattle.bt_meta.specs.Torrent.{metainfo_of, IsTorrent}
 use Rattle.bt_meta.specs.declared.making.Made.{Made}
 use Rattle.bt_meta.specs.declared.making.MakeError.TheVariants.{LayerSize as layer_size, LayerDiffers as layer_differs}
-use Rattle.bt_meta.specs.Making.{Given, given_of, HasRoot, file_refusal, IsInTreeOrder, AreNamed, IsParted, layer_refusal, first_layer, AreLayersOf, tree_made, info_made, value_made, file_made, torrent_made}
+use Rattle.bt_meta.specs.GivenFiles.{Given, given_of, HasRoot, IsInTreeOrder, IsParted}
+use Rattle.bt_meta.specs.FileRefusals.{file_refusal, layer_refusal}
+use Rattle.bt_meta.specs.Making.{first_layer, AreLayersOf, tree_made, info_made, value_made, file_made, torrent_made}
+use Rattle.bt_meta.specs.MakingSteps.{AreNamed}
 use Rattle.bt_meta.proofs.Checks.{skips, first_of-append, head_none, tail_none, holds_unless}
 use Rattle.bt_meta.proofs.Apart.{ordered_named}
 use Rattle.bt_meta.proofs.MadeValues.{canonical_made}

@@ -13,7 +13,10 @@ use Rattle.bt_meta.specs.Places.{Place, places_among}
 use Rattle.bt_meta.specs.Files.{is_file, length_in, root_in, length_of, root_of}
 use Rattle.bt_meta.specs.Faults.{first_of, has_lawful_length, has_lawful_root}
 use Rattle.bt_meta.specs.Walks.{property_checks}
-use Rattle.bt_meta.specs.Making.{Given, HasRoot, is_path, is_element, AreNamed, IsBehind, IsParted, with_file, properties_made, tree_made}
+use Rattle.bt_meta.specs.GivenFiles.{Given, HasRoot, IsParted}
+use Rattle.bt_meta.specs.FileRefusals.{is_path, is_element}
+use Rattle.bt_meta.specs.Making.{with_file, properties_made, tree_made}
+use Rattle.bt_meta.specs.MakingSteps.{AreNamed, IsBehind}
 use Rattle.bt_meta.proofs.Parted.{IsGrown, grown_begun, grown_more, made_more}
 use Rattle.bt_meta.proofs.MadeGiven.{IsLawful}
 use Rattle.bt_meta.proofs.MadePlaces.{IsGood, IsPut, put_in, second, properties_there}

@@ -18,7 +18,9 @@ use Rattle.bt_bencode.specs.Data.{Data, integer, string, dictionary, Entries, no
 use Rattle.bt_bencode.specs.Field.{first_value_of}
 use Rattle.bt_bencode.specs.Spelling.{nesting_of, entries_nesting, IsBefore, first_key_of, HasAscendingKeys, EntriesAscend, HasSmallIntegers, EntriesHaveSmallIntegers, IsCanonicalWithin, IsCanonical}
 use Rattle.bt_meta.specs.Faults.{is_piece_length}
-use Rattle.bt_meta.specs.Making.{Given, with_file, entries_before, AreNamed, AreBefore, IsBehind, properties_made, tree_made, IsParted, first_layer, AreLayersOf, info_made, value_made}
+use Rattle.bt_meta.specs.GivenFiles.{Given, IsParted}
+use Rattle.bt_meta.specs.Making.{with_file, properties_made, tree_made, first_layer, AreLayersOf, info_made, value_made}
+use Rattle.bt_meta.specs.MakingSteps.{entries_before, AreNamed, AreBefore, IsBehind}
 use Rattle.bt_meta.proofs.Folders.{behind_none, opened_behind, opened_within, file_in, file_alone}
 use Rattle.bt_meta.proofs.Parted.{IsGrown, grown_begun, grown_more}
 

@@ -11,7 +11,8 @@ use Rattle.std.specs.List.Sorted.{IsPermutation, IsSortedBy}
 use Rattle.std.proofs.lemmas.List.{get_or-map, length-map}
 use Rattle.std.proofs.lemmas.List.Sorted.{IsPermutation-map}
 use Rattle.std.proofs.lemmas.List.MinMax.{ranks_by}
-use Rattle.bt_meta.specs.Making.{Given, lent_of, path_order, is_before, IsInTreeOrder}
+use Rattle.bt_meta.specs.GivenFiles.{Given, path_order, is_before, IsInTreeOrder}
+use Rattle.bt_meta.specs.MakingSteps.{lent_of}
 use Rattle.bt_meta.specs.declared.making.Made.{Made}
 
 pub order_by_bytes : (path other : List (String Global)) → slice_cmp string_cmp path other ≡ path_order (map string_bytes path) (map string_bytes other)

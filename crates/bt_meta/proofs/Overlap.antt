@@ -17,7 +17,8 @@ use Rattle.std.proofs.lemmas.List.MinMax.{ranks_by}
 use Rattle.std.proofs.lemmas.List.Sorted.{IsPermutation-sym, sorted_far}
 use Rattle.std.proofs.lemmas.Map.Keys.{IsDistinct-IsPermutation}
 use Rattle.std.proofs.lemmas.Slice.Eq.{bytes_eq-Decides}
-use Rattle.bt_meta.specs.Making.{Given, lent_of, path_order, begins, is_before}
+use Rattle.bt_meta.specs.GivenFiles.{Given, path_order, begins, is_before}
+use Rattle.bt_meta.specs.MakingSteps.{lent_of}
 use Rattle.bt_meta.specs.NotMade.{exclude, have_overlap}
 use Rattle.bt_meta.specs.declared.making.Made.{Made}
 use Rattle.bt_meta.proofs.Parted.{same_bytes}

@@ -9,7 +9,9 @@ use Rattle.std.proofs.lemmas.Bool.{true≢false}
 use Rattle.std.proofs.lemmas.Map.Text.{is_eq-slice_cmp}
 use Rattle.std.proofs.lemmas.Slice.Eq.{bytes_eq-Decides}
 use Rattle.bt_bencode.specs.Data.{Data, dictionary, Entries, no_entries, entry}
-use Rattle.bt_meta.specs.Making.{with_file, path_order, begins, entries_before, is_named, AreNamed, AreBefore, IsBehind, IsOpened, Given, properties_made, tree_made, IsParted, lent_of}
+use Rattle.bt_meta.specs.GivenFiles.{path_order, begins, Given, IsParted}
+use Rattle.bt_meta.specs.Making.{with_file, properties_made, tree_made}
+use Rattle.bt_meta.specs.MakingSteps.{entries_before, is_named, AreNamed, AreBefore, IsBehind, IsOpened, lent_of}
 use Rattle.std.specs.Borrow.{Bor}
 use Rattle.bt_meta.specs.declared.making.Made.{Made}
 use Rattle.bt_meta.proofs.Folders.{behind_none, opened_behind, opened_within, file_in}

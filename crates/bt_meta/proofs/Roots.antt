@@ -16,7 +16,9 @@ use Rattle.std.proofs.lemmas.Slice.Eq.{bytes_eq-Decides}
 use Rattle.bt_bencode.specs.Data.{Data, string, Entries, no_entries, entry}
 use Rattle.bt_bencode.specs.Field.{first_value_of}
 use Rattle.bt_bencode.specs.Spelling.{EntriesAscend, HasAscendingKeys}
-use Rattle.bt_meta.specs.Making.{Given, first_layer, HasFirstLayers, AreLayersOf, entries_before}
+use Rattle.bt_meta.specs.GivenFiles.{Given}
+use Rattle.bt_meta.specs.Making.{first_layer, AreLayersOf}
+use Rattle.bt_meta.specs.MakingSteps.{HasFirstLayers, entries_before}
 
 -- ---- the map as entries
 

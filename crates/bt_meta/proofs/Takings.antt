@@ -16,7 +16,9 @@ use Rattle.bt_meta.specs.Walks.{Lengths, length_at, is_other, IsNoted}
 use Rattle.std.specs.Prelude.{take, drop, get_or}
 use Rattle.std.proofs.lemmas.List.{take_all, take-append-drop, map_more, drop_more}
 use Rattle.bt_meta.specs.Places.{with_earlier}
-use Rattle.bt_meta.specs.Making.{Given, given_of, HasRoot, Check, file_refusal, is_element, is_path, has_conflict, HasTaken, IsWithin, Refuses}
+use Rattle.bt_meta.specs.GivenFiles.{Given, given_of, HasRoot}
+use Rattle.bt_meta.specs.FileRefusals.{Check, file_refusal, is_element, is_path, has_conflict}
+use Rattle.bt_meta.specs.MakingSteps.{HasTaken, IsWithin, Refuses}
 use Rattle.bt_meta.specs.declared.making.Made.{Made}
 use Rattle.bt_meta.specs.declared.making.MakeError.{MakeError}
 use Rattle.bt_meta.specs.declared.making.Tally.{Tally}

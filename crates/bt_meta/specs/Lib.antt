@@ -9,6 +9,9 @@ pub mod Refusals
 pub mod Reading
 pub mod Place
 pub mod Walks
+pub mod GivenFiles
+pub mod FileRefusals
 pub mod Making
+pub mod MakingSteps
 pub mod ReadBack
 pub mod NotMade

@@ -3,7 +3,9 @@ use Rattle.std.specs.Prelude.{◌≡◌, ℕ, ◌^◌, ◌<◌, Bool, true, fals
 use Rattle.std.specs.List.{list_any}
 use Rattle.bt_bencode.specs.Data.{Entries}
 use Rattle.bt_bencode.specs.Spelling.{spelling_of}
-use Rattle.bt_meta.specs.Making.{Given, begins, refusal_of_files, IsInTreeOrder, AreLayersOf, value_made}
+use Rattle.bt_meta.specs.GivenFiles.{Given, begins, IsInTreeOrder}
+use Rattle.bt_meta.specs.FileRefusals.{refusal_of_files}
+use Rattle.bt_meta.specs.Making.{AreLayersOf, value_made}
 use Rattle.bt_meta.specs.declared.making.MakeError.{MakeError}
 use Rattle.bt_meta.specs.declared.making.MakeError.TheVariants.{BadPath, Count, OutOfMemory}
 

@@ -9,7 +9,9 @@ ghost use Rattle.bt_bencode.specs.Field.{first_value_of};
 ghost use Rattle.bt_bencode.specs.Spelling.{EntriesAscend};
 ghost use Rattle.bt_bencode.specs.Data.{Entries, string, dictionary, no_entries, entry};
 ghost use Rattle.bt_bencode.specs.View.{data_of, entries_of};
-ghost use Rattle.bt_meta.specs.Making.{Given, given_of, AreLayersOf, HasFirstLayers, AreNamed, lent_of, entries_before, with_file, properties_made, tree_made, info_made, IsBehind, IsOpened, IsParted, AreLentShort, IsValueOf};
+ghost use Rattle.bt_meta.specs.GivenFiles.{Given, given_of, IsParted};
+ghost use Rattle.bt_meta.specs.Making.{AreLayersOf, with_file, properties_made, tree_made, info_made};
+ghost use Rattle.bt_meta.specs.MakingSteps.{HasFirstLayers, AreNamed, lent_of, entries_before, IsBehind, IsOpened, AreLentShort, IsValueOf};
 
 use crate::making::Made;
 use bt_bencode::Value;

@@ -2,7 +2,7 @@
 use Rattle.std.proofs.Common.{◌≡◌, ℕ, inl, inr, List, map, refl, sym, subst}
 use Rattle.std.specs.List.{All}
 use Rattle.bt_meta.specs.Faults.{first_fault}
-use Rattle.bt_meta.specs.Making.{given_of}
+use Rattle.bt_meta.specs.GivenFiles.{given_of}
 use Rattle.bt_meta.specs.NotMade.{IsNotMade}
 use Rattle.bt_meta.specs.Refusals.{IsRefused}
 use Rattle.bt_meta.specs.Torrent.{Metainfo, IsTorrent}

@@ -1,7 +1,8 @@
 -- What the commands rest on. No contract speaks of files themselves: these say that there are some bytes.
 use Rattle.std.specs.Prelude.{◌≡◌, ℕ, ◌*◌, ◌^◌, Bool, true, false, List, length, map}
 use Rattle.std.specs.List.{All}
-use Rattle.bt_meta.specs.Making.{IsMade, given_of}
+use Rattle.bt_meta.specs.GivenFiles.{given_of}
+use Rattle.bt_meta.specs.Making.{IsMade}
 use Rattle.bt_meta.specs.Torrent.{Metainfo, IsTorrent, IsInfo}
 use Rattle.bt_meta.specs.declared.making.Made.{Made}
 use Rattle.btseed.specs.Digesting.{AreDigestsOf}

@@ -2,7 +2,7 @@
 use Rattle.std.specs.Prelude.{◌≡◌, ℕ, ◌^◌, ◌<◌, ◌⊎◌, List, Some, map}
 use Rattle.std.specs.List.{All}
 use Rattle.bt_tree.specs.TreeShape.{IsPieceLength}
-use Rattle.bt_meta.specs.Making.{given_of}
+use Rattle.bt_meta.specs.GivenFiles.{given_of}
 use Rattle.bt_meta.specs.NotMade.{IsNotMade}
 use Rattle.bt_meta.specs.declared.making.Made.{Made}
 use Rattle.bt_meta.specs.declared.making.MakeError.{MakeError}

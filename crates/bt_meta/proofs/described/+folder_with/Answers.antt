@@ -5,7 +5,8 @@ use Rattle.bt_bencode.specs.Data.{dictionary, no_entries, entry}
 use Rattle.bt_bencode.specs.View.{data_of, entries_of}
 use Rattle.bt_bencode.specs.declared.value.Value.TheViews as views
 use Rattle.bt_bencode.proofs.Views.{data_of-Dict}
-use Rattle.bt_meta.specs.Making.{with_file, entries_before, IsBehind}
+use Rattle.bt_meta.specs.Making.{with_file}
+use Rattle.bt_meta.specs.MakingSteps.{entries_before, IsBehind}
 use Rattle.bt_meta.proofs.Folders.{file_in, file_alone, no_path}
 use Rattle.bt_meta.proofs.described.+folder_with.Goals as goal
 

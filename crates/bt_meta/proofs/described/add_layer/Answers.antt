@@ -1,6 +1,6 @@
 use Rattle.std.proofs.Common.{arith, sym}
 use Rattle.std.proofs.lemmas.Bool.Decides.{nat_tests}
-use Rattle.bt_meta.specs.Making.{given_of}
+use Rattle.bt_meta.specs.GivenFiles.{given_of}
 use Rattle.bt_meta.proofs.Roots.{layers_of_short, layers_of_known, layers_of_new}
 use Rattle.bt_meta.proofs.described.add_layer.Goals.{then-file-piece_length-via-then-file-piece_length, then-file-piece_length-via-else-file-piece_length+then-contains_key}
 use Rattle.bt_meta.proofs.described.add_layer.Goals as goal

@@ -3,7 +3,7 @@ use Rattle.bt_bencode.specs.Data.{string, no_entries, entry}
 use Rattle.bt_bencode.specs.Field.{first_value_of}
 use Rattle.bt_bencode.specs.View.{entries_of}
 use Rattle.bt_bencode.proofs.Views.{data_of-Bytes}
-use Rattle.bt_meta.specs.Making.{entries_before}
+use Rattle.bt_meta.specs.MakingSteps.{entries_before}
 use Rattle.bt_meta.proofs.Roots.{layer_list, list_more, list_found, list_ascends, list_finds}
 use Rattle.bt_meta.proofs.described.layer_entries.Goals as goal
 

@@ -1,6 +1,6 @@
 use Rattle.std.proofs.Common.{◌≡◌}
 use Rattle.bt_bencode.specs.View.{entries_of}
-use Rattle.bt_meta.specs.Making.{entries_before}
+use Rattle.bt_meta.specs.MakingSteps.{entries_before}
 use Rattle.bt_meta.proofs.Roots.{layer_list}
 use Rattle.bt_meta.proofs.described.layer_entries.Given as goal
 

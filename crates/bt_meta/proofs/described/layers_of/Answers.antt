@@ -2,7 +2,7 @@ use Rattle.std.proofs.Common.{map, ap}
 use Rattle.std.specs.Prelude.{take}
 use Rattle.std.proofs.lemmas.List.{take_all}
 use Rattle.bt_bencode.specs.View.{entries_of}
-use Rattle.bt_meta.specs.Making.{lent_of}
+use Rattle.bt_meta.specs.MakingSteps.{lent_of}
 use Rattle.bt_meta.proofs.Roots.{layers_made, both}
 use Rattle.bt_meta.proofs.described.layers_of.Goals as goal
 

@@ -5,7 +5,7 @@ use Rattle.std.proofs.lemmas.Bool.{false≢true}
 use Rattle.bt_bencode.specs.Data.{no_entries, entry}
 use Rattle.bt_bencode.specs.declared.value.Value.TheViews as views
 use Rattle.bt_bencode.proofs.Views.{data_of-Dict}
-use Rattle.bt_meta.specs.Making.{entries_before}
+use Rattle.bt_meta.specs.MakingSteps.{entries_before}
 use Rattle.bt_meta.proofs.Folders.{entries_push, opened_nothing, opened_folder, opened_other}
 use Rattle.bt_meta.proofs.described.open_last.Goals as goal
 

@@ -1,7 +1,8 @@
 use Rattle.std.proofs.Common.{arith, map, length, ◌∙◌, ◌≡◌, ◌<◌, refl}
 use Rattle.std.proofs.lemmas.List.{length-map}
 use Rattle.bt_bencode.specs.View.{entries_of}
-use Rattle.bt_meta.specs.Making.{lent_of, with_file, properties_made}
+use Rattle.bt_meta.specs.Making.{with_file, properties_made}
+use Rattle.bt_meta.specs.MakingSteps.{lent_of}
 use Rattle.bt_meta.proofs.Parted.{grown_begun, grown_more, grown_found, lent_at, behind_here}
 use Rattle.bt_meta.proofs.described.tree_of.Goals as goal
 

@@ -1,6 +1,6 @@
 use Rattle.std.proofs.Common.{map}
 use Rattle.bt_bencode.specs.View.{entries_of}
-use Rattle.bt_meta.specs.Making.{lent_of}
+use Rattle.bt_meta.specs.MakingSteps.{lent_of}
 use Rattle.bt_meta.proofs.Parted.{IsGrown}
 use Rattle.bt_meta.proofs.described.tree_of.Given as goal
 

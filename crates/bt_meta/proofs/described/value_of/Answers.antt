@@ -4,7 +4,8 @@ use Rattle.bt_bencode.specs.Data.{dictionary, no_entries, entry}
 use Rattle.bt_bencode.specs.View.{data_of, entries_of}
 use Rattle.bt_bencode.specs.declared.value.Value.TheViews as views
 use Rattle.bt_bencode.proofs.Views.{data_of-Dict}
-use Rattle.bt_meta.specs.Making.{lent_of, entries_before, info_made}
+use Rattle.bt_meta.specs.Making.{info_made}
+use Rattle.bt_meta.specs.MakingSteps.{lent_of, entries_before}
 use Rattle.bt_meta.proofs.described.value_of.Goals as goal
 
 pub returns : goal.returns

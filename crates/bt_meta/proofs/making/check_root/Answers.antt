@@ -1,6 +1,6 @@
 use Rattle.std.proofs.Common.{arith}
 use Rattle.std.proofs.lemmas.Bool.Decides.{nat_tests}
-use Rattle.bt_meta.specs.Making.{given_of}
+use Rattle.bt_meta.specs.GivenFiles.{given_of}
 use Rattle.bt_meta.proofs.Takings.{lengths_noted}
 use Rattle.bt_meta.proofs.making.check_root.Goals as goal
 

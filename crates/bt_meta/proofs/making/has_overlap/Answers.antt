@@ -1,5 +1,5 @@
 use Rattle.std.proofs.Common.{arith, sym, ◌∙◌, refl, map}
-use Rattle.bt_meta.specs.Making.{lent_of}
+use Rattle.bt_meta.specs.MakingSteps.{lent_of}
 use Rattle.bt_meta.proofs.Apart.{apart_begun, apart_more, apart_found}
 use Rattle.bt_meta.proofs.Overlap.{overlap_found, none_overlap}
 use Rattle.bt_meta.proofs.making.has_overlap.Goals as goal

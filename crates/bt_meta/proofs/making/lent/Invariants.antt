@@ -1,6 +1,7 @@
 use Rattle.std.proofs.Common.{◌≡◌, map}
 use Rattle.std.specs.Prelude.{take}
-use Rattle.bt_meta.specs.Making.{given_of, lent_of}
+use Rattle.bt_meta.specs.GivenFiles.{given_of}
+use Rattle.bt_meta.specs.MakingSteps.{lent_of}
 use Rattle.bt_meta.proofs.making.lent.Given as goal
 
 abbrev pub invariant-loop-file : goal.invariant-loop-file

@@ -1,7 +1,9 @@
 use Rattle.std.proofs.Common.{◌≡◌, ◌≤◌, ◌^◌, length, arith, ap, ◌∙◌, sym, map}
 use Rattle.std.proofs.lemmas.Result.{err_from_is_err_and}
 use Rattle.bt_bencode.specs.Spelling.{spelling_of}
-use Rattle.bt_meta.specs.Making.{given_of, lent_of, value_made, AreLayersOf}
+use Rattle.bt_meta.specs.GivenFiles.{given_of}
+use Rattle.bt_meta.specs.Making.{value_made, AreLayersOf}
+use Rattle.bt_meta.specs.MakingSteps.{lent_of}
 use Rattle.bt_meta.specs.NotMade.{no_memory, unlawful, overlap, too_long}
 use Rattle.bt_meta.specs.declared.making.MakeError.TheVariants.{PieceLength, Count}
 use Rattle.bt_meta.proofs.Overlap.{same_overlap}
