@@ -10,3 +10,4 @@ pub mod Tellings
 pub mod ShownTexts
 pub mod Entries
 pub mod Askings
+pub mod Runs

@@ -10,3 +10,4 @@ pub mod Telling
 pub mod Counting
 pub mod Places
 pub mod Commands
+pub mod Running
