@@ -11,3 +11,4 @@ pub mod ShownTexts
 pub mod Entries
 pub mod Askings
 pub mod Runs
+pub mod Lawful

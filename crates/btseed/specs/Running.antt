@@ -1,5 +1,5 @@
 -- What the program does with its words: the status that it answers, and the text that it writes.
-use Rattle.std.specs.Prelude.{◌≡◌, ℕ, ◌++◌, ◌⊎◌, ⊤, Bool, List, Option, Result, Ok, Err, codes, string_bytes, if◌then◌else◌}
+use Rattle.std.specs.Prelude.{◌≡◌, ℕ, ◌++◌, ◌⊎◌, List, Option, Result, Ok, Err, codes, string_bytes, if◌then◌else◌}
 use Rattle.std.specs.Io.KnownBytes.{Appends, Keeps}
 use Rattle.clap.specs.Words.{Text}
 use Rattle.clap.specs.declared.error.kind.ErrorKind.{ErrorKind}
@@ -42,6 +42,7 @@ pub record IsCheckDone (source : Source) (status : ℕ) (text : List ℕ) : Type
   pub lines : text ≡ string_bytes report.lines
   pub answer : status ≡ (if report.complete then 0 else 1)
 
+-- a task was done, with this status and this text
 abbrev pub IsDone : Task → ℕ → List ℕ → Type 0
 IsDone (Make making) status text = IsMakeDone making status text
 IsDone (Show torrent) status text = IsShowDone torrent status text
@@ -55,11 +56,11 @@ pub record Writes (wanted : ℕ → List ℕ → Type 0) (old new : Option (List
 
 -- ---- what is not done
 
--- a fault that can end a task: a piece length that is none ends `make`
+-- a fault that can end a task: `make` ends by no other where the piece length is none, and the others as the reading of a torrent can
 abbrev pub IsFaultOf : Task → Fault → Type 0
 IsFaultOf (Make making) fault = ¬ IsPieceLength making.piece_length → fault ≡ unmade_of PieceLength
 IsFaultOf (Show torrent) fault = IsLoadFault torrent.is_info fault
-IsFaultOf (Check torrent dir) fault = ⊤
+IsFaultOf (Check torrent dir) fault = IsLoadFault torrent.is_info fault
 
 -- a fault ended a task; where it is a refusal, nothing was written
 pub record IsEnded (task : Task) (old new : Option (List ℕ)) (fault : Fault) : Type 0 where

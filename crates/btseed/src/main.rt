@@ -1,5 +1,6 @@
 //! The program `btseed`, a seed store for the files of a BitTorrent v2 torrent (BEP 52).
 #![tactic(auto)]
+
 ghost use Rattle.std.specs.Prelude.{◌≡◌, ◌⊎◌, IfErr};
 ghost use Rattle.btseed.specs.Statuses.{no_text, out_of_memory};
 

@@ -32,10 +32,10 @@ pub fn run<R: Files + AllocGlobal + Clone + Drop, I: Read, O: Write, E: Write>(
 ) -> u8
     ensures answer { IsRun (map string_bytes words.now) (O.contents writer.old) (O.contents writer.new) result }
 
-    // a refusal is told elsewhere
+    // where the words or the torrent are refused, nothing is written
     ensures refused { result ≡ 2 → Keeps (O.contents writer.old) (O.contents writer.new) }
 
-    // and no fault is told where there is none
+    // where there is an answer, no fault is told
     ensures faultless { result ≤ 1 → Keeps (E.contents faults.old) (E.contents faults.new) }
 {
     match attempt(rt, words, writer, faults) {
