@@ -30,3 +30,4 @@ pub mod MadeTorrent
 pub mod ReadBack
 pub mod Overlap
 pub mod Ascending
+pub mod Lawful

@@ -12,3 +12,5 @@ pub mod Entries
 pub mod Askings
 pub mod Walks
 pub mod Unmade
+pub mod Runs
+pub mod Lawful

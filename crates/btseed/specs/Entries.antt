@@ -1,5 +1,6 @@
 -- What a check finds of a reader's bytes, against a file of a torrent.
 use Rattle.std.specs.Prelude.{◌≡◌, ◌≢◌, ℕ, ◌+◌, ◌/◌, ◌^◌, ◌<◌, ◌≤◌, ◌⊎◌, List, [], Option, length}
+use Rattle.std.specs.List.{Contains}
 use Rattle.std.specs.Simd.{first_chunks}
 use Rattle.bt_tree.specs.Blocks.{block_count}
 use Rattle.bt_tree.specs.TreeShape.{height_of, real_width}
@@ -40,3 +41,9 @@ IsEntryFault layer file fault =
     (fault ≡ device)
     ⊎ ((fault ≡ Refused FileLength) × (2 ^ 40 < file.length))
     ⊎ ((fault ≡ Refused LayerSize) × (file.layer ≢ []) × ¬ HasLayerOf layer file.length (digests_in file.layer))
+
+-- one of the files has the fault
+pub record IsFaultAmong (layer : ℕ) (files : List File) (fault : Fault) : Type 0 where
+  pub file : File
+  pub among : Contains files file
+  pub cause : IsEntryFault layer file fault

@@ -12,3 +12,4 @@ pub mod Places
 pub mod Commands
 pub mod Walking
 pub mod Making
+pub mod Running

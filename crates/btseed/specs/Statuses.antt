@@ -15,6 +15,10 @@ status_of (Unmade refusal) = 2
 status_of Device = 3
 status_of OutOfMemory = 4
 
+-- a word that is no text
+abbrev pub no_text : Fault
+no_text = Words
+
 abbrev pub device : Fault
 device = Device
 

@@ -1,10 +1,10 @@
 //! The command `check`.
 ghost use Rattle.std.specs.Prelude.{◌≡◌, ◌↔◌, ◌⊎◌, map, IsTrue, IfOk, IfErr, IfSome};
 ghost use Rattle.bt_meta.specs.Files.{file_of};
-ghost use Rattle.btseed.specs.Entries.{IsEntryFinding, IsEntryFindingAt, IsEntryFault, HasLayerOf};
+ghost use Rattle.btseed.specs.Entries.{IsEntryFinding, IsEntryFindingAt, IsEntryFault, IsFaultAmong, HasLayerOf};
 ghost use Rattle.btseed.specs.Statuses.{out_of_memory};
 ghost use Rattle.btseed.specs.Telling.{TellsFiles};
-ghost use Rattle.btseed.specs.Commands.{IsReport};
+ghost use Rattle.btseed.specs.Commands.{IsLoadFault, IsReport};
 
 use crate::command_line::Source;
 use crate::data_file::{BUFFER_LEN, Finding, check_empty, check_file};
@@ -28,7 +28,8 @@ pub struct Report {
 
 /// Checks the files of a folder against a torrent, in the order of the torrent. The first fault ends it.
 pub fn check<R: Files + AllocGlobal>(rt: &R, source: Source<'_>, dir: &str) -> Result<Report, Fault>
-    ensures { IfOk result (IsReport source.entry.is_info) }
+    ensures report { IfOk result (IsReport source.entry.is_info) }
+    ensures fault { IfErr result (IsLoadFault source.entry.is_info) }
 {
     let mut buffer = [0; BUFFER_LEN];
     let torrent = load(rt, source, &mut buffer)?;
@@ -44,7 +45,8 @@ fn check_files<R: Files + AllocGlobal>(
     size: PieceSize,
     buffer: &mut [u8; BUFFER_LEN],
 ) -> Result<Report, Fault>
-    ensures { IfOk result (TellsFiles (map file_of entries.now)) }
+    ensures report { IfOk result (TellsFiles (map file_of entries.now)) }
+    ensures fault { IfErr result (λ fault. (fault ≡ out_of_memory) ⊎ IsFaultAmong size.layer (map file_of entries.now) fault) }
 {
     let alloc = rt.alloc();
     let mut lines = String::new(alloc);

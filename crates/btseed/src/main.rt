@@ -1,6 +1,9 @@
 //! The program `btseed`, a seed store for the files of a BitTorrent v2 torrent (BEP 52).
 #![tactic(auto)]
 
+ghost use Rattle.std.specs.Prelude.{◌≡◌, ◌⊎◌, IfErr};
+ghost use Rattle.btseed.specs.Statuses.{no_text, out_of_memory};
+
 mod check;
 mod command_line;
 mod counts;
@@ -24,7 +27,9 @@ use std::io::ErrorKind;
 use std::process::ExitCode;
 
 /// The words that follow the program's name.
-fn words(rt: &(impl Env + AllocGlobal)) -> Result<Vec<String>, Fault> {
+fn words(rt: &(impl Env + AllocGlobal)) -> Result<Vec<String>, Fault>
+    ensures { IfErr result (λ fault. (fault ≡ no_text) ⊎ (fault ≡ out_of_memory)) }
+{
     match env::args(rt) {
         Ok(words) => Ok(words.skip(1).collect(rt.alloc())?),
         Err(error) if error.kind() == ErrorKind::OutOfMemory => Err(Fault::OutOfMemory),

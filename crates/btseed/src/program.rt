@@ -1,5 +1,10 @@
 //! The program, over any runtime and streams.
-ghost use Rattle.std.specs.Prelude.{◌≤◌, IfOk};
+ghost use Rattle.std.specs.Prelude.{◌≡◌, ◌≤◌, map, string_bytes, IfOk, IfErr, OnOk};
+ghost use Rattle.std.specs.Io.KnownBytes.{Appends, Keeps};
+ghost use Rattle.clap.specs.Words.{kind_of};
+ghost use Rattle.btseed.specs.Running.{IsCheckDone, IsDone, IsEnded, IsExplained, IsMakeDone, IsRun, IsShowDone, Writes, status_after};
+ghost use Rattle.btseed.specs.Statuses.{device, status_of};
+ghost use Rattle.btseed.specs.declared.command_line.Task.TheVariants.{Make, Show, Check};
 
 use crate::check::check;
 use crate::command_line::{Making, Source, Task, parse};
@@ -25,7 +30,13 @@ pub fn run<R: Files + AllocGlobal + Clone + Drop, I: Read, O: Write, E: Write>(
     writer: &mut O,
     faults: &mut E,
 ) -> u8
-    ensures { result ≤ 4 }
+    ensures answer { IsRun (map string_bytes words.now) (O.contents writer.old) (O.contents writer.new) result }
+
+    // where the words or the torrent are refused, nothing is written
+    ensures refused { result ≡ 2 → Keeps (O.contents writer.old) (O.contents writer.new) }
+
+    // where there is an answer, no fault is told
+    ensures faultless { result ≤ 1 → Keeps (E.contents faults.old) (E.contents faults.new) }
 {
     match attempt(rt, words, writer, faults) {
         Ok(status) => status,
@@ -40,7 +51,8 @@ fn attempt<R: Files + AllocGlobal + Clone + Drop, O: Write, E: Write>(
     writer: &mut O,
     faults: &mut E,
 ) -> Result<u8, Fault>
-    ensures { IfOk result (λ status. status ≤ 2) }
+    ensures answer { IsRun (map string_bytes words.now) (O.contents writer.old) (O.contents writer.new) (status_after result) }
+    ensures faultless { status_after result ≤ 1 → Keeps (E.contents faults.old) (E.contents faults.new) }
 {
     match parse(rt.alloc(), words) {
         Ok(task) => perform(rt, task, writer),
@@ -54,7 +66,8 @@ fn perform<R: Files + AllocGlobal + Clone + Drop, O: Write>(
     task: Task<'_>,
     writer: &mut O,
 ) -> Result<u8, Fault>
-    ensures { IfOk result (λ status. status ≤ 1) }
+    ensures done { IfOk result (Writes (IsDone task.entry) (O.contents writer.old) (O.contents writer.new)) }
+    ensures ended { IfErr result (IsEnded task.entry (O.contents writer.old) (O.contents writer.new)) }
 {
     match task {
         Task::Make(making) => perform_make(rt, making, writer),
@@ -68,7 +81,8 @@ fn perform_make<R: Files + AllocGlobal + Clone + Drop, O: Write>(
     making: Making<'_>,
     writer: &mut O,
 ) -> Result<u8, Fault>
-    ensures { IfOk result (λ status. status ≤ 1) }
+    ensures done { IfOk result (Writes (IsMakeDone making.entry) (O.contents writer.old) (O.contents writer.new)) }
+    ensures ended { IfErr result (IsEnded (Make making.entry) (O.contents writer.old) (O.contents writer.new)) }
 {
     let infohash = make(rt, making)?;
     let digits = hex::encode(rt.alloc(), &infohash)?;
@@ -82,7 +96,8 @@ fn perform_show<R: Files + AllocGlobal, O: Write>(
     source: Source<'_>,
     writer: &mut O,
 ) -> Result<u8, Fault>
-    ensures { IfOk result (λ status. status ≤ 1) }
+    ensures done { IfOk result (Writes (IsShowDone source.entry) (O.contents writer.old) (O.contents writer.new)) }
+    ensures ended { IfErr result (IsEnded (Show source.entry) (O.contents writer.old) (O.contents writer.new)) }
 {
     let mut buffer = [0; BUFFER_LEN];
     let torrent = load(rt, source, &mut buffer)?;
@@ -96,7 +111,8 @@ fn perform_check<R: Files + AllocGlobal, O: Write>(
     dir: &str,
     writer: &mut O,
 ) -> Result<u8, Fault>
-    ensures { IfOk result (λ status. status ≤ 1) }
+    ensures done { IfOk result (Writes (IsCheckDone source.entry) (O.contents writer.old) (O.contents writer.new)) }
+    ensures ended { IfErr result (IsEnded (Check source.entry dir.entry) (O.contents writer.old) (O.contents writer.new)) }
 {
     let report = check(rt, source, dir)?;
     print(writer, report.lines.as_str())?;
@@ -105,7 +121,8 @@ fn perform_check<R: Files + AllocGlobal, O: Write>(
 
 /// Prints help, or why the words are refused.
 fn explain<O: Write, E: Write>(error: &Error, writer: &mut O, faults: &mut E) -> Result<u8, Fault>
-    ensures { IfOk result (λ status. status ≤ 2) }
+    ensures answer { IsExplained (kind_of error.now) (O.contents writer.old) (O.contents writer.new) (status_after result) }
+    ensures faultless { status_after result ≤ 1 → Keeps (E.contents faults.old) (E.contents faults.new) }
 {
     if error.kind() == ErrorKind::OutOfMemory {
         return Err(Fault::OutOfMemory);
@@ -119,14 +136,18 @@ fn explain<O: Write, E: Write>(error: &Error, writer: &mut O, faults: &mut E) ->
     }
 }
 
-fn print<O: Write>(writer: &mut O, text: &str) -> Result<(), Fault> {
+/// Writes a text, whole, and sees it out.
+fn print<O: Write>(writer: &mut O, text: &str) -> Result<(), Fault>
+    ensures text { OnOk result (Appends (O.contents writer.old) (O.contents writer.new) text.now) }
+    ensures fault { IfErr result (λ fault. fault ≡ device) }
+{
     put(writer, text)?;
     writer.flush().map_err(|_| Fault::Device)
 }
 
 /// Tells why there is no answer, and answers the status. Where it can't be told, there is the status alone.
 pub fn tell<E: Write>(fault: Fault, faults: &mut E) -> u8
-    ensures { result ≤ 4 }
+    ensures { result ≡ status_of fault }
 {
     let _ = writeln!(faults, "btseed: {fault}");
     fault.status()
