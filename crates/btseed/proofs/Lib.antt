@@ -14,3 +14,4 @@ pub mod Walks
 pub mod Unmade
 pub mod Runs
 pub mod Lawful
+pub mod Besides

@@ -1,30 +1,33 @@
 -- Lemmas on the lines that a check tells.
 use Rattle.std.proofs.Common.{◌≡◌, ℕ, Bool, true, ◌&&◌, List, [], ◌∷◌, ◌++◌, map, refl, sym, ap, ◌∙◌, append-nil}
-use Rattle.std.specs.List.{flat_map, list_all}
+use Rattle.std.specs.List.{flat_map, list_all, All}
 use Rattle.std.proofs.Math.Bool.{and-true}
 use Rattle.std.proofs.lemmas.Grind.{flat_map-append}
 use Rattle.std.proofs.lemmas.List.Folds.{list_all-append}
 use Rattle.std.proofs.lemmas.List.{map-append}
+use Rattle.std.proofs.lemmas.List.Elements.{All-nil, All-push}
 use Rattle.bt_meta.specs.Files.{file_of}
 use Rattle.bt_meta.specs.declared.torrent.FileEntry.{FileEntry}
 use Rattle.btseed.specs.declared.data_file.Finding.{Finding}
+use Rattle.btseed.specs.Entries.{IsFoundOf}
 use Rattle.btseed.specs.Shown.{line_of, path_text, shown_text}
 use Rattle.btseed.specs.Telling.{FileFound, lines_of, is_whole}
 
 -- the lines of the files so far, and whether each is complete
-pub record IsTelling (entries : List FileEntry) (lines : List ℕ) (complete : Bool) : Type 0 where
+pub record IsTelling (layer : ℕ) (entries : List FileEntry) (lines : List ℕ) (complete : Bool) : Type 0 where
   pub found : List FileFound
   pub each : map (λ f. f.file) found ≡ map file_of entries
+  pub of_bytes : All (λ f. IsFoundOf layer f.file f.finding) found
   pub told : lines ≡ lines_of found
   pub all : complete ≡ list_all (λ f. is_whole f.finding) found
 
-pub telling_begun : (lines : List ℕ) → lines ≡ [] → IsTelling [] lines true
-telling_begun lines none = record { found = []; each = refl; told = none; all = refl }
+pub telling_begun : (layer : ℕ) (lines : List ℕ) → lines ≡ [] → IsTelling layer [] lines true
+telling_begun layer lines none = record { found = []; each = refl; of_bytes = All-nil (λ f. IsFoundOf layer f.file f.finding); told = none; all = refl }
 
-pub telling_more : (entries more : List FileEntry) (entry : FileEntry) (lines next path : List ℕ) (complete now whole : Bool) (finding : Finding)
-    → IsTelling entries lines complete → more ≡ entries ++ entry ∷ [] → path ≡ shown_text (path_text (file_of entry).path)
-    → next ≡ lines ++ line_of finding path → whole ≡ is_whole finding → now ≡ (complete && whole) → IsTelling more next now
-telling_more entries more entry lines next path complete now whole finding t one shown line is both =
+pub telling_more : (layer : ℕ) (entries more : List FileEntry) (entry : FileEntry) (lines next path : List ℕ) (complete now whole : Bool) (finding : Finding)
+    → IsTelling layer entries lines complete → IsFoundOf layer (file_of entry) finding → more ≡ entries ++ entry ∷ [] → path ≡ shown_text (path_text (file_of entry).path)
+    → next ≡ lines ++ line_of finding path → whole ≡ is_whole finding → now ≡ (complete && whole) → IsTelling layer more next now
+telling_more layer entries more entry lines next path complete now whole finding t is_found one shown line is both =
     let file : FileFound = record { file = file_of entry; finding = finding } in
     let text : FileFound → List ℕ = λ f. line_of f.finding (shown_text (path_text f.file.path)) in
     let test : FileFound → Bool = λ f. is_whole f.finding in
@@ -33,6 +36,7 @@ telling_more entries more entry lines next path complete now whole finding t one
       found = t.found ++ file ∷ [];
       each = map-append (λ (f : FileFound). f.file) t.found (file ∷ []) ∙ ap (λ l. l ++ file_of entry ∷ []) t.each
           ∙ sym (map-append file_of entries (entry ∷ [])) ∙ ap (map file_of) (sym one);
+      of_bytes = All-push (λ (f : FileFound). IsFoundOf layer f.file f.finding) t.found file t.of_bytes is_found;
       told = line ∙ ap (λ l. l ++ line_of finding path) t.told ∙ ap (λ l. lines_of t.found ++ l) (sym last) ∙ sym (flat_map-append text t.found (file ∷ []));
       all = both ∙ ap (λ b. b && whole) t.all ∙ ap (λ b. list_all test t.found && b) (is ∙ sym (and-true (is_whole finding)))
           ∙ sym (list_all-append test t.found (file ∷ []));

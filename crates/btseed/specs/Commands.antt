@@ -54,4 +54,6 @@ pub record IsHashMade (name : List ℕ) (piece_length : ℕ) (infohash : List �
 pub record IsReport (is_info : Bool) (report : Report) : Type 0 where
   pub torrent : Metainfo
   pub loaded : IsLoaded is_info torrent
-  pub told : TellsFiles torrent.files report
+  pub layer : ℕ
+  pub pieces : torrent.piece_length ≡ 16384 * 2 ^ layer
+  pub told : TellsFiles layer torrent.files report

@@ -1,7 +1,7 @@
 //! The command `check`.
 ghost use Rattle.std.specs.Prelude.{◌≡◌, ◌↔◌, ◌⊎◌, map, IsTrue, IfOk, IfErr, IfSome};
 ghost use Rattle.bt_meta.specs.Files.{file_of};
-ghost use Rattle.btseed.specs.Entries.{IsEntryFinding, IsEntryFindingAt, IsEntryFault, IsFaultAmong, HasLayerOf};
+ghost use Rattle.btseed.specs.Entries.{IsEntryFinding, IsEntryFindingAt, IsFoundOf, IsEntryFault, IsFaultAmong, HasLayerOf};
 ghost use Rattle.btseed.specs.Statuses.{out_of_memory};
 ghost use Rattle.btseed.specs.Telling.{TellsFiles};
 ghost use Rattle.btseed.specs.Commands.{IsLoadFault, IsReport};
@@ -45,7 +45,7 @@ fn check_files<R: Files + AllocGlobal>(
     size: PieceSize,
     buffer: &mut [u8; BUFFER_LEN],
 ) -> Result<Report, Fault>
-    ensures report { IfOk result (TellsFiles (map file_of entries.now)) }
+    ensures report { IfOk result (TellsFiles size.layer (map file_of entries.now)) }
     ensures fault { IfErr result (λ fault. (fault ≡ out_of_memory) ⊎ IsFaultAmong size.layer (map file_of entries.now) fault) }
 {
     let alloc = rt.alloc();
@@ -69,7 +69,8 @@ fn check_data<R: Files + AllocGlobal>(
     size: PieceSize,
     buffer: &mut [u8; BUFFER_LEN],
 ) -> Result<Finding, Fault>
-    ensures { IfErr result (λ fault. (fault ≡ out_of_memory) ⊎ IsEntryFault size.layer (file_of entry.now) fault) }
+    ensures found { IfOk result (IsFoundOf size.layer (file_of entry.now)) }
+    ensures fault { IfErr result (λ fault. (fault ≡ out_of_memory) ⊎ IsEntryFault size.layer (file_of entry.now) fault) }
 {
     let path = data_path(rt.alloc(), dir, &entry.path)?;
     match fs::open(rt, path) {

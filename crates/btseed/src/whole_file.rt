@@ -1,5 +1,7 @@
 //! Writing a file wholly or not at all.
-ghost use Rattle.std.specs.Prelude.{◌≡◌, ◌⊎◌, IfErr};
+ghost use Rattle.std.specs.Prelude.{◌≡◌, ℕ, ◌⊎◌, string_bytes, IfOk, IfErr, OnOk};
+ghost use Rattle.std.specs.Io.KnownBytes.{Appends};
+ghost use Rattle.btseed.specs.Places.{IsBeside};
 ghost use Rattle.btseed.specs.Statuses.{device, out_of_memory};
 
 use crate::fault::Fault;
@@ -38,7 +40,8 @@ fn refuse_other_kinds<R: Files>(rt: &R, path: &str) -> Result<(), Fault>
 
 /// A path in the same folder at which there is nothing.
 fn unused_path<R: Files + AllocGlobal>(rt: &R, path: &str) -> Result<String, Fault>
-    ensures { IfErr result (λ fault. (fault ≡ device) ⊎ (fault ≡ out_of_memory)) }
+    ensures beside { IfOk result (λ beside. (number : ℕ) × IsBeside path.now number (string_bytes beside)) }
+    ensures fault { IfErr result (λ fault. (fault ≡ device) ⊎ (fault ≡ out_of_memory)) }
 {
     for attempt in 0..u32::MAX {
         let beside = path_beside(rt.alloc(), path, attempt)?;
@@ -52,15 +55,19 @@ fn unused_path<R: Files + AllocGlobal>(rt: &R, path: &str) -> Result<String, Fau
 }
 
 /// A path in the same folder, by a number.
-fn path_beside(alloc: Global, path: &str, number: u32) -> Result<String, AllocError> {
+fn path_beside(alloc: Global, path: &str, number: u32) -> Result<String, AllocError>
+    ensures { IfOk result (λ beside. IsBeside path.now number (string_bytes beside)) }
+{
     match path.rsplit_once('/') {
         Some((folder, _)) => format!(in alloc; "{folder}/.btseed-{number}.part"),
         None => format!(in alloc; ".btseed-{number}.part"),
     }
 }
 
+/// Writes the bytes, and has them put on the device.
 fn fill_file<F: OpenFile + Write>(file: &mut F, bytes: &[u8]) -> Result<(), Fault>
-    ensures { IfErr result (λ fault. fault ≡ device) }
+    ensures bytes { OnOk result (Appends (F.contents file.old) (F.contents file.new) bytes.now) }
+    ensures fault { IfErr result (λ fault. fault ≡ device) }
 {
     file.write_all(bytes).map_err(|_| Fault::Device)?;
     file.flush().map_err(|_| Fault::Device)?;
