@@ -24,7 +24,7 @@ pub record IsEntryFinding (bytes : List ℕ) (layer : ℕ) (file : File) (findin
   pub whole : file.layer ≡ [] → IsFindingOf bytes file.length file.root finding
   pub by_pieces : file.length ≢ 0 → file.layer ≢ [] → IsFindingByPieces bytes file.length layer (digests_in file.layer) finding
 
--- some bytes were read as the file's, and this is what a check finds of them
+-- there are bytes of which this is what a check finds
 pub record IsFoundOf (layer : ℕ) (file : File) (finding : Finding) : Type 0 where
   pub bytes : List ℕ
   pub found : IsEntryFinding bytes layer file finding

@@ -6,9 +6,8 @@ use Rattle.bt_meta.specs.GivenFiles.{given_of}
 use Rattle.bt_meta.specs.NotMade.{IsNotMade}
 use Rattle.bt_meta.specs.declared.making.Made.{Made}
 use Rattle.bt_meta.specs.declared.making.MakeError.{MakeError}
-use Rattle.bt_meta.specs.declared.making.MakeError.TheVariants.{PieceLength, FileLength}
+use Rattle.bt_meta.specs.declared.making.MakeError.TheVariants.{PieceLength, FileLength, Count}
 use Rattle.btseed.specs.Commands.{IsDigested}
-use Rattle.btseed.specs.Counting.{count_refusal}
 use Rattle.btseed.specs.Statuses.{device, out_of_memory, unmade_of}
 use Rattle.btseed.specs.Walking.{IsListingFault}
 use Rattle.btseed.specs.declared.fault.Fault.{Fault}
@@ -17,22 +16,12 @@ use Rattle.btseed.specs.declared.fault.Fault.{Fault}
 abbrev pub IsDigestFault : ℕ → Fault → Type 0
 IsDigestFault length fault = (fault ≡ device) ⊎ (fault ≡ out_of_memory) ⊎ ((fault ≡ unmade_of FileLength) × (2 ^ 40 < length))
 
--- with so many files and pieces before it, a file of a folder is refused
-pub record IsTooMuch (piece_length : ℕ) (fault : Fault) : Type 0 where
-  pub files : ℕ
-  pub pieces : ℕ
-  pub elements : ℕ
-  pub length : ℕ
-  pub cause : MakeError
-  pub refusal : count_refusal files pieces piece_length elements length ≡ Some cause
-  pub is : fault ≡ unmade_of cause
+-- a folder could not be listed, or its files are too long or too many: nothing says what it holds
+abbrev pub IsFolderFault : Fault → Type 0
+IsFolderFault fault = IsListingFault fault ⊎ (fault ≡ unmade_of FileLength) ⊎ (fault ≡ unmade_of Count)
 
--- a folder could not be listed, or its files are too long or too many
-abbrev pub IsFolderFault : ℕ → Fault → Type 0
-IsFolderFault piece_length fault = IsListingFault fault ⊎ IsTooMuch piece_length fault
-
--- of such files no torrent is made
-pub record IsRefused (name : List ℕ) (piece_length : ℕ) (fault : Fault) : Type 0 where
+-- files that are told of as some bytes are make no torrent
+pub record AreRefused (name : List ℕ) (piece_length : ℕ) (fault : Fault) : Type 0 where
   pub layer : ℕ
   pub files : List Made
   pub digested : All (IsDigested layer) files
@@ -44,5 +33,5 @@ pub record IsRefused (name : List ℕ) (piece_length : ℕ) (fault : Fault) : Ty
 abbrev pub IsMakeFault : List ℕ → ℕ → Fault → Type 0
 IsMakeFault name piece_length fault =
     ((fault ≡ unmade_of PieceLength) × ¬ IsPieceLength piece_length)
-    ⊎ IsFolderFault piece_length fault
-    ⊎ IsRefused name piece_length fault
+    ⊎ IsFolderFault fault
+    ⊎ AreRefused name piece_length fault

@@ -73,7 +73,7 @@ pub record IsEnded (task : Task) (old new : Option (List ℕ)) (fault : Fault) :
   pub cause : IsFaultOf task fault
   pub refused : status_of fault ≡ 2 → Keeps old new
 
--- help and the version are written, if the device does not fail; a mistake is told elsewhere
+-- status 0 for help and the version, or 3 where the device failed: the kit does not say their text; a mistake is told elsewhere
 abbrev pub IsExplained : ErrorKind → Option (List ℕ) → Option (List ℕ) → ℕ → Type 0
 IsExplained DisplayHelp old new status = (status ≡ 0) ⊎ (status ≡ 3)
 IsExplained DisplayVersion old new status = (status ≡ 0) ⊎ (status ≡ 3)

@@ -20,7 +20,7 @@ pub record FileFound : Type 0 where
 abbrev pub lines_of : List FileFound → List ℕ
 lines_of found = flat_map (λ f. line_of f.finding (shown_text (path_text f.file.path))) found
 
--- the report has a line for each of the files, in their order, as the finding of some bytes says, and says complete where each is;
+-- the report has a line for each of the files, in their order, as a finding of some bytes says, and says complete where each is;
 -- a piece has 2 ^ layer blocks
 pub record TellsFiles (layer : ℕ) (files : List File) (report : Report) : Type 0 where
   pub found : List FileFound

@@ -22,6 +22,6 @@ pub record PutsEntries (folder : List (List ℕ)) (old new : List Entry) : Type 
 abbrev pub HasElement : List (List ℕ) → Type 0
 HasElement path = path ≢ []
 
--- a folder can't be listed, or has a name that is not UTF-8
+-- a folder can't be listed, or there is no memory; or a name is refused, as one that is not UTF-8 is
 abbrev pub IsListingFault : Fault → Type 0
 IsListingFault fault = (fault ≡ device) ⊎ (fault ≡ out_of_memory) ⊎ (fault ≡ Unmade BadPath)

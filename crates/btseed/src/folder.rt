@@ -1,6 +1,7 @@
 //! The files of a folder and its subfolders.
-ghost use Rattle.std.specs.Prelude.{◌≡◌, ◌++◌, [], ◌∷◌, map, string_bytes, IfOk, OnOk, IfErr};
+ghost use Rattle.std.specs.Prelude.{◌≡◌, ◌++◌, ◌⊎◌, [], ◌∷◌, map, string_bytes, IfOk, OnOk, IfErr};
 ghost use Rattle.std.specs.List.{All};
+ghost use Rattle.btseed.specs.Statuses.{device, out_of_memory};
 ghost use Rattle.btseed.specs.Walking.{HasElement, IsListingFault, PutsEntries};
 
 use crate::fault::Fault;
@@ -75,9 +76,9 @@ fn names_in<R: Files + AllocGlobal + Clone + Drop>(
 {
     let alloc = rt.alloc();
     let mut names = BTreeMap::new(alloc);
-    for entry in fs::read_dir(rt, data_path(alloc, dir, folder)?).map_err(|e| listing_fault(&e))? {
+    for entry in fs::read_dir(rt, data_path(alloc, dir, folder)?).map_err(|e| opening_fault(&e))? {
         let entry = entry.map_err(|e| listing_fault(&e))?;
-        let kind = entry.file_type().map_err(|e| listing_fault(&e))?;
+        let kind = entry.file_type().map_err(|e| opening_fault(&e))?;
         if kind.is_dir() || kind.is_file() {
             let name = String::from_str(alloc, entry.file_name())?;
             names.insert(name, kind.is_dir())?;
@@ -86,12 +87,22 @@ fn names_in<R: Files + AllocGlobal + Clone + Drop>(
     Ok(names)
 }
 
-/// What an error in listing a folder is told as. A name that is not UTF-8 comes as one that is not valid.
+/// What an error in reading the next name of a folder is told as: here alone a name that is not valid is one that is not
+/// UTF-8.
 fn listing_fault(error: &io::Error) -> Fault
     ensures { IsListingFault result }
 {
     match error.kind() {
         ErrorKind::InvalidFilename => Fault::Unmade(MakeError::BadPath),
+        _ => opening_fault(error),
+    }
+}
+
+/// What an error in opening a folder, or in asking what an entry is, is told as.
+fn opening_fault(error: &io::Error) -> Fault
+    ensures { (result ≡ device) ⊎ (result ≡ out_of_memory) }
+{
+    match error.kind() {
         ErrorKind::OutOfMemory => Fault::OutOfMemory,
         _ => Fault::Device,
     }

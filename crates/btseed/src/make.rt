@@ -63,7 +63,7 @@ fn sized_files<R: Files + AllocGlobal + Clone + Drop>(
 ) -> Result<Vec<SizedFile>, Fault>
     ensures named { IfOk result (λ files. All (λ file. HasElement (map string_bytes file.path.items)) files.items) }
     ensures short { IfOk result (λ files. All (λ file. file.length ≤ 2 ^ 40) files.items) }
-    ensures fault { IfErr result (IsFolderFault size.bytes) }
+    ensures fault { IfErr result IsFolderFault }
 {
     let alloc = rt.alloc();
     let mut counts = Counts::new();
