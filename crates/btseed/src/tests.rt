@@ -1,6 +1,7 @@
 //! The program on files in a temporary folder, and the reading of files over readers that fail or give little.
 
 mod checking;
+mod devices;
 mod limits;
 mod making;
 mod reading;

@@ -26,6 +26,65 @@ fn the_torrent_of_one_file_is_made(rt: HostRuntime) -> Result<(), Fail> {
     play(&rt, "make", &steps)
 }
 
+const WIDE_HASH: &str =
+    "infohash 3e4b9b541148f266bdc397813a48d3d5e06bcf77d9e7c958c1c2fcf09af3d6a2\n";
+
+const WIDE_TORRENT: &[u8] =
+    b"d4:infod9:file treed1:ad0:d6:lengthi49152e11:pieces root32:\x35\x75\x4e\xe0\x33\x60\xca\xca\xb5\xe9\xe2\x76\x47\xda\x3d\x2a\x4a\xb6\xf9\x76\x14\xed\x7d\x16\x92\xb9\xeb\x3c\x42\xa6\x5d\x69ee1:bd0:d6:lengthi0eeee12:meta versioni2e4:name1:f12:piece lengthi131072ee12:piece layersdee";
+
+const WIDE_LINES: &str = "name f
+infohash 3e4b9b541148f266bdc397813a48d3d5e06bcf77d9e7c958c1c2fcf09af3d6a2
+piece length 131072
+pieces 1
+files 2
+49152 35754ee03360cacab5e9e27647da3d2a4ab6f97614ed7d1692b9eb3c42a65d69 a
+0 - b
+";
+
+#[test]
+fn a_file_below_the_piece_length_has_one_piece(rt: HostRuntime) -> Result<(), Fail> {
+    let three = three_blocks(rt.alloc())?;
+    let check = "check @/t @/files";
+    let steps = [
+        Step::Folder("files"),
+        Step::File("files/a", front(&three, 49152)),
+        Step::File("files/b", b""),
+        Step::Run(
+            "make @/files @/t --name f --piece-length 131072",
+            0,
+            WIDE_HASH,
+        ),
+        Step::Has("t", WIDE_TORRENT),
+        Step::Run("show @/t", 0, WIDE_LINES),
+        Step::Run(check, 0, "complete a\ncomplete b\ncomplete\n"),
+        Step::Change("files/a", 49151),
+        Step::Run(check, 1, "0 of 3 a\ncomplete b\nnot complete\n"),
+    ];
+    play(&rt, "wide", &steps)
+}
+
+const DEFAULT_HASH: &str =
+    "infohash 45f18647683d87b323fc5afc07dede72f1669372e25bd435321d3d171d71b33b\n";
+
+const DEFAULT_LINES: &str = "name a.txt
+infohash 45f18647683d87b323fc5afc07dede72f1669372e25bd435321d3d171d71b33b
+piece length 262144
+pieces 1
+files 1
+3 ba7816bf8f01cfea414140de5dae2223b00361a396177a9cb410ff61f20015ad a.txt
+";
+
+#[test]
+fn a_piece_length_is_there_without_the_word(rt: HostRuntime) -> Result<(), Fail> {
+    let steps = [
+        Step::Folder("files"),
+        Step::File("files/a.txt", b"abc"),
+        Step::Run("make @/files @/t --name a.txt", 0, DEFAULT_HASH),
+        Step::Run("show @/t", 0, DEFAULT_LINES),
+    ];
+    play(&rt, "default", &steps)
+}
+
 const MANY_LINES: &str = "name many
 infohash 4155fefd690291d509024601618eac812271ee966768d5ceeb8713f0c9f9d5b8
 piece length 16384

@@ -72,13 +72,15 @@ fn expect_size(rt: &HostRuntime, top: &str, name: &str, size: usize) -> Result<(
     Ok(())
 }
 
-fn expect_bytes(rt: &HostRuntime, top: &str, name: &str, bytes: &[u8]) -> Result<(), Fail> {
+/// Expects that a file has these bytes.
+pub fn expect_bytes(rt: &HostRuntime, top: &str, name: &str, bytes: &[u8]) -> Result<(), Fail> {
     let found = bytes_of(rt, top, name)?;
     confirm(found.as_slice() == bytes, "a file of other bytes")?;
     Ok(())
 }
 
-fn expect_entries(rt: &HostRuntime, top: &str, name: &str, count: usize) -> Result<(), Fail> {
+/// Expects that a folder has so many entries.
+pub fn expect_entries(rt: &HostRuntime, top: &str, name: &str, count: usize) -> Result<(), Fail> {
     let path = path_in(rt, top, name)?;
     let found = fs::read_dir(rt, path.as_str())?.count();
     confirm(found == count, "a folder of another size")?;

@@ -1,6 +1,8 @@
 //! The command line, and an output that fails.
 
-use super::tools::{abc_torrent, confirm, expect_help, expect_refused, folder, put, words_of};
+use super::tools::{
+    abc_torrent, confirm, expect_help, expect_refused, folder, put, put_folder, words_of,
+};
 use crate::program::run;
 use std::io::{ErrorKind, Write};
 use std::test::Fail;
@@ -86,7 +88,14 @@ fn an_output_that_fails_is_a_device_fault(rt: HostRuntime) -> Result<(), Fail> {
     let top = folder(&rt, "output")?;
     let torrent = abc_torrent(rt.alloc())?;
     put(&rt, top.as_str(), "t", &torrent)?;
-    for line in ["check @/t @", "show @/t", "--help"] {
+    put_folder(&rt, top.as_str(), "files")?;
+    put(&rt, top.as_str(), "files/a.txt", b"abc")?;
+    for line in [
+        "check @/t @",
+        "show @/t",
+        "make @/files @/t --name n",
+        "--help",
+    ] {
         expect_device_fault(&rt, top.as_str(), line)?;
     }
     fs::remove_dir_all(&rt, top.as_str())?;

@@ -1,0 +1,216 @@
+//! Devices that fail: a runtime that stands in for the file system.
+
+use super::steps::{expect_bytes, expect_entries};
+use super::tools::{confirm, folder, path_in, put};
+use crate::fault::Fault;
+use crate::folder::files_in;
+use crate::whole_file::write_whole;
+use bt_meta::MakeError;
+use std::alloc::{Allocator, Global};
+use std::fs::{self, File, Metadata, OpenFile, OpenOptions};
+use std::io::{self, ErrorKind, Read, Seek, SeekFrom, Write};
+use std::rt::Files;
+use std::test::Fail;
+
+/// The calls that fail.
+#[derive(Clone, Copy, PartialEq, Eq)]
+enum Failing {
+    Nothing,
+    Writes,
+    Flushes,
+    Syncs,
+    Renames,
+}
+
+impl Failing {
+    /// The error of a call, where it is one of those that fail.
+    fn at(self, call: Failing) -> io::Result<()> {
+        if self == call {
+            Err(io::Error::from(ErrorKind::StorageFull))
+        } else {
+            Ok(())
+        }
+    }
+}
+
+/// The host's file system, of which some calls fail, and in which every folder lists these names.
+#[derive(Clone, Copy)]
+struct Device<'a> {
+    host: &'a HostRuntime,
+    failing: Failing,
+    names: &'a [u8],
+}
+
+impl Alloc for Device<'_> {
+    type A = Global;
+
+    fn alloc(&self) -> Global {
+        self.host.alloc()
+    }
+}
+
+impl<'a> Files for Device<'a> {
+    type File = DeviceFile;
+
+    type Dir = &'a [u8];
+
+    fn open_file(&self, how: &OpenOptions, path: &str) -> io::Result<DeviceFile> {
+        Ok(DeviceFile {
+            file: self.host.open_file(how, path)?,
+            failing: self.failing,
+        })
+    }
+
+    fn open_dir(&self, _path: &str) -> io::Result<&'a [u8]> {
+        Ok(self.names)
+    }
+
+    fn metadata(&self, path: &str) -> io::Result<Metadata> {
+        self.host.metadata(path)
+    }
+
+    fn symlink_metadata(&self, path: &str) -> io::Result<Metadata> {
+        self.host.symlink_metadata(path)
+    }
+
+    fn copy(&self, from: &str, to: &str) -> io::Result<u64> {
+        self.host.copy(from, to)
+    }
+
+    fn rename(&self, from: &str, to: &str) -> io::Result<()> {
+        self.failing.at(Failing::Renames)?;
+        self.host.rename(from, to)
+    }
+
+    fn remove_file(&self, path: &str) -> io::Result<()> {
+        self.host.remove_file(path)
+    }
+
+    fn create_dir(&self, path: &str) -> io::Result<()> {
+        self.host.create_dir(path)
+    }
+
+    fn remove_dir(&self, path: &str) -> io::Result<()> {
+        self.host.remove_dir(path)
+    }
+
+    fn remove_dir_all<B: Allocator>(&self, alloc: B, path: &str) -> io::Result<()> {
+        self.host.remove_dir_all(alloc, path)
+    }
+}
+
+#[derive(Drop)]
+struct DeviceFile {
+    file: File,
+    failing: Failing,
+}
+
+impl Read for DeviceFile {
+    fn read(&mut self, buf: &mut [u8]) -> io::Result<usize> {
+        self.file.read(buf)
+    }
+}
+
+impl Write for DeviceFile {
+    fn write(&mut self, buf: &[u8]) -> io::Result<usize> {
+        self.failing.at(Failing::Writes)?;
+        self.file.write(buf)
+    }
+
+    fn flush(&mut self) -> io::Result<()> {
+        self.failing.at(Failing::Flushes)?;
+        self.file.flush()
+    }
+}
+
+impl Seek for DeviceFile {
+    fn seek(&mut self, to: SeekFrom) -> io::Result<u64> {
+        self.file.seek(to)
+    }
+}
+
+impl OpenFile for DeviceFile {
+    fn metadata(&self) -> io::Result<Metadata> {
+        self.file.metadata()
+    }
+
+    fn set_len(&self, size: u64) -> io::Result<()> {
+        self.file.set_len(size)
+    }
+
+    fn sync_all(&self) -> io::Result<()> {
+        self.failing.at(Failing::Syncs)?;
+        self.file.sync_all()
+    }
+
+    fn sync_data(&self) -> io::Result<()> {
+        self.file.sync_data()
+    }
+}
+
+/// Writes over the file `kept`, and expects this answer, these bytes in it after, and nothing beside it.
+fn expect_written(
+    rt: &HostRuntime,
+    top: &str,
+    failing: Failing,
+    wanted: Result<(), Fault>,
+    bytes: &[u8],
+) -> Result<(), Fail> {
+    let path = path_in(rt, top, "kept")?;
+    let device = Device {
+        host: rt,
+        failing,
+        names: b"",
+    };
+    let found = write_whole(&device, path.as_str(), b"new");
+    confirm(found == wanted, "another answer")?;
+    expect_bytes(rt, top, "kept", bytes)?;
+    expect_entries(rt, top, "", 1)
+}
+
+#[test]
+fn a_file_that_is_not_written_stays(rt: HostRuntime) -> Result<(), Fail> {
+    let top = folder(&rt, "stays")?;
+    put(&rt, top.as_str(), "kept", b"old")?;
+    for failing in [
+        Failing::Writes,
+        Failing::Flushes,
+        Failing::Syncs,
+        Failing::Renames,
+    ] {
+        expect_written(&rt, top.as_str(), failing, Err(Fault::Device), b"old")?;
+    }
+    expect_written(&rt, top.as_str(), Failing::Nothing, Ok(()), b"new")?;
+    fs::remove_dir_all(&rt, top.as_str())?;
+    Ok(())
+}
+
+/// Why no files are found in a folder that lists these names, of files that are not there.
+fn fault_of_names(rt: &HostRuntime, dir: &str, names: &[u8]) -> Option<Fault> {
+    let device = Device {
+        host: rt,
+        failing: Failing::Nothing,
+        names,
+    };
+    files_in(&device, dir).err()
+}
+
+#[test]
+fn a_name_that_is_no_text_is_refused(rt: HostRuntime) -> Result<(), Fail> {
+    let top = folder(&rt, "names")?;
+    let dir = top.as_str();
+    let bad = Some(Fault::Unmade(MakeError::BadPath));
+    let device = Some(Fault::Device);
+    let long = "n".repeat(rt.alloc(), 256)?;
+    let long = format!(in rt.alloc(); "{long}\0")?;
+    confirm(fault_of_names(&rt, dir, b"\xff\0") == bad, "a byte")?;
+    confirm(fault_of_names(&rt, dir, b"a\xc3\0") == bad, "half a letter")?;
+    confirm(fault_of_names(&rt, dir, b"a\0") == device, "no file")?;
+    confirm(
+        fault_of_names(&rt, dir, long.as_bytes()) == device,
+        "a long name",
+    )?;
+    confirm(fault_of_names(&rt, dir, b"").is_none(), "no name")?;
+    fs::remove_dir_all(&rt, dir)?;
+    Ok(())
+}
