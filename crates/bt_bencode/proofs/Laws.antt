@@ -1,13 +1,12 @@
--- The laws of spellings, for values that fit memory.
+-- The laws of spellings, for values that a `Value` can hold.
 use Rattle.std.proofs.Common.{[], sym, ◌∙◌}
 use Rattle.std.proofs.lemmas.List.{append-nil}
 use Rattle.bt_bencode.specs.Spelling.{spelling_of, NoProperPrefix, BeginsOnce}
-use Rattle.bt_bencode.proofs.Representable.{representable}
 use Rattle.bt_bencode.proofs.Prefixes.{same_spelling}
 
 pub no_proper_prefix : NoProperPrefix
 no_proper_prefix d e rest fits fits' h =
-    (same_spelling d e rest [] (representable d fits.integers fits.size) (representable e fits'.integers fits'.size) (h ∙ sym (append-nil (spelling_of e)))).1
+    (same_spelling d e rest [] fits fits' (h ∙ sym (append-nil (spelling_of e)))).1
 
 pub begins_once : BeginsOnce
-begins_once d e rest more fits fits' h = (same_spelling d e rest more (representable d fits.integers fits.size) (representable e fits'.integers fits'.size) h).0
+begins_once d e rest more fits fits' h = (same_spelling d e rest more fits fits' h).0

@@ -1,26 +1,8 @@
 -- A spelling that fits memory is that of a value that a `Value` can hold.
 use Rattle.std.proofs.Common.{ℕ, ◌^◌, ◌<◌, ◌≤◌, List, [], ◌∷◌, ◌++◌, length, arith, length-append}
-use Rattle.std.specs.Prelude.{FitsSigned}
-use Rattle.std.specs.Int.{w64}
 use Rattle.std.specs.Fmt.{decimal}
 use Rattle.bt_bencode.specs.Data.{Data, integer, string, list, dictionary, Items, no_items, item, Entries, no_entries, entry}
-use Rattle.bt_bencode.specs.Spelling.{string_spelling, spelling_of, items_spelling, entries_spelling, HasSmallIntegers, ItemsHaveSmallIntegers, EntriesHaveSmallIntegers}
-
-unfoldable mutual
-  -- what a `Value` can hold: integers of 64 bits, and strings shorter than 2 ^ 64 bytes
-  pub IsRepresentable : Data → Type 0
-  IsRepresentable (integer z) = FitsSigned w64 z
-  IsRepresentable (string s) = length s < 2 ^ 64
-  IsRepresentable (list ds) = ItemsAreRepresentable ds
-  IsRepresentable (dictionary es) = EntriesAreRepresentable es
-
-  pub ItemsAreRepresentable : Items → Type 0
-  ItemsAreRepresentable no_items = Unit {0}
-  ItemsAreRepresentable (item d ds) = IsRepresentable d × ItemsAreRepresentable ds
-
-  pub EntriesAreRepresentable : Entries → Type 0
-  EntriesAreRepresentable no_entries = Unit {0}
-  EntriesAreRepresentable (entry key d es) = (length key < 2 ^ 64) × IsRepresentable d × EntriesAreRepresentable es
+use Rattle.bt_bencode.specs.Spelling.{string_spelling, spelling_of, items_spelling, entries_spelling, HasSmallIntegers, ItemsHaveSmallIntegers, EntriesHaveSmallIntegers, IsRepresentable, ItemsAreRepresentable, EntriesAreRepresentable}
 
 string_is_longer : (s : List ℕ) → length s ≤ length (string_spelling s)
 string_is_longer s = omega (arith, length-append (decimal (length s) ++ 58 ∷ []) s)

@@ -91,15 +91,27 @@ pub record IsCanonicalWithin (n : ℕ) (d : Data) : Type 0 where
 abbrev pub IsCanonical : Data → Type 0
 IsCanonical = IsCanonicalWithin 128
 
--- a value with integers of 64 bits whose spelling is shorter than 2 ^ 64 bytes, as each in memory is
-pub record FitsMemory (d : Data) : Type 0 where
-  pub integers : HasSmallIntegers d
-  pub size : length (spelling_of d) < 2 ^ 64
+unfoldable mutual
+  -- what a `Value` can hold: at every level, each integer has 64 bits, and each string and key is shorter than 2 ^ 64
+  -- bytes; the whole spelling may be longer
+  pub IsRepresentable : Data → Type 0
+  IsRepresentable (integer z) = FitsSigned w64 z
+  IsRepresentable (string s) = length s < 2 ^ 64
+  IsRepresentable (list ds) = ItemsAreRepresentable ds
+  IsRepresentable (dictionary es) = EntriesAreRepresentable es
 
--- no spelling is a proper prefix of another
+  pub ItemsAreRepresentable : Items → Type 0
+  ItemsAreRepresentable no_items = Unit {0}
+  ItemsAreRepresentable (item d ds) = IsRepresentable d × ItemsAreRepresentable ds
+
+  pub EntriesAreRepresentable : Entries → Type 0
+  EntriesAreRepresentable no_entries = Unit {0}
+  EntriesAreRepresentable (entry key d es) = (length key < 2 ^ 64) × IsRepresentable d × EntriesAreRepresentable es
+
+-- no spelling is a proper prefix of another, of values that a `Value` can hold
 abbrev pub NoProperPrefix : Type 0
-NoProperPrefix = (d e : Data) (rest : List ℕ) → FitsMemory d → FitsMemory e → spelling_of d ++ rest ≡ spelling_of e → rest ≡ []
+NoProperPrefix = (d e : Data) (rest : List ℕ) → IsRepresentable d → IsRepresentable e → spelling_of d ++ rest ≡ spelling_of e → rest ≡ []
 
--- two values that one text begins with are one
+-- two of them that one text begins with are one
 abbrev pub BeginsOnce : Type 0
-BeginsOnce = (d e : Data) (rest more : List ℕ) → FitsMemory d → FitsMemory e → spelling_of d ++ rest ≡ spelling_of e ++ more → d ≡ e
+BeginsOnce = (d e : Data) (rest more : List ℕ) → IsRepresentable d → IsRepresentable e → spelling_of d ++ rest ≡ spelling_of e ++ more → d ≡ e

@@ -2,7 +2,9 @@ ghost use Rattle.bt_bencode.specs.Spelling.{NoProperPrefix, BeginsOnce};
 ghost use Rattle.bt_bencode.specs.FaultLaw.{FirstFaultIsOne, FirstFaultRefuses};
 
 /// The law by which a reader knows where a value ends: no spelling is a proper prefix of another,
-/// and no two values have spellings that begin one text. It does nothing when it runs.
+/// and no two values have spellings that begin one text. It is of values whose integers have 64 bits
+/// and whose strings are each shorter than 2^64 bytes, as those of every [`Value`](crate::Value) are,
+/// however long the whole spelling is. It does nothing when it runs.
 pub fn spellings_are_prefix_free()
     ensures no_proper_prefix { NoProperPrefix }
     ensures one_value { BeginsOnce }

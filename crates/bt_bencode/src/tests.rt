@@ -171,11 +171,23 @@ fn finds_the_first_entry_of_a_key(rt: HostRuntime) -> Result<(), Fail> {
 
 #[test]
 fn prints_faults(rt: HostRuntime) -> Result<(), Fail> {
-    let alloc = rt.alloc();
-    let order = BencodeError::KeyOrder(7);
-    assert_eq!(rt; format!(in alloc; "{order}")?.as_str(), "B5 KeyOrder 7");
-    let memory = BencodeError::OutOfMemory;
-    assert_eq!(rt; format!(in alloc; "{memory}")?.as_str(), "B8 OutOfMemory");
+    let table = [
+        (BencodeError::Truncated(0), "B1 Truncated 0"),
+        (BencodeError::BadByte(1), "B2 BadByte 1"),
+        (BencodeError::LeadingZero(2), "B3 LeadingZero 2"),
+        (BencodeError::IntRange(3), "B4 IntRange 3"),
+        (BencodeError::KeyOrder(7), "B5 KeyOrder 7"),
+        (BencodeError::TooDeep(128), "B6 TooDeep 128"),
+        (
+            BencodeError::Trailing(usize::MAX),
+            "B7 Trailing 18446744073709551615",
+        ),
+        (BencodeError::OutOfMemory, "B8 OutOfMemory"),
+    ];
+    for (fault, wanted) in table {
+        let text = fault.to_string(rt.alloc())?;
+        assert_eq!(rt; text.as_str(), wanted);
+    }
     Ok(())
 }
 

@@ -1,7 +1,7 @@
 -- The entries of a folder, and a file put behind them.
 use Rattle.std.proofs.Common.{◌≡◌, ℕ, true, false, List, [], ◌∷◌, ◌++◌, length, arith, refl, sym, ap, ◌∙◌, inl, inr, Some, None}
 use Rattle.std.specs.Prelude.{unwrap_or, nat_eq, if◌then◌else◌}
-use Rattle.bt_meta.specs.Fields.{no_dictionary}
+use Rattle.bt_meta.specs.Fields.{entries_in, no_dictionary}
 use Rattle.std.specs.Global.{Vec}
 use Rattle.std.specs.Ordering.{nat_cmp, is_eq, match_ordering, ordering_reverse}
 use Rattle.std.specs.Cmp.Lexicographic.{slice_cmp, pointwise, nat_list_cmp_total}
@@ -13,7 +13,7 @@ use Rattle.bt_bencode.specs.Data.{Data, dictionary, Entries, no_entries, entry}
 use Rattle.bt_bencode.specs.Field.{first_value_of}
 use Rattle.bt_bencode.specs.View.{data_of, entries_of}
 use Rattle.bt_bencode.specs.declared.value.Value.{Value}
-use Rattle.bt_meta.specs.Making.{with_entry, with_file, entries_in}
+use Rattle.bt_meta.specs.Making.{with_entry, with_file}
 use Rattle.bt_meta.specs.MakingSteps.{entries_before, AreBefore, IsBehind, IsOpened}
 
 pub entries_push : (es : List (Vec ℕ × Value)) (key : Vec ℕ) (v : Value) → entries_of (es ++ (key, v) ∷ []) ≡ entries_before (entries_of es) (entry key.items (data_of v) no_entries)

@@ -1,16 +1,14 @@
 -- The files of a tree with their layers, from those without.
-use Rattle.std.proofs.Common.{◌≡◌, ℕ, List, [], ◌∷◌, ◌++◌, map, None, Some, refl, sym, ap, ◌∙◌}
-use Rattle.std.specs.Prelude.{filter, sum_by, nat_lt, is_none, not, if◌then◌else◌}
+use Rattle.std.proofs.Common.{◌≡◌, ℕ, List, [], ◌∷◌, ◌++◌, map, refl, sym, ap, ◌∙◌}
+use Rattle.std.specs.Prelude.{filter, sum_by}
 use Rattle.std.specs.Prelude.{sum}
 use Rattle.std.proofs.lemmas.List.Sums.{sum-map}
 use Rattle.bt_bencode.specs.Data.{Data}
-use Rattle.bt_meta.specs.Fields.{no_dictionary, string_at}
+use Rattle.bt_meta.specs.Fields.{no_dictionary}
 use Rattle.bt_meta.specs.Places.{Place, places_below, with_earlier}
-use Rattle.bt_meta.specs.Files.{File, file_of, is_file, length_of, root_of, layer_at, file_at, files_of, piece_count}
+use Rattle.bt_meta.specs.Files.{File, file_of, is_file, file_at, files_of, piece_count}
 use Rattle.bt_meta.specs.declared.torrent.FileEntry.{FileEntry}
-use Rattle.bt_meta.specs.Faults.{Check, layer_check, layer_checks, first_of, fault_if}
-use Rattle.bt_meta.specs.Layers.{has_layer_size, has_root}
-use Rattle.bt_meta.specs.declared.error.MetaError.TheVariants.{LayerMissing, LayerSize, LayerDiffers}
+use Rattle.bt_meta.specs.Faults.{layer_check, layer_checks}
 use Rattle.bt_meta.specs.Reading.{pieces_in, with_layer, layer_fault, layer_faults, HasStringsOf}
 
 with_layers : (piece_length : ℕ) (layers : Data) (before places : List Place)
@@ -22,24 +20,10 @@ pub files_with_layers : (piece_length : ℕ) (layers tree : Data) → map (with_
 unfolding files_of
 files_with_layers piece_length layers tree = with_layers piece_length layers [] (filter is_file (places_below [] tree))
 
-nested : (a b c : Check) → first_of (a ∷ first_of (b ∷ c ∷ []) ∷ []) ≡ first_of (a ∷ b ∷ c ∷ [])
-nested (Some x) b c = refl
-nested None (Some x) c = refl
-nested None None (Some x) = refl
-nested None None None = refl
-
-one_layer : (piece_length : ℕ) (layers : Data) (before : List Place) (p : Place) → layer_fault piece_length layers (file_at piece_length no_dictionary before p) ≡ layer_check piece_length layers p
-one_layer piece_length layers before p =
-    let layer = layer_at piece_length layers p in
-    ap (λ c. if nat_lt piece_length (length_of p) then c else None)
-    (nested (fault_if (is_none (string_at layers (root_of p))) LayerMissing) (fault_if (not (has_layer_size piece_length (length_of p) layer)) LayerSize) (fault_if (not (has_root piece_length (length_of p) (root_of p) layer)) LayerDiffers))
-
 faults_of_places : (piece_length : ℕ) (layers : Data) (before places : List Place)
     → layer_faults piece_length layers (with_earlier (file_at piece_length no_dictionary) before places) ≡ map (layer_check piece_length layers) places
 faults_of_places piece_length layers before [] = refl
-faults_of_places piece_length layers before (p ∷ places) =
-    ap (λ c. c ∷ layer_faults piece_length layers (with_earlier (file_at piece_length no_dictionary) (before ++ p ∷ []) places)) (one_layer piece_length layers before p)
-    ∙ ap (λ cs. layer_check piece_length layers p ∷ cs) (faults_of_places piece_length layers (before ++ p ∷ []) places)
+faults_of_places piece_length layers before (p ∷ places) = ap (λ cs. layer_check piece_length layers p ∷ cs) (faults_of_places piece_length layers (before ++ p ∷ []) places)
 
 pub layer_faults_are : (piece_length : ℕ) (layers tree : Data) → layer_faults piece_length layers (files_of piece_length no_dictionary tree) ≡ layer_checks piece_length layers tree
 unfolding files_of layer_checks

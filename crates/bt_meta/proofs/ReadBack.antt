@@ -1,11 +1,12 @@
 -- What bytes that spell a torrent are read as.
 use Rattle.std.proofs.Common.{◌≡◌, ◌≢◌, ℕ, ◌≤◌, ◌^◌, List, [], ◌++◌, length, None, Some, refl, sym, ap, ◌∙◌, arith}
 use Rattle.bt_bencode.specs.Data.{Data}
-use Rattle.bt_bencode.specs.Spelling.{spelling_of, IsCanonical, FitsMemory}
+use Rattle.bt_bencode.specs.Spelling.{spelling_of, IsCanonical, IsRepresentable}
 use Rattle.bt_bencode.specs.Fault.{AtFault}
 use Rattle.bt_bencode.specs.declared.error.BencodeError.{BencodeError}
 use Rattle.bt_bencode.specs.declared.error.BencodeError.TheVariants.{Truncated, BadByte, LeadingZero, IntRange, KeyOrder, TooDeep, Trailing, OutOfMemory as no_memory_left}
 use Rattle.bt_bencode.proofs.Laws.{begins_once}
+use Rattle.bt_bencode.proofs.Representable.{representable}
 use Rattle.bt_meta.specs.Faults.{first_fault, info_of, layers_of}
 use Rattle.bt_meta.specs.Refusal.{refusal_of}
 use Rattle.bt_meta.specs.Refusals.{no_memory, too_long, no_spelling, faulty}
@@ -13,8 +14,8 @@ use Rattle.bt_meta.specs.Torrent.{metainfo_of}
 use Rattle.bt_meta.specs.ReadBack.{SpellsOneTorrent, IsRefusedForMemoryAlone}
 use Rattle.bt_meta.specs.declared.error.MetaError.TheVariants.{OutOfMemory}
 
-fits : (d : Data) (bytes : List ℕ) → IsCanonical d → spelling_of d ≡ bytes → length bytes ≤ 2 ^ 27 → FitsMemory d
-fits d bytes canonical spelled small = record { integers = canonical.integers; size = let n : length (spelling_of d) ≡ length bytes = ap length spelled in omega arith }
+fits : (d : Data) (bytes : List ℕ) → IsCanonical d → spelling_of d ≡ bytes → length bytes ≤ 2 ^ 27 → IsRepresentable d
+fits d bytes canonical spelled small = let n : length (spelling_of d) ≡ length bytes = ap length spelled in representable d canonical.integers (omega arith)
 
 same_value : (d e : Data) (bytes : List ℕ) → length bytes ≤ 2 ^ 27 → IsCanonical d → spelling_of d ≡ bytes → IsCanonical e → spelling_of e ≡ bytes → d ≡ e
 same_value d e bytes small canonical spelled canonical' spelled' =

@@ -9,7 +9,7 @@ use Rattle.bt_bencode.specs.Data.{Data, integer, string, list, dictionary, no_en
 use Rattle.bt_bencode.specs.Field.{field_of}
 use Rattle.bt_meta.specs.Fields.{integer_at, natural_at, string_at, dictionary_at, has_key, as_natural, no_dictionary}
 use Rattle.bt_meta.specs.Places.{Place, places_below, with_earlier}
-use Rattle.bt_meta.specs.Files.{is_file, properties_of, length_in, root_in, length_of, root_of, pieces_of, layer_at}
+use Rattle.bt_meta.specs.Files.{is_file, properties_of, length_in, root_in, length_of, root_of, pieces_of, layer_for}
 use Rattle.bt_meta.specs.Layers.{has_layer_size, has_root}
 use Rattle.bt_meta.specs.declared.error.MetaError.{MetaError}
 use Rattle.bt_meta.specs.declared.error.MetaError.TheVariants.{NoInfo, NotV2, Version, Hybrid, NoName, PieceLength, Tree, BadPath, Symlink, FileLength, BadRoot, RootConflict, TooMany, LayerMissing, LayerSize, LayerDiffers}
@@ -133,14 +133,23 @@ info_checks info = head_checks info ++ tree_checks (piece_length_of info) (tree_
 
 -- ---- the layers of the files
 
+-- what is looked for in these bytes, as the layer of a file of so many bytes with this root
+abbrev pub layer_bytes_checks : ℕ → ℕ → List ℕ → List ℕ → List Check
+layer_bytes_checks piece_length bytes root layer =
+    fault_if (not (has_layer_size piece_length bytes layer)) LayerSize
+    ∷ fault_if (not (has_root piece_length bytes root layer)) LayerDiffers
+    ∷ []
+
+-- what is wrong with the layer of a file of so many bytes with this root
+abbrev pub layer_check_for : ℕ → Data → ℕ → List ℕ → Check
+layer_check_for piece_length layers bytes root =
+    if nat_lt piece_length bytes then first_of (
+    fault_if (is_none (string_at layers root)) LayerMissing
+    ∷ layer_bytes_checks piece_length bytes root (layer_for piece_length layers bytes root)) else None
+
+-- what is wrong with that of a place
 abbrev pub layer_check : ℕ → Data → Place → Check
-layer_check piece_length layers p =
-    let layer = layer_at piece_length layers p in
-    if nat_lt piece_length (length_of p) then first_of (
-    fault_if (is_none (string_at layers (root_of p))) LayerMissing
-    ∷ fault_if (not (has_layer_size piece_length (length_of p) layer)) LayerSize
-    ∷ fault_if (not (has_root piece_length (length_of p) (root_of p) layer)) LayerDiffers
-    ∷ []) else None
+layer_check piece_length layers p = layer_check_for piece_length layers (length_of p) (root_of p)
 
 unfoldable pub layer_checks : ℕ → Data → Data → List Check
 layer_checks piece_length layers tree = map (layer_check piece_length layers) (filter is_file (places_below [] tree))

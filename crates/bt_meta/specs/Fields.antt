@@ -49,7 +49,7 @@ has_key d key = is_some (field_of d key)
 abbrev pub no_dictionary : Data
 no_dictionary = dictionary no_entries
 
--- the entries of a dictionary
+-- the entries of a dictionary; none of another value
 abbrev pub entries_in : Data → Entries
 entries_in (integer z) = no_entries
 entries_in (string s) = no_entries

@@ -47,9 +47,13 @@ pub record File : Type 0 where
 abbrev pub file_of : FileEntry → File
 file_of e = record { path = map string_bytes e.path.items; length = e.length; root = e.root; first_piece = e.first_piece; layer = e.layer.items }
 
--- the string of `piece layers` for a file longer than a piece
+-- the string of `piece layers` at the root, for a file of more bytes than a piece
+abbrev pub layer_for : ℕ → Data → ℕ → List ℕ → List ℕ
+layer_for piece_length layers bytes root = if nat_lt piece_length bytes then unwrap_or (string_at layers root) [] else []
+
+-- that for a place
 abbrev pub layer_at : ℕ → Data → Place → List ℕ
-layer_at piece_length layers p = if nat_lt piece_length (length_of p) then unwrap_or (string_at layers (root_of p)) [] else []
+layer_at piece_length layers p = layer_for piece_length layers (length_of p) (root_of p)
 
 -- a place as a file; its first piece is the one after those of the files before
 abbrev pub file_at : ℕ → Data → List Place → Place → File

@@ -4,9 +4,9 @@ use Rattle.std.specs.List.{fold, find}
 use Rattle.std.specs.Option.{option_map}
 use Rattle.std.specs.Ordering.{nat_cmp, match_ordering}
 use Rattle.bt_bencode.specs.Field.{first_value_of}
-use Rattle.bt_meta.specs.Fields.{no_dictionary}
+use Rattle.bt_meta.specs.Fields.{entries_in, no_dictionary}
 use Rattle.std.specs.Cmp.Lexicographic.{pointwise, slice_cmp}
-use Rattle.bt_bencode.specs.Data.{Data, integer, string, list, dictionary, Entries, no_entries, entry}
+use Rattle.bt_bencode.specs.Data.{Data, integer, string, dictionary, Entries, no_entries, entry}
 use Rattle.bt_bencode.specs.Spelling.{spelling_of, EntriesAscend}
 use Rattle.bt_meta.specs.Places.{with_earlier}
 use Rattle.bt_meta.specs.Files.{File, piece_count}
@@ -19,12 +19,6 @@ use Rattle.bt_meta.specs.FileRefusals.{refusal_of_files}
 unfoldable pub with_entry : List ℕ → Data → Entries → Entries
 with_entry key d no_entries = entry key d no_entries
 with_entry key d (entry other e es) = match_ordering (slice_cmp nat_cmp key other) (entry key d (entry other e es)) (entry key d es) (entry other e (with_entry key d es))
-
-abbrev pub entries_in : Data → Entries
-entries_in (integer z) = no_entries
-entries_in (string s) = no_entries
-entries_in (list ds) = no_entries
-entries_in (dictionary es) = es
 
 -- what a folder with these entries has in the folder with this name
 abbrev pub folder_in : List ℕ → Entries → Entries

@@ -1,14 +1,13 @@
 -- What the parts of a reading tell.
-use Rattle.std.specs.Prelude.{◌≡◌, ℕ, ◌≤◌, ◌^◌, ◌⊎◌, List, [], ◌∷◌, map, sum_by, codes, unwrap_or, is_none, not, nat_lt, if◌then◌else◌, None, Some, true}
+use Rattle.std.specs.Prelude.{◌≡◌, ℕ, ◌≤◌, ◌^◌, ◌⊎◌, List, map, sum_by, codes, None, Some, true}
 use Rattle.std.specs.List.{All}
 use Rattle.bt_bencode.specs.Data.{Data}
 use Rattle.bt_bencode.specs.View.{data_of}
 use Rattle.bt_meta.specs.Fields.{string_at, no_dictionary}
-use Rattle.bt_meta.specs.Files.{File, file_of, piece_count, files_of}
-use Rattle.bt_meta.specs.Layers.{has_layer_size, has_root}
-use Rattle.bt_meta.specs.Faults.{Check, first_of, fault_if, head_checks, piece_length_of, is_piece_length, tree_of, tree_checks}
+use Rattle.bt_meta.specs.Files.{File, file_of, layer_for, piece_count, files_of}
+use Rattle.bt_meta.specs.Faults.{Check, first_of, layer_bytes_checks, layer_check_for, head_checks, piece_length_of, is_piece_length, tree_of, tree_checks}
 use Rattle.bt_meta.specs.declared.error.MetaError.{MetaError}
-use Rattle.bt_meta.specs.declared.error.MetaError.TheVariants.{LayerMissing, LayerSize, LayerDiffers, OutOfMemory}
+use Rattle.bt_meta.specs.declared.error.MetaError.TheVariants.{OutOfMemory}
 use Rattle.bt_meta.specs.declared.reader.Head.{Head}
 use Rattle.bt_meta.specs.declared.walk.Listing.{Listing}
 use Rattle.bt_meta.specs.declared.torrent.FileEntry.{FileEntry}
@@ -42,28 +41,17 @@ pub record IsListing (piece_length : ℕ) (tree : Data) (listing : Listing) : Ty
 
 -- ---- layers
 
--- the string at the root, for a file longer than a piece
-abbrev pub layer_for : ℕ → Data → File → List ℕ
-layer_for piece_length layers f = if nat_lt piece_length f.length then unwrap_or (string_at layers f.root) [] else []
-
 -- the file with its layer
 abbrev pub with_layer : ℕ → Data → File → File
-with_layer piece_length layers f = record f { layer = layer_for piece_length layers f }
+with_layer piece_length layers f = record f { layer = layer_for piece_length layers f.length f.root }
 
 -- what is wrong with these bytes as the layer of a file of so many bytes with this root
 abbrev pub layer_bytes_fault : ℕ → ℕ → List ℕ → List ℕ → Check
-layer_bytes_fault piece_length bytes root layer = first_of (
-    fault_if (not (has_layer_size piece_length bytes layer)) LayerSize
-    ∷ fault_if (not (has_root piece_length bytes root layer)) LayerDiffers
-    ∷ [])
+layer_bytes_fault piece_length bytes root layer = first_of (layer_bytes_checks piece_length bytes root layer)
 
 -- what is wrong with the layer of the file
 abbrev pub layer_fault : ℕ → Data → File → Check
-layer_fault piece_length layers f =
-    if nat_lt piece_length f.length then first_of (
-    fault_if (is_none (string_at layers f.root)) LayerMissing
-    ∷ layer_bytes_fault piece_length f.length f.root (layer_for piece_length layers f)
-    ∷ []) else None
+layer_fault piece_length layers f = layer_check_for piece_length layers f.length f.root
 
 abbrev pub layer_faults : ℕ → Data → List File → List Check
 layer_faults piece_length layers files = map (layer_fault piece_length layers) files

@@ -13,7 +13,7 @@ pub enum MetaError {
     /// The bytes are no canonical bencoding.
     #[error("M1 Bencode {0}")]
     Bencode(BencodeError),
-    /// There is no dictionary `info`.
+    /// There is no dictionary `info`; or, where an info dictionary is read alone, the bytes spell no dictionary.
     #[error("M2 NoInfo")]
     NoInfo,
     /// `info` has no integer `meta version`.
@@ -31,7 +31,8 @@ pub enum MetaError {
     /// The `piece length` is no power of two from 2^14 to 2^28.
     #[error("M7 PieceLength")]
     PieceLength,
-    /// The `file tree` is not made of dictionaries, has an empty key that is not alone, or has no file.
+    /// There is no `file tree`, it is not made of dictionaries, it has the empty key at its top, or further down beside
+    /// other keys, or it has no file.
     #[error("M8 Tree")]
     Tree,
     /// A path element is `.` or `..`, has `/` or a zero byte, or is not UTF-8.

@@ -76,9 +76,93 @@ fn reads_the_abc_info(rt: HostRuntime) -> Result<(), Fail> {
     let whole = read_torrent(rt.alloc(), &bytes)?;
     assert_eq!(rt; torrent.name(), b"a.txt".as_slice());
     assert_eq!(rt; torrent.infohash(), whole.infohash());
-    assert_eq!(rt; torrent.files().len(), 1);
+    assert_eq!(rt; torrent.piece_length(), 16384);
+    assert_eq!(rt; torrent.pieces(), 1);
+    let files = torrent.files();
+    assert_eq!(rt; files.len(), 1);
+    let file = &files[0];
+    assert_eq!(rt; file.path.len(), 1);
+    assert_eq!(rt; file.path[0].as_str(), "a.txt");
+    assert_eq!(rt; file.length, 3);
+    assert_eq!(rt; file.root, ABC_ROOT);
+    assert_eq!(rt; file.first_piece, 0);
+    assert_eq!(rt; file.layer.len(), 0);
     let refused = read_info(rt.alloc(), b"le");
     assert!(rt; refused.is_err_and(|error| error == MetaError::NoInfo));
+    Ok(())
+}
+
+/// The root of the 49,152 bytes of three blocks that are filled with 01, 02 and 03.
+const THREE_BLOCKS_ROOT: [u8; 32] = [
+    0x35, 0x75, 0x4e, 0xe0, 0x33, 0x60, 0xca, 0xca, 0xb5, 0xe9, 0xe2, 0x76, 0x47, 0xda, 0x3d, 0x2a,
+    0x4a, 0xb6, 0xf9, 0x76, 0x14, 0xed, 0x7d, 0x16, 0x92, 0xb9, 0xeb, 0x3c, 0x42, 0xa6, 0x5d, 0x69,
+];
+
+/// The torrent of that file, which is shorter than its piece of 131,072 bytes, and of an empty file behind it.
+fn short_torrent(rt: &impl AllocGlobal) -> Result<Vec<u8>, Fail> {
+    let mut bytes = Vec::new(rt.alloc());
+    bytes.extend_from_slice(b"d4:infod9:file treed6:blocksd0:d6:lengthi49152e11:pieces root32:")?;
+    bytes.extend_from_slice(&THREE_BLOCKS_ROOT)?;
+    bytes.extend_from_slice(b"ee5:emptyd0:d6:lengthi0eeee12:meta versioni2e")?;
+    bytes.extend_from_slice(b"4:name5:short12:piece lengthi131072ee12:piece layersdee")?;
+    Ok(bytes)
+}
+
+#[test]
+fn a_file_shorter_than_a_piece_has_no_layer(rt: HostRuntime) -> Result<(), Fail> {
+    let bytes = short_torrent(&rt)?;
+    let torrent = read_torrent(rt.alloc(), &bytes)?;
+    assert_eq!(rt; torrent.piece_length(), 131_072);
+    assert_eq!(rt; torrent.pieces(), 1);
+    let files = torrent.files();
+    assert_eq!(rt; files.len(), 2);
+    let file = &files[0];
+    assert_eq!(rt; file.path.len(), 1);
+    assert_eq!(rt; file.path[0].as_str(), "blocks");
+    assert_eq!(rt; file.length, 49_152);
+    assert_eq!(rt; file.root, THREE_BLOCKS_ROOT);
+    assert_eq!(rt; file.first_piece, 0);
+    assert_eq!(rt; file.layer.len(), 0);
+    let empty = &files[1];
+    assert_eq!(rt; empty.path.len(), 1);
+    assert_eq!(rt; empty.path[0].as_str(), "empty");
+    assert_eq!(rt; empty.length, 0);
+    assert_eq!(rt; empty.root, [0; 32]);
+    assert_eq!(rt; empty.first_piece, 1);
+    assert_eq!(rt; empty.layer.len(), 0);
+    Ok(())
+}
+
+/// The names and codes that are printed.
+#[test]
+fn names_its_refusals(rt: HostRuntime) -> Result<(), Fail> {
+    let table = [
+        (
+            MetaError::Bencode(BencodeError::Trailing(2)),
+            "M1 Bencode B7 Trailing 2",
+        ),
+        (MetaError::NoInfo, "M2 NoInfo"),
+        (MetaError::NotV2, "M3 NotV2"),
+        (MetaError::Version(-1), "M4 Version -1"),
+        (MetaError::Hybrid, "M5 Hybrid"),
+        (MetaError::NoName, "M6 NoName"),
+        (MetaError::PieceLength, "M7 PieceLength"),
+        (MetaError::Tree, "M8 Tree"),
+        (MetaError::BadPath, "M9 BadPath"),
+        (MetaError::Symlink, "M10 Symlink"),
+        (MetaError::FileLength, "M11 FileLength"),
+        (MetaError::BadRoot, "M12 BadRoot"),
+        (MetaError::RootConflict, "M13 RootConflict"),
+        (MetaError::TooMany, "M14 TooMany"),
+        (MetaError::LayerMissing, "M15 LayerMissing"),
+        (MetaError::LayerSize, "M16 LayerSize"),
+        (MetaError::LayerDiffers, "M17 LayerDiffers"),
+        (MetaError::OutOfMemory, "M18 OutOfMemory"),
+    ];
+    for (error, wanted) in table {
+        let text = error.to_string(rt.alloc())?;
+        assert_eq!(rt; text.as_str(), wanted);
+    }
     Ok(())
 }
 
@@ -107,70 +191,74 @@ fn tree_refusal(rt: &(impl AllocGlobal + Abort), tree: &str) -> Result<String, F
     refusal(rt, info.as_bytes())
 }
 
+/// Info dictionaries of one fault, and how each is refused.
+const INFOS: [(&str, &str); 13] = [
+    ("le", "M2 NoInfo"),
+    ("de", "M3 NotV2"),
+    ("d12:meta version1:2e", "M3 NotV2"),
+    ("d12:meta versioni3e12:piece lengthi1ee", "M4 Version 3"),
+    ("d12:meta versioni2e6:pieces0:e", "M5 Hybrid"),
+    ("d12:meta versioni2e4:namei1ee", "M6 NoName"),
+    ("d12:meta versioni2e4:name1:ae", "M7 PieceLength"),
+    (
+        "d12:meta versioni2e4:name1:a12:piece length5:16384e",
+        "M7 PieceLength",
+    ),
+    (
+        "d12:meta versioni2e4:name1:a12:piece lengthi8192ee",
+        "M7 PieceLength",
+    ),
+    (
+        "d12:meta versioni2e4:name1:a12:piece lengthi20000ee",
+        "M7 PieceLength",
+    ),
+    (
+        "d12:meta versioni2e4:name1:a12:piece lengthi536870912ee",
+        "M7 PieceLength",
+    ),
+    (
+        "d12:meta versioni2e4:name1:a12:piece lengthi-16384ee",
+        "M7 PieceLength",
+    ),
+    (
+        "d12:meta versioni2e4:name1:a12:piece lengthi16384ee",
+        "M8 Tree",
+    ),
+];
+
+/// The same of file trees, and two that are taken.
+const TREES: [(&str, &str); 16] = [
+    ("de", "M8 Tree"),
+    ("d0:dee", "M8 Tree"),
+    ("d1:a0:e", "M8 Tree"),
+    ("d1:ad0:1:xee", "M8 Tree"),
+    ("d1:ad0:de1:bdeee", "M8 Tree"),
+    ("d1:.d0:deee", "M9 BadPath"),
+    ("d2:..d0:deee", "M9 BadPath"),
+    ("d3:a/bd0:deee", "M9 BadPath"),
+    ("d1:ad0:d12:symlink path1:beee", "M10 Symlink"),
+    ("d1:ad0:deee", "M11 FileLength"),
+    ("d1:ad0:d6:lengthi-1eeee", "M11 FileLength"),
+    ("d1:ad0:d6:length1:1eee", "M11 FileLength"),
+    ("d1:ad0:d6:lengthi1eeee", "M12 BadRoot"),
+    (
+        "d1:ad0:d6:lengthi1e11:pieces root31:aaaaaaaaaaaaaaaaaaaaaaaaaaaaaaaeee",
+        "M12 BadRoot",
+    ),
+    (
+        "d1:ad0:d6:lengthi1e11:pieces root32:aaaaaaaaaaaaaaaaaaaaaaaaaaaaaaaaeee",
+        "taken",
+    ),
+    ("d1:ad0:d6:lengthi0eeee", "taken"),
+];
+
 #[test]
 fn refuses_by_name(rt: HostRuntime) -> Result<(), Fail> {
-    let table = [
-        ("le", "M2 NoInfo"),
-        ("de", "M3 NotV2"),
-        ("d12:meta version1:2e", "M3 NotV2"),
-        ("d12:meta versioni3e12:piece lengthi1ee", "M4 Version 3"),
-        ("d12:meta versioni2e6:pieces0:e", "M5 Hybrid"),
-        ("d12:meta versioni2e4:namei1ee", "M6 NoName"),
-        ("d12:meta versioni2e4:name1:ae", "M7 PieceLength"),
-        (
-            "d12:meta versioni2e4:name1:a12:piece length5:16384e",
-            "M7 PieceLength",
-        ),
-        (
-            "d12:meta versioni2e4:name1:a12:piece lengthi8192ee",
-            "M7 PieceLength",
-        ),
-        (
-            "d12:meta versioni2e4:name1:a12:piece lengthi20000ee",
-            "M7 PieceLength",
-        ),
-        (
-            "d12:meta versioni2e4:name1:a12:piece lengthi536870912ee",
-            "M7 PieceLength",
-        ),
-        (
-            "d12:meta versioni2e4:name1:a12:piece lengthi-16384ee",
-            "M7 PieceLength",
-        ),
-        (
-            "d12:meta versioni2e4:name1:a12:piece lengthi16384ee",
-            "M8 Tree",
-        ),
-    ];
-    for (info, wanted) in table {
+    for (info, wanted) in INFOS {
         let answer = refusal(&rt, info.as_bytes())?;
         assert_eq!(rt; answer.as_str(), wanted, "at {info}");
     }
-    let trees = [
-        ("de", "M8 Tree"),
-        ("d0:dee", "M8 Tree"),
-        ("d1:a0:e", "M8 Tree"),
-        ("d1:ad0:1:xee", "M8 Tree"),
-        ("d1:ad0:de1:bdeee", "M8 Tree"),
-        ("d1:.d0:deee", "M9 BadPath"),
-        ("d2:..d0:deee", "M9 BadPath"),
-        ("d3:a/bd0:deee", "M9 BadPath"),
-        ("d1:ad0:d12:symlink path1:beee", "M10 Symlink"),
-        ("d1:ad0:deee", "M11 FileLength"),
-        ("d1:ad0:d6:lengthi-1eeee", "M11 FileLength"),
-        ("d1:ad0:d6:length1:1eee", "M11 FileLength"),
-        ("d1:ad0:d6:lengthi1eeee", "M12 BadRoot"),
-        (
-            "d1:ad0:d6:lengthi1e11:pieces root31:aaaaaaaaaaaaaaaaaaaaaaaaaaaaaaaeee",
-            "M12 BadRoot",
-        ),
-        (
-            "d1:ad0:d6:lengthi1e11:pieces root32:aaaaaaaaaaaaaaaaaaaaaaaaaaaaaaaaeee",
-            "taken",
-        ),
-        ("d1:ad0:d6:lengthi0eeee", "taken"),
-    ];
-    for (tree, wanted) in trees {
+    for (tree, wanted) in TREES {
         let answer = tree_refusal(&rt, tree)?;
         assert_eq!(rt; answer.as_str(), wanted, "at {tree}");
     }
@@ -178,7 +266,7 @@ fn refuses_by_name(rt: HostRuntime) -> Result<(), Fail> {
 }
 
 /// Torrents of two faults, and which is answered.
-const TEXTS: [(&str, &str); 8] = [
+const FAULTY_TEXTS: [(&str, &str); 8] = [
     ("i00e", "M1 Bencode B3 LeadingZero 1"),
     ("le", "M2 NoInfo"),
     ("d4:infolee", "M2 NoInfo"),
@@ -190,7 +278,7 @@ const TEXTS: [(&str, &str); 8] = [
 ];
 
 /// The same of file trees.
-const TREES: [(&str, &str); 11] = [
+const FAULTY_TREES: [(&str, &str); 11] = [
     ("d1:.0:e", "M8 Tree"),
     ("d0:d1:xd0:deeee", "M8 Tree"),
     ("d1:.d0:d12:symlink path1:beee", "M9 BadPath"),
@@ -220,11 +308,11 @@ const TREES: [(&str, &str); 11] = [
 
 #[test]
 fn refuses_in_order(rt: HostRuntime) -> Result<(), Fail> {
-    for (text, wanted) in TEXTS {
+    for (text, wanted) in FAULTY_TEXTS {
         let answer = answer(&rt, text.as_bytes())?;
         assert_eq!(rt; answer.as_str(), wanted, "at {text}");
     }
-    for (tree, wanted) in TREES {
+    for (tree, wanted) in FAULTY_TREES {
         let answer = tree_refusal(&rt, tree)?;
         assert_eq!(rt; answer.as_str(), wanted, "at {tree}");
     }

@@ -17,7 +17,8 @@ pub struct FileEntry {
     pub root: Hash32,
     /// The index of its first piece; an empty file has that of the next file.
     pub first_piece: u32,
-    /// The digests of its pieces, 32 bytes each: for a file longer than one piece, and empty for any other.
+    /// The digests of its pieces, 32 bytes each: for a file longer than one piece, and empty for any other. It is empty
+    /// for every file of a torrent that was read from its info dictionary alone.
     pub layer: Vec<u8>,
 }
 

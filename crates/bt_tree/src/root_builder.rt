@@ -73,8 +73,9 @@ impl<H: NodeHash> RootBuilder<H> {
 
     /// Takes one or more next blocks below the node, each of 16,384 bytes but for the file's last.
     ///
-    /// `Shape` where the run is empty, ends inside a block or goes past the node; the builder then stays as it was.
-    /// It makes no difference how the bytes are cut into runs.
+    /// Errors: `Shape` for a run of no bytes, for one whose last byte is not the last of its block, and for one of more
+    /// bytes than the node still lacks; nothing of the run is then kept. However the bytes are cut into runs, the
+    /// builder ends up the same.
     pub fn push(&mut self, run: &[u8]) -> Result<(), Shape>
         ensures variant { IsOk result ↔ IsNextRun self.old (length run.now) }
         ensures place { OnOk result (TakesBlocks self.old self.new (block_count (length run.now))) }
