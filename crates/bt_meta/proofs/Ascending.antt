@@ -169,13 +169,13 @@ files_stand piece_length layers before (p ∷ places) h =
     (files_behind p.path piece_length layers (before ++ p ∷ []) places (λ i d within. h 0 (suc i) d (omega arith) (omega arith)))
     (files_stand piece_length layers (before ++ p ∷ []) places (λ i j d lt within. h (suc i) (suc j) d (omega arith) (omega arith)))
 
-files_ascend : (piece_length : ℕ) (layers tree : Data) → HasAscendingKeys tree → HaveAscendingPaths (files_of piece_length layers tree)
+pub files_ascend : (piece_length : ℕ) (layers tree : Data) → HasAscendingKeys tree → HaveAscendingPaths (files_of piece_length layers tree)
 unfolding files_of
 files_ascend piece_length layers tree h = files_stand piece_length layers [] (filter is_file (places_below [] tree)) (AllPairs-filter StandsBefore is_file (places_below [] tree) (below_ascends [] tree h))
 
 -- ---- the torrent
 
-at_key : (d : Data) (key : List ℕ) → HasAscendingKeys d → HasAscendingKeys (unwrap_or (dictionary_at d key) no_dictionary)
+pub at_key : (d : Data) (key : List ℕ) → HasAscendingKeys d → HasAscendingKeys (unwrap_or (dictionary_at d key) no_dictionary)
 unfolding dictionary_at HasAscendingKeys EntriesAscend
 at_key d key h = by_field (field_of d key) (λ v e. field_ascends d key v h e)
   where

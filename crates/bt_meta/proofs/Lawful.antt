@@ -1,31 +1,26 @@
--- The torrents that are read have a lawful piece length, and their files lawful lengths and layers.
-use Rattle.std.proofs.Common.{◌≡◌, ℕ, ◌^◌, ◌≤◌, Bool, true, false, List, [], ◌∷◌, ◌++◌, Option, None, Some, map, refl, sym, ap, ◌∙◌, subst}
-use Rattle.std.specs.Prelude.{◌≢◌, ◌&&◌, not, is_none, ⊤, codes, nat_lt, nat_le, unwrap_or, if◌then◌else◌}
+-- What is read keeps to what every torrent does.
+use Rattle.std.proofs.Common.{◌≡◌, ℕ, ◌^◌, ◌<◌, ◌≤◌, Bool, true, false, List, [], ◌∷◌, ◌++◌, Option, None, Some, map, refl, sym, ap, ◌∙◌, subst}
+use Rattle.std.specs.Prelude.{◌≢◌, ◌&&◌, ◌||◌, ◌==◌, length, replicate, not, is_none, ⊤, codes, nat_lt, nat_le, sum_by, unwrap_or, if◌then◌else◌}
 use Rattle.std.specs.Int.{is_power_of_two}
 use Rattle.std.specs.Option.{option_map_or}
 use Rattle.std.specs.List.{All, filter, list_any}
-use Rattle.std.proofs.lemmas.Bool.{and_parts, leb-true}
+use Rattle.std.proofs.lemmas.Bool.{and_parts, eqb-true, leb-true, ltb-true}
 use Rattle.std.proofs.lemmas.List.Elements.{All-nil, All-cons, All-head, All-tail, All-filter, All-weaker, filter_passes}
 use Rattle.bt_bencode.specs.Data.{Data}
+use Rattle.bt_bencode.specs.Spelling.{HasAscendingKeys}
 use Rattle.bt_tree.specs.TreeShape.{IsPieceLength}
-use Rattle.bt_meta.specs.Faults.{Check, first_of, fault_if, is_piece_length, piece_length_of, tree_of, info_of, layers_of, head_checks, tree_checks, info_checks, entry_check, layer_check, layer_checks, file_checks, first_fault, first_info_fault, has_lawful_length, has_lawful_name, is_dictionary, is_node, is_too_many}
+use Rattle.bt_meta.specs.Faults.{Check, first_of, fault_if, is_piece_length, piece_length_of, tree_of, info_of, layers_of, head_checks, tree_checks, info_checks, entry_check, layer_check, layer_checks, file_checks, first_fault, first_info_fault, has_lawful_length, has_lawful_name, has_lawful_root, is_dictionary, is_node, is_too_many}
 use Rattle.bt_meta.specs.Fields.{dictionary_at, has_key, natural_at, no_dictionary, string_at}
-use Rattle.bt_meta.specs.Files.{File, file_at, files_of, is_file, layer_at, length_in, length_of, root_of, properties_of}
+use Rattle.bt_meta.specs.Files.{file_at, files_of, is_file, layer_at, length_in, length_of, piece_count, root_of, root_in, properties_of}
 use Rattle.bt_meta.specs.Layers.{has_layer_size, has_root}
 use Rattle.bt_meta.specs.Places.{Place, places_below, with_earlier}
-use Rattle.bt_meta.specs.Torrent.{Metainfo, IsInfo, IsTorrent, metainfo_of}
-use Rattle.bt_meta.specs.declared.error.MetaError.TheVariants.{NoInfo, PieceLength, Tree, BadPath, FileLength, TooMany, LayerMissing, LayerSize, LayerDiffers}
+use Rattle.bt_meta.specs.Torrent.{Metainfo, metainfo_of}
+use Rattle.bt_meta.specs.Lawful.{IsLawful, IsLawfulFile}
+use Rattle.bt_meta.specs.declared.error.MetaError.TheVariants.{NoInfo, PieceLength, Tree, BadPath, FileLength, BadRoot, TooMany, LayerMissing, LayerSize, LayerDiffers}
 use Rattle.bt_meta.proofs.Checks.{head_none, tail_none, holds_unless}
-
--- a file of at most 2 ^ 40 bytes; one with a layer is longer than a piece, and the layer has the size that it must
-pub record IsLawfulFile (piece_length : ℕ) (file : File) : Type 0 where
-  pub short : file.length ≤ 2 ^ 40
-  pub long : file.layer ≢ [] → nat_lt piece_length file.length ≡ true
-  pub sized : file.layer ≢ [] → has_layer_size piece_length file.length file.layer ≡ true
-
-pub record IsLawful (torrent : Metainfo) : Type 0 where
-  pub pieces : IsPieceLength torrent.piece_length
-  pub files : All (IsLawfulFile torrent.piece_length) torrent.files
+use Rattle.bt_meta.proofs.Turns.{few_pieces, laid_out}
+use Rattle.bt_meta.proofs.Trees.{same_sum}
+use Rattle.bt_meta.proofs.Ascending.{at_key, files_ascend}
 
 -- ---- checks without a fault
 
@@ -58,10 +53,16 @@ piece_lawful n e =
     let inner = and_parts (is_power_of_two n) (nat_le (2 ^ 14) n) outer.0 in
     record { power = inner.0; least = leb-true (2 ^ 14) n inner.1; greatest = leb-true n (2 ^ 28) outer.1 }
 
--- ---- the lengths of files
+-- ---- the lengths and the roots of files
 
-abbrev IsShort : Place → Type 0
-IsShort p = is_file p ≡ true → length_of p ≤ 2 ^ 40
+-- what is known of the properties of a file
+record IsSound (properties : Data) : Type 0 where
+  short : length_in properties ≤ 2 ^ 40
+  rooted : length (root_in properties) ≡ 32
+  zeros : length_in properties ≡ 0 → root_in properties ≡ replicate 32 0
+
+abbrev HasSoundFile : Place → Type 0
+HasSoundFile p = is_file p ≡ true → IsSound (properties_of p)
 
 short_length : (n : Option ℕ) → option_map_or (λ k. nat_le k (2 ^ 40)) n false ≡ true → unwrap_or n 0 ≤ 2 ^ 40
 short_length None h = cc
@@ -71,29 +72,47 @@ lawful_length : (properties : Data) → has_lawful_length properties ≡ true �
 unfolding has_lawful_length length_in
 lawful_length properties h = short_length (natural_at properties (codes "length")) h
 
-short_place : (n : ℕ) (before : List Place) (p : Place) → entry_check n before p ≡ None → IsShort p
-short_place n before p h file =
+root_length : (empty : Bool) (root : List ℕ) → (empty || length (if empty then replicate 32 0 else root) == 32) ≡ true → length (if empty then replicate 32 0 else root) ≡ 32
+root_length true root h = refl
+root_length false root h = eqb-true (length root) 32 h
+
+lawful_root : (properties : Data) → has_lawful_root properties ≡ true → length (root_in properties) ≡ 32
+unfolding has_lawful_root root_in
+lawful_root properties h = root_length (length_in properties == 0) (unwrap_or (string_at properties (codes "pieces root")) []) h
+
+root_of_none : (properties : Data) → length_in properties ≡ 0 → root_in properties ≡ replicate 32 0
+unfolding root_in
+root_of_none properties e = rw e refl
+
+sound_place : (n : ℕ) (before : List Place) (p : Place) → entry_check n before p ≡ None → HasSoundFile p
+sound_place n before p h file =
     let checks : List Check =
     fault_if (not (is_node p.value)) Tree
     ∷ fault_if (not (has_lawful_name p)) BadPath
     ∷ (if is_file p then first_of (file_checks before p) else None)
     ∷ fault_if (is_too_many n before p) TooMany
     ∷ [] in
+    let properties = properties_of p in
     let of_file : first_of (file_checks before p) ≡ None = ap (λ b. if b then first_of (file_checks before p) else None) (sym file) ∙ (passed checks h).1.1.0 in
-    lawful_length (properties_of p) (holds_unless (has_lawful_length (properties_of p)) FileLength (passed (file_checks before p) of_file).1.0)
+    let each = passed (file_checks before p) of_file in
+    record {
+      short = lawful_length properties (holds_unless (has_lawful_length properties) FileLength each.1.0);
+      rooted = lawful_root properties (holds_unless (has_lawful_root properties) BadRoot each.1.1.0);
+      zeros = root_of_none properties;
+    }
 
-all_short : (n : ℕ) (before places : List Place) → first_of (with_earlier (entry_check n) before places) ≡ None → All IsShort places
-all_short n before [] h = All-nil IsShort
-all_short n before (p ∷ places) h =
+all_sound : (n : ℕ) (before places : List Place) → first_of (with_earlier (entry_check n) before places) ≡ None → All HasSoundFile places
+all_sound n before [] h = All-nil HasSoundFile
+all_sound n before (p ∷ places) h =
     let rest = with_earlier (entry_check n) (before ++ p ∷ []) places in
-    All-cons IsShort p places (short_place n before p (head_none (entry_check n before p) rest h)) (all_short n (before ++ p ∷ []) places (tail_none (entry_check n before p) rest h))
+    All-cons HasSoundFile p places (sound_place n before p (head_none (entry_check n before p) rest h)) (all_sound n (before ++ p ∷ []) places (tail_none (entry_check n before p) rest h))
 
-tree_short : (n : ℕ) (tree : Data) → first_of (tree_checks n tree) ≡ None → All IsShort (places_below [] tree)
+tree_sound : (n : ℕ) (tree : Data) → first_of (tree_checks n tree) ≡ None → All HasSoundFile (places_below [] tree)
 unfolding tree_checks
-tree_short n tree h =
+tree_sound n tree h =
     let entries = with_earlier (entry_check n) [] (places_below [] tree) in
     let last : List Check = fault_if (not (list_any is_file (places_below [] tree))) Tree ∷ [] in
-    all_short n [] (places_below [] tree) (front_none entries last (tail_none (fault_if (has_key tree []) Tree) (entries ++ last) h))
+    all_sound n [] (places_below [] tree) (front_none entries last (tail_none (fault_if (has_key tree []) Tree) (entries ++ last) h))
 
 -- ---- their layers
 
@@ -122,7 +141,7 @@ tree_sized n layers tree h = all_sized n layers (filter is_file (places_below []
 
 -- what is known of the layer of a place
 record IsLayered (n : ℕ) (layers : Data) (p : Place) : Type 0 where
-  long : layer_at n layers p ≢ [] → nat_lt n (length_of p) ≡ true
+  long : layer_at n layers p ≢ [] → n < length_of p
   sized : layer_at n layers p ≢ [] → has_layer_size n (length_of p) (layer_at n layers p) ≡ true
 
 then_long : (b : Bool) (layer : List ℕ) → (if b then layer else []) ≢ [] → b ≡ true
@@ -132,7 +151,7 @@ then_long false layer h = absurd (h refl)
 with_layer : (n : ℕ) (layers : Data) (p : Place) → IsSized n layers p → IsLayered n layers p
 with_layer n layers p h =
     let long : layer_at n layers p ≢ [] → nat_lt n (length_of p) ≡ true = then_long (nat_lt n (length_of p)) (unwrap_or (string_at layers (root_of p)) []) in
-    record { long = long; sized = λ some. h (long some) }
+    record { long = λ some. ltb-true n (length_of p) (long some); sized = λ some. h (long some) }
 
 -- an info dictionary has no layers
 then_none : (b : Bool) (layer : List ℕ) → layer ≡ [] → (if b then layer else []) ≡ []
@@ -155,31 +174,48 @@ none_layered n (p ∷ ps) = All-cons (IsLayered n no_dictionary) p ps (without_l
 abbrev IsFile : Place → Type 0
 IsFile p = is_file p ≡ true
 
-lawful_files : (n : ℕ) (layers : Data) (before ps : List Place) → All IsFile ps → All IsShort ps → All (IsLayered n layers) ps
+lawful_files : (n : ℕ) (layers : Data) (before ps : List Place) → All IsFile ps → All HasSoundFile ps → All (IsLayered n layers) ps
     → All (IsLawfulFile n) (with_earlier (file_at n layers) before ps)
-lawful_files n layers before [] files short layered = All-nil (IsLawfulFile n)
-lawful_files n layers before (p ∷ ps) files short layered =
+lawful_files n layers before [] files sound layered = All-nil (IsLawfulFile n)
+lawful_files n layers before (p ∷ ps) files sound layered =
     let own = All-head (IsLayered n layers) p ps layered in
+    let known = All-head HasSoundFile p ps sound (All-head IsFile p ps files) in
     let lawful : IsLawfulFile n (file_at n layers before p) =
-    record { short = All-head IsShort p ps short (All-head IsFile p ps files); long = own.long; sized = own.sized } in
+    record { short = known.short; rooted = known.rooted; zeros = known.zeros; long = own.long; sized = own.sized } in
     All-cons (IsLawfulFile n) (file_at n layers before p) (with_earlier (file_at n layers) (before ++ p ∷ []) ps) lawful
-    (lawful_files n layers (before ++ p ∷ []) ps (All-tail IsFile p ps files) (All-tail IsShort p ps short) (All-tail (IsLayered n layers) p ps layered))
+    (lawful_files n layers (before ++ p ∷ []) ps (All-tail IsFile p ps files) (All-tail HasSoundFile p ps sound) (All-tail (IsLayered n layers) p ps layered))
 
-lawful_tree : (n : ℕ) (layers tree : Data) → All IsShort (places_below [] tree) → All (IsLayered n layers) (filter is_file (places_below [] tree))
+lawful_tree : (n : ℕ) (layers tree : Data) → All HasSoundFile (places_below [] tree) → All (IsLayered n layers) (filter is_file (places_below [] tree))
     → All (IsLawfulFile n) (files_of n layers tree)
 unfolding files_of
-lawful_tree n layers tree short layered =
+lawful_tree n layers tree sound layered =
     let places = places_below [] tree in
-    lawful_files n layers [] (filter is_file places) (filter_passes is_file places) (All-filter is_file IsShort places short) layered
+    lawful_files n layers [] (filter is_file places) (filter_passes is_file places) (All-filter is_file HasSoundFile places sound) layered
 
-lawful_info : (info layers : Data) → first_of (info_checks info) ≡ None
-    → All (IsLayered (piece_length_of info) layers) (filter is_file (places_below [] (tree_of info))) → IsLawful (metainfo_of info layers)
-unfolding metainfo_of
-lawful_info info layers h layered = record {
-  pieces = piece_lawful (piece_length_of info) (head_lawful info (front_none (head_checks info) (tree_checks (piece_length_of info) (tree_of info)) h));
-  files = lawful_tree (piece_length_of info) layers (tree_of info)
-      (tree_short (piece_length_of info) (tree_of info) (back_none (head_checks info) (tree_checks (piece_length_of info) (tree_of info)) h)) layered;
-}
+few_in : (n : ℕ) (layers tree : Data) → first_of (tree_checks n tree) ≡ None → sum_by (λ f. piece_count n f.length) (files_of n layers tree) ≤ 2 ^ 21
+unfolding files_of
+few_in n layers tree h = rw (same_sum n layers tree (with_earlier (file_at n layers) [] (filter is_file (places_below [] tree))) refl) (few_pieces n tree h)
+
+abbrev KeepsTo : Metainfo → Type 0
+KeepsTo torrent = IsLawful torrent.piece_length torrent.files
+
+pub keeps_to : {torrent other : Metainfo} → torrent ≡ other → KeepsTo torrent → IsLawful other.piece_length other.files
+keeps_to same h = subst KeepsTo same h
+
+lawful_info : (info layers : Data) → HasAscendingKeys info → first_of (info_checks info) ≡ None
+    → All (IsLayered (piece_length_of info) layers) (filter is_file (places_below [] (tree_of info))) → KeepsTo (metainfo_of info layers)
+unfolding metainfo_of tree_of
+lawful_info info layers keys h layered =
+    let n = piece_length_of info in
+    let tree = tree_of info in
+    let of_tree : first_of (tree_checks n tree) ≡ None = back_none (head_checks info) (tree_checks n tree) h in
+    record {
+      piece = piece_lawful n (head_lawful info (front_none (head_checks info) (tree_checks n tree) h));
+      each = lawful_tree n layers tree (tree_sound n tree of_tree) layered;
+      few_pieces = few_in n layers tree of_tree;
+      laid_out = laid_out n layers tree of_tree;
+      ascending = files_ascend n layers tree (at_key info (codes "file tree") keys);
+    }
 
 faultless_info : (info : Data) → first_info_fault info ≡ None → first_of (info_checks info) ≡ None
 unfolding first_info_fault
@@ -192,16 +228,17 @@ faultless value h =
     tail_none (fault_if (is_none (dictionary_at value (codes "info"))) NoInfo)
     (info_checks (info_of value) ++ layer_checks (piece_length_of (info_of value)) (layers_of value) (tree_of (info_of value))) h
 
-pub info_is_lawful : (bytes : List ℕ) (torrent : Metainfo) → IsInfo bytes torrent → IsLawful torrent
-info_is_lawful bytes torrent t =
-    subst IsLawful (sym t.described) (lawful_info t.value no_dictionary (faultless_info t.value t.faultless) (none_layered (piece_length_of t.value) (filter is_file (places_below [] (tree_of t.value)))))
+pub info_keeps_to : (info : Data) → HasAscendingKeys info → first_info_fault info ≡ None → KeepsTo (metainfo_of info no_dictionary)
+info_keeps_to info keys h =
+    lawful_info info no_dictionary keys (faultless_info info h) (none_layered (piece_length_of info) (filter is_file (places_below [] (tree_of info))))
 
-pub torrent_is_lawful : (bytes : List ℕ) (torrent : Metainfo) → IsTorrent bytes torrent → IsLawful torrent
-torrent_is_lawful bytes torrent t =
-    let info : Data = info_of t.value in
-    let of_layers : List Check = layer_checks (piece_length_of info) (layers_of t.value) (tree_of info) in
-    let all = faultless t.value t.faultless in
-    let sized = tree_sized (piece_length_of info) (layers_of t.value) (tree_of info) (back_none (info_checks info) of_layers all) in
-    subst IsLawful (sym t.described) (lawful_info info (layers_of t.value) (front_none (info_checks info) of_layers all)
-    (All-weaker (IsSized (piece_length_of info) (layers_of t.value)) (IsLayered (piece_length_of info) (layers_of t.value))
-    (with_layer (piece_length_of info) (layers_of t.value)) (filter is_file (places_below [] (tree_of info))) sized))
+pub torrent_keeps_to : (value : Data) → HasAscendingKeys value → first_fault value ≡ None → KeepsTo (metainfo_of (info_of value) (layers_of value))
+unfolding info_of
+torrent_keeps_to value keys h =
+    let info : Data = info_of value in
+    let layers : Data = layers_of value in
+    let of_layers : List Check = layer_checks (piece_length_of info) layers (tree_of info) in
+    let all = faultless value h in
+    let sized = tree_sized (piece_length_of info) layers (tree_of info) (back_none (info_checks info) of_layers all) in
+    lawful_info info layers (at_key value (codes "info") keys) (front_none (info_checks info) of_layers all)
+    (All-weaker (IsSized (piece_length_of info) layers) (IsLayered (piece_length_of info) layers) (with_layer (piece_length_of info) layers) (filter is_file (places_below [] (tree_of info))) sized)

@@ -95,17 +95,17 @@ no_file piece_length tree path old new p t h s e =
     let walked = passed_all piece_length tree path old new p h s in
     to_last piece_length tree t walked.1 ∙ last_is piece_length tree new true walked.0 e
 
-same_sum : (piece_length : ℕ) (tree : Data) (files : List File) → files ≡ with_earlier (file_at piece_length no_dictionary) [] (filter is_file (places_below [] tree))
+pub same_sum : (piece_length : ℕ) (layers tree : Data) (files : List File) → files ≡ with_earlier (file_at piece_length layers) [] (filter is_file (places_below [] tree))
     → sum_by (λ f. piece_count piece_length f.length) files ≡ pieces_of piece_length (places_below [] tree)
-same_sum piece_length tree files e = ap (sum_by (λ f. piece_count piece_length f.length)) e ∙ sums [] (filter is_file (places_below [] tree))
+same_sum piece_length layers tree files e = ap (sum_by (λ f. piece_count piece_length f.length)) e ∙ sums [] (filter is_file (places_below [] tree))
   where
-    counts : (before places : List Place) → map (λ f. piece_count piece_length f.length) (with_earlier (file_at piece_length no_dictionary) before places) ≡ map (λ p. piece_count piece_length (length_of p)) places
+    counts : (before places : List Place) → map (λ f. piece_count piece_length f.length) (with_earlier (file_at piece_length layers) before places) ≡ map (λ p. piece_count piece_length (length_of p)) places
     counts before [] = refl
     counts before (p ∷ places) = ap (λ ns. piece_count piece_length (length_of p) ∷ ns) (counts (before ++ p ∷ []) places)
 
-    sums : (before places : List Place) → sum_by (λ f. piece_count piece_length f.length) (with_earlier (file_at piece_length no_dictionary) before places) ≡ sum_by (λ p. piece_count piece_length (length_of p)) places
+    sums : (before places : List Place) → sum_by (λ f. piece_count piece_length f.length) (with_earlier (file_at piece_length layers) before places) ≡ sum_by (λ p. piece_count piece_length (length_of p)) places
     sums before places =
-        sym (sum-map (λ (f : File). piece_count piece_length f.length) (with_earlier (file_at piece_length no_dictionary) before places)) ∙ ap sum (counts before places)
+        sym (sum-map (λ (f : File). piece_count piece_length f.length) (with_earlier (file_at piece_length layers) before places)) ∙ ap sum (counts before places)
         ∙ sum-map (λ (p : Place). piece_count piece_length (length_of p)) places
 
 pub whole_tree : (piece_length : ℕ) (tree : Data) (path : List (Bor (List ℕ))) (old new : Walk) (listing : Listing) → path ≡ [] → false ≡ has_key tree [] → HasWalked piece_length [] old → Passes piece_length (at_top path tree) old new
@@ -117,6 +117,6 @@ whole_tree piece_length tree path old new listing p t h s e files pieces =
     record {
       faultless = to_last piece_length tree t walked.1 ∙ last_is piece_length tree new false walked.0 e;
       files = same ∙ walked.0.files;
-      pieces = pieces ∙ walked.0.pieces ∙ sym (same_sum piece_length tree (map file_of listing.files.items) (same ∙ walked.0.files));
+      pieces = pieces ∙ walked.0.pieces ∙ sym (same_sum piece_length no_dictionary tree (map file_of listing.files.items) (same ∙ walked.0.files));
       short = All-same (λ (f : File). f.length ≤ 2 ^ 40) (map file_of listing.files.items) (map file_of new.files.items) same walked.0.short;
     }

@@ -51,7 +51,12 @@ pub in_turn : (piece_length : ℕ) (layers tree : Data) (k : ℕ) (d : File) →
 unfolding files_of
 in_turn piece_length layers tree k d lt = turn piece_length layers [] (places_below [] tree) k d lt ∙ omega arith
 
--- ---- no more than 65,536 files
+-- ---- no more than 65,536 files, and no more than 2 ^ 21 pieces
+
+-- the files among the places are few, and so are their pieces
+record AreFew (piece_length : ℕ) (places : List Place) : Type 0 where
+  files : length (filter is_file places) ≤ 65536
+  pieces : pieces_of piece_length places ≤ 2 ^ 21
 
 first_of_front : (xs ys : List Check) → first_of (xs ++ ys) ≡ None → first_of xs ≡ None
 first_of_front [] ys e = refl
@@ -65,35 +70,43 @@ fourth None None (Some x) d e = cc
 fourth None (Some x) c d e = cc
 fourth (Some x) b c d e = cc
 
-within_count : (n m : ℕ) (a b : Bool) → (a || (true && (nat_lt 65536 n || b))) ≡ false → n ≤ 65536
-within_count n m a b e = grind (arith, nat_tests)
+within_count : (n m : ℕ) (a : Bool) → (a || (true && (nat_lt 65536 n || nat_lt (2 ^ 21) m))) ≡ false → (n ≤ 65536) × (m ≤ 2 ^ 21)
+within_count n m a e = (grind (arith, nat_tests), grind (arith, nat_tests))
 
-count_one : (piece_length : ℕ) (before : List Place) (p : Place) → entry_check piece_length before p ≡ None → length (filter is_file before) ≤ 65536 → length (filter is_file (before ++ p ∷ [])) ≤ 65536
+count_one : (piece_length : ℕ) (before : List Place) (p : Place) → entry_check piece_length before p ≡ None → AreFew piece_length before → AreFew piece_length (before ++ p ∷ [])
 count_one piece_length before p h few =
     let many : is_too_many piece_length before p ≡ false = not_faulty (is_too_many piece_length before p) TooMany (fourth (fault_if (not (is_node p.value)) Tree) (fault_if (not (has_lawful_name p)) BadPath)
     (if is_file p then first_of (file_checks before p) else None) (fault_if (is_too_many piece_length before p) TooMany) h) in
     elim (cases_Bool (is_file p)) [
-      | inl file ↦ within_count (length (filter is_file (before ++ p ∷ []))) 0 (nat_lt 64 (length p.path)) (nat_lt (2 ^ 21) (pieces_of piece_length (before ++ p ∷ []))) (rw file at many)
+      | inl file ↦
+          let within = within_count (length (filter is_file (before ++ p ∷ []))) (pieces_of piece_length (before ++ p ∷ [])) (nat_lt 64 (length p.path)) (rw file at many) in
+          record { files = within.0; pieces = within.1 }
       | inr folder ↦
           let same : filter is_file (before ++ p ∷ []) ≡ filter is_file before = filter-append is_file before (p ∷ []) ∙ rw folder (append-nil (filter is_file before)) in
-          rw same few
+          record { files = rw same few.files; pieces = rw same few.pieces }
     ]
 
-few_files : (piece_length : ℕ) (before places : List Place) → first_of (with_earlier (entry_check piece_length) before places) ≡ None → length (filter is_file before) ≤ 65536
-    → length (filter is_file (before ++ places)) ≤ 65536
-few_files piece_length before [] h few = rw (append-nil before) few
-few_files piece_length before (p ∷ places) h few =
+all_few : (piece_length : ℕ) (before places : List Place) → first_of (with_earlier (entry_check piece_length) before places) ≡ None → AreFew piece_length before → AreFew piece_length (before ++ places)
+all_few piece_length before [] h few = rw (append-nil before) few
+all_few piece_length before (p ∷ places) h few =
     let rest = with_earlier (entry_check piece_length) (before ++ p ∷ []) places in
     let one = count_one piece_length before p (head_none (entry_check piece_length before p) rest h) few in
-    rw (← append_assoc before (p ∷ []) places) (few_files piece_length (before ++ p ∷ []) places (tail_none (entry_check piece_length before p) rest h) one)
+    rw (← append_assoc before (p ∷ []) places) (all_few piece_length (before ++ p ∷ []) places (tail_none (entry_check piece_length before p) rest h) one)
+
+tree_few : (piece_length : ℕ) (tree : Data) → first_of (tree_checks piece_length tree) ≡ None → AreFew piece_length (places_below [] tree)
+unfolding tree_checks
+tree_few piece_length tree h =
+    let places = places_below [] tree in
+    let last = fault_if (not (list_any is_file places)) Tree ∷ [] in
+    let entries = first_of_front (with_earlier (entry_check piece_length) [] places) last (tail_none (fault_if (has_key tree []) Tree) (with_earlier (entry_check piece_length) [] places ++ last) h) in
+    all_few piece_length [] places entries (record { files = omega arith; pieces = omega arith })
+
+pub few_pieces : (piece_length : ℕ) (tree : Data) → first_of (tree_checks piece_length tree) ≡ None → pieces_of piece_length (places_below [] tree) ≤ 2 ^ 21
+few_pieces piece_length tree h = (tree_few piece_length tree h).pieces
 
 pub laid_out : (piece_length : ℕ) (layers tree : Data) → first_of (tree_checks piece_length tree) ≡ None → IsLaidOut piece_length (files_of piece_length layers tree)
-unfolding tree_checks files_of
+unfolding files_of
 laid_out piece_length layers tree h = record {
-  few =
-      let places = places_below [] tree in
-      let last = fault_if (not (list_any is_file places)) Tree ∷ [] in
-      let entries = first_of_front (with_earlier (entry_check piece_length) [] places) last (tail_none (fault_if (has_key tree []) Tree) (with_earlier (entry_check piece_length) [] places ++ last) h) in
-      rw (length-with_earlier (file_at piece_length layers) [] (filter is_file places)) (few_files piece_length [] places entries (omega arith));
+  few = rw (length-with_earlier (file_at piece_length layers) [] (filter is_file (places_below [] tree))) (tree_few piece_length tree h).files;
   in_turn = λ k d lt. in_turn piece_length layers tree k d lt;
 }

@@ -5,6 +5,7 @@ pub mod Files
 pub mod Layers
 pub mod Faults
 pub mod Torrent
+pub mod Lawful
 pub mod Refusals
 pub mod Reading
 pub mod Place

@@ -7,7 +7,8 @@ ghost use Rattle.bt_bencode.specs.View.{data_of};
 ghost use Rattle.bt_meta.specs.Fields.{integer_at, no_dictionary};
 ghost use Rattle.bt_meta.specs.Files.{file_of};
 ghost use Rattle.bt_meta.specs.Faults.{first_of, head_checks, first_fault, first_info_fault, version_check, is_hybrid as is_hybrid_info, is_piece_length as is_lawful_piece_length, piece_length_of, info_of, layers_of};
-ghost use Rattle.bt_meta.specs.Torrent.{IsTorrent, IsInfo, metainfo_of, IsLaidOut, HaveAscendingPaths};
+ghost use Rattle.bt_meta.specs.Torrent.{IsTorrent, IsInfo, metainfo_of, HaveAscendingPaths};
+ghost use Rattle.bt_meta.specs.Lawful.{IsLawful};
 ghost use Rattle.bt_meta.specs.Refusals.{IsRefused};
 ghost use Rattle.bt_meta.specs.Reading.{IsHead, Refuses, pieces_in};
 
@@ -73,6 +74,7 @@ fn torrent_in(alloc: Global, value: &Value) -> Result<Torrent, MetaError>
 
 /// The torrent that the value describes as its `info`.
 fn info_in(alloc: Global, info: &Value) -> Result<Torrent, MetaError>
+    requires { HasAscendingKeys (data_of info.now) }
     ensures faultless { IfOk result (λ _. first_info_fault (data_of info.now) ≡ None) }
     ensures described { IfOk result (λ torrent. torrent ≡ metainfo_of (data_of info.now) no_dictionary) }
     ensures refused { IfErr result (Refuses (first_info_fault (data_of info.now))) }
@@ -94,7 +96,7 @@ fn torrent_of(
     listing: Listing,
 ) -> Result<Torrent, AllocError>
     requires counted { listing.pieces ≡ pieces_in head.now.piece_length listing.files.items }
-    requires laid_out { IsLaidOut head.now.piece_length (map file_of listing.files.items) }
+    requires lawful { IsLawful head.now.piece_length (map file_of listing.files.items) }
     ensures { IfOk result (λ torrent. torrent ≡ record { name = head.now.name.now; piece_length = head.now.piece_length; infohash = sha256 (spelling_of (data_of info.now)); files = map file_of listing.files.items }) }
 {
     let name = Vec::from_slice(alloc, head.name)?;

@@ -1,6 +1,9 @@
-ghost use Rattle.std.specs.Prelude.{◌≡◌, ◌+◌, ◌*◌, ◌^◌, ◌<◌, ◌≤◌, map, IfSome, IfNone};
+ghost use Rattle.std.specs.Prelude.{◌≡◌, ◌+◌, ◌*◌, ◌^◌, ◌<◌, ◌≤◌, length, map, IfSome, IfNone};
+ghost use Rattle.std.specs.List.{All};
+ghost use Rattle.bt_tree.specs.TreeShape.{IsPieceLength};
 ghost use Rattle.bt_meta.specs.Files.{file_of};
-ghost use Rattle.bt_meta.specs.Torrent.{total_pieces, IsLaidOut};
+ghost use Rattle.bt_meta.specs.Torrent.{total_pieces, IsLaidOut, HaveAscendingPaths};
+ghost use Rattle.bt_meta.specs.Lawful.{IsLawful, IsLawfulFile};
 ghost use Rattle.bt_meta.specs.Place.{IsPlace, IsLastBegun, HasNoneBegun};
 
 use bt_tree::Hash32;
@@ -49,13 +52,14 @@ pub struct Torrent {
 impl Model for Torrent {
     ghost use Rattle.std.specs.Prelude.{◌≡◌, map};
     ghost use Rattle.bt_meta.specs.Files.{file_of};
-    ghost use Rattle.bt_meta.specs.Torrent.{Metainfo, total_pieces, IsLaidOut};
+    ghost use Rattle.bt_meta.specs.Torrent.{Metainfo, total_pieces};
+    ghost use Rattle.bt_meta.specs.Lawful.{IsLawful};
 
     ghost Value = { Metainfo };
 
     ghost view = { λ t. record { name = t.name.items; piece_length = t.piece_length; infohash = t.infohash; files = map file_of t.files.items } };
 
-    ghost invariant = { λ t. (t.pieces ≡ total_pieces (record { name = t.name.items; piece_length = t.piece_length; infohash = t.infohash; files = map file_of t.files.items })) × IsLaidOut t.piece_length (map file_of t.files.items) };
+    ghost invariant = { λ t. (t.pieces ≡ total_pieces (record { name = t.name.items; piece_length = t.piece_length; infohash = t.infohash; files = map file_of t.files.items })) × IsLawful t.piece_length (map file_of t.files.items) };
 }
 
 impl Torrent {
@@ -67,7 +71,7 @@ impl Torrent {
         files: Vec<FileEntry>,
     ) -> Self
         requires counted { pieces ≡ total_pieces (record { name = name.items; piece_length = piece_length; infohash = infohash; files = map file_of files.items }) }
-        requires laid_out { IsLaidOut piece_length (map file_of files.items) }
+        requires lawful { IsLawful piece_length (map file_of files.items) }
         ensures { result ≡ record { name = name.items; piece_length = piece_length; infohash = infohash; files = map file_of files.items } }
     {
         Torrent {
@@ -88,14 +92,16 @@ impl Torrent {
 
     /// How many bytes a piece has: a power of two from 2^14 to 2^28.
     pub fn piece_length(&self) -> u32
-        ensures { result ≡ self.now.piece_length }
+        ensures said { result ≡ self.now.piece_length }
+        ensures lawful { IsPieceLength result }
     {
         self.piece_length
     }
 
     /// How many pieces its files have: at most 2^21.
     pub fn pieces(&self) -> u32
-        ensures { result ≡ total_pieces self.now }
+        ensures counted { result ≡ total_pieces self.now }
+        ensures few { result ≤ 2 ^ 21 }
     {
         self.pieces
     }
@@ -107,9 +113,13 @@ impl Torrent {
         self.infohash
     }
 
-    /// Its files, in the order of their paths.
+    /// Its files, in the order of their paths: at most 65,536.
     pub fn files(&self) -> &[FileEntry]
-        ensures { map file_of result.now ≡ self.now.files }
+        ensures said { map file_of result.now ≡ self.now.files }
+        ensures few { length result.now ≤ 65536 }
+        ensures lawful { All (IsLawfulFile self.now.piece_length) (map file_of result.now) }
+        ensures laid_out { IsLaidOut self.now.piece_length (map file_of result.now) }
+        ensures ascending { HaveAscendingPaths (map file_of result.now) }
     {
         &self.files
     }

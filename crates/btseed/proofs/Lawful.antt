@@ -1,34 +1,24 @@
--- Lemmas on the faults of a check: no torrent that was read has a fault of its files.
-use Rattle.std.proofs.Common.{◌≡◌, ℕ, ◌*◌, ◌/◌, ◌^◌, ◌<◌, ◌≤◌, List, [], Result, Ok, Err, IfErr, true, false, Bool, length, map, inl, inr, arith, refl, sym, ap, ◌∙◌, subst}
+-- Lemmas on the faults of a check: no torrent has a fault of its files.
+use Rattle.std.proofs.Common.{◌≡◌, ℕ, ◌*◌, ◌/◌, ◌^◌, ◌<◌, ◌≤◌, List, [], Result, Ok, Err, IfErr, true, Bool, length, inl, inr, arith, refl, ap, ◌∙◌}
 use Rattle.std.specs.Prelude.{suc, zero, ◌≢◌, ◌⊎◌}
 use Rattle.std.specs.Simd.{first_chunks}
-use Rattle.std.proofs.lemmas.Bool.{cases_lt, ltb-true, eqb-true}
+use Rattle.std.specs.List.{All}
+use Rattle.std.proofs.lemmas.Bool.{cases_lt, eqb-true}
 use Rattle.std.proofs.lemmas.Nat.{pow_below}
 use Rattle.std.proofs.lemmas.List.Elements.{All-contains}
 use Rattle.bt_tree.specs.Blocks.{block_count}
-use Rattle.bt_tree.specs.TreeShape.{IsPieceLength, height_of, real_width}
+use Rattle.bt_tree.specs.TreeShape.{height_of, real_width}
 use Rattle.bt_tree.proofs.Shapes.{height_is}
-use Rattle.bt_meta.specs.Files.{File, file_of}
+use Rattle.bt_meta.specs.Files.{File}
 use Rattle.bt_meta.specs.Layers.{has_layer_size, piece_layer_of}
-use Rattle.bt_meta.specs.Torrent.{Metainfo}
-use Rattle.bt_meta.specs.declared.torrent.FileEntry.{FileEntry}
-use Rattle.bt_meta.proofs.Lawful.{IsLawful, IsLawfulFile, info_is_lawful, torrent_is_lawful}
+use Rattle.bt_meta.specs.Lawful.{IsLawfulFile}
 use Rattle.btseed.proofs.FileDigests.{layer_inside}
-use Rattle.btseed.specs.Commands.{IsLoaded, IsLoadFault}
+use Rattle.btseed.specs.Commands.{IsLoadFault}
 use Rattle.btseed.specs.Entries.{HasLayerOf, IsEntryFault, IsFaultAmong, digests_in}
 use Rattle.btseed.specs.Statuses.{device, out_of_memory}
 use Rattle.btseed.specs.declared.fault.Fault.{Fault}
 
--- ---- a torrent that was read
-
-loaded_as : (is_info : Bool) (torrent : Metainfo) → IsLoaded is_info torrent → IsLawful torrent
-loaded_as true torrent h = info_is_lawful h.text torrent (h.info refl)
-loaded_as false torrent h = torrent_is_lawful h.text torrent (h.whole refl)
-
-pub piece_length_read : (is_info : Bool) (torrent : Metainfo) → IsLoaded is_info torrent → IsPieceLength torrent.piece_length
-piece_length_read is_info torrent h = (loaded_as is_info torrent h).pieces
-
--- ---- its layers
+-- ---- the layers of a torrent
 
 layer_of_pieces : (layer : ℕ) → piece_layer_of (16384 * 2 ^ layer) ≡ layer
 layer_of_pieces layer =
@@ -51,7 +41,7 @@ size_of_layer n bytes layer h = eqb-true (length layer) (32 * real_width (block_
 layered : (n layer : ℕ) (file : File) → n ≡ 16384 * 2 ^ layer → IsLawfulFile n file → file.layer ≢ [] → HasLayerOf layer file.length (digests_in file.layer)
 layered n layer file size h some =
     let same : piece_layer_of n ≡ layer = ap piece_layer_of size ∙ layer_of_pieces layer in
-    let long : n < file.length = ltb-true n file.length (h.long some) in
+    let long : n < file.length = h.long some in
     let whole : length file.layer ≡ 32 * real_width (block_count file.length) layer =
     size_of_layer n file.length file.layer (h.sized some) ∙ ap (λ k. 32 * real_width (block_count file.length) k) same in
     let width : ℕ = real_width (block_count file.length) layer in
@@ -63,17 +53,13 @@ no_other n layer file fault size h (inl is) = is
 no_other n layer file fault size h (inr (inl long)) = absurd (omega (arith, long.1, h.short))
 no_other n layer file fault size h (inr (inr wrong)) = absurd (wrong.2 (layered n layer file size h wrong.1))
 
-fault_of_check : (is_info : Bool) (torrent : Metainfo) (n layer : ℕ) (fault : Fault) → IsLoaded is_info torrent → n ≡ torrent.piece_length → n ≡ 16384 * 2 ^ layer
-    → (fault ≡ out_of_memory) ⊎ IsFaultAmong layer torrent.files fault → IsLoadFault is_info fault
-fault_of_check is_info torrent n layer fault loaded is size (inl memory) = inr (inl memory)
-fault_of_check is_info torrent n layer fault loaded is size (inr among) =
-    let lawful = loaded_as is_info torrent loaded in
-    let file = All-contains (IsLawfulFile torrent.piece_length) torrent.files among.file lawful.files among.among in
-    inl (no_other torrent.piece_length layer among.file fault (sym is ∙ size) file among.cause)
+fault_of_check : (is_info : Bool) (n layer : ℕ) (files : List File) (fault : Fault) → n ≡ 16384 * 2 ^ layer → All (IsLawfulFile n) files → (fault ≡ out_of_memory) ⊎ IsFaultAmong layer files fault
+    → IsLoadFault is_info fault
+fault_of_check is_info n layer files fault size lawful (inl memory) = inr (inl memory)
+fault_of_check is_info n layer files fault size lawful (inr among) =
+    inl (no_other n layer among.file fault size (All-contains (IsLawfulFile n) files among.file lawful among.among) among.cause)
 
-pub check_fault : {T : Type 0} (r : Result T Fault) (is_info : Bool) (torrent : Metainfo) (n layer : ℕ) (files : List FileEntry) → IsLoaded is_info torrent
-    → n ≡ torrent.piece_length → n ≡ 16384 * 2 ^ layer → map file_of files ≡ torrent.files
-    → IfErr r (λ fault. (fault ≡ out_of_memory) ⊎ IsFaultAmong layer (map file_of files) fault) → IfErr r (IsLoadFault is_info)
-check_fault (Ok x) is_info torrent n layer files loaded is size are h = tt
-check_fault (Err fault) is_info torrent n layer files loaded is size are h =
-    fault_of_check is_info torrent n layer fault loaded is size (subst (λ l. (fault ≡ out_of_memory) ⊎ IsFaultAmong layer l fault) are h)
+pub check_fault : {T : Type 0} (r : Result T Fault) (is_info : Bool) (n layer : ℕ) (files : List File) → n ≡ 16384 * 2 ^ layer → All (IsLawfulFile n) files
+    → IfErr r (λ fault. (fault ≡ out_of_memory) ⊎ IsFaultAmong layer files fault) → IfErr r (IsLoadFault is_info)
+check_fault (Ok x) is_info n layer files size lawful h = tt
+check_fault (Err fault) is_info n layer files size lawful h = fault_of_check is_info n layer files fault size lawful h

@@ -4,7 +4,7 @@ use Rattle.bt_bencode.specs.View.{data_of}
 use Rattle.bt_meta.specs.Fields.{no_dictionary}
 use Rattle.bt_meta.specs.Files.{file_of}
 use Rattle.bt_meta.specs.Faults.{first_info_fault}
-use Rattle.bt_meta.proofs.Turns.{laid_out}
+use Rattle.bt_meta.proofs.Lawful.{info_keeps_to, keeps_to}
 use Rattle.bt_meta.proofs.Heads.{not_info, first_info_fault_in, info_head_fault, info_tree_refuses, info_passes, metainfo_is}
 use Rattle.bt_meta.proofs.reader.info_in.Goals as goal
 
@@ -23,9 +23,13 @@ returns-in_err-listing-clause-refused c =
     let q = err_from_is_err_and c.from_residual-in_err-listing.result c.from_residual-in_err-listing.ensures.1 in
     rw (q.1, q.2) (info_tree_refuses d c.in_ok-head.head c.in_err-listing.field-0.0 (first_info_fault d) c.in_ok-head.ensures (first_info_fault_in d c.if-not-is_dictionary.ensures) c.in_err-listing.ensures)
 
-pub torrent_of-requires-clause-laid_out : goal.torrent_of-requires-clause-laid_out
-torrent_of-requires-clause-laid_out c =
-    rw (c.in_ok-listing.ensures.files) (laid_out c.in_ok-head.head.piece_length no_dictionary (data_of c.in_ok-head.head.tree.now) c.in_ok-listing.ensures.faultless)
+pub torrent_of-requires-clause-lawful : goal.torrent_of-requires-clause-lawful
+torrent_of-requires-clause-lawful c =
+    let d = data_of c.args.info.now in
+    let head = c.in_ok-head.head in
+    let files = map file_of c.in_ok-listing.listing.files.items in
+    let faultless = first_info_fault_in d c.if-not-is_dictionary.ensures ∙ info_passes d head c.in_ok-listing.listing c.in_ok-head.ensures c.in_ok-listing.ensures in
+    keeps_to (metainfo_is d no_dictionary head files c.in_ok-head.ensures c.in_ok-listing.ensures.files) (info_keeps_to d c.requires faultless)
 
 pub returns-clause-faultless : goal.returns-clause-faultless
 returns-clause-faultless c =

@@ -6,7 +6,7 @@ use Rattle.bt_meta.specs.Faults.{layers_of}
 use Rattle.bt_meta.specs.Torrent.{metainfo_of}
 use Rattle.bt_meta.specs.Reading.{with_layer}
 use Rattle.bt_meta.proofs.Heads.{no_info, info_is, torrent_info_fault, info_head_fault, torrent_tree_refuses, torrent_layers, torrent_layers_refuse, metainfo_is}
-use Rattle.bt_meta.proofs.Turns.{laid_out}
+use Rattle.bt_meta.proofs.Lawful.{keeps_to, torrent_keeps_to}
 use Rattle.bt_meta.proofs.Layered.{files_with_layers, pieces_after}
 use Rattle.bt_meta.proofs.reader.torrent_in.Goals as goal
 
@@ -32,14 +32,18 @@ returns-in_err-add_layers-clause-refused c =
     (torrent_layers_refuse (data_of c.args.value.now) (data_of c.in-Some.info.now) c.in_ok-head.head c.in_ok-listing.listing c.in_err-add_layers.field-0.0 c.in-Some.ensures c.in_ok-head.ensures c.in_ok-listing.ensures
     c.in_err-add_layers.ensures.refused)
 
-pub torrent_of-requires-clause-laid_out : goal.torrent_of-requires-clause-laid_out
-torrent_of-requires-clause-laid_out c =
-    let layers = layers_of (data_of c.args.value.now) in
-    let pl = c.in_ok-head.head.piece_length in
-    let tree = data_of c.in_ok-head.head.tree.now in
-    let files : map file_of c.add_layers.new.files.items ≡ files_of pl layers tree =
-    c.in_ok-add_layers.ensures.whole ∙ ap (map (with_layer pl layers)) c.in_ok-listing.ensures.files ∙ files_with_layers pl layers tree in
-    rw files (laid_out pl layers tree c.in_ok-listing.ensures.faultless)
+pub torrent_of-requires-clause-lawful : goal.torrent_of-requires-clause-lawful
+torrent_of-requires-clause-lawful c =
+    let d = data_of c.args.value.now in
+    let layers = layers_of d in
+    let info = data_of c.in-Some.info.now in
+    let head = c.in_ok-head.head in
+    let pl = head.piece_length in
+    let tree = data_of head.tree.now in
+    let all = map file_of c.add_layers.new.files.items in
+    let files : all ≡ files_of pl layers tree = c.in_ok-add_layers.ensures.whole ∙ ap (map (with_layer pl layers)) c.in_ok-listing.ensures.files ∙ files_with_layers pl layers tree in
+    let faultless = torrent_layers d info head c.in_ok-listing.listing c.in-Some.ensures c.in_ok-head.ensures c.in_ok-listing.ensures ∙ c.in_ok-add_layers.ensures.faultless in
+    keeps_to (ap (λ i. metainfo_of i layers) (info_is d info c.in-Some.ensures) ∙ metainfo_is info layers head all c.in_ok-head.ensures files) (torrent_keeps_to d c.requires faultless)
 
 pub torrent_of-requires-clause-counted : goal.torrent_of-requires-clause-counted
 torrent_of-requires-clause-counted c =

@@ -17,4 +17,4 @@ loop-file-preserved g c =
 pub returns-clause-text : goal.returns-clause-text
 returns-clause-text g c =
     let all = take_all c.loop-file.file-index c.files-files.result.now (omega (arith, c.loop-file-test.false)) in
-    on_ok_always _ (showing_done _ _ _ _ _ (ap (map file_of) all ∙ c.files-files.ensures) c.loop-file.invariant c.flush.ensures.bytes)
+    on_ok_always _ (showing_done _ _ _ _ _ (ap (map file_of) all ∙ c.files-files.ensures.said) c.loop-file.invariant c.flush.ensures.bytes)
