@@ -18,7 +18,7 @@ pub enum LayerError {
     /// The layer's digests give another root.
     #[error("the layer has another root")]
     Differs,
-    /// No memory was left to keep the layer. `check_layer` takes none and never answers this.
+    /// No memory was left to keep the layer. `check_layer` takes none and never returns this.
     #[error("out of memory")]
     OutOfMemory,
 }
