@@ -7,7 +7,8 @@ use Rattle.bt_tree.proofs.PeaksList.{peak_count_room, peak_count_even, peak_coun
 
 -- The digest is that of node `rest` of a layer so far up, with so many layers above it, and the peaks are those over
 -- the nodes before it.
-pub record IsCarryStep (dig : List ℕ → List ℕ) (old : List (List ℕ)) (count : ℕ) (leaf : List ℕ) (items : List (List ℕ)) (len rest : ℕ) (digest : List ℕ) : Type 0 where
+pub record IsCarryStep (dig : List ℕ → List ℕ) (old : List (List ℕ)) (count : ℕ) (leaf : List ℕ) (items : List (List ℕ)) (len rest : ℕ)
+    (digest : List ℕ) : Type 0 where
   pub level : ℕ
   pub above : ℕ
   pub sum : level + above ≡ 26
@@ -24,7 +25,8 @@ unfolding row_node
 carry_none dig old count leaf len room size =
     record { level = 0; above = 26; sum = refl; room = room; size = size; size_after = refl; holds = λ row held here. (held, here, refl) }
 
-pub carry_more : (dig : List ℕ → List ℕ) (old : List (List ℕ)) (count : ℕ) (leaf : List ℕ) (items popped : List (List ℕ)) (len fewer rest : ℕ) (left digest : List ℕ)
+pub carry_more : (dig : List ℕ → List ℕ) (old : List (List ℕ)) (count : ℕ) (leaf : List ℕ) (items popped : List (List ℕ)) (len fewer rest : ℕ)
+    (left digest : List ℕ)
     → rest % 2 ≡ 1 → items ≡ popped ++ left ∷ [] → fewer + 1 ≡ len → IsCarryStep dig old count leaf items len rest digest
     → IsCarryStep dig old count leaf popped fewer (rest / 2) (dig (left ++ digest))
 carry_more dig old count leaf items popped len fewer rest left digest odd split one h =

@@ -65,7 +65,8 @@ closing_whole dig row layers count peaks high e held =
     ap (λ xs. get_or xs 0 []) one
 
 -- where none is left
-pub closing_done : (dig : List ℕ → List ℕ) (row : ℕ → List ℕ) (k n m layers c : ℕ) (left : List (List ℕ)) (padding open_node : List ℕ) → k ≡ layers → m ≡ 0 → c < 2 ^ m
+pub closing_done : (dig : List ℕ → List ℕ) (row : ℕ → List ℕ) (k n m layers c : ℕ) (left : List (List ℕ)) (padding open_node : List ℕ) → k ≡ layers
+    → m ≡ 0 → c < 2 ^ m
     → IsCloseStep dig row k n m c left padding open_node → open_node ≡ row_node dig row layers 0
 closing_done dig row k n m layers c left padding open_node top down room h =
     let power : 2 ^ m ≡ 1 = ap (λ i. 2 ^ i) down in

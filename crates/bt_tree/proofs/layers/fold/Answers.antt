@@ -23,6 +23,8 @@ returns g c =
     let whole = digests ++ replicate rest c.args.padding in
     let all : c.loop-digest.count ≡ length digests = omega (arith, c.loop-digest.invariant.count) in
     c.close.ensures (λ i. get_or whole i [])
-    (c.as_slice.ensures.value ∙ c.loop-digest.invariant.peaks (λ i. get_or whole i []) (λ i low. sym (get_or_append_left digests (replicate rest c.args.padding) [] i (omega arith))))
-    (λ i low high. get_or-append_right digests (replicate rest c.args.padding) (length digests) i [] refl (omega arith) ∙ get_or-replicate rest (i - length digests) c.args.padding [] (omega arith))
+    (c.as_slice.ensures.value ∙ c.loop-digest.invariant.peaks (λ i. get_or whole i [])
+    (λ i low. sym (get_or_append_left digests (replicate rest c.args.padding) [] i (omega arith))))
+    (λ i low high. get_or-append_right digests (replicate rest c.args.padding) (length digests) i [] refl (omega arith)
+    ∙ get_or-replicate rest (i - length digests) c.args.padding [] (omega arith))
     ∙ sym (fold_is g.H.NodeHash.digest c.args.layers whole)
