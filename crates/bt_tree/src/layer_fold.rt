@@ -23,7 +23,8 @@ pub(crate) fn fold<H: NodeHash>(
     requires within { length digests.now ≤ 2 ^ (height - layer) }
     requires pads { (k : ℕ) → k ≤ height → slice_index_or pads.now k [] ≡ padding_digest H.digest k }
     ensures { result ≡ fold_of H.digest (height - layer)
-        (digests.now ++ replicate (2 ^ (height - layer) - length digests.now) (padding_digest H.digest layer)) }
+        (digests.now
+        ++ replicate (2 ^ (height - layer) - length digests.now) (padding_digest H.digest layer)) }
 {
     let padding = pads[layer as usize];
     let layers = height - layer;
@@ -45,8 +46,10 @@ fn eight_nodes<H: NodeHash>(
 ) -> [Hash32; 8]
     requires high { layer + below < max_height }
     requires within { length digests.now ≤ 16 * 2 ^ below }
-    requires pads { (k : ℕ) → k ≤ layer + below + 1 → slice_index_or pads.now k [] ≡ padding_digest H.digest k }
-    ensures { (row : ℕ → List ℕ) → ((i : ℕ) → i < length digests.now → slice_index_or digests.now i [] ≡ row i)
+    requires pads { (k : ℕ) → k ≤ layer + below + 1
+        → slice_index_or pads.now k [] ≡ padding_digest H.digest k }
+    ensures { (row : ℕ → List ℕ)
+        → ((i : ℕ) → i < length digests.now → slice_index_or digests.now i [] ≡ row i)
         → ((i : ℕ) → length digests.now ≤ i → i < 16 * 2 ^ below → row i ≡ padding_digest H.digest layer)
         → (j : ℕ) → j < 8 → slice_index_or result j [] ≡ row_node H.digest row (below + 1) j }
 {
@@ -87,7 +90,8 @@ fn pair_bytes(left: &Hash32, right: &Hash32) -> [u8; 64]
 /// Sixteen digests: those that are given, and after them the padding's.
 fn sixteen(digests: &[Hash32], padding: Hash32) -> [Hash32; 16]
     requires { length digests.now ≤ 16 }
-    ensures given { (i : ℕ) → i < length digests.now → slice_index_or result i [] ≡ slice_index_or digests.now i [] }
+    ensures given { (i : ℕ) → i < length digests.now
+        → slice_index_or result i [] ≡ slice_index_or digests.now i [] }
     ensures padding { (i : ℕ) → length digests.now ≤ i → i < 16 → slice_index_or result i [] ≡ padding }
 {
     let mut nodes = [padding; 16];
