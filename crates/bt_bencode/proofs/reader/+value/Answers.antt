@@ -44,13 +44,13 @@ dictionary_at-returns-in_err-value-clause-fault t c =
 pub dictionary_at-loop-alloc-preserved : goal.dictionary_at-loop-alloc-preserved
 dictionary_at-loop-alloc-preserved t c =
     let order : EndsBefore (entries_of c.loop-alloc.entries.items) c.in_ok-key.key.items = rw (c.deref.ensures.value, c.deref-in-loop-alloc.ensures.value) at (c.if-not-may_follow.ensures.0 refl) in
-    dictionary_more c.args.depth c.args.bytes.now c.args.at c.loop-alloc.next c.in_ok-key.colon c.in_ok-value.end c.loop-alloc.entries.items c.push.new.self.items c.in_ok-key.key c.in_ok-value.value c.loop-alloc.invariant
-    c.in_ok-key.ensures.found order c.in_ok-value.ensures.found c.in_ok-push.ensures.items
+    dictionary_more c.args.depth c.args.bytes.now c.args.at c.loop-alloc.next c.in_ok-key.colon c.in_ok-value.end c.loop-alloc.entries.items c.push_part.new.parts.items c.in_ok-key.key c.in_ok-value.value c.loop-alloc.invariant
+    c.in_ok-key.ensures.found order c.in_ok-value.ensures.found c.in_ok-push_part.ensures
 
 pub dictionary_at-returns-clause-found : goal.dictionary_at-returns-clause-found
 dictionary_at-returns-clause-found t c =
-    subst (ReadsValue c.args.depth c.args.bytes.now c.args.at (c.loop-alloc.next + 1)) (sym (data_of-Dict c.loop-alloc.entries))
-    (dictionary_found c.args.depth c.args.bytes.now c.args.at c.loop-alloc.next c.loop-alloc.entries.items c.loop-alloc.invariant (c.loop-alloc-test.ensures.0 refl).0 (c.loop-alloc-test.ensures.0 refl).1)
+    subst (ReadsValue c.args.depth c.args.bytes.now c.args.at (c.loop-alloc.next + 1)) (sym (data_of-Dict c.shrink_to_fit.new.self))
+    (rw c.shrink_to_fit.ensures.items (dictionary_found c.args.depth c.args.bytes.now c.args.at c.loop-alloc.next c.loop-alloc.entries.items c.loop-alloc.invariant (c.loop-alloc-test.ensures.0 refl).0 (c.loop-alloc-test.ensures.0 refl).1))
 
 pub list_at-returns-then-depth-eq0-clause-fault : goal.list_at-returns-then-depth-eq0-clause-fault
 list_at-returns-then-depth-eq0-clause-fault t c = list_too_deep c.args.depth c.args.bytes.now c.args.at c.if-depth-eq0.true c.requires.inside c.requires.first
@@ -68,12 +68,12 @@ list_at-returns-in_err-item-clause-fault t c =
 
 pub list_at-loop-alloc-preserved : goal.list_at-loop-alloc-preserved
 list_at-loop-alloc-preserved t c =
-    list_more c.args.depth c.args.bytes.now c.args.at c.loop-alloc.next c.in_ok-item.end c.loop-alloc.items.items c.push.new.self.items c.in_ok-item.item c.loop-alloc.invariant c.in_ok-item.ensures.found c.in_ok-push.ensures.items
+    list_more c.args.depth c.args.bytes.now c.args.at c.loop-alloc.next c.in_ok-item.end c.loop-alloc.items.items c.push_part.new.parts.items c.in_ok-item.item c.loop-alloc.invariant c.in_ok-item.ensures.found c.in_ok-push_part.ensures
 
 pub list_at-returns-clause-found : goal.list_at-returns-clause-found
 list_at-returns-clause-found t c =
-    subst (ReadsValue c.args.depth c.args.bytes.now c.args.at (c.loop-alloc.next + 1)) (sym (data_of-List c.loop-alloc.items))
-    (list_found c.args.depth c.args.bytes.now c.args.at c.loop-alloc.next c.loop-alloc.items.items c.loop-alloc.invariant (c.loop-alloc-test.ensures.0 refl).0 (c.loop-alloc-test.ensures.0 refl).1)
+    subst (ReadsValue c.args.depth c.args.bytes.now c.args.at (c.loop-alloc.next + 1)) (sym (data_of-List c.shrink_to_fit.new.self))
+    (rw c.shrink_to_fit.ensures.items (list_found c.args.depth c.args.bytes.now c.args.at c.loop-alloc.next c.loop-alloc.items.items c.loop-alloc.invariant (c.loop-alloc-test.ensures.0 refl).0 (c.loop-alloc-test.ensures.0 refl).1))
 
 pub value_at-returns-then-at-bytes-clause-fault : goal.value_at-returns-then-at-bytes-clause-fault
 value_at-returns-then-at-bytes-clause-fault t c = nothing_stops c.args.depth c.args.bytes.now c.args.at c.if-at-bytes.true
