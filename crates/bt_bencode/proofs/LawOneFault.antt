@@ -7,12 +7,12 @@ use Rattle.bt_bencode.specs.Value.{Data}
 use Rattle.bt_bencode.specs.Spelling.{string_spelling, spelling_of}
 use Rattle.bt_bencode.specs.Doc.{IsCanonical}
 use Rattle.bt_bencode.specs.Error.{Fault, truncated, bad_byte, too_deep}
-use Rattle.bt_bencode.specs.Reader.{StringStops, Stops, at_end, at_other, in_integer, in_negative, too_large, too_small, in_string, too_deep_list, too_deep_dictionary, in_item, in_key, at_key, in_value, in_the_value, behind_the_value}
+use Rattle.bt_bencode.specs.Reader.{StringStops, Stops, at_end, at_other, in_integer, out_of_range, in_string, at_max_nesting, in_item, in_key, at_key, in_value, in_the_value, behind_the_value}
 use Rattle.bt_bencode.specs.Law.{FirstFaultIsOne}
 use Rattle.bt_bencode.proofs.LawPrefixes.{same_spelling}
 use Rattle.bt_bencode.proofs.LawRepresentable.{representable}
-use Rattle.bt_bencode.proofs.ReadRefusals.{none_begins}
-use Rattle.bt_bencode.proofs.LawNumeralFaults.{same_string_fault, numeral, range, IntegerStops, plain, minus, same_integer_fault, numeral_is_plain}
+use Rattle.bt_bencode.proofs.ReadRefusals.{numeral_is_plain, none_begins}
+use Rattle.bt_bencode.proofs.LawNumeralFaults.{same_string_fault, numeral, range, IntegerStops, same_integer_fault}
 use Rattle.bt_bencode.proofs.LawStops.{StopsOnce, ItemStops, in_its_key, at_its_key, in_its_value, EntriesStop, same_item_fault, same_entries_fault}
 
 -- what a text's first byte says of the value
@@ -50,14 +50,14 @@ Told another n text f rest = (IsAsciiDigit (get_or text 0 0) × StringStops text
 told : (n : ℕ) (text : List ℕ) (f : Fault) (rest : List ℕ) → Stops n text f rest → Told (kind_of text) n text f rest
 told n text f rest (at_end n') = (refl, refl)
 told n text f rest (at_other n' t some i l d digit) = subst (λ kind. Told kind n' t bad_byte t) (sym (another_kind t some i l d)) (inr (digit, refl, refl))
-told n text f rest (in_integer n' more g left other stops) = plain other (numeral g left stops)
-told n text f rest (in_negative n' more g left stops) = minus more refl (numeral g left stops)
-told n text f rest (too_large n' ds more whole no_lead large) =
-    plain (subst (λ t. get_or t 0 0 ≢ 45) (sym (append_assoc ds (101 ∷ []) more)) (numeral_is_plain ds (101 ∷ more) whole)) (range ds more (append_assoc ds (101 ∷ []) more) whole no_lead)
-told n text f rest (too_small n' ds more whole no_lead large) = minus ((ds ++ 101 ∷ []) ++ more) refl (range ds more (append_assoc ds (101 ∷ []) more) whole no_lead)
+told n text f rest (in_integer n' negative more g left whole stops) = record { negative = negative; digits = more; whole = whole; parts = refl; stops = numeral g left stops }
+told n text f rest (out_of_range n' negative ds more is_numeral no_lead out) =
+    record { negative = negative; digits = ds ++ 101 ∷ more; whole = inr (numeral_is_plain ds (101 ∷ more) is_numeral); parts = refl; stops = range ds more refl is_numeral no_lead }
 told n text f rest (in_string n' t g left digit stops) = subst (λ kind. Told kind n' t g left) (sym (digit_kind t digit)) (inl (digit, stops))
-told n text f rest (too_deep_list more) = (refl, refl)
-told n text f rest (too_deep_dictionary more) = (refl, refl)
+told n text f rest (at_max_nesting opening more which) = elim which [
+  | inl is ↦ subst (λ c. Told (kind_of (c ∷ more)) 0 (c ∷ more) too_deep (c ∷ more)) (sym is) (refl, refl)
+  | inr is ↦ subst (λ c. Told (kind_of (c ∷ more)) 0 (c ∷ more) too_deep (c ∷ more)) (sym is) (refl, refl)
+]
 told n text f rest (in_item n' done more g left canonical going stops) = record { done = done; behind = more; parts = refl; canonical = canonical; stops = stops }
 told n text f rest (in_key n' done more g left canonical going stops) = record { done = done; behind = more; parts = refl; canonical = canonical; stops = in_its_key g left stops }
 told n text f rest (at_key n' done key more canonical order) = record { done = done; behind = string_spelling key ++ more; parts = refl; canonical = canonical; stops = at_its_key key more refl order }

@@ -1,6 +1,6 @@
 -- No spelling begins another one.
-use Rattle.std.proofs.Common.{◌≡◌, ℕ, ℤ, suc, pos, negsuc, ◌^◌, ◌<◌, ◌≤◌, List, [], ◌∷◌, ◌++◌, length, get_or, refl, sym, ap, ◌∙◌, subst, arith, append_assoc}
-use Rattle.std.specs.Prelude.{FitsSigned}
+use Rattle.std.proofs.Common.{◌≡◌, ◌≢◌, ℕ, ℤ, suc, pos, negsuc, ◌^◌, ◌<◌, ◌≤◌, Bool, true, false, ◌⊎◌, inl, inr, List, [], ◌∷◌, ◌++◌, length, get_or, refl, sym, ap, ◌∙◌, subst, arith, append_assoc}
+use Rattle.std.specs.Prelude.{FitsSigned, IsTrue}
 use Rattle.std.specs.Int.{w64}
 use Rattle.std.specs.Char.{IsAsciiDigit}
 use Rattle.std.specs.Fmt.{decimal, signed_decimal}
@@ -11,6 +11,7 @@ use Rattle.std.proofs.lemmas.Fmt.{decimal_is_IsNumeral, decimal_nonempty, decima
 use Rattle.std.proofs.lemmas.List.{get_or_append_left}
 use Rattle.bt_bencode.specs.Value.{Data, integer, string, list, dictionary, Items, no_items, item, Entries, no_entries, entry}
 use Rattle.bt_bencode.specs.Spelling.{string_spelling, spelling_of, items_spelling, entries_spelling}
+use Rattle.bt_bencode.specs.Number.{sign_text, signed_number}
 use Rattle.bt_bencode.specs.Law.{IsRepresentable, ItemsAreRepresentable, EntriesAreRepresentable}
 
 heads : (a b : ℕ) (x y : List ℕ) → a ∷ x ≡ b ∷ y → a ≡ b
@@ -45,7 +46,7 @@ first_digit n rest fits =
 
 -- a string with what is behind it: its length, the colon, its bytes and the rest
 pub string_parts : (s x : List ℕ) → string_spelling s ++ x ≡ decimal (length s) ++ 58 ∷ (s ++ x)
-string_parts s x = append_assoc (decimal (length s) ++ 58 ∷ []) s x ∙ append_assoc (decimal (length s)) (58 ∷ []) (s ++ x)
+string_parts s x = append_assoc (decimal (length s)) (58 ∷ s) x
 
 pub first_of_string : (s x : List ℕ) → length s < 2 ^ 64 → IsAsciiDigit (get_or (string_spelling s ++ x) 0 0)
 first_of_string s x fits = subst (λ t. IsAsciiDigit (get_or t 0 0)) (sym (string_parts s x)) (first_digit (length s) (58 ∷ (s ++ x)) fits)
@@ -69,33 +70,79 @@ same_decimal m n x y p q h =
     let digits = same_digits (decimal m) (decimal n) (101 ∷ x) (101 ∷ y) (decimal_digits m p) (decimal_digits n q) no_e no_e h in
     (decimal_injective m n p q digits.0, tails 101 101 x y digits.1)
 
-pub fits_pos : (n : ℕ) → FitsSigned w64 (pos n) → n < 2 ^ 63
-fits_pos n fits = omega (arith, ints, fits)
+pub number_small : (negative : Bool) (n : ℕ) → FitsSigned w64 (signed_number negative n) → n ≤ 2 ^ 63
+number_small false n fits = omega (arith, ints, fits)
+number_small true n fits = omega (arith, ints, fits)
 
-pub fits_negsuc : (n : ℕ) → FitsSigned w64 (negsuc n) → suc n ≤ 2 ^ 63
-fits_negsuc n fits = omega (arith, ints, fits)
+-- an integer, by its sign and its digits
+pub record SignedParts (z : ℤ) : Type 0 where
+  pub negative : Bool
+  pub size : ℕ
+  pub number : signed_number negative size ≡ z
+  pub some : IsTrue negative → 0 < size
+  pub text : signed_decimal z ≡ sign_text negative ++ decimal size
+
+signed_parts : (z : ℤ) → SignedParts z
+signed_parts (pos m) = record { negative = false; size = m; number = refl; some = λ is. cc; text = refl }
+signed_parts (negsuc m) = record { negative = true; size = suc m; number = refl; some = λ is. omega arith; text = refl }
+
+-- no minus stands in front, but for one that is the sign
+abbrev pub IsSignWhole : Bool → List ℕ → Type 0
+IsSignWhole negative text = IsTrue negative ⊎ (get_or text 0 0 ≢ 45)
+
+-- one text has one sign
+pub same_sign : (a b : Bool) (x y : List ℕ) → IsSignWhole a x → IsSignWhole b y → sign_text a ++ x ≡ sign_text b ++ y → (a ≡ b) × (x ≡ y)
+same_sign false false x y p q h = (refl, h)
+same_sign true true x y p q h = (refl, tails 45 45 x y h)
+same_sign false true x y p q h = elim p [
+  | inl is ↦ let impossible : false ≡ true = is in cc
+  | inr plain ↦ absurd (plain (ap (λ t. get_or t 0 0) h))
+]
+same_sign true false x y p q h = elim q [
+  | inl is ↦ let impossible : false ≡ true = is in cc
+  | inr plain ↦ absurd (plain (sym (ap (λ t. get_or t 0 0) h)))
+]
 
 -- no digit is a minus
-pub no_minus : (n : ℕ) (rest more : List ℕ) → n < 2 ^ 64 → decimal n ++ rest ≡ 45 ∷ more → ⊥
-no_minus n rest more fits h =
+pub decimal_is_plain : (n : ℕ) (rest : List ℕ) → n < 2 ^ 64 → get_or (decimal n ++ rest) 0 0 ≢ 45
+decimal_is_plain n rest fits is =
     let digit : IsAsciiDigit (get_or (decimal n ++ rest) 0 0) = first_digit n rest fits in
-    let first : get_or (decimal n ++ rest) 0 0 ≡ 45 = ap (λ t. get_or t 0 0) h in
     omega (arith, digit.0)
 
+-- the text of an integer, by a sign and what is behind it
+pub record Signed (z : ℤ) (negative : Bool) (more text : List ℕ) : Type 0 where
+  pub size : ℕ
+  pub small : size ≤ 2 ^ 63
+  pub number : signed_number negative size ≡ z
+  pub some : IsTrue negative → 0 < size
+  pub spelled : decimal size ++ 101 ∷ more ≡ text
+
+pub signed_text : (z : ℤ) (negative : Bool) (more text : List ℕ) → FitsSigned w64 z → IsSignWhole negative text → signed_decimal z ++ 101 ∷ more ≡ sign_text negative ++ text → Signed z negative more text
+signed_text z negative more text fits whole h =
+    let parts = signed_parts z in
+    let small : parts.size ≤ 2 ^ 63 = number_small parts.negative parts.size (subst (FitsSigned w64) (sym parts.number) fits) in
+    let behind : sign_text parts.negative ++ (decimal parts.size ++ 101 ∷ more) ≡ sign_text negative ++ text =
+    sym (append_assoc (sign_text parts.negative) (decimal parts.size) (101 ∷ more)) ∙ ap (λ t. t ++ 101 ∷ more) (sym parts.text) ∙ h in
+    let same = same_sign parts.negative negative (decimal parts.size ++ 101 ∷ more) text (inr (decimal_is_plain parts.size (101 ∷ more) (omega arith))) whole behind in
+    record {
+      size = parts.size;
+      small = small;
+      number = subst (λ b. signed_number b parts.size ≡ z) same.0 parts.number;
+      some = λ is. parts.some (same.0 ∙ is);
+      spelled = same.1;
+    }
+
 same_integer : (y z : ℤ) (v w : List ℕ) → FitsSigned w64 y → FitsSigned w64 z → signed_decimal y ++ 101 ∷ v ≡ signed_decimal z ++ 101 ∷ w → (y ≡ z) × (v ≡ w)
-same_integer (pos m) (pos n) v w p q h =
-    let small : m < 2 ^ 63 = fits_pos m p in
-    let small' : n < 2 ^ 63 = fits_pos n q in
-    let same = same_decimal m n v w (omega arith) (omega arith) h in
-    (ap pos same.0, same.1)
-same_integer (pos m) (negsuc n) v w p q h = let small : m < 2 ^ 63 = fits_pos m p in absurd (no_minus m (101 ∷ v) _ (omega arith) h)
-same_integer (negsuc m) (pos n) v w p q h = let small : n < 2 ^ 63 = fits_pos n q in absurd (no_minus n (101 ∷ w) _ (omega arith) (sym h))
-same_integer (negsuc m) (negsuc n) v w p q h =
-    let small : suc m ≤ 2 ^ 63 = fits_negsuc m p in
-    let small' : suc n ≤ 2 ^ 63 = fits_negsuc n q in
-    let same = same_decimal (suc m) (suc n) v w (omega arith) (omega arith) (tails 45 45 _ _ h) in
-    let numbers : m ≡ n = omega (arith, same.0) in
-    (ap negsuc numbers, same.1)
+same_integer y z v w p q h =
+    let parts = signed_parts z in
+    let small : parts.size ≤ 2 ^ 63 = number_small parts.negative parts.size (subst (FitsSigned w64) (sym parts.number) q) in
+    let plain = decimal_is_plain parts.size (101 ∷ w) (omega arith) in
+    let behind : signed_decimal y ++ 101 ∷ v ≡ sign_text parts.negative ++ (decimal parts.size ++ 101 ∷ w) =
+    h ∙ ap (λ t. t ++ 101 ∷ w) parts.text ∙ append_assoc (sign_text parts.negative) (decimal parts.size) (101 ∷ w) in
+    let other = signed_text y parts.negative v (decimal parts.size ++ 101 ∷ w) p (inr plain) behind in
+    let small' : other.size ≤ 2 ^ 63 = other.small in
+    let same = same_decimal other.size parts.size v w (omega arith) (omega arith) other.spelled in
+    (sym other.number ∙ ap (signed_number parts.negative) same.0 ∙ parts.number, same.1)
 
 -- the e behind items or entries
 pub end_behind : (c : ℕ) (inner x : List ℕ) → (c ∷ (inner ++ 101 ∷ [])) ++ x ≡ c ∷ (inner ++ 101 ∷ x)

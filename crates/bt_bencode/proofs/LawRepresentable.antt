@@ -7,7 +7,7 @@ use Rattle.bt_bencode.specs.Doc.{HasSmallIntegers, ItemsHaveSmallIntegers, Entri
 use Rattle.bt_bencode.specs.Law.{IsRepresentable, ItemsAreRepresentable, EntriesAreRepresentable}
 
 string_is_longer : (s : List ℕ) → length s ≤ length (string_spelling s)
-string_is_longer s = omega (arith, length-append (decimal (length s) ++ 58 ∷ []) s)
+string_is_longer s = omega (arith, length-append (decimal (length s)) (58 ∷ s))
 
 mutual
   unfolding spelling_of HasSmallIntegers IsRepresentable

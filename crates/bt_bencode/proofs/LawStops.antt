@@ -55,7 +55,7 @@ short_behind : (front behind text : List ℕ) → text ≡ front ++ behind → l
 short_behind front behind text parts short = omega (arith, ap length parts, length-append front behind)
 
 short_key : (key more text : List ℕ) → text ≡ string_spelling key ++ more → length text < 2 ^ 64 → length key < 2 ^ 64
-short_key key more text parts short = omega (arith, ap length parts, length-append (string_spelling key) more, length-append (decimal (length key) ++ 58 ∷ []) key)
+short_key key more text parts short = omega (arith, ap length parts, length-append (string_spelling key) more, length-append (decimal (length key)) (58 ∷ key))
 
 pub same_item_fault : (n : ℕ) → StopsOnce n → (text : List ℕ) (f : Fault) (rest : List ℕ) (g : Fault) (left : List ℕ) → length text < 2 ^ 64 → ItemStops n text f rest → ItemStops n text g left → (f ≡ g) × (rest ≡ left)
 same_item_fault n once text f rest g left short a b =

@@ -10,8 +10,8 @@ use Rattle.std.proofs.lemmas.List.{append-nil, map_push, drop_more, take_more, t
 use Rattle.bt_bencode.specs.Value.{Data, dictionary, no_entries, data_of, entries_of, entries_from, entry_data}
 use Rattle.bt_bencode.specs.Spelling.{string_spelling, spelling_of, entries_spelling}
 use Rattle.bt_bencode.specs.Doc.{IsBefore, nesting_of, entries_nesting, HasAscendingKeys, EntriesAscend, HasSmallIntegers, EntriesHaveSmallIntegers, IsCanonicalWithin}
-use Rattle.bt_bencode.specs.Error.{Fault, key_order, too_deep}
-use Rattle.bt_bencode.specs.Reader.{StringStops, Stops, last_key_of, EndsBefore, too_deep_dictionary, in_key, at_key, in_value}
+use Rattle.bt_bencode.specs.Error.{Fault, key_order}
+use Rattle.bt_bencode.specs.Reader.{StringStops, Stops, last_key_of, EndsBefore, in_key, at_key, in_value}
 use Rattle.bt_bencode.specs.ReaderSteps.{FaultFrom, ReadsValue, ReadsString}
 use Rattle.bt_bencode.specs.declared.value.Value.{Value}
 use Rattle.bt_bencode.proofs.ReadRanges.{drop_first}
@@ -152,8 +152,3 @@ last_decides es e key some is =
     let last : last_key_of (entries_of es) ≡ Some e.0.items = ap (λ xs. last_key_of (entries_of xs)) (sym parts) ∙ last_key-push (take (length es - 1) es) e in
     let decides = less_decides (slice_cmp nat_cmp e.0.items key) in
     (λ h. subst (λ k. IfSome k (λ l. IsBefore l key)) (sym last) (decides.0 h), λ h. decides.1 (subst (λ k. IfSome k (λ l. IsBefore l key)) last h))
-
-pub dictionary_too_deep : (n : ℕ) (bytes : List ℕ) (at : ℕ) → n ≡ 0 → at < length bytes → get_or bytes at 0 ≡ 100 → FaultFrom (Stops n) bytes at too_deep at
-dictionary_too_deep n bytes at none lt first =
-    let text : drop at bytes ≡ 100 ∷ drop (at + 1) bytes = drop_more bytes at 0 lt ∙ ap (λ c. c ∷ drop (at + 1) bytes) first in
-    (omega arith, rw (none, text) (too_deep_dictionary (drop (at + 1) bytes)))

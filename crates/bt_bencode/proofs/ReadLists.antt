@@ -1,5 +1,5 @@
 -- A list in the bytes, item by item.
-use Rattle.std.proofs.Common.{◌≡◌, ◌≢◌, ℕ, zero, suc, ◌+◌, ◌-◌, ◌<◌, ◌≤◌, List, [], ◌∷◌, ◌++◌, length, drop, get_or, map, sym, ap, ◌∙◌, subst, arith, append_assoc, length-drop, ℤ}
+use Rattle.std.proofs.Common.{◌≡◌, ◌≢◌, ℕ, zero, suc, ◌+◌, ◌-◌, ◌<◌, ◌≤◌, ◌⊎◌, List, [], ◌∷◌, ◌++◌, length, drop, get_or, map, sym, ap, ◌∙◌, subst, arith, append_assoc, length-drop, ℤ}
 use Rattle.std.specs.Char.{IsAsciiDigit}
 use Rattle.std.proofs.Math.Seq.{drop-length}
 use Rattle.std.proofs.lemmas.List.{append-nil, map_push, drop_more}
@@ -7,7 +7,7 @@ use Rattle.bt_bencode.specs.Value.{Data, integer, string, list, no_items, data_o
 use Rattle.bt_bencode.specs.Spelling.{spelling_of, items_spelling}
 use Rattle.bt_bencode.specs.Doc.{nesting_of, items_nesting, HasAscendingKeys, ItemsHaveAscendingKeys, HasSmallIntegers, ItemsHaveSmallIntegers, IsCanonicalWithin}
 use Rattle.bt_bencode.specs.Error.{Fault, truncated, bad_byte, too_deep}
-use Rattle.bt_bencode.specs.Reader.{StringStops, Stops, at_end, at_other, in_string, too_deep_list, in_item}
+use Rattle.bt_bencode.specs.Reader.{StringStops, Stops, at_end, at_other, in_string, at_max_nesting, in_item}
 use Rattle.bt_bencode.specs.ReaderSteps.{FaultFrom, ReadsValue, ReadsString, ReadsInteger}
 use Rattle.bt_bencode.specs.declared.value.Value.{Value}
 use Rattle.bt_bencode.proofs.ReadRanges.{drop_first}
@@ -98,10 +98,10 @@ list_found n bytes at next vs so_far lt last =
       canonical = so_far.canonical;
     }
 
-pub list_too_deep : (n : ℕ) (bytes : List ℕ) (at : ℕ) → n ≡ 0 → at < length bytes → get_or bytes at 0 ≡ 108 → FaultFrom (Stops n) bytes at too_deep at
-list_too_deep n bytes at none lt first =
-    let text : drop at bytes ≡ 108 ∷ drop (at + 1) bytes = drop_more bytes at 0 lt ∙ ap (λ c. c ∷ drop (at + 1) bytes) first in
-    (omega arith, rw (none, text) (too_deep_list (drop (at + 1) bytes)))
+pub too_deep_at : (n : ℕ) (bytes : List ℕ) (at opening : ℕ) → n ≡ 0 → at < length bytes → get_or bytes at 0 ≡ opening → (opening ≡ 108) ⊎ (opening ≡ 100) → FaultFrom (Stops n) bytes at too_deep at
+too_deep_at n bytes at opening none lt first which =
+    let text : drop at bytes ≡ opening ∷ drop (at + 1) bytes = drop_more bytes at 0 lt ∙ ap (λ c. c ∷ drop (at + 1) bytes) first in
+    (omega arith, rw (none, text) (at_max_nesting opening (drop (at + 1) bytes) which))
 
 pub nothing_stops : (n : ℕ) (bytes : List ℕ) (at : ℕ) → at ≡ length bytes → FaultFrom (Stops n) bytes at truncated at
 nothing_stops n bytes at whole =

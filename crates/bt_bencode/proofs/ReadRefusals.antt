@@ -1,6 +1,6 @@
 -- Where a reading stops, no canonical value's spelling begins the text.
 use Rattle.std.proofs.Common.{◌≡◌, ◌≢◌, ℕ, ℤ, zero, suc, pos, negsuc, ◌+◌, ◌^◌, ◌<◌, ◌≤◌, Bool, true, false, inl, inr, List, [], ◌∷◌, ◌++◌, length, get_or, refl, sym, ap, ◌∙◌, subst, arith, max, length-append, append_assoc}
-use Rattle.std.specs.Prelude.{FitsSigned, IfSome}
+use Rattle.std.specs.Prelude.{FitsSigned, IsTrue, IfSome}
 use Rattle.std.specs.Int.{w64}
 use Rattle.std.specs.Char.{IsAsciiDigit}
 use Rattle.std.specs.Fmt.{decimal, signed_decimal}
@@ -12,33 +12,26 @@ use Rattle.bt_bencode.specs.Value.{Data, integer, string, list, dictionary, Item
 use Rattle.bt_bencode.specs.Spelling.{string_spelling, spelling_of, items_spelling, entries_spelling}
 use Rattle.bt_bencode.specs.Doc.{IsBefore, first_key_of, nesting_of, items_nesting, entries_nesting, HasAscendingKeys, ItemsHaveAscendingKeys, EntriesAscend, HasSmallIntegers, ItemsHaveSmallIntegers, EntriesHaveSmallIntegers, IsCanonicalWithin}
 use Rattle.bt_bencode.specs.Error.{Fault}
-use Rattle.bt_bencode.specs.Number.{LeadsWithZero, NumeralStops, at_zero, at_end as numeral_at_end, at_other as numeral_at_other}
-use Rattle.bt_bencode.specs.Reader.{StringStops, in_length, in_bytes, EndsBefore, Stops, at_end, at_other, in_integer, in_negative, too_large, too_small, in_string, too_deep_list, too_deep_dictionary, in_item, in_key, at_key, in_value}
+use Rattle.bt_bencode.specs.Number.{sign_text, signed_number, LeadsWithZero, NumeralStops, at_zero, at_end as numeral_at_end, at_other as numeral_at_other}
+use Rattle.bt_bencode.specs.Reader.{StringStops, in_length, in_bytes, EndsBefore, Stops, at_end, at_other, in_integer, out_of_range, in_string, at_max_nesting, in_item, in_key, at_key, in_value}
 use Rattle.bt_bencode.specs.Law.{IsRepresentable, ItemsAreRepresentable, EntriesAreRepresentable}
-use Rattle.bt_bencode.proofs.LawPrefixes.{tails, same_digits, decimal_digits, string_parts, first_of_string, same_string, fits_pos, fits_negsuc, no_minus, end_behind, item_parts, entry_parts, no_end, string_apart, same_spelling, same_entries}
+use Rattle.bt_bencode.proofs.LawPrefixes.{tails, same_digits, decimal_digits, string_parts, first_of_string, same_string, IsSignWhole, signed_text, end_behind, item_parts, entry_parts, no_end, string_apart, same_spelling, same_entries}
 use Rattle.bt_bencode.proofs.LawRepresentable.{representable, items_representable, entries_representable}
 
 pub no_digit : (stop : ℕ) → 57 < stop → ¬ IsAsciiDigit stop
 no_digit stop other digit = absurd (omega (arith, digit.1))
 
 -- a number's digits have no zero that may not stand, and behind a minus none but 0 itself begins with one
-decimal_no_zero : (n stop : ℕ) (rest : List ℕ) → n < 2 ^ 64 → 57 < stop → ¬ LeadsWithZero false (decimal n ++ stop ∷ rest)
-decimal_no_zero zero stop rest fits other leads = elim leads.1 [
-  | inl negative ↦ let impossible : false ≡ true = negative in cc
+decimal_no_zero : (negative : Bool) (n stop : ℕ) (rest : List ℕ) → (IsTrue negative → 0 < n) → n < 2 ^ 64 → 57 < stop → ¬ LeadsWithZero negative (decimal n ++ stop ∷ rest)
+decimal_no_zero negative zero stop rest some fits other leads = elim leads.1 [
+  | inl is ↦ absurd (omega (arith, some is))
   | inr digit ↦ let text : decimal 0 ++ stop ∷ rest ≡ 48 ∷ stop ∷ rest = ap (λ ds. ds ++ stop ∷ rest) (decimal_digit 0 (omega arith)) in
       no_digit stop other (subst (λ t. IsAsciiDigit (get_or t 1 0)) text digit)
 ]
-decimal_no_zero (suc n) stop rest fits other leads =
+decimal_no_zero negative (suc n) stop rest positive fits other leads =
     let some : 0 < length (decimal (suc n)) = decimal_nonempty (suc n) fits in
     let first : get_or (decimal (suc n) ++ stop ∷ rest) 0 0 ≡ get_or (decimal (suc n)) 0 0 = get_or_append_left (decimal (suc n)) (stop ∷ rest) 0 0 some in
     let above : 48 < get_or (decimal (suc n)) 0 0 = first_decimal (suc n) (omega arith) fits in
-    omega (arith, leads.0)
-
-negative_no_zero : (n stop : ℕ) (rest : List ℕ) → 0 < n → n < 2 ^ 64 → ¬ LeadsWithZero true (decimal n ++ stop ∷ rest)
-negative_no_zero n stop rest positive fits leads =
-    let some : 0 < length (decimal n) = decimal_nonempty n fits in
-    let first : get_or (decimal n ++ stop ∷ rest) 0 0 ≡ get_or (decimal n) 0 0 = get_or_append_left (decimal n) (stop ∷ rest) 0 0 some in
-    let above : 48 < get_or (decimal n) 0 0 = first_decimal n positive fits in
     omega (arith, leads.0)
 
 -- where a numeral stops a reading, the text does not begin with a numeral and the stop
@@ -57,9 +50,9 @@ no_numeral negative stop text f rest (numeral_at_other ds behind parts digits no
 
 pub no_string : (text : List ℕ) (f : Fault) (rest : List ℕ) → StringStops text f rest → (s more : List ℕ) → length s < 2 ^ 64 → string_spelling s ++ more ≡ text → ⊥
 no_string text f rest (in_length g left numeral) s more fits h =
-    no_numeral false 58 text g left numeral (length s) (s ++ more) fits (omega arith) (decimal_no_zero (length s) 58 (s ++ more) fits (omega arith)) (sym (string_parts s more) ∙ h)
+    no_numeral false 58 text g left numeral (length s) (s ++ more) fits (omega arith) (decimal_no_zero false (length s) 58 (s ++ more) (λ is. cc) fits (omega arith)) (sym (string_parts s more) ∙ h)
 no_string text f rest (in_bytes ds behind parts numeral no_lead short) s more fits h =
-    let whole : decimal (length s) ++ 58 ∷ (s ++ more) ≡ ds ++ 58 ∷ behind = sym (string_parts s more) ∙ h ∙ parts ∙ append_assoc ds (58 ∷ []) behind in
+    let whole : decimal (length s) ++ 58 ∷ (s ++ more) ≡ ds ++ 58 ∷ behind = sym (string_parts s more) ∙ h ∙ parts in
     let same = same_digits (decimal (length s)) ds (58 ∷ (s ++ more)) (58 ∷ behind) (decimal_digits (length s) fits) numeral.1 (no_digit 58 (omega arith)) (no_digit 58 (omega arith)) whole in
     let value : digits_value 10 (decimal (length s)) ≡ length s = (decimal_is_IsNumeral (length s) fits).1 in
     omega (arith, ap (digits_value 10) same.0, ap length same.1, length-append s more)
@@ -168,37 +161,28 @@ entry_within n key d es kept =
     record { nesting = omega arith; keys = kept.keys.1; integers = kept.integers.0 }
 
 -- an integer's text, where a numeral or its range stops the reading
-no_plain : (z : ℤ) (more text : List ℕ) (f : Fault) (rest : List ℕ) → FitsSigned w64 z → signed_decimal z ++ 101 ∷ more ≡ text → get_or text 0 0 ≢ 45 → NumeralStops false 101 text f rest → ⊥
-no_plain (pos m) more text f rest fits h plain stops =
-    let small : m < 2 ^ 63 = fits_pos m fits in
-    no_numeral false 101 text f rest stops m more (omega arith) (omega arith) (decimal_no_zero m 101 more (omega arith) (omega arith)) h
-no_plain (negsuc m) more text f rest fits h plain stops = plain (sym (ap (λ t. get_or t 0 0) h))
+no_integer : (z : ℤ) (negative : Bool) (more text : List ℕ) (f : Fault) (rest : List ℕ) → FitsSigned w64 z → IsSignWhole negative text → signed_decimal z ++ 101 ∷ more ≡ sign_text negative ++ text
+    → NumeralStops negative 101 text f rest → ⊥
+no_integer z negative more text f rest fits whole h stops =
+    let signed = signed_text z negative more text fits whole h in
+    let small : signed.size ≤ 2 ^ 63 = signed.small in
+    no_numeral negative 101 text f rest stops signed.size more (omega arith) (omega arith) (decimal_no_zero negative signed.size 101 more signed.some (omega arith) (omega arith)) signed.spelled
 
-no_negative : (z : ℤ) (more text : List ℕ) (f : Fault) (rest : List ℕ) → FitsSigned w64 z → signed_decimal z ++ 101 ∷ more ≡ 45 ∷ text → NumeralStops true 101 text f rest → ⊥
-no_negative (pos m) more text f rest fits h stops = let small : m < 2 ^ 63 = fits_pos m fits in no_minus m (101 ∷ more) text (omega arith) h
-no_negative (negsuc m) more text f rest fits h stops =
-    let small : suc m ≤ 2 ^ 63 = fits_negsuc m fits in
-    no_numeral true 101 text f rest stops (suc m) more (omega arith) (omega arith) (negative_no_zero (suc m) 101 more (omega arith) (omega arith)) (tails 45 45 _ text h)
-
-not_too_large : (z : ℤ) (more ds behind : List ℕ) → FitsSigned w64 z → IsNumeral 10 ds → 2 ^ 63 ≤ digits_value 10 ds → signed_decimal z ++ 101 ∷ more ≡ ds ++ 101 ∷ behind → ⊥
-not_too_large (pos m) more ds behind fits numeral large h =
-    let small : m < 2 ^ 63 = fits_pos m fits in
-    let same = same_digits (decimal m) ds (101 ∷ more) (101 ∷ behind) (decimal_digits m (omega arith)) numeral.1 (no_digit 101 (omega arith)) (no_digit 101 (omega arith)) h in
-    let value : digits_value 10 (decimal m) ≡ m = (decimal_is_IsNumeral m (omega arith)).1 in
-    omega (arith, ap (digits_value 10) same.0)
-not_too_large (negsuc m) more ds behind fits numeral large h =
-    let digit : IsAsciiDigit (get_or ds 0 0) = digit_at ds 0 numeral.1 numeral.0 in
-    let first : get_or (ds ++ 101 ∷ behind) 0 0 ≡ get_or ds 0 0 = get_or_append_left ds (101 ∷ behind) 0 0 numeral.0 in
-    let minus : 45 ≡ get_or (ds ++ 101 ∷ behind) 0 0 = ap (λ t. get_or t 0 0) h in
+-- a numeral's first byte is no minus
+pub numeral_is_plain : (ds more : List ℕ) → IsNumeral 10 ds → get_or (ds ++ more) 0 0 ≢ 45
+numeral_is_plain ds more whole is =
+    let digit = digit_at ds 0 whole.1 whole.0 in
+    let first : get_or (ds ++ more) 0 0 ≡ get_or ds 0 0 = get_or_append_left ds more 0 0 whole.0 in
     omega (arith, digit.0)
 
-not_too_small : (z : ℤ) (more ds behind : List ℕ) → FitsSigned w64 z → IsNumeral 10 ds → 2 ^ 63 < digits_value 10 ds → signed_decimal z ++ 101 ∷ more ≡ 45 ∷ (ds ++ 101 ∷ behind) → ⊥
-not_too_small (pos m) more ds behind fits numeral large h = let small : m < 2 ^ 63 = fits_pos m fits in no_minus m (101 ∷ more) (ds ++ 101 ∷ behind) (omega arith) h
-not_too_small (negsuc m) more ds behind fits numeral large h =
-    let small : suc m ≤ 2 ^ 63 = fits_negsuc m fits in
-    let same = same_digits (decimal (suc m)) ds (101 ∷ more) (101 ∷ behind) (decimal_digits (suc m) (omega arith)) numeral.1 (no_digit 101 (omega arith)) (no_digit 101 (omega arith)) (tails 45 45 _ _ h) in
-    let value : digits_value 10 (decimal (suc m)) ≡ suc m = (decimal_is_IsNumeral (suc m) (omega arith)).1 in
-    omega (arith, ap (digits_value 10) same.0)
+in_its_range : (z : ℤ) (negative : Bool) (more ds behind : List ℕ) → FitsSigned w64 z → IsNumeral 10 ds → signed_decimal z ++ 101 ∷ more ≡ sign_text negative ++ (ds ++ 101 ∷ behind)
+    → FitsSigned w64 (signed_number negative (digits_value 10 ds))
+in_its_range z negative more ds behind fits numeral h =
+    let signed = signed_text z negative more (ds ++ 101 ∷ behind) fits (inr (numeral_is_plain ds (101 ∷ behind) numeral)) h in
+    let small : signed.size ≤ 2 ^ 63 = signed.small in
+    let same = same_digits (decimal signed.size) ds (101 ∷ more) (101 ∷ behind) (decimal_digits signed.size (omega arith)) numeral.1 (no_digit 101 (omega arith)) (no_digit 101 (omega arith)) signed.spelled in
+    let value : digits_value 10 (decimal signed.size) ≡ signed.size = (decimal_is_IsNumeral signed.size (omega arith)).1 in
+    subst (FitsSigned w64) (sym (ap (signed_number negative) (ap (digits_value 10) (sym same.0) ∙ value) ∙ signed.number)) fits
 
 -- a canonical value whose spelling begins a text that fits memory
 pub record Begins (n : ℕ) (d : Data) (more text : List ℕ) : Type 0 where
@@ -272,34 +256,28 @@ key_short : (done : Entries) (key behind : List ℕ) → suc (length (entries_sp
 key_short done key behind short =
     let outer = length-append (entries_spelling done) (string_spelling key ++ behind) in
     let inner = length-append (string_spelling key) behind in
-    let key_inside = length-append (decimal (length key) ++ 58 ∷ []) key in
+    let key_inside = length-append (decimal (length key)) (58 ∷ key) in
     (omega (arith, outer, inner, key_inside), omega (arith, outer, inner))
 
 pub none_begins : (n : ℕ) (text : List ℕ) (f : Fault) (rest : List ℕ) → Stops n text f rest → (d : Data) (more : List ℕ) → Begins n d more text → ⊥
 none_begins n text f rest (at_end n') d more begins =
     other_begins d more [] (sizes n d more [] begins) begins.spelled (omega arith) (omega arith) (omega arith) (λ digit. absurd (omega (arith, digit.0)))
 none_begins n text f rest (at_other n' t some i l e digit) d more begins = other_begins d more t (sizes n d more t begins) begins.spelled i l e digit
-none_begins n text f rest (in_integer n' behind g left plain stops) d more begins =
-    let z = integer_begins d more behind (sizes n d more text begins) begins.spelled in
-    no_plain z.0 more behind g left z.1 z.2 plain stops
-none_begins n text f rest (in_negative n' behind g left stops) d more begins =
-    let z = integer_begins d more (45 ∷ behind) (sizes n d more text begins) begins.spelled in
-    no_negative z.0 more behind g left z.1 z.2 stops
-none_begins n text f rest (too_large n' ds behind numeral no_lead large) d more begins =
-    let z = integer_begins d more ((ds ++ 101 ∷ []) ++ behind) (sizes n d more text begins) begins.spelled in
-    not_too_large z.0 more ds behind z.1 numeral large (z.2 ∙ append_assoc ds (101 ∷ []) behind)
-none_begins n text f rest (too_small n' ds behind numeral no_lead large) d more begins =
-    let z = integer_begins d more (45 ∷ ((ds ++ 101 ∷ []) ++ behind)) (sizes n d more text begins) begins.spelled in
-    not_too_small z.0 more ds behind z.1 numeral large (z.2 ∙ ap (λ t. 45 ∷ t) (append_assoc ds (101 ∷ []) behind))
+none_begins n text f rest (in_integer n' negative behind g left whole stops) d more begins =
+    let z = integer_begins d more (sign_text negative ++ behind) (sizes n d more text begins) begins.spelled in
+    no_integer z.0 negative more behind g left z.1 whole z.2 stops
+none_begins n text f rest (out_of_range n' negative ds behind numeral no_lead out) d more begins =
+    let z = integer_begins d more (sign_text negative ++ (ds ++ 101 ∷ behind)) (sizes n d more text begins) begins.spelled in
+    out (in_its_range z.0 negative more ds behind z.1 numeral z.2)
 none_begins n text f rest (in_string n' t g left digit stops) d more begins =
     let s = string_begins d more t (sizes n d more text begins) digit begins.spelled in
     no_string t g left stops s.0 more s.1 s.2
-none_begins n text f rest (too_deep_list behind) d more begins =
-    let ds = list_begins 0 d more behind begins.canonical (sizes n d more text begins) begins.spelled in
-    let deep : suc (items_nesting ds.0) ≤ 0 = ds.1.nesting in omega arith
-none_begins n text f rest (too_deep_dictionary behind) d more begins =
-    let es = dictionary_begins 0 d more behind begins.canonical (sizes n d more text begins) begins.spelled in
-    let deep : suc (entries_nesting es.0) ≤ 0 = es.1.nesting in omega arith
+none_begins n text f rest (at_max_nesting opening behind which) d more begins = elim which [
+  | inl is ↦ let ds = list_begins 0 d more behind begins.canonical (sizes n d more text begins) (begins.spelled ∙ ap (λ c. c ∷ behind) is) in
+      let deep : suc (items_nesting ds.0) ≤ 0 = ds.1.nesting in omega arith
+  | inr is ↦ let es = dictionary_begins 0 d more behind begins.canonical (sizes n d more text begins) (begins.spelled ∙ ap (λ c. c ∷ behind) is) in
+      let deep : suc (entries_nesting es.0) ≤ 0 = es.1.nesting in omega arith
+]
 none_begins n text f rest (in_item n' done behind g left canonical going stops) d more begins =
     let short : suc (length (items_spelling done ++ behind)) < 2 ^ 64 = begins.short in
     let ds = list_begins n d more (items_spelling done ++ behind) begins.canonical (sizes n d more text begins) begins.spelled in

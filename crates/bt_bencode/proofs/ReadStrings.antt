@@ -28,7 +28,7 @@ string_read bytes at colon n s numeral value small inside is =
     record {
       forward = omega arith;
       inside = inside;
-      spelled = append_assoc (decimal (length s) ++ 58 ∷ []) s (drop (colon + 1 + n) bytes) ∙ append_assoc (decimal (length s)) (58 ∷ []) (s ++ drop (colon + 1 + n) bytes)
+      spelled = append_assoc (decimal (length s)) (58 ∷ s) (drop (colon + 1 + n) bytes)
           ∙ ap (λ xs. xs ++ 58 ∷ (s ++ drop (colon + 1 + n) bytes)) digits ∙ ap (λ xs. ds ++ 58 ∷ xs) whole ∙ parts;
     }
 
@@ -39,6 +39,5 @@ string_short bytes at colon numeral short =
     let forward : at < colon = numeral.forward in
     let inside : colon < length bytes = numeral.inside in
     let parts : ds ++ 58 ∷ rest ≡ drop at bytes = numeral_split false 58 bytes at colon numeral in
-    let text : drop at bytes ≡ (ds ++ 58 ∷ []) ++ rest = sym parts ∙ sym (append_assoc ds (58 ∷ []) rest) in
     let some : 0 < length ds = omega (arith, length-between bytes at colon (omega arith)) in
-    (omega arith, rw drop-length (in_bytes ds rest text (some, numeral.digits) numeral.no_zero (omega (arith, length-drop (colon + 1) bytes))))
+    (omega arith, rw drop-length (in_bytes ds rest (sym parts) (some, numeral.digits) numeral.no_zero (omega (arith, length-drop (colon + 1) bytes))))

@@ -1,4 +1,4 @@
-use Rattle.std.proofs.Common.{refl, ◌≡◌, ◌≢◌, ◌+◌, ◌-◌, get_or, sym, subst, arith, rules, true, false}
+use Rattle.std.proofs.Common.{refl, inl, inr, ◌≡◌, ◌≢◌, ◌+◌, ◌-◌, get_or, sym, subst, arith, rules, true, false}
 use Rattle.std.specs.Char.{IsAsciiDigit}
 use Rattle.std.proofs.lemmas.Result.{err_from_is_err_and}
 use Rattle.std.proofs.lemmas.Int.{to_z-of_z}
@@ -8,12 +8,12 @@ use Rattle.bt_bencode.specs.ReaderSteps.{FaultFrom, ReadsValue}
 use Rattle.bt_bencode.proofs.FaultPassing.{fault_passed}
 use Rattle.bt_bencode.proofs.ReadRanges.{not_standing}
 use Rattle.bt_bencode.proofs.ValueData.{data_of-Int, data_of-Bytes, data_of-List, data_of-Dict}
-use Rattle.bt_bencode.proofs.ReadLists.{list_begun, list_more, list_stops, list_found, list_too_deep, nothing_stops, other_stops, string_stops, integer_value, string_value}
-use Rattle.bt_bencode.proofs.ReadDictionaries.{dictionary_begun, dictionary_more, key_stops, order_stops, value_stops, dictionary_found, dictionary_too_deep}
+use Rattle.bt_bencode.proofs.ReadLists.{list_begun, list_more, list_stops, list_found, too_deep_at, nothing_stops, other_stops, string_stops, integer_value, string_value}
+use Rattle.bt_bencode.proofs.ReadDictionaries.{dictionary_begun, dictionary_more, key_stops, order_stops, value_stops, dictionary_found}
 use Rattle.bt_bencode.proofs.reader.+value.Goals as goal
 
 pub dictionary_at-returns-then-depth-eq0-clause-fault : goal.dictionary_at-returns-then-depth-eq0-clause-fault
-dictionary_at-returns-then-depth-eq0-clause-fault t c = dictionary_too_deep c.args.depth c.args.bytes.now c.args.at c.if-depth-eq0.true c.requires.inside c.requires.first
+dictionary_at-returns-then-depth-eq0-clause-fault t c = too_deep_at c.args.depth c.args.bytes.now c.args.at 100 c.if-depth-eq0.true c.requires.inside c.requires.first (inr refl)
 
 pub dictionary_at-loop-alloc-init : goal.dictionary_at-loop-alloc-init
 dictionary_at-loop-alloc-init t c =
@@ -53,7 +53,7 @@ dictionary_at-returns-clause-found t c =
     (rw c.shrink_to_fit.ensures.items (dictionary_found c.args.depth c.args.bytes.now c.args.at c.loop-alloc.next c.loop-alloc.entries.items c.loop-alloc.invariant (c.loop-alloc-test.ensures.0 refl).0 (c.loop-alloc-test.ensures.0 refl).1))
 
 pub list_at-returns-then-depth-eq0-clause-fault : goal.list_at-returns-then-depth-eq0-clause-fault
-list_at-returns-then-depth-eq0-clause-fault t c = list_too_deep c.args.depth c.args.bytes.now c.args.at c.if-depth-eq0.true c.requires.inside c.requires.first
+list_at-returns-then-depth-eq0-clause-fault t c = too_deep_at c.args.depth c.args.bytes.now c.args.at 108 c.if-depth-eq0.true c.requires.inside c.requires.first (inl refl)
 
 pub list_at-loop-alloc-init : goal.list_at-loop-alloc-init
 list_at-loop-alloc-init t c = list_begun c.args.depth c.args.bytes.now c.args.at c.new-items.result.items c.new-items.ensures.items (omega arith) c.requires.inside c.requires.first
