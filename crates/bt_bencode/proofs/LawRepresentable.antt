@@ -28,5 +28,8 @@ mutual
   entries_representable no_entries fits short = tt
   entries_representable (entry key d es) fits short =
       let outer = length-append (string_spelling key ++ spelling_of d) (entries_spelling es) in
-      let inner = length-append (string_spelling key) (spelling_of d) in
-      (omega (arith, outer, inner, string_is_longer key), representable d fits.0 (omega (arith, outer, inner)), entries_representable es fits.1 (omega (arith, outer, inner)))
+      let inner = length-append (string_spelling key) (spelling_of d) in (
+        omega (arith, outer, inner, string_is_longer key),
+        representable d fits.0 (omega (arith, outer, inner)),
+        entries_representable es fits.1 (omega (arith, outer, inner)),
+      )

@@ -6,7 +6,8 @@ use Rattle.bt_bencode.specs.Spelling.{spelling_of}
 use Rattle.bt_bencode.specs.Doc.{IsCanonical}
 use Rattle.bt_bencode.specs.Error.{Fault, truncated, trailing}
 use Rattle.bt_bencode.specs.Number.{NumeralStops, at_zero, at_end as numeral_at_end, at_other as numeral_at_other}
-use Rattle.bt_bencode.specs.Reader.{StringStops, in_length, in_bytes, Stops, at_end, at_other, in_integer, out_of_range, in_string, at_max_nesting, in_item, in_key, at_key, in_value, IsFirstFault, in_the_value, behind_the_value, IsValueEnd}
+use Rattle.bt_bencode.specs.Reader.{StringStops, in_length, in_bytes, Stops, at_end, at_other, in_integer, out_of_range, in_string, at_max_nesting}
+use Rattle.bt_bencode.specs.Reader.{in_item, in_key, at_key, in_value, IsFirstFault, in_the_value, behind_the_value, IsValueEnd}
 use Rattle.bt_bencode.specs.ReaderSteps.{FaultFrom, ReadsValue}
 use Rattle.bt_bencode.proofs.LawPrefixes.{same_spelling, same_front}
 use Rattle.bt_bencode.proofs.LawRepresentable.{representable}
@@ -44,13 +45,15 @@ pub first_fault_behind : (bytes : List ℕ) (d : Data) (end : ℕ) → ReadsValu
 first_fault_behind bytes d end read lt = behind_the_value d end read.canonical lt read.spans.spelled
 
 -- a fault refuses every canonical value
-pub none_spells : (bytes : List ℕ) (f : Fault) (offset : ℕ) → length bytes < 2 ^ 64 → IsFirstFault bytes f offset → (d : Data) → IsCanonical d → spelling_of d ≢ bytes
+pub none_spells : (bytes : List ℕ) (f : Fault) (offset : ℕ) → length bytes < 2 ^ 64 → IsFirstFault bytes f offset → (d : Data) → IsCanonical d
+    → spelling_of d ≢ bytes
 none_spells bytes f offset short (in_the_value g o inside stops) d canonical is =
     none_begins 128 bytes g (drop o bytes) stops d [] (record { canonical = canonical; spelled = append-nil (spelling_of d) ∙ is; short = short })
 none_spells bytes f offset short (behind_the_value e o canonical' lt spelled) d canonical is =
     let size : length (spelling_of d) ≡ length bytes = ap length is in
     let size' : length (spelling_of e ++ drop o bytes) ≡ length bytes = ap length spelled in
-    let same = same_spelling e d (drop o bytes) [] (representable e canonical'.integers (omega (arith, length-append (spelling_of e) (drop o bytes)))) (representable d canonical.integers (omega arith))
+    let same = same_spelling e d (drop o bytes) [] (representable e canonical'.integers (omega (arith, length-append (spelling_of e) (drop o bytes))))
+    (representable d canonical.integers (omega arith))
     (spelled ∙ sym is ∙ sym (append-nil (spelling_of d))) in
     omega (arith, ap length same.1, length-drop o bytes)
 
@@ -68,6 +71,7 @@ trailing_behind_value bytes f offset (behind_the_value e o canonical lt spelled)
     record {
       value = e;
       canonical = canonical;
-      spelled = (same_front (spelling_of e) (take o bytes) (drop o bytes) (drop o bytes) (omega (arith, length-append (spelling_of e) (drop o bytes), length-drop o bytes)) (spelled ∙ sym (take-append-drop o bytes))).0;
+      spelled = (same_front (spelling_of e) (take o bytes) (drop o bytes) (drop o bytes)
+          (omega (arith, length-append (spelling_of e) (drop o bytes), length-drop o bytes)) (spelled ∙ sym (take-append-drop o bytes))).0;
       followed = lt;
     }

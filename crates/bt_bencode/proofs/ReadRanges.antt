@@ -1,5 +1,6 @@
 -- Where a range of some bytes ends, the rest goes on; and what a run of digits tells.
-use Rattle.std.proofs.Common.{◌≡◌, ◌≢◌, ℕ, zero, suc, ◌+◌, ◌-◌, ◌<◌, ◌≤◌, List, [], ◌∷◌, ◌++◌, length, take, drop, get_or, refl, sym, ap, ◌∙◌, arith, length-drop, add-zero}
+use Rattle.std.proofs.Common.{◌≡◌, ◌≢◌, ℕ, zero, suc, ◌+◌, ◌-◌, ◌<◌, ◌≤◌, List, [], ◌∷◌, ◌++◌, length, take, drop, get_or, refl, sym, ap, ◌∙◌, arith}
+use Rattle.std.proofs.Common.{length-drop, add-zero}
 use Rattle.std.specs.Prelude.{slice_range, Option, None, Some, IsTrue, true, false}
 use Rattle.std.specs.Option.{SomeIff}
 use Rattle.std.specs.Char.{IsAsciiDigit, digit_value}
@@ -23,7 +24,8 @@ split xs at end le =
     ap (λ ys. take (end - at) (drop at xs) ++ ys) (sym (drop-drop at (end - at) xs ∙ ap (λ k. drop k xs) e)) ∙ take-append-drop (end - at) (drop at xs)
 
 -- one digit more
-pub digits_one_more : (xs : List ℕ) (at end : ℕ) → at ≤ end → end < length xs → IsAsciiDigit (get_or xs end 0) → AllDigits 10 (slice_range xs at end) → AllDigits 10 (slice_range xs at (end + 1))
+pub digits_one_more : (xs : List ℕ) (at end : ℕ) → at ≤ end → end < length xs → IsAsciiDigit (get_or xs end 0) → AllDigits 10 (slice_range xs at end)
+    → AllDigits 10 (slice_range xs at (end + 1))
 digits_one_more xs at end le lt digit digits =
     let e : at + (end - at) ≡ end = omega arith in
     let same : get_or (drop at xs) (end - at) 0 ≡ get_or xs end 0 = get_or-drop at xs (end - at) 0 ∙ ap (λ k. get_or xs k 0) e in

@@ -24,14 +24,16 @@ pub integer_of-requires : goal.integer_of-requires
 integer_of-requires c =
     let bytes = c.args.bytes.now in
     let negative = c.stands_at-negative.result in
-    integer_is_ascii bytes c.args.at c.in_ok-end.end negative (is_signed negative bytes c.args.at c.stands_at-negative.ensures) (rw c.from.ensures at c.in_ok-end.ensures.found)
+    integer_is_ascii bytes c.args.at c.in_ok-end.end negative (is_signed negative bytes c.args.at c.stands_at-negative.ensures)
+    (rw c.from.ensures at c.in_ok-end.ensures.found)
 
 pub returns-in-Some-clause-found : goal.returns-in-Some-clause-found
 returns-in-Some-clause-found c =
     let bytes = c.args.bytes.now in
     let at = c.args.at in
     let negative = c.stands_at-negative.result in
-    let found = integer_found bytes at c.in_ok-end.end negative c.in-Some.integer c.requires.inside c.requires.first (is_signed negative bytes at c.stands_at-negative.ensures) (rw c.from.ensures at c.in_ok-end.ensures.found) c.in-Some.ensures in
+    let found = integer_found bytes at c.in_ok-end.end negative c.in-Some.integer c.requires.inside c.requires.first
+    (is_signed negative bytes at c.stands_at-negative.ensures) (rw c.from.ensures at c.in_ok-end.ensures.found) c.in-Some.ensures in
     subst (ReadsInteger bytes at (c.in_ok-end.end + 1)) (sym (to_z-of_z _ c.in-Some.integer found.fits)) found
 
 pub returns-in-None-clause-fault : goal.returns-in-None-clause-fault
@@ -39,4 +41,5 @@ returns-in-None-clause-fault c = λ n.
     let bytes = c.args.bytes.now in
     let at = c.args.at in
     let negative = c.stands_at-negative.result in
-    integer_out_of_range n bytes at c.in_ok-end.end negative c.requires.inside c.requires.first (is_signed negative bytes at c.stands_at-negative.ensures) (rw c.from.ensures at c.in_ok-end.ensures.found) c.in-None.ensures
+    integer_out_of_range n bytes at c.in_ok-end.end negative c.requires.inside c.requires.first
+    (is_signed negative bytes at c.stands_at-negative.ensures) (rw c.from.ensures at c.in_ok-end.ensures.found) c.in-None.ensures
