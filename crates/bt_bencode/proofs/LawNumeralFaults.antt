@@ -1,10 +1,8 @@
 -- One text of a numeral, a string or an integer stops a reading in one way.
-use Rattle.std.proofs.Common.{◌≡◌, ◌≢◌, ℕ, ◌<◌, Bool, true, false, inl, inr, List, [], ◌∷◌, ◌++◌, length, get_or, refl, sym, ap, ◌∙◌, subst, arith}
-use Rattle.std.proofs.Common.{append_assoc}
+use Rattle.std.proofs.Common.{◌≡◌, ℕ, ◌<◌, Bool, false, inl, inr, List, [], ◌∷◌, ◌++◌, length, get_or, refl, sym, ap, ◌∙◌, subst, arith}
 use Rattle.std.specs.Char.{IsAsciiDigit}
 use Rattle.std.specs.Str.Parse.{AllDigits, IsNumeral}
-use Rattle.std.proofs.lemmas.Str.Parse.{digit_at}
-use Rattle.std.proofs.lemmas.List.{append-nil, get_or_append_left}
+use Rattle.std.proofs.lemmas.List.{append-nil}
 use Rattle.bt_bencode.specs.Error.{Fault, int_range}
 use Rattle.bt_bencode.specs.Number.{sign_text, LeadsWithZero, NumeralStops, at_zero, at_end, at_other}
 use Rattle.bt_bencode.specs.Reader.{StringStops, in_length, in_bytes}

@@ -1,5 +1,5 @@
 -- What stops a reading behind the items or the entries that were read, where nothing deeper stops in two ways.
-use Rattle.std.proofs.Common.{◌≡◌, ℕ, suc, ◌^◌, ◌<◌, List, [], ◌∷◌, ◌++◌, length, refl, sym, ap, ◌∙◌, subst, arith, length-append}
+use Rattle.std.proofs.Common.{◌≡◌, ℕ, suc, ◌^◌, ◌<◌, List, ◌∷◌, ◌++◌, length, refl, sym, ap, ◌∙◌, subst, arith, length-append}
 use Rattle.std.specs.Prelude.{None}
 use Rattle.std.specs.Fmt.{decimal}
 use Rattle.bt_bencode.specs.Value.{list, dictionary, Items, Entries}

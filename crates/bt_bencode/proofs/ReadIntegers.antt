@@ -1,13 +1,13 @@
 -- An integer in the bytes.
 use Rattle.std.proofs.Common.{◌≡◌, ◌≢◌, ℕ, zero, suc, ◌+◌, ◌-◌, ◌^◌, ◌<◌, ◌≤◌, Bool, true, false, inl, inr, List, [], ◌∷◌, ◌++◌, length, drop, get_or}
-use Rattle.std.proofs.Common.{refl, sym, ap, ◌∙◌, subst, arith, append_assoc, ℤ, pos}
-use Rattle.std.specs.Prelude.{slice_range, neg_ℤ, IsTrue, ◌↔◌, FitsSigned, Option, None, Some, Result, Ok, Err}
+use Rattle.std.proofs.Common.{refl, sym, ap, ◌∙◌, subst, arith, append_assoc, ℤ}
+use Rattle.std.specs.Prelude.{slice_range, IsTrue, ◌↔◌, FitsSigned, Option, None, Some, Result, Ok, Err}
 use Rattle.std.proofs.lemmas.Int.{ints}
 use Rattle.std.specs.Str.{IsAscii}
 use Rattle.std.specs.Int.{from_bool, w64}
 use Rattle.std.specs.Option.{SomeIff}
 use Rattle.std.specs.Fmt.{decimal, signed_decimal}
-use Rattle.std.specs.Str.Parse.{AllDigits, IsNumeral, digits_value, without_leading_sign, signed_digits_value}
+use Rattle.std.specs.Str.Parse.{IsNumeral, digits_value, without_leading_sign, signed_digits_value}
 use Rattle.std.proofs.lemmas.Str.Parse.{parse_signed_digits, parse_signed_minus}
 use Rattle.std.proofs.lemmas.List.{drop_more, get_or_append_left}
 use Rattle.std.proofs.lemmas.Fmt.{decimal_digit, IsAscii-from_digits}

@@ -6,9 +6,9 @@ use Rattle.std.specs.Str.Parse.{AllDigits, digits_value}
 use Rattle.std.proofs.lemmas.Str.Parse.{IsNumeralModel, numerals_by_value, tells_digits, digit_at}
 use Rattle.std.proofs.lemmas.Fmt.{decimal-digits_value}
 use Rattle.std.proofs.lemmas.List.{get_or_append_left, drop_more}
+use Rattle.std.proofs.lemmas.List.Folds.{drop_split}
 use Rattle.bt_bencode.specs.Number.{LeadsWithZero}
 use Rattle.bt_bencode.specs.ReaderSteps.{IsNumeralAt}
-use Rattle.bt_bencode.proofs.ReadRanges.{split}
 
 pub digits_model : IsNumeralModel (AllDigits 10) (digits_value 10)
 digits_model = numerals_by_value (AllDigits 10) tells_digits
@@ -33,4 +33,4 @@ pub numeral_split : (negative : Bool) (stop : ℕ) (bytes : List ℕ) (at end : 
 numeral_split negative stop bytes at end numeral =
     let forward : at < end = numeral.forward in
     ap (λ xs. slice_range bytes at end ++ xs) (ap (λ c. c ∷ drop (end + 1) bytes) (sym numeral.stopped) ∙ sym (drop_more bytes end 0 numeral.inside))
-    ∙ split bytes at end (omega arith)
+    ∙ sym (drop_split bytes at end (omega arith))

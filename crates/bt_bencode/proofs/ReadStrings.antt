@@ -1,17 +1,17 @@
 -- A string in the bytes.
-use Rattle.std.proofs.Common.{◌≡◌, ℕ, ◌+◌, ◌-◌, ◌^◌, ◌<◌, ◌≤◌, false, List, [], ◌∷◌, ◌++◌, length, take, drop, sym, ap, ◌∙◌, subst, arith}
+use Rattle.std.proofs.Common.{◌≡◌, ℕ, ◌+◌, ◌-◌, ◌^◌, ◌<◌, ◌≤◌, false, List, ◌∷◌, ◌++◌, length, take, drop, sym, ap, ◌∙◌, subst, arith}
 use Rattle.std.proofs.Common.{length-drop, append_assoc}
 use Rattle.std.specs.Prelude.{slice_range}
 use Rattle.std.specs.Fmt.{decimal}
 use Rattle.std.specs.Str.Parse.{digits_value}
-use Rattle.std.proofs.lemmas.List.{take-append-drop, length-take-le}
+use Rattle.std.proofs.lemmas.List.{take-append-drop, length-take-le, drop-drop}
 use Rattle.std.proofs.Math.Seq.{drop-length}
 use Rattle.bt_bencode.specs.Spelling.{string_spelling}
 use Rattle.bt_bencode.specs.Error.{truncated}
 use Rattle.bt_bencode.specs.Number.{LeadsWithZero}
 use Rattle.bt_bencode.specs.Reader.{StringStops, in_bytes}
 use Rattle.bt_bencode.specs.ReaderSteps.{Spans, FaultFrom, IsNumeralAt}
-use Rattle.bt_bencode.proofs.ReadRanges.{drop-drop, length-between}
+use Rattle.bt_bencode.proofs.ReadRanges.{length-between}
 use Rattle.bt_bencode.proofs.ReadNumerals.{decimal_again, numeral_split}
 
 pub string_read : (bytes : List ℕ) (at colon n : ℕ) (s : List ℕ) → IsNumeralAt false 58 bytes at colon
@@ -28,7 +28,7 @@ string_read bytes at colon n s numeral value small inside is =
     let digits : decimal (length s) ≡ ds = ap decimal (size ∙ sym value)
     ∙ decimal_again false ds (58 ∷ rest) numeral.digits some no_zero (subst (λ k. k < 2 ^ 64) (sym value) small) in
     let whole : s ++ drop (colon + 1 + n) bytes ≡ rest =
-    ap (λ xs. xs ++ drop (colon + 1 + n) bytes) is ∙ ap (λ xs. take n rest ++ xs) (sym (drop-drop (colon + 1) n bytes)) ∙ take-append-drop n rest in
+    ap (λ xs. xs ++ drop (colon + 1 + n) bytes) is ∙ ap (λ xs. take n rest ++ xs) (sym (drop-drop n (colon + 1) bytes)) ∙ take-append-drop n rest in
     record {
       forward = omega arith;
       inside = inside;

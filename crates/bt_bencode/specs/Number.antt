@@ -1,5 +1,5 @@
--- Numerals and their signs, and what first stops a reading of one (BEP 3, "bencoding"), with which bytes left.
-use Rattle.std.specs.Prelude.{◌≡◌, ◌≢◌, ℕ, ℤ, pos, neg_ℤ, ◌<◌, Bool, true, false, IsTrue, ◌⊎◌}
+-- Numerals, their signs, and what first stops a reading of one (BEP 3, "bencoding"), with which bytes left.
+use Rattle.std.specs.Prelude.{◌≡◌, ◌≢◌, ℕ, ℤ, pos, neg_ℤ, ◌<◌, Bool, IsTrue, ◌⊎◌}
 use Rattle.std.specs.Prelude.{List, [], ◌∷◌, ◌++◌, length, slice_index, if◌then◌else◌}
 use Rattle.std.specs.Char.{IsAsciiDigit}
 use Rattle.std.specs.Str.Parse.{AllDigits}

@@ -2,9 +2,10 @@ use Rattle.std.proofs.Common.{◌≡◌, ◌≢◌, [], ◌⊎◌, inl, inr, len
 use Rattle.std.specs.Prelude.{slice_range}
 use Rattle.std.specs.Str.Parse.{AllDigits}
 use Rattle.std.proofs.lemmas.List.{take_rest}
+use Rattle.std.proofs.lemmas.List.Folds.{drop_split}
 use Rattle.std.proofs.Math.Seq.{drop-length}
 use Rattle.bt_bencode.specs.Number.{LeadsWithZero, at_zero, at_end, at_other}
-use Rattle.bt_bencode.proofs.ReadRanges.{split, nothing_between, drop_first}
+use Rattle.bt_bencode.proofs.ReadRanges.{nothing_between, drop_first}
 use Rattle.bt_bencode.proofs.number.numeral_end.Goals as goal
 use Rattle.bt_bencode.proofs.number.numeral_end.Goals.{then-end-at-via-then-end-at, then-end-at-via-else-end-at+then-bytes-end}
 
@@ -34,7 +35,7 @@ returns-then-end-at-clause-fault c =
       | then-end-at-via-else-end-at+then-bytes-end w ↦ inr (λ same. w.if-bytes-end.true (sym first ∙ same))
     ] in (
       c.digits_end-end.ensures.inside,
-      at_other (slice_range bytes c.args.at end) (drop end bytes) (sym (split bytes c.args.at end c.digits_end-end.ensures.from))
+      at_other (slice_range bytes c.args.at end) (drop end bytes) (drop_split bytes c.args.at end c.digits_end-end.ensures.from)
           c.digits_end-end.ensures.digits no_zero
           (omega (arith, length-drop end bytes)) (rw first c.digits_end-end.ensures.ended) other,
     )
