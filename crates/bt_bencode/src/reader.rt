@@ -1,17 +1,21 @@
 //! Reading canonical bencoding from the left.
-ghost use Rattle.std.specs.Prelude.{ℕ, ◌≡◌, ◌≢◌, ◌<◌, ◌≤◌, ◌↔◌, length, slice_index, IsTrue, IfOk, IfErr};
-ghost use Rattle.bt_bencode.specs.Data.{Data};
-ghost use Rattle.bt_bencode.specs.Spelling.{spelling_of, IsCanonical};
-ghost use Rattle.bt_bencode.specs.Fault.{AtFault, EndsBefore, StringStops, Stops, IsFirstFault, IsProperSpelling, truncated, trailing};
-ghost use Rattle.bt_bencode.specs.View.{data_of, entries_of};
-ghost use Rattle.bt_bencode.specs.Reading.{FaultFrom, ReadsString, ReadsInteger, ReadsValue};
+ghost use Rattle.std.specs.Prelude.{ℕ, ◌≡◌, ◌≢◌, ◌<◌, ◌≤◌, ◌↔◌, [], ◌∷◌, ◌++◌, length, slice_index};
+ghost use Rattle.std.specs.Prelude.{IsTrue, IfOk, IfErr, OnOk};
+ghost use Rattle.bt_bencode.specs.Letters.{letter_i, letter_l, letter_d};
+ghost use Rattle.bt_bencode.specs.Value.{data_of, entries_of};
+ghost use Rattle.bt_bencode.specs.Spelling.{spelling_of};
+ghost use Rattle.bt_bencode.specs.Doc.{IsCanonical};
+ghost use Rattle.bt_bencode.specs.Error.{AtFault, truncated, trailing};
+ghost use Rattle.bt_bencode.specs.Reader.{EndsBefore, StringStops, Stops};
+ghost use Rattle.bt_bencode.specs.Reader.{IsFirstFault, NoneSpells, IsValueEnd};
+ghost use Rattle.bt_bencode.specs.ReaderSteps.{FaultFrom, ReadsString, ReadsInteger, ReadsValue};
 ghost use Rattle.bt_bencode.specs.declared.error.BencodeError.TheVariants.{OutOfMemory};
 
 use crate::doc::Doc;
 use crate::error::BencodeError;
 use crate::number::{integer_of, length_of, numeral_end};
 use crate::value::Value;
-use std::alloc::Global;
+use std::alloc::{AllocError, Global};
 
 /// How many lists and dictionaries may lie in one another.
 pub const MAX_NESTING: usize = 128;
@@ -25,10 +29,10 @@ pub fn parse(alloc: Global, bytes: &[u8]) -> Result<Doc, BencodeError>
     ensures spelled { IfOk result (λ doc. spelling_of (data_of doc) ≡ bytes.now) }
     ensures first_fault { IfErr result (AtFault (IsFirstFault bytes.now)) }
 
-    // Want of memory aside, an error comes only where no canonical value spells the bytes.
-    ensures none_spells { IfErr result (AtFault (λ _ _. (d : Data) → IsCanonical d → spelling_of d ≢ bytes.now)) }
-    ensures truncated_at_end { IfErr result (AtFault (λ f offset. f ≡ truncated → offset ≡ length bytes.now)) }
-    ensures trailing_behind_value { IfErr result (AtFault (λ f offset. f ≡ trailing → IsProperSpelling bytes.now offset)) }
+    // Out of memory aside, an error comes only where no canonical value spells the bytes.
+    ensures none_spells { IfErr result (AtFault (λ _ _. NoneSpells bytes.now)) }
+    ensures truncated_at_end { IfErr result (AtFault (λ f at. f ≡ truncated → at ≡ length bytes.now)) }
+    ensures trailing_behind_value { IfErr result (AtFault (λ f at. f ≡ trailing → IsValueEnd bytes.now at)) }
 {
     let length = bytes.len();
     let (value, end) = value_at(alloc, bytes, 0, MAX_NESTING)?;
@@ -78,7 +82,7 @@ fn list_at(
     depth: usize,
 ) -> Result<(Value, usize), BencodeError>
     requires inside { at < length bytes.now }
-    requires first { slice_index bytes.now at ≡ 108 }
+    requires first { slice_index bytes.now at ≡ letter_l }
     ensures found { IfOk result (λ x. ReadsValue depth bytes.now at x.1 (data_of x.0)) }
     ensures fault { IfErr result (AtFault (FaultFrom (Stops depth) bytes.now at)) }
 {
@@ -89,9 +93,10 @@ fn list_at(
     let mut next = at + 1;
     while !stands_at(bytes, next, b'e') {
         let (item, end) = value_at(alloc, bytes, next, depth - 1)?;
-        items.push(item)?;
+        push_part(&mut items, item)?;
         next = end;
     }
+    items.shrink_to_fit();
     Ok((Value::List(items), next + 1))
 }
 
@@ -104,7 +109,7 @@ fn dictionary_at(
     depth: usize,
 ) -> Result<(Value, usize), BencodeError>
     requires inside { at < length bytes.now }
-    requires first { slice_index bytes.now at ≡ 100 }
+    requires first { slice_index bytes.now at ≡ letter_d }
     ensures found { IfOk result (λ x. ReadsValue depth bytes.now at x.1 (data_of x.0)) }
     ensures fault { IfErr result (AtFault (FaultFrom (Stops depth) bytes.now at)) }
 {
@@ -119,10 +124,24 @@ fn dictionary_at(
             return Err(BencodeError::KeyOrder(next));
         }
         let (value, end) = value_at(alloc, bytes, colon, depth - 1)?;
-        entries.push((key, value))?;
+        push_part(&mut entries, (key, value))?;
         next = end;
     }
+    entries.shrink_to_fit();
     Ok((Value::Dict(entries), next + 1))
+}
+
+/// Puts the part behind the others. Where they fill their room, it grows by a quarter, and not to its
+/// double: an item has 32 bytes where its text may have two.
+fn push_part<T: Drop>(parts: &mut Vec<T>, part: T) -> Result<(), AllocError>
+    ensures { OnOk result (parts.new.items ≡ parts.old.items ++ part ∷ []) }
+{
+    let count = parts.len();
+    if count == parts.capacity() {
+        parts.reserve_exact(count / 4 + 1)?;
+    }
+    parts.push(part)?;
+    Ok(())
 }
 
 /// Whether the key stands after the last one of the entries.
@@ -145,7 +164,7 @@ fn stands_at(bytes: &[u8], at: usize, byte: u8) -> bool
 /// The integer whose `i` is at `at`, and where it ends.
 fn integer_at(bytes: &[u8], at: usize) -> Result<(i64, usize), BencodeError>
     requires inside { at < length bytes.now }
-    requires first { slice_index bytes.now at ≡ 105 }
+    requires first { slice_index bytes.now at ≡ letter_i }
     ensures found { IfOk result (λ x. ReadsInteger bytes.now at x.1 x.0) }
     ensures fault { (n : ℕ) → IfErr result (AtFault (FaultFrom (Stops n) bytes.now at)) }
     ensures memory { IfErr result (λ e. e ≢ OutOfMemory) }

@@ -2,11 +2,12 @@ use Rattle.std.proofs.Common.{◌≡◌, ◌+◌, ◌-◌, ◌<◌, ◌^◌, fal
 use Rattle.std.specs.Prelude.{slice_range}
 use Rattle.std.specs.Str.Parse.{digits_value}
 use Rattle.std.proofs.lemmas.Result.{err_from_is_err_and}
-use Rattle.bt_bencode.specs.Fault.{NumeralStops, StringStops, in_length}
-use Rattle.bt_bencode.specs.Reading.{FaultFrom}
-use Rattle.bt_bencode.proofs.Passing.{fault_passed}
-use Rattle.bt_bencode.proofs.Splits.{unless_some}
-use Rattle.bt_bencode.proofs.Strings.{string_read, string_short}
+use Rattle.bt_bencode.specs.Number.{NumeralStops}
+use Rattle.bt_bencode.specs.Reader.{StringStops, in_length}
+use Rattle.bt_bencode.specs.ReaderSteps.{FaultFrom}
+use Rattle.bt_bencode.proofs.FaultPassing.{fault_passed}
+use Rattle.bt_bencode.proofs.ReadRanges.{unless_some}
+use Rattle.bt_bencode.proofs.ReadStrings.{string_read, string_short}
 use Rattle.bt_bencode.proofs.reader.string_at.Goals as goal
 use Rattle.bt_bencode.proofs.reader.string_at.Goals.{in_default-via-in-Some+else-length-left, in_default-via-in_default}
 
@@ -23,7 +24,8 @@ returns-in_ok-string-in-Some-clause-found c =
     let inside : colon < length bytes = c.in_ok-colon.ensures.found.inside in
     let size : colon + 1 + c.in-Some.length - (colon + 1) ≡ c.in-Some.length = omega arith in
     let value = c.in-Some.ensures.1 in
-    string_read bytes c.args.at colon c.in-Some.length c.in_ok-string-in-Some.string.items c.in_ok-colon.ensures.found (sym value) (subst (λ k. k < 2 ^ 64) (sym value) c.in-Some.ensures.0)
+    string_read bytes c.args.at colon c.in-Some.length c.in_ok-string-in-Some.string.items c.in_ok-colon.ensures.found (sym value)
+    (subst (λ k. k < 2 ^ 64) (sym value) c.in-Some.ensures.0)
     (omega arith) (c.in_ok-string-in-Some.ensures.items ∙ ap (λ k. take k (drop (colon + 1) bytes)) size)
 
 pub returns-in_default-clause-fault : goal.returns-in_default-clause-fault
