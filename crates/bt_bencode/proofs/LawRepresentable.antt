@@ -1,8 +1,10 @@
 -- A spelling that fits memory is that of a value that a `Value` can hold.
 use Rattle.std.proofs.Common.{ℕ, ◌^◌, ◌<◌, ◌≤◌, List, [], ◌∷◌, ◌++◌, length, arith, length-append}
 use Rattle.std.specs.Fmt.{decimal}
-use Rattle.bt_bencode.specs.Data.{Data, integer, string, list, dictionary, Items, no_items, item, Entries, no_entries, entry}
-use Rattle.bt_bencode.specs.Spelling.{string_spelling, spelling_of, items_spelling, entries_spelling, HasSmallIntegers, ItemsHaveSmallIntegers, EntriesHaveSmallIntegers, IsRepresentable, ItemsAreRepresentable, EntriesAreRepresentable}
+use Rattle.bt_bencode.specs.Value.{Data, integer, string, list, dictionary, Items, no_items, item, Entries, no_entries, entry}
+use Rattle.bt_bencode.specs.Spelling.{string_spelling, spelling_of, items_spelling, entries_spelling}
+use Rattle.bt_bencode.specs.Doc.{HasSmallIntegers, ItemsHaveSmallIntegers, EntriesHaveSmallIntegers}
+use Rattle.bt_bencode.specs.Law.{IsRepresentable, ItemsAreRepresentable, EntriesAreRepresentable}
 
 string_is_longer : (s : List ℕ) → length s ≤ length (string_spelling s)
 string_is_longer s = omega (arith, length-append (decimal (length s) ++ 58 ∷ []) s)

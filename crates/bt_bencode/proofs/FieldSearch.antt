@@ -5,11 +5,11 @@ use Rattle.std.specs.Cmp.Lexicographic.{pointwise}
 use Rattle.std.specs.Global.{Vec}
 use Rattle.std.proofs.lemmas.List.{drop_more}
 use Rattle.std.proofs.Math.Seq.{drop-length}
-use Rattle.bt_bencode.specs.Field.{first_value_of, field_of}
-use Rattle.bt_bencode.specs.View.{data_of, entries_of}
+use Rattle.bt_bencode.specs.Value.{data_of, entries_of}
+use Rattle.bt_bencode.specs.Dictionary.{first_value_of, field_of}
 use Rattle.bt_bencode.specs.declared.value.Value.{Value}
 use Rattle.bt_bencode.specs.declared.value.Value.TheViews as views
-use Rattle.bt_bencode.proofs.Views.{data_of-Dict}
+use Rattle.bt_bencode.proofs.ValueData.{data_of-Dict}
 
 next_entry : (es : List (Vec ℕ × Value)) (i : ℕ) (e : Vec ℕ × Value) → i < length es → e ≡ get_or es i e → drop i es ≡ e ∷ drop (i + 1) es
 next_entry es i e lt is = drop_more es i e lt ∙ ap (λ x. x ∷ drop (i + 1) es) (sym is)

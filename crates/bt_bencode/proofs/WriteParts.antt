@@ -3,13 +3,13 @@ use Rattle.std.proofs.Common.{◌≡◌, ℕ, ℤ, ◌+◌, ◌<◌, List, [], �
 use Rattle.std.specs.Global.{Vec}
 use Rattle.std.specs.Fmt.{signed_decimal}
 use Rattle.std.proofs.lemmas.List.{take_more, map_push, append-nil}
+use Rattle.bt_bencode.specs.Value.{data_of, items_of, entries_of, items_from, entries_from, entry_data}
 use Rattle.bt_bencode.specs.Spelling.{string_spelling, spelling_of, items_spelling, entries_spelling}
-use Rattle.bt_bencode.specs.View.{data_of, items_of, entries_of, items_from, entries_from, entry_data}
 use Rattle.bt_bencode.specs.declared.value.Value.{Value, Int, Bytes}
 use Rattle.bt_bencode.specs.declared.value.Value.TheViews as views
-use Rattle.bt_bencode.proofs.Views.{data_of-Int, data_of-Bytes, data_of-List, data_of-Dict}
-use Rattle.bt_bencode.proofs.Lists.{items_spelling-push}
-use Rattle.bt_bencode.proofs.Dictionaries.{entries_spelling-push}
+use Rattle.bt_bencode.proofs.ValueData.{data_of-Int, data_of-Bytes, data_of-List, data_of-Dict}
+use Rattle.bt_bencode.proofs.ReadLists.{items_spelling-push}
+use Rattle.bt_bencode.proofs.ReadDictionaries.{entries_spelling-push}
 
 pub no_items_written : (a : List ℕ) → a ≡ a ++ items_spelling (items_of [])
 unfolding items_spelling

@@ -1,10 +1,13 @@
--- What a reader at an offset of the bytes tells.
-use Rattle.std.specs.Prelude.{◌≡◌, ℕ, ℤ, Bool, ◌<◌, ◌≤◌, List, ◌++◌, length, drop, slice_index, slice_range, FitsSigned}
+-- What a reader at an offset of the bytes tells: for private steps of the reader alone.
+use Rattle.std.specs.Prelude.{◌≡◌, ℕ, ℤ, Bool, ◌<◌, ◌≤◌, List, ◌++◌, length}
+use Rattle.std.specs.Prelude.{drop, slice_index, slice_range, FitsSigned}
 use Rattle.std.specs.Int.{w64}
 use Rattle.std.specs.Str.Parse.{AllDigits}
-use Rattle.bt_bencode.specs.Data.{Data, integer}
-use Rattle.bt_bencode.specs.Spelling.{string_spelling, spelling_of, IsCanonicalWithin}
-use Rattle.bt_bencode.specs.Fault.{Fault, LeadsWithZero}
+use Rattle.bt_bencode.specs.Value.{Data, integer}
+use Rattle.bt_bencode.specs.Spelling.{string_spelling, spelling_of}
+use Rattle.bt_bencode.specs.Doc.{IsCanonicalWithin}
+use Rattle.bt_bencode.specs.Error.{Fault}
+use Rattle.bt_bencode.specs.Number.{LeadsWithZero}
 
 -- the bytes from `at` to `end` are this text
 pub record Spans (bytes : List ℕ) (at end : ℕ) (text : List ℕ) : Type 0 where

@@ -1,6 +1,6 @@
 -- A fault that is passed on.
 use Rattle.std.proofs.Common.{ℕ}
-use Rattle.bt_bencode.specs.Fault.{Fault, AtFault, truncated, bad_byte, leading_zero, int_range, key_order, too_deep, trailing}
+use Rattle.bt_bencode.specs.Error.{Fault, AtFault, truncated, bad_byte, leading_zero, int_range, key_order, too_deep, trailing}
 use Rattle.bt_bencode.specs.declared.error.BencodeError.{BencodeError}
 use Rattle.bt_bencode.specs.declared.error.BencodeError.TheVariants.{Truncated, BadByte, LeadingZero, IntRange, KeyOrder, TooDeep, Trailing, OutOfMemory}
 

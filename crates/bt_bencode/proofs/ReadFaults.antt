@@ -1,13 +1,16 @@
 -- What the first fault of some bytes tells of them.
 use Rattle.std.proofs.Common.{◌≡◌, ◌≢◌, Bool, ℕ, ◌^◌, ◌<◌, List, [], ◌++◌, length, take, drop, refl, sym, ap, ◌∙◌, arith, length-drop, length-append}
 use Rattle.std.proofs.lemmas.List.{append-nil, take-append-drop, length-take-le}
-use Rattle.bt_bencode.specs.Data.{Data}
-use Rattle.bt_bencode.specs.Spelling.{spelling_of, IsCanonical}
-use Rattle.bt_bencode.specs.Fault.{Fault, truncated, trailing, NumeralStops, at_zero, at_end as numeral_at_end, at_other as numeral_at_other, StringStops, in_length, in_bytes, Stops, at_end, at_other, in_integer, in_negative, too_large, too_small, in_string, too_deep_list, too_deep_dictionary, in_item, in_key, at_key, in_value, IsFirstFault, in_the_value, behind_the_value, IsProperSpelling}
-use Rattle.bt_bencode.specs.Reading.{FaultFrom, ReadsValue}
-use Rattle.bt_bencode.proofs.Prefixes.{same_spelling, same_front}
-use Rattle.bt_bencode.proofs.Representable.{representable}
-use Rattle.bt_bencode.proofs.Refusals.{none_begins}
+use Rattle.bt_bencode.specs.Value.{Data}
+use Rattle.bt_bencode.specs.Spelling.{spelling_of}
+use Rattle.bt_bencode.specs.Doc.{IsCanonical}
+use Rattle.bt_bencode.specs.Error.{Fault, truncated, trailing}
+use Rattle.bt_bencode.specs.Number.{NumeralStops, at_zero, at_end as numeral_at_end, at_other as numeral_at_other}
+use Rattle.bt_bencode.specs.Reader.{StringStops, in_length, in_bytes, Stops, at_end, at_other, in_integer, in_negative, too_large, too_small, in_string, too_deep_list, too_deep_dictionary, in_item, in_key, at_key, in_value, IsFirstFault, in_the_value, behind_the_value, IsValueEnd}
+use Rattle.bt_bencode.specs.ReaderSteps.{FaultFrom, ReadsValue}
+use Rattle.bt_bencode.proofs.LawPrefixes.{same_spelling, same_front}
+use Rattle.bt_bencode.proofs.LawRepresentable.{representable}
+use Rattle.bt_bencode.proofs.ReadRefusals.{none_begins}
 
 numeral_truncated : (negative : Bool) (stop : ℕ) (text : List ℕ) (f : Fault) (rest : List ℕ) → NumeralStops negative stop text f rest → f ≡ truncated → rest ≡ []
 numeral_truncated negative stop text f rest (at_zero leads) is = cc
@@ -82,7 +85,7 @@ truncated_at_end bytes f offset (in_the_value g o inside stops) is =
     omega (arith, ap length none, length-drop o bytes)
 truncated_at_end bytes f offset (behind_the_value e o canonical lt spelled) is = cc
 
-pub trailing_behind_value : (bytes : List ℕ) (f : Fault) (offset : ℕ) → IsFirstFault bytes f offset → f ≡ trailing → IsProperSpelling bytes offset
+pub trailing_behind_value : (bytes : List ℕ) (f : Fault) (offset : ℕ) → IsFirstFault bytes f offset → f ≡ trailing → IsValueEnd bytes offset
 trailing_behind_value bytes f offset (in_the_value g o inside stops) is = absurd (value_not_trailing 128 bytes g (drop o bytes) stops is)
 trailing_behind_value bytes f offset (behind_the_value e o canonical lt spelled) is =
     let size : length (take o bytes) ≡ o = length-take-le o bytes (omega arith) in

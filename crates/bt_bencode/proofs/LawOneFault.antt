@@ -3,15 +3,17 @@ use Rattle.std.proofs.Common.{◌≡◌, ◌≢◌, ℕ, zero, suc, ◌^◌, ◌
 use Rattle.std.specs.Char.{IsAsciiDigit}
 use Rattle.std.proofs.Math.Dec.{eqb}
 use Rattle.std.proofs.lemmas.Bool.{ne_eqb}
-use Rattle.bt_bencode.specs.Data.{Data}
-use Rattle.bt_bencode.specs.Spelling.{string_spelling, spelling_of, IsCanonical}
-use Rattle.bt_bencode.specs.Fault.{Fault, truncated, bad_byte, too_deep, StringStops, Stops, at_end, at_other, in_integer, in_negative, too_large, too_small, in_string, too_deep_list, too_deep_dictionary, in_item, in_key, at_key, in_value, in_the_value, behind_the_value}
-use Rattle.bt_bencode.specs.FaultLaw.{FirstFaultIsOne}
-use Rattle.bt_bencode.proofs.Prefixes.{same_spelling}
-use Rattle.bt_bencode.proofs.Representable.{representable}
-use Rattle.bt_bencode.proofs.Refusals.{none_begins}
-use Rattle.bt_bencode.proofs.NumeralFaults.{same_string_fault, numeral, range, IntegerStops, plain, minus, same_integer_fault, numeral_is_plain}
-use Rattle.bt_bencode.proofs.StopsAfter.{StopsOnce, ItemStops, in_its_key, at_its_key, in_its_value, EntriesStop, same_item_fault, same_entries_fault}
+use Rattle.bt_bencode.specs.Value.{Data}
+use Rattle.bt_bencode.specs.Spelling.{string_spelling, spelling_of}
+use Rattle.bt_bencode.specs.Doc.{IsCanonical}
+use Rattle.bt_bencode.specs.Error.{Fault, truncated, bad_byte, too_deep}
+use Rattle.bt_bencode.specs.Reader.{StringStops, Stops, at_end, at_other, in_integer, in_negative, too_large, too_small, in_string, too_deep_list, too_deep_dictionary, in_item, in_key, at_key, in_value, in_the_value, behind_the_value}
+use Rattle.bt_bencode.specs.Law.{FirstFaultIsOne}
+use Rattle.bt_bencode.proofs.LawPrefixes.{same_spelling}
+use Rattle.bt_bencode.proofs.LawRepresentable.{representable}
+use Rattle.bt_bencode.proofs.ReadRefusals.{none_begins}
+use Rattle.bt_bencode.proofs.LawNumeralFaults.{same_string_fault, numeral, range, IntegerStops, plain, minus, same_integer_fault, numeral_is_plain}
+use Rattle.bt_bencode.proofs.LawStops.{StopsOnce, ItemStops, in_its_key, at_its_key, in_its_value, EntriesStop, same_item_fault, same_entries_fault}
 
 -- what a text's first byte says of the value
 data Kind : Type 0 where

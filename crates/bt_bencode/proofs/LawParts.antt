@@ -1,11 +1,13 @@
 -- One text has one part that was read before a reading of a list or a dictionary stops.
 use Rattle.std.proofs.Common.{◌≡◌, ℕ, suc, ◌^◌, ◌<◌, ◌≤◌, List, ◌++◌, length, refl, sym, ap, ◌∙◌, subst, arith, max}
 use Rattle.std.specs.Prelude.{Option, None, Some, IfSome, unwrap_or}
-use Rattle.bt_bencode.specs.Data.{Data, Items, no_items, item, Entries, no_entries, entry}
-use Rattle.bt_bencode.specs.Spelling.{string_spelling, spelling_of, items_spelling, entries_spelling, IsBefore, first_key_of, nesting_of, items_nesting, entries_nesting, ItemsHaveAscendingKeys, EntriesAscend, ItemsHaveSmallIntegers, EntriesHaveSmallIntegers, IsCanonicalWithin, ItemsAreRepresentable, EntriesAreRepresentable}
-use Rattle.bt_bencode.specs.Fault.{last_key_of}
-use Rattle.bt_bencode.proofs.Prefixes.{item_parts, entry_parts, same_string, same_spelling}
-use Rattle.bt_bencode.proofs.Refusals.{ItemsKept, EntriesKept, item_within, entry_within, Begins}
+use Rattle.bt_bencode.specs.Value.{Data, Items, no_items, item, Entries, no_entries, entry}
+use Rattle.bt_bencode.specs.Spelling.{string_spelling, spelling_of, items_spelling, entries_spelling}
+use Rattle.bt_bencode.specs.Doc.{IsBefore, first_key_of, nesting_of, items_nesting, entries_nesting, ItemsHaveAscendingKeys, EntriesAscend, ItemsHaveSmallIntegers, EntriesHaveSmallIntegers, IsCanonicalWithin}
+use Rattle.bt_bencode.specs.Reader.{last_key_of}
+use Rattle.bt_bencode.specs.Law.{ItemsAreRepresentable, EntriesAreRepresentable}
+use Rattle.bt_bencode.proofs.LawPrefixes.{item_parts, entry_parts, same_string, same_spelling}
+use Rattle.bt_bencode.proofs.ReadRefusals.{ItemsKept, EntriesKept, item_within, entry_within, Begins}
 
 more_items : (n : ℕ) (d : Data) (ds : Items) → ItemsKept n (item d ds) → ItemsKept n ds
 unfolding items_nesting ItemsHaveAscendingKeys ItemsHaveSmallIntegers ItemsAreRepresentable

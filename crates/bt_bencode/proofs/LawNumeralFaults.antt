@@ -4,9 +4,11 @@ use Rattle.std.specs.Char.{IsAsciiDigit}
 use Rattle.std.specs.Str.Parse.{AllDigits, IsNumeral}
 use Rattle.std.proofs.lemmas.Str.Parse.{digit_at}
 use Rattle.std.proofs.lemmas.List.{append-nil, get_or_append_left}
-use Rattle.bt_bencode.specs.Fault.{Fault, int_range, LeadsWithZero, NumeralStops, at_zero, at_end, at_other, StringStops, in_length, in_bytes}
-use Rattle.bt_bencode.proofs.Prefixes.{tails, same_digits}
-use Rattle.bt_bencode.proofs.Refusals.{no_digit}
+use Rattle.bt_bencode.specs.Error.{Fault, int_range}
+use Rattle.bt_bencode.specs.Number.{LeadsWithZero, NumeralStops, at_zero, at_end, at_other}
+use Rattle.bt_bencode.specs.Reader.{StringStops, in_length, in_bytes}
+use Rattle.bt_bencode.proofs.LawPrefixes.{tails, same_digits}
+use Rattle.bt_bencode.proofs.ReadRefusals.{no_digit}
 
 -- no digit stands at the end of a text
 no_digit_left : ¬ IsAsciiDigit (get_or [] 0 0)

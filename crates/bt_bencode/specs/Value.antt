@@ -1,10 +1,25 @@
--- The data that a `Value` holds.
-use Rattle.std.specs.Prelude.{ℕ, List, [], ◌∷◌, map}
+-- A bencoded value as plain data (BEP 3, "bencoding"), and the data that a `Value` holds.
+use Rattle.std.specs.Prelude.{ℕ, ℤ, List, [], ◌∷◌, map}
 use Rattle.std.specs.Global.{Vec}
-use Rattle.bt_bencode.specs.Data.{Data, integer, string, list, dictionary, Items, no_items, item, Entries, no_entries, entry}
 use Rattle.bt_bencode.specs.declared.value.Value.{Value}
 use Rattle.bt_bencode.specs.declared.value.Value.TheOpen.{Value-F}
 use Rattle.bt_bencode.specs.declared.value.Value.TheFolds.{fold-Value}
+
+mutual
+  pub data Data : Type 0 where
+    integer : ℤ → Data
+    string : List ℕ → Data
+    list : Items → Data
+    dictionary : Entries → Data
+
+  pub data Items : Type 0 where
+    no_items : Items
+    item : Data → Items → Items
+
+  -- keys and their values, in the order in which they stand
+  pub data Entries : Type 0 where
+    no_entries : Entries
+    entry : List ℕ → Data → Entries → Entries
 
 abbrev pub items_from : List Data → Items
 items_from [] = no_items

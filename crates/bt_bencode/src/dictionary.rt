@@ -1,7 +1,7 @@
 ghost use Rattle.std.specs.Prelude.{◌≡◌, option_copied};
 ghost use Rattle.std.specs.Option.{option_map};
-ghost use Rattle.bt_bencode.specs.Field.{field_of};
-ghost use Rattle.bt_bencode.specs.View.{data_of};
+ghost use Rattle.bt_bencode.specs.Value.{data_of};
+ghost use Rattle.bt_bencode.specs.Dictionary.{field_of};
 
 use crate::value::Value;
 

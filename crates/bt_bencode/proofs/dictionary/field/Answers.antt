@@ -1,10 +1,10 @@
 use Rattle.std.proofs.Common.{◌≡◌, sym, ap, ◌∙◌, length, refl, arith, true, false}
 use Rattle.std.specs.Prelude.{nat_eq}
 use Rattle.std.specs.Cmp.Lexicographic.{pointwise}
-use Rattle.bt_bencode.specs.Field.{first_value_of}
-use Rattle.bt_bencode.specs.View.{entries_of}
-use Rattle.bt_bencode.proofs.Fields.{other_key, this_key, no_key, field-Dict}
-use Rattle.bt_bencode.proofs.look_up.field.Goals as goal
+use Rattle.bt_bencode.specs.Value.{entries_of}
+use Rattle.bt_bencode.specs.Dictionary.{first_value_of}
+use Rattle.bt_bencode.proofs.FieldSearch.{other_key, this_key, no_key, field-Dict}
+use Rattle.bt_bencode.proofs.dictionary.field.Goals as goal
 
 pub loop-name-init : goal.loop-name-init
 loop-name-init c = refl

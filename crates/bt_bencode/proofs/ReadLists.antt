@@ -3,13 +3,14 @@ use Rattle.std.proofs.Common.{◌≡◌, ◌≢◌, ℕ, zero, suc, ◌+◌, ◌
 use Rattle.std.specs.Char.{IsAsciiDigit}
 use Rattle.std.proofs.Math.Seq.{drop-length}
 use Rattle.std.proofs.lemmas.List.{append-nil, map_push, drop_more}
-use Rattle.bt_bencode.specs.Data.{Data, integer, string, list, no_items}
-use Rattle.bt_bencode.specs.Spelling.{spelling_of, items_spelling, nesting_of, items_nesting, HasAscendingKeys, ItemsHaveAscendingKeys, HasSmallIntegers, ItemsHaveSmallIntegers, IsCanonicalWithin}
-use Rattle.bt_bencode.specs.Fault.{Fault, StringStops, Stops, truncated, bad_byte, too_deep, at_end, at_other, in_string, too_deep_list, in_item}
-use Rattle.bt_bencode.specs.Reading.{FaultFrom, ReadsValue, ReadsString, ReadsInteger}
-use Rattle.bt_bencode.specs.View.{data_of, items_of, items_from}
+use Rattle.bt_bencode.specs.Value.{Data, integer, string, list, no_items, data_of, items_of, items_from}
+use Rattle.bt_bencode.specs.Spelling.{spelling_of, items_spelling}
+use Rattle.bt_bencode.specs.Doc.{nesting_of, items_nesting, HasAscendingKeys, ItemsHaveAscendingKeys, HasSmallIntegers, ItemsHaveSmallIntegers, IsCanonicalWithin}
+use Rattle.bt_bencode.specs.Error.{Fault, truncated, bad_byte, too_deep}
+use Rattle.bt_bencode.specs.Reader.{StringStops, Stops, at_end, at_other, in_string, too_deep_list, in_item}
+use Rattle.bt_bencode.specs.ReaderSteps.{FaultFrom, ReadsValue, ReadsString, ReadsInteger}
 use Rattle.bt_bencode.specs.declared.value.Value.{Value}
-use Rattle.bt_bencode.proofs.Splits.{drop_first}
+use Rattle.bt_bencode.proofs.ReadRanges.{drop_first}
 
 pub items_spelling-push : (ds : List Data) (d : Data) → items_spelling (items_from (ds ++ d ∷ [])) ≡ items_spelling (items_from ds) ++ spelling_of d
 unfolding items_spelling

@@ -1,8 +1,7 @@
 -- The data of a value of each kind.
 use Rattle.std.proofs.Common.{◌≡◌, ℕ, ℤ}
 use Rattle.std.specs.Global.{Vec}
-use Rattle.bt_bencode.specs.Data.{integer, string, list, dictionary, Data}
-use Rattle.bt_bencode.specs.View.{data_of, data_step, items_of, entries_of}
+use Rattle.bt_bencode.specs.Value.{integer, string, list, dictionary, Data, data_of, data_step, items_of, entries_of}
 use Rattle.bt_bencode.specs.declared.value.Value.{Value, Int, Bytes}
 use Rattle.bt_bencode.specs.declared.value.Value.TheOpen.{Value-F}
 use Rattle.bt_bencode.specs.declared.value.Value.TheFolds.{fold-roll-Value}

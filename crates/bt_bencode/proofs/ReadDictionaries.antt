@@ -7,13 +7,14 @@ use Rattle.std.specs.Cmp.Lexicographic.{slice_cmp}
 use Rattle.std.specs.declared.cmp.Ordering.{Ordering}
 use Rattle.std.specs.declared.cmp.Ordering.TheVariants.{Less, Equal, Greater}
 use Rattle.std.proofs.lemmas.List.{append-nil, map_push, drop_more, take_more, take_all}
-use Rattle.bt_bencode.specs.Data.{Data, dictionary, no_entries}
-use Rattle.bt_bencode.specs.Spelling.{string_spelling, spelling_of, entries_spelling, IsBefore, nesting_of, entries_nesting, HasAscendingKeys, EntriesAscend, HasSmallIntegers, EntriesHaveSmallIntegers, IsCanonicalWithin}
-use Rattle.bt_bencode.specs.Fault.{Fault, StringStops, Stops, last_key_of, EndsBefore, key_order, too_deep, too_deep_dictionary, in_key, at_key, in_value}
-use Rattle.bt_bencode.specs.Reading.{FaultFrom, ReadsValue, ReadsString}
-use Rattle.bt_bencode.specs.View.{data_of, entries_of, entries_from, entry_data}
+use Rattle.bt_bencode.specs.Value.{Data, dictionary, no_entries, data_of, entries_of, entries_from, entry_data}
+use Rattle.bt_bencode.specs.Spelling.{string_spelling, spelling_of, entries_spelling}
+use Rattle.bt_bencode.specs.Doc.{IsBefore, nesting_of, entries_nesting, HasAscendingKeys, EntriesAscend, HasSmallIntegers, EntriesHaveSmallIntegers, IsCanonicalWithin}
+use Rattle.bt_bencode.specs.Error.{Fault, key_order, too_deep}
+use Rattle.bt_bencode.specs.Reader.{StringStops, Stops, last_key_of, EndsBefore, too_deep_dictionary, in_key, at_key, in_value}
+use Rattle.bt_bencode.specs.ReaderSteps.{FaultFrom, ReadsValue, ReadsString}
 use Rattle.bt_bencode.specs.declared.value.Value.{Value}
-use Rattle.bt_bencode.proofs.Splits.{drop_first}
+use Rattle.bt_bencode.proofs.ReadRanges.{drop_first}
 
 pub entries_spelling-push : (es : List (Vec ℕ × Data)) (key : Vec ℕ) (d : Data) → entries_spelling (entries_from (es ++ (key, d) ∷ [])) ≡ entries_spelling (entries_from es) ++ (string_spelling key.items ++ spelling_of d)
 unfolding entries_spelling

@@ -11,12 +11,14 @@ use Rattle.std.proofs.lemmas.Str.Parse.{parse_signed_digits, parse_signed_minus}
 use Rattle.std.specs.Prelude.{Result, Ok, Err}
 use Rattle.std.proofs.lemmas.List.{drop_more, get_or_append_left}
 use Rattle.std.proofs.lemmas.Fmt.{decimal_digit, IsAscii-from_digits}
-use Rattle.bt_bencode.specs.Data.{integer}
+use Rattle.bt_bencode.specs.Value.{integer}
 use Rattle.bt_bencode.specs.Spelling.{spelling_of}
-use Rattle.bt_bencode.specs.Fault.{Fault, LeadsWithZero, NumeralStops, Stops, int_range, in_integer, in_negative, too_large, too_small}
-use Rattle.bt_bencode.specs.Reading.{Spans, FaultFrom, IsNumeralAt, ReadsInteger}
-use Rattle.bt_bencode.proofs.Splits.{length-between, drop_first, in_range}
-use Rattle.bt_bencode.proofs.Numerals.{digits_model, decimal_again, numeral_split}
+use Rattle.bt_bencode.specs.Error.{Fault, int_range}
+use Rattle.bt_bencode.specs.Number.{LeadsWithZero, NumeralStops}
+use Rattle.bt_bencode.specs.Reader.{Stops, in_integer, in_negative, too_large, too_small}
+use Rattle.bt_bencode.specs.ReaderSteps.{Spans, FaultFrom, IsNumeralAt, ReadsInteger}
+use Rattle.bt_bencode.proofs.ReadRanges.{length-between, drop_first, in_range}
+use Rattle.bt_bencode.proofs.ReadNumerals.{digits_model, decimal_again, numeral_split}
 
 -- the integer's text behind `i`, written with its sign
 text_after_i : (bytes : List ℕ) (at : ℕ) → at < length bytes → get_or bytes at 0 ≡ 105 → drop at bytes ≡ 105 ∷ drop (at + 1) bytes

@@ -8,11 +8,15 @@ use Rattle.std.specs.Str.Parse.{IsNumeral, digits_value}
 use Rattle.std.proofs.lemmas.Str.Parse.{digit_at}
 use Rattle.std.proofs.lemmas.Fmt.{decimal_is_IsNumeral, decimal_nonempty, decimal_digit, first_decimal}
 use Rattle.std.proofs.lemmas.List.{append-nil, get_or_append_left}
-use Rattle.bt_bencode.specs.Data.{Data, integer, string, list, dictionary, Items, no_items, item, Entries, no_entries, entry}
-use Rattle.bt_bencode.specs.Spelling.{string_spelling, spelling_of, items_spelling, entries_spelling, IsBefore, first_key_of, nesting_of, items_nesting, entries_nesting, HasAscendingKeys, ItemsHaveAscendingKeys, EntriesAscend, HasSmallIntegers, ItemsHaveSmallIntegers, EntriesHaveSmallIntegers, IsCanonicalWithin, IsRepresentable, ItemsAreRepresentable, EntriesAreRepresentable}
-use Rattle.bt_bencode.specs.Fault.{Fault, LeadsWithZero, NumeralStops, at_zero, at_end as numeral_at_end, at_other as numeral_at_other, StringStops, in_length, in_bytes, EndsBefore, Stops, at_end, at_other, in_integer, in_negative, too_large, too_small, in_string, too_deep_list, too_deep_dictionary, in_item, in_key, at_key, in_value}
-use Rattle.bt_bencode.proofs.Prefixes.{tails, same_digits, decimal_digits, string_parts, first_of_string, same_string, fits_pos, fits_negsuc, no_minus, end_behind, item_parts, entry_parts, no_end, string_apart, same_spelling, same_entries}
-use Rattle.bt_bencode.proofs.Representable.{representable, items_representable, entries_representable}
+use Rattle.bt_bencode.specs.Value.{Data, integer, string, list, dictionary, Items, no_items, item, Entries, no_entries, entry}
+use Rattle.bt_bencode.specs.Spelling.{string_spelling, spelling_of, items_spelling, entries_spelling}
+use Rattle.bt_bencode.specs.Doc.{IsBefore, first_key_of, nesting_of, items_nesting, entries_nesting, HasAscendingKeys, ItemsHaveAscendingKeys, EntriesAscend, HasSmallIntegers, ItemsHaveSmallIntegers, EntriesHaveSmallIntegers, IsCanonicalWithin}
+use Rattle.bt_bencode.specs.Error.{Fault}
+use Rattle.bt_bencode.specs.Number.{LeadsWithZero, NumeralStops, at_zero, at_end as numeral_at_end, at_other as numeral_at_other}
+use Rattle.bt_bencode.specs.Reader.{StringStops, in_length, in_bytes, EndsBefore, Stops, at_end, at_other, in_integer, in_negative, too_large, too_small, in_string, too_deep_list, too_deep_dictionary, in_item, in_key, at_key, in_value}
+use Rattle.bt_bencode.specs.Law.{IsRepresentable, ItemsAreRepresentable, EntriesAreRepresentable}
+use Rattle.bt_bencode.proofs.LawPrefixes.{tails, same_digits, decimal_digits, string_parts, first_of_string, same_string, fits_pos, fits_negsuc, no_minus, end_behind, item_parts, entry_parts, no_end, string_apart, same_spelling, same_entries}
+use Rattle.bt_bencode.proofs.LawRepresentable.{representable, items_representable, entries_representable}
 
 pub no_digit : (stop : ℕ) → 57 < stop → ¬ IsAsciiDigit stop
 no_digit stop other digit = absurd (omega (arith, digit.1))

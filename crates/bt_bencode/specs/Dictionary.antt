@@ -1,7 +1,7 @@
 -- The value of a dictionary's key.
 use Rattle.std.specs.Prelude.{ℕ, List, nat_eq, Option, None, Some, if◌then◌else◌}
 use Rattle.std.specs.Cmp.Lexicographic.{pointwise}
-use Rattle.bt_bencode.specs.Data.{Data, integer, string, list, dictionary, Entries, no_entries, entry}
+use Rattle.bt_bencode.specs.Value.{Data, integer, string, list, dictionary, Entries, no_entries, entry}
 
 -- the value of the first entry with this key
 abbrev pub first_value_of : Entries → List ℕ → Option Data

@@ -6,9 +6,9 @@ use Rattle.std.specs.Str.Parse.{AllDigits, digits_value}
 use Rattle.std.proofs.lemmas.Str.Parse.{IsNumeralModel, numerals_by_value, tells_digits, digit_at}
 use Rattle.std.proofs.lemmas.Fmt.{decimal-digits_value}
 use Rattle.std.proofs.lemmas.List.{get_or_append_left, drop_more}
-use Rattle.bt_bencode.specs.Fault.{LeadsWithZero}
-use Rattle.bt_bencode.specs.Reading.{IsNumeralAt}
-use Rattle.bt_bencode.proofs.Splits.{split}
+use Rattle.bt_bencode.specs.Number.{LeadsWithZero}
+use Rattle.bt_bencode.specs.ReaderSteps.{IsNumeralAt}
+use Rattle.bt_bencode.proofs.ReadRanges.{split}
 
 pub digits_model : IsNumeralModel (AllDigits 10) (digits_value 10)
 digits_model = numerals_by_value (AllDigits 10) tells_digits

@@ -6,10 +6,12 @@ use Rattle.std.specs.Str.Parse.{digits_value}
 use Rattle.std.proofs.lemmas.List.{take-append-drop, length-take-le}
 use Rattle.std.proofs.Math.Seq.{drop-length}
 use Rattle.bt_bencode.specs.Spelling.{string_spelling}
-use Rattle.bt_bencode.specs.Fault.{LeadsWithZero, StringStops, truncated, in_bytes}
-use Rattle.bt_bencode.specs.Reading.{Spans, FaultFrom, IsNumeralAt}
-use Rattle.bt_bencode.proofs.Splits.{drop-drop, length-between}
-use Rattle.bt_bencode.proofs.Numerals.{decimal_again, numeral_split}
+use Rattle.bt_bencode.specs.Error.{truncated}
+use Rattle.bt_bencode.specs.Number.{LeadsWithZero}
+use Rattle.bt_bencode.specs.Reader.{StringStops, in_bytes}
+use Rattle.bt_bencode.specs.ReaderSteps.{Spans, FaultFrom, IsNumeralAt}
+use Rattle.bt_bencode.proofs.ReadRanges.{drop-drop, length-between}
+use Rattle.bt_bencode.proofs.ReadNumerals.{decimal_again, numeral_split}
 
 pub string_read : (bytes : List ℕ) (at colon n : ℕ) (s : List ℕ) → IsNumeralAt false 58 bytes at colon → digits_value 10 (slice_range bytes at colon) ≡ n → n < 2 ^ 64 → colon + 1 + n ≤ length bytes
     → s ≡ take n (drop (colon + 1) bytes) → Spans bytes at (colon + 1 + n) (string_spelling s)

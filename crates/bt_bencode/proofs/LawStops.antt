@@ -2,13 +2,15 @@
 use Rattle.std.proofs.Common.{◌≡◌, ℕ, suc, ◌^◌, ◌<◌, List, [], ◌∷◌, ◌++◌, length, refl, sym, ap, ◌∙◌, subst, arith, length-append}
 use Rattle.std.specs.Prelude.{None}
 use Rattle.std.specs.Fmt.{decimal}
-use Rattle.bt_bencode.specs.Data.{list, dictionary, Items, Entries}
-use Rattle.bt_bencode.specs.Spelling.{string_spelling, spelling_of, items_spelling, entries_spelling, nesting_of, HasAscendingKeys, HasSmallIntegers, IsCanonicalWithin}
-use Rattle.bt_bencode.specs.Fault.{Fault, key_order, StringStops, last_key_of, EndsBefore, Stops}
-use Rattle.bt_bencode.proofs.Prefixes.{same_string}
-use Rattle.bt_bencode.proofs.Refusals.{ItemsKept, EntriesKept, done_items, done_entries, no_string, none_begins}
-use Rattle.bt_bencode.proofs.NumeralFaults.{same_string_fault}
-use Rattle.bt_bencode.proofs.PartsRead.{NoItem, NoEntry, last_from, last_from_none, first_follows_none, same_items_read, same_entries_read}
+use Rattle.bt_bencode.specs.Value.{list, dictionary, Items, Entries}
+use Rattle.bt_bencode.specs.Spelling.{string_spelling, spelling_of, items_spelling, entries_spelling}
+use Rattle.bt_bencode.specs.Doc.{nesting_of, HasAscendingKeys, HasSmallIntegers, IsCanonicalWithin}
+use Rattle.bt_bencode.specs.Error.{Fault, key_order}
+use Rattle.bt_bencode.specs.Reader.{StringStops, last_key_of, EndsBefore, Stops}
+use Rattle.bt_bencode.proofs.LawPrefixes.{same_string}
+use Rattle.bt_bencode.proofs.ReadRefusals.{ItemsKept, EntriesKept, done_items, done_entries, no_string, none_begins}
+use Rattle.bt_bencode.proofs.LawNumeralFaults.{same_string_fault}
+use Rattle.bt_bencode.proofs.LawParts.{NoItem, NoEntry, last_from, last_from_none, first_follows_none, same_items_read, same_entries_read}
 
 -- a text that fits memory stops a reading of a value of nesting at most n in one way
 abbrev pub StopsOnce : ℕ → Type 0
