@@ -7,6 +7,7 @@ ghost use Rattle.bt_meta.specs.Torrent.{metainfo_with, total_pieces, IsLaidOut, 
 ghost use Rattle.bt_meta.specs.Place.{IsPlace};
 ghost use Rattle.bt_meta.specs.PlaceSteps.{IsLastFileAt, HasNoFileAt};
 
+use crate::file_path::FilePath;
 use bt_tree::Hash32;
 use std::marker::Model;
 
@@ -14,7 +15,7 @@ use std::marker::Model;
 #[derive(Debug, Drop)]
 pub struct FileEntry {
     /// The names of the folders that it lies in, from the top, and then its own.
-    pub path: Vec<String>,
+    pub path: FilePath,
     /// How many bytes it has: at most 2^40.
     pub length: u64,
     /// The root of its tree; zeros for an empty file.

@@ -16,10 +16,11 @@ ghost use Rattle.bt_meta.specs.declared.writer.MakeError.TheVariants.{OutOfMemor
 
 use crate::encode::value_of;
 use crate::error::MetaError;
+use crate::file_path::MAX_PATH_LENGTH;
 use crate::layers::check as check_bytes;
 use crate::properties::{MAX_FILE_LENGTH, note_length, path_element};
 use crate::reader::{MAX_TEXT_LENGTH, is_piece_length};
-use crate::walk::{MAX_FILES, MAX_PATH_LENGTH, MAX_PIECES};
+use crate::walk::{MAX_FILES, MAX_PIECES};
 use bt_bencode::write;
 use bt_tree::Hash32;
 use std::alloc::{AllocError, Global};
