@@ -55,7 +55,7 @@ filter_one : {A : Type 0} (x : A) (b : Bool) (ys : List A) (r : Bool) → r ≡ 
 filter_one x true ys r e = let more : (length (x ∷ ys) == 0) ≡ false = grind (arith, nat_tests) in rw more refl
 filter_one x false ys r e = e
 
-some_of_filter : {A : Type 0} (test : A → Bool) (xs : List A) → list_any test xs ≡ not (length (filter test xs) == 0)
+pub some_of_filter : {A : Type 0} (test : A → Bool) (xs : List A) → list_any test xs ≡ not (length (filter test xs) == 0)
 some_of_filter test [] = refl
 some_of_filter test (x ∷ xs) = filter_one x (test x) (filter test xs) (list_any test xs) (some_of_filter test xs)
 

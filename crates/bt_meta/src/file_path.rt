@@ -65,8 +65,8 @@ impl FilePath {
         })
     }
 
-    /// How many elements it has: 1 to 64.
-    pub fn len(&self) -> usize
+    /// How many elements it has.
+    pub(crate) fn len(&self) -> usize
         ensures { result ≡ length self.now }
     {
         self.count
