@@ -19,7 +19,7 @@ use Rattle.bt_meta.specs.TreeEntries.{with_earlier}
 use Rattle.bt_meta.specs.GivenFiles.{Given, given_of, HasRoot}
 use Rattle.bt_meta.specs.WriterRefusals.{Check, file_refusal, has_conflict}
 use Rattle.bt_meta.specs.Faults.{is_element, is_path}
-use Rattle.bt_meta.specs.WriterSteps.{IsTallyOf, IsWithinLimits, Refuses}
+use Rattle.bt_meta.specs.WriterSteps.{IsTallyOf, IsWithinLimits, Refuses, RefusesFile}
 use Rattle.bt_meta.specs.declared.writer.Made.{Made}
 use Rattle.bt_meta.specs.declared.writer.MakeError.{MakeError}
 use Rattle.bt_meta.specs.declared.writer.Tally.{Tally}
@@ -97,12 +97,12 @@ taking_more piece_length files i m old new lt is h within taken faultless rooted
     }
 
 pub taking_stops : (piece_length : ℕ) (files : List Made) (i : ℕ) (m : Made) (old : Tally) (e : MakeError) → i < length files → m ≡ get_or files i m → Taking piece_length files i old
-    → ((fs : List Given) → IsTallyOf piece_length fs old → Refuses (file_refusal piece_length fs (given_of m)) e) → Refuses (first_of (checks_of piece_length (map given_of files))) e
+    → ((fs : List Given) → IsTallyOf piece_length fs old → RefusesFile piece_length fs (given_of m) e) → Refuses (first_of (checks_of piece_length (map given_of files))) e
 taking_stops piece_length files i m old e lt is h refused =
     let before = map given_of (take i files) in
     let rest = map given_of (drop (i + 1) files) in
     elim (refused before h.taken) [
-      | inl memory ↦ inl memory
+      | inl memory ↦ inl memory.0
       | inr found ↦ inr (
           ap (λ fs. first_of (checks_of piece_length fs)) (given_split files i m lt is) ∙ checks_behind piece_length before (given_of m) rest h.faultless
           ∙ stops (file_refusal piece_length before (given_of m)) (with_earlier (file_refusal piece_length) (before ++ given_of m ∷ []) rest) e found)

@@ -1,12 +1,12 @@
 -- The steps of checking the files that a torrent is made of. No public contract cites them.
-use Rattle.std.specs.Prelude.{◌≡◌, ℕ, ◌≤◌, ◌⊎◌, List, length, sum_by, Some}
+use Rattle.std.specs.Prelude.{◌≡◌, ℕ, ◌≤◌, ◌⊎◌, List, length, sum_by, Some, None, false}
 use Rattle.bt_meta.specs.PropertySteps.{Lengths, is_other_length, length_at}
 use Rattle.bt_meta.specs.declared.writer.Tally.{Tally}
 use Rattle.bt_meta.specs.Files.{piece_count}
 use Rattle.bt_meta.specs.declared.writer.MakeError.{MakeError}
 use Rattle.bt_meta.specs.declared.writer.MakeError.TheVariants.{OutOfMemory}
 use Rattle.bt_meta.specs.GivenFiles.{Given}
-use Rattle.bt_meta.specs.WriterRefusals.{Check, has_conflict}
+use Rattle.bt_meta.specs.WriterRefusals.{Check, has_conflict, own_refusal, conflict_with, file_refusal}
 use Rattle.bt_meta.specs.Limits.{max_file_count, max_piece_count}
 
 -- the map has the lengths of the roots of these files
@@ -28,3 +28,10 @@ pub record IsWithinLimits (tally : Tally) : Type 0 where
 -- out of memory, or the refusal that the check finds
 abbrev pub Refuses : Check → MakeError → Type 0
 Refuses check e = (e ≡ OutOfMemory) ⊎ (check ≡ Some e)
+
+-- what refuses a file behind others: the first of its checks, or out of memory, where its own checks pass and its
+-- root has no conflict
+abbrev pub RefusesFile : ℕ → List Given → Given → MakeError → Type 0
+RefusesFile piece_length files f e =
+    ((e ≡ OutOfMemory) × (own_refusal piece_length f ≡ None) × (conflict_with files f ≡ false))
+    ⊎ (file_refusal piece_length files f ≡ Some e)

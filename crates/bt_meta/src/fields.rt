@@ -10,50 +10,35 @@ use bt_bencode::{Value, field};
 pub(crate) fn integer(value: &Value, key: &[u8]) -> Option<i64>
     ensures { result ≡ integer_at (data_of value.now) key.now }
 {
-    match field(value, key) {
-        Some(found) => as_integer(found),
-        None => None,
-    }
+    as_integer(field(value, key)?)
 }
 
 /// The integer at the key, if it is not negative.
 pub(crate) fn natural(value: &Value, key: &[u8]) -> Option<u64>
     ensures { result ≡ natural_at (data_of value.now) key.now }
 {
-    match integer(value, key) {
-        Some(integer) => u64::try_from(integer).ok(),
-        None => None,
-    }
+    u64::try_from(integer(value, key)?).ok()
 }
 
 /// The string at the key.
 pub(crate) fn string<'a>(value: &'a Value, key: &[u8]) -> Option<&'a [u8]>
     ensures { option_copied result ≡ string_at (data_of value.now) key.now }
 {
-    match field(value, key) {
-        Some(found) => as_string(found),
-        None => None,
-    }
+    as_string(field(value, key)?)
 }
 
 /// The value at the key, which is a dictionary.
 pub(crate) fn dictionary<'a>(value: &'a Value, key: &[u8]) -> Option<&'a Value>
     ensures { option_map data_of (option_copied result) ≡ dictionary_at (data_of value.now) key.now }
 {
-    match field(value, key) {
-        Some(found) => as_dictionary(found),
-        None => None,
-    }
+    as_dictionary(field(value, key)?)
 }
 
 /// Whether the dictionary has the key.
 pub(crate) fn has(value: &Value, key: &[u8]) -> bool
     ensures { result ≡ has_key (data_of value.now) key.now }
 {
-    match field(value, key) {
-        Some(_) => true,
-        None => false,
-    }
+    field(value, key).is_some()
 }
 
 /// Whether the value is a dictionary.

@@ -115,10 +115,7 @@ fn layer_at<'a>(entries: &'a [(Vec<u8>, Value)], root: &[u8]) -> Option<&'a [u8]
     requires { EntriesAscend (entries_of entries.now) }
     ensures { option_copied result ≡ string_at (dictionary_of (entries_of entries.now)) root.now }
 {
-    match find(entries, root) {
-        Some(value) => as_string(value),
-        None => None,
-    }
+    as_string(find(entries, root)?)
 }
 
 /// The value of the key among ascending entries.

@@ -82,9 +82,7 @@ fn file_length(properties: &Value) -> Option<u64>
         if has_lawful_length (data_of properties.now)
         then Some (length_in (data_of properties.now)) else None) }
 {
-    let Some(length) = natural(properties, b"length") else {
-        return None;
-    };
+    let length = natural(properties, b"length")?;
     if length > MAX_FILE_LENGTH {
         return None;
     }
@@ -100,11 +98,9 @@ fn file_root(properties: &Value, length: u64) -> Option<Hash32>
     if length == 0 {
         return Some([0; 32]);
     }
-    match string(properties, b"pieces root") {
-        Some(root) => match Hash32::try_from(root) {
-            Ok(root) => Some(root),
-            Err(_) => None,
-        },
-        None => None,
+    let root = string(properties, b"pieces root")?;
+    match Hash32::try_from(root) {
+        Ok(root) => Some(root),
+        Err(_) => None,
     }
 }

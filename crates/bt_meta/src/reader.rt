@@ -18,7 +18,7 @@ use crate::layers::add_layers;
 use crate::torrent::Torrent;
 use crate::walk::{Listing, read_tree};
 use bt_bencode::{Value, parse, write};
-use bt_tree::Hash32;
+use bt_tree::{Hash32, is_piece_length};
 use sha2::{Digest, Sha256};
 use std::alloc::{AllocError, Global};
 
@@ -170,20 +170,21 @@ fn piece_length(info: &Value) -> Option<u32>
     ensures { let length = piece_length_of (data_of info.now) in
         result ≡ (if is_lawful_piece_length length then Some length else None) }
 {
-    let Some(length) = natural(info, b"piece length") else {
+    let length = natural(info, b"piece length")?;
+    if length > u32::MAX as u64 {
         return None;
-    };
-    if !is_piece_length(length) {
+    }
+    if !is_lawful_length(length as u32) {
         return None;
     }
     Some(length as u32)
 }
 
-/// Whether a piece may have this length: a power of two from 2^14 (BEP 52) to 2^28.
-pub(crate) fn is_piece_length(length: u64) -> bool
+/// Whether a piece may have this length.
+pub(crate) fn is_lawful_length(length: u32) -> bool
     ensures { result ≡ is_lawful_piece_length length }
 {
-    length.is_power_of_two() && 1 << 14 <= length && length <= 1 << 28
+    is_piece_length(length)
 }
 
 /// The SHA-256 of the spelling of `info`.

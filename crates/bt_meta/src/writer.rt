@@ -10,9 +10,8 @@ ghost use Rattle.bt_meta.specs.GivenFiles.{Given, given_of, HasRoot, IsInTreeOrd
 ghost use Rattle.bt_meta.specs.WriterRefusals.{file_refusal, own_refusal, layer_refusal, conflict_with};
 ghost use Rattle.bt_meta.specs.Faults.{is_path as is_lawful_path, is_element as is_lawful_element};
 ghost use Rattle.bt_meta.specs.Writer.{IsMade, have_overlap, IsNotMade};
-ghost use Rattle.bt_meta.specs.WriterSteps.{HasLengths, IsTallyOf, IsWithinLimits, Refuses};
+ghost use Rattle.bt_meta.specs.WriterSteps.{HasLengths, IsTallyOf, IsWithinLimits, Refuses, RefusesFile};
 ghost use Rattle.bt_meta.specs.EncodeSteps.{given_at};
-ghost use Rattle.bt_meta.specs.PropertySteps.{length_at};
 ghost use Rattle.bt_meta.specs.declared.writer.MakeError.TheVariants.{OutOfMemory as out_of_memory, RootConflict as root_conflict};
 
 use crate::encode::value_of;
@@ -20,7 +19,7 @@ use crate::error::MetaError;
 use crate::file_path::MAX_PATH_LENGTH;
 use crate::layers::check as check_bytes;
 use crate::properties::{MAX_FILE_LENGTH, note_length, path_element};
-use crate::reader::{MAX_TEXT_LENGTH, is_piece_length};
+use crate::reader::{MAX_TEXT_LENGTH, is_lawful_length};
 use crate::walk::{MAX_FILES, MAX_PIECES};
 use bt_bencode::write;
 use bt_tree::Hash32;
@@ -93,7 +92,7 @@ pub fn make(
     ensures apart { OnOk result (have_overlap (map given_of files.now) ≡ false) }
     ensures refused { IfErr result (IsNotMade name.now piece_length (map given_of files.now)) }
 {
-    if !is_piece_length(piece_length as u64) {
+    if !is_lawful_length(piece_length) {
         return Err(MakeError::PieceLength);
     }
     if files.is_empty() {
@@ -151,7 +150,7 @@ impl Tally {
         ensures faultless { OnOk result ((files : List Given) → IsTallyOf piece_length files self.old
             → file_refusal piece_length files (given_of file.now) ≡ None) }
         ensures refused { IfErr result (λ e. (files : List Given) → IsTallyOf piece_length files self.old
-            → Refuses (file_refusal piece_length files (given_of file.now)) e) }
+            → RefusesFile piece_length files (given_of file.now) e) }
     {
         check_file(piece_length, file)?;
         check_root(&mut self.lengths, file)?;
@@ -221,7 +220,7 @@ fn check_root(lengths: &mut BTreeMap<Hash32, u64>, file: &Made) -> Result<(), Ma
     ensures alike { OnOk result ((files : List Given) → HasLengths lengths.old files
         → conflict_with files (given_of file.now) ≡ false) }
     ensures refused { IfErr result (λ e. (files : List Given) → HasLengths lengths.old files
-        → ((e ≡ out_of_memory) × (length_at lengths.old file.now.root ≡ None))
+        → ((e ≡ out_of_memory) × (conflict_with files (given_of file.now) ≡ false))
         ⊎ ((e ≡ root_conflict) × (conflict_with files (given_of file.now) ≡ true))) }
 {
     let root = file.root;
