@@ -1,9 +1,8 @@
 //! What a dictionary holds at a key, by kind.
 ghost use Rattle.std.specs.Prelude.{◌≡◌, option_copied};
 ghost use Rattle.std.specs.Option.{option_map};
-ghost use Rattle.bt_bencode.specs.View.{data_of, entries_of};
-ghost use Rattle.bt_meta.specs.Fields.{as_integer as integer_in, as_string as string_in, as_dictionary as dictionary_in, integer_at, natural_at, string_at, dictionary_at, has_key, entries_in};
-ghost use Rattle.bt_meta.specs.Faults.{is_dictionary as is_dictionary_data, is_single as is_single_data};
+ghost use Rattle.bt_bencode.specs.Value.{data_of, entries_of};
+ghost use Rattle.bt_meta.specs.Fields.{as_integer as integer_in, as_string as string_in, as_dictionary as dictionary_in, integer_at, natural_at, string_at, dictionary_at, has_key, entries_in, is_dictionary as is_dictionary_data, is_single as is_single_data};
 
 use bt_bencode::{Value, field};
 
@@ -11,50 +10,35 @@ use bt_bencode::{Value, field};
 pub(crate) fn integer(value: &Value, key: &[u8]) -> Option<i64>
     ensures { result ≡ integer_at (data_of value.now) key.now }
 {
-    match field(value, key) {
-        Some(found) => as_integer(found),
-        None => None,
-    }
+    as_integer(field(value, key)?)
 }
 
 /// The integer at the key, if it is not negative.
 pub(crate) fn natural(value: &Value, key: &[u8]) -> Option<u64>
     ensures { result ≡ natural_at (data_of value.now) key.now }
 {
-    match integer(value, key) {
-        Some(integer) => u64::try_from(integer).ok(),
-        None => None,
-    }
+    u64::try_from(integer(value, key)?).ok()
 }
 
 /// The string at the key.
 pub(crate) fn string<'a>(value: &'a Value, key: &[u8]) -> Option<&'a [u8]>
     ensures { option_copied result ≡ string_at (data_of value.now) key.now }
 {
-    match field(value, key) {
-        Some(found) => as_string(found),
-        None => None,
-    }
+    as_string(field(value, key)?)
 }
 
 /// The value at the key, which is a dictionary.
 pub(crate) fn dictionary<'a>(value: &'a Value, key: &[u8]) -> Option<&'a Value>
     ensures { option_map data_of (option_copied result) ≡ dictionary_at (data_of value.now) key.now }
 {
-    match field(value, key) {
-        Some(found) => as_dictionary(found),
-        None => None,
-    }
+    as_dictionary(field(value, key)?)
 }
 
 /// Whether the dictionary has the key.
 pub(crate) fn has(value: &Value, key: &[u8]) -> bool
     ensures { result ≡ has_key (data_of value.now) key.now }
 {
-    match field(value, key) {
-        Some(_) => true,
-        None => false,
-    }
+    field(value, key).is_some()
 }
 
 /// Whether the value is a dictionary.

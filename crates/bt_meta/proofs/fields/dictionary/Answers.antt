@@ -1,12 +1,14 @@
 use Rattle.std.proofs.Common.{ap, ◌∙◌}
-use Rattle.std.specs.Option.{option_and_then}
+use Rattle.std.specs.Prelude.{option_copied}
+use Rattle.std.specs.Option.{option_and_then, option_map}
+use Rattle.bt_bencode.specs.Value.{data_of}
 use Rattle.bt_meta.specs.Fields.{as_dictionary, dictionary_at}
 use Rattle.bt_meta.proofs.fields.dictionary.Goals as goal
 
-pub returns-in-Some : goal.returns-in-Some
+pub returns : goal.returns
 unfolding dictionary_at
-returns-in-Some c = c.as_dictionary.ensures ∙ ap (option_and_then as_dictionary) (c.in-Some.ensures)
+returns c = c.as_dictionary.ensures ∙ ap (option_and_then as_dictionary) c.in_ok-field.ensures
 
-pub returns-in-None : goal.returns-in-None
+pub returns-in_err-field : goal.returns-in_err-field
 unfolding dictionary_at
-returns-in-None c = ap (option_and_then as_dictionary) (c.in-None.ensures)
+returns-in_err-field c = ap (λ r. option_map data_of (option_copied r)) c.from_residual.ensures ∙ ap (option_and_then as_dictionary) c.in_err-field.ensures

@@ -1,12 +1,13 @@
 use Rattle.std.proofs.Common.{ap, ◌∙◌}
+use Rattle.std.specs.Prelude.{option_copied}
 use Rattle.std.specs.Option.{option_and_then}
 use Rattle.bt_meta.specs.Fields.{as_string, string_at}
 use Rattle.bt_meta.proofs.fields.string.Goals as goal
 
-pub returns-in-Some : goal.returns-in-Some
+pub returns : goal.returns
 unfolding string_at
-returns-in-Some c = c.as_string.ensures ∙ ap (option_and_then as_string) (c.in-Some.ensures)
+returns c = c.as_string.ensures ∙ ap (option_and_then as_string) c.in_ok-field.ensures
 
-pub returns-in-None : goal.returns-in-None
+pub returns-in_err-field : goal.returns-in_err-field
 unfolding string_at
-returns-in-None c = ap (option_and_then as_string) (c.in-None.ensures)
+returns-in_err-field c = ap option_copied c.from_residual.ensures ∙ ap (option_and_then as_string) c.in_err-field.ensures
