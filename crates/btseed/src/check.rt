@@ -1,17 +1,20 @@
 //! The command `check`.
 ghost use Rattle.std.specs.Prelude.{◌≡◌, ◌↔◌, ◌⊎◌, map, IsTrue, IfOk, IfErr, IfSome};
 ghost use Rattle.bt_meta.specs.Files.{file_of};
-ghost use Rattle.btseed.specs.Entries.{IsEntryFinding, IsEntryFindingAt, IsFoundOf, IsEntryFault, IsFaultAmong, HasLayerOf};
-ghost use Rattle.btseed.specs.Statuses.{out_of_memory};
-ghost use Rattle.btseed.specs.Telling.{TellsFiles};
-ghost use Rattle.btseed.specs.Commands.{IsLoadFault, IsReport};
+ghost use Rattle.btseed.specs.Check.{IsEntryFinding, IsFileFinding};
+ghost use Rattle.btseed.specs.CheckSteps.{IsEntryFindingAt, IsEntryFault, IsFaultAmong, HasLayerSize};
+ghost use Rattle.btseed.specs.Fault.{out_of_memory};
+ghost use Rattle.btseed.specs.Report.{IsReport, IsReportOn};
+ghost use Rattle.btseed.specs.TorrentFile.{IsLoadFault};
 
 use crate::command_line::Source;
-use crate::data_file::{BUFFER_LEN, Finding, check_empty, check_file};
+use crate::data_file::{Finding, check_empty, check_file};
+use crate::display::display;
 use crate::fault::Fault;
-use crate::paths::{data_path, joined};
+use crate::paths::{data_path, joined_path};
 use crate::pieces::{PieceSize, check_pieces};
-use crate::report::{push_end, push_line, shown};
+use crate::reader::BUFFER_LEN;
+use crate::report::{push_end, push_line};
 use crate::torrent_file::load;
 use bt_meta::{FileEntry, MetaError};
 use bt_tree::{Geometry, Hash32};
@@ -45,8 +48,9 @@ fn check_files<R: Files + AllocGlobal>(
     size: PieceSize,
     buffer: &mut [u8; BUFFER_LEN],
 ) -> Result<Report, Fault>
-    ensures report { IfOk result (TellsFiles size.layer (map file_of entries.now)) }
-    ensures fault { IfErr result (λ fault. (fault ≡ out_of_memory) ⊎ IsFaultAmong size.layer (map file_of entries.now) fault) }
+    ensures report { IfOk result (IsReportOn size.layer (map file_of entries.now)) }
+    ensures fault { IfErr result
+        (λ fault. (fault ≡ out_of_memory) ⊎ IsFaultAmong size.layer (map file_of entries.now) fault) }
 {
     let alloc = rt.alloc();
     let mut lines = String::new(alloc);
@@ -54,8 +58,12 @@ fn check_files<R: Files + AllocGlobal>(
     for entry in entries {
         let finding = check_data(rt, dir, entry, size, buffer)?;
         complete = complete & finding.is_complete();
-        let path = joined(alloc, &entry.path)?;
-        push_line(&mut lines, finding, shown(alloc, path.as_bytes())?.as_str())?;
+        let path = joined_path(alloc, &entry.path)?;
+        push_line(
+            &mut lines,
+            finding,
+            display(alloc, path.as_bytes())?.as_str(),
+        )?;
     }
     push_end(&mut lines, complete)?;
     Ok(Report { lines, complete })
@@ -69,8 +77,9 @@ fn check_data<R: Files + AllocGlobal>(
     size: PieceSize,
     buffer: &mut [u8; BUFFER_LEN],
 ) -> Result<Finding, Fault>
-    ensures found { IfOk result (IsFoundOf size.layer (file_of entry.now)) }
-    ensures fault { IfErr result (λ fault. (fault ≡ out_of_memory) ⊎ IsEntryFault size.layer (file_of entry.now) fault) }
+    ensures found { IfOk result (IsFileFinding size.layer (file_of entry.now)) }
+    ensures fault { IfErr result
+        (λ fault. (fault ≡ out_of_memory) ⊎ IsEntryFault size.layer (file_of entry.now) fault) }
 {
     let path = data_path(rt.alloc(), dir, &entry.path)?;
     match fs::open(rt, path) {
@@ -91,31 +100,33 @@ fn check_entry<R: Read>(
     buffer: &mut [u8; BUFFER_LEN],
 ) -> Result<Finding, Fault>
     // of the reader's bytes, where it tells them
-    ensures told { IfSome (R.remaining reader.old) (λ bytes. IfOk result (IsEntryFinding bytes size.layer (file_of entry.now))) }
+    ensures told { IfSome (R.remaining reader.old)
+        (λ bytes. IfOk result (IsEntryFinding bytes size.layer (file_of entry.now))) }
 
     // of the bytes that it gave, at every reader
-    ensures given { IfOk result (IsEntryFindingAt (R.remaining reader.old) (R.remaining reader.new) size.layer (file_of entry.now)) }
+    ensures given { IfOk result
+        (IsEntryFindingAt (R.remaining reader.old) (R.remaining reader.new) size.layer (file_of entry.now)) }
     ensures fault { IfErr result (IsEntryFault size.layer (file_of entry.now)) }
 {
     let Some(geometry) = Geometry::new(entry.length) else {
         return match entry.length {
             0 => Ok(check_empty(reader)?),
-            _ => Err(Fault::Refused(MetaError::FileLength)),
+            _ => Err(Fault::Torrent(MetaError::FileLength)),
         };
     };
     if entry.layer.is_empty() {
         return Ok(check_file(reader, geometry, &entry.root, buffer)?);
     }
     let (digests, _) = entry.layer.as_slice().as_chunks::<32>();
-    if !are_of_layer(geometry, size.layer, digests) {
-        return Err(Fault::Refused(MetaError::LayerSize));
+    if !has_layer_size(geometry, size.layer, digests) {
+        return Err(Fault::Torrent(MetaError::LayerSize));
     }
     Ok(check_pieces(reader, geometry, size, digests, buffer)?)
 }
 
 /// Whether they are as many as the layer has nodes that cover a block.
-fn are_of_layer(geometry: Geometry, layer: u8, digests: &[Hash32]) -> bool
-    ensures { IsTrue result ↔ HasLayerOf layer geometry digests.now }
+fn has_layer_size(geometry: Geometry, layer: u8, digests: &[Hash32]) -> bool
+    ensures { IsTrue result ↔ HasLayerSize layer geometry digests.now }
 {
     layer <= geometry.height() && digests.len() == geometry.real(layer) as usize
 }

@@ -1,8 +1,9 @@
 //! The files of a folder and its subfolders.
 ghost use Rattle.std.specs.Prelude.{◌≡◌, ◌++◌, ◌⊎◌, [], ◌∷◌, map, string_bytes, IfOk, OnOk, IfErr};
 ghost use Rattle.std.specs.List.{All};
-ghost use Rattle.btseed.specs.Statuses.{device, out_of_memory};
-ghost use Rattle.btseed.specs.Walking.{HasElement, IsListingFault, PutsEntries};
+ghost use Rattle.btseed.specs.Fault.{device, out_of_memory};
+ghost use Rattle.btseed.specs.Folder.{HasElement, IsListingFault};
+ghost use Rattle.btseed.specs.FolderSteps.{PutsEntries};
 
 use crate::fault::Fault;
 use crate::paths::data_path;
@@ -15,7 +16,7 @@ use std::rt::Files;
 
 /// A file or a folder, by its path below the folder that is walked.
 #[derive(Drop)]
-struct Entry {
+struct FolderEntry {
     path: Vec<String>,
     is_folder: bool,
 }
@@ -28,7 +29,8 @@ pub fn files_in<R: Files + AllocGlobal + Clone + Drop>(
     rt: &R,
     dir: &str,
 ) -> Result<Vec<Vec<String>>, Fault>
-    ensures named { IfOk result (λ files. All (λ path. HasElement (map string_bytes path.items)) files.items) }
+    ensures named { IfOk result
+        (λ files. All (λ path. HasElement (map string_bytes path.items)) files.items) }
     ensures fault { IfErr result IsListingFault }
 {
     let alloc = rt.alloc();
@@ -36,7 +38,7 @@ pub fn files_in<R: Files + AllocGlobal + Clone + Drop>(
     let mut waiting = Vec::new(alloc);
     push_entries(rt, dir, &[], &mut waiting)?;
     for _ in 0..u64::MAX {
-        let Some(Entry { path, is_folder }) = waiting.pop() else {
+        let Some(FolderEntry { path, is_folder }) = waiting.pop() else {
             return Ok(files);
         };
         if is_folder {
@@ -53,15 +55,16 @@ fn push_entries<R: Files + AllocGlobal + Clone + Drop>(
     rt: &R,
     dir: &str,
     folder: &[String],
-    waiting: &mut Vec<Entry>,
+    waiting: &mut Vec<FolderEntry>,
 ) -> Result<(), Fault>
-    ensures put { OnOk result (PutsEntries (map string_bytes folder.now) waiting.old.items waiting.new.items) }
+    ensures put { OnOk result
+        (PutsEntries (map string_bytes folder.now) waiting.old.items waiting.new.items) }
     ensures fault { IfErr result IsListingFault }
 {
     let names = names_in(rt, dir, folder)?;
     for (name, is_folder) in names.into_iter().rev() {
         let path = path_with(rt.alloc(), folder, name)?;
-        waiting.push(Entry { path, is_folder })?;
+        waiting.push(FolderEntry { path, is_folder })?;
     }
     Ok(())
 }
@@ -93,7 +96,7 @@ fn listing_fault(error: &io::Error) -> Fault
     ensures { IsListingFault result }
 {
     match error.kind() {
-        ErrorKind::InvalidFilename => Fault::Unmade(MakeError::BadPath),
+        ErrorKind::InvalidFilename => Fault::Make(MakeError::BadPath),
         _ => opening_fault(error),
     }
 }
@@ -110,7 +113,8 @@ fn opening_fault(error: &io::Error) -> Fault
 
 /// The path of an entry of a folder.
 fn path_with(alloc: Global, folder: &[String], name: String) -> Result<Vec<String>, AllocError>
-    ensures { IfOk result (λ path. map string_bytes path.items ≡ map string_bytes folder.now ++ string_bytes name ∷ []) }
+    ensures { IfOk result
+        (λ path. map string_bytes path.items ≡ map string_bytes folder.now ++ string_bytes name ∷ []) }
 {
     let mut path = Vec::new(alloc);
     for element in folder {

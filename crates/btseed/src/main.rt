@@ -2,33 +2,35 @@
 #![tactic(auto)]
 
 ghost use Rattle.std.specs.Prelude.{◌≡◌, ◌⊎◌, IfErr};
-ghost use Rattle.btseed.specs.Statuses.{no_text, out_of_memory};
+ghost use Rattle.btseed.specs.Fault.{words_fault, out_of_memory};
 
+mod atomic_file;
 mod check;
 mod command_line;
-mod counts;
 mod data_file;
 mod digests;
+mod display;
 mod fault;
 mod folder;
+mod limits;
 mod make;
 mod paths;
 mod pieces;
 mod program;
+mod reader;
 mod report;
 mod show;
 mod torrent_file;
-mod whole_file;
 
 use fault::Fault;
-use program::{run, tell};
+use program::{report_fault, run};
 use std::env::{self, Env};
 use std::io::ErrorKind;
 use std::process::ExitCode;
 
 /// The words that follow the program's name.
 fn words(rt: &(impl Env + AllocGlobal)) -> Result<Vec<String>, Fault>
-    ensures { IfErr result (λ fault. (fault ≡ no_text) ⊎ (fault ≡ out_of_memory)) }
+    ensures { IfErr result (λ fault. (fault ≡ words_fault) ⊎ (fault ≡ out_of_memory)) }
 {
     match env::args(rt) {
         Ok(words) => Ok(words.skip(1).collect(rt.alloc())?),
@@ -47,7 +49,7 @@ fn main(rt: HostRuntime) -> ExitCode {
             &mut rt.stdout(),
             &mut faults,
         ),
-        Err(fault) => tell(fault, &mut faults),
+        Err(fault) => report_fault(fault, &mut faults),
     };
     ExitCode::from(status)
 }

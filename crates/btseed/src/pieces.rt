@@ -2,11 +2,12 @@
 ghost use Rattle.std.specs.Prelude.{◌≡◌, ◌+◌, ◌*◌, ◌^◌, ◌<◌, ◌≤◌, ◌↔◌, length, IsSome, IfOk, IfNone, IfSome, OnErr};
 ghost use Rattle.bt_tree.specs.Blocks.{block_count};
 ghost use Rattle.bt_tree.specs.TreeShape.{height_of, real_width, IsPieceLength};
-ghost use Rattle.btseed.specs.Reading.{LosesFront, EndsEarly};
+ghost use Rattle.btseed.specs.Reader.{LosesFront, EndsEarly};
 ghost use Rattle.btseed.specs.Pieces.{piece_size, GivesPiece, IsFindingByPieces, IsFindingByPiecesAt};
 
-use crate::data_file::{BUFFER_LEN, Finding, has_more, marked_blocks, read_node};
+use crate::data_file::{Finding, marked_blocks};
 use crate::fault::DeviceFault;
+use crate::reader::{BUFFER_LEN, has_more, read_node};
 use bt_tree::{BLOCK_LEN, Geometry, Hash32, Plain, RootBuilder, piece_layer};
 use std::io::Read;
 
@@ -45,8 +46,10 @@ pub fn read_piece<R: Read>(
     requires inside { layer ≤ height_of (block_count geometry) }
     requires real { index < real_width (block_count geometry) layer }
     requires size { size ≡ piece_size geometry layer index }
-    ensures early { IfOk result (λ found. IfNone found (EndsEarly (R.remaining reader.old) (R.remaining reader.new) size)) }
-    ensures node { IfOk result (λ found. IfSome found (GivesPiece (R.remaining reader.old) (R.remaining reader.new) geometry layer index size)) }
+    ensures early { IfOk result
+        (λ found. IfNone found (EndsEarly (R.remaining reader.old) (R.remaining reader.new) size)) }
+    ensures node { IfOk result (λ found. IfSome found
+        (GivesPiece (R.remaining reader.old) (R.remaining reader.new) geometry layer index size)) }
     ensures err { OnErr result (LosesFront (R.remaining reader.old) (R.remaining reader.new)) }
 {
     let builder = RootBuilder::for_node(Plain, geometry, layer, index);
@@ -70,10 +73,12 @@ pub fn check_pieces<R: Read>(
     requires all { length digests.now ≡ real_width (block_count geometry) size.layer }
 
     // of the reader's bytes, where it tells them
-    ensures told { IfSome (R.remaining reader.old) (λ bytes. IfOk result (IsFindingByPieces bytes geometry size.layer digests.now)) }
+    ensures told { IfSome (R.remaining reader.old)
+        (λ bytes. IfOk result (IsFindingByPieces bytes geometry size.layer digests.now)) }
 
     // of the bytes that it gave, at every reader
-    ensures given { IfOk result (IsFindingByPiecesAt (R.remaining reader.old) (R.remaining reader.new) geometry size.layer digests.now) }
+    ensures given { IfOk result (IsFindingByPiecesAt
+        (R.remaining reader.old) (R.remaining reader.new) geometry size.layer digests.now) }
     ensures err { OnErr result (LosesFront (R.remaining reader.old) (R.remaining reader.new)) }
 {
     let blocks = geometry.blocks();

@@ -2,16 +2,17 @@
 ghost use Rattle.std.specs.Prelude.{◌≡◌, ◌≤◌, map, string_bytes, IfOk, IfErr, OnOk};
 ghost use Rattle.std.specs.Io.KnownBytes.{Appends, Keeps};
 ghost use Rattle.clap.specs.Words.{kind_of};
-ghost use Rattle.btseed.specs.Running.{IsCheckDone, IsDone, IsEnded, IsExplained, IsMakeDone, IsRun, IsShowDone, Writes, status_after};
-ghost use Rattle.btseed.specs.Statuses.{device, status_of};
+ghost use Rattle.btseed.specs.Program.{IsCheckResult, IsTaskResult, IsTaskEnd, IsExplanation, IsMakeResult, IsRun, IsShowResult, Writes};
+ghost use Rattle.btseed.specs.ProgramSteps.{status_after};
+ghost use Rattle.btseed.specs.Fault.{device, status_of};
 ghost use Rattle.btseed.specs.declared.command_line.Task.TheVariants.{Make, Show, Check};
 
 use crate::check::check;
-use crate::command_line::{Making, Source, Task, parse};
-use crate::data_file::BUFFER_LEN;
+use crate::command_line::{MakeTask, Source, Task, parse};
 use crate::fault::Fault;
 use crate::make::make;
-use crate::show::{put, show};
+use crate::reader::BUFFER_LEN;
+use crate::show::{show, write_text};
 use crate::torrent_file::load;
 use clap::Error;
 use clap::error::ErrorKind;
@@ -30,7 +31,8 @@ pub fn run<R: Files + AllocGlobal + Clone + Drop, I: Read, O: Write, E: Write>(
     writer: &mut O,
     faults: &mut E,
 ) -> u8
-    ensures answer { IsRun (map string_bytes words.now) (O.contents writer.old) (O.contents writer.new) result }
+    ensures answer { IsRun
+        (map string_bytes words.now) (O.contents writer.old) (O.contents writer.new) result }
 
     // where the words or the torrent are refused, nothing is written
     ensures refused { result ≡ 2 → Keeps (O.contents writer.old) (O.contents writer.new) }
@@ -40,7 +42,7 @@ pub fn run<R: Files + AllocGlobal + Clone + Drop, I: Read, O: Write, E: Write>(
 {
     match attempt(rt, words, writer, faults) {
         Ok(status) => status,
-        Err(fault) => tell(fault, faults),
+        Err(fault) => report_fault(fault, faults),
     }
 }
 
@@ -51,7 +53,8 @@ fn attempt<R: Files + AllocGlobal + Clone + Drop, O: Write, E: Write>(
     writer: &mut O,
     faults: &mut E,
 ) -> Result<u8, Fault>
-    ensures answer { IsRun (map string_bytes words.now) (O.contents writer.old) (O.contents writer.new) (status_after result) }
+    ensures answer { IsRun
+        (map string_bytes words.now) (O.contents writer.old) (O.contents writer.new) (status_after result) }
     ensures faultless { status_after result ≤ 1 → Keeps (E.contents faults.old) (E.contents faults.new) }
 {
     match parse(rt.alloc(), words) {
@@ -66,11 +69,12 @@ fn perform<R: Files + AllocGlobal + Clone + Drop, O: Write>(
     task: Task<'_>,
     writer: &mut O,
 ) -> Result<u8, Fault>
-    ensures done { IfOk result (Writes (IsDone task.entry) (O.contents writer.old) (O.contents writer.new)) }
-    ensures ended { IfErr result (IsEnded task.entry (O.contents writer.old) (O.contents writer.new)) }
+    ensures done { IfOk result
+        (Writes (IsTaskResult task.entry) (O.contents writer.old) (O.contents writer.new)) }
+    ensures ended { IfErr result (IsTaskEnd task.entry (O.contents writer.old) (O.contents writer.new)) }
 {
     match task {
-        Task::Make(making) => perform_make(rt, making, writer),
+        Task::Make(request) => perform_make(rt, request, writer),
         Task::Show { torrent } => perform_show(rt, torrent, writer),
         Task::Check { torrent, dir } => perform_check(rt, torrent, dir, writer),
     }
@@ -78,13 +82,15 @@ fn perform<R: Files + AllocGlobal + Clone + Drop, O: Write>(
 
 fn perform_make<R: Files + AllocGlobal + Clone + Drop, O: Write>(
     rt: &R,
-    making: Making<'_>,
+    request: MakeTask<'_>,
     writer: &mut O,
 ) -> Result<u8, Fault>
-    ensures done { IfOk result (Writes (IsMakeDone making.entry) (O.contents writer.old) (O.contents writer.new)) }
-    ensures ended { IfErr result (IsEnded (Make making.entry) (O.contents writer.old) (O.contents writer.new)) }
+    ensures done { IfOk result
+        (Writes (IsMakeResult request.entry) (O.contents writer.old) (O.contents writer.new)) }
+    ensures ended { IfErr result
+        (IsTaskEnd (Make request.entry) (O.contents writer.old) (O.contents writer.new)) }
 {
-    let infohash = make(rt, making)?;
+    let infohash = make(rt, request)?;
     let digits = hex::encode(rt.alloc(), &infohash)?;
     let line = format!(in rt.alloc(); "infohash {digits}\n")?;
     print(writer, line.as_str())?;
@@ -96,8 +102,10 @@ fn perform_show<R: Files + AllocGlobal, O: Write>(
     source: Source<'_>,
     writer: &mut O,
 ) -> Result<u8, Fault>
-    ensures done { IfOk result (Writes (IsShowDone source.entry) (O.contents writer.old) (O.contents writer.new)) }
-    ensures ended { IfErr result (IsEnded (Show source.entry) (O.contents writer.old) (O.contents writer.new)) }
+    ensures done { IfOk result
+        (Writes (IsShowResult source.entry) (O.contents writer.old) (O.contents writer.new)) }
+    ensures ended { IfErr result
+        (IsTaskEnd (Show source.entry) (O.contents writer.old) (O.contents writer.new)) }
 {
     let mut buffer = [0; BUFFER_LEN];
     let torrent = load(rt, source, &mut buffer)?;
@@ -111,8 +119,10 @@ fn perform_check<R: Files + AllocGlobal, O: Write>(
     dir: &str,
     writer: &mut O,
 ) -> Result<u8, Fault>
-    ensures done { IfOk result (Writes (IsCheckDone source.entry) (O.contents writer.old) (O.contents writer.new)) }
-    ensures ended { IfErr result (IsEnded (Check source.entry dir.entry) (O.contents writer.old) (O.contents writer.new)) }
+    ensures done { IfOk result
+        (Writes (IsCheckResult source.entry) (O.contents writer.old) (O.contents writer.new)) }
+    ensures ended { IfErr result
+        (IsTaskEnd (Check source.entry dir.entry) (O.contents writer.old) (O.contents writer.new)) }
 {
     let report = check(rt, source, dir)?;
     print(writer, report.lines.as_str())?;
@@ -121,7 +131,8 @@ fn perform_check<R: Files + AllocGlobal, O: Write>(
 
 /// Prints help, or why the words are refused.
 fn explain<O: Write, E: Write>(error: &Error, writer: &mut O, faults: &mut E) -> Result<u8, Fault>
-    ensures answer { IsExplained (kind_of error.now) (O.contents writer.old) (O.contents writer.new) (status_after result) }
+    ensures answer { IsExplanation
+        (kind_of error.now) (O.contents writer.old) (O.contents writer.new) (status_after result) }
     ensures faultless { status_after result ≤ 1 → Keeps (E.contents faults.old) (E.contents faults.new) }
 {
     if error.kind() == ErrorKind::OutOfMemory {
@@ -141,12 +152,12 @@ fn print<O: Write>(writer: &mut O, text: &str) -> Result<(), Fault>
     ensures text { OnOk result (Appends (O.contents writer.old) (O.contents writer.new) text.now) }
     ensures fault { IfErr result (λ fault. fault ≡ device) }
 {
-    put(writer, text)?;
+    write_text(writer, text)?;
     writer.flush().map_err(|_| Fault::Device)
 }
 
 /// Tells why there is no answer, and answers the status. Where it can't be told, there is the status alone.
-pub fn tell<E: Write>(fault: Fault, faults: &mut E) -> u8
+pub fn report_fault<E: Write>(fault: Fault, faults: &mut E) -> u8
     ensures { result ≡ status_of fault }
 {
     let _ = writeln!(faults, "btseed: {fault}");

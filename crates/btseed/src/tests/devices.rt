@@ -2,9 +2,9 @@
 
 use super::steps::{expect_bytes, expect_entries};
 use super::tools::{confirm, folder, path_in, put};
+use crate::atomic_file::replace_file;
 use crate::fault::Fault;
 use crate::folder::files_in;
-use crate::whole_file::write_whole;
 use bt_meta::MakeError;
 use std::alloc::{Allocator, Global};
 use std::fs::{self, File, Metadata, OpenFile, OpenOptions};
@@ -162,7 +162,7 @@ fn expect_written(
         failing,
         names: b"",
     };
-    let found = write_whole(&device, path.as_str(), b"new");
+    let found = replace_file(&device, path.as_str(), b"new");
     confirm(found == wanted, "another answer")?;
     expect_bytes(rt, top, "kept", bytes)?;
     expect_entries(rt, top, "", 1)
@@ -199,7 +199,7 @@ fn fault_of_names(rt: &HostRuntime, dir: &str, names: &[u8]) -> Option<Fault> {
 fn a_name_that_is_no_text_is_refused(rt: HostRuntime) -> Result<(), Fail> {
     let top = folder(&rt, "names")?;
     let dir = top.as_str();
-    let bad = Some(Fault::Unmade(MakeError::BadPath));
+    let bad = Some(Fault::Make(MakeError::BadPath));
     let device = Some(Fault::Device);
     let long = "n".repeat(rt.alloc(), 256)?;
     let long = format!(in rt.alloc(); "{long}\0")?;

@@ -1,6 +1,6 @@
 use Rattle.std.proofs.Common.{◌≡◌, map, rules}
 use Rattle.bt_meta.specs.Files.{file_of}
-use Rattle.btseed.proofs.Lawful.{check_fault}
+use Rattle.btseed.proofs.CheckFault.{check_fault}
 use Rattle.btseed.proofs.check.check.Goals as goal
 
 pub returns-in_err-size-clause-fault : goal.returns-in_err-size-clause-fault

@@ -1,5 +1,5 @@
 use Rattle.std.proofs.Common.{take, string_bytes}
-use Rattle.btseed.proofs.Tellings.{IsTelling}
+use Rattle.btseed.proofs.ReportLines.{IsTelling}
 use Rattle.btseed.proofs.check.check_files.Given as goal
 
 abbrev pub invariant-loop-entry : goal.invariant-loop-entry

@@ -1,7 +1,7 @@
 use Rattle.std.proofs.Common.{ap}
 use Rattle.std.proofs.lemmas.Result.{err_from_is_err_and}
 use Rattle.bt_tree.specs.Building.{Building}
-use Rattle.btseed.proofs.Findings.{root_covers, found_node, finding_told, node_lost}
+use Rattle.btseed.proofs.DataFileFinding.{root_covers, found_node, finding_told, node_lost}
 use Rattle.btseed.proofs.data_file.check_file.Goals as goal
 
 pub read_node-requires-clause-all : goal.read_node-requires-clause-all

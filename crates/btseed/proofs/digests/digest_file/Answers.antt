@@ -1,7 +1,7 @@
 use Rattle.std.proofs.Common.{ap, ◌-◌, refl, arith}
 use Rattle.bt_tree.specs.Building.{Building}
-use Rattle.btseed.proofs.Findings.{root_covers}
-use Rattle.btseed.proofs.FileDigests.{layer_inside, long_file}
+use Rattle.btseed.proofs.DataFileFinding.{root_covers}
+use Rattle.btseed.proofs.DigestFile.{layer_inside, long_file}
 use Rattle.btseed.proofs.digests.digest_file.Goals as goal
 
 pub read_node-requires-clause-all : goal.read_node-requires-clause-all

@@ -1,4 +1,4 @@
-use Rattle.btseed.proofs.Walks.{puts_none, puts_more}
+use Rattle.btseed.proofs.FolderWalk.{puts_none, puts_more}
 use Rattle.btseed.proofs.folder.push_entries.Goals as goal
 
 pub loop-name-init : goal.loop-name-init

@@ -3,7 +3,7 @@ use Rattle.std.proofs.lemmas.Nat.{pow_pos}
 use Rattle.bt_tree.specs.Blocks.{block_count}
 use Rattle.bt_tree.specs.Building.{Building}
 use Rattle.bt_tree.proofs.Shapes.{real_lt}
-use Rattle.btseed.proofs.PieceNodes.{covers, piece_covers}
+use Rattle.btseed.proofs.PiecesNode.{covers, piece_covers}
 use Rattle.btseed.proofs.pieces.read_piece.Goals as goal
 
 pub for_node-builder-requires : goal.for_node-builder-requires

@@ -1,6 +1,6 @@
 use Rattle.std.proofs.Common.{◌≡◌, rules}
 use Rattle.std.specs.Prelude.{if◌then◌else◌}
-use Rattle.btseed.proofs.Runs.{checked}
+use Rattle.btseed.proofs.ProgramRun.{checked}
 use Rattle.btseed.proofs.program.perform_check.Goals as goal
 
 pub returns-clause-done : goal.returns-clause-done
