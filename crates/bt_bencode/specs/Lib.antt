@@ -1,7 +1,10 @@
-pub mod Data
+pub mod Letters
+pub mod Value
 pub mod Spelling
-pub mod Field
-pub mod Fault
-pub mod FaultLaw
-pub mod View
-pub mod Reading
+pub mod Doc
+pub mod Error
+pub mod Number
+pub mod Reader
+pub mod ReaderSteps
+pub mod Dictionary
+pub mod Law

@@ -14,8 +14,8 @@ impl Model for Doc {
     ghost use Rattle.std.specs.Coded.{codes};
     ghost use Rattle.bt_bencode.specs.declared.value.Value.{Value as Shown};
     ghost use Rattle.bt_bencode.specs.contracts.value.Value as the_value;
-    ghost use Rattle.bt_bencode.specs.View.{data_of};
-    ghost use Rattle.bt_bencode.specs.Spelling.{IsCanonical};
+    ghost use Rattle.bt_bencode.specs.Value.{data_of};
+    ghost use Rattle.bt_bencode.specs.Doc.{IsCanonical};
 
     ghost Value = { Shown };
 
@@ -27,8 +27,8 @@ impl Model for Doc {
 }
 
 impl Doc {
-    ghost use Rattle.bt_bencode.specs.View.{data_of};
-    ghost use Rattle.bt_bencode.specs.Spelling.{IsCanonical};
+    ghost use Rattle.bt_bencode.specs.Value.{data_of};
+    ghost use Rattle.bt_bencode.specs.Doc.{IsCanonical};
 
     pub(crate) fn new(value: Value) -> Self
         requires { IsCanonical (data_of value) }

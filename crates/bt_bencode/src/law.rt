@@ -1,5 +1,4 @@
-ghost use Rattle.bt_bencode.specs.Spelling.{NoProperPrefix, BeginsOnce};
-ghost use Rattle.bt_bencode.specs.FaultLaw.{FirstFaultIsOne, FirstFaultRefuses};
+ghost use Rattle.bt_bencode.specs.Law.{NoProperPrefix, BeginsOnce, FirstFaultIsOne, FirstFaultRefuses};
 
 /// The law by which a reader knows where a value ends: no spelling is a proper prefix of another,
 /// and no two values have spellings that begin one text. It is of values whose integers have 64 bits

@@ -1,19 +1,19 @@
 //! Canonical bencoding.
 #![tactic(auto)]
 
+mod dictionary;
 mod doc;
 mod error;
 mod law;
-mod look_up;
 mod number;
 mod reader;
 mod value;
 mod writer;
 
+pub use dictionary::field;
 pub use doc::Doc;
 pub use error::BencodeError;
 pub use law::{first_fault_is_one, spellings_are_prefix_free};
-pub use look_up::field;
 pub use reader::{MAX_NESTING, parse};
 pub use value::Value;
 pub use writer::write;

@@ -1,12 +1,15 @@
 //! Numerals: runs of decimal digits, and the numbers that they write.
-ghost use Rattle.std.specs.Prelude.{◌≡◌, ◌≢◌, ◌^◌, ◌<◌, ◌≤◌, ◌↔◌, length, slice_index, slice_range, FitsSigned, IsTrue, IfOk, IfErr};
+ghost use Rattle.std.specs.Prelude.{◌≡◌, ◌≢◌, ◌^◌, ◌<◌, ◌≤◌, ◌↔◌, length, slice_index, slice_range};
+ghost use Rattle.std.specs.Prelude.{FitsSigned, IsTrue, IfOk, IfErr};
 ghost use Rattle.std.specs.Int.{w64};
 ghost use Rattle.std.specs.Option.{SomeIff};
 ghost use Rattle.std.specs.Char.{IsAsciiDigit};
 ghost use Rattle.std.specs.Str.{IsAscii};
-ghost use Rattle.std.specs.Str.Parse.{AllDigits, IsNumeral, digits_value, without_leading_sign, signed_digits_value};
-ghost use Rattle.bt_bencode.specs.Fault.{AtFault, LeadsWithZero, NumeralStops};
-ghost use Rattle.bt_bencode.specs.Reading.{FaultFrom, IsNumeralAt};
+ghost use Rattle.std.specs.Str.Parse.{AllDigits, IsNumeral, digits_value};
+ghost use Rattle.std.specs.Str.Parse.{without_leading_sign, signed_digits_value};
+ghost use Rattle.bt_bencode.specs.Error.{AtFault};
+ghost use Rattle.bt_bencode.specs.Number.{LeadsWithZero, NumeralStops};
+ghost use Rattle.bt_bencode.specs.ReaderSteps.{FaultFrom, IsNumeralAt};
 ghost use Rattle.bt_bencode.specs.declared.error.BencodeError.TheVariants.{OutOfMemory};
 
 use crate::error::BencodeError;
@@ -82,10 +85,12 @@ pub(crate) fn length_of(digits: &[u8]) -> Option<usize>
     ascii_text(digits).parse().ok()
 }
 
-/// The integer that digits, perhaps behind a sign, write; None for any other text, and where it has more than 64 bits.
+/// The integer that digits, perhaps behind a sign, write; None for any other text, and where it has
+/// more than 64 bits.
 pub(crate) fn integer_of(numeral: &[u8]) -> Option<i64>
     requires { IsAscii numeral.now }
-    ensures { SomeIff result (IsNumeral 10 (without_leading_sign numeral.now) × FitsSigned w64 (signed_digits_value 10 numeral.now)) (signed_digits_value 10 numeral.now) }
+    ensures { let number = signed_digits_value 10 numeral.now in
+        SomeIff result (IsNumeral 10 (without_leading_sign numeral.now) × FitsSigned w64 number) number }
 {
     ascii_text(numeral).parse().ok()
 }

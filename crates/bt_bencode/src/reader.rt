@@ -1,10 +1,13 @@
 //! Reading canonical bencoding from the left.
 ghost use Rattle.std.specs.Prelude.{ℕ, ◌≡◌, ◌≢◌, ◌<◌, ◌≤◌, ◌↔◌, length, slice_index, IsTrue, IfOk, IfErr};
-ghost use Rattle.bt_bencode.specs.Data.{Data};
-ghost use Rattle.bt_bencode.specs.Spelling.{spelling_of, IsCanonical};
-ghost use Rattle.bt_bencode.specs.Fault.{AtFault, EndsBefore, StringStops, Stops, IsFirstFault, IsProperSpelling, truncated, trailing};
-ghost use Rattle.bt_bencode.specs.View.{data_of, entries_of};
-ghost use Rattle.bt_bencode.specs.Reading.{FaultFrom, ReadsString, ReadsInteger, ReadsValue};
+ghost use Rattle.bt_bencode.specs.Letters.{letter_i, letter_l, letter_d};
+ghost use Rattle.bt_bencode.specs.Value.{data_of, entries_of};
+ghost use Rattle.bt_bencode.specs.Spelling.{spelling_of};
+ghost use Rattle.bt_bencode.specs.Doc.{IsCanonical};
+ghost use Rattle.bt_bencode.specs.Error.{AtFault, truncated, trailing};
+ghost use Rattle.bt_bencode.specs.Reader.{EndsBefore, StringStops, Stops};
+ghost use Rattle.bt_bencode.specs.Reader.{IsFirstFault, NoneSpells, IsValueEnd};
+ghost use Rattle.bt_bencode.specs.ReaderSteps.{FaultFrom, ReadsString, ReadsInteger, ReadsValue};
 ghost use Rattle.bt_bencode.specs.declared.error.BencodeError.TheVariants.{OutOfMemory};
 
 use crate::doc::Doc;
@@ -25,10 +28,10 @@ pub fn parse(alloc: Global, bytes: &[u8]) -> Result<Doc, BencodeError>
     ensures spelled { IfOk result (λ doc. spelling_of (data_of doc) ≡ bytes.now) }
     ensures first_fault { IfErr result (AtFault (IsFirstFault bytes.now)) }
 
-    // Want of memory aside, an error comes only where no canonical value spells the bytes.
-    ensures none_spells { IfErr result (AtFault (λ _ _. (d : Data) → IsCanonical d → spelling_of d ≢ bytes.now)) }
-    ensures truncated_at_end { IfErr result (AtFault (λ f offset. f ≡ truncated → offset ≡ length bytes.now)) }
-    ensures trailing_behind_value { IfErr result (AtFault (λ f offset. f ≡ trailing → IsProperSpelling bytes.now offset)) }
+    // Out of memory aside, an error comes only where no canonical value spells the bytes.
+    ensures none_spells { IfErr result (AtFault (λ _ _. NoneSpells bytes.now)) }
+    ensures truncated_at_end { IfErr result (AtFault (λ f at. f ≡ truncated → at ≡ length bytes.now)) }
+    ensures trailing_behind_value { IfErr result (AtFault (λ f at. f ≡ trailing → IsValueEnd bytes.now at)) }
 {
     let length = bytes.len();
     let (value, end) = value_at(alloc, bytes, 0, MAX_NESTING)?;
@@ -78,7 +81,7 @@ fn list_at(
     depth: usize,
 ) -> Result<(Value, usize), BencodeError>
     requires inside { at < length bytes.now }
-    requires first { slice_index bytes.now at ≡ 108 }
+    requires first { slice_index bytes.now at ≡ letter_l }
     ensures found { IfOk result (λ x. ReadsValue depth bytes.now at x.1 (data_of x.0)) }
     ensures fault { IfErr result (AtFault (FaultFrom (Stops depth) bytes.now at)) }
 {
@@ -104,7 +107,7 @@ fn dictionary_at(
     depth: usize,
 ) -> Result<(Value, usize), BencodeError>
     requires inside { at < length bytes.now }
-    requires first { slice_index bytes.now at ≡ 100 }
+    requires first { slice_index bytes.now at ≡ letter_d }
     ensures found { IfOk result (λ x. ReadsValue depth bytes.now at x.1 (data_of x.0)) }
     ensures fault { IfErr result (AtFault (FaultFrom (Stops depth) bytes.now at)) }
 {
@@ -145,7 +148,7 @@ fn stands_at(bytes: &[u8], at: usize, byte: u8) -> bool
 /// The integer whose `i` is at `at`, and where it ends.
 fn integer_at(bytes: &[u8], at: usize) -> Result<(i64, usize), BencodeError>
     requires inside { at < length bytes.now }
-    requires first { slice_index bytes.now at ≡ 105 }
+    requires first { slice_index bytes.now at ≡ letter_i }
     ensures found { IfOk result (λ x. ReadsInteger bytes.now at x.1 x.0) }
     ensures fault { (n : ℕ) → IfErr result (AtFault (FaultFrom (Stops n) bytes.now at)) }
     ensures memory { IfErr result (λ e. e ≢ OutOfMemory) }

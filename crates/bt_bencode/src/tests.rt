@@ -193,7 +193,7 @@ fn prints_faults(rt: HostRuntime) -> Result<(), Fail> {
 
 /// Runs to its end whichever allocation is refused: no refusal shows as a fault of the bytes.
 #[test]
-fn want_of_memory_is_told(rt: HostRuntime) {
+fn runs_out_of_memory(rt: HostRuntime) {
     let text = b"d1:ali1ei2e3:xyze1:bd0:i-3eee";
     match parse(rt.alloc(), text) {
         Err(error) => assert_eq!(rt; error, BencodeError::OutOfMemory),

@@ -1,12 +1,12 @@
 //! Writing bencoding.
 ghost use Rattle.std.specs.Prelude.{◌≡◌, ◌++◌, IfOk, OnOk};
+ghost use Rattle.bt_bencode.specs.Value.{data_of};
 ghost use Rattle.bt_bencode.specs.Spelling.{spelling_of, string_spelling};
-ghost use Rattle.bt_bencode.specs.View.{data_of};
 
 use crate::value::Value;
 use std::alloc::{AllocError, Global};
 
-/// The spelling of any value, of one that is not canonical too. The error is want of memory.
+/// The spelling of any value, of one that is not canonical too. The error is out of memory.
 pub fn write(alloc: Global, value: &Value) -> Result<Vec<u8>, AllocError>
     ensures { IfOk result (λ bytes. bytes.items ≡ spelling_of (data_of value.now)) }
 {

@@ -6,29 +6,29 @@ use Rattle.std.specs.Cmp.Lexicographic.{pointwise}
 use Rattle.std.specs.Global.{Vec}
 use Rattle.std.proofs.lemmas.List.{append-nil}
 use Rattle.std.proofs.lemmas.Bool.Decides.{nat_tests}
-use Rattle.bt_bencode.specs.Data.{Data, integer, string, list, dictionary, Entries, no_entries, entry}
-use Rattle.bt_bencode.specs.Field.{field_of, first_value_of}
-use Rattle.bt_bencode.specs.Spelling.{HasAscendingKeys, EntriesAscend}
-use Rattle.bt_bencode.specs.View.{data_of, entries_of}
-use Rattle.bt_bencode.proofs.Views.{data_of-Int, data_of-Bytes, data_of-List}
+use Rattle.bt_bencode.specs.Value.{Data, integer, string, list, dictionary, Entries, no_entries, entry}
+use Rattle.bt_bencode.specs.Dictionary.{field_of, first_value_of}
+use Rattle.bt_bencode.specs.Doc.{HasAscendingKeys, EntriesAscend}
+use Rattle.bt_bencode.specs.Value.{data_of, entries_of}
+use Rattle.bt_bencode.proofs.ValueData.{data_of-Int, data_of-Bytes, data_of-List}
 use Rattle.bt_bencode.specs.declared.value.Value.TheViews as views
 use Rattle.bt_bencode.specs.declared.value.Value.{Value, Int, Bytes}
-use Rattle.bt_meta.specs.Fields.{as_dictionary, has_key, dictionary_at, string_at, entries_in, no_dictionary}
-use Rattle.bt_meta.specs.Places.{places_below, places_among}
-use Rattle.bt_meta.specs.Faults.{is_dictionary, is_single, is_node, layers_of}
-use Rattle.bt_meta.specs.Walks.{entry_places}
+use Rattle.bt_meta.specs.Fields.{as_dictionary, has_key, dictionary_at, string_at, entries_in, no_dictionary, is_dictionary, is_single}
+use Rattle.bt_meta.specs.TreeEntries.{tree_entries_below, tree_entries_among}
+use Rattle.bt_meta.specs.Faults.{is_node, layers_of}
+use Rattle.bt_meta.specs.WalkSteps.{tree_entries_of}
 
 -- ---- entries of a file tree
 
-pub nothing_below : (path : List (List ℕ)) (d : Data) → is_dictionary d ≡ false → places_below path d ≡ []
-unfolding places_below
+pub nothing_below : (path : List (List ℕ)) (d : Data) → is_dictionary d ≡ false → tree_entries_below path d ≡ []
+unfolding tree_entries_below
 nothing_below path (integer z) e = refl
 nothing_below path (string s) e = refl
 nothing_below path (list ds) e = refl
 nothing_below path (dictionary es) e = cc
 
-pub below_entries : (path : List (List ℕ)) (d : Data) (es : Entries) → d ≡ dictionary es → places_below path d ≡ places_among path es
-unfolding places_below
+pub below_entries : (path : List (List ℕ)) (d : Data) (es : Entries) → d ≡ dictionary es → tree_entries_below path d ≡ tree_entries_among path es
+unfolding tree_entries_below
 below_entries path d es e = rw e refl
 
 pub single_entry : (es : List (Vec ℕ × Value)) → (length es == 1) ≡ is_single (dictionary (entries_of es))
@@ -36,8 +36,8 @@ single_entry [] = refl
 single_entry (e ∷ []) = refl
 single_entry (e ∷ f ∷ es) = let more : (length (e ∷ f ∷ es) == 1) ≡ false = grind (arith, nat_tests) in more
 
-pub single_below : (path : List (List ℕ)) (d : Data) → is_single d ≡ true → has_key d [] ≡ true → places_below path d ≡ []
-unfolding places_below places_among has_key
+pub single_below : (path : List (List ℕ)) (d : Data) → is_single d ≡ true → has_key d [] ≡ true → tree_entries_below path d ≡ []
+unfolding tree_entries_below tree_entries_among has_key
 single_below path (integer z) s h = cc
 single_below path (string z) s h = cc
 single_below path (list z) s h = cc
@@ -66,19 +66,19 @@ pub empty_node : (d : Data) → is_dictionary d ≡ true → has_key d [] ≡ tr
 unfolding is_node
 empty_node d e h s p = rw (e, h, s, ← p) refl
 
-pub empty_key : (path : List (List ℕ)) (key : List ℕ) (d : Data) → true ≡ (length key == 0) → entry_places path key d ≡ []
-unfolding places_among
+pub empty_key : (path : List (List ℕ)) (key : List ℕ) (d : Data) → true ≡ (length key == 0) → tree_entries_of path key d ≡ []
+unfolding tree_entries_among
 empty_key path [] d e = refl
 empty_key path (byte ∷ bytes) d e = absurd (not_empty byte bytes e)
   where
     not_empty : (byte : ℕ) (bytes : List ℕ) → true ≡ (length (byte ∷ bytes) == 0) → ⊥
     not_empty byte bytes e = grind (arith, nat_tests)
 
-pub key_places : (path : List (List ℕ)) (key : List ℕ) (d : Data) → false ≡ (length key == 0)
-    → entry_places path key d ≡ (record { path = path ++ key ∷ []; value = d }) ∷ places_below (path ++ key ∷ []) d
-unfolding places_among
-key_places path [] d e = cc
-key_places path (byte ∷ bytes) d e = let inner = path ++ (byte ∷ bytes) ∷ [] in ap (λ xs. record { path = inner; value = d } ∷ xs) (append-nil (places_below inner d))
+pub key_entries : (path : List (List ℕ)) (key : List ℕ) (d : Data) → false ≡ (length key == 0)
+    → tree_entries_of path key d ≡ (record { path = path ++ key ∷ []; value = d }) ∷ tree_entries_below (path ++ key ∷ []) d
+unfolding tree_entries_among
+key_entries path [] d e = cc
+key_entries path (byte ∷ bytes) d e = let inner = path ++ (byte ∷ bytes) ∷ [] in ap (λ xs. record { path = inner; value = d } ∷ xs) (append-nil (tree_entries_below inner d))
 
 -- ---- `piece layers`
 

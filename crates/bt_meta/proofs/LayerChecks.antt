@@ -8,15 +8,16 @@ use Rattle.std.proofs.lemmas.List.{take_more, take_more_set, drop_more, drop-set
 use Rattle.std.proofs.lemmas.List.Elements.{All-get_or}
 use Rattle.std.proofs.lemmas.Slice.Eq.{bytes_eq-Decides}
 use Rattle.sha2.specs.Sha256.{sha256}
-use Rattle.bt_bencode.specs.Data.{Data}
+use Rattle.bt_bencode.specs.Value.{Data}
 use Rattle.bt_tree.specs.Blocks.{IsFileLength, block_count}
 use Rattle.bt_tree.specs.TreeShape.{height_of, real_width, IsHeight}
-use Rattle.bt_tree.specs.Layer.{fold_of, layer_digests, HasLayerSize, IsLayer}
+use Rattle.bt_tree.specs.Layers.{fold_of, layer_digests, HasLayerSize, IsLayer}
 use Rattle.bt_meta.specs.Files.{File, file_of}
 use Rattle.bt_meta.specs.declared.torrent.FileEntry.{FileEntry}
 use Rattle.bt_meta.specs.Layers.{piece_layer_of, has_layer_size, has_root}
 use Rattle.bt_meta.specs.Faults.{Check, first_of, is_piece_length}
-use Rattle.bt_meta.specs.Reading.{Refuses, AreShort, layer_bytes_fault, layer_fault, layer_faults}
+use Rattle.bt_meta.specs.ReaderSteps.{Refuses, AreShort}
+use Rattle.bt_meta.specs.LayerSteps.{layer_bytes_fault, layer_fault, layer_faults}
 use Rattle.bt_meta.specs.declared.error.MetaError.{MetaError}
 use Rattle.bt_meta.specs.declared.error.MetaError.TheVariants.{LayerSize, LayerDiffers}
 use Rattle.bt_meta.proofs.Checks.{first_of-append, first_of-append_some}

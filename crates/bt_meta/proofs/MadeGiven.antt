@@ -9,14 +9,14 @@ use Rattle.std.proofs.lemmas.List.{append-nil}
 use Rattle.std.proofs.lemmas.List.Elements.{All-nil, All-cons, All-push, All-weaker}
 use Rattle.std.proofs.lemmas.List.Sorted.{All-permutation, length_permutation, sum_by-IsPermutation}
 use Rattle.bt_meta.specs.Faults.{first_of, fault_if}
-use Rattle.bt_meta.specs.Places.{with_earlier}
+use Rattle.bt_meta.specs.TreeEntries.{with_earlier}
 use Rattle.bt_meta.specs.Files.{piece_count}
 use Rattle.bt_meta.specs.GivenFiles.{Given, IsInTreeOrder}
-use Rattle.bt_meta.specs.FileRefusals.{file_refusal, own_refusal, layer_refusal, conflict_with, is_beyond, is_path}
-use Rattle.bt_meta.specs.declared.making.MakeError.TheVariants.{BadPath, FileLength, RootConflict, Count}
-use Rattle.bt_meta.proofs.Roots.{same_bytes_either_way}
+use Rattle.bt_meta.specs.WriterRefusals.{file_refusal, own_refusal, layer_refusal, conflict_with, is_beyond, is_path}
+use Rattle.bt_meta.specs.declared.writer.MakeError.TheVariants.{BadPath, FileLength, RootConflict, Count}
+use Rattle.bt_meta.proofs.EncodeLayers.{same_bytes_either_way}
 use Rattle.bt_meta.proofs.Checks.{head_none, tail_none, not_faulty, holds_unless}
-use Rattle.bt_meta.proofs.Apart.{short_from}
+use Rattle.bt_meta.proofs.MakeNeighbours.{short_from}
 
 -- a file that is lawful by itself
 pub record IsLawful (piece_length : ℕ) (f : Given) : Type 0 where

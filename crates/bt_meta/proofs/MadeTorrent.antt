@@ -10,26 +10,27 @@ use Rattle.std.proofs.lemmas.List.{map_push, length-map}
 use Rattle.std.proofs.lemmas.List.Sorted.{All-permutation, length_permutation}
 use Rattle.std.proofs.lemmas.List.Elements.{All-head, All-tail, All-weaker}
 use Rattle.std.proofs.lemmas.Slice.Eq.{bytes_eq-Decides}
-use Rattle.bt_bencode.specs.Data.{string, dictionary, Entries}
+use Rattle.bt_bencode.specs.Value.{string, dictionary, Entries}
 use Rattle.bt_bencode.specs.Spelling.{spelling_of}
 use Rattle.bt_meta.specs.Fields.{integer_at, string_at, dictionary_at, has_key, as_string}
-use Rattle.bt_meta.specs.Places.{places_below, with_earlier}
+use Rattle.bt_meta.specs.TreeEntries.{tree_entries_below, with_earlier}
 use Rattle.bt_meta.specs.Files.{is_file, length_of, pieces_of, piece_count, layer_at, file_at, files_of}
 use Rattle.bt_meta.specs.Layers.{has_layer_size, has_root}
 use Rattle.bt_meta.specs.Faults.{fault_if, first_of, is_piece_length, head_checks, piece_length_of, tree_of, tree_checks, layer_check, layer_checks, info_of, layers_of, first_fault}
 use Rattle.bt_meta.specs.Torrent.{metainfo_of, IsTorrent}
-use Rattle.bt_meta.specs.declared.making.Made.{Made}
-use Rattle.bt_meta.specs.declared.making.MakeError.TheVariants.{LayerSize as layer_size, LayerDiffers as layer_differs}
-use Rattle.bt_meta.specs.GivenFiles.{Given, given_of, HasRoot, IsInTreeOrder, IsParted}
-use Rattle.bt_meta.specs.FileRefusals.{file_refusal, layer_refusal}
-use Rattle.bt_meta.specs.Making.{first_layer, AreLayersOf, tree_made, info_made, value_made, file_made, torrent_made}
-use Rattle.bt_meta.specs.MakingSteps.{AreNamed}
+use Rattle.bt_meta.specs.declared.writer.Made.{Made}
+use Rattle.bt_meta.specs.declared.writer.MakeError.TheVariants.{LayerSize as layer_size, LayerDiffers as layer_differs}
+use Rattle.bt_meta.specs.GivenFiles.{Given, given_of, HasRoot, IsInTreeOrder, HaveTreePaths}
+use Rattle.bt_meta.specs.WriterRefusals.{file_refusal, layer_refusal}
+use Rattle.bt_meta.specs.Encode.{first_layer, AreLayersOf, tree_made, info_made, value_made}
+use Rattle.bt_meta.specs.Writer.{file_made, torrent_made}
+use Rattle.bt_meta.specs.EncodeSteps.{AreNonEmpty}
 use Rattle.bt_meta.proofs.Checks.{skips, first_of-append, head_none, tail_none, holds_unless}
-use Rattle.bt_meta.proofs.Apart.{ordered_named}
-use Rattle.bt_meta.proofs.MadeValues.{canonical_made}
+use Rattle.bt_meta.proofs.MakeNeighbours.{ordered_named}
+use Rattle.bt_meta.proofs.MadeCanonical.{canonical_made}
 use Rattle.bt_meta.proofs.MadeGiven.{clash, AreLawful, IsLawful, lawful_ordered}
-use Rattle.bt_meta.proofs.MadePlaces.{All-back, second, value_is_file}
-use Rattle.bt_meta.proofs.MadeTree.{place_made, length_of_made, root_of_made, IsTreeOf, tree_is}
+use Rattle.bt_meta.proofs.MadeEntries.{All-back, second, value_is_file}
+use Rattle.bt_meta.proofs.MadeTree.{entry_made, length_of_made, root_of_made, IsTreeOf, tree_is}
 use Rattle.bt_meta.proofs.MadeChecks.{tree_passes, count_made}
 
 -- ---- the first file of a root
@@ -124,7 +125,7 @@ layer_there piece_length before f rest h long =
     }
 
 layer_passes : (piece_length : ℕ) (layers : Entries) (before : List Given) (f : Given) (rest : List Given) → AreLawful piece_length (before ++ f ∷ rest) → AreLayersOf piece_length (before ++ f ∷ rest) layers
-    → layer_check piece_length (dictionary layers) (place_made f) ≡ None
+    → layer_check piece_length (dictionary layers) (entry_made f) ≡ None
 layer_passes piece_length layers before f rest h layered = elim (cases_Bool (nat_lt piece_length f.length)) [
   | inl long ↦
       let one = layer_there piece_length before f rest h long in
@@ -135,11 +136,11 @@ layer_passes piece_length layers before f rest h layered = elim (cases_Bool (nat
 ]
 
 layers_pass : (piece_length : ℕ) (layers : Entries) (all before files : List Given) → before ++ files ≡ all → AreLawful piece_length all → AreLayersOf piece_length all layers
-    → first_of (map (layer_check piece_length (dictionary layers)) (map place_made files)) ≡ None
+    → first_of (map (layer_check piece_length (dictionary layers)) (map entry_made files)) ≡ None
 layers_pass piece_length layers all before [] e h layered = refl
 layers_pass piece_length layers all before (f ∷ files) e h layered =
-    let rest = map (layer_check piece_length (dictionary layers)) (map place_made files) in
-    skips (layer_check piece_length (dictionary layers) (place_made f)) rest (layer_passes piece_length layers before f files (rw e h) (rw e layered))
+    let rest = map (layer_check piece_length (dictionary layers)) (map entry_made files) in
+    skips (layer_check piece_length (dictionary layers) (entry_made f)) rest (layer_passes piece_length layers before f files (rw e h) (rw e layered))
     ∙ layers_pass piece_length layers all (before ++ f ∷ []) files (append_assoc before (f ∷ []) files ∙ e) h layered
 
 -- ---- the parts of the value
@@ -176,54 +177,54 @@ head_passes name piece_length files lawful = rw (length_is name piece_length fil
 
 made_passes : (name : List ℕ) (piece_length : ℕ) (files : List Given) (layers : Entries) → is_piece_length piece_length ≡ true → AreLawful piece_length files → AreLayersOf piece_length files layers
     → IsTreeOf files (tree_made files) → length files ≢ 0 → first_fault (value_made name piece_length files layers) ≡ None
-unfolding first_fault layer_checks places_below
+unfolding first_fault layer_checks tree_entries_below
 made_passes name piece_length files layers lawful h layered tree some =
     let info = info_made name piece_length files in
     let head = head_passes name piece_length files lawful in
     let body = tree_passes piece_length files (tree_made files) tree h.alike h.few h.pieces some in
     let last = layers_pass piece_length layers files [] files refl h layered in
     let checks = layer_checks piece_length (dictionary layers) (dictionary (tree_made files)) in
-    let behind : first_of checks ≡ None = rw (tree.places) last in
+    let behind : first_of checks ≡ None = rw (tree.tree_entries) last in
     rw (info_there name piece_length files layers, info_is name piece_length files layers, layers_are name piece_length files layers, length_is name piece_length files, tree_there name piece_length files)
     (first_of-append (head_checks info ++ tree_checks piece_length (dictionary (tree_made files))) checks
     (first_of-append (head_checks info) (tree_checks piece_length (dictionary (tree_made files))) head ∙ body) ∙ behind)
 
 -- ---- what is said
 
-all_files : (files : List Given) → filter is_file (map place_made files) ≡ map place_made files
+all_files : (files : List Given) → filter is_file (map entry_made files) ≡ map entry_made files
 all_files [] = refl
-all_files (f ∷ files) = rw (value_is_file f.path _) (ap (λ places. place_made f ∷ places) (all_files files))
+all_files (f ∷ files) = rw (value_is_file f.path _) (ap (λ tree_entries. entry_made f ∷ tree_entries) (all_files files))
 
 layer_said : (piece_length : ℕ) (layers : Entries) (files : List Given) (f : Given) → AreLayersOf piece_length files layers
-    → layer_at piece_length (dictionary layers) (place_made f) ≡ (if nat_lt piece_length f.length then unwrap_or (first_layer piece_length files f.root) [] else [])
+    → layer_at piece_length (dictionary layers) (entry_made f) ≡ (if nat_lt piece_length f.length then unwrap_or (first_layer piece_length files f.root) [] else [])
 layer_said piece_length layers files f layered = elim (cases_Bool (nat_lt piece_length f.length)) [
   | inl long ↦ rw (length_of_made f, root_of_made f, some_bytes piece_length f.length long, long, strings_are piece_length files layers layered f.root) refl
   | inr short ↦ rw (length_of_made f, short) refl
 ]
 
 file_said : (piece_length : ℕ) (layers : Entries) (files before : List Given) (f : Given) → AreLayersOf piece_length files layers
-    → file_at piece_length (dictionary layers) (map place_made before) (place_made f) ≡ file_made piece_length files before f
+    → file_at piece_length (dictionary layers) (map entry_made before) (entry_made f) ≡ file_made piece_length files before f
 file_said piece_length layers files before f layered =
     let long = length_of_made f in
     let root = root_of_made f in
-    let pieces : pieces_of piece_length (map place_made before) ≡ sum_by (λ g. piece_count piece_length g.length) before =
+    let pieces : pieces_of piece_length (map entry_made before) ≡ sum_by (λ g. piece_count piece_length g.length) before =
     ap (sum_by (λ p. piece_count piece_length (length_of p))) (all_files before) ∙ count_made piece_length before in
     let layer = layer_said piece_length layers files f layered in
     cc
 
 files_said : (piece_length : ℕ) (layers : Entries) (all before files : List Given) → AreLayersOf piece_length all layers
-    → with_earlier (file_at piece_length (dictionary layers)) (map place_made before) (map place_made files) ≡ with_earlier (file_made piece_length all) before files
+    → with_earlier (file_at piece_length (dictionary layers)) (map entry_made before) (map entry_made files) ≡ with_earlier (file_made piece_length all) before files
 files_said piece_length layers all before [] layered = refl
 files_said piece_length layers all before (f ∷ files) layered =
     let at = file_at piece_length (dictionary layers) in
-    ap (λ x. x ∷ with_earlier at (map place_made before ++ place_made f ∷ []) (map place_made files)) (file_said piece_length layers all before f layered)
-    ∙ ap (λ places. file_made piece_length all before f ∷ with_earlier at places (map place_made files)) (sym (map_push place_made before f))
+    ap (λ x. x ∷ with_earlier at (map entry_made before ++ entry_made f ∷ []) (map entry_made files)) (file_said piece_length layers all before f layered)
+    ∙ ap (λ tree_entries. file_made piece_length all before f ∷ with_earlier at tree_entries (map entry_made files)) (sym (map_push entry_made before f))
     ∙ ap (λ xs. file_made piece_length all before f ∷ xs) (files_said piece_length layers all (before ++ f ∷ []) files layered)
 
 files_back : (piece_length : ℕ) (layers : Entries) (files : List Given) → AreLayersOf piece_length files layers → IsTreeOf files (tree_made files)
     → files_of piece_length (dictionary layers) (dictionary (tree_made files)) ≡ with_earlier (file_made piece_length files) [] files
-unfolding files_of places_below
-files_back piece_length layers files layered tree = ap (with_earlier (file_at piece_length (dictionary layers)) []) tree.places ∙ files_said piece_length layers files [] files layered
+unfolding files_of tree_entries_below
+files_back piece_length layers files layered tree = ap (with_earlier (file_at piece_length (dictionary layers)) []) tree.tree_entries ∙ files_said piece_length layers files [] files layered
 
 said : (name : List ℕ) (piece_length : ℕ) (files : List Given) (layers : Entries) → AreLayersOf piece_length files layers → IsTreeOf files (tree_made files)
     → torrent_made name piece_length files ≡ metainfo_of (info_of (value_made name piece_length files layers)) (layers_of (value_made name piece_length files layers))
@@ -240,15 +241,15 @@ said name piece_length files layers layered tree =
 
 -- ---- the torrent
 
-pub torrent_is : (name : List ℕ) (piece_length : ℕ) (files : List Given) (layers : Entries) (bytes : List ℕ) → is_piece_length piece_length ≡ true → IsParted files → All (λ f. AreNamed f.path) files
+pub torrent_is : (name : List ℕ) (piece_length : ℕ) (files : List Given) (layers : Entries) (bytes : List ℕ) → is_piece_length piece_length ≡ true → HaveTreePaths files → All (λ f. AreNonEmpty f.path) files
     → AreLawful piece_length files → All HasRoot files → length files ≢ 0 → AreLayersOf piece_length files layers → length bytes ≤ 2 ^ 27
     → bytes ≡ spelling_of (value_made name piece_length files layers) → IsTorrent bytes (torrent_made name piece_length files)
-torrent_is name piece_length files layers bytes lawful parted named h rooted some layered small spelled =
-    let tree = tree_is piece_length files parted named h.each rooted in
+torrent_is name piece_length files layers bytes lawful tree_paths named h rooted some layered small spelled =
+    let tree = tree_is piece_length files tree_paths named h.each rooted in
     record {
       value = value_made name piece_length files layers;
       small = small;
-      canonical = canonical_made name piece_length files layers lawful parted named (All-weaker (IsLawful piece_length) (λ f. length f.path ≤ 64) (λ f x. x.shallow) files h.each)
+      canonical = canonical_made name piece_length files layers lawful tree_paths named (All-weaker (IsLawful piece_length) (λ f. length f.path ≤ 64) (λ f x. x.shallow) files h.each)
           (All-weaker (IsLawful piece_length) (λ f. f.length ≤ 2 ^ 40) (λ f x. x.short) files h.each) layered;
       spelled = sym spelled;
       faultless = made_passes name piece_length files layers lawful h layered tree some;
@@ -256,11 +257,11 @@ torrent_is name piece_length files layers bytes lawful parted named h rooted som
     }
 
 pub torrent_of_given : (name : List ℕ) (piece_length : ℕ) (files : List Made) (ordered : List Given) (layers : Entries) (bytes : List ℕ) → is_piece_length piece_length ≡ true → false ≡ (length files == 0)
-    → first_of (with_earlier (file_refusal piece_length) [] (map given_of files)) ≡ None → All HasRoot (map given_of files) → IsInTreeOrder (map given_of files) ordered → IsParted ordered
+    → first_of (with_earlier (file_refusal piece_length) [] (map given_of files)) ≡ None → All HasRoot (map given_of files) → IsInTreeOrder (map given_of files) ordered → HaveTreePaths ordered
     → AreLayersOf piece_length ordered layers → length bytes ≤ 2 ^ 27 → bytes ≡ spelling_of (value_made name piece_length ordered layers) → IsTorrent bytes (torrent_made name piece_length ordered)
-torrent_of_given name piece_length files ordered layers bytes lawful some none rooted order parted layered small spelled =
+torrent_of_given name piece_length files ordered layers bytes lawful some none rooted order tree_paths layered small spelled =
     let given = map given_of files in
     let more : length files ≢ 0 = grind (arith, nat_tests) in
     let as_many : length ordered ≡ length files = length_permutation given ordered order.same ∙ length-map files given_of in
-    torrent_is name piece_length ordered layers bytes lawful parted (ordered_named piece_length given ordered none order) (lawful_ordered piece_length given ordered none order)
+    torrent_is name piece_length ordered layers bytes lawful tree_paths (ordered_named piece_length given ordered none order) (lawful_ordered piece_length given ordered none order)
     (All-permutation HasRoot given ordered order.same rooted) (rw as_many more) layered small spelled

@@ -6,20 +6,20 @@ use Rattle.std.proofs.lemmas.Bool.{cases_Bool}
 use Rattle.std.proofs.lemmas.Bool.Decides.{nat_tests}
 use Rattle.std.proofs.lemmas.List.{take_more, take_all, map_push, get_or_default}
 use Rattle.std.proofs.lemmas.List.Elements.{All-nil, All-get_or}
-use Rattle.bt_bencode.specs.Data.{dictionary, Entries, no_entries, entry}
-use Rattle.bt_bencode.specs.Field.{first_value_of}
+use Rattle.bt_bencode.specs.Value.{dictionary, Entries, no_entries, entry}
+use Rattle.bt_bencode.specs.Dictionary.{first_value_of}
 use Rattle.bt_meta.specs.Fields.{integer_at, string_at, has_key}
-use Rattle.bt_meta.specs.Places.{Place, places_among}
+use Rattle.bt_meta.specs.TreeEntries.{TreeEntry, tree_entries_among}
 use Rattle.bt_meta.specs.Files.{is_file, length_in, root_in, length_of, root_of}
 use Rattle.bt_meta.specs.Faults.{first_of, has_lawful_length, has_lawful_root}
-use Rattle.bt_meta.specs.Walks.{property_checks}
-use Rattle.bt_meta.specs.GivenFiles.{Given, HasRoot, IsParted}
-use Rattle.bt_meta.specs.FileRefusals.{is_path, is_element}
-use Rattle.bt_meta.specs.Making.{with_file, properties_made, tree_made}
-use Rattle.bt_meta.specs.MakingSteps.{AreNamed, IsBehind}
-use Rattle.bt_meta.proofs.Parted.{IsGrown, grown_begun, grown_more, made_more}
+use Rattle.bt_meta.specs.PropertySteps.{property_checks}
+use Rattle.bt_meta.specs.GivenFiles.{Given, HasRoot, HaveTreePaths}
+use Rattle.bt_meta.specs.WriterRefusals.{is_path, is_element}
+use Rattle.bt_meta.specs.Encode.{with_file, properties_made, tree_made}
+use Rattle.bt_meta.specs.EncodeSteps.{AreNonEmpty, ComesAfter}
+use Rattle.bt_meta.proofs.EncodeTree.{IsGrown, grown_begun, grown_more, made_more}
 use Rattle.bt_meta.proofs.MadeGiven.{IsLawful}
-use Rattle.bt_meta.proofs.MadePlaces.{IsGood, IsPut, put_in, second, properties_there}
+use Rattle.bt_meta.proofs.MadeEntries.{IsGood, IsPut, put_in, second, properties_there}
 
 -- ---- the properties of a file
 
@@ -57,41 +57,41 @@ lawful_root f long = rw (length_made f, root_made f) (by_test (f.length == 0))
 pub properties_pass : (f : Given) → f.length ≤ 2 ^ 40 → length f.root ≡ 32 → first_of (property_checks (properties_made f)) ≡ None
 properties_pass f short long = rw (no_symlink f, lawful_length f short, lawful_root f long) refl
 
--- ---- its place
+-- ---- its entry
 
-abbrev pub place_made : Given → Place
-place_made f = record { path = f.path; value = dictionary (entry [] (properties_made f) no_entries) }
+abbrev pub entry_made : Given → TreeEntry
+entry_made f = record { path = f.path; value = dictionary (entry [] (properties_made f) no_entries) }
 
-pub length_of_made : (f : Given) → length_of (place_made f) ≡ f.length
+pub length_of_made : (f : Given) → length_of (entry_made f) ≡ f.length
 length_of_made f = ap length_in (properties_there f.path _) ∙ length_made f
 
-pub root_of_made : (f : Given) → root_of (place_made f) ≡ (if f.length == 0 then replicate 32 0 else f.root)
+pub root_of_made : (f : Given) → root_of (entry_made f) ≡ (if f.length == 0 then replicate 32 0 else f.root)
 root_of_made f = ap root_in (properties_there f.path _) ∙ root_made f
 
 -- ---- the tree
 
 -- these files are in it, in their order, and nothing in it is refused by itself
 pub record IsTreeOf (files : List Given) (tree : Entries) : Type 0 where
-  pub good : All IsGood (places_among [] tree)
-  pub places : filter is_file (places_among [] tree) ≡ map place_made files
+  pub good : All IsGood (tree_entries_among [] tree)
+  pub tree_entries : filter is_file (tree_entries_among [] tree) ≡ map entry_made files
   pub nameless : first_value_of tree [] ≡ None
 
 tree_begun : IsTreeOf [] no_entries
-unfolding places_among
-tree_begun = record { good = All-nil IsGood; places = refl; nameless = refl }
+unfolding tree_entries_among
+tree_begun = record { good = All-nil IsGood; tree_entries = refl; nameless = refl }
 
-put_path : (path : List (List ℕ)) (properties es : Entries) → is_path path ≡ true → length path ≤ 64 → first_of (property_checks (dictionary properties)) ≡ None → IsBehind path es
+put_path : (path : List (List ℕ)) (properties es : Entries) → is_path path ≡ true → length path ≤ 64 → first_of (property_checks (dictionary properties)) ≡ None → ComesAfter path es
     → IsPut [] path properties es (with_file path (dictionary properties) es)
 put_path [] properties es lawful shallow faultless behind = cc
 put_path (name ∷ path) properties es lawful shallow faultless behind = put_in [] name path properties es (second (not (length (name ∷ path) == 0)) (list_all is_element (name ∷ path)) lawful) shallow faultless behind
 
-tree_more : (piece_length : ℕ) (files : List Given) (f : Given) (tree : Entries) → IsLawful piece_length f → HasRoot f → IsBehind f.path tree → IsTreeOf files tree
+tree_more : (piece_length : ℕ) (files : List Given) (f : Given) (tree : Entries) → IsLawful piece_length f → HasRoot f → ComesAfter f.path tree → IsTreeOf files tree
     → IsTreeOf (files ++ f ∷ []) (with_file f.path (properties_made f) tree)
 tree_more piece_length files f tree lawful rooted behind h =
     let put = put_path f.path _ tree lawful.path lawful.shallow (properties_pass f lawful.short rooted) behind in
     record {
       good = put.good h.good;
-      places = put.files ∙ ap (λ places. places ++ place_made f ∷ []) h.places ∙ sym (map_push place_made files f);
+      tree_entries = put.files ∙ ap (λ tree_entries. tree_entries ++ entry_made f ∷ []) h.tree_entries ∙ sym (map_push entry_made files f);
       nameless = put.nameless;
     }
 
@@ -100,25 +100,25 @@ record IsTreeTo (files : List Given) (i : ℕ) : Type 0 where
   grown : IsGrown files i (tree_made (take i files))
   tree : IsTreeOf (take i files) (tree_made (take i files))
 
-tree_to : (piece_length : ℕ) (files : List Given) (d : Given) → IsParted files → All (λ f. AreNamed f.path) files → All (IsLawful piece_length) files → All HasRoot files → (i : ℕ) → i ≤ length files → IsTreeTo files i
+tree_to : (piece_length : ℕ) (files : List Given) (d : Given) → HaveTreePaths files → All (λ f. AreNonEmpty f.path) files → All (IsLawful piece_length) files → All HasRoot files → (i : ℕ) → i ≤ length files → IsTreeTo files i
 unfolding tree_made
-tree_to piece_length files d parted named lawful rooted zero within = record { grown = grown_begun files; tree = tree_begun }
-tree_to piece_length files d parted named lawful rooted (suc i) within =
-    let before = tree_to piece_length files d parted named lawful rooted i (omega arith) in
+tree_to piece_length files d tree_paths named lawful rooted zero within = record { grown = grown_begun files; tree = tree_begun }
+tree_to piece_length files d tree_paths named lawful rooted (suc i) within =
+    let before = tree_to piece_length files d tree_paths named lawful rooted i (omega arith) in
     let f = get_or files i d in
     let lt : i < length files = omega arith in
     let is : f ≡ get_or files i f = sym (get_or_default files i f d lt) in
     let next : tree_made (take (i + 1) files) ≡ with_file f.path (properties_made f) (tree_made (take i files)) = made_more files i f lt is in
     let more : take (i + 1) files ≡ take i files ++ f ∷ [] = take_more files i d lt in
-    let grown : IsGrown files (i + 1) (tree_made (take (i + 1) files)) = rw next (grown_more files i f (tree_made (take i files)) parted named lt is before.grown) in
+    let grown : IsGrown files (i + 1) (tree_made (take (i + 1) files)) = rw next (grown_more files i f (tree_made (take i files)) tree_paths named lt is before.grown) in
     let tree : IsTreeOf (take (i + 1) files) (tree_made (take (i + 1) files)) =
     rw (next, more) (tree_more piece_length (take i files) f (tree_made (take i files)) (All-get_or (IsLawful piece_length) files i d lt lawful) (All-get_or HasRoot files i d lt rooted) (before.grown.behind d lt) before.tree) in
     let here : IsTreeTo files (i + 1) = record { grown = grown; tree = tree } in
     let next_is : i + 1 ≡ suc i = omega arith in
     subst (λ n. IsTreeTo files n) next_is here
 
-pub tree_is : (piece_length : ℕ) (files : List Given) → IsParted files → All (λ f. AreNamed f.path) files → All (IsLawful piece_length) files → All HasRoot files → IsTreeOf files (tree_made files)
-tree_is piece_length files parted named lawful rooted =
+pub tree_is : (piece_length : ℕ) (files : List Given) → HaveTreePaths files → All (λ f. AreNonEmpty f.path) files → All (IsLawful piece_length) files → All HasRoot files → IsTreeOf files (tree_made files)
+tree_is piece_length files tree_paths named lawful rooted =
     let d : Given = record { path = []; length = 0; root = []; layer = [] } in
     let n = length files in
-    subst (λ fs. IsTreeOf fs (tree_made fs)) (take_all n files (omega arith)) (tree_to piece_length files d parted named lawful rooted n (omega arith)).tree
+    subst (λ fs. IsTreeOf fs (tree_made fs)) (take_all n files (omega arith)) (tree_to piece_length files d tree_paths named lawful rooted n (omega arith)).tree

@@ -1,18 +1,20 @@
 -- Which faults a torrent has, in the order in which they are looked for.
-use Rattle.std.specs.Prelude.{ℕ, ℤ, ◌^◌, Bool, true, false, not, ◌&&◌, ◌||◌, ◌==◌, List, [], ◌∷◌, ◌++◌, length, map, filter, codes, Option, None, Some, is_some, is_none, unwrap_or, nat_eq, nat_lt, nat_le, if◌then◌else◌}
+use Rattle.std.specs.Prelude.{ℕ, ℤ, Bool, false, not, ◌&&◌, ◌||◌, ◌==◌, List, [], ◌∷◌, ◌++◌, length, map, filter, codes, Option, None, Some, is_some, is_none, unwrap_or, nat_eq, nat_lt, nat_le, if◌then◌else◌}
 use Rattle.std.specs.Option.{option_map_or}
 use Rattle.std.specs.List.{list_any, last_or}
 use Rattle.std.specs.Int.{is_power_of_two}
 use Rattle.std.specs.Str.{is_utf8}
 use Rattle.std.specs.Cmp.Lexicographic.{pointwise}
-use Rattle.bt_bencode.specs.Data.{Data, integer, string, list, dictionary, no_entries, entry}
-use Rattle.bt_bencode.specs.Field.{field_of}
-use Rattle.bt_meta.specs.Fields.{integer_at, natural_at, string_at, dictionary_at, has_key, as_natural, no_dictionary}
-use Rattle.bt_meta.specs.Places.{Place, places_below, with_earlier}
+use Rattle.bt_bencode.specs.Value.{Data}
+use Rattle.bt_bencode.specs.Dictionary.{field_of}
+use Rattle.bt_tree.specs.Limits.{max_file_length, min_piece_length, max_piece_length}
+use Rattle.bt_meta.specs.Fields.{integer_at, natural_at, string_at, dictionary_at, has_key, as_natural, no_dictionary, is_dictionary, is_single}
+use Rattle.bt_meta.specs.TreeEntries.{TreeEntry, tree_entries_below, with_earlier}
 use Rattle.bt_meta.specs.Files.{is_file, properties_of, length_in, root_in, length_of, root_of, pieces_of, layer_for}
 use Rattle.bt_meta.specs.Layers.{has_layer_size, has_root}
 use Rattle.bt_meta.specs.declared.error.MetaError.{MetaError}
 use Rattle.bt_meta.specs.declared.error.MetaError.TheVariants.{NoInfo, NotV2, Version, Hybrid, NoName, PieceLength, Tree, BadPath, Symlink, FileLength, BadRoot, RootConflict, TooMany, LayerMissing, LayerSize, LayerDiffers}
+use Rattle.bt_meta.specs.Limits.{max_path_length, max_file_count, max_piece_count}
 
 -- A check answers a fault, or nothing.
 abbrev pub Check : Type 0
@@ -29,20 +31,6 @@ first_of (Some fault ∷ checks) = Some fault
 
 -- ---- the entries of the file tree
 
-abbrev pub is_single : Data → Bool
-is_single (integer z) = false
-is_single (string s) = false
-is_single (list ds) = false
-is_single (dictionary no_entries) = false
-is_single (dictionary (entry key d no_entries)) = true
-is_single (dictionary (entry key d (entry other e es))) = false
-
-abbrev pub is_dictionary : Data → Bool
-is_dictionary (integer z) = false
-is_dictionary (string s) = false
-is_dictionary (list ds) = false
-is_dictionary (dictionary es) = true
-
 -- a folder, which has no empty key, or a file, which has nothing but the empty key, with a dictionary
 unfoldable pub is_node : Data → Bool
 is_node d = is_dictionary d && (not (has_key d []) || (is_single d && is_some (dictionary_at d [])))
@@ -51,32 +39,43 @@ is_node d = is_dictionary d && (not (has_key d []) || (is_single d && is_some (d
 abbrev pub is_dots : List ℕ → Bool
 is_dots element = pointwise nat_eq element (codes ".") || pointwise nat_eq element (codes "..")
 
+-- the letter `/`
+abbrev pub slash : ℕ
+slash = 47
+
 -- neither `.` nor `..`, with no `/` and no zero byte, and UTF-8
 unfoldable pub is_path_element : List ℕ → Bool
-is_path_element element = not (is_dots element || list_any (λ b. b == 47) element || list_any (λ b. b == 0) element) && is_utf8 element
+is_path_element element =
+    not (is_dots element || list_any (λ b. b == slash) element || list_any (λ b. b == 0) element)
+    && is_utf8 element
 
-abbrev pub has_lawful_name : Place → Bool
+abbrev pub has_lawful_name : TreeEntry → Bool
 has_lawful_name p = is_path_element (unwrap_or (last_or None p.path) [])
 
--- a file has 0 to 2 ^ 40 bytes
+-- a file has a length, and is not too long
 unfoldable pub has_lawful_length : Data → Bool
-has_lawful_length properties = option_map_or (λ n. nat_le n (2 ^ 40)) (natural_at properties (codes "length")) false
+has_lawful_length properties =
+    option_map_or (λ n. nat_le n max_file_length) (natural_at properties (codes "length")) false
 
 -- one that is not empty has a root of 32 bytes
 unfoldable pub has_lawful_root : Data → Bool
 has_lawful_root properties = length_in properties == 0 || length (root_in properties) == 32
 
 -- both are files that are not empty, with one root and two lengths
-abbrev pub conflict : Place → Place → Bool
-conflict p q = is_file q && not (length_of q == 0) && pointwise nat_eq (root_of q) (root_of p) && not (length_of q == length_of p)
+abbrev pub conflict : TreeEntry → TreeEntry → Bool
+conflict p q =
+    is_file q && not (length_of q == 0)
+    && pointwise nat_eq (root_of q) (root_of p) && not (length_of q == length_of p)
 
--- more than 64 elements in the path; or more than 65,536 files or 2 ^ 21 pieces with this file
-abbrev pub is_too_many : ℕ → List Place → Place → Bool
+-- too many elements in the path; or too many files or pieces with this file
+abbrev pub is_too_many : ℕ → List TreeEntry → TreeEntry → Bool
 is_too_many piece_length before p =
-    let places = before ++ p ∷ [] in
-    nat_lt 64 (length p.path) || (is_file p && (nat_lt 65536 (length (filter is_file places)) || nat_lt (2 ^ 21) (pieces_of piece_length places)))
+    let entries = before ++ p ∷ [] in
+    nat_lt max_path_length (length p.path) || (is_file p && (
+    nat_lt max_file_count (length (filter is_file entries))
+    || nat_lt max_piece_count (pieces_of piece_length entries)))
 
-abbrev pub file_checks : List Place → Place → List Check
+abbrev pub file_checks : List TreeEntry → TreeEntry → List Check
 file_checks before p =
     fault_if (has_key (properties_of p) (codes "symlink path")) Symlink
     ∷ fault_if (not (has_lawful_length (properties_of p))) FileLength
@@ -84,7 +83,7 @@ file_checks before p =
     ∷ fault_if (not (length_of p == 0) && list_any (conflict p) before) RootConflict
     ∷ []
 
-abbrev pub entry_check : ℕ → List Place → Place → Check
+abbrev pub entry_check : ℕ → List TreeEntry → TreeEntry → Check
 entry_check piece_length before p = first_of (
     fault_if (not (is_node p.value)) Tree
     ∷ fault_if (not (has_lawful_name p)) BadPath
@@ -96,22 +95,24 @@ entry_check piece_length before p = first_of (
 unfoldable pub tree_checks : ℕ → Data → List Check
 tree_checks piece_length tree =
     fault_if (has_key tree []) Tree
-    ∷ with_earlier (entry_check piece_length) [] (places_below [] tree)
-    ++ fault_if (not (list_any is_file (places_below [] tree))) Tree ∷ []
+    ∷ with_earlier (entry_check piece_length) [] (tree_entries_below [] tree)
+    ++ fault_if (not (list_any is_file (tree_entries_below [] tree))) Tree ∷ []
 
 -- ---- info
 
 abbrev pub version_check : Option ℤ → Check
 version_check None = Some NotV2
-version_check (Some version) = if option_map_or (λ n. n == 2) (as_natural version) false then None else Some (Version version)
+version_check (Some version) =
+    if option_map_or (λ n. n == 2) (as_natural version) false then None else Some (Version version)
 
 -- what stands in the `info` of a v1 torrent (BEP 3)
 abbrev pub is_hybrid : Data → Bool
-is_hybrid info = has_key info (codes "pieces") || has_key info (codes "length") || has_key info (codes "files")
+is_hybrid info =
+    has_key info (codes "pieces") || has_key info (codes "length") || has_key info (codes "files")
 
--- a power of two from 2 ^ 14 (BEP 52) to 2 ^ 28
+-- a power of two (BEP 52) between the limits
 abbrev pub is_piece_length : ℕ → Bool
-is_piece_length n = is_power_of_two n && nat_le (2 ^ 14) n && nat_le n (2 ^ 28)
+is_piece_length n = is_power_of_two n && nat_le min_piece_length n && nat_le n max_piece_length
 
 unfoldable pub piece_length_of : Data → ℕ
 piece_length_of info = unwrap_or (natural_at info (codes "piece length")) 0
@@ -147,12 +148,13 @@ layer_check_for piece_length layers bytes root =
     fault_if (is_none (string_at layers root)) LayerMissing
     ∷ layer_bytes_checks piece_length bytes root (layer_for piece_length layers bytes root)) else None
 
--- what is wrong with that of a place
-abbrev pub layer_check : ℕ → Data → Place → Check
+-- what is wrong with that of an entry
+abbrev pub layer_check : ℕ → Data → TreeEntry → Check
 layer_check piece_length layers p = layer_check_for piece_length layers (length_of p) (root_of p)
 
 unfoldable pub layer_checks : ℕ → Data → Data → List Check
-layer_checks piece_length layers tree = map (layer_check piece_length layers) (filter is_file (places_below [] tree))
+layer_checks piece_length layers tree =
+    map (layer_check piece_length layers) (filter is_file (tree_entries_below [] tree))
 
 -- ---- the whole
 

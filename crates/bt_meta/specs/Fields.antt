@@ -1,8 +1,8 @@
 -- What a dictionary holds at a key, by kind.
-use Rattle.std.specs.Prelude.{ℕ, ℤ, pos, negsuc, Bool, List, Option, None, Some, is_some}
+use Rattle.std.specs.Prelude.{ℕ, ℤ, pos, negsuc, Bool, true, false, List, Option, None, Some, is_some}
 use Rattle.std.specs.Option.{option_and_then}
-use Rattle.bt_bencode.specs.Data.{Data, integer, string, list, dictionary, Entries, no_entries}
-use Rattle.bt_bencode.specs.Field.{field_of}
+use Rattle.bt_bencode.specs.Value.{Data, integer, string, list, dictionary, Entries, no_entries, entry}
+use Rattle.bt_bencode.specs.Dictionary.{field_of}
 
 abbrev pub as_integer : Data → Option ℤ
 as_integer (integer z) = Some z
@@ -55,3 +55,19 @@ entries_in (integer z) = no_entries
 entries_in (string s) = no_entries
 entries_in (list ds) = no_entries
 entries_in (dictionary es) = es
+
+-- whether it is a dictionary
+abbrev pub is_dictionary : Data → Bool
+is_dictionary (integer z) = false
+is_dictionary (string s) = false
+is_dictionary (list ds) = false
+is_dictionary (dictionary es) = true
+
+-- whether it is a dictionary of one entry
+abbrev pub is_single : Data → Bool
+is_single (integer z) = false
+is_single (string s) = false
+is_single (list ds) = false
+is_single (dictionary no_entries) = false
+is_single (dictionary (entry key d no_entries)) = true
+is_single (dictionary (entry key d (entry other e es))) = false

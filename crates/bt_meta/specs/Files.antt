@@ -1,17 +1,17 @@
 -- The files of a file tree (BEP 52).
 use Rattle.std.specs.Prelude.{ℕ, Bool, ◌==◌, List, [], map, filter, sum_by, replicate, codes, string_bytes, unwrap_or, nat_lt, if◌then◌else◌}
 use Rattle.std.specs.Int.{div_ceil}
-use Rattle.bt_bencode.specs.Data.{Data}
+use Rattle.bt_bencode.specs.Value.{Data}
 use Rattle.bt_meta.specs.Fields.{natural_at, string_at, dictionary_at, has_key, no_dictionary}
-use Rattle.bt_meta.specs.Places.{Place, places_below, with_earlier}
+use Rattle.bt_meta.specs.TreeEntries.{TreeEntry, tree_entries_below, with_earlier}
 use Rattle.bt_meta.specs.declared.torrent.FileEntry.{FileEntry}
 
 -- a dictionary with the empty key describes a file
-abbrev pub is_file : Place → Bool
+abbrev pub is_file : TreeEntry → Bool
 is_file p = has_key p.value []
 
 -- what the empty key holds
-abbrev pub properties_of : Place → Data
+abbrev pub properties_of : TreeEntry → Data
 properties_of p = unwrap_or (dictionary_at p.value []) no_dictionary
 
 unfoldable pub length_in : Data → ℕ
@@ -19,21 +19,23 @@ length_in properties = unwrap_or (natural_at properties (codes "length")) 0
 
 -- zeros for an empty file, whose `pieces root` is ignored
 unfoldable pub root_in : Data → List ℕ
-root_in properties = if length_in properties == 0 then replicate 32 0 else unwrap_or (string_at properties (codes "pieces root")) []
+root_in properties =
+    if length_in properties == 0 then replicate 32 0
+    else unwrap_or (string_at properties (codes "pieces root")) []
 
-abbrev pub length_of : Place → ℕ
+abbrev pub length_of : TreeEntry → ℕ
 length_of p = length_in (properties_of p)
 
-abbrev pub root_of : Place → List ℕ
+abbrev pub root_of : TreeEntry → List ℕ
 root_of p = root_in (properties_of p)
 
 -- a file begins at a piece's boundary, and its last piece may be shorter
 abbrev pub piece_count : ℕ → ℕ → ℕ
 piece_count piece_length length = div_ceil length piece_length
 
--- how many pieces the places that are files have together
-abbrev pub pieces_of : ℕ → List Place → ℕ
-pieces_of piece_length places = sum_by (λ p. piece_count piece_length (length_of p)) (filter is_file places)
+-- how many pieces the entries that are files have together
+abbrev pub pieces_of : ℕ → List TreeEntry → ℕ
+pieces_of piece_length entries = sum_by (λ p. piece_count piece_length (length_of p)) (filter is_file entries)
 
 -- a file of a torrent
 pub record File : Type 0 where
@@ -45,18 +47,25 @@ pub record File : Type 0 where
 
 -- what is kept of a file
 abbrev pub file_of : FileEntry → File
-file_of e = record { path = map string_bytes e.path.items; length = e.length; root = e.root; first_piece = e.first_piece; layer = e.layer.items }
+file_of e = record {
+  path = map string_bytes e.path.items;
+  length = e.length;
+  root = e.root;
+  first_piece = e.first_piece;
+  layer = e.layer.items;
+}
 
 -- the string of `piece layers` at the root, for a file of more bytes than a piece
 abbrev pub layer_for : ℕ → Data → ℕ → List ℕ → List ℕ
-layer_for piece_length layers bytes root = if nat_lt piece_length bytes then unwrap_or (string_at layers root) [] else []
+layer_for piece_length layers bytes root =
+    if nat_lt piece_length bytes then unwrap_or (string_at layers root) [] else []
 
--- that for a place
-abbrev pub layer_at : ℕ → Data → Place → List ℕ
+-- that for an entry
+abbrev pub layer_at : ℕ → Data → TreeEntry → List ℕ
 layer_at piece_length layers p = layer_for piece_length layers (length_of p) (root_of p)
 
--- a place as a file; its first piece is the one after those of the files before
-abbrev pub file_at : ℕ → Data → List Place → Place → File
+-- an entry as a file; its first piece is the one after those of the files before
+abbrev pub file_at : ℕ → Data → List TreeEntry → TreeEntry → File
 file_at piece_length layers before p = record {
   path = p.path;
   length = length_of p;
@@ -67,4 +76,5 @@ file_at piece_length layers before p = record {
 
 -- the files of a tree, in tree order, with their layers
 unfoldable pub files_of : ℕ → Data → Data → List File
-files_of piece_length layers tree = with_earlier (file_at piece_length layers) [] (filter is_file (places_below [] tree))
+files_of piece_length layers tree =
+    with_earlier (file_at piece_length layers) [] (filter is_file (tree_entries_below [] tree))

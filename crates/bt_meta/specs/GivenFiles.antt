@@ -6,7 +6,7 @@ use Rattle.std.specs.declared.cmp.Ordering.{Ordering}
 use Rattle.std.specs.declared.cmp.Ordering.TheVariants.{Less}
 use Rattle.std.specs.List.Sorted.{IsPermutation, IsSortedBy}
 use Rattle.std.specs.Cmp.Lexicographic.{pointwise, slice_cmp}
-use Rattle.bt_meta.specs.declared.making.Made.{Made}
+use Rattle.bt_meta.specs.declared.writer.Made.{Made}
 
 -- a file that a torrent is made of
 pub record Given : Type 0 where
@@ -16,7 +16,12 @@ pub record Given : Type 0 where
   pub layer : List ℕ
 
 abbrev pub given_of : Made → Given
-given_of m = record { path = map string_bytes m.path.items; length = m.length; root = m.root; layer = m.layer.items }
+given_of m = record {
+  path = map string_bytes m.path.items;
+  length = m.length;
+  root = m.root;
+  layer = m.layer.items;
+}
 
 -- its root is a digest of 32 bytes, as any is in memory
 abbrev pub HasRoot : Given → Type 0
@@ -38,7 +43,11 @@ pub record IsInTreeOrder (files ordered : List Given) : Type 0 where
   pub same : IsPermutation files ordered
   pub ascending : IsSortedBy is_before ordered
 
--- each path stands before the next one, and does not begin it
-abbrev pub IsParted : List Given → Type 0
-IsParted files = (k : ℕ) (d : Given) → k + 1 < length files
-    → (path_order (get_or files k d).path (get_or files (k + 1) d).path ≡ Less) × (begins (get_or files k d).path (get_or files (k + 1) d).path ≡ false)
+-- the first path stands before the second, and does not begin it
+abbrev pub IsSeparate : List (List ℕ) → List (List ℕ) → Type 0
+IsSeparate path next = (path_order path next ≡ Less) × (begins path next ≡ false)
+
+-- the paths are those of a tree's files, in its order: each stands before the next one, and does not begin it
+abbrev pub HaveTreePaths : List Given → Type 0
+HaveTreePaths files = (k : ℕ) (d : Given) → k + 1 < length files
+    → IsSeparate (get_or files k d).path (get_or files (k + 1) d).path

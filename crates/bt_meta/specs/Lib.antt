@@ -1,18 +1,26 @@
-pub mod Refusal
+-- limits and facts that all parts cite
+pub mod Limits
 pub mod Fields
-pub mod Places
+pub mod TreeEntries
 pub mod Files
 pub mod Layers
+-- a torrent that is read
+pub mod Error
 pub mod Faults
 pub mod Torrent
-pub mod Lawful
-pub mod Refusals
-pub mod Reading
 pub mod Place
-pub mod Walks
+pub mod Reader
+pub mod Law
+-- a torrent that is made
 pub mod GivenFiles
-pub mod FileRefusals
-pub mod Making
-pub mod MakingSteps
-pub mod ReadBack
-pub mod NotMade
+pub mod WriterRefusals
+pub mod Encode
+pub mod Writer
+-- what private steps cite
+pub mod ReaderSteps
+pub mod PropertySteps
+pub mod WalkSteps
+pub mod LayerSteps
+pub mod PlaceSteps
+pub mod WriterSteps
+pub mod EncodeSteps

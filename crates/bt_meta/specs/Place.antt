@@ -1,5 +1,6 @@
 -- Where a range of a piece lies (BEP 52: each file that is not empty begins at a piece's boundary).
-use Rattle.std.specs.Prelude.{◌≡◌, ℕ, ◌+◌, ◌-◌, ◌*◌, ◌<◌, ◌≤◌, List, length, get_or}
+use Rattle.std.specs.Prelude.{◌≡◌, ℕ, ◌+◌, ◌-◌, ◌*◌, ◌<◌, ◌≤◌, length, get_or}
+use Rattle.bt_tree.specs.Limits.{full_block_length}
 use Rattle.bt_meta.specs.Files.{File, piece_count}
 use Rattle.bt_meta.specs.Torrent.{Metainfo}
 use Rattle.bt_meta.specs.declared.torrent.Span.{Span}
@@ -14,15 +15,6 @@ pub record IsPlace (torrent : Metainfo) (piece begin count : ℕ) (span : Span) 
   pub start : span.start ≡ (piece - file.first_piece) * torrent.piece_length + begin
   pub all : span.length ≡ count
   pub some : 1 ≤ count
-  pub block : count ≤ 16384
+  pub block : count ≤ full_block_length
   pub in_piece : begin + count ≤ torrent.piece_length
   pub in_file : span.start + count ≤ file.length
-
--- the file is the last that begins at the piece or before it
-pub record IsLastBegun (files : List File) (piece index : ℕ) : Type 0 where
-  pub listed : index < length files
-  pub begun : (d : File) → (get_or files index d).first_piece ≤ piece
-  pub last : (k : ℕ) (d : File) → index < k → k < length files → piece < (get_or files k d).first_piece
-
-abbrev pub HasNoneBegun : List File → ℕ → Type 0
-HasNoneBegun files piece = (k : ℕ) (d : File) → k < length files → piece < (get_or files k d).first_piece

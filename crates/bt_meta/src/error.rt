@@ -1,19 +1,19 @@
 ghost use Rattle.std.specs.Prelude.{◌≡◌};
 ghost use Rattle.bt_meta.specs.declared.error.MetaError.TheVariants.{OutOfMemory as out_of_memory};
-ghost use Rattle.bt_meta.specs.Refusal.{refusal_of};
+ghost use Rattle.bt_meta.specs.Error.{refusal_of};
 
 use bt_bencode::BencodeError;
 use std::alloc::{AllocError, AllocFailed};
 use thiserror::Error;
 
-/// Why bytes are no torrent that is taken here. The first that applies is answered, in the order in which they stand;
-/// but want of memory may stand in place of any, and bytes too many to be read are `TooMany` before all others.
+/// Why bytes are no torrent that is taken here. The first that applies is returned, in the order in which they
+/// stand; but `OutOfMemory` may stand in place of any, and more than 2^27 bytes are `TooMany` before all others.
 #[derive(Clone, Copy, Debug, PartialEq, Eq, Error)]
 pub enum MetaError {
     /// The bytes are no canonical bencoding.
     #[error("M1 Bencode {0}")]
     Bencode(BencodeError),
-    /// There is no dictionary `info`; or, where an info dictionary is read alone, the bytes spell no dictionary.
+    /// There is no dictionary `info`; or, for `read_info`, the bytes spell no dictionary.
     #[error("M2 NoInfo")]
     NoInfo,
     /// `info` has no integer `meta version`.
@@ -31,8 +31,8 @@ pub enum MetaError {
     /// The `piece length` is no power of two from 2^14 to 2^28.
     #[error("M7 PieceLength")]
     PieceLength,
-    /// There is no `file tree`, it is not made of dictionaries, it has the empty key at its top, or further down beside
-    /// other keys, or it has no file.
+    /// There is no `file tree`, it is not made of dictionaries, it has the empty key at its top, or further down
+    /// beside other keys, or it has no file.
     #[error("M8 Tree")]
     Tree,
     /// A path element is `.` or `..`, has `/` or a zero byte, or is not UTF-8.

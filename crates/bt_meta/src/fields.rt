@@ -1,9 +1,8 @@
 //! What a dictionary holds at a key, by kind.
 ghost use Rattle.std.specs.Prelude.{◌≡◌, option_copied};
 ghost use Rattle.std.specs.Option.{option_map};
-ghost use Rattle.bt_bencode.specs.View.{data_of, entries_of};
-ghost use Rattle.bt_meta.specs.Fields.{as_integer as integer_in, as_string as string_in, as_dictionary as dictionary_in, integer_at, natural_at, string_at, dictionary_at, has_key, entries_in};
-ghost use Rattle.bt_meta.specs.Faults.{is_dictionary as is_dictionary_data, is_single as is_single_data};
+ghost use Rattle.bt_bencode.specs.Value.{data_of, entries_of};
+ghost use Rattle.bt_meta.specs.Fields.{as_integer as integer_in, as_string as string_in, as_dictionary as dictionary_in, integer_at, natural_at, string_at, dictionary_at, has_key, entries_in, is_dictionary as is_dictionary_data, is_single as is_single_data};
 
 use bt_bencode::{Value, field};
 

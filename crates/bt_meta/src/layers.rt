@@ -2,15 +2,17 @@
 ghost use Rattle.std.specs.Prelude.{◌≡◌, ℕ, List, ◌^◌, ◌<◌, ◌≤◌, map, IfOk, OnOk, IfErr, MatchResult, option_copied, None, true};
 ghost use Rattle.std.specs.Option.{option_map};
 ghost use Rattle.std.specs.Result.{result_err};
-ghost use Rattle.bt_bencode.specs.Data.{dictionary as dictionary_of};
-ghost use Rattle.bt_bencode.specs.Spelling.{HasAscendingKeys, EntriesAscend};
-ghost use Rattle.bt_bencode.specs.Field.{first_value_of};
-ghost use Rattle.bt_bencode.specs.View.{data_of, entries_of};
+ghost use Rattle.bt_bencode.specs.Value.{dictionary as dictionary_of};
+ghost use Rattle.bt_bencode.specs.Doc.{HasAscendingKeys, EntriesAscend};
+ghost use Rattle.bt_bencode.specs.Dictionary.{first_value_of};
+ghost use Rattle.bt_bencode.specs.Value.{data_of, entries_of};
+ghost use Rattle.bt_tree.specs.Limits.{max_file_length};
 ghost use Rattle.bt_tree.specs.Blocks.{IsFileLength};
 ghost use Rattle.bt_meta.specs.Fields.{string_at};
 ghost use Rattle.bt_meta.specs.Files.{file_of};
 ghost use Rattle.bt_meta.specs.Faults.{first_of, is_piece_length, layers_of};
-ghost use Rattle.bt_meta.specs.Reading.{Refuses, AreShort, HasStringsOf, with_layer, layer_fault, layer_faults, layer_bytes_fault};
+ghost use Rattle.bt_meta.specs.ReaderSteps.{Refuses, AreShort};
+ghost use Rattle.bt_meta.specs.LayerSteps.{HasStringsOf, with_layer, layer_fault, layer_faults, layer_bytes_fault};
 
 use crate::error::MetaError;
 use crate::fields::{as_string, dictionary, entries};
@@ -30,9 +32,13 @@ pub(crate) fn add_layers(
     requires lawful { is_piece_length piece_length ≡ true }
     requires short { AreShort (map file_of files.old.items) }
     requires ascending { HasAscendingKeys (data_of torrent.now) }
-    ensures whole { OnOk result (map file_of files.new.items ≡ map (with_layer piece_length (layers_of (data_of torrent.now))) (map file_of files.old.items)) }
-    ensures faultless { OnOk result (first_of (layer_faults piece_length (layers_of (data_of torrent.now)) (map file_of files.old.items)) ≡ None) }
-    ensures refused { IfErr result (Refuses (first_of (layer_faults piece_length (layers_of (data_of torrent.now)) (map file_of files.old.items)))) }
+    ensures whole { OnOk result (map file_of files.new.items
+        ≡ map (with_layer piece_length (layers_of (data_of torrent.now))) (map file_of files.old.items)) }
+    ensures faultless { OnOk result (
+        first_of (layer_faults piece_length (layers_of (data_of torrent.now)) (map file_of files.old.items))
+        ≡ None) }
+    ensures refused { IfErr result (Refuses (first_of (
+        layer_faults piece_length (layers_of (data_of torrent.now)) (map file_of files.old.items)))) }
 {
     let entries = layer_entries(torrent);
     add_layers_of(alloc, files, entries, piece_length)
@@ -60,9 +66,13 @@ fn add_layers_of(
     requires lawful { is_piece_length piece_length ≡ true }
     requires short { AreShort (map file_of files.old) }
     requires ascending { EntriesAscend (entries_of entries.now) }
-    ensures whole { OnOk result (map file_of files.new ≡ map (with_layer piece_length (dictionary_of (entries_of entries.now))) (map file_of files.old)) }
-    ensures faultless { OnOk result (first_of (layer_faults piece_length (dictionary_of (entries_of entries.now)) (map file_of files.old)) ≡ None) }
-    ensures refused { IfErr result (Refuses (first_of (layer_faults piece_length (dictionary_of (entries_of entries.now)) (map file_of files.old)))) }
+    ensures whole { OnOk result (map file_of files.new
+        ≡ map (with_layer piece_length (dictionary_of (entries_of entries.now))) (map file_of files.old)) }
+    ensures faultless { OnOk result (
+        first_of (layer_faults piece_length (dictionary_of (entries_of entries.now)) (map file_of files.old))
+        ≡ None) }
+    ensures refused { IfErr result (Refuses (first_of (
+        layer_faults piece_length (dictionary_of (entries_of entries.now)) (map file_of files.old)))) }
 {
     for file in files.iter_mut() {
         add_layer(alloc, file, entries, piece_length)?;
@@ -78,11 +88,14 @@ fn add_layer(
     piece_length: u32,
 ) -> Result<(), MetaError>
     requires lawful { is_piece_length piece_length ≡ true }
-    requires short { file.old.length ≤ 2 ^ 40 }
+    requires short { file.old.length ≤ max_file_length }
     requires ascending { EntriesAscend (entries_of entries.now) }
-    ensures whole { OnOk result (file_of file.new ≡ with_layer piece_length (dictionary_of (entries_of entries.now)) (file_of file.old)) }
-    ensures faultless { OnOk result (layer_fault piece_length (dictionary_of (entries_of entries.now)) (file_of file.old) ≡ None) }
-    ensures refused { IfErr result (Refuses (layer_fault piece_length (dictionary_of (entries_of entries.now)) (file_of file.old))) }
+    ensures whole { OnOk result (file_of file.new
+        ≡ with_layer piece_length (dictionary_of (entries_of entries.now)) (file_of file.old)) }
+    ensures faultless { OnOk result (
+        layer_fault piece_length (dictionary_of (entries_of entries.now)) (file_of file.old) ≡ None) }
+    ensures refused { IfErr result (Refuses (
+        layer_fault piece_length (dictionary_of (entries_of entries.now)) (file_of file.old))) }
 {
     let length = file.length;
     if length <= piece_length as u64 {
@@ -136,7 +149,7 @@ pub(crate) fn check(
 ) -> Result<(), MetaError>
     requires lawful { is_piece_length piece_length ≡ true }
     requires long { piece_length < length }
-    requires short { length ≤ 2 ^ 40 }
+    requires short { length ≤ max_file_length }
     ensures { result_err result ≡ layer_bytes_fault piece_length length root.now layer.now }
 {
     let piece = shape(piece_length as u64);

@@ -1,26 +1,26 @@
 //! Torrents of BitTorrent v2 (BEP 52).
 #![tactic(auto)]
 
-mod described;
-mod elements;
+mod encode;
 mod error;
 mod fields;
 mod law;
 mod layers;
-mod making;
+mod properties;
 mod reader;
 mod torrent;
 mod walk;
+mod writer;
 
-pub use elements::MAX_FILE_LENGTH;
 pub use error::MetaError;
 pub use law::torrents_are_read_back;
-pub use making::{Made, MakeError, make};
+pub use properties::MAX_FILE_LENGTH;
 pub use reader::{MAX_TEXT_LENGTH, read_info, read_torrent};
 pub use torrent::{FileEntry, Span, Torrent};
 pub use walk::{MAX_FILES, MAX_PATH_LENGTH, MAX_PIECES};
+pub use writer::{Made, MakeError, make};
 
 #[cfg(test)]
-mod making_tests;
-#[cfg(test)]
 mod tests;
+#[cfg(test)]
+mod writer_tests;

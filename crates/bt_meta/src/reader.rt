@@ -2,15 +2,15 @@
 ghost use Rattle.std.specs.Prelude.{◌≡◌, ℕ, map, codes, IfOk, IfErr, MatchResult, Option, None, Some, if◌then◌else◌};
 ghost use Rattle.std.specs.Result.{result_err};
 ghost use Rattle.sha2.specs.Sha256.{sha256};
-ghost use Rattle.bt_bencode.specs.Spelling.{spelling_of, HasAscendingKeys};
-ghost use Rattle.bt_bencode.specs.View.{data_of};
+ghost use Rattle.bt_bencode.specs.Spelling.{spelling_of};
+ghost use Rattle.bt_bencode.specs.Doc.{HasAscendingKeys};
+ghost use Rattle.bt_bencode.specs.Value.{data_of};
 ghost use Rattle.bt_meta.specs.Fields.{integer_at, no_dictionary};
 ghost use Rattle.bt_meta.specs.Files.{file_of};
 ghost use Rattle.bt_meta.specs.Faults.{first_of, head_checks, first_fault, first_info_fault, version_check, is_hybrid as is_hybrid_info, is_piece_length as is_lawful_piece_length, piece_length_of, info_of, layers_of};
-ghost use Rattle.bt_meta.specs.Torrent.{IsTorrent, IsInfo, metainfo_of, HaveAscendingPaths};
-ghost use Rattle.bt_meta.specs.Lawful.{IsLawful};
-ghost use Rattle.bt_meta.specs.Refusals.{IsRefused};
-ghost use Rattle.bt_meta.specs.Reading.{IsHead, Refuses, pieces_in};
+ghost use Rattle.bt_meta.specs.Torrent.{IsTorrent, IsInfo, metainfo_of, metainfo_with, HaveAscendingPaths, IsLawful};
+ghost use Rattle.bt_meta.specs.Reader.{IsRefused};
+ghost use Rattle.bt_meta.specs.ReaderSteps.{IsHead, Refuses, pieces_in};
 
 use crate::error::MetaError;
 use crate::fields::{dictionary, has, integer, is_dictionary, natural, string};
@@ -27,7 +27,7 @@ pub const MAX_TEXT_LENGTH: usize = 1 << 27;
 
 /// The torrent that the bytes spell.
 ///
-/// Errors: the first of [`MetaError`] that applies; want of memory may stand in place of any.
+/// Errors: the first of [`MetaError`] that applies; `OutOfMemory` may stand in place of any.
 pub fn read_torrent(alloc: Global, bytes: &[u8]) -> Result<Torrent, MetaError>
     ensures torrent { IfOk result (IsTorrent bytes.now) }
     ensures ascending { IfOk result (λ torrent. HaveAscendingPaths torrent.files) }
@@ -59,7 +59,8 @@ pub fn read_info(alloc: Global, bytes: &[u8]) -> Result<Torrent, MetaError>
 fn torrent_in(alloc: Global, value: &Value) -> Result<Torrent, MetaError>
     requires { HasAscendingKeys (data_of value.now) }
     ensures faultless { IfOk result (λ _. first_fault (data_of value.now) ≡ None) }
-    ensures described { IfOk result (λ torrent. torrent ≡ metainfo_of (info_of (data_of value.now)) (layers_of (data_of value.now))) }
+    ensures described { IfOk result (λ torrent.
+        torrent ≡ metainfo_of (info_of (data_of value.now)) (layers_of (data_of value.now))) }
     ensures refused { IfErr result (Refuses (first_fault (data_of value.now))) }
 {
     let Some(info) = dictionary(value, b"info") else {
@@ -97,7 +98,9 @@ fn torrent_of(
 ) -> Result<Torrent, AllocError>
     requires counted { listing.pieces ≡ pieces_in head.now.piece_length listing.files.items }
     requires lawful { IsLawful head.now.piece_length (map file_of listing.files.items) }
-    ensures { IfOk result (λ torrent. torrent ≡ record { name = head.now.name.now; piece_length = head.now.piece_length; infohash = sha256 (spelling_of (data_of info.now)); files = map file_of listing.files.items }) }
+    ensures { IfOk result (λ torrent.
+        let infohash = sha256 (spelling_of (data_of info.now)) in
+        torrent ≡ metainfo_with head.now.name.now head.now.piece_length infohash listing.files.items) }
 {
     let name = Vec::from_slice(alloc, head.name)?;
     let infohash = infohash(alloc, info)?;
@@ -120,7 +123,9 @@ struct Head<'a> {
 
 /// Reads what `info` says beside the files.
 fn read_head(info: &Value) -> Result<Head<'_>, MetaError>
-    ensures { MatchResult result (IsHead (data_of info.now)) (λ e. first_of (head_checks (data_of info.now)) ≡ Some e) }
+    ensures { MatchResult result
+        (IsHead (data_of info.now))
+        (λ e. first_of (head_checks (data_of info.now)) ≡ Some e) }
 {
     check_version(info)?;
     if is_hybrid(info) {
@@ -162,7 +167,8 @@ fn is_hybrid(info: &Value) -> bool
 
 /// The piece length, if it is lawful.
 fn piece_length(info: &Value) -> Option<u32>
-    ensures { result ≡ (if is_lawful_piece_length (piece_length_of (data_of info.now)) then Some (piece_length_of (data_of info.now)) else None) }
+    ensures { let length = piece_length_of (data_of info.now) in
+        result ≡ (if is_lawful_piece_length length then Some length else None) }
 {
     let Some(length) = natural(info, b"piece length") else {
         return None;

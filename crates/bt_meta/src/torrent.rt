@@ -1,10 +1,11 @@
 ghost use Rattle.std.specs.Prelude.{◌≡◌, ◌+◌, ◌*◌, ◌^◌, ◌<◌, ◌≤◌, length, map, IfSome, IfNone};
 ghost use Rattle.std.specs.List.{All};
 ghost use Rattle.bt_tree.specs.TreeShape.{IsPieceLength};
+ghost use Rattle.bt_meta.specs.Limits.{max_piece_count, max_file_count};
 ghost use Rattle.bt_meta.specs.Files.{file_of};
-ghost use Rattle.bt_meta.specs.Torrent.{total_pieces, IsLaidOut, HaveAscendingPaths};
-ghost use Rattle.bt_meta.specs.Lawful.{IsLawful, IsLawfulFile};
-ghost use Rattle.bt_meta.specs.Place.{IsPlace, IsLastBegun, HasNoneBegun};
+ghost use Rattle.bt_meta.specs.Torrent.{metainfo_with, total_pieces, IsLaidOut, HaveAscendingPaths, IsLawful, IsLawfulFile};
+ghost use Rattle.bt_meta.specs.Place.{IsPlace};
+ghost use Rattle.bt_meta.specs.PlaceSteps.{IsLastFileAt, HasNoFileAt};
 
 use bt_tree::Hash32;
 use std::marker::Model;
@@ -20,8 +21,8 @@ pub struct FileEntry {
     pub root: Hash32,
     /// The index of its first piece; an empty file has that of the next file.
     pub first_piece: u32,
-    /// The digests of its pieces, 32 bytes each: for a file longer than one piece, and empty for any other. It is empty
-    /// for every file of a torrent that was read from its info dictionary alone.
+    /// The digests of its pieces, 32 bytes each: for a file longer than one piece, and empty for any other. It
+    /// is empty for every file of a torrent that was read from its info dictionary alone.
     pub layer: Vec<u8>,
 }
 
@@ -52,14 +53,15 @@ pub struct Torrent {
 impl Model for Torrent {
     ghost use Rattle.std.specs.Prelude.{◌≡◌, map};
     ghost use Rattle.bt_meta.specs.Files.{file_of};
-    ghost use Rattle.bt_meta.specs.Torrent.{Metainfo, total_pieces};
-    ghost use Rattle.bt_meta.specs.Lawful.{IsLawful};
+    ghost use Rattle.bt_meta.specs.Torrent.{Metainfo, metainfo_with, total_pieces, IsLawful};
 
     ghost Value = { Metainfo };
 
-    ghost view = { λ t. record { name = t.name.items; piece_length = t.piece_length; infohash = t.infohash; files = map file_of t.files.items } };
+    ghost view = { λ t. metainfo_with t.name.items t.piece_length t.infohash t.files.items };
 
-    ghost invariant = { λ t. (t.pieces ≡ total_pieces (record { name = t.name.items; piece_length = t.piece_length; infohash = t.infohash; files = map file_of t.files.items })) × IsLawful t.piece_length (map file_of t.files.items) };
+    ghost invariant = { λ t.
+        (t.pieces ≡ total_pieces (metainfo_with t.name.items t.piece_length t.infohash t.files.items))
+        × IsLawful t.piece_length (map file_of t.files.items) };
 }
 
 impl Torrent {
@@ -70,9 +72,9 @@ impl Torrent {
         infohash: Hash32,
         files: Vec<FileEntry>,
     ) -> Self
-        requires counted { pieces ≡ total_pieces (record { name = name.items; piece_length = piece_length; infohash = infohash; files = map file_of files.items }) }
+        requires counted { pieces ≡ total_pieces (metainfo_with name.items piece_length infohash files.items) }
         requires lawful { IsLawful piece_length (map file_of files.items) }
-        ensures { result ≡ record { name = name.items; piece_length = piece_length; infohash = infohash; files = map file_of files.items } }
+        ensures { result ≡ metainfo_with name.items piece_length infohash files.items }
     {
         Torrent {
             name,
@@ -101,7 +103,7 @@ impl Torrent {
     /// How many pieces its files have: at most 2^21.
     pub fn pieces(&self) -> u32
         ensures counted { result ≡ total_pieces self.now }
-        ensures few { result ≤ 2 ^ 21 }
+        ensures few { result ≤ max_piece_count }
     {
         self.pieces
     }
@@ -116,7 +118,7 @@ impl Torrent {
     /// Its files, in the order of their paths: at most 65,536.
     pub fn files(&self) -> &[FileEntry]
         ensures said { map file_of result.now ≡ self.now.files }
-        ensures few { length result.now ≤ 65536 }
+        ensures few { length result.now ≤ max_file_count }
         ensures lawful { All (IsLawfulFile self.now.piece_length) (map file_of result.now) }
         ensures laid_out { IsLaidOut self.now.piece_length (map file_of result.now) }
         ensures ascending { HaveAscendingPaths (map file_of result.now) }
@@ -124,13 +126,13 @@ impl Torrent {
         &self.files
     }
 
-    /// Where so many bytes of a piece lie, from one of its bytes on. None where they are none, more than 16,384, or not
-    /// all in the piece.
+    /// Where `length` bytes of a piece lie, from its byte `begin` on. None where `length` is 0 or above
+    /// 16,384, or they are not all in the piece.
     pub fn place(&self, piece: u32, begin: u32, length: u32) -> Option<Span>
         ensures some { IfSome result (IsPlace self.now piece begin length) }
         ensures none { IfNone result ((span : Span) → ¬ IsPlace self.now piece begin length span) }
     {
-        let Some(index) = self.last_begun(piece) else {
+        let Some(index) = self.last_file_at(piece) else {
             return None;
         };
         let file = &self.files[index];
@@ -151,9 +153,9 @@ impl Torrent {
     }
 
     /// The last file that begins at the piece or before it. Where a piece is a file's, it is this one's.
-    fn last_begun(&self, piece: u32) -> Option<usize>
-        ensures some { IfSome result (IsLastBegun self.now.files piece) }
-        ensures none { IfNone result (HasNoneBegun self.now.files piece) }
+    fn last_file_at(&self, piece: u32) -> Option<usize>
+        ensures some { IfSome result (IsLastFileAt self.now.files piece) }
+        ensures none { IfNone result (HasNoFileAt self.now.files piece) }
     {
         let begun = self.files.partition_point(|file| file.first_piece <= piece);
         begun.checked_sub(1)

@@ -1,14 +1,14 @@
 //! The walk over a file tree, in tree order.
 ghost use Rattle.std.specs.Prelude.{◌≡◌, ℕ, ◌+◌, ◌*◌, ◌<◌, ◌≤◌, ◌++◌, ◌∷◌, [], List, map, IfOk, OnOk, IfErr, MatchOption, MatchResult, string_bytes, true, false};
-ghost use Rattle.bt_bencode.specs.View.{data_of, entries_of};
-ghost use Rattle.bt_meta.specs.Places.{places_below};
+ghost use Rattle.bt_bencode.specs.Value.{data_of, entries_of};
+ghost use Rattle.bt_meta.specs.TreeEntries.{tree_entries_below};
 ghost use Rattle.bt_meta.specs.Faults.{first_of, is_node, is_piece_length, tree_checks};
-ghost use Rattle.bt_meta.specs.Reading.{Refuses, IsListing};
-ghost use Rattle.bt_meta.specs.Walks.{Passes, Stops, IsEntered, StopsEntry, IsNodeOf, AtFile, texts};
+ghost use Rattle.bt_meta.specs.ReaderSteps.{Refuses, IsListing};
+ghost use Rattle.bt_meta.specs.WalkSteps.{Passes, Stops, Enters, StopsAtEntry, IsNodeOf, AtFile, texts};
 
-use crate::elements::{FileFacts, file_facts, note_length, path_element};
 use crate::error::MetaError;
 use crate::fields::{dictionary, has, is_dictionary, is_single};
+use crate::properties::{FileFacts, file_facts, note_length, path_element};
 use crate::torrent::FileEntry;
 use bt_bencode::Value;
 use bt_tree::Hash32;
@@ -55,7 +55,9 @@ pub(crate) fn read_tree(
     piece_length: u32,
 ) -> Result<Listing, MetaError>
     requires { is_piece_length piece_length ≡ true }
-    ensures { MatchResult result (IsListing piece_length (data_of tree.now)) (Refuses (first_of (tree_checks piece_length (data_of tree.now)))) }
+    ensures { MatchResult result
+        (IsListing piece_length (data_of tree.now))
+        (Refuses (first_of (tree_checks piece_length (data_of tree.now)))) }
 {
     if has(tree, b"") {
         return Err(MetaError::Tree);
@@ -85,9 +87,12 @@ fn walk_folder<'a>(
     piece_length: u32,
 ) -> Result<(), MetaError>
     requires { is_piece_length piece_length ≡ true }
-    ensures passed { OnOk result (Passes piece_length (places_below (texts path.old.items) (data_of folder.now)) walk.old walk.new) }
+    ensures passed { OnOk result (
+        Passes piece_length
+        (tree_entries_below (texts path.old.items) (data_of folder.now)) walk.old walk.new) }
     ensures path { OnOk result (path.new.items ≡ path.old.items) }
-    ensures stopped { IfErr result (Stops piece_length (places_below (texts path.old.items) (data_of folder.now)) walk.old) }
+    ensures stopped { IfErr result (
+        Stops piece_length (tree_entries_below (texts path.old.items) (data_of folder.now)) walk.old) }
 {
     let entries = match folder {
         Value::Dict(entries) => entries,
@@ -104,7 +109,7 @@ fn walk_folder<'a>(
     Ok(())
 }
 
-/// Tests an entry of a folder with this path. A file is put to the others; of a folder the name is answered.
+/// Tests an entry of a folder with this path. A file is put to the others; of a folder the name is returned.
 fn enter<'a>(
     alloc: Global,
     walk: &mut Walk,
@@ -114,7 +119,9 @@ fn enter<'a>(
     piece_length: u32,
 ) -> Result<Option<&'a str>, MetaError>
     requires { is_piece_length piece_length ≡ true }
-    ensures { MatchResult result (IsEntered piece_length (texts path.now) key.now (data_of value.now) walk.old walk.new) (StopsEntry piece_length (texts path.now) key.now (data_of value.now) walk.old) }
+    ensures { MatchResult result
+        (Enters piece_length (texts path.now) key.now (data_of value.now) walk.old walk.new)
+        (StopsAtEntry piece_length (texts path.now) key.now (data_of value.now) walk.old) }
 {
     if key.is_empty() {
         return Ok(None);
@@ -168,8 +175,10 @@ fn add_file(
     piece_length: u32,
 ) -> Result<(), MetaError>
     requires { is_piece_length piece_length ≡ true }
-    ensures passed { OnOk result (AtFile (texts path.now) name.now (data_of properties.now) (λ p. Passes piece_length (p ∷ []) walk.old walk.new)) }
-    ensures stopped { IfErr result (λ e. AtFile (texts path.now) name.now (data_of properties.now) (λ p. Stops piece_length (p ∷ []) walk.old e)) }
+    ensures passed { OnOk result (AtFile (texts path.now) name.now (data_of properties.now) (λ p.
+        Passes piece_length (p ∷ []) walk.old walk.new)) }
+    ensures stopped { IfErr result (λ e. AtFile (texts path.now) name.now (data_of properties.now) (λ p.
+        Stops piece_length (p ∷ []) walk.old e)) }
 {
     let FileFacts { length, root } = file_facts(properties)?;
     if length > 0 {

@@ -1,5 +1,5 @@
-use Rattle.bt_bencode.proofs.Faults.{none_spells}
-use Rattle.bt_bencode.proofs.OneFault.{first_fault_is_one}
+use Rattle.bt_bencode.proofs.ReadFaults.{none_spells}
+use Rattle.bt_bencode.proofs.LawOneFault.{first_fault_is_one}
 use Rattle.bt_bencode.proofs.law.first_fault_is_one.Goals as goal
 
 pub returns : goal.returns

@@ -1,7 +1,7 @@
 use Rattle.std.proofs.Common.{arith, rules}
 use Rattle.std.specs.Char.{IsAsciiDigit}
 use Rattle.std.specs.Prelude.{slice_index}
-use Rattle.bt_bencode.proofs.Splits.{digits_one_more}
+use Rattle.bt_bencode.proofs.ReadRanges.{digits_one_more}
 use Rattle.bt_bencode.proofs.number.digits_end.Goals as goal
 
 pub loop-end-preserved : goal.loop-end-preserved

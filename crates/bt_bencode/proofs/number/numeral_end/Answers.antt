@@ -3,8 +3,8 @@ use Rattle.std.specs.Prelude.{slice_range}
 use Rattle.std.specs.Str.Parse.{AllDigits}
 use Rattle.std.proofs.lemmas.List.{take_rest}
 use Rattle.std.proofs.Math.Seq.{drop-length}
-use Rattle.bt_bencode.specs.Fault.{LeadsWithZero, at_zero, at_end, at_other}
-use Rattle.bt_bencode.proofs.Splits.{split, nothing_between, drop_first}
+use Rattle.bt_bencode.specs.Number.{LeadsWithZero, at_zero, at_end, at_other}
+use Rattle.bt_bencode.proofs.ReadRanges.{split, nothing_between, drop_first}
 use Rattle.bt_bencode.proofs.number.numeral_end.Goals as goal
 use Rattle.bt_bencode.proofs.number.numeral_end.Goals.{then-end-at-via-then-end-at, then-end-at-via-else-end-at+then-bytes-end}
 

@@ -2,14 +2,14 @@ use Rattle.std.proofs.Common.{refl, ◌≡◌, ◌≢◌, ◌+◌, ◌-◌, get_
 use Rattle.std.specs.Char.{IsAsciiDigit}
 use Rattle.std.proofs.lemmas.Result.{err_from_is_err_and}
 use Rattle.std.proofs.lemmas.Int.{to_z-of_z}
-use Rattle.bt_bencode.specs.Fault.{StringStops, Stops, EndsBefore}
-use Rattle.bt_bencode.specs.Reading.{FaultFrom, ReadsValue}
-use Rattle.bt_bencode.specs.View.{entries_of}
-use Rattle.bt_bencode.proofs.Passing.{fault_passed}
-use Rattle.bt_bencode.proofs.Splits.{not_standing}
-use Rattle.bt_bencode.proofs.Views.{data_of-Int, data_of-Bytes, data_of-List, data_of-Dict}
-use Rattle.bt_bencode.proofs.Lists.{list_begun, list_more, list_stops, list_found, list_too_deep, nothing_stops, other_stops, string_stops, integer_value, string_value}
-use Rattle.bt_bencode.proofs.Dictionaries.{dictionary_begun, dictionary_more, key_stops, order_stops, value_stops, dictionary_found, dictionary_too_deep}
+use Rattle.bt_bencode.specs.Value.{entries_of}
+use Rattle.bt_bencode.specs.Reader.{StringStops, Stops, EndsBefore}
+use Rattle.bt_bencode.specs.ReaderSteps.{FaultFrom, ReadsValue}
+use Rattle.bt_bencode.proofs.FaultPassing.{fault_passed}
+use Rattle.bt_bencode.proofs.ReadRanges.{not_standing}
+use Rattle.bt_bencode.proofs.ValueData.{data_of-Int, data_of-Bytes, data_of-List, data_of-Dict}
+use Rattle.bt_bencode.proofs.ReadLists.{list_begun, list_more, list_stops, list_found, list_too_deep, nothing_stops, other_stops, string_stops, integer_value, string_value}
+use Rattle.bt_bencode.proofs.ReadDictionaries.{dictionary_begun, dictionary_more, key_stops, order_stops, value_stops, dictionary_found, dictionary_too_deep}
 use Rattle.bt_bencode.proofs.reader.+value.Goals as goal
 
 pub dictionary_at-returns-then-depth-eq0-clause-fault : goal.dictionary_at-returns-then-depth-eq0-clause-fault

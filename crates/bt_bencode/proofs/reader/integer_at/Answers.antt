@@ -3,10 +3,11 @@ use Rattle.std.specs.Prelude.{slice_range}
 use Rattle.std.specs.Int.{from_bool}
 use Rattle.std.proofs.lemmas.Result.{err_from_is_err_and}
 use Rattle.std.proofs.lemmas.Int.{to_z-of_z}
-use Rattle.bt_bencode.specs.Fault.{NumeralStops, Stops}
-use Rattle.bt_bencode.specs.Reading.{FaultFrom, ReadsInteger}
-use Rattle.bt_bencode.proofs.Passing.{fault_passed}
-use Rattle.bt_bencode.proofs.Integers.{is_signed, integer_stops, integer_is_ascii, answers_of, integer_found, integer_out_of_range}
+use Rattle.bt_bencode.specs.Number.{NumeralStops}
+use Rattle.bt_bencode.specs.Reader.{Stops}
+use Rattle.bt_bencode.specs.ReaderSteps.{FaultFrom, ReadsInteger}
+use Rattle.bt_bencode.proofs.FaultPassing.{fault_passed}
+use Rattle.bt_bencode.proofs.ReadIntegers.{is_signed, integer_stops, integer_is_ascii, answers_of, integer_found, integer_out_of_range}
 use Rattle.bt_bencode.proofs.reader.integer_at.Goals as goal
 
 pub returns-in_err-end-clause-fault : goal.returns-in_err-end-clause-fault

@@ -1,10 +1,10 @@
 use Rattle.std.proofs.Common.{◌<◌, ◌^◌, length, arith}
 use Rattle.std.proofs.lemmas.Result.{err_from_is_err_and}
-use Rattle.bt_bencode.specs.Fault.{Stops}
-use Rattle.bt_bencode.specs.Reading.{FaultFrom}
-use Rattle.bt_bencode.specs.View.{data_of}
-use Rattle.bt_bencode.proofs.Passing.{fault_passed}
-use Rattle.bt_bencode.proofs.Faults.{first_fault_in_value, first_fault_behind, none_spells, truncated_at_end, trailing_behind_value}
+use Rattle.bt_bencode.specs.Value.{data_of}
+use Rattle.bt_bencode.specs.Reader.{Stops}
+use Rattle.bt_bencode.specs.ReaderSteps.{FaultFrom}
+use Rattle.bt_bencode.proofs.FaultPassing.{fault_passed}
+use Rattle.bt_bencode.proofs.ReadFaults.{first_fault_in_value, first_fault_behind, none_spells, truncated_at_end, trailing_behind_value}
 use Rattle.bt_bencode.proofs.reader.parse.Goals as goal
 
 pub returns-in_err-value-clause-first_fault : goal.returns-in_err-value-clause-first_fault

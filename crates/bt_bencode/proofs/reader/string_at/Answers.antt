@@ -2,11 +2,12 @@ use Rattle.std.proofs.Common.{◌≡◌, ◌+◌, ◌-◌, ◌<◌, ◌^◌, fal
 use Rattle.std.specs.Prelude.{slice_range}
 use Rattle.std.specs.Str.Parse.{digits_value}
 use Rattle.std.proofs.lemmas.Result.{err_from_is_err_and}
-use Rattle.bt_bencode.specs.Fault.{NumeralStops, StringStops, in_length}
-use Rattle.bt_bencode.specs.Reading.{FaultFrom}
-use Rattle.bt_bencode.proofs.Passing.{fault_passed}
-use Rattle.bt_bencode.proofs.Splits.{unless_some}
-use Rattle.bt_bencode.proofs.Strings.{string_read, string_short}
+use Rattle.bt_bencode.specs.Number.{NumeralStops}
+use Rattle.bt_bencode.specs.Reader.{StringStops, in_length}
+use Rattle.bt_bencode.specs.ReaderSteps.{FaultFrom}
+use Rattle.bt_bencode.proofs.FaultPassing.{fault_passed}
+use Rattle.bt_bencode.proofs.ReadRanges.{unless_some}
+use Rattle.bt_bencode.proofs.ReadStrings.{string_read, string_short}
 use Rattle.bt_bencode.proofs.reader.string_at.Goals as goal
 use Rattle.bt_bencode.proofs.reader.string_at.Goals.{in_default-via-in-Some+else-length-left, in_default-via-in_default}
 

@@ -1,8 +1,8 @@
 use Rattle.std.proofs.Common.{◌≡◌, ◌++◌, ◌∷◌, [], take, ap, ◌∙◌, arith, refl}
 use Rattle.std.proofs.lemmas.List.{take_all}
+use Rattle.bt_bencode.specs.Value.{items_of, entries_of}
 use Rattle.bt_bencode.specs.Spelling.{string_spelling, items_spelling, entries_spelling}
-use Rattle.bt_bencode.specs.View.{items_of, entries_of}
-use Rattle.bt_bencode.proofs.Written.{no_items_written, no_entries_written, item_written, entry_written, list_written, dictionary_written, integer_written, string_written}
+use Rattle.bt_bencode.proofs.WriteParts.{no_items_written, no_entries_written, item_written, entry_written, list_written, dictionary_written, integer_written, string_written}
 use Rattle.bt_bencode.proofs.writer.+put_value.Goals as goal
 
 pub loop-item-init : goal.loop-item-init

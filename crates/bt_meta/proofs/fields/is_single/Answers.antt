@@ -1,8 +1,8 @@
 use Rattle.std.proofs.Common.{ap, ◌∙◌, sym, length}
 use Rattle.std.specs.Prelude.{◌==◌}
-use Rattle.bt_bencode.specs.View.{data_of}
-use Rattle.bt_bencode.proofs.Views.{data_of-Dict}
-use Rattle.bt_meta.specs.Faults.{is_single}
+use Rattle.bt_bencode.specs.Value.{data_of}
+use Rattle.bt_bencode.proofs.ValueData.{data_of-Dict}
+use Rattle.bt_meta.specs.Fields.{is_single}
 use Rattle.bt_meta.proofs.Dictionaries.{single_entry}
 use Rattle.bt_meta.proofs.fields.is_single.Goals as goal
 

@@ -1,9 +1,10 @@
 use Rattle.std.proofs.Common.{◌<◌, ◌≤◌, ◌^◌, length, refl, sym, ap, subst, ◌∙◌, arith}
 use Rattle.std.proofs.lemmas.Result.{err_from_is_err_and}
-use Rattle.bt_bencode.specs.Data.{dictionary}
-use Rattle.bt_bencode.specs.View.{entries_of}
+use Rattle.bt_bencode.specs.Value.{dictionary}
+use Rattle.bt_bencode.specs.Value.{entries_of}
 use Rattle.bt_meta.specs.Files.{file_of}
-use Rattle.bt_meta.specs.Reading.{Refuses, with_layer, layer_fault}
+use Rattle.bt_meta.specs.ReaderSteps.{Refuses}
+use Rattle.bt_meta.specs.LayerSteps.{with_layer, layer_fault}
 use Rattle.bt_meta.specs.declared.torrent.FileEntry.{FileEntry}
 use Rattle.bt_meta.proofs.LayerChecks.{unchanged_item, changed_more, faultless_more, faults_seen, short_at, refused_at, nothing_changed, all_changed}
 use Rattle.bt_meta.proofs.layers.add_layers_of.Goals as goal

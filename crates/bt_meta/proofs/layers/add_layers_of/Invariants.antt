@@ -1,9 +1,9 @@
 use Rattle.std.proofs.Common.{◌≡◌, take, map, None}
-use Rattle.bt_bencode.specs.Data.{dictionary}
-use Rattle.bt_bencode.specs.View.{entries_of}
+use Rattle.bt_bencode.specs.Value.{dictionary}
+use Rattle.bt_bencode.specs.Value.{entries_of}
 use Rattle.bt_meta.specs.Files.{file_of}
 use Rattle.bt_meta.specs.Faults.{first_of}
-use Rattle.bt_meta.specs.Reading.{with_layer, layer_fault}
+use Rattle.bt_meta.specs.LayerSteps.{with_layer, layer_fault}
 use Rattle.bt_meta.proofs.LayerChecks.{ChangedBelow}
 use Rattle.bt_meta.proofs.layers.add_layers_of.Given as goal
 

@@ -2,7 +2,7 @@ use Rattle.std.proofs.Common.{◌∙◌, ◌+◌, ◌-◌, ◌/◌, length, refl
 use Rattle.std.specs.Ordering.{nat_cmp}
 use Rattle.std.specs.Cmp.Lexicographic.{slice_cmp}
 use Rattle.std.proofs.lemmas.Map.Lookups.{exact_bytes}
-use Rattle.bt_meta.proofs.Lookup.{whole, upper_half, lower_half, nothing_between, found_here, found_nowhere}
+use Rattle.bt_meta.proofs.LayerLookup.{whole, upper_half, lower_half, nothing_between, found_here, found_nowhere}
 use Rattle.bt_meta.proofs.layers.find.Goals as goal
 
 pub loop-low-init : goal.loop-low-init

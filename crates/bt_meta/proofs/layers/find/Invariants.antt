@@ -1,5 +1,5 @@
 use Rattle.std.proofs.Common.{◌-◌}
-use Rattle.bt_meta.proofs.Lookup.{IsBetween}
+use Rattle.bt_meta.proofs.LayerLookup.{IsBetween}
 use Rattle.bt_meta.proofs.layers.find.Given as goal
 
 abbrev pub invariant-loop-low : goal.invariant-loop-low

@@ -1,11 +1,11 @@
 use Rattle.std.proofs.Common.{◌∙◌, sym, map, inr}
 use Rattle.std.proofs.lemmas.Result.{err_from_is_err_and}
-use Rattle.bt_bencode.specs.View.{data_of}
+use Rattle.bt_bencode.specs.Value.{data_of}
 use Rattle.bt_meta.specs.Fields.{no_dictionary}
 use Rattle.bt_meta.specs.Files.{file_of}
 use Rattle.bt_meta.specs.Faults.{first_info_fault}
-use Rattle.bt_meta.proofs.Lawful.{info_keeps_to, keeps_to}
-use Rattle.bt_meta.proofs.Heads.{not_info, first_info_fault_in, info_head_fault, info_tree_refuses, info_passes, metainfo_is}
+use Rattle.bt_meta.proofs.ReadLawful.{info_keeps_to, keeps_to}
+use Rattle.bt_meta.proofs.ReadHead.{not_info, first_info_fault_in, info_head_fault, info_tree_refuses, info_passes, metainfo_is}
 use Rattle.bt_meta.proofs.reader.info_in.Goals as goal
 
 pub returns-then-not-is_dictionary-clause-refused : goal.returns-then-not-is_dictionary-clause-refused

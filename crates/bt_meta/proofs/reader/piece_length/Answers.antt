@@ -1,9 +1,9 @@
 use Rattle.std.proofs.Common.{refl}
 use Rattle.std.specs.Prelude.{codes}
-use Rattle.bt_bencode.specs.View.{data_of}
+use Rattle.bt_bencode.specs.Value.{data_of}
 use Rattle.bt_meta.specs.Fields.{natural_at}
 use Rattle.bt_meta.specs.Faults.{is_piece_length, piece_length_of}
-use Rattle.bt_meta.proofs.Kept.{picked, left, left_none}
+use Rattle.bt_meta.proofs.Choices.{picked, left, left_none}
 use Rattle.bt_meta.proofs.reader.piece_length.Goals as goal
 
 pub returns-in_default : goal.returns-in_default

@@ -1,11 +1,12 @@
 use Rattle.std.proofs.Common.{ap, ◌∙◌, arith}
 use Rattle.std.proofs.lemmas.Result.{err_from_is_err_and}
-use Rattle.bt_bencode.specs.Spelling.{spelling_of, IsCanonical}
-use Rattle.bt_bencode.specs.View.{data_of}
+use Rattle.bt_bencode.specs.Spelling.{spelling_of}
+use Rattle.bt_bencode.specs.Doc.{IsCanonical}
+use Rattle.bt_bencode.specs.Value.{data_of}
 use Rattle.bt_meta.specs.Faults.{first_fault}
-use Rattle.bt_meta.specs.Refusals.{too_long, no_spelling}
-use Rattle.bt_meta.proofs.Refused.{value_refused}
-use Rattle.bt_meta.proofs.Ascending.{torrent_ascends}
+use Rattle.bt_meta.specs.Reader.{too_long, no_spelling}
+use Rattle.bt_meta.proofs.ReadRefusals.{value_refused}
+use Rattle.bt_meta.proofs.ReadAscending.{torrent_ascends}
 use Rattle.bt_meta.proofs.reader.read_torrent.Goals as goal
 
 pub returns-then-bytes-gt-MAX_TEXT_LENGTH-clause-refused : goal.returns-then-bytes-gt-MAX_TEXT_LENGTH-clause-refused

@@ -1,13 +1,13 @@
 use Rattle.std.proofs.Common.{◌≡◌, sym, ◌∙◌, ap, map, inr}
 use Rattle.std.proofs.lemmas.Result.{err_from_is_err_and}
-use Rattle.bt_bencode.specs.View.{data_of}
+use Rattle.bt_bencode.specs.Value.{data_of}
 use Rattle.bt_meta.specs.Files.{file_of, files_of}
 use Rattle.bt_meta.specs.Faults.{layers_of}
 use Rattle.bt_meta.specs.Torrent.{metainfo_of}
-use Rattle.bt_meta.specs.Reading.{with_layer}
-use Rattle.bt_meta.proofs.Heads.{no_info, info_is, torrent_info_fault, info_head_fault, torrent_tree_refuses, torrent_layers, torrent_layers_refuse, metainfo_is}
-use Rattle.bt_meta.proofs.Lawful.{keeps_to, torrent_keeps_to}
-use Rattle.bt_meta.proofs.Layered.{files_with_layers, pieces_after}
+use Rattle.bt_meta.specs.LayerSteps.{with_layer}
+use Rattle.bt_meta.proofs.ReadHead.{no_info, info_is, torrent_info_fault, info_head_fault, torrent_tree_refuses, torrent_layers, torrent_layers_refuse, metainfo_is}
+use Rattle.bt_meta.proofs.ReadLawful.{keeps_to, torrent_keeps_to}
+use Rattle.bt_meta.proofs.LayerFiles.{files_with_layers, pieces_after}
 use Rattle.bt_meta.proofs.reader.torrent_in.Goals as goal
 
 pub returns-in_default-clause-refused : goal.returns-in_default-clause-refused

@@ -3,9 +3,9 @@ use Rattle.std.proofs.lemmas.List.{length-map}
 use Rattle.bt_meta.specs.declared.torrent.FileEntry.{FileEntry}
 use Rattle.bt_meta.specs.declared.walk.Walk.{Walk}
 use Rattle.std.proofs.lemmas.Result.{err_from_is_err_and}
-use Rattle.bt_bencode.specs.View.{data_of}
-use Rattle.bt_meta.specs.Walks.{texts}
-use Rattle.bt_meta.proofs.FileAdding.{IsNotedWalk, conflict_stops, many_stop, file_passes}
+use Rattle.bt_bencode.specs.Value.{data_of}
+use Rattle.bt_meta.specs.WalkSteps.{texts}
+use Rattle.bt_meta.proofs.WalkAddFile.{IsNotedWalk, conflict_stops, many_stop, file_passes}
 use Rattle.bt_meta.proofs.walk.add_file.Goals.{then-length-gt0+in_ok-note_length, else-length-gt0, then-path-ge-MAX_PATH_LENGTH-via-then-path-ge-MAX_PATH_LENGTH, then-path-ge-MAX_PATH_LENGTH-via-else-path-ge-MAX_PATH_LENGTH+then-len-ge-MAX_FILES, then-path-ge-MAX_PATH_LENGTH-via-else-path-ge-MAX_PATH_LENGTH+else-len-ge-MAX_FILES+then-pieces-gt-MAX_PIECES}
 use Rattle.bt_meta.proofs.walk.add_file.Goals as goal
 

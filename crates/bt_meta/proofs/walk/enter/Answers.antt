@@ -1,20 +1,20 @@
 use Rattle.std.proofs.Common.{List, ◌∷◌, ◌++◌, [], sym, subst, arith}
 use Rattle.std.proofs.lemmas.List.{length-map}
 use Rattle.std.proofs.lemmas.Result.{err_from_is_err_and}
-use Rattle.bt_bencode.specs.View.{data_of}
-use Rattle.bt_meta.specs.Places.{Place}
+use Rattle.bt_bencode.specs.Value.{data_of}
+use Rattle.bt_meta.specs.TreeEntries.{TreeEntry}
 use Rattle.bt_meta.specs.Faults.{is_path_element}
-use Rattle.bt_meta.specs.Walks.{texts, IsNodeOf, Passes}
+use Rattle.bt_meta.specs.WalkSteps.{texts, IsNodeOf, Passes}
 use Rattle.bt_meta.specs.declared.walk.Node.{Node}
-use Rattle.bt_meta.proofs.Kept.{kept, dropped}
-use Rattle.bt_meta.proofs.Dictionaries.{empty_key, key_places}
-use Rattle.bt_meta.proofs.WalkSteps.{passes_nothing}
-use Rattle.bt_meta.proofs.FileAdding.{no_node_stops, bad_name_stops, folder_many, folder_passes, entry_stops, file_place, node_is, file_entered, folder_entered}
+use Rattle.bt_meta.proofs.Choices.{kept, dropped}
+use Rattle.bt_meta.proofs.Dictionaries.{empty_key, key_entries}
+use Rattle.bt_meta.proofs.WalkJoins.{passes_nothing}
+use Rattle.bt_meta.proofs.WalkAddFile.{no_node_stops, bad_name_stops, folder_many, folder_passes, entry_stops, file_entry, node_is, file_entered, folder_entered}
 use Rattle.bt_meta.proofs.walk.enter.Goals as goal
 
 pub returns-then-is_empty : goal.returns-then-is_empty
 returns-then-is_empty c =
-    let P = λ (places : List Place). Passes c.args.piece_length places c.args.walk.now c.args.walk.now in
+    let P = λ (tree_entries : List TreeEntry). Passes c.args.piece_length tree_entries c.args.walk.now c.args.walk.now in
     subst P (sym (empty_key (texts c.args.path.now) c.args.key.now (data_of c.args.value.now) c.if-is_empty.ensures)) (passes_nothing c.args.piece_length c.args.walk.now)
 
 pub returns-in_default : goal.returns-in_default
@@ -22,14 +22,14 @@ returns-in_default c =
     let path = texts c.args.path.now in
     let key = c.args.key.now in
     let d = data_of c.args.value.now in
-    entry_stops c.args.piece_length path key d c.args.walk.now _ (key_places path key d c.if-is_empty.ensures) (no_node_stops c.args.piece_length path key d c.args.walk.now c.in_default.ensures)
+    entry_stops c.args.piece_length path key d c.args.walk.now _ (key_entries path key d c.if-is_empty.ensures) (no_node_stops c.args.piece_length path key d c.args.walk.now c.in_default.ensures)
 
 pub returns-in_default-path_element : goal.returns-in_default-path_element
 returns-in_default-path_element c =
     let path = texts c.args.path.now in
     let key = c.args.key.now in
     let d = data_of c.args.value.now in
-    entry_stops c.args.piece_length path key d c.args.walk.now _ (key_places path key d c.if-is_empty.ensures)
+    entry_stops c.args.piece_length path key d c.args.walk.now _ (key_entries path key d c.if-is_empty.ensures)
     (bad_name_stops c.args.piece_length path key d c.args.walk.now (node_is d c.in-Some.node c.in-Some.ensures) (dropped (is_path_element key) key c.in_default-path_element.ensures))
 
 pub returns-in_err-add_file-in-File : goal.returns-in_err-add_file-in-File
@@ -41,9 +41,9 @@ returns-in_err-add_file-in-File c =
     let named = kept (is_path_element key) key c.in-Some-path_element.name.now c.in-Some-path_element.ensures in
     let P = λ (n : Node). IsNodeOf d n in
     let node = subst P c.in-File.is c.in-Some.ensures in
-    let p : Place = record { path = path ++ key ∷ []; value = d } in
-    rw (q.1, q.2) (entry_stops c.args.piece_length path key d c.args.walk.now c.in_err-add_file-in-File.field-0.0 (key_places path key d c.if-is_empty.ensures)
-    (c.in_err-add_file-in-File.ensures.stopped p (file_place path c.in-Some-path_element.name.now key d (data_of c.in-File.properties.now) named.1 node.0 named.0 node.1 node.2)))
+    let p : TreeEntry = record { path = path ++ key ∷ []; value = d } in
+    rw (q.1, q.2) (entry_stops c.args.piece_length path key d c.args.walk.now c.in_err-add_file-in-File.field-0.0 (key_entries path key d c.if-is_empty.ensures)
+    (c.in_err-add_file-in-File.ensures.stopped p (file_entry path c.in-Some-path_element.name.now key d (data_of c.in-File.properties.now) named.1 node.0 named.0 node.1 node.2)))
 
 pub returns-then-path-ge-MAX_PATH_LENGTH : goal.returns-then-path-ge-MAX_PATH_LENGTH
 returns-then-path-ge-MAX_PATH_LENGTH c =
@@ -53,7 +53,7 @@ returns-then-path-ge-MAX_PATH_LENGTH c =
     let named = kept (is_path_element key) key c.in-Some-path_element.name.now c.in-Some-path_element.ensures in
     let P = λ (n : Node). IsNodeOf d n in
     let node = subst P c.in-Folder.is c.in-Some.ensures in
-    entry_stops c.args.piece_length path key d c.args.walk.now _ (key_places path key d c.if-is_empty.ensures)
+    entry_stops c.args.piece_length path key d c.args.walk.now _ (key_entries path key d c.if-is_empty.ensures)
     (folder_many c.args.piece_length path key d c.args.walk.now node.0 named.0 node.1 (omega (arith, length-map c.args.path.now (λ t. t.now), c.if-path-ge-MAX_PATH_LENGTH.true)))
 
 pub returns-in_ok-add_file-in-File : goal.returns-in_ok-add_file-in-File
@@ -64,9 +64,9 @@ returns-in_ok-add_file-in-File c =
     let named = kept (is_path_element key) key c.in-Some-path_element.name.now c.in-Some-path_element.ensures in
     let P = λ (n : Node). IsNodeOf d n in
     let node = subst P c.in-File.is c.in-Some.ensures in
-    let p : Place = record { path = path ++ key ∷ []; value = d } in
-    file_entered c.args.piece_length path key d c.args.walk.now c.add_file.new.walk (key_places path key d c.if-is_empty.ensures) (node.3 (path ++ key ∷ []))
-    (c.in_ok-add_file-in-File.ensures.passed p (file_place path c.in-Some-path_element.name.now key d (data_of c.in-File.properties.now) named.1 node.0 named.0 node.1 node.2))
+    let p : TreeEntry = record { path = path ++ key ∷ []; value = d } in
+    file_entered c.args.piece_length path key d c.args.walk.now c.add_file.new.walk (key_entries path key d c.if-is_empty.ensures) (node.3 (path ++ key ∷ []))
+    (c.in_ok-add_file-in-File.ensures.passed p (file_entry path c.in-Some-path_element.name.now key d (data_of c.in-File.properties.now) named.1 node.0 named.0 node.1 node.2))
 
 pub returns-else-path-ge-MAX_PATH_LENGTH : goal.returns-else-path-ge-MAX_PATH_LENGTH
 returns-else-path-ge-MAX_PATH_LENGTH c =
@@ -77,5 +77,5 @@ returns-else-path-ge-MAX_PATH_LENGTH c =
     let named = kept (is_path_element key) key name c.in-Some-path_element.ensures in
     let P = λ (n : Node). IsNodeOf d n in
     let node = subst P c.in-Folder.is c.in-Some.ensures in
-    folder_entered c.args.piece_length path key name d c.args.walk.now named.1 (key_places path key d c.if-is_empty.ensures)
+    folder_entered c.args.piece_length path key name d c.args.walk.now named.1 (key_entries path key d c.if-is_empty.ensures)
     (folder_passes c.args.piece_length path key d c.args.walk.now node.0 named.0 node.1 (omega (arith, length-map c.args.path.now (λ t. t.now), c.if-path-ge-MAX_PATH_LENGTH.false)))

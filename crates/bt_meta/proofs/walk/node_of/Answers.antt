@@ -1,5 +1,5 @@
 use Rattle.std.proofs.Common.{sym}
-use Rattle.bt_bencode.specs.View.{data_of}
+use Rattle.bt_bencode.specs.Value.{data_of}
 use Rattle.bt_meta.proofs.Dictionaries.{not_node, folder_node, crowded_node, file_node_is, empty_node, single_below}
 use Rattle.bt_meta.proofs.walk.node_of.Goals as goal
 

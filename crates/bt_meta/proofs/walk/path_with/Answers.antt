@@ -1,6 +1,6 @@
 use Rattle.std.proofs.Common.{[], ap, map, arith}
 use Rattle.std.specs.Prelude.{string_bytes}
-use Rattle.bt_meta.proofs.PathSteps.{named_more, named_last}
+use Rattle.bt_meta.proofs.WalkPaths.{named_more, named_last}
 use Rattle.bt_meta.proofs.walk.path_with.Goals as goal
 
 pub loop-element-init : goal.loop-element-init

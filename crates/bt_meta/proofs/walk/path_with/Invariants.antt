@@ -1,6 +1,6 @@
 use Rattle.std.proofs.Common.{◌≡◌, map, take}
 use Rattle.std.specs.Prelude.{string_bytes}
-use Rattle.bt_meta.specs.Walks.{texts}
+use Rattle.bt_meta.specs.WalkSteps.{texts}
 use Rattle.bt_meta.proofs.walk.path_with.Given as goal
 
 abbrev pub invariant-loop-element : goal.invariant-loop-element

@@ -1,5 +1,0 @@
-use Rattle.bt_meta.proofs.Folders.{entries_push}
-use Rattle.bt_meta.proofs.described.entries_with.Goals as goal
-
-pub returns : goal.returns
-returns c = rw (c.in_ok-push.ensures.items, ← c.in_ok-key.ensures.items) (entries_push c.args.entries.items c.in_ok-key.key c.args.value)

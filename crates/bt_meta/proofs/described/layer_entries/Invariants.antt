@@ -1,8 +1,0 @@
-use Rattle.std.proofs.Common.{◌≡◌}
-use Rattle.bt_bencode.specs.View.{entries_of}
-use Rattle.bt_meta.specs.MakingSteps.{entries_before}
-use Rattle.bt_meta.proofs.Roots.{layer_list}
-use Rattle.bt_meta.proofs.described.layer_entries.Given as goal
-
-abbrev pub invariant-loop-root : goal.invariant-loop-root
-invariant-loop-root l = entries_before (entries_of l.entries.items) (layer_list l.root-iterator) ≡ layer_list l.layers.entries

@@ -1,7 +1,0 @@
-use Rattle.std.proofs.Common.{map}
-use Rattle.std.specs.Prelude.{take}
-use Rattle.bt_meta.specs.MakingSteps.{lent_of, HasFirstLayers}
-use Rattle.bt_meta.proofs.described.layers_of.Given as goal
-
-abbrev pub invariant-loop-file : goal.invariant-loop-file
-invariant-loop-file l = HasFirstLayers l.piece_length (map lent_of (take l.file-index l.files)) l.layers

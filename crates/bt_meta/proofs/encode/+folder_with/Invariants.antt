@@ -1,0 +1,5 @@
+use Rattle.std.proofs.Common.{length}
+use Rattle.bt_meta.proofs.encode.+folder_with.Given as goal
+
+abbrev pub decreases-folder_with : goal.decreases-folder_with
+decreases-folder_with l = length l.path.now

@@ -1,0 +1,8 @@
+use Rattle.std.proofs.Common.{◌≡◌}
+use Rattle.bt_bencode.specs.Value.{entries_of}
+use Rattle.bt_meta.specs.EncodeSteps.{entries_before}
+use Rattle.bt_meta.proofs.EncodeLayers.{layer_list}
+use Rattle.bt_meta.proofs.encode.layer_entries.Given as goal
+
+abbrev pub invariant-loop-root : goal.invariant-loop-root
+invariant-loop-root l = entries_before (entries_of l.entries.items) (layer_list l.root-iterator) ≡ layer_list l.layers.entries

@@ -1,6 +1,0 @@
-use Rattle.std.proofs.Common.{◌∙◌}
-use Rattle.bt_meta.proofs.Apart.{begins_by_bytes}
-use Rattle.bt_meta.proofs.making.begins.Goals as goal
-
-pub returns : goal.returns
-returns c = c.starts_with.ensures.value ∙ begins_by_bytes c.args.path.now c.args.other.now

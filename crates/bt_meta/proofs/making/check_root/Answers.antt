@@ -1,9 +1,0 @@
-use Rattle.std.proofs.Common.{arith}
-use Rattle.std.proofs.lemmas.Bool.Decides.{nat_tests}
-use Rattle.bt_meta.specs.GivenFiles.{given_of}
-use Rattle.bt_meta.proofs.Takings.{lengths_noted}
-use Rattle.bt_meta.proofs.making.check_root.Goals as goal
-
-pub returns-in-Ok-clause-noted : goal.returns-in-Ok-clause-noted
-returns-in-Ok-clause-noted c files h root n =
-    lengths_noted files (given_of c.args.file.now) c.args.lengths.now c.note_length.new.lengths root n (grind (arith, nat_tests)) (h root n) c.in-Ok.ensures.noted

@@ -1,0 +1,5 @@
+use Rattle.bt_meta.proofs.MakeTally.{Taking}
+use Rattle.bt_meta.proofs.writer.check_files.Given as goal
+
+abbrev pub invariant-loop-file : goal.invariant-loop-file
+invariant-loop-file l = Taking l.piece_length l.files l.file-index l.tally

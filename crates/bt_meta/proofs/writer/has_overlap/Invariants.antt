@@ -1,0 +1,5 @@
+use Rattle.bt_meta.proofs.MakeNeighbours.{AreApartTo}
+use Rattle.bt_meta.proofs.writer.has_overlap.Given as goal
+
+abbrev pub invariant-loop-i : goal.invariant-loop-i
+invariant-loop-i l = AreApartTo l.files l.i

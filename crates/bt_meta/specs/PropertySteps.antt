@@ -1,0 +1,51 @@
+-- The steps of reading a file's properties. No public contract cites them.
+use Rattle.std.specs.Prelude.{◌≡◌, ℕ, ◌≤◌, ◌==◌, ◌⊎◌, Bool, true, false, not, List, [], ◌∷◌, codes, Option, None, Some, cond}
+use Rattle.std.specs.Ordering.{nat_cmp, is_eq}
+use Rattle.std.specs.Cmp.Lexicographic.{slice_cmp}
+use Rattle.std.specs.BTreeMap.{BTreeMap, get}
+use Rattle.bt_bencode.specs.Value.{Data}
+use Rattle.bt_tree.specs.Limits.{max_file_length}
+use Rattle.bt_meta.specs.Fields.{has_key}
+use Rattle.bt_meta.specs.Files.{length_in, root_in}
+use Rattle.bt_meta.specs.Faults.{Check, first_of, fault_if, has_lawful_length, has_lawful_root}
+use Rattle.bt_meta.specs.declared.error.MetaError.{MetaError}
+use Rattle.bt_meta.specs.declared.error.MetaError.TheVariants.{Symlink, FileLength, BadRoot, RootConflict, OutOfMemory}
+use Rattle.bt_meta.specs.declared.properties.FileFacts.{FileFacts}
+
+-- the checks of a file's properties alone
+abbrev pub property_checks : Data → List Check
+property_checks properties =
+    fault_if (has_key properties (codes "symlink path")) Symlink
+    ∷ fault_if (not (has_lawful_length properties)) FileLength
+    ∷ fault_if (not (has_lawful_root properties)) BadRoot
+    ∷ []
+
+-- properties without a fault say this
+pub record IsFileFacts (properties : Data) (facts : FileFacts) : Type 0 where
+  pub faultless : first_of (property_checks properties) ≡ None
+  pub length : facts.length ≡ length_in properties
+  pub short : facts.length ≤ max_file_length
+  pub root : facts.root ≡ root_in properties
+
+abbrev pub Lengths : Type 0
+Lengths = BTreeMap (List ℕ) ℕ
+
+abbrev pub length_at : Lengths → List ℕ → Option ℕ
+length_at lengths root = get (slice_cmp nat_cmp) lengths root
+
+-- another length than n is noted
+abbrev pub is_other_length : Option ℕ → ℕ → Bool
+is_other_length None n = false
+is_other_length (Some m) n = not (m == n)
+
+-- the root has this length now, if it had no other, and all other roots have what they had
+pub record NotesLength (old new : Lengths) (root : List ℕ) (n : ℕ) : Type 0 where
+  pub alike : is_other_length (length_at old root) n ≡ false
+  pub noted : (other : List ℕ) →
+      length_at new other ≡ cond (is_eq (slice_cmp nat_cmp root other)) (Some n) (length_at old other)
+
+-- no length was noted, and want of memory is told; or another length was, and this is told
+abbrev pub IsLengthConflict : Lengths → List ℕ → ℕ → MetaError → Type 0
+IsLengthConflict lengths root n e =
+    ((e ≡ OutOfMemory) × (length_at lengths root ≡ None))
+    ⊎ ((e ≡ RootConflict) × (is_other_length (length_at lengths root) n ≡ true))

@@ -1,0 +1,86 @@
+-- The steps of the walk over a file tree. No public contract cites them.
+use Rattle.std.specs.Prelude.{◌≡◌, ℕ, ◌==◌, ◌&&◌, Bool, true, false, not, List, [], ◌∷◌, ◌++◌, map, filter, nat_eq, Option, None, Some}
+use Rattle.std.specs.List.{list_any}
+use Rattle.std.specs.Cmp.Lexicographic.{pointwise}
+use Rattle.std.specs.Borrow.{Bor}
+use Rattle.bt_bencode.specs.Value.{Data, no_entries, entry}
+use Rattle.bt_bencode.specs.Value.{data_of}
+use Rattle.bt_meta.specs.Fields.{has_key, dictionary_at, no_dictionary}
+use Rattle.bt_meta.specs.TreeEntries.{TreeEntry, tree_entries_below, tree_entries_among, with_earlier}
+use Rattle.bt_meta.specs.Files.{is_file, properties_of, length_of, root_of, file_of, file_at, pieces_of}
+use Rattle.bt_meta.specs.Faults.{first_of, is_node, has_lawful_name, entry_check}
+use Rattle.bt_meta.specs.ReaderSteps.{Refuses, AreShort}
+use Rattle.bt_meta.specs.declared.error.MetaError.{MetaError}
+use Rattle.bt_meta.specs.declared.walk.Walk.{Walk}
+use Rattle.bt_meta.specs.declared.walk.Node.{Node}
+use Rattle.bt_meta.specs.declared.walk.Node.TheVariants.{Folder, File as file_node}
+use Rattle.bt_meta.specs.PropertySteps.{length_at, is_other_length}
+
+-- a file that is not empty has this root and another length
+abbrev pub has_other_length : List TreeEntry → List ℕ → ℕ → Bool
+has_other_length entries root n = list_any (λ q.
+    is_file q && not (length_of q == 0)
+    && pointwise nat_eq (root_of q) root && not (length_of q == n)) entries
+
+-- ---- the walk
+
+-- the walk has come past these entries
+pub record IsWalkOver (piece_length : ℕ) (entries : List TreeEntry) (walk : Walk) : Type 0 where
+  pub files : map file_of walk.files.items
+      ≡ with_earlier (file_at piece_length no_dictionary) [] (filter is_file entries)
+  pub pieces : walk.pieces ≡ pieces_of piece_length entries
+  pub short : AreShort (map file_of walk.files.items)
+  pub lengths : (root : List ℕ) (n : ℕ) →
+      is_other_length (length_at walk.lengths root) n ≡ has_other_length entries root n
+
+-- behind whichever entries, the walk comes past these too, and they have no fault
+abbrev pub Passes : ℕ → List TreeEntry → Walk → Walk → Type 0
+Passes piece_length entries old new = (before : List TreeEntry) → IsWalkOver piece_length before old
+    → IsWalkOver piece_length (before ++ entries) new
+    × (first_of (with_earlier (entry_check piece_length) before entries) ≡ None)
+
+-- behind whichever entries, it is refused at the first fault of these
+abbrev pub Stops : ℕ → List TreeEntry → Walk → MetaError → Type 0
+Stops piece_length entries old e = (before : List TreeEntry) → IsWalkOver piece_length before old
+    → Refuses (first_of (with_earlier (entry_check piece_length) before entries)) e
+
+-- ---- one entry
+
+-- the bytes of each text
+abbrev pub texts : List (Bor (List ℕ)) → List (List ℕ)
+texts = map (λ t. t.now)
+
+-- an entry of a folder with this path, with what lies below it
+abbrev pub tree_entries_of : List (List ℕ) → List ℕ → Data → List TreeEntry
+tree_entries_of path key d = tree_entries_among path (entry key d no_entries)
+
+-- this is what the value is as an entry
+abbrev pub IsNodeOf : Data → Node → Type 0
+IsNodeOf d Folder = (is_node d ≡ true) × (has_key d [] ≡ false)
+IsNodeOf d (file_node properties) =
+    (is_node d ≡ true) × (has_key d [] ≡ true) × (dictionary_at d [] ≡ Some (data_of properties.now))
+    × ((path : List (List ℕ)) → tree_entries_below path d ≡ [])
+
+-- an entry with this path is a file with these properties
+pub record IsFileEntry (path : List (List ℕ)) (name : List ℕ) (d : Data) (p : TreeEntry) : Type 0 where
+  pub path_is : p.path ≡ path ++ name ∷ []
+  pub node : is_node p.value ≡ true
+  pub named : has_lawful_name p ≡ true
+  pub file : is_file p ≡ true
+  pub properties_are : properties_of p ≡ d
+
+-- a fact of each such entry
+abbrev pub AtFile : List (List ℕ) → List ℕ → Data → (TreeEntry → Type 0) → Type 0
+AtFile path name properties P = (p : TreeEntry) → IsFileEntry path name properties p → P p
+
+-- the walk has come past the entry; but where it is a folder with this name, not past what lies below
+abbrev pub Enters : ℕ → List (List ℕ) → List ℕ → Data → Walk → Walk → Option (Bor (List ℕ))
+    → Type 0
+Enters piece_length path key d old new None = Passes piece_length (tree_entries_of path key d) old new
+Enters piece_length path key d old new (Some name) =
+    let inner = path ++ name.now ∷ [] in let p : TreeEntry = record { path = inner; value = d } in
+    Passes piece_length (p ∷ []) old new × (tree_entries_of path key d ≡ p ∷ tree_entries_below inner d)
+
+-- it is refused at the first fault of the entry
+abbrev pub StopsAtEntry : ℕ → List (List ℕ) → List ℕ → Data → Walk → MetaError → Type 0
+StopsAtEntry piece_length path key d old e = Stops piece_length (tree_entries_of path key d) old e

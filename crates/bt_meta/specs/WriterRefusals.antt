@@ -1,0 +1,70 @@
+-- Why files make no torrent: the refusals of each, in their order.
+use Rattle.std.specs.Prelude.{ℕ, Bool, not, ◌&&◌, ◌||◌, ◌==◌, List, [], ◌∷◌, ◌++◌, length, sum_by, Option, nat_eq, nat_lt, nat_le, if◌then◌else◌}
+use Rattle.std.specs.List.{list_any, list_all}
+use Rattle.std.specs.Cmp.Lexicographic.{pointwise}
+use Rattle.bt_tree.specs.Limits.{max_file_length}
+use Rattle.bt_meta.specs.TreeEntries.{with_earlier}
+use Rattle.bt_meta.specs.Files.{piece_count}
+use Rattle.bt_meta.specs.Layers.{has_layer_size, has_root}
+use Rattle.bt_meta.specs.Faults.{first_of, fault_if, is_path_element, is_piece_length}
+use Rattle.bt_meta.specs.declared.writer.MakeError.{MakeError}
+use Rattle.bt_meta.specs.declared.writer.MakeError.TheVariants.{PieceLength, BadPath, FileLength, LayerSize, LayerDiffers, RootConflict, Count}
+use Rattle.bt_meta.specs.GivenFiles.{Given}
+use Rattle.bt_meta.specs.Limits.{max_path_length, max_file_count, max_piece_count}
+
+-- A check answers a refusal, or nothing.
+abbrev pub Check : Type 0
+Check = Option MakeError
+
+abbrev pub is_element : List ℕ → Bool
+is_element element = not (length element == 0) && is_path_element element
+
+-- one element or more, each of which may stand in a path
+abbrev pub is_path : List (List ℕ) → Bool
+is_path path = not (length path == 0) && list_all is_element path
+
+-- the layer of a file longer than a piece, which folds to its root; no layer for any other
+abbrev pub layer_refusal : ℕ → Given → Check
+layer_refusal piece_length f =
+    if nat_lt piece_length f.length then first_of (
+    fault_if (not (has_layer_size piece_length f.length f.layer)) LayerSize
+    ∷ fault_if (not (has_root piece_length f.length f.root f.layer)) LayerDiffers
+    ∷ []) else fault_if (not (length f.layer == 0)) LayerSize
+
+-- a file that is not empty has this root and another length
+abbrev pub has_conflict : List Given → List ℕ → ℕ → Bool
+has_conflict files root n =
+    list_any (λ g. not (g.length == 0) && pointwise nat_eq g.root root && not (g.length == n)) files
+
+abbrev pub conflict_with : List Given → Given → Bool
+conflict_with before f = not (f.length == 0) && has_conflict before f.root f.length
+
+-- too many elements in the path; or too many files or pieces with this file
+abbrev pub is_beyond : ℕ → List Given → Given → Bool
+is_beyond piece_length before f =
+    let files = before ++ f ∷ [] in
+    nat_lt max_path_length (length f.path) || (
+    nat_lt max_file_count (length files)
+    || nat_lt max_piece_count (sum_by (λ g. piece_count piece_length g.length) files))
+
+abbrev pub own_refusal : ℕ → Given → Check
+own_refusal piece_length f = first_of (
+    fault_if (not (is_path f.path)) BadPath
+    ∷ fault_if (not (nat_le f.length max_file_length)) FileLength
+    ∷ layer_refusal piece_length f
+    ∷ [])
+
+-- a file, behind those that were given before it
+abbrev pub file_refusal : ℕ → List Given → Given → Check
+file_refusal piece_length before f = first_of (
+    own_refusal piece_length f
+    ∷ fault_if (conflict_with before f) RootConflict
+    ∷ fault_if (is_beyond piece_length before f) Count
+    ∷ [])
+
+-- the first refusal of the piece length and of the files one by one
+unfoldable pub refusal_of_files : ℕ → List Given → Check
+refusal_of_files piece_length files = first_of (
+    fault_if (not (is_piece_length piece_length)) PieceLength
+    ∷ fault_if (length files == 0) Count
+    ∷ with_earlier (file_refusal piece_length) [] files)
