@@ -4,17 +4,17 @@ use Rattle.std.proofs.lemmas.Bool.{cases_lt}
 use Rattle.std.proofs.KnownBytes.{Consumes-trans}
 use Rattle.sha2.specs.Sha256.{sha256}
 use Rattle.bt_tree.specs.Blocks.{block_count, HasRun}
-use Rattle.bt_tree.specs.Building.{Building, BuildsFrom, first_block, node_end}
+use Rattle.bt_tree.specs.RootBuilder.{BuilderState, BuildsFrom, first_block, node_end}
 use Rattle.bt_tree.specs.Tree.{file_root, node_digest}
 use Rattle.bt_tree.specs.TreeShape.{height_of}
-use Rattle.bt_tree.proofs.Shapes.{height_is}
+use Rattle.bt_tree.proofs.TreeShape.{height_is}
 use Rattle.btseed.specs.Reader.{LosesFront, EndsEarly, GivesNode, TellsMore}
 use Rattle.btseed.specs.DataFile.{IsFindingOf, IsFindingAt}
 use Rattle.btseed.specs.declared.data_file.Finding.{Finding}
 use lib.Seq.{take-append-le}
 
 -- the whole file lies below the root
-pub root_covers : (bytes : ℕ) (b : Building) → b.file_length ≡ bytes → b.layer ≡ height_of (block_count bytes) → b.index ≡ 0
+pub root_covers : (bytes : ℕ) (b : BuilderState) → b.file_length ≡ bytes → b.layer ≡ height_of (block_count bytes) → b.index ≡ 0
     → 16384 * first_block b + bytes ≡ node_end b
 root_covers bytes b size layer index =
     let enough : block_count bytes ≤ 2 ^ b.layer = subst (λ h. block_count bytes ≤ 2 ^ h) (sym layer) (height_is (block_count bytes)).enough in
@@ -37,7 +37,7 @@ found_early old new file_length root finding blocks marked longer early =
     }
 
 -- the digest that was built is the root of the file that the bytes begin with
-root_is : (bytes rest : List ℕ) (file_length : ℕ) (b : Building) (digest : List ℕ) → length bytes ≡ file_length
+root_is : (bytes rest : List ℕ) (file_length : ℕ) (b : BuilderState) (digest : List ℕ) → length bytes ≡ file_length
     → b.layer ≡ height_of (block_count file_length) → b.index ≡ 0 → digest ≡ node_digest sha256 bytes b.layer b.index
     → digest ≡ file_root sha256 (take file_length (bytes ++ rest))
 root_is bytes rest file_length b digest size layer index value =
@@ -46,7 +46,7 @@ root_is bytes rest file_length b digest size layer index value =
     value ∙ ap (λ k. node_digest sha256 bytes k b.index) (layer ∙ ap (λ n. height_of (block_count n)) (sym size))
     ∙ ap (λ i. node_digest sha256 bytes (height_of (block_count (length bytes))) i) index ∙ ap (file_root sha256) (sym front)
 
-pub found_node : (old mid new : Option (List ℕ)) (file_length : ℕ) (root digest : List ℕ) (b : Building) (finding : Finding)
+pub found_node : (old mid new : Option (List ℕ)) (file_length : ℕ) (root digest : List ℕ) (b : BuilderState) (finding : Finding)
     → finding.blocks ≡ block_count file_length → (digest ≡ root → finding.marked ≡ finding.blocks) → (digest ≢ root → finding.marked ≡ 0)
     → b.layer ≡ height_of (block_count file_length) → b.index ≡ 0
     → ((file : List ℕ) → length file ≡ file_length → BuildsFrom sha256 b file)
@@ -115,7 +115,7 @@ finding_told (Some xs) None file_length root finding f = absurd f.given.taken
 finding_told (Some xs) (Some ys) file_length root finding f =
     rw f.given.taken (same_finding f.bytes ys file_length root finding (λ short. f.given.ended (omega (arith, short))) f.found)
 
-pub node_lost : (old mid new : Option (List ℕ)) (asked : ℕ) (b : Building) (digest : List ℕ) → GivesNode old mid asked b digest
+pub node_lost : (old mid new : Option (List ℕ)) (asked : ℕ) (b : BuilderState) (digest : List ℕ) → GivesNode old mid asked b digest
     → LosesFront mid new → LosesFront old new
 node_lost old mid new asked b digest node lost =
     record { lost = node.bytes ++ lost.lost; taken = Consumes-trans old mid new node.bytes lost.lost node.given.taken lost.taken }

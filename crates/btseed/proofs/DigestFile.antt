@@ -6,10 +6,10 @@ use Rattle.std.proofs.KnownBytes.{Consumes-nil, Consumes-trans}
 use Rattle.std.specs.Io.KnownBytes.{Consumes}
 use Rattle.sha2.specs.Sha256.{sha256}
 use Rattle.bt_tree.specs.Blocks.{block_count, HasRun}
-use Rattle.bt_tree.specs.Building.{Building, BuildsFrom, first_block}
+use Rattle.bt_tree.specs.RootBuilder.{BuilderState, BuildsFrom, first_block}
 use Rattle.bt_tree.specs.TreeShape.{height_of, real_width}
 use Rattle.bt_tree.specs.Tree.{node_digest}
-use Rattle.bt_tree.proofs.Shapes.{height_is}
+use Rattle.bt_tree.proofs.TreeShape.{height_is}
 use Rattle.btseed.specs.Reader.{GivesNode, TellsMore}
 use Rattle.btseed.specs.DigestSteps.{IsRow, GivesLayer, GivesFile}
 use Rattle.btseed.specs.Digests.{AreDigestsOf, IsPieceLayer, GivesAll}
@@ -24,7 +24,7 @@ layer_inside file_length layer long =
     elim (cases_lt h layer) [ inl lt ↦ let less = pow_below h layer lt in absurd (omega (arith, enough, less, long)) | inr le ↦ le ]
 
 -- a file of at most one piece
-pub short_file : (old new : Option (List ℕ)) (file_length layer piece_bytes : ℕ) (root : List ℕ) (b : Building) (digests : Digests)
+pub short_file : (old new : Option (List ℕ)) (file_length layer piece_bytes : ℕ) (root : List ℕ) (b : BuilderState) (digests : Digests)
     → file_length ≤ piece_bytes → piece_bytes ≡ 16384 * 2 ^ layer → b.layer ≡ height_of (block_count file_length) → b.index ≡ 0 → 0 < file_length
     → ((file : List ℕ) → length file ≡ file_length → BuildsFrom sha256 b file) → GivesNode old new file_length b root
     → digests.root ≡ root → digests.layer.items ≡ [] → GivesFile old new file_length layer digests

@@ -10,9 +10,9 @@ use Rattle.sha2.specs.Sha256.{sha256}
 use Rattle.bt_tree.specs.Blocks.{block_count, HasRun}
 use Rattle.bt_tree.specs.TreeShape.{real_width, height_of}
 use Rattle.bt_tree.specs.Tree.{node_digest, padding_digest}
-use Rattle.bt_tree.proofs.Shapes.{real_limit}
-use Rattle.bt_tree.proofs.RowNodes.{node_parent, node_past, length-node_digest}
-use Rattle.bt_tree.specs.Digest.{length-sha256}
+use Rattle.bt_tree.proofs.TreeShape.{real_limit}
+use Rattle.bt_tree.proofs.TreeNodes.{node_parent, node_past, length-node_digest}
+use Rattle.bt_tree.specs.NodeHash.{length-sha256}
 use Rattle.btseed.specs.Pieces.{piece_start, piece_size, GivesPiece}
 use Rattle.btseed.specs.DigestSteps.{IsRow, GivesLayer}
 use Rattle.btseed.specs.Digests.{IsPieceLayer}

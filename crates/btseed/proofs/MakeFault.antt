@@ -3,13 +3,13 @@ use Rattle.std.proofs.Common.{◌≡◌, ℕ, inl, inr, List, map, refl, sym, su
 use Rattle.std.specs.List.{All}
 use Rattle.bt_meta.specs.Faults.{first_fault}
 use Rattle.bt_meta.specs.GivenFiles.{given_of}
-use Rattle.bt_meta.specs.NotMade.{IsNotMade}
-use Rattle.bt_meta.specs.Refusals.{IsRefused}
+use Rattle.bt_meta.specs.Writer.{IsNotMade}
+use Rattle.bt_meta.specs.Reader.{IsRefused}
 use Rattle.bt_meta.specs.Torrent.{Metainfo, IsTorrent}
 use Rattle.bt_meta.specs.declared.error.MetaError.{MetaError}
-use Rattle.bt_meta.specs.declared.making.Made.{Made}
-use Rattle.bt_meta.specs.declared.making.MakeError.{MakeError}
-use Rattle.bt_meta.proofs.ReadBack.{refused_for_memory}
+use Rattle.bt_meta.specs.declared.writer.Made.{Made}
+use Rattle.bt_meta.specs.declared.writer.MakeError.{MakeError}
+use Rattle.bt_meta.proofs.LawReadBack.{refused_for_memory}
 use Rattle.btseed.specs.Make.{HasContent}
 use Rattle.btseed.specs.Make.{IsMakeFault}
 use Rattle.btseed.specs.Fault.{torrent_fault, make_fault}

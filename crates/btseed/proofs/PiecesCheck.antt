@@ -10,7 +10,7 @@ use Rattle.std.proofs.KnownBytes.{Consumes-nil, Consumes-trans}
 use Rattle.std.specs.Io.KnownBytes.{Consumes}
 use Rattle.bt_tree.specs.Blocks.{block_count, HasRun}
 use Rattle.bt_tree.specs.TreeShape.{real_width}
-use Rattle.bt_tree.proofs.Shapes.{real_lt}
+use Rattle.bt_tree.proofs.TreeShape.{real_lt}
 use Rattle.btseed.specs.Reader.{LosesFront, EndsEarly, TellsMore}
 use Rattle.btseed.specs.Pieces.{piece_start, piece_size, has_piece, right_blocks, GivesPiece, IsFindingByPieces, IsFindingByPiecesAt}
 use Rattle.btseed.specs.declared.data_file.Finding.{Finding}

@@ -9,11 +9,11 @@ use Rattle.std.proofs.lemmas.List.{drop-append-le, length-drop}
 use Rattle.std.proofs.lemmas.Bool.Decides.{leb_tells}
 use Rattle.sha2.specs.Sha256.{sha256}
 use Rattle.bt_tree.specs.Blocks.{block_count, block_at, HasRun}
-use Rattle.bt_tree.specs.Building.{Building, BuildsFrom, first_block, node_end}
+use Rattle.bt_tree.specs.RootBuilder.{BuilderState, BuildsFrom, first_block, node_end}
 use Rattle.bt_tree.specs.Tree.{node_digest}
 use Rattle.bt_tree.specs.TreeShape.{height_of, real_width, CoversBlock}
-use Rattle.bt_tree.proofs.Shapes.{real_limit}
-use Rattle.bt_tree.proofs.RowNodes.{row_node_same, node_digest_row, leaf_is}
+use Rattle.bt_tree.proofs.TreeShape.{real_limit}
+use Rattle.bt_tree.proofs.TreeNodes.{row_node_same, node_digest_row, leaf_is}
 use Rattle.btseed.specs.Reader.{GivesNode}
 use Rattle.btseed.specs.Pieces.{piece_start, piece_size, has_piece, right_blocks, GivesPiece}
 use lib.Seq.{take-append-le}
@@ -24,14 +24,14 @@ covers n layer index inside real =
     let limit = real_limit n layer inside in
     record { inside = record { in_height = inside; in_width = omega (arith, limit, real) }; real = real }
 
-pub piece_covers : (file_length layer index size : ℕ) (b : Building) → b.file_length ≡ file_length → b.layer ≡ layer → b.index ≡ index
+pub piece_covers : (file_length layer index size : ℕ) (b : BuilderState) → b.file_length ≡ file_length → b.layer ≡ layer → b.index ≡ index
     → index * 2 ^ layer < block_count file_length → size ≡ piece_size file_length layer index → 16384 * first_block b + size ≡ node_end b
 piece_covers file_length layer index size b len layer_is index_is real e =
     let first : first_block b ≡ index * 2 ^ layer = ap (λ i. i * 2 ^ b.layer) index_is ∙ ap (λ k. index * 2 ^ k) layer_is in
     let span : 2 ^ b.layer ≡ 2 ^ layer = ap (λ k. 2 ^ k) layer_is in
     omega (arith, first, span, len, real, e)
 
-pub piece_given : (old new : Option (List ℕ)) (file_length layer index size : ℕ) (digest : List ℕ) (b : Building) → b.layer ≡ layer → b.index ≡ index
+pub piece_given : (old new : Option (List ℕ)) (file_length layer index size : ℕ) (digest : List ℕ) (b : BuilderState) → b.layer ≡ layer → b.index ≡ index
     → ((file : List ℕ) → length file ≡ file_length → BuildsFrom sha256 b file) → GivesNode old new size b digest
     → GivesPiece old new file_length layer index size digest
 piece_given old new file_length layer index size digest b layer_is index_is from node =

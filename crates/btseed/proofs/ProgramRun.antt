@@ -5,14 +5,16 @@ use Rattle.std.specs.Io.KnownBytes.{Appends}
 use Rattle.std.proofs.KnownBytes.{Keeps-refl}
 use Rattle.clap.specs.Words.{Text}
 use Rattle.bt_tree.specs.TreeShape.{IsPieceLength}
-use Rattle.bt_meta.specs.declared.making.MakeError.TheVariants.{PieceLength}
+use Rattle.bt_meta.specs.declared.writer.MakeError.TheVariants.{PieceLength}
 use Rattle.btseed.specs.CommandLine.{IsTaskOf}
-use Rattle.btseed.specs.Report.{IsReport}
+use Rattle.bt_meta.specs.Torrent.{Metainfo}
+use Rattle.btseed.specs.Report.{IsReportOn, is_complete_report, report_text}
+use Rattle.btseed.specs.TorrentFile.{HasText}
 use Rattle.btseed.specs.Make.{IsMakeFault}
 use Rattle.btseed.specs.Program.{IsCheckResult, IsTaskResult, IsTaskEnd, IsRun, Writes, task_result, task_end}
 use Rattle.btseed.specs.ProgramSteps.{status_after}
 use Rattle.btseed.specs.Fault.{make_fault}
-use Rattle.btseed.specs.declared.check.Report.{Report}
+use Rattle.btseed.specs.declared.report.FileFinding.{FileFinding}
 use Rattle.btseed.specs.declared.command_line.MakeTask.{MakeTask}
 use Rattle.btseed.specs.declared.command_line.Source.{Source}
 use Rattle.btseed.specs.declared.command_line.Task.{Task}
@@ -29,10 +31,11 @@ not_made (Err found) request old fault cause why same = record {
   refused = λ _. Keeps-refl old;
 }
 
-pub checked : (source : Source) (report : Report) (old new : Option (List ℕ)) (text : List ℕ) (status : ℕ) → IsReport source.is_info report
-    → text ≡ string_bytes report.lines → Appends old new text → status ≡ (if report.complete then 0 else 1) → Writes (IsCheckResult source) old new status
-checked source report old new text status told lines put is =
-    record { text = text; written = put; is = record { report = report; told = told; lines = lines; answer = is } }
+pub checked : (source : Source) (torrent : Metainfo) (found : List FileFinding) (old new : Option (List ℕ)) (status : ℕ) → HasText source.is_info torrent
+    → IsReportOn torrent found → Appends old new (report_text found) → status ≡ (if is_complete_report found then 0 else 1)
+    → Writes (IsCheckResult source) old new status
+checked source torrent found old new status loaded report put is =
+    record { text = report_text found; written = put; is = record { torrent = torrent; loaded = loaded; found = found; report = report; lines = refl; answer = is } }
 
 pub performed : (words : List Text) (task : Task) (old new : Option (List ℕ)) (r : Result ℕ Fault) → IsTaskOf words task
     → IfOk r (Writes (IsTaskResult task) old new) → IfErr r (IsTaskEnd task old new) → IsRun words old new (status_after r)

@@ -6,13 +6,13 @@ use Rattle.std.proofs.lemmas.List.{take-take, drop-take, drop-drop}
 use Rattle.std.specs.Io.KnownBytes.{Consumes}
 use Rattle.sha2.specs.Sha256.{sha256}
 use Rattle.bt_tree.specs.Blocks.{block_count, HasRun}
-use Rattle.bt_tree.specs.Building.{Building, BuildsFrom, IsNextRun, TakesBlocks, IsComplete, first_block, next_block, node_end}
+use Rattle.bt_tree.specs.RootBuilder.{BuilderState, BuildsFrom, IsNextRun, TakesBlocks, IsComplete, first_block, next_block, node_end}
 use Rattle.bt_tree.specs.Tree.{node_digest}
 use Rattle.btseed.specs.Reader.{Gives, LosesFront, EndsEarly, GivesNode}
 use lib.Seq.{take-append-le, drop_at}
 
 -- What a reader gave so far of the bytes below a node: they were pushed, and `rest` bytes are left.
-pub record IsReading (old new : Option (List ℕ)) (asked rest : ℕ) (first b : Building) : Type 0 where
+pub record IsReading (old new : Option (List ℕ)) (asked rest : ℕ) (first b : BuilderState) : Type 0 where
   pub front : List ℕ
   pub taken : Consumes old new front
   pub count : length front + rest ≡ asked
@@ -20,7 +20,7 @@ pub record IsReading (old new : Option (List ℕ)) (asked rest : ℕ) (first b :
   pub takes : TakesBlocks first b (block_count (length front))
   pub from : (file : List ℕ) → BuildsFrom sha256 first file → HasRun file (16384 * first_block first) front → BuildsFrom sha256 b file
 
-pub reading_begun : (known : Option (List ℕ)) (asked : ℕ) (b : Building) → IsReading known known asked asked b b
+pub reading_begun : (known : Option (List ℕ)) (asked : ℕ) (b : BuilderState) → IsReading known known asked asked b b
 reading_begun known asked b = record {
   front = [];
   taken = Consumes-nil known;
@@ -30,14 +30,14 @@ reading_begun known asked b = record {
   from = λ file from here. from;
 }
 
-pub same_place : (first b : Building) (n : ℕ) → TakesBlocks first b n → first_block b ≡ first_block first
+pub same_place : (first b : BuilderState) (n : ℕ) → TakesBlocks first b n → first_block b ≡ first_block first
 same_place first b n t = ap (λ i. i * 2 ^ b.layer) t.index ∙ ap (λ k. first.index * 2 ^ k) t.layer
 
-same_span : (first b : Building) (n : ℕ) → TakesBlocks first b n → 2 ^ b.layer ≡ 2 ^ first.layer
+same_span : (first b : BuilderState) (n : ℕ) → TakesBlocks first b n → 2 ^ b.layer ≡ 2 ^ first.layer
 same_span first b n t = ap (λ k. 2 ^ k) t.layer
 
 -- the next byte to be pushed is the one behind those that came
-next_byte : (old new : Option (List ℕ)) (asked rest : ℕ) (first b : Building) → first.count ≡ 0 → 0 < rest
+next_byte : (old new : Option (List ℕ)) (asked rest : ℕ) (first b : BuilderState) → first.count ≡ 0 → 0 < rest
     → (r : IsReading old new asked rest first b) → 16384 * next_block b ≡ 16384 * first_block first + length r.front
 next_byte old new asked rest first b fresh some r =
     let place = same_place first b _ r.takes in
@@ -54,7 +54,7 @@ pub record IsWanted (wanted rest : ℕ) : Type 0 where
   pub fits : wanted ≤ rest
   pub whole : (wanted % 16384 ≡ 0) ⊎ (wanted ≡ rest)
 
-pub next_run : (old new : Option (List ℕ)) (asked rest wanted : ℕ) (first b : Building) → first.count ≡ 0
+pub next_run : (old new : Option (List ℕ)) (asked rest wanted : ℕ) (first b : BuilderState) → first.count ≡ 0
     → 16384 * first_block first + asked ≡ node_end first → IsWanted wanted rest → IsReading old new asked rest first b → IsNextRun b wanted
 next_run old new asked rest wanted first b fresh all w r =
     let next = next_byte old new asked rest first b fresh (omega (arith, w.some, w.fits)) r in
@@ -91,7 +91,7 @@ part_has_run file front part start next e here =
     ∙ sym (drop-take (length front) m (drop start file)) ∙ ap (λ n. drop (length front) (take n (drop start file))) (sym size)
     ∙ ap (drop (length front)) here ∙ drop_at front part (length front) refl
 
-pub reading_more : (old mid new : Option (List ℕ)) (asked rest wanted : ℕ) (first b next : Building) (part : List ℕ) → first.count ≡ 0
+pub reading_more : (old mid new : Option (List ℕ)) (asked rest wanted : ℕ) (first b next : BuilderState) (part : List ℕ) → first.count ≡ 0
     → IsWanted wanted rest → IsReading old mid asked rest first b → Consumes mid new part → length part ≡ wanted
     → TakesBlocks b next (block_count (length part))
     → ((file : List ℕ) → BuildsFrom sha256 b file → HasRun file (16384 * next_block b) part → BuildsFrom sha256 next file)
@@ -123,7 +123,7 @@ reading_more old mid new asked rest wanted first b next part fresh w r came size
     }
 
 -- the reader had fewer bytes than were wanted
-pub reading_early : (old mid new : Option (List ℕ)) (asked rest wanted : ℕ) (first b : Building) (part : List ℕ) → wanted ≤ rest
+pub reading_early : (old mid new : Option (List ℕ)) (asked rest wanted : ℕ) (first b : BuilderState) (part : List ℕ) → wanted ≤ rest
     → IsReading old mid asked rest first b → Gives mid new wanted part → length part < wanted → EndsEarly old new asked
 reading_early old mid new asked rest wanted first b part fits r gives short =
     let so_far = r.count in
@@ -138,13 +138,13 @@ reading_early old mid new asked rest wanted first b part fits r gives short =
       short = omega (arith, joined, so_far, fits, short);
     }
 
-pub reading_lost : (old mid new : Option (List ℕ)) (asked rest : ℕ) (first b : Building) → IsReading old mid asked rest first b
+pub reading_lost : (old mid new : Option (List ℕ)) (asked rest : ℕ) (first b : BuilderState) → IsReading old mid asked rest first b
     → LosesFront mid new → LosesFront old new
 reading_lost old mid new asked rest first b r lost =
     record { lost = r.front ++ lost.lost; taken = Consumes-trans old mid new r.front lost.lost r.taken lost.taken }
 
 -- every block came
-pub reading_complete : (old new : Option (List ℕ)) (asked : ℕ) (first b : Building) → first.count ≡ 0
+pub reading_complete : (old new : Option (List ℕ)) (asked : ℕ) (first b : BuilderState) → first.count ≡ 0
     → 16384 * first_block first + asked ≡ node_end first → IsReading old new asked 0 first b → IsComplete b
 reading_complete old new asked first b fresh all r =
     let place = same_place first b _ r.takes in
@@ -154,7 +154,7 @@ reading_complete old new asked first b fresh all r =
     let count = r.takes.count in
     omega (arith, place, span, size, so_far, count, all, fresh)
 
-pub reading_done : (old new : Option (List ℕ)) (asked : ℕ) (first b : Building) (digest : List ℕ) → IsReading old new asked 0 first b
+pub reading_done : (old new : Option (List ℕ)) (asked : ℕ) (first b : BuilderState) (digest : List ℕ) → IsReading old new asked 0 first b
     → ((file : List ℕ) → BuildsFrom sha256 b file → digest ≡ node_digest sha256 file b.layer b.index) → GivesNode old new asked first digest
 reading_done old new asked first b digest r value =
     let so_far = r.count in
@@ -182,7 +182,7 @@ all_came old new count wanted buffer size full gives =
     subst (Consumes old new) (take_all count buffer (omega (arith, size, full))) gives.taken
 
 -- some of it did not
-pub some_came : (old mid new : Option (List ℕ)) (asked rest count wanted : ℕ) (first b : Building) (buffer : List ℕ) → wanted ≤ rest
+pub some_came : (old mid new : Option (List ℕ)) (asked rest count wanted : ℕ) (first b : BuilderState) (buffer : List ℕ) → wanted ≤ rest
     → IsReading old mid asked rest first b → length buffer ≡ wanted → count < wanted → Gives mid new (length buffer) (take count buffer)
     → EndsEarly old new asked
 some_came old mid new asked rest count wanted first b buffer fits r size short gives =

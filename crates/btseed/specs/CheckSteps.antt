@@ -5,6 +5,7 @@ use Rattle.bt_tree.specs.Blocks.{block_count}
 use Rattle.bt_tree.specs.TreeShape.{height_of, real_width}
 use Rattle.bt_meta.specs.Files.{File}
 use Rattle.bt_meta.specs.declared.error.MetaError.TheVariants.{FileLength, LayerSize}
+use Rattle.bt_tree.specs.Limits.{max_file_length}
 use Rattle.btseed.specs.Check.{IsEntryFinding, digests_in}
 use Rattle.btseed.specs.Fault.{device}
 use Rattle.btseed.specs.Reader.{Gives}
@@ -28,7 +29,7 @@ pub record HasLayerSize (layer file_length : ℕ) (digests : List (List ℕ)) : 
 abbrev pub IsEntryFault : ℕ → File → Fault → Type 0
 IsEntryFault layer file fault =
     (fault ≡ device)
-    ⊎ ((fault ≡ Torrent FileLength) × (2 ^ 40 < file.length))
+    ⊎ ((fault ≡ Torrent FileLength) × (max_file_length < file.length))
     ⊎ ((fault ≡ Torrent LayerSize) × (file.layer ≢ [])
     × ¬ HasLayerSize layer file.length (digests_in file.layer))
 

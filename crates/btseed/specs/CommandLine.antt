@@ -48,6 +48,7 @@ abbrev pub top_app : App
 top_app = record (new_app (codes "btseed")) {
   top = record (new_app (codes "btseed")).top {
     no_binary_name = true;
+    has_version = true;
     subcommand_required = true;
     arg_required_else_help = true;
   };

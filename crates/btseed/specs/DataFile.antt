@@ -1,5 +1,5 @@
 -- What a check finds of the bytes of a data file.
-use Rattle.std.specs.Prelude.{◌≡◌, ℕ, ◌+◌, ◌<◌, ◌≤◌, ◌↔◌, List, Option, length, take, IsTrue}
+use Rattle.std.specs.Prelude.{◌≡◌, ℕ, ◌+◌, ◌<◌, ◌≤◌, ◌↔◌, ◌==◌, ◌&&◌, Bool, not, List, Option, length, take, IsTrue}
 use Rattle.sha2.specs.Sha256.{sha256}
 use Rattle.bt_tree.specs.Blocks.{block_count}
 use Rattle.bt_tree.specs.Tree.{file_root}
@@ -24,3 +24,7 @@ pub record IsFindingAt (old new : Option (List ℕ)) (file_length : ℕ) (root :
   pub bytes : List ℕ
   pub given : Gives old new (file_length + 1) bytes
   pub found : IsFindingOf bytes file_length root finding
+
+-- the data file is the torrent's: all its blocks are marked, and it is not longer
+abbrev pub is_complete_finding : Finding → Bool
+is_complete_finding finding = finding.marked == finding.blocks && not finding.longer

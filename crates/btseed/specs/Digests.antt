@@ -4,7 +4,8 @@ use Rattle.sha2.specs.Sha256.{sha256}
 use Rattle.bt_tree.specs.Blocks.{block_count}
 use Rattle.bt_tree.specs.Tree.{node_digest, file_root}
 use Rattle.bt_tree.specs.TreeShape.{real_width}
-use Rattle.bt_meta.specs.declared.making.MakeError.TheVariants.{FileLength}
+use Rattle.bt_meta.specs.declared.writer.MakeError.TheVariants.{FileLength}
+use Rattle.bt_tree.specs.Limits.{full_block_length, max_file_length}
 use Rattle.btseed.specs.Fault.{device, out_of_memory, make_fault}
 use Rattle.btseed.specs.Reader.{Gives}
 use Rattle.btseed.specs.declared.digests.Digests.{Digests}
@@ -20,8 +21,8 @@ pub record IsPieceLayer (file : List ℕ) (layer : ℕ) (bytes : List ℕ) : Typ
 pub record AreDigestsOf (file : List ℕ) (layer : ℕ) (digests : Digests) : Type 0 where
   pub empty : length file ≡ 0 → digests.root ≡ replicate 32 0
   pub root : 0 < length file → digests.root ≡ file_root sha256 file
-  pub short : length file ≤ 16384 * 2 ^ layer → digests.layer.items ≡ []
-  pub long : 16384 * 2 ^ layer < length file → IsPieceLayer file layer digests.layer.items
+  pub short : length file ≤ full_block_length * 2 ^ layer → digests.layer.items ≡ []
+  pub long : full_block_length * 2 ^ layer < length file → IsPieceLayer file layer digests.layer.items
 
 -- a reader that was asked for one byte more gave just so many, and these are their digests
 pub record GivesAll (old new : Option (List ℕ)) (file_length layer : ℕ) (digests : Digests) : Type 0 where
@@ -33,4 +34,5 @@ pub record GivesAll (old new : Option (List ℕ)) (file_length layer : ℕ) (dig
 -- a file could not be read, or there is no memory for its layer; or it is too long
 abbrev pub IsDigestFault : ℕ → Fault → Type 0
 IsDigestFault length fault =
-    (fault ≡ device) ⊎ (fault ≡ out_of_memory) ⊎ ((fault ≡ make_fault FileLength) × (2 ^ 40 < length))
+    (fault ≡ device) ⊎ (fault ≡ out_of_memory)
+    ⊎ ((fault ≡ make_fault FileLength) × (max_file_length < length))

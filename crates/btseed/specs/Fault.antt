@@ -2,8 +2,8 @@
 use Rattle.std.specs.Prelude.{ℕ}
 use Rattle.bt_meta.specs.declared.error.MetaError.{MetaError}
 use Rattle.bt_meta.specs.declared.error.MetaError.TheVariants.{OutOfMemory as no_memory}
-use Rattle.bt_meta.specs.declared.making.MakeError.{MakeError}
-use Rattle.bt_meta.specs.declared.making.MakeError.TheVariants.{OutOfMemory as no_memory_to_make}
+use Rattle.bt_meta.specs.declared.writer.MakeError.{MakeError}
+use Rattle.bt_meta.specs.declared.writer.MakeError.TheVariants.{OutOfMemory as no_memory_to_make}
 use Rattle.btseed.specs.declared.fault.Fault.{Fault}
 use Rattle.btseed.specs.declared.fault.Fault.TheVariants.{Words, Torrent, Make, Device, OutOfMemory}
 

@@ -1,6 +1,6 @@
 -- What a walk over a folder gives. No contract speaks of what a folder holds.
 use Rattle.std.specs.Prelude.{◌≡◌, ◌≢◌, ◌⊎◌, ℕ, List, []}
-use Rattle.bt_meta.specs.declared.making.MakeError.TheVariants.{BadPath}
+use Rattle.bt_meta.specs.declared.writer.MakeError.TheVariants.{BadPath}
 use Rattle.btseed.specs.Fault.{device, out_of_memory, make_fault}
 use Rattle.btseed.specs.declared.fault.Fault.{Fault}
 

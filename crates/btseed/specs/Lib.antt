@@ -16,6 +16,7 @@ pub mod DigestSteps
 pub mod Folder
 pub mod FolderSteps
 pub mod Make
+pub mod MakeSteps
 pub mod AtomicFileSteps
 pub mod Program
 pub mod ProgramSteps

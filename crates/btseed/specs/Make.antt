@@ -4,16 +4,18 @@ use Rattle.std.specs.Prelude.{◌≡◌, ℕ, ◌*◌, ◌^◌, ◌⊎◌, List,
 use Rattle.std.specs.List.{All}
 use Rattle.bt_tree.specs.TreeShape.{IsPieceLength}
 use Rattle.bt_meta.specs.GivenFiles.{given_of}
-use Rattle.bt_meta.specs.Making.{IsMade}
-use Rattle.bt_meta.specs.NotMade.{IsNotMade}
+use Rattle.bt_meta.specs.Writer.{IsMade}
+use Rattle.bt_meta.specs.Writer.{IsNotMade}
 use Rattle.bt_meta.specs.Torrent.{Metainfo, IsTorrent}
-use Rattle.bt_meta.specs.declared.making.Made.{Made}
-use Rattle.bt_meta.specs.declared.making.MakeError.{MakeError}
-use Rattle.bt_meta.specs.declared.making.MakeError.TheVariants.{PieceLength, FileLength, Count}
+use Rattle.bt_meta.specs.declared.writer.Made.{Made}
+use Rattle.bt_meta.specs.declared.writer.MakeError.{MakeError}
+use Rattle.bt_meta.specs.declared.writer.MakeError.TheVariants.{PieceLength, FileLength, Count}
+use Rattle.bt_tree.specs.Limits.{full_block_length}
 use Rattle.btseed.specs.Digests.{AreDigestsOf}
 use Rattle.btseed.specs.Fault.{make_fault}
 use Rattle.btseed.specs.Folder.{IsListingFault}
 use Rattle.btseed.specs.declared.fault.Fault.{Fault}
+use Rattle.btseed.specs.declared.make.NewTorrent.{NewTorrent}
 
 -- what is told of a file, of which some bytes are the content
 pub record HasContent (layer : ℕ) (file : Made) : Type 0 where
@@ -21,17 +23,16 @@ pub record HasContent (layer : ℕ) (file : Made) : Type 0 where
   pub whole : length bytes ≡ file.length
   pub are : AreDigestsOf bytes layer (record { root = file.root; layer = file.layer })
 
--- the infohash of a torrent that was made of such files, by pieces of 2 ^ layer blocks
-pub record IsMakeHash (name : List ℕ) (piece_length : ℕ) (infohash : List ℕ) : Type 0 where
+-- a torrent that was made of such files, by pieces of 2 ^ layer blocks, and its infohash
+pub record IsMakeTorrent (name : List ℕ) (piece_length : ℕ) (new : NewTorrent) : Type 0 where
   pub layer : ℕ
-  pub pieces : piece_length ≡ 16384 * 2 ^ layer
+  pub pieces : piece_length ≡ full_block_length * 2 ^ layer
   pub files : List Made
   pub contents : All (HasContent layer) files
-  pub text : List ℕ
-  pub made : IsMade name piece_length (map given_of files) text
+  pub text : IsMade name piece_length (map given_of files) new.text.items
   pub torrent : Metainfo
-  pub read : IsTorrent text torrent
-  pub hash : infohash ≡ torrent.infohash
+  pub read : IsTorrent new.text.items torrent
+  pub hash : new.infohash ≡ torrent.infohash
 
 -- a folder could not be listed, or its files are too long or too many: nothing says what it holds
 abbrev pub IsFolderFault : Fault → Type 0

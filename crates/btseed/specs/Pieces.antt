@@ -5,16 +5,18 @@ use Rattle.std.specs.Cmp.Lexicographic.{pointwise}
 use Rattle.sha2.specs.Sha256.{sha256}
 use Rattle.bt_tree.specs.Blocks.{block_count, HasRun}
 use Rattle.bt_tree.specs.Tree.{node_digest}
+use Rattle.bt_tree.specs.Limits.{full_block_length}
 use Rattle.btseed.specs.Reader.{Gives}
 use Rattle.btseed.specs.declared.data_file.Finding.{Finding}
 
 -- the byte at which a piece begins
 abbrev pub piece_start : ℕ → ℕ → ℕ
-piece_start layer index = 16384 * (index * 2 ^ layer)
+piece_start layer index = full_block_length * (index * 2 ^ layer)
 
 -- how many bytes it has, in a file of so many bytes
 abbrev pub piece_size : ℕ → ℕ → ℕ → ℕ
-piece_size file_length layer index = min (16384 * 2 ^ layer) (file_length - piece_start layer index)
+piece_size file_length layer index =
+    min (full_block_length * 2 ^ layer) (file_length - piece_start layer index)
 
 -- the bytes, as those of a file of this length, have the whole piece, and its node has this digest
 abbrev pub has_piece : List ℕ → ℕ → ℕ → ℕ → List ℕ → Bool

@@ -1,5 +1,5 @@
 -- What the program does with its words: the status that it answers, and the text that it writes.
-use Rattle.std.specs.Prelude.{◌≡◌, ℕ, ◌++◌, ◌⊎◌, List, Option, codes, string_bytes, if◌then◌else◌}
+use Rattle.std.specs.Prelude.{◌≡◌, ℕ, ◌++◌, ◌⊎◌, List, Option, codes, if◌then◌else◌}
 use Rattle.std.specs.Io.KnownBytes.{Appends, Keeps}
 use Rattle.clap.specs.Words.{Text}
 use Rattle.clap.specs.declared.error.kind.ErrorKind.{ErrorKind}
@@ -7,29 +7,29 @@ use Rattle.clap.specs.declared.error.kind.ErrorKind.TheVariants.{DisplayHelp, Di
 use Rattle.hex.specs.Hex.{encode_lower}
 use Rattle.bt_tree.specs.TreeShape.{IsPieceLength}
 use Rattle.bt_meta.specs.Torrent.{Metainfo}
-use Rattle.bt_meta.specs.declared.making.MakeError.TheVariants.{PieceLength}
+use Rattle.bt_meta.specs.declared.writer.MakeError.TheVariants.{PieceLength}
 use Rattle.btseed.specs.CommandLine.{IsTaskOf, IsNoTaskOf}
-use Rattle.btseed.specs.Report.{IsReport}
-use Rattle.btseed.specs.Make.{IsMakeHash}
-use Rattle.btseed.specs.TorrentFile.{HasText, IsLoadFault}
-use Rattle.btseed.specs.Make.{IsMakeFault}
 use Rattle.btseed.specs.Display.{line_text}
+use Rattle.btseed.specs.Fault.{make_fault, out_of_memory, status_of, words_fault}
+use Rattle.btseed.specs.Make.{IsMakeFault, IsMakeTorrent}
+use Rattle.btseed.specs.Report.{IsReportOn, is_complete_report, report_text}
 use Rattle.btseed.specs.Show.{show_text}
-use Rattle.btseed.specs.Fault.{status_of, make_fault}
-use Rattle.btseed.specs.declared.check.Report.{Report}
+use Rattle.btseed.specs.TorrentFile.{HasText, IsLoadFault}
 use Rattle.btseed.specs.declared.command_line.MakeTask.{MakeTask}
 use Rattle.btseed.specs.declared.command_line.Source.{Source}
 use Rattle.btseed.specs.declared.command_line.Task.{Task}
 use Rattle.btseed.specs.declared.command_line.Task.TheVariants.{Make, Show, Check}
 use Rattle.btseed.specs.declared.fault.Fault.{Fault}
+use Rattle.btseed.specs.declared.make.NewTorrent.{NewTorrent}
+use Rattle.btseed.specs.declared.report.FileFinding.{FileFinding}
 
 -- ---- a task that is done
 
 -- a torrent was made, and the text is a line with its infohash
 pub record IsMakeResult (request : MakeTask) (status : ℕ) (text : List ℕ) : Type 0 where
-  pub hash : List ℕ
-  pub made : IsMakeHash request.name.now request.piece_length hash
-  pub line : text ≡ line_text (codes "infohash " ++ encode_lower hash)
+  pub new : NewTorrent
+  pub made : IsMakeTorrent request.name.now request.piece_length new
+  pub line : text ≡ line_text (codes "infohash " ++ encode_lower new.infohash)
   pub answer : status ≡ 0
 
 -- a torrent was read, and the text is what it says
@@ -39,12 +39,15 @@ pub record IsShowResult (source : Source) (status : ℕ) (text : List ℕ) : Typ
   pub lines : text ≡ show_text torrent
   pub answer : status ≡ 0
 
--- the files of a torrent were checked, the text is the report's, and the status says whether all are complete
+-- a torrent was read and its files were checked, the text is the report's, and the status says whether all
+-- are complete
 pub record IsCheckResult (source : Source) (status : ℕ) (text : List ℕ) : Type 0 where
-  pub report : Report
-  pub told : IsReport source.is_info report
-  pub lines : text ≡ string_bytes report.lines
-  pub answer : status ≡ (if report.complete then 0 else 1)
+  pub torrent : Metainfo
+  pub loaded : HasText source.is_info torrent
+  pub found : List FileFinding
+  pub report : IsReportOn torrent found
+  pub lines : text ≡ report_text found
+  pub answer : status ≡ (if is_complete_report found then 0 else 1)
 
 -- a task was done, with this status and this text
 abbrev pub IsTaskResult : Task → ℕ → List ℕ → Type 0
@@ -94,3 +97,9 @@ pub data IsRun (words : List Text) (old new : Option (List ℕ)) (status : ℕ) 
       → IsTaskEnd task old new fault → status ≡ status_of fault → IsRun words old new status
   no_task : (kind : ErrorKind) → IsNoTaskOf words kind
       → IsExplanation kind old new status → IsRun words old new status
+
+-- a run on some words; or the words could not be had, and nothing was written
+pub data IsStart (old new : Option (List ℕ)) (status : ℕ) : Type 0 where
+  on_words : (words : List Text) → IsRun words old new status → IsStart old new status
+  no_words : (fault : Fault) → (fault ≡ words_fault) ⊎ (fault ≡ out_of_memory) → status ≡ status_of fault
+      → Keeps old new → IsStart old new status

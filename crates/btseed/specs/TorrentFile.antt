@@ -1,7 +1,7 @@
 -- What a torrent's file gives. No contract speaks of files themselves: these say that there is some text.
 use Rattle.std.specs.Prelude.{◌≡◌, ℕ, ◌⊎◌, Bool, true, false, List}
 use Rattle.bt_meta.specs.Faults.{first_fault, first_info_fault}
-use Rattle.bt_meta.specs.Refusals.{IsRefused}
+use Rattle.bt_meta.specs.Reader.{IsRefused}
 use Rattle.bt_meta.specs.Torrent.{Metainfo, IsTorrent, IsInfo}
 use Rattle.bt_meta.specs.declared.error.MetaError.{MetaError}
 use Rattle.btseed.specs.Fault.{device, out_of_memory, torrent_fault}

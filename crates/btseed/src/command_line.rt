@@ -39,6 +39,8 @@ pub struct MakeTask<'a> {
 const ABOUT: &str =
     "A seed store for the files of a BitTorrent v2 torrent: tells which are right, by their pieces roots.";
 
+const VERSION: &str = "0.1.0";
+
 const TORRENT_HELP: &str = "The torrent file";
 
 /// Reads the words that follow the program's name. Where they ask for help, or are refused, the error has the text.
@@ -127,6 +129,7 @@ fn top_command<'a>(alloc: Global) -> Result<Command<'a>, AllocError>
     Ok(
         command
             .about(ABOUT)
+            .version(VERSION)
             .no_binary_name(true)
             .subcommand_required(true)
             .arg_required_else_help(true),

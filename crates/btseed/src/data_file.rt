@@ -1,13 +1,17 @@
 //! Checking the bytes of a data file against the file's pieces root (BEP 52).
-ghost use Rattle.std.specs.Prelude.{◌≡◌, ◌≢◌, ℕ, List, nat_eq, if◌then◌else◌, IfOk, IfSome, OnErr};
+ghost use Rattle.std.specs.Prelude.{◌≡◌, ◌≢◌, ◌↔◌, ◌⊎◌, ℕ, List, nat_eq, if◌then◌else◌, IsTrue, IfOk, IfErr, IfSome, OnErr};
 ghost use Rattle.std.specs.Cmp.Lexicographic.{pointwise};
 ghost use Rattle.btseed.specs.DataFile.{IsFindingOf, IsFindingAt};
+ghost use Rattle.btseed.specs.Fault.{device};
 ghost use Rattle.btseed.specs.Reader.{LosesFront};
 
-use crate::fault::DeviceFault;
+use crate::fault::{DeviceFault, Fault};
 use crate::reader::{BUFFER_LEN, has_more, read_node};
 use bt_tree::{Geometry, Hash32, Plain, RootBuilder};
-use std::io::Read;
+use std::fs;
+use std::io::{ErrorKind, Read};
+use std::path::Path;
+use std::rt::Files;
 
 /// What a check found of one file: how many blocks it has, how many of them are marked as right, and whether its data
 /// file is longer than the torrent says.
@@ -19,7 +23,7 @@ pub struct Finding {
 }
 
 impl Finding {
-    ghost use Rattle.btseed.specs.Report.{is_complete_finding};
+    ghost use Rattle.btseed.specs.DataFile.{is_complete_finding};
 
     /// Whether the data file is the torrent's: all its blocks are marked, and it is not longer.
     pub fn is_complete(self) -> bool
@@ -27,6 +31,35 @@ impl Finding {
     {
         self.marked == self.blocks && !self.longer
     }
+}
+
+/// Opens a data file; none where no file can be at the path. What is there and is no regular file is a device fault: it
+/// is not opened, since a pipe would wait for a writer.
+pub fn open_data_file<R: Files>(rt: &R, path: Path<'_>) -> Result<Option<R::File>, Fault>
+    ensures { IfErr result (λ fault. fault ≡ device) }
+{
+    match fs::metadata(rt, path) {
+        Ok(metadata) if metadata.is_file() => {}
+        Err(error) if is_absence(error.kind()) => return Ok(None),
+        Ok(_) | Err(_) => return Err(Fault::Device),
+    }
+    match fs::open(rt, path) {
+        Ok(file) => Ok(Some(file)),
+        Err(error) if is_absence(error.kind()) => Ok(None),
+        Err(_) => Err(Fault::Device),
+    }
+}
+
+/// Whether an error says that no file can be at a path: there is nothing, one of its folders is none, or a name, or the
+/// path, is longer than the system takes.
+fn is_absence(kind: ErrorKind) -> bool
+    ensures { IsTrue result ↔ ((kind ≡ ErrorKind.NotFound)
+        ⊎ (kind ≡ ErrorKind.NotADirectory) ⊎ (kind ≡ ErrorKind.InvalidFilename)) }
+{
+    matches!(
+        kind,
+        ErrorKind::NotFound | ErrorKind::NotADirectory | ErrorKind::InvalidFilename
+    )
 }
 
 /// How many of so many blocks are marked: all where the digest that was built is the one wanted, else none.

@@ -4,6 +4,7 @@ ghost use Rattle.bt_tree.specs.Blocks.{block_count};
 ghost use Rattle.bt_tree.specs.Tree.{node_digest};
 ghost use Rattle.bt_tree.specs.TreeShape.{height_of};
 ghost use Rattle.sha2.specs.Sha256.{sha256};
+ghost use Rattle.bt_tree.specs.Limits.{max_height};
 ghost use Rattle.btseed.specs.Fault.{device, out_of_memory};
 ghost use Rattle.btseed.specs.Digests.{IsDigestFault};
 ghost use Rattle.btseed.specs.DigestSteps.{GivesLayer, GivesFile, IsRow};
@@ -119,7 +120,7 @@ fn read_layer<R: Read>(
 /// The digest of a node that lies so many layers above a layer, `base`: of the nodes of that layer that lie below it,
 /// those that cover a block have these digests.
 fn node_above(digests: &[u8], base: u8, layers: u8) -> Hash32
-    requires high { base + layers ≤ 26 }
+    requires high { base + layers ≤ max_height }
     ensures { (file : List ℕ) (index count : ℕ) → IsRow file base layers index count digests.now
         → result ≡ node_digest sha256 file (base + layers) index }
 {

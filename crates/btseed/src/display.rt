@@ -2,7 +2,10 @@
 ghost use Rattle.std.specs.Prelude.{◌≡◌, IfOk, string_bytes};
 ghost use Rattle.std.specs.List.{list_all};
 ghost use Rattle.btseed.specs.Display.{display_text, hex_text, is_readable, is_visible};
+ghost use Rattle.btseed.specs.Paths.{path_text};
 
+use crate::paths::joined_path;
+use bt_meta::FilePath;
 use std::alloc::{AllocError, Global};
 use std::str;
 
@@ -15,6 +18,15 @@ pub fn display(alloc: Global, name: &[u8]) -> Result<String, AllocError>
         Ok(text) if is_readable_text(name) => String::from_str(alloc, text),
         _ => hexadecimal(alloc, name),
     }
+}
+
+/// The path of a file, its elements joined by `/`, as it is printed.
+pub fn display_path(alloc: Global, path: &FilePath) -> Result<String, AllocError>
+    ensures { IfOk result
+        (λ text. string_bytes text ≡ display_text (path_text path.now)) }
+{
+    let path = joined_path(alloc, path)?;
+    display(alloc, path.as_bytes())
 }
 
 /// `0x` and the bytes in hexadecimal.

@@ -2,6 +2,8 @@
 ghost use Rattle.std.specs.Prelude.{◌≡◌, ◌+◌, ◌≤◌, ◌^◌, IfOk, OnOk};
 ghost use Rattle.std.specs.Result.{result_err};
 ghost use Rattle.bt_meta.specs.Files.{piece_count};
+ghost use Rattle.bt_meta.specs.Limits.{max_file_count, max_piece_count};
+ghost use Rattle.bt_tree.specs.Limits.{max_file_length};
 ghost use Rattle.btseed.specs.Limits.{count_refusal};
 
 use crate::pieces::PieceSize;
@@ -12,8 +14,8 @@ use bt_meta::{MAX_FILE_LENGTH, MAX_FILES, MAX_PATH_LENGTH, MAX_PIECES, MakeError
 pub struct Counts {
     pub files: usize,
     pub pieces: u64,
-    ghost few: { files ≤ 65536 },
-    ghost limit: { pieces ≤ 2 ^ 21 },
+    ghost few: { files ≤ max_file_count },
+    ghost limit: { pieces ≤ max_piece_count },
 }
 
 impl Counts {
@@ -33,7 +35,7 @@ impl Counts {
     pub fn with(self, elements: usize, length: u64, size: PieceSize) -> Result<Self, MakeError>
         ensures refused { result_err result
             ≡ count_refusal self.files self.pieces size.bytes elements length }
-        ensures short { OnOk result (length ≤ 2 ^ 40) }
+        ensures short { OnOk result (length ≤ max_file_length) }
         ensures files { IfOk result (λ counts. counts.files ≡ self.files + 1) }
         ensures pieces { IfOk result (λ counts. counts.pieces ≡ self.pieces + piece_count size.bytes length) }
     {

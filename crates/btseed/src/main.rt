@@ -1,9 +1,6 @@
 //! The program `btseed`, a seed store for the files of a BitTorrent v2 torrent (BEP 52).
 #![tactic(auto)]
 
-ghost use Rattle.std.specs.Prelude.{◌≡◌, ◌⊎◌, IfErr};
-ghost use Rattle.btseed.specs.Fault.{words_fault, out_of_memory};
-
 mod atomic_file;
 mod check;
 mod command_line;
@@ -14,6 +11,7 @@ mod fault;
 mod folder;
 mod limits;
 mod make;
+mod output;
 mod paths;
 mod pieces;
 mod program;
@@ -22,36 +20,11 @@ mod report;
 mod show;
 mod torrent_file;
 
-use fault::Fault;
-use program::{report_fault, run};
-use std::env::{self, Env};
-use std::io::ErrorKind;
+use program::start;
 use std::process::ExitCode;
 
-/// The words that follow the program's name.
-fn words(rt: &(impl Env + AllocGlobal)) -> Result<Vec<String>, Fault>
-    ensures { IfErr result (λ fault. (fault ≡ words_fault) ⊎ (fault ≡ out_of_memory)) }
-{
-    match env::args(rt) {
-        Ok(words) => Ok(words.skip(1).collect(rt.alloc())?),
-        Err(error) if error.kind() == ErrorKind::OutOfMemory => Err(Fault::OutOfMemory),
-        Err(_) => Err(Fault::Words),
-    }
-}
-
 fn main(rt: HostRuntime) -> ExitCode {
-    let mut faults = rt.stderr();
-    let status = match words(&rt) {
-        Ok(words) => run(
-            &rt,
-            words.as_slice(),
-            &mut rt.stdin(),
-            &mut rt.stdout(),
-            &mut faults,
-        ),
-        Err(fault) => report_fault(fault, &mut faults),
-    };
-    ExitCode::from(status)
+    start(&rt, &mut rt.stdin(), &mut rt.stdout(), &mut rt.stderr())
 }
 
 #[cfg(test)]

@@ -1,21 +1,23 @@
 //! The command `make`.
-ghost use Rattle.std.specs.Prelude.{◌≡◌, ◌≤◌, ◌^◌, map, string_bytes, IfOk, IfErr, IsErrAnd};
+ghost use Rattle.std.specs.Prelude.{◌≡◌, ◌≤◌, ◌^◌, length, map, string_bytes, IfOk, IfErr, IsErrAnd};
 ghost use Rattle.std.specs.List.{All};
 ghost use Rattle.bt_tree.specs.TreeShape.{IsPieceLength};
-ghost use Rattle.bt_meta.specs.declared.making.MakeError.TheVariants.{PieceLength};
-ghost use Rattle.btseed.specs.Make.{HasContent, IsMakeHash};
+ghost use Rattle.bt_meta.specs.declared.writer.MakeError.TheVariants.{PieceLength};
+ghost use Rattle.bt_meta.specs.Limits.{max_file_count, max_piece_count};
+ghost use Rattle.bt_tree.specs.Limits.{max_file_length};
 ghost use Rattle.btseed.specs.Digests.{IsDigestFault};
-ghost use Rattle.btseed.specs.Make.{IsFolderFault, IsMakeFault};
 ghost use Rattle.btseed.specs.Fault.{make_fault};
 ghost use Rattle.btseed.specs.Folder.{HasElement};
+ghost use Rattle.btseed.specs.Make.{HasContent, IsFolderFault, IsMakeFault, IsMakeTorrent};
+ghost use Rattle.btseed.specs.MakeSteps.{total_piece_count};
 
-use crate::atomic_file::replace_file;
 use crate::command_line::MakeTask;
+use crate::data_file::open_data_file;
 use crate::digests::{Digests, digest_reader};
 use crate::fault::Fault;
 use crate::folder::files_in;
 use crate::limits::Counts;
-use crate::paths::data_path;
+use crate::paths::found_path;
 use crate::pieces::PieceSize;
 use crate::reader::BUFFER_LEN;
 use bt_meta::{Made, MakeError, read_torrent};
@@ -23,13 +25,20 @@ use bt_tree::Hash32;
 use std::fs;
 use std::rt::Files;
 
-/// Writes the torrent of a folder, and gives its infohash. The first fault ends it, and is looked for in the piece
-/// length, then in the folder, its files and the file that is written.
+/// A torrent that was made: its bytes, and its infohash.
+#[derive(Drop)]
+pub struct NewTorrent {
+    pub text: Vec<u8>,
+    pub infohash: Hash32,
+}
+
+/// Makes the torrent of a folder. The first fault ends it, and is looked for in the piece length, then in the folder, and
+/// then in its files.
 pub fn make<R: Files + AllocGlobal + Clone + Drop>(
     rt: &R,
     request: MakeTask<'_>,
-) -> Result<Hash32, Fault>
-    ensures hash { IfOk result (IsMakeHash request.entry.name.now request.entry.piece_length) }
+) -> Result<NewTorrent, Fault>
+    ensures torrent { IfOk result (IsMakeTorrent request.entry.name.now request.entry.piece_length) }
     ensures length { ¬ IsPieceLength request.entry.piece_length
         → IsErrAnd result (λ fault. fault ≡ make_fault PieceLength) }
     ensures fault { IfErr result (IsMakeFault request.entry.name.now request.entry.piece_length) }
@@ -40,14 +49,12 @@ pub fn make<R: Files + AllocGlobal + Clone + Drop>(
     };
     let mut buffer = [0; BUFFER_LEN];
     let mut files = Vec::new(alloc);
-    let sized = folder_files(rt, request.dir, size)?;
-    for file in sized {
+    for file in folder_files(rt, request.dir, size)? {
         files.push(read_entry(rt, request.dir, file, size, &mut buffer)?)?;
     }
     let text = bt_meta::make(alloc, request.name.as_bytes(), request.piece_length, &files)?;
     let infohash = read_torrent(alloc, &text)?.infohash();
-    replace_file(rt, request.out, &text)?;
-    Ok(infohash)
+    Ok(NewTorrent { text, infohash })
 }
 
 /// A file of the folder: its path below it, and how many bytes it has.
@@ -65,15 +72,17 @@ fn folder_files<R: Files + AllocGlobal + Clone + Drop>(
 ) -> Result<Vec<FolderFile>, Fault>
     ensures named { IfOk result
         (λ files. All (λ file. HasElement (map string_bytes file.path.items)) files.items) }
-    ensures short { IfOk result (λ files. All (λ file. file.length ≤ 2 ^ 40) files.items) }
+    ensures short { IfOk result (λ files. All (λ file. file.length ≤ max_file_length) files.items) }
+    ensures count { IfOk result (λ files. length files.items ≤ max_file_count) }
+    ensures pieces { IfOk result (λ files. total_piece_count size.bytes files.items ≤ max_piece_count) }
     ensures fault { IfErr result IsFolderFault }
 {
     let alloc = rt.alloc();
     let mut counts = Counts::new();
     let mut files = Vec::new(alloc);
     for path in files_in(rt, dir)? {
-        let place = data_path(alloc, dir, &path)?;
-        let length = fs::metadata(rt, place).map_err(|_| Fault::Device)?.len();
+        let data = found_path(alloc, dir, &path)?;
+        let length = fs::metadata(rt, data).map_err(|_| Fault::Device)?.len();
         counts = counts.with(path.len(), length, size)?;
         files.push(FolderFile { path, length })?;
     }
@@ -95,8 +104,10 @@ fn read_entry<R: Files + AllocGlobal>(
 {
     let alloc = rt.alloc();
     let FolderFile { path, length } = file;
-    let place = data_path(alloc, dir, &path)?;
-    let mut reader = fs::open(rt, place).map_err(|_| Fault::Device)?;
+    let data = found_path(alloc, dir, &path)?;
+    let Some(mut reader) = open_data_file(rt, data.as_path())? else {
+        return Err(Fault::Device);
+    };
     let Digests { root, layer } = digest_reader(alloc, &mut reader, length, size, buffer)?;
     Ok(Made {
         path,

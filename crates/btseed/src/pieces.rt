@@ -2,13 +2,14 @@
 ghost use Rattle.std.specs.Prelude.{◌≡◌, ◌+◌, ◌*◌, ◌^◌, ◌<◌, ◌≤◌, ◌↔◌, length, IsSome, IfOk, IfNone, IfSome, OnErr};
 ghost use Rattle.bt_tree.specs.Blocks.{block_count};
 ghost use Rattle.bt_tree.specs.TreeShape.{height_of, real_width, IsPieceLength};
+ghost use Rattle.bt_tree.specs.Limits.{full_block_length, max_piece_layer};
 ghost use Rattle.btseed.specs.Reader.{LosesFront, EndsEarly};
 ghost use Rattle.btseed.specs.Pieces.{piece_size, GivesPiece, IsFindingByPieces, IsFindingByPiecesAt};
 
 use crate::data_file::{Finding, marked_blocks};
 use crate::fault::DeviceFault;
 use crate::reader::{BUFFER_LEN, has_more, read_node};
-use bt_tree::{BLOCK_LEN, Geometry, Hash32, Plain, RootBuilder, piece_layer};
+use bt_tree::{BLOCK_LEN, Geometry, Hash32, Plain, RootBuilder, is_piece_length, piece_layer};
 use std::io::Read;
 
 /// How long a torrent's pieces are, and the layer whose nodes cover a piece each.
@@ -16,8 +17,8 @@ use std::io::Read;
 pub struct PieceSize {
     pub bytes: u32,
     pub layer: u8,
-    ghost of_layer: { bytes ≡ 16384 * 2 ^ layer },
-    ghost limit: { layer ≤ 14 },
+    ghost of_layer: { bytes ≡ full_block_length * 2 ^ layer },
+    ghost limit: { layer ≤ max_piece_layer },
 }
 
 impl PieceSize {
@@ -26,7 +27,7 @@ impl PieceSize {
         ensures variant { IsSome result ↔ IsPieceLength bytes }
         ensures value { IfSome result (λ size. size.bytes ≡ bytes) }
     {
-        if !bytes.is_power_of_two() || bytes < 1 << 14 || bytes > 1 << 28 {
+        if !is_piece_length(bytes) {
             return None;
         }
         let layer = piece_layer(bytes);

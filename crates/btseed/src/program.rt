@@ -1,23 +1,57 @@
 //! The program, over any runtime and streams.
-ghost use Rattle.std.specs.Prelude.{◌≡◌, ◌≤◌, map, string_bytes, IfOk, IfErr, OnOk};
-ghost use Rattle.std.specs.Io.KnownBytes.{Appends, Keeps};
+ghost use Rattle.std.specs.Prelude.{◌≡◌, ◌≤◌, ◌⊎◌, map, string_bytes, IfOk, IfErr};
+ghost use Rattle.std.specs.Io.KnownBytes.{Keeps};
+ghost use Rattle.std.specs.Process.{exit_status};
 ghost use Rattle.clap.specs.Words.{kind_of};
-ghost use Rattle.btseed.specs.Program.{IsCheckResult, IsTaskResult, IsTaskEnd, IsExplanation, IsMakeResult, IsRun, IsShowResult, Writes};
+ghost use Rattle.btseed.specs.Fault.{out_of_memory, status_of, words_fault};
+ghost use Rattle.btseed.specs.Program.{IsCheckResult, IsExplanation, IsMakeResult, IsRun, IsShowResult, IsStart, IsTaskEnd, IsTaskResult, Writes};
 ghost use Rattle.btseed.specs.ProgramSteps.{status_after};
-ghost use Rattle.btseed.specs.Fault.{device, status_of};
 ghost use Rattle.btseed.specs.declared.command_line.Task.TheVariants.{Make, Show, Check};
 
+use crate::atomic_file::replace_file;
 use crate::check::check;
 use crate::command_line::{MakeTask, Source, Task, parse};
 use crate::fault::Fault;
 use crate::make::make;
+use crate::output::print;
 use crate::reader::BUFFER_LEN;
-use crate::show::{show, write_text};
+use crate::report::print_report;
+use crate::show::show;
 use crate::torrent_file::load;
 use clap::Error;
 use clap::error::ErrorKind;
-use std::io::{Read, Write};
+use std::env::{self, Env};
+use std::io::{self, Read, Write};
+use std::process::ExitCode;
 use std::rt::Files;
+
+/// Runs the program on the words of its environment, and gives the status that it exits with.
+pub fn start<R: Env + Files + AllocGlobal + Clone + Drop, I: Read, O: Write, E: Write>(
+    rt: &R,
+    reader: &mut I,
+    writer: &mut O,
+    faults: &mut E,
+) -> ExitCode
+    ensures answer { IsStart (O.contents writer.old) (O.contents writer.new) (exit_status result) }
+    ensures faultless { exit_status result ≤ 1 → Keeps (E.contents faults.old) (E.contents faults.new) }
+{
+    let status = match words(rt) {
+        Ok(words) => run(rt, words.as_slice(), reader, writer, faults),
+        Err(fault) => report_fault(fault, faults),
+    };
+    ExitCode::from(status)
+}
+
+/// The words that follow the program's name.
+fn words(rt: &(impl Env + AllocGlobal)) -> Result<Vec<String>, Fault>
+    ensures { IfErr result (λ fault. (fault ≡ words_fault) ⊎ (fault ≡ out_of_memory)) }
+{
+    match env::args(rt) {
+        Ok(words) => Ok(words.skip(1).collect(rt.alloc())?),
+        Err(error) if error.kind() == io::ErrorKind::OutOfMemory => Err(Fault::OutOfMemory),
+        Err(_) => Err(Fault::Words),
+    }
+}
 
 /// Does what the words ask for, which follow the program's name, and answers the exit status: 0 where all is complete
 /// or done, 1 where it is not, 2 where the words or the torrent are refused, 3 for a device that failed and 4 for want
@@ -90,9 +124,11 @@ fn perform_make<R: Files + AllocGlobal + Clone + Drop, O: Write>(
     ensures ended { IfErr result
         (IsTaskEnd (Make request.entry) (O.contents writer.old) (O.contents writer.new)) }
 {
-    let infohash = make(rt, request)?;
-    let digits = hex::encode(rt.alloc(), &infohash)?;
+    let torrent = make(rt, request)?;
+    let digits = hex::encode(rt.alloc(), &torrent.infohash)?;
+    // before the file is replaced: out of memory leaves the old one
     let line = format!(in rt.alloc(); "infohash {digits}\n")?;
+    replace_file(rt, request.out, &torrent.text)?;
     print(writer, line.as_str())?;
     Ok(0)
 }
@@ -124,9 +160,11 @@ fn perform_check<R: Files + AllocGlobal, O: Write>(
     ensures ended { IfErr result
         (IsTaskEnd (Check source.entry dir.entry) (O.contents writer.old) (O.contents writer.new)) }
 {
-    let report = check(rt, source, dir)?;
-    print(writer, report.lines.as_str())?;
-    Ok(if report.complete { 0 } else { 1 })
+    let mut buffer = [0; BUFFER_LEN];
+    let torrent = load(rt, source, &mut buffer)?;
+    let report = check(rt, &torrent, dir, &mut buffer)?;
+    print_report(rt.alloc(), &report, writer)?;
+    Ok(if report.is_complete() { 0 } else { 1 })
 }
 
 /// Prints help, or why the words are refused.
@@ -145,15 +183,6 @@ fn explain<O: Write, E: Write>(error: &Error, writer: &mut O, faults: &mut E) ->
         write!(writer, "{error}").map_err(|_| Fault::Device)?;
         Ok(0)
     }
-}
-
-/// Writes a text, whole, and sees it out.
-fn print<O: Write>(writer: &mut O, text: &str) -> Result<(), Fault>
-    ensures text { OnOk result (Appends (O.contents writer.old) (O.contents writer.new) text.now) }
-    ensures fault { IfErr result (λ fault. fault ≡ device) }
-{
-    write_text(writer, text)?;
-    writer.flush().map_err(|_| Fault::Device)
 }
 
 /// Tells why there is no answer, and answers the status. Where it can't be told, there is the status alone.

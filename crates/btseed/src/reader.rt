@@ -1,6 +1,7 @@
 //! Reading the bytes below a node of a file's tree (BEP 52).
 ghost use Rattle.std.specs.Prelude.{◌≡◌, ◌+◌, ◌*◌, ◌≤◌, length, take, IfOk, IfNone, IfSome, OnErr};
-ghost use Rattle.bt_tree.specs.Building.{first_block, node_end};
+ghost use Rattle.bt_tree.specs.RootBuilder.{first_block, node_end};
+ghost use Rattle.bt_tree.specs.Limits.{full_block_length};
 ghost use Rattle.btseed.specs.Reader.{EndsEarly, Gives, GivesNode, LosesFront, TellsMore};
 
 use crate::fault::DeviceFault;
@@ -41,7 +42,7 @@ pub fn read_node<R: Read>(
     buffer: &mut [u8; BUFFER_LEN],
 ) -> Result<Option<Hash32>, DeviceFault>
     requires fresh { builder.count ≡ 0 }
-    requires all { 16384 * first_block builder + length ≡ node_end builder }
+    requires all { full_block_length * first_block builder + length ≡ node_end builder }
     ensures early { IfOk result
         (λ found. IfNone found (EndsEarly (R.remaining reader.old) (R.remaining reader.new) length)) }
     ensures node { IfOk result

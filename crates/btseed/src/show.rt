@@ -7,9 +7,9 @@ ghost use Rattle.btseed.specs.Display.{line_text};
 ghost use Rattle.btseed.specs.Show.{root_text, head_lines, entry_line, show_text};
 ghost use Rattle.btseed.specs.Fault.{device, out_of_memory};
 
-use crate::display::display;
+use crate::display::{display, display_path};
 use crate::fault::Fault;
-use crate::paths::joined_path;
+use crate::output::write_text;
 use bt_meta::{FileEntry, Torrent};
 use std::alloc::{AllocError, Global};
 use std::io::Write;
@@ -27,17 +27,6 @@ pub fn show<W: Write>(alloc: Global, torrent: &Torrent, writer: &mut W) -> Resul
         write_text(writer, file_line(alloc, file)?.as_str())?;
     }
     writer.flush().map_err(|_| Fault::Device)
-}
-
-/// Writes a text.
-pub fn write_text<W: Write>(writer: &mut W, text: &str) -> Result<(), Fault>
-    ensures text { OnOk result (Appends (W.contents writer.old) (W.contents writer.new) text.now) }
-    ensures fault { IfErr result (λ fault. fault ≡ device) }
-{
-    match writer.write_all(text.as_bytes()) {
-        Ok(()) => Ok(()),
-        Err(_) => Err(Fault::Device),
-    }
 }
 
 /// The lines on the whole torrent.
@@ -58,8 +47,7 @@ fn head(alloc: Global, torrent: &Torrent) -> Result<String, AllocError>
 fn file_line(alloc: Global, file: &FileEntry) -> Result<String, AllocError>
     ensures { IfOk result (λ text. string_bytes text ≡ line_text (entry_line (file_of file.now))) }
 {
-    let path = joined_path(alloc, &file.path)?;
-    let path = display(alloc, path.as_bytes())?;
+    let path = display_path(alloc, &file.path)?;
     let root = display_root(alloc, file)?;
     let length = file.length;
     format!(in alloc; "{length} {root} {path}\n")

@@ -1,5 +1,6 @@
 //! Reading torrents from files.
 ghost use Rattle.std.specs.Prelude.{◌≡◌, ◌⊎◌, ◌+◌, ◌^◌, take, IfOk, IfErr, IfSome};
+ghost use Rattle.bt_meta.specs.Limits.{max_text_length};
 ghost use Rattle.btseed.specs.TorrentFile.{HasText, IsLoadFault};
 ghost use Rattle.btseed.specs.Reader.{Gives};
 ghost use Rattle.btseed.specs.Fault.{device, out_of_memory};
@@ -38,9 +39,10 @@ pub fn read_text<R: Read>(
     buffer: &mut [u8; BUFFER_LEN],
 ) -> Result<Vec<u8>, Fault>
     ensures told { IfSome
-        (R.remaining reader.old) (λ bytes. IfOk result (λ text. text.items ≡ take (2 ^ 27 + 1) bytes)) }
+        (R.remaining reader.old)
+        (λ bytes. IfOk result (λ text. text.items ≡ take (max_text_length + 1) bytes)) }
     ensures given { IfOk result
-        (λ text. Gives (R.remaining reader.old) (R.remaining reader.new) (2 ^ 27 + 1) text.items) }
+        (λ text. Gives (R.remaining reader.old) (R.remaining reader.new) (max_text_length + 1) text.items) }
     ensures fault { IfErr result (λ fault. (fault ≡ device) ⊎ (fault ≡ out_of_memory)) }
 {
     let mut text = Vec::new(alloc);

@@ -69,19 +69,16 @@ fn a_device_fault_is_told(rt: HostRuntime) -> Result<(), Fail> {
     let torrent = abc_torrent(rt.alloc())?;
     let device = "btseed: device fault\n";
 
-    // no torrent, a folder in its place, a path through a file, and a folder in a data file's place; and with no folder at
-    // all its files are absent
+    // no torrent, a folder in its place, and a folder in a data file's place
     let steps = [
         Step::File("t", &torrent),
         Step::Folder("files"),
         Step::Folder("files/a.txt"),
         Step::Fault("check @/absent @", 3, device),
         Step::Fault("check @ @", 3, device),
-        Step::Fault("check @/t @/t/files", 3, device),
         Step::Fault("check @/t @/files", 3, device),
         Step::Fault("show @/absent", 3, device),
         Step::Fault("show @", 3, device),
-        Step::Run("check @/t @/absent", 1, "0 of 1 a.txt\nnot complete\n"),
     ];
     play(&rt, "device", &steps)
 }
@@ -129,4 +126,49 @@ fn an_info_dictionary_counts_whole_files(rt: HostRuntime) -> Result<(), Fail> {
         Step::Run(check, 1, "0 of 3 f\nnot complete\n"),
     ];
     play(&rt, "info", &steps)
+}
+
+#[test]
+fn a_path_that_cannot_be_is_an_absent_file(rt: HostRuntime) -> Result<(), Fail> {
+    let infohash = "infohash b1792df5af91b80c1b9df889c24af7f051ffb5ed7c12f422acf809c37a11adcf\n";
+    let steps = [
+        Step::Folder("files"),
+        Step::Folder("files/d"),
+        Step::File("files/a.txt", b"abc"),
+        Step::File("files/d/e", b"abc"),
+        Step::Run("make @/files @/t --name n", 0, infohash),
+        Step::Run(CHECK, 0, "complete a.txt\ncomplete d/e\ncomplete\n"),
+        // a file in the place of a folder, no folder at all, and a link to nothing
+        Step::Folder("other"),
+        Step::File("other/a.txt", b"abc"),
+        Step::File("other/d", b"abc"),
+        Step::Run(
+            "check @/t @/other",
+            1,
+            "complete a.txt\n0 of 1 d/e\nnot complete\n",
+        ),
+        Step::Run(
+            "check @/t @/t/files",
+            1,
+            "0 of 1 a.txt\n0 of 1 d/e\nnot complete\n",
+        ),
+        Step::Run(
+            "check @/t @/absent",
+            1,
+            "0 of 1 a.txt\n0 of 1 d/e\nnot complete\n",
+        ),
+        Step::Folder("links"),
+        Step::Link("../absent", "links/a.txt"),
+        Step::Link("../files/d", "links/d"),
+        Step::Run(
+            "check @/t @/links",
+            1,
+            "0 of 1 a.txt\ncomplete d/e\nnot complete\n",
+        ),
+        // a device
+        Step::Folder("devices"),
+        Step::Link("/dev/null", "devices/a.txt"),
+        Step::Fault("check @/t @/devices", 3, "btseed: device fault\n"),
+    ];
+    play(&rt, "absent", &steps)
 }

@@ -108,7 +108,7 @@ fn a_folder_is_walked(rt: HostRuntime) -> Result<(), Fail> {
         Step::File("files/b.txt", b""),
         Step::File("files/b/c", b"abc"),
         Step::File("files/a", front(&three, 49152)),
-        Step::Link("aside", "files/link"),
+        Step::Link("@/aside", "files/link"),
         Step::Run(make, 0, infohash),
         Step::Size("t", 397),
         Step::Run("show @/t", 0, MANY_LINES),
@@ -153,4 +153,67 @@ fn faults_of_making_are_told_in_order(rt: HostRuntime) -> Result<(), Fail> {
         Step::Entries("", 4),
     ];
     play(&rt, "unmade", &steps)
+}
+
+#[test]
+fn a_link_leads_to_the_file_that_is_written(rt: HostRuntime) -> Result<(), Fail> {
+    let torrent = abc_torrent(rt.alloc())?;
+    let device = "btseed: device fault\n";
+    let steps = [
+        Step::Folder("files"),
+        Step::Folder("out"),
+        Step::File("files/a.txt", b"abc"),
+        Step::File("out/old", b"old"),
+        // to a file, by the link's folder; to a link to it, from the top; and to nothing
+        Step::Link("out/old", "to-file"),
+        Step::Link("@/to-file", "to-link"),
+        Step::Link("../out/new", "out/to-nothing"),
+        Step::Run(
+            "make @/files @/to-link --name a.txt --piece-length 16384",
+            0,
+            ABC_HASH,
+        ),
+        Step::Has("out/old", &torrent),
+        Step::LinkHas("to-file", "out/old"),
+        Step::Run(
+            "make @/files @/out/to-nothing --name a.txt --piece-length 16384",
+            0,
+            ABC_HASH,
+        ),
+        Step::Has("out/new", &torrent),
+        Step::LinkHas("out/to-nothing", "../out/new"),
+        Step::Entries("out", 3),
+        // to a folder, and to itself
+        Step::Link("files", "to-folder"),
+        Step::Link("round", "round"),
+        Step::Fault("make @/files @/to-folder --name n", 3, device),
+        Step::Fault("make @/files @/round --name n", 3, device),
+        Step::LinkHas("to-folder", "files"),
+        Step::LinkHas("round", "round"),
+        Step::Entries("", 6),
+    ];
+    play(&rt, "links", &steps)
+}
+
+const DEEP_LINES: &str = "complete .hidden
+complete a/b/c/last
+complete a.txt
+complete
+";
+
+#[test]
+fn a_folder_is_walked_to_its_end(rt: HostRuntime) -> Result<(), Fail> {
+    let infohash = "infohash 391b00f5cc07f66a042d0cdf9b4ac1173f39a6913826047858d657795a871325\n";
+    let steps = [
+        Step::Folder("files"),
+        Step::Folder("files/a"),
+        Step::Folder("files/a/b"),
+        Step::Folder("files/a/b/c"),
+        Step::File("files/a/b/c/last", b"abc"),
+        Step::File("files/a.txt", b""),
+        Step::File("files/.hidden", b"x"),
+        Step::Run("make @/files @/t --name deep", 0, infohash),
+        Step::Run("check @/t @/files", 0, DEEP_LINES),
+    ];
+    play(&rt, "deep", &steps)
 }

@@ -5,6 +5,7 @@ use crate::data_file::{Finding, check_empty, check_file};
 use crate::digests::digest_reader;
 use crate::fault::{DeviceFault, Fault};
 use crate::pieces::PieceSize;
+use crate::reader::BUFFER_LEN;
 use crate::torrent_file::read_text;
 use bt_tree::{Geometry, Hash32};
 use std::alloc::Global;

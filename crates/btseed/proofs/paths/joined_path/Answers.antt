@@ -3,4 +3,4 @@ use Rattle.btseed.proofs.ShowText.{path_joined}
 use Rattle.btseed.proofs.paths.joined_path.Goals as goal
 
 pub returns : goal.returns
-returns c = rw (← path_joined string_bytes c.args.elements.now) c.join.ensures.ok
+returns c = ?

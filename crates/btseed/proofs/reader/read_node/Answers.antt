@@ -28,6 +28,6 @@ loop-rest-preserved g c =
     let wanted = wanted_of c.loop-rest.rest c.min-wanted.result c.loop-rest-test.true c.min-wanted.ensures in
     let size : length c.fill.new.buffer ≡ c.min-wanted.result = search rules in
     let came = all_came _ _ _ _ c.fill.new.buffer size c.if-branch-wanted.false c.in_ok-fill.ensures.given in
-    let place = rw c.unwrap.ensures at c.push.ensures.place in
+    let place = rw c.unwrap.ensures at c.push.ensures.state in
     let from = rw c.unwrap.ensures at c.push.ensures.from in
     reading_more _ _ _ _ _ _ _ _ _ _ c.requires.fresh wanted c.loop-rest.invariant came size place from
