@@ -1,6 +1,6 @@
 -- What dictionaries have.
 use Rattle.std.proofs.Common.{◌≡◌, ◌⊎◌, inl, inr, ℕ, ℤ, Bool, true, false, List, [], ◌∷◌, ◌++◌, length, Option, None, Some, refl, sym, ap, subst, ◌∙◌, arith}
-use Rattle.std.specs.Prelude.{codes, unwrap_or, nat_eq, ◌==◌, if◌then◌else◌}
+use Rattle.std.specs.Prelude.{codes, unwrap_or, nat_eq, not, is_some, ◌&&◌, ◌||◌, ◌==◌, if◌then◌else◌}
 use Rattle.std.specs.Option.{option_and_then}
 use Rattle.std.specs.Cmp.Lexicographic.{pointwise}
 use Rattle.std.specs.Global.{Vec}
@@ -53,6 +53,16 @@ not_node d e = rw e refl
 pub folder_node : (d : Data) → is_dictionary d ≡ true → has_key d [] ≡ false → is_node d ≡ true
 unfolding is_node
 folder_node d e h = rw (e, h) refl
+
+both_hold : (a b c : Bool) → (a && (not true || (b && c))) ≡ true → b ≡ true
+both_hold true true c e = refl
+both_hold true false c e = cc
+both_hold false b c e = cc
+
+-- nothing lies below a file
+pub file_below : (path : List (List ℕ)) (d : Data) → is_node d ≡ true → has_key d [] ≡ true → tree_entries_below path d ≡ []
+unfolding is_node
+file_below path d node file = single_below path d (both_hold (is_dictionary d) (is_single d) (is_some (dictionary_at d [])) (rw file at node)) file
 
 pub crowded_node : (d : Data) → is_dictionary d ≡ true → has_key d [] ≡ true → is_single d ≡ false → is_node d ≡ false
 unfolding is_node

@@ -19,6 +19,9 @@ pub mod ReadHead
 pub mod ReadRefusals
 pub mod ReadPieces
 pub mod ReadAscending
+pub mod ReadApart
+pub mod ReadNames
+pub mod ReadRoots
 pub mod ReadLawful
 -- where a range of a piece lies
 pub mod PlacePieces

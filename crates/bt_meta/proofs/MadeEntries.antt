@@ -11,7 +11,7 @@ use Rattle.bt_meta.specs.TreeEntries.{TreeEntry, tree_entries_below, tree_entrie
 use Rattle.bt_meta.specs.Files.{is_file, properties_of}
 use Rattle.bt_meta.specs.Faults.{first_of, is_node, has_lawful_name, is_path_element}
 use Rattle.bt_meta.specs.PropertySteps.{property_checks}
-use Rattle.bt_meta.specs.WriterRefusals.{is_element}
+use Rattle.bt_meta.specs.Faults.{is_element}
 use Rattle.bt_meta.specs.Encode.{with_file, with_entry}
 use Rattle.bt_meta.specs.EncodeSteps.{entries_before, is_nonempty, AreBefore, ComesAfter, HasLastFolder}
 use Rattle.bt_meta.proofs.WalkAddFile.{name_of}

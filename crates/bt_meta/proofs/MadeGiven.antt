@@ -12,7 +12,8 @@ use Rattle.bt_meta.specs.Faults.{first_of, fault_if}
 use Rattle.bt_meta.specs.TreeEntries.{with_earlier}
 use Rattle.bt_meta.specs.Files.{piece_count}
 use Rattle.bt_meta.specs.GivenFiles.{Given, IsInTreeOrder}
-use Rattle.bt_meta.specs.WriterRefusals.{file_refusal, own_refusal, layer_refusal, conflict_with, is_beyond, is_path}
+use Rattle.bt_meta.specs.WriterRefusals.{file_refusal, own_refusal, layer_refusal, conflict_with, is_beyond}
+use Rattle.bt_meta.specs.Faults.{is_path}
 use Rattle.bt_meta.specs.declared.writer.MakeError.TheVariants.{BadPath, FileLength, RootConflict, Count}
 use Rattle.bt_meta.proofs.EncodeLayers.{same_bytes_either_way}
 use Rattle.bt_meta.proofs.Checks.{head_none, tail_none, not_faulty, holds_unless}

@@ -14,7 +14,7 @@ use Rattle.bt_meta.specs.Files.{is_file, length_in, root_in, length_of, root_of}
 use Rattle.bt_meta.specs.Faults.{first_of, has_lawful_length, has_lawful_root}
 use Rattle.bt_meta.specs.PropertySteps.{property_checks}
 use Rattle.bt_meta.specs.GivenFiles.{Given, HasRoot, HaveTreePaths}
-use Rattle.bt_meta.specs.WriterRefusals.{is_path, is_element}
+use Rattle.bt_meta.specs.Faults.{is_path, is_element}
 use Rattle.bt_meta.specs.Encode.{with_file, properties_made, tree_made}
 use Rattle.bt_meta.specs.EncodeSteps.{AreNonEmpty, ComesAfter}
 use Rattle.bt_meta.proofs.EncodeTree.{IsGrown, grown_begun, grown_more, made_more}

@@ -13,7 +13,8 @@ use Rattle.std.proofs.lemmas.Bool.{cases_lt, true≢false}
 use Rattle.std.proofs.lemmas.List.{get_or-map, length-map}
 use Rattle.std.proofs.lemmas.Slice.Eq.{bytes_eq-Decides}
 use Rattle.bt_meta.specs.GivenFiles.{Given, given_of, begins, path_order, IsInTreeOrder, HaveTreePaths}
-use Rattle.bt_meta.specs.WriterRefusals.{file_refusal, own_refusal, layer_refusal, conflict_with, is_beyond, is_path, is_element, refusal_of_files}
+use Rattle.bt_meta.specs.WriterRefusals.{file_refusal, own_refusal, layer_refusal, conflict_with, is_beyond, refusal_of_files}
+use Rattle.bt_meta.specs.Faults.{is_path, is_element}
 use Rattle.bt_meta.specs.EncodeSteps.{given_at, AreNonEmpty}
 use Rattle.bt_meta.specs.WriterSteps.{Refuses}
 use Rattle.bt_meta.specs.Writer.{have_overlap, IsNotMade, no_memory, unlawful}

@@ -17,7 +17,8 @@ use Rattle.std.specs.Prelude.{take, drop, get_or}
 use Rattle.std.proofs.lemmas.List.{take_all, take-append-drop, map_more, drop_more}
 use Rattle.bt_meta.specs.TreeEntries.{with_earlier}
 use Rattle.bt_meta.specs.GivenFiles.{Given, given_of, HasRoot}
-use Rattle.bt_meta.specs.WriterRefusals.{Check, file_refusal, is_element, is_path, has_conflict}
+use Rattle.bt_meta.specs.WriterRefusals.{Check, file_refusal, has_conflict}
+use Rattle.bt_meta.specs.Faults.{is_element, is_path}
 use Rattle.bt_meta.specs.WriterSteps.{IsTallyOf, IsWithinLimits, Refuses}
 use Rattle.bt_meta.specs.declared.writer.Made.{Made}
 use Rattle.bt_meta.specs.declared.writer.MakeError.{MakeError}

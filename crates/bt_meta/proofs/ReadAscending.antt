@@ -21,10 +21,10 @@ use Rattle.bt_meta.specs.Fields.{as_dictionary, dictionary_at, no_dictionary}
 use Rattle.bt_meta.specs.declared.error.MetaError.{MetaError}
 use Rattle.bt_meta.proofs.Dictionaries.{field_ascends}
 
-abbrev Path : Type 0
+abbrev pub Path : Type 0
 Path = List (List ℕ)
 
-abbrev path_cmp : Path → Path → Ordering
+abbrev pub path_cmp : Path → Path → Ordering
 path_cmp = slice_cmp (slice_cmp nat_cmp)
 
 abbrev StandsBefore : TreeEntry → TreeEntry → Type 0
@@ -38,16 +38,16 @@ behind_common [] p q h = h
 behind_common (name ∷ path) p q h = ap (λ o. ordering_then o (path_cmp (path ++ p) (path ++ q))) (tied_itself nat_list_cmp_total name) ∙ behind_common path p q h
 
 -- the path goes on from this one
-record GoesOn (path : Path) (p : TreeEntry) : Type 0 where
-  name : List ℕ
-  rest : Path
-  is : p.path ≡ path ++ name ∷ rest
+pub record GoesOn (path : Path) (p : TreeEntry) : Type 0 where
+  pub name : List ℕ
+  pub rest : Path
+  pub is : p.path ≡ path ++ name ∷ rest
 
 -- the entry stands behind all that begin with this name in the folder
-abbrev IsBehindName : Path → List ℕ → TreeEntry → Type 0
+abbrev pub IsBehindName : Path → List ℕ → TreeEntry → Type 0
 IsBehindName path name p = (rest : Path) → path_cmp (path ++ name ∷ rest) p.path ≡ Less
 
-further_is : (path : Path) (key : List ℕ) (p : TreeEntry) (h : GoesOn (path ++ key ∷ []) p) → p.path ≡ path ++ key ∷ h.name ∷ h.rest
+pub further_is : (path : Path) (key : List ℕ) (p : TreeEntry) (h : GoesOn (path ++ key ∷ []) p) → p.path ≡ path ++ key ∷ h.name ∷ h.rest
 further_is path key p h = h.is ∙ append_assoc path (key ∷ []) (h.name ∷ h.rest)
 
 further : (path : Path) (key : List ℕ) (p : TreeEntry) → GoesOn (path ++ key ∷ []) p → GoesOn path p
@@ -69,7 +69,7 @@ goes_behind path key other p less h rest = ap (path_cmp (path ++ key ∷ rest)) 
 
 -- ---- the entries of one folder
 
-abbrev AreBehind : List ℕ → Entries → Type 0
+abbrev pub AreBehind : List ℕ → Entries → Type 0
 AreBehind key no_entries = Unit {0}
 AreBehind key (entry other d es) = IsBefore key other × AreBehind key es
 
@@ -77,7 +77,7 @@ behind_both : (key other : List ℕ) (es : Entries) → IsBefore key other → A
 behind_both key other no_entries less h = tt
 behind_both key other (entry third d es) less h = (nat_list_cmp_total.trans key other third less h.0, behind_both key other es less h.1)
 
-all_behind : (key : List ℕ) (d : Data) (es : Entries) → EntriesAscend (entry key d es) → AreBehind key es
+pub all_behind : (key : List ℕ) (d : Data) (es : Entries) → EntriesAscend (entry key d es) → AreBehind key es
 unfolding EntriesAscend
 all_behind key d no_entries h = tt
 all_behind key d (entry other e es) h = (h.0, behind_both key other es h.0 (all_behind other e es h.2))
@@ -85,7 +85,7 @@ all_behind key d (entry other e es) h = (h.0, behind_both key other es h.0 (all_
 mutual
   unfolding tree_entries_below tree_entries_among
 
-  below_goes_on : (path : Path) (d : Data) → All (GoesOn path) (tree_entries_below path d)
+  pub below_goes_on : (path : Path) (d : Data) → All (GoesOn path) (tree_entries_below path d)
   below_goes_on path (integer z) = All-nil (GoesOn path)
   below_goes_on path (string s) = All-nil (GoesOn path)
   below_goes_on path (list ds) = All-nil (GoesOn path)
@@ -102,7 +102,7 @@ mutual
       (All-append (GoesOn path) (tree_entries_below inner d) (tree_entries_among path es) (All-weaker (GoesOn inner) (GoesOn path) (further path name) (tree_entries_below inner d) (below_goes_on inner d)) (among_goes_on path es))
 
 -- the entries behind a key stand behind all that begin with it
-among_behind : (path : Path) (key : List ℕ) (es : Entries) → AreBehind key es → All (IsBehindName path key) (tree_entries_among path es)
+pub among_behind : (path : Path) (key : List ℕ) (es : Entries) → AreBehind key es → All (IsBehindName path key) (tree_entries_among path es)
 unfolding tree_entries_among
 among_behind path key no_entries h = All-nil (IsBehindName path key)
 among_behind path key (entry [] d es) h = among_behind path key es h.1
@@ -116,12 +116,12 @@ among_behind path key (entry (byte ∷ bytes) d es) h =
 
 -- ---- the whole tree
 
-pairs_append : (xs ys : List TreeEntry) → AllPairs StandsBefore xs → AllPairs StandsBefore ys → All (λ x. All (StandsBefore x) ys) xs → AllPairs StandsBefore (xs ++ ys)
-pairs_append [] ys h k cross = k
-pairs_append (x ∷ xs) ys h k cross =
-    AllPairs-cons StandsBefore x (xs ++ ys)
-    (All-append (StandsBefore x) xs ys (λ i d within. h 0 (suc i) d (omega arith) (omega arith)) (All-head (λ z. All (StandsBefore z) ys) x xs cross))
-    (pairs_append xs ys (λ i j d lt within. h (suc i) (suc j) d (omega arith) (omega arith)) k (All-tail (λ z. All (StandsBefore z) ys) x xs cross))
+pub pairs_append : (R : TreeEntry → TreeEntry → Type 0) (xs ys : List TreeEntry) → AllPairs R xs → AllPairs R ys → All (λ x. All (R x) ys) xs → AllPairs R (xs ++ ys)
+pairs_append R [] ys h k cross = k
+pairs_append R (x ∷ xs) ys h k cross =
+    AllPairs-cons R x (xs ++ ys)
+    (All-append (R x) xs ys (λ i d within. h 0 (suc i) d (omega arith) (omega arith)) (All-head (λ z. All (R z) ys) x xs cross))
+    (pairs_append R xs ys (λ i j d lt within. h (suc i) (suc j) d (omega arith) (omega arith)) k (All-tail (λ z. All (R z) ys) x xs cross))
 
 mutual
   unfolding tree_entries_below tree_entries_among HasAscendingKeys EntriesAscend
@@ -145,7 +145,7 @@ mutual
       let behind : All (IsBehindName path name) others = among_behind path name es (all_behind name d es h) in
       AllPairs-cons StandsBefore here (below ++ others)
       (All-append (StandsBefore here) below others (All-weaker (GoesOn inner) (StandsBefore here) (λ p g. in_folder inner p g) below within) (All-weaker (IsBehindName path name) (StandsBefore here) (λ p b. b []) others behind))
-      (pairs_append below others (below_ascends inner d h.1) (among_ascends path es h.2)
+      (pairs_append StandsBefore below others (below_ascends inner d h.1) (among_ascends path es h.2)
       (All-weaker (GoesOn inner) (λ x. All (StandsBefore x) others) (λ x g. All-weaker (IsBehindName path name) (StandsBefore x)
       (λ y b. ap (λ p. path_cmp p y.path) (further_is path name x g) ∙ b (g.name ∷ g.rest)) others behind) below within))
 

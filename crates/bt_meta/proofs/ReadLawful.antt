@@ -1,24 +1,30 @@
 -- What is read keeps to what every torrent does.
-use Rattle.std.proofs.Common.{◌≡◌, ℕ, ◌^◌, ◌<◌, ◌≤◌, Bool, true, false, List, [], ◌∷◌, ◌++◌, Option, None, Some, map, refl, sym, ap, ◌∙◌, subst}
+use Rattle.std.proofs.Common.{◌≡◌, ℕ, suc, arith, ◌^◌, ◌<◌, ◌≤◌, Bool, true, false, List, [], ◌∷◌, ◌++◌, Option, None, Some, map, refl, sym, ap, ◌∙◌, subst}
 use Rattle.std.specs.Prelude.{◌≢◌, ◌&&◌, ◌||◌, ◌==◌, length, replicate, not, is_none, ⊤, codes, nat_lt, nat_le, sum_by, unwrap_or, if◌then◌else◌}
 use Rattle.std.specs.Int.{is_power_of_two}
 use Rattle.std.specs.Option.{option_map_or}
-use Rattle.std.specs.List.{All, filter, list_any}
+use Rattle.std.specs.List.{All, AllPairs, filter, list_any}
 use Rattle.std.proofs.lemmas.Bool.{and_parts, eqb-true, leb-true, ltb-true}
 use Rattle.std.proofs.lemmas.List.Elements.{All-nil, All-cons, All-head, All-tail, All-filter, All-weaker, filter_passes}
+use Rattle.std.proofs.lemmas.List.Kept.{AllPairs-cons, AllPairs-filter}
+use Rattle.std.proofs.lemmas.Bool.Decides.{nat_tests}
 use Rattle.bt_bencode.specs.Value.{Data}
 use Rattle.bt_bencode.specs.Doc.{HasAscendingKeys}
 use Rattle.bt_tree.specs.TreeShape.{IsPieceLength}
-use Rattle.bt_meta.specs.Faults.{Check, first_of, fault_if, is_piece_length, piece_length_of, tree_of, info_of, layers_of, head_checks, tree_checks, info_checks, entry_check, layer_check, layer_checks, file_checks, first_fault, first_info_fault, has_lawful_length, has_lawful_name, has_lawful_root, is_node, is_too_many}
+use Rattle.bt_meta.specs.Faults.{Check, first_of, fault_if, is_piece_length, piece_length_of, tree_of, info_of, layers_of, head_checks, tree_checks, info_checks, entry_check, layer_check, layer_checks, file_checks, first_fault, first_info_fault, has_lawful_length, has_lawful_name, has_lawful_root, is_node, is_too_many, conflict}
 use Rattle.bt_meta.specs.Fields.{is_dictionary, dictionary_at, has_key, natural_at, no_dictionary, string_at}
-use Rattle.bt_meta.specs.Files.{file_at, files_of, is_file, layer_at, length_in, length_of, piece_count, root_of, root_in, properties_of}
+use Rattle.bt_meta.specs.Files.{File, file_at, files_of, is_file, layer_at, length_in, length_of, piece_count, root_of, root_in, properties_of}
 use Rattle.bt_meta.specs.Layers.{has_layer_size, has_root}
 use Rattle.bt_meta.specs.TreeEntries.{TreeEntry, tree_entries_below, with_earlier}
-use Rattle.bt_meta.specs.Torrent.{Metainfo, metainfo_of, IsLawful, IsLawfulFile}
-use Rattle.bt_meta.specs.declared.error.MetaError.TheVariants.{NoInfo, PieceLength, Tree, BadPath, FileLength, BadRoot, TooMany, LayerMissing, LayerSize, LayerDiffers}
-use Rattle.bt_meta.proofs.Checks.{head_none, tail_none, holds_unless}
+use Rattle.bt_meta.specs.Torrent.{Metainfo, metainfo_of, IsApart, IsLawful, IsLawfulFile}
+use Rattle.bt_meta.specs.declared.error.MetaError.TheVariants.{NoInfo, RootConflict, PieceLength, Tree, BadPath, FileLength, BadRoot, TooMany, LayerMissing, LayerSize, LayerDiffers}
+use Rattle.bt_meta.proofs.Checks.{head_none, tail_none, holds_unless, not_faulty}
 use Rattle.bt_meta.proofs.ReadPieces.{few_pieces, laid_out}
-use Rattle.bt_meta.proofs.WalkTree.{same_sum}
+use Rattle.bt_meta.proofs.WalkTree.{same_sum, some_of_filter}
+use Rattle.bt_meta.proofs.WalkFiles.{length-with_earlier}
+use Rattle.bt_meta.proofs.ReadApart.{IsNode, IsCut, below_cut, apart}
+use Rattle.bt_meta.proofs.ReadNames.{IsNamed, HasPath, below_lawful}
+use Rattle.bt_meta.proofs.ReadRoots.{Agrees, agree}
 use Rattle.bt_meta.proofs.ReadAscending.{at_key, files_ascend}
 
 -- ---- checks without a fault
@@ -60,6 +66,13 @@ record IsSound (properties : Data) : Type 0 where
   rooted : length (root_in properties) ≡ 32
   zeros : length_in properties ≡ 0 → root_in properties ≡ replicate 32 0
 
+-- what the check of one entry tells of it and of the entries before it
+record IsChecked (before : List TreeEntry) (p : TreeEntry) : Type 0 where
+  node : IsNode p
+  named : IsNamed p
+  sound : is_file p ≡ true → IsSound (properties_of p)
+  alike : is_file p ≡ true → (not (length_of p == 0) && list_any (conflict p) before) ≡ false
+
 abbrev HasSoundFile : TreeEntry → Type 0
 HasSoundFile p = is_file p ≡ true → IsSound (properties_of p)
 
@@ -83,8 +96,8 @@ root_of_none : (properties : Data) → length_in properties ≡ 0 → root_in pr
 unfolding root_in
 root_of_none properties e = rw e refl
 
-sound_entry : (n : ℕ) (before : List TreeEntry) (p : TreeEntry) → entry_check n before p ≡ None → HasSoundFile p
-sound_entry n before p h file =
+checked_entry : (n : ℕ) (before : List TreeEntry) (p : TreeEntry) → entry_check n before p ≡ None → IsChecked before p
+checked_entry n before p h =
     let checks : List Check =
     fault_if (not (is_node p.value)) Tree
     ∷ fault_if (not (has_lawful_name p)) BadPath
@@ -92,31 +105,56 @@ sound_entry n before p h file =
     ∷ fault_if (is_too_many n before p) TooMany
     ∷ [] in
     let properties = properties_of p in
-    let of_file : first_of (file_checks before p) ≡ None = ap (λ b. if b then first_of (file_checks before p) else None) (sym file) ∙ (passed checks h).1.1.0 in
-    let each = passed (file_checks before p) of_file in
+    let own = passed checks h in
+    let of_file : is_file p ≡ true → HavePassed (file_checks before p) = λ file. passed (file_checks before p) (ap (λ b. if b then first_of (file_checks before p) else None) (sym file) ∙ own.1.1.0) in
     record {
-      short = lawful_length properties (holds_unless (has_lawful_length properties) FileLength each.1.0);
-      rooted = lawful_root properties (holds_unless (has_lawful_root properties) BadRoot each.1.1.0);
-      zeros = root_of_none properties;
+      node = holds_unless (is_node p.value) Tree own.0;
+      named = holds_unless (has_lawful_name p) BadPath own.1.0;
+      sound = λ file. record {
+        short = lawful_length properties (holds_unless (has_lawful_length properties) FileLength (of_file file).1.0);
+        rooted = lawful_root properties (holds_unless (has_lawful_root properties) BadRoot (of_file file).1.1.0);
+        zeros = root_of_none properties;
+      };
+      alike = λ file. not_faulty (not (length_of p == 0) && list_any (conflict p) before) RootConflict (of_file file).1.1.1.0;
     }
 
-all_sound : (n : ℕ) (before tree_entries : List TreeEntry) → first_of (with_earlier (entry_check n) before tree_entries) ≡ None → All HasSoundFile tree_entries
-all_sound n before [] h = All-nil HasSoundFile
-all_sound n before (p ∷ tree_entries) h =
-    let rest = with_earlier (entry_check n) (before ++ p ∷ []) tree_entries in
-    All-cons HasSoundFile p tree_entries (sound_entry n before p (head_none (entry_check n before p) rest h)) (all_sound n (before ++ p ∷ []) tree_entries (tail_none (entry_check n before p) rest h))
+-- what is so of each entry that its check tells it of
+module _ (P : TreeEntry → Type 0) (told : (before : List TreeEntry) (p : TreeEntry) → IsChecked before p → P p) where
+  all_checked : (n : ℕ) (before tree_entries : List TreeEntry) → first_of (with_earlier (entry_check n) before tree_entries) ≡ None → All P tree_entries
+  all_checked n before [] h = All-nil P
+  all_checked n before (p ∷ tree_entries) h =
+      let rest = with_earlier (entry_check n) (before ++ p ∷ []) tree_entries in
+      All-cons P p tree_entries (told before p (checked_entry n before p (head_none (entry_check n before p) rest h))) (all_checked n (before ++ p ∷ []) tree_entries (tail_none (entry_check n before p) rest h))
 
-tree_sound : (n : ℕ) (tree : Data) → first_of (tree_checks n tree) ≡ None → All HasSoundFile (tree_entries_below [] tree)
+-- what is known of a tree without a fault
+record IsSoundTree (tree : Data) : Type 0 where
+  sound : All HasSoundFile (tree_entries_below [] tree)
+  paths : All HasPath (tree_entries_below [] tree)
+  nodes : All IsNode (tree_entries_below [] tree)
+  agree : AllPairs Agrees (tree_entries_below [] tree)
+  some : list_any is_file (tree_entries_below [] tree) ≡ true
+
+tree_sound : (n : ℕ) (tree : Data) → first_of (tree_checks n tree) ≡ None → IsSoundTree tree
 unfolding tree_checks
 tree_sound n tree h =
-    let entries = with_earlier (entry_check n) [] (tree_entries_below [] tree) in
-    let last : List Check = fault_if (not (list_any is_file (tree_entries_below [] tree))) Tree ∷ [] in
-    all_sound n [] (tree_entries_below [] tree) (front_none entries last (tail_none (fault_if (has_key tree []) Tree) (entries ++ last) h))
+    let es = tree_entries_below [] tree in
+    let entries = with_earlier (entry_check n) [] es in
+    let last : List Check = fault_if (not (list_any is_file es)) Tree ∷ [] in
+    let behind_top = tail_none (fault_if (has_key tree []) Tree) (entries ++ last) h in
+    let own = front_none entries last behind_top in
+    record {
+      sound = all_checked HasSoundFile (λ before p c. c.sound) n [] es own;
+      paths = below_lawful [] tree refl (all_checked IsNamed (λ before p c. c.named) n [] es own);
+      nodes = all_checked IsNode (λ before p c. c.node) n [] es own;
+      agree = agree n es (λ before p checked. (checked_entry n before p checked).alike) own;
+      some = holds_unless (list_any is_file es) Tree (passed last (back_none entries last behind_top)).0;
+    }
 
 -- ---- their layers
 
 abbrev IsSized : ℕ → Data → TreeEntry → Type 0
-IsSized n layers p = nat_lt n (length_of p) ≡ true → has_layer_size n (length_of p) (layer_at n layers p) ≡ true
+IsSized n layers p = nat_lt n (length_of p) ≡ true
+    → (has_layer_size n (length_of p) (layer_at n layers p) ≡ true) × (has_root n (length_of p) (root_of p) (layer_at n layers p) ≡ true)
 
 sized_entry : (n : ℕ) (layers : Data) (p : TreeEntry) → layer_check n layers p ≡ None → IsSized n layers p
 sized_entry n layers p h long =
@@ -125,8 +163,10 @@ sized_entry n layers p h long =
     ∷ fault_if (not (has_layer_size n (length_of p) (layer_at n layers p))) LayerSize
     ∷ fault_if (not (has_root n (length_of p) (root_of p) (layer_at n layers p))) LayerDiffers
     ∷ [] in
-    let own : first_of checks ≡ None = ap (λ b. if b then first_of checks else None) (sym long) ∙ h in
-    holds_unless (has_layer_size n (length_of p) (layer_at n layers p)) LayerSize (passed checks own).1.0
+    let own : first_of checks ≡ None = ap (λ b. if b then first_of checks else None) (sym long) ∙ h in (
+      holds_unless (has_layer_size n (length_of p) (layer_at n layers p)) LayerSize (passed checks own).1.0,
+      holds_unless (has_root n (length_of p) (root_of p) (layer_at n layers p)) LayerDiffers (passed checks own).1.1.0,
+    )
 
 all_sized : (n : ℕ) (layers : Data) (files : List TreeEntry) → first_of (map (layer_check n layers) files) ≡ None → All (IsSized n layers) files
 all_sized n layers [] h = All-nil (IsSized n layers)
@@ -142,6 +182,7 @@ tree_sized n layers tree h = all_sized n layers (filter is_file (tree_entries_be
 record IsLayered (n : ℕ) (layers : Data) (p : TreeEntry) : Type 0 where
   long : layer_at n layers p ≢ [] → n < length_of p
   sized : layer_at n layers p ≢ [] → has_layer_size n (length_of p) (layer_at n layers p) ≡ true
+  folds : layer_at n layers p ≢ [] → has_root n (length_of p) (root_of p) (layer_at n layers p) ≡ true
 
 then_long : (b : Bool) (layer : List ℕ) → (if b then layer else []) ≢ [] → b ≡ true
 then_long true layer h = refl
@@ -150,7 +191,7 @@ then_long false layer h = absurd (h refl)
 with_layer : (n : ℕ) (layers : Data) (p : TreeEntry) → IsSized n layers p → IsLayered n layers p
 with_layer n layers p h =
     let long : layer_at n layers p ≢ [] → nat_lt n (length_of p) ≡ true = then_long (nat_lt n (length_of p)) (unwrap_or (string_at layers (root_of p)) []) in
-    record { long = λ some. ltb-true n (length_of p) (long some); sized = λ some. h (long some) }
+    record { long = λ some. ltb-true n (length_of p) (long some); sized = λ some. (h (long some)).0; folds = λ some. (h (long some)).1 }
 
 -- an info dictionary has no layers
 then_none : (b : Bool) (layer : List ℕ) → layer ≡ [] → (if b then layer else []) ≡ []
@@ -162,7 +203,7 @@ unfolding string_at
 none_at n p = then_none (nat_lt n (length_of p)) (unwrap_or (string_at no_dictionary (root_of p)) []) refl
 
 without_layer : (n : ℕ) (p : TreeEntry) → IsLayered n no_dictionary p
-without_layer n p = record { long = λ some. absurd (some (none_at n p)); sized = λ some. absurd (some (none_at n p)) }
+without_layer n p = record { long = λ some. absurd (some (none_at n p)); sized = λ some. absurd (some (none_at n p)); folds = λ some. absurd (some (none_at n p)) }
 
 none_layered : (n : ℕ) (ps : List TreeEntry) → All (IsLayered n no_dictionary) ps
 none_layered n [] = All-nil (IsLayered n no_dictionary)
@@ -173,23 +214,56 @@ none_layered n (p ∷ ps) = All-cons (IsLayered n no_dictionary) p ps (without_l
 abbrev IsFile : TreeEntry → Type 0
 IsFile p = is_file p ≡ true
 
-lawful_files : (n : ℕ) (layers : Data) (before ps : List TreeEntry) → All IsFile ps → All HasSoundFile ps → All (IsLayered n layers) ps
+lawful_files : (n : ℕ) (layers : Data) (before ps : List TreeEntry) → All IsFile ps → All HasSoundFile ps → All HasPath ps → All (IsLayered n layers) ps
     → All (IsLawfulFile n) (with_earlier (file_at n layers) before ps)
-lawful_files n layers before [] files sound layered = All-nil (IsLawfulFile n)
-lawful_files n layers before (p ∷ ps) files sound layered =
+lawful_files n layers before [] files sound paths layered = All-nil (IsLawfulFile n)
+lawful_files n layers before (p ∷ ps) files sound paths layered =
     let own = All-head (IsLayered n layers) p ps layered in
     let known = All-head HasSoundFile p ps sound (All-head IsFile p ps files) in
     let lawful : IsLawfulFile n (file_at n layers before p) =
-    record { short = known.short; rooted = known.rooted; zeros = known.zeros; long = own.long; sized = own.sized } in
+    record { path = All-head HasPath p ps paths; short = known.short; rooted = known.rooted; zeros = known.zeros; long = own.long; sized = own.sized; folds = own.folds } in
     All-cons (IsLawfulFile n) (file_at n layers before p) (with_earlier (file_at n layers) (before ++ p ∷ []) ps) lawful
-    (lawful_files n layers (before ++ p ∷ []) ps (All-tail IsFile p ps files) (All-tail HasSoundFile p ps sound) (All-tail (IsLayered n layers) p ps layered))
+    (lawful_files n layers (before ++ p ∷ []) ps (All-tail IsFile p ps files) (All-tail HasSoundFile p ps sound) (All-tail HasPath p ps paths) (All-tail (IsLayered n layers) p ps layered))
 
-lawful_tree : (n : ℕ) (layers tree : Data) → All HasSoundFile (tree_entries_below [] tree) → All (IsLayered n layers) (filter is_file (tree_entries_below [] tree))
+lawful_tree : (n : ℕ) (layers tree : Data) → IsSoundTree tree → All (IsLayered n layers) (filter is_file (tree_entries_below [] tree))
     → All (IsLawfulFile n) (files_of n layers tree)
 unfolding files_of
 lawful_tree n layers tree sound layered =
-    let tree_entries = tree_entries_below [] tree in
-    lawful_files n layers [] (filter is_file tree_entries) (filter_passes is_file tree_entries) (All-filter is_file HasSoundFile tree_entries sound) layered
+    let es = tree_entries_below [] tree in
+    lawful_files n layers [] (filter is_file es) (filter_passes is_file es) (All-filter is_file HasSoundFile es sound.sound) (All-filter is_file HasPath es sound.paths) layered
+
+-- ---- what is so of two files
+
+-- a relation of two files, where it is one of their entries
+module _ (n : ℕ) (layers : Data) (R : TreeEntry → TreeEntry → Type 0) (S : File → File → Type 0)
+    (same : (b c : List TreeEntry) (p q : TreeEntry) → is_file p ≡ true → is_file q ≡ true → R p q → S (file_at n layers b p) (file_at n layers c q)) where
+  of_one : (b : List TreeEntry) (p : TreeEntry) (before ps : List TreeEntry) → is_file p ≡ true → All IsFile ps → All (R p) ps → All (S (file_at n layers b p)) (with_earlier (file_at n layers) before ps)
+  of_one b p before [] file files h = All-nil (S (file_at n layers b p))
+  of_one b p before (q ∷ ps) file files h =
+      All-cons (S (file_at n layers b p)) (file_at n layers before q) (with_earlier (file_at n layers) (before ++ q ∷ []) ps) (same b before p q file (All-head IsFile q ps files) (All-head (R p) q ps h))
+      (of_one b p (before ++ q ∷ []) ps file (All-tail IsFile q ps files) (All-tail (R p) q ps h))
+
+  of_all : (before ps : List TreeEntry) → All IsFile ps → AllPairs R ps → AllPairs S (with_earlier (file_at n layers) before ps)
+  of_all before [] files h = λ i j d lt within. absurd (omega arith)
+  of_all before (p ∷ ps) files h =
+      AllPairs-cons S (file_at n layers before p) (with_earlier (file_at n layers) (before ++ p ∷ []) ps)
+      (of_one before p (before ++ p ∷ []) ps (All-head IsFile p ps files) (All-tail IsFile p ps files) (λ i d within. h 0 (suc i) d (omega arith) (omega arith)))
+      (of_all (before ++ p ∷ []) ps (All-tail IsFile p ps files) (λ i j d lt within. h (suc i) (suc j) d (omega arith) (omega arith)))
+
+  of_files : (tree : Data) → AllPairs R (tree_entries_below [] tree) → AllPairs S (files_of n layers tree)
+  unfolding files_of
+  of_files tree h = let es = tree_entries_below [] tree in of_all [] (filter is_file es) (filter_passes is_file es) (AllPairs-filter R is_file es h)
+
+some_file : (n : ℕ) (layers tree : Data) → list_any is_file (tree_entries_below [] tree) ≡ true → 0 < length (files_of n layers tree)
+unfolding files_of
+some_file n layers tree h =
+    let es = filter is_file (tree_entries_below [] tree) in
+    let count = length-with_earlier (file_at n layers) [] es in
+    let filled : not (length es == 0) ≡ true = sym (some_of_filter is_file (tree_entries_below [] tree)) ∙ h in
+    rw count (not_none (length es) filled)
+  where
+    not_none : (k : ℕ) → not (k == 0) ≡ true → 0 < k
+    not_none k e = grind (arith, nat_tests)
 
 few_in : (n : ℕ) (layers tree : Data) → first_of (tree_checks n tree) ≡ None → sum_by (λ f. piece_count n f.length) (files_of n layers tree) ≤ 2 ^ 21
 unfolding files_of
@@ -208,12 +282,17 @@ lawful_info info layers keys h layered =
     let n = piece_length_of info in
     let tree = tree_of info in
     let of_tree : first_of (tree_checks n tree) ≡ None = back_none (head_checks info) (tree_checks n tree) h in
+    let sound : IsSoundTree tree = tree_sound n tree of_tree in
+    let ascends = at_key info (codes "file tree") keys in
     record {
       piece = piece_lawful n (head_lawful info (front_none (head_checks info) (tree_checks n tree) h));
-      each = lawful_tree n layers tree (tree_sound n tree of_tree) layered;
+      some = some_file n layers tree sound.some;
+      each = lawful_tree n layers tree sound layered;
       few_pieces = few_in n layers tree of_tree;
       laid_out = laid_out n layers tree of_tree;
-      ascending = files_ascend n layers tree (at_key info (codes "file tree") keys);
+      ascending = files_ascend n layers tree ascends;
+      apart = of_files n layers IsCut (λ f g. IsApart f.path g.path) (λ b c p q file other cut. apart p q file cut) tree (below_cut [] tree ascends sound.nodes);
+      one_length = of_files n layers Agrees (λ f g. f.length ≢ 0 → g.length ≢ 0 → f.root ≡ g.root → f.length ≡ g.length) (λ b c p q file other one. one file other) tree sound.agree;
     }
 
 faultless_info : (info : Data) → first_info_fault info ≡ None → first_of (info_checks info) ≡ None

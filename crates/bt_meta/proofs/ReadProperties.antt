@@ -73,6 +73,6 @@ root_nowhere properties some e =
 
 -- ---- a file
 
-pub file_is : (element : List ℕ) (properties : Data) (e : FileEntry) → map string_bytes e.path.items ≡ element ∷ [] → e.length ≡ length_in properties → e.root ≡ root_in properties
+pub file_is : (element : List ℕ) (properties : Data) (e : FileEntry) → e.path ≡ element ∷ [] → e.length ≡ length_in properties → e.root ≡ root_in properties
     → e.first_piece ≡ 0 → e.layer.items ≡ [] → file_of e ≡ record { path = element ∷ []; length = length_in properties; root = root_in properties; first_piece = 0; layer = [] }
 file_is element properties e path length root first layer = cc

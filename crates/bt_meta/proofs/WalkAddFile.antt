@@ -176,7 +176,7 @@ many_stop piece_length path name properties p facts old mid pieces at f noted e 
 
 pub file_passes : (piece_length : ℕ) (path : List (List ℕ)) (name : List ℕ) (properties : Data) (p : TreeEntry) (facts : FileFacts) (old mid new : Walk) (entry : FileEntry) → IsFileEntry path name properties p
     → IsFileFacts properties facts → IsNotedWalk facts old mid → length path < 64 → length mid.files.items < 65536 → new.pieces ≤ 2 ^ 21 → new.pieces ≡ mid.pieces + div_ceil facts.length piece_length
-    → new.files.items ≡ mid.files.items ++ entry ∷ [] → new.lengths ≡ mid.lengths → map string_bytes entry.path.items ≡ path ++ name ∷ [] → entry.length ≡ facts.length → entry.root ≡ facts.root
+    → new.files.items ≡ mid.files.items ++ entry ∷ [] → new.lengths ≡ mid.lengths → entry.path ≡ path ++ name ∷ [] → entry.length ≡ facts.length → entry.root ≡ facts.root
     → entry.first_piece ≡ mid.pieces → entry.layer.items ≡ [] → Passes piece_length (p ∷ []) old new
 file_passes piece_length path name properties p facts old mid new entry at f noted near few_files few_pieces pieces files lengths named sized root first layer =
     passes_one piece_length p old new (λ before h.
@@ -259,9 +259,9 @@ file_entered piece_length path key d old new is none h =
     let P : List TreeEntry → Type 0 = λ tree_entries. Passes piece_length tree_entries old new in
     subst P (sym (is ∙ ap (λ tree_entries. p ∷ tree_entries) none)) h
 
-pub folder_entered : (piece_length : ℕ) (path : List (List ℕ)) (key name : List ℕ) (d : Data) (w : Walk) → name ≡ key
+pub folder_entered : (piece_length : ℕ) (path inner : List (List ℕ)) (key : List ℕ) (d : Data) (w : Walk) → inner ≡ path ++ key ∷ []
     → tree_entries_of path key d ≡ (record { path = path ++ key ∷ []; value = d }) ∷ tree_entries_below (path ++ key ∷ []) d → Passes piece_length ((record { path = path ++ key ∷ []; value = d }) ∷ []) w w
-    → Passes piece_length ((record { path = path ++ name ∷ []; value = d }) ∷ []) w w × (tree_entries_of path key d ≡ (record { path = path ++ name ∷ []; value = d }) ∷ tree_entries_below (path ++ name ∷ []) d)
-folder_entered piece_length path key name d w same is h =
-    let P : List ℕ → Type 0 = λ x. Passes piece_length ((record { path = path ++ x ∷ []; value = d }) ∷ []) w w × (tree_entries_of path key d ≡ (record { path = path ++ x ∷ []; value = d }) ∷ tree_entries_below (path ++ x ∷ []) d) in
+    → Passes piece_length ((record { path = inner; value = d }) ∷ []) w w × (tree_entries_of path key d ≡ (record { path = inner; value = d }) ∷ tree_entries_below inner d)
+folder_entered piece_length path inner key d w same is h =
+    let P : List (List ℕ) → Type 0 = λ x. Passes piece_length ((record { path = x; value = d }) ∷ []) w w × (tree_entries_of path key d ≡ (record { path = x; value = d }) ∷ tree_entries_below x d) in
     subst P (sym same) (h, is)

@@ -59,7 +59,7 @@ unfolding string_at
 no_layer true key = refl
 no_layer false key = refl
 
-pub entry_of_file : (piece_length : ℕ) (before : List TreeEntry) (p : TreeEntry) (w : Walk) (e : FileEntry) → w.pieces ≡ pieces_of piece_length before → map string_bytes e.path.items ≡ p.path → e.length ≡ length_of p
+pub entry_of_file : (piece_length : ℕ) (before : List TreeEntry) (p : TreeEntry) (w : Walk) (e : FileEntry) → w.pieces ≡ pieces_of piece_length before → e.path ≡ p.path → e.length ≡ length_of p
     → e.root ≡ root_of p → e.first_piece ≡ w.pieces → e.layer.items ≡ [] → file_of e ≡ file_at piece_length no_dictionary (filter is_file before) p
 entry_of_file piece_length before p w e pieces path long root first layer =
     let none : layer_at piece_length no_dictionary p ≡ [] = no_layer (nat_lt piece_length (length_of p)) (root_of p) in
@@ -129,7 +129,7 @@ others_noted before p old new other n file some h noted =
 
 -- ---- the walk
 
-pub file_walked : (piece_length : ℕ) (before : List TreeEntry) (p : TreeEntry) (old new : Walk) (e : FileEntry) → IsWalkOver piece_length before old → is_file p ≡ true → map string_bytes e.path.items ≡ p.path
+pub file_walked : (piece_length : ℕ) (before : List TreeEntry) (p : TreeEntry) (old new : Walk) (e : FileEntry) → IsWalkOver piece_length before old → is_file p ≡ true → e.path ≡ p.path
     → e.length ≡ length_of p → e.root ≡ root_of p → e.first_piece ≡ old.pieces → e.layer.items ≡ [] → e.length ≤ 2 ^ 40 → new.files.items ≡ old.files.items ++ e ∷ []
     → new.pieces ≡ old.pieces + piece_count piece_length (length_of p)
     → ((root : List ℕ) (n : ℕ) → is_other_length (length_at new.lengths root) n ≡ has_other_length (before ++ p ∷ []) root n) → IsWalkOver piece_length (before ++ p ∷ []) new

@@ -3,7 +3,6 @@ use Rattle.std.proofs.Common.{◌≡◌, ℕ, ◌≤◌, ◌^◌, Bool, true, fa
 use Rattle.std.specs.Prelude.{filter, sum, sum_by, not, ◌||◌, ◌==◌, cond}
 use Rattle.std.proofs.lemmas.List.Sums.{sum-map}
 use Rattle.std.specs.List.{list_any}
-use Rattle.std.specs.Borrow.{Bor}
 use Rattle.std.proofs.lemmas.Bool.Decides.{nat_tests}
 use Rattle.std.proofs.lemmas.List.Elements.{All-same, All-nil}
 use Rattle.bt_bencode.specs.Value.{Data}
@@ -12,7 +11,7 @@ use Rattle.bt_meta.specs.TreeEntries.{TreeEntry, tree_entries_below, with_earlie
 use Rattle.bt_meta.specs.Files.{File, is_file, file_of, file_at, files_of, pieces_of, piece_count, length_of}
 use Rattle.bt_meta.specs.Faults.{Check, first_of, fault_if, entry_check, tree_checks}
 use Rattle.bt_meta.specs.ReaderSteps.{Refuses, IsListing}
-use Rattle.bt_meta.specs.WalkSteps.{IsWalkOver, Passes, Stops, texts}
+use Rattle.bt_meta.specs.WalkSteps.{IsWalkOver, Passes, Stops}
 use Rattle.bt_meta.specs.declared.walk.Walk.{Walk}
 use Rattle.bt_meta.specs.declared.walk.Listing.{Listing}
 use Rattle.bt_meta.specs.declared.error.MetaError.{MetaError}
@@ -56,7 +55,7 @@ filter_one : {A : Type 0} (x : A) (b : Bool) (ys : List A) (r : Bool) → r ≡ 
 filter_one x true ys r e = let more : (length (x ∷ ys) == 0) ≡ false = grind (arith, nat_tests) in rw more refl
 filter_one x false ys r e = e
 
-some_of_filter : {A : Type 0} (test : A → Bool) (xs : List A) → list_any test xs ≡ not (length (filter test xs) == 0)
+pub some_of_filter : {A : Type 0} (test : A → Bool) (xs : List A) → list_any test xs ≡ not (length (filter test xs) == 0)
 some_of_filter test [] = refl
 some_of_filter test (x ∷ xs) = filter_one x (test x) (filter test xs) (list_any test xs) (some_of_filter test xs)
 
@@ -71,28 +70,14 @@ last_is piece_length tree w b h e =
 
 -- ---- the whole tree
 
-abbrev at_top : List (Bor (List ℕ)) → Data → List TreeEntry
-at_top path tree = tree_entries_below (texts path) tree
+pub tree_stops : (piece_length : ℕ) (tree : Data) (walk : Walk) (e : MetaError) → false ≡ has_key tree [] → IsWalkOver piece_length [] walk
+    → Stops piece_length (tree_entries_below [] tree) walk e → Refuses (first_of (tree_checks piece_length tree)) e
+tree_stops piece_length tree walk e t h s = elim (s [] h) [ inl m ↦ inl m | inr k ↦ inr (entry_fault piece_length tree e t k) ]
 
-top_entries : (path : List (Bor (List ℕ))) (tree : Data) → path ≡ [] → at_top path tree ≡ tree_entries_below [] tree
-top_entries path tree e = ap (λ p. tree_entries_below (texts p) tree) e
-
-pub tree_stops : (piece_length : ℕ) (tree : Data) (path : List (Bor (List ℕ))) (walk : Walk) (e : MetaError) → path ≡ [] → false ≡ has_key tree [] → IsWalkOver piece_length [] walk
-    → Stops piece_length (at_top path tree) walk e → Refuses (first_of (tree_checks piece_length tree)) e
-tree_stops piece_length tree path walk e p t h s =
-    let P : List TreeEntry → Type 0 = λ tree_entries. Stops piece_length tree_entries walk e in
-    elim (subst P (top_entries path tree p) s [] h) [ inl m ↦ inl m | inr k ↦ inr (entry_fault piece_length tree e t k) ]
-
-passed_all : (piece_length : ℕ) (tree : Data) (path : List (Bor (List ℕ))) (old new : Walk) → path ≡ [] → IsWalkOver piece_length [] old → Passes piece_length (at_top path tree) old new
-    → IsWalkOver piece_length (tree_entries_below [] tree) new × (first_of (entries piece_length tree) ≡ None)
-passed_all piece_length tree path old new p h s =
-    let P : List TreeEntry → Type 0 = λ tree_entries. Passes piece_length tree_entries old new in
-    subst P (top_entries path tree p) s [] h
-
-pub no_file : (piece_length : ℕ) (tree : Data) (path : List (Bor (List ℕ))) (old new : Walk) → path ≡ [] → false ≡ has_key tree [] → IsWalkOver piece_length [] old → Passes piece_length (at_top path tree) old new
-    → true ≡ (length new.files.items == 0) → first_of (tree_checks piece_length tree) ≡ Some Tree
-no_file piece_length tree path old new p t h s e =
-    let walked = passed_all piece_length tree path old new p h s in
+pub no_file : (piece_length : ℕ) (tree : Data) (old new : Walk) → false ≡ has_key tree [] → IsWalkOver piece_length [] old
+    → Passes piece_length (tree_entries_below [] tree) old new → true ≡ (length new.files.items == 0) → first_of (tree_checks piece_length tree) ≡ Some Tree
+no_file piece_length tree old new t h s e =
+    let walked = s [] h in
     to_last piece_length tree t walked.1 ∙ last_is piece_length tree new true walked.0 e
 
 pub same_sum : (piece_length : ℕ) (layers tree : Data) (files : List File) → files ≡ with_earlier (file_at piece_length layers) [] (filter is_file (tree_entries_below [] tree))
@@ -108,11 +93,12 @@ same_sum piece_length layers tree files e = ap (sum_by (λ f. piece_count piece_
         sym (sum-map (λ (f : File). piece_count piece_length f.length) (with_earlier (file_at piece_length layers) before tree_entries)) ∙ ap sum (counts before tree_entries)
         ∙ sum-map (λ (p : TreeEntry). piece_count piece_length (length_of p)) tree_entries
 
-pub whole_tree : (piece_length : ℕ) (tree : Data) (path : List (Bor (List ℕ))) (old new : Walk) (listing : Listing) → path ≡ [] → false ≡ has_key tree [] → IsWalkOver piece_length [] old → Passes piece_length (at_top path tree) old new
-    → false ≡ (length new.files.items == 0) → listing.files ≡ new.files → listing.pieces ≡ new.pieces → IsListing piece_length tree listing
+pub whole_tree : (piece_length : ℕ) (tree : Data) (old new : Walk) (listing : Listing) → false ≡ has_key tree [] → IsWalkOver piece_length [] old
+    → Passes piece_length (tree_entries_below [] tree) old new → false ≡ (length new.files.items == 0) → listing.files ≡ new.files → listing.pieces ≡ new.pieces
+    → IsListing piece_length tree listing
 unfolding files_of
-whole_tree piece_length tree path old new listing p t h s e files pieces =
-    let walked = passed_all piece_length tree path old new p h s in
+whole_tree piece_length tree old new listing t h s e files pieces =
+    let walked = s [] h in
     let same = ap (λ v. map file_of v.items) files in
     record {
       faultless = to_last piece_length tree t walked.1 ∙ last_is piece_length tree new false walked.0 e;

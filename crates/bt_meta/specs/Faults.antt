@@ -1,7 +1,7 @@
 -- Which faults a torrent has, in the order in which they are looked for.
 use Rattle.std.specs.Prelude.{ℕ, ℤ, Bool, false, not, ◌&&◌, ◌||◌, ◌==◌, List, [], ◌∷◌, ◌++◌, length, map, filter, codes, Option, None, Some, is_some, is_none, unwrap_or, nat_eq, nat_lt, nat_le, if◌then◌else◌}
 use Rattle.std.specs.Option.{option_map_or}
-use Rattle.std.specs.List.{list_any, last_or}
+use Rattle.std.specs.List.{list_any, last_or, list_all}
 use Rattle.std.specs.Int.{is_power_of_two}
 use Rattle.std.specs.Str.{is_utf8}
 use Rattle.std.specs.Cmp.Lexicographic.{pointwise}
@@ -48,6 +48,14 @@ unfoldable pub is_path_element : List ℕ → Bool
 is_path_element element =
     not (is_dots element || list_any (λ b. b == slash) element || list_any (λ b. b == 0) element)
     && is_utf8 element
+
+-- not empty, and lawful
+abbrev pub is_element : List ℕ → Bool
+is_element element = not (length element == 0) && is_path_element element
+
+-- one element or more, each of which may stand in a path
+abbrev pub is_path : List (List ℕ) → Bool
+is_path path = not (length path == 0) && list_all is_element path
 
 abbrev pub has_lawful_name : TreeEntry → Bool
 has_lawful_name p = is_path_element (unwrap_or (last_or None p.path) [])

@@ -48,7 +48,7 @@ pub record File : Type 0 where
 -- what is kept of a file
 abbrev pub file_of : FileEntry → File
 file_of e = record {
-  path = map string_bytes e.path.items;
+  path = e.path;
   length = e.length;
   root = e.root;
   first_piece = e.first_piece;

@@ -1,5 +1,6 @@
 -- limits and facts that all parts cite
 pub mod Limits
+pub mod FilePath
 pub mod Fields
 pub mod TreeEntries
 pub mod Files

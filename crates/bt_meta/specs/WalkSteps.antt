@@ -46,10 +46,6 @@ Stops piece_length entries old e = (before : List TreeEntry) → IsWalkOver piec
 
 -- ---- one entry
 
--- the bytes of each text
-abbrev pub texts : List (Bor (List ℕ)) → List (List ℕ)
-texts = map (λ t. t.now)
-
 -- an entry of a folder with this path, with what lies below it
 abbrev pub tree_entries_of : List (List ℕ) → List ℕ → Data → List TreeEntry
 tree_entries_of path key d = tree_entries_among path (entry key d no_entries)
@@ -73,12 +69,11 @@ pub record IsFileEntry (path : List (List ℕ)) (name : List ℕ) (d : Data) (p 
 abbrev pub AtFile : List (List ℕ) → List ℕ → Data → (TreeEntry → Type 0) → Type 0
 AtFile path name properties P = (p : TreeEntry) → IsFileEntry path name properties p → P p
 
--- the walk has come past the entry; but where it is a folder with this name, not past what lies below
-abbrev pub Enters : ℕ → List (List ℕ) → List ℕ → Data → Walk → Walk → Option (Bor (List ℕ))
-    → Type 0
+-- the walk has come past the entry; but where it is a folder, with this path, not past what lies below
+abbrev pub Enters : ℕ → List (List ℕ) → List ℕ → Data → Walk → Walk → Option (List (List ℕ)) → Type 0
 Enters piece_length path key d old new None = Passes piece_length (tree_entries_of path key d) old new
-Enters piece_length path key d old new (Some name) =
-    let inner = path ++ name.now ∷ [] in let p : TreeEntry = record { path = inner; value = d } in
+Enters piece_length path key d old new (Some inner) =
+    let p : TreeEntry = record { path = inner; value = d } in
     Passes piece_length (p ∷ []) old new × (tree_entries_of path key d ≡ p ∷ tree_entries_below inner d)
 
 -- it is refused at the first fault of the entry

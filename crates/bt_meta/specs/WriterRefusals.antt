@@ -6,7 +6,7 @@ use Rattle.bt_tree.specs.Limits.{max_file_length}
 use Rattle.bt_meta.specs.TreeEntries.{with_earlier}
 use Rattle.bt_meta.specs.Files.{piece_count}
 use Rattle.bt_meta.specs.Layers.{has_layer_size, has_root}
-use Rattle.bt_meta.specs.Faults.{first_of, fault_if, is_path_element, is_piece_length}
+use Rattle.bt_meta.specs.Faults.{first_of, fault_if, is_path, is_piece_length}
 use Rattle.bt_meta.specs.declared.writer.MakeError.{MakeError}
 use Rattle.bt_meta.specs.declared.writer.MakeError.TheVariants.{PieceLength, BadPath, FileLength, LayerSize, LayerDiffers, RootConflict, Count}
 use Rattle.bt_meta.specs.GivenFiles.{Given}
@@ -15,13 +15,6 @@ use Rattle.bt_meta.specs.Limits.{max_path_length, max_file_count, max_piece_coun
 -- A check answers a refusal, or nothing.
 abbrev pub Check : Type 0
 Check = Option MakeError
-
-abbrev pub is_element : List ℕ → Bool
-is_element element = not (length element == 0) && is_path_element element
-
--- one element or more, each of which may stand in a path
-abbrev pub is_path : List (List ℕ) → Bool
-is_path path = not (length path == 0) && list_all is_element path
 
 -- the layer of a file longer than a piece, which folds to its root; no layer for any other
 abbrev pub layer_refusal : ℕ → Given → Check

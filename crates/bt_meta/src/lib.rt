@@ -4,6 +4,7 @@
 mod encode;
 mod error;
 mod fields;
+mod file_path;
 mod law;
 mod layers;
 mod properties;
@@ -13,11 +14,12 @@ mod walk;
 mod writer;
 
 pub use error::MetaError;
+pub use file_path::{FilePath, MAX_PATH_LENGTH};
 pub use law::torrents_are_read_back;
 pub use properties::MAX_FILE_LENGTH;
 pub use reader::{MAX_TEXT_LENGTH, read_info, read_torrent};
 pub use torrent::{FileEntry, Span, Torrent};
-pub use walk::{MAX_FILES, MAX_PATH_LENGTH, MAX_PIECES};
+pub use walk::{MAX_FILES, MAX_PIECES};
 pub use writer::{Made, MakeError, make};
 
 #[cfg(test)]

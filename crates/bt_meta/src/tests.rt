@@ -40,7 +40,7 @@ fn reads_the_abc_torrent(rt: HostRuntime) -> Result<(), Fail> {
     assert_eq!(rt; files.len(), 1);
     let file = &files[0];
     assert_eq!(rt; file.path.len(), 1);
-    assert_eq!(rt; file.path[0].as_str(), "a.txt");
+    assert_eq!(rt; file.path.elements().first(), Some(&"a.txt"));
     assert_eq!(rt; file.length, 3);
     assert_eq!(rt; file.root, ABC_ROOT);
     assert_eq!(rt; file.first_piece, 0);
@@ -82,7 +82,7 @@ fn reads_the_abc_info(rt: HostRuntime) -> Result<(), Fail> {
     assert_eq!(rt; files.len(), 1);
     let file = &files[0];
     assert_eq!(rt; file.path.len(), 1);
-    assert_eq!(rt; file.path[0].as_str(), "a.txt");
+    assert_eq!(rt; file.path.elements().first(), Some(&"a.txt"));
     assert_eq!(rt; file.length, 3);
     assert_eq!(rt; file.root, ABC_ROOT);
     assert_eq!(rt; file.first_piece, 0);
@@ -118,14 +118,14 @@ fn a_file_shorter_than_a_piece_has_no_layer(rt: HostRuntime) -> Result<(), Fail>
     assert_eq!(rt; files.len(), 2);
     let file = &files[0];
     assert_eq!(rt; file.path.len(), 1);
-    assert_eq!(rt; file.path[0].as_str(), "blocks");
+    assert_eq!(rt; file.path.elements().first(), Some(&"blocks"));
     assert_eq!(rt; file.length, 49_152);
     assert_eq!(rt; file.root, THREE_BLOCKS_ROOT);
     assert_eq!(rt; file.first_piece, 0);
     assert_eq!(rt; file.layer.len(), 0);
     let empty = &files[1];
     assert_eq!(rt; empty.path.len(), 1);
-    assert_eq!(rt; empty.path[0].as_str(), "empty");
+    assert_eq!(rt; empty.path.elements().first(), Some(&"empty"));
     assert_eq!(rt; empty.length, 0);
     assert_eq!(rt; empty.root, [0; 32]);
     assert_eq!(rt; empty.first_piece, 1);
@@ -348,7 +348,7 @@ fn compares_files_of_one_root(rt: HostRuntime) -> Result<(), Fail> {
 pub(crate) fn summary(rt: &impl AllocGlobal, torrent: &Torrent) -> Result<String, Fail> {
     let mut text = String::new(rt.alloc());
     for file in torrent.files() {
-        for element in &file.path {
+        for element in file.path.elements().iter() {
             text.push_str(element)?;
             text.push_str("/")?;
         }

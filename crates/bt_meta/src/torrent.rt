@@ -3,10 +3,11 @@ ghost use Rattle.std.specs.List.{All};
 ghost use Rattle.bt_tree.specs.TreeShape.{IsPieceLength};
 ghost use Rattle.bt_meta.specs.Limits.{max_piece_count, max_file_count};
 ghost use Rattle.bt_meta.specs.Files.{file_of};
-ghost use Rattle.bt_meta.specs.Torrent.{metainfo_with, total_pieces, IsLaidOut, HaveAscendingPaths, IsLawful, IsLawfulFile};
+ghost use Rattle.bt_meta.specs.Torrent.{metainfo_with, total_pieces, IsLaidOut, HaveAscendingPaths, HaveApartPaths, HaveOneLengthPerRoot, IsLawful, IsLawfulFile};
 ghost use Rattle.bt_meta.specs.Place.{IsPlace};
 ghost use Rattle.bt_meta.specs.PlaceSteps.{IsLastFileAt, HasNoFileAt};
 
+use crate::file_path::FilePath;
 use bt_tree::Hash32;
 use std::marker::Model;
 
@@ -14,7 +15,7 @@ use std::marker::Model;
 #[derive(Debug, Drop)]
 pub struct FileEntry {
     /// The names of the folders that it lies in, from the top, and then its own.
-    pub path: Vec<String>,
+    pub path: FilePath,
     /// How many bytes it has: at most 2^40.
     pub length: u64,
     /// The root of its tree; zeros for an empty file.
@@ -115,13 +116,18 @@ impl Torrent {
         self.infohash
     }
 
-    /// Its files, in the order of their paths: at most 65,536.
+    /// Its files, in the order of their paths: 1 to 65,536. What every torrent keeps to: each path is made of lawful
+    /// elements, and neither is nor begins another; files with bytes that have one root have one length; and a layer
+    /// that is there gives its file's root.
     pub fn files(&self) -> &[FileEntry]
         ensures said { map file_of result.now ≡ self.now.files }
+        ensures some { 0 < length result.now }
         ensures few { length result.now ≤ max_file_count }
         ensures lawful { All (IsLawfulFile self.now.piece_length) (map file_of result.now) }
         ensures laid_out { IsLaidOut self.now.piece_length (map file_of result.now) }
         ensures ascending { HaveAscendingPaths (map file_of result.now) }
+        ensures apart { HaveApartPaths (map file_of result.now) }
+        ensures one_length { HaveOneLengthPerRoot (map file_of result.now) }
     {
         &self.files
     }

@@ -4,19 +4,19 @@ ghost use Rattle.bt_bencode.specs.Value.{data_of, entries_of};
 ghost use Rattle.bt_meta.specs.TreeEntries.{tree_entries_below};
 ghost use Rattle.bt_meta.specs.Faults.{first_of, is_node, is_piece_length, tree_checks};
 ghost use Rattle.bt_meta.specs.ReaderSteps.{Refuses, IsListing};
-ghost use Rattle.bt_meta.specs.WalkSteps.{Passes, Stops, Enters, StopsAtEntry, IsNodeOf, AtFile, texts};
+ghost use Rattle.bt_meta.specs.WalkSteps.{Passes, Stops, Enters, StopsAtEntry, IsNodeOf, AtFile};
+ghost use Rattle.bt_meta.specs.FilePath.{folder_elements};
 
 use crate::error::MetaError;
 use crate::fields::{dictionary, has, is_dictionary, is_single};
+use crate::file_path::{FilePath, FolderPath, MAX_PATH_LENGTH, folder_length};
 use crate::properties::{FileFacts, file_facts, note_length, path_element};
 use crate::torrent::FileEntry;
 use bt_bencode::Value;
 use bt_tree::Hash32;
-use std::alloc::{AllocError, Global};
+use std::alloc::Global;
 use std::collections::BTreeMap;
-
-/// How many elements a path has at most.
-pub const MAX_PATH_LENGTH: usize = 64;
+use std::rc::Rc;
 
 /// How many files a torrent has at most.
 pub const MAX_FILES: usize = 65536;
@@ -67,8 +67,7 @@ pub(crate) fn read_tree(
         pieces: 0,
         lengths: BTreeMap::new(alloc),
     };
-    let mut path = Vec::new(alloc);
-    walk_folder(alloc, &mut walk, &mut path, tree, piece_length)?;
+    walk_folder(alloc, &mut walk, tree, &None, piece_length)?;
     if walk.files.as_slice().is_empty() {
         return Err(MetaError::Tree);
     }
@@ -79,49 +78,46 @@ pub(crate) fn read_tree(
 }
 
 /// Walks over what lies in a folder with this path.
-fn walk_folder<'a>(
+fn walk_folder(
     alloc: Global,
     walk: &mut Walk,
-    path: &mut Vec<&'a str>,
-    folder: &'a Value,
+    folder: &Value,
+    path: &FolderPath,
     piece_length: u32,
 ) -> Result<(), MetaError>
     requires { is_piece_length piece_length ≡ true }
     ensures passed { OnOk result (
         Passes piece_length
-        (tree_entries_below (texts path.old.items) (data_of folder.now)) walk.old walk.new) }
-    ensures path { OnOk result (path.new.items ≡ path.old.items) }
+        (tree_entries_below (folder_elements path.now) (data_of folder.now)) walk.old walk.new) }
     ensures stopped { IfErr result (
-        Stops piece_length (tree_entries_below (texts path.old.items) (data_of folder.now)) walk.old) }
+        Stops piece_length (tree_entries_below (folder_elements path.now) (data_of folder.now)) walk.old) }
 {
     let entries = match folder {
         Value::Dict(entries) => entries,
         Value::Int(_) | Value::Bytes(_) | Value::List(_) => return Ok(()),
     };
     for (key, value) in entries {
-        if let Some(name) = enter(alloc, walk, path, key, value, piece_length)? {
-            let depth = path.as_slice().len();
-            path.push(name)?;
-            walk_folder(alloc, walk, path, value, piece_length)?;
-            path.truncate(depth);
+        if let Some(inner) = enter(alloc, walk, path, key, value, piece_length)? {
+            let inner = Some(Rc::new(alloc, inner)?);
+            walk_folder(alloc, walk, value, &inner, piece_length)?;
         }
     }
     Ok(())
 }
 
-/// Tests an entry of a folder with this path. A file is put to the others; of a folder the name is returned.
-fn enter<'a>(
+/// Tests an entry of a folder with this path. A file is put to the others; of a folder the path is returned.
+fn enter(
     alloc: Global,
     walk: &mut Walk,
-    path: &[&str],
-    key: &'a [u8],
+    path: &FolderPath,
+    key: &[u8],
     value: &Value,
     piece_length: u32,
-) -> Result<Option<&'a str>, MetaError>
+) -> Result<Option<FilePath>, MetaError>
     requires { is_piece_length piece_length ≡ true }
     ensures { MatchResult result
-        (Enters piece_length (texts path.now) key.now (data_of value.now) walk.old walk.new)
-        (StopsAtEntry piece_length (texts path.now) key.now (data_of value.now) walk.old) }
+        (Enters piece_length (folder_elements path.now) key.now (data_of value.now) walk.old walk.new)
+        (StopsAtEntry piece_length (folder_elements path.now) key.now (data_of value.now) walk.old) }
 {
     if key.is_empty() {
         return Ok(None);
@@ -138,10 +134,10 @@ fn enter<'a>(
             Ok(None)
         }
         Node::Folder => {
-            if path.len() >= MAX_PATH_LENGTH {
+            if folder_length(path) >= MAX_PATH_LENGTH {
                 return Err(MetaError::TooMany);
             }
-            Ok(Some(name))
+            Ok(Some(FilePath::inside(alloc, path, name)?))
         }
     }
 }
@@ -169,15 +165,15 @@ fn node_of(value: &Value) -> Option<Node<'_>>
 fn add_file(
     alloc: Global,
     walk: &mut Walk,
-    path: &[&str],
+    folder: &FolderPath,
     name: &str,
     properties: &Value,
     piece_length: u32,
 ) -> Result<(), MetaError>
     requires { is_piece_length piece_length ≡ true }
-    ensures passed { OnOk result (AtFile (texts path.now) name.now (data_of properties.now) (λ p.
+    ensures passed { OnOk result (AtFile (folder_elements folder.now) name.now (data_of properties.now) (λ p.
         Passes piece_length (p ∷ []) walk.old walk.new)) }
-    ensures stopped { IfErr result (λ e. AtFile (texts path.now) name.now (data_of properties.now) (λ p.
+    ensures stopped { IfErr result (λ e. AtFile (folder_elements folder.now) name.now (data_of properties.now) (λ p.
         Stops piece_length (p ∷ []) walk.old e)) }
 {
     let FileFacts { length, root } = file_facts(properties)?;
@@ -185,10 +181,11 @@ fn add_file(
         note_length(&mut walk.lengths, root, length)?;
     }
     let pieces = walk.pieces as u64 + length.div_ceil(piece_length as u64);
-    if path.len() >= MAX_PATH_LENGTH || walk.files.len() >= MAX_FILES || pieces > MAX_PIECES {
+    let depth = folder_length(folder);
+    if depth >= MAX_PATH_LENGTH || walk.files.len() >= MAX_FILES || pieces > MAX_PIECES {
         return Err(MetaError::TooMany);
     }
-    let path = path_with(alloc, path, name)?;
+    let path = FilePath::inside(alloc, folder, name)?;
     walk.files.push(FileEntry {
         path,
         length,
@@ -198,16 +195,4 @@ fn add_file(
     })?;
     walk.pieces = pieces as u32;
     Ok(())
-}
-
-/// The path with the name behind it.
-fn path_with(alloc: Global, path: &[&str], name: &str) -> Result<Vec<String>, AllocError>
-    ensures { IfOk result (λ names. map string_bytes names.items ≡ texts path.now ++ name.now ∷ []) }
-{
-    let mut names = Vec::new(alloc);
-    for element in path {
-        names.push(String::from_str(alloc, element)?)?;
-    }
-    names.push(String::from_str(alloc, name)?)?;
-    Ok(names)
 }

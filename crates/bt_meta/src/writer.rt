@@ -7,7 +7,8 @@ ghost use Rattle.bt_tree.specs.Limits.{max_file_length};
 ghost use Rattle.bt_meta.specs.TreeEntries.{with_earlier};
 ghost use Rattle.bt_meta.specs.Faults.{first_of, is_piece_length as is_lawful_piece_length};
 ghost use Rattle.bt_meta.specs.GivenFiles.{Given, given_of, HasRoot, IsInTreeOrder, path_order, is_before, begins as begins_path};
-ghost use Rattle.bt_meta.specs.WriterRefusals.{file_refusal, own_refusal, layer_refusal, is_path as is_lawful_path, is_element as is_lawful_element, conflict_with};
+ghost use Rattle.bt_meta.specs.WriterRefusals.{file_refusal, own_refusal, layer_refusal, conflict_with};
+ghost use Rattle.bt_meta.specs.Faults.{is_path as is_lawful_path, is_element as is_lawful_element};
 ghost use Rattle.bt_meta.specs.Writer.{IsMade, have_overlap, IsNotMade};
 ghost use Rattle.bt_meta.specs.WriterSteps.{HasLengths, IsTallyOf, IsWithinLimits, Refuses};
 ghost use Rattle.bt_meta.specs.EncodeSteps.{given_at};
@@ -16,10 +17,11 @@ ghost use Rattle.bt_meta.specs.declared.writer.MakeError.TheVariants.{OutOfMemor
 
 use crate::encode::value_of;
 use crate::error::MetaError;
+use crate::file_path::MAX_PATH_LENGTH;
 use crate::layers::check as check_bytes;
 use crate::properties::{MAX_FILE_LENGTH, note_length, path_element};
 use crate::reader::{MAX_TEXT_LENGTH, is_piece_length};
-use crate::walk::{MAX_FILES, MAX_PATH_LENGTH, MAX_PIECES};
+use crate::walk::{MAX_FILES, MAX_PIECES};
 use bt_bencode::write;
 use bt_tree::Hash32;
 use std::alloc::{AllocError, Global};

@@ -5,7 +5,7 @@ use sha2::{Digest, Sha256};
 use std::alloc::{AllocError, Global};
 use std::test::Fail;
 
-/// A file at a path whose elements are tree_paths by `/`.
+/// A file at a path whose elements are separated by `/`.
 fn made(
     alloc: Global,
     path: &str,
@@ -64,9 +64,9 @@ fn puts_the_files_in_tree_order(rt: HostRuntime) -> Result<(), Fail> {
     let torrent = read_torrent(alloc, &make(alloc, b"n", 16_384, &files)?)?;
     let mut paths = String::new(alloc);
     for file in torrent.files() {
-        for element in &file.path {
+        for element in file.path.elements().iter() {
             paths.push('/')?;
-            paths.push_str(element.as_str())?;
+            paths.push_str(element)?;
         }
         paths.push(' ')?;
     }
