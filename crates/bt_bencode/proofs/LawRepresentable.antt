@@ -7,7 +7,7 @@ use Rattle.bt_bencode.specs.Doc.{HasSmallIntegers, ItemsHaveSmallIntegers, Entri
 use Rattle.bt_bencode.specs.Law.{IsRepresentable, ItemsAreRepresentable, EntriesAreRepresentable}
 
 string_is_longer : (s : List ℕ) → length s ≤ length (string_spelling s)
-string_is_longer s = omega (arith, length-append (decimal (length s) ++ 58 ∷ []) s)
+string_is_longer s = omega (arith, length-append (decimal (length s)) (58 ∷ s))
 
 mutual
   unfolding spelling_of HasSmallIntegers IsRepresentable
@@ -28,5 +28,8 @@ mutual
   entries_representable no_entries fits short = tt
   entries_representable (entry key d es) fits short =
       let outer = length-append (string_spelling key ++ spelling_of d) (entries_spelling es) in
-      let inner = length-append (string_spelling key) (spelling_of d) in
-      (omega (arith, outer, inner, string_is_longer key), representable d fits.0 (omega (arith, outer, inner)), entries_representable es fits.1 (omega (arith, outer, inner)))
+      let inner = length-append (string_spelling key) (spelling_of d) in (
+        omega (arith, outer, inner, string_is_longer key),
+        representable d fits.0 (omega (arith, outer, inner)),
+        entries_representable es fits.1 (omega (arith, outer, inner)),
+      )

@@ -1,119 +1,25 @@
 -- An integer in the bytes.
-use Rattle.std.proofs.Common.{◌≡◌, ◌≢◌, ℕ, zero, suc, ◌+◌, ◌-◌, ◌^◌, ◌<◌, ◌≤◌, Bool, true, false, inl, List, [], ◌∷◌, ◌++◌, length, drop, get_or, refl, sym, ap, ◌∙◌, subst, arith, append_assoc, ℤ, pos}
-use Rattle.std.specs.Prelude.{slice_range, slice_index, neg_ℤ, IsTrue, ◌↔◌, FitsSigned, Option, None, Some}
+use Rattle.std.proofs.Common.{◌≡◌, ◌≢◌, ℕ, zero, suc, ◌+◌, ◌-◌, ◌^◌, ◌<◌, ◌≤◌, Bool, true, false, inl, inr, List, [], ◌∷◌, ◌++◌, length, drop, get_or}
+use Rattle.std.proofs.Common.{refl, sym, ap, ◌∙◌, subst, arith, append_assoc, ℤ}
+use Rattle.std.specs.Prelude.{slice_range, IsTrue, ◌↔◌, FitsSigned, Option, None, Some, Result, Ok, Err}
 use Rattle.std.proofs.lemmas.Int.{ints}
 use Rattle.std.specs.Str.{IsAscii}
 use Rattle.std.specs.Int.{from_bool, w64}
 use Rattle.std.specs.Option.{SomeIff}
 use Rattle.std.specs.Fmt.{decimal, signed_decimal}
-use Rattle.std.specs.Str.Parse.{AllDigits, IsNumeral, digits_value, without_leading_sign, signed_digits_value}
+use Rattle.std.specs.Str.Parse.{IsNumeral, digits_value, without_leading_sign, signed_digits_value}
 use Rattle.std.proofs.lemmas.Str.Parse.{parse_signed_digits, parse_signed_minus}
-use Rattle.std.specs.Prelude.{Result, Ok, Err}
 use Rattle.std.proofs.lemmas.List.{drop_more, get_or_append_left}
 use Rattle.std.proofs.lemmas.Fmt.{decimal_digit, IsAscii-from_digits}
 use Rattle.bt_bencode.specs.Value.{integer}
 use Rattle.bt_bencode.specs.Spelling.{spelling_of}
 use Rattle.bt_bencode.specs.Error.{Fault, int_range}
-use Rattle.bt_bencode.specs.Number.{LeadsWithZero, NumeralStops}
-use Rattle.bt_bencode.specs.Reader.{Stops, in_integer, in_negative, too_large, too_small}
+use Rattle.bt_bencode.specs.Number.{sign_text, signed_number, LeadsWithZero, NumeralStops}
+use Rattle.bt_bencode.specs.Reader.{Stops, in_integer, out_of_range}
 use Rattle.bt_bencode.specs.ReaderSteps.{Spans, FaultFrom, IsNumeralAt, ReadsInteger}
 use Rattle.bt_bencode.proofs.ReadRanges.{length-between, drop_first, in_range}
 use Rattle.bt_bencode.proofs.ReadNumerals.{digits_model, decimal_again, numeral_split}
-
--- the integer's text behind `i`, written with its sign
-text_after_i : (bytes : List ℕ) (at : ℕ) → at < length bytes → get_or bytes at 0 ≡ 105 → drop at bytes ≡ 105 ∷ drop (at + 1) bytes
-text_after_i bytes at lt first = drop_more bytes at 0 lt ∙ ap (λ c. c ∷ drop (at + 1) bytes) first
-
-text_after_minus : (bytes : List ℕ) (at : ℕ) → at < length bytes → get_or bytes at 0 ≡ 105 → at + 1 < length bytes → get_or bytes (at + 1) 0 ≡ 45 → drop at bytes ≡ 105 ∷ 45 ∷ drop (at + 1 + 1) bytes
-text_after_minus bytes at lt first lt' second =
-    text_after_i bytes at lt first ∙ ap (λ xs. 105 ∷ xs) (drop_more bytes (at + 1) 0 lt' ∙ ap (λ c. c ∷ drop (at + 1 + 1) bytes) second)
-
--- a numeral that stops a reading, behind `i` and behind `i-`
-pub plain_stops : (n : ℕ) (bytes : List ℕ) (at : ℕ) → at < length bytes → get_or bytes at 0 ≡ 105 → get_or bytes (at + 1) 0 ≢ 45 → (f : Fault) (offset : ℕ)
-    → FaultFrom (NumeralStops false 101) bytes (at + 1) f offset → FaultFrom (Stops n) bytes at f offset
-plain_stops n bytes at lt first plain f offset h =
-    (h.0, rw (text_after_i bytes at lt first) (in_integer n (drop (at + 1) bytes) f (drop offset bytes) (λ e. plain (sym (drop_first (at + 1) bytes) ∙ e)) h.1))
-
-pub minus_stops : (n : ℕ) (bytes : List ℕ) (at : ℕ) → at < length bytes → get_or bytes at 0 ≡ 105 → at + 1 < length bytes → get_or bytes (at + 1) 0 ≡ 45 → (f : Fault) (offset : ℕ)
-    → FaultFrom (NumeralStops true 101) bytes (at + 1 + 1) f offset → FaultFrom (Stops n) bytes at f offset
-minus_stops n bytes at lt first lt' second f offset h =
-    (h.0, rw (text_after_minus bytes at lt first lt' second) (in_negative n (drop (at + 1 + 1) bytes) f (drop offset bytes) h.1))
-
--- an integer without a sign, and one with a minus
-pub plain_read : (bytes : List ℕ) (at end : ℕ) → at < length bytes → get_or bytes at 0 ≡ 105 → IsNumeralAt false 101 bytes (at + 1) end → digits_value 10 (slice_range bytes (at + 1) end) < 2 ^ 63
-    → Spans bytes at (end + 1) (spelling_of (integer (pos (digits_value 10 (slice_range bytes (at + 1) end)))))
-unfolding spelling_of
-plain_read bytes at end lt first numeral small =
-    let ds = slice_range bytes (at + 1) end in
-    let rest = drop (end + 1) bytes in
-    let forward : at + 1 < end = numeral.forward in
-    let inside : end < length bytes = numeral.inside in
-    let parts : ds ++ 101 ∷ rest ≡ drop (at + 1) bytes = numeral_split false 101 bytes (at + 1) end numeral in
-    let no_zero : ¬ LeadsWithZero false (ds ++ 101 ∷ rest) = subst (λ text. ¬ LeadsWithZero false text) (sym parts) numeral.no_zero in
-    let some : 0 < length ds = omega (arith, length-between bytes (at + 1) end (omega arith)) in
-    let digits : decimal (digits_value 10 ds) ≡ ds = decimal_again false ds (101 ∷ rest) numeral.digits some no_zero (omega arith) in
-    record {
-      forward = omega arith;
-      inside = omega arith;
-      spelled = ap (λ xs. 105 ∷ xs) (append_assoc (decimal (digits_value 10 ds)) (101 ∷ []) rest ∙ ap (λ xs. xs ++ 101 ∷ rest) digits ∙ parts) ∙ sym (text_after_i bytes at lt first);
-    }
-
--- digits that do not begin with a zero write no zero
-positive : (ds more : List ℕ) → AllDigits 10 ds → 0 < length ds → ¬ LeadsWithZero true (ds ++ more) → digits_value 10 ds ≢ 0
-positive ds more digits some no_zero is =
-    let zero_digit : 48 ∷ [] ≡ ds = sym (decimal_digit 0 (omega arith)) ∙ ap decimal (sym is) ∙ decimal_again true ds more digits some no_zero (omega arith) in
-    no_zero (get_or_append_left ds more 0 0 some ∙ ap (λ xs. get_or xs 0 0) (sym zero_digit), inl refl)
-
-negative_decimal : (n : ℕ) → n ≢ 0 → signed_decimal (neg_ℤ (pos n)) ≡ 45 ∷ decimal n
-negative_decimal zero some = absurd (some refl)
-negative_decimal (suc n) some = refl
-
-pub minus_read : (bytes : List ℕ) (at end : ℕ) → at < length bytes → get_or bytes at 0 ≡ 105 → at + 1 < length bytes → get_or bytes (at + 1) 0 ≡ 45 → IsNumeralAt true 101 bytes (at + 1 + 1) end
-    → digits_value 10 (slice_range bytes (at + 1 + 1) end) ≤ 2 ^ 63 → Spans bytes at (end + 1) (spelling_of (integer (neg_ℤ (pos (digits_value 10 (slice_range bytes (at + 1 + 1) end))))))
-unfolding spelling_of
-minus_read bytes at end lt first lt' second numeral small =
-    let ds = slice_range bytes (at + 1 + 1) end in
-    let rest = drop (end + 1) bytes in
-    let forward : at + 1 + 1 < end = numeral.forward in
-    let inside : end < length bytes = numeral.inside in
-    let parts : ds ++ 101 ∷ rest ≡ drop (at + 1 + 1) bytes = numeral_split true 101 bytes (at + 1 + 1) end numeral in
-    let no_zero : ¬ LeadsWithZero true (ds ++ 101 ∷ rest) = subst (λ text. ¬ LeadsWithZero true text) (sym parts) numeral.no_zero in
-    let some : 0 < length ds = omega (arith, length-between bytes (at + 1 + 1) end (omega arith)) in
-    let digits : decimal (digits_value 10 ds) ≡ ds = decimal_again true ds (101 ∷ rest) numeral.digits some no_zero (omega arith) in
-    let signed : signed_decimal (neg_ℤ (pos (digits_value 10 ds))) ≡ 45 ∷ ds = negative_decimal (digits_value 10 ds) (positive ds (101 ∷ rest) numeral.digits some no_zero) ∙ ap (λ xs. 45 ∷ xs) digits in
-    record {
-      forward = omega arith;
-      inside = omega arith;
-      spelled = ap (λ xs. 105 ∷ xs) (append_assoc (signed_decimal (neg_ℤ (pos (digits_value 10 ds)))) (101 ∷ []) rest ∙ ap (λ xs. xs ++ 101 ∷ rest) signed ∙ ap (λ xs. 45 ∷ xs) parts)
-          ∙ sym (text_after_minus bytes at lt first lt' second);
-    }
-
-pub plain_too_large : (n : ℕ) (bytes : List ℕ) (at end : ℕ) → at < length bytes → get_or bytes at 0 ≡ 105 → IsNumeralAt false 101 bytes (at + 1) end → 2 ^ 63 ≤ digits_value 10 (slice_range bytes (at + 1) end)
-    → FaultFrom (Stops n) bytes at int_range (at + 1)
-plain_too_large n bytes at end lt first numeral large =
-    let ds = slice_range bytes (at + 1) end in
-    let rest = drop (end + 1) bytes in
-    let forward : at + 1 < end = numeral.forward in
-    let inside : end < length bytes = numeral.inside in
-    let parts : (ds ++ 101 ∷ []) ++ rest ≡ drop (at + 1) bytes = append_assoc ds (101 ∷ []) rest ∙ numeral_split false 101 bytes (at + 1) end numeral in
-    let some : 0 < length ds = omega (arith, length-between bytes (at + 1) end (omega arith)) in
-    let stopped : Stops n (105 ∷ ((ds ++ 101 ∷ []) ++ rest)) int_range ((ds ++ 101 ∷ []) ++ rest) =
-    too_large n ds rest (some, numeral.digits) (subst (λ text. ¬ LeadsWithZero false text) (sym parts) numeral.no_zero) large in
-    (omega arith, rw (text_after_i bytes at lt first) (subst (λ text. Stops n (105 ∷ text) int_range text) parts stopped))
-
-pub minus_too_small : (n : ℕ) (bytes : List ℕ) (at end : ℕ) → at < length bytes → get_or bytes at 0 ≡ 105 → at + 1 < length bytes → get_or bytes (at + 1) 0 ≡ 45 → IsNumeralAt true 101 bytes (at + 1 + 1) end
-    → 2 ^ 63 < digits_value 10 (slice_range bytes (at + 1 + 1) end) → FaultFrom (Stops n) bytes at int_range (at + 1)
-minus_too_small n bytes at end lt first lt' second numeral large =
-    let ds = slice_range bytes (at + 1 + 1) end in
-    let rest = drop (end + 1) bytes in
-    let forward : at + 1 + 1 < end = numeral.forward in
-    let inside : end < length bytes = numeral.inside in
-    let parts : (ds ++ 101 ∷ []) ++ rest ≡ drop (at + 1 + 1) bytes = append_assoc ds (101 ∷ []) rest ∙ numeral_split true 101 bytes (at + 1 + 1) end numeral in
-    let some : 0 < length ds = omega (arith, length-between bytes (at + 1 + 1) end (omega arith)) in
-    let stopped : Stops n (105 ∷ 45 ∷ ((ds ++ 101 ∷ []) ++ rest)) int_range (45 ∷ ((ds ++ 101 ∷ []) ++ rest)) =
-    too_small n ds rest (some, numeral.digits) (subst (λ text. ¬ LeadsWithZero true text) (sym parts) numeral.no_zero) large in
-    let behind : drop (at + 1) bytes ≡ 45 ∷ drop (at + 1 + 1) bytes = drop_more bytes (at + 1) 0 lt' ∙ ap (λ c. c ∷ drop (at + 1 + 1) bytes) second in
-    (omega arith, rw (text_after_minus bytes at lt first lt' second, behind) (subst (λ text. Stops n (105 ∷ 45 ∷ text) int_range (45 ∷ text)) parts stopped))
+use Rattle.bt_bencode.proofs.LawPrefixes.{number_small, IsSignWhole}
 
 -- whether a minus stands behind `i`
 pub IsSigned : Bool → List ℕ → ℕ → Type 0
@@ -125,91 +31,161 @@ unfolding IsSigned
 is_signed true bytes at iff = iff.0 refl
 is_signed false bytes at iff = λ minus. let impossible : false ≡ true = iff.1 (in_range bytes (at + 1) 45 (omega arith) minus, minus) in cc
 
-pub integer_stops : (n : ℕ) (bytes : List ℕ) (at : ℕ) (negative : Bool) → at < length bytes → get_or bytes at 0 ≡ 105 → IsSigned negative bytes at → (f : Fault) (offset : ℕ)
-    → FaultFrom (NumeralStops negative 101) bytes (at + 1 + from_bool negative) f offset → FaultFrom (Stops n) bytes at f offset
-unfolding IsSigned
-integer_stops n bytes at false lt first signed f offset h = let e : at + 1 + 0 ≡ at + 1 = omega arith in plain_stops n bytes at lt first signed f offset (rw e at h)
-integer_stops n bytes at true lt first signed f offset h = minus_stops n bytes at lt first signed.0 signed.1 f offset h
+-- the bytes behind `i`: the sign, and what is behind it
+text_after_i : (bytes : List ℕ) (at : ℕ) → at < length bytes → get_or bytes at 0 ≡ 105 → drop at bytes ≡ 105 ∷ drop (at + 1) bytes
+text_after_i bytes at lt first = drop_more bytes at 0 lt ∙ ap (λ c. c ∷ drop (at + 1) bytes) first
 
--- the integer's text, with its sign
-text_of_sign : (bytes : List ℕ) (at end : ℕ) → at + 1 < end → at + 1 < length bytes → slice_range bytes (at + 1) end ≡ get_or bytes (at + 1) 0 ∷ slice_range bytes (at + 1 + 1) end
-text_of_sign bytes at end lt inside =
+text_of_sign : (negative : Bool) (bytes : List ℕ) (at : ℕ) → IsSigned negative bytes at
+    → drop (at + 1) bytes ≡ sign_text negative ++ drop (at + 1 + from_bool negative) bytes
+unfolding IsSigned
+text_of_sign false bytes at signed = let e : at + 1 + 0 ≡ at + 1 = omega arith in rw e refl
+text_of_sign true bytes at signed = drop_more bytes (at + 1) 0 signed.0 ∙ ap (λ c. c ∷ drop (at + 1 + 1) bytes) signed.1
+
+-- the same of a slice that ends behind the sign
+slice_of_sign : (negative : Bool) (bytes : List ℕ) (at end : ℕ) → IsSigned negative bytes at → at + 1 + from_bool negative < end
+    → slice_range bytes (at + 1) end ≡ sign_text negative ++ slice_range bytes (at + 1 + from_bool negative) end
+unfolding IsSigned
+slice_of_sign false bytes at end signed lt = let e : at + 1 + 0 ≡ at + 1 = omega arith in rw e refl
+slice_of_sign true bytes at end signed lt =
     let size : end - (at + 1) ≡ suc (end - (at + 1 + 1)) = omega arith in
-    rw (size, drop_more bytes (at + 1) 0 inside) refl
+    rw (size, drop_more bytes (at + 1) 0 signed.0, signed.1) refl
+
+sign_is_whole : (negative : Bool) (bytes : List ℕ) (at : ℕ) → IsSigned negative bytes at → IsSignWhole negative (drop (at + 1 + from_bool negative) bytes)
+unfolding IsSigned
+sign_is_whole false bytes at signed = let e : at + 1 + 0 ≡ at + 1 = omega arith in inr (rw e (λ is. signed (sym (drop_first (at + 1) bytes) ∙ is)))
+sign_is_whole true bytes at signed = inl refl
+
+-- a numeral that stops a reading, behind `i` and the sign
+pub integer_stops : (n : ℕ) (bytes : List ℕ) (at : ℕ) (negative : Bool) → at < length bytes → get_or bytes at 0 ≡ 105 → IsSigned negative bytes at
+    → (f : Fault) (offset : ℕ)
+    → FaultFrom (NumeralStops negative 101) bytes (at + 1 + from_bool negative) f offset → FaultFrom (Stops n) bytes at f offset
+integer_stops n bytes at negative lt first signed f offset h =
+    let behind = drop (at + 1 + from_bool negative) bytes in
+    let text : 105 ∷ (sign_text negative ++ behind) ≡ drop at bytes =
+    sym (text_after_i bytes at lt first ∙ ap (λ xs. 105 ∷ xs) (text_of_sign negative bytes at signed)) in
+    (h.0, subst (λ t. Stops n t f (drop offset bytes)) text (in_integer n negative behind f (drop offset bytes) (sign_is_whole negative bytes at signed) h.1))
+
+-- the digits in the bytes from `at` to `end`, with `rest` behind the e
+record Digits (negative : Bool) (bytes : List ℕ) (at end : ℕ) (ds rest : List ℕ) : Type 0 where
+  inside : end < length bytes
+  numeral : IsNumeral 10 ds
+  no_zero : ¬ LeadsWithZero negative (ds ++ 101 ∷ rest)
+  parts : ds ++ 101 ∷ rest ≡ drop at bytes
+  forward : at < end
+
+digits_at : (negative : Bool) (bytes : List ℕ) (at end : ℕ) → IsNumeralAt negative 101 bytes at end
+    → Digits negative bytes at end (slice_range bytes at end) (drop (end + 1) bytes)
+digits_at negative bytes at end numeral =
+    let forward : at < end = numeral.forward in
+    let inside : end < length bytes = numeral.inside in
+    let parts : slice_range bytes at end ++ 101 ∷ drop (end + 1) bytes ≡ drop at bytes = numeral_split negative 101 bytes at end numeral in
+    record {
+      inside = inside;
+      numeral = (omega (arith, length-between bytes at end (omega arith)), numeral.digits);
+      no_zero = subst (λ text. ¬ LeadsWithZero negative text) (sym parts) numeral.no_zero;
+      parts = parts;
+      forward = forward;
+    }
+
+-- digits behind a minus that do not begin with a zero write no zero
+positive : (negative : Bool) (ds more : List ℕ) → IsNumeral 10 ds → ¬ LeadsWithZero negative (ds ++ more) → IsTrue negative → digits_value 10 ds ≢ 0
+positive negative ds more numeral no_zero below is =
+    let zero_digit : 48 ∷ [] ≡ ds = sym (decimal_digit 0 (omega arith)) ∙ ap decimal (sym is)
+    ∙ decimal_again negative ds more numeral.1 numeral.0 no_zero (omega arith) in
+    no_zero (get_or_append_left ds more 0 0 numeral.0 ∙ ap (λ xs. get_or xs 0 0) (sym zero_digit), inl below)
+
+signed_decimal_of : (negative : Bool) (n : ℕ) → (IsTrue negative → n ≢ 0) → signed_decimal (signed_number negative n) ≡ sign_text negative ++ decimal n
+signed_decimal_of false n some = refl
+signed_decimal_of true zero some = absurd (some refl refl)
+signed_decimal_of true (suc n) some = refl
+
+integer_read : (bytes : List ℕ) (at end : ℕ) (negative : Bool) → at < length bytes → get_or bytes at 0 ≡ 105 → IsSigned negative bytes at
+    → IsNumeralAt negative 101 bytes (at + 1 + from_bool negative) end
+    → FitsSigned w64 (signed_number negative (digits_value 10 (slice_range bytes (at + 1 + from_bool negative) end)))
+    → Spans bytes at (end + 1) (spelling_of (integer (signed_number negative (digits_value 10 (slice_range bytes (at + 1 + from_bool negative) end)))))
+unfolding spelling_of
+integer_read bytes at end negative lt first signed numeral fits =
+    let ds = slice_range bytes (at + 1 + from_bool negative) end in
+    let rest = drop (end + 1) bytes in
+    let z = signed_number negative (digits_value 10 ds) in
+    let here = digits_at negative bytes (at + 1 + from_bool negative) end numeral in
+    let forward : at + 1 + from_bool negative < end = here.forward in
+    let inside : end < length bytes = here.inside in
+    let small : digits_value 10 ds ≤ 2 ^ 63 = number_small negative (digits_value 10 ds) fits in
+    let digits : decimal (digits_value 10 ds) ≡ ds = decimal_again negative ds (101 ∷ rest) here.numeral.1 here.numeral.0 here.no_zero (omega arith) in
+    let text : signed_decimal z ≡ sign_text negative ++ ds =
+    signed_decimal_of negative (digits_value 10 ds) (positive negative ds (101 ∷ rest) here.numeral here.no_zero)
+    ∙ ap (λ xs. sign_text negative ++ xs) digits in
+    let behind : sign_text negative ++ (ds ++ 101 ∷ rest) ≡ drop (at + 1) bytes =
+    ap (λ xs. sign_text negative ++ xs) here.parts ∙ sym (text_of_sign negative bytes at signed) in
+    record {
+      forward = omega arith;
+      inside = omega arith;
+      spelled = ap (λ xs. 105 ∷ xs) (append_assoc (signed_decimal z) (101 ∷ []) rest ∙ ap (λ xs. xs ++ 101 ∷ rest) text
+          ∙ append_assoc (sign_text negative) ds (101 ∷ rest) ∙ behind)
+          ∙ sym (text_after_i bytes at lt first);
+    }
 
 ascii_cons : (c : ℕ) (cs : List ℕ) → c < 128 → IsAscii cs → IsAscii (c ∷ cs)
 ascii_cons c cs small ascii zero = small
 ascii_cons c cs small ascii (suc i) = ascii i
 
-pub integer_is_ascii : (bytes : List ℕ) (at end : ℕ) (negative : Bool) → IsSigned negative bytes at → IsNumeralAt negative 101 bytes (at + 1 + from_bool negative) end → IsAscii (slice_range bytes (at + 1) end)
-unfolding IsSigned
-integer_is_ascii bytes at end false signed numeral = let e : at + 1 + 0 ≡ at + 1 = omega arith in IsAscii-from_digits (slice_range bytes (at + 1) end) (rw e at numeral.digits)
-integer_is_ascii bytes at end true signed numeral =
-    let forward : at + 1 + 1 < end = numeral.forward in
-    rw (text_of_sign bytes at end (omega arith) signed.0, signed.1)
-    (ascii_cons 45 (slice_range bytes (at + 1 + 1) end) (omega arith) (IsAscii-from_digits (slice_range bytes (at + 1 + 1) end) numeral.digits))
+sign_is_ascii : (negative : Bool) (ds : List ℕ) → IsAscii ds → IsAscii (sign_text negative ++ ds)
+sign_is_ascii false ds ascii = ascii
+sign_is_ascii true ds ascii = ascii_cons 45 ds (omega arith) ascii
 
--- what the answer for an integer's text says, without a sign and with a minus
-pub record Answers (text : List ℕ) (r : Option ℤ) : Type 0 where
-  pub plain : IsNumeral 10 text → SomeIff r (digits_value 10 text < 2 ^ 63) (pos (digits_value 10 text))
-  pub minus : slice_index text 0 ≡ 45 → IsNumeral 10 (drop 1 text) → SomeIff r (digits_value 10 (drop 1 text) ≤ 2 ^ 63) (neg_ℤ (pos (digits_value 10 (drop 1 text))))
+pub integer_is_ascii : (bytes : List ℕ) (at end : ℕ) (negative : Bool) → IsSigned negative bytes at
+    → IsNumeralAt negative 101 bytes (at + 1 + from_bool negative) end → IsAscii (slice_range bytes (at + 1) end)
+integer_is_ascii bytes at end negative signed numeral =
+    let ds = slice_range bytes (at + 1 + from_bool negative) end in
+    subst IsAscii (sym (slice_of_sign negative bytes at end signed numeral.forward)) (sign_is_ascii negative ds (IsAscii-from_digits ds numeral.digits))
 
-pub answers_of : (text : List ℕ) (r : Option ℤ) → SomeIff r (IsNumeral 10 (without_leading_sign text) × FitsSigned w64 (signed_digits_value 10 text)) (signed_digits_value 10 text) → Answers text r
-answers_of text None h =
+-- what a reading of a text as an integer says
+abbrev pub Says : List ℕ → Option ℤ → Type 0
+Says text r = SomeIff r (IsNumeral 10 (without_leading_sign text) × FitsSigned w64 (signed_digits_value 10 text)) (signed_digits_value 10 text)
+
+said_of : (negative : Bool) (ds : List ℕ) (r : Option ℤ) → IsNumeral 10 ds → Says (sign_text negative ++ ds) r
+    → SomeIff r (FitsSigned w64 (signed_number negative (digits_value 10 ds))) (signed_number negative (digits_value 10 ds))
+said_of false ds None numeral h =
     let read : Result ℤ (Unit {0}) = Err (tt {0}) in
-    record {
-      plain = λ digits small. parse_signed_digits digits_model w64 text read h digits.1 (digits.0, small);
-      minus = λ sign digits small. parse_signed_minus digits_model w64 text read h sign (digits.1, digits.0, small);
-    }
-answers_of text (Some z) h =
+    λ fits. parse_signed_digits digits_model w64 ds read h numeral.1 (numeral.0, omega (arith, ints, fits))
+said_of false ds (Some z) numeral h =
     let read : Result ℤ (Unit {0}) = Ok z in
-    record {
-      plain = λ digits. let said = parse_signed_digits digits_model w64 text read h digits.1 in (said.0.1, said.1);
-      minus = λ sign digits. let said = parse_signed_minus digits_model w64 text read h sign in (said.0.2, said.1);
-    }
+    let said = parse_signed_digits digits_model w64 ds read h numeral.1 in
+    (omega (arith, ints, said.0.1), said.1)
+said_of true ds None numeral h =
+    let read : Result ℤ (Unit {0}) = Err (tt {0}) in
+    λ fits. parse_signed_minus digits_model w64 (45 ∷ ds) read h refl (numeral.1, numeral.0, omega (arith, ints, fits))
+said_of true ds (Some z) numeral h =
+    let read : Result ℤ (Unit {0}) = Ok z in
+    let said = parse_signed_minus digits_model w64 (45 ∷ ds) read h refl in
+    (omega (arith, ints, said.0.2), said.1)
 
-minus_answer : (bytes : List ℕ) (at end : ℕ) (r : Option ℤ) → at + 1 < length bytes → get_or bytes (at + 1) 0 ≡ 45 → IsNumeralAt true 101 bytes (at + 1 + 1) end → Answers (slice_range bytes (at + 1) end) r
-    → SomeIff r (digits_value 10 (slice_range bytes (at + 1 + 1) end) ≤ 2 ^ 63) (neg_ℤ (pos (digits_value 10 (slice_range bytes (at + 1 + 1) end))))
-minus_answer bytes at end r lt second numeral answers =
-    let forward : at + 1 + 1 < end = numeral.forward in
-    let inside : end < length bytes = numeral.inside in
-    let text : slice_range bytes (at + 1) end ≡ 45 ∷ slice_range bytes (at + 1 + 1) end = text_of_sign bytes at end (omega arith) lt ∙ ap (λ c. c ∷ slice_range bytes (at + 1 + 1) end) second in
-    let a : Answers (45 ∷ slice_range bytes (at + 1 + 1) end) r = subst (λ t. Answers t r) text answers in
-    a.minus refl (omega (arith, length-between bytes (at + 1 + 1) end (omega arith)), numeral.digits)
+said_at : (bytes : List ℕ) (at end : ℕ) (negative : Bool) (r : Option ℤ) → IsSigned negative bytes at
+    → IsNumeralAt negative 101 bytes (at + 1 + from_bool negative) end → Says (slice_range bytes (at + 1) end) r
+    → SomeIff r (FitsSigned w64 (signed_number negative (digits_value 10 (slice_range bytes (at + 1 + from_bool negative) end))))
+    (signed_number negative (digits_value 10 (slice_range bytes (at + 1 + from_bool negative) end)))
+said_at bytes at end negative r signed numeral h =
+    let here = digits_at negative bytes (at + 1 + from_bool negative) end numeral in
+    said_of negative (slice_range bytes (at + 1 + from_bool negative) end) r here.numeral
+    (subst (λ t. Says t r) (slice_of_sign negative bytes at end signed numeral.forward) h)
 
-plain_answer : (bytes : List ℕ) (at end : ℕ) (r : Option ℤ) → IsNumeralAt false 101 bytes (at + 1) end → Answers (slice_range bytes (at + 1) end) r
-    → SomeIff r (digits_value 10 (slice_range bytes (at + 1) end) < 2 ^ 63) (pos (digits_value 10 (slice_range bytes (at + 1) end)))
-plain_answer bytes at end r numeral answers =
-    let forward : at + 1 < end = numeral.forward in
-    let inside : end < length bytes = numeral.inside in
-    answers.plain (omega (arith, length-between bytes (at + 1) end (omega arith)), numeral.digits)
-
-fits_plain : (n : ℕ) → n < 2 ^ 63 → FitsSigned w64 (pos n)
-fits_plain n small = omega (arith, ints)
-
-fits_minus : (n : ℕ) → n ≤ 2 ^ 63 → FitsSigned w64 (neg_ℤ (pos n))
-fits_minus n small = omega (arith, ints)
-
-pub integer_found : (bytes : List ℕ) (at end : ℕ) (negative : Bool) (z : ℤ) → at < length bytes → get_or bytes at 0 ≡ 105 → IsSigned negative bytes at → IsNumeralAt negative 101 bytes (at + 1 + from_bool negative) end
-    → Answers (slice_range bytes (at + 1) end) (Some z) → ReadsInteger bytes at (end + 1) z
-unfolding IsSigned
-integer_found bytes at end false z lt first signed numeral answers =
-    let e : at + 1 + 0 ≡ at + 1 = omega arith in
-    let here : IsNumeralAt false 101 bytes (at + 1) end = rw e at numeral in
-    let a = plain_answer bytes at end (Some z) here answers in
-    rw a.1 (record { spans = plain_read bytes at end lt first here a.0; fits = fits_plain (digits_value 10 (slice_range bytes (at + 1) end)) a.0 })
-integer_found bytes at end true z lt first signed numeral answers =
-    let a = minus_answer bytes at end (Some z) signed.0 signed.1 numeral answers in
-    rw a.1 (record { spans = minus_read bytes at end lt first signed.0 signed.1 numeral a.0; fits = fits_minus (digits_value 10 (slice_range bytes (at + 1 + 1) end)) a.0 })
+pub integer_found : (bytes : List ℕ) (at end : ℕ) (negative : Bool) (z : ℤ) → at < length bytes → get_or bytes at 0 ≡ 105 → IsSigned negative bytes at
+    → IsNumeralAt negative 101 bytes (at + 1 + from_bool negative) end
+    → Says (slice_range bytes (at + 1) end) (Some z) → ReadsInteger bytes at (end + 1) z
+integer_found bytes at end negative z lt first signed numeral h =
+    let said = said_at bytes at end negative (Some z) signed numeral h in
+    rw said.1 (record { spans = integer_read bytes at end negative lt first signed numeral said.0; fits = said.0 })
 
 pub integer_out_of_range : (n : ℕ) (bytes : List ℕ) (at end : ℕ) (negative : Bool) → at < length bytes → get_or bytes at 0 ≡ 105 → IsSigned negative bytes at
-    → IsNumeralAt negative 101 bytes (at + 1 + from_bool negative) end → Answers (slice_range bytes (at + 1) end) None → FaultFrom (Stops n) bytes at int_range (at + 1)
-unfolding IsSigned
-integer_out_of_range n bytes at end false lt first signed numeral answers =
-    let e : at + 1 + 0 ≡ at + 1 = omega arith in
-    let here : IsNumeralAt false 101 bytes (at + 1) end = rw e at numeral in
-    let large : ¬ (digits_value 10 (slice_range bytes (at + 1) end) < 2 ^ 63) = plain_answer bytes at end None here answers in
-    plain_too_large n bytes at end lt first here (omega (arith, large))
-integer_out_of_range n bytes at end true lt first signed numeral answers =
-    let large : ¬ (digits_value 10 (slice_range bytes (at + 1 + 1) end) ≤ 2 ^ 63) = minus_answer bytes at end None signed.0 signed.1 numeral answers in
-    minus_too_small n bytes at end lt first signed.0 signed.1 numeral (omega (arith, large))
+    → IsNumeralAt negative 101 bytes (at + 1 + from_bool negative) end → Says (slice_range bytes (at + 1) end) None
+    → FaultFrom (Stops n) bytes at int_range (at + 1)
+integer_out_of_range n bytes at end negative lt first signed numeral h =
+    let ds = slice_range bytes (at + 1 + from_bool negative) end in
+    let rest = drop (end + 1) bytes in
+    let here = digits_at negative bytes (at + 1 + from_bool negative) end numeral in
+    let whole : sign_text negative ++ (ds ++ 101 ∷ rest) ≡ drop (at + 1) bytes =
+    ap (λ xs. sign_text negative ++ xs) here.parts ∙ sym (text_of_sign negative bytes at signed) in
+    let stopped : Stops n (105 ∷ (sign_text negative ++ (ds ++ 101 ∷ rest))) int_range (sign_text negative ++ (ds ++ 101 ∷ rest)) =
+    out_of_range n negative ds rest here.numeral here.no_zero (said_at bytes at end negative None signed numeral h) in
+    (omega arith, rw (text_after_i bytes at lt first) (subst (λ text. Stops n (105 ∷ text) int_range text) whole stopped))

@@ -1,29 +1,17 @@
 -- Where a range of some bytes ends, the rest goes on; and what a run of digits tells.
-use Rattle.std.proofs.Common.{◌≡◌, ◌≢◌, ℕ, zero, suc, ◌+◌, ◌-◌, ◌<◌, ◌≤◌, List, [], ◌∷◌, ◌++◌, length, take, drop, get_or, refl, sym, ap, ◌∙◌, arith, length-drop, add-zero}
+use Rattle.std.proofs.Common.{◌≡◌, ◌≢◌, ℕ, zero, suc, ◌+◌, ◌-◌, ◌<◌, ◌≤◌, List, [], ◌∷◌, length, drop, get_or, refl, sym, ap, ◌∙◌, arith}
+use Rattle.std.proofs.Common.{length-drop, add-zero}
 use Rattle.std.specs.Prelude.{slice_range, Option, None, Some, IsTrue, true, false}
 use Rattle.std.specs.Option.{SomeIff}
 use Rattle.std.specs.Char.{IsAsciiDigit, digit_value}
 use Rattle.std.specs.Str.Parse.{AllDigits}
-use Rattle.std.proofs.lemmas.List.{take-append-drop, length-take-le, get_or-drop}
+use Rattle.std.proofs.lemmas.List.{length-take-le, get_or-drop}
 use Rattle.std.proofs.lemmas.Str.{digit_value_digit}
 use Rattle.std.proofs.lemmas.Int.Digits.{digits_more}
 
-drop-nil : (n : ℕ) → drop {A = ℕ} n [] ≡ []
-drop-nil zero = refl
-drop-nil (suc n) = refl
-
-pub drop-drop : (i j : ℕ) (xs : List ℕ) → drop j (drop i xs) ≡ drop (i + j) xs
-drop-drop zero j xs = let e : 0 + j ≡ j = omega arith in rw e refl
-drop-drop (suc i) j [] = drop-nil j ∙ sym (drop-nil (suc i + j))
-drop-drop (suc i) j (x ∷ xs) = let e : suc i + j ≡ suc (i + j) = omega arith in rw e (drop-drop i j xs)
-
-pub split : (xs : List ℕ) (at end : ℕ) → at ≤ end → slice_range xs at end ++ drop end xs ≡ drop at xs
-split xs at end le =
-    let e : at + (end - at) ≡ end = omega arith in
-    ap (λ ys. take (end - at) (drop at xs) ++ ys) (sym (drop-drop at (end - at) xs ∙ ap (λ k. drop k xs) e)) ∙ take-append-drop (end - at) (drop at xs)
-
 -- one digit more
-pub digits_one_more : (xs : List ℕ) (at end : ℕ) → at ≤ end → end < length xs → IsAsciiDigit (get_or xs end 0) → AllDigits 10 (slice_range xs at end) → AllDigits 10 (slice_range xs at (end + 1))
+pub digits_one_more : (xs : List ℕ) (at end : ℕ) → at ≤ end → end < length xs → IsAsciiDigit (get_or xs end 0) → AllDigits 10 (slice_range xs at end)
+    → AllDigits 10 (slice_range xs at (end + 1))
 digits_one_more xs at end le lt digit digits =
     let e : at + (end - at) ≡ end = omega arith in
     let same : get_or (drop at xs) (end - at) 0 ≡ get_or xs end 0 = get_or-drop at xs (end - at) 0 ∙ ap (λ k. get_or xs k 0) e in

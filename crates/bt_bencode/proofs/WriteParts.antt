@@ -19,7 +19,8 @@ pub no_entries_written : (a : List ℕ) → a ≡ a ++ entries_spelling (entries
 unfolding entries_spelling
 no_entries_written a = sym (append-nil a)
 
-pub item_written : (a b c : List ℕ) (vs : List Value) (i : ℕ) (v : Value) → i < length vs → v ≡ get_or vs i v → b ≡ a ++ items_spelling (items_of (take i vs)) → c ≡ b ++ spelling_of (data_of v)
+pub item_written : (a b c : List ℕ) (vs : List Value) (i : ℕ) (v : Value) → i < length vs → v ≡ get_or vs i v
+    → b ≡ a ++ items_spelling (items_of (take i vs)) → c ≡ b ++ spelling_of (data_of v)
     → c ≡ a ++ items_spelling (items_of (take (i + 1) vs))
 item_written a b c vs i v lt is before after =
     let more : take (i + 1) vs ≡ take i vs ++ v ∷ [] = take_more vs i v lt ∙ ap (λ x. take i vs ++ x ∷ []) (sym is) in
@@ -27,30 +28,38 @@ item_written a b c vs i v lt is before after =
     after ∙ ap (λ xs. xs ++ spelling_of (data_of v)) before ∙ append_assoc a (items_spelling (items_of (take i vs))) (spelling_of (data_of v))
     ∙ ap (λ xs. a ++ xs) (sym (ap (λ ds. items_spelling (items_from ds)) seen ∙ items_spelling-push (map data_of (take i vs)) (data_of v)))
 
-pub entry_written : (a b m c : List ℕ) (es : List (Vec ℕ × Value)) (i : ℕ) (e : Vec ℕ × Value) → i < length es → e ≡ get_or es i e → b ≡ a ++ entries_spelling (entries_of (take i es))
+pub entry_written : (a b m c : List ℕ) (es : List (Vec ℕ × Value)) (i : ℕ) (e : Vec ℕ × Value) → i < length es → e ≡ get_or es i e
+    → b ≡ a ++ entries_spelling (entries_of (take i es))
     → m ≡ b ++ string_spelling e.0.items → c ≡ m ++ spelling_of (data_of e.1) → c ≡ a ++ entries_spelling (entries_of (take (i + 1) es))
 entry_written a b m c es i e lt is before key value =
     let more : take (i + 1) es ≡ take i es ++ e ∷ [] = take_more es i e lt ∙ ap (λ x. take i es ++ x ∷ []) (sym is) in
-    let seen : map entry_data (take (i + 1) es) ≡ map entry_data (take i es) ++ (e.0, data_of e.1) ∷ [] = ap (map entry_data) more ∙ map_push entry_data (take i es) e in
+    let seen : map entry_data (take (i + 1) es) ≡ map entry_data (take i es) ++ (e.0, data_of e.1) ∷ [] =
+    ap (map entry_data) more ∙ map_push entry_data (take i es) e in
     let done = entries_spelling (entries_of (take i es)) in
     value ∙ ap (λ xs. xs ++ spelling_of (data_of e.1)) (key ∙ ap (λ xs. xs ++ string_spelling e.0.items) before)
-    ∙ append_assoc (a ++ done) (string_spelling e.0.items) (spelling_of (data_of e.1)) ∙ append_assoc a done (string_spelling e.0.items ++ spelling_of (data_of e.1))
+    ∙ append_assoc (a ++ done) (string_spelling e.0.items) (spelling_of (data_of e.1))
+    ∙ append_assoc a done (string_spelling e.0.items ++ spelling_of (data_of e.1))
     ∙ ap (λ xs. a ++ xs) (sym (ap (λ ds. entries_spelling (entries_from ds)) seen ∙ entries_spelling-push (map entry_data (take i es)) e.0 (data_of e.1)))
 
-pub list_written : (a b c : List ℕ) (items : Vec Value) (v : Value) → v ≡ views.List items → b ≡ (a ++ 108 ∷ []) ++ items_spelling (items_of items.items) → c ≡ b ++ 101 ∷ [] → c ≡ a ++ spelling_of (data_of v)
+pub list_written : (a b c : List ℕ) (items : Vec Value) (v : Value) → v ≡ views.List items
+    → b ≡ (a ++ 108 ∷ []) ++ items_spelling (items_of items.items) → c ≡ b ++ 101 ∷ [] → c ≡ a ++ spelling_of (data_of v)
 unfolding spelling_of
 list_written a b c items v is inner end =
-    end ∙ ap (λ xs. xs ++ 101 ∷ []) (inner ∙ append_assoc a (108 ∷ []) (items_spelling (items_of items.items))) ∙ append_assoc a (108 ∷ items_spelling (items_of items.items)) (101 ∷ [])
+    end ∙ ap (λ xs. xs ++ 101 ∷ []) (inner ∙ append_assoc a (108 ∷ []) (items_spelling (items_of items.items)))
+    ∙ append_assoc a (108 ∷ items_spelling (items_of items.items)) (101 ∷ [])
     ∙ ap (λ d. a ++ spelling_of d) (sym (ap data_of is ∙ data_of-List items))
 
-pub dictionary_written : (a b c : List ℕ) (entries : Vec (Vec ℕ × Value)) (v : Value) → v ≡ views.Dict entries → b ≡ (a ++ 100 ∷ []) ++ entries_spelling (entries_of entries.items) → c ≡ b ++ 101 ∷ []
+pub dictionary_written : (a b c : List ℕ) (entries : Vec (Vec ℕ × Value)) (v : Value) → v ≡ views.Dict entries
+    → b ≡ (a ++ 100 ∷ []) ++ entries_spelling (entries_of entries.items) → c ≡ b ++ 101 ∷ []
     → c ≡ a ++ spelling_of (data_of v)
 unfolding spelling_of
 dictionary_written a b c entries v is inner end =
-    end ∙ ap (λ xs. xs ++ 101 ∷ []) (inner ∙ append_assoc a (100 ∷ []) (entries_spelling (entries_of entries.items))) ∙ append_assoc a (100 ∷ entries_spelling (entries_of entries.items)) (101 ∷ [])
+    end ∙ ap (λ xs. xs ++ 101 ∷ []) (inner ∙ append_assoc a (100 ∷ []) (entries_spelling (entries_of entries.items)))
+    ∙ append_assoc a (100 ∷ entries_spelling (entries_of entries.items)) (101 ∷ [])
     ∙ ap (λ d. a ++ spelling_of d) (sym (ap data_of is ∙ data_of-Dict entries))
 
-pub integer_written : (a b c d : List ℕ) (z : ℤ) (v : Value) → v ≡ Int z → b ≡ 105 ∷ (signed_decimal z ++ 101 ∷ []) → c ≡ b → d ≡ a ++ c → d ≡ a ++ spelling_of (data_of v)
+pub integer_written : (a b c d : List ℕ) (z : ℤ) (v : Value) → v ≡ Int z → b ≡ 105 ∷ (signed_decimal z ++ 101 ∷ []) → c ≡ b → d ≡ a ++ c
+    → d ≡ a ++ spelling_of (data_of v)
 unfolding spelling_of
 integer_written a b c d z v is text bytes end = end ∙ ap (λ xs. a ++ xs) (bytes ∙ text) ∙ ap (λ x. a ++ spelling_of x) (sym (ap data_of is ∙ data_of-Int z))
 

@@ -1,9 +1,17 @@
--- What first stops a reading of a numeral (BEP 3, "bencoding"), and with which bytes left.
-use Rattle.std.specs.Prelude.{◌≡◌, ◌≢◌, ℕ, ◌<◌, Bool, IsTrue, ◌⊎◌, List, [], ◌++◌, length, slice_index}
+-- Numerals, their signs, and what first stops a reading of one (BEP 3, "bencoding"), with which bytes left.
+use Rattle.std.specs.Prelude.{◌≡◌, ◌≢◌, ℕ, ℤ, pos, neg_ℤ, ◌<◌, Bool, IsTrue, ◌⊎◌}
+use Rattle.std.specs.Prelude.{List, [], ◌∷◌, ◌++◌, length, slice_index, if◌then◌else◌}
 use Rattle.std.specs.Char.{IsAsciiDigit}
 use Rattle.std.specs.Str.Parse.{AllDigits}
-use Rattle.bt_bencode.specs.Letters.{digit_zero}
+use Rattle.bt_bencode.specs.Letters.{digit_zero, minus}
 use Rattle.bt_bencode.specs.Error.{Fault, truncated, bad_byte, leading_zero}
+
+-- what stands before the digits of a number below zero, or of another one
+abbrev pub sign_text : Bool → List ℕ
+sign_text negative = if negative then minus ∷ [] else []
+
+abbrev pub signed_number : Bool → ℕ → ℤ
+signed_number negative n = if negative then neg_ℤ (pos n) else pos n
 
 -- a zero that may not stand: behind a minus, or before another digit
 abbrev pub LeadsWithZero : Bool → List ℕ → Type 0

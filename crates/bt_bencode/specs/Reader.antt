@@ -1,6 +1,7 @@
 -- What first stops a reading of a canonical spelling (BEP 3, "bencoding"), and with which bytes left.
-use Rattle.std.specs.Prelude.{◌≡◌, ◌≢◌, ℕ, suc, ◌^◌, ◌<◌, ◌≤◌, true, false, List, [], ◌∷◌, ◌++◌, length}
-use Rattle.std.specs.Prelude.{take, drop, slice_index, Option, None, Some, IfSome, unwrap_or}
+use Rattle.std.specs.Prelude.{◌≡◌, ◌≢◌, ℕ, suc, ◌<◌, ◌≤◌, Bool, false, IsTrue, ◌⊎◌, List, [], ◌∷◌, ◌++◌}
+use Rattle.std.specs.Prelude.{length, take, drop, slice_index, Option, None, Some, IfSome, unwrap_or, FitsSigned}
+use Rattle.std.specs.Int.{w64}
 use Rattle.std.specs.Char.{IsAsciiDigit}
 use Rattle.std.specs.Str.Parse.{IsNumeral, digits_value}
 use Rattle.bt_bencode.specs.Letters.{letter_i, letter_l, letter_d, letter_e, colon, minus, max_nesting}
@@ -8,12 +9,12 @@ use Rattle.bt_bencode.specs.Value.{Data, list, dictionary, Items, Entries, no_en
 use Rattle.bt_bencode.specs.Spelling.{string_spelling, spelling_of, items_spelling, entries_spelling}
 use Rattle.bt_bencode.specs.Doc.{IsBefore, IsCanonicalWithin, IsCanonical}
 use Rattle.bt_bencode.specs.Error.{Fault, truncated, bad_byte, int_range, key_order, too_deep, trailing}
-use Rattle.bt_bencode.specs.Number.{LeadsWithZero, NumeralStops}
+use Rattle.bt_bencode.specs.Number.{sign_text, signed_number, LeadsWithZero, NumeralStops}
 
 -- the text does not begin with a string
 pub data StringStops (text : List ℕ) : Fault → List ℕ → Type 0 where
   in_length : (f : Fault) (rest : List ℕ) → NumeralStops false colon text f rest → StringStops text f rest
-  in_bytes : (ds more : List ℕ) → text ≡ ds ++ colon ∷ [] ++ more
+  in_bytes : (ds more : List ℕ) → text ≡ ds ++ colon ∷ more
       → IsNumeral 10 ds → ¬ LeadsWithZero false text → length more < digits_value 10 ds
       → StringStops text truncated []
 
@@ -33,26 +34,20 @@ pub data Stops : ℕ → List ℕ → Fault → List ℕ → Type 0 where
       → slice_index text 0 ≢ letter_i → slice_index text 0 ≢ letter_l → slice_index text 0 ≢ letter_d
       → ¬ IsAsciiDigit (slice_index text 0)
       → Stops n text bad_byte text
-  in_integer : (n : ℕ) (more : List ℕ) (f : Fault) (rest : List ℕ) → slice_index more 0 ≢ minus
-      → NumeralStops false letter_e more f rest
-      → Stops n (letter_i ∷ more) f rest
-  in_negative : (n : ℕ) (more : List ℕ) (f : Fault) (rest : List ℕ)
-      → NumeralStops true letter_e more f rest
-      → Stops n (letter_i ∷ minus ∷ more) f rest
-  too_large : (n : ℕ) (ds more : List ℕ) → IsNumeral 10 ds
-      → ¬ LeadsWithZero false (ds ++ letter_e ∷ [] ++ more)
-      → 2 ^ 63 ≤ digits_value 10 ds
-      → Stops n (letter_i ∷ (ds ++ letter_e ∷ [] ++ more)) int_range (ds ++ letter_e ∷ [] ++ more)
-  too_small : (n : ℕ) (ds more : List ℕ) → IsNumeral 10 ds
-      → ¬ LeadsWithZero true (ds ++ letter_e ∷ [] ++ more)
-      → 2 ^ 63 < digits_value 10 ds
-      → Stops n (letter_i ∷ minus ∷ (ds ++ letter_e ∷ [] ++ more)) int_range
-      (minus ∷ (ds ++ letter_e ∷ [] ++ more))
+  in_integer : (n : ℕ) (negative : Bool) (more : List ℕ) (f : Fault) (rest : List ℕ)
+      → IsTrue negative ⊎ (slice_index more 0 ≢ minus)
+      → NumeralStops negative letter_e more f rest
+      → Stops n (letter_i ∷ (sign_text negative ++ more)) f rest
+  out_of_range : (n : ℕ) (negative : Bool) (ds more : List ℕ) → IsNumeral 10 ds
+      → ¬ LeadsWithZero negative (ds ++ letter_e ∷ more)
+      → ¬ FitsSigned w64 (signed_number negative (digits_value 10 ds))
+      → Stops n (letter_i ∷ (sign_text negative ++ (ds ++ letter_e ∷ more))) int_range
+      (sign_text negative ++ (ds ++ letter_e ∷ more))
   in_string : (n : ℕ) (text : List ℕ) (f : Fault) (rest : List ℕ) → IsAsciiDigit (slice_index text 0)
       → StringStops text f rest
       → Stops n text f rest
-  too_deep_list : (more : List ℕ) → Stops 0 (letter_l ∷ more) too_deep (letter_l ∷ more)
-  too_deep_dictionary : (more : List ℕ) → Stops 0 (letter_d ∷ more) too_deep (letter_d ∷ more)
+  at_max_nesting : (opening : ℕ) (more : List ℕ) → (opening ≡ letter_l) ⊎ (opening ≡ letter_d)
+      → Stops 0 (opening ∷ more) too_deep (opening ∷ more)
   in_item : (n : ℕ) (done : Items) (more : List ℕ) (f : Fault) (rest : List ℕ)
       → IsCanonicalWithin (suc n) (list done) → slice_index more 0 ≢ letter_e
       → Stops n more f rest

@@ -7,14 +7,14 @@ use Rattle.bt_bencode.specs.Value.{Items, no_items, item, Entries, no_entries, e
 
 -- the length in base ten, a colon, and the bytes
 abbrev pub string_spelling : List ℕ → List ℕ
-string_spelling s = decimal (length s) ++ colon ∷ [] ++ s
+string_spelling s = decimal (length s) ++ colon ∷ s
 
 unfoldable mutual
   pub spelling_of : Data → List ℕ
-  spelling_of (integer z) = (letter_i ∷ signed_decimal z) ++ letter_e ∷ []
+  spelling_of (integer z) = letter_i ∷ (signed_decimal z ++ letter_e ∷ [])
   spelling_of (string s) = string_spelling s
-  spelling_of (list ds) = (letter_l ∷ items_spelling ds) ++ letter_e ∷ []
-  spelling_of (dictionary es) = (letter_d ∷ entries_spelling es) ++ letter_e ∷ []
+  spelling_of (list ds) = letter_l ∷ (items_spelling ds ++ letter_e ∷ [])
+  spelling_of (dictionary es) = letter_d ∷ (entries_spelling es ++ letter_e ∷ [])
 
   pub items_spelling : Items → List ℕ
   items_spelling no_items = []

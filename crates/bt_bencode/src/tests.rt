@@ -3,6 +3,7 @@ use crate::{
     write,
 };
 use std::alloc::{AllocError, Global};
+use std::mem::size_of;
 use std::process::Abort;
 use std::test::Fail;
 
@@ -144,6 +145,64 @@ fn nests_to_the_limit(rt: HostRuntime) -> Result<(), Fail> {
         &nested(alloc, b"d0:", b"", MAX_NESTING + 1)?,
         BencodeError::TooDeep(384),
     );
+    Ok(())
+}
+
+/// The memory that was asked for to hold what lies in a value, in bytes.
+fn room(value: &Value) -> usize {
+    let mut sum: usize = 0;
+    match value {
+        Value::Int(_) => {}
+        Value::Bytes(bytes) => sum = bytes.capacity(),
+        Value::List(items) => {
+            sum = items.capacity().saturating_mul(size_of::<Value>());
+            for item in items {
+                sum = sum.saturating_add(room(item));
+            }
+        }
+        Value::Dict(entries) => {
+            sum = entries
+                .capacity()
+                .saturating_mul(size_of::<(Vec<u8>, Value)>());
+            for (key, item) in entries {
+                sum = sum
+                    .saturating_add(key.capacity())
+                    .saturating_add(room(item));
+            }
+        }
+    }
+    sum
+}
+
+/// A long list of each part: the value asks for 16 bytes of memory at most for a byte of its text.
+#[test]
+fn keeps_no_unused_room(rt: HostRuntime) -> Result<(), Fail> {
+    let alloc = rt.alloc();
+    let deep = nested(alloc, b"l", b"e", MAX_NESTING - 1)?;
+    let parts = [
+        b"0:".as_slice(),
+        b"1:a",
+        b"i0e",
+        b"le",
+        b"l0:e",
+        b"l0:0:0:0:0:e",
+        b"d0:0:e",
+        b"d1:a0:e",
+        b"d0:0:1:a0:1:b0:1:c0:1:d0:e",
+        deep.as_slice(),
+    ];
+    for part in parts {
+        let mut text = Vec::from_slice(alloc, b"l")?;
+        for _ in 0..100 {
+            text.extend_from_slice(part)?;
+        }
+        text.push(b'e')?;
+        let doc = parse(alloc, &text)?;
+        assert!(rt;
+            room(doc.value()) / 16 <= text.len(),
+            "of a list of {part:?}"
+        );
+    }
     Ok(())
 }
 

@@ -2,9 +2,10 @@ use Rattle.std.proofs.Common.{◌≡◌, ◌≢◌, [], ◌⊎◌, inl, inr, len
 use Rattle.std.specs.Prelude.{slice_range}
 use Rattle.std.specs.Str.Parse.{AllDigits}
 use Rattle.std.proofs.lemmas.List.{take_rest}
+use Rattle.std.proofs.lemmas.List.Folds.{drop_split}
 use Rattle.std.proofs.Math.Seq.{drop-length}
 use Rattle.bt_bencode.specs.Number.{LeadsWithZero, at_zero, at_end, at_other}
-use Rattle.bt_bencode.proofs.ReadRanges.{split, nothing_between, drop_first}
+use Rattle.bt_bencode.proofs.ReadRanges.{nothing_between, drop_first}
 use Rattle.bt_bencode.proofs.number.numeral_end.Goals as goal
 use Rattle.bt_bencode.proofs.number.numeral_end.Goals.{then-end-at-via-then-end-at, then-end-at-via-else-end-at+then-bytes-end}
 
@@ -16,7 +17,8 @@ returns-then-leads_with_zero-clause-fault c =
 pub returns-then-end-bytes-clause-fault : goal.returns-then-end-bytes-clause-fault
 returns-then-end-bytes-clause-fault c =
     let bytes = c.args.bytes.now in
-    let no_zero : ¬ LeadsWithZero c.args.negative (drop c.args.at bytes) = λ leads. let impossible : false ≡ true = c.if-leads_with_zero.ensures.1 (rw take_rest leads) in cc in
+    let no_zero : ¬ LeadsWithZero c.args.negative (drop c.args.at bytes) = λ leads. let impossible : false ≡ true =
+    c.if-leads_with_zero.ensures.1 (rw take_rest leads) in cc in
     let whole : c.digits_end-end.result ≡ length bytes = omega arith in
     let digits : AllDigits 10 (drop c.args.at bytes) = rw (whole, take_rest) at c.digits_end-end.ensures.digits in
     (c.digits_end-end.ensures.inside, rw (whole, drop-length) (at_end digits no_zero))
@@ -25,13 +27,15 @@ pub returns-then-end-at-clause-fault : goal.returns-then-end-at-clause-fault
 returns-then-end-at-clause-fault c =
     let bytes = c.args.bytes.now in
     let end = c.digits_end-end.result in
-    let no_zero : ¬ LeadsWithZero c.args.negative (drop c.args.at bytes) = λ leads. let impossible : false ≡ true = c.if-leads_with_zero.ensures.1 (rw take_rest leads) in cc in
+    let no_zero : ¬ LeadsWithZero c.args.negative (drop c.args.at bytes) = λ leads. let impossible : false ≡ true =
+    c.if-leads_with_zero.ensures.1 (rw take_rest leads) in cc in
     let first : slice_index (drop end bytes) 0 ≡ slice_index bytes end = drop_first end bytes in
     let other : (slice_range bytes c.args.at end ≡ []) ⊎ (slice_index (drop end bytes) 0 ≢ c.args.stop) = elim c.then-end-at.branch [
       | then-end-at-via-then-end-at w ↦ inl (nothing_between bytes c.args.at end (omega arith))
       | then-end-at-via-else-end-at+then-bytes-end w ↦ inr (λ same. w.if-bytes-end.true (sym first ∙ same))
     ] in (
       c.digits_end-end.ensures.inside,
-      at_other (slice_range bytes c.args.at end) (drop end bytes) (sym (split bytes c.args.at end c.digits_end-end.ensures.from)) c.digits_end-end.ensures.digits no_zero
+      at_other (slice_range bytes c.args.at end) (drop end bytes) (drop_split bytes c.args.at end c.digits_end-end.ensures.from)
+          c.digits_end-end.ensures.digits no_zero
           (omega (arith, length-drop end bytes)) (rw first c.digits_end-end.ensures.ended) other,
     )

@@ -1,5 +1,4 @@
-use Rattle.std.proofs.Common.{◌+◌, subst, sym, None, Some}
-use Rattle.std.specs.Prelude.{slice_range}
+use Rattle.std.proofs.Common.{◌+◌, subst, sym}
 use Rattle.std.specs.Int.{from_bool}
 use Rattle.std.proofs.lemmas.Result.{err_from_is_err_and}
 use Rattle.std.proofs.lemmas.Int.{to_z-of_z}
@@ -7,7 +6,7 @@ use Rattle.bt_bencode.specs.Number.{NumeralStops}
 use Rattle.bt_bencode.specs.Reader.{Stops}
 use Rattle.bt_bencode.specs.ReaderSteps.{FaultFrom, ReadsInteger}
 use Rattle.bt_bencode.proofs.FaultPassing.{fault_passed}
-use Rattle.bt_bencode.proofs.ReadIntegers.{is_signed, integer_stops, integer_is_ascii, answers_of, integer_found, integer_out_of_range}
+use Rattle.bt_bencode.proofs.ReadIntegers.{is_signed, integer_stops, integer_is_ascii, integer_found, integer_out_of_range}
 use Rattle.bt_bencode.proofs.reader.integer_at.Goals as goal
 
 pub returns-in_err-end-clause-fault : goal.returns-in_err-end-clause-fault
@@ -24,15 +23,16 @@ pub integer_of-requires : goal.integer_of-requires
 integer_of-requires c =
     let bytes = c.args.bytes.now in
     let negative = c.stands_at-negative.result in
-    integer_is_ascii bytes c.args.at c.in_ok-end.end negative (is_signed negative bytes c.args.at c.stands_at-negative.ensures) (rw c.from.ensures at c.in_ok-end.ensures.found)
+    integer_is_ascii bytes c.args.at c.in_ok-end.end negative (is_signed negative bytes c.args.at c.stands_at-negative.ensures)
+    (rw c.from.ensures at c.in_ok-end.ensures.found)
 
 pub returns-in-Some-clause-found : goal.returns-in-Some-clause-found
 returns-in-Some-clause-found c =
     let bytes = c.args.bytes.now in
     let at = c.args.at in
     let negative = c.stands_at-negative.result in
-    let answers = answers_of (slice_range bytes (at + 1) c.in_ok-end.end) (Some c.in-Some.integer) c.in-Some.ensures in
-    let found = integer_found bytes at c.in_ok-end.end negative c.in-Some.integer c.requires.inside c.requires.first (is_signed negative bytes at c.stands_at-negative.ensures) (rw c.from.ensures at c.in_ok-end.ensures.found) answers in
+    let found = integer_found bytes at c.in_ok-end.end negative c.in-Some.integer c.requires.inside c.requires.first
+    (is_signed negative bytes at c.stands_at-negative.ensures) (rw c.from.ensures at c.in_ok-end.ensures.found) c.in-Some.ensures in
     subst (ReadsInteger bytes at (c.in_ok-end.end + 1)) (sym (to_z-of_z _ c.in-Some.integer found.fits)) found
 
 pub returns-in-None-clause-fault : goal.returns-in-None-clause-fault
@@ -40,5 +40,5 @@ returns-in-None-clause-fault c = λ n.
     let bytes = c.args.bytes.now in
     let at = c.args.at in
     let negative = c.stands_at-negative.result in
-    let answers = answers_of (slice_range bytes (at + 1) c.in_ok-end.end) None c.in-None.ensures in
-    integer_out_of_range n bytes at c.in_ok-end.end negative c.requires.inside c.requires.first (is_signed negative bytes at c.stands_at-negative.ensures) (rw c.from.ensures at c.in_ok-end.ensures.found) answers
+    integer_out_of_range n bytes at c.in_ok-end.end negative c.requires.inside c.requires.first
+    (is_signed negative bytes at c.stands_at-negative.ensures) (rw c.from.ensures at c.in_ok-end.ensures.found) c.in-None.ensures

@@ -24,7 +24,8 @@ returns-in_ok-string-in-Some-clause-found c =
     let inside : colon < length bytes = c.in_ok-colon.ensures.found.inside in
     let size : colon + 1 + c.in-Some.length - (colon + 1) ≡ c.in-Some.length = omega arith in
     let value = c.in-Some.ensures.1 in
-    string_read bytes c.args.at colon c.in-Some.length c.in_ok-string-in-Some.string.items c.in_ok-colon.ensures.found (sym value) (subst (λ k. k < 2 ^ 64) (sym value) c.in-Some.ensures.0)
+    string_read bytes c.args.at colon c.in-Some.length c.in_ok-string-in-Some.string.items c.in_ok-colon.ensures.found (sym value)
+    (subst (λ k. k < 2 ^ 64) (sym value) c.in-Some.ensures.0)
     (omega arith) (c.in_ok-string-in-Some.ensures.items ∙ ap (λ k. take k (drop (colon + 1) bytes)) size)
 
 pub returns-in_default-clause-fault : goal.returns-in_default-clause-fault
