@@ -2,10 +2,14 @@
 pub mod TreeShape
 -- nodes over a row of digests, and a file's nodes as such
 pub mod TreeNodes
--- the widest whole nodes over a row, as `add` and `close` of the peaks take them
+-- the widest whole nodes over a row: how many and which, one digest more, and the tree over them
 pub mod PeaksList
+pub mod PeaksAdd
+pub mod PeaksClose
 -- the blocks of a file in the run that a builder takes
 pub mod BuilderRuns
+-- the nodes over a layer, eight at a time
+pub mod LayerNodes
 -- the comparison of two trees: which nodes lie below a node, what clashes there, one node of both from its children
 pub mod ComparisonNodes
 pub mod ComparisonClash

@@ -4,7 +4,7 @@ use Rattle.bt_tree.specs.Peaks.{row_node}
 use Rattle.bt_tree.proofs.TreeShape.{pow_le}
 use Rattle.bt_tree.proofs.TreeNodes.{fold_is}
 use Rattle.bt_tree.proofs.PeaksList.{peaks_none, peak_count_none}
-use Rattle.bt_tree.proofs.layers.fold.Goals as goal
+use Rattle.bt_tree.proofs.layer_fold.fold_pairs.Goals as goal
 
 pub loop-digest-init : goal.loop-digest-init
 loop-digest-init g c = record {
@@ -23,6 +23,8 @@ returns g c =
     let whole = digests ++ replicate rest c.args.padding in
     let all : c.loop-digest.count ≡ length digests = omega (arith, c.loop-digest.invariant.count) in
     c.close.ensures (λ i. get_or whole i [])
-    (c.as_slice.ensures.value ∙ c.loop-digest.invariant.peaks (λ i. get_or whole i []) (λ i low. sym (get_or_append_left digests (replicate rest c.args.padding) [] i (omega arith))))
-    (λ i low high. get_or-append_right digests (replicate rest c.args.padding) (length digests) i [] refl (omega arith) ∙ get_or-replicate rest (i - length digests) c.args.padding [] (omega arith))
+    (c.as_slice.ensures.value ∙ c.loop-digest.invariant.peaks (λ i. get_or whole i [])
+    (λ i low. sym (get_or_append_left digests (replicate rest c.args.padding) [] i (omega arith))))
+    (λ i low high. get_or-append_right digests (replicate rest c.args.padding) (length digests) i [] refl (omega arith)
+    ∙ get_or-replicate rest (i - length digests) c.args.padding [] (omega arith))
     ∙ sym (fold_is g.H.NodeHash.digest c.args.layers whole)
