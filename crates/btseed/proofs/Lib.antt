@@ -1,17 +1,22 @@
-pub mod Fills
-pub mod PieceNodes
-pub mod PieceChecks
-pub mod PieceLayers
-pub mod FileDigests
-pub mod NodeReads
-pub mod Findings
-pub mod TextReads
-pub mod Tellings
-pub mod ShownTexts
-pub mod Entries
-pub mod Askings
-pub mod Walks
-pub mod Unmade
-pub mod Runs
-pub mod Lawful
-pub mod Besides
+-- readers, and what is found of a data file
+pub mod ReaderFill
+pub mod ReaderNode
+pub mod DataFileFinding
+pub mod PiecesNode
+pub mod PiecesCheck
+-- `check`
+pub mod CheckEntry
+pub mod CheckFault
+pub mod ReportLines
+-- `show`
+pub mod TorrentFileText
+pub mod ShowText
+-- `make`
+pub mod FolderWalk
+pub mod DigestLayer
+pub mod DigestFile
+pub mod MakeFault
+pub mod AtomicFilePath
+-- the program
+pub mod CommandLineTask
+pub mod ProgramRun

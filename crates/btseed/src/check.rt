@@ -1,64 +1,58 @@
 //! The command `check`.
 ghost use Rattle.std.specs.Prelude.{◌≡◌, ◌↔◌, ◌⊎◌, map, IsTrue, IfOk, IfErr, IfSome};
+ghost use Rattle.std.specs.List.{All};
 ghost use Rattle.bt_meta.specs.Files.{file_of};
-ghost use Rattle.btseed.specs.Entries.{IsEntryFinding, IsEntryFindingAt, IsFoundOf, IsEntryFault, IsFaultAmong, HasLayerOf};
-ghost use Rattle.btseed.specs.Statuses.{out_of_memory};
-ghost use Rattle.btseed.specs.Telling.{TellsFiles};
-ghost use Rattle.btseed.specs.Commands.{IsLoadFault, IsReport};
+ghost use Rattle.btseed.specs.Check.{IsEntryFinding, IsFileFinding};
+ghost use Rattle.btseed.specs.CheckSteps.{HasLayerSize, IsEntryFault, IsEntryFindingAt, IsFaultAmong};
+ghost use Rattle.btseed.specs.Fault.{device, out_of_memory};
+ghost use Rattle.btseed.specs.Report.{IsReportOn, file_in};
 
-use crate::command_line::Source;
-use crate::data_file::{BUFFER_LEN, Finding, check_empty, check_file};
+use crate::data_file::{Finding, check_empty, check_file, open_data_file};
 use crate::fault::Fault;
-use crate::paths::{data_path, joined};
+use crate::paths::data_path;
 use crate::pieces::{PieceSize, check_pieces};
-use crate::report::{push_end, push_line, shown};
-use crate::torrent_file::load;
-use bt_meta::{FileEntry, MetaError};
+use crate::reader::BUFFER_LEN;
+use crate::report::{FileFinding, Report};
+use bt_meta::{FileEntry, MetaError, Torrent};
 use bt_tree::{Geometry, Hash32};
-use std::fs;
-use std::io::{ErrorKind, Read};
+use std::io::Read;
 use std::rt::Files;
 
-/// What a check found: its lines, and whether every file is complete.
-#[derive(Drop)]
-pub struct Report {
-    pub lines: String,
-    pub complete: bool,
-}
-
 /// Checks the files of a folder against a torrent, in the order of the torrent. The first fault ends it.
-pub fn check<R: Files + AllocGlobal>(rt: &R, source: Source<'_>, dir: &str) -> Result<Report, Fault>
-    ensures report { IfOk result (IsReport source.entry.is_info) }
-    ensures fault { IfErr result (IsLoadFault source.entry.is_info) }
+pub fn check<'a, R: Files + AllocGlobal>(
+    rt: &R,
+    torrent: &'a Torrent,
+    dir: &str,
+    buffer: &mut [u8; BUFFER_LEN],
+) -> Result<Report<'a>, Fault>
+    ensures report { IfOk result (λ report. IsReportOn torrent.now report.found.items) }
+    ensures fault { IfErr result (λ fault. (fault ≡ device) ⊎ (fault ≡ out_of_memory)) }
 {
-    let mut buffer = [0; BUFFER_LEN];
-    let torrent = load(rt, source, &mut buffer)?;
     let size = PieceSize::new(torrent.piece_length()).ok_or(MetaError::PieceLength)?;
-    check_files(rt, dir, torrent.files(), size, &mut buffer)
+    let found = check_files(rt, dir, torrent.files(), size, buffer)?;
+    Ok(Report { found })
 }
 
 /// Checks the data files of some entries, in turn.
-fn check_files<R: Files + AllocGlobal>(
+fn check_files<'a, R: Files + AllocGlobal>(
     rt: &R,
     dir: &str,
-    entries: &[FileEntry],
+    entries: &'a [FileEntry],
     size: PieceSize,
     buffer: &mut [u8; BUFFER_LEN],
-) -> Result<Report, Fault>
-    ensures report { IfOk result (TellsFiles size.layer (map file_of entries.now)) }
-    ensures fault { IfErr result (λ fault. (fault ≡ out_of_memory) ⊎ IsFaultAmong size.layer (map file_of entries.now) fault) }
+) -> Result<Vec<FileFinding<'a>>, Fault>
+    ensures each { IfOk result (λ found. map file_in found.items ≡ map file_of entries.now) }
+    ensures of_bytes { IfOk result
+        (λ found. All (λ f. IsFileFinding size.layer (file_in f) f.finding) found.items) }
+    ensures fault { IfErr result
+        (λ fault. (fault ≡ out_of_memory) ⊎ IsFaultAmong size.layer (map file_of entries.now) fault) }
 {
-    let alloc = rt.alloc();
-    let mut lines = String::new(alloc);
-    let mut complete = true;
-    for entry in entries {
-        let finding = check_data(rt, dir, entry, size, buffer)?;
-        complete = complete & finding.is_complete();
-        let path = joined(alloc, &entry.path)?;
-        push_line(&mut lines, finding, shown(alloc, path.as_bytes())?.as_str())?;
+    let mut found = Vec::new(rt.alloc());
+    for file in entries {
+        let finding = check_data(rt, dir, file, size, buffer)?;
+        found.push(FileFinding { file, finding })?;
     }
-    push_end(&mut lines, complete)?;
-    Ok(Report { lines, complete })
+    Ok(found)
 }
 
 /// Checks the data file of an entry. Where there is no such file, it is empty.
@@ -69,18 +63,16 @@ fn check_data<R: Files + AllocGlobal>(
     size: PieceSize,
     buffer: &mut [u8; BUFFER_LEN],
 ) -> Result<Finding, Fault>
-    ensures found { IfOk result (IsFoundOf size.layer (file_of entry.now)) }
-    ensures fault { IfErr result (λ fault. (fault ≡ out_of_memory) ⊎ IsEntryFault size.layer (file_of entry.now) fault) }
+    ensures found { IfOk result (IsFileFinding size.layer (file_of entry.now)) }
+    ensures fault { IfErr result
+        (λ fault. (fault ≡ out_of_memory) ⊎ IsEntryFault size.layer (file_of entry.now) fault) }
 {
     let path = data_path(rt.alloc(), dir, &entry.path)?;
-    match fs::open(rt, path) {
-        Ok(mut file) => check_entry(&mut file, entry, size, buffer),
-        Err(error) if error.kind() == ErrorKind::NotFound => {
-            let mut nothing: &[u8] = &[];
-            check_entry(&mut nothing, entry, size, buffer)
-        }
-        Err(_) => Err(Fault::Device),
+    if let Some(mut file) = open_data_file(rt, path.as_path())? {
+        return check_entry(&mut file, entry, size, buffer);
     }
+    let mut nothing: &[u8] = &[];
+    check_entry(&mut nothing, entry, size, buffer)
 }
 
 /// Checks the bytes of a reader against an entry: by pieces where the entry has their digests, else as a whole.
@@ -91,31 +83,33 @@ fn check_entry<R: Read>(
     buffer: &mut [u8; BUFFER_LEN],
 ) -> Result<Finding, Fault>
     // of the reader's bytes, where it tells them
-    ensures told { IfSome (R.remaining reader.old) (λ bytes. IfOk result (IsEntryFinding bytes size.layer (file_of entry.now))) }
+    ensures told { IfSome (R.remaining reader.old)
+        (λ bytes. IfOk result (IsEntryFinding bytes size.layer (file_of entry.now))) }
 
     // of the bytes that it gave, at every reader
-    ensures given { IfOk result (IsEntryFindingAt (R.remaining reader.old) (R.remaining reader.new) size.layer (file_of entry.now)) }
+    ensures given { IfOk result
+        (IsEntryFindingAt (R.remaining reader.old) (R.remaining reader.new) size.layer (file_of entry.now)) }
     ensures fault { IfErr result (IsEntryFault size.layer (file_of entry.now)) }
 {
     let Some(geometry) = Geometry::new(entry.length) else {
         return match entry.length {
             0 => Ok(check_empty(reader)?),
-            _ => Err(Fault::Refused(MetaError::FileLength)),
+            _ => Err(Fault::Torrent(MetaError::FileLength)),
         };
     };
     if entry.layer.is_empty() {
         return Ok(check_file(reader, geometry, &entry.root, buffer)?);
     }
     let (digests, _) = entry.layer.as_slice().as_chunks::<32>();
-    if !are_of_layer(geometry, size.layer, digests) {
-        return Err(Fault::Refused(MetaError::LayerSize));
+    if !has_layer_size(geometry, size.layer, digests) {
+        return Err(Fault::Torrent(MetaError::LayerSize));
     }
     Ok(check_pieces(reader, geometry, size, digests, buffer)?)
 }
 
 /// Whether they are as many as the layer has nodes that cover a block.
-fn are_of_layer(geometry: Geometry, layer: u8, digests: &[Hash32]) -> bool
-    ensures { IsTrue result ↔ HasLayerOf layer geometry digests.now }
+fn has_layer_size(geometry: Geometry, layer: u8, digests: &[Hash32]) -> bool
+    ensures { IsTrue result ↔ HasLayerSize layer geometry digests.now }
 {
     layer <= geometry.height() && digests.len() == geometry.real(layer) as usize
 }

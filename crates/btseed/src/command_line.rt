@@ -2,7 +2,7 @@
 ghost use Rattle.std.specs.Prelude.{◌≡◌, ℕ, map, false, codes, string_bytes, IfOk, IfErr, IfSome, IfNone};
 ghost use Rattle.clap.specs.Words.{app_of, found_of, kind_of, rows_of, rule_of, subcommand_rows_of};
 ghost use Rattle.clap.specs.declared.builder.command.Command.TheViews.{out-Command as fields_of};
-ghost use Rattle.btseed.specs.Asking.{IsAsked, IsNotAsked, IsTaskIn, IsMakingIn, IsSourceIn, IsNumber, make_words, show_words, check_words, no_subcommand, all_words, needed, name_option, piece_length_option, info_option};
+ghost use Rattle.btseed.specs.CommandLine.{IsTaskOf, IsNoTaskOf, IsTaskIn, IsMakeTaskIn, IsSourceIn, IsNumber, make_app, show_app, check_app, top_app, program_app, required_rule, name_rule, piece_length_rule, info_rule};
 
 use clap::error::ErrorKind;
 use clap::{Arg, ArgAction, ArgMatches, Command, Error};
@@ -12,7 +12,7 @@ use std::alloc::{AllocError, Global};
 #[derive(Clone, Copy, Debug, PartialEq, Eq)]
 pub enum Task<'a> {
     /// Write the torrent of a folder.
-    Make(Making<'a>),
+    Make(MakeTask<'a>),
     /// Print what a torrent says.
     Show { torrent: Source<'a> },
     /// Check the data files in a folder against a torrent.
@@ -29,7 +29,7 @@ pub struct Source<'a> {
 
 /// The folder that a torrent is made of, the file that it is written to, and what it says beside the files.
 #[derive(Clone, Copy, Debug, PartialEq, Eq)]
-pub struct Making<'a> {
+pub struct MakeTask<'a> {
     pub dir: &'a str,
     pub out: &'a str,
     pub name: &'a str,
@@ -37,14 +37,16 @@ pub struct Making<'a> {
 }
 
 const ABOUT: &str =
-    "A seed store for the files of one BitTorrent v2 torrent: it tells which files are right, by their pieces roots.";
+    "A seed store for the files of a BitTorrent v2 torrent: tells which are right, by their pieces roots.";
+
+const VERSION: &str = "0.1.0";
 
 const TORRENT_HELP: &str = "The torrent file";
 
 /// Reads the words that follow the program's name. Where they ask for help, or are refused, the error has the text.
 pub fn parse<'a>(alloc: Global, words: &'a [String]) -> Result<Task<'a>, Error>
-    ensures task { IfOk result (IsAsked (map string_bytes words.now)) }
-    ensures error { IfErr result (λ error. IsNotAsked (map string_bytes words.now) (kind_of error)) }
+    ensures task { IfOk result (IsTaskOf (map string_bytes words.now)) }
+    ensures error { IfErr result (λ error. IsNoTaskOf (map string_bytes words.now) (kind_of error)) }
 {
     let mut command = commands(alloc)?;
     let matches = command.try_get_matches_from_mut(words)?;
@@ -63,7 +65,7 @@ fn task_of<'a>(matches: &ArgMatches<'a>) -> Option<Task<'a>>
     ensures none { IfNone result ((task : Task) → ¬ IsTaskIn (subcommand_rows_of matches.now) task) }
 {
     if let Some(make) = matches.subcommand_matches("make") {
-        return Some(Task::Make(making_of(make)?));
+        return Some(Task::Make(make_task_of(make)?));
     }
     if let Some(show) = matches.subcommand_matches("show") {
         let torrent = source_of(show)?;
@@ -75,11 +77,12 @@ fn task_of<'a>(matches: &ArgMatches<'a>) -> Option<Task<'a>>
     Some(Task::Check { torrent, dir })
 }
 
-fn making_of<'a>(matches: &ArgMatches<'a>) -> Option<Making<'a>>
-    ensures some { IfSome result (IsMakingIn (rows_of (found_of matches.now))) }
-    ensures none { IfNone result ((making : Making) → ¬ IsMakingIn (rows_of (found_of matches.now)) making) }
+fn make_task_of<'a>(matches: &ArgMatches<'a>) -> Option<MakeTask<'a>>
+    ensures some { IfSome result (IsMakeTaskIn (rows_of (found_of matches.now))) }
+    ensures none { IfNone result
+        ((request : MakeTask) → ¬ IsMakeTaskIn (rows_of (found_of matches.now)) request) }
 {
-    Some(Making {
+    Some(MakeTask {
         dir: matches.get_str("DIR")?,
         out: matches.get_str("OUT")?,
         name: matches.get_str("name")?,
@@ -110,7 +113,7 @@ fn decimal(text: &str) -> Option<u32>
 
 /// The commands and their words.
 fn commands<'a>(alloc: Global) -> Result<Command<'a>, AllocError>
-    ensures { IfOk result (λ command. app_of command ≡ all_words) }
+    ensures { IfOk result (λ command. app_of command ≡ program_app) }
 {
     top_command(alloc)?
         .subcommand(make_command(alloc)?)?
@@ -120,12 +123,13 @@ fn commands<'a>(alloc: Global) -> Result<Command<'a>, AllocError>
 
 /// The program, of which each command is a subcommand.
 fn top_command<'a>(alloc: Global) -> Result<Command<'a>, AllocError>
-    ensures { IfOk result (λ command. app_of command ≡ no_subcommand) }
+    ensures { IfOk result (λ command. app_of command ≡ top_app) }
 {
     let command = Command::new(alloc, "btseed").bin_name("btseed")?;
     Ok(
         command
             .about(ABOUT)
+            .version(VERSION)
             .no_binary_name(true)
             .subcommand_required(true)
             .arg_required_else_help(true),
@@ -133,7 +137,7 @@ fn top_command<'a>(alloc: Global) -> Result<Command<'a>, AllocError>
 }
 
 fn make_command<'a>(alloc: Global) -> Result<Command<'a>, AllocError>
-    ensures words { IfOk result (λ command. app_of command ≡ make_words) }
+    ensures words { IfOk result (λ command. app_of command ≡ make_app) }
     ensures local { IfOk result (λ command. (fields_of command).has_globals ≡ false) }
 {
     let dir = "The folder whose files the torrent is made of";
@@ -147,7 +151,7 @@ fn make_command<'a>(alloc: Global) -> Result<Command<'a>, AllocError>
 }
 
 fn show_command<'a>(alloc: Global) -> Result<Command<'a>, AllocError>
-    ensures words { IfOk result (λ command. app_of command ≡ show_words) }
+    ensures words { IfOk result (λ command. app_of command ≡ show_app) }
     ensures local { IfOk result (λ command. (fields_of command).has_globals ≡ false) }
 {
     Command::new(alloc, "show")
@@ -157,7 +161,7 @@ fn show_command<'a>(alloc: Global) -> Result<Command<'a>, AllocError>
 }
 
 fn check_command<'a>(alloc: Global) -> Result<Command<'a>, AllocError>
-    ensures words { IfOk result (λ command. app_of command ≡ check_words) }
+    ensures words { IfOk result (λ command. app_of command ≡ check_app) }
     ensures local { IfOk result (λ command. (fields_of command).has_globals ≡ false) }
 {
     let dir = "The folder in which the torrent's files lie";
@@ -170,14 +174,14 @@ fn check_command<'a>(alloc: Global) -> Result<Command<'a>, AllocError>
 
 /// A word that must be there, by its place.
 fn needed_word<'a>(alloc: Global, id: &'a str, help: &'a str) -> Arg<'a>
-    ensures rule { rule_of result ≡ needed id.now }
+    ensures rule { rule_of result ≡ required_rule id.now }
     ensures local { result.global ≡ false }
 {
     Arg::new(alloc, id).required(true).help(help)
 }
 
 fn name_word<'a>(alloc: Global) -> Arg<'a>
-    ensures rule { rule_of result ≡ name_option }
+    ensures rule { rule_of result ≡ name_rule }
     ensures local { result.global ≡ false }
 {
     Arg::new(alloc, "name")
@@ -187,7 +191,7 @@ fn name_word<'a>(alloc: Global) -> Arg<'a>
 }
 
 fn piece_length_word<'a>(alloc: Global) -> Arg<'a>
-    ensures rule { rule_of result ≡ piece_length_option }
+    ensures rule { rule_of result ≡ piece_length_rule }
     ensures local { result.global ≡ false }
 {
     Arg::new(alloc, "piece-length")
@@ -197,7 +201,7 @@ fn piece_length_word<'a>(alloc: Global) -> Arg<'a>
 }
 
 fn info_flag<'a>(alloc: Global) -> Arg<'a>
-    ensures rule { rule_of result ≡ info_option }
+    ensures rule { rule_of result ≡ info_rule }
     ensures local { result.global ≡ false }
 {
     Arg::new(alloc, "info")

@@ -1,17 +1,17 @@
 //! Checking the bytes of a data file against the file's pieces root (BEP 52).
-ghost use Rattle.std.specs.Prelude.{◌≡◌, ◌≢◌, ◌+◌, ◌*◌, ◌<◌, ◌≤◌, ℕ, List, length, take, nat_eq, if◌then◌else◌, IsTrue, IfOk, IfNone, IfSome, OnErr};
+ghost use Rattle.std.specs.Prelude.{◌≡◌, ◌≢◌, ◌↔◌, ◌⊎◌, ℕ, List, nat_eq, if◌then◌else◌, IsTrue, IfOk, IfErr, IfSome, OnErr};
 ghost use Rattle.std.specs.Cmp.Lexicographic.{pointwise};
-ghost use Rattle.std.specs.Io.KnownBytes.{Consumes};
-ghost use Rattle.bt_tree.specs.Building.{first_block, node_end};
-ghost use Rattle.btseed.specs.Reading.{Gives, LosesFront, EndsEarly, GivesNode, TellsMore};
-ghost use Rattle.btseed.specs.Checking.{IsFindingOf, IsFindingAt};
+ghost use Rattle.btseed.specs.DataFile.{IsFindingOf, IsFindingAt};
+ghost use Rattle.btseed.specs.Fault.{device};
+ghost use Rattle.btseed.specs.Reader.{LosesFront};
 
-use crate::fault::DeviceFault;
-use bt_tree::{BLOCK_LEN, Geometry, Hash32, Plain, RootBuilder};
+use crate::fault::{DeviceFault, Fault};
+use crate::reader::{BUFFER_LEN, has_more, read_node};
+use bt_tree::{Geometry, Hash32, Plain, RootBuilder};
+use std::fs;
 use std::io::{ErrorKind, Read};
-
-/// How many bytes are read at a time: four blocks.
-pub const BUFFER_LEN: usize = 4 * BLOCK_LEN;
+use std::path::Path;
+use std::rt::Files;
 
 /// What a check found of one file: how many blocks it has, how many of them are marked as right, and whether its data
 /// file is longer than the torrent says.
@@ -23,72 +23,43 @@ pub struct Finding {
 }
 
 impl Finding {
-    ghost use Rattle.btseed.specs.Telling.{is_whole};
+    ghost use Rattle.btseed.specs.DataFile.{is_complete_finding};
 
     /// Whether the data file is the torrent's: all its blocks are marked, and it is not longer.
     pub fn is_complete(self) -> bool
-        ensures { result ≡ is_whole self }
+        ensures { result ≡ is_complete_finding self }
     {
         self.marked == self.blocks && !self.longer
     }
 }
 
-/// Reads until the buffer is full or the bytes end, and says how many came. A read that was interrupted is made again.
-pub fn fill<R: Read>(reader: &mut R, buffer: &mut [u8]) -> Result<usize, DeviceFault>
-    ensures count { IfOk result (λ count. count ≤ length buffer.new) }
-    ensures given { IfOk result (λ count. Gives (R.remaining reader.old) (R.remaining reader.new) (length buffer.new) (take count buffer.new)) }
-    ensures err { OnErr result (LosesFront (R.remaining reader.old) (R.remaining reader.new)) }
+/// Opens a data file; none where no file can be at the path. What is there and is no regular file is a device fault: it
+/// is not opened, since a pipe would wait for a writer.
+pub fn open_data_file<R: Files>(rt: &R, path: Path<'_>) -> Result<Option<R::File>, Fault>
+    ensures { IfErr result (λ fault. fault ≡ device) }
 {
-    let mut filled = 0;
-    for _ in 0..u64::MAX {
-        if filled >= buffer.len() {
-            return Ok(filled);
-        }
-        match reader.read(&mut buffer[filled..]) {
-            Ok(0) => return Ok(filled),
-            Ok(count) => filled += count,
-            Err(error) if error.kind() == ErrorKind::Interrupted => {}
-            Err(_) => return Err(DeviceFault),
-        }
+    match fs::metadata(rt, path) {
+        Ok(metadata) if metadata.is_file() => {}
+        Err(error) if is_absence(error.kind()) => return Ok(None),
+        Ok(_) | Err(_) => return Err(Fault::Device),
     }
-    Err(DeviceFault)
+    match fs::open(rt, path) {
+        Ok(file) => Ok(Some(file)),
+        Err(error) if is_absence(error.kind()) => Ok(None),
+        Err(_) => Err(Fault::Device),
+    }
 }
 
-/// Reads the bytes below the builder's node, of which none came before, and gives the node's digest: none where the
-/// bytes end before.
-pub fn read_node<R: Read>(
-    reader: &mut R,
-    builder: RootBuilder<Plain>,
-    length: u64,
-    buffer: &mut [u8; BUFFER_LEN],
-) -> Result<Option<Hash32>, DeviceFault>
-    requires fresh { builder.count ≡ 0 }
-    requires all { 16384 * first_block builder + length ≡ node_end builder }
-    ensures early { IfOk result (λ found. IfNone found (EndsEarly (R.remaining reader.old) (R.remaining reader.new) length)) }
-    ensures node { IfOk result (λ found. IfSome found (GivesNode (R.remaining reader.old) (R.remaining reader.new) length builder)) }
-    ensures err { OnErr result (LosesFront (R.remaining reader.old) (R.remaining reader.new)) }
+/// Whether an error says that no file can be at a path: there is nothing, one of its folders is none, or a name, or the
+/// path, is longer than the system takes.
+fn is_absence(kind: ErrorKind) -> bool
+    ensures { IsTrue result ↔ ((kind ≡ ErrorKind.NotFound)
+        ⊎ (kind ≡ ErrorKind.NotADirectory) ⊎ (kind ≡ ErrorKind.InvalidFilename)) }
 {
-    let mut builder = builder;
-    let mut rest = length;
-    while rest > 0 {
-        let wanted = rest.min(BUFFER_LEN as u64) as usize;
-        let run = &mut buffer[..wanted];
-        if fill(reader, run)? < wanted {
-            return Ok(None);
-        }
-        builder.push(run).unwrap();
-        rest -= wanted as u64;
-    }
-    Ok(Some(builder.finish().unwrap()))
-}
-
-/// Whether the reader has one byte more.
-pub fn has_more<R: Read>(reader: &mut R) -> Result<bool, DeviceFault>
-    ensures ok { IfOk result (TellsMore (R.remaining reader.old) (R.remaining reader.new)) }
-    ensures err { OnErr result (LosesFront (R.remaining reader.old) (R.remaining reader.new)) }
-{
-    let mut byte = [0];
-    Ok(fill(reader, &mut byte)? == 1)
+    matches!(
+        kind,
+        ErrorKind::NotFound | ErrorKind::NotADirectory | ErrorKind::InvalidFilename
+    )
 }
 
 /// How many of so many blocks are marked: all where the digest that was built is the one wanted, else none.
@@ -112,10 +83,12 @@ pub fn check_file<R: Read>(
     buffer: &mut [u8; BUFFER_LEN],
 ) -> Result<Finding, DeviceFault>
     // of the reader's bytes, where it tells them
-    ensures told { IfSome (R.remaining reader.old) (λ bytes. IfOk result (IsFindingOf bytes geometry root.now)) }
+    ensures told { IfSome
+        (R.remaining reader.old) (λ bytes. IfOk result (IsFindingOf bytes geometry root.now)) }
 
     // of the bytes that it gave, at every reader
-    ensures given { IfOk result (IsFindingAt (R.remaining reader.old) (R.remaining reader.new) geometry root.now) }
+    ensures given { IfOk result
+        (IsFindingAt (R.remaining reader.old) (R.remaining reader.new) geometry root.now) }
     ensures err { OnErr result (LosesFront (R.remaining reader.old) (R.remaining reader.new)) }
 {
     let blocks = geometry.blocks();
@@ -138,8 +111,10 @@ pub fn check_file<R: Read>(
 
 /// Checks the bytes of a reader against an empty file, which has no blocks: whether there are any.
 pub fn check_empty<R: Read>(reader: &mut R) -> Result<Finding, DeviceFault>
-    ensures told { IfSome (R.remaining reader.old) (λ bytes. IfOk result (λ finding. (root : List ℕ) → IsFindingOf bytes 0 root finding)) }
-    ensures given { IfOk result (λ finding. (root : List ℕ) → IsFindingAt (R.remaining reader.old) (R.remaining reader.new) 0 root finding) }
+    ensures told { IfSome (R.remaining reader.old)
+        (λ bytes. IfOk result (λ finding. (root : List ℕ) → IsFindingOf bytes 0 root finding)) }
+    ensures given { IfOk result (λ finding.
+        (root : List ℕ) → IsFindingAt (R.remaining reader.old) (R.remaining reader.new) 0 root finding) }
     ensures err { OnErr result (LosesFront (R.remaining reader.old) (R.remaining reader.new)) }
 {
     let longer = has_more(reader)?;

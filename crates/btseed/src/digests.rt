@@ -4,13 +4,15 @@ ghost use Rattle.bt_tree.specs.Blocks.{block_count};
 ghost use Rattle.bt_tree.specs.Tree.{node_digest};
 ghost use Rattle.bt_tree.specs.TreeShape.{height_of};
 ghost use Rattle.sha2.specs.Sha256.{sha256};
-ghost use Rattle.btseed.specs.Statuses.{device, out_of_memory};
-ghost use Rattle.btseed.specs.Making.{IsDigestFault};
-ghost use Rattle.btseed.specs.Digesting.{AreDigestsOf, GivesLayer, GivesFile, GivesAll, IsRow};
+ghost use Rattle.bt_tree.specs.Limits.{max_height};
+ghost use Rattle.btseed.specs.Fault.{device, out_of_memory};
+ghost use Rattle.btseed.specs.Digests.{IsDigestFault};
+ghost use Rattle.btseed.specs.DigestSteps.{GivesLayer, GivesFile, IsRow};
+ghost use Rattle.btseed.specs.Digests.{AreDigestsOf, GivesAll};
 
-use crate::data_file::{BUFFER_LEN, has_more, read_node};
 use crate::fault::Fault;
 use crate::pieces::{PieceSize, read_piece};
+use crate::reader::{BUFFER_LEN, has_more, read_node};
 use bt_meta::MakeError;
 use bt_tree::{Geometry, Hash32, NodeHash, Plain, RootBuilder, pad};
 use std::alloc::Global;
@@ -36,13 +38,14 @@ pub fn digest_reader<R: Read>(
     ensures told { IfSome (R.remaining reader.old) (λ bytes. IfOk result (AreDigestsOf bytes size.layer)) }
 
     // of the bytes that it gave, at every reader
-    ensures given { IfOk result (GivesAll (R.remaining reader.old) (R.remaining reader.new) length size.layer) }
+    ensures given { IfOk result
+        (GivesAll (R.remaining reader.old) (R.remaining reader.new) length size.layer) }
     ensures fault { IfErr result (IsDigestFault length) }
 {
     let digests = match Geometry::new(length) {
         Some(geometry) => digest_file(alloc, reader, geometry, size, buffer)?,
         None if length == 0 => no_digests(alloc),
-        None => return Err(Fault::Unmade(MakeError::FileLength)),
+        None => return Err(Fault::Make(MakeError::FileLength)),
     };
     if has_more(reader)? {
         return Err(Fault::Device);
@@ -68,7 +71,8 @@ fn digest_file<R: Read>(
     size: PieceSize,
     buffer: &mut [u8; BUFFER_LEN],
 ) -> Result<Digests, Fault>
-    ensures given { IfOk result (GivesFile (R.remaining reader.old) (R.remaining reader.new) geometry size.layer) }
+    ensures given { IfOk result
+        (GivesFile (R.remaining reader.old) (R.remaining reader.new) geometry size.layer) }
     ensures fault { IfErr result (λ fault. (fault ≡ device) ⊎ (fault ≡ out_of_memory)) }
 {
     if geometry.length() <= size.bytes as u64 {
@@ -95,7 +99,8 @@ fn read_layer<R: Read>(
     buffer: &mut [u8; BUFFER_LEN],
 ) -> Result<Vec<u8>, Fault>
     requires { size.layer ≤ height_of (block_count geometry) }
-    ensures given { IfOk result (λ layer. GivesLayer (R.remaining reader.old) (R.remaining reader.new) geometry size.layer layer.items) }
+    ensures given { IfOk result (λ layer. GivesLayer
+        (R.remaining reader.old) (R.remaining reader.new) geometry size.layer layer.items) }
     ensures fault { IfErr result (λ fault. (fault ≡ device) ⊎ (fault ≡ out_of_memory)) }
 {
     let count = geometry.real(size.layer);
@@ -115,7 +120,7 @@ fn read_layer<R: Read>(
 /// The digest of a node that lies so many layers above a layer, `base`: of the nodes of that layer that lie below it,
 /// those that cover a block have these digests.
 fn node_above(digests: &[u8], base: u8, layers: u8) -> Hash32
-    requires high { base + layers ≤ 26 }
+    requires high { base + layers ≤ max_height }
     ensures { (file : List ℕ) (index count : ℕ) → IsRow file base layers index count digests.now
         → result ≡ node_digest sha256 file (base + layers) index }
 {

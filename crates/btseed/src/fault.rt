@@ -1,6 +1,6 @@
 //! Why the program ends without an answer.
 ghost use Rattle.std.specs.Prelude.{◌≡◌};
-ghost use Rattle.btseed.specs.Statuses.{status_of, fault_of, unmade_of, out_of_memory, device};
+ghost use Rattle.btseed.specs.Fault.{status_of, torrent_fault, make_fault, out_of_memory, device};
 
 use bt_meta::{MakeError, MetaError};
 use std::alloc::{AllocError, AllocFailed};
@@ -19,10 +19,10 @@ pub enum Fault {
     Words,
     /// The torrent is refused.
     #[error("{0}")]
-    Refused(MetaError),
+    Torrent(MetaError),
     /// No torrent is made of the folder.
     #[error("{0}")]
-    Unmade(MakeError),
+    Make(MakeError),
     /// A file, or a stream, could not be opened, read or written.
     #[error("device fault")]
     Device,
@@ -36,7 +36,7 @@ impl Fault {
         ensures { result ≡ status_of self }
     {
         match self {
-            Fault::Words | Fault::Refused(_) | Fault::Unmade(_) => 2,
+            Fault::Words | Fault::Torrent(_) | Fault::Make(_) => 2,
             Fault::Device => 3,
             Fault::OutOfMemory => 4,
         }
@@ -52,23 +52,23 @@ impl From<DeviceFault> for Fault {
 }
 
 impl From<MetaError> for Fault {
-    ghost from_gives = { λ refusal fault. fault ≡ fault_of refusal };
+    ghost from_gives = { λ refusal fault. fault ≡ torrent_fault refusal };
 
     fn from(refusal: MetaError) -> Self {
         match refusal {
             MetaError::OutOfMemory => Fault::OutOfMemory,
-            _ => Fault::Refused(refusal),
+            _ => Fault::Torrent(refusal),
         }
     }
 }
 
 impl From<MakeError> for Fault {
-    ghost from_gives = { λ refusal fault. fault ≡ unmade_of refusal };
+    ghost from_gives = { λ refusal fault. fault ≡ make_fault refusal };
 
     fn from(refusal: MakeError) -> Self {
         match refusal {
             MakeError::OutOfMemory => Fault::OutOfMemory,
-            _ => Fault::Unmade(refusal),
+            _ => Fault::Make(refusal),
         }
     }
 }

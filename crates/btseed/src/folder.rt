@@ -1,23 +1,35 @@
 //! The files of a folder and its subfolders.
-ghost use Rattle.std.specs.Prelude.{◌≡◌, ◌++◌, ◌⊎◌, [], ◌∷◌, map, string_bytes, IfOk, OnOk, IfErr};
+ghost use Rattle.std.specs.Prelude.{◌≡◌, ◌++◌, ◌⊎◌, [], ◌∷◌, Some, None, map, string_bytes, IfOk, OnOk, IfErr};
 ghost use Rattle.std.specs.List.{All};
-ghost use Rattle.btseed.specs.Statuses.{device, out_of_memory};
-ghost use Rattle.btseed.specs.Walking.{HasElement, IsListingFault, PutsEntries};
+ghost use Rattle.std.specs.Fs.{IsDir, IsFile};
+ghost use Rattle.std.specs.String.{string_cmp};
+ghost use Rattle.std.specs.BTreeMap.{IsOrdered};
+ghost use Rattle.btseed.specs.Fault.{device, out_of_memory};
+ghost use Rattle.btseed.specs.Folder.{HasElement, IsListingFault};
+ghost use Rattle.btseed.specs.FolderSteps.{PutsEntries};
+ghost use Rattle.btseed.specs.declared.folder.EntryKind.TheVariants.{File, Folder};
 
 use crate::fault::Fault;
-use crate::paths::data_path;
+use crate::paths::found_path;
 use bt_meta::MakeError;
 use std::alloc::{AllocError, Global};
 use std::collections::BTreeMap;
-use std::fs;
+use std::fs::{self, FileType};
 use std::io::{self, ErrorKind};
 use std::rt::Files;
 
+/// What a torrent takes of a folder.
+#[derive(Clone, Copy, PartialEq, Eq)]
+enum EntryKind {
+    File,
+    Folder,
+}
+
 /// A file or a folder, by its path below the folder that is walked.
 #[derive(Drop)]
-struct Entry {
+struct FolderEntry {
     path: Vec<String>,
-    is_folder: bool,
+    kind: EntryKind,
 }
 
 /// The paths of the files in a folder and its subfolders, folder by folder in the order of the names' bytes. A symbolic
@@ -28,7 +40,8 @@ pub fn files_in<R: Files + AllocGlobal + Clone + Drop>(
     rt: &R,
     dir: &str,
 ) -> Result<Vec<Vec<String>>, Fault>
-    ensures named { IfOk result (λ files. All (λ path. HasElement (map string_bytes path.items)) files.items) }
+    ensures named { IfOk result
+        (λ files. All (λ path. HasElement (map string_bytes path.items)) files.items) }
     ensures fault { IfErr result IsListingFault }
 {
     let alloc = rt.alloc();
@@ -36,13 +49,12 @@ pub fn files_in<R: Files + AllocGlobal + Clone + Drop>(
     let mut waiting = Vec::new(alloc);
     push_entries(rt, dir, &[], &mut waiting)?;
     for _ in 0..u64::MAX {
-        let Some(Entry { path, is_folder }) = waiting.pop() else {
+        let Some(FolderEntry { path, kind }) = waiting.pop() else {
             return Ok(files);
         };
-        if is_folder {
-            push_entries(rt, dir, &path, &mut waiting)?;
-        } else {
-            files.push(path)?;
+        match kind {
+            EntryKind::File => files.push(path)?,
+            EntryKind::Folder => push_entries(rt, dir, &path, &mut waiting)?,
         }
     }
     Err(Fault::Device)
@@ -53,38 +65,55 @@ fn push_entries<R: Files + AllocGlobal + Clone + Drop>(
     rt: &R,
     dir: &str,
     folder: &[String],
-    waiting: &mut Vec<Entry>,
+    waiting: &mut Vec<FolderEntry>,
 ) -> Result<(), Fault>
-    ensures put { OnOk result (PutsEntries (map string_bytes folder.now) waiting.old.items waiting.new.items) }
+    ensures put { OnOk result
+        (PutsEntries (map string_bytes folder.now) waiting.old.items waiting.new.items) }
     ensures fault { IfErr result IsListingFault }
 {
-    let names = names_in(rt, dir, folder)?;
-    for (name, is_folder) in names.into_iter().rev() {
+    let mut names = names_in(rt, dir, folder)?;
+    while let Some((name, kind)) = names.pop_last() {
         let path = path_with(rt.alloc(), folder, name)?;
-        waiting.push(Entry { path, is_folder })?;
+        waiting.push(FolderEntry { path, kind })?;
     }
     Ok(())
 }
 
-/// The names of the files and the folders in a folder, with which of them are folders.
+/// The names of the files and the folders in a folder.
 fn names_in<R: Files + AllocGlobal + Clone + Drop>(
     rt: &R,
     dir: &str,
     folder: &[String],
-) -> Result<BTreeMap<String, bool>, Fault>
-    ensures { IfErr result IsListingFault }
+) -> Result<BTreeMap<String, EntryKind>, Fault>
+    ensures ordered { IfOk result (IsOrdered string_cmp) }
+    ensures fault { IfErr result IsListingFault }
 {
     let alloc = rt.alloc();
     let mut names = BTreeMap::new(alloc);
-    for entry in fs::read_dir(rt, data_path(alloc, dir, folder)?).map_err(|e| opening_fault(&e))? {
+    for entry in fs::read_dir(rt, found_path(alloc, dir, folder)?).map_err(|e| opening_fault(&e))? {
         let entry = entry.map_err(|e| listing_fault(&e))?;
-        let kind = entry.file_type().map_err(|e| opening_fault(&e))?;
-        if kind.is_dir() || kind.is_file() {
+        let file_type = entry.file_type().map_err(|e| opening_fault(&e))?;
+        if let Some(kind) = kind_of(file_type) {
             let name = String::from_str(alloc, entry.file_name())?;
-            names.insert(name, kind.is_dir())?;
+            names.insert(name, kind)?;
         }
     }
     Ok(names)
+}
+
+/// What an entry is to a torrent: none for what is left out, a symbolic link, a pipe, a socket or a device.
+fn kind_of(file_type: FileType) -> Option<EntryKind>
+    ensures file { IsFile file_type → result ≡ Some File }
+    ensures folder { IsDir file_type → result ≡ Some Folder }
+    ensures other { ¬ IsFile file_type → ¬ IsDir file_type → result ≡ None }
+{
+    if file_type.is_file() {
+        Some(EntryKind::File)
+    } else if file_type.is_dir() {
+        Some(EntryKind::Folder)
+    } else {
+        None
+    }
 }
 
 /// What an error in reading the next name of a folder is told as: here alone a name that is not valid is one that is not
@@ -93,7 +122,7 @@ fn listing_fault(error: &io::Error) -> Fault
     ensures { IsListingFault result }
 {
     match error.kind() {
-        ErrorKind::InvalidFilename => Fault::Unmade(MakeError::BadPath),
+        ErrorKind::InvalidFilename => Fault::Make(MakeError::BadPath),
         _ => opening_fault(error),
     }
 }
@@ -110,7 +139,8 @@ fn opening_fault(error: &io::Error) -> Fault
 
 /// The path of an entry of a folder.
 fn path_with(alloc: Global, folder: &[String], name: String) -> Result<Vec<String>, AllocError>
-    ensures { IfOk result (λ path. map string_bytes path.items ≡ map string_bytes folder.now ++ string_bytes name ∷ []) }
+    ensures { IfOk result
+        (λ path. map string_bytes path.items ≡ map string_bytes folder.now ++ string_bytes name ∷ []) }
 {
     let mut path = Vec::new(alloc);
     for element in folder {

@@ -1,55 +1,30 @@
 //! The program `btseed`, a seed store for the files of a BitTorrent v2 torrent (BEP 52).
 #![tactic(auto)]
 
-ghost use Rattle.std.specs.Prelude.{◌≡◌, ◌⊎◌, IfErr};
-ghost use Rattle.btseed.specs.Statuses.{no_text, out_of_memory};
-
+mod atomic_file;
 mod check;
 mod command_line;
-mod counts;
 mod data_file;
 mod digests;
+mod display;
 mod fault;
 mod folder;
+mod limits;
 mod make;
+mod output;
 mod paths;
 mod pieces;
 mod program;
+mod reader;
 mod report;
 mod show;
 mod torrent_file;
-mod whole_file;
 
-use fault::Fault;
-use program::{run, tell};
-use std::env::{self, Env};
-use std::io::ErrorKind;
+use program::start;
 use std::process::ExitCode;
 
-/// The words that follow the program's name.
-fn words(rt: &(impl Env + AllocGlobal)) -> Result<Vec<String>, Fault>
-    ensures { IfErr result (λ fault. (fault ≡ no_text) ⊎ (fault ≡ out_of_memory)) }
-{
-    match env::args(rt) {
-        Ok(words) => Ok(words.skip(1).collect(rt.alloc())?),
-        Err(error) if error.kind() == ErrorKind::OutOfMemory => Err(Fault::OutOfMemory),
-        Err(_) => Err(Fault::Words),
-    }
-}
-
 fn main(rt: HostRuntime) -> ExitCode {
-    let mut faults = rt.stderr();
-    let status = match words(&rt) {
-        Ok(words) => run(
-            &rt,
-            words.as_slice(),
-            &mut rt.stdin(),
-            &mut rt.stdout(),
-            &mut faults,
-        ),
-        Err(fault) => tell(fault, &mut faults),
-    };
-    ExitCode::from(status)
+    start(&rt, &mut rt.stdin(), &mut rt.stdout(), &mut rt.stderr())
 }
 
 #[cfg(test)]

@@ -1,15 +1,29 @@
-//! Paths of a torrent's files, as lists of elements.
+//! Where files lie, and how the path of a torrent's file is written.
 ghost use Rattle.std.specs.Prelude.{◌≡◌, IfOk, map, string_bytes};
 ghost use Rattle.std.specs.Path.{path_buf_bytes};
-ghost use Rattle.btseed.specs.Shown.{path_text};
-ghost use Rattle.btseed.specs.Places.{place_below};
+ghost use Rattle.btseed.specs.Paths.{path_below, path_text};
 
+use bt_meta::FilePath;
 use std::alloc::{AllocError, Global};
 use std::path::PathBuf;
 
-/// Where a data file lies: at the path of its entry, below the folder.
-pub fn data_path(alloc: Global, dir: &str, elements: &[String]) -> Result<PathBuf, AllocError>
-    ensures { IfOk result (λ path. path_buf_bytes path ≡ place_below dir.now (map string_bytes elements.now)) }
+/// Where the data file of a torrent's file lies: at its path, below the folder.
+pub fn data_path(alloc: Global, dir: &str, path: &FilePath) -> Result<PathBuf, AllocError>
+    ensures { IfOk result (λ data. path_buf_bytes data ≡ path_below dir.now path.now) }
+{
+    let elements = path.elements();
+    let elements = elements.as_slice();
+    let mut data = PathBuf::from_str(alloc, dir)?;
+    for element in elements {
+        data.push(*element)?;
+    }
+    Ok(data)
+}
+
+/// Where what a walk finds lies: at its elements, below the folder that is walked.
+pub fn found_path(alloc: Global, dir: &str, elements: &[String]) -> Result<PathBuf, AllocError>
+    ensures { IfOk result
+        (λ path. path_buf_bytes path ≡ path_below dir.now (map string_bytes elements.now)) }
 {
     let mut path = PathBuf::from_str(alloc, dir)?;
     for element in elements {
@@ -19,8 +33,9 @@ pub fn data_path(alloc: Global, dir: &str, elements: &[String]) -> Result<PathBu
 }
 
 /// The elements of a path, joined by `/`.
-pub fn joined(alloc: Global, elements: &[String]) -> Result<String, AllocError>
-    ensures { IfOk result (λ text. string_bytes text ≡ path_text (map string_bytes elements.now)) }
+pub fn joined_path(alloc: Global, path: &FilePath) -> Result<String, AllocError>
+    ensures { IfOk result (λ text. string_bytes text ≡ path_text path.now) }
 {
-    elements.join(alloc, "/")
+    let elements = path.elements();
+    elements.as_slice().join(alloc, "/")
 }

@@ -2,12 +2,14 @@
 ghost use Rattle.std.specs.Prelude.{◌≡◌, ◌+◌, ◌*◌, ◌^◌, ◌<◌, ◌≤◌, ◌↔◌, length, IsSome, IfOk, IfNone, IfSome, OnErr};
 ghost use Rattle.bt_tree.specs.Blocks.{block_count};
 ghost use Rattle.bt_tree.specs.TreeShape.{height_of, real_width, IsPieceLength};
-ghost use Rattle.btseed.specs.Reading.{LosesFront, EndsEarly};
+ghost use Rattle.bt_tree.specs.Limits.{full_block_length, max_piece_layer};
+ghost use Rattle.btseed.specs.Reader.{LosesFront, EndsEarly};
 ghost use Rattle.btseed.specs.Pieces.{piece_size, GivesPiece, IsFindingByPieces, IsFindingByPiecesAt};
 
-use crate::data_file::{BUFFER_LEN, Finding, has_more, marked_blocks, read_node};
+use crate::data_file::{Finding, marked_blocks};
 use crate::fault::DeviceFault;
-use bt_tree::{BLOCK_LEN, Geometry, Hash32, Plain, RootBuilder, piece_layer};
+use crate::reader::{BUFFER_LEN, has_more, read_node};
+use bt_tree::{BLOCK_LEN, Geometry, Hash32, Plain, RootBuilder, is_piece_length, piece_layer};
 use std::io::Read;
 
 /// How long a torrent's pieces are, and the layer whose nodes cover a piece each.
@@ -15,8 +17,8 @@ use std::io::Read;
 pub struct PieceSize {
     pub bytes: u32,
     pub layer: u8,
-    ghost of_layer: { bytes ≡ 16384 * 2 ^ layer },
-    ghost limit: { layer ≤ 14 },
+    ghost of_layer: { bytes ≡ full_block_length * 2 ^ layer },
+    ghost limit: { layer ≤ max_piece_layer },
 }
 
 impl PieceSize {
@@ -25,7 +27,7 @@ impl PieceSize {
         ensures variant { IsSome result ↔ IsPieceLength bytes }
         ensures value { IfSome result (λ size. size.bytes ≡ bytes) }
     {
-        if !bytes.is_power_of_two() || bytes < 1 << 14 || bytes > 1 << 28 {
+        if !is_piece_length(bytes) {
             return None;
         }
         let layer = piece_layer(bytes);
@@ -45,8 +47,10 @@ pub fn read_piece<R: Read>(
     requires inside { layer ≤ height_of (block_count geometry) }
     requires real { index < real_width (block_count geometry) layer }
     requires size { size ≡ piece_size geometry layer index }
-    ensures early { IfOk result (λ found. IfNone found (EndsEarly (R.remaining reader.old) (R.remaining reader.new) size)) }
-    ensures node { IfOk result (λ found. IfSome found (GivesPiece (R.remaining reader.old) (R.remaining reader.new) geometry layer index size)) }
+    ensures early { IfOk result
+        (λ found. IfNone found (EndsEarly (R.remaining reader.old) (R.remaining reader.new) size)) }
+    ensures node { IfOk result (λ found. IfSome found
+        (GivesPiece (R.remaining reader.old) (R.remaining reader.new) geometry layer index size)) }
     ensures err { OnErr result (LosesFront (R.remaining reader.old) (R.remaining reader.new)) }
 {
     let builder = RootBuilder::for_node(Plain, geometry, layer, index);
@@ -70,10 +74,12 @@ pub fn check_pieces<R: Read>(
     requires all { length digests.now ≡ real_width (block_count geometry) size.layer }
 
     // of the reader's bytes, where it tells them
-    ensures told { IfSome (R.remaining reader.old) (λ bytes. IfOk result (IsFindingByPieces bytes geometry size.layer digests.now)) }
+    ensures told { IfSome (R.remaining reader.old)
+        (λ bytes. IfOk result (IsFindingByPieces bytes geometry size.layer digests.now)) }
 
     // of the bytes that it gave, at every reader
-    ensures given { IfOk result (IsFindingByPiecesAt (R.remaining reader.old) (R.remaining reader.new) geometry size.layer digests.now) }
+    ensures given { IfOk result (IsFindingByPiecesAt
+        (R.remaining reader.old) (R.remaining reader.new) geometry size.layer digests.now) }
     ensures err { OnErr result (LosesFront (R.remaining reader.old) (R.remaining reader.new)) }
 {
     let blocks = geometry.blocks();

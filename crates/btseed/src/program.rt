@@ -1,22 +1,57 @@
 //! The program, over any runtime and streams.
-ghost use Rattle.std.specs.Prelude.{◌≡◌, ◌≤◌, map, string_bytes, IfOk, IfErr, OnOk};
-ghost use Rattle.std.specs.Io.KnownBytes.{Appends, Keeps};
+ghost use Rattle.std.specs.Prelude.{◌≡◌, ◌≤◌, ◌⊎◌, map, string_bytes, IfOk, IfErr};
+ghost use Rattle.std.specs.Io.KnownBytes.{Keeps};
+ghost use Rattle.std.specs.Process.{exit_status};
 ghost use Rattle.clap.specs.Words.{kind_of};
-ghost use Rattle.btseed.specs.Running.{IsCheckDone, IsDone, IsEnded, IsExplained, IsMakeDone, IsRun, IsShowDone, Writes, status_after};
-ghost use Rattle.btseed.specs.Statuses.{device, status_of};
+ghost use Rattle.btseed.specs.Fault.{out_of_memory, status_of, words_fault};
+ghost use Rattle.btseed.specs.Program.{IsCheckResult, IsExplanation, IsMakeResult, IsRun, IsShowResult, IsStart, IsTaskEnd, IsTaskResult, Writes};
+ghost use Rattle.btseed.specs.ProgramSteps.{status_after};
 ghost use Rattle.btseed.specs.declared.command_line.Task.TheVariants.{Make, Show, Check};
 
+use crate::atomic_file::replace_file;
 use crate::check::check;
-use crate::command_line::{Making, Source, Task, parse};
-use crate::data_file::BUFFER_LEN;
+use crate::command_line::{MakeTask, Source, Task, parse};
 use crate::fault::Fault;
 use crate::make::make;
-use crate::show::{put, show};
+use crate::output::print;
+use crate::reader::BUFFER_LEN;
+use crate::report::print_report;
+use crate::show::show;
 use crate::torrent_file::load;
 use clap::Error;
 use clap::error::ErrorKind;
-use std::io::{Read, Write};
+use std::env::{self, Env};
+use std::io::{self, Read, Write};
+use std::process::ExitCode;
 use std::rt::Files;
+
+/// Runs the program on the words of its environment, and gives the status that it exits with.
+pub fn start<R: Env + Files + AllocGlobal + Clone + Drop, I: Read, O: Write, E: Write>(
+    rt: &R,
+    reader: &mut I,
+    writer: &mut O,
+    faults: &mut E,
+) -> ExitCode
+    ensures answer { IsStart (O.contents writer.old) (O.contents writer.new) (exit_status result) }
+    ensures faultless { exit_status result ≤ 1 → Keeps (E.contents faults.old) (E.contents faults.new) }
+{
+    let status = match words(rt) {
+        Ok(words) => run(rt, words.as_slice(), reader, writer, faults),
+        Err(fault) => report_fault(fault, faults),
+    };
+    ExitCode::from(status)
+}
+
+/// The words that follow the program's name.
+fn words(rt: &(impl Env + AllocGlobal)) -> Result<Vec<String>, Fault>
+    ensures { IfErr result (λ fault. (fault ≡ words_fault) ⊎ (fault ≡ out_of_memory)) }
+{
+    match env::args(rt) {
+        Ok(words) => Ok(words.skip(1).collect(rt.alloc())?),
+        Err(error) if error.kind() == io::ErrorKind::OutOfMemory => Err(Fault::OutOfMemory),
+        Err(_) => Err(Fault::Words),
+    }
+}
 
 /// Does what the words ask for, which follow the program's name, and answers the exit status: 0 where all is complete
 /// or done, 1 where it is not, 2 where the words or the torrent are refused, 3 for a device that failed and 4 for want
@@ -30,7 +65,8 @@ pub fn run<R: Files + AllocGlobal + Clone + Drop, I: Read, O: Write, E: Write>(
     writer: &mut O,
     faults: &mut E,
 ) -> u8
-    ensures answer { IsRun (map string_bytes words.now) (O.contents writer.old) (O.contents writer.new) result }
+    ensures answer { IsRun
+        (map string_bytes words.now) (O.contents writer.old) (O.contents writer.new) result }
 
     // where the words or the torrent are refused, nothing is written
     ensures refused { result ≡ 2 → Keeps (O.contents writer.old) (O.contents writer.new) }
@@ -40,7 +76,7 @@ pub fn run<R: Files + AllocGlobal + Clone + Drop, I: Read, O: Write, E: Write>(
 {
     match attempt(rt, words, writer, faults) {
         Ok(status) => status,
-        Err(fault) => tell(fault, faults),
+        Err(fault) => report_fault(fault, faults),
     }
 }
 
@@ -51,7 +87,8 @@ fn attempt<R: Files + AllocGlobal + Clone + Drop, O: Write, E: Write>(
     writer: &mut O,
     faults: &mut E,
 ) -> Result<u8, Fault>
-    ensures answer { IsRun (map string_bytes words.now) (O.contents writer.old) (O.contents writer.new) (status_after result) }
+    ensures answer { IsRun
+        (map string_bytes words.now) (O.contents writer.old) (O.contents writer.new) (status_after result) }
     ensures faultless { status_after result ≤ 1 → Keeps (E.contents faults.old) (E.contents faults.new) }
 {
     match parse(rt.alloc(), words) {
@@ -66,11 +103,12 @@ fn perform<R: Files + AllocGlobal + Clone + Drop, O: Write>(
     task: Task<'_>,
     writer: &mut O,
 ) -> Result<u8, Fault>
-    ensures done { IfOk result (Writes (IsDone task.entry) (O.contents writer.old) (O.contents writer.new)) }
-    ensures ended { IfErr result (IsEnded task.entry (O.contents writer.old) (O.contents writer.new)) }
+    ensures done { IfOk result
+        (Writes (IsTaskResult task.entry) (O.contents writer.old) (O.contents writer.new)) }
+    ensures ended { IfErr result (IsTaskEnd task.entry (O.contents writer.old) (O.contents writer.new)) }
 {
     match task {
-        Task::Make(making) => perform_make(rt, making, writer),
+        Task::Make(request) => perform_make(rt, request, writer),
         Task::Show { torrent } => perform_show(rt, torrent, writer),
         Task::Check { torrent, dir } => perform_check(rt, torrent, dir, writer),
     }
@@ -78,15 +116,19 @@ fn perform<R: Files + AllocGlobal + Clone + Drop, O: Write>(
 
 fn perform_make<R: Files + AllocGlobal + Clone + Drop, O: Write>(
     rt: &R,
-    making: Making<'_>,
+    request: MakeTask<'_>,
     writer: &mut O,
 ) -> Result<u8, Fault>
-    ensures done { IfOk result (Writes (IsMakeDone making.entry) (O.contents writer.old) (O.contents writer.new)) }
-    ensures ended { IfErr result (IsEnded (Make making.entry) (O.contents writer.old) (O.contents writer.new)) }
+    ensures done { IfOk result
+        (Writes (IsMakeResult request.entry) (O.contents writer.old) (O.contents writer.new)) }
+    ensures ended { IfErr result
+        (IsTaskEnd (Make request.entry) (O.contents writer.old) (O.contents writer.new)) }
 {
-    let infohash = make(rt, making)?;
-    let digits = hex::encode(rt.alloc(), &infohash)?;
+    let torrent = make(rt, request)?;
+    let digits = hex::encode(rt.alloc(), &torrent.infohash)?;
+    // before the file is replaced: out of memory leaves the old one
     let line = format!(in rt.alloc(); "infohash {digits}\n")?;
+    replace_file(rt, request.out, &torrent.text)?;
     print(writer, line.as_str())?;
     Ok(0)
 }
@@ -96,8 +138,10 @@ fn perform_show<R: Files + AllocGlobal, O: Write>(
     source: Source<'_>,
     writer: &mut O,
 ) -> Result<u8, Fault>
-    ensures done { IfOk result (Writes (IsShowDone source.entry) (O.contents writer.old) (O.contents writer.new)) }
-    ensures ended { IfErr result (IsEnded (Show source.entry) (O.contents writer.old) (O.contents writer.new)) }
+    ensures done { IfOk result
+        (Writes (IsShowResult source.entry) (O.contents writer.old) (O.contents writer.new)) }
+    ensures ended { IfErr result
+        (IsTaskEnd (Show source.entry) (O.contents writer.old) (O.contents writer.new)) }
 {
     let mut buffer = [0; BUFFER_LEN];
     let torrent = load(rt, source, &mut buffer)?;
@@ -111,17 +155,22 @@ fn perform_check<R: Files + AllocGlobal, O: Write>(
     dir: &str,
     writer: &mut O,
 ) -> Result<u8, Fault>
-    ensures done { IfOk result (Writes (IsCheckDone source.entry) (O.contents writer.old) (O.contents writer.new)) }
-    ensures ended { IfErr result (IsEnded (Check source.entry dir.entry) (O.contents writer.old) (O.contents writer.new)) }
+    ensures done { IfOk result
+        (Writes (IsCheckResult source.entry) (O.contents writer.old) (O.contents writer.new)) }
+    ensures ended { IfErr result
+        (IsTaskEnd (Check source.entry dir.entry) (O.contents writer.old) (O.contents writer.new)) }
 {
-    let report = check(rt, source, dir)?;
-    print(writer, report.lines.as_str())?;
-    Ok(if report.complete { 0 } else { 1 })
+    let mut buffer = [0; BUFFER_LEN];
+    let torrent = load(rt, source, &mut buffer)?;
+    let report = check(rt, &torrent, dir, &mut buffer)?;
+    print_report(rt.alloc(), &report, writer)?;
+    Ok(if report.is_complete() { 0 } else { 1 })
 }
 
 /// Prints help, or why the words are refused.
 fn explain<O: Write, E: Write>(error: &Error, writer: &mut O, faults: &mut E) -> Result<u8, Fault>
-    ensures answer { IsExplained (kind_of error.now) (O.contents writer.old) (O.contents writer.new) (status_after result) }
+    ensures answer { IsExplanation
+        (kind_of error.now) (O.contents writer.old) (O.contents writer.new) (status_after result) }
     ensures faultless { status_after result ≤ 1 → Keeps (E.contents faults.old) (E.contents faults.new) }
 {
     if error.kind() == ErrorKind::OutOfMemory {
@@ -136,17 +185,8 @@ fn explain<O: Write, E: Write>(error: &Error, writer: &mut O, faults: &mut E) ->
     }
 }
 
-/// Writes a text, whole, and sees it out.
-fn print<O: Write>(writer: &mut O, text: &str) -> Result<(), Fault>
-    ensures text { OnOk result (Appends (O.contents writer.old) (O.contents writer.new) text.now) }
-    ensures fault { IfErr result (λ fault. fault ≡ device) }
-{
-    put(writer, text)?;
-    writer.flush().map_err(|_| Fault::Device)
-}
-
 /// Tells why there is no answer, and answers the status. Where it can't be told, there is the status alone.
-pub fn tell<E: Write>(fault: Fault, faults: &mut E) -> u8
+pub fn report_fault<E: Write>(fault: Fault, faults: &mut E) -> u8
     ensures { result ≡ status_of fault }
 {
     let _ = writeln!(faults, "btseed: {fault}");

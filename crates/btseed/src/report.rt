@@ -1,73 +1,94 @@
-//! The lines that tell what a check found.
-ghost use Rattle.std.specs.Prelude.{◌≡◌, ◌++◌, IfOk, OnOk, string_bytes};
-ghost use Rattle.std.specs.List.{list_all};
-ghost use Rattle.btseed.specs.Shown.{is_visible, stands_unmarked, shown_text, in_hex, line_of, end_of};
+//! What a check found, and its lines.
+ghost use Rattle.std.specs.Prelude.{◌≡◌, ◌++◌, ◌⊎◌, IfErr, OnOk, string_bytes};
+ghost use Rattle.std.specs.Io.KnownBytes.{Appends};
+ghost use Rattle.btseed.specs.Fault.{device, out_of_memory};
+ghost use Rattle.btseed.specs.Report.{file_line, finding_line, is_complete_report, last_line, report_text};
 
 use crate::data_file::Finding;
+use crate::display::display_path;
+use crate::fault::Fault;
+use crate::output::{print, write_text};
+use bt_meta::FileEntry;
 use std::alloc::{AllocError, Global};
-use std::fmt::Write;
-use std::str;
+use std::fmt;
+use std::io::Write;
 
-/// A name or a path as it is printed: as it is where it is text without control characters that does not begin with
-/// `0x`, and else as `0x` and its bytes in hexadecimal.
-pub fn shown(alloc: Global, name: &[u8]) -> Result<String, AllocError>
-    ensures { IfOk result (λ text. string_bytes text ≡ shown_text name.now) }
-{
-    match str::from_utf8(name) {
-        Ok(text) if is_unmarked(name) => String::from_str(alloc, text),
-        _ => hexadecimal(alloc, name),
+/// A file of a torrent, and what a check found of its data file.
+#[derive(Clone, Copy)]
+pub struct FileFinding<'a> {
+    pub file: &'a FileEntry,
+    pub finding: Finding,
+}
+
+/// What a check found, file by file.
+#[derive(Drop)]
+pub struct Report<'a> {
+    pub found: Vec<FileFinding<'a>>,
+}
+
+impl Report<'_> {
+    /// Whether every file is complete.
+    pub fn is_complete(&self) -> bool
+        ensures { result ≡ is_complete_report self.now.found.items }
+    {
+        self.found.iter().all(|file| file.finding.is_complete())
     }
 }
 
-/// `0x` and the bytes in hexadecimal.
-fn hexadecimal(alloc: Global, name: &[u8]) -> Result<String, AllocError>
-    ensures { IfOk result (λ text. string_bytes text ≡ in_hex name.now) }
+/// Writes the lines of a report, each as it is made. After a fault the writer has a part of them, or all.
+pub fn print_report<W: Write>(
+    alloc: Global,
+    report: &Report<'_>,
+    writer: &mut W,
+) -> Result<(), Fault>
+    ensures text { OnOk result
+        (Appends (W.contents writer.old) (W.contents writer.new) (report_text report.now.found.items)) }
+    ensures fault { IfErr result (λ fault. (fault ≡ device) ⊎ (fault ≡ out_of_memory)) }
 {
-    let digits = hex::encode(alloc, name)?;
-    let mut text = String::from_str(alloc, "0x")?;
-    text.push_str(digits.as_str())?;
-    Ok(text)
+    for file in &report.found {
+        write_line(alloc, file, writer)?;
+    }
+    print(writer, last_words(report.is_complete()))
 }
 
-/// Whether a text is printed as it is, by its bytes.
-fn is_unmarked(text: &[u8]) -> bool
-    ensures { result ≡ stands_unmarked text.now }
+/// Writes the line of one file.
+fn write_line<W: Write>(alloc: Global, file: &FileFinding<'_>, writer: &mut W) -> Result<(), Fault>
+    ensures text { OnOk result
+        (Appends (W.contents writer.old) (W.contents writer.new) (file_line file.now)) }
+    ensures fault { IfErr result (λ fault. (fault ≡ device) ⊎ (fault ≡ out_of_memory)) }
 {
-    is_printed(text) && !text.starts_with(b"0x")
+    let path = display_path(alloc, &file.file.path)?;
+    let mut line = String::new(alloc);
+    push_line(&mut line, file.finding, path.as_str())?;
+    write_text(writer, line.as_str())
 }
 
-/// Whether a text has no control character, by its bytes.
-fn is_printed(text: &[u8]) -> bool
-    ensures { result ≡ list_all is_visible text.now }
+/// Adds the line of a finding.
+fn push_line(line: &mut String, finding: Finding, path: &str) -> Result<(), AllocError>
+    ensures { OnOk result (string_bytes line.new ≡ string_bytes line.old ++ finding_line finding path.now) }
 {
-    text.iter().all(|byte| *byte >= 0x20 && *byte != 0x7f)
-}
-
-/// Adds the line of one file.
-pub fn push_line(lines: &mut String, finding: Finding, path: &str) -> Result<(), AllocError>
-    ensures { OnOk result (string_bytes lines.new ≡ string_bytes lines.old ++ line_of finding path.now) }
-{
+    use fmt::Write;
     let Finding {
         blocks,
         marked,
         longer,
     } = finding;
     if longer {
-        writeln!(lines, "longer {path}")
+        writeln!(line, "longer {path}")
     } else if marked == blocks {
-        writeln!(lines, "complete {path}")
+        writeln!(line, "complete {path}")
     } else {
-        writeln!(lines, "{marked} of {blocks} {path}")
+        writeln!(line, "{marked} of {blocks} {path}")
     }
 }
 
-/// Adds the last line.
-pub fn push_end(lines: &mut String, complete: bool) -> Result<(), AllocError>
-    ensures { OnOk result (string_bytes lines.new ≡ string_bytes lines.old ++ end_of complete) }
+/// The last line.
+fn last_words(complete: bool) -> &'static str
+    ensures { result.now ≡ last_line complete }
 {
     if complete {
-        writeln!(lines, "complete")
+        "complete\n"
     } else {
-        writeln!(lines, "not complete")
+        "not complete\n"
     }
 }

@@ -3,12 +3,13 @@ ghost use Rattle.std.specs.Prelude.{◌≡◌, ◌⊎◌, string_bytes, IfOk, On
 ghost use Rattle.std.specs.Io.KnownBytes.{Appends};
 ghost use Rattle.std.specs.List.{flat_map};
 ghost use Rattle.bt_meta.specs.Files.{file_of};
-ghost use Rattle.btseed.specs.Shown.{ended, root_text, head_lines, line_on, show_text};
-ghost use Rattle.btseed.specs.Statuses.{device, out_of_memory};
+ghost use Rattle.btseed.specs.Display.{line_text};
+ghost use Rattle.btseed.specs.Show.{root_text, head_lines, entry_line, show_text};
+ghost use Rattle.btseed.specs.Fault.{device, out_of_memory};
 
+use crate::display::{display, display_path};
 use crate::fault::Fault;
-use crate::paths::joined;
-use crate::report::shown;
+use crate::output::write_text;
 use bt_meta::{FileEntry, Torrent};
 use std::alloc::{AllocError, Global};
 use std::io::Write;
@@ -16,33 +17,23 @@ use std::io::Write;
 /// Writes what a torrent says: five lines on the whole, and a line for each file. After a fault the writer has a part of
 /// the text, or all.
 pub fn show<W: Write>(alloc: Global, torrent: &Torrent, writer: &mut W) -> Result<(), Fault>
-    ensures text { OnOk result (Appends (W.contents writer.old) (W.contents writer.new) (show_text torrent.now)) }
+    ensures text { OnOk result
+        (Appends (W.contents writer.old) (W.contents writer.new) (show_text torrent.now)) }
     ensures fault { IfErr result (λ fault. (fault ≡ device) ⊎ (fault ≡ out_of_memory)) }
 {
-    put(writer, head(alloc, torrent)?.as_str())?;
+    write_text(writer, head(alloc, torrent)?.as_str())?;
     let files = torrent.files();
     for file in files {
-        put(writer, file_line(alloc, file)?.as_str())?;
+        write_text(writer, file_line(alloc, file)?.as_str())?;
     }
     writer.flush().map_err(|_| Fault::Device)
 }
 
-/// Writes a text.
-pub fn put<W: Write>(writer: &mut W, text: &str) -> Result<(), Fault>
-    ensures text { OnOk result (Appends (W.contents writer.old) (W.contents writer.new) text.now) }
-    ensures fault { IfErr result (λ fault. fault ≡ device) }
-{
-    match writer.write_all(text.as_bytes()) {
-        Ok(()) => Ok(()),
-        Err(_) => Err(Fault::Device),
-    }
-}
-
 /// The lines on the whole torrent.
 fn head(alloc: Global, torrent: &Torrent) -> Result<String, AllocError>
-    ensures { IfOk result (λ text. string_bytes text ≡ flat_map ended (head_lines torrent.now)) }
+    ensures { IfOk result (λ text. string_bytes text ≡ flat_map line_text (head_lines torrent.now)) }
 {
-    let name = shown(alloc, torrent.name())?;
+    let name = display(alloc, torrent.name())?;
     let infohash = hex::encode(alloc, &torrent.infohash())?;
     let piece_length = torrent.piece_length();
     let pieces = torrent.pieces();
@@ -54,17 +45,16 @@ fn head(alloc: Global, torrent: &Torrent) -> Result<String, AllocError>
 
 /// The line of a file: its length, its root and its path.
 fn file_line(alloc: Global, file: &FileEntry) -> Result<String, AllocError>
-    ensures { IfOk result (λ text. string_bytes text ≡ ended (line_on (file_of file.now))) }
+    ensures { IfOk result (λ text. string_bytes text ≡ line_text (entry_line (file_of file.now))) }
 {
-    let path = joined(alloc, &file.path)?;
-    let path = shown(alloc, path.as_bytes())?;
-    let root = shown_root(alloc, file)?;
+    let path = display_path(alloc, &file.path)?;
+    let root = display_root(alloc, file)?;
     let length = file.length;
     format!(in alloc; "{length} {root} {path}\n")
 }
 
 /// The root of a file in hexadecimal, and `-` for an empty file, which has none.
-fn shown_root(alloc: Global, file: &FileEntry) -> Result<String, AllocError>
+fn display_root(alloc: Global, file: &FileEntry) -> Result<String, AllocError>
     ensures { IfOk result (λ text. string_bytes text ≡ root_text (file_of file.now)) }
 {
     if file.length == 0 {

@@ -1,11 +1,12 @@
 //! The program on files in a temporary folder, and the reading of files over readers that fail or give little.
 
-mod checking;
+mod check;
 mod devices;
+mod fault;
 mod limits;
-mod making;
-mod reading;
-mod showing;
+mod make;
+mod reader;
+mod show;
 mod steps;
 mod tools;
 mod words;

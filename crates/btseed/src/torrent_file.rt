@@ -1,12 +1,13 @@
 //! Reading torrents from files.
 ghost use Rattle.std.specs.Prelude.{◌≡◌, ◌⊎◌, ◌+◌, ◌^◌, take, IfOk, IfErr, IfSome};
-ghost use Rattle.btseed.specs.Commands.{IsLoaded, IsLoadFault};
-ghost use Rattle.btseed.specs.Reading.{Gives};
-ghost use Rattle.btseed.specs.Statuses.{device, out_of_memory};
+ghost use Rattle.bt_meta.specs.Limits.{max_text_length};
+ghost use Rattle.btseed.specs.TorrentFile.{HasText, IsLoadFault};
+ghost use Rattle.btseed.specs.Reader.{Gives};
+ghost use Rattle.btseed.specs.Fault.{device, out_of_memory};
 
 use crate::command_line::Source;
-use crate::data_file::{BUFFER_LEN, fill};
 use crate::fault::Fault;
+use crate::reader::{BUFFER_LEN, fill};
 use bt_meta::{MAX_TEXT_LENGTH, Torrent, read_info, read_torrent};
 use std::alloc::Global;
 use std::fs;
@@ -19,7 +20,7 @@ pub fn load<R: Files + AllocGlobal>(
     source: Source<'_>,
     buffer: &mut [u8; BUFFER_LEN],
 ) -> Result<Torrent, Fault>
-    ensures torrent { IfOk result (IsLoaded source.entry.is_info) }
+    ensures torrent { IfOk result (HasText source.entry.is_info) }
     ensures fault { IfErr result (IsLoadFault source.entry.is_info) }
 {
     let mut file = fs::open(rt, source.path).map_err(|_| Fault::Device)?;
@@ -37,8 +38,11 @@ pub fn read_text<R: Read>(
     reader: &mut R,
     buffer: &mut [u8; BUFFER_LEN],
 ) -> Result<Vec<u8>, Fault>
-    ensures told { IfSome (R.remaining reader.old) (λ bytes. IfOk result (λ text. text.items ≡ take (2 ^ 27 + 1) bytes)) }
-    ensures given { IfOk result (λ text. Gives (R.remaining reader.old) (R.remaining reader.new) (2 ^ 27 + 1) text.items) }
+    ensures told { IfSome
+        (R.remaining reader.old)
+        (λ bytes. IfOk result (λ text. text.items ≡ take (max_text_length + 1) bytes)) }
+    ensures given { IfOk result
+        (λ text. Gives (R.remaining reader.old) (R.remaining reader.new) (max_text_length + 1) text.items) }
     ensures fault { IfErr result (λ fault. (fault ≡ device) ⊎ (fault ≡ out_of_memory)) }
 {
     let mut text = Vec::new(alloc);

@@ -2,13 +2,16 @@
 
 use super::steps::{expect_bytes, expect_entries};
 use super::tools::{confirm, folder, path_in, put};
+use crate::atomic_file::replace_file;
+use crate::data_file::open_data_file;
 use crate::fault::Fault;
 use crate::folder::files_in;
-use crate::whole_file::write_whole;
+use crate::paths::found_path;
 use bt_meta::MakeError;
 use std::alloc::{Allocator, Global};
 use std::fs::{self, File, Metadata, OpenFile, OpenOptions};
 use std::io::{self, ErrorKind, Read, Seek, SeekFrom, Write};
+use std::path::PathBuf;
 use std::rt::Files;
 use std::test::Fail;
 
@@ -33,12 +36,32 @@ impl Failing {
     }
 }
 
-/// The host's file system, of which some calls fail, and in which every folder lists these names.
+/// The host's file system, of which some calls fail, in which every folder lists these names, and in which a path that
+/// ends in `pipe` is a device, which neither a read nor a write is to reach.
 #[derive(Clone, Copy)]
 struct Device<'a> {
     host: &'a HostRuntime,
     failing: Failing,
     names: &'a [u8],
+}
+
+impl<'a> Device<'a> {
+    fn new(host: &'a HostRuntime, failing: Failing) -> Device<'a> {
+        Device {
+            host,
+            failing,
+            names: b"",
+        }
+    }
+}
+
+/// The path of the host that stands for a path.
+fn host_path(path: &str) -> &str {
+    if path.ends_with("pipe") {
+        "/dev/null"
+    } else {
+        path
+    }
 }
 
 impl Alloc for Device<'_> {
@@ -66,11 +89,15 @@ impl<'a> Files for Device<'a> {
     }
 
     fn metadata(&self, path: &str) -> io::Result<Metadata> {
-        self.host.metadata(path)
+        self.host.metadata(host_path(path))
     }
 
     fn symlink_metadata(&self, path: &str) -> io::Result<Metadata> {
-        self.host.symlink_metadata(path)
+        self.host.symlink_metadata(host_path(path))
+    }
+
+    fn read_link<B: Allocator>(&self, alloc: B, path: &str) -> io::Result<PathBuf<B>> {
+        self.host.read_link(alloc, path)
     }
 
     fn copy(&self, from: &str, to: &str) -> io::Result<u64> {
@@ -157,12 +184,8 @@ fn expect_written(
     bytes: &[u8],
 ) -> Result<(), Fail> {
     let path = path_in(rt, top, "kept")?;
-    let device = Device {
-        host: rt,
-        failing,
-        names: b"",
-    };
-    let found = write_whole(&device, path.as_str(), b"new");
+    let device = Device::new(rt, failing);
+    let found = replace_file(&device, path.as_str(), b"new");
     confirm(found == wanted, "another answer")?;
     expect_bytes(rt, top, "kept", bytes)?;
     expect_entries(rt, top, "", 1)
@@ -185,6 +208,49 @@ fn a_file_that_is_not_written_stays(rt: HostRuntime) -> Result<(), Fail> {
     Ok(())
 }
 
+#[test]
+fn a_part_file_that_is_there_stays(rt: HostRuntime) -> Result<(), Fail> {
+    let top = folder(&rt, "parts")?;
+    let top = top.as_str();
+    put(&rt, top, "kept", b"old")?;
+    put(&rt, top, ".btseed-0.part", b"one")?;
+    put(&rt, top, ".btseed-1.part", b"two")?;
+    let path = path_in(&rt, top, "kept")?;
+    for (failing, kept) in [(Failing::Renames, b"old"), (Failing::Nothing, b"new")] {
+        let found = replace_file(&Device::new(&rt, failing), path.as_str(), b"new");
+        confirm(
+            found.is_ok() == (failing == Failing::Nothing),
+            "another answer",
+        )?;
+        expect_bytes(&rt, top, "kept", kept)?;
+        expect_bytes(&rt, top, ".btseed-0.part", b"one")?;
+        expect_bytes(&rt, top, ".btseed-1.part", b"two")?;
+        expect_entries(&rt, top, "", 3)?;
+    }
+    fs::remove_dir_all(&rt, top)?;
+    Ok(())
+}
+
+/// What is at the paths is a device, and a file in its place would be whole.
+#[test]
+fn what_is_no_regular_file_is_neither_opened_nor_replaced(rt: HostRuntime) -> Result<(), Fail> {
+    let top = folder(&rt, "pipe")?;
+    let top = top.as_str();
+    put(&rt, top, "pipe", b"old")?;
+    let path = path_in(&rt, top, "pipe")?;
+    let written = replace_file(&Device::new(&rt, Failing::Nothing), path.as_str(), b"new");
+    confirm(written == Err(Fault::Device), "it is replaced")?;
+    expect_bytes(&rt, top, "pipe", b"old")?;
+    expect_entries(&rt, top, "", 1)?;
+    let data = found_path(rt.alloc(), top, &[String::from_str(rt.alloc(), "pipe")?])?;
+    let opened = open_data_file(&Device::new(&rt, Failing::Nothing), data.as_path());
+    confirm(opened.err() == Some(Fault::Device), "it is opened")?;
+    let read = open_data_file(&rt, data.as_path())?.is_some();
+    confirm(read, "a file is not opened")?;
+    fs::remove_dir_all(&rt, top)?;
+    Ok(())
+}
+
 /// Why no files are found in a folder that lists these names, of files that are not there.
 fn fault_of_names(rt: &HostRuntime, dir: &str, names: &[u8]) -> Option<Fault> {
     let device = Device {
@@ -199,7 +265,7 @@ fn fault_of_names(rt: &HostRuntime, dir: &str, names: &[u8]) -> Option<Fault> {
 fn a_name_that_is_no_text_is_refused(rt: HostRuntime) -> Result<(), Fail> {
     let top = folder(&rt, "names")?;
     let dir = top.as_str();
-    let bad = Some(Fault::Unmade(MakeError::BadPath));
+    let bad = Some(Fault::Make(MakeError::BadPath));
     let device = Some(Fault::Device);
     let long = "n".repeat(rt.alloc(), 256)?;
     let long = format!(in rt.alloc(); "{long}\0")?;

@@ -18,8 +18,10 @@ pub enum Step<'a> {
     Run(&'a str, u8, &'a str),
     /// Runs the program on a line, and expects this status and fault, and no output.
     Fault(&'a str, u8, &'a str),
-    /// Makes a symbolic link to a folder.
+    /// Makes a symbolic link with this text.
     Link(&'a str, &'a str),
+    /// Expects that a symbolic link has this text.
+    LinkHas(&'a str, &'a str),
     /// Expects that a file has these bytes.
     Has(&'a str, &'a [u8]),
     /// Expects that a file has so many bytes.
@@ -45,7 +47,8 @@ fn step_in(rt: &HostRuntime, top: &str, step: &Step<'_>) -> Result<(), Fail> {
         Step::Run(line, status, output) => expect(rt, top, line, *status, output, ""),
         Step::Fault(line, status, faults) => expect(rt, top, line, *status, "", faults),
         Step::Change(name, index) => change(rt, top, name, *index),
-        Step::Link(target, name) => put_link(rt, top, target, name),
+        Step::Link(text, name) => put_link(rt, top, text, name),
+        Step::LinkHas(name, text) => expect_link(rt, top, name, text),
         Step::Size(name, size) => expect_size(rt, top, name, *size),
         Step::Has(name, bytes) => expect_bytes(rt, top, name, bytes),
         Step::Entries(name, count) => expect_entries(rt, top, name, *count),
@@ -59,10 +62,17 @@ fn change(rt: &HostRuntime, top: &str, name: &str, index: usize) -> Result<(), F
     put(rt, top, name, &bytes)
 }
 
-fn put_link(rt: &HostRuntime, top: &str, target: &str, name: &str) -> Result<(), Fail> {
-    let target = path_in(rt, top, target)?;
+fn put_link(rt: &HostRuntime, top: &str, text: &str, name: &str) -> Result<(), Fail> {
+    let text = text.replace(rt.alloc(), "@", top)?;
     let link = path_in(rt, top, name)?;
-    symlink(rt, target.as_str(), link.as_str())?;
+    symlink(rt, text.as_str(), link.as_str())?;
+    Ok(())
+}
+
+fn expect_link(rt: &HostRuntime, top: &str, name: &str, text: &str) -> Result<(), Fail> {
+    let link = path_in(rt, top, name)?;
+    let found = fs::read_link(rt, link.as_str())?;
+    confirm(found.to_str() == Some(text), "a link of another text")?;
     Ok(())
 }
 

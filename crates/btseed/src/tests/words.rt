@@ -48,33 +48,56 @@ fn help_is_told(rt: HostRuntime) -> Result<(), Fail> {
         ("check --help", "TORRENT"),
         ("show --help", "--info"),
         ("make --help", "--piece-length"),
+        ("--version", "btseed 0."),
     ] {
         expect_help(&rt, line, part)?;
     }
     Ok(())
 }
 
-/// A writer that takes nothing.
-#[derive(Drop)]
-struct Full;
+/// A writer that fails: it takes nothing, or what it took is lost when it is flushed.
+#[derive(Clone, Copy)]
+enum Failing {
+    Writes,
+    Flushes,
+}
 
-impl Write for Full {
-    fn write(&mut self, _buf: &[u8]) -> io::Result<usize> {
-        Err(io::Error::from(ErrorKind::StorageFull))
+impl Failing {
+    fn error(self) -> io::Error {
+        io::Error::from(ErrorKind::StorageFull)
+    }
+}
+
+impl Write for Failing {
+    fn write(&mut self, buf: &[u8]) -> io::Result<usize> {
+        match self {
+            Failing::Writes => Err(self.error()),
+            Failing::Flushes => Ok(buf.len()),
+        }
     }
 
     fn flush(&mut self) -> io::Result<()> {
-        Ok(())
+        match self {
+            Failing::Writes => Ok(()),
+            Failing::Flushes => Err(self.error()),
+        }
     }
 }
 
 /// Runs the program on a line with an output that fails: once with a place for the fault, and once with none.
-fn expect_device_fault(rt: &HostRuntime, top: &str, line: &str) -> Result<(), Fail> {
+fn expect_device_fault(
+    rt: &HostRuntime,
+    top: &str,
+    line: &str,
+    failing: Failing,
+) -> Result<(), Fail> {
     let words = words_of(rt.alloc(), top, line)?;
+    let words = words.as_slice();
+    let mut output = failing;
     let mut input: &[u8] = &[];
     let mut faults = Vec::new(rt.alloc());
-    let status = run(rt, words.as_slice(), &mut input, &mut Full, &mut faults);
-    let untold = run(rt, words.as_slice(), &mut input, &mut Full, &mut Full);
+    let status = run(rt, words, &mut input, &mut output, &mut faults);
+    let untold = run(rt, words, &mut input, &mut output, &mut Failing::Writes);
     confirm(status == 3 && untold == 3, "another status")?;
     confirm(
         faults.as_slice() == b"btseed: device fault\n".as_slice(),
@@ -90,14 +113,11 @@ fn an_output_that_fails_is_a_device_fault(rt: HostRuntime) -> Result<(), Fail> {
     put(&rt, top.as_str(), "t", &torrent)?;
     put_folder(&rt, top.as_str(), "files")?;
     put(&rt, top.as_str(), "files/a.txt", b"abc")?;
-    for line in [
-        "check @/t @",
-        "show @/t",
-        "make @/files @/t --name n",
-        "--help",
-    ] {
-        expect_device_fault(&rt, top.as_str(), line)?;
+    for line in ["check @/t @", "show @/t", "make @/files @/t --name n"] {
+        expect_device_fault(&rt, top.as_str(), line, Failing::Writes)?;
+        expect_device_fault(&rt, top.as_str(), line, Failing::Flushes)?;
     }
+    expect_device_fault(&rt, top.as_str(), "--help", Failing::Writes)?;
     fs::remove_dir_all(&rt, top.as_str())?;
     Ok(())
 }

@@ -1,4 +1,4 @@
-use Rattle.btseed.proofs.Entries.{empty_told, empty_given}
+use Rattle.btseed.proofs.CheckEntry.{empty_told, empty_given}
 use Rattle.btseed.proofs.check.check_entry.Goals as goal
 
 pub returns-in_ok-check_empty-in-0-clause-told : goal.returns-in_ok-check_empty-in-0-clause-told

@@ -1,15 +1,19 @@
-use Rattle.std.proofs.Common.{[], ◌∷◌, ◌++◌, take, map, string_bytes, ap, refl, sym, ◌∙◌}
+use Rattle.std.proofs.Common.{[], ◌∷◌, ◌++◌, take, ap, refl, sym, ◌∙◌}
 use Rattle.std.proofs.lemmas.List.{take_more}
-use Rattle.btseed.specs.Shown.{shown_text, path_text}
-use Rattle.btseed.proofs.Tellings.{telling_begun, telling_more}
+use Rattle.btseed.proofs.CheckFault.{fault_among}
+use Rattle.btseed.proofs.ReportLines.{findings_begun, findings_more}
 use Rattle.btseed.proofs.check.check_files.Goals as goal
 
-pub loop-entry-init : goal.loop-entry-init
-loop-entry-init g c = telling_begun _ _ c.new-lines.ensures.bytes
+pub loop-file-init : goal.loop-file-init
+loop-file-init g c = findings_begun _ _ c.new-found.ensures.items
 
-pub loop-entry-preserved : goal.loop-entry-preserved
-loop-entry-preserved g c =
-    let more = take_more c.args.entries.now c.loop-entry.entry-index c.entry-item.result c.loop-entry-test.true
-    ∙ ap (λ e. take c.loop-entry.entry-index c.args.entries.now ++ e ∷ []) (sym c.entry-item.is) in
-    let path = c.as_bytes.ensures.value ∙ c.in_ok-path.ensures ∙ ap (λ l. path_text (map string_bytes l)) c.deref.ensures.value in
-    telling_more _ _ _ c.entry-item.result _ _ _ _ _ _ _ c.loop-entry.invariant c.in_ok-finding.ensures.found more (c.as_str.ensures.value ∙ c.in_ok-shown.ensures ∙ ap shown_text path) c.in_ok-push_line.ensures c.is_complete.ensures refl
+pub loop-file-preserved : goal.loop-file-preserved
+loop-file-preserved g c =
+    let more = take_more c.args.entries.now c.loop-file.file-index c.file-item.result c.loop-file-test.true
+    ∙ ap (λ e. take c.loop-file.file-index c.args.entries.now ++ e ∷ []) (sym c.file-item.is) in
+    findings_more _ _ _ c.file-item.result _ _ _ c.loop-file.invariant c.in_ok-push.ensures.items more refl c.in_ok-finding.ensures.found
+
+pub returns-in_err-finding-clause-fault : goal.returns-in_err-finding-clause-fault
+returns-in_err-finding-clause-fault g c =
+    fault_among c.from_residual.result _ c.loop-file.file-index c.args.entries.now c.file-item.result c.in_err-finding.field-0.0 c.loop-file-test.true c.file-item.is
+    c.from_residual.ensures.1 c.in_err-finding.ensures.fault

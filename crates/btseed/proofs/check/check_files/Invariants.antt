@@ -1,6 +1,7 @@
-use Rattle.std.proofs.Common.{take, string_bytes}
-use Rattle.btseed.proofs.Tellings.{IsTelling}
+-- The findings so far are of the entries so far.
+use Rattle.std.proofs.Common.{take}
+use Rattle.btseed.proofs.ReportLines.{AreFindings}
 use Rattle.btseed.proofs.check.check_files.Given as goal
 
-abbrev pub invariant-loop-entry : goal.invariant-loop-entry
-invariant-loop-entry g l = IsTelling l.size.layer (take l.entry-index l.entries) (string_bytes l.lines) l.complete
+abbrev pub invariant-loop-file : goal.invariant-loop-file
+invariant-loop-file g l = AreFindings l.size.layer (take l.file-index l.entries) l.found.items

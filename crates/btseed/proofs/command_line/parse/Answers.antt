@@ -1,6 +1,6 @@
 use Rattle.std.proofs.Common.{map, string_bytes, ap, ◌∙◌}
 use Rattle.clap.specs.Words.{app_of, is_simple, is_simple_and_free}
-use Rattle.btseed.proofs.Askings.{asked, refused, words_simple, words_free}
+use Rattle.btseed.proofs.CommandLineTask.{asked, refused, words_simple, words_free}
 use Rattle.btseed.proofs.command_line.parse.Goals as goal
 
 pub returns-in_err-matches-clause-error : goal.returns-in_err-matches-clause-error

@@ -1,9 +1,9 @@
 use Rattle.std.proofs.Common.{◌∙◌, codes}
 use Rattle.clap.specs.Words.{found_of, rows_of}
 use Rattle.clap.proofs.WalkLemmas.{one_text-rows}
-use Rattle.btseed.specs.Asking.{IsSourceIn}
+use Rattle.btseed.specs.CommandLine.{IsSourceIn}
 use Rattle.btseed.specs.declared.command_line.Source.{Source}
-use Rattle.btseed.proofs.Askings.{none_always, row_some, row_none}
+use Rattle.btseed.proofs.CommandLineTask.{none_always, row_some, row_none}
 use Rattle.btseed.proofs.command_line.source_of.Goals as goal
 
 pub returns-in_err-get_str-clause-none : goal.returns-in_err-get_str-clause-none

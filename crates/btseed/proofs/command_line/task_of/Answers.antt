@@ -1,12 +1,12 @@
 use Rattle.std.proofs.Common.{codes, refl}
 use Rattle.clap.specs.Words.{found_of, rows_of}
-use Rattle.btseed.proofs.Askings.{row_some, row_none, making_not_met, check_not_met, check_met}
+use Rattle.btseed.proofs.CommandLineTask.{row_some, row_none, making_not_met, check_not_met, check_met}
 use Rattle.btseed.proofs.command_line.task_of.Goals as goal
 
-pub returns-in_err-making_of-clause-none : goal.returns-in_err-making_of-clause-none
-returns-in_err-making_of-clause-none c =
+pub returns-in_err-make_task_of-clause-none : goal.returns-in_err-make_task_of-clause-none
+returns-in_err-make_task_of-clause-none c =
     making_not_met c.args.matches.now (rows_of (found_of c.in-Some.make.now)) c.from_residual.result (c.in-Some.ensures.found.0 refl) c.in-Some.ensures.rows
-    c.in_err-making_of.ensures.none
+    c.in_err-make_task_of.ensures.none
 
 pub returns-in_err-dir-clause-none : goal.returns-in_err-dir-clause-none
 returns-in_err-dir-clause-none c =

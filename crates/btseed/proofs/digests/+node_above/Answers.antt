@@ -1,7 +1,7 @@
 use Rattle.std.proofs.Common.{◌≡◌, ℕ, List, ◌+◌, ◌-◌, ◌*◌, ◌%◌, ◌^◌, min, length, take, drop, ap, sym, ◌∙◌, subst, arith}
 use Rattle.std.proofs.Math.Pow.{shl_exact}
-use Rattle.btseed.specs.Digesting.{IsRow}
-use Rattle.btseed.proofs.PieceLayers.{row_past, row_leaf, row_left, row_right, row_joined}
+use Rattle.btseed.specs.DigestSteps.{IsRow}
+use Rattle.btseed.proofs.DigestLayer.{row_past, row_leaf, row_left, row_right, row_joined}
 use Rattle.btseed.proofs.digests.+node_above.Goals as goal
 
 pub returns-in_default : goal.returns-in_default

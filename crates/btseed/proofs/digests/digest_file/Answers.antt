@@ -1,14 +1,14 @@
 use Rattle.std.proofs.Common.{ap, ◌-◌, refl, arith}
-use Rattle.bt_tree.specs.Building.{Building}
-use Rattle.btseed.proofs.Findings.{root_covers}
-use Rattle.btseed.proofs.FileDigests.{layer_inside, long_file}
+use Rattle.bt_tree.specs.RootBuilder.{BuilderState}
+use Rattle.btseed.proofs.DataFileFinding.{root_covers}
+use Rattle.btseed.proofs.DigestFile.{layer_inside, long_file}
 use Rattle.btseed.proofs.digests.digest_file.Goals as goal
 
 pub read_node-requires-clause-all : goal.read_node-requires-clause-all
 read_node-requires-clause-all g c =
-    let place = c.new-builder.ensures.place in
-    rw c.length-then-length-size.ensures.value (root_covers c.args.geometry c.new-builder.result (ap (λ (b : Building). b.file_length) place)
-    (ap (λ (b : Building). b.layer) place) (ap (λ (b : Building). b.index) place))
+    let place = c.new-builder.ensures.state in
+    rw c.length-then-length-size.ensures.value (root_covers c.args.geometry c.new-builder.result (ap (λ (b : BuilderState). b.file_length) place)
+    (ap (λ (b : BuilderState). b.layer) place) (ap (λ (b : BuilderState). b.index) place))
 
 pub read_layer-requires : goal.read_layer-requires
 read_layer-requires g c =

@@ -1,8 +1,8 @@
 use Rattle.std.proofs.Common.{ℕ, ◌<◌, ◌*◌, ◌^◌, arith}
 use Rattle.std.proofs.lemmas.Nat.{pow_pos}
 use Rattle.bt_tree.specs.Blocks.{block_count}
-use Rattle.bt_tree.proofs.Shapes.{real_lt}
-use Rattle.btseed.proofs.PieceLayers.{layering_size, layering_more, layering_done}
+use Rattle.bt_tree.proofs.TreeShape.{real_lt}
+use Rattle.btseed.proofs.DigestLayer.{layering_size, layering_more, layering_done}
 use Rattle.btseed.proofs.digests.read_layer.Goals as goal
 
 pub loop-index-preserved : goal.loop-index-preserved

@@ -1,5 +1,5 @@
 -- The pieces so far came, and their digests are kept.
-use Rattle.btseed.proofs.PieceLayers.{IsLayering}
+use Rattle.btseed.proofs.DigestLayer.{IsLayering}
 use Rattle.btseed.proofs.digests.read_layer.Given as goal
 
 abbrev pub invariant-loop-index : goal.invariant-loop-index

@@ -1,8 +1,8 @@
 -- The files so far, and the entries that wait, have paths that name something.
 use Rattle.std.proofs.Common.{map, string_bytes}
 use Rattle.std.specs.List.{All}
-use Rattle.btseed.specs.Walking.{HasElement}
-use Rattle.btseed.proofs.Walks.{IsNamed}
+use Rattle.btseed.specs.Folder.{HasElement}
+use Rattle.btseed.proofs.FolderWalk.{IsNamed}
 use Rattle.btseed.proofs.folder.files_in.Given as goal
 
 abbrev pub invariant-loop : goal.invariant-loop

@@ -1,7 +1,11 @@
--- Some entries of the folder were put behind those that were there.
-use Rattle.std.proofs.Common.{map, string_bytes}
-use Rattle.btseed.specs.Walking.{PutsEntries}
+-- The entries of the greatest names were put behind those that were there. Each turn takes a name.
+use Rattle.std.proofs.Common.{map, length, string_bytes}
+use Rattle.std.specs.BTreeMap.{keys}
+use Rattle.btseed.proofs.FolderWalk.{ArePut}
 use Rattle.btseed.proofs.folder.push_entries.Given as goal
 
 abbrev pub invariant-loop-name : goal.invariant-loop-name
-invariant-loop-name g l = PutsEntries (map string_bytes l.folder) l.initial.waiting.items l.waiting.items
+invariant-loop-name g l = ArePut (map string_bytes l.folder) (keys l.initial.names) (keys l.names) l.initial.waiting.items l.waiting.items
+
+abbrev pub decreases-loop-name : goal.decreases-loop-name
+decreases-loop-name g l = length (keys l.names)

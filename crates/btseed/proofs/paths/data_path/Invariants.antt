@@ -1,7 +1,8 @@
-use Rattle.std.proofs.Common.{◌≡◌, map, take, string_bytes}
+use Rattle.std.proofs.Common.{◌≡◌, take}
 use Rattle.std.specs.Path.{path_buf_bytes}
-use Rattle.btseed.specs.Places.{place_below}
+use Rattle.bt_meta.specs.FilePath.{texts}
+use Rattle.btseed.specs.Paths.{path_below}
 use Rattle.btseed.proofs.paths.data_path.Given as goal
 
 abbrev pub invariant-loop-element : goal.invariant-loop-element
-invariant-loop-element l = path_buf_bytes l.path ≡ place_below l.dir (map string_bytes (take l.element-index l.elements))
+invariant-loop-element l = path_buf_bytes l.data ≡ path_below l.dir (texts (take l.element-index l.elements))

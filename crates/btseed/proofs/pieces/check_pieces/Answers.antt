@@ -4,8 +4,8 @@ use Rattle.std.specs.Cmp.Lexicographic.{pointwise}
 use Rattle.std.proofs.lemmas.Nat.{pow_pos}
 use Rattle.std.proofs.lemmas.Result.{err_from_is_err_and}
 use Rattle.bt_tree.specs.Blocks.{block_count}
-use Rattle.bt_tree.proofs.Shapes.{real_lt}
-use Rattle.btseed.proofs.PieceChecks.{checking_begun, next_size, checking_more, checking_early, checking_done, checking_lost, by_pieces_told}
+use Rattle.bt_tree.proofs.TreeShape.{real_lt}
+use Rattle.btseed.proofs.PiecesCheck.{checking_begun, next_size, checking_more, checking_early, checking_done, checking_lost, by_pieces_told}
 use Rattle.btseed.proofs.pieces.check_pieces.Goals as goal
 
 pub loop-wanted-init : goal.loop-wanted-init

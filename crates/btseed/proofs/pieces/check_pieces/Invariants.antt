@@ -1,6 +1,6 @@
 -- The pieces so far came, and their right blocks are marked.
 use Rattle.std.proofs.Common.{◌≡◌}
-use Rattle.btseed.proofs.PieceChecks.{IsChecking}
+use Rattle.btseed.proofs.PiecesCheck.{IsChecking}
 use Rattle.btseed.proofs.pieces.check_pieces.Given as goal
 
 abbrev pub invariant-loop-wanted : goal.invariant-loop-wanted

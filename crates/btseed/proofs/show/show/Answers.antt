@@ -2,17 +2,17 @@ use Rattle.std.proofs.Common.{◌∷◌, ◌++◌, [], take, take_all, map, ap, 
 use Rattle.std.proofs.lemmas.List.{take_more}
 use Rattle.clap.proofs.BuiltLemmas.{on_ok_always}
 use Rattle.bt_meta.specs.Files.{file_of}
-use Rattle.btseed.proofs.ShownTexts.{showing_begun, showing_more, showing_done}
+use Rattle.btseed.proofs.ShowText.{showing_begun, showing_more, showing_done}
 use Rattle.btseed.proofs.show.show.Goals as goal
 
 pub loop-file-init : goal.loop-file-init
-loop-file-init g c = showing_begun _ _ _ _ (c.as_str.ensures.value ∙ c.in_ok-head.ensures) c.in_ok-put.ensures.text
+loop-file-init g c = showing_begun _ _ _ _ (c.as_str.ensures.value ∙ c.in_ok-head.ensures) c.in_ok-write_text.ensures.text
 
 pub loop-file-preserved : goal.loop-file-preserved
 loop-file-preserved g c =
     let more = take_more c.files-files.result.now c.loop-file.file-index c.file-item.result c.loop-file-test.true in
     showing_more _ _ _ _ _ _ c.file-item.result _ c.loop-file.invariant (c.as_str-in-loop-file.ensures.value ∙ c.in_ok-file_line.ensures)
-    (more ∙ ap (λ f. take c.loop-file.file-index c.files-files.result.now ++ f ∷ []) (sym c.file-item.is)) c.in_ok-put-2.ensures.text
+    (more ∙ ap (λ f. take c.loop-file.file-index c.files-files.result.now ++ f ∷ []) (sym c.file-item.is)) c.in_ok-write_text-2.ensures.text
 
 pub returns-clause-text : goal.returns-clause-text
 returns-clause-text g c =

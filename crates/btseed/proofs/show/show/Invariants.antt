@@ -1,6 +1,6 @@
 -- The lines of the files so far are written.
 use Rattle.std.proofs.Common.{take}
-use Rattle.btseed.proofs.ShownTexts.{IsShowing}
+use Rattle.btseed.proofs.ShowText.{IsShowing}
 use Rattle.btseed.proofs.show.show.Given as goal
 
 abbrev pub invariant-loop-file : goal.invariant-loop-file

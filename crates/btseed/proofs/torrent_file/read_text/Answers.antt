@@ -1,5 +1,5 @@
 use Rattle.std.proofs.Common.{◌≡◌, ◌+◌, ◌-◌, ◌^◌, ◌≤◌, rules, length}
-use Rattle.btseed.proofs.TextReads.{text_ended, text_full, text_told}
+use Rattle.btseed.proofs.TorrentFileText.{text_ended, text_full, text_told}
 use Rattle.btseed.proofs.torrent_file.read_text.Goals as goal
 
 pub returns-then-count-wanted-clause-told : goal.returns-then-count-wanted-clause-told

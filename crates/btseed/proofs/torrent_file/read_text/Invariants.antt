@@ -1,5 +1,5 @@
 use Rattle.std.proofs.Common.{◌+◌, ◌-◌, ◌^◌, vec_len}
-use Rattle.btseed.proofs.TextReads.{IsText}
+use Rattle.btseed.proofs.TorrentFileText.{IsText}
 use Rattle.btseed.proofs.torrent_file.read_text.Given as goal
 
 abbrev pub invariant-loop-text : goal.invariant-loop-text

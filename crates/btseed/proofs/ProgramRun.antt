@@ -1,0 +1,43 @@
+-- Lemmas on what a run does.
+use Rattle.std.proofs.Common.{◌≡◌, ℕ, List, Option, Result, Ok, Err, IfOk, IfErr, IsErrAnd, string_bytes, refl, sym, subst, ◌∙◌}
+use Rattle.std.specs.Prelude.{if◌then◌else◌}
+use Rattle.std.specs.Io.KnownBytes.{Appends}
+use Rattle.std.proofs.KnownBytes.{Keeps-refl}
+use Rattle.clap.specs.Words.{Text}
+use Rattle.bt_tree.specs.TreeShape.{IsPieceLength}
+use Rattle.bt_meta.specs.declared.writer.MakeError.TheVariants.{PieceLength}
+use Rattle.btseed.specs.CommandLine.{IsTaskOf}
+use Rattle.bt_meta.specs.Torrent.{Metainfo}
+use Rattle.btseed.specs.Report.{IsReportOn, is_complete_report, report_text}
+use Rattle.btseed.specs.TorrentFile.{HasText}
+use Rattle.btseed.specs.Make.{IsMakeFault}
+use Rattle.btseed.specs.Program.{IsCheckResult, IsTaskResult, IsTaskEnd, IsRun, Writes, task_result, task_end}
+use Rattle.btseed.specs.ProgramSteps.{status_after}
+use Rattle.btseed.specs.Fault.{make_fault}
+use Rattle.btseed.specs.declared.report.FileFinding.{FileFinding}
+use Rattle.btseed.specs.declared.command_line.MakeTask.{MakeTask}
+use Rattle.btseed.specs.declared.command_line.Source.{Source}
+use Rattle.btseed.specs.declared.command_line.Task.{Task}
+use Rattle.btseed.specs.declared.command_line.Task.TheVariants.{Make}
+use Rattle.btseed.specs.declared.fault.Fault.{Fault}
+
+-- nothing was made, and nothing written yet
+pub not_made : {T : Type 0} (r : Result T Fault) (request : MakeTask) (old : Option (List ℕ)) (fault : Fault)
+    → IsMakeFault request.name.now request.piece_length fault → (¬ IsPieceLength request.piece_length → fault ≡ make_fault PieceLength)
+    → IsErrAnd r (λ found. found ≡ fault) → IfErr r (IsTaskEnd (Make request) old old)
+not_made (Ok x) request old fault cause why same = absurd same
+not_made (Err found) request old fault cause why same = record {
+  cause = record { cause = subst (IsMakeFault request.name.now request.piece_length) (sym same) cause; unlawful = λ none. same ∙ why none };
+  refused = λ _. Keeps-refl old;
+}
+
+pub checked : (source : Source) (torrent : Metainfo) (found : List FileFinding) (old new : Option (List ℕ)) (status : ℕ) → HasText source.is_info torrent
+    → IsReportOn torrent found → Appends old new (report_text found) → status ≡ (if is_complete_report found then 0 else 1)
+    → Writes (IsCheckResult source) old new status
+checked source torrent found old new status loaded report put is =
+    record { text = report_text found; written = put; is = record { torrent = torrent; loaded = loaded; found = found; report = report; lines = refl; answer = is } }
+
+pub performed : (words : List Text) (task : Task) (old new : Option (List ℕ)) (r : Result ℕ Fault) → IsTaskOf words task
+    → IfOk r (Writes (IsTaskResult task) old new) → IfErr r (IsTaskEnd task old new) → IsRun words old new (status_after r)
+performed words task old new (Ok status) asked written ended = task_result task asked written
+performed words task old new (Err fault) asked written ended = task_end task fault asked ended refl

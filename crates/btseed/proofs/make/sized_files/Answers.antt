@@ -1,6 +1,0 @@
-use Rattle.btseed.proofs.Walks.{sized_more}
-use Rattle.btseed.proofs.make.sized_files.Goals as goal
-
-pub loop-path-preserved : goal.loop-path-preserved
-loop-path-preserved g c =
-    sized_more _ _ _ _ _ c.in-Some.ensures.steps.0 c.in_ok-push.ensures.items c.in_ok-counts.ensures.short c.loop-path.invariant

@@ -1,7 +1,0 @@
--- The files so far, and the paths that are left, are lawful.
-use Rattle.std.specs.Vec.Iter.{into_iter_items}
-use Rattle.btseed.proofs.Walks.{AreSized}
-use Rattle.btseed.proofs.make.sized_files.Given as goal
-
-abbrev pub invariant-loop-path : goal.invariant-loop-path
-invariant-loop-path g l = AreSized (into_iter_items l.path-iterator) l.files.items

@@ -1,6 +1,0 @@
-use Rattle.std.proofs.Common.{string_bytes}
-use Rattle.btseed.proofs.ShownTexts.{path_joined}
-use Rattle.btseed.proofs.paths.joined.Goals as goal
-
-pub returns : goal.returns
-returns c = rw (← path_joined string_bytes c.args.elements.now) c.join.ensures.ok

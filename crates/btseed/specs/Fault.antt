@@ -1,0 +1,35 @@
+-- The statuses that the program exits with.
+use Rattle.std.specs.Prelude.{ℕ}
+use Rattle.bt_meta.specs.declared.error.MetaError.{MetaError}
+use Rattle.bt_meta.specs.declared.error.MetaError.TheVariants.{OutOfMemory as no_memory}
+use Rattle.bt_meta.specs.declared.writer.MakeError.{MakeError}
+use Rattle.bt_meta.specs.declared.writer.MakeError.TheVariants.{OutOfMemory as no_memory_to_make}
+use Rattle.btseed.specs.declared.fault.Fault.{Fault}
+use Rattle.btseed.specs.declared.fault.Fault.TheVariants.{Words, Torrent, Make, Device, OutOfMemory}
+
+-- 2 where the input is refused, 3 for a device, 4 for want of memory
+abbrev pub status_of : Fault → ℕ
+status_of Words = 2
+status_of (Torrent refusal) = 2
+status_of (Make refusal) = 2
+status_of Device = 3
+status_of OutOfMemory = 4
+
+-- a word that is no text
+abbrev pub words_fault : Fault
+words_fault = Words
+
+abbrev pub device : Fault
+device = Device
+
+abbrev pub out_of_memory : Fault
+out_of_memory = OutOfMemory
+
+-- a refused growth is no refusal of the torrent
+abbrev pub torrent_fault : MetaError → Fault
+torrent_fault no_memory = OutOfMemory
+torrent_fault refusal = Torrent refusal
+
+abbrev pub make_fault : MakeError → Fault
+make_fault no_memory_to_make = OutOfMemory
+make_fault refusal = Make refusal

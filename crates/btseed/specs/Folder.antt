@@ -1,0 +1,13 @@
+-- What a walk over a folder gives. No contract speaks of what a folder holds.
+use Rattle.std.specs.Prelude.{◌≡◌, ◌≢◌, ◌⊎◌, ℕ, List, []}
+use Rattle.bt_meta.specs.declared.writer.MakeError.TheVariants.{BadPath}
+use Rattle.btseed.specs.Fault.{device, out_of_memory, make_fault}
+use Rattle.btseed.specs.declared.fault.Fault.{Fault}
+
+-- a path that names something
+abbrev pub HasElement : List (List ℕ) → Type 0
+HasElement path = path ≢ []
+
+-- a folder can't be listed, or there is no memory; or a name is refused, as one that is not UTF-8 is
+abbrev pub IsListingFault : Fault → Type 0
+IsListingFault fault = (fault ≡ device) ⊎ (fault ≡ out_of_memory) ⊎ (fault ≡ make_fault BadPath)
