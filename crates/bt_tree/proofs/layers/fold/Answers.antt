@@ -1,9 +1,9 @@
 use Rattle.std.proofs.Common.{◌≡◌, ℕ, ◌-◌, ◌^◌, ◌++◌, [], length, get_or, replicate, arith, ap, refl, sym, ◌∙◌}
 use Rattle.std.proofs.lemmas.List.{get_or_append_left, get_or-append_right, get_or-replicate}
-use Rattle.bt_tree.specs.Row.{row_node}
-use Rattle.bt_tree.proofs.Shapes.{pow_le}
-use Rattle.bt_tree.proofs.RowNodes.{fold_is}
-use Rattle.bt_tree.proofs.PeakLists.{peaks_none, peak_count_none}
+use Rattle.bt_tree.specs.Peaks.{row_node}
+use Rattle.bt_tree.proofs.TreeShape.{pow_le}
+use Rattle.bt_tree.proofs.TreeNodes.{fold_is}
+use Rattle.bt_tree.proofs.PeaksList.{peaks_none, peak_count_none}
 use Rattle.bt_tree.proofs.layers.fold.Goals as goal
 
 pub loop-digest-init : goal.loop-digest-init
@@ -23,6 +23,8 @@ returns g c =
     let whole = digests ++ replicate rest c.args.padding in
     let all : c.loop-digest.count ≡ length digests = omega (arith, c.loop-digest.invariant.count) in
     c.close.ensures (λ i. get_or whole i [])
-    (c.as_slice.ensures.value ∙ c.loop-digest.invariant.peaks (λ i. get_or whole i []) (λ i low. sym (get_or_append_left digests (replicate rest c.args.padding) [] i (omega arith))))
-    (λ i low high. get_or-append_right digests (replicate rest c.args.padding) (length digests) i [] refl (omega arith) ∙ get_or-replicate rest (i - length digests) c.args.padding [] (omega arith))
+    (c.as_slice.ensures.value ∙ c.loop-digest.invariant.peaks (λ i. get_or whole i [])
+    (λ i low. sym (get_or_append_left digests (replicate rest c.args.padding) [] i (omega arith))))
+    (λ i low high. get_or-append_right digests (replicate rest c.args.padding) (length digests) i [] refl (omega arith)
+    ∙ get_or-replicate rest (i - length digests) c.args.padding [] (omega arith))
     ∙ sym (fold_is g.H.NodeHash.digest c.args.layers whole)

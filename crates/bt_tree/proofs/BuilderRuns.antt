@@ -3,7 +3,7 @@ use Rattle.std.proofs.Common.{◌≡◌, ℕ, ◌+◌, ◌-◌, ◌*◌, ◌<◌
 use Rattle.std.proofs.lemmas.Bool.{cases_lt}
 use Rattle.std.proofs.lemmas.List.{take-take, drop-take, drop-drop, take_all, drop_all, length-take}
 use Rattle.bt_tree.specs.Blocks.{block_count, block_at, HasRun}
-use Rattle.bt_tree.specs.Building.{IsBlocksOf}
+use Rattle.bt_tree.specs.RootBuilder.{IsBlocksOf}
 
 -- the run lies within the file
 pub run_within : (file run : List ℕ) (start : ℕ) → HasRun file start run → 0 < length run → start + length run ≤ length file
@@ -30,7 +30,8 @@ pub record BeginsWithBlock (file : List ℕ) (block : ℕ) (run : List ℕ) (siz
   pub real : block < block_count (length file)
   pub rest : IsBlocksOf file (block + 1) (drop size run)
 
-pub first_of_run : (file run : List ℕ) (block size : ℕ) → 0 < length run → size ≡ min (length run) 16384 → IsBlocksOf file block run → BeginsWithBlock file block run size
+pub first_of_run : (file run : List ℕ) (block size : ℕ) → 0 < length run → size ≡ min (length run) 16384 → IsBlocksOf file block run
+    → BeginsWithBlock file block run size
 first_of_run file run block size some e h =
     let start : ℕ = 16384 * block in
     let inside : start + length run ≤ length file = run_within file run start h.here some in
@@ -43,7 +44,8 @@ first_of_run file run block size some e h =
           let all : size ≡ length run = omega arith in
           let none : drop size run ≡ [] = drop_all size run (omega arith) in
           record {
-            first = front_of_run file run start size h.here fits ∙ take_all size (drop start file) (omega arith) ∙ sym (take_all 16384 (drop start file) (omega arith));
+            first = front_of_run file run start size h.here fits ∙ take_all size (drop start file) (omega arith)
+                ∙ sym (take_all 16384 (drop start file) (omega arith));
             real = omega arith;
             rest = record { here = rw none refl; whole = inl (rw none refl) };
           }
