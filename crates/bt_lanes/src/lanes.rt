@@ -1,6 +1,7 @@
 ghost use Rattle.std.specs.Prelude.{◌≡◌, ℕ, ◌+◌, ◌*◌, ◌<◌, ◌≤◌, length};
 ghost use Rattle.sha2.specs.Sha256.{sha256};
 ghost use Rattle.bt_tree.specs.Blocks.{block_at};
+ghost use Rattle.bt_tree.specs.Limits.{full_block_length};
 ghost use Rattle.bt_lanes.specs.LaneSteps.{message_at};
 
 use crate::digest::{digest_eight, slices};
@@ -14,7 +15,7 @@ pub struct Lanes;
 #[inline(always)]
 fn run_block(run: &[u8], j: usize) -> &[u8]
     requires low { j < 8 }
-    requires whole { 16384 * j + 16384 ≤ length run.now }
+    requires whole { full_block_length * j + full_block_length ≤ length run.now }
     ensures { result.now ≡ block_at run.now j }
 {
     &run[BLOCK_LEN * j..BLOCK_LEN * j + BLOCK_LEN]
@@ -22,7 +23,7 @@ fn run_block(run: &[u8], j: usize) -> &[u8]
 
 /// The blocks of the run.
 fn run_blocks(run: &[u8]) -> [&[u8]; 8]
-    requires { length run.now ≡ 131072 }
+    requires { length run.now ≡ 8 * full_block_length }
     ensures { (j : ℕ) → j < 8 → message_at result j ≡ block_at run.now j }
 {
     [
@@ -38,7 +39,7 @@ fn run_blocks(run: &[u8]) -> [&[u8]; 8]
 }
 
 impl NodeHash for Lanes {
-    ghost use Rattle.bt_tree.specs.Digest.{length-sha256, bytes-sha256};
+    ghost use Rattle.bt_tree.specs.NodeHash.{length-sha256, bytes-sha256};
 
     ghost digest = { sha256 };
 

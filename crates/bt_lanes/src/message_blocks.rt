@@ -46,11 +46,11 @@ fn message_blocks_at(messages: &[&[u8]; 8], at: usize) -> MessageBlocks
     requires within { (j : ℕ) → j < 8 → at + 64 ≤ length (message_at messages.now j) }
     ensures { (j : ℕ) → j < 8 → IsBlockWords (take 64 (drop at (message_at messages.now j))) (lane_of j result) }
 {
-    let mut blocks = [u32x8::splat(0); 16];
+    let mut message_blocks = [u32x8::splat(0); 16];
     'words: for k in 0..16 {
-        blocks[k] = words_at(messages, at + 4 * k);
+        message_blocks[k] = words_at(messages, at + 4 * k);
     }
-    blocks
+    message_blocks
 }
 
 /// The hash values after the first `count` blocks of each message.

@@ -11,19 +11,19 @@ words-preserved c =
     let lane = λ (j : ℕ) (vector : List ℕ). slice_index vector j in
     let held = c.words.invariant in
     record {
-      count = length-set c.words.blocks c.words.k c.words_at.result ∙ held.count;
+      count = length-set c.words.message_blocks c.words.k c.words_at.result ∙ held.count;
       read = λ j k lt below. elim (cases_lt k c.words.k) [
-        | inl before ↦ ap (lane j) (get_or-set_other c.words.blocks c.words.k k c.words_at.result [] (omega arith)) ∙ held.read j k lt before
+        | inl before ↦ ap (lane j) (get_or-set_other c.words.message_blocks c.words.k k c.words_at.result [] (omega arith)) ∙ held.read j k lt before
         | inr here ↦
             let same : c.words.k ≡ k = omega arith in
-            rw (← same) (ap (lane j) (get_or-set_same c.words.blocks c.words.k c.words_at.result [] (omega arith)) ∙ c.words_at.ensures j lt)
+            rw (← same) (ap (lane j) (get_or-set_same c.words.message_blocks c.words.k c.words_at.result [] (omega arith)) ∙ c.words_at.ensures j lt)
       ];
     }
 
 pub returns : goal.returns
 returns c = λ j lt. record {
-  count = length-lane_of c.words.blocks j ∙ c.words.invariant.count;
+  count = length-lane_of c.words.message_blocks j ∙ c.words.invariant.count;
   each = λ k below.
-      slice_index-lane_of c.words.blocks j k ∙ c.words.invariant.read j k lt (omega arith)
+      slice_index-lane_of c.words.message_blocks j k ∙ c.words.invariant.read j k lt (omega arith)
       ∙ sym (word_at-block (message_at c.args.messages.now j) c.args.at k below);
 }

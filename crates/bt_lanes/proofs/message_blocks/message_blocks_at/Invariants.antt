@@ -5,6 +5,6 @@ use Rattle.bt_lanes.proofs.message_blocks.message_blocks_at.Given as goal
 
 abbrev pub invariant-words : goal.invariant-words
 invariant-words l = record {
-  count : length l.blocks ≡ 16;
-  read : (j k : ℕ) → j < 8 → k < l.k → lane_word l.blocks k j ≡ word_at (message_at l.messages j) (l.at + 4 * k);
+  count : length l.message_blocks ≡ 16;
+  read : (j k : ℕ) → j < 8 → k < l.k → lane_word l.message_blocks k j ≡ word_at (message_at l.messages j) (l.at + 4 * k);
 }
