@@ -13,3 +13,6 @@ mod padding;
 
 pub use lanes::Lanes;
 pub use many::digest_many;
+
+#[cfg(test)]
+mod tests;
