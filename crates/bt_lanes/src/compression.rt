@@ -1,7 +1,7 @@
 //! The rounds of SHA-256 (FIPS 180-4, 6.2.2) on a message block of each of eight messages.
 
 ghost use Rattle.std.specs.Prelude.{◌≡◌, ℕ, ◌<◌, List, slice_index};
-ghost use Rattle.sha2.specs.Sha256.{round, add_state, compress, window_word};
+ghost use Rattle.sha2.specs.Sha256.{round, rounds, schedule, add_state, compress, window_word};
 ghost use Rattle.bt_lanes.specs.LaneSteps.{lane_of, lane_of_eight, temp1_of, temp2_of, IsBlockWords};
 
 use crate::functions::{add, big_sigma0, big_sigma1, ch, maj, small_sigma0, small_sigma1};
@@ -144,6 +144,20 @@ fn add_variables(values: HashValues, variables: HashValues) -> HashValues
     ]
 }
 
+/// The working variables after the first 16 rounds, whose words are those of the blocks.
+#[inline(always)]
+fn first_rounds(values: HashValues, blocks: &MessageBlocks) -> HashValues
+    ensures { (j : ℕ) (block : List ℕ) → j < 8 → IsBlockWords block (lane_of j blocks.now)
+        → lane_of_eight j result ≡ rounds (lane_of_eight j values) (schedule block 48) 16 }
+{
+    let mut variables = values;
+    'first: for t in 0..16 {
+        let next = round(variables, ROUND_CONSTANTS[t], blocks[t]);
+        variables = next;
+    }
+    variables
+}
+
 /// The hash values after a block of each message.
 #[inline(always)]
 pub(crate) fn compress(values: HashValues, blocks: &MessageBlocks) -> HashValues
@@ -151,11 +165,7 @@ pub(crate) fn compress(values: HashValues, blocks: &MessageBlocks) -> HashValues
         → lane_of_eight j result ≡ compress (lane_of_eight j values) block }
 {
     let mut schedule = *blocks;
-    let mut variables = values;
-    'first: for t in 0..16 {
-        let next = round(variables, ROUND_CONSTANTS[t], schedule[t]);
-        variables = next;
-    }
+    let mut variables = first_rounds(values, blocks);
     'rest: for t in 16..64 {
         let words = next_words(&schedule, t);
         schedule[t % 16] = words;

@@ -1,4 +1,4 @@
-ghost use Rattle.std.specs.Prelude.{◌≡◌, ℕ, ◌<◌, ◌↔◌, [], length, map, slice_index_or, All, IsTrue};
+ghost use Rattle.std.specs.Prelude.{◌≡◌, ℕ, ◌*◌, ◌/◌, ◌<◌, ◌↔◌, [], length, take, map, slice_index_or, All, IsTrue};
 ghost use Rattle.sha2.specs.Sha256.{sha256};
 ghost use Rattle.bt_lanes.specs.LaneSteps.{message_at};
 
@@ -32,6 +32,19 @@ fn digest_group(messages: &[&[u8]; 8]) -> [Hash32; 8]
     ]
 }
 
+/// Writes the digests of the groups of eight messages in a row, each to its place.
+fn digest_groups(messages: &[&[u8]], out: &mut [Hash32])
+    requires { length out.old ≡ length messages.now }
+    ensures size { length out.new ≡ length messages.now }
+    ensures written { take (8 * (length messages.now / 8)) out.new
+        ≡ map (λ message. sha256 message.now) (take (8 * (length messages.now / 8)) messages.now) }
+{
+    let (groups, _) = messages.as_chunks::<8>();
+    'groups: for k in 0..groups.len() {
+        out[8 * k..8 * k + 8].copy_from_slice(&digest_group(&groups[k]));
+    }
+}
+
 /// Writes the digest of each message to its place in `out`.
 ///
 /// Of the messages, each group of eight in a row whose lengths are equal is digested at once.
@@ -39,12 +52,8 @@ pub fn digest_many(messages: &[&[u8]], out: &mut [Hash32])
     requires { length out.old ≡ length messages.now }
     ensures { out.new ≡ map (λ message. sha256 message.now) messages.now }
 {
-    let (groups, _) = messages.as_chunks::<8>();
-    let grouped = 8 * groups.len();
-    'groups: for k in 0..groups.len() {
-        out[8 * k..8 * k + 8].copy_from_slice(&digest_group(&groups[k]));
-    }
-    'rest: for i in grouped..messages.len() {
+    digest_groups(messages, out);
+    'rest: for i in 8 * (messages.len() / 8)..messages.len() {
         out[i] = Plain.block(messages[i]);
     }
 }

@@ -1,31 +1,20 @@
-use Rattle.std.proofs.Common.{◌≡◌, arith, refl, sym, ap, ◌∙◌}
-use Rattle.sha2.specs.Sha256.{add_state, compress, rounds}
-use Rattle.sha2.proofs.Schedule256.{IsWindow_first, rounds_first, rounds_window}
+use Rattle.std.proofs.Common.{◌≡◌, arith, refl, ap, ◌∙◌}
+use Rattle.sha2.specs.Sha256.{add_state, compress}
+use Rattle.sha2.proofs.Schedule256.{IsWindow_first, rounds_window}
 use Rattle.bt_lanes.specs.LaneSteps.{lane_of, lane_of_eight}
-use Rattle.bt_lanes.proofs.LaneWords.{slice_index-lane_of, lane_of-set}
+use Rattle.bt_lanes.proofs.LaneWords.{lane_of-set}
 use Rattle.bt_lanes.proofs.compression.compress.Goals as goal
-
-pub first-init : goal.first-init
-unfolding rounds
-first-init c = λ j block lt words. refl
-
-pub first-preserved : goal.first-preserved
-first-preserved c = λ j block lt words.
-    rounds_first block (lane_of_eight j c.args.values) (lane_of j c.args.blocks.now) (lane_of_eight j c.first.variables) c.first.t _ _ _
-    (omega arith) (IsWindow_first block (lane_of j c.args.blocks.now) words.count words.each) (c.first.invariant j block lt words) refl
-    (sym (slice_index-lane_of c.args.blocks.now j c.first.t)) (c.round-next.ensures j lt)
 
 pub rest-init : goal.rest-init
 rest-init c = λ j block lt words.
-    let done : c.first.t ≡ 16 = omega arith in
-    (IsWindow_first block (lane_of j c.args.blocks.now) words.count words.each, rw done at (c.first.invariant j block lt words))
+    (IsWindow_first block (lane_of j c.args.blocks.now) words.count words.each, c.first_rounds-variables.ensures j block lt words)
 
 pub rest-preserved : goal.rest-preserved
 rest-preserved c = λ j block lt words.
     let held = c.rest.invariant j block lt words in
     rounds_window block (lane_of_eight j c.args.values) (lane_of j c.rest.schedule) (lane_of_eight j c.rest.variables) c.rest.t _ _ _ _
     (omega arith) (omega arith) held.0 held.1 (c.next_words-words.ensures j lt)
-    (lane_of-set c.rest.schedule j _ c.next_words-words.result) refl (c.round-next-in-rest.ensures j lt)
+    (lane_of-set c.rest.schedule j _ c.next_words-words.result) refl (c.round-next.ensures j lt)
 
 pub returns : goal.returns
 unfolding compress

@@ -4,7 +4,7 @@ use Rattle.std.proofs.lemmas.Slice.{overwrites}
 use Rattle.sha2.specs.Sha256.{sha256}
 use Rattle.bt_lanes.specs.LaneSteps.{message_at}
 use Rattle.bt_lanes.proofs.Groups.{group_at, digests_of_each, group_written}
-use Rattle.bt_lanes.proofs.many.digest_many.Goals as goal
+use Rattle.bt_lanes.proofs.many.digest_groups.Goals as goal
 
 pub groups-preserved : goal.groups-preserved
 groups-preserved c =
