@@ -60,3 +60,34 @@ first_of_run file run block size some e h =
             };
           }
     ]
+
+-- what a run of at least eight of a file's whole blocks begins with, and what follows
+pub record BeginsWithEight (file : List ℕ) (block : ℕ) (run : List ℕ) : Type 0 where
+  pub same : (j : ℕ) → j < 8 → block_at (take 131072 run) j ≡ block_at file (block + j)
+  pub real : (j : ℕ) → j < 8 → block + j < block_count (length file)
+  pub rest : IsBlocksOf file (block + 8) (drop 131072 run)
+
+-- a block of the bytes that the file has from a block on is the file's
+block_of_front : (file : List ℕ) (block j : ℕ) → j < 8 → block_at (take 131072 (drop (16384 * block) file)) j ≡ block_at file (block + j)
+block_of_front file block j low =
+    let start : ℕ = 16384 * block in
+    let m : ℕ = 131072 - 16384 * j in
+    let whole : 131072 ≡ 16384 * j + m = omega arith in
+    let at : start + 16384 * j ≡ 16384 * (block + j) = omega arith in
+    ap (λ n. take 16384 (drop (16384 * j) (take n (drop start file)))) whole ∙ ap (take 16384) (drop-take (16384 * j) m (drop start file))
+    ∙ take-take 16384 m (drop (16384 * j) (drop start file)) (omega arith) ∙ ap (take 16384) (drop-drop (16384 * j) start file)
+    ∙ ap (λ n. take 16384 (drop n file)) at
+
+pub eight_of_run : (file run : List ℕ) (block : ℕ) → 131072 ≤ length run → IsBlocksOf file block run → BeginsWithEight file block run
+eight_of_run file run block long h =
+    let start : ℕ = 16384 * block in
+    let inside : start + length run ≤ length file = run_within file run start h.here (omega arith) in
+    let after : length (drop 131072 run) ≡ length run - 131072 = length-drop 131072 run in
+    record {
+      same = λ j low. ap (λ eight. block_at eight j) (front_of_run file run start 131072 h.here long) ∙ block_of_front file block j low;
+      real = λ j low. omega arith;
+      rest = record {
+        here = rest_of_run file run start 131072 (16384 * (block + 8)) h.here long (omega arith);
+        whole = elim h.whole [ inl even ↦ inl (omega arith) | inr ends ↦ inr (omega arith) ];
+      };
+    }

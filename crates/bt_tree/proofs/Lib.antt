@@ -8,6 +8,8 @@ pub mod PeaksAdd
 pub mod PeaksClose
 -- the blocks of a file in the run that a builder takes
 pub mod BuilderRuns
+-- the nodes over a layer, eight at a time
+pub mod LayerNodes
 -- the comparison of two trees: which nodes lie below a node, what clashes there, one node of both from its children
 pub mod ComparisonNodes
 pub mod ComparisonClash

@@ -1,11 +1,10 @@
-ghost use Rattle.std.specs.Prelude.{◌≡◌, ◌≢◌, ◌-◌, ◌^◌, ◌≤◌, ◌↔◌, ◌++◌, length, replicate, IsOk};
-ghost use Rattle.bt_tree.specs.Limits.{max_height};
+ghost use Rattle.std.specs.Prelude.{◌≡◌, ◌≢◌, ◌-◌, ◌^◌, ◌≤◌, ◌↔◌, length, IsOk};
 ghost use Rattle.bt_tree.specs.Blocks.{block_count};
-ghost use Rattle.bt_tree.specs.Layers.{fold_of, IsLayer, HasLayerSize};
+ghost use Rattle.bt_tree.specs.Layers.{IsLayer, HasLayerSize};
 
+use crate::layer_fold::fold;
 use crate::node_hash::{Hash32, NodeHash};
-use crate::padding::pad;
-use crate::peaks::{self, Peaks};
+use crate::padding::pads;
 use crate::tree_shape::Geometry;
 use thiserror::Error;
 
@@ -43,25 +42,9 @@ pub fn check_layer<H: NodeHash>(
         return Err(LayerError::Size);
     }
     let (digests, _) = bytes.as_chunks::<32>();
-    if fold(hash, digests, height - layer, pad(hash, layer)) == *root {
+    if fold(hash, digests, &pads(hash, height), layer, height) == *root {
         Ok(())
     } else {
         Err(LayerError::Differs)
     }
-}
-
-/// The digest that 2^layers digests fold to pairwise: the given ones, and after them that of the padding.
-fn fold<H: NodeHash>(hash: H, digests: &[Hash32], layers: u8, padding: Hash32) -> Hash32
-    requires high { layers ≤ max_height }
-    requires within { length digests.now ≤ 2 ^ layers }
-    ensures { result
-        ≡ fold_of H.digest layers (digests.now ++ replicate (2 ^ layers - length digests.now) padding) }
-{
-    let mut peaks = Peaks::new();
-    let mut count = 0;
-    for digest in digests {
-        peaks::add(hash, &mut peaks, count, *digest);
-        count += 1;
-    }
-    peaks::close(hash, peaks.as_slice(), count, layers, padding)
 }

@@ -10,6 +10,7 @@
 #![tactic(auto)]
 
 mod comparison;
+mod layer_fold;
 mod layers;
 mod node_hash;
 mod padding;

@@ -1,4 +1,4 @@
-ghost use Rattle.std.specs.Prelude.{◌≡◌, ℕ, ◌+◌, ◌^◌, ◌<◌, ◌≤◌, List, length};
+ghost use Rattle.std.specs.Prelude.{◌≡◌, ℕ, ◌+◌, ◌^◌, ◌<◌, ◌≤◌, List, [], length, slice_index_or};
 ghost use Rattle.arrayvec.specs.ArrayVec.{array_vec_len};
 ghost use Rattle.bt_tree.specs.Limits.{max_block_count, max_height};
 ghost use Rattle.bt_tree.specs.Peaks.{row_node, peaks_of, peak_count};
@@ -29,6 +29,22 @@ pub(crate) fn add<H: NodeHash>(hash: H, peaks: &mut Peaks, count: u32, digest: H
         rest /= 2;
     }
     peaks.push(digest);
+}
+
+/// Takes the digests of the row's next nodes, after the first `count`.
+pub(crate) fn add_all<H: NodeHash>(hash: H, peaks: &mut Peaks, count: u32, digests: &[Hash32])
+    requires room { count + length digests.now ≤ max_block_count }
+    requires size { array_vec_len peaks.old ≡ peak_count max_height count }
+    ensures size { array_vec_len peaks.new ≡ peak_count max_height (count + length digests.now) }
+    ensures peaks { (row : ℕ → List ℕ) → peaks.old.items ≡ peaks_of H.digest row count
+        → ((i : ℕ) → i < length digests.now → slice_index_or digests.now i [] ≡ row (count + i))
+        → peaks.new.items ≡ peaks_of H.digest row (count + length digests.now) }
+{
+    let mut count = count;
+    for digest in digests {
+        add(hash, peaks, count, *digest);
+        count += 1;
+    }
 }
 
 /// The digest of the node that lies so many layers above the first 2^layers nodes of the row. The row's nodes past

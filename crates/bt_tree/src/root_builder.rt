@@ -128,8 +128,29 @@ impl<H: NodeHash> RootBuilder<H> {
     }
 }
 
-/// Takes the blocks of a run, after the first `count`.
+/// Takes the blocks of a run, after the first `count`: eight at a time as long as eight whole ones are left.
 fn push_blocks<H: NodeHash>(hash: H, peaks: &mut Peaks, count: u32, run: &[u8])
+    requires room { count + block_count (length run.now) ≤ max_block_count }
+    requires size { array_vec_len peaks.old ≡ peak_count max_height count }
+    ensures size { array_vec_len peaks.new ≡ peak_count max_height (count + block_count (length run.now)) }
+    ensures peaks { (file : List ℕ) (first : ℕ)
+        → peaks.old.items ≡ file_peaks H.digest file first count
+        → IsBlocksOf file (first + count) run.now
+        → peaks.new.items ≡ file_peaks H.digest file first (count + block_count (length run.now)) }
+{
+    let mut count = count;
+    let mut rest = run;
+    'eights: while rest.len() >= 8 * BLOCK_LEN {
+        let (eight, after) = rest.split_at(8 * BLOCK_LEN);
+        peaks::add_all(hash, peaks, count, &hash.blocks8(eight));
+        count += 8;
+        rest = after;
+    }
+    push_each(hash, peaks, count, rest);
+}
+
+/// The same, one block at a time.
+fn push_each<H: NodeHash>(hash: H, peaks: &mut Peaks, count: u32, run: &[u8])
     requires room { count + block_count (length run.now) ≤ max_block_count }
     requires size { array_vec_len peaks.old ≡ peak_count max_height count }
     ensures size { array_vec_len peaks.new ≡ peak_count max_height (count + block_count (length run.now)) }

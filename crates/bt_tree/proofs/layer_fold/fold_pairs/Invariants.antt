@@ -1,7 +1,7 @@
 use Rattle.std.proofs.Common.{◌≡◌, ℕ, List}
 use Rattle.arrayvec.specs.ArrayVec.{array_vec_len}
 use Rattle.bt_tree.specs.Peaks.{peaks_of, peak_count}
-use Rattle.bt_tree.proofs.layers.fold.Given as goal
+use Rattle.bt_tree.proofs.layer_fold.fold_pairs.Given as goal
 use Rattle.std.proofs.Common.{◌<◌, get_or, []}
 
 abbrev pub invariant-loop-digest : goal.invariant-loop-digest

@@ -4,7 +4,7 @@ use Rattle.bt_tree.specs.Peaks.{row_node}
 use Rattle.bt_tree.proofs.TreeShape.{pow_le}
 use Rattle.bt_tree.proofs.TreeNodes.{fold_is}
 use Rattle.bt_tree.proofs.PeaksList.{peaks_none, peak_count_none}
-use Rattle.bt_tree.proofs.layers.fold.Goals as goal
+use Rattle.bt_tree.proofs.layer_fold.fold_pairs.Goals as goal
 
 pub loop-digest-init : goal.loop-digest-init
 loop-digest-init g c = record {
