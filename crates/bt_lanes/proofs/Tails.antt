@@ -1,7 +1,9 @@
 -- The tail of a message: its bytes behind the last whole message block and its padding. Its digest from there.
-use Rattle.std.proofs.Common.{◌≡◌, ℕ, zero, suc, ◌≤◌, ◌+◌, ◌-◌, ◌*◌, ◌/◌, ◌%◌, ◌^◌, List, [], ◌∷◌, ◌++◌, length, take, drop, replicate, slice_set, arith, refl, sym, ap, ◌∙◌, length-append, length-drop, add-zero}
+use Rattle.std.proofs.Common.{◌≡◌, ℕ, zero, suc, ◌≤◌, ◌+◌, ◌-◌, ◌*◌, ◌/◌, ◌%◌, ◌^◌, List, [], ◌∷◌, ◌++◌, length, take, drop, replicate, slice_set}
+use Rattle.std.proofs.Common.{arith, refl, sym, ap, ◌∙◌, length-append, length-drop, add-zero}
 use Rattle.std.proofs.Math.Nat.{add-suc}
-use Rattle.std.proofs.lemmas.List.{append_assoc, drop-replicate, replicate-append-replicate, length-replicate, set_at, take_at, drop_at, drop_all, drop-drop, take-append-drop, length-take-le}
+use Rattle.std.proofs.lemmas.List.{append_assoc, drop-replicate, replicate-append-replicate, length-replicate, set_at, take_at, drop_at}
+use Rattle.std.proofs.lemmas.List.{drop_all, drop-drop, take-append-drop, length-take-le}
 use Rattle.std.proofs.lemmas.Slice.{take-put_mid}
 use Rattle.std.specs.Int.{w64, to_be_bytes}
 use borrow.Rule.Slice.PartMut.{put_mid, post_of}
@@ -11,38 +13,44 @@ use Rattle.bt_lanes.specs.PaddingSteps.{tail_block_count, IsTail}
 
 length-put_mid : (a k : ℕ) (xs ys : List ℕ) → a + k ≤ length xs → length ys ≡ k → length (put_mid a k xs ys) ≡ length xs
 length-put_mid a k xs ys fits e =
-    omega (arith, length-append (take a xs) (ys ++ post_of a k xs), length-append ys (post_of a k xs), length-take-le a xs (omega arith), length-drop k (drop a xs), length-drop a xs)
+    let back : List ℕ = post_of a k xs in
+    let behind : length back ≡ length xs - a - k = omega (arith, length-drop k (drop a xs), length-drop a xs) in
+    omega (arith, length-append (take a xs) (ys ++ back), length-append ys back, length-take-le a xs (omega arith), behind)
 
-pub IsTail_of : (m a b : List ℕ) (e i j : ℕ) → a ≡ drop (length m / 64 * 64) m → e ≡ tail_block_count (length m) → i ≡ length m % 64 → j ≡ 8
-    → b ≡ to_be_bytes w64 (length m * 8 % 2 ^ 64)
-    → IsTail m (put_mid (64 * e - 8) j (slice_set (a ++ post_of 0 i (replicate 128 0)) (length m % 64) 0x80) b)
-IsTail_of m a b e i j ea ee ei ej eb =
-    let u : ℕ = length m % 64 in
-    let z : ℕ = (119 - u) % 64 in
-    let none : List ℕ = replicate 128 0 in
-    let behind : List ℕ = replicate (127 - u) 0 in
-    let pad : List ℕ = replicate z 0 in
-    let over : List ℕ = replicate (127 - u - z) 0 in
-    let front : List ℕ = a ++ 0x80 ∷ pad in
-    let la : length a ≡ u = omega (arith, ap length ea, length-drop (length m / 64 * 64) m) in
-    let lb : length b ≡ 8 = rw eb refl in
-    let lp : length pad ≡ z = length-replicate z zero in
-    let lh : length behind ≡ 127 - u = length-replicate (127 - u) zero in
-    let more : 128 - u ≡ suc (127 - u) = omega arith in
-    let zeros : post_of 0 i none ≡ 0 ∷ behind = rw ei (drop-replicate u 128 zero ∙ rw more refl) in
-    let marked : slice_set (a ++ post_of 0 i none) u 0x80 ≡ a ++ 0x80 ∷ behind = rw zeros (set_at a 0 behind 0x80 u la) in
-    let rest : z + (127 - u - z) ≡ 127 - u = omega arith in
-    let split : pad ++ over ≡ behind = replicate-append-replicate z (127 - u - z) zero ∙ ap (λ (k : ℕ). replicate k zero) rest in
-    let parts : a ++ 0x80 ∷ behind ≡ front ++ over = rw (← split) (sym (append_assoc a (0x80 ∷ pad) over)) in
-    let lf : length front ≡ 64 * e - 8 = omega (arith, length-append a (0x80 ∷ pad)) in
-    let lw : length (a ++ 0x80 ∷ behind) ≡ 128 = omega (arith, length-append a (0x80 ∷ behind)) in
-    let kept : take (64 * e - 8) (a ++ 0x80 ∷ behind) ≡ front = ap (take (64 * e - 8)) parts ∙ take_at front over (64 * e - 8) lf in
-    let written : take (64 * e) (put_mid (64 * e - 8) j (a ++ 0x80 ∷ behind) b) ≡ front ++ b =
-    take-put_mid (64 * e - 8) j (a ++ 0x80 ∷ behind) b (64 * e) (omega arith) (omega arith) ∙ ap (λ (x : List ℕ). x ++ b) kept in
-    let whole : front ++ b ≡ drop (length m / 64 * 64) m ++ padding (length m) = append_assoc a (0x80 ∷ pad) b ∙ rw (ea, eb) refl in
-    rw marked record {
-      size = length-put_mid (64 * e - 8) j (a ++ 0x80 ∷ behind) b (omega arith) (omega arith) ∙ lw;
-      padded = rw (← ee) (written ∙ whole);
+-- the rest of a message over zeros, the byte 0x80 behind it, and the length in bits at the end of block `count`
+pub IsTail_of : (message rest bits : List ℕ) (count i j : ℕ) → rest ≡ drop (length message / 64 * 64) message
+    → count ≡ tail_block_count (length message) → i ≡ length message % 64 → j ≡ 8 → bits ≡ to_be_bytes w64 (length message * 8 % 2 ^ 64)
+    → IsTail message (put_mid (64 * count - 8) j (slice_set (rest ++ post_of 0 i (replicate 128 0)) (length message % 64) 0x80) bits)
+IsTail_of message rest bits count i j er ec ei ej eb =
+    let used : ℕ = length message % 64 in
+    let fill : ℕ = (119 - used) % 64 in
+    let at : ℕ = 64 * count - 8 in
+    let blank : List ℕ = replicate 128 0 in
+    let behind : List ℕ = replicate (127 - used) 0 in
+    let zeros : List ℕ = replicate fill 0 in
+    let over : List ℕ = replicate (127 - used - fill) 0 in
+    let front : List ℕ = rest ++ 0x80 ∷ zeros in
+    let marked : List ℕ = rest ++ 0x80 ∷ behind in
+    let lr : length rest ≡ used = omega (arith, ap length er, length-drop (length message / 64 * 64) message) in
+    let lb : length bits ≡ 8 = rw eb refl in
+    let lz : length zeros ≡ fill = length-replicate fill zero in
+    let lh : length behind ≡ 127 - used = length-replicate (127 - used) zero in
+    let more : 128 - used ≡ suc (127 - used) = omega arith in
+    let kept : post_of 0 i blank ≡ 0 ∷ behind = rw ei (drop-replicate used 128 zero ∙ rw more refl) in
+    let set : slice_set (rest ++ post_of 0 i blank) used 0x80 ≡ marked = rw kept (set_at rest 0 behind 0x80 used lr) in
+    let whole : fill + (127 - used - fill) ≡ 127 - used = omega arith in
+    let split : zeros ++ over ≡ behind = replicate-append-replicate fill (127 - used - fill) zero ∙ ap (λ (k : ℕ). replicate k zero) whole in
+    let parts : marked ≡ front ++ over = rw (← split) (sym (append_assoc rest (0x80 ∷ zeros) over)) in
+    let lf : length front ≡ at = omega (arith, length-append rest (0x80 ∷ zeros)) in
+    let lm : length marked ≡ 128 = omega (arith, length-append rest (0x80 ∷ behind)) in
+    let before : take at marked ≡ front = ap (take at) parts ∙ take_at front over at lf in
+    let written : take (64 * count) (put_mid at j marked bits) ≡ front ++ bits =
+    take-put_mid at j marked bits (64 * count) (omega arith) (omega arith) ∙ ap (λ (x : List ℕ). x ++ bits) before in
+    let padded : front ++ bits ≡ drop (length message / 64 * 64) message ++ padding (length message) =
+    append_assoc rest (0x80 ∷ zeros) bits ∙ rw (er, eb) refl in
+    rw set record {
+      size = length-put_mid at j marked bits (omega arith) (omega arith) ∙ lm;
+      padded = rw (← ec) (written ∙ padded);
     }
 
 length-padding : (n : ℕ) → length (padding n) ≡ 9 + (119 - n % 64) % 64

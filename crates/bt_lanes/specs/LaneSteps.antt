@@ -1,5 +1,5 @@
--- Eight messages side by side, as only the private steps of this crate speak of them. A vector has a word of each
--- message: that of message j is in lane j. Section numbers are those of FIPS 180-4.
+-- Eight messages side by side, as only the private steps of this crate speak of them. A vector has a word of
+-- each message: that of message j is in lane j. Sections are those of FIPS 180-4.
 use Rattle.std.specs.Prelude.{◌≡◌, ℕ, ◌*◌, ◌<◌, List, [], ◌∷◌, length, map, slice_index, slice_index_or}
 use Rattle.std.specs.Borrow.{Bor}
 use Rattle.sha2.specs.Sha256.{add32, big_sigma0, big_sigma1, ch, maj, word_at}

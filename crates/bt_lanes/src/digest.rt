@@ -64,21 +64,6 @@ fn digests(values: HashValues) -> [Hash32; 8]
     ]
 }
 
-/// The digests of eight messages of one length.
-pub(crate) fn digest_eight(messages: &[&[u8]; 8], len: usize) -> [Hash32; 8]
-    requires { (j : ℕ) → j < 8 → length (message_at messages.now j) ≡ len }
-    ensures { (j : ℕ) → j < 8 → slice_index_or result j [] ≡ sha256 (message_at messages.now j) }
-{
-    let whole = absorb(initial_values(), messages, len / 64);
-    if len % 64 == 0 {
-        // The padding is a message block of its own, the same for each message.
-        let tail = tail(messages[0]);
-        return digests(absorb(whole, &[&tail[..]; 8], 1));
-    }
-    let tails = tails(messages);
-    digests(absorb(whole, &slices(&tails), tail_block_count(len)))
-}
-
 /// The arrays, as slices.
 #[inline(always)]
 pub(crate) fn slices<const N: usize>(arrays: &[[u8; N]; 8]) -> [&[u8]; 8]
@@ -95,4 +80,19 @@ pub(crate) fn slices<const N: usize>(arrays: &[[u8; N]; 8]) -> [&[u8]; 8]
         &arrays[6][..],
         &arrays[7][..],
     ]
+}
+
+/// The digests of eight messages of one length.
+pub(crate) fn digest_eight(messages: &[&[u8]; 8], len: usize) -> [Hash32; 8]
+    requires { (j : ℕ) → j < 8 → length (message_at messages.now j) ≡ len }
+    ensures { (j : ℕ) → j < 8 → slice_index_or result j [] ≡ sha256 (message_at messages.now j) }
+{
+    let whole = absorb(initial_values(), messages, len / 64);
+    if len % 64 == 0 {
+        // The padding is a message block of its own, the same for each message.
+        let tail = tail(messages[0]);
+        return digests(absorb(whole, &[&tail[..]; 8], 1));
+    }
+    let tails = tails(messages);
+    digests(absorb(whole, &slices(&tails), tail_block_count(len)))
 }

@@ -44,7 +44,8 @@ fn words_at(messages: &[&[u8]; 8], at: usize) -> u32x8
 fn message_blocks_at(messages: &[&[u8]; 8], at: usize) -> MessageBlocks
     requires bounded { at + 64 < 2 ^ 64 }
     requires within { (j : ℕ) → j < 8 → at + 64 ≤ length (message_at messages.now j) }
-    ensures { (j : ℕ) → j < 8 → IsBlockWords (take 64 (drop at (message_at messages.now j))) (lane_of j result) }
+    ensures { (j : ℕ) → j < 8
+        → IsBlockWords (take 64 (drop at (message_at messages.now j))) (lane_of j result) }
 {
     let mut message_blocks = [u32x8::splat(0); 16];
     'words: for k in 0..16 {

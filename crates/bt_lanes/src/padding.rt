@@ -1,4 +1,4 @@
-//! The padding of a message (FIPS 180-4, 5.1.1), behind the bytes of the message that fill no whole message block.
+//! The end of a message: its bytes behind the last whole message block, and its padding (FIPS 180-4, 5.1.1).
 
 ghost use Rattle.std.specs.Prelude.{◌≡◌, ℕ, ◌<◌, [], slice_index_or};
 ghost use Rattle.bt_lanes.specs.LaneSteps.{message_at};

@@ -17,8 +17,9 @@ returns-then-len-eq0 c = λ j lt.
     let one : 1 ≡ tail_block_count (length m) = omega arith in
     let whole = rw (c.initial_values.ensures j lt, len) at (c.absorb-whole.ensures j lt) in
     let tail : IsTail (message_at messages 0) c.tail-tail.result = rw (message_at_is messages 0) c.tail-tail.ensures in
-    let state = c.absorb.ensures j lt ∙ ap (λ (b : List ℕ). hash_after (lane_of_eight j c.absorb-whole.result) b 1) (get_or-replicate 8 j c.tail-tail.result [] lt)
-    ∙ ap (λ (n : ℕ). hash_after (lane_of_eight j c.absorb-whole.result) c.tail-tail.result n) one in
+    let before = lane_of_eight j c.absorb-whole.result in
+    let state = c.absorb.ensures j lt ∙ ap (λ (b : List ℕ). hash_after before b 1) (get_or-replicate 8 j c.tail-tail.result [] lt)
+    ∙ ap (λ (n : ℕ). hash_after before c.tail-tail.result n) one in
     c.digests.ensures j lt
     ∙ ap (λ (h : List ℕ). digest_bytes h 8)
     (final_hash_tail initial_hash_256 m _ _ _ whole (IsTail_same (message_at messages 0) m c.tail-tail.result (omega arith) (omega arith) tail) state)
