@@ -1,0 +1,2 @@
+pub mod LaneSteps
+pub mod PaddingSteps

@@ -1,0 +1,230 @@
+//! Against values from outside, worked examples of FIPS 180-4 and BEP 52 and what another implementation gave, and
+//! against the scalar digest of the kit.
+
+use crate::{Lanes, digest_many};
+use bt_tree::{Geometry, Hash32, LayerError, NodeHash, Plain, RootBuilder, check_layer, pad};
+use std::alloc::{AllocError, Global};
+use std::process::Abort;
+use std::test::Fail;
+
+const EMPTY: &[u8; 64] = b"e3b0c44298fc1c149afbf4c8996fb92427ae41e4649b934ca495991b7852b855";
+
+const ABC: &[u8; 64] = b"ba7816bf8f01cfea414140de5dae2223b00361a396177a9cb410ff61f20015ad";
+
+/// The examples of FIPS 180-4 for SHA-256 of one and of two message blocks.
+const EXAMPLES: [(&[u8], &[u8; 64]); 3] = [
+    (b"", EMPTY),
+    (b"abc", ABC),
+    (
+        b"abcdbcdecdefdefgefghfghighijhijkijkljklmklmnlmnomnopnopq",
+        b"248d6a61d20638b8e5c026930c3e6039a33ce45964ff2167f6ecedd419db06c1",
+    ),
+];
+
+/// The digests of blocks of zeros whose last byte is 0 to 7.
+const LAST_BYTES: [&[u8; 64]; 8] = [
+    b"4fe7b59af6de3b665b67788cc2f99892ab827efae3a467342b3bb4e3bc8e5bfe",
+    b"2ec10327db9d9b0c7030cadc714431e6342affe9adf3b9d5eb2c9d194c61e239",
+    b"448ddd9352253177c47b8f82992afcd64d59e52d0779daa27bec20af11308bc0",
+    b"9deb7acb99edb7a543575bfbb9caf4e54e761355adb646cb0a814b7a0e590c28",
+    b"0ae3a20cfa186d290e4eaee5c729ffd9396f6367d54f9c457dddd653008d1bdf",
+    b"0bc7ffda5ac86abe50bc88a75f2326605b557ffdb837e03c5df4ca29e74c4408",
+    b"6a0b3b8f078e977afa4e1c815fcf0d1fa04e65e00c0da21d8fa70e2db0f7ebfc",
+    b"fc79d189d7d215bc42131a42f2f9706ff47e6238dd5324351040474db238260f",
+];
+
+fn nibble(digit: u8) -> u8 {
+    match digit {
+        b'0'..=b'9' => digit - b'0',
+        b'a'..=b'f' => digit - b'a' + 10,
+        _ => 255,
+    }
+}
+
+fn digest(hex: &[u8; 64]) -> Hash32 {
+    let mut bytes = [0; 32];
+    for i in 0..32usize {
+        bytes[i] = nibble(hex[2 * i]).wrapping_mul(16) | nibble(hex[2 * i + 1]);
+    }
+    bytes
+}
+
+/// The file of a length whose byte i is (7 i + i / 16384) mod 256.
+fn content(alloc: Global, length: u32) -> Result<Vec<u8>, AllocError> {
+    let mut file = Vec::new(alloc);
+    for i in 0..length as u64 {
+        file.push(((7 * i + i / 16384) % 256) as u8)?;
+    }
+    Ok(file)
+}
+
+/// Part of a file.
+fn part(file: &[u8], from: usize, to: usize) -> Result<&[u8], Fail> {
+    Ok(file.get(from..to).ok_or("past the end")?)
+}
+
+/// Each message has the digest that `Plain` gives it.
+fn check_many(rt: &impl Abort, alloc: Global, messages: &[&[u8]]) -> Result<(), Fail> {
+    let mut digests = Vec::new(alloc);
+    for _ in messages {
+        digests.push([0; 32])?;
+    }
+    let out = digests.as_mut_slice();
+    assert!(rt; out.len() == messages.len());
+    digest_many(messages, out);
+    for (i, message) in messages.iter().enumerate() {
+        assert!(rt; i < out.len());
+        assert_eq!(rt;
+            out[i],
+            Plain.block(message),
+            "message {i} of {}",
+            messages.len()
+        );
+    }
+    Ok(())
+}
+
+#[test]
+fn eight_messages_of_each_length(rt: HostRuntime) -> Result<(), Fail> {
+    let file = content(rt.alloc(), 1607)?;
+    for length in 0..=200usize {
+        let mut messages = Vec::new(rt.alloc());
+        for start in 0..8usize {
+            messages.push(part(&file, 201 * start, 201 * start + length)?)?;
+        }
+        check_many(&rt, rt.alloc(), &messages)?;
+    }
+    Ok(())
+}
+
+#[test]
+fn any_count_of_messages(rt: HostRuntime) -> Result<(), Fail> {
+    let file = content(rt.alloc(), 64)?;
+    for count in 0..=17usize {
+        let mut messages = Vec::new(rt.alloc());
+        for start in 0..count {
+            messages.push(part(&file, start, start + 40)?)?;
+        }
+        check_many(&rt, rt.alloc(), &messages)?;
+    }
+    Ok(())
+}
+
+/// In the first eight one length differs, in the second eight none, in the third eight all.
+#[test]
+fn messages_of_several_lengths(rt: HostRuntime) -> Result<(), Fail> {
+    let file = content(rt.alloc(), 300)?;
+    let mut messages = Vec::new(rt.alloc());
+    for length in [
+        64usize, 64, 64, 64, 64, 64, 64, 65, 55, 55, 55, 55, 55, 55, 55, 55, 0, 1, 56, 63, 119,
+        120, 128, 200, 7,
+    ] {
+        let start = messages.len();
+        assert!(rt; start <= 25);
+        messages.push(part(&file, start, start + length)?)?;
+    }
+    check_many(&rt, rt.alloc(), &messages)
+}
+
+#[test]
+fn examples_of_the_standard(rt: HostRuntime) -> Result<(), Fail> {
+    for (message, hex) in EXAMPLES {
+        let mut digests = [[0; 32]; 9];
+        digest_many(&[message; 9], &mut digests);
+        assert_eq!(rt; digests, [digest(hex); 9]);
+        assert_eq!(rt; Lanes.block(message), digest(hex));
+    }
+    let mut one = [[0; 32]];
+    digest_many(&[b""], &mut one);
+    assert_eq!(rt; one, [digest(EMPTY)]);
+    digest_many(&[], &mut []);
+    let letters = vec![in rt.alloc(); b'a'; 1000000]?;
+    let mut million = [[0; 32]; 8];
+    digest_many(&[letters.as_slice(); 8], &mut million);
+    let hex = b"cdc76e5c9914fb9281a1c7e284d73e67f1809a48a497200e046d39ccc7112cd0";
+    assert_eq!(rt; million, [digest(hex); 8]);
+    Ok(())
+}
+
+#[test]
+fn blocks_differ_in_their_last_byte(rt: HostRuntime) -> Result<(), Fail> {
+    let mut blocks = Vec::new(rt.alloc());
+    for i in 0..131072u32 {
+        blocks.push(if i % 16384 == 16383 {
+            (i / 16384) as u8
+        } else {
+            0
+        })?;
+    }
+    let run = blocks.as_slice();
+    assert!(rt; run.len() == 131072);
+    let digests = Lanes.blocks8(run);
+    for j in 0..8usize {
+        assert_eq!(rt; digests[j], digest(LAST_BYTES[j]), "block {j}");
+    }
+    Ok(())
+}
+
+#[test]
+fn pairs_have_each_their_digest(rt: HostRuntime) {
+    let mut pairs = [[0; 64]; 8];
+    for j in 0..8u8 {
+        pairs[j as usize] = [j; 64];
+    }
+    let digests = Lanes.pairs8(&pairs);
+    for j in 0..8u8 {
+        assert_eq!(rt;
+            digests[j as usize],
+            Lanes.pair(&[j; 32], &[j; 32]),
+            "pair {j}"
+        );
+    }
+    let first = digest(b"f5a5fd42d16a20302798ef6ed309979b43003d2320d9f0e8ea9831a92759fb4b");
+    assert_eq!(rt; digests[0], first);
+    assert_eq!(rt; pad(Lanes, 1), first);
+    let second = digest(b"db56114e00fdd4c1f85c892bf35ac9a89289aaecb1ebd0a96cde606a748b5d71");
+    assert_eq!(rt; pad(Lanes, 2), second);
+}
+
+fn root_of(file: &[u8]) -> Result<Hash32, Fail> {
+    let geometry = Geometry::new(file.len() as u64).ok_or("no geometry")?;
+    let mut builder = RootBuilder::new(Lanes, geometry);
+    builder.push(file)?;
+    Ok(builder.finish()?)
+}
+
+/// Layer 2 of a file of 65 blocks, by a builder for each of its nodes.
+fn layer_2(rt: &impl Abort, file: &[u8], geometry: Geometry) -> Result<[u8; 544], Fail> {
+    let mut layer = [0; 544];
+    assert!(rt; 2 <= geometry.height());
+    for (index, piece) in file.chunks(65536).enumerate() {
+        assert!(rt; index < 17 && index < geometry.real(2) as usize);
+        let mut builder = RootBuilder::for_node(Lanes, geometry, 2, index as u32);
+        builder.push(piece)?;
+        layer[32 * index..32 * (index + 1)].copy_from_slice(&builder.finish()?);
+    }
+    Ok(layer)
+}
+
+#[test]
+fn trees_over_lanes(rt: HostRuntime) -> Result<(), Fail> {
+    assert_eq!(rt; root_of(b"abc")?, digest(ABC));
+    let file = content(rt.alloc(), 1048577)?;
+    let root = root_of(&file)?;
+    let known = digest(b"33f4ac8eb36703deb23139e4dc7a7a7b911d108c906e9d197b3cad85455f9763");
+    assert_eq!(rt; root, known);
+    let geometry = Geometry::new(1048577).ok_or("no geometry")?;
+    let mut layer = layer_2(&rt, &file, geometry)?;
+    assert_eq!(rt; check_layer(Lanes, geometry, &root, 2, &layer), Ok(()));
+    let short = part(&layer, 0, 543)?;
+    assert_eq!(rt;
+        check_layer(Lanes, geometry, &root, 2, short),
+        Err(LayerError::Size)
+    );
+    layer[543] ^= 1;
+    assert_eq!(rt;
+        check_layer(Lanes, geometry, &root, 2, &layer),
+        Err(LayerError::Differs)
+    );
+    Ok(())
+}
