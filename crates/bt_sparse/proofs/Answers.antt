@@ -4,7 +4,7 @@ use Rattle.std.proofs.Math.Nat.{pow-suc, div-div-eq-div-mul}
 use Rattle.std.proofs.lemmas.Nat.{pow_pos, div-add-mod', mod_below}
 use Rattle.bt_tree.specs.TreeShape.{IsPadding}
 use Rattle.bt_tree.specs.Tree.{padding_digest}
-use Rattle.bt_tree.specs.Row.{row_node}
+use Rattle.bt_tree.specs.Peaks.{row_node}
 use Rattle.bt_sparse.specs.SparseTree.{Facts, blocks_of, height, held_at, value_at, IsRooted, HasParent}
 use Rattle.bt_sparse.specs.declared.claim.Claim.{Claim}
 use Rattle.bt_sparse.specs.Claim.{Claims, in_run, on_path, uncle, run_height, run_top, run_node, run_digest, path_digest, sibling_of, HasShape}

@@ -3,8 +3,8 @@ use Rattle.std.proofs.Common.{◌≡◌, ℕ, suc, ◌+◌, ◌-◌, ◌*◌, �
 use Rattle.std.proofs.Math.Nat.{pow-suc, div-div-eq-div-mul}
 use Rattle.std.proofs.lemmas.Nat.{pow_pos, div_below}
 use Rattle.std.proofs.lemmas.Bool.{cases_lt}
-use Rattle.bt_tree.specs.Row.{row_node}
-use Rattle.bt_tree.proofs.RowNodes.{row_parent}
+use Rattle.bt_tree.specs.Peaks.{row_node}
+use Rattle.bt_tree.proofs.TreeNodes.{row_parent}
 use Rattle.bt_sparse.specs.declared.claim.Claim.{Claim}
 use Rattle.bt_sparse.specs.Claim.{Claims, in_run, on_path, uncle, run_height, run_top, run_node, run_digest, path_digest, sibling_of, top_layer, top_node, HasShape}
 use Rattle.bt_sparse.proofs.Halves.{parity, half_div, power_split, below_times}

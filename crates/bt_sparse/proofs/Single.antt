@@ -1,6 +1,6 @@
 -- A claim says one digest of a node.
 use Rattle.std.proofs.Common.{◌≡◌, ◌≢◌, ℕ, ◌+◌, ◌-◌, ◌/◌, ◌%◌, ◌^◌, inl, inr, true, false, eqb, List, [], get_or, sym, ap, ◌∙◌, arith}
-use Rattle.bt_tree.specs.Row.{row_node}
+use Rattle.bt_tree.specs.Peaks.{row_node}
 use Rattle.bt_sparse.specs.declared.claim.Claim.{Claim}
 use Rattle.bt_sparse.specs.Claim.{Claims, in_run, on_path, uncle, IsInRun, IsOnPath, IsUncle, run_height, run_node, run_digest, path_digest, sibling_of}
 use Rattle.bt_sparse.proofs.Halves.{parity}

@@ -7,7 +7,7 @@ use Rattle.std.specs.Int.{div_ceil}
 use Rattle.std.proofs.lemmas.Grind.{div_ceil_times}
 use Rattle.bt_tree.specs.TreeShape.{height_of, real_width, IsInside, CoversBlock, IsPadding}
 use Rattle.bt_tree.specs.Tree.{padding_digest}
-use Rattle.bt_tree.proofs.Shapes.{real_lt, real_le, real_some}
+use Rattle.bt_tree.proofs.TreeShape.{real_lt, real_le, real_some}
 use Rattle.std.specs.FinMap as finite
 use Rattle.bt_tree.specs.Blocks.{IsFileLength, block_count}
 use Rattle.bt_sparse.specs.SparseTree.{Facts, blocks_of, height, held_at, value_at, root_facts, IsSound}

@@ -2,7 +2,7 @@
 -- node, the run's top, and uncles, the siblings on the path from that node up.
 use Rattle.std.specs.Prelude.{◌≡◌, ℕ, zero, suc, ◌+◌, ◌-◌, ◌/◌, ◌%◌, ◌^◌, ◌<◌, ◌≤◌, ◌==◌, List, ◌++◌, length, slice_index_or, [], if◌then◌else◌}
 use Rattle.bt_tree.specs.TreeShape.{height_of}
-use Rattle.bt_tree.specs.Row.{row_node}
+use Rattle.bt_tree.specs.Peaks.{row_node}
 use Rattle.bt_sparse.specs.declared.claim.Claim.{Claim}
 
 -- how many layers lie between the run and its top
