@@ -1,6 +1,7 @@
 pub mod Halves
 pub mod Values
 pub mod Claims
+pub mod Expansions
 pub mod Joins
 pub mod Answers
 pub mod Paths

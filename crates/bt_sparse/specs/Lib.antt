@@ -4,3 +4,4 @@ pub mod Claim
 pub mod Acceptance
 pub mod Answer
 pub mod Laws
+pub mod ExpansionSteps

@@ -7,6 +7,7 @@
 #![tactic(auto)]
 
 mod claim;
+mod expansion;
 mod laws;
 mod node_map;
 mod sparse_tree;
