@@ -1,19 +1,19 @@
 -- The pairs of siblings that a claim names.
-use Rattle.std.proofs.Common.{◌≡◌, ℕ, zero, suc, ◌+◌, ◌-◌, ◌*◌, ◌/◌, ◌%◌, ◌^◌, ◌<◌, ◌≤◌, ◌⊎◌, inl, inr, true, false, eqb, cond, List, [], ◌∷◌, ◌++◌, length, get_or, refl, sym, ap, ◌∙◌, subst, add-one, arith}
+use Rattle.std.proofs.Common.{◌≡◌, ℕ, zero, suc, ◌+◌, ◌-◌, ◌*◌, ◌/◌, ◌%◌, ◌^◌, ◌<◌, ◌≤◌, inl, inr, eqb, cond, List, [], ◌∷◌, ◌++◌, length, get_or, refl, sym, ap, ◌∙◌, add-one, arith}
 use Rattle.std.specs.List.{All, Contains}
 use Rattle.std.proofs.Math.Nat.{pow-suc, div-div-eq-div-mul}
-use Rattle.std.proofs.lemmas.Nat.{pow_pos, div_below, div-add-mod'}
+use Rattle.std.proofs.lemmas.Nat.{div-add-mod'}
 use Rattle.std.proofs.lemmas.Bool.{cases_lt}
 use Rattle.std.proofs.lemmas.List.Elements.{All-nil, All-append, All-push, Contains-append_left, Contains-append_right, Contains-push}
-use Rattle.bt_tree.specs.Limits.{max_block_count, max_height}
+use Rattle.bt_tree.specs.Limits.{max_height}
 use Rattle.bt_tree.specs.Peaks.{row_node}
 use Rattle.bt_tree.proofs.TreeNodes.{row_parent}
 use Rattle.bt_tree.proofs.TreeShape.{pow_le}
 use Rattle.bt_sparse.specs.declared.claim.Claim.{Claim}
 use Rattle.bt_sparse.specs.declared.expansion.ClaimedPair.{ClaimedPair}
-use Rattle.bt_sparse.specs.Claim.{Claims, in_run, on_path, uncle, run_height, run_top, run_node, run_digest, path_node, path_digest, parent_digest, sibling_of, top_layer, top_node, HasShape}
+use Rattle.bt_sparse.specs.Claim.{Claims, in_run, on_path, uncle, run_height, run_top, run_node, run_digest, path_node, path_digest, parent_digest, top_layer, HasShape}
 use Rattle.bt_sparse.specs.ExpansionSteps.{run_pairs, path_pair, path_pairs, claimed_pairs, IsUnderRun, IsPairOf}
-use Rattle.bt_sparse.proofs.Halves.{parity, half_div}
+use Rattle.bt_sparse.proofs.Halves.{parity}
 use Rattle.bt_sparse.proofs.Claims.{double_div, at_top, half_sibling}
 
 pub run_pairs_zero : (dig : List ℕ → List ℕ) (c : Claim) (above node : ℕ) → above ≡ 0 → run_pairs dig c above node ≡ []

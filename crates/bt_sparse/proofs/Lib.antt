@@ -2,6 +2,9 @@ pub mod Halves
 pub mod Values
 pub mod Claims
 pub mod Expansions
+pub mod Differences
+pub mod Growths
+pub mod Acceptances
 pub mod Joins
 pub mod Answers
 pub mod Paths

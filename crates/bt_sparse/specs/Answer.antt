@@ -1,7 +1,7 @@
 -- The digests that answer a hash request (BEP 52, the messages "hash request" and "hashes").
 use Rattle.std.specs.Prelude.{◌≡◌, ℕ, ◌+◌, ◌-◌, ◌/◌, ◌%◌, ◌^◌, ◌<◌, ◌≤◌, List, length, take, drop, slice_index_or, [], Some, None, nat_lt, if◌then◌else◌}
 use Rattle.bt_tree.specs.TreeShape.{height_of}
-use Rattle.bt_sparse.specs.SparseTree.{Facts, height, value_at}
+use Rattle.bt_sparse.specs.SparseTree.{Facts, value_at}
 use Rattle.bt_sparse.specs.Claim.{run_top, path_node, sibling_of}
 use Rattle.bt_sparse.specs.declared.claim.Claim.{Claim}
 

@@ -5,3 +5,4 @@ pub mod Acceptance
 pub mod Answer
 pub mod Laws
 pub mod ExpansionSteps
+pub mod AcceptanceSteps

@@ -6,6 +6,7 @@
 //! its digest and its sibling's give its parent's, and so on up to the root.
 #![tactic(auto)]
 
+mod acceptance;
 mod claim;
 mod expansion;
 mod laws;

@@ -1,4 +1,4 @@
-use Rattle.std.proofs.Common.{◌≡◌, ◌++◌, ◌<◌, refl, sym, ap, ◌∙◌, append-nil, append_assoc, arith}
+use Rattle.std.proofs.Common.{◌++◌, sym, ap, ◌∙◌, append-nil, append_assoc, arith}
 use Rattle.bt_sparse.proofs.Expansions.{run_pairs_zero, run_pairs_more, row_node_zero, row_node_more, under_left, under_right}
 use Rattle.bt_sparse.specs.Claim.{run_digest}
 use Rattle.bt_sparse.proofs.expansion.+add_run.Goals as goal

@@ -1,6 +1,4 @@
-use Rattle.std.proofs.Common.{◌≡◌, ◌+◌, ◌/◌, ◌++◌, ◌∷◌, [], get_or, refl, sym, ap, ◌∙◌, append-nil, append_assoc, arith}
-use Rattle.bt_sparse.specs.Claim.{run_top, path_node}
-use Rattle.bt_sparse.specs.ExpansionSteps.{path_pairs}
+use Rattle.std.proofs.Common.{◌/◌, ◌++◌, [], get_or, sym, ap, ◌∙◌, append-nil, append_assoc, arith}
 use Rattle.bt_sparse.proofs.Expansions.{path_step, path_pairs_more, path_pairs_none, path_up}
 use Rattle.bt_sparse.proofs.expansion.add_path.Goals as goal
 

@@ -1,4 +1,4 @@
-use Rattle.std.proofs.Common.{◌≡◌, ◌+◌, ◌-◌, ◌/◌, ◌^◌, length, refl, sym, ap, ◌∙◌, arith}
+use Rattle.std.proofs.Common.{◌≡◌, ◌/◌, ◌^◌, length, sym, ap, ◌∙◌}
 use Rattle.bt_sparse.specs.Claim.{run_height, run_digest}
 use Rattle.bt_tree.specs.TreeShape.{height_of}
 use Rattle.bt_tree.specs.Peaks.{row_node}
