@@ -10,3 +10,4 @@ pub mod Answers
 pub mod Paths
 pub mod Single
 pub mod NodeMaps
+pub mod Requests

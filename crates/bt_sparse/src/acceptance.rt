@@ -26,7 +26,7 @@ struct Difference {
 }
 
 /// The digests of the padding at each layer up to the height of a tree.
-fn padding_digests<H: NodeHash>(hash: H, height: u8) -> [Hash32; 27]
+pub(crate) fn padding_digests<H: NodeHash>(hash: H, height: u8) -> [Hash32; 27]
     requires { height ≤ max_height }
     ensures { (layer : ℕ) → layer ≤ height → slice_index_or result layer [] ≡ padding_digest H.digest layer }
 {

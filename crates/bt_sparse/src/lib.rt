@@ -7,12 +7,14 @@
 #![tactic(auto)]
 
 mod acceptance;
+mod answer;
 mod claim;
 mod expansion;
 mod laws;
 mod node_map;
 mod sparse_tree;
 
+pub use answer::AnswerError;
 pub use claim::{Claim, Digests, ProofError};
 pub use laws::{answers_agree, claims_one, held_is_checked, keeps_rooted};
 pub use sparse_tree::SparseTree;
