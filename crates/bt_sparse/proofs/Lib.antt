@@ -1,0 +1,13 @@
+pub mod Halves
+pub mod Values
+pub mod Claims
+pub mod Expansions
+pub mod Differences
+pub mod Growths
+pub mod Acceptances
+pub mod Joins
+pub mod Answers
+pub mod Paths
+pub mod Single
+pub mod NodeMaps
+pub mod Requests

@@ -1,0 +1,8 @@
+pub mod NodeMap
+pub mod SparseTree
+pub mod Claim
+pub mod Acceptance
+pub mod Answer
+pub mod Laws
+pub mod ExpansionSteps
+pub mod AcceptanceSteps
