@@ -1,6 +1,7 @@
 ghost use Rattle.std.specs.Prelude.{◌≡◌, ◌≢◌, ◌-◌, ◌^◌, ◌≤◌, ◌↔◌, ◌++◌, length, replicate, IsOk};
+ghost use Rattle.bt_tree.specs.Limits.{max_height};
 ghost use Rattle.bt_tree.specs.Blocks.{block_count};
-ghost use Rattle.bt_tree.specs.Layer.{fold_of, IsLayer, HasLayerSize};
+ghost use Rattle.bt_tree.specs.Layers.{fold_of, IsLayer, HasLayerSize};
 
 use crate::node_hash::{Hash32, NodeHash};
 use crate::padding::pad;
@@ -51,9 +52,10 @@ pub fn check_layer<H: NodeHash>(
 
 /// The digest that 2^layers digests fold to pairwise: the given ones, and after them that of the padding.
 fn fold<H: NodeHash>(hash: H, digests: &[Hash32], layers: u8, padding: Hash32) -> Hash32
-    requires high { layers ≤ 26 }
+    requires high { layers ≤ max_height }
     requires within { length digests.now ≤ 2 ^ layers }
-    ensures { result ≡ fold_of H.digest layers (digests.now ++ replicate (2 ^ layers - length digests.now) padding) }
+    ensures { result
+        ≡ fold_of H.digest layers (digests.now ++ replicate (2 ^ layers - length digests.now) padding) }
 {
     let mut peaks = Peaks::new();
     let mut count = 0;

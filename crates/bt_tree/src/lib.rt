@@ -22,7 +22,7 @@ pub use layers::{LayerError, check_layer};
 pub use node_hash::{Hash32, NodeHash, Plain, Weak};
 pub use padding::pad;
 pub use root_builder::{RootBuilder, Shape};
-pub use tree_shape::{BLOCK_LEN, Geometry, piece_layer};
+pub use tree_shape::{BLOCK_LEN, Geometry, is_piece_length, piece_layer};
 
 #[cfg(test)]
 mod tests;

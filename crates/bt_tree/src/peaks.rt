@@ -1,6 +1,7 @@
 ghost use Rattle.std.specs.Prelude.{◌≡◌, ℕ, ◌+◌, ◌^◌, ◌<◌, ◌≤◌, List, length};
 ghost use Rattle.arrayvec.specs.ArrayVec.{array_vec_len};
-ghost use Rattle.bt_tree.specs.Row.{row_node, peaks_of, peak_count};
+ghost use Rattle.bt_tree.specs.Limits.{max_block_count, max_height};
+ghost use Rattle.bt_tree.specs.Peaks.{row_node, peaks_of, peak_count};
 
 use crate::node_hash::{Hash32, NodeHash};
 use arrayvec::ArrayVec;
@@ -11,9 +12,9 @@ pub(crate) type Peaks = ArrayVec<Hash32, 27>;
 
 /// Takes the digest of the row's next node, after the first `count`.
 pub(crate) fn add<H: NodeHash>(hash: H, peaks: &mut Peaks, count: u32, digest: Hash32)
-    requires room { count < 2 ^ 26 }
-    requires size { array_vec_len peaks.old ≡ peak_count 26 count }
-    ensures size { array_vec_len peaks.new ≡ peak_count 26 (count + 1) }
+    requires room { count < max_block_count }
+    requires size { array_vec_len peaks.old ≡ peak_count max_height count }
+    ensures size { array_vec_len peaks.new ≡ peak_count max_height (count + 1) }
     ensures peaks { (row : ℕ → List ℕ) → peaks.old.items ≡ peaks_of H.digest row count → digest ≡ row count
         → peaks.new.items ≡ peaks_of H.digest row (count + 1) }
 {
@@ -39,9 +40,9 @@ pub(crate) fn close<H: NodeHash>(
     layers: u8,
     padding: Hash32,
 ) -> Hash32
-    requires high { layers ≤ 26 }
+    requires high { layers ≤ max_height }
     requires within { count ≤ 2 ^ layers }
-    requires size { length peaks.now ≡ peak_count 26 count }
+    requires size { length peaks.now ≡ peak_count max_height count }
     ensures { (row : ℕ → List ℕ) → peaks.now ≡ peaks_of H.digest row count
         → ((i : ℕ) → count ≤ i → i < 2 ^ layers → row i ≡ padding) → result ≡ row_node H.digest row layers 0 }
 {

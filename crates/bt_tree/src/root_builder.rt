@@ -1,10 +1,11 @@
 ghost use Rattle.std.specs.Prelude.{◌≡◌, ℕ, ◌+◌, ◌-◌, ◌*◌, ◌^◌, ◌<◌, ◌≤◌, ◌↔◌, List, [], length, IsTrue, IsOk, IfOk, OnOk, OnErr};
 ghost use Rattle.arrayvec.specs.ArrayVec.{array_vec_len};
+ghost use Rattle.bt_tree.specs.Limits.{full_block_length, max_block_count, max_height};
 ghost use Rattle.bt_tree.specs.Blocks.{block_count, HasRun};
 ghost use Rattle.bt_tree.specs.TreeShape.{height_of, CoversBlock};
 ghost use Rattle.bt_tree.specs.Tree.{node_digest};
-ghost use Rattle.bt_tree.specs.Row.{peaks_of, peak_count};
-ghost use Rattle.bt_tree.specs.Building.{Building, BuildsFrom, IsNextRun, TakesBlocks, IsAsFar, IsComplete, IsBlocksOf, next_block};
+ghost use Rattle.bt_tree.specs.Peaks.{peak_count};
+ghost use Rattle.bt_tree.specs.RootBuilder.{BuilderState, BuildsFrom, IsNextRun, TakesBlocks, IsAsFar, IsComplete, IsBlocksOf, next_block, initial_state, file_peaks};
 
 use crate::node_hash::{Hash32, NodeHash};
 use crate::peaks::{self, Peaks};
@@ -34,19 +35,19 @@ pub struct RootBuilder<H: NodeHash> {
 }
 
 impl<H: NodeHash> Model for RootBuilder<H> {
-    ghost use Rattle.bt_tree.specs.Building.{Building, IsSound};
+    ghost use Rattle.bt_tree.specs.RootBuilder.{BuilderState, IsSound, state_of};
 
-    ghost Value = { Building };
+    ghost Value = { BuilderState };
 
-    ghost view = { λ b. record { file_length = b.geometry; layer = b.layer; index = b.index; count = b.count; peaks = b.peaks.items } };
+    ghost view = { λ b. state_of b.geometry b.layer b.index b.count b.peaks.items };
 
-    ghost invariant = { λ b. IsSound (record { file_length = b.geometry; layer = b.layer; index = b.index; count = b.count; peaks = b.peaks.items }) b.blocks };
+    ghost invariant = { λ b. IsSound (state_of b.geometry b.layer b.index b.count b.peaks.items) b.blocks };
 }
 
 impl<H: NodeHash> RootBuilder<H> {
     /// A builder of the root of a file's tree.
     pub fn new(hash: H, geometry: Geometry) -> Self
-        ensures place { result ≡ record { file_length = geometry; layer = height_of (block_count geometry); index = 0; count = 0; peaks = [] } }
+        ensures state { result ≡ initial_state geometry (height_of (block_count geometry)) 0 }
         ensures from { (file : List ℕ) → length file ≡ geometry → BuildsFrom H.digest result file }
     {
         RootBuilder::for_node(hash, geometry, geometry.height(), 0)
@@ -56,7 +57,7 @@ impl<H: NodeHash> RootBuilder<H> {
     /// the index is below `real(layer)`.
     pub fn for_node(hash: H, geometry: Geometry, layer: u8, index: u32) -> Self
         requires { CoversBlock (block_count geometry) layer index }
-        ensures place { result ≡ record { file_length = geometry; layer = layer; index = index; count = 0; peaks = [] } }
+        ensures state { result ≡ initial_state geometry layer index }
         ensures from { (file : List ℕ) → length file ≡ geometry → BuildsFrom H.digest result file }
     {
         let from_first = geometry.blocks() - (index << layer);
@@ -78,12 +79,13 @@ impl<H: NodeHash> RootBuilder<H> {
     /// builder ends up the same.
     pub fn push(&mut self, run: &[u8]) -> Result<(), Shape>
         ensures variant { IsOk result ↔ IsNextRun self.old (length run.now) }
-        ensures place { OnOk result (TakesBlocks self.old self.new (block_count (length run.now))) }
+        ensures state { OnOk result (TakesBlocks self.old self.new (block_count (length run.now))) }
         ensures from { OnOk result ((file : List ℕ) → BuildsFrom H.digest self.old file
-            → HasRun file (16384 * next_block self.old) run.now → BuildsFrom H.digest self.new file) }
+            → HasRun file (full_block_length * next_block self.old) run.now
+            → BuildsFrom H.digest self.new file) }
 
         // However the bytes were cut into runs, a builder that took as many blocks of the same file is the same.
-        ensures cut { OnOk result ((file : List ℕ) (other : Building) → BuildsFrom H.digest self.new file
+        ensures cut { OnOk result ((file : List ℕ) (other : BuilderState) → BuildsFrom H.digest self.new file
             → BuildsFrom H.digest other file → IsAsFar other self.new → other ≡ self.new) }
         ensures err { OnErr result (self.new ≡ self.old) }
     {
@@ -128,13 +130,13 @@ impl<H: NodeHash> RootBuilder<H> {
 
 /// Takes the blocks of a run, after the first `count`.
 fn push_blocks<H: NodeHash>(hash: H, peaks: &mut Peaks, count: u32, run: &[u8])
-    requires room { count + block_count (length run.now) ≤ 2 ^ 26 }
-    requires size { array_vec_len peaks.old ≡ peak_count 26 count }
-    ensures size { array_vec_len peaks.new ≡ peak_count 26 (count + block_count (length run.now)) }
+    requires room { count + block_count (length run.now) ≤ max_block_count }
+    requires size { array_vec_len peaks.old ≡ peak_count max_height count }
+    ensures size { array_vec_len peaks.new ≡ peak_count max_height (count + block_count (length run.now)) }
     ensures peaks { (file : List ℕ) (first : ℕ)
-        → peaks.old.items ≡ peaks_of H.digest (λ i. node_digest H.digest file 0 (first + i)) count
+        → peaks.old.items ≡ file_peaks H.digest file first count
         → IsBlocksOf file (first + count) run.now
-        → peaks.new.items ≡ peaks_of H.digest (λ i. node_digest H.digest file 0 (first + i)) (count + block_count (length run.now)) }
+        → peaks.new.items ≡ file_peaks H.digest file first (count + block_count (length run.now)) }
 {
     let mut count = count;
     let mut rest = run;

@@ -1,9 +1,9 @@
 use Rattle.std.proofs.Common.{◌≡◌, ℕ, ◌-◌, ◌^◌, ◌++◌, [], length, get_or, replicate, arith, ap, refl, sym, ◌∙◌}
 use Rattle.std.proofs.lemmas.List.{get_or_append_left, get_or-append_right, get_or-replicate}
-use Rattle.bt_tree.specs.Row.{row_node}
-use Rattle.bt_tree.proofs.Shapes.{pow_le}
-use Rattle.bt_tree.proofs.RowNodes.{fold_is}
-use Rattle.bt_tree.proofs.PeakLists.{peaks_none, peak_count_none}
+use Rattle.bt_tree.specs.Peaks.{row_node}
+use Rattle.bt_tree.proofs.TreeShape.{pow_le}
+use Rattle.bt_tree.proofs.TreeNodes.{fold_is}
+use Rattle.bt_tree.proofs.PeaksList.{peaks_none, peak_count_none}
 use Rattle.bt_tree.proofs.layers.fold.Goals as goal
 
 pub loop-digest-init : goal.loop-digest-init

@@ -1,6 +1,6 @@
 use Rattle.std.proofs.Common.{◌≡◌, ℕ, List}
 use Rattle.arrayvec.specs.ArrayVec.{array_vec_len}
-use Rattle.bt_tree.specs.Row.{peaks_of, peak_count}
+use Rattle.bt_tree.specs.Peaks.{peaks_of, peak_count}
 use Rattle.bt_tree.proofs.layers.fold.Given as goal
 use Rattle.std.proofs.Common.{◌<◌, get_or, []}
 

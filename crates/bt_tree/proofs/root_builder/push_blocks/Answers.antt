@@ -1,8 +1,8 @@
 use Rattle.std.proofs.lemmas.Grind.{common_steps}
 use Rattle.std.proofs.Common.{rules, ◌≡◌, ℕ, ◌+◌, ◌<◌, length, arith, ap, sym, ◌∙◌}
 use Rattle.bt_tree.specs.Tree.{node_digest}
-use Rattle.bt_tree.proofs.RowNodes.{leaf_is}
-use Rattle.bt_tree.proofs.Runs.{first_of_run}
+use Rattle.bt_tree.proofs.TreeNodes.{leaf_is}
+use Rattle.bt_tree.proofs.BuilderRuns.{first_of_run}
 use Rattle.bt_tree.proofs.root_builder.push_blocks.Goals as goal
 
 pub loop-rest-preserved : goal.loop-rest-preserved

@@ -2,8 +2,8 @@ use Rattle.std.proofs.Common.{◌≡◌, ℕ, ◌+◌, length}
 use Rattle.arrayvec.specs.ArrayVec.{array_vec_len}
 use Rattle.bt_tree.specs.Blocks.{block_count}
 use Rattle.bt_tree.specs.Tree.{node_digest}
-use Rattle.bt_tree.specs.Row.{peaks_of, peak_count}
-use Rattle.bt_tree.specs.Building.{IsBlocksOf}
+use Rattle.bt_tree.specs.Peaks.{peaks_of, peak_count}
+use Rattle.bt_tree.specs.RootBuilder.{IsBlocksOf}
 use Rattle.bt_tree.proofs.root_builder.push_blocks.Given as goal
 use Rattle.std.proofs.Common.{List}
 

@@ -3,7 +3,7 @@ use Rattle.std.proofs.Common.{◌≡◌, ℕ, ◌+◌, ◌-◌, ◌*◌, ◌<◌
 use Rattle.std.proofs.lemmas.Bool.{cases_lt}
 use Rattle.std.proofs.lemmas.List.{take-take, drop-take, drop-drop, take_all, drop_all, length-take}
 use Rattle.bt_tree.specs.Blocks.{block_count, block_at, HasRun}
-use Rattle.bt_tree.specs.Building.{IsBlocksOf}
+use Rattle.bt_tree.specs.RootBuilder.{IsBlocksOf}
 
 -- the run lies within the file
 pub run_within : (file run : List ℕ) (start : ℕ) → HasRun file start run → 0 < length run → start + length run ≤ length file
