@@ -12,4 +12,4 @@ returns c =
     let third = one_more _ c.put-3.new.bytes _ _ (to_be_bytes w32 key.index) 36 40 c.to_be_bytes-2.ensures refl c.put-3.ensures second in
     let fourth = one_more _ c.put-4.new.bytes _ _ (to_be_bytes w32 key.length) 40 44 c.to_be_bytes-3.ensures refl c.put-4.ensures third in
     all_of _ _ 48 c.put-5.array_long
-      (one_more _ c.put-5.new.bytes _ _ (to_be_bytes w32 key.layers) 44 48 c.to_be_bytes-4.ensures refl c.put-5.ensures fourth)
+    (one_more _ c.put-5.new.bytes _ _ (to_be_bytes w32 key.layers) 44 48 c.to_be_bytes-4.ensures refl c.put-5.ensures fourth)
