@@ -1,2 +1,8 @@
 -- keys
 pub mod KeySpelling
+
+-- claims
+pub mod ClaimRun
+
+-- requests
+pub mod RequestAnchor
