@@ -1,8 +1,8 @@
 -- The height of a run, by the logarithm of its length; and why a key's digests are no claim.
-use Rattle.std.proofs.Common.{◌≡◌, ◌≢◌, ℕ, suc, ◌+◌, ◌*◌, ◌/◌, ◌^◌, ◌<◌, ◌≤◌, List, length, inl, inr, ap, sym, ◌∙◌, arith}
+use Rattle.std.proofs.Common.{◌≡◌, ◌≢◌, ℕ, suc, ◌*◌, ◌^◌, ◌<◌, ◌≤◌, inl, inr, ap, sym, ◌∙◌, arith}
 use Rattle.std.proofs.Math.Nat.{pow-suc}
 use Rattle.std.proofs.lemmas.Bool.{cases_lt}
-use Rattle.bt_tree.specs.TreeShape.{height_of, IsHeight}
+use Rattle.bt_tree.specs.TreeShape.{height_of}
 use Rattle.bt_tree.proofs.TreeShape.{height_is, same_height, le_from_pow, pow_le}
 use Rattle.bt_hashreq.specs.Claim.{IsRunLength}
 

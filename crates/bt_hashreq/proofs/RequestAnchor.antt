@@ -5,7 +5,7 @@ use Rattle.std.proofs.Math.Nat.{div-lt_iff_lt-mul, div-mul-le_self, mul-le-mul_r
 use Rattle.std.proofs.lemmas.Nat.{pow_pos, pow-add}
 use Rattle.std.proofs.lemmas.Bool.{cases_lt}
 use Rattle.std.proofs.lemmas.Grind.{div_ceil_times}
-use Rattle.bt_tree.specs.TreeShape.{height_of, real_width, IsInside, CoversBlock}
+use Rattle.bt_tree.specs.TreeShape.{height_of, CoversBlock}
 use Rattle.bt_tree.proofs.TreeShape.{height_is}
 use Rattle.bt_sparse.specs.SparseTree.{Facts, blocks_of, height, held_at, value_at, IsRooted}
 use Rattle.bt_sparse.proofs.Values.{value_covers}

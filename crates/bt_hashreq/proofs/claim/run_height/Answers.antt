@@ -1,4 +1,4 @@
-use Rattle.std.proofs.Common.{◌≡◌, ◌^◌, refl, ◌∙◌, sym, rules}
+use Rattle.std.proofs.Common.{refl, sym, rules}
 use Rattle.bt_hashreq.proofs.ClaimRun.{height_of-pow, run_length, no_power}
 use Rattle.bt_hashreq.proofs.claim.run_height.Goals as goal
 

@@ -1,4 +1,4 @@
-use Rattle.std.proofs.Common.{◌≡◌, ◌*◌, ap, refl, ◌∙◌}
+use Rattle.std.proofs.Common.{◌*◌, ap, refl, ◌∙◌}
 use Rattle.std.proofs.lemmas.Result.{err_from_is_err_and}
 use Rattle.bt_hashreq.specs.Claim.{shape, count, no_memory}
 use Rattle.bt_hashreq.proofs.claim.to_claim.Goals as goal
