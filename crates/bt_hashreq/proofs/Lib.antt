@@ -1,0 +1,6 @@
+-- keys
+pub mod KeySpelling
+-- claims
+pub mod ClaimRun
+-- requests
+pub mod RequestAnchor

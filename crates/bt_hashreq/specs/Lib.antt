@@ -1,0 +1,3 @@
+pub mod Key
+pub mod Claim
+pub mod Request

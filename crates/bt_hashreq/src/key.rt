@@ -1,0 +1,73 @@
+ghost use Rattle.std.specs.Prelude.{◌≡◌, ◌+◌, ◌≤◌, ◌↔◌, ◌++◌, length, take, drop, IsSome, IfSome};
+ghost use Rattle.std.specs.Int.{w32, to_be_bytes};
+ghost use Rattle.bt_hashreq.specs.Key.{key_length, key_spelling};
+
+use bt_tree::Hash32;
+
+/// How many bytes a key has in a message (BEP 52).
+pub const KEY_LEN: usize = 48;
+
+/// Which digests of a file's tree a hash message speaks of (BEP 52, "hash request").
+#[derive(Clone, Copy, Debug, PartialEq, Eq)]
+pub struct HashKey {
+    /// The file's pieces root.
+    pub root: Hash32,
+    /// The layer of the run, counted from the leaves at 0.
+    pub base: u32,
+    /// The index of the run's first node in its layer.
+    pub index: u32,
+    /// How many nodes the run has.
+    pub length: u32,
+    /// How many layers above the base may have an uncle.
+    pub layers: u32,
+}
+
+/// The key that 48 bytes spell: the root, and then base, index, length and layers in 4 bytes each, the high byte first.
+/// None for any other number of bytes.
+pub fn read_key(bytes: &[u8]) -> Option<HashKey>
+    ensures some { IsSome result ↔ (length bytes.now ≡ key_length) }
+    ensures key { IfSome result (λ key. key_spelling key ≡ bytes.now) }
+{
+    if bytes.len() != KEY_LEN {
+        return None;
+    }
+    let (front, numbers) = bytes.split_at(32);
+    let mut root = [0; 32];
+    root.copy_from_slice(front);
+    Some(HashKey {
+        root,
+        base: number_at(numbers, 0),
+        index: number_at(numbers, 4),
+        length: number_at(numbers, 8),
+        layers: number_at(numbers, 12),
+    })
+}
+
+/// The bytes that spell a key, as `read_key` reads them.
+pub fn write_key(key: &HashKey) -> [u8; KEY_LEN]
+    ensures { result ≡ key_spelling key.now }
+{
+    let mut bytes = [0; KEY_LEN];
+    put(&mut bytes, 0, &key.root);
+    put(&mut bytes, 32, &key.base.to_be_bytes());
+    put(&mut bytes, 36, &key.index.to_be_bytes());
+    put(&mut bytes, 40, &key.length.to_be_bytes());
+    put(&mut bytes, 44, &key.layers.to_be_bytes());
+    bytes
+}
+
+/// Writes a run behind the first `at` bytes.
+fn put(bytes: &mut [u8; KEY_LEN], at: usize, run: &[u8])
+    requires { at + length run.now ≤ key_length }
+    ensures { take (at + length run.now) bytes.new ≡ take at bytes.old ++ run.now }
+{
+    bytes[at..at + run.len()].copy_from_slice(run);
+}
+
+/// The number that the four bytes from `at` on spell, the high byte first.
+fn number_at(bytes: &[u8], at: usize) -> u32
+    requires { at + 4 ≤ length bytes.now }
+    ensures { to_be_bytes w32 result ≡ take 4 (drop at bytes.now) }
+{
+    u32::from_be_bytes([bytes[at], bytes[at + 1], bytes[at + 2], bytes[at + 3]])
+}

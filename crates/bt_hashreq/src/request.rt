@@ -1,0 +1,44 @@
+ghost use Rattle.std.specs.Prelude.{◌≡◌, ◌<◌, ◌↔◌, IsSome, IsNone, IfSome};
+ghost use Rattle.bt_sparse.specs.SparseTree.{held_at, blocks_of};
+ghost use Rattle.bt_hashreq.specs.Request.{IsPlan, IsAnchor};
+
+use crate::key::HashKey;
+use bt_sparse::SparseTree;
+use bt_tree::NodeHash;
+
+/// The height of the longest run that a key may name.
+const MAX_RUN_HEIGHT: u32 = 9;
+
+/// The key to ask a peer for, so that a leaf is known: the run of leaves around it below the nearest node that is held,
+/// 512 at most, with the uncles up to that node. None where the leaf is known. The leaf is that of a block.
+pub fn plan<H: NodeHash>(tree: &SparseTree<H>, leaf: u32) -> Option<HashKey>
+    requires { leaf < blocks_of tree.now }
+    ensures none { IsNone result ↔ IsSome (held_at tree.now 0 leaf) }
+    ensures plan { IfSome result (IsPlan tree.now leaf) }
+{
+    let anchor = anchor_of(tree, leaf);
+    if anchor == 0 {
+        return None;
+    }
+    let height = anchor.min(MAX_RUN_HEIGHT);
+    Some(HashKey {
+        root: tree.root(),
+        base: 0,
+        index: (leaf >> height) << height,
+        length: 1 << height,
+        layers: anchor - 1,
+    })
+}
+
+/// The layer of the nearest node above a leaf that is held, 0 for the leaf itself.
+fn anchor_of<H: NodeHash>(tree: &SparseTree<H>, leaf: u32) -> u32
+    requires { leaf < blocks_of tree.now }
+    ensures { IsAnchor tree.now leaf result }
+{
+    for layer in 0..tree.geometry().height() as u32 {
+        if tree.known(layer, leaf >> layer).is_some() {
+            return layer;
+        }
+    }
+    tree.geometry().height() as u32
+}
