@@ -1,0 +1,4 @@
+pub mod Limits
+pub mod State
+pub mod History
+pub mod Calls
