@@ -49,6 +49,13 @@ AfterWriteFault at (byte ∷ bytes) old new =
 abbrev pub AfterResizeFault : ℕ → History → History → Type 0
 AfterResizeFault len old new = (new ≡ old) ⊎ ((s : State) × IsTornResize len old.now s × (new ≡ then old s))
 
+-- the history after a call that leaves no choice: a failed one changes nothing
+abbrev pub after_call : History → Call → History
+after_call h (bytes_written at bytes) = after_write h at bytes
+after_call h (length_set len) = after_set_len h len
+after_call h sync_made = after_sync h
+after_call h _ = h
+
 -- An honest device answers the call so, and leads from the one history to the other. A read gives as many of the
 -- bytes wanted as there are.
 abbrev pub IsAnswered : History → Call → History → Type 0

@@ -2,3 +2,6 @@ pub mod Limits
 pub mod State
 pub mod History
 pub mod Calls
+pub mod MemoryDisk
+pub mod RecordSteps
+pub mod ReadsImage

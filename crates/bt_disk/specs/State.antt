@@ -42,7 +42,7 @@ write_state s at more = record {
   bytes = written s.bytes at more;
   ranges = s.ranges ++ (at, length more) ∷ [];
   least_length = s.least_length;
-  greatest_length = max s.greatest_length (at + length more)
+  greatest_length = max s.greatest_length (at + length more);
 }
 
 abbrev pub resize_state : State → ℕ → State
@@ -50,7 +50,7 @@ resize_state s len = record {
   bytes = resized s.bytes len;
   ranges = s.ranges;
   least_length = min s.least_length len;
-  greatest_length = max s.greatest_length len
+  greatest_length = max s.greatest_length len;
 }
 
 -- after a write of one or more bytes that failed: at most its range and a gap before it changed

@@ -1,6 +1,6 @@
 //! What every device promises.
 ghost use Rattle.std.specs.Prelude.{◌≡◌, ℕ, ◌↔◌, ◌≤◌, IfOk, length};
-ghost use Rattle.bt_disk.specs.Limits.{count_after};
+ghost use Rattle.bt_disk.specs.Limits.{count_after, one_more};
 ghost use Rattle.bt_disk.specs.State.{IsImage};
 ghost use Rattle.bt_disk.specs.History.{History};
 ghost use Rattle.bt_disk.specs.Calls.{IsAnswered, len_call, read_call, write_call, set_len_call, sync_call};
@@ -63,4 +63,12 @@ pub trait Disk {
 
     /// What a read gives is one of the images that a crash now may leave.
     ghost reads_image: { (disk : Self) → honest disk → IsImage (history disk).now (history disk).now.bytes };
+}
+
+/// Counts a call that failed, and gives its error.
+pub(crate) fn counted_fault(failed: &mut u64) -> DeviceFault
+    ensures { failed.new ≡ one_more failed.old }
+{
+    *failed = failed.saturating_add(1);
+    DeviceFault
 }

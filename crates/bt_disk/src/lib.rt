@@ -2,5 +2,10 @@
 #![tactic(auto)]
 
 mod disk;
+mod loss;
+mod medium;
+mod memory_disk;
 
 pub use disk::{DeviceFault, Disk};
+pub use loss::Loss;
+pub use memory_disk::MemoryDisk;
