@@ -1,5 +1,5 @@
 //! A device in memory.
-ghost use Rattle.std.specs.Prelude.{◌≡◌, ◌++◌, ◌∷◌, ◌↔◌, ◌≤◌, [], IfOk, drop, length};
+ghost use Rattle.std.specs.Prelude.{◌≡◌, ◌++◌, ◌∷◌, ◌↔◌, ◌≤◌, [], IfOk, IsOk, OnErr, drop, length};
 ghost use Rattle.bt_disk.specs.State.{IsImage};
 
 use crate::disk::{DeviceFault, Disk, counted_fault};
@@ -59,6 +59,8 @@ impl MemoryDisk {
 
 impl Disk for MemoryDisk {
     ghost use Rattle.std.specs.Prelude.{⊤};
+    ghost use Rattle.bt_disk.specs.Limits.{count_after};
+    ghost use Rattle.bt_disk.specs.Calls.{IsAnswered, len_call, read_call, write_call, set_len_call, sync_call};
     ghost use Rattle.bt_disk.specs.MemoryDisk.{history_of};
     ghost use Rattle.bt_disk.specs.ReadsImage.{reads_image};
 
@@ -70,18 +72,36 @@ impl Disk for MemoryDisk {
 
     ghost reads_image = { λ d _. reads_image d.kept };
 
-    fn len(&mut self) -> Result<u64, DeviceFault> {
+    fn len(&mut self) -> Result<u64, DeviceFault>
+        ensures ok { IsOk result }
+        ensures same { self.new ≡ self.old }
+        ensures counted { self.new.failed ≡ count_after self.old.failed result }
+        ensures as_honest { ⊤ ↔ ⊤ }
+        ensures answered { ⊤ → IsAnswered (history_of self.old.kept) (len_call result) (history_of self.new.kept) }
+    {
         Ok(self.medium.bytes().len() as u64)
     }
 
-    fn read_at(&mut self, at: u64, out: &mut [u8]) -> Result<usize, DeviceFault> {
+    fn read_at(&mut self, at: u64, out: &mut [u8]) -> Result<usize, DeviceFault>
+        ensures ok { IsOk result }
+        ensures same { self.new ≡ self.old }
+        ensures within { IfOk result (λ count. count ≤ length out.new) }
+        ensures counted { self.new.failed ≡ count_after self.old.failed result }
+        ensures as_honest { ⊤ ↔ ⊤ }
+        ensures answered { ⊤ → IsAnswered (history_of self.old.kept) (read_call at out.new result) (history_of self.new.kept) }
+    {
         let rest = bytes_from(self.medium.bytes(), at);
         let count = rest.len().min(out.len());
         out[..count].copy_from_slice(&rest[..count]);
         Ok(count)
     }
 
-    fn write_at(&mut self, at: u64, bytes: &[u8]) -> Result<(), DeviceFault> {
+    fn write_at(&mut self, at: u64, bytes: &[u8]) -> Result<(), DeviceFault>
+        ensures err { OnErr result (self.new.kept ≡ self.old.kept) }
+        ensures counted { self.new.failed ≡ count_after self.old.failed result }
+        ensures as_honest { ⊤ ↔ ⊤ }
+        ensures answered { ⊤ → IsAnswered (history_of self.old.kept) (write_call at bytes.now result) (history_of self.new.kept) }
+    {
         if bytes.is_empty() {
             return Ok(());
         }
@@ -91,14 +111,24 @@ impl Disk for MemoryDisk {
         }
     }
 
-    fn set_len(&mut self, len: u64) -> Result<(), DeviceFault> {
+    fn set_len(&mut self, len: u64) -> Result<(), DeviceFault>
+        ensures err { OnErr result (self.new.kept ≡ self.old.kept) }
+        ensures counted { self.new.failed ≡ count_after self.old.failed result }
+        ensures as_honest { ⊤ ↔ ⊤ }
+        ensures answered { ⊤ → IsAnswered (history_of self.old.kept) (set_len_call len result) (history_of self.new.kept) }
+    {
         match self.medium.set_len(len) {
             Ok(()) => Ok(()),
             Err(_) => Err(counted_fault(&mut self.failed)),
         }
     }
 
-    fn sync(&mut self) -> Result<(), DeviceFault> {
+    fn sync(&mut self) -> Result<(), DeviceFault>
+        ensures err { OnErr result (self.new.kept ≡ self.old.kept) }
+        ensures counted { self.new.failed ≡ count_after self.old.failed result }
+        ensures as_honest { ⊤ ↔ ⊤ }
+        ensures answered { ⊤ → IsAnswered (history_of self.old.kept) (sync_call result) (history_of self.new.kept) }
+    {
         match self.medium.sync() {
             Ok(()) => Ok(()),
             Err(_) => Err(counted_fault(&mut self.failed)),
