@@ -5,3 +5,4 @@ pub mod Calls
 pub mod MemoryDisk
 pub mod RecordSteps
 pub mod ReadsImage
+pub mod FaultDisk

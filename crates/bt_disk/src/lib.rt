@@ -2,10 +2,12 @@
 #![tactic(auto)]
 
 mod disk;
+mod fault_disk;
 mod loss;
 mod medium;
 mod memory_disk;
 
 pub use disk::{DeviceFault, Disk};
+pub use fault_disk::FaultDisk;
 pub use loss::Loss;
 pub use memory_disk::MemoryDisk;
