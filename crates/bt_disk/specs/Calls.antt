@@ -1,5 +1,5 @@
 -- Calls of a device, each with its answer, and what an honest device makes of them.
-use Rattle.std.specs.Prelude.{◌≡◌, ℕ, ◌+◌, ◌<◌, ◌≤◌, ◌⊎◌, ◌↔◌, List, [], ◌∷◌, length, take, drop, Result, Ok, Err, All, ⊤}
+use Rattle.std.specs.Prelude.{◌≡◌, ℕ, ◌+◌, ◌<◌, ◌≤◌, ◌⊎◌, ◌↔◌, List, [], ◌∷◌, length, take, drop, Result, Ok, Err, ⊤}
 use Rattle.bt_disk.specs.Limits.{one_more}
 use Rattle.bt_disk.specs.State.{State, IsTornWrite, IsTornResize}
 use Rattle.bt_disk.specs.History.{History, then, after_write, after_set_len, after_sync}

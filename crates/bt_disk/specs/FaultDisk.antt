@@ -1,7 +1,7 @@
 -- A device that fails calls, or alters what it reads, where it is told to. Calls are counted from 1, from its making.
-use Rattle.std.specs.Prelude.{◌≡◌, ℕ, ◌+◌, ◌-◌, Bool, false, ◌&&◌, ◌||◌, if◌then◌else◌, nat_eq, nat_le, nat_lt, bit_xor, Option, Some, None, List, [], ◌∷◌, length, slice_index, slice_set, Result}
+use Rattle.std.specs.Prelude.{◌≡◌, ℕ, ◌+◌, ◌-◌, Bool, false, ◌&&◌, ◌||◌, if◌then◌else◌, nat_eq, nat_le, nat_lt, min, bit_xor, Option, Some, None, List, [], ◌∷◌, length, slice_index, slice_set}
 use Rattle.std.specs.Option.{option_map_or}
-use Rattle.bt_disk.specs.Limits.{one_more}
+use Rattle.bt_disk.specs.Limits.{max_count, one_more}
 use Rattle.bt_disk.specs.History.{History}
 use Rattle.bt_disk.specs.Calls.{Call, HasCalls}
 
@@ -17,6 +17,14 @@ pub record FaultView (D : Type 0) : Type 0 where
 
 abbrev pub new_fault_disk : {D : Type 0} → D → FaultView D
 new_fault_disk inner = record { inner = inner; calls = 0; failing_once = None; failing_from = None; flipping = None; failed = 0 }
+
+-- how many calls failed, by a setting or inside
+abbrev pub fault_count : {D : Type 0} → (D → ℕ) → FaultView D → ℕ
+fault_count faults disk = min max_count (disk.failed + faults disk.inner)
+
+-- honest is what has an honest device inside and no flip
+abbrev pub IsHonest : {D : Type 0} → (D → Type 0) → FaultView D → Type 0
+IsHonest honest disk = honest disk.inner × (disk.flipping ≡ None)
 
 -- the number of the call that comes next
 abbrev pub next_call : {D : Type 0} → FaultView D → ℕ

@@ -102,26 +102,51 @@ impl<D: Disk + Drop> FaultDisk<D> {
 }
 
 impl<D: Disk + Drop> Disk for FaultDisk<D> {
-    ghost use Rattle.std.specs.Prelude.{◌≡◌, ◌+◌, ◌↔◌, ◌≤◌, ℕ, List, length, take, min, None, IsErr, IfOk};
+    ghost use Rattle.std.specs.Prelude.{◌≡◌, ◌↔◌, ◌≤◌, ℕ, List, length, take, IsErr, IfOk};
     ghost use Rattle.std.specs.Bool.{OnTrue, OnFalse};
-    ghost use Rattle.bt_disk.specs.Limits.{max_count};
+    ghost use Rattle.bt_disk.specs.Limits.{count_after};
+    ghost use Rattle.bt_disk.specs.Calls.{IsAnswered, len_call, read_call, write_call, set_len_call, sync_call};
+    ghost use Rattle.bt_disk.specs.FaultDisk.{fault_count, IsHonest, next_call, fails_next, after_failure, PassesOn, flipped};
 
     ghost history = { λ d. D.history d.inner };
 
-    ghost honest = { λ d. D.honest d.inner × (d.flipping ≡ None) };
+    ghost honest = { λ d. IsHonest D.honest d };
 
-    ghost faults = { λ d. min max_count (d.failed + D.faults d.inner) };
+    ghost faults = { λ d. fault_count D.faults d };
 
     ghost reads_image = { λ d honest. D.reads_image d.inner honest.0 };
 
-    fn len(&mut self) -> Result<u64, DeviceFault> {
+    fn len(&mut self) -> Result<u64, DeviceFault>
+        // by its settings
+        ensures fails { OnTrue (fails_next self.old) (IsErr result × (self.new ≡ after_failure self.old)) }
+        ensures passes { OnFalse (fails_next self.old) (PassesOn D.history D.honest D.faults self.old (len_call result) self.new) }
+
+        // as every device
+        ensures counted { fault_count D.faults self.new ≡ count_after (fault_count D.faults self.old) result }
+        ensures as_honest { IsHonest D.honest self.old ↔ IsHonest D.honest self.new }
+        ensures answered { IsHonest D.honest self.old
+            → IsAnswered (D.history self.old.inner) (len_call result) (D.history self.new.inner) }
+    {
         if self.fails() {
             return Err(DeviceFault);
         }
         self.inner.len()
     }
 
-    fn read_at(&mut self, at: u64, out: &mut [u8]) -> Result<usize, DeviceFault> {
+    fn read_at(&mut self, at: u64, out: &mut [u8]) -> Result<usize, DeviceFault>
+        // by its settings
+        ensures fails { OnTrue (fails_next self.old) (IsErr result × (self.new ≡ after_failure self.old)) }
+        ensures passes { OnFalse (fails_next self.old) ((given : List ℕ)
+            × PassesOn D.history D.honest D.faults self.old (read_call at given result) self.new
+            × IfOk result (λ count. take count out.new ≡ flipped self.old.flipping (next_call self.old) at (take count given))) }
+
+        // as every device
+        ensures within { IfOk result (λ count. count ≤ length out.new) }
+        ensures counted { fault_count D.faults self.new ≡ count_after (fault_count D.faults self.old) result }
+        ensures as_honest { IsHonest D.honest self.old ↔ IsHonest D.honest self.new }
+        ensures answered { IsHonest D.honest self.old
+            → IsAnswered (D.history self.old.inner) (read_call at out.new result) (D.history self.new.inner) }
+    {
         if self.fails() {
             return Err(DeviceFault);
         }
@@ -131,21 +156,51 @@ impl<D: Disk + Drop> Disk for FaultDisk<D> {
         Ok(count)
     }
 
-    fn write_at(&mut self, at: u64, bytes: &[u8]) -> Result<(), DeviceFault> {
+    fn write_at(&mut self, at: u64, bytes: &[u8]) -> Result<(), DeviceFault>
+        // by its settings
+        ensures fails { OnTrue (fails_next self.old) (IsErr result × (self.new ≡ after_failure self.old)) }
+        ensures passes { OnFalse (fails_next self.old) (PassesOn D.history D.honest D.faults self.old (write_call at bytes.now result) self.new) }
+
+        // as every device
+        ensures counted { fault_count D.faults self.new ≡ count_after (fault_count D.faults self.old) result }
+        ensures as_honest { IsHonest D.honest self.old ↔ IsHonest D.honest self.new }
+        ensures answered { IsHonest D.honest self.old
+            → IsAnswered (D.history self.old.inner) (write_call at bytes.now result) (D.history self.new.inner) }
+    {
         if self.fails() {
             return Err(DeviceFault);
         }
         self.inner.write_at(at, bytes)
     }
 
-    fn set_len(&mut self, len: u64) -> Result<(), DeviceFault> {
+    fn set_len(&mut self, len: u64) -> Result<(), DeviceFault>
+        // by its settings
+        ensures fails { OnTrue (fails_next self.old) (IsErr result × (self.new ≡ after_failure self.old)) }
+        ensures passes { OnFalse (fails_next self.old) (PassesOn D.history D.honest D.faults self.old (set_len_call len result) self.new) }
+
+        // as every device
+        ensures counted { fault_count D.faults self.new ≡ count_after (fault_count D.faults self.old) result }
+        ensures as_honest { IsHonest D.honest self.old ↔ IsHonest D.honest self.new }
+        ensures answered { IsHonest D.honest self.old
+            → IsAnswered (D.history self.old.inner) (set_len_call len result) (D.history self.new.inner) }
+    {
         if self.fails() {
             return Err(DeviceFault);
         }
         self.inner.set_len(len)
     }
 
-    fn sync(&mut self) -> Result<(), DeviceFault> {
+    fn sync(&mut self) -> Result<(), DeviceFault>
+        // by its settings
+        ensures fails { OnTrue (fails_next self.old) (IsErr result × (self.new ≡ after_failure self.old)) }
+        ensures passes { OnFalse (fails_next self.old) (PassesOn D.history D.honest D.faults self.old (sync_call result) self.new) }
+
+        // as every device
+        ensures counted { fault_count D.faults self.new ≡ count_after (fault_count D.faults self.old) result }
+        ensures as_honest { IsHonest D.honest self.old ↔ IsHonest D.honest self.new }
+        ensures answered { IsHonest D.honest self.old
+            → IsAnswered (D.history self.old.inner) (sync_call result) (D.history self.new.inner) }
+    {
         if self.fails() {
             return Err(DeviceFault);
         }
