@@ -6,3 +6,4 @@ pub mod MemoryDisk
 pub mod RecordSteps
 pub mod ReadsImage
 pub mod FaultDisk
+pub mod Laws

@@ -29,10 +29,10 @@ pub length-resized : (bytes : List ℕ) (len : ℕ) → length (resized bytes le
 length-resized bytes len =
     omega (arith, length-append (take len bytes) (replicate (len - length bytes) 0), length-take len bytes, length-replicate {A = ℕ} (len - length bytes) 0)
 
-has_length-synced : (bytes : List ℕ) → HasLength (synced_state bytes)
+pub has_length-synced : (bytes : List ℕ) → HasLength (synced_state bytes)
 has_length-synced bytes = record { no_shorter = omega arith; no_longer = omega arith }
 
-has_length-call : (h : History) (call : Call) → HasLength h.now → HasLength (after_call h call).now
+pub has_length-call : (h : History) (call : Call) → HasLength h.now → HasLength (after_call h call).now
 has_length-call h (bytes_written at []) has = has
 has_length-call h (bytes_written at (byte ∷ bytes)) has =
     let e = length-written h.now.bytes at (byte ∷ bytes) in

@@ -3,11 +3,16 @@
 
 mod disk;
 mod fault_disk;
+mod law;
 mod loss;
 mod medium;
 mod memory_disk;
 
 pub use disk::{DeviceFault, Disk};
 pub use fault_disk::FaultDisk;
+pub use law::{
+    a_sync_keeps_all, calls_compose, calls_keep_bytes, calls_reach_their_range, devices_keep_bytes,
+    reads_change_nothing,
+};
 pub use loss::Loss;
 pub use memory_disk::MemoryDisk;
