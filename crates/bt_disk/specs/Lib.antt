@@ -6,4 +6,5 @@ pub mod MemoryDisk
 pub mod RecordSteps
 pub mod ReadsImage
 pub mod FaultDisk
+pub mod FileDisk
 pub mod Laws

@@ -3,6 +3,8 @@
 
 mod disk;
 mod fault_disk;
+mod file_disk;
+mod handle;
 mod law;
 mod loss;
 mod medium;
@@ -10,6 +12,7 @@ mod memory_disk;
 
 pub use disk::{DeviceFault, Disk};
 pub use fault_disk::FaultDisk;
+pub use file_disk::FileDisk;
 pub use law::{
     a_sync_keeps_all, calls_compose, calls_keep_bytes, calls_reach_their_range, devices_keep_bytes,
     reads_change_nothing,
