@@ -19,3 +19,6 @@ pub use law::{
 };
 pub use loss::Loss;
 pub use memory_disk::MemoryDisk;
+
+#[cfg(test)]
+mod tests;
