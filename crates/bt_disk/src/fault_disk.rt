@@ -168,6 +168,7 @@ impl<D: Disk + Drop> Disk for FaultDisk<D> {
             → IsAnswered (D.history self.old.inner) (write_call at bytes.now result) (D.history self.new.inner) }
     {
         if self.fails() {
+            // The device inside is not reached.
             return Err(DeviceFault);
         }
         self.inner.write_at(at, bytes)
