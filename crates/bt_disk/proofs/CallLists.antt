@@ -1,0 +1,56 @@
+-- Lists of calls of a device.
+use Rattle.std.proofs.Common.{◌≡◌, ℕ, ◌↔◌, List, [], ◌∷◌, ◌++◌, length, Result, Ok, Err, refl, sym, ap, ◌∙◌, subst}
+use Rattle.bt_disk.specs.Limits.{count_after}
+use Rattle.bt_disk.specs.History.{History}
+use Rattle.bt_disk.specs.Calls.{Call, IsAnswered, AreAnswered, count_after_call, count_after_calls, HasCalls, len_call, read_call, write_call, set_len_call, sync_call}
+
+pub answered_then : (a b c : History) (xs ys : List Call) → AreAnswered a xs b → AreAnswered b ys c → AreAnswered a (xs ++ ys) c
+answered_then a b c [] ys first second = subst (λ h. AreAnswered h ys c) first second
+answered_then a b c (x ∷ xs) ys first second = (first.0, first.1, answered_then first.0 b c xs ys first.2 second)
+
+pub count_then : (count : ℕ) (xs ys : List Call) → count_after_calls count (xs ++ ys) ≡ count_after_calls (count_after_calls count xs) ys
+count_then count [] ys = refl
+count_then count (x ∷ xs) ys = count_then (count_after_call count x) xs ys
+
+-- no call
+pub has_none : {D : Type 0} (history : D → History) (honest : D → Type 0) (faults : D → ℕ) (disk : D) → HasCalls history honest faults disk [] disk
+has_none history honest faults disk = record { counted = refl; as_honest = (λ h. h, λ h. h); answered = λ h. refl }
+
+-- one call, from what a device promises of it
+pub has_one : {D : Type 0} (history : D → History) (honest : D → Type 0) (faults : D → ℕ) (old : D) (call : Call) (new : D)
+    → faults new ≡ count_after_call (faults old) call → honest old ↔ honest new → (honest old → IsAnswered (history old) call (history new))
+    → HasCalls history honest faults old (call ∷ []) new
+has_one history honest faults old call new counted as_honest answered =
+    record { counted = counted; as_honest = as_honest; answered = λ h. (history new, answered h, refl) }
+
+-- some calls, and then others
+pub has_then : {D : Type 0} (history : D → History) (honest : D → Type 0) (faults : D → ℕ) (a b c : D) (xs ys : List Call)
+    → HasCalls history honest faults a xs b → HasCalls history honest faults b ys c → HasCalls history honest faults a (xs ++ ys) c
+has_then history honest faults a b c xs ys first second =
+    record {
+      counted = second.counted ∙ ap (λ count. count_after_calls count ys) first.counted ∙ sym (count_then (faults a) xs ys);
+      as_honest = (λ h. second.as_honest.0 (first.as_honest.0 h), λ h. first.as_honest.1 (second.as_honest.1 h));
+      answered = λ h. answered_then (history a) (history b) (history c) xs ys (first.answered h) (second.answered (first.as_honest.0 h));
+    }
+
+-- a count after a result is that after its call
+
+pub count_len : {E : Type 0} (count : ℕ) (r : Result ℕ E) → count_after count r ≡ count_after_call count (len_call r)
+count_len count (Ok len) = refl
+count_len count (Err e) = refl
+
+pub count_read : {E : Type 0} (count at : ℕ) (out : List ℕ) (r : Result ℕ E) → count_after count r ≡ count_after_call count (read_call at out r)
+count_read count at out (Ok n) = refl
+count_read count at out (Err e) = refl
+
+pub count_write : {T E : Type 0} (count at : ℕ) (bytes : List ℕ) (r : Result T E) → count_after count r ≡ count_after_call count (write_call at bytes r)
+count_write count at bytes (Ok x) = refl
+count_write count at bytes (Err e) = refl
+
+pub count_set_len : {T E : Type 0} (count len : ℕ) (r : Result T E) → count_after count r ≡ count_after_call count (set_len_call len r)
+count_set_len count len (Ok x) = refl
+count_set_len count len (Err e) = refl
+
+pub count_sync : {T E : Type 0} (count : ℕ) (r : Result T E) → count_after count r ≡ count_after_call count (sync_call r)
+count_sync count (Ok x) = refl
+count_sync count (Err e) = refl

@@ -1,0 +1,35 @@
+-- What calls of an honest device leave in the images of a crash.
+use Rattle.std.specs.Prelude.{◌≡◌, ℕ, ◌<◌, ◌≤◌, ◌⊎◌, List, [], ◌∷◌, ◌++◌, length, slice_get, Some, All, ⊤}
+use Rattle.bt_disk.specs.State.{State, IsImage, IsKept}
+use Rattle.bt_disk.specs.History.{History, moment_of, LeftSince, IsKeptSince}
+use Rattle.bt_disk.specs.Calls.{Call, sync_made, IsAnswered, AreAnswered, IsRead, Spares}
+
+-- an image from before the call, with at most other bytes where the call reaches
+pub record IsReached (old : State) (call : Call) (before image : List ℕ) : Type 0 where
+  pub possible : IsImage old before
+  pub spared : (i byte : ℕ) → Spares i call → slice_get before i ≡ Some byte → slice_get image i ≡ Some byte
+
+-- After a sync that succeeded, a crash leaves what a read gives, whatever came before.
+abbrev pub SyncKeepsAll : Type 0
+SyncKeepsAll = (old new : History) (image : List ℕ) → IsAnswered old sync_made new → IsImage new.now image
+    → (image ≡ old.now.bytes) × (new.now.bytes ≡ old.now.bytes)
+
+-- Reads change no image.
+abbrev pub ReadsChangeNothing : Type 0
+ReadsChangeNothing = (old new : History) (calls : List Call) → All IsRead calls → AreAnswered old calls new → new ≡ old
+
+-- Each image after a call is one from before it but for what the call reaches: the range of a write, made or torn, or
+-- what lies past a new length.
+abbrev pub CallsReachTheirRange : Type 0
+CallsReachTheirRange = (old new : History) (call : Call) (image : List ℕ) → IsImage old.now old.now.bytes
+    → IsAnswered old call new → IsImage new.now image → (before : List ℕ) × IsReached old.now call before image
+
+-- A byte that every image since a moment has, and that none of the calls reaches, every image since then goes on to
+-- have, within these calls too.
+abbrev pub CallsKeepBytes : Type 0
+CallsKeepBytes = (old new : History) (calls : List Call) (t i byte : ℕ) → IsImage old.now old.now.bytes
+    → AreAnswered old calls new → All (Spares i) calls → IsKeptSince old t i byte → IsKeptSince new t i byte
+
+-- what every image now has, every image since now has
+abbrev pub KeptFromNow : Type 0
+KeptFromNow = (h : History) (i byte : ℕ) → IsKept h.now i byte → IsKeptSince h (moment_of h) i byte

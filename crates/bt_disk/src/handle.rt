@@ -1,0 +1,137 @@
+//! An open file, and what calls of a device make of it.
+ghost use Rattle.std.specs.Prelude.{◌≡◌, ◌≤◌, IfOk, length};
+ghost use Rattle.bt_disk.specs.FileDisk.{absent, access_of};
+
+use crate::disk::DeviceFault;
+use std::fs::{Files, OpenFile, OpenOptions};
+use std::io::{ErrorKind, Read, Seek, SeekFrom, Write};
+
+/// A file that is not there, one that is read, or one that is read and written.
+#[derive(Drop)]
+pub(crate) enum Handle<F> {
+    Absent,
+    Reading(F),
+    Writing(F),
+}
+
+/// Opens a file to read it: none, where there is no file.
+pub(crate) fn open_to_read<R: Files>(rt: &R, path: &str) -> Result<Option<R::File>, DeviceFault> {
+    if !is_present(rt, path)? {
+        return Ok(None);
+    }
+    match OpenOptions::new().read(true).open(rt, path) {
+        Ok(file) => Ok(Some(regular(file)?)),
+        Err(error) if is_absence(error.kind()) => Ok(None),
+        Err(_) => Err(DeviceFault),
+    }
+}
+
+/// Opens a file to read and write it, and makes one with no bytes where there is none.
+pub(crate) fn open_to_write<R: Files>(rt: &R, path: &str) -> Result<R::File, DeviceFault> {
+    is_present(rt, path)?;
+    match OpenOptions::new()
+        .read(true)
+        .write(true)
+        .create(true)
+        .open(rt, path)
+    {
+        Ok(file) => regular(file),
+        Err(_) => Err(DeviceFault),
+    }
+}
+
+/// Whether there is a file. What is no regular file is refused unopened, since opening a pipe may wait.
+fn is_present<R: Files>(rt: &R, path: &str) -> Result<bool, DeviceFault> {
+    match rt.metadata(path) {
+        Ok(metadata) if metadata.is_file() => Ok(true),
+        Ok(_) => Err(DeviceFault),
+        Err(error) if is_absence(error.kind()) => Ok(false),
+        Err(_) => Err(DeviceFault),
+    }
+}
+
+/// Whether the system says that no file can be there.
+fn is_absence(kind: ErrorKind) -> bool {
+    matches!(
+        kind,
+        ErrorKind::NotFound | ErrorKind::NotADirectory | ErrorKind::InvalidFilename
+    )
+}
+
+/// An open file, if it is a regular one.
+fn regular<F: OpenFile + Drop>(file: F) -> Result<F, DeviceFault> {
+    match file.metadata() {
+        Ok(metadata) if metadata.is_file() => Ok(file),
+        _ => Err(DeviceFault),
+    }
+}
+
+/// How many bytes a file has.
+pub(crate) fn file_len<F: OpenFile>(file: &F) -> Result<u64, DeviceFault> {
+    match file.metadata() {
+        Ok(metadata) => Ok(metadata.len()),
+        Err(_) => Err(DeviceFault),
+    }
+}
+
+/// Reads bytes from byte `at` on, as [`read_file`]: none, where there is no file.
+pub(crate) fn read_handle<F: Read + Seek>(
+    handle: &mut Handle<F>,
+    at: u64,
+    out: &mut [u8],
+) -> Result<usize, DeviceFault>
+    ensures access { access_of handle.new ≡ access_of handle.old }
+    ensures absent { access_of handle.old ≡ absent → result ≡ Ok 0 }
+    ensures within { IfOk result (λ count. count ≤ length out.new) }
+{
+    match handle {
+        Handle::Absent => Ok(0),
+        Handle::Reading(file) => read_file(file, at, out),
+        Handle::Writing(file) => read_file(file, at, out),
+    }
+}
+
+/// Reads bytes from byte `at` on until `out` is full or the file ends, and says how many came.
+pub(crate) fn read_file<F: Read + Seek>(
+    file: &mut F,
+    at: u64,
+    out: &mut [u8],
+) -> Result<usize, DeviceFault>
+    ensures { IfOk result (λ count. count ≤ length out.new) }
+{
+    // No file has bytes where no seek can go.
+    if at > i64::MAX as u64 {
+        return Ok(0);
+    }
+    if file.seek(SeekFrom::Start(at)).is_err() {
+        return Err(DeviceFault);
+    }
+    let mut filled = 0;
+    for _ in 0..u64::MAX {
+        if filled >= out.len() {
+            return Ok(filled);
+        }
+        match file.read(&mut out[filled..]) {
+            Ok(0) => return Ok(filled),
+            Ok(count) => filled += count,
+            Err(error) if error.kind() == ErrorKind::Interrupted => {}
+            Err(_) => return Err(DeviceFault),
+        }
+    }
+    Err(DeviceFault)
+}
+
+/// Writes all the bytes from byte `at` on.
+pub(crate) fn write_file<F: Write + Seek>(
+    file: &mut F,
+    at: u64,
+    bytes: &[u8],
+) -> Result<(), DeviceFault> {
+    if bytes.is_empty() {
+        return Ok(());
+    }
+    if file.seek(SeekFrom::Start(at)).is_err() || file.write_all(bytes).is_err() {
+        return Err(DeviceFault);
+    }
+    Ok(())
+}

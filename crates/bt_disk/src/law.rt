@@ -1,0 +1,42 @@
+//! What calls of an honest device leave in the images of a crash. A caller that knows which calls it made knows by
+//! these laws what a crash leaves; the functions do nothing when they run.
+ghost use Rattle.std.specs.Prelude.{◌++◌, ◌∷◌, [], ℕ, List, All};
+ghost use Rattle.bt_disk.specs.History.{IsKeptSince};
+ghost use Rattle.bt_disk.specs.Calls.{Call, HasCalls, Spares};
+ghost use Rattle.bt_disk.specs.Laws.{SyncKeepsAll, ReadsChangeNothing, CallsReachTheirRange, CallsKeepBytes, KeptFromNow};
+
+use crate::disk::Disk;
+
+/// After a sync that succeeded, a crash leaves what a read gives, whatever came before.
+pub fn a_sync_keeps_all()
+    ensures { SyncKeepsAll }
+{}
+
+/// Reads change nothing, so no image either.
+pub fn reads_change_nothing()
+    ensures { ReadsChangeNothing }
+{}
+
+/// A call changes an image only where it reaches: a write in its range and past the end, `set_len` past the new length.
+pub fn calls_reach_their_range()
+    ensures { CallsReachTheirRange }
+{}
+
+/// A byte that every image has goes on to be in every image, at each moment, until a call reaches it.
+pub fn calls_keep_bytes()
+    ensures now { KeptFromNow }
+    ensures later { CallsKeepBytes }
+{}
+
+/// Calls of a device and then others are these calls one after the other.
+pub fn calls_compose<D: Disk>()
+    ensures { (a b c : D) (xs ys : List Call) → HasCalls D.history D.honest D.faults a xs b
+        → HasCalls D.history D.honest D.faults b ys c → HasCalls D.history D.honest D.faults a (xs ++ ys) c }
+{}
+
+/// Of an honest device, a byte that every image since a moment has, and that no call reaches, is in every image since.
+pub fn devices_keep_bytes<D: Disk>()
+    ensures { (old new : D) (calls : List Call) (t i byte : ℕ) → D.honest old
+        → HasCalls D.history D.honest D.faults old calls new → All (Spares i) calls
+        → IsKeptSince (D.history old) t i byte → IsKeptSince (D.history new) t i byte }
+{}

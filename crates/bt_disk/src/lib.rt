@@ -1,0 +1,24 @@
+//! Devices of bytes that may fail at any call, and what a crash may leave of them.
+#![tactic(auto)]
+
+mod disk;
+mod fault_disk;
+mod file_disk;
+mod handle;
+mod law;
+mod loss;
+mod medium;
+mod memory_disk;
+
+pub use disk::{DeviceFault, Disk};
+pub use fault_disk::FaultDisk;
+pub use file_disk::FileDisk;
+pub use law::{
+    a_sync_keeps_all, calls_compose, calls_keep_bytes, calls_reach_their_range, devices_keep_bytes,
+    reads_change_nothing,
+};
+pub use loss::Loss;
+pub use memory_disk::MemoryDisk;
+
+#[cfg(test)]
+mod tests;

@@ -1,0 +1,8 @@
+//! What no clause says: that calls succeed, what files of the system do, and examples from outside of what a crash
+//! leaves.
+
+mod crashes;
+mod faults;
+mod files;
+mod tables;
+mod tools;

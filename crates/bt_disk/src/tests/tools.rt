@@ -1,0 +1,62 @@
+//! What the tests share.
+
+use crate::{DeviceFault, Disk};
+use std::alloc::Global;
+use std::test::Fail;
+use std::{env, fs, process};
+
+/// A call of a device.
+#[derive(Clone, Copy, Debug)]
+pub enum Step {
+    Write(u64, &'static [u8]),
+    SetLen(u64),
+    Sync,
+    Read(u64, usize),
+    Len,
+}
+
+/// Makes a call, whatever it answers to a read.
+pub fn make<D: Disk>(disk: &mut D, step: Step) -> Result<(), DeviceFault> {
+    match step {
+        Step::Write(at, bytes) => disk.write_at(at, bytes),
+        Step::SetLen(len) => disk.set_len(len),
+        Step::Sync => disk.sync(),
+        Step::Read(at, wanted) => {
+            let mut out = [0; 64];
+            disk.read_at(at, &mut out[..wanted.min(64)])?;
+            Ok(())
+        }
+        Step::Len => {
+            disk.len()?;
+            Ok(())
+        }
+    }
+}
+
+/// All bytes of a device of fewer than 64, as one read gives them.
+pub fn bytes_of<D: Disk>(alloc: Global, disk: &mut D) -> Result<Vec<u8>, Fail> {
+    let mut out = [0; 64];
+    let count = disk.read_at(0, &mut out)?;
+    Ok(out[..count].to_vec(alloc)?)
+}
+
+/// The error that says what is wrong, where something does not hold.
+pub fn confirm(holds: bool, otherwise: &'static str) -> Result<(), &'static str> {
+    if holds { Ok(()) } else { Err(otherwise) }
+}
+
+/// A folder of this test's own, empty.
+pub fn folder(rt: &HostRuntime, name: &str) -> Result<String, Fail> {
+    let top = env::temp_dir(rt)?;
+    let top = top.to_str().ok_or("a folder whose name is no text")?;
+    let id = process::id(rt.process());
+    let path = format!(in rt.alloc(); "{top}/bt_disk-{name}-{id}")?;
+    let _ = fs::remove_dir_all(rt, path.as_str());
+    fs::create_dir(rt, path.as_str())?;
+    Ok(path)
+}
+
+/// The path of a name below a folder.
+pub fn path_in(rt: &HostRuntime, top: &str, name: &str) -> Result<String, Fail> {
+    Ok(format!(in rt.alloc(); "{top}/{name}")?)
+}
