@@ -1,0 +1,2 @@
+pub mod Choking
+pub mod ChokingSteps
