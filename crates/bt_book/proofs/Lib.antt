@@ -3,3 +3,8 @@ pub mod Counts
 pub mod Ranks
 pub mod Turns
 pub mod KeyOrder
+-- sets of numbers
+pub mod Words
+pub mod BitSets
+-- sets of blocks
+pub mod BlockSets

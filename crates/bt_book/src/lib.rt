@@ -6,6 +6,8 @@
 //! a *pair*.
 #![tactic(auto)]
 
+mod bit_set;
+mod block_set;
 mod choking;
 mod names;
 
