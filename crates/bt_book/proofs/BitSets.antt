@@ -1,10 +1,10 @@
 -- A set of numbers by its words and its groups.
-use Rattle.std.proofs.Common.{◌≡◌, ◌≢◌, ℕ, ◌+◌, ◌*◌, ◌/◌, ◌%◌, ◌^◌, ◌<◌, ◌≤◌, inl, inr, Bool, true, false, eqb, cond, List, length, get_or, set, replicate, refl, sym, ap, ◌∙◌, subst, arith, Option, Some, None, IfSome, IfNone, is_some}
+use Rattle.std.proofs.Common.{◌≡◌, ◌≢◌, ℕ, ◌+◌, ◌*◌, ◌/◌, ◌^◌, ◌<◌, ◌≤◌, inl, inr, Bool, true, false, eqb, cond, List, length, set, replicate, refl, sym, ap, ◌∙◌, subst, arith, Option, Some, None, IfSome, IfNone, is_some}
 use Rattle.std.proofs.lemmas.List.{length-replicate}
 use Rattle.std.proofs.lemmas.Bool.{cases_lt, cases_eq, cases_Bool, eq-eqb, ne_eqb, true≢false}
 use Rattle.bt_book.specs.BitSet.{IsNext, HasNoneFrom}
 use Rattle.bt_book.specs.BitSetSteps.{has_bit, bits_of, IsNextBit, HasNoBit, HasNoBitInGroup, IsSound}
-use Rattle.bt_book.proofs.Words.{has_any, bits_length, zero_bit, set_inside}
+use Rattle.bt_book.proofs.Words.{has_any, bits_length, zero_bit}
 
 -- a bit was written
 abbrev pub IsWritten : List ℕ → ℕ → Bool → List ℕ → Type 0
@@ -101,9 +101,9 @@ skipped : (count : ℕ) (words groups : List ℕ) (from group : ℕ) → IsSound
 skipped count words groups from group sound none empty j after below = elim (cases_lt j (4096 * (from / 4096 + 1))) [
   | inl lt ↦ none j after lt
   | inr ge ↦ elim (cases_Bool (has_bit words j)) [
-      | inl set ↦ absurd (true≢false (sym (sound.grouped j set) ∙ empty (j / 4096) (omega arith) (omega arith)))
-      | inr unset ↦ unset
-    ]
+    | inl set ↦ absurd (true≢false (sym (sound.grouped j set) ∙ empty (j / 4096) (omega arith) (omega arith)))
+    | inr unset ↦ unset
+  ]
 ]
 
 pub next_past : (count : ℕ) (words groups : List ℕ) (from group i : ℕ) → IsSound count words groups → HasNoBitInGroup words from → IsNextBit groups (from / 4096 + 1) group

@@ -1,5 +1,5 @@
 -- Sets of blocks.
-use Rattle.std.proofs.Common.{◌≡◌, ◌≢◌, ℕ, ◌^◌, ◌<◌, ◌≤◌, min, inl, inr, Bool, true, false, eqb, ◌&&◌, cond, List, [], length, get_or, set, map, replicate, refl, sym, ap, ◌∙◌, subst, arith, get_or-set_same, get_or-set_other}
+use Rattle.std.proofs.Common.{◌≡◌, ℕ, ◌^◌, ◌<◌, min, inl, inr, Bool, true, false, eqb, cond, List, [], length, get_or, set, map, replicate, sym, ap, ◌∙◌, arith, get_or-set_same, get_or-set_other}
 use Rattle.std.proofs.lemmas.List.{get_or_past, get_or-map, get_or-replicate, length-set, length-map, length-replicate}
 use Rattle.std.proofs.lemmas.Bool.{cases_lt, cases_eq, cases_Bool, eq-eqb, ne_eqb, and_from, and_left, and_right, true≢false}
 use Rattle.bt_book.specs.declared.names.BlockId.{BlockId}

@@ -8,3 +8,8 @@ pub mod Words
 pub mod BitSets
 -- sets of blocks
 pub mod BlockSets
+-- the book
+pub mod Once
+pub mod Pairs
+pub mod Asked
+pub mod Calls

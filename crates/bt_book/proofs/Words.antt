@@ -1,14 +1,12 @@
 -- The bits of a list of words.
-use Rattle.std.proofs.Common.{◌≡◌, ◌≢◌, ℕ, zero, suc, ◌+◌, ◌-◌, ◌*◌, ◌/◌, ◌%◌, ◌^◌, ◌<◌, ◌≤◌, ◌⊎◌, inl, inr, Bool, true, false, eqb, cond, bit_and, bit_or, List, length, get_or, set, take, map, replicate, w64, refl, sym, ap, ◌∙◌, subst, arith, get_or-set_same, get_or-set_other}
-use Rattle.std.specs.Int.{bit_at, bit_not, trailing_zeros}
-use Rattle.std.specs.List.{range_with_len}
+use Rattle.std.proofs.Common.{◌≡◌, ◌≢◌, ℕ, ◌+◌, ◌-◌, ◌*◌, ◌/◌, ◌%◌, ◌^◌, ◌<◌, ◌≤◌, inl, inr, Bool, true, false, eqb, cond, bit_and, bit_or, List, length, get_or, set, take, replicate, w64, sym, ap, ◌∙◌, arith, get_or-set_same, get_or-set_other}
+use Rattle.std.specs.Int.{bit_at, trailing_zeros}
 use Rattle.std.proofs.lemmas.Nat.{shr-shr, shr_le}
 use Rattle.std.proofs.lemmas.Nat.Bits.{bit_at-zero, bit_at_above, bit_at-trailing_zeros, bit_at_set_same, bit_at_set_other, bit_at_clear_same, bit_at_clear_other}
 use Rattle.std.proofs.lemmas.List.{get_or_past, ext_get_or, length-set, length-replicate, get_or-replicate, get_or-take}
 use Rattle.std.proofs.lemmas.List.FromFn.{length-map-range_with_len, get_or-map-range_with_len}
-use Rattle.std.proofs.lemmas.Bool.{cases_lt, cases_eq, cases_Bool, eq-eqb, ne_eqb, eqb-true, true≢false, false≢true}
-use Rattle.bt_book.specs.BitSet.{IsNext, HasNoneFrom}
-use Rattle.bt_book.specs.BitSetSteps.{has_bit, bits_of, IsNextBit, HasNoBit, HasNoBitInGroup, IsNextInWord, HasNoBitInWord, IsSound}
+use Rattle.std.proofs.lemmas.Bool.{cases_lt, cases_eq, eq-eqb, ne_eqb, true≢false}
+use Rattle.bt_book.specs.BitSetSteps.{has_bit, bits_of, IsNextBit, IsNextInWord, HasNoBitInWord, IsSound}
 
 -- ---- one bit is written
 -- a word is replaced by one that differs at one bit alone
@@ -138,12 +136,12 @@ pub bits_with : (count : ℕ) (words new : List ℕ) (k : ℕ) (v : Bool) → k 
 bits_with count words new k v inside changed =
     ext_get_or false (bits_of count new) (set (bits_of count words) k v) (bits_length count new ∙ sym (bits_length count words) ∙ sym (length-set (bits_of count words) k v))
     (λ i lt.
-      let i_in : i < count = omega (arith, bits_length count new) in
-      let old = has_at count words i i_in in
-      has_at count new i i_in ∙ changed i ∙ elim (cases_eq i k) [
-        | inl e ↦ let at : eqb i k ≡ true = eq-eqb i k e in rw at (sym (ap (λ j. get_or (set (bits_of count words) k v) j false) e ∙ get_or-set_same (bits_of count words) k v false (omega (arith, bits_length count words))))
-        | inr ne ↦ let off : eqb i k ≡ false = ne_eqb i k ne in rw off (sym (get_or-set_other (bits_of count words) k i v false ne ∙ old))
-      ])
+    let i_in : i < count = omega (arith, bits_length count new) in
+    let old = has_at count words i i_in in
+    has_at count new i i_in ∙ changed i ∙ elim (cases_eq i k) [
+      | inl e ↦ let at : eqb i k ≡ true = eq-eqb i k e in rw at (sym (ap (λ j. get_or (set (bits_of count words) k v) j false) e ∙ get_or-set_same (bits_of count words) k v false (omega (arith, bits_length count words))))
+      | inr ne ↦ let off : eqb i k ≡ false = ne_eqb i k ne in rw off (sym (get_or-set_other (bits_of count words) k i v false ne ∙ old))
+    ])
 
 zero_word : (n i : ℕ) → get_or {A = ℕ} (replicate n 0) i 0 ≡ 0
 zero_word n i = elim (cases_lt i n) [
@@ -158,5 +156,5 @@ pub no_bits : (count n : ℕ) → bits_of count (replicate n 0) ≡ replicate co
 no_bits count n =
     ext_get_or false (bits_of count (replicate n 0)) (replicate count false) (bits_length count (replicate n 0) ∙ sym (length-replicate count false))
     (λ i lt.
-      let i_in : i < count = omega (arith, bits_length count (replicate n 0)) in
-      has_at count (replicate n 0) i i_in ∙ zero_bit n i ∙ sym (get_or-replicate count i false false i_in))
+    let i_in : i < count = omega (arith, bits_length count (replicate n 0)) in
+    has_at count (replicate n 0) i i_in ∙ zero_bit n i ∙ sym (get_or-replicate count i false false i_in))

@@ -8,8 +8,11 @@
 
 mod bit_set;
 mod block_set;
+mod book;
 mod choking;
 mod names;
+mod requests;
 
+pub use book::Book;
 pub use choking::{Standing, choose};
 pub use names::{BlockId, PeerKey};

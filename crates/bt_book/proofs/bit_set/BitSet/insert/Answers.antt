@@ -1,6 +1,6 @@
-use Rattle.std.proofs.Common.{◌≡◌, ℕ, ◌<◌, ◌/◌, length, get_or, set, true, sym, ap, ◌∙◌, arith}
+use Rattle.std.proofs.Common.{◌≡◌, ◌<◌, length, set, true, sym, ap, ◌∙◌, arith}
 use Rattle.std.proofs.lemmas.List.{with_items_is}
-use Rattle.bt_book.specs.BitSetSteps.{IsSound, bits_of}
+use Rattle.bt_book.specs.BitSetSteps.{bits_of}
 use Rattle.bt_book.proofs.Words.{bits_length, bits_with}
 use Rattle.bt_book.proofs.BitSets.{sound_with}
 use Rattle.bt_book.proofs.bit_set.BitSet.insert.Goals as goal
@@ -28,7 +28,7 @@ invariant_of-self c =
     let written = rw c.deref_mut.ensures.value at c.set_bit.ensures in
     let grouped = rw c.deref_mut-2.ensures.value at c.set_bit-2.ensures in
     rw (words, groups) (sound_with c.self.inside.count c.self.inside.words.items c.self.inside.groups.items c.set_bit.new.words c.set_bit-2.new.words c.args.number c.self.invariant inside
-      (c.set_bit.auto.words ∙ ap length c.deref_mut.ensures.value) (c.set_bit-2.auto.words ∙ ap length c.deref_mut-2.ensures.value) written grouped)
+    (c.set_bit.auto.words ∙ ap length c.deref_mut.ensures.value) (c.set_bit-2.auto.words ∙ ap length c.deref_mut-2.ensures.value) written grouped)
 
 pub returns : goal.returns
 returns c =

@@ -1,6 +1,5 @@
-use Rattle.std.proofs.Common.{◌≡◌, List, Bool, map, replicate, length, false, sym, ap, ◌∙◌, subst, arith}
+use Rattle.std.proofs.Common.{◌≡◌, map, replicate, length, false, ap, ◌∙◌, arith}
 use Rattle.std.proofs.lemmas.List.{take_all, length-replicate}
-use Rattle.bt_book.specs.Blocks.{Blocks, IsFilled}
 use Rattle.bt_book.proofs.BlockSets.{filled_none}
 use Rattle.bt_book.proofs.block_set.BlockSet.new.Goals as goal
 

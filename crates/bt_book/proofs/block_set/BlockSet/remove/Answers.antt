@@ -1,6 +1,6 @@
-use Rattle.std.proofs.Common.{◌≡◌, List, Bool, length, set, [], false, sym, ap, ◌∙◌, subst, arith}
+use Rattle.std.proofs.Common.{◌≡◌, set, [], false, sym, ap, ◌∙◌, subst}
 use Rattle.std.proofs.lemmas.List.{get_or_read}
-use Rattle.bt_book.specs.Blocks.{Blocks, of_file, IsInRange, IsFilled}
+use Rattle.bt_book.specs.Blocks.{Blocks, of_file, IsInRange}
 use Rattle.bt_book.proofs.BlockSets.{file_inside, filled_without}
 use Rattle.bt_book.proofs.block_set.BlockSet.remove.Goals as goal
 
