@@ -1,0 +1,14 @@
+use Rattle.std.proofs.Common.{◌≡◌, false, sym, ◌∙◌, subst, arith}
+use Rattle.bt_book.specs.Blocks.{IsInRange}
+use Rattle.bt_book.specs.Book.{BookState}
+use Rattle.bt_book.proofs.Pairs.{kept_want}
+use Rattle.bt_book.proofs.book.Book.want.Goals as goal
+
+pub invariant_of-self : goal.invariant_of-self
+invariant_of-self c =
+    let b = c.args.block in
+    let inside : IsInRange c.self.inside.wanted b = subst (λ (s : BookState). IsInRange s.wanted b) (sym c.self.view_is) c.requires in
+    let also : IsInRange c.self.inside.unasked b = omega (arith, inside, c.self.invariant.0.shape b.file) in
+    let off : c.contains.result ≡ false = grind arith in
+    rw (c.insert.ensures, c.insert-then-not-contains.ensures)
+    (kept_want c.self.inside.wanted c.self.inside.unasked c.self.inside.peers.items b c.self.invariant.0 inside also (sym c.contains.ensures ∙ off), c.self.invariant.1)

@@ -1,0 +1,109 @@
+-- A request book: the blocks that are wanted, the peers, and what each of them is asked for.
+use Rattle.std.specs.Prelude.{◌≡◌, ℕ, ◌<◌, ◌≤◌, ◌==◌, Bool, true, false, not, if◌then◌else◌, List, [], ◌∷◌, ◌++◌, length, map, filter, count_by, sum_by}
+use Rattle.bt_book.specs.declared.names.PeerKey.{PeerKey}
+use Rattle.bt_book.specs.declared.names.BlockId.{BlockId}
+use Rattle.bt_book.specs.Blocks.{Blocks, member, with_block, is_block, IsBefore}
+
+-- the blocks that a peer is asked for, in the order of asking
+pub record PeerRequests : Type 0 where
+  pub peer : PeerKey
+  pub blocks : List BlockId
+
+-- the peers stand in the order of joining
+pub record BookState : Type 0 where
+  pub wanted : Blocks
+  pub peers : List PeerRequests
+
+-- at most so many peers, each asked for at most so many blocks
+abbrev pub max_peers : ℕ
+max_peers = 64
+
+abbrev pub max_requests : ℕ
+max_requests = 16
+
+abbrev pub is_of : PeerKey → PeerRequests → Bool
+is_of key r = r.peer.0 == key.0
+
+abbrev pub IsJoined : BookState → PeerKey → Type 0
+IsJoined book key = 0 < count_by (is_of key) book.peers
+
+-- what the peer is asked for; nothing where it has not joined
+abbrev pub asked_in : PeerKey → List PeerRequests → List BlockId
+asked_in key [] = []
+asked_in key (r ∷ rs) = if is_of key r then r.blocks else asked_in key rs
+
+abbrev pub asked_of : BookState → PeerKey → List BlockId
+asked_of book key = asked_in key book.peers
+
+-- the peer is asked for the block
+abbrev pub IsPair : BookState → PeerKey → BlockId → Type 0
+IsPair book key b = 0 < count_by (is_block b) (asked_of book key)
+
+-- how many pairs the block is in
+abbrev pub pairs_in : List PeerRequests → BlockId → ℕ
+pairs_in peers b = sum_by (λ r. count_by (is_block b) r.blocks) peers
+
+abbrev pub pair_count : BookState → BlockId → ℕ
+pair_count book b = pairs_in book.peers b
+
+-- the block may be asked: it is wanted, and no peer is asked for it
+pub record IsUnasked (book : BookState) (b : BlockId) : Type 0 where
+  pub wanted : member book.wanted b ≡ true
+  pub free : pair_count book b ≡ 0
+
+-- ---- what the calls change
+-- this peer's blocks are changed, and no other's
+abbrev pub change_of : PeerKey → (List BlockId → List BlockId) → PeerRequests → PeerRequests
+change_of key change r = if is_of key r then record r { blocks = change r.blocks } else r
+
+abbrev pub with_change : BookState → PeerKey → (List BlockId → List BlockId) → BookState
+with_change book key change = record book { peers = map (change_of key change) book.peers }
+
+abbrev pub without_block : BlockId → List BlockId → List BlockId
+without_block b blocks = filter (λ c. not (is_block b c)) blocks
+
+abbrev pub with_peer : BookState → PeerKey → BookState
+with_peer book key = record book { peers = book.peers ++ (record { peer = key; blocks = [] }) ∷ [] }
+
+abbrev pub without_peer : BookState → PeerKey → BookState
+without_peer book key = record book { peers = filter (λ r. not (is_of key r)) book.peers }
+
+abbrev pub with_pair : BookState → PeerKey → BlockId → BookState
+with_pair book key b = with_change book key (λ blocks. blocks ++ b ∷ [])
+
+abbrev pub without_pair : BookState → PeerKey → BlockId → BookState
+without_pair book key b = with_change book key (without_block b)
+
+abbrev pub without_pairs_of : BookState → PeerKey → BookState
+without_pairs_of book key = with_change book key (λ _. [])
+
+abbrev pub with_wanted : BookState → BlockId → BookState
+with_wanted book b = record book { wanted = with_block book.wanted b true }
+
+abbrev pub without_block_of : BlockId → PeerRequests → PeerRequests
+without_block_of b r = record r { blocks = without_block b r.blocks }
+
+-- the block is wanted no more, and is in no pair
+abbrev pub with_done : BookState → BlockId → BookState
+with_done book b = record {
+  wanted = with_block book.wanted b false;
+  peers = map (without_block_of b) book.peers;
+}
+
+-- the least block that may be asked of which `has` says true, where `has b r` is that it may say r of b
+pub record IsLeastUnasked (has : BlockId → Bool → Type 0) (book : BookState) (b : BlockId) : Type 0 where
+  pub unasked : IsUnasked book b
+  pub held : has b true
+  pub least : (c : BlockId) → IsBefore c b → IsUnasked book c → has c false
+
+-- of every block that may be asked it says false
+abbrev pub HasNoneUnasked : (BlockId → Bool → Type 0) → BookState → Type 0
+HasNoneUnasked has book = (c : BlockId) → IsUnasked book c → has c false
+
+-- ---- what every book keeps to
+pub record IsBook (book : BookState) : Type 0 where
+  pub few : length book.peers ≤ max_peers
+  pub once : (key : PeerKey) → count_by (is_of key) book.peers ≤ 1
+  pub short : (key : PeerKey) → length (asked_of book key) ≤ max_requests
+  pub single : (b : BlockId) → pair_count book b ≤ 1
+  pub wanted : (b : BlockId) → 0 < pair_count book b → member book.wanted b ≡ true
