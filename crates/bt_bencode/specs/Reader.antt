@@ -47,7 +47,7 @@ pub data Stops : ℕ → List ℕ → Fault → List ℕ → Type 0 where
       → ¬ FitsSigned w64 (signed_number negative (digits_value 10 ds))
       → Stops n (letter_i ∷ (sign_text negative ++ (ds ++ letter_e ∷ more))) int_range
       (sign_text negative ++ (ds ++ letter_e ∷ more))
-  -- a string, that is a digit in front
+  -- a string, which begins with a digit
   in_string : (n : ℕ) (text : List ℕ) (f : Fault) (rest : List ℕ) → IsAsciiDigit (slice_index text 0)
       → StringStops text f rest
       → Stops n text f rest
