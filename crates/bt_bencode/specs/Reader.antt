@@ -29,37 +29,47 @@ EndsBefore es key = IfSome (last_key_of es) (λ last. IsBefore last key)
 
 -- the text does not begin with a canonical value of nesting at most n: f stops the reading before rest
 pub data Stops : ℕ → List ℕ → Fault → List ℕ → Type 0 where
+  -- the text is at its end
   at_end : (n : ℕ) → Stops n [] truncated []
+  -- a byte that begins no value
   at_other : (n : ℕ) (text : List ℕ) → 0 < length text
       → slice_index text 0 ≢ letter_i → slice_index text 0 ≢ letter_l → slice_index text 0 ≢ letter_d
       → ¬ IsAsciiDigit (slice_index text 0)
       → Stops n text bad_byte text
+  -- an integer: behind its sign, all of it, stands no numeral with an e behind it
   in_integer : (n : ℕ) (negative : Bool) (more : List ℕ) (f : Fault) (rest : List ℕ)
       → IsTrue negative ⊎ (slice_index more 0 ≢ minus)
       → NumeralStops negative letter_e more f rest
       → Stops n (letter_i ∷ (sign_text negative ++ more)) f rest
+  -- an integer of right form, of more than 64 bits
   out_of_range : (n : ℕ) (negative : Bool) (ds more : List ℕ) → IsNumeral 10 ds
       → ¬ LeadsWithZero negative (ds ++ letter_e ∷ more)
       → ¬ FitsSigned w64 (signed_number negative (digits_value 10 ds))
       → Stops n (letter_i ∷ (sign_text negative ++ (ds ++ letter_e ∷ more))) int_range
       (sign_text negative ++ (ds ++ letter_e ∷ more))
+  -- a string, which begins with a digit
   in_string : (n : ℕ) (text : List ℕ) (f : Fault) (rest : List ℕ) → IsAsciiDigit (slice_index text 0)
       → StringStops text f rest
       → Stops n text f rest
+  -- a list or a dictionary where none may begin
   at_max_nesting : (opening : ℕ) (more : List ℕ) → (opening ≡ letter_l) ⊎ (opening ≡ letter_d)
       → Stops 0 (opening ∷ more) too_deep (opening ∷ more)
+  -- a list: whole items, and then the next one stops
   in_item : (n : ℕ) (done : Items) (more : List ℕ) (f : Fault) (rest : List ℕ)
       → IsCanonicalWithin (suc n) (list done) → slice_index more 0 ≢ letter_e
       → Stops n more f rest
       → Stops (suc n) (letter_l ∷ (items_spelling done ++ more)) f rest
+  -- a dictionary: whole entries, and then the next key stops
   in_key : (n : ℕ) (done : Entries) (more : List ℕ) (f : Fault) (rest : List ℕ)
       → IsCanonicalWithin (suc n) (dictionary done) → slice_index more 0 ≢ letter_e
       → StringStops more f rest
       → Stops (suc n) (letter_d ∷ (entries_spelling done ++ more)) f rest
+  -- a dictionary: whole entries, and then a key that is not above the last
   at_key : (n : ℕ) (done : Entries) (key more : List ℕ)
       → IsCanonicalWithin (suc n) (dictionary done) → ¬ EndsBefore done key
       → Stops (suc n) (letter_d ∷ (entries_spelling done ++ (string_spelling key ++ more))) key_order
       (string_spelling key ++ more)
+  -- a dictionary: whole entries, a key, and then its value stops
   in_value : (n : ℕ) (done : Entries) (key more : List ℕ) (f : Fault) (rest : List ℕ)
       → IsCanonicalWithin (suc n) (dictionary done) → EndsBefore done key
       → Stops n more f rest
