@@ -1,5 +1,5 @@
 -- Where no name is refused, each path of a tree is made of lawful elements.
-use Rattle.std.proofs.Common.{◌≡◌, ℕ, Bool, true, false, List, [], ◌∷◌, ◌++◌, length, refl, sym, ap, ◌∙◌, arith}
+use Rattle.std.proofs.Common.{◌≡◌, ℕ, Bool, true, List, [], ◌∷◌, ◌++◌, length, refl, sym, ◌∙◌, arith}
 use Rattle.std.specs.Prelude.{not, ◌&&◌, ◌==◌}
 use Rattle.std.specs.List.{All, list_all}
 use Rattle.std.proofs.lemmas.Bool.Decides.{nat_tests}

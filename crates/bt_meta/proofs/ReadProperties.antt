@@ -1,6 +1,6 @@
 -- Path elements, and what is read of one file.
-use Rattle.std.proofs.Common.{◌≡◌, ◌≢◌, ℕ, Bool, true, false, List, [], ◌∷◌, map, length, None, Some, refl, arith}
-use Rattle.std.specs.Prelude.{codes, not, ◌==◌, ◌||◌, replicate, string_bytes, if◌then◌else◌}
+use Rattle.std.proofs.Common.{◌≡◌, ◌≢◌, ℕ, Bool, true, false, List, [], ◌∷◌, length, None, Some, refl, arith}
+use Rattle.std.specs.Prelude.{codes, not, ◌==◌, ◌||◌, replicate, if◌then◌else◌}
 use Rattle.std.specs.List.{list_any}
 use Rattle.std.specs.Str.{IsUtf8, is_utf8}
 use Rattle.std.proofs.lemmas.Bool.{and_right}

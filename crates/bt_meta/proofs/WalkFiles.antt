@@ -1,6 +1,6 @@
 -- What a walk has found behind one entry more.
 use Rattle.std.proofs.Common.{◌≡◌, ℕ, ◌+◌, ◌≤◌, ◌^◌, Bool, true, false, List, [], ◌∷◌, ◌++◌, length, map, Option, None, Some, refl, sym, ap, ◌∙◌, arith, length-append}
-use Rattle.std.specs.Prelude.{string_bytes, nat_eq, filter, sum_by, not, ◌&&◌, ◌||◌, ◌==◌, cond, unwrap_or, nat_lt, if◌then◌else◌}
+use Rattle.std.specs.Prelude.{nat_eq, filter, sum_by, not, ◌&&◌, ◌||◌, ◌==◌, cond, unwrap_or, nat_lt, if◌then◌else◌}
 use Rattle.std.specs.Ordering.{nat_cmp, is_eq}
 use Rattle.std.specs.Cmp.Lexicographic.{pointwise, slice_cmp}
 use Rattle.std.proofs.lemmas.Bool.{and_left}

@@ -1,5 +1,5 @@
 -- The files of a file tree (BEP 52).
-use Rattle.std.specs.Prelude.{ℕ, Bool, ◌==◌, List, [], map, filter, sum_by, replicate, codes, string_bytes, unwrap_or, nat_lt, if◌then◌else◌}
+use Rattle.std.specs.Prelude.{ℕ, Bool, ◌==◌, List, [], filter, sum_by, replicate, codes, unwrap_or, nat_lt, if◌then◌else◌}
 use Rattle.std.specs.Int.{div_ceil}
 use Rattle.bt_bencode.specs.Value.{Data}
 use Rattle.bt_meta.specs.Fields.{natural_at, string_at, dictionary_at, has_key, no_dictionary}

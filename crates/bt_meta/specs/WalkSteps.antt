@@ -2,7 +2,6 @@
 use Rattle.std.specs.Prelude.{◌≡◌, ℕ, ◌==◌, ◌&&◌, Bool, true, false, not, List, [], ◌∷◌, ◌++◌, map, filter, nat_eq, Option, None, Some}
 use Rattle.std.specs.List.{list_any}
 use Rattle.std.specs.Cmp.Lexicographic.{pointwise}
-use Rattle.std.specs.Borrow.{Bor}
 use Rattle.bt_bencode.specs.Value.{Data, no_entries, entry}
 use Rattle.bt_bencode.specs.Value.{data_of}
 use Rattle.bt_meta.specs.Fields.{has_key, dictionary_at, no_dictionary}

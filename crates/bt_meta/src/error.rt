@@ -7,7 +7,7 @@ use std::alloc::{AllocError, AllocFailed};
 use thiserror::Error;
 
 /// Why bytes are no torrent that is taken here. The first that applies is returned, in the order in which they
-/// stand; but `OutOfMemory` may stand in place of any, and more than 2^27 bytes are `TooMany` before all others.
+/// stand here; but `OutOfMemory` may stand in place of any, and more than 2^27 bytes are `TooMany` before all.
 #[derive(Clone, Copy, Debug, PartialEq, Eq, Error)]
 pub enum MetaError {
     /// The bytes are no canonical bencoding.

@@ -73,7 +73,8 @@ impl Torrent {
         infohash: Hash32,
         files: Vec<FileEntry>,
     ) -> Self
-        requires counted { pieces ≡ total_pieces (metainfo_with name.items piece_length infohash files.items) }
+        requires counted { let torrent = metainfo_with name.items piece_length infohash files.items in
+            pieces ≡ total_pieces torrent }
         requires lawful { IsLawful piece_length (map file_of files.items) }
         ensures { result ≡ metainfo_with name.items piece_length infohash files.items }
     {
@@ -116,9 +117,9 @@ impl Torrent {
         self.infohash
     }
 
-    /// Its files, in the order of their paths: 1 to 65,536. What every torrent keeps to: each path is made of lawful
-    /// elements, and neither is nor begins another; files with bytes that have one root have one length; and a layer
-    /// that is there gives its file's root.
+    /// Its files, in the order of their paths: 1 to 65,536. Every torrent keeps to this: each path is made of
+    /// lawful elements, and neither is nor begins another; files that are not empty and have one root have one
+    /// length; and a layer that is there gives its file's root.
     pub fn files(&self) -> &[FileEntry]
         ensures said { map file_of result.now ≡ self.now.files }
         ensures some { 0 < length result.now }

@@ -173,7 +173,8 @@ fn add_file(
     requires { is_piece_length piece_length ≡ true }
     ensures passed { OnOk result (AtFile (folder_elements folder.now) name.now (data_of properties.now) (λ p.
         Passes piece_length (p ∷ []) walk.old walk.new)) }
-    ensures stopped { IfErr result (λ e. AtFile (folder_elements folder.now) name.now (data_of properties.now) (λ p.
+    ensures stopped { IfErr result (λ e.
+        AtFile (folder_elements folder.now) name.now (data_of properties.now) (λ p.
         Stops piece_length (p ∷ []) walk.old e)) }
 {
     let FileFacts { length, root } = file_facts(properties)?;

@@ -42,15 +42,15 @@ pub struct Made {
 }
 
 /// Why no torrent is made. The first that applies is returned: that of the piece length, then that there is no
-/// file, then those of each file in the order given, then that a path is or begins another, and then that the text
-/// is too long; but `OutOfMemory` may stand in place of any.
+/// file, then those of each file in the order given, then that a path is or begins another, and then that the
+/// text is too long; but `OutOfMemory` may stand in place of any.
 #[derive(Clone, Copy, Debug, PartialEq, Eq, Error)]
 pub enum MakeError {
     /// The piece length is no power of two from 2^14 to 2^28.
     #[error("N1 PieceLength")]
     PieceLength,
-    /// A path has no element; or one that is empty, `.` or `..`, or has `/` or a zero byte. Or a path is that of
-    /// another file, or of a folder that another file lies in.
+    /// A path has no element; or one that is empty, `.` or `..`, or has `/` or a zero byte. Or a path is that
+    /// of another file, or of a folder that another file lies in.
     #[error("N2 BadPath")]
     BadPath,
     /// A file has more than 2^40 bytes.
@@ -80,8 +80,8 @@ impl From<AllocError> for MakeError {
     }
 }
 
-/// The torrent of these files, with this name: the canonical bencoding of its keys, with the files in the order of
-/// their paths.
+/// The torrent of these files, with this name: the canonical bencoding of its keys, with the files in the order
+/// of their paths.
 pub fn make(
     alloc: Global,
     name: &[u8],
@@ -115,7 +115,8 @@ pub fn make(
 fn check_files(alloc: Global, piece_length: u32, files: &[Made]) -> Result<(), MakeError>
     requires { is_lawful_piece_length piece_length ≡ true }
     ensures rooted { OnOk result (All HasRoot (map given_of files.now)) }
-    ensures checked { let refusal = first_of (with_earlier (file_refusal piece_length) [] (map given_of files.now)) in
+    ensures checked { let refusals = with_earlier (file_refusal piece_length) [] (map given_of files.now) in
+        let refusal = first_of refusals in
         MatchResult result (λ _. refusal ≡ None) (Refuses refusal) }
 {
     let mut tally = Tally {

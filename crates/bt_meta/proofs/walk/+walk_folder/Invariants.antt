@@ -1,4 +1,4 @@
-use Rattle.std.proofs.Common.{◌≡◌, take}
+use Rattle.std.proofs.Common.{take}
 use Rattle.bt_bencode.specs.Value.{entries_of}
 use Rattle.bt_meta.specs.TreeEntries.{tree_entries_among}
 use Rattle.bt_meta.specs.WalkSteps.{Passes}

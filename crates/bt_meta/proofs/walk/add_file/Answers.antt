@@ -1,5 +1,4 @@
 use Rattle.std.proofs.Common.{◌⊎◌, ◌≤◌, ◌<◌, ◌+◌, ◌^◌, length, refl, ap, inl, inr, arith}
-use Rattle.std.proofs.lemmas.List.{length-map}
 use Rattle.bt_meta.specs.declared.torrent.FileEntry.{FileEntry}
 use Rattle.bt_meta.specs.declared.walk.Walk.{Walk}
 use Rattle.std.proofs.lemmas.Result.{err_from_is_err_and}

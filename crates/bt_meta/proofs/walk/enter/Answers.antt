@@ -1,5 +1,4 @@
 use Rattle.std.proofs.Common.{List, ◌∷◌, ◌++◌, [], sym, ap, subst, ◌∙◌, arith}
-use Rattle.std.proofs.lemmas.List.{length-map}
 use Rattle.std.proofs.lemmas.Result.{err_from_is_err_and}
 use Rattle.bt_bencode.specs.Value.{data_of}
 use Rattle.bt_meta.specs.TreeEntries.{TreeEntry}
