@@ -1,8 +1,8 @@
 -- Lemmas on a walk over a folder: each entry that waits has a path that names something, and no file is too long.
 use Rattle.std.proofs.Common.{Vec, String, Global, ◌≤◌, ◌≡◌, ◌++◌, ◌+◌, ℕ, refl, subst, List, [], ◌∷◌, map, string_bytes, length, sym, ◌∙◌, ap, arith}
 use Rattle.std.proofs.lemmas.List.{append_assoc, append-nil, length_push, map-append, reverse-append}
-use Rattle.std.proofs.lemmas.List.Elements.{All-nil, All-cons, All-head, All-tail, All-push, All-append, All-same}
-use Rattle.std.specs.Prelude.{reverse}
+use Rattle.std.proofs.lemmas.List.Elements.{All-nil, All-cons, All-head, All-tail, All-push, All-append, All-pop, All-same}
+use Rattle.std.specs.Prelude.{reverse, Option, Some, IfSome, option_to_list}
 use Rattle.std.specs.List.{All, sum_by}
 use Rattle.std.specs.List.Sorted.{IsStrictlySortedBy}
 use Rattle.std.specs.String.{string_cmp}
@@ -75,6 +75,19 @@ pub puts_named : (folder : List (List ℕ)) (old new : List FolderEntry) → Put
 puts_named folder old new put all =
     let paths : All HasElement (map path_in put.entries) = All-same HasElement _ _ put.inside (names_all folder (reverse put.names)) in
     All-same IsNamed new (old ++ put.entries) put.behind (All-append IsNamed old put.entries all (named_all put.entries paths))
+
+-- the files that were found, and the entries that wait, are named
+abbrev pub IsFileNamed : Vec (String Global) Global → Type 0
+IsFileNamed path = HasElement (map string_bytes path.items)
+
+pub popped : (old left : List FolderEntry) (r : Option FolderEntry) (entry : FolderEntry) → old ≡ left ++ option_to_list r → r ≡ Some entry
+    → All IsNamed old → All IsNamed left × IsNamed entry
+popped old left r entry items some all = let parts = All-pop IsNamed old left r items all in (parts.0, subst (λ o. IfSome o IsNamed) some parts.1)
+
+pub walk_begun : (files : List (Vec (String Global) Global)) (folder : List (List ℕ)) (old new : List FolderEntry) → files ≡ [] → old ≡ []
+    → PutsEntries folder old new → All IsFileNamed files × All IsNamed new
+walk_begun files folder old new none empty put =
+    (All-same IsFileNamed files [] none (All-nil IsFileNamed), puts_named folder old new put (All-same IsNamed old [] empty (All-nil IsNamed)))
 
 -- the files so far are named, not too long and counted, and the paths that are left have names
 pub record AreSized (size files_count pieces_count : ℕ) (left : List (Vec (String Global) Global)) (files : List FolderFile) : Type 0 where

@@ -1,7 +1,7 @@
 -- Lemmas on what a run does.
-use Rattle.std.proofs.Common.{◌≡◌, ℕ, List, Option, Result, Ok, Err, IfOk, IfErr, IsErrAnd, string_bytes, refl, sym, subst, ◌∙◌}
-use Rattle.std.specs.Prelude.{if◌then◌else◌}
-use Rattle.std.specs.Io.KnownBytes.{Appends}
+use Rattle.std.proofs.Common.{◌≡◌, ℕ, [], ◌∷◌, ◌++◌, codes, ap, append_assoc, List, Option, Result, Ok, Err, IfOk, IfErr, IsErrAnd, string_bytes, refl, sym, subst, ◌∙◌}
+use Rattle.std.specs.Prelude.{◌⊎◌, if◌then◌else◌}
+use Rattle.std.specs.Io.KnownBytes.{Appends, Keeps}
 use Rattle.std.proofs.KnownBytes.{Keeps-refl}
 use Rattle.clap.specs.Words.{Text}
 use Rattle.bt_tree.specs.TreeShape.{IsPieceLength}
@@ -10,10 +10,13 @@ use Rattle.btseed.specs.CommandLine.{IsTaskOf}
 use Rattle.bt_meta.specs.Torrent.{Metainfo}
 use Rattle.btseed.specs.Report.{IsReportOn, is_complete_report, report_text}
 use Rattle.btseed.specs.TorrentFile.{HasText}
-use Rattle.btseed.specs.Make.{IsMakeFault}
-use Rattle.btseed.specs.Program.{IsCheckResult, IsTaskResult, IsTaskEnd, IsRun, Writes, task_result, task_end}
+use Rattle.btseed.specs.Make.{IsMakeFault, IsMakeTorrent}
+use Rattle.btseed.specs.Program.{IsCheckResult, IsMakeResult, IsTaskResult, IsTaskEnd, IsRun, IsStart, Writes, no_words, on_words, task_result, task_end}
 use Rattle.btseed.specs.ProgramSteps.{status_after}
-use Rattle.btseed.specs.Fault.{make_fault}
+use Rattle.hex.specs.Hex.{encode_lower}
+use Rattle.btseed.specs.Display.{line_text}
+use Rattle.btseed.specs.Fault.{make_fault, out_of_memory, status_of, words_fault}
+use Rattle.btseed.specs.declared.make.NewTorrent.{NewTorrent}
 use Rattle.btseed.specs.declared.report.FileFinding.{FileFinding}
 use Rattle.btseed.specs.declared.command_line.MakeTask.{MakeTask}
 use Rattle.btseed.specs.declared.command_line.Source.{Source}
@@ -41,3 +44,21 @@ pub performed : (words : List Text) (task : Task) (old new : Option (List ℕ)) 
     → IfOk r (Writes (IsTaskResult task) old new) → IfErr r (IsTaskEnd task old new) → IsRun words old new (status_after r)
 performed words task old new (Ok status) asked written ended = task_result task asked written
 performed words task old new (Err fault) asked written ended = task_end task fault asked ended refl
+
+pub made : (request : MakeTask) (new : NewTorrent) (old now : Option (List ℕ)) (text line digits : List ℕ)
+    → IsMakeTorrent request.name.now request.piece_length new → text ≡ line → line ≡ codes "infohash " ++ (digits ++ 10 ∷ [])
+    → digits ≡ encode_lower new.infohash → Appends old now text → Writes (IsMakeResult request) old now 0
+made request new old now text line digits is same printed hash put =
+    let whole : text ≡ line_text (codes "infohash " ++ encode_lower new.infohash) =
+    same ∙ printed ∙ ap (λ d. codes "infohash " ++ (d ++ 10 ∷ [])) hash ∙ sym (append_assoc (codes "infohash ") (encode_lower new.infohash) (10 ∷ [])) in
+    record { text = text; written = put; is = record { new = new; made = is; line = whole; answer = refl } }
+
+pub start_on_words : (old new ran : Option (List ℕ)) (status run_status exit : ℕ) (words : List Text) → new ≡ ran → status ≡ run_status → exit ≡ status
+    → IsRun words old ran run_status → IsStart old new exit
+start_on_words old new ran status run_status exit words same is exits run =
+    on_words words (subst (λ w. IsRun words old w exit) (sym same) (subst (IsRun words old ran) (sym (exits ∙ is)) run))
+
+pub start_without_words : (old new : Option (List ℕ)) (status told exit : ℕ) (fault : Fault) → new ≡ old → status ≡ told → exit ≡ status
+    → told ≡ status_of fault → (fault ≡ words_fault) ⊎ (fault ≡ out_of_memory) → IsStart old new exit
+start_without_words old new status told exit fault same is exits code cause =
+    no_words fault cause (exits ∙ is ∙ code) (subst (Keeps old) (sym same) (Keeps-refl old))

@@ -43,7 +43,7 @@ check_app =
     with_rule (with_rule (with_rule (new_app (codes "check"))
     (required_rule (codes "TORRENT"))) (required_rule (codes "DIR"))) info_rule
 
--- a subcommand is required_rule, and with no word at all help is the answer
+-- a subcommand must be there, and with no word at all there is help
 abbrev pub top_app : App
 top_app = record (new_app (codes "btseed")) {
   top = record (new_app (codes "btseed")).top {

@@ -7,7 +7,7 @@ use Rattle.btseed.specs.Digests.{IsPieceLayer, AreDigestsOf}
 use Rattle.btseed.specs.Reader.{Gives}
 use Rattle.btseed.specs.declared.digests.Digests.{Digests}
 
--- a reader that was asked for so many bytes gave as many, and these are their pieces' digests
+-- a reader gave as many bytes as it was asked for, and these are their pieces' digests
 pub record GivesLayer (old new : Option (List ℕ)) (file_length layer : ℕ) (bytes : List ℕ) : Type 0 where
   pub file : List ℕ
   pub given : Gives old new file_length file

@@ -24,7 +24,7 @@ pub record AreDigestsOf (file : List ℕ) (layer : ℕ) (digests : Digests) : Ty
   pub short : length file ≤ full_block_length * 2 ^ layer → digests.layer.items ≡ []
   pub long : full_block_length * 2 ^ layer < length file → IsPieceLayer file layer digests.layer.items
 
--- a reader that was asked for one byte more gave just so many, and these are their digests
+-- a reader that was asked for one byte more gave one less, and these are their digests
 pub record GivesAll (old new : Option (List ℕ)) (file_length layer : ℕ) (digests : Digests) : Type 0 where
   pub file : List ℕ
   pub given : Gives old new (file_length + 1) file

@@ -1,4 +1,4 @@
--- The statuses that the program exits with.
+-- Why the program ends without a result, and the statuses that it exits with.
 use Rattle.std.specs.Prelude.{ℕ}
 use Rattle.bt_meta.specs.declared.error.MetaError.{MetaError}
 use Rattle.bt_meta.specs.declared.error.MetaError.TheVariants.{OutOfMemory as no_memory}
@@ -7,7 +7,7 @@ use Rattle.bt_meta.specs.declared.writer.MakeError.TheVariants.{OutOfMemory as n
 use Rattle.btseed.specs.declared.fault.Fault.{Fault}
 use Rattle.btseed.specs.declared.fault.Fault.TheVariants.{Words, Torrent, Make, Device, OutOfMemory}
 
--- 2 where the input is refused, 3 for a device, 4 for want of memory
+-- 2 where the input is refused, 3 for a device, 4 for out of memory
 abbrev pub status_of : Fault → ℕ
 status_of Words = 2
 status_of (Torrent refusal) = 2

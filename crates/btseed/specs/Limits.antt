@@ -9,8 +9,9 @@ use Rattle.bt_tree.specs.Limits.{max_file_length}
 -- too many bytes; or too many elements in its path, files or pieces with it
 abbrev pub count_refusal : ℕ → ℕ → ℕ → ℕ → ℕ → Option MakeError
 count_refusal files pieces piece_length elements length =
-    if nat_lt (max_file_length) length then Some FileLength
+    if nat_lt max_file_length length then Some FileLength
     else if nat_lt max_path_length elements
-    || (nat_lt max_file_count (files + 1) || nat_lt max_piece_count (pieces + piece_count piece_length length))
+    || (nat_lt max_file_count (files + 1)
+    || nat_lt max_piece_count (pieces + piece_count piece_length length))
     then Some Count
     else None

@@ -13,7 +13,7 @@ use Rattle.btseed.specs.declared.data_file.Finding.{Finding}
 abbrev pub piece_start : ℕ → ℕ → ℕ
 piece_start layer index = full_block_length * (index * 2 ^ layer)
 
--- how many bytes it has, in a file of so many bytes
+-- how many bytes it has, in a file of this length
 abbrev pub piece_size : ℕ → ℕ → ℕ → ℕ
 piece_size file_length layer index =
     min (full_block_length * 2 ^ layer) (file_length - piece_start layer index)

@@ -1,4 +1,4 @@
--- What the program does with its words: the status that it answers, and the text that it writes.
+-- What the program does with its words: the status that it exits with, and the text that it writes.
 use Rattle.std.specs.Prelude.{◌≡◌, ℕ, ◌++◌, ◌⊎◌, List, Option, codes, if◌then◌else◌}
 use Rattle.std.specs.Io.KnownBytes.{Appends, Keeps}
 use Rattle.clap.specs.Words.{Text}

@@ -7,7 +7,7 @@ use Rattle.bt_tree.specs.RootBuilder.{BuilderState, BuildsFrom, first_block}
 use Rattle.bt_tree.specs.Tree.{node_digest}
 use Rattle.bt_tree.specs.Limits.{full_block_length}
 
--- so many bytes were asked of a reader, and it gave these: fewer only where it had no more
+-- a reader was asked for a number of bytes and gave these: fewer only where it had no more
 pub record Gives (old new : Option (List ℕ)) (asked : ℕ) (bytes : List ℕ) : Type 0 where
   pub taken : Consumes old new bytes
   pub within : length bytes ≤ asked
@@ -18,7 +18,7 @@ pub record LosesFront (old new : Option (List ℕ)) : Type 0 where
   pub lost : List ℕ
   pub taken : Consumes old new lost
 
--- so many bytes were asked of a reader, and it had fewer
+-- a reader was asked for a number of bytes, and had fewer
 pub record EndsEarly (old new : Option (List ℕ)) (asked : ℕ) : Type 0 where
   pub bytes : List ℕ
   pub given : Gives old new asked bytes
@@ -31,7 +31,8 @@ pub record GivesNode (old new : Option (List ℕ)) (asked : ℕ) (b : BuilderSta
   pub given : Gives old new asked bytes
   pub whole : length bytes ≡ asked
   pub value : (file : List ℕ) → BuildsFrom sha256 b file
-      → HasRun file (full_block_length * first_block b) bytes → digest ≡ node_digest sha256 file b.layer b.index
+      → HasRun file (full_block_length * first_block b) bytes
+      → digest ≡ node_digest sha256 file b.layer b.index
 
 -- whether the reader gave one more byte, where it was asked for one
 pub record TellsMore (old new : Option (List ℕ)) (more : Bool) : Type 0 where

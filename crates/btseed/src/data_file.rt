@@ -62,7 +62,7 @@ fn is_absence(kind: ErrorKind) -> bool
     )
 }
 
-/// How many of so many blocks are marked: all where the digest that was built is the one wanted, else none.
+/// How many of these blocks are marked: all where the digest that was built is the one wanted, else none.
 pub fn marked_blocks(blocks: u32, built: &Hash32, wanted: &Hash32) -> u32
     ensures all { built.now ≡ wanted.now → result ≡ blocks }
     ensures none { built.now ≢ wanted.now → result ≡ 0 }

@@ -117,7 +117,7 @@ fn read_layer<R: Read>(
     Ok(layer)
 }
 
-/// The digest of a node that lies so many layers above a layer, `base`: of the nodes of that layer that lie below it,
+/// The digest of a node that lies `layers` layers above the layer `base`: of the nodes of that layer that lie below it,
 /// those that cover a block have these digests.
 fn node_above(digests: &[u8], base: u8, layers: u8) -> Hash32
     requires high { base + layers ≤ max_height }

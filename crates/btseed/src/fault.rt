@@ -1,4 +1,4 @@
-//! Why the program ends without an answer.
+//! Why the program ends without a result.
 ghost use Rattle.std.specs.Prelude.{◌≡◌};
 ghost use Rattle.btseed.specs.Fault.{status_of, torrent_fault, make_fault, out_of_memory, device};
 
@@ -11,7 +11,7 @@ use thiserror::Error;
 #[error("device fault")]
 pub struct DeviceFault;
 
-/// Why the program ends without an answer, as it tells it on standard error.
+/// Why the program ends without a result, as it says on standard error.
 #[derive(Clone, Copy, Debug, PartialEq, Eq, Error)]
 pub enum Fault {
     /// A word of the command line is no text.

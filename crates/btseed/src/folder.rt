@@ -116,7 +116,7 @@ fn kind_of(file_type: FileType) -> Option<EntryKind>
     }
 }
 
-/// What an error in reading the next name of a folder is told as: here alone a name that is not valid is one that is not
+/// The fault of an error in reading the next name of a folder: here alone a name that is not valid is one that is not
 /// UTF-8.
 fn listing_fault(error: &io::Error) -> Fault
     ensures { IsListingFault result }
@@ -127,7 +127,7 @@ fn listing_fault(error: &io::Error) -> Fault
     }
 }
 
-/// What an error in opening a folder, or in asking what an entry is, is told as.
+/// The fault of an error in opening a folder, or in asking what an entry is.
 fn opening_fault(error: &io::Error) -> Fault
     ensures { (result ≡ device) ⊎ (result ≡ out_of_memory) }
 {

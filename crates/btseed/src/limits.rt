@@ -30,7 +30,7 @@ impl Counts {
         }
     }
 
-    /// The counts with one file more, of so many elements in its path and so many bytes. It is refused as the library
+    /// The counts with one file more, by the elements in its path and its bytes. It is refused as the library
     /// refuses it once it has its digests: where it is too long, or a file, an element or a piece too much.
     pub fn with(self, elements: usize, length: u64, size: PieceSize) -> Result<Self, MakeError>
         ensures refused { result_err result

@@ -9,15 +9,15 @@ use std::path::PathBuf;
 
 /// Where the data file of a torrent's file lies: at its path, below the folder.
 pub fn data_path(alloc: Global, dir: &str, path: &FilePath) -> Result<PathBuf, AllocError>
-    ensures { IfOk result (λ data. path_buf_bytes data ≡ path_below dir.now path.now) }
+    ensures { IfOk result (λ file. path_buf_bytes file ≡ path_below dir.now path.now) }
 {
     let elements = path.elements();
     let elements = elements.as_slice();
-    let mut data = PathBuf::from_str(alloc, dir)?;
+    let mut file = PathBuf::from_str(alloc, dir)?;
     for element in elements {
-        data.push(*element)?;
+        file.push(*element)?;
     }
-    Ok(data)
+    Ok(file)
 }
 
 /// Where what a walk finds lies: at its elements, below the folder that is walked.

@@ -22,7 +22,7 @@ pub struct PieceSize {
 }
 
 impl PieceSize {
-    /// The size of pieces of so many bytes; none where they are no power of two from 2^14 to 2^28.
+    /// The size of pieces of this length in bytes; none where it is no power of two from 2^14 to 2^28.
     pub fn new(bytes: u32) -> Option<PieceSize>
         ensures variant { IsSome result ↔ IsPieceLength bytes }
         ensures value { IfSome result (λ size. size.bytes ≡ bytes) }
@@ -35,7 +35,7 @@ impl PieceSize {
     }
 }
 
-/// Reads the bytes of a piece, which are so many, and gives the digest of its node: none where the bytes end before.
+/// Reads the bytes of a piece, `size` in number, and gives the digest of its node: none where the bytes end before.
 pub fn read_piece<R: Read>(
     reader: &mut R,
     geometry: Geometry,

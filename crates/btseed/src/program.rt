@@ -53,11 +53,11 @@ fn words(rt: &(impl Env + AllocGlobal)) -> Result<Vec<String>, Fault>
     }
 }
 
-/// Does what the words ask for, which follow the program's name, and answers the exit status: 0 where all is complete
-/// or done, 1 where it is not, 2 where the words or the torrent are refused, 3 for a device that failed and 4 for want
-/// of memory.
+/// Does what the words ask for, which follow the program's name, and returns the exit status: 0 where all is complete
+/// or done, 1 where it is not, 2 where the words or the torrent are refused, 3 for a device that failed and 4 for out of
+/// memory.
 ///
-/// What is found, and help, go to the writer; why there is no answer goes to `faults`.
+/// Results and help go to the writer, faults to `faults`.
 pub fn run<R: Files + AllocGlobal + Clone + Drop, I: Read, O: Write, E: Write>(
     rt: &R,
     words: &[String],
@@ -71,7 +71,7 @@ pub fn run<R: Files + AllocGlobal + Clone + Drop, I: Read, O: Write, E: Write>(
     // where the words or the torrent are refused, nothing is written
     ensures refused { result ≡ 2 → Keeps (O.contents writer.old) (O.contents writer.new) }
 
-    // where there is an answer, no fault is told
+    // where there is a result, no fault is told
     ensures faultless { result ≤ 1 → Keeps (E.contents faults.old) (E.contents faults.new) }
 {
     match attempt(rt, words, writer, faults) {
@@ -97,7 +97,7 @@ fn attempt<R: Files + AllocGlobal + Clone + Drop, O: Write, E: Write>(
     }
 }
 
-/// Does a task, and answers its status.
+/// Does a task, and returns its status.
 fn perform<R: Files + AllocGlobal + Clone + Drop, O: Write>(
     rt: &R,
     task: Task<'_>,
@@ -185,7 +185,7 @@ fn explain<O: Write, E: Write>(error: &Error, writer: &mut O, faults: &mut E) ->
     }
 }
 
-/// Tells why there is no answer, and answers the status. Where it can't be told, there is the status alone.
+/// Says why there is no result, and returns the status. Where it can't be said, there is the status alone.
 pub fn report_fault<E: Write>(fault: Fault, faults: &mut E) -> u8
     ensures { result ≡ status_of fault }
 {

@@ -18,7 +18,7 @@ fn a_file_of_too_many_pieces_is_not_read(rt: HostRuntime) -> Result<(), Fail> {
     Ok(())
 }
 
-/// Makes a file of so many bytes, which takes no room on the disk.
+/// Makes a file of this length, which takes no room on the disk.
 fn put_sparse(rt: &HostRuntime, top: &str, name: &str, length: u64) -> Result<(), Fail> {
     let path = path_in(rt, top, name)?;
     File::create(rt, path.as_str())?.set_len(length)?;

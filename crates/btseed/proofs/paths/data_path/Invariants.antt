@@ -5,4 +5,4 @@ use Rattle.btseed.specs.Paths.{path_below}
 use Rattle.btseed.proofs.paths.data_path.Given as goal
 
 abbrev pub invariant-loop-element : goal.invariant-loop-element
-invariant-loop-element l = path_buf_bytes l.data ≡ path_below l.dir (texts (take l.element-index l.elements))
+invariant-loop-element l = path_buf_bytes l.file ≡ path_below l.dir (texts (take l.element-index l.elements))
