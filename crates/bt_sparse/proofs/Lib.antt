@@ -11,3 +11,4 @@ pub mod Paths
 pub mod Single
 pub mod NodeMaps
 pub mod Requests
+pub mod LayerNodes

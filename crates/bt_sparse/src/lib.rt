@@ -11,6 +11,7 @@ mod answer;
 mod claim;
 mod expansion;
 mod laws;
+mod layer;
 mod node_map;
 mod sparse_tree;
 
