@@ -167,7 +167,7 @@ agrees dig k c shape rooted top all layer i d e claim held = elim (cases_lt laye
 ]
 
 -- ---- a clash
-list_cases : (xs ys : List ℕ) → (xs ≡ ys) ⊎ (xs ≢ ys)
+pub list_cases : (xs ys : List ℕ) → (xs ≡ ys) ⊎ (xs ≢ ys)
 list_cases xs ys = go (pointwise eqb xs ys) refl
   where
     go : (r : Bool) → pointwise eqb xs ys ≡ r → (xs ≡ ys) ⊎ (xs ≢ ys)

@@ -12,3 +12,5 @@ pub mod Single
 pub mod NodeMaps
 pub mod Requests
 pub mod LayerNodes
+pub mod Taken
+pub mod Leaves
