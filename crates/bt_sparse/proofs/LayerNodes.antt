@@ -8,14 +8,14 @@ use Rattle.std.proofs.lemmas.Nat.{pow_pos}
 use Rattle.std.proofs.lemmas.Bool.{cases_lt, lt-ltb, le-ltb}
 use Rattle.std.proofs.lemmas.List.{get_or_append_left, get_or-append_right, get_or-replicate}
 use Rattle.bt_tree.specs.Blocks.{IsFileLength, block_count}
-use Rattle.bt_tree.specs.TreeShape.{height_of, real_width, IsInside, CoversBlock, IsPadding}
+use Rattle.bt_tree.specs.TreeShape.{height_of, real_width, IsInside, CoversBlock}
 use Rattle.bt_tree.specs.Tree.{padding_digest}
 use Rattle.bt_tree.specs.Peaks.{row_node}
 use Rattle.bt_tree.specs.Layers.{IsLayer, layer_digests}
 use Rattle.bt_tree.proofs.TreeNodes.{row_parent, row_node_same, fold_is, padding_suc}
 use Rattle.bt_tree.proofs.TreeShape.{real_limit, real_some}
-use Rattle.bt_sparse.specs.NodeMap.{Nodes, digest_at, HasDigests}
-use Rattle.bt_sparse.specs.SparseTree.{Facts, blocks_of, height, held_at, value_at, IsRooted, IsSound}
+use Rattle.bt_sparse.specs.NodeMap.{Nodes, digest_at}
+use Rattle.bt_sparse.specs.SparseTree.{Facts, height, held_at, value_at, IsSound}
 use Rattle.bt_sparse.specs.Layer.{layer_digest, HoldsLayer}
 use Rattle.bt_sparse.specs.LayerSteps.{IsFilled, IsWhole}
 use Rattle.bt_sparse.proofs.NodeMaps.{digest_at_new, digest_at_cases, digest_at_kept, digest_at_empty}
@@ -118,7 +118,7 @@ child dig n base below width row nodes pad j h low e = go (digest_at nodes below
     go None none = elim (cases_lt j (real_width n below)) [
       | inl real ↦ absurd (none_some (row_node dig row (below - base) j) (sym none ∙ h.holds below j low (inl (omega arith)) real))
       | inr le ↦ ap (λ o. unwrap_or o pad) none ∙ e ∙ ap (padding_digest dig) (sym up)
-        ∙ sym (row_past dig n base row h.past (below - base) j (subst (λ l. real_width n l ≤ j) (sym up) le))
+          ∙ sym (row_past dig n base row h.past (below - base) j (subst (λ l. real_width n l ≤ j) (sym up) le))
     ]
     go (Some d) held =
         let o = h.only below j d held in
@@ -179,9 +179,9 @@ module _ (dig : List ℕ → List ℕ) (bytes : ℕ) (row : ℕ → List ℕ) (b
     lawful = lawful;
     rooted = record {
       top = holds (height tree) 0 h.low record {
-          inside = record { in_height = omega arith; in_width = pow_pos (height tree - height tree) };
-          real = real_some (block_count bytes) (2 ^ height tree) (pow_pos (height tree)) (omega (arith, lawful.some));
-        } ∙ ap (λ x. Some x) folds;
+        inside = record { in_height = omega arith; in_width = pow_pos (height tree - height tree) };
+        real = real_some (block_count bytes) (2 ^ height tree) (pow_pos (height tree)) (omega (arith, lawful.some));
+      } ∙ ap (λ x. Some x) folds;
       covers = in_tree;
       below = λ l i d held low.
           let o = h.only l i d held in
@@ -215,12 +215,12 @@ pub layer_folds : (dig : List ℕ → List ℕ) (n layer : ℕ) (root bytes : Li
 layer_folds dig n layer root bytes size is =
     let chunks : List (List ℕ) = first_chunks 32 (real_width n layer) bytes in
     let one : (j : ℕ) → 0 * 2 ^ (height_of n - layer) ≤ j → j < (0 + 1) * 2 ^ (height_of n - layer)
-        → layer_digest dig n layer bytes j ≡ get_or (layer_digests dig n layer bytes) j [] = λ j low high. elim (cases_lt j (real_width n layer)) [
+    → layer_digest dig n layer bytes j ≡ get_or (layer_digests dig n layer bytes) j [] = λ j low high. elim (cases_lt j (real_width n layer)) [
       | inl real ↦ layer_real dig n layer bytes j real
-        ∙ sym (get_or_append_left (first_chunks 32 (real_width n layer) bytes) (replicate (2 ^ (height_of n - layer) - real_width n layer) (padding_digest dig layer)) [] j (omega (arith, size)))
+          ∙ sym (get_or_append_left (first_chunks 32 (real_width n layer) bytes) (replicate (2 ^ (height_of n - layer) - real_width n layer) (padding_digest dig layer)) [] j (omega (arith, size)))
       | inr past ↦ layer_past dig n layer bytes j past
-        ∙ sym (get_or-append_right (first_chunks 32 (real_width n layer) bytes) (replicate (2 ^ (height_of n - layer) - real_width n layer) (padding_digest dig layer)) (real_width n layer) j [] size past
-        ∙ get_or-replicate (2 ^ (height_of n - layer) - real_width n layer) (j - real_width n layer) (padding_digest dig layer) [] (omega arith))
+          ∙ sym (get_or-append_right (first_chunks 32 (real_width n layer) bytes) (replicate (2 ^ (height_of n - layer) - real_width n layer) (padding_digest dig layer)) (real_width n layer) j [] size past
+          ∙ get_or-replicate (2 ^ (height_of n - layer) - real_width n layer) (j - real_width n layer) (padding_digest dig layer) [] (omega arith))
     ] in
     row_node_same dig (layer_digest dig n layer bytes) (λ i. get_or (layer_digests dig n layer bytes) i []) (height_of n - layer) 0 one
     ∙ sym (fold_is dig (height_of n - layer) (layer_digests dig n layer bytes)) ∙ is.folds

@@ -18,7 +18,10 @@ mod sparse_tree;
 pub use answer::AnswerError;
 pub use claim::{Claim, Digests, ProofError};
 pub use laws::{
-    answers_agree, answers_are_taken, answers_reach_roots, claims_one, held_is_checked, keeps_rooted,
-    leaves_are_files,
+    answers_agree, answers_are_taken, answers_reach_roots, claims_one, held_is_checked,
+    keeps_rooted, leaves_are_files,
 };
 pub use sparse_tree::SparseTree;
+
+#[cfg(test)]
+mod tests;

@@ -1,4 +1,4 @@
-use Rattle.std.proofs.Common.{◌≡◌, ℕ, ◌/◌, ◌^◌, ap, ◌∙◌, sym, subst, ◌⊎◌, arith}
+use Rattle.std.proofs.Common.{◌≡◌, ◌/◌, ◌^◌, ap, ◌∙◌, subst, ◌⊎◌, arith}
 use Rattle.bt_tree.specs.Tree.{node_digest}
 use Rattle.bt_sparse.specs.SparseTree.{height, held_at}
 use Rattle.bt_sparse.specs.Laws.{IsClashOnPath}

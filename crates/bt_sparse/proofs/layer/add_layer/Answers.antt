@@ -1,4 +1,4 @@
-use Rattle.std.proofs.Common.{◌≡◌, ◌<◌, [], length, get_or, sym, ◌∙◌, subst, arith}
+use Rattle.std.proofs.Common.{◌≡◌, [], length, get_or, sym, subst, arith}
 use Rattle.bt_sparse.specs.LayerSteps.{IsFilled}
 use Rattle.bt_sparse.proofs.LayerNodes.{filled_row}
 use Rattle.bt_sparse.proofs.layer.add_layer.Goals as goal

@@ -1,4 +1,4 @@
-use Rattle.std.proofs.Common.{◌≡◌, ◌<◌, ◌≤◌, ◌+◌, ◌++◌, length, refl, sym, ap, ◌∙◌, subst, arith, add-one}
+use Rattle.std.proofs.Common.{◌≡◌, ◌+◌, ◌++◌, refl, sym, ap, ◌∙◌, subst, arith, add-one}
 use Rattle.bt_tree.specs.Blocks.{block_count}
 use Rattle.bt_tree.specs.TreeShape.{height_of, real_width}
 use Rattle.bt_tree.specs.Tree.{padding_digest}

@@ -1,6 +1,6 @@
 use Rattle.std.proofs.Common.{◌≡◌, ℕ, ◌<◌, ◌≤◌, List, [], length, get_or}
 use Rattle.bt_tree.specs.Blocks.{block_count}
-use Rattle.bt_tree.specs.TreeShape.{height_of, real_width}
+use Rattle.bt_tree.specs.TreeShape.{real_width}
 use Rattle.bt_tree.specs.Tree.{padding_digest}
 use Rattle.bt_sparse.specs.LayerSteps.{IsFilled}
 use Rattle.bt_sparse.proofs.layer.nodes_from.Given as goal

@@ -1,4 +1,4 @@
-use Rattle.std.proofs.Common.{◌≡◌, ℕ, ◌<◌, ◌≤◌, ◌-◌, ◌/◌, ◌*◌, List, [], length, get_or, refl, sym, ap, ◌∙◌, arith}
+use Rattle.std.proofs.Common.{◌≡◌, ℕ, ◌/◌, [], length, get_or, refl, sym, ap, ◌∙◌, arith}
 use Rattle.std.specs.Simd.{first_chunks}
 use Rattle.bt_tree.specs.Blocks.{block_count}
 use Rattle.bt_tree.specs.TreeShape.{real_width}
@@ -18,7 +18,7 @@ invariant_of-result g c =
     let size : length (first_chunks 32 (real_width (block_count c.args.geometry) c.args.layer) c.args.bytes.now) ≡ real_width (block_count c.args.geometry) c.args.layer =
     ap length (sym chunks) ∙ c.as_chunks.ensures.front_len ∙ count in
     let whole : IsWhole g.H.NodeHash.digest (block_count c.args.geometry) (layer_digest g.H.NodeHash.digest (block_count c.args.geometry) c.args.layer c.args.bytes.now)
-        c.args.layer c.in-Ok-nodes_from.nodes =
+    c.args.layer c.in-Ok-nodes_from.nodes =
     c.in-Ok-nodes_from.ensures (layer_digest g.H.NodeHash.digest (block_count c.args.geometry) c.args.layer c.args.bytes.now)
     (λ i lt. layer_real g.H.NodeHash.digest (block_count c.args.geometry) c.args.layer c.args.bytes.now i (omega (arith, lt, ap length chunks, size)) ∙ sym (ap (λ ds. get_or ds i []) chunks))
     (λ i le. layer_past g.H.NodeHash.digest (block_count c.args.geometry) c.args.layer c.args.bytes.now i (omega (arith, le, ap length chunks, size))) in
@@ -35,7 +35,7 @@ returns-clause-ok g c =
     let size : length (first_chunks 32 (real_width (block_count c.args.geometry) c.args.layer) c.args.bytes.now) ≡ real_width (block_count c.args.geometry) c.args.layer =
     ap length (sym chunks) ∙ c.as_chunks.ensures.front_len ∙ count in
     let whole : IsWhole g.H.NodeHash.digest (block_count c.args.geometry) (layer_digest g.H.NodeHash.digest (block_count c.args.geometry) c.args.layer c.args.bytes.now)
-        c.args.layer c.in-Ok-nodes_from.nodes =
+    c.args.layer c.in-Ok-nodes_from.nodes =
     c.in-Ok-nodes_from.ensures (layer_digest g.H.NodeHash.digest (block_count c.args.geometry) c.args.layer c.args.bytes.now)
     (λ i lt. layer_real g.H.NodeHash.digest (block_count c.args.geometry) c.args.layer c.args.bytes.now i (omega (arith, lt, ap length chunks, size)) ∙ sym (ap (λ ds. get_or ds i []) chunks))
     (λ i le. layer_past g.H.NodeHash.digest (block_count c.args.geometry) c.args.layer c.args.bytes.now i (omega (arith, le, ap length chunks, size))) in
