@@ -95,7 +95,7 @@ padded_below dig n c all layer i d claim low past =
     ]
 
 -- below padding there is padding
-real_below : (n layer i : ℕ) → real_width n (layer + 1) ≤ i → real_width n layer ≤ 2 * i
+pub real_below : (n layer i : ℕ) → real_width n (layer + 1) ≤ i → real_width n layer ≤ 2 * i
 real_below n layer i le =
     let wide : 2 ^ (layer + 1) ≡ 2 ^ layer * 2 = power_next layer in
     let rounds : n ≤ real_width n (layer + 1) * 2 ^ (layer + 1) = (div_ceil_times n (2 ^ (layer + 1)) (pow_pos (layer + 1))).0 in
@@ -167,7 +167,7 @@ agrees dig k c shape rooted top all layer i d e claim held = elim (cases_lt laye
 ]
 
 -- ---- a clash
-list_cases : (xs ys : List ℕ) → (xs ≡ ys) ⊎ (xs ≢ ys)
+pub list_cases : (xs ys : List ℕ) → (xs ≡ ys) ⊎ (xs ≢ ys)
 list_cases xs ys = go (pointwise eqb xs ys) refl
   where
     go : (r : Bool) → pointwise eqb xs ys ≡ r → (xs ≡ ys) ⊎ (xs ≢ ys)

@@ -11,3 +11,6 @@ pub mod Paths
 pub mod Single
 pub mod NodeMaps
 pub mod Requests
+pub mod LayerNodes
+pub mod Taken
+pub mod Leaves

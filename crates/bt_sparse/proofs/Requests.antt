@@ -1,13 +1,12 @@
 -- Requests, and the claims that their answers make.
-use Rattle.std.proofs.Common.{◌≡◌, ℕ, zero, suc, ◌+◌, ◌-◌, ◌*◌, ◌/◌, ◌%◌, ◌^◌, ◌<◌, ◌≤◌, inl, inr, List, [], ◌∷◌, ◌++◌, length, take, drop, replicate, get_or, Option, Some, None, ◌≢◌, refl, sym, ap, ◌∙◌, subst, length-drop, arith}
+use Rattle.std.proofs.Common.{◌≡◌, ℕ, ◌+◌, ◌-◌, ◌/◌, ◌^◌, ◌<◌, ◌≤◌, inl, inr, List, [], ◌∷◌, ◌++◌, length, take, drop, replicate, get_or, Option, Some, None, ◌≢◌, refl, sym, ap, ◌∙◌, subst, length-drop, arith}
 use Rattle.std.specs.Option.{unwrap_or, IsSome}
 use Rattle.std.proofs.lemmas.Bool.{cases_lt, lt-ltb, le-ltb, false≢true}
 use Rattle.std.proofs.lemmas.List.{length-take-le, get_or-take, get_or-drop, get_or_append_left, get_or_push, length-replicate}
 use Rattle.bt_tree.specs.TreeShape.{height_of, IsInside, CoversBlock, IsPadding}
 use Rattle.bt_tree.specs.Tree.{padding_digest}
-use Rattle.bt_sparse.specs.declared.claim.Claim.{Claim}
 use Rattle.bt_sparse.specs.SparseTree.{Facts, blocks_of, height, held_at, value_at, IsRooted}
-use Rattle.bt_sparse.specs.Claim.{Claims, uncle, HasShape, run_height, run_top, path_node, sibling_of}
+use Rattle.bt_sparse.specs.Claim.{uncle, HasShape, sibling_of}
 use Rattle.bt_sparse.specs.Answer.{IsRequest, IsAnswer, IsMadeOf, claim_of, answer_size, answer_layer, answer_index, uncle_count}
 use Rattle.bt_sparse.proofs.Values.{value_covers, value_padding, cases_node}
 use Rattle.bt_sparse.proofs.Claims.{claimed_inside}

@@ -89,7 +89,13 @@ impl Request {
 impl<H: NodeHash> SparseTree<H> {
     /// The digests that answer a hash request (BEP 52): a run of `length` nodes of layer `base` from `index` on, then the
     /// uncles from the lowest layer up, one for each of the proof layers above the run's own.
-    pub fn answer(&self, base: u32, index: u32, length: u32, layers: u32) -> Result<Vec<Hash32>, AnswerError>
+    pub fn answer(
+        &self,
+        base: u32,
+        index: u32,
+        length: u32,
+        layers: u32,
+    ) -> Result<Vec<Hash32>, AnswerError>
         ensures ok { IfOk result (λ digests. IsAnswer H.digest self.now base index length layers digests.items) }
         ensures shape { (result ≡ Err AnswerError.Shape) ↔ (¬ IsRequest (height self.now) base index length layers) }
         ensures unknown { (result ≡ Err AnswerError.Unknown)

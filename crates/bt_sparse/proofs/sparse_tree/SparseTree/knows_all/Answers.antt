@@ -1,7 +1,6 @@
-use Rattle.std.proofs.Common.{◌≡◌, ◌≢◌, ℕ, ◌<◌, ◌+◌, None, refl, sym, ap, ◌∙◌, subst, inl, inr, arith}
+use Rattle.std.proofs.Common.{◌≡◌, ◌≢◌, None, sym, ap, ◌∙◌, subst, inl, inr, arith}
 use Rattle.std.proofs.lemmas.Bool.{cases_lt, false≢true}
-use Rattle.bt_tree.specs.TreeShape.{IsInside}
-use Rattle.bt_sparse.specs.SparseTree.{blocks_of, height, value_at}
+use Rattle.bt_sparse.specs.SparseTree.{value_at}
 use Rattle.bt_sparse.specs.Answer.{answer_layer, answer_index}
 use Rattle.bt_sparse.proofs.Requests.{answer_inside, value_option, within_inside}
 use Rattle.bt_sparse.proofs.sparse_tree.SparseTree.knows_all.Goals as goal

@@ -1,8 +1,8 @@
-use Rattle.std.proofs.Common.{◌≡◌, ◌≢◌, ℕ, ◌<◌, ◌≤◌, ◌+◌, ◌++◌, ◌∷◌, [], length, get_or, Some, None, refl, sym, ap, ◌∙◌, subst, arith}
+use Rattle.std.proofs.Common.{◌≡◌, ◌+◌, [], get_or, Some, sym, ap, ◌∙◌, arith}
 use Rattle.std.specs.Option.{unwrap_or}
 use Rattle.std.proofs.lemmas.List.{length_push}
 use Rattle.bt_tree.specs.TreeShape.{IsInside}
-use Rattle.bt_sparse.specs.SparseTree.{blocks_of, height, held_at, value_at}
+use Rattle.bt_sparse.specs.SparseTree.{blocks_of, held_at, value_at}
 use Rattle.bt_sparse.specs.Answer.{answer_layer, answer_index}
 use Rattle.bt_sparse.proofs.Requests.{answer_inside, known_value, one_more_value, within_inside}
 use Rattle.bt_sparse.proofs.sparse_tree.SparseTree.values.Goals as goal
