@@ -1,12 +1,12 @@
 -- The nodes of a claim lie in the tree, in pairs of siblings below their parent, but for the last.
-use Rattle.std.proofs.Common.{◌≡◌, ℕ, suc, ◌+◌, ◌-◌, ◌*◌, ◌/◌, ◌^◌, ◌<◌, ◌≤◌, inl, inr, List, [], ◌++◌, length, get_or, refl, sym, ap, ◌∙◌, subst, arith}
+use Rattle.std.proofs.Common.{◌≡◌, ℕ, zero, suc, ◌+◌, ◌-◌, ◌*◌, ◌/◌, ◌^◌, ◌<◌, ◌≤◌, inl, inr, List, [], ◌++◌, length, get_or, refl, sym, ap, ◌∙◌, subst, arith}
 use Rattle.std.proofs.Math.Nat.{pow-suc, div-div-eq-div-mul}
 use Rattle.std.proofs.lemmas.Nat.{pow_pos, div_below}
 use Rattle.std.proofs.lemmas.Bool.{cases_lt}
 use Rattle.bt_tree.specs.Peaks.{row_node}
 use Rattle.bt_tree.proofs.TreeNodes.{row_parent}
 use Rattle.bt_sparse.specs.declared.claim.Claim.{Claim}
-use Rattle.bt_sparse.specs.Claim.{Claims, in_run, on_path, uncle, run_height, run_top, run_node, run_digest, path_digest, sibling_of, top_layer, top_node, HasShape}
+use Rattle.bt_sparse.specs.Claim.{Claims, in_run, on_path, uncle, run_height, run_top, run_node, run_digest, path_node, path_digest, sibling_of, top_layer, top_node, HasShape}
 use Rattle.bt_sparse.proofs.Halves.{parity, half_div, power_split, below_times}
 
 -- both children of a node, and the node
@@ -17,7 +17,7 @@ pub record IsClaimedPair (dig : List ℕ → List ℕ) (c : Claim) (layer i : �
   pub claims_right : Claims dig c layer (2 * i + 1) right
   pub above : Claims dig c (layer + 1) i (dig (left ++ right))
 
-double_div : (i j n : ℕ) → i / 2 ≡ j → i / 2 ^ suc n ≡ j / 2 ^ n
+pub double_div : (i j n : ℕ) → i / 2 ≡ j → i / 2 ^ suc n ≡ j / 2 ^ n
 double_div i j n e = half_div i n ∙ ap (λ h. h / 2 ^ n) e
 
 run_pair : (dig : List ℕ → List ℕ) (c : Claim) (k i : ℕ) → suc k ≤ run_height c → i / 2 ^ (run_height c - suc k) ≡ run_node c → IsClaimedPair dig c (c.base + k) i
@@ -32,9 +32,9 @@ run_pair dig c k i low under =
       above = in_run record { above = suc k; here = omega arith; low = low; under = under; digest = row_parent dig (run_digest c) k i (2 * i) (2 * i + 1) refl refl };
     }
 
-path_pair : (dig : List ℕ → List ℕ) (c : Claim) (t : ℕ) → t < length c.uncles → IsClaimedPair dig c (run_top c + t) (run_node c / 2 ^ t / 2)
+path_pair_claimed : (dig : List ℕ → List ℕ) (c : Claim) (t : ℕ) → t < length c.uncles → IsClaimedPair dig c (run_top c + t) (run_node c / 2 ^ t / 2)
 unfolding path_digest
-path_pair dig c t within =
+path_pair_claimed dig c t within =
     let e : ℕ = run_node c / 2 ^ t in
     let own : List ℕ = path_digest dig c t in
     let other : List ℕ = get_or c.uncles t [] in
@@ -56,13 +56,13 @@ path_pair dig c t within =
       }
     ]
 
-half_sibling : (e : ℕ) → sibling_of e / 2 ≡ e / 2
+pub half_sibling : (e : ℕ) → sibling_of e / 2 ≡ e / 2
 half_sibling e = elim (parity e) [
   | inl p ↦ rw p.1 (let same : (e + 1) / 2 ≡ e / 2 = omega (arith, p.0) in same)
   | inr p ↦ rw p.1 (let same : (e - 1) / 2 ≡ e / 2 = omega (arith, p.0) in same)
 ]
 
-at_top : (c : Claim) (k i : ℕ) → run_height c ≤ k → k ≤ run_height c → i / 2 ^ (run_height c - k) ≡ run_node c → i ≡ run_node c / 2 ^ 0
+pub at_top : (c : Claim) (k i : ℕ) → run_height c ≤ k → k ≤ run_height c → i / 2 ^ (run_height c - k) ≡ run_node c → i ≡ run_node c / 2 ^ 0
 at_top c k i le ge under =
     let none : run_height c - k ≡ 0 = omega arith in
     let same : i / 1 ≡ run_node c = ap (λ n. i / 2 ^ n) (sym none) ∙ under in
@@ -78,13 +78,13 @@ pair_of dig c layer i d (in_run h) low = elim (cases_lt h.above (run_height c)) 
   | inr le ↦
       let here : layer ≡ run_top c + 0 = omega (arith, h.here, h.low) in
       let node : i ≡ run_node c / 2 ^ 0 = at_top c h.above i le h.low h.under in
-      subst (λ l. IsClaimedPair dig c l (i / 2)) (sym here) (subst (λ j. IsClaimedPair dig c (run_top c + 0) (j / 2)) (sym node) (path_pair dig c 0 (omega (arith, here, low))))
+      subst (λ l. IsClaimedPair dig c l (i / 2)) (sym here) (subst (λ j. IsClaimedPair dig c (run_top c + 0) (j / 2)) (sym node) (path_pair_claimed dig c 0 (omega (arith, here, low))))
 ]
 pair_of dig c layer i d (on_path h) low =
-    subst (λ l. IsClaimedPair dig c l (i / 2)) (sym h.here) (subst (λ j. IsClaimedPair dig c (run_top c + h.above) (j / 2)) (sym h.node) (path_pair dig c h.above (omega (arith, h.here, low))))
+    subst (λ l. IsClaimedPair dig c l (i / 2)) (sym h.here) (subst (λ j. IsClaimedPair dig c (run_top c + h.above) (j / 2)) (sym h.node) (path_pair_claimed dig c h.above (omega (arith, h.here, low))))
 pair_of dig c layer i d (uncle h) low =
     subst (λ l. IsClaimedPair dig c l (i / 2)) (sym h.here)
-    (subst (λ j. IsClaimedPair dig c (run_top c + h.above) j) (sym (ap (λ j. j / 2) h.node ∙ half_sibling (run_node c / 2 ^ h.above))) (path_pair dig c h.above h.within))
+    (subst (λ j. IsClaimedPair dig c (run_top c + h.above) j) (sym (ap (λ j. j / 2) h.node ∙ half_sibling (run_node c / 2 ^ h.above))) (path_pair_claimed dig c h.above h.within))
 
 -- and no node is claimed above it
 pub last_of : (dig : List ℕ → List ℕ) (c : Claim) (layer i : ℕ) (d : List ℕ) → Claims dig c layer i d → top_layer c ≤ layer → (layer ≡ top_layer c) × (i ≡ top_node c)
@@ -127,3 +127,39 @@ claimed_inside dig h c layer i d shape (uncle r) =
         | inr p ↦ rw p.1 (omega (arith, p.0, even, beside))
       ]),
     )
+
+-- the two nodes below the top
+pub record IsTopPair (dig : List ℕ → List ℕ) (c : Claim) : Type 0 where
+  pub some : 0 < top_layer c
+  pub pair : IsClaimedPair dig c (top_layer c - 1) (top_node c)
+
+pub top_pair : (dig : List ℕ → List ℕ) (h : ℕ) (c : Claim) → HasShape h c → IsTopPair dig c
+top_pair dig h c shape = go (length c.uncles) refl
+  where
+    some_layers : 0 < run_height c
+    some_layers = above (run_height c) shape.power
+      where
+        above : (m : ℕ) → length c.run ≡ 2 ^ m → 0 < m
+        above zero e = absurd (omega (arith, shape.some, e))
+        above (suc m) e = omega arith
+
+    go : (q : ℕ) → length c.uncles ≡ q → IsTopPair dig c
+    go zero e =
+        let up : run_height c ≡ suc (run_height c - 1) = omega (arith, some_layers) in
+        let none : run_height c - suc (run_height c - 1) ≡ 0 = omega (arith, some_layers) in
+        let whole : run_node c / 1 ≡ run_node c = omega arith in
+        let node : run_node c ≡ top_node c = sym whole ∙ ap (path_node c) (sym e) in
+        let below : c.base + (run_height c - 1) ≡ top_layer c - 1 = omega (arith, e, some_layers) in
+        record {
+          some = omega (arith, some_layers);
+          pair = subst (λ l. IsClaimedPair dig c l (top_node c)) below (subst (IsClaimedPair dig c (c.base + (run_height c - 1))) node
+              (run_pair dig c (run_height c - 1) (run_node c) (omega arith) (ap (λ n. run_node c / 2 ^ n) none ∙ whole)));
+        }
+    go (suc q) e =
+        let below : run_top c + q ≡ top_layer c - 1 = omega (arith, e) in
+        let half : path_node c q / 2 ≡ top_node c =
+        div-div-eq-div-mul (run_node c) (2 ^ q) 2 ∙ ap (λ p. run_node c / p) (sym (pow-suc 2 q)) ∙ ap (path_node c) (sym e) in
+        record {
+          some = omega (arith, e);
+          pair = subst (λ l. IsClaimedPair dig c l (top_node c)) below (subst (IsClaimedPair dig c (run_top c + q)) half (path_pair_claimed dig c q (omega arith)));
+        }

@@ -1,8 +1,16 @@
 pub mod Halves
 pub mod Values
 pub mod Claims
+pub mod Expansions
+pub mod Differences
+pub mod Growths
+pub mod Acceptances
 pub mod Joins
 pub mod Answers
 pub mod Paths
 pub mod Single
 pub mod NodeMaps
+pub mod Requests
+pub mod LayerNodes
+pub mod Taken
+pub mod Leaves

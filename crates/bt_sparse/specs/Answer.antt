@@ -1,7 +1,7 @@
 -- The digests that answer a hash request (BEP 52, the messages "hash request" and "hashes").
-use Rattle.std.specs.Prelude.{◌≡◌, ℕ, ◌+◌, ◌-◌, ◌/◌, ◌%◌, ◌^◌, ◌<◌, ◌≤◌, List, length, take, drop, slice_index_or, [], Some, None, nat_lt, if◌then◌else◌}
+use Rattle.std.specs.Prelude.{◌≡◌, ◌≢◌, ℕ, ◌+◌, ◌-◌, ◌/◌, ◌%◌, ◌^◌, ◌<◌, ◌≤◌, List, length, take, drop, slice_index_or, [], Some, None, nat_lt, if◌then◌else◌}
 use Rattle.bt_tree.specs.TreeShape.{height_of}
-use Rattle.bt_sparse.specs.SparseTree.{Facts, height, value_at}
+use Rattle.bt_sparse.specs.SparseTree.{Facts, value_at}
 use Rattle.bt_sparse.specs.Claim.{run_top, path_node, sibling_of}
 use Rattle.bt_sparse.specs.declared.claim.Claim.{Claim}
 
@@ -48,6 +48,11 @@ pub record HasUnknown (dig : List ℕ → List ℕ) (k : Facts) (base index coun
   pub t : ℕ
   pub within : t < answer_size count layers
   pub unknown : value_at dig k (answer_layer base count t) (answer_index index count t) ≡ None
+
+-- each of them is known
+abbrev pub KnowsAll : (List ℕ → List ℕ) → Facts → ℕ → ℕ → ℕ → ℕ → Type 0
+KnowsAll dig k base index count layers = (t : ℕ) → t < answer_size count layers
+    → value_at dig k (answer_layer base count t) (answer_index index count t) ≢ None
 
 -- the claim that an answer makes
 abbrev pub claim_of : ℕ → ℕ → ℕ → List (List ℕ) → Claim

@@ -1,9 +1,11 @@
 -- What follows from the definitions.
-use Rattle.std.specs.Prelude.{◌≡◌, ℕ, List, Some}
-use Rattle.bt_sparse.specs.SparseTree.{Facts, height, held_at, value_at, IsRooted, IsChecked}
-use Rattle.bt_sparse.specs.Claim.{Claims, HasShape}
-use Rattle.bt_sparse.specs.Acceptance.{Accepts}
-use Rattle.bt_sparse.specs.Answer.{IsMadeOf}
+use Rattle.std.specs.Prelude.{◌≡◌, ◌≢◌, ℕ, ◌+◌, ◌*◌, ◌/◌, ◌^◌, ◌<◌, ◌⊎◌, List, ◌++◌, length, Some, IsSome}
+use Rattle.bt_tree.specs.Tree.{node_digest, file_root, input_at}
+use Rattle.bt_sparse.specs.NodeMap.{HasDigests}
+use Rattle.bt_sparse.specs.SparseTree.{Facts, height, held_at, value_at, root_facts, IsRooted, IsChecked}
+use Rattle.bt_sparse.specs.Claim.{Claims, HasShape, top_layer, top_node}
+use Rattle.bt_sparse.specs.Acceptance.{Agrees, IsAcceptable, Accepts}
+use Rattle.bt_sparse.specs.Answer.{IsRequest, IsAnswer, IsMadeOf, claim_of}
 use Rattle.bt_sparse.specs.declared.claim.Claim.{Claim}
 
 -- a tree that is rooted stays so when a claim is accepted
@@ -23,3 +25,36 @@ ClaimsOne dig = (c : Claim) (layer i : ℕ) (d e : List ℕ) → Claims dig c la
 abbrev pub AnswersAgree : (List ℕ → List ℕ) → Type 0
 AnswersAgree dig = (k : Facts) (c : Claim) → IsRooted dig k → HasShape (height k) c → IsMadeOf dig k c
     → (layer i : ℕ) (d : List ℕ) → Claims dig c layer i d → value_at dig k layer i ≡ Some d
+
+-- What a rooted tree answers, made a claim, is acceptable to every rooted tree of the same file length and root that holds
+-- the claim's top and no node of it with another digest.
+abbrev pub AnswersAreTaken : (List ℕ → List ℕ) → Type 0
+AnswersAreTaken dig = (k other : Facts) (base index count layers : ℕ) (digests : List (List ℕ)) → IsRooted dig k
+    → IsRequest (height k) base index count layers → IsAnswer dig k base index count layers digests
+    → other.file_length ≡ k.file_length
+    → IsSome (held_at other (top_layer (claim_of base index count digests)) (top_node (claim_of base index count digests)))
+    → Agrees dig other (claim_of base index count digests) → IsAcceptable dig other (claim_of base index count digests)
+
+-- and one that knows the root alone accepts it, where the uncles reach up to the root
+abbrev pub AnswersReachRoots : (List ℕ → List ℕ) → Type 0
+AnswersReachRoots dig = (k : Facts) (base index count layers : ℕ) (digests : List (List ℕ)) → IsRooted dig k
+    → IsRequest (height k) base index count layers → IsAnswer dig k base index count layers digests
+    → top_layer (claim_of base index count digests) ≡ height k
+    → IsAcceptable dig (root_facts k.file_length k.root) (claim_of base index count digests)
+
+-- At a node on the path from leaf i up, the tree's two digests below it are another input than the file's, of one digest.
+pub record IsClashOnPath (dig : List ℕ → List ℕ) (k : Facts) (file : List ℕ) (i : ℕ) : Type 0 where
+  pub layer : ℕ
+  pub left : List ℕ
+  pub right : List ℕ
+  pub low : layer < height k
+  pub left_value : value_at dig k layer (2 * (i / 2 ^ (layer + 1))) ≡ Some left
+  pub right_value : value_at dig k layer (2 * (i / 2 ^ (layer + 1)) + 1) ≡ Some right
+  pub inputs : left ++ right ≢ input_at dig file (layer + 1) (i / 2 ^ (layer + 1))
+  pub digests : dig (left ++ right) ≡ dig (input_at dig file (layer + 1) (i / 2 ^ (layer + 1)))
+
+-- For every file of the tree's length and root, a leaf that the tree holds is the file's, or a clash is found.
+abbrev pub LeavesAreFiles : (List ℕ → List ℕ) → Type 0
+LeavesAreFiles dig = (k : Facts) (file : List ℕ) (i : ℕ) (d : List ℕ) → IsRooted dig k → HasDigests k.nodes
+    → length file ≡ k.file_length → file_root dig file ≡ k.root → held_at k 0 i ≡ Some d
+    → (d ≡ node_digest dig file 0 i) ⊎ IsClashOnPath dig k file i

@@ -3,4 +3,8 @@ pub mod SparseTree
 pub mod Claim
 pub mod Acceptance
 pub mod Answer
+pub mod Layer
+pub mod LayerSteps
 pub mod Laws
+pub mod ExpansionSteps
+pub mod AcceptanceSteps

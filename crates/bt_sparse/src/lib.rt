@@ -6,11 +6,19 @@
 //! its digest and its sibling's give its parent's, and so on up to the root.
 #![tactic(auto)]
 
+mod acceptance;
+mod answer;
 mod claim;
+mod expansion;
 mod laws;
+mod layer;
 mod node_map;
 mod sparse_tree;
 
+pub use answer::AnswerError;
 pub use claim::{Claim, Digests, ProofError};
-pub use laws::{answers_agree, claims_one, held_is_checked, keeps_rooted};
+pub use laws::{
+    answers_agree, answers_are_taken, answers_reach_roots, claims_one, held_is_checked, keeps_rooted,
+    leaves_are_files,
+};
 pub use sparse_tree::SparseTree;

@@ -9,10 +9,11 @@ use std::marker::Model;
 /// A file's hash tree of which some nodes are held, the root among them.
 #[derive(Drop)]
 pub struct SparseTree<H: NodeHash> {
-    hash: H,
-    geometry: Geometry,
-    root: Hash32,
-    nodes: NodeMap,
+    pub(crate) alloc: Global,
+    pub(crate) hash: H,
+    pub(crate) geometry: Geometry,
+    pub(crate) root: Hash32,
+    pub(crate) nodes: NodeMap,
 }
 
 impl<H: NodeHash> Model for SparseTree<H> {
@@ -42,6 +43,7 @@ impl<H: NodeHash> SparseTree<H> {
         let mut nodes = NodeMap::new(alloc);
         nodes.insert(geometry.height() as u32, 0, root)?;
         Ok(SparseTree {
+            alloc,
             hash,
             geometry,
             root,

@@ -1,6 +1,6 @@
-use Rattle.std.proofs.Common.{◌≡◌, ◌-◌, ◌^◌, ◌≤◌, ◌<◌, Some, None, sym, ap, ◌∙◌, subst, arith}
+use Rattle.std.proofs.Common.{◌≡◌, Some, None, sym, ap, ◌∙◌, subst, arith}
 use Rattle.bt_tree.specs.Tree.{padding_digest}
-use Rattle.bt_sparse.specs.SparseTree.{Facts, height, blocks_of, held_at, value_at}
+use Rattle.bt_sparse.specs.SparseTree.{held_at, value_at}
 use Rattle.bt_sparse.proofs.Values.{value_high, value_wide, value_covers, value_padding}
 use Rattle.bt_sparse.proofs.sparse_tree.SparseTree.known.Goals as goal
 

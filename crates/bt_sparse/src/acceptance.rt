@@ -1,0 +1,220 @@
+ghost use Rattle.std.specs.Prelude.{◌≡◌, ℕ, ◌+◌, ◌*◌, ◌<◌, ◌≤◌, ◌↔◌, ◌++◌, List, [], ◌^◌, IsTrue, IfOk, IfErr, IfSome, OnErr, MatchOption, length, slice_index_or};
+ghost use Rattle.std.specs.List.{All};
+ghost use Rattle.std.specs.FinMap as finite;
+ghost use Rattle.bt_tree.specs.Limits.{max_block_count, max_height};
+ghost use Rattle.bt_tree.specs.Blocks.{block_count};
+ghost use Rattle.bt_tree.specs.TreeShape.{height_of};
+ghost use Rattle.bt_tree.specs.Tree.{padding_digest};
+ghost use Rattle.bt_sparse.specs.SparseTree.{blocks_of, height, IsRooted};
+ghost use Rattle.bt_sparse.specs.Acceptance.{Accepts, IsRefused};
+ghost use Rattle.bt_sparse.specs.ExpansionSteps.{IsPairOf};
+ghost use Rattle.bt_sparse.specs.AcceptanceSteps.{IsPairIn, IsPadded, HasNoDifference, IsDifference, higher_of, IsHighestOf, IsPut, AgreesAt, IsGrownBy};
+
+use crate::claim::{Claim, ProofError};
+use crate::expansion::{ClaimedPair, expand, has_shape};
+use crate::node_map::NodeMap;
+use crate::sparse_tree::SparseTree;
+use bt_tree::{Geometry, Hash32, NodeHash};
+use std::alloc::AllocError;
+
+/// A pair of siblings that a claim names, and the tree's digests of the two, of which one or both differ.
+#[derive(Clone, Copy)]
+struct Difference {
+    pair: ClaimedPair,
+    left: Hash32,
+    right: Hash32,
+}
+
+/// The digests of the padding at each layer up to the height of a tree.
+pub(crate) fn padding_digests<H: NodeHash>(hash: H, height: u8) -> [Hash32; 27]
+    requires { height ≤ max_height }
+    ensures { (layer : ℕ) → layer ≤ height → slice_index_or result layer [] ≡ padding_digest H.digest layer }
+{
+    let mut digests = [[0; 32]; 27];
+    for layer in 0..height as usize {
+        let below = digests[layer];
+        digests[layer + 1] = hash.pair(&below, &below);
+    }
+    digests
+}
+
+/// The 64 bytes of two digests.
+fn input(left: &Hash32, right: &Hash32) -> [u8; 64]
+    ensures value { result ≡ left.now ++ right.now }
+    ensures left { length left.now ≡ 32 }
+    ensures right { length right.now ≡ 32 }
+{
+    let mut bytes = [0; 64];
+    bytes[..32].copy_from_slice(&left[..]);
+    bytes[32..].copy_from_slice(&right[..]);
+    bytes
+}
+
+impl ClaimedPair {
+    /// Whether each of the two nodes from index `real` on has this digest.
+    fn is_padded(&self, real: u32, padding: &Hash32) -> bool
+        requires { self.now.index < max_block_count }
+        ensures { IsTrue result ↔ ((real ≤ 2 * self.now.index → self.now.left ≡ padding.now)
+            × (real ≤ 2 * self.now.index + 1 → self.now.right ≡ padding.now)) }
+    {
+        (2 * self.index < real || self.left == *padding)
+            && (2 * self.index + 1 < real || self.right == *padding)
+    }
+}
+
+/// Of two differences the higher one, and in one layer the one to the left.
+fn higher(found: Option<Difference>, next: Option<Difference>) -> Option<Difference>
+    ensures { result ≡ higher_of found next }
+{
+    match (found, next) {
+        (None, _) => next,
+        (Some(_), None) => found,
+        (Some(f), Some(n)) => {
+            let is_above = n.pair.layer > f.pair.layer;
+            let is_left = n.pair.layer == f.pair.layer && n.pair.index < f.pair.index;
+            if is_above || is_left { next } else { found }
+        }
+    }
+}
+
+impl<H: NodeHash> SparseTree<H> {
+    /// Takes a claim, and answers how many nodes are newly held. A refusal leaves the tree as it was.
+    ///
+    /// The refusals are P1, P3, P4, P5 and P6 of `ProofError`, in this order, and P7, which may come in place of any but
+    /// P1.
+    pub fn accept(&mut self, claim: &Claim) -> Result<u32, ProofError>
+        ensures ok { IfOk result (λ _. Accepts H.digest self.old claim.now self.new) }
+        ensures count { IfOk result (λ count. finite.len self.new.nodes ≡ finite.len self.old.nodes + count) }
+        ensures refused { IfErr result (IsRefused H.digest self.old claim.now) }
+        ensures unchanged { OnErr result (self.new ≡ self.old) }
+    {
+        let height = self.geometry.height();
+        if !has_shape(height, claim) {
+            return Err(ProofError::Shape);
+        }
+        let Ok(expansion) = expand(self.hash, self.alloc, height, claim) else {
+            return Err(ProofError::OutOfMemory);
+        };
+        let pairs = expansion.pairs.as_slice();
+        if !are_padded(self.hash, self.geometry, pairs) {
+            return Err(ProofError::Padding);
+        }
+        let Some(top) = self.held(expansion.top_layer, expansion.top_node) else {
+            return Err(ProofError::NoAnchor);
+        };
+        if top != expansion.top_digest {
+            return Err(ProofError::TopDiffers);
+        }
+        if let Some(found) = self.highest_difference(pairs) {
+            return Err(ProofError::Clash {
+                layer: found.pair.layer + 1,
+                index: found.pair.index,
+                ours: input(&found.left, &found.right),
+                theirs: input(&found.pair.left, &found.pair.right),
+            });
+        }
+        let Ok((nodes, count)) = with_pairs(self.hash, self.geometry, &self.nodes, pairs) else {
+            return Err(ProofError::OutOfMemory);
+        };
+        self.nodes = nodes;
+        Ok(count)
+    }
+
+    /// The highest of these pairs of which the tree knows another digest, and in one layer the leftmost.
+    fn highest_difference(&self, pairs: &[ClaimedPair]) -> Option<Difference>
+        requires inside { All (IsPairIn (height self.now)) pairs.now }
+        requires padded { All (IsPadded H.digest (blocks_of self.now)) pairs.now }
+        requires rooted { IsRooted H.digest self.now }
+        ensures { IsHighestOf H.digest self.now pairs.now result }
+    {
+        let mut highest = None;
+        for pair in pairs {
+            highest = higher(highest, self.difference(pair));
+        }
+        highest
+    }
+
+    /// The tree's digests of a pair, where both are known and one or both differ.
+    fn difference(&self, pair: &ClaimedPair) -> Option<Difference>
+        requires inside { IsPairIn (height self.now) pair.now }
+        requires padded { IsPadded H.digest (blocks_of self.now) pair.now }
+        requires rooted { IsRooted H.digest self.now }
+        ensures pair { IfSome result (λ difference. difference.pair ≡ pair.now) }
+        ensures differs { MatchOption result (HasNoDifference H.digest self.now pair.now) (IsDifference H.digest self.now) }
+    {
+        // In a rooted tree a held node's sibling is held too, or is padding; and the padding was compared.
+        let left = self.held(pair.layer, 2 * pair.index)?;
+        let right = self
+            .held(pair.layer, 2 * pair.index + 1)
+            .unwrap_or(pair.right);
+        if left == pair.left && right == pair.right {
+            return None;
+        }
+        Some(Difference {
+            pair: *pair,
+            left,
+            right,
+        })
+    }
+}
+
+/// Whether each node of these pairs that covers no block has the digest of the padding.
+fn are_padded<H: NodeHash>(hash: H, geometry: Geometry, pairs: &[ClaimedPair]) -> bool
+    requires { All (IsPairIn (height_of (block_count geometry))) pairs.now }
+    ensures { IsTrue result ↔ All (IsPadded H.digest (block_count geometry)) pairs.now }
+{
+    let padding = padding_digests(hash, geometry.height());
+    for pair in pairs {
+        let real = geometry.real(pair.layer as u8);
+        if !pair.is_padded(real, &padding[pair.layer as usize]) {
+            return false;
+        }
+    }
+    true
+}
+
+/// These digests, with those of these pairs' nodes that cover a block, and how many of these are new.
+fn with_pairs<H: NodeHash>(
+    _hash: H,
+    geometry: Geometry,
+    held: &NodeMap,
+    pairs: &[ClaimedPair],
+) -> Result<(NodeMap, u32), AllocError>
+    requires inside { All (IsPairIn (height_of (block_count geometry))) pairs.now }
+    requires narrow { length pairs.now < 2 ^ 28 }
+    ensures { IfOk result (λ grown. (c : Claim) → All (IsPairOf H.digest c) pairs.now → AgreesAt H.digest held.now c
+        → IsGrownBy H.digest c (block_count geometry) held.now grown.0 grown.1 pairs.now) }
+{
+    let mut nodes = held.copy()?;
+    let mut count = 0;
+    for pair in pairs {
+        count += put(geometry, &mut nodes, pair.layer, 2 * pair.index, &pair.left)?;
+        count += put(
+            geometry,
+            &mut nodes,
+            pair.layer,
+            2 * pair.index + 1,
+            &pair.right,
+        )?;
+    }
+    Ok((nodes, count))
+}
+
+/// Puts a digest at a node where that covers a block. The answer is how many nodes are new: 1 or 0.
+fn put(
+    geometry: Geometry,
+    nodes: &mut NodeMap,
+    layer: u32,
+    index: u32,
+    digest: &Hash32,
+) -> Result<u32, AllocError>
+    requires inside { layer ≤ height_of (block_count geometry) }
+    requires high { layer ≤ max_height }
+    ensures { IfOk result (IsPut (block_count geometry) layer index digest.now nodes.old nodes.new) }
+{
+    if index >= geometry.real(layer as u8) {
+        return Ok(0);
+    }
+    let is_new = nodes.insert(layer, index, *digest)?;
+    Ok(u32::from(is_new))
+}

@@ -1,0 +1,170 @@
+ghost use Rattle.std.specs.Prelude.{◌≡◌, ◌≢◌, ◌<◌, ◌≤◌, ◌↔◌, None, IsTrue, IfOk};
+ghost use Rattle.std.specs.Bool.{OnTrue, OnFalse};
+ghost use Rattle.bt_tree.specs.Limits.{max_height};
+ghost use Rattle.bt_tree.specs.TreeShape.{IsInside};
+ghost use Rattle.bt_sparse.specs.SparseTree.{blocks_of, height, value_at, IsSound};
+ghost use Rattle.bt_sparse.specs.Answer.{IsRequest, IsAnswer, HasUnknown, KnowsAll, answer_size, answer_layer, answer_index};
+
+use crate::acceptance::padding_digests;
+use crate::expansion::layers_above;
+use crate::sparse_tree::SparseTree;
+use bt_tree::{Hash32, NodeHash};
+use std::alloc::AllocError;
+use thiserror::Error;
+
+/// The most nodes of a run that are asked for at once.
+const MAX_RUN_LENGTH: u32 = 512;
+
+/// Why a request is not answered, in this order.
+#[derive(Clone, Copy, Debug, PartialEq, Eq, Error)]
+pub enum AnswerError {
+    /// The request has another shape than one in this tree.
+    #[error("the request has another shape")]
+    Shape,
+    /// A node that it needs is not known.
+    #[error("a node is not known")]
+    Unknown,
+    #[error("out of memory")]
+    OutOfMemory,
+}
+
+/// What a peer asks of a tree of this height: a run of nodes of layer `base`, and proof layers.
+#[derive(Clone, Copy)]
+struct Request {
+    height: u8,
+    base: u32,
+    index: u32,
+    length: u32,
+    layers: u32,
+}
+
+impl Request {
+    /// Whether the request has the right shape in a tree of this height.
+    fn is_lawful(self) -> bool
+        requires { self.height ≤ max_height }
+        ensures { IsTrue result ↔ IsRequest self.height self.base self.index self.length self.layers }
+    {
+        let height = self.height as u32;
+        if self.base >= height || self.length < 2 || self.length > MAX_RUN_LENGTH {
+            return false;
+        }
+        let rest = height - self.base;
+        let above = layers_above(self.length) as u32;
+        self.length as u64 == 1 << above
+            && self.index % self.length == 0
+            && above <= rest
+            && self.index as u64 + self.length as u64 <= 1 << rest
+            && self.layers < rest
+    }
+
+    /// How many digests answer the request.
+    fn size(self) -> u32
+        requires lawful { IsRequest self.height self.base self.index self.length self.layers }
+        requires high { self.height ≤ max_height }
+        ensures { result ≡ answer_size self.length self.layers }
+    {
+        let above = layers_above(self.length) as u32;
+        self.length + self.layers.saturating_sub(above - 1)
+    }
+
+    /// The layer and the index of the node of digest `t` of the answer.
+    fn node(self, t: u32) -> (u32, u32)
+        requires lawful { IsRequest self.height self.base self.index self.length self.layers }
+        requires high { self.height ≤ max_height }
+        requires within { t < answer_size self.length self.layers }
+        ensures layer { result.0 ≡ answer_layer self.base self.length t }
+        ensures index { result.1 ≡ answer_index self.index self.length t }
+    {
+        if t < self.length {
+            return (self.base, self.index + t);
+        }
+        let above = layers_above(self.length) as u32;
+        let up = t - self.length;
+        let node = self.index >> above >> up;
+        let sibling = if node % 2 == 0 { node + 1 } else { node - 1 };
+        (self.base + above + up, sibling)
+    }
+}
+
+impl<H: NodeHash> SparseTree<H> {
+    /// The digests that answer a hash request (BEP 52): a run of `length` nodes of layer `base` from `index` on, then the
+    /// uncles from the lowest layer up, one for each of the proof layers above the run's own.
+    pub fn answer(&self, base: u32, index: u32, length: u32, layers: u32) -> Result<Vec<Hash32>, AnswerError>
+        ensures ok { IfOk result (λ digests. IsAnswer H.digest self.now base index length layers digests.items) }
+        ensures shape { (result ≡ Err AnswerError.Shape) ↔ (¬ IsRequest (height self.now) base index length layers) }
+        ensures unknown { (result ≡ Err AnswerError.Unknown)
+            ↔ (IsRequest (height self.now) base index length layers × HasUnknown H.digest self.now base index length layers) }
+    {
+        let request = Request {
+            height: self.geometry.height(),
+            base,
+            index,
+            length,
+            layers,
+        };
+        if !request.is_lawful() {
+            return Err(AnswerError::Shape);
+        }
+        if !self.knows_all(request) {
+            return Err(AnswerError::Unknown);
+        }
+        let Ok(digests) = self.values(request) else {
+            return Err(AnswerError::OutOfMemory);
+        };
+        Ok(digests)
+    }
+}
+
+impl<H: NodeHash> SparseTree<H> {
+    /// Whether every node that the request needs is known.
+    fn knows_all(&self, request: Request) -> bool
+        requires lawful { IsRequest request.height request.base request.index request.length request.layers }
+        requires height { request.height ≡ height self.now }
+        requires high { request.height ≤ max_height }
+        requires sound { IsSound H.digest self.now }
+        ensures yes { OnTrue result (KnowsAll H.digest self.now request.base request.index request.length request.layers) }
+        ensures no { OnFalse result (HasUnknown H.digest self.now request.base request.index request.length request.layers) }
+    {
+        for t in 0..request.size() {
+            let (layer, index) = request.node(t);
+            if !self.is_known(layer, index) {
+                return false;
+            }
+        }
+        true
+    }
+
+    /// Whether a node of the tree is known.
+    fn is_known(&self, layer: u32, index: u32) -> bool
+        requires inside { IsInside (blocks_of self.now) layer index }
+        requires high { layer ≤ max_height }
+        ensures { IsTrue result ↔ (value_at H.digest self.now layer index ≢ None) }
+    {
+        if index >= self.geometry.real(layer as u8) {
+            return true;
+        }
+        self.held(layer, index).is_some()
+    }
+
+    /// The digests of the nodes that the request needs, all of which are known.
+    fn values(&self, request: Request) -> Result<Vec<Hash32>, AllocError>
+        requires lawful { IsRequest request.height request.base request.index request.length request.layers }
+        requires height { request.height ≡ height self.now }
+        requires high { request.height ≤ max_height }
+        requires sound { IsSound H.digest self.now }
+        requires known { KnowsAll H.digest self.now request.base request.index request.length request.layers }
+        ensures { IfOk result (λ digests.
+            IsAnswer H.digest self.now request.base request.index request.length request.layers digests.items) }
+    {
+        let padding = padding_digests(self.hash, request.height);
+        let size = request.size();
+        let mut digests = Vec::with_capacity(self.alloc, size as usize)?;
+        for t in 0..size {
+            let (layer, index) = request.node(t);
+            // What is known and not held is padding.
+            let digest = self.held(layer, index).unwrap_or(padding[layer as usize]);
+            digests.push(digest)?;
+        }
+        Ok(digests)
+    }
+}
