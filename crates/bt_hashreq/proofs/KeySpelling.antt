@@ -3,7 +3,7 @@ use Rattle.std.proofs.Common.{◌≡◌, ℕ, ◌+◌, ◌≤◌, ◌<◌, ◌^�
 use Rattle.std.specs.Int.{w32, to_be_bytes, from_be_bytes}
 use Rattle.std.proofs.lemmas.List.{take_all, take_at, drop_at, length-append}
 use Rattle.std.proofs.lemmas.Nat.{from_be_bytes-to_be_bytes_4}
-use Rattle.bt_hashreq.specs.Key.{SpellsOneKey}
+use Rattle.bt_hashreq.specs.Law.{SpellsOneKey}
 use Rattle.bt_hashreq.specs.declared.key.HashKey.{HashKey}
 
 -- one run more behind the first bytes, which are known

@@ -4,3 +4,4 @@ pub mod KeySpelling
 pub mod ClaimRun
 -- requests
 pub mod RequestAnchor
+pub mod RequestShape

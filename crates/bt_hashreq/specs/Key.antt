@@ -20,7 +20,3 @@ pub record IsKey (k : HashKey) : Type 0 where
   pub index : k.index < 2 ^ 32
   pub length : k.length < 2 ^ 32
   pub layers : k.layers < 2 ^ 32
-
--- no bytes spell two keys: so a key that was written is read back
-abbrev pub SpellsOneKey : Type 0
-SpellsOneKey = (a b : HashKey) → IsKey a → IsKey b → key_spelling a ≡ key_spelling b → a ≡ b

@@ -1,3 +1,4 @@
 pub mod Key
 pub mod Claim
 pub mod Request
+pub mod Law
