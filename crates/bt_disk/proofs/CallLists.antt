@@ -1,5 +1,5 @@
 -- Lists of calls of a device.
-use Rattle.std.proofs.Common.{◌≡◌, ℕ, ◌↔◌, List, [], ◌∷◌, ◌++◌, length, Result, Ok, Err, refl, sym, ap, ◌∙◌, subst}
+use Rattle.std.proofs.Common.{◌≡◌, ℕ, ◌↔◌, List, [], ◌∷◌, ◌++◌, Result, Ok, Err, refl, sym, ap, ◌∙◌, subst}
 use Rattle.bt_disk.specs.Limits.{count_after}
 use Rattle.bt_disk.specs.History.{History}
 use Rattle.bt_disk.specs.Calls.{Call, IsAnswered, AreAnswered, count_after_call, count_after_calls, HasCalls, len_call, read_call, write_call, set_len_call, sync_call}

@@ -1,11 +1,11 @@
 -- What several calls leave in the images of a crash, within them too.
-use Rattle.std.proofs.Common.{◌≡◌, ℕ, zero, suc, ◌+◌, ◌<◌, ◌≤◌, ◌⊎◌, inl, inr, List, [], ◌∷◌, ◌++◌, length, Some, refl, sym, ap, ◌∙◌, subst, arith}
-use Rattle.std.specs.Prelude.{slice_get, All, min, max}
-use Rattle.bt_disk.specs.State.{State, IsImage, IsKept, IsTornWrite, IsTornResize}
-use Rattle.bt_disk.specs.History.{History, then, moment_of, LeftSince, LeftBefore, IsKeptSince, after_write}
-use Rattle.bt_disk.specs.Calls.{Call, bytes_written, write_fault, length_set, resize_fault, sync_made, sync_fault, length_given, length_fault, bytes_given, read_fault, IsAnswered, AreAnswered, AfterWriteFault, AfterResizeFault, IsRead, Spares}
+use Rattle.std.proofs.Common.{◌≡◌, ℕ, zero, suc, ◌≤◌, ◌⊎◌, inl, inr, List, [], ◌∷◌, length, refl, sym, ap, ◌∙◌, subst, arith}
+use Rattle.std.specs.Prelude.{All}
+use Rattle.bt_disk.specs.State.{State, IsImage, IsKept}
+use Rattle.bt_disk.specs.History.{History, then, LeftBefore, IsKeptSince}
+use Rattle.bt_disk.specs.Calls.{Call, bytes_written, write_fault, length_set, resize_fault, sync_made, sync_fault, length_given, length_fault, bytes_given, read_fault, IsAnswered, IsRead, Spares}
 use Rattle.bt_disk.specs.ReadsImage.{HasLength, has_length-call, has_length-synced}
-use Rattle.bt_disk.specs.Laws.{SyncKeepsAll, ReadsChangeNothing, CallsKeepBytes, KeptFromNow, IsReached}
+use Rattle.bt_disk.specs.Laws.{SyncKeepsAll, ReadsChangeNothing, CallsKeepBytes, KeptFromNow}
 use Rattle.bt_disk.proofs.Images.{call_reaches, synced_image}
 
 pub sync_keeps_all : SyncKeepsAll

@@ -1,16 +1,15 @@
 -- What one call leaves in the images of a crash.
-use Rattle.std.proofs.Common.{◌≡◌, ℕ, zero, suc, ◌+◌, ◌-◌, ◌<◌, ◌≤◌, ◌⊎◌, inl, inr, min, max, Bool, true, false, ◌&&◌, cond, nat_le, nat_lt, List, [], ◌∷◌, ◌++◌, map, length, take, drop, replicate, get_or, Some, refl, sym, ap, ◌∙◌, subst, arith, rules, length-append, length-drop}
-use Rattle.std.specs.Prelude.{slice_index, slice_get, All}
+use Rattle.std.proofs.Common.{◌≡◌, ℕ, zero, suc, ◌+◌, ◌-◌, ◌<◌, ◌≤◌, ◌⊎◌, inl, inr, min, max, Bool, true, false, ◌&&◌, cond, nat_le, nat_lt, List, [], ◌∷◌, ◌++◌, map, length, get_or, Some, refl, sym, ap, ◌∙◌, subst, arith, rules}
+use Rattle.std.specs.Prelude.{slice_index, slice_get}
 use Rattle.std.specs.List.{range_with_len}
 use Rattle.std.proofs.lemmas.Bool.{cases_lt, cases_Bool, cond-true, cond-false}
 use Rattle.std.proofs.lemmas.Bool.Decides.{nat_tests}
-use Rattle.std.proofs.lemmas.List.{places, get_or-take, get_or-drop, get_or_append_left, get_or-append_right, get_or-replicate, length-take, length-replicate, ext_get_or}
+use Rattle.std.proofs.lemmas.List.{places, get_or-take, get_or-drop, ext_get_or}
 use Rattle.std.proofs.lemmas.List.FromFn.{length-map-range_with_len, get_or-map-range_with_len}
 use Rattle.std.proofs.lemmas.Option.{get_or_from_slice_get, slice_get-get_or, slice_get_within}
 use Rattle.bt_disk.specs.State.{State, IsImage, IsOutside, IsTornWrite, IsTornResize, written, resized, write_state, resize_state, synced_state}
-use Rattle.bt_disk.specs.History.{History, then, after_write}
-use Rattle.bt_disk.specs.Calls.{Call, bytes_written, write_fault, length_set, resize_fault, sync_made, sync_fault, length_given, length_fault, bytes_given, read_fault, IsAnswered, AfterWriteFault, AfterResizeFault, Spares}
-use Rattle.bt_disk.specs.ReadsImage.{length-written, length-resized}
+use Rattle.bt_disk.specs.History.{History, after_write}
+use Rattle.bt_disk.specs.Calls.{Call, bytes_written, write_fault, length_set, resize_fault, sync_made, sync_fault, length_given, length_fault, bytes_given, read_fault, AfterWriteFault, AfterResizeFault, Spares}
 use Rattle.bt_disk.specs.Laws.{IsReached, CallsReachTheirRange}
 
 -- ---- an image with the bytes of another list where a call reaches

@@ -1,5 +1,5 @@
 -- What a crash leaves of a device in memory.
-use Rattle.std.proofs.Common.{◌≡◌, ℕ, List, length, refl, sym, ap, ◌∙◌, subst, arith}
+use Rattle.std.proofs.Common.{ℕ, List, sym, subst, arith}
 use Rattle.bt_disk.specs.State.{State, IsImage}
 use Rattle.bt_disk.specs.MemoryDisk.{Record, history_of, IsLeftBy}
 use Rattle.bt_disk.specs.RecordSteps.{LeadsTo}

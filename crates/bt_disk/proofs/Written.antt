@@ -1,5 +1,5 @@
 -- Bytes that are put at a place.
-use Rattle.std.proofs.Common.{◌≡◌, ℕ, ◌+◌, ◌-◌, ◌<◌, ◌≤◌, List, [], ◌∷◌, ◌++◌, length, take, drop, replicate, get_or, refl, sym, ap, ◌∙◌, arith, rules, length-append, length-drop}
+use Rattle.std.proofs.Common.{◌≡◌, ℕ, ◌+◌, ◌-◌, ◌<◌, ◌≤◌, List, ◌++◌, length, take, drop, refl, arith, rules}
 use Rattle.std.proofs.lemmas.List.{places, same_lists, append-nil}
 use Rattle.bt_disk.specs.State.{written, resized}
 

@@ -1,7 +1,7 @@
 -- What calls of an honest device leave in the images of a crash.
-use Rattle.std.specs.Prelude.{◌≡◌, ℕ, ◌<◌, ◌≤◌, ◌⊎◌, List, [], ◌∷◌, ◌++◌, length, slice_get, Some, All, ⊤}
+use Rattle.std.specs.Prelude.{◌≡◌, ℕ, List, slice_get, Some, All}
 use Rattle.bt_disk.specs.State.{State, IsImage, IsKept}
-use Rattle.bt_disk.specs.History.{History, moment_of, LeftSince, IsKeptSince}
+use Rattle.bt_disk.specs.History.{History, moment_of, IsKeptSince}
 use Rattle.bt_disk.specs.Calls.{Call, sync_made, IsAnswered, AreAnswered, IsRead, Spares}
 
 -- an image from before the call, with at most other bytes where the call reaches

@@ -7,4 +7,5 @@ pub mod RecordSteps
 pub mod ReadsImage
 pub mod FaultDisk
 pub mod FileDisk
+pub mod Pool
 pub mod Laws

@@ -1,5 +1,5 @@
 -- What a read of a device in memory gives is one of the images that a crash now may leave: the law, with its proof.
-use Rattle.std.specs.Prelude.{◌≡◌, ℕ, ◌+◌, ◌-◌, ◌≤◌, min, max, List, [], ◌∷◌, ◌++◌, length, take, drop, replicate, refl}
+use Rattle.std.specs.Prelude.{◌≡◌, ℕ, ◌+◌, ◌-◌, ◌≤◌, List, [], ◌∷◌, ◌++◌, length, take, drop, replicate, refl}
 use Rattle.std.proofs.Common.{arith, length-append, length-drop}
 use Rattle.std.proofs.lemmas.List.{length-take, length-replicate}
 use Rattle.bt_disk.specs.State.{State, IsImage, written, resized, synced_state}

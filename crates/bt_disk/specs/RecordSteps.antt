@@ -1,7 +1,6 @@
 -- Definitions that only private steps cite: how a device in memory keeps its record.
 use Rattle.std.specs.Prelude.{◌≡◌, ℕ, List, Option, Some, None}
 use Rattle.std.specs.Global.{Vec}
-use Rattle.bt_disk.specs.State.{State}
 use Rattle.bt_disk.specs.Calls.{Call, bytes_written, length_set, sync_made}
 use Rattle.bt_disk.specs.MemoryDisk.{Record, history_of}
 use Rattle.bt_disk.specs.declared.medium.Change.{Change}

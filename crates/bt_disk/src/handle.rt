@@ -40,6 +40,17 @@ pub(crate) fn open_to_write<R: Files>(rt: &R, path: &str) -> Result<R::File, Dev
     }
 }
 
+/// Opens a file that was opened before, and so has to be there, to read it, or to read and write it.
+pub(crate) fn reopen<R: Files>(rt: &R, path: &str, to_write: bool) -> Result<R::File, DeviceFault> {
+    if !is_present(rt, path)? {
+        return Err(DeviceFault);
+    }
+    match OpenOptions::new().read(true).write(to_write).open(rt, path) {
+        Ok(file) => regular(file),
+        Err(_) => Err(DeviceFault),
+    }
+}
+
 /// Whether there is a file. What is no regular file is refused unopened, since opening a pipe may wait.
 fn is_present<R: Files>(rt: &R, path: &str) -> Result<bool, DeviceFault> {
     match rt.metadata(path) {

@@ -9,6 +9,8 @@ mod law;
 mod loss;
 mod medium;
 mod memory_disk;
+mod open_handles;
+mod pool;
 
 pub use disk::{DeviceFault, Disk};
 pub use fault_disk::FaultDisk;
@@ -19,6 +21,7 @@ pub use law::{
 };
 pub use loss::Loss;
 pub use memory_disk::MemoryDisk;
+pub use pool::{HandlePool, PooledDisk};
 
 #[cfg(test)]
 mod tests;

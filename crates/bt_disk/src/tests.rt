@@ -4,5 +4,6 @@
 mod crashes;
 mod faults;
 mod files;
+mod pools;
 mod tables;
 mod tools;

@@ -1,4 +1,4 @@
-use Rattle.std.proofs.Common.{◌≡◌, ◌+◌, ◌<◌, ◌≤◌, ◌∙◌, ap, rules, arith, length, take, drop, ◌++◌}
+use Rattle.std.proofs.Common.{◌≡◌, ◌+◌, ◌∙◌, ap, rules, arith, length, take, drop, ◌++◌}
 use Rattle.std.proofs.lemmas.List.{take_at}
 use Rattle.bt_disk.specs.State.{written, resized}
 use Rattle.bt_disk.proofs.Written.{written_within, written_past}

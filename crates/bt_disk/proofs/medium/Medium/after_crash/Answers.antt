@@ -1,4 +1,4 @@
-use Rattle.std.proofs.Common.{◌≡◌, ℕ, List, ◌++◌, length, take, drop, ◌∙◌, ap, sym, subst, rules}
+use Rattle.std.proofs.Common.{◌≡◌, ℕ, ◌++◌, length, take, drop, ◌∙◌, ap, subst, rules}
 use Rattle.std.proofs.lemmas.List.{take_at}
 use Rattle.bt_disk.specs.MemoryDisk.{history_of, IsLeftBy}
 use Rattle.bt_disk.proofs.Losses.{left_now}

@@ -1,4 +1,4 @@
-use Rattle.std.proofs.Common.{◌≡◌, ◌∙◌, ◌++◌, ◌∷◌, [], ap, rules}
+use Rattle.std.proofs.Common.{◌∙◌, ◌++◌, ◌∷◌, [], ap}
 use Rattle.bt_disk.specs.declared.medium.Change.TheVariants.{SetLen}
 use Rattle.bt_disk.proofs.Records.{leads_set_len, calls_push}
 use Rattle.bt_disk.proofs.medium.Medium.set_len.Goals as goal

@@ -1,0 +1,274 @@
+//! Files of the system that share a few open handles.
+ghost use Rattle.std.specs.Prelude.{◌≡◌, ◌≢◌, ◌<◌, ◌≤◌, IfOk, length};
+ghost use Rattle.bt_disk.specs.FileDisk.{writing};
+ghost use Rattle.bt_disk.specs.Pool.{access_of_use};
+
+use crate::disk::{DeviceFault, Disk, counted_fault};
+use crate::handle::{file_len, open_to_read, open_to_write, read_file, reopen, write_file};
+use crate::open_handles::OpenHandles;
+use std::alloc::{AllocError, Global};
+use std::cell::RefCell;
+use std::fs::{Files, OpenFile};
+use std::marker::Model;
+use std::rc::Rc;
+
+/// What the disks of a pool share.
+#[derive(Drop)]
+struct Shared<R: Files + Drop> {
+    rt: R,
+    handles: RefCell<OpenHandles<R::File>>,
+}
+
+/// Makes devices that are files of the system and share a few open handles, so that a process may have more of them
+/// than it may open files.
+///
+/// A call takes its file's handle from the pool, or opens the file, and puts the handle back; the handle that was used
+/// longest ago is closed where there are too many. So a run of calls of one file opens it once.
+#[derive(Drop)]
+pub struct HandlePool<R: Files + Drop> {
+    shared: Rc<Shared<R>>,
+    /// How many devices it made.
+    made: u64,
+}
+
+impl<R: Files + Drop> HandlePool<R> {
+    /// A pool of at most so many open handles, for which it takes memory here alone.
+    pub fn new(alloc: Global, rt: R, limit: usize) -> Result<Self, AllocError>
+        requires { 0 < limit }
+    {
+        let handles = RefCell::new(OpenHandles::new(alloc, limit)?);
+        let shared = Rc::new(alloc, Shared { rt, handles })?;
+        Ok(HandlePool { shared, made: 0 })
+    }
+
+    /// A file that is read, as [`FileDisk::reading`](crate::FileDisk::reading) has it.
+    pub fn reading(&mut self, path: String) -> Result<PooledDisk<R>, DeviceFault>
+        ensures failed { IfOk result (λ disk. disk.failed ≡ 0) }
+        ensures access { IfOk result (λ disk. disk.access ≢ writing) }
+    {
+        let Some(file) = open_to_read(&self.shared.rt, path.as_str())? else {
+            return self.device(path, Use::Absent);
+        };
+        let disk = self.device(path, Use::Reading)?;
+        put_back(&disk.shared, disk.number, file);
+        Ok(disk)
+    }
+
+    /// A file that is read and written, as [`FileDisk::writing`](crate::FileDisk::writing) has it.
+    pub fn writing(&mut self, path: String) -> Result<PooledDisk<R>, DeviceFault>
+        ensures { IfOk result (λ disk. disk ≡ record { access = writing; failed = 0 }) }
+    {
+        let file = open_to_write(&self.shared.rt, path.as_str())?;
+        let disk = self.device(path, Use::Writing)?;
+        put_back(&disk.shared, disk.number, file);
+        Ok(disk)
+    }
+
+    /// The next device.
+    fn device(&mut self, path: String, usage: Use) -> Result<PooledDisk<R>, DeviceFault>
+        ensures { IfOk result (λ disk. disk ≡ record { access = access_of_use usage; failed = 0 }) }
+    {
+        let Ok(shared) = self.shared.clone() else {
+            return Err(DeviceFault);
+        };
+        self.made = self.made.wrapping_add(1);
+        Ok(PooledDisk {
+            shared,
+            number: self.made,
+            path,
+            usage,
+            failed: 0,
+        })
+    }
+}
+
+/// How a device uses its file.
+#[derive(Clone, Copy, Debug, PartialEq, Eq)]
+enum Use {
+    Absent,
+    Reading,
+    Writing,
+}
+
+/// A device that is a file of the system, whose handle is shared with the other devices of its pool.
+///
+/// It is as [`FileDisk`](crate::FileDisk) is, but a call may have to open the file, which then has to be there.
+#[derive(Drop)]
+pub struct PooledDisk<R: Files + Drop> {
+    shared: Rc<Shared<R>>,
+    number: u64,
+    path: String,
+    usage: Use,
+    failed: u64,
+}
+
+impl<R: Files + Drop> Model for PooledDisk<R> {
+    ghost use Rattle.bt_disk.specs.FileDisk.{FileView};
+    ghost use Rattle.bt_disk.specs.Pool.{access_of_use};
+
+    ghost Value = { FileView };
+
+    ghost view = { λ d. record { access = access_of_use d.usage; failed = d.failed } };
+}
+
+impl<R: Files + Drop> PooledDisk<R> {
+    /// The open file: the pool's handle, or a new one.
+    fn file(&self) -> Result<R::File, DeviceFault> {
+        match take(&self.shared, self.number) {
+            Some(file) => Ok(file),
+            None => reopen(
+                &self.shared.rt,
+                self.path.as_str(),
+                self.usage == Use::Writing,
+            ),
+        }
+    }
+
+    fn file_len(&self) -> Result<u64, DeviceFault> {
+        let file = self.file()?;
+        let answer = file_len(&file);
+        put_back(&self.shared, self.number, file);
+        answer
+    }
+
+    fn read_file(&self, at: u64, out: &mut [u8]) -> Result<usize, DeviceFault>
+        ensures { IfOk result (λ count. count ≤ length out.new) }
+    {
+        let mut file = self.file()?;
+        let answer = read_file(&mut file, at, out);
+        put_back(&self.shared, self.number, file);
+        answer
+    }
+
+    fn write_file(&self, at: u64, bytes: &[u8]) -> Result<(), DeviceFault> {
+        let mut file = self.file()?;
+        let answer = write_file(&mut file, at, bytes);
+        put_back(&self.shared, self.number, file);
+        answer
+    }
+
+    fn set_file_len(&self, len: u64) -> Result<(), DeviceFault> {
+        let file = self.file()?;
+        let answer = file.set_len(len);
+        put_back(&self.shared, self.number, file);
+        if answer.is_ok() {
+            Ok(())
+        } else {
+            Err(DeviceFault)
+        }
+    }
+
+    fn sync_file(&self) -> Result<(), DeviceFault> {
+        let file = self.file()?;
+        let answer = file.sync_all();
+        put_back(&self.shared, self.number, file);
+        if answer.is_ok() {
+            Ok(())
+        } else {
+            Err(DeviceFault)
+        }
+    }
+}
+
+impl<R: Files + Drop> Disk for PooledDisk<R> {
+    ghost use Rattle.std.specs.Prelude.{◌≡◌, ◌≢◌, ◌↔◌, ◌≤◌, [], IsErr, IfOk, length};
+    ghost use Rattle.bt_disk.specs.Limits.{count_after};
+    ghost use Rattle.bt_disk.specs.History.{new_history};
+    ghost use Rattle.bt_disk.specs.Calls.{IsAnswered, len_call, read_call, write_call, set_len_call, sync_call};
+    ghost use Rattle.bt_disk.specs.FileDisk.{absent, writing};
+
+    ghost history = { λ _. new_history [] };
+
+    ghost honest = { λ _. ⊥ };
+
+    ghost faults = { λ d. d.failed };
+
+    ghost reads_image = { λ _ honest. absurd honest };
+
+    fn len(&mut self) -> Result<u64, DeviceFault>
+        ensures absent { self.old.access ≡ absent → result ≡ Ok 0 }
+        ensures access { self.new.access ≡ self.old.access }
+        ensures counted { self.new.failed ≡ count_after self.old.failed result }
+        ensures as_honest { ⊥ ↔ ⊥ }
+        ensures answered { ⊥ → IsAnswered (new_history []) (len_call result) (new_history []) }
+    {
+        if self.usage == Use::Absent {
+            return Ok(0);
+        }
+        match self.file_len() {
+            Ok(len) => Ok(len),
+            Err(_) => Err(counted_fault(&mut self.failed)),
+        }
+    }
+
+    fn read_at(&mut self, at: u64, out: &mut [u8]) -> Result<usize, DeviceFault>
+        ensures absent { self.old.access ≡ absent → result ≡ Ok 0 }
+        ensures access { self.new.access ≡ self.old.access }
+        ensures within { IfOk result (λ count. count ≤ length out.new) }
+        ensures counted { self.new.failed ≡ count_after self.old.failed result }
+        ensures as_honest { ⊥ ↔ ⊥ }
+        ensures answered { ⊥ → IsAnswered (new_history []) (read_call at out.new result) (new_history []) }
+    {
+        if self.usage == Use::Absent {
+            return Ok(0);
+        }
+        match self.read_file(at, out) {
+            Ok(count) => Ok(count),
+            Err(_) => Err(counted_fault(&mut self.failed)),
+        }
+    }
+
+    fn write_at(&mut self, at: u64, bytes: &[u8]) -> Result<(), DeviceFault>
+        ensures refused { self.old.access ≢ writing → IsErr result }
+        ensures access { self.new.access ≡ self.old.access }
+        ensures counted { self.new.failed ≡ count_after self.old.failed result }
+        ensures as_honest { ⊥ ↔ ⊥ }
+        ensures answered { ⊥ → IsAnswered (new_history []) (write_call at bytes.now result) (new_history []) }
+    {
+        if self.usage == Use::Writing && self.write_file(at, bytes).is_ok() {
+            return Ok(());
+        }
+        Err(counted_fault(&mut self.failed))
+    }
+
+    fn set_len(&mut self, len: u64) -> Result<(), DeviceFault>
+        ensures refused { self.old.access ≢ writing → IsErr result }
+        ensures access { self.new.access ≡ self.old.access }
+        ensures counted { self.new.failed ≡ count_after self.old.failed result }
+        ensures as_honest { ⊥ ↔ ⊥ }
+        ensures answered { ⊥ → IsAnswered (new_history []) (set_len_call len result) (new_history []) }
+    {
+        if self.usage == Use::Writing && self.set_file_len(len).is_ok() {
+            return Ok(());
+        }
+        Err(counted_fault(&mut self.failed))
+    }
+
+    fn sync(&mut self) -> Result<(), DeviceFault>
+        ensures refused { self.old.access ≢ writing → IsErr result }
+        ensures access { self.new.access ≡ self.old.access }
+        ensures counted { self.new.failed ≡ count_after self.old.failed result }
+        ensures as_honest { ⊥ ↔ ⊥ }
+        ensures answered { ⊥ → IsAnswered (new_history []) (sync_call result) (new_history []) }
+    {
+        if self.usage == Use::Writing && self.sync_file().is_ok() {
+            return Ok(());
+        }
+        Err(counted_fault(&mut self.failed))
+    }
+}
+
+/// Takes the handle of a device out of the pool, where it is open.
+fn take<R: Files + Drop>(shared: &Shared<R>, number: u64) -> Option<R::File> {
+    match shared.handles.try_borrow_mut() {
+        Ok(mut handles) => handles.take(number),
+        Err(_) => None,
+    }
+}
+
+/// Puts a device's handle into the pool.
+fn put_back<R: Files + Drop>(shared: &Shared<R>, number: u64, file: R::File) {
+    if let Ok(mut handles) = shared.handles.try_borrow_mut() {
+        handles.put(number, file);
+    }
+}
