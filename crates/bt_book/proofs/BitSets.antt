@@ -16,7 +16,8 @@ here old new k v written = let at : eqb k k ≡ true = eq-eqb k k refl in rw at 
 there : (old new : List ℕ) (k i : ℕ) (v : Bool) → IsWritten old k v new → i ≢ k → has_bit new i ≡ has_bit old i
 there old new k i v written ne = let off : eqb i k ≡ false = ne_eqb i k ne in rw off at (written i)
 
-pub sound_none : (count words groups : ℕ) → words ≤ 2 ^ 32 → groups ≤ 2 ^ 32 → count ≤ 64 * words → count ≤ 262144 * groups → IsSound count (replicate words 0) (replicate groups 0)
+pub sound_none : (count words groups : ℕ) → words ≤ 2 ^ 32 → groups ≤ 2 ^ 32 → count ≤ 64 * words → count ≤ 262144 * groups → IsSound count
+    (replicate words 0) (replicate groups 0)
 sound_none count words groups few few_groups room group_room =
     let size : length (replicate {A = ℕ} words 0) ≡ words = length-replicate words 0 in
     let group_size : length (replicate {A = ℕ} groups 0) ≡ groups = length-replicate groups 0 in
@@ -29,7 +30,8 @@ sound_none count words groups few few_groups room group_room =
       grouped = λ i set. absurd (true≢false (sym set ∙ zero_bit words i));
     }
 
-pub sound_with : (count : ℕ) (words groups new new_groups : List ℕ) (k : ℕ) → IsSound count words groups → k < count → length new ≡ length words → length new_groups ≡ length groups
+pub sound_with : (count : ℕ) (words groups new new_groups : List ℕ) (k : ℕ) → IsSound count words groups → k < count → length new ≡ length words
+    → length new_groups ≡ length groups
     → IsWritten words k true new → IsWritten groups (k / 4096) true new_groups → IsSound count new new_groups
 sound_with count words groups new new_groups k sound inside size group_size written grouped = record {
   few = let few = sound.few in omega arith;
@@ -45,7 +47,8 @@ sound_with count words groups new new_groups k sound inside size group_size writ
   ];
 }
 
-pub sound_without : (count : ℕ) (words groups new : List ℕ) (k : ℕ) → IsSound count words groups → length new ≡ length words → IsWritten words k false new → IsSound count new groups
+pub sound_without : (count : ℕ) (words groups new : List ℕ) (k : ℕ) → IsSound count words groups → length new ≡ length words → IsWritten words k false new
+    → IsSound count new groups
 sound_without count words groups new k sound size written = record {
   few = let few = sound.few in omega arith;
   few_groups = sound.few_groups;
@@ -61,7 +64,8 @@ sound_without count words groups new k sound size written = record {
   ];
 }
 
-pub sound_without_group : (count : ℕ) (words groups new_groups : List ℕ) (k : ℕ) → IsSound count words groups → length new_groups ≡ length groups → HasNoBitInGroup words (4096 * (k / 4096))
+pub sound_without_group : (count : ℕ) (words groups new_groups : List ℕ) (k : ℕ) → IsSound count words groups → length new_groups ≡ length groups
+    → HasNoBitInGroup words (4096 * (k / 4096))
     → IsWritten groups (k / 4096) false new_groups → IsSound count words new_groups
 sound_without_group count words groups new_groups k sound size none grouped = record {
   few = sound.few;
@@ -106,7 +110,8 @@ skipped count words groups from group sound none empty j after below = elim (cas
   ]
 ]
 
-pub next_past : (count : ℕ) (words groups : List ℕ) (from group i : ℕ) → IsSound count words groups → HasNoBitInGroup words from → IsNextBit groups (from / 4096 + 1) group
+pub next_past : (count : ℕ) (words groups : List ℕ) (from group i : ℕ) → IsSound count words groups → HasNoBitInGroup words from → IsNextBit groups
+    (from / 4096 + 1) group
     → IsNextBit words (4096 * group) i → IsNextBit words from i
 next_past count words groups from group i sound none next_group next = record {
   after = let a = next_group.after in let b = next.after in omega arith;
@@ -117,28 +122,35 @@ next_past count words groups from group i sound none next_group next = record {
   ];
 }
 
-pub none_past_group : (count : ℕ) (words groups : List ℕ) (from group : ℕ) → IsSound count words groups → HasNoBitInGroup words from → IsNextBit groups (from / 4096 + 1) group
+pub none_past_group : (count : ℕ) (words groups : List ℕ) (from group : ℕ) → IsSound count words groups → HasNoBitInGroup words from → IsNextBit groups
+    (from / 4096 + 1) group
     → HasNoBit words (4096 * group) → HasNoBit words from
 none_past_group count words groups from group sound none next_group rest j after = elim (cases_lt j (4096 * group)) [
   | inl lt ↦ skipped count words groups from group sound none next_group.least j after lt
   | inr ge ↦ rest j ge
 ]
 
-pub none_past_all : (count : ℕ) (words groups : List ℕ) (from : ℕ) → IsSound count words groups → HasNoBitInGroup words from → HasNoBit groups (from / 4096 + 1) → HasNoBit words from
+pub none_past_all : (count : ℕ) (words groups : List ℕ) (from : ℕ) → IsSound count words groups → HasNoBitInGroup words from → HasNoBit groups
+    (from / 4096 + 1) → HasNoBit words from
 none_past_all count words groups from sound none empty j after =
     skipped count words groups from (j / 4096 + 1) sound none (λ h le lt. empty h le) j after (omega arith)
 
-pub found_past : (count : ℕ) (words groups : List ℕ) (from group : ℕ) (o : Option ℕ) → IsSound count words groups → HasNoBitInGroup words from → IsNextBit groups (from / 4096 + 1) group
+pub found_past : (count : ℕ) (words groups : List ℕ) (from group : ℕ) (o : Option ℕ) → IsSound count words groups → HasNoBitInGroup words from
+    → IsNextBit groups (from / 4096 + 1) group
     → IfSome o (IsNextBit words (4096 * group)) → IfSome o (IsNext (bits_of count words) from)
 found_past count words groups from group None sound none next_group h = tt
-found_past count words groups from group (Some i) sound none next_group h = next_is count words groups from i sound (next_past count words groups from group i sound none next_group h)
+found_past count words groups from group (Some i) sound none next_group h = next_is count words groups from i sound
+    (next_past count words groups from group i sound none next_group h)
 
-pub unfound_past : (count : ℕ) (words groups : List ℕ) (from group : ℕ) (o : Option ℕ) → IsSound count words groups → HasNoBitInGroup words from → IsNextBit groups (from / 4096 + 1) group
+pub unfound_past : (count : ℕ) (words groups : List ℕ) (from group : ℕ) (o : Option ℕ) → IsSound count words groups → HasNoBitInGroup words from
+    → IsNextBit groups (from / 4096 + 1) group
     → IfNone o (HasNoBit words (4096 * group)) → IfNone o (HasNoneFrom (bits_of count words) from)
-unfound_past count words groups from group None sound none next_group h = none_is count words groups from sound (none_past_group count words groups from group sound none next_group h)
+unfound_past count words groups from group None sound none next_group h = none_is count words groups from sound
+    (none_past_group count words groups from group sound none next_group h)
 unfound_past count words groups from group (Some i) sound none next_group h = tt
 
 -- a group in which no next bit was found
-pub no_bit_in_group : (o : Option ℕ) (given words : List ℕ) (from : ℕ) → given ≡ words → IfNone o (HasNoBitInGroup given from) → is_some o ≡ false → HasNoBitInGroup words from
+pub no_bit_in_group : (o : Option ℕ) (given words : List ℕ) (from : ℕ) → given ≡ words → IfNone o (HasNoBitInGroup given from) → is_some o ≡ false
+    → HasNoBitInGroup words from
 no_bit_in_group None given words from same h none = subst (λ (xs : List ℕ). HasNoBitInGroup xs from) same h
 no_bit_in_group (Some i) given words from same h none = absurd (true≢false none)

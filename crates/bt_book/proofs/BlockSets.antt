@@ -17,7 +17,8 @@ of_file_with s b v inside = get_or-set_same s b.file (set (of_file s b.file) b.b
 
 pub shape_with : (s : Blocks) (b : BlockId) (v : Bool) (file : ℕ) → IsInRange s b → length (of_file (with_block s b v) file) ≡ length (of_file s file)
 shape_with s b v file inside = elim (cases_eq file b.file) [
-  | inl e ↦ ap (λ f. length (of_file (with_block s b v) f)) e ∙ ap length (of_file_with s b v inside) ∙ length-set (of_file s b.file) b.block v ∙ ap (λ f. length (of_file s f)) (sym e)
+  | inl e ↦ ap (λ f. length (of_file (with_block s b v) f)) e ∙ ap length (of_file_with s b v inside) ∙ length-set (of_file s b.file) b.block v ∙ ap
+      (λ f. length (of_file s f)) (sym e)
   | inr ne ↦ ap length (get_or-set_other s b.file file (set (of_file s b.file) b.block v) [] ne)
 ]
 
@@ -68,15 +69,19 @@ none_member n i = elim (cases_lt i n) [
 pub member_none : (blocks : List ℕ) (b : BlockId) → member (map (λ n. replicate n false) blocks) b ≡ false
 member_none blocks b = elim (cases_lt b.file (length blocks)) [
   | inl lt ↦ ap (λ l. get_or l b.block false) (empty_file blocks b.file lt) ∙ none_member (get_or blocks b.file 0) b.block
-  | inr ge ↦ ap (λ l. get_or l b.block false) (get_or_past (map (λ n. replicate n false) blocks) b.file [] (let e = length-map blocks (λ n. replicate n false) in omega arith))
+  | inr ge ↦ ap (λ l. get_or l b.block false) (get_or_past (map (λ n. replicate n false) blocks) b.file []
+      (let e = length-map blocks (λ n. replicate n false) in omega arith))
 ]
 
-pub filled_none : (blocks : List ℕ) (marks : List Bool) → length marks ≡ min (length blocks) (2 ^ 32) → ((k : ℕ) → get_or blocks k 0 < 2 ^ 32) → IsFilled (map (λ n. replicate n false) blocks) marks
+pub filled_none : (blocks : List ℕ) (marks : List Bool) → length marks ≡ min (length blocks) (2 ^ 32) → ((k : ℕ) → get_or blocks k 0 < 2 ^ 32) → IsFilled
+    (map (λ n. replicate n false) blocks) marks
 filled_none blocks marks size fits = record {
   size = size ∙ ap (λ n. min n (2 ^ 32)) (sym (length-map blocks (λ n. replicate n false)));
   short = λ file. elim (cases_lt file (length blocks)) [
-    | inl lt ↦ let e : length (of_file (map (λ n. replicate n false) blocks) file) ≡ get_or blocks file 0 = ap length (empty_file blocks file lt) ∙ length-replicate (get_or blocks file 0) false in let f = fits file in omega arith
-    | inr ge ↦ let e : length (of_file (map (λ n. replicate n false) blocks) file) ≡ 0 = ap length (get_or_past (map (λ n. replicate n false) blocks) file [] (let e = length-map blocks (λ n. replicate n false) in omega arith)) in omega arith
+    | inl lt ↦ let e : length (of_file (map (λ n. replicate n false) blocks) file) ≡ get_or blocks file 0 = ap length (empty_file blocks file lt)
+        ∙ length-replicate (get_or blocks file 0) false in let f = fits file in omega arith
+    | inr ge ↦ let e : length (of_file (map (λ n. replicate n false) blocks) file) ≡ 0 = ap length
+        (get_or_past (map (λ n. replicate n false) blocks) file [] (let e = length-map blocks (λ n. replicate n false) in omega arith)) in omega arith
   ];
   marked = λ b is. absurd (true≢false (sym is ∙ member_none blocks b));
 }

@@ -30,7 +30,8 @@ pub filter_none : {X : Type 0} (p : X → Bool) (xs : List X) → count_by p xs 
 filter_none p [] none = refl
 filter_none p (x ∷ xs) none = elim (cases_Bool (p x)) [
   | inl yes' ↦ absurd (omega (arith, count_yes p x xs yes'))
-  | inr no' ↦ ap (λ b. cond (not b) (x ∷ filter (λ y. not (p y)) xs) (filter (λ y. not (p y)) xs)) no' ∙ ap (λ l. x ∷ l) (filter_none p xs (omega (arith, count_no p x xs no')))
+  | inr no' ↦ ap (λ b. cond (not b) (x ∷ filter (λ y. not (p y)) xs) (filter (λ y. not (p y)) xs)) no' ∙ ap (λ l. x ∷ l)
+      (filter_none p xs (omega (arith, count_no p x xs no')))
 ]
 
 pub map_none : {X : Type 0} (p : X → Bool) (g : X → X) (xs : List X) → count_by p xs ≡ 0 → map (λ x. cond (p x) (g x) x) xs ≡ xs
@@ -41,7 +42,8 @@ map_none p g (x ∷ xs) none = elim (cases_Bool (p x)) [
 ]
 
 -- ---- where one passes
-pub filter_one : {X : Type 0} (p : X → Bool) (xs : List X) (i : ℕ) (d : X) → i < length xs → p (get_or xs i d) ≡ true → count_by p xs ≤ 1 → filter (λ x. not (p x)) xs ≡ remove xs i
+pub filter_one : {X : Type 0} (p : X → Bool) (xs : List X) (i : ℕ) (d : X) → i < length xs → p (get_or xs i d) ≡ true → count_by p xs ≤ 1 → filter
+    (λ x. not (p x)) xs ≡ remove xs i
 filter_one p [] i d lt passes once = absurd (omega arith)
 filter_one p (x ∷ xs) zero d lt passes once =
     ap (λ b. cond (not b) (x ∷ filter (λ y. not (p y)) xs) (filter (λ y. not (p y)) xs)) passes ∙ filter_none p xs (omega (arith, count_yes p x xs passes))

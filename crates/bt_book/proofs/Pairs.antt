@@ -39,14 +39,16 @@ is_block_turned b c = elim (cases_Bool (is_block b c)) [
 ]
 
 -- a list without a block has none of it, and of the others what it had
-pub count_without : (c b : BlockId) (blocks : List BlockId) → count_by (is_block b) (without_block c blocks) ≡ cond (is_block c b) 0 (count_by (is_block b) blocks)
+pub count_without : (c b : BlockId) (blocks : List BlockId) → count_by (is_block b) (without_block c blocks) ≡ cond (is_block c b) 0
+    (count_by (is_block b) blocks)
 count_without c b [] = elim (cases_Bool (is_block c b)) [
   | inl e ↦ rw e refl
   | inr e ↦ rw e refl
 ]
 count_without c b (x ∷ xs) = elim (cases_Bool (is_block c x)) [
   | inl gone ↦
-      ap (λ t. count_by (is_block b) (cond (not t) (x ∷ without_block c xs) (without_block c xs))) gone ∙ count_without c b xs ∙ elim (cases_Bool (is_block c b)) [
+      ap (λ t. count_by (is_block b) (cond (not t) (x ∷ without_block c xs) (without_block c xs))) gone ∙ count_without c b xs ∙ elim
+      (cases_Bool (is_block c b)) [
         | inl same ↦ rw same refl
         | inr other ↦
             let apart : is_block b x ≡ false = is_block_turned b x ∙ sym (is_block_alike c x b gone) ∙ other in
@@ -89,7 +91,8 @@ kept_none wanted none = record {
   counts = λ b. ap (λ t. cond {A = ℕ} t 1 0 + 0) (none b) ∙ sym (ap (λ t. cond {A = ℕ} t 1 0) (none b));
 }
 
-pub kept_join : (wanted unasked : Blocks) (peers : List PeerRequests) (key : PeerKey) → IsKept wanted unasked peers → count_by (is_of key) peers ≡ 0 → length peers < 64
+pub kept_join : (wanted unasked : Blocks) (peers : List PeerRequests) (key : PeerKey) → IsKept wanted unasked peers → count_by (is_of key) peers ≡ 0
+    → length peers < 64
     → IsKept wanted unasked (peers ++ (record { peer = key; blocks = [] }) ∷ [])
 kept_join wanted unasked peers key kept none room = record {
   shape = kept.shape;
@@ -110,14 +113,17 @@ kept_join wanted unasked peers key kept none room = record {
     r = record { peer = key; blocks = [] }
 
 -- what a peer is asked for is changed, and the unasked blocks with it
-pub kept_set : (wanted unasked new : Blocks) (peers : List PeerRequests) (i : ℕ) (e r : PeerRequests) → IsKept wanted unasked peers → i < length peers → e ≡ get_or peers i e
+pub kept_set : (wanted unasked new : Blocks) (peers : List PeerRequests) (i : ℕ) (e r : PeerRequests) → IsKept wanted unasked peers → i < length peers
+    → e ≡ get_or peers i e
     → r.peer ≡ e.peer → length r.blocks ≤ 16 → ((file : ℕ) → length (of_file new file) ≡ length (of_file unasked file))
-    → ((b : BlockId) → one_if (member new b) + count_by (is_block b) r.blocks ≡ one_if (member unasked b) + count_by (is_block b) e.blocks) → IsKept wanted new (set peers i r)
+    → ((b : BlockId) → one_if (member new b) + count_by (is_block b) r.blocks ≡ one_if (member unasked b) + count_by (is_block b) e.blocks)
+    → IsKept wanted new (set peers i r)
 kept_set wanted unasked new peers i e r kept inside read same short shape counts = record {
   shape = λ file. shape file ∙ kept.shape file;
   few = omega (arith, length-set peers i r, kept.few);
   once = λ key.
-      let alike : cond {A = ℕ} (is_of key r) 1 0 ≡ cond {A = ℕ} (is_of key (get_or peers i e)) 1 0 = ap (λ p. cond {A = ℕ} (eqb p.0 key.0) 1 0) same ∙ ap (λ q. cond {A = ℕ} (is_of key q) 1 0) read in
+      let alike : cond {A = ℕ} (is_of key r) 1 0 ≡ cond {A = ℕ} (is_of key (get_or peers i e)) 1 0 = ap (λ p. cond {A = ℕ} (eqb p.0 key.0) 1 0) same ∙ ap
+      (λ q. cond {A = ℕ} (is_of key q) 1 0) read in
       omega (arith, sum_by-set (λ q. cond (is_of key q) 1 0) peers i r e inside, alike, kept.once key);
   short = All-set (λ q. length q.blocks ≤ 16) peers i r short kept.short;
   counts = λ b.
@@ -125,19 +131,33 @@ kept_set wanted unasked new peers i e r kept inside read same short shape counts
       omega (arith, sum_by-set (λ q. count_by (is_block b) q.blocks) peers i r e inside, was, counts b, kept.counts b);
 }
 
-pub kept_lost : (wanted unasked new : Blocks) (peers : List PeerRequests) (key : PeerKey) (i : ℕ) (d : PeerRequests) → IsKept wanted unasked peers → i < length peers
+pub kept_lost : (wanted unasked new : Blocks) (peers : List PeerRequests) (key : PeerKey) (i : ℕ) (d : PeerRequests) → IsKept wanted unasked peers
+    → i < length peers
     → is_of key (get_or peers i d) ≡ true → AreAdded unasked (get_or peers i d).blocks new → IsKept wanted new (filter (λ r. not (is_of key r)) peers)
 kept_lost wanted unasked new peers key i d kept inside named added =
     let is : filter (λ r. not (is_of key r)) peers ≡ remove peers i = filter_one (is_of key) peers i d inside named (kept.once key) in
     record {
       shape = λ file. added.shape file ∙ kept.shape file;
       few = let e = ap length is in omega (arith, length-remove peers i inside, e, kept.few);
-      once = λ other. let e = ap (count_by (is_of other)) is in omega (arith, sum_by-remove (λ q. cond (is_of other q) 1 0) peers i d inside, e, kept.once other);
+      once = λ other. let e = ap (count_by (is_of other)) is in omega (
+        arith,
+        sum_by-remove
+            (λ q. cond (is_of other q) 1 0) peers i d inside,
+        e,
+        kept.once other,
+      );
       short = All-filter (λ r. not (is_of key r)) (λ q. length q.blocks ≤ 16) peers kept.short;
-      counts = λ b. let e = ap (λ l. pairs_in l b) is in omega (arith, sum_by-remove (λ q. count_by (is_block b) q.blocks) peers i d inside, e, added.counts b, kept.counts b);
+      counts = λ b. let e = ap (λ l. pairs_in l b) is in omega (
+        arith,
+        sum_by-remove (λ q. count_by (is_block b) q.blocks) peers i d inside,
+        e,
+        added.counts b,
+        kept.counts b,
+      );
     }
 
-pub kept_want : (wanted unasked : Blocks) (peers : List PeerRequests) (b : BlockId) → IsKept wanted unasked peers → IsInRange wanted b → IsInRange unasked b → member wanted b ≡ false
+pub kept_want : (wanted unasked : Blocks) (peers : List PeerRequests) (b : BlockId) → IsKept wanted unasked peers → IsInRange wanted b
+    → IsInRange unasked b → member wanted b ≡ false
     → IsKept (with_block wanted b true) (with_block unasked b true) peers
 kept_want wanted unasked peers b kept inside also_inside off = record {
   shape = λ file. shape_with unasked b true file also_inside ∙ kept.shape file ∙ sym (shape_with wanted b true file inside);
@@ -146,21 +166,27 @@ kept_want wanted unasked peers b kept inside also_inside off = record {
   short = kept.short;
   counts = λ c. elim (cases_Bool (is_block b c)) [
     | inl same ↦
-        let w : one_if (member (with_block wanted b true) c) ≡ 1 = ap one_if (member_with wanted b c true inside ∙ ap (λ t. cond t true (member wanted c)) same) in
-        let u : one_if (member (with_block unasked b true) c) ≡ 1 = ap one_if (member_with unasked b c true also_inside ∙ ap (λ t. cond t true (member unasked c)) same) in
+        let w : one_if (member (with_block wanted b true) c) ≡ 1 = ap one_if (member_with wanted b c true inside ∙ ap
+        (λ t. cond t true (member wanted c)) same) in
+        let u : one_if (member (with_block unasked b true) c) ≡ 1 = ap one_if (member_with unasked b c true also_inside ∙ ap
+        (λ t. cond t true (member unasked c)) same) in
         let none : one_if (member wanted c) ≡ 0 = ap (λ x. one_if (member wanted x)) (same_block b c same) ∙ ap one_if off in
         omega (arith, w, u, none, kept.counts c)
     | inr other ↦
-        let w : one_if (member (with_block wanted b true) c) ≡ one_if (member wanted c) = ap one_if (member_with wanted b c true inside ∙ ap (λ t. cond t true (member wanted c)) other) in
-        let u : one_if (member (with_block unasked b true) c) ≡ one_if (member unasked c) = ap one_if (member_with unasked b c true also_inside ∙ ap (λ t. cond t true (member unasked c)) other) in
+        let w : one_if (member (with_block wanted b true) c) ≡ one_if (member wanted c) = ap one_if
+        (member_with wanted b c true inside ∙ ap (λ t. cond t true (member wanted c)) other) in
+        let u : one_if (member (with_block unasked b true) c) ≡ one_if (member unasked c) = ap one_if
+        (member_with unasked b c true also_inside ∙ ap (λ t. cond t true (member unasked c)) other) in
         omega (arith, w, u, kept.counts c)
   ];
 }
 
-count_same_peers : (key : PeerKey) (b : BlockId) (peers : List PeerRequests) → count_by (is_of key) (map (without_block_of b) peers) ≡ count_by (is_of key) peers
+count_same_peers : (key : PeerKey) (b : BlockId) (peers : List PeerRequests) → count_by (is_of key) (map (without_block_of b) peers) ≡ count_by
+    (is_of key) peers
 count_same_peers key b [] = refl
 count_same_peers key b (r ∷ rs) =
-    count_cons (is_of key) (without_block_of b r) (map (without_block_of b) rs) ∙ ap (λ n. cond (is_of key r) 1 0 + n) (count_same_peers key b rs) ∙ sym (count_cons (is_of key) r rs)
+    count_cons (is_of key) (without_block_of b r) (map (without_block_of b) rs) ∙ ap (λ n. cond (is_of key r) 1 0 + n) (count_same_peers key b rs) ∙ sym
+    (count_cons (is_of key) r rs)
 
 length_without : (b : BlockId) (blocks : List BlockId) → length (without_block b blocks) ≤ length blocks
 length_without b blocks = omega (arith, length-filter (λ c. not (is_block b c)) blocks, count_by-le-length (λ c. not (is_block b c)) blocks)
@@ -173,17 +199,21 @@ kept_done wanted unasked new peers b kept inside shape members = record {
   shape = λ file. shape file ∙ kept.shape file ∙ sym (shape_with wanted b false file inside);
   few = omega (arith, length-map peers (without_block_of b), kept.few);
   once = λ key. omega (arith, count_same_peers key b peers, kept.once key);
-  short = All-map (λ q. length q.blocks ≤ 16) (without_block_of b) peers (All-weaker (λ q. length q.blocks ≤ 16) (λ q. length (without_block b q.blocks) ≤ 16) (λ q h. omega (arith, length_without b q.blocks)) peers kept.short);
+  short = All-map (λ q. length q.blocks ≤ 16) (without_block_of b) peers (All-weaker (λ q. length q.blocks ≤ 16)
+      (λ q. length (without_block b q.blocks) ≤ 16) (λ q h. omega (arith, length_without b q.blocks)) peers kept.short);
   counts = λ c. elim (cases_Bool (is_block b c)) [
     | inl same ↦
-        let w : one_if (member (with_block wanted b false) c) ≡ 0 = ap one_if (member_with wanted b c false inside ∙ ap (λ t. cond t false (member wanted c)) same) in
+        let w : one_if (member (with_block wanted b false) c) ≡ 0 = ap one_if (member_with wanted b c false inside ∙ ap
+        (λ t. cond t false (member wanted c)) same) in
         let u : one_if (member new c) ≡ 0 = ap one_if (members c ∙ ap (λ t. cond t false (member unasked c)) same) in
         let p : pairs_in (map (without_block_of b) peers) c ≡ 0 = pairs_without b c peers ∙ ap (λ t. cond {A = ℕ} t 0 (pairs_in peers c)) same in
         omega (arith, w, u, p)
     | inr other ↦
-        let w : one_if (member (with_block wanted b false) c) ≡ one_if (member wanted c) = ap one_if (member_with wanted b c false inside ∙ ap (λ t. cond t false (member wanted c)) other) in
+        let w : one_if (member (with_block wanted b false) c) ≡ one_if (member wanted c) = ap one_if
+        (member_with wanted b c false inside ∙ ap (λ t. cond t false (member wanted c)) other) in
         let u : one_if (member new c) ≡ one_if (member unasked c) = ap one_if (members c ∙ ap (λ t. cond t false (member unasked c)) other) in
-        let p : pairs_in (map (without_block_of b) peers) c ≡ pairs_in peers c = pairs_without b c peers ∙ ap (λ t. cond {A = ℕ} t 0 (pairs_in peers c)) other in
+        let p : pairs_in (map (without_block_of b) peers) c ≡ pairs_in peers c = pairs_without b c peers ∙ ap
+        (λ t. cond {A = ℕ} t 0 (pairs_in peers c)) other in
         omega (arith, w, u, p, kept.counts c)
   ];
 }
@@ -193,20 +223,24 @@ pub forgotten_none : (b : BlockId) (peers : List PeerRequests) → pairs_in peer
 forgotten_none b [] none = refl
 forgotten_none b (r ∷ rs) none =
     let split = sum_by-cons (λ (q : PeerRequests). count_by (is_block b) q.blocks) r rs in
-    let first : without_block_of b r ≡ r = ap (λ (l : List BlockId). let q : PeerRequests = record r { blocks = l } in q) (filter_none (is_block b) r.blocks (omega (arith, split))) in
+    let first : without_block_of b r ≡ r = ap (λ (l : List BlockId). let q : PeerRequests = record r { blocks = l } in q)
+    (filter_none (is_block b) r.blocks (omega (arith, split))) in
     ap (λ q. q ∷ map (without_block_of b) rs) first ∙ ap (λ l. r ∷ l) (forgotten_none b rs (omega (arith, split)))
 
 -- ---- done, where it was unasked, and where a peer was asked for it
-pub kept_done_unasked : (wanted unasked : Blocks) (peers : List PeerRequests) (b : BlockId) → IsKept wanted unasked peers → IsInRange wanted b → member unasked b ≡ true
+pub kept_done_unasked : (wanted unasked : Blocks) (peers : List PeerRequests) (b : BlockId) → IsKept wanted unasked peers → IsInRange wanted b
+    → member unasked b ≡ true
     → IsKept (with_block wanted b false) (with_block unasked b false) peers
 kept_done_unasked wanted unasked peers b kept inside is =
     let also = member_in_range unasked b is in
     let one : one_if (member unasked b) ≡ 1 = ap one_if is in
     subst (λ (l : List PeerRequests). IsKept (with_block wanted b false) (with_block unasked b false) l)
     (forgotten_none b peers (omega (arith, one, kept.counts b, one_if_le (member wanted b))))
-    (kept_done wanted unasked (with_block unasked b false) peers b kept inside (λ file. shape_with unasked b false file also) (λ c. member_with unasked b c false also))
+    (kept_done wanted unasked (with_block unasked b false) peers b kept inside (λ file. shape_with unasked b false file also)
+    (λ c. member_with unasked b c false also))
 
-pub kept_done_asked : (wanted unasked : Blocks) (peers ys : List PeerRequests) (b : BlockId) → IsKept wanted unasked peers → IsInRange wanted b → member unasked b ≡ false
+pub kept_done_asked : (wanted unasked : Blocks) (peers ys : List PeerRequests) (b : BlockId) → IsKept wanted unasked peers → IsInRange wanted b
+    → member unasked b ≡ false
     → ys ≡ map (without_block_of b) peers → IsKept (with_block wanted b false) unasked ys
 kept_done_asked wanted unasked peers ys b kept inside isnt is =
     subst (λ (l : List PeerRequests). IsKept (with_block wanted b false) unasked l) (sym is)
@@ -216,7 +250,8 @@ kept_done_asked wanted unasked peers ys b kept inside isnt is =
     ]))
 
 -- ---- what a peer's blocks are in a kept book
-pub count_le_pairs : (b : BlockId) (peers : List PeerRequests) (i : ℕ) (e : PeerRequests) → i < length peers → e ≡ get_or peers i e → count_by (is_block b) e.blocks ≤ pairs_in peers b
+pub count_le_pairs : (b : BlockId) (peers : List PeerRequests) (i : ℕ) (e : PeerRequests) → i < length peers → e ≡ get_or peers i e → count_by
+    (is_block b) e.blocks ≤ pairs_in peers b
 count_le_pairs b peers i e inside read =
     let was : count_by (is_block b) e.blocks ≡ count_by (is_block b) (get_or peers i e).blocks = ap (λ q. count_by (is_block b) q.blocks) read in
     omega (arith, was, get_or-le-sum_by (λ q. count_by (is_block b) q.blocks) peers i e inside)
@@ -227,7 +262,8 @@ is_member set b some = elim (cases_Bool (member set b)) [
   | inr isnt ↦ absurd (let none : one_if (member set b) ≡ 0 = ap one_if isnt in omega (arith, none, some))
 ]
 
-pub can_add : (wanted unasked : Blocks) (peers : List PeerRequests) (i : ℕ) (e : PeerRequests) → IsKept wanted unasked peers → i < length peers → e ≡ get_or peers i e → CanAdd unasked e.blocks
+pub can_add : (wanted unasked : Blocks) (peers : List PeerRequests) (i : ℕ) (e : PeerRequests) → IsKept wanted unasked peers → i < length peers
+    → e ≡ get_or peers i e → CanAdd unasked e.blocks
 can_add wanted unasked peers i e kept inside read = record {
   inside = λ k d lt.
       let b : BlockId = get_or e.blocks k d in
@@ -238,53 +274,67 @@ can_add wanted unasked peers i e kept inside read = record {
 }
 
 -- ---- a pair is made, or dropped
-pub kept_ask : (wanted unasked : Blocks) (peers : List PeerRequests) (i : ℕ) (e : PeerRequests) (b : BlockId) → IsKept wanted unasked peers → i < length peers → e ≡ get_or peers i e
+pub kept_ask : (wanted unasked : Blocks) (peers : List PeerRequests) (i : ℕ) (e : PeerRequests) (b : BlockId) → IsKept wanted unasked peers
+    → i < length peers → e ≡ get_or peers i e
     → length e.blocks < 16 → member unasked b ≡ true → IsKept wanted (with_block unasked b false) (set peers i (record e { blocks = e.blocks ++ b ∷ [] }))
 kept_ask wanted unasked peers i e b kept inside read room is =
     let in_range = member_in_range unasked b is in
-    kept_set wanted unasked (with_block unasked b false) peers i e (record e { blocks = e.blocks ++ b ∷ [] }) kept inside read refl (omega (arith, length_push e.blocks b)) (λ file. shape_with unasked b false file in_range)
+    kept_set wanted unasked (with_block unasked b false) peers i e (record e { blocks = e.blocks ++ b ∷ [] }) kept inside read refl
+    (omega (arith, length_push e.blocks b)) (λ file. shape_with unasked b false file in_range)
     (λ c.
-    let pushed : count_by (is_block c) (e.blocks ++ b ∷ []) ≡ count_by (is_block c) e.blocks + cond {A = ℕ} (is_block c b) 1 0 = sum_by_push (λ x. cond (is_block c x) 1 0) e.blocks b in
+    let pushed : count_by (is_block c) (e.blocks ++ b ∷ []) ≡ count_by (is_block c) e.blocks + cond {A = ℕ} (is_block c b) 1 0 = sum_by_push
+    (λ x. cond (is_block c x) 1 0) e.blocks b in
     elim (cases_Bool (is_block b c)) [
       | inl same ↦
-          let now : one_if (member (with_block unasked b false) c) ≡ 0 = ap one_if (member_with unasked b c false in_range ∙ ap (λ t. cond t false (member unasked c)) same) in
+          let now : one_if (member (with_block unasked b false) c) ≡ 0 = ap one_if (member_with unasked b c false in_range ∙ ap
+          (λ t. cond t false (member unasked c)) same) in
           let was : one_if (member unasked c) ≡ 1 = ap (λ x. one_if (member unasked x)) (same_block b c same) ∙ ap one_if is in
           let one : cond {A = ℕ} (is_block c b) 1 0 ≡ 1 = ap (λ t. cond {A = ℕ} t 1 0) (is_block_turned c b ∙ same) in
           omega (arith, now, was, one, pushed)
       | inr other ↦
-          let now : one_if (member (with_block unasked b false) c) ≡ one_if (member unasked c) = ap one_if (member_with unasked b c false in_range ∙ ap (λ t. cond t false (member unasked c)) other) in
+          let now : one_if (member (with_block unasked b false) c) ≡ one_if (member unasked c) = ap one_if
+          (member_with unasked b c false in_range ∙ ap (λ t. cond t false (member unasked c)) other) in
           let none : cond {A = ℕ} (is_block c b) 1 0 ≡ 0 = ap (λ t. cond {A = ℕ} t 1 0) (is_block_turned c b ∙ other) in
           omega (arith, now, none, pushed)
     ])
 
-pub asked_in_range : (wanted unasked : Blocks) (peers : List PeerRequests) (i : ℕ) (e : PeerRequests) (b : BlockId) → IsKept wanted unasked peers → i < length peers → e ≡ get_or peers i e
+pub asked_in_range : (wanted unasked : Blocks) (peers : List PeerRequests) (i : ℕ) (e : PeerRequests) (b : BlockId) → IsKept wanted unasked peers
+    → i < length peers → e ≡ get_or peers i e
     → 0 < count_by (is_block b) e.blocks → IsInRange unasked b
 asked_in_range wanted unasked peers i e b kept inside read some =
     let is = is_member wanted b (omega (arith, some, count_le_pairs b peers i e inside read, kept.counts b)) in
     omega (arith, member_in_range wanted b is, kept.shape b.file)
 
-pub kept_came : (wanted unasked : Blocks) (peers : List PeerRequests) (i : ℕ) (e : PeerRequests) (b : BlockId) → IsKept wanted unasked peers → i < length peers → e ≡ get_or peers i e
+pub kept_came : (wanted unasked : Blocks) (peers : List PeerRequests) (i : ℕ) (e : PeerRequests) (b : BlockId) → IsKept wanted unasked peers
+    → i < length peers → e ≡ get_or peers i e
     → 0 < count_by (is_block b) e.blocks → IsKept wanted (with_block unasked b true) (set peers i (record e { blocks = without_block b e.blocks }))
 kept_came wanted unasked peers i e b kept inside read some =
     let in_range = asked_in_range wanted unasked peers i e b kept inside read some in
     let size : length e.blocks ≤ 16 = ap_short read in
-    kept_set wanted unasked (with_block unasked b true) peers i e (record e { blocks = without_block b e.blocks }) kept inside read refl (omega (arith, length_without b e.blocks)) (λ file. shape_with unasked b true file in_range)
+    kept_set wanted unasked (with_block unasked b true) peers i e (record e { blocks = without_block b e.blocks }) kept inside read refl
+    (omega (arith, length_without b e.blocks)) (λ file. shape_with unasked b true file in_range)
     (λ c. elim (cases_Bool (is_block b c)) [
       | inl same ↦
-          let now : one_if (member (with_block unasked b true) c) ≡ 1 = ap one_if (member_with unasked b c true in_range ∙ ap (λ t. cond t true (member unasked c)) same) in
-          let gone : count_by (is_block c) (without_block b e.blocks) ≡ 0 = count_without b c e.blocks ∙ ap (λ t. cond {A = ℕ} t 0 (count_by (is_block c) e.blocks)) same in
+          let now : one_if (member (with_block unasked b true) c) ≡ 1 = ap one_if (member_with unasked b c true in_range ∙ ap
+          (λ t. cond t true (member unasked c)) same) in
+          let gone : count_by (is_block c) (without_block b e.blocks) ≡ 0 = count_without b c e.blocks ∙ ap
+          (λ t. cond {A = ℕ} t 0 (count_by (is_block c) e.blocks)) same in
           let alike : count_by (is_block c) e.blocks ≡ count_by (is_block b) e.blocks = ap (λ x. count_by (is_block x) e.blocks) (same_block b c same) in
           omega (arith, now, gone, alike, some, count_le_pairs c peers i e inside read, kept.counts c, one_if_le (member wanted c))
       | inr other ↦
-          let now : one_if (member (with_block unasked b true) c) ≡ one_if (member unasked c) = ap one_if (member_with unasked b c true in_range ∙ ap (λ t. cond t true (member unasked c)) other) in
-          let kept' : count_by (is_block c) (without_block b e.blocks) ≡ count_by (is_block c) e.blocks = count_without b c e.blocks ∙ ap (λ t. cond {A = ℕ} t 0 (count_by (is_block c) e.blocks)) other in
+          let now : one_if (member (with_block unasked b true) c) ≡ one_if (member unasked c) = ap one_if
+          (member_with unasked b c true in_range ∙ ap (λ t. cond t true (member unasked c)) other) in
+          let kept' : count_by (is_block c) (without_block b e.blocks) ≡ count_by (is_block c) e.blocks = count_without b c e.blocks ∙ ap
+          (λ t. cond {A = ℕ} t 0 (count_by (is_block c) e.blocks)) other in
           omega (arith, now, kept')
     ])
   where
     ap_short : e ≡ get_or peers i e → length e.blocks ≤ 16
-    ap_short h = let s = All-get_or (λ q. length q.blocks ≤ 16) peers i e inside kept.short in let l : length e.blocks ≡ length (get_or peers i e).blocks = ap (λ q. length q.blocks) h in omega (arith, s, l)
+    ap_short h = let s = All-get_or (λ q. length q.blocks ≤ 16) peers i e inside kept.short in let l : length e.blocks ≡ length
+        (get_or peers i e).blocks = ap (λ q. length q.blocks) h in omega (arith, s, l)
 
-pub kept_choked : (wanted unasked new : Blocks) (peers : List PeerRequests) (i : ℕ) (e : PeerRequests) → IsKept wanted unasked peers → i < length peers → e ≡ get_or peers i e
+pub kept_choked : (wanted unasked new : Blocks) (peers : List PeerRequests) (i : ℕ) (e : PeerRequests) → IsKept wanted unasked peers → i < length peers
+    → e ≡ get_or peers i e
     → AreAdded unasked e.blocks new → IsKept wanted new (set peers i (record e { blocks = [] }))
 kept_choked wanted unasked new peers i e kept inside read added =
     kept_set wanted unasked new peers i e (record e { blocks = [] }) kept inside read refl (omega arith) added.shape (λ b. omega (arith, added.counts b))

@@ -16,7 +16,8 @@ pub record IsOrder (before : Standing → Standing → Bool) : Type 0 where
   pub total : (s t : Standing) → s.peer.0 ≢ t.peer.0 → (before s t ≡ true) ⊎ (before t s ≡ true)
 
 -- what comes first has fewer before it
-fewer_before : (before : Standing → Standing → Bool) (test : Standing → Bool) (xs : List Standing) (s t : Standing) → IsOrder before → Contains xs s → test s ≡ true → before s t ≡ true
+fewer_before : (before : Standing → Standing → Bool) (test : Standing → Bool) (xs : List Standing) (s t : Standing) → IsOrder before → Contains xs s
+    → test s ≡ true → before s t ≡ true
     → count_by (λ u. test u && before u s) xs < count_by (λ u. test u && before u t) xs
 fewer_before before test xs s t order (k, lt, at) passes first =
     count_by_lt_at (λ u. test u && before u s) (λ u. test u && before u t) xs s k
@@ -27,7 +28,8 @@ fewer_before before test xs s t order (k, lt, at) passes first =
     none true = refl
     none false = refl
 
-pub same_key : (before : Standing → Standing → Bool) (test : Standing → Bool) (xs : List Standing) (s t : Standing) → IsOrder before → Contains xs s → Contains xs t → test s ≡ true → test t ≡ true
+pub same_key : (before : Standing → Standing → Bool) (test : Standing → Bool) (xs : List Standing) (s t : Standing) → IsOrder before → Contains xs s
+    → Contains xs t → test s ≡ true → test t ≡ true
     → count_by (λ u. test u && before u s) xs ≡ count_by (λ u. test u && before u t) xs → s.peer.0 ≡ t.peer.0
 same_key before test xs s t order has_s has_t s_passes t_passes same =
     elim (cases_eq s.peer.0 t.peer.0) [
@@ -38,7 +40,8 @@ same_key before test xs s t order has_s has_t s_passes t_passes same =
       ]
     ]
 
-along_bytes : (ub uk sb sk tb tk : ℕ) → (ltb sb ub || (eqb ub sb && ltb uk sk)) ≡ true → (ltb tb sb || (eqb sb tb && ltb sk tk)) ≡ true → (ltb tb ub || (eqb ub tb && ltb uk tk)) ≡ true
+along_bytes : (ub uk sb sk tb tk : ℕ) → (ltb sb ub || (eqb ub sb && ltb uk sk)) ≡ true → (ltb tb sb || (eqb sb tb && ltb sk tk)) ≡ true →
+    (ltb tb ub || (eqb ub tb && ltb uk tk)) ≡ true
 along_bytes ub uk sb sk tb tk h k = grind (arith, nat_tests)
 
 apart_bytes : (b k : ℕ) → (ltb b b || (eqb b b && ltb k k)) ≡ false
@@ -102,7 +105,8 @@ below_parts : (b : Bool) (n m : ℕ) → (b && ltb n m) ≡ true → (b ≡ true
 below_parts b n m h = let both = and_parts b (ltb n m) h in (both.0, ltb-true n m both.1)
 
 -- a peer of this rank is none of those before
-pub top_fresh : (xs : List Standing) (rank : ℕ) (keys : List PeerKey) (one : PeerKey) → HaveOwnKeys xs → AreTopKeys xs rank keys → IsKeyOf xs (has_rank xs rank) one
+pub top_fresh : (xs : List Standing) (rank : ℕ) (keys : List PeerKey) (one : PeerKey) → HaveOwnKeys xs → AreTopKeys xs rank keys → IsKeyOf xs
+    (has_rank xs rank) one
     → (k : PeerKey) → Contains keys k → k.0 ≢ one.0
 top_fresh xs rank keys one own tops (s, has, named, passes) k among same =
     let (t, has_t, named_t, passes_t) = tops.only k among in
@@ -143,7 +147,8 @@ top_same xs rank keys free tops = record {
   only = λ k among. let (s, has, named, passes) = tops.only k among in (s, has, named, more_below xs rank s passes);
 }
 
-pub top_more : (xs : List Standing) (rank : ℕ) (keys new : List PeerKey) (one : PeerKey) → HaveOwnKeys xs → IsKeyOf xs (has_rank xs rank) one → AreTopKeys xs rank keys
+pub top_more : (xs : List Standing) (rank : ℕ) (keys new : List PeerKey) (one : PeerKey) → HaveOwnKeys xs → IsKeyOf xs (has_rank xs rank) one
+    → AreTopKeys xs rank keys
     → IsAscending new → HasOneMore keys one new → AreTopKeys xs (rank + 1) new
 top_more xs rank keys new one own (t, has_t, named_t, passes_t) tops ascending more = record {
   ascending = ascending;
@@ -158,7 +163,12 @@ top_more xs rank keys new one own (t, has_t, named_t, passes_t) tops ascending m
   only = λ k among. elim ((more k).0 among) [
     | inl old ↦ let (s, has, named, passes) = tops.only k old in (s, has, named, more_below xs rank s passes)
     | inr e ↦
-        let there = rank_parts t.interested (count_before xs t) rank passes_t in
-        (t, has_t, named_t ∙ sym e, and_from t.interested (ltb (count_before xs t) (rank + 1)) there.0 (lt-ltb (count_before xs t) (rank + 1) (omega (arith, there.1))))
+        let there = rank_parts t.interested (count_before xs t) rank passes_t in (
+          t,
+          has_t,
+          named_t ∙ sym e,
+          and_from t.interested (ltb (count_before xs t) (rank + 1)) there.0
+              (lt-ltb (count_before xs t) (rank + 1) (omega (arith, there.1))),
+        )
   ];
 }

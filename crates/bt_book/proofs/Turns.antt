@@ -15,7 +15,8 @@ among : (keys : List PeerKey) (k : PeerKey) (n : ℕ) → Contains keys k → k.
 among keys k n (i, lt, at) same = list_any_at (λ u. eqb u.0 n) keys i k lt (eq-eqb (get_or keys i k).0 n (ap (λ u. u.0) at ∙ same))
 
 -- the interested peers whose key is no top one's are those that are not top
-other_is_rest : (xs : List Standing) (keys : List PeerKey) (s : Standing) → HaveOwnKeys xs → AreTopKeys xs 3 keys → Contains xs s → is_other keys s ≡ is_rest xs s
+other_is_rest : (xs : List Standing) (keys : List PeerKey) (s : Standing) → HaveOwnKeys xs → AreTopKeys xs 3 keys → Contains xs s
+    → is_other keys s ≡ is_rest xs s
 other_is_rest xs keys s own tops has = elim (cases_Bool s.interested) [
   | inl yes' ↦ ap (λ b. s.interested && not b) (elim (cases_Bool (list_any (λ u. eqb u.0 s.peer.0) keys)) [
     | inl found ↦
@@ -34,7 +35,8 @@ other_is_rest xs keys s own tops has = elim (cases_Bool s.interested) [
 same_turn : (a b : Bool) (m n turn c d : ℕ) → a ≡ b → m ≡ n → c ≡ d → (a && eqb m (turn % c)) ≡ (b && eqb n (turn % d))
 same_turn a b m n turn c d e f g = cc
 
-on_turn_is : (xs : List Standing) (keys : List PeerKey) (turn : ℕ) (s : Standing) → HaveOwnKeys xs → AreTopKeys xs 3 keys → Contains xs s → is_other_on_turn xs keys turn s ≡ is_on_turn xs turn s
+on_turn_is : (xs : List Standing) (keys : List PeerKey) (turn : ℕ) (s : Standing) → HaveOwnKeys xs → AreTopKeys xs 3 keys → Contains xs s
+    → is_other_on_turn xs keys turn s ≡ is_on_turn xs turn s
 on_turn_is xs keys turn s own tops has =
     same_turn _ _ _ _ turn _ _ (other_is_rest xs keys s own tops has)
     (count_by_agree (λ t. is_other keys t && ltb t.peer.0 s.peer.0) (λ t. is_rest xs t && ltb t.peer.0 s.peer.0) xs
@@ -42,14 +44,16 @@ on_turn_is xs keys turn s own tops has =
     (count_by_agree (is_other keys) (is_rest xs) xs (λ k d lt. other_is_rest xs keys (get_or xs k d) own tops (Contains-get_or xs k d lt)))
 
 -- the peer in turn is none of the top ones
-pub turn_fresh : (xs : List Standing) (keys : List PeerKey) (turn : ℕ) (one : PeerKey) → IsKeyOf xs (is_other_on_turn xs keys turn) one → (k : PeerKey) → Contains keys k → k.0 ≢ one.0
+pub turn_fresh : (xs : List Standing) (keys : List PeerKey) (turn : ℕ) (one : PeerKey) → IsKeyOf xs (is_other_on_turn xs keys turn) one → (k : PeerKey)
+    → Contains keys k → k.0 ≢ one.0
 turn_fresh xs keys turn one (s, has, named, passes) k held same =
     let other = (and_parts (is_other keys s) (eqb (others_below xs keys s) (turn % count_by (is_other keys) xs)) passes).0 in
     let apart = (and_parts s.interested (not (list_any (λ u. eqb u.0 s.peer.0) keys)) other).1 in
     let found = among keys k s.peer.0 held (same ∙ ap (λ u. u.0) (sym named)) in
     true≢false (sym apart ∙ ap not found)
 
-pub choice_none : (xs : List Standing) (keys : List PeerKey) (turn : ℕ) → HaveOwnKeys xs → AreTopKeys xs 3 keys → HasNone xs (is_other_on_turn xs keys turn) → IsChoice xs turn keys
+pub choice_none : (xs : List Standing) (keys : List PeerKey) (turn : ℕ) → HaveOwnKeys xs → AreTopKeys xs 3 keys → HasNone xs
+    (is_other_on_turn xs keys turn) → IsChoice xs turn keys
 choice_none xs keys turn own tops free = record {
   ascending = tops.ascending;
   all = λ s has chosen. elim (or_cases (is_top xs s) (is_on_turn xs turn s) chosen) [
@@ -59,7 +63,8 @@ choice_none xs keys turn own tops free = record {
   only = λ k held. let (s, has, named, top) = tops.only k held in (s, has, named, or_left (is_top xs s) (is_on_turn xs turn s) top);
 }
 
-pub choice_some : (xs : List Standing) (keys new : List PeerKey) (turn : ℕ) (one : PeerKey) → HaveOwnKeys xs → AreTopKeys xs 3 keys → IsKeyOf xs (is_other_on_turn xs keys turn) one
+pub choice_some : (xs : List Standing) (keys new : List PeerKey) (turn : ℕ) (one : PeerKey) → HaveOwnKeys xs → AreTopKeys xs 3 keys → IsKeyOf xs
+    (is_other_on_turn xs keys turn) one
     → IsAscending new → HasOneMore keys one new → IsChoice xs turn new
 choice_some xs keys new turn one own tops (t, has_t, named_t, passes_t) ascending more =
     let turn_t : is_on_turn xs turn t ≡ true = sym (on_turn_is xs keys turn t own tops has_t) ∙ passes_t in

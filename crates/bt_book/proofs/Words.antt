@@ -11,7 +11,8 @@ use Rattle.bt_book.specs.BitSetSteps.{has_bit, bits_of, IsNextBit, IsNextInWord,
 -- ---- one bit is written
 -- a word is replaced by one that differs at one bit alone
 bit_written : (words : List ℕ) (k w : ℕ) (v : Bool) → k < 64 * length words → eqb (bit_at w (k % 64)) 1 ≡ v
-    → ((j : ℕ) → j < 64 → j ≢ k % 64 → bit_at w j ≡ bit_at (get_or words (k / 64) 0) j) → (i : ℕ) → has_bit (set words (k / 64) w) i ≡ cond (eqb i k) v (has_bit words i)
+    → ((j : ℕ) → j < 64 → j ≢ k % 64 → bit_at w j ≡ bit_at (get_or words (k / 64) 0) j) → (i : ℕ) → has_bit (set words (k / 64) w) i ≡ cond (eqb i k) v
+    (has_bit words i)
 bit_written words k w v inside here others i =
     let low : k / 64 < length words = omega arith in
     elim (cases_eq i k) [
@@ -35,13 +36,16 @@ pub bit_set : (words : List ℕ) (k : ℕ) → k < 64 * length words → (i : �
     → has_bit (set words (k / 64) (bit_or (get_or words (k / 64) 0) (1 * 2 ^ (k % 64) % 18446744073709551616))) i ≡ cond (eqb i k) true (has_bit words i)
 bit_set words k inside =
     let low : k % 64 < 64 = omega arith in
-    bit_written words k _ true inside (eq-eqb _ 1 (bit_at_set_same w64 (get_or words (k / 64) 0) (k % 64) low)) (λ j lt ne. bit_at_set_other w64 (get_or words (k / 64) 0) (k % 64) low j ne)
+    bit_written words k _ true inside (eq-eqb _ 1 (bit_at_set_same w64 (get_or words (k / 64) 0) (k % 64) low))
+    (λ j lt ne. bit_at_set_other w64 (get_or words (k / 64) 0) (k % 64) low j ne)
 
 pub bit_cleared : (words : List ℕ) (k : ℕ) → k < 64 * length words → (i : ℕ)
-    → has_bit (set words (k / 64) (bit_and (get_or words (k / 64) 0) (18446744073709551615 - 1 * 2 ^ (k % 64) % 18446744073709551616))) i ≡ cond (eqb i k) false (has_bit words i)
+    → has_bit (set words (k / 64) (bit_and (get_or words (k / 64) 0) (18446744073709551615 - 1 * 2 ^ (k % 64) % 18446744073709551616))) i ≡ cond
+    (eqb i k) false (has_bit words i)
 bit_cleared words k inside =
     let low : k % 64 < 64 = omega arith in
-    bit_written words k _ false inside (ap (λ n. eqb n 1) (bit_at_clear_same w64 (get_or words (k / 64) 0) (k % 64) low)) (λ j lt ne. bit_at_clear_other w64 (get_or words (k / 64) 0) (k % 64) low j lt ne)
+    bit_written words k _ false inside (ap (λ n. eqb n 1) (bit_at_clear_same w64 (get_or words (k / 64) 0) (k % 64) low))
+    (λ j lt ne. bit_at_clear_other w64 (get_or words (k / 64) 0) (k % 64) low j lt ne)
 
 -- ---- the next bit
 rest_bit : (word from j : ℕ) → bit_at (word / 2 ^ from) j ≡ bit_at word (from + j)
@@ -61,7 +65,8 @@ found_in_word word from fits low some =
         | inr ge ↦ let none : bit_at word (from + t) ≡ 0 = bit_at_above word 64 (from + t) fits ge in absurd (omega (arith, none, set))
       ];
       set = set;
-      least = λ j after below. let back : from + (j - from) ≡ j = omega arith in ap (bit_at word) (sym back) ∙ sym (rest_bit word from (j - from)) ∙ ends.2 (j - from) (omega arith);
+      least = λ j after below. let back : from + (j - from) ≡ j = omega arith in ap (bit_at word) (sym back) ∙ sym (rest_bit word from (j - from))
+          ∙ ends.2 (j - from) (omega arith);
     }
 
 pub none_in_word : (word from : ℕ) → word / 2 ^ from ≡ 0 → HasNoBitInWord word from
@@ -132,14 +137,17 @@ has_any count words groups i sound = elim (cases_lt i count) [
 pub bits_length : (count : ℕ) (words : List ℕ) → length (bits_of count words) ≡ count
 bits_length count words = length-map-range_with_len (has_bit words) 0 count
 
-pub bits_with : (count : ℕ) (words new : List ℕ) (k : ℕ) (v : Bool) → k < count → ((i : ℕ) → has_bit new i ≡ cond (eqb i k) v (has_bit words i)) → bits_of count new ≡ set (bits_of count words) k v
+pub bits_with : (count : ℕ) (words new : List ℕ) (k : ℕ) (v : Bool) → k < count → ((i : ℕ) → has_bit new i ≡ cond (eqb i k) v (has_bit words i))
+    → bits_of count new ≡ set (bits_of count words) k v
 bits_with count words new k v inside changed =
-    ext_get_or false (bits_of count new) (set (bits_of count words) k v) (bits_length count new ∙ sym (bits_length count words) ∙ sym (length-set (bits_of count words) k v))
+    ext_get_or false (bits_of count new) (set (bits_of count words) k v) (bits_length count new ∙ sym (bits_length count words) ∙ sym
+    (length-set (bits_of count words) k v))
     (λ i lt.
     let i_in : i < count = omega (arith, bits_length count new) in
     let old = has_at count words i i_in in
     has_at count new i i_in ∙ changed i ∙ elim (cases_eq i k) [
-      | inl e ↦ let at : eqb i k ≡ true = eq-eqb i k e in rw at (sym (ap (λ j. get_or (set (bits_of count words) k v) j false) e ∙ get_or-set_same (bits_of count words) k v false (omega (arith, bits_length count words))))
+      | inl e ↦ let at : eqb i k ≡ true = eq-eqb i k e in rw at (sym (ap (λ j. get_or (set (bits_of count words) k v) j false) e ∙ get_or-set_same
+          (bits_of count words) k v false (omega (arith, bits_length count words))))
       | inr ne ↦ let off : eqb i k ≡ false = ne_eqb i k ne in rw off (sym (get_or-set_other (bits_of count words) k i v false ne ∙ old))
     ])
 

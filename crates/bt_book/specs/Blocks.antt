@@ -42,10 +42,12 @@ pub record IsLeastIn (has : BlockId → Bool → Type 0) (blocks : List Bool) (f
   pub of : b.file ≡ file
   pub among : slice_index_or blocks b.block false ≡ true
   pub held : has b true
-  pub least : (c : BlockId) → c.file ≡ file → c.block < b.block → slice_index_or blocks c.block false ≡ true → has c false
+  pub least : (c : BlockId) → c.file ≡ file → c.block < b.block → slice_index_or blocks c.block false ≡ true
+      → has c false
 
 abbrev pub HasNoneIn : (BlockId → Bool → Type 0) → List Bool → ℕ → Type 0
-HasNoneIn has blocks file = (c : BlockId) → c.file ≡ file → slice_index_or blocks c.block false ≡ true → has c false
+HasNoneIn has blocks file =
+    (c : BlockId) → c.file ≡ file → slice_index_or blocks c.block false ≡ true → has c false
 
 -- a file with a member is marked, where a block may name it at all; no file has 2 ^ 32 blocks
 pub record IsFilled (set : Blocks) (marks : List Bool) : Type 0 where

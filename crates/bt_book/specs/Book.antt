@@ -1,5 +1,5 @@
 -- A request book: the blocks that are wanted, the peers, and what each of them is asked for.
-use Rattle.std.specs.Prelude.{◌≡◌, ℕ, ◌<◌, ◌≤◌, ◌==◌, Bool, true, false, not, if◌then◌else◌, List, [], ◌∷◌, ◌++◌, length, map, filter, count_by, sum_by}
+use Rattle.std.specs.Prelude.{◌≡◌, ◌≢◌, ℕ, ◌<◌, ◌≤◌, ◌==◌, Bool, true, false, not, if◌then◌else◌, List, [], ◌∷◌, ◌++◌, length, map, filter, count_by, sum_by}
 use Rattle.bt_book.specs.declared.names.PeerKey.{PeerKey}
 use Rattle.bt_book.specs.declared.names.BlockId.{BlockId}
 use Rattle.bt_book.specs.Blocks.{Blocks, member, with_block, is_block, IsBefore}
@@ -38,6 +38,10 @@ asked_of book key = asked_in key book.peers
 -- the peer is asked for the block
 abbrev pub IsPair : BookState → PeerKey → BlockId → Type 0
 IsPair book key b = 0 < count_by (is_block b) (asked_of book key)
+
+-- what every other peer is asked for is the same
+abbrev pub KeepsOthers : BookState → BookState → PeerKey → Type 0
+KeepsOthers old new key = (other : PeerKey) → other.0 ≢ key.0 → asked_of new other ≡ asked_of old other
 
 -- how many pairs the block is in
 abbrev pub pairs_in : List PeerRequests → BlockId → ℕ

@@ -1,5 +1,5 @@
--- Whom to serve: three interested peers that sent most (BEP 3), and one more in turn. Who they are is said by counting,
--- for each peer, those that stand before it.
+-- Whom to serve: three interested peers that sent most (BEP 3), and one more in turn. Who they are is said by
+-- counting, for each peer, those that come before it.
 use Rattle.std.specs.Prelude.{◌≡◌, ◌≢◌, ℕ, ◌%◌, ◌<◌, ◌==◌, nat_lt, Bool, true, ◌&&◌, ◌||◌, not, List, Contains, AllPairs, count_by}
 use Rattle.bt_book.specs.declared.names.PeerKey.{PeerKey}
 use Rattle.bt_book.specs.declared.choking.Standing.{Standing}
@@ -43,4 +43,5 @@ IsAscending keys = AllPairs (λ a b. a.0 < b.0) keys
 pub record IsChoice (standings : List Standing) (turn : ℕ) (keys : List PeerKey) : Type 0 where
   pub ascending : IsAscending keys
   pub all : (s : Standing) → Contains standings s → is_chosen standings turn s ≡ true → Contains keys s.peer
-  pub only : (k : PeerKey) → Contains keys k → (s : Standing) × Contains standings s × (s.peer ≡ k) × (is_chosen standings turn s ≡ true)
+  pub only : (k : PeerKey) → Contains keys k
+      → (s : Standing) × Contains standings s × (s.peer ≡ k) × (is_chosen standings turn s ≡ true)

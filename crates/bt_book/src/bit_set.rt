@@ -48,6 +48,13 @@ impl BitSet {
         })
     }
 
+    /// How many numbers there are.
+    pub fn count(&self) -> usize
+        ensures { result ≡ length self.now }
+    {
+        self.count
+    }
+
     /// Whether the number is in the set.
     pub fn contains(&self, number: usize) -> bool
         requires { number < length self.now }

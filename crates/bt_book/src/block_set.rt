@@ -1,4 +1,4 @@
-ghost use Rattle.std.specs.Prelude.{◌≡◌, ◌≢◌, ℕ, ◌+◌, ◌^◌, ◌<◌, ◌≤◌, true, false, Bool, List, length, map, replicate, slice_index_or, IfSome, IfNone, IfOk};
+ghost use Rattle.std.specs.Prelude.{◌≡◌, ◌≢◌, ℕ, ◌+◌, ◌^◌, ◌<◌, ◌≤◌, true, false, Bool, List, length, map, replicate, slice_index_or, IfSome, IfNone, IfOk, IsTrue, ◌↔◌};
 ghost use Rattle.bt_book.specs.Blocks.{Blocks, member, IsInRange, with_block, IsLeast, HasNone, IsLeastIn, HasNoneIn};
 
 use crate::bit_set::BitSet;
@@ -37,6 +37,14 @@ impl BlockSet {
             files.push(BitSet::new(alloc, *count as usize)?)?;
         }
         Ok(BlockSet { files, filled })
+    }
+
+    /// Whether the block is one of the torrent's.
+    pub fn is_in_range(&self, block: BlockId) -> bool
+        ensures { IsTrue result ↔ IsInRange self.now block }
+    {
+        let file = block.file as usize;
+        file < self.files.len() && (block.block as usize) < self.files[file].count()
     }
 
     pub fn contains(&self, block: BlockId) -> bool

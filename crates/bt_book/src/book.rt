@@ -1,7 +1,7 @@
-ghost use Rattle.std.specs.Prelude.{◌≡◌, ◌≢◌, ℕ, ◌<◌, ◌≤◌, ◌↔◌, ◌⊎◌, [], length, map, replicate, false, All, count_by, IsTrue, IfSome, OnSome, IfNone, IfOk};
+ghost use Rattle.std.specs.Prelude.{◌≡◌, ◌<◌, ◌≤◌, ◌↔◌, ◌⊎◌, [], length, map, replicate, false, All, count_by, IsTrue, IfSome, OnSome, IfNone, IfOk};
 ghost use Rattle.std.specs.Bool.{OnTrue, OnFalse};
 ghost use Rattle.bt_book.specs.Blocks.{IsInRange, is_block};
-ghost use Rattle.bt_book.specs.Book.{IsJoined, asked_of, with_peer, without_peer, with_pair, without_pair, without_pairs_of, with_wanted, with_done, without_block_of, IsLeastUnasked, HasNoneUnasked, IsBook, IsPair, max_peers, max_requests};
+ghost use Rattle.bt_book.specs.Book.{IsJoined, asked_of, with_peer, without_peer, with_pair, without_pair, without_pairs_of, with_wanted, with_done, without_block_of, IsLeastUnasked, HasNoneUnasked, IsBook, IsPair, KeepsOthers, max_peers, max_requests};
 ghost use Rattle.bt_book.specs.BookSteps.{AreAdded, CanAdd};
 
 use crate::block_set::BlockSet;
@@ -66,7 +66,7 @@ impl Book {
     pub fn lost(&mut self, peer: PeerKey)
         ensures now { self.new ≡ without_peer self.old peer }
         ensures nothing_asked { asked_of self.new peer ≡ [] }
-        ensures others { (other : PeerKey) → other.0 ≢ peer.0 → asked_of self.new other ≡ asked_of self.old other }
+        ensures others { KeepsOthers self.old self.new peer }
     {
         if let Some(index) = index_of(&self.peers, peer) {
             add_all(&mut self.unasked, self.peers[index].blocks());
@@ -78,7 +78,7 @@ impl Book {
     pub fn choked(&mut self, peer: PeerKey)
         ensures now { self.new ≡ without_pairs_of self.old peer }
         ensures nothing_asked { asked_of self.new peer ≡ [] }
-        ensures others { (other : PeerKey) → other.0 ≢ peer.0 → asked_of self.new other ≡ asked_of self.old other }
+        ensures others { KeepsOthers self.old self.new peer }
     {
         if let Some(index) = index_of(&self.peers, peer) {
             add_all(&mut self.unasked, self.peers[index].blocks());
@@ -90,7 +90,8 @@ impl Book {
     pub fn came(&mut self, peer: PeerKey, block: BlockId) -> bool
         ensures was { IsTrue result ↔ IsPair self.old peer block }
         ensures now { self.new ≡ without_pair self.old peer block }
-        ensures others { (other : PeerKey) → other.0 ≢ peer.0 → asked_of self.new other ≡ asked_of self.old other }
+        ensures kept { OnFalse result (self.new ≡ self.old) }
+        ensures others { KeepsOthers self.old self.new peer }
     {
         let Some(index) = index_of(&self.peers, peer) else {
             return false;
@@ -100,6 +101,13 @@ impl Book {
         }
         self.unasked.insert(block);
         true
+    }
+
+    /// Whether the block is one of the torrent's.
+    pub fn is_in_range(&self, block: BlockId) -> bool
+        ensures { IsTrue result ↔ IsInRange self.now.wanted block }
+    {
+        self.wanted.is_in_range(block)
     }
 
     /// A block is wanted from now on.
@@ -138,8 +146,8 @@ impl Book {
         ensures now { IfSome result (λ block. self.new ≡ with_pair self.old peer block) }
         ensures joined { OnSome result (IsJoined self.old peer) }
         ensures room { OnSome result (length (asked_of self.old peer) < max_requests) }
-        ensures none { IfNone result ((¬ IsJoined self.old peer) ⊎ (length (asked_of self.old peer) ≡ max_requests)
-            ⊎ HasNoneUnasked (F.post has) self.old) }
+        ensures none { IfNone result ((¬ IsJoined self.old peer)
+            ⊎ (length (asked_of self.old peer) ≡ max_requests) ⊎ HasNoneUnasked (F.post has) self.old) }
         ensures kept { IfNone result (self.new ≡ self.old) }
     {
         let Some(index) = index_of(&self.peers, peer) else {

@@ -19,7 +19,8 @@ loop-rank-preserved c =
     elim c.match-ranked.branch [
       | in-Some w ↦ rw w.chosen-is record {
         few = omega (arith, w.insert.ensures.len, c.loop-rank.invariant.few);
-        keys = top_more xs rank c.loop-rank.chosen.items w.insert.new.keys.items w.in-Some.peer c.requires w.in-Some.ensures.some keys w.insert.ensures.ascending w.insert.ensures.members;
+        keys = top_more xs rank c.loop-rank.chosen.items w.insert.new.keys.items w.in-Some.peer c.requires w.in-Some.ensures.some keys
+            w.insert.ensures.ascending w.insert.ensures.members;
       }
       | in_default w ↦ rw w.chosen-is record {
         few = omega (arith, c.loop-rank.invariant.few);
@@ -39,7 +40,8 @@ returns-in-Some-on_turn c =
     let keys : AreTopKeys xs 3 c.loop-rank.chosen.items = subst (λ (r : ℕ). AreTopKeys xs r c.loop-rank.chosen.items) three c.loop-rank.invariant.keys in
     let turned = rw c.as_slice.ensures.value at c.in-Some-on_turn.ensures.some in
     let more = c.insert-in-Some-on_turn in
-    choice_some xs c.loop-rank.chosen.items more.new.keys.items c.args.turn c.in-Some-on_turn.peer c.requires keys turned more.ensures.ascending more.ensures.members
+    choice_some xs c.loop-rank.chosen.items more.new.keys.items c.args.turn c.in-Some-on_turn.peer c.requires keys turned more.ensures.ascending
+    more.ensures.members
 
 pub returns-in_default-on_turn : goal.returns-in_default-on_turn
 returns-in_default-on_turn c =

@@ -6,7 +6,8 @@ returns-clause-ascending c =
     let before = rw c.as_slice.ensures.value at c.index_of-index.ensures.before in
     let after = rw c.as_slice.ensures.value at c.index_of-index.ensures.after in
     let fits = rw c.as_slice.ensures.value at c.index_of-index.ensures.within in
-    ascending_after c.args.keys.now.items c.insert.new.self.items c.index_of-index.result c.args.peer c.insert.ensures.items fits c.requires.ascending c.requires.other before after
+    ascending_after c.args.keys.now.items c.insert.new.self.items c.index_of-index.result c.args.peer c.insert.ensures.items fits c.requires.ascending
+    c.requires.other before after
 
 pub returns-clause-members : goal.returns-clause-members
 returns-clause-members c =

@@ -21,7 +21,8 @@ loop-standing-preserved c = record {
               | else-is_other-via-then-is_other+else-others_below-turn w ↦
                   and_right (is_other keys (get_or xs i d)) (eqb (others_below xs keys (get_or xs i d)) (turn % count_by (is_other keys) xs))
                   (ne_eqb (others_below xs keys (get_or xs i d)) (turn % count_by (is_other keys) xs)
-                  (λ e. w.if-others_below-turn.false (w.others_below.ensures ∙ ap (others_below xs keys) (get_or_default xs i _ d c.loop-standing-test.true) ∙ e ∙ ap (λ n. turn % n) (sym c.loop-standing.invariant.count))))
+                  (λ e. w.if-others_below-turn.false (w.others_below.ensures ∙ ap (others_below xs keys)
+                  (get_or_default xs i _ d c.loop-standing-test.true) ∙ e ∙ ap (λ n. turn % n) (sym c.loop-standing.invariant.count))))
               | else-is_other-via-else-is_other w ↦
                   and_left (is_other keys (get_or xs i d)) (eqb (others_below xs keys (get_or xs i d)) (turn % count_by (is_other keys) xs))
                   (sym (c.is_other.ensures ∙ ap (is_other keys) (get_or_default xs i _ d c.loop-standing-test.true)) ∙ w.if-is_other.false)

@@ -25,7 +25,8 @@ returns-clause-some c =
     let group = rw c.deref-2.ensures.value at c.in-Some-next_bit.ensures.some in
     let found = rw c.deref-3.ensures.value at c.next_bit-2.ensures.some in
     subst (λ (s : List Bool). IfSome c.next_bit-2.result (IsNext s c.args.from)) c.self.view_is
-    (found_past c.self.inside.count c.self.inside.words.items c.self.inside.groups.items c.args.from c.in-Some-next_bit.group c.next_bit-2.result c.self.invariant none group found)
+    (found_past c.self.inside.count c.self.inside.words.items c.self.inside.groups.items c.args.from c.in-Some-next_bit.group c.next_bit-2.result
+    c.self.invariant none group found)
 
 pub returns-clause-none : goal.returns-clause-none
 returns-clause-none c =
@@ -33,4 +34,5 @@ returns-clause-none c =
     let group = rw c.deref-2.ensures.value at c.in-Some-next_bit.ensures.some in
     let unfound = rw c.deref-3.ensures.value at c.next_bit-2.ensures.none in
     subst (λ (s : List Bool). IfNone c.next_bit-2.result (HasNoneFrom s c.args.from)) c.self.view_is
-    (unfound_past c.self.inside.count c.self.inside.words.items c.self.inside.groups.items c.args.from c.in-Some-next_bit.group c.next_bit-2.result c.self.invariant none group unfound)
+    (unfound_past c.self.inside.count c.self.inside.words.items c.self.inside.groups.items c.args.from c.in-Some-next_bit.group c.next_bit-2.result
+    c.self.invariant none group unfound)

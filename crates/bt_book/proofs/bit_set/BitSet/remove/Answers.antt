@@ -22,13 +22,16 @@ clear_bit-requires-then-is_none c =
 pub invariant_of-self : goal.invariant_of-self
 invariant_of-self c =
     let words = with_items_is c.self.inside.words c.clear_bit.new.words (c.clear_bit.auto.words ∙ c.deref_mut.ensures.len) in
-    let groups = with_items_is c.self.inside.groups c.clear_bit-then-is_none.new.words (c.clear_bit-then-is_none.auto.words ∙ c.deref_mut-then-is_none.ensures.len) in
+    let groups = with_items_is c.self.inside.groups c.clear_bit-then-is_none.new.words
+    (c.clear_bit-then-is_none.auto.words ∙ c.deref_mut-then-is_none.ensures.len) in
     let written = rw c.deref_mut.ensures.value at c.clear_bit.ensures in
     let grouped = rw c.deref_mut-then-is_none.ensures.value at c.clear_bit-then-is_none.ensures in
     let sound = sound_without c.self.inside.count c.self.inside.words.items c.self.inside.groups.items c.clear_bit.new.words c.args.number c.self.invariant
     (c.clear_bit.auto.words ∙ ap length c.deref_mut.ensures.value) written in
-    let none = no_bit_in_group c.next_in_group.result c.deref.result.now c.clear_bit.new.words (4096 * (c.args.number / 4096)) (c.deref.ensures.value ∙ words) c.next_in_group.ensures.none (c.is_none.ensures ∙ ap not c.if-is_none.true) in
-    rw (words, groups) (sound_without_group c.self.inside.count c.clear_bit.new.words c.self.inside.groups.items c.clear_bit-then-is_none.new.words c.args.number sound
+    let none = no_bit_in_group c.next_in_group.result c.deref.result.now c.clear_bit.new.words (4096 * (c.args.number / 4096))
+    (c.deref.ensures.value ∙ words) c.next_in_group.ensures.none (c.is_none.ensures ∙ ap not c.if-is_none.true) in
+    rw (words, groups) (sound_without_group c.self.inside.count c.clear_bit.new.words c.self.inside.groups.items c.clear_bit-then-is_none.new.words
+    c.args.number sound
     (c.clear_bit-then-is_none.auto.words ∙ ap length c.deref_mut-then-is_none.ensures.value) none grouped)
 
 pub invariant_of-self-else-is_none : goal.invariant_of-self-else-is_none

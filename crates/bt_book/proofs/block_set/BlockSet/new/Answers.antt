@@ -7,6 +7,7 @@ pub invariant_of-result : goal.invariant_of-result
 invariant_of-result c =
     let blocks = c.args.blocks.now in
     let marks = c.in_ok-filled.filled in
-    let made : c.loop-count.files.items ≡ map (λ n. replicate n false) blocks = c.loop-count.invariant ∙ ap (map (λ n. replicate n false)) (take_all c.loop-count.count-index blocks (omega arith)) in
+    let made : c.loop-count.files.items ≡ map (λ n. replicate n false) blocks = c.loop-count.invariant ∙ ap (map (λ n. replicate n false))
+    (take_all c.loop-count.count-index blocks (omega arith)) in
     let size = ap length c.in_ok-filled.ensures ∙ length-replicate c.min.result false ∙ c.min.ensures in
     rw made (filled_none blocks marks size (λ k. let fits = c.type_inv.blocks k in omega arith))

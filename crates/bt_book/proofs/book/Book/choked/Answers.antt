@@ -9,7 +9,8 @@ use Rattle.bt_book.proofs.book.Book.choked.Goals as goal
 pub add_all-requires : goal.add_all-requires
 add_all-requires c =
     let found = rw c.deref.ensures.value at c.in-Some.ensures.some in
-    rw c.blocks-in-Some.ensures (can_add c.self.inside.wanted c.self.inside.unasked c.self.inside.peers.items c.in-Some.index c.index.result.now c.self.invariant.0 found.inside c.index.ensures)
+    rw c.blocks-in-Some.ensures (can_add c.self.inside.wanted c.self.inside.unasked c.self.inside.peers.items c.in-Some.index c.index.result.now
+    c.self.invariant.0 found.inside c.index.ensures)
 
 pub invariant_of-self : goal.invariant_of-self
 invariant_of-self c =
@@ -19,13 +20,16 @@ invariant_of-self c =
     let found = rw c.deref.ensures.value at c.in-Some.ensures.some in
     let same : c.index.result.now ≡ e = get_or_read peers i c.index.result.now found.inside c.index.ensures e ∙ sym c.index_mut.ensures.value in
     let added = rw (c.blocks-in-Some.ensures, same) at c.add_all.ensures in
-    rw c.clear.ensures
-    (kept_choked c.self.inside.wanted c.self.inside.unasked c.add_all.new.set peers i e c.self.invariant.0 found.inside c.index_mut.ensures.value added, c.self.invariant.1)
+    rw c.clear.ensures (
+      kept_choked c.self.inside.wanted c.self.inside.unasked c.add_all.new.set peers i e c.self.invariant.0 found.inside c.index_mut.ensures.value added,
+      c.self.invariant.1,
+    )
 
 pub returns-in-Some-clause-now : goal.returns-in-Some-clause-now
 returns-in-Some-clause-now c =
     let found = rw c.deref.ensures.value at c.in-Some.ensures.some in
-    changed_is c.args.self.now c.self.inside.wanted c.self.inside.peers.items c.args.peer (λ _. []) c.in-Some.index c.index_mut.result.now c.clear.new.self c.self.view_is (c.self.invariant.0.once c.args.peer)
+    changed_is c.args.self.now c.self.inside.wanted c.self.inside.peers.items c.args.peer
+    (λ _. []) c.in-Some.index c.index_mut.result.now c.clear.new.self c.self.view_is (c.self.invariant.0.once c.args.peer)
     found c.index_mut.ensures.value c.clear.ensures
 
 pub returns-in-Some-clause-nothing_asked : goal.returns-in-Some-clause-nothing_asked

@@ -8,13 +8,15 @@ use Rattle.bt_book.proofs.book.Book.lost.Goals as goal
 pub add_all-requires : goal.add_all-requires
 add_all-requires c =
     let found = rw c.deref.ensures.value at c.in-Some.ensures.some in
-    rw c.blocks-in-Some.ensures (can_add c.self.inside.wanted c.self.inside.unasked c.self.inside.peers.items c.in-Some.index c.index.result.now c.self.invariant.0 found.inside c.index.ensures)
+    rw c.blocks-in-Some.ensures (can_add c.self.inside.wanted c.self.inside.unasked c.self.inside.peers.items c.in-Some.index c.index.result.now
+    c.self.invariant.0 found.inside c.index.ensures)
 
 pub invariant_of-self : goal.invariant_of-self
 invariant_of-self c =
     let found = rw c.deref.ensures.value at c.in-Some.ensures.some in
     let added = rw c.blocks-in-Some.ensures at c.add_all.ensures in (
-      lost_kept c.self.inside.wanted c.self.inside.unasked c.add_all.new.set c.self.inside.peers.items c.remove.new.self.items c.args.peer c.in-Some.index c.index.result.now c.self.invariant.0
+      lost_kept c.self.inside.wanted c.self.inside.unasked c.add_all.new.set c.self.inside.peers.items c.remove.new.self.items c.args.peer c.in-Some.index
+          c.index.result.now c.self.invariant.0
           found c.index.ensures added c.remove.ensures.items,
       omega (arith, c.self.invariant.1, c.remove.ensures.capacity),
     )
@@ -22,7 +24,8 @@ invariant_of-self c =
 pub returns-in-Some-clause-now : goal.returns-in-Some-clause-now
 returns-in-Some-clause-now c =
     let found = rw c.deref.ensures.value at c.in-Some.ensures.some in
-    lost_is c.args.self.now c.self.inside.wanted c.self.inside.peers.items c.remove.new.self.items c.args.peer c.in-Some.index c.index.result.now c.self.view_is (c.self.invariant.0.once c.args.peer)
+    lost_is c.args.self.now c.self.inside.wanted c.self.inside.peers.items c.remove.new.self.items c.args.peer c.in-Some.index c.index.result.now
+    c.self.view_is (c.self.invariant.0.once c.args.peer)
     found c.remove.ensures.items
 
 pub returns-in-Some-clause-nothing_asked : goal.returns-in-Some-clause-nothing_asked

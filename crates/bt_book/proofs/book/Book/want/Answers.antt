@@ -10,5 +10,8 @@ invariant_of-self c =
     let inside : IsInRange c.self.inside.wanted b = subst (λ (s : BookState). IsInRange s.wanted b) (sym c.self.view_is) c.requires in
     let also : IsInRange c.self.inside.unasked b = omega (arith, inside, c.self.invariant.0.shape b.file) in
     let off : c.contains.result ≡ false = grind arith in
-    rw (c.insert.ensures, c.insert-then-not-contains.ensures)
-    (kept_want c.self.inside.wanted c.self.inside.unasked c.self.inside.peers.items b c.self.invariant.0 inside also (sym c.contains.ensures ∙ off), c.self.invariant.1)
+    rw (c.insert.ensures, c.insert-then-not-contains.ensures) (
+      kept_want c.self.inside.wanted c.self.inside.unasked c.self.inside.peers.items b c.self.invariant.0 inside also
+          (sym c.contains.ensures ∙ off),
+      c.self.invariant.1,
+    )

@@ -1,0 +1,56 @@
+#!/usr/bin/env python3
+"""Times a request book: a file of 2^20 to 2^23 blocks, each asked once of one of 64 peers and then done.
+
+    python3 bench/book.py [FOLDER]
+
+The program `bench/book/main.rt` is proved and built beside a copy of `bt_book` in FOLDER (a new temporary folder by
+default), which takes a few minutes; it then runs three times, and the best times are printed.
+"""
+
+import pathlib
+import re
+import shutil
+import subprocess
+import sys
+import tempfile
+
+TOP = pathlib.Path(__file__).resolve().parent.parent
+
+
+def build(folder):
+    """The built program, in a repository of its own."""
+    crates = folder / "crates"
+    shutil.copytree(TOP / "crates" / "bt_book", crates / "bt_book", dirs_exist_ok=True)
+    source = crates / "book_bench" / "src"
+    source.mkdir(parents=True, exist_ok=True)
+    shutil.copy(TOP / "bench" / "book" / "main.rt", source / "main.rt")
+    (folder / "crates.txt").write_text("bt_book: arrayvec\nbook_bench: bt_book\n")
+    subprocess.run(["rt", "run"], cwd=crates / "book_bench", check=True, stdout=subprocess.DEVNULL)
+    return crates / "book_bench" / "out" / "book_bench"
+
+
+def best(program):
+    """The asks and the least time in seconds for each count of blocks, of three runs."""
+    times = {}
+    for _ in range(3):
+        text = subprocess.run([program], check=True, capture_output=True, text=True).stdout
+        for log, asks, micros in re.findall(r"2\^(\d+) blocks: (\d+) asks in (\d+) us", text):
+            seconds = int(micros) / 1e6
+            known = times.get(int(log))
+            times[int(log)] = (int(asks), seconds if known is None else min(seconds, known[1]))
+    return times
+
+
+def main():
+    folder = pathlib.Path(sys.argv[1] if len(sys.argv) > 1 else tempfile.mkdtemp())
+    folder.mkdir(parents=True, exist_ok=True)
+    last = None
+    for log, (asks, seconds) in sorted(best(build(folder)).items()):
+        rate = asks / seconds
+        slower = "" if last is None else f", {last / rate:.2f} times slower"
+        print(f"2^{log} blocks: {asks} asks in {seconds:.3f} s, {rate / 1e6:.2f} million a second{slower}")
+        last = rate
+
+
+if __name__ == "__main__":
+    main()
