@@ -168,11 +168,11 @@ reading_done old new asked first b digest r value =
     }
 
 -- as much as the buffer holds, or as is left
-pub wanted_of : (rest wanted : ℕ) → 0 < rest → wanted ≡ min rest 65536 → IsWanted wanted rest
+pub wanted_of : (rest wanted : ℕ) → 0 < rest → wanted ≡ min rest 131072 → IsWanted wanted rest
 wanted_of rest wanted some e = record {
   some = omega arith;
   fits = omega arith;
-  whole = elim (cases_lt rest 65536) [ inl less ↦ inr (omega arith) | inr more ↦ inl (omega arith) ];
+  whole = elim (cases_lt rest 131072) [ inl less ↦ inr (omega arith) | inr more ↦ inl (omega arith) ];
 }
 
 -- the whole buffer came

@@ -6,8 +6,9 @@ ghost use Rattle.btseed.specs.Fault.{device};
 ghost use Rattle.btseed.specs.Reader.{LosesFront};
 
 use crate::fault::{DeviceFault, Fault};
+use crate::file_hash::FileHash;
 use crate::reader::{BUFFER_LEN, has_more, read_node};
-use bt_tree::{Geometry, Hash32, Plain, RootBuilder};
+use bt_tree::{Geometry, Hash32, RootBuilder};
 use std::fs;
 use std::io::{ErrorKind, Read};
 use std::path::Path;
@@ -92,7 +93,7 @@ pub fn check_file<R: Read>(
     ensures err { OnErr result (LosesFront (R.remaining reader.old) (R.remaining reader.new)) }
 {
     let blocks = geometry.blocks();
-    let builder = RootBuilder::new(Plain, geometry);
+    let builder = RootBuilder::new(FileHash, geometry);
     let Some(found) = read_node(reader, builder, geometry.length(), buffer)? else {
         return Ok(Finding {
             blocks,

@@ -11,10 +11,11 @@ ghost use Rattle.btseed.specs.DigestSteps.{GivesLayer, GivesFile, IsRow};
 ghost use Rattle.btseed.specs.Digests.{AreDigestsOf, GivesAll};
 
 use crate::fault::Fault;
+use crate::file_hash::FileHash;
 use crate::pieces::{PieceSize, read_piece};
 use crate::reader::{BUFFER_LEN, has_more, read_node};
 use bt_meta::MakeError;
-use bt_tree::{Geometry, Hash32, NodeHash, Plain, RootBuilder, pad};
+use bt_tree::{Geometry, Hash32, NodeHash, RootBuilder, pad};
 use std::alloc::Global;
 use std::io::Read;
 
@@ -76,7 +77,7 @@ fn digest_file<R: Read>(
     ensures fault { IfErr result (λ fault. (fault ≡ device) ⊎ (fault ≡ out_of_memory)) }
 {
     if geometry.length() <= size.bytes as u64 {
-        let builder = RootBuilder::new(Plain, geometry);
+        let builder = RootBuilder::new(FileHash, geometry);
         let found = read_node(reader, builder, geometry.length(), buffer)?;
         let root = found.ok_or(Fault::Device)?;
         return Ok(Digests {
@@ -125,7 +126,7 @@ fn node_above(digests: &[u8], base: u8, layers: u8) -> Hash32
         → result ≡ node_digest sha256 file (base + layers) index }
 {
     let Some(first) = digests.first_chunk::<32>() else {
-        return pad(Plain, base + layers);
+        return pad(FileHash, base + layers);
     };
     if layers == 0 {
         return *first;
@@ -134,5 +135,5 @@ fn node_above(digests: &[u8], base: u8, layers: u8) -> Hash32
     let (left, right) = digests.split_at(middle);
     let left = node_above(left, base, layers - 1);
     let right = node_above(right, base, layers - 1);
-    Plain.pair(&left, &right)
+    FileHash.pair(&left, &right)
 }

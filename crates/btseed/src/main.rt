@@ -8,6 +8,7 @@ mod data_file;
 mod digests;
 mod display;
 mod fault;
+mod file_hash;
 mod folder;
 mod limits;
 mod make;

@@ -8,8 +8,9 @@ ghost use Rattle.btseed.specs.Pieces.{piece_size, GivesPiece, IsFindingByPieces,
 
 use crate::data_file::{Finding, marked_blocks};
 use crate::fault::DeviceFault;
+use crate::file_hash::FileHash;
 use crate::reader::{BUFFER_LEN, has_more, read_node};
-use bt_tree::{BLOCK_LEN, Geometry, Hash32, Plain, RootBuilder, is_piece_length, piece_layer};
+use bt_tree::{BLOCK_LEN, Geometry, Hash32, RootBuilder, is_piece_length, piece_layer};
 use std::io::Read;
 
 /// How long a torrent's pieces are, and the layer whose nodes cover a piece each.
@@ -53,7 +54,7 @@ pub fn read_piece<R: Read>(
         (GivesPiece (R.remaining reader.old) (R.remaining reader.new) geometry layer index size)) }
     ensures err { OnErr result (LosesFront (R.remaining reader.old) (R.remaining reader.new)) }
 {
-    let builder = RootBuilder::for_node(Plain, geometry, layer, index);
+    let builder = RootBuilder::for_node(FileHash, geometry, layer, index);
     read_node(reader, builder, size, buffer)
 }
 

@@ -5,11 +5,12 @@ ghost use Rattle.bt_tree.specs.Limits.{full_block_length};
 ghost use Rattle.btseed.specs.Reader.{EndsEarly, Gives, GivesNode, LosesFront, TellsMore};
 
 use crate::fault::DeviceFault;
-use bt_tree::{BLOCK_LEN, Hash32, Plain, RootBuilder};
+use crate::file_hash::FileHash;
+use bt_tree::{BLOCK_LEN, Hash32, RootBuilder};
 use std::io::{ErrorKind, Read};
 
-/// How many bytes are read at a time: four blocks.
-pub const BUFFER_LEN: usize = 4 * BLOCK_LEN;
+/// How many bytes are read at a time: eight blocks, which are digested at once.
+pub const BUFFER_LEN: usize = 8 * BLOCK_LEN;
 
 /// Reads until the buffer is full or the bytes end, and says how many came. A read that was interrupted is made again.
 pub fn fill<R: Read>(reader: &mut R, buffer: &mut [u8]) -> Result<usize, DeviceFault>
@@ -37,7 +38,7 @@ pub fn fill<R: Read>(reader: &mut R, buffer: &mut [u8]) -> Result<usize, DeviceF
 /// bytes end before.
 pub fn read_node<R: Read>(
     reader: &mut R,
-    builder: RootBuilder<Plain>,
+    builder: RootBuilder<FileHash>,
     length: u64,
     buffer: &mut [u8; BUFFER_LEN],
 ) -> Result<Option<Hash32>, DeviceFault>
