@@ -22,6 +22,3 @@ pub use laws::{
     keeps_rooted, leaves_are_files,
 };
 pub use sparse_tree::SparseTree;
-
-#[cfg(test)]
-mod tests;
