@@ -25,7 +25,9 @@ def build(folder):
     source.mkdir(parents=True, exist_ok=True)
     shutil.copy(TOP / "bench" / "book" / "main.rt", source / "main.rt")
     (folder / "crates.txt").write_text("bt_book: arrayvec\nbook_bench: bt_book\n")
-    subprocess.run(["rt", "run"], cwd=crates / "book_bench", check=True, stdout=subprocess.DEVNULL)
+    built = subprocess.run(["rt", "run"], cwd=crates / "book_bench", capture_output=True, text=True)
+    if built.returncode != 0:
+        sys.exit(built.stderr)
     return crates / "book_bench" / "out" / "book_bench"
 
 
