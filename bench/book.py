@@ -3,7 +3,7 @@
 
     python3 bench/book.py [FOLDER]
 
-The program `bench/book/main.rt` is proved and built beside a copy of `bt_book` in FOLDER (a new temporary folder by
+The program `bench/book/main.rt.in` is proved and built beside a copy of `bt_book` in FOLDER (a new temporary folder by
 default), which takes a few minutes; it then runs three times, and the best times are printed.
 """
 
@@ -23,7 +23,7 @@ def build(folder):
     shutil.copytree(TOP / "crates" / "bt_book", crates / "bt_book", dirs_exist_ok=True)
     source = crates / "book_bench" / "src"
     source.mkdir(parents=True, exist_ok=True)
-    shutil.copy(TOP / "bench" / "book" / "main.rt", source / "main.rt")
+    shutil.copy(TOP / "bench" / "book" / "main.rt.in", source / "main.rt")
     (folder / "crates.txt").write_text("bt_book: arrayvec\nbook_bench: bt_book\n")
     built = subprocess.run(["rt", "run"], cwd=crates / "book_bench", capture_output=True, text=True)
     if built.returncode != 0:
