@@ -22,3 +22,6 @@ pub use laws::{
     keeps_rooted, leaves_are_files,
 };
 pub use sparse_tree::SparseTree;
+
+#[cfg(test)]
+mod tests;
