@@ -10,6 +10,7 @@ times; the best wall time and the greatest peak memory are printed. `./btseed` h
 import hashlib
 import os
 import pathlib
+import resource
 import subprocess
 import sys
 import tempfile
@@ -89,19 +90,39 @@ def apart(make, *arguments):
         sys.exit(f"failed: {make.__name__}")
 
 
+def resident(process):
+    """The peak memory of a running process until now in KiB, or 0 where it has ended."""
+    try:
+        with open(f"/proc/{process}/status", encoding="ascii", errors="replace") as status:
+            return next((int(line.split()[1]) for line in status if line.startswith("VmHWM")), 0)
+    except OSError:
+        return 0
+
+
+def measured_once(words):
+    """The wall time and the processor time of one run in seconds, and its peak memory in MiB.
+
+    What the system tells at a command's end is not below the peak of this process; a lower peak is looked up while it runs.
+    """
+    own = resource.getrusage(resource.RUSAGE_SELF).ru_maxrss
+    started = time.perf_counter()
+    process = subprocess.Popen([str(word) for word in words], stdout=subprocess.DEVNULL)
+    ended, seen = 0, 0
+    while not ended:
+        time.sleep(0.002)
+        seen = max(seen, resident(process.pid))
+        ended, status, usage = os.wait4(process.pid, os.WNOHANG)
+    seconds = time.perf_counter() - started
+    if status != 0:
+        sys.exit(f"failed: {words}")
+    peak = usage.ru_maxrss if usage.ru_maxrss > own or seen == 0 else seen
+    return seconds, usage.ru_utime + usage.ru_stime, peak / 1024
+
+
 def measured(words):
     """The best wall time of three runs in seconds, and the greatest peak memory in MiB."""
-    best, peak = None, 0
-    for _ in range(3):
-        started = time.perf_counter()
-        process = subprocess.Popen([str(word) for word in words], stdout=subprocess.DEVNULL)
-        _, status, usage = os.wait4(process.pid, 0)
-        seconds = time.perf_counter() - started
-        if status != 0:
-            sys.exit(f"failed: {words}")
-        best = seconds if best is None else min(best, seconds)
-        peak = max(peak, usage.ru_maxrss / 1024)
-    return best, peak
+    runs = [measured_once(words) for _ in range(3)]
+    return min(seconds for seconds, _, _ in runs), max(peak for _, _, peak in runs)
 
 
 def compare(what, words, path):

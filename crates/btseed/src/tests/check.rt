@@ -69,14 +69,17 @@ fn a_device_fault_is_told(rt: HostRuntime) -> Result<(), Fail> {
     let torrent = abc_torrent(rt.alloc())?;
     let device = "btseed: device fault\n";
 
-    // no torrent, a folder in its place, and a folder in a data file's place
+    // no torrent, a folder in its place, and a folder and a pipe in a data file's place
     let steps = [
         Step::File("t", &torrent),
         Step::Folder("files"),
         Step::Folder("files/a.txt"),
+        Step::Folder("pipes"),
+        Step::Pipe("pipes/a.txt"),
         Step::Fault("check @/absent @", 3, device),
         Step::Fault("check @ @", 3, device),
         Step::Fault("check @/t @/files", 3, device),
+        Step::Fault("check @/t @/pipes", 3, device),
         Step::Fault("show @/absent", 3, device),
         Step::Fault("show @", 3, device),
     ];

@@ -3,6 +3,7 @@
 use super::tools::{bytes_of, confirm, expect, folder, path_in, put, put_folder};
 use std::fs;
 use std::os::unix::fs::symlink;
+use std::process::Command;
 use std::test::Fail;
 
 /// A step of a test, in the test's own folder, to which names are relative.
@@ -18,6 +19,8 @@ pub enum Step<'a> {
     Run(&'a str, u8, &'a str),
     /// Runs the program on a line, and expects this status and fault, and no output.
     Fault(&'a str, u8, &'a str),
+    /// Makes a pipe, which nobody writes.
+    Pipe(&'a str),
     /// Makes a symbolic link with this text.
     Link(&'a str, &'a str),
     /// Expects that a symbolic link has this text.
@@ -47,6 +50,7 @@ fn step_in(rt: &HostRuntime, top: &str, step: &Step<'_>) -> Result<(), Fail> {
         Step::Run(line, status, output) => expect(rt, top, line, *status, output, ""),
         Step::Fault(line, status, faults) => expect(rt, top, line, *status, "", faults),
         Step::Change(name, index) => change(rt, top, name, *index),
+        Step::Pipe(name) => put_pipe(rt, top, name),
         Step::Link(text, name) => put_link(rt, top, text, name),
         Step::LinkHas(name, text) => expect_link(rt, top, name, text),
         Step::Size(name, size) => expect_size(rt, top, name, *size),
@@ -60,6 +64,14 @@ fn change(rt: &HostRuntime, top: &str, name: &str, index: usize) -> Result<(), F
     let byte = bytes.get_mut(index).ok_or("too short")?;
     *byte ^= 1;
     put(rt, top, name, &bytes)
+}
+
+fn put_pipe(rt: &HostRuntime, top: &str, name: &str) -> Result<(), Fail> {
+    let path = path_in(rt, top, name)?;
+    let mut command = Command::new(rt.alloc(), "mkfifo")?;
+    let status = command.arg(path.as_str())?.status(rt)?;
+    confirm(status.success(), "a pipe could not be made")?;
+    Ok(())
 }
 
 fn put_link(rt: &HostRuntime, top: &str, text: &str, name: &str) -> Result<(), Fail> {
