@@ -1,7 +1,8 @@
 -- The words in a lane, of vectors that are read and set one by one.
-use Rattle.std.proofs.Common.{◌≡◌, ℕ, zero, suc, ◌<◌, List, [], length, slice_index, slice_set, arith, refl}
+use Rattle.std.proofs.Common.{◌≡◌, ℕ, zero, suc, ◌+◌, ◌-◌, ◌<◌, inl, inr, List, [], length, slice_index, slice_set, arith, refl}
 use Rattle.std.proofs.lemmas.List.{length-map, map-set}
 use Rattle.std.proofs.Math.ListN.{get_or-map}
+use Rattle.std.proofs.lemmas.Bool.{cases_lt}
 use Rattle.bt_lanes.specs.LaneSteps.{lane_word, lane_of, lane_of_eight}
 
 pub slice_index-lane_of : (vectors : List (List ℕ)) (j i : ℕ) → slice_index (lane_of j vectors) i ≡ lane_word vectors i j
@@ -27,3 +28,10 @@ below_eight P p0 p1 p2 p3 p4 p5 p6 p7 (suc (suc (suc (suc (suc (suc (suc (suc n)
 
 pub slice_index-lane_of_eight : (vectors : List (List ℕ)) (j i : ℕ) → i < 8 → slice_index (lane_of_eight j vectors) i ≡ lane_word vectors i j
 slice_index-lane_of_eight vectors j = below_eight _ refl refl refl refl refl refl refl refl
+
+-- below sixteen: one of the first eight, or one of the other eight
+pub below_sixteen : (P : ℕ → Type 0) → ((i : ℕ) → i < 8 → P i) → ((i : ℕ) → i < 8 → P (8 + i)) → (k : ℕ) → k < 16 → P k
+below_sixteen P low high k lt = elim (cases_lt k 8) [
+  | inl below ↦ low k below
+  | inr above ↦ let same : 8 + (k - 8) ≡ k = omega arith in rw same at (high (k - 8) (omega arith))
+]

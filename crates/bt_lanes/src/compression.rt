@@ -1,7 +1,7 @@
 //! The rounds of SHA-256 (FIPS 180-4, 6.2.2) on a message block of each of eight messages.
 
-ghost use Rattle.std.specs.Prelude.{◌≡◌, ℕ, ◌<◌, List, slice_index};
-ghost use Rattle.sha2.specs.Sha256.{round, rounds, schedule, add_state, compress, window_word};
+ghost use Rattle.std.specs.Prelude.{◌≡◌, ℕ, ◌+◌, ◌<◌, ◌≤◌, List, slice_index};
+ghost use Rattle.sha2.specs.Sha256.{round, rounds, schedule, add_state, compress, window_word, IsRoundsAt};
 ghost use Rattle.bt_lanes.specs.LaneSteps.{lane_of, lane_of_eight, temp1_of, temp2_of, IsBlockWords};
 
 use crate::functions::{add, big_sigma0, big_sigma1, ch, maj, small_sigma0, small_sigma1};
@@ -144,18 +144,56 @@ fn add_variables(values: HashValues, variables: HashValues) -> HashValues
     ]
 }
 
-/// The working variables after the first 16 rounds, whose words are those of the blocks.
+/// The working variables after round t below 16, whose words are those of the blocks.
 #[inline(always)]
-fn first_rounds(values: HashValues, blocks: &MessageBlocks) -> HashValues
-    ensures { (j : ℕ) (block : List ℕ) → j < 8 → IsBlockWords block (lane_of j blocks.now)
-        → lane_of_eight j result ≡ rounds (lane_of_eight j values) (schedule block 48) 16 }
+fn first_round(variables: HashValues, blocks: &MessageBlocks, t: usize) -> HashValues
+    requires { t < 16 }
+    ensures { (j : ℕ) (value block : List ℕ) → j < 8 → IsBlockWords block (lane_of j blocks.now)
+        → lane_of_eight j variables ≡ rounds value (schedule block 48) t
+        → lane_of_eight j result ≡ rounds value (schedule block 48) (t + 1) }
 {
-    let mut variables = values;
-    'first: for t in 0..16 {
-        let next = round(variables, ROUND_CONSTANTS[t], blocks[t]);
-        variables = next;
-    }
-    variables
+    round(variables, ROUND_CONSTANTS[t], blocks[t])
+}
+
+/// The working variables after four rounds from t on, below 16.
+#[inline(always)]
+fn first_rounds(variables: HashValues, blocks: &MessageBlocks, t: usize) -> HashValues
+    requires { t + 4 ≤ 16 }
+    ensures { (j : ℕ) (value block : List ℕ) → j < 8 → IsBlockWords block (lane_of j blocks.now)
+        → lane_of_eight j variables ≡ rounds value (schedule block 48) t
+        → lane_of_eight j result ≡ rounds value (schedule block 48) (t + 4) }
+{
+    let one = first_round(variables, blocks, t);
+    let two = first_round(one, blocks, t + 1);
+    let three = first_round(two, blocks, t + 2);
+    first_round(three, blocks, t + 3)
+}
+
+/// The working variables after round t from 16 on. Its words take the place of those of 16 rounds before.
+#[inline(always)]
+fn next_round(variables: HashValues, schedule: &mut MessageBlocks, t: usize) -> HashValues
+    requires { (16 ≤ t) × (t < 64) }
+    ensures { (j : ℕ) (value block : List ℕ) → j < 8
+        → IsRoundsAt block value (lane_of j schedule.old) (lane_of_eight j variables) t
+        → IsRoundsAt block value (lane_of j schedule.new) (lane_of_eight j result) (t + 1) }
+{
+    let words = next_words(schedule, t);
+    schedule[t % 16] = words;
+    round(variables, ROUND_CONSTANTS[t], words)
+}
+
+/// The working variables after four rounds from t on, from 16 on. By fours a round's variables are renamed and not moved.
+#[inline(always)]
+fn next_rounds(variables: HashValues, schedule: &mut MessageBlocks, t: usize) -> HashValues
+    requires { (16 ≤ t) × (t + 4 ≤ 64) }
+    ensures { (j : ℕ) (value block : List ℕ) → j < 8
+        → IsRoundsAt block value (lane_of j schedule.old) (lane_of_eight j variables) t
+        → IsRoundsAt block value (lane_of j schedule.new) (lane_of_eight j result) (t + 4) }
+{
+    let one = next_round(variables, schedule, t);
+    let two = next_round(one, schedule, t + 1);
+    let three = next_round(two, schedule, t + 2);
+    next_round(three, schedule, t + 3)
 }
 
 /// The hash values after a block of each message.
@@ -165,11 +203,13 @@ pub(crate) fn compress(values: HashValues, blocks: &MessageBlocks) -> HashValues
         → lane_of_eight j result ≡ compress (lane_of_eight j values) block }
 {
     let mut schedule = *blocks;
-    let mut variables = first_rounds(values, blocks);
-    'rest: for t in 16..64 {
-        let words = next_words(&schedule, t);
-        schedule[t % 16] = words;
-        let next = round(variables, ROUND_CONSTANTS[t], words);
+    let mut variables = values;
+    'first: for four in 0..4 {
+        let next = first_rounds(variables, blocks, 4 * four);
+        variables = next;
+    }
+    'rest: for four in 4..16 {
+        let next = next_rounds(variables, &mut schedule, 4 * four);
         variables = next;
     }
     add_variables(values, variables)

@@ -1,41 +1,76 @@
 //! The message blocks of eight messages (FIPS 180-4, 5.2.1 and 6.2.2), 64 bytes each.
 
-ghost use Rattle.std.specs.Prelude.{◌≡◌, ℕ, ◌+◌, ◌*◌, ◌^◌, ◌<◌, ◌≤◌, length, take, drop, slice_index};
+ghost use Rattle.std.specs.Prelude.{◌≡◌, ℕ, ◌+◌, ◌*◌, ◌/◌, ◌%◌, ◌^◌, ◌<◌, ◌≤◌, length, take, drop, slice_index, [], ◌∷◌};
 ghost use Rattle.sha2.specs.Sha256.{hash_after, word_at};
-ghost use Rattle.bt_lanes.specs.LaneSteps.{lane_of, lane_of_eight, message_at, IsBlockWords};
+ghost use Rattle.bt_lanes.specs.LaneSteps.{lane_word, lane_of, lane_of_eight, message_at, IsBlockWords};
 
 use crate::compression::{HashValues, MessageBlocks, compress};
-use std::simd::u32x8;
+use std::simd::{u8x32, u32x8};
 
-/// The word at a byte of a message.
+/// Where each byte of four words lies in 16 bytes that spell them, the most significant byte of each word first. A vector's
+/// words have the least significant first.
+const BYTE_ORDER: [u8; 32] = [
+    3, 2, 1, 0, 7, 6, 5, 4, 11, 10, 9, 8, 15, 14, 13, 12, //
+    3, 2, 1, 0, 7, 6, 5, 4, 11, 10, 9, 8, 15, 14, 13, 12,
+];
+
+/// Eight words of a message, from a byte on.
 #[inline(always)]
-fn word_at(message: &[u8], at: usize) -> u32
-    requires { at + 4 ≤ length message.now }
-    ensures { result ≡ word_at message.now at }
+fn row_at(message: &[u8], at: usize) -> u32x8
+    requires { at + 32 ≤ length message.now }
+    ensures { (i : ℕ) → i < 8 → slice_index result i ≡ word_at message.now (at + 4 * i) }
 {
-    u32::from_be_bytes([
-        message[at],
-        message[at + 1],
-        message[at + 2],
-        message[at + 3],
-    ])
+    let bytes = u8x32::from_slice(&message[at..at + 32]);
+    u32x8::from_le_bytes(bytes.swizzle_dyn_within::<16>(u8x32::from_array(BYTE_ORDER)))
 }
 
-/// The word at a byte of each message.
+/// The words of both vectors in turns: those of the lower lanes, and those of the upper lanes.
 #[inline(always)]
-fn words_at(messages: &[&[u8]; 8], at: usize) -> u32x8
-    requires { (j : ℕ) → j < 8 → at + 4 ≤ length (message_at messages.now j) }
-    ensures { (j : ℕ) → j < 8 → slice_index result j ≡ word_at (message_at messages.now j) at }
+fn take_turns(a: u32x8, b: u32x8) -> (u32x8, u32x8)
+    ensures lower { (j : ℕ) → j < 8 → slice_index result.0 j ≡ lane_word (a ∷ b ∷ []) (j % 2) (j / 2) }
+    ensures upper { (j : ℕ) → j < 8 → slice_index result.1 j ≡ lane_word (a ∷ b ∷ []) (j % 2) (4 + j / 2) }
 {
-    u32x8::from_array([
-        word_at(messages[0], at),
-        word_at(messages[1], at),
-        word_at(messages[2], at),
-        word_at(messages[3], at),
-        word_at(messages[4], at),
-        word_at(messages[5], at),
-        word_at(messages[6], at),
-        word_at(messages[7], at),
+    a.interleave(b)
+}
+
+/// The same words, each in another place. A place is a number of six bits, the vector's three and the lane's three; the word
+/// there comes from the place whose bits are these, moved round to the right by one.
+#[inline(always)]
+fn shuffle(vectors: [u32x8; 8]) -> [u32x8; 8]
+    ensures { (i j : ℕ) → i < 8 → j < 8
+        → lane_word result i j ≡ lane_word vectors (i / 2 + 4 * (j % 2)) (4 * (i % 2) + j / 2) }
+{
+    let (a, b) = take_turns(vectors[0], vectors[4]);
+    let (c, d) = take_turns(vectors[1], vectors[5]);
+    let (e, f) = take_turns(vectors[2], vectors[6]);
+    let (g, h) = take_turns(vectors[3], vectors[7]);
+    [a, b, c, d, e, f, g, h]
+}
+
+/// The words in lane i of vector j, in lane j of vector i.
+#[inline(always)]
+fn transpose(rows: [u32x8; 8]) -> [u32x8; 8]
+    ensures { (i j : ℕ) → i < 8 → j < 8 → lane_word result i j ≡ lane_word rows j i }
+{
+    shuffle(shuffle(shuffle(rows)))
+}
+
+/// Eight words of each message, from a byte on: vector i has the words i.
+#[inline(always)]
+fn words_at(messages: &[&[u8]; 8], at: usize) -> [u32x8; 8]
+    requires { (j : ℕ) → j < 8 → at + 32 ≤ length (message_at messages.now j) }
+    ensures { (i j : ℕ) → i < 8 → j < 8
+        → lane_word result i j ≡ word_at (message_at messages.now j) (at + 4 * i) }
+{
+    transpose([
+        row_at(messages[0], at),
+        row_at(messages[1], at),
+        row_at(messages[2], at),
+        row_at(messages[3], at),
+        row_at(messages[4], at),
+        row_at(messages[5], at),
+        row_at(messages[6], at),
+        row_at(messages[7], at),
     ])
 }
 
@@ -47,11 +82,9 @@ fn message_blocks_at(messages: &[&[u8]; 8], at: usize) -> MessageBlocks
     ensures { (j : ℕ) → j < 8
         → IsBlockWords (take 64 (drop at (message_at messages.now j))) (lane_of j result) }
 {
-    let mut message_blocks = [u32x8::splat(0); 16];
-    'words: for k in 0..16 {
-        message_blocks[k] = words_at(messages, at + 4 * k);
-    }
-    message_blocks
+    let [a, b, c, d, e, f, g, h] = words_at(messages, at);
+    let [i, j, k, l, m, n, o, p] = words_at(messages, at + 32);
+    [a, b, c, d, e, f, g, h, i, j, k, l, m, n, o, p]
 }
 
 /// The hash values after the first `count` blocks of each message.
