@@ -1,0 +1,14 @@
+//! The peer wire of BitTorrent (BEP 3, BEP 52): the handshake and the messages behind it, how they are spelled, and how a
+//! stream of bytes that comes in any pieces is cut into them.
+#![tactic(auto)]
+
+mod bytes;
+mod handshake;
+mod kind;
+mod message;
+mod writer;
+
+pub use bytes::Bytes;
+pub use handshake::{HANDSHAKE_LEN, Handshake, write_handshake};
+pub use message::{Ask, Message, fits};
+pub use writer::write_message;
