@@ -1,3 +1,4 @@
 pub mod Limits
 pub mod Handshake
 pub mod Message
+pub mod Event

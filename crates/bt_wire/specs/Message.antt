@@ -74,3 +74,16 @@ IsMessage (HashRequest key) = IsKey key
 IsMessage (Hashes key digests) = IsKey key
 IsMessage (HashReject key) = IsKey key
 IsMessage _ = Unit {0}
+
+-- a kind that some message has
+abbrev pub IsKnownKind : ℕ → Type 0
+IsKnownKind kind = (m : Message) × (payload : List ℕ) × (body_of m ≡ body kind payload)
+
+-- some message of the kind has a payload of so many bytes
+pub record HasPayloadLength (kind n : ℕ) : Type 0 where
+  pub message : Message
+  pub payload : List ℕ
+  pub is_message : IsMessage message
+  pub whole : HasWholeDigests message
+  pub body_is : body_of message ≡ body kind payload
+  pub size : length payload ≡ n

@@ -3,12 +3,14 @@
 #![tactic(auto)]
 
 mod bytes;
+mod event;
 mod handshake;
 mod kind;
 mod message;
 mod writer;
 
 pub use bytes::Bytes;
+pub use event::{WireError, WireEvent};
 pub use handshake::{HANDSHAKE_LEN, Handshake, write_handshake};
 pub use message::{Ask, Message, fits};
 pub use writer::write_message;
