@@ -1,0 +1,7 @@
+-- events
+pub mod Frames
+pub mod Bodies
+pub mod Events
+pub mod Faults
+-- streams
+pub mod Streams

@@ -2,3 +2,5 @@ pub mod Limits
 pub mod Handshake
 pub mod Message
 pub mod Event
+pub mod Cutter
+pub mod Law

@@ -6,11 +6,15 @@ mod bytes;
 mod event;
 mod handshake;
 mod kind;
+mod law;
 mod message;
 mod writer;
 
 pub use bytes::Bytes;
 pub use event::{WireError, WireEvent};
 pub use handshake::{HANDSHAKE_LEN, Handshake, write_handshake};
+pub use law::{
+    cuts_are_streams, cutting_makes_no_difference, streams_have_one_reading, writing_is_read,
+};
 pub use message::{Ask, Message, fits};
 pub use writer::write_message;
