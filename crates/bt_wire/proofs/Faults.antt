@@ -43,7 +43,7 @@ fault_stays true unread more BadLength shown = record {
 fault_stays _ unread more _ shown = absurd shown
 
 -- the length field of a frame at the front
-frame_field : (b : Option Body) (field : ℕ) (bytes rest more : List ℕ) → length_field b ≤ max_length_field → field < 2 ^ 32
+pub frame_field : (b : Option Body) (field : ℕ) (bytes rest more : List ℕ) → length_field b ≤ max_length_field → field < 2 ^ 32
     → bytes ≡ frame_spelling b → to_be_bytes w32 field ++ more ≡ bytes ++ rest → field ≡ length_field b
 frame_field None field bytes rest more limit fits spelled e =
     same_number field 0 more rest fits (omega arith) (e ∙ ap (λ xs. xs ++ rest) spelled)

@@ -5,3 +5,6 @@ pub mod Events
 pub mod Faults
 -- streams
 pub mod Streams
+pub mod Sizes
+pub mod Fronts
+pub mod Hellos

@@ -4,3 +4,5 @@ pub mod Message
 pub mod Event
 pub mod Cutter
 pub mod Law
+pub mod ReaderSteps
+pub mod FrontSteps

@@ -1,3 +1,6 @@
+ghost use Rattle.std.specs.Prelude.{◌≡◌};
+ghost use Rattle.bt_wire.specs.declared.event.WireError.TheVariants.{OutOfMemory as out_of_memory};
+
 use crate::handshake::Handshake;
 use crate::message::Message;
 use std::alloc::AllocError;
@@ -31,4 +34,12 @@ pub enum WireError {
     /// W5: One of W1 to W3 was told before.
     #[error("W5 Failed")]
     Failed,
+}
+
+impl From<AllocError> for WireError {
+    ghost from_gives = { λ _ e. e ≡ out_of_memory };
+
+    fn from(_error: AllocError) -> Self {
+        WireError::OutOfMemory
+    }
 }

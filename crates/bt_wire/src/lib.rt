@@ -4,10 +4,12 @@
 
 mod bytes;
 mod event;
+mod front;
 mod handshake;
 mod kind;
 mod law;
 mod message;
+mod reader;
 mod writer;
 
 pub use bytes::Bytes;
