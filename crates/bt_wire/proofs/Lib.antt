@@ -8,3 +8,4 @@ pub mod Streams
 pub mod Sizes
 pub mod Fronts
 pub mod Hellos
+pub mod Takings

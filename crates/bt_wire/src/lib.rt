@@ -3,6 +3,7 @@
 #![tactic(auto)]
 
 mod bytes;
+mod cutter;
 mod event;
 mod front;
 mod handshake;
@@ -13,6 +14,7 @@ mod reader;
 mod writer;
 
 pub use bytes::Bytes;
+pub use cutter::Cutter;
 pub use event::{WireError, WireEvent};
 pub use handshake::{HANDSHAKE_LEN, Handshake, write_handshake};
 pub use law::{

@@ -1,0 +1,90 @@
+ghost use Rattle.std.specs.Prelude.{◌≡◌, length, false, IfOk, IfErr, OnOk, OnErr};
+ghost use Rattle.bt_wire.specs.Cutter.{new_stream, fed, IsAnswer, IsRefusal, IsFeedRefusal};
+
+use crate::event::{WireError, WireEvent};
+use crate::front::first_event;
+use std::alloc::Global;
+use std::marker::Model;
+
+/// A peer's stream, cut into its events. Bytes are fed in pieces of any size, and events are taken as they are whole.
+#[derive(Debug, Drop)]
+pub struct Cutter {
+    alloc: Global,
+    /// What was fed; the first `start` bytes are taken.
+    bytes: Vec<u8>,
+    start: usize,
+    greeted: bool,
+    failed: bool,
+}
+
+impl Model for Cutter {
+    ghost use Rattle.std.specs.Prelude.{drop, length, ◌≤◌};
+    ghost use Rattle.bt_wire.specs.Cutter.{Stream};
+
+    ghost Value = { Stream };
+
+    ghost view = { λ a. record { unread = drop a.start a.bytes.items; greeted = a.greeted; failed = a.failed } };
+
+    ghost invariant = { λ a. a.start ≤ length a.bytes.items };
+}
+
+impl Cutter {
+    /// A cutter that was fed nothing. It takes no memory.
+    pub fn new(alloc: Global) -> Cutter
+        ensures { result ≡ new_stream }
+    {
+        Cutter {
+            alloc,
+            bytes: Vec::new(alloc),
+            start: 0,
+            greeted: false,
+            failed: false,
+        }
+    }
+
+    /// Puts bytes behind the unread ones, all or none.
+    ///
+    /// Errors: `Failed` where `next` has told a fault of the stream; `OutOfMemory`. Neither changes the cutter.
+    pub fn feed(&mut self, bytes: &[u8]) -> Result<(), WireError>
+        ensures fed { OnOk result (self.new ≡ fed self.old bytes.now) }
+        ensures running { OnOk result (self.old.failed ≡ false) }
+        ensures refused { IfErr result (IsFeedRefusal self.old) }
+        ensures kept { OnErr result (self.new ≡ self.old) }
+    {
+        if self.failed {
+            return Err(WireError::Failed);
+        }
+        if self.start > self.bytes.len() / 2 {
+            self.bytes.drain(..self.start);
+            self.start = 0;
+        }
+        self.bytes.extend_from_slice(bytes)?;
+        Ok(())
+    }
+
+    /// Takes the first event from the unread bytes; None where there is none yet, and no fault shows.
+    ///
+    /// Errors: `BadProtocol`, `TooLong` or `BadLength` as soon as the bytes show that fault, after which both calls answer
+    /// `Failed`; `OutOfMemory`, which leaves the cutter as it was.
+    pub fn next(&mut self) -> Result<Option<WireEvent>, WireError>
+        ensures answer { IfOk result (λ found. IsAnswer self.old found self.new) }
+        ensures refused { IfErr result (λ error. IsRefusal self.old error self.new) }
+    {
+        if self.failed {
+            return Err(WireError::Failed);
+        }
+        match first_event(self.alloc, self.greeted, &self.bytes[self.start..]) {
+            Ok(Some((event, len))) => {
+                self.start += len;
+                self.greeted = true;
+                Ok(Some(event))
+            }
+            Ok(None) => Ok(None),
+            Err(WireError::OutOfMemory) => Err(WireError::OutOfMemory),
+            Err(fault) => {
+                self.failed = true;
+                Err(fault)
+            }
+        }
+    }
+}
