@@ -1,4 +1,4 @@
-ghost use Rattle.std.specs.Prelude.{◌≡◌, length, false, IfOk, IfErr, OnOk, OnErr};
+ghost use Rattle.std.specs.Prelude.{◌≡◌, ◌-◌, ◌≤◌, length, drop, false, IfOk, IfErr, OnOk, OnErr};
 ghost use Rattle.bt_wire.specs.Cutter.{new_stream, fed, IsAnswer, IsRefusal, IsFeedRefusal};
 
 use crate::event::{WireError, WireEvent};
@@ -54,8 +54,8 @@ impl Cutter {
         if self.failed {
             return Err(WireError::Failed);
         }
-        if self.start > self.bytes.len() / 2 {
-            self.bytes.drain(..self.start);
+        if self.start >= self.bytes.len() - self.start {
+            drop_front(&mut self.bytes, self.start);
             self.start = 0;
         }
         self.bytes.extend_from_slice(bytes)?;
@@ -87,4 +87,16 @@ impl Cutter {
             }
         }
     }
+}
+
+/// Leaves out the first bytes, which are no fewer than the others.
+fn drop_front(bytes: &mut Vec<u8>, count: usize)
+    requires within { count ≤ length bytes.old.items }
+    requires half { length bytes.old.items - count ≤ count }
+    ensures { bytes.new.items ≡ drop count bytes.old.items }
+{
+    let rest = bytes.len() - count;
+    let (front, back) = bytes.split_at_mut(count);
+    front[..rest].copy_from_slice(back);
+    bytes.truncate(rest);
 }
