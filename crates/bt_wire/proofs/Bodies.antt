@@ -1,5 +1,5 @@
 -- A body tells its message.
-use Rattle.std.proofs.Common.{◌≡◌, ℕ, ◌+◌, ◌^◌, ◌<◌, ◌==◌, if◌then◌else◌, Option, Some, None, List, [], ◌∷◌, ◌++◌, length, take, drop, sym, ◌∙◌, ap, refl, arith}
+use Rattle.std.proofs.Common.{◌≡◌, ℕ, ◌==◌, if◌then◌else◌, Option, Some, None, List, [], ◌++◌, length, take, drop, sym, ◌∙◌, ap, refl}
 use Rattle.std.specs.Int.{w32, to_be_bytes}
 use Rattle.std.proofs.lemmas.List.{take_at, drop_at, append_assoc, append-nil}
 use Rattle.bt_hashreq.specs.declared.key.HashKey.{HashKey}
@@ -7,7 +7,7 @@ use Rattle.bt_hashreq.specs.Key.{key_spelling, IsKey}
 use Rattle.bt_wire.specs.declared.message.Ask.{Ask}
 use Rattle.bt_wire.specs.declared.message.Message.{Message}
 use Rattle.bt_wire.specs.declared.message.Message.TheVariants.{KeepAlive, Choke, Unchoke, Interested, NotInterested, Have, Bitfield, Request, Piece, Cancel, HashRequest, Hashes, HashReject}
-use Rattle.bt_wire.specs.Message.{Body, body, body_of, ask_spelling, IsAsk, IsMessage}
+use Rattle.bt_wire.specs.Message.{Body, body_of, ask_spelling, IsAsk, IsMessage}
 use Rattle.bt_wire.proofs.Frames.{first_number, number_at_front}
 
 ask_of : ℕ → ℕ → ℕ → Ask

@@ -1,16 +1,14 @@
 -- Events at the front of a list of bytes: one at most.
-use Rattle.std.proofs.Common.{◌≡◌, ◌≢◌, ℕ, ◌+◌, ◌≤◌, ◌<◌, ◌^◌, Bool, true, false, Option, Some, None, List, [], ◌∷◌, ◌++◌, length, take, drop, sym, ◌∙◌, ap, refl, arith}
-use Rattle.std.specs.Int.{w32, to_be_bytes}
-use Rattle.std.proofs.lemmas.List.{append_assoc, length-append}
+use Rattle.std.proofs.Common.{◌≡◌, ℕ, ◌≤◌, ◌<◌, ◌^◌, Bool, true, false, Option, Some, None, List, ◌++◌, length, sym, ◌∙◌, ap, refl, arith}
+use Rattle.std.proofs.lemmas.List.{append_assoc}
 use Rattle.bt_wire.specs.declared.handshake.Handshake.{Handshake}
-use Rattle.bt_wire.specs.declared.message.Message.{Message as Sent}
 use Rattle.bt_wire.specs.declared.event.WireEvent.{WireEvent}
 use Rattle.bt_wire.specs.declared.event.WireEvent.TheVariants.{Hello, Message, Skipped}
 use Rattle.bt_wire.specs.Handshake.{protocol, handshake_with, IsHandshake}
 use Rattle.bt_wire.specs.Limits.{max_length_field}
-use Rattle.bt_wire.specs.Message.{Body, body, body_of, length_field, frame_spelling, IsKnownKind, HasPayloadLength}
-use Rattle.bt_wire.specs.Event.{IsEvent, IsHello, IsSent, IsSkipped}
-use Rattle.bt_wire.proofs.Frames.{parts, same_frame, SameFrame, first_number, number_at_front}
+use Rattle.bt_wire.specs.Message.{Body, body, body_of, length_field, frame_spelling}
+use Rattle.bt_wire.specs.Event.{IsEvent}
+use Rattle.bt_wire.proofs.Frames.{parts, same_frame, SameFrame}
 use Rattle.bt_wire.proofs.Bodies.{same_message}
 
 -- two events at the front of one list

@@ -1,17 +1,17 @@
 -- A fault that shows, and that no event begins there.
-use Rattle.std.proofs.Common.{◌≡◌, ◌≢◌, ℕ, ◌+◌, ◌≤◌, ◌<◌, ◌^◌, Bool, true, false, Option, Some, None, List, [], ◌∷◌, ◌++◌, length, take, drop, slice_index, get_or, sym, ◌∙◌, ap, refl, arith}
+use Rattle.std.proofs.Common.{◌≡◌, ◌≢◌, ℕ, ◌+◌, ◌≤◌, ◌<◌, ◌^◌, Bool, true, false, Option, Some, None, List, ◌∷◌, ◌++◌, length, drop, slice_index, sym, ◌∙◌, ap, refl, arith}
 use Rattle.std.specs.Int.{w32, to_be_bytes}
 use Rattle.std.proofs.lemmas.List.{append_assoc, length-append, get_or_append_left}
 use Rattle.bt_wire.specs.declared.event.WireEvent.{WireEvent}
 use Rattle.bt_wire.specs.declared.event.WireEvent.TheVariants.{Hello, Message, Skipped}
 use Rattle.bt_wire.specs.declared.event.WireError.{WireError}
-use Rattle.bt_wire.specs.declared.event.WireError.TheVariants.{BadProtocol, TooLong, BadLength, OutOfMemory, Failed}
-use Rattle.bt_wire.specs.Handshake.{protocol, handshake_with}
+use Rattle.bt_wire.specs.declared.event.WireError.TheVariants.{BadProtocol, TooLong, BadLength}
+use Rattle.bt_wire.specs.Handshake.{protocol}
 use Rattle.bt_wire.specs.Limits.{max_length_field}
-use Rattle.bt_wire.specs.Message.{Body, body, body_of, length_field, frame_spelling, IsKnownKind, HasPayloadLength}
+use Rattle.bt_wire.specs.Message.{Body, body, body_of, length_field, frame_spelling}
 use Rattle.bt_wire.specs.Event.{IsEvent, HasNoEvent, ShowsFault, ShowsBadProtocol, ShowsTooLong, ShowsBadLength}
-use Rattle.bt_wire.proofs.Frames.{same_number, same_frame, SameFrame}
-use Rattle.bt_wire.proofs.Events.{event_frame, IsFrame, fits_number, same_kind}
+use Rattle.bt_wire.proofs.Frames.{same_number}
+use Rattle.bt_wire.proofs.Events.{event_frame, fits_number, same_kind}
 
 -- more bytes behind take no fault away
 pub fault_stays : (greeted : Bool) (unread more : List ℕ) (fault : WireError) → ShowsFault greeted unread fault

@@ -1,10 +1,10 @@
 -- A handshake at the front of the unread bytes.
-use Rattle.std.proofs.Common.{◌≡◌, ℕ, ◌+◌, ◌≤◌, ◌<◌, inl, inr, false, List, ◌++◌, length, take, drop, slice_index, get_or, sym, ◌∙◌, ap, refl, arith}
+use Rattle.std.proofs.Common.{◌≡◌, ℕ, ◌+◌, ◌≤◌, ◌<◌, inl, inr, false, List, ◌++◌, length, take, drop, slice_index, sym, ◌∙◌, ap, arith}
 use Rattle.std.proofs.lemmas.Bool.{cases_eq}
 use Rattle.std.proofs.lemmas.List.{length-take-le, length-drop, take-append-drop, take-take, drop-take, ext_get_or, get_or-take}
 use Rattle.bt_wire.specs.declared.handshake.Handshake.{Handshake}
 use Rattle.bt_wire.specs.declared.event.WireEvent.TheVariants.{Hello}
-use Rattle.bt_wire.specs.Handshake.{protocol, handshake_with}
+use Rattle.bt_wire.specs.Handshake.{protocol}
 use Rattle.bt_wire.specs.Event.{ShowsBadProtocol}
 use Rattle.bt_wire.specs.FrontSteps.{BeginsEvent}
 

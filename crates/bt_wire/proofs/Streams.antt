@@ -1,16 +1,14 @@
 -- Streams of events: one reading, however they are cut.
-use Rattle.std.proofs.Common.{◌≡◌, ◌≢◌, ℕ, Bool, true, false, Option, Some, None, List, [], ◌∷◌, ◌++◌, sym, ◌∙◌, replicate, ap, refl, subst}
+use Rattle.std.proofs.Common.{◌≡◌, ℕ, Bool, true, false, Option, Some, None, List, [], ◌∷◌, ◌++◌, sym, ◌∙◌, replicate, ap, refl, subst}
 use Rattle.std.proofs.lemmas.List.{append_assoc, append-nil}
 use Rattle.bt_wire.specs.declared.event.WireEvent.{WireEvent}
 use Rattle.bt_wire.specs.declared.event.WireEvent.TheVariants.{Hello, Message}
 use Rattle.bt_wire.specs.declared.event.WireError.{WireError}
-use Rattle.bt_wire.specs.declared.message.Message.{Message as Sent}
-use Rattle.bt_wire.specs.declared.handshake.Handshake.{Handshake}
-use Rattle.bt_wire.specs.Handshake.{IsHandshake, handshake_spelling}
-use Rattle.bt_wire.specs.Message.{IsMessage, Fits, message_spelling}
-use Rattle.bt_wire.specs.Event.{IsEvent, HasNoEvent, ShowsFault, ShowsNoFault}
-use Rattle.bt_wire.specs.Cutter.{Stream, new_stream, fed, Takes, Waits, IsAnswer}
-use Rattle.bt_wire.specs.Law.{IsStream, AreSame, StreamsHaveOneReading, Move, feed, take, bytes_in, events_in, Leads, IsEnd, IsCut, AgreeOn, CuttingMakesNoDifference, CutsAreStreams, MustTake, WritingIsRead}
+use Rattle.bt_wire.specs.Handshake.{handshake_spelling}
+use Rattle.bt_wire.specs.Message.{message_spelling}
+use Rattle.bt_wire.specs.Event.{IsEvent, HasNoEvent, ShowsFault}
+use Rattle.bt_wire.specs.Cutter.{Stream, new_stream, fed, IsAnswer}
+use Rattle.bt_wire.specs.Law.{IsStream, StreamsHaveOneReading, Move, feed, take, bytes_in, events_in, Leads, IsEnd, IsCut, CuttingMakesNoDifference, CutsAreStreams, MustTake, WritingIsRead}
 use Rattle.bt_wire.proofs.Events.{same_event}
 use Rattle.bt_wire.proofs.Faults.{fault_stays, fault_alone, one_fault}
 

@@ -2,7 +2,6 @@
 use Rattle.std.proofs.Common.{◌≡◌, ℕ, ◌+◌, ◌-◌, Bool, true, false, List, ◌++◌, length, take, drop, sym, ◌∙◌, ap, refl, subst}
 use Rattle.std.proofs.lemmas.List.{take-append-drop, drop-drop, take_rest}
 use Rattle.bt_wire.specs.declared.event.WireEvent.{WireEvent}
-use Rattle.bt_wire.specs.Event.{IsEvent}
 use Rattle.bt_wire.specs.Cutter.{Takes}
 use Rattle.bt_wire.specs.FrontSteps.{BeginsEvent}
 

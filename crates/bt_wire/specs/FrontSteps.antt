@@ -1,5 +1,5 @@
 -- What stands at the front of the unread bytes.
-use Rattle.std.specs.Prelude.{◌≡◌, ◌⊎◌, ℕ, ◌≤◌, Bool, true, Option, Some, None, List, length, take}
+use Rattle.std.specs.Prelude.{◌≡◌, ◌⊎◌, ℕ, ◌≤◌, Bool, Option, Some, None, List, length, take}
 use Rattle.bt_wire.specs.Limits.{max_length_field}
 use Rattle.bt_wire.specs.Message.{Body, length_field, frame_spelling, IsKnownKind, HasPayloadLength}
 use Rattle.bt_wire.specs.Event.{IsEvent, HasNoEvent, ShowsFault, ShowsNoFault}

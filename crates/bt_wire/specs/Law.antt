@@ -87,3 +87,11 @@ pub record WritingIsRead : Type 0 where
       → s.unread ≡ message_spelling m ++ rest → MustTake s (Message m) rest
   pub handshake : (h : Handshake) (rest : List ℕ) (s : Stream) → IsHandshake h → s.greeted ≡ false
       → s.unread ≡ handshake_spelling h ++ rest → MustTake s (Hello h) rest
+
+-- a fault is shown beside no event and no other fault, and more bytes take it not away
+pub record FaultsStandAlone : Type 0 where
+  pub no_event : (greeted : Bool) (unread : List ℕ) (fault : WireError) → ShowsFault greeted unread fault → HasNoEvent greeted unread
+  pub one : (greeted : Bool) (unread : List ℕ) (fault other : WireError)
+      → ShowsFault greeted unread fault → ShowsFault greeted unread other → fault ≡ other
+  pub stays : (greeted : Bool) (unread more : List ℕ) (fault : WireError)
+      → ShowsFault greeted unread fault → ShowsFault greeted (unread ++ more) fault

@@ -1,9 +1,8 @@
 -- What the functions behind the cutter say of frames.
-use Rattle.std.specs.Prelude.{◌≡◌, ℕ, ◌+◌, ◌-◌, ◌%◌, ◌≤◌, ◌⊎◌, Option, Some, None, List, length, take}
+use Rattle.std.specs.Prelude.{◌≡◌, ℕ, ◌-◌, ◌%◌, ◌≤◌, ◌⊎◌, List}
 use Rattle.bt_tree.specs.Limits.{digest_length}
 use Rattle.bt_hashreq.specs.Key.{key_length}
-use Rattle.bt_wire.specs.Limits.{max_length_field}
-use Rattle.bt_wire.specs.Message.{Body, body, body_of, length_field, frame_spelling, IsKnownKind, HasPayloadLength, IsMessage, HasWholeDigests}
+use Rattle.bt_wire.specs.Message.{body, body_of, IsMessage, HasWholeDigests}
 use Rattle.bt_wire.specs.declared.message.Message.{Message}
 
 -- how many bytes a payload has, kind by kind

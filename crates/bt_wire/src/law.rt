@@ -1,4 +1,4 @@
-ghost use Rattle.bt_wire.specs.Law.{StreamsHaveOneReading, CutsAreStreams, CuttingMakesNoDifference, WritingIsRead};
+ghost use Rattle.bt_wire.specs.Law.{FaultsStandAlone, StreamsHaveOneReading, CutsAreStreams, CuttingMakesNoDifference, WritingIsRead};
 
 /// No bytes are two lists of events, each with a rest that begins with none.
 pub fn streams_have_one_reading()
@@ -20,4 +20,10 @@ pub fn cutting_makes_no_difference()
 /// the next event is that message or handshake, and no fault shows.
 pub fn writing_is_read()
     ensures { WritingIsRead }
+{}
+
+/// Where a fault shows there is no event and no other fault, and it shows as well with more bytes behind. So what `next`
+/// answers, memory aside, is determined by what the cutter has not read.
+pub fn faults_stand_alone()
+    ensures { FaultsStandAlone }
 {}

@@ -18,7 +18,8 @@ pub use cutter::Cutter;
 pub use event::{WireError, WireEvent};
 pub use handshake::{HANDSHAKE_LEN, Handshake, write_handshake};
 pub use law::{
-    cuts_are_streams, cutting_makes_no_difference, streams_have_one_reading, writing_is_read,
+    cuts_are_streams, cutting_makes_no_difference, faults_stand_alone, streams_have_one_reading,
+    writing_is_read,
 };
 pub use message::{Ask, Message, fits};
 pub use writer::write_message;
