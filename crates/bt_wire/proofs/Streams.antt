@@ -8,7 +8,7 @@ use Rattle.bt_wire.specs.Handshake.{handshake_spelling}
 use Rattle.bt_wire.specs.Message.{message_spelling}
 use Rattle.bt_wire.specs.Event.{IsEvent, HasNoEvent, ShowsFault}
 use Rattle.bt_wire.specs.Cutter.{Stream, new_stream, fed, IsAnswer}
-use Rattle.bt_wire.specs.Law.{IsStream, StreamsHaveOneReading, Move, feed, take, bytes_in, events_in, Leads, IsEnd, IsCut, CuttingMakesNoDifference, CutsAreStreams, MustTake, WritingIsRead}
+use Rattle.bt_wire.specs.Law.{IsStream, StreamsHaveOneReading, Move, feed, take, bytes_in, events_in, Leads, IsEnd, IsCut, CuttingMakesNoDifference, CutsAreStreams, IsTaken, MustTake, WritingIsRead}
 use Rattle.bt_wire.proofs.Events.{same_event}
 use Rattle.bt_wire.proofs.Faults.{fault_stays, fault_alone, one_fault}
 
@@ -114,10 +114,6 @@ no_difference bytes moves others fault other cut also =
     }
 
 -- the event at the front is the one to take
-record IsTaken (given : Option WireEvent) (e : WireEvent) (unread rest : List ℕ) : Type 0 where
-  given_is : given ≡ Some e
-  rest_is : unread ≡ rest
-
 answer_at : (s : Stream) (e : WireEvent) (bytes rest : List ℕ) → IsEvent s.greeted e bytes → s.unread ≡ bytes ++ rest
     → (given : Option WireEvent) (new : Stream) → IsAnswer s given new → IsTaken given e new.unread rest
 answer_at s e bytes rest event front (Some f) new takes =
@@ -127,7 +123,7 @@ answer_at s e bytes rest event front None new waits = absurd (waits.0.no_event e
 
 must_take : (s : Stream) (e : WireEvent) (bytes rest : List ℕ) → IsEvent s.greeted e bytes → s.unread ≡ bytes ++ rest → MustTake s e rest
 must_take s e bytes rest event front = record {
-  answer = λ given new is. let taken = answer_at s e bytes rest event front given new is in (taken.given_is, taken.rest_is);
+  answer = answer_at s e bytes rest event front;
   no_fault = λ fault shown. fault_alone s.greeted s.unread fault shown e bytes rest event front;
 }
 

@@ -15,7 +15,7 @@ takes_front bytes start n greeted failed e running begins =
       bytes = take n (drop start bytes);
       event = here.event;
       front = sym (take-append-drop n (drop start bytes)) ∙ ap (λ xs. take n (drop start bytes) ++ xs) (drop-drop n start bytes);
-      open_before = running;
+      running = running;
       greeted = refl;
-      open_after = running;
+      not_failed = running;
     }

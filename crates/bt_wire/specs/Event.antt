@@ -40,7 +40,8 @@ IsEvent _ _ _ = ⊥
 
 -- no event begins the unread bytes
 abbrev pub HasNoEvent : Bool → List ℕ → Type 0
-HasNoEvent greeted unread = (e : WireEvent) (bytes rest : List ℕ) → IsEvent greeted e bytes → unread ≢ bytes ++ rest
+HasNoEvent greeted unread =
+    (e : WireEvent) (bytes rest : List ℕ) → IsEvent greeted e bytes → unread ≢ bytes ++ rest
 
 -- one of the first twenty bytes is another
 pub record ShowsBadProtocol (unread : List ℕ) : Type 0 where

@@ -1,17 +1,19 @@
 -- What stands at the front of the unread bytes.
-use Rattle.std.specs.Prelude.{◌≡◌, ◌⊎◌, ℕ, ◌≤◌, Bool, Option, Some, None, List, length, take}
-use Rattle.bt_wire.specs.Limits.{max_length_field}
+use Rattle.std.specs.Prelude.{◌≡◌, ◌⊎◌, ℕ, ◌≤◌, Bool, false, Option, Some, None, List, length, take}
+use Rattle.bt_wire.specs.Limits.{max_length_field, handshake_length}
 use Rattle.bt_wire.specs.Message.{Body, length_field, frame_spelling, IsKnownKind, HasPayloadLength}
 use Rattle.bt_wire.specs.Event.{IsEvent, HasNoEvent, ShowsFault, ShowsNoFault}
+use Rattle.bt_wire.specs.declared.handshake.Handshake.{Handshake}
 use Rattle.bt_wire.specs.declared.event.WireEvent.{WireEvent}
+use Rattle.bt_wire.specs.declared.event.WireEvent.TheVariants.{Hello}
 use Rattle.bt_wire.specs.declared.event.WireError.{WireError}
 use Rattle.bt_wire.specs.declared.event.WireError.TheVariants.{OutOfMemory}
 
--- a kind that is known has messages with a payload of that length
+-- a payload of that length fits the kind, if it is known
 abbrev pub FitsKind : ℕ → ℕ → Type 0
 FitsKind kind n = IsKnownKind kind → HasPayloadLength kind n
 
--- a kind is known, and none of its messages has a payload of that length
+-- the kind is known, and a payload of that length does not fit it
 abbrev pub IsMisfit : ℕ → ℕ → Type 0
 IsMisfit kind n = IsKnownKind kind × ¬ HasPayloadLength kind n
 
@@ -36,11 +38,19 @@ pub record BeginsEvent (greeted : Bool) (unread : List ℕ) (e : WireEvent) (n :
   pub inside : n ≤ length unread
   pub event : IsEvent greeted e (take n unread)
 
+-- the first bytes are this event's, of which there are so many
+abbrev pub BeginsWith : Bool → List ℕ → WireEvent × ℕ → Type 0
+BeginsWith greeted unread first = BeginsEvent greeted unread first.0 first.1
+
+-- the first bytes are this handshake
+abbrev pub BeginsHandshake : List ℕ → Handshake → Type 0
+BeginsHandshake unread h = BeginsEvent false unread (Hello h) handshake_length
+
 -- neither an event is there nor a fault
 pub record IsPartial (greeted : Bool) (unread : List ℕ) : Type 0 where
   pub no_event : HasNoEvent greeted unread
   pub no_fault : ShowsNoFault greeted unread
 
--- why there is no answer
+-- why no event is returned
 abbrev pub IsFrontRefusal : Bool → List ℕ → WireError → Type 0
 IsFrontRefusal greeted unread error = (error ≡ OutOfMemory) ⊎ ShowsFault greeted unread error

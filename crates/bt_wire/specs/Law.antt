@@ -10,12 +10,13 @@ use Rattle.bt_wire.specs.declared.event.WireEvent.{WireEvent}
 use Rattle.bt_wire.specs.declared.event.WireEvent.TheVariants.{Hello, Message}
 use Rattle.bt_wire.specs.declared.event.WireError.{WireError}
 
--- The bytes are these events, one behind the other, and then a rest that begins with none. The first one is a handshake
--- where none has come.
+-- The bytes are these events, one behind the other, and then a rest that begins with none. Where no handshake has
+-- come, the first event is one.
 abbrev pub IsStream : Bool → List WireEvent → List ℕ → List ℕ → Type 0
 IsStream greeted [] rest bytes = (rest ≡ bytes) × HasNoEvent greeted rest
 IsStream greeted (e ∷ events) rest bytes =
-    (front : List ℕ) × (back : List ℕ) × IsEvent greeted e front × (bytes ≡ front ++ back) × IsStream true events rest back
+    (front : List ℕ) × (back : List ℕ)
+    × IsEvent greeted e front × (bytes ≡ front ++ back) × IsStream true events rest back
 
 -- two readings of one stream have the same events and the same rest
 pub record AreSame (events others : List WireEvent) (rest other : List ℕ) : Type 0 where
@@ -24,9 +25,10 @@ pub record AreSame (events others : List WireEvent) (rest other : List ℕ) : Ty
 
 abbrev pub StreamsHaveOneReading : Type 0
 StreamsHaveOneReading = (greeted : Bool) (events others : List WireEvent) (rest other bytes : List ℕ)
-    → IsStream greeted events rest bytes → IsStream greeted others other bytes → AreSame events others rest other
+    → IsStream greeted events rest bytes → IsStream greeted others other bytes
+    → AreSame events others rest other
 
--- a call of a cutter that succeeds
+-- a call of a cutter that succeeds: `feed`, or `next` with an event
 pub data Move : Type 0 where
   feed : List ℕ → Move
   take : WireEvent → Move
@@ -43,18 +45,18 @@ events_in [] = []
 events_in (feed bytes ∷ moves) = events_in moves
 events_in (take e ∷ moves) = e ∷ events_in moves
 
--- from one stream to another by these calls
+-- these calls lead from one stream to another
 abbrev pub Leads : List Move → Stream → Stream → Type 0
 Leads [] old new = new ≡ old
 Leads (feed bytes ∷ moves) old new = Leads moves (fed old bytes) new
 Leads (take e ∷ moves) old new = (mid : Stream) × Takes old e mid × Leads moves mid new
 
--- nothing is left to feed and to take, or a fault shows
+-- nothing is left to feed and no event to take, or a fault shows
 abbrev pub IsEnd : Stream → List ℕ → Option WireError → Type 0
 IsEnd s unfed None = Waits s × (unfed ≡ [])
 IsEnd s unfed (Some fault) = ShowsFault s.greeted s.unread fault
 
--- The bytes were cut in some way, fed to a new cutter, and its events taken, now and then, up to a fault or to the end.
+-- The bytes were fed to a new cutter in some parts, and its events taken now and then, up to the end or to a fault.
 pub record IsCut (bytes : List ℕ) (moves : List Move) (fault : Option WireError) : Type 0 where
   pub last : Stream
   pub unfed : List ℕ
@@ -76,9 +78,15 @@ abbrev pub CutsAreStreams : Type 0
 CutsAreStreams = (bytes : List ℕ) (moves : List Move) (fault : Option WireError)
     → IsCut bytes moves fault → (rest : List ℕ) × IsStream false (events_in moves) rest bytes
 
--- only this event is next, and no fault shows
+-- the event that `next` returns, and what is left then
+pub record IsTaken (given : Option WireEvent) (e : WireEvent) (unread rest : List ℕ) : Type 0 where
+  pub given_is : given ≡ Some e
+  pub rest_is : unread ≡ rest
+
+-- only this event can be next, and no fault shows
 pub record MustTake (s : Stream) (e : WireEvent) (rest : List ℕ) : Type 0 where
-  pub answer : (given : Option WireEvent) (new : Stream) → IsAnswer s given new → (given ≡ Some e) × (new.unread ≡ rest)
+  pub answer : (given : Option WireEvent) (new : Stream)
+      → IsAnswer s given new → IsTaken given e new.unread rest
   pub no_fault : ShowsNoFault s.greeted s.unread
 
 -- what is written is read
@@ -88,9 +96,10 @@ pub record WritingIsRead : Type 0 where
   pub handshake : (h : Handshake) (rest : List ℕ) (s : Stream) → IsHandshake h → s.greeted ≡ false
       → s.unread ≡ handshake_spelling h ++ rest → MustTake s (Hello h) rest
 
--- a fault is shown beside no event and no other fault, and more bytes take it not away
+-- where a fault shows there is no event and no other fault, and it still shows with more bytes behind
 pub record FaultsStandAlone : Type 0 where
-  pub no_event : (greeted : Bool) (unread : List ℕ) (fault : WireError) → ShowsFault greeted unread fault → HasNoEvent greeted unread
+  pub no_event : (greeted : Bool) (unread : List ℕ) (fault : WireError)
+      → ShowsFault greeted unread fault → HasNoEvent greeted unread
   pub one : (greeted : Bool) (unread : List ℕ) (fault other : WireError)
       → ShowsFault greeted unread fault → ShowsFault greeted unread other → fault ≡ other
   pub stays : (greeted : Bool) (unread more : List ℕ) (fault : WireError)

@@ -17,10 +17,10 @@ impl Model for Bytes {
 }
 
 impl Bytes {
-    pub fn new(items: Vec<u8>) -> Bytes
+    pub fn new(items: Vec<u8>) -> Self
         ensures { result ≡ items.items }
     {
-        Bytes { items }
+        Self { items }
     }
 
     pub fn as_slice(&self) -> &[u8]

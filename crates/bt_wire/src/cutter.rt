@@ -6,11 +6,12 @@ use crate::front::first_event;
 use std::alloc::Global;
 use std::marker::Model;
 
-/// A peer's stream, cut into its events. Bytes are fed in pieces of any size, and events are taken as they are whole.
+/// A peer's stream, cut into its events: bytes are fed in parts of any size, and an event is taken once it is
+/// whole.
 #[derive(Debug, Drop)]
 pub struct Cutter {
     alloc: Global,
-    /// What was fed; the first `start` bytes are taken.
+    /// What was fed; the events of the first `start` bytes are taken.
     bytes: Vec<u8>,
     start: usize,
     greeted: bool,
@@ -19,17 +20,17 @@ pub struct Cutter {
 
 impl Model for Cutter {
     ghost use Rattle.std.specs.Prelude.{drop, length, ◌≤◌};
-    ghost use Rattle.bt_wire.specs.Cutter.{Stream};
+    ghost use Rattle.bt_wire.specs.Cutter.{Stream, stream};
 
     ghost Value = { Stream };
 
-    ghost view = { λ a. record { unread = drop a.start a.bytes.items; greeted = a.greeted; failed = a.failed } };
+    ghost view = { λ a. stream (drop a.start a.bytes.items) a.greeted a.failed };
 
     ghost invariant = { λ a. a.start ≤ length a.bytes.items };
 }
 
 impl Cutter {
-    /// A cutter that was fed nothing. It takes no memory.
+    /// A cutter without bytes. It takes no memory.
     pub fn new(alloc: Global) -> Cutter
         ensures { result ≡ new_stream }
     {
@@ -44,7 +45,7 @@ impl Cutter {
 
     /// Puts bytes behind the unread ones, all or none.
     ///
-    /// Errors: `Failed` where `next` has told a fault of the stream; `OutOfMemory`. Neither changes the cutter.
+    /// Errors: `Failed` after `next` returned a fault of the stream; `OutOfMemory`. Neither changes the cutter.
     pub fn feed(&mut self, bytes: &[u8]) -> Result<(), WireError>
         ensures fed { OnOk result (self.new ≡ fed self.old bytes.now) }
         ensures running { OnOk result (self.old.failed ≡ false) }
@@ -62,10 +63,10 @@ impl Cutter {
         Ok(())
     }
 
-    /// Takes the first event from the unread bytes; None where there is none yet, and no fault shows.
+    /// Takes the first event from the unread bytes; None where no event is whole and no fault shows.
     ///
-    /// Errors: `BadProtocol`, `TooLong` or `BadLength` as soon as the bytes show that fault, after which both calls answer
-    /// `Failed`; `OutOfMemory`, which leaves the cutter as it was.
+    /// Errors: `BadProtocol`, `TooLong` or `BadLength` as soon as the bytes show that fault, and `Failed` ever after;
+    /// `OutOfMemory`, which leaves the cutter as it was.
     pub fn next(&mut self) -> Result<Option<WireEvent>, WireError>
         ensures answer { IfOk result (λ found. IsAnswer self.old found self.new) }
         ensures refused { IfErr result (λ error. IsRefusal self.old error self.new) }

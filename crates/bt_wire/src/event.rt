@@ -6,32 +6,32 @@ use crate::message::Message;
 use std::alloc::AllocError;
 use thiserror::Error;
 
-/// What a stream of the peer wire says next.
+/// A handshake or a message of a stream.
 #[derive(Debug, Drop)]
 pub enum WireEvent {
-    /// The handshake, with which the stream begins.
+    /// The handshake, with which a stream begins.
     Hello(Handshake),
     Message(Message),
-    /// A message of a kind that is not known here.
+    /// A message of an unknown kind, which is this number.
     Skipped(u8),
 }
 
-/// Why a cutter refuses.
+/// Why a cutter gives no event and takes no bytes.
 #[derive(Clone, Copy, Debug, PartialEq, Eq, Error)]
 pub enum WireError {
-    /// W1: A byte of the protocol's name, or its length, is another.
+    /// W1: One of the first twenty bytes is not that of the protocol.
     #[error("W1 BadProtocol")]
     BadProtocol,
     /// W2: A length field is above 2^20.
     #[error("W2 TooLong")]
     TooLong,
-    /// W3: A length field is not one of the message's kind.
+    /// W3: A length field does not fit the message's kind.
     #[error("W3 BadLength")]
     BadLength,
-    /// W4: Out of memory; the call changed nothing.
+    /// W4: Out of memory. The call changed nothing.
     #[error("W4 OutOfMemory")]
     OutOfMemory,
-    /// W5: One of W1 to W3 was told before.
+    /// W5: An earlier call returned one of W1 to W3.
     #[error("W5 Failed")]
     Failed,
 }

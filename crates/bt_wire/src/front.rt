@@ -1,9 +1,8 @@
 ghost use Rattle.std.specs.Prelude.{◌≡◌, ◌+◌, ◌≤◌, ◌<◌, ◌↔◌, true, false, length, take, drop, slice_index, IsNone, IsTrue, IfSome, IfNone, IfOk, IfErr};
 ghost use Rattle.std.specs.Bool.{OnTrue, OnFalse};
 ghost use Rattle.std.specs.Int.{w32, to_be_bytes};
-ghost use Rattle.bt_wire.specs.Limits.{handshake_length};
 ghost use Rattle.bt_wire.specs.Event.{IsEvent, ShowsBadProtocol, ShowsFault};
-ghost use Rattle.bt_wire.specs.FrontSteps.{FitsKind, IsMisfit, IsLawfulFrame, BeginsFrame, BeginsEvent, IsPartial, IsFrontRefusal};
+ghost use Rattle.bt_wire.specs.FrontSteps.{FitsKind, IsMisfit, IsLawfulFrame, BeginsFrame, BeginsHandshake, BeginsWith, IsPartial, IsFrontRefusal};
 
 use crate::event::{WireError, WireEvent};
 use crate::handshake::{HANDSHAKE_LEN, Handshake, PROTOCOL};
@@ -11,13 +10,14 @@ use crate::message::{MAX_LENGTH_FIELD, Message};
 use crate::reader::{number_at, payload_fits, read_message};
 use std::alloc::{AllocError, Global};
 
-/// The event with which the bytes begin, and how many bytes it has; None where neither an event nor a fault is there.
+/// The event with which the bytes begin, and how many bytes it has; None where neither an event nor a fault is
+/// there.
 pub(crate) fn first_event(
     alloc: Global,
     greeted: bool,
     unread: &[u8],
 ) -> Result<Option<(WireEvent, usize)>, WireError>
-    ensures event { IfOk result (λ found. IfSome found (λ first. BeginsEvent greeted unread.now first.0 first.1)) }
+    ensures event { IfOk result (λ found. IfSome found (BeginsWith greeted unread.now)) }
     ensures none { IfOk result (λ found. IfNone found (IsPartial greeted unread.now)) }
     ensures refused { IfErr result (IsFrontRefusal greeted unread.now) }
 {
@@ -35,9 +35,9 @@ pub(crate) fn first_event(
     }
 }
 
-/// The handshake with which the bytes begin; None where the bytes end within it.
+/// The handshake with which the bytes begin; None where they end within it.
 fn first_handshake(unread: &[u8]) -> Result<Option<Handshake>, WireError>
-    ensures hello { IfOk result (λ found. IfSome found (λ h. BeginsEvent false unread.now (WireEvent.Hello h) handshake_length)) }
+    ensures hello { IfOk result (λ found. IfSome found (BeginsHandshake unread.now)) }
     ensures none { IfOk result (λ found. IfNone found (IsPartial false unread.now)) }
     ensures fault { IfErr result (ShowsFault false unread.now) }
 {
@@ -66,7 +66,7 @@ fn shows_bad_protocol(unread: &[u8]) -> bool
     false
 }
 
-/// How many bytes the first message has, its length field among them; None where the bytes end within it.
+/// How many bytes the first message has, its length field among them; None where they end within it.
 fn frame_len(unread: &[u8]) -> Result<Option<usize>, WireError>
     ensures whole { IfOk result (λ found. IfSome found (BeginsFrame unread.now)) }
     ensures part { IfOk result (λ found. IfNone found (IsPartial true unread.now)) }
@@ -94,7 +94,7 @@ fn frame_len(unread: &[u8]) -> Result<Option<usize>, WireError>
     Ok(Some(4 + field))
 }
 
-/// Whether some message of the kind has a payload of so many bytes, or the kind is not known.
+/// Whether a payload of so many bytes fits the kind; every payload fits an unknown kind.
 fn fits_kind(kind: u8, len: usize) -> bool
     ensures yes { OnTrue result (FitsKind kind len) }
     ensures no { OnFalse result (IsMisfit kind len) }
@@ -105,7 +105,7 @@ fn fits_kind(kind: u8, len: usize) -> bool
     }
 }
 
-/// The event that a whole message is.
+/// The event that these bytes spell, a whole message.
 fn read_frame(alloc: Global, frame: &[u8]) -> Result<WireEvent, AllocError>
     requires { IsLawfulFrame frame.now }
     ensures { IfOk result (λ event. IsEvent true event frame.now) }

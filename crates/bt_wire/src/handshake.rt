@@ -5,10 +5,10 @@ ghost use Rattle.bt_wire.specs.Handshake.{handshake_spelling};
 /// How many bytes a handshake has (BEP 3).
 pub const HANDSHAKE_LEN: usize = 68;
 
-/// The length of the protocol's name and the name, with which a stream begins (BEP 3).
+/// The length of the protocol's name and the name, with which every stream begins (BEP 3).
 pub(crate) const PROTOCOL: [u8; 20] = *b"\x13BitTorrent protocol";
 
-/// What a peer says first (BEP 3).
+/// The first bytes of each side (BEP 3).
 #[derive(Clone, Copy, Debug, PartialEq, Eq)]
 pub struct Handshake {
     /// The first 20 bytes of the torrent's infohash.
@@ -16,7 +16,7 @@ pub struct Handshake {
     pub peer_id: [u8; 20],
 }
 
-/// The bytes that spell a handshake: the protocol, 8 reserved bytes that are zero, the infohash and the peer's id.
+/// The bytes that spell a handshake: the protocol, 8 reserved bytes that are zero, the infohash, the peer's id.
 pub fn write_handshake(handshake: &Handshake) -> [u8; HANDSHAKE_LEN]
     ensures { result ≡ handshake_spelling handshake.now }
 {

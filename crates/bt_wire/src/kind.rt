@@ -1,4 +1,4 @@
-//! The kinds of messages, by the byte behind the length field (BEP 3, "peer messages"; BEP 52, "hash request").
+//! The kinds of messages, by the byte behind the length field (BEP 3, "peer messages"; BEP 52).
 
 pub(crate) const CHOKE: u8 = 0;
 

@@ -5,16 +5,16 @@ ghost use Rattle.bt_wire.specs.Message.{Fits};
 use crate::bytes::Bytes;
 use bt_hashreq::HashKey;
 
-/// The greatest length field of a message.
+/// The greatest length field of a message, a limit of this project.
 pub(crate) const MAX_LENGTH_FIELD: usize = 1 << 20;
 
 /// A range of a piece's bytes, as a request or a cancel names it (BEP 3).
 #[derive(Clone, Copy, Debug, PartialEq, Eq)]
 pub struct Ask {
     pub piece: u32,
-    /// The offset in the piece, in bytes.
+    /// The offset of the first byte in the piece.
     pub begin: u32,
-    /// How many bytes.
+    /// The number of bytes.
     pub length: u32,
 }
 

@@ -10,7 +10,7 @@ use crate::message::{Ask, Message};
 use bt_hashreq::{HashKey, KEY_LEN, read_key};
 use std::alloc::{AllocError, Global};
 
-/// Whether a message of the kind has a payload of so many bytes; None for a kind that no message has.
+/// Whether a payload of so many bytes fits the kind; None for an unknown kind.
 pub(crate) fn payload_fits(kind: u8, len: usize) -> Option<bool>
     ensures listed { IsSome result ↔ IsListed kind }
     ensures fits { IfSome result (λ fits. IsTrue fits ↔ HasSize kind len) }
@@ -27,7 +27,7 @@ pub(crate) fn payload_fits(kind: u8, len: usize) -> Option<bool>
     }
 }
 
-/// The message of a kind with this payload; None for a kind that no message has.
+/// The message of a kind and a payload; None for an unknown kind.
 pub(crate) fn read_message(
     alloc: Global,
     kind: u8,
@@ -68,7 +68,7 @@ fn copied(alloc: Global, bytes: &[u8]) -> Result<Bytes, AllocError>
     Ok(Bytes::new(Vec::from_slice(alloc, bytes)?))
 }
 
-/// The numbers of a request or a cancel.
+/// The payload of a request or a cancel.
 fn read_ask(bytes: &[u8]) -> Ask
     requires { length bytes.now ≡ 12 }
     ensures spelled { ask_spelling result ≡ bytes.now }

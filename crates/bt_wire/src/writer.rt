@@ -11,7 +11,8 @@ use std::alloc::{AllocError, Global};
 /// How many bytes the numbers of a request have.
 const ASK_LEN: usize = 12;
 
-/// The bytes that spell a message: its length field, its kind and its payload. A keepalive is a length field of 0.
+/// The bytes that spell a message: its length field, its kind and its payload. A keepalive is a length field of
+/// 0. The message has to fit, which `fits` checks.
 pub fn write_message(alloc: Global, message: &Message) -> Result<Vec<u8>, AllocError>
     requires { Fits message.now }
     ensures { IfOk result (λ bytes. bytes.items ≡ message_spelling message.now) }
@@ -42,7 +43,7 @@ pub fn write_message(alloc: Global, message: &Message) -> Result<Vec<u8>, AllocE
     }
 }
 
-/// The frame of a kind whose payload is these two runs.
+/// The bytes of a message of this kind, whose payload is the two runs.
 fn frame(alloc: Global, kind: u8, front: &[u8], back: &[u8]) -> Result<Vec<u8>, AllocError>
     requires { 1 + length (front.now ++ back.now) ≤ max_length_field }
     ensures { IfOk result (λ bytes. bytes.items ≡ frame_spelling (body kind (front.now ++ back.now))) }
@@ -56,7 +57,7 @@ fn frame(alloc: Global, kind: u8, front: &[u8], back: &[u8]) -> Result<Vec<u8>, 
     Ok(bytes)
 }
 
-/// The numbers of a request or a cancel.
+/// The payload of a request or a cancel.
 fn ask_bytes(ask: &Ask) -> [u8; ASK_LEN]
     ensures { result ≡ ask_spelling ask.now }
 {
@@ -66,7 +67,7 @@ fn ask_bytes(ask: &Ask) -> [u8; ASK_LEN]
     [a, b, c, d, e, f, g, h, i, j, k, l]
 }
 
-/// Two numbers.
+/// Two numbers, the high byte of each first.
 fn pair_bytes(first: u32, second: u32) -> [u8; 8]
     ensures { result ≡ to_be_bytes w32 first ++ to_be_bytes w32 second }
 {
