@@ -6,6 +6,9 @@ use crate::front::first_event;
 use std::alloc::Global;
 use std::marker::Model;
 
+/// How many bytes an empty buffer has room for at most.
+const KEPT_ROOM: usize = 1 << 17;
+
 /// A peer's stream, cut into its events: bytes are fed in parts of any size, and an event is taken once it is
 /// whole.
 #[derive(Debug, Drop)]
@@ -76,7 +79,7 @@ impl Cutter {
         }
         match first_event(self.alloc, self.greeted, &self.bytes[self.start..]) {
             Ok(Some((event, len))) => {
-                self.start += len;
+                self.start = start_of_rest(self.alloc, &mut self.bytes, self.start + len);
                 self.greeted = true;
                 Ok(Some(event))
             }
@@ -100,4 +103,17 @@ fn drop_front(bytes: &mut Vec<u8>, count: usize)
     let (front, back) = bytes.split_at_mut(count);
     front[..rest].copy_from_slice(back);
     bytes.truncate(rest);
+}
+
+/// Gives a large buffer back where all its bytes are taken; returns where the others begin.
+fn start_of_rest(alloc: Global, bytes: &mut Vec<u8>, start: usize) -> usize
+    requires { start ≤ length bytes.old.items }
+    ensures within { result ≤ length bytes.new.items }
+    ensures same { drop result bytes.new.items ≡ drop start bytes.old.items }
+{
+    if start < bytes.len() || bytes.capacity() <= KEPT_ROOM {
+        return start;
+    }
+    *bytes = Vec::new(alloc);
+    0
 }

@@ -6,4 +6,6 @@ returns-in-Ok-Some-clause-answer c =
     let a = c.self.inside in
     let first = rw c.in-Ok-Some.field-0-is at c.in-Ok-Some.ensures in
     let begins = rw c.deref.ensures.value at first.event in
-    rw (← c.self.view_is) (takes_front a.bytes.items a.start c.in-Ok-Some.len a.greeted a.failed c.in-Ok-Some.event c.if-self.false begins)
+    rw (← c.self.view_is)
+    (takes_front a.bytes.items _ a.start c.in-Ok-Some.len a.greeted a.failed c.in-Ok-Some.event c.if-self.false
+    c.start_of_rest-self-inside.ensures.same begins)
