@@ -11,20 +11,20 @@ use Rattle.bt_wire.specs.declared.event.WireEvent.TheVariants.{Hello, Message, S
 use Rattle.bt_wire.specs.declared.event.WireError.{WireError}
 use Rattle.bt_wire.specs.declared.event.WireError.TheVariants.{BadProtocol, TooLong, BadLength}
 
--- a handshake, whatever its reserved bytes
+-- the bytes of a handshake, whatever its reserved bytes
 pub record IsHello (h : Handshake) (bytes : List ℕ) : Type 0 where
   pub reserved : List ℕ
   pub is_handshake : IsHandshake h
   pub eight : length reserved ≡ reserved_length
   pub spelled : bytes ≡ handshake_with reserved h
 
--- a message that fits
+-- the bytes of a message that fits
 pub record IsSent (m : Sent) (bytes : List ℕ) : Type 0 where
   pub is_message : IsMessage m
   pub fits : Fits m
   pub spelled : bytes ≡ message_spelling m
 
--- a frame of a kind that no message has
+-- the bytes of a kind that no message has, with any payload within the limit
 pub record IsSkipped (kind : ℕ) (bytes : List ℕ) : Type 0 where
   pub payload : List ℕ
   pub unknown : ¬ IsKnownKind kind
@@ -38,12 +38,12 @@ IsEvent true (Message m) bytes = IsSent m bytes
 IsEvent true (Skipped kind) bytes = IsSkipped kind bytes
 IsEvent _ _ _ = ⊥
 
--- no event begins the unread bytes
+-- the unread bytes begin with no event
 abbrev pub HasNoEvent : Bool → List ℕ → Type 0
 HasNoEvent greeted unread =
     (e : WireEvent) (bytes rest : List ℕ) → IsEvent greeted e bytes → unread ≢ bytes ++ rest
 
--- one of the first twenty bytes is another
+-- one of the first twenty bytes is there, and is not the protocol's
 pub record ShowsBadProtocol (unread : List ℕ) : Type 0 where
   pub place : ℕ
   pub in_protocol : place < length protocol

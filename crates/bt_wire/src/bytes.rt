@@ -17,18 +17,21 @@ impl Model for Bytes {
 }
 
 impl Bytes {
+    /// The bytes of the `Vec`, which are not copied.
     pub fn new(items: Vec<u8>) -> Self
         ensures { result ≡ items.items }
     {
         Self { items }
     }
 
+    /// The bytes, lent.
     pub fn as_slice(&self) -> &[u8]
         ensures { result.now ≡ self.now }
     {
         self.items.as_slice()
     }
 
+    /// The `Vec` back, without a copy.
     pub fn into_vec(self) -> Vec<u8>
         ensures { result.items ≡ self }
     {

@@ -13,6 +13,7 @@ pub(crate) const PROTOCOL: [u8; 20] = *b"\x13BitTorrent protocol";
 pub struct Handshake {
     /// The first 20 bytes of the torrent's infohash.
     pub infohash: [u8; 20],
+    /// The sender's own name.
     pub peer_id: [u8; 20],
 }
 

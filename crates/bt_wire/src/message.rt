@@ -21,15 +21,21 @@ pub struct Ask {
 /// A message of the peer wire (BEP 3, "peer messages"; BEP 52, "hash request", "hashes" and "hash reject").
 #[derive(Debug, Drop)]
 pub enum Message {
+    /// Nothing: a length field of 0.
     KeepAlive,
+    /// Requests of the other side are not served.
     Choke,
+    /// Requests of the other side are served.
     Unchoke,
+    /// The sender wants pieces of the other side.
     Interested,
+    /// The sender wants no piece of the other side.
     NotInterested,
     /// The index of a piece that the sender has.
     Have(u32),
     /// A bit for each piece; the high bit of the first byte is piece 0.
     Bitfield(Bytes),
+    /// Asks for bytes of a piece.
     Request(Ask),
     /// Bytes of a piece, from the offset `begin` on.
     Piece {
@@ -37,10 +43,13 @@ pub enum Message {
         begin: u32,
         bytes: Bytes,
     },
+    /// Takes a request back.
     Cancel(Ask),
+    /// Asks for digests of a file's tree.
     HashRequest(HashKey),
     /// The digests that the key names, 32 bytes each.
     Hashes(HashKey, Bytes),
+    /// The digests that the key names are not given.
     HashReject(HashKey),
 }
 
