@@ -9,7 +9,7 @@ mod request;
 
 pub use claim::to_claim;
 pub use key::{HashKey, KEY_LEN, read_key, write_key};
-pub use law::{keys_are_read_back, plans_are_lawful};
+pub use law::{keys_are_read_back, plans_are_lawful, plans_teach};
 pub use request::plan;
 
 #[cfg(test)]
