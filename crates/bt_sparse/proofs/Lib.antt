@@ -1,3 +1,5 @@
+pub mod Pages
+pub mod PageTables
 pub mod Halves
 pub mod Values
 pub mod Claims

@@ -5,11 +5,14 @@ use Rattle.std.specs.List.{All, Contains}
 use Rattle.bt_tree.specs.Limits.{max_block_count, max_height}
 use Rattle.bt_tree.specs.TreeShape.{real_width}
 use Rattle.bt_tree.specs.Tree.{padding_digest}
-use Rattle.bt_sparse.specs.NodeMap.{Nodes, digest_at, HasDigests}
-use Rattle.bt_sparse.specs.SparseTree.{Facts, value_at}
+use Rattle.bt_sparse.specs.NodeMap.{Nodes, digest_at, HasDigests, Layers, HasPlace}
+use Rattle.bt_sparse.specs.SparseTree.{Facts, height, value_at}
 use Rattle.bt_sparse.specs.Claim.{Claims}
+use Rattle.bt_sparse.specs.Acceptance.{IsAcceptable}
+use Rattle.bt_sparse.specs.ExpansionSteps.{IsExpansion}
 use Rattle.bt_sparse.specs.declared.claim.Claim.{Claim}
 use Rattle.bt_sparse.specs.declared.expansion.ClaimedPair.{ClaimedPair}
+use Rattle.bt_sparse.specs.declared.expansion.Expansion.{Expansion}
 use Rattle.bt_sparse.specs.declared.acceptance.Difference.{Difference}
 
 -- a tree of height h has the pair, below its root
@@ -86,3 +89,15 @@ pub record IsGrown (dig : List ℕ → List ℕ) (c : Claim) (n : ℕ) (old new 
 pub record IsGrownBy (dig : List ℕ → List ℕ) (c : Claim) (n : ℕ) (old new : Nodes) (count : ℕ) (pairs : List ClaimedPair) : Type 0 where
   pub grown : IsGrown dig c n old new count
   pub added : All (IsAdded n new) pairs
+
+-- the nodes of the pair that cover a block have their pages
+pub record HasPlaces (n : ℕ) (layers : Layers) (p : ClaimedPair) : Type 0 where
+  pub left : 2 * p.index < real_width n p.layer → HasPlace layers p.layer (2 * p.index)
+  pub right : 2 * p.index + 1 < real_width n p.layer → HasPlace layers p.layer (2 * p.index + 1)
+
+-- the tree can accept the claim, and this is what it names
+pub record IsChecked (dig : List ℕ → List ℕ) (k : Facts) (c : Claim) (e : Expansion) : Type 0 where
+  pub conditions : IsAcceptable dig k c
+  pub expansion : IsExpansion dig c e
+  pub inside : All (IsPairIn (height k)) e.pairs.items
+  pub narrow : length e.pairs.items < 2 ^ 28

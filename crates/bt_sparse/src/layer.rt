@@ -4,6 +4,7 @@ ghost use Rattle.bt_tree.specs.Blocks.{block_count};
 ghost use Rattle.bt_tree.specs.TreeShape.{height_of, real_width};
 ghost use Rattle.bt_tree.specs.Tree.{padding_digest};
 ghost use Rattle.bt_tree.specs.Layers.{IsLayer, HasLayerSize};
+ghost use Rattle.bt_sparse.specs.NodeMap.{nodes_in};
 ghost use Rattle.bt_sparse.specs.Layer.{HoldsLayer};
 ghost use Rattle.bt_sparse.specs.LayerSteps.{IsFilled, IsWhole};
 
@@ -61,7 +62,7 @@ fn nodes_from<H: NodeHash>(
     ensures { IfOk result (λ nodes. (row : ℕ → List ℕ)
         → ((i : ℕ) → i < length digests.now → row i ≡ slice_index_or digests.now i [])
         → ((i : ℕ) → length digests.now ≤ i → row i ≡ padding_digest H.digest layer)
-        → IsWhole H.digest (block_count geometry) row layer nodes) }
+        → IsWhole H.digest (block_count geometry) row layer (nodes_in nodes)) }
 {
     let mut nodes = NodeMap::new(alloc);
     add_layer(&mut nodes, layer, digests)?;
@@ -79,10 +80,12 @@ fn add_layer(nodes: &mut NodeMap, layer: u8, digests: &[Hash32]) -> Result<(), A
     requires { length digests.now ≤ max_block_count }
     ensures { OnOk result ((dig : List ℕ → List ℕ) (n : ℕ) (row : ℕ → List ℕ) → length digests.now ≡ real_width n layer
         → ((i : ℕ) → i < length digests.now → row i ≡ slice_index_or digests.now i [])
-        → IsFilled dig n row layer layer 0 nodes.old → IsFilled dig n row layer layer (length digests.now) nodes.new) }
+        → IsFilled dig n row layer layer 0 (nodes_in nodes.old)
+        → IsFilled dig n row layer layer (length digests.now) (nodes_in nodes.new)) }
 {
+    let width = digests.len() as u32;
     for (index, digest) in digests.iter().enumerate() {
-        nodes.insert(layer as u32, index as u32, *digest)?;
+        nodes.insert(layer as u32, index as u32, width, *digest)?;
     }
     Ok(())
 }
@@ -98,13 +101,13 @@ fn add_parents<H: NodeHash>(
     requires high { below < max_height }
     requires narrow { width ≤ max_block_count }
     ensures { OnOk result ((n base : ℕ) (row : ℕ → List ℕ) → base ≤ below → width ≡ real_width n (below + 1)
-        → padding.now ≡ padding_digest H.digest below → IsFilled H.digest n row base (below + 1) 0 nodes.old
-        → IsFilled H.digest n row base (below + 1) width nodes.new) }
+        → padding.now ≡ padding_digest H.digest below → IsFilled H.digest n row base (below + 1) 0 (nodes_in nodes.old)
+        → IsFilled H.digest n row base (below + 1) width (nodes_in nodes.new)) }
 {
     for index in 0..width {
         let left = nodes.get(below as u32, 2 * index).unwrap_or(*padding);
         let right = nodes.get(below as u32, 2 * index + 1).unwrap_or(*padding);
-        nodes.insert(below as u32 + 1, index, hash.pair(&left, &right))?;
+        nodes.insert(below as u32 + 1, index, width, hash.pair(&left, &right))?;
     }
     Ok(())
 }

@@ -12,7 +12,9 @@ mod claim;
 mod expansion;
 mod laws;
 mod layer;
+mod layer_pages;
 mod node_map;
+mod page;
 mod sparse_tree;
 
 pub use answer::AnswerError;
