@@ -12,6 +12,7 @@ pub mod Answers
 pub mod Paths
 pub mod Single
 pub mod NodeMaps
+pub mod MapBodies
 pub mod Requests
 pub mod LayerNodes
 pub mod Taken

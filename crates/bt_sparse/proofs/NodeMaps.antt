@@ -16,6 +16,10 @@ node_total = then_total (on_total (λ p. p.0) nat_cmp_total) (on_total (λ p. p.
 node_exact : CmpEqualImpliesEq node_cmp
 node_exact = exact_pairs nat_cmp nat_cmp exact_unsigned exact_unsigned
 
+-- maps that answer alike are one
+pub same_map : {X : Type 0} (m n : finite.FinMap node_cmp X) → ((q : NodeIndex) → finite.get m q ≡ finite.get n q) → m ≡ n
+same_map m n same = finite.same_map node_total node_exact m n same
+
 alike : (r : Ordering) → is_eq r ≡ true → r ≡ Equal
 alike Less e = absurd cc
 alike Equal e = refl
@@ -122,9 +126,8 @@ map_here f (suc layer) width l j low lt = elim (cases_eq l layer) [
 pub node_at : (layers : Layers) (layer i : ℕ) → layer < number_limit → i < number_limit → digest_at (nodes_in layers) layer i ≡ slot_of layers layer i
 node_at layers layer i low lt = map_here (slot_of layers) number_limit number_limit layer i low lt
 
--- maps that answer alike are one
 same_nodes : (m n : Nodes) → ((l j : ℕ) → digest_at m l j ≡ digest_at n l j) → m ≡ n
-same_nodes m n same = finite.same_map node_total node_exact m n (λ q. same q.0 q.1)
+same_nodes m n same = same_map m n (λ q. same q.0 q.1)
 
 map_same : (f g : ℕ → ℕ → Option (List ℕ)) (layers width : ℕ) → ((l j : ℕ) → g l j ≡ f l j) → map_of g layers width ≡ map_of f layers width
 map_same f g layers width same = same_nodes (map_of g layers width) (map_of f layers width) (λ l j. elim (cases_lt l layers) [

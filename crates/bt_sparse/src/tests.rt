@@ -1,7 +1,9 @@
 //! Worked examples. Trees are called through functions without a contract, so that a test's proof carries no clause of
 //! theirs.
 
+mod bodies;
 mod files;
+mod map_body;
 mod planted;
 mod proofs;
 mod shapes;
