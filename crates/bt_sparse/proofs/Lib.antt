@@ -3,6 +3,7 @@ pub mod PageTables
 pub mod Halves
 pub mod Values
 pub mod Claims
+pub mod Parents
 pub mod Expansions
 pub mod Differences
 pub mod Growths

@@ -12,7 +12,7 @@ ghost use Rattle.bt_sparse.specs.ExpansionSteps.{IsPairOf};
 ghost use Rattle.bt_sparse.specs.AcceptanceSteps.{IsPairIn, IsPadded, HasNoDifference, IsDifference, higher_of, IsHighestOf, IsPut, AgreesAt, IsGrownBy, IsChecked, HasPlaces};
 
 use crate::claim::{Claim, ProofError};
-use crate::expansion::{ClaimedPair, Expansion, expand, has_shape};
+use crate::expansion::{ClaimedPair, Expansion, expand, has_shape, input};
 use crate::node_map::NodeMap;
 use crate::sparse_tree::SparseTree;
 use bt_tree::{Geometry, Hash32, NodeHash};
@@ -37,18 +37,6 @@ pub(crate) fn padding_digests<H: NodeHash>(hash: H, height: u8) -> [Hash32; 27]
         digests[layer + 1] = hash.pair(&below, &below);
     }
     digests
-}
-
-/// The 64 bytes of two digests.
-fn input(left: &Hash32, right: &Hash32) -> [u8; 64]
-    ensures value { result ≡ left.now ++ right.now }
-    ensures left { length left.now ≡ 32 }
-    ensures right { length right.now ≡ 32 }
-{
-    let mut bytes = [0; 64];
-    bytes[..32].copy_from_slice(&left[..]);
-    bytes[32..].copy_from_slice(&right[..]);
-    bytes
 }
 
 impl ClaimedPair {

@@ -85,12 +85,14 @@ fn agree(pages: &SparseTree<Plain>, map: &MapTree) -> bool {
     true
 }
 
-/// Whether two new trees answer alike to each of these claims, and then agree.
-fn run<'a>(alloc: Global, claims: impl Iterator<Item = &'a Claim>) -> Result<bool, Fail> {
+/// Whether two new trees answer alike to each of these claims, from the first or from the last, and then agree.
+fn run(alloc: Global, claims: &[Claim], from_last: bool) -> Result<bool, Fail> {
     let root = many_blocks_root();
     let mut pages = new_tree(alloc, Plain, LENGTH, &root)?;
     let mut map = new_map_tree(alloc, LENGTH, &root)?;
-    for claim in claims {
+    for i in 1..=claims.len() {
+        let at = if from_last { claims.len() - i } else { i - 1 };
+        let claim = claims.get(at).ok_or("no claim")?;
         if accept(&mut pages, claim) != map_accept(&mut map, claim) || !agree(&pages, &map) {
             return Ok(false);
         }
@@ -102,7 +104,7 @@ fn run<'a>(alloc: Global, claims: impl Iterator<Item = &'a Claim>) -> Result<boo
 fn pages_and_an_ordered_map_agree(rt: HostRuntime) -> Result<(), Fail> {
     let layers = layers(rt.alloc())?;
     let claims = claims(rt.alloc(), layers.as_slice())?;
-    assert!(rt; run(rt.alloc(), claims.as_slice().iter())?);
-    assert!(rt; run(rt.alloc(), claims.as_slice().iter().rev())?);
+    assert!(rt; run(rt.alloc(), claims.as_slice(), false)?);
+    assert!(rt; run(rt.alloc(), claims.as_slice(), true)?);
     Ok(())
 }
