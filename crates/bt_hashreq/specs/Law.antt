@@ -31,8 +31,8 @@ pub record IsAnswerTo (dig : List ℕ → List ℕ) (k : Facts) (key : HashKey) 
   pub size : HasSize key bytes
   pub answer : IsAnswer dig k key.base key.index key.length key.layers (digests_in bytes)
 
--- A tree `full` knows all that a key asks for. Its answer is a claim by that key; tree k can accept it where k holds no
--- node of the claim with another digest; and then the leaf is held.
+-- A tree `full` knows all that a key asks for. Its answer is a claim by that key; tree k can accept it where
+-- k holds no node of the claim with another digest; and then the leaf is held.
 pub record TeachesLeaf (dig : List ℕ → List ℕ) (k full : Facts) (leaf : ℕ) (key : HashKey) : Type 0 where
   pub known : KnowsAll dig full key.base key.index key.length key.layers
   pub claims : (bytes : List ℕ) → IsAnswerTo dig full key bytes → IsClaimBy key bytes (claim_by key bytes)
@@ -41,8 +41,8 @@ pub record TeachesLeaf (dig : List ℕ → List ℕ) (k full : Facts) (leaf : �
   pub learned : (bytes : List ℕ) (new : Facts) → IsAnswerTo dig full key bytes
       → IsJoined dig k (claim_by key bytes) new → IsSome (held_at new 0 leaf)
 
--- every rooted tree of the same file length that holds all leaves answers the key that asks for a leaf, and its answer
--- gives the leaf
+-- every rooted tree of the same file length that holds all leaves answers the key that asks for a leaf, and
+-- its answer gives the leaf
 abbrev pub PlansTeach : (List ℕ → List ℕ) → Type 0
 PlansTeach dig = (k full : Facts) (leaf : ℕ) (key : HashKey) → IsFileLength k.file_length → leaf < blocks_of k
     → held_at k 0 leaf ≡ None → IsPlan k leaf key → IsRooted dig full → full.file_length ≡ k.file_length

@@ -1,5 +1,5 @@
-//! The hash messages of BitTorrent v2 (BEP 52): the key that names a run of a tree's digests and the uncles above it,
-//! what is claimed by the digests that come with a key, and which key to ask for next.
+//! The hash messages of BitTorrent v2 (BEP 52): the key that names a run of a tree's digests and the uncles
+//! above it, what is claimed by the digests that come with a key, and which key to ask for next.
 #![tactic(auto)]
 
 mod claim;

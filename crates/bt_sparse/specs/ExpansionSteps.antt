@@ -19,7 +19,8 @@ run_pair dig c above i = record {
 -- so many of them, from the left
 unfoldable pub level_pairs : (List ℕ → List ℕ) → Claim → ℕ → ℕ → ℕ → List ClaimedPair
 level_pairs dig c above first zero = []
-level_pairs dig c above first (suc n) = level_pairs dig c above first n ++ run_pair dig c above (first + n) ∷ []
+level_pairs dig c above first (suc n) =
+    level_pairs dig c above first n ++ run_pair dig c above (first + n) ∷ []
 
 -- in the layers from the run's own up, all that lie below the run's top
 unfoldable pub run_pairs : (List ℕ → List ℕ) → Claim → ℕ → List ClaimedPair

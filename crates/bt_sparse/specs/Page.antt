@@ -18,7 +18,8 @@ is_present words i = bit_at (slice_index words (i / 64)) (i % 64) == 1
 -- a digest is there where the bit is set
 unfoldable pub slots_of : List (List ℕ) → List ℕ → Slots
 slots_of digests words =
-    map (λ i. if is_present words i then Some (slice_index_or digests i []) else None) (range_with_len 0 (length digests))
+    map (λ i. if is_present words i then Some (slice_index_or digests i []) else None)
+    (range_with_len 0 (length digests))
 
 -- each place has a bit, and none is set past the last place
 pub record HasBits (digests : List (List ℕ)) (words : List ℕ) : Type 0 where

@@ -69,8 +69,8 @@ fn higher(found: Option<Difference>, next: Option<Difference>) -> Option<Differe
 impl<H: NodeHash> SparseTree<H> {
     /// Takes a claim, and answers how many nodes are newly held. A refusal leaves the tree as it was.
     ///
-    /// The refusals are P1, P3, P4, P5 and P6 of `ProofError`, in this order, and P7, which may come in place of any but
-    /// P1.
+    /// The refusals are P1, P3, P4, P5 and P6 of `ProofError`, in this order, and P7, which may come in place
+    /// of any but P1.
     pub fn accept(&mut self, claim: &Claim) -> Result<u32, ProofError>
         ensures ok { IfOk result (λ _. Accepts H.digest self.old claim.now self.new) }
         ensures count { IfOk result (λ count. finite.len self.new.nodes ≡ finite.len self.old.nodes + count) }
@@ -142,7 +142,8 @@ impl<H: NodeHash> SparseTree<H> {
         requires padded { IsPadded H.digest (blocks_of self.now) pair.now }
         requires rooted { IsRooted H.digest self.now }
         ensures pair { IfSome result (λ difference. difference.pair ≡ pair.now) }
-        ensures differs { MatchOption result (HasNoDifference H.digest self.now pair.now) (IsDifference H.digest self.now) }
+        ensures differs { MatchOption result (HasNoDifference H.digest self.now pair.now)
+            (IsDifference H.digest self.now) }
     {
         // In a rooted tree a held node's sibling is held too, or is padding; and the padding was compared.
         let left = self.held(pair.layer, 2 * pair.index)?;
@@ -194,8 +195,8 @@ fn make_pages(
     Ok(())
 }
 
-/// Puts the digests of these pairs' nodes that cover a block, and answers how many of these nodes are new. Their pages are
-/// made.
+/// Puts the digests of these pairs' nodes that cover a block, and answers how many of these nodes are new.
+/// Their pages are made.
 fn put_pairs<H: NodeHash>(
     _hash: H,
     geometry: Geometry,
@@ -206,7 +207,8 @@ fn put_pairs<H: NodeHash>(
     requires narrow { length pairs.now < 2 ^ 28 }
     requires ready { All (HasPlaces (block_count geometry) nodes.old) pairs.now }
     ensures { (c : Claim) → All (IsPairOf H.digest c) pairs.now → AgreesAt H.digest (nodes_in nodes.old) c
-        → IsGrownBy H.digest c (block_count geometry) (nodes_in nodes.old) (nodes_in nodes.new) result pairs.now }
+        → IsGrownBy H.digest c (block_count geometry) (nodes_in nodes.old) (nodes_in nodes.new) result
+        pairs.now }
 {
     let mut count = 0;
     for pair in pairs {
@@ -221,7 +223,8 @@ fn put(geometry: Geometry, nodes: &mut NodeMap, layer: u32, index: u32, digest: 
     requires inside { layer ≤ height_of (block_count geometry) }
     requires high { layer ≤ max_height }
     requires ready { index < real_width (block_count geometry) layer → HasPlace nodes.old layer index }
-    ensures put { IsPut (block_count geometry) layer index digest.now (nodes_in nodes.old) (nodes_in nodes.new) result }
+    ensures put { IsPut (block_count geometry) layer index digest.now (nodes_in nodes.old)
+        (nodes_in nodes.new) result }
     ensures longer { KeepsPlaces nodes.old nodes.new }
 {
     if index >= geometry.real(layer as u8) {

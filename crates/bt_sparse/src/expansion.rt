@@ -83,8 +83,8 @@ pub(crate) fn expand<H: NodeHash>(
     })
 }
 
-/// Adds the pairs below the run's top, which lies so many layers above the run, layer by layer. The answer is the top's
-/// digest.
+/// Adds the pairs below the run's top, which lies so many layers above the run, layer by layer. The answer is
+/// the top's digest.
 fn add_run<H: NodeHash>(
     hash: H,
     alloc: Global,
@@ -94,7 +94,8 @@ fn add_run<H: NodeHash>(
 ) -> Result<Hash32, AllocError>
     requires shape { IsShort claim.now }
     requires layers { layers ≡ run_height claim.now }
-    ensures digest { IfOk result (λ digest. digest ≡ row_node H.digest (run_digest claim.now) layers (run_node claim.now)) }
+    ensures digest { IfOk result (λ digest.
+        digest ≡ row_node H.digest (run_digest claim.now) layers (run_node claim.now)) }
     ensures pairs { OnOk result (pairs.new.items ≡ pairs.old.items ++ run_pairs H.digest claim.now layers) }
 {
     let run = claim.run.as_slice();
@@ -186,7 +187,8 @@ pub(crate) fn input(left: &Hash32, right: &Hash32) -> [u8; 64]
     bytes
 }
 
-/// Adds the pairs on the path from the run's top up, whose digest this is. The answer is the digest of the path's end.
+/// Adds the pairs on the path from the run's top up, whose digest this is. The answer is the digest of the
+/// path's end.
 fn add_path<H: NodeHash>(
     hash: H,
     pairs: &mut Vec<ClaimedPair>,
@@ -198,7 +200,8 @@ fn add_path<H: NodeHash>(
     requires digest { digest ≡ path_digest H.digest claim.now 0 }
     requires high { claim.now.base + layers + length claim.now.uncles ≤ max_height }
     ensures digest { IfOk result (λ top. top ≡ path_digest H.digest claim.now (length claim.now.uncles)) }
-    ensures pairs { OnOk result (pairs.new.items ≡ pairs.old.items ++ path_pairs H.digest claim.now (length claim.now.uncles)) }
+    ensures pairs { OnOk result (pairs.new.items ≡ pairs.old.items
+        ++ path_pairs H.digest claim.now (length claim.now.uncles)) }
 {
     let mut own = digest;
     let mut node = claim.index >> layers;

@@ -14,8 +14,8 @@ use bt_tree::{Geometry, Hash32, LayerError, NodeHash, check_layer, pad};
 use std::alloc::{AllocError, Global};
 
 impl<H: NodeHash> SparseTree<H> {
-    /// The tree of a file of which a layer is known, and so all above it: `bytes` are the digests of the layer's nodes that
-    /// cover a block, 32 bytes each, as a torrent's `piece layers` have them (BEP 52).
+    /// The tree of a file of which a layer is known, and so all above it: `bytes` are the digests of the
+    /// layer's nodes that cover a block, 32 bytes each, as a torrent's `piece layers` have them (BEP 52).
     pub fn with_layer(
         alloc: Global,
         hash: H,
@@ -25,8 +25,10 @@ impl<H: NodeHash> SparseTree<H> {
         bytes: &[u8],
     ) -> Result<SparseTree<H>, LayerError>
         ensures ok { IfOk result (HoldsLayer H.digest geometry root layer bytes.now) }
-        ensures size { (result ≡ Err LayerError.Size) ↔ (¬ HasLayerSize (block_count geometry) layer bytes.now) }
-        ensures differs { (result ≡ Err LayerError.Differs) ↔ (HasLayerSize (block_count geometry) layer bytes.now
+        ensures size { (result ≡ Err LayerError.Size)
+            ↔ (¬ HasLayerSize (block_count geometry) layer bytes.now) }
+        ensures differs { (result ≡ Err LayerError.Differs)
+            ↔ (HasLayerSize (block_count geometry) layer bytes.now
             × (¬ IsLayer H.digest (block_count geometry) root layer bytes.now)) }
     {
         // A geometry's length is lawful: its clause says so.
@@ -78,7 +80,8 @@ fn nodes_from<H: NodeHash>(
 /// Puts the first nodes of a layer.
 fn add_layer(nodes: &mut NodeMap, layer: u8, digests: &[Hash32]) -> Result<(), AllocError>
     requires { length digests.now ≤ max_block_count }
-    ensures { OnOk result ((dig : List ℕ → List ℕ) (n : ℕ) (row : ℕ → List ℕ) → length digests.now ≡ real_width n layer
+    ensures { OnOk result ((dig : List ℕ → List ℕ) (n : ℕ) (row : ℕ → List ℕ)
+        → length digests.now ≡ real_width n layer
         → ((i : ℕ) → i < length digests.now → row i ≡ slice_index_or digests.now i [])
         → IsFilled dig n row layer layer 0 (nodes_in nodes.old)
         → IsFilled dig n row layer layer (length digests.now) (nodes_in nodes.new)) }
@@ -101,7 +104,8 @@ fn add_parents<H: NodeHash>(
     requires high { below < max_height }
     requires narrow { width ≤ max_block_count }
     ensures { OnOk result ((n base : ℕ) (row : ℕ → List ℕ) → base ≤ below → width ≡ real_width n (below + 1)
-        → padding.now ≡ padding_digest H.digest below → IsFilled H.digest n row base (below + 1) 0 (nodes_in nodes.old)
+        → padding.now ≡ padding_digest H.digest below
+        → IsFilled H.digest n row base (below + 1) 0 (nodes_in nodes.old)
         → IsFilled H.digest n row base (below + 1) width (nodes_in nodes.new)) }
 {
     for index in 0..width {

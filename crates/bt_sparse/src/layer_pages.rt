@@ -10,8 +10,8 @@ use std::marker::Model;
 /// How many places a page has at most.
 const PAGE_LEN: u32 = 512;
 
-/// The digests of a layer, in pages. A page is made when the first digest of its nodes comes, and so is the table of pages as
-/// far as it is needed.
+/// The digests of a layer, in pages. A page is made when the first digest of its nodes comes, and so is the
+/// table of pages as far as it is needed.
 #[derive(Drop)]
 pub(crate) struct LayerPages {
     pages: Vec<Page>,

@@ -49,7 +49,8 @@ impl NodeMap {
         requires { index < width }
         ensures nodes { nodes_in self.new ≡ nodes_in self.old }
         ensures longer { KeepsPlaces self.old self.new }
-        ensures ready { OnOk result ((i : ℕ) → i / page_length ≡ index / page_length → i < width → HasPlace self.new layer i) }
+        ensures ready { OnOk result ((i : ℕ) → i / page_length ≡ index / page_length → i < width
+            → HasPlace self.new layer i) }
     {
         self.lengthen(layer as usize + 1)?;
         self.layers[layer as usize].reach(self.alloc, index, width)

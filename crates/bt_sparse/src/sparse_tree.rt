@@ -76,8 +76,8 @@ impl<H: NodeHash> SparseTree<H> {
         self.nodes.get(layer, index)
     }
 
-    /// What is known of a node: the digest of the padding where the node covers no block, else the digest that is held;
-    /// None where the node is not held, and outside the tree.
+    /// What is known of a node: the digest of the padding where the node covers no block, else the digest
+    /// that is held; None where the node is not held, and outside the tree.
     pub fn known(&self, layer: u32, index: u32) -> Option<Hash32>
         ensures { result ≡ value_at H.digest self.now layer index }
     {

@@ -1,5 +1,5 @@
-//! Worked examples. Trees are called through functions without a contract, so that a test's proof carries no clause of
-//! theirs.
+//! Worked examples. Trees are called through functions without a contract, so that a test's proof carries no
+//! clause of theirs.
 
 mod bodies;
 mod files;

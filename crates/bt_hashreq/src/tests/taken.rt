@@ -25,8 +25,8 @@ fn bytes_of(alloc: Global, digests: &[Hash32]) -> Result<Vec<u8>, AllocError> {
     Ok(bytes)
 }
 
-/// The leaves of a file of so many blocks, the last of one byte, and padding up to a power of two. Each byte is its block's
-/// index, plus one.
+/// The leaves of a file of so many blocks, the last of one byte, and padding up to a power of two. Each byte
+/// is its block's index, plus one.
 fn leaves(alloc: Global, blocks: u8, width: usize) -> Result<Vec<Hash32>, AllocError> {
     let mut leaves = Vec::new(alloc);
     for i in 1..=blocks {

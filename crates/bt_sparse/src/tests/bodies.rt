@@ -48,8 +48,8 @@ fn planted(
     claim(alloc, base, first, run.as_slice(), uncles.as_slice())
 }
 
-/// Claims that fit together, and some that are refused in one order or both: without an anchor, past the tree, and the last
-/// with a leaf that is no padding.
+/// Claims that fit together, and some that are refused in one order or both: without an anchor, past the
+/// tree, and the last with a leaf that is no padding.
 fn claims(alloc: Global, layers: &[Vec<Hash32>]) -> Result<Vec<Claim>, AllocError> {
     let mut claims = Vec::new(alloc);
     for place in [
@@ -85,7 +85,8 @@ fn agree(pages: &SparseTree<Plain>, map: &MapTree) -> bool {
     true
 }
 
-/// Whether two new trees answer alike to each of these claims, from the first or from the last, and then agree.
+/// Whether two new trees answer alike to each of these claims, from the first or from the last, and then
+/// agree.
 fn run(alloc: Global, claims: &[Claim], from_last: bool) -> Result<bool, Fail> {
     let root = many_blocks_root();
     let mut pages = new_tree(alloc, Plain, LENGTH, &root)?;
