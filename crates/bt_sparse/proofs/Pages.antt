@@ -90,13 +90,6 @@ pub words_longer : (ds es : List (List ℕ)) (ws vs : List ℕ) (n : ℕ) → Ha
 words_longer ds es ws vs n h enough e same =
     longer_slots ds es ws vs h (keeps_bits ds ws vs n h enough e) (omega (arith, ap length same)) (λ i lt. ap (λ xs. get_or xs i []) same)
 
-pub words_bits : (ds es : List (List ℕ)) (ws vs : List ℕ) (n : ℕ) → HasBits ds ws → length ds ≤ 64 * n → vs ≡ take n ws ++ replicate (n - length ws) 0
-    → es ≡ ds → HasBits es vs
-words_bits ds es ws vs n h enough e same = record {
-  room = omega (arith, ap length same, ap length e, length-resized ws n 0);
-  clear = λ i le. keeps_bits ds ws vs n h enough e i ∙ h.clear i (omega (arith, ap length same));
-}
-
 -- the places have grown too
 module _ (ds es : List (List ℕ)) (ws vs : List ℕ) (n m : ℕ) (zeros : List ℕ) (h : HasBits ds ws) (wider : length ds ≤ m) (enough : m ≤ 64 * n)
     (words : vs ≡ take n ws ++ replicate (n - length ws) 0) (digests : es ≡ take m ds ++ replicate (m - length ds) zeros) where

@@ -134,7 +134,11 @@ fn add_level(
 }
 
 /// The digests of pairs of digests, eight at a time where eight remain.
-fn parents<H: NodeHash>(hash: H, alloc: Global, nodes: &[Hash32]) -> Result<Vec<Hash32>, AllocError>
+pub(crate) fn parents<H: NodeHash>(
+    hash: H,
+    alloc: Global,
+    nodes: &[Hash32],
+) -> Result<Vec<Hash32>, AllocError>
     ensures { IfOk result (λ above. AreParents H.digest nodes.now above.items (length nodes.now / 2)) }
 {
     let count = nodes.len() / 2;

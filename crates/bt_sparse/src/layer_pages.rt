@@ -8,7 +8,7 @@ use std::alloc::{AllocError, Global};
 use std::marker::Model;
 
 /// How many places a page has at most.
-const PAGE_LEN: u32 = 512;
+pub(crate) const PAGE_LEN: u32 = 512;
 
 /// The digests of a layer, in pages. A page is made when the first digest of its nodes comes, and so is the
 /// table of pages as far as it is needed.
