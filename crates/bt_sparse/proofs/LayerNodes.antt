@@ -17,7 +17,8 @@ use Rattle.bt_tree.proofs.TreeShape.{real_limit, real_some}
 use Rattle.bt_sparse.specs.NodeMap.{Nodes, digest_at}
 use Rattle.bt_sparse.specs.SparseTree.{Facts, height, held_at, value_at, IsSound}
 use Rattle.bt_sparse.specs.Layer.{layer_digest, HoldsLayer}
-use Rattle.bt_sparse.specs.LayerSteps.{IsFilled, IsWhole}
+use Rattle.bt_sparse.specs.ExpansionSteps.{AreParents}
+use Rattle.bt_sparse.specs.LayerSteps.{AreKnown, IsFilled, IsWhole}
 use Rattle.bt_sparse.proofs.NodeMaps.{digest_at_new, digest_at_cases, digest_at_kept, digest_at_empty}
 use Rattle.bt_sparse.proofs.Values.{same_value, none_some, value_covers, value_padding, cases_node, covers_parent}
 use Rattle.bt_sparse.proofs.Acceptances.{real_below}
@@ -124,23 +125,26 @@ child dig n base below width row nodes pad j h low e = go (digest_at nodes below
         let o = h.only below j d held in
         ap (λ o. unwrap_or o pad) held ∙ same_value (digest_at nodes below j) d (row_node dig row (below - base) j) held (h.holds below j low (inl (omega arith)) o.2)
 
-pub parent_more : (dig : List ℕ → List ℕ) (n base below width : ℕ) (row : ℕ → List ℕ) (nodes new : Nodes) (pad left right d : List ℕ)
-    → IsFilled dig n row base (below + 1) width nodes → base ≤ below → pad ≡ padding_digest dig below → width < real_width n (below + 1)
-    → left ≡ unwrap_or (digest_at nodes below (2 * width)) pad → right ≡ unwrap_or (digest_at nodes below (2 * width + 1)) pad
-    → d ≡ dig (left ++ right) → length d ≡ 32 → new ≡ finite.insert nodes (below + 1, width) d → IsFilled dig n row base (below + 1) (width + 1) new
-parent_more dig n base below width row nodes new pad left right d h low p real l r is size e =
+-- the digests above known nodes
+pub parents_known : (dig : List ℕ → List ℕ) (n base below first count : ℕ) (row : ℕ → List ℕ) (nodes : Nodes) (pad : List ℕ) (children digests : List (List ℕ))
+    → IsFilled dig n row base (below + 1) first nodes → base ≤ below → pad ≡ padding_digest dig below
+    → AreKnown nodes below (2 * first) pad children (2 * count) → AreParents dig children digests (length children / 2)
+    → (i : ℕ) → i < length digests → get_or digests i [] ≡ row_node dig row (below + 1 - base) (first + i)
+parents_known dig n base below first count row nodes pad children digests h low p known parents i lt =
     let next : suc (below - base) ≡ below + 1 - base = omega arith in
-    filled_more dig n base (below + 1) width row nodes new d h real
-    (is ∙ ap (λ x. dig (x ++ right)) (l ∙ child dig n base below width row nodes pad (2 * width) h low p)
-    ∙ ap (λ x. dig (row_node dig row (below - base) (2 * width) ++ x)) (r ∙ child dig n base below width row nodes pad (2 * width + 1) h low p)
-    ∙ row_parent dig row (below - base) width (2 * width) (2 * width + 1) refl refl ∙ ap (λ k. row_node dig row k width) next)
-    size e
+    let inside : i < length children / 2 = omega (arith, parents.size) in
+    let left : 2 * first + 2 * i ≡ 2 * (first + i) = omega arith in
+    let right : 2 * first + (2 * i + 1) ≡ 2 * (first + i) + 1 = omega arith in
+    let l = known.digests (2 * i) (omega (arith, known.size)) ∙ child dig n base below first row nodes pad (2 * first + 2 * i) h low p ∙ ap (row_node dig row (below - base)) left in
+    let r = known.digests (2 * i + 1) (omega (arith, known.size)) ∙ child dig n base below first row nodes pad (2 * first + (2 * i + 1)) h low p ∙ ap (row_node dig row (below - base)) right in
+    parents.digests i inside ∙ ap (λ x. dig (x ++ get_or children (2 * i + 1) [])) l ∙ ap (λ x. dig (row_node dig row (below - base) (2 * (first + i)) ++ x)) r
+    ∙ row_parent dig row (below - base) (first + i) (2 * (first + i)) (2 * (first + i) + 1) refl refl ∙ ap (λ k. row_node dig row k (first + i)) next
 
-pub filled_row : (dig : List ℕ → List ℕ) (n base width : ℕ) (row : ℕ → List ℕ) (nodes new : Nodes) (d : List ℕ) → IsFilled dig n row base base width nodes
-    → width < real_width n base → d ≡ row width → length d ≡ 32 → new ≡ finite.insert nodes (base, width) d → IsFilled dig n row base base (width + 1) new
-filled_row dig n base width row nodes new d h real is size e =
+pub row_start : (dig : List ℕ → List ℕ) (row : ℕ → List ℕ) (base i : ℕ) (d : List ℕ) → row i ≡ d → d ≡ row_node dig row (base - base) (0 + i)
+row_start dig row base i d e =
     let none : 0 ≡ base - base = omega arith in
-    filled_more dig n base base width row nodes new d h real (is ∙ sym (row_first dig row width) ∙ ap (λ k. row_node dig row k width) none) size e
+    let same : i ≡ 0 + i = omega arith in
+    sym e ∙ sym (row_first dig row i) ∙ ap (λ k. row_node dig row k i) none ∙ ap (row_node dig row (base - base)) same
 
 -- ---- the tree
 module _ (dig : List ℕ → List ℕ) (bytes : ℕ) (row : ℕ → List ℕ) (base : ℕ) (root : List ℕ) (nodes : Nodes) (h : IsWhole dig (block_count bytes) row base nodes) where
