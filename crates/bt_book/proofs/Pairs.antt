@@ -12,7 +12,7 @@ use Rattle.bt_book.specs.Blocks.{Blocks, of_file, IsInRange, member, is_block, w
 use Rattle.bt_book.specs.Book.{PeerRequests, is_of, pairs_in, without_block, without_block_of}
 use Rattle.bt_book.specs.BookSteps.{one_if, IsKept, AreAdded, CanAdd}
 use Rattle.bt_book.proofs.BlockSets.{member_with, shape_with, member_in_range}
-use Rattle.bt_book.proofs.Once.{count_cons, counted, filter_none, filter_one}
+use Rattle.bt_book.proofs.Once.{count_cons, count_no, counted, filter_none, filter_one}
 
 -- ---- one block among others
 pub same_block : (b c : BlockId) → is_block b c ≡ true → c ≡ b
@@ -46,20 +46,15 @@ count_without c b [] = elim (cases_Bool (is_block c b)) [
   | inr e ↦ rw e refl
 ]
 count_without c b (x ∷ xs) = elim (cases_Bool (is_block c x)) [
-  | inl gone ↦
-      ap (λ t. count_by (is_block b) (cond (not t) (x ∷ without_block c xs) (without_block c xs))) gone ∙ count_without c b xs ∙ elim
+  | inl gone ↦ rw gone (count_without c b xs ∙ elim (cases_Bool (is_block c b)) [
+    | inl same ↦ rw same refl
+    | inr other ↦ rw other (sym (count_no (is_block b) x xs (is_block_turned b x ∙ sym (is_block_alike c x b gone) ∙ other)))
+  ])
+  | inr kept ↦ rw kept (count_cons (is_block b) x (without_block c xs) ∙ ap (λ n. cond (is_block b x) 1 0 + n) (count_without c b xs) ∙ elim
       (cases_Bool (is_block c b)) [
-        | inl same ↦ rw same refl
-        | inr other ↦
-            let apart : is_block b x ≡ false = is_block_turned b x ∙ sym (is_block_alike c x b gone) ∙ other in
-            rw other (sym (count_cons (is_block b) x xs ∙ ap (λ t. cond {A = ℕ} t 1 0 + count_by (is_block b) xs) apart ∙ omega arith))
-      ]
-  | inr kept ↦
-      ap (λ t. count_by (is_block b) (cond (not t) (x ∷ without_block c xs) (without_block c xs))) kept ∙ count_cons (is_block b) x (without_block c xs)
-      ∙ ap (λ n. cond (is_block b x) 1 0 + n) (count_without c b xs) ∙ elim (cases_Bool (is_block c b)) [
         | inl same ↦ rw same (ap (λ t. cond {A = ℕ} t 1 0 + 0) (sym (is_block_alike c b x same) ∙ kept))
         | inr other ↦ rw other (sym (count_cons (is_block b) x xs))
-      ]
+      ])
 ]
 
 pub pairs_without : (c b : BlockId) (peers : List PeerRequests) → pairs_in (map (without_block_of c) peers) b ≡ cond (is_block c b) 0 (pairs_in peers b)
@@ -81,6 +76,18 @@ pairs_without c b (r ∷ rs) =
 pub one_if_le : (b : Bool) → one_if b ≤ 1
 one_if_le true = omega arith
 one_if_le false = omega arith
+
+one_if_cond : (t a b : Bool) → one_if (cond t a b) ≡ cond t (one_if a) (one_if b)
+one_if_cond true a b = refl
+one_if_cond false a b = refl
+
+-- a block and the others, after one block was written
+ones_with : (s : Blocks) (b c : BlockId) (v : Bool) → IsInRange s b → one_if (member (with_block s b v) c) ≡ cond (is_block b c) (one_if v)
+    (one_if (member s c))
+ones_with s b c v inside = ap one_if (member_with s b c v inside) ∙ one_if_cond (is_block b c) v (member s c)
+
+ones_same : (s : Blocks) (b c : BlockId) (v : Bool) → member s b ≡ v → is_block b c ≡ true → one_if (member s c) ≡ one_if v
+ones_same s b c v is same = ap (λ x. one_if (member s x)) (same_block b c same) ∙ ap one_if is
 
 pub kept_none : (wanted : Blocks) → ((b : BlockId) → member wanted b ≡ false) → IsKept wanted wanted []
 kept_none wanted none = record {
@@ -164,21 +171,13 @@ kept_want wanted unasked peers b kept inside also_inside off = record {
   few = kept.few;
   once = kept.once;
   short = kept.short;
-  counts = λ c. elim (cases_Bool (is_block b c)) [
-    | inl same ↦
-        let w : one_if (member (with_block wanted b true) c) ≡ 1 = ap one_if (member_with wanted b c true inside ∙ ap
-        (λ t. cond t true (member wanted c)) same) in
-        let u : one_if (member (with_block unasked b true) c) ≡ 1 = ap one_if (member_with unasked b c true also_inside ∙ ap
-        (λ t. cond t true (member unasked c)) same) in
-        let none : one_if (member wanted c) ≡ 0 = ap (λ x. one_if (member wanted x)) (same_block b c same) ∙ ap one_if off in
-        omega (arith, w, u, none, kept.counts c)
-    | inr other ↦
-        let w : one_if (member (with_block wanted b true) c) ≡ one_if (member wanted c) = ap one_if
-        (member_with wanted b c true inside ∙ ap (λ t. cond t true (member wanted c)) other) in
-        let u : one_if (member (with_block unasked b true) c) ≡ one_if (member unasked c) = ap one_if
-        (member_with unasked b c true also_inside ∙ ap (λ t. cond t true (member unasked c)) other) in
-        omega (arith, w, u, kept.counts c)
-  ];
+  counts = λ c. grind (
+    arith,
+    ones_with wanted b c true inside,
+    ones_with unasked b c true also_inside,
+    ones_same wanted b c false off,
+    kept.counts c,
+  );
 }
 
 count_same_peers : (key : PeerKey) (b : BlockId) (peers : List PeerRequests) → count_by (is_of key) (map (without_block_of b) peers) ≡ count_by
@@ -201,21 +200,9 @@ kept_done wanted unasked new peers b kept inside shape members = record {
   once = λ key. omega (arith, count_same_peers key b peers, kept.once key);
   short = All-map (λ q. length q.blocks ≤ 16) (without_block_of b) peers (All-weaker (λ q. length q.blocks ≤ 16)
       (λ q. length (without_block b q.blocks) ≤ 16) (λ q h. omega (arith, length_without b q.blocks)) peers kept.short);
-  counts = λ c. elim (cases_Bool (is_block b c)) [
-    | inl same ↦
-        let w : one_if (member (with_block wanted b false) c) ≡ 0 = ap one_if (member_with wanted b c false inside ∙ ap
-        (λ t. cond t false (member wanted c)) same) in
-        let u : one_if (member new c) ≡ 0 = ap one_if (members c ∙ ap (λ t. cond t false (member unasked c)) same) in
-        let p : pairs_in (map (without_block_of b) peers) c ≡ 0 = pairs_without b c peers ∙ ap (λ t. cond {A = ℕ} t 0 (pairs_in peers c)) same in
-        omega (arith, w, u, p)
-    | inr other ↦
-        let w : one_if (member (with_block wanted b false) c) ≡ one_if (member wanted c) = ap one_if
-        (member_with wanted b c false inside ∙ ap (λ t. cond t false (member wanted c)) other) in
-        let u : one_if (member new c) ≡ one_if (member unasked c) = ap one_if (members c ∙ ap (λ t. cond t false (member unasked c)) other) in
-        let p : pairs_in (map (without_block_of b) peers) c ≡ pairs_in peers c = pairs_without b c peers ∙ ap
-        (λ t. cond {A = ℕ} t 0 (pairs_in peers c)) other in
-        omega (arith, w, u, p, kept.counts c)
-  ];
+  counts = λ c.
+      let off = ap one_if (members c) ∙ one_if_cond (is_block b c) false (member unasked c) in
+      grind (arith, ones_with wanted b c false inside, off, pairs_without b c peers, kept.counts c);
 }
 
 -- a block in no pair is in no peer's list
@@ -284,19 +271,7 @@ kept_ask wanted unasked peers i e b kept inside read room is =
     (λ c.
     let pushed : count_by (is_block c) (e.blocks ++ b ∷ []) ≡ count_by (is_block c) e.blocks + cond {A = ℕ} (is_block c b) 1 0 = sum_by_push
     (λ x. cond (is_block c x) 1 0) e.blocks b in
-    elim (cases_Bool (is_block b c)) [
-      | inl same ↦
-          let now : one_if (member (with_block unasked b false) c) ≡ 0 = ap one_if (member_with unasked b c false in_range ∙ ap
-          (λ t. cond t false (member unasked c)) same) in
-          let was : one_if (member unasked c) ≡ 1 = ap (λ x. one_if (member unasked x)) (same_block b c same) ∙ ap one_if is in
-          let one : cond {A = ℕ} (is_block c b) 1 0 ≡ 1 = ap (λ t. cond {A = ℕ} t 1 0) (is_block_turned c b ∙ same) in
-          omega (arith, now, was, one, pushed)
-      | inr other ↦
-          let now : one_if (member (with_block unasked b false) c) ≡ one_if (member unasked c) = ap one_if
-          (member_with unasked b c false in_range ∙ ap (λ t. cond t false (member unasked c)) other) in
-          let none : cond {A = ℕ} (is_block c b) 1 0 ≡ 0 = ap (λ t. cond {A = ℕ} t 1 0) (is_block_turned c b ∙ other) in
-          omega (arith, now, none, pushed)
-    ])
+    grind (arith, pushed, ones_with unasked b c false in_range, ones_same unasked b c true is, is_block_turned c b))
 
 pub asked_in_range : (wanted unasked : Blocks) (peers : List PeerRequests) (i : ℕ) (e : PeerRequests) (b : BlockId) → IsKept wanted unasked peers
     → i < length peers → e ≡ get_or peers i e
@@ -313,21 +288,19 @@ kept_came wanted unasked peers i e b kept inside read some =
     let size : length e.blocks ≤ 16 = ap_short read in
     kept_set wanted unasked (with_block unasked b true) peers i e (record e { blocks = without_block b e.blocks }) kept inside read refl
     (omega (arith, length_without b e.blocks)) (λ file. shape_with unasked b true file in_range)
-    (λ c. elim (cases_Bool (is_block b c)) [
-      | inl same ↦
-          let now : one_if (member (with_block unasked b true) c) ≡ 1 = ap one_if (member_with unasked b c true in_range ∙ ap
-          (λ t. cond t true (member unasked c)) same) in
-          let gone : count_by (is_block c) (without_block b e.blocks) ≡ 0 = count_without b c e.blocks ∙ ap
-          (λ t. cond {A = ℕ} t 0 (count_by (is_block c) e.blocks)) same in
-          let alike : count_by (is_block c) e.blocks ≡ count_by (is_block b) e.blocks = ap (λ x. count_by (is_block x) e.blocks) (same_block b c same) in
-          omega (arith, now, gone, alike, some, count_le_pairs c peers i e inside read, kept.counts c, one_if_le (member wanted c))
-      | inr other ↦
-          let now : one_if (member (with_block unasked b true) c) ≡ one_if (member unasked c) = ap one_if
-          (member_with unasked b c true in_range ∙ ap (λ t. cond t true (member unasked c)) other) in
-          let kept' : count_by (is_block c) (without_block b e.blocks) ≡ count_by (is_block c) e.blocks = count_without b c e.blocks ∙ ap
-          (λ t. cond {A = ℕ} t 0 (count_by (is_block c) e.blocks)) other in
-          omega (arith, now, kept')
-    ])
+    (λ c.
+    let alike : is_block b c ≡ true → count_by (is_block c) e.blocks ≡ count_by (is_block b) e.blocks = λ same. ap (λ x. count_by (is_block x) e.blocks)
+    (same_block b c same) in
+    grind (
+      arith,
+      ones_with unasked b c true in_range,
+      count_without b c e.blocks,
+      alike,
+      some,
+      count_le_pairs c peers i e inside read,
+      kept.counts c,
+      one_if_le (member wanted c),
+    ))
   where
     ap_short : e ≡ get_or peers i e → length e.blocks ≤ 16
     ap_short h = let s = All-get_or (λ q. length q.blocks ≤ 16) peers i e inside kept.short in let l : length e.blocks ≡ length
