@@ -232,8 +232,8 @@ pub kept_done_asked : (wanted unasked : Blocks) (peers ys : List PeerRequests) (
 kept_done_asked wanted unasked peers ys b kept inside isnt is =
     subst (λ (l : List PeerRequests). IsKept (with_block wanted b false) unasked l) (sym is)
     (kept_done wanted unasked unasked peers b kept inside (λ file. refl) (λ c. elim (cases_Bool (is_block b c)) [
-      | inl same ↦ ap (member unasked) (same_block b c same) ∙ isnt ∙ sym (ap (λ t. cond t false (member unasked c)) same)
-      | inr other ↦ sym (ap (λ t. cond t false (member unasked c)) other)
+      | inl same ↦ rw same (ap (member unasked) (same_block b c same) ∙ isnt)
+      | inr other ↦ rw other refl
     ]))
 
 -- ---- what a peer's blocks are in a kept book

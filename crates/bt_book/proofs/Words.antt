@@ -1,5 +1,5 @@
 -- The bits of a list of words.
-use Rattle.std.proofs.Common.{◌≡◌, ◌≢◌, ℕ, ◌+◌, ◌-◌, ◌*◌, ◌/◌, ◌%◌, ◌^◌, ◌<◌, ◌≤◌, inl, inr, Bool, true, false, eqb, cond, bit_and, bit_or, List, length, get_or, set, take, replicate, w64, sym, ap, ◌∙◌, arith, get_or-set_same, get_or-set_other}
+use Rattle.std.proofs.Common.{◌≡◌, ◌≢◌, ℕ, ◌+◌, ◌-◌, ◌*◌, ◌/◌, ◌%◌, ◌^◌, ◌<◌, ◌≤◌, inl, inr, Bool, true, false, eqb, cond, bit_and, bit_or, List, length, get_or, set, take, replicate, w64, sym, ap, ◌∙◌, arith, get_or-set_same, get_or-set_other, refl}
 use Rattle.std.specs.Int.{bit_at, trailing_zeros}
 use Rattle.std.proofs.lemmas.Nat.{shr-shr, shr_le}
 use Rattle.std.proofs.lemmas.Nat.Bits.{bit_at-zero, bit_at_above, bit_at-trailing_zeros, bit_at_set_same, bit_at_set_other, bit_at_clear_same, bit_at_clear_other}
@@ -16,19 +16,14 @@ bit_written : (words : List ℕ) (k w : ℕ) (v : Bool) → k < 64 * length word
 bit_written words k w v inside here others i =
     let low : k / 64 < length words = omega arith in
     elim (cases_eq i k) [
-      | inl e ↦
-          let at : eqb i k ≡ true = eq-eqb i k e in
-          rw at (ap (λ n. has_bit (set words (k / 64) w) n) e ∙ ap (λ n. eqb (bit_at n (k % 64)) 1) (get_or-set_same words (k / 64) w 0 low) ∙ here)
+      | inl e ↦ let at : eqb i k ≡ true = eq-eqb i k e in rw (at, e, get_or-set_same words (k / 64) w 0 low) here
       | inr ne ↦
           let off : eqb i k ≡ false = ne_eqb i k ne in
           rw off (elim (cases_eq (i / 64) (k / 64)) [
             | inl same ↦
                 let bit : i % 64 ≢ k % 64 = λ h. ne (omega arith) in
-                ap (λ n. eqb (bit_at (get_or (set words (k / 64) w) n 0) (i % 64)) 1) same
-                ∙ ap (λ n. eqb (bit_at n (i % 64)) 1) (get_or-set_same words (k / 64) w 0 low)
-                ∙ ap (λ n. eqb n 1) (others (i % 64) (omega arith) bit)
-                ∙ ap (λ n. eqb (bit_at (get_or words n 0) (i % 64)) 1) (sym same)
-            | inr other ↦ ap (λ n. eqb (bit_at n (i % 64)) 1) (get_or-set_other words (k / 64) (i / 64) w 0 other)
+                rw (same, get_or-set_same words (k / 64) w 0 low) (ap (λ n. eqb n 1) (others (i % 64) (omega arith) bit))
+            | inr other ↦ rw (get_or-set_other words (k / 64) (i / 64) w 0 other) refl
           ])
     ]
 
@@ -79,7 +74,7 @@ pub bit_at_word : (words : List ℕ) (index k : ℕ) → k < 64 → has_bit word
 bit_at_word words index k lt =
     let word : (64 * index + k) / 64 ≡ index = omega arith in
     let bit : (64 * index + k) % 64 ≡ k = omega arith in
-    ap (λ n. eqb (bit_at (get_or words n 0) ((64 * index + k) % 64)) 1) word ∙ ap (λ n. eqb (bit_at (get_or words index 0) n) 1) bit
+    rw (word, bit) refl
 
 -- the word `index` is looked at from its bit `start` on
 pub record IsStart (from index start : ℕ) : Type 0 where
@@ -140,16 +135,15 @@ bits_length count words = length-map-range_with_len (has_bit words) 0 count
 pub bits_with : (count : ℕ) (words new : List ℕ) (k : ℕ) (v : Bool) → k < count → ((i : ℕ) → has_bit new i ≡ cond (eqb i k) v (has_bit words i))
     → bits_of count new ≡ set (bits_of count words) k v
 bits_with count words new k v inside changed =
-    ext_get_or false (bits_of count new) (set (bits_of count words) k v) (bits_length count new ∙ sym (bits_length count words) ∙ sym
-    (length-set (bits_of count words) k v))
+    let size = bits_length count words in
+    ext_get_or false (bits_of count new) (set (bits_of count words) k v) (bits_length count new ∙ sym size ∙ sym (length-set (bits_of count words) k v))
     (λ i lt.
     let i_in : i < count = omega (arith, bits_length count new) in
-    let old = has_at count words i i_in in
-    has_at count new i i_in ∙ changed i ∙ elim (cases_eq i k) [
-      | inl e ↦ let at : eqb i k ≡ true = eq-eqb i k e in rw at (sym (ap (λ j. get_or (set (bits_of count words) k v) j false) e ∙ get_or-set_same
-          (bits_of count words) k v false (omega (arith, bits_length count words))))
-      | inr ne ↦ let off : eqb i k ≡ false = ne_eqb i k ne in rw off (sym (get_or-set_other (bits_of count words) k i v false ne ∙ old))
-    ])
+    rw (has_at count new i i_in, changed i) (elim (cases_eq i k) [
+      | inl e ↦ let at : eqb i k ≡ true = eq-eqb i k e in rw (at, e) (sym (get_or-set_same (bits_of count words) k v false (omega arith)))
+      | inr ne ↦ let off : eqb i k ≡ false = ne_eqb i k ne in rw (off, get_or-set_other (bits_of count words) k i v false ne)
+          (sym (has_at count words i i_in))
+    ]))
 
 zero_word : (n i : ℕ) → get_or {A = ℕ} (replicate n 0) i 0 ≡ 0
 zero_word n i = elim (cases_lt i n) [

@@ -10,7 +10,7 @@ forget-requires c =
     let i : ℕ = c.loop-requests.requests-index in
     let d : PeerRequests = c.requests-item.result in
     let here = ap (λ (l : List PeerRequests). get_or l i d) c.loop-requests.invariant ∙ rest_at
-    (without_block_of c.args.block) c.args.peers.now i d c.loop-requests-test.true in
+    (without_block_of c.args.block) _ i d c.loop-requests-test.true in
     subst (λ (r : PeerRequests). count_by (is_block c.args.block) r.blocks ≤ 1) (sym here) (c.requires i d c.loop-requests-test.true)
 
 pub loop-requests-preserved : goal.loop-requests-preserved
