@@ -20,11 +20,6 @@ pub joined_at : (s : BookState) (wanted : Blocks) (peers : List PeerRequests) (k
     → IsIndexOf key peers i → IsJoined s key
 joined_at s wanted peers key i e view found = subst (λ (b : BookState). IsJoined b key) view (counted (is_of key) peers i e found.inside (found.here e))
 
-pub not_joined : (s : BookState) (wanted : Blocks) (peers : List PeerRequests) (key : PeerKey) → state wanted peers ≡ s → count_by (is_of key) peers ≡ 0
-    → ¬ IsJoined s key
-not_joined s wanted peers key view none joined = let e : count_by (is_of key) s.peers ≡ 0 = ap (λ b. count_by (is_of key) b.peers) (sym view)
-    ∙ none in omega arith
-
 pub found_joined : (s : BookState) (wanted : Blocks) (peers : List PeerRequests) (key : PeerKey) (o : Option ℕ) → state wanted peers ≡ s → IfSome o
     (IsIndexOf key peers) → is_some o ≡ true → IsJoined s key
 found_joined s wanted peers key None view found some = absurd (true≢false (sym some))

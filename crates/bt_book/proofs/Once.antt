@@ -19,12 +19,6 @@ counted p xs i d lt passes =
     let one : cond {A = ℕ} (p (get_or xs i d)) 1 0 ≡ 1 = ap (λ b. cond {A = ℕ} b 1 0) passes in
     omega (arith, get_or-le-sum_by (λ y. cond (p y) 1 0) xs i d lt)
 
-pub none_passes : {X : Type 0} (p : X → Bool) (xs : List X) (i : ℕ) (d : X) → count_by p xs ≡ 0 → i < length xs → p (get_or xs i d) ≡ false
-none_passes p xs i d none lt = elim (cases_Bool (p (get_or xs i d))) [
-  | inl passes ↦ absurd (let some = counted p xs i d lt passes in omega arith)
-  | inr fails ↦ fails
-]
-
 -- ---- where none passes
 pub filter_none : {X : Type 0} (p : X → Bool) (xs : List X) → count_by p xs ≡ 0 → filter (λ x. not (p x)) xs ≡ xs
 filter_none p [] none = refl

@@ -89,15 +89,6 @@ ones_with s b c v inside = ap one_if (member_with s b c v inside) ∙ one_if_con
 ones_same : (s : Blocks) (b c : BlockId) (v : Bool) → member s b ≡ v → is_block b c ≡ true → one_if (member s c) ≡ one_if v
 ones_same s b c v is same = ap (λ x. one_if (member s x)) (same_block b c same) ∙ ap one_if is
 
-pub kept_none : (wanted : Blocks) → ((b : BlockId) → member wanted b ≡ false) → IsKept wanted wanted []
-kept_none wanted none = record {
-  shape = λ file. refl;
-  few = omega arith;
-  once = λ key. omega arith;
-  short = λ k d lt. absurd (omega arith);
-  counts = λ b. ap (λ t. cond {A = ℕ} t 1 0 + 0) (none b) ∙ sym (ap (λ t. cond {A = ℕ} t 1 0) (none b));
-}
-
 pub kept_join : (wanted unasked : Blocks) (peers : List PeerRequests) (key : PeerKey) → IsKept wanted unasked peers → count_by (is_of key) peers ≡ 0
     → length peers < 64
     → IsKept wanted unasked (peers ++ (record { peer = key; blocks = [] }) ∷ [])
