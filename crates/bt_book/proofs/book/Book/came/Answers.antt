@@ -12,13 +12,13 @@ pub returns-in_default-clause-was : goal.returns-in_default-clause-was
 returns-in_default-clause-was c =
     let none = rw c.deref.ensures.value at c.in_default.ensures.none in
     let zero' : count_by (is_block c.args.block) (asked_of c.args.self.now c.args.peer) ≡ 0 =
-    ap (count_by (is_block c.args.block)) (asked_nowhere _ _ _ _ c.self.view_is none) in
+    ap (count_by (is_block c.args.block)) (asked_nowhere _ _ _ c.self.view_is _ none) in
     (λ h. absurd (false≢true h), λ p. absurd (omega (arith, zero', p)))
 
 pub returns-in_default-clause-now : goal.returns-in_default-clause-now
 returns-in_default-clause-now c =
     let none = rw c.deref.ensures.value at c.in_default.ensures.none in
-    changed_none _ _ _ _ (without_block c.args.block) c.self.view_is none
+    changed_none _ _ _ c.self.view_is _ (without_block c.args.block) none
 
 pub forget-requires : goal.forget-requires
 forget-requires c =
@@ -48,15 +48,13 @@ returns-then-not-forget-clause-was c =
     let none : count_by (is_block c.args.block) e.blocks ≡ 0 = none_asked _ _
     c.forget.ensures.was.1 off in
     let zero' : count_by (is_block c.args.block) (asked_of c.args.self.now c.args.peer) ≡ 0 =
-    ap (count_by (is_block c.args.block)) (asked_here _ _ _ _ _ e
-    c.self.view_is (c.self.invariant.0.once c.args.peer) found c.index_mut.ensures.value) ∙ none in
+    ap (count_by (is_block c.args.block)) (asked_here _ _ _ c.self.view_is _ _ e (c.self.invariant.0.once c.args.peer) found c.index_mut.ensures.value) ∙ none in
     (λ h. absurd (false≢true h), λ p. absurd (omega (arith, zero', p)))
 
 pub returns-then-not-forget-clause-now : goal.returns-then-not-forget-clause-now
 returns-then-not-forget-clause-now c =
     let found = rw c.deref.ensures.value at c.in-Some.ensures.some in
-    changed_is _ _ _ _
-    (without_block c.args.block) _ _ _ c.self.view_is
+    changed_is _ _ _ c.self.view_is _ (without_block c.args.block) _ _ _
     (c.self.invariant.0.once c.args.peer) found c.index_mut.ensures.value c.forget.ensures.now
 
 pub returns-then-not-forget-clause-others : goal.returns-then-not-forget-clause-others
@@ -68,16 +66,14 @@ pub insert-requires : goal.insert-requires
 insert-requires c =
     let found = rw c.deref.ensures.value at c.in-Some.ensures.some in
     let on : c.forget.result ≡ true = grind arith in
-    asked_in_range _ _ _ _ _ _
-    c.self.invariant.0 found.inside c.index_mut.ensures.value (c.forget.ensures.was.0 on)
+    asked_in_range _ _ _ c.self.invariant.0 _ _ found.inside c.index_mut.ensures.value _ (c.forget.ensures.was.0 on)
 
 pub invariant_of-self-2 : goal.invariant_of-self-2
 invariant_of-self-2 c =
     let found = rw c.deref.ensures.value at c.in-Some.ensures.some in
     let on : c.forget.result ≡ true = grind arith in
     rw (c.insert.ensures, c.forget.ensures.now) (
-      kept_came _ _ _ _ _ _
-          c.self.invariant.0 found.inside c.index_mut.ensures.value
+      kept_came _ _ _ c.self.invariant.0 _ _ found.inside c.index_mut.ensures.value _
           (c.forget.ensures.was.0 on),
       c.self.invariant.1,
     )
@@ -86,15 +82,14 @@ pub returns-clause-was : goal.returns-clause-was
 returns-clause-was c =
     let found = rw c.deref.ensures.value at c.in-Some.ensures.some in
     let on : c.forget.result ≡ true = grind arith in
-    let same = asked_here _ _ _ _ _ _ c.self.view_is
+    let same = asked_here _ _ _ c.self.view_is _ _ _
     (c.self.invariant.0.once c.args.peer) found c.index_mut.ensures.value in
     (λ h. subst (λ (l : List BlockId). 0 < count_by (is_block c.args.block) l) (sym same) (c.forget.ensures.was.0 on), λ p. refl)
 
 pub returns-clause-now : goal.returns-clause-now
 returns-clause-now c =
     let found = rw c.deref.ensures.value at c.in-Some.ensures.some in
-    changed_is _ _ _ _
-    (without_block c.args.block) _ _ _ c.self.view_is
+    changed_is _ _ _ c.self.view_is _ (without_block c.args.block) _ _ _
     (c.self.invariant.0.once c.args.peer) found c.index_mut.ensures.value c.forget.ensures.now
 
 pub returns-clause-others : goal.returns-clause-others

@@ -8,8 +8,7 @@ use Rattle.bt_book.proofs.book.Book.lost.Goals as goal
 pub add_all-requires : goal.add_all-requires
 add_all-requires c =
     let found = rw c.deref.ensures.value at c.in-Some.ensures.some in
-    rw c.blocks-in-Some.ensures (can_add _ _ _ _ _
-    c.self.invariant.0 found.inside c.index.ensures)
+    rw c.blocks-in-Some.ensures (can_add _ _ _ c.self.invariant.0 _ _ found.inside c.index.ensures)
 
 pub invariant_of-self : goal.invariant_of-self
 invariant_of-self c =
@@ -24,7 +23,7 @@ invariant_of-self c =
 pub returns-in-Some-clause-now : goal.returns-in-Some-clause-now
 returns-in-Some-clause-now c =
     let found = rw c.deref.ensures.value at c.in-Some.ensures.some in
-    lost_is _ _ _ _ _ _ c.index.result.now c.self.view_is (c.self.invariant.0.once c.args.peer)
+    lost_is _ _ _ c.self.view_is _ _ _ c.index.result.now (c.self.invariant.0.once c.args.peer)
     found c.remove.ensures.items
 
 pub returns-in-Some-clause-nothing_asked : goal.returns-in-Some-clause-nothing_asked
@@ -38,9 +37,9 @@ returns-in-Some-clause-others c = λ other ne.
 pub returns-in_default-clause-now : goal.returns-in_default-clause-now
 returns-in_default-clause-now c =
     let none = rw c.deref.ensures.value at c.in_default.ensures.none in
-    lost_none _ _ _ _ c.self.view_is none
+    lost_none _ _ _ c.self.view_is _ none
 
 pub returns-in_default-clause-nothing_asked : goal.returns-in_default-clause-nothing_asked
 returns-in_default-clause-nothing_asked c =
     let none = rw c.deref.ensures.value at c.in_default.ensures.none in
-    asked_nowhere _ _ _ _ c.self.view_is none
+    asked_nowhere _ _ _ c.self.view_is _ none
