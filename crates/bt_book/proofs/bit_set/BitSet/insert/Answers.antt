@@ -27,8 +27,7 @@ invariant_of-self c =
     let groups = with_items_is c.self.inside.groups c.set_bit-2.new.words (c.set_bit-2.auto.words ∙ c.deref_mut-2.ensures.len) in
     let written = rw c.deref_mut.ensures.value at c.set_bit.ensures in
     let grouped = rw c.deref_mut-2.ensures.value at c.set_bit-2.ensures in
-    rw (words, groups) (sound_with _ _ _ _ _
-    _ c.self.invariant inside
+    rw (words, groups) (sound_with _ _ _ c.self.invariant _ _ _ inside
     (c.set_bit.auto.words ∙ ap length c.deref_mut.ensures.value) (c.set_bit-2.auto.words ∙ ap length c.deref_mut-2.ensures.value) written grouped)
 
 pub returns : goal.returns

@@ -26,19 +26,18 @@ invariant_of-self c =
     (c.clear_bit-then-is_none.auto.words ∙ c.deref_mut-then-is_none.ensures.len) in
     let written = rw c.deref_mut.ensures.value at c.clear_bit.ensures in
     let grouped = rw c.deref_mut-then-is_none.ensures.value at c.clear_bit-then-is_none.ensures in
-    let sound = sound_without _ _ _ _ _ c.self.invariant
+    let sound = sound_without _ _ _ c.self.invariant _ _
     (c.clear_bit.auto.words ∙ ap length c.deref_mut.ensures.value) written in
     let none = no_bit_in_group _ _ _ _
     (c.deref.ensures.value ∙ words) c.next_in_group.ensures.none (c.is_none.ensures ∙ ap not c.if-is_none.true) in
-    rw (words, groups) (sound_without_group _ _ _ _
-    _ sound
+    rw (words, groups) (sound_without_group _ _ _ sound _ _
     (c.clear_bit-then-is_none.auto.words ∙ ap length c.deref_mut-then-is_none.ensures.value) none grouped)
 
 pub invariant_of-self-else-is_none : goal.invariant_of-self-else-is_none
 invariant_of-self-else-is_none c =
     let words = with_items_is c.self.inside.words c.clear_bit.new.words (c.clear_bit.auto.words ∙ c.deref_mut.ensures.len) in
     let written = rw c.deref_mut.ensures.value at c.clear_bit.ensures in
-    rw words (sound_without _ _ _ _ _ c.self.invariant
+    rw words (sound_without _ _ _ c.self.invariant _ _
     (c.clear_bit.auto.words ∙ ap length c.deref_mut.ensures.value) written)
 
 pub returns-then-is_none : goal.returns-then-is_none
