@@ -1,15 +1,12 @@
 use Rattle.std.proofs.Common.{◌≡◌, ℕ, subst, arith}
-use Rattle.bt_book.proofs.Ranks.{AreTopKeys, top_none, top_fresh, top_same, top_more}
-use Rattle.bt_book.proofs.Turns.{turn_fresh, choice_none, choice_some}
+use Rattle.bt_book.proofs.Ranks.{AreTopKeys, top_fresh, top_same, top_more}
+use Rattle.bt_book.proofs.Turns.{choice_none, choice_some}
 use Rattle.bt_book.proofs.choking.choose.Goals as goal
 use Rattle.bt_book.proofs.choking.choose.Goals.{in-Some, in_default}
 
 pub insert-requires-clause-other : goal.insert-requires-clause-other
 insert-requires-clause-other c =
     top_fresh _ _ _ _ c.requires c.loop-rank.invariant.keys c.in-Some.ensures.some
-
-pub loop-rank-init : goal.loop-rank-init
-loop-rank-init c = record { few = rw c.new-chosen.ensures (omega arith); keys = rw c.new-chosen.ensures (top_none _) }
 
 pub loop-rank-preserved : goal.loop-rank-preserved
 loop-rank-preserved c =
@@ -27,11 +24,6 @@ loop-rank-preserved c =
         keys = top_same xs _ _ w.in_default.ensures.none keys;
       }
     ]
-
-pub insert-requires-in-Some-on_turn-clause-other : goal.insert-requires-in-Some-on_turn-clause-other
-insert-requires-in-Some-on_turn-clause-other c =
-    let turned = rw c.as_slice.ensures.value at c.in-Some-on_turn.ensures.some in
-    turn_fresh _ _ _ _ turned
 
 pub returns-in-Some-on_turn : goal.returns-in-Some-on_turn
 returns-in-Some-on_turn c =

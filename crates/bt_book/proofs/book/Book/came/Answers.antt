@@ -3,7 +3,7 @@ use Rattle.std.proofs.lemmas.Bool.{false≢true}
 use Rattle.bt_book.specs.declared.names.BlockId.{BlockId}
 use Rattle.bt_book.specs.Blocks.{is_block, member}
 use Rattle.bt_book.specs.Book.{BookState, PeerRequests, asked_of, without_block}
-use Rattle.bt_book.proofs.Pairs.{count_le_pairs, one_if_le, kept_came, asked_in_range}
+use Rattle.bt_book.proofs.Pairs.{count_le_pairs, one_if_le, kept_came}
 use Rattle.bt_book.proofs.Asked.{asked_changed_other}
 use Rattle.bt_book.proofs.Calls.{asked_here, asked_nowhere, changed_is, changed_none, forgotten_is, none_asked}
 use Rattle.bt_book.proofs.book.Book.came.Goals as goal
@@ -61,12 +61,6 @@ pub returns-then-not-forget-clause-others : goal.returns-then-not-forget-clause-
 returns-then-not-forget-clause-others c = λ other ne.
     ap (λ (b : BookState). asked_of b other) (returns-then-not-forget-clause-now c) ∙ asked_changed_other _ _
     (without_block c.args.block) _ ne
-
-pub insert-requires : goal.insert-requires
-insert-requires c =
-    let found = rw c.deref.ensures.value at c.in-Some.ensures.some in
-    let on : c.forget.result ≡ true = grind arith in
-    asked_in_range _ _ _ c.self.invariant.0 _ _ found.inside c.index_mut.ensures.value _ (c.forget.ensures.was.0 on)
 
 pub invariant_of-self-2 : goal.invariant_of-self-2
 invariant_of-self-2 c =

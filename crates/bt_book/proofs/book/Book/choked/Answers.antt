@@ -1,15 +1,10 @@
 use Rattle.std.proofs.Common.{◌≡◌, ℕ, [], sym, ap, ◌∙◌}
 use Rattle.std.proofs.lemmas.List.{get_or_read}
 use Rattle.bt_book.specs.Book.{BookState, PeerRequests, asked_of}
-use Rattle.bt_book.proofs.Pairs.{can_add, kept_choked}
+use Rattle.bt_book.proofs.Pairs.{kept_choked}
 use Rattle.bt_book.proofs.Asked.{asked_cleared, asked_changed_other}
 use Rattle.bt_book.proofs.Calls.{asked_nowhere, changed_is, changed_none}
 use Rattle.bt_book.proofs.book.Book.choked.Goals as goal
-
-pub add_all-requires : goal.add_all-requires
-add_all-requires c =
-    let found = rw c.deref.ensures.value at c.in-Some.ensures.some in
-    rw c.blocks-in-Some.ensures (can_add _ _ _ c.self.invariant.0 _ _ found.inside c.index.ensures)
 
 pub invariant_of-self : goal.invariant_of-self
 invariant_of-self c =

@@ -1,14 +1,8 @@
 use Rattle.std.proofs.Common.{ap, ◌∙◌, arith}
 use Rattle.bt_book.specs.Book.{BookState, asked_of}
-use Rattle.bt_book.proofs.Pairs.{can_add}
 use Rattle.bt_book.proofs.Asked.{asked_lost, asked_lost_other}
 use Rattle.bt_book.proofs.Calls.{asked_nowhere, lost_kept, lost_is, lost_none}
 use Rattle.bt_book.proofs.book.Book.lost.Goals as goal
-
-pub add_all-requires : goal.add_all-requires
-add_all-requires c =
-    let found = rw c.deref.ensures.value at c.in-Some.ensures.some in
-    rw c.blocks-in-Some.ensures (can_add _ _ _ c.self.invariant.0 _ _ found.inside c.index.ensures)
 
 pub invariant_of-self : goal.invariant_of-self
 invariant_of-self c =
