@@ -1,10 +1,9 @@
 -- A set of numbers by its words and its groups.
-use Rattle.std.proofs.Common.{◌≡◌, ◌≢◌, ℕ, ◌+◌, ◌*◌, ◌/◌, ◌^◌, ◌<◌, ◌≤◌, inl, inr, Bool, true, false, eqb, cond, List, length, set, replicate, refl, sym, ap, ◌∙◌, subst, arith, Option, Some, None, IfSome, IfNone, is_some}
-use Rattle.std.proofs.lemmas.List.{length-replicate}
+use Rattle.std.proofs.Common.{◌≡◌, ◌≢◌, ℕ, ◌+◌, ◌*◌, ◌/◌, ◌<◌, ◌≤◌, inl, inr, Bool, true, false, eqb, cond, List, length, set, refl, sym, ap, ◌∙◌, subst, arith, Option, Some, None, IfSome, IfNone, is_some}
 use Rattle.std.proofs.lemmas.Bool.{cases_lt, cases_eq, cases_Bool, eq-eqb, ne_eqb, true≢false}
 use Rattle.bt_book.specs.BitSet.{IsNext, HasNoneFrom}
 use Rattle.bt_book.specs.BitSetSteps.{has_bit, bits_of, IsNextBit, HasNoBit, HasNoBitInGroup, IsSound}
-use Rattle.bt_book.proofs.Words.{has_any, bits_length, zero_bit}
+use Rattle.bt_book.proofs.Words.{has_any, bits_length}
 
 -- a bit was written
 abbrev pub IsWritten : List ℕ → ℕ → Bool → List ℕ → Type 0
@@ -16,138 +15,112 @@ here old new k v written = let at : eqb k k ≡ true = eq-eqb k k refl in rw at 
 there : (old new : List ℕ) (k i : ℕ) (v : Bool) → IsWritten old k v new → i ≢ k → has_bit new i ≡ has_bit old i
 there old new k i v written ne = let off : eqb i k ≡ false = ne_eqb i k ne in rw off at (written i)
 
-pub sound_none : (count words groups : ℕ) → words ≤ 2 ^ 32 → groups ≤ 2 ^ 32 → count ≤ 64 * words → count ≤ 262144 * groups → IsSound count
-    (replicate words 0) (replicate groups 0)
-sound_none count words groups few few_groups room group_room =
-    let size : length (replicate {A = ℕ} words 0) ≡ words = length-replicate words 0 in
-    let group_size : length (replicate {A = ℕ} groups 0) ≡ groups = length-replicate groups 0 in
-    record {
-      few = omega arith;
-      few_groups = omega arith;
-      room = omega arith;
-      group_room = omega arith;
-      rest = λ i above. zero_bit words i;
-      grouped = λ i set. absurd (true≢false (sym set ∙ zero_bit words i));
-    }
+module _ (count : ℕ) (words groups : List ℕ) (sound : IsSound count words groups) where
+  pub sound_with : (new new_groups : List ℕ) (k : ℕ) → k < count → length new ≡ length words → length new_groups ≡ length groups
+      → IsWritten words k true new → IsWritten groups (k / 4096) true new_groups → IsSound count new new_groups
+  sound_with new new_groups k inside size group_size written grouped = record {
+    few = let few = sound.few in omega arith;
+    few_groups = let few = sound.few_groups in omega arith;
+    room = let room = sound.room in omega arith;
+    group_room = let room = sound.group_room in omega arith;
+    rest = λ i above. there words new k i true written (omega arith) ∙ sound.rest i above;
+    grouped = λ i set. elim (cases_eq (i / 4096) (k / 4096)) [
+      | inl same ↦ ap (has_bit new_groups) same ∙ here groups new_groups (k / 4096) true grouped
+      | inr other ↦
+          let ne : i ≢ k = λ e. other (ap (λ n. n / 4096) e) in
+          there groups new_groups (k / 4096) (i / 4096) true grouped other ∙ sound.grouped i (sym (there words new k i true written ne) ∙ set)
+    ];
+  }
 
-pub sound_with : (count : ℕ) (words groups new new_groups : List ℕ) (k : ℕ) → IsSound count words groups → k < count → length new ≡ length words
-    → length new_groups ≡ length groups
-    → IsWritten words k true new → IsWritten groups (k / 4096) true new_groups → IsSound count new new_groups
-sound_with count words groups new new_groups k sound inside size group_size written grouped = record {
-  few = let few = sound.few in omega arith;
-  few_groups = let few = sound.few_groups in omega arith;
-  room = let room = sound.room in omega arith;
-  group_room = let room = sound.group_room in omega arith;
-  rest = λ i above. there words new k i true written (omega arith) ∙ sound.rest i above;
-  grouped = λ i set. elim (cases_eq (i / 4096) (k / 4096)) [
-    | inl same ↦ ap (has_bit new_groups) same ∙ here groups new_groups (k / 4096) true grouped
-    | inr other ↦
-        let ne : i ≢ k = λ e. other (ap (λ n. n / 4096) e) in
-        there groups new_groups (k / 4096) (i / 4096) true grouped other ∙ sound.grouped i (sym (there words new k i true written ne) ∙ set)
-  ];
-}
+  pub sound_without : (new : List ℕ) (k : ℕ) → length new ≡ length words → IsWritten words k false new → IsSound count new groups
+  sound_without new k size written = record {
+    few = let few = sound.few in omega arith;
+    few_groups = sound.few_groups;
+    room = let room = sound.room in omega arith;
+    group_room = sound.group_room;
+    rest = λ i above. elim (cases_eq i k) [
+      | inl e ↦ ap (has_bit new) e ∙ here words new k false written
+      | inr ne ↦ there words new k i false written ne ∙ sound.rest i above
+    ];
+    grouped = λ i set. elim (cases_eq i k) [
+      | inl e ↦ absurd (true≢false (sym set ∙ ap (has_bit new) e ∙ here words new k false written))
+      | inr ne ↦ sound.grouped i (sym (there words new k i false written ne) ∙ set)
+    ];
+  }
 
-pub sound_without : (count : ℕ) (words groups new : List ℕ) (k : ℕ) → IsSound count words groups → length new ≡ length words → IsWritten words k false new
-    → IsSound count new groups
-sound_without count words groups new k sound size written = record {
-  few = let few = sound.few in omega arith;
-  few_groups = sound.few_groups;
-  room = let room = sound.room in omega arith;
-  group_room = sound.group_room;
-  rest = λ i above. elim (cases_eq i k) [
-    | inl e ↦ ap (has_bit new) e ∙ here words new k false written
-    | inr ne ↦ there words new k i false written ne ∙ sound.rest i above
-  ];
-  grouped = λ i set. elim (cases_eq i k) [
-    | inl e ↦ absurd (true≢false (sym set ∙ ap (has_bit new) e ∙ here words new k false written))
-    | inr ne ↦ sound.grouped i (sym (there words new k i false written ne) ∙ set)
-  ];
-}
+  pub sound_without_group : (new_groups : List ℕ) (k : ℕ) → length new_groups ≡ length groups → HasNoBitInGroup words (4096 * (k / 4096))
+      → IsWritten groups (k / 4096) false new_groups → IsSound count words new_groups
+  sound_without_group new_groups k size none grouped = record {
+    few = sound.few;
+    few_groups = let few = sound.few_groups in omega arith;
+    room = sound.room;
+    group_room = let room = sound.group_room in omega arith;
+    rest = sound.rest;
+    grouped = λ i set. elim (cases_eq (i / 4096) (k / 4096)) [
+      | inl same ↦
+          let group : 4096 * (k / 4096) / 4096 ≡ k / 4096 = omega arith in
+          let below : i < 4096 * (4096 * (k / 4096) / 4096 + 1) = rw group (omega arith) in
+          absurd (true≢false (sym set ∙ none i (omega arith) below))
+      | inr other ↦ there groups new_groups (k / 4096) (i / 4096) false grouped other ∙ sound.grouped i set
+    ];
+  }
 
-pub sound_without_group : (count : ℕ) (words groups new_groups : List ℕ) (k : ℕ) → IsSound count words groups → length new_groups ≡ length groups
-    → HasNoBitInGroup words (4096 * (k / 4096))
-    → IsWritten groups (k / 4096) false new_groups → IsSound count words new_groups
-sound_without_group count words groups new_groups k sound size none grouped = record {
-  few = sound.few;
-  few_groups = let few = sound.few_groups in omega arith;
-  room = sound.room;
-  group_room = let room = sound.group_room in omega arith;
-  rest = sound.rest;
-  grouped = λ i set. elim (cases_eq (i / 4096) (k / 4096)) [
-    | inl same ↦
-        let group : 4096 * (k / 4096) / 4096 ≡ k / 4096 = omega arith in
-        let below : i < 4096 * (4096 * (k / 4096) / 4096 + 1) = rw group (omega arith) in
-        absurd (true≢false (sym set ∙ none i (omega arith) below))
-    | inr other ↦ there groups new_groups (k / 4096) (i / 4096) false grouped other ∙ sound.grouped i set
-  ];
-}
+  -- ---- the next member
+  pub next_is : (from i : ℕ) → IsNextBit words from i → IsNext (bits_of count words) from i
+  next_is from i next =
+      let inside : i < count = elim (cases_lt i count) [
+        | inl lt ↦ lt
+        | inr ge ↦ absurd (true≢false (sym next.set ∙ sound.rest i ge))
+      ] in
+      record {
+        inside = omega (arith, bits_length count words);
+        after = next.after;
+        member = has_any count words groups i sound ∙ next.set;
+        least = λ j after below. has_any count words groups j sound ∙ next.least j after below;
+      }
 
--- ---- the next member
-pub next_is : (count : ℕ) (words groups : List ℕ) (from i : ℕ) → IsSound count words groups → IsNextBit words from i → IsNext (bits_of count words) from i
-next_is count words groups from i sound next =
-    let inside : i < count = elim (cases_lt i count) [
-      | inl lt ↦ lt
-      | inr ge ↦ absurd (true≢false (sym next.set ∙ sound.rest i ge))
-    ] in
-    record {
-      inside = omega (arith, bits_length count words);
-      after = next.after;
-      member = has_any count words groups i sound ∙ next.set;
-      least = λ j after below. has_any count words groups j sound ∙ next.least j after below;
-    }
+  pub none_is : (from : ℕ) → HasNoBit words from → HasNoneFrom (bits_of count words) from
+  none_is from none j after = has_any count words groups j sound ∙ none j after
 
-pub none_is : (count : ℕ) (words groups : List ℕ) (from : ℕ) → IsSound count words groups → HasNoBit words from → HasNoneFrom (bits_of count words) from
-none_is count words groups from sound none j after = has_any count words groups j sound ∙ none j after
-
--- where the rest of a group has no bit, nor a group up to another, neither has what lies between
-skipped : (count : ℕ) (words groups : List ℕ) (from group : ℕ) → IsSound count words groups → HasNoBitInGroup words from
-    → ((h : ℕ) → from / 4096 + 1 ≤ h → h < group → has_bit groups h ≡ false) → (j : ℕ) → from ≤ j → j < 4096 * group → has_bit words j ≡ false
-skipped count words groups from group sound none empty j after below = elim (cases_lt j (4096 * (from / 4096 + 1))) [
-  | inl lt ↦ none j after lt
-  | inr ge ↦ elim (cases_Bool (has_bit words j)) [
-    | inl set ↦ absurd (true≢false (sym (sound.grouped j set) ∙ empty (j / 4096) (omega arith) (omega arith)))
-    | inr unset ↦ unset
+  -- where the rest of a group has no bit, nor a group up to another, neither has what lies between
+  skipped : (from group : ℕ) → HasNoBitInGroup words from → ((h : ℕ) → from / 4096 + 1 ≤ h → h < group → has_bit groups h ≡ false) → (j : ℕ) → from ≤ j
+      → j < 4096 * group → has_bit words j ≡ false
+  skipped from group none empty j after below = elim (cases_lt j (4096 * (from / 4096 + 1))) [
+    | inl lt ↦ none j after lt
+    | inr ge ↦ elim (cases_Bool (has_bit words j)) [
+      | inl set ↦ absurd (true≢false (sym (sound.grouped j set) ∙ empty (j / 4096) (omega arith) (omega arith)))
+      | inr unset ↦ unset
+    ]
   ]
-]
 
-pub next_past : (count : ℕ) (words groups : List ℕ) (from group i : ℕ) → IsSound count words groups → HasNoBitInGroup words from → IsNextBit groups
-    (from / 4096 + 1) group
-    → IsNextBit words (4096 * group) i → IsNextBit words from i
-next_past count words groups from group i sound none next_group next = record {
-  after = let a = next_group.after in let b = next.after in omega arith;
-  set = next.set;
-  least = λ j after below. elim (cases_lt j (4096 * group)) [
-    | inl lt ↦ skipped count words groups from group sound none next_group.least j after lt
-    | inr ge ↦ next.least j ge below
-  ];
-}
+  pub none_past_all : (from : ℕ) → HasNoBitInGroup words from → HasNoBit groups (from / 4096 + 1) → HasNoBit words from
+  none_past_all from none empty j after = skipped from (j / 4096 + 1) none (λ h le lt. empty h le) j after (omega arith)
 
-pub none_past_group : (count : ℕ) (words groups : List ℕ) (from group : ℕ) → IsSound count words groups → HasNoBitInGroup words from → IsNextBit groups
-    (from / 4096 + 1) group
-    → HasNoBit words (4096 * group) → HasNoBit words from
-none_past_group count words groups from group sound none next_group rest j after = elim (cases_lt j (4096 * group)) [
-  | inl lt ↦ skipped count words groups from group sound none next_group.least j after lt
-  | inr ge ↦ rest j ge
-]
+  -- ---- behind a group with none, and those up to the next group that may have one
+  module _ (from group : ℕ) (none : HasNoBitInGroup words from) (next_group : IsNextBit groups (from / 4096 + 1) group) where
+    next_past : (i : ℕ) → IsNextBit words (4096 * group) i → IsNextBit words from i
+    next_past i next = record {
+      after = let a = next_group.after in let b = next.after in omega arith;
+      set = next.set;
+      least = λ j after below. elim (cases_lt j (4096 * group)) [
+        | inl lt ↦ skipped from group none next_group.least j after lt
+        | inr ge ↦ next.least j ge below
+      ];
+    }
 
-pub none_past_all : (count : ℕ) (words groups : List ℕ) (from : ℕ) → IsSound count words groups → HasNoBitInGroup words from → HasNoBit groups
-    (from / 4096 + 1) → HasNoBit words from
-none_past_all count words groups from sound none empty j after =
-    skipped count words groups from (j / 4096 + 1) sound none (λ h le lt. empty h le) j after (omega arith)
+    none_past : HasNoBit words (4096 * group) → HasNoBit words from
+    none_past rest j after = elim (cases_lt j (4096 * group)) [
+      | inl lt ↦ skipped from group none next_group.least j after lt
+      | inr ge ↦ rest j ge
+    ]
 
-pub found_past : (count : ℕ) (words groups : List ℕ) (from group : ℕ) (o : Option ℕ) → IsSound count words groups → HasNoBitInGroup words from
-    → IsNextBit groups (from / 4096 + 1) group
-    → IfSome o (IsNextBit words (4096 * group)) → IfSome o (IsNext (bits_of count words) from)
-found_past count words groups from group None sound none next_group h = tt
-found_past count words groups from group (Some i) sound none next_group h = next_is count words groups from i sound
-    (next_past count words groups from group i sound none next_group h)
+    pub found_past : (o : Option ℕ) → IfSome o (IsNextBit words (4096 * group)) → IfSome o (IsNext (bits_of count words) from)
+    found_past None h = tt
+    found_past (Some i) h = next_is from i (next_past i h)
 
-pub unfound_past : (count : ℕ) (words groups : List ℕ) (from group : ℕ) (o : Option ℕ) → IsSound count words groups → HasNoBitInGroup words from
-    → IsNextBit groups (from / 4096 + 1) group
-    → IfNone o (HasNoBit words (4096 * group)) → IfNone o (HasNoneFrom (bits_of count words) from)
-unfound_past count words groups from group None sound none next_group h = none_is count words groups from sound
-    (none_past_group count words groups from group sound none next_group h)
-unfound_past count words groups from group (Some i) sound none next_group h = tt
+    pub unfound_past : (o : Option ℕ) → IfNone o (HasNoBit words (4096 * group)) → IfNone o (HasNoneFrom (bits_of count words) from)
+    unfound_past None h = none_is from (none_past h)
+    unfound_past (Some i) h = tt
 
 -- a group in which no next bit was found
 pub no_bit_in_group : (o : Option ℕ) (given words : List ℕ) (from : ℕ) → given ≡ words → IfNone o (HasNoBitInGroup given from) → is_some o ≡ false

@@ -8,3 +8,5 @@ pub mod CallLists
 -- Images of a crash.
 pub mod Images
 pub mod Histories
+-- Bytes that a reader has left.
+pub mod KnownBytes

@@ -1,10 +1,11 @@
 //! An open file, and what calls of a device make of it.
-ghost use Rattle.std.specs.Prelude.{◌≡◌, ◌≤◌, IfOk, length};
+ghost use Rattle.std.specs.Prelude.{◌≡◌, ◌+◌, ◌<◌, ◌≤◌, IfOk, OnErr, length, take, drop};
+ghost use Rattle.std.specs.Io.KnownBytes.{Consumes, IsAtEnd, Keeps};
 ghost use Rattle.bt_disk.specs.FileDisk.{absent, access_of};
 
 use crate::disk::DeviceFault;
 use std::fs::{Files, OpenFile, OpenOptions};
-use std::io::{ErrorKind, Read, Seek, SeekFrom, Write};
+use std::io::{self, ErrorKind, Read, Seek, SeekFrom, Write};
 
 /// A file that is not there, one that is read, or one that is read and written.
 #[derive(Drop)]
@@ -117,12 +118,23 @@ pub(crate) fn read_file<F: Read + Seek>(
     if file.seek(SeekFrom::Start(at)).is_err() {
         return Err(DeviceFault);
     }
+    fill(file, out)
+}
+
+/// Reads the next bytes until `out` is full or the file ends, and says how many came: short reads and
+/// interrupted ones are made whole.
+fn fill<F: Read>(file: &mut F, out: &mut [u8]) -> Result<usize, DeviceFault>
+    ensures within { IfOk result (λ count. count ≤ length out.new) }
+    ensures next { IfOk result (λ count.
+        Consumes (F.remaining file.old) (F.remaining file.new) (take count out.new)) }
+    ensures ended { IfOk result (λ count. count < length out.new → IsAtEnd (F.remaining file.new)) }
+{
     let mut filled = 0;
     for _ in 0..u64::MAX {
         if filled >= out.len() {
             return Ok(filled);
         }
-        match file.read(&mut out[filled..]) {
+        match read_more(file, out, filled) {
             Ok(0) => return Ok(filled),
             Ok(count) => filled += count,
             Err(error) if error.kind() == ErrorKind::Interrupted => {}
@@ -130,6 +142,19 @@ pub(crate) fn read_file<F: Read + Seek>(
         }
     }
     Err(DeviceFault)
+}
+
+/// Makes one read, behind the bytes in front that are filled.
+fn read_more<F: Read>(file: &mut F, out: &mut [u8], filled: usize) -> io::Result<usize>
+    requires { filled < length out.old }
+    ensures front { take filled out.new ≡ take filled out.old }
+    ensures fits { IfOk result (λ count. filled + count ≤ length out.new) }
+    ensures next { IfOk result (λ count.
+        Consumes (F.remaining file.old) (F.remaining file.new) (take count (drop filled out.new))) }
+    ensures ended { IfOk result (λ count. count ≡ 0 → IsAtEnd (F.remaining file.new)) }
+    ensures kept { OnErr result (Keeps (F.remaining file.old) (F.remaining file.new)) }
+{
+    file.read(&mut out[filled..])
 }
 
 /// Writes all the bytes from byte `at` on.
