@@ -1,0 +1,2 @@
+-- How many blocks have a state.
+pub mod Counts

@@ -1,0 +1,4 @@
+pub mod BlockStates
+pub mod FileStore
+pub mod BlockReads
+pub mod Arrival

@@ -1,0 +1,13 @@
+//! The blocks of one file on a device: which are missing, which wait for their leaf, and which are marked, because they
+//! were read or written with the digest that the file's hash tree (BEP 52) holds at their leaf.
+#![tactic(auto)]
+
+mod arrival;
+mod block_states;
+mod error;
+mod file_store;
+
+pub use arrival::Put;
+pub use block_states::BlockState;
+pub use error::{ReadError, Refused, StoreError};
+pub use file_store::FileStore;
