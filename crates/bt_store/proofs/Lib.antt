@@ -1,2 +1,6 @@
 -- How many blocks have a state.
 pub mod Counts
+-- Runs of blocks.
+pub mod RunReads
+-- Lists that are filled place by place.
+pub mod Found

@@ -2,3 +2,4 @@ pub mod BlockStates
 pub mod FileStore
 pub mod BlockReads
 pub mod Arrival
+pub mod RunsSteps

@@ -6,6 +6,7 @@ mod arrival;
 mod block_states;
 mod error;
 mod file_store;
+mod runs;
 
 pub use arrival::Put;
 pub use block_states::BlockState;

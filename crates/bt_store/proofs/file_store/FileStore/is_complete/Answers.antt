@@ -1,8 +1,4 @@
 use Rattle.std.proofs.Common.{◌≡◌, length, sym, ◌∙◌, ap, eq-eqb, eqb-true}
-use Rattle.std.specs.List.{All, count_by}
-use Rattle.bt_tree.specs.Blocks.{block_count}
-use Rattle.bt_store.specs.BlockStates.{is_marked}
-use Rattle.bt_store.specs.declared.block_states.BlockState.TheVariants.{Marked}
 use Rattle.bt_store.proofs.Counts.{all_marked, marked_count}
 use Rattle.bt_store.proofs.file_store.FileStore.is_complete.Goals as goal
 

@@ -1,7 +1,6 @@
 use Rattle.std.proofs.Common.{◌≡◌, List, ℕ, Some, None, Option, true, refl, sym, ap, ◌∙◌, rules}
-use Rattle.std.specs.Prelude.{is_some, slice_get}
-use Rattle.bt_store.specs.Arrival.{IsBlock, IsNotWrong, PutIsDue}
-use Rattle.bt_store.specs.declared.block_states.BlockState.TheVariants.{Missing}
+use Rattle.std.specs.Prelude.{is_some}
+use Rattle.bt_store.specs.Arrival.{IsNotWrong}
 use Rattle.bt_store.proofs.file_store.FileStore.put.Goals as goal
 
 -- a known leaf that is not wrong is the digest

@@ -1,0 +1,12 @@
+use Rattle.std.proofs.Common.{◌≡◌, length, map}
+use Rattle.bt_disk.specs.Calls.{HasCalls}
+use Rattle.bt_store.specs.BlockReads.{call_of}
+use Rattle.bt_store.specs.RunsSteps.{run_reads}
+use Rattle.bt_store.proofs.runs.read_run.Given as goal
+
+abbrev pub invariant-loop-j : goal.invariant-loop-j
+invariant-loop-j g l = record {
+  size : length l.lengths ≡ 8;
+  calls : HasCalls g.D.Disk.history g.D.Disk.honest g.D.Disk.faults
+      l.fn.disk (map (call_of l.geometry) (run_reads l.first l.lengths l.buffer l.j)) l.disk;
+}
