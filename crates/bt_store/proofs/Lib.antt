@@ -4,3 +4,5 @@ pub mod Counts
 pub mod RunReads
 -- Lists that are filled place by place.
 pub mod Found
+-- What reads make of the states.
+pub mod Judgements

@@ -1,5 +1,5 @@
 -- Blocks that are read one after the other, each into its part of a buffer.
-use Rattle.std.proofs.Common.{◌≡◌, ℕ, zero, suc, ◌+◌, ◌-◌, ◌*◌, ◌<◌, ◌≤◌, ◌↔◌, List, [], ◌∷◌, ◌++◌, map, length, take, drop, get_or, Option, Some, None, Result, Ok, Err, IfOk, refl, sym, ap, ◌∙◌, subst, arith, add-one}
+use Rattle.std.proofs.Common.{◌≡◌, ℕ, zero, suc, ◌+◌, ◌-◌, ◌*◌, ◌<◌, ◌≤◌, ◌↔◌, List, [], ◌∷◌, ◌++◌, map, length, take, drop, get_or, Option, Some, None, Result, Ok, Err, IfOk, IfSome, refl, sym, ap, ◌∙◌, subst, arith, add-one}
 use Rattle.std.proofs.Math.ListN.{set}
 use Rattle.std.proofs.lemmas.List.{drop-take, take-take, get_or-set_other, get_or-set_same, map-append}
 use Rattle.std.proofs.lemmas.Slice.{take-put_mid_below, between-put_mid}
@@ -98,3 +98,7 @@ part_is j buffer =
     let size : j * 16384 + 16384 - j * 16384 ≡ 16384 = omega arith in
     let place : j * 16384 ≡ 16384 * j = omega arith in
     ap (λ m. take m (drop (j * 16384) buffer)) size ∙ ap (λ m. take 16384 (drop m buffer)) place
+
+pub given_within : {E : Type 0} (n : ℕ) (out : List ℕ) (r : Result ℕ E) → length out ≡ n → IfOk r (λ count. count ≤ length out) → IfSome (result_ok r) (λ count. count ≤ n)
+given_within n out (Ok count) size within = omega arith
+given_within n out (Err e) size within = within

@@ -3,3 +3,5 @@ pub mod FileStore
 pub mod BlockReads
 pub mod Arrival
 pub mod RunsSteps
+pub mod Review
+pub mod ReviewSteps

@@ -6,9 +6,11 @@ mod arrival;
 mod block_states;
 mod error;
 mod file_store;
+mod review;
 mod runs;
 
 pub use arrival::Put;
 pub use block_states::BlockState;
 pub use error::{ReadError, Refused, StoreError};
 pub use file_store::FileStore;
+pub use review::{Rechecked, Settled};

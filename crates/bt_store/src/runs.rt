@@ -1,4 +1,4 @@
-ghost use Rattle.std.specs.Prelude.{◌≡◌, ℕ, ◌+◌, ◌*◌, ◌<◌, ◌≤◌, List, Some, None, length, map, slice_index_or};
+ghost use Rattle.std.specs.Prelude.{◌≡◌, ℕ, ◌+◌, ◌*◌, ◌<◌, ◌≤◌, List, IfSome, Some, None, length, map, slice_index_or};
 ghost use Rattle.std.specs.Bool.{OnTrue};
 ghost use Rattle.bt_tree.specs.Limits.{full_block_length};
 ghost use Rattle.bt_tree.specs.Blocks.{block_count, block_at, block_length};
@@ -40,8 +40,10 @@ pub(crate) fn read_run<D: Disk>(
     requires few { count ≤ 8 }
     requires inside { first + count ≤ block_count geometry }
     requires room { length buffer.old ≡ 8 * full_block_length }
-    ensures { HasCalls D.history D.honest D.faults
+    ensures calls { HasCalls D.history D.honest D.faults
         disk.old (map (call_of geometry) (run_reads first result buffer.new count)) disk.new }
+    ensures within { (j : ℕ) → j < count
+        → IfSome (slice_index_or result j None) (λ given. given ≤ block_length geometry (first + j)) }
 {
     let mut lengths = [None; RUN_BLOCKS];
     for j in 0..count {
