@@ -6,3 +6,5 @@ pub mod RunReads
 pub mod Found
 -- What reads make of the states.
 pub mod Judgements
+-- Blocks that are read again.
+pub mod Reviews
