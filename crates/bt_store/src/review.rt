@@ -1,4 +1,4 @@
-ghost use Rattle.std.specs.Prelude.{◌≡◌, ℕ, ◌+◌, ◌-◌, ◌*◌, ◌<◌, ◌≤◌, List, IfOk, IfErr, IsTrue, length, nat_lt, true, false};
+ghost use Rattle.std.specs.Prelude.{◌≡◌, ℕ, ◌+◌, ◌-◌, ◌*◌, ◌^◌, ◌<◌, ◌≤◌, List, IfOk, IfErr, IsTrue, length, nat_lt, true, false};
 ghost use Rattle.std.specs.List.{range_with_len};
 ghost use Rattle.bt_tree.specs.Limits.{full_block_length, max_block_count};
 ghost use Rattle.bt_tree.specs.Blocks.{block_count};
@@ -88,7 +88,7 @@ impl Tally {
 
     /// Of one read more.
     fn with(self, verdict: Verdict) -> Tally
-        requires { tally_sum self < max_block_count }
+        requires { tally_sum self + 1 < 2 ^ 32 }
         ensures { result ≡ added verdict self }
     {
         match verdict {
@@ -109,7 +109,7 @@ impl Tally {
 
     /// Of these reads and those.
     fn plus(self, other: Tally) -> Tally
-        requires { tally_sum self + tally_sum other ≤ max_block_count }
+        requires { tally_sum self + tally_sum other < 2 ^ 32 }
         ensures right { result.right ≡ self.right + other.right }
         ensures wrong { result.wrong ≡ self.wrong + other.wrong }
         ensures faults { result.faults ≡ self.faults + other.faults }
@@ -255,11 +255,13 @@ impl<D: Disk + Drop, H: NodeHash> FileStore<D, H> {
         let mut at = from;
         while at < end {
             let count = self.chosen_run(tree, review, at, end);
-            if count > 0 {
+            if count == 0 {
+                at += 1;
+            } else {
                 let run = self.judge_run(tree, at, count as usize, review.forgives(), buffer);
                 tally = tally.plus(run);
+                at += count;
             }
-            at += count.max(1);
         }
         tally
     }
