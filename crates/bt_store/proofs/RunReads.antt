@@ -6,11 +6,11 @@ use Rattle.std.proofs.lemmas.Slice.{take-put_mid_below, between-put_mid}
 use Rattle.std.specs.Result.{result_ok}
 use borrow.Rule.Slice.PartMut.{put_mid}
 use Rattle.bt_tree.specs.Blocks.{block_at, block_length}
-use Rattle.bt_disk.specs.Limits.{count_after}
+use Rattle.bt_disk.specs.Limits.{count_after, one_more}
 use Rattle.bt_disk.specs.History.{History}
 use Rattle.bt_disk.specs.Calls.{bytes_given, read_fault, HasCalls, IsAnswered, read_call}
 use Rattle.bt_disk.proofs.CallLists.{has_one, has_then, count_read}
-use Rattle.bt_store.specs.BlockReads.{call_of}
+use Rattle.bt_store.specs.BlockReads.{given, failed, call_of}
 use Rattle.bt_store.specs.RunsSteps.{read_of, run_reads, finding_of}
 use Rattle.bt_store.specs.declared.runs.Finding.TheVariants.{Whole}
 
@@ -102,3 +102,19 @@ part_is j buffer =
 pub given_within : {E : Type 0} (n : ℕ) (out : List ℕ) (r : Result ℕ E) → length out ≡ n → IfOk r (λ count. count ≤ length out) → IfSome (result_ok r) (λ count. count ≤ n)
 given_within n out (Ok count) size within = omega arith
 given_within n out (Err e) size within = within
+
+-- ---- one block alone
+
+module _ {D : Type 0} (history : D → History) (honest : D → Type 0) (faults : D → ℕ) (n i : ℕ) (b c : D) (out : List ℕ) where
+  pub one_given : (count : ℕ) → length out ≡ block_length n i → faults c ≡ faults b → honest b ↔ honest c
+      → (honest b → IsAnswered (history b) (bytes_given (16384 * i) (length out) (take count out)) (history c))
+      → HasCalls history honest faults b (call_of n (given i (take count out)) ∷ []) c
+  one_given count size counted as_honest answered =
+      has_one history honest faults b (call_of n (given i (take count out))) c counted as_honest
+      (λ h. subst (λ l. IsAnswered (history b) (bytes_given (16384 * i) l (take count out)) (history c)) size (answered h))
+
+  pub one_failed : length out ≡ block_length n i → faults c ≡ one_more (faults b) → honest b ↔ honest c
+      → (honest b → IsAnswered (history b) (read_fault (16384 * i) (length out)) (history c)) → HasCalls history honest faults b (call_of n (failed i) ∷ []) c
+  one_failed size counted as_honest answered =
+      has_one history honest faults b (call_of n (failed i)) c counted as_honest
+      (λ h. subst (λ l. IsAnswered (history b) (read_fault (16384 * i) l) (history c)) size (answered h))

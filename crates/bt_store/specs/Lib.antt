@@ -5,3 +5,4 @@ pub mod Arrival
 pub mod RunsSteps
 pub mod Review
 pub mod ReviewSteps
+pub mod SingleBlock

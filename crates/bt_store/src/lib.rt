@@ -8,6 +8,7 @@ mod error;
 mod file_store;
 mod review;
 mod runs;
+mod single_block;
 
 pub use arrival::Put;
 pub use block_states::BlockState;
