@@ -175,7 +175,7 @@ module _ (dig : List ℕ → List ℕ) (k : Facts) (first : ℕ) (counts : List 
       let verdict = read_verdict j (within j (omega arith)) (found j (omega arith)) in
       let before = run_tally j (λ t lt. within t (omega arith)) (λ t lt. found t (omega arith)) in
       let next : added (verdict_of_read dig k read) (tally_of dig k first findings j) ≡ tally_of dig k first findings (suc j) =
-          ap (λ v. added v (tally_of dig k first findings j)) verdict ∙ sym (tally_next dig k first findings j) ∙ ap (tally_of dig k first findings) (add-one j) in
+      ap (λ v. added v (tally_of dig k first findings j)) verdict ∙ sym (tally_next dig k first findings j) ∙ ap (tally_of dig k first findings) (add-one j) in
       subst (λ reads. IsTallyOf dig k reads (tally_of dig k first findings (suc j))) (sym (reads_more first counts buffer j))
       (subst (IsTallyOf dig k (run_reads first counts buffer j ++ read ∷ [])) next (tally_more dig k (run_reads first counts buffer j) read (tally_of dig k first findings j) before))
 

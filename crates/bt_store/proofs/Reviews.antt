@@ -136,8 +136,8 @@ module _ {D : Type 0} (history : D → History) (honest : D → Type 0) (faults 
   reviewed_past review from at old new tally before none =
       let not_chosen : is_chosen dig k review old.states at ≡ false = sym (same_choice dig k review new.states old.states at (before.rest at (omega arith))) ∙ none in
       let same : chosen_blocks dig k review old.states from (at + 1 - from) ≡ chosen_blocks dig k review old.states from (at - from) =
-          more_blocks review from at 1 old.states before.low
-          ∙ ap (λ l. chosen_blocks dig k review old.states from (at - from) ++ l) (filter_out (is_chosen dig k review old.states) at not_chosen) ∙ append-nil _ in
+      more_blocks review from at 1 old.states before.low
+      ∙ ap (λ l. chosen_blocks dig k review old.states from (at - from) ++ l) (filter_out (is_chosen dig k review old.states) at not_chosen) ∙ append-nil _ in
       record {
         reads = before.reads;
         judged = subst (λ l. IsJudged history honest faults dig k (forgives review) l old before.reads new) (sym same) before.judged;
@@ -153,10 +153,10 @@ module _ {D : Type 0} (history : D → History) (honest : D → Type 0) (faults 
       → IsReviewedTo review from (at + n) a c total
   reviewed_run review from at n a b c tally run total more before chosen judged counts sum right wrong faulty =
       let all : (j : ℕ) → j < n → is_chosen dig k review a.states (at + j) ≡ true = λ j lt.
-          sym (same_choice dig k review b.states a.states (at + j) (before.rest (at + j) (omega arith))) ∙ chosen j lt in
+      sym (same_choice dig k review b.states a.states (at + j) (before.rest (at + j) (omega arith))) ∙ chosen j lt in
       let blocks : chosen_blocks dig k review a.states from (at + n - from) ≡ chosen_blocks dig k review a.states from (at - from) ++ range_with_len at n =
-          more_blocks review from at n a.states before.low
-          ∙ ap (λ l. chosen_blocks dig k review a.states from (at - from) ++ l) (filter_whole (is_chosen dig k review a.states) at n all) in
+      more_blocks review from at n a.states before.low
+      ∙ ap (λ l. chosen_blocks dig k review a.states from (at - from) ++ l) (filter_whole (is_chosen dig k review a.states) at n all) in
       let both = judged_then (forgives review) a b c _ _ before.reads more before.judged judged in
       record {
         reads = before.reads ++ more;

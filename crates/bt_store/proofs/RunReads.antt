@@ -35,7 +35,7 @@ unfolding run_reads
 reads_kept first counts others buffer pasted zero same parts = refl
 reads_kept first counts others buffer pasted (suc j) same parts =
     let here : read_of (first + j) (get_or others j None) (block_at pasted j) ≡ read_of (first + j) (get_or counts j None) (block_at buffer j) =
-        ap (λ c. read_of (first + j) c (block_at pasted j)) (same j (omega arith)) ∙ ap (read_of (first + j) (get_or counts j None)) (parts j (omega arith)) in
+    ap (λ c. read_of (first + j) c (block_at pasted j)) (same j (omega arith)) ∙ ap (read_of (first + j) (get_or counts j None)) (parts j (omega arith)) in
     ap (λ xs. xs ++ read_of (first + j) (get_or others j None) (block_at pasted j) ∷ []) (reads_kept first counts others buffer pasted j (λ t lt. same t (omega arith)) (λ t lt. parts t (omega arith)))
     ∙ ap (λ x. run_reads first counts buffer j ++ x ∷ []) here
 
@@ -71,19 +71,19 @@ run_next history honest faults n first j k a b c counts buffer out r made in_cou
     let after = set counts j (result_ok r) in
     let pasted = put_mid (j * 16384) k buffer out in
     let one : HasCalls history honest faults b (call ∷ []) c =
-        has_one history honest faults b call c (counted ∙ count_read (faults b) (16384 * (first + j)) out r) as_honest answered in
+    has_one history honest faults b call c (counted ∙ count_read (faults b) (16384 * (first + j)) out r) as_honest answered in
     let both : HasCalls history honest faults a (map (call_of n) (run_reads first counts buffer j) ++ call ∷ []) c = has_then history honest faults a b c _ _ made one in
     let kept : run_reads first after pasted j ≡ run_reads first counts buffer j =
-        reads_kept first counts after buffer pasted j (λ t lt. get_or-set_other counts j t (result_ok r) None (λ e. absurd (omega arith)))
-        (λ t lt. part_kept (j * 16384) k buffer out t (omega arith) in_buffer) in
+    reads_kept first counts after buffer pasted j (λ t lt. get_or-set_other counts j t (result_ok r) None (λ e. absurd (omega arith)))
+    (λ t lt. part_kept (j * 16384) k buffer out t (omega arith) in_buffer) in
     let here : get_or after j None ≡ result_ok r = get_or-set_same counts j (result_ok r) None in_counts in
     let same : call_of n (read_of (first + j) (get_or after j None) (block_at pasted j)) ≡ call =
-        ap (λ count. call_of n (read_of (first + j) count (block_at pasted j))) here
-        ∙ call_same n (first + j) (block_at pasted j) out r size (written_by j k buffer out r in_buffer (omega (arith, size)) within) in
+    ap (λ count. call_of n (read_of (first + j) count (block_at pasted j))) here
+    ∙ call_same n (first + j) (block_at pasted j) out r size (written_by j k buffer out r in_buffer (omega (arith, size)) within) in
     let all : map (call_of n) (run_reads first after pasted (j + 1)) ≡ map (call_of n) (run_reads first counts buffer j) ++ call ∷ [] =
-        ap (λ m. map (call_of n) (run_reads first after pasted m)) (add-one j) ∙ ap (map (call_of n)) (reads_more first after pasted j) ∙ map-append (call_of n) _ _
-        ∙ ap (λ xs. map (call_of n) xs ++ call_of n (read_of (first + j) (get_or after j None) (block_at pasted j)) ∷ []) kept
-        ∙ ap (λ x. map (call_of n) (run_reads first counts buffer j) ++ x ∷ []) same in
+    ap (λ m. map (call_of n) (run_reads first after pasted m)) (add-one j) ∙ ap (map (call_of n)) (reads_more first after pasted j) ∙ map-append (call_of n) _ _
+    ∙ ap (λ xs. map (call_of n) xs ++ call_of n (read_of (first + j) (get_or after j None) (block_at pasted j)) ∷ []) kept
+    ∙ ap (λ x. map (call_of n) (run_reads first counts buffer j) ++ x ∷ []) same in
     subst (λ xs. HasCalls history honest faults a xs c) (sym all) both
 
 -- a read that gave a full block found it whole

@@ -6,3 +6,4 @@ pub mod RunsSteps
 pub mod Review
 pub mod ReviewSteps
 pub mod SingleBlock
+pub mod Laws

@@ -6,6 +6,7 @@ mod arrival;
 mod block_states;
 mod error;
 mod file_store;
+mod law;
 mod review;
 mod runs;
 mod single_block;
@@ -14,4 +15,8 @@ pub use arrival::Put;
 pub use block_states::BlockState;
 pub use error::{ReadError, Refused, StoreError};
 pub use file_store::FileStore;
+pub use law::right_blocks_are_files;
 pub use review::{Rechecked, Settled};
+
+#[cfg(test)]
+mod tests;

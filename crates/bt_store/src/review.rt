@@ -191,7 +191,7 @@ impl<D: Disk + Drop, H: NodeHash> FileStore<D, H> {
         ensures inside { IfOk result (λ _. from + count ≤ block_count self.old.file_length) }
         ensures settled { IfOk result (λ settled. (reads : List BlockRead)
             × IsJudged D.history D.honest D.faults H.digest tree.now false
-                (waiting_blocks H.digest tree.now self.old.states from count) self.old reads self.new
+            (waiting_blocks H.digest tree.now self.old.states from count) self.old reads self.new
             × (settled.marked ≡ right_count H.digest tree.now reads)
             × (settled.freed ≡ wrong_count H.digest tree.now reads)
             × (settled.faults ≡ fault_count reads)) }
@@ -218,7 +218,7 @@ impl<D: Disk + Drop, H: NodeHash> FileStore<D, H> {
         requires { tree.now.file_length ≡ self.old.file_length }
         ensures { (reads : List BlockRead)
             × IsJudged D.history D.honest D.faults H.digest tree.now true
-                (marked_blocks self.old.states) self.old reads self.new
+            (marked_blocks self.old.states) self.old reads self.new
             × (result.kept ≡ right_count H.digest tree.now reads)
             × (result.unmarked ≡ wrong_count H.digest tree.now reads)
             × (result.faults ≡ fault_count reads) }
@@ -248,7 +248,7 @@ impl<D: Disk + Drop, H: NodeHash> FileStore<D, H> {
         requires room { length buffer.old ≡ 8 * full_block_length }
         ensures { (reads : List BlockRead)
             × IsJudged D.history D.honest D.faults H.digest tree.now (forgives review)
-                (chosen_blocks H.digest tree.now review self.old.states from (end - from)) self.old reads self.new
+            (chosen_blocks H.digest tree.now review self.old.states from (end - from)) self.old reads self.new
             × IsTallyOf H.digest tree.now reads result }
     {
         let mut tally = Tally::new();
@@ -311,7 +311,7 @@ impl<D: Disk + Drop, H: NodeHash> FileStore<D, H> {
         requires room { length buffer.old ≡ 8 * full_block_length }
         ensures judged { (reads : List BlockRead)
             × IsJudged D.history D.honest D.faults H.digest tree.now forgiving
-                (range_with_len first count) self.old reads self.new
+            (range_with_len first count) self.old reads self.new
             × IsTallyOf H.digest tree.now reads result }
         ensures sum { tally_sum result ≡ count }
     {

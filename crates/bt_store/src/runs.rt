@@ -88,7 +88,7 @@ fn is_full(geometry: Geometry, first: u32, lengths: &[Option<usize>; RUN_BLOCKS]
     requires { first + 8 ≤ block_count geometry }
     ensures { OnTrue result ((j : ℕ) → j < 8
         → (slice_index_or lengths.now j None ≡ Some full_block_length)
-            × (block_length geometry (first + j) ≡ full_block_length)) }
+        × (block_length geometry (first + j) ≡ full_block_length)) }
 {
     geometry.block_len(first + 7) == BLOCK_LEN
         && lengths.iter().all(|length| *length == Some(BLOCK_LEN))

@@ -25,8 +25,8 @@ loop-j-preserved g c =
     let before = c.loop-j.invariant in
     let few : j < length c.args.findings.now = omega (arith, c.told-findings, c.requires.few) in
     let verdict : c.judge-verdict.result ≡ verdict_at dig k c.args.first c.args.findings.now j =
-        c.judge-verdict.ensures ∙ ap (λ leaf. verdict_of leaf (get_or c.args.findings.now j (Whole []))) c.known.ensures
-        ∙ ap (verdict_of (value_at dig k 0 (c.args.first + j))) (get_or_defaults c.args.findings.now j (Whole []) Failed few) in
+    c.judge-verdict.ensures ∙ ap (λ leaf. verdict_of leaf (get_or c.args.findings.now j (Whole []))) c.known.ensures
+    ∙ ap (verdict_of (value_at dig k 0 (c.args.first + j))) (get_or_defaults c.args.findings.now j (Whole []) Failed few) in
     record {
       states = c.give_state.ensures ∙ ap (λ v. after_verdict c.args.forgiving (c.args.first + j) v c.loop-j.states) verdict
           ∙ ap (after_verdict c.args.forgiving (c.args.first + j) (verdict_at dig k c.args.first c.args.findings.now j)) before.states

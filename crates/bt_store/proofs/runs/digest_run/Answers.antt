@@ -19,7 +19,7 @@ loop-j-preserved g c =
     let dig = g.H.NodeHash.digest in
     let within : j < length c.loop-j.findings = omega (arith, c.loop-j.invariant.size, c.requires.few) in
     let here : c.digest_slot.result ≡ finding_of dig c.args.geometry (c.args.first + j) (get_or c.args.lengths.now j None) (block_at c.args.buffer.now j) =
-        c.digest_slot.ensures ∙ ap (finding_of dig c.args.geometry (c.args.first + j) (get_or c.args.lengths.now j None)) (part_is j c.args.buffer.now) in
+    c.digest_slot.ensures ∙ ap (finding_of dig c.args.geometry (c.args.first + j) (get_or c.args.lengths.now j None)) (part_is j c.args.buffer.now) in
     record {
       size = length-set c.loop-j.findings j c.digest_slot.result ∙ c.loop-j.invariant.size;
       below = filled_more (λ t. finding_of dig c.args.geometry (c.args.first + t) (get_or c.args.lengths.now t None) (block_at c.args.buffer.now t))

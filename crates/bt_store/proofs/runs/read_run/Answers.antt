@@ -25,15 +25,15 @@ loop-j-preserved g c =
     let i = c.args.first + c.loop-j.j in
     let size : length c.read_at.new.out ≡ block_length c.args.geometry i = search rules in
     let in_lengths : c.loop-j.j < length c.loop-j.lengths =
-        omega (arith, c.loop-j.invariant.size, c.loop-j-test.true, c.loop-j.auto.j-end, c.requires.few) in
+    omega (arith, c.loop-j.invariant.size, c.loop-j-test.true, c.loop-j.auto.j-end, c.requires.few) in
     let in_buffer : c.loop-j.j * 16384 ≤ length c.loop-j.buffer =
-        omega (arith, c.loop-j.auto.buffer, c.requires.room, c.loop-j-test.true, c.loop-j.auto.j-end, c.requires.few) in
+    omega (arith, c.loop-j.auto.buffer, c.requires.room, c.loop-j-test.true, c.loop-j.auto.j-end, c.requires.few) in
     let next = run_next d.history d.honest d.faults c.args.geometry c.args.first c.loop-j.j (c.loop-j.j * 16384 + c.block_len.result - c.loop-j.j * 16384)
-        c.args.disk.now c.loop-j.disk c.read_at.new.self c.loop-j.lengths c.loop-j.buffer c.read_at.new.out c.read_at.result
-        c.loop-j.invariant.calls in_lengths in_buffer size w.within w.counted w.as_honest
-        (λ h. subst (λ at. IsAnswered (d.history c.loop-j.disk) (read_call at c.read_at.new.out c.read_at.result) (d.history c.read_at.new.self)) c.place_of.ensures (w.answered h)) in
+    c.args.disk.now c.loop-j.disk c.read_at.new.self c.loop-j.lengths c.loop-j.buffer c.read_at.new.out c.read_at.result
+    c.loop-j.invariant.calls in_lengths in_buffer size w.within w.counted w.as_honest
+    (λ h. subst (λ at. IsAnswered (d.history c.loop-j.disk) (read_call at c.read_at.new.out c.read_at.result) (d.history c.read_at.new.self)) c.place_of.ensures (w.answered h)) in
     let given : IfSome c.ok.result (λ n. n ≤ block_length c.args.geometry i) =
-        rw c.ok.ensures.value (given_within (block_length c.args.geometry i) c.read_at.new.out c.read_at.result size w.within) in
+    rw c.ok.ensures.value (given_within (block_length c.args.geometry i) c.read_at.new.out c.read_at.result size w.within) in
     record {
       size = length-set c.loop-j.lengths c.loop-j.j c.ok.result ∙ c.loop-j.invariant.size;
       within = filled_fact (λ t count. IfSome count (λ n. n ≤ block_length c.args.geometry (c.args.first + t))) c.loop-j.lengths c.loop-j.j c.ok.result None

@@ -28,7 +28,7 @@ returns-clause-judged g c =
     let size : length buffer ≡ 8 * 16384 = c.read_run-lengths.auto.buffer ∙ c.requires.room in
     let within : IsWithinParts counts buffer count = within_parts a.geometry first count counts buffer size c.requires.few c.read_run-lengths.ensures.within in
     let found : AreFound dig k.file_length first counts buffer findings count = λ t lt.
-        c.digest_run-findings.ensures t lt ∙ ap (λ n. finding_of dig n (first + t) (get_or counts t None) (block_at buffer t)) same in
+    c.digest_run-findings.ensures t lt ∙ ap (λ n. finding_of dig n (first + t) (get_or counts t None) (block_at buffer t)) same in
     subst (λ s. (reads : List BlockRead) × IsJudged d.history d.honest d.faults dig k c.args.forgiving (range_with_len first count) s reads after × IsTallyOf dig k reads c.judge_findings.result)
     c.self.view_is (
       reads,

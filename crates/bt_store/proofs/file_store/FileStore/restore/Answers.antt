@@ -17,18 +17,20 @@ returns-then-not-is_missing g c =
     let d = g.D.Disk in
     let same : c.self.inside.geometry ≡ c.args.tree.now.file_length = ap (λ s. s.file_length) c.self.view_is ∙ sym c.requires in
     let inside : c.args.block < block_count c.args.tree.now.file_length =
-        subst (λ n. c.args.block < n) (c.blocks-2.ensures.value ∙ ap (λ n. block_count n) same) c.if-block-blocks.false in
+    subst (λ n. c.args.block < n) (c.blocks-2.ensures.value ∙ ap (λ n. block_count n) same) c.if-block-blocks.false in
     let kept : ¬ IsLost g.H.NodeHash.digest c.args.tree.now c.args.block c.args.self.now.states = λ lost. elim c.then-not-is_missing.branch [
       | then-not-is_missing-via-then-not-is_missing w ↦ w.if-not-is_missing.ensures.no lost.missing
       | then-not-is_missing-via-else-not-is_missing+then-is_none w ↦
           let known : IsSome w.known.result = subst (λ leaf. IsSome leaf) (sym w.known.ensures) lost.known in
           let both : true ≡ false = sym known ∙ w.if-is_none.ensures in absurd cc
-    ] in
-    ([], record {
-      calls = has_none d.history d.honest d.faults c.args.self.now.disk;
-      answer = subst (λ b. Restores g.H.NodeHash.digest c.args.tree.now c.args.block c.args.self.now.states [] (Ok b) c.args.self.now.states) (sym c.is_marked.ensures.value) (unread inside kept);
-      same_file = refl;
-    })
+    ] in (
+      [],
+      record {
+        calls = has_none d.history d.honest d.faults c.args.self.now.disk;
+        answer = subst (λ b. Restores g.H.NodeHash.digest c.args.tree.now c.args.block c.args.self.now.states [] (Ok b) c.args.self.now.states) (sym c.is_marked.ensures.value) (unread inside kept);
+        same_file = refl;
+      },
+    )
 
 pub find-requires-clause-lost : goal.find-requires-clause-lost
 find-requires-clause-lost g c = record {
