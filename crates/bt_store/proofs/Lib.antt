@@ -8,3 +8,7 @@ pub mod Found
 pub mod Judgements
 -- Blocks that are read again.
 pub mod Reviews
+-- Groups of blocks that are taken in.
+pub mod GroupReads
+pub mod Anchors
+pub mod Marks

@@ -22,7 +22,7 @@ use Rattle.bt_store.specs.declared.review.Tally.{Tally}
 
 -- ---- lists of blocks
 
-range_split : (a m n : ℕ) → range_with_len a (m + n) ≡ range_with_len a m ++ range_with_len (a + m) n
+pub range_split : (a m n : ℕ) → range_with_len a (m + n) ≡ range_with_len a m ++ range_with_len (a + m) n
 range_split a zero n = ap (range_with_len a) (zero-add n) ∙ ap (λ x. range_with_len x n) (omega arith)
 range_split a (suc m) n =
     let next : suc m + n ≡ suc (m + n) = omega arith in

@@ -7,3 +7,5 @@ pub mod Review
 pub mod ReviewSteps
 pub mod SingleBlock
 pub mod Laws
+pub mod Adoption
+pub mod GroupsSteps

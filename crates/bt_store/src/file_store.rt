@@ -18,6 +18,7 @@ use std::marker::Model;
 /// the file, which has the same geometry; only `create` and `adopt` take memory.
 #[derive(Drop)]
 pub struct FileStore<D: Disk + Drop, H: NodeHash> {
+    pub(crate) alloc: Global,
     pub(crate) disk: D,
     pub(crate) hash: H,
     pub(crate) geometry: Geometry,
@@ -54,6 +55,7 @@ impl<D: Disk + Drop, H: NodeHash> FileStore<D, H> {
             return Err(Refused { disk });
         };
         Ok(FileStore {
+            alloc,
             disk,
             hash,
             geometry,

@@ -1,0 +1,2 @@
+use Rattle.bt_store.proofs.file_store.FileStore.adopt_unknown.Goals as goal
+
