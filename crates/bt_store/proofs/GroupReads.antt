@@ -128,7 +128,7 @@ module _ (dig : List ℕ → List ℕ) (n first : ℕ) (counts : List (Option �
   run_digests (suc j) within found =
       let read = read_of (first + j) (get_or counts j None) (block_at buffer j) in
       let here : finding_digest (padding_digest dig 0) (get_or findings j Failed) ≡ claimed_digest dig n read =
-          ap (finding_digest (padding_digest dig 0)) (found j (omega arith)) ∙ sym (claimed_is dig n (first + j) (get_or counts j None) (block_at buffer j) (within j (omega arith))) in
+      ap (finding_digest (padding_digest dig 0)) (found j (omega arith)) ∙ sym (claimed_is dig n (first + j) (get_or counts j None) (block_at buffer j) (within j (omega arith))) in
       ap (λ l. l ++ finding_digest (padding_digest dig 0) (get_or findings j Failed) ∷ []) (run_digests j (λ t lt. within t (omega arith)) (λ t lt. found t (omega arith)))
       ∙ ap (λ d. map (claimed_digest dig n) (run_reads first counts buffer j) ++ d ∷ []) here
       ∙ sym (map-append (claimed_digest dig n) (run_reads first counts buffer j) (read ∷ [])) ∙ ap (map (claimed_digest dig n)) (sym (reads_more first counts buffer j))
@@ -142,10 +142,10 @@ module _ (dig : List ℕ → List ℕ) (n first : ℕ) (counts : List (Option �
       let reads = run_reads first counts buffer j in
       let read = read_of (first + j) (get_or counts j None) (block_at buffer j) in
       let more : count_by (is_whole n) (run_reads first counts buffer (suc j)) ≡ count_by (is_whole n) reads + cond (is_whole n read) 1 0 =
-          ap (count_by (is_whole n)) (reads_more first counts buffer j) ∙ sum_by_push (λ x. cond (is_whole n x) 1 0) reads read in
+      ap (count_by (is_whole n)) (reads_more first counts buffer j) ∙ sum_by_push (λ x. cond (is_whole n x) 1 0) reads read in
       let here : (counted_findings findings (suc j) census).whole ≡ (counted_findings findings j census).whole + cond (is_whole n read) 1 0 =
-          ap (λ c. c.whole) (counted_more findings j census) ∙ ap (λ f. (counted f (counted_findings findings j census)).whole) (found j (omega arith))
-          ∙ whole_is dig n (first + j) (get_or counts j None) (block_at buffer j) (counted_findings findings j census) (within j (omega arith)) in
+      ap (λ c. c.whole) (counted_more findings j census) ∙ ap (λ f. (counted f (counted_findings findings j census)).whole) (found j (omega arith))
+      ∙ whole_is dig n (first + j) (get_or counts j None) (block_at buffer j) (counted_findings findings j census) (within j (omega arith)) in
       omega (arith, more, here, run_whole j census (λ t lt. within t (omega arith)) (λ t lt. found t (omega arith)))
 
   run_faults : (j : ℕ) (census : Census) → AreFound dig n first counts buffer findings j
@@ -157,10 +157,10 @@ module _ (dig : List ℕ → List ℕ) (n first : ℕ) (counts : List (Option �
       let reads = run_reads first counts buffer j in
       let read = read_of (first + j) (get_or counts j None) (block_at buffer j) in
       let more : fault_count (run_reads first counts buffer (suc j)) ≡ fault_count reads + cond (is_fault read) 1 0 =
-          ap fault_count (reads_more first counts buffer j) ∙ sum_by_push (λ x. cond (is_fault x) 1 0) reads read in
+      ap fault_count (reads_more first counts buffer j) ∙ sum_by_push (λ x. cond (is_fault x) 1 0) reads read in
       let here : (counted_findings findings (suc j) census).faults ≡ (counted_findings findings j census).faults + cond (is_fault read) 1 0 =
-          ap (λ c. c.faults) (counted_more findings j census) ∙ ap (λ f. (counted f (counted_findings findings j census)).faults) (found j (omega arith))
-          ∙ fault_is dig n (first + j) (get_or counts j None) (block_at buffer j) (counted_findings findings j census) in
+      ap (λ c. c.faults) (counted_more findings j census) ∙ ap (λ f. (counted f (counted_findings findings j census)).faults) (found j (omega arith))
+      ∙ fault_is dig n (first + j) (get_or counts j None) (block_at buffer j) (counted_findings findings j census) in
       omega (arith, more, here, run_faults j census (λ t lt. found t (omega arith)))
 
 -- ---- a group
@@ -178,7 +178,7 @@ module _ {D : Type 0} (history : D → History) (honest : D → Type 0) (faults 
         failed = refl;
       }
 
-  group_size : (done : ℕ) (a b : D) (reads : List BlockRead) (census : Census) (digests : List (List ℕ))
+  pub group_size : (done : ℕ) (a b : D) (reads : List BlockRead) (census : Census) (digests : List (List ℕ))
       → IsGroupRead history honest faults dig n first done width a reads census b digests → length reads ≡ done
   group_size done a b reads census digests read =
       sym (length-map reads block_of) ∙ ap length read.in_order ∙ length-range_with_len first done
@@ -194,7 +194,7 @@ module _ {D : Type 0} (history : D → History) (honest : D → Type 0) (faults 
       → HasCalls history honest faults b (map (call_of n) (run_reads (first + done) counts buffer m)) c
       → IsWithinParts counts buffer m → AreFound dig n (first + done) counts buffer findings m
       → IsGroupRead history honest faults dig n first (done + m) width a (reads ++ run_reads (first + done) counts buffer m) (counted_findings findings m census) c
-          (noted_findings done findings m digests)
+      (noted_findings done findings m digests)
   group_next done m a b c reads census digests counts buffer findings before fits calls within found =
       let more = run_reads (first + done) counts buffer m in
       let padding = padding_digest dig 0 in

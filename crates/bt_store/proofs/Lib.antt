@@ -12,3 +12,4 @@ pub mod Reviews
 pub mod GroupReads
 pub mod Anchors
 pub mod Marks
+pub mod Adoptions

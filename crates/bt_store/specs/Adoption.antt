@@ -84,28 +84,28 @@ pub data Adopts (dig : List ℕ → List ℕ) (k : Facts) (from : ℕ) (states :
   known : (count : ℕ) (reads : List BlockRead) → IsKnownGroup dig k from count
       → map block_of reads ≡ range_with_len from count
       → Adopts dig k from states reads
-          (record { next = from + count; anchor = 0; marked = right_count dig k reads; faults = fault_count reads })
-          k (judged dig k true reads states)
+      (record { next = from + count; anchor = 0; marked = right_count dig k reads; faults = fault_count reads })
+      k (judged dig k true reads states)
   accepted : (anchor first count : ℕ) (reads : List BlockRead) (grown : Facts)
       → IsUnknownGroup k from anchor first count → AreWhole k.file_length first count reads
       → Accepts dig k (claim_of_reads dig k.file_length anchor first reads) grown
       → Adopts dig k from states reads
-          (record { next = first + count; anchor = anchor; marked = count; faults = 0 })
-          grown (marked_run first count states)
+      (record { next = first + count; anchor = anchor; marked = count; faults = 0 })
+      grown (marked_run first count states)
   refused : (anchor first count : ℕ) (reads : List BlockRead) (error : ProofError)
       → IsUnknownGroup k from anchor first count → AreWhole k.file_length first count reads
       → IsRefused dig k (claim_of_reads dig k.file_length anchor first reads) error → error ≢ OutOfMemory
       → Adopts dig k from states reads
-          (record { next = first + count; anchor = anchor; marked = 0; faults = 0 }) k states
+      (record { next = first + count; anchor = anchor; marked = 0; faults = 0 }) k states
   short : (anchor first count : ℕ) (reads : List BlockRead) → IsUnknownGroup k from anchor first count
       → map block_of reads ≡ range_with_len first count → fault_count reads ≡ 0
       → count_by (is_whole k.file_length) reads < count
       → Adopts dig k from states reads
-          (record { next = first + count; anchor = anchor; marked = 0; faults = 0 }) k states
+      (record { next = first + count; anchor = anchor; marked = 0; faults = 0 }) k states
   unread : (anchor first count : ℕ) (reads : List BlockRead) → IsUnknownGroup k from anchor first count
       → map block_of reads ≡ range_with_len first count → 0 < fault_count reads
       → Adopts dig k from states reads
-          (record { next = first + count; anchor = 0; marked = 0; faults = fault_count reads }) k states
+      (record { next = first + count; anchor = 0; marked = 0; faults = fault_count reads }) k states
 
 -- these reads were made and no other call of the device, and the rest is what `Adopts` says
 pub record IsAdopted {D : Type 0} (history : D → History) (honest : D → Type 0) (faults : D → ℕ)

@@ -10,7 +10,9 @@ ghost use Rattle.bt_store.specs.Adoption.{IsAnchor, IsKnownGroup, IsUnknownGroup
 ghost use Rattle.bt_store.specs.GroupsSteps.{IsGroupRead};
 
 use crate::file_store::FileStore;
-use crate::groups::{Census, Group, anchor_of, claim_leaves, group_below, known_run, mark_run, padding, read_group};
+use crate::groups::{
+    Census, Group, anchor_of, claim_leaves, group_below, known_run, mark_run, padding, read_group,
+};
 use crate::runs::RUN_LEN;
 use bt_disk::Disk;
 use bt_sparse::SparseTree;
@@ -144,6 +146,14 @@ impl<D: Disk + Drop, H: NodeHash> FileStore<D, H> {
         ensures others { self.new ≡ record self.old { disk = self.new.disk } }
     {
         let mut buffer = [0; RUN_LEN];
-        read_group(&mut self.disk, self.hash, self.geometry, first, count, digests, &mut buffer)
+        read_group(
+            &mut self.disk,
+            self.hash,
+            self.geometry,
+            first,
+            count,
+            digests,
+            &mut buffer,
+        )
     }
 }
