@@ -7,16 +7,13 @@ use Rattle.bt_disk.specs.Calls.{HasCalls}
 use Rattle.bt_disk.proofs.CallLists.{has_none}
 use Rattle.bt_sparse.specs.SparseTree.{Facts}
 use Rattle.bt_sparse.specs.Acceptance.{Accepts, IsRefused}
-use Rattle.bt_sparse.specs.declared.claim.Claim.{Claim}
 use Rattle.bt_sparse.specs.declared.claim.ProofError.{ProofError}
 use Rattle.bt_sparse.specs.declared.claim.ProofError.TheVariants.{OutOfMemory}
 use Rattle.bt_store.specs.FileStore.{StoreView}
-use Rattle.bt_store.specs.BlockReads.{BlockRead, block_of, call_of, fault_count}
-use Rattle.bt_store.specs.Adoption.{IsUnknownGroup, of_unknown, claimed_digest, is_whole, leaf_claim, claim_of_reads, marked_run, AreWhole, Adopts, accepted, refused, short, unread, IsAdopted, StopsAdopting}
+use Rattle.bt_store.specs.BlockReads.{BlockRead, call_of}
+use Rattle.bt_store.specs.Adoption.{IsUnknownGroup, of_unknown, claimed_digest, is_whole, leaf_claim, claim_of_reads, marked_run, AreWhole, accepted, refused, short, unread, IsAdopted, StopsAdopting}
 use Rattle.bt_store.specs.GroupsSteps.{IsGroupRead}
-use Rattle.bt_store.specs.declared.adoption.Adopted.{Adopted}
 use Rattle.bt_store.specs.declared.groups.Census.{Census}
-use Rattle.bt_store.specs.declared.block_states.BlockState.{BlockState}
 use Rattle.bt_store.proofs.GroupReads.{group_size, group_limits}
 
 module _ {D : Type 0} (history : D → History) (honest : D → Type 0) (faults : D → ℕ) (dig : List ℕ → List ℕ) (k : Facts) (from anchor first count : ℕ)

@@ -1,5 +1,5 @@
 -- All blocks are marked exactly where as many are marked as there are.
-use Rattle.std.proofs.Common.{◌≡◌, ◌≢◌, ℕ, zero, suc, ◌+◌, ◌<◌, ◌≤◌, List, [], ◌∷◌, length, refl, cond, arith}
+use Rattle.std.proofs.Common.{◌≡◌, zero, suc, ◌+◌, List, [], ◌∷◌, length, refl, cond, arith}
 use Rattle.std.specs.List.{All, count_by}
 use Rattle.std.proofs.lemmas.List.Sums.{count_by-le-length, sum_by-cons}
 use Rattle.bt_store.specs.BlockStates.{is_marked}

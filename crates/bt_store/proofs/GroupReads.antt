@@ -1,6 +1,6 @@
 -- The digests of a group, as its blocks are read.
-use Rattle.std.proofs.Common.{◌≡◌, ℕ, zero, suc, ◌+◌, ◌-◌, ◌*◌, ◌<◌, ◌≤◌, Bool, true, false, cond, List, [], ◌∷◌, ◌++◌, map, length, take, get_or, replicate, Option, Some, None, IfSome, refl, sym, ap, ◌∙◌, subst, arith, add-one, zero-add, append-nil, append_assoc, length-append}
-use Rattle.std.specs.Prelude.{slice_set, nat_eq}
+use Rattle.std.proofs.Common.{◌≡◌, ℕ, zero, suc, ◌+◌, ◌-◌, ◌≤◌, Bool, true, false, cond, List, [], ◌∷◌, ◌++◌, map, length, take, get_or, replicate, Option, Some, None, IfSome, refl, sym, ap, ◌∙◌, subst, arith, zero-add, append-nil, append_assoc, length-append}
+use Rattle.std.specs.Prelude.{nat_eq}
 use Rattle.std.specs.List.{count_by, range_with_len}
 use Rattle.std.proofs.lemmas.List.{set_at, map-append, length-map, length-take-le}
 use Rattle.std.proofs.lemmas.List.FromFn.{length-range_with_len}
@@ -10,14 +10,13 @@ use Rattle.bt_tree.specs.Tree.{padding_digest}
 use Rattle.bt_disk.specs.History.{History}
 use Rattle.bt_disk.specs.Calls.{HasCalls}
 use Rattle.bt_disk.proofs.CallLists.{has_none, has_then}
-use Rattle.bt_store.specs.BlockReads.{BlockRead, given, failed, block_of, call_of, is_fault, fault_count}
+use Rattle.bt_store.specs.BlockReads.{BlockRead, block_of, call_of, is_fault, fault_count}
 use Rattle.bt_store.specs.RunsSteps.{read_of, run_reads, finding_of}
-use Rattle.bt_store.specs.Adoption.{is_whole, claimed_digest, marked_run}
+use Rattle.bt_store.specs.Adoption.{is_whole, claimed_digest}
 use Rattle.bt_store.specs.GroupsSteps.{noted, noted_findings, counted, counted_findings, IsGroupRead}
 use Rattle.bt_store.specs.declared.runs.Finding.{Finding}
 use Rattle.bt_store.specs.declared.runs.Finding.TheVariants.{Whole, Short, Failed}
 use Rattle.bt_store.specs.declared.groups.Census.{Census}
-use Rattle.bt_store.specs.declared.block_states.BlockState.{BlockState}
 use Rattle.bt_store.proofs.RunReads.{reads_none, reads_more}
 use Rattle.bt_store.proofs.Judgements.{IsWithinParts, AreFound, blocks_of_run}
 use Rattle.bt_store.proofs.Reviews.{range_split}

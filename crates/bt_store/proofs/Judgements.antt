@@ -1,15 +1,14 @@
 -- What reads make of the states of blocks, read by read.
-use Rattle.std.proofs.Common.{◌≡◌, ◌≢◌, ℕ, zero, suc, ◌+◌, ◌*◌, ◌<◌, ◌≤◌, Bool, true, false, not, ◌&&◌, cond, List, [], ◌∷◌, ◌++◌, map, length, take, drop, get_or, Option, Some, None, IfSome, refl, sym, ap, ◌∙◌, subst, arith, add-one}
-use Rattle.std.specs.Prelude.{slice_get, slice_set, nat_eq}
-use Rattle.std.specs.List.{count_by, range_with_len}
+use Rattle.std.proofs.Common.{◌≡◌, ℕ, zero, suc, ◌+◌, ◌*◌, ◌<◌, ◌≤◌, Bool, true, false, not, ◌&&◌, cond, List, [], ◌∷◌, ◌++◌, map, length, take, drop, get_or, Option, Some, None, IfSome, refl, sym, ap, ◌∙◌, subst, arith, add-one}
+use Rattle.std.specs.Prelude.{slice_set, nat_eq}
+use Rattle.std.specs.List.{range_with_len}
 use Rattle.std.proofs.Math.ListN.{length-set}
-use Rattle.std.proofs.lemmas.Bool.{cases_Bool, eqb-true}
 use Rattle.std.proofs.lemmas.List.{map-append, length-take-le, length-take, length-drop}
 use Rattle.std.proofs.lemmas.Option.{IfSome_then}
 use Rattle.std.proofs.lemmas.List.Sums.{sum_by_push}
 use Rattle.bt_tree.specs.Blocks.{block_length, block_at}
 use Rattle.bt_sparse.specs.SparseTree.{Facts, value_at}
-use Rattle.bt_store.specs.BlockReads.{BlockRead, given, failed, block_of, call_of, is_leaf, is_right, is_right_read, is_wrong_read, is_fault, after_read, judged, right_count, wrong_count, fault_count}
+use Rattle.bt_store.specs.BlockReads.{BlockRead, given, failed, block_of, is_leaf, is_right, is_right_read, is_wrong_read, is_fault, after_read, judged}
 use Rattle.bt_store.specs.RunsSteps.{read_of, run_reads, finding_of}
 use Rattle.bt_store.specs.ReviewSteps.{verdict_of, verdict_at, after_verdict, judged_findings, no_reads, added, tally_of, tally_sum, IsTallyOf}
 use Rattle.bt_store.proofs.RunReads.{reads_none, reads_more}

@@ -1,5 +1,5 @@
 -- Private steps: the digests of a group, as its blocks are read.
-use Rattle.std.specs.Prelude.{◌≡◌, ℕ, zero, suc, ◌+◌, ◌-◌, List, ◌++◌, map, length, replicate, slice_set, slice_index_or}
+use Rattle.std.specs.Prelude.{◌≡◌, ℕ, zero, suc, ◌+◌, ◌-◌, List, ◌++◌, map, replicate, slice_set, slice_index_or}
 use Rattle.std.specs.List.{count_by, range_with_len}
 use Rattle.bt_tree.specs.Tree.{padding_digest}
 use Rattle.bt_disk.specs.History.{History}

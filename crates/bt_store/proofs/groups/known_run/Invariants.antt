@@ -1,4 +1,4 @@
-use Rattle.std.proofs.Common.{◌≡◌, ℕ, ◌+◌, ◌<◌, ◌≤◌}
+use Rattle.std.proofs.Common.{ℕ, ◌+◌, ◌<◌, ◌≤◌}
 use Rattle.std.specs.Prelude.{IsSome}
 use Rattle.bt_sparse.specs.SparseTree.{blocks_of, value_at}
 use Rattle.bt_store.proofs.groups.known_run.Given as goal

@@ -1,4 +1,4 @@
-use Rattle.std.proofs.Common.{◌≡◌, ◌+◌, ◌<◌, ◌≤◌, [], length, get_or, refl, sym, ap, ◌∙◌, arith, add-one}
+use Rattle.std.proofs.Common.{◌+◌, ◌<◌, [], length, get_or, sym, ap, ◌∙◌, arith, add-one}
 use Rattle.bt_store.specs.GroupsSteps.{noted, noted_findings, counted, counted_findings}
 use Rattle.bt_store.specs.declared.runs.Finding.TheVariants.{Whole, Failed}
 use Rattle.bt_store.proofs.Found.{get_or_defaults}

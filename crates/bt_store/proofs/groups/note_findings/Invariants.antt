@@ -1,4 +1,4 @@
-use Rattle.std.proofs.Common.{◌≡◌, ◌+◌, ◌≤◌, length}
+use Rattle.std.proofs.Common.{◌≡◌, ◌+◌, ◌≤◌}
 use Rattle.bt_store.specs.GroupsSteps.{noted_findings, counted_findings}
 use Rattle.bt_store.proofs.groups.note_findings.Given as goal
 

@@ -1,9 +1,7 @@
-use Rattle.std.proofs.Common.{◌≡◌, ◌+◌, ◌*◌, ◌-◌, ◌<◌, ◌≤◌, List, [], ◌++◌, length, map, min, refl, sym, ap, ◌∙◌, subst, arith}
-use Rattle.bt_store.specs.BlockReads.{BlockRead}
+use Rattle.std.proofs.Common.{◌≡◌, ◌+◌, ◌*◌, ◌-◌, ◌≤◌, [], ◌++◌, length, min, refl, ◌∙◌, arith}
 use Rattle.bt_store.specs.RunsSteps.{run_reads}
-use Rattle.bt_store.specs.GroupsSteps.{IsGroupRead}
 use Rattle.bt_store.proofs.Judgements.{within_parts}
-use Rattle.bt_store.proofs.GroupReads.{group_start, group_next, group_limits}
+use Rattle.bt_store.proofs.GroupReads.{group_start, group_next}
 use Rattle.bt_store.proofs.groups.read_group.Goals as goal
 
 pub loop-done-init : goal.loop-done-init

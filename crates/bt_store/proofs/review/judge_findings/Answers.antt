@@ -1,5 +1,5 @@
-use Rattle.std.proofs.Common.{◌≡◌, ℕ, ◌+◌, ◌<◌, [], length, get_or, refl, sym, ap, ◌∙◌, arith}
-use Rattle.bt_store.specs.ReviewSteps.{verdict_of, verdict_at, after_verdict, added, tally_sum, tally_of, judged_findings}
+use Rattle.std.proofs.Common.{◌≡◌, ◌+◌, ◌<◌, [], length, get_or, refl, sym, ap, ◌∙◌, arith}
+use Rattle.bt_store.specs.ReviewSteps.{verdict_of, verdict_at, after_verdict, added, tally_sum}
 use Rattle.bt_store.specs.declared.runs.Finding.TheVariants.{Whole, Failed}
 use Rattle.bt_sparse.specs.SparseTree.{value_at}
 use Rattle.bt_store.proofs.Found.{get_or_defaults}

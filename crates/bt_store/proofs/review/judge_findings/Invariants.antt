@@ -1,4 +1,4 @@
-use Rattle.std.proofs.Common.{◌≡◌, ℕ, length}
+use Rattle.std.proofs.Common.{◌≡◌, length}
 use Rattle.bt_store.specs.ReviewSteps.{judged_findings, tally_of, tally_sum}
 use Rattle.bt_store.proofs.review.judge_findings.Given as goal
 

@@ -1,10 +1,4 @@
-use Rattle.std.proofs.Common.{◌≡◌, ◌+◌, ◌<◌, ◌≤◌, List, map, true, refl, sym, ap, ◌∙◌, subst, arith}
-use Rattle.std.specs.List.{range_with_len}
-use Rattle.bt_tree.specs.Blocks.{block_count}
-use Rattle.bt_sparse.specs.SparseTree.{blocks_of}
-use Rattle.bt_store.specs.BlockReads.{BlockRead, judged, right_count, fault_count}
-use Rattle.bt_store.specs.Adoption.{Adopts, known, IsAdopted}
-use Rattle.bt_store.specs.declared.adoption.Adopted.{Adopted}
+use Rattle.bt_store.specs.Adoption.{known}
 use Rattle.bt_store.proofs.file_store.FileStore.adopt_known.Goals as goal
 
 pub returns : goal.returns

@@ -1,4 +1,4 @@
-use Rattle.std.proofs.Common.{◌≡◌, ◌≢◌, ℕ, ◌+◌, ◌^◌, ◌<◌, ◌≤◌, Bool, List, [], ◌++◌, length, take, drop, replicate, refl, sym, ap, ◌∙◌, subst, arith}
+use Rattle.std.proofs.Common.{◌≡◌, ◌≢◌, ℕ, ◌^◌, ◌≤◌, Bool, List, [], ◌++◌, length, take, drop, replicate, sym, ap, ◌∙◌, subst, arith}
 use Rattle.std.proofs.lemmas.List.{length-replicate, take-append-le}
 use Rattle.std.proofs.Math.Seq.{take-length}
 use Rattle.std.specs.Bool.{OnTrue, OnFalse}
@@ -7,7 +7,6 @@ use Rattle.bt_sparse.specs.declared.claim.ProofError.{ProofError}
 use Rattle.bt_sparse.specs.declared.claim.ProofError.TheVariants.{OutOfMemory}
 use Rattle.bt_tree.specs.Tree.{padding_digest}
 use Rattle.bt_store.specs.FileStore.{StoreView}
-use Rattle.bt_store.specs.BlockReads.{BlockRead}
 use Rattle.bt_store.specs.Adoption.{leaf_claim, marked_run}
 use Rattle.bt_store.specs.declared.block_states.BlockState.{BlockState}
 use Rattle.bt_store.specs.GroupsSteps.{IsGroupRead}

@@ -1,9 +1,7 @@
-use Rattle.std.proofs.Common.{◌≡◌, ◌+◌, ◌*◌, ◌<◌, ◌≤◌, length, max, refl, sym, ap, ◌∙◌, subst, arith}
+use Rattle.std.proofs.Common.{◌∙◌, subst, arith}
 use Rattle.std.specs.List.{range_with_len}
-use Rattle.bt_tree.specs.Blocks.{block_count}
-use Rattle.bt_store.specs.ReviewSteps.{tally_sum, forgives}
 use Rattle.bt_store.specs.BlockReads.{IsJudged}
-use Rattle.bt_store.proofs.Reviews.{IsReviewedTo, reviewed_start, reviewed_past, reviewed_run}
+use Rattle.bt_store.proofs.Reviews.{reviewed_start, reviewed_past, reviewed_run}
 use Rattle.bt_store.proofs.file_store.FileStore.judge_chosen.Goals as goal
 
 pub loop-at-init : goal.loop-at-init

@@ -1,14 +1,14 @@
-use Rattle.std.proofs.Common.{◌≡◌, ◌≢◌, ◌*◌, ◌≤◌, List, [], ◌∷◌, ◌++◌, map, length, take, drop, Some, Ok, Err, refl, sym, ap, ◌∙◌, subst, arith, rules}
-use Rattle.std.specs.Prelude.{slice_get, slice_set}
+use Rattle.std.proofs.Common.{◌≡◌, List, [], ◌∷◌, ◌++◌, length, take, drop, Some, Ok, Err, refl, sym, subst, rules}
+use Rattle.std.specs.Prelude.{slice_get}
 use Rattle.std.proofs.lemmas.List.{take-append-le}
 use Rattle.bt_tree.specs.Blocks.{block_length}
 use Rattle.bt_disk.specs.Calls.{HasCalls, IsAnswered, bytes_given, read_fault}
 use Rattle.bt_disk.proofs.CallLists.{has_none}
 use Rattle.bt_store.specs.FileStore.{StoreView}
-use Rattle.bt_store.specs.BlockReads.{BlockRead, given, failed, call_of, IsRight}
-use Rattle.bt_store.specs.SingleBlock.{IsLent, Lends, not_marked, right, damaged, fault}
-use Rattle.bt_store.specs.declared.block_states.BlockState.TheVariants.{Missing, Marked}
-use Rattle.bt_store.specs.declared.error.ReadError.TheVariants.{NotMarked, Damaged, Device}
+use Rattle.bt_store.specs.BlockReads.{BlockRead, given, failed, call_of}
+use Rattle.bt_store.specs.SingleBlock.{IsLent, not_marked, right, damaged, fault}
+use Rattle.bt_store.specs.declared.block_states.BlockState.TheVariants.{Marked}
+use Rattle.bt_store.specs.declared.error.ReadError.TheVariants.{Damaged, Device}
 use Rattle.bt_store.proofs.RunReads.{one_given, one_failed}
 use Rattle.bt_store.proofs.file_store.FileStore.read.Goals as goal
 
