@@ -2,7 +2,7 @@
 ghost use Rattle.std.specs.Prelude.{◌≡◌};
 ghost use Rattle.std.specs.Bool.{OnTrue};
 
-use crate::{BlockState, FileStore, Put, ReadError, Rechecked, Settled, StoreError};
+use crate::{Adopted, BlockState, FileStore, Put, ReadError, Rechecked, Settled, StoreError};
 use bt_disk::{DeviceFault, FaultDisk, MemoryDisk};
 use bt_sparse::{Claim, Digests, SparseTree};
 use bt_tree::{BLOCK_LEN, Geometry, Hash32, NodeHash, Plain, RootBuilder};
@@ -58,6 +58,13 @@ impl Fixture {
             return None;
         }
         Some(self.store.restore(&self.tree, block))
+    }
+
+    fn adopt(&mut self, from: u32) -> Option<Result<Adopted, AllocError>> {
+        if !self.fits() || from > self.store.geometry().blocks() {
+            return None;
+        }
+        Some(self.store.adopt(&mut self.tree, from))
     }
 
     fn accept(&mut self, claim: &Claim) -> bool {
@@ -257,7 +264,7 @@ fn a_sync_may_fail(rt: HostRuntime) -> Result<(), Fail> {
     Ok(())
 }
 
-/// A file of zeros of which all leaves are known, and all blocks marked, by one call of the device each.
+/// A file of zeros on a disk, of which all leaves are known.
 fn zero_file(alloc: Global, length: usize, disk: FaultDisk<MemoryDisk>) -> Result<Fixture, Fail> {
     let geometry = Geometry::new(length as u64).ok_or("no geometry")?;
     let file = block(alloc, 0, length)?;
@@ -271,13 +278,24 @@ fn zero_file(alloc: Global, length: usize, disk: FaultDisk<MemoryDisk>) -> Resul
     let store = FileStore::create(alloc, disk, Plain, geometry)
         .ok()
         .ok_or("no store")?;
-    let mut f = Fixture { store, tree };
-    let mut number = 0u32;
-    for bytes in file.chunks(BLOCK_LEN) {
-        if f.put(number, bytes) != Some(Ok(Put::Marked)) {
-            return Err("not marked")?;
-        }
-        number = number.saturating_add(1);
+    Ok(Fixture { store, tree })
+}
+
+/// The answer of `adopt` without a fault.
+fn adopted(next: u32, anchor: u32, marked: u32) -> Option<Result<Adopted, AllocError>> {
+    Some(Ok(Adopted {
+        next,
+        anchor,
+        marked,
+        faults: 0,
+    }))
+}
+
+/// Adopts nine blocks by nine calls of the device.
+fn nine_blocks(alloc: Global, disk: FaultDisk<MemoryDisk>) -> Result<Fixture, Fail> {
+    let mut f = zero_file(alloc, 131073, disk)?;
+    if f.adopt(0) != adopted(8, 0, 8) || f.adopt(8) != adopted(9, 0, 1) {
+        return Err("not adopted")?;
     }
     Ok(f)
 }
@@ -285,8 +303,7 @@ fn zero_file(alloc: Global, length: usize, disk: FaultDisk<MemoryDisk>) -> Resul
 #[test]
 fn a_recheck_finds_a_changed_bit(rt: HostRuntime) -> Result<(), Fail> {
     let alloc = rt.alloc();
-    let disk = zeros(alloc, 0)?.flipping(12, 40000);
-    let mut f = zero_file(alloc, 131073, disk)?;
+    let mut f = nine_blocks(alloc, zeros(alloc, 131073)?.flipping(12, 40000))?;
     let rechecked = Rechecked {
         kept: 8,
         unmarked: 1,
@@ -300,8 +317,7 @@ fn a_recheck_finds_a_changed_bit(rt: HostRuntime) -> Result<(), Fail> {
 #[test]
 fn a_recheck_keeps_a_block_whose_read_fails(rt: HostRuntime) -> Result<(), Fail> {
     let alloc = rt.alloc();
-    let disk = zeros(alloc, 0)?.failing_once(12);
-    let mut f = zero_file(alloc, 131073, disk)?;
+    let mut f = nine_blocks(alloc, zeros(alloc, 131073)?.failing_once(12))?;
     let rechecked = Rechecked {
         kept: 8,
         unmarked: 0,
@@ -318,7 +334,8 @@ fn the_last_block_may_be_short(rt: HostRuntime) -> Result<(), Fail> {
     let alloc = rt.alloc();
     let mut out = block(alloc, 0, BLOCK_LEN)?;
     for (length, last, rest) in [(1usize, 0u32, 1usize), (16384, 0, 16384), (16385, 1, 1)] {
-        let mut f = zero_file(alloc, length, zeros(alloc, 0)?)?;
+        let mut f = zero_file(alloc, length, zeros(alloc, length)?)?;
+        assert!(rt; f.adopt(0) == adopted(last + 1, 0, last + 1));
         assert!(rt; f.store.is_complete());
         assert_eq!(rt; f.read(last, &mut out), Some(Ok(rest)));
     }
@@ -336,5 +353,56 @@ fn an_empty_range_is_settled(rt: HostRuntime) -> Result<(), Fail> {
     };
     assert_eq!(rt; f.settle(3, 0), Some(Ok(settled)));
     assert_eq!(rt; f.settle(4, 0), Some(Err(StoreError::Range)));
+    Ok(())
+}
+
+/// The disk that has the three blocks.
+fn filled(alloc: Global) -> Result<FaultDisk<MemoryDisk>, AllocError> {
+    let mut bytes = block(alloc, 1, BLOCK_LEN)?;
+    bytes.resize(2 * BLOCK_LEN, 2)?;
+    bytes.resize(3 * BLOCK_LEN, 3)?;
+    Ok(FaultDisk::new(MemoryDisk::new(alloc, bytes)))
+}
+
+#[test]
+fn a_file_is_adopted_by_its_root(rt: HostRuntime) -> Result<(), Fail> {
+    let alloc = rt.alloc();
+    let mut f = three_blocks(alloc, filled(alloc)?)?;
+    assert!(rt; f.adopt(1) == adopted(3, 2, 3));
+    assert!(rt; f.store.is_complete());
+    assert!(rt; f.adopt(3) == adopted(3, 0, 0));
+    assert!(rt; f.tree.known(0, 2) == Some(leaf(alloc, 3)?));
+    Ok(())
+}
+
+#[test]
+fn other_bytes_are_not_adopted(rt: HostRuntime) -> Result<(), Fail> {
+    let alloc = rt.alloc();
+    let mut f = three_blocks(alloc, zeros(alloc, 49152)?)?;
+    assert!(rt; f.adopt(0) == adopted(3, 2, 0));
+    assert_eq!(rt; f.store.marked(), 0);
+    Ok(())
+}
+
+#[test]
+fn a_short_disk_is_not_adopted(rt: HostRuntime) -> Result<(), Fail> {
+    let alloc = rt.alloc();
+    let mut f = three_blocks(alloc, zeros(alloc, 100)?)?;
+    assert!(rt; f.adopt(0) == adopted(3, 2, 0));
+    Ok(())
+}
+
+#[test]
+fn a_group_with_a_fault_is_not_adopted(rt: HostRuntime) -> Result<(), Fail> {
+    let alloc = rt.alloc();
+    let mut f = three_blocks(alloc, filled(alloc)?.failing_once(2))?;
+    let failed = Adopted {
+        next: 3,
+        anchor: 0,
+        marked: 0,
+        faults: 1,
+    };
+    assert!(rt; f.adopt(0) == Some(Ok(failed)));
+    assert!(rt; f.adopt(0) == adopted(3, 2, 3));
     Ok(())
 }
