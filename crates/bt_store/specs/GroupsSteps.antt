@@ -1,0 +1,43 @@
+-- Private steps: the digests of a group, as its blocks are read.
+use Rattle.std.specs.Prelude.{◌≡◌, ℕ, zero, suc, ◌+◌, ◌-◌, List, ◌++◌, map, replicate, slice_set, slice_index_or}
+use Rattle.std.specs.List.{count_by, range_with_len}
+use Rattle.bt_tree.specs.Tree.{padding_digest}
+use Rattle.bt_disk.specs.History.{History}
+use Rattle.bt_disk.specs.Calls.{HasCalls}
+use Rattle.bt_store.specs.BlockReads.{BlockRead, block_of, call_of, fault_count}
+use Rattle.bt_store.specs.Adoption.{is_whole, claimed_digest}
+use Rattle.bt_store.specs.declared.runs.Finding.{Finding}
+use Rattle.bt_store.specs.declared.runs.Finding.TheVariants.{Whole, Short, Failed}
+use Rattle.bt_store.specs.declared.groups.Census.{Census}
+
+-- the digests with that of a whole block put at a place
+abbrev pub noted : ℕ → Finding → List (List ℕ) → List (List ℕ)
+noted i (Whole digest) digests = slice_set digests i digest
+noted i Short digests = digests
+noted i Failed digests = digests
+
+-- so many findings, from a place on
+unfoldable pub noted_findings : ℕ → List Finding → ℕ → List (List ℕ) → List (List ℕ)
+noted_findings at findings zero digests = digests
+noted_findings at findings (suc j) digests =
+    noted (at + j) (slice_index_or findings j Failed) (noted_findings at findings j digests)
+
+abbrev pub counted : Finding → Census → Census
+counted (Whole digest) census = record census { whole = census.whole + 1 }
+counted Short census = census
+counted Failed census = record census { faults = census.faults + 1 }
+
+unfoldable pub counted_findings : List Finding → ℕ → Census → Census
+counted_findings findings zero census = census
+counted_findings findings (suc j) census = counted (slice_index_or findings j Failed) (counted_findings findings j census)
+
+-- so many blocks from the first on were read, and no other call of the device was made; the list has their digests, and
+-- padding behind them; and so many were given whole, and failed
+pub record IsGroupRead {D : Type 0} (history : D → History) (honest : D → Type 0) (faults : D → ℕ)
+    (dig : List ℕ → List ℕ) (n first count width : ℕ) (old : D) (reads : List BlockRead) (census : Census) (new : D)
+    (digests : List (List ℕ)) : Type 0 where
+  pub calls : HasCalls history honest faults old (map (call_of n) reads) new
+  pub in_order : map block_of reads ≡ range_with_len first count
+  pub claims : digests ≡ map (claimed_digest dig n) reads ++ replicate (width - count) (padding_digest dig 0)
+  pub whole : census.whole ≡ count_by (is_whole n) reads
+  pub failed : census.faults ≡ fault_count reads

@@ -1,0 +1,159 @@
+ghost use Rattle.std.specs.Prelude.{◌≡◌, ℕ, ◌+◌, ◌-◌, ◌*◌, ◌/◌, ◌^◌, ◌<◌, ◌≤◌, ◌⊎◌, List, [], IfOk, IfErr, IsSome, IsNone, map, length, replicate, slice_get};
+ghost use Rattle.std.specs.List.{count_by, range_with_len};
+ghost use Rattle.bt_tree.specs.Limits.{full_block_length, max_block_count, max_height};
+ghost use Rattle.bt_tree.specs.Blocks.{block_count};
+ghost use Rattle.bt_tree.specs.Tree.{padding_digest};
+ghost use Rattle.bt_disk.specs.Calls.{HasCalls};
+ghost use Rattle.bt_sparse.specs.SparseTree.{Facts, blocks_of, held_at, value_at};
+ghost use Rattle.bt_store.specs.BlockReads.{BlockRead};
+ghost use Rattle.bt_store.specs.Adoption.{IsAnchor, IsKnownGroup, IsUnknownGroup, marked_run, IsAdopted, StopsAdopting};
+ghost use Rattle.bt_store.specs.GroupsSteps.{IsGroupRead};
+
+use crate::file_store::FileStore;
+use crate::groups::{
+    Census, Group, anchor_of, claim_leaves, group_below, known_run, mark_run, padding, read_group,
+};
+use crate::runs::RUN_LEN;
+use bt_disk::Disk;
+use bt_sparse::SparseTree;
+use bt_tree::{Hash32, NodeHash};
+use std::alloc::AllocError;
+
+/// What `adopt` did.
+#[derive(Clone, Copy, Debug, PartialEq, Eq)]
+pub struct Adopted {
+    /// The block after the group.
+    pub next: u32,
+    /// The layer of the node whose blocks were claimed together; 0 where their leaves were known, and where a read failed.
+    pub anchor: u32,
+    /// How many blocks of the group were found right.
+    pub marked: u32,
+    /// How many reads failed.
+    pub faults: u32,
+}
+
+impl<D: Disk + Drop, H: NodeHash> FileStore<D, H> {
+    /// Takes in what the device has of the group of block `from`, by one read for each of its blocks.
+    ///
+    /// Where the leaf is known, the group is that block and those after it whose leaves are known, at most eight: each
+    /// becomes marked or missing by its digest, and stays as it is where its read fails. Else the group is all blocks below
+    /// the nearest node that is held: their digests, padded, are one claim, and where the tree accepts it all become
+    /// marked. Where it does not, or a read failed or gave too few bytes, nothing changes.
+    ///
+    /// The one error is out of memory. It changes nothing, though the group may have been read.
+    pub fn adopt(&mut self, tree: &mut SparseTree<H>, from: u32) -> Result<Adopted, AllocError>
+        requires geometry { tree.old.file_length ≡ self.old.file_length }
+        requires inside { from ≤ block_count self.old.file_length }
+        ensures ok { IfOk result (λ adopted. (reads : List BlockRead) × IsAdopted D.history D.honest D.faults
+            H.digest tree.old from self.old reads adopted tree.new self.new) }
+        ensures stop { IfErr result (λ _. (reads : List BlockRead) × StopsAdopting D.history D.honest D.faults
+            H.digest tree.old from self.old reads self.new) }
+        ensures tree { IfErr result (λ _. tree.new ≡ tree.old) }
+    {
+        if from == self.geometry.blocks() {
+            return Ok(Adopted {
+                next: from,
+                anchor: 0,
+                marked: 0,
+                faults: 0,
+            });
+        }
+        let anchor = anchor_of(tree, from);
+        if anchor == 0 {
+            return Ok(self.adopt_known(tree, from));
+        }
+        self.adopt_unknown(tree, from, anchor)
+    }
+
+    /// Takes in blocks whose leaves are known.
+    fn adopt_known(&mut self, tree: &SparseTree<H>, from: u32) -> Adopted
+        requires geometry { tree.now.file_length ≡ self.old.file_length }
+        requires inside { from < blocks_of tree.now }
+        requires known { IsSome (value_at H.digest tree.now 0 from) }
+        ensures { (reads : List BlockRead) × IsAdopted D.history D.honest D.faults
+            H.digest tree.now from self.old reads result tree.now self.new }
+    {
+        let _ = self.geometry.blocks();
+        let count = known_run(tree, from);
+        let mut buffer = [0; RUN_LEN];
+        let tally = self.judge_run(tree, from, count as usize, true, &mut buffer);
+        Adopted {
+            next: from + count,
+            anchor: 0,
+            marked: tally.right,
+            faults: tally.faults,
+        }
+    }
+
+    /// Takes in the blocks below the nearest node that is held.
+    fn adopt_unknown(
+        &mut self,
+        tree: &mut SparseTree<H>,
+        from: u32,
+        anchor: u32,
+    ) -> Result<Adopted, AllocError>
+        requires geometry { tree.old.file_length ≡ self.old.file_length }
+        requires inside { from < blocks_of tree.old }
+        requires anchor { IsAnchor tree.old from anchor }
+        requires above { 0 < anchor }
+        requires limit { anchor ≤ max_height }
+        ensures ok { IfOk result (λ adopted. (reads : List BlockRead) × IsAdopted D.history D.honest D.faults
+            H.digest tree.old from self.old reads adopted tree.new self.new) }
+        ensures stop { IfErr result (λ _. (reads : List BlockRead) × StopsAdopting D.history D.honest D.faults
+            H.digest tree.old from self.old reads self.new) }
+        ensures tree { IfErr result (λ _. tree.new ≡ tree.old) }
+    {
+        let Group { first, count } = group_below(tree, from, anchor);
+        let Ok(mut run) = padding(self.alloc, self.hash, anchor) else {
+            return Err(AllocError);
+        };
+        let census = self.read_group(first, count, run.as_mut_slice());
+        let unchanged = Adopted {
+            next: first + count,
+            anchor,
+            marked: 0,
+            faults: census.faults,
+        };
+        if census.faults > 0 {
+            return Ok(Adopted {
+                anchor: 0,
+                ..unchanged
+            });
+        }
+        if census.whole < count {
+            return Ok(unchanged);
+        }
+        let Ok(is_accepted) = claim_leaves(self.alloc, tree, first, run) else {
+            return Err(AllocError);
+        };
+        if !is_accepted {
+            return Ok(unchanged);
+        }
+        mark_run(&mut self.states, first, count);
+        Ok(Adopted {
+            marked: count,
+            ..unchanged
+        })
+    }
+
+    /// Reads blocks that lie next to each other, and puts the digests of whole ones in place of the padding.
+    fn read_group(&mut self, first: u32, count: u32, digests: &mut [Hash32]) -> Census
+        requires inside { first + count ≤ block_count self.old.file_length }
+        requires padded { digests.old ≡ replicate (length digests.old) (padding_digest H.digest 0) }
+        requires fits { count ≤ length digests.old }
+        ensures read { (reads : List BlockRead) × IsGroupRead D.history D.honest D.faults H.digest
+            self.old.file_length first count (length digests.old) self.old.disk reads result self.new.disk digests.new }
+        ensures others { self.new ≡ record self.old { disk = self.new.disk } }
+    {
+        let mut buffer = [0; RUN_LEN];
+        read_group(
+            &mut self.disk,
+            self.hash,
+            self.geometry,
+            first,
+            count,
+            digests,
+            &mut buffer,
+        )
+    }
+}
