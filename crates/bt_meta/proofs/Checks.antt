@@ -20,12 +20,6 @@ module _ {E : Type 0} where
   pub stops : (check : Option E) (checks : List (Option E)) (fault : E) → check ≡ Some fault → first_of (check ∷ checks) ≡ Some fault
   stops check checks fault e = rw e refl
 
-  pub passes : (test : Bool) (fault : E) → test ≡ false → fault_if test fault ≡ None
-  passes test fault e = rw e refl
-
-  pub fails : (test : Bool) (fault : E) → test ≡ true → fault_if test fault ≡ Some fault
-  fails test fault e = rw e refl
-
   pub head_none : (check : Option E) (checks : List (Option E)) → first_of (check ∷ checks) ≡ None → check ≡ None
   head_none None checks e = refl
   head_none (Some fault) checks e = cc

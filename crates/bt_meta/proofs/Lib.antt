@@ -4,7 +4,7 @@ pub mod Choices
 pub mod Dictionaries
 -- reading: one entry of a file tree, the walk over all, and what it finds
 pub mod ReadProperties
-pub mod WalkPaths
+pub mod RootLengths
 pub mod WalkChecks
 pub mod WalkJoins
 pub mod WalkFiles

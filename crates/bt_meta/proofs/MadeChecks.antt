@@ -85,8 +85,8 @@ one_passes piece_length before p tree_entries good alike few pieces =
           let pairs : All (λ x. All (λ y. clashes x y ≡ false) (filter is_file before ++ p ∷ rest)) (filter is_file before ++ p ∷ rest) = rw all at alike in
           let here : All (λ y. clashes p y ≡ false) (filter is_file before ++ p ∷ rest) =
           All-head (λ x. All (λ y. clashes x y ≡ false) (filter is_file before ++ p ∷ rest)) p rest (All-back (λ x. All (λ y. clashes x y ≡ false) (filter is_file before ++ p ∷ rest)) (filter is_file before) (p ∷ rest) pairs) in
-          file_counted piece_length before p false good.node good.named file (good.faultless file) (no_conflict p before (All-front (λ y. clashes p y ≡ false) (filter is_file before) (p ∷ rest) here)) many
-      | inr folder ↦ folder_counted piece_length before p false good.node good.named folder many
+          file_counted piece_length before p good.node good.named file (good.faultless file) {many = false} (no_conflict p before (All-front (λ y. clashes p y ≡ false) (filter is_file before) (p ∷ rest) here)) many
+      | inr folder ↦ folder_counted piece_length before p good.node good.named {many = false} folder many
     ]
 
 entries_pass : (piece_length : ℕ) (before tree_entries : List TreeEntry) → All IsGood tree_entries → All (λ x. All (λ y. clashes x y ≡ false) (filter is_file (before ++ tree_entries))) (filter is_file (before ++ tree_entries))

@@ -14,7 +14,8 @@ use Rattle.std.proofs.lemmas.Slice.Eq.{bytes_eq-Decides}
 use Rattle.bt_meta.specs.Faults.{first_of}
 use Rattle.bt_meta.specs.PropertySteps.{Lengths, length_at, is_other_length, NotesLength}
 use Rattle.std.specs.Prelude.{take, drop, get_or}
-use Rattle.std.proofs.lemmas.List.{take_all, take-append-drop, map_more, drop_more}
+use Rattle.std.proofs.Math.Bool.{or-false}
+use Rattle.std.proofs.lemmas.List.{map-append, take_all, take-append-drop, map_more, drop_more}
 use Rattle.bt_meta.specs.TreeEntries.{with_earlier}
 use Rattle.bt_meta.specs.GivenFiles.{Given, given_of, HasRoot}
 use Rattle.bt_meta.specs.WriterRefusals.{Check, file_refusal, has_conflict}
@@ -24,28 +25,19 @@ use Rattle.bt_meta.specs.declared.writer.Made.{Made}
 use Rattle.bt_meta.specs.declared.writer.MakeError.{MakeError}
 use Rattle.bt_meta.specs.declared.writer.Tally.{Tally}
 use Rattle.bt_meta.proofs.Checks.{first_of-append, skips, stops}
-use Rattle.bt_meta.proofs.WalkJoins.{with_earlier-append, map-append}
-use Rattle.bt_meta.proofs.WalkFiles.{or_false, noted_at}
+use Rattle.bt_meta.proofs.WalkJoins.{with_earlier-append}
+use Rattle.bt_meta.proofs.RootLengths.{noted_more}
 
 pub path_test : (path : List (String Global)) (all : Bool) → false ≡ (length path == 0) → all ≡ list_all (λ e. is_element (string_bytes e)) path → all ≡ is_path (map string_bytes path)
 path_test path all some is =
     let more : false ≡ (length (map string_bytes path) == 0) = some ∙ ap (λ n. n == 0) (sym (length-map path string_bytes)) in
     is ∙ sym (list_all-map is_element string_bytes path) ∙ ap (λ b. not b && list_all is_element (map string_bytes path)) more
 
-conflict_push : (files : List Given) (f : Given) (root : List ℕ) (n : ℕ)
-    → has_conflict (files ++ f ∷ []) root n ≡ (has_conflict files root n || (not (f.length == 0) && pointwise nat_eq f.root root && not (f.length == n)))
-conflict_push files f root n =
-    let test = λ (g : Given). not (g.length == 0) && pointwise nat_eq g.root root && not (g.length == n) in
-    list_any-append test files (f ∷ []) ∙ ap (λ b. has_conflict files root n || b) (or_false (test f))
-
 pub lengths_noted : (files : List Given) (f : Given) (old new : Lengths) (other : List ℕ) (n : ℕ) → (f.length == 0) ≡ false
     → is_other_length (length_at old other) n ≡ has_conflict files other n → NotesLength old new f.root f.length → is_other_length (length_at new other) n ≡ has_conflict (files ++ f ∷ []) other n
 lengths_noted files f old new other n some h noted =
-    let same : (is_eq (slice_cmp nat_cmp f.root other) ≡ true → f.root ≡ other) = λ e. (bytes_eq-Decides f.root other).0 (sym (is_eq-slice_cmp f.root other) ∙ e) in
-    let at : pointwise nat_eq f.root other ≡ is_eq (slice_cmp nat_cmp f.root other) = sym (is_eq-slice_cmp f.root other) in
-    ap (λ o. is_other_length o n) (noted.noted other)
-    ∙ noted_at old f.root other f.length n (is_eq (slice_cmp nat_cmp f.root other)) noted.alike same
-    ∙ sym (conflict_push files f other n ∙ rw (some, at, ← h) refl)
+    let test = λ (g : Given). not (g.length == 0) && pointwise nat_eq g.root other && not (g.length == n) in
+    noted_more noted other n ∙ sym (list_any-append test files (f ∷ []) ∙ ap (λ b. has_conflict files other n || b) (or-false (test f)) ∙ rw (some, ← h) refl)
 
 -- ---- the loop
 

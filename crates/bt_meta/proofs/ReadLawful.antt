@@ -21,6 +21,7 @@ use Rattle.bt_meta.specs.declared.error.MetaError.TheVariants.{NoInfo, RootConfl
 use Rattle.bt_meta.proofs.Checks.{head_none, tail_none, holds_unless, not_faulty}
 use Rattle.bt_meta.proofs.ReadPieces.{few_pieces, laid_out}
 use Rattle.bt_meta.proofs.WalkTree.{same_sum, some_of_filter}
+use Rattle.bt_meta.proofs.WalkAddFile.{lawful_is_short}
 use Rattle.bt_meta.proofs.WalkFiles.{length-with_earlier}
 use Rattle.bt_meta.proofs.ReadApart.{IsNode, IsCut, below_cut, apart}
 use Rattle.bt_meta.proofs.ReadNames.{IsNamed, HasPath, below_lawful}
@@ -76,14 +77,6 @@ record IsChecked (before : List TreeEntry) (p : TreeEntry) : Type 0 where
 abbrev HasSoundFile : TreeEntry → Type 0
 HasSoundFile p = is_file p ≡ true → IsSound (properties_of p)
 
-short_length : (n : Option ℕ) → option_map_or (λ k. nat_le k (2 ^ 40)) n false ≡ true → unwrap_or n 0 ≤ 2 ^ 40
-short_length None h = cc
-short_length (Some k) h = leb-true k (2 ^ 40) h
-
-lawful_length : (properties : Data) → has_lawful_length properties ≡ true → length_in properties ≤ 2 ^ 40
-unfolding has_lawful_length length_in
-lawful_length properties h = short_length (natural_at properties (codes "length")) h
-
 root_length : (empty : Bool) (root : List ℕ) → (empty || length (if empty then replicate 32 0 else root) == 32) ≡ true → length (if empty then replicate 32 0 else root) ≡ 32
 root_length true root h = refl
 root_length false root h = eqb-true (length root) 32 h
@@ -111,7 +104,7 @@ checked_entry n before p h =
       node = holds_unless (is_node p.value) Tree own.0;
       named = holds_unless (has_lawful_name p) BadPath own.1.0;
       sound = λ file. record {
-        short = lawful_length properties (holds_unless (has_lawful_length properties) FileLength (of_file file).1.0);
+        short = lawful_is_short properties (holds_unless (has_lawful_length properties) FileLength (of_file file).1.0);
         rooted = lawful_root properties (holds_unless (has_lawful_root properties) BadRoot (of_file file).1.1.0);
         zeros = root_of_none properties;
       };
@@ -266,8 +259,7 @@ some_file n layers tree h =
     not_none k e = grind (arith, nat_tests)
 
 few_in : (n : ℕ) (layers tree : Data) → first_of (tree_checks n tree) ≡ None → sum_by (λ f. piece_count n f.length) (files_of n layers tree) ≤ 2 ^ 21
-unfolding files_of
-few_in n layers tree h = rw (same_sum n layers tree (with_earlier (file_at n layers) [] (filter is_file (tree_entries_below [] tree))) refl) (few_pieces n tree h)
+few_in n layers tree h = rw (same_sum n layers tree) (few_pieces n tree h)
 
 abbrev KeepsTo : Metainfo → Type 0
 KeepsTo torrent = IsLawful torrent.piece_length torrent.files

@@ -33,15 +33,15 @@ pub record IsWalkOver (piece_length : ℕ) (entries : List TreeEntry) (walk : Wa
       is_other_length (length_at walk.lengths root) n ≡ has_other_length entries root n
 
 -- behind whichever entries, the walk comes past these too, and they have no fault
-abbrev pub Passes : ℕ → List TreeEntry → Walk → Walk → Type 0
-Passes piece_length entries old new = (before : List TreeEntry) → IsWalkOver piece_length before old
-    → IsWalkOver piece_length (before ++ entries) new
-    × (first_of (with_earlier (entry_check piece_length) before entries) ≡ None)
+pub record Passes (piece_length : ℕ) (entries : List TreeEntry) (old new : Walk) : Type 0 where
+  pub over : (before : List TreeEntry) → IsWalkOver piece_length before old
+      → IsWalkOver piece_length (before ++ entries) new
+      × (first_of (with_earlier (entry_check piece_length) before entries) ≡ None)
 
 -- behind whichever entries, it is refused at the first fault of these
-abbrev pub Stops : ℕ → List TreeEntry → Walk → MetaError → Type 0
-Stops piece_length entries old e = (before : List TreeEntry) → IsWalkOver piece_length before old
-    → Refuses (first_of (with_earlier (entry_check piece_length) before entries)) e
+pub record Stops (piece_length : ℕ) (entries : List TreeEntry) (old : Walk) (e : MetaError) : Type 0 where
+  pub refused : (before : List TreeEntry) → IsWalkOver piece_length before old
+      → Refuses (first_of (with_earlier (entry_check piece_length) before entries)) e
 
 -- ---- one entry
 
