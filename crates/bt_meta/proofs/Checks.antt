@@ -1,6 +1,6 @@
 -- What a list of checks answers.
 use Rattle.std.proofs.Common.{◌≡◌, Bool, true, false, List, [], ◌∷◌, ◌++◌, Option, None, Some, refl}
-use Rattle.std.specs.Prelude.{not}
+use Rattle.std.specs.Prelude.{not, ⊤}
 use Rattle.bt_meta.specs.Faults.{first_of, fault_if}
 
 module _ {E : Type 0} where
@@ -35,3 +35,21 @@ module _ {E : Type 0} where
   pub holds_unless : (test : Bool) (fault : E) → fault_if (not test) fault ≡ None → test ≡ true
   holds_unless true fault e = refl
   holds_unless false fault e = cc
+
+  pub passed_first : (check : Option E) (checks : List (Option E)) → first_of (check ∷ checks) ≡ None → (check ≡ None) × (first_of checks ≡ None)
+  passed_first None checks e = (refl, e)
+  passed_first (Some fault) checks e = cc
+
+  abbrev pub HavePassed : List (Option E) → Type 0
+  HavePassed [] = ⊤
+  HavePassed (check ∷ checks) = (check ≡ None) × HavePassed checks
+
+  pub passed : (checks : List (Option E)) → first_of checks ≡ None → HavePassed checks
+  passed [] h = tt
+  passed (None ∷ checks) h = (refl, passed checks h)
+  passed (Some fault ∷ checks) h = cc
+
+  pub both_passed : (xs ys : List (Option E)) → first_of (xs ++ ys) ≡ None → (first_of xs ≡ None) × (first_of ys ≡ None)
+  both_passed [] ys h = (refl, h)
+  both_passed (None ∷ xs) ys h = both_passed xs ys h
+  both_passed (Some fault ∷ xs) ys h = cc

@@ -1,5 +1,5 @@
 -- The entries of a folder, and a file put behind them.
-use Rattle.std.proofs.Common.{◌≡◌, ℕ, true, false, List, [], ◌∷◌, ◌++◌, length, arith, refl, sym, ap, ◌∙◌, inl, inr, Some, None}
+use Rattle.std.proofs.Common.{◌≡◌, ◌⊎◌, ℕ, true, false, List, [], ◌∷◌, ◌++◌, length, arith, refl, sym, ap, ◌∙◌, inl, inr, Some, None}
 use Rattle.std.specs.Prelude.{unwrap_or, nat_eq, if◌then◌else◌}
 use Rattle.bt_meta.specs.Fields.{entries_in, no_dictionary}
 use Rattle.std.specs.Global.{Vec}
@@ -132,6 +132,45 @@ file_in name path d es earlier inner h = sym (h.kept (dictionary (with_file path
 pub file_alone : (d : Data) (es : Entries) → es ≡ no_entries → entries_before es (entry [] d no_entries) ≡ with_file [] d es
 unfolding with_file with_entry
 file_alone d es e = rw e refl
+
+-- the folder before and after the file: the entries before the last one, which is a folder of this name
+pub record IsInFolder (Below : Entries → Entries → Type 0) (name : List ℕ) (old new : Entries) : Type 0 where
+  pub earlier : Entries
+  pub inner : Entries
+  pub more : Entries
+  pub before : AreBefore name earlier
+  pub split : ((old ≡ earlier) × (inner ≡ no_entries)) ⊎ (old ≡ entries_before earlier (entry name (dictionary inner) no_entries))
+  pub new_is : new ≡ entries_before earlier (entry name (dictionary more) no_entries)
+  pub below : Below inner more
+
+-- the new entries are the old ones and behind them, at this path, a file with these properties
+abbrev pub IsPut : Data → List (List ℕ) → Entries → Entries → Type 0
+IsPut d [] old new = (old ≡ no_entries) × (new ≡ entry [] d no_entries)
+IsPut d (name ∷ path) old new = IsInFolder (IsPut d path) name old new
+
+pub put_there : (path : List (List ℕ)) (d : Data) (es : Entries) → ComesAfter path es → IsPut d path es (with_file path d es)
+unfolding with_file with_entry
+put_there [] d es none = (none, rw none refl)
+put_there (name ∷ path) d es behind = elim behind [
+  | inl before ↦ record {
+    earlier = es;
+    inner = no_entries;
+    more = with_file path d no_entries;
+    before = before;
+    split = inl (refl, refl);
+    new_is = sym (file_in name path d es es no_entries (opened_behind name path es before));
+    below = put_there path d no_entries (behind_none path);
+  }
+  | inr last ↦ record {
+    earlier = last.earlier;
+    inner = last.inner;
+    more = with_file path d last.inner;
+    before = last.before;
+    split = inr last.last;
+    new_is = sym (file_in name path d es last.earlier last.inner (opened_within name path es last.earlier last.inner last.last last.before last.behind));
+    below = put_there path d last.inner last.behind;
+  }
+]
 
 pub no_path : {X : Type 0} (path : List X) → length path ≡ 0 → path ≡ []
 no_path [] e = refl

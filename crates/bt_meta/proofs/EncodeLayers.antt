@@ -9,7 +9,7 @@ use Rattle.std.specs.Borrow.{Bor}
 use Rattle.std.specs.BTreeMap.{BTreeMap, get, is_at}
 use Rattle.std.specs.Ordering.{nat_cmp, is_eq}
 use Rattle.std.specs.Cmp.Lexicographic.{pointwise, slice_cmp}
-use Rattle.std.proofs.lemmas.Bool.{cases_Bool}
+use Rattle.std.proofs.lemmas.Bool.{cases_Bool, and_parts}
 use Rattle.std.proofs.lemmas.List.Folds.{find-append}
 use Rattle.std.proofs.lemmas.Map.Text.{is_eq-slice_cmp}
 use Rattle.std.proofs.lemmas.Slice.Eq.{bytes_eq-Decides}
@@ -127,16 +127,12 @@ kept_there : (piece_length : ℕ) (files : List Given) (f : Given) (root : List 
 kept_there piece_length files f root None e some = absurd (some refl)
 kept_there piece_length files f root (Some layer) e some = behind_some piece_length files f root layer (sym e) ∙ e
 
-second : (a b : Bool) → (a && b) ≡ true → b ≡ true
-second true b e = e
-second false b e = cc
-
 -- one whose root has a layer
 pub layers_of_known : (piece_length : ℕ) (files : List Given) (f : Given) (layers : BTreeMap (List ℕ) (Bor (List ℕ))) → is_some (get (slice_cmp nat_cmp) layers f.root) ≡ true → HasFirstLayers piece_length files layers
     → HasFirstLayers piece_length (files ++ f ∷ []) layers
 layers_of_known piece_length files f layers known h root = elim (cases_Bool (has piece_length root f)) [
   | inl same ↦
-      let is : f.root ≡ root = (bytes_eq-Decides f.root root).0 (second (nat_lt piece_length f.length) (pointwise nat_eq f.root root) same) in
+      let is : f.root ≡ root = (bytes_eq-Decides f.root root).0 (and_parts (nat_lt piece_length f.length) (pointwise nat_eq f.root root) same).1 in
       let there : is_some (get (slice_cmp nat_cmp) layers root) ≡ true = subst (λ r. is_some (get (slice_cmp nat_cmp) layers r) ≡ true) is known in
       h root ∙ sym (kept_there piece_length files f root (now_of (get (slice_cmp nat_cmp) layers root)) (h root) (no_none (get (slice_cmp nat_cmp) layers root) there))
   | inr other ↦ h root ∙ sym (behind_none piece_length files f root other)

@@ -4,7 +4,7 @@ use Rattle.std.specs.Prelude.{nat_eq, nat_le, ◌&&◌}
 use Rattle.std.specs.Int.{is_power_of_two}
 use Rattle.std.specs.Cmp.Lexicographic.{pointwise}
 use Rattle.std.proofs.lemmas.Bool.{and_parts, leb-true, false_from_ne_true, ne_eqb, eq-eqb}
-use Rattle.std.proofs.lemmas.List.{take_more, take_more_set, drop_more, drop-set-lt, map_push, take-append-drop, take_all, get_or-map, length-map}
+use Rattle.std.proofs.lemmas.List.{map-append, take_more, take_more_set, drop_more, drop-set-lt, map_push, take-append-drop, take_all, get_or-map, length-map}
 use Rattle.std.proofs.lemmas.List.Elements.{All-get_or}
 use Rattle.std.proofs.lemmas.Slice.Eq.{bytes_eq-Decides}
 use Rattle.sha2.specs.Sha256.{sha256}
@@ -115,10 +115,6 @@ pub faultless_more : {A : Type 0} (check : A → Check) (i : ℕ) (xs : List A) 
 faultless_more check i xs e lt is h c =
     ap (λ ys. first_of (map check ys)) (take_more xs i e lt ∙ ap (λ y. take i xs ++ y ∷ []) (sym is)) ∙ ap first_of (map_push check (take i xs) e)
     ∙ first_of-append (map check (take i xs)) (check e ∷ []) h ∙ ap (λ x. first_of (x ∷ [])) c
-
-map-append : {A B : Type 0} (f : A → B) (xs ys : List A) → map f (xs ++ ys) ≡ map f xs ++ map f ys
-map-append f [] ys = refl
-map-append f (x ∷ xs) ys = ap (λ zs. f x ∷ zs) (map-append f xs ys)
 
 pub faulty_at : {A : Type 0} (check : A → Check) (i : ℕ) (xs : List A) (e : A) (fault : MetaError) → i < length xs → e ≡ get_or xs i e → first_of (map check (take i xs)) ≡ None → check e ≡ Some fault
     → first_of (map check xs) ≡ Some fault

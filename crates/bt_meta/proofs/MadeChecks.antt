@@ -18,7 +18,8 @@ use Rattle.bt_meta.specs.GivenFiles.{Given}
 use Rattle.bt_meta.proofs.Checks.{skips, first_of-append}
 use Rattle.bt_meta.proofs.WalkChecks.{has_conflict, file_counted, folder_counted}
 use Rattle.bt_meta.proofs.MadeGiven.{clash, AreAlike}
-use Rattle.bt_meta.proofs.MadeEntries.{IsGood, All-front, All-back}
+use Rattle.bt_meta.proofs.Lists.{All-front, All-back}
+use Rattle.bt_meta.proofs.MadeEntries.{IsGood}
 use Rattle.bt_meta.proofs.MadeTree.{entry_made, length_of_made, root_of_made, IsTreeOf}
 
 -- ---- clashes of entries

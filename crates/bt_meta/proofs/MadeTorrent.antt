@@ -4,7 +4,7 @@ use Rattle.std.specs.Prelude.{filter, codes, nat_eq, nat_lt, not, ◌&&◌, ◌=
 use Rattle.std.specs.Option.{option_map, option_and_then}
 use Rattle.std.specs.List.{All}
 use Rattle.std.specs.Cmp.Lexicographic.{pointwise}
-use Rattle.std.proofs.lemmas.Bool.{cases_Bool}
+use Rattle.std.proofs.lemmas.Bool.{cases_Bool, and_parts}
 use Rattle.std.proofs.lemmas.Bool.Decides.{nat_tests}
 use Rattle.std.proofs.lemmas.List.{map_push, length-map}
 use Rattle.std.proofs.lemmas.List.Sorted.{All-permutation, length_permutation}
@@ -26,10 +26,10 @@ use Rattle.bt_meta.specs.Encode.{first_layer, AreLayersOf, tree_made, info_made,
 use Rattle.bt_meta.specs.Writer.{file_made, torrent_made}
 use Rattle.bt_meta.specs.EncodeSteps.{AreNonEmpty}
 use Rattle.bt_meta.proofs.Checks.{skips, first_of-append, head_none, tail_none, holds_unless}
-use Rattle.bt_meta.proofs.MakeNeighbours.{ordered_named}
 use Rattle.bt_meta.proofs.MadeCanonical.{canonical_made}
-use Rattle.bt_meta.proofs.MadeGiven.{clash, AreLawful, IsLawful, lawful_ordered}
-use Rattle.bt_meta.proofs.MadeEntries.{All-back, second, value_is_file}
+use Rattle.bt_meta.proofs.MadeGiven.{clash, AreLawful, IsLawful, lawful_ordered, ordered_named}
+use Rattle.bt_meta.proofs.Lists.{All-back}
+use Rattle.bt_meta.proofs.MadeEntries.{value_is_file}
 use Rattle.bt_meta.proofs.MadeTree.{entry_made, length_of_made, root_of_made, IsTreeOf, tree_is}
 use Rattle.bt_meta.proofs.MadeChecks.{tree_passes, count_made}
 
@@ -46,17 +46,13 @@ record IsFirst (P : Given → Type 0) (piece_length : ℕ) (root : List ℕ) (o 
 abbrev has : ℕ → List ℕ → Given → Bool
 has piece_length root f = nat_lt piece_length f.length && pointwise nat_eq f.root root
 
-first : (a b : Bool) → (a && b) ≡ true → a ≡ true
-first true b e = refl
-first false b e = cc
-
 found_here : (P : Given → Type 0) (piece_length : ℕ) (root : List ℕ) (g : Given) (rest : List Given) → has piece_length root g ≡ true → All P (g ∷ rest)
     → IsFirst P piece_length root (first_layer piece_length (g ∷ rest) root)
 found_here P piece_length root g rest e h = record {
   file = g;
   found = rw e refl;
-  long = first (nat_lt piece_length g.length) (pointwise nat_eq g.root root) e;
-  rooted = (bytes_eq-Decides g.root root).0 (second (nat_lt piece_length g.length) (pointwise nat_eq g.root root) e);
+  long = (and_parts (nat_lt piece_length g.length) (pointwise nat_eq g.root root) e).0;
+  rooted = (bytes_eq-Decides g.root root).0 (and_parts (nat_lt piece_length g.length) (pointwise nat_eq g.root root) e).1;
   holds = All-head P g rest h;
 }
 

@@ -13,22 +13,16 @@ use Rattle.std.proofs.lemmas.Bool.{cases_lt, true≢false}
 use Rattle.std.proofs.lemmas.List.{get_or-map, length-map}
 use Rattle.std.proofs.lemmas.Slice.Eq.{bytes_eq-Decides}
 use Rattle.bt_meta.specs.GivenFiles.{Given, given_of, begins, path_order, IsInTreeOrder, HaveTreePaths}
-use Rattle.bt_meta.specs.WriterRefusals.{file_refusal, own_refusal, layer_refusal, conflict_with, is_beyond, refusal_of_files}
-use Rattle.bt_meta.specs.Faults.{is_path, is_element}
-use Rattle.bt_meta.specs.EncodeSteps.{given_at, AreNonEmpty}
+use Rattle.bt_meta.specs.WriterRefusals.{file_refusal, refusal_of_files}
+use Rattle.bt_meta.specs.EncodeSteps.{given_at}
 use Rattle.bt_meta.specs.WriterSteps.{Refuses}
 use Rattle.bt_meta.specs.Writer.{have_overlap, IsNotMade, no_memory, unlawful}
-use Rattle.bt_meta.specs.Faults.{first_of, fault_if, is_piece_length}
-use Rattle.std.proofs.lemmas.Bool.{cases_Bool}
-use Rattle.std.proofs.lemmas.Bool.Decides.{nat_tests}
-use Rattle.std.proofs.lemmas.List.Elements.{All-nil, All-cons}
-use Rattle.std.proofs.lemmas.List.Sorted.{All-permutation}
+use Rattle.bt_meta.specs.Faults.{first_of, is_piece_length}
 use Rattle.bt_meta.specs.TreeEntries.{with_earlier}
 use Rattle.bt_meta.specs.declared.writer.Made.{Made}
 use Rattle.bt_meta.specs.declared.writer.MakeError.{MakeError}
-use Rattle.bt_meta.specs.declared.writer.MakeError.TheVariants.{PieceLength, BadPath, FileLength, RootConflict, Count}
+use Rattle.bt_meta.specs.declared.writer.MakeError.TheVariants.{PieceLength, Count}
 use Rattle.bt_meta.proofs.EncodeTree.{same_bytes}
-use Rattle.bt_meta.proofs.Checks.{head_none, tail_none, holds_unless}
 use Rattle.bt_meta.proofs.MakeOverlap.{AreApart, next_apart}
 
 pub begins_by_bytes : (path other : List (String Global)) → starts_with string_eq other path ≡ begins (map string_bytes path) (map string_bytes other)
@@ -87,67 +81,6 @@ tree_paths files ordered h none k d lt =
     let p = (get_or ordered k d).path in
     let q = (get_or ordered (k + 1) d).path in
     (before_next p q (path_order p q) refl (h.ascending k d (omega arith) lt) (apart k d lt), apart k d lt)
-
--- ---- no file is longer than 2 ^ 40 bytes
-
-pub short_from : (n : ℕ) (e : MakeError) → fault_if (not (nat_le n (2 ^ 40))) e ≡ None → n ≤ 2 ^ 40
-short_from n e h = elim (cases_Bool (nat_le n (2 ^ 40))) [
-  | inl within ↦ grind (arith, nat_tests)
-  | inr beyond ↦ let f : Some e ≡ None = rw beyond at h in cc
-]
-
-short_given : (piece_length : ℕ) (before : List Given) (f : Given) → file_refusal piece_length before f ≡ None → f.length ≤ 2 ^ 40
-short_given piece_length before f h =
-    let own : own_refusal piece_length f ≡ None = head_none (own_refusal piece_length f) (fault_if (conflict_with before f) RootConflict ∷ fault_if (is_beyond piece_length before f) Count ∷ []) h in
-    let rest = tail_none (fault_if (not (is_path f.path)) BadPath) (fault_if (not (nat_le f.length (2 ^ 40))) FileLength ∷ layer_refusal piece_length f ∷ []) own in
-    short_from f.length FileLength (head_none (fault_if (not (nat_le f.length (2 ^ 40))) FileLength) (layer_refusal piece_length f ∷ []) rest)
-
-abbrev IsShort : Given → Type 0
-IsShort g = g.length ≤ 2 ^ 40
-
-all_short : (piece_length : ℕ) (before files : List Given) → first_of (with_earlier (file_refusal piece_length) before files) ≡ None → All IsShort files
-all_short piece_length before [] h = All-nil IsShort
-all_short piece_length before (f ∷ files) h =
-    let rest = with_earlier (file_refusal piece_length) (before ++ f ∷ []) files in
-    All-cons IsShort f files (short_given piece_length before f (head_none (file_refusal piece_length before f) rest h)) (all_short piece_length (before ++ f ∷ []) files (tail_none (file_refusal piece_length before f) rest h))
-
-second : (a b : Bool) → (a && b) ≡ true → b ≡ true
-second true b h = h
-second false b h = cc
-
-named_from : (path : List (List ℕ)) → list_all is_element path ≡ true → AreNonEmpty path
-named_from [] e = tt
-named_from ([] ∷ path) e = cc
-named_from ((byte ∷ bytes) ∷ path) e = (refl, named_from path (second (is_element (byte ∷ bytes)) (list_all is_element path) e))
-
-named_path : (path : List (List ℕ)) → is_path path ≡ true → AreNonEmpty path
-named_path [] e = tt
-named_path (name ∷ path) e = named_from (name ∷ path) (second (not (length (name ∷ path) == 0)) (list_all is_element (name ∷ path)) e)
-
-named_given : (piece_length : ℕ) (before : List Given) (f : Given) → file_refusal piece_length before f ≡ None → AreNonEmpty f.path
-named_given piece_length before f h =
-    let own : own_refusal piece_length f ≡ None = head_none (own_refusal piece_length f) (fault_if (conflict_with before f) RootConflict ∷ fault_if (is_beyond piece_length before f) Count ∷ []) h in
-    named_path f.path (holds_unless (is_path f.path) BadPath (head_none (fault_if (not (is_path f.path)) BadPath) (fault_if (not (nat_le f.length (2 ^ 40))) FileLength ∷ layer_refusal piece_length f ∷ []) own))
-
-abbrev HasNames : Given → Type 0
-HasNames g = AreNonEmpty g.path
-
-all_named : (piece_length : ℕ) (before files : List Given) → first_of (with_earlier (file_refusal piece_length) before files) ≡ None → All HasNames files
-all_named piece_length before [] h = All-nil HasNames
-all_named piece_length before (f ∷ files) h =
-    let rest = with_earlier (file_refusal piece_length) (before ++ f ∷ []) files in
-    All-cons HasNames f files (named_given piece_length before f (head_none (file_refusal piece_length before f) rest h)) (all_named piece_length (before ++ f ∷ []) files (tail_none (file_refusal piece_length before f) rest h))
-
-pub ordered_named : (piece_length : ℕ) (files ordered : List Given) → first_of (with_earlier (file_refusal piece_length) [] files) ≡ None → IsInTreeOrder files ordered → All (λ g. AreNonEmpty g.path) ordered
-ordered_named piece_length files ordered h order = All-permutation HasNames files ordered order.same (all_named piece_length [] files h)
-
-pub lent_short : (piece_length : ℕ) (files : List Given) (ordered : List (Bor Made)) → first_of (with_earlier (file_refusal piece_length) [] files) ≡ None → IsInTreeOrder files (map given_at ordered)
-    → All (λ (m : Bor Made). m.now.length ≤ 2 ^ 40) ordered
-lent_short piece_length files ordered h order k d lt =
-    let short : All IsShort (map given_at ordered) = All-permutation IsShort files (map given_at ordered) order.same (all_short piece_length [] files h) in
-    let within : k < length (map given_at ordered) = rw (length-map ordered given_at) lt in
-    let at : get_or (map given_at ordered) k (given_at d) ≡ given_at (get_or ordered k d) = get_or-map given_at ordered k d (given_at d) lt in
-    subst IsShort at (short k (given_at d) within)
 
 -- ---- the first refusal
 

@@ -146,7 +146,7 @@ module _ {path : List (List ℕ)} {name : List ℕ} {properties : Data} {p : Tre
 
 -- ---- entries
 
-last_push : (o : Option (List ℕ)) (xs : List (List ℕ)) (x : List ℕ) → last_or o (xs ++ x ∷ []) ≡ Some x
+pub last_push : (o : Option (List ℕ)) (xs : List (List ℕ)) (x : List ℕ) → last_or o (xs ++ x ∷ []) ≡ Some x
 last_push o [] x = refl
 last_push o (y ∷ xs) x = last_push (Some y) xs x
 

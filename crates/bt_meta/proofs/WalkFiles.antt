@@ -30,7 +30,7 @@ filter_twice test (x ∷ xs) = elim (cases_Bool (test x)) [
   | inr e ↦ rw (e, filter_twice test xs) refl
 ]
 
-no_layer : (b : Bool) (key : List ℕ) → (if b then unwrap_or (string_at no_dictionary key) [] else []) ≡ []
+pub no_layer : (b : Bool) (key : List ℕ) → (if b then unwrap_or (string_at no_dictionary key) [] else []) ≡ []
 unfolding string_at
 no_layer true key = refl
 no_layer false key = refl

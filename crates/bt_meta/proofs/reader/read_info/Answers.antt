@@ -7,7 +7,8 @@ use Rattle.bt_meta.specs.Fields.{no_dictionary}
 use Rattle.bt_meta.specs.Faults.{first_info_fault}
 use Rattle.bt_meta.specs.Reader.{too_long, no_spelling}
 use Rattle.bt_meta.proofs.ReadRefusals.{value_refused}
-use Rattle.bt_meta.proofs.ReadAscending.{info_ascends}
+use Rattle.bt_meta.specs.Torrent.{metainfo_of}
+use Rattle.bt_meta.proofs.ReadLawful.{ascends, info_keeps_to}
 use Rattle.bt_meta.proofs.reader.read_info.Goals as goal
 
 pub returns-then-bytes-gt-MAX_TEXT_LENGTH-clause-refused : goal.returns-then-bytes-gt-MAX_TEXT_LENGTH-clause-refused
@@ -27,4 +28,4 @@ pub returns-clause-ascending : goal.returns-clause-ascending
 returns-clause-ascending c =
     let same = ap data_of c.value.ensures.same in
     let canonical : IsCanonical (data_of c.value.result.now) = rw same c.value.ensures.canonical in
-    info_ascends (data_of c.value.result.now) no_dictionary c.info_in.result canonical.keys c.info_in.ensures.described
+    ascends (metainfo_of (data_of c.value.result.now) no_dictionary) c.info_in.result (info_keeps_to (data_of c.value.result.now) canonical.keys) c.info_in.ensures.faultless c.info_in.ensures.described

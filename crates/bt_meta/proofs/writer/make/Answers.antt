@@ -7,7 +7,8 @@ use Rattle.bt_meta.specs.EncodeSteps.{given_at}
 use Rattle.bt_meta.specs.Writer.{no_memory, unlawful, overlap, too_long}
 use Rattle.bt_meta.specs.declared.writer.MakeError.TheVariants.{PieceLength, Count}
 use Rattle.bt_meta.proofs.MakeOverlap.{same_overlap}
-use Rattle.bt_meta.proofs.MakeNeighbours.{tree_paths, ordered_named, lent_short, length_refused, none_refused, files_refused, refused_as}
+use Rattle.bt_meta.proofs.MadeGiven.{ordered_named, lent_short}
+use Rattle.bt_meta.proofs.MakeNeighbours.{tree_paths, length_refused, none_refused, files_refused, refused_as}
 use Rattle.bt_meta.proofs.MadeTorrent.{torrent_of_given}
 use Rattle.bt_meta.proofs.writer.make.Goals as goal
 
