@@ -69,9 +69,6 @@ module _ {path : List (List ℕ)} {name : List ℕ} {properties : Data} {p : Tre
   path_length : length p.path ≡ length path + 1
   path_length = ap length at.path_is ∙ length_push path name
 
-  pub properties_stop : {n : ℕ} {old : Walk} {e : MetaError} → first_of (property_checks properties) ≡ Some e → Stops n (p ∷ []) old e
-  properties_stop {n} f = stops_at (λ before h. bad_properties n before p at.node at.named at.file (checks_are f))
-
   module _ {facts : FileFacts} (f : IsFileFacts properties facts) where
     long : facts.length ≡ length_of p
     long = f.length ∙ ap length_in (sym at.properties_are)
