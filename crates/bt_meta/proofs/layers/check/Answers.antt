@@ -11,21 +11,16 @@ use Rattle.bt_meta.proofs.layers.check.Goals as goal
 pub returns-in-Ok : goal.returns-in-Ok
 returns-in-Ok c =
     let k : c.height.result ≡ piece_layer_of c.args.piece_length = c.height.ensures.value ∙ ap (λ n. height_of (block_count n)) c.shape-piece.ensures in
-    let P = λ (n : ℕ). IsLayer sha256 (block_count n) c.args.root.now c.height.result c.args.layer.now in
-    layer_right c.args.piece_length c.args.length c.args.root.now c.args.layer.now c.height.result k (subst P c.shape.ensures (c.in-Ok.ensures.variant.0 refl))
+    layer_right c.args.piece_length c.args.length c.args.root.now c.args.layer.now k (rw c.shape.ensures at (c.in-Ok.ensures.variant.0 refl))
 
 pub returns-in-Err-Size : goal.returns-in-Err-Size
 returns-in-Err-Size c =
     let k : c.height.result ≡ piece_layer_of c.args.piece_length = c.height.ensures.value ∙ ap (λ n. height_of (block_count n)) c.shape-piece.ensures in
-    let P = λ (n : ℕ). ¬ HasLayerSize (block_count n) c.height.result c.args.layer.now in
-    let Q = λ (n : ℕ). IsHeight (block_count n) c.height.result in
-    let inside = layer_inside c.args.piece_length c.args.length (height_of (block_count c.args.length)) c.height.result c.requires.long (subst Q c.shape-piece.ensures c.height.ensures.least) (height_is (block_count c.args.length)) in
-    layer_sized_wrong c.args.piece_length c.args.length c.args.root.now c.args.layer.now c.height.result k inside (subst P c.shape.ensures (c.check_layer.ensures.size.0 (c.in-Err-Size.is ∙ ap Err c.in-Err-Size.field-0-is)))
+    let inside = layer_inside c.args.piece_length c.args.length (height_of (block_count c.args.length)) c.height.result c.requires.long (rw c.shape-piece.ensures at c.height.ensures.least) (height_is (block_count c.args.length)) in
+    layer_sized_wrong c.args.piece_length c.args.length c.args.root.now c.args.layer.now k inside (rw c.shape.ensures at (c.check_layer.ensures.size.0 (c.in-Err-Size.is ∙ ap Err c.in-Err-Size.field-0-is)))
 
 pub returns-in-Err-Differs : goal.returns-in-Err-Differs
 returns-in-Err-Differs c =
     let k : c.height.result ≡ piece_layer_of c.args.piece_length = c.height.ensures.value ∙ ap (λ n. height_of (block_count n)) c.shape-piece.ensures in
-    let P = λ (n : ℕ). HasLayerSize (block_count n) c.height.result c.args.layer.now in
-    let Q = λ (n : ℕ). ¬ IsLayer sha256 (block_count n) c.args.root.now c.height.result c.args.layer.now in
-    let both = c.check_layer.ensures.differs.0 (c.in-Err-Differs.is ∙ ap Err c.in-Err-Differs.field-0-is) in
-    layer_differs c.args.piece_length c.args.length c.args.root.now c.args.layer.now c.height.result k (subst P c.shape.ensures both.0) (subst Q c.shape.ensures both.1)
+    let both = rw c.shape.ensures at (c.check_layer.ensures.differs.0 (c.in-Err-Differs.is ∙ ap Err c.in-Err-Differs.field-0-is)) in
+    layer_differs c.args.piece_length c.args.length c.args.root.now c.args.layer.now k both.0 both.1
