@@ -50,45 +50,44 @@ pub record IsBetween (es : List (Vec ℕ × Value)) (key : List ℕ) (low high :
   pub below : (i : ℕ) (d : Vec ℕ × Value) → i < low → entry_cmp key (get_or es i d) ≡ Less
   pub above : (i : ℕ) (d : Vec ℕ × Value) → high ≤ i → i < length es → entry_cmp key (get_or es i d) ≡ Greater
 
-pub whole : (es : List (Vec ℕ × Value)) (key : List ℕ) (n : ℕ) → n ≡ length es → IsBetween es key 0 n
-whole es key n e = record { ordered = omega arith; inside = omega arith; below = λ i d lt. absurd (omega arith); above = λ i d le lt. absurd (omega arith) }
+pub whole : (es : List (Vec ℕ × Value)) (key : List ℕ) → IsBetween es key 0 (length es)
+whole es key = record { ordered = omega arith; inside = omega arith; below = λ i d lt. absurd (omega arith); above = λ i d le lt. absurd (omega arith) }
 
 greater_back : (k key : List ℕ) → key_cmp k key ≡ Greater → key_cmp key k ≡ Less
 greater_back k key e = nat_list_cmp_total.antisymm key k ∙ ap ordering_reverse e
 
-back_greater : (k key : List ℕ) → key_cmp key k ≡ Less → key_cmp k key ≡ Greater
-back_greater k key e = nat_list_cmp_total.antisymm k key ∙ ap ordering_reverse e
+module _ (es : List (Vec ℕ × Value)) (key : List ℕ) {low high : ℕ} (middle : ℕ) (e : Vec ℕ × Value) (h : EntriesAscend (entries_of es)) (between : IsBetween es key low high) (lt : middle < high) (is : e ≡ get_or es middle e) where
+  here : {o : Ordering} → entry_cmp key e ≡ o → (d : Vec ℕ × Value) → entry_cmp key (get_or es middle d) ≡ o
+  here at d = let inside = between.inside in rw (same_item es middle d e (omega arith), ← is) at
 
-pub upper_half : (es : List (Vec ℕ × Value)) (key : List ℕ) (low high middle : ℕ) (e : Vec ℕ × Value) → EntriesAscend (entries_of es) → IsBetween es key low high → middle < high → e ≡ get_or es middle e
-    → entry_cmp key e ≡ Less → IsBetween es key (middle + 1) high
-upper_half es key low high middle e h between lt is less =
-    let inside = between.inside in
-    let here : (d : Vec ℕ × Value) → entry_cmp key (get_or es middle d) ≡ Less = λ d. rw (← same_item es middle e d (omega arith)) (ap (entry_cmp key) (sym is) ∙ less) in
-    record {
-      ordered = omega arith;
-      inside = inside;
-      below = λ i d under. elim (cases_lt i middle) [
-        | inl before ↦ nat_list_cmp_total.trans (get_or es i d).0.items (get_or es middle d).0.items key (ascend es i middle d h before (omega arith)) (here d)
-        | inr more ↦ let same : i ≡ middle = omega arith in rw same (here d)
-      ];
-      above = between.above;
-    }
+  pub upper_half : entry_cmp key e ≡ Less → IsBetween es key (middle + 1) high
+  upper_half less =
+      let inside = between.inside in
+      record {
+        ordered = omega arith;
+        inside = inside;
+        below = λ i d under. elim (cases_lt i middle) [
+          | inl before ↦ nat_list_cmp_total.trans (get_or es i d).0.items (get_or es middle d).0.items key (ascend es i middle d h before (omega arith)) (here less d)
+          | inr more ↦ let same : i ≡ middle = omega arith in rw same (here less d)
+        ];
+        above = between.above;
+      }
 
-pub lower_half : (es : List (Vec ℕ × Value)) (key : List ℕ) (low high middle : ℕ) (e : Vec ℕ × Value) → EntriesAscend (entries_of es) → IsBetween es key low high → low ≤ middle → middle < high
-    → e ≡ get_or es middle e → entry_cmp key e ≡ Greater → IsBetween es key low middle
-lower_half es key low high middle e h between le lt is greater =
-    let inside = between.inside in
-    let here : (d : Vec ℕ × Value) → entry_cmp key (get_or es middle d) ≡ Greater = λ d. rw (← same_item es middle e d (omega arith)) (ap (entry_cmp key) (sym is) ∙ greater) in
-    record {
-      ordered = le;
-      inside = omega arith;
-      below = between.below;
-      above = λ i d from within. elim (cases_lt middle i) [
-        | inl after ↦ back_greater (get_or es i d).0.items key
-            (nat_list_cmp_total.trans key (get_or es middle d).0.items (get_or es i d).0.items (greater_back (get_or es middle d).0.items key (here d)) (ascend es middle i d h after within))
-        | inr more ↦ let same : i ≡ middle = omega arith in rw same (here d)
-      ];
-    }
+  pub lower_half : low ≤ middle → entry_cmp key e ≡ Greater → IsBetween es key low middle
+  lower_half le greater =
+      let inside = between.inside in
+      record {
+        ordered = le;
+        inside = omega arith;
+        below = between.below;
+        above = λ i d from within. elim (cases_lt middle i) [
+          | inl after ↦
+              let k = (get_or es i d).0.items in
+              let m = (get_or es middle d).0.items in
+              nat_list_cmp_total.antisymm k key ∙ ap ordering_reverse (nat_list_cmp_total.trans key m k (greater_back m key (here greater d)) (ascend es middle i d h after within))
+          | inr more ↦ let same : i ≡ middle = omega arith in rw same (here greater d)
+        ];
+      }
 
 pub nothing_between : (es : List (Vec ℕ × Value)) (key : List ℕ) (low high : ℕ) → IsBetween es key low high → high ≤ low → (i : ℕ) (d : Vec ℕ × Value) → i < length es → entry_cmp key (get_or es i d) ≡ Equal → ⊥
 nothing_between es key low high between le i d lt e = elim (cases_lt i low) [
@@ -96,25 +95,21 @@ nothing_between es key low high between le i d lt e = elim (cases_lt i low) [
   | inr over ↦ let more = between.above i d (omega arith) lt in cc
 ]
 
+-- ---- the first value of a key
+
 other_head : (k key : List ℕ) (d : Data) (es : Entries) → (key_cmp k key ≡ Equal → ⊥) → first_value_of (entry k d es) key ≡ first_value_of es key
 other_head k key d es h =
     let other : pointwise nat_eq k key ≡ false = false_from_ne_true (pointwise nat_eq k key) (λ t. h (rw ((bytes_eq-Decides k key).0 t) (tied_itself nat_list_cmp_total key))) in
     rw other refl
 
-same_head : (k key : List ℕ) (d : Data) (es : Entries) → k ≡ key → first_value_of (entry k d es) key ≡ Some d
-same_head k key d es h = let same : pointwise nat_eq k key ≡ true = (bytes_eq-Decides k key).1 h in rw same refl
-
-less_is_other : (k l key : List ℕ) → IsBefore k l → l ≡ key → key_cmp k key ≡ Equal → ⊥
-less_is_other k l key h s e = let less : key_cmp k key ≡ Less = rw (← s) h in cc
-
-pub found_at : (es : List (Vec ℕ × Value)) (i : ℕ) (d : Vec ℕ × Value) (key : List ℕ) → EntriesAscend (entries_of es) → i < length es → (get_or es i d).0.items ≡ key
+found_at : (es : List (Vec ℕ × Value)) (i : ℕ) (d : Vec ℕ × Value) (key : List ℕ) → EntriesAscend (entries_of es) → i < length es → (get_or es i d).0.items ≡ key
     → Some (data_of (get_or es i d).1) ≡ first_value_of (entries_of es) key
 unfolding EntriesAscend
 found_at [] i d key h lt e = absurd (omega arith)
-found_at (x ∷ xs) zero d key h lt e = sym (same_head x.0.items key (data_of x.1) (entries_of xs) e)
+found_at (x ∷ xs) zero d key h lt e = rw ((bytes_eq-Decides x.0.items key).1 e) refl
 found_at (x ∷ xs) (suc i) d key h lt e =
-    found_at xs i d key h.2 (omega arith) e
-    ∙ sym (other_head x.0.items key (data_of x.1) (entries_of xs) (less_is_other x.0.items (get_or xs i d).0.items key (before_head x xs i d h (omega arith)) e))
+    let less : key_cmp x.0.items key ≡ Less = rw e at (before_head x xs i d h (omega arith)) in
+    found_at xs i d key h.2 (omega arith) e ∙ sym (other_head x.0.items key (data_of x.1) (entries_of xs) (λ tied. cc))
 
 pub found_nowhere : (es : List (Vec ℕ × Value)) (key : List ℕ) → ((i : ℕ) (d : Vec ℕ × Value) → i < length es → entry_cmp key (get_or es i d) ≡ Equal → ⊥) → None ≡ first_value_of (entries_of es) key
 found_nowhere [] key h = refl

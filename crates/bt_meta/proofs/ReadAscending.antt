@@ -145,7 +145,7 @@ mutual
       (All-append (IsAhead here) below others
       (λ k e lt. record {
         before = in_folder inner (get_or below k e) (within k e lt);
-        cut = λ file. let none = ap length (file_below inner d node file) in absurd (omega arith);
+        cut = λ file. let none = ap length (file_below d inner node file) in absurd (omega arith);
       })
       (λ k e lt. record { before = behind k e lt []; cut = λ file more. rw (append_assoc path (name ∷ []) more) (behind k e lt more) }))
       (pairs_append IsAhead below others (below_ahead inner d h.1 (All-front IsNode below others rest)) (among_ahead path es h.2 (All-back IsNode below others rest))

@@ -6,12 +6,12 @@ use Rattle.bt_meta.proofs.LayerLookup.{whole, upper_half, lower_half, nothing_be
 use Rattle.bt_meta.proofs.layers.find.Goals as goal
 
 pub loop-low-init : goal.loop-low-init
-loop-low-init c = whole c.args.entries.now c.args.key.now (length c.args.entries.now) refl
+loop-low-init c = whole c.args.entries.now c.args.key.now
 
 pub loop-low-preserved-in-Less : goal.loop-low-preserved-in-Less
 loop-low-preserved-in-Less c =
     let key = c.args.key.now in
-    upper_half c.args.entries.now key c.loop-low.low c.loop-low.high (c.loop-low.low + (c.loop-low.high - c.loop-low.low) / 2) c.index-entries-middle.result c.requires c.loop-low.invariant (omega arith) c.index-entries-middle.is
+    upper_half c.args.entries.now key (c.loop-low.low + (c.loop-low.high - c.loop-low.low) / 2) c.index-entries-middle.result c.requires c.loop-low.invariant (omega arith) c.index-entries-middle.is
     (ap (λ k. slice_cmp nat_cmp k key) (sym c.as_slice.ensures.value) ∙ sym c.in-Less.ensures)
 
 pub returns-in-Equal : goal.returns-in-Equal
@@ -24,7 +24,7 @@ returns-in-Equal c =
 pub loop-low-preserved : goal.loop-low-preserved
 loop-low-preserved c =
     let key = c.args.key.now in
-    lower_half c.args.entries.now key c.loop-low.low c.loop-low.high (c.loop-low.low + (c.loop-low.high - c.loop-low.low) / 2) c.index-entries-middle.result c.requires c.loop-low.invariant (omega arith) (omega arith) c.index-entries-middle.is
+    lower_half c.args.entries.now key (c.loop-low.low + (c.loop-low.high - c.loop-low.low) / 2) c.index-entries-middle.result c.requires c.loop-low.invariant (omega arith) c.index-entries-middle.is (omega arith)
     (ap (λ k. slice_cmp nat_cmp k key) (sym c.as_slice.ensures.value) ∙ sym c.in-Greater.ensures)
 
 pub returns : goal.returns
