@@ -23,7 +23,7 @@ use Rattle.bt_meta.specs.declared.writer.Made.{Made}
 use Rattle.bt_meta.specs.declared.writer.MakeError.{MakeError}
 use Rattle.bt_meta.specs.declared.writer.MakeError.TheVariants.{PieceLength, Count}
 use Rattle.bt_meta.proofs.EncodeTree.{same_bytes}
-use Rattle.bt_meta.proofs.MakeOverlap.{AreApart, next_apart}
+use Rattle.bt_meta.proofs.MakeOverlap.{AreApart, next_apart, lent_is}
 
 pub begins_by_bytes : (path other : List (String Global)) → starts_with string_eq other path ≡ begins (map string_bytes path) (map string_bytes other)
 begins_by_bytes [] other = refl
@@ -44,9 +44,7 @@ apart_more files i m n some lt first second apart h k d below = elim (cases_lt (
   | inr here ↦
       let last : k ≡ i - 1 = omega arith in
       let next : k + 1 ≡ i = omega arith in
-      let a : given_at m ≡ get_or (map given_at files) k d = ap given_at first ∙ ap (λ j. given_at (get_or files j m)) (sym last) ∙ sym (get_or-map given_at files k m d (omega arith)) in
-      let b : given_at n ≡ get_or (map given_at files) (k + 1) d = ap given_at second ∙ ap (λ j. given_at (get_or files j n)) (sym next) ∙ sym (get_or-map given_at files (k + 1) n d (omega arith)) in
-      ap (λ g. begins g.path (get_or (map given_at files) (k + 1) d).path) (sym a) ∙ ap (λ g. begins (given_at m).path g.path) (sym b) ∙ apart
+      rw (next, last, lent_is files (i - 1) m d (omega arith) first, lent_is files i n d lt second) apart
 ]
 
 pub apart_found : (files : List (Bor Made)) (i : ℕ) → AreApartTo files i → length files ≤ i → AreApart (map given_at files)
@@ -54,26 +52,23 @@ apart_found files i h all k d lt = let n : length (map given_at files) ≡ lengt
 
 -- ---- in tree order, with no path that begins the next one
 
-tied_step : (n m : List ℕ) (p q : List (List ℕ)) (o : Ordering) → o ≡ slice_cmp nat_cmp n m → path_order (n ∷ p) (m ∷ q) ≡ Equal → (path_order p q ≡ Equal → begins p q ≡ true) → begins (n ∷ p) (m ∷ q) ≡ true
-tied_step n m p q Less is e later = let f : Less ≡ Equal = ap (λ o. ordering_then o (path_order p q)) is ∙ e in cc
-tied_step n m p q Greater is e later = let f : Greater ≡ Equal = ap (λ o. ordering_then o (path_order p q)) is ∙ e in cc
-tied_step n m p q Equal is e later =
-    let same : pointwise nat_eq n m ≡ true = (bytes_eq-Decides n m).1 (same_bytes n m (sym is)) in
-    let rest : path_order p q ≡ Equal = ap (λ o. ordering_then o (path_order p q)) is ∙ e in
-    ap (λ b. b && begins p q) same ∙ later rest
-
 tied_begins : (p q : List (List ℕ)) → path_order p q ≡ Equal → begins p q ≡ true
 tied_begins [] [] e = refl
 tied_begins [] (m ∷ q) e = cc
 tied_begins (n ∷ p) [] e = cc
-tied_begins (n ∷ p) (m ∷ q) e = tied_step n m p q (slice_cmp nat_cmp n m) refl e (λ r. tied_begins p q r)
+tied_begins (n ∷ p) (m ∷ q) e = by_names (slice_cmp nat_cmp n m) refl (tied_begins p q)
+  where
+    by_names : (o : Ordering) → o ≡ slice_cmp nat_cmp n m → (path_order p q ≡ Equal → begins p q ≡ true) → begins (n ∷ p) (m ∷ q) ≡ true
+    by_names Less is later = let f : Less ≡ Equal = rw (← is) at e in cc
+    by_names Greater is later = let f : Greater ≡ Equal = rw (← is) at e in cc
+    by_names Equal is later = rw ((bytes_eq-Decides n m).1 (same_bytes n m (sym is))) (later (rw (← is) at e))
 
 before_next : (p q : List (List ℕ)) (o : Ordering) → o ≡ path_order p q → is_lt (path_order q p) ≡ false → begins p q ≡ false → path_order p q ≡ Less
 before_next p q Less is up apart = sym is
 before_next p q Equal is up apart = absurd (true≢false (sym (tied_begins p q (sym is)) ∙ apart))
 before_next p q Greater is up apart =
     let back : path_order q p ≡ Less = (lists_total nat_list_cmp_total).antisymm q p ∙ ap ordering_reverse (sym is) in
-    absurd (true≢false (sym (ap is_lt back) ∙ up))
+    absurd (true≢false (rw back at up))
 
 pub tree_paths : (files ordered : List Given) → IsInTreeOrder files ordered → have_overlap ordered ≡ false → HaveTreePaths ordered
 tree_paths files ordered h none k d lt =
