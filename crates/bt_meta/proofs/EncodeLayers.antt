@@ -1,5 +1,5 @@
 -- The layers of files by their roots.
-use Rattle.std.proofs.Common.{subst, ◌≡◌, ℕ, Bool, true, false, List, [], ◌∷◌, ◌++◌, Option, None, Some, Result, Ok, Err, IfOk, refl, sym, ap, ◌∙◌, inl, inr}
+use Rattle.std.proofs.Common.{◌≡◌, ℕ, Bool, true, false, List, [], ◌∷◌, ◌++◌, Option, None, Some, Result, Ok, Err, IfOk, refl, sym, ap, ◌∙◌, inl, inr}
 use Rattle.std.specs.Prelude.{is_some, nat_eq, nat_lt, ◌&&◌, if◌then◌else◌, cond}
 use Rattle.std.specs.Option.{option_map, option_or}
 use Rattle.std.specs.List.{find}

@@ -1,5 +1,5 @@
 -- The files of a tree with their layers, from those without.
-use Rattle.std.proofs.Common.{◌≡◌, ℕ, List, [], ◌∷◌, ◌++◌, map, refl, sym, ap, ◌∙◌}
+use Rattle.std.proofs.Common.{◌≡◌, ℕ, List, [], ◌∷◌, ◌++◌, map, refl, sym, ◌∙◌}
 use Rattle.std.specs.Prelude.{filter, sum_by}
 use Rattle.std.proofs.lemmas.List.Sums.{sum_by-cons}
 use Rattle.bt_bencode.specs.Value.{Data}
@@ -9,7 +9,7 @@ use Rattle.bt_meta.specs.Files.{File, file_of, is_file, file_at, files_of, piece
 use Rattle.bt_meta.specs.declared.torrent.FileEntry.{FileEntry}
 use Rattle.bt_meta.specs.Faults.{layer_check, layer_checks}
 use Rattle.bt_meta.specs.ReaderSteps.{pieces_in}
-use Rattle.bt_meta.specs.LayerSteps.{with_layer, layer_fault, layer_faults}
+use Rattle.bt_meta.specs.LayerSteps.{with_layer, layer_faults}
 
 module _ (n : ℕ) (layers : Data) where
   with_layers : (before es : List TreeEntry) → map (with_layer n layers) (with_earlier (file_at n no_dictionary) before es) ≡ with_earlier (file_at n layers) before es

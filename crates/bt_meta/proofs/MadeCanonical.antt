@@ -1,6 +1,6 @@
 -- The value of a torrent that is made is canonical.
-use Rattle.std.proofs.Common.{◌↔◌, ◌≡◌, ℕ, zero, suc, ◌+◌, ◌<◌, ◌≤◌, ◌^◌, Bool, true, false, List, [], ◌∷◌, length, refl, sym, ap, ◌∙◌, arith, add-one, inl, inr, None, Some, pos}
-use Rattle.std.specs.Prelude.{Option, IfSome, codes, take, get_or, nat_eq, nat_le, ◌&&◌, ◌==◌, FitsSigned, if◌then◌else◌}
+use Rattle.std.proofs.Common.{◌↔◌, ◌≡◌, ℕ, zero, suc, ◌+◌, ◌<◌, ◌≤◌, ◌^◌, true, false, List, [], ◌∷◌, length, refl, sym, ap, ◌∙◌, arith, add-one, inl, inr, None, Some, pos}
+use Rattle.std.specs.Prelude.{Option, IfSome, get_or, nat_eq, nat_le, ◌&&◌, ◌==◌, FitsSigned, if◌then◌else◌}
 use Rattle.std.specs.Int.{w64, is_power_of_two}
 use Rattle.std.specs.List.{All}
 use Rattle.std.specs.Option.{option_map}
@@ -11,8 +11,6 @@ use Rattle.std.proofs.lemmas.Bool.{cases_Bool, and_parts}
 use Rattle.std.proofs.lemmas.Bool.Decides.{nat_tests}
 use Rattle.std.proofs.lemmas.Cmp.{tied_itself}
 use Rattle.std.proofs.lemmas.Int.{ints}
-use Rattle.std.proofs.lemmas.List.{take_all, get_or_default}
-use Rattle.std.proofs.lemmas.List.Elements.{All-get_or}
 use Rattle.std.proofs.lemmas.Slice.Eq.{bytes_eq-Decides}
 use Rattle.bt_bencode.specs.Value.{Data, integer, string, dictionary, Entries, no_entries, entry}
 use Rattle.bt_bencode.specs.Dictionary.{first_value_of}
@@ -21,8 +19,8 @@ use Rattle.bt_tree.specs.Limits.{max_file_length, min_piece_length, max_piece_le
 use Rattle.bt_meta.specs.Limits.{max_path_length}
 use Rattle.bt_meta.specs.Faults.{is_piece_length}
 use Rattle.bt_meta.specs.GivenFiles.{Given, HaveTreePaths}
-use Rattle.bt_meta.specs.Encode.{with_file, properties_made, tree_made, first_layer, AreLayersOf, info_made, value_made}
-use Rattle.bt_meta.specs.EncodeSteps.{entries_before, AreNonEmpty, AreBefore, ComesAfter}
+use Rattle.bt_meta.specs.Encode.{properties_made, tree_made, first_layer, AreLayersOf, info_made, value_made}
+use Rattle.bt_meta.specs.EncodeSteps.{entries_before, AreNonEmpty, AreBefore}
 use Rattle.bt_meta.proofs.EncodeFolders.{IsPut, put_there}
 use Rattle.bt_meta.proofs.EncodeTree.{nothing, grows}
 

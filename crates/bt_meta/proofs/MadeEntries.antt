@@ -1,6 +1,6 @@
 -- The entries of a tree that files are put into one behind the other.
-use Rattle.std.proofs.Common.{◌≡◌, ℕ, ◌+◌, ◌≤◌, Bool, true, false, List, [], ◌∷◌, ◌++◌, length, length-append, arith, None, refl, sym, ap, ◌∙◌, inl, inr, append_assoc}
-use Rattle.std.specs.Prelude.{filter, not, ◌==◌, ◌&&◌, unwrap_or}
+use Rattle.std.proofs.Common.{◌≡◌, ℕ, ◌≤◌, Bool, true, false, List, [], ◌∷◌, ◌++◌, length, length-append, arith, None, refl, sym, ◌∙◌, inl, inr, append_assoc}
+use Rattle.std.specs.Prelude.{filter, not, ◌==◌, unwrap_or}
 use Rattle.std.specs.List.{All, list_all, last_or}
 use Rattle.std.proofs.lemmas.Bool.{and_parts}
 use Rattle.std.proofs.lemmas.List.{append-nil}
@@ -9,7 +9,7 @@ use Rattle.bt_bencode.specs.Value.{Data, dictionary, Entries, no_entries, entry}
 use Rattle.bt_bencode.specs.Dictionary.{first_value_of}
 use Rattle.bt_meta.specs.Fields.{has_key, dictionary_at}
 use Rattle.bt_meta.specs.Limits.{max_path_length}
-use Rattle.bt_meta.specs.TreeEntries.{TreeEntry, tree_entries_below, tree_entries_among}
+use Rattle.bt_meta.specs.TreeEntries.{TreeEntry, tree_entries_among}
 use Rattle.bt_meta.specs.Files.{is_file, properties_of}
 use Rattle.bt_meta.specs.Faults.{first_of, is_node, has_lawful_name, is_path_element, is_element}
 use Rattle.bt_meta.specs.PropertySteps.{property_checks}

@@ -1,5 +1,5 @@
 -- What is made of lawful files is a torrent, and gives them back.
-use Rattle.std.proofs.Common.{subst, ◌≡◌, ◌≢◌, ℕ, ◌≤◌, ◌^◌, Bool, true, false, List, [], ◌∷◌, ◌++◌, length, map, Option, None, Some, refl, sym, ap, ◌∙◌, arith, inl, inr, append_assoc}
+use Rattle.std.proofs.Common.{subst, ◌≡◌, ◌≢◌, ℕ, ◌≤◌, Bool, true, false, List, [], ◌∷◌, ◌++◌, length, map, Option, None, Some, refl, sym, ap, ◌∙◌, arith, inl, inr, append_assoc}
 use Rattle.std.specs.Prelude.{filter, codes, nat_eq, nat_lt, not, ◌&&◌, ◌==◌, sum_by, unwrap_or, if◌then◌else◌}
 use Rattle.std.specs.Option.{option_map, option_and_then}
 use Rattle.std.specs.List.{All}
@@ -8,7 +8,7 @@ use Rattle.std.proofs.lemmas.Bool.{cases_Bool, and_parts}
 use Rattle.std.proofs.lemmas.Bool.Decides.{nat_tests}
 use Rattle.std.proofs.lemmas.List.{map_push, length-map}
 use Rattle.std.proofs.lemmas.List.Sorted.{All-permutation, length_permutation}
-use Rattle.std.proofs.lemmas.List.Elements.{All-head, All-tail, All-weaker}
+use Rattle.std.proofs.lemmas.List.Elements.{All-head, All-tail}
 use Rattle.std.proofs.lemmas.Slice.Eq.{bytes_eq-Decides}
 use Rattle.bt_meta.specs.Limits.{max_text_length}
 use Rattle.bt_bencode.specs.Value.{Data, string, dictionary, Entries}
@@ -25,7 +25,6 @@ use Rattle.bt_meta.specs.GivenFiles.{Given, given_of, HasRoot, IsInTreeOrder, Ha
 use Rattle.bt_meta.specs.WriterRefusals.{Check, file_refusal}
 use Rattle.bt_meta.specs.Encode.{first_layer, AreLayersOf, tree_made, info_made, value_made}
 use Rattle.bt_meta.specs.Writer.{file_made, torrent_made}
-use Rattle.bt_meta.specs.EncodeSteps.{AreNonEmpty}
 use Rattle.bt_meta.proofs.Checks.{skips, first_of-append, passed, holds_unless}
 use Rattle.bt_meta.proofs.MadeCanonical.{canonical_made}
 use Rattle.bt_meta.proofs.MadeGiven.{clash, AreLawful, IsLawful, lawful_ordered, ordered_named}

@@ -1,7 +1,7 @@
 -- The tree of files that are put into it in their order.
-use Rattle.std.proofs.Common.{subst, ◌≡◌, ℕ, zero, suc, ◌+◌, ◌<◌, ◌≤◌, ◌^◌, Bool, true, false, List, [], ◌∷◌, ◌++◌, length, map, None, refl, sym, ap, ◌∙◌, arith, inl, inr}
+use Rattle.std.proofs.Common.{◌≡◌, ℕ, ◌≤◌, ◌^◌, Bool, true, false, List, [], ◌∷◌, ◌++◌, length, map, None, refl, sym, ap, ◌∙◌, arith, inl, inr}
 use Rattle.std.specs.Prelude.{filter, get_or, take, replicate, codes, not, ◌||◌, ◌==◌, if◌then◌else◌, cond}
-use Rattle.std.specs.List.{All, list_all}
+use Rattle.std.specs.List.{All}
 use Rattle.std.proofs.lemmas.Str.{IsUtf8-nil, is_utf8-from_IsUtf8}
 use Rattle.std.proofs.lemmas.Bool.{cases_Bool, and_parts}
 use Rattle.std.proofs.lemmas.Bool.Decides.{nat_tests}
@@ -15,7 +15,6 @@ use Rattle.bt_meta.specs.Files.{is_file, length_in, root_in, length_of, root_of}
 use Rattle.bt_meta.specs.Faults.{first_of, has_lawful_length, has_lawful_root, is_path_element}
 use Rattle.bt_meta.specs.PropertySteps.{property_checks}
 use Rattle.bt_meta.specs.GivenFiles.{Given, HasRoot, HaveTreePaths}
-use Rattle.bt_meta.specs.Faults.{is_path, is_element}
 use Rattle.bt_meta.specs.Encode.{with_file, properties_made, tree_made}
 use Rattle.bt_meta.specs.EncodeSteps.{AreNonEmpty, ComesAfter}
 use Rattle.bt_meta.proofs.EncodeFolders.{IsPut, put_there}

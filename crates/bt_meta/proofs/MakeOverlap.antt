@@ -1,6 +1,6 @@
 -- Of files in tree order two overlap just where a path begins the next one.
 use Rattle.std.proofs.Common.{◌≡◌, ℕ, suc, ◌+◌, ◌-◌, ◌<◌, ◌≤◌, Bool, true, false, List, [], ◌∷◌, length, map, refl, sym, ap, ◌∙◌, ◌↔◌, arith}
-use Rattle.std.specs.Prelude.{get_or, nat_eq, ◌||◌, ◌&&◌}
+use Rattle.std.specs.Prelude.{get_or, nat_eq, ◌||◌}
 use Rattle.std.specs.Borrow.{Bor}
 use Rattle.std.specs.Ordering.{nat_cmp, is_lt, ordering_reverse}
 use Rattle.std.specs.declared.cmp.Ordering.{Ordering}

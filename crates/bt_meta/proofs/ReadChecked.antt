@@ -1,7 +1,6 @@
 -- What is known of the entries of a tree in which no check finds a fault.
 use Rattle.std.proofs.Common.{◌≡◌, ℕ, ◌≤◌, get_or, Bool, true, false, List, [], ◌∷◌, ◌++◌, length, None, refl, sym, ap, ◌∙◌, arith, inl, inr, append-nil, append_assoc}
-use Rattle.std.specs.Prelude.{◌≢◌, not, ◌&&◌, ◌||◌, ◌==◌, nat_eq, nat_lt, replicate, filter, unwrap_or, codes, if◌then◌else◌}
-use Rattle.std.specs.Cmp.Lexicographic.{pointwise}
+use Rattle.std.specs.Prelude.{◌≢◌, not, ◌||◌, ◌==◌, nat_lt, replicate, filter, unwrap_or, codes, if◌then◌else◌}
 use Rattle.std.specs.List.{All, AllPairs, list_any}
 use Rattle.std.proofs.lemmas.Bool.{cases_Bool, eqb-true}
 use Rattle.std.proofs.lemmas.Bool.Decides.{nat_tests}

@@ -1,12 +1,12 @@
 -- What the checks of an info dictionary's head come to, and what follows for the whole.
-use Rattle.std.proofs.Common.{◌≡◌, ℕ, Bool, true, false, List, [], ◌∷◌, ◌++◌, map, Option, None, Some, refl, sym, ap, ◌∙◌, inl, inr}
-use Rattle.std.specs.Prelude.{codes, is_none, not}
+use Rattle.std.proofs.Common.{◌≡◌, ℕ, Bool, true, false, List, ◌++◌, map, None, Some, refl, sym, ◌∙◌, inl, inr}
+use Rattle.std.specs.Prelude.{codes}
 use Rattle.sha2.specs.Sha256.{sha256}
 use Rattle.bt_bencode.specs.Value.{Data, data_of}
 use Rattle.bt_bencode.specs.Spelling.{spelling_of}
 use Rattle.bt_meta.specs.Fields.{integer_at, string_at, dictionary_at, is_dictionary}
 use Rattle.bt_meta.specs.Files.{File, file_of, files_of}
-use Rattle.bt_meta.specs.Faults.{Check, first_of, fault_if, head_checks, info_checks, tree_checks, layer_checks, version_check, is_hybrid, is_piece_length, piece_length_of, tree_of, info_of, layers_of, first_fault, first_info_fault}
+use Rattle.bt_meta.specs.Faults.{Check, first_of, head_checks, info_checks, tree_checks, layer_checks, version_check, is_hybrid, is_piece_length, piece_length_of, tree_of, info_of, layers_of, first_fault, first_info_fault}
 use Rattle.bt_meta.specs.Torrent.{metainfo_of}
 use Rattle.bt_meta.specs.ReaderSteps.{Refuses, IsHead, IsListing}
 use Rattle.bt_meta.specs.LayerSteps.{layer_faults}

@@ -1,5 +1,5 @@
 -- Adding a file to a walk.
-use Rattle.std.proofs.Common.{◌≡◌, ◌⊎◌, ℕ, ◌+◌, ◌<◌, ◌≤◌, ◌^◌, Bool, true, false, List, [], ◌∷◌, ◌++◌, length, Option, None, Some, refl, sym, ap, ◌∙◌, arith, inl, inr}
+use Rattle.std.proofs.Common.{◌≡◌, ◌⊎◌, ℕ, ◌+◌, ◌<◌, ◌≤◌, Bool, true, false, List, [], ◌∷◌, ◌++◌, length, Option, None, Some, refl, sym, ap, ◌∙◌, arith, inl, inr}
 use Rattle.std.specs.Prelude.{codes, nat_lt, filter, not, ◌&&◌, ◌||◌, ◌==◌, unwrap_or}
 use Rattle.std.specs.Option.{option_map_or}
 use Rattle.std.specs.Prelude.{nat_le}
@@ -26,7 +26,7 @@ use Rattle.bt_meta.specs.declared.walk.Walk.{Walk}
 use Rattle.bt_meta.specs.declared.error.MetaError.{MetaError}
 use Rattle.bt_meta.specs.declared.error.MetaError.TheVariants.{Tree, BadPath, TooMany}
 use Rattle.bt_meta.proofs.WalkFiles.{pieces_push, count_push, count_of_files, others_same, others_noted, file_walked, folder_walked}
-use Rattle.bt_meta.proofs.WalkChecks.{has_conflict, bad_properties, bad_root, file_counted, folder_counted, stops_at, passes_one}
+use Rattle.bt_meta.proofs.WalkChecks.{has_conflict, bad_root, file_counted, folder_counted, stops_at, passes_one}
 use Rattle.bt_meta.proofs.WalkJoins.{stops_sooner}
 
 -- ---- properties

@@ -1,6 +1,6 @@
 -- What a walk has found behind one entry more.
 use Rattle.std.proofs.Common.{◌≡◌, ℕ, ◌+◌, ◌≤◌, Bool, true, false, List, [], ◌∷◌, ◌++◌, length, map, refl, sym, ap, ◌∙◌, arith, inl, inr}
-use Rattle.std.specs.Prelude.{nat_eq, filter, sum_by, not, ◌&&◌, ◌||◌, ◌==◌, cond, unwrap_or, nat_lt, if◌then◌else◌}
+use Rattle.std.specs.Prelude.{nat_eq, filter, sum_by, not, ◌&&◌, ◌||◌, ◌==◌, unwrap_or, nat_lt, if◌then◌else◌}
 use Rattle.std.specs.Cmp.Lexicographic.{pointwise}
 use Rattle.std.proofs.Math.Bool.{or-false}
 use Rattle.std.proofs.lemmas.Bool.{and_left, cases_Bool}

@@ -5,8 +5,8 @@ use Rattle.std.proofs.lemmas.List.{append-nil, map-append, take_more, drop_more,
 use Rattle.bt_bencode.specs.Value.{Data, Entries, entry, data_of, entries_of, entries_from, entry_data}
 use Rattle.bt_bencode.specs.declared.value.Value.{Value}
 use Rattle.bt_meta.specs.TreeEntries.{TreeEntry, tree_entries_below, tree_entries_among, with_earlier}
-use Rattle.bt_meta.specs.Faults.{first_of, entry_check}
-use Rattle.bt_meta.specs.WalkSteps.{IsWalkOver, Passes, Stops, tree_entries_of}
+use Rattle.bt_meta.specs.Faults.{entry_check}
+use Rattle.bt_meta.specs.WalkSteps.{Passes, Stops, tree_entries_of}
 use Rattle.bt_meta.specs.declared.walk.Walk.{Walk}
 use Rattle.bt_meta.specs.declared.error.MetaError.{MetaError}
 use Rattle.bt_meta.proofs.Checks.{first_of-append, first_of-append_some}

@@ -1,10 +1,10 @@
 -- What the walk over a whole tree tells.
-use Rattle.std.proofs.Common.{◌≡◌, ℕ, ◌≤◌, Bool, true, false, List, [], ◌∷◌, ◌++◌, length, map, None, Some, refl, sym, ap, ◌∙◌, inl, inr, arith}
+use Rattle.std.proofs.Common.{◌≡◌, ℕ, ◌≤◌, Bool, true, false, List, [], ◌∷◌, ◌++◌, length, map, Some, refl, sym, ap, ◌∙◌, inl, inr, arith}
 use Rattle.std.specs.Prelude.{filter, sum_by, not, ◌==◌}
 use Rattle.std.specs.List.{list_any}
 use Rattle.std.proofs.lemmas.Bool.{cases_Bool}
 use Rattle.std.proofs.lemmas.Bool.Decides.{nat_tests}
-use Rattle.std.proofs.lemmas.List.Elements.{All-same, All-nil}
+use Rattle.std.proofs.lemmas.List.Elements.{All-nil}
 use Rattle.std.proofs.lemmas.List.Sums.{sum_by-cons}
 use Rattle.bt_tree.specs.Limits.{max_file_length}
 use Rattle.bt_bencode.specs.Value.{Data}
@@ -12,7 +12,7 @@ use Rattle.bt_meta.specs.Fields.{has_key, no_dictionary}
 use Rattle.bt_meta.specs.TreeEntries.{TreeEntry, tree_entries_below, with_earlier}
 use Rattle.bt_meta.specs.Files.{File, is_file, file_of, file_at, files_of, pieces_of, piece_count, length_of}
 use Rattle.bt_meta.specs.Faults.{Check, first_of, fault_if, entry_check, tree_checks}
-use Rattle.bt_meta.specs.ReaderSteps.{Refuses, AreShort, IsListing}
+use Rattle.bt_meta.specs.ReaderSteps.{Refuses, IsListing}
 use Rattle.bt_meta.specs.WalkSteps.{IsWalkOver, Passes, Stops}
 use Rattle.bt_meta.specs.declared.walk.Walk.{Walk}
 use Rattle.bt_meta.specs.declared.walk.Listing.{Listing}

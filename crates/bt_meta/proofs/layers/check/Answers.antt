@@ -1,8 +1,6 @@
-use Rattle.std.proofs.Common.{◌≡◌, ℕ, ◌∙◌, Err, refl, ap, subst}
-use Rattle.sha2.specs.Sha256.{sha256}
+use Rattle.std.proofs.Common.{◌≡◌, ◌∙◌, Err, refl, ap}
 use Rattle.bt_tree.specs.Blocks.{block_count}
-use Rattle.bt_tree.specs.TreeShape.{height_of, IsHeight}
-use Rattle.bt_tree.specs.Layers.{IsLayer, HasLayerSize}
+use Rattle.bt_tree.specs.TreeShape.{height_of}
 use Rattle.bt_tree.proofs.TreeShape.{height_is}
 use Rattle.bt_meta.specs.Layers.{piece_layer_of}
 use Rattle.bt_meta.proofs.LayerChecks.{layer_right, layer_sized_wrong, layer_differs, layer_inside}

@@ -1,7 +1,6 @@
-use Rattle.std.proofs.Common.{◌⊎◌, ◌≤◌, ◌<◌, ◌+◌, ◌^◌, length, refl, ap, inl, inr, arith}
+use Rattle.std.proofs.Common.{◌+◌, refl, ap, inl, inr, arith}
 use Rattle.bt_meta.specs.declared.torrent.FileEntry.{FileEntry}
 use Rattle.std.proofs.lemmas.Result.{err_from_is_err_and}
-use Rattle.bt_meta.specs.FilePath.{folder_elements}
 use Rattle.bt_meta.proofs.WalkAddFile.{IsNotedWalk, conflict_stops, many_stop, file_passes}
 use Rattle.bt_meta.proofs.walk.add_file.Goals as goal
 
