@@ -13,8 +13,8 @@ use Rattle.bt_bencode.specs.Value.{dictionary, Entries}
 use Rattle.bt_meta.specs.Limits.{max_path_length, max_file_count, max_piece_count}
 use Rattle.bt_meta.specs.Fields.{has_key}
 use Rattle.bt_meta.specs.TreeEntries.{TreeEntry, tree_entries_below, tree_entries_among, with_earlier}
-use Rattle.bt_meta.specs.Files.{is_file, length_of, root_of, pieces_of, piece_count}
-use Rattle.bt_meta.specs.Faults.{first_of, fault_if, is_too_many, entry_check, tree_checks}
+use Rattle.bt_meta.specs.Files.{is_file, length_of, root_of, is_conflict, pieces_of, piece_count}
+use Rattle.bt_meta.specs.Faults.{first_of, fault_if, conflict, is_too_many, entry_check, tree_checks}
 use Rattle.bt_meta.specs.declared.error.MetaError.TheVariants.{Tree}
 use Rattle.bt_meta.specs.GivenFiles.{Given}
 use Rattle.bt_meta.proofs.Checks.{skips, first_of-append}
@@ -28,13 +28,12 @@ use Rattle.bt_meta.proofs.MadeTree.{entry_made, length_of_made, root_of_made, Is
 
 -- q has bytes, the root of p and another length
 abbrev differs : TreeEntry → TreeEntry → Bool
-differs p q = not (length_of q == 0) && pointwise nat_eq (root_of q) (root_of p) && not (length_of q == length_of p)
+differs p q = is_conflict (root_of p) (length_of p) (root_of q) (length_of q)
 
 abbrev clashes : TreeEntry → TreeEntry → Bool
 clashes p q = not (length_of p == 0) && differs p q
 
-any_filter : (p : TreeEntry) (before : List TreeEntry)
-    → list_any (λ q. is_file q && not (length_of q == 0) && pointwise nat_eq (root_of q) (root_of p) && not (length_of q == length_of p)) before ≡ list_any (differs p) (filter is_file before)
+any_filter : (p : TreeEntry) (before : List TreeEntry) → list_any (conflict p) before ≡ list_any (differs p) (filter is_file before)
 any_filter p [] = refl
 any_filter p (q ∷ before) = elim (cases_Bool (is_file q)) [
   | inl file ↦ rw (file, any_filter p before) refl

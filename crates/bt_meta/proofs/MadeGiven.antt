@@ -13,7 +13,7 @@ use Rattle.bt_tree.specs.Limits.{max_file_length}
 use Rattle.bt_meta.specs.Faults.{first_of, fault_if, is_path, is_element}
 use Rattle.bt_meta.specs.Limits.{max_path_length, max_file_count, max_piece_count}
 use Rattle.bt_meta.specs.TreeEntries.{with_earlier}
-use Rattle.bt_meta.specs.Files.{piece_count}
+use Rattle.bt_meta.specs.Files.{piece_count, is_conflict}
 use Rattle.bt_meta.specs.GivenFiles.{Given, IsInTreeOrder}
 use Rattle.bt_meta.specs.EncodeSteps.{given_at, AreNonEmpty}
 use Rattle.bt_meta.specs.WriterRefusals.{Check, file_refusal, own_refusal, layer_refusal, conflict_with, is_beyond}
@@ -31,7 +31,7 @@ pub record IsLawful (piece_length : ℕ) (f : Given) : Type 0 where
 
 -- both have bytes, and one root, and two lengths
 abbrev pub clash : Given → Given → Bool
-clash f g = not (f.length == 0) && (not (g.length == 0) && pointwise nat_eq g.root f.root && not (g.length == f.length))
+clash f g = not (f.length == 0) && is_conflict f.root f.length g.root g.length
 
 -- no two files clash
 abbrev pub AreAlike : List Given → Type 0
@@ -128,7 +128,7 @@ none_of true test (x ∷ xs) e =
 none_of false test (x ∷ xs) e = All-cons (λ g. (false && test g) ≡ false) x xs refl (none_of false test xs refl)
 
 none_clash : (before : List Given) (f : Given) → conflict_with before f ≡ false → All (λ g. clash f g ≡ false) before
-none_clash before f e = none_of (not (f.length == 0)) (λ g. not (g.length == 0) && pointwise nat_eq g.root f.root && not (g.length == f.length)) before e
+none_clash before f e = none_of (not (f.length == 0)) (λ g. is_conflict f.root f.length g.root g.length) before e
 
 alike_more : (before : List Given) (f : Given) → AreAlike before → All (λ g. clash f g ≡ false) before → AreAlike (before ++ f ∷ [])
 alike_more before f h apart =

@@ -14,6 +14,7 @@ use Rattle.std.specs.Prelude.{take, drop, get_or}
 use Rattle.std.proofs.Math.Bool.{or-false}
 use Rattle.std.proofs.lemmas.List.{map-append, take_all, take-append-drop, map_more, drop_more}
 use Rattle.bt_meta.specs.TreeEntries.{with_earlier}
+use Rattle.bt_meta.specs.Files.{is_conflict}
 use Rattle.bt_meta.specs.GivenFiles.{Given, given_of, HasRoot}
 use Rattle.bt_meta.specs.WriterRefusals.{Check, file_refusal, has_conflict}
 use Rattle.bt_meta.specs.Faults.{is_element, is_path}
@@ -33,7 +34,7 @@ path_test path all some is =
 pub lengths_noted : (files : List Given) (f : Given) (old new : Lengths) (other : List ℕ) (n : ℕ) → (f.length == 0) ≡ false
     → is_other_length (length_at old other) n ≡ has_conflict files other n → NotesLength old new f.root f.length → is_other_length (length_at new other) n ≡ has_conflict (files ++ f ∷ []) other n
 lengths_noted files f old new other n some h noted =
-    let test = λ (g : Given). not (g.length == 0) && pointwise nat_eq g.root other && not (g.length == n) in
+    let test = λ (g : Given). is_conflict other n g.root g.length in
     noted_more noted other n ∙ sym (list_any-append test files (f ∷ []) ∙ ap (λ b. has_conflict files other n || b) (or-false (test f)) ∙ rw (some, ← h) refl)
 
 -- ---- the loop

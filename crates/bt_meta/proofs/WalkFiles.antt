@@ -11,7 +11,7 @@ use Rattle.std.proofs.lemmas.List.Sums.{sum_by-append}
 use Rattle.bt_tree.specs.Limits.{max_file_length}
 use Rattle.bt_meta.specs.Fields.{string_at, no_dictionary}
 use Rattle.bt_meta.specs.TreeEntries.{TreeEntry, with_earlier}
-use Rattle.bt_meta.specs.Files.{File, is_file, length_of, root_of, file_of, file_at, pieces_of, piece_count}
+use Rattle.bt_meta.specs.Files.{File, is_file, length_of, root_of, is_conflict, file_of, file_at, pieces_of, piece_count}
 use Rattle.bt_meta.specs.PropertySteps.{length_at, is_other_length, NotesLength}
 use Rattle.bt_meta.specs.WalkSteps.{has_other_length, IsWalkOver}
 use Rattle.bt_meta.specs.declared.torrent.FileEntry.{FileEntry}
@@ -35,6 +35,10 @@ unfolding string_at
 no_layer true key = refl
 no_layer false key = refl
 
+neither : (a b c d : Bool) → (a && b) ≡ false → (a && (b && c && d)) ≡ false
+neither true b c d e = rw e refl
+neither false b c d e = refl
+
 -- ---- an entry more
 
 module _ (n : ℕ) (before : List TreeEntry) where
@@ -46,14 +50,15 @@ module _ (n : ℕ) (before : List TreeEntry) where
 
   module _ (p : TreeEntry) where
     others_push : (root : List ℕ) (m : ℕ)
-        → has_other_length (before ++ p ∷ []) root m ≡ (has_other_length before root m || (is_file p && not (length_of p == 0) && pointwise nat_eq (root_of p) root && not (length_of p == m)))
+        → has_other_length (before ++ p ∷ []) root m ≡ (has_other_length before root m || (is_file p && is_conflict root m (root_of p) (length_of p)))
     others_push root m =
-        let test = λ (q : TreeEntry). is_file q && not (length_of q == 0) && pointwise nat_eq (root_of q) root && not (length_of q == m) in
+        let test = λ (q : TreeEntry). is_file q && is_conflict root m (root_of q) (length_of q) in
         list_any-append test before (p ∷ []) ∙ ap (λ b. has_other_length before root m || b) (or-false (test p))
 
     -- no file, or an empty one
     pub others_same : (root : List ℕ) (m : ℕ) → (is_file p && not (length_of p == 0)) ≡ false → has_other_length (before ++ p ∷ []) root m ≡ has_other_length before root m
-    others_same root m e = others_push root m ∙ rw e (or-false (has_other_length before root m))
+    others_same root m e =
+        others_push root m ∙ rw (neither (is_file p) (not (length_of p == 0)) (pointwise nat_eq (root_of p) root) (not (length_of p == m)) e) (or-false (has_other_length before root m))
 
     module _ (file : is_file p ≡ true) where
       filter_file : filter is_file (before ++ p ∷ []) ≡ filter is_file before ++ p ∷ []
