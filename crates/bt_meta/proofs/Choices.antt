@@ -22,10 +22,12 @@ pub left_none : (o : Option ℕ) (test : ℕ → Bool) → None ≡ o → test 0
 left_none o test e t = rw (← e, t) refl
 
 -- the same where the test is of a value that is there
-pub picked_there : (o : Option ℕ) (n : ℕ) (test : ℕ → Bool) → Some n ≡ o → test n ≡ true → Some n ≡ (if option_map_or test o false then Some (unwrap_or o 0) else None)
+pub picked_there : (o : Option ℕ) (n : ℕ) (test : ℕ → Bool) → Some n ≡ o → test n ≡ true
+    → Some n ≡ (if option_map_or test o false then Some (unwrap_or o 0) else None)
 picked_there o n test e t = rw (← e, t) refl
 
-pub left_there : (o : Option ℕ) (n : ℕ) (test : ℕ → Bool) → Some n ≡ o → test n ≡ false → None ≡ (if option_map_or test o false then Some (unwrap_or o 0) else None)
+pub left_there : (o : Option ℕ) (n : ℕ) (test : ℕ → Bool) → Some n ≡ o → test n ≡ false
+    → None ≡ (if option_map_or test o false then Some (unwrap_or o 0) else None)
 left_there o n test e t = rw (← e, t) refl
 
 pub left_nowhere : (o : Option ℕ) (test : ℕ → Bool) → None ≡ o → None ≡ (if option_map_or test o false then Some (unwrap_or o 0) else None)

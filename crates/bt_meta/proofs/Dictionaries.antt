@@ -92,7 +92,8 @@ pub key_entries : (path : List (List ℕ)) (key : List ℕ) (d : Data) → false
     → tree_entries_of path key d ≡ (record { path = path ++ key ∷ []; value = d }) ∷ tree_entries_below (path ++ key ∷ []) d
 unfolding tree_entries_among
 key_entries path [] d e = cc
-key_entries path (byte ∷ bytes) d e = let inner = path ++ (byte ∷ bytes) ∷ [] in ap (λ xs. record { path = inner; value = d } ∷ xs) (append-nil (tree_entries_below inner d))
+key_entries path (byte ∷ bytes) d e = let inner = path ++ (byte ∷ bytes) ∷ [] in
+    ap (λ xs. record { path = inner; value = d } ∷ xs) (append-nil (tree_entries_below inner d))
 
 -- ---- `piece layers`
 
@@ -132,7 +133,8 @@ strings_in (string s) key = refl
 strings_in (list ds) key = refl
 strings_in (dictionary es) key = refl
 
-no_strings : (o : Option Data) (key : List ℕ) → None ≡ option_and_then as_dictionary o → string_at (dictionary no_entries) key ≡ string_at (unwrap_or o no_dictionary) key
+no_strings : (o : Option Data) (key : List ℕ) → None ≡ option_and_then as_dictionary o
+    → string_at (dictionary no_entries) key ≡ string_at (unwrap_or o no_dictionary) key
 unfolding string_at
 no_strings None key e = refl
 no_strings (Some (integer z)) key e = refl
@@ -153,7 +155,8 @@ module _ (torrent : Data) where
     unfolding layers_of
     layers_strings key = rw (is, field_there) (strings_in layers key)
 
-  pub layers_absent : (key : List ℕ) → None ≡ dictionary_at torrent (codes "piece layers") → string_at (dictionary no_entries) key ≡ string_at (layers_of torrent) key
+  pub layers_absent : (key : List ℕ) → None ≡ dictionary_at torrent (codes "piece layers")
+      → string_at (dictionary no_entries) key ≡ string_at (layers_of torrent) key
   unfolding layers_of dictionary_at
   layers_absent key e = no_strings (field_of torrent (codes "piece layers")) key e
 
@@ -161,7 +164,8 @@ pub nothing_ascends : EntriesAscend no_entries
 unfolding EntriesAscend
 nothing_ascends = tt
 
-pub no_dictionary_is : (v : Value) → ((x : ℤ) × (v ≡ Int x)) ⊎ (((x : Vec ℕ) × (v ≡ Bytes x)) ⊎ ((x : Vec Value) × (v ≡ views.List x))) → is_dictionary (data_of v) ≡ false
+pub no_dictionary_is : (v : Value) → ((x : ℤ) × (v ≡ Int x)) ⊎ (((x : Vec ℕ) × (v ≡ Bytes x)) ⊎ ((x : Vec Value) × (v ≡ views.List x)))
+    → is_dictionary (data_of v) ≡ false
 no_dictionary_is v (inl h) = ap is_dictionary (ap data_of h.1 ∙ data_of-Int h.0)
 no_dictionary_is v (inr (inl h)) = ap is_dictionary (ap data_of h.1 ∙ data_of-Bytes h.0)
 no_dictionary_is v (inr (inr h)) = ap is_dictionary (ap data_of h.1 ∙ data_of-List h.0)

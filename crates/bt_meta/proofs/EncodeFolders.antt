@@ -16,7 +16,8 @@ use Rattle.bt_bencode.specs.declared.value.Value.{Value}
 use Rattle.bt_meta.specs.Encode.{with_entry, with_file}
 use Rattle.bt_meta.specs.EncodeSteps.{entries_before, AreBefore, ComesAfter, HasLastFolder}
 
-pub entries_push : (es : List (Vec ℕ × Value)) (key : Vec ℕ) (v : Value) → entries_of (es ++ (key, v) ∷ []) ≡ entries_before (entries_of es) (entry key.items (data_of v) no_entries)
+pub entries_push : (es : List (Vec ℕ × Value)) (key : Vec ℕ) (v : Value)
+    → entries_of (es ++ (key, v) ∷ []) ≡ entries_before (entries_of es) (entry key.items (data_of v) no_entries)
 entries_push [] key v = refl
 entries_push (e ∷ es) key v = ap (entry e.0.items (data_of e.1)) (entries_push es key v)
 
@@ -28,14 +29,19 @@ itself name = tied_itself nat_list_cmp_total name
 pub with_behind : (name : List ℕ) (d : Data) (es : Entries) → AreBefore name es → with_entry name d es ≡ entries_before es (entry name d no_entries)
 unfolding with_entry
 with_behind name d no_entries h = refl
-with_behind name d (entry key e es) h = ap (λ o. match_ordering o (entry name d (entry key e es)) (entry name d es) (entry key e (with_entry name d es))) h.0 ∙ ap (entry key e) (with_behind name d es h.2)
+with_behind name d (entry key e es) h =
+    ap (λ o. match_ordering o (entry name d (entry key e es)) (entry name d es) (entry key e (with_entry name d es))) h.0
+    ∙ ap (entry key e) (with_behind name d es h.2)
 
-pub with_last : (name : List ℕ) (d f : Data) (es : Entries) → AreBefore name es → with_entry name d (entries_before es (entry name f no_entries)) ≡ entries_before es (entry name d no_entries)
+pub with_last : (name : List ℕ) (d f : Data) (es : Entries) → AreBefore name es
+    → with_entry name d (entries_before es (entry name f no_entries)) ≡ entries_before es (entry name d no_entries)
 unfolding with_entry
-with_last name d f no_entries h = ap (λ o. match_ordering o (entry name d (entry name f no_entries)) (entry name d no_entries) (entry name f (with_entry name d no_entries))) (itself name)
+with_last name d f no_entries h =
+    ap (λ o. match_ordering o (entry name d (entry name f no_entries)) (entry name d no_entries) (entry name f (with_entry name d no_entries))) (itself name)
 with_last name d f (entry key e es) h =
     let rest = entries_before es (entry name f no_entries) in
-    ap (λ o. match_ordering o (entry name d (entry key e rest)) (entry name d rest) (entry key e (with_entry name d rest))) h.0 ∙ ap (entry key e) (with_last name d f es h.2)
+    ap (λ o. match_ordering o (entry name d (entry key e rest)) (entry name d rest) (entry key e (with_entry name d rest))) h.0
+    ∙ ap (entry key e) (with_last name d f es h.2)
 
 -- ---- the value at a name
 
@@ -47,7 +53,8 @@ other_name name key h = sym (is_eq-slice_cmp key name) ∙ ap is_eq (nat_list_cm
 
 found : (name : List ℕ) (d : Data) (es : Entries) → AreBefore name es → first_value_of (entries_before es (entry name d no_entries)) name ≡ Some d
 found name d no_entries h = ap (λ b. if b then Some d else None) (same_name name)
-found name d (entry key e es) h = ap (λ b. if b then Some e else first_value_of (entries_before es (entry name d no_entries)) name) (other_name name key h.0) ∙ found name d es h.2
+found name d (entry key e es) h =
+    ap (λ b. if b then Some e else first_value_of (entries_before es (entry name d no_entries)) name) (other_name name key h.0) ∙ found name d es h.2
 
 absent : (name : List ℕ) (es : Entries) → AreBefore name es → first_value_of es name ≡ None
 absent name no_entries h = refl
@@ -66,7 +73,8 @@ opened_behind name path es h = record {
   behind = behind_none path;
 }
 
-pub opened_within : (name : List ℕ) (path : List (List ℕ)) (es earlier inner : Entries) → es ≡ entries_before earlier (entry name (dictionary inner) no_entries) → AreBefore name earlier → ComesAfter path inner
+pub opened_within : (name : List ℕ) (path : List (List ℕ)) (es earlier inner : Entries)
+    → es ≡ entries_before earlier (entry name (dictionary inner) no_entries) → AreBefore name earlier → ComesAfter path inner
     → HasLastFolder name path es earlier inner
 opened_within name path es earlier inner e h behind = rw e (record {
   kept = λ d. with_last name d (dictionary inner) earlier h;
@@ -78,7 +86,8 @@ some_entry : (es : Entries) (n : List ℕ) (d : Data) → entries_before es (ent
 some_entry no_entries n d e = cc
 some_entry (entry key f es) n d e = cc
 
-last_same : (a b : Entries) (n m : List ℕ) (d f : Data) → entries_before a (entry n d no_entries) ≡ entries_before b (entry m f no_entries) → (a ≡ b) × (n ≡ m) × (d ≡ f)
+last_same : (a b : Entries) (n m : List ℕ) (d f : Data) → entries_before a (entry n d no_entries) ≡ entries_before b (entry m f no_entries)
+    → (a ≡ b) × (n ≡ m) × (d ≡ f)
 last_same no_entries no_entries n m d f e = (refl, cc, cc)
 last_same no_entries (entry key g b) n m d f e = absurd (some_entry b m f cc)
 last_same (entry key g a) no_entries n m d f e = absurd (some_entry a n d cc)
@@ -97,10 +106,12 @@ not_greater : (o : Ordering) → o ≡ Equal → o ≡ Greater → ⊥
 not_greater o e g = cc
 
 -- the last entry is a folder of this name
-pub opened_folder : (name : List ℕ) (path : List (List ℕ)) (es : List (Vec ℕ × Value)) (key : Vec ℕ) (v : Value) (inner : Entries) → data_of v ≡ dictionary inner → key.items ≡ name
+pub opened_folder : (name : List ℕ) (path : List (List ℕ)) (es : List (Vec ℕ × Value)) (key : Vec ℕ) (v : Value) (inner : Entries)
+    → data_of v ≡ dictionary inner → key.items ≡ name
     → ComesAfter (name ∷ path) (entries_of (es ++ (key, v) ∷ [])) → HasLastFolder name path (entries_of (es ++ (key, v) ∷ [])) (entries_of es) inner
 opened_folder name path es key v inner seen named behind =
-    let whole : entries_of (es ++ (key, v) ∷ []) ≡ entries_before (entries_of es) (entry name (dictionary inner) no_entries) = rw (entries_push es key v, seen, named) refl in
+    let whole : entries_of (es ++ (key, v) ∷ []) ≡ entries_before (entries_of es) (entry name (dictionary inner) no_entries) =
+    rw (entries_push es key v, seen, named) refl in
     elim behind [
       | inl before ↦ absurd (not_greater _ (itself name) (before_last name name (dictionary inner) (entries_of es) (rw whole at before)))
       | inr last ↦
@@ -110,8 +121,10 @@ opened_folder name path es key v inner seen named behind =
     ]
 
 -- it is none
-pub opened_other : (name : List ℕ) (path : List (List ℕ)) (es : List (Vec ℕ × Value)) (key : Vec ℕ) (v : Value) → ((inner : Entries) → data_of v ≡ dictionary inner → key.items ≡ name → ⊥)
-    → ComesAfter (name ∷ path) (entries_of (es ++ (key, v) ∷ [])) → HasLastFolder name path (entries_of (es ++ (key, v) ∷ [])) (entries_of (es ++ (key, v) ∷ [])) no_entries
+pub opened_other : (name : List ℕ) (path : List (List ℕ)) (es : List (Vec ℕ × Value)) (key : Vec ℕ) (v : Value)
+    → ((inner : Entries) → data_of v ≡ dictionary inner → key.items ≡ name → ⊥)
+    → ComesAfter (name ∷ path) (entries_of (es ++ (key, v) ∷ []))
+    → HasLastFolder name path (entries_of (es ++ (key, v) ∷ [])) (entries_of (es ++ (key, v) ∷ [])) no_entries
 opened_other name path es key v other behind = elim behind [
   | inl before ↦ opened_behind name path (entries_of (es ++ (key, v) ∷ [])) before
   | inr last ↦
@@ -127,7 +140,8 @@ opened_nothing name path = opened_behind name path no_entries tt
 pub file_in : (name : List ℕ) (path : List (List ℕ)) (d : Data) (es earlier inner : Entries) → HasLastFolder name path es earlier inner
     → entries_before earlier (entry name (dictionary (with_file path d inner)) no_entries) ≡ with_file (name ∷ path) d es
 unfolding with_file
-file_in name path d es earlier inner h = sym (h.kept (dictionary (with_file path d inner))) ∙ ap (λ i. with_entry name (dictionary (with_file path d i)) es) (sym h.opened)
+file_in name path d es earlier inner h = sym (h.kept (dictionary (with_file path d inner)))
+    ∙ ap (λ i. with_entry name (dictionary (with_file path d i)) es) (sym h.opened)
 
 pub file_alone : (d : Data) (es : Entries) → es ≡ no_entries → entries_before es (entry [] d no_entries) ≡ with_file [] d es
 unfolding with_file with_entry

@@ -31,7 +31,8 @@ pub before_none : (es : Entries) → entries_before es no_entries ≡ es
 before_none no_entries = refl
 before_none (entry key d es) = ap (entry key d) (before_none es)
 
-before_more : (es rest : Entries) (key : List ℕ) (d : Data) → entries_before (entries_before es (entry key d no_entries)) rest ≡ entries_before es (entry key d rest)
+before_more : (es rest : Entries) (key : List ℕ) (d : Data)
+    → entries_before (entries_before es (entry key d no_entries)) rest ≡ entries_before es (entry key d rest)
 before_more no_entries rest key d = refl
 before_more (entry k e es) rest key d = ap (entry k e) (before_more es rest key d)
 
@@ -52,18 +53,22 @@ list_ascends (e ∷ f ∷ es) h = (h.0.0, tt, list_ascends (f ∷ es) h.1)
 pub same_bytes_either_way : (a b : List ℕ) → pointwise nat_eq a b ≡ pointwise nat_eq b a
 same_bytes_either_way a b = elim (cases_Bool (pointwise nat_eq a b)) [
   | inl same ↦ same ∙ sym ((bytes_eq-Decides b a).1 (sym ((bytes_eq-Decides a b).0 same)))
-  | inr other ↦ other ∙ sym (false_from_ne_true (pointwise nat_eq b a) (λ same. true≢false (sym ((bytes_eq-Decides a b).1 (sym ((bytes_eq-Decides b a).0 same))) ∙ other)))
+  | inr other ↦ other ∙ sym (false_from_ne_true (pointwise nat_eq b a)
+      (λ same. true≢false (sym ((bytes_eq-Decides a b).1 (sym ((bytes_eq-Decides b a).0 same))) ∙ other)))
 ]
 
-choice : {A B : Type 0} (g : A → B) (test : Bool) (x : A) (y : Option A) (z : Option B) → z ≡ option_map g y → (if test then Some (g x) else z) ≡ option_map g (cond test (Some x) y)
+choice : {A B : Type 0} (g : A → B) (test : Bool) (x : A) (y : Option A) (z : Option B) → z ≡ option_map g y
+    → (if test then Some (g x) else z) ≡ option_map g (cond test (Some x) y)
 choice g true x y z e = refl
 choice g false x y z e = e
 
-pub list_finds : (es : List (List ℕ × Bor (List ℕ))) (root : List ℕ) → first_value_of (layer_list es) root ≡ option_map (λ layer. string layer.now) (lookup (is_at (slice_cmp nat_cmp root)) es)
+pub list_finds : (es : List (List ℕ × Bor (List ℕ))) (root : List ℕ)
+    → first_value_of (layer_list es) root ≡ option_map (λ layer. string layer.now) (lookup (is_at (slice_cmp nat_cmp root)) es)
 list_finds [] root = refl
 list_finds (e ∷ es) root =
     ap (λ t. if t then Some (string e.1.now) else first_value_of (layer_list es) root) (same_bytes_either_way e.0 root ∙ sym (is_eq-slice_cmp root e.0))
-    ∙ choice (λ (layer : Bor (List ℕ)). string layer.now) (is_eq (slice_cmp nat_cmp root e.0)) e.1 (lookup (is_at (slice_cmp nat_cmp root)) es) (first_value_of (layer_list es) root) (list_finds es root)
+    ∙ choice (λ (layer : Bor (List ℕ)). string layer.now) (is_eq (slice_cmp nat_cmp root e.0)) e.1 (lookup (is_at (slice_cmp nat_cmp root)) es)
+    (first_value_of (layer_list es) root) (list_finds es root)
 
 -- ---- one file more
 
@@ -92,7 +97,8 @@ module _ (n : ℕ) (files : List Given) (f : Given) where
 
   -- the first layer is that of the files before, or else that of the file
   behind : (root : List ℕ) → first_layer n (files ++ f ∷ []) root ≡ option_or (first_layer n files root) (first_layer n (f ∷ []) root)
-  behind root = ap (option_map (λ (g : Given). g.layer)) (find-append (has root) files (f ∷ [])) ∙ behind_first (find (has root) files) (find (has root) (f ∷ []))
+  behind root = ap (option_map (λ (g : Given). g.layer)) (find-append (has root) files (f ∷ []))
+      ∙ behind_first (find (has root) files) (find (has root) (f ∷ []))
 
   -- the file has no layer at this root
   behind_none : (root : List ℕ) → has root f ≡ false → first_layer n (files ++ f ∷ []) root ≡ first_layer n files root
@@ -113,8 +119,10 @@ module _ (n : ℕ) (files : List Given) (f : Given) where
     ]
 
     -- one whose root has none yet
-    pub layers_of_new : (new : BTreeMap (List ℕ) (Bor (List ℕ))) (layer : Bor (List ℕ)) → nat_lt n f.length ≡ true → is_some (get (slice_cmp nat_cmp) old f.root) ≡ false → layer.now ≡ f.layer
-        → ((root : List ℕ) → get (slice_cmp nat_cmp) new root ≡ cond (is_at (slice_cmp nat_cmp f.root) root) (Some layer) (get (slice_cmp nat_cmp) old root)) → HasFirstLayers n (files ++ f ∷ []) new
+    pub layers_of_new : (new : BTreeMap (List ℕ) (Bor (List ℕ))) (layer : Bor (List ℕ)) → nat_lt n f.length ≡ true
+        → is_some (get (slice_cmp nat_cmp) old f.root) ≡ false → layer.now ≡ f.layer
+        → ((root : List ℕ) → get (slice_cmp nat_cmp) new root ≡ cond (is_at (slice_cmp nat_cmp f.root) root) (Some layer)
+        (get (slice_cmp nat_cmp) old root)) → HasFirstLayers n (files ++ f ∷ []) new
     layers_of_new new layer long absent is updates root = elim (cases_Bool (pointwise nat_eq f.root root)) [
       | inl same ↦
           let r : f.root ≡ root = (bytes_eq-Decides f.root root).0 same in
@@ -129,7 +137,8 @@ twice : (o : Option (Bor (List ℕ))) → option_map string (now_of o) ≡ optio
 twice None = refl
 twice (Some layer) = refl
 
-pub layers_made : (n : ℕ) (files all : List Given) (layers : BTreeMap (List ℕ) (Bor (List ℕ))) (es : Entries) → files ≡ all → HasFirstLayers n files layers → EntriesAscend es
+pub layers_made : (n : ℕ) (files all : List Given) (layers : BTreeMap (List ℕ) (Bor (List ℕ))) (es : Entries) → files ≡ all
+    → HasFirstLayers n files layers → EntriesAscend es
     → ((root : List ℕ) → first_value_of es root ≡ option_map (λ layer. string layer.now) (get (slice_cmp nat_cmp) layers root)) → AreLayersOf n all es
 layers_made n files all layers es whole h ascending finds = record {
   ascending = ascending;

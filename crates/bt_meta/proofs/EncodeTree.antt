@@ -25,7 +25,8 @@ above m n k less greater =
     let below : slice_cmp nat_cmp k n ≡ Less = nat_list_cmp_total.antisymm k n ∙ ap ordering_reverse greater in
     nat_list_cmp_total.antisymm m k ∙ ap ordering_reverse (nat_list_cmp_total.trans k n m below less)
 
-all_above : (m n : List ℕ) (d : Data) (es : Entries) → is_nonempty n ≡ true → slice_cmp nat_cmp n m ≡ Less → AreBefore n es → AreBefore m (entries_before es (entry n d no_entries))
+all_above : (m n : List ℕ) (d : Data) (es : Entries) → is_nonempty n ≡ true → slice_cmp nat_cmp n m ≡ Less → AreBefore n es
+    → AreBefore m (entries_before es (entry n d no_entries))
 all_above m n d no_entries named less h = (nat_list_cmp_total.antisymm m n ∙ ap ordering_reverse less, named, tt)
 all_above m n d (entry key e es) named less h = (above m n key less h.0, h.1, all_above m n d es named less h.2)
 
@@ -37,12 +38,15 @@ rest_apart n m b e apart =
     let one : pointwise nat_eq n m ≡ true = (bytes_eq-Decides n m).1 e in
     rw one at apart
 
-pub next_behind : (p q : List (List ℕ)) (d : Data) (es new : Entries) → AreNonEmpty p → IsPut d p es new → path_order p q ≡ Less → begins p q ≡ false → ComesAfter q new
+pub next_behind : (p q : List (List ℕ)) (d : Data) (es new : Entries) → AreNonEmpty p → IsPut d p es new → path_order p q ≡ Less → begins p q ≡ false
+    → ComesAfter q new
 next_behind [] q d es new named put less apart = absurd (true≢false apart)
 next_behind (n ∷ p) [] d es new named put less apart = cc
-next_behind (n ∷ p) (m ∷ q) d es new named put less apart = rw put.new_is (by_order (slice_cmp nat_cmp n m) refl (λ r s. next_behind p q d put.inner put.more named.1 put.below r s))
+next_behind (n ∷ p) (m ∷ q) d es new named put less apart =
+    rw put.new_is (by_order (slice_cmp nat_cmp n m) refl (λ r s. next_behind p q d put.inner put.more named.1 put.below r s))
   where
-    by_order : (o : Ordering) → o ≡ slice_cmp nat_cmp n m → (path_order p q ≡ Less → begins p q ≡ false → ComesAfter q put.more) → ComesAfter (m ∷ q) (entries_before put.earlier (entry n (dictionary put.more) no_entries))
+    by_order : (o : Ordering) → o ≡ slice_cmp nat_cmp n m → (path_order p q ≡ Less → begins p q ≡ false → ComesAfter q put.more)
+        → ComesAfter (m ∷ q) (entries_before put.earlier (entry n (dictionary put.more) no_entries))
     by_order Less e later = inl (all_above m n (dictionary put.more) put.earlier named.0 (sym e) put.before)
     by_order Equal e later =
         let same : n ≡ m = same_bytes n m (sym e) in
@@ -70,12 +74,14 @@ pub grown_begun : (files : List Given) → IsGrown files 0 no_entries
 unfolding tree_made
 grown_begun files = record { made = refl; behind = λ d lt. behind_none (get_or files 0 d).path }
 
-pub made_more : (files : List Given) (i : ℕ) (f : Given) → i < length files → f ≡ get_or files i f → tree_made (take (i + 1) files) ≡ put (tree_made (take i files)) f
+pub made_more : (files : List Given) (i : ℕ) (f : Given) → i < length files → f ≡ get_or files i f
+    → tree_made (take (i + 1) files) ≡ put (tree_made (take i files)) f
 unfolding tree_made
 made_more files i f lt is =
     ap (λ fs. fold put no_entries fs) (take_more files i f lt ∙ ap (λ x. take i files ++ x ∷ []) (sym is)) ∙ fold_push put no_entries (take i files) f
 
-pub grown_more : (files : List Given) (i : ℕ) (f : Given) (tree : Entries) → HaveTreePaths files → All (λ g. AreNonEmpty g.path) files → i < length files → f ≡ get_or files i f → IsGrown files i tree
+pub grown_more : (files : List Given) (i : ℕ) (f : Given) (tree : Entries) → HaveTreePaths files → All (λ g. AreNonEmpty g.path) files
+    → i < length files → f ≡ get_or files i f → IsGrown files i tree
     → IsGrown files (i + 1) (put tree f)
 grown_more files i f tree tree_paths named lt is h = record {
   made = ap (λ es. put es f) h.made ∙ sym (made_more files i f lt is);
@@ -93,10 +99,12 @@ grown_more files i f tree tree_paths named lt is h = record {
 pub grown_found : (files : List Given) (i : ℕ) (tree : Entries) → IsGrown files i tree → length files ≤ i → tree ≡ tree_made files
 grown_found files i tree h all = h.made ∙ ap tree_made (take_all i files all)
 
-pub lent_at : (files : List (Bor Made)) (i : ℕ) (m : Bor Made) → i < length files → m ≡ get_or files i m → given_at m ≡ get_or (map given_at files) i (given_at m)
+pub lent_at : (files : List (Bor Made)) (i : ℕ) (m : Bor Made) → i < length files → m ≡ get_or files i m
+    → given_at m ≡ get_or (map given_at files) i (given_at m)
 lent_at files i m lt is = ap given_at is ∙ sym (get_or-map given_at files i m (given_at m) lt)
 
-pub behind_here : (files : List (Bor Made)) (i : ℕ) (m : Bor Made) (tree : Entries) → i < length files → m ≡ get_or files i m → IsGrown (map given_at files) i tree → ComesAfter (given_at m).path tree
+pub behind_here : (files : List (Bor Made)) (i : ℕ) (m : Bor Made) (tree : Entries) → i < length files → m ≡ get_or files i m
+    → IsGrown (map given_at files) i tree → ComesAfter (given_at m).path tree
 behind_here files i m tree lt is h =
     let within : i < length (map given_at files) = rw (length-map files given_at) lt in
     subst (λ (g : Given). ComesAfter g.path tree) (sym (lent_at files i m lt is)) (h.behind (given_at m) within)
@@ -107,8 +115,10 @@ abbrev pub nothing : Given
 nothing = record { path = []; length = 0; root = []; layer = [] }
 
 -- what is kept as one file more is put into the tree
-module _ (files : List Given) (tree_paths : HaveTreePaths files) (named : All (λ g. AreNonEmpty g.path) files) (P : List Given → Entries → Type 0) (begun : P [] no_entries)
-    (more : (i : ℕ) (tree : Entries) → i < length files → ComesAfter (get_or files i nothing).path tree → P (take i files) tree → P (take i files ++ get_or files i nothing ∷ []) (put tree (get_or files i nothing))) where
+module _ (files : List Given) (tree_paths : HaveTreePaths files) (named : All (λ g. AreNonEmpty g.path) files) (P : List Given → Entries → Type 0)
+    (begun : P [] no_entries)
+    (more : (i : ℕ) (tree : Entries) → i < length files → ComesAfter (get_or files i nothing).path tree → P (take i files) tree
+    → P (take i files ++ get_or files i nothing ∷ []) (put tree (get_or files i nothing))) where
   grown_to : (i : ℕ) → i ≤ length files → IsGrown files i (tree_made (take i files)) × P (take i files) (tree_made (take i files))
   unfolding tree_made
   grown_to zero within = (grown_begun files, begun)
@@ -119,7 +129,11 @@ module _ (files : List Given) (tree_paths : HaveTreePaths files) (named : All (�
       let before = grown_to i (omega arith) in
       let is : f ≡ get_or files i f = sym (get_or_default files i f nothing lt) in
       let next = made_more files i f lt is in
-      rw (← add-one i) (rw next (grown_more files i f tree tree_paths named lt is before.0), rw (next, take_more files i nothing lt) (more i tree lt (before.0.behind nothing lt) before.1))
+      rw (← add-one i) (
+        rw next (grown_more files i f tree tree_paths named lt is before.0),
+        rw (next, take_more files i nothing lt)
+            (more i tree lt (before.0.behind nothing lt) before.1),
+      )
 
   pub grows : P files (tree_made files)
   grows = subst (λ fs. P fs (tree_made fs)) (take_all (length files) files (omega arith)) (grown_to (length files) (omega arith)).1

@@ -56,18 +56,21 @@ module _ (n bytes : ℕ) (root layer : List ℕ) where
         let right : has_root n bytes root layer ≡ true = (bytes_eq-Decides folded root).1 at.folds in
         rw (size_right at.size, right) refl
 
-    pub layer_sized_wrong : k ≤ height_of (block_count bytes) → ¬ HasLayerSize (block_count bytes) k layer → Some LayerSize ≡ layer_bytes_fault n bytes root layer
+    pub layer_sized_wrong : k ≤ height_of (block_count bytes) → ¬ HasLayerSize (block_count bytes) k layer
+        → Some LayerSize ≡ layer_bytes_fault n bytes root layer
     unfolding has_layer_size
     layer_sized_wrong inside h =
         let wrong : has_layer_size n bytes layer ≡ false =
         ne_eqb (length layer) (32 * real_width (block_count bytes) (piece_layer_of n)) (λ e. rw is at h (record { inside = rw is at inside; size = e })) in
         rw wrong refl
 
-    pub layer_differs : HasLayerSize (block_count bytes) k layer → ¬ IsLayer sha256 (block_count bytes) root k layer → Some LayerDiffers ≡ layer_bytes_fault n bytes root layer
+    pub layer_differs : HasLayerSize (block_count bytes) k layer → ¬ IsLayer sha256 (block_count bytes) root k layer
+        → Some LayerDiffers ≡ layer_bytes_fault n bytes root layer
     unfolding has_root folded
     layer_differs size h =
         let sized = rw is at size in
-        let wrong : has_root n bytes root layer ≡ false = false_from_ne_true (pointwise nat_eq folded root) (λ t. rw is at h (record { size = sized; folds = (bytes_eq-Decides folded root).0 t })) in
+        let wrong : has_root n bytes root layer ≡ false =
+        false_from_ne_true (pointwise nat_eq folded root) (λ t. rw is at h (record { size = sized; folds = (bytes_eq-Decides folded root).0 t })) in
         rw (size_right sized, wrong) refl
 
 -- ---- all files
@@ -77,7 +80,8 @@ pub record ChangedBelow {A B : Type 0} (f : A → B) (W : B → B) (i : ℕ) (ol
   pub done : map f (take i new) ≡ map W (map f (take i old))
   pub rest : drop i new ≡ drop i old
 
-module _ {A : Type 0} (check : A → Check) (i : ℕ) (xs : List A) (e : A) (lt : i < length xs) (is : e ≡ get_or xs i e) (h : first_of (map check (take i xs)) ≡ None) where
+module _ {A : Type 0} (check : A → Check) (i : ℕ) (xs : List A) (e : A) (lt : i < length xs) (is : e ≡ get_or xs i e)
+    (h : first_of (map check (take i xs)) ≡ None) where
   -- the checks of the first i elements find nothing
   pub faultless_more : check e ≡ None → first_of (map check (take (i + 1) xs)) ≡ None
   faultless_more c = rw (take_more xs i e lt, ← is, map_push check (take i xs) e, first_of-append (map check (take i xs)) (check e ∷ []) h, c) refl
@@ -109,7 +113,17 @@ module _ {A B : Type 0} (f : A → B) (W : B → B) (i : ℕ) (old new : List A)
         let all = heads in
         let rest : drop (i + 1) new ≡ drop (i + 1) old = cc in
         record {
-          done = rw (take_more_set new i x lt, take_more old i e less, ← unchanged_item, map_push f (take i new) x, map_push f (take i old) e, map_push W (map f (take i old)) (f e), h.done, change) refl;
+          done = rw (
+            take_more_set new i x lt,
+            take_more old i e less,
+            ← unchanged_item,
+            map_push f (take i new) x,
+            map_push f
+                (take i old) e,
+            map_push W (map f (take i old)) (f e),
+            h.done,
+            change,
+          ) refl;
           rest = drop-set-lt (i + 1) new i x (omega arith) ∙ rest;
         }
 

@@ -12,7 +12,8 @@ use Rattle.bt_meta.specs.ReaderSteps.{pieces_in}
 use Rattle.bt_meta.specs.LayerSteps.{with_layer, layer_faults}
 
 module _ (n : ℕ) (layers : Data) where
-  with_layers : (before es : List TreeEntry) → map (with_layer n layers) (with_earlier (file_at n no_dictionary) before es) ≡ with_earlier (file_at n layers) before es
+  with_layers : (before es : List TreeEntry)
+      → map (with_layer n layers) (with_earlier (file_at n no_dictionary) before es) ≡ with_earlier (file_at n layers) before es
   with_layers before [] = refl
   with_layers before (p ∷ es) = rw (with_layers (before ++ p ∷ []) es) refl
 
@@ -34,5 +35,6 @@ module _ (n : ℕ) (layers : Data) where
       let count = λ (g : File). piece_count n g.length in
       sum_by-cons count (with_layer n layers f) (map (with_layer n layers) files) ∙ rw (pieces_with_layers files) (sym (sum_by-cons count f files))
 
-  pub pieces_after : (pieces : ℕ) (old new : List FileEntry) → pieces ≡ pieces_in n old → map file_of new ≡ map (with_layer n layers) (map file_of old) → pieces ≡ pieces_in n new
+  pub pieces_after : (pieces : ℕ) (old new : List FileEntry) → pieces ≡ pieces_in n old
+      → map file_of new ≡ map (with_layer n layers) (map file_of old) → pieces ≡ pieces_in n new
   pieces_after pieces old new e h = e ∙ rw h (sym (pieces_with_layers (map file_of old)))

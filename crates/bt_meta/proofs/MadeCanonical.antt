@@ -34,7 +34,8 @@ pub none_canonical : {n : ℕ} → AreCanonicalWithin n no_entries
 unfolding entries_nesting EntriesAscend EntriesHaveSmallIntegers
 none_canonical = record { nesting = omega arith; keys = tt; integers = tt }
 
-pub first_canonical : {n : ℕ} {key : List ℕ} {d : Data} {es : Entries} → IfSome (first_key_of es) (IsBefore key) → IsCanonicalWithin n d → AreCanonicalWithin n es → AreCanonicalWithin n (entry key d es)
+pub first_canonical : {n : ℕ} {key : List ℕ} {d : Data} {es : Entries} → IfSome (first_key_of es) (IsBefore key) → IsCanonicalWithin n d
+    → AreCanonicalWithin n es → AreCanonicalWithin n (entry key d es)
 unfolding entries_nesting EntriesAscend EntriesHaveSmallIntegers
 first_canonical before here rest =
     let a = here.nesting in
@@ -121,7 +122,8 @@ module _ (name : List ℕ) (d : Data) where
 
 -- ---- a file put into a tree
 
-canonical_put : (path : List (List ℕ)) (m n : ℕ) (d : Data) (old new : Entries) → IsPut d path old new → AreCanonicalWithin n old → IsCanonicalWithin m d → length path + m ≤ n → AreCanonicalWithin n new
+canonical_put : (path : List (List ℕ)) (m n : ℕ) (d : Data) (old new : Entries) → IsPut d path old new → AreCanonicalWithin n old
+    → IsCanonicalWithin m d → length path + m ≤ n → AreCanonicalWithin n new
 canonical_put [] m n d old new put some here le = rw put.1 (last_canonical [] d no_entries tt none_canonical (canonical_up (omega arith) here))
 canonical_put (name ∷ path) m zero d old new put some here le = absurd (omega arith)
 canonical_put (name ∷ path) m (suc n) d old new put some here le =
@@ -130,7 +132,8 @@ canonical_put (name ∷ path) m (suc n) d old new put some here le =
       | inl s ↦ (rw (← s.0) all, rw s.1 none_canonical)
       | inr e ↦ let p = parts_canonical name (dictionary put.inner) put.earlier (rw e at all) in (p.0, within_dictionary n put.inner p.1)
     ] in
-    rw (← add-one, put.new_is) (last_canonical name (dictionary put.more) put.earlier put.before parts.0 (dictionary_canonical n (canonical_put path m n d put.inner put.more put.below parts.1 here (omega arith))))
+    rw (← add-one, put.new_is) (last_canonical name (dictionary put.more) put.earlier put.before parts.0
+    (dictionary_canonical n (canonical_put path m n d put.inner put.more put.below parts.1 here (omega arith))))
 
 -- ---- the tree of files
 
@@ -140,13 +143,15 @@ properties_canonical f short = elim (cases_Bool (f.length == 0)) [
   | inr some ↦ rw some (dictionary_canonical 0 (first_canonical refl (integer_canonical (omega arith)) (first_canonical tt string_canonical none_canonical)))
 ]
 
-pub tree_canonical : (files : List Given) → HaveTreePaths files → All (λ f. AreNonEmpty f.path) files → All (λ f. length f.path ≤ max_path_length) files → All (λ f. f.length ≤ max_file_length) files
+pub tree_canonical : (files : List Given) → HaveTreePaths files → All (λ f. AreNonEmpty f.path) files
+    → All (λ f. length f.path ≤ max_path_length) files → All (λ f. f.length ≤ max_file_length) files
     → AreCanonicalWithin 65 (tree_made files)
 tree_canonical files tree_paths named low short =
     grows files tree_paths named (λ fs tree. AreCanonicalWithin 65 tree) none_canonical (λ i tree lt behind some.
     let f = get_or files i nothing in
     let depth = low i nothing lt in
-    canonical_put f.path 1 65 (properties_made f) tree _ (put_there f.path (properties_made f) tree behind) some (properties_canonical f (short i nothing lt)) (omega arith))
+    canonical_put f.path 1 65 (properties_made f) tree _ (put_there f.path (properties_made f) tree behind) some
+    (properties_canonical f (short i nothing lt)) (omega arith))
 
 -- ---- ascending entries, by the first value of each key
 
@@ -173,7 +178,8 @@ absent_before key (entry k d es) keys before =
 first_here : (key : List ℕ) (d : Data) (es : Entries) → first_value_of (entry key d es) key ≡ Some d
 first_here key d es = ap (λ b. if b then Some d else first_value_of es key) ((bytes_eq-Decides key key).1 refl)
 
-first_later : (k key : List ℕ) (e d : Data) (es : Entries) → EntriesAscend es → IfSome (first_key_of es) (IsBefore k) → first_value_of es key ≡ Some d → first_value_of (entry k e es) key ≡ Some d
+first_later : (k key : List ℕ) (e d : Data) (es : Entries) → EntriesAscend es → IfSome (first_key_of es) (IsBefore k) → first_value_of es key ≡ Some d
+    → first_value_of (entry k e es) key ≡ Some d
 first_later k key e d es keys before is = elim (cases_Bool (pointwise nat_eq k key)) [
   | inl same ↦
       let one : k ≡ key = (bytes_eq-Decides k key).0 same in
@@ -184,7 +190,8 @@ first_later k key e d es keys before is = elim (cases_Bool (pointwise nat_eq k k
 ]
 
 -- ascending entries are canonical where the first value of each key is
-pub values_canonical : (n : ℕ) (es : Entries) → EntriesAscend es → ((key : List ℕ) (d : Data) → first_value_of es key ≡ Some d → IsCanonicalWithin n d) → AreCanonicalWithin n es
+pub values_canonical : (n : ℕ) (es : Entries) → EntriesAscend es
+    → ((key : List ℕ) (d : Data) → first_value_of es key ≡ Some d → IsCanonicalWithin n d) → AreCanonicalWithin n es
 unfolding EntriesAscend
 values_canonical n no_entries keys all = none_canonical
 values_canonical n (entry key d es) keys all =
@@ -196,7 +203,8 @@ layer_canonical None d e = cc
 layer_canonical (Some s) d e = let is : string s ≡ d = cc in rw (← is) string_canonical
 
 pub layers_canonical : (piece_length : ℕ) (files : List Given) (layers : Entries) → AreLayersOf piece_length files layers → AreCanonicalWithin 0 layers
-layers_canonical piece_length files layers h = values_canonical 0 layers h.ascending (λ key d is. layer_canonical (first_layer piece_length files key) d (sym (h.first key) ∙ is))
+layers_canonical piece_length files layers h =
+    values_canonical 0 layers h.ascending (λ key d is. layer_canonical (first_layer piece_length files key) d (sym (h.first key) ∙ is))
 
 -- ---- the whole
 
@@ -213,8 +221,10 @@ module _ (name : List ℕ) (piece_length : ℕ) (files : List Given) where
       (first_canonical refl string_canonical
       (first_canonical tt (integer_canonical (omega arith)) none_canonical))))
 
-  pub canonical_made : (layers : Entries) → is_piece_length piece_length ≡ true → HaveTreePaths files → All (λ f. AreNonEmpty f.path) files → All (λ f. length f.path ≤ max_path_length) files
+  pub canonical_made : (layers : Entries) → is_piece_length piece_length ≡ true → HaveTreePaths files → All (λ f. AreNonEmpty f.path) files
+      → All (λ f. length f.path ≤ max_path_length) files
       → All (λ f. f.length ≤ max_file_length) files → AreLayersOf piece_length files layers → IsCanonical (value_made name piece_length files layers)
   canonical_made layers lawful tree_paths named low short layered =
-      canonical_up (omega arith) (dictionary_canonical 67 (first_canonical refl (info_canonical (small_piece piece_length lawful) (tree_canonical files tree_paths named low short))
+      canonical_up (omega arith) (dictionary_canonical 67
+      (first_canonical refl (info_canonical (small_piece piece_length lawful) (tree_canonical files tree_paths named low short))
       (first_canonical tt (canonical_up (omega arith) (dictionary_canonical 0 (layers_canonical piece_length files layers layered))) none_canonical)))

@@ -61,24 +61,30 @@ module _ (n : ℕ) (all : List TreeEntry) (good : All IsGood all) (alike : All (
   one_passes before p rest e =
       let count = λ (q : TreeEntry). piece_count n (length_of q) in
       let here = All-head IsGood p rest (All-back IsGood before (p ∷ rest) (rw e good)) in
-      let whole : filter is_file all ≡ filter is_file (before ++ p ∷ []) ++ filter is_file rest = rw (← e, ← append_assoc before (p ∷ []) rest) (filter-append is_file (before ++ p ∷ []) rest) in
+      let whole : filter is_file all ≡ filter is_file (before ++ p ∷ []) ++ filter is_file rest =
+      rw (← e, ← append_assoc before (p ∷ []) rest) (filter-append is_file (before ++ p ∷ []) rest) in
       let files = ap length whole ∙ length-append (filter is_file (before ++ p ∷ [])) (filter is_file rest) in
       let pieces = ap (sum_by count) whole ∙ sum_by-append count (filter is_file (before ++ p ∷ [])) (filter is_file rest) in
-      let many : is_too_many n before p ≡ false = not_too_many (is_file p) (length p.path) (length (filter is_file (before ++ p ∷ []))) (pieces_of n (before ++ p ∷ [])) here.shallow (omega arith) (omega arith) in
+      let many : is_too_many n before p ≡ false =
+      not_too_many (is_file p) (length p.path) (length (filter is_file (before ++ p ∷ []))) (pieces_of n (before ++ p ∷ [])) here.shallow
+      (omega arith) (omega arith) in
       elim (cases_Bool (is_file p)) [
         | inl file ↦
             let parts : filter is_file all ≡ filter is_file before ++ p ∷ filter is_file rest = rw (← e, filter-append is_file before (p ∷ rest), file) refl in
             let none = All-head (λ x. All (λ y. clashes x y ≡ false) (filter is_file all)) p (filter is_file rest)
-            (All-back (λ x. All (λ y. clashes x y ≡ false) (filter is_file all)) (filter is_file before) (p ∷ filter is_file rest) (subst (λ xs. All (λ x. All (λ y. clashes x y ≡ false) (filter is_file all)) xs) parts alike)) in
+            (All-back (λ x. All (λ y. clashes x y ≡ false) (filter is_file all)) (filter is_file before) (p ∷ filter is_file rest)
+            (subst (λ xs. All (λ x. All (λ y. clashes x y ≡ false) (filter is_file all)) xs) parts alike)) in
             file_counted n before p here.node here.named file (here.faultless file) {many = false}
-            (no_conflict p before (All-front (λ y. clashes p y ≡ false) (filter is_file before) (p ∷ filter is_file rest) (subst (λ xs. All (λ y. clashes p y ≡ false) xs) parts none))) many
+            (no_conflict p before (All-front (λ y. clashes p y ≡ false) (filter is_file before) (p ∷ filter is_file rest)
+            (subst (λ xs. All (λ y. clashes p y ≡ false) xs) parts none))) many
         | inr folder ↦ folder_counted n before p here.node here.named {many = false} folder many
       ]
 
   entries_pass : (before es : List TreeEntry) → before ++ es ≡ all → first_of (with_earlier (entry_check n) before es) ≡ None
   entries_pass before [] e = refl
   entries_pass before (p ∷ es) e =
-      skips (entry_check n before p) (with_earlier (entry_check n) (before ++ p ∷ []) es) (one_passes before p es e) ∙ entries_pass (before ++ p ∷ []) es (append_assoc before (p ∷ []) es ∙ e)
+      skips (entry_check n before p) (with_earlier (entry_check n) (before ++ p ∷ []) es) (one_passes before p es e)
+      ∙ entries_pass (before ++ p ∷ []) es (append_assoc before (p ∷ []) es ∙ e)
 
 -- ---- the files as entries
 
@@ -86,7 +92,8 @@ clash_made : (f g : Given) → clash f g ≡ false → clashes (entry_made f) (e
 clash_made f g none = rw (length_of_made f, length_of_made g, root_of_made f, root_of_made g) (by_tests (f.length == 0) (g.length == 0) none)
   where
     by_tests : (a b : Bool) → (not a && (not b && pointwise nat_eq g.root f.root && not (g.length == f.length))) ≡ false
-        → (not a && (not b && pointwise nat_eq (if b then replicate 32 0 else g.root) (if a then replicate 32 0 else f.root) && not (g.length == f.length))) ≡ false
+        → (not a && (not b && pointwise nat_eq (if b then replicate 32 0 else g.root) (if a then replicate 32 0 else f.root) && not
+        (g.length == f.length))) ≡ false
     by_tests true b h = refl
     by_tests false true h = refl
     by_tests false false h = h
@@ -94,7 +101,8 @@ clash_made f g none = rw (length_of_made f, length_of_made g, root_of_made f, ro
 alike_entries : (files : List Given) → AreAlike files → All (λ x. All (λ y. clashes x y ≡ false) (map entry_made files)) (map entry_made files)
 alike_entries files h =
     All-map (λ x. All (λ y. clashes x y ≡ false) (map entry_made files)) entry_made files
-    (λ i f lt. All-map (λ y. clashes (entry_made (get_or files i f)) y ≡ false) entry_made files (λ j g lt'. clash_made (get_or files i f) (get_or files j g) (h i f lt j g lt')))
+    (λ i f lt. All-map (λ y. clashes (entry_made (get_or files i f)) y ≡ false) entry_made files
+    (λ j g lt'. clash_made (get_or files i f) (get_or files j g) (h i f lt j g lt')))
 
 pub count_made : (n : ℕ) (files : List Given) → sum_by (λ p. piece_count n (length_of p)) (map entry_made files) ≡ sum_by (λ g. piece_count n g.length) files
 count_made n [] = refl
@@ -111,11 +119,13 @@ some_file (p ∷ es) files e some = elim (cases_Bool (is_file p)) [
   | inr folder ↦ rw (folder, some_file es files (rw folder at e) some) refl
 ]
 
-pub tree_passes : (n : ℕ) (files : List Given) (tree : Entries) → IsTreeOf files tree → AreAlike files → length files ≤ max_file_count → sum_by (λ g. piece_count n g.length) files ≤ max_piece_count → length files ≢ 0
+pub tree_passes : (n : ℕ) (files : List Given) (tree : Entries) → IsTreeOf files tree → AreAlike files → length files ≤ max_file_count
+    → sum_by (λ g. piece_count n g.length) files ≤ max_piece_count → length files ≢ 0
     → first_of (tree_checks n (dictionary tree)) ≡ None
 unfolding tree_checks tree_entries_below has_key
 tree_passes n files tree h alike few pieces some =
     let es = tree_entries_among [] tree in
-    let pass = entries_pass n es h.good (rw h.tree_entries (alike_entries files alike)) (rw (h.tree_entries, length-map files entry_made) few) (rw h.tree_entries (rw (count_made n files) pieces)) [] es refl in
+    let pass = entries_pass n es h.good (rw h.tree_entries (alike_entries files alike)) (rw (h.tree_entries, length-map files entry_made) few)
+    (rw h.tree_entries (rw (count_made n files) pieces)) [] es refl in
     let there : list_any is_file es ≡ true = some_file es (map entry_made files) h.tree_entries (rw (length-map files entry_made) some) in
     rw (h.nameless) (first_of-append (with_earlier (entry_check n) [] es) (fault_if (not (list_any is_file es)) Tree ∷ []) pass ∙ rw there refl)

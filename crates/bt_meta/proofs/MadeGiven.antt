@@ -74,7 +74,8 @@ taken piece_length before f h =
     ∷ [] in
     let p = passed all h in
     let q = passed own p.0 in
-    let limits = within_limits (length f.path) (length (before ++ f ∷ [])) (count_in piece_length (before ++ f ∷ [])) (not_faulty (is_beyond piece_length before f) Count p.1.1.0) in
+    let limits = within_limits (length f.path) (length (before ++ f ∷ [])) (count_in piece_length (before ++ f ∷ []))
+    (not_faulty (is_beyond piece_length before f) Count p.1.1.0) in
     record {
       lawful = record {
         path = holds_unless (is_path f.path) BadPath q.0;
@@ -132,7 +133,8 @@ none_clash before f e = none_of (not (f.length == 0)) (λ g. is_conflict f.root 
 
 alike_more : (before : List Given) (f : Given) → AreAlike before → All (λ g. clash f g ≡ false) before → AreAlike (before ++ f ∷ [])
 alike_more before f h apart =
-    let back : All (λ g. clash g f ≡ false) before = All-weaker (λ g. clash f g ≡ false) (λ g. clash g f ≡ false) (λ g e. clash_either_way g f ∙ e) before apart in
+    let back : All (λ g. clash g f ≡ false) before =
+    All-weaker (λ g. clash f g ≡ false) (λ g. clash g f ≡ false) (λ g e. clash_either_way g f ∙ e) before apart in
     All-push (λ g. All (λ x. clash g x ≡ false) (before ++ f ∷ [])) before f
     (λ k d lt. All-push (λ x. clash (slice_index_or before k d) x ≡ false) before f (h k d lt) (back k d lt))
     (All-push (λ x. clash f x ≡ false) before f apart (no_clash_itself f))
@@ -140,7 +142,8 @@ alike_more before f h apart =
 -- ---- all files
 
 module _ (piece_length : ℕ) where
-  lawful_behind : (before files : List Given) → AreLawful piece_length before → first_of (with_earlier (file_refusal piece_length) before files) ≡ None → AreLawful piece_length (before ++ files)
+  lawful_behind : (before files : List Given) → AreLawful piece_length before
+      → first_of (with_earlier (file_refusal piece_length) before files) ≡ None → AreLawful piece_length (before ++ files)
   lawful_behind before [] h none = rw (append-nil before) h
   lawful_behind before (f ∷ files) h none =
       let p = passed_first (file_refusal piece_length before f) (with_earlier (file_refusal piece_length) (before ++ f ∷ []) files) none in
@@ -157,18 +160,28 @@ module _ (piece_length : ℕ) where
     -- in another order too
     pub lawful_ordered : AreLawful piece_length ordered
     lawful_ordered =
-        let h = lawful_behind [] files (record { each = All-nil (IsLawful piece_length); alike = All-nil (λ f. All (λ g. clash f g ≡ false) []); few = omega arith; pieces = omega arith }) none in
+        let h = lawful_behind [] files (record {
+          each = All-nil (IsLawful piece_length);
+          alike = All-nil (λ f. All (λ g. clash f g ≡ false) []);
+          few =
+              omega arith;
+          pieces = omega arith;
+        }) none in
         record {
           each = All-permutation (IsLawful piece_length) files ordered order.same h.each;
-          alike = All-permutation (λ f. All (λ g. clash f g ≡ false) ordered) files ordered order.same (λ i d lt. All-permutation (λ g. clash (get_or files i d) g ≡ false) files ordered order.same (h.alike i d lt));
+          alike = All-permutation (λ f. All (λ g. clash f g ≡ false) ordered) files ordered order.same
+              (λ i d lt. All-permutation (λ g. clash (get_or files i d) g ≡ false) files ordered order.same (h.alike i d lt));
           few = rw (length_permutation files ordered order.same) h.few;
           pieces = rw (sum_by-IsPermutation (λ (g : Given). piece_count piece_length g.length) files ordered order.same) h.pieces;
         }
 
     pub ordered_named : All (λ g. AreNonEmpty g.path) ordered
-    ordered_named = λ i d lt. named_from (get_or ordered i d).path (and_parts (not (length (get_or ordered i d).path == 0)) (list_all is_element (get_or ordered i d).path) (lawful_ordered.each i d lt).path).1
+    ordered_named = λ i d lt. named_from (get_or ordered i d).path
+        (and_parts (not (length (get_or ordered i d).path == 0)) (list_all is_element (get_or ordered i d).path) (lawful_ordered.each i d lt).path).1
 
-pub lent_short : (piece_length : ℕ) (files : List Given) (ordered : List (Bor Made)) → first_of (with_earlier (file_refusal piece_length) [] files) ≡ None → IsInTreeOrder files (map given_at ordered)
+pub lent_short : (piece_length : ℕ) (files : List Given) (ordered : List (Bor Made))
+    → first_of (with_earlier (file_refusal piece_length) [] files) ≡ None → IsInTreeOrder files (map given_at ordered)
     → All (λ (m : Bor Made). m.now.length ≤ max_file_length) ordered
 lent_short piece_length files ordered none order k d lt =
-    rw (get_or-map given_at ordered k d (given_at d) lt) at ((lawful_ordered piece_length files (map given_at ordered) none order).each k (given_at d) (rw (length-map ordered given_at) lt)).short
+    rw (get_or-map given_at ordered k d (given_at d) lt) at
+    ((lawful_ordered piece_length files (map given_at ordered) none order).each k (given_at d) (rw (length-map ordered given_at) lt)).short

@@ -62,7 +62,8 @@ module _ (n : ℕ) (f : Given) (long : nat_lt n f.length ≡ true) where
       let parts = and_parts (nat_lt n g.length) (pointwise nat_eq g.root f.root) h in
       let rooted = (bytes_eq-Decides g.root f.root).0 parts.1 in
       let sized = same_length f g (some_bytes n f.length long) (some_bytes n g.length parts.0) rooted both.1 in
-      let checks : List Check = fault_if (not (has_layer_size n g.length g.layer)) layer_size ∷ fault_if (not (has_root n g.length g.root g.layer)) layer_differs ∷ [] in
+      let checks : List Check = fault_if (not (has_layer_size n g.length g.layer)) layer_size ∷ fault_if
+      (not (has_root n g.length g.root g.layer)) layer_differs ∷ [] in
       let own = passed checks (rw parts.0 at both.0.layer) in
       record {
         size = rw (← sized) (holds_unless (has_layer_size n g.length g.layer) layer_size own.0);
@@ -70,7 +71,8 @@ module _ (n : ℕ) (f : Given) (long : nat_lt n f.length ≡ true) where
       }
 
   -- the look-up finds such a layer
-  layer_there : (before rest : List Given) → All (λ g. IsLawful n g × (clash f g ≡ false)) (before ++ f ∷ rest) → (layer : List ℕ) × (first_layer n (before ++ f ∷ rest) f.root ≡ Some layer) × IsLayer layer
+  layer_there : (before rest : List Given) → All (λ g. IsLawful n g × (clash f g ≡ false)) (before ++ f ∷ rest)
+      → (layer : List ℕ) × (first_layer n (before ++ f ∷ rest) f.root ≡ Some layer) × IsLayer layer
   layer_there [] rest h =
       let here : has f ≡ true = rw (long, (bytes_eq-Decides f.root f.root).1 refl) refl in
       (f.layer, rw here refl, layer_of f here (All-head (λ g. IsLawful n g × (clash f g ≡ false)) f rest h))
@@ -84,10 +86,12 @@ module _ (n : ℕ) (all : List Given) (layers : Entries) (layered : AreLayersOf 
   unfolding string_at
   strings_are root = ap (option_and_then as_string) (layered.first root) ∙ back (first_layer n all root)
 
-  layer_passes : AreLawful n all → (before : List Given) (f : Given) (rest : List Given) → before ++ f ∷ rest ≡ all → layer_check n (dictionary layers) (entry_made f) ≡ None
+  layer_passes : AreLawful n all → (before : List Given) (f : Given) (rest : List Given) → before ++ f ∷ rest ≡ all
+      → layer_check n (dictionary layers) (entry_made f) ≡ None
   layer_passes h before f rest e = elim (cases_Bool (nat_lt n f.length)) [
     | inl long ↦
-        let apart = All-head (λ x. All (λ g. clash x g ≡ false) all) f rest (All-back (λ x. All (λ g. clash x g ≡ false) all) before (f ∷ rest) (rw e h.alike)) in
+        let apart = All-head (λ x. All (λ g. clash x g ≡ false) all) f rest
+        (All-back (λ x. All (λ g. clash x g ≡ false) all) before (f ∷ rest) (rw e h.alike)) in
         let both : All (λ g. IsLawful n g × (clash f g ≡ false)) all = λ k d lt. (h.each k d lt, apart k d lt) in
         let one = layer_there n f long before rest (subst (λ xs. All (λ g. IsLawful n g × (clash f g ≡ false)) xs) (sym e) both) in
         let there : string_at (dictionary layers) f.root ≡ Some one.0 = strings_are f.root ∙ ap (λ xs. first_layer n xs f.root) (sym e) ∙ one.1 in
@@ -95,10 +99,12 @@ module _ (n : ℕ) (all : List Given) (layers : Entries) (layered : AreLayersOf 
     | inr short ↦ rw (length_of_made f, short) refl
   ]
 
-  layers_pass : AreLawful n all → (before files : List Given) → before ++ files ≡ all → first_of (map (layer_check n (dictionary layers)) (map entry_made files)) ≡ None
+  layers_pass : AreLawful n all → (before files : List Given) → before ++ files ≡ all
+      → first_of (map (layer_check n (dictionary layers)) (map entry_made files)) ≡ None
   layers_pass h before [] e = refl
   layers_pass h before (f ∷ files) e =
-      skips (layer_check n (dictionary layers) (entry_made f)) (map (layer_check n (dictionary layers)) (map entry_made files)) (layer_passes h before f files e)
+      skips (layer_check n (dictionary layers) (entry_made f)) (map (layer_check n (dictionary layers)) (map entry_made files))
+      (layer_passes h before f files e)
       ∙ layers_pass h (before ++ f ∷ []) files (append_assoc before (f ∷ []) files ∙ e)
 
   -- ---- what is said of the files
@@ -117,11 +123,13 @@ module _ (n : ℕ) (all : List Given) (layers : Entries) (layered : AreLayersOf 
   file_said before f =
       let long = length_of_made f in
       let root = root_of_made f in
-      let pieces : pieces_of n (map entry_made before) ≡ sum_by (λ g. piece_count n g.length) before = ap (sum_by (λ p. piece_count n (length_of p))) (all_files before) ∙ count_made n before in
+      let pieces : pieces_of n (map entry_made before) ≡ sum_by (λ g. piece_count n g.length) before =
+      ap (sum_by (λ p. piece_count n (length_of p))) (all_files before) ∙ count_made n before in
       let layer = layer_said f in
       cc
 
-  files_said : (before files : List Given) → with_earlier (file_at n (dictionary layers)) (map entry_made before) (map entry_made files) ≡ with_earlier (file_made n all) before files
+  files_said : (before files : List Given)
+      → with_earlier (file_at n (dictionary layers)) (map entry_made before) (map entry_made files) ≡ with_earlier (file_made n all) before files
   files_said before [] = refl
   files_said before (f ∷ files) = rw (file_said before f, ← map_push entry_made before f, files_said (before ++ f ∷ []) files) refl
 
@@ -183,9 +191,12 @@ module _ (name : List ℕ) (n : ℕ) (files : List Given) (layers : Entries) whe
 
 -- ---- the torrent
 
-pub torrent_of_given : (name : List ℕ) (n : ℕ) (files : List Made) (ordered : List Given) (layers : Entries) (bytes : List ℕ) → is_piece_length n ≡ true → false ≡ (length files == 0)
-    → first_of (with_earlier (file_refusal n) [] (map given_of files)) ≡ None → All HasRoot (map given_of files) → IsInTreeOrder (map given_of files) ordered → HaveTreePaths ordered
-    → AreLayersOf n ordered layers → length bytes ≤ max_text_length → bytes ≡ spelling_of (value_made name n ordered layers) → IsTorrent bytes (torrent_made name n ordered)
+pub torrent_of_given : (name : List ℕ) (n : ℕ) (files : List Made) (ordered : List Given) (layers : Entries) (bytes : List ℕ)
+    → is_piece_length n ≡ true → false ≡ (length files == 0)
+    → first_of (with_earlier (file_refusal n) [] (map given_of files)) ≡ None → All HasRoot (map given_of files)
+    → IsInTreeOrder (map given_of files) ordered → HaveTreePaths ordered
+    → AreLayersOf n ordered layers → length bytes ≤ max_text_length → bytes ≡ spelling_of (value_made name n ordered layers)
+    → IsTorrent bytes (torrent_made name n ordered)
 torrent_of_given name n files ordered layers bytes lawful some none rooted order tree_paths layered small spelled =
     let given = map given_of files in
     let h = lawful_ordered n given ordered none order in

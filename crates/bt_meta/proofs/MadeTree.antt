@@ -82,24 +82,31 @@ unfolding tree_entries_among
 tree_begun = record { good = All-nil IsGood; tree_entries = refl; nameless = refl }
 
 module _ (piece_length : ℕ) where
-  file_more : (before : List Given) (f : Given) (tree : Entries) → IsLawful piece_length f → HasRoot f → ComesAfter f.path tree → IsTreeOf before tree → IsTreeOf (before ++ f ∷ []) (with_file f.path (properties_made f) tree)
+  file_more : (before : List Given) (f : Given) (tree : Entries) → IsLawful piece_length f → HasRoot f → ComesAfter f.path tree → IsTreeOf before tree
+      → IsTreeOf (before ++ f ∷ []) (with_file f.path (properties_made f) tree)
   unfolding is_path_element
-  file_more before f tree lawful rooted behind h = by_path f.path refl (and_parts (not (length f.path == 0)) (has_names f.path) lawful.path) (put_there f.path (properties_made f) tree behind)
+  file_more before f tree lawful rooted behind h =
+      by_path f.path refl (and_parts (not (length f.path == 0)) (has_names f.path) lawful.path) (put_there f.path (properties_made f) tree behind)
     where
-      by_path : (path : List (List ℕ)) → path ≡ f.path → (not (length path == 0) ≡ true) × (has_names path ≡ true) → IsPut (properties_made f) path tree (with_file f.path (properties_made f) tree)
+      by_path : (path : List (List ℕ)) → path ≡ f.path → (not (length path == 0) ≡ true) × (has_names path ≡ true)
+          → IsPut (properties_made f) path tree (with_file f.path (properties_made f) tree)
           → IsTreeOf (before ++ f ∷ []) (with_file f.path (properties_made f) tree)
       by_path [] is names put = let never : false ≡ true = names.0 in cc
       by_path (name ∷ path) is names put =
           let new = with_file f.path (properties_made f) tree in
-          let more = put_in _ (properties_pass f lawful.short rooted) [] (name ∷ path) tree new (is_utf8-from_IsUtf8 [] IsUtf8-nil) names.1 (rw (← is) at lawful.shallow) put in
+          let more = put_in _ (properties_pass f lawful.short rooted) [] (name ∷ path) tree new (is_utf8-from_IsUtf8 [] IsUtf8-nil) names.1
+          (rw (← is) at lawful.shallow) put in
           let none = new_nameless name path (properties_made f) tree new names.1 put in
           record {
             good = All-tail IsGood (record { path = []; value = dictionary new }) (tree_entries_among [] new) (more.good h.good);
-            tree_entries = ap (λ b. cond b (record { path = []; value = dictionary new } ∷ filter is_file (tree_entries_among [] new)) (filter is_file (tree_entries_among [] new))) (sym (folder_is_none [] new none))
+            tree_entries = ap (λ b. cond b (record { path = []; value = dictionary new } ∷ filter is_file (tree_entries_among [] new))
+                (filter is_file (tree_entries_among [] new))) (sym (folder_is_none [] new none))
                 ∙ more.files ∙ rw (h.tree_entries, is, map_push entry_made before f) refl;
             nameless = none;
           }
 
-  pub tree_is : (files : List Given) → HaveTreePaths files → All (λ f. AreNonEmpty f.path) files → All (IsLawful piece_length) files → All HasRoot files → IsTreeOf files (tree_made files)
+  pub tree_is : (files : List Given) → HaveTreePaths files → All (λ f. AreNonEmpty f.path) files → All (IsLawful piece_length) files
+      → All HasRoot files → IsTreeOf files (tree_made files)
   tree_is files tree_paths named lawful rooted =
-      grows files tree_paths named IsTreeOf tree_begun (λ i tree lt behind h. file_more (take i files) (get_or files i nothing) tree (lawful i nothing lt) (rooted i nothing lt) behind h)
+      grows files tree_paths named IsTreeOf tree_begun
+      (λ i tree lt behind h. file_more (take i files) (get_or files i nothing) tree (lawful i nothing lt) (rooted i nothing lt) behind h)

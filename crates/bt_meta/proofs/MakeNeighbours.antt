@@ -86,7 +86,8 @@ pub length_refused : (piece_length : ℕ) (files : List Given) → false ≡ is_
 unfolding refusal_of_files
 length_refused piece_length files is = rw (← is) refl
 
-pub none_refused : (piece_length : ℕ) (files : List Made) → true ≡ is_piece_length piece_length → true ≡ (length files == 0) → refusal_of_files piece_length (map given_of files) ≡ Some Count
+pub none_refused : (piece_length : ℕ) (files : List Made) → true ≡ is_piece_length piece_length → true ≡ (length files == 0)
+    → refusal_of_files piece_length (map given_of files) ≡ Some Count
 unfolding refusal_of_files
 none_refused piece_length files is none = rw (← is, count_of files true none) refl
 

@@ -34,9 +34,11 @@ begins_between (n ∷ p) (k ∷ q) (m ∷ r) first second h =
     let parts = and_parts (pointwise nat_eq n m) (begins p r) h in
     by_names (slice_cmp nat_cmp n k) refl ((bytes_eq-Decides n m).0 parts.0) (λ s t. begins_between p q r s t parts.1)
   where
-    by_names : (o : Ordering) → o ≡ slice_cmp nat_cmp n k → n ≡ m → (is_lt (path_order q p) ≡ false → is_lt (path_order r q) ≡ false → begins p q ≡ true) → begins (n ∷ p) (k ∷ q) ≡ true
+    by_names : (o : Ordering) → o ≡ slice_cmp nat_cmp n k → n ≡ m
+        → (is_lt (path_order q p) ≡ false → is_lt (path_order r q) ≡ false → begins p q ≡ true) → begins (n ∷ p) (k ∷ q) ≡ true
     by_names Less is same later = let less : slice_cmp nat_cmp m k ≡ Less = rw (← same) (sym is) in absurd (true≢false (rw less at second))
-    by_names Greater is same later = let less : slice_cmp nat_cmp k n ≡ Less = nat_list_cmp_total.antisymm k n ∙ ap ordering_reverse (sym is) in absurd (true≢false (rw less at first))
+    by_names Greater is same later = let less : slice_cmp nat_cmp k n ≡ Less = nat_list_cmp_total.antisymm k n ∙ ap ordering_reverse (sym is) in
+        absurd (true≢false (rw less at first))
     by_names Equal is same later =
         let back : slice_cmp nat_cmp k n ≡ Equal = nat_list_cmp_total.antisymm k n ∙ ap ordering_reverse (sym is) in
         let on : slice_cmp nat_cmp m k ≡ Equal = rw (← same) (sym is) in
@@ -64,16 +66,22 @@ flipped_or false false = refl
 any_none : (f : Given) (files : List Given) → (list_any (is_overlap f) files ≡ false) ↔ AllByRecursion (λ g. is_overlap f g ≡ false) files
 any_none f [] = ((λ h. tt), λ h. refl)
 any_none f (g ∷ files) =
-    let rest = any_none f files in
-    ((λ h. let p = or_parts (is_overlap f g) (list_any (is_overlap f) files) h in (p.0, rest.0 p.1)), λ h. or_from (is_overlap f g) (list_any (is_overlap f) files) h.0 (rest.1 h.1))
+    let rest = any_none f files in (
+      (λ h. let p = or_parts (is_overlap f g) (list_any (is_overlap f) files) h in (p.0, rest.0 p.1)),
+      λ h. or_from (is_overlap f g)
+          (list_any (is_overlap f) files) h.0 (rest.1 h.1),
+    )
 
 none_distinct : (files : List Given) → (have_overlap files ≡ false) ↔ IsDistinct is_overlap files
 unfolding IsDistinct
 none_distinct [] = ((λ h. tt), λ h. refl)
 none_distinct (f ∷ files) =
     let first = any_none f files in
-    let rest = none_distinct files in
-    ((λ h. let p = or_parts (list_any (is_overlap f) files) (have_overlap files) h in (first.0 p.0, rest.0 p.1)), λ h. or_from (list_any (is_overlap f) files) (have_overlap files) (first.1 h.0) (rest.1 h.1))
+    let rest = none_distinct files in (
+      (λ h. let p = or_parts (list_any (is_overlap f) files) (have_overlap files) h in (first.0 p.0, rest.0 p.1)),
+      λ h. or_from
+          (list_any (is_overlap f) files) (have_overlap files) (first.1 h.0) (rest.1 h.1),
+    )
 
 abbrev AreAllApart : List Given → Type 0
 AreAllApart = AllPairs (λ f g. is_overlap f g ≡ false)
@@ -84,12 +92,17 @@ distinct_pairs [] = ((λ h i j d lt within. absurd (omega arith)), λ h. tt)
 distinct_pairs (f ∷ files) =
     let rest = distinct_pairs files in (
       (λ h. AllPairs-cons (λ f g. is_overlap f g ≡ false) f files (All-from_recursion (λ g. is_overlap f g ≡ false) files h.0) (rest.0 h.1)),
-      λ h. (recursion_from_All (λ g. is_overlap f g ≡ false) files (λ k d within. h 0 (suc k) d (omega arith) (omega arith)), rest.1 (λ i j d lt within. h (suc i) (suc j) d (omega arith) (omega arith))),
+      λ h. (
+        recursion_from_All (λ g. is_overlap f g ≡ false) files (λ k d within. h 0 (suc k) d (omega arith) (omega arith)),
+        rest.1
+            (λ i j d lt within. h (suc i) (suc j) d (omega arith) (omega arith)),
+      ),
     )
 
 -- in another order no other files overlap
 none_in : (files ordered : List Given) → IsPermutation files ordered → have_overlap files ≡ false → have_overlap ordered ≡ false
-none_in files ordered same h = (none_distinct ordered).1 (IsDistinct-IsPermutation is_overlap (λ f g. flipped_or (begins f.path g.path) (begins g.path f.path)) files ordered same ((none_distinct files).0 h))
+none_in files ordered same h = (none_distinct ordered).1
+    (IsDistinct-IsPermutation is_overlap (λ f g. flipped_or (begins f.path g.path) (begins g.path f.path)) files ordered same ((none_distinct files).0 h))
 
 pub same_overlap : (files ordered : List Given) (b : Bool) → IsPermutation files ordered → b ≡ have_overlap ordered → have_overlap files ≡ b
 same_overlap files ordered true same is = true_from_ne_false (have_overlap files) (λ none. true≢false (is ∙ none_in files ordered same none))
@@ -116,10 +129,13 @@ module _ (files : List Given) (up : IsSortedBy is_before files) where
       let p = (get_or files i d).path in
       let r = (get_or files j d).path in
       let forth : begins p r ≡ true → ⊥ =
-      λ h. true≢false (sym (begins_between p (get_or files (i + 1) d).path r (far i (i + 1) d (omega arith) (omega arith)) (far (i + 1) j d (omega arith) within) h) ∙ apart i d (omega arith)) in
-      or_from (begins p r) (begins r p) (false_from_ne_true (begins p r) forth) (false_from_ne_true (begins r p) (λ h. forth (begins_back r p h (far i j d (omega arith) within)))))))
+      λ h. true≢false (sym (begins_between p (get_or files (i + 1) d).path r (far i (i + 1) d (omega arith) (omega arith))
+      (far (i + 1) j d (omega arith) within) h) ∙ apart i d (omega arith)) in
+      or_from (begins p r) (begins r p) (false_from_ne_true (begins p r) forth)
+      (false_from_ne_true (begins r p) (λ h. forth (begins_back r p h (far i j d (omega arith) within)))))))
 
-pub lent_is : (files : List (Bor Made)) (i : ℕ) (m : Bor Made) (d : Given) → i < length files → m ≡ get_or files i m → get_or (map given_at files) i d ≡ given_at m
+pub lent_is : (files : List (Bor Made)) (i : ℕ) (m : Bor Made) (d : Given) → i < length files → m ≡ get_or files i m
+    → get_or (map given_at files) i d ≡ given_at m
 lent_is files i m d lt is = get_or-map given_at files i m d lt ∙ ap given_at (sym is)
 
 -- a path that begins the next one
@@ -129,4 +145,5 @@ overlap_found files i m n some lt first second h =
     let on : i - 1 + 1 ≡ i = omega arith in
     let long : length (map given_at files) ≡ length files = length-map files given_at in
     sym (true_from_ne_false (have_overlap (map given_at files)) (λ none.
-    true≢false (sym h ∙ (rw (on, lent_is files (i - 1) m (given_at m) (omega arith) first, lent_is files i n (given_at m) lt second) at (next_apart (map given_at files) none (i - 1) (given_at m) (omega arith))))))
+    true≢false (sym h ∙ (rw (on, lent_is files (i - 1) m (given_at m) (omega arith) first, lent_is files i n (given_at m) lt second) at
+    (next_apart (map given_at files) none (i - 1) (given_at m) (omega arith))))))

@@ -26,13 +26,15 @@ use Rattle.bt_meta.proofs.Checks.{first_of-append}
 use Rattle.bt_meta.proofs.WalkJoins.{with_earlier-append}
 use Rattle.bt_meta.proofs.RootLengths.{noted_more}
 
-pub path_test : (path : List (String Global)) (all : Bool) → false ≡ (length path == 0) → all ≡ list_all (λ e. is_element (string_bytes e)) path → all ≡ is_path (map string_bytes path)
+pub path_test : (path : List (String Global)) (all : Bool) → false ≡ (length path == 0) → all ≡ list_all (λ e. is_element (string_bytes e)) path
+    → all ≡ is_path (map string_bytes path)
 path_test path all some is =
     let more : false ≡ (length (map string_bytes path) == 0) = some ∙ ap (λ n. n == 0) (sym (length-map path string_bytes)) in
     is ∙ sym (list_all-map is_element string_bytes path) ∙ ap (λ b. not b && list_all is_element (map string_bytes path)) more
 
 pub lengths_noted : (files : List Given) (f : Given) (old new : Lengths) (other : List ℕ) (n : ℕ) → (f.length == 0) ≡ false
-    → is_other_length (length_at old other) n ≡ has_conflict files other n → NotesLength old new f.root f.length → is_other_length (length_at new other) n ≡ has_conflict (files ++ f ∷ []) other n
+    → is_other_length (length_at old other) n ≡ has_conflict files other n → NotesLength old new f.root f.length
+    → is_other_length (length_at new other) n ≡ has_conflict (files ++ f ∷ []) other n
 lengths_noted files f old new other n some h noted =
     let test = λ (g : Given). is_conflict other n g.root g.length in
     noted_more noted other n ∙ sym (list_any-append test files (f ∷ []) ∙ ap (λ b. has_conflict files other n || b) (or-false (test f)) ∙ rw (some, ← h) refl)
@@ -49,7 +51,8 @@ pub record Taking (piece_length : ℕ) (files : List Made) (i : ℕ) (tally : Ta
   pub faultless : first_of (checks_of piece_length (map given_of (take i files))) ≡ None
   pub rooted : All HasRoot (map given_of (take i files))
 
-pub taking_begun : (piece_length : ℕ) (files : List Made) (tally : Tally) → tally.files ≡ 0 → tally.pieces ≡ 0 → tally.lengths.entries ≡ [] → Taking piece_length files 0 tally
+pub taking_begun : (piece_length : ℕ) (files : List Made) (tally : Tally) → tally.files ≡ 0 → tally.pieces ≡ 0 → tally.lengths.entries ≡ []
+    → Taking piece_length files 0 tally
 taking_begun piece_length files tally none no_pieces no_lengths = record {
   within = record { files = omega arith; pieces = omega arith };
   taken = record { count = none; pieces = no_pieces; lengths = λ root n. rw no_lengths refl };
@@ -62,14 +65,16 @@ module _ {n : ℕ} (files : List Made) (i : ℕ) {old : Tally} (h : Taking n fil
       ≡ first_of (file_refusal n (map given_of (take i files)) f ∷ with_earlier (file_refusal n) (map given_of (take i files) ++ f ∷ []) rest)
   checks_behind f rest =
       let before = map given_of (take i files) in
-      ap first_of (with_earlier-append (file_refusal n) [] before (f ∷ rest)) ∙ first_of-append (checks_of n before) (with_earlier (file_refusal n) before (f ∷ rest)) h.faultless
+      ap first_of (with_earlier-append (file_refusal n) [] before (f ∷ rest))
+      ∙ first_of-append (checks_of n before) (with_earlier (file_refusal n) before (f ∷ rest)) h.faultless
 
   module _ (m : Made) (lt : i < length files) (is : m ≡ get_or files i m) where
     pub taking_more : {new : Tally} → IsWithinLimits new → ((fs : List Given) → IsTallyOf n fs old → IsTallyOf n (fs ++ given_of m ∷ []) new)
         → ((fs : List Given) → IsTallyOf n fs old → file_refusal n fs (given_of m) ≡ None) → HasRoot (given_of m) → Taking n files (i + 1) new
     taking_more within taken faultless rooted =
         let before = map given_of (take i files) in
-        let more : map given_of (take (i + 1) files) ≡ before ++ given_of m ∷ [] = map_more given_of files i m lt ∙ ap (λ x. before ++ given_of x ∷ []) (sym is) in
+        let more : map given_of (take (i + 1) files) ≡ before ++ given_of m ∷ [] = map_more given_of files i m lt
+        ∙ ap (λ x. before ++ given_of x ∷ []) (sym is) in
         record {
           within = within;
           taken = rw more (taken before h.taken);
@@ -77,13 +82,15 @@ module _ {n : ℕ} (files : List Made) (i : ℕ) {old : Tally} (h : Taking n fil
           rooted = rw more (All-push HasRoot before (given_of m) h.rooted rooted);
         }
 
-    pub taking_stops : {e : MakeError} → ((fs : List Given) → IsTallyOf n fs old → RefusesFile n fs (given_of m) e) → Refuses (first_of (checks_of n (map given_of files))) e
+    pub taking_stops : {e : MakeError} → ((fs : List Given) → IsTallyOf n fs old → RefusesFile n fs (given_of m) e)
+        → Refuses (first_of (checks_of n (map given_of files))) e
     taking_stops refused = elim (refused (map given_of (take i files)) h.taken) [
       | inl memory ↦ inl memory.0
       | inr found ↦
           let rest : drop i files ≡ m ∷ drop (i + 1) files = drop_more files i m lt ∙ ap (λ x. x ∷ drop (i + 1) files) (sym is) in
           let whole : files ≡ take i files ++ m ∷ drop (i + 1) files = sym (take-append-drop i files) ∙ ap (λ xs. take i files ++ xs) rest in
-          inr (ap (λ fs. first_of (checks_of n (map given_of fs))) whole ∙ ap (λ fs. first_of (checks_of n fs)) (map-append given_of (take i files) (m ∷ drop (i + 1) files))
+          inr (ap (λ fs. first_of (checks_of n (map given_of fs))) whole
+          ∙ ap (λ fs. first_of (checks_of n fs)) (map-append given_of (take i files) (m ∷ drop (i + 1) files))
           ∙ checks_behind (given_of m) (map given_of (drop (i + 1) files)) ∙ rw found refl)
     ]
 

@@ -50,7 +50,8 @@ module _ (files : List File) (items : List FileEntry) (same : map file_of items 
       by_items [] is lt g = elim lt [ ]
       by_items (e ∷ xs) is lt g = rw (← is, get_or-map file_of (e ∷ xs) k e d lt) (g e)
 
-  first_at : (n : ℕ) → IsLaidOut n files → (k : ℕ) (d : FileEntry) → k < length items → (get_or items k d).first_piece ≡ sum_by (λ f. piece_count n f.length) (take k files)
+  first_at : (n : ℕ) → IsLaidOut n files → (k : ℕ) (d : FileEntry) → k < length items
+      → (get_or items k d).first_piece ≡ sum_by (λ f. piece_count n f.length) (take k files)
   first_at n lay k d lt =
       let count = all in
       let there : get_or files k (file_of d) ≡ file_of (get_or items k d) = rw (← same) (get_or-map file_of items k d (file_of d) lt) in
@@ -101,7 +102,8 @@ module _ (torrent : Metainfo) (piece begin count : ℕ) where
     module _ (span : Span) (lay : IsLaidOut torrent.piece_length torrent.files) (place : IsPlace torrent piece begin count span) where
       begins : (j k : ℕ) (d : File) → j < k → k < length torrent.files
           → (get_or torrent.files j d).first_piece + piece_count torrent.piece_length (get_or torrent.files j d).length ≤ (get_or torrent.files k d).first_piece
-      begins j k d lt within = rw (lay.in_turn j d (omega arith), lay.in_turn k d within) (ends_before (λ g. piece_count torrent.piece_length g.length) torrent.files j k d lt (omega arith))
+      begins j k d lt within = rw (lay.in_turn j d (omega arith), lay.in_turn k d within)
+          (ends_before (λ g. piece_count torrent.piece_length g.length) torrent.files j k d lt (omega arith))
 
       -- a place lies in the last file that begins at the piece or before it
       only_there : span.file ≡ index
@@ -118,14 +120,17 @@ module _ (torrent : Metainfo) (piece begin count : ℕ) where
           ]
 
       -- what a place asks for, said of the file in which it must lie
-      pub fits : (1 ≤ count) × (count ≤ full_block_length) × (begin + count ≤ torrent.piece_length) × ((piece - f.first_piece) * torrent.piece_length + (begin + count) ≤ f.length)
+      pub fits : (1 ≤ count) × (count ≤ full_block_length) × (begin + count ≤ torrent.piece_length) ×
+          ((piece - f.first_piece) * torrent.piece_length + (begin + count) ≤ f.length)
       fits =
           let same : place.file ≡ f = sym (place.found f) ∙ ap (λ k. get_or torrent.files k f) only_there ∙ at f in
           let length : place.file.length ≡ f.length = ap (λ g. g.length) same in
-          let begun : (piece - place.file.first_piece) * torrent.piece_length ≡ (piece - f.first_piece) * torrent.piece_length = ap (λ g. (piece - g.first_piece) * torrent.piece_length) same in
+          let begun : (piece - place.file.first_piece) * torrent.piece_length ≡ (piece - f.first_piece) * torrent.piece_length =
+          ap (λ g. (piece - g.first_piece) * torrent.piece_length) same in
           (place.some, place.block, place.in_piece, omega (arith, place.in_file, place.start, length, begun))
 
-    pub place_at : 1 ≤ count → count ≤ full_block_length → begin + count ≤ torrent.piece_length → (piece - f.first_piece) * torrent.piece_length + (begin + count) ≤ f.length
+    pub place_at : 1 ≤ count → count ≤ full_block_length → begin + count ≤ torrent.piece_length
+        → (piece - f.first_piece) * torrent.piece_length + (begin + count) ≤ f.length
         → IsPlace torrent piece begin count (record { file = index; start = (piece - f.first_piece) * torrent.piece_length + begin; length = count })
     place_at some block in_piece in_file =
         let from : f.first_piece ≤ piece = rw (← at f) (last.begun f) in
@@ -134,7 +139,8 @@ module _ (torrent : Metainfo) (piece begin count : ℕ) where
           listed = last.listed;
           found = at;
           from = from;
-          below = below_of piece f.first_piece (piece_count torrent.piece_length f.length) from (within_pieces f.length torrent.piece_length (piece - f.first_piece) (omega arith) (omega arith));
+          below = below_of piece f.first_piece (piece_count torrent.piece_length f.length) from
+              (within_pieces f.length torrent.piece_length (piece - f.first_piece) (omega arith) (omega arith));
           start = refl;
           all = refl;
           some = some;

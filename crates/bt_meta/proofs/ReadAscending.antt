@@ -33,7 +33,8 @@ path_cmp = slice_cmp (slice_cmp nat_cmp)
 -- what follows a common beginning decides
 behind_common : (path p q : Path) → path_cmp p q ≡ Less → path_cmp (path ++ p) (path ++ q) ≡ Less
 behind_common [] p q h = h
-behind_common (name ∷ path) p q h = ap (λ o. ordering_then o (path_cmp (path ++ p) (path ++ q))) (tied_itself nat_list_cmp_total name) ∙ behind_common path p q h
+behind_common (name ∷ path) p q h = ap (λ o. ordering_then o (path_cmp (path ++ p) (path ++ q))) (tied_itself nat_list_cmp_total name)
+    ∙ behind_common path p q h
 
 -- the path goes on from this one
 pub record GoesOn (path : Path) (p : TreeEntry) : Type 0 where
@@ -63,7 +64,8 @@ behind_name : (path : Path) (key other : List ℕ) (rest more : Path) → IsBefo
 behind_name path key other rest more less = behind_common path (key ∷ rest) (other ∷ more) (ap (λ o. ordering_then o (path_cmp rest more)) less)
 
 goes_behind : (path : Path) (key other : List ℕ) (p : TreeEntry) → IsBefore key other → GoesOn (path ++ other ∷ []) p → IsBehindName path key p
-goes_behind path key other p less h rest = ap (path_cmp (path ++ key ∷ rest)) (further_is path other p h) ∙ behind_name path key other rest (h.name ∷ h.rest) less
+goes_behind path key other p less h rest = ap (path_cmp (path ++ key ∷ rest)) (further_is path other p h)
+    ∙ behind_name path key other rest (h.name ∷ h.rest) less
 
 -- ---- the entries of one folder
 
@@ -97,7 +99,8 @@ mutual
       let inner = path ++ name ∷ [] in
       let here : TreeEntry = record { path = inner; value = d } in
       All-cons (GoesOn path) here (tree_entries_below inner d ++ tree_entries_among path es) (record { name = name; rest = []; is = refl })
-      (All-append (GoesOn path) (tree_entries_below inner d) (tree_entries_among path es) (All-weaker (GoesOn inner) (GoesOn path) (further path name) (tree_entries_below inner d) (below_goes_on inner d)) (among_goes_on path es))
+      (All-append (GoesOn path) (tree_entries_below inner d) (tree_entries_among path es)
+      (All-weaker (GoesOn inner) (GoesOn path) (further path name) (tree_entries_below inner d) (below_goes_on inner d)) (among_goes_on path es))
 
 -- the entries behind a key stand behind all that begin with it
 pub among_behind : (path : Path) (key : List ℕ) (es : Entries) → AreBehind key es → All (IsBehindName path key) (tree_entries_among path es)
@@ -110,7 +113,8 @@ among_behind path key (entry (byte ∷ bytes) d es) h =
     let here : TreeEntry = record { path = inner; value = d } in
     All-cons (IsBehindName path key) here (tree_entries_below inner d ++ tree_entries_among path es) (λ rest. behind_name path key name rest [] h.0)
     (All-append (IsBehindName path key) (tree_entries_below inner d) (tree_entries_among path es)
-    (All-weaker (GoesOn inner) (IsBehindName path key) (λ p g. goes_behind path key name p h.0 g) (tree_entries_below inner d) (below_goes_on inner d)) (among_behind path key es h.1))
+    (All-weaker (GoesOn inner) (IsBehindName path key) (λ p g. goes_behind path key name p h.0 g) (tree_entries_below inner d)
+    (below_goes_on inner d)) (among_behind path key es h.1))
 
 -- ---- the whole tree
 
@@ -148,7 +152,8 @@ mutual
         cut = λ file. let none = ap length (file_below d inner node file) in absurd (omega arith);
       })
       (λ k e lt. record { before = behind k e lt []; cut = λ file more. rw (append_assoc path (name ∷ []) more) (behind k e lt more) }))
-      (pairs_append IsAhead below others (below_ahead inner d h.1 (All-front IsNode below others rest)) (among_ahead path es h.2 (All-back IsNode below others rest))
+      (pairs_append IsAhead below others (below_ahead inner d h.1 (All-front IsNode below others rest))
+      (among_ahead path es h.2 (All-back IsNode below others rest))
       (λ i e lt j f lt'.
       let g = within i e lt in
       let is = further_is path name (get_or below i e) g in
@@ -161,7 +166,8 @@ mutual
 not_before : (path rest : Path) → path_cmp (path ++ rest) path ≢ Less
 not_before [] [] e = cc
 not_before [] (name ∷ rest) e = cc
-not_before (name ∷ path) rest e = not_before path rest (sym (ap (λ o. ordering_then o (path_cmp (path ++ rest) path)) (tied_itself nat_list_cmp_total name)) ∙ e)
+not_before (name ∷ path) rest e =
+    not_before path rest (sym (ap (λ o. ordering_then o (path_cmp (path ++ rest) path)) (tied_itself nat_list_cmp_total name)) ∙ e)
 
 pub apart : (p q : TreeEntry) → is_file p ≡ true → IsAhead p q → IsApart p.path q.path
 apart p q file h rest = (

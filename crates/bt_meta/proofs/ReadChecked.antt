@@ -41,7 +41,8 @@ IsNamed p = has_lawful_name p ≡ true
 abbrev pub Agrees : TreeEntry → TreeEntry → Type 0
 Agrees q p = is_file q ≡ true → is_file p ≡ true → length_of q ≢ 0 → length_of p ≢ 0 → root_of q ≡ root_of p → length_of q ≡ length_of p
 
-root_length : (empty : Bool) (root : List ℕ) → (empty || length (if empty then replicate 32 0 else root) == 32) ≡ true → length (if empty then replicate 32 0 else root) ≡ 32
+root_length : (empty : Bool) (root : List ℕ) → (empty || length (if empty then replicate 32 0 else root) == 32) ≡ true
+    → length (if empty then replicate 32 0 else root) ≡ 32
 root_length true root h = refl
 root_length false root h = eqb-true (length root) 32 h
 
@@ -72,7 +73,8 @@ module _ (n : ℕ) (before : List TreeEntry) (p : TreeEntry) where
       ∷ [] in
       let properties = properties_of p in
       let own = passed checks h in
-      let of_file : is_file p ≡ true → HavePassed (file_checks before p) = λ file. passed (file_checks before p) (ap (λ b. if b then first_of (file_checks before p) else None) (sym file) ∙ own.1.1.0) in
+      let of_file : is_file p ≡ true → HavePassed (file_checks before p) =
+      λ file. passed (file_checks before p) (ap (λ b. if b then first_of (file_checks before p) else None) (sym file) ∙ own.1.1.0) in
       record {
         node = holds_unless (is_node p.value) Tree own.0;
         named = holds_unless (has_lawful_name p) BadPath own.1.0;
@@ -98,7 +100,8 @@ agree_one before p alike = λ k d within file_q file_p some_q some_p same.
     let found = none_of (conflict p) before none k d within in
     one_length (length_of q) (length_of p) (rw (file_q, some_length (length_of q) some_q, (bytes_eq-Decides (root_of q) (root_of p)).1 same) at found)
 
-within_count : (a : Bool) (files pieces : ℕ) → (a || (nat_lt max_file_count files || nat_lt max_piece_count pieces)) ≡ false → (files ≤ max_file_count) × (pieces ≤ max_piece_count)
+within_count : (a : Bool) (files pieces : ℕ) → (a || (nat_lt max_file_count files || nat_lt max_piece_count pieces)) ≡ false
+    → (files ≤ max_file_count) × (pieces ≤ max_piece_count)
 within_count a files pieces e = (grind (arith, nat_tests), grind (arith, nat_tests))
 
 -- ---- all entries
@@ -115,10 +118,13 @@ module _ (n : ℕ) where
   checked_more : (before : List TreeEntry) (p : TreeEntry) → AreChecked n before → entry_check n before p ≡ None → AreChecked n (before ++ p ∷ [])
   checked_more before p h none =
       let c = checked_entry n before p none in
-      let counts : (length (filter is_file (before ++ p ∷ [])) ≤ max_file_count) × (pieces_of n (before ++ p ∷ []) ≤ max_piece_count) = elim (cases_Bool (is_file p)) [
-        | inl file ↦ within_count (nat_lt max_path_length (length p.path)) (length (filter is_file (before ++ p ∷ []))) (pieces_of n (before ++ p ∷ [])) (rw file at c.few)
+      let counts : (length (filter is_file (before ++ p ∷ [])) ≤ max_file_count) × (pieces_of n (before ++ p ∷ []) ≤ max_piece_count) =
+      elim (cases_Bool (is_file p)) [
+        | inl file ↦ within_count (nat_lt max_path_length (length p.path)) (length (filter is_file (before ++ p ∷ [])))
+            (pieces_of n (before ++ p ∷ [])) (rw file at c.few)
         | inr folder ↦
-            let same : filter is_file (before ++ p ∷ []) ≡ filter is_file before = filter-append is_file before (p ∷ []) ∙ rw (folder, append-nil (filter is_file before)) refl in
+            let same : filter is_file (before ++ p ∷ []) ≡ filter is_file before = filter-append is_file before (p ∷ [])
+            ∙ rw (folder, append-nil (filter is_file before)) refl in
             (rw same h.files, rw same h.pieces)
       ] in
       record {

@@ -50,7 +50,8 @@ module _ (info : Data) where
           unfolding head_checks
           head_tree t = rw (← p, ← q, ← r, s, ← t) refl
 
-          pub head_is : (head : Head) → name ≡ head.name.now → head.piece_length ≡ piece_length_of info → Some (data_of head.tree.now) ≡ dictionary_at info (codes "file tree") → IsHead info head
+          pub head_is : (head : Head) → name ≡ head.name.now → head.piece_length ≡ piece_length_of info
+              → Some (data_of head.tree.now) ≡ dictionary_at info (codes "file tree") → IsHead info head
           unfolding head_checks tree_of
           head_is head named l t = record {
             faultless = rw (← p, ← q, ← r, s, ← t) refl;
@@ -74,10 +75,12 @@ pub info_head_fault : (info : Data) {e : MetaError} → first_of (head_checks in
 info_head_fault info h = first_of-append_some (head_checks info) (tree_checks (piece_length_of info) (tree_of info)) _ h
 
 -- the checks of an info dictionary are those of its head and those of its tree
-pub info_faults : {info : Data} {head : Head} → IsHead info head → first_of (info_checks info) ≡ first_of (tree_checks head.piece_length (data_of head.tree.now))
+pub info_faults : {info : Data} {head : Head} → IsHead info head
+    → first_of (info_checks info) ≡ first_of (tree_checks head.piece_length (data_of head.tree.now))
 info_faults {info} h = first_of-append (head_checks info) (tree_checks (piece_length_of info) (tree_of info)) h.faultless ∙ rw (h.piece_length, h.tree) refl
 
-pub metainfo_is : {info : Data} {head : Head} (layers : Data) (files : List File) → IsHead info head → files ≡ files_of head.piece_length layers (data_of head.tree.now)
+pub metainfo_is : {info : Data} {head : Head} (layers : Data) (files : List File) → IsHead info head
+    → files ≡ files_of head.piece_length layers (data_of head.tree.now)
     → metainfo_of info layers ≡ record { name = head.name.now; piece_length = head.piece_length; infohash = sha256 (spelling_of info); files = files }
 unfolding metainfo_of
 metainfo_is layers files h f = rw (h.name, h.piece_length, h.tree, f) refl
@@ -104,7 +107,8 @@ module _ (torrent : Data) where
     module _ {head : Head} {listing : Listing} (h : IsHead info head) (l : IsListing head.piece_length (data_of head.tree.now) listing) where
       pub torrent_layers : first_fault torrent ≡ first_of (layer_faults head.piece_length (layers_of torrent) (map file_of listing.files.items))
       torrent_layers =
-          first_fault_in ∙ first_of-append (info_checks info) (layer_checks (piece_length_of info) (layers_of torrent) (tree_of info)) (info_faults h ∙ l.faultless)
+          first_fault_in ∙ first_of-append (info_checks info) (layer_checks (piece_length_of info) (layers_of torrent) (tree_of info))
+          (info_faults h ∙ l.faultless)
           ∙ rw (h.piece_length, h.tree, l.files, layer_faults_are head.piece_length (layers_of torrent) (data_of head.tree.now)) refl
 
 -- ---- refusals

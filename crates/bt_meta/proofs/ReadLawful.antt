@@ -58,7 +58,8 @@ module _ (n : ℕ) (layers : Data) where
   layered_entry : (p : TreeEntry) → layer_check n layers p ≡ None → IsLayered p
   layered_entry p h =
       let long : layer_at n layers p ≢ [] → nat_lt n (length_of p) ≡ true = then_long (nat_lt n (length_of p)) (unwrap_or (string_at layers (root_of p)) []) in
-      let checks : List Check = fault_if (is_none (string_at layers (root_of p))) LayerMissing ∷ layer_bytes_checks n (length_of p) (root_of p) (layer_at n layers p) in
+      let checks : List Check = fault_if (is_none (string_at layers (root_of p))) LayerMissing ∷ layer_bytes_checks n (length_of p) (root_of p)
+      (layer_at n layers p) in
       let own = λ (some : layer_at n layers p ≢ []). passed checks (ap (λ b. if b then first_of checks else None) (sym (long some)) ∙ h) in
       record {
         long = λ some. ltb-true n (length_of p) (long some);
@@ -82,7 +83,8 @@ module _ (n : ℕ) (layers : Data) where
     of_each : (before ps : List TreeEntry) → All P ps → All Q (with_earlier (file_at n layers) before ps)
     of_each before [] h = All-nil Q
     of_each before (p ∷ ps) h =
-        All-cons Q (file_at n layers before p) (with_earlier (file_at n layers) (before ++ p ∷ []) ps) (same before p (All-head P p ps h)) (of_each (before ++ p ∷ []) ps (All-tail P p ps h))
+        All-cons Q (file_at n layers before p) (with_earlier (file_at n layers) (before ++ p ∷ []) ps) (same before p (All-head P p ps h))
+        (of_each (before ++ p ∷ []) ps (All-tail P p ps h))
 
   -- a relation of two files, where it is one of their entries
   module _ (R : TreeEntry → TreeEntry → Type 0) (S : File → File → Type 0)
@@ -93,7 +95,8 @@ module _ (n : ℕ) (layers : Data) where
         let file = All-head IsFile p ps files in
         let rest = All-tail IsFile p ps files in
         AllPairs-cons S (file_at n layers before p) (with_earlier (file_at n layers) (before ++ p ∷ []) ps)
-        (of_each (λ q. IsFile q × R p q) (S (file_at n layers before p)) (λ c q both. same before c p q file both.0 both.1) (before ++ p ∷ []) ps (λ i d within. (rest i d within, h 0 (suc i) d (omega arith) (omega arith))))
+        (of_each (λ q. IsFile q × R p q) (S (file_at n layers before p)) (λ c q both. same before c p q file both.0 both.1) (before ++ p ∷ []) ps
+        (λ i d within. (rest i d within, h 0 (suc i) d (omega arith) (omega arith))))
         (of_all (before ++ p ∷ []) ps rest (λ i j d lt within. h (suc i) (suc j) d (omega arith) (omega arith)))
 
     of_files : (tree : Data) → AllPairs R (tree_entries_below [] tree) → AllPairs S (files_of n layers tree)
@@ -123,7 +126,8 @@ module _ (n : ℕ) (layers : Data) where
         not_none : (k : ℕ) → not (k == 0) ≡ true → 0 < k
         not_none k e = grind (arith, nat_tests)
 
-    lawful_tree : HasAscendingKeys tree → is_piece_length n ≡ true → All IsLayered (filter is_file (tree_entries_below [] tree)) → IsLawful n (files_of n layers tree)
+    lawful_tree : HasAscendingKeys tree → is_piece_length n ≡ true → All IsLayered (filter is_file (tree_entries_below [] tree))
+        → IsLawful n (files_of n layers tree)
     unfolding files_of
     lawful_tree keys lawful layered =
         let ahead = below_ahead [] tree keys sound.entries.nodes in
@@ -133,10 +137,15 @@ module _ (n : ℕ) (layers : Data) where
           some = some_file;
           each = lawful_files layered;
           few_pieces = rw (same_sum n layers tree) few.pieces;
-          laid_out = record { few = rw (length-with_earlier (file_at n layers) [] (filter is_file (tree_entries_below [] tree))) few.files; in_turn = in_turn n layers tree };
+          laid_out = record {
+            few = rw (length-with_earlier (file_at n layers) [] (filter is_file (tree_entries_below [] tree))) few.files;
+            in_turn =
+                in_turn n layers tree;
+          };
           ascending = of_files IsAhead (λ f g. slice_cmp (slice_cmp nat_cmp) f.path g.path ≡ Less) (λ b c p q file other a. a.before) tree ahead;
           apart = of_files IsAhead (λ f g. IsApart f.path g.path) (λ b c p q file other a. apart p q file a) tree ahead;
-          one_length = of_files Agrees (λ f g. f.length ≢ 0 → g.length ≢ 0 → f.root ≡ g.root → f.length ≡ g.length) (λ b c p q file other one. one file other) tree few.agree;
+          one_length = of_files Agrees (λ f g. f.length ≢ 0 → g.length ≢ 0 → f.root ≡ g.root → f.length ≡ g.length)
+              (λ b c p q file other one. one file other) tree few.agree;
         }
 
 -- an info dictionary has no layers
@@ -154,7 +163,8 @@ pub keeps_to : {torrent other : Metainfo} → torrent ≡ other → KeepsTo torr
 keeps_to same h = subst KeepsTo same h
 
 -- the paths of a result's files ascend, where it keeps to that
-pub ascends : {N E : Type 0} (other : Metainfo) (r : Result Metainfo E) → (N → IsLawful other.piece_length other.files) → IfOk r (λ torrent. N) → IfOk r (λ torrent. torrent ≡ other) → IfOk r (λ torrent. HaveAscendingPaths torrent.files)
+pub ascends : {N E : Type 0} (other : Metainfo) (r : Result Metainfo E) → (N → IsLawful other.piece_length other.files) → IfOk r (λ torrent. N)
+    → IfOk r (λ torrent. torrent ≡ other) → IfOk r (λ torrent. HaveAscendingPaths torrent.files)
 ascends other (Ok torrent) keeps none is = rw is (keeps none).ascending
 ascends other (Err e) keeps none is = is
 
@@ -170,7 +180,8 @@ lawful_info info layers keys h layered =
 pub info_keeps_to : (info : Data) → HasAscendingKeys info → first_info_fault info ≡ None → KeepsTo (metainfo_of info no_dictionary)
 unfolding first_info_fault
 info_keeps_to info keys h =
-    lawful_info info no_dictionary keys (passed_first (fault_if (not (is_dictionary info)) NoInfo) (info_checks info) h).1 (none_layered (piece_length_of info) (filter is_file (tree_entries_below [] (tree_of info))))
+    lawful_info info no_dictionary keys (passed_first (fault_if (not (is_dictionary info)) NoInfo) (info_checks info) h).1
+    (none_layered (piece_length_of info) (filter is_file (tree_entries_below [] (tree_of info))))
 
 pub torrent_keeps_to : (value : Data) → HasAscendingKeys value → first_fault value ≡ None → KeepsTo (metainfo_of (info_of value) (layers_of value))
 unfolding info_of first_fault
@@ -178,5 +189,6 @@ torrent_keeps_to value keys h =
     let info : Data = info_of value in
     let n = piece_length_of info in
     let checks : List Check = layer_checks n (layers_of value) (tree_of info) in
-    let parts = both_passed (info_checks info) checks (passed_first (fault_if (is_none (dictionary_at value (codes "info"))) NoInfo) (info_checks info ++ checks) h).1 in
+    let parts = both_passed (info_checks info) checks
+    (passed_first (fault_if (is_none (dictionary_at value (codes "info"))) NoInfo) (info_checks info ++ checks) h).1 in
     lawful_info info (layers_of value) (at_key value (codes "info") keys) parts.0 (layered_tree n (layers_of value) (tree_of info) parts.1)

@@ -32,6 +32,7 @@ module _ (n : ℕ) (layers : Data) where
     | inr folder ↦ rw folder (turn before es k d (rw folder at lt))
   ]
 
-  pub in_turn : (tree : Data) (k : ℕ) (d : File) → k < length (files_of n layers tree) → (get_or (files_of n layers tree) k d).first_piece ≡ sum_by count (take k (files_of n layers tree))
+  pub in_turn : (tree : Data) (k : ℕ) (d : File) → k < length (files_of n layers tree)
+      → (get_or (files_of n layers tree) k d).first_piece ≡ sum_by count (take k (files_of n layers tree))
   unfolding files_of
   in_turn tree k d lt = turn [] (tree_entries_below [] tree) k d lt ∙ omega arith

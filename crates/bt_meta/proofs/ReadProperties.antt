@@ -23,7 +23,8 @@ pub refused_dots : (element : List ℕ) → true ≡ is_dots element → None �
 unfolding is_path_element
 refused_dots element p = refused element (rw (← p) refl)
 
-pub refused_slash : (element : List ℕ) → false ≡ is_dots element → true ≡ list_any (λ b. b == 47) element → None ≡ (if is_path_element element then Some element else None)
+pub refused_slash : (element : List ℕ) → false ≡ is_dots element → true ≡ list_any (λ b. b == 47) element
+    → None ≡ (if is_path_element element then Some element else None)
 unfolding is_path_element
 refused_slash element p q = refused element (rw (← p, ← q) refl)
 
@@ -38,14 +39,16 @@ refused_bytes element broken =
     refused element (and_right (not (is_dots element || list_any (λ b. b == 47) element || list_any (λ b. b == 0) element)) (is_utf8 element)
     (false_unless_true (is_utf8 element) (λ t. broken (IsUtf8-from_is_utf8 element t))))
 
-pub taken : (element text : List ℕ) → false ≡ is_dots element → false ≡ list_any (λ b. b == 47) element → false ≡ list_any (λ b. b == 0) element → IsUtf8 element
+pub taken : (element text : List ℕ) → false ≡ is_dots element → false ≡ list_any (λ b. b == 47) element → false ≡ list_any (λ b. b == 0) element
+    → IsUtf8 element
     → text ≡ element → Some text ≡ (if is_path_element element then Some element else None)
 unfolding is_path_element
 taken element text p q r u e = rw (← p, ← q, ← r, is_utf8-from_IsUtf8 element u, e) refl
 
 -- ---- roots
 
-pub root_of_nothing : (properties : Data) → length_in properties ≡ 0 → Some (replicate 32 0) ≡ (if has_lawful_root properties then Some (root_in properties) else None)
+pub root_of_nothing : (properties : Data) → length_in properties ≡ 0
+    → Some (replicate 32 0) ≡ (if has_lawful_root properties then Some (root_in properties) else None)
 unfolding has_lawful_root root_in
 root_of_nothing properties e = rw e refl
 
@@ -56,7 +59,8 @@ root_there properties root some e long =
     let test : (length_in properties == 0) ≡ false = grind (arith, nat_tests) in
     rw (test, ← e, long) refl
 
-pub root_of_other_size : (properties : Data) (root : List ℕ) → length_in properties ≢ 0 → Some root ≡ string_at properties (codes "pieces root") → length root ≢ 32
+pub root_of_other_size : (properties : Data) (root : List ℕ) → length_in properties ≢ 0 → Some root ≡ string_at properties (codes "pieces root")
+    → length root ≢ 32
     → None ≡ (if has_lawful_root properties then Some (root_in properties) else None)
 unfolding has_lawful_root root_in
 root_of_other_size properties root some e other =
@@ -74,5 +78,6 @@ root_nowhere properties some e =
 -- ---- a file
 
 pub file_is : (element : List ℕ) (properties : Data) (e : FileEntry) → e.path ≡ element ∷ [] → e.length ≡ length_in properties → e.root ≡ root_in properties
-    → e.first_piece ≡ 0 → e.layer.items ≡ [] → file_of e ≡ record { path = element ∷ []; length = length_in properties; root = root_in properties; first_piece = 0; layer = [] }
+    → e.first_piece ≡ 0 → e.layer.items ≡ []
+    → file_of e ≡ record { path = element ∷ []; length = length_in properties; root = root_in properties; first_piece = 0; layer = [] }
 file_is element properties e path length root first layer = cc

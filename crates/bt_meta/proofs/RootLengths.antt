@@ -18,7 +18,8 @@ module _ (length n : ℕ) where
   other_than None e = refl
   other_than (Some m) e = let same : m ≡ length = grind (arith, nat_tests) in rw same (twice (not (length == n)))
 
-  at : (b : Bool) (o p : Option ℕ) → is_other_length o length ≡ false → (b ≡ true → o ≡ p) → is_other_length (cond b (Some length) p) n ≡ (is_other_length p n || (b && not (length == n)))
+  at : (b : Bool) (o p : Option ℕ) → is_other_length o length ≡ false → (b ≡ true → o ≡ p)
+      → is_other_length (cond b (Some length) p) n ≡ (is_other_length p n || (b && not (length == n)))
   at true o p alike same = rw (← same refl) (other_than o alike)
   at false o p alike same = sym (or-false (is_other_length p n))
 
@@ -27,5 +28,6 @@ pub noted_more : {old new : Lengths} {root : List ℕ} {length : ℕ} → NotesL
 noted_more {old} {new} {root} {length} noted other n =
     let test = is_eq-slice_cmp root other in
     ap (λ o. is_other_length o n) (noted.noted other)
-    ∙ at length n (is_eq (slice_cmp nat_cmp root other)) (length_at old root) (length_at old other) noted.alike (λ e. ap (length_at old) ((bytes_eq-Decides root other).0 (sym test ∙ e)))
+    ∙ at length n (is_eq (slice_cmp nat_cmp root other)) (length_at old root) (length_at old other) noted.alike
+    (λ e. ap (length_at old) ((bytes_eq-Decides root other).0 (sym test ∙ e)))
     ∙ rw test refl

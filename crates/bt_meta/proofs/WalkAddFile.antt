@@ -39,7 +39,8 @@ pub lawful_is_short : (properties : Data) → has_lawful_length properties ≡ t
 unfolding has_lawful_length length_in
 lawful_is_short properties e = short_length (natural_at properties (codes "length")) e
 
-pub properties_pass : (properties : Data) → false ≡ has_key properties (codes "symlink path") → has_lawful_length properties ≡ true → has_lawful_root properties ≡ true → first_of (property_checks properties) ≡ None
+pub properties_pass : (properties : Data) → false ≡ has_key properties (codes "symlink path") → has_lawful_length properties ≡ true
+    → has_lawful_root properties ≡ true → first_of (property_checks properties) ≡ None
 properties_pass properties link length root = rw (← link, length, root) refl
 
 -- ---- a file
@@ -51,12 +52,14 @@ pub record IsNotedWalk (facts : FileFacts) (old mid : Walk) : Type 0 where
   pub lengths : ((facts.length ≡ 0) × (mid.lengths ≡ old.lengths)) ⊎ ((0 < facts.length) × NotesLength old.lengths mid.lengths facts.root facts.length)
 
 module _ (n m k : ℕ) where
-  many : (max_path_length < n) ⊎ ((max_file_count < m) ⊎ (max_piece_count < k)) → (nat_lt max_path_length n || (nat_lt max_file_count m || nat_lt max_piece_count k)) ≡ true
+  many : (max_path_length < n) ⊎ ((max_file_count < m) ⊎ (max_piece_count < k))
+      → (nat_lt max_path_length n || (nat_lt max_file_count m || nat_lt max_piece_count k)) ≡ true
   many (inl h) = grind (arith, nat_tests)
   many (inr (inl h)) = grind (arith, nat_tests)
   many (inr (inr h)) = grind (arith, nat_tests)
 
-  few : n ≤ max_path_length → m ≤ max_file_count → k ≤ max_piece_count → (nat_lt max_path_length n || (nat_lt max_file_count m || nat_lt max_piece_count k)) ≡ false
+  few : n ≤ max_path_length → m ≤ max_file_count → k ≤ max_piece_count
+      → (nat_lt max_path_length n || (nat_lt max_file_count m || nat_lt max_piece_count k)) ≡ false
   few a b c = grind (arith, nat_tests)
 
 positive : (n : ℕ) → 0 < n → (n == 0) ≡ false
@@ -101,11 +104,13 @@ module _ {path : List (List ℕ)} {name : List ℕ} {properties : Data} {p : Tre
         files_count : length mid.files.items ≡ length (filter is_file before)
         files_count = ap (λ v. length v.items) noted.files ∙ count_of_files n before old.files.items h.files
 
-        checked : {b : Bool} → (nat_lt max_path_length (length p.path) || (nat_lt max_file_count (length (filter is_file before) + 1) || nat_lt max_piece_count (pieces_of n before + piece_count n (length_of p)))) ≡ b
+        checked : {b : Bool} → (nat_lt max_path_length (length p.path) ||
+            (nat_lt max_file_count (length (filter is_file before) + 1) || nat_lt max_piece_count (pieces_of n before + piece_count n (length_of p)))) ≡ b
             → is_too_many n before p ≡ b
         checked e = rw (at.file, count_push n before p at.file, pieces_push n before p at.file) e
 
-    pub conflict_stops : {n : ℕ} {old : Walk} {e : MetaError} → 0 < facts.length → IsLengthConflict old.lengths facts.root facts.length e → Stops n (p ∷ []) old e
+    pub conflict_stops : {n : ℕ} {old : Walk} {e : MetaError} → 0 < facts.length → IsLengthConflict old.lengths facts.root facts.length e
+        → Stops n (p ∷ []) old e
     conflict_stops some (inl m) = record { refused = λ before h. inl m.0 }
     conflict_stops {n} some (inr c) = stops_at (λ before h.
         let both : has_conflict before p ≡ true = rw (← long, positive facts.length some, alike h c.1) refl in
@@ -117,7 +122,8 @@ module _ {path : List (List ℕ)} {name : List ℕ} {properties : Data} {p : Tre
           let count = files_count h noted in
           let deep = path_length in
           let all = counted h noted pieces sum in
-          let past : (max_path_length < length p.path) ⊎ ((max_file_count < length (filter is_file before) + 1) ⊎ (max_piece_count < pieces_of n before + piece_count n (length_of p))) =
+          let past : (max_path_length < length p.path) ⊎
+          ((max_file_count < length (filter is_file before) + 1) ⊎ (max_piece_count < pieces_of n before + piece_count n (length_of p))) =
           elim over [
             | inl a ↦ inl (omega arith)
             | inr b ↦ elim b [ inl c ↦ inr (inl (omega arith)) | inr c ↦ inr (inr (omega arith)) ]
@@ -126,12 +132,14 @@ module _ {path : List (List ℕ)} {name : List ℕ} {properties : Data} {p : Tre
 
       pub file_passes : {new : Walk} (entry : FileEntry) → length path < max_path_length → length mid.files.items < max_file_count → pieces ≤ max_piece_count
           → new.files.items ≡ mid.files.items ++ entry ∷ [] → new.pieces ≡ pieces → new.lengths ≡ mid.lengths
-          → entry.path ≡ path ++ name ∷ [] → entry.length ≡ facts.length → entry.root ≡ facts.root → entry.first_piece ≡ mid.pieces → entry.layer.items ≡ [] → Passes n (p ∷ []) old new
+          → entry.path ≡ path ++ name ∷ [] → entry.length ≡ facts.length → entry.root ≡ facts.root → entry.first_piece ≡ mid.pieces
+          → entry.layer.items ≡ [] → Passes n (p ∷ []) old new
       file_passes {new} entry near few_files few_pieces files taken lengths named sized rooted first layer = passes_one (λ before h.
           let count = files_count h noted in
           let deep = path_length in
           let all = counted h noted pieces sum in
-          let test = few (length p.path) (length (filter is_file before) + 1) (pieces_of n before + piece_count n (length_of p)) (omega arith) (omega arith) (omega arith) in
+          let test = few (length p.path) (length (filter is_file before) + 1) (pieces_of n before + piece_count n (length_of p)) (omega arith)
+          (omega arith) (omega arith) in
           let path_is = at.path_is in
           let sized_as = long in
           let rooted_as = root_is in
@@ -147,7 +155,8 @@ pub last_push : (o : Option (List ℕ)) (xs : List (List ℕ)) (x : List ℕ) �
 last_push o [] x = refl
 last_push o (y ∷ xs) x = last_push (Some y) xs x
 
-pub name_of : (path : List (List ℕ)) (key : List ℕ) (d : Data) (b : Bool) → is_path_element key ≡ b → has_lawful_name (record { path = path ++ key ∷ []; value = d }) ≡ b
+pub name_of : (path : List (List ℕ)) (key : List ℕ) (d : Data) (b : Bool) → is_path_element key ≡ b
+    → has_lawful_name (record { path = path ++ key ∷ []; value = d }) ≡ b
 name_of path key d b e = rw (last_push None path key) e
 
 pub node_is : (d : Data) (node : Node) → IsNodeOf d node → is_node d ≡ true
@@ -158,7 +167,8 @@ module _ (path : List (List ℕ)) (key : List ℕ) (d : Data) where
   abbrev here : TreeEntry
   here = record { path = path ++ key ∷ []; value = d }
 
-  pub file_entry : {name : List ℕ} {properties : Data} → name ≡ key → is_node d ≡ true → is_path_element key ≡ true → has_key d [] ≡ true → dictionary_at d [] ≡ Some properties → IsFileEntry path name properties here
+  pub file_entry : {name : List ℕ} {properties : Data} → name ≡ key → is_node d ≡ true → is_path_element key ≡ true → has_key d [] ≡ true
+      → dictionary_at d [] ≡ Some properties → IsFileEntry path name properties here
   file_entry same node named file at = record {
     path_is = ap (λ x. path ++ x ∷ []) (sym same);
     node = node;
@@ -167,17 +177,22 @@ module _ (path : List (List ℕ)) (key : List ℕ) (d : Data) where
     properties_are = ap (λ o. unwrap_or o no_dictionary) at;
   }
 
-  counted_folder : (n : ℕ) (before : List TreeEntry) {b : Bool} → has_key d [] ≡ false → nat_lt max_path_length (length path + 1) ≡ b → is_too_many n before here ≡ b
+  counted_folder : (n : ℕ) (before : List TreeEntry) {b : Bool} → has_key d [] ≡ false → nat_lt max_path_length (length path + 1) ≡ b
+      → is_too_many n before here ≡ b
   counted_folder n before {b} folder e = rw (folder, length_push path key, e) (or-false b)
 
   module _ {n : ℕ} {w : Walk} where
     module _ (node : is_node d ≡ true) (name : is_path_element key ≡ true) (folder : has_key d [] ≡ false) where
       pub folder_many : max_path_length ≤ length path → Stops n (here ∷ []) w TooMany
-      folder_many deep = stops_at (λ before h. folder_counted n before here node (name_of path key d true name) {many = true} folder (counted_folder n before folder (grind (arith, nat_tests))))
+      folder_many deep = stops_at (λ before h. folder_counted n before here node (name_of path key d true name) {many = true} folder
+          (counted_folder n before folder (grind (arith, nat_tests))))
 
       pub folder_passes : length path < max_path_length → Passes n (here ∷ []) w w
-      folder_passes near = passes_one (λ before h.
-          (folder_walked n before here w h folder, folder_counted n before here node (name_of path key d true name) {many = false} folder (counted_folder n before folder (grind (arith, nat_tests)))))
+      folder_passes near = passes_one (λ before h. (
+        folder_walked n before here w h folder,
+        folder_counted n before here node (name_of path key d true name) {many = false} folder
+            (counted_folder n before folder (grind (arith, nat_tests))),
+      ))
 
     pub no_node_stops : is_node d ≡ false → Stops n (here ∷ []) w Tree
     no_node_stops node = stops_at (λ before h. rw node refl)
@@ -194,5 +209,6 @@ module _ (path : List (List ℕ)) (key : List ℕ) (d : Data) where
       file_entered none h = rw (is, none) h
 
       pub folder_entered : {inner : List (List ℕ)} → inner ≡ path ++ key ∷ [] → Passes n (here ∷ []) w w
-          → Passes n ((record { path = inner; value = d }) ∷ []) w w × (tree_entries_of path key d ≡ (record { path = inner; value = d }) ∷ tree_entries_below inner d)
+          → Passes n ((record { path = inner; value = d }) ∷ []) w w ×
+          (tree_entries_of path key d ≡ (record { path = inner; value = d }) ∷ tree_entries_below inner d)
       folder_entered same h = rw same (h, is)

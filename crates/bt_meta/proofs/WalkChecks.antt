@@ -35,12 +35,14 @@ module _ (n : ℕ) (before : List TreeEntry) (p : TreeEntry) (node : is_node p.v
       pub bad_root : has_conflict before p ≡ true → entry_check n before p ≡ Some RootConflict
       bad_root c = rw (node, name, file, conflicts, c) refl
 
-      pub file_counted : {many : Bool} → has_conflict before p ≡ false → is_too_many n before p ≡ many → entry_check n before p ≡ first_of (fault_if many TooMany ∷ [])
+      pub file_counted : {many : Bool} → has_conflict before p ≡ false → is_too_many n before p ≡ many
+          → entry_check n before p ≡ first_of (fault_if many TooMany ∷ [])
       file_counted c m = rw (m, node, name, file, conflicts, c) refl
 
 module _ {n : ℕ} {p : TreeEntry} {old : Walk} where
   pub stops_at : {e : MetaError} → ((before : List TreeEntry) → IsWalkOver n before old → entry_check n before p ≡ Some e) → Stops n (p ∷ []) old e
   stops_at h = record { refused = λ before walked. inr (rw (h before walked) refl) }
 
-  pub passes_one : {new : Walk} → ((before : List TreeEntry) → IsWalkOver n before old → IsWalkOver n (before ++ p ∷ []) new × (entry_check n before p ≡ None)) → Passes n (p ∷ []) old new
+  pub passes_one : {new : Walk} →
+      ((before : List TreeEntry) → IsWalkOver n before old → IsWalkOver n (before ++ p ∷ []) new × (entry_check n before p ≡ None)) → Passes n (p ∷ []) old new
   passes_one h = record { over = λ before walked. let w = h before walked in (w.0, rw (w.1) refl) }

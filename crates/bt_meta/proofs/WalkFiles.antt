@@ -56,9 +56,11 @@ module _ (n : ℕ) (before : List TreeEntry) where
         list_any-append test before (p ∷ []) ∙ ap (λ b. has_other_length before root m || b) (or-false (test p))
 
     -- no file, or an empty one
-    pub others_same : (root : List ℕ) (m : ℕ) → (is_file p && not (length_of p == 0)) ≡ false → has_other_length (before ++ p ∷ []) root m ≡ has_other_length before root m
+    pub others_same : (root : List ℕ) (m : ℕ) → (is_file p && not (length_of p == 0)) ≡ false
+        → has_other_length (before ++ p ∷ []) root m ≡ has_other_length before root m
     others_same root m e =
-        others_push root m ∙ rw (neither (is_file p) (not (length_of p == 0)) (pointwise nat_eq (root_of p) root) (not (length_of p == m)) e) (or-false (has_other_length before root m))
+        others_push root m ∙ rw (neither (is_file p) (not (length_of p == 0)) (pointwise nat_eq (root_of p) root) (not (length_of p == m)) e)
+        (or-false (has_other_length before root m))
 
     module _ (file : is_file p ≡ true) where
       filter_file : filter is_file (before ++ p ∷ []) ≡ filter is_file before ++ p ∷ []
@@ -77,9 +79,11 @@ module _ (n : ℕ) (before : List TreeEntry) where
           → (root : List ℕ) (m : ℕ) → is_other_length (length_at new.lengths root) m ≡ has_other_length (before ++ p ∷ []) root m
       others_noted old new some h noted root m = noted_more noted root m ∙ sym (others_push root m ∙ rw (file, some, ← h.lengths root m) refl)
 
-      pub file_walked : (old new : Walk) (e : FileEntry) → IsWalkOver n before old → file_of e ≡ record (file_at n no_dictionary (filter is_file before) p) { first_piece = old.pieces; layer = [] }
+      pub file_walked : (old new : Walk) (e : FileEntry) → IsWalkOver n before old
+          → file_of e ≡ record (file_at n no_dictionary (filter is_file before) p) { first_piece = old.pieces; layer = [] }
           → e.length ≤ max_file_length → new.files.items ≡ old.files.items ++ e ∷ [] → new.pieces ≡ old.pieces + piece_count n (length_of p)
-          → ((root : List ℕ) (m : ℕ) → is_other_length (length_at new.lengths root) m ≡ has_other_length (before ++ p ∷ []) root m) → IsWalkOver n (before ++ p ∷ []) new
+          → ((root : List ℕ) (m : ℕ) → is_other_length (length_at new.lengths root) m ≡ has_other_length (before ++ p ∷ []) root m)
+          → IsWalkOver n (before ++ p ∷ []) new
       file_walked old new e h is short entries pieces lengths =
           let f = file_at n no_dictionary in
           let at : pieces_of n (filter is_file before) ≡ pieces_of n before = ap (sum_by (λ q. piece_count n (length_of q))) (filter_twice is_file before) in
@@ -89,13 +93,15 @@ module _ (n : ℕ) (before : List TreeEntry) where
           record {
             files = pushed ∙ rw (h.files, same, filter_file, with_earlier-append f [] (filter is_file before) (p ∷ [])) refl;
             pieces = pieces ∙ rw (h.pieces, pieces_push) refl;
-            short = All-same (λ (g : File). g.length ≤ max_file_length) _ _ pushed (All-push (λ (g : File). g.length ≤ max_file_length) (map file_of old.files.items) (file_of e) h.short short);
+            short = All-same (λ (g : File). g.length ≤ max_file_length) _ _ pushed
+                (All-push (λ (g : File). g.length ≤ max_file_length) (map file_of old.files.items) (file_of e) h.short short);
             lengths = lengths;
           }
 
     pub folder_walked : (w : Walk) → IsWalkOver n before w → is_file p ≡ false → IsWalkOver n (before ++ p ∷ []) w
     folder_walked w h folder =
-        let same : filter is_file (before ++ p ∷ []) ≡ filter is_file before = filter-append is_file before (p ∷ []) ∙ rw (folder, append-nil (filter is_file before)) refl in
+        let same : filter is_file (before ++ p ∷ []) ≡ filter is_file before = filter-append is_file before (p ∷ [])
+        ∙ rw (folder, append-nil (filter is_file before)) refl in
         record {
           files = rw same h.files;
           pieces = rw same h.pieces;

@@ -11,7 +11,8 @@ use Rattle.bt_meta.specs.declared.walk.Walk.{Walk}
 use Rattle.bt_meta.specs.declared.error.MetaError.{MetaError}
 use Rattle.bt_meta.proofs.Checks.{first_of-append, first_of-append_some}
 
-pub with_earlier-append : {A B : Type 0} (f : List A → A → B) (before xs ys : List A) → with_earlier f before (xs ++ ys) ≡ with_earlier f before xs ++ with_earlier f (before ++ xs) ys
+pub with_earlier-append : {A B : Type 0} (f : List A → A → B) (before xs ys : List A)
+    → with_earlier f before (xs ++ ys) ≡ with_earlier f before xs ++ with_earlier f (before ++ xs) ys
 with_earlier-append f before [] ys = ap (λ b. with_earlier f b ys) (sym (append-nil before))
 with_earlier-append f before (x ∷ xs) ys = ap (λ r. f before x ∷ r) (with_earlier-append f (before ++ x ∷ []) xs ys ∙ rw (append_assoc before (x ∷ []) xs) refl)
 
@@ -55,7 +56,8 @@ module _ (path : List (List ℕ)) where
   among_key [] d es = refl
   among_key (byte ∷ bytes) d es = rw (append-nil (tree_entries_below (path ++ (byte ∷ bytes) ∷ []) d)) refl
 
-  among-append : (xs ys : List (Vec ℕ × Data)) → tree_entries_among path (entries_from (xs ++ ys)) ≡ tree_entries_among path (entries_from xs) ++ tree_entries_among path (entries_from ys)
+  among-append : (xs ys : List (Vec ℕ × Data))
+      → tree_entries_among path (entries_from (xs ++ ys)) ≡ tree_entries_among path (entries_from xs) ++ tree_entries_among path (entries_from ys)
   unfolding tree_entries_among
   among-append [] ys = refl
   among-append (e ∷ xs) ys =
@@ -67,12 +69,14 @@ module _ (path : List (List ℕ)) where
 
   module _ (es : List (Vec ℕ × Value)) (i : ℕ) (e : Vec ℕ × Value) (lt : i < length es) (is : e ≡ get_or es i e) where
     -- the tree entries of the first i keys, with one key more
-    entries_more : tree_entries_among path (entries_of (take (i + 1) es)) ≡ tree_entries_among path (entries_of (take i es)) ++ tree_entries_of path e.0.items (data_of e.1)
+    entries_more : tree_entries_among path (entries_of (take (i + 1) es)) ≡ tree_entries_among path
+        (entries_of (take i es)) ++ tree_entries_of path e.0.items (data_of e.1)
     entries_more = rw (take_more es i e lt, ← is, map-append entry_data (take i es) (e ∷ [])) (among-append _ _)
 
     -- all tree entries: those of the first i keys, of the next, and of the rest
     entries_split : tree_entries_among path (entries_of es)
-        ≡ tree_entries_among path (entries_of (take i es)) ++ (tree_entries_of path e.0.items (data_of e.1) ++ tree_entries_among path (entries_of (drop (i + 1) es)))
+        ≡ tree_entries_among path (entries_of (take i es)) ++
+        (tree_entries_of path e.0.items (data_of e.1) ++ tree_entries_among path (entries_of (drop (i + 1) es)))
     entries_split =
         let rest : drop i es ≡ e ∷ drop (i + 1) es = drop_more es i e lt ∙ ap (λ x. x ∷ drop (i + 1) es) (sym is) in
         let whole : es ≡ take i es ++ e ∷ drop (i + 1) es = sym (take-append-drop i es) ∙ ap (λ xs. take i es ++ xs) rest in
@@ -80,10 +84,12 @@ module _ (path : List (List ℕ)) where
         ∙ rw (map-append entry_data (take i es) (e ∷ drop (i + 1) es), ← among_key e.0.items (data_of e.1) (entries_of (drop (i + 1) es))) (among-append _ _)
 
     module _ {n : ℕ} {old mid : Walk} (passed : Passes n (tree_entries_among path (entries_of (take i es))) old mid) where
-      pub folder_stops : {fault : MetaError} → Stops n (tree_entries_of path e.0.items (data_of e.1)) mid fault → Stops n (tree_entries_among path (entries_of es)) old fault
+      pub folder_stops : {fault : MetaError} → Stops n (tree_entries_of path e.0.items (data_of e.1)) mid fault
+          → Stops n (tree_entries_among path (entries_of es)) old fault
       folder_stops stopped = rw entries_split (stops_later passed (stops_sooner (tree_entries_of path e.0.items (data_of e.1)) _ stopped))
 
-      pub folder_passes_more : (new : Walk) → Passes n (tree_entries_of path e.0.items (data_of e.1)) mid new → Passes n (tree_entries_among path (entries_of (take (i + 1) es))) old new
+      pub folder_passes_more : (new : Walk) → Passes n (tree_entries_of path e.0.items (data_of e.1)) mid new
+          → Passes n (tree_entries_among path (entries_of (take (i + 1) es))) old new
       folder_passes_more new more = rw entries_more (passes_more passed more)
 
 -- what is of an entry itself and below it is of its key

@@ -37,10 +37,12 @@ some_of_filter test (x ∷ xs) = elim (cases_Bool (test x)) [
 ]
 
 module _ (n : ℕ) (layers : Data) where
-  sums : (before es : List TreeEntry) → sum_by (λ f. piece_count n f.length) (with_earlier (file_at n layers) before es) ≡ sum_by (λ p. piece_count n (length_of p)) es
+  sums : (before es : List TreeEntry)
+      → sum_by (λ f. piece_count n f.length) (with_earlier (file_at n layers) before es) ≡ sum_by (λ p. piece_count n (length_of p)) es
   sums before [] = refl
   sums before (p ∷ es) =
-      sum_by-cons (λ (f : File). piece_count n f.length) (file_at n layers before p) (with_earlier (file_at n layers) (before ++ p ∷ []) es) ∙ rw (sums (before ++ p ∷ []) es) (sym (sum_by-cons (λ (q : TreeEntry). piece_count n (length_of q)) p es))
+      sum_by-cons (λ (f : File). piece_count n f.length) (file_at n layers before p) (with_earlier (file_at n layers) (before ++ p ∷ []) es)
+      ∙ rw (sums (before ++ p ∷ []) es) (sym (sum_by-cons (λ (q : TreeEntry). piece_count n (length_of q)) p es))
 
   pub same_sum : (tree : Data) → sum_by (λ f. piece_count n f.length) (files_of n layers tree) ≡ pieces_of n (tree_entries_below [] tree)
   unfolding files_of
@@ -64,7 +66,11 @@ module _ (n : ℕ) (tree : Data) where
 
     module _ {old : Walk} (h : IsWalkOver n [] old) where
       pub tree_stops : {e : MetaError} → Stops n es old e → Refuses (first_of (tree_checks n tree)) e
-      tree_stops s = elim (s.refused [] h) [ inl m ↦ inl m | inr k ↦ inr (top_passed ∙ first_of-append_some (with_earlier (entry_check n) [] es) (last ∷ []) _ k) ]
+      tree_stops s = elim (s.refused [] h) [
+        | inl m ↦ inl m
+        | inr k ↦ inr
+            (top_passed ∙ first_of-append_some (with_earlier (entry_check n) [] es) (last ∷ []) _ k)
+      ]
 
       module _ {new : Walk} (s : Passes n es old new) where
         to_last : {b : Bool} → b ≡ (length new.files.items == 0) → first_of (tree_checks n tree) ≡ first_of (fault_if (not (not b)) Tree ∷ [])
@@ -76,7 +82,8 @@ module _ (n : ℕ) (tree : Data) where
         pub no_file : true ≡ (length new.files.items == 0) → first_of (tree_checks n tree) ≡ Some Tree
         no_file e = to_last e
 
-        pub whole_tree : {listing : Listing} → false ≡ (length new.files.items == 0) → listing.files ≡ new.files → listing.pieces ≡ new.pieces → IsListing n tree listing
+        pub whole_tree : {listing : Listing} → false ≡ (length new.files.items == 0) → listing.files ≡ new.files → listing.pieces ≡ new.pieces
+            → IsListing n tree listing
         unfolding files_of
         whole_tree e files pieces =
             let walked = (s.over [] h).0 in

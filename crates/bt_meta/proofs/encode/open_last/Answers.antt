@@ -18,17 +18,21 @@ returns-in_default c path behind =
 pub returns-then-eq : goal.returns-then-eq
 returns-then-eq c path behind =
     let named = (bytes_eq-Decides c.in-Some.key.items c.args.name.now).0 (rw (← c.as_slice.ensures.value) (sym c.if-eq.ensures)) in
-    rw (c.in-Some.ensures.items) (opened_folder c.args.name.now path c.pop.new.self.items c.in-Some.key c.in-Some.value (entries_of c.in-Ok.inner.items) c.in-Ok.ensures.entries named
+    rw (c.in-Some.ensures.items) (opened_folder c.args.name.now path c.pop.new.self.items c.in-Some.key c.in-Some.value
+    (entries_of c.in-Ok.inner.items) c.in-Ok.ensures.entries named
     (rw (c.in-Some.ensures.items) at behind))
 
 pub returns-in_ok-push-in-Ok : goal.returns-in_ok-push-in-Ok
 returns-in_ok-push-in-Ok c path behind =
     let same : entries_of c.push.new.self.items ≡ entries_of c.args.folder.items =
     ap entries_of c.in_ok-push-in-Ok.ensures.items ∙ entries_push c.pop.new.self.items c.in-Some.key (views.Dict c.in-Ok.inner)
-    ∙ ap (λ d. entries_before (entries_of c.pop.new.self.items) (entry c.in-Some.key.items d no_entries)) (data_of-Dict c.in-Ok.inner ∙ sym c.in-Ok.ensures.entries)
+    ∙ ap (λ d. entries_before (entries_of c.pop.new.self.items) (entry c.in-Some.key.items d no_entries))
+    (data_of-Dict c.in-Ok.inner ∙ sym c.in-Ok.ensures.entries)
     ∙ sym (entries_push c.pop.new.self.items c.in-Some.key c.in-Some.value) ∙ ap entries_of (sym c.in-Some.ensures.items) in
     rw (same, c.new-in-Ok.ensures.items) (rw (c.in-Some.ensures.items) (opened_other c.args.name.now path c.pop.new.self.items c.in-Some.key c.in-Some.value
-    (λ inner seen named. false≢true (c.if-eq.ensures ∙ rw (c.as_slice.ensures.value) ((bytes_eq-Decides c.in-Some.key.items c.args.name.now).1 named))) (rw (c.in-Some.ensures.items) at behind)))
+    (λ inner seen named. false≢true
+    (c.if-eq.ensures ∙ rw (c.as_slice.ensures.value) ((bytes_eq-Decides c.in-Some.key.items c.args.name.now).1 named)))
+    (rw (c.in-Some.ensures.items) at behind)))
 
 pub returns-in_ok-push-in-Err : goal.returns-in_ok-push-in-Err
 returns-in_ok-push-in-Err c path behind =
@@ -36,5 +40,7 @@ returns-in_ok-push-in-Err c path behind =
     ap entries_of c.in_ok-push-in-Err.ensures.items ∙ entries_push c.pop.new.self.items c.in-Some.key c.in-Err.other
     ∙ ap (λ d. entries_before (entries_of c.pop.new.self.items) (entry c.in-Some.key.items d no_entries)) c.in-Err.ensures.back
     ∙ sym (entries_push c.pop.new.self.items c.in-Some.key c.in-Some.value) ∙ ap entries_of (sym c.in-Some.ensures.items) in
-    rw (same, c.new-in-Err.ensures.items) (rw (c.in-Some.ensures.items) (opened_other c.args.name.now path c.pop.new.self.items c.in-Some.key c.in-Some.value (λ inner seen named. c.in-Err.ensures.other inner seen)
+    rw (same, c.new-in-Err.ensures.items)
+    (rw (c.in-Some.ensures.items) (opened_other c.args.name.now path c.pop.new.self.items c.in-Some.key c.in-Some.value
+    (λ inner seen named. c.in-Err.ensures.other inner seen)
     (rw (c.in-Some.ensures.items) at behind)))

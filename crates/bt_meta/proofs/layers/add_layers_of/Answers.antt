@@ -25,7 +25,9 @@ returns-in_err-add_layer-clause-refused c =
     let less : c.loop-file.file-index < length c.args.files.now = c.loop-file-test.true in
     let lt : c.loop-file.file-index < length c.loop-file.files = omega arith in
     let item = unchanged_item file_of _ c.loop-file.file-index c.args.files.now c.loop-file.files c.file-item.result lt less c.file-item.is c.loop-file.invariant.changed in
-    rw (q.1, q.2, map-map) (refused_at (λ (f : FileEntry). layer_fault c.args.piece_length (dictionary (entries_of c.args.entries.now)) (file_of f)) c.loop-file.file-index c.args.files.now c.file-item.result less item c.loop-file.invariant.faultless
+    rw (q.1, q.2, map-map) (refused_at
+    (λ (f : FileEntry). layer_fault c.args.piece_length (dictionary (entries_of c.args.entries.now))
+    (file_of f)) c.loop-file.file-index c.args.files.now c.file-item.result less item c.loop-file.invariant.faultless
     (rw c.file-item.is c.in_err-add_layer.ensures.refused))
 
 pub loop-file-preserved : goal.loop-file-preserved
@@ -39,13 +41,17 @@ loop-file-preserved c =
     record {
       changed = changed_more file_of W c.loop-file.file-index c.args.files.now c.loop-file.files e lt less c.file-item.is c.loop-file.invariant.changed c.add_layer.new.file
           (c.in_ok-add_layer.ensures.whole ∙ ap (λ f. with_layer c.args.piece_length layers (file_of f)) (sym c.file-item.is));
-      faultless = faultless_more (λ (f : FileEntry). layer_fault c.args.piece_length layers (file_of f)) c.loop-file.file-index c.args.files.now e less item c.loop-file.invariant.faultless
+      faultless = faultless_more (λ (f : FileEntry). layer_fault c.args.piece_length layers
+          (file_of f)) c.loop-file.file-index c.args.files.now e less item c.loop-file.invariant.faultless
           (ap (λ f. layer_fault c.args.piece_length layers (file_of f)) c.file-item.is ∙ c.in_ok-add_layer.ensures.faultless);
     }
 
 pub returns-clause-whole : goal.returns-clause-whole
 returns-clause-whole c =
-    all_changed file_of (with_layer c.args.piece_length (dictionary (entries_of c.args.entries.now))) c.loop-file.file-index c.args.files.now c.loop-file.files (omega arith) (omega arith) c.loop-file.invariant.changed
+    all_changed file_of (with_layer c.args.piece_length
+    (dictionary (entries_of c.args.entries.now))) c.loop-file.file-index c.args.files.now c.loop-file.files (omega arith)
+    (omega arith) c.loop-file.invariant.changed
 
 pub returns-clause-faultless : goal.returns-clause-faultless
-returns-clause-faultless c = let all : take c.loop-file.file-index c.args.files.now ≡ c.args.files.now = take_all c.loop-file.file-index c.args.files.now (omega arith) in rw map-map (rw all at c.loop-file.invariant.faultless)
+returns-clause-faultless c = let all : take c.loop-file.file-index c.args.files.now ≡ c.args.files.now =
+    take_all c.loop-file.file-index c.args.files.now (omega arith) in rw map-map (rw all at c.loop-file.invariant.faultless)

@@ -14,8 +14,10 @@ returns-in-Ok c =
 pub returns-in-Err-Size : goal.returns-in-Err-Size
 returns-in-Err-Size c =
     let k : c.height.result ≡ piece_layer_of c.args.piece_length = c.height.ensures.value ∙ ap (λ n. height_of (block_count n)) c.shape-piece.ensures in
-    let inside = layer_inside c.args.piece_length c.args.length (height_of (block_count c.args.length)) c.height.result c.requires.long (rw c.shape-piece.ensures at c.height.ensures.least) (height_is (block_count c.args.length)) in
-    layer_sized_wrong c.args.piece_length c.args.length c.args.root.now c.args.layer.now k inside (rw c.shape.ensures at (c.check_layer.ensures.size.0 (c.in-Err-Size.is ∙ ap Err c.in-Err-Size.field-0-is)))
+    let inside = layer_inside c.args.piece_length c.args.length (height_of (block_count c.args.length)) c.height.result c.requires.long
+    (rw c.shape-piece.ensures at c.height.ensures.least) (height_is (block_count c.args.length)) in
+    layer_sized_wrong c.args.piece_length c.args.length c.args.root.now c.args.layer.now k inside
+    (rw c.shape.ensures at (c.check_layer.ensures.size.0 (c.in-Err-Size.is ∙ ap Err c.in-Err-Size.field-0-is)))
 
 pub returns-in-Err-Differs : goal.returns-in-Err-Differs
 returns-in-Err-Differs c =

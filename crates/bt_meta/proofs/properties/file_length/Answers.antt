@@ -10,7 +10,8 @@ use Rattle.bt_meta.proofs.properties.file_length.Goals as goal
 
 pub returns-in_err-length : goal.returns-in_err-length
 unfolding has_lawful_length length_in
-returns-in_err-length c = c.from_residual.ensures ∙ left_nowhere (natural_at (data_of c.args.properties.now) (codes "length")) (λ n. nat_le n (2 ^ 40)) c.in_err-length.ensures
+returns-in_err-length c = c.from_residual.ensures
+    ∙ left_nowhere (natural_at (data_of c.args.properties.now) (codes "length")) (λ n. nat_le n (2 ^ 40)) c.in_err-length.ensures
 
 pub returns-then-length-gt-MAX_FILE_LENGTH : goal.returns-then-length-gt-MAX_FILE_LENGTH
 unfolding has_lawful_length length_in

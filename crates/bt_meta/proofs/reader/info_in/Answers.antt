@@ -19,16 +19,20 @@ returns-in_err-head-clause-refused c =
 pub returns-in_err-listing-clause-refused : goal.returns-in_err-listing-clause-refused
 returns-in_err-listing-clause-refused c =
     let q = err_from_is_err_and c.from_residual-in_err-listing.result c.from_residual-in_err-listing.ensures.1 in
-    rw (q.1, q.2) (refuses_as (first_info_fault_in (data_of c.args.info.now) c.if-not-is_dictionary.ensures ∙ info_faults c.in_ok-head.ensures) c.in_err-listing.ensures)
+    rw (q.1, q.2) (refuses_as (first_info_fault_in (data_of c.args.info.now) c.if-not-is_dictionary.ensures
+    ∙ info_faults c.in_ok-head.ensures) c.in_err-listing.ensures)
 
 pub torrent_of-requires-clause-lawful : goal.torrent_of-requires-clause-lawful
 torrent_of-requires-clause-lawful c =
     let d = data_of c.args.info.now in
     let faultless = first_info_fault_in d c.if-not-is_dictionary.ensures ∙ info_faults c.in_ok-head.ensures ∙ c.in_ok-listing.ensures.faultless in
-    keeps_to (metainfo_is no_dictionary (map file_of c.in_ok-listing.listing.files.items) c.in_ok-head.ensures c.in_ok-listing.ensures.files) (info_keeps_to d c.requires faultless)
+    keeps_to (metainfo_is no_dictionary (map file_of c.in_ok-listing.listing.files.items) c.in_ok-head.ensures c.in_ok-listing.ensures.files)
+    (info_keeps_to d c.requires faultless)
 
 pub returns-clause-faultless : goal.returns-clause-faultless
-returns-clause-faultless c = first_info_fault_in (data_of c.args.info.now) c.if-not-is_dictionary.ensures ∙ info_faults c.in_ok-head.ensures ∙ c.in_ok-listing.ensures.faultless
+returns-clause-faultless c = first_info_fault_in (data_of c.args.info.now) c.if-not-is_dictionary.ensures ∙ info_faults c.in_ok-head.ensures
+    ∙ c.in_ok-listing.ensures.faultless
 
 pub returns-clause-described : goal.returns-clause-described
-returns-clause-described c = c.in_ok-torrent.ensures ∙ sym (metainfo_is no_dictionary (map file_of c.in_ok-listing.listing.files.items) c.in_ok-head.ensures c.in_ok-listing.ensures.files)
+returns-clause-described c = c.in_ok-torrent.ensures
+    ∙ sym (metainfo_is no_dictionary (map file_of c.in_ok-listing.listing.files.items) c.in_ok-head.ensures c.in_ok-listing.ensures.files)

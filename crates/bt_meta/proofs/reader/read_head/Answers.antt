@@ -20,7 +20,8 @@ returns-in_default c = head_name (data_of c.args.info.now) c.in_ok-check_version
 pub returns-in_default-piece_length : goal.returns-in_default-piece_length
 returns-in_default-piece_length c =
     let info = data_of c.args.info.now in
-    head_length info c.in_ok-check_version.ensures c.if-is_hybrid.ensures c.in-Some.ensures (dropped (lawful_in info) (piece_length_of info) c.in_default-piece_length.ensures)
+    head_length info c.in_ok-check_version.ensures c.if-is_hybrid.ensures c.in-Some.ensures
+    (dropped (lawful_in info) (piece_length_of info) c.in_default-piece_length.ensures)
 
 pub returns-in_default-dictionary : goal.returns-in_default-dictionary
 returns-in_default-dictionary c =
@@ -33,4 +34,9 @@ returns c =
     let info = data_of c.args.info.now in
     let length = kept (lawful_in info) (piece_length_of info) c.in-Some-piece_length.piece_length c.in-Some-piece_length.ensures in
     head_is info c.in_ok-check_version.ensures c.if-is_hybrid.ensures c.in-Some.ensures length.0
-    (record { name = c.in-Some.name; piece_length = c.in-Some-piece_length.piece_length; tree = c.in-Some-dictionary.tree }) refl length.1 c.in-Some-dictionary.ensures
+    (record {
+      name = c.in-Some.name;
+      piece_length = c.in-Some-piece_length.piece_length;
+      tree =
+          c.in-Some-dictionary.tree;
+    }) refl length.1 c.in-Some-dictionary.ensures

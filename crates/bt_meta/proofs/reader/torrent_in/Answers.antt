@@ -26,7 +26,8 @@ returns-in_err-listing-clause-refused c =
 pub returns-in_err-add_layers-clause-refused : goal.returns-in_err-add_layers-clause-refused
 returns-in_err-add_layers-clause-refused c =
     let q = err_from_is_err_and c.from_residual-in_err-add_layers.result c.from_residual-in_err-add_layers.ensures.1 in
-    rw (q.1, q.2) (refuses_as (torrent_layers (data_of c.args.value.now) c.in-Some.ensures c.in_ok-head.ensures c.in_ok-listing.ensures) c.in_err-add_layers.ensures.refused)
+    rw (q.1, q.2) (refuses_as (torrent_layers
+    (data_of c.args.value.now) c.in-Some.ensures c.in_ok-head.ensures c.in_ok-listing.ensures) c.in_err-add_layers.ensures.refused)
 
 pub torrent_of-requires-clause-lawful : goal.torrent_of-requires-clause-lawful
 torrent_of-requires-clause-lawful c =
@@ -35,17 +36,21 @@ torrent_of-requires-clause-lawful c =
     let pl = c.in_ok-head.head.piece_length in
     let tree = data_of c.in_ok-head.head.tree.now in
     let all = map file_of c.add_layers.new.files.items in
-    let files : all ≡ files_of pl layers tree = c.in_ok-add_layers.ensures.whole ∙ ap (map (with_layer pl layers)) c.in_ok-listing.ensures.files ∙ files_with_layers pl layers tree in
+    let files : all ≡ files_of pl layers tree = c.in_ok-add_layers.ensures.whole ∙ ap (map (with_layer pl layers)) c.in_ok-listing.ensures.files
+    ∙ files_with_layers pl layers tree in
     let faultless = torrent_layers d c.in-Some.ensures c.in_ok-head.ensures c.in_ok-listing.ensures ∙ c.in_ok-add_layers.ensures.faultless in
-    keeps_to (ap (λ i. metainfo_of i layers) (info_is d c.in-Some.ensures) ∙ metainfo_is layers all c.in_ok-head.ensures files) (torrent_keeps_to d c.requires faultless)
+    keeps_to (ap (λ i. metainfo_of i layers) (info_is d c.in-Some.ensures) ∙ metainfo_is layers all c.in_ok-head.ensures files)
+    (torrent_keeps_to d c.requires faultless)
 
 pub torrent_of-requires-clause-counted : goal.torrent_of-requires-clause-counted
 torrent_of-requires-clause-counted c =
-    pieces_after c.in_ok-head.head.piece_length (layers_of (data_of c.args.value.now)) c.in_ok-listing.listing.pieces c.in_ok-listing.listing.files.items c.add_layers.new.files.items c.in_ok-listing.ensures.pieces
+    pieces_after c.in_ok-head.head.piece_length
+    (layers_of (data_of c.args.value.now)) c.in_ok-listing.listing.pieces c.in_ok-listing.listing.files.items c.add_layers.new.files.items c.in_ok-listing.ensures.pieces
     c.in_ok-add_layers.ensures.whole
 
 pub returns-clause-faultless : goal.returns-clause-faultless
-returns-clause-faultless c = torrent_layers (data_of c.args.value.now) c.in-Some.ensures c.in_ok-head.ensures c.in_ok-listing.ensures ∙ c.in_ok-add_layers.ensures.faultless
+returns-clause-faultless c = torrent_layers (data_of c.args.value.now) c.in-Some.ensures c.in_ok-head.ensures c.in_ok-listing.ensures
+    ∙ c.in_ok-add_layers.ensures.faultless
 
 pub returns-clause-described : goal.returns-clause-described
 returns-clause-described c =

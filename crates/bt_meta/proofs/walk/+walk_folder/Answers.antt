@@ -25,16 +25,19 @@ returns-in_err-inner-clause-stopped t c =
     let q = err_from_is_err_and c.from_residual.result c.from_residual.ensures.1 in
     let path = folder_elements c.args.path.now in
     let es = c.deref-key-items.result.now in
-    let folder : data_of c.args.folder.now ≡ dictionary (entries_of es) = ap data_of c.in-Dict.is ∙ data_of-Dict c.in-Dict.entries ∙ ap (λ xs. dictionary (entries_of xs)) (sym c.deref-key-items.ensures.value) in
+    let folder : data_of c.args.folder.now ≡ dictionary (entries_of es) = ap data_of c.in-Dict.is ∙ data_of-Dict c.in-Dict.entries
+    ∙ ap (λ xs. dictionary (entries_of xs)) (sym c.deref-key-items.ensures.value) in
     rw (q.1, q.2, below_entries path (data_of c.args.folder.now) (entries_of es) folder)
-    (folder_stops path es c.loop-key.key-index c.loop-key-item.result c.loop-key-test.true c.loop-key-item.is c.loop-key.invariant (rw (← c.deref.ensures.value) c.in_err-inner.ensures))
+    (folder_stops path es c.loop-key.key-index c.loop-key-item.result c.loop-key-test.true c.loop-key-item.is c.loop-key.invariant
+    (rw (← c.deref.ensures.value) c.in_err-inner.ensures))
 
 pub returns-in_err-walk_folder-clause-stopped : goal.returns-in_err-walk_folder-clause-stopped
 returns-in_err-walk_folder-clause-stopped t c =
     let q = err_from_is_err_and c.from_residual-in_err-walk_folder.result c.from_residual-in_err-walk_folder.ensures.1 in
     let path = folder_elements c.args.path.now in
     let es = c.deref-key-items.result.now in
-    let folder : data_of c.args.folder.now ≡ dictionary (entries_of es) = ap data_of c.in-Dict.is ∙ data_of-Dict c.in-Dict.entries ∙ ap (λ xs. dictionary (entries_of xs)) (sym c.deref-key-items.ensures.value) in
+    let folder : data_of c.args.folder.now ≡ dictionary (entries_of es) = ap data_of c.in-Dict.is ∙ data_of-Dict c.in-Dict.entries
+    ∙ ap (λ xs. dictionary (entries_of xs)) (sym c.deref-key-items.ensures.value) in
     let entered = rw (c.deref.ensures.value, c.in-Some.is) at c.in_ok-inner.ensures in
     rw (q.1, q.2, below_entries path (data_of c.args.folder.now) (entries_of es) folder)
     (folder_stops path es c.loop-key.key-index c.loop-key-item.result c.loop-key-test.true c.loop-key-item.is c.loop-key.invariant
@@ -44,7 +47,8 @@ pub returns-clause-passed : goal.returns-clause-passed
 returns-clause-passed t c =
     let path = folder_elements c.args.path.now in
     let es = c.deref-key-items.result.now in
-    let folder : data_of c.args.folder.now ≡ dictionary (entries_of es) = ap data_of c.in-Dict.is ∙ data_of-Dict c.in-Dict.entries ∙ ap (λ xs. dictionary (entries_of xs)) (sym c.deref-key-items.ensures.value) in
+    let folder : data_of c.args.folder.now ≡ dictionary (entries_of es) = ap data_of c.in-Dict.is ∙ data_of-Dict c.in-Dict.entries
+    ∙ ap (λ xs. dictionary (entries_of xs)) (sym c.deref-key-items.ensures.value) in
     let whole : take c.loop-key.key-index es ≡ es = take_all c.loop-key.key-index es (omega arith) in
     rw (below_entries path (data_of c.args.folder.now) (entries_of es) folder) (rw whole at c.loop-key.invariant)
 

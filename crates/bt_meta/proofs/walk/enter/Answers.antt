@@ -45,7 +45,8 @@ returns-then-folder_length-ge-MAX_PATH_LENGTH c =
     let d = data_of c.args.value.now in
     let named = kept (is_path_element key) key c.in-Some-path_element.name.now c.in-Some-path_element.ensures in
     let node = rw c.in-Folder.is at c.in-Some.ensures in
-    entry_stops path key d (key_entries path key d c.if-is_empty.ensures) (folder_many path key d node.0 named.0 node.1 (omega (arith, c.if-folder_length-ge-MAX_PATH_LENGTH.true)))
+    entry_stops path key d (key_entries path key d c.if-is_empty.ensures)
+    (folder_many path key d node.0 named.0 node.1 (omega (arith, c.if-folder_length-ge-MAX_PATH_LENGTH.true)))
 
 pub returns-in_ok-add_file-in-File : goal.returns-in_ok-add_file-in-File
 returns-in_ok-add_file-in-File c =

@@ -10,7 +10,8 @@ pub returns-then-not-has : goal.returns-then-not-has
 returns-then-not-has c = (folder_node (data_of c.args.value.now) (sym c.if-not-is_dictionary.ensures) (sym c.if-not-has.ensures), sym c.if-not-has.ensures)
 
 pub returns-then-not-is_single : goal.returns-then-not-is_single
-returns-then-not-is_single c = crowded_node (data_of c.args.value.now) (sym c.if-not-is_dictionary.ensures) (sym c.if-not-has.ensures) (sym c.if-not-is_single.ensures)
+returns-then-not-is_single c = crowded_node (data_of c.args.value.now) (sym c.if-not-is_dictionary.ensures) (sym c.if-not-has.ensures)
+    (sym c.if-not-is_single.ensures)
 
 pub returns-in-Some : goal.returns-in-Some
 returns-in-Some c =
@@ -22,4 +23,5 @@ returns-in-Some c =
     )
 
 pub returns-in-None : goal.returns-in-None
-returns-in-None c = empty_node (data_of c.args.value.now) (sym c.if-not-is_dictionary.ensures) (sym c.if-not-has.ensures) (sym c.if-not-is_single.ensures) c.in-None.ensures
+returns-in-None c = empty_node (data_of c.args.value.now) (sym c.if-not-is_dictionary.ensures) (sym c.if-not-has.ensures)
+    (sym c.if-not-is_single.ensures) c.in-None.ensures

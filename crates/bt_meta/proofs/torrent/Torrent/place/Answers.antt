@@ -41,5 +41,6 @@ returns-clause-some c =
     let last : IsLastFileAt torrent.files c.args.piece c.in-Some.index = c.in-Some.ensures.some in
     let found = entry_at torrent.files c.self.inside.files.items same c.in-Some.index e c.index-file.ensures last.listed in
     let some : 1 ≤ c.args.length = omega (arith, c.if-length-eq0.false) in
-    rw (ap (λ t. t.piece_length) c.self.view_is) (place_at torrent c.args.piece c.args.begin c.args.length c.in-Some.index (file_of e) last found some c.if-length-gt-MAX_RANGE.false
+    rw (ap (λ t. t.piece_length) c.self.view_is)
+    (place_at torrent c.args.piece c.args.begin c.args.length c.in-Some.index (file_of e) last found some c.if-length-gt-MAX_RANGE.false
     (rw (← ap (λ t. t.piece_length) c.self.view_is) c.if-end-self.false) (rw (← ap (λ t. t.piece_length) c.self.view_is) c.if-at-end.false))
