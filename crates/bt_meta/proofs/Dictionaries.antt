@@ -7,10 +7,9 @@ use Rattle.std.specs.Global.{Vec}
 use Rattle.std.proofs.lemmas.List.{append-nil}
 use Rattle.std.proofs.lemmas.Bool.{cases_Bool}
 use Rattle.std.proofs.lemmas.Bool.Decides.{nat_tests}
-use Rattle.bt_bencode.specs.Value.{Data, integer, string, list, dictionary, Entries, no_entries, entry}
+use Rattle.bt_bencode.specs.Value.{Data, integer, string, list, dictionary, Entries, no_entries, entry, data_of, entries_of}
 use Rattle.bt_bencode.specs.Dictionary.{field_of, first_value_of}
 use Rattle.bt_bencode.specs.Doc.{HasAscendingKeys, EntriesAscend}
-use Rattle.bt_bencode.specs.Value.{data_of, entries_of}
 use Rattle.bt_bencode.proofs.ValueData.{data_of-Int, data_of-Bytes, data_of-List}
 use Rattle.bt_bencode.specs.declared.value.Value.TheViews as views
 use Rattle.bt_bencode.specs.declared.value.Value.{Value, Int, Bytes}

@@ -9,9 +9,8 @@ use Rattle.std.specs.declared.cmp.Ordering.{Ordering}
 use Rattle.std.specs.declared.cmp.Ordering.TheVariants.{Equal, Greater}
 use Rattle.std.proofs.lemmas.Cmp.{tied_itself}
 use Rattle.std.proofs.lemmas.Map.Text.{is_eq-slice_cmp}
-use Rattle.bt_bencode.specs.Value.{Data, dictionary, Entries, no_entries, entry}
+use Rattle.bt_bencode.specs.Value.{Data, dictionary, Entries, no_entries, entry, data_of, entries_of}
 use Rattle.bt_bencode.specs.Dictionary.{first_value_of}
-use Rattle.bt_bencode.specs.Value.{data_of, entries_of}
 use Rattle.bt_bencode.specs.declared.value.Value.{Value}
 use Rattle.bt_meta.specs.Encode.{with_entry, with_file}
 use Rattle.bt_meta.specs.EncodeSteps.{entries_before, AreBefore, ComesAfter, HasLastFolder}

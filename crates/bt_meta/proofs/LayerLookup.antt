@@ -9,10 +9,9 @@ use Rattle.std.specs.declared.cmp.Ordering.TheVariants.{Less, Equal, Greater}
 use Rattle.std.proofs.lemmas.Bool.{cases_lt, false_from_ne_true}
 use Rattle.std.proofs.lemmas.Cmp.{nat_list_cmp_total, tied_itself}
 use Rattle.std.proofs.lemmas.Slice.Eq.{bytes_eq-Decides}
-use Rattle.bt_bencode.specs.Value.{Data, Entries, entry}
+use Rattle.bt_bencode.specs.Value.{Data, Entries, entry, data_of, entries_of}
 use Rattle.bt_bencode.specs.Dictionary.{first_value_of}
 use Rattle.bt_bencode.specs.Doc.{EntriesAscend, IsBefore}
-use Rattle.bt_bencode.specs.Value.{data_of, entries_of}
 use Rattle.bt_bencode.specs.declared.value.Value.{Value}
 
 abbrev key_cmp : List ℕ → List ℕ → Ordering

@@ -1,23 +1,19 @@
 -- What was taken of the files that a torrent is made of.
 use Rattle.std.proofs.Common.{◌≡◌, ℕ, ◌+◌, ◌<◌, ◌≤◌, Bool, false, List, [], ◌∷◌, ◌++◌, length, map, None, refl, sym, ap, ◌∙◌, arith, inl, inr}
-use Rattle.std.specs.Prelude.{string_bytes, nat_eq, not, ◌&&◌, ◌||◌, ◌==◌}
-use Rattle.std.specs.Prelude.{String}
+use Rattle.std.specs.Prelude.{string_bytes, nat_eq, not, ◌&&◌, ◌||◌, ◌==◌, String, take, drop, get_or}
 use Rattle.std.specs.Global.{Global}
 use Rattle.std.specs.List.{list_all, All}
 use Rattle.std.proofs.lemmas.List.Elements.{All-nil, All-push}
 use Rattle.std.specs.Cmp.Lexicographic.{pointwise}
-use Rattle.std.proofs.lemmas.List.{length-map}
+use Rattle.std.proofs.lemmas.List.{length-map, map-append, take_all, take-append-drop, map_more, drop_more}
 use Rattle.std.proofs.lemmas.List.Folds.{list_any-append, list_all-map}
-use Rattle.bt_meta.specs.Faults.{first_of}
+use Rattle.bt_meta.specs.Faults.{first_of, is_element, is_path}
 use Rattle.bt_meta.specs.PropertySteps.{Lengths, length_at, is_other_length, NotesLength}
-use Rattle.std.specs.Prelude.{take, drop, get_or}
 use Rattle.std.proofs.Math.Bool.{or-false}
-use Rattle.std.proofs.lemmas.List.{map-append, take_all, take-append-drop, map_more, drop_more}
 use Rattle.bt_meta.specs.TreeEntries.{with_earlier}
 use Rattle.bt_meta.specs.Files.{is_conflict}
 use Rattle.bt_meta.specs.GivenFiles.{Given, given_of, HasRoot}
 use Rattle.bt_meta.specs.WriterRefusals.{Check, file_refusal, has_conflict}
-use Rattle.bt_meta.specs.Faults.{is_element, is_path}
 use Rattle.bt_meta.specs.WriterSteps.{IsTallyOf, IsWithinLimits, Refuses, RefusesFile}
 use Rattle.bt_meta.specs.declared.writer.Made.{Made}
 use Rattle.bt_meta.specs.declared.writer.MakeError.{MakeError}

@@ -1,8 +1,7 @@
 -- Adding a file to a walk.
 use Rattle.std.proofs.Common.{◌≡◌, ◌⊎◌, ℕ, ◌+◌, ◌<◌, ◌≤◌, Bool, true, false, List, [], ◌∷◌, ◌++◌, length, Option, None, Some, refl, sym, ap, ◌∙◌, arith, inl, inr}
-use Rattle.std.specs.Prelude.{codes, nat_lt, filter, not, ◌&&◌, ◌||◌, ◌==◌, unwrap_or}
+use Rattle.std.specs.Prelude.{codes, nat_lt, filter, not, ◌&&◌, ◌||◌, ◌==◌, unwrap_or, nat_le}
 use Rattle.std.specs.Option.{option_map_or}
-use Rattle.std.specs.Prelude.{nat_le}
 use Rattle.std.specs.List.{list_any, last_or}
 use Rattle.std.specs.Int.{div_ceil}
 use Rattle.std.proofs.Math.Bool.{or-false}

@@ -1,8 +1,7 @@
 use Rattle.std.proofs.Common.{arith, ◌≡◌, ◌∷◌, map, sym, ◌∙◌, ap}
 use Rattle.std.specs.Prelude.{string_bytes}
 use Rattle.std.proofs.lemmas.Result.{IfOk-weaker}
-use Rattle.bt_bencode.specs.Value.{dictionary, no_entries, entry}
-use Rattle.bt_bencode.specs.Value.{data_of, entries_of}
+use Rattle.bt_bencode.specs.Value.{dictionary, no_entries, entry, data_of, entries_of}
 use Rattle.bt_bencode.specs.declared.value.Value.TheViews as views
 use Rattle.bt_bencode.proofs.ValueData.{data_of-Dict}
 use Rattle.bt_meta.specs.Encode.{with_file}

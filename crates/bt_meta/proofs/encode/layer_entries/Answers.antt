@@ -1,7 +1,6 @@
 use Rattle.std.proofs.Common.{ap, ◌∙◌}
-use Rattle.bt_bencode.specs.Value.{string, no_entries, entry}
+use Rattle.bt_bencode.specs.Value.{string, no_entries, entry, entries_of}
 use Rattle.bt_bencode.specs.Dictionary.{first_value_of}
-use Rattle.bt_bencode.specs.Value.{entries_of}
 use Rattle.bt_bencode.proofs.ValueData.{data_of-Bytes}
 use Rattle.bt_meta.specs.EncodeSteps.{entries_before}
 use Rattle.bt_meta.proofs.EncodeLayers.{layer_list, list_more, list_found, list_ascends, list_finds}

@@ -1,8 +1,7 @@
 use Rattle.std.proofs.Common.{◌≡◌, ◌-◌, ◌++◌, [], take, sym, ◌∙◌, ap}
 use Rattle.std.proofs.lemmas.Slice.Eq.{bytes_eq-Decides}
-use Rattle.bt_bencode.specs.Value.{entries_of}
+use Rattle.bt_bencode.specs.Value.{entries_of, no_entries, entry}
 use Rattle.std.proofs.lemmas.Bool.{false≢true}
-use Rattle.bt_bencode.specs.Value.{no_entries, entry}
 use Rattle.bt_bencode.specs.declared.value.Value.TheViews as views
 use Rattle.bt_bencode.proofs.ValueData.{data_of-Dict}
 use Rattle.bt_meta.specs.EncodeSteps.{entries_before}

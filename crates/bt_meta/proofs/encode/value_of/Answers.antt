@@ -1,7 +1,6 @@
 use Rattle.std.proofs.Common.{◌∙◌, ap, map}
 use Rattle.std.specs.Prelude.{codes}
-use Rattle.bt_bencode.specs.Value.{dictionary, no_entries, entry}
-use Rattle.bt_bencode.specs.Value.{data_of, entries_of}
+use Rattle.bt_bencode.specs.Value.{dictionary, no_entries, entry, data_of, entries_of}
 use Rattle.bt_bencode.specs.declared.value.Value.TheViews as views
 use Rattle.bt_bencode.proofs.ValueData.{data_of-Dict}
 use Rattle.bt_meta.specs.Encode.{info_made}

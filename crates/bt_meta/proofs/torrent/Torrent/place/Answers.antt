@@ -3,7 +3,6 @@ use Rattle.bt_meta.specs.Files.{file_of}
 use Rattle.bt_meta.specs.Torrent.{IsLaidOut}
 use Rattle.bt_meta.specs.PlaceSteps.{IsLastFileAt}
 use Rattle.bt_meta.proofs.PlacePieces.{entry_at, fits, place_at}
-use Rattle.bt_meta.proofs.torrent.Torrent.place.Goals.{then-length-eq0-via-then-length-eq0, then-length-eq0-via-else-length-eq0+then-length-gt-MAX_RANGE, then-length-eq0-via-else-length-eq0+else-length-gt-MAX_RANGE+then-end-self, then-length-eq0-via-else-length-eq0+else-length-gt-MAX_RANGE+else-end-self+then-at-end}
 use Rattle.bt_meta.proofs.torrent.Torrent.place.Goals as goal
 
 pub overflow_sub-at : goal.overflow_sub-at
@@ -27,10 +26,10 @@ returns-then-length-eq0-clause-none c span place =
     let length = ap (λ t. t.piece_length) c.self.view_is in
     let begun = ap (λ t. (c.args.piece - e.first_piece) * t.piece_length) c.self.view_is in
     elim c.then-length-eq0.branch [
-      | then-length-eq0-via-then-length-eq0 w ↦ absurd (omega (arith, w.if-length-eq0.true, asked.0))
-      | then-length-eq0-via-else-length-eq0+then-length-gt-MAX_RANGE w ↦ absurd (omega (arith, w.if-length-gt-MAX_RANGE.true, asked.1))
-      | then-length-eq0-via-else-length-eq0+else-length-gt-MAX_RANGE+then-end-self w ↦ absurd (omega (arith, w.if-end-self.true, asked.2, length))
-      | then-length-eq0-via-else-length-eq0+else-length-gt-MAX_RANGE+else-end-self+then-at-end w ↦ absurd (omega (arith, w.if-at-end.true, asked.3, begun))
+      | goal.then-length-eq0-via-then-length-eq0 w ↦ absurd (omega (arith, w.if-length-eq0.true, asked.0))
+      | goal.then-length-eq0-via-else-length-eq0+then-length-gt-MAX_RANGE w ↦ absurd (omega (arith, w.if-length-gt-MAX_RANGE.true, asked.1))
+      | goal.then-length-eq0-via-else-length-eq0+else-length-gt-MAX_RANGE+then-end-self w ↦ absurd (omega (arith, w.if-end-self.true, asked.2, length))
+      | goal.then-length-eq0-via-else-length-eq0+else-length-gt-MAX_RANGE+else-end-self+then-at-end w ↦ absurd (omega (arith, w.if-at-end.true, asked.3, begun))
     ]
 
 pub returns-clause-some : goal.returns-clause-some
