@@ -3,7 +3,7 @@ use Rattle.std.proofs.Common.{subst, get_or, ◌≡◌, ◌≢◌, ℕ, ◌≤�
 use Rattle.std.specs.Prelude.{filter, nat_eq, nat_lt, not, ◌&&◌, ◌||◌, ◌==◌, sum_by, replicate, if◌then◌else◌}
 use Rattle.std.specs.List.{All, list_any}
 use Rattle.std.specs.Cmp.Lexicographic.{pointwise}
-use Rattle.std.proofs.lemmas.Bool.{cases_Bool}
+use Rattle.std.proofs.lemmas.Bool.{cases_Bool, true≢false}
 use Rattle.std.proofs.lemmas.Bool.Decides.{nat_tests}
 use Rattle.std.proofs.lemmas.List.{length-map}
 use Rattle.std.proofs.lemmas.List.Elements.{All-head, All-map, filter-append}
@@ -20,31 +20,32 @@ use Rattle.bt_meta.specs.GivenFiles.{Given}
 use Rattle.bt_meta.proofs.Checks.{skips, first_of-append}
 use Rattle.bt_meta.proofs.Lists.{All-front, All-back}
 use Rattle.bt_meta.proofs.WalkChecks.{has_conflict, file_counted, folder_counted}
-use Rattle.bt_meta.proofs.MadeGiven.{clash, AreAlike}
+use Rattle.bt_meta.proofs.RootLengths.{conflict_free}
+use Rattle.bt_meta.proofs.MadeGiven.{Agree, AreAlike}
 use Rattle.bt_meta.proofs.MadeEntries.{IsGood}
-use Rattle.bt_meta.proofs.MadeTree.{entry_made, length_of_made, root_of_made, IsTreeOf}
+use Rattle.bt_meta.proofs.MadeTree.{entry_made, length_of_made, root_of_some, IsTreeOf}
 
--- ---- clashes of entries
+-- ---- entries of one root
 
--- q has bytes, the root of p and another length
-abbrev differs : TreeEntry → TreeEntry → Bool
-differs p q = is_conflict (root_of p) (length_of p) (root_of q) (length_of q)
+-- where both have bytes and one root, they have one length
+abbrev AgreeAt : TreeEntry → TreeEntry → Type 0
+AgreeAt p q = length_of p ≢ 0 → length_of q ≢ 0 → root_of p ≡ root_of q → length_of p ≡ length_of q
 
-abbrev clashes : TreeEntry → TreeEntry → Bool
-clashes p q = not (length_of p == 0) && differs p q
-
-any_filter : (p : TreeEntry) (before : List TreeEntry) → list_any (conflict p) before ≡ list_any (differs p) (filter is_file before)
+any_filter : (p : TreeEntry) (before : List TreeEntry)
+    → list_any (conflict p) before ≡ list_any (λ q. is_conflict (root_of p) (length_of p) (root_of q) (length_of q)) (filter is_file before)
 any_filter p [] = refl
 any_filter p (q ∷ before) = elim (cases_Bool (is_file q)) [
   | inl file ↦ rw (file, any_filter p before) refl
   | inr folder ↦ rw (folder, any_filter p before) refl
 ]
 
-no_conflict : (p : TreeEntry) (before : List TreeEntry) → All (λ q. clashes p q ≡ false) (filter is_file before) → has_conflict before p ≡ false
-no_conflict p before h = elim (cases_Bool (length_of p == 0)) [
+agree_free : (p : TreeEntry) (before : List TreeEntry) → All (AgreeAt p) (filter is_file before) → has_conflict before p ≡ false
+agree_free p before h = elim (cases_Bool (length_of p == 0)) [
   | inl none ↦ rw none refl
   | inr some ↦
-      let none = list_any_none (differs p) (filter is_file before) (λ k d lt. rw some at h k d lt) in
+      let filled : length_of p ≢ 0 = λ e. let zero : (length_of p == 0) ≡ true = grind (arith, nat_tests) in true≢false (sym zero ∙ some) in
+      let none = list_any_none (λ q. is_conflict (root_of p) (length_of p) (root_of q) (length_of q)) (filter is_file before)
+      (λ k d lt. let q = get_or (filter is_file before) k d in conflict_free (root_of p) (length_of p) (root_of q) (length_of q) (λ other same. sym (h k d lt filled other (sym same)))) in
       rw (some, any_filter p before) none
 ]
 
@@ -55,7 +56,7 @@ not_too_many false path files pieces a b c = grind (arith, nat_tests)
 
 -- ---- the entries of a tree
 
-module _ (n : ℕ) (all : List TreeEntry) (good : All IsGood all) (alike : All (λ x. All (λ y. clashes x y ≡ false) (filter is_file all)) (filter is_file all))
+module _ (n : ℕ) (all : List TreeEntry) (good : All IsGood all) (alike : All (λ x. All (AgreeAt x) (filter is_file all)) (filter is_file all))
     (few : length (filter is_file all) ≤ max_file_count) (few_pieces : pieces_of n all ≤ max_piece_count) where
   one_passes : (before : List TreeEntry) (p : TreeEntry) (rest : List TreeEntry) → before ++ p ∷ rest ≡ all → entry_check n before p ≡ None
   one_passes before p rest e =
@@ -71,12 +72,12 @@ module _ (n : ℕ) (all : List TreeEntry) (good : All IsGood all) (alike : All (
       elim (cases_Bool (is_file p)) [
         | inl file ↦
             let parts : filter is_file all ≡ filter is_file before ++ p ∷ filter is_file rest = rw (← e, filter-append is_file before (p ∷ rest), file) refl in
-            let none = All-head (λ x. All (λ y. clashes x y ≡ false) (filter is_file all)) p (filter is_file rest)
-            (All-back (λ x. All (λ y. clashes x y ≡ false) (filter is_file all)) (filter is_file before) (p ∷ filter is_file rest)
-            (subst (λ xs. All (λ x. All (λ y. clashes x y ≡ false) (filter is_file all)) xs) parts alike)) in
+            let none = All-head (λ x. All (AgreeAt x) (filter is_file all)) p (filter is_file rest)
+            (All-back (λ x. All (AgreeAt x) (filter is_file all)) (filter is_file before) (p ∷ filter is_file rest)
+            (subst (λ xs. All (λ x. All (AgreeAt x) (filter is_file all)) xs) parts alike)) in
             file_counted n before p here.node here.named file (here.faultless file) {many = false}
-            (no_conflict p before (All-front (λ y. clashes p y ≡ false) (filter is_file before) (p ∷ filter is_file rest)
-            (subst (λ xs. All (λ y. clashes p y ≡ false) xs) parts none))) many
+            (agree_free p before (All-front (AgreeAt p) (filter is_file before) (p ∷ filter is_file rest)
+            (subst (λ xs. All (AgreeAt p) xs) parts none))) many
         | inr folder ↦ folder_counted n before p here.node here.named {many = false} folder many
       ]
 
@@ -88,21 +89,14 @@ module _ (n : ℕ) (all : List TreeEntry) (good : All IsGood all) (alike : All (
 
 -- ---- the files as entries
 
-clash_made : (f g : Given) → clash f g ≡ false → clashes (entry_made f) (entry_made g) ≡ false
-clash_made f g none = rw (length_of_made f, length_of_made g, root_of_made f, root_of_made g) (by_tests (f.length == 0) (g.length == 0) none)
-  where
-    by_tests : (a b : Bool) → (not a && (not b && pointwise nat_eq g.root f.root && not (g.length == f.length))) ≡ false
-        → (not a && (not b && pointwise nat_eq (if b then replicate 32 0 else g.root) (if a then replicate 32 0 else f.root) && not
-        (g.length == f.length))) ≡ false
-    by_tests true b h = refl
-    by_tests false true h = refl
-    by_tests false false h = h
+agree_made : (f g : Given) → Agree f g → AgreeAt (entry_made f) (entry_made g)
+agree_made f g agree = rw (length_of_made f, length_of_made g) (λ some other same.
+    agree some other (sym (root_of_some f some) ∙ same ∙ root_of_some g other))
 
-alike_entries : (files : List Given) → AreAlike files → All (λ x. All (λ y. clashes x y ≡ false) (map entry_made files)) (map entry_made files)
+alike_entries : (files : List Given) → AreAlike files → All (λ x. All (AgreeAt x) (map entry_made files)) (map entry_made files)
 alike_entries files h =
-    All-map (λ x. All (λ y. clashes x y ≡ false) (map entry_made files)) entry_made files
-    (λ i f lt. All-map (λ y. clashes (entry_made (get_or files i f)) y ≡ false) entry_made files
-    (λ j g lt'. clash_made (get_or files i f) (get_or files j g) (h i f lt j g lt')))
+    All-map (λ x. All (AgreeAt x) (map entry_made files)) entry_made files
+    (λ i f lt. All-map (AgreeAt (entry_made (get_or files i f))) entry_made files (λ j g lt'. agree_made (get_or files i f) (get_or files j g) (h i f lt j g lt')))
 
 pub count_made : (n : ℕ) (files : List Given) → sum_by (λ p. piece_count n (length_of p)) (map entry_made files) ≡ sum_by (λ g. piece_count n g.length) files
 count_made n [] = refl

@@ -1,5 +1,5 @@
 -- What is known of files that none of the checks before the making refuses.
-use Rattle.std.proofs.Common.{◌≡◌, ℕ, ◌≤◌, Bool, true, false, List, [], ◌∷◌, ◌++◌, length, map, get_or, None, refl, ap, ◌∙◌, inl, inr, arith, append_assoc}
+use Rattle.std.proofs.Common.{sym, ◌≢◌, ◌≡◌, ℕ, ◌≤◌, Bool, true, false, List, [], ◌∷◌, ◌++◌, length, map, get_or, None, refl, ap, ◌∙◌, inl, inr, arith, append_assoc}
 use Rattle.std.specs.Prelude.{nat_eq, nat_le, nat_lt, slice_index_or, not, ◌&&◌, ◌||◌, ◌==◌, sum_by}
 use Rattle.std.specs.Borrow.{Bor}
 use Rattle.std.specs.List.{All, list_any, list_all}
@@ -19,7 +19,8 @@ use Rattle.bt_meta.specs.EncodeSteps.{given_at, AreNonEmpty}
 use Rattle.bt_meta.specs.WriterRefusals.{Check, file_refusal, own_refusal, layer_refusal, conflict_with, is_beyond}
 use Rattle.bt_meta.specs.declared.writer.Made.{Made}
 use Rattle.bt_meta.specs.declared.writer.MakeError.TheVariants.{BadPath, FileLength, RootConflict, Count}
-use Rattle.bt_meta.proofs.EncodeLayers.{same_bytes_either_way}
+use Rattle.bt_meta.proofs.Lists.{none_of}
+use Rattle.bt_meta.proofs.RootLengths.{no_conflict}
 use Rattle.bt_meta.proofs.Checks.{passed, passed_first, not_faulty, holds_unless}
 
 -- a file that is lawful by itself
@@ -29,13 +30,12 @@ pub record IsLawful (piece_length : ℕ) (f : Given) : Type 0 where
   pub layer : layer_refusal piece_length f ≡ None
   pub shallow : length f.path ≤ max_path_length
 
--- both have bytes, and one root, and two lengths
-abbrev pub clash : Given → Given → Bool
-clash f g = not (f.length == 0) && is_conflict f.root f.length g.root g.length
+-- where both have bytes and one root, they have one length
+abbrev pub Agree : Given → Given → Type 0
+Agree f g = f.length ≢ 0 → g.length ≢ 0 → f.root ≡ g.root → f.length ≡ g.length
 
--- no two files clash
 abbrev pub AreAlike : List Given → Type 0
-AreAlike files = All (λ f. All (λ g. clash f g ≡ false) files) files
+AreAlike files = All (λ f. All (Agree f) files) files
 
 abbrev pub count_in : ℕ → List Given → ℕ
 count_in piece_length files = sum_by (λ g. piece_count piece_length g.length) files
@@ -93,51 +93,20 @@ named_from [] e = tt
 named_from ([] ∷ path) e = cc
 named_from ((byte ∷ bytes) ∷ path) e = (refl, named_from path (and_parts (is_element (byte ∷ bytes)) (list_all is_element path) e).1)
 
--- ---- clashes
+-- ---- files of one root
 
-swapped : (a b c d : Bool) → (a && (b && c && d)) ≡ (b && (a && c && d))
-swapped true true c d = refl
-swapped true false c d = refl
-swapped false true c d = refl
-swapped false false c d = refl
+all_agree : (before : List Given) (f : Given) → conflict_with before f ≡ false → All (Agree f) before
+all_agree before f e k d lt some other same =
+    let g = get_or before k d in
+    let filled : (f.length == 0) ≡ false = grind (arith, nat_tests) in
+    let none : list_any (λ g. is_conflict f.root f.length g.root g.length) before ≡ false = rw filled at e in
+    sym (no_conflict f.root f.length g.root g.length (none_of (λ (g : Given). is_conflict f.root f.length g.root g.length) before none k d lt) other (sym same))
 
-same_either_way : (n m : ℕ) → (n == m) ≡ (m == n)
-same_either_way n m = elim (cases_Bool (n == m)) [
-  | inl same ↦ grind (arith, nat_tests)
-  | inr other ↦ grind (arith, nat_tests)
-]
-
-clash_either_way : (f g : Given) → clash f g ≡ clash g f
-clash_either_way f g =
-    swapped (not (f.length == 0)) (not (g.length == 0)) (pointwise nat_eq g.root f.root) (not (g.length == f.length))
-    ∙ ap (λ b. not (g.length == 0) && (not (f.length == 0) && b && not (g.length == f.length))) (same_bytes_either_way g.root f.root)
-    ∙ ap (λ b. not (g.length == 0) && (not (f.length == 0) && pointwise nat_eq f.root g.root && not b)) (same_either_way g.length f.length)
-
-no_clash_itself : (f : Given) → clash f f ≡ false
-no_clash_itself f = let e : (f.length == f.length) ≡ true = grind (arith, nat_tests) in rw e (ending (not (f.length == 0)) (pointwise nat_eq f.root f.root))
-  where
-    ending : (a b : Bool) → (a && (a && b && false)) ≡ false
-    ending true true = refl
-    ending true false = refl
-    ending false b = refl
-
-none_of : (t : Bool) (test : Given → Bool) (xs : List Given) → (t && list_any test xs) ≡ false → All (λ g. (t && test g) ≡ false) xs
-none_of t test [] e = All-nil (λ g. (t && test g) ≡ false)
-none_of true test (x ∷ xs) e =
-    let parts = or_parts (test x) (list_any test xs) e in
-    All-cons (λ g. (true && test g) ≡ false) x xs parts.0 (none_of true test xs parts.1)
-none_of false test (x ∷ xs) e = All-cons (λ g. (false && test g) ≡ false) x xs refl (none_of false test xs refl)
-
-none_clash : (before : List Given) (f : Given) → conflict_with before f ≡ false → All (λ g. clash f g ≡ false) before
-none_clash before f e = none_of (not (f.length == 0)) (λ g. is_conflict f.root f.length g.root g.length) before e
-
-alike_more : (before : List Given) (f : Given) → AreAlike before → All (λ g. clash f g ≡ false) before → AreAlike (before ++ f ∷ [])
-alike_more before f h apart =
-    let back : All (λ g. clash g f ≡ false) before =
-    All-weaker (λ g. clash f g ≡ false) (λ g. clash g f ≡ false) (λ g e. clash_either_way g f ∙ e) before apart in
-    All-push (λ g. All (λ x. clash g x ≡ false) (before ++ f ∷ [])) before f
-    (λ k d lt. All-push (λ x. clash (slice_index_or before k d) x ≡ false) before f (h k d lt) (back k d lt))
-    (All-push (λ x. clash f x ≡ false) before f apart (no_clash_itself f))
+alike_more : (before : List Given) (f : Given) → AreAlike before → All (Agree f) before → AreAlike (before ++ f ∷ [])
+alike_more before f h own =
+    All-push (λ g. All (Agree g) (before ++ f ∷ [])) before f
+    (λ k d lt. All-push (Agree (get_or before k d)) before f (h k d lt) (λ some other same. sym (own k d lt other some (sym same))))
+    (All-push (Agree f) before f own (λ some other same. refl))
 
 -- ---- all files
 
@@ -150,7 +119,7 @@ module _ (piece_length : ℕ) where
       let one = taken piece_length before f p.0 in
       let more : AreLawful piece_length (before ++ f ∷ []) = record {
         each = All-push (IsLawful piece_length) before f h.each one.lawful;
-        alike = alike_more before f h.alike (none_clash before f one.alike);
+        alike = alike_more before f h.alike (all_agree before f one.alike);
         few = one.few;
         pieces = one.pieces;
       } in
@@ -162,15 +131,15 @@ module _ (piece_length : ℕ) where
     lawful_ordered =
         let h = lawful_behind [] files (record {
           each = All-nil (IsLawful piece_length);
-          alike = All-nil (λ f. All (λ g. clash f g ≡ false) []);
+          alike = All-nil (λ f. All (Agree f) []);
           few =
               omega arith;
           pieces = omega arith;
         }) none in
         record {
           each = All-permutation (IsLawful piece_length) files ordered order.same h.each;
-          alike = All-permutation (λ f. All (λ g. clash f g ≡ false) ordered) files ordered order.same
-              (λ i d lt. All-permutation (λ g. clash (get_or files i d) g ≡ false) files ordered order.same (h.alike i d lt));
+          alike = All-permutation (λ f. All (Agree f) ordered) files ordered order.same
+              (λ i d lt. All-permutation (Agree (get_or files i d)) files ordered order.same (h.alike i d lt));
           few = rw (length_permutation files ordered order.same) h.few;
           pieces = rw (sum_by-IsPermutation (λ (g : Given). piece_count piece_length g.length) files ordered order.same) h.pieces;
         }

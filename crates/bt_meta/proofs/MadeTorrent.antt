@@ -4,7 +4,7 @@ use Rattle.std.specs.Prelude.{filter, codes, nat_eq, nat_lt, not, ◌&&◌, ◌=
 use Rattle.std.specs.Option.{option_map, option_and_then}
 use Rattle.std.specs.List.{All}
 use Rattle.std.specs.Cmp.Lexicographic.{pointwise}
-use Rattle.std.proofs.lemmas.Bool.{cases_Bool, and_parts}
+use Rattle.std.proofs.lemmas.Bool.{cases_Bool, and_parts, true≢false}
 use Rattle.std.proofs.lemmas.Bool.Decides.{nat_tests}
 use Rattle.std.proofs.lemmas.List.{map_push, length-map}
 use Rattle.std.proofs.lemmas.List.Sorted.{All-permutation, length_permutation}
@@ -27,7 +27,7 @@ use Rattle.bt_meta.specs.Encode.{first_layer, AreLayersOf, tree_made, info_made,
 use Rattle.bt_meta.specs.Writer.{file_made, torrent_made}
 use Rattle.bt_meta.proofs.Checks.{skips, first_of-append, passed, holds_unless}
 use Rattle.bt_meta.proofs.MadeCanonical.{canonical_made}
-use Rattle.bt_meta.proofs.MadeGiven.{clash, AreLawful, IsLawful, lawful_ordered, ordered_named}
+use Rattle.bt_meta.proofs.MadeGiven.{Agree, AreLawful, IsLawful, lawful_ordered, ordered_named}
 use Rattle.bt_meta.proofs.Lists.{All-back}
 use Rattle.bt_meta.proofs.MadeEntries.{value_is_file}
 use Rattle.bt_meta.proofs.MadeTree.{entry_made, length_of_made, root_of_made, IsTreeOf, tree_is}
@@ -42,10 +42,8 @@ back (Some x) = refl
 some_bytes : (n m : ℕ) → nat_lt n m ≡ true → (m == 0) ≡ false
 some_bytes n m long = grind (arith, nat_tests)
 
-same_length : (f g : Given) → (f.length == 0) ≡ false → (g.length == 0) ≡ false → g.root ≡ f.root → clash f g ≡ false → g.length ≡ f.length
-same_length f g some more same none =
-    let test : not (g.length == f.length) ≡ false = rw (some, more, (bytes_eq-Decides g.root f.root).1 same) at none in
-    grind (arith, nat_tests)
+more_bytes : (n m : ℕ) → nat_lt n m ≡ true → m ≢ 0
+more_bytes n m long e = let short : nat_lt n m ≡ false = grind (arith, nat_tests) in true≢false (sym long ∙ short)
 
 module _ (n : ℕ) (f : Given) (long : nat_lt n f.length ≡ true) where
   -- these bytes pass as the layer of the file
@@ -57,11 +55,11 @@ module _ (n : ℕ) (f : Given) (long : nat_lt n f.length ≡ true) where
   has g = nat_lt n g.length && pointwise nat_eq g.root f.root
 
   -- that of a file of the same root does
-  layer_of : (g : Given) → has g ≡ true → IsLawful n g × (clash f g ≡ false) → IsLayer g.layer
+  layer_of : (g : Given) → has g ≡ true → IsLawful n g × Agree f g → IsLayer g.layer
   layer_of g h both =
       let parts = and_parts (nat_lt n g.length) (pointwise nat_eq g.root f.root) h in
       let rooted = (bytes_eq-Decides g.root f.root).0 parts.1 in
-      let sized = same_length f g (some_bytes n f.length long) (some_bytes n g.length parts.0) rooted both.1 in
+      let sized = sym (both.1 (more_bytes n f.length long) (more_bytes n g.length parts.0) (sym rooted)) in
       let checks : List Check = fault_if (not (has_layer_size n g.length g.layer)) layer_size ∷ fault_if
       (not (has_root n g.length g.root g.layer)) layer_differs ∷ [] in
       let own = passed checks (rw parts.0 at both.0.layer) in
@@ -71,14 +69,14 @@ module _ (n : ℕ) (f : Given) (long : nat_lt n f.length ≡ true) where
       }
 
   -- the look-up finds such a layer
-  layer_there : (before rest : List Given) → All (λ g. IsLawful n g × (clash f g ≡ false)) (before ++ f ∷ rest)
+  layer_there : (before rest : List Given) → All (λ g. IsLawful n g × Agree f g) (before ++ f ∷ rest)
       → (layer : List ℕ) × (first_layer n (before ++ f ∷ rest) f.root ≡ Some layer) × IsLayer layer
   layer_there [] rest h =
       let here : has f ≡ true = rw (long, (bytes_eq-Decides f.root f.root).1 refl) refl in
-      (f.layer, rw here refl, layer_of f here (All-head (λ g. IsLawful n g × (clash f g ≡ false)) f rest h))
+      (f.layer, rw here refl, layer_of f here (All-head (λ g. IsLawful n g × Agree f g) f rest h))
   layer_there (g ∷ before) rest h = elim (cases_Bool (has g)) [
-    | inl here ↦ (g.layer, rw here refl, layer_of g here (All-head (λ g. IsLawful n g × (clash f g ≡ false)) g (before ++ f ∷ rest) h))
-    | inr other ↦ rw other (layer_there before rest (All-tail (λ g. IsLawful n g × (clash f g ≡ false)) g (before ++ f ∷ rest) h))
+    | inl here ↦ (g.layer, rw here refl, layer_of g here (All-head (λ g. IsLawful n g × Agree f g) g (before ++ f ∷ rest) h))
+    | inr other ↦ rw other (layer_there before rest (All-tail (λ g. IsLawful n g × Agree f g) g (before ++ f ∷ rest) h))
   ]
 
 module _ (n : ℕ) (all : List Given) (layers : Entries) (layered : AreLayersOf n all layers) where
@@ -90,10 +88,10 @@ module _ (n : ℕ) (all : List Given) (layers : Entries) (layered : AreLayersOf 
       → layer_check n (dictionary layers) (entry_made f) ≡ None
   layer_passes h before f rest e = elim (cases_Bool (nat_lt n f.length)) [
     | inl long ↦
-        let apart = All-head (λ x. All (λ g. clash x g ≡ false) all) f rest
-        (All-back (λ x. All (λ g. clash x g ≡ false) all) before (f ∷ rest) (rw e h.alike)) in
-        let both : All (λ g. IsLawful n g × (clash f g ≡ false)) all = λ k d lt. (h.each k d lt, apart k d lt) in
-        let one = layer_there n f long before rest (subst (λ xs. All (λ g. IsLawful n g × (clash f g ≡ false)) xs) (sym e) both) in
+        let apart = All-head (λ x. All (Agree x) all) f rest
+        (All-back (λ x. All (Agree x) all) before (f ∷ rest) (rw e h.alike)) in
+        let both : All (λ g. IsLawful n g × Agree f g) all = λ k d lt. (h.each k d lt, apart k d lt) in
+        let one = layer_there n f long before rest (subst (λ xs. All (λ g. IsLawful n g × Agree f g) xs) (sym e) both) in
         let there : string_at (dictionary layers) f.root ≡ Some one.0 = strings_are f.root ∙ ap (λ xs. first_layer n xs f.root) (sym e) ∙ one.1 in
         rw (length_of_made f, root_of_made f, some_bytes n f.length long, long, there, one.2.size, one.2.root) refl
     | inr short ↦ rw (length_of_made f, short) refl

@@ -1,5 +1,5 @@
 -- The tree of files that are put into it in their order.
-use Rattle.std.proofs.Common.{◌≡◌, ℕ, ◌≤◌, ◌^◌, Bool, true, false, List, [], ◌∷◌, ◌++◌, length, map, None, refl, sym, ap, ◌∙◌, arith, inl, inr}
+use Rattle.std.proofs.Common.{◌≢◌, ◌≡◌, ℕ, ◌≤◌, ◌^◌, Bool, true, false, List, [], ◌∷◌, ◌++◌, length, map, None, refl, sym, ap, ◌∙◌, arith, inl, inr}
 use Rattle.std.specs.Prelude.{filter, get_or, take, replicate, codes, not, ◌||◌, ◌==◌, if◌then◌else◌, cond}
 use Rattle.std.specs.List.{All}
 use Rattle.std.proofs.lemmas.Str.{IsUtf8-nil, is_utf8-from_IsUtf8}
@@ -68,6 +68,9 @@ length_of_made f = ap length_in (properties_there f.path _) ∙ length_made f
 
 pub root_of_made : (f : Given) → root_of (entry_made f) ≡ (if f.length == 0 then replicate 32 0 else f.root)
 root_of_made f = ap root_in (properties_there f.path _) ∙ root_made f
+
+pub root_of_some : (f : Given) → f.length ≢ 0 → root_of (entry_made f) ≡ f.root
+root_of_some f some = let filled : (f.length == 0) ≡ false = grind (arith, nat_tests) in root_of_made f ∙ rw filled refl
 
 -- ---- the tree
 

@@ -12,11 +12,12 @@ use Rattle.bt_bencode.specs.Value.{Data}
 use Rattle.bt_meta.specs.Limits.{max_path_length, max_file_count, max_piece_count}
 use Rattle.bt_meta.specs.Fields.{has_key, string_at}
 use Rattle.bt_meta.specs.TreeEntries.{TreeEntry, tree_entries_below, with_earlier}
-use Rattle.bt_meta.specs.Files.{is_file, properties_of, length_in, root_in, length_of, root_of, pieces_of}
+use Rattle.bt_meta.specs.Files.{is_file, properties_of, length_in, root_in, length_of, root_of, is_conflict, pieces_of}
 use Rattle.bt_meta.specs.Faults.{Check, first_of, fault_if, is_node, has_lawful_name, has_lawful_length, has_lawful_root, conflict, is_too_many, file_checks, entry_check, tree_checks}
 use Rattle.bt_meta.specs.declared.error.MetaError.TheVariants.{Tree, BadPath, FileLength, BadRoot, RootConflict, TooMany}
 use Rattle.bt_meta.proofs.Checks.{HavePassed, passed, passed_first, both_passed, holds_unless, not_faulty}
 use Rattle.bt_meta.proofs.Lists.{none_of}
+use Rattle.bt_meta.proofs.RootLengths.{no_conflict}
 use Rattle.bt_meta.proofs.WalkChecks.{has_conflict}
 use Rattle.bt_meta.proofs.WalkAddFile.{lawful_is_short}
 
@@ -87,18 +88,13 @@ module _ (n : ℕ) (before : List TreeEntry) (p : TreeEntry) where
         few = not_faulty (is_too_many n before p) TooMany own.1.1.1.0;
       }
 
-some_length : (k : ℕ) → k ≢ 0 → not (k == 0) ≡ true
-some_length k h = grind (arith, nat_tests)
-
-one_length : (k m : ℕ) → not (k == m) ≡ false → k ≡ m
-one_length k m h = grind (arith, nat_tests)
-
 agree_one : (before : List TreeEntry) (p : TreeEntry) → (is_file p ≡ true → has_conflict before p ≡ false) → All (λ q. Agrees q p) before
 agree_one before p alike = λ k d within file_q file_p some_q some_p same.
     let q : TreeEntry = get_or before k d in
-    let none : list_any (conflict p) before ≡ false = rw (some_length (length_of p) some_p) at alike file_p in
-    let found = none_of (conflict p) before none k d within in
-    one_length (length_of q) (length_of p) (rw (file_q, some_length (length_of q) some_q, (bytes_eq-Decides (root_of q) (root_of p)).1 same) at found)
+    let filled : (length_of p == 0) ≡ false = grind (arith, nat_tests) in
+    let none : list_any (conflict p) before ≡ false = rw filled at alike file_p in
+    let found : is_conflict (root_of p) (length_of p) (root_of q) (length_of q) ≡ false = rw file_q at (none_of (conflict p) before none k d within) in
+    no_conflict (root_of p) (length_of p) (root_of q) (length_of q) found some_q same
 
 within_count : (a : Bool) (files pieces : ℕ) → (a || (nat_lt max_file_count files || nat_lt max_piece_count pieces)) ≡ false
     → (files ≤ max_file_count) × (pieces ≤ max_piece_count)
