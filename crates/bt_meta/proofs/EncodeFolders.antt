@@ -25,39 +25,29 @@ itself name = tied_itself nat_list_cmp_total name
 
 -- ---- a name behind the others
 
-pub with_behind : (name : List ℕ) (d : Data) (es : Entries) → AreBefore name es → with_entry name d es ≡ entries_before es (entry name d no_entries)
-unfolding with_entry
-with_behind name d no_entries h = refl
-with_behind name d (entry key e es) h =
-    ap (λ o. match_ordering o (entry name d (entry key e es)) (entry name d es) (entry key e (with_entry name d es))) h.0
-    ∙ ap (entry key e) (with_behind name d es h.2)
+module _ (name : List ℕ) (d : Data) where
+  with_behind : (es : Entries) → AreBefore name es → with_entry name d es ≡ entries_before es (entry name d no_entries)
+  unfolding with_entry
+  with_behind no_entries h = refl
+  with_behind (entry key e es) h = rw (h.0, with_behind es h.2) refl
 
-pub with_last : (name : List ℕ) (d f : Data) (es : Entries) → AreBefore name es
-    → with_entry name d (entries_before es (entry name f no_entries)) ≡ entries_before es (entry name d no_entries)
-unfolding with_entry
-with_last name d f no_entries h =
-    ap (λ o. match_ordering o (entry name d (entry name f no_entries)) (entry name d no_entries) (entry name f (with_entry name d no_entries))) (itself name)
-with_last name d f (entry key e es) h =
-    let rest = entries_before es (entry name f no_entries) in
-    ap (λ o. match_ordering o (entry name d (entry key e rest)) (entry name d rest) (entry key e (with_entry name d rest))) h.0
-    ∙ ap (entry key e) (with_last name d f es h.2)
+  with_last : (f : Data) (es : Entries) → AreBefore name es → with_entry name d (entries_before es (entry name f no_entries)) ≡ entries_before es (entry name d no_entries)
+  unfolding with_entry
+  with_last f no_entries h = rw (itself name) refl
+  with_last f (entry key e es) h = rw (h.0, with_last f es h.2) refl
 
 -- ---- the value at a name
-
-same_name : (name : List ℕ) → pointwise nat_eq name name ≡ true
-same_name name = sym (is_eq-slice_cmp name name) ∙ ap is_eq (itself name)
 
 other_name : (name key : List ℕ) → slice_cmp nat_cmp name key ≡ Greater → pointwise nat_eq key name ≡ false
 other_name name key h = sym (is_eq-slice_cmp key name) ∙ ap is_eq (nat_list_cmp_total.antisymm key name ∙ ap ordering_reverse h)
 
 found : (name : List ℕ) (d : Data) (es : Entries) → AreBefore name es → first_value_of (entries_before es (entry name d no_entries)) name ≡ Some d
-found name d no_entries h = ap (λ b. if b then Some d else None) (same_name name)
-found name d (entry key e es) h =
-    ap (λ b. if b then Some e else first_value_of (entries_before es (entry name d no_entries)) name) (other_name name key h.0) ∙ found name d es h.2
+found name d no_entries h = let same = sym (is_eq-slice_cmp name name) ∙ ap is_eq (itself name) in rw same refl
+found name d (entry key e es) h = rw (other_name name key h.0) (found name d es h.2)
 
 absent : (name : List ℕ) (es : Entries) → AreBefore name es → first_value_of es name ≡ None
 absent name no_entries h = refl
-absent name (entry key e es) h = ap (λ b. if b then Some e else first_value_of es name) (other_name name key h.0) ∙ absent name es h.2
+absent name (entry key e es) h = rw (other_name name key h.0) (absent name es h.2)
 
 -- ---- opening the last folder
 
@@ -66,18 +56,13 @@ behind_none [] = refl
 behind_none (name ∷ path) = inl tt
 
 pub opened_behind : (name : List ℕ) (path : List (List ℕ)) (es : Entries) → AreBefore name es → HasLastFolder name path es es no_entries
-opened_behind name path es h = record {
-  kept = λ d. with_behind name d es h;
-  opened = ap (λ o. entries_in (unwrap_or o no_dictionary)) (absent name es h);
-  behind = behind_none path;
-}
+opened_behind name path es h = record { kept = λ d. with_behind name d es h; opened = rw (absent name es h) refl; behind = behind_none path }
 
 pub opened_within : (name : List ℕ) (path : List (List ℕ)) (es earlier inner : Entries)
-    → es ≡ entries_before earlier (entry name (dictionary inner) no_entries) → AreBefore name earlier → ComesAfter path inner
-    → HasLastFolder name path es earlier inner
+    → es ≡ entries_before earlier (entry name (dictionary inner) no_entries) → AreBefore name earlier → ComesAfter path inner → HasLastFolder name path es earlier inner
 opened_within name path es earlier inner e h behind = rw e (record {
   kept = λ d. with_last name d (dictionary inner) earlier h;
-  opened = ap (λ o. entries_in (unwrap_or o no_dictionary)) (found name (dictionary inner) earlier h);
+  opened = rw (found name (dictionary inner) earlier h) refl;
   behind = behind;
 })
 
@@ -104,32 +89,28 @@ before_last name n d (entry key e es) h = before_last name n d es h.2
 not_greater : (o : Ordering) → o ≡ Equal → o ≡ Greater → ⊥
 not_greater o e g = cc
 
--- the last entry is a folder of this name
-pub opened_folder : (name : List ℕ) (path : List (List ℕ)) (es : List (Vec ℕ × Value)) (key : Vec ℕ) (v : Value) (inner : Entries)
-    → data_of v ≡ dictionary inner → key.items ≡ name
-    → ComesAfter (name ∷ path) (entries_of (es ++ (key, v) ∷ [])) → HasLastFolder name path (entries_of (es ++ (key, v) ∷ [])) (entries_of es) inner
-opened_folder name path es key v inner seen named behind =
-    let whole : entries_of (es ++ (key, v) ∷ []) ≡ entries_before (entries_of es) (entry name (dictionary inner) no_entries) =
-    rw (entries_push es key v, seen, named) refl in
-    elim behind [
-      | inl before ↦ absurd (not_greater _ (itself name) (before_last name name (dictionary inner) (entries_of es) (rw whole at before)))
-      | inr last ↦
-          let p = last_same (entries_of es) last.earlier name name (dictionary inner) (dictionary last.inner) (sym whole ∙ last.last) in
-          let i : inner ≡ last.inner = cc in
-          opened_within name path (entries_of (es ++ (key, v) ∷ [])) (entries_of es) inner whole (rw p.0 last.before) (rw i last.behind)
-    ]
+module _ (name : List ℕ) (path : List (List ℕ)) (es : List (Vec ℕ × Value)) (key : Vec ℕ) (v : Value) (behind : ComesAfter (name ∷ path) (entries_of (es ++ (key, v) ∷ []))) where
+  -- the last entry is a folder of this name
+  pub opened_folder : {inner : Entries} → data_of v ≡ dictionary inner → key.items ≡ name → HasLastFolder name path (entries_of (es ++ (key, v) ∷ [])) (entries_of es) inner
+  opened_folder {inner} seen named =
+      let whole : entries_of (es ++ (key, v) ∷ []) ≡ entries_before (entries_of es) (entry name (dictionary inner) no_entries) = rw (entries_push es key v, seen, named) refl in
+      elim behind [
+        | inl before ↦ absurd (not_greater _ (itself name) (before_last name name (dictionary inner) (entries_of es) (rw whole at before)))
+        | inr last ↦
+            let p = last_same (entries_of es) last.earlier name name (dictionary inner) (dictionary last.inner) (sym whole ∙ last.last) in
+            let i : inner ≡ last.inner = cc in
+            opened_within name path (entries_of (es ++ (key, v) ∷ [])) (entries_of es) inner whole (rw p.0 last.before) (rw i last.behind)
+      ]
 
--- it is none
-pub opened_other : (name : List ℕ) (path : List (List ℕ)) (es : List (Vec ℕ × Value)) (key : Vec ℕ) (v : Value)
-    → ((inner : Entries) → data_of v ≡ dictionary inner → key.items ≡ name → ⊥)
-    → ComesAfter (name ∷ path) (entries_of (es ++ (key, v) ∷ []))
-    → HasLastFolder name path (entries_of (es ++ (key, v) ∷ [])) (entries_of (es ++ (key, v) ∷ [])) no_entries
-opened_other name path es key v other behind = elim behind [
-  | inl before ↦ opened_behind name path (entries_of (es ++ (key, v) ∷ [])) before
-  | inr last ↦
-      let p = last_same (entries_of es) last.earlier key.items name (data_of v) (dictionary last.inner) (sym (entries_push es key v) ∙ last.last) in
-      absurd (other last.inner p.2 p.1)
-]
+  -- it is none
+  pub opened_other : ((inner : Entries) → data_of v ≡ dictionary inner → key.items ≡ name → ⊥)
+      → HasLastFolder name path (entries_of (es ++ (key, v) ∷ [])) (entries_of (es ++ (key, v) ∷ [])) no_entries
+  opened_other other = elim behind [
+    | inl before ↦ opened_behind name path (entries_of (es ++ (key, v) ∷ [])) before
+    | inr last ↦
+        let p = last_same (entries_of es) last.earlier key.items name (data_of v) (dictionary last.inner) (sym (entries_push es key v) ∙ last.last) in
+        absurd (other last.inner p.2 p.1)
+  ]
 
 pub opened_nothing : (name : List ℕ) (path : List (List ℕ)) → HasLastFolder name path no_entries no_entries no_entries
 opened_nothing name path = opened_behind name path no_entries tt

@@ -20,15 +20,15 @@ use Rattle.std.proofs.lemmas.List.Elements.{All-get_or}
 use Rattle.std.proofs.lemmas.List.{take_more, take_all, get_or_default, get_or-map, length-map}
 use Rattle.std.proofs.lemmas.List.Sums.{fold_push}
 
-above : (m n k : List ℕ) → slice_cmp nat_cmp n m ≡ Less → slice_cmp nat_cmp n k ≡ Greater → slice_cmp nat_cmp m k ≡ Greater
-above m n k less greater =
-    let below : slice_cmp nat_cmp k n ≡ Less = nat_list_cmp_total.antisymm k n ∙ ap ordering_reverse greater in
-    nat_list_cmp_total.antisymm m k ∙ ap ordering_reverse (nat_list_cmp_total.trans k n m below less)
+module _ (m n : List ℕ) (less : slice_cmp nat_cmp n m ≡ Less) where
+  above : (k : List ℕ) → slice_cmp nat_cmp n k ≡ Greater → slice_cmp nat_cmp m k ≡ Greater
+  above k greater =
+      let below : slice_cmp nat_cmp k n ≡ Less = nat_list_cmp_total.antisymm k n ∙ ap ordering_reverse greater in
+      nat_list_cmp_total.antisymm m k ∙ ap ordering_reverse (nat_list_cmp_total.trans k n m below less)
 
-all_above : (m n : List ℕ) (d : Data) (es : Entries) → is_nonempty n ≡ true → slice_cmp nat_cmp n m ≡ Less → AreBefore n es
-    → AreBefore m (entries_before es (entry n d no_entries))
-all_above m n d no_entries named less h = (nat_list_cmp_total.antisymm m n ∙ ap ordering_reverse less, named, tt)
-all_above m n d (entry key e es) named less h = (above m n key less h.0, h.1, all_above m n d es named less h.2)
+  all_above : (d : Data) (es : Entries) → is_nonempty n ≡ true → AreBefore n es → AreBefore m (entries_before es (entry n d no_entries))
+  all_above d no_entries named h = (nat_list_cmp_total.antisymm m n ∙ ap ordering_reverse less, named, tt)
+  all_above d (entry key e es) named h = (above key h.0, h.1, all_above d es named h.2)
 
 pub same_bytes : (n m : List ℕ) → slice_cmp nat_cmp n m ≡ Equal → n ≡ m
 same_bytes n m e = (bytes_eq-Decides n m).0 (sym (is_eq-slice_cmp n m) ∙ ap is_eq e)
@@ -47,7 +47,7 @@ next_behind (n ∷ p) (m ∷ q) d es new named put less apart =
   where
     by_order : (o : Ordering) → o ≡ slice_cmp nat_cmp n m → (path_order p q ≡ Less → begins p q ≡ false → ComesAfter q put.more)
         → ComesAfter (m ∷ q) (entries_before put.earlier (entry n (dictionary put.more) no_entries))
-    by_order Less e later = inl (all_above m n (dictionary put.more) put.earlier named.0 (sym e) put.before)
+    by_order Less e later = inl (all_above m n (sym e) (dictionary put.more) put.earlier named.0 put.before)
     by_order Equal e later =
         let same : n ≡ m = same_bytes n m (sym e) in
         let rest : path_order p q ≡ Less = rw (← e) at less in

@@ -6,8 +6,8 @@ use Rattle.std.specs.List.{All}
 use Rattle.std.specs.Option.{option_map}
 use Rattle.std.specs.Ordering.{nat_cmp, ordering_reverse}
 use Rattle.std.specs.Cmp.Lexicographic.{slice_cmp, pointwise, nat_list_cmp_total}
-use Rattle.std.specs.declared.cmp.Ordering.TheVariants.{Greater}
-use Rattle.std.proofs.lemmas.Bool.{cases_Bool, and_parts}
+use Rattle.std.specs.declared.cmp.Ordering.TheVariants.{Equal, Greater}
+use Rattle.std.proofs.lemmas.Bool.{cases_Bool, and_parts, false_from_ne_true}
 use Rattle.std.proofs.lemmas.Bool.Decides.{nat_tests}
 use Rattle.std.proofs.lemmas.Cmp.{tied_itself}
 use Rattle.std.proofs.lemmas.Int.{ints}
@@ -156,14 +156,9 @@ tree_canonical files tree_paths named low short =
 -- ---- ascending entries, by the first value of each key
 
 other_bytes : (k key : List ℕ) → IsBefore key k → pointwise nat_eq k key ≡ false
-other_bytes k key less = elim (cases_Bool (pointwise nat_eq k key)) [
-  | inl same ↦
-      let e : k ≡ key = (bytes_eq-Decides k key).0 same in
-      let tied : slice_cmp nat_cmp key k ≡ slice_cmp nat_cmp key key = ap (slice_cmp nat_cmp key) e in
-      let equal = tied_itself nat_list_cmp_total key in
-      absurd cc
-  | inr other ↦ other
-]
+other_bytes k key less = false_from_ne_true (pointwise nat_eq k key) (λ same.
+    let tied : slice_cmp nat_cmp key k ≡ Equal = rw ((bytes_eq-Decides k key).0 same) (tied_itself nat_list_cmp_total key) in
+    cc)
 
 before_second : (key other : List ℕ) (es : Entries) → IsBefore key other → IfSome (first_key_of es) (IsBefore other) → IfSome (first_key_of es) (IsBefore key)
 before_second key other no_entries a b = tt
@@ -172,21 +167,18 @@ before_second key other (entry k d es) a b = nat_list_cmp_total.trans key other 
 absent_before : (key : List ℕ) (es : Entries) → EntriesAscend es → IfSome (first_key_of es) (IsBefore key) → first_value_of es key ≡ None
 unfolding EntriesAscend
 absent_before key no_entries keys before = refl
-absent_before key (entry k d es) keys before =
-    ap (λ b. if b then Some d else first_value_of es key) (other_bytes k key before) ∙ absent_before key es keys.2 (before_second key k es before keys.0)
+absent_before key (entry k d es) keys before = rw (other_bytes k key before) (absent_before key es keys.2 (before_second key k es before keys.0))
 
 first_here : (key : List ℕ) (d : Data) (es : Entries) → first_value_of (entry key d es) key ≡ Some d
-first_here key d es = ap (λ b. if b then Some d else first_value_of es key) ((bytes_eq-Decides key key).1 refl)
+first_here key d es = rw ((bytes_eq-Decides key key).1 refl) refl
 
 first_later : (k key : List ℕ) (e d : Data) (es : Entries) → EntriesAscend es → IfSome (first_key_of es) (IsBefore k) → first_value_of es key ≡ Some d
     → first_value_of (entry k e es) key ≡ Some d
 first_later k key e d es keys before is = elim (cases_Bool (pointwise nat_eq k key)) [
   | inl same ↦
-      let one : k ≡ key = (bytes_eq-Decides k key).0 same in
-      let none : first_value_of es k ≡ None = absent_before k es keys before in
-      let found : first_value_of es k ≡ Some d = ap (first_value_of es) one ∙ is in
-      absurd cc
-  | inr other ↦ ap (λ b. if b then Some e else first_value_of es key) other ∙ is
+      let none : first_value_of es key ≡ None = rw ((bytes_eq-Decides k key).0 same) at (absent_before k es keys before) in
+      absurd (let never : None ≡ Some d = sym none ∙ is in cc)
+  | inr other ↦ rw other is
 ]
 
 -- ascending entries are canonical where the first value of each key is
