@@ -36,20 +36,20 @@ module _ {E : Type 0} where
   holds_unless true fault e = refl
   holds_unless false fault e = cc
 
-  pub passed_first : (check : Option E) (checks : List (Option E)) → first_of (check ∷ checks) ≡ None → (check ≡ None) × (first_of checks ≡ None)
-  passed_first None checks e = (refl, e)
-  passed_first (Some fault) checks e = cc
+  pub first_none : (check : Option E) (checks : List (Option E)) → first_of (check ∷ checks) ≡ None → (check ≡ None) × (first_of checks ≡ None)
+  first_none None checks e = (refl, e)
+  first_none (Some fault) checks e = cc
 
-  abbrev pub HavePassed : List (Option E) → Type 0
-  HavePassed [] = ⊤
-  HavePassed (check ∷ checks) = (check ≡ None) × HavePassed checks
+  abbrev pub AreNone : List (Option E) → Type 0
+  AreNone [] = ⊤
+  AreNone (check ∷ checks) = (check ≡ None) × AreNone checks
 
-  pub passed : (checks : List (Option E)) → first_of checks ≡ None → HavePassed checks
-  passed [] h = tt
-  passed (None ∷ checks) h = (refl, passed checks h)
-  passed (Some fault ∷ checks) h = cc
+  pub each_none : (checks : List (Option E)) → first_of checks ≡ None → AreNone checks
+  each_none [] h = tt
+  each_none (None ∷ checks) h = (refl, each_none checks h)
+  each_none (Some fault ∷ checks) h = cc
 
-  pub both_passed : (xs ys : List (Option E)) → first_of (xs ++ ys) ≡ None → (first_of xs ≡ None) × (first_of ys ≡ None)
-  both_passed [] ys h = (refl, h)
-  both_passed (None ∷ xs) ys h = both_passed xs ys h
-  both_passed (Some fault ∷ xs) ys h = cc
+  pub both_none : (xs ys : List (Option E)) → first_of (xs ++ ys) ≡ None → (first_of xs ≡ None) × (first_of ys ≡ None)
+  both_none [] ys h = (refl, h)
+  both_none (None ∷ xs) ys h = both_none xs ys h
+  both_none (Some fault ∷ xs) ys h = cc

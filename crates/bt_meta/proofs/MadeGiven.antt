@@ -21,7 +21,7 @@ use Rattle.bt_meta.specs.declared.writer.Made.{Made}
 use Rattle.bt_meta.specs.declared.writer.MakeError.TheVariants.{BadPath, FileLength, RootConflict, Count}
 use Rattle.bt_meta.proofs.Lists.{none_of}
 use Rattle.bt_meta.proofs.RootLengths.{no_conflict}
-use Rattle.bt_meta.proofs.Checks.{passed, passed_first, not_faulty, holds_unless}
+use Rattle.bt_meta.proofs.Checks.{each_none, first_none, not_faulty, holds_unless}
 
 -- a file that is lawful by itself
 pub record IsLawful (piece_length : ℕ) (f : Given) : Type 0 where
@@ -72,8 +72,8 @@ taken piece_length before f h =
     ∷ fault_if (conflict_with before f) RootConflict
     ∷ fault_if (is_beyond piece_length before f) Count
     ∷ [] in
-    let p = passed all h in
-    let q = passed own p.0 in
+    let p = each_none all h in
+    let q = each_none own p.0 in
     let limits = within_limits (length f.path) (length (before ++ f ∷ [])) (count_in piece_length (before ++ f ∷ []))
     (not_faulty (is_beyond piece_length before f) Count p.1.1.0) in
     record {
@@ -115,7 +115,7 @@ module _ (piece_length : ℕ) where
       → first_of (with_earlier (file_refusal piece_length) before files) ≡ None → AreLawful piece_length (before ++ files)
   lawful_behind before [] h none = rw (append-nil before) h
   lawful_behind before (f ∷ files) h none =
-      let p = passed_first (file_refusal piece_length before f) (with_earlier (file_refusal piece_length) (before ++ f ∷ []) files) none in
+      let p = first_none (file_refusal piece_length before f) (with_earlier (file_refusal piece_length) (before ++ f ∷ []) files) none in
       let one = taken piece_length before f p.0 in
       let more : AreLawful piece_length (before ++ f ∷ []) = record {
         each = All-push (IsLawful piece_length) before f h.each one.lawful;

@@ -25,7 +25,7 @@ use Rattle.bt_meta.specs.GivenFiles.{Given, given_of, HasRoot, IsInTreeOrder, Ha
 use Rattle.bt_meta.specs.WriterRefusals.{Check, file_refusal}
 use Rattle.bt_meta.specs.Encode.{first_layer, AreLayersOf, tree_made, info_made, value_made}
 use Rattle.bt_meta.specs.Writer.{file_made, torrent_made}
-use Rattle.bt_meta.proofs.Checks.{skips, first_of-append, passed, holds_unless}
+use Rattle.bt_meta.proofs.Checks.{skips, first_of-append, each_none, holds_unless}
 use Rattle.bt_meta.proofs.MadeCanonical.{canonical_made}
 use Rattle.bt_meta.proofs.MadeGiven.{Agree, AreLawful, IsLawful, lawful_ordered, ordered_named}
 use Rattle.bt_meta.proofs.Lists.{All-back}
@@ -62,7 +62,7 @@ module _ (n : ℕ) (f : Given) (long : nat_lt n f.length ≡ true) where
       let sized = sym (both.1 (more_bytes n f.length long) (more_bytes n g.length parts.0) (sym rooted)) in
       let checks : List Check = fault_if (not (has_layer_size n g.length g.layer)) layer_size ∷ fault_if
       (not (has_root n g.length g.root g.layer)) layer_differs ∷ [] in
-      let own = passed checks (rw parts.0 at both.0.layer) in
+      let own = each_none checks (rw parts.0 at both.0.layer) in
       record {
         size = rw (← sized) (holds_unless (has_layer_size n g.length g.layer) layer_size own.0);
         root = rw (← sized, ← rooted) (holds_unless (has_root n g.length g.root g.layer) layer_differs own.1.0);

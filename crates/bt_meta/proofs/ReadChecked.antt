@@ -15,7 +15,7 @@ use Rattle.bt_meta.specs.TreeEntries.{TreeEntry, tree_entries_below, with_earlie
 use Rattle.bt_meta.specs.Files.{is_file, properties_of, length_in, root_in, length_of, root_of, is_conflict, pieces_of}
 use Rattle.bt_meta.specs.Faults.{Check, first_of, fault_if, is_node, has_lawful_name, has_lawful_length, has_lawful_root, conflict, is_too_many, file_checks, entry_check, tree_checks}
 use Rattle.bt_meta.specs.declared.error.MetaError.TheVariants.{Tree, BadPath, FileLength, BadRoot, RootConflict, TooMany}
-use Rattle.bt_meta.proofs.Checks.{HavePassed, passed, passed_first, both_passed, holds_unless, not_faulty}
+use Rattle.bt_meta.proofs.Checks.{AreNone, each_none, first_none, both_none, holds_unless, not_faulty}
 use Rattle.bt_meta.proofs.Lists.{none_of}
 use Rattle.bt_meta.proofs.RootLengths.{no_conflict}
 use Rattle.bt_meta.proofs.WalkChecks.{has_conflict}
@@ -73,9 +73,9 @@ module _ (n : ℕ) (before : List TreeEntry) (p : TreeEntry) where
       ∷ fault_if (is_too_many n before p) TooMany
       ∷ [] in
       let properties = properties_of p in
-      let own = passed checks h in
-      let of_file : is_file p ≡ true → HavePassed (file_checks before p) =
-      λ file. passed (file_checks before p) (ap (λ b. if b then first_of (file_checks before p) else None) (sym file) ∙ own.1.1.0) in
+      let own = each_none checks h in
+      let of_file : is_file p ≡ true → AreNone (file_checks before p) =
+      λ file. each_none (file_checks before p) (ap (λ b. if b then first_of (file_checks before p) else None) (sym file) ∙ own.1.1.0) in
       record {
         node = holds_unless (is_node p.value) Tree own.0;
         named = holds_unless (has_lawful_name p) BadPath own.1.0;
@@ -135,7 +135,7 @@ module _ (n : ℕ) where
   checked_behind : (before es : List TreeEntry) → AreChecked n before → first_of (with_earlier (entry_check n) before es) ≡ None → AreChecked n (before ++ es)
   checked_behind before [] h none = rw (append-nil before) h
   checked_behind before (p ∷ es) h none =
-      let p_passed = passed_first (entry_check n before p) (with_earlier (entry_check n) (before ++ p ∷ []) es) none in
+      let p_passed = first_none (entry_check n before p) (with_earlier (entry_check n) (before ++ p ∷ []) es) none in
       rw (← append_assoc before (p ∷ []) es) (checked_behind (before ++ p ∷ []) es (checked_more before p h p_passed.0) p_passed.1)
 
   -- what is known of a tree without a fault
@@ -149,8 +149,8 @@ module _ (n : ℕ) where
       let es = tree_entries_below [] tree in
       let entries = with_earlier (entry_check n) [] es in
       let last : List Check = fault_if (not (list_any is_file es)) Tree ∷ [] in
-      let behind_top = passed_first (fault_if (has_key tree []) Tree) (entries ++ last) h in
-      let parts = both_passed entries last behind_top.1 in
+      let behind_top = first_none (fault_if (has_key tree []) Tree) (entries ++ last) h in
+      let parts = both_none entries last behind_top.1 in
       let begun : AreChecked n [] = record {
         nodes = All-nil IsNode;
         named = All-nil IsNamed;
@@ -159,4 +159,4 @@ module _ (n : ℕ) where
         files = omega arith;
         pieces = omega arith;
       } in
-      record { entries = checked_behind [] es begun parts.0; some = holds_unless (list_any is_file es) Tree (passed last parts.1).0 }
+      record { entries = checked_behind [] es begun parts.0; some = holds_unless (list_any is_file es) Tree (each_none last parts.1).0 }

@@ -21,7 +21,7 @@ use Rattle.bt_meta.specs.Layers.{has_layer_size, has_root}
 use Rattle.bt_meta.specs.TreeEntries.{TreeEntry, tree_entries_below, with_earlier}
 use Rattle.bt_meta.specs.Torrent.{Metainfo, metainfo_of, HaveAscendingPaths, IsApart, IsLawful, IsLawfulFile}
 use Rattle.bt_meta.specs.declared.error.MetaError.TheVariants.{NoInfo, PieceLength, LayerMissing, LayerSize, LayerDiffers}
-use Rattle.bt_meta.proofs.Checks.{passed, passed_first, both_passed, holds_unless}
+use Rattle.bt_meta.proofs.Checks.{each_none, first_none, both_none, holds_unless}
 use Rattle.bt_meta.proofs.ReadPieces.{in_turn}
 use Rattle.bt_meta.proofs.WalkTree.{same_sum, some_of_filter}
 use Rattle.bt_meta.proofs.WalkFiles.{no_layer, length-with_earlier}
@@ -31,7 +31,7 @@ use Rattle.bt_meta.proofs.ReadAscending.{IsAhead, below_ahead, apart, at_key}
 
 head_lawful : (info : Data) → first_of (head_checks info) ≡ None → is_piece_length (piece_length_of info) ≡ true
 unfolding head_checks
-head_lawful info h = holds_unless (is_piece_length (piece_length_of info)) PieceLength (passed (head_checks info) h).1.1.1.0
+head_lawful info h = holds_unless (is_piece_length (piece_length_of info)) PieceLength (each_none (head_checks info) h).1.1.1.0
 
 pub piece_lawful : (n : ℕ) → is_piece_length n ≡ true → IsPieceLength n
 piece_lawful n e =
@@ -60,7 +60,7 @@ module _ (n : ℕ) (layers : Data) where
       let long : layer_at n layers p ≢ [] → nat_lt n (length_of p) ≡ true = then_long (nat_lt n (length_of p)) (unwrap_or (string_at layers (root_of p)) []) in
       let checks : List Check = fault_if (is_none (string_at layers (root_of p))) LayerMissing ∷ layer_bytes_checks n (length_of p) (root_of p)
       (layer_at n layers p) in
-      let own = λ (some : layer_at n layers p ≢ []). passed checks (ap (λ b. if b then first_of checks else None) (sym (long some)) ∙ h) in
+      let own = λ (some : layer_at n layers p ≢ []). each_none checks (ap (λ b. if b then first_of checks else None) (sym (long some)) ∙ h) in
       record {
         long = λ some. ltb-true n (length_of p) (long some);
         sized = λ some. holds_unless (has_layer_size n (length_of p) (layer_at n layers p)) LayerSize (own some).1.0;
@@ -70,7 +70,7 @@ module _ (n : ℕ) (layers : Data) where
   layered_all : (files : List TreeEntry) → first_of (map (layer_check n layers) files) ≡ None → All IsLayered files
   layered_all [] h = All-nil IsLayered
   layered_all (p ∷ files) h =
-      let q = passed_first (layer_check n layers p) (map (layer_check n layers) files) h in
+      let q = first_none (layer_check n layers p) (map (layer_check n layers) files) h in
       All-cons IsLayered p files (layered_entry p q.0) (layered_all files q.1)
 
   layered_tree : (tree : Data) → first_of (layer_checks n layers tree) ≡ None → All IsLayered (filter is_file (tree_entries_below [] tree))
@@ -174,13 +174,13 @@ unfolding metainfo_of tree_of
 lawful_info info layers keys h layered =
     let n = piece_length_of info in
     let tree = tree_of info in
-    let parts = both_passed (head_checks info) (tree_checks n tree) h in
+    let parts = both_none (head_checks info) (tree_checks n tree) h in
     lawful_tree n layers tree (tree_sound n tree parts.1) (at_key info (codes "file tree") keys) (head_lawful info parts.0) layered
 
 pub info_keeps_to : (info : Data) → HasAscendingKeys info → first_info_fault info ≡ None → KeepsTo (metainfo_of info no_dictionary)
 unfolding first_info_fault
 info_keeps_to info keys h =
-    lawful_info info no_dictionary keys (passed_first (fault_if (not (is_dictionary info)) NoInfo) (info_checks info) h).1
+    lawful_info info no_dictionary keys (first_none (fault_if (not (is_dictionary info)) NoInfo) (info_checks info) h).1
     (none_layered (piece_length_of info) (filter is_file (tree_entries_below [] (tree_of info))))
 
 pub torrent_keeps_to : (value : Data) → HasAscendingKeys value → first_fault value ≡ None → KeepsTo (metainfo_of (info_of value) (layers_of value))
@@ -189,6 +189,6 @@ torrent_keeps_to value keys h =
     let info : Data = info_of value in
     let n = piece_length_of info in
     let checks : List Check = layer_checks n (layers_of value) (tree_of info) in
-    let parts = both_passed (info_checks info) checks
-    (passed_first (fault_if (is_none (dictionary_at value (codes "info"))) NoInfo) (info_checks info ++ checks) h).1 in
+    let parts = both_none (info_checks info) checks
+    (first_none (fault_if (is_none (dictionary_at value (codes "info"))) NoInfo) (info_checks info ++ checks) h).1 in
     lawful_info info (layers_of value) (at_key value (codes "info") keys) parts.0 (layered_tree n (layers_of value) (tree_of info) parts.1)

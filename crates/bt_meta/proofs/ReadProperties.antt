@@ -36,9 +36,9 @@ module _ (element : List ℕ) where
       unfolding is_path_element
       refused_zero r = rw (← p, ← q, ← r) refl
 
-      pub taken : {text : List ℕ} → false ≡ list_any (λ b. b == 0) element → IsUtf8 element → text ≡ element → Some text ≡ lawful
+      pub lawful_text : {text : List ℕ} → false ≡ list_any (λ b. b == 0) element → IsUtf8 element → text ≡ element → Some text ≡ lawful
       unfolding is_path_element
-      taken r u e = rw (← p, ← q, ← r, is_utf8-from_IsUtf8 element u, e) refl
+      lawful_text r u e = rw (← p, ← q, ← r, is_utf8-from_IsUtf8 element u, e) refl
 
 -- ---- roots
 

@@ -1,4 +1,4 @@
-use Rattle.bt_meta.proofs.ReadProperties.{refused_dots, refused_slash, refused_zero, refused_bytes, taken}
+use Rattle.bt_meta.proofs.ReadProperties.{refused_dots, refused_slash, refused_zero, refused_bytes, lawful_text}
 use Rattle.bt_meta.proofs.properties.path_element.Goals as goal
 
 pub returns-then-is_dots : goal.returns-then-is_dots
@@ -11,7 +11,7 @@ returns-then-is_dots c =
 
 pub returns-in-Ok : goal.returns-in-Ok
 returns-in-Ok c =
-    taken c.args.element.now c.if-is_dots.ensures c.if-contains.ensures.value c.if-contains-2.ensures.value c.in-Ok.ensures.cases.1 c.in-Ok.ensures.cases.0
+    lawful_text c.args.element.now c.if-is_dots.ensures c.if-contains.ensures.value c.if-contains-2.ensures.value c.in-Ok.ensures.cases.1 c.in-Ok.ensures.cases.0
 
 pub returns-in-Err : goal.returns-in-Err
 returns-in-Err c = refused_bytes c.args.element.now c.in-Err.ensures.cases.0

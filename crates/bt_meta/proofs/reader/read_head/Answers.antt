@@ -2,7 +2,7 @@ use Rattle.std.proofs.Common.{refl}
 use Rattle.std.proofs.lemmas.Result.{err_from_is_err_and}
 use Rattle.bt_bencode.specs.Value.{data_of}
 use Rattle.bt_meta.specs.Faults.{piece_length_of}
-use Rattle.bt_meta.proofs.Choices.{kept, dropped}
+use Rattle.bt_meta.proofs.Choices.{test_of_some, test_of_none}
 use Rattle.bt_meta.proofs.ReadHead.{lawful_in, head_version, head_hybrid, head_name, head_length, head_tree, head_is}
 use Rattle.bt_meta.proofs.reader.read_head.Goals as goal
 
@@ -21,18 +21,18 @@ pub returns-in_default-piece_length : goal.returns-in_default-piece_length
 returns-in_default-piece_length c =
     let info = data_of c.args.info.now in
     head_length info c.in_ok-check_version.ensures c.if-is_hybrid.ensures c.in-Some.ensures
-    (dropped (lawful_in info) (piece_length_of info) c.in_default-piece_length.ensures)
+    (test_of_none (lawful_in info) (piece_length_of info) c.in_default-piece_length.ensures)
 
 pub returns-in_default-dictionary : goal.returns-in_default-dictionary
 returns-in_default-dictionary c =
     let info = data_of c.args.info.now in
     head_tree info c.in_ok-check_version.ensures c.if-is_hybrid.ensures c.in-Some.ensures
-    (kept (lawful_in info) (piece_length_of info) c.in-Some-piece_length.piece_length c.in-Some-piece_length.ensures).0 c.in_default-dictionary.ensures
+    (test_of_some (lawful_in info) (piece_length_of info) c.in-Some-piece_length.piece_length c.in-Some-piece_length.ensures).0 c.in_default-dictionary.ensures
 
 pub returns : goal.returns
 returns c =
     let info = data_of c.args.info.now in
-    let length = kept (lawful_in info) (piece_length_of info) c.in-Some-piece_length.piece_length c.in-Some-piece_length.ensures in
+    let length = test_of_some (lawful_in info) (piece_length_of info) c.in-Some-piece_length.piece_length c.in-Some-piece_length.ensures in
     head_is info c.in_ok-check_version.ensures c.if-is_hybrid.ensures c.in-Some.ensures length.0
     (record {
       name = c.in-Some.name;
