@@ -1,6 +1,6 @@
 -- What a list of checks answers.
 use Rattle.std.proofs.Common.{◌≡◌, Bool, true, false, List, [], ◌∷◌, ◌++◌, Option, None, Some, refl}
-use Rattle.std.specs.Prelude.{not}
+use Rattle.std.specs.Prelude.{not, ⊤}
 use Rattle.bt_meta.specs.Faults.{first_of, fault_if}
 
 module _ {E : Type 0} where
@@ -20,12 +20,6 @@ module _ {E : Type 0} where
   pub stops : (check : Option E) (checks : List (Option E)) (fault : E) → check ≡ Some fault → first_of (check ∷ checks) ≡ Some fault
   stops check checks fault e = rw e refl
 
-  pub passes : (test : Bool) (fault : E) → test ≡ false → fault_if test fault ≡ None
-  passes test fault e = rw e refl
-
-  pub fails : (test : Bool) (fault : E) → test ≡ true → fault_if test fault ≡ Some fault
-  fails test fault e = rw e refl
-
   pub head_none : (check : Option E) (checks : List (Option E)) → first_of (check ∷ checks) ≡ None → check ≡ None
   head_none None checks e = refl
   head_none (Some fault) checks e = cc
@@ -41,3 +35,21 @@ module _ {E : Type 0} where
   pub holds_unless : (test : Bool) (fault : E) → fault_if (not test) fault ≡ None → test ≡ true
   holds_unless true fault e = refl
   holds_unless false fault e = cc
+
+  pub first_none : (check : Option E) (checks : List (Option E)) → first_of (check ∷ checks) ≡ None → (check ≡ None) × (first_of checks ≡ None)
+  first_none None checks e = (refl, e)
+  first_none (Some fault) checks e = cc
+
+  abbrev pub AreNone : List (Option E) → Type 0
+  AreNone [] = ⊤
+  AreNone (check ∷ checks) = (check ≡ None) × AreNone checks
+
+  pub each_none : (checks : List (Option E)) → first_of checks ≡ None → AreNone checks
+  each_none [] h = tt
+  each_none (None ∷ checks) h = (refl, each_none checks h)
+  each_none (Some fault ∷ checks) h = cc
+
+  pub both_none : (xs ys : List (Option E)) → first_of (xs ++ ys) ≡ None → (first_of xs ≡ None) × (first_of ys ≡ None)
+  both_none [] ys h = (refl, h)
+  both_none (None ∷ xs) ys h = both_none xs ys h
+  both_none (Some fault ∷ xs) ys h = cc

@@ -1,15 +1,15 @@
 -- What dictionaries have.
-use Rattle.std.proofs.Common.{◌≡◌, ◌⊎◌, inl, inr, ℕ, ℤ, Bool, true, false, List, [], ◌∷◌, ◌++◌, length, Option, None, Some, refl, sym, ap, subst, ◌∙◌, arith}
-use Rattle.std.specs.Prelude.{codes, unwrap_or, nat_eq, not, is_some, ◌&&◌, ◌||◌, ◌==◌, if◌then◌else◌}
+use Rattle.std.proofs.Common.{◌≡◌, ◌⊎◌, inl, inr, ℕ, ℤ, Bool, true, false, List, [], ◌∷◌, ◌++◌, length, Option, None, Some, refl, sym, ap, ◌∙◌, arith}
+use Rattle.std.specs.Prelude.{codes, unwrap_or, nat_eq, not, is_some, ◌&&◌, ◌||◌, ◌==◌}
 use Rattle.std.specs.Option.{option_and_then}
 use Rattle.std.specs.Cmp.Lexicographic.{pointwise}
 use Rattle.std.specs.Global.{Vec}
 use Rattle.std.proofs.lemmas.List.{append-nil}
+use Rattle.std.proofs.lemmas.Bool.{cases_Bool}
 use Rattle.std.proofs.lemmas.Bool.Decides.{nat_tests}
-use Rattle.bt_bencode.specs.Value.{Data, integer, string, list, dictionary, Entries, no_entries, entry}
+use Rattle.bt_bencode.specs.Value.{Data, integer, string, list, dictionary, Entries, no_entries, entry, data_of, entries_of}
 use Rattle.bt_bencode.specs.Dictionary.{field_of, first_value_of}
 use Rattle.bt_bencode.specs.Doc.{HasAscendingKeys, EntriesAscend}
-use Rattle.bt_bencode.specs.Value.{data_of, entries_of}
 use Rattle.bt_bencode.proofs.ValueData.{data_of-Int, data_of-Bytes, data_of-List}
 use Rattle.bt_bencode.specs.declared.value.Value.TheViews as views
 use Rattle.bt_bencode.specs.declared.value.Value.{Value, Int, Bytes}
@@ -46,35 +46,38 @@ single_below path (dictionary (entry [] d no_entries)) s h = refl
 single_below path (dictionary (entry (byte ∷ bytes) d no_entries)) s h = cc
 single_below path (dictionary (entry key d (entry other e es))) s h = cc
 
-pub not_node : (d : Data) → is_dictionary d ≡ false → is_node d ≡ false
-unfolding is_node
-not_node d e = rw e refl
+module _ (d : Data) where
+  pub not_node : is_dictionary d ≡ false → is_node d ≡ false
+  unfolding is_node
+  not_node e = rw e refl
 
-pub folder_node : (d : Data) → is_dictionary d ≡ true → has_key d [] ≡ false → is_node d ≡ true
-unfolding is_node
-folder_node d e h = rw (e, h) refl
+  both_hold : (a b c : Bool) → (a && (not true || (b && c))) ≡ true → b ≡ true
+  both_hold true true c e = refl
+  both_hold true false c e = cc
+  both_hold false b c e = cc
 
-both_hold : (a b c : Bool) → (a && (not true || (b && c))) ≡ true → b ≡ true
-both_hold true true c e = refl
-both_hold true false c e = cc
-both_hold false b c e = cc
+  -- nothing lies below a file
+  pub file_below : (path : List (List ℕ)) → is_node d ≡ true → has_key d [] ≡ true → tree_entries_below path d ≡ []
+  unfolding is_node
+  file_below path node file = single_below path d (both_hold (is_dictionary d) (is_single d) (is_some (dictionary_at d [])) (rw file at node)) file
 
--- nothing lies below a file
-pub file_below : (path : List (List ℕ)) (d : Data) → is_node d ≡ true → has_key d [] ≡ true → tree_entries_below path d ≡ []
-unfolding is_node
-file_below path d node file = single_below path d (both_hold (is_dictionary d) (is_single d) (is_some (dictionary_at d [])) (rw file at node)) file
+  module _ (e : is_dictionary d ≡ true) where
+    pub folder_node : has_key d [] ≡ false → is_node d ≡ true
+    unfolding is_node
+    folder_node h = rw (e, h) refl
 
-pub crowded_node : (d : Data) → is_dictionary d ≡ true → has_key d [] ≡ true → is_single d ≡ false → is_node d ≡ false
-unfolding is_node
-crowded_node d e h s = rw (e, h, s) refl
+    module _ (h : has_key d [] ≡ true) where
+      pub crowded_node : is_single d ≡ false → is_node d ≡ false
+      unfolding is_node
+      crowded_node s = rw (e, h, s) refl
 
-pub file_node_is : (d properties : Data) → is_dictionary d ≡ true → has_key d [] ≡ true → is_single d ≡ true → Some properties ≡ dictionary_at d [] → is_node d ≡ true
-unfolding is_node
-file_node_is d properties e h s p = rw (e, h, s, ← p) refl
+      pub file_node_is : {properties : Data} → is_single d ≡ true → Some properties ≡ dictionary_at d [] → is_node d ≡ true
+      unfolding is_node
+      file_node_is s p = rw (e, h, s, ← p) refl
 
-pub empty_node : (d : Data) → is_dictionary d ≡ true → has_key d [] ≡ true → is_single d ≡ true → None ≡ dictionary_at d [] → is_node d ≡ false
-unfolding is_node
-empty_node d e h s p = rw (e, h, s, ← p) refl
+      pub empty_node : is_single d ≡ true → None ≡ dictionary_at d [] → is_node d ≡ false
+      unfolding is_node
+      empty_node s p = rw (e, h, s, ← p) refl
 
 pub empty_key : (path : List (List ℕ)) (key : List ℕ) (d : Data) → true ≡ (length key == 0) → tree_entries_of path key d ≡ []
 unfolding tree_entries_among
@@ -88,18 +91,18 @@ pub key_entries : (path : List (List ℕ)) (key : List ℕ) (d : Data) → false
     → tree_entries_of path key d ≡ (record { path = path ++ key ∷ []; value = d }) ∷ tree_entries_below (path ++ key ∷ []) d
 unfolding tree_entries_among
 key_entries path [] d e = cc
-key_entries path (byte ∷ bytes) d e = let inner = path ++ (byte ∷ bytes) ∷ [] in ap (λ xs. record { path = inner; value = d } ∷ xs) (append-nil (tree_entries_below inner d))
+key_entries path (byte ∷ bytes) d e = let inner = path ++ (byte ∷ bytes) ∷ [] in
+    ap (λ xs. record { path = inner; value = d } ∷ xs) (append-nil (tree_entries_below inner d))
 
 -- ---- `piece layers`
 
 value_ascends : (es : Entries) (key : List ℕ) (d : Data) → EntriesAscend es → first_value_of es key ≡ Some d → HasAscendingKeys d
 unfolding EntriesAscend
 value_ascends no_entries key d h e = cc
-value_ascends (entry k v es) key d h e = value_at (pointwise nat_eq k key) v es key d h.1 (λ f. value_ascends es key d h.2 f) e
-  where
-    value_at : (b : Bool) (v : Data) (es : Entries) (key : List ℕ) (d : Data) → HasAscendingKeys v → (first_value_of es key ≡ Some d → HasAscendingKeys d) → (if b then Some v else first_value_of es key) ≡ Some d → HasAscendingKeys d
-    value_at true v es key d h more e = let same : v ≡ d = cc in let P : Data → Type 0 = λ x. HasAscendingKeys x in subst P same h
-    value_at false v es key d h more e = more e
+value_ascends (entry k v es) key d h e = elim (cases_Bool (pointwise nat_eq k key)) [
+  | inl same ↦ let is : Some v ≡ Some d = rw same at e in let value : v ≡ d = cc in rw value at h.1
+  | inr other ↦ value_ascends es key d h.2 (rw other at e)
+]
 
 pub field_ascends : (d : Data) (key : List ℕ) (v : Data) → HasAscendingKeys d → field_of d key ≡ Some v → HasAscendingKeys v
 unfolding HasAscendingKeys
@@ -115,38 +118,12 @@ entries_ascend (string s) h = tt
 entries_ascend (list ds) h = tt
 entries_ascend (dictionary es) h = h
 
-abbrev as_dictionary_of : Option Data → Option Data
-as_dictionary_of None = None
-as_dictionary_of (Some (integer z)) = None
-as_dictionary_of (Some (string s)) = None
-as_dictionary_of (Some (list ds)) = None
-as_dictionary_of (Some (dictionary es)) = Some (dictionary es)
-
-dictionary_is_field : (o : Option Data) (v : Data) → Some v ≡ as_dictionary_of o → o ≡ Some v
+dictionary_is_field : (o : Option Data) (v : Data) → Some v ≡ option_and_then as_dictionary o → o ≡ Some v
 dictionary_is_field None v e = cc
 dictionary_is_field (Some (integer z)) v e = cc
 dictionary_is_field (Some (string s)) v e = cc
 dictionary_is_field (Some (list ds)) v e = cc
 dictionary_is_field (Some (dictionary es)) v e = sym e
-
-at_is : (d : Data) (key : List ℕ) → dictionary_at d key ≡ as_dictionary_of (field_of d key)
-unfolding dictionary_at
-at_is d key = same (field_of d key)
-  where
-    same : (o : Option Data) → option_and_then as_dictionary o ≡ as_dictionary_of o
-    same None = refl
-    same (Some (integer z)) = refl
-    same (Some (string s)) = refl
-    same (Some (list ds)) = refl
-    same (Some (dictionary es)) = refl
-
-field_at : (d : Data) (key : List ℕ) (v : Data) → Some v ≡ dictionary_at d key → field_of d key ≡ Some v
-field_at d key v e = dictionary_is_field (field_of d key) v (e ∙ at_is d key)
-
-pub layers_ascend : (torrent layers : Data) (es : Entries) → HasAscendingKeys torrent → Some layers ≡ dictionary_at torrent (codes "piece layers") → es ≡ entries_in layers → EntriesAscend es
-layers_ascend torrent layers es h e is =
-    let P : Entries → Type 0 = λ x. EntriesAscend x in
-    subst P (sym is) (entries_ascend layers (field_ascends torrent (codes "piece layers") layers h (field_at torrent (codes "piece layers") layers e)))
 
 strings_in : (d : Data) (key : List ℕ) → string_at (dictionary (entries_in d)) key ≡ string_at d key
 unfolding string_at
@@ -155,13 +132,8 @@ strings_in (string s) key = refl
 strings_in (list ds) key = refl
 strings_in (dictionary es) key = refl
 
-pub layers_strings : (torrent layers : Data) (es : Entries) (key : List ℕ) → Some layers ≡ dictionary_at torrent (codes "piece layers") → es ≡ entries_in layers
-    → string_at (dictionary es) key ≡ string_at (layers_of torrent) key
-unfolding layers_of
-layers_strings torrent layers es key e is =
-    ap (λ x. string_at (dictionary x) key) is ∙ strings_in layers key ∙ ap (λ o. string_at (unwrap_or o no_dictionary) key) (sym (field_at torrent (codes "piece layers") layers e))
-
-no_strings : (o : Option Data) (key : List ℕ) → None ≡ as_dictionary_of o → string_at (dictionary no_entries) key ≡ string_at (unwrap_or o no_dictionary) key
+no_strings : (o : Option Data) (key : List ℕ) → None ≡ option_and_then as_dictionary o
+    → string_at (dictionary no_entries) key ≡ string_at (unwrap_or o no_dictionary) key
 unfolding string_at
 no_strings None key e = refl
 no_strings (Some (integer z)) key e = refl
@@ -169,15 +141,30 @@ no_strings (Some (string s)) key e = refl
 no_strings (Some (list ds)) key e = refl
 no_strings (Some (dictionary es)) key e = cc
 
-pub layers_absent : (torrent : Data) (key : List ℕ) → None ≡ dictionary_at torrent (codes "piece layers") → string_at (dictionary no_entries) key ≡ string_at (layers_of torrent) key
-unfolding layers_of
-layers_absent torrent key e = no_strings (field_of torrent (codes "piece layers")) key (e ∙ at_is torrent (codes "piece layers"))
+module _ (torrent : Data) where
+  module _ (layers : Data) (es : Entries) (e : Some layers ≡ dictionary_at torrent (codes "piece layers")) (is : es ≡ entries_in layers) where
+    field_there : field_of torrent (codes "piece layers") ≡ Some layers
+    unfolding dictionary_at
+    field_there = dictionary_is_field (field_of torrent (codes "piece layers")) layers e
+
+    pub layers_ascend : HasAscendingKeys torrent → EntriesAscend es
+    layers_ascend h = rw is (entries_ascend layers (field_ascends torrent (codes "piece layers") layers h field_there))
+
+    pub layers_strings : (key : List ℕ) → string_at (dictionary es) key ≡ string_at (layers_of torrent) key
+    unfolding layers_of
+    layers_strings key = rw (is, field_there) (strings_in layers key)
+
+  pub layers_absent : (key : List ℕ) → None ≡ dictionary_at torrent (codes "piece layers")
+      → string_at (dictionary no_entries) key ≡ string_at (layers_of torrent) key
+  unfolding layers_of dictionary_at
+  layers_absent key e = no_strings (field_of torrent (codes "piece layers")) key e
 
 pub nothing_ascends : EntriesAscend no_entries
 unfolding EntriesAscend
 nothing_ascends = tt
 
-pub no_dictionary_is : (v : Value) → ((x : ℤ) × (v ≡ Int x)) ⊎ (((x : Vec ℕ) × (v ≡ Bytes x)) ⊎ ((x : Vec Value) × (v ≡ views.List x))) → is_dictionary (data_of v) ≡ false
+pub no_dictionary_is : (v : Value) → ((x : ℤ) × (v ≡ Int x)) ⊎ (((x : Vec ℕ) × (v ≡ Bytes x)) ⊎ ((x : Vec Value) × (v ≡ views.List x)))
+    → is_dictionary (data_of v) ≡ false
 no_dictionary_is v (inl h) = ap is_dictionary (ap data_of h.1 ∙ data_of-Int h.0)
 no_dictionary_is v (inr (inl h)) = ap is_dictionary (ap data_of h.1 ∙ data_of-Bytes h.0)
 no_dictionary_is v (inr (inr h)) = ap is_dictionary (ap data_of h.1 ∙ data_of-List h.0)

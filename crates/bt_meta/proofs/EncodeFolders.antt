@@ -1,5 +1,5 @@
 -- The entries of a folder, and a file put behind them.
-use Rattle.std.proofs.Common.{◌≡◌, ℕ, true, false, List, [], ◌∷◌, ◌++◌, length, arith, refl, sym, ap, ◌∙◌, inl, inr, Some, None}
+use Rattle.std.proofs.Common.{◌≡◌, ◌⊎◌, ℕ, true, false, List, [], ◌∷◌, ◌++◌, length, arith, refl, sym, ap, ◌∙◌, inl, inr, Some, None}
 use Rattle.std.specs.Prelude.{unwrap_or, nat_eq, if◌then◌else◌}
 use Rattle.bt_meta.specs.Fields.{entries_in, no_dictionary}
 use Rattle.std.specs.Global.{Vec}
@@ -9,14 +9,14 @@ use Rattle.std.specs.declared.cmp.Ordering.{Ordering}
 use Rattle.std.specs.declared.cmp.Ordering.TheVariants.{Equal, Greater}
 use Rattle.std.proofs.lemmas.Cmp.{tied_itself}
 use Rattle.std.proofs.lemmas.Map.Text.{is_eq-slice_cmp}
-use Rattle.bt_bencode.specs.Value.{Data, dictionary, Entries, no_entries, entry}
+use Rattle.bt_bencode.specs.Value.{Data, dictionary, Entries, no_entries, entry, data_of, entries_of}
 use Rattle.bt_bencode.specs.Dictionary.{first_value_of}
-use Rattle.bt_bencode.specs.Value.{data_of, entries_of}
 use Rattle.bt_bencode.specs.declared.value.Value.{Value}
 use Rattle.bt_meta.specs.Encode.{with_entry, with_file}
 use Rattle.bt_meta.specs.EncodeSteps.{entries_before, AreBefore, ComesAfter, HasLastFolder}
 
-pub entries_push : (es : List (Vec ℕ × Value)) (key : Vec ℕ) (v : Value) → entries_of (es ++ (key, v) ∷ []) ≡ entries_before (entries_of es) (entry key.items (data_of v) no_entries)
+pub entries_push : (es : List (Vec ℕ × Value)) (key : Vec ℕ) (v : Value)
+    → entries_of (es ++ (key, v) ∷ []) ≡ entries_before (entries_of es) (entry key.items (data_of v) no_entries)
 entries_push [] key v = refl
 entries_push (e ∷ es) key v = ap (entry e.0.items (data_of e.1)) (entries_push es key v)
 
@@ -25,33 +25,29 @@ itself name = tied_itself nat_list_cmp_total name
 
 -- ---- a name behind the others
 
-pub with_behind : (name : List ℕ) (d : Data) (es : Entries) → AreBefore name es → with_entry name d es ≡ entries_before es (entry name d no_entries)
-unfolding with_entry
-with_behind name d no_entries h = refl
-with_behind name d (entry key e es) h = ap (λ o. match_ordering o (entry name d (entry key e es)) (entry name d es) (entry key e (with_entry name d es))) h.0 ∙ ap (entry key e) (with_behind name d es h.2)
+module _ (name : List ℕ) (d : Data) where
+  with_behind : (es : Entries) → AreBefore name es → with_entry name d es ≡ entries_before es (entry name d no_entries)
+  unfolding with_entry
+  with_behind no_entries h = refl
+  with_behind (entry key e es) h = rw (h.0, with_behind es h.2) refl
 
-pub with_last : (name : List ℕ) (d f : Data) (es : Entries) → AreBefore name es → with_entry name d (entries_before es (entry name f no_entries)) ≡ entries_before es (entry name d no_entries)
-unfolding with_entry
-with_last name d f no_entries h = ap (λ o. match_ordering o (entry name d (entry name f no_entries)) (entry name d no_entries) (entry name f (with_entry name d no_entries))) (itself name)
-with_last name d f (entry key e es) h =
-    let rest = entries_before es (entry name f no_entries) in
-    ap (λ o. match_ordering o (entry name d (entry key e rest)) (entry name d rest) (entry key e (with_entry name d rest))) h.0 ∙ ap (entry key e) (with_last name d f es h.2)
+  with_last : (f : Data) (es : Entries) → AreBefore name es → with_entry name d (entries_before es (entry name f no_entries)) ≡ entries_before es (entry name d no_entries)
+  unfolding with_entry
+  with_last f no_entries h = rw (itself name) refl
+  with_last f (entry key e es) h = rw (h.0, with_last f es h.2) refl
 
 -- ---- the value at a name
-
-same_name : (name : List ℕ) → pointwise nat_eq name name ≡ true
-same_name name = sym (is_eq-slice_cmp name name) ∙ ap is_eq (itself name)
 
 other_name : (name key : List ℕ) → slice_cmp nat_cmp name key ≡ Greater → pointwise nat_eq key name ≡ false
 other_name name key h = sym (is_eq-slice_cmp key name) ∙ ap is_eq (nat_list_cmp_total.antisymm key name ∙ ap ordering_reverse h)
 
 found : (name : List ℕ) (d : Data) (es : Entries) → AreBefore name es → first_value_of (entries_before es (entry name d no_entries)) name ≡ Some d
-found name d no_entries h = ap (λ b. if b then Some d else None) (same_name name)
-found name d (entry key e es) h = ap (λ b. if b then Some e else first_value_of (entries_before es (entry name d no_entries)) name) (other_name name key h.0) ∙ found name d es h.2
+found name d no_entries h = let same = sym (is_eq-slice_cmp name name) ∙ ap is_eq (itself name) in rw same refl
+found name d (entry key e es) h = rw (other_name name key h.0) (found name d es h.2)
 
 absent : (name : List ℕ) (es : Entries) → AreBefore name es → first_value_of es name ≡ None
 absent name no_entries h = refl
-absent name (entry key e es) h = ap (λ b. if b then Some e else first_value_of es name) (other_name name key h.0) ∙ absent name es h.2
+absent name (entry key e es) h = rw (other_name name key h.0) (absent name es h.2)
 
 -- ---- opening the last folder
 
@@ -60,17 +56,13 @@ behind_none [] = refl
 behind_none (name ∷ path) = inl tt
 
 pub opened_behind : (name : List ℕ) (path : List (List ℕ)) (es : Entries) → AreBefore name es → HasLastFolder name path es es no_entries
-opened_behind name path es h = record {
-  kept = λ d. with_behind name d es h;
-  opened = ap (λ o. entries_in (unwrap_or o no_dictionary)) (absent name es h);
-  behind = behind_none path;
-}
+opened_behind name path es h = record { kept = λ d. with_behind name d es h; opened = rw (absent name es h) refl; behind = behind_none path }
 
-pub opened_within : (name : List ℕ) (path : List (List ℕ)) (es earlier inner : Entries) → es ≡ entries_before earlier (entry name (dictionary inner) no_entries) → AreBefore name earlier → ComesAfter path inner
-    → HasLastFolder name path es earlier inner
+pub opened_within : (name : List ℕ) (path : List (List ℕ)) (es earlier inner : Entries)
+    → es ≡ entries_before earlier (entry name (dictionary inner) no_entries) → AreBefore name earlier → ComesAfter path inner → HasLastFolder name path es earlier inner
 opened_within name path es earlier inner e h behind = rw e (record {
   kept = λ d. with_last name d (dictionary inner) earlier h;
-  opened = ap (λ o. entries_in (unwrap_or o no_dictionary)) (found name (dictionary inner) earlier h);
+  opened = rw (found name (dictionary inner) earlier h) refl;
   behind = behind;
 })
 
@@ -78,7 +70,8 @@ some_entry : (es : Entries) (n : List ℕ) (d : Data) → entries_before es (ent
 some_entry no_entries n d e = cc
 some_entry (entry key f es) n d e = cc
 
-last_same : (a b : Entries) (n m : List ℕ) (d f : Data) → entries_before a (entry n d no_entries) ≡ entries_before b (entry m f no_entries) → (a ≡ b) × (n ≡ m) × (d ≡ f)
+last_same : (a b : Entries) (n m : List ℕ) (d f : Data) → entries_before a (entry n d no_entries) ≡ entries_before b (entry m f no_entries)
+    → (a ≡ b) × (n ≡ m) × (d ≡ f)
 last_same no_entries no_entries n m d f e = (refl, cc, cc)
 last_same no_entries (entry key g b) n m d f e = absurd (some_entry b m f cc)
 last_same (entry key g a) no_entries n m d f e = absurd (some_entry a n d cc)
@@ -96,28 +89,28 @@ before_last name n d (entry key e es) h = before_last name n d es h.2
 not_greater : (o : Ordering) → o ≡ Equal → o ≡ Greater → ⊥
 not_greater o e g = cc
 
--- the last entry is a folder of this name
-pub opened_folder : (name : List ℕ) (path : List (List ℕ)) (es : List (Vec ℕ × Value)) (key : Vec ℕ) (v : Value) (inner : Entries) → data_of v ≡ dictionary inner → key.items ≡ name
-    → ComesAfter (name ∷ path) (entries_of (es ++ (key, v) ∷ [])) → HasLastFolder name path (entries_of (es ++ (key, v) ∷ [])) (entries_of es) inner
-opened_folder name path es key v inner seen named behind =
-    let whole : entries_of (es ++ (key, v) ∷ []) ≡ entries_before (entries_of es) (entry name (dictionary inner) no_entries) = rw (entries_push es key v, seen, named) refl in
-    elim behind [
-      | inl before ↦ absurd (not_greater _ (itself name) (before_last name name (dictionary inner) (entries_of es) (rw whole at before)))
-      | inr last ↦
-          let p = last_same (entries_of es) last.earlier name name (dictionary inner) (dictionary last.inner) (sym whole ∙ last.last) in
-          let i : inner ≡ last.inner = cc in
-          opened_within name path (entries_of (es ++ (key, v) ∷ [])) (entries_of es) inner whole (rw p.0 last.before) (rw i last.behind)
-    ]
+module _ (name : List ℕ) (path : List (List ℕ)) (es : List (Vec ℕ × Value)) (key : Vec ℕ) (v : Value) (behind : ComesAfter (name ∷ path) (entries_of (es ++ (key, v) ∷ []))) where
+  -- the last entry is a folder of this name
+  pub opened_folder : {inner : Entries} → data_of v ≡ dictionary inner → key.items ≡ name → HasLastFolder name path (entries_of (es ++ (key, v) ∷ [])) (entries_of es) inner
+  opened_folder {inner} seen named =
+      let whole : entries_of (es ++ (key, v) ∷ []) ≡ entries_before (entries_of es) (entry name (dictionary inner) no_entries) = rw (entries_push es key v, seen, named) refl in
+      elim behind [
+        | inl before ↦ absurd (not_greater _ (itself name) (before_last name name (dictionary inner) (entries_of es) (rw whole at before)))
+        | inr last ↦
+            let p = last_same (entries_of es) last.earlier name name (dictionary inner) (dictionary last.inner) (sym whole ∙ last.last) in
+            let i : inner ≡ last.inner = cc in
+            opened_within name path (entries_of (es ++ (key, v) ∷ [])) (entries_of es) inner whole (rw p.0 last.before) (rw i last.behind)
+      ]
 
--- it is none
-pub opened_other : (name : List ℕ) (path : List (List ℕ)) (es : List (Vec ℕ × Value)) (key : Vec ℕ) (v : Value) → ((inner : Entries) → data_of v ≡ dictionary inner → key.items ≡ name → ⊥)
-    → ComesAfter (name ∷ path) (entries_of (es ++ (key, v) ∷ [])) → HasLastFolder name path (entries_of (es ++ (key, v) ∷ [])) (entries_of (es ++ (key, v) ∷ [])) no_entries
-opened_other name path es key v other behind = elim behind [
-  | inl before ↦ opened_behind name path (entries_of (es ++ (key, v) ∷ [])) before
-  | inr last ↦
-      let p = last_same (entries_of es) last.earlier key.items name (data_of v) (dictionary last.inner) (sym (entries_push es key v) ∙ last.last) in
-      absurd (other last.inner p.2 p.1)
-]
+  -- it is none
+  pub opened_other : ((inner : Entries) → data_of v ≡ dictionary inner → key.items ≡ name → ⊥)
+      → HasLastFolder name path (entries_of (es ++ (key, v) ∷ [])) (entries_of (es ++ (key, v) ∷ [])) no_entries
+  opened_other other = elim behind [
+    | inl before ↦ opened_behind name path (entries_of (es ++ (key, v) ∷ [])) before
+    | inr last ↦
+        let p = last_same (entries_of es) last.earlier key.items name (data_of v) (dictionary last.inner) (sym (entries_push es key v) ∙ last.last) in
+        absurd (other last.inner p.2 p.1)
+  ]
 
 pub opened_nothing : (name : List ℕ) (path : List (List ℕ)) → HasLastFolder name path no_entries no_entries no_entries
 opened_nothing name path = opened_behind name path no_entries tt
@@ -127,11 +120,51 @@ opened_nothing name path = opened_behind name path no_entries tt
 pub file_in : (name : List ℕ) (path : List (List ℕ)) (d : Data) (es earlier inner : Entries) → HasLastFolder name path es earlier inner
     → entries_before earlier (entry name (dictionary (with_file path d inner)) no_entries) ≡ with_file (name ∷ path) d es
 unfolding with_file
-file_in name path d es earlier inner h = sym (h.kept (dictionary (with_file path d inner))) ∙ ap (λ i. with_entry name (dictionary (with_file path d i)) es) (sym h.opened)
+file_in name path d es earlier inner h = sym (h.kept (dictionary (with_file path d inner)))
+    ∙ ap (λ i. with_entry name (dictionary (with_file path d i)) es) (sym h.opened)
 
 pub file_alone : (d : Data) (es : Entries) → es ≡ no_entries → entries_before es (entry [] d no_entries) ≡ with_file [] d es
 unfolding with_file with_entry
 file_alone d es e = rw e refl
+
+-- the folder before and after the file: the entries before the last one, which is a folder of this name
+pub record IsInFolder (Below : Entries → Entries → Type 0) (name : List ℕ) (old new : Entries) : Type 0 where
+  pub earlier : Entries
+  pub inner : Entries
+  pub more : Entries
+  pub before : AreBefore name earlier
+  pub split : ((old ≡ earlier) × (inner ≡ no_entries)) ⊎ (old ≡ entries_before earlier (entry name (dictionary inner) no_entries))
+  pub new_is : new ≡ entries_before earlier (entry name (dictionary more) no_entries)
+  pub below : Below inner more
+
+-- the new entries are the old ones and behind them, at this path, a file with these properties
+abbrev pub IsPut : Data → List (List ℕ) → Entries → Entries → Type 0
+IsPut d [] old new = (old ≡ no_entries) × (new ≡ entry [] d no_entries)
+IsPut d (name ∷ path) old new = IsInFolder (IsPut d path) name old new
+
+pub put_there : (path : List (List ℕ)) (d : Data) (es : Entries) → ComesAfter path es → IsPut d path es (with_file path d es)
+unfolding with_file with_entry
+put_there [] d es none = (none, rw none refl)
+put_there (name ∷ path) d es behind = elim behind [
+  | inl before ↦ record {
+    earlier = es;
+    inner = no_entries;
+    more = with_file path d no_entries;
+    before = before;
+    split = inl (refl, refl);
+    new_is = sym (file_in name path d es es no_entries (opened_behind name path es before));
+    below = put_there path d no_entries (behind_none path);
+  }
+  | inr last ↦ record {
+    earlier = last.earlier;
+    inner = last.inner;
+    more = with_file path d last.inner;
+    before = last.before;
+    split = inr last.last;
+    new_is = sym (file_in name path d es last.earlier last.inner (opened_within name path es last.earlier last.inner last.last last.before last.behind));
+    below = put_there path d last.inner last.behind;
+  }
+]
 
 pub no_path : {X : Type 0} (path : List X) → length path ≡ 0 → path ≡ []
 no_path [] e = refl

@@ -1,7 +1,7 @@
 -- Files in tree order, of which no path begins the next, go into a tree one behind the other.
-use Rattle.std.proofs.Common.{subst, ◌≡◌, ℕ, ◌+◌, ◌<◌, ◌≤◌, Bool, true, false, List, [], ◌∷◌, ◌++◌, length, map, refl, sym, ap, ◌∙◌, inl, inr}
+use Rattle.std.proofs.Common.{subst, ◌≡◌, ℕ, zero, suc, ◌+◌, ◌<◌, ◌≤◌, Bool, true, false, List, [], ◌∷◌, ◌++◌, length, map, refl, sym, ap, ◌∙◌, inl, inr, arith, add-one}
 use Rattle.std.specs.Prelude.{nat_eq, take, get_or, ◌&&◌}
-use Rattle.std.specs.Ordering.{nat_cmp, ordering_reverse, ordering_then, is_eq}
+use Rattle.std.specs.Ordering.{nat_cmp, ordering_reverse, is_eq}
 use Rattle.std.specs.Cmp.Lexicographic.{slice_cmp, pointwise, nat_list_cmp_total}
 use Rattle.std.specs.declared.cmp.Ordering.{Ordering}
 use Rattle.std.specs.declared.cmp.Ordering.TheVariants.{Less, Equal, Greater}
@@ -11,63 +11,54 @@ use Rattle.std.proofs.lemmas.Slice.Eq.{bytes_eq-Decides}
 use Rattle.bt_bencode.specs.Value.{Data, dictionary, Entries, no_entries, entry}
 use Rattle.bt_meta.specs.GivenFiles.{path_order, begins, Given, HaveTreePaths}
 use Rattle.bt_meta.specs.Encode.{with_file, properties_made, tree_made}
-use Rattle.bt_meta.specs.EncodeSteps.{entries_before, is_nonempty, AreNonEmpty, AreBefore, ComesAfter, HasLastFolder, given_at}
+use Rattle.bt_meta.specs.EncodeSteps.{entries_before, is_nonempty, AreNonEmpty, AreBefore, ComesAfter, given_at}
 use Rattle.std.specs.Borrow.{Bor}
 use Rattle.bt_meta.specs.declared.writer.Made.{Made}
-use Rattle.bt_meta.proofs.EncodeFolders.{behind_none, opened_behind, opened_within, file_in}
+use Rattle.bt_meta.proofs.EncodeFolders.{behind_none, IsPut, put_there}
 use Rattle.std.specs.List.{fold, All}
 use Rattle.std.proofs.lemmas.List.Elements.{All-get_or}
 use Rattle.std.proofs.lemmas.List.{take_more, take_all, get_or_default, get_or-map, length-map}
 use Rattle.std.proofs.lemmas.List.Sums.{fold_push}
 
-above : (m n k : List ℕ) → slice_cmp nat_cmp n m ≡ Less → slice_cmp nat_cmp n k ≡ Greater → slice_cmp nat_cmp m k ≡ Greater
-above m n k less greater =
-    let below : slice_cmp nat_cmp k n ≡ Less = nat_list_cmp_total.antisymm k n ∙ ap ordering_reverse greater in
-    nat_list_cmp_total.antisymm m k ∙ ap ordering_reverse (nat_list_cmp_total.trans k n m below less)
+module _ (m n : List ℕ) (less : slice_cmp nat_cmp n m ≡ Less) where
+  above : (k : List ℕ) → slice_cmp nat_cmp n k ≡ Greater → slice_cmp nat_cmp m k ≡ Greater
+  above k greater =
+      let below : slice_cmp nat_cmp k n ≡ Less = nat_list_cmp_total.antisymm k n ∙ ap ordering_reverse greater in
+      nat_list_cmp_total.antisymm m k ∙ ap ordering_reverse (nat_list_cmp_total.trans k n m below less)
 
-all_above : (m n : List ℕ) (d : Data) (es : Entries) → is_nonempty n ≡ true → slice_cmp nat_cmp n m ≡ Less → AreBefore n es → AreBefore m (entries_before es (entry n d no_entries))
-all_above m n d no_entries named less h = (nat_list_cmp_total.antisymm m n ∙ ap ordering_reverse less, named, tt)
-all_above m n d (entry key e es) named less h = (above m n key less h.0, h.1, all_above m n d es named less h.2)
+  all_above : (d : Data) (es : Entries) → is_nonempty n ≡ true → AreBefore n es → AreBefore m (entries_before es (entry n d no_entries))
+  all_above d no_entries named h = (nat_list_cmp_total.antisymm m n ∙ ap ordering_reverse less, named, tt)
+  all_above d (entry key e es) named h = (above key h.0, h.1, all_above d es named h.2)
 
 pub same_bytes : (n m : List ℕ) → slice_cmp nat_cmp n m ≡ Equal → n ≡ m
 same_bytes n m e = (bytes_eq-Decides n m).0 (sym (is_eq-slice_cmp n m) ∙ ap is_eq e)
-
--- where the first names are the same, the rests decide
-rest_less : (o r : Ordering) → o ≡ Equal → ordering_then o r ≡ Less → r ≡ Less
-rest_less o r e less = rw e at less
-
-no_greater : (o r : Ordering) → o ≡ Greater → ordering_then o r ≡ Less → ⊥
-no_greater o r e less = let greater : Greater ≡ Less = rw e at less in cc
 
 rest_apart : (n m : List ℕ) (b : Bool) → n ≡ m → (pointwise nat_eq n m && b) ≡ false → b ≡ false
 rest_apart n m b e apart =
     let one : pointwise nat_eq n m ≡ true = (bytes_eq-Decides n m).1 e in
     rw one at apart
 
-pub next_behind : (p q : List (List ℕ)) (d : Data) (es : Entries) → AreNonEmpty p → ComesAfter p es → path_order p q ≡ Less → begins p q ≡ false → ComesAfter q (with_file p d es)
-next_behind [] q d es named h less apart = absurd (true≢false apart)
-next_behind (n ∷ p) [] d es named h less apart = cc
-next_behind (n ∷ p) (m ∷ q) d es named h less apart = elim h [
-  | inl before ↦ next_in n m p q d es es no_entries named.0 (opened_behind n p es before) before less apart (λ r s t. next_behind p q d no_entries named.1 r s t)
-  | inr last ↦ next_in n m p q d es last.earlier last.inner named.0 (opened_within n p es last.earlier last.inner last.last last.before last.behind) last.before less apart (λ r s t. next_behind p q d last.inner named.1 r s t)
-]
+pub next_behind : (p q : List (List ℕ)) (d : Data) (es new : Entries) → AreNonEmpty p → IsPut d p es new → path_order p q ≡ Less → begins p q ≡ false
+    → ComesAfter q new
+next_behind [] q d es new named put less apart = absurd (true≢false apart)
+next_behind (n ∷ p) [] d es new named put less apart = cc
+next_behind (n ∷ p) (m ∷ q) d es new named put less apart =
+    rw put.new_is (by_order (slice_cmp nat_cmp n m) refl (λ r s. next_behind p q d put.inner put.more named.1 put.below r s))
   where
-    next_in : (n m : List ℕ) (p q : List (List ℕ)) (d : Data) (es earlier inner : Entries) → is_nonempty n ≡ true → HasLastFolder n p es earlier inner → AreBefore n earlier → path_order (n ∷ p) (m ∷ q) ≡ Less → begins (n ∷ p) (m ∷ q) ≡ false
-        → (ComesAfter p inner → path_order p q ≡ Less → begins p q ≡ false → ComesAfter q (with_file p d inner)) → ComesAfter (m ∷ q) (with_file (n ∷ p) d es)
-    next_in n m p q d es earlier inner named opened before less apart later = rw (← file_in n p d es earlier inner opened) (by_order (slice_cmp nat_cmp n m) refl)
-      where
-        by_order : (o : Ordering) → o ≡ slice_cmp nat_cmp n m → ComesAfter (m ∷ q) (entries_before earlier (entry n (dictionary (with_file p d inner)) no_entries))
-        by_order Less e = inl (all_above m n (dictionary (with_file p d inner)) earlier named (sym e) before)
-        by_order Equal e =
-            let same : n ≡ m = same_bytes n m (sym e) in
-            inr (record {
-              earlier = earlier;
-              inner = with_file p d inner;
-              last = ap (λ k. entries_before earlier (entry k (dictionary (with_file p d inner)) no_entries)) same;
-              before = rw (← same) before;
-              behind = later opened.behind (rest_less (slice_cmp nat_cmp n m) (path_order p q) (sym e) less) (rest_apart n m (begins p q) same apart);
-            })
-        by_order Greater e = absurd (no_greater (slice_cmp nat_cmp n m) (path_order p q) (sym e) less)
+    by_order : (o : Ordering) → o ≡ slice_cmp nat_cmp n m → (path_order p q ≡ Less → begins p q ≡ false → ComesAfter q put.more)
+        → ComesAfter (m ∷ q) (entries_before put.earlier (entry n (dictionary put.more) no_entries))
+    by_order Less e later = inl (all_above m n (sym e) (dictionary put.more) put.earlier named.0 put.before)
+    by_order Equal e later =
+        let same : n ≡ m = same_bytes n m (sym e) in
+        let rest : path_order p q ≡ Less = rw (← e) at less in
+        inr (record {
+          earlier = put.earlier;
+          inner = put.more;
+          last = rw same refl;
+          before = rw (← same) put.before;
+          behind = later rest (rest_apart n m (begins p q) same apart);
+        })
+    by_order Greater e later = let greater : Greater ≡ Less = rw (← e) at less in cc
 
 -- ---- the loop over the files
 
@@ -83,12 +74,14 @@ pub grown_begun : (files : List Given) → IsGrown files 0 no_entries
 unfolding tree_made
 grown_begun files = record { made = refl; behind = λ d lt. behind_none (get_or files 0 d).path }
 
-pub made_more : (files : List Given) (i : ℕ) (f : Given) → i < length files → f ≡ get_or files i f → tree_made (take (i + 1) files) ≡ put (tree_made (take i files)) f
+pub made_more : (files : List Given) (i : ℕ) (f : Given) → i < length files → f ≡ get_or files i f
+    → tree_made (take (i + 1) files) ≡ put (tree_made (take i files)) f
 unfolding tree_made
 made_more files i f lt is =
     ap (λ fs. fold put no_entries fs) (take_more files i f lt ∙ ap (λ x. take i files ++ x ∷ []) (sym is)) ∙ fold_push put no_entries (take i files) f
 
-pub grown_more : (files : List Given) (i : ℕ) (f : Given) (tree : Entries) → HaveTreePaths files → All (λ g. AreNonEmpty g.path) files → i < length files → f ≡ get_or files i f → IsGrown files i tree
+pub grown_more : (files : List Given) (i : ℕ) (f : Given) (tree : Entries) → HaveTreePaths files → All (λ g. AreNonEmpty g.path) files
+    → i < length files → f ≡ get_or files i f → IsGrown files i tree
     → IsGrown files (i + 1) (put tree f)
 grown_more files i f tree tree_paths named lt is h = record {
   made = ap (λ es. put es f) h.made ∙ sym (made_more files i f lt is);
@@ -100,16 +93,47 @@ grown_more files i f tree tree_paths named lt is h = record {
       let here : ComesAfter f.path tree = rw is (h.behind f lt) in
       let default : get_or files (i + 1) d ≡ q = get_or_default files (i + 1) d f more in
       let full : AreNonEmpty f.path = rw is (All-get_or (λ (g : Given). AreNonEmpty g.path) files i f lt named) in
-      rw default (next_behind f.path q.path (properties_made f) tree full here less apart);
+      rw default (next_behind f.path q.path (properties_made f) tree (put tree f) full (put_there f.path (properties_made f) tree here) less apart);
 }
 
 pub grown_found : (files : List Given) (i : ℕ) (tree : Entries) → IsGrown files i tree → length files ≤ i → tree ≡ tree_made files
 grown_found files i tree h all = h.made ∙ ap tree_made (take_all i files all)
 
-pub lent_at : (files : List (Bor Made)) (i : ℕ) (m : Bor Made) → i < length files → m ≡ get_or files i m → given_at m ≡ get_or (map given_at files) i (given_at m)
+pub lent_at : (files : List (Bor Made)) (i : ℕ) (m : Bor Made) → i < length files → m ≡ get_or files i m
+    → given_at m ≡ get_or (map given_at files) i (given_at m)
 lent_at files i m lt is = ap given_at is ∙ sym (get_or-map given_at files i m (given_at m) lt)
 
-pub behind_here : (files : List (Bor Made)) (i : ℕ) (m : Bor Made) (tree : Entries) → i < length files → m ≡ get_or files i m → IsGrown (map given_at files) i tree → ComesAfter (given_at m).path tree
+pub behind_here : (files : List (Bor Made)) (i : ℕ) (m : Bor Made) (tree : Entries) → i < length files → m ≡ get_or files i m
+    → IsGrown (map given_at files) i tree → ComesAfter (given_at m).path tree
 behind_here files i m tree lt is h =
     let within : i < length (map given_at files) = rw (length-map files given_at) lt in
     subst (λ (g : Given). ComesAfter g.path tree) (sym (lent_at files i m lt is)) (h.behind (given_at m) within)
+
+-- ---- what is so of the tree of all files
+
+abbrev pub nothing : Given
+nothing = record { path = []; length = 0; root = []; layer = [] }
+
+-- what is kept as one file more is put into the tree
+module _ (files : List Given) (tree_paths : HaveTreePaths files) (named : All (λ g. AreNonEmpty g.path) files) (P : List Given → Entries → Type 0)
+    (begun : P [] no_entries)
+    (more : (i : ℕ) (tree : Entries) → i < length files → ComesAfter (get_or files i nothing).path tree → P (take i files) tree
+    → P (take i files ++ get_or files i nothing ∷ []) (put tree (get_or files i nothing))) where
+  grown_to : (i : ℕ) → i ≤ length files → IsGrown files i (tree_made (take i files)) × P (take i files) (tree_made (take i files))
+  unfolding tree_made
+  grown_to zero within = (grown_begun files, begun)
+  grown_to (suc i) within =
+      let lt : i < length files = omega arith in
+      let f = get_or files i nothing in
+      let tree = tree_made (take i files) in
+      let before = grown_to i (omega arith) in
+      let is : f ≡ get_or files i f = sym (get_or_default files i f nothing lt) in
+      let next = made_more files i f lt is in
+      rw (← add-one i) (
+        rw next (grown_more files i f tree tree_paths named lt is before.0),
+        rw (next, take_more files i nothing lt)
+            (more i tree lt (before.0.behind nothing lt) before.1),
+      )
+
+  pub grows : P files (tree_made files)
+  grows = subst (λ fs. P fs (tree_made fs)) (take_all (length files) files (omega arith)) (grown_to (length files) (omega arith)).1

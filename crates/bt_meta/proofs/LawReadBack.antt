@@ -28,7 +28,8 @@ one_torrent bytes torrent other h k =
     let same = same_value h.value k.value bytes h.small h.canonical h.spelled k.canonical k.spelled in
     h.described ∙ ap (λ v. metainfo_of (info_of v) (layers_of v)) same ∙ sym k.described
 
-for_memory : (d : Data) (bytes : List ℕ) (fault : BencodeError) → IsCanonical d → spelling_of d ≡ bytes → AtFault (λ _ _. (d : Data) → IsCanonical d → spelling_of d ≢ bytes) fault → refusal_of fault ≡ OutOfMemory
+for_memory : (d : Data) (bytes : List ℕ) (fault : BencodeError) → IsCanonical d → spelling_of d ≡ bytes
+    → AtFault (λ _ _. (d : Data) → IsCanonical d → spelling_of d ≢ bytes) fault → refusal_of fault ≡ OutOfMemory
 for_memory d bytes (Truncated at) canonical spelled none = absurd (none d canonical spelled)
 for_memory d bytes (BadByte at) canonical spelled none = absurd (none d canonical spelled)
 for_memory d bytes (LeadingZero at) canonical spelled none = absurd (none d canonical spelled)

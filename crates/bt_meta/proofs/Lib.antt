@@ -2,9 +2,10 @@
 pub mod Checks
 pub mod Choices
 pub mod Dictionaries
+pub mod Lists
 -- reading: one entry of a file tree, the walk over all, and what it finds
 pub mod ReadProperties
-pub mod WalkPaths
+pub mod RootLengths
 pub mod WalkChecks
 pub mod WalkJoins
 pub mod WalkFiles
@@ -17,11 +18,10 @@ pub mod LayerFiles
 -- reading: the whole, and what every torrent keeps to
 pub mod ReadHead
 pub mod ReadRefusals
+pub mod ReadChecked
 pub mod ReadPieces
 pub mod ReadAscending
-pub mod ReadApart
 pub mod ReadNames
-pub mod ReadRoots
 pub mod ReadLawful
 -- where a range of a piece lies
 pub mod PlacePieces

@@ -1,38 +1,41 @@
 -- What is known of files that none of the checks before the making refuses.
-use Rattle.std.proofs.Common.{◌≡◌, ℕ, ◌≤◌, ◌^◌, Bool, true, false, List, [], ◌∷◌, ◌++◌, length, None, refl, ap, ◌∙◌, inl, inr, arith, append_assoc}
+use Rattle.std.proofs.Common.{sym, ◌≢◌, ◌≡◌, ℕ, ◌≤◌, Bool, true, false, List, [], ◌∷◌, ◌++◌, length, map, get_or, None, refl, ap, ◌∙◌, inl, inr, arith, append_assoc}
 use Rattle.std.specs.Prelude.{nat_eq, nat_le, nat_lt, slice_index_or, not, ◌&&◌, ◌||◌, ◌==◌, sum_by}
-use Rattle.std.specs.List.{All, list_any}
+use Rattle.std.specs.Borrow.{Bor}
+use Rattle.std.specs.List.{All, list_any, list_all}
 use Rattle.std.specs.Cmp.Lexicographic.{pointwise}
-use Rattle.std.proofs.lemmas.Bool.{cases_Bool}
+use Rattle.std.proofs.lemmas.Bool.{cases_Bool, and_parts, or_parts, leb-true}
 use Rattle.std.proofs.lemmas.Bool.Decides.{nat_tests}
-use Rattle.std.proofs.lemmas.List.{append-nil}
+use Rattle.std.proofs.lemmas.List.{append-nil, get_or-map, length-map}
 use Rattle.std.proofs.lemmas.List.Elements.{All-nil, All-cons, All-push, All-weaker}
 use Rattle.std.proofs.lemmas.List.Sorted.{All-permutation, length_permutation, sum_by-IsPermutation}
-use Rattle.bt_meta.specs.Faults.{first_of, fault_if}
+use Rattle.bt_tree.specs.Limits.{max_file_length}
+use Rattle.bt_meta.specs.Faults.{first_of, fault_if, is_path, is_element}
+use Rattle.bt_meta.specs.Limits.{max_path_length, max_file_count, max_piece_count}
 use Rattle.bt_meta.specs.TreeEntries.{with_earlier}
-use Rattle.bt_meta.specs.Files.{piece_count}
+use Rattle.bt_meta.specs.Files.{piece_count, is_conflict}
 use Rattle.bt_meta.specs.GivenFiles.{Given, IsInTreeOrder}
-use Rattle.bt_meta.specs.WriterRefusals.{file_refusal, own_refusal, layer_refusal, conflict_with, is_beyond}
-use Rattle.bt_meta.specs.Faults.{is_path}
+use Rattle.bt_meta.specs.EncodeSteps.{given_at, AreNonEmpty}
+use Rattle.bt_meta.specs.WriterRefusals.{Check, file_refusal, own_refusal, layer_refusal, conflict_with, is_beyond}
+use Rattle.bt_meta.specs.declared.writer.Made.{Made}
 use Rattle.bt_meta.specs.declared.writer.MakeError.TheVariants.{BadPath, FileLength, RootConflict, Count}
-use Rattle.bt_meta.proofs.EncodeLayers.{same_bytes_either_way}
-use Rattle.bt_meta.proofs.Checks.{head_none, tail_none, not_faulty, holds_unless}
-use Rattle.bt_meta.proofs.MakeNeighbours.{short_from}
+use Rattle.bt_meta.proofs.Lists.{none_of}
+use Rattle.bt_meta.proofs.RootLengths.{no_conflict}
+use Rattle.bt_meta.proofs.Checks.{each_none, first_none, not_faulty, holds_unless}
 
 -- a file that is lawful by itself
 pub record IsLawful (piece_length : ℕ) (f : Given) : Type 0 where
   pub path : is_path f.path ≡ true
-  pub short : f.length ≤ 2 ^ 40
+  pub short : f.length ≤ max_file_length
   pub layer : layer_refusal piece_length f ≡ None
-  pub shallow : length f.path ≤ 64
+  pub shallow : length f.path ≤ max_path_length
 
--- both have bytes, and one root, and two lengths
-abbrev pub clash : Given → Given → Bool
-clash f g = not (f.length == 0) && (not (g.length == 0) && pointwise nat_eq g.root f.root && not (g.length == f.length))
+-- where both have bytes and one root, they have one length
+abbrev pub Agree : Given → Given → Type 0
+Agree f g = f.length ≢ 0 → g.length ≢ 0 → f.root ≡ g.root → f.length ≡ g.length
 
--- no two files clash
 abbrev pub AreAlike : List Given → Type 0
-AreAlike files = All (λ f. All (λ g. clash f g ≡ false) files) files
+AreAlike files = All (λ f. All (Agree f) files) files
 
 abbrev pub count_in : ℕ → List Given → ℕ
 count_in piece_length files = sum_by (λ g. piece_count piece_length g.length) files
@@ -41,122 +44,113 @@ count_in piece_length files = sum_by (λ g. piece_count piece_length g.length) f
 pub record AreLawful (piece_length : ℕ) (files : List Given) : Type 0 where
   pub each : All (IsLawful piece_length) files
   pub alike : AreAlike files
-  pub few : length files ≤ 65536
-  pub pieces : count_in piece_length files ≤ 2 ^ 21
+  pub few : length files ≤ max_file_count
+  pub pieces : count_in piece_length files ≤ max_piece_count
 
 -- ---- one file
 
-within_limits : (path count pieces : ℕ) → (nat_lt 64 path || (nat_lt 65536 count || nat_lt (2 ^ 21) pieces)) ≡ false → (path ≤ 64) × (count ≤ 65536) × (pieces ≤ 2 ^ 21)
+within_limits : (path count pieces : ℕ) → (nat_lt max_path_length path || (nat_lt max_file_count count || nat_lt max_piece_count pieces)) ≡ false
+    → (path ≤ max_path_length) × (count ≤ max_file_count) × (pieces ≤ max_piece_count)
 within_limits path count pieces e = (grind (arith, nat_tests), grind (arith, nat_tests), grind (arith, nat_tests))
 
+-- the premises of one file behind others
 record IsTaken (piece_length : ℕ) (before : List Given) (f : Given) : Type 0 where
   lawful : IsLawful piece_length f
   alike : conflict_with before f ≡ false
-  few : length (before ++ f ∷ []) ≤ 65536
-  pieces : count_in piece_length (before ++ f ∷ []) ≤ 2 ^ 21
+  few : length (before ++ f ∷ []) ≤ max_file_count
+  pieces : count_in piece_length (before ++ f ∷ []) ≤ max_piece_count
 
 taken : (piece_length : ℕ) (before : List Given) (f : Given) → file_refusal piece_length before f ≡ None → IsTaken piece_length before f
 taken piece_length before f h =
-    let path = fault_if (not (is_path f.path)) BadPath in
-    let short = fault_if (not (nat_le f.length (2 ^ 40))) FileLength in
-    let conflict = fault_if (conflict_with before f) RootConflict in
-    let beyond = fault_if (is_beyond piece_length before f) Count in
-    let own : own_refusal piece_length f ≡ None = head_none (own_refusal piece_length f) (conflict ∷ beyond ∷ []) h in
-    let both : first_of (conflict ∷ beyond ∷ []) ≡ None = tail_none (own_refusal piece_length f) (conflict ∷ beyond ∷ []) h in
-    let sized : first_of (short ∷ layer_refusal piece_length f ∷ []) ≡ None = tail_none path (short ∷ layer_refusal piece_length f ∷ []) own in
-    let layered : first_of (layer_refusal piece_length f ∷ []) ≡ None = tail_none short (layer_refusal piece_length f ∷ []) sized in
+    let own : List Check =
+    fault_if (not (is_path f.path)) BadPath
+    ∷ fault_if (not (nat_le f.length max_file_length)) FileLength
+    ∷ layer_refusal piece_length f
+    ∷ [] in
+    let all : List Check =
+    own_refusal piece_length f
+    ∷ fault_if (conflict_with before f) RootConflict
+    ∷ fault_if (is_beyond piece_length before f) Count
+    ∷ [] in
+    let p = each_none all h in
+    let q = each_none own p.0 in
     let limits = within_limits (length f.path) (length (before ++ f ∷ [])) (count_in piece_length (before ++ f ∷ []))
-    (not_faulty (is_beyond piece_length before f) Count (head_none beyond [] (tail_none conflict (beyond ∷ []) both))) in
+    (not_faulty (is_beyond piece_length before f) Count p.1.1.0) in
     record {
       lawful = record {
-        path = holds_unless (is_path f.path) BadPath (head_none path (short ∷ layer_refusal piece_length f ∷ []) own);
-        short = short_from f.length FileLength (head_none short (layer_refusal piece_length f ∷ []) sized);
-        layer = head_none (layer_refusal piece_length f) [] layered;
+        path = holds_unless (is_path f.path) BadPath q.0;
+        short = leb-true f.length max_file_length (holds_unless (nat_le f.length max_file_length) FileLength q.1.0);
+        layer = q.1.1.0;
         shallow = limits.0;
       };
-      alike = not_faulty (conflict_with before f) RootConflict (head_none conflict (beyond ∷ []) both);
+      alike = not_faulty (conflict_with before f) RootConflict p.1.0;
       few = limits.1;
       pieces = limits.2;
     }
 
--- ---- clashes
+named_from : (path : List (List ℕ)) → list_all is_element path ≡ true → AreNonEmpty path
+named_from [] e = tt
+named_from ([] ∷ path) e = cc
+named_from ((byte ∷ bytes) ∷ path) e = (refl, named_from path (and_parts (is_element (byte ∷ bytes)) (list_all is_element path) e).1)
 
-swapped : (a b c d : Bool) → (a && (b && c && d)) ≡ (b && (a && c && d))
-swapped true true c d = refl
-swapped true false c d = refl
-swapped false true c d = refl
-swapped false false c d = refl
+-- ---- files of one root
 
-same_either_way : (n m : ℕ) → (n == m) ≡ (m == n)
-same_either_way n m = elim (cases_Bool (n == m)) [
-  | inl same ↦ grind (arith, nat_tests)
-  | inr other ↦ grind (arith, nat_tests)
-]
+all_agree : (before : List Given) (f : Given) → conflict_with before f ≡ false → All (Agree f) before
+all_agree before f e k d lt some other same =
+    let g = get_or before k d in
+    let filled : (f.length == 0) ≡ false = grind (arith, nat_tests) in
+    let none : list_any (λ g. is_conflict f.root f.length g.root g.length) before ≡ false = rw filled at e in
+    sym (no_conflict f.root f.length g.root g.length (none_of (λ (g : Given). is_conflict f.root f.length g.root g.length) before none k d lt) other (sym same))
 
-clash_either_way : (f g : Given) → clash f g ≡ clash g f
-clash_either_way f g =
-    swapped (not (f.length == 0)) (not (g.length == 0)) (pointwise nat_eq g.root f.root) (not (g.length == f.length))
-    ∙ ap (λ b. not (g.length == 0) && (not (f.length == 0) && b && not (g.length == f.length))) (same_bytes_either_way g.root f.root)
-    ∙ ap (λ b. not (g.length == 0) && (not (f.length == 0) && pointwise nat_eq f.root g.root && not b)) (same_either_way g.length f.length)
-
-no_clash_itself : (f : Given) → clash f f ≡ false
-no_clash_itself f = let e : (f.length == f.length) ≡ true = grind (arith, nat_tests) in rw e (ending (not (f.length == 0)) (pointwise nat_eq f.root f.root))
-  where
-    ending : (a b : Bool) → (a && (a && b && false)) ≡ false
-    ending true true = refl
-    ending true false = refl
-    ending false b = refl
-
-or_left : (a b : Bool) → (a || b) ≡ false → a ≡ false
-or_left true b e = cc
-or_left false b e = refl
-
-or_right : (a b : Bool) → (a || b) ≡ false → b ≡ false
-or_right true b e = cc
-or_right false b e = e
-
-none_of : (t : Bool) (test : Given → Bool) (xs : List Given) → (t && list_any test xs) ≡ false → All (λ g. (t && test g) ≡ false) xs
-none_of t test [] e = All-nil (λ g. (t && test g) ≡ false)
-none_of true test (x ∷ xs) e = All-cons (λ g. (true && test g) ≡ false) x xs (or_left (test x) (list_any test xs) e) (none_of true test xs (or_right (test x) (list_any test xs) e))
-none_of false test (x ∷ xs) e = All-cons (λ g. (false && test g) ≡ false) x xs refl (none_of false test xs refl)
-
-none_clash : (before : List Given) (f : Given) → conflict_with before f ≡ false → All (λ g. clash f g ≡ false) before
-none_clash before f e = none_of (not (f.length == 0)) (λ g. not (g.length == 0) && pointwise nat_eq g.root f.root && not (g.length == f.length)) before e
-
-alike_more : (before : List Given) (f : Given) → AreAlike before → All (λ g. clash f g ≡ false) before → AreAlike (before ++ f ∷ [])
-alike_more before f h apart =
-    let back : All (λ g. clash g f ≡ false) before = All-weaker (λ g. clash f g ≡ false) (λ g. clash g f ≡ false) (λ g e. clash_either_way g f ∙ e) before apart in
-    All-push (λ g. All (λ x. clash g x ≡ false) (before ++ f ∷ [])) before f
-    (λ k d lt. All-push (λ x. clash (slice_index_or before k d) x ≡ false) before f (h k d lt) (back k d lt))
-    (All-push (λ x. clash f x ≡ false) before f apart (no_clash_itself f))
+alike_more : (before : List Given) (f : Given) → AreAlike before → All (Agree f) before → AreAlike (before ++ f ∷ [])
+alike_more before f h own =
+    All-push (λ g. All (Agree g) (before ++ f ∷ [])) before f
+    (λ k d lt. All-push (Agree (get_or before k d)) before f (h k d lt) (λ some other same. sym (own k d lt other some (sym same))))
+    (All-push (Agree f) before f own (λ some other same. refl))
 
 -- ---- all files
 
-lawful_behind : (piece_length : ℕ) (before files : List Given) → AreLawful piece_length before → first_of (with_earlier (file_refusal piece_length) before files) ≡ None → AreLawful piece_length (before ++ files)
-lawful_behind piece_length before [] h none = rw (append-nil before) h
-lawful_behind piece_length before (f ∷ files) h none =
-    let rest = with_earlier (file_refusal piece_length) (before ++ f ∷ []) files in
-    let one = taken piece_length before f (head_none (file_refusal piece_length before f) rest none) in
-    let more : AreLawful piece_length (before ++ f ∷ []) = record {
-      each = All-push (IsLawful piece_length) before f h.each one.lawful;
-      alike = alike_more before f h.alike (none_clash before f one.alike);
-      few = one.few;
-      pieces = one.pieces;
-    } in
-    rw (← append_assoc before (f ∷ []) files) (lawful_behind piece_length (before ++ f ∷ []) files more (tail_none (file_refusal piece_length before f) rest none))
+module _ (piece_length : ℕ) where
+  lawful_behind : (before files : List Given) → AreLawful piece_length before
+      → first_of (with_earlier (file_refusal piece_length) before files) ≡ None → AreLawful piece_length (before ++ files)
+  lawful_behind before [] h none = rw (append-nil before) h
+  lawful_behind before (f ∷ files) h none =
+      let p = first_none (file_refusal piece_length before f) (with_earlier (file_refusal piece_length) (before ++ f ∷ []) files) none in
+      let one = taken piece_length before f p.0 in
+      let more : AreLawful piece_length (before ++ f ∷ []) = record {
+        each = All-push (IsLawful piece_length) before f h.each one.lawful;
+        alike = alike_more before f h.alike (all_agree before f one.alike);
+        few = one.few;
+        pieces = one.pieces;
+      } in
+      rw (← append_assoc before (f ∷ []) files) (lawful_behind (before ++ f ∷ []) files more p.1)
 
-lawful_all : (piece_length : ℕ) (files : List Given) → first_of (with_earlier (file_refusal piece_length) [] files) ≡ None → AreLawful piece_length files
-lawful_all piece_length files none =
-    lawful_behind piece_length [] files (record { each = All-nil (IsLawful piece_length); alike = All-nil (λ f. All (λ g. clash f g ≡ false) []); few = omega arith; pieces = omega arith }) none
+  module _ (files ordered : List Given) (none : first_of (with_earlier (file_refusal piece_length) [] files) ≡ None) (order : IsInTreeOrder files ordered) where
+    -- in another order too
+    pub lawful_ordered : AreLawful piece_length ordered
+    lawful_ordered =
+        let h = lawful_behind [] files (record {
+          each = All-nil (IsLawful piece_length);
+          alike = All-nil (λ f. All (Agree f) []);
+          few =
+              omega arith;
+          pieces = omega arith;
+        }) none in
+        record {
+          each = All-permutation (IsLawful piece_length) files ordered order.same h.each;
+          alike = All-permutation (λ f. All (Agree f) ordered) files ordered order.same
+              (λ i d lt. All-permutation (Agree (get_or files i d)) files ordered order.same (h.alike i d lt));
+          few = rw (length_permutation files ordered order.same) h.few;
+          pieces = rw (sum_by-IsPermutation (λ (g : Given). piece_count piece_length g.length) files ordered order.same) h.pieces;
+        }
 
--- in another order too
-pub lawful_ordered : (piece_length : ℕ) (files ordered : List Given) → first_of (with_earlier (file_refusal piece_length) [] files) ≡ None → IsInTreeOrder files ordered → AreLawful piece_length ordered
-lawful_ordered piece_length files ordered none order =
-    let h = lawful_all piece_length files none in
-    record {
-      each = All-permutation (IsLawful piece_length) files ordered order.same h.each;
-      alike = All-permutation (λ f. All (λ g. clash f g ≡ false) ordered) files ordered order.same
-          (All-weaker (λ f. All (λ g. clash f g ≡ false) files) (λ f. All (λ g. clash f g ≡ false) ordered) (λ f all. All-permutation (λ g. clash f g ≡ false) files ordered order.same all) files h.alike);
-      few = rw (length_permutation files ordered order.same) h.few;
-      pieces = rw (sum_by-IsPermutation (λ (g : Given). piece_count piece_length g.length) files ordered order.same) h.pieces;
-    }
+    pub ordered_named : All (λ g. AreNonEmpty g.path) ordered
+    ordered_named = λ i d lt. named_from (get_or ordered i d).path
+        (and_parts (not (length (get_or ordered i d).path == 0)) (list_all is_element (get_or ordered i d).path) (lawful_ordered.each i d lt).path).1
+
+pub lent_short : (piece_length : ℕ) (files : List Given) (ordered : List (Bor Made))
+    → first_of (with_earlier (file_refusal piece_length) [] files) ≡ None → IsInTreeOrder files (map given_at ordered)
+    → All (λ (m : Bor Made). m.now.length ≤ max_file_length) ordered
+lent_short piece_length files ordered none order k d lt =
+    rw (get_or-map given_at ordered k d (given_at d) lt) at
+    ((lawful_ordered piece_length files (map given_at ordered) none order).each k (given_at d) (rw (length-map ordered given_at) lt)).short

@@ -1,25 +1,26 @@
 -- The tree of files that are put into it in their order.
-use Rattle.std.proofs.Common.{subst, ◌≡◌, ℕ, zero, suc, ◌+◌, ◌<◌, ◌≤◌, ◌^◌, Bool, true, false, List, [], ◌∷◌, ◌++◌, length, map, None, refl, sym, ap, ◌∙◌, arith, inl, inr}
-use Rattle.std.specs.Prelude.{filter, get_or, take, replicate, codes, not, ◌||◌, ◌==◌, if◌then◌else◌}
-use Rattle.std.specs.List.{All, list_all}
-use Rattle.std.proofs.lemmas.Bool.{cases_Bool}
+use Rattle.std.proofs.Common.{◌≢◌, ◌≡◌, ℕ, ◌≤◌, ◌^◌, Bool, true, false, List, [], ◌∷◌, ◌++◌, length, map, None, refl, sym, ap, ◌∙◌, arith, inl, inr}
+use Rattle.std.specs.Prelude.{filter, get_or, take, replicate, codes, not, ◌||◌, ◌==◌, if◌then◌else◌, cond}
+use Rattle.std.specs.List.{All}
+use Rattle.std.proofs.lemmas.Str.{IsUtf8-nil, is_utf8-from_IsUtf8}
+use Rattle.std.proofs.lemmas.Bool.{cases_Bool, and_parts}
 use Rattle.std.proofs.lemmas.Bool.Decides.{nat_tests}
-use Rattle.std.proofs.lemmas.List.{take_more, take_all, map_push, get_or_default}
-use Rattle.std.proofs.lemmas.List.Elements.{All-nil, All-get_or}
+use Rattle.std.proofs.lemmas.List.{map_push}
+use Rattle.std.proofs.lemmas.List.Elements.{All-nil, All-tail}
 use Rattle.bt_bencode.specs.Value.{dictionary, Entries, no_entries, entry}
 use Rattle.bt_bencode.specs.Dictionary.{first_value_of}
 use Rattle.bt_meta.specs.Fields.{integer_at, string_at, has_key}
 use Rattle.bt_meta.specs.TreeEntries.{TreeEntry, tree_entries_among}
 use Rattle.bt_meta.specs.Files.{is_file, length_in, root_in, length_of, root_of}
-use Rattle.bt_meta.specs.Faults.{first_of, has_lawful_length, has_lawful_root}
+use Rattle.bt_meta.specs.Faults.{first_of, has_lawful_length, has_lawful_root, is_path_element}
 use Rattle.bt_meta.specs.PropertySteps.{property_checks}
 use Rattle.bt_meta.specs.GivenFiles.{Given, HasRoot, HaveTreePaths}
-use Rattle.bt_meta.specs.Faults.{is_path, is_element}
 use Rattle.bt_meta.specs.Encode.{with_file, properties_made, tree_made}
 use Rattle.bt_meta.specs.EncodeSteps.{AreNonEmpty, ComesAfter}
-use Rattle.bt_meta.proofs.EncodeTree.{IsGrown, grown_begun, grown_more, made_more}
+use Rattle.bt_meta.proofs.EncodeFolders.{IsPut, put_there}
+use Rattle.bt_meta.proofs.EncodeTree.{nothing, grows}
 use Rattle.bt_meta.proofs.MadeGiven.{IsLawful}
-use Rattle.bt_meta.proofs.MadeEntries.{IsGood, IsPut, put_in, second, properties_there}
+use Rattle.bt_meta.proofs.MadeEntries.{IsGood, has_names, put_in, new_nameless, folder_is_none, properties_there}
 
 -- ---- the properties of a file
 
@@ -68,6 +69,9 @@ length_of_made f = ap length_in (properties_there f.path _) ∙ length_made f
 pub root_of_made : (f : Given) → root_of (entry_made f) ≡ (if f.length == 0 then replicate 32 0 else f.root)
 root_of_made f = ap root_in (properties_there f.path _) ∙ root_made f
 
+pub root_of_some : (f : Given) → f.length ≢ 0 → root_of (entry_made f) ≡ f.root
+root_of_some f some = let filled : (f.length == 0) ≡ false = grind (arith, nat_tests) in root_of_made f ∙ rw filled refl
+
 -- ---- the tree
 
 -- these files are in it, in their order, and nothing in it is refused by itself
@@ -80,45 +84,32 @@ tree_begun : IsTreeOf [] no_entries
 unfolding tree_entries_among
 tree_begun = record { good = All-nil IsGood; tree_entries = refl; nameless = refl }
 
-put_path : (path : List (List ℕ)) (properties es : Entries) → is_path path ≡ true → length path ≤ 64 → first_of (property_checks (dictionary properties)) ≡ None → ComesAfter path es
-    → IsPut [] path properties es (with_file path (dictionary properties) es)
-put_path [] properties es lawful shallow faultless behind = cc
-put_path (name ∷ path) properties es lawful shallow faultless behind = put_in [] name path properties es (second (not (length (name ∷ path) == 0)) (list_all is_element (name ∷ path)) lawful) shallow faultless behind
+module _ (piece_length : ℕ) where
+  file_more : (before : List Given) (f : Given) (tree : Entries) → IsLawful piece_length f → HasRoot f → ComesAfter f.path tree → IsTreeOf before tree
+      → IsTreeOf (before ++ f ∷ []) (with_file f.path (properties_made f) tree)
+  unfolding is_path_element
+  file_more before f tree lawful rooted behind h =
+      by_path f.path refl (and_parts (not (length f.path == 0)) (has_names f.path) lawful.path) (put_there f.path (properties_made f) tree behind)
+    where
+      by_path : (path : List (List ℕ)) → path ≡ f.path → (not (length path == 0) ≡ true) × (has_names path ≡ true)
+          → IsPut (properties_made f) path tree (with_file f.path (properties_made f) tree)
+          → IsTreeOf (before ++ f ∷ []) (with_file f.path (properties_made f) tree)
+      by_path [] is names put = let never : false ≡ true = names.0 in cc
+      by_path (name ∷ path) is names put =
+          let new = with_file f.path (properties_made f) tree in
+          let more = put_in _ (properties_pass f lawful.short rooted) [] (name ∷ path) tree new (is_utf8-from_IsUtf8 [] IsUtf8-nil) names.1
+          (rw (← is) at lawful.shallow) put in
+          let none = new_nameless name path (properties_made f) tree new names.1 put in
+          record {
+            good = All-tail IsGood (record { path = []; value = dictionary new }) (tree_entries_among [] new) (more.good h.good);
+            tree_entries = ap (λ b. cond b (record { path = []; value = dictionary new } ∷ filter is_file (tree_entries_among [] new))
+                (filter is_file (tree_entries_among [] new))) (sym (folder_is_none [] new none))
+                ∙ more.files ∙ rw (h.tree_entries, is, map_push entry_made before f) refl;
+            nameless = none;
+          }
 
-tree_more : (piece_length : ℕ) (files : List Given) (f : Given) (tree : Entries) → IsLawful piece_length f → HasRoot f → ComesAfter f.path tree → IsTreeOf files tree
-    → IsTreeOf (files ++ f ∷ []) (with_file f.path (properties_made f) tree)
-tree_more piece_length files f tree lawful rooted behind h =
-    let put = put_path f.path _ tree lawful.path lawful.shallow (properties_pass f lawful.short rooted) behind in
-    record {
-      good = put.good h.good;
-      tree_entries = put.files ∙ ap (λ tree_entries. tree_entries ++ entry_made f ∷ []) h.tree_entries ∙ sym (map_push entry_made files f);
-      nameless = put.nameless;
-    }
-
--- the first i files
-record IsTreeTo (files : List Given) (i : ℕ) : Type 0 where
-  grown : IsGrown files i (tree_made (take i files))
-  tree : IsTreeOf (take i files) (tree_made (take i files))
-
-tree_to : (piece_length : ℕ) (files : List Given) (d : Given) → HaveTreePaths files → All (λ f. AreNonEmpty f.path) files → All (IsLawful piece_length) files → All HasRoot files → (i : ℕ) → i ≤ length files → IsTreeTo files i
-unfolding tree_made
-tree_to piece_length files d tree_paths named lawful rooted zero within = record { grown = grown_begun files; tree = tree_begun }
-tree_to piece_length files d tree_paths named lawful rooted (suc i) within =
-    let before = tree_to piece_length files d tree_paths named lawful rooted i (omega arith) in
-    let f = get_or files i d in
-    let lt : i < length files = omega arith in
-    let is : f ≡ get_or files i f = sym (get_or_default files i f d lt) in
-    let next : tree_made (take (i + 1) files) ≡ with_file f.path (properties_made f) (tree_made (take i files)) = made_more files i f lt is in
-    let more : take (i + 1) files ≡ take i files ++ f ∷ [] = take_more files i d lt in
-    let grown : IsGrown files (i + 1) (tree_made (take (i + 1) files)) = rw next (grown_more files i f (tree_made (take i files)) tree_paths named lt is before.grown) in
-    let tree : IsTreeOf (take (i + 1) files) (tree_made (take (i + 1) files)) =
-    rw (next, more) (tree_more piece_length (take i files) f (tree_made (take i files)) (All-get_or (IsLawful piece_length) files i d lt lawful) (All-get_or HasRoot files i d lt rooted) (before.grown.behind d lt) before.tree) in
-    let here : IsTreeTo files (i + 1) = record { grown = grown; tree = tree } in
-    let next_is : i + 1 ≡ suc i = omega arith in
-    subst (λ n. IsTreeTo files n) next_is here
-
-pub tree_is : (piece_length : ℕ) (files : List Given) → HaveTreePaths files → All (λ f. AreNonEmpty f.path) files → All (IsLawful piece_length) files → All HasRoot files → IsTreeOf files (tree_made files)
-tree_is piece_length files tree_paths named lawful rooted =
-    let d : Given = record { path = []; length = 0; root = []; layer = [] } in
-    let n = length files in
-    subst (λ fs. IsTreeOf fs (tree_made fs)) (take_all n files (omega arith)) (tree_to piece_length files d tree_paths named lawful rooted n (omega arith)).tree
+  pub tree_is : (files : List Given) → HaveTreePaths files → All (λ f. AreNonEmpty f.path) files → All (IsLawful piece_length) files
+      → All HasRoot files → IsTreeOf files (tree_made files)
+  tree_is files tree_paths named lawful rooted =
+      grows files tree_paths named IsTreeOf tree_begun
+      (λ i tree lt behind h. file_more (take i files) (get_or files i nothing) tree (lawful i nothing lt) (rooted i nothing lt) behind h)

@@ -1,35 +1,29 @@
 -- Of files in tree order, whether a path begins the next one.
-use Rattle.std.proofs.Common.{subst, ◌≡◌, ℕ, ◌+◌, ◌-◌, ◌<◌, ◌≤◌, ◌^◌, Bool, true, false, List, [], ◌∷◌, ◌++◌, length, map, refl, sym, ap, ◌∙◌, arith, inl, inr, None, Some}
-use Rattle.std.specs.Prelude.{String, string_bytes, get_or, nat_eq, nat_le, not, ◌&&◌, ◌==◌}
+use Rattle.std.proofs.Common.{subst, ◌≡◌, ℕ, ◌+◌, ◌-◌, ◌<◌, ◌≤◌, Bool, true, false, List, [], ◌∷◌, length, map, refl, sym, ap, ◌∙◌, arith, inl, inr, Some}
+use Rattle.std.specs.Prelude.{String, string_bytes, get_or, ◌&&◌, ◌==◌}
 use Rattle.std.specs.Global.{Global}
 use Rattle.std.specs.Borrow.{Bor}
 use Rattle.std.specs.String.{string_eq}
-use Rattle.std.specs.Ordering.{nat_cmp, is_lt, ordering_then, ordering_reverse}
-use Rattle.std.specs.Cmp.Lexicographic.{slice_cmp, pointwise, lists_total, nat_list_cmp_total}
-use Rattle.std.specs.List.{starts_with, list_all, All}
+use Rattle.std.specs.Ordering.{nat_cmp, is_lt, ordering_reverse}
+use Rattle.std.specs.Cmp.Lexicographic.{slice_cmp, lists_total, nat_list_cmp_total}
+use Rattle.std.specs.List.{starts_with}
 use Rattle.std.specs.declared.cmp.Ordering.{Ordering}
 use Rattle.std.specs.declared.cmp.Ordering.TheVariants.{Less, Equal, Greater}
 use Rattle.std.proofs.lemmas.Bool.{cases_lt, true≢false}
-use Rattle.std.proofs.lemmas.List.{get_or-map, length-map}
+use Rattle.std.proofs.lemmas.List.{length-map}
 use Rattle.std.proofs.lemmas.Slice.Eq.{bytes_eq-Decides}
 use Rattle.bt_meta.specs.GivenFiles.{Given, given_of, begins, path_order, IsInTreeOrder, HaveTreePaths}
-use Rattle.bt_meta.specs.WriterRefusals.{file_refusal, own_refusal, layer_refusal, conflict_with, is_beyond, refusal_of_files}
-use Rattle.bt_meta.specs.Faults.{is_path, is_element}
-use Rattle.bt_meta.specs.EncodeSteps.{given_at, AreNonEmpty}
+use Rattle.bt_meta.specs.WriterRefusals.{file_refusal, refusal_of_files}
+use Rattle.bt_meta.specs.EncodeSteps.{given_at}
 use Rattle.bt_meta.specs.WriterSteps.{Refuses}
 use Rattle.bt_meta.specs.Writer.{have_overlap, IsNotMade, no_memory, unlawful}
-use Rattle.bt_meta.specs.Faults.{first_of, fault_if, is_piece_length}
-use Rattle.std.proofs.lemmas.Bool.{cases_Bool}
-use Rattle.std.proofs.lemmas.Bool.Decides.{nat_tests}
-use Rattle.std.proofs.lemmas.List.Elements.{All-nil, All-cons}
-use Rattle.std.proofs.lemmas.List.Sorted.{All-permutation}
+use Rattle.bt_meta.specs.Faults.{first_of, is_piece_length}
 use Rattle.bt_meta.specs.TreeEntries.{with_earlier}
 use Rattle.bt_meta.specs.declared.writer.Made.{Made}
 use Rattle.bt_meta.specs.declared.writer.MakeError.{MakeError}
-use Rattle.bt_meta.specs.declared.writer.MakeError.TheVariants.{PieceLength, BadPath, FileLength, RootConflict, Count}
+use Rattle.bt_meta.specs.declared.writer.MakeError.TheVariants.{PieceLength, Count}
 use Rattle.bt_meta.proofs.EncodeTree.{same_bytes}
-use Rattle.bt_meta.proofs.Checks.{head_none, tail_none, holds_unless}
-use Rattle.bt_meta.proofs.MakeOverlap.{AreApart, next_apart}
+use Rattle.bt_meta.proofs.MakeOverlap.{AreApart, next_apart, lent_is}
 
 pub begins_by_bytes : (path other : List (String Global)) → starts_with string_eq other path ≡ begins (map string_bytes path) (map string_bytes other)
 begins_by_bytes [] other = refl
@@ -50,9 +44,7 @@ apart_more files i m n some lt first second apart h k d below = elim (cases_lt (
   | inr here ↦
       let last : k ≡ i - 1 = omega arith in
       let next : k + 1 ≡ i = omega arith in
-      let a : given_at m ≡ get_or (map given_at files) k d = ap given_at first ∙ ap (λ j. given_at (get_or files j m)) (sym last) ∙ sym (get_or-map given_at files k m d (omega arith)) in
-      let b : given_at n ≡ get_or (map given_at files) (k + 1) d = ap given_at second ∙ ap (λ j. given_at (get_or files j n)) (sym next) ∙ sym (get_or-map given_at files (k + 1) n d (omega arith)) in
-      ap (λ g. begins g.path (get_or (map given_at files) (k + 1) d).path) (sym a) ∙ ap (λ g. begins (given_at m).path g.path) (sym b) ∙ apart
+      rw (next, last, lent_is files (i - 1) m d (omega arith) first, lent_is files i n d lt second) apart
 ]
 
 pub apart_found : (files : List (Bor Made)) (i : ℕ) → AreApartTo files i → length files ≤ i → AreApart (map given_at files)
@@ -60,26 +52,23 @@ apart_found files i h all k d lt = let n : length (map given_at files) ≡ lengt
 
 -- ---- in tree order, with no path that begins the next one
 
-tied_step : (n m : List ℕ) (p q : List (List ℕ)) (o : Ordering) → o ≡ slice_cmp nat_cmp n m → path_order (n ∷ p) (m ∷ q) ≡ Equal → (path_order p q ≡ Equal → begins p q ≡ true) → begins (n ∷ p) (m ∷ q) ≡ true
-tied_step n m p q Less is e later = let f : Less ≡ Equal = ap (λ o. ordering_then o (path_order p q)) is ∙ e in cc
-tied_step n m p q Greater is e later = let f : Greater ≡ Equal = ap (λ o. ordering_then o (path_order p q)) is ∙ e in cc
-tied_step n m p q Equal is e later =
-    let same : pointwise nat_eq n m ≡ true = (bytes_eq-Decides n m).1 (same_bytes n m (sym is)) in
-    let rest : path_order p q ≡ Equal = ap (λ o. ordering_then o (path_order p q)) is ∙ e in
-    ap (λ b. b && begins p q) same ∙ later rest
-
 tied_begins : (p q : List (List ℕ)) → path_order p q ≡ Equal → begins p q ≡ true
 tied_begins [] [] e = refl
 tied_begins [] (m ∷ q) e = cc
 tied_begins (n ∷ p) [] e = cc
-tied_begins (n ∷ p) (m ∷ q) e = tied_step n m p q (slice_cmp nat_cmp n m) refl e (λ r. tied_begins p q r)
+tied_begins (n ∷ p) (m ∷ q) e = by_names (slice_cmp nat_cmp n m) refl (tied_begins p q)
+  where
+    by_names : (o : Ordering) → o ≡ slice_cmp nat_cmp n m → (path_order p q ≡ Equal → begins p q ≡ true) → begins (n ∷ p) (m ∷ q) ≡ true
+    by_names Less is later = let f : Less ≡ Equal = rw (← is) at e in cc
+    by_names Greater is later = let f : Greater ≡ Equal = rw (← is) at e in cc
+    by_names Equal is later = rw ((bytes_eq-Decides n m).1 (same_bytes n m (sym is))) (later (rw (← is) at e))
 
 before_next : (p q : List (List ℕ)) (o : Ordering) → o ≡ path_order p q → is_lt (path_order q p) ≡ false → begins p q ≡ false → path_order p q ≡ Less
 before_next p q Less is up apart = sym is
 before_next p q Equal is up apart = absurd (true≢false (sym (tied_begins p q (sym is)) ∙ apart))
 before_next p q Greater is up apart =
     let back : path_order q p ≡ Less = (lists_total nat_list_cmp_total).antisymm q p ∙ ap ordering_reverse (sym is) in
-    absurd (true≢false (sym (ap is_lt back) ∙ up))
+    absurd (true≢false (rw back at up))
 
 pub tree_paths : (files ordered : List Given) → IsInTreeOrder files ordered → have_overlap ordered ≡ false → HaveTreePaths ordered
 tree_paths files ordered h none k d lt =
@@ -87,67 +76,6 @@ tree_paths files ordered h none k d lt =
     let p = (get_or ordered k d).path in
     let q = (get_or ordered (k + 1) d).path in
     (before_next p q (path_order p q) refl (h.ascending k d (omega arith) lt) (apart k d lt), apart k d lt)
-
--- ---- no file is longer than 2 ^ 40 bytes
-
-pub short_from : (n : ℕ) (e : MakeError) → fault_if (not (nat_le n (2 ^ 40))) e ≡ None → n ≤ 2 ^ 40
-short_from n e h = elim (cases_Bool (nat_le n (2 ^ 40))) [
-  | inl within ↦ grind (arith, nat_tests)
-  | inr beyond ↦ let f : Some e ≡ None = rw beyond at h in cc
-]
-
-short_given : (piece_length : ℕ) (before : List Given) (f : Given) → file_refusal piece_length before f ≡ None → f.length ≤ 2 ^ 40
-short_given piece_length before f h =
-    let own : own_refusal piece_length f ≡ None = head_none (own_refusal piece_length f) (fault_if (conflict_with before f) RootConflict ∷ fault_if (is_beyond piece_length before f) Count ∷ []) h in
-    let rest = tail_none (fault_if (not (is_path f.path)) BadPath) (fault_if (not (nat_le f.length (2 ^ 40))) FileLength ∷ layer_refusal piece_length f ∷ []) own in
-    short_from f.length FileLength (head_none (fault_if (not (nat_le f.length (2 ^ 40))) FileLength) (layer_refusal piece_length f ∷ []) rest)
-
-abbrev IsShort : Given → Type 0
-IsShort g = g.length ≤ 2 ^ 40
-
-all_short : (piece_length : ℕ) (before files : List Given) → first_of (with_earlier (file_refusal piece_length) before files) ≡ None → All IsShort files
-all_short piece_length before [] h = All-nil IsShort
-all_short piece_length before (f ∷ files) h =
-    let rest = with_earlier (file_refusal piece_length) (before ++ f ∷ []) files in
-    All-cons IsShort f files (short_given piece_length before f (head_none (file_refusal piece_length before f) rest h)) (all_short piece_length (before ++ f ∷ []) files (tail_none (file_refusal piece_length before f) rest h))
-
-second : (a b : Bool) → (a && b) ≡ true → b ≡ true
-second true b h = h
-second false b h = cc
-
-named_from : (path : List (List ℕ)) → list_all is_element path ≡ true → AreNonEmpty path
-named_from [] e = tt
-named_from ([] ∷ path) e = cc
-named_from ((byte ∷ bytes) ∷ path) e = (refl, named_from path (second (is_element (byte ∷ bytes)) (list_all is_element path) e))
-
-named_path : (path : List (List ℕ)) → is_path path ≡ true → AreNonEmpty path
-named_path [] e = tt
-named_path (name ∷ path) e = named_from (name ∷ path) (second (not (length (name ∷ path) == 0)) (list_all is_element (name ∷ path)) e)
-
-named_given : (piece_length : ℕ) (before : List Given) (f : Given) → file_refusal piece_length before f ≡ None → AreNonEmpty f.path
-named_given piece_length before f h =
-    let own : own_refusal piece_length f ≡ None = head_none (own_refusal piece_length f) (fault_if (conflict_with before f) RootConflict ∷ fault_if (is_beyond piece_length before f) Count ∷ []) h in
-    named_path f.path (holds_unless (is_path f.path) BadPath (head_none (fault_if (not (is_path f.path)) BadPath) (fault_if (not (nat_le f.length (2 ^ 40))) FileLength ∷ layer_refusal piece_length f ∷ []) own))
-
-abbrev HasNames : Given → Type 0
-HasNames g = AreNonEmpty g.path
-
-all_named : (piece_length : ℕ) (before files : List Given) → first_of (with_earlier (file_refusal piece_length) before files) ≡ None → All HasNames files
-all_named piece_length before [] h = All-nil HasNames
-all_named piece_length before (f ∷ files) h =
-    let rest = with_earlier (file_refusal piece_length) (before ++ f ∷ []) files in
-    All-cons HasNames f files (named_given piece_length before f (head_none (file_refusal piece_length before f) rest h)) (all_named piece_length (before ++ f ∷ []) files (tail_none (file_refusal piece_length before f) rest h))
-
-pub ordered_named : (piece_length : ℕ) (files ordered : List Given) → first_of (with_earlier (file_refusal piece_length) [] files) ≡ None → IsInTreeOrder files ordered → All (λ g. AreNonEmpty g.path) ordered
-ordered_named piece_length files ordered h order = All-permutation HasNames files ordered order.same (all_named piece_length [] files h)
-
-pub lent_short : (piece_length : ℕ) (files : List Given) (ordered : List (Bor Made)) → first_of (with_earlier (file_refusal piece_length) [] files) ≡ None → IsInTreeOrder files (map given_at ordered)
-    → All (λ (m : Bor Made). m.now.length ≤ 2 ^ 40) ordered
-lent_short piece_length files ordered h order k d lt =
-    let short : All IsShort (map given_at ordered) = All-permutation IsShort files (map given_at ordered) order.same (all_short piece_length [] files h) in
-    let within : k < length (map given_at ordered) = rw (length-map ordered given_at) lt in
-    let at : get_or (map given_at ordered) k (given_at d) ≡ given_at (get_or ordered k d) = get_or-map given_at ordered k d (given_at d) lt in
-    subst IsShort at (short k (given_at d) within)
 
 -- ---- the first refusal
 
@@ -158,7 +86,8 @@ pub length_refused : (piece_length : ℕ) (files : List Given) → false ≡ is_
 unfolding refusal_of_files
 length_refused piece_length files is = rw (← is) refl
 
-pub none_refused : (piece_length : ℕ) (files : List Made) → true ≡ is_piece_length piece_length → true ≡ (length files == 0) → refusal_of_files piece_length (map given_of files) ≡ Some Count
+pub none_refused : (piece_length : ℕ) (files : List Made) → true ≡ is_piece_length piece_length → true ≡ (length files == 0)
+    → refusal_of_files piece_length (map given_of files) ≡ Some Count
 unfolding refusal_of_files
 none_refused piece_length files is none = rw (← is, count_of files true none) refl
 

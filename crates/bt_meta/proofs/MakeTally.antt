@@ -1,51 +1,39 @@
 -- What was taken of the files that a torrent is made of.
-use Rattle.std.proofs.Common.{subst, ◌≡◌, ℕ, ◌+◌, ◌<◌, ◌≤◌, Bool, true, false, List, [], ◌∷◌, ◌++◌, length, map, None, refl, sym, ap, ◌∙◌, arith, inl, inr}
-use Rattle.std.specs.Prelude.{string_bytes, nat_eq, not, ◌&&◌, ◌||◌, ◌==◌}
-use Rattle.std.specs.Prelude.{String}
+use Rattle.std.proofs.Common.{◌≡◌, ℕ, ◌+◌, ◌<◌, ◌≤◌, Bool, false, List, [], ◌∷◌, ◌++◌, length, map, None, refl, sym, ap, ◌∙◌, arith, inl, inr}
+use Rattle.std.specs.Prelude.{string_bytes, nat_eq, not, ◌&&◌, ◌||◌, ◌==◌, String, take, drop, get_or}
 use Rattle.std.specs.Global.{Global}
 use Rattle.std.specs.List.{list_all, All}
 use Rattle.std.proofs.lemmas.List.Elements.{All-nil, All-push}
-use Rattle.std.specs.Ordering.{nat_cmp, is_eq}
-use Rattle.std.specs.Cmp.Lexicographic.{pointwise, slice_cmp}
-use Rattle.std.proofs.lemmas.List.{length-map}
+use Rattle.std.specs.Cmp.Lexicographic.{pointwise}
+use Rattle.std.proofs.lemmas.List.{length-map, map-append, take_all, take-append-drop, map_more, drop_more}
 use Rattle.std.proofs.lemmas.List.Folds.{list_any-append, list_all-map}
-use Rattle.std.proofs.lemmas.Map.Text.{is_eq-slice_cmp}
-use Rattle.std.proofs.lemmas.Slice.Eq.{bytes_eq-Decides}
-use Rattle.bt_meta.specs.Faults.{first_of}
+use Rattle.bt_meta.specs.Faults.{first_of, is_element, is_path}
 use Rattle.bt_meta.specs.PropertySteps.{Lengths, length_at, is_other_length, NotesLength}
-use Rattle.std.specs.Prelude.{take, drop, get_or}
-use Rattle.std.proofs.lemmas.List.{take_all, take-append-drop, map_more, drop_more}
+use Rattle.std.proofs.Math.Bool.{or-false}
 use Rattle.bt_meta.specs.TreeEntries.{with_earlier}
+use Rattle.bt_meta.specs.Files.{is_conflict}
 use Rattle.bt_meta.specs.GivenFiles.{Given, given_of, HasRoot}
 use Rattle.bt_meta.specs.WriterRefusals.{Check, file_refusal, has_conflict}
-use Rattle.bt_meta.specs.Faults.{is_element, is_path}
 use Rattle.bt_meta.specs.WriterSteps.{IsTallyOf, IsWithinLimits, Refuses, RefusesFile}
 use Rattle.bt_meta.specs.declared.writer.Made.{Made}
 use Rattle.bt_meta.specs.declared.writer.MakeError.{MakeError}
 use Rattle.bt_meta.specs.declared.writer.Tally.{Tally}
-use Rattle.bt_meta.proofs.Checks.{first_of-append, skips, stops}
-use Rattle.bt_meta.proofs.WalkJoins.{with_earlier-append, map-append}
-use Rattle.bt_meta.proofs.WalkFiles.{or_false, noted_at}
+use Rattle.bt_meta.proofs.Checks.{first_of-append}
+use Rattle.bt_meta.proofs.WalkJoins.{with_earlier-append}
+use Rattle.bt_meta.proofs.RootLengths.{noted_more}
 
-pub path_test : (path : List (String Global)) (all : Bool) → false ≡ (length path == 0) → all ≡ list_all (λ e. is_element (string_bytes e)) path → all ≡ is_path (map string_bytes path)
+pub path_test : (path : List (String Global)) (all : Bool) → false ≡ (length path == 0) → all ≡ list_all (λ e. is_element (string_bytes e)) path
+    → all ≡ is_path (map string_bytes path)
 path_test path all some is =
     let more : false ≡ (length (map string_bytes path) == 0) = some ∙ ap (λ n. n == 0) (sym (length-map path string_bytes)) in
     is ∙ sym (list_all-map is_element string_bytes path) ∙ ap (λ b. not b && list_all is_element (map string_bytes path)) more
 
-conflict_push : (files : List Given) (f : Given) (root : List ℕ) (n : ℕ)
-    → has_conflict (files ++ f ∷ []) root n ≡ (has_conflict files root n || (not (f.length == 0) && pointwise nat_eq f.root root && not (f.length == n)))
-conflict_push files f root n =
-    let test = λ (g : Given). not (g.length == 0) && pointwise nat_eq g.root root && not (g.length == n) in
-    list_any-append test files (f ∷ []) ∙ ap (λ b. has_conflict files root n || b) (or_false (test f))
-
 pub lengths_noted : (files : List Given) (f : Given) (old new : Lengths) (other : List ℕ) (n : ℕ) → (f.length == 0) ≡ false
-    → is_other_length (length_at old other) n ≡ has_conflict files other n → NotesLength old new f.root f.length → is_other_length (length_at new other) n ≡ has_conflict (files ++ f ∷ []) other n
+    → is_other_length (length_at old other) n ≡ has_conflict files other n → NotesLength old new f.root f.length
+    → is_other_length (length_at new other) n ≡ has_conflict (files ++ f ∷ []) other n
 lengths_noted files f old new other n some h noted =
-    let same : (is_eq (slice_cmp nat_cmp f.root other) ≡ true → f.root ≡ other) = λ e. (bytes_eq-Decides f.root other).0 (sym (is_eq-slice_cmp f.root other) ∙ e) in
-    let at : pointwise nat_eq f.root other ≡ is_eq (slice_cmp nat_cmp f.root other) = sym (is_eq-slice_cmp f.root other) in
-    ap (λ o. is_other_length o n) (noted.noted other)
-    ∙ noted_at old f.root other f.length n (is_eq (slice_cmp nat_cmp f.root other)) noted.alike same
-    ∙ sym (conflict_push files f other n ∙ rw (some, at, ← h) refl)
+    let test = λ (g : Given). is_conflict other n g.root g.length in
+    noted_more noted other n ∙ sym (list_any-append test files (f ∷ []) ∙ ap (λ b. has_conflict files other n || b) (or-false (test f)) ∙ rw (some, ← h) refl)
 
 -- ---- the loop
 
@@ -59,7 +47,8 @@ pub record Taking (piece_length : ℕ) (files : List Made) (i : ℕ) (tally : Ta
   pub faultless : first_of (checks_of piece_length (map given_of (take i files))) ≡ None
   pub rooted : All HasRoot (map given_of (take i files))
 
-pub taking_begun : (piece_length : ℕ) (files : List Made) (tally : Tally) → tally.files ≡ 0 → tally.pieces ≡ 0 → tally.lengths.entries ≡ [] → Taking piece_length files 0 tally
+pub taking_begun : (piece_length : ℕ) (files : List Made) (tally : Tally) → tally.files ≡ 0 → tally.pieces ≡ 0 → tally.lengths.entries ≡ []
+    → Taking piece_length files 0 tally
 taking_begun piece_length files tally none no_pieces no_lengths = record {
   within = record { files = omega arith; pieces = omega arith };
   taken = record { count = none; pieces = no_pieces; lengths = λ root n. rw no_lengths refl };
@@ -67,49 +56,43 @@ taking_begun piece_length files tally none no_pieces no_lengths = record {
   rooted = All-nil HasRoot;
 }
 
-next_given : (files : List Made) (i : ℕ) (m : Made) → i < length files → m ≡ get_or files i m → map given_of (take (i + 1) files) ≡ map given_of (take i files) ++ given_of m ∷ []
-next_given files i m lt is = map_more given_of files i m lt ∙ ap (λ x. map given_of (take i files) ++ given_of x ∷ []) (sym is)
+module _ {n : ℕ} (files : List Made) (i : ℕ) {old : Tally} (h : Taking n files i old) where
+  checks_behind : (f : Given) (rest : List Given) → first_of (checks_of n (map given_of (take i files) ++ f ∷ rest))
+      ≡ first_of (file_refusal n (map given_of (take i files)) f ∷ with_earlier (file_refusal n) (map given_of (take i files) ++ f ∷ []) rest)
+  checks_behind f rest =
+      let before = map given_of (take i files) in
+      ap first_of (with_earlier-append (file_refusal n) [] before (f ∷ rest))
+      ∙ first_of-append (checks_of n before) (with_earlier (file_refusal n) before (f ∷ rest)) h.faultless
 
-given_split : (files : List Made) (i : ℕ) (m : Made) → i < length files → m ≡ get_or files i m
-    → map given_of files ≡ map given_of (take i files) ++ given_of m ∷ map given_of (drop (i + 1) files)
-given_split files i m lt is =
-    let rest : drop i files ≡ m ∷ drop (i + 1) files = drop_more files i m lt ∙ ap (λ x. x ∷ drop (i + 1) files) (sym is) in
-    let whole : files ≡ take i files ++ m ∷ drop (i + 1) files = sym (take-append-drop i files) ∙ ap (λ xs. take i files ++ xs) rest in
-    ap (map given_of) whole ∙ map-append given_of (take i files) (m ∷ drop (i + 1) files)
+  module _ (m : Made) (lt : i < length files) (is : m ≡ get_or files i m) where
+    pub taking_more : {new : Tally} → IsWithinLimits new → ((fs : List Given) → IsTallyOf n fs old → IsTallyOf n (fs ++ given_of m ∷ []) new)
+        → ((fs : List Given) → IsTallyOf n fs old → file_refusal n fs (given_of m) ≡ None) → HasRoot (given_of m) → Taking n files (i + 1) new
+    taking_more within taken faultless rooted =
+        let before = map given_of (take i files) in
+        let more : map given_of (take (i + 1) files) ≡ before ++ given_of m ∷ [] = map_more given_of files i m lt
+        ∙ ap (λ x. before ++ given_of x ∷ []) (sym is) in
+        record {
+          within = within;
+          taken = rw more (taken before h.taken);
+          faultless = ap (λ fs. first_of (checks_of n fs)) more ∙ checks_behind (given_of m) [] ∙ rw (faultless before h.taken) refl;
+          rooted = rw more (All-push HasRoot before (given_of m) h.rooted rooted);
+        }
 
-checks_behind : (piece_length : ℕ) (before : List Given) (f : Given) (rest : List Given) → first_of (checks_of piece_length before) ≡ None
-    → first_of (checks_of piece_length (before ++ f ∷ rest)) ≡ first_of (file_refusal piece_length before f ∷ with_earlier (file_refusal piece_length) (before ++ f ∷ []) rest)
-checks_behind piece_length before f rest none =
-    let check = file_refusal piece_length in
-    ap first_of (with_earlier-append check [] before (f ∷ rest)) ∙ first_of-append (checks_of piece_length before) (with_earlier check before (f ∷ rest)) none
-
-pub taking_more : (piece_length : ℕ) (files : List Made) (i : ℕ) (m : Made) (old new : Tally) → i < length files → m ≡ get_or files i m → Taking piece_length files i old → IsWithinLimits new
-    → ((fs : List Given) → IsTallyOf piece_length fs old → IsTallyOf piece_length (fs ++ given_of m ∷ []) new)
-    → ((fs : List Given) → IsTallyOf piece_length fs old → file_refusal piece_length fs (given_of m) ≡ None) → HasRoot (given_of m) → Taking piece_length files (i + 1) new
-taking_more piece_length files i m old new lt is h within taken faultless rooted =
-    let before = map given_of (take i files) in
-    let more = next_given files i m lt is in
-    record {
-      within = within;
-      taken = rw more (taken before h.taken);
-      faultless = ap (λ fs. first_of (checks_of piece_length fs)) more ∙ checks_behind piece_length before (given_of m) [] h.faultless ∙ skips (file_refusal piece_length before (given_of m)) [] (faultless before h.taken);
-      rooted = rw more (All-push HasRoot before (given_of m) h.rooted rooted);
-    }
-
-pub taking_stops : (piece_length : ℕ) (files : List Made) (i : ℕ) (m : Made) (old : Tally) (e : MakeError) → i < length files → m ≡ get_or files i m → Taking piece_length files i old
-    → ((fs : List Given) → IsTallyOf piece_length fs old → RefusesFile piece_length fs (given_of m) e) → Refuses (first_of (checks_of piece_length (map given_of files))) e
-taking_stops piece_length files i m old e lt is h refused =
-    let before = map given_of (take i files) in
-    let rest = map given_of (drop (i + 1) files) in
-    elim (refused before h.taken) [
+    pub taking_stops : {e : MakeError} → ((fs : List Given) → IsTallyOf n fs old → RefusesFile n fs (given_of m) e)
+        → Refuses (first_of (checks_of n (map given_of files))) e
+    taking_stops refused = elim (refused (map given_of (take i files)) h.taken) [
       | inl memory ↦ inl memory.0
-      | inr found ↦ inr (
-          ap (λ fs. first_of (checks_of piece_length fs)) (given_split files i m lt is) ∙ checks_behind piece_length before (given_of m) rest h.faultless
-          ∙ stops (file_refusal piece_length before (given_of m)) (with_earlier (file_refusal piece_length) (before ++ given_of m ∷ []) rest) e found)
+      | inr found ↦
+          let rest : drop i files ≡ m ∷ drop (i + 1) files = drop_more files i m lt ∙ ap (λ x. x ∷ drop (i + 1) files) (sym is) in
+          let whole : files ≡ take i files ++ m ∷ drop (i + 1) files = sym (take-append-drop i files) ∙ ap (λ xs. take i files ++ xs) rest in
+          inr (ap (λ fs. first_of (checks_of n (map given_of fs))) whole
+          ∙ ap (λ fs. first_of (checks_of n fs)) (map-append given_of (take i files) (m ∷ drop (i + 1) files))
+          ∙ checks_behind (given_of m) (map given_of (drop (i + 1) files)) ∙ rw found refl)
     ]
 
-pub taking_found : (piece_length : ℕ) (files : List Made) (i : ℕ) (tally : Tally) → Taking piece_length files i tally → length files ≤ i → first_of (checks_of piece_length (map given_of files)) ≡ None
-taking_found piece_length files i tally h all = ap (λ fs. first_of (checks_of piece_length (map given_of fs))) (sym (take_all i files all)) ∙ h.faultless
+  module _ (all : length files ≤ i) where
+    pub taking_found : first_of (checks_of n (map given_of files)) ≡ None
+    taking_found = rw (take_all i files all) at h.faultless
 
-pub taking_rooted : (piece_length : ℕ) (files : List Made) (i : ℕ) (tally : Tally) → Taking piece_length files i tally → length files ≤ i → All HasRoot (map given_of files)
-taking_rooted piece_length files i tally h all = subst (λ fs. All HasRoot (map given_of fs)) (take_all i files all) h.rooted
+    pub taking_rooted : All HasRoot (map given_of files)
+    taking_rooted = rw (take_all i files all) at h.rooted

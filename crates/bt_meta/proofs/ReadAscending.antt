@@ -1,6 +1,6 @@
 -- Where keys ascend, the paths of a tree's entries do.
-use Rattle.std.proofs.Common.{◌≡◌, ℕ, suc, List, [], ◌∷◌, ◌++◌, refl, sym, ap, ◌∙◌, subst, arith, append_assoc, Result, Ok, Err}
-use Rattle.std.specs.Prelude.{filter, codes, unwrap_or, Option, None, Some, IfOk}
+use Rattle.std.proofs.Common.{◌≡◌, ◌≢◌, ℕ, true, get_or, List, [], ◌∷◌, ◌++◌, length, refl, sym, ap, ◌∙◌, arith, append_assoc, append-nil}
+use Rattle.std.specs.Prelude.{unwrap_or, Option, None, Some}
 use Rattle.std.specs.Option.{option_and_then}
 use Rattle.std.specs.Ordering.{nat_cmp, ordering_then}
 use Rattle.std.specs.declared.cmp.Ordering.{Ordering}
@@ -9,17 +9,18 @@ use Rattle.std.specs.Cmp.Lexicographic.{slice_cmp, nat_list_cmp_total}
 use Rattle.std.specs.List.{All, AllPairs}
 use Rattle.std.proofs.lemmas.Cmp.{tied_itself}
 use Rattle.std.proofs.lemmas.List.Elements.{All-nil, All-cons, All-append, All-weaker, All-tail, All-head}
-use Rattle.std.proofs.lemmas.List.Kept.{AllPairs-cons, AllPairs-filter}
+use Rattle.std.proofs.lemmas.List.Kept.{AllPairs-cons}
 use Rattle.bt_bencode.specs.Value.{Data, integer, string, list, dictionary, Entries, no_entries, entry}
 use Rattle.bt_bencode.specs.Dictionary.{field_of}
 use Rattle.bt_bencode.specs.Doc.{IsBefore, HasAscendingKeys, EntriesAscend}
-use Rattle.bt_meta.specs.TreeEntries.{TreeEntry, tree_entries_below, tree_entries_among, with_earlier}
-use Rattle.bt_meta.specs.Files.{File, is_file, file_at, files_of}
-use Rattle.bt_meta.specs.Torrent.{Metainfo, metainfo_of, HaveAscendingPaths}
-use Rattle.bt_meta.specs.Faults.{info_of, layers_of, tree_of, piece_length_of}
+use Rattle.bt_meta.specs.TreeEntries.{TreeEntry, tree_entries_below, tree_entries_among}
+use Rattle.bt_meta.specs.Files.{is_file}
+use Rattle.bt_meta.specs.Faults.{is_node}
 use Rattle.bt_meta.specs.Fields.{as_dictionary, dictionary_at, no_dictionary}
-use Rattle.bt_meta.specs.declared.error.MetaError.{MetaError}
-use Rattle.bt_meta.proofs.Dictionaries.{field_ascends}
+use Rattle.bt_meta.specs.Torrent.{IsApart}
+use Rattle.bt_meta.proofs.Dictionaries.{field_ascends, file_below}
+use Rattle.bt_meta.proofs.Lists.{All-front, All-back, pairs_append}
+use Rattle.bt_meta.proofs.ReadChecked.{IsNode}
 
 abbrev pub Path : Type 0
 Path = List (List ℕ)
@@ -27,15 +28,13 @@ Path = List (List ℕ)
 abbrev pub path_cmp : Path → Path → Ordering
 path_cmp = slice_cmp (slice_cmp nat_cmp)
 
-abbrev StandsBefore : TreeEntry → TreeEntry → Type 0
-StandsBefore p q = path_cmp p.path q.path ≡ Less
-
 -- ---- paths with a common beginning
 
 -- what follows a common beginning decides
 behind_common : (path p q : Path) → path_cmp p q ≡ Less → path_cmp (path ++ p) (path ++ q) ≡ Less
 behind_common [] p q h = h
-behind_common (name ∷ path) p q h = ap (λ o. ordering_then o (path_cmp (path ++ p) (path ++ q))) (tied_itself nat_list_cmp_total name) ∙ behind_common path p q h
+behind_common (name ∷ path) p q h = ap (λ o. ordering_then o (path_cmp (path ++ p) (path ++ q))) (tied_itself nat_list_cmp_total name)
+    ∙ behind_common path p q h
 
 -- the path goes on from this one
 pub record GoesOn (path : Path) (p : TreeEntry) : Type 0 where
@@ -65,7 +64,8 @@ behind_name : (path : Path) (key other : List ℕ) (rest more : Path) → IsBefo
 behind_name path key other rest more less = behind_common path (key ∷ rest) (other ∷ more) (ap (λ o. ordering_then o (path_cmp rest more)) less)
 
 goes_behind : (path : Path) (key other : List ℕ) (p : TreeEntry) → IsBefore key other → GoesOn (path ++ other ∷ []) p → IsBehindName path key p
-goes_behind path key other p less h rest = ap (path_cmp (path ++ key ∷ rest)) (further_is path other p h) ∙ behind_name path key other rest (h.name ∷ h.rest) less
+goes_behind path key other p less h rest = ap (path_cmp (path ++ key ∷ rest)) (further_is path other p h)
+    ∙ behind_name path key other rest (h.name ∷ h.rest) less
 
 -- ---- the entries of one folder
 
@@ -99,7 +99,8 @@ mutual
       let inner = path ++ name ∷ [] in
       let here : TreeEntry = record { path = inner; value = d } in
       All-cons (GoesOn path) here (tree_entries_below inner d ++ tree_entries_among path es) (record { name = name; rest = []; is = refl })
-      (All-append (GoesOn path) (tree_entries_below inner d) (tree_entries_among path es) (All-weaker (GoesOn inner) (GoesOn path) (further path name) (tree_entries_below inner d) (below_goes_on inner d)) (among_goes_on path es))
+      (All-append (GoesOn path) (tree_entries_below inner d) (tree_entries_among path es)
+      (All-weaker (GoesOn inner) (GoesOn path) (further path name) (tree_entries_below inner d) (below_goes_on inner d)) (among_goes_on path es))
 
 -- the entries behind a key stand behind all that begin with it
 pub among_behind : (path : Path) (key : List ℕ) (es : Entries) → AreBehind key es → All (IsBehindName path key) (tree_entries_among path es)
@@ -112,30 +113,29 @@ among_behind path key (entry (byte ∷ bytes) d es) h =
     let here : TreeEntry = record { path = inner; value = d } in
     All-cons (IsBehindName path key) here (tree_entries_below inner d ++ tree_entries_among path es) (λ rest. behind_name path key name rest [] h.0)
     (All-append (IsBehindName path key) (tree_entries_below inner d) (tree_entries_among path es)
-    (All-weaker (GoesOn inner) (IsBehindName path key) (λ p g. goes_behind path key name p h.0 g) (tree_entries_below inner d) (below_goes_on inner d)) (among_behind path key es h.1))
+    (All-weaker (GoesOn inner) (IsBehindName path key) (λ p g. goes_behind path key name p h.0 g) (tree_entries_below inner d)
+    (below_goes_on inner d)) (among_behind path key es h.1))
 
 -- ---- the whole tree
 
-pub pairs_append : (R : TreeEntry → TreeEntry → Type 0) (xs ys : List TreeEntry) → AllPairs R xs → AllPairs R ys → All (λ x. All (R x) ys) xs → AllPairs R (xs ++ ys)
-pairs_append R [] ys h k cross = k
-pairs_append R (x ∷ xs) ys h k cross =
-    AllPairs-cons R x (xs ++ ys)
-    (All-append (R x) xs ys (λ i d within. h 0 (suc i) d (omega arith) (omega arith)) (All-head (λ z. All (R z) ys) x xs cross))
-    (pairs_append R xs ys (λ i j d lt within. h (suc i) (suc j) d (omega arith) (omega arith)) k (All-tail (λ z. All (R z) ys) x xs cross))
+-- the first path stands before the second; and where it is a file's, so does whatever begins with it
+pub record IsAhead (p q : TreeEntry) : Type 0 where
+  pub before : path_cmp p.path q.path ≡ Less
+  pub cut : is_file p ≡ true → (rest : Path) → path_cmp (p.path ++ rest) q.path ≡ Less
 
 mutual
   unfolding tree_entries_below tree_entries_among HasAscendingKeys EntriesAscend
 
-  below_ascends : (path : Path) (d : Data) → HasAscendingKeys d → AllPairs StandsBefore (tree_entries_below path d)
-  below_ascends path (integer z) h = λ i j d lt within. absurd (omega arith)
-  below_ascends path (string s) h = λ i j d lt within. absurd (omega arith)
-  below_ascends path (list ds) h = λ i j d lt within. absurd (omega arith)
-  below_ascends path (dictionary es) h = among_ascends path es h
+  pub below_ahead : (path : Path) (d : Data) → HasAscendingKeys d → All IsNode (tree_entries_below path d) → AllPairs IsAhead (tree_entries_below path d)
+  below_ahead path (integer z) h nodes = λ i j d lt within. absurd (omega arith)
+  below_ahead path (string s) h nodes = λ i j d lt within. absurd (omega arith)
+  below_ahead path (list ds) h nodes = λ i j d lt within. absurd (omega arith)
+  below_ahead path (dictionary es) h nodes = among_ahead path es h nodes
 
-  among_ascends : (path : Path) (es : Entries) → EntriesAscend es → AllPairs StandsBefore (tree_entries_among path es)
-  among_ascends path no_entries h = λ i j d lt within. absurd (omega arith)
-  among_ascends path (entry [] d es) h = among_ascends path es h.2
-  among_ascends path (entry (byte ∷ bytes) d es) h =
+  among_ahead : (path : Path) (es : Entries) → EntriesAscend es → All IsNode (tree_entries_among path es) → AllPairs IsAhead (tree_entries_among path es)
+  among_ahead path no_entries h nodes = λ i j d lt within. absurd (omega arith)
+  among_ahead path (entry [] d es) h nodes = among_ahead path es h.2 nodes
+  among_ahead path (entry (byte ∷ bytes) d es) h nodes =
       let name = byte ∷ bytes in
       let inner = path ++ name ∷ [] in
       let here : TreeEntry = record { path = inner; value = d } in
@@ -143,37 +143,39 @@ mutual
       let others : List TreeEntry = tree_entries_among path es in
       let within : All (GoesOn inner) below = below_goes_on inner d in
       let behind : All (IsBehindName path name) others = among_behind path name es (all_behind name d es h) in
-      AllPairs-cons StandsBefore here (below ++ others)
-      (All-append (StandsBefore here) below others (All-weaker (GoesOn inner) (StandsBefore here) (λ p g. in_folder inner p g) below within) (All-weaker (IsBehindName path name) (StandsBefore here) (λ p b. b []) others behind))
-      (pairs_append StandsBefore below others (below_ascends inner d h.1) (among_ascends path es h.2)
-      (All-weaker (GoesOn inner) (λ x. All (StandsBefore x) others) (λ x g. All-weaker (IsBehindName path name) (StandsBefore x)
-      (λ y b. ap (λ p. path_cmp p y.path) (further_is path name x g) ∙ b (g.name ∷ g.rest)) others behind) below within))
+      let rest : All IsNode (below ++ others) = All-tail IsNode here (below ++ others) nodes in
+      let node : is_node d ≡ true = All-head IsNode here (below ++ others) nodes in
+      AllPairs-cons IsAhead here (below ++ others)
+      (All-append (IsAhead here) below others
+      (λ k e lt. record {
+        before = in_folder inner (get_or below k e) (within k e lt);
+        cut = λ file. let none = ap length (file_below d inner node file) in absurd (omega arith);
+      })
+      (λ k e lt. record { before = behind k e lt []; cut = λ file more. rw (append_assoc path (name ∷ []) more) (behind k e lt more) }))
+      (pairs_append IsAhead below others (below_ahead inner d h.1 (All-front IsNode below others rest))
+      (among_ahead path es h.2 (All-back IsNode below others rest))
+      (λ i e lt j f lt'.
+      let g = within i e lt in
+      let is = further_is path name (get_or below i e) g in
+      record {
+        before = rw is (behind j f lt' (g.name ∷ g.rest));
+        cut = λ file more. rw (is, append_assoc path (name ∷ g.name ∷ g.rest) more) (behind j f lt' (g.name ∷ (g.rest ++ more)));
+      }))
 
--- ---- the files
+-- nothing that begins with a path stands before it
+not_before : (path rest : Path) → path_cmp (path ++ rest) path ≢ Less
+not_before [] [] e = cc
+not_before [] (name ∷ rest) e = cc
+not_before (name ∷ path) rest e =
+    not_before path rest (sym (ap (λ o. ordering_then o (path_cmp (path ++ rest) path)) (tied_itself nat_list_cmp_total name)) ∙ e)
 
-abbrev PathBehind : Path → File → Type 0
-PathBehind path f = path_cmp path f.path ≡ Less
+pub apart : (p q : TreeEntry) → is_file p ≡ true → IsAhead p q → IsApart p.path q.path
+apart p q file h rest = (
+  (λ e. not_before (p.path ++ rest) [] (rw (append-nil (p.path ++ rest)) (rw e at (h.cut file rest)))),
+  λ e. not_before q.path rest (rw (← e) h.before),
+)
 
-files_behind : (path : Path) (piece_length : ℕ) (layers : Data) (before tree_entries : List TreeEntry) → All (λ q. path_cmp path q.path ≡ Less) tree_entries
-    → All (PathBehind path) (with_earlier (file_at piece_length layers) before tree_entries)
-files_behind path piece_length layers before [] h = All-nil (PathBehind path)
-files_behind path piece_length layers before (p ∷ tree_entries) h =
-    let P : TreeEntry → Type 0 = λ q. path_cmp path q.path ≡ Less in
-    All-cons (PathBehind path) (file_at piece_length layers before p) (with_earlier (file_at piece_length layers) (before ++ p ∷ []) tree_entries) (All-head P p tree_entries h)
-    (files_behind path piece_length layers (before ++ p ∷ []) tree_entries (All-tail P p tree_entries h))
-
-files_stand : (piece_length : ℕ) (layers : Data) (before tree_entries : List TreeEntry) → AllPairs StandsBefore tree_entries → HaveAscendingPaths (with_earlier (file_at piece_length layers) before tree_entries)
-files_stand piece_length layers before [] h = λ i j d lt within. absurd (omega arith)
-files_stand piece_length layers before (p ∷ tree_entries) h =
-    AllPairs-cons (λ f g. path_cmp f.path g.path ≡ Less) (file_at piece_length layers before p) (with_earlier (file_at piece_length layers) (before ++ p ∷ []) tree_entries)
-    (files_behind p.path piece_length layers (before ++ p ∷ []) tree_entries (λ i d within. h 0 (suc i) d (omega arith) (omega arith)))
-    (files_stand piece_length layers (before ++ p ∷ []) tree_entries (λ i j d lt within. h (suc i) (suc j) d (omega arith) (omega arith)))
-
-pub files_ascend : (piece_length : ℕ) (layers tree : Data) → HasAscendingKeys tree → HaveAscendingPaths (files_of piece_length layers tree)
-unfolding files_of
-files_ascend piece_length layers tree h = files_stand piece_length layers [] (filter is_file (tree_entries_below [] tree)) (AllPairs-filter StandsBefore is_file (tree_entries_below [] tree) (below_ascends [] tree h))
-
--- ---- the torrent
+-- ---- the value at a key
 
 pub at_key : (d : Data) (key : List ℕ) → HasAscendingKeys d → HasAscendingKeys (unwrap_or (dictionary_at d key) no_dictionary)
 unfolding dictionary_at HasAscendingKeys EntriesAscend
@@ -185,19 +187,3 @@ at_key d key h = by_field (field_of d key) (λ v e. field_ascends d key v h e)
     by_field (Some (string s)) k = tt
     by_field (Some (list ds)) k = tt
     by_field (Some (dictionary es)) k = k (dictionary es) refl
-
-paths_ascend : (info layers : Data) → HasAscendingKeys info → HaveAscendingPaths (metainfo_of info layers).files
-unfolding metainfo_of tree_of
-paths_ascend info layers h = files_ascend (piece_length_of info) layers (tree_of info) (at_key info (codes "file tree") h)
-
-abbrev HasAscendingPaths : Metainfo → Type 0
-HasAscendingPaths torrent = HaveAscendingPaths torrent.files
-
-pub info_ascends : (info layers : Data) (r : Result Metainfo MetaError) → HasAscendingKeys info → IfOk r (λ torrent. torrent ≡ metainfo_of info layers) → IfOk r (λ torrent. HaveAscendingPaths torrent.files)
-info_ascends info layers (Ok torrent) h described = subst HasAscendingPaths (sym described) (paths_ascend info layers h)
-info_ascends info layers (Err e) h described = described
-
-pub torrent_ascends : (value : Data) (r : Result Metainfo MetaError) → HasAscendingKeys value → IfOk r (λ torrent. torrent ≡ metainfo_of (info_of value) (layers_of value))
-    → IfOk r (λ torrent. HaveAscendingPaths torrent.files)
-unfolding info_of
-torrent_ascends value r h described = info_ascends (info_of value) (layers_of value) r (at_key value (codes "info") h) described

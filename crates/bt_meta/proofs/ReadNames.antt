@@ -7,12 +7,10 @@ use Rattle.std.proofs.lemmas.List.Folds.{list_all-append}
 use Rattle.std.proofs.lemmas.List.Elements.{All-nil, All-cons, All-head, All-tail, All-append}
 use Rattle.bt_bencode.specs.Value.{Data, integer, string, list, dictionary, Entries, no_entries, entry}
 use Rattle.bt_meta.specs.TreeEntries.{TreeEntry, tree_entries_below, tree_entries_among}
-use Rattle.bt_meta.specs.Faults.{is_path_element, is_element, is_path, has_lawful_name}
+use Rattle.bt_meta.specs.Faults.{is_path_element, is_element, is_path}
 use Rattle.bt_meta.proofs.WalkAddFile.{name_of}
-use Rattle.bt_meta.proofs.ReadApart.{front, back}
-
-abbrev pub IsNamed : TreeEntry → Type 0
-IsNamed p = has_lawful_name p ≡ true
+use Rattle.bt_meta.proofs.ReadChecked.{IsNamed}
+use Rattle.bt_meta.proofs.Lists.{All-front, All-back}
 
 abbrev pub HasPath : TreeEntry → Type 0
 HasPath p = is_path p.path ≡ true
@@ -27,7 +25,8 @@ element : (byte : ℕ) (bytes : List ℕ) → is_path_element (byte ∷ bytes) �
 element byte bytes e = both (not (length (byte ∷ bytes) == 0)) (is_path_element (byte ∷ bytes)) (grind (arith, nat_tests)) e
 
 more : (path : List (List ℕ)) (name : List ℕ) → IsFolderPath path → is_element name ≡ true → IsFolderPath (path ++ name ∷ [])
-more path name p e = list_all-append is_element path (name ∷ []) ∙ both (list_all is_element path) (list_all is_element (name ∷ [])) p (both (is_element name) true e refl)
+more path name p e = list_all-append is_element path (name ∷ [])
+    ∙ both (list_all is_element path) (list_all is_element (name ∷ [])) p (both (is_element name) true e refl)
 
 some : (path : List (List ℕ)) (name : List ℕ) → not (length (path ++ name ∷ []) == 0) ≡ true
 some [] name = refl
@@ -55,4 +54,5 @@ mutual
       let whole : IsFolderPath inner = more path name p (element byte bytes own) in
       let rest : All IsNamed (below ++ others) = All-tail IsNamed here (below ++ others) h in
       All-cons HasPath here (below ++ others) (both (not (length inner == 0)) (list_all is_element inner) (some path name) whole)
-      (All-append HasPath below others (below_lawful inner d whole (front IsNamed below others rest)) (among_lawful path es p (back IsNamed below others rest)))
+      (All-append HasPath below others (below_lawful inner d whole (All-front IsNamed below others rest))
+      (among_lawful path es p (All-back IsNamed below others rest)))

@@ -9,11 +9,13 @@ use Rattle.bt_meta.specs.ReaderSteps.{Refuses}
 use Rattle.bt_meta.specs.Reader.{IsRefused, no_memory, faulty}
 use Rattle.bt_meta.specs.declared.error.MetaError.{MetaError}
 
-refused_by : (first : Data → Check) (bytes : List ℕ) (value : Data) (e : MetaError) → length bytes ≤ 2 ^ 27 → IsCanonical value → spelling_of value ≡ bytes → Refuses (first value) e → IsRefused first bytes e
+refused_by : (first : Data → Check) (bytes : List ℕ) (value : Data) (e : MetaError) → length bytes ≤ 2 ^ 27 → IsCanonical value
+    → spelling_of value ≡ bytes → Refuses (first value) e → IsRefused first bytes e
 refused_by first bytes value e small canonical spelled (inl m) = let P : MetaError → Type 0 = λ x. IsRefused first bytes x in subst P (sym m) no_memory
 refused_by first bytes value e small canonical spelled (inr k) = faulty e small (record { value = value; canonical = canonical; spelled = spelled; first = k })
 
-pub value_refused : {T : Type 0} (first : Data → Check) (bytes : List ℕ) (value : Data) (r : Result T MetaError) → length bytes ≤ 2 ^ 27 → IsCanonical value → spelling_of value ≡ bytes
+pub value_refused : {T : Type 0} (first : Data → Check) (bytes : List ℕ) (value : Data) (r : Result T MetaError) → length bytes ≤ 2 ^ 27
+    → IsCanonical value → spelling_of value ≡ bytes
     → IfErr r (Refuses (first value)) → IfErr r (IsRefused first bytes)
 value_refused first bytes value (Ok x) small canonical spelled h = h
 value_refused first bytes value (Err e) small canonical spelled h = refused_by first bytes value e small canonical spelled h

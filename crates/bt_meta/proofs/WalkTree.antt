@@ -1,10 +1,12 @@
 -- What the walk over a whole tree tells.
-use Rattle.std.proofs.Common.{◌≡◌, ℕ, ◌≤◌, ◌^◌, Bool, true, false, List, [], ◌∷◌, ◌++◌, length, map, None, Some, refl, sym, ap, ◌∙◌, inl, inr, arith}
-use Rattle.std.specs.Prelude.{filter, sum, sum_by, not, ◌||◌, ◌==◌, cond}
-use Rattle.std.proofs.lemmas.List.Sums.{sum-map}
+use Rattle.std.proofs.Common.{◌≡◌, ℕ, ◌≤◌, Bool, true, false, List, [], ◌∷◌, ◌++◌, length, map, Some, refl, sym, ap, ◌∙◌, inl, inr, arith}
+use Rattle.std.specs.Prelude.{filter, sum_by, not, ◌==◌}
 use Rattle.std.specs.List.{list_any}
+use Rattle.std.proofs.lemmas.Bool.{cases_Bool}
 use Rattle.std.proofs.lemmas.Bool.Decides.{nat_tests}
-use Rattle.std.proofs.lemmas.List.Elements.{All-same, All-nil}
+use Rattle.std.proofs.lemmas.List.Elements.{All-nil}
+use Rattle.std.proofs.lemmas.List.Sums.{sum_by-cons}
+use Rattle.bt_tree.specs.Limits.{max_file_length}
 use Rattle.bt_bencode.specs.Value.{Data}
 use Rattle.bt_meta.specs.Fields.{has_key, no_dictionary}
 use Rattle.bt_meta.specs.TreeEntries.{TreeEntry, tree_entries_below, with_earlier}
@@ -19,90 +21,75 @@ use Rattle.bt_meta.specs.declared.error.MetaError.TheVariants.{Tree}
 use Rattle.bt_meta.proofs.Checks.{first_of-append, first_of-append_some}
 use Rattle.bt_meta.proofs.WalkFiles.{count_of_files}
 
-pub start : (piece_length : ℕ) (walk : Walk) → walk.files.items ≡ [] → walk.pieces ≡ 0 → walk.lengths.entries ≡ [] → IsWalkOver piece_length [] walk
-start piece_length walk files pieces lengths = record {
+pub start : (n : ℕ) (walk : Walk) → walk.files.items ≡ [] → walk.pieces ≡ 0 → walk.lengths.entries ≡ [] → IsWalkOver n [] walk
+start n walk files pieces lengths = record {
   files = ap (map file_of) files;
   pieces = pieces;
-  short = All-same (λ (f : File). f.length ≤ 2 ^ 40) (map file_of walk.files.items) [] (ap (map file_of) files) (All-nil (λ (f : File). f.length ≤ 2 ^ 40));
-  lengths = λ root n. rw lengths refl;
+  short = rw files (All-nil (λ (f : File). f.length ≤ max_file_length));
+  lengths = λ root m. rw lengths refl;
 }
-
-pub key_at_top : (piece_length : ℕ) (tree : Data) → true ≡ has_key tree [] → first_of (tree_checks piece_length tree) ≡ Some Tree
-unfolding tree_checks
-key_at_top piece_length tree e = rw (← e) refl
-
-abbrev entries : ℕ → Data → List Check
-entries piece_length tree = with_earlier (entry_check piece_length) [] (tree_entries_below [] tree)
-
-abbrev last_check : Data → Check
-last_check tree = fault_if (not (list_any is_file (tree_entries_below [] tree))) Tree
-
-top_passed : (piece_length : ℕ) (tree : Data) → false ≡ has_key tree [] → first_of (tree_checks piece_length tree) ≡ first_of (entries piece_length tree ++ last_check tree ∷ [])
-unfolding tree_checks
-top_passed piece_length tree e = rw (← e) refl
-
-entry_fault : (piece_length : ℕ) (tree : Data) (e : MetaError) → false ≡ has_key tree [] → first_of (entries piece_length tree) ≡ Some e → first_of (tree_checks piece_length tree) ≡ Some e
-entry_fault piece_length tree e t f = top_passed piece_length tree t ∙ first_of-append_some (entries piece_length tree) (last_check tree ∷ []) e f
-
-only : (c : Check) → first_of (c ∷ []) ≡ c
-only None = refl
-only (Some e) = refl
-
-to_last : (piece_length : ℕ) (tree : Data) → false ≡ has_key tree [] → first_of (entries piece_length tree) ≡ None → first_of (tree_checks piece_length tree) ≡ last_check tree
-to_last piece_length tree t f = top_passed piece_length tree t ∙ first_of-append (entries piece_length tree) (last_check tree ∷ []) f ∙ only (last_check tree)
-
-filter_one : {A : Type 0} (x : A) (b : Bool) (ys : List A) (r : Bool) → r ≡ not (length ys == 0) → (b || r) ≡ not (length (cond b (x ∷ ys) ys) == 0)
-filter_one x true ys r e = let more : (length (x ∷ ys) == 0) ≡ false = grind (arith, nat_tests) in rw more refl
-filter_one x false ys r e = e
 
 pub some_of_filter : {A : Type 0} (test : A → Bool) (xs : List A) → list_any test xs ≡ not (length (filter test xs) == 0)
 some_of_filter test [] = refl
-some_of_filter test (x ∷ xs) = filter_one x (test x) (filter test xs) (list_any test xs) (some_of_filter test xs)
+some_of_filter test (x ∷ xs) = elim (cases_Bool (test x)) [
+  | inl e ↦ let more : (length (x ∷ filter test xs) == 0) ≡ false = grind (arith, nat_tests) in rw (e, more) refl
+  | inr e ↦ rw (e, some_of_filter test xs) refl
+]
 
-last_is : (piece_length : ℕ) (tree : Data) (w : Walk) (b : Bool) → IsWalkOver piece_length (tree_entries_below [] tree) w → b ≡ (length w.files.items == 0) → last_check tree ≡ fault_if b Tree
-last_is piece_length tree w b h e =
-    let count = count_of_files piece_length (tree_entries_below [] tree) w.files.items h.files in
-    ap (λ x. fault_if (not x) Tree) (some_of_filter is_file (tree_entries_below [] tree) ∙ ap (λ n. not (n == 0)) (sym count) ∙ ap not (sym e)) ∙ twice b
-  where
-    twice : (b : Bool) → fault_if (not (not b)) Tree ≡ fault_if b Tree
-    twice true = refl
-    twice false = refl
+module _ (n : ℕ) (layers : Data) where
+  sums : (before es : List TreeEntry)
+      → sum_by (λ f. piece_count n f.length) (with_earlier (file_at n layers) before es) ≡ sum_by (λ p. piece_count n (length_of p)) es
+  sums before [] = refl
+  sums before (p ∷ es) =
+      sum_by-cons (λ (f : File). piece_count n f.length) (file_at n layers before p) (with_earlier (file_at n layers) (before ++ p ∷ []) es)
+      ∙ rw (sums (before ++ p ∷ []) es) (sym (sum_by-cons (λ (q : TreeEntry). piece_count n (length_of q)) p es))
 
--- ---- the whole tree
+  pub same_sum : (tree : Data) → sum_by (λ f. piece_count n f.length) (files_of n layers tree) ≡ pieces_of n (tree_entries_below [] tree)
+  unfolding files_of
+  same_sum tree = sums [] (filter is_file (tree_entries_below [] tree))
 
-pub tree_stops : (piece_length : ℕ) (tree : Data) (walk : Walk) (e : MetaError) → false ≡ has_key tree [] → IsWalkOver piece_length [] walk
-    → Stops piece_length (tree_entries_below [] tree) walk e → Refuses (first_of (tree_checks piece_length tree)) e
-tree_stops piece_length tree walk e t h s = elim (s [] h) [ inl m ↦ inl m | inr k ↦ inr (entry_fault piece_length tree e t k) ]
+module _ (n : ℕ) (tree : Data) where
+  abbrev es : List TreeEntry
+  es = tree_entries_below [] tree
 
-pub no_file : (piece_length : ℕ) (tree : Data) (old new : Walk) → false ≡ has_key tree [] → IsWalkOver piece_length [] old
-    → Passes piece_length (tree_entries_below [] tree) old new → true ≡ (length new.files.items == 0) → first_of (tree_checks piece_length tree) ≡ Some Tree
-no_file piece_length tree old new t h s e =
-    let walked = s [] h in
-    to_last piece_length tree t walked.1 ∙ last_is piece_length tree new true walked.0 e
+  abbrev last : Check
+  last = fault_if (not (list_any is_file es)) Tree
 
-pub same_sum : (piece_length : ℕ) (layers tree : Data) (files : List File) → files ≡ with_earlier (file_at piece_length layers) [] (filter is_file (tree_entries_below [] tree))
-    → sum_by (λ f. piece_count piece_length f.length) files ≡ pieces_of piece_length (tree_entries_below [] tree)
-same_sum piece_length layers tree files e = ap (sum_by (λ f. piece_count piece_length f.length)) e ∙ sums [] (filter is_file (tree_entries_below [] tree))
-  where
-    counts : (before tree_entries : List TreeEntry) → map (λ f. piece_count piece_length f.length) (with_earlier (file_at piece_length layers) before tree_entries) ≡ map (λ p. piece_count piece_length (length_of p)) tree_entries
-    counts before [] = refl
-    counts before (p ∷ tree_entries) = ap (λ ns. piece_count piece_length (length_of p) ∷ ns) (counts (before ++ p ∷ []) tree_entries)
+  pub key_at_top : true ≡ has_key tree [] → first_of (tree_checks n tree) ≡ Some Tree
+  unfolding tree_checks
+  key_at_top e = rw (← e) refl
 
-    sums : (before tree_entries : List TreeEntry) → sum_by (λ f. piece_count piece_length f.length) (with_earlier (file_at piece_length layers) before tree_entries) ≡ sum_by (λ p. piece_count piece_length (length_of p)) tree_entries
-    sums before tree_entries =
-        sym (sum-map (λ (f : File). piece_count piece_length f.length) (with_earlier (file_at piece_length layers) before tree_entries)) ∙ ap sum (counts before tree_entries)
-        ∙ sum-map (λ (p : TreeEntry). piece_count piece_length (length_of p)) tree_entries
+  module _ (top : false ≡ has_key tree []) where
+    top_passed : first_of (tree_checks n tree) ≡ first_of (with_earlier (entry_check n) [] es ++ last ∷ [])
+    unfolding tree_checks
+    top_passed = rw (← top) refl
 
-pub whole_tree : (piece_length : ℕ) (tree : Data) (old new : Walk) (listing : Listing) → false ≡ has_key tree [] → IsWalkOver piece_length [] old
-    → Passes piece_length (tree_entries_below [] tree) old new → false ≡ (length new.files.items == 0) → listing.files ≡ new.files → listing.pieces ≡ new.pieces
-    → IsListing piece_length tree listing
-unfolding files_of
-whole_tree piece_length tree old new listing t h s e files pieces =
-    let walked = s [] h in
-    let same = ap (λ v. map file_of v.items) files in
-    record {
-      faultless = to_last piece_length tree t walked.1 ∙ last_is piece_length tree new false walked.0 e;
-      files = same ∙ walked.0.files;
-      pieces = pieces ∙ walked.0.pieces ∙ sym (same_sum piece_length no_dictionary tree (map file_of listing.files.items) (same ∙ walked.0.files));
-      short = All-same (λ (f : File). f.length ≤ 2 ^ 40) (map file_of listing.files.items) (map file_of new.files.items) same walked.0.short;
-    }
+    module _ {old : Walk} (h : IsWalkOver n [] old) where
+      pub tree_stops : {e : MetaError} → Stops n es old e → Refuses (first_of (tree_checks n tree)) e
+      tree_stops s = elim (s.refused [] h) [
+        | inl m ↦ inl m
+        | inr k ↦ inr
+            (top_passed ∙ first_of-append_some (with_earlier (entry_check n) [] es) (last ∷ []) _ k)
+      ]
+
+      module _ {new : Walk} (s : Passes n es old new) where
+        to_last : {b : Bool} → b ≡ (length new.files.items == 0) → first_of (tree_checks n tree) ≡ first_of (fault_if (not (not b)) Tree ∷ [])
+        to_last e =
+            let walked = s.over [] h in
+            top_passed ∙ first_of-append (with_earlier (entry_check n) [] es) (last ∷ []) walked.1
+            ∙ rw (some_of_filter is_file es, ← count_of_files n es new.files.items walked.0.files, ← e) refl
+
+        pub no_file : true ≡ (length new.files.items == 0) → first_of (tree_checks n tree) ≡ Some Tree
+        no_file e = to_last e
+
+        pub whole_tree : {listing : Listing} → false ≡ (length new.files.items == 0) → listing.files ≡ new.files → listing.pieces ≡ new.pieces
+            → IsListing n tree listing
+        unfolding files_of
+        whole_tree e files pieces =
+            let walked = (s.over [] h).0 in
+            record {
+              faultless = to_last e;
+              files = rw files walked.files;
+              pieces = rw (files, pieces, walked.pieces, walked.files) (sym (same_sum n no_dictionary tree));
+              short = rw files walked.short;
+            }

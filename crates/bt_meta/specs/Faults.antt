@@ -10,11 +10,11 @@ use Rattle.bt_bencode.specs.Dictionary.{field_of}
 use Rattle.bt_tree.specs.Limits.{max_file_length, min_piece_length, max_piece_length}
 use Rattle.bt_meta.specs.Fields.{integer_at, natural_at, string_at, dictionary_at, has_key, as_natural, no_dictionary, is_dictionary, is_single}
 use Rattle.bt_meta.specs.TreeEntries.{TreeEntry, tree_entries_below, with_earlier}
-use Rattle.bt_meta.specs.Files.{is_file, properties_of, length_in, root_in, length_of, root_of, pieces_of, layer_for}
+use Rattle.bt_meta.specs.Files.{is_file, properties_of, length_in, root_in, length_of, root_of, is_conflict, pieces_of, layer_for}
 use Rattle.bt_meta.specs.Layers.{has_layer_size, has_root}
 use Rattle.bt_meta.specs.declared.error.MetaError.{MetaError}
 use Rattle.bt_meta.specs.declared.error.MetaError.TheVariants.{NoInfo, NotV2, Version, Hybrid, NoName, PieceLength, Tree, BadPath, Symlink, FileLength, BadRoot, RootConflict, TooMany, LayerMissing, LayerSize, LayerDiffers}
-use Rattle.bt_meta.specs.Limits.{max_path_length, max_file_count, max_piece_count}
+use Rattle.bt_meta.specs.Limits.{max_path_length, are_too_many}
 
 -- A check answers a fault, or nothing.
 abbrev pub Check : Type 0
@@ -71,17 +71,14 @@ has_lawful_root properties = length_in properties == 0 || length (root_in proper
 
 -- both are files that are not empty, with one root and two lengths
 abbrev pub conflict : TreeEntry → TreeEntry → Bool
-conflict p q =
-    is_file q && not (length_of q == 0)
-    && pointwise nat_eq (root_of q) (root_of p) && not (length_of q == length_of p)
+conflict p q = is_file q && is_conflict (root_of p) (length_of p) (root_of q) (length_of q)
 
 -- too many elements in the path; or too many files or pieces with this file
 abbrev pub is_too_many : ℕ → List TreeEntry → TreeEntry → Bool
 is_too_many piece_length before p =
     let entries = before ++ p ∷ [] in
-    nat_lt max_path_length (length p.path) || (is_file p && (
-    nat_lt max_file_count (length (filter is_file entries))
-    || nat_lt max_piece_count (pieces_of piece_length entries)))
+    nat_lt max_path_length (length p.path)
+    || (is_file p && are_too_many (length (filter is_file entries)) (pieces_of piece_length entries))
 
 abbrev pub file_checks : List TreeEntry → TreeEntry → List Check
 file_checks before p =

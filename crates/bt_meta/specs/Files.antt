@@ -1,6 +1,7 @@
 -- The files of a file tree (BEP 52).
-use Rattle.std.specs.Prelude.{ℕ, Bool, ◌==◌, List, [], filter, sum_by, replicate, codes, unwrap_or, nat_lt, if◌then◌else◌}
+use Rattle.std.specs.Prelude.{ℕ, Bool, not, ◌&&◌, ◌==◌, List, [], filter, sum_by, replicate, codes, unwrap_or, nat_eq, nat_lt, if◌then◌else◌}
 use Rattle.std.specs.Int.{div_ceil}
+use Rattle.std.specs.Cmp.Lexicographic.{pointwise}
 use Rattle.bt_bencode.specs.Value.{Data}
 use Rattle.bt_meta.specs.Fields.{natural_at, string_at, dictionary_at, has_key, no_dictionary}
 use Rattle.bt_meta.specs.TreeEntries.{TreeEntry, tree_entries_below, with_earlier}
@@ -32,6 +33,10 @@ root_of p = root_in (properties_of p)
 -- a file begins at a piece's boundary, and its last piece may be shorter
 abbrev pub piece_count : ℕ → ℕ → ℕ
 piece_count piece_length length = div_ceil length piece_length
+
+-- a file of m bytes with the other root is not empty, and has this root and not n bytes
+abbrev pub is_conflict : List ℕ → ℕ → List ℕ → ℕ → Bool
+is_conflict root n other m = not (m == 0) && pointwise nat_eq other root && not (m == n)
 
 -- how many pieces the entries that are files have together
 abbrev pub pieces_of : ℕ → List TreeEntry → ℕ

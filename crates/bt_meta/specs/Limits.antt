@@ -1,5 +1,5 @@
 -- The limits of a torrent that is read or made here: the profile of this crate, where BEP 52 sets none.
-use Rattle.std.specs.Prelude.{ℕ, ◌^◌}
+use Rattle.std.specs.Prelude.{ℕ, Bool, ◌^◌, ◌||◌, nat_lt}
 
 -- how many bytes the text of a torrent has at most
 abbrev pub max_text_length : ℕ
@@ -16,3 +16,7 @@ max_file_count = 65536
 -- how many elements a path has at most
 abbrev pub max_path_length : ℕ
 max_path_length = 64
+
+-- so many files are too many, or so many pieces
+abbrev pub are_too_many : ℕ → ℕ → Bool
+are_too_many files pieces = nat_lt max_file_count files || nat_lt max_piece_count pieces

@@ -44,7 +44,7 @@ pub record NotesLength (old new : Lengths) (root : List ℕ) (n : ℕ) : Type 0 
   pub noted : (other : List ℕ) →
       length_at new other ≡ cond (is_eq (slice_cmp nat_cmp root other)) (Some n) (length_at old other)
 
--- no length was noted, and want of memory is told; or another length was, and this is told
+-- no length was noted, and out of memory is told; or another length was, and this is told
 abbrev pub IsLengthConflict : Lengths → List ℕ → ℕ → MetaError → Type 0
 IsLengthConflict lengths root n e =
     ((e ≡ OutOfMemory) × (length_at lengths root ≡ None))

@@ -88,9 +88,9 @@ abbrev pub HaveOneLengthPerRoot : List File → Type 0
 HaveOneLengthPerRoot files = AllPairs (λ f g.
     f.length ≢ 0 → g.length ≢ 0 → f.root ≡ g.root → f.length ≡ g.length) files
 
--- a file that is not too long, with lawful elements in its path, and with a root of 32 bytes, zeros where it is
--- empty; one with a layer is longer than a piece, and the layer has a digest for each of its pieces and folds
--- to the root
+-- a file that is not too long, with lawful elements in its path, and with a root of 32 bytes, zeros where it
+-- is empty; one with a layer is longer than a piece, and the layer has a digest for each of its pieces and
+-- folds to the root
 pub record IsLawfulFile (piece_length : ℕ) (file : File) : Type 0 where
   pub path : is_path file.path ≡ true
   pub short : file.length ≤ max_file_length

@@ -1,12 +1,11 @@
 -- The steps of the walk over a file tree. No public contract cites them.
-use Rattle.std.specs.Prelude.{◌≡◌, ℕ, ◌==◌, ◌&&◌, Bool, true, false, not, List, [], ◌∷◌, ◌++◌, map, filter, nat_eq, Option, None, Some}
+use Rattle.std.specs.Prelude.{◌≡◌, ℕ, ◌&&◌, Bool, true, false, List, [], ◌∷◌, ◌++◌, map, filter, Option, None, Some}
 use Rattle.std.specs.List.{list_any}
-use Rattle.std.specs.Cmp.Lexicographic.{pointwise}
 use Rattle.bt_bencode.specs.Value.{Data, no_entries, entry}
 use Rattle.bt_bencode.specs.Value.{data_of}
 use Rattle.bt_meta.specs.Fields.{has_key, dictionary_at, no_dictionary}
 use Rattle.bt_meta.specs.TreeEntries.{TreeEntry, tree_entries_below, tree_entries_among, with_earlier}
-use Rattle.bt_meta.specs.Files.{is_file, properties_of, length_of, root_of, file_of, file_at, pieces_of}
+use Rattle.bt_meta.specs.Files.{is_file, properties_of, length_of, root_of, is_conflict, file_of, file_at, pieces_of}
 use Rattle.bt_meta.specs.Faults.{first_of, is_node, has_lawful_name, entry_check}
 use Rattle.bt_meta.specs.ReaderSteps.{Refuses, AreShort}
 use Rattle.bt_meta.specs.declared.error.MetaError.{MetaError}
@@ -17,9 +16,8 @@ use Rattle.bt_meta.specs.PropertySteps.{length_at, is_other_length}
 
 -- a file that is not empty has this root and another length
 abbrev pub has_other_length : List TreeEntry → List ℕ → ℕ → Bool
-has_other_length entries root n = list_any (λ q.
-    is_file q && not (length_of q == 0)
-    && pointwise nat_eq (root_of q) root && not (length_of q == n)) entries
+has_other_length entries root n =
+    list_any (λ q. is_file q && is_conflict root n (root_of q) (length_of q)) entries
 
 -- ---- the walk
 
@@ -33,15 +31,15 @@ pub record IsWalkOver (piece_length : ℕ) (entries : List TreeEntry) (walk : Wa
       is_other_length (length_at walk.lengths root) n ≡ has_other_length entries root n
 
 -- behind whichever entries, the walk comes past these too, and they have no fault
-abbrev pub Passes : ℕ → List TreeEntry → Walk → Walk → Type 0
-Passes piece_length entries old new = (before : List TreeEntry) → IsWalkOver piece_length before old
-    → IsWalkOver piece_length (before ++ entries) new
-    × (first_of (with_earlier (entry_check piece_length) before entries) ≡ None)
+pub record Passes (piece_length : ℕ) (entries : List TreeEntry) (old new : Walk) : Type 0 where
+  pub over : (before : List TreeEntry) → IsWalkOver piece_length before old
+      → IsWalkOver piece_length (before ++ entries) new
+      × (first_of (with_earlier (entry_check piece_length) before entries) ≡ None)
 
 -- behind whichever entries, it is refused at the first fault of these
-abbrev pub Stops : ℕ → List TreeEntry → Walk → MetaError → Type 0
-Stops piece_length entries old e = (before : List TreeEntry) → IsWalkOver piece_length before old
-    → Refuses (first_of (with_earlier (entry_check piece_length) before entries)) e
+pub record Stops (piece_length : ℕ) (entries : List TreeEntry) (old : Walk) (e : MetaError) : Type 0 where
+  pub refused : (before : List TreeEntry) → IsWalkOver piece_length before old
+      → Refuses (first_of (with_earlier (entry_check piece_length) before entries)) e
 
 -- ---- one entry
 

@@ -1,16 +1,15 @@
 -- Why files make no torrent: the refusals of each, in their order.
-use Rattle.std.specs.Prelude.{ℕ, Bool, not, ◌&&◌, ◌||◌, ◌==◌, List, [], ◌∷◌, ◌++◌, length, sum_by, Option, nat_eq, nat_lt, nat_le, if◌then◌else◌}
+use Rattle.std.specs.Prelude.{ℕ, Bool, not, ◌&&◌, ◌||◌, ◌==◌, List, [], ◌∷◌, ◌++◌, length, sum_by, Option, nat_lt, nat_le, if◌then◌else◌}
 use Rattle.std.specs.List.{list_any}
-use Rattle.std.specs.Cmp.Lexicographic.{pointwise}
 use Rattle.bt_tree.specs.Limits.{max_file_length}
 use Rattle.bt_meta.specs.TreeEntries.{with_earlier}
-use Rattle.bt_meta.specs.Files.{piece_count}
+use Rattle.bt_meta.specs.Files.{piece_count, is_conflict}
 use Rattle.bt_meta.specs.Layers.{has_layer_size, has_root}
 use Rattle.bt_meta.specs.Faults.{first_of, fault_if, is_path, is_piece_length}
 use Rattle.bt_meta.specs.declared.writer.MakeError.{MakeError}
 use Rattle.bt_meta.specs.declared.writer.MakeError.TheVariants.{PieceLength, BadPath, FileLength, LayerSize, LayerDiffers, RootConflict, Count}
 use Rattle.bt_meta.specs.GivenFiles.{Given}
-use Rattle.bt_meta.specs.Limits.{max_path_length, max_file_count, max_piece_count}
+use Rattle.bt_meta.specs.Limits.{max_path_length, are_too_many}
 
 -- A check answers a refusal, or nothing.
 abbrev pub Check : Type 0
@@ -27,7 +26,7 @@ layer_refusal piece_length f =
 -- a file that is not empty has this root and another length
 abbrev pub has_conflict : List Given → List ℕ → ℕ → Bool
 has_conflict files root n =
-    list_any (λ g. not (g.length == 0) && pointwise nat_eq g.root root && not (g.length == n)) files
+    list_any (λ g. is_conflict root n g.root g.length) files
 
 abbrev pub conflict_with : List Given → Given → Bool
 conflict_with before f = not (f.length == 0) && has_conflict before f.root f.length
@@ -36,9 +35,8 @@ conflict_with before f = not (f.length == 0) && has_conflict before f.root f.len
 abbrev pub is_beyond : ℕ → List Given → Given → Bool
 is_beyond piece_length before f =
     let files = before ++ f ∷ [] in
-    nat_lt max_path_length (length f.path) || (
-    nat_lt max_file_count (length files)
-    || nat_lt max_piece_count (sum_by (λ g. piece_count piece_length g.length) files))
+    nat_lt max_path_length (length f.path)
+    || are_too_many (length files) (sum_by (λ g. piece_count piece_length g.length) files)
 
 abbrev pub own_refusal : ℕ → Given → Check
 own_refusal piece_length f = first_of (

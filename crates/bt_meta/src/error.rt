@@ -6,8 +6,9 @@ use bt_bencode::BencodeError;
 use std::alloc::{AllocError, AllocFailed};
 use thiserror::Error;
 
-/// Why bytes are no torrent that is taken here. The first that applies is returned, in the order in which they
-/// stand here; but `OutOfMemory` may stand in place of any, and more than 2^27 bytes are `TooMany` before all.
+/// Why bytes are no torrent that is taken here. The first that applies is returned, in the order in which
+/// they stand here; but `OutOfMemory` may stand in place of any, and more than 2^27 bytes are `TooMany`
+/// before all.
 #[derive(Clone, Copy, Debug, PartialEq, Eq, Error)]
 pub enum MetaError {
     /// The bytes are no canonical bencoding.
@@ -31,8 +32,8 @@ pub enum MetaError {
     /// The `piece length` is no power of two from 2^14 to 2^28.
     #[error("M7 PieceLength")]
     PieceLength,
-    /// There is no `file tree`, it is not made of dictionaries, it has the empty key at its top, or further down
-    /// beside other keys, or it has no file.
+    /// There is no `file tree`, it is not made of dictionaries, it has the empty key at its top, or further
+    /// down beside other keys, or it has no file.
     #[error("M8 Tree")]
     Tree,
     /// A path element is `.` or `..`, has `/` or a zero byte, or is not UTF-8.

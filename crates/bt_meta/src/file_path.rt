@@ -15,8 +15,8 @@ pub const MAX_PATH_LENGTH: usize = 64;
 /// The path of a folder; none at the top of the tree.
 pub(crate) type FolderPath = Option<Rc<FilePath>>;
 
-/// The path of a file, or of a folder: the names of the folders that it lies in, from the top, and then its own.
-/// It has 1 to 64 elements. Each folder's name is kept once, for all that lies in the folder.
+/// The path of a file, or of a folder: the names of the folders that it lies in, from the top, and then its
+/// own. It has 1 to 64 elements. Each folder's name is kept once, for all that lies in the folder.
 #[derive(Debug, Drop)]
 pub struct FilePath {
     folder: FolderPath,

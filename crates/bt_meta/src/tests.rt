@@ -98,7 +98,8 @@ const THREE_BLOCKS_ROOT: [u8; 32] = [
     0x4a, 0xb6, 0xf9, 0x76, 0x14, 0xed, 0x7d, 0x16, 0x92, 0xb9, 0xeb, 0x3c, 0x42, 0xa6, 0x5d, 0x69,
 ];
 
-/// The torrent of that file, which is shorter than its piece of 131,072 bytes, and of an empty file behind it.
+/// The torrent of that file, which is shorter than its piece of 131,072 bytes, and of an empty file behind
+/// it.
 fn short_torrent(rt: &impl AllocGlobal) -> Result<Vec<u8>, Fail> {
     let mut bytes = Vec::new(rt.alloc());
     bytes.extend_from_slice(b"d4:infod9:file treed6:blocksd0:d6:lengthi49152e11:pieces root32:")?;
@@ -438,8 +439,8 @@ fn refuses_names_that_are_no_text(rt: HostRuntime) -> Result<(), Fail> {
     Ok(())
 }
 
-/// The root of the tree of 1,048,577 bytes whose layer of 17 pieces of 65,536 bytes has the digests 00.., 01.. up to
-/// 10.. of one byte each.
+/// The root of the tree of 1,048,577 bytes whose layer of 17 pieces of 65,536 bytes has the digests 00..,
+/// 01.. up to 10.. of one byte each.
 pub(crate) const LAYERED_ROOT: [u8; 32] = [
     0x81, 0xe8, 0xe4, 0xbc, 0x61, 0xe7, 0x6d, 0x28, 0x18, 0x4d, 0x9d, 0xaa, 0x52, 0xc6, 0x32, 0xb1,
     0x54, 0x07, 0xe4, 0xa1, 0xf5, 0xa1, 0x12, 0xb8, 0xe2, 0x89, 0xe5, 0x4b, 0x3b, 0x67, 0x6f, 0x21,

@@ -22,8 +22,8 @@ pub struct FileEntry {
     pub root: Hash32,
     /// The index of its first piece; an empty file has that of the next file.
     pub first_piece: u32,
-    /// The digests of its pieces, 32 bytes each: for a file longer than one piece, and empty for any other. It
-    /// is empty for every file of a torrent that was read from its info dictionary alone.
+    /// The digests of its pieces, 32 bytes each: for a file longer than one piece, and empty for any other.
+    /// It is empty for every file of a torrent that was read from its info dictionary alone.
     pub layer: Vec<u8>,
 }
 
@@ -118,8 +118,8 @@ impl Torrent {
     }
 
     /// Its files, in the order of their paths: 1 to 65,536. Every torrent keeps to this: each path is made of
-    /// lawful elements, and neither is nor begins another; files that are not empty and have one root have one
-    /// length; and a layer that is there gives its file's root.
+    /// lawful elements, and neither is nor begins another; files that are not empty and have one root have
+    /// one length; and a layer that is there gives its file's root.
     pub fn files(&self) -> &[FileEntry]
         ensures said { map file_of result.now ≡ self.now.files }
         ensures some { 0 < length result.now }

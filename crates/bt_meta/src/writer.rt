@@ -41,9 +41,9 @@ pub struct Made {
     pub layer: Vec<u8>,
 }
 
-/// Why no torrent is made. The first that applies is returned: that of the piece length, then that there is no
-/// file, then those of each file in the order given, then that a path is or begins another, and then that the
-/// text is too long; but `OutOfMemory` may stand in place of any.
+/// Why no torrent is made. The first that applies is returned: that of the piece length, then that there is
+/// no file, then those of each file in the order given, then that a path is or begins another, and then that
+/// the text is too long; but `OutOfMemory` may stand in place of any.
 #[derive(Clone, Copy, Debug, PartialEq, Eq, Error)]
 pub enum MakeError {
     /// The piece length is no power of two from 2^14 to 2^28.
@@ -80,8 +80,8 @@ impl From<AllocError> for MakeError {
     }
 }
 
-/// The torrent of these files, with this name: the canonical bencoding of its keys, with the files in the order
-/// of their paths.
+/// The torrent of these files, with this name: the canonical bencoding of its keys, with the files in the
+/// order of their paths.
 pub fn make(
     alloc: Global,
     name: &[u8],

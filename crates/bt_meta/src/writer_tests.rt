@@ -137,7 +137,8 @@ fn refuses_in_order(rt: HostRuntime) -> Result<(), Fail> {
     Ok(())
 }
 
-/// Before a path of 65 elements stands the conflict of its root, and behind it a later file and the paths together.
+/// Before a path of 65 elements stands the conflict of its root, and behind it a later file and the paths
+/// together.
 #[test]
 fn refuses_a_path_of_65_elements(rt: HostRuntime) -> Result<(), Fail> {
     let alloc = rt.alloc();

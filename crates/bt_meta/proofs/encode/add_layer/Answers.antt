@@ -2,16 +2,18 @@ use Rattle.std.proofs.Common.{arith, sym}
 use Rattle.std.proofs.lemmas.Bool.Decides.{nat_tests}
 use Rattle.bt_meta.specs.GivenFiles.{given_of}
 use Rattle.bt_meta.proofs.EncodeLayers.{layers_of_short, layers_of_known, layers_of_new}
-use Rattle.bt_meta.proofs.encode.add_layer.Goals.{then-file-piece_length-via-then-file-piece_length, then-file-piece_length-via-else-file-piece_length+then-contains_key}
 use Rattle.bt_meta.proofs.encode.add_layer.Goals as goal
 
 pub returns-then-file-piece_length : goal.returns-then-file-piece_length
 returns-then-file-piece_length c files h = elim c.then-file-piece_length.branch [
-  | then-file-piece_length-via-then-file-piece_length w ↦ layers_of_short c.args.piece_length files (given_of c.args.file.now) c.args.layers.now (grind (arith, nat_tests)) h
-  | then-file-piece_length-via-else-file-piece_length+then-contains_key w ↦ layers_of_known c.args.piece_length files (given_of c.args.file.now) c.args.layers.now (sym w.if-contains_key.ensures) h
+  | goal.then-file-piece_length-via-then-file-piece_length w ↦ layers_of_short c.args.piece_length files
+      (given_of c.args.file.now) c.args.layers.now h (grind (arith, nat_tests))
+  | goal.then-file-piece_length-via-else-file-piece_length+then-contains_key w ↦ layers_of_known c.args.piece_length files
+      (given_of c.args.file.now) c.args.layers.now h (sym w.if-contains_key.ensures)
 ]
 
 pub returns : goal.returns
 returns c files h =
-    layers_of_new c.args.piece_length files (given_of c.args.file.now) c.args.layers.now c.insert.new.self c.as_slice.result (grind (arith, nat_tests)) (sym c.if-contains_key.ensures) c.as_slice.ensures.value
-    (c.in_ok-insert.ensures.updates.0) h
+    layers_of_new c.args.piece_length files (given_of c.args.file.now) c.args.layers.now h c.insert.new.self c.as_slice.result
+    (grind (arith, nat_tests)) (sym c.if-contains_key.ensures) c.as_slice.ensures.value
+    c.in_ok-insert.ensures.updates.0

@@ -1,7 +1,6 @@
 use Rattle.std.proofs.Common.{◌∙◌, ap, map}
 use Rattle.std.specs.Prelude.{codes}
-use Rattle.bt_bencode.specs.Value.{dictionary, no_entries, entry}
-use Rattle.bt_bencode.specs.Value.{data_of, entries_of}
+use Rattle.bt_bencode.specs.Value.{dictionary, no_entries, entry, data_of, entries_of}
 use Rattle.bt_bencode.specs.declared.value.Value.TheViews as views
 use Rattle.bt_bencode.proofs.ValueData.{data_of-Dict}
 use Rattle.bt_meta.specs.Encode.{info_made}
@@ -18,5 +17,6 @@ returns c =
       layered = c.in_ok-layers.ensures;
       made = data_of-Dict c.in_ok-both.both ∙ ap dictionary (c.in_ok-both.ensures ∙ ap (λ es. entries_before es rest) one)
           ∙ ap (λ d. dictionary (entry info d rest)) c.in_ok-info.ensures
-          ∙ ap (λ d. dictionary (entry info (info_made c.args.name.now c.args.piece_length (map given_at c.args.files.now)) (entry (codes "piece layers") d no_entries))) (data_of-Dict c.in_ok-layers.layers);
+          ∙ ap (λ d. dictionary (entry info (info_made c.args.name.now c.args.piece_length (map given_at c.args.files.now))
+          (entry (codes "piece layers") d no_entries))) (data_of-Dict c.in_ok-layers.layers);
     }

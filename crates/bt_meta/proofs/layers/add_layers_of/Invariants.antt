@@ -1,6 +1,5 @@
 use Rattle.std.proofs.Common.{◌≡◌, take, map, None}
-use Rattle.bt_bencode.specs.Value.{dictionary}
-use Rattle.bt_bencode.specs.Value.{entries_of}
+use Rattle.bt_bencode.specs.Value.{dictionary, entries_of}
 use Rattle.bt_meta.specs.Files.{file_of}
 use Rattle.bt_meta.specs.Faults.{first_of}
 use Rattle.bt_meta.specs.LayerSteps.{with_layer, layer_fault}

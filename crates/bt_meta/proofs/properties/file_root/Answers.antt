@@ -10,10 +10,11 @@ pub returns-in-Ok : goal.returns-in-Ok
 returns-in-Ok c =
     let whole = c.in-Ok.ensures.1 in
     ap Some whole.same
-    ∙ root_there (data_of c.args.properties.now) c.in_ok-root.root.now (λ e. c.if-length-eq0.false (c.requires ∙ e)) c.in_ok-root.ensures whole.long
+    ∙ root_there (data_of c.args.properties.now) (λ e. c.if-length-eq0.false (c.requires ∙ e)) c.in_ok-root.ensures whole.long
 
 pub returns-in-Err : goal.returns-in-Err
-returns-in-Err c = root_of_other_size (data_of c.args.properties.now) c.in_ok-root.root.now (λ e. c.if-length-eq0.false (c.requires ∙ e)) c.in_ok-root.ensures c.in-Err.ensures.1
+returns-in-Err c = root_of_other_size (data_of c.args.properties.now) (λ e. c.if-length-eq0.false (c.requires ∙ e)) c.in_ok-root.ensures c.in-Err.ensures.1
 
 pub returns-in_err-root : goal.returns-in_err-root
-returns-in_err-root c = c.from_residual.ensures ∙ root_nowhere (data_of c.args.properties.now) (λ e. c.if-length-eq0.false (c.requires ∙ e)) c.in_err-root.ensures
+returns-in_err-root c = c.from_residual.ensures
+    ∙ root_nowhere (data_of c.args.properties.now) (λ e. c.if-length-eq0.false (c.requires ∙ e)) c.in_err-root.ensures

@@ -1,14 +1,15 @@
+use Rattle.std.proofs.Common.{refl}
 use Rattle.std.proofs.lemmas.Result.{err_from_is_err_and}
 use Rattle.bt_bencode.specs.Value.{data_of}
 use Rattle.bt_meta.specs.Faults.{piece_length_of}
-use Rattle.bt_meta.proofs.Choices.{kept, dropped}
+use Rattle.bt_meta.proofs.Choices.{test_of_some, test_of_none}
 use Rattle.bt_meta.proofs.ReadHead.{lawful_in, head_version, head_hybrid, head_name, head_length, head_tree, head_is}
 use Rattle.bt_meta.proofs.reader.read_head.Goals as goal
 
 pub returns-in_err-check_version : goal.returns-in_err-check_version
 returns-in_err-check_version c =
     let p = err_from_is_err_and c.from_residual.result c.from_residual.ensures.1 in
-    rw (p.1, p.2) (head_version (data_of c.args.info.now) c.in_err-check_version.field-0.0 c.in_err-check_version.ensures)
+    rw (p.1, p.2) (head_version (data_of c.args.info.now) c.in_err-check_version.ensures)
 
 pub returns-then-is_hybrid : goal.returns-then-is_hybrid
 returns-then-is_hybrid c = head_hybrid (data_of c.args.info.now) c.in_ok-check_version.ensures c.if-is_hybrid.ensures
@@ -19,18 +20,23 @@ returns-in_default c = head_name (data_of c.args.info.now) c.in_ok-check_version
 pub returns-in_default-piece_length : goal.returns-in_default-piece_length
 returns-in_default-piece_length c =
     let info = data_of c.args.info.now in
-    head_length info c.in-Some.name.now c.in_ok-check_version.ensures c.if-is_hybrid.ensures c.in-Some.ensures
-    (dropped (lawful_in info) (piece_length_of info) c.in_default-piece_length.ensures)
+    head_length info c.in_ok-check_version.ensures c.if-is_hybrid.ensures c.in-Some.ensures
+    (test_of_none (lawful_in info) (piece_length_of info) c.in_default-piece_length.ensures)
 
 pub returns-in_default-dictionary : goal.returns-in_default-dictionary
 returns-in_default-dictionary c =
     let info = data_of c.args.info.now in
-    head_tree info c.in-Some.name.now c.in_ok-check_version.ensures c.if-is_hybrid.ensures c.in-Some.ensures
-    (kept (lawful_in info) (piece_length_of info) c.in-Some-piece_length.piece_length c.in-Some-piece_length.ensures).0 c.in_default-dictionary.ensures
+    head_tree info c.in_ok-check_version.ensures c.if-is_hybrid.ensures c.in-Some.ensures
+    (test_of_some (lawful_in info) (piece_length_of info) c.in-Some-piece_length.piece_length c.in-Some-piece_length.ensures).0 c.in_default-dictionary.ensures
 
 pub returns : goal.returns
 returns c =
     let info = data_of c.args.info.now in
-    let length = kept (lawful_in info) (piece_length_of info) c.in-Some-piece_length.piece_length c.in-Some-piece_length.ensures in
-    head_is info (record { name = c.in-Some.name; piece_length = c.in-Some-piece_length.piece_length; tree = c.in-Some-dictionary.tree })
-    c.in_ok-check_version.ensures c.if-is_hybrid.ensures c.in-Some.ensures length.0 length.1 c.in-Some-dictionary.ensures
+    let length = test_of_some (lawful_in info) (piece_length_of info) c.in-Some-piece_length.piece_length c.in-Some-piece_length.ensures in
+    head_is info c.in_ok-check_version.ensures c.if-is_hybrid.ensures c.in-Some.ensures length.0
+    (record {
+      name = c.in-Some.name;
+      piece_length = c.in-Some-piece_length.piece_length;
+      tree =
+          c.in-Some-dictionary.tree;
+    }) refl length.1 c.in-Some-dictionary.ensures

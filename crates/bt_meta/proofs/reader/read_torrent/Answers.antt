@@ -3,10 +3,11 @@ use Rattle.std.proofs.lemmas.Result.{err_from_is_err_and}
 use Rattle.bt_bencode.specs.Spelling.{spelling_of}
 use Rattle.bt_bencode.specs.Doc.{IsCanonical}
 use Rattle.bt_bencode.specs.Value.{data_of}
-use Rattle.bt_meta.specs.Faults.{first_fault}
+use Rattle.bt_meta.specs.Faults.{first_fault, info_of, layers_of}
 use Rattle.bt_meta.specs.Reader.{too_long, no_spelling}
 use Rattle.bt_meta.proofs.ReadRefusals.{value_refused}
-use Rattle.bt_meta.proofs.ReadAscending.{torrent_ascends}
+use Rattle.bt_meta.specs.Torrent.{metainfo_of}
+use Rattle.bt_meta.proofs.ReadLawful.{ascends, torrent_keeps_to}
 use Rattle.bt_meta.proofs.reader.read_torrent.Goals as goal
 
 pub returns-then-bytes-gt-MAX_TEXT_LENGTH-clause-refused : goal.returns-then-bytes-gt-MAX_TEXT_LENGTH-clause-refused
@@ -15,15 +16,18 @@ returns-then-bytes-gt-MAX_TEXT_LENGTH-clause-refused c = too_long c.if-bytes-gt-
 pub returns-in_err-doc-clause-refused : goal.returns-in_err-doc-clause-refused
 returns-in_err-doc-clause-refused c =
     let q = err_from_is_err_and c.from_residual.result c.from_residual.ensures.1 in
-    rw (q.1, q.2) (no_spelling c.in_err-doc.field-0.0 (omega arith) (record { first = c.in_err-doc.ensures.first_fault; spells_none = c.in_err-doc.ensures.none_spells }))
+    rw (q.1, q.2) (no_spelling c.in_err-doc.field-0.0 (omega arith)
+    (record { first = c.in_err-doc.ensures.first_fault; spells_none = c.in_err-doc.ensures.none_spells }))
 
 pub returns-clause-refused : goal.returns-clause-refused
 returns-clause-refused c =
     let same = ap data_of c.value.ensures.same in
-    value_refused first_fault c.args.bytes.now (data_of c.value.result.now) c.torrent_in.result (omega arith) (rw same c.value.ensures.canonical) (ap spelling_of same ∙ c.in_ok-doc.ensures.spelled) c.torrent_in.ensures.refused
+    value_refused first_fault c.args.bytes.now (data_of c.value.result.now) c.torrent_in.result (omega arith) (rw same c.value.ensures.canonical)
+    (ap spelling_of same ∙ c.in_ok-doc.ensures.spelled) c.torrent_in.ensures.refused
 
 pub returns-clause-ascending : goal.returns-clause-ascending
 returns-clause-ascending c =
     let same = ap data_of c.value.ensures.same in
     let canonical : IsCanonical (data_of c.value.result.now) = rw same c.value.ensures.canonical in
-    torrent_ascends (data_of c.value.result.now) c.torrent_in.result canonical.keys c.torrent_in.ensures.described
+    ascends (metainfo_of (info_of (data_of c.value.result.now)) (layers_of (data_of c.value.result.now))) c.torrent_in.result
+    (torrent_keeps_to (data_of c.value.result.now) canonical.keys) c.torrent_in.ensures.faultless c.torrent_in.ensures.described

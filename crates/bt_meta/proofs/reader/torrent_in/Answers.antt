@@ -5,7 +5,7 @@ use Rattle.bt_meta.specs.Files.{file_of, files_of}
 use Rattle.bt_meta.specs.Faults.{layers_of}
 use Rattle.bt_meta.specs.Torrent.{metainfo_of}
 use Rattle.bt_meta.specs.LayerSteps.{with_layer}
-use Rattle.bt_meta.proofs.ReadHead.{no_info, info_is, torrent_info_fault, info_head_fault, torrent_tree_refuses, torrent_layers, torrent_layers_refuse, metainfo_is}
+use Rattle.bt_meta.proofs.ReadHead.{no_info, info_is, torrent_info_fault, info_head_fault, tree_refuses, torrent_layers, refuses_as, metainfo_is}
 use Rattle.bt_meta.proofs.ReadLawful.{keeps_to, torrent_keeps_to}
 use Rattle.bt_meta.proofs.LayerFiles.{files_with_layers, pieces_after}
 use Rattle.bt_meta.proofs.reader.torrent_in.Goals as goal
@@ -16,51 +16,49 @@ returns-in_default-clause-refused c = inr (no_info (data_of c.args.value.now) c.
 pub returns-in_err-head-clause-refused : goal.returns-in_err-head-clause-refused
 returns-in_err-head-clause-refused c =
     let q = err_from_is_err_and c.from_residual.result c.from_residual.ensures.1 in
-    let info = data_of c.in-Some.info.now in
-    rw (q.1, q.2) (inr (torrent_info_fault (data_of c.args.value.now) info c.in_err-head.field-0.0 c.in-Some.ensures (info_head_fault info c.in_err-head.field-0.0 c.in_err-head.ensures)))
+    rw (q.1, q.2) (inr (torrent_info_fault (data_of c.args.value.now) c.in-Some.ensures (info_head_fault (data_of c.in-Some.info.now) c.in_err-head.ensures)))
 
 pub returns-in_err-listing-clause-refused : goal.returns-in_err-listing-clause-refused
 returns-in_err-listing-clause-refused c =
     let q = err_from_is_err_and c.from_residual-in_err-listing.result c.from_residual-in_err-listing.ensures.1 in
-    rw (q.1, q.2)
-    (torrent_tree_refuses (data_of c.args.value.now) (data_of c.in-Some.info.now) c.in_ok-head.head c.in_err-listing.field-0.0 c.in-Some.ensures c.in_ok-head.ensures c.in_err-listing.ensures)
+    rw (q.1, q.2) (tree_refuses (data_of c.args.value.now) c.in-Some.ensures c.in_ok-head.ensures c.in_err-listing.ensures)
 
 pub returns-in_err-add_layers-clause-refused : goal.returns-in_err-add_layers-clause-refused
 returns-in_err-add_layers-clause-refused c =
     let q = err_from_is_err_and c.from_residual-in_err-add_layers.result c.from_residual-in_err-add_layers.ensures.1 in
-    rw (q.1, q.2)
-    (torrent_layers_refuse (data_of c.args.value.now) (data_of c.in-Some.info.now) c.in_ok-head.head c.in_ok-listing.listing c.in_err-add_layers.field-0.0 c.in-Some.ensures c.in_ok-head.ensures c.in_ok-listing.ensures
-    c.in_err-add_layers.ensures.refused)
+    rw (q.1, q.2) (refuses_as (torrent_layers
+    (data_of c.args.value.now) c.in-Some.ensures c.in_ok-head.ensures c.in_ok-listing.ensures) c.in_err-add_layers.ensures.refused)
 
 pub torrent_of-requires-clause-lawful : goal.torrent_of-requires-clause-lawful
 torrent_of-requires-clause-lawful c =
     let d = data_of c.args.value.now in
     let layers = layers_of d in
-    let info = data_of c.in-Some.info.now in
-    let head = c.in_ok-head.head in
-    let pl = head.piece_length in
-    let tree = data_of head.tree.now in
+    let pl = c.in_ok-head.head.piece_length in
+    let tree = data_of c.in_ok-head.head.tree.now in
     let all = map file_of c.add_layers.new.files.items in
-    let files : all ≡ files_of pl layers tree = c.in_ok-add_layers.ensures.whole ∙ ap (map (with_layer pl layers)) c.in_ok-listing.ensures.files ∙ files_with_layers pl layers tree in
-    let faultless = torrent_layers d info head c.in_ok-listing.listing c.in-Some.ensures c.in_ok-head.ensures c.in_ok-listing.ensures ∙ c.in_ok-add_layers.ensures.faultless in
-    keeps_to (ap (λ i. metainfo_of i layers) (info_is d info c.in-Some.ensures) ∙ metainfo_is info layers head all c.in_ok-head.ensures files) (torrent_keeps_to d c.requires faultless)
+    let files : all ≡ files_of pl layers tree = c.in_ok-add_layers.ensures.whole ∙ ap (map (with_layer pl layers)) c.in_ok-listing.ensures.files
+    ∙ files_with_layers pl layers tree in
+    let faultless = torrent_layers d c.in-Some.ensures c.in_ok-head.ensures c.in_ok-listing.ensures ∙ c.in_ok-add_layers.ensures.faultless in
+    keeps_to (ap (λ i. metainfo_of i layers) (info_is d c.in-Some.ensures) ∙ metainfo_is layers all c.in_ok-head.ensures files)
+    (torrent_keeps_to d c.requires faultless)
 
 pub torrent_of-requires-clause-counted : goal.torrent_of-requires-clause-counted
 torrent_of-requires-clause-counted c =
-    pieces_after c.in_ok-head.head.piece_length (layers_of (data_of c.args.value.now)) c.in_ok-listing.listing.pieces c.in_ok-listing.listing.files.items c.add_layers.new.files.items c.in_ok-listing.ensures.pieces
+    pieces_after c.in_ok-head.head.piece_length
+    (layers_of (data_of c.args.value.now)) c.in_ok-listing.listing.pieces c.in_ok-listing.listing.files.items c.add_layers.new.files.items c.in_ok-listing.ensures.pieces
     c.in_ok-add_layers.ensures.whole
 
 pub returns-clause-faultless : goal.returns-clause-faultless
-returns-clause-faultless c =
-    torrent_layers (data_of c.args.value.now) (data_of c.in-Some.info.now) c.in_ok-head.head c.in_ok-listing.listing c.in-Some.ensures c.in_ok-head.ensures c.in_ok-listing.ensures ∙ c.in_ok-add_layers.ensures.faultless
+returns-clause-faultless c = torrent_layers (data_of c.args.value.now) c.in-Some.ensures c.in_ok-head.ensures c.in_ok-listing.ensures
+    ∙ c.in_ok-add_layers.ensures.faultless
 
 pub returns-clause-described : goal.returns-clause-described
 returns-clause-described c =
     let d = data_of c.args.value.now in
-    let info = data_of c.in-Some.info.now in
+    let layers = layers_of d in
     let pl = c.in_ok-head.head.piece_length in
     let tree = data_of c.in_ok-head.head.tree.now in
     c.in_ok-torrent.ensures
-    ∙ sym (metainfo_is info (layers_of d) c.in_ok-head.head (map file_of c.add_layers.new.files.items) c.in_ok-head.ensures
-    (c.in_ok-add_layers.ensures.whole ∙ ap (map (with_layer pl (layers_of d))) c.in_ok-listing.ensures.files ∙ files_with_layers pl (layers_of d) tree))
-    ∙ ap (λ i. metainfo_of i (layers_of d)) (sym (info_is d info c.in-Some.ensures))
+    ∙ sym (metainfo_is layers (map file_of c.add_layers.new.files.items) c.in_ok-head.ensures
+    (c.in_ok-add_layers.ensures.whole ∙ ap (map (with_layer pl layers)) c.in_ok-listing.ensures.files ∙ files_with_layers pl layers tree))
+    ∙ ap (λ i. metainfo_of i layers) (sym (info_is d c.in-Some.ensures))

@@ -10,16 +10,18 @@ pub returns-then-not-has : goal.returns-then-not-has
 returns-then-not-has c = (folder_node (data_of c.args.value.now) (sym c.if-not-is_dictionary.ensures) (sym c.if-not-has.ensures), sym c.if-not-has.ensures)
 
 pub returns-then-not-is_single : goal.returns-then-not-is_single
-returns-then-not-is_single c = crowded_node (data_of c.args.value.now) (sym c.if-not-is_dictionary.ensures) (sym c.if-not-has.ensures) (sym c.if-not-is_single.ensures)
+returns-then-not-is_single c = crowded_node (data_of c.args.value.now) (sym c.if-not-is_dictionary.ensures) (sym c.if-not-has.ensures)
+    (sym c.if-not-is_single.ensures)
 
 pub returns-in-Some : goal.returns-in-Some
 returns-in-Some c =
     let d = data_of c.args.value.now in (
-      file_node_is d (data_of c.in-Some.properties.now) (sym c.if-not-is_dictionary.ensures) (sym c.if-not-has.ensures) (sym c.if-not-is_single.ensures) c.in-Some.ensures,
+      file_node_is d (sym c.if-not-is_dictionary.ensures) (sym c.if-not-has.ensures) (sym c.if-not-is_single.ensures) c.in-Some.ensures,
       sym c.if-not-has.ensures,
       sym c.in-Some.ensures,
       λ path. single_below path d (sym c.if-not-is_single.ensures) (sym c.if-not-has.ensures),
     )
 
 pub returns-in-None : goal.returns-in-None
-returns-in-None c = empty_node (data_of c.args.value.now) (sym c.if-not-is_dictionary.ensures) (sym c.if-not-has.ensures) (sym c.if-not-is_single.ensures) c.in-None.ensures
+returns-in-None c = empty_node (data_of c.args.value.now) (sym c.if-not-is_dictionary.ensures) (sym c.if-not-has.ensures)
+    (sym c.if-not-is_single.ensures) c.in-None.ensures

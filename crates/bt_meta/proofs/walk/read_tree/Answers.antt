@@ -2,8 +2,6 @@ use Rattle.std.proofs.Common.{◌∙◌, length, refl, ap, inr}
 use Rattle.std.specs.Prelude.{◌==◌}
 use Rattle.std.proofs.lemmas.Result.{err_from_is_err_and}
 use Rattle.bt_bencode.specs.Value.{data_of}
-use Rattle.bt_meta.specs.declared.walk.Walk.{Walk}
-use Rattle.bt_meta.specs.declared.walk.Listing.{Listing}
 use Rattle.bt_meta.proofs.WalkTree.{start, key_at_top, tree_stops, no_file, whole_tree}
 use Rattle.bt_meta.proofs.walk.read_tree.Goals as goal
 
@@ -13,21 +11,20 @@ returns-then-has c = inr (key_at_top c.args.piece_length (data_of c.args.tree.no
 pub returns-in_err-walk_folder : goal.returns-in_err-walk_folder
 returns-in_err-walk_folder c =
     let q = err_from_is_err_and c.from_residual.result c.from_residual.ensures.1 in
-    let old : Walk = record { files = c.new.result; pieces = 0; lengths = c.new-2.result } in
-    let begun = start c.args.piece_length old c.new.ensures.items refl c.new-2.ensures.empty in
-    rw (q.1, q.2) (tree_stops c.args.piece_length (data_of c.args.tree.now) old c.in_err-walk_folder.field-0.0 c.if-has.ensures begun c.in_err-walk_folder.ensures.stopped)
+    let begun = start c.args.piece_length
+    (record { files = c.new.result; pieces = 0; lengths = c.new-2.result }) c.new.ensures.items refl c.new-2.ensures.empty in
+    rw (q.1, q.2) (tree_stops c.args.piece_length (data_of c.args.tree.now) c.if-has.ensures begun c.in_err-walk_folder.ensures.stopped)
 
 pub returns-then-is_empty : goal.returns-then-is_empty
 returns-then-is_empty c =
-    let old : Walk = record { files = c.new.result; pieces = 0; lengths = c.new-2.result } in
-    let begun = start c.args.piece_length old c.new.ensures.items refl c.new-2.ensures.empty in
-    inr (no_file c.args.piece_length (data_of c.args.tree.now) old c.walk_folder.new.walk c.if-has.ensures begun c.in_ok-walk_folder.ensures.passed
+    let begun = start c.args.piece_length
+    (record { files = c.new.result; pieces = 0; lengths = c.new-2.result }) c.new.ensures.items refl c.new-2.ensures.empty in
+    inr (no_file c.args.piece_length (data_of c.args.tree.now) c.if-has.ensures begun c.in_ok-walk_folder.ensures.passed
     (c.if-is_empty.ensures ∙ ap (λ xs. length xs == 0) c.as_slice.ensures.value))
 
 pub returns : goal.returns
 returns c =
-    let old : Walk = record { files = c.new.result; pieces = 0; lengths = c.new-2.result } in
-    let begun = start c.args.piece_length old c.new.ensures.items refl c.new-2.ensures.empty in
-    let listing : Listing = record { files = c.walk_folder.new.walk.files; pieces = c.walk_folder.new.walk.pieces } in
-    whole_tree c.args.piece_length (data_of c.args.tree.now) old c.walk_folder.new.walk listing c.if-has.ensures begun c.in_ok-walk_folder.ensures.passed
+    let begun = start c.args.piece_length
+    (record { files = c.new.result; pieces = 0; lengths = c.new-2.result }) c.new.ensures.items refl c.new-2.ensures.empty in
+    whole_tree c.args.piece_length (data_of c.args.tree.now) c.if-has.ensures begun c.in_ok-walk_folder.ensures.passed
     (c.if-is_empty.ensures ∙ ap (λ xs. length xs == 0) c.as_slice.ensures.value) refl refl

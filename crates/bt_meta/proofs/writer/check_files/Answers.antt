@@ -12,16 +12,15 @@ take-requires-clause-within c = c.loop-file.invariant.within
 pub returns-in_err-take-clause-checked : goal.returns-in_err-take-clause-checked
 returns-in_err-take-clause-checked c =
     let p = err_from_is_err_and c.from_residual.result c.from_residual.ensures.1 in
-    rw (p.1, p.2) (taking_stops c.args.piece_length c.args.files.now c.loop-file.file-index c.file-item.result c.loop-file.tally c.in_err-take.field-0.0 c.loop-file-test.true c.file-item.is
-    c.loop-file.invariant c.in_err-take.ensures.refused)
+    rw (p.1, p.2) (taking_stops c.args.files.now c.loop-file.file-index c.loop-file.invariant c.file-item.result c.loop-file-test.true c.file-item.is c.in_err-take.ensures.refused)
 
 pub loop-file-preserved : goal.loop-file-preserved
 loop-file-preserved c =
     let e = c.in_ok-take.ensures in
-    taking_more c.args.piece_length c.args.files.now c.loop-file.file-index c.file-item.result c.loop-file.tally c.take.new.self c.loop-file-test.true c.file-item.is c.loop-file.invariant e.within e.taken e.faultless e.rooted
+    taking_more c.args.files.now c.loop-file.file-index c.loop-file.invariant c.file-item.result c.loop-file-test.true c.file-item.is e.within e.taken e.faultless e.rooted
 
 pub returns-clause-checked : goal.returns-clause-checked
-returns-clause-checked c = taking_found c.args.piece_length c.args.files.now c.loop-file.file-index c.loop-file.tally c.loop-file.invariant (omega (arith, c.loop-file-test.false))
+returns-clause-checked c = taking_found c.args.files.now c.loop-file.file-index c.loop-file.invariant (omega (arith, c.loop-file-test.false))
 
 pub returns-clause-rooted : goal.returns-clause-rooted
-returns-clause-rooted c = taking_rooted c.args.piece_length c.args.files.now c.loop-file.file-index c.loop-file.tally c.loop-file.invariant (omega (arith, c.loop-file-test.false))
+returns-clause-rooted c = taking_rooted c.args.files.now c.loop-file.file-index c.loop-file.invariant (omega (arith, c.loop-file-test.false))

@@ -10,7 +10,12 @@ loop-i-init c = apart_begun c.args.files.now
 pub loop-i-preserved : goal.loop-i-preserved
 loop-i-preserved c =
     apart_more c.args.files.now c.loop-i.i c.index-files-i.result c.index-files-i-in-loop-i.result c.loop-i.auto.i c.loop-i-test.true c.index-files-i.is c.index-files-i-in-loop-i.is
-    (sym (c.if-begins.ensures ∙ rw (c.deref.ensures.value, c.deref-in-loop-i.ensures.value, ← c.index-files-i.is, ← c.index-files-i-in-loop-i.is) refl)) c.loop-i.invariant
+    (sym (c.if-begins.ensures ∙ rw (
+      c.deref.ensures.value,
+      c.deref-in-loop-i.ensures.value,
+      ← c.index-files-i.is,
+      ← c.index-files-i-in-loop-i.is,
+    ) refl)) c.loop-i.invariant
 
 pub returns-then-begins : goal.returns-then-begins
 returns-then-begins c =
@@ -18,4 +23,5 @@ returns-then-begins c =
     (sym (c.if-begins.ensures ∙ rw (c.deref.ensures.value, c.deref-in-loop-i.ensures.value, ← c.index-files-i.is, ← c.index-files-i-in-loop-i.is) refl))
 
 pub returns : goal.returns
-returns c = none_overlap (map given_at c.args.files.now) c.requires (apart_found c.args.files.now c.loop-i.i c.loop-i.invariant (omega (arith, c.loop-i-test.false)))
+returns c = none_overlap (map given_at c.args.files.now) c.requires
+    (apart_found c.args.files.now c.loop-i.i c.loop-i.invariant (omega (arith, c.loop-i-test.false)))

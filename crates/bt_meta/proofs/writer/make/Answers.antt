@@ -2,42 +2,45 @@ use Rattle.std.proofs.Common.{◌≡◌, ◌≤◌, ◌^◌, length, arith, ap, 
 use Rattle.std.proofs.lemmas.Result.{err_from_is_err_and}
 use Rattle.bt_bencode.specs.Spelling.{spelling_of}
 use Rattle.bt_meta.specs.GivenFiles.{given_of}
-use Rattle.bt_meta.specs.Encode.{value_made, AreLayersOf}
+use Rattle.bt_meta.specs.Limits.{max_text_length}
 use Rattle.bt_meta.specs.EncodeSteps.{given_at}
 use Rattle.bt_meta.specs.Writer.{no_memory, unlawful, overlap, too_long}
 use Rattle.bt_meta.specs.declared.writer.MakeError.TheVariants.{PieceLength, Count}
 use Rattle.bt_meta.proofs.MakeOverlap.{same_overlap}
-use Rattle.bt_meta.proofs.MakeNeighbours.{tree_paths, ordered_named, lent_short, length_refused, none_refused, files_refused, refused_as}
+use Rattle.bt_meta.proofs.MadeGiven.{ordered_named, lent_short}
+use Rattle.bt_meta.proofs.MakeNeighbours.{tree_paths, length_refused, none_refused, files_refused, refused_as}
 use Rattle.bt_meta.proofs.MadeTorrent.{torrent_of_given}
 use Rattle.bt_meta.proofs.writer.make.Goals as goal
 
 pub returns-then-not-is_lawful_length-clause-refused : goal.returns-then-not-is_lawful_length-clause-refused
-returns-then-not-is_lawful_length-clause-refused c = unlawful PieceLength (length_refused c.args.piece_length (map given_of c.args.files.now) c.if-not-is_lawful_length.ensures)
+returns-then-not-is_lawful_length-clause-refused c =
+    unlawful PieceLength (length_refused c.args.piece_length (map given_of c.args.files.now) c.if-not-is_lawful_length.ensures)
 
 pub returns-then-is_empty-clause-refused : goal.returns-then-is_empty-clause-refused
-returns-then-is_empty-clause-refused c = unlawful Count (none_refused c.args.piece_length c.args.files.now c.if-not-is_lawful_length.ensures c.if-is_empty.ensures)
+returns-then-is_empty-clause-refused c =
+    unlawful Count (none_refused c.args.piece_length c.args.files.now c.if-not-is_lawful_length.ensures c.if-is_empty.ensures)
 
 pub returns-in_err-check_files-clause-refused : goal.returns-in_err-check_files-clause-refused
 returns-in_err-check_files-clause-refused c =
     let p = err_from_is_err_and c.from_residual.result c.from_residual.ensures.1 in
-    rw (p.1, p.2) (refused_as c.args.name.now c.args.piece_length c.args.files.now c.in_err-check_files.field-0.0 c.if-not-is_lawful_length.ensures c.if-is_empty.ensures c.in_err-check_files.ensures.checked)
+    rw (p.1, p.2) (refused_as c.args.name.now c.args.piece_length c.args.files.now c.in_err-check_files.field-0.0
+    c.if-not-is_lawful_length.ensures c.if-is_empty.ensures c.in_err-check_files.ensures.checked)
 
 pub has_overlap-requires : goal.has_overlap-requires
-has_overlap-requires c = rw (c.deref.ensures.value) (c.in_ok-ordered.ensures.ascending)
+has_overlap-requires c = rw (c.deref.ensures.value) c.in_ok-ordered.ensures.ascending
 
 pub returns-then-has_overlap-clause-refused : goal.returns-then-has_overlap-clause-refused
 returns-then-has_overlap-clause-refused c =
     overlap (files_refused c.args.piece_length c.args.files.now c.if-not-is_lawful_length.ensures c.if-is_empty.ensures ∙ c.in_ok-check_files.ensures.checked)
-    (same_overlap (map given_of c.args.files.now) (map given_at c.in_ok-ordered.ordered.items) _ c.in_ok-ordered.ensures.same (rw (c.deref.ensures.value) at (c.if-has_overlap.ensures)))
+    (same_overlap (map given_of c.args.files.now) _ _ c.in_ok-ordered.ensures.same (rw (c.deref.ensures.value) at c.if-has_overlap.ensures))
 
 pub value_of-requires-clause-tree_paths : goal.value_of-requires-clause-tree_paths
 value_of-requires-clause-tree_paths c =
-    rw (c.deref-2.ensures.value) (tree_paths (map given_of c.args.files.now) (map given_at c.in_ok-ordered.ordered.items) c.in_ok-ordered.ensures
-    (rw (c.deref.ensures.value) at (sym c.if-has_overlap.ensures)))
+    rw (c.deref-2.ensures.value) (tree_paths (map given_of c.args.files.now) _ c.in_ok-ordered.ensures (rw (c.deref.ensures.value) at (sym c.if-has_overlap.ensures)))
 
 pub value_of-requires-clause-named : goal.value_of-requires-clause-named
 value_of-requires-clause-named c =
-    rw (c.deref-2.ensures.value) (ordered_named c.args.piece_length (map given_of c.args.files.now) (map given_at c.in_ok-ordered.ordered.items) c.in_ok-check_files.ensures.checked c.in_ok-ordered.ensures)
+    rw (c.deref-2.ensures.value) (ordered_named c.args.piece_length (map given_of c.args.files.now) _ c.in_ok-check_files.ensures.checked c.in_ok-ordered.ensures)
 
 pub value_of-requires-clause-short : goal.value_of-requires-clause-short
 value_of-requires-clause-short c =
@@ -45,46 +48,41 @@ value_of-requires-clause-short c =
 
 pub returns-then-len-gt-MAX_TEXT_LENGTH-clause-refused : goal.returns-then-len-gt-MAX_TEXT_LENGTH-clause-refused
 returns-then-len-gt-MAX_TEXT_LENGTH-clause-refused c =
-    let value = c.in_ok-value.ensures in
-    let ordered = map given_at c.in_ok-ordered.ordered.items in
-    let spelled : c.in_ok-text.text.items ≡ spelling_of (value_made c.args.name.now c.args.piece_length ordered value.layers) =
-    c.in_ok-text.ensures ∙ ap spelling_of (value.made ∙ ap (λ ms. value_made c.args.name.now c.args.piece_length (map given_at ms) value.layers) c.deref-2.ensures.value) in
+    let value = rw (c.deref-2.ensures.value) at c.in_ok-value.ensures in
+    let spelled = c.in_ok-text.ensures ∙ ap spelling_of value.made in
     too_long (files_refused c.args.piece_length c.args.files.now c.if-not-is_lawful_length.ensures c.if-is_empty.ensures ∙ c.in_ok-check_files.ensures.checked)
-    (same_overlap (map given_of c.args.files.now) ordered _ c.in_ok-ordered.ensures.same (rw (c.deref.ensures.value) at (c.if-has_overlap.ensures)))
+    (same_overlap (map given_of c.args.files.now) _ _ c.in_ok-ordered.ensures.same (rw (c.deref.ensures.value) at c.if-has_overlap.ensures))
     (record {
-      ordered = ordered;
+      ordered = map given_at c.in_ok-ordered.ordered.items;
       in_order = c.in_ok-ordered.ensures;
       layers = value.layers;
-      layered = rw (c.deref-2.ensures.value) at value.layered;
+      layered = value.layered;
       long = rw (← spelled) (omega arith);
     })
 
 pub returns-clause-made : goal.returns-clause-made
 returns-clause-made c =
-    let value = c.in_ok-value.ensures in
-    let files = map given_of c.args.files.now in
+    let value = rw (c.deref-2.ensures.value) at c.in_ok-value.ensures in
     let ordered = map given_at c.in_ok-ordered.ordered.items in
-    let apart = tree_paths files ordered c.in_ok-ordered.ensures (rw (c.deref.ensures.value) at (sym c.if-has_overlap.ensures)) in
-    let layered : AreLayersOf c.args.piece_length ordered value.layers = rw (c.deref-2.ensures.value) at value.layered in
-    let spelled : c.in_ok-text.text.items ≡ spelling_of (value_made c.args.name.now c.args.piece_length ordered value.layers) =
-    c.in_ok-text.ensures ∙ ap spelling_of (value.made ∙ ap (λ ms. value_made c.args.name.now c.args.piece_length (map given_at ms) value.layers) c.deref-2.ensures.value) in
-    let small : length c.in_ok-text.text.items ≤ 2 ^ 27 = omega arith in
+    let apart = tree_paths (map given_of c.args.files.now) ordered c.in_ok-ordered.ensures (rw (c.deref.ensures.value) at (sym c.if-has_overlap.ensures)) in
+    let spelled = c.in_ok-text.ensures ∙ ap spelling_of value.made in
+    let small : length c.in_ok-text.text.items ≤ max_text_length = omega arith in
     record {
       faultless = files_refused c.args.piece_length c.args.files.now c.if-not-is_lawful_length.ensures c.if-is_empty.ensures ∙ c.in_ok-check_files.ensures.checked;
       ordered = ordered;
       in_order = c.in_ok-ordered.ensures;
       tree_paths = apart;
       layers = value.layers;
-      layered = layered;
+      layered = value.layered;
       spelled = spelled;
-      torrent = torrent_of_given c.args.name.now c.args.piece_length c.args.files.now ordered value.layers c.in_ok-text.text.items (sym c.if-not-is_lawful_length.ensures) c.if-is_empty.ensures c.in_ok-check_files.ensures.checked
-          c.in_ok-check_files.ensures.rooted c.in_ok-ordered.ensures apart layered small spelled;
+      torrent = torrent_of_given c.args.name.now c.args.piece_length c.args.files.now ordered value.layers c.in_ok-text.text.items (sym c.if-not-is_lawful_length.ensures)
+          c.if-is_empty.ensures c.in_ok-check_files.ensures.checked c.in_ok-check_files.ensures.rooted c.in_ok-ordered.ensures apart value.layered small spelled;
       small = small;
     }
 
 pub returns-clause-apart : goal.returns-clause-apart
 returns-clause-apart c =
-    same_overlap (map given_of c.args.files.now) (map given_at c.in_ok-ordered.ordered.items) _ c.in_ok-ordered.ensures.same (rw (c.deref.ensures.value) at (c.if-has_overlap.ensures))
+    same_overlap (map given_of c.args.files.now) _ _ c.in_ok-ordered.ensures.same (rw (c.deref.ensures.value) at c.if-has_overlap.ensures)
 
 pub returns-in_err-ordered-clause-refused : goal.returns-in_err-ordered-clause-refused
 returns-in_err-ordered-clause-refused c =

@@ -3,7 +3,6 @@ use Rattle.bt_meta.specs.Files.{file_of}
 use Rattle.bt_meta.specs.Torrent.{IsLaidOut}
 use Rattle.bt_meta.specs.PlaceSteps.{IsLastFileAt}
 use Rattle.bt_meta.proofs.PlacePieces.{entry_at, fits, place_at}
-use Rattle.bt_meta.proofs.torrent.Torrent.place.Goals.{then-length-eq0-via-then-length-eq0, then-length-eq0-via-else-length-eq0+then-length-gt-MAX_RANGE, then-length-eq0-via-else-length-eq0+else-length-gt-MAX_RANGE+then-end-self, then-length-eq0-via-else-length-eq0+else-length-gt-MAX_RANGE+else-end-self+then-at-end}
 use Rattle.bt_meta.proofs.torrent.Torrent.place.Goals as goal
 
 pub overflow_sub-at : goal.overflow_sub-at
@@ -12,7 +11,7 @@ overflow_sub-at c =
     let e = c.index-file.result.now in
     let same : map file_of c.self.inside.files.items ≡ torrent.files = ap (λ t. t.files) c.self.view_is in
     let last : IsLastFileAt torrent.files c.args.piece c.in-Some.index = c.in-Some.ensures.some in
-    let found = entry_at torrent.files c.self.inside.files.items c.in-Some.index e same c.index-file.ensures last.listed in
+    let found = entry_at torrent.files c.self.inside.files.items same c.in-Some.index e c.index-file.ensures last.listed in
     rw (found (file_of e)) at (last.begun (file_of e))
 
 pub returns-then-length-eq0-clause-none : goal.returns-then-length-eq0-clause-none
@@ -22,15 +21,15 @@ returns-then-length-eq0-clause-none c span place =
     let same : map file_of c.self.inside.files.items ≡ torrent.files = ap (λ t. t.files) c.self.view_is in
     let lay : IsLaidOut torrent.piece_length torrent.files = rw (← c.self.view_is) c.self.invariant.1.laid_out in
     let last : IsLastFileAt torrent.files c.args.piece c.in-Some.index = c.in-Some.ensures.some in
-    let found = entry_at torrent.files c.self.inside.files.items c.in-Some.index e same c.index-file.ensures last.listed in
-    let asked = fits torrent c.args.piece c.args.begin c.args.length c.in-Some.index span (file_of e) lay last found place in
+    let found = entry_at torrent.files c.self.inside.files.items same c.in-Some.index e c.index-file.ensures last.listed in
+    let asked = fits torrent c.args.piece c.args.begin c.args.length c.in-Some.index (file_of e) last found span lay place in
     let length = ap (λ t. t.piece_length) c.self.view_is in
     let begun = ap (λ t. (c.args.piece - e.first_piece) * t.piece_length) c.self.view_is in
     elim c.then-length-eq0.branch [
-      | then-length-eq0-via-then-length-eq0 w ↦ absurd (omega (arith, w.if-length-eq0.true, asked.0))
-      | then-length-eq0-via-else-length-eq0+then-length-gt-MAX_RANGE w ↦ absurd (omega (arith, w.if-length-gt-MAX_RANGE.true, asked.1))
-      | then-length-eq0-via-else-length-eq0+else-length-gt-MAX_RANGE+then-end-self w ↦ absurd (omega (arith, w.if-end-self.true, asked.2, length))
-      | then-length-eq0-via-else-length-eq0+else-length-gt-MAX_RANGE+else-end-self+then-at-end w ↦ absurd (omega (arith, w.if-at-end.true, asked.3, begun))
+      | goal.then-length-eq0-via-then-length-eq0 w ↦ absurd (omega (arith, w.if-length-eq0.true, asked.0))
+      | goal.then-length-eq0-via-else-length-eq0+then-length-gt-MAX_RANGE w ↦ absurd (omega (arith, w.if-length-gt-MAX_RANGE.true, asked.1))
+      | goal.then-length-eq0-via-else-length-eq0+else-length-gt-MAX_RANGE+then-end-self w ↦ absurd (omega (arith, w.if-end-self.true, asked.2, length))
+      | goal.then-length-eq0-via-else-length-eq0+else-length-gt-MAX_RANGE+else-end-self+then-at-end w ↦ absurd (omega (arith, w.if-at-end.true, asked.3, begun))
     ]
 
 pub returns-clause-some : goal.returns-clause-some
@@ -39,7 +38,8 @@ returns-clause-some c =
     let e = c.index-file.result.now in
     let same : map file_of c.self.inside.files.items ≡ torrent.files = ap (λ t. t.files) c.self.view_is in
     let last : IsLastFileAt torrent.files c.args.piece c.in-Some.index = c.in-Some.ensures.some in
-    let found = entry_at torrent.files c.self.inside.files.items c.in-Some.index e same c.index-file.ensures last.listed in
+    let found = entry_at torrent.files c.self.inside.files.items same c.in-Some.index e c.index-file.ensures last.listed in
     let some : 1 ≤ c.args.length = omega (arith, c.if-length-eq0.false) in
-    rw (ap (λ t. t.piece_length) c.self.view_is) (place_at torrent c.args.piece c.args.begin c.args.length c.in-Some.index (file_of e) last found some c.if-length-gt-MAX_RANGE.false
+    rw (ap (λ t. t.piece_length) c.self.view_is)
+    (place_at torrent c.args.piece c.args.begin c.args.length c.in-Some.index (file_of e) last found some c.if-length-gt-MAX_RANGE.false
     (rw (← ap (λ t. t.piece_length) c.self.view_is) c.if-end-self.false) (rw (← ap (λ t. t.piece_length) c.self.view_is) c.if-at-end.false))
