@@ -1,5 +1,5 @@
 -- Claimed nodes are put into a tree.
-use Rattle.std.proofs.Common.{◌≡◌, ℕ, ◌+◌, ◌*◌, ◌/◌, ◌<◌, ◌≤◌, ◌↔◌, inl, inr, IsTrue, Bool, true, false, cond, List, length, take, get_or, Option, Some, None, refl, sym, ap, ◌∙◌, subst, arith}
+use Rattle.std.proofs.Common.{◌≡◌, ℕ, ◌+◌, ◌*◌, ◌/◌, ◌%◌, ◌<◌, ◌≤◌, ◌↔◌, inl, inr, IsTrue, Bool, true, false, cond, List, length, take, get_or, Option, Some, None, refl, sym, ap, ◌∙◌, subst, arith}
 use mir.Val.{bool_byte}
 use Rattle.std.specs.FinMap as finite
 use Rattle.std.specs.List.{All}
@@ -10,7 +10,7 @@ use Rattle.bt_tree.specs.TreeShape.{real_width}
 use Rattle.bt_sparse.specs.declared.claim.Claim.{Claim}
 use Rattle.bt_sparse.specs.declared.expansion.ClaimedPair.{ClaimedPair}
 use Rattle.bt_sparse.specs.Page.{page_length}
-use Rattle.bt_sparse.specs.NodeMap.{Nodes, digest_at, Layers, HasPlace, KeepsPlaces}
+use Rattle.bt_sparse.specs.NodeMap.{Nodes, digest_at, table_length, Layers, HasPlace, KeepsPlaces}
 use Rattle.bt_sparse.specs.Claim.{Claims}
 use Rattle.bt_sparse.specs.ExpansionSteps.{IsPairOf}
 use Rattle.bt_sparse.specs.AcceptanceSteps.{IsPut, IsAdded, AgreesAt, IsGrown, IsGrownBy, HasPlaces}
@@ -137,12 +137,12 @@ pair_places n layers p h = record {
 
 pub places_stay : (n : ℕ) (old new : Layers) (p : ClaimedPair) → KeepsPlaces old new → HasPlaces n old p → HasPlaces n new p
 places_stay n old new p kept h = record {
-  left = λ real. omega (arith, kept p.layer (2 * p.index / page_length), h.left real);
-  right = λ real. omega (arith, kept p.layer ((2 * p.index + 1) / page_length), h.right real);
+  left = λ real. omega (arith, kept p.layer (2 * p.index / table_length) (2 * p.index % table_length / page_length), h.left real);
+  right = λ real. omega (arith, kept p.layer ((2 * p.index + 1) / table_length) ((2 * p.index + 1) % table_length / page_length), h.right real);
 }
 
 pub place_stays : (old new : Layers) (layer i : ℕ) → KeepsPlaces old new → HasPlace old layer i → HasPlace new layer i
-place_stays old new layer i kept h = omega (arith, kept layer (i / page_length), h)
+place_stays old new layer i kept h = omega (arith, kept layer (i / table_length) (i % table_length / page_length), h)
 
 pub places_more : (n : ℕ) (old new : Layers) (pairs : List ClaimedPair) (i : ℕ) (d : ClaimedPair) → i < length pairs → KeepsPlaces old new
     → All (HasPlaces n old) (take i pairs) → HasPlaces n new (get_or pairs i d) → All (HasPlaces n new) (take (i + 1) pairs)

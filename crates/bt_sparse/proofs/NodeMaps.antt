@@ -129,6 +129,15 @@ node_at layers layer i low lt = map_here (slot_of layers) number_limit number_li
 same_nodes : (m n : Nodes) → ((l j : ℕ) → digest_at m l j ≡ digest_at n l j) → m ≡ n
 same_nodes m n same = same_map m n (λ q. same q.0 q.1)
 
+map_same : (f g : ℕ → ℕ → Option (List ℕ)) (layers width : ℕ) → ((l j : ℕ) → g l j ≡ f l j) → map_of g layers width ≡ map_of f layers width
+map_same f g layers width same = same_nodes (map_of g layers width) (map_of f layers width) (λ l j. elim (cases_lt l layers) [
+  | inl low ↦ elim (cases_lt j width) [
+    | inl lt ↦ map_here g layers width l j low lt ∙ same l j ∙ sym (map_here f layers width l j low lt)
+    | inr past ↦ map_past g layers width l j past ∙ sym (map_past f layers width l j past)
+  ]
+  | inr above ↦ map_above g layers width l j above ∙ sym (map_above f layers width l j above)
+])
+
 map_put : (f g : ℕ → ℕ → Option (List ℕ)) (layers width layer i : ℕ) (d : List ℕ) → layer < layers → i < width → g layer i ≡ Some d
     → ((l j : ℕ) → (l ≡ layer → j ≡ i → ⊥) → g l j ≡ f l j) → map_of g layers width ≡ finite.insert (map_of f layers width) (layer, i) d
 map_put f g layers width layer i d low lt here others = same_nodes (map_of g layers width) (finite.insert (map_of f layers width) (layer, i) d) at
@@ -163,6 +172,9 @@ map_none f layers width none = same_nodes (map_of f layers width) finite.empty (
 -- ---- pages that have changed
 pub no_nodes : (layers : Layers) → layers ≡ [] → nodes_in layers ≡ finite.empty
 no_nodes layers e = rw e (map_none (slot_of []) number_limit number_limit (λ l j. refl))
+
+pub nodes_kept : (old new : Layers) → ((l j : ℕ) → slot_of new l j ≡ slot_of old l j) → nodes_in new ≡ nodes_in old
+nodes_kept old new same = map_same (slot_of old) (slot_of new) number_limit number_limit same
 
 pub nodes_put : (old new : Layers) (layer i : ℕ) (d : List ℕ) → layer < number_limit → i < number_limit → slot_of new layer i ≡ Some d
     → ((l j : ℕ) → (l ≡ layer → j ≡ i → ⊥) → slot_of new l j ≡ slot_of old l j) → nodes_in new ≡ finite.insert (nodes_in old) (layer, i) d

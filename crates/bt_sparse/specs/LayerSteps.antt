@@ -7,9 +7,11 @@ use Rattle.bt_tree.specs.Peaks.{row_node}
 use Rattle.bt_sparse.specs.NodeMap.{Nodes, digest_at, HasDigests}
 
 -- so many nodes of a layer, from an index on: what is there, or the padding
-pub record AreKnown (nodes : Nodes) (layer first : ℕ) (padding : List ℕ) (list : List (List ℕ)) (count : ℕ) : Type 0 where
+pub record AreKnown (nodes : Nodes) (layer first : ℕ) (padding : List ℕ)
+    (list : List (List ℕ)) (count : ℕ) : Type 0 where
   pub size : length list ≡ count
-  pub digests : (i : ℕ) → i < count → slice_index_or list i [] ≡ unwrap_or (digest_at nodes layer (first + i)) padding
+  pub digests : (i : ℕ) → i < count
+      → slice_index_or list i [] ≡ unwrap_or (digest_at nodes layer (first + i)) padding
 
 -- Just these nodes are there: of the layers from `base` up those that cover a block, below layer `top` all of
 -- them, and in that layer the first `width`.

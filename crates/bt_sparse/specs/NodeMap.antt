@@ -46,22 +46,47 @@ pub record IsPutIn (i : ℕ) (d : List ℕ) (old new : Pages) : Type 0 where
   pub others : (j : ℕ) → j ≢ i → slot_at new j ≡ slot_at old j
   pub longer : (p : ℕ) → length (slice_index_or old p []) ≤ length (slice_index_or new p [])
 
+-- a layer in tables of pages, and what they have at an index
+abbrev pub table_length : ℕ
+table_length = 262144
+
+abbrev pub Tables : Type 0
+Tables = List Pages
+
+abbrev pub entry_at : Tables → ℕ → Option (List ℕ)
+entry_at tables i = slot_at (slice_index_or tables (i / table_length) []) (i % table_length)
+
+-- there is as much as before, in pages that are as long or longer
+pub record KeepsTables (old new : Tables) : Type 0 where
+  pub same : (i : ℕ) → entry_at new i ≡ entry_at old i
+  pub longer : (t p : ℕ) → length (slice_index_or (slice_index_or old t []) p [])
+      ≤ length (slice_index_or (slice_index_or new t []) p [])
+
+-- a digest was put at an index
+pub record IsPutInto (i : ℕ) (d : List ℕ) (old new : Tables) : Type 0 where
+  pub here : entry_at new i ≡ Some d
+  pub others : (j : ℕ) → j ≢ i → entry_at new j ≡ entry_at old j
+  pub longer : (t p : ℕ) → length (slice_index_or (slice_index_or old t []) p [])
+      ≤ length (slice_index_or (slice_index_or new t []) p [])
+
 -- the layers, and what they have at a node
 abbrev pub Layers : Type 0
-Layers = List Pages
+Layers = List Tables
 
 abbrev pub slot_of : Layers → ℕ → ℕ → Option (List ℕ)
-slot_of layers layer i = slot_at (slice_index_or layers layer []) i
+slot_of layers layer i = entry_at (slice_index_or layers layer []) i
 
 -- the page of the node is made
 abbrev pub HasPlace : Layers → ℕ → ℕ → Type 0
-HasPlace layers layer i =
-    i % page_length < length (slice_index_or (slice_index_or layers layer []) (i / page_length) [])
+HasPlace layers layer i = i % table_length % page_length
+    < length (slice_index_or (slice_index_or (slice_index_or layers layer []) (i / table_length) [])
+    (i % table_length / page_length) [])
 
 -- each page is as long as it was, or longer
 abbrev pub KeepsPlaces : Layers → Layers → Type 0
-KeepsPlaces old new = (layer p : ℕ) → length (slice_index_or (slice_index_or old layer []) p [])
-    ≤ length (slice_index_or (slice_index_or new layer []) p [])
+KeepsPlaces old new = (layer t p : ℕ)
+    → length (slice_index_or (slice_index_or (slice_index_or old layer []) t []) p [])
+    ≤ length (slice_index_or (slice_index_or (slice_index_or new layer []) t []) p [])
 
 -- to a map, what there is at the first `width` indices of a layer
 abbrev pub with_some : Option (List ℕ) → ℕ → ℕ → Nodes → Nodes

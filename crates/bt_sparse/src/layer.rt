@@ -10,8 +10,8 @@ ghost use Rattle.bt_sparse.specs.Layer.{HoldsLayer};
 ghost use Rattle.bt_sparse.specs.LayerSteps.{AreKnown, IsFilled, IsWhole};
 
 use crate::expansion::parents;
-use crate::layer_pages::PAGE_LEN;
 use crate::node_map::NodeMap;
+use crate::page_table::PAGE_LEN;
 use crate::sparse_tree::SparseTree;
 use bt_tree::{Geometry, Hash32, LayerError, NodeHash, check_layer, pad};
 use std::alloc::{AllocError, Global};
@@ -89,7 +89,8 @@ fn put_nodes(
     digests: &[Hash32],
 ) -> Result<(), AllocError>
     requires inside { first + length digests.now ≤ width }
-    ensures { OnOk result ((dig : List ℕ → List ℕ) (n base : ℕ) (row : ℕ → List ℕ) → width ≡ real_width n layer
+    ensures { OnOk result ((dig : List ℕ → List ℕ) (n base : ℕ) (row : ℕ → List ℕ)
+        → width ≡ real_width n layer
         → ((i : ℕ) → i < length digests.now
         → slice_index_or digests.now i [] ≡ row_node dig row (layer - base) (first + i))
         → IsFilled dig n row base layer first (nodes_in nodes.old)

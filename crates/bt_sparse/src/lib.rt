@@ -16,6 +16,7 @@ mod layer;
 mod layer_pages;
 mod node_map;
 mod page;
+mod page_table;
 mod sparse_tree;
 
 pub use answer::AnswerError;

@@ -23,7 +23,7 @@ loop-pair-preserved c =
       | else-pair-width w ↦ record {
         same = ap nodes_in w.nodes-is ∙ c.loop-pair.invariant.same;
         ready = rw w.nodes-is (places_more (block_count c.args.geometry) c.loop-pair.nodes c.loop-pair.nodes c.args.pairs.now c.loop-pair.pair-index no_pair c.loop-pair-test.true
-            (λ l k. omega arith) c.loop-pair.invariant.ready
+            (λ l t k. omega arith) c.loop-pair.invariant.ready
             (pair_places (block_count c.args.geometry) c.loop-pair.nodes p (λ real. absurd (omega (arith, c.real-width.ensures.value, w.if-pair-width.false, real)))));
       }
     ]

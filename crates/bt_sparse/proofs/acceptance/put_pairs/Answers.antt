@@ -26,7 +26,7 @@ loop-pair-preserved g c =
     let w = c.loop-pair.invariant in
     record {
       limit = omega (arith, w.limit, c.put-count.ensures.put.one, c.put-count-in-loop-pair.ensures.put.one);
-      places = λ l k. omega (arith, w.places l k, c.put-count.ensures.longer l k, c.put-count-in-loop-pair.ensures.longer l k);
+      places = λ l t k. omega (arith, w.places l t k, c.put-count.ensures.longer l t k, c.put-count-in-loop-pair.ensures.longer l t k);
       grown = λ k all agrees.
           pair_more g.H.NodeHash.digest k (block_count c.args.geometry) (nodes_in c.args.nodes.now) (nodes_in c.loop-pair.nodes) (nodes_in c.put-count.new.nodes)
           (nodes_in c.put-count-in-loop-pair.new.nodes) c.loop-pair.count c.put-count.result c.put-count-in-loop-pair.result c.loop-pair.pair-index c.args.pairs.now
@@ -37,7 +37,7 @@ loop-pair-preserved g c =
 pub loop-pair-init : goal.loop-pair-init
 loop-pair-init g c = record {
   limit = omega arith;
-  places = λ l k. omega arith;
+  places = λ l t k. omega arith;
   grown = λ k all agrees. none_more g.H.NodeHash.digest k (block_count c.args.geometry) (nodes_in c.args.nodes.now) (nodes_in c.args.nodes.now) c.args.pairs.now refl;
 }
 

@@ -1,11 +1,11 @@
 use Rattle.std.proofs.Common.{◌≡◌, None, sym, ap, ◌∙◌, rules, arith}
-use Rattle.bt_sparse.specs.NodeMap.{Layers, slot_at, slot_of, digest_at, nodes_in}
+use Rattle.bt_sparse.specs.NodeMap.{Layers, entry_at, slot_of, digest_at, nodes_in}
 use Rattle.bt_sparse.proofs.NodeMaps.{node_at}
 use Rattle.bt_sparse.proofs.node_map.NodeMap.get.Goals as goal
 
 pub returns-in-Some : goal.returns-in-Some
 returns-in-Some c =
-    let found : slot_at c.in-Some.pages.now c.args.index ≡ slot_of c.self.inside.layers.items c.args.layer c.args.index = search rules in
+    let found : entry_at c.in-Some.pages.now c.args.index ≡ slot_of c.self.inside.layers.items c.args.layer c.args.index = search rules in
     c.get-in-Some.ensures ∙ found ∙ sym (node_at c.self.inside.layers.items c.args.layer c.args.index (omega arith) (omega arith))
     ∙ ap (λ (ls : Layers). digest_at (nodes_in ls) c.args.layer c.args.index) c.self.view_is
 
