@@ -59,7 +59,8 @@ claimed_digest dig n (failed i) = padding_digest dig 0
 abbrev pub leaf_claim : (first : ℕ) → List (List ℕ) → Claim
 leaf_claim first leaves = record { base = 0; index = first; run = leaves; uncles = [] }
 
--- what reads of blocks below a node of layer `anchor` claim: their digests, from the leaf `first` on, and padding
+-- what reads of blocks below a node of layer `anchor` claim: their digests, from the leaf `first` on, and
+-- padding
 abbrev pub claim_of_reads : (List ℕ → List ℕ) → ℕ → (anchor first : ℕ) → List BlockRead → Claim
 claim_of_reads dig n anchor first reads = leaf_claim first
     (map (claimed_digest dig n) reads ++ replicate (2 ^ anchor - length reads) (padding_digest dig 0))
@@ -74,9 +75,9 @@ pub record AreWhole (n first count : ℕ) (reads : List BlockRead) : Type 0 wher
   pub blocks : map block_of reads ≡ range_with_len first count
   pub whole : count_by (is_whole n) reads ≡ count
 
--- The reads, the answer, and the tree and the states after it. Known leaves decide block by block. Where they are
--- unknown the blocks are claimed together: if the tree accepts that they are marked, else nothing changes, nor does it
--- where a read failed or was short.
+-- The reads, the answer, and the tree and the states after it. Known leaves decide block by block. Where
+-- they are unknown the blocks are claimed together: if the tree accepts that they are marked, else nothing
+-- changes, nor does it where a read failed or was short.
 pub data Adopts (dig : List ℕ → List ℕ) (k : Facts) (from : ℕ) (states : List BlockState)
     : List BlockRead → Adopted → Facts → List BlockState → Type 0 where
   none : from ≡ blocks_of k
@@ -84,7 +85,12 @@ pub data Adopts (dig : List ℕ → List ℕ) (k : Facts) (from : ℕ) (states :
   known : (count : ℕ) (reads : List BlockRead) → IsKnownGroup dig k from count
       → map block_of reads ≡ range_with_len from count
       → Adopts dig k from states reads
-      (record { next = from + count; anchor = 0; marked = right_count dig k reads; faults = fault_count reads })
+      (record {
+        next = from + count;
+        anchor = 0;
+        marked = right_count dig k reads;
+        faults = fault_count reads;
+      })
       k (judged dig k true reads states)
   accepted : (anchor first count : ℕ) (reads : List BlockRead) (grown : Facts)
       → IsUnknownGroup k from anchor first count → AreWhole k.file_length first count reads
@@ -109,13 +115,14 @@ pub data Adopts (dig : List ℕ → List ℕ) (k : Facts) (from : ℕ) (states :
 
 -- these reads were made and no other call of the device, and the rest is what `Adopts` says
 pub record IsAdopted {D : Type 0} (history : D → History) (honest : D → Type 0) (faults : D → ℕ)
-    (dig : List ℕ → List ℕ) (k : Facts) (from : ℕ) (old : StoreView D) (reads : List BlockRead) (adopted : Adopted)
-    (grown : Facts) (new : StoreView D) : Type 0 where
+    (dig : List ℕ → List ℕ) (k : Facts) (from : ℕ) (old : StoreView D) (reads : List BlockRead)
+    (adopted : Adopted) (grown : Facts) (new : StoreView D) : Type 0 where
   pub calls : HasCalls history honest faults old.disk (map (call_of old.file_length) reads) new.disk
   pub adopts : Adopts dig k from old.states reads adopted grown new.states
   pub same_file : new.file_length ≡ old.file_length
 
--- memory was refused: the group was read or it was not, no other call of the device was made, and nothing else changed
+-- memory was refused: the group was read or it was not, no other call of the device was made, and nothing
+-- else changed
 pub record StopsAdopting {D : Type 0} (history : D → History) (honest : D → Type 0) (faults : D → ℕ)
     (dig : List ℕ → List ℕ) (k : Facts) (from : ℕ) (old : StoreView D) (reads : List BlockRead)
     (new : StoreView D) : Type 0 where

@@ -1,4 +1,5 @@
--- What becomes of a block that comes: when it is refused, when it is written, and which states the blocks have then.
+-- What becomes of a block that comes: when it is refused, when it is written, and which states the blocks
+-- have then.
 use Rattle.std.specs.Prelude.{◌≡◌, ◌≢◌, ℕ, ◌*◌, ◌<◌, List, [], ◌∷◌, length, slice_get, slice_set, Option, Some, None, Result, Ok, Err}
 use Rattle.bt_tree.specs.Limits.{full_block_length}
 use Rattle.bt_tree.specs.Blocks.{block_count, block_length}
@@ -25,17 +26,22 @@ abbrev pub IsNotWrong : (List ℕ → List ℕ) → Option (List ℕ) → List �
 IsNotWrong dig leaf bytes = (d : List ℕ) → leaf ≡ Some d → d ≡ dig bytes
 
 -- when each answer is due
-abbrev pub PutIsDue : (List ℕ → List ℕ) → Facts → ℕ → List ℕ → List BlockState → Result Put StoreError → Type 0
+abbrev pub PutIsDue : (List ℕ → List ℕ) → Facts → ℕ → List ℕ → List BlockState → Result Put StoreError
+    → Type 0
 PutIsDue dig k i bytes states (Err Range) = ¬ IsBlock k.file_length i bytes
-PutIsDue dig k i bytes states (Ok Already) = IsBlock k.file_length i bytes × (slice_get states i ≢ Some Missing)
+PutIsDue dig k i bytes states (Ok Already) =
+    IsBlock k.file_length i bytes × (slice_get states i ≢ Some Missing)
 PutIsDue dig k i bytes states (Ok Wrong) =
-    IsBlock k.file_length i bytes × (slice_get states i ≡ Some Missing) × IsWrong dig (value_at dig k 0 i) bytes
+    IsBlock k.file_length i bytes × (slice_get states i ≡ Some Missing)
+    × IsWrong dig (value_at dig k 0 i) bytes
 PutIsDue dig k i bytes states (Ok PutMarked) =
-    IsBlock k.file_length i bytes × (slice_get states i ≡ Some Missing) × (value_at dig k 0 i ≡ Some (dig bytes))
+    IsBlock k.file_length i bytes × (slice_get states i ≡ Some Missing)
+    × (value_at dig k 0 i ≡ Some (dig bytes))
 PutIsDue dig k i bytes states (Ok PutWaiting) =
     IsBlock k.file_length i bytes × (slice_get states i ≡ Some Missing) × (value_at dig k 0 i ≡ None)
 PutIsDue dig k i bytes states (Err Device) =
-    IsBlock k.file_length i bytes × (slice_get states i ≡ Some Missing) × IsNotWrong dig (value_at dig k 0 i) bytes
+    IsBlock k.file_length i bytes × (slice_get states i ≡ Some Missing)
+    × IsNotWrong dig (value_at dig k 0 i) bytes
 
 -- the calls of the device that were made: a write of the block at its place, or none
 abbrev pub calls_of_put : ℕ → List ℕ → Result Put StoreError → List Call

@@ -25,7 +25,8 @@ abbrev pub call_of : ℕ → BlockRead → Call
 call_of n (given i bytes) = bytes_given (full_block_length * i) (block_length n i) bytes
 call_of n (failed i) = read_fault (full_block_length * i) (block_length n i)
 
--- Between old and new these blocks were read, in this order, each by one call, and no other call of the device was made.
+-- Between old and new these blocks were read, in this order, each by one call, and no other call of the
+-- device was made.
 pub record AreReads {D : Type 0} (history : D → History) (honest : D → Type 0) (faults : D → ℕ) (n : ℕ)
     (blocks : List ℕ) (old : D) (reads : List BlockRead) (new : D) : Type 0 where
   pub in_order : map block_of reads ≡ blocks
@@ -38,23 +39,28 @@ is_leaf (Some leaf) digest = pointwise nat_eq leaf digest
 
 -- the bytes are a whole block, and their digest is the leaf that the tree knows of it
 abbrev pub is_right : (List ℕ → List ℕ) → Facts → ℕ → List ℕ → Bool
-is_right dig k i bytes = (length bytes == block_length k.file_length i) && is_leaf (value_at dig k 0 i) (dig bytes)
+is_right dig k i bytes =
+    (length bytes == block_length k.file_length i) && is_leaf (value_at dig k 0 i) (dig bytes)
 
 -- the same as a fact
 pub record IsRight (dig : List ℕ → List ℕ) (k : Facts) (i : ℕ) (bytes : List ℕ) : Type 0 where
   pub whole : length bytes ≡ block_length k.file_length i
   pub leaf : value_at dig k 0 i ≡ Some (dig bytes)
 
--- A block whose read gave its right bytes is marked, any other becomes missing; where the read failed, the block stays
--- as it is if `forgiving` says so, and else becomes missing.
-abbrev pub after_read : (List ℕ → List ℕ) → Facts → (forgiving : Bool) → BlockRead → List BlockState → List BlockState
-after_read dig k forgiving (given i bytes) states = slice_set states i (if is_right dig k i bytes then Marked else Missing)
+-- A block whose read gave its right bytes is marked, any other becomes missing; where the read failed, the
+-- block stays as it is if `forgiving` says so, and else becomes missing.
+abbrev pub after_read : (List ℕ → List ℕ) → Facts → (forgiving : Bool) → BlockRead → List BlockState
+    → List BlockState
+after_read dig k forgiving (given i bytes) states =
+    slice_set states i (if is_right dig k i bytes then Marked else Missing)
 after_read dig k forgiving (failed i) states = if forgiving then states else slice_set states i Missing
 
 -- after several reads
-abbrev pub judged : (List ℕ → List ℕ) → Facts → (forgiving : Bool) → List BlockRead → List BlockState → List BlockState
+abbrev pub judged : (List ℕ → List ℕ) → Facts → (forgiving : Bool) → List BlockRead → List BlockState
+    → List BlockState
 judged dig k forgiving [] states = states
-judged dig k forgiving (read ∷ reads) states = judged dig k forgiving reads (after_read dig k forgiving read states)
+judged dig k forgiving (read ∷ reads) states =
+    judged dig k forgiving reads (after_read dig k forgiving read states)
 
 -- These blocks were read and judged, and nothing else changed.
 pub record IsJudged {D : Type 0} (history : D → History) (honest : D → Type 0) (faults : D → ℕ)

@@ -29,13 +29,14 @@ counted Failed census = record census { faults = census.faults + 1 }
 
 unfoldable pub counted_findings : List Finding → ℕ → Census → Census
 counted_findings findings zero census = census
-counted_findings findings (suc j) census = counted (slice_index_or findings j Failed) (counted_findings findings j census)
+counted_findings findings (suc j) census =
+    counted (slice_index_or findings j Failed) (counted_findings findings j census)
 
--- so many blocks from the first on were read, and no other call of the device was made; the list has their digests, and
--- padding behind them; and so many were given whole, and failed
+-- so many blocks from the first on were read, and no other call of the device was made; the list has their
+-- digests, and padding behind them; and so many were given whole, and failed
 pub record IsGroupRead {D : Type 0} (history : D → History) (honest : D → Type 0) (faults : D → ℕ)
-    (dig : List ℕ → List ℕ) (n first count width : ℕ) (old : D) (reads : List BlockRead) (census : Census) (new : D)
-    (digests : List (List ℕ)) : Type 0 where
+    (dig : List ℕ → List ℕ) (n first count width : ℕ) (old : D) (reads : List BlockRead) (census : Census)
+    (new : D) (digests : List (List ℕ)) : Type 0 where
   pub calls : HasCalls history honest faults old (map (call_of n) reads) new
   pub in_order : map block_of reads ≡ range_with_len first count
   pub claims : digests ≡ map (claimed_digest dig n) reads ++ replicate (width - count) (padding_digest dig 0)

@@ -24,7 +24,8 @@ is_chosen dig k OfMarked states i = is_marked_at states i
 
 -- of so many blocks from one on, those that are read
 abbrev pub chosen_blocks : (List ℕ → List ℕ) → Facts → Review → List BlockState → (from count : ℕ) → List ℕ
-chosen_blocks dig k review states from count = filter (is_chosen dig k review states) (range_with_len from count)
+chosen_blocks dig k review states from count =
+    filter (is_chosen dig k review states) (range_with_len from count)
 
 abbrev pub verdict_of : Option (List ℕ) → Finding → Verdict
 verdict_of leaf (Whole digest) = if is_leaf leaf digest then Right else Wrong
@@ -38,10 +39,12 @@ after_verdict forgiving i Fault states = if forgiving then states else slice_set
 
 -- what the read of block `first + j` came to
 abbrev pub verdict_at : (List ℕ → List ℕ) → Facts → ℕ → List Finding → ℕ → Verdict
-verdict_at dig k first findings j = verdict_of (value_at dig k 0 (first + j)) (slice_index_or findings j Failed)
+verdict_at dig k first findings j =
+    verdict_of (value_at dig k 0 (first + j)) (slice_index_or findings j Failed)
 
 -- the states after so many reads, from block `first` on
-unfoldable pub judged_findings : (List ℕ → List ℕ) → Facts → Bool → ℕ → List Finding → ℕ → List BlockState → List BlockState
+unfoldable pub judged_findings : (List ℕ → List ℕ) → Facts → Bool → ℕ → List Finding → ℕ → List BlockState
+    → List BlockState
 judged_findings dig k forgiving first findings zero states = states
 judged_findings dig k forgiving first findings (suc j) states =
     after_verdict forgiving (first + j) (verdict_at dig k first findings j)
@@ -58,13 +61,15 @@ added Fault tally = record tally { faults = tally.faults + 1 }
 -- how many of so many reads came to each verdict
 unfoldable pub tally_of : (List ℕ → List ℕ) → Facts → ℕ → List Finding → ℕ → Tally
 tally_of dig k first findings zero = no_reads
-tally_of dig k first findings (suc j) = added (verdict_at dig k first findings j) (tally_of dig k first findings j)
+tally_of dig k first findings (suc j) =
+    added (verdict_at dig k first findings j) (tally_of dig k first findings j)
 
 abbrev pub tally_sum : Tally → ℕ
 tally_sum tally = tally.right + tally.wrong + tally.faults
 
 -- so many reads gave right bytes, wrong ones, and none
-pub record IsTallyOf (dig : List ℕ → List ℕ) (k : Facts) (reads : List BlockRead) (tally : Tally) : Type 0 where
+pub record IsTallyOf (dig : List ℕ → List ℕ) (k : Facts) (reads : List BlockRead) (tally : Tally)
+    : Type 0 where
   pub right : tally.right ≡ right_count dig k reads
   pub wrong : tally.wrong ≡ wrong_count dig k reads
   pub faults : tally.faults ≡ fault_count reads

@@ -14,9 +14,11 @@ read_of i None slot = failed i
 unfoldable pub run_reads : ℕ → List (Option ℕ) → List ℕ → ℕ → List BlockRead
 run_reads first counts buffer zero = []
 run_reads first counts buffer (suc j) =
-    run_reads first counts buffer j ++ read_of (first + j) (slice_index_or counts j None) (block_at buffer j) ∷ []
+    run_reads first counts buffer j
+    ++ read_of (first + j) (slice_index_or counts j None) (block_at buffer j) ∷ []
 
 -- what the read of block i found, in a file of so many bytes
 abbrev pub finding_of : (List ℕ → List ℕ) → ℕ → ℕ → Option ℕ → List ℕ → Finding
-finding_of dig n i (Some count) slot = if count == block_length n i then Whole (dig (take count slot)) else Short
+finding_of dig n i (Some count) slot =
+    if count == block_length n i then Whole (dig (take count slot)) else Short
 finding_of dig n i None slot = Failed

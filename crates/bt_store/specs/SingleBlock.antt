@@ -14,7 +14,8 @@ use Rattle.bt_store.specs.declared.error.ReadError.TheVariants.{NotMarked, Damag
 use Rattle.bt_store.specs.declared.error.StoreError.{StoreError}
 use Rattle.bt_store.specs.declared.error.StoreError.TheVariants.{Range, Device}
 
--- Block i is read where it is marked: the read, the answer, of which `out` then begins with the bytes, and the states.
+-- Block i is read where it is marked: the read, the answer, of which `out` then begins with the bytes, and
+-- the states.
 pub data Lends (dig : List ℕ → List ℕ) (k : Facts) (i : ℕ) (out : List ℕ) (states : List BlockState)
     : List BlockRead → Result ℕ ReadError → List BlockState → Type 0 where
   not_marked : slice_get states i ≢ Some Marked → Lends dig k i out states [] (Err NotMarked) states
@@ -29,7 +30,8 @@ pub record IsLost (dig : List ℕ → List ℕ) (k : Facts) (i : ℕ) (states : 
   pub missing : slice_get states i ≡ Some Missing
   pub known : IsSome (value_at dig k 0 i)
 
--- Block i is read where it is missing and its leaf is known: the read, whether the block is marked then, and the states.
+-- Block i is read where it is missing and its leaf is known: the read, whether the block is marked then,
+-- and the states.
 pub data Restores (dig : List ℕ → List ℕ) (k : Facts) (i : ℕ) (states : List BlockState)
     : List BlockRead → Result Bool StoreError → List BlockState → Type 0 where
   no_block : block_count k.file_length ≤ i → Restores dig k i states [] (Err Range) states
@@ -41,18 +43,20 @@ pub data Restores (dig : List ℕ → List ℕ) (k : Facts) (i : ℕ) (states : 
       → Restores dig k i states (given i bytes ∷ []) (Ok false) states
   fault : IsLost dig k i states → Restores dig k i states (failed i ∷ []) (Err Device) states
 
--- these reads were made, and no other call of the device, and the answer and the states are those that `Lends` says
-pub record IsLent {D : Type 0} (history : D → History) (honest : D → Type 0) (faults : D → ℕ) (dig : List ℕ → List ℕ)
-    (k : Facts) (i : ℕ) (out : List ℕ) (old : StoreView D) (reads : List BlockRead) (result : Result ℕ ReadError)
-    (new : StoreView D) : Type 0 where
+-- these reads were made, and no other call of the device, and the answer and the states are those that
+-- `Lends` says
+pub record IsLent {D : Type 0} (history : D → History) (honest : D → Type 0) (faults : D → ℕ)
+    (dig : List ℕ → List ℕ) (k : Facts) (i : ℕ) (out : List ℕ) (old : StoreView D) (reads : List BlockRead)
+    (result : Result ℕ ReadError) (new : StoreView D) : Type 0 where
   pub calls : HasCalls history honest faults old.disk (map (call_of old.file_length) reads) new.disk
   pub answer : Lends dig k i out old.states reads result new.states
   pub same_file : new.file_length ≡ old.file_length
 
--- these reads were made, and no other call of the device, and the answer and the states are those that `Restores` says
-pub record IsRestored {D : Type 0} (history : D → History) (honest : D → Type 0) (faults : D → ℕ) (dig : List ℕ → List ℕ)
-    (k : Facts) (i : ℕ) (old : StoreView D) (reads : List BlockRead) (result : Result Bool StoreError)
-    (new : StoreView D) : Type 0 where
+-- these reads were made, and no other call of the device, and the answer and the states are those that
+-- `Restores` says
+pub record IsRestored {D : Type 0} (history : D → History) (honest : D → Type 0) (faults : D → ℕ)
+    (dig : List ℕ → List ℕ) (k : Facts) (i : ℕ) (old : StoreView D) (reads : List BlockRead)
+    (result : Result Bool StoreError) (new : StoreView D) : Type 0 where
   pub calls : HasCalls history honest faults old.disk (map (call_of old.file_length) reads) new.disk
   pub answer : Restores dig k i old.states reads result new.states
   pub same_file : new.file_length ≡ old.file_length

@@ -24,7 +24,8 @@ use std::alloc::AllocError;
 pub struct Adopted {
     /// The block after the group.
     pub next: u32,
-    /// The layer of the node whose blocks were claimed together; 0 where their leaves were known, and where a read failed.
+    /// The layer of the node whose blocks were claimed together; 0 where their leaves were known, and where
+    /// a read failed.
     pub anchor: u32,
     /// How many blocks of the group were found right.
     pub marked: u32,
@@ -35,10 +36,11 @@ pub struct Adopted {
 impl<D: Disk + Drop, H: NodeHash> FileStore<D, H> {
     /// Takes in what the device has of the group of block `from`, by one read for each of its blocks.
     ///
-    /// Where the leaf is known, the group is that block and those after it whose leaves are known, at most eight: each
-    /// becomes marked or missing by its digest, and stays as it is where its read fails. Else the group is all blocks below
-    /// the nearest node that is held: their digests, padded, are one claim, and where the tree accepts it all become
-    /// marked. Where it does not, or a read failed or gave too few bytes, nothing changes.
+    /// Where the leaf is known, the group is that block and those after it whose leaves are known, at most
+    /// eight: each becomes marked or missing by its digest, and stays as it is where its read fails. Else
+    /// the group is all blocks below the nearest node that is held: their digests, padded, are one claim,
+    /// and where the tree accepts it all become marked. Where it does not, or a read failed or gave too few
+    /// bytes, nothing changes.
     ///
     /// The one error is out of memory. It changes nothing, though the group may have been read.
     pub fn adopt(&mut self, tree: &mut SparseTree<H>, from: u32) -> Result<Adopted, AllocError>
@@ -142,7 +144,8 @@ impl<D: Disk + Drop, H: NodeHash> FileStore<D, H> {
         requires padded { digests.old ≡ replicate (length digests.old) (padding_digest H.digest 0) }
         requires fits { count ≤ length digests.old }
         ensures read { (reads : List BlockRead) × IsGroupRead D.history D.honest D.faults H.digest
-            self.old.file_length first count (length digests.old) self.old.disk reads result self.new.disk digests.new }
+            self.old.file_length first count (length digests.old)
+            self.old.disk reads result self.new.disk digests.new }
         ensures others { self.new ≡ record self.old { disk = self.new.disk } }
     {
         let mut buffer = [0; RUN_LEN];

@@ -25,11 +25,11 @@ pub enum Put {
 }
 
 impl<D: Disk + Drop, H: NodeHash> FileStore<D, H> {
-    /// Takes a block that came. It is written, by one call of the device, where it is missing and its digest is not known
-    /// to be wrong.
+    /// Takes a block that came. It is written, by one call of the device, where it is missing and its
+    /// digest is not known to be wrong.
     ///
-    /// The refusals are Range, where the file has no such block or the block has another length, and Device; both leave
-    /// all states as they were.
+    /// The refusals are Range, where the file has no such block or the block has another length, and
+    /// Device; both leave all states as they were.
     pub fn put(&mut self, tree: &SparseTree<H>, block: u32, bytes: &[u8]) -> Result<Put, StoreError>
         requires { tree.now.file_length ≡ self.old.file_length }
         ensures why { PutIsDue H.digest tree.now block bytes.now self.old.states result }

@@ -14,8 +14,8 @@ use std::marker::Model;
 
 /// The blocks of one file on a device.
 ///
-/// The file has at least one byte. Block i lies at byte 16,384 i of the device. Each call that takes a tree takes that of
-/// the file, which has the same geometry; only `create` and `adopt` take memory.
+/// The file has at least one byte. Block i lies at byte 16,384 i of the device. Each call that takes a tree
+/// takes that of the file, which has the same geometry; only `create` and `adopt` take memory.
 #[derive(Drop)]
 pub struct FileStore<D: Disk + Drop, H: NodeHash> {
     pub(crate) alloc: Global,
@@ -38,8 +38,8 @@ impl<D: Disk + Drop, H: NodeHash> Model for FileStore<D, H> {
 }
 
 impl<D: Disk + Drop, H: NodeHash> FileStore<D, H> {
-    /// A store of a file of which all blocks are missing. No call of the device is made. Where memory is refused, the
-    /// device is given back.
+    /// A store of a file of which all blocks are missing. No call of the device is made. Where memory is
+    /// refused, the device is given back.
     pub fn create(
         alloc: Global,
         disk: D,
@@ -123,7 +123,8 @@ impl<D: Disk + Drop, H: NodeHash> FileStore<D, H> {
 
     /// Syncs the device, by one call. All states stay.
     pub fn sync(&mut self) -> Result<(), DeviceFault>
-        ensures call { HasCalls D.history D.honest D.faults self.old.disk (sync_call result ∷ []) self.new.disk }
+        ensures call { HasCalls D.history D.honest D.faults
+            self.old.disk (sync_call result ∷ []) self.new.disk }
         ensures others { self.new ≡ record self.old { disk = self.new.disk } }
     {
         self.disk.sync()

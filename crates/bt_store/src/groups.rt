@@ -120,8 +120,8 @@ pub(crate) fn padding<H: NodeHash>(
     Ok(leaves)
 }
 
-/// Claims leaves that lie next to each other, from the first on. The answer is whether the tree accepted them; if not, it is
-/// as it was.
+/// Claims leaves that lie next to each other, from the first on. The answer is whether the tree accepted
+/// them; if not, it is as it was.
 pub(crate) fn claim_leaves<H: NodeHash>(
     alloc: Global,
     tree: &mut SparseTree<H>,
@@ -131,7 +131,8 @@ pub(crate) fn claim_leaves<H: NodeHash>(
     ensures accepted { IfOk result (λ is_accepted. OnTrue is_accepted
         (Accepts H.digest tree.old (leaf_claim first leaves.items) tree.new)) }
     ensures refused { IfOk result (λ is_accepted. OnFalse is_accepted ((error : ProofError)
-        × IsRefused H.digest tree.old (leaf_claim first leaves.items) error × (error ≢ ProofError.OutOfMemory))) }
+        × IsRefused H.digest tree.old (leaf_claim first leaves.items) error
+        × (error ≢ ProofError.OutOfMemory))) }
     ensures unchanged { IfOk result (λ is_accepted. OnFalse is_accepted (tree.new ≡ tree.old)) }
     ensures err { OnErr result (tree.new ≡ tree.old) }
 {
@@ -195,7 +196,8 @@ fn note_findings(
     census
 }
 
-/// Reads blocks that lie next to each other, eight at a time, and puts the digests of whole ones in place of the padding.
+/// Reads blocks that lie next to each other, eight at a time, and puts the digests of whole ones in place
+/// of the padding.
 pub(crate) fn read_group<D: Disk, H: NodeHash>(
     disk: &mut D,
     hash: H,

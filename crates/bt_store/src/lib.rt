@@ -1,5 +1,6 @@
-//! The blocks of one file on a device: which are missing, which wait for their leaf, and which are marked, because they
-//! were read or written with the digest that the file's hash tree (BEP 52) holds at their leaf.
+//! The blocks of one file on a device: which are missing, which wait for their leaf, and which are marked,
+//! because they were read or written with the digest that the file's hash tree (BEP 52) holds at their
+//! leaf.
 #![tactic(auto)]
 
 mod adoption;

@@ -161,7 +161,8 @@ fn judge_findings<H: NodeHash>(
     requires few { count ≤ 8 }
     requires inside { first + count ≤ length states.old }
     requires limit { length states.old ≤ max_block_count }
-    ensures states { states.new ≡ judged_findings H.digest tree.now forgiving first findings.now count states.old }
+    ensures states { states.new
+        ≡ judged_findings H.digest tree.now forgiving first findings.now count states.old }
     ensures tally { result ≡ tally_of H.digest tree.now first findings.now count }
     ensures sum { tally_sum result ≡ count }
     ensures size { length states.new ≡ length states.old }
@@ -177,8 +178,9 @@ fn judge_findings<H: NodeHash>(
 }
 
 impl<D: Disk + Drop, H: NodeHash> FileStore<D, H> {
-    /// Reads each Waiting block whose leaf is known, of `count` blocks from `from` on, by one call of the device each and
-    /// upwards: it becomes marked where its digest is the leaf, else missing, also where its read failed.
+    /// Reads each Waiting block whose leaf is known, of `count` blocks from `from` on, by one call of the
+    /// device each and upwards: it becomes marked where its digest is the leaf, else missing, also where
+    /// its read failed.
     ///
     /// The one refusal is Range, where the file has fewer blocks; nothing is read then.
     pub fn settle(
@@ -212,8 +214,8 @@ impl<D: Disk + Drop, H: NodeHash> FileStore<D, H> {
         })
     }
 
-    /// Reads every marked block again, by one call of the device each and upwards: one whose digest is not its leaf, or
-    /// whose leaf is unknown, becomes missing; one whose read fails stays marked.
+    /// Reads every marked block again, by one call of the device each and upwards: one whose digest is not
+    /// its leaf, or whose leaf is unknown, becomes missing; one whose read fails stays marked.
     pub fn recheck(&mut self, tree: &SparseTree<H>) -> Rechecked
         requires { tree.now.file_length ≡ self.old.file_length }
         ensures { (reads : List BlockRead)
@@ -272,7 +274,8 @@ impl<D: Disk + Drop, H: NodeHash> FileStore<D, H> {
         requires inside { end ≤ block_count self.now.file_length }
         ensures few { result ≤ 8 }
         ensures inside { from + result ≤ end }
-        ensures chosen { (j : ℕ) → j < result → is_chosen H.digest tree.now review self.now.states (from + j) ≡ true }
+        ensures chosen { (j : ℕ) → j < result
+            → is_chosen H.digest tree.now review self.now.states (from + j) ≡ true }
         ensures none { result ≡ 0 → is_chosen H.digest tree.now review self.now.states from ≡ false }
     {
         for count in 0..8u32 {

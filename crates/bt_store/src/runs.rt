@@ -28,8 +28,8 @@ pub(crate) enum Finding {
     Failed,
 }
 
-/// Reads blocks that lie next to each other, each by one call, from the first up, each into its part of a buffer. Says how
-/// many bytes each read gave; none for one that failed.
+/// Reads blocks that lie next to each other, each by one call, from the first up, each into its part of a
+/// buffer. Says how many bytes each read gave; none for one that failed.
 pub(crate) fn read_run<D: Disk>(
     disk: &mut D,
     geometry: Geometry,
@@ -55,8 +55,8 @@ pub(crate) fn read_run<D: Disk>(
     lengths
 }
 
-/// What the reads of blocks that lie next to each other found, by how many bytes each gave: eight whole blocks are
-/// digested together.
+/// What the reads of blocks that lie next to each other found, by how many bytes each gave: eight whole
+/// blocks are digested together.
 pub(crate) fn digest_run<H: NodeHash>(
     hash: H,
     geometry: Geometry,
@@ -69,7 +69,8 @@ pub(crate) fn digest_run<H: NodeHash>(
     requires inside { first + count ≤ block_count geometry }
     requires room { length buffer.now ≡ 8 * full_block_length }
     ensures { (j : ℕ) → j < count → slice_index_or result j Failed
-        ≡ finding_of H.digest geometry (first + j) (slice_index_or lengths.now j None) (block_at buffer.now j) }
+        ≡ finding_of H.digest geometry (first + j) (slice_index_or lengths.now j None)
+        (block_at buffer.now j) }
 {
     if count == RUN_BLOCKS && is_full(geometry, first, lengths) {
         return digest_eight(hash, buffer);

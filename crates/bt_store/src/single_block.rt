@@ -15,12 +15,12 @@ use bt_sparse::SparseTree;
 use bt_tree::{BLOCK_LEN, NodeHash};
 
 impl<D: Disk + Drop, H: NodeHash> FileStore<D, H> {
-    /// Reads a marked block into the front of `out`, by one call of the device, and says how many bytes it has: `out` has
-    /// room for them. It is lent only where its digest is its leaf.
+    /// Reads a marked block into the front of `out`, by one call of the device, and says how many bytes it
+    /// has: `out` has room for them. It is lent only where its digest is its leaf.
     ///
-    /// The refusals are NotMarked, also where there is no such block; Device, after which the block stays marked; and
-    /// Damaged, where the bytes are fewer or their digest is not the leaf, after which the block is missing. After a
-    /// refusal nothing is said of `out`.
+    /// The refusals are NotMarked, also where there is no such block; Device, after which the block stays
+    /// marked; and Damaged, where the bytes are fewer or their digest is not the leaf, after which the
+    /// block is missing. After a refusal nothing is said of `out`.
     pub fn read(
         &mut self,
         tree: &SparseTree<H>,
@@ -46,10 +46,11 @@ impl<D: Disk + Drop, H: NodeHash> FileStore<D, H> {
         Ok(count)
     }
 
-    /// Reads a missing block whose leaf is known, by one call of the device: it becomes marked where its digest is the
-    /// leaf. The answer is whether the block is marked then; any other block is not read.
+    /// Reads a missing block whose leaf is known, by one call of the device: it becomes marked where its
+    /// digest is the leaf. The answer is whether the block is marked then; any other block is not read.
     ///
-    /// The refusals are Range, where the file has no such block, and Device, after which the block is missing.
+    /// The refusals are Range, where the file has no such block, and Device, after which the block is
+    /// missing.
     pub fn restore(&mut self, tree: &SparseTree<H>, block: u32) -> Result<bool, StoreError>
         requires { tree.now.file_length ≡ self.old.file_length }
         ensures { (reads : List BlockRead) × IsRestored D.history D.honest D.faults H.digest tree.now
@@ -64,8 +65,8 @@ impl<D: Disk + Drop, H: NodeHash> FileStore<D, H> {
         self.find(tree, block, &mut [0; BLOCK_LEN])
     }
 
-    /// Reads a missing block whose leaf is known into a buffer. It becomes marked where its digest is the leaf, and the
-    /// answer is whether it is.
+    /// Reads a missing block whose leaf is known into a buffer. It becomes marked where its digest is the
+    /// leaf, and the answer is whether it is.
     fn find(
         &mut self,
         tree: &SparseTree<H>,
