@@ -1,9 +1,9 @@
 //! The command `check`.
-ghost use Rattle.std.specs.Prelude.{◌≡◌, ◌↔◌, ◌⊎◌, map, IsTrue, IfOk, IfErr, IfSome};
+ghost use Rattle.std.specs.Prelude.{◌≡◌, ◌⊎◌, map, IfOk, IfErr, IfSome};
 ghost use Rattle.std.specs.List.{All};
 ghost use Rattle.bt_meta.specs.Files.{file_of};
 ghost use Rattle.btseed.specs.Check.{IsEntryFinding, IsFileFinding};
-ghost use Rattle.btseed.specs.CheckSteps.{HasLayerSize, IsEntryFault, IsEntryFindingAt, IsFaultAmong};
+ghost use Rattle.btseed.specs.CheckSteps.{IsCheckable, IsEntryFindingAt};
 ghost use Rattle.btseed.specs.Fault.{device, out_of_memory};
 ghost use Rattle.btseed.specs.Report.{IsReportOn, file_in};
 
@@ -14,7 +14,7 @@ use crate::pieces::{PieceSize, check_pieces};
 use crate::reader::BUFFER_LEN;
 use crate::report::{FileFinding, Report};
 use bt_meta::{FileEntry, MetaError, Torrent};
-use bt_tree::{Geometry, Hash32};
+use bt_tree::Geometry;
 use std::io::Read;
 use std::rt::Files;
 
@@ -41,11 +41,11 @@ fn check_files<'a, R: Files + AllocGlobal>(
     size: PieceSize,
     buffer: &mut [u8; BUFFER_LEN],
 ) -> Result<Vec<FileFinding<'a>>, Fault>
+    requires { All (IsCheckable size.layer) (map file_of entries.now) }
     ensures each { IfOk result (λ found. map file_in found.items ≡ map file_of entries.now) }
     ensures of_bytes { IfOk result
         (λ found. All (λ f. IsFileFinding size.layer (file_in f) f.finding) found.items) }
-    ensures fault { IfErr result
-        (λ fault. (fault ≡ out_of_memory) ⊎ IsFaultAmong size.layer (map file_of entries.now) fault) }
+    ensures fault { IfErr result (λ fault. (fault ≡ device) ⊎ (fault ≡ out_of_memory)) }
 {
     let mut found = Vec::new(rt.alloc());
     for file in entries {
@@ -63,9 +63,9 @@ fn check_data<R: Files + AllocGlobal>(
     size: PieceSize,
     buffer: &mut [u8; BUFFER_LEN],
 ) -> Result<Finding, Fault>
+    requires { IsCheckable size.layer (file_of entry.now) }
     ensures found { IfOk result (IsFileFinding size.layer (file_of entry.now)) }
-    ensures fault { IfErr result
-        (λ fault. (fault ≡ out_of_memory) ⊎ IsEntryFault size.layer (file_of entry.now) fault) }
+    ensures fault { IfErr result (λ fault. (fault ≡ device) ⊎ (fault ≡ out_of_memory)) }
 {
     let path = data_path(rt.alloc(), dir, &entry.path)?;
     if let Some(mut file) = open_data_file(rt, path.as_path())? {
@@ -82,6 +82,8 @@ fn check_entry<R: Read>(
     size: PieceSize,
     buffer: &mut [u8; BUFFER_LEN],
 ) -> Result<Finding, Fault>
+    requires { IsCheckable size.layer (file_of entry.now) }
+
     // of the reader's bytes, where it tells them
     ensures told { IfSome (R.remaining reader.old)
         (λ bytes. IfOk result (IsEntryFinding bytes size.layer (file_of entry.now))) }
@@ -89,27 +91,14 @@ fn check_entry<R: Read>(
     // of the bytes that it gave, at every reader
     ensures given { IfOk result
         (IsEntryFindingAt (R.remaining reader.old) (R.remaining reader.new) size.layer (file_of entry.now)) }
-    ensures fault { IfErr result (IsEntryFault size.layer (file_of entry.now)) }
+    ensures fault { IfErr result (λ fault. fault ≡ device) }
 {
     let Some(geometry) = Geometry::new(entry.length) else {
-        return match entry.length {
-            0 => Ok(check_empty(reader)?),
-            _ => Err(Fault::Torrent(MetaError::FileLength)),
-        };
+        return Ok(check_empty(reader)?);
     };
     if entry.layer.is_empty() {
         return Ok(check_file(reader, geometry, &entry.root, buffer)?);
     }
     let (digests, _) = entry.layer.as_slice().as_chunks::<32>();
-    if !has_layer_size(geometry, size.layer, digests) {
-        return Err(Fault::Torrent(MetaError::LayerSize));
-    }
     Ok(check_pieces(reader, geometry, size, digests, buffer)?)
-}
-
-/// Whether they are as many as the layer has nodes that cover a block.
-fn has_layer_size(geometry: Geometry, layer: u8, digests: &[Hash32]) -> bool
-    ensures { IsTrue result ↔ HasLayerSize layer geometry digests.now }
-{
-    layer <= geometry.height() && digests.len() == geometry.real(layer) as usize
 }

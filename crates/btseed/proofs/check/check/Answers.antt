@@ -1,6 +1,6 @@
 use Rattle.std.proofs.Common.{◌≡◌, map, rules}
 use Rattle.bt_meta.specs.Files.{file_of}
-use Rattle.btseed.proofs.CheckFault.{check_fault}
+use Rattle.btseed.proofs.CheckFault.{all_checkable}
 use Rattle.btseed.proofs.check.check.Goals as goal
 
 pub returns-in_err-size-clause-fault : goal.returns-in_err-size-clause-fault
@@ -9,9 +9,8 @@ returns-in_err-size-clause-fault g c =
     let never : ⊥ = search rules in
     absurd never
 
-pub returns-in_err-found-clause-fault : goal.returns-in_err-found-clause-fault
-returns-in_err-found-clause-fault g c =
+pub check_files-requires : goal.check_files-requires
+check_files-requires g c =
     let size = c.in_ok-size.size in
     let bytes : size.bytes ≡ c.args.torrent.now.piece_length = search rules in
-    check_fault c.from_residual-in_err-found.result size.bytes size.layer (map file_of c.files.result.now) c.in_err-found.field-0.0 size.of_layer
-    (rw bytes c.files.ensures.lawful) c.from_residual-in_err-found.ensures.1 c.in_err-found.ensures.fault
+    all_checkable size.bytes size.layer (map file_of c.files.result.now) size.of_layer (rw bytes c.files.ensures.lawful)

@@ -1,6 +1,6 @@
 use Rattle.std.proofs.Common.{[], ◌∷◌, ◌++◌, take, ap, refl, sym, ◌∙◌}
 use Rattle.std.proofs.lemmas.List.{take_more}
-use Rattle.btseed.proofs.CheckFault.{fault_among}
+use Rattle.btseed.proofs.CheckFault.{checkable_at}
 use Rattle.btseed.proofs.ReportLines.{findings_begun, findings_more}
 use Rattle.btseed.proofs.check.check_files.Goals as goal
 
@@ -13,7 +13,5 @@ loop-file-preserved g c =
     ∙ ap (λ e. take c.loop-file.file-index c.args.entries.now ++ e ∷ []) (sym c.file-item.is) in
     findings_more _ _ _ c.file-item.result _ _ _ c.loop-file.invariant c.in_ok-push.ensures.items more refl c.in_ok-finding.ensures.found
 
-pub returns-in_err-finding-clause-fault : goal.returns-in_err-finding-clause-fault
-returns-in_err-finding-clause-fault g c =
-    fault_among c.from_residual.result _ c.loop-file.file-index c.args.entries.now c.file-item.result c.in_err-finding.field-0.0 c.loop-file-test.true c.file-item.is
-    c.from_residual.ensures.1 c.in_err-finding.ensures.fault
+pub check_data-requires : goal.check_data-requires
+check_data-requires g c = checkable_at _ c.loop-file.file-index c.args.entries.now c.file-item.result c.loop-file-test.true c.file-item.is c.requires
