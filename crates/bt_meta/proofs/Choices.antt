@@ -12,7 +12,8 @@ test_of_none true x e = cc
 test_of_none false x e = refl
 
 -- of an option, the value by which a test is answered
-pub some_by_test : (o : Option ℕ) (n : ℕ) (test : ℕ → Bool) → Some n ≡ o → true ≡ test n → Some n ≡ (if test (unwrap_or o 0) then Some (unwrap_or o 0) else None)
+pub some_by_test : (o : Option ℕ) (n : ℕ) (test : ℕ → Bool) → Some n ≡ o → true ≡ test n
+    → Some n ≡ (if test (unwrap_or o 0) then Some (unwrap_or o 0) else None)
 some_by_test o n test e t = rw (← e, ← t) refl
 
 pub none_by_test : (o : Option ℕ) (n : ℕ) (test : ℕ → Bool) → Some n ≡ o → false ≡ test n → None ≡ (if test (unwrap_or o 0) then Some (unwrap_or o 0) else None)

@@ -1,9 +1,8 @@
 -- The entries of a folder, and a file put behind them.
-use Rattle.std.proofs.Common.{◌≡◌, ◌⊎◌, ℕ, true, false, List, [], ◌∷◌, ◌++◌, length, arith, refl, sym, ap, ◌∙◌, inl, inr, Some, None}
-use Rattle.std.specs.Prelude.{unwrap_or, nat_eq, if◌then◌else◌}
-use Rattle.bt_meta.specs.Fields.{entries_in, no_dictionary}
+use Rattle.std.proofs.Common.{◌≡◌, ◌⊎◌, ℕ, false, List, [], ◌∷◌, ◌++◌, length, arith, refl, sym, ap, ◌∙◌, inl, inr, Some, None}
+use Rattle.std.specs.Prelude.{nat_eq}
 use Rattle.std.specs.Global.{Vec}
-use Rattle.std.specs.Ordering.{nat_cmp, is_eq, match_ordering, ordering_reverse}
+use Rattle.std.specs.Ordering.{nat_cmp, is_eq, ordering_reverse}
 use Rattle.std.specs.Cmp.Lexicographic.{slice_cmp, pointwise, nat_list_cmp_total}
 use Rattle.std.specs.declared.cmp.Ordering.{Ordering}
 use Rattle.std.specs.declared.cmp.Ordering.TheVariants.{Equal, Greater}
@@ -31,7 +30,8 @@ module _ (name : List ℕ) (d : Data) where
   with_behind no_entries h = refl
   with_behind (entry key e es) h = rw (h.0, with_behind es h.2) refl
 
-  with_last : (f : Data) (es : Entries) → AreBefore name es → with_entry name d (entries_before es (entry name f no_entries)) ≡ entries_before es (entry name d no_entries)
+  with_last : (f : Data) (es : Entries) → AreBefore name es
+      → with_entry name d (entries_before es (entry name f no_entries)) ≡ entries_before es (entry name d no_entries)
   unfolding with_entry
   with_last f no_entries h = rw (itself name) refl
   with_last f (entry key e es) h = rw (h.0, with_last f es h.2) refl
@@ -59,7 +59,8 @@ pub opened_behind : (name : List ℕ) (path : List (List ℕ)) (es : Entries) �
 opened_behind name path es h = record { kept = λ d. with_behind name d es h; opened = rw (absent name es h) refl; behind = behind_none path }
 
 pub opened_within : (name : List ℕ) (path : List (List ℕ)) (es earlier inner : Entries)
-    → es ≡ entries_before earlier (entry name (dictionary inner) no_entries) → AreBefore name earlier → ComesAfter path inner → HasLastFolder name path es earlier inner
+    → es ≡ entries_before earlier (entry name (dictionary inner) no_entries) → AreBefore name earlier → ComesAfter path inner
+    → HasLastFolder name path es earlier inner
 opened_within name path es earlier inner e h behind = rw e (record {
   kept = λ d. with_last name d (dictionary inner) earlier h;
   opened = rw (found name (dictionary inner) earlier h) refl;
@@ -89,11 +90,14 @@ before_last name n d (entry key e es) h = before_last name n d es h.2
 not_greater : (o : Ordering) → o ≡ Equal → o ≡ Greater → ⊥
 not_greater o e g = cc
 
-module _ (name : List ℕ) (path : List (List ℕ)) (es : List (Vec ℕ × Value)) (key : Vec ℕ) (v : Value) (behind : ComesAfter (name ∷ path) (entries_of (es ++ (key, v) ∷ []))) where
+module _ (name : List ℕ) (path : List (List ℕ)) (es : List (Vec ℕ × Value)) (key : Vec ℕ) (v : Value)
+    (behind : ComesAfter (name ∷ path) (entries_of (es ++ (key, v) ∷ []))) where
   -- the last entry is a folder of this name
-  pub opened_folder : {inner : Entries} → data_of v ≡ dictionary inner → key.items ≡ name → HasLastFolder name path (entries_of (es ++ (key, v) ∷ [])) (entries_of es) inner
+  pub opened_folder : {inner : Entries} → data_of v ≡ dictionary inner → key.items ≡ name
+      → HasLastFolder name path (entries_of (es ++ (key, v) ∷ [])) (entries_of es) inner
   opened_folder {inner} seen named =
-      let whole : entries_of (es ++ (key, v) ∷ []) ≡ entries_before (entries_of es) (entry name (dictionary inner) no_entries) = rw (entries_push es key v, seen, named) refl in
+      let whole : entries_of (es ++ (key, v) ∷ []) ≡ entries_before (entries_of es) (entry name (dictionary inner) no_entries) =
+      rw (entries_push es key v, seen, named) refl in
       elim behind [
         | inl before ↦ absurd (not_greater _ (itself name) (before_last name name (dictionary inner) (entries_of es) (rw whole at before)))
         | inr last ↦

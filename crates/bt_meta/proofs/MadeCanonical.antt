@@ -1,6 +1,6 @@
 -- The value of a torrent that is made is canonical.
 use Rattle.std.proofs.Common.{◌↔◌, ◌≡◌, ℕ, zero, suc, ◌+◌, ◌<◌, ◌≤◌, ◌^◌, true, false, List, [], ◌∷◌, length, refl, sym, ap, ◌∙◌, arith, add-one, inl, inr, None, Some, pos}
-use Rattle.std.specs.Prelude.{Option, IfSome, get_or, nat_eq, nat_le, ◌&&◌, ◌==◌, FitsSigned, if◌then◌else◌}
+use Rattle.std.specs.Prelude.{Option, IfSome, get_or, nat_eq, nat_le, ◌&&◌, ◌==◌, FitsSigned}
 use Rattle.std.specs.Int.{w64, is_power_of_two}
 use Rattle.std.specs.List.{All}
 use Rattle.std.specs.Option.{option_map}

@@ -1,8 +1,7 @@
 -- No check refuses the tree of files that are lawful.
 use Rattle.std.proofs.Common.{subst, get_or, ◌≡◌, ◌≢◌, ℕ, ◌≤◌, Bool, true, false, List, [], ◌∷◌, ◌++◌, length, map, None, refl, sym, ap, ◌∙◌, arith, inl, inr, append_assoc, length-append}
-use Rattle.std.specs.Prelude.{filter, nat_eq, nat_lt, not, ◌&&◌, ◌||◌, ◌==◌, sum_by, replicate, if◌then◌else◌}
+use Rattle.std.specs.Prelude.{filter, nat_lt, not, ◌&&◌, ◌||◌, ◌==◌, sum_by}
 use Rattle.std.specs.List.{All, list_any}
-use Rattle.std.specs.Cmp.Lexicographic.{pointwise}
 use Rattle.std.proofs.lemmas.Bool.{cases_Bool, true≢false}
 use Rattle.std.proofs.lemmas.Bool.Decides.{nat_tests}
 use Rattle.std.proofs.lemmas.List.{length-map}
@@ -45,7 +44,8 @@ agree_free p before h = elim (cases_Bool (length_of p == 0)) [
   | inr some ↦
       let filled : length_of p ≢ 0 = λ e. let zero : (length_of p == 0) ≡ true = grind (arith, nat_tests) in true≢false (sym zero ∙ some) in
       let none = list_any_none (λ q. is_conflict (root_of p) (length_of p) (root_of q) (length_of q)) (filter is_file before)
-      (λ k d lt. let q = get_or (filter is_file before) k d in conflict_free (root_of p) (length_of p) (root_of q) (length_of q) (λ other same. sym (h k d lt filled other (sym same)))) in
+      (λ k d lt. let q = get_or (filter is_file before) k d in
+      conflict_free (root_of p) (length_of p) (root_of q) (length_of q) (λ other same. sym (h k d lt filled other (sym same)))) in
       rw (some, any_filter p before) none
 ]
 
@@ -96,7 +96,8 @@ agree_made f g agree = rw (length_of_made f, length_of_made g) (λ some other sa
 alike_entries : (files : List Given) → AreAlike files → All (λ x. All (AgreeAt x) (map entry_made files)) (map entry_made files)
 alike_entries files h =
     All-map (λ x. All (AgreeAt x) (map entry_made files)) entry_made files
-    (λ i f lt. All-map (AgreeAt (entry_made (get_or files i f))) entry_made files (λ j g lt'. agree_made (get_or files i f) (get_or files j g) (h i f lt j g lt')))
+    (λ i f lt. All-map (AgreeAt (entry_made (get_or files i f))) entry_made files
+    (λ j g lt'. agree_made (get_or files i f) (get_or files j g) (h i f lt j g lt')))
 
 pub count_made : (n : ℕ) (files : List Given) → sum_by (λ p. piece_count n (length_of p)) (map entry_made files) ≡ sum_by (λ g. piece_count n g.length) files
 count_made n [] = refl

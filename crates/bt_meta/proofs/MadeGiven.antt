@@ -1,13 +1,12 @@
 -- What is known of files that none of the checks before the making refuses.
-use Rattle.std.proofs.Common.{sym, ◌≢◌, ◌≡◌, ℕ, ◌≤◌, Bool, true, false, List, [], ◌∷◌, ◌++◌, length, map, get_or, None, refl, ap, ◌∙◌, inl, inr, arith, append_assoc}
-use Rattle.std.specs.Prelude.{nat_eq, nat_le, nat_lt, slice_index_or, not, ◌&&◌, ◌||◌, ◌==◌, sum_by}
+use Rattle.std.proofs.Common.{sym, ◌≢◌, ◌≡◌, ℕ, ◌≤◌, true, false, List, [], ◌∷◌, ◌++◌, length, map, get_or, None, refl, arith, append_assoc}
+use Rattle.std.specs.Prelude.{nat_le, nat_lt, not, ◌||◌, ◌==◌, sum_by}
 use Rattle.std.specs.Borrow.{Bor}
 use Rattle.std.specs.List.{All, list_any, list_all}
-use Rattle.std.specs.Cmp.Lexicographic.{pointwise}
-use Rattle.std.proofs.lemmas.Bool.{cases_Bool, and_parts, or_parts, leb-true}
+use Rattle.std.proofs.lemmas.Bool.{and_parts, leb-true}
 use Rattle.std.proofs.lemmas.Bool.Decides.{nat_tests}
 use Rattle.std.proofs.lemmas.List.{append-nil, get_or-map, length-map}
-use Rattle.std.proofs.lemmas.List.Elements.{All-nil, All-cons, All-push, All-weaker}
+use Rattle.std.proofs.lemmas.List.Elements.{All-nil, All-push}
 use Rattle.std.proofs.lemmas.List.Sorted.{All-permutation, length_permutation, sum_by-IsPermutation}
 use Rattle.bt_tree.specs.Limits.{max_file_length}
 use Rattle.bt_meta.specs.Faults.{first_of, fault_if, is_path, is_element}

@@ -1,10 +1,9 @@
 -- What was taken of the files that a torrent is made of.
 use Rattle.std.proofs.Common.{◌≡◌, ℕ, ◌+◌, ◌<◌, ◌≤◌, Bool, false, List, [], ◌∷◌, ◌++◌, length, map, None, refl, sym, ap, ◌∙◌, arith, inl, inr}
-use Rattle.std.specs.Prelude.{string_bytes, nat_eq, not, ◌&&◌, ◌||◌, ◌==◌, String, take, drop, get_or}
+use Rattle.std.specs.Prelude.{string_bytes, not, ◌&&◌, ◌||◌, ◌==◌, String, take, drop, get_or}
 use Rattle.std.specs.Global.{Global}
 use Rattle.std.specs.List.{list_all, All}
 use Rattle.std.proofs.lemmas.List.Elements.{All-nil, All-push}
-use Rattle.std.specs.Cmp.Lexicographic.{pointwise}
 use Rattle.std.proofs.lemmas.List.{length-map, map-append, take_all, take-append-drop, map_more, drop_more}
 use Rattle.std.proofs.lemmas.List.Folds.{list_any-append, list_all-map}
 use Rattle.bt_meta.specs.Faults.{first_of, is_element, is_path}

@@ -23,7 +23,8 @@ module _ (element : List ℕ) where
   unfolding is_path_element
   refused_bytes broken =
       let names = not (is_dots element || list_any (λ b. b == slash) element || list_any (λ b. b == 0) element) in
-      let refused : is_path_element element ≡ false = and_right names (is_utf8 element) (false_from_ne_true (is_utf8 element) (λ t. broken (IsUtf8-from_is_utf8 element t))) in
+      let refused : is_path_element element ≡ false =
+      and_right names (is_utf8 element) (false_from_ne_true (is_utf8 element) (λ t. broken (IsUtf8-from_is_utf8 element t))) in
       rw refused refl
 
   module _ (p : false ≡ is_dots element) where

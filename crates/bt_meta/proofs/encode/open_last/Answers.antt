@@ -1,10 +1,9 @@
 use Rattle.std.proofs.Common.{refl, ◌≡◌, ◌-◌, ◌++◌, [], take, sym, ◌∙◌, ap}
 use Rattle.std.proofs.lemmas.Slice.Eq.{bytes_eq-Decides}
-use Rattle.bt_bencode.specs.Value.{entries_of, no_entries, entry}
+use Rattle.bt_bencode.specs.Value.{entries_of}
 use Rattle.std.proofs.lemmas.Bool.{false≢true}
 use Rattle.bt_bencode.specs.declared.value.Value.TheViews as views
 use Rattle.bt_bencode.proofs.ValueData.{data_of-Dict}
-use Rattle.bt_meta.specs.EncodeSteps.{entries_before}
 use Rattle.bt_meta.proofs.EncodeFolders.{entries_push, opened_nothing, opened_folder, opened_other}
 use Rattle.bt_meta.proofs.encode.open_last.Goals as goal
 
@@ -17,7 +16,8 @@ returns-in_default c path behind =
 pub returns-then-eq : goal.returns-then-eq
 returns-then-eq c path behind =
     let named = (bytes_eq-Decides c.in-Some.key.items c.args.name.now).0 (rw (← c.as_slice.ensures.value) (sym c.if-eq.ensures)) in
-    rw c.in-Some.ensures.items (opened_folder c.args.name.now path c.pop.new.self.items c.in-Some.key c.in-Some.value (rw c.in-Some.ensures.items at behind) c.in-Ok.ensures.entries named)
+    rw c.in-Some.ensures.items (opened_folder c.args.name.now path c.pop.new.self.items c.in-Some.key c.in-Some.value
+    (rw c.in-Some.ensures.items at behind) c.in-Ok.ensures.entries named)
 
 pub returns-in_ok-push-in-Ok : goal.returns-in_ok-push-in-Ok
 returns-in_ok-push-in-Ok c path behind =
@@ -31,12 +31,21 @@ returns-in_ok-push-in-Ok c path behind =
       data_of-Dict c.in-Ok.inner,
       c.in-Ok.ensures.entries,
     ) refl in
-    rw (same, c.new-in-Ok.ensures.items, c.in-Some.ensures.items) (opened_other c.args.name.now path es c.in-Some.key c.in-Some.value (rw c.in-Some.ensures.items at behind)
+    rw (same, c.new-in-Ok.ensures.items, c.in-Some.ensures.items)
+    (opened_other c.args.name.now path es c.in-Some.key c.in-Some.value (rw c.in-Some.ensures.items at behind)
     (λ inner seen named. false≢true (c.if-eq.ensures ∙ rw (c.as_slice.ensures.value) ((bytes_eq-Decides c.in-Some.key.items c.args.name.now).1 named))))
 
 pub returns-in_ok-push-in-Err : goal.returns-in_ok-push-in-Err
 returns-in_ok-push-in-Err c path behind =
     let es = c.pop.new.self.items in
     let same : entries_of c.push-in-Err.new.self.items ≡ entries_of c.args.folder.items =
-    rw (c.in_ok-push-in-Err.ensures.items, c.in-Some.ensures.items, entries_push es c.in-Some.key c.in-Err.other, entries_push es c.in-Some.key c.in-Some.value, c.in-Err.ensures.back) refl in
-    rw (same, c.new-in-Err.ensures.items, c.in-Some.ensures.items) (opened_other c.args.name.now path es c.in-Some.key c.in-Some.value (rw c.in-Some.ensures.items at behind) (λ inner seen named. c.in-Err.ensures.other inner seen))
+    rw (
+      c.in_ok-push-in-Err.ensures.items,
+      c.in-Some.ensures.items,
+      entries_push es c.in-Some.key c.in-Err.other,
+      entries_push es c.in-Some.key c.in-Some.value,
+      c.in-Err.ensures.back,
+    ) refl in
+    rw (same, c.new-in-Err.ensures.items, c.in-Some.ensures.items)
+    (opened_other c.args.name.now path es c.in-Some.key c.in-Some.value (rw c.in-Some.ensures.items at behind)
+    (λ inner seen named. c.in-Err.ensures.other inner seen))

@@ -1,4 +1,4 @@
-use Rattle.std.proofs.Common.{◌≡◌, ◌≤◌, ◌^◌, length, arith, ap, ◌∙◌, sym, map}
+use Rattle.std.proofs.Common.{◌≤◌, length, arith, ap, ◌∙◌, sym, map}
 use Rattle.std.proofs.lemmas.Result.{err_from_is_err_and}
 use Rattle.bt_bencode.specs.Spelling.{spelling_of}
 use Rattle.bt_meta.specs.GivenFiles.{given_of}
@@ -36,15 +36,18 @@ returns-then-has_overlap-clause-refused c =
 
 pub value_of-requires-clause-tree_paths : goal.value_of-requires-clause-tree_paths
 value_of-requires-clause-tree_paths c =
-    rw (c.deref-2.ensures.value) (tree_paths (map given_of c.args.files.now) _ c.in_ok-ordered.ensures (rw (c.deref.ensures.value) at (sym c.if-has_overlap.ensures)))
+    rw (c.deref-2.ensures.value) (tree_paths (map given_of c.args.files.now) _ c.in_ok-ordered.ensures
+    (rw (c.deref.ensures.value) at (sym c.if-has_overlap.ensures)))
 
 pub value_of-requires-clause-named : goal.value_of-requires-clause-named
 value_of-requires-clause-named c =
-    rw (c.deref-2.ensures.value) (ordered_named c.args.piece_length (map given_of c.args.files.now) _ c.in_ok-check_files.ensures.checked c.in_ok-ordered.ensures)
+    rw (c.deref-2.ensures.value) (ordered_named c.args.piece_length
+    (map given_of c.args.files.now) _ c.in_ok-check_files.ensures.checked c.in_ok-ordered.ensures)
 
 pub value_of-requires-clause-short : goal.value_of-requires-clause-short
 value_of-requires-clause-short c =
-    rw (c.deref-2.ensures.value) (lent_short c.args.piece_length (map given_of c.args.files.now) c.in_ok-ordered.ordered.items c.in_ok-check_files.ensures.checked c.in_ok-ordered.ensures)
+    rw (c.deref-2.ensures.value) (lent_short c.args.piece_length
+    (map given_of c.args.files.now) c.in_ok-ordered.ordered.items c.in_ok-check_files.ensures.checked c.in_ok-ordered.ensures)
 
 pub returns-then-len-gt-MAX_TEXT_LENGTH-clause-refused : goal.returns-then-len-gt-MAX_TEXT_LENGTH-clause-refused
 returns-then-len-gt-MAX_TEXT_LENGTH-clause-refused c =
@@ -68,14 +71,16 @@ returns-clause-made c =
     let spelled = c.in_ok-text.ensures ∙ ap spelling_of value.made in
     let small : length c.in_ok-text.text.items ≤ max_text_length = omega arith in
     record {
-      faultless = files_refused c.args.piece_length c.args.files.now c.if-not-is_lawful_length.ensures c.if-is_empty.ensures ∙ c.in_ok-check_files.ensures.checked;
+      faultless = files_refused c.args.piece_length c.args.files.now c.if-not-is_lawful_length.ensures c.if-is_empty.ensures
+          ∙ c.in_ok-check_files.ensures.checked;
       ordered = ordered;
       in_order = c.in_ok-ordered.ensures;
       tree_paths = apart;
       layers = value.layers;
       layered = value.layered;
       spelled = spelled;
-      torrent = torrent_of_given c.args.name.now c.args.piece_length c.args.files.now ordered value.layers c.in_ok-text.text.items (sym c.if-not-is_lawful_length.ensures)
+      torrent = torrent_of_given c.args.name.now c.args.piece_length c.args.files.now ordered value.layers c.in_ok-text.text.items
+          (sym c.if-not-is_lawful_length.ensures)
           c.if-is_empty.ensures c.in_ok-check_files.ensures.checked c.in_ok-check_files.ensures.rooted c.in_ok-ordered.ensures apart value.layered small spelled;
       small = small;
     }
