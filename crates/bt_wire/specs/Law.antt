@@ -10,8 +10,8 @@ use Rattle.bt_wire.specs.declared.event.WireEvent.{WireEvent}
 use Rattle.bt_wire.specs.declared.event.WireEvent.TheVariants.{Hello, Message}
 use Rattle.bt_wire.specs.declared.event.WireError.{WireError}
 
--- The bytes are these events, one behind the other, and then a rest that begins with none. Where no handshake has
--- come, the first event is one.
+-- The bytes are these events, one behind the other, and then a rest that begins with none. Where no handshake
+-- has come, the first event is one.
 abbrev pub IsStream : Bool → List WireEvent → List ℕ → List ℕ → Type 0
 IsStream greeted [] rest bytes = (rest ≡ bytes) × HasNoEvent greeted rest
 IsStream greeted (e ∷ events) rest bytes =
@@ -56,7 +56,8 @@ abbrev pub IsEnd : Stream → List ℕ → Option WireError → Type 0
 IsEnd s unfed None = Waits s × (unfed ≡ [])
 IsEnd s unfed (Some fault) = ShowsFault s.greeted s.unread fault
 
--- The bytes were fed to a new cutter in some parts, and its events taken now and then, up to the end or to a fault.
+-- The bytes were fed to a new cutter in some parts, and its events taken now and then, up to the end or to a
+-- fault.
 pub record IsCut (bytes : List ℕ) (moves : List Move) (fault : Option WireError) : Type 0 where
   pub last : Stream
   pub unfed : List ℕ

@@ -48,7 +48,8 @@ impl Cutter {
 
     /// Puts bytes behind the unread ones, all or none.
     ///
-    /// Errors: `Failed` after `next` returned a fault of the stream; `OutOfMemory`. Neither changes the cutter.
+    /// Errors: `Failed` after `next` returned a fault of the stream; `OutOfMemory`. Neither changes the
+    /// cutter.
     pub fn feed(&mut self, bytes: &[u8]) -> Result<(), WireError>
         ensures fed { OnOk result (self.new ≡ fed self.old bytes.now) }
         ensures running { OnOk result (self.old.failed ≡ false) }
@@ -68,8 +69,8 @@ impl Cutter {
 
     /// Takes the first event from the unread bytes; None where no event is whole and no fault shows.
     ///
-    /// Errors: `BadProtocol`, `TooLong` or `BadLength` as soon as the bytes show that fault, and `Failed` ever after;
-    /// `OutOfMemory`, which leaves the cutter as it was.
+    /// Errors: `BadProtocol`, `TooLong` or `BadLength` as soon as the bytes show that fault, and `Failed`
+    /// ever after; `OutOfMemory`, which leaves the cutter as it was.
     pub fn next(&mut self) -> Result<Option<WireEvent>, WireError>
         ensures answer { IfOk result (λ found. IsAnswer self.old found self.new) }
         ensures refused { IfErr result (λ error. IsRefusal self.old error self.new) }

@@ -10,8 +10,8 @@ use crate::message::{MAX_LENGTH_FIELD, Message};
 use crate::reader::{number_at, payload_fits, read_message};
 use std::alloc::{AllocError, Global};
 
-/// The event with which the bytes begin, and how many bytes it has; None where neither an event nor a fault is
-/// there.
+/// The event with which the bytes begin, and how many bytes it has; None where neither an event nor a fault
+/// is there.
 pub(crate) fn first_event(
     alloc: Global,
     greeted: bool,

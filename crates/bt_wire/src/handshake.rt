@@ -17,7 +17,8 @@ pub struct Handshake {
     pub peer_id: [u8; 20],
 }
 
-/// The bytes that spell a handshake: the protocol, 8 reserved bytes that are zero, the infohash, the peer's id.
+/// The bytes that spell a handshake: the protocol, 8 reserved bytes that are zero, the infohash, the peer's
+/// id.
 pub fn write_handshake(handshake: &Handshake) -> [u8; HANDSHAKE_LEN]
     ensures { result ≡ handshake_spelling handshake.now }
 {

@@ -1,5 +1,5 @@
-//! The peer wire of BitTorrent (BEP 3, BEP 52): how a handshake and messages are spelled, and how a stream of bytes that
-//! comes in parts of any size is cut into them.
+//! The peer wire of BitTorrent (BEP 3, BEP 52): how a handshake and messages are spelled, and how a stream of
+//! bytes that comes in parts of any size is cut into them.
 #![tactic(auto)]
 
 mod bytes;
