@@ -41,6 +41,7 @@ def main():
     folder.mkdir(parents=True, exist_ok=True)
     program = build(folder)
     texts = [subprocess.run([program], check=True, capture_output=True, text=True).stdout for _ in range(3)]
+    print(re.search(r"65536 trees of one block: \d+ KiB", texts[0]).group())
     last = None
     for log in range(17, 22):
         rows = [tuple(map(int, row[1:])) for text in texts for row in CLAIMS.findall(text) if int(row[0]) == log]

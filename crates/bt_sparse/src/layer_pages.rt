@@ -63,6 +63,8 @@ impl LayerPages {
         ensures same { (t : ℕ) → slice_index_or self.new t [] ≡ slice_index_or self.old t [] }
         ensures ready { OnOk result (count ≤ length self.new) }
     {
+        self.tables
+            .reserve_exact(count.saturating_sub(self.tables.len()))?;
         for _ in self.tables.len()..count {
             self.tables.push(PageTable::new(alloc))?;
         }

@@ -61,6 +61,8 @@ impl NodeMap {
         ensures same { (layer : ℕ) → slice_index_or self.new layer [] ≡ slice_index_or self.old layer [] }
         ensures ready { OnOk result (count ≤ length self.new) }
     {
+        self.layers
+            .reserve_exact(count.saturating_sub(self.layers.len()))?;
         for _ in self.layers.len()..count {
             self.layers.push(LayerPages::new(self.alloc))?;
         }

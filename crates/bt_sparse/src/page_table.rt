@@ -61,6 +61,8 @@ impl PageTable {
         ensures same { (p : ℕ) → slice_index_or self.new p [] ≡ slice_index_or self.old p [] }
         ensures ready { OnOk result (count ≤ length self.new) }
     {
+        self.pages
+            .reserve_exact(count.saturating_sub(self.pages.len()))?;
         for _ in self.pages.len()..count {
             self.pages.push(Page::new(alloc))?;
         }
