@@ -4,8 +4,8 @@ ghost use Rattle.std.specs.Bool.{OnTrue};
 
 use crate::{Adopted, BlockState, FileStore, Put, ReadError, Rechecked, Settled, StoreError};
 use bt_disk::{DeviceFault, FaultDisk, MemoryDisk};
-use bt_sparse::{Claim, Digests, SparseTree};
-use bt_tree::{BLOCK_LEN, Geometry, Hash32, NodeHash, Plain, RootBuilder};
+use bt_sparse::{AnswerError, Claim, Digests, SparseTree};
+use bt_tree::{BLOCK_LEN, Geometry, Hash32, NodeHash, Plain, RootBuilder, pad};
 use std::alloc::{AllocError, Global};
 use std::test::Fail;
 
@@ -69,6 +69,10 @@ impl Fixture {
 
     fn accept(&mut self, claim: &Claim) -> bool {
         self.tree.accept(claim).is_ok()
+    }
+
+    fn answer(&self, index: u32, layers: u32) -> Result<Vec<Hash32>, AnswerError> {
+        self.tree.answer(0, index, 2, layers)
     }
 
     fn state(&self, block: u32) -> Option<BlockState> {
@@ -404,5 +408,34 @@ fn a_group_with_a_fault_is_not_adopted(rt: HostRuntime) -> Result<(), Fail> {
     };
     assert!(rt; f.adopt(0) == Some(Ok(failed)));
     assert!(rt; f.adopt(0) == adopted(3, 2, 3));
+    Ok(())
+}
+
+/// A file of zeros on a disk, of which the root alone is known.
+fn rooted_file(alloc: Global, length: usize) -> Result<Fixture, Fail> {
+    let geometry = Geometry::new(length as u64).ok_or("no geometry")?;
+    let file = block(alloc, 0, length)?;
+    let mut builder = RootBuilder::new(Plain, geometry);
+    builder.push(&file)?;
+    let tree = SparseTree::new(alloc, Plain, geometry, builder.finish()?)?;
+    let disk = FaultDisk::new(MemoryDisk::new(alloc, file));
+    let store = FileStore::create(alloc, disk, Plain, geometry)
+        .ok()
+        .ok_or("no store")?;
+    Ok(Fixture { store, tree })
+}
+
+#[test]
+fn an_adopted_file_answers_with_uncles(rt: HostRuntime) -> Result<(), Fail> {
+    let alloc = rt.alloc();
+    let mut f = rooted_file(alloc, 1048577)?;
+    assert!(rt; f.adopt(64) == adopted(65, 7, 65));
+    let digests = f.answer(64, 6)?;
+    assert_eq!(rt; digests.len(), 8);
+    assert!(rt; digests[0] == Plain.block(&[0]));
+    assert!(rt; digests[1] == [0; 32]);
+    assert!(rt; digests[2] == pad(Plain, 1));
+    assert!(rt; digests[6] == pad(Plain, 5));
+    assert!(rt; f.tree.known(6, 0) == Some(digests[7]));
     Ok(())
 }
