@@ -1,0 +1,11 @@
+use Rattle.bt_wire.proofs.Takings.{takes_front}
+use Rattle.bt_wire.proofs.cutter.Cutter.next.Goals as goal
+
+pub returns-in-Ok-Some-clause-answer : goal.returns-in-Ok-Some-clause-answer
+returns-in-Ok-Some-clause-answer c =
+    let a = c.self.inside in
+    let first = rw c.in-Ok-Some.field-0-is at c.in-Ok-Some.ensures in
+    let begins = rw c.deref.ensures.value at first.event in
+    rw (← c.self.view_is)
+    (takes_front a.bytes.items _ a.start c.in-Ok-Some.len a.greeted a.failed c.in-Ok-Some.event c.if-self.false
+    c.start_of_rest-self-inside.ensures.same begins)

@@ -1,0 +1,119 @@
+ghost use Rattle.std.specs.Prelude.{◌≡◌, ◌-◌, ◌≤◌, length, drop, false, IfOk, IfErr, OnOk, OnErr};
+ghost use Rattle.bt_wire.specs.Cutter.{new_stream, fed, IsAnswer, IsRefusal, IsFeedRefusal};
+
+use crate::event::{WireError, WireEvent};
+use crate::front::first_event;
+use std::alloc::Global;
+use std::marker::Model;
+
+/// How many bytes an empty buffer has room for at most.
+const KEPT_ROOM: usize = 1 << 17;
+
+/// A peer's stream, cut into its events: bytes are fed in parts of any size, and an event is taken once it is
+/// whole.
+#[derive(Debug, Drop)]
+pub struct Cutter {
+    alloc: Global,
+    /// What was fed; the events of the first `start` bytes are taken.
+    bytes: Vec<u8>,
+    start: usize,
+    greeted: bool,
+    failed: bool,
+}
+
+impl Model for Cutter {
+    ghost use Rattle.std.specs.Prelude.{drop, length, ◌≤◌};
+    ghost use Rattle.bt_wire.specs.Cutter.{Stream, stream};
+
+    ghost Value = { Stream };
+
+    ghost view = { λ a. stream (drop a.start a.bytes.items) a.greeted a.failed };
+
+    ghost invariant = { λ a. a.start ≤ length a.bytes.items };
+}
+
+impl Cutter {
+    /// A cutter without bytes. It takes no memory.
+    pub fn new(alloc: Global) -> Cutter
+        ensures { result ≡ new_stream }
+    {
+        Cutter {
+            alloc,
+            bytes: Vec::new(alloc),
+            start: 0,
+            greeted: false,
+            failed: false,
+        }
+    }
+
+    /// Puts bytes behind the unread ones, all or none.
+    ///
+    /// Errors: `Failed` after `next` returned a fault of the stream; `OutOfMemory`. Neither changes the cutter.
+    pub fn feed(&mut self, bytes: &[u8]) -> Result<(), WireError>
+        ensures fed { OnOk result (self.new ≡ fed self.old bytes.now) }
+        ensures running { OnOk result (self.old.failed ≡ false) }
+        ensures refused { IfErr result (IsFeedRefusal self.old) }
+        ensures kept { OnErr result (self.new ≡ self.old) }
+    {
+        if self.failed {
+            return Err(WireError::Failed);
+        }
+        if self.start >= self.bytes.len() - self.start {
+            drop_front(&mut self.bytes, self.start);
+            self.start = 0;
+        }
+        self.bytes.extend_from_slice(bytes)?;
+        Ok(())
+    }
+
+    /// Takes the first event from the unread bytes; None where no event is whole and no fault shows.
+    ///
+    /// Errors: `BadProtocol`, `TooLong` or `BadLength` as soon as the bytes show that fault, and `Failed` ever after;
+    /// `OutOfMemory`, which leaves the cutter as it was.
+    pub fn next(&mut self) -> Result<Option<WireEvent>, WireError>
+        ensures answer { IfOk result (λ found. IsAnswer self.old found self.new) }
+        ensures refused { IfErr result (λ error. IsRefusal self.old error self.new) }
+    {
+        if self.failed {
+            return Err(WireError::Failed);
+        }
+        match first_event(self.alloc, self.greeted, &self.bytes[self.start..]) {
+            Ok(Some((event, len))) => {
+                self.start = start_of_rest(self.alloc, &mut self.bytes, self.start + len);
+                self.greeted = true;
+                Ok(Some(event))
+            }
+            Ok(None) => Ok(None),
+            Err(WireError::OutOfMemory) => Err(WireError::OutOfMemory),
+            Err(fault) => {
+                self.failed = true;
+                Err(fault)
+            }
+        }
+    }
+}
+
+/// Leaves out the first bytes, which are no fewer than the others.
+fn drop_front(bytes: &mut Vec<u8>, count: usize)
+    requires within { count ≤ length bytes.old.items }
+    requires half { length bytes.old.items - count ≤ count }
+    ensures { bytes.new.items ≡ drop count bytes.old.items }
+{
+    let rest = bytes.len() - count;
+    let (front, back) = bytes.split_at_mut(count);
+    front[..rest].copy_from_slice(back);
+    bytes.truncate(rest);
+}
+
+/// Gives a large buffer back where all its bytes are taken; returns where the others begin.
+fn start_of_rest(alloc: Global, bytes: &mut Vec<u8>, start: usize) -> usize
+    requires { start ≤ length bytes.old.items }
+    ensures within { result ≤ length bytes.new.items }
+    ensures same { drop result bytes.new.items ≡ drop start bytes.old.items }
+{
+    if start < bytes.len() || bytes.capacity() <= KEPT_ROOM {
+        return start;
+    }
+    *bytes = Vec::new(alloc);
+    0
+}

@@ -1,0 +1,37 @@
+ghost use Rattle.std.specs.Prelude.{◌≡◌, ◌+◌, ◌≤◌, ◌++◌, length, take};
+ghost use Rattle.bt_wire.specs.Limits.{handshake_length};
+ghost use Rattle.bt_wire.specs.Handshake.{handshake_spelling};
+
+/// How many bytes a handshake has (BEP 3).
+pub const HANDSHAKE_LEN: usize = 68;
+
+/// The length of the protocol's name and the name, with which every stream begins (BEP 3).
+pub(crate) const PROTOCOL: [u8; 20] = *b"\x13BitTorrent protocol";
+
+/// The first bytes of each side (BEP 3).
+#[derive(Clone, Copy, Debug, PartialEq, Eq)]
+pub struct Handshake {
+    /// The first 20 bytes of the torrent's infohash.
+    pub infohash: [u8; 20],
+    pub peer_id: [u8; 20],
+}
+
+/// The bytes that spell a handshake: the protocol, 8 reserved bytes that are zero, the infohash, the peer's id.
+pub fn write_handshake(handshake: &Handshake) -> [u8; HANDSHAKE_LEN]
+    ensures { result ≡ handshake_spelling handshake.now }
+{
+    let mut bytes = [0; HANDSHAKE_LEN];
+    put(&mut bytes, 0, &PROTOCOL);
+    put(&mut bytes, 20, &[0; 8]);
+    put(&mut bytes, 28, &handshake.infohash);
+    put(&mut bytes, 48, &handshake.peer_id);
+    bytes
+}
+
+/// Writes a run behind the first `at` bytes.
+fn put(bytes: &mut [u8; HANDSHAKE_LEN], at: usize, run: &[u8])
+    requires { at + length run.now ≤ handshake_length }
+    ensures { take (at + length run.now) bytes.new ≡ take at bytes.old ++ run.now }
+{
+    bytes[at..at + run.len()].copy_from_slice(run);
+}

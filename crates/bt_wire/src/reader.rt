@@ -1,0 +1,102 @@
+ghost use Rattle.std.specs.Prelude.{◌≡◌, ◌+◌, ◌≤◌, ◌<◌, ◌↔◌, length, take, drop, IsSome, IsNone, IsTrue, IfSome, IfNone, IfOk};
+ghost use Rattle.std.specs.Int.{w32, to_be_bytes};
+ghost use Rattle.bt_hashreq.specs.Key.{key_length, key_spelling, IsKey};
+ghost use Rattle.bt_wire.specs.Message.{ask_spelling, IsAsk, IsKnownKind};
+ghost use Rattle.bt_wire.specs.ReaderSteps.{HasSize, IsListed, IsMessageOf};
+
+use crate::bytes::Bytes;
+use crate::kind;
+use crate::message::{Ask, Message};
+use bt_hashreq::{HashKey, KEY_LEN, read_key};
+use std::alloc::{AllocError, Global};
+
+/// Whether a payload of so many bytes fits the kind; None for an unknown kind.
+pub(crate) fn payload_fits(kind: u8, len: usize) -> Option<bool>
+    ensures listed { IsSome result ↔ IsListed kind }
+    ensures fits { IfSome result (λ fits. IsTrue fits ↔ HasSize kind len) }
+{
+    match kind {
+        kind::CHOKE..=kind::NOT_INTERESTED => Some(len == 0),
+        kind::HAVE => Some(len == 4),
+        kind::BITFIELD => Some(true),
+        kind::REQUEST | kind::CANCEL => Some(len == 12),
+        kind::PIECE => Some(len >= 8),
+        kind::HASH_REQUEST | kind::HASH_REJECT => Some(len == KEY_LEN),
+        kind::HASHES => Some(len >= KEY_LEN && (len - KEY_LEN) % 32 == 0),
+        _ => None,
+    }
+}
+
+/// The message of a kind and a payload; None for an unknown kind.
+pub(crate) fn read_message(
+    alloc: Global,
+    kind: u8,
+    payload: &[u8],
+) -> Result<Option<Message>, AllocError>
+    requires { HasSize kind (length payload.now) }
+    ensures message { IfOk result (λ found. IfSome found (IsMessageOf kind payload.now)) }
+    ensures unknown { IfOk result (λ found. IfNone found (¬ IsKnownKind kind)) }
+{
+    match kind {
+        kind::CHOKE => Ok(Some(Message::Choke)),
+        kind::UNCHOKE => Ok(Some(Message::Unchoke)),
+        kind::INTERESTED => Ok(Some(Message::Interested)),
+        kind::NOT_INTERESTED => Ok(Some(Message::NotInterested)),
+        kind::HAVE => Ok(Some(Message::Have(number_at(payload, 0)))),
+        kind::BITFIELD => Ok(Some(Message::Bitfield(copied(alloc, payload)?))),
+        kind::REQUEST => Ok(Some(Message::Request(read_ask(payload)))),
+        kind::PIECE => Ok(Some(Message::Piece {
+            piece: number_at(payload, 0),
+            begin: number_at(payload, 4),
+            bytes: copied(alloc, &payload[8..])?,
+        })),
+        kind::CANCEL => Ok(Some(Message::Cancel(read_ask(payload)))),
+        kind::HASH_REQUEST => Ok(Some(Message::HashRequest(whole_key(payload)))),
+        kind::HASHES => {
+            let (key, digests) = payload.split_at(KEY_LEN);
+            Ok(Some(Message::Hashes(whole_key(key), copied(alloc, digests)?)))
+        }
+        kind::HASH_REJECT => Ok(Some(Message::HashReject(whole_key(payload)))),
+        _ => Ok(None),
+    }
+}
+
+/// A copy of bytes.
+fn copied(alloc: Global, bytes: &[u8]) -> Result<Bytes, AllocError>
+    ensures { IfOk result (λ copy. copy ≡ bytes.now) }
+{
+    Ok(Bytes::new(Vec::from_slice(alloc, bytes)?))
+}
+
+/// The payload of a request or a cancel.
+fn read_ask(bytes: &[u8]) -> Ask
+    requires { length bytes.now ≡ 12 }
+    ensures spelled { ask_spelling result ≡ bytes.now }
+    ensures numbers { IsAsk result }
+{
+    Ask {
+        piece: number_at(bytes, 0),
+        begin: number_at(bytes, 4),
+        length: number_at(bytes, 8),
+    }
+}
+
+/// The key that 48 bytes spell.
+fn whole_key(bytes: &[u8]) -> HashKey
+    requires { length bytes.now ≡ key_length }
+    ensures spelled { key_spelling result ≡ bytes.now }
+    ensures numbers { IsKey result }
+{
+    match read_key(bytes) {
+        Some(key) => key,
+        None => unreachable!(),
+    }
+}
+
+/// The number that the four bytes from `at` on spell, the high byte first.
+pub(crate) fn number_at(bytes: &[u8], at: usize) -> u32
+    requires { at + 4 ≤ length bytes.now }
+    ensures { to_be_bytes w32 result ≡ take 4 (drop at bytes.now) }
+{
+    u32::from_be_bytes([bytes[at], bytes[at + 1], bytes[at + 2], bytes[at + 3]])
+}
