@@ -5,3 +5,4 @@ pub mod ClaimRun
 -- requests
 pub mod RequestAnchor
 pub mod RequestShape
+pub mod RequestAnswers

@@ -1,20 +1,18 @@
 -- The key that asks for a leaf has the right shape.
-use Rattle.std.proofs.Common.{◌≡◌, ℕ, zero, suc, ◌+◌, ◌-◌, ◌*◌, ◌/◌, ◌%◌, ◌^◌, ◌<◌, ◌≤◌, min, None, IsSome, is_some, true, false, inl, inr, ap, sym, refl, ◌∙◌, subst, arith}
+use Rattle.std.proofs.Common.{◌≡◌, ℕ, zero, suc, ◌+◌, ◌-◌, ◌*◌, ◌/◌, ◌^◌, ◌<◌, ◌≤◌, min, None, is_some, true, false, ap, sym, refl, ◌∙◌, subst, arith}
 use Rattle.std.proofs.Math.Nat.{div-lt_iff_lt-mul, mul-le-mul_right, mul-mod_left}
 use Rattle.std.proofs.lemmas.Nat.{pow_pos, pow-add}
 use Rattle.bt_tree.specs.Blocks.{IsFileLength, block_count}
 use Rattle.bt_tree.specs.TreeShape.{height_of}
 use Rattle.bt_tree.proofs.TreeShape.{height_is, height_limit, pow_le}
 use Rattle.bt_sparse.specs.SparseTree.{Facts, blocks_of, height, held_at}
-use Rattle.bt_sparse.specs.Answer.{IsRequest}
 use Rattle.bt_hashreq.specs.declared.key.HashKey.{HashKey}
-use Rattle.bt_hashreq.specs.Claim.{HasShape, IsRunLength}
-use Rattle.bt_hashreq.specs.Request.{IsPlan, IsAnchor, planned_key, max_run_height}
+use Rattle.bt_hashreq.specs.Request.{IsAnchor, max_run_height}
 use Rattle.bt_hashreq.specs.Law.{IsLawfulPlan, PlansAreLawful}
 use Rattle.bt_hashreq.proofs.ClaimRun.{height_of-pow, run_length}
 
 -- a leaf that is not held has its anchor above it
-anchor_above : (k : Facts) (leaf anchor : ℕ) → held_at k 0 leaf ≡ None → IsAnchor k leaf anchor → 1 ≤ anchor
+pub anchor_above : (k : Facts) (leaf anchor : ℕ) → held_at k 0 leaf ≡ None → IsAnchor k leaf anchor → 1 ≤ anchor
 anchor_above k leaf zero none a =
     let one : leaf / 1 ≡ leaf = omega arith in
     let here : is_some (held_at k 0 leaf) ≡ true = subst (λ (i : ℕ). is_some (held_at k 0 i) ≡ true) one a.held in

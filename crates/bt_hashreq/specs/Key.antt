@@ -11,7 +11,8 @@ key_length = 48
 -- the root, and then base, index, length and layers, the high byte first
 abbrev pub key_spelling : HashKey → List ℕ
 key_spelling k =
-    k.root ++ to_be_bytes w32 k.base ++ to_be_bytes w32 k.index ++ to_be_bytes w32 k.length ++ to_be_bytes w32 k.layers
+    k.root ++ to_be_bytes w32 k.base ++ to_be_bytes w32 k.index ++ to_be_bytes w32 k.length
+    ++ to_be_bytes w32 k.layers
 
 -- a root is a digest, and a number has four bytes, as in memory
 pub record IsKey (k : HashKey) : Type 0 where

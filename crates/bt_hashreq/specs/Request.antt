@@ -13,8 +13,8 @@ pub record IsAnchor (k : Facts) (leaf anchor : ℕ) : Type 0 where
   pub held : IsSome (held_at k anchor (leaf / 2 ^ anchor))
   pub nearest : (layer : ℕ) → layer < anchor → held_at k layer (leaf / 2 ^ layer) ≡ None
 
--- The run of leaves that has this one, as long as a run may be and below the anchor; the proof layers end below the
--- anchor.
+-- The run of leaves that has this one, as long as a run may be and below the anchor; the proof layers end
+-- below the anchor.
 abbrev pub planned_key : Facts → ℕ → ℕ → HashKey
 planned_key k leaf anchor = let run = 2 ^ min anchor max_run_height in
     record { root = k.root; base = 0; index = leaf / run * run; length = run; layers = anchor - 1 }

@@ -13,11 +13,12 @@ const MAX_RUN_LEN: u32 = 512;
 /// The height of the longest file's tree, 2^40 bytes.
 const MAX_HEIGHT: u32 = 26;
 
-/// What the digests that come with a key claim of the key's tree: those of the run, from the left, and then those of the
-/// uncles, from the lowest layer up, 32 bytes each. A run of 2^m nodes with p proof layers has p - (m - 1) uncles, or none.
+/// What the digests that come with a key claim of the key's tree: those of the run, from the left, and then
+/// those of the uncles, from the lowest layer up, 32 bytes each. A run of 2^m nodes with p proof layers has p
+/// - (m - 1) uncles, or none.
 ///
-/// Errors: `Shape` where the key's length is no power of two from 2 to 512, its index no multiple of it, or its base or
-/// layers above 26; `Count` where the digests are not as many as it names; `OutOfMemory`.
+/// Errors: `Shape` where the key's length is no power of two from 2 to 512, its index no multiple of it, or
+/// its base or layers above 26; `Count` where the digests are not as many as it names; `OutOfMemory`.
 pub fn to_claim(alloc: Global, key: &HashKey, digests: &[u8]) -> Result<Claim, ProofError>
     ensures claim { IfOk result (IsClaimBy key.now digests.now) }
     ensures refused { IfErr result (IsNoClaim key.now digests.now) }
@@ -63,8 +64,8 @@ fn digest_count(key: &HashKey) -> Option<u32>
     Some(key.length + key.layers.saturating_sub(height - 1))
 }
 
-/// How many layers a run of so many nodes has above it, up to the one node that it lies below; None for a length that no
-/// run has.
+/// How many layers a run of so many nodes has above it, up to the one node that it lies below; None for a
+/// length that no run has.
 fn run_height(length: u32) -> Option<u32>
     ensures some { IsSome result ↔ IsRunLength length }
     ensures height { IfSome result (λ height. height ≡ height_of length) }

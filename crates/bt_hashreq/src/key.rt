@@ -22,8 +22,8 @@ pub struct HashKey {
     pub layers: u32,
 }
 
-/// The key that 48 bytes spell: the root, and then base, index, length and layers in 4 bytes each, the high byte first.
-/// None for any other number of bytes.
+/// The key that 48 bytes spell: the root, and then base, index, length and layers in 4 bytes each, the high
+/// byte first. None for any other number of bytes.
 pub fn read_key(bytes: &[u8]) -> Option<HashKey>
     ensures some { IsSome result ↔ (length bytes.now ≡ key_length) }
     ensures key { IfSome result (λ key. key_spelling key ≡ bytes.now) }

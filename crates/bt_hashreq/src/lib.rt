@@ -1,5 +1,5 @@
-//! The hash messages of BitTorrent v2 (BEP 52): the key that names a run of a tree's digests and the uncles above it,
-//! what is claimed by the digests that come with a key, and which key to ask for next.
+//! The hash messages of BitTorrent v2 (BEP 52): the key that names a run of a tree's digests and the uncles
+//! above it, what is claimed by the digests that come with a key, and which key to ask for next.
 #![tactic(auto)]
 
 mod claim;
@@ -9,7 +9,7 @@ mod request;
 
 pub use claim::to_claim;
 pub use key::{HashKey, KEY_LEN, read_key, write_key};
-pub use law::{keys_are_read_back, plans_are_lawful};
+pub use law::{keys_are_read_back, plans_are_lawful, plans_teach};
 pub use request::plan;
 
 #[cfg(test)]

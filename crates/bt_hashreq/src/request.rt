@@ -9,8 +9,9 @@ use bt_tree::NodeHash;
 /// The height of the longest run that a key may name.
 const MAX_RUN_HEIGHT: u32 = 9;
 
-/// The key to ask a peer for, so that a leaf is known: the run of leaves around it below the nearest node that is held,
-/// 512 at most, with the uncles up to that node. None where the leaf is known. The leaf is that of a block.
+/// The key to ask a peer for, so that a leaf is known: the run of leaves around it below the nearest node
+/// that is held, 512 at most, with the uncles up to that node. None where the leaf is known. The leaf is that
+/// of a block.
 pub fn plan<H: NodeHash>(tree: &SparseTree<H>, leaf: u32) -> Option<HashKey>
     requires { leaf < blocks_of tree.now }
     ensures none { IsNone result ↔ IsSome (held_at tree.now 0 leaf) }

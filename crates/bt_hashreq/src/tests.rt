@@ -1,3 +1,5 @@
+mod taken;
+
 use crate::{HashKey, KEY_LEN, plan, read_key, to_claim, write_key};
 use bt_sparse::{Claim, ProofError, SparseTree};
 use bt_tree::{Geometry, Hash32, Plain};
@@ -139,6 +141,7 @@ fn a_plan_asks_for_the_run_around_a_leaf(rt: HostRuntime) -> Result<(), Fail> {
     assert_eq!(&rt; planned(alloc, 16384, 0)?, None);
     assert_eq!(&rt; planned(alloc, 49152, 0)?, Some(key(0, 4, 1)));
     assert_eq!(&rt; planned(alloc, 49152, 2)?, Some(key(0, 4, 1)));
+    assert_eq!(&rt; planned(alloc, 1048577, 0)?, Some(key(0, 128, 6)));
     assert_eq!(&rt; planned(alloc, 1048577, 64)?, Some(key(0, 128, 6)));
     assert_eq!(&rt;
         planned(alloc, 1 << 40, 0x3ffffff)?,

@@ -16,18 +16,20 @@ use Rattle.bt_tree.proofs.ComparisonTwins.{same_bytes, other_bytes}
 use Rattle.bt_tree.proofs.ComparisonClash.{same_parts}
 use Rattle.bt_sparse.specs.declared.claim.Claim.{Claim}
 use Rattle.bt_sparse.specs.declared.expansion.ClaimedPair.{ClaimedPair}
+use Rattle.bt_sparse.specs.declared.expansion.Expansion.{Expansion}
 use Rattle.bt_sparse.specs.declared.acceptance.Difference.{Difference}
 use Rattle.bt_sparse.specs.NodeMap.{Nodes, digest_at}
-use Rattle.bt_sparse.specs.SparseTree.{Facts, blocks_of, height, held_at, value_at, IsRooted}
+use Rattle.bt_sparse.specs.SparseTree.{Facts, blocks_of, height, held_at, value_at, IsRooted, IsSound}
 use Rattle.bt_sparse.specs.Claim.{Claims, on_path, HasShape, run_height, run_node, top_layer, top_node, top_digest}
-use Rattle.bt_sparse.specs.Acceptance.{HasPadding, Agrees, Accepts, DiffersBelow, IsHighestClash}
-use Rattle.bt_sparse.specs.ExpansionSteps.{run_pairs, path_pairs, claimed_pairs, IsPairOf}
-use Rattle.bt_sparse.specs.AcceptanceSteps.{IsPairIn, IsPadded, HasNoDifference, IsNotHigher, IsHighestIn, IsAdded, AgreesAt, IsGrownBy}
+use Rattle.bt_sparse.specs.Acceptance.{HasPadding, Agrees, IsAcceptable, Accepts, DiffersBelow, IsHighestClash}
+use Rattle.bt_sparse.specs.ExpansionSteps.{level_pairs, run_pairs, path_pairs, claimed_pairs, IsPairOf}
+use Rattle.bt_sparse.specs.AcceptanceSteps.{IsPairIn, IsPadded, HasNoDifference, IsNotHigher, IsHighestIn, IsAdded, AgreesAt, IsGrownBy, IsChecked}
 use Rattle.bt_sparse.proofs.Halves.{parity, power_next}
 use Rattle.bt_sparse.proofs.Values.{same_value, value_covers, value_padding, value_inside, cases_node}
 use Rattle.bt_sparse.proofs.Claims.{pair_of, last_of, claimed_inside, top_pair}
 use Rattle.bt_sparse.proofs.Single.{claims_one}
 use Rattle.bt_sparse.proofs.Expansions.{pairs_claimed, pairs_have}
+use Rattle.bt_sparse.proofs.Joins.{keeps_rooted}
 
 -- ---- the pairs lie in the tree
 pair_in : (dig : List ℕ → List ℕ) (h : ℕ) (c : Claim) (p : ClaimedPair) → HasShape h c → h ≤ max_height → IsPairOf dig c p → IsPairIn h p
@@ -48,14 +50,27 @@ pub pairs_in : (dig : List ℕ → List ℕ) (h : ℕ) (c : Claim) → HasShape 
 pairs_in dig h c shape high =
     All-weaker (IsPairOf dig c) (IsPairIn h) (λ p claimed. pair_in dig h c p shape high claimed) (claimed_pairs dig c) (pairs_claimed dig c)
 
-run_pairs_length : (dig : List ℕ → List ℕ) (c : Claim) (above node : ℕ) → length (run_pairs dig c above node) + 1 ≡ 2 ^ above
+level_pairs_length : (dig : List ℕ → List ℕ) (c : Claim) (above first n : ℕ) → length (level_pairs dig c above first n) ≡ n
+unfolding level_pairs
+level_pairs_length dig c above first zero = refl
+level_pairs_length dig c above first (suc n) = simp length-append (omega (arith, level_pairs_length dig c above first n))
+
+run_pairs_length : (dig : List ℕ → List ℕ) (c : Claim) (n : ℕ) → n ≤ run_height c → length (run_pairs dig c n) + 2 ^ (run_height c - n) ≡ 2 ^ run_height c
 unfolding run_pairs
-run_pairs_length dig c zero node = refl
-run_pairs_length dig c (suc above) node =
-    let left : List ClaimedPair = run_pairs dig c above (2 * node) in
-    let right : List ClaimedPair = run_pairs dig c above (2 * node + 1) in
+run_pairs_length dig c zero low =
+    let e : run_height c - 0 ≡ run_height c = omega arith in
+    let p : 2 ^ (run_height c - 0) ≡ 2 ^ run_height c = ap (λ k. 2 ^ k) e in
+    omega (arith, p)
+run_pairs_length dig c (suc n) low =
+    let up : run_height c - n ≡ suc (run_height c - suc n) = omega arith in
+    let wide : 2 ^ (run_height c - n) ≡ 2 ^ (run_height c - suc n) * 2 = ap (λ k. 2 ^ k) up ∙ pow-suc 2 (run_height c - suc n) in
     simp length-append
-    (omega (arith, pow-suc 2 above, run_pairs_length dig c above (2 * node), run_pairs_length dig c above (2 * node + 1)))
+    (omega (
+      arith,
+      wide,
+      run_pairs_length dig c n (omega arith),
+      level_pairs_length dig c n (run_node c * 2 ^ (run_height c - suc n)) (2 ^ (run_height c - suc n)),
+    ))
 
 path_pairs_length : (dig : List ℕ → List ℕ) (c : Claim) (t : ℕ) → length (path_pairs dig c t) ≡ t
 unfolding path_pairs
@@ -66,7 +81,7 @@ pub pairs_few : (dig : List ℕ → List ℕ) (h : ℕ) (c : Claim) → HasShape
 pairs_few dig h c shape high =
     let low : run_height c ≤ 26 = omega (arith, shape.in_height) in
     simp length-append
-    (omega (arith, run_pairs_length dig c (run_height c) (run_node c), path_pairs_length dig c (length c.uncles), pow_le (run_height c) 26 low, shape.in_height))
+    (omega (arith, run_pairs_length dig c (run_height c) (omega arith), path_pairs_length dig c (length c.uncles), pow_le (run_height c) 26 low, shape.in_height))
 
 -- ---- padding
 -- a pair with this node has the claimed digest of it
@@ -383,3 +398,28 @@ equal_bytes xs ys r e fails = elim (not_cases (pointwise eqb xs ys)) [
 
 pub agrees_at : (dig : List ℕ → List ℕ) (k : Facts) (nodes : Nodes) (c : Claim) → k.nodes ≡ nodes → Agrees dig k c → AgreesAt dig nodes c
 agrees_at dig k nodes c e h = subst (λ m. AgreesAt dig m c) e h
+
+-- the pairs of a claim that was checked were put
+pub grown_all : (dig : List ℕ → List ℕ) (k : Facts) (c : Claim) (e : Expansion) (blocks : ℕ) (mid old new : Nodes) (count : ℕ) (pairs : List ClaimedPair)
+    → IsChecked dig k c e → blocks ≡ blocks_of k → mid ≡ old → old ≡ k.nodes → pairs ≡ e.pairs.items
+    → ((a : Claim) → All (IsPairOf dig a) pairs → AgreesAt dig mid a → IsGrownBy dig a blocks mid new count pairs)
+    → IsGrownBy dig c (blocks_of k) k.nodes new count (claimed_pairs dig c)
+grown_all dig k c e blocks mid old new count pairs h same kept start list put =
+    let all : pairs ≡ claimed_pairs dig c = list ∙ h.expansion.pairs in
+    let grown = put c (subst (All (IsPairOf dig c)) (sym all) (pairs_claimed dig c)) (agrees_at dig k mid c (sym (kept ∙ start)) h.conditions.agrees) in
+    subst (IsGrownBy dig c (blocks_of k) k.nodes new count) all
+    (subst (λ m. IsGrownBy dig c (blocks_of k) m new count pairs) (kept ∙ start) (subst (λ n. IsGrownBy dig c n mid new count pairs) same grown))
+
+pub grown_accepts : (dig : List ℕ → List ℕ) (k : Facts) (c : Claim) (nodes : Nodes) (count : ℕ) → IsAcceptable dig k c
+    → IsGrownBy dig c (blocks_of k) k.nodes nodes count (claimed_pairs dig c)
+    → Accepts dig k c record { file_length = k.file_length; root = k.root; nodes = nodes }
+grown_accepts dig k c nodes count h grown = accepted dig k c nodes count h.shape h.padding h.top h.agrees grown
+
+pub grown_sound : (dig : List ℕ → List ℕ) (k : Facts) (c : Claim) (nodes : Nodes) (count : ℕ) → IsSound dig k → IsAcceptable dig k c
+    → IsGrownBy dig c (blocks_of k) k.nodes nodes count (claimed_pairs dig c)
+    → IsSound dig record { file_length = k.file_length; root = k.root; nodes = nodes }
+grown_sound dig k c nodes count sound h grown = record {
+  lawful = sound.lawful;
+  rooted = keeps_rooted dig k record { file_length = k.file_length; root = k.root; nodes = nodes } c (grown_accepts dig k c nodes count h grown) sound.rooted;
+  digests = grown.grown.sizes sound.digests;
+}

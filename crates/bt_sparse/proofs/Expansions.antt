@@ -1,76 +1,120 @@
 -- The pairs of siblings that a claim names.
-use Rattle.std.proofs.Common.{◌≡◌, ℕ, zero, suc, ◌+◌, ◌-◌, ◌*◌, ◌/◌, ◌%◌, ◌^◌, ◌<◌, ◌≤◌, inl, inr, eqb, cond, List, [], ◌∷◌, ◌++◌, length, get_or, refl, sym, ap, ◌∙◌, add-one, arith}
+use Rattle.std.proofs.Common.{◌≡◌, ℕ, zero, suc, ◌+◌, ◌-◌, ◌*◌, ◌/◌, ◌%◌, ◌^◌, ◌<◌, ◌≤◌, inl, inr, eqb, cond, List, [], ◌∷◌, ◌++◌, length, get_or, refl, sym, ap, ◌∙◌, subst, add-one, arith}
 use Rattle.std.specs.List.{All, Contains}
-use Rattle.std.proofs.Math.Nat.{pow-suc, div-div-eq-div-mul}
-use Rattle.std.proofs.lemmas.Nat.{div-add-mod'}
+use Rattle.std.proofs.Math.Nat.{mul-le-mul_left, pow-suc, div-div-eq-div-mul, div-mul-le_self, lt-div-mul-add}
+use Rattle.std.proofs.lemmas.Nat.{div-add-mod', div-mul-add, pow_pos}
 use Rattle.std.proofs.lemmas.Bool.{cases_lt}
 use Rattle.std.proofs.lemmas.List.Elements.{All-nil, All-append, All-push, Contains-append_left, Contains-append_right, Contains-push}
-use Rattle.bt_tree.specs.Limits.{max_height}
+use Rattle.bt_tree.specs.Limits.{max_block_count, max_height}
 use Rattle.bt_tree.specs.Peaks.{row_node}
 use Rattle.bt_tree.proofs.TreeNodes.{row_parent}
 use Rattle.bt_tree.proofs.TreeShape.{pow_le}
 use Rattle.bt_sparse.specs.declared.claim.Claim.{Claim}
 use Rattle.bt_sparse.specs.declared.expansion.ClaimedPair.{ClaimedPair}
 use Rattle.bt_sparse.specs.Claim.{Claims, in_run, on_path, uncle, run_height, run_top, run_node, run_digest, path_node, path_digest, parent_digest, top_layer, HasShape}
-use Rattle.bt_sparse.specs.ExpansionSteps.{run_pairs, path_pair, path_pairs, claimed_pairs, IsUnderRun, IsPairOf}
-use Rattle.bt_sparse.proofs.Halves.{parity}
+use Rattle.bt_sparse.specs.ExpansionSteps.{run_pair, level_pairs, run_pairs, path_pair, path_pairs, claimed_pairs, AreRunNodes, AreParents, IsShort, IsPairOf}
+use Rattle.bt_sparse.proofs.Halves.{parity, half_div}
 use Rattle.bt_sparse.proofs.Claims.{double_div, at_top, half_sibling}
 
-pub run_pairs_zero : (dig : List ℕ → List ℕ) (c : Claim) (above node : ℕ) → above ≡ 0 → run_pairs dig c above node ≡ []
-unfolding run_pairs
-run_pairs_zero dig c above node e = rw e refl
+pub level_pairs_none : (dig : List ℕ → List ℕ) (c : Claim) (above first : ℕ) → level_pairs dig c above first 0 ≡ []
+unfolding level_pairs
+level_pairs_none dig c above first = refl
 
-pub run_pairs_more : (dig : List ℕ → List ℕ) (c : Claim) (above node : ℕ) → 0 < above
-    → run_pairs dig c above node ≡ run_pairs dig c (above - 1) (2 * node) ++ run_pairs dig c (above - 1) (2 * node + 1)
-    ++ record {
-      layer = c.base + (above - 1);
-      index = node;
-      left = row_node dig (run_digest c) (above - 1) (2 * node);
-      right = row_node dig (run_digest c) (above - 1) (2 * node + 1);
-    } ∷ []
-unfolding run_pairs
-run_pairs_more dig c zero node some = absurd (omega arith)
-run_pairs_more dig c (suc above) node some = let e : suc above - 1 ≡ above = omega arith in rw e refl
+pub level_pairs_more : (dig : List ℕ → List ℕ) (c : Claim) (above first n : ℕ)
+    → level_pairs dig c above first (n + 1) ≡ level_pairs dig c above first n ++ run_pair dig c above (first + n) ∷ []
+unfolding level_pairs
+level_pairs_more dig c above first n = rw (add-one n) refl
 
-pub row_node_zero : (dig : List ℕ → List ℕ) (row : ℕ → List ℕ) (above node : ℕ) → above ≡ 0 → row_node dig row above node ≡ row node
+-- the pair that two nodes of a layer make
+pub level_pair : (dig : List ℕ → List ℕ) (c : Claim) (above first layer i : ℕ) (level : List (List ℕ)) → layer ≡ c.base + above
+    → AreRunNodes dig c above (2 * first) level → i < length level / 2
+    → record { layer = layer; index = first + i; left = get_or level (2 * i) []; right = get_or level (2 * i + 1) [] } ≡ run_pair dig c above (first + i)
+level_pair dig c above first layer i level e nodes lt =
+    let left : 2 * first + 2 * i ≡ 2 * (first + i) = omega arith in
+    let right : 2 * first + (2 * i + 1) ≡ 2 * (first + i) + 1 = omega arith in
+    let l = nodes (2 * i) (omega arith) ∙ ap (row_node dig (run_digest c) above) left in
+    let r = nodes (2 * i + 1) (omega arith) ∙ ap (row_node dig (run_digest c) above) right in
+    rw (e, l, r) refl
+
+pub run_pairs_none : (dig : List ℕ → List ℕ) (c : Claim) → run_pairs dig c 0 ≡ []
+unfolding run_pairs
+run_pairs_none dig c = refl
+
+pub run_pairs_more : (dig : List ℕ → List ℕ) (c : Claim) (above first count : ℕ) → first ≡ run_node c * 2 ^ (run_height c - (above + 1))
+    → count ≡ 2 ^ (run_height c - (above + 1)) → run_pairs dig c (above + 1) ≡ run_pairs dig c above ++ level_pairs dig c above first count
+unfolding run_pairs
+run_pairs_more dig c above first count f n = rw (f, n, add-one above) refl
+
+-- the nodes above nodes of the run
+pub nodes_above : (dig : List ℕ → List ℕ) (c : Claim) (above first start : ℕ) (level up : List (List ℕ)) → start ≡ 2 * first
+    → AreRunNodes dig c above start level → AreParents dig level up (length level / 2) → AreRunNodes dig c (above + 1) first up
+nodes_above dig c above first start level up e nodes h i lt =
+    let left : start + 2 * i ≡ 2 * (first + i) = omega arith in
+    let right : start + (2 * i + 1) ≡ 2 * (first + i) + 1 = omega arith in
+    let inside : i < length level / 2 = omega (arith, h.size) in
+    let l = nodes (2 * i) (omega arith) ∙ ap (row_node dig (run_digest c) above) left in
+    let r = nodes (2 * i + 1) (omega arith) ∙ ap (row_node dig (run_digest c) above) right in
+    h.digests i inside ∙ ap (λ x. dig (x ++ get_or level (2 * i + 1) [])) l ∙ ap (λ x. dig (row_node dig (run_digest c) above (2 * (first + i)) ++ x)) r
+    ∙ row_parent dig (run_digest c) above (first + i) (2 * (first + i)) (2 * (first + i) + 1) refl refl
+    ∙ ap (λ k. row_node dig (run_digest c) k (first + i)) (sym (add-one above))
+
+-- the run itself
+pub run_nodes : (dig : List ℕ → List ℕ) (c : Claim) → AreRunNodes dig c 0 c.index c.run
 unfolding row_node
-row_node_zero dig row above node e = rw e refl
+run_nodes dig c i lt = let e : c.index + i - c.index ≡ i = omega arith in sym (ap (λ k. get_or c.run k []) e)
 
-pub row_node_more : (dig : List ℕ → List ℕ) (row : ℕ → List ℕ) (above node : ℕ) → 0 < above
-    → dig (row_node dig row (above - 1) (2 * node) ++ row_node dig row (above - 1) (2 * node + 1)) ≡ row_node dig row above node
-row_node_more dig row zero node some = absurd (omega arith)
-row_node_more dig row (suc above) node some =
-    let e : suc above - 1 ≡ above = omega arith in
-    rw e (row_parent dig row above node (2 * node) (2 * node + 1) refl refl)
+-- where a layer's nodes begin, and how many they are
+pub half_first : (c : Claim) (above : ℕ) → above < run_height c → run_node c * 2 ^ (run_height c - above) ≡ 2 * (run_node c * 2 ^ (run_height c - (above + 1)))
+half_first c above low =
+    let up : run_height c - above ≡ suc (run_height c - (above + 1)) = omega arith in
+    let wide : 2 ^ (run_height c - above) ≡ 2 ^ (run_height c - (above + 1)) * 2 = ap (λ k. 2 ^ k) up ∙ pow-suc 2 (run_height c - (above + 1)) in
+    ap (λ p. run_node c * p) wide ∙ omega arith
 
-under_child : (c : Claim) (above node child : ℕ) → 0 < above → IsUnderRun c above node → 2 * node ≤ child → child ≤ 2 * node + 1 → IsUnderRun c (above - 1) child
-under_child c zero node child some h low high = absurd (omega arith)
-under_child c (suc above) node child some h low high =
-    let e : suc above - 1 ≡ above = omega arith in
-    let wide : 2 ^ suc above ≡ 2 ^ above * 2 = pow-suc 2 above in
-    let from : c.index ≤ node * (2 ^ above * 2) = rw wide at h.from in
-    let to : (node + 1) * (2 ^ above * 2) ≤ c.index + length c.run = rw wide at h.to in
-    let p : ℕ = 2 ^ above in
-    elim (cases_lt (2 * node) child) [
-      | inl lt ↦ (let odd : child ≡ 2 * node + 1 = omega arith in rw (odd, e) record { from = omega (arith, from); to = omega (arith, to); narrow = h.narrow; low = omega (arith, h.low) })
-      | inr le ↦ (let even : child ≡ 2 * node = omega arith in rw (even, e) record { from = omega (arith, from); to = omega (arith, to); narrow = h.narrow; low = omega (arith, h.low) })
-    ]
+pub half_count : (c : Claim) (above : ℕ) → above < run_height c → 2 ^ (run_height c - above) / 2 ≡ 2 ^ (run_height c - (above + 1))
+half_count c above low =
+    let up : run_height c - above ≡ suc (run_height c - (above + 1)) = omega arith in
+    let wide : 2 ^ (run_height c - above) ≡ 2 ^ (run_height c - (above + 1)) * 2 = ap (λ k. 2 ^ k) up ∙ pow-suc 2 (run_height c - (above + 1)) in
+    omega (arith, wide)
 
-pub under_left : (c : Claim) (above node : ℕ) → 0 < above → IsUnderRun c above node → IsUnderRun c (above - 1) (2 * node)
-under_left c above node some h = under_child c above node (2 * node) some h (omega arith) (omega arith)
+-- from the nodes of a layer to those above
+pub record IsLevelAbove (dig : List ℕ → List ℕ) (c : Claim) (above first start : ℕ) (level up : List (List ℕ)) : Type 0 where
+  pub first_is : first ≡ run_node c * 2 ^ (run_height c - (above + 1))
+  pub doubled : start ≡ 2 * first
+  pub size : length up ≡ 2 ^ (run_height c - (above + 1))
+  pub nodes : AreRunNodes dig c (above + 1) first up
+  pub pairs : run_pairs dig c (above + 1) ≡ run_pairs dig c above ++ level_pairs dig c above first (length level / 2)
 
-pub under_right : (c : Claim) (above node : ℕ) → 0 < above → IsUnderRun c above node → IsUnderRun c (above - 1) (2 * node + 1)
-under_right c above node some h = under_child c above node (2 * node + 1) some h (omega arith) (omega arith)
+pub level_above : (dig : List ℕ → List ℕ) (c : Claim) (above first start : ℕ) (level up : List (List ℕ)) → above < run_height c
+    → start ≡ run_node c * 2 ^ (run_height c - above) → first ≡ start / 2 → length level ≡ 2 ^ (run_height c - above)
+    → AreRunNodes dig c above start level → AreParents dig level up (length level / 2) → IsLevelAbove dig c above first start level up
+level_above dig c above first start level up low from half size nodes parents =
+    let twice : start ≡ 2 * (run_node c * 2 ^ (run_height c - (above + 1))) = from ∙ half_first c above low in
+    let is : first ≡ run_node c * 2 ^ (run_height c - (above + 1)) = omega (arith, half, twice) in
+    let count : length level / 2 ≡ 2 ^ (run_height c - (above + 1)) = ap (λ n. n / 2) size ∙ half_count c above low in
+    record {
+      first_is = is;
+      doubled = twice ∙ ap (λ n. 2 * n) (sym is);
+      size = parents.size ∙ count;
+      nodes = nodes_above dig c above first start level up (twice ∙ ap (λ n. 2 * n) (sym is)) nodes parents;
+      pairs = run_pairs_more dig c above first (length level / 2) is count;
+    }
 
--- the run's top lies above the whole run
-pub under_top : (h : ℕ) (c : Claim) → HasShape h c → h ≤ max_height → IsUnderRun c (run_height c) (run_node c)
-under_top h c shape high =
-    let p : ℕ = 2 ^ run_height c in
+-- numbers of a run's layers are small
+pub short_level : (c : Claim) (above first : ℕ) (level : List (List ℕ)) → IsShort c → above ≤ run_height c
+    → first ≡ run_node c * 2 ^ (run_height c - above) → length level ≡ 2 ^ (run_height c - above) → first + length level ≤ max_block_count
+short_level c above first level short low from size =
+    let less : 2 ^ (run_height c - above) ≤ 2 ^ run_height c = pow_le (run_height c - above) (run_height c) (omega arith) in
+    omega (arith, from, size, short.narrow, short.power, short.start, mul-le-mul_left (run_node c) less)
+
+-- a claim of the right shape has a short run
+pub short_run : (h : ℕ) (c : Claim) → HasShape h c → h ≤ max_height → IsShort c
+short_run h c shape high =
     let whole : c.index / 2 ^ run_height c * 2 ^ run_height c + c.index % 2 ^ run_height c ≡ c.index = div-add-mod' c.index (2 ^ run_height c) in
     let aligned : c.index % 2 ^ run_height c ≡ 0 = ap (λ n. c.index % n) (sym shape.power) ∙ shape.aligned in
     record {
-      from = omega (arith, whole, aligned);
-      to = omega (arith, whole, aligned, shape.power);
+      some = elim (cases_lt 0 (run_height c)) [ inl lt ↦ lt | inr le ↦ (let none : run_height c ≡ 0 = omega arith in absurd (omega (arith, shape.some, shape.power, ap (λ k. 2 ^ k) none))) ];
+      power = shape.power;
+      start = omega (arith, whole, aligned);
       narrow = omega (arith, shape.in_width, pow_small (h - c.base) (omega arith));
       low = omega (arith, shape.in_height);
     }
@@ -113,30 +157,43 @@ pub path_up : (c : Claim) (t : ℕ) → path_node c t / 2 ≡ path_node c (t + 1
 path_up c t = div-div-eq-div-mul (run_node c) (2 ^ t) 2 ∙ ap (λ p. run_node c / p) (sym (pow-suc 2 t)) ∙ ap (path_node c) (sym (add-one t))
 
 -- each pair is claimed
-run_pairs_claimed : (dig : List ℕ → List ℕ) (c : Claim) (above node : ℕ) → above ≤ run_height c → node / 2 ^ (run_height c - above) ≡ run_node c
-    → All (IsPairOf dig c) (run_pairs dig c above node)
-unfolding run_pairs
-run_pairs_claimed dig c zero node low under = All-nil (IsPairOf dig c)
-run_pairs_claimed dig c (suc above) node low under =
+run_pair_claimed : (dig : List ℕ → List ℕ) (c : Claim) (above i : ℕ) → above < run_height c → i / 2 ^ (run_height c - suc above) ≡ run_node c
+    → IsPairOf dig c (run_pair dig c above i)
+run_pair_claimed dig c above i low under =
     let up : run_height c - above ≡ suc (run_height c - suc above) = omega arith in
     let wide : 2 ^ (run_height c - above) ≡ 2 ^ suc (run_height c - suc above) = ap (λ n. 2 ^ n) up in
-    let left : 2 * node / 2 ^ (run_height c - above) ≡ run_node c =
-    ap (λ p. 2 * node / p) wide ∙ double_div (2 * node) node (run_height c - suc above) (omega arith) ∙ under in
-    let right : (2 * node + 1) / 2 ^ (run_height c - above) ≡ run_node c =
-    ap (λ p. (2 * node + 1) / p) wide ∙ double_div (2 * node + 1) node (run_height c - suc above) (omega arith) ∙ under in
-    let at : IsPairOf dig c record {
-      layer = c.base + above;
-      index = node;
-      left = row_node dig (run_digest c) above (2 * node);
-      right = row_node dig (run_digest c) above (2 * node + 1);
-    } = record {
+    let left : 2 * i / 2 ^ (run_height c - above) ≡ run_node c =
+    ap (λ p. 2 * i / p) wide ∙ double_div (2 * i) i (run_height c - suc above) (omega arith) ∙ under in
+    let right : (2 * i + 1) / 2 ^ (run_height c - above) ≡ run_node c =
+    ap (λ p. (2 * i + 1) / p) wide ∙ double_div (2 * i + 1) i (run_height c - suc above) (omega arith) ∙ under in
+    record {
       left = in_run record { above = above; here = refl; low = omega arith; under = left; digest = refl };
       right = in_run record { above = above; here = refl; low = omega arith; under = right; digest = refl };
       low = omega arith;
-    } in
-    All-push (IsPairOf dig c) (run_pairs dig c above (2 * node) ++ run_pairs dig c above (2 * node + 1)) _
-    (All-append (IsPairOf dig c) (run_pairs dig c above (2 * node)) (run_pairs dig c above (2 * node + 1))
-    (run_pairs_claimed dig c above (2 * node) (omega arith) left) (run_pairs_claimed dig c above (2 * node + 1) (omega arith) right)) at
+    }
+
+level_claimed : (dig : List ℕ → List ℕ) (c : Claim) (above first n : ℕ) → above < run_height c
+    → ((i : ℕ) → first ≤ i → i < first + n → i / 2 ^ (run_height c - suc above) ≡ run_node c) → All (IsPairOf dig c) (level_pairs dig c above first n)
+unfolding level_pairs
+level_claimed dig c above first zero low under = All-nil (IsPairOf dig c)
+level_claimed dig c above first (suc n) low under =
+    All-push (IsPairOf dig c) (level_pairs dig c above first n) (run_pair dig c above (first + n))
+    (level_claimed dig c above first n low (λ i from to. under i from (omega arith)))
+    (run_pair_claimed dig c above (first + n) low (under (first + n) (omega arith) (omega arith)))
+
+in_row : (node w i : ℕ) → node * w ≤ i → i < node * w + w → i / w ≡ node
+in_row node w i from to =
+    let split : i ≡ node * w + (i - node * w) = omega arith in
+    ap (λ k. k / w) split ∙ div-mul-add node w (i - node * w) (omega arith)
+
+run_pairs_claimed : (dig : List ℕ → List ℕ) (c : Claim) (n : ℕ) → n ≤ run_height c → All (IsPairOf dig c) (run_pairs dig c n)
+unfolding run_pairs
+run_pairs_claimed dig c zero low = All-nil (IsPairOf dig c)
+run_pairs_claimed dig c (suc n) low =
+    All-append (IsPairOf dig c) (run_pairs dig c n) (level_pairs dig c n (run_node c * 2 ^ (run_height c - suc n)) (2 ^ (run_height c - suc n)))
+    (run_pairs_claimed dig c n (omega arith))
+    (level_claimed dig c n (run_node c * 2 ^ (run_height c - suc n)) (2 ^ (run_height c - suc n)) (omega arith)
+    (λ i from to. in_row (run_node c) (2 ^ (run_height c - suc n)) i from to))
 
 path_pair_is : (dig : List ℕ → List ℕ) (c : Claim) (t : ℕ) → t < length c.uncles → IsPairOf dig c (path_pair dig c t)
 path_pair_is dig c t within =
@@ -162,10 +219,8 @@ path_pairs_claimed dig c (suc t) within =
 
 pub pairs_claimed : (dig : List ℕ → List ℕ) (c : Claim) → All (IsPairOf dig c) (claimed_pairs dig c)
 pairs_claimed dig c =
-    let none : run_height c - run_height c ≡ 0 = omega arith in
-    let whole : run_node c / 1 ≡ run_node c = omega arith in
-    All-append (IsPairOf dig c) (run_pairs dig c (run_height c) (run_node c)) (path_pairs dig c (length c.uncles))
-    (run_pairs_claimed dig c (run_height c) (run_node c) (omega arith) (ap (λ n. run_node c / 2 ^ n) none ∙ whole))
+    All-append (IsPairOf dig c) (run_pairs dig c (run_height c)) (path_pairs dig c (length c.uncles))
+    (run_pairs_claimed dig c (run_height c) (omega arith))
     (path_pairs_claimed dig c (length c.uncles) (omega arith))
 
 -- a pair among them has this node
@@ -181,31 +236,41 @@ in_left xs ys layer i h = record { pair = h.pair; among = Contains-append_left x
 in_right : (xs ys : List ClaimedPair) (layer i : ℕ) → HasNode ys layer i → HasNode (xs ++ ys) layer i
 in_right xs ys layer i h = record { pair = h.pair; among = Contains-append_right xs ys h.pair h.among; here = h.here; parent = h.parent }
 
-run_pairs_has : (dig : List ℕ → List ℕ) (c : Claim) (above node k i : ℕ) → k < above → i / 2 ^ (above - k) ≡ node
-    → HasNode (run_pairs dig c above node) (c.base + k) i
+level_pairs_has : (dig : List ℕ → List ℕ) (c : Claim) (above first n i : ℕ) → first ≤ i → i < first + n
+    → Contains (level_pairs dig c above first n) (run_pair dig c above i)
+unfolding level_pairs
+level_pairs_has dig c above first zero i from to = absurd (omega arith)
+level_pairs_has dig c above first (suc n) i from to = elim (cases_lt i (first + n)) [
+  | inl lt ↦ Contains-append_left (level_pairs dig c above first n) (run_pair dig c above (first + n) ∷ []) (run_pair dig c above i) (level_pairs_has dig c above first n i from lt)
+  | inr le ↦
+      let last : i ≡ first + n = omega arith in
+      subst (λ (k : ℕ). Contains (level_pairs dig c above first n ++ run_pair dig c above (first + n) ∷ []) (run_pair dig c above k)) (sym last)
+      (Contains-push (level_pairs dig c above first n) (run_pair dig c above (first + n)))
+]
+
+run_pairs_has : (dig : List ℕ → List ℕ) (c : Claim) (n k i : ℕ) → k < n → n ≤ run_height c → i / 2 ^ (run_height c - k) ≡ run_node c
+    → HasNode (run_pairs dig c n) (c.base + k) i
 unfolding run_pairs
-run_pairs_has dig c zero node k i low under = absurd (omega arith)
-run_pairs_has dig c (suc above) node k i low under =
-    let left : List ClaimedPair = run_pairs dig c above (2 * node) in
-    let right : List ClaimedPair = run_pairs dig c above (2 * node + 1) in
-    elim (cases_lt k above) [
-      | inl lt ↦
-          let child : ℕ = i / 2 ^ (above - k) in
-          let up : suc above - k ≡ suc (above - k) = omega arith in
-          let half : i / 2 ^ (above - k) / 2 ≡ node =
-          div-div-eq-div-mul i (2 ^ (above - k)) 2 ∙ ap (λ p. i / p) (sym (pow-suc 2 (above - k)) ∙ ap (λ n. 2 ^ n) (sym up)) ∙ under in
-          elim (parity child) [
-            | inl p ↦ in_left (left ++ right) _ (c.base + k) i (in_left left right (c.base + k) i (run_pairs_has dig c above (2 * node) k i lt (omega (arith, half, p.0))))
-            | inr p ↦ in_left (left ++ right) _ (c.base + k) i (in_right left right (c.base + k) i (run_pairs_has dig c above (2 * node + 1) k i lt (omega (arith, half, p.0))))
-          ]
+run_pairs_has dig c zero k i low within under = absurd (omega arith)
+run_pairs_has dig c (suc n) k i low within under =
+    let first : ℕ = run_node c * 2 ^ (run_height c - suc n) in
+    let level : List ClaimedPair = level_pairs dig c n (run_node c * 2 ^ (run_height c - suc n)) (2 ^ (run_height c - suc n)) in
+    elim (cases_lt k n) [
+      | inl lt ↦ in_left (run_pairs dig c n) level (c.base + k) i (run_pairs_has dig c n k i lt (omega arith) under)
       | inr le ↦
-          let last : k ≡ above = omega arith in
-          let one : suc above - k ≡ 1 = omega arith in
-          record {
-            pair = _;
-            among = Contains-push (left ++ right) _;
-            here = ap (λ n. c.base + n) (sym last);
-            parent = sym (ap (λ n. i / 2 ^ n) (sym one) ∙ under);
+          let last : k ≡ n = omega arith in
+          let up : run_height c - n ≡ suc (run_height c - suc n) = omega arith in
+          let half : i / 2 / 2 ^ (run_height c - suc n) ≡ run_node c =
+          sym (half_div i (run_height c - suc n)) ∙ ap (λ m. i / 2 ^ m) (sym up) ∙ ap (λ m. i / 2 ^ (run_height c - m)) (sym last) ∙ under in
+          let floor : i / 2 / 2 ^ (run_height c - suc n) * 2 ^ (run_height c - suc n) ≤ i / 2 = div-mul-le_self (i / 2) (2 ^ (run_height c - suc n)) in
+          let next : i / 2 < i / 2 / 2 ^ (run_height c - suc n) * 2 ^ (run_height c - suc n) + 2 ^ (run_height c - suc n)
+          = lt-div-mul-add {a = i / 2} {b = 2 ^ (run_height c - suc n)} (pow_pos (run_height c - suc n)) in
+          let times = ap (λ q. q * 2 ^ (run_height c - suc n)) half in
+          in_right (run_pairs dig c n) level (c.base + k) i record {
+            pair = run_pair dig c n (i / 2);
+            among = level_pairs_has dig c n (run_node c * 2 ^ (run_height c - suc n)) (2 ^ (run_height c - suc n)) (i / 2) (omega (arith, times, floor)) (omega (arith, times, next));
+            here = ap (λ m. c.base + m) (sym last);
+            parent = refl;
           }
     ]
 
@@ -223,7 +288,7 @@ pub pairs_have : (dig : List ℕ → List ℕ) (c : Claim) (layer i : ℕ) (d : 
 pairs_have dig c layer i d claim low = go claim
   where
     on_the_path : (k : ℕ) → layer ≡ run_top c + k → i / 2 ≡ path_node c k / 2 → HasNode (claimed_pairs dig c) layer i
-    on_the_path k here node = in_right (run_pairs dig c (run_height c) (run_node c)) (path_pairs dig c (length c.uncles)) layer i record {
+    on_the_path k here node = in_right (run_pairs dig c (run_height c)) (path_pairs dig c (length c.uncles)) layer i record {
       pair = path_pair dig c k;
       among = path_pairs_has dig c (length c.uncles) k (omega arith);
       here = sym here;
@@ -232,8 +297,8 @@ pairs_have dig c layer i d claim low = go claim
 
     go : Claims dig c layer i d → HasNode (claimed_pairs dig c) layer i
     go (in_run r) = elim (cases_lt r.above (run_height c)) [
-      | inl lt ↦ in_left (run_pairs dig c (run_height c) (run_node c)) (path_pairs dig c (length c.uncles)) layer i
-          (rw r.here (run_pairs_has dig c (run_height c) (run_node c) r.above i lt r.under))
+      | inl lt ↦ in_left (run_pairs dig c (run_height c)) (path_pairs dig c (length c.uncles)) layer i
+          (rw r.here (run_pairs_has dig c (run_height c) r.above i lt (omega arith) r.under))
       | inr le ↦ on_the_path 0 (omega (arith, r.here, r.low)) (ap (λ n. n / 2) (at_top c r.above i le r.low r.under))
     ]
     go (on_path r) = on_the_path r.above r.here (ap (λ n. n / 2) r.node)

@@ -1,5 +1,5 @@
 -- Claimed nodes are put into a tree.
-use Rattle.std.proofs.Common.{◌≡◌, ℕ, ◌+◌, ◌*◌, ◌<◌, ◌≤◌, ◌↔◌, inl, inr, IsTrue, Bool, true, false, cond, List, length, take, get_or, Option, Some, None, refl, sym, ap, ◌∙◌, subst, arith}
+use Rattle.std.proofs.Common.{◌≡◌, ℕ, ◌+◌, ◌*◌, ◌/◌, ◌<◌, ◌≤◌, ◌↔◌, inl, inr, IsTrue, Bool, true, false, cond, List, length, take, get_or, Option, Some, None, refl, sym, ap, ◌∙◌, subst, arith}
 use mir.Val.{bool_byte}
 use Rattle.std.specs.FinMap as finite
 use Rattle.std.specs.List.{All}
@@ -9,10 +9,11 @@ use Rattle.std.proofs.lemmas.List.Elements.{All-nil, All-more, All-weaker}
 use Rattle.bt_tree.specs.TreeShape.{real_width}
 use Rattle.bt_sparse.specs.declared.claim.Claim.{Claim}
 use Rattle.bt_sparse.specs.declared.expansion.ClaimedPair.{ClaimedPair}
-use Rattle.bt_sparse.specs.NodeMap.{Nodes, digest_at}
+use Rattle.bt_sparse.specs.Page.{page_length}
+use Rattle.bt_sparse.specs.NodeMap.{Nodes, digest_at, Layers, HasPlace, KeepsPlaces}
 use Rattle.bt_sparse.specs.Claim.{Claims}
 use Rattle.bt_sparse.specs.ExpansionSteps.{IsPairOf}
-use Rattle.bt_sparse.specs.AcceptanceSteps.{IsPut, IsAdded, AgreesAt, IsGrown, IsGrownBy}
+use Rattle.bt_sparse.specs.AcceptanceSteps.{IsPut, IsAdded, AgreesAt, IsGrown, IsGrownBy, HasPlaces}
 use Rattle.bt_sparse.proofs.NodeMaps.{node_total, digest_at_new, digest_at_cases, digest_at_kept}
 use Rattle.bt_sparse.proofs.Single.{claims_one}
 
@@ -123,3 +124,27 @@ pair_more dig c n start old mid new count a b i pairs p d lt at all agrees h lef
           (All-weaker (IsAdded n old) (IsAdded n new) (λ q was. added_kept n old new q (λ l j e x. second.kept l j e (first.kept l j e x)) was) (take i pairs) h.added)
           (subst (IsAdded n new) at here);
     }
+
+-- ---- the pages of a claim's nodes
+-- a page with places for the left node and all others of its layer has them for the pair
+pub pair_places : (n : ℕ) (layers : Layers) (p : ClaimedPair)
+    → (2 * p.index < real_width n p.layer → (i : ℕ) → i / page_length ≡ 2 * p.index / page_length → i < real_width n p.layer → HasPlace layers p.layer i)
+    → HasPlaces n layers p
+pair_places n layers p h = record {
+  left = λ real. h real (2 * p.index) refl real;
+  right = λ real. h (omega arith) (2 * p.index + 1) (omega arith) real;
+}
+
+pub places_stay : (n : ℕ) (old new : Layers) (p : ClaimedPair) → KeepsPlaces old new → HasPlaces n old p → HasPlaces n new p
+places_stay n old new p kept h = record {
+  left = λ real. omega (arith, kept p.layer (2 * p.index / page_length), h.left real);
+  right = λ real. omega (arith, kept p.layer ((2 * p.index + 1) / page_length), h.right real);
+}
+
+pub place_stays : (old new : Layers) (layer i : ℕ) → KeepsPlaces old new → HasPlace old layer i → HasPlace new layer i
+place_stays old new layer i kept h = omega (arith, kept layer (i / page_length), h)
+
+pub places_more : (n : ℕ) (old new : Layers) (pairs : List ClaimedPair) (i : ℕ) (d : ClaimedPair) → i < length pairs → KeepsPlaces old new
+    → All (HasPlaces n old) (take i pairs) → HasPlaces n new (get_or pairs i d) → All (HasPlaces n new) (take (i + 1) pairs)
+places_more n old new pairs i d lt kept all here =
+    All-more (HasPlaces n new) pairs i d lt (All-weaker (HasPlaces n old) (HasPlaces n new) (λ q was. places_stay n old new q kept was) (take i pairs) all) here

@@ -1,6 +1,9 @@
+pub mod Pages
+pub mod PageTables
 pub mod Halves
 pub mod Values
 pub mod Claims
+pub mod Parents
 pub mod Expansions
 pub mod Differences
 pub mod Growths
@@ -10,6 +13,7 @@ pub mod Answers
 pub mod Paths
 pub mod Single
 pub mod NodeMaps
+pub mod MapBodies
 pub mod Requests
 pub mod LayerNodes
 pub mod Taken

@@ -11,13 +11,15 @@ use Rattle.bt_sparse.specs.declared.claim.ProofError.TheVariants.{Shape, Padding
 -- the claimed nodes that cover no block have the padding digest
 abbrev pub HasPadding : (List ℕ → List ℕ) → Facts → Claim → Type 0
 HasPadding dig k c =
-    (layer i : ℕ) (d : List ℕ) → Claims dig c layer i d → IsPadding (blocks_of k) layer i → d ≡ padding_digest dig layer
+    (layer i : ℕ) (d : List ℕ) → Claims dig c layer i d → IsPadding (blocks_of k) layer i
+    → d ≡ padding_digest dig layer
 
 -- no claimed node is held with another digest
 abbrev pub Agrees : (List ℕ → List ℕ) → Facts → Claim → Type 0
 Agrees dig k c = (layer i : ℕ) (d e : List ℕ) → Claims dig c layer i d → held_at k layer i ≡ Some e → e ≡ d
 
--- what a claim has to meet: its shape, its padding, a top that is held with the digest claimed, and no difference
+-- what a claim has to meet: its shape, its padding, a top that is held with the digest claimed, and no
+-- difference
 pub record IsAcceptable (dig : List ℕ → List ℕ) (k : Facts) (c : Claim) : Type 0 where
   pub shape : HasShape (height k) c
   pub padding : HasPadding dig k c
@@ -39,9 +41,10 @@ pub record Accepts (dig : List ℕ → List ℕ) (old : Facts) (c : Claim) (new 
   pub conditions : IsAcceptable dig old c
   pub joins : IsJoined dig old c new
 
--- Below this node the tree knows two digests and the claim says two, of which one or both differ. Each two, the left
--- one first, are a node's input.
-pub record DiffersBelow (dig : List ℕ → List ℕ) (k : Facts) (c : Claim) (layer i : ℕ) (ours theirs : List ℕ) : Type 0 where
+-- Below this node the tree knows two digests and the claim says two, of which one or both differ. Each two,
+-- the left one first, are a node's input.
+pub record DiffersBelow (dig : List ℕ → List ℕ) (k : Facts) (c : Claim) (layer i : ℕ)
+    (ours theirs : List ℕ) : Type 0 where
   pub below : ℕ
   pub above : layer ≡ below + 1
   pub our_left : List ℕ
@@ -56,15 +59,18 @@ pub record DiffersBelow (dig : List ℕ → List ℕ) (k : Facts) (c : Claim) (l
   pub is_theirs : theirs ≡ their_left ++ their_right
   pub differ : (our_left ≢ their_left) ⊎ (our_right ≢ their_right)
 
--- The difference nearest to the root, and of several in one layer the leftmost. Its two inputs, which are different, have
--- one digest.
-pub record IsHighestClash (dig : List ℕ → List ℕ) (k : Facts) (c : Claim) (layer i : ℕ) (ours theirs : List ℕ) : Type 0 where
+-- The difference nearest to the root, and of several in one layer the leftmost. Its two inputs, which are
+-- different, have one digest.
+pub record IsHighestClash (dig : List ℕ → List ℕ) (k : Facts) (c : Claim) (layer i : ℕ)
+    (ours theirs : List ℕ) : Type 0 where
   pub differs : DiffersBelow dig k c layer i ours theirs
   pub inputs : ours ≢ theirs
   pub digests : dig ours ≡ dig theirs
-  pub highest : (l j : ℕ) (o t : List ℕ) → DiffersBelow dig k c l j o t → (l < layer) ⊎ ((l ≡ layer) × (i ≤ j))
+  pub highest : (l j : ℕ) (o t : List ℕ) → DiffersBelow dig k c l j o t
+      → (l < layer) ⊎ ((l ≡ layer) × (i ≤ j))
 
--- The first condition that fails, in the order of `IsAcceptable`. Out of memory may come in place of all but the first.
+-- The first condition that fails, in the order of `IsAcceptable`. Out of memory may come in place of all but
+-- the first.
 pub data IsRefused (dig : List ℕ → List ℕ) (k : Facts) (c : Claim) : ProofError → Type 0 where
   shape : ¬ HasShape (height k) c → IsRefused dig k c Shape
   padding : HasShape (height k) c → ¬ HasPadding dig k c → IsRefused dig k c Padding

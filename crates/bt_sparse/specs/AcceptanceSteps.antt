@@ -5,11 +5,14 @@ use Rattle.std.specs.List.{All, Contains}
 use Rattle.bt_tree.specs.Limits.{max_block_count, max_height}
 use Rattle.bt_tree.specs.TreeShape.{real_width}
 use Rattle.bt_tree.specs.Tree.{padding_digest}
-use Rattle.bt_sparse.specs.NodeMap.{Nodes, digest_at, HasDigests}
-use Rattle.bt_sparse.specs.SparseTree.{Facts, value_at}
+use Rattle.bt_sparse.specs.NodeMap.{Nodes, digest_at, HasDigests, Layers, HasPlace}
+use Rattle.bt_sparse.specs.SparseTree.{Facts, height, value_at}
 use Rattle.bt_sparse.specs.Claim.{Claims}
+use Rattle.bt_sparse.specs.Acceptance.{IsAcceptable}
+use Rattle.bt_sparse.specs.ExpansionSteps.{IsExpansion}
 use Rattle.bt_sparse.specs.declared.claim.Claim.{Claim}
 use Rattle.bt_sparse.specs.declared.expansion.ClaimedPair.{ClaimedPair}
+use Rattle.bt_sparse.specs.declared.expansion.Expansion.{Expansion}
 use Rattle.bt_sparse.specs.declared.acceptance.Difference.{Difference}
 
 -- a tree of height h has the pair, below its root
@@ -40,13 +43,15 @@ abbrev pub IsNotHigher : ClaimedPair → ClaimedPair → Type 0
 IsNotHigher p f = (p.layer < f.layer) ⊎ ((p.layer ≡ f.layer) × (f.index ≤ p.index))
 
 -- of these pairs, the highest with a difference
-pub record IsHighestIn (dig : List ℕ → List ℕ) (k : Facts) (pairs : List ClaimedPair) (f : Difference) : Type 0 where
+pub record IsHighestIn (dig : List ℕ → List ℕ) (k : Facts) (pairs : List ClaimedPair)
+    (f : Difference) : Type 0 where
   pub among : Contains pairs f.pair
   pub differs : IsDifference dig k f
   pub highest : All (λ p. HasNoDifference dig k p ⊎ IsNotHigher p f.pair) pairs
 
 abbrev pub IsHighestOf : (List ℕ → List ℕ) → Facts → List ClaimedPair → Option Difference → Type 0
-IsHighestOf dig k pairs found = MatchOption found (All (HasNoDifference dig k) pairs) (IsHighestIn dig k pairs)
+IsHighestOf dig k pairs found =
+    MatchOption found (All (HasNoDifference dig k) pairs) (IsHighestIn dig k pairs)
 
 -- of two differences the higher one, and in one layer the one to the left
 abbrev pub higher_of : Option Difference → Option Difference → Option Difference
@@ -68,11 +73,13 @@ pub record IsPut (n layer i : ℕ) (d : List ℕ) (old new : Nodes) (count : ℕ
 -- the nodes of the pair that cover a block have its digests
 pub record IsAdded (n : ℕ) (nodes : Nodes) (p : ClaimedPair) : Type 0 where
   pub left : 2 * p.index < real_width n p.layer → digest_at nodes p.layer (2 * p.index) ≡ Some p.left
-  pub right : 2 * p.index + 1 < real_width n p.layer → digest_at nodes p.layer (2 * p.index + 1) ≡ Some p.right
+  pub right : 2 * p.index + 1 < real_width n p.layer
+      → digest_at nodes p.layer (2 * p.index + 1) ≡ Some p.right
 
 -- no claimed node is there with another digest
 abbrev pub AgreesAt : (List ℕ → List ℕ) → Nodes → Claim → Type 0
-AgreesAt dig nodes c = (layer i : ℕ) (d e : List ℕ) → Claims dig c layer i d → digest_at nodes layer i ≡ Some e → e ≡ d
+AgreesAt dig nodes c = (layer i : ℕ) (d e : List ℕ) → Claims dig c layer i d
+    → digest_at nodes layer i ≡ Some e → e ≡ d
 
 -- to what was there, claimed nodes were added that cover a block, this many of them new
 pub record IsGrown (dig : List ℕ → List ℕ) (c : Claim) (n : ℕ) (old new : Nodes) (count : ℕ) : Type 0 where
@@ -83,6 +90,19 @@ pub record IsGrown (dig : List ℕ → List ℕ) (c : Claim) (n : ℕ) (old new 
   pub size_is : finite.len new ≡ finite.len old + count
 
 -- and all of these pairs' nodes are there
-pub record IsGrownBy (dig : List ℕ → List ℕ) (c : Claim) (n : ℕ) (old new : Nodes) (count : ℕ) (pairs : List ClaimedPair) : Type 0 where
+pub record IsGrownBy (dig : List ℕ → List ℕ) (c : Claim) (n : ℕ) (old new : Nodes)
+    (count : ℕ) (pairs : List ClaimedPair) : Type 0 where
   pub grown : IsGrown dig c n old new count
   pub added : All (IsAdded n new) pairs
+
+-- the nodes of the pair that cover a block have their pages
+pub record HasPlaces (n : ℕ) (layers : Layers) (p : ClaimedPair) : Type 0 where
+  pub left : 2 * p.index < real_width n p.layer → HasPlace layers p.layer (2 * p.index)
+  pub right : 2 * p.index + 1 < real_width n p.layer → HasPlace layers p.layer (2 * p.index + 1)
+
+-- the tree can accept the claim, and this is what it names
+pub record IsChecked (dig : List ℕ → List ℕ) (k : Facts) (c : Claim) (e : Expansion) : Type 0 where
+  pub conditions : IsAcceptable dig k c
+  pub expansion : IsExpansion dig c e
+  pub inside : All (IsPairIn (height k)) e.pairs.items
+  pub narrow : length e.pairs.items < 2 ^ 28

@@ -1,5 +1,5 @@
--- What a claim says of the nodes of a tree (BEP 52, the message "hashes"): a run of nodes of one layer that lie below one
--- node, the run's top, and uncles, the siblings on the path from that node up.
+-- What a claim says of the nodes of a tree (BEP 52, the message "hashes"): a run of nodes of one layer that
+-- lie below one node, the run's top, and uncles, the siblings on the path from that node up.
 use Rattle.std.specs.Prelude.{◌≡◌, ℕ, zero, suc, ◌+◌, ◌-◌, ◌/◌, ◌%◌, ◌^◌, ◌<◌, ◌≤◌, ◌==◌, List, ◌++◌, length, slice_index_or, [], if◌then◌else◌}
 use Rattle.bt_tree.specs.TreeShape.{height_of}
 use Rattle.bt_tree.specs.Peaks.{row_node}
@@ -77,8 +77,8 @@ top_node c = path_node c (length c.uncles)
 abbrev pub top_digest : (List ℕ → List ℕ) → Claim → List ℕ
 top_digest dig c = path_digest dig c (length c.uncles)
 
--- Two nodes or more, a power of two of them that lie below one node, within a tree of height h; and the uncles are
--- within it too.
+-- Two nodes or more, a power of two of them that lie below one node, within a tree of height h; and the
+-- uncles are within it too.
 pub record HasShape (h : ℕ) (c : Claim) : Type 0 where
   pub some : 2 ≤ length c.run
   pub power : length c.run ≡ 2 ^ run_height c

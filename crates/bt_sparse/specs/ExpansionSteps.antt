@@ -1,5 +1,5 @@
 -- Private steps: the pairs of siblings that a claim names, which `accept` works on.
-use Rattle.std.specs.Prelude.{◌≡◌, ℕ, zero, suc, ◌+◌, ◌*◌, ◌/◌, ◌%◌, ◌^◌, ◌<◌, ◌≤◌, ◌==◌, List, [], ◌∷◌, ◌++◌, length, slice_index_or, if◌then◌else◌}
+use Rattle.std.specs.Prelude.{◌≡◌, ℕ, zero, suc, ◌+◌, ◌-◌, ◌*◌, ◌/◌, ◌%◌, ◌^◌, ◌<◌, ◌≤◌, ◌==◌, List, [], ◌∷◌, ◌++◌, length, slice_index_or, if◌then◌else◌}
 use Rattle.bt_tree.specs.Limits.{max_block_count, max_height}
 use Rattle.bt_tree.specs.Peaks.{row_node}
 use Rattle.bt_sparse.specs.Claim.{Claims, run_height, run_top, run_node, run_digest, path_node, path_digest, top_layer, top_node, top_digest}
@@ -7,17 +7,26 @@ use Rattle.bt_sparse.specs.declared.claim.Claim.{Claim}
 use Rattle.bt_sparse.specs.declared.expansion.ClaimedPair.{ClaimedPair}
 use Rattle.bt_sparse.specs.declared.expansion.Expansion.{Expansion}
 
--- the pairs below a node this many layers above the run
-unfoldable pub run_pairs : (List ℕ → List ℕ) → Claim → ℕ → ℕ → List ClaimedPair
-run_pairs dig c zero node = []
-run_pairs dig c (suc above) node =
-    run_pairs dig c above (2 * node) ++ run_pairs dig c above (2 * node + 1)
-    ++ record {
-      layer = c.base + above;
-      index = node;
-      left = row_node dig (run_digest c) above (2 * node);
-      right = row_node dig (run_digest c) above (2 * node + 1);
-    } ∷ []
+-- two siblings so many layers above the run, below node i of the next layer
+abbrev pub run_pair : (List ℕ → List ℕ) → Claim → ℕ → ℕ → ClaimedPair
+run_pair dig c above i = record {
+  layer = c.base + above;
+  index = i;
+  left = row_node dig (run_digest c) above (2 * i);
+  right = row_node dig (run_digest c) above (2 * i + 1);
+}
+
+-- so many of them, from the left
+unfoldable pub level_pairs : (List ℕ → List ℕ) → Claim → ℕ → ℕ → ℕ → List ClaimedPair
+level_pairs dig c above first zero = []
+level_pairs dig c above first (suc n) =
+    level_pairs dig c above first n ++ run_pair dig c above (first + n) ∷ []
+
+-- in the layers from the run's own up, all that lie below the run's top
+unfoldable pub run_pairs : (List ℕ → List ℕ) → Claim → ℕ → List ClaimedPair
+run_pairs dig c zero = []
+run_pairs dig c (suc above) = run_pairs dig c above
+    ++ level_pairs dig c above (run_node c * 2 ^ (run_height c - suc above)) (2 ^ (run_height c - suc above))
 
 -- a node of the path and its uncle
 abbrev pub path_pair : (List ℕ → List ℕ) → Claim → ℕ → ClaimedPair
@@ -36,14 +45,26 @@ path_pairs dig c zero = []
 path_pairs dig c (suc above) = path_pairs dig c above ++ path_pair dig c above ∷ []
 
 abbrev pub claimed_pairs : (List ℕ → List ℕ) → Claim → List ClaimedPair
-claimed_pairs dig c = run_pairs dig c (run_height c) (run_node c) ++ path_pairs dig c (length c.uncles)
+claimed_pairs dig c = run_pairs dig c (run_height c) ++ path_pairs dig c (length c.uncles)
 
--- the node lies at or below the run's top, and its numbers are small
-pub record IsUnderRun (c : Claim) (above node : ℕ) : Type 0 where
-  pub from : c.index ≤ node * 2 ^ above
-  pub to : (node + 1) * 2 ^ above ≤ c.index + length c.run
+-- nodes of a layer so many layers above the run, from an index on
+abbrev pub AreRunNodes : (List ℕ → List ℕ) → Claim → ℕ → ℕ → List (List ℕ) → Type 0
+AreRunNodes dig c above first nodes =
+    (i : ℕ) → i < length nodes → slice_index_or nodes i [] ≡ row_node dig (run_digest c) above (first + i)
+
+-- the first digests of pairs of nodes
+pub record AreParents (dig : List ℕ → List ℕ) (nodes above : List (List ℕ)) (count : ℕ) : Type 0 where
+  pub size : length above ≡ count
+  pub digests : (i : ℕ) → i < count → slice_index_or above i []
+      ≡ dig (slice_index_or nodes (2 * i) [] ++ slice_index_or nodes (2 * i + 1) [])
+
+-- a run of a power of two that begins at a multiple of it, in a tree of the height that is allowed
+pub record IsShort (c : Claim) : Type 0 where
+  pub some : 1 ≤ run_height c
+  pub power : length c.run ≡ 2 ^ run_height c
+  pub start : c.index ≡ run_node c * 2 ^ run_height c
   pub narrow : c.index + length c.run ≤ max_block_count
-  pub low : c.base + above ≤ max_height
+  pub low : c.base + run_height c ≤ max_height
 
 -- all of them, and the top
 pub record IsExpansion (dig : List ℕ → List ℕ) (c : Claim) (e : Expansion) : Type 0 where

@@ -15,25 +15,31 @@ KeepsRooted dig = (old new : Facts) (c : Claim) → Accepts dig old c new → Is
 -- every held node of a rooted tree is checked
 abbrev pub HeldIsChecked : (List ℕ → List ℕ) → Type 0
 HeldIsChecked dig =
-    (k : Facts) → IsRooted dig k → (layer i : ℕ) (d : List ℕ) → held_at k layer i ≡ Some d → IsChecked dig k layer i d
+    (k : Facts) → IsRooted dig k → (layer i : ℕ) (d : List ℕ) → held_at k layer i ≡ Some d
+    → IsChecked dig k layer i d
 
 -- a claim says one digest of a node
 abbrev pub ClaimsOne : (List ℕ → List ℕ) → Type 0
-ClaimsOne dig = (c : Claim) (layer i : ℕ) (d e : List ℕ) → Claims dig c layer i d → Claims dig c layer i e → d ≡ e
+ClaimsOne dig = (c : Claim) (layer i : ℕ) (d e : List ℕ)
+    → Claims dig c layer i d → Claims dig c layer i e → d ≡ e
 
--- of every node that a claim made of a rooted tree's values names, the tree has the digest that the claim says
+-- of every node that a claim made of a rooted tree's values names, the tree has the digest that the claim
+-- says
 abbrev pub AnswersAgree : (List ℕ → List ℕ) → Type 0
 AnswersAgree dig = (k : Facts) (c : Claim) → IsRooted dig k → HasShape (height k) c → IsMadeOf dig k c
     → (layer i : ℕ) (d : List ℕ) → Claims dig c layer i d → value_at dig k layer i ≡ Some d
 
--- What a rooted tree answers, made a claim, is acceptable to every rooted tree of the same file length and root that holds
--- the claim's top and no node of it with another digest.
+-- What a rooted tree answers, made a claim, is acceptable to every rooted tree of the same file length and
+-- root that holds the claim's top and no node of it with another digest.
 abbrev pub AnswersAreTaken : (List ℕ → List ℕ) → Type 0
-AnswersAreTaken dig = (k other : Facts) (base index count layers : ℕ) (digests : List (List ℕ)) → IsRooted dig k
+AnswersAreTaken dig = (k other : Facts) (base index count layers : ℕ) (digests : List (List ℕ))
+    → IsRooted dig k
     → IsRequest (height k) base index count layers → IsAnswer dig k base index count layers digests
     → other.file_length ≡ k.file_length
-    → IsSome (held_at other (top_layer (claim_of base index count digests)) (top_node (claim_of base index count digests)))
-    → Agrees dig other (claim_of base index count digests) → IsAcceptable dig other (claim_of base index count digests)
+    → IsSome (held_at other (top_layer (claim_of base index count digests))
+    (top_node (claim_of base index count digests)))
+    → Agrees dig other (claim_of base index count digests)
+    → IsAcceptable dig other (claim_of base index count digests)
 
 -- and one that knows the root alone accepts it, where the uncles reach up to the root
 abbrev pub AnswersReachRoots : (List ℕ → List ℕ) → Type 0
@@ -42,7 +48,8 @@ AnswersReachRoots dig = (k : Facts) (base index count layers : ℕ) (digests : L
     → top_layer (claim_of base index count digests) ≡ height k
     → IsAcceptable dig (root_facts k.file_length k.root) (claim_of base index count digests)
 
--- At a node on the path from leaf i up, the tree's two digests below it are another input than the file's, of one digest.
+-- At a node on the path from leaf i up, the tree's two digests below it are another input than the file's, of
+-- one digest.
 pub record IsClashOnPath (dig : List ℕ → List ℕ) (k : Facts) (file : List ℕ) (i : ℕ) : Type 0 where
   pub layer : ℕ
   pub left : List ℕ
@@ -53,7 +60,8 @@ pub record IsClashOnPath (dig : List ℕ → List ℕ) (k : Facts) (file : List 
   pub inputs : left ++ right ≢ input_at dig file (layer + 1) (i / 2 ^ (layer + 1))
   pub digests : dig (left ++ right) ≡ dig (input_at dig file (layer + 1) (i / 2 ^ (layer + 1)))
 
--- For every file of the tree's length and root, a leaf that the tree holds is the file's, or a clash is found.
+-- For every file of the tree's length and root, a leaf that the tree holds is the file's, or a clash is
+-- found.
 abbrev pub LeavesAreFiles : (List ℕ → List ℕ) → Type 0
 LeavesAreFiles dig = (k : Facts) (file : List ℕ) (i : ℕ) (d : List ℕ) → IsRooted dig k → HasDigests k.nodes
     → length file ≡ k.file_length → file_root dig file ≡ k.root → held_at k 0 i ≡ Some d

@@ -15,11 +15,15 @@ layer_digest dig n layer bytes i =
     then slice_index_or (first_chunks 32 (real_width n layer) bytes) i []
     else padding_digest dig layer
 
--- The bytes are a layer of the tree, and just the nodes of this layer and of those above are held that cover a block.
-pub record HoldsLayer (dig : List ℕ → List ℕ) (file_length : ℕ) (root : List ℕ) (layer : ℕ) (bytes : List ℕ) (k : Facts) : Type 0 where
+-- The bytes are a layer of the tree, and just the nodes of this layer and of those above are held that cover
+-- a block.
+pub record HoldsLayer (dig : List ℕ → List ℕ) (file_length : ℕ) (root : List ℕ)
+    (layer : ℕ) (bytes : List ℕ) (k : Facts) : Type 0 where
   pub length_is : k.file_length ≡ file_length
   pub root_is : k.root ≡ root
   pub is_layer : IsLayer dig (block_count file_length) root layer bytes
   pub holds : (l i : ℕ) → layer ≤ l → CoversBlock (block_count file_length) l i
-      → held_at k l i ≡ Some (row_node dig (layer_digest dig (block_count file_length) layer bytes) (l - layer) i)
-  pub only : (l i : ℕ) (d : List ℕ) → held_at k l i ≡ Some d → (layer ≤ l) × CoversBlock (block_count file_length) l i
+      → held_at k l i
+      ≡ Some (row_node dig (layer_digest dig (block_count file_length) layer bytes) (l - layer) i)
+  pub only : (l i : ℕ) (d : List ℕ) → held_at k l i ≡ Some d
+      → (layer ≤ l) × CoversBlock (block_count file_length) l i

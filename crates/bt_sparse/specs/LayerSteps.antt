@@ -5,9 +5,10 @@ use Rattle.bt_tree.specs.Tree.{padding_digest}
 use Rattle.bt_tree.specs.Peaks.{row_node}
 use Rattle.bt_sparse.specs.NodeMap.{Nodes, digest_at, HasDigests}
 
--- Just these nodes are there: of the layers from `base` up those that cover a block, below layer `top` all of them, and in
--- that layer the first `width`.
-pub record IsFilled (dig : List ℕ → List ℕ) (n : ℕ) (row : ℕ → List ℕ) (base top width : ℕ) (nodes : Nodes) : Type 0 where
+-- Just these nodes are there: of the layers from `base` up those that cover a block, below layer `top` all of
+-- them, and in that layer the first `width`.
+pub record IsFilled (dig : List ℕ → List ℕ) (n : ℕ) (row : ℕ → List ℕ)
+    (base top width : ℕ) (nodes : Nodes) : Type 0 where
   pub past : (i : ℕ) → real_width n base ≤ i → row i ≡ padding_digest dig base
   pub low : base ≤ top
   pub holds : (l i : ℕ) → base ≤ l → (l < top) ⊎ ((l ≡ top) × (i < width)) → i < real_width n l

@@ -1,3 +1,4 @@
+pub mod Page
 pub mod NodeMap
 pub mod SparseTree
 pub mod Claim

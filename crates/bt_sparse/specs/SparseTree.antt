@@ -15,7 +15,8 @@ pub record Facts : Type 0 where
 
 abbrev pub facts_code : Coded Facts
 facts_code = code_by (ℕ × (List ℕ × Nodes)) (coded× coded_ℕ (coded× (coded_list coded_ℕ) nodes_code))
-    (λ k. (k.file_length, (k.root, k.nodes))) (λ p. record { file_length = p.0; root = p.1.0; nodes = p.1.1 }) (λ _. refl)
+    (λ k. (k.file_length, (k.root, k.nodes)))
+    (λ p. record { file_length = p.0; root = p.1.0; nodes = p.1.1 }) (λ _. refl)
 
 abbrev pub blocks_of : Facts → ℕ
 blocks_of k = block_count k.file_length
@@ -27,17 +28,24 @@ height k = height_of (blocks_of k)
 abbrev pub held_at : Facts → ℕ → ℕ → Option (List ℕ)
 held_at k layer i = digest_at k.nodes layer i
 
--- what is known of a node: the padding digest where it covers no block, else what is held; nothing outside the tree
+-- what is known of a node: the padding digest where it covers no block, else what is held; nothing outside
+-- the tree
 unfoldable pub value_at : (List ℕ → List ℕ) → Facts → ℕ → ℕ → Option (List ℕ)
 value_at dig k layer i =
     if nat_le layer (height k) && nat_lt i (2 ^ (height k - layer))
-    then (if nat_lt i (real_width (blocks_of k) layer) then held_at k layer i else Some (padding_digest dig layer))
+    then (if nat_lt i (real_width (blocks_of k) layer)
+    then held_at k layer i
+    else Some (padding_digest dig layer))
     else None
 
 -- the root alone is held
 abbrev pub root_facts : ℕ → List ℕ → Facts
 root_facts bytes root =
-    record { file_length = bytes; root = root; nodes = finite.insert finite.empty (height_of (block_count bytes), 0) root }
+    record {
+      file_length = bytes;
+      root = root;
+      nodes = finite.insert finite.empty (height_of (block_count bytes), 0) root;
+    }
 
 -- Both children of node i of the layer above have a value, and that node is held with their digest.
 pub record HasParent (dig : List ℕ → List ℕ) (k : Facts) (layer i : ℕ) : Type 0 where
@@ -47,14 +55,16 @@ pub record HasParent (dig : List ℕ → List ℕ) (k : Facts) (layer i : ℕ) :
   pub right_value : value_at dig k layer (2 * i + 1) ≡ Some right
   pub parent : held_at k (layer + 1) i ≡ Some (dig (left ++ right))
 
--- The root is held, and each other held node has a sibling with a value and a held parent with the digest of the two.
+-- The root is held, and each other held node has a sibling with a value and a held parent with the digest of
+-- the two.
 pub record IsRooted (dig : List ℕ → List ℕ) (k : Facts) : Type 0 where
   pub top : held_at k (height k) 0 ≡ Some k.root
   pub covers : (layer i : ℕ) (d : List ℕ) → held_at k layer i ≡ Some d → CoversBlock (blocks_of k) layer i
-  pub below : (layer i : ℕ) (d : List ℕ) → held_at k layer i ≡ Some d → layer < height k → HasParent dig k layer (i / 2)
+  pub below : (layer i : ℕ) (d : List ℕ) → held_at k layer i ≡ Some d → layer < height k
+      → HasParent dig k layer (i / 2)
 
--- The digest is known at the node, and the node is the root, or its sibling has a value and their parent is checked with
--- the digest of the two.
+-- The digest is known at the node, and the node is the root, or its sibling has a value and their parent is
+-- checked with the digest of the two.
 pub data IsChecked (dig : List ℕ → List ℕ) (k : Facts) : ℕ → ℕ → List ℕ → Type 0 where
   at_root : held_at k (height k) 0 ≡ Some k.root → IsChecked dig k (height k) 0 k.root
   on_path : (layer i : ℕ) (left right d : List ℕ) → value_at dig k layer i ≡ Some d

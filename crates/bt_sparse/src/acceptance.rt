@@ -1,17 +1,18 @@
-ghost use Rattle.std.specs.Prelude.{◌≡◌, ℕ, ◌+◌, ◌*◌, ◌<◌, ◌≤◌, ◌↔◌, ◌++◌, List, [], ◌^◌, IsTrue, IfOk, IfErr, IfSome, OnErr, MatchOption, length, slice_index_or};
+ghost use Rattle.std.specs.Prelude.{◌≡◌, ℕ, ◌+◌, ◌*◌, ◌<◌, ◌≤◌, ◌↔◌, ◌++◌, List, [], ◌^◌, IsTrue, IfOk, IfErr, IfSome, OnErr, OnOk, MatchOption, length, slice_index_or};
 ghost use Rattle.std.specs.List.{All};
 ghost use Rattle.std.specs.FinMap as finite;
 ghost use Rattle.bt_tree.specs.Limits.{max_block_count, max_height};
 ghost use Rattle.bt_tree.specs.Blocks.{block_count};
-ghost use Rattle.bt_tree.specs.TreeShape.{height_of};
+ghost use Rattle.bt_tree.specs.TreeShape.{height_of, real_width};
+ghost use Rattle.bt_sparse.specs.NodeMap.{nodes_in, HasPlace, KeepsPlaces};
 ghost use Rattle.bt_tree.specs.Tree.{padding_digest};
 ghost use Rattle.bt_sparse.specs.SparseTree.{blocks_of, height, IsRooted};
 ghost use Rattle.bt_sparse.specs.Acceptance.{Accepts, IsRefused};
 ghost use Rattle.bt_sparse.specs.ExpansionSteps.{IsPairOf};
-ghost use Rattle.bt_sparse.specs.AcceptanceSteps.{IsPairIn, IsPadded, HasNoDifference, IsDifference, higher_of, IsHighestOf, IsPut, AgreesAt, IsGrownBy};
+ghost use Rattle.bt_sparse.specs.AcceptanceSteps.{IsPairIn, IsPadded, HasNoDifference, IsDifference, higher_of, IsHighestOf, IsPut, AgreesAt, IsGrownBy, IsChecked, HasPlaces};
 
 use crate::claim::{Claim, ProofError};
-use crate::expansion::{ClaimedPair, expand, has_shape};
+use crate::expansion::{ClaimedPair, Expansion, expand, has_shape, input};
 use crate::node_map::NodeMap;
 use crate::sparse_tree::SparseTree;
 use bt_tree::{Geometry, Hash32, NodeHash};
@@ -36,18 +37,6 @@ pub(crate) fn padding_digests<H: NodeHash>(hash: H, height: u8) -> [Hash32; 27]
         digests[layer + 1] = hash.pair(&below, &below);
     }
     digests
-}
-
-/// The 64 bytes of two digests.
-fn input(left: &Hash32, right: &Hash32) -> [u8; 64]
-    ensures value { result ≡ left.now ++ right.now }
-    ensures left { length left.now ≡ 32 }
-    ensures right { length right.now ≡ 32 }
-{
-    let mut bytes = [0; 64];
-    bytes[..32].copy_from_slice(&left[..]);
-    bytes[32..].copy_from_slice(&right[..]);
-    bytes
 }
 
 impl ClaimedPair {
@@ -80,13 +69,30 @@ fn higher(found: Option<Difference>, next: Option<Difference>) -> Option<Differe
 impl<H: NodeHash> SparseTree<H> {
     /// Takes a claim, and answers how many nodes are newly held. A refusal leaves the tree as it was.
     ///
-    /// The refusals are P1, P3, P4, P5 and P6 of `ProofError`, in this order, and P7, which may come in place of any but
-    /// P1.
+    /// The refusals are P1, P3, P4, P5 and P6 of `ProofError`, in this order, and P7, which may come in place
+    /// of any but P1.
     pub fn accept(&mut self, claim: &Claim) -> Result<u32, ProofError>
         ensures ok { IfOk result (λ _. Accepts H.digest self.old claim.now self.new) }
         ensures count { IfOk result (λ count. finite.len self.new.nodes ≡ finite.len self.old.nodes + count) }
         ensures refused { IfErr result (IsRefused H.digest self.old claim.now) }
         ensures unchanged { OnErr result (self.new ≡ self.old) }
+    {
+        let expansion = match self.check(claim) {
+            Ok(expansion) => expansion,
+            Err(error) => return Err(error),
+        };
+        let pairs = expansion.pairs.as_slice();
+        // All pages before the first digest, so that want of memory leaves the facts as they were.
+        if make_pages(self.geometry, &mut self.nodes, pairs).is_err() {
+            return Err(ProofError::OutOfMemory);
+        }
+        Ok(put_pairs(self.hash, self.geometry, &mut self.nodes, pairs))
+    }
+
+    /// What a claim names, where the tree can accept it.
+    fn check(&self, claim: &Claim) -> Result<Expansion, ProofError>
+        ensures ok { IfOk result (IsChecked H.digest self.now claim.now) }
+        ensures refused { IfErr result (IsRefused H.digest self.now claim.now) }
     {
         let height = self.geometry.height();
         if !has_shape(height, claim) {
@@ -113,11 +119,7 @@ impl<H: NodeHash> SparseTree<H> {
                 theirs: input(&found.pair.left, &found.pair.right),
             });
         }
-        let Ok((nodes, count)) = with_pairs(self.hash, self.geometry, &self.nodes, pairs) else {
-            return Err(ProofError::OutOfMemory);
-        };
-        self.nodes = nodes;
-        Ok(count)
+        Ok(expansion)
     }
 
     /// The highest of these pairs of which the tree knows another digest, and in one layer the leftmost.
@@ -140,7 +142,8 @@ impl<H: NodeHash> SparseTree<H> {
         requires padded { IsPadded H.digest (blocks_of self.now) pair.now }
         requires rooted { IsRooted H.digest self.now }
         ensures pair { IfSome result (λ difference. difference.pair ≡ pair.now) }
-        ensures differs { MatchOption result (HasNoDifference H.digest self.now pair.now) (IsDifference H.digest self.now) }
+        ensures differs { MatchOption result (HasNoDifference H.digest self.now pair.now)
+            (IsDifference H.digest self.now) }
     {
         // In a rooted tree a held node's sibling is held too, or is padding; and the padding was compared.
         let left = self.held(pair.layer, 2 * pair.index)?;
@@ -173,48 +176,59 @@ fn are_padded<H: NodeHash>(hash: H, geometry: Geometry, pairs: &[ClaimedPair]) -
     true
 }
 
-/// These digests, with those of these pairs' nodes that cover a block, and how many of these are new.
-fn with_pairs<H: NodeHash>(
+/// Makes the pages of these pairs' nodes that cover a block.
+fn make_pages(
+    geometry: Geometry,
+    nodes: &mut NodeMap,
+    pairs: &[ClaimedPair],
+) -> Result<(), AllocError>
+    requires { All (IsPairIn (height_of (block_count geometry))) pairs.now }
+    ensures nodes { nodes_in nodes.new ≡ nodes_in nodes.old }
+    ensures ready { OnOk result (All (HasPlaces (block_count geometry) nodes.new) pairs.now) }
+{
+    for pair in pairs {
+        let width = geometry.real(pair.layer as u8);
+        if 2 * pair.index < width {
+            nodes.reach(pair.layer, 2 * pair.index, width)?;
+        }
+    }
+    Ok(())
+}
+
+/// Puts the digests of these pairs' nodes that cover a block, and answers how many of these nodes are new.
+/// Their pages are made.
+fn put_pairs<H: NodeHash>(
     _hash: H,
     geometry: Geometry,
-    held: &NodeMap,
+    nodes: &mut NodeMap,
     pairs: &[ClaimedPair],
-) -> Result<(NodeMap, u32), AllocError>
+) -> u32
     requires inside { All (IsPairIn (height_of (block_count geometry))) pairs.now }
     requires narrow { length pairs.now < 2 ^ 28 }
-    ensures { IfOk result (λ grown. (c : Claim) → All (IsPairOf H.digest c) pairs.now → AgreesAt H.digest held.now c
-        → IsGrownBy H.digest c (block_count geometry) held.now grown.0 grown.1 pairs.now) }
+    requires ready { All (HasPlaces (block_count geometry) nodes.old) pairs.now }
+    ensures { (c : Claim) → All (IsPairOf H.digest c) pairs.now → AgreesAt H.digest (nodes_in nodes.old) c
+        → IsGrownBy H.digest c (block_count geometry) (nodes_in nodes.old) (nodes_in nodes.new) result
+        pairs.now }
 {
-    let mut nodes = held.copy()?;
     let mut count = 0;
     for pair in pairs {
-        count += put(geometry, &mut nodes, pair.layer, 2 * pair.index, &pair.left)?;
-        count += put(
-            geometry,
-            &mut nodes,
-            pair.layer,
-            2 * pair.index + 1,
-            &pair.right,
-        )?;
+        count += put(geometry, nodes, pair.layer, 2 * pair.index, &pair.left);
+        count += put(geometry, nodes, pair.layer, 2 * pair.index + 1, &pair.right);
     }
-    Ok((nodes, count))
+    count
 }
 
 /// Puts a digest at a node where that covers a block. The answer is how many nodes are new: 1 or 0.
-fn put(
-    geometry: Geometry,
-    nodes: &mut NodeMap,
-    layer: u32,
-    index: u32,
-    digest: &Hash32,
-) -> Result<u32, AllocError>
+fn put(geometry: Geometry, nodes: &mut NodeMap, layer: u32, index: u32, digest: &Hash32) -> u32
     requires inside { layer ≤ height_of (block_count geometry) }
     requires high { layer ≤ max_height }
-    ensures { IfOk result (IsPut (block_count geometry) layer index digest.now nodes.old nodes.new) }
+    requires ready { index < real_width (block_count geometry) layer → HasPlace nodes.old layer index }
+    ensures put { IsPut (block_count geometry) layer index digest.now (nodes_in nodes.old)
+        (nodes_in nodes.new) result }
+    ensures longer { KeepsPlaces nodes.old nodes.new }
 {
     if index >= geometry.real(layer as u8) {
-        return Ok(0);
+        return 0;
     }
-    let is_new = nodes.insert(layer, index, *digest)?;
-    Ok(u32::from(is_new))
+    u32::from(nodes.put(layer, index, *digest))
 }

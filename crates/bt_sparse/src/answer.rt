@@ -87,8 +87,8 @@ impl Request {
 }
 
 impl<H: NodeHash> SparseTree<H> {
-    /// The digests that answer a hash request (BEP 52): a run of `length` nodes of layer `base` from `index` on, then the
-    /// uncles from the lowest layer up, one for each of the proof layers above the run's own.
+    /// The digests that answer a hash request (BEP 52): a run of `length` nodes of layer `base` from `index`
+    /// on, then the uncles from the lowest layer up, one for each of the proof layers above the run's own.
     pub fn answer(
         &self,
         base: u32,
@@ -96,10 +96,13 @@ impl<H: NodeHash> SparseTree<H> {
         length: u32,
         layers: u32,
     ) -> Result<Vec<Hash32>, AnswerError>
-        ensures ok { IfOk result (λ digests. IsAnswer H.digest self.now base index length layers digests.items) }
-        ensures shape { (result ≡ Err AnswerError.Shape) ↔ (¬ IsRequest (height self.now) base index length layers) }
+        ensures ok { IfOk result (λ digests.
+            IsAnswer H.digest self.now base index length layers digests.items) }
+        ensures shape { (result ≡ Err AnswerError.Shape)
+            ↔ (¬ IsRequest (height self.now) base index length layers) }
         ensures unknown { (result ≡ Err AnswerError.Unknown)
-            ↔ (IsRequest (height self.now) base index length layers × HasUnknown H.digest self.now base index length layers) }
+            ↔ (IsRequest (height self.now) base index length layers
+            × HasUnknown H.digest self.now base index length layers) }
     {
         let request = Request {
             height: self.geometry.height(),
@@ -128,8 +131,10 @@ impl<H: NodeHash> SparseTree<H> {
         requires height { request.height ≡ height self.now }
         requires high { request.height ≤ max_height }
         requires sound { IsSound H.digest self.now }
-        ensures yes { OnTrue result (KnowsAll H.digest self.now request.base request.index request.length request.layers) }
-        ensures no { OnFalse result (HasUnknown H.digest self.now request.base request.index request.length request.layers) }
+        ensures yes { OnTrue result
+            (KnowsAll H.digest self.now request.base request.index request.length request.layers) }
+        ensures no { OnFalse result
+            (HasUnknown H.digest self.now request.base request.index request.length request.layers) }
     {
         for t in 0..request.size() {
             let (layer, index) = request.node(t);
@@ -160,7 +165,8 @@ impl<H: NodeHash> SparseTree<H> {
         requires sound { IsSound H.digest self.now }
         requires known { KnowsAll H.digest self.now request.base request.index request.length request.layers }
         ensures { IfOk result (λ digests.
-            IsAnswer H.digest self.now request.base request.index request.length request.layers digests.items) }
+            IsAnswer H.digest self.now request.base request.index request.length request.layers
+            digests.items) }
     {
         let padding = padding_digests(self.hash, request.height);
         let size = request.size();

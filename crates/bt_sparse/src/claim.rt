@@ -39,9 +39,9 @@ impl Digests {
     }
 }
 
-/// What a peer claims of a tree (BEP 52, the message "hashes"): the digests of a run of nodes of layer `base`, from
-/// `index` on, and those of the uncles, from the lowest layer up. The first uncle lies in the layer of the one node that
-/// the run lies below.
+/// What a peer claims of a tree (BEP 52, the message "hashes"): the digests of a run of nodes of layer
+/// `base`, from `index` on, and those of the uncles, from the lowest layer up. The first uncle lies in the
+/// layer of the one node that the run lies below.
 #[derive(Debug, Drop)]
 pub struct Claim {
     pub base: u32,
@@ -53,8 +53,8 @@ pub struct Claim {
 /// Why a proof is refused. Of the first seven that apply, the first is told.
 #[derive(Clone, Copy, Debug, PartialEq, Eq, Error)]
 pub enum ProofError {
-    /// P1: The run is no power of two of nodes from 2 up, or does not begin at a multiple of it; or the run or the uncles
-    /// lie outside the tree.
+    /// P1: The run is no power of two of nodes from 2 up, or does not begin at a multiple of it; or the run
+    /// or the uncles lie outside the tree.
     #[error("P1 Shape")]
     Shape,
     /// P2: The digests are not as many as their key asks for. `accept` never answers this.
@@ -69,9 +69,9 @@ pub enum ProofError {
     /// P5: That node is held with another digest.
     #[error("P5 TopDiffers")]
     TopDiffers,
-    /// P6: Below this node, the tree and the claim have different digests: `ours` and `theirs` are the 64 bytes of the two
-    /// children, and have one digest. Of all such nodes this is the nearest to the root, and of several in one layer the
-    /// leftmost.
+    /// P6: Below this node, the tree and the claim have different digests: `ours` and `theirs` are the 64
+    /// bytes of the two children, and have one digest. Of all such nodes this is the nearest to the root, and
+    /// of several in one layer the leftmost.
     #[error("P6 Clash")]
     Clash {
         layer: u32,

@@ -1,9 +1,9 @@
-ghost use Rattle.std.specs.Prelude.{◌≡◌, ◌+◌, ◌%◌, ◌++◌, ◌<◌, ◌≤◌, ◌==◌, ◌↔◌, if◌then◌else◌, IsTrue, IfOk, OnOk, length};
+ghost use Rattle.std.specs.Prelude.{◌≡◌, ℕ, List, [], slice_index_or, ◌*◌, ◌/◌, ◌+◌, ◌%◌, ◌++◌, ◌<◌, ◌≤◌, ◌==◌, ◌↔◌, if◌then◌else◌, IsTrue, IfOk, OnOk, length};
 ghost use Rattle.bt_tree.specs.Limits.{max_block_count, max_height};
 ghost use Rattle.bt_tree.specs.TreeShape.{height_of};
 ghost use Rattle.bt_tree.specs.Peaks.{row_node};
 ghost use Rattle.bt_sparse.specs.Claim.{run_digest, run_height, run_node, path_node, path_digest, HasShape};
-ghost use Rattle.bt_sparse.specs.ExpansionSteps.{run_pairs, path_pairs, claimed_pairs, IsUnderRun, IsExpansion};
+ghost use Rattle.bt_sparse.specs.ExpansionSteps.{level_pairs, run_pairs, path_pairs, AreRunNodes, AreParents, IsShort, IsExpansion};
 
 use crate::claim::Claim;
 use bt_tree::{Hash32, NodeHash};
@@ -73,7 +73,7 @@ pub(crate) fn expand<H: NodeHash>(
     let layers = layers_above(count as u32);
     let node = claim.index >> layers;
     let mut pairs = Vec::with_capacity(alloc, count - 1 + uncles.len())?;
-    let digest = add_run(hash, &mut pairs, claim, layers, node)?;
+    let digest = add_run(hash, alloc, &mut pairs, claim, layers)?;
     let top_digest = add_path(hash, &mut pairs, claim, layers, digest)?;
     Ok(Expansion {
         pairs,
@@ -83,33 +83,112 @@ pub(crate) fn expand<H: NodeHash>(
     })
 }
 
-/// Adds the pairs below a node this many layers above the run. The answer is the node's digest.
+/// Adds the pairs below the run's top, which lies so many layers above the run, layer by layer. The answer is
+/// the top's digest.
 fn add_run<H: NodeHash>(
     hash: H,
+    alloc: Global,
     pairs: &mut Vec<ClaimedPair>,
     claim: &Claim,
-    above: u8,
-    node: u32,
+    layers: u8,
 ) -> Result<Hash32, AllocError>
-    requires { IsUnderRun claim.now above node }
-    ensures digest { IfOk result (λ digest. digest ≡ row_node H.digest (run_digest claim.now) above node) }
-    ensures pairs { OnOk result (pairs.new.items ≡ pairs.old.items ++ run_pairs H.digest claim.now above node) }
+    requires shape { IsShort claim.now }
+    requires layers { layers ≡ run_height claim.now }
+    ensures digest { IfOk result (λ digest.
+        digest ≡ row_node H.digest (run_digest claim.now) layers (run_node claim.now)) }
+    ensures pairs { OnOk result (pairs.new.items ≡ pairs.old.items ++ run_pairs H.digest claim.now layers) }
 {
-    if above == 0 {
-        return Ok(claim.run.as_slice()[(node - claim.index) as usize]);
+    let run = claim.run.as_slice();
+    let mut first = claim.index / 2;
+    add_level(pairs, claim.base, first, run)?;
+    let mut level = parents(hash, alloc, run)?;
+    for above in 1..layers {
+        first /= 2;
+        add_level(pairs, claim.base + above as u32, first, &level)?;
+        level = parents(hash, alloc, &level)?;
     }
-    let left = add_run(hash, pairs, claim, above - 1, 2 * node)?;
-    let right = add_run(hash, pairs, claim, above - 1, 2 * node + 1)?;
-    pairs.push(ClaimedPair {
-        layer: claim.base + (above - 1) as u32,
-        index: node,
-        left,
-        right,
-    })?;
-    Ok(hash.pair(&left, &right))
+    Ok(level[0])
 }
 
-/// Adds the pairs on the path from the run's top up, whose digest this is. The answer is the digest of the path's end.
+/// Adds the pairs that these nodes of a layer make, below the nodes from index `first` on of the next one.
+fn add_level(
+    pairs: &mut Vec<ClaimedPair>,
+    layer: u32,
+    first: u32,
+    level: &[Hash32],
+) -> Result<(), AllocError>
+    requires { first + length level.now ≤ 2 * max_block_count }
+    ensures { OnOk result ((dig : List ℕ → List ℕ) (c : Claim) (above : ℕ) → layer ≡ c.base + above
+        → AreRunNodes dig c above (2 * first) level.now
+        → pairs.new.items ≡ pairs.old.items ++ level_pairs dig c above first (length level.now / 2)) }
+{
+    for i in 0..level.len() / 2 {
+        pairs.push(ClaimedPair {
+            layer,
+            index: first + i as u32,
+            left: level[2 * i],
+            right: level[2 * i + 1],
+        })?;
+    }
+    Ok(())
+}
+
+/// The digests of pairs of digests, eight at a time where eight remain.
+fn parents<H: NodeHash>(hash: H, alloc: Global, nodes: &[Hash32]) -> Result<Vec<Hash32>, AllocError>
+    ensures { IfOk result (λ above. AreParents H.digest nodes.now above.items (length nodes.now / 2)) }
+{
+    let count = nodes.len() / 2;
+    let mut above = Vec::with_capacity(alloc, count)?;
+    add_eights(hash, &mut above, nodes)?;
+    for i in count / 8 * 8..count {
+        above.push(hash.pair(&nodes[2 * i], &nodes[2 * i + 1]))?;
+    }
+    Ok(above)
+}
+
+/// Adds the digests of the pairs in whole eights.
+fn add_eights<H: NodeHash>(
+    hash: H,
+    above: &mut Vec<Hash32>,
+    nodes: &[Hash32],
+) -> Result<(), AllocError>
+    requires { above.old.items ≡ [] }
+    ensures { OnOk result (AreParents H.digest nodes.now above.new.items (length nodes.now / 2 / 8 * 8)) }
+{
+    for eight in 0..nodes.len() / 2 / 8 {
+        let digests = hash.pairs8(&inputs(nodes, 8 * eight));
+        above.extend_from_slice(&digests)?;
+    }
+    Ok(())
+}
+
+/// The inputs of eight parents, from this one on.
+fn inputs(nodes: &[Hash32], first: usize) -> [[u8; 64]; 8]
+    requires { 2 * first + 16 ≤ length nodes.now }
+    ensures { (j : ℕ) → j < 8 → slice_index_or result j []
+        ≡ slice_index_or nodes.now (2 * (first + j)) [] ++ slice_index_or nodes.now (2 * (first + j) + 1) [] }
+{
+    let mut inputs = [[0; 64]; 8];
+    for j in 0..8usize {
+        inputs[j] = input(&nodes[2 * (first + j)], &nodes[2 * (first + j) + 1]);
+    }
+    inputs
+}
+
+/// The 64 bytes of two digests.
+pub(crate) fn input(left: &Hash32, right: &Hash32) -> [u8; 64]
+    ensures value { result ≡ left.now ++ right.now }
+    ensures left { length left.now ≡ 32 }
+    ensures right { length right.now ≡ 32 }
+{
+    let mut bytes = [0; 64];
+    bytes[..32].copy_from_slice(&left[..]);
+    bytes[32..].copy_from_slice(&right[..]);
+    bytes
+}
+
+/// Adds the pairs on the path from the run's top up, whose digest this is. The answer is the digest of the
+/// path's end.
 fn add_path<H: NodeHash>(
     hash: H,
     pairs: &mut Vec<ClaimedPair>,
@@ -121,7 +200,8 @@ fn add_path<H: NodeHash>(
     requires digest { digest ≡ path_digest H.digest claim.now 0 }
     requires high { claim.now.base + layers + length claim.now.uncles ≤ max_height }
     ensures digest { IfOk result (λ top. top ≡ path_digest H.digest claim.now (length claim.now.uncles)) }
-    ensures pairs { OnOk result (pairs.new.items ≡ pairs.old.items ++ path_pairs H.digest claim.now (length claim.now.uncles)) }
+    ensures pairs { OnOk result (pairs.new.items ≡ pairs.old.items
+        ++ path_pairs H.digest claim.now (length claim.now.uncles)) }
 {
     let mut own = digest;
     let mut node = claim.index >> layers;

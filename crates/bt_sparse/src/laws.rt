@@ -17,13 +17,14 @@ pub fn claims_one<H: NodeHash>(_hash: H)
     ensures { ClaimsOne H.digest }
 {}
 
-/// Of every node that a claim made of a rooted tree's values names, the tree has the digest that the claim says.
+/// Of every node that a claim made of a rooted tree's values names, the tree has the digest that the claim
+/// says.
 pub fn answers_agree<H: NodeHash>(_hash: H)
     ensures { AnswersAgree H.digest }
 {}
 
-/// What a rooted tree answers is acceptable to each rooted tree of the same file length that holds the claim's top and no
-/// node of it with another digest.
+/// What a rooted tree answers is acceptable to each rooted tree of the same file length that holds the
+/// claim's top and no node of it with another digest.
 pub fn answers_are_taken<H: NodeHash>(_hash: H)
     ensures { AnswersAreTaken H.digest }
 {}
@@ -33,8 +34,8 @@ pub fn answers_reach_roots<H: NodeHash>(_hash: H)
     ensures { AnswersReachRoots H.digest }
 {}
 
-/// For every file of a tree's length and root, a leaf that the tree holds is the file's, or at one node on the leaf's path
-/// the tree's two digests are another input than the file's, and have the same digest.
+/// For every file of a tree's length and root, a leaf that the tree holds is the file's, or at one node on
+/// the leaf's path the tree's two digests are another input than the file's, and have the same digest.
 pub fn leaves_are_files<H: NodeHash>(_hash: H)
     ensures { LeavesAreFiles H.digest }
 {}

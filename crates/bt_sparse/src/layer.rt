@@ -4,6 +4,7 @@ ghost use Rattle.bt_tree.specs.Blocks.{block_count};
 ghost use Rattle.bt_tree.specs.TreeShape.{height_of, real_width};
 ghost use Rattle.bt_tree.specs.Tree.{padding_digest};
 ghost use Rattle.bt_tree.specs.Layers.{IsLayer, HasLayerSize};
+ghost use Rattle.bt_sparse.specs.NodeMap.{nodes_in};
 ghost use Rattle.bt_sparse.specs.Layer.{HoldsLayer};
 ghost use Rattle.bt_sparse.specs.LayerSteps.{IsFilled, IsWhole};
 
@@ -13,8 +14,8 @@ use bt_tree::{Geometry, Hash32, LayerError, NodeHash, check_layer, pad};
 use std::alloc::{AllocError, Global};
 
 impl<H: NodeHash> SparseTree<H> {
-    /// The tree of a file of which a layer is known, and so all above it: `bytes` are the digests of the layer's nodes that
-    /// cover a block, 32 bytes each, as a torrent's `piece layers` have them (BEP 52).
+    /// The tree of a file of which a layer is known, and so all above it: `bytes` are the digests of the
+    /// layer's nodes that cover a block, 32 bytes each, as a torrent's `piece layers` have them (BEP 52).
     pub fn with_layer(
         alloc: Global,
         hash: H,
@@ -24,8 +25,10 @@ impl<H: NodeHash> SparseTree<H> {
         bytes: &[u8],
     ) -> Result<SparseTree<H>, LayerError>
         ensures ok { IfOk result (HoldsLayer H.digest geometry root layer bytes.now) }
-        ensures size { (result ≡ Err LayerError.Size) ↔ (¬ HasLayerSize (block_count geometry) layer bytes.now) }
-        ensures differs { (result ≡ Err LayerError.Differs) ↔ (HasLayerSize (block_count geometry) layer bytes.now
+        ensures size { (result ≡ Err LayerError.Size)
+            ↔ (¬ HasLayerSize (block_count geometry) layer bytes.now) }
+        ensures differs { (result ≡ Err LayerError.Differs)
+            ↔ (HasLayerSize (block_count geometry) layer bytes.now
             × (¬ IsLayer H.digest (block_count geometry) root layer bytes.now)) }
     {
         // A geometry's length is lawful: its clause says so.
@@ -61,7 +64,7 @@ fn nodes_from<H: NodeHash>(
     ensures { IfOk result (λ nodes. (row : ℕ → List ℕ)
         → ((i : ℕ) → i < length digests.now → row i ≡ slice_index_or digests.now i [])
         → ((i : ℕ) → length digests.now ≤ i → row i ≡ padding_digest H.digest layer)
-        → IsWhole H.digest (block_count geometry) row layer nodes) }
+        → IsWhole H.digest (block_count geometry) row layer (nodes_in nodes)) }
 {
     let mut nodes = NodeMap::new(alloc);
     add_layer(&mut nodes, layer, digests)?;
@@ -77,12 +80,15 @@ fn nodes_from<H: NodeHash>(
 /// Puts the first nodes of a layer.
 fn add_layer(nodes: &mut NodeMap, layer: u8, digests: &[Hash32]) -> Result<(), AllocError>
     requires { length digests.now ≤ max_block_count }
-    ensures { OnOk result ((dig : List ℕ → List ℕ) (n : ℕ) (row : ℕ → List ℕ) → length digests.now ≡ real_width n layer
+    ensures { OnOk result ((dig : List ℕ → List ℕ) (n : ℕ) (row : ℕ → List ℕ)
+        → length digests.now ≡ real_width n layer
         → ((i : ℕ) → i < length digests.now → row i ≡ slice_index_or digests.now i [])
-        → IsFilled dig n row layer layer 0 nodes.old → IsFilled dig n row layer layer (length digests.now) nodes.new) }
+        → IsFilled dig n row layer layer 0 (nodes_in nodes.old)
+        → IsFilled dig n row layer layer (length digests.now) (nodes_in nodes.new)) }
 {
+    let width = digests.len() as u32;
     for (index, digest) in digests.iter().enumerate() {
-        nodes.insert(layer as u32, index as u32, *digest)?;
+        nodes.insert(layer as u32, index as u32, width, *digest)?;
     }
     Ok(())
 }
@@ -98,13 +104,14 @@ fn add_parents<H: NodeHash>(
     requires high { below < max_height }
     requires narrow { width ≤ max_block_count }
     ensures { OnOk result ((n base : ℕ) (row : ℕ → List ℕ) → base ≤ below → width ≡ real_width n (below + 1)
-        → padding.now ≡ padding_digest H.digest below → IsFilled H.digest n row base (below + 1) 0 nodes.old
-        → IsFilled H.digest n row base (below + 1) width nodes.new) }
+        → padding.now ≡ padding_digest H.digest below
+        → IsFilled H.digest n row base (below + 1) 0 (nodes_in nodes.old)
+        → IsFilled H.digest n row base (below + 1) width (nodes_in nodes.new)) }
 {
     for index in 0..width {
         let left = nodes.get(below as u32, 2 * index).unwrap_or(*padding);
         let right = nodes.get(below as u32, 2 * index + 1).unwrap_or(*padding);
-        nodes.insert(below as u32 + 1, index, hash.pair(&left, &right))?;
+        nodes.insert(below as u32 + 1, index, width, hash.pair(&left, &right))?;
     }
     Ok(())
 }

@@ -1,9 +1,10 @@
 //! Hash trees of files (BEP 52) of which some nodes are known, and which grow by proofs.
 //!
-//! A tree begins with the pieces root, or with a layer whose digests give it. A *claim* is what a peer sends of a tree: a
-//! run of digests of one layer, and *uncles*, the siblings on the path from above the run up. It is accepted where it hangs
-//! from a node that the tree holds and says nothing else of any node that it holds. So every node that is held is checked:
-//! its digest and its sibling's give its parent's, and so on up to the root.
+//! A tree begins with the pieces root, or with a layer whose digests give it. A *claim* is what a peer sends
+//! of a tree: a run of digests of one layer, and *uncles*, the siblings on the path from above the run up. It
+//! is accepted where it hangs from a node that the tree holds and says nothing else of any node that it
+//! holds. So every node that is held is checked: its digest and its sibling's give its parent's, and so on up
+//! to the root.
 #![tactic(auto)]
 
 mod acceptance;
@@ -12,7 +13,9 @@ mod claim;
 mod expansion;
 mod laws;
 mod layer;
+mod layer_pages;
 mod node_map;
+mod page;
 mod sparse_tree;
 
 pub use answer::AnswerError;

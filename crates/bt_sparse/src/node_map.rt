@@ -1,66 +1,95 @@
-ghost use Rattle.std.specs.Prelude.{◌≡◌, None, IsTrue, IfOk, OnErr, OnOk, ◌↔◌};
+ghost use Rattle.std.specs.Prelude.{◌≡◌, ◌/◌, ◌<◌, ◌≤◌, ◌↔◌, ℕ, [], None, IsTrue, OnOk, length, slice_index_or};
 ghost use Rattle.std.specs.FinMap as finite;
-ghost use Rattle.bt_sparse.specs.NodeMap.{digest_at, node_cmp};
+ghost use Rattle.bt_sparse.specs.Page.{page_length};
+ghost use Rattle.bt_sparse.specs.NodeMap.{nodes_in, digest_at, HasPlace, KeepsPlaces};
 
+use crate::layer_pages::LayerPages;
 use bt_tree::Hash32;
 use std::alloc::{AllocError, Global};
-use std::collections::BTreeMap;
 use std::marker::Model;
 
-/// Digests at nodes, which are named by layer and index.
+/// Digests at nodes, which are named by layer and index. Each layer has its own pages.
 #[derive(Drop)]
 pub(crate) struct NodeMap {
-    digests: BTreeMap<(u32, u32), Hash32>,
+    alloc: Global,
+    layers: Vec<LayerPages>,
 }
 
 impl Model for NodeMap {
-    ghost use Rattle.std.specs.FinMap as finite;
-    ghost use Rattle.bt_sparse.specs.NodeMap.{Nodes, nodes_code};
+    ghost use Rattle.bt_sparse.specs.Page.{page_length};
+    ghost use Rattle.bt_sparse.specs.NodeMap.{Layers};
 
-    ghost Value = { Nodes };
+    ghost Value = { Layers };
 
-    ghost coded = { nodes_code };
-
-    ghost view = { λ a. finite.from_entries a.digests.entries };
+    ghost view = { λ a. a.layers.items };
 }
 
 impl NodeMap {
     pub(crate) fn new(alloc: Global) -> NodeMap
-        ensures { result ≡ finite.empty }
+        ensures { nodes_in result ≡ finite.empty }
     {
         NodeMap {
-            digests: BTreeMap::new(alloc),
+            alloc,
+            layers: Vec::new(alloc),
         }
     }
 
     /// The digest at a node.
     pub(crate) fn get(&self, layer: u32, index: u32) -> Option<Hash32>
-        ensures { result ≡ digest_at self.now layer index }
+        ensures { result ≡ digest_at (nodes_in self.now) layer index }
     {
-        self.digests.get(&(layer, index)).copied()
+        match self.layers.get(layer as usize) {
+            Some(pages) => pages.get(index),
+            None => None,
+        }
     }
 
-    /// Puts a digest at a node. The answer is whether there was none.
+    /// Makes the page of a node, in a layer that is this wide, with places for all of its nodes.
+    pub(crate) fn reach(&mut self, layer: u32, index: u32, width: u32) -> Result<(), AllocError>
+        requires { index < width }
+        ensures nodes { nodes_in self.new ≡ nodes_in self.old }
+        ensures longer { KeepsPlaces self.old self.new }
+        ensures ready { OnOk result ((i : ℕ) → i / page_length ≡ index / page_length → i < width
+            → HasPlace self.new layer i) }
+    {
+        self.lengthen(layer as usize + 1)?;
+        self.layers[layer as usize].reach(self.alloc, index, width)
+    }
+
+    /// Lengthens the table to so many layers. New ones have no pages.
+    fn lengthen(&mut self, count: usize) -> Result<(), AllocError>
+        ensures same { (layer : ℕ) → slice_index_or self.new layer [] ≡ slice_index_or self.old layer [] }
+        ensures ready { OnOk result (count ≤ length self.new) }
+    {
+        for _ in self.layers.len()..count {
+            self.layers.push(LayerPages::new(self.alloc))?;
+        }
+        Ok(())
+    }
+
+    /// Puts a digest at a node, whose page is made. The answer is whether there was none.
+    pub(crate) fn put(&mut self, layer: u32, index: u32, digest: Hash32) -> bool
+        requires { HasPlace self.old layer index }
+        ensures is_new { IsTrue result ↔ (digest_at (nodes_in self.old) layer index ≡ None) }
+        ensures nodes { nodes_in self.new ≡ finite.insert (nodes_in self.old) (layer, index) digest }
+        ensures longer { KeepsPlaces self.old self.new }
+    {
+        self.layers[layer as usize].put(index, digest)
+    }
+
+    /// Makes the page of a node, and puts a digest there.
     pub(crate) fn insert(
         &mut self,
         layer: u32,
         index: u32,
+        width: u32,
         digest: Hash32,
-    ) -> Result<bool, AllocError>
-        ensures is_new { IfOk result (λ is_new. IsTrue is_new ↔ (digest_at self.old layer index ≡ None)) }
-        ensures value { OnOk result (self.new ≡ finite.insert self.old (layer, index) digest) }
-        ensures err { OnErr result (self.new ≡ self.old) }
+    ) -> Result<(), AllocError>
+        requires { index < width }
+        ensures { OnOk result (nodes_in self.new ≡ finite.insert (nodes_in self.old) (layer, index) digest) }
     {
-        let before = self.digests.insert((layer, index), digest)?;
-        Ok(before.is_none())
-    }
-
-    /// The same digests again.
-    pub(crate) fn copy(&self) -> Result<NodeMap, AllocError>
-        ensures { IfOk result (λ copy. copy ≡ self.now) }
-    {
-        Ok(NodeMap {
-            digests: self.digests.clone()?,
-        })
+        self.reach(layer, index, width)?;
+        self.put(layer, index, digest);
+        Ok(())
     }
 }

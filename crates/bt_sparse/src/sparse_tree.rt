@@ -17,15 +17,17 @@ pub struct SparseTree<H: NodeHash> {
 }
 
 impl<H: NodeHash> Model for SparseTree<H> {
+    ghost use Rattle.bt_sparse.specs.NodeMap.{nodes_in};
     ghost use Rattle.bt_sparse.specs.SparseTree.{Facts, facts_code, IsSound};
 
     ghost Value = { Facts };
 
     ghost coded = { facts_code };
 
-    ghost view = { λ a. record { file_length = a.geometry; root = a.root; nodes = a.nodes } };
+    ghost view = { λ a. record { file_length = a.geometry; root = a.root; nodes = nodes_in a.nodes } };
 
-    ghost invariant = { λ a. IsSound H.digest record { file_length = a.geometry; root = a.root; nodes = a.nodes } };
+    ghost invariant = { λ a. IsSound H.digest
+        record { file_length = a.geometry; root = a.root; nodes = nodes_in a.nodes } };
 }
 
 impl<H: NodeHash> SparseTree<H> {
@@ -41,7 +43,7 @@ impl<H: NodeHash> SparseTree<H> {
         // A geometry's length is lawful, so that the root covers a block: its clause says so.
         let _ = geometry.length();
         let mut nodes = NodeMap::new(alloc);
-        nodes.insert(geometry.height() as u32, 0, root)?;
+        nodes.insert(geometry.height() as u32, 0, 1, root)?;
         Ok(SparseTree {
             alloc,
             hash,
@@ -74,8 +76,8 @@ impl<H: NodeHash> SparseTree<H> {
         self.nodes.get(layer, index)
     }
 
-    /// What is known of a node: the digest of the padding where the node covers no block, else the digest that is held;
-    /// None where the node is not held, and outside the tree.
+    /// What is known of a node: the digest of the padding where the node covers no block, else the digest
+    /// that is held; None where the node is not held, and outside the tree.
     pub fn known(&self, layer: u32, index: u32) -> Option<Hash32>
         ensures { result ≡ value_at H.digest self.now layer index }
     {

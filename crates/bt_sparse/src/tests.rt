@@ -1,84 +1,81 @@
-//! Worked examples over the weak digest, of three blocks whose leaves end in 1, 2 and 3 and whose root ends in 6.
+//! Worked examples. Trees are called through functions without a contract, so that a test's proof carries no
+//! clause of theirs.
 
-use crate::{Claim, Digests, ProofError, SparseTree};
-use bt_tree::{Geometry, Hash32, NodeHash, Weak};
+mod bodies;
+mod files;
+mod map_body;
+mod planted;
+mod proofs;
+mod shapes;
+
+use crate::{AnswerError, Claim, Digests, ProofError, SparseTree};
+use bt_tree::{Geometry, Hash32, LayerError, NodeHash, Plain, Weak};
 use std::alloc::{AllocError, Global};
 use std::test::Fail;
 
-/// 31 zeros and a byte.
-fn weak(last: u8) -> Hash32 {
-    let mut digest = [0; 32];
-    digest[31] = last;
-    digest
+const ZEROS: Hash32 = [0; 32];
+
+/// A tree of which the root alone is known.
+fn new_tree<H: NodeHash>(
+    alloc: Global,
+    hash: H,
+    length: u64,
+    root: &Hash32,
+) -> Result<SparseTree<H>, Fail> {
+    let geometry = Geometry::new(length).ok_or("no geometry")?;
+    Ok(SparseTree::new(alloc, hash, geometry, *root)?)
 }
 
-fn new_tree(alloc: Global) -> Result<SparseTree<Weak>, Fail> {
-    let geometry = Geometry::new(49152).ok_or("no geometry")?;
-    Ok(SparseTree::new(alloc, Weak, geometry, weak(6))?)
+fn known<H: NodeHash>(tree: &SparseTree<H>, layer: u32, index: u32) -> Option<Hash32> {
+    tree.known(layer, index)
 }
 
-/// The claim of the four leaves.
-fn claim(alloc: Global, leaves: [u8; 4]) -> Result<Claim, AllocError> {
-    let mut run = Vec::new(alloc);
-    for leaf in leaves {
-        run.push(weak(leaf))?;
-    }
-    Ok(Claim {
-        base: 0,
-        index: 0,
-        run: Digests::new(run),
-        uncles: Digests::new(Vec::new(alloc)),
-    })
-}
-
-/// What a tree answers to a claim, without the clauses, which a test's proof is not to carry.
 fn accept<H: NodeHash>(tree: &mut SparseTree<H>, claim: &Claim) -> Result<u32, ProofError> {
     tree.accept(claim)
 }
 
-#[test]
-fn a_proof_is_taken_once(rt: HostRuntime) -> Result<(), Fail> {
-    let mut tree = new_tree(rt.alloc())?;
-    let first = claim(rt.alloc(), [1, 2, 3, 0])?;
-    assert_eq!(rt; accept(&mut tree, &first), Ok(5));
-    assert_eq!(rt; accept(&mut tree, &first), Ok(0));
-    Ok(())
+fn answer<H: NodeHash>(
+    tree: &SparseTree<H>,
+    request: (u32, u32, u32, u32),
+) -> Result<Vec<Hash32>, AnswerError> {
+    let (base, index, length, layers) = request;
+    tree.answer(base, index, length, layers)
 }
 
-#[test]
-fn an_unpadded_proof_is_refused(rt: HostRuntime) -> Result<(), Fail> {
-    let mut tree = new_tree(rt.alloc())?;
-    let unpadded = claim(rt.alloc(), [1, 2, 0, 3])?;
-    assert_eq!(rt; accept(&mut tree, &unpadded), Err(ProofError::Padding));
-    Ok(())
+fn claim(
+    alloc: Global,
+    base: u32,
+    index: u32,
+    run: &[Hash32],
+    uncles: &[Hash32],
+) -> Result<Claim, AllocError> {
+    Ok(Claim {
+        base,
+        index,
+        run: Digests::new(Vec::from_slice(alloc, run)?),
+        uncles: Digests::new(Vec::from_slice(alloc, uncles)?),
+    })
 }
 
-#[test]
-fn another_top_is_refused(rt: HostRuntime) -> Result<(), Fail> {
-    let mut tree = new_tree(rt.alloc())?;
-    let other = claim(rt.alloc(), [1, 2, 4, 0])?;
-    assert_eq!(rt; accept(&mut tree, &other), Err(ProofError::TopDiffers));
-    Ok(())
+/// A digest of a list, and zeros past its end.
+fn at(digests: &[Hash32], index: usize) -> Hash32 {
+    digests.get(index).copied().unwrap_or(ZEROS)
 }
 
-#[test]
-fn a_layer_is_kept(rt: HostRuntime) -> Result<(), Fail> {
-    let geometry = Geometry::new(49152).ok_or("no geometry")?;
-    let mut bytes = [0; 96];
-    bytes[31] = 1;
-    bytes[63] = 2;
-    bytes[95] = 3;
-    let tree = SparseTree::with_layer(rt.alloc(), Weak, geometry, weak(6), 0, &bytes)?;
-    assert_eq!(rt; tree.known(0, 2), Some(weak(3)));
-    Ok(())
+/// The digests of the layer above.
+fn parents(alloc: Global, nodes: &[Hash32]) -> Result<Vec<Hash32>, AllocError> {
+    let mut above = Vec::new(alloc);
+    for pair in nodes.chunks(2) {
+        if let [left, right] = pair {
+            above.push(Plain.pair(left, right))?;
+        }
+    }
+    Ok(above)
 }
 
-#[test]
-fn a_request_is_answered(rt: HostRuntime) -> Result<(), Fail> {
-    let mut tree = new_tree(rt.alloc())?;
-    let first = claim(rt.alloc(), [1, 2, 3, 0])?;
-    assert_eq!(rt; accept(&mut tree, &first), Ok(5));
-    let digests = tree.answer(0, 0, 4, 1)?;
-    assert_eq!(rt; digests.len(), 4);
-    Ok(())
+/// The digest of 31 zeros and a byte.
+fn weak(last: u8) -> Hash32 {
+    let mut digest = ZEROS;
+    digest[31] = last;
+    digest
 }

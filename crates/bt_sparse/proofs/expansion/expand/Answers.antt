@@ -1,20 +1,17 @@
-use Rattle.std.proofs.Common.{◌≡◌, ◌/◌, ◌^◌, length, sym, ap, ◌∙◌}
-use Rattle.bt_sparse.specs.Claim.{run_height, run_digest}
+use Rattle.std.proofs.Common.{◌≡◌, length, sym, ap, ◌∙◌}
 use Rattle.bt_tree.specs.TreeShape.{height_of}
 use Rattle.bt_tree.specs.Peaks.{row_node}
-use Rattle.bt_sparse.proofs.Expansions.{under_top, path_first}
+use Rattle.bt_sparse.specs.Claim.{run_height, run_node, run_digest}
+use Rattle.bt_sparse.proofs.Expansions.{short_run, path_first}
 use Rattle.bt_sparse.proofs.expansion.expand.Goals as goal
 
-pub add_run-requires : goal.add_run-requires
-add_run-requires g c =
-    let layers : c.layers_above-layers.result ≡ run_height c.args.claim.now =
-    c.layers_above-layers.ensures.value ∙ ap (λ ds. height_of (length ds)) c.as_slice-count.ensures in
-    rw layers (under_top c.args.height c.args.claim.now c.requires.shape c.requires.high)
+pub add_run-requires-clause-shape : goal.add_run-requires-clause-shape
+add_run-requires-clause-shape g c = short_run c.args.height c.args.claim.now c.requires.shape c.requires.high
 
 pub add_path-requires-clause-digest : goal.add_path-requires-clause-digest
 add_path-requires-clause-digest g c =
     let layers : c.layers_above-layers.result ≡ run_height c.args.claim.now =
     c.layers_above-layers.ensures.value ∙ ap (λ ds. height_of (length ds)) c.as_slice-count.ensures in
     c.in_ok-digest.ensures.digest
-    ∙ ap (λ h. row_node g.H.NodeHash.digest (run_digest c.args.claim.now) h (c.args.claim.now.index / 2 ^ h)) layers
+    ∙ ap (λ h. row_node g.H.NodeHash.digest (run_digest c.args.claim.now) h (run_node c.args.claim.now)) layers
     ∙ sym (path_first g.H.NodeHash.digest c.args.claim.now)

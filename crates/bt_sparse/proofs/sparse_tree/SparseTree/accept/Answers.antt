@@ -1,237 +1,30 @@
-use Rattle.std.proofs.Common.{◌≡◌, ◌<◌, ◌≤◌, length, Some, refl, sym, ap, ◌∙◌, subst, arith}
-use Rattle.std.specs.List.{All}
-use Rattle.std.proofs.lemmas.Bool.{false≢true}
-use Rattle.std.proofs.lemmas.List.Elements.{All-contains}
-use Rattle.bt_tree.specs.Limits.{max_height}
-use Rattle.bt_tree.specs.Blocks.{block_count}
-use Rattle.bt_tree.specs.TreeShape.{height_of}
-use Rattle.bt_sparse.specs.SparseTree.{blocks_of, height, held_at, IsRooted, IsSound}
-use Rattle.bt_sparse.specs.Claim.{HasShape, top_layer, top_node, top_digest}
-use Rattle.bt_sparse.specs.Acceptance.{HasPadding, Agrees, Accepts, shape, padding, no_anchor, top_differs, clash, no_memory}
-use Rattle.bt_sparse.specs.ExpansionSteps.{claimed_pairs, IsPairOf}
-use Rattle.bt_sparse.specs.AcceptanceSteps.{IsPairIn, IsPadded, HasNoDifference, IsHighestIn, IsHighestOf, IsGrownBy}
-use Rattle.bt_sparse.proofs.Joins.{keeps_rooted}
-use Rattle.bt_sparse.proofs.Expansions.{pairs_claimed}
-use Rattle.bt_sparse.proofs.Acceptances.{pairs_in, pairs_few, has_padding, padding_shown, agrees, is_clash, accepted, moved, apart_bytes, equal_bytes, agrees_at}
+use Rattle.std.proofs.Common.{sym, ap, subst}
+use Rattle.bt_sparse.specs.NodeMap.{nodes_in}
+use Rattle.bt_sparse.specs.SparseTree.{Facts, blocks_of, IsSound}
+use Rattle.bt_sparse.specs.Acceptance.{Accepts, no_memory}
+use Rattle.bt_sparse.proofs.Acceptances.{grown_all, grown_accepts, grown_sound}
 use Rattle.bt_sparse.proofs.sparse_tree.SparseTree.accept.Goals as goal
 
-pub returns-then-not-has_shape-clause-refused : goal.returns-then-not-has_shape-clause-refused
-returns-then-not-has_shape-clause-refused g c =
-    let level : c.height-height.result ≡ height c.args.self.now = c.height-height.ensures.value ∙ ap height c.self.view_is in
-    shape (λ h. false≢true (sym c.if-not-has_shape.true ∙ c.has_shape.ensures.1 (subst (λ n. HasShape n c.args.claim.now) (sym level) h)))
+pub returns-then-is_err-clause-refused : goal.returns-then-is_err-clause-refused
+returns-then-is_err-clause-refused g c = no_memory c.in-Ok.ensures.ok.conditions.shape
 
-pub returns-in_default-clause-refused : goal.returns-in_default-clause-refused
-returns-in_default-clause-refused g c =
-    let level : c.height-height.result ≡ height c.args.self.now = c.height-height.ensures.value ∙ ap height c.self.view_is in
-    let shaped : HasShape (height c.args.self.now) c.args.claim.now = subst (λ h. HasShape h c.args.claim.now) level (c.has_shape.ensures.0 c.if-not-has_shape.false) in
-    no_memory shaped
-
-pub are_padded-requires : goal.are_padded-requires
-are_padded-requires g c =
-    let level : c.height-height.result ≡ height c.args.self.now = c.height-height.ensures.value ∙ ap height c.self.view_is in
-    let shaped : HasShape (height c.args.self.now) c.args.claim.now = subst (λ h. HasShape h c.args.claim.now) level (c.has_shape.ensures.0 c.if-not-has_shape.false) in
-    let high : height c.args.self.now ≤ max_height = omega (arith, c.height-height.ensures.limit, level) in
-    let pairs : c.as_slice-pairs.result.now ≡ claimed_pairs g.H.NodeHash.digest c.args.claim.now = c.as_slice-pairs.ensures.value ∙ c.in-Ok.ensures.pairs in
-    let blocks : block_count c.self.inside.geometry ≡ blocks_of c.args.self.now = ap blocks_of c.self.view_is in
-    moved (λ n. IsPairIn (height_of n)) _ _ _ _ (sym blocks) (sym pairs) (pairs_in g.H.NodeHash.digest (height c.args.self.now) c.args.claim.now shaped high)
-
-pub returns-then-not-are_padded-clause-refused : goal.returns-then-not-are_padded-clause-refused
-returns-then-not-are_padded-clause-refused g c =
-    let level : c.height-height.result ≡ height c.args.self.now = c.height-height.ensures.value ∙ ap height c.self.view_is in
-    let shaped : HasShape (height c.args.self.now) c.args.claim.now = subst (λ h. HasShape h c.args.claim.now) level (c.has_shape.ensures.0 c.if-not-has_shape.false) in
-    let pairs : c.as_slice-pairs.result.now ≡ claimed_pairs g.H.NodeHash.digest c.args.claim.now = c.as_slice-pairs.ensures.value ∙ c.in-Ok.ensures.pairs in
-    let blocks : block_count c.self.inside.geometry ≡ blocks_of c.args.self.now = ap blocks_of c.self.view_is in
-    padding shaped (λ h. false≢true (sym c.if-not-are_padded.true ∙ c.are_padded.ensures.1
-    (moved (IsPadded g.H.NodeHash.digest) _ _ _ _ (sym blocks) (sym pairs) (padding_shown g.H.NodeHash.digest c.args.self.now c.args.claim.now shaped h))))
-
-pub returns-in_default-held-clause-refused : goal.returns-in_default-held-clause-refused
-returns-in_default-held-clause-refused g c =
-    let level : c.height-height.result ≡ height c.args.self.now = c.height-height.ensures.value ∙ ap height c.self.view_is in
-    let shaped : HasShape (height c.args.self.now) c.args.claim.now = subst (λ h. HasShape h c.args.claim.now) level (c.has_shape.ensures.0 c.if-not-has_shape.false) in
-    let pairs : c.as_slice-pairs.result.now ≡ claimed_pairs g.H.NodeHash.digest c.args.claim.now = c.as_slice-pairs.ensures.value ∙ c.in-Ok.ensures.pairs in
-    let blocks : block_count c.self.inside.geometry ≡ blocks_of c.args.self.now = ap blocks_of c.self.view_is in
-    let padded : HasPadding g.H.NodeHash.digest c.args.self.now c.args.claim.now =
-    has_padding g.H.NodeHash.digest c.args.self.now c.args.claim.now shaped
-    (moved (IsPadded g.H.NodeHash.digest) _ _ _ _ blocks pairs (c.are_padded.ensures.0 c.if-not-are_padded.false)) in
-    let at_top : held_at c.args.self.now (top_layer c.args.claim.now) (top_node c.args.claim.now) ≡ c.held.result =
-    ap (λ l. held_at c.args.self.now l (top_node c.args.claim.now)) (sym c.in-Ok.ensures.layer)
-    ∙ ap (held_at c.args.self.now c.in-Ok.expansion.top_layer) (sym c.in-Ok.ensures.node) ∙ sym c.held.ensures in
-    no_anchor shaped padded (at_top ∙ c.in_default-held.is)
-
-pub returns-then-ne-clause-refused : goal.returns-then-ne-clause-refused
-returns-then-ne-clause-refused g c =
-    let level : c.height-height.result ≡ height c.args.self.now = c.height-height.ensures.value ∙ ap height c.self.view_is in
-    let shaped : HasShape (height c.args.self.now) c.args.claim.now = subst (λ h. HasShape h c.args.claim.now) level (c.has_shape.ensures.0 c.if-not-has_shape.false) in
-    let pairs : c.as_slice-pairs.result.now ≡ claimed_pairs g.H.NodeHash.digest c.args.claim.now = c.as_slice-pairs.ensures.value ∙ c.in-Ok.ensures.pairs in
-    let blocks : block_count c.self.inside.geometry ≡ blocks_of c.args.self.now = ap blocks_of c.self.view_is in
-    let padded : HasPadding g.H.NodeHash.digest c.args.self.now c.args.claim.now =
-    has_padding g.H.NodeHash.digest c.args.self.now c.args.claim.now shaped
-    (moved (IsPadded g.H.NodeHash.digest) _ _ _ _ blocks pairs (c.are_padded.ensures.0 c.if-not-are_padded.false)) in
-    let at_top : held_at c.args.self.now (top_layer c.args.claim.now) (top_node c.args.claim.now) ≡ c.held.result =
-    ap (λ l. held_at c.args.self.now l (top_node c.args.claim.now)) (sym c.in-Ok.ensures.layer)
-    ∙ ap (held_at c.args.self.now c.in-Ok.expansion.top_layer) (sym c.in-Ok.ensures.node) ∙ sym c.held.ensures in
-    top_differs c.in-Some.top shaped padded (at_top ∙ c.in-Some.is) (λ e. apart_bytes _ _ _ c.ne.ensures c.if-ne.true (e ∙ sym c.in-Ok.ensures.digest))
-
-pub highest_difference-requires-clause-inside : goal.highest_difference-requires-clause-inside
-highest_difference-requires-clause-inside g c =
-    let level : c.height-height.result ≡ height c.args.self.now = c.height-height.ensures.value ∙ ap height c.self.view_is in
-    let shaped : HasShape (height c.args.self.now) c.args.claim.now = subst (λ h. HasShape h c.args.claim.now) level (c.has_shape.ensures.0 c.if-not-has_shape.false) in
-    let high : height c.args.self.now ≤ max_height = omega (arith, c.height-height.ensures.limit, level) in
-    let pairs : c.as_slice-pairs.result.now ≡ claimed_pairs g.H.NodeHash.digest c.args.claim.now = c.as_slice-pairs.ensures.value ∙ c.in-Ok.ensures.pairs in
-    subst (All (IsPairIn (height c.args.self.now))) (sym pairs) (pairs_in g.H.NodeHash.digest (height c.args.self.now) c.args.claim.now shaped high)
-
-pub highest_difference-requires-clause-padded : goal.highest_difference-requires-clause-padded
-highest_difference-requires-clause-padded g c =
-    let blocks : block_count c.self.inside.geometry ≡ blocks_of c.args.self.now = ap blocks_of c.self.view_is in
-    moved (IsPadded g.H.NodeHash.digest) _ _ _ _ blocks refl (c.are_padded.ensures.0 c.if-not-are_padded.false)
-
-pub highest_difference-requires-clause-rooted : goal.highest_difference-requires-clause-rooted
-highest_difference-requires-clause-rooted g c =
-    let rooted : IsRooted g.H.NodeHash.digest c.args.self.now = subst (IsRooted g.H.NodeHash.digest) c.self.view_is c.self.invariant.rooted in
-    rooted
-
-pub overflow_add-result : goal.overflow_add-result
-overflow_add-result g c =
-    let level : c.height-height.result ≡ height c.args.self.now = c.height-height.ensures.value ∙ ap height c.self.view_is in
-    let shaped : HasShape (height c.args.self.now) c.args.claim.now = subst (λ h. HasShape h c.args.claim.now) level (c.has_shape.ensures.0 c.if-not-has_shape.false) in
-    let high : height c.args.self.now ≤ max_height = omega (arith, c.height-height.ensures.limit, level) in
-    let pairs : c.as_slice-pairs.result.now ≡ claimed_pairs g.H.NodeHash.digest c.args.claim.now = c.as_slice-pairs.ensures.value ∙ c.in-Ok.ensures.pairs in
-    let found : IsHighestIn g.H.NodeHash.digest c.args.self.now (claimed_pairs g.H.NodeHash.digest c.args.claim.now) c.in-Some-highest_difference.found =
-    subst (λ ps. IsHighestIn g.H.NodeHash.digest c.args.self.now ps c.in-Some-highest_difference.found) pairs c.in-Some-highest_difference.ensures in
-    let inside = All-contains (IsPairIn (height c.args.self.now)) (claimed_pairs g.H.NodeHash.digest c.args.claim.now) c.in-Some-highest_difference.found.pair
-    (pairs_in g.H.NodeHash.digest (height c.args.self.now) c.args.claim.now shaped high) found.among in
-    omega (arith, inside.high)
-
-pub returns-in-Some-highest_difference-clause-refused : goal.returns-in-Some-highest_difference-clause-refused
-returns-in-Some-highest_difference-clause-refused g c =
-    let level : c.height-height.result ≡ height c.args.self.now = c.height-height.ensures.value ∙ ap height c.self.view_is in
-    let shaped : HasShape (height c.args.self.now) c.args.claim.now = subst (λ h. HasShape h c.args.claim.now) level (c.has_shape.ensures.0 c.if-not-has_shape.false) in
-    let pairs : c.as_slice-pairs.result.now ≡ claimed_pairs g.H.NodeHash.digest c.args.claim.now = c.as_slice-pairs.ensures.value ∙ c.in-Ok.ensures.pairs in
-    let rooted : IsRooted g.H.NodeHash.digest c.args.self.now = subst (IsRooted g.H.NodeHash.digest) c.self.view_is c.self.invariant.rooted in
-    let blocks : block_count c.self.inside.geometry ≡ blocks_of c.args.self.now = ap blocks_of c.self.view_is in
-    let padded : HasPadding g.H.NodeHash.digest c.args.self.now c.args.claim.now =
-    has_padding g.H.NodeHash.digest c.args.self.now c.args.claim.now shaped
-    (moved (IsPadded g.H.NodeHash.digest) _ _ _ _ blocks pairs (c.are_padded.ensures.0 c.if-not-are_padded.false)) in
-    let at_top : held_at c.args.self.now (top_layer c.args.claim.now) (top_node c.args.claim.now) ≡ c.held.result =
-    ap (λ l. held_at c.args.self.now l (top_node c.args.claim.now)) (sym c.in-Ok.ensures.layer)
-    ∙ ap (held_at c.args.self.now c.in-Ok.expansion.top_layer) (sym c.in-Ok.ensures.node) ∙ sym c.held.ensures in
-    let top : held_at c.args.self.now (top_layer c.args.claim.now) (top_node c.args.claim.now) ≡ Some (top_digest g.H.NodeHash.digest c.args.claim.now) =
-    at_top ∙ c.in-Some.is ∙ ap (λ d. Some d) (equal_bytes _ _ _ c.ne.ensures c.if-ne.false ∙ c.in-Ok.ensures.digest) in
-    let found : IsHighestIn g.H.NodeHash.digest c.args.self.now (claimed_pairs g.H.NodeHash.digest c.args.claim.now) c.in-Some-highest_difference.found =
-    subst (λ ps. IsHighestIn g.H.NodeHash.digest c.args.self.now ps c.in-Some-highest_difference.found) pairs c.in-Some-highest_difference.ensures in
-    rw (c.input.ensures.value, c.input-in-Some-highest_difference.ensures.value)
-    (clash _ _ _ _ shaped padded top
-    (is_clash g.H.NodeHash.digest c.args.self.now c.args.claim.now c.in-Some-highest_difference.found shaped rooted padded top found
-    c.input.ensures.left c.input-in-Some-highest_difference.ensures.left))
-
-pub with_pairs-requires-clause-inside : goal.with_pairs-requires-clause-inside
-with_pairs-requires-clause-inside g c =
-    let level : c.height-height.result ≡ height c.args.self.now = c.height-height.ensures.value ∙ ap height c.self.view_is in
-    let shaped : HasShape (height c.args.self.now) c.args.claim.now = subst (λ h. HasShape h c.args.claim.now) level (c.has_shape.ensures.0 c.if-not-has_shape.false) in
-    let high : height c.args.self.now ≤ max_height = omega (arith, c.height-height.ensures.limit, level) in
-    let pairs : c.as_slice-pairs.result.now ≡ claimed_pairs g.H.NodeHash.digest c.args.claim.now = c.as_slice-pairs.ensures.value ∙ c.in-Ok.ensures.pairs in
-    let blocks : block_count c.self.inside.geometry ≡ blocks_of c.args.self.now = ap blocks_of c.self.view_is in
-    moved (λ n. IsPairIn (height_of n)) _ _ _ _ (sym blocks) (sym pairs) (pairs_in g.H.NodeHash.digest (height c.args.self.now) c.args.claim.now shaped high)
-
-pub with_pairs-requires-clause-narrow : goal.with_pairs-requires-clause-narrow
-with_pairs-requires-clause-narrow g c =
-    let level : c.height-height.result ≡ height c.args.self.now = c.height-height.ensures.value ∙ ap height c.self.view_is in
-    let shaped : HasShape (height c.args.self.now) c.args.claim.now = subst (λ h. HasShape h c.args.claim.now) level (c.has_shape.ensures.0 c.if-not-has_shape.false) in
-    let high : height c.args.self.now ≤ max_height = omega (arith, c.height-height.ensures.limit, level) in
-    let pairs : c.as_slice-pairs.result.now ≡ claimed_pairs g.H.NodeHash.digest c.args.claim.now = c.as_slice-pairs.ensures.value ∙ c.in-Ok.ensures.pairs in
-    subst (λ ps. length ps < 268435456) (sym pairs) (pairs_few g.H.NodeHash.digest (height c.args.self.now) c.args.claim.now shaped high)
-
-pub returns-in_default-with_pairs-clause-refused : goal.returns-in_default-with_pairs-clause-refused
-returns-in_default-with_pairs-clause-refused g c =
-    let level : c.height-height.result ≡ height c.args.self.now = c.height-height.ensures.value ∙ ap height c.self.view_is in
-    let shaped : HasShape (height c.args.self.now) c.args.claim.now = subst (λ h. HasShape h c.args.claim.now) level (c.has_shape.ensures.0 c.if-not-has_shape.false) in
-    no_memory shaped
-
-pub invariant_of-self : goal.invariant_of-self
-invariant_of-self g c =
-    let level : c.height-height.result ≡ height c.args.self.now = c.height-height.ensures.value ∙ ap height c.self.view_is in
-    let shaped : HasShape (height c.args.self.now) c.args.claim.now = subst (λ h. HasShape h c.args.claim.now) level (c.has_shape.ensures.0 c.if-not-has_shape.false) in
-    let pairs : c.as_slice-pairs.result.now ≡ claimed_pairs g.H.NodeHash.digest c.args.claim.now = c.as_slice-pairs.ensures.value ∙ c.in-Ok.ensures.pairs in
-    let rooted : IsRooted g.H.NodeHash.digest c.args.self.now = subst (IsRooted g.H.NodeHash.digest) c.self.view_is c.self.invariant.rooted in
-    let blocks : block_count c.self.inside.geometry ≡ blocks_of c.args.self.now = ap blocks_of c.self.view_is in
-    let padded : HasPadding g.H.NodeHash.digest c.args.self.now c.args.claim.now =
-    has_padding g.H.NodeHash.digest c.args.self.now c.args.claim.now shaped
-    (moved (IsPadded g.H.NodeHash.digest) _ _ _ _ blocks pairs (c.are_padded.ensures.0 c.if-not-are_padded.false)) in
-    let at_top : held_at c.args.self.now (top_layer c.args.claim.now) (top_node c.args.claim.now) ≡ c.held.result =
-    ap (λ l. held_at c.args.self.now l (top_node c.args.claim.now)) (sym c.in-Ok.ensures.layer)
-    ∙ ap (held_at c.args.self.now c.in-Ok.expansion.top_layer) (sym c.in-Ok.ensures.node) ∙ sym c.held.ensures in
-    let top : held_at c.args.self.now (top_layer c.args.claim.now) (top_node c.args.claim.now) ≡ Some (top_digest g.H.NodeHash.digest c.args.claim.now) =
-    at_top ∙ c.in-Some.is ∙ ap (λ d. Some d) (equal_bytes _ _ _ c.ne.ensures c.if-ne.false ∙ c.in-Ok.ensures.digest) in
-    let agree : Agrees g.H.NodeHash.digest c.args.self.now c.args.claim.now =
-    agrees g.H.NodeHash.digest c.args.self.now c.args.claim.now shaped rooted top
-    (subst (All (HasNoDifference g.H.NodeHash.digest c.args.self.now)) pairs
-    (subst (IsHighestOf g.H.NodeHash.digest c.args.self.now c.as_slice-pairs.result.now) c.in_default-highest_difference.is c.highest_difference.ensures)) in
-    let grown : IsGrownBy g.H.NodeHash.digest c.args.claim.now (blocks_of c.args.self.now) c.args.self.now.nodes c.in-Ok-with_pairs.nodes c.in-Ok-with_pairs.count
-    (claimed_pairs g.H.NodeHash.digest c.args.claim.now) =
-    subst (IsGrownBy g.H.NodeHash.digest c.args.claim.now (blocks_of c.args.self.now) c.args.self.now.nodes c.in-Ok-with_pairs.nodes c.in-Ok-with_pairs.count) pairs
-    (subst (λ k. IsGrownBy g.H.NodeHash.digest c.args.claim.now (blocks_of k) k.nodes c.in-Ok-with_pairs.nodes c.in-Ok-with_pairs.count c.as_slice-pairs.result.now) c.self.view_is
-    (c.in-Ok-with_pairs.ensures c.args.claim.now (subst (All (IsPairOf g.H.NodeHash.digest c.args.claim.now)) (sym pairs) (pairs_claimed g.H.NodeHash.digest c.args.claim.now))
-    (agrees_at g.H.NodeHash.digest c.args.self.now c.self.inside.nodes c.args.claim.now (ap (λ k. k.nodes) (sym c.self.view_is)) agree))) in
-    let accepts = accepted g.H.NodeHash.digest c.args.self.now c.args.claim.now c.in-Ok-with_pairs.nodes c.in-Ok-with_pairs.count shaped padded top agree grown in
-    let sound : IsSound g.H.NodeHash.digest record { file_length = c.args.self.now.file_length; root = c.args.self.now.root; nodes = c.in-Ok-with_pairs.nodes } = record {
-      lawful = (subst (IsSound g.H.NodeHash.digest) c.self.view_is c.self.invariant).lawful;
-      rooted = keeps_rooted g.H.NodeHash.digest c.args.self.now _ c.args.claim.now accepts rooted;
-      digests = grown.grown.sizes (subst (IsSound g.H.NodeHash.digest) c.self.view_is c.self.invariant).digests;
-    } in
-    subst (λ k. IsSound g.H.NodeHash.digest record { file_length = k.file_length; root = k.root; nodes = c.in-Ok-with_pairs.nodes }) (sym c.self.view_is) sound
+pub invariant_of-self-2 : goal.invariant_of-self-2
+invariant_of-self-2 g c =
+    let grown = grown_all g.H.NodeHash.digest c.args.self.now c.args.claim.now c.in-Ok.expansion _ _ _ (nodes_in c.put_pairs.new.nodes) c.put_pairs.result c.as_slice-pairs.result.now
+    c.in-Ok.ensures.ok (ap blocks_of c.self.view_is) c.make_pages.ensures.nodes (ap (λ (k : Facts). k.nodes) c.self.view_is) c.as_slice-pairs.ensures.value c.put_pairs.ensures in
+    subst (λ (k : Facts). IsSound g.H.NodeHash.digest record { file_length = k.file_length; root = k.root; nodes = nodes_in c.put_pairs.new.nodes }) (sym c.self.view_is)
+    (grown_sound g.H.NodeHash.digest c.args.self.now c.args.claim.now (nodes_in c.put_pairs.new.nodes) c.put_pairs.result
+    (subst (IsSound g.H.NodeHash.digest) c.self.view_is c.self.invariant) c.in-Ok.ensures.ok.conditions grown)
 
 pub returns-clause-ok : goal.returns-clause-ok
 returns-clause-ok g c =
-    let level : c.height-height.result ≡ height c.args.self.now = c.height-height.ensures.value ∙ ap height c.self.view_is in
-    let shaped : HasShape (height c.args.self.now) c.args.claim.now = subst (λ h. HasShape h c.args.claim.now) level (c.has_shape.ensures.0 c.if-not-has_shape.false) in
-    let pairs : c.as_slice-pairs.result.now ≡ claimed_pairs g.H.NodeHash.digest c.args.claim.now = c.as_slice-pairs.ensures.value ∙ c.in-Ok.ensures.pairs in
-    let rooted : IsRooted g.H.NodeHash.digest c.args.self.now = subst (IsRooted g.H.NodeHash.digest) c.self.view_is c.self.invariant.rooted in
-    let blocks : block_count c.self.inside.geometry ≡ blocks_of c.args.self.now = ap blocks_of c.self.view_is in
-    let padded : HasPadding g.H.NodeHash.digest c.args.self.now c.args.claim.now =
-    has_padding g.H.NodeHash.digest c.args.self.now c.args.claim.now shaped
-    (moved (IsPadded g.H.NodeHash.digest) _ _ _ _ blocks pairs (c.are_padded.ensures.0 c.if-not-are_padded.false)) in
-    let at_top : held_at c.args.self.now (top_layer c.args.claim.now) (top_node c.args.claim.now) ≡ c.held.result =
-    ap (λ l. held_at c.args.self.now l (top_node c.args.claim.now)) (sym c.in-Ok.ensures.layer)
-    ∙ ap (held_at c.args.self.now c.in-Ok.expansion.top_layer) (sym c.in-Ok.ensures.node) ∙ sym c.held.ensures in
-    let top : held_at c.args.self.now (top_layer c.args.claim.now) (top_node c.args.claim.now) ≡ Some (top_digest g.H.NodeHash.digest c.args.claim.now) =
-    at_top ∙ c.in-Some.is ∙ ap (λ d. Some d) (equal_bytes _ _ _ c.ne.ensures c.if-ne.false ∙ c.in-Ok.ensures.digest) in
-    let agree : Agrees g.H.NodeHash.digest c.args.self.now c.args.claim.now =
-    agrees g.H.NodeHash.digest c.args.self.now c.args.claim.now shaped rooted top
-    (subst (All (HasNoDifference g.H.NodeHash.digest c.args.self.now)) pairs
-    (subst (IsHighestOf g.H.NodeHash.digest c.args.self.now c.as_slice-pairs.result.now) c.in_default-highest_difference.is c.highest_difference.ensures)) in
-    let grown : IsGrownBy g.H.NodeHash.digest c.args.claim.now (blocks_of c.args.self.now) c.args.self.now.nodes c.in-Ok-with_pairs.nodes c.in-Ok-with_pairs.count
-    (claimed_pairs g.H.NodeHash.digest c.args.claim.now) =
-    subst (IsGrownBy g.H.NodeHash.digest c.args.claim.now (blocks_of c.args.self.now) c.args.self.now.nodes c.in-Ok-with_pairs.nodes c.in-Ok-with_pairs.count) pairs
-    (subst (λ k. IsGrownBy g.H.NodeHash.digest c.args.claim.now (blocks_of k) k.nodes c.in-Ok-with_pairs.nodes c.in-Ok-with_pairs.count c.as_slice-pairs.result.now) c.self.view_is
-    (c.in-Ok-with_pairs.ensures c.args.claim.now (subst (All (IsPairOf g.H.NodeHash.digest c.args.claim.now)) (sym pairs) (pairs_claimed g.H.NodeHash.digest c.args.claim.now))
-    (agrees_at g.H.NodeHash.digest c.args.self.now c.self.inside.nodes c.args.claim.now (ap (λ k. k.nodes) (sym c.self.view_is)) agree))) in
-    let accepts = accepted g.H.NodeHash.digest c.args.self.now c.args.claim.now c.in-Ok-with_pairs.nodes c.in-Ok-with_pairs.count shaped padded top agree grown in
-    subst (λ k. Accepts g.H.NodeHash.digest c.args.self.now c.args.claim.now record { file_length = k.file_length; root = k.root; nodes = c.in-Ok-with_pairs.nodes })
-    (sym c.self.view_is) accepts
+    let grown = grown_all g.H.NodeHash.digest c.args.self.now c.args.claim.now c.in-Ok.expansion _ _ _ (nodes_in c.put_pairs.new.nodes) c.put_pairs.result c.as_slice-pairs.result.now
+    c.in-Ok.ensures.ok (ap blocks_of c.self.view_is) c.make_pages.ensures.nodes (ap (λ (k : Facts). k.nodes) c.self.view_is) c.as_slice-pairs.ensures.value c.put_pairs.ensures in
+    subst (λ (k : Facts). Accepts g.H.NodeHash.digest c.args.self.now c.args.claim.now record { file_length = k.file_length; root = k.root; nodes = nodes_in c.put_pairs.new.nodes })
+    (sym c.self.view_is)
+    (grown_accepts g.H.NodeHash.digest c.args.self.now c.args.claim.now (nodes_in c.put_pairs.new.nodes) c.put_pairs.result c.in-Ok.ensures.ok.conditions grown)
 
 pub returns-clause-count : goal.returns-clause-count
 returns-clause-count g c =
-    let level : c.height-height.result ≡ height c.args.self.now = c.height-height.ensures.value ∙ ap height c.self.view_is in
-    let shaped : HasShape (height c.args.self.now) c.args.claim.now = subst (λ h. HasShape h c.args.claim.now) level (c.has_shape.ensures.0 c.if-not-has_shape.false) in
-    let pairs : c.as_slice-pairs.result.now ≡ claimed_pairs g.H.NodeHash.digest c.args.claim.now = c.as_slice-pairs.ensures.value ∙ c.in-Ok.ensures.pairs in
-    let rooted : IsRooted g.H.NodeHash.digest c.args.self.now = subst (IsRooted g.H.NodeHash.digest) c.self.view_is c.self.invariant.rooted in
-    let blocks : block_count c.self.inside.geometry ≡ blocks_of c.args.self.now = ap blocks_of c.self.view_is in
-    let padded : HasPadding g.H.NodeHash.digest c.args.self.now c.args.claim.now =
-    has_padding g.H.NodeHash.digest c.args.self.now c.args.claim.now shaped
-    (moved (IsPadded g.H.NodeHash.digest) _ _ _ _ blocks pairs (c.are_padded.ensures.0 c.if-not-are_padded.false)) in
-    let at_top : held_at c.args.self.now (top_layer c.args.claim.now) (top_node c.args.claim.now) ≡ c.held.result =
-    ap (λ l. held_at c.args.self.now l (top_node c.args.claim.now)) (sym c.in-Ok.ensures.layer)
-    ∙ ap (held_at c.args.self.now c.in-Ok.expansion.top_layer) (sym c.in-Ok.ensures.node) ∙ sym c.held.ensures in
-    let top : held_at c.args.self.now (top_layer c.args.claim.now) (top_node c.args.claim.now) ≡ Some (top_digest g.H.NodeHash.digest c.args.claim.now) =
-    at_top ∙ c.in-Some.is ∙ ap (λ d. Some d) (equal_bytes _ _ _ c.ne.ensures c.if-ne.false ∙ c.in-Ok.ensures.digest) in
-    let agree : Agrees g.H.NodeHash.digest c.args.self.now c.args.claim.now =
-    agrees g.H.NodeHash.digest c.args.self.now c.args.claim.now shaped rooted top
-    (subst (All (HasNoDifference g.H.NodeHash.digest c.args.self.now)) pairs
-    (subst (IsHighestOf g.H.NodeHash.digest c.args.self.now c.as_slice-pairs.result.now) c.in_default-highest_difference.is c.highest_difference.ensures)) in
-    let grown : IsGrownBy g.H.NodeHash.digest c.args.claim.now (blocks_of c.args.self.now) c.args.self.now.nodes c.in-Ok-with_pairs.nodes c.in-Ok-with_pairs.count
-    (claimed_pairs g.H.NodeHash.digest c.args.claim.now) =
-    subst (IsGrownBy g.H.NodeHash.digest c.args.claim.now (blocks_of c.args.self.now) c.args.self.now.nodes c.in-Ok-with_pairs.nodes c.in-Ok-with_pairs.count) pairs
-    (subst (λ k. IsGrownBy g.H.NodeHash.digest c.args.claim.now (blocks_of k) k.nodes c.in-Ok-with_pairs.nodes c.in-Ok-with_pairs.count c.as_slice-pairs.result.now) c.self.view_is
-    (c.in-Ok-with_pairs.ensures c.args.claim.now (subst (All (IsPairOf g.H.NodeHash.digest c.args.claim.now)) (sym pairs) (pairs_claimed g.H.NodeHash.digest c.args.claim.now))
-    (agrees_at g.H.NodeHash.digest c.args.self.now c.self.inside.nodes c.args.claim.now (ap (λ k. k.nodes) (sym c.self.view_is)) agree))) in
-    grown.grown.size_is
+    (grown_all g.H.NodeHash.digest c.args.self.now c.args.claim.now c.in-Ok.expansion _ _ _ (nodes_in c.put_pairs.new.nodes) c.put_pairs.result c.as_slice-pairs.result.now
+    c.in-Ok.ensures.ok (ap blocks_of c.self.view_is) c.make_pages.ensures.nodes (ap (λ (k : Facts). k.nodes) c.self.view_is) c.as_slice-pairs.ensures.value c.put_pairs.ensures).grown.size_is

@@ -4,6 +4,7 @@ use Rattle.bt_tree.specs.Blocks.{block_count}
 use Rattle.bt_tree.specs.TreeShape.{real_width}
 use Rattle.bt_tree.specs.Layers.{IsLayer}
 use Rattle.bt_sparse.specs.Layer.{layer_digest}
+use Rattle.bt_sparse.specs.NodeMap.{nodes_in}
 use Rattle.bt_sparse.specs.LayerSteps.{IsWhole}
 use Rattle.bt_sparse.proofs.LayerNodes.{filled_sound, layer_real, layer_past, layer_folds, holds_layer}
 use Rattle.bt_sparse.proofs.sparse_tree.SparseTree.with_layer.Goals as goal
@@ -18,11 +19,11 @@ invariant_of-result g c =
     let size : length (first_chunks 32 (real_width (block_count c.args.geometry) c.args.layer) c.args.bytes.now) ≡ real_width (block_count c.args.geometry) c.args.layer =
     ap length (sym chunks) ∙ c.as_chunks.ensures.front_len ∙ count in
     let whole : IsWhole g.H.NodeHash.digest (block_count c.args.geometry) (layer_digest g.H.NodeHash.digest (block_count c.args.geometry) c.args.layer c.args.bytes.now)
-    c.args.layer c.in-Ok-nodes_from.nodes =
+    c.args.layer (nodes_in c.in-Ok-nodes_from.nodes) =
     c.in-Ok-nodes_from.ensures (layer_digest g.H.NodeHash.digest (block_count c.args.geometry) c.args.layer c.args.bytes.now)
     (λ i lt. layer_real g.H.NodeHash.digest (block_count c.args.geometry) c.args.layer c.args.bytes.now i (omega (arith, lt, ap length chunks, size)) ∙ sym (ap (λ ds. get_or ds i []) chunks))
     (λ i le. layer_past g.H.NodeHash.digest (block_count c.args.geometry) c.args.layer c.args.bytes.now i (omega (arith, le, ap length chunks, size))) in
-    filled_sound g.H.NodeHash.digest c.args.geometry (layer_digest g.H.NodeHash.digest (block_count c.args.geometry) c.args.layer c.args.bytes.now) c.args.layer c.args.root c.in-Ok-nodes_from.nodes whole
+    filled_sound g.H.NodeHash.digest c.args.geometry (layer_digest g.H.NodeHash.digest (block_count c.args.geometry) c.args.layer c.args.bytes.now) c.args.layer c.args.root (nodes_in c.in-Ok-nodes_from.nodes) whole
     c.length.ensures.lawful (layer_folds g.H.NodeHash.digest (block_count c.args.geometry) c.args.layer c.args.root c.args.bytes.now size is)
 
 pub returns-clause-ok : goal.returns-clause-ok
@@ -35,8 +36,8 @@ returns-clause-ok g c =
     let size : length (first_chunks 32 (real_width (block_count c.args.geometry) c.args.layer) c.args.bytes.now) ≡ real_width (block_count c.args.geometry) c.args.layer =
     ap length (sym chunks) ∙ c.as_chunks.ensures.front_len ∙ count in
     let whole : IsWhole g.H.NodeHash.digest (block_count c.args.geometry) (layer_digest g.H.NodeHash.digest (block_count c.args.geometry) c.args.layer c.args.bytes.now)
-    c.args.layer c.in-Ok-nodes_from.nodes =
+    c.args.layer (nodes_in c.in-Ok-nodes_from.nodes) =
     c.in-Ok-nodes_from.ensures (layer_digest g.H.NodeHash.digest (block_count c.args.geometry) c.args.layer c.args.bytes.now)
     (λ i lt. layer_real g.H.NodeHash.digest (block_count c.args.geometry) c.args.layer c.args.bytes.now i (omega (arith, lt, ap length chunks, size)) ∙ sym (ap (λ ds. get_or ds i []) chunks))
     (λ i le. layer_past g.H.NodeHash.digest (block_count c.args.geometry) c.args.layer c.args.bytes.now i (omega (arith, le, ap length chunks, size))) in
-    holds_layer g.H.NodeHash.digest c.args.geometry c.args.root c.args.layer c.args.bytes.now c.in-Ok-nodes_from.nodes is whole
+    holds_layer g.H.NodeHash.digest c.args.geometry c.args.root c.args.layer c.args.bytes.now (nodes_in c.in-Ok-nodes_from.nodes) is whole

@@ -1,5 +1,5 @@
 use Rattle.bt_sparse.proofs.Differences.{second_half}
-use Rattle.bt_sparse.proofs.acceptance.input.Goals as goal
+use Rattle.bt_sparse.proofs.expansion.input.Goals as goal
 
 pub returns-clause-value : goal.returns-clause-value
 returns-clause-value c =

@@ -1,8 +1,8 @@
 use Rattle.std.proofs.Common.{rules, sym, ap, ◌∙◌, ◌≡◌}
 use Rattle.std.specs.FinMap as finite
 use Rattle.bt_sparse.specs.NodeMap.{digest_at}
-use Rattle.bt_sparse.proofs.NodeMaps.{map_get, map_insert}
-use Rattle.bt_sparse.proofs.node_map.NodeMap.insert.Goals as goal
+use Rattle.bt_sparse.proofs.MapBodies.{map_get, map_insert}
+use Rattle.bt_sparse.proofs.tests.map_body.OrderedNodes.insert.Goals as goal
 
 pub returns-clause-is_new : goal.returns-clause-is_new
 returns-clause-is_new c =

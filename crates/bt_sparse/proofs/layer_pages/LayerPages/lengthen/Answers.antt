@@ -1,0 +1,13 @@
+use Rattle.std.proofs.Common.{[], ◌∷◌, ◌++◌, length, get_or, ap, ◌∙◌, length-append, arith}
+use Rattle.bt_sparse.proofs.PageTables.{pushed_default}
+use Rattle.bt_sparse.proofs.layer_pages.LayerPages.lengthen.Goals as goal
+
+pub loop-preserved : goal.loop-preserved
+loop-preserved c = record {
+  same = λ p. ap (λ ps. get_or ps p []) (c.in_ok-push.ensures.items ∙ ap (λ q. c.loop.self-inside.pages.items ++ q ∷ []) c.new.ensures)
+      ∙ pushed_default c.loop.self-inside.pages.items [] p ∙ c.loop.invariant.same p;
+  size = omega (arith, ap length c.in_ok-push.ensures.items, length-append c.loop.self-inside.pages.items (c.new.result ∷ []), c.loop.invariant.size);
+}
+
+pub returns-in_err-push-clause-same : goal.returns-in_err-push-clause-same
+returns-in_err-push-clause-same c = λ p. ap (λ ps. get_or ps p []) c.in_err-push.ensures.items ∙ c.loop.invariant.same p

@@ -1,0 +1,79 @@
+ghost use Rattle.std.specs.Prelude.{◌≡◌, ◌%◌, ◌/◌, ◌<◌, ◌≤◌, ◌↔◌, ℕ, [], None, IsTrue, OnOk, length, slice_index_or};
+ghost use Rattle.bt_sparse.specs.Page.{page_length};
+ghost use Rattle.bt_sparse.specs.NodeMap.{slot_at, KeepsPages, IsPutIn};
+
+use crate::page::Page;
+use bt_tree::Hash32;
+use std::alloc::{AllocError, Global};
+use std::marker::Model;
+
+/// How many places a page has at most.
+const PAGE_LEN: u32 = 512;
+
+/// The digests of a layer, in pages. A page is made when the first digest of its nodes comes, and so is the
+/// table of pages as far as it is needed.
+#[derive(Drop)]
+pub(crate) struct LayerPages {
+    pages: Vec<Page>,
+}
+
+impl Model for LayerPages {
+    ghost use Rattle.bt_sparse.specs.NodeMap.{Pages};
+
+    ghost Value = { Pages };
+
+    ghost view = { λ a. a.pages.items };
+}
+
+impl LayerPages {
+    pub(crate) fn new(alloc: Global) -> LayerPages
+        ensures { result ≡ [] }
+    {
+        LayerPages {
+            pages: Vec::new(alloc),
+        }
+    }
+
+    /// The digest at an index.
+    pub(crate) fn get(&self, index: u32) -> Option<Hash32>
+        ensures { result ≡ slot_at self.now index }
+    {
+        match self.pages.get((index / PAGE_LEN) as usize) {
+            Some(page) => page.get((index % PAGE_LEN) as usize),
+            None => None,
+        }
+    }
+
+    /// Makes the page of an index, in a layer that is this wide, with places for all of its nodes.
+    pub(crate) fn reach(&mut self, alloc: Global, index: u32, width: u32) -> Result<(), AllocError>
+        requires { index < width }
+        ensures kept { KeepsPages self.old self.new }
+        ensures ready { OnOk result ((i : ℕ) → i / page_length ≡ index / page_length → i < width
+            → i % page_length < length (slice_index_or self.new (index / page_length) [])) }
+    {
+        let page = (index / PAGE_LEN) as usize;
+        self.lengthen(alloc, page + 1)?;
+        let first = index - index % PAGE_LEN;
+        self.pages[page].reach((width - first).min(PAGE_LEN) as usize)
+    }
+
+    /// Lengthens the table to so many pages. New ones have no places.
+    fn lengthen(&mut self, alloc: Global, count: usize) -> Result<(), AllocError>
+        ensures same { (p : ℕ) → slice_index_or self.new p [] ≡ slice_index_or self.old p [] }
+        ensures ready { OnOk result (count ≤ length self.new) }
+    {
+        for _ in self.pages.len()..count {
+            self.pages.push(Page::new(alloc))?;
+        }
+        Ok(())
+    }
+
+    /// Puts a digest at an index, whose page is made. The answer is whether there was none.
+    pub(crate) fn put(&mut self, index: u32, digest: Hash32) -> bool
+        requires { index % page_length < length (slice_index_or self.old (index / page_length) []) }
+        ensures is_new { IsTrue result ↔ (slot_at self.old index ≡ None) }
+        ensures put { IsPutIn index digest self.old self.new }
+    {
+        self.pages[(index / PAGE_LEN) as usize].put((index % PAGE_LEN) as usize, digest)
+    }
+}

@@ -1,0 +1,83 @@
+ghost use Rattle.std.specs.Prelude.{◌≡◌, ◌<◌, ◌≤◌, ◌↔◌, [], None, IsTrue, OnOk, length, slice_index_or};
+ghost use Rattle.bt_sparse.specs.Page.{IsLonger, IsPutAt, is_present};
+
+use bt_tree::Hash32;
+use std::alloc::{AllocError, Global};
+use std::marker::Model;
+
+/// Places for the digests of neighbouring nodes, with a bit each that says whether the digest is there.
+#[derive(Drop)]
+pub(crate) struct Page {
+    digests: Vec<Hash32>,
+    present: Vec<u64>,
+}
+
+impl Model for Page {
+    ghost use Rattle.bt_sparse.specs.Page.{Slots, slots_of, HasBits};
+
+    ghost Value = { Slots };
+
+    ghost view = { λ a. slots_of a.digests.items a.present.items };
+
+    ghost invariant = { λ a. HasBits a.digests.items a.present.items };
+}
+
+impl Page {
+    /// A page without places, which takes no memory.
+    pub(crate) fn new(alloc: Global) -> Page
+        ensures { result ≡ [] }
+    {
+        Page {
+            digests: Vec::new(alloc),
+            present: Vec::new(alloc),
+        }
+    }
+
+    /// The digest at a place, where there is one.
+    pub(crate) fn get(&self, place: usize) -> Option<Hash32>
+        ensures { result ≡ slice_index_or self.now place None }
+    {
+        if place >= self.digests.len() {
+            return None;
+        }
+        if !is_present(&self.present, place) {
+            return None;
+        }
+        Some(self.digests[place])
+    }
+
+    /// Makes places up to this number.
+    pub(crate) fn reach(&mut self, len: usize) -> Result<(), AllocError>
+        ensures longer { IsLonger self.old self.new }
+        ensures ready { OnOk result (len ≤ length self.new) }
+    {
+        if len <= self.digests.len() {
+            return Ok(());
+        }
+        self.present.resize(len.div_ceil(64), 0)?;
+        self.digests.resize(len, [0; 32])?;
+        Ok(())
+    }
+
+    /// Puts a digest at a place. The answer is whether there was none.
+    pub(crate) fn put(&mut self, place: usize, digest: Hash32) -> bool
+        requires { place < length self.old }
+        ensures is_new { IsTrue result ↔ (slice_index_or self.old place None ≡ None) }
+        ensures put { IsPutAt place digest self.old self.new }
+    {
+        let is_new = self.get(place).is_none();
+        self.digests[place] = digest;
+        self.present[place / 64] |= 1 << (place % 64);
+        is_new
+    }
+}
+
+/// Whether a place's bit is set.
+fn is_present(words: &[u64], place: usize) -> bool
+    ensures { result ≡ is_present words.now place }
+{
+    match words.get(place / 64) {
+        Some(word) => (*word >> (place % 64)) & 1 == 1,
+        None => false,
+    }
+}

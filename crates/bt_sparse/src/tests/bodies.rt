@@ -1,0 +1,111 @@
+//! The pages and the ordered map run the same claims of the file of 65 blocks, and answer alike.
+
+use super::files::{many_blocks_root, many_leaves};
+use super::map_body::{MapTree, map_accept, map_known, new_map_tree};
+use super::*;
+
+const LENGTH: u64 = 1048577;
+
+/// All nodes, layer by layer from the leaves.
+fn layers(alloc: Global) -> Result<Vec<Vec<Hash32>>, AllocError> {
+    let mut all = Vec::new(alloc);
+    let mut layer = many_leaves(alloc)?;
+    for _ in 0..7u32 {
+        let above = parents(alloc, layer.as_slice())?;
+        all.push(layer)?;
+        layer = above;
+    }
+    all.push(layer)?;
+    Ok(all)
+}
+
+fn node(layers: &[Vec<Hash32>], layer: u32, index: u32) -> Hash32 {
+    match layers.get(layer as usize) {
+        Some(nodes) => at(nodes.as_slice(), index as usize),
+        None => ZEROS,
+    }
+}
+
+/// The claim of a run of 2^above nodes below a node, with so many uncles.
+fn planted(
+    alloc: Global,
+    layers: &[Vec<Hash32>],
+    place: (u32, u32, u32, u32),
+) -> Result<Claim, AllocError> {
+    let (base, above, top, count) = place;
+    let length = 1u32.wrapping_shl(above);
+    let first = top.wrapping_mul(length);
+    let mut run = Vec::new(alloc);
+    for i in 0..length {
+        run.push(node(layers, base, first.wrapping_add(i)))?;
+    }
+    let mut uncles = Vec::new(alloc);
+    let mut index = top;
+    for up in 0..count {
+        uncles.push(node(layers, base.wrapping_add(above).wrapping_add(up), index ^ 1))?;
+        index /= 2;
+    }
+    claim(alloc, base, first, run.as_slice(), uncles.as_slice())
+}
+
+/// Claims that fit together, and some that are refused in one order or both: without an anchor, past the
+/// tree, and the last with a leaf that is no padding.
+fn claims(alloc: Global, layers: &[Vec<Hash32>]) -> Result<Vec<Claim>, AllocError> {
+    let mut claims = Vec::new(alloc);
+    for place in [
+        (0, 1, 32, 6),
+        (0, 2, 1, 2),
+        (2, 5, 0, 0),
+        (0, 2, 3, 3),
+        (0, 1, 0, 6),
+        (3, 2, 1, 2),
+        (0, 4, 2, 0),
+        (6, 2, 0, 0),
+        (0, 7, 0, 0),
+    ] {
+        claims.push(planted(alloc, layers, place)?)?;
+    }
+    let unpadded = [
+        at(layers.first().map_or(&[], |l| l.as_slice()), 64),
+        [1; 32],
+    ];
+    claims.push(claim(alloc, 0, 64, &unpadded, &[])?)?;
+    Ok(claims)
+}
+
+/// Whether two trees know the same of each node, and of some outside.
+fn agree(pages: &SparseTree<Plain>, map: &MapTree) -> bool {
+    for layer in 0..9u32 {
+        for index in 0..130u32 {
+            if known(pages, layer, index) != map_known(map, layer, index) {
+                return false;
+            }
+        }
+    }
+    true
+}
+
+/// Whether two new trees answer alike to each of these claims, from the first or from the last, and then
+/// agree.
+fn run(alloc: Global, claims: &[Claim], from_last: bool) -> Result<bool, Fail> {
+    let root = many_blocks_root();
+    let mut pages = new_tree(alloc, Plain, LENGTH, &root)?;
+    let mut map = new_map_tree(alloc, LENGTH, &root)?;
+    for i in 1..=claims.len() {
+        let at = if from_last { claims.len() - i } else { i - 1 };
+        let claim = claims.get(at).ok_or("no claim")?;
+        if accept(&mut pages, claim) != map_accept(&mut map, claim) || !agree(&pages, &map) {
+            return Ok(false);
+        }
+    }
+    Ok(true)
+}
+
+#[test]
+fn pages_and_an_ordered_map_agree(rt: HostRuntime) -> Result<(), Fail> {
+    let layers = layers(rt.alloc())?;
+    let claims = claims(rt.alloc(), layers.as_slice())?;
+    assert!(rt; run(rt.alloc(), claims.as_slice(), false)?);
+    assert!(rt; run(rt.alloc(), claims.as_slice(), true)?);
+    Ok(())
+}

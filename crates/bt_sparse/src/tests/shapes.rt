@@ -1,0 +1,123 @@
+//! Claims and requests of many shapes.
+
+use super::files::{three_blocks_root, three_leaves};
+use super::*;
+
+/// What a tree of height 26 that knows its root alone answers to a claim of zeros.
+fn refusal(
+    alloc: Global,
+    tree: &mut SparseTree<Weak>,
+    base: u32,
+    index: u32,
+    counts: (u32, u32),
+) -> Result<Option<ProofError>, AllocError> {
+    let mut run = Vec::new(alloc);
+    run.resize(counts.0 as usize, ZEROS)?;
+    let mut uncles = Vec::new(alloc);
+    uncles.resize(counts.1 as usize, ZEROS)?;
+    let planted = claim(alloc, base, index, run.as_slice(), uncles.as_slice())?;
+    Ok(tree.accept(&planted).err())
+}
+
+#[test]
+fn claims_of_another_shape(rt: HostRuntime) -> Result<(), Fail> {
+    let mut tree = new_tree(rt.alloc(), Weak, 1 << 40, &weak(1))?;
+    for (base, index, run, uncles) in [
+        (0, 0, 0, 0),
+        (0, 0, 1, 0),
+        (0, 0, 3, 0),
+        (0, 0, 6, 0),
+        (0, 1, 2, 0),
+        (0, 2, 4, 0),
+        (0, 1 << 26, 2, 0),
+        (0, 4294967294, 2, 0),
+        (25, 2, 2, 0),
+        (4294967295, 4294967294, 2, 26),
+    ] {
+        let refused = refusal(rt.alloc(), &mut tree, base, index, (run, uncles))?;
+        assert_eq!(rt; refused, Some(ProofError::Shape), "{base} {index} {run}");
+    }
+    Ok(())
+}
+
+/// What is wrong with a claim of zeros whose top would lie in this layer.
+fn wanted(top: u32) -> Option<ProofError> {
+    Some(match top {
+        0..=25 => ProofError::NoAnchor,
+        26 => ProofError::TopDiffers,
+        _ => ProofError::Shape,
+    })
+}
+
+/// No uncle, as many as reach the root, and one more.
+#[test]
+fn claims_of_each_base_and_length(rt: HostRuntime) -> Result<(), Fail> {
+    let mut tree = new_tree(rt.alloc(), Weak, 1 << 40, &weak(1))?;
+    for base in 0..27u32 {
+        for (above, run) in [
+            (1u32, 2),
+            (2, 4),
+            (3, 8),
+            (4, 16),
+            (5, 32),
+            (6, 64),
+            (7, 128),
+            (8, 256),
+            (9, 512),
+        ] {
+            let top = base.wrapping_add(above);
+            let most = 26u32.saturating_sub(top);
+            for uncles in [0, most, most.wrapping_add(1)] {
+                let refused = refusal(rt.alloc(), &mut tree, base, 0, (run, uncles))?;
+                assert_eq!(rt;
+                    refused,
+                    wanted(top.wrapping_add(uncles)),
+                    "{base} {run} {uncles}"
+                );
+            }
+        }
+    }
+    Ok(())
+}
+
+fn error_of(tree: &SparseTree<Plain>, request: (u32, u32, u32, u32)) -> Option<AnswerError> {
+    answer(tree, request).err()
+}
+
+#[test]
+fn requests_of_another_shape(rt: HostRuntime) -> Result<(), Fail> {
+    let tree = new_tree(rt.alloc(), Plain, 49152, &three_blocks_root())?;
+    for request in [
+        (0, 2, 4, 1),
+        (0, 0, 3, 1),
+        (0, 0, 1024, 1),
+        (0, 0, 4, 2),
+        (0, 4, 2, 1),
+        (2, 0, 2, 0),
+        (0, 4294967294, 2, 1),
+        (4294967295, 0, 2, 0),
+        (0, 0, 2, 4294967295),
+    ] {
+        assert_eq!(rt; error_of(&tree, request), Some(AnswerError::Shape));
+    }
+    assert_eq!(rt; error_of(&tree, (0, 0, 4, 1)), Some(AnswerError::Unknown));
+    Ok(())
+}
+
+#[test]
+fn requests_of_three_blocks(rt: HostRuntime) -> Result<(), Fail> {
+    let mut tree = new_tree(rt.alloc(), Plain, 49152, &three_blocks_root())?;
+    let list = three_leaves(rt.alloc())?;
+    let leaves = list.as_slice();
+    let first = claim(rt.alloc(), 0, 0, leaves, &[])?;
+    assert_eq!(rt; accept(&mut tree, &first), Ok(5));
+    assert_eq!(rt; answer(&tree, (0, 0, 4, 1))?.as_slice(), leaves);
+    assert_eq!(rt; answer(&tree, (0, 0, 4, 0))?.as_slice(), leaves);
+    let half = answer(&tree, (0, 2, 2, 1))?;
+    let above = parents(rt.alloc(), leaves)?;
+    assert_eq!(rt;
+        half.as_slice(),
+        [at(leaves, 2), ZEROS, at(above.as_slice(), 0)].as_slice()
+    );
+    Ok(())
+}
