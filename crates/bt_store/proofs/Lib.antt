@@ -1,0 +1,10 @@
+-- How many blocks have a state.
+pub mod Counts
+-- Runs of blocks.
+pub mod RunReads
+-- Lists that are filled place by place.
+pub mod Found
+-- What reads make of the states.
+pub mod Judgements
+-- Blocks that are read again.
+pub mod Reviews

@@ -1,0 +1,48 @@
+use Rattle.std.proofs.Common.{◌≡◌, ◌+◌, ◌*◌, ◌<◌, ◌≤◌, length, max, refl, sym, ap, ◌∙◌, subst, arith}
+use Rattle.std.specs.List.{range_with_len}
+use Rattle.bt_tree.specs.Blocks.{block_count}
+use Rattle.bt_store.specs.ReviewSteps.{tally_sum, forgives}
+use Rattle.bt_store.specs.BlockReads.{IsJudged}
+use Rattle.bt_store.proofs.Reviews.{IsReviewedTo, reviewed_start, reviewed_past, reviewed_run}
+use Rattle.bt_store.proofs.file_store.FileStore.judge_chosen.Goals as goal
+
+pub loop-at-init : goal.loop-at-init
+loop-at-init g c =
+    let d = g.D.Disk in record {
+      reviewed = rw c.new-tally.ensures (reviewed_start d.history d.honest d.faults g.H.NodeHash.digest c.args.tree.now c.args.review c.args.from c.args.self.now);
+      high = c.requires.upwards;
+      room = c.requires.room;
+    }
+
+pub plus-tally-requires : goal.plus-tally-requires
+plus-tally-requires g c =
+    omega (arith, c.loop-at.invariant.reviewed.few, c.judge_run-run.ensures.sum, c.chosen_run-count.ensures.inside, c.loop-at.invariant.reviewed.low)
+
+pub loop-at-preserved-then-count-eq0 : goal.loop-at-preserved-then-count-eq0
+loop-at-preserved-then-count-eq0 g c =
+    let d = g.D.Disk in
+    let before = c.loop-at.invariant in
+    record {
+      reviewed = reviewed_past d.history d.honest d.faults g.H.NodeHash.digest c.args.tree.now c.args.review c.args.from c.loop-at.at c.args.self.now c.loop-at.self
+          c.loop-at.tally before.reviewed (c.chosen_run-count.ensures.none c.if-count-eq0.true);
+      high = omega arith;
+      room = before.room;
+    }
+
+pub loop-at-preserved : goal.loop-at-preserved
+loop-at-preserved g c =
+    let d = g.D.Disk in
+    let dig = g.H.NodeHash.digest in
+    let k = c.args.tree.now in
+    let before = c.loop-at.invariant in
+    let n = c.chosen_run-count.result in
+    let total = c.plus-tally.ensures in
+    let run = c.judge_run-run.ensures in
+    let judged = subst (λ f. IsJudged d.history d.honest d.faults dig k f (range_with_len c.loop-at.at n) c.loop-at.self run.judged.0 c.judge_run-run.new.self) c.forgives.ensures run.judged.1 in
+    record {
+      reviewed = reviewed_run d.history d.honest d.faults dig k c.args.review c.args.from c.loop-at.at n c.args.self.now c.loop-at.self c.judge_run-run.new.self
+          c.loop-at.tally c.judge_run-run.result c.plus-tally.result run.judged.0 before.reviewed c.chosen_run-count.ensures.chosen
+          judged run.judged.2 run.sum total.right total.wrong total.faults;
+      high = c.chosen_run-count.ensures.inside;
+      room = c.judge_run-run.auto.buffer ∙ before.room;
+    }

@@ -1,0 +1,84 @@
+use Rattle.std.proofs.Common.{◌≡◌, ◌≢◌, ◌*◌, ◌≤◌, List, [], ◌∷◌, ◌++◌, map, length, take, drop, Some, Ok, Err, refl, sym, ap, ◌∙◌, subst, arith, rules}
+use Rattle.std.specs.Prelude.{slice_get, slice_set}
+use Rattle.std.proofs.lemmas.List.{take-append-le}
+use Rattle.bt_tree.specs.Blocks.{block_length}
+use Rattle.bt_disk.specs.Calls.{HasCalls, IsAnswered, bytes_given, read_fault}
+use Rattle.bt_disk.proofs.CallLists.{has_none}
+use Rattle.bt_store.specs.FileStore.{StoreView}
+use Rattle.bt_store.specs.BlockReads.{BlockRead, given, failed, call_of, IsRight}
+use Rattle.bt_store.specs.SingleBlock.{IsLent, Lends, not_marked, right, damaged, fault}
+use Rattle.bt_store.specs.declared.block_states.BlockState.TheVariants.{Missing, Marked}
+use Rattle.bt_store.specs.declared.error.ReadError.TheVariants.{NotMarked, Damaged, Device}
+use Rattle.bt_store.proofs.RunReads.{one_given, one_failed}
+use Rattle.bt_store.proofs.file_store.FileStore.read.Goals as goal
+
+pub returns-then-not-is_marked : goal.returns-then-not-is_marked
+returns-then-not-is_marked g c =
+    let d = g.D.Disk in
+    ([], record { calls = has_none d.history d.honest d.faults c.args.self.now.disk; answer = not_marked c.if-not-is_marked.ensures.no; same_file = refl })
+
+pub returns-in_default : goal.returns-in_default
+returns-in_default g c =
+    let d = g.D.Disk in
+    let w = c.in_default.ensures in
+    let a = c.self.inside in
+    let i = c.args.block in
+    let out = c.read_at.new.out ++ drop c.block_len-length.result c.args.out.now in
+    let after : StoreView g.row.D.Denot = record { file_length = a.geometry; disk = c.read_at.new.self; states = a.states } in
+    let marked : slice_get a.states i ≡ Some Marked = subst (λ s. slice_get s.states i ≡ Some Marked) (sym c.self.view_is) c.if-not-is_marked.ensures.yes in
+    let size : length c.read_at.new.out ≡ block_length a.geometry i = search rules in
+    subst (λ s. (reads : List BlockRead) × IsLent d.history d.honest d.faults g.H.NodeHash.digest c.args.tree.now i out s reads (Err Device) after) c.self.view_is (
+      failed i ∷ [],
+      record {
+        calls = one_failed d.history d.honest d.faults a.geometry i a.disk c.read_at.new.self c.read_at.new.out size w.counted w.as_honest
+            (λ h. subst (λ at. IsAnswered (d.history a.disk) (read_fault at (length c.read_at.new.out)) (d.history c.read_at.new.self)) c.place_of.ensures (w.answered h));
+        answer = fault marked;
+        same_file = refl;
+      },
+    )
+
+pub returns-then-not-is_right : goal.returns-then-not-is_right
+returns-then-not-is_right g c =
+    let d = g.D.Disk in
+    let w = c.in-Ok.ensures in
+    let a = c.self.inside in
+    let i = c.args.block in
+    let out = c.read_at.new.out ++ drop c.block_len-length.result c.args.out.now in
+    let after : StoreView g.row.D.Denot = record { file_length = a.geometry; disk = c.read_at.new.self; states = c.set.new.self } in
+    let marked : slice_get a.states i ≡ Some Marked = subst (λ s. slice_get s.states i ≡ Some Marked) (sym c.self.view_is) c.if-not-is_marked.ensures.yes in
+    let size : length c.read_at.new.out ≡ block_length a.geometry i = search rules in
+    let n = c.in-Ok.count in
+    let front : take n out ≡ take n c.read_at.new.out = take-append-le n c.read_at.new.out (drop c.block_len-length.result c.args.out.now) w.within in
+    subst (λ s. (reads : List BlockRead) × IsLent d.history d.honest d.faults g.H.NodeHash.digest c.args.tree.now i out s reads (Err Damaged) after) c.self.view_is (
+      given i (take n out) ∷ [],
+      record {
+        calls = subst (λ bytes. HasCalls d.history d.honest d.faults a.disk (call_of a.geometry (given i bytes) ∷ []) c.read_at.new.self) (sym front)
+            (one_given d.history d.honest d.faults a.geometry i a.disk c.read_at.new.self c.read_at.new.out n size w.counted w.as_honest
+            (λ h. subst (λ at. IsAnswered (d.history a.disk) (bytes_given at (length c.read_at.new.out) (take n c.read_at.new.out)) (d.history c.read_at.new.self)) c.place_of.ensures (w.answered h)));
+        answer = rw c.set.ensures (damaged (take n out) marked c.if-not-is_right.ensures.no);
+        same_file = refl;
+      },
+    )
+
+pub returns : goal.returns
+returns g c =
+    let d = g.D.Disk in
+    let w = c.in-Ok.ensures in
+    let a = c.self.inside in
+    let i = c.args.block in
+    let n = c.in-Ok.count in
+    let out = c.read_at.new.out ++ drop c.block_len-length.result c.args.out.now in
+    let after : StoreView g.row.D.Denot = record { file_length = a.geometry; disk = c.read_at.new.self; states = a.states } in
+    let marked : slice_get a.states i ≡ Some Marked = subst (λ s. slice_get s.states i ≡ Some Marked) (sym c.self.view_is) c.if-not-is_marked.ensures.yes in
+    let size : length c.read_at.new.out ≡ block_length a.geometry i = search rules in
+    let front : take n out ≡ take n c.read_at.new.out = take-append-le n c.read_at.new.out (drop c.block_len-length.result c.args.out.now) w.within in
+    subst (λ s. (reads : List BlockRead) × IsLent d.history d.honest d.faults g.H.NodeHash.digest c.args.tree.now i out s reads (Ok n) after) c.self.view_is (
+      given i (take n out) ∷ [],
+      record {
+        calls = subst (λ bytes. HasCalls d.history d.honest d.faults a.disk (call_of a.geometry (given i bytes) ∷ []) c.read_at.new.self) (sym front)
+            (one_given d.history d.honest d.faults a.geometry i a.disk c.read_at.new.self c.read_at.new.out n size w.counted w.as_honest
+            (λ h. subst (λ at. IsAnswered (d.history a.disk) (bytes_given at (length c.read_at.new.out) (take n c.read_at.new.out)) (d.history c.read_at.new.self)) c.place_of.ensures (w.answered h)));
+        answer = right n marked c.if-not-is_right.ensures.yes;
+        same_file = refl;
+      },
+    )

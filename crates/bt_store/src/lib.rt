@@ -1,0 +1,22 @@
+//! The blocks of one file on a device: which are missing, which wait for their leaf, and which are marked, because they
+//! were read or written with the digest that the file's hash tree (BEP 52) holds at their leaf.
+#![tactic(auto)]
+
+mod arrival;
+mod block_states;
+mod error;
+mod file_store;
+mod law;
+mod review;
+mod runs;
+mod single_block;
+
+pub use arrival::Put;
+pub use block_states::BlockState;
+pub use error::{ReadError, Refused, StoreError};
+pub use file_store::FileStore;
+pub use law::right_blocks_are_files;
+pub use review::{Rechecked, Settled};
+
+#[cfg(test)]
+mod tests;

@@ -1,0 +1,129 @@
+ghost use Rattle.std.specs.Prelude.{◌≡◌, ℕ, ◌+◌, ◌*◌, ◌<◌, ◌≤◌, List, IfSome, Some, None, length, map, slice_index_or};
+ghost use Rattle.std.specs.Bool.{OnTrue};
+ghost use Rattle.bt_tree.specs.Limits.{full_block_length};
+ghost use Rattle.bt_tree.specs.Blocks.{block_count, block_at, block_length};
+ghost use Rattle.bt_disk.specs.Calls.{HasCalls};
+ghost use Rattle.bt_store.specs.BlockReads.{call_of};
+ghost use Rattle.bt_store.specs.RunsSteps.{run_reads, finding_of};
+ghost use Rattle.bt_store.specs.declared.runs.Finding.TheVariants.{Whole, Failed};
+
+use crate::arrival::place_of;
+use bt_disk::Disk;
+use bt_tree::{BLOCK_LEN, Geometry, Hash32, NodeHash};
+
+/// How many blocks are read, and then digested, at a time.
+pub(crate) const RUN_BLOCKS: usize = 8;
+
+/// How many bytes these have at most.
+pub(crate) const RUN_LEN: usize = RUN_BLOCKS * BLOCK_LEN;
+
+/// What the read of a block found.
+#[derive(Clone, Copy)]
+pub(crate) enum Finding {
+    /// The whole block, which has this digest.
+    Whole(Hash32),
+    /// Fewer bytes than the block has.
+    Short,
+    /// The read failed.
+    Failed,
+}
+
+/// Reads blocks that lie next to each other, each by one call, from the first up, each into its part of a buffer. Says how
+/// many bytes each read gave; none for one that failed.
+pub(crate) fn read_run<D: Disk>(
+    disk: &mut D,
+    geometry: Geometry,
+    first: u32,
+    count: usize,
+    buffer: &mut [u8],
+) -> [Option<usize>; RUN_BLOCKS]
+    requires few { count ≤ 8 }
+    requires inside { first + count ≤ block_count geometry }
+    requires room { length buffer.old ≡ 8 * full_block_length }
+    ensures calls { HasCalls D.history D.honest D.faults
+        disk.old (map (call_of geometry) (run_reads first result buffer.new count)) disk.new }
+    ensures within { (j : ℕ) → j < count
+        → IfSome (slice_index_or result j None) (λ given. given ≤ block_length geometry (first + j)) }
+{
+    let mut lengths = [None; RUN_BLOCKS];
+    for j in 0..count {
+        let block = first + j as u32;
+        let from = j * BLOCK_LEN;
+        let slot = &mut buffer[from..from + geometry.block_len(block)];
+        lengths[j] = disk.read_at(place_of(block), slot).ok();
+    }
+    lengths
+}
+
+/// What the reads of blocks that lie next to each other found, by how many bytes each gave: eight whole blocks are
+/// digested together.
+pub(crate) fn digest_run<H: NodeHash>(
+    hash: H,
+    geometry: Geometry,
+    first: u32,
+    count: usize,
+    lengths: &[Option<usize>; RUN_BLOCKS],
+    buffer: &[u8],
+) -> [Finding; RUN_BLOCKS]
+    requires few { count ≤ 8 }
+    requires inside { first + count ≤ block_count geometry }
+    requires room { length buffer.now ≡ 8 * full_block_length }
+    ensures { (j : ℕ) → j < count → slice_index_or result j Failed
+        ≡ finding_of H.digest geometry (first + j) (slice_index_or lengths.now j None) (block_at buffer.now j) }
+{
+    if count == RUN_BLOCKS && is_full(geometry, first, lengths) {
+        return digest_eight(hash, buffer);
+    }
+    let mut findings = [Finding::Failed; RUN_BLOCKS];
+    for j in 0..count {
+        let from = j * BLOCK_LEN;
+        let slot = &buffer[from..from + BLOCK_LEN];
+        findings[j] = digest_slot(hash, geometry, first + j as u32, lengths[j], slot);
+    }
+    findings
+}
+
+/// Whether each of eight reads gave a full block.
+fn is_full(geometry: Geometry, first: u32, lengths: &[Option<usize>; RUN_BLOCKS]) -> bool
+    requires { first + 8 ≤ block_count geometry }
+    ensures { OnTrue result ((j : ℕ) → j < 8
+        → (slice_index_or lengths.now j None ≡ Some full_block_length)
+        × (block_length geometry (first + j) ≡ full_block_length)) }
+{
+    geometry.block_len(first + 7) == BLOCK_LEN
+        && lengths.iter().all(|length| *length == Some(BLOCK_LEN))
+}
+
+/// Digests eight full blocks together.
+fn digest_eight<H: NodeHash>(hash: H, buffer: &[u8]) -> [Finding; RUN_BLOCKS]
+    requires { length buffer.now ≡ 8 * full_block_length }
+    ensures { (j : ℕ) → j < 8 → slice_index_or result j Failed ≡ Whole (H.digest (block_at buffer.now j)) }
+{
+    let digests = hash.blocks8(buffer);
+    let mut findings = [Finding::Failed; RUN_BLOCKS];
+    for j in 0..RUN_BLOCKS {
+        findings[j] = Finding::Whole(digests[j]);
+    }
+    findings
+}
+
+/// What the read of a block found, by how many bytes it gave into its part of the buffer.
+fn digest_slot<H: NodeHash>(
+    hash: H,
+    geometry: Geometry,
+    block: u32,
+    given: Option<usize>,
+    slot: &[u8],
+) -> Finding
+    requires inside { block < block_count geometry }
+    requires room { length slot.now ≡ full_block_length }
+    ensures { result ≡ finding_of H.digest geometry block given slot.now }
+{
+    match given {
+        Some(length) if length == geometry.block_len(block) => {
+            Finding::Whole(hash.block(&slot[..length]))
+        }
+        Some(_) => Finding::Short,
+        None => Finding::Failed,
+    }
+}

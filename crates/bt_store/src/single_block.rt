@@ -1,0 +1,122 @@
+ghost use Rattle.std.specs.Prelude.{◌≡◌, ◌≢◌, ◌<◌, ◌≤◌, List, Some, length, slice_get};
+ghost use Rattle.std.specs.Bool.{OnTrue, OnFalse};
+ghost use Rattle.bt_tree.specs.Limits.{full_block_length};
+ghost use Rattle.bt_tree.specs.Blocks.{block_count, block_length};
+ghost use Rattle.bt_store.specs.BlockReads.{BlockRead, IsRight};
+ghost use Rattle.bt_store.specs.Review.{is_marked_at};
+ghost use Rattle.bt_store.specs.SingleBlock.{IsLent, IsLost, IsRestored};
+
+use crate::arrival::place_of;
+use crate::block_states::BlockState;
+use crate::error::{ReadError, StoreError};
+use crate::file_store::FileStore;
+use bt_disk::Disk;
+use bt_sparse::SparseTree;
+use bt_tree::{BLOCK_LEN, NodeHash};
+
+impl<D: Disk + Drop, H: NodeHash> FileStore<D, H> {
+    /// Reads a marked block into the front of `out`, by one call of the device, and says how many bytes it has: `out` has
+    /// room for them. It is lent only where its digest is its leaf.
+    ///
+    /// The refusals are NotMarked, also where there is no such block; Device, after which the block stays marked; and
+    /// Damaged, where the bytes are fewer or their digest is not the leaf, after which the block is missing. After a
+    /// refusal nothing is said of `out`.
+    pub fn read(
+        &mut self,
+        tree: &SparseTree<H>,
+        block: u32,
+        out: &mut [u8],
+    ) -> Result<usize, ReadError>
+        requires geometry { tree.now.file_length ≡ self.old.file_length }
+        requires room { block_length self.old.file_length block ≤ length out.old }
+        ensures { (reads : List BlockRead) × IsLent D.history D.honest D.faults H.digest tree.now
+            block out.new self.old reads result self.new }
+    {
+        if !self.is_marked(block) {
+            return Err(ReadError::NotMarked);
+        }
+        let length = self.geometry.block_len(block);
+        let Ok(count) = self.disk.read_at(place_of(block), &mut out[..length]) else {
+            return Err(ReadError::Device);
+        };
+        if !is_right(self.hash, tree, block, &out[..count]) {
+            self.states.set(block, BlockState::Missing);
+            return Err(ReadError::Damaged);
+        }
+        Ok(count)
+    }
+
+    /// Reads a missing block whose leaf is known, by one call of the device: it becomes marked where its digest is the
+    /// leaf. The answer is whether the block is marked then; any other block is not read.
+    ///
+    /// The refusals are Range, where the file has no such block, and Device, after which the block is missing.
+    pub fn restore(&mut self, tree: &SparseTree<H>, block: u32) -> Result<bool, StoreError>
+        requires { tree.now.file_length ≡ self.old.file_length }
+        ensures { (reads : List BlockRead) × IsRestored D.history D.honest D.faults H.digest tree.now
+            block self.old reads result self.new }
+    {
+        if block >= self.geometry.blocks() {
+            return Err(StoreError::Range);
+        }
+        if !self.is_missing(block) || tree.known(0, block).is_none() {
+            return Ok(self.is_marked(block));
+        }
+        self.find(tree, block, &mut [0; BLOCK_LEN])
+    }
+
+    /// Reads a missing block whose leaf is known into a buffer. It becomes marked where its digest is the leaf, and the
+    /// answer is whether it is.
+    fn find(
+        &mut self,
+        tree: &SparseTree<H>,
+        block: u32,
+        buffer: &mut [u8],
+    ) -> Result<bool, StoreError>
+        requires geometry { tree.now.file_length ≡ self.old.file_length }
+        requires inside { block < block_count tree.now.file_length }
+        requires room { length buffer.old ≡ full_block_length }
+        requires lost { IsLost H.digest tree.now block self.old.states }
+        ensures { (reads : List BlockRead) × IsRestored D.history D.honest D.faults H.digest tree.now
+            block self.old reads result self.new }
+    {
+        let length = self.geometry.block_len(block);
+        let Ok(count) = self.disk.read_at(place_of(block), &mut buffer[..length]) else {
+            return Err(StoreError::Device);
+        };
+        if !is_right(self.hash, tree, block, &buffer[..count]) {
+            return Ok(false);
+        }
+        self.states.set(block, BlockState::Marked);
+        Ok(true)
+    }
+
+    /// Whether a block is marked.
+    fn is_marked(&self, block: u32) -> bool
+        ensures value { result ≡ is_marked_at self.now.states block }
+        ensures yes { OnTrue result (slice_get self.now.states block ≡ Some BlockState.Marked) }
+        ensures no { OnFalse result (slice_get self.now.states block ≢ Some BlockState.Marked) }
+        ensures inside { OnTrue result (block < block_count self.now.file_length) }
+    {
+        match self.states.get(block) {
+            Some(BlockState::Marked) => true,
+            Some(BlockState::Missing) => false,
+            Some(BlockState::Waiting) => false,
+            None => false,
+        }
+    }
+}
+
+/// Whether the bytes are a whole block of the tree's file, and their digest is its leaf.
+fn is_right<H: NodeHash>(hash: H, tree: &SparseTree<H>, block: u32, bytes: &[u8]) -> bool
+    requires { block < block_count tree.now.file_length }
+    ensures yes { OnTrue result (IsRight H.digest tree.now block bytes.now) }
+    ensures no { OnFalse result (¬ IsRight H.digest tree.now block bytes.now) }
+{
+    if bytes.len() != tree.geometry().block_len(block) {
+        return false;
+    }
+    match tree.known(0, block) {
+        Some(leaf) => hash.block(bytes) == leaf,
+        None => false,
+    }
+}
