@@ -15,27 +15,25 @@ pub asked_none : (key : PeerKey) (peers : List PeerRequests) → count_by (is_of
 asked_none key [] none = refl
 asked_none key (r ∷ rs) none = elim (cases_Bool (is_of key r)) [
   | inl yes' ↦ absurd (omega (arith, count_yes (is_of key) r rs yes'))
-  | inr no' ↦ ap (λ b. cond b r.blocks (asked_in key rs)) no' ∙ asked_none key rs (omega (arith, count_no (is_of key) r rs no'))
+  | inr no' ↦ rw no' (asked_none key rs (omega (arith, count_no (is_of key) r rs no')))
 ]
 
 pub asked_at : (key : PeerKey) (peers : List PeerRequests) (i : ℕ) (d : PeerRequests) → i < length peers → is_of key (get_or peers i d) ≡ true → count_by
     (is_of key) peers ≤ 1
     → asked_in key peers ≡ (get_or peers i d).blocks
 asked_at key [] i d lt named once = absurd (omega arith)
-asked_at key (r ∷ rs) zero d lt named once = ap (λ b. cond b r.blocks (asked_in key rs)) named
+asked_at key (r ∷ rs) zero d lt named once = rw named refl
 asked_at key (r ∷ rs) (suc i) d lt named once = elim (cases_Bool (is_of key r)) [
   | inl yes' ↦ absurd (omega (arith, count_yes (is_of key) r rs yes', counted (is_of key) rs i d (omega arith) named))
-  | inr no' ↦ ap (λ b. cond b r.blocks (asked_in key rs)) no' ∙ asked_at key rs i d (omega arith) named (omega (arith, count_no (is_of key) r rs no'))
+  | inr no' ↦ rw no' (asked_at key rs i d (omega arith) named (omega (arith, count_no (is_of key) r rs no')))
 ]
 
 -- ---- a peer is lost
 pub asked_lost : (key : PeerKey) (peers : List PeerRequests) → asked_in key (filter (λ r. not (is_of key r)) peers) ≡ []
 asked_lost key [] = refl
 asked_lost key (r ∷ rs) = elim (cases_Bool (is_of key r)) [
-  | inl gone ↦ ap (λ b. asked_in key (cond (not b) (r ∷ filter (λ q. not (is_of key q)) rs) (filter (λ q. not (is_of key q)) rs))) gone ∙ asked_lost key rs
-  | inr stays ↦
-      ap (λ b. asked_in key (cond (not b) (r ∷ filter (λ q. not (is_of key q)) rs) (filter (λ q. not (is_of key q)) rs))) stays
-      ∙ ap (λ b. cond b r.blocks (asked_in key (filter (λ q. not (is_of key q)) rs))) stays ∙ asked_lost key rs
+  | inl gone ↦ rw gone (asked_lost key rs)
+  | inr stays ↦ rw (stays, stays) (asked_lost key rs)
 ]
 
 apart : (key other : PeerKey) (r : PeerRequests) → other.0 ≢ key.0 → is_of key r ≡ true → is_of other r ≡ false
@@ -45,51 +43,32 @@ pub asked_lost_other : (key other : PeerKey) (peers : List PeerRequests) → oth
     (filter (λ r. not (is_of key r)) peers) ≡ asked_in other peers
 asked_lost_other key other [] ne = refl
 asked_lost_other key other (r ∷ rs) ne = elim (cases_Bool (is_of key r)) [
-  | inl gone ↦
-      ap (λ b. asked_in other (cond (not b) (r ∷ filter (λ q. not (is_of key q)) rs) (filter (λ q. not (is_of key q)) rs))) gone
-      ∙ asked_lost_other key other rs ne
-      ∙ sym (ap (λ b. cond b r.blocks (asked_in other rs)) (apart key other r ne gone))
-  | inr stays ↦
-      ap (λ b. asked_in other (cond (not b) (r ∷ filter (λ q. not (is_of key q)) rs) (filter (λ q. not (is_of key q)) rs))) stays
-      ∙ ap (λ l. cond (is_of other r) r.blocks l) (asked_lost_other key other rs ne)
+  | inl gone ↦ rw (gone, apart key other r ne gone) (asked_lost_other key other rs ne)
+  | inr stays ↦ rw stays (ap (λ l. cond (is_of other r) r.blocks l) (asked_lost_other key other rs ne))
 ]
 
 -- ---- a peer's blocks are changed
 pub asked_cleared : (key : PeerKey) (peers : List PeerRequests) → asked_in key (map (change_of key (λ _. [])) peers) ≡ []
 asked_cleared key [] = refl
 asked_cleared key (r ∷ rs) = elim (cases_Bool (is_of key r)) [
-  | inl named ↦
-      let now : change_of key (λ _. []) r ≡ record r { blocks = [] } = ap (λ b. cond b (record r { blocks = [] }) r) named in
-      ap (λ q. asked_in key (q ∷ map (change_of key (λ _. [])) rs)) now ∙ ap (λ b. cond b [] (asked_in key (map (change_of key (λ _. [])) rs))) named
-  | inr other ↦
-      let now : change_of key (λ _. []) r ≡ r = ap (λ b. cond b (record r { blocks = [] }) r) other in
-      ap (λ q. asked_in key (q ∷ map (change_of key (λ _. [])) rs)) now ∙ ap (λ b. cond b r.blocks (asked_in key (map (change_of key (λ _. [])) rs)))
-      other ∙ asked_cleared key rs
+  | inl named ↦ rw (named, named) refl
+  | inr other ↦ rw (other, other) (asked_cleared key rs)
 ]
 
 pub asked_changed_other : (key other : PeerKey) (change : List BlockId → List BlockId) (peers : List PeerRequests) → other.0 ≢ key.0 → asked_in other
     (map (change_of key change) peers) ≡ asked_in other peers
 asked_changed_other key other change [] ne = refl
 asked_changed_other key other change (r ∷ rs) ne = elim (cases_Bool (is_of key r)) [
-  | inl named ↦
-      let now : change_of key change r ≡ record r { blocks = change r.blocks } = ap (λ b. cond b (record r { blocks = change r.blocks }) r) named in
-      ap (λ q. asked_in other (q ∷ map (change_of key change) rs)) now ∙ ap (λ b. cond b (change r.blocks)
-      (asked_in other (map (change_of key change) rs))) (apart key other r ne named)
-      ∙ asked_changed_other key other change rs ne ∙ sym (ap (λ b. cond b r.blocks (asked_in other rs)) (apart key other r ne named))
-  | inr stays ↦
-      let now : change_of key change r ≡ r = ap (λ b. cond b (record r { blocks = change r.blocks }) r) stays in
-      ap (λ q. asked_in other (q ∷ map (change_of key change) rs)) now ∙ ap (λ l. cond (is_of other r) r.blocks l) (asked_changed_other key other change rs ne)
+  | inl named ↦ rw (named, apart key other r ne named) (asked_changed_other key other change rs ne)
+  | inr stays ↦ rw stays (ap (λ l. cond (is_of other r) r.blocks l) (asked_changed_other key other change rs ne))
 ]
 
 -- ---- the laws
 asked_short : (key : PeerKey) (peers : List PeerRequests) → All (λ r. length r.blocks ≤ 16) peers → length (asked_in key peers) ≤ 16
 asked_short key [] short = omega arith
 asked_short key (r ∷ rs) short = elim (cases_Bool (is_of key r)) [
-  | inl named ↦ let e : length (asked_in key (r ∷ rs)) ≡ length r.blocks = ap (λ b. length (cond b r.blocks (asked_in key rs))) named in omega
-      (arith, e, All-head (λ q. length q.blocks ≤ 16) r rs short)
-  | inr other ↦
-      let e : length (asked_in key (r ∷ rs)) ≡ length (asked_in key rs) = ap (λ b. length (cond b r.blocks (asked_in key rs))) other in
-      omega (arith, e, asked_short key rs (All-tail (λ q. length q.blocks ≤ 16) r rs short))
+  | inl named ↦ rw named (All-head (λ q. length q.blocks ≤ 16) r rs short)
+  | inr other ↦ rw other (asked_short key rs (All-tail (λ q. length q.blocks ≤ 16) r rs short))
 ]
 
 pub book_is : (wanted unasked : Blocks) (peers : List PeerRequests) → IsKept wanted unasked peers → IsBook (record { wanted = wanted; peers = peers })

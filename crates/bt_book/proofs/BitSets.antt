@@ -1,10 +1,9 @@
 -- A set of numbers by its words and its groups.
-use Rattle.std.proofs.Common.{◌≡◌, ◌≢◌, ℕ, ◌+◌, ◌*◌, ◌/◌, ◌^◌, ◌<◌, ◌≤◌, inl, inr, Bool, true, false, eqb, cond, List, length, set, replicate, refl, sym, ap, ◌∙◌, subst, arith, Option, Some, None, IfSome, IfNone, is_some}
-use Rattle.std.proofs.lemmas.List.{length-replicate}
+use Rattle.std.proofs.Common.{◌≡◌, ◌≢◌, ℕ, ◌+◌, ◌*◌, ◌/◌, ◌<◌, ◌≤◌, inl, inr, Bool, true, false, eqb, cond, List, length, set, refl, sym, ap, ◌∙◌, subst, arith, Option, Some, None, IfSome, IfNone, is_some}
 use Rattle.std.proofs.lemmas.Bool.{cases_lt, cases_eq, cases_Bool, eq-eqb, ne_eqb, true≢false}
 use Rattle.bt_book.specs.BitSet.{IsNext, HasNoneFrom}
 use Rattle.bt_book.specs.BitSetSteps.{has_bit, bits_of, IsNextBit, HasNoBit, HasNoBitInGroup, IsSound}
-use Rattle.bt_book.proofs.Words.{has_any, bits_length, zero_bit}
+use Rattle.bt_book.proofs.Words.{has_any, bits_length}
 
 -- a bit was written
 abbrev pub IsWritten : List ℕ → ℕ → Bool → List ℕ → Type 0
@@ -15,20 +14,6 @@ here old new k v written = let at : eqb k k ≡ true = eq-eqb k k refl in rw at 
 
 there : (old new : List ℕ) (k i : ℕ) (v : Bool) → IsWritten old k v new → i ≢ k → has_bit new i ≡ has_bit old i
 there old new k i v written ne = let off : eqb i k ≡ false = ne_eqb i k ne in rw off at (written i)
-
-pub sound_none : (count words groups : ℕ) → words ≤ 2 ^ 32 → groups ≤ 2 ^ 32 → count ≤ 64 * words → count ≤ 262144 * groups → IsSound count
-    (replicate words 0) (replicate groups 0)
-sound_none count words groups few few_groups room group_room =
-    let size : length (replicate {A = ℕ} words 0) ≡ words = length-replicate words 0 in
-    let group_size : length (replicate {A = ℕ} groups 0) ≡ groups = length-replicate groups 0 in
-    record {
-      few = omega arith;
-      few_groups = omega arith;
-      room = omega arith;
-      group_room = omega arith;
-      rest = λ i above. zero_bit words i;
-      grouped = λ i set. absurd (true≢false (sym set ∙ zero_bit words i));
-    }
 
 pub sound_with : (count : ℕ) (words groups new new_groups : List ℕ) (k : ℕ) → IsSound count words groups → k < count → length new ≡ length words
     → length new_groups ≡ length groups

@@ -1,7 +1,7 @@
 -- Sets of blocks.
 use Rattle.std.proofs.Common.{◌≡◌, ℕ, ◌^◌, ◌<◌, min, inl, inr, Bool, true, false, eqb, cond, List, [], length, get_or, set, map, replicate, sym, ap, ◌∙◌, arith, get_or-set_same, get_or-set_other}
 use Rattle.std.proofs.lemmas.List.{get_or_past, get_or-map, get_or-replicate, length-set, length-map, length-replicate}
-use Rattle.std.proofs.lemmas.Bool.{cases_lt, cases_eq, cases_Bool, eq-eqb, ne_eqb, and_from, and_left, and_right, true≢false}
+use Rattle.std.proofs.lemmas.Bool.{cases_lt, cases_eq, eq-eqb, ne_eqb, and_from, and_left, and_right, true≢false}
 use Rattle.bt_book.specs.declared.names.BlockId.{BlockId}
 use Rattle.bt_book.specs.Blocks.{Blocks, of_file, IsInRange, member, with_block, is_block, IsFilled}
 
@@ -17,8 +17,7 @@ of_file_with s b v inside = get_or-set_same s b.file (set (of_file s b.file) b.b
 
 pub shape_with : (s : Blocks) (b : BlockId) (v : Bool) (file : ℕ) → IsInRange s b → length (of_file (with_block s b v) file) ≡ length (of_file s file)
 shape_with s b v file inside = elim (cases_eq file b.file) [
-  | inl e ↦ ap (λ f. length (of_file (with_block s b v) f)) e ∙ ap length (of_file_with s b v inside) ∙ length-set (of_file s b.file) b.block v ∙ ap
-      (λ f. length (of_file s f)) (sym e)
+  | inl e ↦ rw (e, of_file_with s b v inside) (length-set (of_file s b.file) b.block v)
   | inr ne ↦ ap length (get_or-set_other s b.file file (set (of_file s b.file) b.block v) [] ne)
 ]
 
@@ -26,17 +25,16 @@ pub member_with : (s : Blocks) (b c : BlockId) (v : Bool) → IsInRange s b → 
 member_with s b c v inside = elim (cases_eq c.file b.file) [
   | inl file ↦
       let at_file : eqb c.file b.file ≡ true = eq-eqb c.file b.file file in
-      let here : of_file (with_block s b v) c.file ≡ set (of_file s b.file) b.block v = ap (of_file (with_block s b v)) file ∙ of_file_with s b v inside in
-      ap (λ l. get_or l c.block false) here ∙ elim (cases_eq c.block b.block) [
+      elim (cases_eq c.block b.block) [
         | inl block ↦
-            let same : is_block b c ≡ true = and_from (eqb c.file b.file) (eqb c.block b.block) at_file (eq-eqb c.block b.block block) in
-            rw same (ap (λ n. get_or (set (of_file s b.file) b.block v) n false) block ∙ get_or-set_same (of_file s b.file) b.block v false inside)
+            let same : is_block b c ≡ true = and_from _ _ at_file (eq-eqb c.block b.block block) in
+            rw (same, file, block, of_file_with s b v inside) (get_or-set_same (of_file s b.file) b.block v false inside)
         | inr ne ↦
-            let other : is_block b c ≡ false = and_right (eqb c.file b.file) (eqb c.block b.block) (ne_eqb c.block b.block ne) in
-            rw other (get_or-set_other (of_file s b.file) b.block c.block v false ne ∙ ap (λ f. get_or (of_file s f) c.block false) (sym file))
+            let other : is_block b c ≡ false = and_right _ _ (ne_eqb c.block b.block ne) in
+            rw (other, file, of_file_with s b v inside) (get_or-set_other (of_file s b.file) b.block c.block v false ne)
       ]
   | inr ne ↦
-      let other : is_block b c ≡ false = and_left (eqb c.file b.file) (eqb c.block b.block) (ne_eqb c.file b.file ne) in
+      let other : is_block b c ≡ false = and_left _ _ (ne_eqb c.file b.file ne) in
       rw other (ap (λ l. get_or l c.block false) (get_or-set_other s b.file c.file (set (of_file s b.file) b.block v) [] ne))
 ]
 
@@ -51,10 +49,7 @@ pub filled_without : (s : Blocks) (marks : List Bool) (b : BlockId) → IsFilled
 filled_without s marks b filled inside = record {
   size = filled.size ∙ ap (λ n. min n (2 ^ 32)) (sym (length-set s b.file (set (of_file s b.file) b.block false)));
   short = λ file. let e = shape_with s b false file inside in let short = filled.short file in omega arith;
-  marked = λ c is. filled.marked c (elim (cases_Bool (is_block b c)) [
-    | inl same ↦ absurd (true≢false (sym is ∙ member_with s b c false inside ∙ ap (λ t. cond t false (member s c)) same))
-    | inr other ↦ sym (member_with s b c false inside ∙ ap (λ t. cond t false (member s c)) other) ∙ is
-  ]);
+  marked = λ c is. filled.marked c (let now = member_with s b c false inside in grind arith);
 }
 
 empty_file : (blocks : List ℕ) (file : ℕ) → file < length blocks → of_file (map (λ n. replicate n false) blocks) file ≡ replicate (get_or blocks file 0) false

@@ -19,26 +19,19 @@ counted p xs i d lt passes =
     let one : cond {A = ℕ} (p (get_or xs i d)) 1 0 ≡ 1 = ap (λ b. cond {A = ℕ} b 1 0) passes in
     omega (arith, get_or-le-sum_by (λ y. cond (p y) 1 0) xs i d lt)
 
-pub none_passes : {X : Type 0} (p : X → Bool) (xs : List X) (i : ℕ) (d : X) → count_by p xs ≡ 0 → i < length xs → p (get_or xs i d) ≡ false
-none_passes p xs i d none lt = elim (cases_Bool (p (get_or xs i d))) [
-  | inl passes ↦ absurd (let some = counted p xs i d lt passes in omega arith)
-  | inr fails ↦ fails
-]
-
 -- ---- where none passes
 pub filter_none : {X : Type 0} (p : X → Bool) (xs : List X) → count_by p xs ≡ 0 → filter (λ x. not (p x)) xs ≡ xs
 filter_none p [] none = refl
 filter_none p (x ∷ xs) none = elim (cases_Bool (p x)) [
   | inl yes' ↦ absurd (omega (arith, count_yes p x xs yes'))
-  | inr no' ↦ ap (λ b. cond (not b) (x ∷ filter (λ y. not (p y)) xs) (filter (λ y. not (p y)) xs)) no' ∙ ap (λ l. x ∷ l)
-      (filter_none p xs (omega (arith, count_no p x xs no')))
+  | inr no' ↦ rw no' (ap (λ l. x ∷ l) (filter_none p xs (omega (arith, count_no p x xs no'))))
 ]
 
 pub map_none : {X : Type 0} (p : X → Bool) (g : X → X) (xs : List X) → count_by p xs ≡ 0 → map (λ x. cond (p x) (g x) x) xs ≡ xs
 map_none p g [] none = refl
 map_none p g (x ∷ xs) none = elim (cases_Bool (p x)) [
   | inl yes' ↦ absurd (omega (arith, count_yes p x xs yes'))
-  | inr no' ↦ ap (λ b. cond b (g x) x ∷ map (λ y. cond (p y) (g y) y) xs) no' ∙ ap (λ l. x ∷ l) (map_none p g xs (omega (arith, count_no p x xs no')))
+  | inr no' ↦ rw no' (ap (λ l. x ∷ l) (map_none p g xs (omega (arith, count_no p x xs no'))))
 ]
 
 -- ---- where one passes
@@ -46,22 +39,18 @@ pub filter_one : {X : Type 0} (p : X → Bool) (xs : List X) (i : ℕ) (d : X) �
     (λ x. not (p x)) xs ≡ remove xs i
 filter_one p [] i d lt passes once = absurd (omega arith)
 filter_one p (x ∷ xs) zero d lt passes once =
-    ap (λ b. cond (not b) (x ∷ filter (λ y. not (p y)) xs) (filter (λ y. not (p y)) xs)) passes ∙ filter_none p xs (omega (arith, count_yes p x xs passes))
+    rw passes (filter_none p xs (omega (arith, count_yes p x xs passes)))
 filter_one p (x ∷ xs) (suc i) d lt passes once = elim (cases_Bool (p x)) [
   | inl yes' ↦ absurd (omega (arith, count_yes p x xs yes', counted p xs i d (omega arith) passes))
-  | inr no' ↦
-      ap (λ b. cond (not b) (x ∷ filter (λ y. not (p y)) xs) (filter (λ y. not (p y)) xs)) no'
-      ∙ ap (λ l. x ∷ l) (filter_one p xs i d (omega arith) passes (omega (arith, count_no p x xs no')))
+  | inr no' ↦ rw no' (ap (λ l. x ∷ l) (filter_one p xs i d (omega arith) passes (omega (arith, count_no p x xs no'))))
 ]
 
 pub map_one : {X : Type 0} (p : X → Bool) (g : X → X) (xs : List X) (i : ℕ) (d : X) → i < length xs → p (get_or xs i d) ≡ true → count_by p xs ≤ 1
     → map (λ x. cond (p x) (g x) x) xs ≡ set xs i (g (get_or xs i d))
 map_one p g [] i d lt passes once = absurd (omega arith)
 map_one p g (x ∷ xs) zero d lt passes once =
-    ap (λ b. cond b (g x) x ∷ map (λ y. cond (p y) (g y) y) xs) passes ∙ ap (λ l. g x ∷ l) (map_none p g xs (omega (arith, count_yes p x xs passes)))
+    rw passes (ap (λ l. g x ∷ l) (map_none p g xs (omega (arith, count_yes p x xs passes))))
 map_one p g (x ∷ xs) (suc i) d lt passes once = elim (cases_Bool (p x)) [
   | inl yes' ↦ absurd (omega (arith, count_yes p x xs yes', counted p xs i d (omega arith) passes))
-  | inr no' ↦
-      ap (λ b. cond b (g x) x ∷ map (λ y. cond (p y) (g y) y) xs) no'
-      ∙ ap (λ l. x ∷ l) (map_one p g xs i d (omega arith) passes (omega (arith, count_no p x xs no')))
+  | inr no' ↦ rw no' (ap (λ l. x ∷ l) (map_one p g xs i d (omega arith) passes (omega (arith, count_no p x xs no'))))
 ]

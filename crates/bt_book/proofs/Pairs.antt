@@ -12,7 +12,7 @@ use Rattle.bt_book.specs.Blocks.{Blocks, of_file, IsInRange, member, is_block, w
 use Rattle.bt_book.specs.Book.{PeerRequests, is_of, pairs_in, without_block, without_block_of}
 use Rattle.bt_book.specs.BookSteps.{one_if, IsKept, AreAdded, CanAdd}
 use Rattle.bt_book.proofs.BlockSets.{member_with, shape_with, member_in_range}
-use Rattle.bt_book.proofs.Once.{count_cons, counted, filter_none, filter_one}
+use Rattle.bt_book.proofs.Once.{count_cons, count_no, counted, filter_none, filter_one}
 
 -- ---- one block among others
 pub same_block : (b c : BlockId) → is_block b c ≡ true → c ≡ b
@@ -46,20 +46,15 @@ count_without c b [] = elim (cases_Bool (is_block c b)) [
   | inr e ↦ rw e refl
 ]
 count_without c b (x ∷ xs) = elim (cases_Bool (is_block c x)) [
-  | inl gone ↦
-      ap (λ t. count_by (is_block b) (cond (not t) (x ∷ without_block c xs) (without_block c xs))) gone ∙ count_without c b xs ∙ elim
+  | inl gone ↦ rw gone (count_without c b xs ∙ elim (cases_Bool (is_block c b)) [
+    | inl same ↦ rw same refl
+    | inr other ↦ rw other (sym (count_no (is_block b) x xs (is_block_turned b x ∙ sym (is_block_alike c x b gone) ∙ other)))
+  ])
+  | inr kept ↦ rw kept (count_cons (is_block b) x (without_block c xs) ∙ ap (λ n. cond (is_block b x) 1 0 + n) (count_without c b xs) ∙ elim
       (cases_Bool (is_block c b)) [
-        | inl same ↦ rw same refl
-        | inr other ↦
-            let apart : is_block b x ≡ false = is_block_turned b x ∙ sym (is_block_alike c x b gone) ∙ other in
-            rw other (sym (count_cons (is_block b) x xs ∙ ap (λ t. cond {A = ℕ} t 1 0 + count_by (is_block b) xs) apart ∙ omega arith))
-      ]
-  | inr kept ↦
-      ap (λ t. count_by (is_block b) (cond (not t) (x ∷ without_block c xs) (without_block c xs))) kept ∙ count_cons (is_block b) x (without_block c xs)
-      ∙ ap (λ n. cond (is_block b x) 1 0 + n) (count_without c b xs) ∙ elim (cases_Bool (is_block c b)) [
         | inl same ↦ rw same (ap (λ t. cond {A = ℕ} t 1 0 + 0) (sym (is_block_alike c b x same) ∙ kept))
         | inr other ↦ rw other (sym (count_cons (is_block b) x xs))
-      ]
+      ])
 ]
 
 pub pairs_without : (c b : BlockId) (peers : List PeerRequests) → pairs_in (map (without_block_of c) peers) b ≡ cond (is_block c b) 0 (pairs_in peers b)
@@ -77,109 +72,22 @@ pairs_without c b (r ∷ rs) =
       | inr other ↦ rw other (sym (sum_by-cons counts r rs))
     ]
 
--- ---- a book is kept
+-- ---- blocks and their members
 pub one_if_le : (b : Bool) → one_if b ≤ 1
 one_if_le true = omega arith
 one_if_le false = omega arith
 
-pub kept_none : (wanted : Blocks) → ((b : BlockId) → member wanted b ≡ false) → IsKept wanted wanted []
-kept_none wanted none = record {
-  shape = λ file. refl;
-  few = omega arith;
-  once = λ key. omega arith;
-  short = λ k d lt. absurd (omega arith);
-  counts = λ b. ap (λ t. cond {A = ℕ} t 1 0 + 0) (none b) ∙ sym (ap (λ t. cond {A = ℕ} t 1 0) (none b));
-}
+one_if_cond : (t a b : Bool) → one_if (cond t a b) ≡ cond t (one_if a) (one_if b)
+one_if_cond true a b = refl
+one_if_cond false a b = refl
 
-pub kept_join : (wanted unasked : Blocks) (peers : List PeerRequests) (key : PeerKey) → IsKept wanted unasked peers → count_by (is_of key) peers ≡ 0
-    → length peers < 64
-    → IsKept wanted unasked (peers ++ (record { peer = key; blocks = [] }) ∷ [])
-kept_join wanted unasked peers key kept none room = record {
-  shape = kept.shape;
-  few = omega (arith, length_push peers r);
-  once = λ other. let pushed = sum_by_push (λ q. cond (is_of other q) 1 0) peers r in elim (cases_eq key.0 other.0) [
-    | inl same ↦
-        let alike : count_by (is_of other) peers ≡ 0 = ap (λ n. count_by (λ (q : PeerRequests). eqb q.peer.0 n) peers) (sym same) ∙ none in
-        omega (arith, pushed, alike, one_if_le (is_of other r))
-    | inr ne ↦
-        let off : cond {A = ℕ} (is_of other r) 1 0 ≡ 0 = ap (λ t. cond {A = ℕ} t 1 0) (ne_eqb key.0 other.0 ne) in
-        omega (arith, pushed, off, kept.once other)
-  ];
-  short = All-push (λ q. length q.blocks ≤ 16) peers r kept.short (omega arith);
-  counts = λ b. omega (arith, sum_by_push (λ q. count_by (is_block b) q.blocks) peers r, kept.counts b);
-}
-  where
-    r : PeerRequests
-    r = record { peer = key; blocks = [] }
+-- a block and the others, after one block was written
+ones_with : (s : Blocks) (b c : BlockId) (v : Bool) → IsInRange s b → one_if (member (with_block s b v) c) ≡ cond (is_block b c) (one_if v)
+    (one_if (member s c))
+ones_with s b c v inside = ap one_if (member_with s b c v inside) ∙ one_if_cond (is_block b c) v (member s c)
 
--- what a peer is asked for is changed, and the unasked blocks with it
-pub kept_set : (wanted unasked new : Blocks) (peers : List PeerRequests) (i : ℕ) (e r : PeerRequests) → IsKept wanted unasked peers → i < length peers
-    → e ≡ get_or peers i e
-    → r.peer ≡ e.peer → length r.blocks ≤ 16 → ((file : ℕ) → length (of_file new file) ≡ length (of_file unasked file))
-    → ((b : BlockId) → one_if (member new b) + count_by (is_block b) r.blocks ≡ one_if (member unasked b) + count_by (is_block b) e.blocks)
-    → IsKept wanted new (set peers i r)
-kept_set wanted unasked new peers i e r kept inside read same short shape counts = record {
-  shape = λ file. shape file ∙ kept.shape file;
-  few = omega (arith, length-set peers i r, kept.few);
-  once = λ key.
-      let alike : cond {A = ℕ} (is_of key r) 1 0 ≡ cond {A = ℕ} (is_of key (get_or peers i e)) 1 0 = ap (λ p. cond {A = ℕ} (eqb p.0 key.0) 1 0) same ∙ ap
-      (λ q. cond {A = ℕ} (is_of key q) 1 0) read in
-      omega (arith, sum_by-set (λ q. cond (is_of key q) 1 0) peers i r e inside, alike, kept.once key);
-  short = All-set (λ q. length q.blocks ≤ 16) peers i r short kept.short;
-  counts = λ b.
-      let was : count_by (is_block b) e.blocks ≡ count_by (is_block b) (get_or peers i e).blocks = ap (λ q. count_by (is_block b) q.blocks) read in
-      omega (arith, sum_by-set (λ q. count_by (is_block b) q.blocks) peers i r e inside, was, counts b, kept.counts b);
-}
-
-pub kept_lost : (wanted unasked new : Blocks) (peers : List PeerRequests) (key : PeerKey) (i : ℕ) (d : PeerRequests) → IsKept wanted unasked peers
-    → i < length peers
-    → is_of key (get_or peers i d) ≡ true → AreAdded unasked (get_or peers i d).blocks new → IsKept wanted new (filter (λ r. not (is_of key r)) peers)
-kept_lost wanted unasked new peers key i d kept inside named added =
-    let is : filter (λ r. not (is_of key r)) peers ≡ remove peers i = filter_one (is_of key) peers i d inside named (kept.once key) in
-    record {
-      shape = λ file. added.shape file ∙ kept.shape file;
-      few = let e = ap length is in omega (arith, length-remove peers i inside, e, kept.few);
-      once = λ other. let e = ap (count_by (is_of other)) is in omega (
-        arith,
-        sum_by-remove
-            (λ q. cond (is_of other q) 1 0) peers i d inside,
-        e,
-        kept.once other,
-      );
-      short = All-filter (λ r. not (is_of key r)) (λ q. length q.blocks ≤ 16) peers kept.short;
-      counts = λ b. let e = ap (λ l. pairs_in l b) is in omega (
-        arith,
-        sum_by-remove (λ q. count_by (is_block b) q.blocks) peers i d inside,
-        e,
-        added.counts b,
-        kept.counts b,
-      );
-    }
-
-pub kept_want : (wanted unasked : Blocks) (peers : List PeerRequests) (b : BlockId) → IsKept wanted unasked peers → IsInRange wanted b
-    → IsInRange unasked b → member wanted b ≡ false
-    → IsKept (with_block wanted b true) (with_block unasked b true) peers
-kept_want wanted unasked peers b kept inside also_inside off = record {
-  shape = λ file. shape_with unasked b true file also_inside ∙ kept.shape file ∙ sym (shape_with wanted b true file inside);
-  few = kept.few;
-  once = kept.once;
-  short = kept.short;
-  counts = λ c. elim (cases_Bool (is_block b c)) [
-    | inl same ↦
-        let w : one_if (member (with_block wanted b true) c) ≡ 1 = ap one_if (member_with wanted b c true inside ∙ ap
-        (λ t. cond t true (member wanted c)) same) in
-        let u : one_if (member (with_block unasked b true) c) ≡ 1 = ap one_if (member_with unasked b c true also_inside ∙ ap
-        (λ t. cond t true (member unasked c)) same) in
-        let none : one_if (member wanted c) ≡ 0 = ap (λ x. one_if (member wanted x)) (same_block b c same) ∙ ap one_if off in
-        omega (arith, w, u, none, kept.counts c)
-    | inr other ↦
-        let w : one_if (member (with_block wanted b true) c) ≡ one_if (member wanted c) = ap one_if
-        (member_with wanted b c true inside ∙ ap (λ t. cond t true (member wanted c)) other) in
-        let u : one_if (member (with_block unasked b true) c) ≡ one_if (member unasked c) = ap one_if
-        (member_with unasked b c true also_inside ∙ ap (λ t. cond t true (member unasked c)) other) in
-        omega (arith, w, u, kept.counts c)
-  ];
-}
+ones_same : (s : Blocks) (b c : BlockId) (v : Bool) → member s b ≡ v → is_block b c ≡ true → one_if (member s c) ≡ one_if v
+ones_same s b c v is same = ap (λ x. one_if (member s x)) (same_block b c same) ∙ ap one_if is
 
 count_same_peers : (key : PeerKey) (b : BlockId) (peers : List PeerRequests) → count_by (is_of key) (map (without_block_of b) peers) ≡ count_by
     (is_of key) peers
@@ -191,33 +99,6 @@ count_same_peers key b (r ∷ rs) =
 length_without : (b : BlockId) (blocks : List BlockId) → length (without_block b blocks) ≤ length blocks
 length_without b blocks = omega (arith, length-filter (λ c. not (is_block b c)) blocks, count_by-le-length (λ c. not (is_block b c)) blocks)
 
--- the block is done: it is wanted no more, nor unasked
-pub kept_done : (wanted unasked new : Blocks) (peers : List PeerRequests) (b : BlockId) → IsKept wanted unasked peers → IsInRange wanted b
-    → ((file : ℕ) → length (of_file new file) ≡ length (of_file unasked file)) → ((c : BlockId) → member new c ≡ cond (is_block b c) false (member unasked c))
-    → IsKept (with_block wanted b false) new (map (without_block_of b) peers)
-kept_done wanted unasked new peers b kept inside shape members = record {
-  shape = λ file. shape file ∙ kept.shape file ∙ sym (shape_with wanted b false file inside);
-  few = omega (arith, length-map peers (without_block_of b), kept.few);
-  once = λ key. omega (arith, count_same_peers key b peers, kept.once key);
-  short = All-map (λ q. length q.blocks ≤ 16) (without_block_of b) peers (All-weaker (λ q. length q.blocks ≤ 16)
-      (λ q. length (without_block b q.blocks) ≤ 16) (λ q h. omega (arith, length_without b q.blocks)) peers kept.short);
-  counts = λ c. elim (cases_Bool (is_block b c)) [
-    | inl same ↦
-        let w : one_if (member (with_block wanted b false) c) ≡ 0 = ap one_if (member_with wanted b c false inside ∙ ap
-        (λ t. cond t false (member wanted c)) same) in
-        let u : one_if (member new c) ≡ 0 = ap one_if (members c ∙ ap (λ t. cond t false (member unasked c)) same) in
-        let p : pairs_in (map (without_block_of b) peers) c ≡ 0 = pairs_without b c peers ∙ ap (λ t. cond {A = ℕ} t 0 (pairs_in peers c)) same in
-        omega (arith, w, u, p)
-    | inr other ↦
-        let w : one_if (member (with_block wanted b false) c) ≡ one_if (member wanted c) = ap one_if
-        (member_with wanted b c false inside ∙ ap (λ t. cond t false (member wanted c)) other) in
-        let u : one_if (member new c) ≡ one_if (member unasked c) = ap one_if (members c ∙ ap (λ t. cond t false (member unasked c)) other) in
-        let p : pairs_in (map (without_block_of b) peers) c ≡ pairs_in peers c = pairs_without b c peers ∙ ap
-        (λ t. cond {A = ℕ} t 0 (pairs_in peers c)) other in
-        omega (arith, w, u, p, kept.counts c)
-  ];
-}
-
 -- a block in no pair is in no peer's list
 pub forgotten_none : (b : BlockId) (peers : List PeerRequests) → pairs_in peers b ≡ 0 → map (without_block_of b) peers ≡ peers
 forgotten_none b [] none = refl
@@ -227,29 +108,6 @@ forgotten_none b (r ∷ rs) none =
     (filter_none (is_block b) r.blocks (omega (arith, split))) in
     ap (λ q. q ∷ map (without_block_of b) rs) first ∙ ap (λ l. r ∷ l) (forgotten_none b rs (omega (arith, split)))
 
--- ---- done, where it was unasked, and where a peer was asked for it
-pub kept_done_unasked : (wanted unasked : Blocks) (peers : List PeerRequests) (b : BlockId) → IsKept wanted unasked peers → IsInRange wanted b
-    → member unasked b ≡ true
-    → IsKept (with_block wanted b false) (with_block unasked b false) peers
-kept_done_unasked wanted unasked peers b kept inside is =
-    let also = member_in_range unasked b is in
-    let one : one_if (member unasked b) ≡ 1 = ap one_if is in
-    subst (λ (l : List PeerRequests). IsKept (with_block wanted b false) (with_block unasked b false) l)
-    (forgotten_none b peers (omega (arith, one, kept.counts b, one_if_le (member wanted b))))
-    (kept_done wanted unasked (with_block unasked b false) peers b kept inside (λ file. shape_with unasked b false file also)
-    (λ c. member_with unasked b c false also))
-
-pub kept_done_asked : (wanted unasked : Blocks) (peers ys : List PeerRequests) (b : BlockId) → IsKept wanted unasked peers → IsInRange wanted b
-    → member unasked b ≡ false
-    → ys ≡ map (without_block_of b) peers → IsKept (with_block wanted b false) unasked ys
-kept_done_asked wanted unasked peers ys b kept inside isnt is =
-    subst (λ (l : List PeerRequests). IsKept (with_block wanted b false) unasked l) (sym is)
-    (kept_done wanted unasked unasked peers b kept inside (λ file. refl) (λ c. elim (cases_Bool (is_block b c)) [
-      | inl same ↦ ap (member unasked) (same_block b c same) ∙ isnt ∙ sym (ap (λ t. cond t false (member unasked c)) same)
-      | inr other ↦ sym (ap (λ t. cond t false (member unasked c)) other)
-    ]))
-
--- ---- what a peer's blocks are in a kept book
 pub count_le_pairs : (b : BlockId) (peers : List PeerRequests) (i : ℕ) (e : PeerRequests) → i < length peers → e ≡ get_or peers i e → count_by
     (is_block b) e.blocks ≤ pairs_in peers b
 count_le_pairs b peers i e inside read =
@@ -262,79 +120,156 @@ is_member set b some = elim (cases_Bool (member set b)) [
   | inr isnt ↦ absurd (let none : one_if (member set b) ≡ 0 = ap one_if isnt in omega (arith, none, some))
 ]
 
-pub can_add : (wanted unasked : Blocks) (peers : List PeerRequests) (i : ℕ) (e : PeerRequests) → IsKept wanted unasked peers → i < length peers
-    → e ≡ get_or peers i e → CanAdd unasked e.blocks
-can_add wanted unasked peers i e kept inside read = record {
-  inside = λ k d lt.
-      let b : BlockId = get_or e.blocks k d in
-      let some = counted (is_block b) e.blocks k d lt (is_block_itself b) in
-      let is = is_member wanted b (omega (arith, some, count_le_pairs b peers i e inside read, kept.counts b)) in
-      omega (arith, member_in_range wanted b is, kept.shape b.file);
-  counts = λ b. omega (arith, count_le_pairs b peers i e inside read, kept.counts b, one_if_le (member wanted b));
-}
-
--- ---- a pair is made, or dropped
-pub kept_ask : (wanted unasked : Blocks) (peers : List PeerRequests) (i : ℕ) (e : PeerRequests) (b : BlockId) → IsKept wanted unasked peers
-    → i < length peers → e ≡ get_or peers i e
-    → length e.blocks < 16 → member unasked b ≡ true → IsKept wanted (with_block unasked b false) (set peers i (record e { blocks = e.blocks ++ b ∷ [] }))
-kept_ask wanted unasked peers i e b kept inside read room is =
-    let in_range = member_in_range unasked b is in
-    kept_set wanted unasked (with_block unasked b false) peers i e (record e { blocks = e.blocks ++ b ∷ [] }) kept inside read refl
-    (omega (arith, length_push e.blocks b)) (λ file. shape_with unasked b false file in_range)
-    (λ c.
-    let pushed : count_by (is_block c) (e.blocks ++ b ∷ []) ≡ count_by (is_block c) e.blocks + cond {A = ℕ} (is_block c b) 1 0 = sum_by_push
-    (λ x. cond (is_block c x) 1 0) e.blocks b in
-    elim (cases_Bool (is_block b c)) [
+-- ---- a book is kept
+module _ (wanted unasked : Blocks) (peers : List PeerRequests) (kept : IsKept wanted unasked peers) where
+  pub kept_join : (key : PeerKey) → count_by (is_of key) peers ≡ 0 → length peers < 64
+      → IsKept wanted unasked (peers ++ (record { peer = key; blocks = [] }) ∷ [])
+  kept_join key none room = record {
+    shape = kept.shape;
+    few = omega (arith, length_push peers r);
+    once = λ other. let pushed = sum_by_push (λ q. cond (is_of other q) 1 0) peers r in elim (cases_eq key.0 other.0) [
       | inl same ↦
-          let now : one_if (member (with_block unasked b false) c) ≡ 0 = ap one_if (member_with unasked b c false in_range ∙ ap
-          (λ t. cond t false (member unasked c)) same) in
-          let was : one_if (member unasked c) ≡ 1 = ap (λ x. one_if (member unasked x)) (same_block b c same) ∙ ap one_if is in
-          let one : cond {A = ℕ} (is_block c b) 1 0 ≡ 1 = ap (λ t. cond {A = ℕ} t 1 0) (is_block_turned c b ∙ same) in
-          omega (arith, now, was, one, pushed)
-      | inr other ↦
-          let now : one_if (member (with_block unasked b false) c) ≡ one_if (member unasked c) = ap one_if
-          (member_with unasked b c false in_range ∙ ap (λ t. cond t false (member unasked c)) other) in
-          let none : cond {A = ℕ} (is_block c b) 1 0 ≡ 0 = ap (λ t. cond {A = ℕ} t 1 0) (is_block_turned c b ∙ other) in
-          omega (arith, now, none, pushed)
-    ])
+          let alike : count_by (is_of other) peers ≡ 0 = ap (λ n. count_by (λ (q : PeerRequests). eqb q.peer.0 n) peers) (sym same) ∙ none in
+          omega (arith, pushed, alike, one_if_le (is_of other r))
+      | inr ne ↦
+          let off : cond {A = ℕ} (is_of other r) 1 0 ≡ 0 = ap (λ t. cond {A = ℕ} t 1 0) (ne_eqb key.0 other.0 ne) in
+          omega (arith, pushed, off, kept.once other)
+    ];
+    short = All-push (λ q. length q.blocks ≤ 16) peers r kept.short (omega arith);
+    counts = λ b. omega (arith, sum_by_push (λ q. count_by (is_block b) q.blocks) peers r, kept.counts b);
+  }
+    where
+      r : PeerRequests
+      r = record { peer = key; blocks = [] }
 
-pub asked_in_range : (wanted unasked : Blocks) (peers : List PeerRequests) (i : ℕ) (e : PeerRequests) (b : BlockId) → IsKept wanted unasked peers
-    → i < length peers → e ≡ get_or peers i e
-    → 0 < count_by (is_block b) e.blocks → IsInRange unasked b
-asked_in_range wanted unasked peers i e b kept inside read some =
-    let is = is_member wanted b (omega (arith, some, count_le_pairs b peers i e inside read, kept.counts b)) in
-    omega (arith, member_in_range wanted b is, kept.shape b.file)
+  pub kept_lost : (new : Blocks) (key : PeerKey) (i : ℕ) (d : PeerRequests) → i < length peers → is_of key (get_or peers i d) ≡ true
+      → AreAdded unasked (get_or peers i d).blocks new → IsKept wanted new (filter (λ r. not (is_of key r)) peers)
+  kept_lost new key i d inside named added =
+      let is : filter (λ r. not (is_of key r)) peers ≡ remove peers i = filter_one (is_of key) peers i d inside named (kept.once key) in
+      record {
+        shape = λ file. added.shape file ∙ kept.shape file;
+        few = let e = ap length is in omega (arith, length-remove peers i inside, e, kept.few);
+        once = λ other. let e = ap (count_by (is_of other)) is in omega (
+          arith,
+          sum_by-remove (λ q. cond (is_of other q) 1 0) peers i d inside,
+          e,
+          kept.once other,
+        );
+        short = All-filter (λ r. not (is_of key r)) (λ q. length q.blocks ≤ 16) peers kept.short;
+        counts = λ b. let e = ap (λ l. pairs_in l b) is in omega (
+          arith,
+          sum_by-remove (λ q. count_by (is_block b) q.blocks) peers i d inside,
+          e,
+          added.counts b,
+          kept.counts b,
+        );
+      }
 
-pub kept_came : (wanted unasked : Blocks) (peers : List PeerRequests) (i : ℕ) (e : PeerRequests) (b : BlockId) → IsKept wanted unasked peers
-    → i < length peers → e ≡ get_or peers i e
-    → 0 < count_by (is_block b) e.blocks → IsKept wanted (with_block unasked b true) (set peers i (record e { blocks = without_block b e.blocks }))
-kept_came wanted unasked peers i e b kept inside read some =
-    let in_range = asked_in_range wanted unasked peers i e b kept inside read some in
-    let size : length e.blocks ≤ 16 = ap_short read in
-    kept_set wanted unasked (with_block unasked b true) peers i e (record e { blocks = without_block b e.blocks }) kept inside read refl
-    (omega (arith, length_without b e.blocks)) (λ file. shape_with unasked b true file in_range)
-    (λ c. elim (cases_Bool (is_block b c)) [
-      | inl same ↦
-          let now : one_if (member (with_block unasked b true) c) ≡ 1 = ap one_if (member_with unasked b c true in_range ∙ ap
-          (λ t. cond t true (member unasked c)) same) in
-          let gone : count_by (is_block c) (without_block b e.blocks) ≡ 0 = count_without b c e.blocks ∙ ap
-          (λ t. cond {A = ℕ} t 0 (count_by (is_block c) e.blocks)) same in
-          let alike : count_by (is_block c) e.blocks ≡ count_by (is_block b) e.blocks = ap (λ x. count_by (is_block x) e.blocks) (same_block b c same) in
-          omega (arith, now, gone, alike, some, count_le_pairs c peers i e inside read, kept.counts c, one_if_le (member wanted c))
-      | inr other ↦
-          let now : one_if (member (with_block unasked b true) c) ≡ one_if (member unasked c) = ap one_if
-          (member_with unasked b c true in_range ∙ ap (λ t. cond t true (member unasked c)) other) in
-          let kept' : count_by (is_block c) (without_block b e.blocks) ≡ count_by (is_block c) e.blocks = count_without b c e.blocks ∙ ap
-          (λ t. cond {A = ℕ} t 0 (count_by (is_block c) e.blocks)) other in
-          omega (arith, now, kept')
-    ])
-  where
-    ap_short : e ≡ get_or peers i e → length e.blocks ≤ 16
-    ap_short h = let s = All-get_or (λ q. length q.blocks ≤ 16) peers i e inside kept.short in let l : length e.blocks ≡ length
-        (get_or peers i e).blocks = ap (λ q. length q.blocks) h in omega (arith, s, l)
+  pub kept_want : (b : BlockId) → IsInRange wanted b → IsInRange unasked b → member wanted b ≡ false
+      → IsKept (with_block wanted b true) (with_block unasked b true) peers
+  kept_want b inside also off = record {
+    shape = λ file. shape_with unasked b true file also ∙ kept.shape file ∙ sym (shape_with wanted b true file inside);
+    few = kept.few;
+    once = kept.once;
+    short = kept.short;
+    counts = λ c.
+        let now = ones_with wanted b c true inside in
+        grind (arith, now, ones_with unasked b c true also, ones_same wanted b c false off, kept.counts c);
+  }
 
-pub kept_choked : (wanted unasked new : Blocks) (peers : List PeerRequests) (i : ℕ) (e : PeerRequests) → IsKept wanted unasked peers → i < length peers
-    → e ≡ get_or peers i e
-    → AreAdded unasked e.blocks new → IsKept wanted new (set peers i (record e { blocks = [] }))
-kept_choked wanted unasked new peers i e kept inside read added =
-    kept_set wanted unasked new peers i e (record e { blocks = [] }) kept inside read refl (omega arith) added.shape (λ b. omega (arith, added.counts b))
+  -- the block is done: it is wanted no more, nor unasked
+  kept_done : (new : Blocks) (b : BlockId) → IsInRange wanted b → ((file : ℕ) → length (of_file new file) ≡ length (of_file unasked file))
+      → ((c : BlockId) → member new c ≡ cond (is_block b c) false (member unasked c))
+      → IsKept (with_block wanted b false) new (map (without_block_of b) peers)
+  kept_done new b inside shape members = record {
+    shape = λ file. shape file ∙ kept.shape file ∙ sym (shape_with wanted b false file inside);
+    few = omega (arith, length-map peers (without_block_of b), kept.few);
+    once = λ key. omega (arith, count_same_peers key b peers, kept.once key);
+    short = All-map (λ q. length q.blocks ≤ 16) (without_block_of b) peers (All-weaker (λ q. length q.blocks ≤ 16)
+        (λ q. length (without_block b q.blocks) ≤ 16) (λ q h. omega (arith, length_without b q.blocks)) peers kept.short);
+    counts = λ c.
+        let off = ap one_if (members c) ∙ one_if_cond (is_block b c) false (member unasked c) in
+        grind (arith, ones_with wanted b c false inside, off, pairs_without b c peers, kept.counts c);
+  }
+
+  -- done, where it was unasked, and where a peer was asked for it
+  pub kept_done_unasked : (b : BlockId) → IsInRange wanted b → member unasked b ≡ true
+      → IsKept (with_block wanted b false) (with_block unasked b false) peers
+  kept_done_unasked b inside is =
+      let also = member_in_range unasked b is in
+      let one : one_if (member unasked b) ≡ 1 = ap one_if is in
+      subst (λ (l : List PeerRequests). IsKept (with_block wanted b false) (with_block unasked b false) l)
+      (forgotten_none b peers (omega (arith, one, kept.counts b, one_if_le (member wanted b))))
+      (kept_done (with_block unasked b false) b inside (λ file. shape_with unasked b false file also) (λ c. member_with unasked b c false also))
+
+  pub kept_done_asked : (ys : List PeerRequests) (b : BlockId) → IsInRange wanted b → member unasked b ≡ false
+      → ys ≡ map (without_block_of b) peers → IsKept (with_block wanted b false) unasked ys
+  kept_done_asked ys b inside isnt is =
+      subst (λ (l : List PeerRequests). IsKept (with_block wanted b false) unasked l) (sym is)
+      (kept_done unasked b inside (λ file. refl) (λ c. elim (cases_Bool (is_block b c)) [
+        | inl same ↦ rw same (ap (member unasked) (same_block b c same) ∙ isnt)
+        | inr other ↦ rw other refl
+      ]))
+
+  -- ---- what one peer is asked for
+  module _ (i : ℕ) (e : PeerRequests) (inside : i < length peers) (read : e ≡ get_or peers i e) where
+    -- it is changed, and the unasked blocks with it
+    kept_set : (new : Blocks) (r : PeerRequests) → r.peer ≡ e.peer → length r.blocks ≤ 16
+        → ((file : ℕ) → length (of_file new file) ≡ length (of_file unasked file))
+        → ((b : BlockId) → one_if (member new b) + count_by (is_block b) r.blocks ≡ one_if (member unasked b) + count_by (is_block b) e.blocks)
+        → IsKept wanted new (set peers i r)
+    kept_set new r same short shape counts = record {
+      shape = λ file. shape file ∙ kept.shape file;
+      few = omega (arith, length-set peers i r, kept.few);
+      once = λ key.
+          let alike : cond {A = ℕ} (is_of key r) 1 0 ≡ cond {A = ℕ} (is_of key (get_or peers i e)) 1 0 =
+          ap (λ p. cond {A = ℕ} (eqb p.0 key.0) 1 0) same ∙ ap (λ q. cond {A = ℕ} (is_of key q) 1 0) read in
+          omega (arith, sum_by-set (λ q. cond (is_of key q) 1 0) peers i r e inside, alike, kept.once key);
+      short = All-set (λ q. length q.blocks ≤ 16) peers i r short kept.short;
+      counts = λ b.
+          let was : count_by (is_block b) e.blocks ≡ count_by (is_block b) (get_or peers i e).blocks = ap (λ q. count_by (is_block b) q.blocks) read in
+          omega (arith, sum_by-set (λ q. count_by (is_block b) q.blocks) peers i r e inside, was, counts b, kept.counts b);
+    }
+
+    pub asked_in_range : (b : BlockId) → 0 < count_by (is_block b) e.blocks → IsInRange unasked b
+    asked_in_range b some =
+        let is = is_member wanted b (omega (arith, some, count_le_pairs b peers i e inside read, kept.counts b)) in
+        omega (arith, member_in_range wanted b is, kept.shape b.file)
+
+    pub can_add : CanAdd unasked e.blocks
+    can_add = record {
+      inside = λ k d lt.
+          let b : BlockId = get_or e.blocks k d in
+          asked_in_range b (counted (is_block b) e.blocks k d lt (is_block_itself b));
+      counts = λ b. omega (arith, count_le_pairs b peers i e inside read, kept.counts b, one_if_le (member wanted b));
+    }
+
+    -- a pair is made, or dropped
+    pub kept_ask : (b : BlockId) → length e.blocks < 16 → member unasked b ≡ true
+        → IsKept wanted (with_block unasked b false) (set peers i (record e { blocks = e.blocks ++ b ∷ [] }))
+    kept_ask b room is =
+        let in_range = member_in_range unasked b is in
+        kept_set (with_block unasked b false) (record e { blocks = e.blocks ++ b ∷ [] }) refl (omega (arith, length_push e.blocks b))
+        (λ file. shape_with unasked b false file in_range)
+        (λ c.
+        let pushed : count_by (is_block c) (e.blocks ++ b ∷ []) ≡ count_by (is_block c) e.blocks + cond {A = ℕ} (is_block c b) 1 0 = sum_by_push
+        (λ x. cond (is_block c x) 1 0) e.blocks b in
+        grind (arith, pushed, ones_with unasked b c false in_range, ones_same unasked b c true is, is_block_turned c b))
+
+    pub kept_came : (b : BlockId) → 0 < count_by (is_block b) e.blocks
+        → IsKept wanted (with_block unasked b true) (set peers i (record e { blocks = without_block b e.blocks }))
+    kept_came b some =
+        let in_range = asked_in_range b some in
+        let same : length e.blocks ≡ length (get_or peers i e).blocks = ap (λ q. length q.blocks) read in
+        let size = All-get_or (λ q. length q.blocks ≤ 16) peers i e inside kept.short in
+        kept_set (with_block unasked b true) (record e { blocks = without_block b e.blocks }) refl (omega (arith, same, size, length_without b e.blocks))
+        (λ file. shape_with unasked b true file in_range)
+        (λ c.
+        let alike : is_block b c ≡ true → count_by (is_block c) e.blocks ≡ count_by (is_block b) e.blocks =
+        λ same. ap (λ x. count_by (is_block x) e.blocks) (same_block b c same) in
+        let most = count_le_pairs c peers i e inside read in
+        let now = ones_with unasked b c true in_range in
+        grind (arith, now, count_without b c e.blocks, alike, some, most, kept.counts c, one_if_le (member wanted c)))
+
+    pub kept_choked : (new : Blocks) → AreAdded unasked e.blocks new → IsKept wanted new (set peers i (record e { blocks = [] }))
+    kept_choked new added = kept_set new (record e { blocks = [] }) refl (omega arith) added.shape (λ b. omega (arith, added.counts b))

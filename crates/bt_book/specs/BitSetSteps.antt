@@ -34,8 +34,8 @@ HasNoBitInWord word from = (j : ℕ) → from ≤ j → j < 64 → bit_at word j
 abbrev pub HasNoBitInGroup : List ℕ → ℕ → Type 0
 HasNoBitInGroup words from = (j : ℕ) → from ≤ j → j < 4096 * (from / 4096 + 1) → has_bit words j ≡ false
 
--- what holds of every set of numbers: its words have a bit for each number, none past them is 1, and each that is 1 has
--- that of its group
+-- what holds of every set of numbers: its words have a bit for each number, none past them is 1, and each
+-- that is 1 has that of its group
 pub record IsSound (count : ℕ) (words groups : List ℕ) : Type 0 where
   pub few : length words ≤ 2 ^ 32
   pub few_groups : length groups ≤ 2 ^ 32

@@ -38,7 +38,8 @@ abbrev pub HasNone : (BlockId → Bool → Type 0) → Blocks → Type 0
 HasNone has set = (c : BlockId) → member set c ≡ true → has c false
 
 -- the same, of the blocks of one file
-pub record IsLeastIn (has : BlockId → Bool → Type 0) (blocks : List Bool) (file : ℕ) (b : BlockId) : Type 0 where
+pub record IsLeastIn
+    (has : BlockId → Bool → Type 0) (blocks : List Bool) (file : ℕ) (b : BlockId) : Type 0 where
   pub of : b.file ≡ file
   pub among : slice_index_or blocks b.block false ≡ true
   pub held : has b true

@@ -1,5 +1,5 @@
 -- A request book: the blocks that are wanted, the peers, and what each of them is asked for.
-use Rattle.std.specs.Prelude.{◌≡◌, ◌≢◌, ℕ, ◌<◌, ◌≤◌, ◌==◌, Bool, true, false, not, if◌then◌else◌, List, [], ◌∷◌, ◌++◌, length, map, filter, count_by, sum_by}
+use Rattle.std.specs.Prelude.{◌≡◌, ◌≢◌, ℕ, ◌<◌, ◌≤◌, ◌==◌, Bool, true, false, not, if◌then◌else◌, List, [], ◌∷◌, ◌++◌, length, map, replicate, filter, count_by, sum_by}
 use Rattle.bt_book.specs.declared.names.PeerKey.{PeerKey}
 use Rattle.bt_book.specs.declared.names.BlockId.{BlockId}
 use Rattle.bt_book.specs.Blocks.{Blocks, member, with_block, is_block, IsBefore}
@@ -13,6 +13,10 @@ pub record PeerRequests : Type 0 where
 pub record BookState : Type 0 where
   pub wanted : Blocks
   pub peers : List PeerRequests
+
+-- files of so many blocks each, of which none is wanted, and no peer
+abbrev pub empty_book : List ℕ → BookState
+empty_book counts = record { wanted = map (λ count. replicate count false) counts; peers = [] }
 
 -- at most so many peers, each asked for at most so many blocks
 abbrev pub max_peers : ℕ

@@ -94,7 +94,8 @@ impl BlockSet {
 /// The least member of a file's blocks of which `has` says that it holds.
 fn least_in<F: Fn(BlockId) -> bool>(blocks: &BitSet, file: u32, has: &F) -> Option<BlockId>
     requires short { length blocks.now < 2 ^ 32 }
-    requires callable { (block : BlockId) → block.file ≡ file → block.block < length blocks.now → F.pre has.now block }
+    requires callable { (block : BlockId) → block.file ≡ file → block.block < length blocks.now
+        → F.pre has.now block }
     ensures some { IfSome result (IsLeastIn (F.post has.now) blocks.now file) }
     ensures none { IfNone result (HasNoneIn (F.post has.now) blocks.now file) }
 {

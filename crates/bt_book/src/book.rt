@@ -1,7 +1,7 @@
-ghost use Rattle.std.specs.Prelude.{◌≡◌, ◌<◌, ◌≤◌, ◌↔◌, ◌⊎◌, [], length, map, replicate, false, All, count_by, IsTrue, IfSome, OnSome, IfNone, IfOk};
+ghost use Rattle.std.specs.Prelude.{◌≡◌, ◌<◌, ◌≤◌, ◌↔◌, ◌⊎◌, [], length, map, All, count_by, IsTrue, IfSome, OnSome, IfNone, IfOk};
 ghost use Rattle.std.specs.Bool.{OnTrue, OnFalse};
 ghost use Rattle.bt_book.specs.Blocks.{IsInRange, is_block};
-ghost use Rattle.bt_book.specs.Book.{IsJoined, asked_of, with_peer, without_peer, with_pair, without_pair, without_pairs_of, with_wanted, with_done, without_block_of, IsLeastUnasked, HasNoneUnasked, IsBook, IsPair, KeepsOthers, max_peers, max_requests};
+ghost use Rattle.bt_book.specs.Book.{IsJoined, empty_book, asked_of, with_peer, without_peer, with_pair, without_pair, without_pairs_of, with_wanted, with_done, without_block_of, IsLeastUnasked, HasNoneUnasked, IsBook, IsPair, KeepsOthers, max_peers, max_requests};
 ghost use Rattle.bt_book.specs.BookSteps.{AreAdded, CanAdd};
 
 use crate::block_set::BlockSet;
@@ -15,8 +15,8 @@ const MAX_PEERS: usize = 64;
 
 /// Which blocks are wanted, and which peer is asked for which of them.
 ///
-/// At most 64 peers have joined. A wanted block is asked of at most one of them, and each of them is asked for at most
-/// 16 blocks. Only `new` takes memory.
+/// At most 64 peers have joined. A wanted block is asked of at most one of them, and each of them is asked
+/// for at most 16 blocks. Only `new` takes memory.
 #[derive(Drop)]
 pub struct Book {
     wanted: BlockSet,
@@ -39,9 +39,10 @@ impl Model for Book {
 }
 
 impl Book {
-    /// A book of files of so many blocks each, in which nothing is wanted and no peer has joined. Errors: out of memory.
+    /// A book of files of so many blocks each, in which nothing is wanted and no peer has joined. Errors: out
+    /// of memory.
     pub fn new(alloc: Global, blocks: &[u32]) -> Result<Self, AllocError>
-        ensures { IfOk result (λ b. b ≡ record { wanted = map (λ n. replicate n false) blocks.now; peers = [] }) }
+        ensures { IfOk result (λ b. b ≡ empty_book blocks.now) }
     {
         Ok(Book {
             wanted: BlockSet::new(alloc, blocks)?,
@@ -50,7 +51,8 @@ impl Book {
         })
     }
 
-    /// Takes in a peer, which is asked for nothing yet. False where it is there, or 64 others are; nothing changes then.
+    /// Takes in a peer, which is asked for nothing yet. False where it is there, or 64 others are; nothing
+    /// changes then.
     pub fn join(&mut self, peer: PeerKey) -> bool
         ensures when { IsTrue result ↔ ((¬ IsJoined self.old peer) × (length self.old.peers < max_peers)) }
         ensures joined { OnTrue result (self.new ≡ with_peer self.old peer) }
@@ -137,9 +139,9 @@ impl Book {
         }
     }
 
-    /// Asks a peer for the least wanted block of which `has` says that the peer has it and that no peer is asked for:
-    /// the two are a pair from now on. None where there is no such block, where the peer is asked for 16, and where it
-    /// has not joined; nothing changes then.
+    /// Asks a peer for the least wanted block of which `has` says that the peer has it and that no peer is
+    /// asked for: the two are a pair from now on. None where there is no such block, where the peer is asked
+    /// for 16, and where it has not joined; nothing changes then.
     pub fn ask<F: Fn(BlockId) -> bool>(&mut self, peer: PeerKey, has: F) -> Option<BlockId>
         requires { (block : BlockId) → IsInRange self.old.wanted block → F.pre has block }
         ensures least { IfSome result (IsLeastUnasked (F.post has) self.old) }
@@ -164,8 +166,8 @@ impl Book {
         Some(block)
     }
 
-    /// The laws of a book: no peer has joined twice, each block is in one pair at most, and it is wanted then; each peer
-    /// is in 16 pairs at most. It does nothing when it runs.
+    /// The laws of a book: no peer has joined twice, each block is in one pair at most, and it is wanted
+    /// then; each peer is in 16 pairs at most. It does nothing when it runs.
     pub fn keeps_laws(&self)
         ensures { IsBook self.now }
     {

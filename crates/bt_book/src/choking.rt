@@ -16,9 +16,10 @@ pub struct Standing {
     pub bytes: u64,
 }
 
-/// The peers to serve, in the order of their keys: the three interested ones that sent most bytes, of two with the same
-/// bytes the one with the smaller key first, and one more of the interested ones, in turn: of the others, in the order
-/// of their keys, the one at `turn` modulo their count (the optimistic unchoke of BEP 3, by turns).
+/// The peers to serve, in the order of their keys: the three interested ones that sent most bytes, of two
+/// with the same bytes the one with the smaller key first, and one more of the interested ones, in turn: of
+/// the others, in the order of their keys, the one at `turn` modulo their count (the optimistic unchoke of
+/// BEP 3, by turns).
 ///
 /// Each standing is of another peer.
 pub fn choose(standings: &[Standing], turn: u64) -> ArrayVec<PeerKey, 4>

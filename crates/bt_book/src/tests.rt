@@ -1,4 +1,5 @@
-//! Worked examples, the limits, the book beside plain sets on random calls, and the choice of the peers to serve.
+//! Worked examples, the limits, the book beside plain sets on random calls, and the choice of the peers to
+//! serve.
 ghost use Rattle.std.specs.Prelude.{◌≢◌, All};
 ghost use Rattle.std.specs.Bool.{OnTrue};
 ghost use Rattle.bt_book.specs.Choking.{HaveOwnKeys};
@@ -298,8 +299,8 @@ fn standing(peer: u64, interested: bool, bytes: u64) -> Standing {
     }
 }
 
-/// Of five interested peers the three with most bytes are served, of equal ones those with the smaller keys, and one
-/// more in turn.
+/// Of five interested peers the three with most bytes are served, of equal ones those with the smaller keys,
+/// and one more in turn.
 #[test]
 fn five_interested(rt: HostRuntime) {
     let five = [(5, 0), (1, 10), (3, 50), (2, 50), (4, 0)].map(|(key, bytes)| standing(
@@ -320,7 +321,8 @@ fn five_interested(rt: HostRuntime) {
     );
 }
 
-/// Of none, and of peers none of whom is interested, none is served; of two interested ones both are, whatever the turn.
+/// Of none, and of peers none of whom is interested, none is served; of two interested ones both are,
+/// whatever the turn.
 #[test]
 fn few_interested(rt: HostRuntime) {
     assert_eq!(rt; choice(&rt, &[], 3).len(), 0);

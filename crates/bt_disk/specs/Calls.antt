@@ -56,8 +56,8 @@ after_call h (length_set len) = after_set_len h len
 after_call h sync_made = after_sync h
 after_call h _ = h
 
--- An honest device answers the call so, and leads from the one history to the other. A read gives as many of the
--- bytes wanted as there are.
+-- An honest device answers the call so, and leads from the one history to the other. A read gives as many of
+-- the bytes wanted as there are.
 abbrev pub IsAnswered : History → Call → History → Type 0
 IsAnswered old (length_given len) new = (len ≡ length old.now.bytes) × (new ≡ old)
 IsAnswered old length_fault new = new ≡ old
@@ -93,9 +93,11 @@ abbrev pub count_after_calls : ℕ → List Call → ℕ
 count_after_calls count [] = count
 count_after_calls count (call ∷ calls) = count_after_calls (count_after_call count call) calls
 
--- Between old and new these calls of the device were made and no other, and were answered so. Of a device that is
--- not honest only the count of its failed calls is known.
-pub record HasCalls {D : Type 0} (history : D → History) (honest : D → Type 0) (faults : D → ℕ) (old : D) (calls : List Call) (new : D) : Type 0 where
+-- Between old and new these calls of the device were made and no other, and were answered so. Of a device
+-- that is not honest only the count of its failed calls is known.
+pub record HasCalls
+    {D : Type 0} (history : D → History) (honest : D → Type 0) (faults : D → ℕ)
+    (old : D) (calls : List Call) (new : D) : Type 0 where
   pub counted : faults new ≡ count_after_calls (faults old) calls
   pub as_honest : honest old ↔ honest new
   pub answered : honest old → AreAnswered (history old) calls (history new)

@@ -1,12 +1,13 @@
--- A device that fails calls, or alters what it reads, where it is told to. Calls are counted from 1, from its making.
+-- A device that fails calls, or alters what it reads, where it is told to. Calls are counted from 1, from its
+-- making.
 use Rattle.std.specs.Prelude.{◌≡◌, ℕ, ◌+◌, ◌-◌, Bool, false, ◌&&◌, ◌||◌, if◌then◌else◌, nat_eq, nat_le, nat_lt, min, bit_xor, Option, Some, None, List, [], ◌∷◌, length, slice_index, slice_set}
 use Rattle.std.specs.Option.{option_map_or}
 use Rattle.bt_disk.specs.Limits.{max_count, one_more}
 use Rattle.bt_disk.specs.History.{History}
 use Rattle.bt_disk.specs.Calls.{Call, HasCalls}
 
--- The device inside, how many calls were made, the settings (a flip has its first call and its byte), and how many
--- calls failed by a setting.
+-- The device inside, how many calls were made, the settings (a flip has its first call and its byte), and how
+-- many calls failed by a setting.
 pub record FaultView (D : Type 0) : Type 0 where
   pub inner : D
   pub calls : ℕ
@@ -16,7 +17,14 @@ pub record FaultView (D : Type 0) : Type 0 where
   pub failed : ℕ
 
 abbrev pub new_fault_disk : {D : Type 0} → D → FaultView D
-new_fault_disk inner = record { inner = inner; calls = 0; failing_once = None; failing_from = None; flipping = None; failed = 0 }
+new_fault_disk inner = record {
+  inner = inner;
+  calls = 0;
+  failing_once = None;
+  failing_from = None;
+  flipping = None;
+  failed = 0;
+}
 
 -- how many calls failed, by a setting or inside
 abbrev pub fault_count : {D : Type 0} → (D → ℕ) → FaultView D → ℕ
@@ -41,11 +49,14 @@ abbrev pub after_failure : {D : Type 0} → FaultView D → FaultView D
 after_failure disk = record disk { calls = next_call disk; failed = one_more disk.failed }
 
 -- the call was made of the device inside, and no other
-pub record PassesOn {D : Type 0} (history : D → History) (honest : D → Type 0) (faults : D → ℕ) (old : FaultView D) (call : Call) (new : FaultView D) : Type 0 where
+pub record PassesOn
+    {D : Type 0} (history : D → History) (honest : D → Type 0) (faults : D → ℕ)
+    (old : FaultView D) (call : Call) (new : FaultView D) : Type 0 where
   pub settings : new ≡ record old { inner = new.inner; calls = next_call old }
   pub passed : HasCalls history honest faults old.inner (call ∷ []) new.inner
 
--- bytes that lie at a place, as a flip alters them: from its first call on, the low bit of its byte is the other one
+-- bytes that lie at a place, as a flip alters them: from its first call on, the low bit of its byte is the
+-- other one
 abbrev pub flipped : Option (ℕ × ℕ) → ℕ → ℕ → List ℕ → List ℕ
 flipped None number at bytes = bytes
 flipped (Some flip) number at bytes =

@@ -16,16 +16,18 @@ SyncKeepsAll = (old new : History) (image : List ℕ) → IsAnswered old sync_ma
 
 -- Reads change no image.
 abbrev pub ReadsChangeNothing : Type 0
-ReadsChangeNothing = (old new : History) (calls : List Call) → All IsRead calls → AreAnswered old calls new → new ≡ old
+ReadsChangeNothing = (old new : History) (calls : List Call) → All IsRead calls → AreAnswered old calls new
+    → new ≡ old
 
--- Each image after a call is one from before it but for what the call reaches: the range of a write, made or torn, or
--- what lies past a new length.
+-- Each image after a call is one from before it but for what the call reaches: the range of a write, made or
+-- torn, or what lies past a new length.
 abbrev pub CallsReachTheirRange : Type 0
 CallsReachTheirRange = (old new : History) (call : Call) (image : List ℕ) → IsImage old.now old.now.bytes
-    → IsAnswered old call new → IsImage new.now image → (before : List ℕ) × IsReached old.now call before image
+    → IsAnswered old call new → IsImage new.now image
+    → (before : List ℕ) × IsReached old.now call before image
 
--- A byte that every image since a moment has, and that none of the calls reaches, every image since then goes on to
--- have, within these calls too.
+-- A byte that every image since a moment has, and that none of the calls reaches, every image since then goes
+-- on to have, within these calls too.
 abbrev pub CallsKeepBytes : Type 0
 CallsKeepBytes = (old new : History) (calls : List Call) (t i byte : ℕ) → IsImage old.now old.now.bytes
     → AreAnswered old calls new → All (Spares i) calls → IsKeptSince old t i byte → IsKeptSince new t i byte

@@ -7,5 +7,6 @@ pub mod RecordSteps
 pub mod ReadsImage
 pub mod FaultDisk
 pub mod FileDisk
+pub mod OpenHandles
 pub mod Pool
 pub mod Laws

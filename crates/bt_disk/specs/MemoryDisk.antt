@@ -29,7 +29,8 @@ new_record bytes = record { first = bytes; calls = [] }
 
 -- of the range, the image has this byte and no other, as far as it goes
 abbrev pub HasOnly : ℕ → List ℕ → ℕ × ℕ → Type 0
-HasOnly byte image range = (i : ℕ) → i < length image → range.0 ≤ i → i < range.0 + range.1 → slice_index image i ≡ byte
+HasOnly byte image range =
+    (i : ℕ) → i < length image → range.0 ≤ i → i < range.0 + range.1 → slice_index image i ≡ byte
 
 -- the bytes as a read gives them, but for this byte wherever a crash may leave any
 pub record IsFilled (s : State) (byte : ℕ) (image : List ℕ) : Type 0 where

@@ -1,4 +1,5 @@
--- How a device of a pool uses its file.
+-- A pool, and how a device of it uses its file.
+use Rattle.std.specs.Prelude.{ℕ}
 use Rattle.bt_disk.specs.FileDisk.{Access, absent, reading, writing}
 use Rattle.bt_disk.specs.declared.pool.Use.{Use}
 use Rattle.bt_disk.specs.declared.pool.Use.TheVariants.{Absent, Reading, Writing}
@@ -7,3 +8,10 @@ abbrev pub access_of_use : Use → Access
 access_of_use Absent = absent
 access_of_use Reading = reading
 access_of_use Writing = writing
+
+-- how many devices a pool has made, which is the number of the last one
+pub record PoolView : Type 0 where
+  pub made : ℕ
+
+abbrev pub new_pool : PoolView
+new_pool = record { made = 0 }

@@ -1,4 +1,5 @@
--- What a read of a device in memory gives is one of the images that a crash now may leave: the law, with its proof.
+-- What a read of a device in memory gives is one of the images that a crash now may leave: the law, with its
+-- proof.
 use Rattle.std.specs.Prelude.{◌≡◌, ℕ, ◌+◌, ◌-◌, ◌≤◌, List, [], ◌∷◌, ◌++◌, length, take, drop, replicate, refl}
 use Rattle.std.proofs.Common.{arith, length-append, length-drop}
 use Rattle.std.proofs.lemmas.List.{length-take, length-replicate}
@@ -12,7 +13,8 @@ pub record HasLength (s : State) : Type 0 where
   pub no_shorter : s.least_length ≤ length s.bytes
   pub no_longer : length s.bytes ≤ s.greatest_length
 
-pub length-written : (bytes : List ℕ) (at : ℕ) (more : List ℕ) → length (written bytes at more) ≡ at + length more + (length bytes - (at + length more))
+pub length-written : (bytes : List ℕ) (at : ℕ) (more : List ℕ)
+    → length (written bytes at more) ≡ at + length more + (length bytes - (at + length more))
 length-written bytes at more =
     let front = take at bytes ++ replicate (at - length bytes) 0 in
     omega (
@@ -27,7 +29,12 @@ length-written bytes at more =
 
 pub length-resized : (bytes : List ℕ) (len : ℕ) → length (resized bytes len) ≡ len
 length-resized bytes len =
-    omega (arith, length-append (take len bytes) (replicate (len - length bytes) 0), length-take len bytes, length-replicate {A = ℕ} (len - length bytes) 0)
+    omega (
+      arith,
+      length-append (take len bytes) (replicate (len - length bytes) 0),
+      length-take len bytes,
+      length-replicate {A = ℕ} (len - length bytes) 0,
+    )
 
 pub has_length-synced : (bytes : List ℕ) → HasLength (synced_state bytes)
 has_length-synced bytes = record { no_shorter = omega arith; no_longer = omega arith }
@@ -51,7 +58,8 @@ has_length-call h sync_fault has = has
 
 has_length-calls : (h : History) (calls : List Call) → HasLength h.now → HasLength (after_calls h calls).now
 has_length-calls h [] has = has
-has_length-calls h (call ∷ calls) has = has_length-calls (after_call h call) calls (has_length-call h call has)
+has_length-calls h (call ∷ calls) has =
+    has_length-calls (after_call h call) calls (has_length-call h call has)
 
 pub reads_image : (kept : Record) → IsImage (history_of kept).now (history_of kept).now.bytes
 reads_image kept =

@@ -2,6 +2,7 @@
 use Rattle.std.specs.Prelude.{◌≡◌, ℕ, List, Option, Some, None}
 use Rattle.std.specs.Global.{Vec}
 use Rattle.bt_disk.specs.Calls.{Call, bytes_written, length_set, sync_made}
+use Rattle.bt_disk.specs.State.{State}
 use Rattle.bt_disk.specs.MemoryDisk.{Record, history_of}
 use Rattle.bt_disk.specs.declared.medium.Change.{Change}
 use Rattle.bt_disk.specs.declared.medium.Change.TheVariants.{Write, SetLen, Sync}
@@ -21,3 +22,12 @@ pub record LeadsTo (kept : Record) (bytes : List ℕ) (ranges : List (ℕ × ℕ
   pub bytes_now : (history_of kept).now.bytes ≡ bytes
   pub ranges_now : (history_of kept).now.ranges ≡ ranges
   pub least_now : (history_of kept).now.least_length ≡ least
+
+-- the state with these parts
+abbrev pub state_of : List ℕ → List (ℕ × ℕ) → ℕ → ℕ → State
+state_of bytes ranges least greatest = record {
+  bytes = bytes;
+  ranges = ranges;
+  least_length = least;
+  greatest_length = greatest;
+}

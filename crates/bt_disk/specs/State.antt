@@ -1,8 +1,9 @@
--- What a device holds, and what a crash makes of it. Bytes are a list; a range is its first byte and its length.
+-- What a device holds, and what a crash makes of it. Bytes are a list; a range is its first byte and its
+-- length.
 use Rattle.std.specs.Prelude.{◌≡◌, ℕ, ◌+◌, ◌-◌, ◌<◌, ◌≤◌, ◌⊎◌, min, max, List, [], ◌∷◌, ◌++◌, length, take, drop, replicate, slice_index, slice_get, Some, All}
 
--- The bytes as a read gives them; and since the last sync the ranges that were written, in order, and the least and
--- the greatest length.
+-- The bytes as a read gives them; and since the last sync the ranges that were written, in order, and the
+-- least and the greatest length.
 pub record State : Type 0 where
   pub bytes : List ℕ
   pub ranges : List (ℕ × ℕ)
@@ -11,14 +12,19 @@ pub record State : Type 0 where
 
 -- all of it is on the medium
 abbrev pub synced_state : List ℕ → State
-synced_state bytes = record { bytes = bytes; ranges = []; least_length = length bytes; greatest_length = length bytes }
+synced_state bytes = record {
+  bytes = bytes;
+  ranges = [];
+  least_length = length bytes;
+  greatest_length = length bytes;
+}
 
 -- byte i lies in none of the ranges
 abbrev pub IsOutside : ℕ → List (ℕ × ℕ) → Type 0
 IsOutside i ranges = All (λ range. (i < range.0) ⊎ (range.0 + range.1 ≤ i)) ranges
 
--- A crash now may leave these bytes: any in a range that was written and past the least length since the last sync,
--- and else the bytes that a read gives.
+-- A crash now may leave these bytes: any in a range that was written and past the least length since the last
+-- sync, and else the bytes that a read gives.
 pub record IsImage (s : State) (image : List ℕ) : Type 0 where
   pub no_shorter : s.least_length ≤ length image
   pub no_longer : length image ≤ s.greatest_length
@@ -30,7 +36,8 @@ IsKept s i byte = (image : List ℕ) → IsImage s image → slice_get image i �
 
 -- the bytes with one or more others put at a place, and zeros in a gap before it
 abbrev pub written : List ℕ → ℕ → List ℕ → List ℕ
-written bytes at more = take at bytes ++ replicate (at - length bytes) 0 ++ more ++ drop (at + length more) bytes
+written bytes at more =
+    take at bytes ++ replicate (at - length bytes) 0 ++ more ++ drop (at + length more) bytes
 
 -- the bytes cut to a length, or with zeros behind them up to it
 abbrev pub resized : List ℕ → ℕ → List ℕ
@@ -63,8 +70,8 @@ pub record IsTornWrite (at count : ℕ) (old new : State) : Type 0 where
   pub least_length : new.least_length ≡ old.least_length
   pub greatest_length : new.greatest_length ≡ max old.greatest_length (at + count)
 
--- after a change of the length that failed: the length stopped between the old one and the new one, and the bytes
--- below both are the same
+-- after a change of the length that failed: the length stopped between the old one and the new one, and the
+-- bytes below both are the same
 pub record IsTornResize (len : ℕ) (old new : State) : Type 0 where
   pub front : take (min len (length old.bytes)) new.bytes ≡ take (min len (length old.bytes)) old.bytes
   pub no_shorter : min len (length old.bytes) ≤ length new.bytes

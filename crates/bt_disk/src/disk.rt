@@ -14,10 +14,10 @@ pub struct DeviceFault;
 
 /// A device of bytes, each call of which may fail.
 ///
-/// An *honest* device gives what was written to it. Of one that isn't, nothing is promised but the count of its failed
-/// calls. What an honest device holds changes by its calls alone: by a write and `set_len`, whole where they succeed and
-/// perhaps in part where they fail. A crash may lose or spoil what was written, and any change of the length, since the
-/// last sync that succeeded; other bytes it leaves as they are.
+/// An *honest* device gives what was written to it. Of one that isn't, nothing is promised but the count of
+/// its failed calls. What an honest device holds changes by its calls alone: by a write and `set_len`, whole
+/// where they succeed and perhaps in part where they fail. A crash may lose or spoil what was written, and
+/// any change of the length, since the last sync that succeeded; other bytes it leaves as they are.
 pub trait Disk {
     /// What the device held, from its making on.
     ghost history: { Self → History };
@@ -32,34 +32,40 @@ pub trait Disk {
     fn len(&mut self) -> Result<u64, DeviceFault>
         ensures counted { faults self.new ≡ count_after (faults self.old) result }
         ensures as_honest { honest self.old ↔ honest self.new }
-        ensures answered { honest self.old → IsAnswered (history self.old) (len_call result) (history self.new) };
+        ensures answered { honest self.old
+            → IsAnswered (history self.old) (len_call result) (history self.new) };
 
-    /// Reads bytes from byte `at` on into the front of `out`, as many as there are and as it holds, and says how many
-    /// these are. After an error nothing is said of `out`.
+    /// Reads bytes from byte `at` on into the front of `out`, as many as there are and as it holds, and says
+    /// how many these are. After an error nothing is said of `out`.
     fn read_at(&mut self, at: u64, out: &mut [u8]) -> Result<usize, DeviceFault>
         ensures within { IfOk result (λ count. count ≤ length out.new) }
         ensures counted { faults self.new ≡ count_after (faults self.old) result }
         ensures as_honest { honest self.old ↔ honest self.new }
-        ensures answered { honest self.old → IsAnswered (history self.old) (read_call at out.new result) (history self.new) };
+        ensures answered { honest self.old
+            → IsAnswered (history self.old) (read_call at out.new result) (history self.new) };
 
-    /// Writes bytes from byte `at` on, past the end too: a gap before them is filled with zeros. A write of no bytes
-    /// changes nothing. After an error any part of it may have been made.
+    /// Writes bytes from byte `at` on, past the end too: a gap before them is filled with zeros. A write of
+    /// no bytes changes nothing. After an error any part of it may have been made.
     fn write_at(&mut self, at: u64, bytes: &[u8]) -> Result<(), DeviceFault>
         ensures counted { faults self.new ≡ count_after (faults self.old) result }
         ensures as_honest { honest self.old ↔ honest self.new }
-        ensures answered { honest self.old → IsAnswered (history self.old) (write_call at bytes.now result) (history self.new) };
+        ensures answered { honest self.old
+            → IsAnswered (history self.old) (write_call at bytes.now result) (history self.new) };
 
-    /// Cuts the bytes to a length, or fills them up to it with zeros. After an error any part of it may have been made.
+    /// Cuts the bytes to a length, or fills them up to it with zeros. After an error any part of it may have
+    /// been made.
     fn set_len(&mut self, len: u64) -> Result<(), DeviceFault>
         ensures counted { faults self.new ≡ count_after (faults self.old) result }
         ensures as_honest { honest self.old ↔ honest self.new }
-        ensures answered { honest self.old → IsAnswered (history self.old) (set_len_call len result) (history self.new) };
+        ensures answered { honest self.old
+            → IsAnswered (history self.old) (set_len_call len result) (history self.new) };
 
     /// Makes sure of all that was written: from then on a crash leaves what a read gives.
     fn sync(&mut self) -> Result<(), DeviceFault>
         ensures counted { faults self.new ≡ count_after (faults self.old) result }
         ensures as_honest { honest self.old ↔ honest self.new }
-        ensures answered { honest self.old → IsAnswered (history self.old) (sync_call result) (history self.new) };
+        ensures answered { honest self.old
+            → IsAnswered (history self.old) (sync_call result) (history self.new) };
 
     /// What a read gives is one of the images that a crash now may leave.
     ghost reads_image: { (disk : Self) → honest disk → IsImage (history disk).now (history disk).now.bytes };

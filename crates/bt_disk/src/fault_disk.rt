@@ -8,11 +8,11 @@ ghost use Rattle.bt_disk.specs.FaultDisk.{new_fault_disk, next_call, fails_next,
 use crate::disk::{DeviceFault, Disk};
 use std::marker::Model;
 
-/// A device that fails calls, or alters a byte that it reads, where it is told to; all other calls go to the device
-/// inside, which a call that fails here does not reach.
+/// A device that fails calls, or alters a byte that it reads, where it is told to; all other calls go to the
+/// device inside, which a call that fails here does not reach.
 ///
-/// Calls are counted from 1, from its making, in a count that stays at 2^64 - 1. The three settings stand side by side;
-/// a second one of a kind replaces the first. A device that has a flip is not honest.
+/// Calls are counted from 1, from its making, in a count that stays at 2^64 - 1. The three settings stand
+/// side by side; a second one of a kind replaces the first. A device that has a flip is not honest.
 #[derive(Drop)]
 pub struct FaultDisk<D: Disk + Drop> {
     inner: D,
@@ -29,7 +29,14 @@ impl<D: Disk + Drop> Model for FaultDisk<D> {
 
     ghost Value = { FaultView D };
 
-    ghost view = { λ d. record { inner = d.inner; calls = d.calls; failing_once = d.once; failing_from = d.from; flipping = d.flip; failed = d.failed } };
+    ghost view = { λ d. record {
+      inner = d.inner;
+      calls = d.calls;
+      failing_once = d.once;
+      failing_from = d.from;
+      flipping = d.flip;
+      failed = d.failed;
+    } };
 }
 
 impl<D: Disk + Drop> FaultDisk<D> {
@@ -119,7 +126,8 @@ impl<D: Disk + Drop> Disk for FaultDisk<D> {
     fn len(&mut self) -> Result<u64, DeviceFault>
         // by its settings
         ensures fails { OnTrue (fails_next self.old) (IsErr result × (self.new ≡ after_failure self.old)) }
-        ensures passes { OnFalse (fails_next self.old) (PassesOn D.history D.honest D.faults self.old (len_call result) self.new) }
+        ensures passes { OnFalse (fails_next self.old)
+            (PassesOn D.history D.honest D.faults self.old (len_call result) self.new) }
 
         // as every device
         ensures counted { fault_count D.faults self.new ≡ count_after (fault_count D.faults self.old) result }
@@ -138,7 +146,8 @@ impl<D: Disk + Drop> Disk for FaultDisk<D> {
         ensures fails { OnTrue (fails_next self.old) (IsErr result × (self.new ≡ after_failure self.old)) }
         ensures passes { OnFalse (fails_next self.old) ((given : List ℕ)
             × PassesOn D.history D.honest D.faults self.old (read_call at given result) self.new
-            × IfOk result (λ count. take count out.new ≡ flipped self.old.flipping (next_call self.old) at (take count given))) }
+            × IfOk result (λ count.
+            take count out.new ≡ flipped self.old.flipping (next_call self.old) at (take count given))) }
 
         // as every device
         ensures within { IfOk result (λ count. count ≤ length out.new) }
@@ -159,13 +168,15 @@ impl<D: Disk + Drop> Disk for FaultDisk<D> {
     fn write_at(&mut self, at: u64, bytes: &[u8]) -> Result<(), DeviceFault>
         // by its settings
         ensures fails { OnTrue (fails_next self.old) (IsErr result × (self.new ≡ after_failure self.old)) }
-        ensures passes { OnFalse (fails_next self.old) (PassesOn D.history D.honest D.faults self.old (write_call at bytes.now result) self.new) }
+        ensures passes { OnFalse (fails_next self.old)
+            (PassesOn D.history D.honest D.faults self.old (write_call at bytes.now result) self.new) }
 
         // as every device
         ensures counted { fault_count D.faults self.new ≡ count_after (fault_count D.faults self.old) result }
         ensures as_honest { IsHonest D.honest self.old ↔ IsHonest D.honest self.new }
         ensures answered { IsHonest D.honest self.old
-            → IsAnswered (D.history self.old.inner) (write_call at bytes.now result) (D.history self.new.inner) }
+            → IsAnswered
+            (D.history self.old.inner) (write_call at bytes.now result) (D.history self.new.inner) }
     {
         if self.fails() {
             // The device inside is not reached.
@@ -177,7 +188,8 @@ impl<D: Disk + Drop> Disk for FaultDisk<D> {
     fn set_len(&mut self, len: u64) -> Result<(), DeviceFault>
         // by its settings
         ensures fails { OnTrue (fails_next self.old) (IsErr result × (self.new ≡ after_failure self.old)) }
-        ensures passes { OnFalse (fails_next self.old) (PassesOn D.history D.honest D.faults self.old (set_len_call len result) self.new) }
+        ensures passes { OnFalse (fails_next self.old)
+            (PassesOn D.history D.honest D.faults self.old (set_len_call len result) self.new) }
 
         // as every device
         ensures counted { fault_count D.faults self.new ≡ count_after (fault_count D.faults self.old) result }
@@ -194,7 +206,8 @@ impl<D: Disk + Drop> Disk for FaultDisk<D> {
     fn sync(&mut self) -> Result<(), DeviceFault>
         // by its settings
         ensures fails { OnTrue (fails_next self.old) (IsErr result × (self.new ≡ after_failure self.old)) }
-        ensures passes { OnFalse (fails_next self.old) (PassesOn D.history D.honest D.faults self.old (sync_call result) self.new) }
+        ensures passes { OnFalse (fails_next self.old)
+            (PassesOn D.history D.honest D.faults self.old (sync_call result) self.new) }
 
         // as every device
         ensures counted { fault_count D.faults self.new ≡ count_after (fault_count D.faults self.old) result }

@@ -10,9 +10,9 @@ use std::marker::Model;
 
 /// A device that is a file of the system, with an open handle of its own.
 ///
-/// No contract says what a file holds, so it is not honest, and only its count of failed calls and whether it may be
-/// written are known. A call takes no memory and makes no more calls of the system than a seek and a read or write,
-/// unless the system answers in parts.
+/// No contract says what a file holds, so it is not honest, and only its count of failed calls and whether it
+/// may be written are known. A call takes no memory and makes no more calls of the system than a seek and a
+/// read or write, unless the system answers in parts.
 #[derive(Drop)]
 pub struct FileDisk<F: Read + Write + Seek + OpenFile + Drop> {
     handle: Handle<F>,
@@ -28,8 +28,9 @@ impl<F: Read + Write + Seek + OpenFile + Drop> Model for FileDisk<F> {
 }
 
 impl<F: Read + Write + Seek + OpenFile + Drop> FileDisk<F> {
-    /// A file that is read: every write, change of the length and sync fails. One that is absent is read as empty: there
-    /// is none, or one of its folders is missing or is no folder, or a name or the path is longer than the system takes.
+    /// A file that is read: every write, change of the length and sync fails. One that is absent is read as
+    /// empty: there is none, or one of its folders is missing or is no folder, or a name or the path is
+    /// longer than the system takes.
     ///
     /// Errors: what lies there is no regular file, or it can't be opened.
     pub fn reading<R: Files<File = F>>(rt: &R, path: &str) -> Result<Self, DeviceFault>
@@ -43,7 +44,8 @@ impl<F: Read + Write + Seek + OpenFile + Drop> FileDisk<F> {
         Ok(FileDisk { handle, failed: 0 })
     }
 
-    /// A file that is read and written. An absent one is made, with no bytes; one that is there keeps its bytes.
+    /// A file that is read and written. An absent one is made, with no bytes; one that is there keeps its
+    /// bytes.
     ///
     /// Errors: what lies there is no regular file, or it can't be opened or made.
     pub fn writing<R: Files<File = F>>(rt: &R, path: &str) -> Result<Self, DeviceFault>

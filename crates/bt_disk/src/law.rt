@@ -1,5 +1,5 @@
-//! What calls of an honest device leave in the images of a crash. A caller that knows which calls it made knows by
-//! these laws what a crash leaves; the functions do nothing when they run.
+//! What calls of an honest device leave in the images of a crash. A caller that knows which calls it made
+//! knows by these laws what a crash leaves; the functions do nothing when they run.
 ghost use Rattle.std.specs.Prelude.{◌++◌, ◌∷◌, [], ℕ, List, All};
 ghost use Rattle.bt_disk.specs.History.{IsKeptSince};
 ghost use Rattle.bt_disk.specs.Calls.{Call, HasCalls, Spares};
@@ -17,7 +17,8 @@ pub fn reads_change_nothing()
     ensures { ReadsChangeNothing }
 {}
 
-/// A call changes an image only where it reaches: a write in its range and past the end, `set_len` past the new length.
+/// A call changes an image only where it reaches: a write in its range and past the end, `set_len` past the
+/// new length.
 pub fn calls_reach_their_range()
     ensures { CallsReachTheirRange }
 {}
@@ -34,7 +35,8 @@ pub fn calls_compose<D: Disk>()
         → HasCalls D.history D.honest D.faults b ys c → HasCalls D.history D.honest D.faults a (xs ++ ys) c }
 {}
 
-/// Of an honest device, a byte that every image since a moment has, and that no call reaches, is in every image since.
+/// Of an honest device, a byte that every image since a moment has, and that no call reaches, is in every
+/// image since.
 pub fn devices_keep_bytes<D: Disk>()
     ensures { (old new : D) (calls : List Call) (t i byte : ℕ) → D.honest old
         → HasCalls D.history D.honest D.faults old calls new → All (Spares i) calls

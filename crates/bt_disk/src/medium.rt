@@ -2,7 +2,7 @@
 ghost use Rattle.std.specs.Prelude.{◌≡◌, ◌+◌, ◌<◌, ◌≤◌, ◌++◌, ◌∷◌, ℕ, [], List, length, ◌⊎◌, slice_index, take, drop, OnOk, OnErr, vec_len, vec_capacity};
 ghost use Rattle.bt_disk.specs.State.{written, resized};
 ghost use Rattle.bt_disk.specs.Calls.{bytes_written, length_set, sync_made};
-ghost use Rattle.bt_disk.specs.RecordSteps.{first_of};
+ghost use Rattle.bt_disk.specs.RecordSteps.{first_of, state_of};
 ghost use Rattle.bt_disk.specs.MemoryDisk.{IsFilled, IsLeftBy};
 
 use crate::loss::Loss;
@@ -39,9 +39,14 @@ impl Model for Medium {
 
     ghost use Rattle.bt_disk.specs.RecordSteps.{call_of, first_of, LeadsTo};
 
-    ghost view = { λ m. record { first = first_of m.first m.bytes.items; calls = map call_of m.changes.items } };
+    ghost view = { λ m. record {
+      first = first_of m.first m.bytes.items;
+      calls = map call_of m.changes.items;
+    } };
 
-    ghost invariant = { λ m. LeadsTo (record { first = first_of m.first m.bytes.items; calls = map call_of m.changes.items }) m.bytes.items m.ranges.items m.least };
+    ghost invariant = { λ m.
+        LeadsTo (record { first = first_of m.first m.bytes.items; calls = map call_of m.changes.items })
+        m.bytes.items m.ranges.items m.least };
 }
 
 impl Medium {
@@ -70,7 +75,8 @@ impl Medium {
     /// Puts one or more bytes at a place.
     pub(crate) fn write(&mut self, at: u64, more: &[u8]) -> Result<(), AllocError>
         requires { 0 < length more.now }
-        ensures ok { OnOk result (self.new ≡ record self.old { calls = self.old.calls ++ bytes_written at more.now ∷ [] }) }
+        ensures ok { OnOk result
+            (self.new ≡ record self.old { calls = self.old.calls ++ bytes_written at more.now ∷ [] }) }
         ensures err { OnErr result (self.new ≡ self.old) }
     {
         keep_first(self.alloc, &mut self.first, &self.bytes)?;
@@ -84,7 +90,8 @@ impl Medium {
     }
 
     pub(crate) fn set_len(&mut self, len: u64) -> Result<(), AllocError>
-        ensures ok { OnOk result (self.new ≡ record self.old { calls = self.old.calls ++ length_set len ∷ [] }) }
+        ensures ok { OnOk result
+            (self.new ≡ record self.old { calls = self.old.calls ++ length_set len ∷ [] }) }
         ensures err { OnErr result (self.new ≡ self.old) }
     {
         keep_first(self.alloc, &mut self.first, &self.bytes)?;
@@ -126,7 +133,8 @@ impl Medium {
 /// Keeps the bytes, unless those before the first change are kept already.
 fn keep_first(alloc: Global, first: &mut Option<Vec<u8>>, bytes: &Vec<u8>) -> Result<(), AllocError>
     ensures same { first_of first.new bytes.now.items ≡ first_of first.old bytes.now.items }
-    ensures ok { OnOk result ((others : List ℕ) → first_of first.new others ≡ first_of first.old bytes.now.items) }
+    ensures ok { OnOk result ((others : List ℕ)
+        → first_of first.new others ≡ first_of first.old bytes.now.items) }
 {
     if first.is_none() {
         *first = Some(bytes.to_vec(alloc)?);
@@ -170,7 +178,7 @@ fn overwrite(bytes: &mut [u8], start: usize, more: &[u8])
 
 /// Leaves what a loss leaves.
 fn lose(bytes: &mut [u8], ranges: &[(u64, u64)], least: u64, loss: Loss)
-    ensures { (greatest : ℕ) → IsLeftBy loss (record { bytes = bytes.old; ranges = ranges.now; least_length = least; greatest_length = greatest }) bytes.new }
+    ensures { (greatest : ℕ) → IsLeftBy loss (state_of bytes.old ranges.now least greatest) bytes.new }
 {
     match loss {
         Loss::Kept => {}
@@ -180,7 +188,7 @@ fn lose(bytes: &mut [u8], ranges: &[(u64, u64)], least: u64, loss: Loss)
 
 /// Fills with a byte what a crash may lose: the ranges, and all past the least length.
 fn fill_lost(bytes: &mut [u8], ranges: &[(u64, u64)], least: u64, byte: u8)
-    ensures { (greatest : ℕ) → IsFilled (record { bytes = bytes.old; ranges = ranges.now; least_length = least; greatest_length = greatest }) byte bytes.new }
+    ensures { (greatest : ℕ) → IsFilled (state_of bytes.old ranges.now least greatest) byte bytes.new }
 {
     fill(bytes, least, u64::MAX, byte);
     for range in ranges {

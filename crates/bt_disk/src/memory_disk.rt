@@ -8,8 +8,8 @@ use crate::medium::Medium;
 use std::alloc::Global;
 use std::marker::Model;
 
-/// A device in memory, which is honest. It keeps a record of all calls that changed it, for what a crash at an earlier
-/// moment leaves. A growth that is refused is a failure of this device, and then nothing changed.
+/// A device in memory, which is honest. It keeps a record of all calls that changed it, for what a crash at
+/// an earlier moment leaves. A growth that is refused is a failure of this device, and then nothing changed.
 #[derive(Drop)]
 pub struct MemoryDisk {
     medium: Medium,
@@ -77,7 +77,8 @@ impl Disk for MemoryDisk {
         ensures same { self.new ≡ self.old }
         ensures counted { self.new.failed ≡ count_after self.old.failed result }
         ensures as_honest { ⊤ ↔ ⊤ }
-        ensures answered { ⊤ → IsAnswered (history_of self.old.kept) (len_call result) (history_of self.new.kept) }
+        ensures answered { ⊤
+            → IsAnswered (history_of self.old.kept) (len_call result) (history_of self.new.kept) }
     {
         Ok(self.medium.bytes().len() as u64)
     }
@@ -88,7 +89,8 @@ impl Disk for MemoryDisk {
         ensures within { IfOk result (λ count. count ≤ length out.new) }
         ensures counted { self.new.failed ≡ count_after self.old.failed result }
         ensures as_honest { ⊤ ↔ ⊤ }
-        ensures answered { ⊤ → IsAnswered (history_of self.old.kept) (read_call at out.new result) (history_of self.new.kept) }
+        ensures answered { ⊤
+            → IsAnswered (history_of self.old.kept) (read_call at out.new result) (history_of self.new.kept) }
     {
         let rest = bytes_from(self.medium.bytes(), at);
         let count = rest.len().min(out.len());
@@ -100,7 +102,8 @@ impl Disk for MemoryDisk {
         ensures err { OnErr result (self.new.kept ≡ self.old.kept) }
         ensures counted { self.new.failed ≡ count_after self.old.failed result }
         ensures as_honest { ⊤ ↔ ⊤ }
-        ensures answered { ⊤ → IsAnswered (history_of self.old.kept) (write_call at bytes.now result) (history_of self.new.kept) }
+        ensures answered { ⊤
+            → IsAnswered (history_of self.old.kept) (write_call at bytes.now result) (history_of self.new.kept) }
     {
         if bytes.is_empty() {
             return Ok(());
@@ -115,7 +118,8 @@ impl Disk for MemoryDisk {
         ensures err { OnErr result (self.new.kept ≡ self.old.kept) }
         ensures counted { self.new.failed ≡ count_after self.old.failed result }
         ensures as_honest { ⊤ ↔ ⊤ }
-        ensures answered { ⊤ → IsAnswered (history_of self.old.kept) (set_len_call len result) (history_of self.new.kept) }
+        ensures answered { ⊤
+            → IsAnswered (history_of self.old.kept) (set_len_call len result) (history_of self.new.kept) }
     {
         match self.medium.set_len(len) {
             Ok(()) => Ok(()),
@@ -127,7 +131,8 @@ impl Disk for MemoryDisk {
         ensures err { OnErr result (self.new.kept ≡ self.old.kept) }
         ensures counted { self.new.failed ≡ count_after self.old.failed result }
         ensures as_honest { ⊤ ↔ ⊤ }
-        ensures answered { ⊤ → IsAnswered (history_of self.old.kept) (sync_call result) (history_of self.new.kept) }
+        ensures answered { ⊤
+            → IsAnswered (history_of self.old.kept) (sync_call result) (history_of self.new.kept) }
     {
         match self.medium.sync() {
             Ok(()) => Ok(()),

@@ -1,7 +1,7 @@
 //! Files of the system that share a few open handles.
-ghost use Rattle.std.specs.Prelude.{◌≡◌, ◌≢◌, ◌<◌, ◌≤◌, IfOk, length};
+ghost use Rattle.std.specs.Prelude.{◌≡◌, ◌≢◌, ◌+◌, ◌<◌, ◌≤◌, IfOk, IfErr, length};
 ghost use Rattle.bt_disk.specs.FileDisk.{writing};
-ghost use Rattle.bt_disk.specs.Pool.{access_of_use};
+ghost use Rattle.bt_disk.specs.Pool.{access_of_use, new_pool};
 
 use crate::disk::{DeviceFault, Disk, counted_fault};
 use crate::handle::{file_len, open_to_read, open_to_write, read_file, reopen, write_file};
@@ -19,11 +19,12 @@ struct Shared<R: Files + Drop> {
     handles: RefCell<OpenHandles<R::File>>,
 }
 
-/// Makes devices that are files of the system and share a few open handles, so that a process may have more of them
-/// than it may open files.
+/// Makes devices that are files of the system and share a few open handles, so that a process may have more
+/// of them than it may open files.
 ///
-/// A call takes its file's handle from the pool, or opens the file, and puts the handle back; the handle that was used
-/// longest ago is closed where there are too many. So a run of calls of one file opens it once.
+/// A call takes its file's handle from the pool, or opens the file, and puts the handle back; before a file
+/// is opened, the handle that was used longest ago is closed where there is no room. So a run of calls of one
+/// file opens it once.
 #[derive(Drop)]
 pub struct HandlePool<R: Files + Drop> {
     shared: Rc<Shared<R>>,
@@ -31,10 +32,20 @@ pub struct HandlePool<R: Files + Drop> {
     made: u64,
 }
 
+impl<R: Files + Drop> Model for HandlePool<R> {
+    ghost use Rattle.bt_disk.specs.Pool.{PoolView};
+
+    ghost Value = { PoolView };
+
+    ghost view = { λ p. record { made = p.made } };
+}
+
 impl<R: Files + Drop> HandlePool<R> {
-    /// A pool of at most so many open handles, for which it takes memory here alone.
+    /// A pool of at most so many open handles, for which it takes memory here alone. It has made no device
+    /// yet.
     pub fn new(alloc: Global, rt: R, limit: usize) -> Result<Self, AllocError>
         requires { 0 < limit }
+        ensures { IfOk result (λ pool. pool ≡ new_pool) }
     {
         let handles = RefCell::new(OpenHandles::new(alloc, limit)?);
         let shared = Rc::new(alloc, Shared { rt, handles })?;
@@ -45,7 +56,10 @@ impl<R: Files + Drop> HandlePool<R> {
     pub fn reading(&mut self, path: String) -> Result<PooledDisk<R>, DeviceFault>
         ensures failed { IfOk result (λ disk. disk.failed ≡ 0) }
         ensures access { IfOk result (λ disk. disk.access ≢ writing) }
+        ensures one_more { IfOk result (λ _. self.new.made ≡ self.old.made + 1) }
+        ensures no_more { IfErr result (λ _. self.new ≡ self.old) }
     {
+        make_room(&self.shared);
         let Some(file) = open_to_read(&self.shared.rt, path.as_str())? else {
             return self.device(path, Use::Absent);
         };
@@ -56,25 +70,33 @@ impl<R: Files + Drop> HandlePool<R> {
 
     /// A file that is read and written, as [`FileDisk::writing`](crate::FileDisk::writing) has it.
     pub fn writing(&mut self, path: String) -> Result<PooledDisk<R>, DeviceFault>
-        ensures { IfOk result (λ disk. disk ≡ record { access = writing; failed = 0 }) }
+        ensures device { IfOk result (λ disk. disk ≡ record { access = writing; failed = 0 }) }
+        ensures one_more { IfOk result (λ _. self.new.made ≡ self.old.made + 1) }
+        ensures no_more { IfErr result (λ _. self.new ≡ self.old) }
     {
+        make_room(&self.shared);
         let file = open_to_write(&self.shared.rt, path.as_str())?;
         let disk = self.device(path, Use::Writing)?;
         put_back(&disk.shared, disk.number, file);
         Ok(disk)
     }
 
-    /// The next device.
+    /// The next device, with a number that no other of this pool has.
     fn device(&mut self, path: String, usage: Use) -> Result<PooledDisk<R>, DeviceFault>
-        ensures { IfOk result (λ disk. disk ≡ record { access = access_of_use usage; failed = 0 }) }
+        ensures device { IfOk result (λ disk. disk ≡ record { access = access_of_use usage; failed = 0 }) }
+        ensures one_more { IfOk result (λ _. self.new.made ≡ self.old.made + 1) }
+        ensures no_more { IfErr result (λ _. self.new ≡ self.old) }
     {
         let Ok(shared) = self.shared.clone() else {
             return Err(DeviceFault);
         };
-        self.made = self.made.wrapping_add(1);
+        let Some(number) = self.made.checked_add(1) else {
+            return Err(DeviceFault);
+        };
+        self.made = number;
         Ok(PooledDisk {
             shared,
-            number: self.made,
+            number,
             path,
             usage,
             failed: 0,
@@ -92,7 +114,8 @@ enum Use {
 
 /// A device that is a file of the system, whose handle is shared with the other devices of its pool.
 ///
-/// It is as [`FileDisk`](crate::FileDisk) is, but a call may have to open the file, which then has to be there.
+/// It is as [`FileDisk`](crate::FileDisk) is, but a call may have to open the file, which then has to be
+/// there.
 #[derive(Drop)]
 pub struct PooledDisk<R: Files + Drop> {
     shared: Rc<Shared<R>>,
@@ -114,14 +137,15 @@ impl<R: Files + Drop> Model for PooledDisk<R> {
 impl<R: Files + Drop> PooledDisk<R> {
     /// The open file: the pool's handle, or a new one.
     fn file(&self) -> Result<R::File, DeviceFault> {
-        match take(&self.shared, self.number) {
-            Some(file) => Ok(file),
-            None => reopen(
-                &self.shared.rt,
-                self.path.as_str(),
-                self.usage == Use::Writing,
-            ),
+        if let Some(file) = take(&self.shared, self.number) {
+            return Ok(file);
         }
+        make_room(&self.shared);
+        reopen(
+            &self.shared.rt,
+            self.path.as_str(),
+            self.usage == Use::Writing,
+        )
     }
 
     fn file_len(&self) -> Result<u64, DeviceFault> {
@@ -263,6 +287,13 @@ fn take<R: Files + Drop>(shared: &Shared<R>, number: u64) -> Option<R::File> {
     match shared.handles.try_borrow_mut() {
         Ok(mut handles) => handles.take(number),
         Err(_) => None,
+    }
+}
+
+/// Closes the handle that was used longest ago, where the pool has no room for another.
+fn make_room<R: Files + Drop>(shared: &Shared<R>) {
+    if let Ok(mut handles) = shared.handles.try_borrow_mut() {
+        handles.make_room();
     }
 }
 

@@ -2,9 +2,11 @@
 
 use super::tools::{confirm, folder, path_in};
 use crate::{Disk, FileDisk};
-use std::fs;
-use std::fs::File;
+use std::fs::{self, File, Permissions};
+use std::io;
+use std::os::fd::AsRawFd;
 use std::os::unix;
+use std::os::unix::fs::PermissionsExt;
 use std::test::Fail;
 
 #[test]
@@ -88,6 +90,43 @@ fn what_is_no_regular_file_is_refused(rt: HostRuntime) -> Result<(), Fail> {
     confirm(
         FileDisk::<File>::writing(&rt, link.as_str()).is_err(),
         "a loop is written",
+    )?;
+    fs::remove_dir_all(&rt, top.as_str())?;
+    Ok(())
+}
+
+/// A pipe that has no bytes and a writer, so that opening or reading it may wait.
+#[test]
+fn a_pipe_is_refused_at_once(rt: HostRuntime) -> Result<(), Fail> {
+    let (reader, writer) = io::pipe(&rt)?;
+    for end in [reader.as_raw_fd(), writer.as_raw_fd()] {
+        let path = format!(in rt.alloc(); "/proc/self/fd/{end}")?;
+        confirm(
+            FileDisk::<File>::reading(&rt, path.as_str()).is_err(),
+            "it is read",
+        )?;
+        confirm(
+            FileDisk::<File>::writing(&rt, path.as_str()).is_err(),
+            "it is written",
+        )?;
+    }
+    Ok(())
+}
+
+/// The program that runs may be written by nobody. A file without rights is read by those alone whom the
+/// system lets.
+#[test]
+fn a_file_that_the_system_does_not_open_is_refused(rt: HostRuntime) -> Result<(), Fail> {
+    let program = FileDisk::<File>::writing(&rt, "/proc/self/exe");
+    confirm(program.is_err(), "the program is written")?;
+    let top = folder(&rt, "mode")?;
+    let path = path_in(&rt, top.as_str(), "file")?;
+    fs::write(&rt, path.as_str(), b"abc")?;
+    fs::set_permissions(&rt, path.as_str(), Permissions::from_mode(0))?;
+    confirm(
+        FileDisk::<File>::reading(&rt, path.as_str()).is_ok()
+            == fs::read(&rt, path.as_str()).is_ok(),
+        "another answer than the system's",
     )?;
     fs::remove_dir_all(&rt, top.as_str())?;
     Ok(())

@@ -1,7 +1,7 @@
 //! One table of calls, with the bytes after each, over all devices.
 
 use super::tools::{Step, bytes_of, confirm, folder, make, path_in};
-use crate::{Disk, FaultDisk, FileDisk, MemoryDisk};
+use crate::{Disk, FaultDisk, FileDisk, HandlePool, MemoryDisk};
 use std::fs;
 use std::fs::File;
 use std::test::Fail;
@@ -55,6 +55,14 @@ fn the_table_holds_in_memory(rt: HostRuntime) -> Result<(), Fail> {
 }
 
 #[test]
+fn the_table_holds_of_a_lent_device(rt: HostRuntime) -> Result<(), Fail> {
+    let mut disk = MemoryDisk::new(rt.alloc(), Vec::new(rt.alloc()));
+    follow_table(&rt, &mut &mut disk)?;
+    confirm(disk.bytes() == b"\0\0k".as_slice(), "other bytes at last")?;
+    Ok(())
+}
+
+#[test]
 fn the_table_holds_of_a_device_without_settings(rt: HostRuntime) -> Result<(), Fail> {
     let mut disk = FaultDisk::new(MemoryDisk::new(rt.alloc(), Vec::new(rt.alloc())));
     follow_table(&rt, &mut disk)?;
@@ -79,6 +87,22 @@ fn the_table_holds_of_a_file(rt: HostRuntime) -> Result<(), Fail> {
     // One that is there keeps its bytes.
     let mut again = FileDisk::<File>::writing(&rt, path.as_str())?;
     confirm(again.len()? == 3, "the file lost its bytes")?;
+    fs::remove_dir_all(&rt, top.as_str())?;
+    Ok(())
+}
+
+#[test]
+fn the_table_holds_of_a_file_of_a_pool(rt: HostRuntime) -> Result<(), Fail> {
+    let top = folder(&rt, "pool-table")?;
+    let path = path_in(&rt, top.as_str(), "file")?;
+    let mut pool = HandlePool::new(rt.alloc(), rt.clone()?, 1)?;
+    let mut disk = pool.writing(path.clone()?)?;
+    follow_table(&rt, &mut disk)?;
+    let kept = fs::read(&rt, path.as_str())?;
+    confirm(
+        kept.as_slice() == b"\0\0k".as_slice(),
+        "other bytes in the file",
+    )?;
     fs::remove_dir_all(&rt, top.as_str())?;
     Ok(())
 }

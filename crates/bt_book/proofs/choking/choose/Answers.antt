@@ -6,10 +6,10 @@ use Rattle.bt_book.proofs.choking.choose.Goals.{in-Some, in_default}
 
 pub insert-requires-clause-other : goal.insert-requires-clause-other
 insert-requires-clause-other c =
-    top_fresh c.args.standings.now c.loop-rank.rank c.loop-rank.chosen.items c.in-Some.peer c.requires c.loop-rank.invariant.keys c.in-Some.ensures.some
+    top_fresh _ _ _ _ c.requires c.loop-rank.invariant.keys c.in-Some.ensures.some
 
 pub loop-rank-init : goal.loop-rank-init
-loop-rank-init c = record { few = rw c.new-chosen.ensures (omega arith); keys = rw c.new-chosen.ensures (top_none c.args.standings.now) }
+loop-rank-init c = record { few = rw c.new-chosen.ensures (omega arith); keys = rw c.new-chosen.ensures (top_none _) }
 
 pub loop-rank-preserved : goal.loop-rank-preserved
 loop-rank-preserved c =
@@ -19,19 +19,19 @@ loop-rank-preserved c =
     elim c.match-ranked.branch [
       | in-Some w ↦ rw w.chosen-is record {
         few = omega (arith, w.insert.ensures.len, c.loop-rank.invariant.few);
-        keys = top_more xs rank c.loop-rank.chosen.items w.insert.new.keys.items w.in-Some.peer c.requires w.in-Some.ensures.some keys
+        keys = top_more xs _ _ _ _ c.requires w.in-Some.ensures.some keys
             w.insert.ensures.ascending w.insert.ensures.members;
       }
       | in_default w ↦ rw w.chosen-is record {
         few = omega (arith, c.loop-rank.invariant.few);
-        keys = top_same xs rank c.loop-rank.chosen.items w.in_default.ensures.none keys;
+        keys = top_same xs _ _ w.in_default.ensures.none keys;
       }
     ]
 
 pub insert-requires-in-Some-on_turn-clause-other : goal.insert-requires-in-Some-on_turn-clause-other
 insert-requires-in-Some-on_turn-clause-other c =
     let turned = rw c.as_slice.ensures.value at c.in-Some-on_turn.ensures.some in
-    turn_fresh c.args.standings.now c.loop-rank.chosen.items c.args.turn c.in-Some-on_turn.peer turned
+    turn_fresh _ _ _ _ turned
 
 pub returns-in-Some-on_turn : goal.returns-in-Some-on_turn
 returns-in-Some-on_turn c =
@@ -40,7 +40,7 @@ returns-in-Some-on_turn c =
     let keys : AreTopKeys xs 3 c.loop-rank.chosen.items = subst (λ (r : ℕ). AreTopKeys xs r c.loop-rank.chosen.items) three c.loop-rank.invariant.keys in
     let turned = rw c.as_slice.ensures.value at c.in-Some-on_turn.ensures.some in
     let more = c.insert-in-Some-on_turn in
-    choice_some xs c.loop-rank.chosen.items more.new.keys.items c.args.turn c.in-Some-on_turn.peer c.requires keys turned more.ensures.ascending
+    choice_some xs _ _ _ _ c.requires keys turned more.ensures.ascending
     more.ensures.members
 
 pub returns-in_default-on_turn : goal.returns-in_default-on_turn
@@ -49,4 +49,4 @@ returns-in_default-on_turn c =
     let three : c.loop-rank.rank ≡ 3 = omega arith in
     let keys : AreTopKeys xs 3 c.loop-rank.chosen.items = subst (λ (r : ℕ). AreTopKeys xs r c.loop-rank.chosen.items) three c.loop-rank.invariant.keys in
     let free = rw c.as_slice.ensures.value at c.in_default-on_turn.ensures.none in
-    choice_none xs c.loop-rank.chosen.items c.args.turn c.requires keys free
+    choice_none xs _ _ c.requires keys free

@@ -6,10 +6,10 @@ returns-clause-ascending c =
     let before = rw c.as_slice.ensures.value at c.index_of-index.ensures.before in
     let after = rw c.as_slice.ensures.value at c.index_of-index.ensures.after in
     let fits = rw c.as_slice.ensures.value at c.index_of-index.ensures.within in
-    ascending_after c.args.keys.now.items c.insert.new.self.items c.index_of-index.result c.args.peer c.insert.ensures.items fits c.requires.ascending
+    ascending_after _ _ _ _ c.insert.ensures.items fits c.requires.ascending
     c.requires.other before after
 
 pub returns-clause-members : goal.returns-clause-members
 returns-clause-members c =
     let fits = rw c.as_slice.ensures.value at c.index_of-index.ensures.within in
-    one_more_after c.args.keys.now.items c.insert.new.self.items c.index_of-index.result c.args.peer c.insert.ensures.items fits
+    one_more_after _ _ _ _ c.insert.ensures.items fits

@@ -6,19 +6,19 @@ use Rattle.bt_book.proofs.bit_set.BitSet.contains.Goals as goal
 
 pub index-requires : goal.index-requires
 index-requires c =
-    let size : length c.args.self.now ≡ c.self.inside.count = ap length (sym c.self.view_is) ∙ bits_length c.self.inside.count c.self.inside.words.items in
+    let size : length c.args.self.now ≡ c.self.inside.count = ap length (sym c.self.view_is) ∙ bits_length _ _ in
     let room = c.self.invariant.room in
     let inside = c.requires in
     omega arith
 
 pub returns : goal.returns
 returns c =
-    let size : length c.args.self.now ≡ c.self.inside.count = ap length (sym c.self.view_is) ∙ bits_length c.self.inside.count c.self.inside.words.items in
+    let size : length c.args.self.now ≡ c.self.inside.count = ap length (sym c.self.view_is) ∙ bits_length _ _ in
     let room = c.self.invariant.room in
     let words = c.self.inside.words.items in
     let k : ℕ = c.args.number in
     let read = get_or_read words (k / 64) c.index.result.now (omega arith) c.index.ensures 0 in
     ap (λ n. eqb n 1) (shr_and_one c.index.result.now (k % 64))
     ∙ ap (λ n. eqb (n / 2 ^ (k % 64) % 2) 1) read
-    ∙ sym (has_at c.self.inside.count words k (omega arith))
+    ∙ sym (has_at _ _ k (omega arith))
     ∙ ap (λ s. get_or s k false) c.self.view_is

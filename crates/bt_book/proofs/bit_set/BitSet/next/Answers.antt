@@ -7,7 +7,7 @@ pub returns-in-Some-clause-some : goal.returns-in-Some-clause-some
 returns-in-Some-clause-some c =
     let next = rw c.deref.ensures.value at c.in-Some.ensures.some in
     subst (λ (s : List Bool). IsNext s c.args.from c.in-Some.number) c.self.view_is
-    (next_is c.self.inside.count c.self.inside.words.items c.self.inside.groups.items c.args.from c.in-Some.number c.self.invariant next)
+    (next_is _ _ _ _ _ c.self.invariant next)
 
 pub returns-in_default-next_bit-clause-none : goal.returns-in_default-next_bit-clause-none
 returns-in_default-next_bit-clause-none c =
@@ -17,7 +17,7 @@ returns-in_default-next_bit-clause-none c =
     let none = rw c.deref.ensures.value at c.in_default.ensures.none in
     let empty = rw c.deref-2.ensures.value at c.in_default-next_bit.ensures.none in
     subst (λ (s : List Bool). HasNoneFrom s c.args.from) c.self.view_is
-    (none_is count words groups c.args.from c.self.invariant (none_past_all count words groups c.args.from c.self.invariant none empty))
+    (none_is _ _ _ _ c.self.invariant (none_past_all _ _ _ _ c.self.invariant none empty))
 
 pub returns-clause-some : goal.returns-clause-some
 returns-clause-some c =
@@ -25,7 +25,7 @@ returns-clause-some c =
     let group = rw c.deref-2.ensures.value at c.in-Some-next_bit.ensures.some in
     let found = rw c.deref-3.ensures.value at c.next_bit-2.ensures.some in
     subst (λ (s : List Bool). IfSome c.next_bit-2.result (IsNext s c.args.from)) c.self.view_is
-    (found_past c.self.inside.count c.self.inside.words.items c.self.inside.groups.items c.args.from c.in-Some-next_bit.group c.next_bit-2.result
+    (found_past _ _ _ _ _ _
     c.self.invariant none group found)
 
 pub returns-clause-none : goal.returns-clause-none
@@ -34,5 +34,5 @@ returns-clause-none c =
     let group = rw c.deref-2.ensures.value at c.in-Some-next_bit.ensures.some in
     let unfound = rw c.deref-3.ensures.value at c.next_bit-2.ensures.none in
     subst (λ (s : List Bool). IfNone c.next_bit-2.result (HasNoneFrom s c.args.from)) c.self.view_is
-    (unfound_past c.self.inside.count c.self.inside.words.items c.self.inside.groups.items c.args.from c.in-Some-next_bit.group c.next_bit-2.result
+    (unfound_past _ _ _ _ _ _
     c.self.invariant none group unfound)

@@ -10,4 +10,4 @@ invariant_of-result c =
     let made : c.loop-count.files.items ≡ map (λ n. replicate n false) blocks = c.loop-count.invariant ∙ ap (map (λ n. replicate n false))
     (take_all c.loop-count.count-index blocks (omega arith)) in
     let size = ap length c.in_ok-filled.ensures ∙ length-replicate c.min.result false ∙ c.min.ensures in
-    rw made (filled_none blocks marks size (λ k. let fits = c.type_inv.blocks k in omega arith))
+    rw made (filled_none _ _ size (λ k. let fits = c.type_inv.blocks k in omega arith))

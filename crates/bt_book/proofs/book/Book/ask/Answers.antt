@@ -9,7 +9,7 @@ use Rattle.bt_book.proofs.book.Book.ask.Goals as goal
 pub returns-then-is_full-clause-none : goal.returns-then-is_full-clause-none
 returns-then-is_full-clause-none g c =
     let found = rw c.deref.ensures.value at c.in-Some.ensures.some in
-    let asked = asked_here c.args.self.now c.self.inside.wanted c.self.inside.peers.items c.args.peer c.in-Some.index c.index.result.now c.self.view_is
+    let asked = asked_here _ _ _ c.self.view_is _ _ _
     (c.self.invariant.0.once c.args.peer) found c.index.ensures in
     inr (inl (ap length asked ∙ c.is_full.ensures.full.0 c.if-is_full.true))
 
@@ -24,7 +24,7 @@ invariant_of-self g c =
     let open' : length c.index.result.now.blocks ≢ 16 = λ h. true≢false (sym (c.is_full.ensures.full.1 h) ∙ c.if-is_full.false) in
     let room : length e.blocks < 16 = let short = c.is_full.ensures.short in omega (arith, size, short, open') in
     rw (c.remove.ensures, c.push.ensures) (
-      kept_ask c.self.inside.wanted c.self.inside.unasked peers i e c.in-Some-least.block c.self.invariant.0 found.inside c.index_mut.ensures.value room
+      kept_ask _ _ _ c.self.invariant.0 i e found.inside c.index_mut.ensures.value _ room
           c.in-Some-least.ensures.some.among,
       c.self.invariant.1,
     )
@@ -32,14 +32,13 @@ invariant_of-self g c =
 pub returns-clause-now : goal.returns-clause-now
 returns-clause-now g c =
     let found = rw c.deref.ensures.value at c.in-Some.ensures.some in
-    changed_is c.args.self.now c.self.inside.wanted c.self.inside.peers.items c.args.peer
-    (λ blocks. blocks ++ c.in-Some-least.block ∷ []) c.in-Some.index c.index_mut.result.now c.push.new.self c.self.view_is
+    changed_is _ _ _ c.self.view_is _ (λ blocks. blocks ++ c.in-Some-least.block ∷ []) _ _ _
     (c.self.invariant.0.once c.args.peer) found c.index_mut.ensures.value c.push.ensures
 
 pub returns-clause-room : goal.returns-clause-room
 returns-clause-room g c =
     let found = rw c.deref.ensures.value at c.in-Some.ensures.some in
-    let asked = asked_here c.args.self.now c.self.inside.wanted c.self.inside.peers.items c.args.peer c.in-Some.index c.index.result.now c.self.view_is
+    let asked = asked_here _ _ _ c.self.view_is _ _ _
     (c.self.invariant.0.once c.args.peer) found c.index.ensures in
     let size = ap length asked in
     let open' : length c.index.result.now.blocks ≢ 16 = λ h. true≢false (sym (c.is_full.ensures.full.1 h) ∙ c.if-is_full.false) in

@@ -12,13 +12,13 @@ pub returns-in_default-clause-was : goal.returns-in_default-clause-was
 returns-in_default-clause-was c =
     let none = rw c.deref.ensures.value at c.in_default.ensures.none in
     let zero' : count_by (is_block c.args.block) (asked_of c.args.self.now c.args.peer) ≡ 0 =
-    ap (count_by (is_block c.args.block)) (asked_nowhere c.args.self.now c.self.inside.wanted c.self.inside.peers.items c.args.peer c.self.view_is none) in
+    ap (count_by (is_block c.args.block)) (asked_nowhere _ _ _ c.self.view_is _ none) in
     (λ h. absurd (false≢true h), λ p. absurd (omega (arith, zero', p)))
 
 pub returns-in_default-clause-now : goal.returns-in_default-clause-now
 returns-in_default-clause-now c =
     let none = rw c.deref.ensures.value at c.in_default.ensures.none in
-    changed_none c.args.self.now c.self.inside.wanted c.self.inside.peers.items c.args.peer (without_block c.args.block) c.self.view_is none
+    changed_none _ _ _ c.self.view_is _ (without_block c.args.block) none
 
 pub forget-requires : goal.forget-requires
 forget-requires c =
@@ -26,7 +26,7 @@ forget-requires c =
     let found = rw c.deref.ensures.value at c.in-Some.ensures.some in
     omega (
       arith,
-      count_le_pairs b c.self.inside.peers.items c.in-Some.index c.index_mut.result.now found.inside c.index_mut.ensures.value,
+      count_le_pairs b _ _ _ found.inside c.index_mut.ensures.value,
       c.self.invariant.0.counts b,
       one_if_le (member c.self.inside.wanted b),
     )
@@ -35,7 +35,7 @@ pub invariant_of-self : goal.invariant_of-self
 invariant_of-self c =
     let e : PeerRequests = c.index_mut.result.now in
     let off : c.forget.result ≡ false = grind arith in
-    let none : count_by (is_block c.args.block) e.blocks ≡ 0 = none_asked (count_by (is_block c.args.block) e.blocks) c.forget.result
+    let none : count_by (is_block c.args.block) e.blocks ≡ 0 = none_asked _ _
     c.forget.ensures.was.1 off in
     let same = forgotten_is c.self.inside.peers.items c.in-Some.index e c.forget.new.self c.args.block c.index_mut.ensures.value none c.forget.ensures.now in
     rw same c.self.invariant
@@ -45,39 +45,35 @@ returns-then-not-forget-clause-was c =
     let e : PeerRequests = c.index_mut.result.now in
     let found = rw c.deref.ensures.value at c.in-Some.ensures.some in
     let off : c.forget.result ≡ false = grind arith in
-    let none : count_by (is_block c.args.block) e.blocks ≡ 0 = none_asked (count_by (is_block c.args.block) e.blocks) c.forget.result
+    let none : count_by (is_block c.args.block) e.blocks ≡ 0 = none_asked _ _
     c.forget.ensures.was.1 off in
     let zero' : count_by (is_block c.args.block) (asked_of c.args.self.now c.args.peer) ≡ 0 =
-    ap (count_by (is_block c.args.block)) (asked_here c.args.self.now c.self.inside.wanted c.self.inside.peers.items c.args.peer c.in-Some.index e
-    c.self.view_is (c.self.invariant.0.once c.args.peer) found c.index_mut.ensures.value) ∙ none in
+    ap (count_by (is_block c.args.block)) (asked_here _ _ _ c.self.view_is _ _ e (c.self.invariant.0.once c.args.peer) found c.index_mut.ensures.value) ∙ none in
     (λ h. absurd (false≢true h), λ p. absurd (omega (arith, zero', p)))
 
 pub returns-then-not-forget-clause-now : goal.returns-then-not-forget-clause-now
 returns-then-not-forget-clause-now c =
     let found = rw c.deref.ensures.value at c.in-Some.ensures.some in
-    changed_is c.args.self.now c.self.inside.wanted c.self.inside.peers.items c.args.peer
-    (without_block c.args.block) c.in-Some.index c.index_mut.result.now c.forget.new.self c.self.view_is
+    changed_is _ _ _ c.self.view_is _ (without_block c.args.block) _ _ _
     (c.self.invariant.0.once c.args.peer) found c.index_mut.ensures.value c.forget.ensures.now
 
 pub returns-then-not-forget-clause-others : goal.returns-then-not-forget-clause-others
 returns-then-not-forget-clause-others c = λ other ne.
-    ap (λ (b : BookState). asked_of b other) (returns-then-not-forget-clause-now c) ∙ asked_changed_other c.args.peer other
-    (without_block c.args.block) c.args.self.now.peers ne
+    ap (λ (b : BookState). asked_of b other) (returns-then-not-forget-clause-now c) ∙ asked_changed_other _ _
+    (without_block c.args.block) _ ne
 
 pub insert-requires : goal.insert-requires
 insert-requires c =
     let found = rw c.deref.ensures.value at c.in-Some.ensures.some in
     let on : c.forget.result ≡ true = grind arith in
-    asked_in_range c.self.inside.wanted c.self.inside.unasked c.self.inside.peers.items c.in-Some.index c.index_mut.result.now c.args.block
-    c.self.invariant.0 found.inside c.index_mut.ensures.value (c.forget.ensures.was.0 on)
+    asked_in_range _ _ _ c.self.invariant.0 _ _ found.inside c.index_mut.ensures.value _ (c.forget.ensures.was.0 on)
 
 pub invariant_of-self-2 : goal.invariant_of-self-2
 invariant_of-self-2 c =
     let found = rw c.deref.ensures.value at c.in-Some.ensures.some in
     let on : c.forget.result ≡ true = grind arith in
     rw (c.insert.ensures, c.forget.ensures.now) (
-      kept_came c.self.inside.wanted c.self.inside.unasked c.self.inside.peers.items c.in-Some.index c.index_mut.result.now c.args.block
-          c.self.invariant.0 found.inside c.index_mut.ensures.value
+      kept_came _ _ _ c.self.invariant.0 _ _ found.inside c.index_mut.ensures.value _
           (c.forget.ensures.was.0 on),
       c.self.invariant.1,
     )
@@ -86,27 +82,26 @@ pub returns-clause-was : goal.returns-clause-was
 returns-clause-was c =
     let found = rw c.deref.ensures.value at c.in-Some.ensures.some in
     let on : c.forget.result ≡ true = grind arith in
-    let same = asked_here c.args.self.now c.self.inside.wanted c.self.inside.peers.items c.args.peer c.in-Some.index c.index_mut.result.now c.self.view_is
+    let same = asked_here _ _ _ c.self.view_is _ _ _
     (c.self.invariant.0.once c.args.peer) found c.index_mut.ensures.value in
     (λ h. subst (λ (l : List BlockId). 0 < count_by (is_block c.args.block) l) (sym same) (c.forget.ensures.was.0 on), λ p. refl)
 
 pub returns-clause-now : goal.returns-clause-now
 returns-clause-now c =
     let found = rw c.deref.ensures.value at c.in-Some.ensures.some in
-    changed_is c.args.self.now c.self.inside.wanted c.self.inside.peers.items c.args.peer
-    (without_block c.args.block) c.in-Some.index c.index_mut.result.now c.forget.new.self c.self.view_is
+    changed_is _ _ _ c.self.view_is _ (without_block c.args.block) _ _ _
     (c.self.invariant.0.once c.args.peer) found c.index_mut.ensures.value c.forget.ensures.now
 
 pub returns-clause-others : goal.returns-clause-others
 returns-clause-others c = λ other ne.
-    ap (λ (b : BookState). asked_of b other) (returns-clause-now c) ∙ asked_changed_other c.args.peer other
-    (without_block c.args.block) c.args.self.now.peers ne
+    ap (λ (b : BookState). asked_of b other) (returns-clause-now c) ∙ asked_changed_other _ _
+    (without_block c.args.block) _ ne
 
 pub returns-then-not-forget-clause-kept : goal.returns-then-not-forget-clause-kept
 returns-then-not-forget-clause-kept c =
     let e : PeerRequests = c.index_mut.result.now in
     let off : c.forget.result ≡ false = grind arith in
-    let none : count_by (is_block c.args.block) e.blocks ≡ 0 = none_asked (count_by (is_block c.args.block) e.blocks) c.forget.result
+    let none : count_by (is_block c.args.block) e.blocks ≡ 0 = none_asked _ _
     c.forget.ensures.was.1 off in
-    let same = forgotten_is c.self.inside.peers.items c.in-Some.index e c.forget.new.self c.args.block c.index_mut.ensures.value none c.forget.ensures.now in
+    let same = forgotten_is _ _ e _ _ c.index_mut.ensures.value none c.forget.ensures.now in
     ap (λ (l : List PeerRequests). let s : BookState = record { wanted = c.self.inside.wanted; peers = l } in s) same ∙ c.self.view_is

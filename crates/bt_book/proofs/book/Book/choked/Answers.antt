@@ -9,8 +9,7 @@ use Rattle.bt_book.proofs.book.Book.choked.Goals as goal
 pub add_all-requires : goal.add_all-requires
 add_all-requires c =
     let found = rw c.deref.ensures.value at c.in-Some.ensures.some in
-    rw c.blocks-in-Some.ensures (can_add c.self.inside.wanted c.self.inside.unasked c.self.inside.peers.items c.in-Some.index c.index.result.now
-    c.self.invariant.0 found.inside c.index.ensures)
+    rw c.blocks-in-Some.ensures (can_add _ _ _ c.self.invariant.0 _ _ found.inside c.index.ensures)
 
 pub invariant_of-self : goal.invariant_of-self
 invariant_of-self c =
@@ -21,15 +20,14 @@ invariant_of-self c =
     let same : c.index.result.now ≡ e = get_or_read peers i c.index.result.now found.inside c.index.ensures e ∙ sym c.index_mut.ensures.value in
     let added = rw (c.blocks-in-Some.ensures, same) at c.add_all.ensures in
     rw c.clear.ensures (
-      kept_choked c.self.inside.wanted c.self.inside.unasked c.add_all.new.set peers i e c.self.invariant.0 found.inside c.index_mut.ensures.value added,
+      kept_choked _ _ _ c.self.invariant.0 i e found.inside c.index_mut.ensures.value _ added,
       c.self.invariant.1,
     )
 
 pub returns-in-Some-clause-now : goal.returns-in-Some-clause-now
 returns-in-Some-clause-now c =
     let found = rw c.deref.ensures.value at c.in-Some.ensures.some in
-    changed_is c.args.self.now c.self.inside.wanted c.self.inside.peers.items c.args.peer
-    (λ _. []) c.in-Some.index c.index_mut.result.now c.clear.new.self c.self.view_is (c.self.invariant.0.once c.args.peer)
+    changed_is _ _ _ c.self.view_is _ (λ _. []) _ _ _ (c.self.invariant.0.once c.args.peer)
     found c.index_mut.ensures.value c.clear.ensures
 
 pub returns-in-Some-clause-nothing_asked : goal.returns-in-Some-clause-nothing_asked
@@ -38,14 +36,14 @@ returns-in-Some-clause-nothing_asked c =
 
 pub returns-in-Some-clause-others : goal.returns-in-Some-clause-others
 returns-in-Some-clause-others c = λ other ne.
-    ap (λ (b : BookState). asked_of b other) (returns-in-Some-clause-now c) ∙ asked_changed_other c.args.peer other (λ _. []) c.args.self.now.peers ne
+    ap (λ (b : BookState). asked_of b other) (returns-in-Some-clause-now c) ∙ asked_changed_other _ _ (λ _. []) _ ne
 
 pub returns-in_default-clause-now : goal.returns-in_default-clause-now
 returns-in_default-clause-now c =
     let none = rw c.deref.ensures.value at c.in_default.ensures.none in
-    changed_none c.args.self.now c.self.inside.wanted c.self.inside.peers.items c.args.peer (λ _. []) c.self.view_is none
+    changed_none _ _ _ c.self.view_is _ (λ _. []) none
 
 pub returns-in_default-clause-nothing_asked : goal.returns-in_default-clause-nothing_asked
 returns-in_default-clause-nothing_asked c =
     let none = rw c.deref.ensures.value at c.in_default.ensures.none in
-    asked_nowhere c.args.self.now c.self.inside.wanted c.self.inside.peers.items c.args.peer c.self.view_is none
+    asked_nowhere _ _ _ c.self.view_is _ none

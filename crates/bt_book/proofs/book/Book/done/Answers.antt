@@ -9,7 +9,7 @@ use Rattle.bt_book.proofs.book.Book.done.Goals as goal
 pub returns-then-not-contains : goal.returns-then-not-contains
 returns-then-not-contains c =
     let off : c.contains.result ≡ false = grind arith in
-    done_none c.args.self.now c.self.inside.wanted c.self.inside.unasked c.self.inside.peers.items c.args.block c.self.view_is c.self.invariant.0
+    done_none _ _ _ c.self.view_is _ _ c.self.invariant.0
     (sym c.contains.ensures ∙ off)
 
 pub invariant_of-self : goal.invariant_of-self
@@ -18,8 +18,7 @@ invariant_of-self c =
     let inside : IsInRange c.self.inside.wanted b = subst (λ (s : BookState). IsInRange s.wanted b) (sym c.self.view_is) c.requires in
     let is : member c.self.inside.unasked b ≡ true = sym c.contains-2.ensures ∙ c.if-contains.true in
     rw (c.remove.ensures, c.remove-then-contains.ensures) (
-      kept_done_unasked c.self.inside.wanted c.self.inside.unasked c.self.inside.peers.items b
-          c.self.invariant.0 inside is,
+      kept_done_unasked _ _ _ c.self.invariant.0 b inside is,
       c.self.invariant.1,
     )
 
@@ -33,7 +32,7 @@ invariant_of-self-else-contains c =
     (map (without_block_of b)) c.deref_mut.ensures.value in
     let items = with_items_is c.self.inside.peers c.forget_block.new.peers (c.forget_block.auto.peers ∙ c.deref_mut.ensures.len) in
     rw (c.remove.ensures, items) (
-      kept_done_asked c.self.inside.wanted c.self.inside.unasked peers c.forget_block.new.peers b c.self.invariant.0 inside
+      kept_done_asked _ _ _ c.self.invariant.0 _ b inside
           isnt forgotten,
       c.self.invariant.1,
     )
@@ -43,4 +42,4 @@ returns-then-contains c =
     let b = c.args.block in
     let is : member c.self.inside.unasked b ≡ true = sym c.contains-2.ensures ∙ c.if-contains.true in
     ap (λ (w : Blocks). let s : BookState = record { wanted = w; peers = c.self.inside.peers.items } in s) c.remove.ensures
-    ∙ done_unasked c.args.self.now c.self.inside.wanted c.self.inside.unasked c.self.inside.peers.items b c.self.view_is c.self.invariant.0 is
+    ∙ done_unasked _ _ _ c.self.view_is _ b c.self.invariant.0 is

@@ -13,7 +13,7 @@ returns-then-is_some-clause-when c = (
   λ p. elim c.then-is_some.branch [
     | then-is_some-via-then-is_some w ↦
         let found = rw c.deref.ensures.value at c.index_of.ensures.some in
-        absurd (p.0 (found_joined c.args.self.now c.self.inside.wanted c.self.inside.peers.items c.args.peer c.index_of.result c.self.view_is found
+        absurd (p.0 (found_joined _ _ _ c.self.view_is _ _ found
         (sym c.is_some.ensures ∙ w.if-is_some.true)))
     | then-is_some-via-else-is_some+then-len-ge-MAX_PEERS w ↦
         let size : length c.self.inside.peers.items ≡ length c.args.self.now.peers = ap (λ (s : BookState). length s.peers) c.self.view_is in
@@ -26,9 +26,9 @@ invariant_of-self c =
     let w = c.self.inside.wanted in
     let u = c.self.inside.unasked in
     let peers = c.self.inside.peers.items in
-    let none = unfound c.args.peer peers c.index_of.result (rw c.deref.ensures.value at c.index_of.ensures.none) (sym c.is_some.ensures ∙ c.if-is_some.false) in
+    let none = unfound c.args.peer peers _ (rw c.deref.ensures.value at c.index_of.ensures.none) (sym c.is_some.ensures ∙ c.if-is_some.false) in
     let room : length peers < 64 = omega (arith, c.if-len-ge-MAX_PEERS.false, c.len.ensures, c.self.inside.peers.ok.0) in
-    let joined = kept_join w u peers c.args.peer c.self.invariant.0 none room in (
+    let joined = kept_join w u _ c.self.invariant.0 _ none room in (
       subst (λ (l : List PeerRequests). IsKept w u l) (sym {A = List PeerRequests} c.push.ensures.items)
           (cond_both (is_ok c.push.result) (peers ++ c.new.result ∷ []) peers (λ (l : List PeerRequests). IsKept w u l)
           (λ yes'. subst (λ (r : PeerRequests). IsKept w u (peers ++ r ∷ [])) (sym {A = PeerRequests} c.new.ensures) joined) (λ no'. c.self.invariant.0)),

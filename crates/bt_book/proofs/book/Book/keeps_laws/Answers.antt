@@ -4,4 +4,4 @@ use Rattle.bt_book.proofs.Asked.{book_is}
 use Rattle.bt_book.proofs.book.Book.keeps_laws.Goals as goal
 
 pub returns : goal.returns
-returns c = subst IsBook c.self.view_is (book_is c.self.inside.wanted c.self.inside.unasked c.self.inside.peers.items c.self.invariant.0)
+returns c = subst IsBook c.self.view_is (book_is _ _ _ c.self.invariant.0)

@@ -8,15 +8,14 @@ use Rattle.bt_book.proofs.book.Book.lost.Goals as goal
 pub add_all-requires : goal.add_all-requires
 add_all-requires c =
     let found = rw c.deref.ensures.value at c.in-Some.ensures.some in
-    rw c.blocks-in-Some.ensures (can_add c.self.inside.wanted c.self.inside.unasked c.self.inside.peers.items c.in-Some.index c.index.result.now
-    c.self.invariant.0 found.inside c.index.ensures)
+    rw c.blocks-in-Some.ensures (can_add _ _ _ c.self.invariant.0 _ _ found.inside c.index.ensures)
 
 pub invariant_of-self : goal.invariant_of-self
 invariant_of-self c =
     let found = rw c.deref.ensures.value at c.in-Some.ensures.some in
     let added = rw c.blocks-in-Some.ensures at c.add_all.ensures in (
-      lost_kept c.self.inside.wanted c.self.inside.unasked c.add_all.new.set c.self.inside.peers.items c.remove.new.self.items c.args.peer c.in-Some.index
-          c.index.result.now c.self.invariant.0
+      lost_kept _ _ _ _ _ _ _
+          _ c.self.invariant.0
           found c.index.ensures added c.remove.ensures.items,
       omega (arith, c.self.invariant.1, c.remove.ensures.capacity),
     )
@@ -24,8 +23,7 @@ invariant_of-self c =
 pub returns-in-Some-clause-now : goal.returns-in-Some-clause-now
 returns-in-Some-clause-now c =
     let found = rw c.deref.ensures.value at c.in-Some.ensures.some in
-    lost_is c.args.self.now c.self.inside.wanted c.self.inside.peers.items c.remove.new.self.items c.args.peer c.in-Some.index c.index.result.now
-    c.self.view_is (c.self.invariant.0.once c.args.peer)
+    lost_is _ _ _ c.self.view_is _ _ _ c.index.result.now (c.self.invariant.0.once c.args.peer)
     found c.remove.ensures.items
 
 pub returns-in-Some-clause-nothing_asked : goal.returns-in-Some-clause-nothing_asked
@@ -34,14 +32,14 @@ returns-in-Some-clause-nothing_asked c =
 
 pub returns-in-Some-clause-others : goal.returns-in-Some-clause-others
 returns-in-Some-clause-others c = λ other ne.
-    ap (λ (b : BookState). asked_of b other) (returns-in-Some-clause-now c) ∙ asked_lost_other c.args.peer other c.args.self.now.peers ne
+    ap (λ (b : BookState). asked_of b other) (returns-in-Some-clause-now c) ∙ asked_lost_other _ _ _ ne
 
 pub returns-in_default-clause-now : goal.returns-in_default-clause-now
 returns-in_default-clause-now c =
     let none = rw c.deref.ensures.value at c.in_default.ensures.none in
-    lost_none c.args.self.now c.self.inside.wanted c.self.inside.peers.items c.args.peer c.self.view_is none
+    lost_none _ _ _ c.self.view_is _ none
 
 pub returns-in_default-clause-nothing_asked : goal.returns-in_default-clause-nothing_asked
 returns-in_default-clause-nothing_asked c =
     let none = rw c.deref.ensures.value at c.in_default.ensures.none in
-    asked_nowhere c.args.self.now c.self.inside.wanted c.self.inside.peers.items c.args.peer c.self.view_is none
+    asked_nowhere _ _ _ c.self.view_is _ none

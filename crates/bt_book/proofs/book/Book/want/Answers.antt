@@ -11,7 +11,7 @@ invariant_of-self c =
     let also : IsInRange c.self.inside.unasked b = omega (arith, inside, c.self.invariant.0.shape b.file) in
     let off : c.contains.result ≡ false = grind arith in
     rw (c.insert.ensures, c.insert-then-not-contains.ensures) (
-      kept_want c.self.inside.wanted c.self.inside.unasked c.self.inside.peers.items b c.self.invariant.0 inside also
+      kept_want _ _ _ c.self.invariant.0 b inside also
           (sym c.contains.ensures ∙ off),
       c.self.invariant.1,
     )

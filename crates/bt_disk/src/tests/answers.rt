@@ -1,0 +1,174 @@
+//! What a file makes of the system's answers.
+
+use super::system::{Counts, Manner, System, expect_file, file_with};
+use super::tools::{confirm, folder, path_in};
+use crate::{DeviceFault, Disk, FileDisk, HandlePool, PooledDisk};
+use std::fs;
+use std::test::Fail;
+
+/// A device that is the file at a path of a system.
+fn opened<'a>(
+    rt: &'a HostRuntime,
+    manner: Manner,
+    counts: &'a Counts,
+    path: &str,
+) -> Result<FileDisk<super::system::SystemFile<'a>>, DeviceFault> {
+    let system = System {
+        host: rt,
+        manner,
+        counts,
+    };
+    FileDisk::writing(&system, path)
+}
+
+/// Short and interrupted reads and writes are made whole.
+#[test]
+fn a_read_or_write_in_parts_is_whole(rt: HostRuntime) -> Result<(), Fail> {
+    let top = folder(&rt, "parts")?;
+    let path = file_with(&rt, top.as_str(), b"abcdefgh")?;
+    let counts = Counts::new();
+    let mut disk = opened(&rt, Manner::Parts, &counts, path.as_str())?;
+    let mut five = [0; 5];
+    confirm(disk.read_at(1, &mut five)? == 5, "a short read")?;
+    confirm(five == *b"bcdef", "other bytes")?;
+    let mut out = [0; 12];
+    confirm(disk.read_at(0, &mut out)? == 8, "another count at the end")?;
+    confirm(out == *b"abcdefgh\0\0\0\0", "other bytes at the end")?;
+    disk.write_at(6, b"12345")?;
+    expect_file(&rt, path.as_str(), b"abcdef12345")?;
+    fs::remove_dir_all(&rt, top.as_str())?;
+    Ok(())
+}
+
+/// A read that fails in its midst is a fault, and the next one is as any other.
+#[test]
+fn a_fault_in_mid_read_is_a_fault(rt: HostRuntime) -> Result<(), Fail> {
+    let top = folder(&rt, "mid-read")?;
+    let path = file_with(&rt, top.as_str(), b"abcdefgh")?;
+    let counts = Counts::new();
+    let mut disk = opened(&rt, Manner::ReadFaults, &counts, path.as_str())?;
+    let mut out = [0; 8];
+    confirm(disk.read_at(0, &mut out).is_err(), "half a read")?;
+    let mut four = [0; 4];
+    confirm(disk.read_at(3, &mut four)? == 4, "a short read")?;
+    confirm(four == *b"defg", "other bytes")?;
+    fs::remove_dir_all(&rt, top.as_str())?;
+    Ok(())
+}
+
+/// A write that finds no space fails, as do calls that the system refuses.
+#[test]
+fn a_refused_call_is_a_fault(rt: HostRuntime) -> Result<(), Fail> {
+    let top = folder(&rt, "refusals")?;
+    let path = file_with(&rt, top.as_str(), b"abc")?;
+    let counts = Counts::new();
+    let mut disk = opened(&rt, Manner::Full, &counts, path.as_str())?;
+    let mut out = [0; 3];
+    confirm(disk.write_at(1, b"xy").is_err(), "a write without space")?;
+    confirm(disk.read_at(0, &mut out)? == 3, "a short read")?;
+    let mut disk = opened(&rt, Manner::Broken, &counts, path.as_str())?;
+    confirm(disk.read_at(0, &mut out).is_err(), "a read without a place")?;
+    confirm(disk.write_at(0, b"x").is_err(), "a write without a place")?;
+    confirm(disk.set_len(1).is_err(), "another length")?;
+    confirm(disk.sync().is_err(), "a sync that was refused")?;
+    expect_file(&rt, path.as_str(), b"abc")?;
+    fs::remove_dir_all(&rt, top.as_str())?;
+    Ok(())
+}
+
+/// A file that is there and may not be opened is no absent one.
+#[test]
+fn a_file_without_rights_is_refused(rt: HostRuntime) -> Result<(), Fail> {
+    let top = folder(&rt, "rights")?;
+    let path = file_with(&rt, top.as_str(), b"abc")?;
+    let counts = Counts::new();
+    let system = System {
+        host: &rt,
+        manner: Manner::NoRights,
+        counts: &counts,
+    };
+    confirm(
+        FileDisk::reading(&system, path.as_str()).is_err(),
+        "it is read",
+    )?;
+    confirm(
+        FileDisk::writing(&system, path.as_str()).is_err(),
+        "it is written",
+    )?;
+    let mut pool = HandlePool::new(rt.alloc(), system, 1)?;
+    confirm(pool.reading(path.clone()?).is_err(), "it is read")?;
+    confirm(pool.writing(path.clone()?).is_err(), "it is written")?;
+    // One that is absent is not opened, so nobody asks for rights.
+    let absent = path_in(&rt, top.as_str(), "absent")?;
+    let mut disk = FileDisk::reading(&system, absent.as_str())?;
+    confirm(disk.len()? == 0, "bytes of no file")?;
+    fs::remove_dir_all(&rt, top.as_str())?;
+    Ok(())
+}
+
+/// No call makes more calls of the system than a seek and a read or write, and a read at the file's end one
+/// more read.
+#[test]
+fn a_call_makes_few_calls_of_the_system(rt: HostRuntime) -> Result<(), Fail> {
+    let top = folder(&rt, "counts")?;
+    let path = file_with(&rt, top.as_str(), b"abcdefgh")?;
+    let counts = Counts::new();
+    let mut disk = opened(&rt, Manner::Plain, &counts, path.as_str())?;
+    let mut out = [0; 6];
+    disk.read_at(1, &mut out)?;
+    confirm(counts.taken() == (1, 1), "calls of a read")?;
+    disk.read_at(5, &mut out)?;
+    confirm(counts.taken() == (1, 2), "calls of a read at the end")?;
+    disk.read_at(1, &mut out[..0])?;
+    confirm(counts.taken() == (1, 0), "calls of a read of no bytes")?;
+    disk.write_at(3, b"xyz")?;
+    confirm(counts.taken() == (1, 1), "calls of a write")?;
+    disk.write_at(3, b"")?;
+    confirm(counts.taken() == (0, 0), "calls of a write of no bytes")?;
+    disk.set_len(4)?;
+    disk.sync()?;
+    confirm(counts.taken() == (2, 0), "calls of the others")?;
+    fs::remove_dir_all(&rt, top.as_str())?;
+    Ok(())
+}
+
+/// Reads a byte of the devices at these places, in turn.
+fn read_in_turn(disks: &mut [PooledDisk<System<'_>>], places: &[usize]) -> Result<(), Fail> {
+    let mut out = [0; 1];
+    for place in places {
+        let disk = disks.get_mut(*place).ok_or("no such device")?;
+        confirm(disk.read_at(0, &mut out)? == 1, "a short read")?;
+    }
+    Ok(())
+}
+
+/// A pool opens a file again only where two others were used since, and has no more than two open at a time.
+#[test]
+fn a_pool_keeps_the_handles_used_last(rt: HostRuntime) -> Result<(), Fail> {
+    let top = folder(&rt, "kept")?;
+    let path = file_with(&rt, top.as_str(), b"abc")?;
+    let counts = Counts::new();
+    let system = System {
+        host: &rt,
+        manner: Manner::Plain,
+        counts: &counts,
+    };
+    let mut pool = HandlePool::new(rt.alloc(), system, 2)?;
+    let mut disks = Vec::new(rt.alloc());
+    for _ in 0..3 {
+        disks.push(pool.reading(path.clone()?)?)?;
+    }
+    for (places, opened) in [
+        ([2, 2, 2, 1], 0),
+        ([2, 1, 2, 0], 1),
+        ([2, 0, 0, 2], 0),
+        ([1, 1, 2, 0], 2),
+    ] {
+        counts.opened.set(0);
+        read_in_turn(&mut disks, &places)?;
+        confirm(counts.opened.get() == opened, "files that were opened")?;
+    }
+    confirm(counts.most_open.get() == 2, "files that were open")?;
+    fs::remove_dir_all(&rt, top.as_str())?;
+    Ok(())
+}
