@@ -1,0 +1,3 @@
+pub mod Lists
+-- trees
+pub mod Rooted

@@ -1,0 +1,13 @@
+//! A seed store of BitTorrent v2 (BEP 3, BEP 52) as a machine over events: what one event answers and leaves, and what
+//! follows for lists of events. There are definitions and laws, and no engine yet.
+#![tactic(auto)]
+
+mod answer;
+mod error;
+mod event;
+mod law;
+
+pub use answer::{Frame, Note, Why};
+pub use error::{ConnectError, EngineError, FlushError};
+pub use event::Event;
+pub use law::{rooted_is_checked, run_keeps_rooted, step_keeps_rooted};
