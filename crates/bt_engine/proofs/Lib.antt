@@ -1,3 +1,6 @@
 pub mod Lists
 -- trees
 pub mod Rooted
+-- marks
+pub mod Marks
+pub mod Marking

@@ -17,8 +17,8 @@ use Rattle.bt_engine.specs.Spans.{IsWholeBlock}
 use Rattle.bt_engine.specs.Output.{Effect, noting, closing}
 use Rattle.bt_engine.specs.Request.{with_payload, IsFile}
 
--- What is said of a block that was put into its store. A block that is asked of a peer is missing, and the bytes are
--- the whole block, so the store has no other answer.
+-- What is said of a block that was put into its store. A block that is asked of a peer is missing, and the
+-- bytes are the whole block, so the store has no other answer.
 abbrev pub HasPutEffect : BlockId → Result Put StoreError → Effect → Type 0
 HasPutEffect b (Ok PutMarked) effect = effect ≡ noting (Marked b)
 HasPutEffect b (Ok PutWaiting) effect = effect ≡ noting (Waiting b)
@@ -37,10 +37,11 @@ pub record Puts (dig : List ℕ → List ℕ) (s : EngineState) (b : BlockId) (b
   pub due : PutIsDue dig tree b.block bytes file.states result
   pub made : calls ≡ calls_at b.file (calls_of_put b.block bytes result)
   pub has_effect : HasPutEffect b result effect
-  pub after : stored ≡ with_file s b.file (record file { states = states_after_put b.block result file.states })
+  pub after : stored
+      ≡ with_file s b.file (record file { states = states_after_put b.block result file.states })
 
--- A block comes that the peer is asked for. It is asked for it no more and its bytes count, whatever the store
--- answered.
+-- A block comes that the peer is asked for. It is asked for it no more and its bytes count, whatever the
+-- store answered.
 pub record Arrives (dig : List ℕ → List ℕ) (s : EngineState) (i : ℕ) (p : PeerState) (piece begin : ℕ)
     (bytes : List ℕ) (calls : DeviceCalls) (effect : Effect) (mid : EngineState) : Type 0 where
   pub block : BlockId

@@ -61,7 +61,8 @@ piece_numbers s = range_with_len 0 (total_pieces s.torrent)
 
 -- all blocks, by file and then by their number
 abbrev pub all_blocks : EngineState → List BlockId
-all_blocks s = flat_map (λ file. map (block_id file) (range_with_len 0 (length (states_of s file)))) (file_numbers s)
+all_blocks s =
+    flat_map (λ file. map (block_id file) (range_with_len 0 (length (states_of s file)))) (file_numbers s)
 
 abbrev pub is_in_piece : Metainfo → ℕ → BlockId → Bool
 is_in_piece torrent piece b = option_map_or (λ p. p == piece) (piece_of torrent b) false

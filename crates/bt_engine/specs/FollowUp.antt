@@ -1,4 +1,4 @@
--- What follows from an event for one peer: interest is told, a hash request is sent, and blocks are requested.
+-- What follows from an event for one peer: interest is told, a hash request sent, and blocks are requested.
 use Rattle.std.specs.Prelude.{◌≡◌, ◌≢◌, ℕ, ◌+◌, ◌≤◌, ◌⊎◌, ◌↔◌, Bool, true, false, List, [], ◌∷◌, ◌++◌, length, Some, None, slice_get, slice_set, Contains}
 use Rattle.std.specs.List.{AllPairs}
 use Rattle.bt_sparse.specs.SparseTree.{Facts, value_at}
@@ -28,7 +28,8 @@ interest_sent p false false = []
 interest_sent p false true = sent_to p Interested ∷ []
 interest_sent p true false = sent_to p NotInterested ∷ []
 
-pub record TellsInterest (s : EngineState) (old : PeerState) (sent : List Sent) (new : PeerState) : Type 0 where
+pub record TellsInterest (s : EngineState) (old : PeerState) (sent : List Sent) (new : PeerState)
+    : Type 0 where
   pub interest : (new.am_interested ≡ true) ↔ IsInteresting s old
   pub others : new ≡ record old { am_interested = new.am_interested }
   pub told : sent ≡ interest_sent old old.am_interested new.am_interested
@@ -66,8 +67,8 @@ pub record IsOpen (s : EngineState) (p : PeerState) (b : BlockId) : Type 0 where
   pub missing : state_at s b ≡ Some Missing
   pub free : ¬ IsAsked s b
 
--- While the peer does not choke us and we are interested, open blocks are asked, whichever, until the peer is asked
--- for 16 or no block is open.
+-- While the peer does not choke us and we are interested, open blocks are asked, whichever, until the peer
+-- is asked for 16 or no block is open.
 pub record AsksBlocks (s : EngineState) (p : PeerState) (blocks : List BlockId) : Type 0 where
   pub shut : (p.peer_choking ≡ true) ⊎ (p.am_interested ≡ false) → blocks ≡ []
   pub are_open : (b : BlockId) → Contains blocks b → IsOpen s p b
@@ -106,4 +107,5 @@ pub record FollowsUp (dig : List ℕ → List ℕ) (s : EngineState) (i : ℕ) (
   pub asks : AsksBlocks s planned blocks
   pub requests : RequestsEach s planned blocks block_frames
   pub all : sent ≡ interest_frames ++ hash_frames ++ block_frames
-  pub after : new ≡ record s { peers = slice_set s.peers i (record planned { asked = planned.asked ++ blocks }) }
+  pub after : new
+      ≡ record s { peers = slice_set s.peers i (record planned { asked = planned.asked ++ blocks }) }

@@ -43,7 +43,7 @@ pub data HandlesHashRequest (dig : List ℕ → List ℕ) (s : EngineState) (p :
   rejected : ((digests : List (List ℕ)) → ¬ IsAnswered dig s key digests)
       → effect ≡ sending p (HashReject key) → HandlesHashRequest dig s p key effect
 
--- an answer to the request that the peer has not answered leads to this hash state, and any other changes none
+-- an answer to the request that the peer is asked leads to this hash state, and any other changes none
 pub data Resolves (key : HashKey) (next old new : HashState) : Type 0 where
   ours : old ≡ Asked key → new ≡ next → Resolves key next old new
   other : old ≢ Asked key → new ≡ old → Resolves key next old new
@@ -51,7 +51,9 @@ pub data Resolves (key : HashKey) (next old new : HashState) : Type 0 where
 -- a proof is kept for the log where it added a node
 abbrev pub new_proofs : HashKey → List ℕ → Facts → Facts → List Hint
 new_proofs key digests old new =
-    if nat_lt (finite.len old.nodes) (finite.len new.nodes) then proof_of key (digests_in digests) ∷ [] else []
+    if nat_lt (finite.len old.nodes) (finite.len new.nodes)
+    then proof_of key (digests_in digests) ∷ []
+    else []
 
 -- with leaves in the run, its blocks are settled
 abbrev pub settled_count : HashKey → ℕ
@@ -93,7 +95,8 @@ pub data HandlesHashes (dig : List ℕ → List ℕ) (s : EngineState) (i : ℕ)
   refused : (fault : ProofError) (tree : ℕ) (k : Facts) (claim : Claim) → IsTreeOf s key.root tree k
       → IsClaimBy key digests claim → IsRefused dig k claim fault
       → OnlyCloses s fault calls effect mid → HandlesHashes dig s i p key digests calls effect mid
-  learns : Learns dig s i p key digests calls effect mid → HandlesHashes dig s i p key digests calls effect mid
+  learns : Learns dig s i p key digests calls effect mid
+      → HandlesHashes dig s i p key digests calls effect mid
 
 -- the peer does not have what it was asked for, and is sent no more hash requests
 pub record HandlesReject (s : EngineState) (i : ℕ) (p : PeerState) (key : HashKey) (mid : EngineState)

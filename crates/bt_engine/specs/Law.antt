@@ -1,10 +1,25 @@
 -- What follows from the steps of an engine, whatever the peers send and the devices answer.
-use Rattle.std.specs.Prelude.{◌≡◌, ℕ, List, Some, slice_get}
+use Rattle.std.specs.Prelude.{◌≡◌, ◌≢◌, ℕ, ◌*◌, List, ◌∷◌, ◌++◌, length, Some, slice_get, Contains}
+use Rattle.bt_tree.specs.Limits.{full_block_length}
+use Rattle.bt_disk.specs.Calls.{bytes_written}
 use Rattle.bt_sparse.specs.SparseTree.{Facts, held_at, IsRooted, IsChecked}
+use Rattle.bt_store.specs.BlockReads.{given, call_of, IsRight}
+use Rattle.bt_store.specs.declared.block_states.BlockState.TheVariants.{Waiting, Marked}
+use Rattle.bt_book.specs.declared.names.PeerKey.{PeerKey}
+use Rattle.bt_book.specs.declared.names.BlockId.{BlockId}
+use Rattle.bt_wire.specs.Cutter.{Stream, Takes}
+use Rattle.bt_wire.specs.declared.message.Message.TheVariants.{Piece}
+use Rattle.bt_wire.specs.declared.event.WireEvent.TheVariants.{Message}
 use Rattle.bt_engine.specs.declared.event.Event.{Event}
-use Rattle.bt_engine.specs.State.{EngineState}
+use Rattle.bt_engine.specs.declared.event.Event.TheVariants.{Next}
+use Rattle.bt_engine.specs.State.{PeerState, EngineState}
 use Rattle.bt_engine.specs.Devices.{DeviceCalls}
+use Rattle.bt_engine.specs.Blocks.{state_at, tree_of}
+use Rattle.bt_engine.specs.Spans.{IsWholeBlock}
+use Rattle.bt_engine.specs.Next.{IsPeer}
 use Rattle.bt_engine.specs.Step.{Answer, Step, Run}
+
+-- ---- trees
 
 -- every tree hangs from its root
 abbrev pub AreRooted : (List ℕ → List ℕ) → EngineState → Type 0
@@ -26,3 +41,75 @@ AreChecked dig s = (t : ℕ) (k : Facts) → slice_get s.trees t ≡ Some k
 
 abbrev pub RootedIsChecked : (List ℕ → List ℕ) → Type 0
 RootedIsChecked dig = (s : EngineState) → AreRooted dig s → AreChecked dig s
+
+-- ---- marks
+
+-- A block came in this event from a peer that was asked for it, and was written. Its digest is the leaf that
+-- its tree has after the event.
+pub record IsBrought (dig : List ℕ → List ℕ) (old : EngineState) (event : Event) (calls : DeviceCalls)
+    (new : EngineState) (b : BlockId) : Type 0 where
+  pub key : PeerKey
+  pub place : ℕ
+  pub peer : PeerState
+  pub piece : ℕ
+  pub begin : ℕ
+  pub bytes : List ℕ
+  pub rest : Stream
+  pub tree : Facts
+  pub is_next : event ≡ Next key
+  pub is_peer : IsPeer old key place peer
+  pub takes : Takes peer.stream (Message (Piece piece begin bytes)) rest
+  pub whole : IsWholeBlock old.torrent piece begin (length bytes) b
+  pub asked : Contains peer.asked b
+  pub hung : tree_of new b.file ≡ Some tree
+  pub written : Contains calls (b.file, bytes_written (full_block_length * b.block) bytes)
+  pub right : IsRight dig tree b.block bytes
+
+-- A block that waited was read in this event. Its digest is the leaf that its tree has after the event.
+pub record IsReadBack (dig : List ℕ → List ℕ) (old : EngineState) (calls : DeviceCalls) (new : EngineState)
+    (b : BlockId) : Type 0 where
+  pub tree : Facts
+  pub bytes : List ℕ
+  pub waited : state_at old b ≡ Some Waiting
+  pub hung : tree_of new b.file ≡ Some tree
+  pub read : Contains calls (b.file, call_of tree.file_length (given b.block bytes))
+  pub right : IsRight dig tree b.block bytes
+
+-- how a block becomes marked
+pub data IsMarkedBy (dig : List ℕ → List ℕ) (old : EngineState) (event : Event) (calls : DeviceCalls)
+    (new : EngineState) (b : BlockId) : Type 0 where
+  brought : IsBrought dig old event calls new b → IsMarkedBy dig old event calls new b
+  read_back : IsReadBack dig old calls new b → IsMarkedBy dig old event calls new b
+
+-- it becomes so in no other way
+abbrev pub StepMarksByBytes : (List ℕ → List ℕ) → Type 0
+StepMarksByBytes dig = (old new : EngineState) (event : Event) (calls : DeviceCalls) (answer : Answer)
+    → Step dig old event calls answer new
+    → (b : BlockId) → state_at new b ≡ Some Marked → state_at old b ≢ Some Marked
+    → IsMarkedBy dig old event calls new b
+
+-- the block became marked at one of the events of a run
+pub record IsMarkedIn (dig : List ℕ → List ℕ) (first : EngineState) (events : List Event)
+    (calls : List DeviceCalls) (b : BlockId) : Type 0 where
+  pub events_before : List Event
+  pub calls_before : List DeviceCalls
+  pub answers_before : List Answer
+  pub old : EngineState
+  pub event : Event
+  pub calls_then : DeviceCalls
+  pub answer : Answer
+  pub new : EngineState
+  pub events_after : List Event
+  pub calls_after : List DeviceCalls
+  pub run : Run dig first events_before calls_before answers_before old
+  pub step : Step dig old event calls_then answer new
+  pub marked : IsMarkedBy dig old event calls_then new b
+  pub events_are : events ≡ events_before ++ event ∷ events_after
+  pub calls_are : calls ≡ calls_before ++ calls_then ∷ calls_after
+
+abbrev pub RunMarksByBytes : (List ℕ → List ℕ) → Type 0
+RunMarksByBytes dig =
+    (old new : EngineState) (events : List Event) (calls : List DeviceCalls) (answers : List Answer)
+    → Run dig old events calls answers new
+    → (b : BlockId) → state_at new b ≡ Some Marked → state_at old b ≢ Some Marked
+    → IsMarkedIn dig old events calls b

@@ -43,8 +43,8 @@ pub record TakesEvent (dig : List ℕ → List ℕ) (s : EngineState) (i : ℕ) 
   pub handles : Handles dig (with_peer s i (record p { stream = rest })) i (record p { stream = rest }) event
       calls effect mid
 
--- The peer stays: what the event sends, then a have of each piece that has become whole, then what follows for the
--- peer. The notes of the event come first, then the files that have become complete.
+-- The peer stays: what the event sends, then a have of each piece that has become whole, then what follows
+-- for the peer. The notes of the event come first, then the files that have become complete.
 pub record GoesOn (dig : List ℕ → List ℕ) (s : EngineState) (i : ℕ) (p : PeerState)
     (calls : DeviceCalls) (out : Output) (new : EngineState) : Type 0 where
   pub effect : Effect
@@ -90,8 +90,8 @@ pub record Drops (s : EngineState) (i : ℕ) (p : PeerState) (calls : DeviceCall
 pub data StepNext (dig : List ℕ → List ℕ) (s : EngineState) (key : PeerKey) (calls : DeviceCalls)
     (answer : Result (Option Output) EngineError) (new : EngineState) : Type 0 where
   no_peer : HasNoPeer s key → calls ≡ [] → answer ≡ Err NoPeer → new ≡ s → StepNext dig s key calls answer new
-  waits : (i : ℕ) (p : PeerState) → IsPeer s key i p → Waits p.stream → calls ≡ [] → answer ≡ Ok None → new ≡ s
-      → StepNext dig s key calls answer new
+  waits : (i : ℕ) (p : PeerState) → IsPeer s key i p → Waits p.stream → calls ≡ [] → answer ≡ Ok None
+      → new ≡ s → StepNext dig s key calls answer new
   goes_on : (i : ℕ) (p : PeerState) (out : Output) → IsPeer s key i p → GoesOn dig s i p calls out new
       → answer ≡ Ok (Some out) → StepNext dig s key calls answer new
   closes : (i : ℕ) (p : PeerState) (out : Output) → IsPeer s key i p → Closes dig s i p calls out new

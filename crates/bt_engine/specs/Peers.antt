@@ -53,7 +53,8 @@ pub record IsOurBitfield (s : EngineState) (bytes : List ℕ) : Type 0 where
 -- what a new peer is sent: our handshake and our bitfield
 abbrev pub greeting : EngineState → PeerKey → List ℕ → Output
 greeting s key bytes = record {
-  send = (record { peer = key; frame = Hello (our_handshake s) }) ∷ sent_to (new_peer s key) (Bitfield bytes) ∷ [];
+  send = (record { peer = key; frame = Hello (our_handshake s) })
+      ∷ sent_to (new_peer s key) (Bitfield bytes) ∷ [];
   close = None;
   notes = [];
 }
@@ -81,8 +82,8 @@ pub data StepFeed (s : EngineState) (key : PeerKey) (bytes : List ℕ) (answer :
       → StepFeed s key bytes answer new
 
 -- The peer goes, and what it was asked for may be asked of others.
-pub data StepLost (s : EngineState) (key : PeerKey) (answer : Result (Unit {0}) EngineError) (new : EngineState)
-    : Type 0 where
+pub data StepLost (s : EngineState) (key : PeerKey) (answer : Result (Unit {0}) EngineError)
+    (new : EngineState) : Type 0 where
   goes : (i : ℕ) (p : PeerState) → IsPeer s key i p → answer ≡ Ok tt → new ≡ without_peer i s
       → StepLost s key answer new
   no_peer : HasNoPeer s key → answer ≡ Err NoPeer → new ≡ s → StepLost s key answer new

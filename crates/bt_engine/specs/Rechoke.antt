@@ -46,7 +46,8 @@ FollowsEach dig (i ∷ peers) s sent new =
     × FollowsUp dig s i one mid × FollowsEach dig peers mid more new × (sent ≡ one ++ more)
 
 -- chokes and unchokes first, then what follows for each peer in the order of keys
-pub record Rechokes (dig : List ℕ → List ℕ) (s : EngineState) (out : Output) (new : EngineState) : Type 0 where
+pub record Rechokes (dig : List ℕ → List ℕ) (s : EngineState) (out : Output) (new : EngineState)
+    : Type 0 where
   pub sent : List Sent
   pub follows : FollowsEach dig (range_with_len 0 (length s.peers)) (rechoked s) sent new
   pub is : out ≡ record { send = chokes_sent s ++ sent; close = None; notes = [] }

@@ -54,7 +54,8 @@ pub data FindsFault (dig : List ℕ → List ℕ) (k : Facts) (s : EngineState) 
       → effect ≡ noting (Damaged (block_id file i))
       → mid ≡ with_file s file (record f { states = slice_set f.states i Missing })
       → FindsFault dig k s file i f read effect mid
-  fault : read ≡ failed i → effect ≡ noting (Device file) → mid ≡ s → FindsFault dig k s file i f read effect mid
+  fault : read ≡ failed i → effect ≡ noting (Device file) → mid ≡ s
+      → FindsFault dig k s file i f read effect mid
 
 -- blocks are read up to the first that is not right, and nothing is sent
 pub record StopsAtFault (dig : List ℕ → List ℕ) (s : EngineState) (span : Span)

@@ -28,8 +28,8 @@ abbrev pub due_blocks : (List ℕ → List ℕ) → Facts → (tree from count :
 due_blocks dig k tree from count f =
     if f.tree == tree then waiting_blocks dig k f.states from count else []
 
--- In every file of the tree those of the blocks are read that wait and whose leaf is known. `reads` has the reads of
--- each file. They are made file by file upwards, and nothing else changes.
+-- In every file of the tree those of the blocks are read that wait and whose leaf is known. `reads` has the
+-- reads of each file. They are made file by file upwards, and nothing else changes.
 pub record Settles (dig : List ℕ → List ℕ) (tree from count : ℕ) (old : EngineState)
     (calls : DeviceCalls) (notes : List Note) (new : EngineState) : Type 0 where
   pub facts : Facts

@@ -21,7 +21,8 @@ spanned_blocks span = range_with_len (first_block span) (last_block span + 1 - f
 -- what a span has of the bytes of these blocks
 abbrev pub cut_from : Span → (ℕ → List ℕ) → List ℕ
 cut_from span bytes =
-    take span.length (drop (span.start - full_block_length * first_block span) (flat_map bytes (spanned_blocks span)))
+    take span.length
+    (drop (span.start - full_block_length * first_block span) (flat_map bytes (spanned_blocks span)))
 
 -- so many bytes of a piece, from the byte `begin` on, are this block, and all of it
 pub record IsWholeBlock (torrent : Metainfo) (piece begin count : ℕ) (b : BlockId) : Type 0 where

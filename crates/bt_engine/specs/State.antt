@@ -8,15 +8,15 @@ use Rattle.bt_book.specs.declared.names.PeerKey.{PeerKey}
 use Rattle.bt_book.specs.declared.names.BlockId.{BlockId}
 use Rattle.bt_wire.specs.Cutter.{Stream}
 
--- whether a peer may be sent a hash request (BEP 52): it may, it has not answered this one, or it rejected one
+-- whether a peer may be sent a hash request (BEP 52): it may, it is asked this one, or it rejected one
 pub data HashState : Type 0 where
   Idle : HashState
   Asked : (key : HashKey) → HashState
   Refused : HashState
 
--- A peer: the bytes that came from it; the four flags of BEP 3 (who chokes whom, who is interested in whom); for
--- each piece whether it has it; its hash state; the blocks that it is asked for, in the order of asking; and how
--- many bytes of blocks came from it and went to it since the last choice of peers to serve.
+-- A peer: the bytes that came from it; the four flags of BEP 3 (who chokes whom, who is interested in whom);
+-- for each piece whether it has it; its hash state; the blocks that it is asked for, in the order of asking;
+-- and how many bytes of blocks came from it and went to it since the last choice of peers to serve.
 pub record PeerState : Type 0 where
   pub key : PeerKey
   pub stream : Stream
@@ -39,8 +39,9 @@ pub data Hint : Type 0 where
   proof_of : (key : HashKey) (digests : List (List ℕ)) → Hint
   mark_of : (block : BlockId) → Hint
 
--- There is one tree for each root. Files stand as in the torrent, peers in the order of their keys. `pending` has the
--- hints that are to be written to the log, `hints` those that were last read from it; without a log both are empty.
+-- There is one tree for each root. Files stand as in the torrent, peers in the order of their keys.
+-- `pending` has the hints that are to be written to the log, `hints` those that were last read from it;
+-- without a log both are empty.
 pub record EngineState : Type 0 where
   pub torrent : Metainfo
   pub trees : List Facts

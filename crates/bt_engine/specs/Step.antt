@@ -26,7 +26,8 @@ pub data Answer : Type 0 where
 -- From the old engine an event leads to the new one, with these calls of devices and this answer.
 abbrev pub Step : (List ℕ → List ℕ) → EngineState → Event → DeviceCalls → Answer → EngineState → Type 0
 Step dig old Connect calls answer new =
-    (r : Result (PeerKey × Output) ConnectError) × (answer ≡ connected r) × (calls ≡ []) × StepConnect old r new
+    (r : Result (PeerKey × Output) ConnectError) × (answer ≡ connected r) × (calls ≡ [])
+    × StepConnect old r new
 Step dig old (Feed key bytes) calls answer new =
     (r : Result (Unit {0}) EngineError) × (answer ≡ was_fed r) × (calls ≡ []) × StepFeed old key bytes r new
 Step dig old (Next key) calls answer new =

@@ -25,10 +25,11 @@ pub data HandlesHello (s : EngineState) (h : Handshake) (effect : Effect) : Type
   ours : h.infohash ≡ short_infohash s → effect ≡ no_effect → HandlesHello s h effect
   other : h.infohash ≢ short_infohash s → effect ≡ closing WrongTorrent → HandlesHello s h effect
 
-pub data HandlesHave (s : EngineState) (i : ℕ) (p : PeerState) (piece : ℕ) (effect : Effect) (mid : EngineState)
-    : Type 0 where
+pub data HandlesHave (s : EngineState) (i : ℕ) (p : PeerState) (piece : ℕ) (effect : Effect)
+    (mid : EngineState) : Type 0 where
   in_range : piece < total_pieces s.torrent → effect ≡ no_effect
-      → mid ≡ with_peer s i (record p { has = slice_set p.has piece true }) → HandlesHave s i p piece effect mid
+      → mid ≡ with_peer s i (record p { has = slice_set p.has piece true })
+      → HandlesHave s i p piece effect mid
   out_of_range : total_pieces s.torrent ≤ piece → effect ≡ closing BadPiece → mid ≡ s
       → HandlesHave s i p piece effect mid
 
@@ -70,7 +71,8 @@ HandlesMessage dig s i p Interested calls effect mid =
 HandlesMessage dig s i p NotInterested calls effect mid =
     OnlyChanges (with_peer s i (record p { peer_interested = false })) calls effect mid
 HandlesMessage dig s i p (Have piece) calls effect mid = (calls ≡ []) × HandlesHave s i p piece effect mid
-HandlesMessage dig s i p (Bitfield bytes) calls effect mid = (calls ≡ []) × HandlesBitfield s i p bytes effect mid
+HandlesMessage dig s i p (Bitfield bytes) calls effect mid =
+    (calls ≡ []) × HandlesBitfield s i p bytes effect mid
 HandlesMessage dig s i p (Request ask) calls effect mid = HandlesRequest dig s i p ask calls effect mid
 HandlesMessage dig s i p (Piece piece begin bytes) calls effect mid =
     HandlesPiece dig s i p piece begin bytes calls effect mid

@@ -1,4 +1,4 @@
-ghost use Rattle.bt_engine.specs.Law.{StepKeepsRooted, RunKeepsRooted, RootedIsChecked};
+ghost use Rattle.bt_engine.specs.Law.{StepKeepsRooted, RunKeepsRooted, RootedIsChecked, StepMarksByBytes, RunMarksByBytes};
 
 use bt_tree::NodeHash;
 
@@ -15,4 +15,15 @@ pub fn run_keeps_rooted<H: NodeHash>(_hash: H)
 /// Where every tree is rooted, every digest that one holds is checked up to its root.
 pub fn rooted_is_checked<H: NodeHash>(_hash: H)
     ensures { RootedIsChecked H.digest }
+{}
+
+/// A block becomes marked in two ways only: it came from a peer that was asked for it and was written, or it
+/// waited and was read back. In each its digest is its leaf, and its bytes are of this event.
+pub fn step_marks_by_bytes<H: NodeHash>(_hash: H)
+    ensures { StepMarksByBytes H.digest }
+{}
+
+/// Each block that a list of events has marked became so at one of them, by bytes of that event.
+pub fn run_marks_by_bytes<H: NodeHash>(_hash: H)
+    ensures { RunMarksByBytes H.digest }
 {}

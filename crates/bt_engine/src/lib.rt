@@ -1,5 +1,5 @@
-//! A seed store of BitTorrent v2 (BEP 3, BEP 52) as a machine over events: what one event answers and leaves, and what
-//! follows for lists of events. There are definitions and laws, and no engine yet.
+//! A seed store of BitTorrent v2 (BEP 3, BEP 52) as a machine over events: what one event answers and leaves,
+//! and what follows for lists of events. There are definitions and laws, and no engine yet.
 #![tactic(auto)]
 
 mod answer;
@@ -10,4 +10,6 @@ mod law;
 pub use answer::{Frame, Note, Why};
 pub use error::{ConnectError, EngineError, FlushError};
 pub use event::Event;
-pub use law::{rooted_is_checked, run_keeps_rooted, step_keeps_rooted};
+pub use law::{
+    rooted_is_checked, run_keeps_rooted, run_marks_by_bytes, step_keeps_rooted, step_marks_by_bytes,
+};
