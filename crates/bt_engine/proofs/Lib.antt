@@ -4,3 +4,5 @@ pub mod Rooted
 -- marks
 pub mod Marks
 pub mod Marking
+-- data
+pub mod Sends

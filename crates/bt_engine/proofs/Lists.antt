@@ -3,7 +3,7 @@ use Rattle.std.proofs.Common.{◌≡◌, ℕ, zero, suc, ◌+◌, ◌<◌, ◌�
 use Rattle.std.specs.Prelude.{slice_get, slice_set, option_map, Contains, filter, flat_map, ◌&&◌, cond}
 use Rattle.std.specs.Option.{option_and_then}
 use Rattle.std.specs.List.{range_with_len}
-use Rattle.std.proofs.lemmas.List.Elements.{Contains-append_left, Contains-append_right}
+use Rattle.std.proofs.lemmas.List.Elements.{Contains-append_left, Contains-append_right, Contains-append_cases}
 
 pub same_some : {X : Type 0} (o : Option X) (x y : X) → o ≡ Some x → o ≡ Some y → x ≡ y
 same_some o x y e f = some_is x y (sym e ∙ f)
@@ -87,3 +87,17 @@ set_same [] zero x y e = absurd cc
 set_same [] (suc i) x y e = absurd cc
 set_same (z ∷ xs) zero x y e = refl
 set_same (z ∷ xs) (suc i) x y e = set_same xs i x y e
+
+pub contains_map : {X Y : Type 0} (f : X → Y) (xs : List X) (y : Y) → Contains (map f xs) y → (x : X) × Contains xs x × (f x ≡ y)
+contains_map f [] y c = absurd (contains_none y c)
+contains_map f (x ∷ xs) y c = elim (contains_cases (f x) y (map f xs) c) [
+  | inl same ↦ (x, here x x xs refl, same)
+  | inr more ↦ let r = contains_map f xs y more in (r.0, later x r.0 xs r.1, r.2)
+]
+
+pub contains_flat_map : {X Y : Type 0} (f : X → List Y) (xs : List X) (y : Y) → Contains (flat_map f xs) y → (x : X) × Contains xs x × Contains (f x) y
+contains_flat_map f [] y c = absurd (contains_none y c)
+contains_flat_map f (x ∷ xs) y c = elim (Contains-append_cases (f x) (flat_map f xs) y c) [
+  | inl one ↦ (x, here x x xs refl, one)
+  | inr more ↦ let r = contains_flat_map f xs y more in (r.0, later x r.0 xs r.1, r.2)
+]

@@ -1,5 +1,5 @@
 -- What follows from the steps of an engine, whatever the peers send and the devices answer.
-use Rattle.std.specs.Prelude.{◌≡◌, ◌≢◌, ℕ, ◌*◌, List, ◌∷◌, ◌++◌, length, Some, slice_get, Contains}
+use Rattle.std.specs.Prelude.{◌≡◌, ◌≢◌, ℕ, ◌*◌, List, ◌∷◌, ◌++◌, [], false, length, Some, None, Ok, Err, slice_get, Contains}
 use Rattle.bt_tree.specs.Limits.{full_block_length}
 use Rattle.bt_disk.specs.Calls.{bytes_written}
 use Rattle.bt_sparse.specs.SparseTree.{Facts, held_at, IsRooted, IsChecked}
@@ -8,16 +8,21 @@ use Rattle.bt_store.specs.declared.block_states.BlockState.TheVariants.{Waiting,
 use Rattle.bt_book.specs.declared.names.PeerKey.{PeerKey}
 use Rattle.bt_book.specs.declared.names.BlockId.{BlockId}
 use Rattle.bt_wire.specs.Cutter.{Stream, Takes}
-use Rattle.bt_wire.specs.declared.message.Message.TheVariants.{Piece}
+use Rattle.bt_wire.specs.declared.message.Message.TheVariants.{Piece, Request}
 use Rattle.bt_wire.specs.declared.event.WireEvent.TheVariants.{Message}
+use Rattle.bt_wire.specs.declared.message.Ask.{Ask}
+use Rattle.bt_meta.specs.Place.{IsPlace}
+use Rattle.bt_meta.specs.declared.torrent.Span.{Span}
+use Rattle.bt_engine.specs.declared.answer.Frame.TheVariants.{Message as message_frame}
+use Rattle.bt_engine.specs.Output.{Sent}
 use Rattle.bt_engine.specs.declared.event.Event.{Event}
 use Rattle.bt_engine.specs.declared.event.Event.TheVariants.{Next}
 use Rattle.bt_engine.specs.State.{PeerState, EngineState}
 use Rattle.bt_engine.specs.Devices.{DeviceCalls}
 use Rattle.bt_engine.specs.Blocks.{state_at, tree_of}
-use Rattle.bt_engine.specs.Spans.{IsWholeBlock}
+use Rattle.bt_engine.specs.Spans.{IsWholeBlock, spanned_blocks, cut_from}
 use Rattle.bt_engine.specs.Next.{IsPeer}
-use Rattle.bt_engine.specs.Step.{Answer, Step, Run}
+use Rattle.bt_engine.specs.Step.{Answer, connected, was_fed, taken, gone, was_rechoked, flushed, Step, Run}
 
 -- ---- trees
 
@@ -113,3 +118,50 @@ RunMarksByBytes dig =
     → Run dig old events calls answers new
     → (b : BlockId) → state_at new b ≡ Some Marked → state_at old b ≢ Some Marked
     → IsMarkedIn dig old events calls b
+
+-- ---- data
+
+-- what an answer sends
+abbrev pub sent_by : Answer → List Sent
+sent_by (connected (Ok joined)) = joined.1.send
+sent_by (connected (Err _)) = []
+sent_by (was_fed _) = []
+sent_by (taken (Ok (Some out))) = out.send
+sent_by (taken (Ok None)) = []
+sent_by (taken (Err _)) = []
+sent_by (gone _) = []
+sent_by (was_rechoked (Some out)) = out.send
+sent_by (was_rechoked None) = []
+sent_by (flushed _) = []
+
+-- A peer that we do not choke asked for bytes of a piece in this event. Each block that they lie in was read
+-- in it, whole and with the digest of its leaf, and these are the bytes asked for, cut from the blocks.
+pub record IsServed (dig : List ℕ → List ℕ) (old : EngineState) (event : Event) (calls : DeviceCalls)
+    (key : PeerKey) (piece begin : ℕ) (bytes : List ℕ) : Type 0 where
+  pub place : ℕ
+  pub peer : PeerState
+  pub ask : Ask
+  pub rest : Stream
+  pub span : Span
+  pub tree : Facts
+  pub blocks : ℕ → List ℕ
+  pub is_next : event ≡ Next key
+  pub is_peer : IsPeer old key place peer
+  pub takes : Takes peer.stream (Message (Request ask)) rest
+  pub unchoked : peer.am_choking ≡ false
+  pub same_piece : ask.piece ≡ piece
+  pub same_begin : ask.begin ≡ begin
+  pub spans : IsPlace old.torrent ask.piece ask.begin ask.length span
+  pub hung : tree_of old span.file ≡ Some tree
+  pub read : (i : ℕ) → Contains (spanned_blocks span) i
+      → Contains calls (span.file, call_of tree.file_length (given i (blocks i)))
+  pub right : (i : ℕ) → Contains (spanned_blocks span) i → IsRight dig tree i (blocks i)
+  pub cut : bytes ≡ cut_from span blocks
+
+-- no other data is sent
+abbrev pub StepSendsReadBytes : (List ℕ → List ℕ) → Type 0
+StepSendsReadBytes dig = (old new : EngineState) (event : Event) (calls : DeviceCalls) (answer : Answer)
+    → Step dig old event calls answer new
+    → (key : PeerKey) (piece begin : ℕ) (bytes : List ℕ)
+    → Contains (sent_by answer) (record { peer = key; frame = message_frame (Piece piece begin bytes) })
+    → IsServed dig old event calls key piece begin bytes

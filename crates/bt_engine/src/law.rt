@@ -1,4 +1,4 @@
-ghost use Rattle.bt_engine.specs.Law.{StepKeepsRooted, RunKeepsRooted, RootedIsChecked, StepMarksByBytes, RunMarksByBytes};
+ghost use Rattle.bt_engine.specs.Law.{StepKeepsRooted, RunKeepsRooted, RootedIsChecked, StepMarksByBytes, RunMarksByBytes, StepSendsReadBytes};
 
 use bt_tree::NodeHash;
 
@@ -26,4 +26,10 @@ pub fn step_marks_by_bytes<H: NodeHash>(_hash: H)
 /// Each block that a list of events has marked became so at one of them, by bytes of that event.
 pub fn run_marks_by_bytes<H: NodeHash>(_hash: H)
     ensures { RunMarksByBytes H.digest }
+{}
+
+/// Data is sent only to a peer that asked for it, cut from blocks that were read in that event with the
+/// digests of their leaves.
+pub fn step_sends_read_bytes<H: NodeHash>(_hash: H)
+    ensures { StepSendsReadBytes H.digest }
 {}
