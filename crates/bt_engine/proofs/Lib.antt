@@ -1,6 +1,7 @@
 pub mod Lists
 -- trees
 pub mod Rooted
+pub mod Start
 -- marks
 pub mod Marks
 pub mod Marking

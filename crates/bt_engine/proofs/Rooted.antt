@@ -1,7 +1,8 @@
 -- Trees stay rooted.
-use Rattle.std.proofs.Common.{◌≡◌, ℕ, inl, inr, List, [], ◌∷◌, sym, subst}
-use Rattle.bt_sparse.specs.SparseTree.{Facts, IsRooted}
+use Rattle.std.proofs.Common.{◌≡◌, ℕ, ◌-◌, arith, inl, inr, List, [], ◌∷◌, sym, subst}
+use Rattle.bt_sparse.specs.SparseTree.{Facts, height, IsRooted}
 use Rattle.bt_sparse.proofs.Joins.{keeps_rooted}
+use Rattle.bt_sparse.proofs.Paths.{held_is_checked}
 use Rattle.bt_hashreq.specs.declared.key.HashKey.{HashKey}
 use Rattle.bt_store.specs.BlockReads.{BlockRead}
 use Rattle.bt_wire.specs.declared.message.Ask.{Ask}
@@ -24,7 +25,7 @@ use Rattle.bt_engine.specs.Peers.{StepConnect, joins, full, spent, no_memory as 
 use Rattle.bt_engine.specs.Rechoke.{FollowsEach, StepRechoke, rechokes, no_memory as not_rechoked}
 use Rattle.bt_engine.specs.Flush.{StepFlush, syncs, fails}
 use Rattle.bt_engine.specs.Step.{Answer, Step, Run}
-use Rattle.bt_engine.specs.Law.{AreRooted}
+use Rattle.bt_engine.specs.Law.{AreRooted, AreChecked}
 use Rattle.bt_engine.proofs.Lists.{set_cases}
 
 module _ (dig : List ℕ → List ℕ) where
@@ -136,3 +137,8 @@ module _ (dig : List ℕ → List ℕ) where
   run_rooted s new [] [] (a ∷ answers) run r = absurd run
   run_rooted s new (e ∷ es) [] answers run r = absurd run
   run_rooted s new (e ∷ es) (c ∷ calls) [] run r = absurd run
+
+pub rooted_checked : (dig : List ℕ → List ℕ) (s : EngineState) → AreRooted dig s → AreChecked dig s
+rooted_checked dig s rooted t k at layer i d held =
+    let hung = rooted t k at in
+    held_is_checked dig k hung (height k - layer) layer i d (omega (arith, (hung.covers layer i d held).inside.in_height)) held

@@ -12,6 +12,8 @@ use Rattle.bt_wire.specs.declared.message.Message.TheVariants.{Piece, Request}
 use Rattle.bt_wire.specs.declared.event.WireEvent.TheVariants.{Message}
 use Rattle.bt_wire.specs.declared.message.Ask.{Ask}
 use Rattle.bt_meta.specs.Place.{IsPlace}
+use Rattle.bt_meta.specs.Torrent.{Metainfo, IsLawful}
+use Rattle.bt_engine.specs.Start.{Starts}
 use Rattle.bt_meta.specs.declared.torrent.Span.{Span}
 use Rattle.bt_engine.specs.declared.answer.Frame.TheVariants.{Message as message_frame}
 use Rattle.bt_engine.specs.Output.{Sent}
@@ -46,6 +48,13 @@ AreChecked dig s = (t : ℕ) (k : Facts) → slice_get s.trees t ≡ Some k
 
 abbrev pub RootedIsChecked : (List ℕ → List ℕ) → Type 0
 RootedIsChecked dig = (s : EngineState) → AreRooted dig s → AreChecked dig s
+
+-- So it is of every engine that events lead to from the start of a torrent.
+abbrev pub RunsAreChecked : (List ℕ → List ℕ) → Type 0
+RunsAreChecked dig = (torrent : Metainfo) (first last : EngineState)
+    (events : List Event) (calls : List DeviceCalls) (answers : List Answer)
+    → IsLawful torrent.piece_length torrent.files → Starts dig torrent first
+    → Run dig first events calls answers last → AreRooted dig last × AreChecked dig last
 
 -- ---- marks
 

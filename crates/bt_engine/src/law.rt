@@ -1,4 +1,4 @@
-ghost use Rattle.bt_engine.specs.Law.{StepKeepsRooted, RunKeepsRooted, RootedIsChecked, StepMarksByBytes, RunMarksByBytes, StepSendsReadBytes};
+ghost use Rattle.bt_engine.specs.Law.{StepKeepsRooted, RunKeepsRooted, RootedIsChecked, RunsAreChecked, StepMarksByBytes, RunMarksByBytes, StepSendsReadBytes};
 
 use bt_tree::NodeHash;
 
@@ -15,6 +15,11 @@ pub fn run_keeps_rooted<H: NodeHash>(_hash: H)
 /// Where every tree is rooted, every digest that one holds is checked up to its root.
 pub fn rooted_is_checked<H: NodeHash>(_hash: H)
     ensures { RootedIsChecked H.digest }
+{}
+
+/// So it is of every engine that events lead to from the start of a torrent.
+pub fn runs_are_checked<H: NodeHash>(_hash: H)
+    ensures { RunsAreChecked H.digest }
 {}
 
 /// A block becomes marked in two ways only: it came from a peer that was asked for it and was written, or it
