@@ -7,3 +7,5 @@ pub mod Marks
 pub mod Marking
 -- data
 pub mod Sends
+-- devices
+pub mod Stored

@@ -19,4 +19,5 @@ pub mod Flush
 pub mod Start
 pub mod Step
 -- laws
+pub mod Stored
 pub mod Law

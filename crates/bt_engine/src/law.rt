@@ -1,3 +1,4 @@
+ghost use Rattle.bt_engine.specs.Stored.{CompleteHasRoot};
 ghost use Rattle.bt_engine.specs.Law.{StepKeepsRooted, RunKeepsRooted, RootedIsChecked, RunsAreChecked, StepMarksByBytes, RunMarksByBytes, StepSendsReadBytes};
 
 use bt_tree::NodeHash;
@@ -37,4 +38,9 @@ pub fn run_marks_by_bytes<H: NodeHash>(_hash: H)
 /// digests of their leaves.
 pub fn step_sends_read_bytes<H: NodeHash>(_hash: H)
     ensures { StepSendsReadBytes H.digest }
+{}
+
+/// Where all blocks of a file are marked and stand on the device as they were marked, the file there has its root.
+pub fn complete_has_root<H: NodeHash>(_hash: H)
+    ensures { CompleteHasRoot H.digest }
 {}

@@ -11,6 +11,6 @@ pub use answer::{Frame, Note, Why};
 pub use error::{ConnectError, EngineError, FlushError};
 pub use event::Event;
 pub use law::{
-    rooted_is_checked, run_keeps_rooted, run_marks_by_bytes, runs_are_checked,
+    complete_has_root, rooted_is_checked, run_keeps_rooted, run_marks_by_bytes, runs_are_checked,
     step_keeps_rooted, step_marks_by_bytes, step_sends_read_bytes,
 };
