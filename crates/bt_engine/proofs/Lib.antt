@@ -9,3 +9,5 @@ pub mod Marking
 pub mod Sends
 -- devices
 pub mod Stored
+pub mod Tame
+pub mod Sound

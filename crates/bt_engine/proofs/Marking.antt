@@ -35,7 +35,7 @@ use Rattle.bt_engine.specs.Rechoke.{FollowsEach, StepRechoke, rechokes, no_memor
 use Rattle.bt_engine.specs.Flush.{StepFlush, syncs, fails}
 use Rattle.bt_engine.specs.Step.{Answer, Step, Run}
 use Rattle.bt_engine.specs.Law.{IsReadBack, IsMarkedBy, brought, read_back, IsMarkedIn}
-use Rattle.bt_engine.proofs.Lists.{set_cases, set_same, here}
+use Rattle.bt_engine.proofs.Lists.{set_cases, set_same}
 use Rattle.bt_engine.proofs.Marks.{state_is, file_marked, missing_marks, settle_marks}
 
 block_is : (b c : BlockId) → b.file ≡ c.file → b.block ≡ c.block → b ≡ c
@@ -44,7 +44,7 @@ block_is b c e f = ap (λ n. record b { file = n }) e ∙ ap (λ n. record c { b
 -- what marked a block in the course of a wire event
 data IsSeen (dig : List ℕ → List ℕ) (s : EngineState) (p : PeerState) (e : WireEvent) (calls : DeviceCalls) (mid : EngineState) (b : BlockId) : Type 0 where
   came : (piece begin : ℕ) (bytes : List ℕ) (tree : Facts) → e ≡ Message (Piece piece begin bytes) → IsWholeBlock s.torrent piece begin (length bytes) b → Contains p.asked b
-      → tree_of mid b.file ≡ Some tree → Contains calls (b.file, bytes_written (full_block_length * b.block) bytes) → IsRight dig tree b.block bytes → IsSeen dig s p e calls mid b
+      → tree_of mid b.file ≡ Some tree → calls ≡ (b.file, bytes_written (full_block_length * b.block) bytes) ∷ [] → IsRight dig tree b.block bytes → IsSeen dig s p e calls mid b
   waited : IsReadBack dig s calls mid b → IsSeen dig s p e calls mid b
 
 -- the block was marked before, or is seen to be right
@@ -113,8 +113,7 @@ module _ (dig : List ℕ → List ℕ) (b : BlockId) where
             let stored : tree_of a.stored a.block.file ≡ Some a.puts.tree = subst (λ x. tree_of x a.block.file ≡ Some a.puts.tree) (sym a.puts.after) hung in
             let known : tree_of mid a.block.file ≡ Some a.puts.tree = subst (λ x. tree_of x a.block.file ≡ Some a.puts.tree) (sym a.after) stored in
             let made : calls ≡ (a.block.file, bytes_written (full_block_length * a.block.block) bytes) ∷ [] = a.puts.made ∙ ap (λ r. calls_at a.block.file (calls_of_put a.block.block bytes r)) now.1 in
-            let written : Contains calls (a.block.file, bytes_written (full_block_length * a.block.block) bytes) = subst (λ cs. Contains cs (a.block.file, bytes_written (full_block_length * a.block.block) bytes)) (sym made) (here _ _ [] refl) in
-            inr (subst (λ c. IsSeen dig s p (Message (Piece piece begin bytes)) calls mid c) now.0 (came piece begin bytes a.puts.tree refl a.whole a.asked known written now.2))
+            inr (subst (λ c. IsSeen dig s p (Message (Piece piece begin bytes)) calls mid c) now.0 (came piece begin bytes a.puts.tree refl a.whole a.asked known made now.2))
       ]
 
   piece_marks : (s mid : EngineState) (i : ℕ) (p : PeerState) (piece begin : ℕ) (bytes : List ℕ) (calls : DeviceCalls) (effect : Effect) → HandlesPiece dig s i p piece begin bytes calls effect mid

@@ -58,7 +58,8 @@ RunsAreChecked dig = (torrent : Metainfo) (first last : EngineState)
 
 -- ---- marks
 
--- A block came in this event from a peer that was asked for it, and was written. Its digest is the leaf that
+-- A block came in this event from a peer that was asked for it, and was written, by the one call of a device
+-- in this event. Its digest is the leaf that
 -- its tree has after the event.
 pub record IsBrought (dig : List ℕ → List ℕ) (old : EngineState) (event : Event) (calls : DeviceCalls)
     (new : EngineState) (b : BlockId) : Type 0 where
@@ -76,7 +77,7 @@ pub record IsBrought (dig : List ℕ → List ℕ) (old : EngineState) (event : 
   pub whole : IsWholeBlock old.torrent piece begin (length bytes) b
   pub asked : Contains peer.asked b
   pub hung : tree_of new b.file ≡ Some tree
-  pub written : Contains calls (b.file, bytes_written (full_block_length * b.block) bytes)
+  pub written : calls ≡ (b.file, bytes_written (full_block_length * b.block) bytes) ∷ []
   pub right : IsRight dig tree b.block bytes
 
 -- A block that waited was read in this event. Its digest is the leaf that its tree has after the event.

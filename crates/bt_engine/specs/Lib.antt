@@ -21,3 +21,4 @@ pub mod Step
 -- laws
 pub mod Stored
 pub mod Law
+pub mod Sound

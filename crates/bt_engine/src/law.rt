@@ -1,6 +1,8 @@
 ghost use Rattle.bt_engine.specs.Stored.{CompleteHasRoot};
+ghost use Rattle.bt_engine.specs.Sound.{StepKeepsSound, RunKeepsSound, CompleteFilesStand};
 ghost use Rattle.bt_engine.specs.Law.{StepKeepsRooted, RunKeepsRooted, RootedIsChecked, RunsAreChecked, StepMarksByBytes, RunMarksByBytes, StepSendsReadBytes};
 
+use bt_disk::Disk;
 use bt_tree::NodeHash;
 
 /// Every tree stays rooted at each event.
@@ -40,7 +42,24 @@ pub fn step_sends_read_bytes<H: NodeHash>(_hash: H)
     ensures { StepSendsReadBytes H.digest }
 {}
 
-/// Where all blocks of a file are marked and stand on the device as they were marked, the file there has its root.
+/// Where all blocks of a file are marked and stand on the device as they were marked, the file there has its
+/// root.
 pub fn complete_has_root<H: NodeHash>(_hash: H)
     ensures { CompleteHasRoot H.digest }
+{}
+
+/// On each honest device the marked blocks of its file stay right at each event.
+pub fn step_keeps_sound<D: Disk, H: NodeHash>(_disk: &D, _hash: H)
+    ensures { StepKeepsSound D.history D.honest D.faults H.digest }
+{}
+
+/// So they do over a list of events.
+pub fn run_keeps_sound<D: Disk, H: NodeHash>(_disk: &D, _hash: H)
+    ensures { RunKeepsSound D.history D.honest D.faults H.digest }
+{}
+
+/// Where all blocks of a file are marked, the trees are rooted and the marked blocks right on honest devices,
+/// and the file's device is honest, the file stands there with the root of its tree.
+pub fn complete_files_stand<D: Disk, H: NodeHash>(_disk: &D, _hash: H)
+    ensures { CompleteFilesStand D.history D.honest H.digest }
 {}
