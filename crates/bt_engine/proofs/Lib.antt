@@ -11,3 +11,4 @@ pub mod Sends
 pub mod Stored
 pub mod Tame
 pub mod Sound
+pub mod Headline

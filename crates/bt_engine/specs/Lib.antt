@@ -22,3 +22,4 @@ pub mod Step
 pub mod Stored
 pub mod Law
 pub mod Sound
+pub mod Headline
