@@ -25,8 +25,8 @@ pub record IsComplete (torrent : Metainfo) (s : EngineState) (number : ℕ) (fil
   pub hung : slice_get s.trees state.tree ≡ Some tree
   pub marked : (i : ℕ) → i < block_count file.length → slice_get state.states i ≡ Some Marked
 
--- The first bytes, as many as the file has, have its root; so they equal each file of that length and root, or
--- at one place of the two trees there are two inputs with one digest.
+-- The first bytes, as many as the file has, have its root; so they equal each file of that length and root,
+-- or at one place of the two trees there are two inputs with one digest.
 pub record IsPublished (dig : List ℕ → List ℕ) (file : File) (bytes : List ℕ) : Type 0 where
   pub all : length (take file.length bytes) ≡ file.length
   pub root : file_root dig (take file.length bytes) ≡ file.root
