@@ -66,9 +66,9 @@ pub fn complete_files_stand<D: Disk, H: NodeHash>(_disk: &D, _hash: H)
 {}
 
 /// After any list of events from the start of a torrent, whatever peers send and devices answer: where all
-/// blocks of a file are marked and its device is honest, the file that stands there has the root that the torrent
-/// says, so it
-/// equals every file of that length and root, or at one place of their trees two different inputs have one digest.
+/// blocks of a file are marked and its device is honest, the file that stands there has the torrent's length
+/// and root. So it equals every file of that length and root, or at one place of their trees two different
+/// inputs have one digest.
 pub fn complete_files_are_published<D: Disk, H: NodeHash>(_disk: &D, _hash: H)
     ensures { CompleteFilesArePublished D.history D.honest D.faults H.digest }
 {}
