@@ -1,0 +1,14 @@
+pub mod Lists
+-- trees
+pub mod Rooted
+pub mod Start
+-- marks
+pub mod Marks
+pub mod Marking
+-- data
+pub mod Sends
+-- devices
+pub mod Stored
+pub mod Tame
+pub mod Sound
+pub mod Headline

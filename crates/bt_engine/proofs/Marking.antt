@@ -1,0 +1,299 @@
+-- A step marks a block by bytes of that step alone.
+use Rattle.std.proofs.Common.{◌≡◌, ◌≢◌, ℕ, ◌*◌, ◌⊎◌, inl, inr, List, [], ◌∷◌, length, Some, refl, sym, ap, ◌∙◌, subst}
+use Rattle.std.specs.Prelude.{slice_get, slice_set, Contains, Result, Ok, Err}
+use Rattle.std.specs.Option.{option_and_then}
+use Rattle.bt_tree.specs.Limits.{full_block_length}
+use Rattle.bt_sparse.specs.SparseTree.{Facts}
+use Rattle.bt_disk.specs.Calls.{bytes_written}
+use Rattle.bt_hashreq.specs.declared.key.HashKey.{HashKey}
+use Rattle.bt_store.specs.BlockReads.{BlockRead, IsRight}
+use Rattle.bt_store.specs.Arrival.{PutIsDue, calls_of_put, states_after_put}
+use Rattle.bt_store.specs.declared.block_states.BlockState.TheVariants.{Waiting, Marked}
+use Rattle.bt_store.specs.declared.error.StoreError.{StoreError}
+use Rattle.bt_store.specs.declared.arrival.Put.{Put}
+use Rattle.bt_store.specs.declared.arrival.Put.TheVariants.{Already, Wrong, Marked as PutMarked, Waiting as PutWaiting}
+use Rattle.bt_book.specs.declared.names.BlockId.{BlockId}
+use Rattle.bt_wire.specs.declared.message.Ask.{Ask}
+use Rattle.bt_wire.specs.declared.message.Message.{Message as Sent}
+use Rattle.bt_wire.specs.declared.message.Message.TheVariants.{KeepAlive, Choke, Unchoke, Interested, NotInterested, Have, Bitfield, Request, Piece, Cancel, HashRequest, Hashes, HashReject}
+use Rattle.bt_wire.specs.declared.event.WireEvent.{WireEvent}
+use Rattle.bt_wire.specs.declared.event.WireEvent.TheVariants.{Hello, Message, Skipped}
+use Rattle.bt_engine.specs.declared.event.Event.{Event}
+use Rattle.bt_engine.specs.declared.event.Event.TheVariants.{Connect, Feed, Next, Lost, Rechoke, Flush}
+use Rattle.bt_engine.specs.State.{PeerState, FileState, EngineState}
+use Rattle.bt_engine.specs.Devices.{DeviceCalls, calls_at}
+use Rattle.bt_engine.specs.Blocks.{state_at, tree_of, with_file, with_peer, with_tree}
+use Rattle.bt_engine.specs.Spans.{IsWholeBlock}
+use Rattle.bt_engine.specs.Output.{Sent as SentFrame, Effect}
+use Rattle.bt_engine.specs.Request.{FindsFault, damaged, fault, HandlesRequest, ignored, no_place, not_marked, served, stopped}
+use Rattle.bt_engine.specs.Arrival.{Arrives, HandlesPiece, stale, arrives}
+use Rattle.bt_engine.specs.HashMessages.{HandlesHashes, unknown_root, no_claim, refused, learns}
+use Rattle.bt_engine.specs.WireEvents.{HandlesHave, in_range, out_of_range, HandlesBitfield, right, wrong, HandlesMessage, Handles}
+use Rattle.bt_engine.specs.Next.{IsPeer, TakesEvent, StepNext, no_peer, waits, goes_on, closes, faulty, no_memory}
+use Rattle.bt_engine.specs.Peers.{StepConnect, joins, full, spent, no_memory as no_room, StepFeed, feeds, no_peer as not_fed, no_memory as no_room_to_feed, StepLost, goes, no_peer as not_lost}
+use Rattle.bt_engine.specs.Rechoke.{FollowsEach, StepRechoke, rechokes, no_memory as not_rechoked}
+use Rattle.bt_engine.specs.Flush.{StepFlush, syncs, fails}
+use Rattle.bt_engine.specs.Step.{Answer, Step, Run}
+use Rattle.bt_engine.specs.Law.{IsReadBack, IsMarkedBy, brought, read_back, IsMarkedIn}
+use Rattle.bt_engine.proofs.Lists.{set_cases, set_same}
+use Rattle.bt_engine.proofs.Marks.{state_is, file_marked, missing_marks, settle_marks}
+
+block_is : (b c : BlockId) → b.file ≡ c.file → b.block ≡ c.block → b ≡ c
+block_is b c e f = ap (λ n. record b { file = n }) e ∙ ap (λ n. record c { block = n }) f
+
+-- what marked a block in the course of a wire event
+data IsSeen (dig : List ℕ → List ℕ) (s : EngineState) (p : PeerState) (e : WireEvent) (calls : DeviceCalls) (mid : EngineState) (b : BlockId) : Type 0 where
+  came : (piece begin : ℕ) (bytes : List ℕ) (tree : Facts) → e ≡ Message (Piece piece begin bytes) → IsWholeBlock s.torrent piece begin (length bytes) b → Contains p.asked b
+      → tree_of mid b.file ≡ Some tree → calls ≡ (b.file, bytes_written (full_block_length * b.block) bytes) ∷ [] → IsRight dig tree b.block bytes → IsSeen dig s p e calls mid b
+  waited : IsReadBack dig s calls mid b → IsSeen dig s p e calls mid b
+
+-- the block was marked before, or is seen to be right
+abbrev Marks : (List ℕ → List ℕ) → EngineState → PeerState → WireEvent → DeviceCalls → EngineState → BlockId → Type 0
+Marks dig s p e calls mid b = (state_at s b ≡ Some Marked) ⊎ IsSeen dig s p e calls mid b
+
+module _ (dig : List ℕ → List ℕ) (b : BlockId) where
+  -- the engine is one in which the same blocks are marked
+  as_before : (m mid : EngineState) → mid ≡ m → state_at mid b ≡ Some Marked → state_at m b ≡ Some Marked
+  as_before m mid e marked = subst (λ x. state_at x b ≡ Some Marked) e marked
+
+  have_marks : (s mid : EngineState) (i : ℕ) (p : PeerState) (piece : ℕ) (effect : Effect) → HandlesHave s i p piece effect mid → state_at mid b ≡ Some Marked → state_at s b ≡ Some Marked
+  have_marks s mid i p piece effect (in_range x y e) m = as_before _ mid e m
+  have_marks s mid i p piece effect (out_of_range x y e) m = as_before _ mid e m
+
+  bits_marks : (s mid : EngineState) (i : ℕ) (p : PeerState) (bytes : List ℕ) (effect : Effect) → HandlesBitfield s i p bytes effect mid → state_at mid b ≡ Some Marked → state_at s b ≡ Some Marked
+  bits_marks s mid i p bytes effect (right x y e) m = as_before _ mid e m
+  bits_marks s mid i p bytes effect (wrong x y e) m = as_before _ mid e m
+
+  -- in a file that stands in the place of another
+  in_file : (s : EngineState) (file : ℕ) (f new : FileState) → slice_get s.files file ≡ Some f → state_at (with_file s file new) b ≡ Some Marked
+      → (slice_get new.states b.block ≡ Some Marked → slice_get f.states b.block ≡ Some Marked) → state_at s b ≡ Some Marked
+  in_file s file f new at marked kept = elim (file_marked s file new b marked) [
+    | inl now ↦ state_is s b f Marked (ap (slice_get s.files) now.0 ∙ at) (kept now.1)
+    | inr old ↦ old
+  ]
+
+  fault_marks : (k : Facts) (s mid : EngineState) (file i : ℕ) (f : FileState) (read : BlockRead) (effect : Effect) → slice_get s.files file ≡ Some f → FindsFault dig k s file i f read effect mid
+      → state_at mid b ≡ Some Marked → state_at s b ≡ Some Marked
+  fault_marks k s mid file i f read effect at (damaged bytes x y z e) m = in_file s file f _ at (as_before _ mid e m) (λ now. missing_marks f.states i b.block now)
+  fault_marks k s mid file i f read effect at (fault x y e) m = as_before _ mid e m
+
+  request_marks : (s mid : EngineState) (i : ℕ) (p : PeerState) (ask : Ask) (calls : DeviceCalls) (effect : Effect) → HandlesRequest dig s i p ask calls effect mid → state_at mid b ≡ Some Marked → state_at s b ≡ Some Marked
+  request_marks s mid i p ask calls effect (ignored a c d e) m = as_before _ mid e m
+  request_marks s mid i p ask calls effect (no_place a c d f e) m = as_before _ mid e m
+  request_marks s mid i p ask calls effect (not_marked span a c d f g e) m = as_before _ mid e m
+  request_marks s mid i p ask calls effect (served span a c d f) m = as_before _ mid f.after m
+  request_marks s mid i p ask calls effect (stopped span a c d f) m = fault_marks f.tree s mid span.file f.block f.file f.read effect f.is_file.here f.finds m
+
+  -- a block that is marked after one was put was marked, or is that one
+  put_marks : (s : EngineState) (c : BlockId) (bytes : List ℕ) (f : FileState) (tree : Facts) → slice_get s.files c.file ≡ Some f → (r : Result Put StoreError) → PutIsDue dig tree c.block bytes f.states r
+      → state_at (with_file s c.file (record f { states = states_after_put c.block r f.states })) b ≡ Some Marked
+      → (state_at s b ≡ Some Marked) ⊎ ((c ≡ b) × (r ≡ Ok PutMarked) × IsRight dig tree c.block bytes)
+  put_marks s c bytes f tree at (Ok PutMarked) due m = elim (file_marked s c.file (record f { states = slice_set f.states c.block Marked }) b m) [
+    | inl now ↦ elim (set_cases f.states c.block b.block Marked Marked now.1) [
+      | inl one ↦ inr (sym (block_is b c now.0 one.0), refl, record { whole = due.0.whole; leaf = due.2 })
+      | inr old ↦ inl (state_is s b f Marked (ap (slice_get s.files) now.0 ∙ at) old)
+    ]
+    | inr old ↦ inl old
+  ]
+  put_marks s c bytes f tree at (Ok PutWaiting) due m = inl (in_file s c.file f _ at m (λ now. elim (set_cases f.states c.block b.block Waiting Marked now) [ inl one ↦ (let no : Marked ≡ Waiting = one.1 in absurd cc) | inr old ↦ old ]))
+  put_marks s c bytes f tree at (Ok Already) due m = inl (in_file s c.file f _ at m (λ now. now))
+  put_marks s c bytes f tree at (Ok Wrong) due m = inl (in_file s c.file f _ at m (λ now. now))
+  put_marks s c bytes f tree at (Err e) due m = inl (in_file s c.file f _ at m (λ now. now))
+
+  arrives_marks : (s mid : EngineState) (i : ℕ) (p : PeerState) (piece begin : ℕ) (bytes : List ℕ) (calls : DeviceCalls) (effect : Effect) → Arrives dig s i p piece begin bytes calls effect mid
+      → state_at mid b ≡ Some Marked → Marks dig s p (Message (Piece piece begin bytes)) calls mid b
+  arrives_marks s mid i p piece begin bytes calls effect a m =
+      let at : slice_get s.files a.block.file ≡ Some a.puts.file = a.puts.is_file.here in
+      let new : FileState = record a.puts.file { states = states_after_put a.block.block a.puts.result a.puts.file.states } in
+      elim (put_marks s a.block bytes a.puts.file a.puts.tree at a.puts.result a.puts.due (as_before _ a.stored a.puts.after (as_before _ mid a.after m))) [
+        | inl old ↦ inl old
+        | inr now ↦
+            let hung : tree_of (with_file s a.block.file new) a.block.file ≡ Some a.puts.tree =
+            ap (option_and_then (λ q. slice_get s.trees q.tree)) (set_same s.files a.block.file new a.puts.file at) ∙ a.puts.is_file.hung in
+            let stored : tree_of a.stored a.block.file ≡ Some a.puts.tree = subst (λ x. tree_of x a.block.file ≡ Some a.puts.tree) (sym a.puts.after) hung in
+            let known : tree_of mid a.block.file ≡ Some a.puts.tree = subst (λ x. tree_of x a.block.file ≡ Some a.puts.tree) (sym a.after) stored in
+            let made : calls ≡ (a.block.file, bytes_written (full_block_length * a.block.block) bytes) ∷ [] = a.puts.made ∙ ap (λ r. calls_at a.block.file (calls_of_put a.block.block bytes r)) now.1 in
+            inr (subst (λ c. IsSeen dig s p (Message (Piece piece begin bytes)) calls mid c) now.0 (came piece begin bytes a.puts.tree refl a.whole a.asked known made now.2))
+      ]
+
+  piece_marks : (s mid : EngineState) (i : ℕ) (p : PeerState) (piece begin : ℕ) (bytes : List ℕ) (calls : DeviceCalls) (effect : Effect) → HandlesPiece dig s i p piece begin bytes calls effect mid
+      → state_at mid b ≡ Some Marked → Marks dig s p (Message (Piece piece begin bytes)) calls mid b
+  piece_marks s mid i p piece begin bytes calls effect (stale x y z e) m = inl (as_before _ mid e m)
+  piece_marks s mid i p piece begin bytes calls effect (arrives a) m = arrives_marks s mid i p piece begin bytes calls effect a m
+
+  -- a block that was read back in one engine was so in one that has the same trees and waiting blocks
+  back_in : (s t mid new : EngineState) (calls : DeviceCalls) → state_at t b ≡ state_at s b → tree_of new b.file ≡ tree_of mid b.file → IsReadBack dig s calls mid b → IsReadBack dig t calls new b
+  back_in s t mid new calls same trees r = record { tree = r.tree; bytes = r.bytes; waited = same ∙ r.waited; hung = trees ∙ r.hung; read = r.read; right = r.right }
+
+  hashes_marks : (s mid : EngineState) (i : ℕ) (p : PeerState) (key : HashKey) (digests : List ℕ) (calls : DeviceCalls) (effect : Effect) (e : WireEvent) → HandlesHashes dig s i p key digests calls effect mid
+      → state_at mid b ≡ Some Marked → Marks dig s p e calls mid b
+  hashes_marks s mid i p key digests calls effect event (unknown_root x y z e) m = inl (as_before _ mid e m)
+  hashes_marks s mid i p key digests calls effect event (no_claim f x y c) m = inl (as_before _ mid c.after m)
+  hashes_marks s mid i p key digests calls effect event (refused f t k c x y z g) m = inl (as_before _ mid g.after m)
+  hashes_marks s mid i p key digests calls effect event (learns l) m =
+      elim (settle_marks dig l.tree key.index _ (with_tree s l.tree l.new) l.settled calls l.notes l.settles b (as_before _ mid l.after m)) [
+        | inl old ↦ inl old
+        | inr r ↦ inr (waited (back_in _ s l.settled mid calls refl (ap (λ x. tree_of x b.file) l.after) r))
+      ]
+
+  message_marks : (s mid : EngineState) (i : ℕ) (p : PeerState) (msg : Sent) (calls : DeviceCalls) (effect : Effect) → HandlesMessage dig s i p msg calls effect mid → state_at mid b ≡ Some Marked
+      → Marks dig s p (Message msg) calls mid b
+  message_marks s mid i p KeepAlive calls effect h m = inl (as_before _ mid h.2 m)
+  message_marks s mid i p Choke calls effect h m = inl (as_before _ mid h.2 m)
+  message_marks s mid i p Unchoke calls effect h m = inl (as_before _ mid h.2 m)
+  message_marks s mid i p Interested calls effect h m = inl (as_before _ mid h.2 m)
+  message_marks s mid i p NotInterested calls effect h m = inl (as_before _ mid h.2 m)
+  message_marks s mid i p (Have piece) calls effect h m = inl (have_marks s mid i p piece effect h.1 m)
+  message_marks s mid i p (Bitfield bytes) calls effect h m = inl (bits_marks s mid i p bytes effect h.1 m)
+  message_marks s mid i p (Request ask) calls effect h m = inl (request_marks s mid i p ask calls effect h m)
+  message_marks s mid i p (Piece piece begin bytes) calls effect h m = piece_marks s mid i p piece begin bytes calls effect h m
+  message_marks s mid i p (Cancel ask) calls effect h m = inl (as_before _ mid h.2 m)
+  message_marks s mid i p (HashRequest key) calls effect h m = inl (as_before _ mid h.2 m)
+  message_marks s mid i p (Hashes key digests) calls effect h m = hashes_marks s mid i p key digests calls effect _ h m
+  message_marks s mid i p (HashReject key) calls effect h m = inl (as_before _ mid h.2.after m)
+
+  event_marks : (s mid : EngineState) (i : ℕ) (p : PeerState) (e : WireEvent) (calls : DeviceCalls) (effect : Effect) → Handles dig s i p e calls effect mid → state_at mid b ≡ Some Marked → Marks dig s p e calls mid b
+  event_marks s mid i p (Hello h) calls effect t m = inl (as_before _ mid t.2 m)
+  event_marks s mid i p (Message msg) calls effect t m = message_marks s mid i p msg calls effect t m
+  event_marks s mid i p (Skipped kind) calls effect t m = inl (as_before _ mid t.2 m)
+
+  -- a block that a taken event marked, in an engine that has the trees after it
+  taken_marks : (s mid new : EngineState) (key : _) (i : ℕ) (p : PeerState) (calls : DeviceCalls) (effect : Effect) → IsPeer s key i p → TakesEvent dig s i p calls effect mid
+      → tree_of new b.file ≡ tree_of mid b.file → state_at mid b ≡ Some Marked → (state_at s b ≡ Some Marked) ⊎ IsMarkedBy dig s (Next key) calls new b
+  taken_marks s mid new key i p calls effect peer t trees m =
+      elim (event_marks (with_peer s i (record p { stream = t.rest })) mid i (record p { stream = t.rest }) t.event calls effect t.handles m) [
+        | inl old ↦ inl old
+        | inr seen ↦ inr (from seen)
+      ]
+    where
+      from : IsSeen dig (with_peer s i (record p { stream = t.rest })) (record p { stream = t.rest }) t.event calls mid b → IsMarkedBy dig s (Next key) calls new b
+      from (came piece begin bytes tree is whole asked hung written exact) =
+          brought (record {
+            key = key;
+            place = i;
+            peer = p;
+            piece = piece;
+            begin = begin;
+            bytes = bytes;
+            rest = t.rest;
+            tree = tree;
+            is_next = refl;
+            is_peer = peer;
+            takes = rw (sym is) t.takes;
+            whole = whole;
+            asked = asked;
+            hung = trees ∙ hung;
+            written = written;
+            right = exact;
+          })
+      from (waited r) = read_back (back_in _ s mid new calls refl trees r)
+
+  -- the block was marked before, or is marked by this event
+  abbrev Now : EngineState → Event → DeviceCalls → EngineState → Type 0
+  Now s event calls new = (state_at s b ≡ Some Marked) ⊎ IsMarkedBy dig s event calls new b
+
+  next_marks : (s new : EngineState) (key : _) (calls : DeviceCalls) (answer : _) → StepNext dig s key calls answer new → state_at new b ≡ Some Marked → Now s (Next key) calls new
+  next_marks s new key calls answer (no_peer x y z e) m = inl (as_before _ new e m)
+  next_marks s new key calls answer (waits i p x y z w e) m = inl (as_before _ new e m)
+  next_marks s new key calls answer (goes_on i p out peer g x) m = taken_marks s g.mid new key i p calls g.effect peer g.takes (ap (λ x. tree_of x b.file) g.follows.after) (as_before _ new g.follows.after m)
+  next_marks s new key calls answer (closes i p out peer g x) m = taken_marks s g.mid new key i p calls g.effect peer g.takes (ap (λ x. tree_of x b.file) g.after) (as_before _ new g.after m)
+  next_marks s new key calls answer (faulty i p out peer g x) m = inl (as_before _ new g.after m)
+  next_marks s new key calls answer (no_memory i p peer g x) m = inl (as_before _ new g.after m)
+
+  connect_marks : (s new : EngineState) (answer : _) → StepConnect s answer new → state_at new b ≡ Some Marked → state_at s b ≡ Some Marked
+  connect_marks s new answer (joins key bytes x y z w v e) m = as_before _ new e m
+  connect_marks s new answer (full x y e) m = as_before _ new e m
+  connect_marks s new answer (spent x y z e) m = as_before _ new e m
+  connect_marks s new answer (no_room x y z e) m = as_before _ new e m
+
+  feed_marks : (s new : EngineState) (key : _) (bytes : List ℕ) (answer : _) → StepFeed s key bytes answer new → state_at new b ≡ Some Marked → state_at s b ≡ Some Marked
+  feed_marks s new key bytes answer (feeds i p x y e) m = as_before _ new e m
+  feed_marks s new key bytes answer (not_fed x y e) m = as_before _ new e m
+  feed_marks s new key bytes answer (no_room_to_feed i p x y e) m = as_before _ new e m
+
+  lost_marks : (s new : EngineState) (key : _) (answer : _) → StepLost s key answer new → state_at new b ≡ Some Marked → state_at s b ≡ Some Marked
+  lost_marks s new key answer (goes i p x y e) m = as_before _ new e m
+  lost_marks s new key answer (not_lost x y e) m = as_before _ new e m
+
+  each_marks : (peers : List ℕ) (s new : EngineState) (sent : List SentFrame) → FollowsEach dig peers s sent new → state_at new b ≡ Some Marked → state_at s b ≡ Some Marked
+  each_marks [] s new sent f m = as_before _ new f.1 m
+  each_marks (i ∷ peers) s new sent f m = as_before _ f.0 f.3.after (each_marks peers f.0 new f.2 f.4 m)
+
+  rechoke_marks : (s new : EngineState) (answer : _) → StepRechoke dig s answer new → state_at new b ≡ Some Marked → state_at s b ≡ Some Marked
+  rechoke_marks s new answer (rechokes out r x) m = each_marks _ _ new r.sent r.follows m
+  rechoke_marks s new answer (not_rechoked x e) m = as_before _ new e m
+
+  flush_marks : (s new : EngineState) (calls : DeviceCalls) (answer : _) → StepFlush s calls answer new → state_at new b ≡ Some Marked → state_at s b ≡ Some Marked
+  flush_marks s new calls answer (syncs x y z e) m = as_before _ new e m
+  flush_marks s new calls answer (fails before file after x y z e) m = as_before _ new e m
+
+  pub step_cases : (s new : EngineState) (e : Event) (calls : DeviceCalls) (a : Answer) → Step dig s e calls a new → state_at new b ≡ Some Marked → Now s e calls new
+  step_cases s new Connect calls a t m = inl (connect_marks s new t.0 t.3 m)
+  step_cases s new (Feed key bytes) calls a t m = inl (feed_marks s new key bytes t.0 t.3 m)
+  step_cases s new (Next key) calls a t m = next_marks s new key calls t.0 t.2 m
+  step_cases s new (Lost key) calls a t m = inl (lost_marks s new key t.0 t.3 m)
+  step_cases s new Rechoke calls a t m = inl (rechoke_marks s new t.0 t.3 m)
+  step_cases s new Flush calls a t m = inl (flush_marks s new calls t.0 t.2 m)
+
+pub step_marks : (dig : List ℕ → List ℕ) (s new : EngineState) (e : Event) (calls : DeviceCalls) (a : Answer) → Step dig s e calls a new
+    → (b : BlockId) → state_at new b ≡ Some Marked → state_at s b ≢ Some Marked → IsMarkedBy dig s e calls new b
+step_marks dig s new e calls a t b m before = elim (step_cases dig b s new e calls a t m) [ inl old ↦ absurd (before old) | inr now ↦ now ]
+
+-- one event further on
+after_step : (dig : List ℕ → List ℕ) (s mid : EngineState) (e : Event) (es : List Event) (c : DeviceCalls) (calls : List DeviceCalls) (a : Answer) (b : BlockId) → Step dig s e c a mid → IsMarkedIn dig mid es calls b
+    → IsMarkedIn dig s (e ∷ es) (c ∷ calls) b
+after_step dig s mid e es c calls a b t i = record {
+  events_before = e ∷ i.events_before;
+  calls_before = c ∷ i.calls_before;
+  answers_before = a ∷ i.answers_before;
+  old = i.old;
+  event = i.event;
+  calls_then = i.calls_then;
+  answer = i.answer;
+  new = i.new;
+  events_after = i.events_after;
+  calls_after = i.calls_after;
+  run = (mid, t, i.run);
+  step = i.step;
+  marked = i.marked;
+  events_are = ap (λ xs. e ∷ xs) i.events_are;
+  calls_are = ap (λ xs. c ∷ xs) i.calls_are;
+}
+
+-- the first event marked the block
+at_first : (dig : List ℕ → List ℕ) (s mid : EngineState) (e : Event) (es : List Event) (c : DeviceCalls) (calls : List DeviceCalls) (a : Answer) (b : BlockId) → Step dig s e c a mid → IsMarkedBy dig s e c mid b
+    → IsMarkedIn dig s (e ∷ es) (c ∷ calls) b
+at_first dig s mid e es c calls a b t by = record {
+  events_before = [];
+  calls_before = [];
+  answers_before = [];
+  old = s;
+  event = e;
+  calls_then = c;
+  answer = a;
+  new = mid;
+  events_after = es;
+  calls_after = calls;
+  run = refl;
+  step = t;
+  marked = by;
+  events_are = refl;
+  calls_are = refl;
+}
+
+-- a block that is marked after a run was so before it, or became so within it
+run_cases : (dig : List ℕ → List ℕ) (s new : EngineState) (es : List Event) (calls : List DeviceCalls) (answers : List Answer) → Run dig s es calls answers new → (b : BlockId) → state_at new b ≡ Some Marked
+    → (state_at s b ≡ Some Marked) ⊎ IsMarkedIn dig s es calls b
+run_cases dig s new [] [] [] run b m = inl (subst (λ x. state_at x b ≡ Some Marked) run m)
+run_cases dig s new (e ∷ es) (c ∷ calls) (a ∷ answers) run b m = elim (run_cases dig run.0 new es calls answers run.2 b m) [
+  | inl mid ↦ elim (step_cases dig b s run.0 e c a run.1 mid) [ inl old ↦ inl old | inr now ↦ inr (at_first dig s run.0 e es c calls a b run.1 now) ]
+  | inr more ↦ inr (after_step dig s run.0 e es c calls a b run.1 more)
+]
+run_cases dig s new [] (c ∷ calls) answers run b m = absurd run
+run_cases dig s new [] [] (a ∷ answers) run b m = absurd run
+run_cases dig s new (e ∷ es) [] answers run b m = absurd run
+run_cases dig s new (e ∷ es) (c ∷ calls) [] run b m = absurd run
+
+pub run_marks : (dig : List ℕ → List ℕ) (s new : EngineState) (es : List Event) (calls : List DeviceCalls) (answers : List Answer) → Run dig s es calls answers new
+    → (b : BlockId) → state_at new b ≡ Some Marked → state_at s b ≢ Some Marked → IsMarkedIn dig s es calls b
+run_marks dig s new es calls answers run b m before = elim (run_cases dig s new es calls answers run b m) [ inl old ↦ absurd (before old) | inr now ↦ now ]

@@ -1,0 +1,5 @@
+use Rattle.bt_engine.proofs.Stored.{complete_root}
+use Rattle.bt_engine.proofs.law.complete_has_root.Goals as goal
+
+pub returns : goal.returns
+returns g c = complete_root g.H.NodeHash.digest

@@ -1,0 +1,25 @@
+-- what an engine is
+pub mod State
+pub mod Devices
+pub mod Blocks
+pub mod Output
+-- wire events
+pub mod Spans
+pub mod Settling
+pub mod Request
+pub mod Arrival
+pub mod HashMessages
+pub mod WireEvents
+-- events
+pub mod FollowUp
+pub mod Next
+pub mod Peers
+pub mod Rechoke
+pub mod Flush
+pub mod Start
+pub mod Step
+-- laws
+pub mod Stored
+pub mod Law
+pub mod Sound
+pub mod Headline

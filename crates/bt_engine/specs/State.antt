@@ -1,0 +1,54 @@
+-- What an engine knows of its torrent: the trees, the files' blocks and the peers. Devices are no part of it.
+use Rattle.std.specs.Prelude.{ℕ, Bool, List}
+use Rattle.bt_meta.specs.Torrent.{Metainfo}
+use Rattle.bt_sparse.specs.SparseTree.{Facts}
+use Rattle.bt_hashreq.specs.declared.key.HashKey.{HashKey}
+use Rattle.bt_store.specs.declared.block_states.BlockState.{BlockState}
+use Rattle.bt_book.specs.declared.names.PeerKey.{PeerKey}
+use Rattle.bt_book.specs.declared.names.BlockId.{BlockId}
+use Rattle.bt_wire.specs.Cutter.{Stream}
+
+-- whether a peer may be sent a hash request (BEP 52): it may, it is asked this one, or it rejected one
+pub data HashState : Type 0 where
+  Idle : HashState
+  Asked : (key : HashKey) → HashState
+  Refused : HashState
+
+-- A peer: the bytes that came from it; the four flags of BEP 3 (who chokes whom, who is interested in whom);
+-- for each piece whether it has it; its hash state; the blocks that it is asked for, in the order of asking;
+-- and how many bytes of blocks came from it and went to it since the last choice of peers to serve.
+pub record PeerState : Type 0 where
+  pub key : PeerKey
+  pub stream : Stream
+  pub am_choking : Bool
+  pub am_interested : Bool
+  pub peer_choking : Bool
+  pub peer_interested : Bool
+  pub has : List Bool
+  pub hash : HashState
+  pub asked : List BlockId
+  pub payload : ℕ
+
+-- a file of the torrent: which tree it has, and the states of its blocks; an empty file has no block
+pub record FileState : Type 0 where
+  pub tree : ℕ
+  pub states : List BlockState
+
+-- what a log keeps: an accepted proof by its key and digests, or a block that was marked
+pub data Hint : Type 0 where
+  proof_of : (key : HashKey) (digests : List (List ℕ)) → Hint
+  mark_of : (block : BlockId) → Hint
+
+-- There is one tree for each root. Files stand as in the torrent, peers in the order of their keys.
+-- `pending` has the hints that are to be written to the log, `hints` those that were last read from it;
+-- without a log both are empty.
+pub record EngineState : Type 0 where
+  pub torrent : Metainfo
+  pub trees : List Facts
+  pub files : List FileState
+  pub peers : List PeerState
+  pub next_key : ℕ
+  pub turn : ℕ
+  pub logged : Bool
+  pub pending : List Hint
+  pub hints : List Hint

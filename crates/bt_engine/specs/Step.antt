@@ -1,0 +1,48 @@
+-- One event of an engine, and lists of events.
+use Rattle.std.specs.Prelude.{◌≡◌, ℕ, List, [], ◌∷◌, Option, Result}
+use Rattle.bt_book.specs.declared.names.PeerKey.{PeerKey}
+use Rattle.bt_engine.specs.declared.event.Event.{Event}
+use Rattle.bt_engine.specs.declared.event.Event.TheVariants.{Connect, Feed, Next, Lost, Rechoke, Flush}
+use Rattle.bt_engine.specs.declared.error.ConnectError.{ConnectError}
+use Rattle.bt_engine.specs.declared.error.EngineError.{EngineError}
+use Rattle.bt_engine.specs.declared.error.FlushError.{FlushError}
+use Rattle.bt_engine.specs.State.{EngineState}
+use Rattle.bt_engine.specs.Devices.{DeviceCalls}
+use Rattle.bt_engine.specs.Output.{Output}
+use Rattle.bt_engine.specs.Next.{StepNext}
+use Rattle.bt_engine.specs.Peers.{StepConnect, StepFeed, StepLost}
+use Rattle.bt_engine.specs.Rechoke.{StepRechoke}
+use Rattle.bt_engine.specs.Flush.{StepFlush}
+
+-- what an event answers
+pub data Answer : Type 0 where
+  connected : Result (PeerKey × Output) ConnectError → Answer
+  was_fed : Result (Unit {0}) EngineError → Answer
+  taken : Result (Option Output) EngineError → Answer
+  gone : Result (Unit {0}) EngineError → Answer
+  was_rechoked : Option Output → Answer
+  flushed : Result (Unit {0}) FlushError → Answer
+
+-- From the old engine an event leads to the new one, with these calls of devices and this answer.
+abbrev pub Step : (List ℕ → List ℕ) → EngineState → Event → DeviceCalls → Answer → EngineState → Type 0
+Step dig old Connect calls answer new =
+    (r : Result (PeerKey × Output) ConnectError) × (answer ≡ connected r) × (calls ≡ [])
+    × StepConnect old r new
+Step dig old (Feed key bytes) calls answer new =
+    (r : Result (Unit {0}) EngineError) × (answer ≡ was_fed r) × (calls ≡ []) × StepFeed old key bytes r new
+Step dig old (Next key) calls answer new =
+    (r : Result (Option Output) EngineError) × (answer ≡ taken r) × StepNext dig old key calls r new
+Step dig old (Lost key) calls answer new =
+    (r : Result (Unit {0}) EngineError) × (answer ≡ gone r) × (calls ≡ []) × StepLost old key r new
+Step dig old Rechoke calls answer new =
+    (r : Option Output) × (answer ≡ was_rechoked r) × (calls ≡ []) × StepRechoke dig old r new
+Step dig old Flush calls answer new =
+    (r : Result (Unit {0}) FlushError) × (answer ≡ flushed r) × StepFlush old calls r new
+
+-- A list of events, one step after the other, each with its own calls of devices and its own answer.
+abbrev pub Run : (List ℕ → List ℕ) → EngineState → List Event → List DeviceCalls → List Answer → EngineState
+    → Type 0
+Run dig old [] [] [] new = new ≡ old
+Run dig old (event ∷ events) (calls ∷ more) (answer ∷ answers) new =
+    (mid : EngineState) × Step dig old event calls answer mid × Run dig mid events more answers new
+Run dig old _ _ _ new = ⊥

@@ -1,0 +1,32 @@
+use thiserror::Error;
+
+/// Why no peer is connected.
+#[derive(Clone, Copy, Debug, PartialEq, Eq, Error)]
+pub enum ConnectError {
+    /// 64 peers are connected.
+    #[error("Full")]
+    Full,
+    /// No key of 64 bits is left.
+    #[error("SerialsSpent")]
+    SerialsSpent,
+    #[error("OutOfMemory")]
+    OutOfMemory,
+}
+
+/// Why an event of a peer has no answer.
+#[derive(Clone, Copy, Debug, PartialEq, Eq, Error)]
+pub enum EngineError {
+    /// No peer has the key.
+    #[error("NoPeer")]
+    NoPeer,
+    #[error("OutOfMemory")]
+    OutOfMemory,
+}
+
+/// Why not all devices are flushed.
+#[derive(Clone, Copy, Debug, PartialEq, Eq, Error)]
+pub enum FlushError {
+    /// A sync failed.
+    #[error("Device")]
+    Device,
+}

@@ -1,0 +1,74 @@
+ghost use Rattle.bt_engine.specs.Headline.{CompleteFilesArePublished};
+ghost use Rattle.bt_engine.specs.Stored.{CompleteHasRoot};
+ghost use Rattle.bt_engine.specs.Sound.{StepKeepsSound, RunKeepsSound, CompleteFilesStand};
+ghost use Rattle.bt_engine.specs.Law.{StepKeepsRooted, RunKeepsRooted, RootedIsChecked, RunsAreChecked, StepMarksByBytes, RunMarksByBytes, StepSendsReadBytes};
+
+use bt_disk::Disk;
+use bt_tree::NodeHash;
+
+/// Every tree stays rooted at each event.
+pub fn step_keeps_rooted<H: NodeHash>(_hash: H)
+    ensures { StepKeepsRooted H.digest }
+{}
+
+/// Every tree stays rooted over a list of events.
+pub fn run_keeps_rooted<H: NodeHash>(_hash: H)
+    ensures { RunKeepsRooted H.digest }
+{}
+
+/// Where every tree is rooted, every digest that one holds is checked up to its root.
+pub fn rooted_is_checked<H: NodeHash>(_hash: H)
+    ensures { RootedIsChecked H.digest }
+{}
+
+/// So it is of every engine that events lead to from the start of a torrent.
+pub fn runs_are_checked<H: NodeHash>(_hash: H)
+    ensures { RunsAreChecked H.digest }
+{}
+
+/// A block becomes marked in two ways only: it came from a peer that was asked for it and was written, or it
+/// waited and was read back. In each its digest is its leaf, and its bytes are of this event.
+pub fn step_marks_by_bytes<H: NodeHash>(_hash: H)
+    ensures { StepMarksByBytes H.digest }
+{}
+
+/// Each block that a list of events has marked became so at one of them, by bytes of that event.
+pub fn run_marks_by_bytes<H: NodeHash>(_hash: H)
+    ensures { RunMarksByBytes H.digest }
+{}
+
+/// Data is sent only to a peer that asked for it, cut from blocks that were read in that event with the
+/// digests of their leaves.
+pub fn step_sends_read_bytes<H: NodeHash>(_hash: H)
+    ensures { StepSendsReadBytes H.digest }
+{}
+
+/// Where all blocks of a file are marked and stand on the device as they were marked, the file there has its
+/// root.
+pub fn complete_has_root<H: NodeHash>(_hash: H)
+    ensures { CompleteHasRoot H.digest }
+{}
+
+/// On each honest device the marked blocks of its file stay right at each event.
+pub fn step_keeps_sound<D: Disk, H: NodeHash>(_disk: &D, _hash: H)
+    ensures { StepKeepsSound D.history D.honest D.faults H.digest }
+{}
+
+/// So they do over a list of events.
+pub fn run_keeps_sound<D: Disk, H: NodeHash>(_disk: &D, _hash: H)
+    ensures { RunKeepsSound D.history D.honest D.faults H.digest }
+{}
+
+/// Where all blocks of a file are marked, the trees are rooted and the marked blocks right on honest devices,
+/// and the file's device is honest, the file stands there with the root of its tree.
+pub fn complete_files_stand<D: Disk, H: NodeHash>(_disk: &D, _hash: H)
+    ensures { CompleteFilesStand D.history D.honest H.digest }
+{}
+
+/// After any list of events from the start of a torrent, whatever peers send and devices answer: where all
+/// blocks of a file are marked and its device is honest, the file that stands there has the torrent's length
+/// and root. So it equals every file of that length and root, or at one place of their trees two different
+/// inputs have one digest.
+pub fn complete_files_are_published<D: Disk, H: NodeHash>(_disk: &D, _hash: H)
+    ensures { CompleteFilesArePublished D.history D.honest D.faults H.digest }
+{}
