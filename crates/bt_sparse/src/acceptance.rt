@@ -82,7 +82,7 @@ impl<H: NodeHash> SparseTree<H> {
             Err(error) => return Err(error),
         };
         let pairs = expansion.pairs.as_slice();
-        // All pages before the first digest, so that want of memory leaves the facts as they were.
+        // All pages before the first digest, so that out of memory leaves the facts as they were.
         if make_pages(self.geometry, &mut self.nodes, pairs).is_err() {
             return Err(ProofError::OutOfMemory);
         }

@@ -25,7 +25,7 @@ pub enum ReadError {
     Damaged,
 }
 
-/// A store is not made, for want of memory. It gives the device back.
+/// Out of memory: no store is made. It gives the device back.
 #[derive(Debug, Drop)]
 pub struct Refused<D> {
     pub disk: D,
