@@ -24,7 +24,7 @@ use Rattle.bt_engine.specs.Devices.{DeviceCalls}
 use Rattle.bt_engine.specs.Blocks.{state_at, tree_of}
 use Rattle.bt_engine.specs.Spans.{IsWholeBlock, spanned_blocks, cut_from}
 use Rattle.bt_engine.specs.Next.{IsPeer}
-use Rattle.bt_engine.specs.Step.{Answer, connected, was_fed, taken, gone, was_rechoked, flushed, Step, Run}
+use Rattle.bt_engine.specs.Step.{Answer, of_connect, of_feed, of_next, of_lost, of_rechoke, of_flush, Step, Run}
 
 -- ---- trees
 
@@ -133,16 +133,16 @@ RunMarksByBytes dig =
 
 -- what an answer sends
 abbrev pub sent_by : Answer → List Sent
-sent_by (connected (Ok joined)) = joined.1.send
-sent_by (connected (Err _)) = []
-sent_by (was_fed _) = []
-sent_by (taken (Ok (Some out))) = out.send
-sent_by (taken (Ok None)) = []
-sent_by (taken (Err _)) = []
-sent_by (gone _) = []
-sent_by (was_rechoked (Some out)) = out.send
-sent_by (was_rechoked None) = []
-sent_by (flushed _) = []
+sent_by (of_connect (Ok joined)) = joined.1.send
+sent_by (of_connect (Err _)) = []
+sent_by (of_feed _) = []
+sent_by (of_next (Ok (Some out))) = out.send
+sent_by (of_next (Ok None)) = []
+sent_by (of_next (Err _)) = []
+sent_by (of_lost _) = []
+sent_by (of_rechoke (Some out)) = out.send
+sent_by (of_rechoke None) = []
+sent_by (of_flush _) = []
 
 -- A peer that we do not choke asked for bytes of a piece in this event. Each block that they lie in was read
 -- in it, whole and with the digest of its leaf, and these are the bytes asked for, cut from the blocks.
