@@ -103,9 +103,10 @@ StepMarksByBytes dig = (old new : EngineState) (event : Event) (calls : DeviceCa
     → (b : BlockId) → state_at new b ≡ Some Marked → state_at old b ≢ Some Marked
     → IsMarkedBy dig old event calls new b
 
--- the block became marked at one of the events of a run
-pub record IsMarkedIn (dig : List ℕ → List ℕ) (first : EngineState) (events : List Event)
-    (calls : List DeviceCalls) (b : BlockId) : Type 0 where
+-- At one of the events of a run this is so of the step: of the engine before it, the event, the calls of
+-- devices and the engine after it.
+pub record IsSoAtOne (dig : List ℕ → List ℕ) (first : EngineState) (events : List Event)
+    (calls : List DeviceCalls) (P : EngineState → Event → DeviceCalls → EngineState → Type 0) : Type 0 where
   pub events_before : List Event
   pub calls_before : List DeviceCalls
   pub answers_before : List Answer
@@ -118,9 +119,14 @@ pub record IsMarkedIn (dig : List ℕ → List ℕ) (first : EngineState) (event
   pub calls_after : List DeviceCalls
   pub run : Run dig first events_before calls_before answers_before old
   pub step : Step dig old event calls_then answer new
-  pub marked : IsMarkedBy dig old event calls_then new b
+  pub is_so : P old event calls_then new
   pub events_are : events ≡ events_before ++ event ∷ events_after
   pub calls_are : calls ≡ calls_before ++ calls_then ∷ calls_after
+
+-- the block became marked at one of the events of a run
+abbrev pub IsMarkedIn : (List ℕ → List ℕ) → EngineState → List Event → List DeviceCalls → BlockId → Type 0
+IsMarkedIn dig first events calls b =
+    IsSoAtOne dig first events calls (λ old event calls_then new. IsMarkedBy dig old event calls_then new b)
 
 abbrev pub RunMarksByBytes : (List ℕ → List ℕ) → Type 0
 RunMarksByBytes dig =
@@ -175,3 +181,14 @@ StepSendsReadBytes dig = (old new : EngineState) (event : Event) (calls : Device
     → (key : PeerKey) (piece begin : ℕ) (bytes : List ℕ)
     → Contains (sent_by answer) (record { peer = key; frame = message_frame (Piece piece begin bytes) })
     → IsServed dig old event calls key piece begin bytes
+
+-- nor by any answer of a run
+abbrev pub RunSendsReadBytes : (List ℕ → List ℕ) → Type 0
+RunSendsReadBytes dig =
+    (old new : EngineState) (events : List Event) (calls : List DeviceCalls) (answers : List Answer)
+    → Run dig old events calls answers new
+    → (answer : Answer) → Contains answers answer
+    → (key : PeerKey) (piece begin : ℕ) (bytes : List ℕ)
+    → Contains (sent_by answer) (record { peer = key; frame = message_frame (Piece piece begin bytes) })
+    → IsSoAtOne dig old events calls
+    (λ old event calls_then new. IsServed dig old event calls_then key piece begin bytes)

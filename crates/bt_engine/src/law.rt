@@ -1,7 +1,7 @@
 ghost use Rattle.bt_engine.specs.Headline.{CompleteFilesArePublished};
 ghost use Rattle.bt_engine.specs.Stored.{CompleteHasRoot};
 ghost use Rattle.bt_engine.specs.Sound.{StepKeepsSound, RunKeepsSound, CompleteFilesStand};
-ghost use Rattle.bt_engine.specs.Law.{StepKeepsRooted, RunKeepsRooted, RootedIsChecked, RunsAreChecked, StepMarksByBytes, RunMarksByBytes, StepSendsReadBytes};
+ghost use Rattle.bt_engine.specs.Law.{StepKeepsRooted, RunKeepsRooted, RootedIsChecked, RunsAreChecked, StepMarksByBytes, RunMarksByBytes, StepSendsReadBytes, RunSendsReadBytes};
 
 use bt_disk::Disk;
 use bt_tree::NodeHash;
@@ -41,6 +41,11 @@ pub fn run_marks_by_bytes<H: NodeHash>(_hash: H)
 /// digests of their leaves.
 pub fn step_sends_read_bytes<H: NodeHash>(_hash: H)
     ensures { StepSendsReadBytes H.digest }
+{}
+
+/// So it is of each answer of a list of events.
+pub fn run_sends_read_bytes<H: NodeHash>(_hash: H)
+    ensures { RunSendsReadBytes H.digest }
 {}
 
 /// Where all blocks of a file are marked and stand on the device as they were marked, the file there has its
