@@ -1,8 +1,8 @@
 -- What follows from the steps of an engine, whatever the peers send and the devices answer.
-use Rattle.std.specs.Prelude.{◌≡◌, ◌≢◌, ℕ, ◌*◌, List, ◌∷◌, ◌++◌, [], false, length, Some, None, Ok, Err, slice_get, Contains}
+use Rattle.std.specs.Prelude.{◌≡◌, ◌≢◌, ℕ, ◌*◌, ◌<◌, List, ◌∷◌, ◌++◌, [], false, length, Some, None, Ok, Err, slice_get, Contains}
 use Rattle.bt_tree.specs.Limits.{full_block_length}
 use Rattle.bt_disk.specs.Calls.{bytes_written}
-use Rattle.bt_sparse.specs.SparseTree.{Facts, held_at, IsRooted, IsChecked}
+use Rattle.bt_sparse.specs.SparseTree.{Facts, blocks_of, held_at, IsRooted, IsChecked}
 use Rattle.bt_store.specs.BlockReads.{given, call_of, IsRight}
 use Rattle.bt_store.specs.declared.block_states.BlockState.TheVariants.{Waiting, Marked}
 use Rattle.bt_book.specs.declared.names.PeerKey.{PeerKey}
@@ -55,6 +55,11 @@ RunsAreChecked dig = (torrent : Metainfo) (first last : EngineState)
     (events : List Event) (calls : List DeviceCalls) (answers : List Answer)
     → IsLawful torrent.piece_length torrent.files → Starts dig torrent first
     → Run dig first events calls answers last → AreRooted dig last × AreChecked dig last
+
+-- Right bytes of a block lie on a checked path too: their digest is that of the leaf.
+abbrev pub RightIsChecked : (List ℕ → List ℕ) → Type 0
+RightIsChecked dig = (k : Facts) (i : ℕ) (bytes : List ℕ) → IsRooted dig k → i < blocks_of k
+    → IsRight dig k i bytes → IsChecked dig k 0 i (dig bytes)
 
 -- ---- marks
 

@@ -1,7 +1,7 @@
 ghost use Rattle.bt_engine.specs.Headline.{CompleteFilesArePublished};
 ghost use Rattle.bt_engine.specs.Stored.{CompleteHasRoot};
 ghost use Rattle.bt_engine.specs.Sound.{StepKeepsSound, RunKeepsSound, CompleteFilesStand};
-ghost use Rattle.bt_engine.specs.Law.{StepKeepsRooted, RunKeepsRooted, RootedIsChecked, RunsAreChecked, StepMarksByBytes, RunMarksByBytes, StepSendsReadBytes, RunSendsReadBytes};
+ghost use Rattle.bt_engine.specs.Law.{StepKeepsRooted, RunKeepsRooted, RootedIsChecked, RunsAreChecked, RightIsChecked, StepMarksByBytes, RunMarksByBytes, StepSendsReadBytes, RunSendsReadBytes};
 
 use bt_disk::Disk;
 use bt_tree::NodeHash;
@@ -24,6 +24,11 @@ pub fn rooted_is_checked<H: NodeHash>(_hash: H)
 /// So it is of every engine that events lead to from the start of a torrent.
 pub fn runs_are_checked<H: NodeHash>(_hash: H)
     ensures { RunsAreChecked H.digest }
+{}
+
+/// Where a tree is rooted, the digest of bytes that are right for a block is checked up to the root.
+pub fn right_is_checked<H: NodeHash>(_hash: H)
+    ensures { RightIsChecked H.digest }
 {}
 
 /// A block becomes marked in two ways only: it came from a peer that was asked for it and was written, or it
