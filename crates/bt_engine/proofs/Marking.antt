@@ -34,7 +34,7 @@ use Rattle.bt_engine.specs.Peers.{StepConnect, joins, full, spent, no_memory as 
 use Rattle.bt_engine.specs.Rechoke.{FollowsEach, StepRechoke, rechokes, no_memory as not_rechoked}
 use Rattle.bt_engine.specs.Flush.{StepFlush, syncs, fails}
 use Rattle.bt_engine.specs.Step.{Answer, Step, Run}
-use Rattle.bt_engine.specs.Law.{IsReadBack, IsMarkedBy, brought, read_back, IsMarkedIn}
+use Rattle.bt_engine.specs.Law.{IsReadBack, IsMarkedBy, brought, read_back, IsSoAtOne, IsMarkedIn}
 use Rattle.bt_engine.proofs.Lists.{set_cases, set_same}
 use Rattle.bt_engine.proofs.Marks.{state_is, file_marked, missing_marks, settle_marks}
 
@@ -240,9 +240,9 @@ pub step_marks : (dig : List ℕ → List ℕ) (s new : EngineState) (e : Event)
 step_marks dig s new e calls a t b m before = elim (step_cases dig b s new e calls a t m) [ inl old ↦ absurd (before old) | inr now ↦ now ]
 
 -- one event further on
-after_step : (dig : List ℕ → List ℕ) (s mid : EngineState) (e : Event) (es : List Event) (c : DeviceCalls) (calls : List DeviceCalls) (a : Answer) (b : BlockId) → Step dig s e c a mid → IsMarkedIn dig mid es calls b
-    → IsMarkedIn dig s (e ∷ es) (c ∷ calls) b
-after_step dig s mid e es c calls a b t i = record {
+pub after_step : (dig : List ℕ → List ℕ) (P : EngineState → Event → DeviceCalls → EngineState → Type 0) (s mid : EngineState) (e : Event) (es : List Event) (c : DeviceCalls) (calls : List DeviceCalls) (a : Answer) → Step dig s e c a mid
+    → IsSoAtOne dig mid es calls P → IsSoAtOne dig s (e ∷ es) (c ∷ calls) P
+after_step dig P s mid e es c calls a t i = record {
   events_before = e ∷ i.events_before;
   calls_before = c ∷ i.calls_before;
   answers_before = a ∷ i.answers_before;
@@ -255,15 +255,15 @@ after_step dig s mid e es c calls a b t i = record {
   calls_after = i.calls_after;
   run = (mid, t, i.run);
   step = i.step;
-  marked = i.marked;
+  is_so = i.is_so;
   events_are = ap (λ xs. e ∷ xs) i.events_are;
   calls_are = ap (λ xs. c ∷ xs) i.calls_are;
 }
 
--- the first event marked the block
-at_first : (dig : List ℕ → List ℕ) (s mid : EngineState) (e : Event) (es : List Event) (c : DeviceCalls) (calls : List DeviceCalls) (a : Answer) (b : BlockId) → Step dig s e c a mid → IsMarkedBy dig s e c mid b
-    → IsMarkedIn dig s (e ∷ es) (c ∷ calls) b
-at_first dig s mid e es c calls a b t by = record {
+-- at the first event
+pub at_first : (dig : List ℕ → List ℕ) (P : EngineState → Event → DeviceCalls → EngineState → Type 0) (s mid : EngineState) (e : Event) (es : List Event) (c : DeviceCalls) (calls : List DeviceCalls) (a : Answer) → Step dig s e c a mid
+    → P s e c mid → IsSoAtOne dig s (e ∷ es) (c ∷ calls) P
+at_first dig P s mid e es c calls a t by = record {
   events_before = [];
   calls_before = [];
   answers_before = [];
@@ -276,7 +276,7 @@ at_first dig s mid e es c calls a b t by = record {
   calls_after = calls;
   run = refl;
   step = t;
-  marked = by;
+  is_so = by;
   events_are = refl;
   calls_are = refl;
 }
@@ -286,8 +286,8 @@ run_cases : (dig : List ℕ → List ℕ) (s new : EngineState) (es : List Event
     → (state_at s b ≡ Some Marked) ⊎ IsMarkedIn dig s es calls b
 run_cases dig s new [] [] [] run b m = inl (subst (λ x. state_at x b ≡ Some Marked) run m)
 run_cases dig s new (e ∷ es) (c ∷ calls) (a ∷ answers) run b m = elim (run_cases dig run.0 new es calls answers run.2 b m) [
-  | inl mid ↦ elim (step_cases dig b s run.0 e c a run.1 mid) [ inl old ↦ inl old | inr now ↦ inr (at_first dig s run.0 e es c calls a b run.1 now) ]
-  | inr more ↦ inr (after_step dig s run.0 e es c calls a b run.1 more)
+  | inl mid ↦ elim (step_cases dig b s run.0 e c a run.1 mid) [ inl old ↦ inl old | inr now ↦ inr (at_first dig (λ old event calls_then new. IsMarkedBy dig old event calls_then new b) s run.0 e es c calls a run.1 now) ]
+  | inr more ↦ inr (after_step dig (λ old event calls_then new. IsMarkedBy dig old event calls_then new b) s run.0 e es c calls a run.1 more)
 ]
 run_cases dig s new [] (c ∷ calls) answers run b m = absurd run
 run_cases dig s new [] [] (a ∷ answers) run b m = absurd run

@@ -1,10 +1,13 @@
 -- Trees stay rooted.
-use Rattle.std.proofs.Common.{◌≡◌, ℕ, ◌-◌, arith, inl, inr, List, [], ◌∷◌, sym, subst}
-use Rattle.bt_sparse.specs.SparseTree.{Facts, height, IsRooted}
+use Rattle.std.proofs.Common.{◌≡◌, ℕ, ◌-◌, arith, inl, inr, List, [], ◌∷◌, sym, subst, ◌<◌, ◌∙◌}
+use Rattle.bt_sparse.specs.SparseTree.{Facts, blocks_of, height, IsRooted, IsChecked}
 use Rattle.bt_sparse.proofs.Joins.{keeps_rooted}
 use Rattle.bt_sparse.proofs.Paths.{held_is_checked}
+use Rattle.bt_sparse.proofs.Values.{value_covers}
+use Rattle.bt_tree.specs.TreeShape.{CoversBlock, real_width}
+use Rattle.bt_tree.proofs.TreeShape.{real_limit}
 use Rattle.bt_hashreq.specs.declared.key.HashKey.{HashKey}
-use Rattle.bt_store.specs.BlockReads.{BlockRead}
+use Rattle.bt_store.specs.BlockReads.{BlockRead, IsRight}
 use Rattle.bt_wire.specs.declared.message.Ask.{Ask}
 use Rattle.bt_wire.specs.declared.message.Message.{Message as Sent}
 use Rattle.bt_wire.specs.declared.message.Message.TheVariants.{KeepAlive, Choke, Unchoke, Interested, NotInterested, Have, Bitfield, Request, Piece, Cancel, HashRequest, Hashes, HashReject}
@@ -142,3 +145,10 @@ pub rooted_checked : (dig : List ℕ → List ℕ) (s : EngineState) → AreRoot
 rooted_checked dig s rooted t k at layer i d held =
     let hung = rooted t k at in
     held_is_checked dig k hung (height k - layer) layer i d (omega (arith, (hung.covers layer i d held).inside.in_height)) held
+
+pub right_checked : (dig : List ℕ → List ℕ) (k : Facts) (i : ℕ) (bytes : List ℕ) → IsRooted dig k → i < blocks_of k → IsRight dig k i bytes → IsChecked dig k 0 i (dig bytes)
+right_checked dig k i bytes rooted lt exact =
+    let real : real_width (blocks_of k) 0 ≡ blocks_of k = omega arith in
+    let wide = real_limit (blocks_of k) 0 (omega arith) in
+    let covers : CoversBlock (blocks_of k) 0 i = record { inside = record { in_height = omega arith; in_width = omega (arith, wide, real, lt) }; real = omega (arith, real, lt) } in
+    held_is_checked dig k rooted (height k - 0) 0 i (dig bytes) (omega arith) (sym (value_covers dig k 0 i covers) ∙ exact.leaf)

@@ -37,8 +37,9 @@ use Rattle.bt_engine.specs.FollowUp.{FollowsUp, interest_sent, RequestsHashes, r
 use Rattle.bt_engine.specs.Next.{IsPeer, TakesEvent, StepNext, no_peer, waits, goes_on, closes, faulty, no_memory}
 use Rattle.bt_engine.specs.Peers.{new_peer, StepConnect, joins, full, spent, no_memory as no_room}
 use Rattle.bt_engine.specs.Rechoke.{FollowsEach, StepRechoke, rechokes, no_memory as not_rechoked, choking_sent, is_served}
-use Rattle.bt_engine.specs.Step.{Answer, connected, taken, was_rechoked, Step}
-use Rattle.bt_engine.specs.Law.{sent_by, IsServed}
+use Rattle.bt_engine.specs.Step.{Answer, of_connect, of_next, of_rechoke, Step, Run}
+use Rattle.bt_engine.specs.Law.{sent_by, IsServed, IsSoAtOne}
+use Rattle.bt_engine.proofs.Marking.{after_step, at_first}
 use Rattle.bt_engine.proofs.Lists.{contains_none, contains_cases, contains_map, contains_flat_map, map_contains}
 
 abbrev is_data : PeerMessage → Bool
@@ -270,30 +271,30 @@ module _ (dig : List ℕ → List ℕ) where
   nothing : (P : PeerKey → ℕ → ℕ → List ℕ → Type 0) (a b : Answer) → a ≡ b → Plain (sent_by b) → Sends P (sent_by a)
   nothing P a b e f = sends_plain P (sent_by a) (plain_is (sent_by a) (sent_by b) (ap sent_by e) f)
 
-  next_sends : (s new : EngineState) (key : PeerKey) (calls : DeviceCalls) (r : _) → StepNext dig s key calls r new → Sends (IsServed dig s (Next key) calls) (sent_by (taken r))
-  next_sends s new key calls r (no_peer x y e z) = nothing _ _ _ (ap (λ x. taken x) e) plain_none
-  next_sends s new key calls r (waits i p x y z e f) = nothing _ _ _ (ap (λ x. taken x) e) plain_none
+  next_sends : (s new : EngineState) (key : PeerKey) (calls : DeviceCalls) (r : _) → StepNext dig s key calls r new → Sends (IsServed dig s (Next key) calls) (sent_by (of_next r))
+  next_sends s new key calls r (no_peer x y e z) = nothing _ _ _ (ap (λ x. of_next x) e) plain_none
+  next_sends s new key calls r (waits i p x y z e f) = nothing _ _ _ (ap (λ x. of_next x) e) plain_none
   next_sends s new key calls r (goes_on i p out x g e) =
-      sends_is _ (sent_by (taken r)) out.send (ap (λ x. sent_by (taken x)) e)
+      sends_is _ (sent_by (of_next r)) out.send (ap (λ x. sent_by (of_next x)) e)
       (sends_is _ out.send _ g.send
       (sends_append _ (g.effect.send ++ haves s g.mid) g.sent
       (sends_append _ g.effect.send (haves s g.mid) (taken_sends s g.mid key i p calls g.effect x g.takes) (sends_plain _ _ (plain_haves s g.mid)))
       (sends_plain _ _ (plain_follows dig _ i g.sent new g.follows))))
-  next_sends s new key calls r (closes i p out x g e) = nothing _ _ _ (ap (λ x. taken x) (e ∙ ap (λ o. Ok (Some o)) g.is)) plain_none
-  next_sends s new key calls r (faulty i p out x g e) = nothing _ _ _ (ap (λ x. taken x) (e ∙ ap (λ o. Ok (Some o)) g.is)) plain_none
-  next_sends s new key calls r (no_memory i p x g e) = nothing _ _ _ (ap (λ x. taken x) e) plain_none
+  next_sends s new key calls r (closes i p out x g e) = nothing _ _ _ (ap (λ x. of_next x) (e ∙ ap (λ o. Ok (Some o)) g.is)) plain_none
+  next_sends s new key calls r (faulty i p out x g e) = nothing _ _ _ (ap (λ x. of_next x) (e ∙ ap (λ o. Ok (Some o)) g.is)) plain_none
+  next_sends s new key calls r (no_memory i p x g e) = nothing _ _ _ (ap (λ x. of_next x) e) plain_none
 
-  connect_sends : (P : PeerKey → ℕ → ℕ → List ℕ → Type 0) (s new : EngineState) (r : _) → StepConnect s r new → Sends P (sent_by (connected r))
-  connect_sends P s new r (joins key bytes x y z w e f) = nothing P _ _ (ap (λ x. connected x) e) (plain_one _ (sent_to (new_peer s key) (Bitfield bytes) ∷ []) refl (plain_one (sent_to (new_peer s key) (Bitfield bytes)) [] refl plain_none))
-  connect_sends P s new r (full x e y) = nothing P _ _ (ap (λ x. connected x) e) plain_none
-  connect_sends P s new r (spent x y e z) = nothing P _ _ (ap (λ x. connected x) e) plain_none
-  connect_sends P s new r (no_room x y e z) = nothing P _ _ (ap (λ x. connected x) e) plain_none
+  connect_sends : (P : PeerKey → ℕ → ℕ → List ℕ → Type 0) (s new : EngineState) (r : _) → StepConnect s r new → Sends P (sent_by (of_connect r))
+  connect_sends P s new r (joins key bytes x y z w e f) = nothing P _ _ (ap (λ x. of_connect x) e) (plain_one _ (sent_to (new_peer s key) (Bitfield bytes) ∷ []) refl (plain_one (sent_to (new_peer s key) (Bitfield bytes)) [] refl plain_none))
+  connect_sends P s new r (full x e y) = nothing P _ _ (ap (λ x. of_connect x) e) plain_none
+  connect_sends P s new r (spent x y e z) = nothing P _ _ (ap (λ x. of_connect x) e) plain_none
+  connect_sends P s new r (no_room x y e z) = nothing P _ _ (ap (λ x. of_connect x) e) plain_none
 
-  rechoke_sends : (P : PeerKey → ℕ → ℕ → List ℕ → Type 0) (s new : EngineState) (r : _) → StepRechoke dig s r new → Sends P (sent_by (was_rechoked r))
+  rechoke_sends : (P : PeerKey → ℕ → ℕ → List ℕ → Type 0) (s new : EngineState) (r : _) → StepRechoke dig s r new → Sends P (sent_by (of_rechoke r))
   rechoke_sends P s new r (rechokes out x e) =
-      nothing P _ _ (ap (λ x. was_rechoked x) (e ∙ ap (λ o. Some o) x.is))
+      nothing P _ _ (ap (λ x. of_rechoke x) (e ∙ ap (λ o. Some o) x.is))
       (plain_append _ x.sent (λ y c. let p = contains_flat_map (λ p. choking_sent p p.am_choking (is_served s p)) s.peers y c in plain_choking p.0 _ _ y p.2) (plain_each dig _ _ x.sent new x.follows))
-  rechoke_sends P s new r (not_rechoked e x) = nothing P _ _ (ap (λ x. was_rechoked x) e) plain_none
+  rechoke_sends P s new r (not_rechoked e x) = nothing P _ _ (ap (λ x. of_rechoke x) e) plain_none
 
   pub step_sends : (s new : EngineState) (e : Event) (calls : DeviceCalls) (a : Answer) → Step dig s e calls a new → Sends (IsServed dig s e calls) (sent_by a)
   step_sends s new Connect calls a t = sends_is _ _ _ (ap sent_by t.1) (connect_sends _ s new t.0 t.3)
@@ -302,3 +303,17 @@ module _ (dig : List ℕ → List ℕ) where
   step_sends s new (Lost key) calls a t = nothing _ a _ t.1 plain_none
   step_sends s new Rechoke calls a t = sends_is _ _ _ (ap sent_by t.1) (rechoke_sends _ s new t.0 t.3)
   step_sends s new Flush calls a t = nothing _ a _ t.1 plain_none
+
+  pub run_sends : (s new : EngineState) (es : List Event) (calls : List DeviceCalls) (answers : List Answer) → Run dig s es calls answers new → (answer : Answer) → Contains answers answer → (key : PeerKey) (piece begin : ℕ) (bytes : List ℕ)
+      → Contains (sent_by answer) (piece_frame key piece begin bytes) → IsSoAtOne dig s es calls (λ old event calls_then new. IsServed dig old event calls_then key piece begin bytes)
+  run_sends s new [] [] [] run answer among key piece begin bytes sent = absurd (contains_none _ among)
+  run_sends s new (e ∷ es) (c ∷ calls) (a ∷ answers) run answer among key piece begin bytes sent = elim (contains_cases a answer answers among) [
+    | inl same ↦ at_first dig (λ old event calls_then new. IsServed dig old event calls_then key piece begin bytes) s run.0 e es c calls a run.1
+        (step_sends s run.0 e c a run.1 key piece begin bytes (subst (λ x. Contains (sent_by x) (piece_frame key piece begin bytes)) (sym same) sent))
+    | inr more ↦ after_step dig (λ old event calls_then new. IsServed dig old event calls_then key piece begin bytes) s run.0 e es c calls a run.1
+        (run_sends run.0 new es calls answers run.2 answer more key piece begin bytes sent)
+  ]
+  run_sends s new [] (c ∷ calls) answers run answer among key piece begin bytes sent = absurd run
+  run_sends s new [] [] (a ∷ answers) run answer among key piece begin bytes sent = absurd run
+  run_sends s new (e ∷ es) [] answers run answer among key piece begin bytes sent = absurd run
+  run_sends s new (e ∷ es) (c ∷ calls) [] run answer among key piece begin bytes sent = absurd run

@@ -1,8 +1,8 @@
 -- What follows from the steps of an engine, whatever the peers send and the devices answer.
-use Rattle.std.specs.Prelude.{◌≡◌, ◌≢◌, ℕ, ◌*◌, List, ◌∷◌, ◌++◌, [], false, length, Some, None, Ok, Err, slice_get, Contains}
+use Rattle.std.specs.Prelude.{◌≡◌, ◌≢◌, ℕ, ◌*◌, ◌<◌, List, ◌∷◌, ◌++◌, [], false, length, Some, None, Ok, Err, slice_get, Contains}
 use Rattle.bt_tree.specs.Limits.{full_block_length}
 use Rattle.bt_disk.specs.Calls.{bytes_written}
-use Rattle.bt_sparse.specs.SparseTree.{Facts, held_at, IsRooted, IsChecked}
+use Rattle.bt_sparse.specs.SparseTree.{Facts, blocks_of, held_at, IsRooted, IsChecked}
 use Rattle.bt_store.specs.BlockReads.{given, call_of, IsRight}
 use Rattle.bt_store.specs.declared.block_states.BlockState.TheVariants.{Waiting, Marked}
 use Rattle.bt_book.specs.declared.names.PeerKey.{PeerKey}
@@ -24,7 +24,7 @@ use Rattle.bt_engine.specs.Devices.{DeviceCalls}
 use Rattle.bt_engine.specs.Blocks.{state_at, tree_of}
 use Rattle.bt_engine.specs.Spans.{IsWholeBlock, spanned_blocks, cut_from}
 use Rattle.bt_engine.specs.Next.{IsPeer}
-use Rattle.bt_engine.specs.Step.{Answer, connected, was_fed, taken, gone, was_rechoked, flushed, Step, Run}
+use Rattle.bt_engine.specs.Step.{Answer, of_connect, of_feed, of_next, of_lost, of_rechoke, of_flush, Step, Run}
 
 -- ---- trees
 
@@ -55,6 +55,11 @@ RunsAreChecked dig = (torrent : Metainfo) (first last : EngineState)
     (events : List Event) (calls : List DeviceCalls) (answers : List Answer)
     → IsLawful torrent.piece_length torrent.files → Starts dig torrent first
     → Run dig first events calls answers last → AreRooted dig last × AreChecked dig last
+
+-- Right bytes of a block lie on a checked path too: their digest is that of the leaf.
+abbrev pub RightIsChecked : (List ℕ → List ℕ) → Type 0
+RightIsChecked dig = (k : Facts) (i : ℕ) (bytes : List ℕ) → IsRooted dig k → i < blocks_of k
+    → IsRight dig k i bytes → IsChecked dig k 0 i (dig bytes)
 
 -- ---- marks
 
@@ -103,9 +108,10 @@ StepMarksByBytes dig = (old new : EngineState) (event : Event) (calls : DeviceCa
     → (b : BlockId) → state_at new b ≡ Some Marked → state_at old b ≢ Some Marked
     → IsMarkedBy dig old event calls new b
 
--- the block became marked at one of the events of a run
-pub record IsMarkedIn (dig : List ℕ → List ℕ) (first : EngineState) (events : List Event)
-    (calls : List DeviceCalls) (b : BlockId) : Type 0 where
+-- At one of the events of a run this is so of the step: of the engine before it, the event, the calls of
+-- devices and the engine after it.
+pub record IsSoAtOne (dig : List ℕ → List ℕ) (first : EngineState) (events : List Event)
+    (calls : List DeviceCalls) (P : EngineState → Event → DeviceCalls → EngineState → Type 0) : Type 0 where
   pub events_before : List Event
   pub calls_before : List DeviceCalls
   pub answers_before : List Answer
@@ -118,9 +124,14 @@ pub record IsMarkedIn (dig : List ℕ → List ℕ) (first : EngineState) (event
   pub calls_after : List DeviceCalls
   pub run : Run dig first events_before calls_before answers_before old
   pub step : Step dig old event calls_then answer new
-  pub marked : IsMarkedBy dig old event calls_then new b
+  pub is_so : P old event calls_then new
   pub events_are : events ≡ events_before ++ event ∷ events_after
   pub calls_are : calls ≡ calls_before ++ calls_then ∷ calls_after
+
+-- the block became marked at one of the events of a run
+abbrev pub IsMarkedIn : (List ℕ → List ℕ) → EngineState → List Event → List DeviceCalls → BlockId → Type 0
+IsMarkedIn dig first events calls b =
+    IsSoAtOne dig first events calls (λ old event calls_then new. IsMarkedBy dig old event calls_then new b)
 
 abbrev pub RunMarksByBytes : (List ℕ → List ℕ) → Type 0
 RunMarksByBytes dig =
@@ -133,16 +144,16 @@ RunMarksByBytes dig =
 
 -- what an answer sends
 abbrev pub sent_by : Answer → List Sent
-sent_by (connected (Ok joined)) = joined.1.send
-sent_by (connected (Err _)) = []
-sent_by (was_fed _) = []
-sent_by (taken (Ok (Some out))) = out.send
-sent_by (taken (Ok None)) = []
-sent_by (taken (Err _)) = []
-sent_by (gone _) = []
-sent_by (was_rechoked (Some out)) = out.send
-sent_by (was_rechoked None) = []
-sent_by (flushed _) = []
+sent_by (of_connect (Ok joined)) = joined.1.send
+sent_by (of_connect (Err _)) = []
+sent_by (of_feed _) = []
+sent_by (of_next (Ok (Some out))) = out.send
+sent_by (of_next (Ok None)) = []
+sent_by (of_next (Err _)) = []
+sent_by (of_lost _) = []
+sent_by (of_rechoke (Some out)) = out.send
+sent_by (of_rechoke None) = []
+sent_by (of_flush _) = []
 
 -- A peer that we do not choke asked for bytes of a piece in this event. Each block that they lie in was read
 -- in it, whole and with the digest of its leaf, and these are the bytes asked for, cut from the blocks.
@@ -175,3 +186,14 @@ StepSendsReadBytes dig = (old new : EngineState) (event : Event) (calls : Device
     → (key : PeerKey) (piece begin : ℕ) (bytes : List ℕ)
     → Contains (sent_by answer) (record { peer = key; frame = message_frame (Piece piece begin bytes) })
     → IsServed dig old event calls key piece begin bytes
+
+-- nor by any answer of a run
+abbrev pub RunSendsReadBytes : (List ℕ → List ℕ) → Type 0
+RunSendsReadBytes dig =
+    (old new : EngineState) (events : List Event) (calls : List DeviceCalls) (answers : List Answer)
+    → Run dig old events calls answers new
+    → (answer : Answer) → Contains answers answer
+    → (key : PeerKey) (piece begin : ℕ) (bytes : List ℕ)
+    → Contains (sent_by answer) (record { peer = key; frame = message_frame (Piece piece begin bytes) })
+    → IsSoAtOne dig old events calls
+    (λ old event calls_then new. IsServed dig old event calls_then key piece begin bytes)

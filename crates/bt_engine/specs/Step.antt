@@ -16,28 +16,28 @@ use Rattle.bt_engine.specs.Flush.{StepFlush}
 
 -- what an event answers
 pub data Answer : Type 0 where
-  connected : Result (PeerKey × Output) ConnectError → Answer
-  was_fed : Result (Unit {0}) EngineError → Answer
-  taken : Result (Option Output) EngineError → Answer
-  gone : Result (Unit {0}) EngineError → Answer
-  was_rechoked : Option Output → Answer
-  flushed : Result (Unit {0}) FlushError → Answer
+  of_connect : Result (PeerKey × Output) ConnectError → Answer
+  of_feed : Result (Unit {0}) EngineError → Answer
+  of_next : Result (Option Output) EngineError → Answer
+  of_lost : Result (Unit {0}) EngineError → Answer
+  of_rechoke : Option Output → Answer
+  of_flush : Result (Unit {0}) FlushError → Answer
 
 -- From the old engine an event leads to the new one, with these calls of devices and this answer.
 abbrev pub Step : (List ℕ → List ℕ) → EngineState → Event → DeviceCalls → Answer → EngineState → Type 0
 Step dig old Connect calls answer new =
-    (r : Result (PeerKey × Output) ConnectError) × (answer ≡ connected r) × (calls ≡ [])
+    (r : Result (PeerKey × Output) ConnectError) × (answer ≡ of_connect r) × (calls ≡ [])
     × StepConnect old r new
 Step dig old (Feed key bytes) calls answer new =
-    (r : Result (Unit {0}) EngineError) × (answer ≡ was_fed r) × (calls ≡ []) × StepFeed old key bytes r new
+    (r : Result (Unit {0}) EngineError) × (answer ≡ of_feed r) × (calls ≡ []) × StepFeed old key bytes r new
 Step dig old (Next key) calls answer new =
-    (r : Result (Option Output) EngineError) × (answer ≡ taken r) × StepNext dig old key calls r new
+    (r : Result (Option Output) EngineError) × (answer ≡ of_next r) × StepNext dig old key calls r new
 Step dig old (Lost key) calls answer new =
-    (r : Result (Unit {0}) EngineError) × (answer ≡ gone r) × (calls ≡ []) × StepLost old key r new
+    (r : Result (Unit {0}) EngineError) × (answer ≡ of_lost r) × (calls ≡ []) × StepLost old key r new
 Step dig old Rechoke calls answer new =
-    (r : Option Output) × (answer ≡ was_rechoked r) × (calls ≡ []) × StepRechoke dig old r new
+    (r : Option Output) × (answer ≡ of_rechoke r) × (calls ≡ []) × StepRechoke dig old r new
 Step dig old Flush calls answer new =
-    (r : Result (Unit {0}) FlushError) × (answer ≡ flushed r) × StepFlush old calls r new
+    (r : Result (Unit {0}) FlushError) × (answer ≡ of_flush r) × StepFlush old calls r new
 
 -- A list of events, one step after the other, each with its own calls of devices and its own answer.
 abbrev pub Run : (List ℕ → List ℕ) → EngineState → List Event → List DeviceCalls → List Answer → EngineState

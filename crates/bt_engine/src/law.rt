@@ -1,7 +1,7 @@
 ghost use Rattle.bt_engine.specs.Headline.{CompleteFilesArePublished};
 ghost use Rattle.bt_engine.specs.Stored.{CompleteHasRoot};
 ghost use Rattle.bt_engine.specs.Sound.{StepKeepsSound, RunKeepsSound, CompleteFilesStand};
-ghost use Rattle.bt_engine.specs.Law.{StepKeepsRooted, RunKeepsRooted, RootedIsChecked, RunsAreChecked, StepMarksByBytes, RunMarksByBytes, StepSendsReadBytes};
+ghost use Rattle.bt_engine.specs.Law.{StepKeepsRooted, RunKeepsRooted, RootedIsChecked, RunsAreChecked, RightIsChecked, StepMarksByBytes, RunMarksByBytes, StepSendsReadBytes, RunSendsReadBytes};
 
 use bt_disk::Disk;
 use bt_tree::NodeHash;
@@ -26,6 +26,11 @@ pub fn runs_are_checked<H: NodeHash>(_hash: H)
     ensures { RunsAreChecked H.digest }
 {}
 
+/// Where a tree is rooted, the digest of bytes that are right for a block is checked up to the root.
+pub fn right_is_checked<H: NodeHash>(_hash: H)
+    ensures { RightIsChecked H.digest }
+{}
+
 /// A block becomes marked in two ways only: it came from a peer that was asked for it and was written, or it
 /// waited and was read back. In each its digest is its leaf, and its bytes are of this event.
 pub fn step_marks_by_bytes<H: NodeHash>(_hash: H)
@@ -41,6 +46,11 @@ pub fn run_marks_by_bytes<H: NodeHash>(_hash: H)
 /// digests of their leaves.
 pub fn step_sends_read_bytes<H: NodeHash>(_hash: H)
     ensures { StepSendsReadBytes H.digest }
+{}
+
+/// So it is of each answer of a list of events.
+pub fn run_sends_read_bytes<H: NodeHash>(_hash: H)
+    ensures { RunSendsReadBytes H.digest }
 {}
 
 /// Where all blocks of a file are marked and stand on the device as they were marked, the file there has its
