@@ -70,7 +70,7 @@ impl Cutter {
     /// Takes the first event from the unread bytes; None where no event is whole and no fault shows.
     ///
     /// Errors: `BadProtocol`, `TooLong` or `BadLength` as soon as the bytes show that fault, and `Failed`
-    /// ever after; `OutOfMemory`, which leaves the cutter as it was.
+    /// ever after; `OutOfMemory` where an event is whole, which leaves the cutter as it was.
     pub fn next(&mut self) -> Result<Option<WireEvent>, WireError>
         ensures answer { IfOk result (λ found. IsAnswer self.old found self.new) }
         ensures refused { IfErr result (λ error. IsRefusal self.old error self.new) }
