@@ -145,6 +145,7 @@ impl<D: Disk + Drop> Disk for FaultDisk<D> {
         // by its settings
         ensures fails { OnTrue (fails_next self.old) (IsErr result × (self.new ≡ after_failure self.old)) }
         ensures passes { OnFalse (fails_next self.old) ((given : List ℕ)
+            × (length given ≡ length out.new)
             × PassesOn D.history D.honest D.faults self.old (read_call at given result) self.new
             × IfOk result (λ count.
             take count out.new ≡ flipped self.old.flipping (next_call self.old) at (take count given))) }
