@@ -117,3 +117,11 @@ Spares i (write_fault at bytes) = (i < at) ⊎ (at + length bytes ≤ i)
 Spares i (length_set len) = i < len
 Spares i (resize_fault len) = i < len
 Spares i _ = ⊤
+
+-- the call goes no further than n bytes: it is no write that ends past them, and sets no greater length
+abbrev pub EndsWithin : ℕ → Call → Type 0
+EndsWithin n (bytes_written at bytes) = at + length bytes ≤ n
+EndsWithin n (write_fault at bytes) = at + length bytes ≤ n
+EndsWithin n (length_set len) = len ≤ n
+EndsWithin n (resize_fault len) = len ≤ n
+EndsWithin n _ = ⊤
