@@ -6,7 +6,6 @@ mod fault_disk;
 mod file_disk;
 mod handle;
 mod law;
-mod lent_disk;
 mod loss;
 mod medium;
 mod memory_disk;
