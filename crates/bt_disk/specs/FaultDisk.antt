@@ -64,7 +64,7 @@ flipped (Some flip) number at bytes =
     then slice_set bytes (flip.1 - at) (bit_xor (slice_index bytes (flip.1 - at)) 1)
     else bytes
 
--- A read was passed on: the device inside was asked for as many bytes, and those that it gave come but for the
+-- A read was passed on: the device inside was asked for as many bytes, and what it gave comes but for the
 -- flip.
 pub record PassesRead
     {D E : Type 0} (history : D → History) (honest : D → Type 0) (faults : D → ℕ)

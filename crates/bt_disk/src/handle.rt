@@ -103,7 +103,8 @@ pub(crate) fn read_handle<F: Read + Seek + OpenFile>(
     }
 }
 
-/// Reads bytes from byte `at` on until `out` is full or the file ends, and says how many came.
+/// Reads bytes from byte `at` on until `out` is full or the file ends, and says how many came: none from the
+/// end on, also where the system can't place such a read.
 pub(crate) fn read_file<F: Read + Seek + OpenFile>(
     file: &mut F,
     at: u64,
