@@ -105,7 +105,8 @@ impl Disk for MemoryDisk {
         ensures counted { self.new.failed ≡ count_after self.old.failed result }
         ensures as_honest { ⊤ ↔ ⊤ }
         ensures answered { ⊤
-            → IsAnswered (history_of self.old.kept) (write_call at bytes.now result) (history_of self.new.kept) }
+            → IsAnswered
+            (history_of self.old.kept) (write_call at bytes.now result) (history_of self.new.kept) }
     {
         if bytes.is_empty() {
             return Ok(());
