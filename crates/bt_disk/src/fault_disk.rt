@@ -1,9 +1,7 @@
 //! A device that fails where it is told to.
-ghost use Rattle.std.specs.Prelude.{◌≡◌, ◌+◌, ◌-◌, ◌^◌, ◌<◌, ◌≤◌, ◌↔◌, ℕ, List, length, take, nat_lt, if◌then◌else◌, None, IsErr, IfOk};
+ghost use Rattle.std.specs.Prelude.{◌≡◌, ◌-◌, ◌^◌, ◌<◌, nat_lt, if◌then◌else◌, None};
 ghost use Rattle.std.specs.Bool.{OnTrue, OnFalse};
-ghost use Rattle.bt_disk.specs.Limits.{count_after};
-ghost use Rattle.bt_disk.specs.Calls.{IsAnswered, len_call, read_call, write_call, set_len_call, sync_call};
-ghost use Rattle.bt_disk.specs.FaultDisk.{new_fault_disk, next_call, fails_next, after_failure, PassesOn, PassesRead, flipped};
+ghost use Rattle.bt_disk.specs.FaultDisk.{new_fault_disk, next_call, fails_next, after_failure, flipped};
 
 use crate::disk::{DeviceFault, Disk};
 use std::marker::Model;
@@ -109,11 +107,11 @@ impl<D: Disk + Drop> FaultDisk<D> {
 }
 
 impl<D: Disk + Drop> Disk for FaultDisk<D> {
-    ghost use Rattle.std.specs.Prelude.{◌≡◌, ◌↔◌, ◌≤◌, ℕ, List, length, take, IsErr, IfOk};
+    ghost use Rattle.std.specs.Prelude.{◌≡◌, ◌↔◌, ◌≤◌, length, IsErr, IfOk};
     ghost use Rattle.std.specs.Bool.{OnTrue, OnFalse};
     ghost use Rattle.bt_disk.specs.Limits.{count_after};
     ghost use Rattle.bt_disk.specs.Calls.{IsAnswered, len_call, read_call, write_call, set_len_call, sync_call};
-    ghost use Rattle.bt_disk.specs.FaultDisk.{fault_count, IsHonest, next_call, fails_next, after_failure, PassesOn, PassesRead, flipped};
+    ghost use Rattle.bt_disk.specs.FaultDisk.{fault_count, IsHonest, fails_next, after_failure, PassesOn, PassesRead};
 
     ghost history = { λ d. D.history d.inner };
 

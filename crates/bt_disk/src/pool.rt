@@ -54,8 +54,7 @@ impl<R: Files + Drop> HandlePool<R> {
 
     /// A file that is read, as [`FileDisk::reading`](crate::FileDisk::reading) has it.
     ///
-    /// Errors: also where the pool can make no more devices, of which it counts up to 2^64 - 1 and, at one
-    /// time, as many as an `Rc` counts.
+    /// Errors: also where no number is left for a device, or no count of the `Rc` that they share.
     pub fn reading(&mut self, path: String) -> Result<PooledDisk<R>, DeviceFault>
         ensures failed { IfOk result (λ disk. disk.failed ≡ 0) }
         ensures access { IfOk result (λ disk. disk.access ≢ writing) }
@@ -74,7 +73,7 @@ impl<R: Files + Drop> HandlePool<R> {
 
     /// A file that is read and written, as [`FileDisk::writing`](crate::FileDisk::writing) has it.
     ///
-    /// Errors: also where the pool can make no more devices, as in [`HandlePool::reading`].
+    /// Errors: also where no number is left for a device, or no count of the `Rc` that they share.
     pub fn writing(&mut self, path: String) -> Result<PooledDisk<R>, DeviceFault>
         ensures device { IfOk result (λ disk.
             disk ≡ record { number = self.new.made; access = writing; failed = 0 }) }
