@@ -1,7 +1,7 @@
 -- A set of numbers by its words and its groups.
 use Rattle.std.proofs.Common.{◌≡◌, ◌≢◌, ℕ, ◌+◌, ◌*◌, ◌/◌, ◌<◌, ◌≤◌, inl, inr, Bool, true, false, eqb, cond, List, length, set, refl, sym, ap, ◌∙◌, subst, arith, Option, Some, None, IfSome, IfNone, is_some}
 use Rattle.std.proofs.lemmas.Bool.{cases_lt, cases_eq, cases_Bool, eq-eqb, ne_eqb, true≢false}
-use Rattle.bt_book.specs.BitSet.{IsNext, HasNoneFrom}
+use Rattle.bt_book.specs.BitSet.{IsNext, HasNoneFrom, HasNoneInGroup}
 use Rattle.bt_book.specs.BitSetSteps.{has_bit, bits_of, IsNextBit, HasNoBit, HasNoBitInGroup, IsSound}
 use Rattle.bt_book.proofs.Words.{has_any, bits_length}
 
@@ -64,6 +64,13 @@ module _ (count : ℕ) (words groups : List ℕ) (sound : IsSound count words gr
       | inr other ↦ there groups new_groups (k / 4096) (i / 4096) false grouped other ∙ sound.grouped i set
     ];
   }
+
+  -- where no bit of a group is 1, no number of it is a member
+  pub none_in_group : (k : ℕ) → HasNoBitInGroup words (4096 * (k / 4096)) → HasNoneInGroup (bits_of count words) k
+  none_in_group k none j same =
+      let group : 4096 * (k / 4096) / 4096 ≡ k / 4096 = omega arith in
+      let below : j < 4096 * (4096 * (k / 4096) / 4096 + 1) = rw group (omega arith) in
+      has_any count words groups j sound ∙ none j (omega arith) below
 
   -- ---- the next member
   pub next_is : (from i : ℕ) → IsNextBit words from i → IsNext (bits_of count words) from i

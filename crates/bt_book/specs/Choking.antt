@@ -1,5 +1,5 @@
--- Whom to serve: three interested peers that sent most (BEP 3), and one more in turn. Who they are is said by
--- counting, for each peer, those that come before it.
+-- Whom to serve: the three interested peers with most payload bytes, to and fro, and one more in turn (BEP 3's
+-- regular and optimistic unchokes). Who they are is said by counting, for each peer, those that come before it.
 use Rattle.std.specs.Prelude.{◌≡◌, ◌≢◌, ℕ, ◌%◌, ◌<◌, ◌==◌, nat_lt, Bool, true, ◌&&◌, ◌||◌, not, List, Contains, AllPairs, count_by}
 use Rattle.bt_book.specs.declared.names.PeerKey.{PeerKey}
 use Rattle.bt_book.specs.declared.choking.Standing.{Standing}
@@ -8,7 +8,7 @@ use Rattle.bt_book.specs.declared.choking.Standing.{Standing}
 abbrev pub HaveOwnKeys : List Standing → Type 0
 HaveOwnKeys standings = AllPairs (λ s t. s.peer.0 ≢ t.peer.0) standings
 
--- a comes before b: it sent more, or as much with a smaller key
+-- a comes before b: it has more payload bytes, or as many and a smaller key
 abbrev pub stands_before : Standing → Standing → Bool
 stands_before a b = nat_lt b.bytes a.bytes || (a.bytes == b.bytes && nat_lt a.peer.0 b.peer.0)
 

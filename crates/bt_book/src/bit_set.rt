@@ -1,5 +1,6 @@
 ghost use Rattle.std.specs.Prelude.{◌≡◌, ℕ, ◌+◌, ◌*◌, ◌/◌, ◌^◌, ◌<◌, ◌≤◌, ◌==◌, if◌then◌else◌, true, false, length, replicate, slice_index_or, slice_set, IfSome, IfNone, IfOk};
-ghost use Rattle.bt_book.specs.BitSet.{IsNext, HasNoneFrom};
+ghost use Rattle.std.specs.Bool.{OnTrue};
+ghost use Rattle.bt_book.specs.BitSet.{IsNext, HasNoneFrom, HasNoneInGroup};
 ghost use Rattle.bt_book.specs.BitSetSteps.{has_bit, IsNextBit, HasNoBit, HasNoBitInGroup, IsNextInWord, HasNoBitInWord};
 
 use std::alloc::{AllocError, Global};
@@ -71,15 +72,19 @@ impl BitSet {
         set_bit(&mut self.groups, number / GROUP);
     }
 
-    pub fn remove(&mut self, number: usize)
+    /// Takes the number out, and says whether no member of its group is left.
+    pub fn remove(&mut self, number: usize) -> bool
         requires { number < length self.old }
-        ensures { self.new ≡ slice_set self.old number false }
+        ensures now { self.new ≡ slice_set self.old number false }
+        ensures emptied { OnTrue result (HasNoneInGroup self.new number) }
     {
         clear_bit(&mut self.words, number);
         let group = number / GROUP;
-        if next_in_group(&self.words, GROUP * group).is_none() {
-            clear_bit(&mut self.groups, group);
+        if next_in_group(&self.words, GROUP * group).is_some() {
+            return false;
         }
+        clear_bit(&mut self.groups, group);
+        true
     }
 
     /// The least member that is no less than `from`.

@@ -68,8 +68,7 @@ impl BlockSet {
         ensures { self.new ≡ with_block self.old block false }
     {
         let file = &mut self.files[block.file as usize];
-        file.remove(block.block as usize);
-        if file.next(0).is_none() {
+        if file.remove(block.block as usize) && file.next(0).is_none() {
             self.filled.remove(block.file as usize);
         }
     }

@@ -171,6 +171,7 @@ impl Book {
     pub fn keeps_laws(&self)
         ensures { IsBook self.now }
     {
+        // A proof knows what holds of a book only from a step that looks at its fields.
         let _ = &self.peers;
     }
 }

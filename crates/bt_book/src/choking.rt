@@ -12,11 +12,11 @@ pub struct Standing {
     pub peer: PeerKey,
     /// Whether it said that it wants pieces that the store has (BEP 3).
     pub interested: bool,
-    /// How many bytes it sent since the store last decided.
+    /// How many payload bytes went between it and the store, both ways, since the last choice.
     pub bytes: u64,
 }
 
-/// The peers to serve, in the order of their keys: the three interested ones that sent most bytes, of two
+/// The peers to serve, in the order of their keys: the three interested ones with most payload bytes, of two
 /// with the same bytes the one with the smaller key first, and one more of the interested ones, in turn: of
 /// the others, in the order of their keys, the one at `turn` modulo their count (the optimistic unchoke of
 /// BEP 3, by turns).
@@ -87,7 +87,7 @@ fn others_below(standings: &[Standing], tops: &[PeerKey], standing: &Standing) -
         .count()
 }
 
-/// Whether `a` comes before `b`: it sent more, or as much with a smaller key.
+/// Whether `a` comes before `b`: it has more payload bytes, or as many and a smaller key.
 fn stands_before(a: &Standing, b: &Standing) -> bool
     ensures { result ≡ stands_before a.now b.now }
 {

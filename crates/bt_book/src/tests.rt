@@ -339,7 +339,7 @@ fn few_interested(rt: HostRuntime) {
     );
 }
 
-/// Of 64 peers those with the keys 61, 62 and 63 sent most; 61 are left, and 2^64 - 1 is 15 modulo 61.
+/// Of 64 peers those with the keys 61, 62 and 63 have most bytes; 61 are left, and 2^64 - 1 is 15 modulo 61.
 #[test]
 fn sixty_four(rt: HostRuntime) -> Result<(), Fail> {
     let mut all = Vec::new(rt.alloc());

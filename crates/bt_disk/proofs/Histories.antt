@@ -1,12 +1,12 @@
 -- What several calls leave in the images of a crash, within them too.
 use Rattle.std.proofs.Common.{◌≡◌, ℕ, zero, suc, ◌≤◌, ◌⊎◌, inl, inr, List, [], ◌∷◌, length, refl, sym, ap, ◌∙◌, subst, arith}
-use Rattle.std.specs.Prelude.{All}
-use Rattle.bt_disk.specs.State.{State, IsImage, IsKept}
-use Rattle.bt_disk.specs.History.{History, then, LeftBefore, IsKeptSince}
-use Rattle.bt_disk.specs.Calls.{Call, bytes_written, write_fault, length_set, resize_fault, sync_made, sync_fault, length_given, length_fault, bytes_given, read_fault, IsAnswered, IsRead, Spares}
-use Rattle.bt_disk.specs.ReadsImage.{HasLength, has_length-call, has_length-synced}
-use Rattle.bt_disk.specs.Laws.{SyncKeepsAll, ReadsChangeNothing, CallsKeepBytes, KeptFromNow}
-use Rattle.bt_disk.proofs.Images.{call_reaches, synced_image}
+use Rattle.std.specs.Prelude.{All, Some, slice_get}
+use Rattle.bt_disk.specs.State.{State, IsImage, IsKept, IsWithin, resized}
+use Rattle.bt_disk.specs.History.{History, then, moment_of, LeftBefore, LeftSince, IsKeptSince, IsWithinSince}
+use Rattle.bt_disk.specs.Calls.{Call, bytes_written, write_fault, length_set, resize_fault, sync_made, sync_fault, length_given, length_fault, bytes_given, read_fault, IsAnswered, IsRead, Spares, EndsWithin}
+use Rattle.bt_disk.specs.ReadsImage.{HasLength, has_length-call, has_length-synced, length-resized}
+use Rattle.bt_disk.specs.Laws.{SyncKeepsAll, ReadsChangeNothing, CallsKeepBytes, KeptFromNow, CallsKeepLengths, WithinFromNow}
+use Rattle.bt_disk.proofs.Images.{call_reaches, synced_image, resized_below}
 
 pub sync_keeps_all : SyncKeepsAll
 sync_keeps_all old new image answered left =
@@ -42,9 +42,17 @@ before_none [] t image le left = left
 before_none (s ∷ past) t image le (inl at) = absurd (omega (arith, at.0))
 before_none (s ∷ past) t image le (inr left) = before_none past t image (omega arith) left
 
+-- what holds of every image now, holds of every image since now
+from_now : (P : List ℕ → Type 0) (h : History) → ((image : List ℕ) → IsImage h.now image → P image)
+    → (image : List ℕ) → LeftSince h (moment_of h) image → P image
+from_now P h now image (inl left) = now image left
+from_now P h now image (inr before) = absurd (before_none h.past (length h.past) image (omega arith) before)
+
 pub kept_from_now : KeptFromNow
-kept_from_now h i byte kept image (inl left) = kept image left
-kept_from_now h i byte kept image (inr before) = absurd (before_none h.past (length h.past) image (omega arith) before)
+kept_from_now h i byte = from_now (λ image. slice_get image i ≡ Some byte) h
+
+pub within_from_now : WithinFromNow
+within_from_now h n = from_now (λ image. length image ≤ n) h
 
 -- ---- what a read gives stays an image
 
@@ -101,22 +109,75 @@ kept_after old new call i byte reads answered spare kept image left =
     let earlier = call_reaches old new call image reads answered left in
     earlier.1.spared i byte spare (kept earlier.0 earlier.1.possible)
 
-kept_then : (old : History) (s : State) (t i byte : ℕ) → IsKeptSince old t i byte → IsKept s i byte → IsKeptSince (then old s) t i byte
-kept_then old s t i byte since kept image (inl left) = kept image left
-kept_then old s t i byte since kept image (inr (inl now)) = since image (inl now.1)
-kept_then old s t i byte since kept image (inr (inr before)) = since image (inr before)
+-- what holds of every image since a moment, and of every image now, goes on to hold since then
+
+images_then : (P : List ℕ → Type 0) (old : History) (s : State) (t : ℕ) → ((image : List ℕ) → LeftSince old t image → P image)
+    → ((image : List ℕ) → IsImage s image → P image) → (image : List ℕ) → LeftSince (then old s) t image → P image
+images_then P old s t since now image (inl left) = now image left
+images_then P old s t since now image (inr (inl left)) = since image (inl left.1)
+images_then P old s t since now image (inr (inr before)) = since image (inr before)
+
+images_after : (P : List ℕ → Type 0) (old new : History) (call : Call) (t : ℕ) → IsAnswered old call new
+    → ((image : List ℕ) → LeftSince old t image → P image) → ((image : List ℕ) → IsImage new.now image → P image)
+    → (image : List ℕ) → LeftSince new t image → P image
+images_after P old new call t answered since now = elim (step_of old new call answered) [
+  | inl same ↦ subst (λ h. (image : List ℕ) → LeftSince h t image → P image) (sym same) since
+  | inr more ↦ subst (λ h. (image : List ℕ) → LeftSince h t image → P image) (sym more) (images_then P old new.now t since now)
+]
 
 kept_since_after : (old new : History) (call : Call) (t i byte : ℕ) → IsImage old.now old.now.bytes → IsAnswered old call new → Spares i call
     → IsKeptSince old t i byte → IsKeptSince new t i byte
-kept_since_after old new call t i byte reads answered spare since = elim (step_of old new call answered) [
-  | inl same ↦ subst (λ h. IsKeptSince h t i byte) (sym same) since
-  | inr more ↦
-      let now : IsKept new.now i byte = kept_after old new call i byte reads answered spare (λ image left. since image (inl left)) in
-      subst (λ h. IsKeptSince h t i byte) (sym more) (kept_then old new.now t i byte since now)
-]
+kept_since_after old new call t i byte reads answered spare since =
+    images_after (λ image. slice_get image i ≡ Some byte) old new call t answered since
+    (kept_after old new call i byte reads answered spare (λ image left. since image (inl left)))
 
 pub calls_keep_bytes : CallsKeepBytes
 calls_keep_bytes old new [] t i byte reads answered spare since = subst (λ h. IsKeptSince h t i byte) (sym answered) since
 calls_keep_bytes old new (call ∷ calls) t i byte reads answered spare since =
     calls_keep_bytes answered.0 new calls t i byte (reads_after old answered.0 call reads answered.1) answered.2
     (all_rest (Spares i) call calls spare) (kept_since_after old answered.0 call t i byte reads answered.1 (spare zero call (omega arith)) since)
+
+-- ---- lengths
+
+-- an image is as long as any length since the last sync
+greatest_within : (s : State) (n : ℕ) → IsImage s s.bytes → IsWithin s n → s.greatest_length ≤ n
+greatest_within s n reads within =
+    let image = resized s.bytes s.greatest_length in
+    let size = length-resized s.bytes s.greatest_length in
+    let possible : IsImage s image = record {
+      no_shorter = omega (arith, size, reads.no_shorter, reads.no_longer);
+      no_longer = omega (arith, size);
+      kept = λ i below outside.
+          resized_below s.bytes s.greatest_length i (omega (arith, below, reads.no_shorter)) (omega (arith, below, reads.no_shorter, reads.no_longer));
+    } in
+    omega (arith, size, within image possible)
+
+greatest_after : (old new : History) (call : Call) (n : ℕ) → IsImage old.now old.now.bytes → IsAnswered old call new → EndsWithin n call
+    → old.now.greatest_length ≤ n → new.now.greatest_length ≤ n
+greatest_after old new (length_given len) n reads answered ends le = rw answered.1 le
+greatest_after old new length_fault n reads answered ends le = rw answered le
+greatest_after old new (bytes_given at wanted bytes) n reads answered ends le = rw answered.1 le
+greatest_after old new (read_fault at wanted) n reads answered ends le = rw answered le
+greatest_after old new (bytes_written at []) n reads answered ends le = rw answered le
+greatest_after old new (bytes_written at (byte ∷ bytes)) n reads answered ends le = rw answered (omega (arith, ends, le))
+greatest_after old new (write_fault at []) n reads answered ends le = rw answered le
+greatest_after old new (write_fault at (byte ∷ bytes)) n reads (inl same) ends le = rw same le
+greatest_after old new (write_fault at (byte ∷ bytes)) n reads (inr torn) ends le = rw torn.2 (omega (arith, torn.1.greatest_length, ends, le))
+greatest_after old new (length_set len) n reads answered ends le = rw answered (omega (arith, ends, le))
+greatest_after old new (resize_fault len) n reads (inl same) ends le = rw same le
+greatest_after old new (resize_fault len) n reads (inr torn) ends le = rw torn.2 (omega (arith, torn.1.greatest_length, ends, le))
+greatest_after old new sync_made n reads answered ends le = rw answered (omega (arith, reads.no_longer, le))
+greatest_after old new sync_fault n reads answered ends le = rw answered le
+
+within_since_after : (old new : History) (call : Call) (t n : ℕ) → IsImage old.now old.now.bytes → IsAnswered old call new → EndsWithin n call
+    → IsWithinSince old t n → IsWithinSince new t n
+within_since_after old new call t n reads answered ends since =
+    let greatest = greatest_within old.now n reads (λ image left. since image (inl left)) in
+    images_after (λ image. length image ≤ n) old new call t answered since
+    (λ image left. omega (arith, left.no_longer, greatest_after old new call n reads answered ends greatest))
+
+pub calls_keep_lengths : CallsKeepLengths
+calls_keep_lengths old new [] t n reads answered ends since = subst (λ h. IsWithinSince h t n) (sym answered) since
+calls_keep_lengths old new (call ∷ calls) t n reads answered ends since =
+    calls_keep_lengths answered.0 new calls t n (reads_after old answered.0 call reads answered.1) answered.2
+    (all_rest (EndsWithin n) call calls ends) (within_since_after old answered.0 call t n reads answered.1 (ends zero call (omega arith)) since)

@@ -112,7 +112,7 @@ torn_outside old new at count i torn lt (inr after) =
 
 -- ---- a change of the length
 
-resized_below : (bytes : List ℕ) (len i : ℕ) → i < length bytes → i < len → slice_index (resized bytes len) i ≡ slice_index bytes i
+pub resized_below : (bytes : List ℕ) (len i : ℕ) → i < length bytes → i < len → slice_index (resized bytes len) i ≡ slice_index bytes i
 resized_below bytes len i lt below = search (rules, places)
 
 torn_below : (old new : State) (len i : ℕ) → IsTornResize len old new → i < length old.bytes → i < len → slice_index new.bytes i ≡ slice_index old.bytes i

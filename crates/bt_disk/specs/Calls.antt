@@ -93,8 +93,9 @@ abbrev pub count_after_calls : ℕ → List Call → ℕ
 count_after_calls count [] = count
 count_after_calls count (call ∷ calls) = count_after_calls (count_after_call count call) calls
 
--- Between old and new these calls of the device were made and no other, and were answered so. Of a device
--- that is not honest only the count of its failed calls is known.
+-- These calls, with these answers, lead from old to new: of an honest device by its history, and of any
+-- device by the count of its failed calls. So no other call failed, or changed an honest device. A read or a
+-- length that was given leaves no trace: their number and order are not told.
 pub record HasCalls
     {D : Type 0} (history : D → History) (honest : D → Type 0) (faults : D → ℕ)
     (old : D) (calls : List Call) (new : D) : Type 0 where
@@ -117,3 +118,11 @@ Spares i (write_fault at bytes) = (i < at) ⊎ (at + length bytes ≤ i)
 Spares i (length_set len) = i < len
 Spares i (resize_fault len) = i < len
 Spares i _ = ⊤
+
+-- the call goes no further than n bytes: it is no write that ends past them, and sets no greater length
+abbrev pub EndsWithin : ℕ → Call → Type 0
+EndsWithin n (bytes_written at bytes) = at + length bytes ≤ n
+EndsWithin n (write_fault at bytes) = at + length bytes ≤ n
+EndsWithin n (length_set len) = len ≤ n
+EndsWithin n (resize_fault len) = len ≤ n
+EndsWithin n _ = ⊤

@@ -1,10 +1,10 @@
 -- A device that fails calls, or alters what it reads, where it is told to. Calls are counted from 1, from its
 -- making.
-use Rattle.std.specs.Prelude.{◌≡◌, ℕ, ◌+◌, ◌-◌, Bool, false, ◌&&◌, ◌||◌, if◌then◌else◌, nat_eq, nat_le, nat_lt, min, bit_xor, Option, Some, None, List, [], ◌∷◌, length, slice_index, slice_set}
+use Rattle.std.specs.Prelude.{◌≡◌, ℕ, ◌+◌, ◌-◌, Bool, false, ◌&&◌, ◌||◌, if◌then◌else◌, nat_eq, nat_le, nat_lt, min, bit_xor, Option, Some, None, List, [], ◌∷◌, length, slice_index, slice_set, take, Result, IfOk}
 use Rattle.std.specs.Option.{option_map_or}
 use Rattle.bt_disk.specs.Limits.{max_count, one_more}
 use Rattle.bt_disk.specs.History.{History}
-use Rattle.bt_disk.specs.Calls.{Call, HasCalls}
+use Rattle.bt_disk.specs.Calls.{Call, HasCalls, read_call}
 
 -- The device inside, how many calls were made, the settings (a flip has its first call and its byte), and how
 -- many calls failed by a setting.
@@ -63,3 +63,14 @@ flipped (Some flip) number at bytes =
     if nat_le flip.0 number && (nat_le at flip.1 && nat_lt flip.1 (at + length bytes))
     then slice_set bytes (flip.1 - at) (bit_xor (slice_index bytes (flip.1 - at)) 1)
     else bytes
+
+-- A read was passed on: the device inside was asked for as many bytes, and what it gave comes but for the
+-- flip.
+pub record PassesRead
+    {D E : Type 0} (history : D → History) (honest : D → Type 0) (faults : D → ℕ)
+    (old : FaultView D) (at : ℕ) (out : List ℕ) (result : Result ℕ E) (new : FaultView D) : Type 0 where
+  pub given : List ℕ
+  pub as_many : length given ≡ length out
+  pub passed : PassesOn history honest faults old (read_call at given result) new
+  pub altered :
+      IfOk result (λ count. take count out ≡ flipped old.flipping (next_call old) at (take count given))

@@ -44,3 +44,7 @@ LeftSince h t image = IsImage h.now image ⊎ LeftBefore h.past t image
 -- whatever a crash at moment t or later has left, it has this byte at i
 abbrev pub IsKeptSince : History → ℕ → ℕ → ℕ → Type 0
 IsKeptSince h t i byte = (image : List ℕ) → LeftSince h t image → slice_get image i ≡ Some byte
+
+-- whatever a crash at moment t or later has left, it has at most n bytes
+abbrev pub IsWithinSince : History → ℕ → ℕ → Type 0
+IsWithinSince h t n = (image : List ℕ) → LeftSince h t image → length image ≤ n

@@ -1,8 +1,8 @@
 -- What calls of an honest device leave in the images of a crash.
 use Rattle.std.specs.Prelude.{◌≡◌, ℕ, List, slice_get, Some, All}
-use Rattle.bt_disk.specs.State.{State, IsImage, IsKept}
-use Rattle.bt_disk.specs.History.{History, moment_of, IsKeptSince}
-use Rattle.bt_disk.specs.Calls.{Call, sync_made, IsAnswered, AreAnswered, IsRead, Spares}
+use Rattle.bt_disk.specs.State.{State, IsImage, IsKept, IsWithin}
+use Rattle.bt_disk.specs.History.{History, moment_of, IsKeptSince, IsWithinSince}
+use Rattle.bt_disk.specs.Calls.{Call, sync_made, IsAnswered, AreAnswered, IsRead, Spares, EndsWithin}
 
 -- an image from before the call, with at most other bytes where the call reaches
 pub record IsReached (old : State) (call : Call) (before image : List ℕ) : Type 0 where
@@ -35,3 +35,13 @@ CallsKeepBytes = (old new : History) (calls : List Call) (t i byte : ℕ) → Is
 -- what every image now has, every image since now has
 abbrev pub KeptFromNow : Type 0
 KeptFromNow = (h : History) (i byte : ℕ) → IsKept h.now i byte → IsKeptSince h (moment_of h) i byte
+
+-- Where every image since a moment has at most n bytes, and none of the calls goes further, every image since
+-- then goes on to have at most n, within these calls too.
+abbrev pub CallsKeepLengths : Type 0
+CallsKeepLengths = (old new : History) (calls : List Call) (t n : ℕ) → IsImage old.now old.now.bytes
+    → AreAnswered old calls new → All (EndsWithin n) calls → IsWithinSince old t n → IsWithinSince new t n
+
+-- where every image now has at most n bytes, every image since now has
+abbrev pub WithinFromNow : Type 0
+WithinFromNow = (h : History) (n : ℕ) → IsWithin h.now n → IsWithinSince h (moment_of h) n

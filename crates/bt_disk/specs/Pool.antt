@@ -9,9 +9,16 @@ access_of_use Absent = absent
 access_of_use Reading = reading
 access_of_use Writing = writing
 
--- how many devices a pool has made, which is the number of the last one
+-- how many devices a pool has made: the k-th has the number k
 pub record PoolView : Type 0 where
   pub made : ℕ
 
 abbrev pub new_pool : PoolView
 new_pool = record { made = 0 }
+
+-- A device that a pool made: its number, by which the pool knows its handle, whether its file may be written,
+-- and how many of its calls failed.
+pub record PooledView : Type 0 where
+  pub number : ℕ
+  pub access : Access
+  pub failed : ℕ

@@ -34,6 +34,10 @@ pub record IsImage (s : State) (image : List ℕ) : Type 0 where
 abbrev pub IsKept : State → ℕ → ℕ → Type 0
 IsKept s i byte = (image : List ℕ) → IsImage s image → slice_get image i ≡ Some byte
 
+-- whatever a crash now leaves, it has at most n bytes
+abbrev pub IsWithin : State → ℕ → Type 0
+IsWithin s n = (image : List ℕ) → IsImage s image → length image ≤ n
+
 -- the bytes with one or more others put at a place, and zeros in a gap before it
 abbrev pub written : List ℕ → ℕ → List ℕ → List ℕ
 written bytes at more =

@@ -1,9 +1,7 @@
 //! A device that fails where it is told to.
-ghost use Rattle.std.specs.Prelude.{◌≡◌, ◌+◌, ◌-◌, ◌^◌, ◌<◌, ◌≤◌, ◌↔◌, ℕ, List, length, take, nat_lt, if◌then◌else◌, None, IsErr, IfOk};
+ghost use Rattle.std.specs.Prelude.{◌≡◌, ◌-◌, ◌^◌, ◌<◌, nat_lt, if◌then◌else◌, None};
 ghost use Rattle.std.specs.Bool.{OnTrue, OnFalse};
-ghost use Rattle.bt_disk.specs.Limits.{count_after};
-ghost use Rattle.bt_disk.specs.Calls.{IsAnswered, len_call, read_call, write_call, set_len_call, sync_call};
-ghost use Rattle.bt_disk.specs.FaultDisk.{new_fault_disk, next_call, fails_next, after_failure, PassesOn, flipped};
+ghost use Rattle.bt_disk.specs.FaultDisk.{new_fault_disk, next_call, fails_next, after_failure, flipped};
 
 use crate::disk::{DeviceFault, Disk};
 use std::marker::Model;
@@ -109,11 +107,11 @@ impl<D: Disk + Drop> FaultDisk<D> {
 }
 
 impl<D: Disk + Drop> Disk for FaultDisk<D> {
-    ghost use Rattle.std.specs.Prelude.{◌≡◌, ◌↔◌, ◌≤◌, ℕ, List, length, take, IsErr, IfOk};
+    ghost use Rattle.std.specs.Prelude.{◌≡◌, ◌↔◌, ◌≤◌, length, IsErr, IfOk};
     ghost use Rattle.std.specs.Bool.{OnTrue, OnFalse};
     ghost use Rattle.bt_disk.specs.Limits.{count_after};
     ghost use Rattle.bt_disk.specs.Calls.{IsAnswered, len_call, read_call, write_call, set_len_call, sync_call};
-    ghost use Rattle.bt_disk.specs.FaultDisk.{fault_count, IsHonest, next_call, fails_next, after_failure, PassesOn, flipped};
+    ghost use Rattle.bt_disk.specs.FaultDisk.{fault_count, IsHonest, fails_next, after_failure, PassesOn, PassesRead};
 
     ghost history = { λ d. D.history d.inner };
 
@@ -144,10 +142,8 @@ impl<D: Disk + Drop> Disk for FaultDisk<D> {
     fn read_at(&mut self, at: u64, out: &mut [u8]) -> Result<usize, DeviceFault>
         // by its settings
         ensures fails { OnTrue (fails_next self.old) (IsErr result × (self.new ≡ after_failure self.old)) }
-        ensures passes { OnFalse (fails_next self.old) ((given : List ℕ)
-            × PassesOn D.history D.honest D.faults self.old (read_call at given result) self.new
-            × IfOk result (λ count.
-            take count out.new ≡ flipped self.old.flipping (next_call self.old) at (take count given))) }
+        ensures passes { OnFalse (fails_next self.old)
+            (PassesRead D.history D.honest D.faults self.old at out.new result self.new) }
 
         // as every device
         ensures within { IfOk result (λ count. count ≤ length out.new) }

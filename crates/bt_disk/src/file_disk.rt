@@ -11,8 +11,8 @@ use std::marker::Model;
 /// A device that is a file of the system, with an open handle of its own.
 ///
 /// No contract says what a file holds, so it is not honest, and only its count of failed calls and whether it
-/// may be written are known. A call takes no memory and makes no more calls of the system than a seek and a
-/// read or write, unless the system answers in parts.
+/// may be written are known. A call takes no memory and makes one call of the system, or a seek and a read or
+/// write; it makes more where a read finds the file's end, and where the system answers in parts.
 #[derive(Drop)]
 pub struct FileDisk<F: Read + Write + Seek + OpenFile + Drop> {
     handle: Handle<F>,

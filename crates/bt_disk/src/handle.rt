@@ -87,7 +87,7 @@ pub(crate) fn file_len<F: OpenFile>(file: &F) -> Result<u64, DeviceFault> {
 }
 
 /// Reads bytes from byte `at` on, as [`read_file`]: none, where there is no file.
-pub(crate) fn read_handle<F: Read + Seek>(
+pub(crate) fn read_handle<F: Read + Seek + OpenFile>(
     handle: &mut Handle<F>,
     at: u64,
     out: &mut [u8],
@@ -103,20 +103,22 @@ pub(crate) fn read_handle<F: Read + Seek>(
     }
 }
 
-/// Reads bytes from byte `at` on until `out` is full or the file ends, and says how many came.
-pub(crate) fn read_file<F: Read + Seek>(
+/// Reads bytes from byte `at` on until `out` is full or the file ends, and says how many came: none from the
+/// end on, also where the system can't place such a read.
+pub(crate) fn read_file<F: Read + Seek + OpenFile>(
     file: &mut F,
     at: u64,
     out: &mut [u8],
 ) -> Result<usize, DeviceFault>
     ensures { IfOk result (λ count. count ≤ length out.new) }
 {
-    // No file has bytes where no seek can go.
-    if at > i64::MAX as u64 {
-        return Ok(0);
-    }
     if file.seek(SeekFrom::Start(at)).is_err() {
-        return Err(DeviceFault);
+        // A file system may place no read past the longest file that it takes.
+        return if at < file_len(file)? {
+            Err(DeviceFault)
+        } else {
+            Ok(0)
+        };
     }
     fill(file, out)
 }

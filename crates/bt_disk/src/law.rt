@@ -1,9 +1,9 @@
 //! What calls of an honest device leave in the images of a crash. A caller that knows which calls it made
 //! knows by these laws what a crash leaves; the functions do nothing when they run.
 ghost use Rattle.std.specs.Prelude.{◌++◌, ◌∷◌, [], ℕ, List, All};
-ghost use Rattle.bt_disk.specs.History.{IsKeptSince};
-ghost use Rattle.bt_disk.specs.Calls.{Call, HasCalls, Spares};
-ghost use Rattle.bt_disk.specs.Laws.{SyncKeepsAll, ReadsChangeNothing, CallsReachTheirRange, CallsKeepBytes, KeptFromNow};
+ghost use Rattle.bt_disk.specs.History.{IsKeptSince, IsWithinSince};
+ghost use Rattle.bt_disk.specs.Calls.{Call, HasCalls, Spares, EndsWithin};
+ghost use Rattle.bt_disk.specs.Laws.{SyncKeepsAll, ReadsChangeNothing, CallsReachTheirRange, CallsKeepBytes, KeptFromNow, CallsKeepLengths, WithinFromNow};
 
 use crate::disk::Disk;
 
@@ -29,6 +29,12 @@ pub fn calls_keep_bytes()
     ensures later { CallsKeepBytes }
 {}
 
+/// No image grows longer than a number of bytes, at any moment, as long as no call goes further.
+pub fn calls_keep_lengths()
+    ensures now { WithinFromNow }
+    ensures later { CallsKeepLengths }
+{}
+
 /// Calls of a device and then others are these calls one after the other.
 pub fn calls_compose<D: Disk>()
     ensures { (a b c : D) (xs ys : List Call) → HasCalls D.history D.honest D.faults a xs b
@@ -41,4 +47,12 @@ pub fn devices_keep_bytes<D: Disk>()
     ensures { (old new : D) (calls : List Call) (t i byte : ℕ) → D.honest old
         → HasCalls D.history D.honest D.faults old calls new → All (Spares i) calls
         → IsKeptSince (D.history old) t i byte → IsKeptSince (D.history new) t i byte }
+{}
+
+/// Of an honest device, where every image since a moment has at most so many bytes, and no call goes further,
+/// every image since has at most so many.
+pub fn devices_keep_lengths<D: Disk>()
+    ensures { (old new : D) (calls : List Call) (t n : ℕ) → D.honest old
+        → HasCalls D.history D.honest D.faults old calls new → All (EndsWithin n) calls
+        → IsWithinSince (D.history old) t n → IsWithinSince (D.history new) t n }
 {}

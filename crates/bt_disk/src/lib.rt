@@ -6,7 +6,6 @@ mod fault_disk;
 mod file_disk;
 mod handle;
 mod law;
-mod lent_disk;
 mod loss;
 mod medium;
 mod memory_disk;
@@ -17,8 +16,8 @@ pub use disk::{DeviceFault, Disk};
 pub use fault_disk::FaultDisk;
 pub use file_disk::FileDisk;
 pub use law::{
-    a_sync_keeps_all, calls_compose, calls_keep_bytes, calls_reach_their_range, devices_keep_bytes,
-    reads_change_nothing,
+    a_sync_keeps_all, calls_compose, calls_keep_bytes, calls_keep_lengths, calls_reach_their_range,
+    devices_keep_bytes, devices_keep_lengths, reads_change_nothing,
 };
 pub use loss::Loss;
 pub use memory_disk::MemoryDisk;

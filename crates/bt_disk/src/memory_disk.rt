@@ -9,7 +9,8 @@ use std::alloc::Global;
 use std::marker::Model;
 
 /// A device in memory, which is honest. It keeps a record of all calls that changed it, for what a crash at
-/// an earlier moment leaves. A growth that is refused is a failure of this device, and then nothing changed.
+/// an earlier moment leaves, so each of these takes memory, also a write over bytes that are there. One that
+/// is refused its memory fails, and then nothing changed; no other call fails.
 #[derive(Drop)]
 pub struct MemoryDisk {
     medium: Medium,
@@ -99,11 +100,13 @@ impl Disk for MemoryDisk {
     }
 
     fn write_at(&mut self, at: u64, bytes: &[u8]) -> Result<(), DeviceFault>
+        ensures empty { bytes.now ≡ [] → IsOk result }
         ensures err { OnErr result (self.new.kept ≡ self.old.kept) }
         ensures counted { self.new.failed ≡ count_after self.old.failed result }
         ensures as_honest { ⊤ ↔ ⊤ }
         ensures answered { ⊤
-            → IsAnswered (history_of self.old.kept) (write_call at bytes.now result) (history_of self.new.kept) }
+            → IsAnswered
+            (history_of self.old.kept) (write_call at bytes.now result) (history_of self.new.kept) }
     {
         if bytes.is_empty() {
             return Ok(());

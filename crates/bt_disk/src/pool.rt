@@ -28,7 +28,7 @@ struct Shared<R: Files + Drop> {
 #[derive(Drop)]
 pub struct HandlePool<R: Files + Drop> {
     shared: Rc<Shared<R>>,
-    /// How many devices it made.
+    /// How many devices it made, which is the number of the last one.
     made: u64,
 }
 
@@ -53,9 +53,12 @@ impl<R: Files + Drop> HandlePool<R> {
     }
 
     /// A file that is read, as [`FileDisk::reading`](crate::FileDisk::reading) has it.
+    ///
+    /// Errors: also where no number is left for a device, or no count of the `Rc` that they share.
     pub fn reading(&mut self, path: String) -> Result<PooledDisk<R>, DeviceFault>
         ensures failed { IfOk result (λ disk. disk.failed ≡ 0) }
         ensures access { IfOk result (λ disk. disk.access ≢ writing) }
+        ensures number { IfOk result (λ disk. disk.number ≡ self.new.made) }
         ensures one_more { IfOk result (λ _. self.new.made ≡ self.old.made + 1) }
         ensures no_more { IfErr result (λ _. self.new ≡ self.old) }
     {
@@ -69,8 +72,11 @@ impl<R: Files + Drop> HandlePool<R> {
     }
 
     /// A file that is read and written, as [`FileDisk::writing`](crate::FileDisk::writing) has it.
+    ///
+    /// Errors: also where no number is left for a device, or no count of the `Rc` that they share.
     pub fn writing(&mut self, path: String) -> Result<PooledDisk<R>, DeviceFault>
-        ensures device { IfOk result (λ disk. disk ≡ record { access = writing; failed = 0 }) }
+        ensures device { IfOk result (λ disk.
+            disk ≡ record { number = self.new.made; access = writing; failed = 0 }) }
         ensures one_more { IfOk result (λ _. self.new.made ≡ self.old.made + 1) }
         ensures no_more { IfErr result (λ _. self.new ≡ self.old) }
     {
@@ -83,7 +89,8 @@ impl<R: Files + Drop> HandlePool<R> {
 
     /// The next device, with a number that no other of this pool has.
     fn device(&mut self, path: String, usage: Use) -> Result<PooledDisk<R>, DeviceFault>
-        ensures device { IfOk result (λ disk. disk ≡ record { access = access_of_use usage; failed = 0 }) }
+        ensures device { IfOk result (λ disk.
+            disk ≡ record { number = self.new.made; access = access_of_use usage; failed = 0 }) }
         ensures one_more { IfOk result (λ _. self.new.made ≡ self.old.made + 1) }
         ensures no_more { IfErr result (λ _. self.new ≡ self.old) }
     {
@@ -126,12 +133,11 @@ pub struct PooledDisk<R: Files + Drop> {
 }
 
 impl<R: Files + Drop> Model for PooledDisk<R> {
-    ghost use Rattle.bt_disk.specs.FileDisk.{FileView};
-    ghost use Rattle.bt_disk.specs.Pool.{access_of_use};
+    ghost use Rattle.bt_disk.specs.Pool.{PooledView, access_of_use};
 
-    ghost Value = { FileView };
+    ghost Value = { PooledView };
 
-    ghost view = { λ d. record { access = access_of_use d.usage; failed = d.failed } };
+    ghost view = { λ d. record { number = d.number; access = access_of_use d.usage; failed = d.failed } };
 }
 
 impl<R: Files + Drop> PooledDisk<R> {
@@ -211,6 +217,7 @@ impl<R: Files + Drop> Disk for PooledDisk<R> {
 
     fn len(&mut self) -> Result<u64, DeviceFault>
         ensures absent { self.old.access ≡ absent → result ≡ Ok 0 }
+        ensures number { self.new.number ≡ self.old.number }
         ensures access { self.new.access ≡ self.old.access }
         ensures counted { self.new.failed ≡ count_after self.old.failed result }
         ensures as_honest { ⊥ ↔ ⊥ }
@@ -227,6 +234,7 @@ impl<R: Files + Drop> Disk for PooledDisk<R> {
 
     fn read_at(&mut self, at: u64, out: &mut [u8]) -> Result<usize, DeviceFault>
         ensures absent { self.old.access ≡ absent → result ≡ Ok 0 }
+        ensures number { self.new.number ≡ self.old.number }
         ensures access { self.new.access ≡ self.old.access }
         ensures within { IfOk result (λ count. count ≤ length out.new) }
         ensures counted { self.new.failed ≡ count_after self.old.failed result }
@@ -244,6 +252,7 @@ impl<R: Files + Drop> Disk for PooledDisk<R> {
 
     fn write_at(&mut self, at: u64, bytes: &[u8]) -> Result<(), DeviceFault>
         ensures refused { self.old.access ≢ writing → IsErr result }
+        ensures number { self.new.number ≡ self.old.number }
         ensures access { self.new.access ≡ self.old.access }
         ensures counted { self.new.failed ≡ count_after self.old.failed result }
         ensures as_honest { ⊥ ↔ ⊥ }
@@ -257,6 +266,7 @@ impl<R: Files + Drop> Disk for PooledDisk<R> {
 
     fn set_len(&mut self, len: u64) -> Result<(), DeviceFault>
         ensures refused { self.old.access ≢ writing → IsErr result }
+        ensures number { self.new.number ≡ self.old.number }
         ensures access { self.new.access ≡ self.old.access }
         ensures counted { self.new.failed ≡ count_after self.old.failed result }
         ensures as_honest { ⊥ ↔ ⊥ }
@@ -270,6 +280,7 @@ impl<R: Files + Drop> Disk for PooledDisk<R> {
 
     fn sync(&mut self) -> Result<(), DeviceFault>
         ensures refused { self.old.access ≢ writing → IsErr result }
+        ensures number { self.new.number ≡ self.old.number }
         ensures access { self.new.access ≡ self.old.access }
         ensures counted { self.new.failed ≡ count_after self.old.failed result }
         ensures as_honest { ⊥ ↔ ⊥ }

@@ -81,6 +81,7 @@ const ROUND_CONSTANTS: [u32; 64] = [
     0xc671_78f2,
 ];
 
+/// The first temporary word of a round (6.2.2).
 #[inline(always)]
 fn temp1(e: u32x8, f: u32x8, g: u32x8, h: u32x8, constant: u32, words: u32x8) -> u32x8
     ensures { (j : ℕ) → j < 8 → slice_index result j ≡ temp1_of (slice_index e j) (slice_index f j)
@@ -90,6 +91,7 @@ fn temp1(e: u32x8, f: u32x8, g: u32x8, h: u32x8, constant: u32, words: u32x8) ->
     add(add(sum, u32x8::splat(constant)), words)
 }
 
+/// The second temporary word of a round (6.2.2).
 #[inline(always)]
 fn temp2(a: u32x8, b: u32x8, c: u32x8) -> u32x8
     ensures { (j : ℕ) → j < 8

@@ -33,6 +33,7 @@ pub(crate) fn maj(x: u32x8, y: u32x8, z: u32x8) -> u32x8
     (x & y) ^ (x & z) ^ (y & z)
 }
 
+/// Each word with its bits moved right by `count` places, those that fall out coming in at the left.
 #[inline(always)]
 fn rotate_right(x: u32x8, count: u32) -> u32x8
     requires { (0 < count) × (count < 32) }

@@ -11,7 +11,8 @@ const EMPTY: &[u8; 64] = b"e3b0c44298fc1c149afbf4c8996fb92427ae41e4649b934ca4959
 
 const ABC: &[u8; 64] = b"ba7816bf8f01cfea414140de5dae2223b00361a396177a9cb410ff61f20015ad";
 
-/// The examples of FIPS 180-4 for SHA-256 of one and of two message blocks.
+/// The empty message, whose digest other programs gave, and the standard's examples of one message block and of
+/// two: `abc`, and 56 letters.
 const EXAMPLES: [(&[u8], &[u8; 64]); 3] = [
     (b"", EMPTY),
     (b"abc", ABC),

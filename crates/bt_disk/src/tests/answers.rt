@@ -1,7 +1,7 @@
 //! What a file makes of the system's answers.
 
 use super::system::{Counts, Manner, System, expect_file, file_with};
-use super::tools::{confirm, folder, path_in};
+use super::tools::{Step, confirm, folder, make, path_in};
 use crate::{DeviceFault, Disk, FileDisk, HandlePool, PooledDisk};
 use std::fs;
 use std::test::Fail;
@@ -56,7 +56,7 @@ fn a_fault_in_mid_read_is_a_fault(rt: HostRuntime) -> Result<(), Fail> {
     Ok(())
 }
 
-/// A write that finds no space fails, as do calls that the system refuses.
+/// A write that finds no space fails, as do calls that the system refuses, but for a read past the end.
 #[test]
 fn a_refused_call_is_a_fault(rt: HostRuntime) -> Result<(), Fail> {
     let top = folder(&rt, "refusals")?;
@@ -67,7 +67,8 @@ fn a_refused_call_is_a_fault(rt: HostRuntime) -> Result<(), Fail> {
     confirm(disk.write_at(1, b"xy").is_err(), "a write without space")?;
     confirm(disk.read_at(0, &mut out)? == 3, "a short read")?;
     let mut disk = opened(&rt, Manner::Broken, &counts, path.as_str())?;
-    confirm(disk.read_at(0, &mut out).is_err(), "a read without a place")?;
+    confirm(disk.read_at(2, &mut out).is_err(), "a read without a place")?;
+    confirm(disk.read_at(3, &mut out)? == 0, "bytes past the end")?;
     confirm(disk.write_at(0, b"x").is_err(), "a write without a place")?;
     confirm(disk.set_len(1).is_err(), "another length")?;
     confirm(disk.sync().is_err(), "a sync that was refused")?;
@@ -106,28 +107,56 @@ fn a_file_without_rights_is_refused(rt: HostRuntime) -> Result<(), Fail> {
     Ok(())
 }
 
-/// No call makes more calls of the system than a seek and a read or write, and a read at the file's end one
-/// more read.
+/// Calls of a file of 8 bytes, and how many calls of the system each makes: others, and reads and writes. A
+/// read makes one more where the file ends before its buffer.
+const FEW: [(Step, (u32, u32)); 8] = [
+    (Step::Len, (1, 0)),
+    (Step::Read(1, 6), (1, 1)),
+    (Step::Read(5, 6), (1, 2)),
+    (Step::Read(1, 0), (1, 0)),
+    (Step::Write(3, b"xyz"), (1, 1)),
+    (Step::Write(3, b""), (0, 0)),
+    (Step::SetLen(4), (1, 0)),
+    (Step::Sync, (1, 0)),
+];
+
+/// Makes the calls of a device whose file is open, and counts those of the system.
+fn make_few<D: Disk>(disk: &mut D, counts: &Counts) -> Result<(), Fail> {
+    counts.taken();
+    for (step, (other, moves)) in FEW {
+        make(disk, step)?;
+        confirm(counts.taken() == (0, other, moves), "calls of the system")?;
+    }
+    Ok(())
+}
+
 #[test]
 fn a_call_makes_few_calls_of_the_system(rt: HostRuntime) -> Result<(), Fail> {
     let top = folder(&rt, "counts")?;
     let path = file_with(&rt, top.as_str(), b"abcdefgh")?;
     let counts = Counts::new();
     let mut disk = opened(&rt, Manner::Plain, &counts, path.as_str())?;
-    let mut out = [0; 6];
-    disk.read_at(1, &mut out)?;
-    confirm(counts.taken() == (1, 1), "calls of a read")?;
-    disk.read_at(5, &mut out)?;
-    confirm(counts.taken() == (1, 2), "calls of a read at the end")?;
-    disk.read_at(1, &mut out[..0])?;
-    confirm(counts.taken() == (1, 0), "calls of a read of no bytes")?;
-    disk.write_at(3, b"xyz")?;
-    confirm(counts.taken() == (1, 1), "calls of a write")?;
-    disk.write_at(3, b"")?;
-    confirm(counts.taken() == (0, 0), "calls of a write of no bytes")?;
-    disk.set_len(4)?;
-    disk.sync()?;
-    confirm(counts.taken() == (2, 0), "calls of the others")?;
+    confirm(counts.taken() == (1, 2, 0), "calls of an opening")?;
+    make_few(&mut disk, &counts)?;
+    fs::remove_dir_all(&rt, top.as_str())?;
+    Ok(())
+}
+
+/// The same of a file of a pool, while its handle is open.
+#[test]
+fn a_call_of_an_open_file_of_a_pool_makes_no_more(rt: HostRuntime) -> Result<(), Fail> {
+    let top = folder(&rt, "pool-counts")?;
+    let path = file_with(&rt, top.as_str(), b"abcdefgh")?;
+    let counts = Counts::new();
+    let system = System {
+        host: &rt,
+        manner: Manner::Plain,
+        counts: &counts,
+    };
+    let mut pool = HandlePool::new(rt.alloc(), system, 1)?;
+    let mut disk = pool.writing(path)?;
+    confirm(counts.taken() == (1, 2, 0), "calls of an opening")?;
+    make_few(&mut disk, &counts)?;
     fs::remove_dir_all(&rt, top.as_str())?;
     Ok(())
 }

@@ -21,7 +21,7 @@ pub enum Manner {
     Full,
     /// It opens no file, for want of rights.
     NoRights,
-    /// It places no read or write, and makes no other call of an open file.
+    /// It places no read or write, and changes and syncs no file.
     Broken,
 }
 
@@ -32,9 +32,9 @@ pub struct Counts {
     pub opened: Cell<u32>,
     pub most_open: Cell<u32>,
     open: Cell<u32>,
-    /// Calls of open files, other than reads and writes, and these.
-    pub other: Cell<u32>,
+    /// Reads and writes; and all other calls of open files, with looks at a path.
     pub moves: Cell<u32>,
+    pub other: Cell<u32>,
 }
 
 impl Counts {
@@ -43,14 +43,19 @@ impl Counts {
             opened: Cell::new(0),
             most_open: Cell::new(0),
             open: Cell::new(0),
-            other: Cell::new(0),
             moves: Cell::new(0),
+            other: Cell::new(0),
         }
     }
 
-    /// How many calls of open files were made since this was last asked: others, and reads and writes.
-    pub fn taken(&self) -> (u32, u32) {
-        (self.other.replace(0), self.moves.replace(0))
+    /// How many calls were made since this was last asked: files that were opened, other calls, and reads and
+    /// writes.
+    pub fn taken(&self) -> (u32, u32, u32) {
+        (
+            self.opened.replace(0),
+            self.other.replace(0),
+            self.moves.replace(0),
+        )
     }
 }
 
@@ -102,6 +107,7 @@ impl<'a> Files for System<'a> {
     }
 
     fn metadata(&self, path: &str) -> io::Result<Metadata> {
+        count(&self.counts.other);
         self.host.metadata(path)
     }
 
@@ -209,6 +215,8 @@ impl Seek for SystemFile<'_> {
 
 impl OpenFile for SystemFile<'_> {
     fn metadata(&self) -> io::Result<Metadata> {
+        // A broken system does it too: a file is looked at when it is opened.
+        count(&self.counts.other);
         self.file.metadata()
     }
 

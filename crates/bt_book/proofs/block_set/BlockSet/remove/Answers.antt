@@ -10,5 +10,5 @@ invariant_of-self-else-is_none c =
     let b = c.args.block in
     let inside : IsInRange files b = subst (λ (s : Blocks). IsInRange s b) (sym c.self.view_is) c.requires in
     let read = get_or_read files b.file c.index_mut-file.result.now (file_inside _ _ _ inside) c.index_mut-file.ensures.value [] in
-    let written : c.remove.new.self ≡ set (of_file files b.file) b.block false = c.remove.ensures ∙ ap (λ l. set l b.block false) read in
+    let written : c.remove.new.self ≡ set (of_file files b.file) b.block false = c.remove.ensures.now ∙ ap (λ l. set l b.block false) read in
     rw written (filled_without _ _ b c.self.invariant inside)
