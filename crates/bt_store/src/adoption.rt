@@ -5,13 +5,14 @@ ghost use Rattle.bt_tree.specs.Blocks.{block_count};
 ghost use Rattle.bt_tree.specs.Tree.{padding_digest};
 ghost use Rattle.bt_disk.specs.Calls.{HasCalls};
 ghost use Rattle.bt_sparse.specs.SparseTree.{Facts, blocks_of, held_at, value_at};
+ghost use Rattle.bt_sparse.specs.Anchor.{IsAnchor};
 ghost use Rattle.bt_store.specs.BlockReads.{BlockRead};
-ghost use Rattle.bt_store.specs.Adoption.{IsAnchor, IsKnownGroup, IsUnknownGroup, marked_run, IsAdopted, StopsAdopting};
+ghost use Rattle.bt_store.specs.Adoption.{IsKnownGroup, IsUnknownGroup, marked_run, IsAdopted, StopsAdopting};
 ghost use Rattle.bt_store.specs.GroupsSteps.{IsGroupRead};
 
 use crate::file_store::FileStore;
 use crate::groups::{
-    Census, Group, anchor_of, claim_leaves, group_below, known_run, mark_run, padding, read_group,
+    Census, Group, claim_leaves, group_below, known_run, mark_run, padding, read_group,
 };
 use crate::runs::RUN_LEN;
 use bt_disk::Disk;
@@ -60,7 +61,7 @@ impl<D: Disk + Drop, H: NodeHash> FileStore<D, H> {
                 faults: 0,
             });
         }
-        let anchor = anchor_of(tree, from);
+        let anchor = tree.anchor(from);
         if anchor == 0 {
             return Ok(self.adopt_known(tree, from));
         }
