@@ -3,6 +3,8 @@
 
 mod bodies;
 mod files;
+mod full_tree;
+mod large;
 mod map_body;
 mod planted;
 mod proofs;
