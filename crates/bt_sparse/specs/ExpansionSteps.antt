@@ -2,7 +2,7 @@
 use Rattle.std.specs.Prelude.{◌≡◌, ℕ, zero, suc, ◌+◌, ◌-◌, ◌*◌, ◌/◌, ◌%◌, ◌^◌, ◌<◌, ◌≤◌, ◌==◌, List, [], ◌∷◌, ◌++◌, length, slice_index_or, if◌then◌else◌}
 use Rattle.bt_tree.specs.Limits.{max_block_count, max_height}
 use Rattle.bt_tree.specs.Peaks.{row_node}
-use Rattle.bt_sparse.specs.Claim.{Claims, run_height, run_top, run_node, run_digest, path_node, path_digest, top_layer, top_node, top_digest}
+use Rattle.bt_sparse.specs.Claim.{Claims, run_height, run_top, run_node, run_digest, path_node, path_digest, top_layer, top_digest}
 use Rattle.bt_sparse.specs.declared.claim.Claim.{Claim}
 use Rattle.bt_sparse.specs.declared.expansion.ClaimedPair.{ClaimedPair}
 use Rattle.bt_sparse.specs.declared.expansion.Expansion.{Expansion}
@@ -66,11 +66,9 @@ pub record IsShort (c : Claim) : Type 0 where
   pub narrow : c.index + length c.run ≤ max_block_count
   pub low : c.base + run_height c ≤ max_height
 
--- all of them, and the top
+-- all of them, and the top's digest
 pub record IsExpansion (dig : List ℕ → List ℕ) (c : Claim) (e : Expansion) : Type 0 where
   pub pairs : e.pairs.items ≡ claimed_pairs dig c
-  pub layer : e.top_layer ≡ top_layer c
-  pub node : e.top_node ≡ top_node c
   pub digest : e.top_digest ≡ top_digest dig c
 
 -- the claim says these digests of the pair's nodes, which lie below the top's layer

@@ -8,4 +8,5 @@ pub mod Layer
 pub mod LayerSteps
 pub mod Laws
 pub mod ExpansionSteps
+pub mod PaddingSteps
 pub mod AcceptanceSteps

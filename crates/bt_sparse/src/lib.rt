@@ -15,6 +15,7 @@ mod laws;
 mod layer;
 mod layer_pages;
 mod node_map;
+mod padding;
 mod page;
 mod page_table;
 mod sparse_tree;
