@@ -1,4 +1,6 @@
 pub mod Page
+pub mod PageTable
+pub mod LayerPages
 pub mod NodeMap
 pub mod SparseTree
 pub mod Claim

@@ -1,6 +1,6 @@
 ghost use Rattle.std.specs.Prelude.{◌≡◌, ◌%◌, ◌/◌, ◌<◌, ◌≤◌, ◌↔◌, ℕ, [], None, IsTrue, OnOk, length, slice_index_or};
 ghost use Rattle.bt_sparse.specs.Page.{page_length};
-ghost use Rattle.bt_sparse.specs.NodeMap.{table_length, entry_at, KeepsTables, IsPutInto};
+ghost use Rattle.bt_sparse.specs.LayerPages.{table_length, entry_at, KeepsTables, IsPutInto};
 
 use crate::page_table::{PAGE_LEN, PageTable};
 use bt_tree::Hash32;
@@ -17,7 +17,7 @@ pub(crate) struct LayerPages {
 }
 
 impl Model for LayerPages {
-    ghost use Rattle.bt_sparse.specs.NodeMap.{Tables};
+    ghost use Rattle.bt_sparse.specs.LayerPages.{Tables};
 
     ghost Value = { Tables };
 

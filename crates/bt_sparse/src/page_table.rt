@@ -1,6 +1,6 @@
 ghost use Rattle.std.specs.Prelude.{◌≡◌, ◌%◌, ◌/◌, ◌<◌, ◌≤◌, ◌↔◌, ℕ, [], None, IsTrue, OnOk, length, slice_index_or};
 ghost use Rattle.bt_sparse.specs.Page.{page_length};
-ghost use Rattle.bt_sparse.specs.NodeMap.{slot_at, KeepsPages, IsPutIn};
+ghost use Rattle.bt_sparse.specs.PageTable.{slot_at, KeepsPages, IsPutIn};
 
 use crate::page::Page;
 use bt_tree::Hash32;
@@ -17,7 +17,7 @@ pub(crate) struct PageTable {
 }
 
 impl Model for PageTable {
-    ghost use Rattle.bt_sparse.specs.NodeMap.{Pages};
+    ghost use Rattle.bt_sparse.specs.PageTable.{Pages};
 
     ghost Value = { Pages };
 
