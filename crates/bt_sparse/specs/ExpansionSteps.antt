@@ -7,7 +7,7 @@ use Rattle.bt_sparse.specs.declared.claim.Claim.{Claim}
 use Rattle.bt_sparse.specs.declared.expansion.ClaimedPair.{ClaimedPair}
 use Rattle.bt_sparse.specs.declared.expansion.Expansion.{Expansion}
 
--- two siblings so many layers above the run, below node i of the next layer
+-- two siblings this many layers above the run, below node i of the next layer
 abbrev pub run_pair : (List ℕ → List ℕ) → Claim → ℕ → ℕ → ClaimedPair
 run_pair dig c above i = record {
   layer = c.base + above;
@@ -16,7 +16,7 @@ run_pair dig c above i = record {
   right = row_node dig (run_digest c) above (2 * i + 1);
 }
 
--- so many of them, from the left
+-- this many of them, from the left
 unfoldable pub level_pairs : (List ℕ → List ℕ) → Claim → ℕ → ℕ → ℕ → List ClaimedPair
 level_pairs dig c above first zero = []
 level_pairs dig c above first (suc n) =
@@ -47,7 +47,7 @@ path_pairs dig c (suc above) = path_pairs dig c above ++ path_pair dig c above �
 abbrev pub claimed_pairs : (List ℕ → List ℕ) → Claim → List ClaimedPair
 claimed_pairs dig c = run_pairs dig c (run_height c) ++ path_pairs dig c (length c.uncles)
 
--- nodes of a layer so many layers above the run, from an index on
+-- nodes of a layer this many layers above the run, from an index on
 abbrev pub AreRunNodes : (List ℕ → List ℕ) → Claim → ℕ → ℕ → List (List ℕ) → Type 0
 AreRunNodes dig c above first nodes =
     (i : ℕ) → i < length nodes → slice_index_or nodes i [] ≡ row_node dig (run_digest c) above (first + i)

@@ -43,7 +43,7 @@ fn higher(found: Option<Difference>, next: Option<Difference>) -> Option<Differe
 }
 
 impl<H: NodeHash> SparseTree<H> {
-    /// Takes a claim, and answers how many nodes are newly held. A refusal leaves the tree as it was.
+    /// Takes a claim, and returns how many nodes are newly held. A refusal leaves the tree as it was.
     ///
     /// The refusals are P1, P3, P4, P5 and P6 of `ProofError`, in this order, and P7, which may come in place
     /// of any but P1.
@@ -183,7 +183,7 @@ fn put_pairs(geometry: Geometry, nodes: &mut NodeMap, pairs: &[ClaimedPair]) -> 
     count
 }
 
-/// Puts a digest at a node where that covers a block. The answer is how many nodes are new: 1 or 0.
+/// Puts a digest at a node where that covers a block, and returns how many nodes are new: 1 or 0.
 fn put(geometry: Geometry, nodes: &mut NodeMap, layer: u32, index: u32, digest: &Hash32) -> u32
     requires inside { layer ≤ height_of (block_count geometry) }
     requires high { layer ≤ max_height }

@@ -13,7 +13,7 @@ use std::alloc::AllocError;
 use thiserror::Error;
 
 /// The most nodes of a run that are asked for at once.
-const MAX_RUN_LENGTH: u32 = 512;
+pub const MAX_RUN_LENGTH: u32 = 512;
 
 /// Why a request is not answered, in this order.
 #[derive(Clone, Copy, Debug, PartialEq, Eq, Error)]

@@ -88,7 +88,7 @@ pub(crate) fn expand<H: NodeHash>(
     Ok(Expansion { pairs, top_digest })
 }
 
-/// Adds the pairs below the run's top, which lies so many layers above the run, layer by layer. The answer is
+/// Adds the pairs below the run's top, which lies this many layers above the run, layer by layer, and returns
 /// the top's digest.
 fn add_run<H: NodeHash>(
     hash: H,
@@ -196,7 +196,7 @@ pub(crate) fn input(left: &Hash32, right: &Hash32) -> [u8; 64]
     bytes
 }
 
-/// Adds the pairs on the path from the run's top up, whose digest this is. The answer is the digest of the
+/// Adds the pairs on the path from the run's top up, whose digest this is, and returns the digest of the
 /// path's end.
 fn add_path<H: NodeHash>(
     hash: H,

@@ -58,7 +58,7 @@ impl LayerPages {
         self.tables[table].reach(alloc, index % TABLE_LEN, (width - first).min(TABLE_LEN))
     }
 
-    /// Lengthens the list to so many tables. New ones have no pages.
+    /// Lengthens the list to this many tables. New ones have no pages.
     fn lengthen(&mut self, alloc: Global, count: usize) -> Result<(), AllocError>
         ensures same { (t : ℕ) → slice_index_or self.new t [] ≡ slice_index_or self.old t [] }
         ensures ready { OnOk result (count ≤ length self.new) }
@@ -71,7 +71,7 @@ impl LayerPages {
         Ok(())
     }
 
-    /// Puts a digest at an index, whose page is made. The answer is whether there was none.
+    /// Puts a digest at an index, whose page is made, and returns whether there was none.
     pub(crate) fn put(&mut self, index: u32, digest: Hash32) -> bool
         requires { index % table_length % page_length
             < length (slice_index_or (slice_index_or self.old (index / table_length) [])

@@ -1,4 +1,4 @@
-//! Worked examples. Trees are called through functions without a contract, so that a test's proof carries no
+//! Examples. Trees are called through functions without a contract, so that a test's proof carries no
 //! clause of theirs.
 
 mod bodies;

@@ -28,12 +28,7 @@ fn bytes_of(alloc: Global, digests: &[Hash32]) -> Result<Vec<u8>, AllocError> {
 
 /// The leaves of a file of this many blocks, the last of `rest` bytes, and padding up to a power of two. Each
 /// byte is its block's index, plus one.
-fn leaves(
-    alloc: Global,
-    blocks: u8,
-    rest: usize,
-    width: usize,
-) -> Result<Vec<Hash32>, AllocError> {
+fn leaves(alloc: Global, blocks: u8, rest: usize, width: usize) -> Result<Vec<Hash32>, AllocError> {
     let mut leaves = Vec::new(alloc);
     for i in 1..=blocks {
         let mut block = Vec::new(alloc);

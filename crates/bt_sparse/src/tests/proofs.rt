@@ -131,6 +131,23 @@ fn of_several_clashes_in_a_layer_the_leftmost_is_told(rt: HostRuntime) -> Result
 }
 
 #[test]
+fn refusals_are_printed_with_their_numbers(rt: HostRuntime) -> Result<(), Fail> {
+    for (error, wanted) in [
+        (ProofError::Shape, "P1 Shape"),
+        (ProofError::Count, "P2 Count"),
+        (ProofError::Padding, "P3 Padding"),
+        (ProofError::NoAnchor, "P4 NoAnchor"),
+        (ProofError::TopDiffers, "P5 TopDiffers"),
+        (clash((1, 0), (1, 2), (2, 1)), "P6 Clash"),
+        (ProofError::OutOfMemory, "P7 OutOfMemory"),
+    ] {
+        let text = error.to_string(rt.alloc())?;
+        assert_eq!(rt; text.as_str(), wanted);
+    }
+    Ok(())
+}
+
+#[test]
 fn a_list_of_digests_gives_its_vec_back(rt: HostRuntime) -> Result<(), Fail> {
     let digests = [weak(1), weak(2), weak(3)];
     let list = Digests::new(Vec::from_slice(rt.alloc(), &digests)?);
