@@ -4,7 +4,8 @@
     python3 bench/sparse.py [FOLDER]
 
 The program `bench/sparse/main.rt.in` is proved and built beside copies of `bt_tree` and `bt_sparse` in FOLDER (a new temporary
-folder by default), which takes some minutes; it then runs three times, and the best times are printed.
+folder by default), which takes some minutes; it then runs three times, and the best times are printed. The program fails where
+a claim adds another count of nodes than it should.
 """
 
 import pathlib
@@ -16,7 +17,7 @@ import tempfile
 
 TOP = pathlib.Path(__file__).resolve().parent.parent
 CLAIMS = re.compile(r"2\^(\d+) blocks: (\d+) nodes in (\d+) us, digests alone (\d+) us, (\d+) KiB")
-LAYER = re.compile(r"2\^(\d+) leaves as a layer: (\d+) us \(true\)")
+LAYER = re.compile(r"2\^(\d+) leaves as a layer: (\d+) us")
 
 
 def build(folder):
@@ -28,7 +29,7 @@ def build(folder):
     source.mkdir(parents=True, exist_ok=True)
     shutil.copy(TOP / "bench" / "sparse" / "main.rt.in", source / "main.rt")
     (folder / "crates.txt").write_text(
-        "bt_tree: sha2 arrayvec thiserror\nbt_sparse: bt_tree thiserror\nsparse_bench: bt_sparse bt_tree\n")
+        "bt_tree: sha2 arrayvec thiserror\nbt_sparse: bt_tree thiserror\nsparse_bench: bt_sparse bt_tree anyhow\n")
     built = subprocess.run(["rt", "run"], cwd=crates / "sparse_bench", capture_output=True, text=True)
     program = crates / "sparse_bench" / "out" / "sparse_bench"
     if not program.exists():

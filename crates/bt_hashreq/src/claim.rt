@@ -4,18 +4,15 @@ ghost use Rattle.bt_sparse.specs.Answer.{answer_size};
 ghost use Rattle.bt_hashreq.specs.Claim.{IsRunLength, HasShape, IsClaimBy, IsNoClaim};
 
 use crate::key::HashKey;
-use bt_sparse::{Claim, Digests, ProofError};
+use bt_sparse::{Claim, Digests, MAX_RUN_LENGTH, ProofError};
 use std::alloc::Global;
-
-/// The most nodes of a run that a key may name.
-const MAX_RUN_LEN: u32 = 512;
 
 /// The height of the longest file's tree, 2^40 bytes.
 const MAX_HEIGHT: u32 = 26;
 
 /// What the digests that come with a key claim of the key's tree: those of the run, from the left, and then
-/// those of the uncles, from the lowest layer up, 32 bytes each. A run of 2^m nodes with p proof layers has p
-/// - (m - 1) uncles, or none.
+/// those of the uncles, from the lowest layer up, 32 bytes each. A run of 2^m nodes has one uncle for each
+/// proof layer beyond the first m - 1.
 ///
 /// Errors: `Shape` where the key's length is no power of two from 2 to 512, its index no multiple of it, or
 /// its base or layers above 26; `Count` where the digests are not as many as it names; `OutOfMemory`.
@@ -64,14 +61,14 @@ fn digest_count(key: &HashKey) -> Option<u32>
     Some(key.length + key.layers.saturating_sub(height - 1))
 }
 
-/// How many layers a run of so many nodes has above it, up to the one node that it lies below; None for a
+/// How many layers a run of this many nodes has above it, up to the one node that it lies below; None for a
 /// length that no run has.
 fn run_height(length: u32) -> Option<u32>
     ensures some { IsSome result ↔ IsRunLength length }
     ensures height { IfSome result (λ height. height ≡ height_of length) }
     ensures above { IfSome result (λ height. 1 ≤ height) }
 {
-    if length < 2 || length > MAX_RUN_LEN {
+    if length < 2 || length > MAX_RUN_LENGTH {
         return None;
     }
     let height = length.ilog2();

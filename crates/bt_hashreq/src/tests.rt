@@ -40,7 +40,7 @@ fn key(index: u32, length: u32, layers: u32) -> HashKey {
     }
 }
 
-/// Why 32 bytes for each of so many digests are no claim of the key; None where they are one.
+/// Why 32 bytes for each of this many digests are no claim of the key; None where they are one.
 fn refusal(alloc: Global, key: &HashKey, digests: u16) -> Result<Option<ProofError>, AllocError> {
     let mut bytes = Vec::new(alloc);
     bytes.resize(32 * digests as usize, 9)?;
@@ -123,7 +123,7 @@ fn keys_without_a_shape_and_digests_of_another_count(rt: HostRuntime) -> Result<
     Ok(())
 }
 
-/// What to ask for in a tree of a file of so many bytes of which the root alone is held.
+/// What to ask for in a tree of a file of this many bytes of which the root alone is held.
 fn planned(alloc: Global, length: u64, leaf: u32) -> Result<Option<HashKey>, AllocError> {
     let Some(geometry) = Geometry::new(length) else {
         return Ok(None);

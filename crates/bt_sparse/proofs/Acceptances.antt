@@ -23,7 +23,7 @@ use Rattle.bt_sparse.specs.SparseTree.{Facts, blocks_of, height, held_at, value_
 use Rattle.bt_sparse.specs.Claim.{Claims, on_path, HasShape, run_height, run_node, top_layer, top_node, top_digest}
 use Rattle.bt_sparse.specs.Acceptance.{HasPadding, Agrees, IsAcceptable, Accepts, DiffersBelow, IsHighestClash}
 use Rattle.bt_sparse.specs.ExpansionSteps.{level_pairs, run_pairs, path_pairs, claimed_pairs, IsPairOf}
-use Rattle.bt_sparse.specs.AcceptanceSteps.{IsPairIn, IsPadded, HasNoDifference, IsNotHigher, IsHighestIn, IsAdded, AgreesAt, IsGrownBy, IsChecked}
+use Rattle.bt_sparse.specs.AcceptanceSteps.{IsPairIn, IsPadded, HasNoDifference, IsNotHigher, IsHighestIn, IsAdded, AgreesAt, IsGrownBy, IsExpandedClaim}
 use Rattle.bt_sparse.proofs.Halves.{parity, power_next}
 use Rattle.bt_sparse.proofs.Values.{same_value, value_covers, value_padding, value_inside, cases_node}
 use Rattle.bt_sparse.proofs.Claims.{pair_of, last_of, claimed_inside, top_pair}
@@ -93,22 +93,6 @@ right_is : (dig : List ℕ → List ℕ) (c : Claim) (p : ClaimedPair) (layer i 
     → Claims dig c layer i d → d ≡ p.right
 right_is dig c p layer i d claimed here node claim = claims_one dig c layer i d p.right claim (rw (sym here, node) claimed.right)
 
-padded_below : (dig : List ℕ → List ℕ) (n : ℕ) (c : Claim) → All (IsPadded dig n) (claimed_pairs dig c) → (layer i : ℕ) (d : List ℕ)
-    → Claims dig c layer i d → layer < top_layer c → real_width n layer ≤ i → d ≡ padding_digest dig layer
-padded_below dig n c all layer i d claim low past =
-    let h = pairs_have dig c layer i d claim low in
-    let claimed = All-contains (IsPairOf dig c) (claimed_pairs dig c) h.pair (pairs_claimed dig c) h.among in
-    let padded = All-contains (IsPadded dig n) (claimed_pairs dig c) h.pair all h.among in
-    let real : real_width n h.pair.layer ≤ i = rw h.here past in
-    elim (parity i) [
-      | inl p ↦
-          let node : i ≡ 2 * h.pair.index = omega (arith, p.0, h.parent) in
-          left_is dig c h.pair layer i d claimed h.here node claim ∙ padded.left (omega arith) ∙ ap (padding_digest dig) h.here
-      | inr p ↦
-          let node : i ≡ 2 * h.pair.index + 1 = omega (arith, p.0, h.parent) in
-          right_is dig c h.pair layer i d claimed h.here node claim ∙ padded.right (omega arith) ∙ ap (padding_digest dig) h.here
-    ]
-
 -- below padding there is padding
 pub real_below : (n layer i : ℕ) → real_width n (layer + 1) ≤ i → real_width n layer ≤ 2 * i
 real_below n layer i le =
@@ -117,27 +101,6 @@ real_below n layer i le =
     let times : real_width n (layer + 1) * 2 ^ (layer + 1) ≤ i * 2 ^ (layer + 1) = mul-le-mul_right (2 ^ (layer + 1)) le in
     let both : i * 2 ^ (layer + 1) ≡ i * (2 ^ layer * 2) = ap (λ w. i * w) wide in
     real_le n (2 ^ layer) (2 * i) (pow_pos layer) (omega (arith, rounds, times, both))
-
-pub has_padding : (dig : List ℕ → List ℕ) (k : Facts) (c : Claim) → HasShape (height k) c → All (IsPadded dig (blocks_of k)) (claimed_pairs dig c) → HasPadding dig k c
-has_padding dig k c shape all layer i d claim past = elim (cases_lt layer (top_layer c)) [
-  | inl low ↦ padded_below dig (blocks_of k) c all layer i d claim low past.past
-  | inr le ↦
-      let last = last_of dig c layer i d claim le in
-      let t = top_pair dig (height k) c shape in
-      let below : ℕ = top_layer c - 1 in
-      let up : top_layer c - 1 + 1 ≡ top_layer c = omega (arith, t.some) in
-      let real : real_width (blocks_of k) (top_layer c - 1 + 1) ≤ i = rw (up, sym last.0) past.past in
-      let wide : real_width (blocks_of k) (top_layer c - 1) ≤ 2 * i = real_below (blocks_of k) (top_layer c - 1) i real in
-      let p = t.pair in
-      let left : p.left ≡ padding_digest dig (top_layer c - 1) =
-      padded_below dig (blocks_of k) c all (top_layer c - 1) (2 * top_node c) p.left p.claims_left (omega (arith, t.some)) (omega (arith, wide, last.1)) in
-      let right : p.right ≡ padding_digest dig (top_layer c - 1) =
-      padded_below dig (blocks_of k) c all (top_layer c - 1) (2 * top_node c + 1) p.right p.claims_right (omega (arith, t.some)) (omega (arith, wide, last.1)) in
-      let one : d ≡ dig (p.left ++ p.right) = claims_one dig c layer i d (dig (p.left ++ p.right)) claim (rw (last.0, last.1, ← up) p.above) in
-      let next : suc (top_layer c - 1) ≡ layer = omega (arith, t.some, last.0) in
-      one ∙ ap (λ x. dig (x ++ p.right)) left ∙ ap (λ x. dig (padding_digest dig (top_layer c - 1) ++ x)) right
-      ∙ padding_suc dig (top_layer c - 1) ∙ ap (padding_digest dig) next
-]
 
 pub padding_shown : (dig : List ℕ → List ℕ) (k : Facts) (c : Claim) → HasShape (height k) c → HasPadding dig k c
     → All (IsPadded dig (blocks_of k)) (claimed_pairs dig c)
@@ -401,7 +364,7 @@ agrees_at dig k nodes c e h = subst (λ m. AgreesAt dig m c) e h
 
 -- the pairs of a claim that was checked were put
 pub grown_all : (dig : List ℕ → List ℕ) (k : Facts) (c : Claim) (e : Expansion) (blocks : ℕ) (mid old new : Nodes) (count : ℕ) (pairs : List ClaimedPair)
-    → IsChecked dig k c e → blocks ≡ blocks_of k → mid ≡ old → old ≡ k.nodes → pairs ≡ e.pairs.items
+    → IsExpandedClaim dig k c e → blocks ≡ blocks_of k → mid ≡ old → old ≡ k.nodes → pairs ≡ e.pairs.items
     → ((a : Claim) → All (IsPairOf dig a) pairs → AgreesAt dig mid a → IsGrownBy dig a blocks mid new count pairs)
     → IsGrownBy dig c (blocks_of k) k.nodes new count (claimed_pairs dig c)
 grown_all dig k c e blocks mid old new count pairs h same kept start list put =

@@ -19,17 +19,6 @@ use Rattle.bt_sparse.proofs.Values.{same_value, none_some, value_covers, value_p
 abbrev pub no_pair : ClaimedPair
 no_pair = record { layer = 0; index = 0; left = []; right = [] }
 
-pub padded_is : (dig : List ℕ → List ℕ) (n real : ℕ) (digest : List ℕ) (p : ClaimedPair) → real ≡ real_width n p.layer → digest ≡ padding_digest dig p.layer
-    → (real ≤ 2 * p.index → p.left ≡ digest) × (real ≤ 2 * p.index + 1 → p.right ≡ digest) → IsPadded dig n p
-padded_is dig n real digest p r d h = record {
-  left = λ past. h.0 (omega (arith, r)) ∙ d;
-  right = λ past. h.1 (omega (arith, r)) ∙ d;
-}
-
-pub padded_back : (dig : List ℕ → List ℕ) (n real : ℕ) (digest : List ℕ) (p : ClaimedPair) → real ≡ real_width n p.layer → digest ≡ padding_digest dig p.layer
-    → IsPadded dig n p → (real ≤ 2 * p.index → p.left ≡ digest) × (real ≤ 2 * p.index + 1 → p.right ≡ digest)
-padded_back dig n real digest p r d h = (λ past. h.left (omega (arith, r)) ∙ sym d, λ past. h.right (omega (arith, r)) ∙ sym d)
-
 -- the second half of 64 bytes is written
 pub second_half : (xs ys : List ℕ) → length xs ≡ 32 → put_mid 32 32 (xs ++ replicate 32 0) ys ≡ xs ++ ys
 second_half xs ys size =

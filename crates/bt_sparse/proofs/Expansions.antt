@@ -127,7 +127,7 @@ pub record IsPathStep (dig : List ℕ → List ℕ) (c : Claim) (t : ℕ) (pair 
   pub pair_is : pair ≡ path_pair dig c t
   pub digest_is : digest ≡ path_digest dig c (t + 1)
 
-path_digest_more : (dig : List ℕ → List ℕ) (c : Claim) (t : ℕ)
+pub path_digest_more : (dig : List ℕ → List ℕ) (c : Claim) (t : ℕ)
     → path_digest dig c (t + 1) ≡ parent_digest dig (path_node c t) (path_digest dig c t) (get_or c.uncles t [])
 unfolding path_digest
 path_digest_more dig c t = rw (add-one t) refl
@@ -181,7 +181,7 @@ level_claimed dig c above first (suc n) low under =
     (level_claimed dig c above first n low (λ i from to. under i from (omega arith)))
     (run_pair_claimed dig c above (first + n) low (under (first + n) (omega arith) (omega arith)))
 
-in_row : (node w i : ℕ) → node * w ≤ i → i < node * w + w → i / w ≡ node
+pub in_row : (node w i : ℕ) → node * w ≤ i → i < node * w + w → i / w ≡ node
 in_row node w i from to =
     let split : i ≡ node * w + (i - node * w) = omega arith in
     ap (λ k. k / w) split ∙ div-mul-add node w (i - node * w) (omega arith)

@@ -10,7 +10,8 @@ use Rattle.bt_tree.specs.TreeShape.{real_width}
 use Rattle.bt_sparse.specs.declared.claim.Claim.{Claim}
 use Rattle.bt_sparse.specs.declared.expansion.ClaimedPair.{ClaimedPair}
 use Rattle.bt_sparse.specs.Page.{page_length}
-use Rattle.bt_sparse.specs.NodeMap.{Nodes, digest_at, table_length, Layers, HasPlace, KeepsPlaces}
+use Rattle.bt_sparse.specs.LayerPages.{table_length}
+use Rattle.bt_sparse.specs.NodeMap.{Nodes, digest_at, Layers, HasPlace, KeepsPlaces}
 use Rattle.bt_sparse.specs.Claim.{Claims}
 use Rattle.bt_sparse.specs.ExpansionSteps.{IsPairOf}
 use Rattle.bt_sparse.specs.AcceptanceSteps.{IsPut, IsAdded, AgreesAt, IsGrown, IsGrownBy, HasPlaces}

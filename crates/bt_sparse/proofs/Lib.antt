@@ -8,6 +8,7 @@ pub mod Expansions
 pub mod Differences
 pub mod Growths
 pub mod Acceptances
+pub mod Paddings
 pub mod Joins
 pub mod Answers
 pub mod Paths

@@ -4,7 +4,8 @@ use Rattle.std.proofs.lemmas.Bool.{cases_lt, cases_eq}
 use Rattle.std.proofs.lemmas.List.{get_or_append_left, get_or-append_right, get_or_past}
 use Rattle.std.specs.FinMap as finite
 use Rattle.bt_sparse.specs.Page.{page_length}
-use Rattle.bt_sparse.specs.NodeMap.{Tables, table_length, entry_at, KeepsTables, IsPutInto, Layers, HasPlace, number_limit, nodes_in}
+use Rattle.bt_sparse.specs.LayerPages.{Tables, table_length, entry_at, KeepsTables, IsPutInto}
+use Rattle.bt_sparse.specs.NodeMap.{Layers, HasPlace, number_limit, nodes_in}
 use Rattle.bt_sparse.proofs.NodeMaps.{nodes_kept, nodes_put}
 
 -- a default that is pushed changes no look-up

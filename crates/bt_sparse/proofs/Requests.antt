@@ -41,6 +41,19 @@ layer_run base count t lt = rw lt-ltb refl
 layer_uncle : (base count t : ℕ) → answer_layer base count (count + t) ≡ base + height_of count + t
 layer_uncle base count t = let le : count ≤ count + t = omega arith in rw le-ltb (omega arith)
 
+layer_past : (base count t : ℕ) → count ≤ t → answer_layer base count t ≡ base + height_of count + (t - count)
+layer_past base count t le = rw le-ltb refl
+
+-- the layers of an answer's nodes go up
+pub layers_rise : (base count t : ℕ) → answer_layer base count t ≤ answer_layer base count (t + 1)
+layers_rise base count t = elim (cases_lt t count) [
+  | inl lt ↦ elim (cases_lt (t + 1) count) [
+    | inl next ↦ omega (arith, layer_run base count t lt, layer_run base count (t + 1) next)
+    | inr le ↦ omega (arith, layer_run base count t lt, layer_past base count (t + 1) le)
+  ]
+  | inr le ↦ omega (arith, layer_past base count t le, layer_past base count (t + 1) (omega arith))
+]
+
 index_run : (index count t : ℕ) → t < count → answer_index index count t ≡ index + t
 index_run index count t lt = rw lt-ltb refl
 

@@ -18,7 +18,7 @@ use Rattle.bt_sparse.proofs.Requests.{request_shape, made_of}
 use Rattle.bt_sparse.proofs.Answers.{answers_agree}
 
 -- the claim's digest of each node is the answering tree's
-agree : (dig : List ℕ → List ℕ) (k : Facts) (base index count layers : ℕ) (ds : List (List ℕ)) → IsRooted dig k → IsRequest (height k) base index count layers
+pub agree : (dig : List ℕ → List ℕ) (k : Facts) (base index count layers : ℕ) (ds : List (List ℕ)) → IsRooted dig k → IsRequest (height k) base index count layers
     → IsAnswer dig k base index count layers ds → (layer i : ℕ) (d : List ℕ) → Claims dig (claim_of base index count ds) layer i d → value_at dig k layer i ≡ Some d
 agree dig k base index count layers ds rooted request answer =
     answers_agree dig k (claim_of base index count ds) rooted (request_shape (height k) base index count layers ds request answer.size)

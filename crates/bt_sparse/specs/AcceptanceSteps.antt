@@ -6,9 +6,9 @@ use Rattle.bt_tree.specs.Limits.{max_block_count, max_height}
 use Rattle.bt_tree.specs.TreeShape.{real_width}
 use Rattle.bt_tree.specs.Tree.{padding_digest}
 use Rattle.bt_sparse.specs.NodeMap.{Nodes, digest_at, HasDigests, Layers, HasPlace}
-use Rattle.bt_sparse.specs.SparseTree.{Facts, height, value_at}
-use Rattle.bt_sparse.specs.Claim.{Claims}
-use Rattle.bt_sparse.specs.Acceptance.{IsAcceptable}
+use Rattle.bt_sparse.specs.SparseTree.{Facts, height, held_at, value_at}
+use Rattle.bt_sparse.specs.Claim.{Claims, HasShape, top_layer, top_node}
+use Rattle.bt_sparse.specs.Acceptance.{HasPadding, IsAcceptable}
 use Rattle.bt_sparse.specs.ExpansionSteps.{IsExpansion}
 use Rattle.bt_sparse.specs.declared.claim.Claim.{Claim}
 use Rattle.bt_sparse.specs.declared.expansion.ClaimedPair.{ClaimedPair}
@@ -100,8 +100,14 @@ pub record HasPlaces (n : ℕ) (layers : Layers) (p : ClaimedPair) : Type 0 wher
   pub left : 2 * p.index < real_width n p.layer → HasPlace layers p.layer (2 * p.index)
   pub right : 2 * p.index + 1 < real_width n p.layer → HasPlace layers p.layer (2 * p.index + 1)
 
+-- the claim has the right shape and padding, and its top is held with this digest
+pub record HangsFrom (dig : List ℕ → List ℕ) (k : Facts) (c : Claim) (d : List ℕ) : Type 0 where
+  pub shape : HasShape (height k) c
+  pub padding : HasPadding dig k c
+  pub held : held_at k (top_layer c) (top_node c) ≡ Some d
+
 -- the tree can accept the claim, and this is what it names
-pub record IsChecked (dig : List ℕ → List ℕ) (k : Facts) (c : Claim) (e : Expansion) : Type 0 where
+pub record IsExpandedClaim (dig : List ℕ → List ℕ) (k : Facts) (c : Claim) (e : Expansion) : Type 0 where
   pub conditions : IsAcceptable dig k c
   pub expansion : IsExpansion dig c e
   pub inside : All (IsPairIn (height k)) e.pairs.items

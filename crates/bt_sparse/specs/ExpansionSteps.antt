@@ -2,12 +2,12 @@
 use Rattle.std.specs.Prelude.{◌≡◌, ℕ, zero, suc, ◌+◌, ◌-◌, ◌*◌, ◌/◌, ◌%◌, ◌^◌, ◌<◌, ◌≤◌, ◌==◌, List, [], ◌∷◌, ◌++◌, length, slice_index_or, if◌then◌else◌}
 use Rattle.bt_tree.specs.Limits.{max_block_count, max_height}
 use Rattle.bt_tree.specs.Peaks.{row_node}
-use Rattle.bt_sparse.specs.Claim.{Claims, run_height, run_top, run_node, run_digest, path_node, path_digest, top_layer, top_node, top_digest}
+use Rattle.bt_sparse.specs.Claim.{Claims, run_height, run_top, run_node, run_digest, path_node, path_digest, top_layer, top_digest}
 use Rattle.bt_sparse.specs.declared.claim.Claim.{Claim}
 use Rattle.bt_sparse.specs.declared.expansion.ClaimedPair.{ClaimedPair}
 use Rattle.bt_sparse.specs.declared.expansion.Expansion.{Expansion}
 
--- two siblings so many layers above the run, below node i of the next layer
+-- two siblings this many layers above the run, below node i of the next layer
 abbrev pub run_pair : (List ℕ → List ℕ) → Claim → ℕ → ℕ → ClaimedPair
 run_pair dig c above i = record {
   layer = c.base + above;
@@ -16,7 +16,7 @@ run_pair dig c above i = record {
   right = row_node dig (run_digest c) above (2 * i + 1);
 }
 
--- so many of them, from the left
+-- this many of them, from the left
 unfoldable pub level_pairs : (List ℕ → List ℕ) → Claim → ℕ → ℕ → ℕ → List ClaimedPair
 level_pairs dig c above first zero = []
 level_pairs dig c above first (suc n) =
@@ -47,7 +47,7 @@ path_pairs dig c (suc above) = path_pairs dig c above ++ path_pair dig c above �
 abbrev pub claimed_pairs : (List ℕ → List ℕ) → Claim → List ClaimedPair
 claimed_pairs dig c = run_pairs dig c (run_height c) ++ path_pairs dig c (length c.uncles)
 
--- nodes of a layer so many layers above the run, from an index on
+-- nodes of a layer this many layers above the run, from an index on
 abbrev pub AreRunNodes : (List ℕ → List ℕ) → Claim → ℕ → ℕ → List (List ℕ) → Type 0
 AreRunNodes dig c above first nodes =
     (i : ℕ) → i < length nodes → slice_index_or nodes i [] ≡ row_node dig (run_digest c) above (first + i)
@@ -66,11 +66,9 @@ pub record IsShort (c : Claim) : Type 0 where
   pub narrow : c.index + length c.run ≤ max_block_count
   pub low : c.base + run_height c ≤ max_height
 
--- all of them, and the top
+-- all of them, and the top's digest
 pub record IsExpansion (dig : List ℕ → List ℕ) (c : Claim) (e : Expansion) : Type 0 where
   pub pairs : e.pairs.items ≡ claimed_pairs dig c
-  pub layer : e.top_layer ≡ top_layer c
-  pub node : e.top_node ≡ top_node c
   pub digest : e.top_digest ≡ top_digest dig c
 
 -- the claim says these digests of the pair's nodes, which lie below the top's layer

@@ -25,12 +25,19 @@ ClaimsOne dig = (c : Claim) (layer i : ℕ) (d e : List ℕ)
 
 -- of every node that a claim made of a rooted tree's values names, the tree has the digest that the claim
 -- says
-abbrev pub AnswersAgree : (List ℕ → List ℕ) → Type 0
-AnswersAgree dig = (k : Facts) (c : Claim) → IsRooted dig k → HasShape (height k) c → IsMadeOf dig k c
+abbrev pub MadeClaimsAgree : (List ℕ → List ℕ) → Type 0
+MadeClaimsAgree dig = (k : Facts) (c : Claim) → IsRooted dig k → HasShape (height k) c → IsMadeOf dig k c
     → (layer i : ℕ) (d : List ℕ) → Claims dig c layer i d → value_at dig k layer i ≡ Some d
 
--- What a rooted tree answers, made a claim, is acceptable to every rooted tree of the same file length and
--- root that holds the claim's top and no node of it with another digest.
+-- such a claim is the one that the tree's answer to a request makes
+abbrev pub AnswersAgree : (List ℕ → List ℕ) → Type 0
+AnswersAgree dig = (k : Facts) (base index count layers : ℕ) (digests : List (List ℕ)) → IsRooted dig k
+    → IsRequest (height k) base index count layers → IsAnswer dig k base index count layers digests
+    → (layer i : ℕ) (d : List ℕ) → Claims dig (claim_of base index count digests) layer i d
+    → value_at dig k layer i ≡ Some d
+
+-- What a rooted tree answers, made a claim, is acceptable to any tree of the same file length that holds the
+-- claim's top and no node of it with another digest.
 abbrev pub AnswersAreTaken : (List ℕ → List ℕ) → Type 0
 AnswersAreTaken dig = (k other : Facts) (base index count layers : ℕ) (digests : List (List ℕ))
     → IsRooted dig k

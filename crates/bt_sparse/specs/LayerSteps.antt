@@ -6,7 +6,7 @@ use Rattle.bt_tree.specs.Tree.{padding_digest}
 use Rattle.bt_tree.specs.Peaks.{row_node}
 use Rattle.bt_sparse.specs.NodeMap.{Nodes, digest_at, HasDigests}
 
--- so many nodes of a layer, from an index on: what is there, or the padding
+-- this many nodes of a layer, from an index on: what is there, or the padding
 pub record AreKnown (nodes : Nodes) (layer first : ℕ) (padding : List ℕ)
     (list : List (List ℕ)) (count : ℕ) : Type 0 where
   pub size : length list ≡ count

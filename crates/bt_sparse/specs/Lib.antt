@@ -1,4 +1,6 @@
 pub mod Page
+pub mod PageTable
+pub mod LayerPages
 pub mod NodeMap
 pub mod SparseTree
 pub mod Anchor
@@ -9,4 +11,5 @@ pub mod Layer
 pub mod LayerSteps
 pub mod Laws
 pub mod ExpansionSteps
+pub mod PaddingSteps
 pub mod AcceptanceSteps

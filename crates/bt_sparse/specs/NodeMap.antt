@@ -4,7 +4,8 @@ use Rattle.std.specs.FinMap as finite
 use Rattle.std.specs.Ordering.{nat_cmp, ordering_then}
 use Rattle.std.specs.declared.cmp.Ordering.{Ordering}
 use Rattle.std.specs.Coded.{Coded, coded×, coded_ℕ, coded_list}
-use Rattle.bt_sparse.specs.Page.{Slots, page_length}
+use Rattle.bt_sparse.specs.Page.{page_length}
+use Rattle.bt_sparse.specs.LayerPages.{Tables, table_length, entry_at}
 
 -- a node's layer and index
 abbrev pub NodeIndex : Type 0
@@ -27,47 +28,6 @@ digest_at nodes layer i = finite.get nodes (layer, i)
 -- each digest has 32 bytes
 abbrev pub HasDigests : Nodes → Type 0
 HasDigests nodes = (layer i : ℕ) (d : List ℕ) → digest_at nodes layer i ≡ Some d → length d ≡ 32
-
--- a layer in pages, and what they have at an index
-abbrev pub Pages : Type 0
-Pages = List Slots
-
-abbrev pub slot_at : Pages → ℕ → Option (List ℕ)
-slot_at pages i = slice_index_or (slice_index_or pages (i / page_length) []) (i % page_length) None
-
--- there is as much as before, in pages that are as long or longer
-pub record KeepsPages (old new : Pages) : Type 0 where
-  pub same : (i : ℕ) → slot_at new i ≡ slot_at old i
-  pub longer : (p : ℕ) → length (slice_index_or old p []) ≤ length (slice_index_or new p [])
-
--- a digest was put at an index
-pub record IsPutIn (i : ℕ) (d : List ℕ) (old new : Pages) : Type 0 where
-  pub here : slot_at new i ≡ Some d
-  pub others : (j : ℕ) → j ≢ i → slot_at new j ≡ slot_at old j
-  pub longer : (p : ℕ) → length (slice_index_or old p []) ≤ length (slice_index_or new p [])
-
--- a layer in tables of pages, and what they have at an index
-abbrev pub table_length : ℕ
-table_length = 262144
-
-abbrev pub Tables : Type 0
-Tables = List Pages
-
-abbrev pub entry_at : Tables → ℕ → Option (List ℕ)
-entry_at tables i = slot_at (slice_index_or tables (i / table_length) []) (i % table_length)
-
--- there is as much as before, in pages that are as long or longer
-pub record KeepsTables (old new : Tables) : Type 0 where
-  pub same : (i : ℕ) → entry_at new i ≡ entry_at old i
-  pub longer : (t p : ℕ) → length (slice_index_or (slice_index_or old t []) p [])
-      ≤ length (slice_index_or (slice_index_or new t []) p [])
-
--- a digest was put at an index
-pub record IsPutInto (i : ℕ) (d : List ℕ) (old new : Tables) : Type 0 where
-  pub here : entry_at new i ≡ Some d
-  pub others : (j : ℕ) → j ≢ i → entry_at new j ≡ entry_at old j
-  pub longer : (t p : ℕ) → length (slice_index_or (slice_index_or old t []) p [])
-      ≤ length (slice_index_or (slice_index_or new t []) p [])
 
 -- the layers, and what they have at a node
 abbrev pub Layers : Type 0

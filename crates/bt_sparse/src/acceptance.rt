@@ -9,11 +9,12 @@ ghost use Rattle.bt_tree.specs.Tree.{padding_digest};
 ghost use Rattle.bt_sparse.specs.SparseTree.{blocks_of, height, IsRooted};
 ghost use Rattle.bt_sparse.specs.Acceptance.{Accepts, IsRefused};
 ghost use Rattle.bt_sparse.specs.ExpansionSteps.{IsPairOf};
-ghost use Rattle.bt_sparse.specs.AcceptanceSteps.{IsPairIn, IsPadded, HasNoDifference, IsDifference, higher_of, IsHighestOf, IsPut, AgreesAt, IsGrownBy, IsChecked, HasPlaces};
+ghost use Rattle.bt_sparse.specs.AcceptanceSteps.{IsPairIn, IsPadded, HasNoDifference, IsDifference, higher_of, IsHighestOf, IsPut, AgreesAt, IsGrownBy, HangsFrom, IsExpandedClaim, HasPlaces};
 
 use crate::claim::{Claim, ProofError};
-use crate::expansion::{ClaimedPair, Expansion, expand, has_shape, input};
+use crate::expansion::{ClaimedPair, Expansion, expand, has_shape, input, top_of};
 use crate::node_map::NodeMap;
+use crate::padding::{are_uncles_padded, is_run_padded};
 use crate::sparse_tree::SparseTree;
 use bt_tree::{Geometry, Hash32, NodeHash};
 use std::alloc::AllocError;
@@ -24,31 +25,6 @@ struct Difference {
     pair: ClaimedPair,
     left: Hash32,
     right: Hash32,
-}
-
-/// The digests of the padding at each layer up to the height of a tree.
-pub(crate) fn padding_digests<H: NodeHash>(hash: H, height: u8) -> [Hash32; 27]
-    requires { height ≤ max_height }
-    ensures { (layer : ℕ) → layer ≤ height → slice_index_or result layer [] ≡ padding_digest H.digest layer }
-{
-    let mut digests = [[0; 32]; 27];
-    for layer in 0..height as usize {
-        let below = digests[layer];
-        digests[layer + 1] = hash.pair(&below, &below);
-    }
-    digests
-}
-
-impl ClaimedPair {
-    /// Whether each of the two nodes from index `real` on has this digest.
-    fn is_padded(&self, real: u32, padding: &Hash32) -> bool
-        requires { self.now.index < max_block_count }
-        ensures { IsTrue result ↔ ((real ≤ 2 * self.now.index → self.now.left ≡ padding.now)
-            × (real ≤ 2 * self.now.index + 1 → self.now.right ≡ padding.now)) }
-    {
-        (2 * self.index < real || self.left == *padding)
-            && (2 * self.index + 1 < real || self.right == *padding)
-    }
 }
 
 /// Of two differences the higher one, and in one layer the one to the left.
@@ -67,7 +43,7 @@ fn higher(found: Option<Difference>, next: Option<Difference>) -> Option<Differe
 }
 
 impl<H: NodeHash> SparseTree<H> {
-    /// Takes a claim, and answers how many nodes are newly held. A refusal leaves the tree as it was.
+    /// Takes a claim, and returns how many nodes are newly held. A refusal leaves the tree as it was.
     ///
     /// The refusals are P1, P3, P4, P5 and P6 of `ProofError`, in this order, and P7, which may come in place
     /// of any but P1.
@@ -86,32 +62,23 @@ impl<H: NodeHash> SparseTree<H> {
         if make_pages(self.geometry, &mut self.nodes, pairs).is_err() {
             return Err(ProofError::OutOfMemory);
         }
-        Ok(put_pairs(self.hash, self.geometry, &mut self.nodes, pairs))
+        Ok(put_pairs(self.geometry, &mut self.nodes, pairs))
     }
 
     /// What a claim names, where the tree can accept it.
     fn check(&self, claim: &Claim) -> Result<Expansion, ProofError>
-        ensures ok { IfOk result (IsChecked H.digest self.now claim.now) }
+        ensures ok { IfOk result (IsExpandedClaim H.digest self.now claim.now) }
         ensures refused { IfErr result (IsRefused H.digest self.now claim.now) }
     {
+        let top = self.top(claim)?;
         let height = self.geometry.height();
-        if !has_shape(height, claim) {
-            return Err(ProofError::Shape);
-        }
         let Ok(expansion) = expand(self.hash, self.alloc, height, claim) else {
             return Err(ProofError::OutOfMemory);
-        };
-        let pairs = expansion.pairs.as_slice();
-        if !are_padded(self.hash, self.geometry, pairs) {
-            return Err(ProofError::Padding);
-        }
-        let Some(top) = self.held(expansion.top_layer, expansion.top_node) else {
-            return Err(ProofError::NoAnchor);
         };
         if top != expansion.top_digest {
             return Err(ProofError::TopDiffers);
         }
-        if let Some(found) = self.highest_difference(pairs) {
+        if let Some(found) = self.highest_difference(expansion.pairs.as_slice()) {
             return Err(ProofError::Clash {
                 layer: found.pair.layer + 1,
                 index: found.pair.index,
@@ -120,6 +87,24 @@ impl<H: NodeHash> SparseTree<H> {
             });
         }
         Ok(expansion)
+    }
+
+    /// The digest that is held at a claim's top, where the claim's shape and padding are right. No node of the claim
+    /// is digested for this, and no memory taken.
+    fn top(&self, claim: &Claim) -> Result<Hash32, ProofError>
+        ensures ok { IfOk result (HangsFrom H.digest self.now claim.now) }
+        ensures refused { IfErr result (IsRefused H.digest self.now claim.now) }
+    {
+        if !has_shape(self.geometry.height(), claim) {
+            return Err(ProofError::Shape);
+        }
+        if !is_run_padded(self.hash, self.geometry, claim)
+            || !are_uncles_padded(self.hash, self.geometry, claim)
+        {
+            return Err(ProofError::Padding);
+        }
+        let (layer, node) = top_of(claim);
+        self.held(layer, node).ok_or(ProofError::NoAnchor)
     }
 
     /// The highest of these pairs of which the tree knows another digest, and in one layer the leftmost.
@@ -161,21 +146,6 @@ impl<H: NodeHash> SparseTree<H> {
     }
 }
 
-/// Whether each node of these pairs that covers no block has the digest of the padding.
-fn are_padded<H: NodeHash>(hash: H, geometry: Geometry, pairs: &[ClaimedPair]) -> bool
-    requires { All (IsPairIn (height_of (block_count geometry))) pairs.now }
-    ensures { IsTrue result ↔ All (IsPadded H.digest (block_count geometry)) pairs.now }
-{
-    let padding = padding_digests(hash, geometry.height());
-    for pair in pairs {
-        let real = geometry.real(pair.layer as u8);
-        if !pair.is_padded(real, &padding[pair.layer as usize]) {
-            return false;
-        }
-    }
-    true
-}
-
 /// Makes the pages of these pairs' nodes that cover a block.
 fn make_pages(
     geometry: Geometry,
@@ -195,20 +165,15 @@ fn make_pages(
     Ok(())
 }
 
-/// Puts the digests of these pairs' nodes that cover a block, and answers how many of these nodes are new.
+/// Puts the digests of these pairs' nodes that cover a block, and returns how many of these nodes are new.
 /// Their pages are made.
-fn put_pairs<H: NodeHash>(
-    _hash: H,
-    geometry: Geometry,
-    nodes: &mut NodeMap,
-    pairs: &[ClaimedPair],
-) -> u32
+fn put_pairs(geometry: Geometry, nodes: &mut NodeMap, pairs: &[ClaimedPair]) -> u32
     requires inside { All (IsPairIn (height_of (block_count geometry))) pairs.now }
     requires narrow { length pairs.now < 2 ^ 28 }
     requires ready { All (HasPlaces (block_count geometry) nodes.old) pairs.now }
-    ensures { (c : Claim) → All (IsPairOf H.digest c) pairs.now → AgreesAt H.digest (nodes_in nodes.old) c
-        → IsGrownBy H.digest c (block_count geometry) (nodes_in nodes.old) (nodes_in nodes.new) result
-        pairs.now }
+    ensures { (dig : List ℕ → List ℕ) (c : Claim) → All (IsPairOf dig c) pairs.now
+        → AgreesAt dig (nodes_in nodes.old) c
+        → IsGrownBy dig c (block_count geometry) (nodes_in nodes.old) (nodes_in nodes.new) result pairs.now }
 {
     let mut count = 0;
     for pair in pairs {
@@ -218,7 +183,7 @@ fn put_pairs<H: NodeHash>(
     count
 }
 
-/// Puts a digest at a node where that covers a block. The answer is how many nodes are new: 1 or 0.
+/// Puts a digest at a node where that covers a block, and returns how many nodes are new: 1 or 0.
 fn put(geometry: Geometry, nodes: &mut NodeMap, layer: u32, index: u32, digest: &Hash32) -> u32
     requires inside { layer ≤ height_of (block_count geometry) }
     requires high { layer ≤ max_height }

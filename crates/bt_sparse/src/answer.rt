@@ -5,15 +5,15 @@ ghost use Rattle.bt_tree.specs.TreeShape.{IsInside};
 ghost use Rattle.bt_sparse.specs.SparseTree.{blocks_of, height, value_at, IsSound};
 ghost use Rattle.bt_sparse.specs.Answer.{IsRequest, IsAnswer, HasUnknown, KnowsAll, answer_size, answer_layer, answer_index};
 
-use crate::acceptance::padding_digests;
-use crate::expansion::layers_above;
+use crate::expansion::{layers_above, sibling};
+use crate::padding::Padding;
 use crate::sparse_tree::SparseTree;
 use bt_tree::{Hash32, NodeHash};
 use std::alloc::AllocError;
 use thiserror::Error;
 
 /// The most nodes of a run that are asked for at once.
-const MAX_RUN_LENGTH: u32 = 512;
+pub const MAX_RUN_LENGTH: u32 = 512;
 
 /// Why a request is not answered, in this order.
 #[derive(Clone, Copy, Debug, PartialEq, Eq, Error)]
@@ -80,9 +80,7 @@ impl Request {
         }
         let above = layers_above(self.length) as u32;
         let up = t - self.length;
-        let node = self.index >> above >> up;
-        let sibling = if node % 2 == 0 { node + 1 } else { node - 1 };
-        (self.base + above + up, sibling)
+        (self.base + above + up, sibling(self.index >> above >> up))
     }
 }
 
@@ -168,13 +166,16 @@ impl<H: NodeHash> SparseTree<H> {
             IsAnswer H.digest self.now request.base request.index request.length request.layers
             digests.items) }
     {
-        let padding = padding_digests(self.hash, request.height);
         let size = request.size();
         let mut digests = Vec::with_capacity(self.alloc, size as usize)?;
+        let mut padding = Padding::new(self.hash);
         for t in 0..size {
             let (layer, index) = request.node(t);
-            // What is known and not held is padding.
-            let digest = self.held(layer, index).unwrap_or(padding[layer as usize]);
+            let digest = match self.held(layer, index) {
+                Some(digest) => digest,
+                // What is known and not held is padding.
+                None => padding.rise(layer as u8),
+            };
             digests.push(digest)?;
         }
         Ok(digests)

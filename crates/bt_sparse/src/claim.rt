@@ -50,14 +50,14 @@ pub struct Claim {
     pub uncles: Digests,
 }
 
-/// Why a proof is refused. Of the first seven that apply, the first is told.
+/// Why a proof is refused: the first that applies, in the order P1 to P6.
 #[derive(Clone, Copy, Debug, PartialEq, Eq, Error)]
 pub enum ProofError {
     /// P1: The run is no power of two of nodes from 2 up, or does not begin at a multiple of it; or the run
     /// or the uncles lie outside the tree.
     #[error("P1 Shape")]
     Shape,
-    /// P2: The digests are not as many as their key asks for. `accept` never answers this.
+    /// P2: The digests are not as many as their key asks for. `accept` never returns this.
     #[error("P2 Count")]
     Count,
     /// P3: A node that covers no block has another digest than the padding.

@@ -2,7 +2,7 @@ ghost use Rattle.std.specs.Prelude.{◌≡◌, ℕ, List, [], slice_index_or, �
 ghost use Rattle.bt_tree.specs.Limits.{max_block_count, max_height};
 ghost use Rattle.bt_tree.specs.TreeShape.{height_of};
 ghost use Rattle.bt_tree.specs.Peaks.{row_node};
-ghost use Rattle.bt_sparse.specs.Claim.{run_digest, run_height, run_node, path_node, path_digest, HasShape};
+ghost use Rattle.bt_sparse.specs.Claim.{run_digest, run_height, run_node, path_node, path_digest, top_layer, top_node, sibling_of, HasShape};
 ghost use Rattle.bt_sparse.specs.ExpansionSteps.{level_pairs, run_pairs, path_pairs, AreRunNodes, AreParents, IsShort, IsExpansion};
 
 use crate::claim::Claim;
@@ -18,12 +18,10 @@ pub(crate) struct ClaimedPair {
     pub(crate) right: Hash32,
 }
 
-/// All nodes that a claim names: in pairs, and the top, which the others hang from.
+/// All nodes that a claim names: in pairs, and the digest of the top, which the others hang from.
 #[derive(Drop)]
 pub(crate) struct Expansion {
     pub(crate) pairs: Vec<ClaimedPair>,
-    pub(crate) top_layer: u32,
-    pub(crate) top_node: u32,
     pub(crate) top_digest: Hash32,
 }
 
@@ -57,7 +55,20 @@ pub(crate) fn has_shape(height: u8, claim: &Claim) -> bool
         && layers as usize + uncles <= rest as usize
 }
 
-/// The pairs of siblings that a claim of the right shape names, and its top. Each pair is digested once.
+/// The layer and the index of a claim's top, the last node of its path.
+pub(crate) fn top_of(claim: &Claim) -> (u32, u32)
+    requires short { IsShort claim.now }
+    requires high { top_layer claim.now ≤ max_height }
+    ensures layer { result.0 ≡ top_layer claim.now }
+    ensures index { result.1 ≡ top_node claim.now }
+{
+    let layers = layers_above(claim.run.as_slice().len() as u32) as u32;
+    let uncles = claim.uncles.as_slice().len() as u32;
+    let node = claim.index >> layers;
+    (claim.base + layers + uncles, node >> uncles)
+}
+
+/// The pairs of siblings that a claim of the right shape names, and its top's digest. Each pair is digested once.
 pub(crate) fn expand<H: NodeHash>(
     hash: H,
     alloc: Global,
@@ -71,19 +82,13 @@ pub(crate) fn expand<H: NodeHash>(
     let uncles = claim.uncles.as_slice();
     let count = claim.run.as_slice().len();
     let layers = layers_above(count as u32);
-    let node = claim.index >> layers;
     let mut pairs = Vec::with_capacity(alloc, count - 1 + uncles.len())?;
     let digest = add_run(hash, alloc, &mut pairs, claim, layers)?;
     let top_digest = add_path(hash, &mut pairs, claim, layers, digest)?;
-    Ok(Expansion {
-        pairs,
-        top_layer: claim.base + layers as u32 + uncles.len() as u32,
-        top_node: node >> uncles.len(),
-        top_digest,
-    })
+    Ok(Expansion { pairs, top_digest })
 }
 
-/// Adds the pairs below the run's top, which lies so many layers above the run, layer by layer. The answer is
+/// Adds the pairs below the run's top, which lies this many layers above the run, layer by layer, and returns
 /// the top's digest.
 fn add_run<H: NodeHash>(
     hash: H,
@@ -191,7 +196,7 @@ pub(crate) fn input(left: &Hash32, right: &Hash32) -> [u8; 64]
     bytes
 }
 
-/// Adds the pairs on the path from the run's top up, whose digest this is. The answer is the digest of the
+/// Adds the pairs on the path from the run's top up, whose digest this is, and returns the digest of the
 /// path's end.
 fn add_path<H: NodeHash>(
     hash: H,
@@ -234,4 +239,11 @@ fn in_order(node: u32, own: Hash32, sibling: Hash32) -> (Hash32, Hash32)
     } else {
         (sibling, own)
     }
+}
+
+/// The index of a node's sibling.
+pub(crate) fn sibling(node: u32) -> u32
+    ensures { result ≡ sibling_of node }
+{
+    if node % 2 == 0 { node + 1 } else { node - 1 }
 }

@@ -1,4 +1,4 @@
-ghost use Rattle.bt_sparse.specs.Laws.{KeepsRooted, HeldIsChecked, ClaimsOne, AnswersAgree, AnswersAreTaken, AnswersReachRoots, LeavesAreFiles};
+ghost use Rattle.bt_sparse.specs.Laws.{KeepsRooted, HeldIsChecked, ClaimsOne, MadeClaimsAgree, AnswersAgree, AnswersAreTaken, AnswersReachRoots, LeavesAreFiles};
 
 use bt_tree::NodeHash;
 
@@ -18,13 +18,14 @@ pub fn claims_one<H: NodeHash>(_hash: H)
 {}
 
 /// Of every node that a claim made of a rooted tree's values names, the tree has the digest that the claim
-/// says.
+/// says; and the claim of its answer to a request is one.
 pub fn answers_agree<H: NodeHash>(_hash: H)
-    ensures { AnswersAgree H.digest }
+    ensures claims { MadeClaimsAgree H.digest }
+    ensures answers { AnswersAgree H.digest }
 {}
 
-/// What a rooted tree answers is acceptable to each rooted tree of the same file length that holds the
-/// claim's top and no node of it with another digest.
+/// What a rooted tree answers is acceptable to any tree of the same file length that holds the claim's top
+/// and no node of it with another digest.
 pub fn answers_are_taken<H: NodeHash>(_hash: H)
     ensures { AnswersAreTaken H.digest }
 {}

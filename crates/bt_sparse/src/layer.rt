@@ -128,7 +128,7 @@ fn add_parents<H: NodeHash>(
     Ok(())
 }
 
-/// The digests of so many nodes of a layer, from an index on; the padding's, where there is none.
+/// The digests of this many nodes of a layer, from an index on; the padding's, where there is none.
 fn children(
     alloc: Global,
     nodes: &NodeMap,

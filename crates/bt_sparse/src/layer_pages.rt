@@ -1,6 +1,6 @@
 ghost use Rattle.std.specs.Prelude.{◌≡◌, ◌%◌, ◌/◌, ◌<◌, ◌≤◌, ◌↔◌, ℕ, [], None, IsTrue, OnOk, length, slice_index_or};
 ghost use Rattle.bt_sparse.specs.Page.{page_length};
-ghost use Rattle.bt_sparse.specs.NodeMap.{table_length, entry_at, KeepsTables, IsPutInto};
+ghost use Rattle.bt_sparse.specs.LayerPages.{table_length, entry_at, KeepsTables, IsPutInto};
 
 use crate::page_table::{PAGE_LEN, PageTable};
 use bt_tree::Hash32;
@@ -17,7 +17,7 @@ pub(crate) struct LayerPages {
 }
 
 impl Model for LayerPages {
-    ghost use Rattle.bt_sparse.specs.NodeMap.{Tables};
+    ghost use Rattle.bt_sparse.specs.LayerPages.{Tables};
 
     ghost Value = { Tables };
 
@@ -58,7 +58,7 @@ impl LayerPages {
         self.tables[table].reach(alloc, index % TABLE_LEN, (width - first).min(TABLE_LEN))
     }
 
-    /// Lengthens the list to so many tables. New ones have no pages.
+    /// Lengthens the list to this many tables. New ones have no pages.
     fn lengthen(&mut self, alloc: Global, count: usize) -> Result<(), AllocError>
         ensures same { (t : ℕ) → slice_index_or self.new t [] ≡ slice_index_or self.old t [] }
         ensures ready { OnOk result (count ≤ length self.new) }
@@ -71,7 +71,7 @@ impl LayerPages {
         Ok(())
     }
 
-    /// Puts a digest at an index, whose page is made. The answer is whether there was none.
+    /// Puts a digest at an index, whose page is made, and returns whether there was none.
     pub(crate) fn put(&mut self, index: u32, digest: Hash32) -> bool
         requires { index % table_length % page_length
             < length (slice_index_or (slice_index_or self.old (index / table_length) [])

@@ -15,11 +15,12 @@ mod laws;
 mod layer;
 mod layer_pages;
 mod node_map;
+mod padding;
 mod page;
 mod page_table;
 mod sparse_tree;
 
-pub use answer::AnswerError;
+pub use answer::{AnswerError, MAX_RUN_LENGTH};
 pub use claim::{Claim, Digests, ProofError};
 pub use laws::{
     answers_agree, answers_are_taken, answers_reach_roots, claims_one, held_is_checked,

@@ -56,7 +56,7 @@ impl NodeMap {
         self.layers[layer as usize].reach(self.alloc, index, width)
     }
 
-    /// Lengthens the table to so many layers. New ones have no pages.
+    /// Lengthens the table to this many layers. New ones have no pages.
     fn lengthen(&mut self, count: usize) -> Result<(), AllocError>
         ensures same { (layer : ℕ) → slice_index_or self.new layer [] ≡ slice_index_or self.old layer [] }
         ensures ready { OnOk result (count ≤ length self.new) }
@@ -69,7 +69,7 @@ impl NodeMap {
         Ok(())
     }
 
-    /// Puts a digest at a node, whose page is made. The answer is whether there was none.
+    /// Puts a digest at a node, whose page is made, and returns whether there was none.
     pub(crate) fn put(&mut self, layer: u32, index: u32, digest: Hash32) -> bool
         requires { HasPlace self.old layer index }
         ensures is_new { IsTrue result ↔ (digest_at (nodes_in self.old) layer index ≡ None) }

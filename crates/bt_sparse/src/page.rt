@@ -59,7 +59,7 @@ impl Page {
         Ok(())
     }
 
-    /// Puts a digest at a place. The answer is whether there was none.
+    /// Puts a digest at a place, and returns whether there was none.
     pub(crate) fn put(&mut self, place: usize, digest: Hash32) -> bool
         requires { place < length self.old }
         ensures is_new { IsTrue result ↔ (slice_index_or self.old place None ≡ None) }

@@ -1,6 +1,6 @@
 ghost use Rattle.std.specs.Prelude.{◌≡◌, ◌%◌, ◌/◌, ◌<◌, ◌≤◌, ◌↔◌, ℕ, [], None, IsTrue, OnOk, length, slice_index_or};
 ghost use Rattle.bt_sparse.specs.Page.{page_length};
-ghost use Rattle.bt_sparse.specs.NodeMap.{slot_at, KeepsPages, IsPutIn};
+ghost use Rattle.bt_sparse.specs.PageTable.{slot_at, KeepsPages, IsPutIn};
 
 use crate::page::Page;
 use bt_tree::Hash32;
@@ -17,7 +17,7 @@ pub(crate) struct PageTable {
 }
 
 impl Model for PageTable {
-    ghost use Rattle.bt_sparse.specs.NodeMap.{Pages};
+    ghost use Rattle.bt_sparse.specs.PageTable.{Pages};
 
     ghost Value = { Pages };
 
@@ -43,7 +43,7 @@ impl PageTable {
         }
     }
 
-    /// Makes the page of an index, where there are so many nodes, with places for all of the page's.
+    /// Makes the page of an index, with places for all of its nodes, where the table has this many.
     pub(crate) fn reach(&mut self, alloc: Global, index: u32, width: u32) -> Result<(), AllocError>
         requires { index < width }
         ensures kept { KeepsPages self.old self.new }
@@ -56,7 +56,7 @@ impl PageTable {
         self.pages[page].reach((width - first).min(PAGE_LEN) as usize)
     }
 
-    /// Lengthens the table to so many pages. New ones have no places.
+    /// Lengthens the table to this many pages. New ones have no places.
     fn lengthen(&mut self, alloc: Global, count: usize) -> Result<(), AllocError>
         ensures same { (p : ℕ) → slice_index_or self.new p [] ≡ slice_index_or self.old p [] }
         ensures ready { OnOk result (count ≤ length self.new) }
@@ -69,7 +69,7 @@ impl PageTable {
         Ok(())
     }
 
-    /// Puts a digest at an index, whose page is made. The answer is whether there was none.
+    /// Puts a digest at an index, whose page is made, and returns whether there was none.
     pub(crate) fn put(&mut self, index: u32, digest: Hash32) -> bool
         requires { index % page_length < length (slice_index_or self.old (index / page_length) []) }
         ensures is_new { IsTrue result ↔ (slot_at self.old index ≡ None) }

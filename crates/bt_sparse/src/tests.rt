@@ -1,8 +1,10 @@
-//! Worked examples. Trees are called through functions without a contract, so that a test's proof carries no
+//! Examples. Trees are called through functions without a contract, so that a test's proof carries no
 //! clause of theirs.
 
 mod bodies;
 mod files;
+mod full_tree;
+mod large;
 mod map_body;
 mod planted;
 mod proofs;

@@ -1,52 +1,11 @@
 //! The pages and the ordered map run the same claims of the file of 65 blocks, and answer alike.
 
 use super::files::{many_blocks_root, many_leaves};
+use super::full_tree::{layers, planted};
 use super::map_body::{MapTree, map_accept, map_known, new_map_tree};
 use super::*;
 
 const LENGTH: u64 = 1048577;
-
-/// All nodes, layer by layer from the leaves.
-fn layers(alloc: Global) -> Result<Vec<Vec<Hash32>>, AllocError> {
-    let mut all = Vec::new(alloc);
-    let mut layer = many_leaves(alloc)?;
-    for _ in 0..7u32 {
-        let above = parents(alloc, layer.as_slice())?;
-        all.push(layer)?;
-        layer = above;
-    }
-    all.push(layer)?;
-    Ok(all)
-}
-
-fn node(layers: &[Vec<Hash32>], layer: u32, index: u32) -> Hash32 {
-    match layers.get(layer as usize) {
-        Some(nodes) => at(nodes.as_slice(), index as usize),
-        None => ZEROS,
-    }
-}
-
-/// The claim of a run of 2^above nodes below a node, with so many uncles.
-fn planted(
-    alloc: Global,
-    layers: &[Vec<Hash32>],
-    place: (u32, u32, u32, u32),
-) -> Result<Claim, AllocError> {
-    let (base, above, top, count) = place;
-    let length = 1u32.wrapping_shl(above);
-    let first = top.wrapping_mul(length);
-    let mut run = Vec::new(alloc);
-    for i in 0..length {
-        run.push(node(layers, base, first.wrapping_add(i)))?;
-    }
-    let mut uncles = Vec::new(alloc);
-    let mut index = top;
-    for up in 0..count {
-        uncles.push(node(layers, base.wrapping_add(above).wrapping_add(up), index ^ 1))?;
-        index /= 2;
-    }
-    claim(alloc, base, first, run.as_slice(), uncles.as_slice())
-}
 
 /// Claims that fit together, and some that are refused in one order or both: without an anchor, past the
 /// tree, and the last with a leaf that is no padding.
@@ -103,7 +62,7 @@ fn run(alloc: Global, claims: &[Claim], from_last: bool) -> Result<bool, Fail> {
 
 #[test]
 fn pages_and_an_ordered_map_agree(rt: HostRuntime) -> Result<(), Fail> {
-    let layers = layers(rt.alloc())?;
+    let layers = layers(rt.alloc(), many_leaves(rt.alloc())?, 7)?;
     let claims = claims(rt.alloc(), layers.as_slice())?;
     assert!(rt; run(rt.alloc(), claims.as_slice(), false)?);
     assert!(rt; run(rt.alloc(), claims.as_slice(), true)?);

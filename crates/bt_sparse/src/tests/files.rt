@@ -1,4 +1,4 @@
-//! The files of the worked examples. Their roots are literals from another implementation.
+//! Two files, of three blocks and of 65. Their roots are literals from another implementation.
 
 use super::*;
 

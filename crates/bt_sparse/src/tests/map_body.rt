@@ -1,4 +1,4 @@
-//! The body that an ordered map has in place of pages.
+//! A tree with an ordered map in place of pages. It looks at the padding of every node that a claim names.
 ghost use Rattle.std.specs.Prelude.{◌≡◌, None, IsTrue, IfOk, OnErr, OnOk, ◌↔◌};
 ghost use Rattle.std.specs.FinMap as finite;
 ghost use Rattle.bt_sparse.specs.NodeMap.{digest_at};
@@ -42,7 +42,7 @@ impl OrderedNodes {
         self.digests.get(&(layer, index)).copied()
     }
 
-    /// Puts a digest at a node. The answer is whether there was none.
+    /// Puts a digest at a node, and returns whether there was none.
     fn insert(&mut self, layer: u32, index: u32, digest: Hash32) -> Result<bool, AllocError>
         ensures is_new { IfOk result (λ is_new. IsTrue is_new ↔ (digest_at self.old layer index ≡ None)) }
         ensures value { OnOk result (self.new ≡ finite.insert self.old (layer, index) digest) }
@@ -96,7 +96,7 @@ fn is_unpadded(tree: &MapTree, layer: u32, index: u32, digest: &Hash32) -> bool 
     index >= real(tree.geometry, layer) && map_known(tree, layer, index) != Some(*digest)
 }
 
-/// Puts a claimed node, where it covers a block. The answer is how many nodes are new.
+/// Puts a claimed node where it covers a block, and returns how many nodes are new: 1 or 0.
 fn put(tree: &mut MapTree, layer: u32, index: u32, digest: &Hash32) -> Result<u32, AllocError> {
     if index >= real(tree.geometry, layer) {
         return Ok(0);
@@ -115,7 +115,20 @@ fn put_all(tree: &mut MapTree, pairs: &[ClaimedPair]) -> Result<u32, AllocError>
     Ok(count)
 }
 
-/// What the tree answers to a claim that says nothing else of a held node.
+/// The layer and the index of a claim's top.
+fn top_of(claim: &Claim) -> (u32, u32) {
+    let uncles = u32::try_from(claim.uncles.as_slice().len()).unwrap_or(0);
+    let up = claim
+        .run
+        .as_slice()
+        .len()
+        .trailing_zeros()
+        .wrapping_add(uncles);
+    (claim.base.wrapping_add(up), claim.index.wrapping_shr(up))
+}
+
+/// What `accept` returns where no held node has another digest than the claim says: there is no P6 here. The shape
+/// and the claim's nodes come from `has_shape` and `expand`.
 pub(super) fn map_accept(tree: &mut MapTree, claim: &Claim) -> Result<u32, ProofError> {
     let height = tree.geometry.height();
     if !has_shape(height, claim) {
@@ -133,7 +146,8 @@ pub(super) fn map_accept(tree: &mut MapTree, claim: &Claim) -> Result<u32, Proof
             return Err(ProofError::Padding);
         }
     }
-    match tree.nodes.get(expansion.top_layer, expansion.top_node) {
+    let (layer, node) = top_of(claim);
+    match tree.nodes.get(layer, node) {
         None => return Err(ProofError::NoAnchor),
         Some(top) => {
             if top != expansion.top_digest {

@@ -62,11 +62,12 @@ fn a_proof_below_an_unknown_node(rt: HostRuntime) -> Result<(), Fail> {
     Ok(())
 }
 
-/// What is told of two inputs that differ, each of two weak digests.
-fn clash(layer: u32, ours: (u8, u8), theirs: (u8, u8)) -> ProofError {
+/// What is told of two inputs that differ at a node, each of two weak digests.
+fn clash(node: (u32, u32), ours: (u8, u8), theirs: (u8, u8)) -> ProofError {
+    let (layer, index) = node;
     ProofError::Clash {
         layer,
-        index: 0,
+        index,
         ours: input(ours),
         theirs: input(theirs),
     }
@@ -90,14 +91,68 @@ fn the_clash_that_is_told_is_the_highest(rt: HostRuntime) -> Result<(), Fail> {
     let mut tree = new_tree(rt.alloc(), Weak, 49152, &weak(6))?;
     for (leaves, wanted) in [
         ((1, 2, 3), Ok(5)),
-        ((2, 1, 3), Err(clash(1, (1, 2), (2, 1)))),
-        ((2, 2, 2), Err(clash(2, (3, 3), (4, 2)))),
+        ((2, 1, 3), Err(clash((1, 0), (1, 2), (2, 1)))),
+        ((2, 2, 2), Err(clash((2, 0), (3, 3), (4, 2)))),
         ((1, 2, 3), Ok(0)),
     ] {
         let planted = weak_claim(rt.alloc(), leaves)?;
         assert_eq!(rt; accept(&mut tree, &planted), wanted);
     }
     assert_eq!(rt; known(&tree, 0, 0), Some(weak(1)));
+    Ok(())
+}
+
+/// The claim of eight weak leaves.
+fn weak_leaves(alloc: Global, leaves: [u8; 8]) -> Result<Claim, AllocError> {
+    let mut run = Vec::new(alloc);
+    for leaf in leaves {
+        run.push(weak(leaf))?;
+    }
+    claim(alloc, 0, 0, run.as_slice(), &[])
+}
+
+#[test]
+fn of_several_clashes_in_a_layer_the_leftmost_is_told(rt: HostRuntime) -> Result<(), Fail> {
+    let mut tree = new_tree(rt.alloc(), Weak, 131072, &weak(36))?;
+    for (leaves, wanted) in [
+        ([1, 2, 3, 4, 5, 6, 7, 8], Ok(14)),
+        ([1, 2, 4, 3, 5, 6, 8, 7], Err(clash((1, 1), (3, 4), (4, 3)))),
+        ([1, 2, 3, 4, 6, 5, 8, 7], Err(clash((1, 2), (5, 6), (6, 5)))),
+        ([1, 2, 3, 4, 5, 6, 8, 7], Err(clash((1, 3), (7, 8), (8, 7)))),
+        (
+            [2, 1, 3, 4, 5, 7, 7, 7],
+            Err(clash((2, 1), (11, 15), (12, 14))),
+        ),
+    ] {
+        let planted = weak_leaves(rt.alloc(), leaves)?;
+        assert_eq!(rt; accept(&mut tree, &planted), wanted);
+    }
+    Ok(())
+}
+
+#[test]
+fn refusals_are_printed_with_their_numbers(rt: HostRuntime) -> Result<(), Fail> {
+    for (error, wanted) in [
+        (ProofError::Shape, "P1 Shape"),
+        (ProofError::Count, "P2 Count"),
+        (ProofError::Padding, "P3 Padding"),
+        (ProofError::NoAnchor, "P4 NoAnchor"),
+        (ProofError::TopDiffers, "P5 TopDiffers"),
+        (clash((1, 0), (1, 2), (2, 1)), "P6 Clash"),
+        (ProofError::OutOfMemory, "P7 OutOfMemory"),
+    ] {
+        let text = error.to_string(rt.alloc())?;
+        assert_eq!(rt; text.as_str(), wanted);
+    }
+    Ok(())
+}
+
+#[test]
+fn a_list_of_digests_gives_its_vec_back(rt: HostRuntime) -> Result<(), Fail> {
+    let digests = [weak(1), weak(2), weak(3)];
+    let list = Digests::new(Vec::from_slice(rt.alloc(), &digests)?);
+    assert_eq!(rt; list.as_slice(), digests.as_slice());
+    assert_eq!(rt; list.into_vec().as_slice(), digests.as_slice());
     Ok(())
 }
 

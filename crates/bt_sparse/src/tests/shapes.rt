@@ -3,7 +3,7 @@
 use super::files::{three_blocks_root, three_leaves};
 use super::*;
 
-/// What a tree of height 26 that knows its root alone answers to a claim of zeros.
+/// Why a tree of height 26 that knows its root alone refuses a claim of zeros.
 fn refusal(
     alloc: Global,
     tree: &mut SparseTree<Weak>,

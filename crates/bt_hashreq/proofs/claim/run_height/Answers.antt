@@ -4,7 +4,7 @@ use Rattle.bt_hashreq.proofs.claim.run_height.Goals as goal
 
 pub returns-then-length-height-clause-some : goal.returns-then-length-height-clause-some
 returns-then-length-height-clause-some c =
-    (λ _. run_length c.args.length c.ilog2-height.result c.if-length-lt2.false c.if-length-gt-MAX_RUN_LEN.false (search rules), λ _. refl)
+    (λ _. run_length c.args.length c.ilog2-height.result c.if-length-lt2.false c.if-length-gt-MAX_RUN_LENGTH.false (search rules), λ _. refl)
 
 pub returns-then-length-height-clause-height : goal.returns-then-length-height-clause-height
 returns-then-length-height-clause-height c = sym (height_of-pow c.args.length c.ilog2-height.result (search rules))

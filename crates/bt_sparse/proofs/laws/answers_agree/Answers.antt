@@ -1,5 +1,9 @@
 use Rattle.bt_sparse.proofs.Answers.{answers_agree}
+use Rattle.bt_sparse.proofs.Taken.{agree}
 use Rattle.bt_sparse.proofs.laws.answers_agree.Goals as goal
 
-pub returns : goal.returns
-returns g c = answers_agree g.H.NodeHash.digest
+pub returns-clause-claims : goal.returns-clause-claims
+returns-clause-claims g c = answers_agree g.H.NodeHash.digest
+
+pub returns-clause-answers : goal.returns-clause-answers
+returns-clause-answers g c = agree g.H.NodeHash.digest

@@ -1,5 +1,6 @@
 use Rattle.std.proofs.Common.{◌≡◌, None, sym, ap, ◌∙◌, rules, arith}
-use Rattle.bt_sparse.specs.NodeMap.{Layers, entry_at, slot_of, digest_at, nodes_in}
+use Rattle.bt_sparse.specs.LayerPages.{entry_at}
+use Rattle.bt_sparse.specs.NodeMap.{Layers, slot_of, digest_at, nodes_in}
 use Rattle.bt_sparse.proofs.NodeMaps.{node_at}
 use Rattle.bt_sparse.proofs.node_map.NodeMap.get.Goals as goal
 

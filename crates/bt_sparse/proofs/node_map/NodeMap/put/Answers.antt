@@ -1,7 +1,8 @@
 use Rattle.std.proofs.Common.{◌≡◌, [], sym, ap, ◌∙◌, subst, arith}
 use Rattle.std.specs.FinMap as finite
 use Rattle.std.proofs.lemmas.List.{get_or_read}
-use Rattle.bt_sparse.specs.NodeMap.{Layers, Tables, entry_at, digest_at, HasPlace, IsPutInto, nodes_in}
+use Rattle.bt_sparse.specs.LayerPages.{Tables, entry_at, IsPutInto}
+use Rattle.bt_sparse.specs.NodeMap.{Layers, digest_at, HasPlace, nodes_in}
 use Rattle.bt_sparse.proofs.NodeMaps.{node_at}
 use Rattle.bt_sparse.proofs.PageTables.{has_layer, put_nodes}
 use Rattle.bt_sparse.proofs.node_map.NodeMap.put.Goals as goal

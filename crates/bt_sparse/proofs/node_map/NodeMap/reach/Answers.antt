@@ -1,6 +1,7 @@
 use Rattle.std.proofs.Common.{◌<◌, [], length, get_or, ap, ◌∙◌, subst, arith}
 use Rattle.std.proofs.lemmas.List.{get_or_read}
-use Rattle.bt_sparse.specs.NodeMap.{Tables, Layers, KeepsTables}
+use Rattle.bt_sparse.specs.LayerPages.{Tables, KeepsTables}
+use Rattle.bt_sparse.specs.NodeMap.{Layers}
 use Rattle.bt_sparse.proofs.PageTables.{layer_nodes}
 use Rattle.bt_sparse.proofs.node_map.NodeMap.reach.Goals as goal
 

@@ -11,7 +11,7 @@ returns-then-is_err-clause-refused g c = no_memory c.in-Ok.ensures.ok.conditions
 pub invariant_of-self-2 : goal.invariant_of-self-2
 invariant_of-self-2 g c =
     let grown = grown_all g.H.NodeHash.digest c.args.self.now c.args.claim.now c.in-Ok.expansion _ _ _ (nodes_in c.put_pairs.new.nodes) c.put_pairs.result c.as_slice-pairs.result.now
-    c.in-Ok.ensures.ok (ap blocks_of c.self.view_is) c.make_pages.ensures.nodes (ap (λ (k : Facts). k.nodes) c.self.view_is) c.as_slice-pairs.ensures.value c.put_pairs.ensures in
+    c.in-Ok.ensures.ok (ap blocks_of c.self.view_is) c.make_pages.ensures.nodes (ap (λ (k : Facts). k.nodes) c.self.view_is) c.as_slice-pairs.ensures.value (c.put_pairs.ensures g.H.NodeHash.digest) in
     subst (λ (k : Facts). IsSound g.H.NodeHash.digest record { file_length = k.file_length; root = k.root; nodes = nodes_in c.put_pairs.new.nodes }) (sym c.self.view_is)
     (grown_sound g.H.NodeHash.digest c.args.self.now c.args.claim.now (nodes_in c.put_pairs.new.nodes) c.put_pairs.result
     (subst (IsSound g.H.NodeHash.digest) c.self.view_is c.self.invariant) c.in-Ok.ensures.ok.conditions grown)
@@ -19,7 +19,7 @@ invariant_of-self-2 g c =
 pub returns-clause-ok : goal.returns-clause-ok
 returns-clause-ok g c =
     let grown = grown_all g.H.NodeHash.digest c.args.self.now c.args.claim.now c.in-Ok.expansion _ _ _ (nodes_in c.put_pairs.new.nodes) c.put_pairs.result c.as_slice-pairs.result.now
-    c.in-Ok.ensures.ok (ap blocks_of c.self.view_is) c.make_pages.ensures.nodes (ap (λ (k : Facts). k.nodes) c.self.view_is) c.as_slice-pairs.ensures.value c.put_pairs.ensures in
+    c.in-Ok.ensures.ok (ap blocks_of c.self.view_is) c.make_pages.ensures.nodes (ap (λ (k : Facts). k.nodes) c.self.view_is) c.as_slice-pairs.ensures.value (c.put_pairs.ensures g.H.NodeHash.digest) in
     subst (λ (k : Facts). Accepts g.H.NodeHash.digest c.args.self.now c.args.claim.now record { file_length = k.file_length; root = k.root; nodes = nodes_in c.put_pairs.new.nodes })
     (sym c.self.view_is)
     (grown_accepts g.H.NodeHash.digest c.args.self.now c.args.claim.now (nodes_in c.put_pairs.new.nodes) c.put_pairs.result c.in-Ok.ensures.ok.conditions grown)
@@ -27,4 +27,4 @@ returns-clause-ok g c =
 pub returns-clause-count : goal.returns-clause-count
 returns-clause-count g c =
     (grown_all g.H.NodeHash.digest c.args.self.now c.args.claim.now c.in-Ok.expansion _ _ _ (nodes_in c.put_pairs.new.nodes) c.put_pairs.result c.as_slice-pairs.result.now
-    c.in-Ok.ensures.ok (ap blocks_of c.self.view_is) c.make_pages.ensures.nodes (ap (λ (k : Facts). k.nodes) c.self.view_is) c.as_slice-pairs.ensures.value c.put_pairs.ensures).grown.size_is
+    c.in-Ok.ensures.ok (ap blocks_of c.self.view_is) c.make_pages.ensures.nodes (ap (λ (k : Facts). k.nodes) c.self.view_is) c.as_slice-pairs.ensures.value (c.put_pairs.ensures g.H.NodeHash.digest)).grown.size_is

@@ -1,4 +1,4 @@
-use Rattle.std.proofs.Common.{◌≡◌, ℕ, ◌<◌, Some, length, get_or, []}
+use Rattle.std.proofs.Common.{◌≡◌, ℕ, ◌<◌, ◌≤◌, Some, length, get_or, []}
 use Rattle.bt_sparse.specs.SparseTree.{value_at}
 use Rattle.bt_sparse.specs.Answer.{answer_layer, answer_index}
 use Rattle.bt_sparse.proofs.sparse_tree.SparseTree.values.Given as goal
@@ -6,6 +6,7 @@ use Rattle.bt_sparse.proofs.sparse_tree.SparseTree.values.Given as goal
 abbrev pub invariant-loop-t : goal.invariant-loop-t
 invariant-loop-t g l = record {
   size : length l.digests.items ≡ l.t;
+  low : l.padding ≤ answer_layer l.request.base l.request.length l.t;
   values : (s : ℕ) → s < l.t
       → value_at g.H.NodeHash.digest l.self (answer_layer l.request.base l.request.length s) (answer_index l.request.index l.request.length s)
       ≡ Some (get_or l.digests.items s []);

@@ -1,0 +1,159 @@
+//! Trees of more nodes in a layer than a page has places.
+
+use super::files::bytes_of;
+use super::full_tree::{layers, node, planted};
+use super::*;
+
+/// The greatest file, and the height of its tree.
+const GREATEST: (u64, u32) = (1 << 40, 26);
+
+/// A list of zeros.
+fn zeros(alloc: Global, count: u32) -> Result<Vec<Hash32>, AllocError> {
+    let mut list = Vec::new(alloc);
+    list.resize(count as usize, ZEROS)?;
+    Ok(list)
+}
+
+/// The tree of the greatest file over the weak digest, in which zeros have zeros above them.
+fn zero_tree(alloc: Global) -> Result<SparseTree<Weak>, Fail> {
+    new_tree(alloc, Weak, GREATEST.0, &weak(0))
+}
+
+/// The claim of zeros of this place, with uncles up to the root.
+fn zero_claim(
+    alloc: Global,
+    base: u32,
+    index: u32,
+    length: u32,
+    uncles: u32,
+) -> Result<Claim, AllocError> {
+    let run = zeros(alloc, length)?;
+    let uncles = zeros(alloc, uncles)?;
+    claim(alloc, base, index, run.as_slice(), uncles.as_slice())
+}
+
+#[test]
+fn the_last_leaves_of_the_greatest_file(rt: HostRuntime) -> Result<(), Fail> {
+    let mut tree = zero_tree(rt.alloc())?;
+    let last = zero_claim(rt.alloc(), 0, 0x3fffe00, 512, 17)?;
+    assert_eq!(rt; accept(&mut tree, &last), Ok(1056));
+    assert_eq!(rt; accept(&mut tree, &last), Ok(0));
+    for (layer, index, wanted) in [
+        (0, 0x3ffffff, Some(ZEROS)),
+        (0, 0x3fffe00, Some(ZEROS)),
+        (0, 0x3fffdff, None),
+        (9, 0x1fffe, Some(ZEROS)),
+        (9, 0x1fffd, None),
+        (25, 0, Some(ZEROS)),
+    ] {
+        assert_eq!(rt; known(&tree, layer, index), wanted, "{layer} {index}");
+    }
+    let wanted = zeros(rt.alloc(), 529)?;
+    assert_eq!(rt; answer(&tree, (0, 0x3fffe00, 512, 25))?, wanted);
+    Ok(())
+}
+
+/// Whether a new tree takes the last run of this many nodes of a layer, 2^above, and answers it.
+fn takes_last_run(alloc: Global, base: u32, above: u32, length: u32) -> Result<bool, Fail> {
+    let height = GREATEST.1;
+    let width = 1u32.wrapping_shl(height.wrapping_sub(base));
+    let index = width.wrapping_sub(length);
+    let uncles = height.wrapping_sub(base).wrapping_sub(above);
+    let mut tree = zero_tree(alloc)?;
+    let last = zero_claim(alloc, base, index, length, uncles)?;
+    let count = length.wrapping_add(uncles);
+    let request = (
+        base,
+        index,
+        length,
+        height.wrapping_sub(base).wrapping_sub(1),
+    );
+    // All nodes but the root are new: 2 length - 1 in the run and above it, and two for each uncle.
+    Ok(
+        accept(&mut tree, &last) == Ok(count.wrapping_mul(2).wrapping_sub(2))
+            && answer(&tree, request)? == zeros(alloc, count)?,
+    )
+}
+
+#[test]
+fn runs_of_each_base_and_length(rt: HostRuntime) -> Result<(), Fail> {
+    for base in 0..26u32 {
+        let mut length: u32 = 2;
+        for above in 1..10u32 {
+            if base.wrapping_add(above) <= GREATEST.1 {
+                let is_taken = takes_last_run(rt.alloc(), base, above, length)?;
+                assert!(rt; is_taken, "{base} {length}");
+            }
+            length = length.wrapping_mul(2);
+        }
+    }
+    Ok(())
+}
+
+/// Leaves of which each is another, and padding up to 2,048.
+fn distinct_leaves(alloc: Global, count: u32) -> Result<Vec<Hash32>, AllocError> {
+    let mut leaves = Vec::new(alloc);
+    for i in 0..count {
+        let mut leaf = [7; 32];
+        leaf[..4].copy_from_slice(&i.to_be_bytes()[..]);
+        leaves.push(leaf)?;
+    }
+    leaves.resize(2048, ZEROS)?;
+    Ok(leaves)
+}
+
+/// Whether the tree has these layers' digest of a node.
+fn has_node(tree: &SparseTree<Plain>, layers: &[Vec<Hash32>], layer: u32, index: u32) -> bool {
+    known(tree, layer, index) == Some(node(layers, layer, index))
+}
+
+/// The file of 1,100 blocks.
+const LENGTH: u64 = 1100 * 16384;
+
+#[test]
+fn leaves_of_two_pages(rt: HostRuntime) -> Result<(), Fail> {
+    let all = layers(rt.alloc(), distinct_leaves(rt.alloc(), 1100)?, 11)?;
+    let nodes = all.as_slice();
+    let mut tree = new_tree(rt.alloc(), Plain, LENGTH, &node(nodes, 11, 0))?;
+    // Below layer 9 the runs' paths are apart, and runs 256 and 257 have one parent.
+    for (top, uncles, wanted) in [
+        (255, 10, Ok(22)),
+        (256, 1, Err(ProofError::NoAnchor)),
+        (256, 10, Ok(18)),
+        (257, 10, Ok(2)),
+    ] {
+        let run = planted(rt.alloc(), nodes, (0, 1, top, uncles))?;
+        assert_eq!(rt; accept(&mut tree, &run), wanted, "{top} {uncles}");
+    }
+    for index in 510..516u32 {
+        assert!(rt; has_node(&tree, nodes, 0, index), "{index}");
+    }
+    assert_eq!(rt; known(&tree, 0, 509), None);
+    assert_eq!(rt; known(&tree, 0, 516), None);
+    Ok(())
+}
+
+/// The tree of the file of 1,100 blocks of which the leaves are known.
+fn leaf_tree(alloc: Global, nodes: &[Vec<Hash32>]) -> Result<SparseTree<Plain>, Fail> {
+    let mut leaves = Vec::new(alloc);
+    for index in 0..1100u32 {
+        leaves.push(node(nodes, 0, index))?;
+    }
+    let bytes = bytes_of(alloc, leaves.as_slice())?;
+    let geometry = Geometry::new(LENGTH).ok_or("no geometry")?;
+    let root = node(nodes, 11, 0);
+    Ok(SparseTree::with_layer(alloc, Plain, geometry, root, 0, bytes.as_slice())?)
+}
+
+#[test]
+fn a_layer_of_1100_nodes(rt: HostRuntime) -> Result<(), Fail> {
+    let all = layers(rt.alloc(), distinct_leaves(rt.alloc(), 1100)?, 11)?;
+    let nodes = all.as_slice();
+    let tree = leaf_tree(rt.alloc(), nodes)?;
+    for layer in 0..12u32 {
+        for index in 0..2048u32.wrapping_shr(layer) {
+            assert!(rt; has_node(&tree, nodes, layer, index), "{layer} {index}");
+        }
+    }
+    Ok(())
+}
