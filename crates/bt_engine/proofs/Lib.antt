@@ -4,6 +4,7 @@ pub mod Rooted
 pub mod Start
 -- marks
 pub mod Marks
+pub mod Adopting
 pub mod Marking
 -- data
 pub mod Sends

@@ -1,5 +1,5 @@
 -- Lists of which one element is set, and what lists contain.
-use Rattle.std.proofs.Common.{◌≡◌, ℕ, zero, suc, ◌+◌, ◌<◌, ◌⊎◌, inl, inr, Bool, true, false, List, [], ◌∷◌, length, map, Option, Some, None, refl, sym, ap, ◌∙◌, subst, arith}
+use Rattle.std.proofs.Common.{◌≡◌, ◌≢◌, ℕ, zero, suc, ◌+◌, ◌<◌, ◌⊎◌, inl, inr, Bool, true, false, List, [], ◌∷◌, length, map, Option, Some, None, refl, sym, ap, ◌∙◌, subst, arith}
 use Rattle.std.specs.Prelude.{slice_get, slice_set, option_map, Contains, filter, flat_map, ◌&&◌, cond}
 use Rattle.std.specs.Option.{option_and_then}
 use Rattle.std.specs.List.{range_with_len}
@@ -87,6 +87,13 @@ set_same [] zero x y e = absurd cc
 set_same [] (suc i) x y e = absurd cc
 set_same (z ∷ xs) zero x y e = refl
 set_same (z ∷ xs) (suc i) x y e = set_same xs i x y e
+
+pub set_other : {X : Type 0} (xs : List X) (i j : ℕ) (x : X) → j ≢ i → slice_get (slice_set xs i x) j ≡ slice_get xs j
+set_other [] i j x apart = refl
+set_other (z ∷ xs) zero zero x apart = absurd (apart refl)
+set_other (z ∷ xs) zero (suc j) x apart = refl
+set_other (z ∷ xs) (suc i) zero x apart = refl
+set_other (z ∷ xs) (suc i) (suc j) x apart = set_other xs i j x (λ e. apart (ap (λ n. suc n) e))
 
 pub contains_map : {X Y : Type 0} (f : X → Y) (xs : List X) (y : Y) → Contains (map f xs) y → (x : X) × Contains xs x × (f x ≡ y)
 contains_map f [] y c = absurd (contains_none y c)

@@ -15,6 +15,7 @@ pub mod FollowUp
 pub mod Next
 pub mod Peers
 pub mod Rechoke
+pub mod Adopting
 pub mod Flush
 pub mod Start
 pub mod Step

@@ -31,8 +31,9 @@ pub fn right_is_checked<H: NodeHash>(_hash: H)
     ensures { RightIsChecked H.digest }
 {}
 
-/// A block becomes marked in two ways only: it came from a peer that was asked for it and was written, or it
-/// waited and was read back. In each its digest is its leaf, and its bytes are of this event.
+/// A block becomes marked in three ways only: it came from a peer that was asked for it and was written, it
+/// waited and was read back, or its file was taken in and it was read. In each its digest is its leaf, and its
+/// bytes are of this event.
 pub fn step_marks_by_bytes<H: NodeHash>(_hash: H)
     ensures { StepMarksByBytes H.digest }
 {}

@@ -8,7 +8,7 @@ mod event;
 mod law;
 
 pub use answer::{Frame, Note, Why};
-pub use error::{ConnectError, EngineError, FlushError};
+pub use error::{AdoptError, ConnectError, EngineError, FlushError};
 pub use event::Event;
 pub use law::{
     complete_files_are_published, complete_files_stand, complete_has_root, right_is_checked,
