@@ -13,3 +13,5 @@ pub mod GroupReads
 pub mod Anchors
 pub mod Marks
 pub mod Adoptions
+-- What is marked there.
+pub mod AdoptionMarks
