@@ -1,29 +1,27 @@
 -- How what a file's device has already is taken in: what it marks, and what becomes of trees.
 use Rattle.std.proofs.Common.{◌≡◌, ◌≢◌, ℕ, ◌⊎◌, inl, inr, Bool, true, false, not, List, [], ◌∷◌, ◌++◌, Some, refl, sym, ap, ◌∙◌, subst}
-use Rattle.std.specs.Prelude.{slice_get, slice_set, option_map, Contains, flat_map, ◌==◌, ⊥}
+use Rattle.std.specs.Prelude.{slice_get, option_map, Contains, flat_map, ◌==◌}
 use Rattle.std.specs.Option.{option_and_then}
 use Rattle.std.proofs.lemmas.Bool.{eq-eqb}
 use Rattle.std.proofs.lemmas.List.Elements.{Contains-append_left, Contains-append_right}
 use Rattle.bt_tree.specs.Blocks.{block_length}
 use Rattle.bt_disk.specs.Calls.{Call}
-use Rattle.bt_sparse.specs.SparseTree.{Facts, value_at}
-use Rattle.bt_store.specs.BlockReads.{BlockRead, given, call_of, IsRight}
-use Rattle.bt_store.specs.declared.block_states.BlockState.{BlockState}
-use Rattle.bt_store.specs.declared.block_states.BlockState.TheVariants.{Waiting, Marked}
+use Rattle.bt_sparse.specs.SparseTree.{Facts}
+use Rattle.bt_store.specs.BlockReads.{given, call_of, IsRight}
+use Rattle.bt_store.specs.declared.block_states.BlockState.TheVariants.{Marked}
 use Rattle.bt_store.specs.declared.adoption.Adopted.{Adopted}
 use Rattle.bt_store.specs.Laws.{Extends}
 use Rattle.bt_store.proofs.AdoptionMarks.{adopt_marks as store_marks, adopt_extends}
 use Rattle.bt_book.specs.declared.names.BlockId.{BlockId}
-use Rattle.bt_engine.specs.declared.event.Event.{Event}
 use Rattle.bt_engine.specs.declared.event.Event.TheVariants.{Adopt}
 use Rattle.bt_engine.specs.State.{FileState, EngineState}
 use Rattle.bt_engine.specs.Devices.{DeviceCalls, reads_at}
-use Rattle.bt_engine.specs.Blocks.{state_at, tree_of, with_file}
+use Rattle.bt_engine.specs.Blocks.{state_at, tree_of}
 use Rattle.bt_engine.specs.Request.{IsFile}
 use Rattle.bt_engine.specs.Settling.{judged_file, SettlesIn}
 use Rattle.bt_engine.specs.Adopting.{AdoptsGroup, AdoptsGroups, is_other, AdoptsFile, StopsAdopting, StepAdopt, no_file, busy, empty, adopts, no_memory}
 use Rattle.bt_engine.specs.Law.{IsFound, IsMarkedBy, read_back, found}
-use Rattle.bt_engine.proofs.Lists.{same_some, set_cases, set_same, set_other, map_contains, and_then_some}
+use Rattle.bt_engine.proofs.Lists.{same_some, set_same, set_other, map_contains, and_then_some}
 use Rattle.bt_engine.proofs.Marks.{state_is, file_marked, settle_marks}
 
 module _ (dig : List ℕ → List ℕ) where
@@ -153,7 +151,7 @@ module _ (dig : List ℕ → List ℕ) where
                 (λ f k is. subst (λ n. HasExtended new n k) (sym same) (groups_forward g.1 new file g.0.next groups g.2 g.4 f k (subst (λ n. IsFile g.1 n f k) same is))) x)
           ]
           | inr x ↦ inr (found_later file (flat_map (λ c. c) groups) (calls ++ flat_map (λ c. c) groups) new new (λ c among. Contains-append_right calls (flat_map (λ c. c) groups) c among)
-            (λ f k is. record { state = f; tree = k; is_file = is; extends = same_tree k }) x)
+              (λ f k is. record { state = f; tree = k; is_file = is; extends = same_tree k }) x)
         ]
 
     -- blocks of other files stay as they are
@@ -180,7 +178,7 @@ module _ (dig : List ℕ → List ℕ) where
           | inl mid ↦ elim (groups_marks s a.mid file 0 a.groups total a.adopts mid) [
             | inl old ↦ inl old
             | inr x ↦ inr (found (found_later file own calls a.mid new (λ c among. subst (λ cs. Contains cs c) (sym a.made) (Contains-append_left own a.settling c among))
-              (λ f k is. in_new b.file k (settle_forward (is_other file) a.state.tree 0 _ a.mid a.settled a.settling a.notes a.settles b.file f k is)) x))
+                (λ f k is. in_new b.file k (settle_forward (is_other file) a.state.tree 0 _ a.mid a.settled a.settling a.notes a.settles b.file f k is)) x))
           ]
           | inr r ↦ inr (read_back (record {
             tree = r.0.tree;
@@ -208,7 +206,7 @@ module _ (dig : List ℕ → List ℕ) where
         elim (groups_marks s new file 0 a.groups a.done a.adopts m) [
           | inl old ↦ inl old
           | inr x ↦ inr (found (found_later file own calls new new (λ c among. subst (λ cs. Contains cs c) (sym a.made) (Contains-append_left own last c among))
-            (λ f k is. record { state = f; tree = k; is_file = is; extends = same_tree k }) x))
+              (λ f k is. record { state = f; tree = k; is_file = is; extends = same_tree k }) x))
         ]
 
     pub adopt_marks : (s new : EngineState) (file : ℕ) (calls : DeviceCalls) (answer : _) → StepAdopt dig s file calls answer new → state_at new b ≡ Some Marked

@@ -118,13 +118,16 @@ settle_marks dig is_meant tree from count old new calls notes s b e =
           let file : slice_get new.files b.file ≡ Some (judged_file dig s.facts (s.reads b.file) p.0) = s.files b.file ∙ ap (option_map (judged_file dig s.facts (s.reads b.file))) p.1 in
           let one : Contains (reads_at b.file s.facts.file_length (s.reads b.file)) (b.file, call_of s.facts.file_length (given b.block g.bytes)) =
           map_contains (λ read. (b.file, call_of s.facts.file_length read)) (s.reads b.file) (given b.block g.bytes) g.gives in
-          inr ((record {
-            tree = s.facts;
-            bytes = g.bytes;
-            waited = state_is old b p.0 Waiting p.1 due.2;
-            hung = ap (option_and_then (λ q. slice_get new.trees q.tree)) file ∙ hung;
-            read = subst (λ cs. Contains cs (b.file, call_of s.facts.file_length (given b.block g.bytes))) (sym s.made)
-                (flat_map_contains (λ file. reads_at file s.facts.file_length (s.reads file)) (file_numbers old) b.file _ (range_contains (length old.files) b.file (some_below old.files b.file p.0 p.1)) one);
-            right = g.right;
-          }, due.0))
+          inr ((
+            record {
+              tree = s.facts;
+              bytes = g.bytes;
+              waited = state_is old b p.0 Waiting p.1 due.2;
+              hung = ap (option_and_then (λ q. slice_get new.trees q.tree)) file ∙ hung;
+              read = subst (λ cs. Contains cs (b.file, call_of s.facts.file_length (given b.block g.bytes))) (sym s.made)
+                  (flat_map_contains (λ file. reads_at file s.facts.file_length (s.reads file)) (file_numbers old) b.file _ (range_contains (length old.files) b.file (some_below old.files b.file p.0 p.1)) one);
+              right = g.right;
+            },
+            due.0,
+          ))
     ]

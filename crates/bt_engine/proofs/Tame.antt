@@ -8,7 +8,6 @@ use Rattle.bt_tree.specs.TreeShape.{CoversBlock, IsPadding}
 use Rattle.bt_disk.specs.Calls.{Call, bytes_written, write_fault, length_set, resize_fault, sync_made, sync_fault}
 use Rattle.bt_hashreq.specs.declared.key.HashKey.{HashKey}
 use Rattle.bt_sparse.specs.SparseTree.{Facts, blocks_of, held_at, value_at}
-use Rattle.bt_sparse.specs.Acceptance.{Accepts}
 use Rattle.bt_sparse.proofs.Values.{value_inside, value_covers, value_padding, cases_node}
 use Rattle.bt_store.specs.BlockReads.{BlockRead, given, failed, call_of}
 use Rattle.bt_store.specs.Arrival.{PutIsDue, calls_of_put, states_after_put}
@@ -37,7 +36,7 @@ use Rattle.bt_engine.specs.WireEvents.{HandlesHave, in_range, out_of_range, Hand
 use Rattle.bt_engine.specs.Next.{StepNext, no_peer, waits, goes_on, closes, faulty, no_memory}
 use Rattle.bt_engine.specs.Peers.{StepConnect, joins, full, spent, no_memory as no_room, StepFeed, feeds, no_peer as not_fed, no_memory as no_room_to_feed, StepLost, goes, no_peer as not_lost}
 use Rattle.bt_engine.specs.Rechoke.{FollowsEach, StepRechoke, rechokes, no_memory as not_rechoked}
-use Rattle.bt_engine.specs.Adopting.{AdoptsGroup, AdoptsGroups, is_other, AdoptsFile, StopsAdopting, StepAdopt, no_file, busy, empty, adopts, no_memory as not_adopted}
+use Rattle.bt_engine.specs.Adopting.{AdoptsGroup, AdoptsGroups, is_other, StepAdopt, no_file, busy, empty, adopts, no_memory as not_adopted}
 use Rattle.bt_engine.specs.Flush.{StepFlush, syncs_of, syncs, fails}
 use Rattle.bt_engine.specs.Step.{Answer, Step}
 use Rattle.bt_engine.proofs.Lists.{set_cases, map_some, contains_none, contains_cases, contains_map, contains_flat_map}
@@ -293,8 +292,8 @@ module _ (dig : List ℕ → List ℕ) where
       let extends = group_extends dig s new file from calls adopted g in
       let placed : EngineState = with_file s file state in (
         like s.files s.trees (with_tree placed g.state.tree g.grown) new (ap (λ z. z.files) g.after) (ap (λ z. z.trees) g.after)
-        (grows_then s placed (with_tree placed g.state.tree g.grown) (file_grows s file g.state state g.is_file.here refl)
-        (tree_grows placed g.state.tree g.tree g.grown g.is_file.hung extends.file_length extends.root (extends.values 0))),
+            (grows_then s placed (with_tree placed g.state.tree g.grown) (file_grows s file g.state state g.is_file.here refl)
+            (tree_grows placed g.state.tree g.tree g.grown g.is_file.hung extends.file_length extends.root (extends.values 0))),
         keep_is calls _ g.made (reads_keep file g.tree.file_length g.reads),
       )
 
