@@ -8,6 +8,9 @@ pub mod Adopting
 pub mod Marking
 -- data
 pub mod Sends
+-- peers
+pub mod Pairs
+pub mod Orderly
 -- devices
 pub mod Stored
 pub mod Tame

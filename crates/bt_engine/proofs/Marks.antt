@@ -96,7 +96,7 @@ due_then dig k tree from count f i c = by (f.tree == tree) refl c
     by false e c = absurd (contains_none i c)
 
 -- with a test that a file is meant
-meant_then : (dig : List ℕ → List ℕ) (k : Facts) (b : Bool) (tree from count : ℕ) (f : FileState) (i : ℕ) → Contains (if b then due_blocks dig k tree from count f else []) i
+pub meant_then : (dig : List ℕ → List ℕ) (k : Facts) (b : Bool) (tree from count : ℕ) (f : FileState) (i : ℕ) → Contains (if b then due_blocks dig k tree from count f else []) i
     → (b ≡ true) × (f.tree ≡ tree) × (slice_get f.states i ≡ Some Waiting)
 meant_then dig k true tree from count f i c = let d = due_then dig k tree from count f i c in (refl, d.0, d.1)
 meant_then dig k false tree from count f i c = absurd (contains_none i c)

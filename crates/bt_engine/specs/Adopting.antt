@@ -31,8 +31,8 @@ group_blocks from adopted = let first = from / 2 ^ adopted.anchor * 2 ^ adopted.
 abbrev pub run_starts : (anchor : ℕ) → List ℕ → List ℕ
 run_starts anchor blocks = filter (λ i. i % 2 ^ min anchor max_run_height == 0) blocks
 
--- Where blocks were claimed together and found right, the leaves below their node have become known: these keys
--- ask for them. No other group taught any leaf.
+-- Where blocks were claimed together and found right, the leaves below their node have become known, and
+-- these keys ask for them. No other group taught any leaf.
 abbrev pub taught_keys : Facts → ℕ → Adopted → List HashKey
 taught_keys k from adopted =
     if nat_lt 0 adopted.anchor && nat_lt 0 adopted.marked

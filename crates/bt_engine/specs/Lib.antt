@@ -22,5 +22,6 @@ pub mod Step
 -- laws
 pub mod Stored
 pub mod Law
+pub mod Orderly
 pub mod Sound
 pub mod Headline

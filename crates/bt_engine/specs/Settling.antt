@@ -28,9 +28,9 @@ abbrev pub due_blocks : (List ℕ → List ℕ) → Facts → (tree from count :
 due_blocks dig k tree from count f =
     if f.tree == tree then waiting_blocks dig k f.states from count else []
 
--- In those of the meant files that have the tree, the blocks are read that wait and whose leaf is known, of so
--- many from one on. `reads` has the reads of each file. They are made file by file upwards, and nothing else
--- changes.
+-- In those of the meant files that have the tree, so many blocks from one on are looked at, and those are
+-- read that wait and whose leaf is known. `reads` has the reads of each file. They are made file by file
+-- upwards, and nothing else changes.
 pub record SettlesIn (dig : List ℕ → List ℕ) (is_meant : ℕ → Bool) (tree from count : ℕ) (old : EngineState)
     (calls : DeviceCalls) (notes : List Note) (new : EngineState) : Type 0 where
   pub facts : Facts

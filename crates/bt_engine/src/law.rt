@@ -1,5 +1,6 @@
 ghost use Rattle.bt_engine.specs.Headline.{CompleteFilesArePublished};
 ghost use Rattle.bt_engine.specs.Stored.{CompleteHasRoot};
+ghost use Rattle.bt_engine.specs.Orderly.{StepKeepsOrder, RunsAreOrderly};
 ghost use Rattle.bt_engine.specs.Sound.{StepKeepsSound, RunKeepsSound, CompleteFilesStand};
 ghost use Rattle.bt_engine.specs.Law.{StepKeepsRooted, RunKeepsRooted, RootedIsChecked, RunsAreChecked, RightIsChecked, StepMarksByBytes, RunMarksByBytes, StepSendsReadBytes, RunSendsReadBytes};
 
@@ -52,6 +53,17 @@ pub fn step_sends_read_bytes<H: NodeHash>(_hash: H)
 /// So it is of each answer of a list of events.
 pub fn run_sends_read_bytes<H: NodeHash>(_hash: H)
     ensures { RunSendsReadBytes H.digest }
+{}
+
+/// At most 64 peers are connected, in the order of their keys. Each is asked for at most 16 blocks, which are
+/// missing, and no block is asked twice. Each event keeps it so.
+pub fn step_keeps_order<H: NodeHash>(_hash: H)
+    ensures { StepKeepsOrder H.digest }
+{}
+
+/// So it is of every engine that events lead to from the start of a torrent.
+pub fn runs_are_orderly<H: NodeHash>(_hash: H)
+    ensures { RunsAreOrderly H.digest }
 {}
 
 /// Where all blocks of a file are marked and stand on the device as they were marked, the file there has its
