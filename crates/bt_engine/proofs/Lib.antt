@@ -8,6 +8,7 @@ pub mod Adopting
 pub mod Marking
 -- data
 pub mod Sends
+pub mod Taught
 -- peers
 pub mod Pairs
 pub mod Orderly

@@ -1,5 +1,6 @@
 ghost use Rattle.bt_engine.specs.Headline.{CompleteFilesArePublished};
 ghost use Rattle.bt_engine.specs.Stored.{CompleteHasRoot};
+ghost use Rattle.bt_engine.specs.Taught.{TaughtKeysAreAnswered};
 ghost use Rattle.bt_engine.specs.Orderly.{StepKeepsOrder, RunsAreOrderly};
 ghost use Rattle.bt_engine.specs.Sound.{StepKeepsSound, RunKeepsSound, CompleteFilesStand};
 ghost use Rattle.bt_engine.specs.Law.{StepKeepsRooted, RunKeepsRooted, RootedIsChecked, RunsAreChecked, RightIsChecked, StepMarksByBytes, RunMarksByBytes, StepSendsReadBytes, RunSendsReadBytes};
@@ -53,6 +54,12 @@ pub fn step_sends_read_bytes<H: NodeHash>(_hash: H)
 /// So it is of each answer of a list of events.
 pub fn run_sends_read_bytes<H: NodeHash>(_hash: H)
     ensures { RunSendsReadBytes H.digest }
+{}
+
+/// Where the blocks of a group were claimed together and found right, the tree answers the keys of the proofs
+/// that are left for a log, and they are of the right shape.
+pub fn taught_keys_are_answered<H: NodeHash>(_hash: H)
+    ensures { TaughtKeysAreAnswered H.digest }
 {}
 
 /// At most 64 peers are connected, in the order of their keys. Each is asked for at most 16 blocks, which are
