@@ -9,7 +9,8 @@ pub mod Marking
 -- data
 pub mod Sends
 pub mod Taught
--- peers
+-- peers and files
+pub mod Shape
 pub mod Pairs
 pub mod Orderly
 -- devices

@@ -24,5 +24,6 @@ pub mod Stored
 pub mod Law
 pub mod Taught
 pub mod Orderly
+pub mod Shape
 pub mod Sound
 pub mod Headline

@@ -1,6 +1,7 @@
 ghost use Rattle.bt_engine.specs.Headline.{CompleteFilesArePublished};
 ghost use Rattle.bt_engine.specs.Stored.{CompleteHasRoot};
 ghost use Rattle.bt_engine.specs.Taught.{TaughtKeysAreAnswered};
+ghost use Rattle.bt_engine.specs.Shape.{RunsKeepShape};
 ghost use Rattle.bt_engine.specs.Orderly.{StepKeepsOrder, RunsAreOrderly};
 ghost use Rattle.bt_engine.specs.Sound.{StepKeepsSound, RunKeepsSound, CompleteFilesStand};
 ghost use Rattle.bt_engine.specs.Law.{StepKeepsRooted, RunKeepsRooted, RootedIsChecked, RunsAreChecked, RightIsChecked, StepMarksByBytes, RunMarksByBytes, StepSendsReadBytes, RunSendsReadBytes};
@@ -71,6 +72,12 @@ pub fn step_keeps_order<H: NodeHash>(_hash: H)
 /// So it is of every engine that events lead to from the start of a torrent.
 pub fn runs_are_orderly<H: NodeHash>(_hash: H)
     ensures { RunsAreOrderly H.digest }
+{}
+
+/// After any list of events from the start of a torrent there are its files, each with a state for each block
+/// and the tree of its root, one tree for each root, and no hint for a log.
+pub fn runs_keep_shape<H: NodeHash>(_hash: H)
+    ensures { RunsKeepShape H.digest }
 {}
 
 /// Where all blocks of a file are marked and stand on the device as they were marked, the file there has its
