@@ -18,3 +18,7 @@ pub mod Stored
 pub mod Tame
 pub mod Sound
 pub mod Headline
+-- what is left free
+pub mod DeterminedParts
+pub mod DeterminedEvents
+pub mod Determined

@@ -1,8 +1,9 @@
 -- Lists of which one element is set, and what lists contain.
-use Rattle.std.proofs.Common.{◌≡◌, ◌≢◌, ℕ, zero, suc, ◌+◌, ◌<◌, ◌⊎◌, inl, inr, Bool, true, false, List, [], ◌∷◌, length, map, Option, Some, None, refl, sym, ap, ◌∙◌, subst, arith}
+use Rattle.std.proofs.Common.{◌≡◌, ◌≢◌, ℕ, zero, suc, ◌+◌, ◌<◌, ◌≤◌, ◌⊎◌, inl, inr, Bool, true, false, List, [], ◌∷◌, length, map, Option, Some, None, refl, sym, ap, ◌∙◌, subst, arith}
 use Rattle.std.specs.Prelude.{slice_get, slice_set, option_map, Contains, filter, flat_map, ◌&&◌, cond}
 use Rattle.std.specs.Option.{option_and_then}
 use Rattle.std.specs.List.{range_with_len}
+use Rattle.std.proofs.lemmas.List.FromFn.{length-range_with_len, get_or-range_with_len}
 use Rattle.std.proofs.lemmas.List.Elements.{Contains-append_left, Contains-append_right, Contains-append_cases}
 
 pub same_some : {X : Type 0} (o : Option X) (x y : X) → o ≡ Some x → o ≡ Some y → x ≡ y
@@ -108,3 +109,9 @@ contains_flat_map f (x ∷ xs) y c = elim (Contains-append_cases (f x) (flat_map
   | inl one ↦ (x, here x x xs refl, one)
   | inr more ↦ let r = contains_flat_map f xs y more in (r.0, later x r.0 xs r.1, r.2)
 ]
+
+pub range_limits : (a n i : ℕ) → Contains (range_with_len a n) i → (a ≤ i) × (i < a + n)
+range_limits a n i c =
+    let size = length-range_with_len a n in
+    let at : a + c.0 ≡ i = sym (get_or-range_with_len a n c.0 i (omega (arith, c.1, size))) ∙ c.2 in
+    (omega (arith, at), omega (arith, at, c.1, size))

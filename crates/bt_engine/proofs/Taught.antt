@@ -1,12 +1,11 @@
 -- The tree after a group answers the keys that ask for what the group taught.
 use Rattle.std.proofs.Common.{◌≡◌, ℕ, zero, suc, ◌+◌, ◌-◌, ◌*◌, ◌/◌, ◌%◌, ◌^◌, ◌<◌, ◌≤◌, inl, inr, min, Bool, true, false, List, [], ◌∷◌, length, map, replicate, get_or, Option, Some, refl, sym, ap, ◌∙◌, subst, arith, length-append}
 use Rattle.std.specs.Prelude.{Contains, nat_lt, ◌&&◌, ◌==◌, if◌then◌else◌}
-use Rattle.std.specs.List.{range_with_len}
 use Rattle.std.proofs.Math.Nat.{div-add-mod, mul_assoc, add-mul, div-div-eq-div-mul, mul-mod_left, lt_of_mul-lt-mul_right, mul-le-mul_right}
 use Rattle.std.proofs.lemmas.Bool.{cases_lt, lt-ltb, le-ltb, eqb-true}
 use Rattle.std.proofs.lemmas.Nat.{div-mul-add, pow-add, pow_pos}
 use Rattle.std.proofs.lemmas.List.{length-map, length-replicate}
-use Rattle.std.proofs.lemmas.List.FromFn.{length-range_with_len, get_or-range_with_len}
+use Rattle.std.proofs.lemmas.List.FromFn.{length-range_with_len}
 use Rattle.bt_tree.specs.Blocks.{block_count}
 use Rattle.bt_tree.specs.Tree.{padding_digest}
 use Rattle.bt_tree.specs.TreeShape.{height_of, IsInside}
@@ -26,15 +25,9 @@ use Rattle.bt_store.specs.BlockReads.{BlockRead, block_of}
 use Rattle.bt_store.specs.Adoption.{IsUnknownGroup, AreWhole, claimed_digest, claim_of_reads, none, known, accepted, refused, short, unread}
 use Rattle.bt_engine.specs.Adopting.{group_blocks, run_starts}
 use Rattle.bt_engine.specs.Taught.{HasAnswer, TaughtKeysAreAnswered}
-use Rattle.bt_engine.proofs.Lists.{contains_none, contains_map, contains_filter}
+use Rattle.bt_engine.proofs.Lists.{range_limits, contains_none, contains_map, contains_filter}
 
 -- ---- numbers
-
-range_limits : (a n i : ℕ) → Contains (range_with_len a n) i → (a ≤ i) × (i < a + n)
-range_limits a n i c =
-    let size = length-range_with_len a n in
-    let at : a + c.0 ≡ i = sym (get_or-range_with_len a n c.0 i (omega (arith, c.1, size))) ∙ c.2 in
-    (omega (arith, at), omega (arith, at, c.1, size))
 
 -- a node of a layer, and the node far above it
 far_div : (i a b : ℕ) → i / 2 ^ a / 2 ^ b ≡ i / 2 ^ (a + b)

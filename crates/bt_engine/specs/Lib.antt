@@ -25,5 +25,6 @@ pub mod Law
 pub mod Taught
 pub mod Orderly
 pub mod Shape
+pub mod Determined
 pub mod Sound
 pub mod Headline

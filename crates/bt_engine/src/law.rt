@@ -1,6 +1,7 @@
 ghost use Rattle.bt_engine.specs.Headline.{CompleteFilesArePublished};
 ghost use Rattle.bt_engine.specs.Stored.{CompleteHasRoot};
 ghost use Rattle.bt_engine.specs.Taught.{TaughtKeysAreAnswered};
+ghost use Rattle.bt_engine.specs.Determined.{NextIsDetermined};
 ghost use Rattle.bt_engine.specs.Shape.{RunsKeepShape};
 ghost use Rattle.bt_engine.specs.Orderly.{StepKeepsOrder, RunsAreOrderly};
 ghost use Rattle.bt_engine.specs.Sound.{StepKeepsSound, RunKeepsSound, CompleteFilesStand};
@@ -78,6 +79,12 @@ pub fn runs_are_orderly<H: NodeHash>(_hash: H)
 /// and the tree of its root, one tree for each root, and no hint for a log.
 pub fn runs_keep_shape<H: NodeHash>(_hash: H)
     ensures { RunsKeepShape H.digest }
+{}
+
+/// Where the next wire event of a peer is taken, what is answered and what the engine knows then follow from
+/// what it knew and from what devices answered, but for which blocks are requested, and for out of memory.
+pub fn next_is_determined<H: NodeHash>(_hash: H)
+    ensures { NextIsDetermined H.digest }
 {}
 
 /// Where all blocks of a file are marked and stand on the device as they were marked, the file there has its
