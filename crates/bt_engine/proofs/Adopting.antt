@@ -48,7 +48,7 @@ module _ (dig : List ℕ → List ℕ) where
   pub group_extends : (s new : EngineState) (file from : ℕ) (calls : DeviceCalls) (adopted : Adopted) (g : AdoptsGroup dig s file from calls adopted new) → Extends dig g.tree g.grown
   group_extends s new file from calls adopted g = adopt_extends dig g.tree g.grown from g.state.states g.states g.reads adopted g.adopts
 
-  group_file : (s new : EngineState) (file from : ℕ) (calls : DeviceCalls) (adopted : Adopted) (g : AdoptsGroup dig s file from calls adopted new)
+  pub group_file : (s new : EngineState) (file from : ℕ) (calls : DeviceCalls) (adopted : Adopted) (g : AdoptsGroup dig s file from calls adopted new)
       → IsFile new file (record g.state { states = g.states }) g.grown
   group_file s new file from calls adopted g = record {
     here = ap (λ (x : EngineState). slice_get x.files file) g.after ∙ set_same s.files file (record g.state { states = g.states }) g.state g.is_file.here;

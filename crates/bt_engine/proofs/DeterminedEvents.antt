@@ -1,5 +1,5 @@
 -- What one wire event does by itself is one and no other, with the same answers of devices.
-use Rattle.std.proofs.Common.{◌≡◌, ◌≢◌, ℕ, zero, suc, ◌*◌, ◌<◌, inl, inr, Bool, true, false, List, [], ◌∷◌, ◌++◌, length, map, take, drop, ◌-◌, Option, Some, None, refl, sym, ap, ◌∙◌, subst, arith, length-append}
+use Rattle.std.proofs.Common.{◌≡◌, ◌≢◌, ℕ, suc, ◌*◌, ◌<◌, inl, inr, Bool, true, false, List, [], ◌∷◌, ◌++◌, length, map, take, drop, ◌-◌, Option, Some, None, refl, sym, ap, ◌∙◌, subst, arith, length-append}
 use Rattle.std.specs.Prelude.{slice_get, option_map, Contains, flat_map, if◌then◌else◌, Result, Ok, Err}
 use Rattle.std.specs.List.{AllPairs, concat}
 use Rattle.std.proofs.lemmas.List.{length-map}
@@ -42,7 +42,7 @@ use Rattle.bt_engine.specs.Arrival.{HasPutEffect, Puts, Arrives, HandlesPiece, s
 use Rattle.bt_engine.specs.Settling.{judged_file, settling_notes, due_blocks, SettlesIn}
 use Rattle.bt_engine.specs.HashMessages.{OnlyCloses, IsTreeOf, IsAnswered, HandlesHashRequest, answered, rejected, Resolves, ours, other, new_proofs, settled_count, Learns, HandlesHashes, unknown_root, no_claim, refused, learns}
 use Rattle.bt_engine.specs.WireEvents.{HandlesHello, ours as our_torrent, other as other_torrent, HandlesHave, in_range, out_of_range, HandlesBitfield, right, wrong, HandlesMessage, Handles}
-use Rattle.bt_engine.proofs.Lists.{same_some, here, later, contains_none, contains_cases, some_below, range_contains, range_limits}
+use Rattle.bt_engine.proofs.Lists.{get_some, same_some, here, later, contains_none, contains_cases, some_below, range_contains, range_limits}
 use Rattle.bt_engine.proofs.DeterminedParts.{place_one, whole_one, tree_one, accepts_one, answer_one, accepts_refused, refused_one, no_claim_one, claim_or_not}
 
 -- ---- lists
@@ -88,7 +88,7 @@ first_call file c d xs ys e = (ap (λ (p : ℕ × Call). p.1) (first e), rest e)
     rest e = cc
 
 -- reads are told from their calls
-reads_one : (file n : ℕ) (xs ys : List BlockRead) → reads_at file n xs ≡ reads_at file n ys → xs ≡ ys
+pub reads_one : (file n : ℕ) (xs ys : List BlockRead) → reads_at file n xs ≡ reads_at file n ys → xs ≡ ys
 reads_one file n [] [] e = refl
 reads_one file n [] (y ∷ ys) e = absurd cc
 reads_one file n (x ∷ xs) [] e = absurd cc
@@ -124,12 +124,7 @@ settled_files : (dig : List ℕ → List ℕ) (k : Facts) (o : Option FileState)
 settled_files dig k None xs ys same = refl
 settled_files dig k (Some f) xs ys same = ap (λ zs. Some (judged_file dig k zs f)) (same f refl)
 
-some_file : (files : List FileState) (i : ℕ) → i < length files → (f : FileState) × (slice_get files i ≡ Some f)
-some_file [] i lt = absurd (omega (arith, lt))
-some_file (f ∷ files) zero lt = (f, refl)
-some_file (f ∷ files) (suc i) lt = some_file files i (omega (arith, lt))
-
-settles_one : (dig : List ℕ → List ℕ) (is_meant : ℕ → Bool) (tree from count : ℕ) (old a b : EngineState) (calls : DeviceCalls) (m n : List Note) → SettlesIn dig is_meant tree from count old calls m a
+pub settles_one : (dig : List ℕ → List ℕ) (is_meant : ℕ → Bool) (tree from count : ℕ) (old a b : EngineState) (calls : DeviceCalls) (m n : List Note) → SettlesIn dig is_meant tree from count old calls m a
     → SettlesIn dig is_meant tree from count old calls n b → (m ≡ n) × (a ≡ b)
 settles_one dig is_meant tree from count old a b calls m n x y = (
   x.noted ∙ flat_same (λ file. settling_notes dig x.facts file (x.reads file)) (λ file. settling_notes dig y.facts file (y.reads file)) (file_numbers old)
@@ -145,7 +140,7 @@ settles_one dig is_meant tree from count old a b calls m n x y = (
 
     size : (file : ℕ) → Contains (file_numbers old) file → length (reads_at file x.facts.file_length (x.reads file)) ≡ length (reads_at file y.facts.file_length (y.reads file))
     size file c =
-        let f = some_file old.files file (inside file c) in
+        let f = get_some old.files file (inside file c) in
         let blocks : map block_of (x.reads file) ≡ map block_of (y.reads file)
         = x.due file f.0 f.1 ∙ ap (λ k. if is_meant file then due_blocks dig k tree from count f.0 else []) facts ∙ sym (y.due file f.0 f.1) in
         length-map (x.reads file) _ ∙ sym (length-map (x.reads file) block_of) ∙ ap length blocks ∙ length-map (y.reads file) block_of ∙ sym (length-map (y.reads file) _)
@@ -182,7 +177,7 @@ last_given f g (i ∷ before) block after read e =
     tail : {X : Type 0} {x y : X} {xs ys : List X} → x ∷ xs ≡ y ∷ ys → xs ≡ ys
     tail e = cc
 
-file_one : (s : EngineState) (file : ℕ) (f g : FileState) (k l : Facts) → IsFile s file f k → IsFile s file g l → (f ≡ g) × (k ≡ l)
+pub file_one : (s : EngineState) (file : ℕ) (f g : FileState) (k l : Facts) → IsFile s file f k → IsFile s file g l → (f ≡ g) × (k ≡ l)
 file_one s file f g k l x y =
     let same : f ≡ g = same_some (slice_get s.files file) f g x.here y.here in
     (same, same_some (slice_get s.trees g.tree) k l (ap (λ (q : FileState). slice_get s.trees q.tree) (sym same) ∙ x.hung) y.hung)

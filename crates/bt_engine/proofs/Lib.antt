@@ -21,4 +21,8 @@ pub mod Headline
 -- what is left free
 pub mod DeterminedParts
 pub mod DeterminedEvents
+pub mod DeterminedFollow
+pub mod DeterminedNext
+pub mod DeterminedPeers
+pub mod DeterminedAdopt
 pub mod Determined

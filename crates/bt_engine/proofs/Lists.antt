@@ -1,6 +1,6 @@
 -- Lists of which one element is set, and what lists contain.
 use Rattle.std.proofs.Common.{◌≡◌, ◌≢◌, ℕ, zero, suc, ◌+◌, ◌<◌, ◌≤◌, ◌⊎◌, inl, inr, Bool, true, false, List, [], ◌∷◌, length, map, Option, Some, None, refl, sym, ap, ◌∙◌, subst, arith}
-use Rattle.std.specs.Prelude.{slice_get, slice_set, option_map, Contains, filter, flat_map, ◌&&◌, cond}
+use Rattle.std.specs.Prelude.{is_some, IsSome, slice_get, slice_set, option_map, Contains, filter, flat_map, ◌&&◌, cond}
 use Rattle.std.specs.Option.{option_and_then}
 use Rattle.std.specs.List.{range_with_len}
 use Rattle.std.proofs.lemmas.List.FromFn.{length-range_with_len, get_or-range_with_len}
@@ -115,3 +115,11 @@ range_limits a n i c =
     let size = length-range_with_len a n in
     let at : a + c.0 ≡ i = sym (get_or-range_with_len a n c.0 i (omega (arith, c.1, size))) ∙ c.2 in
     (omega (arith, at), omega (arith, at, c.1, size))
+
+pub get_some : {X : Type 0} (xs : List X) (i : ℕ) → i < length xs → (x : X) × (slice_get xs i ≡ Some x)
+get_some [] i lt = absurd (omega (arith, lt))
+get_some (x ∷ xs) zero lt = (x, refl)
+get_some (x ∷ xs) (suc i) lt = get_some xs i (omega (arith, lt))
+
+pub some_not_none : {X : Type 0} (o : Option X) → IsSome o → o ≡ None → ⊥
+some_not_none o some gone = let no : false ≡ true = sym (ap (λ x. is_some x) gone) ∙ some in absurd cc

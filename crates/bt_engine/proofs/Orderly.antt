@@ -230,7 +230,7 @@ is_itself b c e = subst (λ d. is_block b d ≡ true) (sym e) (both (b.file == b
     both true false e f = f
     both false y e f = e
 
-length-bits_of : (byte : ℕ) → length (bits_of byte) ≡ 8
+pub length-bits_of : (byte : ℕ) → length (bits_of byte) ≡ 8
 length-bits_of byte = length-map (range_with_len 0 8) (λ j. byte / 2 ^ (7 - j) % 2 == 1) ∙ length-range_with_len 0 8
 
 length-bits_in : (bytes : List ℕ) → length (bits_in bytes) ≡ 8 * length bytes

@@ -2,7 +2,7 @@
 -- blocks that wait in the other files of its root.
 use Rattle.std.specs.Prelude.{◌≡◌, ◌≢◌, ℕ, ◌+◌, ◌-◌, ◌*◌, ◌/◌, ◌%◌, ◌^◌, ◌<◌, ◌≤◌, ◌==◌, ◌&&◌, min, nat_lt, not, Bool, List, [], ◌∷◌, ◌++◌, map, filter, flat_map, length, if◌then◌else◌, Some, slice_get, Result, Ok, Err}
 use Rattle.std.specs.List.{AllZip, range_with_len}
-use Rattle.bt_sparse.specs.SparseTree.{Facts}
+use Rattle.bt_sparse.specs.SparseTree.{Facts, blocks_of}
 use Rattle.bt_sparse.specs.Answer.{IsAnswer}
 use Rattle.bt_hashreq.specs.Request.{max_run_height, planned_key}
 use Rattle.bt_hashreq.specs.declared.key.HashKey.{HashKey}
@@ -46,7 +46,7 @@ IsProof dig k key hint = (digests : List (List ℕ))
 
 -- ---- groups
 
--- A group of the file's blocks is taken in from block `from` on, as a store does it.
+-- A block is left, and from it on a group of the file's blocks is taken in, as a store does it.
 pub record AdoptsGroup (dig : List ℕ → List ℕ) (s : EngineState) (file from : ℕ) (calls : DeviceCalls)
     (adopted : Adopted) (new : EngineState) : Type 0 where
   pub state : FileState
@@ -56,6 +56,7 @@ pub record AdoptsGroup (dig : List ℕ → List ℕ) (s : EngineState) (file fro
   pub states : List BlockState
   pub proofs : List Hint
   pub is_file : IsFile s file state tree
+  pub left : from < blocks_of tree
   pub adopts : Adopts dig tree from state.states reads adopted grown states
   pub made : calls ≡ reads_at file tree.file_length reads
   pub taught : AllZip (IsProof dig grown) (taught_keys grown from adopted) proofs
@@ -99,6 +100,7 @@ pub record AdoptsFile (dig : List ℕ → List ℕ) (s : EngineState) (file : �
   pub notes : List Note
   pub settled : EngineState
   pub here : slice_get s.files file ≡ Some state
+  pub some : state.states ≢ []
   pub adopts : AdoptsGroups dig s file 0 groups total mid
   pub all : total.next ≡ length state.states
   pub settles : SettlesIn dig (is_other file) state.tree 0 (length state.states) mid settling notes settled

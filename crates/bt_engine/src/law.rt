@@ -1,7 +1,7 @@
 ghost use Rattle.bt_engine.specs.Headline.{CompleteFilesArePublished};
 ghost use Rattle.bt_engine.specs.Stored.{CompleteHasRoot};
 ghost use Rattle.bt_engine.specs.Taught.{TaughtKeysAreAnswered};
-ghost use Rattle.bt_engine.specs.Determined.{NextIsDetermined};
+ghost use Rattle.bt_engine.specs.Determined.{StepIsDetermined};
 ghost use Rattle.bt_engine.specs.Shape.{RunsKeepShape};
 ghost use Rattle.bt_engine.specs.Orderly.{StepKeepsOrder, RunsAreOrderly};
 ghost use Rattle.bt_engine.specs.Sound.{StepKeepsSound, RunKeepsSound, CompleteFilesStand};
@@ -81,10 +81,10 @@ pub fn runs_keep_shape<H: NodeHash>(_hash: H)
     ensures { RunsKeepShape H.digest }
 {}
 
-/// Where the next wire event of a peer is taken, what is answered and what the engine knows then follow from
-/// what it knew and from what devices answered, but for which blocks are requested, and for out of memory.
-pub fn next_is_determined<H: NodeHash>(_hash: H)
-    ensures { NextIsDetermined H.digest }
+/// From an engine that events lead to, what an event answers and what the engine knows then follow from what
+/// devices answer, but for which blocks are requested, and for out of memory.
+pub fn step_is_determined<H: NodeHash>(_hash: H)
+    ensures { StepIsDetermined H.digest }
 {}
 
 /// Where all blocks of a file are marked and stand on the device as they were marked, the file there has its
