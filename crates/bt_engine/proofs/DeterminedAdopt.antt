@@ -14,7 +14,7 @@ use Rattle.bt_sparse.specs.Acceptance.{Accepts, IsRefused}
 use Rattle.bt_sparse.proofs.Values.{value_covers}
 use Rattle.bt_hashreq.specs.declared.key.HashKey.{HashKey}
 use Rattle.bt_store.specs.BlockReads.{BlockRead, given, failed, block_of, is_fault, right_count, fault_count}
-use Rattle.bt_store.specs.Adoption.{IsAnchor, IsKnownGroup, IsUnknownGroup, is_whole, claim_of_reads, marked_run, AreWhole, Adopts, none, known, accepted, refused, short, unread}
+use Rattle.bt_store.specs.Adoption.{IsKnownGroup, IsUnknownGroup, is_whole, claim_of_reads, marked_run, AreWhole, Adopts, none, known, accepted, refused, short, unread}
 use Rattle.bt_store.specs.declared.block_states.BlockState.{BlockState}
 use Rattle.bt_store.specs.declared.adoption.Adopted.{Adopted}
 use Rattle.bt_engine.specs.declared.error.AdoptError.{AdoptError}
@@ -30,7 +30,7 @@ use Rattle.bt_engine.specs.Step.{of_adopt}
 use Rattle.bt_engine.specs.Determined.{plain_answer, without_asked}
 use Rattle.bt_engine.proofs.Lists.{same_some, some_not_none, some_below}
 use Rattle.bt_engine.proofs.Adopting.{group_extends, group_file}
-use Rattle.bt_engine.proofs.DeterminedParts.{accepts_one, answer_one, accepts_refused}
+use Rattle.bt_engine.proofs.DeterminedParts.{anchor_one, accepts_one, answer_one, accepts_refused}
 use Rattle.bt_engine.proofs.DeterminedEvents.{split_one, reads_one, file_one, settles_one}
 
 -- ---- groups
@@ -59,12 +59,6 @@ known_one : (dig : List ℕ → List ℕ) (k : Facts) (from c d : ℕ) → IsKno
 known_one dig k from c d x y = elim (cases_lt c d) [
   | inl lt ↦ absurd (not_longer dig k from c d x y lt)
   | inr le ↦ elim (cases_lt d c) [ inl lt ↦ absurd (not_longer dig k from d c y x lt) | inr ge ↦ omega (arith, le, ge) ]
-]
-
-anchor_one : (k : Facts) (leaf a b : ℕ) → IsAnchor k leaf a → IsAnchor k leaf b → a ≡ b
-anchor_one k leaf a b x y = elim (cases_lt a b) [
-  | inl lt ↦ absurd (some_not_none _ x.held (y.nearest a lt))
-  | inr le ↦ elim (cases_lt b a) [ inl lt ↦ absurd (some_not_none _ y.held (x.nearest b lt)) | inr ge ↦ omega (arith, le, ge) ]
 ]
 
 unknown_one : (k : Facts) (from a f c b g d : ℕ) → IsUnknownGroup k from a f c → IsUnknownGroup k from b g d → (a ≡ b) × (f ≡ g) × (c ≡ d)

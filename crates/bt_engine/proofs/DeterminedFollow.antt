@@ -15,7 +15,8 @@ use Rattle.bt_engine.specs.Output.{Sent, sent_to}
 use Rattle.bt_engine.specs.FollowUp.{IsInteresting, interest_sent, TellsInterest, NeedsLeaf, IsLeastNeed, RequestsHashes, requests, rests, RequestsEach, FollowsUp}
 use Rattle.bt_engine.specs.Rechoke.{FollowsEach}
 use Rattle.bt_engine.specs.Determined.{is_block_request, other_frames, asked_nothing, without_asked}
-use Rattle.bt_engine.proofs.Lists.{same_some, some_not_none}
+use Rattle.bt_engine.proofs.Lists.{same_some}
+use Rattle.bt_engine.proofs.DeterminedParts.{anchor_one}
 
 -- two engines that are one but for what peers are asked for, and two such peers
 abbrev pub Alike : EngineState → EngineState → Type 0
@@ -86,10 +87,7 @@ module _ (dig : List ℕ → List ℕ) where
 
   plan_one : (k : Facts) (leaf : ℕ) (a b : HashKey) → IsPlan k leaf a → IsPlan k leaf b → a ≡ b
   plan_one k leaf a b x y =
-      let anchor : x.anchor ≡ y.anchor = elim (cases_lt x.anchor y.anchor) [
-        | inl lt ↦ absurd (some_not_none _ x.nearest.held (y.nearest.nearest x.anchor lt))
-        | inr le ↦ elim (cases_lt y.anchor x.anchor) [ inl lt ↦ absurd (some_not_none _ y.nearest.held (x.nearest.nearest y.anchor lt)) | inr ge ↦ omega (arith, le, ge) ]
-      ] in
+      let anchor : x.anchor ≡ y.anchor = anchor_one k leaf x.anchor y.anchor x.nearest y.nearest in
       x.key_is ∙ ap (planned_key k leaf) anchor ∙ sym y.key_is
 
   hash_one : (s t : EngineState) (p q : PeerState) (f g : List Sent) (a b : PeerState) → Alike s t → AlikePeers p q → RequestsHashes dig s p f a → RequestsHashes dig t q g b → (f ≡ g) × AlikePeers a b

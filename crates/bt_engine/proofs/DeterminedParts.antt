@@ -10,6 +10,7 @@ use Rattle.bt_meta.specs.Torrent.{Metainfo, IsLaidOut}
 use Rattle.bt_meta.specs.Place.{IsPlace}
 use Rattle.bt_meta.specs.declared.torrent.Span.{Span}
 use Rattle.bt_sparse.specs.SparseTree.{Facts, blocks_of, held_at, value_at}
+use Rattle.bt_sparse.specs.Anchor.{IsAnchor}
 use Rattle.bt_sparse.specs.Answer.{IsAnswer}
 use Rattle.bt_sparse.specs.Claim.{Claims, top_digest}
 use Rattle.bt_sparse.specs.Acceptance.{IsAcceptable, Accepts, DiffersBelow, IsHighestClash, IsRefused, shape, padding, no_anchor, top_differs, clash, no_memory}
@@ -33,7 +34,7 @@ use Rattle.bt_engine.specs.Spans.{IsWholeBlock}
 use Rattle.bt_engine.specs.HashMessages.{IsTreeOf}
 use Rattle.bt_engine.specs.Next.{IsPeer}
 use Rattle.bt_engine.specs.Orderly.{IsOrderly}
-use Rattle.bt_engine.proofs.Lists.{same_some}
+use Rattle.bt_engine.proofs.Lists.{same_some, some_not_none}
 use Rattle.bt_engine.proofs.Pairs.{to_pairs, pairs_at}
 
 -- ---- streams
@@ -123,6 +124,13 @@ module _ (torrent : Metainfo) (piece begin count : ℕ) (lay : IsLaidOut torrent
       let file : b.file ≡ c.file = sym x.file ∙ ap (λ (s : Span). s.file) span ∙ y.file in
       let start : 16384 * b.block ≡ 16384 * c.block = sym x.start ∙ ap (λ (s : Span). s.start) span ∙ y.start in
       ap (λ n. record b { file = n }) file ∙ ap (λ n. record c { block = n }) (omega (arith, start))
+
+-- the nearest held node
+pub anchor_one : (k : Facts) (leaf a b : ℕ) → IsAnchor k leaf a → IsAnchor k leaf b → a ≡ b
+anchor_one k leaf a b x y = elim (cases_lt a b) [
+  | inl lt ↦ absurd (some_not_none _ x.held (y.nearest a lt))
+  | inr le ↦ elim (cases_lt b a) [ inl lt ↦ absurd (some_not_none _ y.held (x.nearest b lt)) | inr ge ↦ omega (arith, le, ge) ]
+]
 
 -- ---- what is known
 

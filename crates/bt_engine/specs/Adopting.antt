@@ -7,7 +7,7 @@ use Rattle.bt_sparse.specs.Answer.{IsAnswer}
 use Rattle.bt_hashreq.specs.Request.{max_run_height, planned_key}
 use Rattle.bt_hashreq.specs.declared.key.HashKey.{HashKey}
 use Rattle.bt_store.specs.BlockReads.{BlockRead, block_of}
-use Rattle.bt_store.specs.Adoption.{IsGroup, Adopts}
+use Rattle.bt_store.specs.Adoption.{IsUnknownGroup, Adopts}
 use Rattle.bt_store.specs.declared.block_states.BlockState.{BlockState}
 use Rattle.bt_store.specs.declared.adoption.Adopted.{Adopted}
 use Rattle.bt_engine.specs.declared.answer.Note.{Note}
@@ -107,11 +107,12 @@ pub record AdoptsFile (dig : List ℕ → List ℕ) (s : EngineState) (file : �
   pub made : calls ≡ flat_map (λ c. c) groups ++ settling
   pub after : new ≡ with_pending mid settled []
 
--- where memory was refused: the next group was not read, as there was none or no room, or all of it was
-pub data StopsAt (dig : List ℕ → List ℕ) (k : Facts) (from : ℕ) (reads : List BlockRead) : Type 0 where
-  unread : reads ≡ [] → StopsAt dig k from reads
-  read : (blocks : List ℕ) → IsGroup dig k from blocks → map block_of reads ≡ blocks
-      → StopsAt dig k from reads
+-- where memory was refused: the next group was not read, as there was none or no room; or it was, all of it,
+-- and its digests were to be claimed
+pub data StopsAt (k : Facts) (from : ℕ) (reads : List BlockRead) : Type 0 where
+  unread : reads ≡ [] → StopsAt k from reads
+  read : (anchor first count : ℕ) → IsUnknownGroup k from anchor first count
+      → map block_of reads ≡ range_with_len first count → StopsAt k from reads
 
 -- Out of memory: some groups are taken in and stay so, and no other block changes.
 pub record StopsAdopting (dig : List ℕ → List ℕ) (s : EngineState) (file : ℕ) (calls : DeviceCalls)
@@ -124,7 +125,7 @@ pub record StopsAdopting (dig : List ℕ → List ℕ) (s : EngineState) (file :
   pub some : state.states ≢ []
   pub adopts : AdoptsGroups dig s file 0 groups done new
   pub is_file : IsFile new file state tree
-  pub stops : StopsAt dig tree done.next reads
+  pub stops : StopsAt tree done.next reads
   pub made : calls ≡ flat_map (λ c. c) groups ++ reads_at file tree.file_length reads
 
 -- No peer may be connected. An empty file has no device, and nothing is taken in.
