@@ -12,3 +12,8 @@ pub mod Stored
 pub mod Tame
 pub mod Sound
 pub mod Headline
+-- answers
+pub mod AnswerParts
+pub mod AnswerSends
+pub mod AnswerRequests
+pub mod AnswerCauses

@@ -23,3 +23,4 @@ pub mod Stored
 pub mod Law
 pub mod Sound
 pub mod Headline
+pub mod AnswerLaw

@@ -3,11 +3,13 @@
 #![tactic(auto)]
 
 mod answer;
+mod answer_law;
 mod error;
 mod event;
 mod law;
 
 pub use answer::{Frame, Note, Why};
+pub use answer_law::{step_closes_for_cause, step_requests_missing};
 pub use error::{ConnectError, EngineError, FlushError};
 pub use event::Event;
 pub use law::{
