@@ -112,7 +112,7 @@ following interest hash block sent x e c =
 
 -- ---- what a wire event leaves
 
-abbrev is_complete_note : Note → Bool
+abbrev pub is_complete_note : Note → Bool
 is_complete_note (Complete file) = true
 is_complete_note _ = false
 

@@ -18,6 +18,13 @@ use Rattle.bt_engine.proofs.Lists.{contains_none, same_some, set_cases}
 use Rattle.bt_engine.proofs.AnswerParts.{Part, greets, replies, announces, chokes, asks, all_haves}
 use Rattle.bt_engine.proofs.AnswerSends.{get_contains, nat_cases, set_other, frame_to, Follows, follows_of, IsSentBy, alike, announced, followed, rechoked_then, step_sent}
 
+-- another engine in which the peer has the same pieces
+pub has_in : (s new : EngineState) (p q : PeerState) (b : BlockId) → new.torrent ≡ s.torrent → q.has ≡ p.has → Has s p b → Has new q b
+has_in s new p q b e f has = subst (λ t. Has (record new { torrent = t }) q b) (sym e) (subst (λ h. Has (record new { torrent = s.torrent }) (record q { has = h }) b) (sym f) has)
+
+pub missing_in : (s new : EngineState) (b : BlockId) → new.files ≡ s.files → state_at s b ≡ Some Missing → state_at new b ≡ Some Missing
+missing_in s new b e m = subst (λ f. state_at (record new { files = f }) b ≡ Some Missing) (sym e) m
+
 module _ (dig : List ℕ → List ℕ) where
   record IsRequested (new : EngineState) (key : PeerKey) (ask : Ask) : Type 0 where
     place : ℕ
@@ -25,13 +32,6 @@ module _ (dig : List ℕ → List ℕ) where
     block : BlockId
     is_peer : IsPeer new key place peer
     so : IsRequestedOf new place peer ask block
-
-  -- another engine in which the peer has the same pieces
-  has_in : (s new : EngineState) (p q : PeerState) (b : BlockId) → new.torrent ≡ s.torrent → q.has ≡ p.has → Has s p b → Has new q b
-  has_in s new p q b e f has = subst (λ t. Has (record new { torrent = t }) q b) (sym e) (subst (λ h. Has (record new { torrent = s.torrent }) (record q { has = h }) b) (sym f) has)
-
-  missing_in : (s new : EngineState) (b : BlockId) → new.files ≡ s.files → state_at s b ≡ Some Missing → state_at new b ≡ Some Missing
-  missing_in s new b e m = subst (λ f. state_at (record new { files = f }) b ≡ Some Missing) (sym e) m
 
   -- a request that follows for a peer
   asks_rightly : (s new : EngineState) (i : ℕ) (sent : List Sent) → Follows s i sent new → (key : PeerKey) (ask : Ask) → Contains sent (frame_to key (Request ask)) → IsRequested new key ask

@@ -16,4 +16,6 @@ pub mod Headline
 pub mod AnswerParts
 pub mod AnswerSends
 pub mod AnswerRequests
+pub mod AnswerInterest
+pub mod AnswerPieces
 pub mod AnswerCauses

@@ -9,7 +9,7 @@ mod event;
 mod law;
 
 pub use answer::{Frame, Note, Why};
-pub use answer_law::{step_closes_for_cause, step_requests_missing};
+pub use answer_law::{next_notes_complete_files, step_announces_whole_pieces, step_closes_for_cause, step_requests_missing, step_tells_changed_interest};
 pub use error::{ConnectError, EngineError, FlushError};
 pub use event::Event;
 pub use law::{
