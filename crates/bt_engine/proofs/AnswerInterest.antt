@@ -1,12 +1,9 @@
 -- Interest is told only where it changed.
-use Rattle.std.proofs.Common.{◌≡◌, ℕ, zero, suc, ◌+◌, ◌<◌, ◌≤◌, ◌⊎◌, inl, inr, Bool, true, false, List, [], ◌∷◌, ◌++◌, length, map, Some, refl, sym, ap, ◌∙◌, subst, arith}
+use Rattle.std.proofs.Common.{◌≡◌, ℕ, zero, suc, ◌+◌, ◌<◌, ◌≤◌, ◌⊎◌, inl, inr, Bool, true, false, List, [], ◌∷◌, length, map, Some, refl, sym, ap, ◌∙◌, subst, arith}
 use Rattle.std.specs.Prelude.{slice_get, Contains}
 use Rattle.std.specs.List.{range_with_len}
 use Rattle.std.proofs.lemmas.List.Elements.{Contains-append_cases}
-use Rattle.bt_store.specs.declared.block_states.BlockState.TheVariants.{Missing}
 use Rattle.bt_book.specs.declared.names.PeerKey.{PeerKey}
-use Rattle.bt_book.specs.declared.names.BlockId.{BlockId}
-use Rattle.bt_wire.specs.declared.message.Message.{Message as PeerMessage}
 use Rattle.bt_wire.specs.declared.message.Message.TheVariants.{Interested, NotInterested}
 use Rattle.bt_engine.specs.State.{PeerState, EngineState}
 use Rattle.bt_engine.specs.Devices.{DeviceCalls}
@@ -17,7 +14,7 @@ use Rattle.bt_engine.specs.Next.{IsPeer, GoesOn}
 use Rattle.bt_engine.specs.Rechoke.{FollowsEach, rechoked, rechoked_peer}
 use Rattle.bt_engine.specs.AnswerLaw.{ChangesInterest, StepTellsChangedInterest}
 use Rattle.bt_engine.proofs.Lists.{contains_none, same_some, set_same}
-use Rattle.bt_engine.proofs.AnswerParts.{Part, greets, replies, announces, interests, chokes, all_haves, event_leaves}
+use Rattle.bt_engine.proofs.AnswerParts.{Part, greets, replies, interests, chokes, all_haves, event_leaves}
 use Rattle.bt_engine.proofs.AnswerSends.{set_other, frame_to, Follows, follows_of, IsSentBy, alike, announced, followed, rechoked_then, step_sent}
 use Rattle.bt_engine.proofs.AnswerRequests.{has_in, missing_in}
 
@@ -106,11 +103,11 @@ module _ (dig : List ℕ → List ℕ) where
   each_tells (suc n) a old s new sent f was_so =
       let first = follows_of dig s a f.1 f.0 f.3 in
       let later : (j : ℕ) (q : PeerState) → a + 1 ≤ j → slice_get f.0.peers j ≡ Some q → WasSo old j q = λ j q above at.
-          was_so j q (omega (arith, above)) (sym (ap (λ l. slice_get l j) first.peers ∙ set_other s.peers a j first.after (λ e. absurd (omega (arith, above, e)))) ∙ at) in
+      was_so j q (omega (arith, above)) (sym (ap (λ l. slice_get l j) first.peers ∙ set_other s.peers a j first.after (λ e. absurd (omega (arith, above, e)))) ∙ at) in
       let rest = each_tells n (a + 1) old f.0 new f.2 f.4 later in
       let was = was_so a first.peer (omega arith) first.was in
       let stays : (key : PeerKey) (was now : Bool) → ChangesAt old f.0 key was now a → ChangesInterest old new key was now = λ key was now c.
-          (each_stays n (a + 1) old f.0 new f.2 f.4 key was now a (omega arith) c).changes in
+      (each_stays n (a + 1) old f.0 new f.2 f.4 key was now a (omega arith) c).changes in
       record {
         interested = λ key c. elim (Contains-append_cases f.1 f.2 (frame_to key Interested) (subst (λ l. Contains l (frame_to key Interested)) f.5 c)) [
           | inl one ↦ let r = first.interested key one in stays key false true (changes_by old s f.0 a f.1 first was key false true r.0 r.1 r.2)

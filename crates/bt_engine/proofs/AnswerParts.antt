@@ -1,5 +1,5 @@
 -- The parts of what is sent, and what a wire event leaves of the engine and its peer.
-use Rattle.std.proofs.Common.{◌≡◌, ℕ, zero, suc, ◌⊎◌, inl, inr, Bool, true, false, List, [], ◌∷◌, ◌++◌, length, map, Option, Some, None, Result, Ok, Err, refl, sym, ap, ◌∙◌, subst, arith}
+use Rattle.std.proofs.Common.{◌≡◌, ℕ, zero, suc, inl, inr, Bool, true, false, List, [], ◌∷◌, ◌++◌, map, Some, Result, Ok, Err, refl, sym, ap, ◌∙◌, subst}
 use Rattle.std.specs.Prelude.{slice_get, slice_set, Contains, nat_lt, if◌then◌else◌}
 use Rattle.std.proofs.lemmas.List.Elements.{Contains-append_cases}
 use Rattle.bt_sparse.specs.SparseTree.{Facts}
@@ -20,7 +20,7 @@ use Rattle.bt_wire.specs.declared.event.WireEvent.TheVariants.{Hello, Message, S
 use Rattle.bt_engine.specs.declared.answer.Frame.{Frame}
 use Rattle.bt_engine.specs.declared.answer.Frame.TheVariants.{Hello as hello_frame, Message as message_frame}
 use Rattle.bt_engine.specs.declared.answer.Note.{Note}
-use Rattle.bt_engine.specs.declared.answer.Note.TheVariants.{Marked, Waiting, Freed, Damaged, Device, Stale, Complete}
+use Rattle.bt_engine.specs.declared.answer.Note.TheVariants.{Device, Complete}
 use Rattle.bt_engine.specs.declared.answer.Why.{Why}
 use Rattle.bt_engine.specs.State.{PeerState, FileState, EngineState}
 use Rattle.bt_engine.specs.Devices.{DeviceCalls}
@@ -28,11 +28,11 @@ use Rattle.bt_engine.specs.Blocks.{with_file, with_peer, with_tree, file_numbers
 use Rattle.bt_engine.specs.Output.{Sent, Effect, sent_to, haves, no_effect, noting, closing, sending}
 use Rattle.bt_engine.specs.Request.{FindsFault, damaged, fault, HandlesRequest, ignored, no_place, not_marked, served, stopped}
 use Rattle.bt_engine.specs.Arrival.{HasPutEffect, Arrives, HandlesPiece, stale, arrives}
-use Rattle.bt_engine.specs.Settling.{Settles, settling_notes, read_note}
+use Rattle.bt_engine.specs.Settling.{settling_notes, read_note}
 use Rattle.bt_engine.specs.HashMessages.{HandlesHashRequest, answered, rejected, HandlesHashes, unknown_root, no_claim, refused, learns, new_proofs}
 use Rattle.bt_engine.specs.WireEvents.{HandlesHello, ours, other, HandlesHave, in_range, out_of_range, HandlesBitfield, right, wrong, HandlesMessage, Handles}
-use Rattle.bt_engine.specs.FollowUp.{FollowsUp, interest_sent, RequestsHashes, requests, rests, RequestsEach}
-use Rattle.bt_engine.proofs.Lists.{contains_none, contains_cases, contains_map, contains_flat_map, here, set_same}
+use Rattle.bt_engine.specs.FollowUp.{interest_sent, RequestsHashes, requests, rests, RequestsEach}
+use Rattle.bt_engine.proofs.Lists.{contains_none, contains_cases, contains_map, contains_flat_map}
 
 -- ---- parts of what is sent
 
@@ -283,8 +283,8 @@ module _ (dig : List ℕ → List ℕ) (s : EngineState) (i : ℕ) (p : PeerStat
   hashes_leaves mid key digests calls effect (learns l) =
       let like : Effect = record no_effect { notes = l.notes; proofs = new_proofs key digests l.old l.new } in
       let noted : NoComplete l.notes = λ note c.
-          let r = contains_flat_map (λ file. settling_notes dig l.settles.facts file (l.settles.reads file)) (file_numbers (with_tree s l.tree l.new)) note (subst (λ x. Contains x note) l.settles.noted c) in
-          settling_noted l.settles.facts r.0 (l.settles.reads r.0) note r.2 in
+      let r = contains_flat_map (λ file. settling_notes dig l.settles.facts file (l.settles.reads file)) (file_numbers (with_tree s l.tree l.new)) note (subst (λ x. Contains x note) l.settles.noted c) in
+      settling_noted l.settles.facts r.0 (l.settles.reads r.0) note r.2 in
       let settled : l.settled ≡ record (with_tree s l.tree l.new) { files = l.settled.files } = l.settles.others in
       subst (λ x. Leaves s i p x mid) (sym l.has_effect) (subst (λ x. Leaves s i p like x) (sym (l.after ∙ ap (λ x. with_peer x i (record p { hash = l.hash })) settled)) (record {
         peer = record p { hash = l.hash };

@@ -1,13 +1,13 @@
 -- Haves and completed files are told exactly where pieces became whole and files complete.
-use Rattle.std.proofs.Common.{◌≡◌, ℕ, zero, suc, ◌+◌, ◌<◌, ◌≤◌, ◌⊎◌, inl, inr, ◌↔◌, Bool, true, false, List, [], ◌∷◌, ◌++◌, length, map, Option, Some, None, Result, Ok, Err, refl, sym, ap, ◌∙◌, subst, arith}
+use Rattle.std.proofs.Common.{◌≡◌, ℕ, zero, suc, ◌+◌, ◌<◌, ◌⊎◌, inl, inr, ◌↔◌, Bool, true, false, List, [], ◌∷◌, ◌++◌, length, map, Some, None, Ok, refl, sym, ap, ◌∙◌, subst, arith}
 use Rattle.std.specs.Prelude.{slice_get, Contains, not, filter, ◌&&◌, cond}
 use Rattle.std.specs.List.{range_with_len}
 use Rattle.std.proofs.lemmas.List.Elements.{Contains-append_left, Contains-append_right, Contains-append_cases}
-use Rattle.bt_meta.specs.Torrent.{Metainfo, total_pieces}
+use Rattle.bt_meta.specs.Torrent.{total_pieces}
 use Rattle.bt_book.specs.declared.names.PeerKey.{PeerKey}
 use Rattle.bt_wire.specs.declared.message.Message.TheVariants.{Have}
 use Rattle.bt_engine.specs.declared.answer.Frame.{Frame}
-use Rattle.bt_engine.specs.declared.answer.Frame.TheVariants.{Hello as hello_frame, Message as message_frame}
+use Rattle.bt_engine.specs.declared.answer.Frame.TheVariants.{Message as message_frame}
 use Rattle.bt_engine.specs.declared.answer.Note.{Note}
 use Rattle.bt_engine.specs.declared.answer.Note.TheVariants.{Complete}
 use Rattle.bt_engine.specs.declared.event.Event.{Event}
@@ -24,8 +24,8 @@ use Rattle.bt_engine.specs.Step.{Answer, of_connect, of_feed, of_next, of_lost, 
 use Rattle.bt_engine.specs.Law.{sent_by}
 use Rattle.bt_engine.specs.AnswerLaw.{output_of, IsConnected, BecomesSo, NotesComplete, StepAnnouncesWholePieces, NextNotesCompleteFiles}
 use Rattle.bt_engine.proofs.Lists.{contains_none, contains_cases, contains_map, contains_flat_map, contains_filter, map_contains, flat_map_contains, range_contains, and_true, same_some, set_cases, set_same, here, later}
-use Rattle.bt_engine.proofs.AnswerParts.{Part, greets, replies, announces, chokes, NoComplete, is_complete_note, Leaves, event_leaves}
-use Rattle.bt_engine.proofs.AnswerSends.{get_contains, contains_get, nat_cases, set_other, frame_to, Follows, follows_of, IsSentBy, alike, announced, followed, rechoked_then, step_sent}
+use Rattle.bt_engine.proofs.AnswerParts.{Part, greets, replies, announces, chokes, NoComplete, Leaves, event_leaves}
+use Rattle.bt_engine.proofs.AnswerSends.{get_contains, contains_get, nat_cases, set_other, frame_to, follows_of, IsSentBy, alike, announced, followed, rechoked_then, step_sent}
 
 -- ---- lists
 
@@ -183,8 +183,7 @@ module _ (dig : List ℕ → List ℕ) (s new : EngineState) (key : PeerKey) (i 
       let same : r.0 ≡ piece = ap (λ (x : Sent). piece_in x.frame) q.2 in
       let listed = contains_filter (has_become is_whole s g.mid) (piece_numbers g.mid) piece (subst (λ n. Contains (new_whole_pieces s g.mid) n) same r.1) in
       let both = and_true (is_whole g.mid piece) (not (is_whole s piece)) listed.1 in
-      let below : piece < total_pieces g.mid.torrent = (let lt = range_below 0 (total_pieces g.mid.torrent) piece listed.0 in omega (arith, lt)) in
-      (
+      let below : piece < total_pieces g.mid.torrent = (let lt = range_below 0 (total_pieces g.mid.torrent) piece listed.0 in omega (arith, lt)) in (
         subst (λ x. IsConnected new x) (ap (λ (x : Sent). x.peer) q.2) (connected q.0 place.0 place.1),
         subst (λ t. piece < total_pieces t) (sym torrent_is) below,
         record { before = not_so (is_whole s piece) both.1; after = whole_same g.mid new piece files_are torrent_is ∙ both.0 },
@@ -198,7 +197,7 @@ module _ (dig : List ℕ → List ℕ) (s new : EngineState) (key : PeerKey) (i 
       let listed : Contains (new_whole_pieces s g.mid) piece = filter_contains (has_become is_whole s g.mid) (piece_numbers g.mid) piece in_range (becomes _ _ whole b.before) in
       let told : Contains (map (λ q. sent_to q (Have piece)) g.mid.peers) (sent_to q.0 (Have piece)) = map_contains (λ q. sent_to q (Have piece)) g.mid.peers q.0 q.1 in
       let among : Contains (haves s g.mid) (frame_to k (Have piece)) =
-          flat_map_contains (λ n. map (λ q. sent_to q (Have n)) g.mid.peers) (new_whole_pieces s g.mid) piece (frame_to k (Have piece)) listed (subst (λ x. Contains (map (λ q. sent_to q (Have piece)) g.mid.peers) (frame_to x (Have piece))) q.2 told) in
+      flat_map_contains (λ n. map (λ q. sent_to q (Have n)) g.mid.peers) (new_whole_pieces s g.mid) piece (frame_to k (Have piece)) listed (subst (λ x. Contains (map (λ q. sent_to q (Have piece)) g.mid.peers) (frame_to x (Have piece))) q.2 told) in
       subst (λ l. Contains l (frame_to k (Have piece))) (sym g.send)
       (Contains-append_left (g.effect.send ++ haves s g.mid) g.sent (frame_to k (Have piece)) (Contains-append_right g.effect.send (haves s g.mid) (frame_to k (Have piece)) among))
 

@@ -15,7 +15,7 @@ use Rattle.bt_engine.specs.Next.{IsPeer}
 use Rattle.bt_engine.specs.Rechoke.{FollowsEach, rechoked}
 use Rattle.bt_engine.specs.AnswerLaw.{IsRequestedOf, StepRequestsMissing}
 use Rattle.bt_engine.proofs.Lists.{contains_none, same_some, set_cases}
-use Rattle.bt_engine.proofs.AnswerParts.{Part, greets, replies, announces, chokes, asks, all_haves}
+use Rattle.bt_engine.proofs.AnswerParts.{Part, greets, replies, chokes, asks, all_haves}
 use Rattle.bt_engine.proofs.AnswerSends.{get_contains, nat_cases, set_other, frame_to, Follows, follows_of, IsSentBy, alike, announced, followed, rechoked_then, step_sent}
 
 -- another engine in which the peer has the same pieces

@@ -1,10 +1,8 @@
 -- What each frame of an answer follows from.
-use Rattle.std.proofs.Common.{◌≡◌, ℕ, zero, suc, ◌+◌, ◌<◌, ◌⊎◌, inl, inr, ◌↔◌, Bool, true, false, List, [], ◌∷◌, ◌++◌, length, map, Option, Some, None, Result, Ok, Err, refl, sym, ap, ◌∙◌, subst, arith}
-use Rattle.std.specs.Prelude.{slice_get, slice_set, Contains, flat_map, filter}
+use Rattle.std.proofs.Common.{◌≡◌, ℕ, zero, suc, ◌⊎◌, inl, inr, ◌↔◌, Bool, true, false, List, [], ◌∷◌, ◌++◌, length, Some, Ok, refl, sym, ap, ◌∙◌, subst, arith}
+use Rattle.std.specs.Prelude.{slice_get, slice_set, Contains}
 use Rattle.std.specs.List.{range_with_len}
-use Rattle.std.proofs.lemmas.List.Elements.{Contains-append_left, Contains-append_right, Contains-append_cases}
-use Rattle.bt_meta.specs.Torrent.{Metainfo}
-use Rattle.bt_store.specs.declared.block_states.BlockState.TheVariants.{Missing}
+use Rattle.std.proofs.lemmas.List.Elements.{Contains-append_cases}
 use Rattle.bt_book.specs.declared.names.PeerKey.{PeerKey}
 use Rattle.bt_book.specs.declared.names.BlockId.{BlockId}
 use Rattle.bt_wire.specs.declared.message.Ask.{Ask}
@@ -13,20 +11,20 @@ use Rattle.bt_wire.specs.declared.message.Message.TheVariants.{Interested, NotIn
 use Rattle.bt_engine.specs.declared.answer.Frame.{Frame}
 use Rattle.bt_engine.specs.declared.answer.Frame.TheVariants.{Hello as hello_frame, Message as message_frame}
 use Rattle.bt_engine.specs.declared.event.Event.{Event}
-use Rattle.bt_engine.specs.declared.event.Event.TheVariants.{Connect, Feed, Next, Lost, Rechoke, Flush}
-use Rattle.bt_engine.specs.State.{PeerState, FileState, EngineState}
+use Rattle.bt_engine.specs.declared.event.Event.TheVariants.{Connect, Next, Rechoke}
+use Rattle.bt_engine.specs.State.{PeerState, EngineState}
 use Rattle.bt_engine.specs.Devices.{DeviceCalls}
-use Rattle.bt_engine.specs.Blocks.{state_at, Has, IsAsked, with_peer}
+use Rattle.bt_engine.specs.Blocks.{Has, with_peer}
 use Rattle.bt_engine.specs.Spans.{IsWholeBlock}
 use Rattle.bt_engine.specs.Output.{Sent, Output, sent_to, haves}
-use Rattle.bt_engine.specs.FollowUp.{FollowsUp, TellsInterest, RequestsHashes, requests, rests, IsOpen, IsInteresting, RequestsBlock, RequestsEach, interest_sent}
+use Rattle.bt_engine.specs.FollowUp.{FollowsUp, RequestsHashes, requests, rests, IsOpen, IsInteresting, RequestsBlock, RequestsEach, interest_sent}
 use Rattle.bt_engine.specs.Next.{IsPeer, GoesOn, StepNext, no_peer, waits, goes_on, closes, faulty, no_memory}
 use Rattle.bt_engine.specs.Peers.{StepConnect, joins, full, spent, no_memory as no_room, new_peer, our_handshake, greeting}
 use Rattle.bt_engine.specs.Rechoke.{FollowsEach, Rechokes, StepRechoke, rechokes, no_memory as not_rechoked, choking_sent, chokes_sent, is_served, rechoked}
-use Rattle.bt_engine.specs.Step.{Answer, of_connect, of_feed, of_next, of_lost, of_rechoke, of_flush, Step}
+use Rattle.bt_engine.specs.Step.{Answer, of_connect, of_next, of_rechoke, Step}
 use Rattle.bt_engine.specs.Law.{sent_by}
-use Rattle.bt_engine.proofs.Lists.{contains_none, contains_cases, contains_flat_map, here, later, same_some, set_cases, set_same}
-use Rattle.bt_engine.proofs.AnswerParts.{Part, greets, replies, announces, interests, chokes, hashes, asks, part_of, AllOf, all_none, all_one, all_is, all_haves, all_interest, all_hashes, all_asks, IsFollowing, in_interest, in_hash, in_block, following, Leaves, event_leaves}
+use Rattle.bt_engine.proofs.Lists.{contains_none, contains_cases, contains_flat_map, here, later, set_same}
+use Rattle.bt_engine.proofs.AnswerParts.{Part, greets, replies, interests, chokes, hashes, asks, part_of, AllOf, all_none, all_one, all_is, all_interest, all_hashes, all_asks, IsFollowing, in_interest, in_hash, in_block, following, event_leaves}
 
 pub get_contains : {X : Type 0} (xs : List X) (i : ℕ) (x : X) → slice_get xs i ≡ Some x → Contains xs x
 get_contains [] zero x e = absurd cc
@@ -144,6 +142,7 @@ told_interest p true false key c = elim (contains_cases _ _ [] c) [ inl same ↦
     is_told : Frame → Bool
     is_told (message_frame Interested) = true
     is_told _ = false
+
     not_told : frame_to p.key NotInterested ≡ frame_to key Interested → ⊥
     not_told same = let wrong : false ≡ true = ap (λ (x : Sent). is_told x.frame) same in absurd cc
 
@@ -156,6 +155,7 @@ told_no_interest p false true key c = elim (contains_cases _ _ [] c) [ inl same 
     is_told : Frame → Bool
     is_told (message_frame Interested) = true
     is_told _ = false
+
     not_told : frame_to p.key Interested ≡ frame_to key NotInterested → ⊥
     not_told same = let wrong : true ≡ false = ap (λ (x : Sent). is_told x.frame) same in absurd cc
 

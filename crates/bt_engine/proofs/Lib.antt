@@ -19,3 +19,5 @@ pub mod AnswerRequests
 pub mod AnswerInterest
 pub mod AnswerPieces
 pub mod AnswerCauses
+-- worked examples
+pub mod ExampleFile

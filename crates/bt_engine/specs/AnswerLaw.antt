@@ -1,6 +1,6 @@
 -- What answers hold, whatever the peers send and the devices answer: of whom blocks are requested, when
 -- interest is told, which pieces are announced, which files are noted as complete, and why a peer is closed.
-use Rattle.std.specs.Prelude.{◌≡◌, ◌≢◌, ℕ, ◌<◌, ◌≤◌, ◌⊎◌, ◌↔◌, Bool, true, false, List, [], length, Option, Some, None, Ok, slice_get, Contains}
+use Rattle.std.specs.Prelude.{◌≡◌, ◌≢◌, ℕ, ◌<◌, ◌≤◌, ◌↔◌, Bool, true, false, List, length, Option, Some, None, Ok, slice_get, Contains}
 use Rattle.bt_meta.specs.Place.{IsPlace}
 use Rattle.bt_meta.specs.Torrent.{total_pieces}
 use Rattle.bt_meta.specs.declared.torrent.Span.{Span}

@@ -24,3 +24,5 @@ pub mod Law
 pub mod Sound
 pub mod Headline
 pub mod AnswerLaw
+-- worked examples
+pub mod ExampleFile

@@ -6,12 +6,17 @@ mod answer;
 mod answer_law;
 mod error;
 mod event;
+mod example;
 mod law;
 
 pub use answer::{Frame, Note, Why};
-pub use answer_law::{next_notes_complete_files, step_announces_whole_pieces, step_closes_for_cause, step_requests_missing, step_tells_changed_interest};
+pub use answer_law::{
+    next_notes_complete_files, step_announces_whole_pieces, step_closes_for_cause,
+    step_requests_missing, step_tells_changed_interest,
+};
 pub use error::{ConnectError, EngineError, FlushError};
 pub use event::Event;
+pub use example::fetch_of_abc_is_run;
 pub use law::{
     complete_files_are_published, complete_files_stand, complete_has_root, right_is_checked,
     rooted_is_checked, run_keeps_rooted, run_keeps_sound, run_marks_by_bytes, run_sends_read_bytes,
