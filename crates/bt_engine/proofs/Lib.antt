@@ -20,4 +20,5 @@ pub mod AnswerInterest
 pub mod AnswerPieces
 pub mod AnswerCauses
 -- worked examples
-pub mod ExampleFile
+pub mod ExamplePeer
+pub mod ExampleOneBlock

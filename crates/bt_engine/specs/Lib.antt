@@ -25,4 +25,5 @@ pub mod Sound
 pub mod Headline
 pub mod AnswerLaw
 -- worked examples
-pub mod ExampleFile
+pub mod ExamplePeer
+pub mod ExampleOneBlock

@@ -1,4 +1,4 @@
-ghost use Rattle.bt_engine.specs.ExampleFile.{FetchOfAbcIsRun};
+ghost use Rattle.bt_engine.specs.ExampleOneBlock.{FetchOfAbcIsRun};
 
 use bt_tree::NodeHash;
 

@@ -1,4 +1,4 @@
-use Rattle.bt_engine.proofs.ExampleFile.{fetch_is_run}
+use Rattle.bt_engine.proofs.ExampleOneBlock.{fetch_is_run}
 use Rattle.bt_engine.proofs.example.fetch_of_abc_is_run.Goals as goal
 
 pub returns : goal.returns

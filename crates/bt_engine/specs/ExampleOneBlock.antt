@@ -1,30 +1,23 @@
 -- A worked example: the file `abc`, of one block, is fetched from one peer, from the first event until it is
 -- complete.
-use Rattle.std.specs.Prelude.{◌≡◌, ℕ, true, false, List, [], ◌∷◌, length, replicate, take, codes, Some, None, Ok}
+use Rattle.std.specs.Prelude.{◌≡◌, ℕ, true, false, List, [], ◌∷◌, length, codes, None, Ok}
 use Rattle.bt_disk.specs.Calls.{bytes_written}
 use Rattle.bt_meta.specs.Files.{File}
 use Rattle.bt_meta.specs.Torrent.{Metainfo}
 use Rattle.bt_sparse.specs.SparseTree.{root_facts}
 use Rattle.bt_store.specs.declared.block_states.BlockState.{BlockState}
 use Rattle.bt_store.specs.declared.block_states.BlockState.TheVariants.{Missing, Marked}
-use Rattle.bt_book.specs.declared.names.PeerKey.{PeerKey}
 use Rattle.bt_wire.specs.Handshake.{handshake_spelling}
-use Rattle.bt_wire.specs.Cutter.{stream}
-use Rattle.bt_wire.specs.declared.handshake.Handshake.{Handshake}
-use Rattle.bt_wire.specs.declared.message.Message.{Message}
-use Rattle.bt_wire.specs.declared.message.Message.TheVariants.{Interested, NotInterested, Have, Bitfield, Request}
-use Rattle.bt_engine.specs.declared.answer.Frame.TheVariants.{Hello as hello_frame, Message as message_frame}
-use Rattle.bt_engine.specs.declared.answer.Note.{Note}
+use Rattle.bt_wire.specs.declared.message.Message.TheVariants.{Interested, NotInterested, Have, Request}
 use Rattle.bt_engine.specs.declared.answer.Note.TheVariants.{Marked as NowMarked, Complete}
 use Rattle.bt_engine.specs.declared.event.Event.{Event}
 use Rattle.bt_engine.specs.declared.event.Event.TheVariants.{Connect, Feed, Next}
 use Rattle.bt_engine.specs.State.{Idle, PeerState, EngineState}
 use Rattle.bt_engine.specs.Devices.{DeviceCalls}
 use Rattle.bt_engine.specs.Blocks.{block_id, is_complete}
-use Rattle.bt_engine.specs.Output.{Sent}
-use Rattle.bt_engine.specs.Peers.{peer_name}
 use Rattle.bt_engine.specs.Start.{Starts}
-use Rattle.bt_engine.specs.Step.{Answer, of_connect, of_feed, of_next, Run}
+use Rattle.bt_engine.specs.Step.{Answer, of_next, Run}
+use Rattle.bt_engine.specs.ExamplePeer.{first_key, peer_with, all_taken, their_handshake, bitfield_bytes, unchoke_bytes, to_first, joined_answer, fed_answer, taken_answer}
 
 -- ---- the torrent: one file of the three bytes `abc`, whose root is their digest
 
@@ -58,36 +51,13 @@ abc_engine dig infohash block peers next_key = record {
   hints = [];
 }
 
-abbrev pub first_key : PeerKey
-first_key = record { 0 = 1 }
-
 -- the peer when everything is done: it has the piece, does not choke us, and sent three bytes of blocks
 abbrev pub served_peer : PeerState
-served_peer = record {
-  key = first_key;
-  stream = stream [] true false;
-  am_choking = true;
-  am_interested = false;
-  peer_choking = false;
-  peer_interested = false;
-  has = true ∷ [];
-  hash = Idle;
-  asked = [];
-  payload = 3;
-}
+served_peer = peer_with all_taken false false true Idle [] 3
 
 -- ---- the events, with the bytes that the peer sends
 
-abbrev pub their_handshake : (infohash : List ℕ) → Handshake
-their_handshake infohash = record { infohash = take 20 infohash; peer_id = replicate 20 112 }
-
--- a bitfield of the one piece; unchoke; the piece's three bytes
-abbrev pub bitfield_bytes : List ℕ
-bitfield_bytes = 0 ∷ 0 ∷ 0 ∷ 2 ∷ 5 ∷ 128 ∷ []
-
-abbrev pub unchoke_bytes : List ℕ
-unchoke_bytes = 0 ∷ 0 ∷ 0 ∷ 1 ∷ 1 ∷ []
-
+-- the piece's three bytes
 abbrev pub piece_bytes : List ℕ
 piece_bytes = 0 ∷ 0 ∷ 0 ∷ 12 ∷ 7 ∷ 0 ∷ 0 ∷ 0 ∷ 0 ∷ 0 ∷ 0 ∷ 0 ∷ 0 ∷ 97 ∷ 98 ∷ 99 ∷ []
 
@@ -106,30 +76,6 @@ abc_events infohash =
 -- one write, when the piece is taken
 abbrev pub abc_calls : List DeviceCalls
 abc_calls = [] ∷ [] ∷ [] ∷ [] ∷ [] ∷ [] ∷ [] ∷ [] ∷ ((0, bytes_written 0 abc) ∷ []) ∷ [] ∷ []
-
-abbrev pub to_first : Message → Sent
-to_first message = record { peer = first_key; frame = message_frame message }
-
-abbrev pub fed_answer : Answer
-fed_answer = of_feed (Ok tt)
-
-abbrev pub taken_answer : List Sent → List Note → Answer
-taken_answer send notes = of_next (Ok (Some (record { send = send; close = None; notes = notes })))
-
--- our handshake and an empty bitfield
-abbrev pub our_handshake : (infohash : List ℕ) → Handshake
-our_handshake infohash = record { infohash = take 20 infohash; peer_id = peer_name }
-
-abbrev pub joined_answer : (infohash : List ℕ) → Answer
-joined_answer infohash = of_connect (Ok (
-  first_key,
-  record {
-    send = (record { peer = first_key; frame = hello_frame (our_handshake infohash) })
-        ∷ to_first (Bitfield (0 ∷ [])) ∷ [];
-    close = None;
-    notes = [];
-  },
-))
 
 abbrev pub abc_answers : (infohash : List ℕ) → List Answer
 abc_answers infohash =

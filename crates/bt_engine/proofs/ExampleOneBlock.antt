@@ -1,8 +1,8 @@
 -- The fetch of the file `abc` is a run.
-use Rattle.std.proofs.Common.{◌≡◌, ℕ, zero, suc, ◌+◌, ◌≤◌, ◌⊎◌, inl, inr, ◌↔◌, Bool, true, false, List, [], ◌∷◌, ◌++◌, length, replicate, Option, Some, None, Ok, refl, sym, ap, ◌∙◌, subst, arith, rules}
+use Rattle.std.proofs.Common.{◌≡◌, ℕ, zero, suc, ◌+◌, ◌≤◌, ◌⊎◌, inl, inr, ◌↔◌, true, false, List, [], ◌∷◌, ◌++◌, length, Some, None, Ok, refl, sym, ap, ◌∙◌, subst, arith, rules}
 use Rattle.std.specs.Prelude.{slice_get, Contains}
 use Rattle.std.specs.Option.{option_and_then}
-use Rattle.std.proofs.lemmas.List.{append-nil, length-take}
+use Rattle.std.proofs.lemmas.List.{append-nil}
 use Rattle.bt_tree.specs.TreeShape.{height_up_to}
 use Rattle.bt_meta.specs.Files.{File}
 use Rattle.bt_sparse.specs.SparseTree.{root_facts, value_at}
@@ -14,16 +14,12 @@ use Rattle.bt_store.specs.declared.block_states.BlockState.TheVariants.{Missing,
 use Rattle.bt_store.specs.declared.arrival.Put.TheVariants.{Marked as PutMarked}
 use Rattle.bt_disk.specs.Calls.{bytes_written}
 use Rattle.bt_book.specs.declared.names.BlockId.{BlockId}
-use Rattle.bt_wire.specs.Cutter.{Stream, stream, fed, Takes, Waits}
-use Rattle.bt_wire.specs.Event.{HasNoEvent, ShowsNoFault}
+use Rattle.bt_wire.specs.Cutter.{Stream, stream, fed, Takes}
 use Rattle.bt_wire.specs.Handshake.{handshake_spelling}
-use Rattle.bt_wire.specs.Message.{Body, frame_spelling}
-use Rattle.bt_wire.specs.declared.event.WireError.TheVariants.{BadProtocol, TooLong, BadLength, OutOfMemory, Failed}
 use Rattle.bt_wire.specs.declared.event.WireEvent.TheVariants.{Hello, Message as message_event}
 use Rattle.bt_wire.specs.declared.message.Ask.{Ask}
 use Rattle.bt_wire.specs.declared.message.Message.{Message}
 use Rattle.bt_wire.specs.declared.message.Message.TheVariants.{Interested, NotInterested, Unchoke, Have, Bitfield, Request, Piece}
-use Rattle.bt_wire.proofs.Events.{event_frame}
 use Rattle.bt_engine.specs.declared.answer.Note.TheVariants.{Marked as NowMarked, Complete}
 use Rattle.bt_engine.specs.State.{Idle, PeerState, FileState, EngineState}
 use Rattle.bt_engine.specs.Blocks.{block_id, state_at, tree_of, Has, IsAsked}
@@ -36,61 +32,15 @@ use Rattle.bt_engine.specs.Next.{StepNext, goes_on, waits}
 use Rattle.bt_engine.specs.Peers.{StepConnect, joins, greeting, StepFeed, feeds}
 use Rattle.bt_engine.specs.Start.{Starts, by_root}
 use Rattle.bt_engine.specs.Step.{Run}
-use Rattle.bt_engine.specs.ExampleFile.{abc, abc_file, abc_torrent, abc_engine, first_key, served_peer, their_handshake, bitfield_bytes, unchoke_bytes, piece_bytes, abc_events, abc_calls, abc_answers, to_first, FetchOfAbcIsRun}
+use Rattle.bt_engine.specs.ExampleOneBlock.{abc, abc_file, abc_torrent, abc_engine, served_peer, piece_bytes, abc_events, abc_calls, abc_answers, FetchOfAbcIsRun}
+use Rattle.bt_engine.specs.ExamplePeer.{first_key, peer_with, all_taken, their_handshake, bitfield_bytes, unchoke_bytes, to_first}
+use Rattle.bt_engine.proofs.ExamplePeer.{some_is, one_there, taken_bits, taken_unchoke, taken_hello, waits_empty}
 use Rattle.bt_engine.proofs.Lists.{contains_none, contains_cases, here, and_then_some, same_some}
 
--- ---- the bytes
+-- ---- the piece
 
--- the peer, by what its stream holds, whether we are interested, whether it chokes and has the piece, what it is asked for and sent
-abbrev their : Stream → (am_interested peer_choking has : Bool) → List BlockId → ℕ → PeerState
-their unread am_interested peer_choking has asked payload = record {
-  key = first_key;
-  stream = unread;
-  am_choking = true;
-  am_interested = am_interested;
-  peer_choking = peer_choking;
-  peer_interested = false;
-  has = has ∷ [];
-  hash = Idle;
-  asked = asked;
-  payload = payload;
-}
-
-taken_bits : Takes (stream bitfield_bytes true false) (message_event (Bitfield (128 ∷ []))) (stream [] true false)
-taken_bits = record { bytes = bitfield_bytes; event = record { is_message = tt; fits = record { limit = omega arith; whole = tt }; spelled = refl }; front = refl; running = refl; greeted = refl; not_failed = refl }
-
-taken_unchoke : Takes (stream unchoke_bytes true false) (message_event Unchoke) (stream [] true false)
-taken_unchoke = record { bytes = unchoke_bytes; event = record { is_message = tt; fits = record { limit = omega arith; whole = tt }; spelled = refl }; front = refl; running = refl; greeted = refl; not_failed = refl }
-
-taken_piece : Takes (stream piece_bytes true false) (message_event (Piece 0 0 abc)) (stream [] true false)
+taken_piece : Takes (stream piece_bytes true false) (message_event (Piece 0 0 abc)) all_taken
 taken_piece = record { bytes = piece_bytes; event = record { is_message = (omega arith, omega arith); fits = record { limit = omega arith; whole = tt }; spelled = refl }; front = refl; running = refl; greeted = refl; not_failed = refl }
-
-taken_hello : (infohash : List ℕ) → length infohash ≡ 32 → Takes (stream (handshake_spelling (their_handshake infohash)) false false) (Hello (their_handshake infohash)) (stream [] true false)
-taken_hello infohash size = record {
-  bytes = handshake_spelling (their_handshake infohash);
-  event = record { reserved = replicate 8 0; is_handshake = record { infohash = omega (arith, length-take 20 infohash, size); peer_id = refl }; eight = refl; spelled = refl };
-  front = sym (append-nil (handshake_spelling (their_handshake infohash)));
-  running = refl;
-  greeted = refl;
-  not_failed = refl;
-}
-
-front_none : (body : Option Body) (bytes rest : List ℕ) → bytes ≡ frame_spelling body → [] ≡ bytes ++ rest → ⊥
-front_none None bytes rest spelled same = let long = same ∙ ap (λ xs. xs ++ rest) spelled in absurd cc
-front_none (Some b) bytes rest spelled same = let long = same ∙ ap (λ xs. xs ++ rest) spelled in absurd cc
-
-waits_empty : Waits (stream [] true false)
-waits_empty = record { running = refl; no_event = nothing; no_fault = faultless }
-  where
-    nothing : HasNoEvent true []
-    nothing e bytes rest event same = let f = event_frame e bytes event in front_none f.body bytes rest f.spelled same
-
-    faultless : ShowsNoFault true []
-    faultless BadProtocol shown = shown
-    faultless TooLong shown = let long = shown.front in absurd cc
-    faultless BadLength shown = let long = shown.front in absurd cc
-    faultless OutOfMemory shown = shown
-    faultless Failed shown = shown
 
 -- ---- the engine
 
@@ -98,18 +48,11 @@ value_here : (dig : List ℕ → List ℕ) → value_at dig (root_facts 3 (dig a
 unfolding value_at height_up_to
 value_here dig = digest_at_new finite.empty 0 0 (dig abc)
 
-some_is : {X : Type 0} (x y : X) → Some x ≡ Some y → x ≡ y
-some_is x y e = cc
-
 -- there is one block
 one_block : (x y : BlockState) (f i : ℕ) → option_and_then (λ (q : FileState). slice_get q.states i) (slice_get ((record { tree = 0; states = x ∷ [] }) ∷ []) f) ≡ Some y → (f ≡ 0) × (i ≡ 0) × (x ≡ y)
 one_block x y zero zero e = (refl, refl, some_is x y e)
 one_block x y zero (suc i) e = absurd cc
 one_block x y (suc f) i e = absurd cc
-
-one_there : {X : Type 0} (x y : X) (i : ℕ) → slice_get (x ∷ []) i ≡ Some y → (i ≡ 0) × (x ≡ y)
-one_there x y zero e = (refl, some_is x y e)
-one_there x y (suc i) e = absurd cc
 
 abbrev the_block : BlockId
 the_block = block_id 0 0
@@ -140,7 +83,7 @@ module _ (dig : List ℕ → List ℕ) (infohash : List ℕ) where
       }
 
   -- a peer without a piece is of no interest, and one with the piece is as long as the block is missing
-  dull : (unread : Stream) (b : BlockId) → ¬ Has (engine Missing (their unread false true false [] 0)) (their unread false true false [] 0) b
+  dull : (unread : Stream) (b : BlockId) → ¬ Has (engine Missing (peer_with unread false true false Idle [] 0)) (peer_with unread false true false Idle [] 0) b
   dull unread b has = let p = and_then_some (λ piece. slice_get (false ∷ []) piece) _ true has in let one = one_there false true p.0 p.2 in let wrong : false ≡ true = one.1 in absurd cc
 
   interesting : (p : PeerState) → p.has ≡ true ∷ [] → IsInteresting (engine Missing p) p
@@ -180,17 +123,17 @@ module _ (dig : List ℕ → List ℕ) (infohash : List ℕ) where
       never (inl chokes) open_to interested = let wrong : true ≡ false = sym chokes ∙ open_to in absurd cc
       never (inr dull) open_to interested = let wrong : false ≡ true = sym dull ∙ interested in absurd cc
 
-  after_hello : FollowsUp dig (engine Missing (their (stream [] true false) false true false [] 0)) 0 [] (engine Missing (their (stream [] true false) false true false [] 0))
-  after_hello = quietly Missing _ (their (stream [] true false) false true false [] 0) [] refl (λ e. absurd cc, λ i. absurd (dull (stream [] true false) i.0 i.1)) refl (inl refl) (omega arith)
+  after_hello : FollowsUp dig (engine Missing (peer_with all_taken false true false Idle [] 0)) 0 [] (engine Missing (peer_with all_taken false true false Idle [] 0))
+  after_hello = quietly Missing _ (peer_with all_taken false true false Idle [] 0) [] refl (λ e. absurd cc, λ i. absurd (dull all_taken i.0 i.1)) refl (inl refl) (omega arith)
 
-  after_bits : FollowsUp dig (engine Missing (their (stream [] true false) false true true [] 0)) 0 (to_first Interested ∷ []) (engine Missing (their (stream [] true false) true true true [] 0))
+  after_bits : FollowsUp dig (engine Missing (peer_with all_taken false true true Idle [] 0)) 0 (to_first Interested ∷ []) (engine Missing (peer_with all_taken true true true Idle [] 0))
   after_bits =
-      let p = their (stream [] true false) false true true [] 0 in
-      quietly Missing p (their (stream [] true false) true true true [] 0) (to_first Interested ∷ []) refl (λ e. interesting p refl, λ i. refl) refl (inl refl) (omega arith)
+      let p = peer_with all_taken false true true Idle [] 0 in
+      quietly Missing p (peer_with all_taken true true true Idle [] 0) (to_first Interested ∷ []) refl (λ e. interesting p refl, λ i. refl) refl (inl refl) (omega arith)
 
-  after_piece : FollowsUp dig (engine Marked (their (stream [] true false) true false true [] 3)) 0 (to_first NotInterested ∷ []) (engine Marked served_peer)
+  after_piece : FollowsUp dig (engine Marked (peer_with all_taken true false true Idle [] 3)) 0 (to_first NotInterested ∷ []) (engine Marked served_peer)
   after_piece =
-      let p = their (stream [] true false) true false true [] 3 in
+      let p = peer_with all_taken true false true Idle [] 3 in
       quietly Marked p served_peer (to_first NotInterested ∷ []) refl (λ e. absurd cc, λ i. absurd (none_missing p i.0 i.2)) refl (inr refl) (omega arith)
 
   unasked : (p : PeerState) (b : BlockId) → p.asked ≡ [] → ¬ IsAsked (engine Missing p) b
@@ -205,9 +148,9 @@ module _ (dig : List ℕ → List ℕ) (infohash : List ℕ) where
   abbrev first_ask : Ask
   first_ask = record { piece = 0; begin = 0; length = 3 }
 
-  after_unchoke : FollowsUp dig (engine Missing (their (stream [] true false) true false true [] 0)) 0 (to_first (Request first_ask) ∷ []) (engine Missing (their (stream [] true false) true false true (the_block ∷ []) 0))
+  after_unchoke : FollowsUp dig (engine Missing (peer_with all_taken true false true Idle [] 0)) 0 (to_first (Request first_ask) ∷ []) (engine Missing (peer_with all_taken true false true Idle (the_block ∷ []) 0))
   after_unchoke =
-      let p = their (stream [] true false) true false true [] 0 in
+      let p = peer_with all_taken true false true Idle [] 0 in
       record {
         peer = p;
         interested = p;
@@ -242,16 +185,16 @@ module _ (dig : List ℕ → List ℕ) (infohash : List ℕ) where
   abbrev only_sends : Message → Output
   only_sends m = record { send = to_first m ∷ []; close = None; notes = [] }
 
-  next_hello : length infohash ≡ 32 → StepNext dig (engine Missing (their (stream (handshake_spelling (their_handshake infohash)) false false) false true false [] 0)) first_key [] (Ok (Some nothing_sent))
-      (engine Missing (their (stream [] true false) false true false [] 0))
+  next_hello : length infohash ≡ 32 → StepNext dig (engine Missing (peer_with (stream (handshake_spelling (their_handshake infohash)) false false) false true false Idle [] 0)) first_key [] (Ok (Some nothing_sent))
+      (engine Missing (peer_with all_taken false true false Idle [] 0))
   next_hello size =
-      let p = their (stream (handshake_spelling (their_handshake infohash)) false false) false true false [] 0 in
+      let p = peer_with (stream (handshake_spelling (their_handshake infohash)) false false) false true false Idle [] 0 in
       goes_on 0 p nothing_sent (record { here = refl; same_key = refl })
       (record {
         effect = no_effect;
-        mid = engine Missing (their (stream [] true false) false true false [] 0);
+        mid = engine Missing (peer_with all_taken false true false Idle [] 0);
         sent = [];
-        takes = record { event = Hello (their_handshake infohash); rest = stream [] true false; takes = taken_hello infohash size; handles = (refl, ours refl refl, refl) };
+        takes = record { event = Hello (their_handshake infohash); rest = all_taken; takes = taken_hello infohash size; handles = (refl, ours refl refl, refl) };
         stays = refl;
         follows = after_hello;
         send = refl;
@@ -260,14 +203,14 @@ module _ (dig : List ℕ → List ℕ) (infohash : List ℕ) where
       })
       refl
 
-  next_bits : StepNext dig (engine Missing (their (stream bitfield_bytes true false) false true false [] 0)) first_key [] (Ok (Some (only_sends Interested))) (engine Missing (their (stream [] true false) true true true [] 0))
+  next_bits : StepNext dig (engine Missing (peer_with (stream bitfield_bytes true false) false true false Idle [] 0)) first_key [] (Ok (Some (only_sends Interested))) (engine Missing (peer_with all_taken true true true Idle [] 0))
   next_bits =
-      goes_on 0 (their (stream bitfield_bytes true false) false true false [] 0) (only_sends Interested) (record { here = refl; same_key = refl })
+      goes_on 0 (peer_with (stream bitfield_bytes true false) false true false Idle [] 0) (only_sends Interested) (record { here = refl; same_key = refl })
       (record {
         effect = no_effect;
-        mid = engine Missing (their (stream [] true false) false true true [] 0);
+        mid = engine Missing (peer_with all_taken false true true Idle [] 0);
         sent = to_first Interested ∷ [];
-        takes = record { event = message_event (Bitfield (128 ∷ [])); rest = stream [] true false; takes = taken_bits; handles = (refl, right refl refl refl) };
+        takes = record { event = message_event (Bitfield (128 ∷ [])); rest = all_taken; takes = taken_bits; handles = (refl, right refl refl refl) };
         stays = refl;
         follows = after_bits;
         send = refl;
@@ -276,15 +219,15 @@ module _ (dig : List ℕ → List ℕ) (infohash : List ℕ) where
       })
       refl
 
-  next_unchoke : StepNext dig (engine Missing (their (stream unchoke_bytes true false) true true true [] 0)) first_key [] (Ok (Some (only_sends (Request first_ask))))
-      (engine Missing (their (stream [] true false) true false true (the_block ∷ []) 0))
+  next_unchoke : StepNext dig (engine Missing (peer_with (stream unchoke_bytes true false) true true true Idle [] 0)) first_key [] (Ok (Some (only_sends (Request first_ask))))
+      (engine Missing (peer_with all_taken true false true Idle (the_block ∷ []) 0))
   next_unchoke =
-      goes_on 0 (their (stream unchoke_bytes true false) true true true [] 0) (only_sends (Request first_ask)) (record { here = refl; same_key = refl })
+      goes_on 0 (peer_with (stream unchoke_bytes true false) true true true Idle [] 0) (only_sends (Request first_ask)) (record { here = refl; same_key = refl })
       (record {
         effect = no_effect;
-        mid = engine Missing (their (stream [] true false) true false true [] 0);
+        mid = engine Missing (peer_with all_taken true false true Idle [] 0);
         sent = to_first (Request first_ask) ∷ [];
-        takes = record { event = message_event Unchoke; rest = stream [] true false; takes = taken_unchoke; handles = (refl, refl, refl) };
+        takes = record { event = message_event Unchoke; rest = all_taken; takes = taken_unchoke; handles = (refl, refl, refl) };
         stays = refl;
         follows = after_unchoke;
         send = refl;
@@ -296,20 +239,20 @@ module _ (dig : List ℕ → List ℕ) (infohash : List ℕ) where
   abbrev last_output : Output
   last_output = record { send = to_first (Have 0) ∷ to_first NotInterested ∷ []; close = None; notes = NowMarked the_block ∷ Complete 0 ∷ [] }
 
-  next_piece : StepNext dig (engine Missing (their (stream piece_bytes true false) true false true (the_block ∷ []) 0)) first_key ((0, bytes_written 0 abc) ∷ []) (Ok (Some last_output)) (engine Marked served_peer)
+  next_piece : StepNext dig (engine Missing (peer_with (stream piece_bytes true false) true false true Idle (the_block ∷ []) 0)) first_key ((0, bytes_written 0 abc) ∷ []) (Ok (Some last_output)) (engine Marked served_peer)
   next_piece =
-      goes_on 0 (their (stream piece_bytes true false) true false true (the_block ∷ []) 0) last_output (record { here = refl; same_key = refl })
+      goes_on 0 (peer_with (stream piece_bytes true false) true false true Idle (the_block ∷ []) 0) last_output (record { here = refl; same_key = refl })
       (record {
         effect = noting (NowMarked the_block);
-        mid = engine Marked (their (stream [] true false) true false true [] 3);
+        mid = engine Marked (peer_with all_taken true false true Idle [] 3);
         sent = to_first NotInterested ∷ [];
         takes = record {
           event = message_event (Piece 0 0 abc);
-          rest = stream [] true false;
+          rest = all_taken;
           takes = taken_piece;
           handles = arrives (record {
             block = the_block;
-            stored = engine Marked (their (stream [] true false) true false true (the_block ∷ []) 0);
+            stored = engine Marked (peer_with all_taken true false true Idle (the_block ∷ []) 0);
             whole = whole_block;
             asked = here the_block the_block [] refl;
             puts = record {
@@ -342,7 +285,7 @@ module _ (dig : List ℕ → List ℕ) (infohash : List ℕ) where
       → StepFeed (engine x p) first_key bytes (Ok tt) (engine x (record p { stream = stream bytes p.stream.greeted p.stream.failed }))
   fed_to x p bytes key empty = feeds 0 p (record { here = refl; same_key = key }) refl (ap (λ (t : Stream). engine x (record p { stream = fed t bytes })) (sym empty))
 
-  connects : StepConnect (abc_engine dig infohash Missing [] 1) (Ok (first_key, greeting (abc_engine dig infohash Missing [] 1) first_key (0 ∷ []))) (engine Missing (their (stream [] false false) false true false [] 0))
+  connects : StepConnect (abc_engine dig infohash Missing [] 1) (Ok (first_key, greeting (abc_engine dig infohash Missing [] 1) first_key (0 ∷ []))) (engine Missing (peer_with (stream [] false false) false true false Idle [] 0))
   connects = joins first_key (0 ∷ []) (omega arith) (omega arith) refl (record { are_bytes = search rules; size = refl; bits = refl }) refl refl
 
   starts : Starts dig (abc_torrent dig infohash) (abc_engine dig infohash Missing [] 1)
@@ -365,29 +308,29 @@ module _ (dig : List ℕ → List ℕ) (infohash : List ℕ) where
 
   runs : length infohash ≡ 32 → Run dig (abc_engine dig infohash Missing [] 1) (abc_events infohash) abc_calls (abc_answers infohash) (engine Marked served_peer)
   runs size = (
-    engine Missing (their (stream [] false false) false true false [] 0),
+    engine Missing (peer_with (stream [] false false) false true false Idle [] 0),
     (_, refl, refl, connects),
     (
-      engine Missing (their (stream (handshake_spelling (their_handshake infohash)) false false) false true false [] 0),
-      (_, refl, refl, fed_to Missing (their (stream [] false false) false true false [] 0) (handshake_spelling (their_handshake infohash)) refl refl),
+      engine Missing (peer_with (stream (handshake_spelling (their_handshake infohash)) false false) false true false Idle [] 0),
+      (_, refl, refl, fed_to Missing (peer_with (stream [] false false) false true false Idle [] 0) (handshake_spelling (their_handshake infohash)) refl refl),
       (
-        engine Missing (their (stream [] true false) false true false [] 0),
+        engine Missing (peer_with all_taken false true false Idle [] 0),
         (_, refl, next_hello size),
         (
-          engine Missing (their (stream bitfield_bytes true false) false true false [] 0),
-          (_, refl, refl, fed_to Missing (their (stream [] true false) false true false [] 0) bitfield_bytes refl refl),
+          engine Missing (peer_with (stream bitfield_bytes true false) false true false Idle [] 0),
+          (_, refl, refl, fed_to Missing (peer_with all_taken false true false Idle [] 0) bitfield_bytes refl refl),
           (
-            engine Missing (their (stream [] true false) true true true [] 0),
+            engine Missing (peer_with all_taken true true true Idle [] 0),
             (_, refl, next_bits),
             (
-              engine Missing (their (stream unchoke_bytes true false) true true true [] 0),
-              (_, refl, refl, fed_to Missing (their (stream [] true false) true true true [] 0) unchoke_bytes refl refl),
+              engine Missing (peer_with (stream unchoke_bytes true false) true true true Idle [] 0),
+              (_, refl, refl, fed_to Missing (peer_with all_taken true true true Idle [] 0) unchoke_bytes refl refl),
               (
-                engine Missing (their (stream [] true false) true false true (the_block ∷ []) 0),
+                engine Missing (peer_with all_taken true false true Idle (the_block ∷ []) 0),
                 (_, refl, next_unchoke),
                 (
-                  engine Missing (their (stream piece_bytes true false) true false true (the_block ∷ []) 0),
-                  (_, refl, refl, fed_to Missing (their (stream [] true false) true false true (the_block ∷ []) 0) piece_bytes refl refl),
+                  engine Missing (peer_with (stream piece_bytes true false) true false true Idle (the_block ∷ []) 0),
+                  (_, refl, refl, fed_to Missing (peer_with all_taken true false true Idle (the_block ∷ []) 0) piece_bytes refl refl),
                   (
                     engine Marked served_peer,
                     (_, refl, next_piece),
