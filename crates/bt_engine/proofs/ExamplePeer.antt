@@ -1,14 +1,16 @@
 -- The messages of the peer of the worked examples, and lists of one.
 use Rattle.std.proofs.Common.{◌≡◌, ℕ, zero, suc, true, false, List, [], ◌∷◌, ◌++◌, length, replicate, Option, Some, None, refl, sym, ap, ◌∙◌, arith}
 use Rattle.std.specs.Prelude.{slice_get}
-use Rattle.std.proofs.lemmas.List.{append-nil, length-take}
+use Rattle.std.specs.Int.{w32, to_be_bytes}
+use Rattle.std.proofs.lemmas.List.{append-nil, length-append, length-take}
 use Rattle.bt_wire.specs.Cutter.{stream, Takes, Waits}
 use Rattle.bt_wire.specs.Event.{HasNoEvent, ShowsNoFault}
 use Rattle.bt_wire.specs.Handshake.{handshake_spelling}
-use Rattle.bt_wire.specs.Message.{Body, frame_spelling}
+use Rattle.bt_wire.specs.Message.{Body, IsMessage, Fits, frame_spelling, message_spelling}
 use Rattle.bt_wire.specs.declared.event.WireError.TheVariants.{BadProtocol, TooLong, BadLength, OutOfMemory, Failed}
 use Rattle.bt_wire.specs.declared.event.WireEvent.TheVariants.{Hello, Message as message_event}
-use Rattle.bt_wire.specs.declared.message.Message.TheVariants.{Unchoke, Bitfield}
+use Rattle.bt_wire.specs.declared.message.Message.{Message as PeerMessage}
+use Rattle.bt_wire.specs.declared.message.Message.TheVariants.{Unchoke, Bitfield, Piece}
 use Rattle.bt_wire.proofs.Events.{event_frame}
 use Rattle.bt_engine.specs.ExamplePeer.{all_taken, their_handshake, bitfield_bytes, unchoke_bytes}
 
@@ -53,3 +55,20 @@ waits_empty = record { running = refl; no_event = nothing; no_fault = faultless 
     faultless BadLength shown = let long = shown.front in absurd cc
     faultless OutOfMemory shown = shown
     faultless Failed shown = shown
+
+-- a message that was fed alone is taken, and nothing is left
+pub taken_message : (m : PeerMessage) → IsMessage m → Fits m → Takes (stream (message_spelling m) true false) (message_event m) all_taken
+taken_message m is_message fits = record {
+  bytes = message_spelling m;
+  event = record { is_message = is_message; fits = fits; spelled = refl };
+  front = sym (append-nil (message_spelling m));
+  running = refl;
+  greeted = refl;
+  not_failed = refl;
+}
+
+pub piece_fits : (begin : ℕ) (bytes : List ℕ) → length bytes ≡ 16384 → Fits (Piece 0 begin bytes)
+piece_fits begin bytes size = record {
+  limit = omega (arith, length-append (to_be_bytes w32 0 ++ to_be_bytes w32 begin) bytes, length-append (to_be_bytes w32 0) (to_be_bytes w32 begin), size);
+  whole = tt;
+}

@@ -22,3 +22,5 @@ pub mod AnswerCauses
 -- worked examples
 pub mod ExamplePeer
 pub mod ExampleOneBlock
+pub mod ExampleThreeTree
+pub mod ExampleThreeBlocks

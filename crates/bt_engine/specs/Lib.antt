@@ -27,3 +27,4 @@ pub mod AnswerLaw
 -- worked examples
 pub mod ExamplePeer
 pub mod ExampleOneBlock
+pub mod ExampleThreeBlocks

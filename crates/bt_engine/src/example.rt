@@ -1,4 +1,5 @@
 ghost use Rattle.bt_engine.specs.ExampleOneBlock.{FetchOfAbcIsRun};
+ghost use Rattle.bt_engine.specs.ExampleThreeBlocks.{FetchOfThreeIsRun};
 
 use bt_tree::NodeHash;
 
@@ -6,4 +7,9 @@ use bt_tree::NodeHash;
 /// are a run of the machine, from the start of the torrent to the complete file.
 pub fn fetch_of_abc_is_run<H: NodeHash>(_hash: H)
     ensures { FetchOfAbcIsRun H.digest }
+{}
+
+/// So is the fetch of any file of three whole blocks, with a hash request and its answer.
+pub fn fetch_of_three_is_run<H: NodeHash>(_hash: H)
+    ensures { FetchOfThreeIsRun H.digest }
 {}
