@@ -19,6 +19,9 @@ pub mod AnswerRequests
 pub mod AnswerInterest
 pub mod AnswerPieces
 pub mod AnswerCauses
+pub mod AnswerPlaces
+pub mod AnswerDue
+pub mod AnswerBlocks
 -- worked examples
 pub mod ExamplePeer
 pub mod ExampleOneBlock

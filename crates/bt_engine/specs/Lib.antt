@@ -24,6 +24,7 @@ pub mod Law
 pub mod Sound
 pub mod Headline
 pub mod AnswerLaw
+pub mod AnswerDue
 -- worked examples
 pub mod ExamplePeer
 pub mod ExampleOneBlock

@@ -3,6 +3,7 @@
 #![tactic(auto)]
 
 mod answer;
+mod answer_due;
 mod answer_law;
 mod error;
 mod event;
@@ -10,6 +11,7 @@ mod example;
 mod law;
 
 pub use answer::{Frame, Note, Why};
+pub use answer_due::{next_answers_hash_request, next_marks_right_block, next_serves_marked_range, waiting_is_not_complete};
 pub use answer_law::{
     next_notes_complete_files, step_announces_whole_pieces, step_closes_for_cause,
     step_requests_missing, step_tells_changed_interest,
