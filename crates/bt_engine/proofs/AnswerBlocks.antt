@@ -11,7 +11,7 @@ use Rattle.bt_meta.specs.Place.{IsPlace}
 use Rattle.bt_meta.specs.declared.torrent.Span.{Span}
 use Rattle.bt_sparse.specs.SparseTree.{Facts, value_at}
 use Rattle.bt_store.specs.Arrival.{PutIsDue, calls_of_put, states_after_put}
-use Rattle.bt_store.specs.BlockReads.{BlockRead, IsRight}
+use Rattle.bt_store.specs.BlockReads.{BlockRead, given, failed, call_of, IsRight}
 use Rattle.bt_store.specs.BlockStates.{is_marked}
 use Rattle.bt_store.specs.declared.block_states.BlockState.{BlockState}
 use Rattle.bt_store.specs.declared.block_states.BlockState.TheVariants.{Missing, Waiting, Marked}
@@ -32,13 +32,13 @@ use Rattle.bt_engine.specs.Devices.{DeviceCalls, calls_at}
 use Rattle.bt_engine.specs.Blocks.{block_id, state_at, tree_of, states_of, is_complete, with_file, with_peer, new_complete_files}
 use Rattle.bt_engine.specs.Spans.{IsWholeBlock, spanned_blocks, cut_from}
 use Rattle.bt_engine.specs.Output.{Output, Effect, noting, sending}
-use Rattle.bt_engine.specs.Request.{AreMarked, FindsFault, damaged as found_damaged, fault, HandlesRequest, ignored, no_place, not_marked, served, stopped}
+use Rattle.bt_engine.specs.Request.{AreMarked, IsFile, Serves, StopsAtFault, FindsFault, damaged as found_damaged, fault, HandlesRequest, ignored, no_place, not_marked, served, stopped}
 use Rattle.bt_engine.specs.Arrival.{HasPutEffect, Arrives, HandlesPiece, stale, arrives}
 use Rattle.bt_engine.specs.Next.{GoesOn, Closes}
 use Rattle.bt_engine.specs.Step.{Answer, of_next}
 use Rattle.bt_engine.specs.AnswerLaw.{output_of}
 use Rattle.bt_engine.specs.AnswerDue.{IsOnlyPeer, IsOutOfMemory, NotedBy, MarksBlock, marked, not_written, NextMarksRightBlock, ServesRange, sent, damaged, not_read, NextServesMarkedRange, WaitingIsNotComplete}
-use Rattle.bt_engine.proofs.Lists.{and_then_some, same_some, here, set_same}
+use Rattle.bt_engine.proofs.Lists.{and_then_some, same_some, here, set_same, map_contains}
 use Rattle.bt_engine.proofs.AnswerSends.{frame_to, follows_of}
 use Rattle.bt_engine.proofs.AnswerPlaces.{same_place, same_block}
 use Rattle.bt_engine.proofs.AnswerDue.{Taken, no_room, goes, shuts, step_taken, sent_with}
@@ -70,7 +70,7 @@ pub noted_with : (dig : List ℕ → List ℕ) (s new : EngineState) (i : ℕ) (
 noted_with dig s new i p calls out a g is note c =
     (out, ap output_of is, subst (λ l. Contains l note) (sym g.notes) (Contains-append_left g.effect.notes (map (λ file. Complete file) (new_complete_files s g.mid)) note c))
 
-one_note : (effect : Effect) (note : Note) → effect ≡ noting note → Contains effect.notes note
+pub one_note : (effect : Effect) (note : Note) → effect ≡ noting note → Contains effect.notes note
 one_note effect note e = subst (λ l. Contains l note) (sym (ap (λ (x : Effect). x.notes) e)) (here note note [] refl)
 
 -- an event that closes nobody
@@ -150,56 +150,70 @@ next_marks_right dig s new key i p calls a piece begin bytes rest b tree lawful 
 
 -- ---- requests
 
-module _ (dig : List ℕ → List ℕ) (s new : EngineState) (key : PeerKey) (i : ℕ) (p : PeerState) (calls : DeviceCalls) (a : Answer) (ask : Ask) (rest : Stream) (span : Span) where
+module _ (dig : List ℕ → List ℕ) (s new : EngineState) (key : PeerKey) (i : ℕ) (p : PeerState) (calls : DeviceCalls) (a : Answer) (ask : Ask) (rest : Stream) (span : Span) (tree : Facts) where
   abbrev asker : PeerState
   asker = record p { stream = rest }
 
   abbrev at_request : EngineState
   at_request = with_peer s i asker
 
+  abbrev Called : BlockRead → Type 0
+  Called read = Contains calls (span.file, call_of tree.file_length read)
+
   -- what a request for marked blocks does
   data Serving (effect : Effect) : Type 0 where
-    gives : (bytes : ℕ → List ℕ) → effect ≡ sending asker (Piece ask.piece ask.begin (cut_from span bytes)) → Serving effect
-    finds_damage : (j : ℕ) → Contains (spanned_blocks span) j → effect ≡ noting (Damaged (block_id span.file j)) → Serving effect
-    cannot_read : effect ≡ noting (Device span.file) → Serving effect
+    gives : (bytes : ℕ → List ℕ) → ((j : ℕ) → Contains (spanned_blocks span) j → IsRight dig tree j (bytes j)) → effect ≡ sending asker (Piece ask.piece ask.begin (cut_from span bytes)) → Serving effect
+    finds_damage : (j : ℕ) (bytes : List ℕ) → Contains (spanned_blocks span) j → ¬ IsRight dig tree j bytes → Called (given j bytes) → effect ≡ noting (Damaged (block_id span.file j)) → Serving effect
+    cannot_read : (j : ℕ) → Contains (spanned_blocks span) j → Called (failed j) → effect ≡ noting (Device span.file) → Serving effect
 
-  finds : (k : Facts) (mid : EngineState) (j : ℕ) (f : FileState) (read : BlockRead) (effect : Effect) → Contains (spanned_blocks span) j → FindsFault dig k at_request span.file j f read effect mid → Serving effect
-  finds k mid j f read effect c (found_damaged bytes x y e z) = finds_damage j c e
-  finds k mid j f read effect c (fault x e y) = cannot_read e
+  finds : (mid : EngineState) (j : ℕ) (f : FileState) (read : BlockRead) (effect : Effect) → Contains (spanned_blocks span) j → Called read → FindsFault dig tree at_request span.file j f read effect mid → Serving effect
+  finds mid j f read effect c called (found_damaged bytes x y e z) = finds_damage j bytes c y (subst Called x called) e
+  finds mid j f read effect c called (fault x e y) = cannot_read j c (subst Called x called) e
 
-  serving : (effect : Effect) (mid : EngineState) → IsLawful s.torrent.piece_length s.torrent.files → p.am_choking ≡ false → IsPlace s.torrent ask.piece ask.begin ask.length span → AreMarked s span
+  same_tree : (k : Facts) (f : FileState) → tree_of s span.file ≡ Some tree → IsFile at_request span.file f k → k ≡ tree
+  same_tree k f hung is = same_some (tree_of s span.file) k tree (ap (option_and_then (λ (g : FileState). slice_get s.trees g.tree)) is.here ∙ is.hung) hung
+
+  serves : (effect : Effect) (mid : EngineState) → tree_of s span.file ≡ Some tree → Serves dig at_request i asker ask span calls effect mid → Serving effect
+  serves effect mid hung f = gives f.bytes (subst (λ k. (j : ℕ) → Contains (spanned_blocks span) j → IsRight dig k j (f.bytes j)) (same_tree f.tree f.file hung f.is_file) f.right.right) f.sent
+
+  stops : (effect : Effect) (mid : EngineState) → tree_of s span.file ≡ Some tree → StopsAtFault dig at_request span calls effect mid → Serving effect
+  stops effect mid hung f =
+      let same = same_tree f.tree f.file hung f.is_file in
+      let c : Contains (spanned_blocks span) f.block = subst (λ l. Contains l f.block) (sym f.blocks) (Contains-append_right f.before (f.block ∷ f.after) f.block (here f.block f.block f.after refl)) in
+      let last : Contains (f.reads ++ f.read ∷ []) f.read = Contains-append_right f.reads (f.read ∷ []) f.read (here f.read f.read [] refl) in
+      let called : Contains calls (span.file, call_of f.tree.file_length f.read) =
+      subst (λ l. Contains l (span.file, call_of f.tree.file_length f.read)) (sym f.made) (map_contains (λ r. (span.file, call_of f.tree.file_length r)) (f.reads ++ f.read ∷ []) f.read last) in
+      finds mid f.block f.file f.read effect c (subst (λ k. Contains calls (span.file, call_of k.file_length f.read)) same called)
+      (subst (λ k. FindsFault dig k at_request span.file f.block f.file f.read effect mid) same f.finds)
+
+  serving : (effect : Effect) (mid : EngineState) → IsLawful s.torrent.piece_length s.torrent.files → p.am_choking ≡ false → IsPlace s.torrent ask.piece ask.begin ask.length span → AreMarked s span → tree_of s span.file ≡ Some tree
       → HandlesRequest dig at_request i asker ask calls effect mid → Serving effect
-  serving effect mid lawful open_to place are (ignored choked x y z) = let wrong : true ≡ false = sym choked ∙ open_to in absurd cc
-  serving effect mid lawful open_to place are (no_place x none y z w) = absurd (none span place)
-  serving effect mid lawful open_to place are (not_marked other x there none y z w) =
-      let same = same_place s.torrent lawful.laid_out ask.piece ask.begin ask.length span other place there in
-      absurd (none (subst (λ (l : Span). AreMarked at_request l) same are))
-  serving effect mid lawful open_to place are (served other x there y f) =
-      let same = same_place s.torrent lawful.laid_out ask.piece ask.begin ask.length other span there place in
-      gives f.bytes (f.sent ∙ ap (λ l. sending asker (Piece ask.piece ask.begin (cut_from l f.bytes))) same)
-  serving effect mid lawful open_to place are (stopped other x there y f) =
-      let same = same_place s.torrent lawful.laid_out ask.piece ask.begin ask.length other span there place in
-      let c : Contains (spanned_blocks other) f.block = subst (λ l. Contains l f.block) (sym f.blocks) (Contains-append_right f.before (f.block ∷ f.after) f.block (here f.block f.block f.after refl)) in
-      finds f.tree mid f.block f.file f.read effect (subst (λ (l : Span). Contains (spanned_blocks l) f.block) same c)
-      (subst (λ (l : Span). FindsFault dig f.tree at_request l.file f.block f.file f.read effect mid) same f.finds)
+  serving effect mid lawful open_to place are hung (ignored choked x y z) = let wrong : true ≡ false = sym choked ∙ open_to in absurd cc
+  serving effect mid lawful open_to place are hung (no_place x none y z w) = absurd (none span place)
+  serving effect mid lawful open_to place are hung (not_marked other x there none y z w) =
+      absurd (none (subst (λ (l : Span). AreMarked at_request l) (same_place s.torrent lawful.laid_out ask.piece ask.begin ask.length span other place there) are))
+  serving effect mid lawful open_to place are hung (served other x there y f) =
+      serves effect mid hung (subst (λ (l : Span). Serves dig at_request i asker ask l calls effect mid) (same_place s.torrent lawful.laid_out ask.piece ask.begin ask.length other span there place) f)
+  serving effect mid lawful open_to place are hung (stopped other x there y f) =
+      stops effect mid hung (subst (λ (l : Span). StopsAtFault dig at_request l calls effect mid) (same_place s.torrent lawful.laid_out ask.piece ask.begin ask.length other span there place) f)
 
-  serves_by : (out : Output) (g : GoesOn dig s i p calls out new) → a ≡ of_next (Ok (Some out)) → p.key ≡ key → Serving g.effect → ServesRange key ask span a
-  serves_by out g is same (gives bytes e) = sent bytes (sent_with dig s new i p calls out a g is _
+  serves_by : (out : Output) (g : GoesOn dig s i p calls out new) → a ≡ of_next (Ok (Some out)) → p.key ≡ key → Serving g.effect → ServesRange dig tree key ask span calls a
+  serves_by out g is same (gives bytes right e) = sent bytes right (sent_with dig s new i p calls out a g is _
       (subst (λ l. Contains l (frame_to key (Piece ask.piece ask.begin (cut_from span bytes)))) (sym (ap (λ (x : Effect). x.send) e)) (here _ _ [] (ap (λ n. frame_to n (Piece ask.piece ask.begin (cut_from span bytes))) same))))
-  serves_by out g is same (finds_damage j c e) = damaged j c (noted_with dig s new i p calls out a g is _ (one_note g.effect _ e))
-  serves_by out g is same (cannot_read e) = not_read (noted_with dig s new i p calls out a g is _ (one_note g.effect _ e))
+  serves_by out g is same (finds_damage j bytes c wrong called e) = damaged j bytes c wrong called (noted_with dig s new i p calls out a g is _ (one_note g.effect _ e))
+  serves_by out g is same (cannot_read j c called e) = not_read j c called (noted_with dig s new i p calls out a g is _ (one_note g.effect _ e))
 
   not_shut : {X : Type 0} (out : Output) (g : Closes dig s i p calls out new) → Serving g.effect → X
-  not_shut out g (gives bytes e) = not_closed g.effect _ g.why e refl g.closed
-  not_shut out g (finds_damage j c e) = not_closed g.effect _ g.why e refl g.closed
-  not_shut out g (cannot_read e) = not_closed g.effect _ g.why e refl g.closed
+  not_shut out g (gives bytes right e) = not_closed g.effect _ g.why e refl g.closed
+  not_shut out g (finds_damage j bytes c wrong called e) = not_closed g.effect _ g.why e refl g.closed
+  not_shut out g (cannot_read j c called e) = not_closed g.effect _ g.why e refl g.closed
 
-  request_taken : IsLawful s.torrent.piece_length s.torrent.files → p.am_choking ≡ false → IsPlace s.torrent ask.piece ask.begin ask.length span → AreMarked s span → p.key ≡ key
-      → Taken dig s i p (Message (Request ask)) rest calls a new → IsOutOfMemory a ⊎ ServesRange key ask span a
-  request_taken lawful open_to place are same (no_room e) = inl e
-  request_taken lawful open_to place are same (goes out g h is) = inr (serves_by out g is same (serving g.effect g.mid lawful open_to place are h))
-  request_taken lawful open_to place are same (shuts out g h is) = not_shut out g (serving g.effect g.mid lawful open_to place are h)
+  request_taken : IsLawful s.torrent.piece_length s.torrent.files → p.am_choking ≡ false → IsPlace s.torrent ask.piece ask.begin ask.length span → AreMarked s span → tree_of s span.file ≡ Some tree → p.key ≡ key
+      → Taken dig s i p (Message (Request ask)) rest calls a new → IsOutOfMemory a ⊎ ServesRange dig tree key ask span calls a
+  request_taken lawful open_to place are hung same (no_room e) = inl e
+  request_taken lawful open_to place are hung same (goes out g h is) = inr (serves_by out g is same (serving g.effect g.mid lawful open_to place are hung h))
+  request_taken lawful open_to place are hung same (shuts out g h is) = not_shut out g (serving g.effect g.mid lawful open_to place are hung h)
 
 pub next_serves : (dig : List ℕ → List ℕ) → NextServesMarkedRange dig
-next_serves dig s new key i p calls a ask rest span lawful one takes open_to place are step =
-    request_taken dig s new key i p calls a ask rest span lawful open_to place are one.is_peer.same_key (step_taken dig s new key i p calls (Message (Request ask)) rest one takes a step)
+next_serves dig s new key i p calls a ask rest span tree lawful one takes open_to place are hung step =
+    request_taken dig s new key i p calls a ask rest span tree lawful open_to place are hung one.is_peer.same_key (step_taken dig s new key i p calls (Message (Request ask)) rest one takes a step)

@@ -22,6 +22,7 @@ pub mod AnswerCauses
 pub mod AnswerPlaces
 pub mod AnswerDue
 pub mod AnswerBlocks
+pub mod AnswerMarks
 -- worked examples
 pub mod ExamplePeer
 pub mod ExampleOneBlock

@@ -9,7 +9,7 @@ use Rattle.bt_meta.specs.Torrent.{Metainfo, IsLawful}
 use Rattle.bt_meta.specs.declared.torrent.Span.{Span}
 use Rattle.bt_sparse.specs.SparseTree.{Facts}
 use Rattle.bt_hashreq.specs.declared.key.HashKey.{HashKey}
-use Rattle.bt_store.specs.BlockReads.{IsRight}
+use Rattle.bt_store.specs.BlockReads.{given, failed, call_of, IsRight}
 use Rattle.bt_store.specs.declared.block_states.BlockState.TheVariants.{Waiting, Marked}
 use Rattle.bt_book.specs.declared.names.PeerKey.{PeerKey}
 use Rattle.bt_book.specs.declared.names.BlockId.{BlockId}
@@ -83,23 +83,28 @@ NextMarksRightBlock dig = (old new : EngineState) (key : PeerKey) (place : ℕ) 
 
 -- ---- requests of blocks
 
--- the range is sent; or a block under it was read and is not right, or could not be read, with a note
-pub data ServesRange (key : PeerKey) (ask : Ask) (span : Span) (answer : Answer) : Type 0 where
-  sent : (blocks : ℕ → List ℕ) → Sends answer key (Piece ask.piece ask.begin (cut_from span blocks))
-      → ServesRange key ask span answer
-  damaged : (i : ℕ) → Contains (spanned_blocks span) i → NotedBy answer (Damaged (block_id span.file i))
-      → ServesRange key ask span answer
-  not_read : NotedBy answer (Device span.file) → ServesRange key ask span answer
+-- The range is sent; or a block under it was read and is not right, or could not be read, with a note.
+pub data ServesRange (dig : List ℕ → List ℕ) (tree : Facts) (key : PeerKey) (ask : Ask) (span : Span)
+    (calls : DeviceCalls) (answer : Answer) : Type 0 where
+  sent : (blocks : ℕ → List ℕ) → ((i : ℕ) → Contains (spanned_blocks span) i → IsRight dig tree i (blocks i))
+      → Sends answer key (Piece ask.piece ask.begin (cut_from span blocks))
+      → ServesRange dig tree key ask span calls answer
+  damaged : (i : ℕ) (bytes : List ℕ) → Contains (spanned_blocks span) i → ¬ IsRight dig tree i bytes
+      → Contains calls (span.file, call_of tree.file_length (given i bytes))
+      → NotedBy answer (Damaged (block_id span.file i)) → ServesRange dig tree key ask span calls answer
+  not_read : (i : ℕ) → Contains (spanned_blocks span) i
+      → Contains calls (span.file, call_of tree.file_length (failed i))
+      → NotedBy answer (Device span.file) → ServesRange dig tree key ask span calls answer
 
 -- A peer that is not choked requests a range whose blocks are marked.
 abbrev pub NextServesMarkedRange : (List ℕ → List ℕ) → Type 0
 NextServesMarkedRange dig = (old new : EngineState) (key : PeerKey) (place : ℕ) (p : PeerState)
-    (calls : DeviceCalls) (answer : Answer) (ask : Ask) (rest : Stream) (span : Span)
+    (calls : DeviceCalls) (answer : Answer) (ask : Ask) (rest : Stream) (span : Span) (tree : Facts)
     → IsLawful old.torrent.piece_length old.torrent.files → IsOnlyPeer old key place p
     → Takes p.stream (Message (Request ask)) rest → p.am_choking ≡ false
     → IsPlace old.torrent ask.piece ask.begin ask.length span → AreMarked old span
-    → Step dig old (Next key) calls answer new
-    → IsOutOfMemory answer ⊎ ServesRange key ask span answer
+    → tree_of old span.file ≡ Some tree → Step dig old (Next key) calls answer new
+    → IsOutOfMemory answer ⊎ ServesRange dig tree key ask span calls answer
 
 -- ---- blocks that wait
 

@@ -1,4 +1,4 @@
-ghost use Rattle.bt_engine.specs.AnswerDue.{NextAnswersHashRequest, NextMarksRightBlock, NextServesMarkedRange, WaitingIsNotComplete};
+ghost use Rattle.bt_engine.specs.AnswerDue.{NextAnswersHashRequest, NextMarksRightBlock, NextServesMarkedRange, NextNotesMarkedBlocks, WaitingIsNotComplete};
 
 use bt_tree::NodeHash;
 
@@ -17,6 +17,11 @@ pub fn next_marks_right_block<H: NodeHash>(_hash: H)
 /// found damaged or cannot be read.
 pub fn next_serves_marked_range<H: NodeHash>(_hash: H)
     ensures { NextServesMarkedRange H.digest }
+{}
+
+/// A block that a message of a peer makes marked is noted.
+pub fn next_notes_marked_blocks<H: NodeHash>(_hash: H)
+    ensures { NextNotesMarkedBlocks H.digest }
 {}
 
 /// A file is not complete while a block of it waits.
