@@ -27,4 +27,5 @@ pub mod AnswerMarks
 pub mod ExamplePeer
 pub mod ExampleOneBlock
 pub mod ExampleThreeTree
+pub mod ExampleThreeEngine
 pub mod ExampleThreeBlocks
