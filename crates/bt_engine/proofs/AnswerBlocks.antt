@@ -1,5 +1,5 @@
 -- What becomes of blocks that come and of requests.
-use Rattle.std.proofs.Common.{◌≡◌, ◌≢◌, ℕ, zero, suc, ◌+◌, ◌*◌, ◌⊎◌, inl, inr, Bool, true, false, List, [], ◌∷◌, ◌++◌, length, map, Option, Some, None, Result, Ok, Err, refl, sym, ap, ◌∙◌, subst, arith}
+use Rattle.std.proofs.Common.{◌≡◌, ℕ, zero, suc, ◌*◌, ◌⊎◌, inl, inr, Bool, true, false, List, [], ◌∷◌, ◌++◌, length, map, Some, None, Result, Ok, Err, refl, sym, ap, ◌∙◌, subst}
 use Rattle.std.specs.Prelude.{slice_get, slice_set, Contains, ◌&&◌}
 use Rattle.std.specs.Option.{option_and_then, option_map_or}
 use Rattle.std.specs.List.{list_all}
@@ -21,7 +21,7 @@ use Rattle.bt_store.specs.declared.arrival.Put.{Put}
 use Rattle.bt_store.specs.declared.arrival.Put.TheVariants.{Already, Wrong, Marked as PutMarked, Waiting as PutWaiting}
 use Rattle.bt_book.specs.declared.names.PeerKey.{PeerKey}
 use Rattle.bt_book.specs.declared.names.BlockId.{BlockId}
-use Rattle.bt_wire.specs.Cutter.{Stream, Takes}
+use Rattle.bt_wire.specs.Cutter.{Stream}
 use Rattle.bt_wire.specs.declared.event.WireEvent.TheVariants.{Message}
 use Rattle.bt_wire.specs.declared.message.Ask.{Ask}
 use Rattle.bt_wire.specs.declared.message.Message.TheVariants.{Request, Piece}
@@ -29,7 +29,7 @@ use Rattle.bt_engine.specs.declared.answer.Note.{Note}
 use Rattle.bt_engine.specs.declared.answer.Note.TheVariants.{Marked as NowMarked, Damaged, Device, Complete}
 use Rattle.bt_engine.specs.State.{PeerState, FileState, EngineState}
 use Rattle.bt_engine.specs.Devices.{DeviceCalls, calls_at}
-use Rattle.bt_engine.specs.Blocks.{block_id, state_at, tree_of, states_of, is_complete, with_file, with_peer, new_complete_files}
+use Rattle.bt_engine.specs.Blocks.{block_id, state_at, tree_of, with_file, with_peer, new_complete_files}
 use Rattle.bt_engine.specs.Spans.{IsWholeBlock, spanned_blocks, cut_from}
 use Rattle.bt_engine.specs.Output.{Output, Effect, noting, sending}
 use Rattle.bt_engine.specs.Request.{AreMarked, IsFile, Serves, StopsAtFault, FindsFault, damaged as found_damaged, fault, HandlesRequest, ignored, no_place, not_marked, served, stopped}
@@ -37,7 +37,7 @@ use Rattle.bt_engine.specs.Arrival.{HasPutEffect, Arrives, HandlesPiece, stale, 
 use Rattle.bt_engine.specs.Next.{GoesOn, Closes}
 use Rattle.bt_engine.specs.Step.{Answer, of_next}
 use Rattle.bt_engine.specs.AnswerLaw.{output_of}
-use Rattle.bt_engine.specs.AnswerDue.{IsOnlyPeer, IsOutOfMemory, NotedBy, MarksBlock, marked, not_written, NextMarksRightBlock, ServesRange, sent, damaged, not_read, NextServesMarkedRange, WaitingIsNotComplete}
+use Rattle.bt_engine.specs.AnswerDue.{IsOutOfMemory, NotedBy, MarksBlock, marked, not_written, NextMarksRightBlock, ServesRange, sent, damaged, not_read, NextServesMarkedRange, WaitingIsNotComplete}
 use Rattle.bt_engine.proofs.Lists.{and_then_some, same_some, here, set_same, map_contains}
 use Rattle.bt_engine.proofs.AnswerSends.{frame_to, follows_of}
 use Rattle.bt_engine.proofs.AnswerPlaces.{same_place, same_block}

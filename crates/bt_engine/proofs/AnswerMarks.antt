@@ -1,16 +1,16 @@
 -- A block that becomes marked is noted.
-use Rattle.std.proofs.Common.{◌≡◌, ℕ, ◌⊎◌, inl, inr, Bool, true, false, List, [], ◌∷◌, ◌++◌, length, map, Option, Some, None, Result, Ok, Err, refl, sym, ap, ◌∙◌, subst}
-use Rattle.std.specs.Prelude.{slice_get, slice_set, Contains, ◌&&◌, ◌==◌, nat_eq, if◌then◌else◌}
+use Rattle.std.proofs.Common.{◌≡◌, ℕ, ◌⊎◌, inl, inr, true, false, List, [], ◌∷◌, length, map, Some, Result, Ok, Err, refl, sym, ap, ◌∙◌, subst}
+use Rattle.std.specs.Prelude.{slice_get, Contains, nat_eq, if◌then◌else◌}
 use Rattle.std.specs.Cmp.Lexicographic.{pointwise}
 use Rattle.std.proofs.lemmas.Bool.{eq-eqb}
 use Rattle.std.proofs.lemmas.List.Elements.{Contains-append_left}
 use Rattle.bt_tree.specs.Blocks.{block_length}
-use Rattle.bt_sparse.specs.SparseTree.{Facts, value_at}
+use Rattle.bt_sparse.specs.SparseTree.{Facts}
 use Rattle.bt_hashreq.specs.declared.key.HashKey.{HashKey}
 use Rattle.bt_store.specs.Arrival.{states_after_put}
-use Rattle.bt_store.specs.BlockReads.{BlockRead, given, failed, is_leaf, is_right, IsRight, judged}
+use Rattle.bt_store.specs.BlockReads.{BlockRead, given, is_leaf, is_right, IsRight, judged}
 use Rattle.bt_store.specs.declared.block_states.BlockState.{BlockState}
-use Rattle.bt_store.specs.declared.block_states.BlockState.TheVariants.{Missing, Waiting, Marked}
+use Rattle.bt_store.specs.declared.block_states.BlockState.TheVariants.{Waiting, Marked}
 use Rattle.bt_store.specs.declared.error.StoreError.{StoreError}
 use Rattle.bt_store.specs.declared.arrival.Put.{Put}
 use Rattle.bt_store.specs.declared.arrival.Put.TheVariants.{Already, Wrong, Marked as PutMarked, Waiting as PutWaiting}
@@ -33,7 +33,7 @@ use Rattle.bt_engine.specs.Settling.{Settles, judged_file, read_note, settling_n
 use Rattle.bt_engine.specs.HashMessages.{HandlesHashes, unknown_root, no_claim, refused, learns}
 use Rattle.bt_engine.specs.WireEvents.{HandlesHave, in_range, out_of_range, HandlesBitfield, right, wrong, HandlesMessage, Handles}
 use Rattle.bt_engine.specs.Next.{StepNext, no_peer as none_such, waits, goes_on, closes, faulty, no_memory}
-use Rattle.bt_engine.specs.Step.{Answer, of_next}
+use Rattle.bt_engine.specs.Step.{of_next}
 use Rattle.bt_engine.specs.AnswerDue.{NotedBy, NextNotesMarkedBlocks}
 use Rattle.bt_engine.proofs.Lists.{and_then_some, map_some, set_cases, set_same, map_contains, flat_map_contains, range_contains, some_below}
 use Rattle.bt_engine.proofs.Marks.{state_is, file_marked, missing_marks, judged_marks}
@@ -46,7 +46,7 @@ same_leaf [] = refl
 same_leaf (x ∷ d) = rw (eq-eqb x x refl) (same_leaf d)
 
 -- right bytes are told to be right
-right_true : (dig : List ℕ → List ℕ) (k : Facts) (i : ℕ) (bytes : List ℕ) → IsRight dig k i bytes → is_right dig k i bytes ≡ true
+pub right_true : (dig : List ℕ → List ℕ) (k : Facts) (i : ℕ) (bytes : List ℕ) → IsRight dig k i bytes → is_right dig k i bytes ≡ true
 right_true dig k i bytes r = rw (eq-eqb (length bytes) (block_length k.file_length i) r.whole) (ap (λ o. is_leaf o (dig bytes)) r.leaf ∙ same_leaf (dig bytes))
 
 -- what was marked in the course of an event is noted by it

@@ -239,6 +239,14 @@ module _ (dig : List ℕ → List ℕ) (b : ThreeBlocks) where
   unfolding value_at height_up_to
   first_unknown = none_below 0 0 (omega arith)
 
+  pub second_unknown : value_at dig at_first 0 1 ≡ None
+  unfolding value_at height_up_to
+  second_unknown = none_below 0 1 (omega arith)
+
+  pub third_unknown : value_at dig at_first 0 2 ≡ None
+  unfolding value_at height_up_to
+  third_unknown = none_below 0 2 (omega arith)
+
   pub first_known : value_at dig proved 0 0 ≡ Some (dig b.first)
   unfolding value_at height_up_to
   first_known = held_first

@@ -29,3 +29,4 @@ pub mod ExampleOneBlock
 pub mod ExampleThreeTree
 pub mod ExampleThreeEngine
 pub mod ExampleThreeBlocks
+pub mod ExampleWaiting

@@ -1,11 +1,11 @@
 -- What a message of a peer must lead to, unless the engine is out of memory: an engine that rejects every hash
 -- request, marks no block or serves nobody is no such machine.
-use Rattle.std.specs.Prelude.{◌≡◌, ℕ, ◌*◌, ◌⊎◌, false, List, [], ◌∷◌, length, Some, Ok, Err, slice_get, Contains}
+use Rattle.std.specs.Prelude.{◌≡◌, ℕ, ◌*◌, ◌⊎◌, false, List, [], ◌∷◌, length, Some, Err, Contains}
 use Rattle.std.specs.List.{concat}
 use Rattle.bt_tree.specs.Limits.{full_block_length}
 use Rattle.bt_disk.specs.Calls.{write_fault}
 use Rattle.bt_meta.specs.Place.{IsPlace}
-use Rattle.bt_meta.specs.Torrent.{Metainfo, IsLawful}
+use Rattle.bt_meta.specs.Torrent.{IsLawful}
 use Rattle.bt_meta.specs.declared.torrent.Span.{Span}
 use Rattle.bt_sparse.specs.SparseTree.{Facts}
 use Rattle.bt_hashreq.specs.declared.key.HashKey.{HashKey}
@@ -21,7 +21,7 @@ use Rattle.bt_engine.specs.declared.answer.Note.{Note}
 use Rattle.bt_engine.specs.declared.answer.Note.TheVariants.{Marked as NowMarked, Damaged, Device}
 use Rattle.bt_engine.specs.declared.error.EngineError.TheVariants.{OutOfMemory}
 use Rattle.bt_engine.specs.declared.event.Event.TheVariants.{Next}
-use Rattle.bt_engine.specs.State.{PeerState, FileState, EngineState}
+use Rattle.bt_engine.specs.State.{PeerState, EngineState}
 use Rattle.bt_engine.specs.Devices.{DeviceCalls}
 use Rattle.bt_engine.specs.Blocks.{block_id, state_at, tree_of, is_complete}
 use Rattle.bt_engine.specs.Spans.{IsWholeBlock, spanned_blocks, cut_from}

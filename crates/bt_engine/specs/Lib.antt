@@ -29,3 +29,4 @@ pub mod AnswerDue
 pub mod ExamplePeer
 pub mod ExampleOneBlock
 pub mod ExampleThreeBlocks
+pub mod ExampleWaiting

@@ -1,5 +1,6 @@
 ghost use Rattle.bt_engine.specs.ExampleOneBlock.{FetchOfAbcIsRun};
 ghost use Rattle.bt_engine.specs.ExampleThreeBlocks.{FetchOfThreeIsRun};
+ghost use Rattle.bt_engine.specs.ExampleWaiting.{WaitingFetchIsRun};
 
 use bt_tree::NodeHash;
 
@@ -12,4 +13,10 @@ pub fn fetch_of_abc_is_run<H: NodeHash>(_hash: H)
 /// So is the fetch of any file of three whole blocks, with a hash request and its answer.
 pub fn fetch_of_three_is_run<H: NodeHash>(_hash: H)
     ensures { FetchOfThreeIsRun H.digest }
+{}
+
+/// Blocks that come before the proof of their leaves wait; when it comes they are read back, those with the
+/// right bytes are marked, and one with wrong bytes is asked for again. That is a run too.
+pub fn waiting_fetch_is_run<H: NodeHash>(_hash: H)
+    ensures { WaitingFetchIsRun H.digest }
 {}
