@@ -55,7 +55,7 @@ pub data IsOne (x y z : BlockState) (c : BlockId) (state : BlockState) : Type 0 
   second : c ≡ block 1 → y ≡ state → IsOne x y z c state
   third : c ≡ block 2 → z ≡ state → IsOne x y z c state
 
-one_of : (x y z state : BlockState) (file i : ℕ) → option_and_then (λ (f : FileState). slice_get f.states i) (slice_get ((record { tree = 0; states = x ∷ y ∷ z ∷ [] }) ∷ []) file) ≡ Some state → IsOne x y z (block_id file i) state
+pub one_of : (x y z state : BlockState) (file i : ℕ) → option_and_then (λ (f : FileState). slice_get f.states i) (slice_get ((record { tree = 0; states = x ∷ y ∷ z ∷ [] }) ∷ []) file) ≡ Some state → IsOne x y z (block_id file i) state
 one_of x y z state zero zero e = first refl (some_is x state e)
 one_of x y z state zero (suc zero) e = second refl (some_is y state e)
 one_of x y z state zero (suc (suc zero)) e = third refl (some_is z state e)

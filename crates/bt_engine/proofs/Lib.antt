@@ -30,3 +30,4 @@ pub mod ExampleThreeTree
 pub mod ExampleThreeEngine
 pub mod ExampleThreeBlocks
 pub mod ExampleWaiting
+pub mod ExampleServing

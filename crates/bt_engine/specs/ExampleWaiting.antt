@@ -1,5 +1,5 @@
--- A worked example: three blocks come before the proof of their leaves, the third of them with wrong bytes. They
--- wait; when the proof comes they are read back, and the third is asked for again.
+-- A worked example: three blocks come before the proof of their leaves, the third of them with wrong bytes.
+-- They wait; when the proof comes they are read back, and the third is asked for again.
 use Rattle.std.specs.Prelude.{◌≡◌, ◌≢◌, ℕ, List, [], ◌∷◌, length}
 use Rattle.bt_tree.specs.Limits.{full_block_length}
 use Rattle.bt_disk.specs.Calls.{bytes_given, bytes_written}

@@ -30,3 +30,4 @@ pub mod ExamplePeer
 pub mod ExampleOneBlock
 pub mod ExampleThreeBlocks
 pub mod ExampleWaiting
+pub mod ExampleServing

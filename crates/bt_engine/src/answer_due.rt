@@ -7,8 +7,8 @@ pub fn next_answers_hash_request<H: NodeHash>(_hash: H)
     ensures { NextAnswersHashRequest H.digest }
 {}
 
-/// A whole block that the peer was asked for, with the digest of its leaf, is marked, unless the device refuses
-/// to write it.
+/// A whole block that the peer was asked for, with the digest of its leaf, is marked, unless the device
+/// refuses to write it.
 pub fn next_marks_right_block<H: NodeHash>(_hash: H)
     ensures { NextMarksRightBlock H.digest }
 {}

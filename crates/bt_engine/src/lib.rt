@@ -21,7 +21,9 @@ pub use answer_law::{
 };
 pub use error::{ConnectError, EngineError, FlushError};
 pub use event::Event;
-pub use example::{fetch_of_abc_is_run, fetch_of_three_is_run, waiting_fetch_is_run};
+pub use example::{
+    fetch_of_abc_is_run, fetch_of_three_is_run, serving_is_run, waiting_fetch_is_run,
+};
 pub use law::{
     complete_files_are_published, complete_files_stand, complete_has_root, right_is_checked,
     rooted_is_checked, run_keeps_rooted, run_keeps_sound, run_marks_by_bytes, run_sends_read_bytes,
