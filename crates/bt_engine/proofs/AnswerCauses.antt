@@ -103,9 +103,9 @@ module _ (dig : List ℕ → List ℕ) (s : EngineState) (i : ℕ) (p : PeerStat
   hashes_causes mid key digests calls effect takes (unknown_root x y e z) =
       closes_for effect _ _ e refl (is_unknown_root key digests rest takes (λ tree k is. x tree k (record { here = is.here; same_root = is.same_root })))
   hashes_causes mid key digests calls effect takes (no_claim f x y c) =
-      closes_for effect _ _ c.has_effect refl (makes_no_claim key digests rest f takes (λ all. x (λ tree k is. all tree k (record { here = is.here; same_root = is.same_root }))) y)
+      closes_for effect _ _ c.has_effect refl (makes_no_claim key digests rest f takes (λ all. x (λ tree k is. all tree k (record { here = is.here; same_root = is.same_root }))) y c.not_memory)
   hashes_causes mid key digests calls effect takes (refused f tree k c x y z g) =
-      closes_for effect _ _ g.has_effect refl (is_refused key digests rest f tree k c takes (record { here = x.here; same_root = x.same_root }) y z)
+      closes_for effect _ _ g.has_effect refl (is_refused key digests rest f tree k c takes (record { here = x.here; same_root = x.same_root }) y z g.not_memory)
   hashes_causes mid key digests calls effect takes (learns l) = open_still effect _ l.has_effect refl
 
   answer_causes : (key : HashKey) (effect : Effect) → HandlesHashRequest dig t q key effect → Causes effect

@@ -23,6 +23,7 @@ pub mod AnswerPlaces
 pub mod AnswerDue
 pub mod AnswerBlocks
 pub mod AnswerMarks
+pub mod AnswerShut
 -- worked examples
 pub mod ExamplePeer
 pub mod ExampleOneBlock

@@ -1,7 +1,7 @@
 -- What a message of a peer must lead to, unless the engine is out of memory: an engine that rejects every
 -- hash request, marks no block or serves nobody is no such machine.
-use Rattle.std.specs.Prelude.{◌≡◌, ℕ, ◌*◌, ◌⊎◌, false, List, [], ◌∷◌, length, Some, Err, Contains}
-use Rattle.std.specs.List.{concat}
+use Rattle.std.specs.Prelude.{◌≡◌, ◌≢◌, ℕ, ◌*◌, ◌⊎◌, false, List, [], ◌∷◌, length, Some, Err, Contains}
+use Rattle.std.specs.List.{AllPairs, concat}
 use Rattle.bt_tree.specs.Limits.{full_block_length}
 use Rattle.bt_disk.specs.Calls.{write_fault}
 use Rattle.bt_meta.specs.Place.{IsPlace}
@@ -17,6 +17,7 @@ use Rattle.bt_wire.specs.Cutter.{Stream, Takes}
 use Rattle.bt_wire.specs.declared.message.Ask.{Ask}
 use Rattle.bt_wire.specs.declared.message.Message.TheVariants.{Request, Piece, HashRequest, Hashes, HashReject}
 use Rattle.bt_wire.specs.declared.event.WireEvent.TheVariants.{Message}
+use Rattle.bt_engine.specs.declared.answer.Why.{Why}
 use Rattle.bt_engine.specs.declared.answer.Note.{Note}
 use Rattle.bt_engine.specs.declared.answer.Note.TheVariants.{Marked as NowMarked, Damaged, Device}
 use Rattle.bt_engine.specs.declared.error.EngineError.TheVariants.{OutOfMemory}
@@ -30,7 +31,7 @@ use Rattle.bt_engine.specs.Request.{AreMarked}
 use Rattle.bt_engine.specs.HashMessages.{IsAnswered}
 use Rattle.bt_engine.specs.Next.{IsPeer}
 use Rattle.bt_engine.specs.Step.{Answer, of_next, Step}
-use Rattle.bt_engine.specs.AnswerLaw.{Sends, output_of}
+use Rattle.bt_engine.specs.AnswerLaw.{Sends, output_of, IsCause, Closes}
 
 -- the peer of the key stands at this place, and no other has the key
 pub record IsOnlyPeer (s : EngineState) (key : PeerKey) (place : ℕ) (p : PeerState) : Type 0 where
@@ -105,6 +106,16 @@ NextServesMarkedRange dig = (old new : EngineState) (key : PeerKey) (place : ℕ
     → IsPlace old.torrent ask.piece ask.begin ask.length span → AreMarked old span
     → tree_of old span.file ≡ Some tree → Step dig old (Next key) calls answer new
     → IsOutOfMemory answer ⊎ ServesRange dig tree key ask span calls answer
+
+-- ---- closing
+
+-- A peer that sent what it is to be closed for is closed. There is one tree for each root, as in every engine.
+abbrev pub NextClosesForCause : (List ℕ → List ℕ) → Type 0
+NextClosesForCause dig = (old new : EngineState) (key : PeerKey) (place : ℕ) (p : PeerState)
+    (calls : DeviceCalls) (answer : Answer) (why : Why)
+    → IsLawful old.torrent.piece_length old.torrent.files → AllPairs (λ j k. j.root ≢ k.root) old.trees
+    → IsOnlyPeer old key place p → IsCause dig old p why → Step dig old (Next key) calls answer new
+    → IsOutOfMemory answer ⊎ ((cause : Why) × Closes answer cause)
 
 -- ---- blocks that wait
 

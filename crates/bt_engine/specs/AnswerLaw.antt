@@ -8,6 +8,7 @@ use Rattle.bt_sparse.specs.SparseTree.{Facts, value_at}
 use Rattle.bt_sparse.specs.Acceptance.{IsRefused}
 use Rattle.bt_sparse.specs.declared.claim.Claim.{Claim}
 use Rattle.bt_sparse.specs.declared.claim.ProofError.{ProofError}
+use Rattle.bt_sparse.specs.declared.claim.ProofError.TheVariants.{OutOfMemory}
 use Rattle.bt_hashreq.specs.Claim.{IsClaimBy, IsNoClaim}
 use Rattle.bt_hashreq.specs.declared.key.HashKey.{HashKey}
 use Rattle.bt_store.specs.Arrival.{IsWrong}
@@ -144,10 +145,11 @@ pub data IsCause (dig : List ℕ → List ℕ) (s : EngineState) (p : PeerState)
       → IsCause dig s p UnknownRoot
   no_claim : (key : HashKey) (digests : List ℕ) (rest : Stream) (fault : ProofError)
       → Takes p.stream (Message (Hashes key digests)) rest → ¬ IsUnknownRoot s key.root
-      → IsNoClaim key digests fault → IsCause dig s p (Proof fault)
+      → IsNoClaim key digests fault → fault ≢ OutOfMemory → IsCause dig s p (Proof fault)
   refused : (key : HashKey) (digests : List ℕ) (rest : Stream) (fault : ProofError) (tree : ℕ) (k : Facts)
       (claim : Claim) → Takes p.stream (Message (Hashes key digests)) rest → IsTreeOf s key.root tree k
-      → IsClaimBy key digests claim → IsRefused dig k claim fault → IsCause dig s p (Proof fault)
+      → IsClaimBy key digests claim → IsRefused dig k claim fault → fault ≢ OutOfMemory
+      → IsCause dig s p (Proof fault)
 
 abbrev pub Closes : Answer → Why → Type 0
 Closes answer why = (out : Output) × (output_of answer ≡ Some out) × (out.close ≡ Some why)

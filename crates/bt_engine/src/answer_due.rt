@@ -1,4 +1,4 @@
-ghost use Rattle.bt_engine.specs.AnswerDue.{NextAnswersHashRequest, NextMarksRightBlock, NextServesMarkedRange, NextNotesMarkedBlocks, WaitingIsNotComplete};
+ghost use Rattle.bt_engine.specs.AnswerDue.{NextAnswersHashRequest, NextMarksRightBlock, NextServesMarkedRange, NextNotesMarkedBlocks, NextClosesForCause, WaitingIsNotComplete};
 
 use bt_tree::NodeHash;
 
@@ -22,6 +22,11 @@ pub fn next_serves_marked_range<H: NodeHash>(_hash: H)
 /// A block that a message of a peer makes marked is noted.
 pub fn next_notes_marked_blocks<H: NodeHash>(_hash: H)
     ensures { NextNotesMarkedBlocks H.digest }
+{}
+
+/// A peer is closed that sent what it is to be closed for.
+pub fn next_closes_for_cause<H: NodeHash>(_hash: H)
+    ensures { NextClosesForCause H.digest }
 {}
 
 /// A file is not complete while a block of it waits.
