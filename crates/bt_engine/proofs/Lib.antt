@@ -24,6 +24,7 @@ pub mod AnswerDue
 pub mod AnswerBlocks
 pub mod AnswerMarks
 pub mod AnswerShut
+pub mod AnswerAsks
 -- worked examples
 pub mod ExamplePeer
 pub mod ExampleOneBlock

@@ -1,6 +1,6 @@
 -- What a message of a peer must lead to, unless the engine is out of memory: an engine that rejects every
 -- hash request, marks no block or serves nobody is no such machine.
-use Rattle.std.specs.Prelude.{◌≡◌, ◌≢◌, ℕ, ◌*◌, ◌⊎◌, false, List, [], ◌∷◌, length, Some, Err, Contains}
+use Rattle.std.specs.Prelude.{◌≡◌, ◌≢◌, ℕ, ◌*◌, ◌⊎◌, ◌↔◌, true, false, List, [], ◌∷◌, length, Some, None, Ok, Err, Contains}
 use Rattle.std.specs.List.{AllPairs, concat}
 use Rattle.bt_tree.specs.Limits.{full_block_length}
 use Rattle.bt_disk.specs.Calls.{write_fault}
@@ -10,7 +10,8 @@ use Rattle.bt_meta.specs.declared.torrent.Span.{Span}
 use Rattle.bt_sparse.specs.SparseTree.{Facts}
 use Rattle.bt_hashreq.specs.declared.key.HashKey.{HashKey}
 use Rattle.bt_store.specs.BlockReads.{given, failed, call_of, IsRight}
-use Rattle.bt_store.specs.declared.block_states.BlockState.TheVariants.{Waiting, Marked}
+use Rattle.bt_store.specs.declared.block_states.BlockState.TheVariants.{Missing, Waiting, Marked}
+use Rattle.bt_book.specs.Book.{max_requests}
 use Rattle.bt_book.specs.declared.names.PeerKey.{PeerKey}
 use Rattle.bt_book.specs.declared.names.BlockId.{BlockId}
 use Rattle.bt_wire.specs.Cutter.{Stream, Takes}
@@ -22,13 +23,14 @@ use Rattle.bt_engine.specs.declared.answer.Note.{Note}
 use Rattle.bt_engine.specs.declared.answer.Note.TheVariants.{Marked as NowMarked, Damaged, Device}
 use Rattle.bt_engine.specs.declared.error.EngineError.TheVariants.{OutOfMemory}
 use Rattle.bt_engine.specs.declared.event.Event.TheVariants.{Next}
-use Rattle.bt_engine.specs.State.{PeerState, EngineState}
+use Rattle.bt_engine.specs.State.{Idle, PeerState, EngineState}
 use Rattle.bt_engine.specs.Devices.{DeviceCalls}
-use Rattle.bt_engine.specs.Blocks.{block_id, state_at, tree_of, is_complete}
+use Rattle.bt_engine.specs.Blocks.{block_id, state_at, tree_of, Has, IsAsked, is_complete}
 use Rattle.bt_engine.specs.Spans.{IsWholeBlock, spanned_blocks, cut_from}
 use Rattle.bt_engine.specs.Output.{Output}
 use Rattle.bt_engine.specs.Request.{AreMarked}
 use Rattle.bt_engine.specs.HashMessages.{IsAnswered}
+use Rattle.bt_engine.specs.FollowUp.{IsInteresting, NeedsLeaf}
 use Rattle.bt_engine.specs.Next.{IsPeer}
 use Rattle.bt_engine.specs.Step.{Answer, of_next, Step}
 use Rattle.bt_engine.specs.AnswerLaw.{Sends, output_of, IsCause, Closes}
@@ -116,6 +118,23 @@ NextClosesForCause dig = (old new : EngineState) (key : PeerKey) (place : ℕ) (
     → IsLawful old.torrent.piece_length old.torrent.files → AllPairs (λ j k. j.root ≢ k.root) old.trees
     → IsOnlyPeer old key place p → IsCause dig old p why → Step dig old (Next key) calls answer new
     → IsOutOfMemory answer ⊎ ((cause : Why) × Closes answer cause)
+
+-- ---- what is asked of a peer
+
+-- We are interested as we should be; the peer is asked for hashes where a leaf is needed; and it is asked for
+-- 16 blocks, or for each missing one that it has somebody is asked.
+pub record IsAskedForAll (dig : List ℕ → List ℕ) (s : EngineState) (p : PeerState) : Type 0 where
+  pub interest : (p.am_interested ≡ true) ↔ IsInteresting s p
+  pub leaves : p.hash ≡ Idle → (b : BlockId) → ¬ NeedsLeaf dig s p b
+  pub blocks : p.peer_choking ≡ false → p.am_interested ≡ true → (length p.asked ≡ max_requests)
+      ⊎ ((b : BlockId) → Has s p b → state_at s b ≡ Some Missing → IsAsked s b)
+
+-- So it is of a peer after each of its messages that does not close it.
+abbrev pub NextAsksForAll : (List ℕ → List ℕ) → Type 0
+NextAsksForAll dig = (old new : EngineState) (key : PeerKey) (place : ℕ) (p : PeerState) (calls : DeviceCalls)
+    (out : Output) → IsOnlyPeer old key place p → out.close ≡ None
+    → Step dig old (Next key) calls (of_next (Ok (Some out))) new
+    → (q : PeerState) × IsPeer new key place q × IsAskedForAll dig new q
 
 -- ---- blocks that wait
 

@@ -1,4 +1,4 @@
-ghost use Rattle.bt_engine.specs.AnswerDue.{NextAnswersHashRequest, NextMarksRightBlock, NextServesMarkedRange, NextNotesMarkedBlocks, NextClosesForCause, WaitingIsNotComplete};
+ghost use Rattle.bt_engine.specs.AnswerDue.{NextAnswersHashRequest, NextMarksRightBlock, NextServesMarkedRange, NextNotesMarkedBlocks, NextClosesForCause, NextAsksForAll, WaitingIsNotComplete};
 
 use bt_tree::NodeHash;
 
@@ -27,6 +27,12 @@ pub fn next_notes_marked_blocks<H: NodeHash>(_hash: H)
 /// A peer is closed that sent what it is to be closed for.
 pub fn next_closes_for_cause<H: NodeHash>(_hash: H)
     ensures { NextClosesForCause H.digest }
+{}
+
+/// After a message of a peer that stays, our interest in it is as it should be, and it is asked for all that it
+/// may be asked for.
+pub fn next_asks_for_all<H: NodeHash>(_hash: H)
+    ensures { NextAsksForAll H.digest }
 {}
 
 /// A file is not complete while a block of it waits.
