@@ -26,3 +26,24 @@ pub mod DeterminedNext
 pub mod DeterminedPeers
 pub mod DeterminedAdopt
 pub mod Determined
+-- answers
+pub mod AnswerParts
+pub mod AnswerSends
+pub mod AnswerRequests
+pub mod AnswerInterest
+pub mod AnswerPieces
+pub mod AnswerCauses
+pub mod AnswerPlaces
+pub mod AnswerDue
+pub mod AnswerBlocks
+pub mod AnswerMarks
+pub mod AnswerShut
+pub mod AnswerAsks
+-- worked examples
+pub mod ExamplePeer
+pub mod ExampleOneBlock
+pub mod ExampleThreeTree
+pub mod ExampleThreeEngine
+pub mod ExampleThreeBlocks
+pub mod ExampleWaiting
+pub mod ExampleServing

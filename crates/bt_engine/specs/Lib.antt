@@ -28,3 +28,11 @@ pub mod Shape
 pub mod Determined
 pub mod Sound
 pub mod Headline
+pub mod AnswerLaw
+pub mod AnswerDue
+-- worked examples
+pub mod ExamplePeer
+pub mod ExampleOneBlock
+pub mod ExampleThreeBlocks
+pub mod ExampleWaiting
+pub mod ExampleServing

@@ -3,13 +3,27 @@
 #![tactic(auto)]
 
 mod answer;
+mod answer_due;
+mod answer_law;
 mod error;
 mod event;
+mod example;
 mod law;
 
 pub use answer::{Frame, Note, Why};
+pub use answer_due::{
+    next_answers_hash_request, next_asks_for_all, next_closes_for_cause, next_marks_right_block,
+    next_notes_marked_blocks, next_serves_marked_range, waiting_is_not_complete,
+};
+pub use answer_law::{
+    next_notes_complete_files, step_announces_whole_pieces, step_closes_for_cause,
+    step_requests_missing, step_tells_changed_interest,
+};
 pub use error::{AdoptError, ConnectError, EngineError, FlushError};
 pub use event::Event;
+pub use example::{
+    fetch_of_abc_is_run, fetch_of_three_is_run, serving_is_run, waiting_fetch_is_run,
+};
 pub use law::{
     complete_files_are_published, complete_files_stand, complete_has_root, right_is_checked,
     rooted_is_checked, run_keeps_rooted, run_keeps_sound, run_marks_by_bytes, run_sends_read_bytes,

@@ -1,0 +1,326 @@
+-- The parts of what is sent, and what a wire event leaves of the engine and its peer.
+use Rattle.std.proofs.Common.{◌≡◌, ℕ, zero, suc, inl, inr, Bool, true, false, List, [], ◌∷◌, ◌++◌, map, Some, Result, Ok, Err, refl, sym, ap, ◌∙◌, subst}
+use Rattle.std.specs.Prelude.{slice_get, slice_set, Contains, nat_lt, if◌then◌else◌}
+use Rattle.std.proofs.lemmas.List.Elements.{Contains-append_cases}
+use Rattle.bt_sparse.specs.SparseTree.{Facts}
+use Rattle.bt_hashreq.specs.declared.key.HashKey.{HashKey}
+use Rattle.bt_store.specs.BlockReads.{BlockRead, given, failed, is_right, fault_count}
+use Rattle.bt_store.specs.Arrival.{states_after_put}
+use Rattle.bt_store.specs.declared.error.StoreError.{StoreError}
+use Rattle.bt_store.specs.declared.error.StoreError.TheVariants.{Range, Device as DeviceFault}
+use Rattle.bt_store.specs.declared.arrival.Put.{Put}
+use Rattle.bt_store.specs.declared.arrival.Put.TheVariants.{Already, Wrong, Marked as PutMarked, Waiting as PutWaiting}
+use Rattle.bt_book.specs.declared.names.BlockId.{BlockId}
+use Rattle.bt_wire.specs.declared.handshake.Handshake.{Handshake}
+use Rattle.bt_wire.specs.declared.message.Ask.{Ask}
+use Rattle.bt_wire.specs.declared.message.Message.{Message as PeerMessage}
+use Rattle.bt_wire.specs.declared.message.Message.TheVariants.{KeepAlive, Choke, Unchoke, Interested, NotInterested, Have, Bitfield, Request, Piece, Cancel, HashRequest, Hashes, HashReject}
+use Rattle.bt_wire.specs.declared.event.WireEvent.{WireEvent}
+use Rattle.bt_wire.specs.declared.event.WireEvent.TheVariants.{Hello, Message, Skipped}
+use Rattle.bt_engine.specs.declared.answer.Frame.{Frame}
+use Rattle.bt_engine.specs.declared.answer.Frame.TheVariants.{Hello as hello_frame, Message as message_frame}
+use Rattle.bt_engine.specs.declared.answer.Note.{Note}
+use Rattle.bt_engine.specs.declared.answer.Note.TheVariants.{Device, Complete}
+use Rattle.bt_engine.specs.declared.answer.Why.{Why}
+use Rattle.bt_engine.specs.State.{PeerState, FileState, EngineState}
+use Rattle.bt_engine.specs.Devices.{DeviceCalls}
+use Rattle.bt_engine.specs.Blocks.{with_file, with_peer, with_tree, file_numbers}
+use Rattle.bt_engine.specs.Output.{Sent, Effect, sent_to, haves, no_effect, noting, closing, sending}
+use Rattle.bt_engine.specs.Request.{FindsFault, damaged, fault, HandlesRequest, ignored, no_place, not_marked, served, stopped}
+use Rattle.bt_engine.specs.Arrival.{HasPutEffect, Arrives, HandlesPiece, stale, arrives}
+use Rattle.bt_engine.specs.Settling.{settling_notes, read_note}
+use Rattle.bt_engine.specs.HashMessages.{HandlesHashRequest, answered, rejected, HandlesHashes, unknown_root, no_claim, refused, learns, new_proofs}
+use Rattle.bt_engine.specs.WireEvents.{HandlesHello, ours, other, HandlesHave, in_range, out_of_range, HandlesBitfield, right, wrong, HandlesMessage, Handles}
+use Rattle.bt_engine.specs.FollowUp.{interest_sent, RequestsHashes, requests, rests, RequestsEach}
+use Rattle.bt_engine.proofs.Lists.{contains_none, contains_cases, contains_map, contains_flat_map}
+
+-- ---- parts of what is sent
+
+-- what sends a frame
+pub data Part : Type 0 where
+  greets : Part
+  replies : Part
+  announces : Part
+  interests : Part
+  chokes : Part
+  hashes : Part
+  asks : Part
+
+abbrev pub part_of_message : PeerMessage → Part
+part_of_message (Piece piece begin bytes) = replies
+part_of_message (Hashes key digests) = replies
+part_of_message (HashReject key) = replies
+part_of_message (Have piece) = announces
+part_of_message Interested = interests
+part_of_message NotInterested = interests
+part_of_message Choke = chokes
+part_of_message Unchoke = chokes
+part_of_message (HashRequest key) = hashes
+part_of_message (Request ask) = asks
+part_of_message _ = greets
+
+abbrev pub part_of : Frame → Part
+part_of (hello_frame h) = greets
+part_of (message_frame m) = part_of_message m
+
+-- all of them are sent by this part
+abbrev pub AllOf : Part → List Sent → Type 0
+AllOf part xs = (x : Sent) → Contains xs x → part_of x.frame ≡ part
+
+pub all_none : (part : Part) → AllOf part []
+all_none part x c = absurd (contains_none x c)
+
+pub all_one : (part : Part) (x : Sent) (xs : List Sent) → part_of x.frame ≡ part → AllOf part xs → AllOf part (x ∷ xs)
+all_one part x xs e rest y c = elim (contains_cases x y xs c) [ inl same ↦ ap (λ (s : Sent). part_of s.frame) (sym same) ∙ e | inr more ↦ rest y more ]
+
+pub all_is : (part : Part) (xs ys : List Sent) → xs ≡ ys → AllOf part ys → AllOf part xs
+all_is part xs ys e f = subst (λ l. AllOf part l) (sym e) f
+
+pub all_haves : (old new : EngineState) → AllOf announces (haves old new)
+all_haves old new x c =
+    let p = contains_flat_map (λ piece. map (λ p. sent_to p (Have piece)) new.peers) _ x c in
+    let q = contains_map (λ q. sent_to q (Have p.0)) new.peers x p.2 in
+    ap (λ (s : Sent). part_of s.frame) (sym q.2)
+
+pub all_interest : (p : PeerState) (was now : Bool) → AllOf interests (interest_sent p was now)
+all_interest p true true = all_none interests
+all_interest p true false = all_one interests _ [] refl (all_none interests)
+all_interest p false true = all_one interests _ [] refl (all_none interests)
+all_interest p false false = all_none interests
+
+pub all_hashes : (dig : List ℕ → List ℕ) (s : EngineState) (p q : PeerState) (sent : List Sent) → RequestsHashes dig s p sent q → AllOf hashes sent
+all_hashes dig s p q sent (requests b k key x y z w e f) = all_is hashes sent _ e (all_one hashes _ [] refl (all_none hashes))
+all_hashes dig s p q sent (rests x e y) = all_is hashes sent [] e (all_none hashes)
+
+pub all_asks : (s : EngineState) (p : PeerState) (blocks : List BlockId) (sent : List Sent) → RequestsEach s p blocks sent → AllOf asks sent
+all_asks s p [] sent r = all_is asks sent [] r (all_none asks)
+all_asks s p (b ∷ blocks) sent r =
+    all_is asks sent (r.0 ∷ r.1) r.4 (all_one asks r.0 r.1 (ap (λ (s : Sent). part_of s.frame) r.2.is) (all_asks s p blocks r.1 r.3))
+
+-- where a frame that follows from an event stands
+pub data IsFollowing (interest hash block : List Sent) (x : Sent) : Type 0 where
+  in_interest : Contains interest x → IsFollowing interest hash block x
+  in_hash : Contains hash x → IsFollowing interest hash block x
+  in_block : Contains block x → IsFollowing interest hash block x
+
+pub following : (interest hash block sent : List Sent) (x : Sent) → sent ≡ interest ++ hash ++ block → Contains sent x → IsFollowing interest hash block x
+following interest hash block sent x e c =
+    elim (Contains-append_cases (interest ++ hash) block x (subst (λ l. Contains l x) e c)) [
+      | inl front ↦ elim (Contains-append_cases interest hash x front) [ inl one ↦ in_interest one | inr two ↦ in_hash two ]
+      | inr three ↦ in_block three
+    ]
+
+-- ---- what a wire event leaves
+
+abbrev pub is_complete_note : Note → Bool
+is_complete_note (Complete file) = true
+is_complete_note _ = false
+
+-- none of them notes a complete file
+abbrev pub NoComplete : List Note → Type 0
+NoComplete notes = (note : Note) → Contains notes note → is_complete_note note ≡ false
+
+none_noted : NoComplete []
+none_noted note c = absurd (contains_none note c)
+
+one_noted : (note : Note) → is_complete_note note ≡ false → NoComplete (note ∷ [])
+one_noted note e noted c = elim (contains_cases note noted [] c) [ inl same ↦ ap is_complete_note (sym same) ∙ e | inr none ↦ absurd (contains_none noted none) ]
+
+-- what is sent, and what is noted
+record IsQuiet (effect : Effect) : Type 0 where
+  replied : AllOf replies effect.send
+  noted : NoComplete effect.notes
+
+-- Only its peer is changed, and that keeps its key and our side's flags. The files change only where it stays.
+pub record Leaves (s : EngineState) (i : ℕ) (p : PeerState) (effect : Effect) (mid : EngineState) : Type 0 where
+  pub peer : PeerState
+  pub same_key : peer.key ≡ p.key
+  pub same_interest : peer.am_interested ≡ p.am_interested
+  pub peers : mid.peers ≡ slice_set s.peers i peer
+  pub torrent : mid.torrent ≡ s.torrent
+  pub replied : AllOf replies effect.send
+  pub noted : NoComplete effect.notes
+  pub closed : (why : Why) → effect.close ≡ Some why → mid.files ≡ s.files
+
+set_self : {X : Type 0} (xs : List X) (i : ℕ) (x : X) → slice_get xs i ≡ Some x → slice_set xs i x ≡ xs
+set_self [] i x e = refl
+set_self (y ∷ xs) zero x e = ap (λ z. z ∷ xs) (some_is x y e)
+  where
+    some_is : {X : Type 0} (x y : X) → Some y ≡ Some x → x ≡ y
+    some_is x y e = cc
+set_self (y ∷ xs) (suc i) x e = ap (λ l. y ∷ l) (set_self xs i x e)
+
+module _ (dig : List ℕ → List ℕ) (s : EngineState) (i : ℕ) (p : PeerState) (at : slice_get s.peers i ≡ Some p) where
+  -- the peer is another
+  sets : (q : PeerState) (e effect : Effect) (mid : EngineState) → q.key ≡ p.key → q.am_interested ≡ p.am_interested → IsQuiet e → effect ≡ e → mid ≡ with_peer s i q → Leaves s i p effect mid
+  sets q e effect mid k f quiet same after = subst (λ x. Leaves s i p x mid) (sym same) (subst (λ x. Leaves s i p e x) (sym after) (record {
+    peer = q;
+    same_key = k;
+    same_interest = f;
+    peers = refl;
+    torrent = refl;
+    replied = quiet.replied;
+    noted = quiet.noted;
+    closed = λ why c. refl;
+  }))
+
+  -- nothing changes
+  stays : (e effect : Effect) (mid : EngineState) → IsQuiet e → effect ≡ e → mid ≡ s → Leaves s i p effect mid
+  stays e effect mid quiet same after = subst (λ x. Leaves s i p x mid) (sym same) (subst (λ x. Leaves s i p e x) (sym after) (record {
+    peer = p;
+    same_key = refl;
+    same_interest = refl;
+    peers = sym (set_self s.peers i p at);
+    torrent = refl;
+    replied = quiet.replied;
+    noted = quiet.noted;
+    closed = λ why c. refl;
+  }))
+
+  -- a file is another, and the peer stays connected
+  changes_file : (file : ℕ) (f : FileState) (e effect : Effect) (mid : EngineState) → IsQuiet e → ((why : Why) → e.close ≡ Some why → ⊥) → effect ≡ e → mid ≡ with_file s file f → Leaves s i p effect mid
+  changes_file file f e effect mid quiet open_still same after = subst (λ x. Leaves s i p x mid) (sym same) (subst (λ x. Leaves s i p e x) (sym after) (record {
+    peer = p;
+    same_key = refl;
+    same_interest = refl;
+    peers = sym (set_self s.peers i p at);
+    torrent = refl;
+    replied = quiet.replied;
+    noted = quiet.noted;
+    closed = λ why c. absurd (open_still why c);
+  }))
+
+  silent : IsQuiet no_effect
+  silent = record { replied = all_none replies; noted = none_noted }
+
+  closes_quietly : (why : Why) → IsQuiet (closing why)
+  closes_quietly why = record { replied = all_none replies; noted = none_noted }
+
+  notes_quietly : (note : Note) → is_complete_note note ≡ false → IsQuiet (noting note)
+  notes_quietly note e = record { replied = all_none replies; noted = one_noted note e }
+
+  replies_quietly : (m : PeerMessage) → part_of_message m ≡ replies → IsQuiet (sending p m)
+  replies_quietly m e = record { replied = all_one replies (sent_to p m) [] e (all_none replies); noted = none_noted }
+
+  have_leaves : (mid : EngineState) (piece : ℕ) (effect : Effect) → HandlesHave s i p piece effect mid → Leaves s i p effect mid
+  have_leaves mid piece effect (in_range x e y) = sets _ no_effect effect mid refl refl silent e y
+  have_leaves mid piece effect (out_of_range x e y) = stays _ effect mid (closes_quietly _) e y
+
+  bits_leaves : (mid : EngineState) (bytes : List ℕ) (effect : Effect) → HandlesBitfield s i p bytes effect mid → Leaves s i p effect mid
+  bits_leaves mid bytes effect (right x e y) = sets _ no_effect effect mid refl refl silent e y
+  bits_leaves mid bytes effect (wrong x e y) = stays _ effect mid (closes_quietly _) e y
+
+  fault_leaves : (k : Facts) (mid : EngineState) (file j : ℕ) (f : FileState) (read : BlockRead) (effect : Effect) → FindsFault dig k s file j f read effect mid → Leaves s i p effect mid
+  fault_leaves k mid file j f read effect (damaged bytes x y e z) = changes_file file _ _ effect mid (notes_quietly _ refl) (λ why c. absurd cc) e z
+  fault_leaves k mid file j f read effect (fault x e y) = stays _ effect mid (notes_quietly _ refl) e y
+
+  request_leaves : (mid : EngineState) (ask : Ask) (calls : DeviceCalls) (effect : Effect) → HandlesRequest dig s i p ask calls effect mid → Leaves s i p effect mid
+  request_leaves mid ask calls effect (ignored a c e d) = stays _ effect mid silent e d
+  request_leaves mid ask calls effect (no_place a c d e f) = stays _ effect mid (closes_quietly _) e f
+  request_leaves mid ask calls effect (not_marked span a c d f e g) = stays _ effect mid silent e g
+  request_leaves mid ask calls effect (served span a place c f) = sets _ _ effect mid refl refl (replies_quietly _ refl) f.sent f.after
+  request_leaves mid ask calls effect (stopped span a c d f) = fault_leaves f.tree mid span.file f.block f.file f.read effect f.finds
+
+  -- a block was put: its file may change, where the peer stays connected
+  put_leaves : (b : BlockId) (file : FileState) (q : PeerState) (r : Result Put StoreError) (states : List _) (effect : Effect) (stored mid : EngineState)
+      → slice_get s.files b.file ≡ Some file → q.key ≡ p.key → q.am_interested ≡ p.am_interested → HasPutEffect b r effect → (r ≡ Ok Wrong → states ≡ file.states)
+      → stored ≡ with_file s b.file (record file { states = states }) → mid ≡ with_peer stored i q → Leaves s i p effect mid
+  put_leaves b file q r states effect stored mid there k f has same is after =
+      subst (λ x. Leaves s i p effect x) (sym (after ∙ ap (λ x. with_peer x i q) is)) (of_effect r has same)
+    where
+      leaves : (e : Effect) → IsQuiet e → ((why : Why) → e.close ≡ Some why → states ≡ file.states) → effect ≡ e → Leaves s i p effect (with_peer (with_file s b.file (record file { states = states })) i q)
+      leaves e quiet kept same_effect = subst (λ x. Leaves s i p x (with_peer (with_file s b.file (record file { states = states })) i q)) (sym same_effect) (record {
+        peer = q;
+        same_key = k;
+        same_interest = f;
+        peers = refl;
+        torrent = refl;
+        replied = quiet.replied;
+        noted = quiet.noted;
+        closed = λ why c. ap (λ l. slice_set s.files b.file (record file { states = l })) (kept why c) ∙ set_self s.files b.file file there;
+      })
+
+      of_effect : (r : Result Put StoreError) → HasPutEffect b r effect → (r ≡ Ok Wrong → states ≡ file.states) → Leaves s i p effect (with_peer (with_file s b.file (record file { states = states })) i q)
+      of_effect (Ok PutMarked) e same = leaves _ (notes_quietly _ refl) (λ why c. absurd cc) e
+      of_effect (Ok PutWaiting) e same = leaves _ (notes_quietly _ refl) (λ why c. absurd cc) e
+      of_effect (Ok Wrong) e same = leaves _ (closes_quietly _) (λ why c. same refl) e
+      of_effect (Ok Already) e same = absurd e
+      of_effect (Err DeviceFault) e same = leaves _ (notes_quietly _ refl) (λ why c. absurd cc) e
+      of_effect (Err Range) e same = absurd e
+
+  arrives_leaves : (mid : EngineState) (piece begin : ℕ) (bytes : List ℕ) (calls : DeviceCalls) (effect : Effect) → Arrives dig s i p piece begin bytes calls effect mid → Leaves s i p effect mid
+  arrives_leaves mid piece begin bytes calls effect a =
+      put_leaves a.block a.puts.file _ a.puts.result (states_after_put a.block.block a.puts.result a.puts.file.states) effect a.stored mid a.puts.is_file.here refl refl a.puts.has_effect
+      (λ e. ap (λ r. states_after_put a.block.block r a.puts.file.states) e) a.puts.after a.after
+
+  piece_leaves : (mid : EngineState) (piece begin : ℕ) (bytes : List ℕ) (calls : DeviceCalls) (effect : Effect) → HandlesPiece dig s i p piece begin bytes calls effect mid → Leaves s i p effect mid
+  piece_leaves mid piece begin bytes calls effect (stale x y e z) = stays _ effect mid (notes_quietly _ refl) e z
+  piece_leaves mid piece begin bytes calls effect (arrives a) = arrives_leaves mid piece begin bytes calls effect a
+
+  read_noted : (k : Facts) (file : ℕ) (read : BlockRead) → is_complete_note (read_note dig k file read) ≡ false
+  read_noted k file (given j bytes) = by (is_right dig k j bytes) refl
+    where
+      by : (b : Bool) → is_right dig k j bytes ≡ b → is_complete_note (read_note dig k file (given j bytes)) ≡ false
+      by true e = rw e refl
+      by false e = rw e refl
+  read_noted k file (failed j) = refl
+
+  settling_noted : (k : Facts) (file : ℕ) (reads : List BlockRead) → NoComplete (settling_notes dig k file reads)
+  settling_noted k file reads note c =
+      elim (Contains-append_cases (map (read_note dig k file) reads) _ note c) [
+        | inl one ↦ let r = contains_map (read_note dig k file) reads note one in ap is_complete_note (sym r.2) ∙ read_noted k file r.0
+        | inr more ↦ by_fault (nat_lt 0 (fault_count reads)) more
+      ]
+    where
+      by_fault : (b : Bool) → Contains (if b then Device file ∷ [] else []) note → is_complete_note note ≡ false
+      by_fault true c = one_noted (Device file) refl note c
+      by_fault false c = absurd (contains_none note c)
+
+  hashes_leaves : (mid : EngineState) (key : HashKey) (digests : List ℕ) (calls : DeviceCalls) (effect : Effect) → HandlesHashes dig s i p key digests calls effect mid → Leaves s i p effect mid
+  hashes_leaves mid key digests calls effect (unknown_root x y e z) = stays _ effect mid (closes_quietly _) e z
+  hashes_leaves mid key digests calls effect (no_claim f x y c) = stays _ effect mid (closes_quietly _) c.has_effect c.after
+  hashes_leaves mid key digests calls effect (refused f t k c x y z g) = stays _ effect mid (closes_quietly _) g.has_effect g.after
+  hashes_leaves mid key digests calls effect (learns l) =
+      let like : Effect = record no_effect { notes = l.notes; proofs = new_proofs key digests l.old l.new } in
+      let noted : NoComplete l.notes = λ note c.
+      let r = contains_flat_map (λ file. settling_notes dig l.settles.facts file (l.settles.reads file)) (file_numbers (with_tree s l.tree l.new)) note (subst (λ x. Contains x note) l.settles.noted c) in
+      settling_noted l.settles.facts r.0 (l.settles.reads r.0) note r.2 in
+      let settled : l.settled ≡ record (with_tree s l.tree l.new) { files = l.settled.files } = l.settles.others in
+      subst (λ x. Leaves s i p x mid) (sym l.has_effect) (subst (λ x. Leaves s i p like x) (sym (l.after ∙ ap (λ x. with_peer x i (record p { hash = l.hash })) settled)) (record {
+        peer = record p { hash = l.hash };
+        same_key = refl;
+        same_interest = refl;
+        peers = refl;
+        torrent = refl;
+        replied = all_none replies;
+        noted = noted;
+        closed = λ why c. absurd cc;
+      }))
+
+  answer_leaves : (mid : EngineState) (key : HashKey) (effect : Effect) → HandlesHashRequest dig s p key effect → mid ≡ s → Leaves s i p effect mid
+  answer_leaves mid key effect (answered digests x e) after = stays _ effect mid (replies_quietly _ refl) e after
+  answer_leaves mid key effect (rejected x e) after = stays _ effect mid (replies_quietly _ refl) e after
+
+  message_leaves : (mid : EngineState) (m : PeerMessage) (calls : DeviceCalls) (effect : Effect) → HandlesMessage dig s i p m calls effect mid → Leaves s i p effect mid
+  message_leaves mid KeepAlive calls effect h = stays _ effect mid silent h.1 h.2
+  message_leaves mid Choke calls effect h = sets _ _ effect mid refl refl silent h.1 h.2
+  message_leaves mid Unchoke calls effect h = sets _ _ effect mid refl refl silent h.1 h.2
+  message_leaves mid Interested calls effect h = sets _ _ effect mid refl refl silent h.1 h.2
+  message_leaves mid NotInterested calls effect h = sets _ _ effect mid refl refl silent h.1 h.2
+  message_leaves mid (Have piece) calls effect h = have_leaves mid piece effect h.1
+  message_leaves mid (Bitfield bytes) calls effect h = bits_leaves mid bytes effect h.1
+  message_leaves mid (Request ask) calls effect h = request_leaves mid ask calls effect h
+  message_leaves mid (Piece piece begin bytes) calls effect h = piece_leaves mid piece begin bytes calls effect h
+  message_leaves mid (Cancel ask) calls effect h = stays _ effect mid silent h.1 h.2
+  message_leaves mid (HashRequest key) calls effect h = answer_leaves mid key effect h.1 h.2
+  message_leaves mid (Hashes key digests) calls effect h = hashes_leaves mid key digests calls effect h
+  message_leaves mid (HashReject key) calls effect h = sets _ _ effect mid refl refl silent h.1 h.2.after
+
+  hello_leaves : (mid : EngineState) (h : Handshake) (effect : Effect) → HandlesHello s h effect → mid ≡ s → Leaves s i p effect mid
+  hello_leaves mid h effect (ours x e) after = stays _ effect mid silent e after
+  hello_leaves mid h effect (other x e) after = stays _ effect mid (closes_quietly _) e after
+
+  pub event_leaves : (mid : EngineState) (e : WireEvent) (calls : DeviceCalls) (effect : Effect) → Handles dig s i p e calls effect mid → Leaves s i p effect mid
+  event_leaves mid (Hello h) calls effect t = hello_leaves mid h effect t.1 t.2
+  event_leaves mid (Message m) calls effect t = message_leaves mid m calls effect t
+  event_leaves mid (Skipped kind) calls effect t = stays _ effect mid silent t.1 t.2

@@ -1,0 +1,218 @@
+-- A peer that sent what it is to be closed for is closed.
+use Rattle.std.proofs.Common.{◌≡◌, ◌≢◌, ℕ, zero, suc, ◌+◌, ◌*◌, ◌<◌, ◌⊎◌, inl, inr, true, false, List, [], ◌∷◌, length, Some, None, Result, Ok, Err, refl, sym, ap, ◌∙◌, subst, arith}
+use Rattle.std.specs.Prelude.{slice_get, slice_index_or, Contains}
+use Rattle.std.specs.Option.{option_and_then}
+use Rattle.std.specs.List.{AllPairs}
+use Rattle.std.proofs.lemmas.Bool.{cases_lt}
+use Rattle.bt_tree.specs.Tree.{padding_digest}
+use Rattle.bt_meta.specs.Torrent.{IsLawful}
+use Rattle.bt_sparse.specs.SparseTree.{Facts, blocks_of, value_at}
+use Rattle.bt_sparse.specs.Claim.{Claims}
+use Rattle.bt_sparse.specs.Acceptance.{IsAcceptable, IsRefused, shape, padding, no_anchor, top_differs, clash, no_memory as refused_memory, DiffersBelow}
+use Rattle.bt_sparse.specs.declared.claim.Claim.{Claim}
+use Rattle.bt_sparse.specs.declared.claim.ProofError.{ProofError}
+use Rattle.bt_sparse.specs.declared.claim.ProofError.TheVariants.{OutOfMemory}
+use Rattle.bt_sparse.proofs.Values.{value_covers, value_padding, value_inside, cases_node}
+use Rattle.bt_hashreq.specs.Claim.{IsClaimBy, IsNoClaim, shape as no_shape, count as no_count, no_memory as claim_memory}
+use Rattle.bt_hashreq.specs.declared.key.HashKey.{HashKey}
+use Rattle.bt_store.specs.Arrival.{PutIsDue, IsWrong}
+use Rattle.bt_store.specs.declared.error.StoreError.{StoreError}
+use Rattle.bt_store.specs.declared.error.StoreError.TheVariants.{Range, Device as DeviceFault}
+use Rattle.bt_store.specs.declared.arrival.Put.{Put}
+use Rattle.bt_store.specs.declared.arrival.Put.TheVariants.{Already, Wrong, Marked as PutMarked, Waiting as PutWaiting}
+use Rattle.bt_book.specs.declared.names.PeerKey.{PeerKey}
+use Rattle.bt_book.specs.declared.names.BlockId.{BlockId}
+use Rattle.bt_wire.specs.Cutter.{Stream, Takes, Waits}
+use Rattle.bt_wire.specs.declared.event.WireEvent.{WireEvent}
+use Rattle.bt_wire.specs.declared.event.WireEvent.TheVariants.{Hello, Message}
+use Rattle.bt_wire.specs.declared.message.Message.TheVariants.{Have, Bitfield, Request, Piece, Hashes}
+use Rattle.bt_wire.proofs.Faults.{fault_alone}
+use Rattle.bt_engine.specs.declared.answer.Why.{Why}
+use Rattle.bt_engine.specs.declared.answer.Why.TheVariants.{Wire, WrongBlock}
+use Rattle.bt_engine.specs.declared.event.Event.TheVariants.{Next}
+use Rattle.bt_engine.specs.State.{PeerState, FileState, EngineState}
+use Rattle.bt_engine.specs.Devices.{DeviceCalls}
+use Rattle.bt_engine.specs.Blocks.{tree_of, with_peer}
+use Rattle.bt_engine.specs.Spans.{IsWholeBlock}
+use Rattle.bt_engine.specs.Output.{Output, Effect, closing}
+use Rattle.bt_engine.specs.Request.{HandlesRequest, ignored, no_place, not_marked, served, stopped}
+use Rattle.bt_engine.specs.Arrival.{HasPutEffect, HandlesPiece, stale, arrives}
+use Rattle.bt_engine.specs.HashMessages.{IsTreeOf, HandlesHashes, unknown_root, no_claim, refused, learns}
+use Rattle.bt_engine.specs.WireEvents.{HandlesHello, ours, other, HandlesHave, in_range, out_of_range, HandlesBitfield, right, wrong, Handles}
+use Rattle.bt_engine.specs.Next.{IsPeer, StepNext, no_peer, waits, goes_on, closes, faulty, no_memory}
+use Rattle.bt_engine.specs.Step.{Answer, of_next, Step}
+use Rattle.bt_engine.specs.AnswerLaw.{output_of, Closes, IsCause, wire, other_torrent, past_last_piece, other_length, no_place as has_no_place, wrong_block, unknown_root as of_unknown_root, no_claim as makes_no_claim, refused as is_refused}
+use Rattle.bt_engine.specs.AnswerDue.{IsOnlyPeer, IsOutOfMemory, NextClosesForCause}
+use Rattle.bt_engine.proofs.Lists.{same_some, some_below}
+use Rattle.bt_engine.proofs.AnswerPlaces.{same_block}
+use Rattle.bt_engine.proofs.AnswerDue.{Taken, no_room, goes, shuts, step_taken}
+
+-- ---- claims that are refused are not accepted
+
+-- what is known of a node is what an acceptable claim says of it
+value_claimed : (dig : List ℕ → List ℕ) (k : Facts) (c : Claim) → IsAcceptable dig k c → (layer i : ℕ) (x y : List ℕ) → value_at dig k layer i ≡ Some x → Claims dig c layer i y → x ≡ y
+value_claimed dig k c a layer i x y e claim = elim (cases_node (blocks_of k) layer i (value_inside dig k layer i x e)) [
+  | inl covers ↦ a.agrees layer i y x claim (sym (value_covers dig k layer i covers) ∙ e)
+  | inr past ↦ same_some (value_at dig k layer i) x (padding_digest dig layer) e (value_padding dig k layer i past) ∙ sym (a.padding layer i y claim past)
+]
+
+no_difference : (dig : List ℕ → List ℕ) (k : Facts) (c : Claim) (layer i : ℕ) (o t : List ℕ) → IsAcceptable dig k c → DiffersBelow dig k c layer i o t → ⊥
+no_difference dig k c layer i o t a d = elim d.differ [
+  | inl low ↦ low (value_claimed dig k c a d.below (2 * i) d.our_left d.their_left d.knows_left d.claims_left)
+  | inr high ↦ high (value_claimed dig k c a d.below (2 * i + 1) d.our_right d.their_right d.knows_right d.claims_right)
+]
+
+not_refused : (dig : List ℕ → List ℕ) (k : Facts) (c : Claim) (fault : ProofError) → IsAcceptable dig k c → IsRefused dig k c fault → fault ≢ OutOfMemory → ⊥
+not_refused dig k c fault a (shape x) not = x a.shape
+not_refused dig k c fault a (padding x y) not = y a.padding
+not_refused dig k c fault a (no_anchor x y z) not = let wrong = sym z ∙ a.top in absurd cc
+not_refused dig k c fault a (top_differs d x y z w) not = w (same_some _ d _ z a.top)
+not_refused dig k c fault a (clash layer i o t x y z w) not = no_difference dig k c layer i o t a w.differs
+not_refused dig k c fault a (refused_memory x) not = not refl
+
+-- a claim and none
+not_no_claim : (key : HashKey) (digests : List ℕ) (claim : Claim) (fault : ProofError) → IsClaimBy key digests claim → IsNoClaim key digests fault → fault ≢ OutOfMemory → ⊥
+not_no_claim key digests claim fault c (no_shape x) not = x c.shape
+not_no_claim key digests claim fault c (no_count x y) not = y c.size
+not_no_claim key digests claim fault c (claim_memory x y) not = not refl
+
+-- ---- one tree for each root
+
+get_index : {X : Type 0} (xs : List X) (i : ℕ) (x d : X) → slice_get xs i ≡ Some x → slice_index_or xs i d ≡ x
+get_index [] zero x d e = absurd cc
+get_index [] (suc i) x d e = absurd cc
+get_index (y ∷ xs) zero x d e = same_some (Some y) y x refl e
+get_index (y ∷ xs) (suc i) x d e = get_index xs i x d e
+
+module _ (s : EngineState) (apart : AllPairs (λ (j k : Facts). j.root ≢ k.root) s.trees) (root : List ℕ) where
+  not_both : (i j : ℕ) (k l : Facts) → IsTreeOf s root i k → IsTreeOf s root j l → i < j → ⊥
+  not_both i j k l x y lt = apart i j k lt (some_below s.trees j l y.here)
+      (ap (λ (f : Facts). f.root) (get_index s.trees i k k x.here) ∙ x.same_root ∙ sym y.same_root ∙ ap (λ (f : Facts). f.root) (sym (get_index s.trees j l k y.here)))
+
+  one_tree : (i j : ℕ) (k l : Facts) → IsTreeOf s root i k → IsTreeOf s root j l → k ≡ l
+  one_tree i j k l x y = elim (cases_lt i j) [
+    | inl before ↦ absurd (not_both i j k l x y before)
+    | inr from ↦ elim (cases_lt j i) [
+      | inl after ↦ absurd (not_both j i l k y x after)
+      | inr to ↦ same_some (slice_get s.trees i) k l x.here (ap (slice_get s.trees) (omega (arith, from, to)) ∙ y.here)
+    ]
+  ]
+
+-- ---- an event that is a cause closes
+
+pub data Shuts (effect : Effect) : Type 0 where
+  shuts_for : (why : Why) → effect.close ≡ Some why → Shuts effect
+
+by_effect : (effect : Effect) (why : Why) → effect ≡ closing why → Shuts effect
+by_effect effect why e = shuts_for why (ap (λ (x : Effect). x.close) e)
+
+module _ (dig : List ℕ → List ℕ) (s : EngineState) (i : ℕ) (p : PeerState) (rest : Stream) (calls : DeviceCalls) where
+  abbrev q : PeerState
+  q = record p { stream = rest }
+
+  abbrev t : EngineState
+  t = with_peer s i q
+
+  put_shuts : (k : Facts) (b : BlockId) (bytes : List ℕ) (states : _) (effect : Effect) (r : Result Put StoreError) → IsWrong dig (value_at dig k 0 b.block) bytes → PutIsDue dig k b.block bytes states r → HasPutEffect b r effect → Shuts effect
+  put_shuts k b bytes states effect (Ok PutMarked) w due e = absurd (w.2 (same_some (value_at dig k 0 b.block) w.0 (dig bytes) w.1 due.2))
+  put_shuts k b bytes states effect (Ok PutWaiting) w due e = let no : None ≡ Some w.0 = sym due.2 ∙ w.1 in absurd cc
+  put_shuts k b bytes states effect (Ok Wrong) w due e = by_effect effect WrongBlock e
+  put_shuts k b bytes states effect (Ok Already) w due e = absurd e
+  put_shuts k b bytes states effect (Err DeviceFault) w due e = absurd (w.2 (due.2 w.0 w.1))
+  put_shuts k b bytes states effect (Err Range) w due e = absurd e
+
+  piece_shuts : (piece begin : ℕ) (bytes : List ℕ) (b : BlockId) (tree : Facts) (effect : Effect) (mid : EngineState) → IsLawful s.torrent.piece_length s.torrent.files → IsWholeBlock s.torrent piece begin (length bytes) b
+      → Contains p.asked b → tree_of s b.file ≡ Some tree → IsWrong dig (value_at dig tree 0 b.block) bytes → HandlesPiece dig t i q piece begin bytes calls effect mid → Shuts effect
+  piece_shuts piece begin bytes b tree effect mid lawful whole asked hung w (stale none x y z) = absurd (none b whole asked)
+  piece_shuts piece begin bytes b tree effect mid lawful whole asked hung w (arrives r) =
+      let same = same_block s.torrent lawful.laid_out piece begin (length bytes) r.block b r.whole whole in
+      let there : tree_of s r.block.file ≡ Some r.puts.tree = ap (option_and_then (λ (f : FileState). slice_get s.trees f.tree)) r.puts.is_file.here ∙ r.puts.is_file.hung in
+      let one : tree ≡ r.puts.tree = same_some (tree_of s r.block.file) tree r.puts.tree (ap (λ (c : BlockId). tree_of s c.file) same ∙ hung) there in
+      put_shuts r.puts.tree r.block bytes r.puts.file.states effect r.puts.result
+      (subst (λ (c : BlockId). IsWrong dig (value_at dig r.puts.tree 0 c.block) bytes) (sym same) (subst (λ k. IsWrong dig (value_at dig k 0 b.block) bytes) one w)) r.puts.due r.puts.has_effect
+
+  here_too : (root : List ℕ) (tree : ℕ) (k : Facts) → IsTreeOf t root tree k → IsTreeOf s root tree k
+  here_too root tree k x = record { here = x.here; same_root = x.same_root }
+
+  hashes_shut : (key : HashKey) (digests : List ℕ) (effect : Effect) (mid : EngineState) → ((tree : ℕ) (old : Facts) (claim : Claim) → IsTreeOf s key.root tree old → IsClaimBy key digests claim → IsAcceptable dig old claim → ⊥)
+      → HandlesHashes dig t i q key digests calls effect mid → Shuts effect
+  hashes_shut key digests effect mid never (unknown_root x y e z) = by_effect effect _ e
+  hashes_shut key digests effect mid never (no_claim f x y c) = by_effect effect _ c.has_effect
+  hashes_shut key digests effect mid never (refused f tree k c x y z g) = by_effect effect _ g.has_effect
+  hashes_shut key digests effect mid never (learns l) = absurd (never l.tree l.old l.claim (here_too key.root l.tree l.old l.here) l.claims l.accepts.conditions)
+
+  same_claim : (key : HashKey) (digests : List ℕ) (c d : Claim) → IsClaimBy key digests c → IsClaimBy key digests d → c ≡ d
+  same_claim key digests c d x y = x.claim_is ∙ sym y.claim_is
+
+module _ (dig : List ℕ → List ℕ) (s new : EngineState) (key : PeerKey) (i : ℕ) (p : PeerState) (calls : DeviceCalls) (a : Answer) (one : IsOnlyPeer s key i p) (step : Step dig s (Next key) calls a new) where
+  abbrev IsShut : Type 0
+  IsShut = IsOutOfMemory a ⊎ ((cause : Why) × Closes a cause)
+
+  -- where each way to handle the event closes, the answer does
+  shut_by : (e : WireEvent) (rest : Stream) → Takes p.stream e rest → ((effect : Effect) (mid : EngineState) → Handles dig (with_peer s i (record p { stream = rest })) i (record p { stream = rest }) e calls effect mid → Shuts effect) → IsShut
+  shut_by e rest takes shut = by (step_taken dig s new key i p calls e rest one takes a step)
+    where
+      stays_open : {X : Type 0} (effect : Effect) → Shuts effect → effect.close ≡ None → X
+      stays_open effect (shuts_for why e) none = let wrong : None ≡ Some why = sym none ∙ e in absurd cc
+
+      by : Taken dig s i p e rest calls a new → IsShut
+      by (no_room x) = inl x
+      by (goes out g h is) = stays_open g.effect (shut g.effect g.mid h) g.stays
+      by (shuts out g h is) = inr (g.why, (out, ap output_of is, ap (λ (o : Output). o.close) g.is))
+
+  shut_for : (why : Why) → IsLawful s.torrent.piece_length s.torrent.files → AllPairs (λ (j k : Facts). j.root ≢ k.root) s.trees → IsCause dig s p why → IsShut
+  shut_for why lawful apart (wire fault failed f) = by_fault step.0 step.1 step.2
+    where
+      at : (j : ℕ) (q : PeerState) → IsPeer s key j q → q ≡ p
+      at j q is = same_some (slice_get s.peers i) q p (ap (slice_get s.peers) (sym (one.only j q is)) ∙ is.here) one.is_peer.here
+
+      no_event : {X : Type 0} (e : WireEvent) (rest : Stream) (q : PeerState) → q ≡ p → Takes q.stream e rest → X
+      no_event e rest q same takes =
+          let took = subst (λ (x : PeerState). Takes x.stream e rest) same takes in
+          absurd (fault_alone p.stream.greeted p.stream.unread fault f.shown e took.bytes rest.unread took.event took.front)
+
+      by_fault : (r : _) → a ≡ of_next r → StepNext dig s key calls r new → IsShut
+      by_fault r is (no_peer none x y z) = absurd (none i p one.is_peer)
+      by_fault r is (waits j q x w y z v) = absurd ((subst (λ (n : PeerState). Waits n.stream) (at j q x) w).no_fault fault f.shown)
+      by_fault r is (goes_on j q out x g e) = no_event g.takes.event g.takes.rest q (at j q x) g.takes.takes
+      by_fault r is (closes j q out x g e) = no_event g.takes.event g.takes.rest q (at j q x) g.takes.takes
+      by_fault r is (faulty j q out x g e) = inr (Wire g.fault, (out, ap output_of (is ∙ ap (λ x. of_next x) e), ap (λ (o : Output). o.close) g.is))
+      by_fault r is (no_memory j q x g e) = no_event g.event g.rest q (at j q x) g.takes
+  shut_for why lawful apart (other_torrent h rest takes differs) = shut_by (Hello h) rest takes hello
+    where
+      hello : (effect : Effect) (mid : EngineState) → Handles dig (with_peer s i (record p { stream = rest })) i (record p { stream = rest }) (Hello h) calls effect mid → Shuts effect
+      hello effect mid x = by x.1
+        where
+          by : HandlesHello (with_peer s i (record p { stream = rest })) h effect → Shuts effect
+          by (ours same e) = absurd (differs same)
+          by (other differs_too e) = by_effect effect _ e
+  shut_for why lawful apart (past_last_piece piece rest takes past) = shut_by (Message (Have piece)) rest takes (λ effect mid x. have effect mid x.1)
+    where
+      have : (effect : Effect) (mid : EngineState) → HandlesHave (with_peer s i (record p { stream = rest })) i (record p { stream = rest }) piece effect mid → Shuts effect
+      have effect mid (in_range below e y) = absurd (omega (arith, below, past))
+      have effect mid (out_of_range x e y) = by_effect effect _ e
+  shut_for why lawful apart (other_length bytes rest takes differs) = shut_by (Message (Bitfield bytes)) rest takes (λ effect mid x. bits effect mid x.1)
+    where
+      bits : (effect : Effect) (mid : EngineState) → HandlesBitfield (with_peer s i (record p { stream = rest })) i (record p { stream = rest }) bytes effect mid → Shuts effect
+      bits effect mid (right same e y) = absurd (differs same)
+      bits effect mid (wrong x e y) = by_effect effect _ e
+  shut_for why lawful apart (has_no_place ask rest takes open_to none) = shut_by (Message (Request ask)) rest takes request
+    where
+      request : (effect : Effect) (mid : EngineState) → HandlesRequest dig (with_peer s i (record p { stream = rest })) i (record p { stream = rest }) ask calls effect mid → Shuts effect
+      request effect mid (ignored choked x y z) = let no : true ≡ false = sym choked ∙ open_to in absurd cc
+      request effect mid (no_place x y z e w) = by_effect effect _ e
+      request effect mid (not_marked span x there y z w v) = absurd (none span there)
+      request effect mid (served span x there y z) = absurd (none span there)
+      request effect mid (stopped span x there y z) = absurd (none span there)
+  shut_for why lawful apart (wrong_block piece begin bytes rest b tree takes whole asked hung w) =
+      shut_by (Message (Piece piece begin bytes)) rest takes (λ effect mid x. piece_shuts dig s i p rest calls piece begin bytes b tree effect mid lawful whole asked hung w x)
+  shut_for why lawful apart (of_unknown_root k digests rest takes unknown) =
+      shut_by (Message (Hashes k digests)) rest takes (λ effect mid x. hashes_shut dig s i p rest calls k digests effect mid (λ tree old claim is c acc. unknown tree old is) x)
+  shut_for why lawful apart (makes_no_claim k digests rest fault takes known none not) =
+      shut_by (Message (Hashes k digests)) rest takes (λ effect mid x. hashes_shut dig s i p rest calls k digests effect mid (λ tree old claim is c acc. not_no_claim k digests claim fault c none not) x)
+  shut_for why lawful apart (is_refused k digests rest fault tree facts claim takes is c ref not) =
+      shut_by (Message (Hashes k digests)) rest takes (λ effect mid x. hashes_shut dig s i p rest calls k digests effect mid (λ tree2 old claim2 is2 c2 acc.
+      not_refused dig facts claim fault (subst (λ f. IsAcceptable dig f claim) (one_tree s apart k.root tree2 tree old facts is2 is) (subst (λ d. IsAcceptable dig old d) (same_claim dig s i p rest calls k digests claim2 claim c2 c) acc)) ref not) x)
+
+pub next_closes : (dig : List ℕ → List ℕ) → NextClosesForCause dig
+next_closes dig s new key i p calls a why lawful apart one cause step = shut_for dig s new key i p calls a one step why lawful apart cause

@@ -1,0 +1,404 @@
+-- The engine that fetches three blocks, and what the messages before the pieces lead to.
+use Rattle.std.proofs.Common.{◌≡◌, ℕ, zero, suc, ◌+◌, ◌%◌, ◌<◌, ◌≤◌, inl, inr, ◌↔◌, true, false, List, [], ◌∷◌, ◌++◌, length, Some, None, Ok, refl, sym, ap, ◌∙◌, subst, arith, rules}
+use Rattle.std.specs.Prelude.{slice_get, slice_index_or, Contains}
+use Rattle.std.specs.Option.{option_and_then}
+use Rattle.std.specs.Int.{w32, to_be_bytes}
+use Rattle.std.proofs.lemmas.List.{append-nil, length-append}
+use Rattle.bt_tree.specs.NodeHash.{IsDigest}
+use Rattle.bt_meta.specs.Files.{File}
+use Rattle.bt_sparse.specs.SparseTree.{Facts, value_at}
+use Rattle.bt_hashreq.specs.Key.{IsKey, key_spelling}
+use Rattle.bt_store.specs.FileStore.{new_states}
+use Rattle.bt_store.specs.declared.block_states.BlockState.{BlockState}
+use Rattle.bt_store.specs.declared.block_states.BlockState.TheVariants.{Missing, Waiting, Marked}
+use Rattle.bt_book.specs.declared.names.BlockId.{BlockId}
+use Rattle.bt_wire.specs.Cutter.{Stream, stream, fed}
+use Rattle.bt_wire.specs.Handshake.{handshake_spelling}
+use Rattle.bt_wire.specs.Message.{Fits}
+use Rattle.bt_wire.specs.declared.event.WireEvent.TheVariants.{Hello, Message as message_event}
+use Rattle.bt_wire.specs.declared.message.Message.TheVariants.{Interested, Unchoke, Bitfield, HashRequest}
+use Rattle.bt_engine.specs.declared.answer.Note.{Note}
+use Rattle.bt_engine.specs.State.{HashState, Idle, Asked, PeerState, FileState, EngineState}
+use Rattle.bt_engine.specs.Blocks.{block_id, state_at, tree_of, Has, IsAsked}
+use Rattle.bt_engine.specs.Spans.{IsWholeBlock}
+use Rattle.bt_engine.specs.Output.{Sent, Output, no_effect}
+use Rattle.bt_engine.specs.WireEvents.{ours, right}
+use Rattle.bt_engine.specs.FollowUp.{IsInteresting, NeedsLeaf, IsLeastNeed, IsOpen, FollowsUp, requests, rests, interest_sent}
+use Rattle.bt_engine.specs.Next.{StepNext, goes_on}
+use Rattle.bt_engine.specs.Peers.{StepConnect, joins, greeting, StepFeed, feeds}
+use Rattle.bt_engine.specs.Start.{Starts, by_root}
+use Rattle.bt_engine.specs.ExamplePeer.{first_key, peer_with, all_taken, their_handshake, bitfield_bytes, unchoke_bytes, to_first}
+use Rattle.bt_engine.specs.ExampleThreeBlocks.{ThreeBlocks, left_node, right_node, three_root, three_file, three_torrent, three_engine, leaves_key, four_leaves, leaves_message, block_request}
+use Rattle.bt_engine.proofs.Lists.{contains_none, contains_cases, here, and_then_some}
+use Rattle.bt_engine.proofs.ExamplePeer.{some_is, one_there, taken_bits, taken_unchoke, taken_hello}
+use Rattle.bt_engine.proofs.ExampleThreeTree.{at_first, proved, first_unknown, first_known, second_known, third_known, plan, leaves_length}
+
+abbrev pub block : ℕ → BlockId
+block i = block_id 0 i
+
+abbrev pub all_three : List BlockId
+all_three = block 0 ∷ block 1 ∷ block 2 ∷ []
+
+-- the peer does not choke us, and we are interested in it
+abbrev pub asked_peer : HashState → List BlockId → ℕ → PeerState
+asked_peer hash asked payload = peer_with all_taken true false true hash asked payload
+
+abbrev pub output_of : List Sent → List Note → Output
+output_of send notes = record { send = send; close = None; notes = notes }
+
+abbrev pub three_asks : List Sent
+three_asks = to_first (block_request 0) ∷ to_first (block_request 16384) ∷ to_first (block_request 32768) ∷ []
+
+-- the block is one of three, and has this state
+pub data IsOne (x y z : BlockState) (c : BlockId) (state : BlockState) : Type 0 where
+  first : c ≡ block 0 → x ≡ state → IsOne x y z c state
+  second : c ≡ block 1 → y ≡ state → IsOne x y z c state
+  third : c ≡ block 2 → z ≡ state → IsOne x y z c state
+
+pub one_of : (x y z state : BlockState) (file i : ℕ) → option_and_then (λ (f : FileState). slice_get f.states i) (slice_get ((record { tree = 0; states = x ∷ y ∷ z ∷ [] }) ∷ []) file) ≡ Some state → IsOne x y z (block_id file i) state
+one_of x y z state zero zero e = first refl (some_is x state e)
+one_of x y z state zero (suc zero) e = second refl (some_is y state e)
+one_of x y z state zero (suc (suc zero)) e = third refl (some_is z state e)
+one_of x y z state zero (suc (suc (suc i))) e = absurd cc
+one_of x y z state (suc file) i e = absurd cc
+
+among_three : (x y z state : BlockState) (c : BlockId) → IsOne x y z c state → Contains all_three c
+among_three x y z state c (first e f) = (0, omega arith, sym e)
+among_three x y z state c (second e f) = (1, omega arith, sym e)
+among_three x y z state c (third e f) = (2, omega arith, sym e)
+
+number_at : (i : ℕ) (d : BlockId) → i < 3 → (slice_index_or all_three i d).block ≡ i
+number_at zero d lt = refl
+number_at (suc zero) d lt = refl
+number_at (suc (suc zero)) d lt = refl
+number_at (suc (suc (suc i))) d lt = absurd (omega (arith, lt))
+
+module _ (dig : List ℕ → List ℕ) (b : ThreeBlocks) (infohash : List ℕ) where
+  abbrev pub engine : Facts → BlockState → BlockState → BlockState → PeerState → EngineState
+  engine k x y z p = three_engine dig b infohash k (x ∷ y ∷ z ∷ []) (p ∷ []) 2
+
+  pub is_one : (k : Facts) (x y z state : BlockState) (p : PeerState) (c : BlockId) → state_at (engine k x y z p) c ≡ Some state → IsOne x y z c state
+  is_one k x y z state p c e = one_of x y z state c.file c.block e
+
+  pub whole_first : IsWholeBlock (three_torrent dig b infohash) 0 0 16384 (block 0)
+  whole_first = record {
+    span = record { file = 0; start = 0; length = 16384 };
+    place = record { file = three_file dig b; listed = omega arith; found = λ d. refl; from = omega arith; below = omega arith; start = refl; all = refl; some = omega arith; block = omega arith; in_piece = omega arith; in_file = omega arith };
+    file = refl;
+    start = refl;
+    whole = refl;
+  }
+
+  pub whole_second : IsWholeBlock (three_torrent dig b infohash) 0 16384 16384 (block 1)
+  whole_second = record {
+    span = record { file = 0; start = 16384; length = 16384 };
+    place = record { file = three_file dig b; listed = omega arith; found = λ d. refl; from = omega arith; below = omega arith; start = refl; all = refl; some = omega arith; block = omega arith; in_piece = omega arith; in_file = omega arith };
+    file = refl;
+    start = refl;
+    whole = refl;
+  }
+
+  pub whole_third : IsWholeBlock (three_torrent dig b infohash) 0 32768 16384 (block 2)
+  whole_third = record {
+    span = record { file = 0; start = 32768; length = 16384 };
+    place = record { file = three_file dig b; listed = omega arith; found = λ d. refl; from = omega arith; below = omega arith; start = refl; all = refl; some = omega arith; block = omega arith; in_piece = omega arith; in_file = omega arith };
+    file = refl;
+    start = refl;
+    whole = refl;
+  }
+
+  -- ---- what needs a leaf, and what is of interest
+
+  -- a peer without the piece has none of the blocks
+  has_none : (k : Facts) (x y z : BlockState) (p q : PeerState) (c : BlockId) → q.has ≡ false ∷ [] → ¬ Has (engine k x y z p) q c
+  has_none k x y z p q c none has =
+      let r = and_then_some (λ n. slice_get q.has n) _ true has in
+      let one = one_there false true r.0 (ap (λ l. slice_get l r.0) (sym none) ∙ r.2) in
+      let wrong : false ≡ true = one.1 in
+      absurd cc
+
+  needs_none_of : (k : Facts) (x y z : BlockState) (p q : PeerState) (c : BlockId) → q.has ≡ false ∷ [] → ¬ NeedsLeaf dig (engine k x y z p) q c
+  needs_none_of k x y z p q c none needs = has_none k x y z p q c none needs.has
+
+  -- after the proof each leaf is known
+  pub all_known : (x y z state : BlockState) (c : BlockId) → IsOne x y z c state → value_at dig (proved dig b) 0 c.block ≡ None → ⊥
+  all_known x y z state c (first e f) none = let both = sym none ∙ ap (λ (d : BlockId). value_at dig (proved dig b) 0 d.block) e ∙ first_known dig b in absurd cc
+  all_known x y z state c (second e f) none = let both = sym none ∙ ap (λ (d : BlockId). value_at dig (proved dig b) 0 d.block) e ∙ second_known dig b in absurd cc
+  all_known x y z state c (third e f) none = let both = sym none ∙ ap (λ (d : BlockId). value_at dig (proved dig b) 0 d.block) e ∙ third_known dig b in absurd cc
+
+  pub needs_none : (x y z : BlockState) (p q : PeerState) (c : BlockId) → ¬ NeedsLeaf dig (engine (proved dig b) x y z p) q c
+  needs_none x y z p q c needs =
+      let is : (state : BlockState) × (state_at (engine (proved dig b) x y z p) c ≡ Some state) = elim needs.not_marked [ inl m ↦ (Missing, m) | inr w ↦ (Waiting, w) ] in
+      let one = is_one (proved dig b) x y z is.0 p c is.1 in
+      all_known x y z is.0 c one (ap (λ k. value_at dig k 0 c.block) (sym (same_tree c one needs.tree needs.hung)) ∙ needs.unknown)
+    where
+      same_tree : (c : BlockId) {state : BlockState} → IsOne x y z c state → (tree : Facts) → tree_of (engine (proved dig b) x y z p) c.file ≡ Some tree → tree ≡ proved dig b
+      same_tree c (first e f) tree hung = sym (some_is _ tree (ap (λ (d : BlockId). tree_of (engine (proved dig b) x y z p) d.file) (sym e) ∙ hung))
+      same_tree c (second e f) tree hung = sym (some_is _ tree (ap (λ (d : BlockId). tree_of (engine (proved dig b) x y z p) d.file) (sym e) ∙ hung))
+      same_tree c (third e f) tree hung = sym (some_is _ tree (ap (λ (d : BlockId). tree_of (engine (proved dig b) x y z p) d.file) (sym e) ∙ hung))
+
+  -- ---- what follows where nothing is requested
+
+  pub quietly : (k : Facts) (x y z : BlockState) (p q : PeerState) (sent : List Sent) → q ≡ record p { am_interested = q.am_interested } → ((q.am_interested ≡ true) ↔ IsInteresting (engine k x y z p) p)
+      → sent ≡ interest_sent p p.am_interested q.am_interested → (q.hash ≡ Idle → (c : BlockId) → ¬ NeedsLeaf dig (engine k x y z p) q c)
+      → (q.peer_choking ≡ false → q.am_interested ≡ true → (c : BlockId) → ¬ IsOpen (engine k x y z p) q c) → length q.asked + 0 ≤ 16 → FollowsUp dig (engine k x y z p) 0 sent (engine k x y z q)
+  quietly k x y z p q sent same due told known none few =
+      record {
+        peer = p;
+        interested = q;
+        planned = q;
+        interest_frames = sent;
+        hash_frames = [];
+        block_frames = [];
+        blocks = [];
+        here = refl;
+        interest = record { interest = due; others = same; told = told };
+        hashes = rests known refl refl;
+        asks = record {
+          shut = λ _. refl;
+          are_open = λ c among. absurd (contains_none c among);
+          distinct = λ i j d lt below. absurd (omega (arith, lt, below));
+          few = few;
+          all = λ open_to interested. inr (λ c may. absurd (none open_to interested c may));
+        };
+        requests = refl;
+        all = sym (append-nil (sent ++ []) ∙ append-nil sent);
+        after = ap (λ l. engine k x y z (record q { asked = l })) (sym (append-nil q.asked));
+      }
+
+  -- a missing block in the piece that the peer has
+  pub interesting : (k : Facts) (x y z : BlockState) (p : PeerState) (c : BlockId) → p.has ≡ true ∷ [] → Has (engine k x y z p) (record p { has = true ∷ [] }) c → state_at (engine k x y z p) c ≡ Some Missing → IsInteresting (engine k x y z p) p
+  interesting k x y z p c has is missing = (c, subst (λ h. Has (engine k x y z p) (record p { has = h }) c) (sym has) is, missing)
+
+  pub none_missing : (k : Facts) (p : PeerState) → ¬ IsInteresting (engine k Marked Marked Marked p) p
+  none_missing k p i = never (is_one k Marked Marked Marked Missing p i.0 i.2)
+    where
+      never : IsOne Marked Marked Marked i.0 Missing → ⊥
+      never (first e f) = absurd cc
+      never (second e f) = absurd cc
+      never (third e f) = absurd cc
+
+  -- ---- what follows for each message
+
+  after_hello : FollowsUp dig (engine (at_first dig b) Missing Missing Missing (peer_with all_taken false true false Idle [] 0)) 0 [] (engine (at_first dig b) Missing Missing Missing (peer_with all_taken false true false Idle [] 0))
+  after_hello =
+      let p = peer_with all_taken false true false Idle [] 0 in
+      quietly (at_first dig b) Missing Missing Missing p p [] refl (λ e. absurd cc, λ i. absurd (has_none (at_first dig b) Missing Missing Missing p p i.0 refl i.1)) refl
+      (λ idle c. needs_none_of (at_first dig b) Missing Missing Missing p p c refl) (λ e. absurd cc) (omega arith)
+
+  least_need : (p q : PeerState) → q.has ≡ true ∷ [] → IsLeastNeed dig (engine (at_first dig b) Missing Missing Missing p) q (block 0)
+  least_need p q has = record {
+    needs = record {
+      has = subst (λ h. Has (engine (at_first dig b) Missing Missing Missing p) (record q { has = h }) (block 0)) (sym has) refl;
+      not_marked = inl refl;
+      tree = at_first dig b;
+      hung = refl;
+      unknown = first_unknown dig b;
+    };
+    least = λ c needs before. elim before [ inl lower ↦ absurd (omega (arith, lower)) | inr lower ↦ absurd (omega (arith, lower.1)) ];
+  }
+
+  after_bits : FollowsUp dig (engine (at_first dig b) Missing Missing Missing (peer_with all_taken false true true Idle [] 0)) 0 (to_first Interested ∷ to_first (HashRequest (leaves_key dig b)) ∷ [])
+      (engine (at_first dig b) Missing Missing Missing (peer_with all_taken true true true (Asked (leaves_key dig b)) [] 0))
+  after_bits =
+      let p = peer_with all_taken false true true Idle [] 0 in
+      let q = peer_with all_taken true true true Idle [] 0 in
+      let r = peer_with all_taken true true true (Asked (leaves_key dig b)) [] 0 in
+      record {
+        peer = p;
+        interested = q;
+        planned = r;
+        interest_frames = to_first Interested ∷ [];
+        hash_frames = to_first (HashRequest (leaves_key dig b)) ∷ [];
+        block_frames = [];
+        blocks = [];
+        here = refl;
+        interest = record { interest = (λ e. interesting (at_first dig b) Missing Missing Missing p (block 0) refl refl refl, λ i. refl); others = refl; told = refl };
+        hashes = requests (block 0) (at_first dig b) (leaves_key dig b) refl (least_need p q refl) refl (plan dig b) refl refl;
+        asks = record {
+          shut = λ _. refl;
+          are_open = λ c among. absurd (contains_none c among);
+          distinct = λ i j d lt below. absurd (omega (arith, lt, below));
+          few = omega arith;
+          all = λ open_to interested. absurd cc;
+        };
+        requests = refl;
+        all = refl;
+        after = refl;
+      }
+
+  unasked : (k : Facts) (p : PeerState) (c : BlockId) → p.asked ≡ [] → ¬ IsAsked (engine k Missing Missing Missing p) c
+  unasked k p c none asked = elim (contains_cases p asked.0 [] asked.1) [
+    | inl same ↦ contains_none c (subst (λ l. Contains l c) (ap (λ (q : PeerState). q.asked) (sym same) ∙ none) asked.2)
+    | inr more ↦ contains_none asked.0 more
+  ]
+
+  is_open : (k : Facts) (p : PeerState) (c : BlockId) → p.asked ≡ [] → Has (engine k Missing Missing Missing p) p c → state_at (engine k Missing Missing Missing p) c ≡ Some Missing
+      → IsOpen (engine k Missing Missing Missing p) p c
+  is_open k p c none has missing = record { has = has; missing = missing; free = unasked k p c none }
+
+  after_unchoke : (k : Facts) (hash : HashState) → (hash ≡ Idle → (c : BlockId) → ¬ NeedsLeaf dig (engine k Missing Missing Missing (asked_peer hash [] 0)) (asked_peer hash [] 0) c) → FollowsUp dig (engine k Missing Missing Missing (asked_peer hash [] 0)) 0 (to_first (block_request 0) ∷ to_first (block_request 16384) ∷ to_first (block_request 32768) ∷ [])
+      (engine k Missing Missing Missing (asked_peer hash all_three 0))
+  after_unchoke k hash known =
+      let p = asked_peer hash [] 0 in
+      let s = engine k Missing Missing Missing p in
+      record {
+        peer = p;
+        interested = p;
+        planned = p;
+        interest_frames = [];
+        hash_frames = [];
+        block_frames = to_first (block_request 0) ∷ to_first (block_request 16384) ∷ to_first (block_request 32768) ∷ [];
+        blocks = all_three;
+        here = refl;
+        interest = record { interest = (λ e. interesting k Missing Missing Missing p (block 0) refl refl refl, λ i. refl); others = refl; told = refl };
+        hashes = rests known refl refl;
+        asks = record {
+          shut = λ x. elim x [ inl e ↦ absurd cc | inr e ↦ absurd cc ];
+          are_open = λ c among. elim (contains_cases (block 0) c (block 1 ∷ block 2 ∷ []) among) [
+            | inl same ↦ subst (λ x. IsOpen s p x) same (is_open k p (block 0) refl refl refl)
+            | inr more ↦ elim (contains_cases (block 1) c (block 2 ∷ []) more) [
+              | inl same ↦ subst (λ x. IsOpen s p x) same (is_open k p (block 1) refl refl refl)
+              | inr rest ↦ elim (contains_cases (block 2) c [] rest) [
+                | inl same ↦ subst (λ x. IsOpen s p x) same (is_open k p (block 2) refl refl refl)
+                | inr none ↦ absurd (contains_none c none)
+              ]
+            ]
+          ];
+          distinct = λ i j d lt below same. absurd (omega (arith, lt, below, number_at i d (omega (arith, lt, below)), number_at j d below, ap (λ (c : BlockId). c.block) same));
+          few = omega arith;
+          all = λ e f. inr (λ c may. among_three Missing Missing Missing Missing c (is_one k Missing Missing Missing Missing p c may.missing));
+        };
+        requests = (
+          to_first (block_request 0),
+          to_first (block_request 16384) ∷ to_first (block_request 32768) ∷ [],
+          record { ask = record { piece = 0; begin = 0; length = 16384 }; whole = whole_first; is = refl },
+          (
+            to_first (block_request 16384),
+            to_first (block_request 32768) ∷ [],
+            record { ask = record { piece = 0; begin = 16384; length = 16384 }; whole = whole_second; is = refl },
+            (
+              to_first (block_request 32768),
+              [],
+              record { ask = record { piece = 0; begin = 32768; length = 16384 }; whole = whole_third; is = refl },
+              refl,
+              refl,
+            ),
+            refl,
+          ),
+          refl,
+        );
+        all = refl;
+        after = refl;
+      }
+
+  -- a block that this peer is asked for is not open
+  pub not_open : (k : Facts) (x y z : BlockState) (p : PeerState) (c : BlockId) → Contains p.asked c → ¬ IsOpen (engine k x y z p) p c
+  not_open k x y z p c asked may = may.free (p, here p p [] refl, asked)
+
+  -- ---- the steps
+
+  pub next_hello : length infohash ≡ 32 → StepNext dig (engine (at_first dig b) Missing Missing Missing (peer_with (stream (handshake_spelling (their_handshake infohash)) false false) false true false Idle [] 0)) first_key []
+      (Ok (Some (output_of [] []))) (engine (at_first dig b) Missing Missing Missing (peer_with all_taken false true false Idle [] 0))
+  next_hello size =
+      goes_on 0 (peer_with (stream (handshake_spelling (their_handshake infohash)) false false) false true false Idle [] 0) (output_of [] []) (record { here = refl; same_key = refl })
+      (record {
+        effect = no_effect;
+        mid = engine (at_first dig b) Missing Missing Missing (peer_with all_taken false true false Idle [] 0);
+        sent = [];
+        takes = record { event = Hello (their_handshake infohash); rest = all_taken; takes = taken_hello infohash size; handles = (refl, ours refl refl, refl) };
+        stays = refl;
+        follows = after_hello;
+        send = refl;
+        close = refl;
+        notes = refl;
+      })
+      refl
+
+  abbrev pub bits_sent : List Sent
+  bits_sent = to_first Interested ∷ to_first (HashRequest (leaves_key dig b)) ∷ []
+
+  pub next_bits : StepNext dig (engine (at_first dig b) Missing Missing Missing (peer_with (stream bitfield_bytes true false) false true false Idle [] 0)) first_key [] (Ok (Some (output_of bits_sent [])))
+      (engine (at_first dig b) Missing Missing Missing (peer_with all_taken true true true (Asked (leaves_key dig b)) [] 0))
+  next_bits =
+      goes_on 0 (peer_with (stream bitfield_bytes true false) false true false Idle [] 0) (output_of bits_sent []) (record { here = refl; same_key = refl })
+      (record {
+        effect = no_effect;
+        mid = engine (at_first dig b) Missing Missing Missing (peer_with all_taken false true true Idle [] 0);
+        sent = bits_sent;
+        takes = record { event = message_event (Bitfield (128 ∷ [])); rest = all_taken; takes = taken_bits; handles = (refl, right refl refl refl) };
+        stays = refl;
+        follows = after_bits;
+        send = refl;
+        close = refl;
+        notes = refl;
+      })
+      refl
+
+  pub next_unchoke : (k : Facts) (hash : HashState) → (hash ≡ Idle → (c : BlockId) → ¬ NeedsLeaf dig (engine k Missing Missing Missing (asked_peer hash [] 0)) (asked_peer hash [] 0) c)
+      → StepNext dig (engine k Missing Missing Missing (peer_with (stream unchoke_bytes true false) true true true hash [] 0)) first_key [] (Ok (Some (output_of three_asks [])))
+      (engine k Missing Missing Missing (asked_peer hash all_three 0))
+  next_unchoke k hash known =
+      goes_on 0 (peer_with (stream unchoke_bytes true false) true true true hash [] 0) (output_of three_asks []) (record { here = refl; same_key = refl })
+      (record {
+        effect = no_effect;
+        mid = engine k Missing Missing Missing (asked_peer hash [] 0);
+        sent = three_asks;
+        takes = record { event = message_event Unchoke; rest = all_taken; takes = taken_unchoke; handles = (refl, refl, refl) };
+        stays = refl;
+        follows = after_unchoke k hash known;
+        send = refl;
+        close = refl;
+        notes = refl;
+      })
+      refl
+
+  -- the key's root is a digest
+  pub key_fits : IsDigest dig → IsKey (leaves_key dig b)
+  key_fits sizes = record { root = sizes _; base = omega arith; index = omega arith; length = omega arith; layers = omega arith }
+
+  pub leaves_fit : IsDigest dig → Fits (leaves_message dig b)
+  leaves_fit sizes = record {
+    limit = omega (arith, length-append (key_spelling (leaves_key dig b)) (four_leaves dig b), leaves_length dig sizes b, key_length);
+    whole = ap (λ n. n % 32) (leaves_length dig sizes b);
+  }
+    where
+      key_length : length (key_spelling (leaves_key dig b)) ≡ 48
+      key_length = omega (
+        arith,
+        length-append (three_root dig b ++ to_be_bytes w32 0 ++ to_be_bytes w32 0 ++ to_be_bytes w32 4) (to_be_bytes w32 1),
+        length-append (three_root dig b ++ to_be_bytes w32 0 ++ to_be_bytes w32 0) (to_be_bytes w32 4),
+        length-append (three_root dig b ++ to_be_bytes w32 0) (to_be_bytes w32 0),
+        length-append (three_root dig b) (to_be_bytes w32 0),
+        sizes (left_node dig b ++ right_node dig b),
+      )
+
+  -- ---- the start, and bytes that come
+
+  pub fed_to : (k : Facts) (x y z : BlockState) (p : PeerState) (bytes : List ℕ) → p.key ≡ first_key → p.stream ≡ stream [] p.stream.greeted p.stream.failed
+      → StepFeed (engine k x y z p) first_key bytes (Ok tt) (engine k x y z (record p { stream = stream bytes p.stream.greeted p.stream.failed }))
+  fed_to k x y z p bytes key empty = feeds 0 p (record { here = refl; same_key = key }) refl (ap (λ (t : Stream). engine k x y z (record p { stream = fed t bytes })) (sym empty))
+
+  abbrev pub start : EngineState
+  start = three_engine dig b infohash (at_first dig b) (Missing ∷ Missing ∷ Missing ∷ []) [] 1
+
+  pub connects : StepConnect start (Ok (first_key, greeting start first_key (0 ∷ []))) (engine (at_first dig b) Missing Missing Missing (peer_with (stream [] false false) false true false Idle [] 0))
+  connects = joins first_key (0 ∷ []) (omega arith) (omega arith) refl (record { are_bytes = search rules; size = refl; bits = refl }) refl refl
+
+  pub starts : Starts dig (three_torrent dig b infohash) start
+  starts =
+      record {
+        is_new = record {
+          roots = λ i j d lt below. absurd (omega (arith, lt, below));
+          each_tree = λ t k at. record { number = 0; file = three_file dig b; listed = refl; some = omega arith; says = by_root refl (sym (one_there (at_first dig b) k t at).1) };
+          count = refl;
+          each_file = λ i file f listed at.
+              let one = one_there (record { tree = 0; states = Missing ∷ Missing ∷ Missing ∷ [] }) f i at in
+              let same : three_file dig b ≡ file = (one_there (three_file dig b) file i listed).1 in
+              record {
+                missing = ap (λ (q : FileState). q.states) (sym one.1) ∙ ap (λ (g : File). new_states g.length) same;
+                hung = λ some. (at_first dig b, ap (λ (q : FileState). slice_get (at_first dig b ∷ []) q.tree) (sym one.1), ap (λ (g : File). g.root) same, ap (λ (g : File). g.length) same);
+              };
+        };
+        is = refl;
+      }

@@ -1,0 +1,41 @@
+ghost use Rattle.bt_engine.specs.AnswerDue.{NextAnswersHashRequest, NextMarksRightBlock, NextServesMarkedRange, NextNotesMarkedBlocks, NextClosesForCause, NextAsksForAll, WaitingIsNotComplete};
+
+use bt_tree::NodeHash;
+
+/// A hash request is answered with the digests that are known, and rejected only where not all of them are.
+pub fn next_answers_hash_request<H: NodeHash>(_hash: H)
+    ensures { NextAnswersHashRequest H.digest }
+{}
+
+/// A whole block that the peer was asked for, with the digest of its leaf, is marked, unless the device
+/// refuses to write it.
+pub fn next_marks_right_block<H: NodeHash>(_hash: H)
+    ensures { NextMarksRightBlock H.digest }
+{}
+
+/// A request of a peer that is not choked, for a range whose blocks are marked, is served, unless a block is
+/// found damaged or cannot be read.
+pub fn next_serves_marked_range<H: NodeHash>(_hash: H)
+    ensures { NextServesMarkedRange H.digest }
+{}
+
+/// A block that a message of a peer makes marked is noted.
+pub fn next_notes_marked_blocks<H: NodeHash>(_hash: H)
+    ensures { NextNotesMarkedBlocks H.digest }
+{}
+
+/// A peer is closed that sent what it is to be closed for.
+pub fn next_closes_for_cause<H: NodeHash>(_hash: H)
+    ensures { NextClosesForCause H.digest }
+{}
+
+/// After a message of a peer that stays, our interest in it is as it should be, and it is asked for all that it
+/// may be asked for.
+pub fn next_asks_for_all<H: NodeHash>(_hash: H)
+    ensures { NextAsksForAll H.digest }
+{}
+
+/// A file is not complete while a block of it waits.
+pub fn waiting_is_not_complete()
+    ensures { WaitingIsNotComplete }
+{}

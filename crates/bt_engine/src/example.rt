@@ -1,0 +1,29 @@
+ghost use Rattle.bt_engine.specs.ExampleOneBlock.{FetchOfAbcIsRun};
+ghost use Rattle.bt_engine.specs.ExampleThreeBlocks.{FetchOfThreeIsRun};
+ghost use Rattle.bt_engine.specs.ExampleServing.{ServingIsRun};
+ghost use Rattle.bt_engine.specs.ExampleWaiting.{WaitingFetchIsRun};
+
+use bt_tree::NodeHash;
+
+/// A file of one block is fetched from one peer: the events, the bytes, the call of the device and the
+/// answers are a run of the machine, from the start of the torrent to the complete file.
+pub fn fetch_of_abc_is_run<H: NodeHash>(_hash: H)
+    ensures { FetchOfAbcIsRun H.digest }
+{}
+
+/// So is the fetch of any file of three whole blocks, with a hash request and its answer.
+pub fn fetch_of_three_is_run<H: NodeHash>(_hash: H)
+    ensures { FetchOfThreeIsRun H.digest }
+{}
+
+/// Blocks that come before the proof of their leaves wait; when it comes they are read back, those with the
+/// right bytes are marked, and one with wrong bytes is asked for again. That is a run too.
+pub fn waiting_fetch_is_run<H: NodeHash>(_hash: H)
+    ensures { WaitingFetchIsRun H.digest }
+{}
+
+/// A peer that is interested is unchoked, and what it requests is read and sent; a choked peer is ignored, and
+/// one that requests too much is closed. Those are runs too.
+pub fn serving_is_run<H: NodeHash>(_hash: H)
+    ensures { ServingIsRun H.digest }
+{}
