@@ -1,5 +1,5 @@
 -- An integer in the bytes.
-use Rattle.std.proofs.Common.{◌≡◌, ◌≢◌, ℕ, zero, suc, ◌+◌, ◌-◌, ◌^◌, ◌<◌, ◌≤◌, Bool, true, false, inl, inr, List, [], ◌∷◌, ◌++◌, length, drop, get_or}
+use Rattle.std.proofs.Common.{◌≡◌, ◌≢◌, ℕ, zero, suc, ◌+◌, ◌-◌, ◌^◌, ◌<◌, ◌≤◌, Bool, true, false, ◌⊎◌, inl, inr, List, [], ◌∷◌, ◌++◌, length, drop, get_or}
 use Rattle.std.proofs.Common.{refl, sym, ap, ◌∙◌, subst, arith, append_assoc, ℤ}
 use Rattle.std.specs.Prelude.{slice_range, IsTrue, ◌↔◌, FitsSigned, Option, None, Some, Result, Ok, Err}
 use Rattle.std.proofs.lemmas.Int.{ints}
@@ -19,7 +19,6 @@ use Rattle.bt_bencode.specs.Reader.{Stops, in_integer, out_of_range}
 use Rattle.bt_bencode.specs.ReaderSteps.{Spans, FaultFrom, IsNumeralAt, ReadsInteger}
 use Rattle.bt_bencode.proofs.ReadRanges.{length-between, drop_first, in_range}
 use Rattle.bt_bencode.proofs.ReadNumerals.{digits_model, decimal_again, numeral_split}
-use Rattle.bt_bencode.proofs.LawPrefixes.{number_small, IsSignWhole}
 
 -- whether a minus stands behind `i`
 pub IsSigned : Bool → List ℕ → ℕ → Type 0
@@ -50,7 +49,8 @@ slice_of_sign true bytes at end signed lt =
     let size : end - (at + 1) ≡ suc (end - (at + 1 + 1)) = omega arith in
     rw (size, drop_more bytes (at + 1) 0 signed.0, signed.1) refl
 
-sign_is_whole : (negative : Bool) (bytes : List ℕ) (at : ℕ) → IsSigned negative bytes at → IsSignWhole negative (drop (at + 1 + from_bool negative) bytes)
+sign_is_whole : (negative : Bool) (bytes : List ℕ) (at : ℕ) → IsSigned negative bytes at
+    → IsTrue negative ⊎ (get_or (drop (at + 1 + from_bool negative) bytes) 0 0 ≢ 45)
 unfolding IsSigned
 sign_is_whole false bytes at signed = let e : at + 1 + 0 ≡ at + 1 = omega arith in inr (rw e (λ is. signed (sym (drop_first (at + 1) bytes) ∙ is)))
 sign_is_whole true bytes at signed = inl refl
@@ -98,6 +98,10 @@ signed_decimal_of : (negative : Bool) (n : ℕ) → (IsTrue negative → n ≢ 0
 signed_decimal_of false n some = refl
 signed_decimal_of true zero some = absurd (some refl refl)
 signed_decimal_of true (suc n) some = refl
+
+number_small : (negative : Bool) (n : ℕ) → FitsSigned w64 (signed_number negative n) → n ≤ 2 ^ 63
+number_small false n fits = omega (arith, ints, fits)
+number_small true n fits = omega (arith, ints, fits)
 
 integer_read : (bytes : List ℕ) (at end : ℕ) (negative : Bool) → at < length bytes → get_or bytes at 0 ≡ 105 → IsSigned negative bytes at
     → IsNumeralAt negative 101 bytes (at + 1 + from_bool negative) end
