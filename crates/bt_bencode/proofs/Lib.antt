@@ -6,8 +6,8 @@ pub mod ReadRanges
 pub mod ReadNumerals
 pub mod ReadStrings
 pub mod ReadIntegers
-pub mod ReadLists
-pub mod ReadDictionaries
+pub mod ReadKinds
+pub mod ReadParts
 -- the laws of spellings and of the first fault, by a reading that is a function of the text
 pub mod Representable
 pub mod Reading

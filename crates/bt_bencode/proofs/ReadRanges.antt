@@ -5,7 +5,7 @@ use Rattle.std.specs.Prelude.{slice_range, Option, None, Some, IsTrue, true, fal
 use Rattle.std.specs.Option.{SomeIff}
 use Rattle.std.specs.Char.{IsAsciiDigit, digit_value}
 use Rattle.std.specs.Str.Parse.{AllDigits}
-use Rattle.std.proofs.lemmas.List.{length-take-le, get_or-drop}
+use Rattle.std.proofs.lemmas.List.{length-take-le, get_or-drop, drop_more}
 use Rattle.std.proofs.lemmas.Str.{digit_value_digit}
 use Rattle.std.proofs.lemmas.Int.Digits.{digits_more}
 
@@ -22,6 +22,10 @@ digits_one_more xs at end le lt digit digits =
 
 pub drop_first : (i : ℕ) (xs : List ℕ) → get_or (drop i xs) 0 0 ≡ get_or xs i 0
 drop_first i xs = get_or-drop i xs 0 0 ∙ ap (λ k. get_or xs k 0) (add-zero i)
+
+-- a byte, and what is behind it
+pub drop_byte : (xs : List ℕ) (i c : ℕ) → i < length xs → get_or xs i 0 ≡ c → drop i xs ≡ c ∷ drop (i + 1) xs
+drop_byte xs i c lt is = drop_more xs i 0 lt ∙ ap (λ b. b ∷ drop (i + 1) xs) is
 
 pub nothing_between : (xs : List ℕ) (at end : ℕ) → end ≤ at → slice_range xs at end ≡ []
 nothing_between xs at end le = let e : end - at ≡ 0 = omega arith in rw e refl

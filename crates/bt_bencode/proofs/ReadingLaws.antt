@@ -31,7 +31,7 @@ last_from_some : (key : List ℕ) (es : Entries) → last_from (Some key) es ≡
 last_from_some key no_entries = refl
 last_from_some key (entry other d es) = last_from_some other es
 
-less_decides : (o : Ordering) → Decides (is_lt o) (o ≡ Less)
+pub less_decides : (o : Ordering) → Decides (is_lt o) (o ≡ Less)
 less_decides Less = (λ _. refl, λ _. refl)
 less_decides Equal = (λ is. cc, λ is. cc)
 less_decides Greater = (λ is. cc, λ is. cc)

@@ -4,7 +4,7 @@ use Rattle.std.specs.Ordering.{nat_cmp, is_lt}
 use Rattle.std.specs.Cmp.Lexicographic.{slice_cmp}
 use Rattle.bt_bencode.specs.Value.{entries_of}
 use Rattle.bt_bencode.specs.Reader.{EndsBefore}
-use Rattle.bt_bencode.proofs.ReadDictionaries.{last_decides}
+use Rattle.bt_bencode.proofs.ReadParts.{last_decides}
 use Rattle.bt_bencode.proofs.reader.may_follow.Goals as goal
 
 pub returns-in-len1-up : goal.returns-in-len1-up
