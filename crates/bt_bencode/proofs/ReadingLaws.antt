@@ -13,7 +13,7 @@ use Rattle.std.proofs.lemmas.List.{append-nil}
 use Rattle.bt_bencode.specs.Value.{Data, list, dictionary, Items, Entries, no_entries, entry}
 use Rattle.bt_bencode.specs.Spelling.{string_spelling, spelling_of, items_spelling, entries_spelling}
 use Rattle.bt_bencode.specs.Doc.{nesting_of, HasAscendingKeys, HasSmallIntegers, IsCanonicalWithin}
-use Rattle.bt_bencode.specs.Error.{Fault, key_order}
+use Rattle.bt_bencode.specs.Error.{Fault}
 use Rattle.bt_bencode.specs.Reader.{last_key_of, EndsBefore, Stops, at_end, at_other, in_integer, out_of_range, in_string, at_max_nesting}
 use Rattle.bt_bencode.specs.Reader.{in_item, in_key, at_key, in_value}
 use Rattle.bt_bencode.specs.Law.{IsRepresentable, NoProperPrefix, BeginsOnce}
@@ -79,24 +79,19 @@ stops_given n text f rest short (in_string n' t g left digit stops) = at_once tr
 stops_given n text f rest short (at_max_nesting opening more (inl is)) = at_once true _ _ _ (λ go. rw is refl)
 stops_given n text f rest short (at_max_nesting opening more (inr is)) = at_once true _ _ _ (λ go. rw is refl)
 stops_given n text f rest short (in_item n' done more g left canonical going stops) =
-    behind_items n' done more (stopped g left) canonical (omega arith)
+    behind_items n' done more _ canonical (omega arith)
     (λ made. item_stops n' made more g left going (stops_given n' more g left (omega (arith, length-append (items_spelling done) more)) stops))
 stops_given n text f rest short (in_key n' done more g left canonical going stops) =
-    behind_entries n' done more (stopped g left) canonical (omega arith)
-    (λ made. at_once true _ _ _ (λ go. rw (ne_eqb (get_or more 0 0) 101 going, string_stops more g left stops) refl))
+    behind_entries n' done more _ canonical (omega arith)
+    (λ made. at_once true _ _ _ (λ go. rw (ne_eqb _ 101 going, string_stops more g left stops) refl))
 stops_given n text f rest short (at_key n' done key more canonical order) =
     let fits = key_short done key more (omega arith) in
-    behind_entries n' done (string_spelling key ++ more) (stopped key_order (string_spelling key ++ more)) canonical (omega arith)
-    (λ made. at_once true _ _ _ (λ go. rw (
-      ne_eqb (get_or (string_spelling key ++ more) 0 0) 101 (no_e key more fits.0),
-      string_read key more fits.0,
-      denied _ (follow_decides done key) order,
-    ) refl))
+    behind_entries n' done _ _ canonical (omega arith) (λ made. at_once true _ _ _ (λ go.
+    rw (ne_eqb _ 101 (no_e key more fits.0), string_read key more fits.0, denied _ (follow_decides done key) order) refl))
 stops_given n text f rest short (in_value n' done key more g left canonical order stops) =
     let fits = key_short done key more (omega arith) in
-    behind_entries n' done (string_spelling key ++ more) (stopped g left) canonical (omega arith)
-    (λ made. behind true _ _ _ _ _ _ (stops_given n' more g left fits.1 stops) (λ go gives.
-    rw (ne_eqb (get_or (string_spelling key ++ more) 0 0) 101 (no_e key more fits.0), string_read key more fits.0, (follow_decides done key).1 order, gives) refl))
+    behind_entries n' done _ _ canonical (omega arith) (λ made. behind true _ _ _ _ _ _ (stops_given n' more g left fits.1 stops) (λ go gives.
+    rw (ne_eqb _ 101 (no_e key more fits.0), string_read key more fits.0, (follow_decides done key).1 order, gives) refl))
 
 -- a canonical value of nesting at most n begins a text that fits memory
 pub canonical_given : (n : ℕ) (d : Data) (more text : List ℕ) → length text < 2 ^ 64 → IsCanonicalWithin n d → spelling_of d ++ more ≡ text
@@ -110,12 +105,7 @@ pub none_begins : (n : ℕ) (text : List ℕ) (f : Fault) (rest : List ℕ) → 
 none_begins n text f rest short stops d more canonical spelled =
     let same = gives_once true _ _ _ _ (stops_given n text f rest short stops) (canonical_given n d more text short canonical spelled) in cc
 
-pub stops_once : (n : ℕ) (text : List ℕ) (f : Fault) (rest : List ℕ) (g : Fault) (left : List ℕ) → length text < 2 ^ 64
-    → Stops n text f rest → Stops n text g left → (f ≡ g) × (rest ≡ left)
-stops_once n text f rest g left short stops stops' =
-    let same = gives_once true _ _ _ _ (stops_given n text f rest short stops) (stops_given n text g left short stops') in (cc, cc)
-
-pub same_spelling : (d e : Data) (x y : List ℕ) → IsRepresentable d → IsRepresentable e → spelling_of d ++ x ≡ spelling_of e ++ y → (d ≡ e) × (x ≡ y)
+same_spelling : (d e : Data) (x y : List ℕ) → IsRepresentable d → IsRepresentable e → spelling_of d ++ x ≡ spelling_of e ++ y → (d ≡ e) × (x ≡ y)
 same_spelling d e x y p q spelled =
     let n = nesting_of d + nesting_of e in
     let same = gives_once false _ _ _ _ (value_read false d n x (omega arith) (λ is. cc) p)
