@@ -7,31 +7,20 @@ use Rattle.std.proofs.lemmas.List.{map-append, take_more, take_more_set, drop_mo
 use Rattle.std.proofs.lemmas.Slice.Eq.{bytes_eq-Decides}
 use Rattle.sha2.specs.Sha256.{sha256}
 use Rattle.bt_tree.specs.Limits.{max_file_length}
-use Rattle.bt_tree.specs.Blocks.{IsFileLength, block_count}
+use Rattle.bt_tree.specs.Blocks.{block_count}
 use Rattle.bt_tree.specs.TreeShape.{height_of, real_width, IsHeight}
 use Rattle.bt_tree.specs.Layers.{fold_of, layer_digests, HasLayerSize, IsLayer}
 use Rattle.bt_meta.specs.Files.{file_of}
 use Rattle.bt_meta.specs.declared.torrent.FileEntry.{FileEntry}
 use Rattle.bt_meta.specs.Layers.{piece_layer_of, has_layer_size, has_root}
-use Rattle.bt_meta.specs.Faults.{Check, first_of, is_piece_length}
+use Rattle.bt_meta.specs.Faults.{Check, first_of}
 use Rattle.bt_meta.specs.ReaderSteps.{Refuses, AreShort}
 use Rattle.bt_meta.specs.LayerSteps.{layer_bytes_fault}
 use Rattle.bt_meta.specs.declared.error.MetaError.{MetaError}
 use Rattle.bt_meta.specs.declared.error.MetaError.TheVariants.{LayerSize, LayerDiffers}
 use Rattle.bt_meta.proofs.Checks.{first_of-append}
-use Rattle.bt_meta.proofs.ReadLawful.{piece_lawful}
 
 -- ---- one layer
-
-pub piece_has_tree : (n : ℕ) → is_piece_length n ≡ true → IsFileLength n
-piece_has_tree n e =
-    let p = piece_lawful n e in
-    let low = p.least in
-    let high = p.greatest in
-    record { some = omega arith; limit = omega arith }
-
-pub file_has_tree : (n bytes : ℕ) → n < bytes → bytes ≤ max_file_length → IsFileLength bytes
-file_has_tree n bytes long short = record { some = omega arith; limit = short }
 
 -- a layer of a longer file's tree lies below its root
 pub layer_inside : (n bytes h k : ℕ) → n < bytes → IsHeight (block_count n) k → IsHeight (block_count bytes) h → k ≤ h

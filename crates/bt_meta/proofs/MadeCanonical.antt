@@ -1,5 +1,5 @@
 -- The value of a torrent that is made is canonical.
-use Rattle.std.proofs.Common.{◌↔◌, ◌≡◌, ℕ, zero, suc, ◌+◌, ◌<◌, ◌≤◌, ◌^◌, true, false, List, [], ◌∷◌, length, refl, sym, ap, ◌∙◌, arith, add-one, inl, inr, None, Some, pos}
+use Rattle.std.proofs.Common.{◌≡◌, ℕ, zero, suc, ◌+◌, ◌<◌, ◌≤◌, ◌^◌, true, false, List, [], ◌∷◌, length, refl, sym, ap, ◌∙◌, arith, add-one, inl, inr, None, Some, pos}
 use Rattle.std.specs.Prelude.{Option, IfSome, get_or, nat_eq, nat_le, ◌&&◌, ◌==◌, FitsSigned}
 use Rattle.std.specs.Int.{w64, is_power_of_two}
 use Rattle.std.specs.List.{All}
@@ -71,54 +71,29 @@ canonical_up le h = let a = h.nesting in record { nesting = omega arith; keys = 
 behind_key : (name key : List ℕ) → slice_cmp nat_cmp name key ≡ Greater → IsBefore key name
 behind_key name key h = nat_list_cmp_total.antisymm key name ∙ ap ordering_reverse h
 
-module _ (name : List ℕ) (d : Data) where
-  abbrev with_last : Entries → Entries
-  with_last es = entries_before es (entry name d no_entries)
+first_parts : {n : ℕ} {key : List ℕ} {d : Data} {es : Entries} → AreCanonicalWithin n (entry key d es)
+    → IfSome (first_key_of es) (IsBefore key) × IsCanonicalWithin n d × AreCanonicalWithin n es
+unfolding entries_nesting EntriesAscend EntriesHaveSmallIntegers
+first_parts h = let a = h.nesting in (
+  h.keys.0,
+  record { nesting = omega arith; keys = h.keys.1; integers = h.integers.0 },
+  record { nesting = omega arith; keys = h.keys.2; integers = h.integers.1 },
+)
 
-  keys_last : (es : Entries) → AreBefore name es → EntriesAscend es → HasAscendingKeys d → EntriesAscend (with_last es)
-  unfolding EntriesAscend
-  keys_last no_entries h keys here = (tt, here, tt)
-  keys_last (entry key e no_entries) h keys here = (behind_key name key h.0, keys.1, (tt, here, tt))
-  keys_last (entry key e (entry other f es)) h keys here = (keys.0, keys.1, keys_last (entry other f es) h.2 keys.2 here)
+module _ {n : ℕ} (name : List ℕ) (d : Data) where
+  pub last_canonical : (es : Entries) → AreBefore name es → AreCanonicalWithin n es → IsCanonicalWithin n d
+      → AreCanonicalWithin n (entries_before es (entry name d no_entries))
+  last_canonical no_entries before some here = first_canonical tt here none_canonical
+  last_canonical (entry key e no_entries) before some here =
+      first_canonical (behind_key name key before.0) (first_parts some).1 (first_canonical tt here none_canonical)
+  last_canonical (entry key e (entry other f es)) before some here =
+      let p = first_parts some in first_canonical p.0 p.1 (last_canonical (entry other f es) before.2 p.2 here)
 
-  keys_parts : (es : Entries) → EntriesAscend (with_last es) → EntriesAscend es × HasAscendingKeys d
-  unfolding EntriesAscend
-  keys_parts no_entries h = (tt, h.1)
-  keys_parts (entry key e no_entries) h = ((tt, h.1, tt), h.2.1)
-  keys_parts (entry key e (entry other f es)) h = let p = keys_parts (entry other f es) h.2 in ((h.0, h.1, p.0), p.1)
-
-  nesting_parts : (n : ℕ) (es : Entries) → (entries_nesting (with_last es) ≤ n) ↔ ((entries_nesting es ≤ n) × (nesting_of d ≤ n))
-  unfolding entries_nesting
-  nesting_parts n no_entries = ((λ h. (omega arith, omega arith)), λ h. omega arith)
-  nesting_parts n (entry key e es) =
-      let rest = nesting_parts n es in (
-        (λ h.
-            let whole : entries_nesting (with_last es) ≤ n = omega arith in
-            let p = rest.0 whole in
-            let some = p.0 in
-            (omega arith, p.1)),
-        λ h. let p : entries_nesting (with_last es) ≤ n = rest.1 (omega arith, h.1) in omega arith,
-      )
-
-  integers_parts : (es : Entries) → EntriesHaveSmallIntegers (with_last es) ↔ (EntriesHaveSmallIntegers es × HasSmallIntegers d)
-  unfolding EntriesHaveSmallIntegers
-  integers_parts no_entries = ((λ h. (tt, h.0)), λ h. (h.1, tt))
-  integers_parts (entry key e es) = let rest = integers_parts es in ((λ h. ((h.0, (rest.0 h.1).0), (rest.0 h.1).1)), λ h. (h.0.0, rest.1 (h.0.1, h.1)))
-
-  module _ {n : ℕ} (es : Entries) where
-    pub last_canonical : AreBefore name es → AreCanonicalWithin n es → IsCanonicalWithin n d → AreCanonicalWithin n (with_last es)
-    last_canonical before some here = record {
-      nesting = (nesting_parts n es).1 (some.nesting, here.nesting);
-      keys = keys_last es before some.keys here.keys;
-      integers = (integers_parts es).1 (some.integers, here.integers);
-    }
-
-    pub parts_canonical : AreCanonicalWithin n (with_last es) → AreCanonicalWithin n es × IsCanonicalWithin n d
-    parts_canonical h =
-        let a = (nesting_parts n es).0 h.nesting in
-        let b = keys_parts es h.keys in
-        let c = (integers_parts es).0 h.integers in
-        (record { nesting = a.0; keys = b.0; integers = c.0 }, record { nesting = a.1; keys = b.1; integers = c.1 })
+  pub parts_canonical : (es : Entries) → AreCanonicalWithin n (entries_before es (entry name d no_entries)) → AreCanonicalWithin n es × IsCanonicalWithin n d
+  parts_canonical no_entries h = (none_canonical, (first_parts h).1)
+  parts_canonical (entry key e no_entries) h = let p = first_parts h in (first_canonical tt p.1 none_canonical, (first_parts p.2).1)
+  parts_canonical (entry key e (entry other f es)) h =
+      let p = first_parts h in let q = parts_canonical (entry other f es) p.2 in (first_canonical p.0 p.1 q.0, q.1)
 
 -- ---- a file put into a tree
 

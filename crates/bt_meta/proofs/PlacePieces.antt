@@ -95,9 +95,6 @@ below_of : (piece first count : ℕ) → first ≤ piece → piece - first < cou
 below_of piece first count from lt = omega arith
 
 module _ (torrent : Metainfo) (piece begin count : ℕ) where
-  pub nowhere : (span : Span) → HasNoFileAt torrent.files piece → IsPlace torrent piece begin count span → ⊥
-  nowhere span none place = absurd (omega (arith, none span.file place.file place.listed, place.from, ap (λ f. f.first_piece) (place.found place.file)))
-
   module _ (index : ℕ) (f : File) (last : IsLastFileAt torrent.files piece index) (at : (d : File) → get_or torrent.files index d ≡ f) where
     module _ (span : Span) (lay : IsLaidOut torrent.piece_length torrent.files) (place : IsPlace torrent piece begin count span) where
       begins : (j k : ℕ) (d : File) → j < k → k < length torrent.files

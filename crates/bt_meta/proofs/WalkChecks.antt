@@ -10,7 +10,7 @@ use Rattle.bt_meta.specs.WalkSteps.{IsWalkOver, Passes, Stops}
 use Rattle.bt_meta.specs.declared.walk.Walk.{Walk}
 use Rattle.bt_meta.specs.declared.error.MetaError.{MetaError}
 use Rattle.bt_meta.specs.declared.error.MetaError.TheVariants.{RootConflict, TooMany}
-use Rattle.bt_meta.proofs.Checks.{first_of-append, first_of-append_some}
+use Rattle.bt_meta.proofs.Checks.{first_of-append}
 
 abbrev pub has_conflict : List TreeEntry → TreeEntry → Bool
 has_conflict before p = not (length_of p == 0) && list_any (conflict p) before
@@ -22,11 +22,6 @@ module _ (n : ℕ) (before : List TreeEntry) (p : TreeEntry) (node : is_node p.v
   module _ (file : is_file p ≡ true) where
     abbrev last : List Check
     last = fault_if (has_conflict before p) RootConflict ∷ []
-
-    pub bad_properties : {e : MetaError} → first_of (property_checks (properties_of p)) ≡ Some e → entry_check n before p ≡ Some e
-    bad_properties fault =
-        let all : first_of (file_checks before p) ≡ Some _ = first_of-append_some (property_checks (properties_of p)) last _ fault in
-        rw (node, name, file, all) refl
 
     module _ (none : first_of (property_checks (properties_of p)) ≡ None) where
       conflicts : first_of (file_checks before p) ≡ first_of last
