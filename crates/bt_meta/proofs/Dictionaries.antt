@@ -59,7 +59,7 @@ module _ (d : Data) where
   -- nothing lies below a file
   pub file_below : (path : List (List ℕ)) → is_node d ≡ true → has_key d [] ≡ true → tree_entries_below path d ≡ []
   unfolding is_node
-  file_below path node file = single_below path d (both_hold (is_dictionary d) (is_single d) (is_some (dictionary_at d [])) (rw file at node)) file
+  file_below path node file = single_below _ d (both_hold _ _ _ (rw file at node)) file
 
   module _ (e : is_dictionary d ≡ true) where
     pub folder_node : has_key d [] ≡ false → is_node d ≡ true
@@ -92,7 +92,7 @@ pub key_entries : (path : List (List ℕ)) (key : List ℕ) (d : Data) → false
 unfolding tree_entries_among
 key_entries path [] d e = cc
 key_entries path (byte ∷ bytes) d e = let inner = path ++ (byte ∷ bytes) ∷ [] in
-    ap (λ xs. record { path = inner; value = d } ∷ xs) (append-nil (tree_entries_below inner d))
+    ap (λ xs. record { path = inner; value = d } ∷ xs) (append-nil _)
 
 -- ---- `piece layers`
 
@@ -109,7 +109,7 @@ unfolding HasAscendingKeys
 field_ascends (integer z) key v h e = cc
 field_ascends (string s) key v h e = cc
 field_ascends (list ds) key v h e = cc
-field_ascends (dictionary es) key v h e = value_ascends es key v h e
+field_ascends (dictionary es) key v h e = value_ascends _ _ v h e
 
 entries_ascend : (d : Data) → HasAscendingKeys d → EntriesAscend (entries_in d)
 unfolding HasAscendingKeys EntriesAscend
@@ -145,19 +145,19 @@ module _ (torrent : Data) where
   module _ (layers : Data) (es : Entries) (e : Some layers ≡ dictionary_at torrent (codes "piece layers")) (is : es ≡ entries_in layers) where
     field_there : field_of torrent (codes "piece layers") ≡ Some layers
     unfolding dictionary_at
-    field_there = dictionary_is_field (field_of torrent (codes "piece layers")) layers e
+    field_there = dictionary_is_field _ _ e
 
     pub layers_ascend : HasAscendingKeys torrent → EntriesAscend es
-    layers_ascend h = rw is (entries_ascend layers (field_ascends torrent (codes "piece layers") layers h field_there))
+    layers_ascend h = rw is (entries_ascend _ (field_ascends _ _ _ h field_there))
 
     pub layers_strings : (key : List ℕ) → string_at (dictionary es) key ≡ string_at (layers_of torrent) key
     unfolding layers_of
-    layers_strings key = rw (is, field_there) (strings_in layers key)
+    layers_strings key = rw (is, field_there) (strings_in _ _)
 
   pub layers_absent : (key : List ℕ) → None ≡ dictionary_at torrent (codes "piece layers")
       → string_at (dictionary no_entries) key ≡ string_at (layers_of torrent) key
   unfolding layers_of dictionary_at
-  layers_absent key e = no_strings (field_of torrent (codes "piece layers")) key e
+  layers_absent key e = no_strings _ _ e
 
 pub nothing_ascends : EntriesAscend no_entries
 unfolding EntriesAscend

@@ -33,7 +33,7 @@ module _ (name : List ℕ) (d : Data) where
   with_last : (f : Data) (es : Entries) → AreBefore name es
       → with_entry name d (entries_before es (entry name f no_entries)) ≡ entries_before es (entry name d no_entries)
   unfolding with_entry
-  with_last f no_entries h = rw (itself name) refl
+  with_last f no_entries h = rw (itself _) refl
   with_last f (entry key e es) h = rw (h.0, with_last f es h.2) refl
 
 -- ---- the value at a name
@@ -43,11 +43,11 @@ other_name name key h = sym (is_eq-slice_cmp key name) ∙ ap is_eq (nat_list_cm
 
 found : (name : List ℕ) (d : Data) (es : Entries) → AreBefore name es → first_value_of (entries_before es (entry name d no_entries)) name ≡ Some d
 found name d no_entries h = let same = sym (is_eq-slice_cmp name name) ∙ ap is_eq (itself name) in rw same refl
-found name d (entry key e es) h = rw (other_name name key h.0) (found name d es h.2)
+found name d (entry key e es) h = rw (other_name _ _ h.0) (found name d es h.2)
 
 absent : (name : List ℕ) (es : Entries) → AreBefore name es → first_value_of es name ≡ None
 absent name no_entries h = refl
-absent name (entry key e es) h = rw (other_name name key h.0) (absent name es h.2)
+absent name (entry key e es) h = rw (other_name _ _ h.0) (absent name es h.2)
 
 -- ---- opening the last folder
 
@@ -56,14 +56,14 @@ behind_none [] = refl
 behind_none (name ∷ path) = inl tt
 
 pub opened_behind : (name : List ℕ) (path : List (List ℕ)) (es : Entries) → AreBefore name es → HasLastFolder name path es es no_entries
-opened_behind name path es h = record { kept = λ d. with_behind name d es h; opened = rw (absent name es h) refl; behind = behind_none path }
+opened_behind name path es h = record { kept = λ d. with_behind _ d _ h; opened = rw (absent _ _ h) refl; behind = behind_none _ }
 
 pub opened_within : (name : List ℕ) (path : List (List ℕ)) (es earlier inner : Entries)
     → es ≡ entries_before earlier (entry name (dictionary inner) no_entries) → AreBefore name earlier → ComesAfter path inner
     → HasLastFolder name path es earlier inner
 opened_within name path es earlier inner e h behind = rw e (record {
-  kept = λ d. with_last name d (dictionary inner) earlier h;
-  opened = rw (found name (dictionary inner) earlier h) refl;
+  kept = λ d. with_last _ d _ _ h;
+  opened = rw (found _ _ _ h) refl;
   behind = behind;
 })
 
@@ -110,14 +110,14 @@ module _ (name : List ℕ) (path : List (List ℕ)) (es : List (Vec ℕ × Value
   pub opened_other : ((inner : Entries) → data_of v ≡ dictionary inner → key.items ≡ name → ⊥)
       → HasLastFolder name path (entries_of (es ++ (key, v) ∷ [])) (entries_of (es ++ (key, v) ∷ [])) no_entries
   opened_other other = elim behind [
-    | inl before ↦ opened_behind name path (entries_of (es ++ (key, v) ∷ [])) before
+    | inl before ↦ opened_behind _ _ _ before
     | inr last ↦
-        let p = last_same (entries_of es) last.earlier key.items name (data_of v) (dictionary last.inner) (sym (entries_push es key v) ∙ last.last) in
+        let p = last_same _ _ _ _ _ _ (sym (entries_push _ _ v) ∙ last.last) in
         absurd (other last.inner p.2 p.1)
   ]
 
 pub opened_nothing : (name : List ℕ) (path : List (List ℕ)) → HasLastFolder name path no_entries no_entries no_entries
-opened_nothing name path = opened_behind name path no_entries tt
+opened_nothing name path = opened_behind _ _ _ tt
 
 -- ---- a file behind the others
 
@@ -156,8 +156,8 @@ put_there (name ∷ path) d es behind = elim behind [
     more = with_file path d no_entries;
     before = before;
     split = inl (refl, refl);
-    new_is = sym (file_in name path d es es no_entries (opened_behind name path es before));
-    below = put_there path d no_entries (behind_none path);
+    new_is = sym (file_in _ _ d _ _ _ (opened_behind _ _ _ before));
+    below = put_there path d no_entries (behind_none _);
   }
   | inr last ↦ record {
     earlier = last.earlier;
@@ -165,7 +165,7 @@ put_there (name ∷ path) d es behind = elim behind [
     more = with_file path d last.inner;
     before = last.before;
     split = inr last.last;
-    new_is = sym (file_in name path d es last.earlier last.inner (opened_within name path es last.earlier last.inner last.last last.before last.behind));
+    new_is = sym (file_in _ _ d _ _ _ (opened_within _ _ _ _ _ last.last last.before last.behind));
     below = put_there path d last.inner last.behind;
   }
 ]

@@ -51,9 +51,9 @@ list_ascends (e ∷ []) h = (tt, tt, tt)
 list_ascends (e ∷ f ∷ es) h = (h.0.0, tt, list_ascends (f ∷ es) h.1)
 
 pub same_bytes_either_way : (a b : List ℕ) → pointwise nat_eq a b ≡ pointwise nat_eq b a
-same_bytes_either_way a b = elim (cases_Bool (pointwise nat_eq a b)) [
+same_bytes_either_way a b = elim (cases_Bool _) [
   | inl same ↦ same ∙ sym ((bytes_eq-Decides b a).1 (sym ((bytes_eq-Decides a b).0 same)))
-  | inr other ↦ other ∙ sym (false_from_ne_true (pointwise nat_eq b a)
+  | inr other ↦ other ∙ sym (false_from_ne_true _
       (λ same. true≢false (sym ((bytes_eq-Decides a b).1 (sym ((bytes_eq-Decides b a).0 same))) ∙ other)))
 ]
 
@@ -102,20 +102,20 @@ module _ (n : ℕ) (files : List Given) (f : Given) where
 
   -- the file has no layer at this root
   behind_none : (root : List ℕ) → has root f ≡ false → first_layer n (files ++ f ∷ []) root ≡ first_layer n files root
-  behind_none root e = behind root ∙ rw e (or_none (first_layer n files root))
+  behind_none root e = behind _ ∙ rw e (or_none _)
 
   module _ (old : BTreeMap (List ℕ) (Bor (List ℕ))) (h : HasFirstLayers n files old) where
     -- a file of one piece
     pub layers_of_short : nat_lt n f.length ≡ false → HasFirstLayers n (files ++ f ∷ []) old
-    layers_of_short short root = h root ∙ sym (behind_none root (rw short refl))
+    layers_of_short short root = h root ∙ sym (behind_none _ (rw short refl))
 
     -- one whose root has a layer
     pub layers_of_known : is_some (get (slice_cmp nat_cmp) old f.root) ≡ true → HasFirstLayers n (files ++ f ∷ []) old
-    layers_of_known known root = elim (cases_Bool (has root f)) [
+    layers_of_known known root = elim (cases_Bool _) [
       | inl same ↦
-          let is : f.root ≡ root = (bytes_eq-Decides f.root root).0 (and_parts (nat_lt n f.length) (pointwise nat_eq f.root root) same).1 in
-          sym (behind root ∙ rw (← h root) (or_some (get (slice_cmp nat_cmp) old root) (first_layer n (f ∷ []) root) (rw is at known)))
-      | inr other ↦ h root ∙ sym (behind_none root other)
+          let is : f.root ≡ root = (bytes_eq-Decides _ _).0 (and_parts _ _ same).1 in
+          sym (behind _ ∙ rw (← h root) (or_some _ _ (rw is at known)))
+      | inr other ↦ h root ∙ sym (behind_none _ other)
     ]
 
     -- one whose root has none yet
@@ -123,12 +123,12 @@ module _ (n : ℕ) (files : List Given) (f : Given) where
         → is_some (get (slice_cmp nat_cmp) old f.root) ≡ false → layer.now ≡ f.layer
         → ((root : List ℕ) → get (slice_cmp nat_cmp) new root ≡ cond (is_at (slice_cmp nat_cmp f.root) root) (Some layer)
         (get (slice_cmp nat_cmp) old root)) → HasFirstLayers n (files ++ f ∷ []) new
-    layers_of_new new layer long absent is updates root = elim (cases_Bool (pointwise nat_eq f.root root)) [
+    layers_of_new new layer long absent is updates root = elim (cases_Bool _) [
       | inl same ↦
-          let r : f.root ≡ root = (bytes_eq-Decides f.root root).0 same in
-          let none : first_layer n files root ≡ None = sym (h root) ∙ none_there (get (slice_cmp nat_cmp) old root) (rw r at absent) in
-          rw (updates root, is_eq-slice_cmp f.root root, same, is, behind root, none, long, same) refl
-      | inr other ↦ rw (updates root, is_eq-slice_cmp f.root root, other) (h root ∙ sym (behind_none root (rw (long, other) refl)))
+          let r : f.root ≡ root = (bytes_eq-Decides _ _).0 same in
+          let none : first_layer n files root ≡ None = sym (h root) ∙ none_there _ (rw r at absent) in
+          rw (updates root, is_eq-slice_cmp _ _, same, is, behind _, none, long, same) refl
+      | inr other ↦ rw (updates root, is_eq-slice_cmp _ _, other) (h root ∙ sym (behind_none _ (rw (long, other) refl)))
     ]
 
 -- ---- the whole
@@ -142,7 +142,7 @@ pub layers_made : (n : ℕ) (files all : List Given) (layers : BTreeMap (List �
     → ((root : List ℕ) → first_value_of es root ≡ option_map (λ layer. string layer.now) (get (slice_cmp nat_cmp) layers root)) → AreLayersOf n all es
 layers_made n files all layers es whole h ascending finds = record {
   ascending = ascending;
-  first = λ root. finds root ∙ sym (twice (get (slice_cmp nat_cmp) layers root)) ∙ rw (h root, whole) refl;
+  first = λ root. finds root ∙ sym (twice _) ∙ rw (h root, whole) refl;
 }
 
 pub both : {T E : Type 0} (r : Result T E) (P Q R : T → Type 0) → ((x : T) → P x → Q x → R x) → IfOk r P → IfOk r Q → IfOk r R

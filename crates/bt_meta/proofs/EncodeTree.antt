@@ -43,11 +43,11 @@ pub next_behind : (p q : List (List ℕ)) (d : Data) (es new : Entries) → AreN
 next_behind [] q d es new named put less apart = absurd (true≢false apart)
 next_behind (n ∷ p) [] d es new named put less apart = cc
 next_behind (n ∷ p) (m ∷ q) d es new named put less apart =
-    rw put.new_is (by_order (slice_cmp nat_cmp n m) refl (λ r s. next_behind p q d put.inner put.more named.1 put.below r s))
+    rw put.new_is (by_order _ refl (λ r s. next_behind p q d put.inner put.more named.1 put.below r s))
   where
     by_order : (o : Ordering) → o ≡ slice_cmp nat_cmp n m → (path_order p q ≡ Less → begins p q ≡ false → ComesAfter q put.more)
         → ComesAfter (m ∷ q) (entries_before put.earlier (entry n (dictionary put.more) no_entries))
-    by_order Less e later = inl (all_above m n (sym e) (dictionary put.more) put.earlier named.0 put.before)
+    by_order Less e later = inl (all_above m n (sym e) _ _ named.0 put.before)
     by_order Equal e later =
         let same : n ≡ m = same_bytes n m (sym e) in
         let rest : path_order p q ≡ Less = rw (← e) at less in
@@ -56,7 +56,7 @@ next_behind (n ∷ p) (m ∷ q) d es new named put less apart =
           inner = put.more;
           last = rw same refl;
           before = rw (← same) put.before;
-          behind = later rest (rest_apart n m (begins p q) same apart);
+          behind = later rest (rest_apart n m _ same apart);
         })
     by_order Greater e later = let greater : Greater ≡ Less = rw (← e) at less in cc
 
@@ -72,7 +72,7 @@ pub record IsGrown (files : List Given) (i : ℕ) (tree : Entries) : Type 0 wher
 
 pub grown_begun : (files : List Given) → IsGrown files 0 no_entries
 unfolding tree_made
-grown_begun files = record { made = refl; behind = λ d lt. behind_none (get_or files 0 d).path }
+grown_begun files = record { made = refl; behind = λ d lt. behind_none _ }
 
 pub made_more : (files : List Given) (i : ℕ) (f : Given) → i < length files → f ≡ get_or files i f
     → tree_made (take (i + 1) files) ≡ put (tree_made (take i files)) f
@@ -84,16 +84,16 @@ pub grown_more : (files : List Given) (i : ℕ) (f : Given) (tree : Entries) →
     → i < length files → f ≡ get_or files i f → IsGrown files i tree
     → IsGrown files (i + 1) (put tree f)
 grown_more files i f tree tree_paths named lt is h = record {
-  made = ap (λ es. put es f) h.made ∙ sym (made_more files i f lt is);
+  made = ap (λ es. put es f) h.made ∙ sym (made_more _ i f lt is);
   behind = λ d more.
       let p = tree_paths i f more in
       let q = get_or files (i + 1) f in
       let less : path_order f.path q.path ≡ Less = ap (λ g. path_order g.path q.path) is ∙ p.0 in
       let apart : begins f.path q.path ≡ false = ap (λ g. begins g.path q.path) is ∙ p.1 in
       let here : ComesAfter f.path tree = rw is (h.behind f lt) in
-      let default : get_or files (i + 1) d ≡ q = get_or_default files (i + 1) d f more in
-      let full : AreNonEmpty f.path = rw is (All-get_or (λ (g : Given). AreNonEmpty g.path) files i f lt named) in
-      rw default (next_behind f.path q.path (properties_made f) tree (put tree f) full (put_there f.path (properties_made f) tree here) less apart);
+      let default : get_or files (i + 1) d ≡ q = get_or_default _ _ d f more in
+      let full : AreNonEmpty f.path = rw is (All-get_or (λ (g : Given). AreNonEmpty g.path) _ i f lt named) in
+      rw default (next_behind _ _ _ _ _ full (put_there _ _ _ here) less apart);
 }
 
 pub grown_found : (files : List Given) (i : ℕ) (tree : Entries) → IsGrown files i tree → length files ≤ i → tree ≡ tree_made files
@@ -121,16 +121,16 @@ module _ (files : List Given) (tree_paths : HaveTreePaths files) (named : All (�
     → P (take i files ++ get_or files i nothing ∷ []) (put tree (get_or files i nothing))) where
   grown_to : (i : ℕ) → i ≤ length files → IsGrown files i (tree_made (take i files)) × P (take i files) (tree_made (take i files))
   unfolding tree_made
-  grown_to zero within = (grown_begun files, begun)
+  grown_to zero within = (grown_begun _, begun)
   grown_to (suc i) within =
       let lt : i < length files = omega arith in
       let f = get_or files i nothing in
       let tree = tree_made (take i files) in
       let before = grown_to i (omega arith) in
-      let is : f ≡ get_or files i f = sym (get_or_default files i f nothing lt) in
-      let next = made_more files i f lt is in
+      let is : f ≡ get_or files i f = sym (get_or_default _ i f _ lt) in
+      let next = made_more _ i f lt is in
       rw (← add-one i) (
-        rw next (grown_more files i f tree tree_paths named lt is before.0),
+        rw next (grown_more _ i f _ tree_paths named lt is before.0),
         rw (next, take_more files i nothing lt)
             (more i tree lt (before.0.behind nothing lt) before.1),
       )

@@ -21,11 +21,11 @@ fits d bytes canonical spelled small = let n : length (spelling_of d) ≡ length
 
 same_value : (d e : Data) (bytes : List ℕ) → length bytes ≤ 2 ^ 27 → IsCanonical d → spelling_of d ≡ bytes → IsCanonical e → spelling_of e ≡ bytes → d ≡ e
 same_value d e bytes small canonical spelled canonical' spelled' =
-    begins_once d e [] [] (fits d bytes canonical spelled small) (fits e bytes canonical' spelled' small) (ap (λ s. s ++ []) (spelled ∙ sym spelled'))
+    begins_once d e [] [] (fits d _ canonical spelled small) (fits e _ canonical' spelled' small) (ap (λ s. s ++ []) (spelled ∙ sym spelled'))
 
 pub one_torrent : SpellsOneTorrent
 one_torrent bytes torrent other h k =
-    let same = same_value h.value k.value bytes h.small h.canonical h.spelled k.canonical k.spelled in
+    let same = same_value _ _ _ h.small h.canonical h.spelled k.canonical k.spelled in
     h.described ∙ ap (λ v. metainfo_of (info_of v) (layers_of v)) same ∙ sym k.described
 
 for_memory : (d : Data) (bytes : List ℕ) (fault : BencodeError) → IsCanonical d → spelling_of d ≡ bytes

@@ -35,14 +35,14 @@ module _ (n bytes : ℕ) (root layer : List ℕ) where
 
   size_right : HasLayerSize (block_count bytes) (piece_layer_of n) layer → has_layer_size n bytes layer ≡ true
   unfolding has_layer_size
-  size_right h = eq-eqb (length layer) (32 * real_width (block_count bytes) (piece_layer_of n)) h.size
+  size_right h = eq-eqb _ _ h.size
 
   module _ {k : ℕ} (is : k ≡ piece_layer_of n) where
     pub layer_right : IsLayer sha256 (block_count bytes) root k layer → None ≡ layer_bytes_fault n bytes root layer
     unfolding has_root folded
     layer_right h =
         let at = rw is at h in
-        let right : has_root n bytes root layer ≡ true = (bytes_eq-Decides folded root).1 at.folds in
+        let right : has_root n bytes root layer ≡ true = (bytes_eq-Decides _ _).1 at.folds in
         rw (size_right at.size, right) refl
 
     pub layer_sized_wrong : k ≤ height_of (block_count bytes) → ¬ HasLayerSize (block_count bytes) k layer
@@ -50,7 +50,7 @@ module _ (n bytes : ℕ) (root layer : List ℕ) where
     unfolding has_layer_size
     layer_sized_wrong inside h =
         let wrong : has_layer_size n bytes layer ≡ false =
-        ne_eqb (length layer) (32 * real_width (block_count bytes) (piece_layer_of n)) (λ e. rw is at h (record { inside = rw is at inside; size = e })) in
+        ne_eqb _ _ (λ e. rw is at h (record { inside = rw is at inside; size = e })) in
         rw wrong refl
 
     pub layer_differs : HasLayerSize (block_count bytes) k layer → ¬ IsLayer sha256 (block_count bytes) root k layer
@@ -59,7 +59,7 @@ module _ (n bytes : ℕ) (root layer : List ℕ) where
     layer_differs size h =
         let sized = rw is at size in
         let wrong : has_root n bytes root layer ≡ false =
-        false_from_ne_true (pointwise nat_eq folded root) (λ t. rw is at h (record { size = sized; folds = (bytes_eq-Decides folded root).0 t })) in
+        false_from_ne_true _ (λ t. rw is at h (record { size = sized; folds = (bytes_eq-Decides _ _).0 t })) in
         rw (size_right sized, wrong) refl
 
 -- ---- all files
@@ -73,14 +73,14 @@ module _ {A : Type 0} (check : A → Check) (i : ℕ) (xs : List A) (e : A) (lt 
     (h : first_of (map check (take i xs)) ≡ None) where
   -- the checks of the first i elements find nothing
   pub faultless_more : check e ≡ None → first_of (map check (take (i + 1) xs)) ≡ None
-  faultless_more c = rw (take_more xs i e lt, ← is, map_push check (take i xs) e, first_of-append (map check (take i xs)) (check e ∷ []) h, c) refl
+  faultless_more c = rw (take_more _ i e lt, ← is, map_push _ _ e, first_of-append _ _ h, c) refl
 
   faulty_at : {fault : MetaError} → check e ≡ Some fault → first_of (map check xs) ≡ Some fault
   faulty_at c =
-      let rest : drop i xs ≡ e ∷ drop (i + 1) xs = drop_more xs i e lt ∙ ap (λ y. y ∷ drop (i + 1) xs) (sym is) in
-      let whole : xs ≡ take i xs ++ e ∷ drop (i + 1) xs = sym (take-append-drop i xs) ∙ ap (λ ys. take i xs ++ ys) rest in
+      let rest : drop i xs ≡ e ∷ drop (i + 1) xs = drop_more _ i e lt ∙ ap (λ y. y ∷ drop (i + 1) xs) (sym is) in
+      let whole : xs ≡ take i xs ++ e ∷ drop (i + 1) xs = sym (take-append-drop i _) ∙ ap (λ ys. take i xs ++ ys) rest in
       ap (λ ys. first_of (map check ys)) whole
-      ∙ rw (map-append check (take i xs) (e ∷ drop (i + 1) xs), first_of-append (map check (take i xs)) (map check (e ∷ drop (i + 1) xs)) h, c) refl
+      ∙ rw (map-append _ _ _, first_of-append _ _ h, c) refl
 
   pub refused_at : {fault : MetaError} → Refuses (check e) fault → Refuses (first_of (map check xs)) fault
   refused_at (inl m) = inl m
@@ -88,11 +88,11 @@ module _ {A : Type 0} (check : A → Check) (i : ℕ) (xs : List A) (e : A) (lt 
 
 module _ {A B : Type 0} (f : A → B) (W : B → B) (i : ℕ) (old new : List A) where
   pub all_changed : length old ≤ i → length new ≤ i → ChangedBelow f W i old new → map f new ≡ map W (map f old)
-  all_changed a b h = rw (take_all i new b, take_all i old a) at h.done
+  all_changed a b h = rw (take_all i _ b, take_all i _ a) at h.done
 
   module _ (e : A) (lt : i < length new) (less : i < length old) (is : e ≡ get_or new i e) (h : ChangedBelow f W i old new) where
     heads : get_or new i e ∷ drop (i + 1) new ≡ get_or old i e ∷ drop (i + 1) old
-    heads = sym (drop_more new i e lt) ∙ h.rest ∙ drop_more old i e less
+    heads = sym (drop_more _ i e lt) ∙ h.rest ∙ drop_more _ i e less
 
     pub unchanged_item : e ≡ get_or old i e
     unchanged_item = let all = heads in is ∙ cc
@@ -103,20 +103,20 @@ module _ {A B : Type 0} (f : A → B) (W : B → B) (i : ℕ) (old new : List A)
         let rest : drop (i + 1) new ≡ drop (i + 1) old = cc in
         record {
           done = rw (
-            take_more_set new i x lt,
-            take_more old i e less,
+            take_more_set _ i x lt,
+            take_more _ i e less,
             ← unchanged_item,
-            map_push f (take i new) x,
+            map_push f _ x,
             map_push f
-                (take i old) e,
-            map_push W (map f (take i old)) (f e),
+                _ e,
+            map_push W _ _,
             h.done,
             change,
           ) refl;
-          rest = drop-set-lt (i + 1) new i x (omega arith) ∙ rest;
+          rest = drop-set-lt _ _ i x (omega arith) ∙ rest;
         }
 
 pub short_at : (files : List FileEntry) (i : ℕ) (d : FileEntry) → i < length files → AreShort (map file_of files) → (get_or files i d).length ≤ max_file_length
 short_at files i d lt h =
     let within : i < length (map file_of files) = omega (arith, length-map files file_of) in
-    rw (get_or-map file_of files i d (file_of d) lt) at (h i (file_of d) within)
+    rw (get_or-map _ _ i d (file_of d) lt) at (h i (file_of d) within)

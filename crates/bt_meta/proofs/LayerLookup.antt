@@ -33,7 +33,7 @@ next_above : (es : List (Vec ℕ × Value)) (k : ℕ) (d : Vec ℕ × Value) →
     → is_lt (slice_cmp nat_cmp (get_or es (suc k) d).0.items (get_or es k d).0.items) ≡ false
 unfolding EntriesAscend
 next_above [] k d h lt = absurd (omega arith)
-next_above (x ∷ xs) zero d h lt = rw (nat_list_cmp_total.antisymm (get_or xs 0 d).0.items x.0.items, before_head x xs 0 d h (omega arith)) refl
+next_above (x ∷ xs) zero d h lt = rw (nat_list_cmp_total.antisymm (get_or xs 0 d).0.items x.0.items, before_head x _ 0 d h (omega arith)) refl
 next_above (x ∷ xs) (suc k) d h lt = next_above xs k d h.2 (omega arith)
 
 other_head : (k key : List ℕ) (d : Data) (es : Entries) → (slice_cmp nat_cmp k key ≡ Equal → ⊥) → first_value_of (entry k d es) key ≡ first_value_of es key
@@ -47,9 +47,9 @@ module _ (key : List ℕ) where
       → Some (data_of (get_or es i d).1) ≡ first_value_of (entries_of es) key
   unfolding EntriesAscend
   found_at [] i d h lt e = absurd (omega arith)
-  found_at (x ∷ xs) zero d h lt e = rw ((bytes_eq-Decides x.0.items key).1 e) refl
+  found_at (x ∷ xs) zero d h lt e = rw ((bytes_eq-Decides _ _).1 e) refl
   found_at (x ∷ xs) (suc i) d h lt e =
-      let less : slice_cmp nat_cmp x.0.items key ≡ Less = rw e at (before_head x xs i d h (omega arith)) in
+      let less : slice_cmp nat_cmp x.0.items key ≡ Less = rw e at (before_head x _ i d h (omega arith)) in
       found_at xs i d h.2 (omega arith) e ∙ sym (other_head x.0.items key (data_of x.1) (entries_of xs) (λ tied. cc))
 
   found_nowhere : (es : List (Vec ℕ × Value)) → ((i : ℕ) (d : Vec ℕ × Value) → i < length es → entry_cmp key (get_or es i d) ≡ Equal → ⊥)
@@ -59,7 +59,7 @@ module _ (key : List ℕ) where
 
   module _ (es : List (Vec ℕ × Value)) (ascend : EntriesAscend (entries_of es)) where
     sorted : IsSortedBy (λ a b. is_lt (slice_cmp nat_cmp a.0.items b.0.items)) es
-    sorted k d from lt = rw add-one (next_above es k d ascend (rw add-one at lt))
+    sorted k d from lt = rw add-one (next_above _ k d ascend (rw add-one at lt))
 
     pub found_here : (i : ℕ) (d : Vec ℕ × Value) → i < length es → HoldsAt (λ y. entry_cmp key y ≡ Equal) es i
         → Some (data_of (get_or es i d).1) ≡ first_value_of (entries_of es) key

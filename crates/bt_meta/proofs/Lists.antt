@@ -8,15 +8,15 @@ use Rattle.std.proofs.lemmas.List.Kept.{AllPairs-cons}
 module _ {A : Type 0} (P : A → Type 0) where
   pub All-front : (xs ys : List A) → All P (xs ++ ys) → All P xs
   All-front [] ys h = All-nil P
-  All-front (x ∷ xs) ys h = All-cons P x xs (All-head P x (xs ++ ys) h) (All-front xs ys (All-tail P x (xs ++ ys) h))
+  All-front (x ∷ xs) ys h = All-cons P x _ (All-head P x _ h) (All-front xs ys (All-tail P x _ h))
 
   pub All-back : (xs ys : List A) → All P (xs ++ ys) → All P ys
   All-back [] ys h = h
-  All-back (x ∷ xs) ys h = All-back xs ys (All-tail P x (xs ++ ys) h)
+  All-back (x ∷ xs) ys h = All-back xs ys (All-tail P x _ h)
 
 pub none_of : {A : Type 0} (test : A → Bool) (xs : List A) → list_any test xs ≡ false → All (λ x. test x ≡ false) xs
 none_of test [] h = All-nil (λ x. test x ≡ false)
-none_of test (x ∷ xs) h = let p = or_parts (test x) (list_any test xs) h in All-cons (λ y. test y ≡ false) x xs p.0 (none_of test xs p.1)
+none_of test (x ∷ xs) h = let p = or_parts _ _ h in All-cons (λ y. test y ≡ false) x _ p.0 (none_of test xs p.1)
 
 pub pairs_append : {A : Type 0} (R : A → A → Type 0) (xs ys : List A) → AllPairs R xs → AllPairs R ys → All (λ x. All (R x) ys) xs → AllPairs R (xs ++ ys)
 pairs_append R [] ys h k cross = k

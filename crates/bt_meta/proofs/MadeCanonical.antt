@@ -131,7 +131,7 @@ tree_canonical files tree_paths named low short =
 -- ---- ascending entries, by the first value of each key
 
 other_bytes : (k key : List ℕ) → IsBefore key k → pointwise nat_eq k key ≡ false
-other_bytes k key less = false_from_ne_true (pointwise nat_eq k key) (λ same.
+other_bytes k key less = false_from_ne_true _ (λ same.
     let tied : slice_cmp nat_cmp key k ≡ Equal = rw ((bytes_eq-Decides k key).0 same) (tied_itself nat_list_cmp_total key) in
     cc)
 
@@ -142,14 +142,14 @@ before_second key other (entry k d es) a b = nat_list_cmp_total.trans key other 
 absent_before : (key : List ℕ) (es : Entries) → EntriesAscend es → IfSome (first_key_of es) (IsBefore key) → first_value_of es key ≡ None
 unfolding EntriesAscend
 absent_before key no_entries keys before = refl
-absent_before key (entry k d es) keys before = rw (other_bytes k key before) (absent_before key es keys.2 (before_second key k es before keys.0))
+absent_before key (entry k d es) keys before = rw (other_bytes k _ before) (absent_before key es keys.2 (before_second _ k _ before keys.0))
 
 first_here : (key : List ℕ) (d : Data) (es : Entries) → first_value_of (entry key d es) key ≡ Some d
-first_here key d es = rw ((bytes_eq-Decides key key).1 refl) refl
+first_here key d es = rw ((bytes_eq-Decides _ _).1 refl) refl
 
 first_later : (k key : List ℕ) (e d : Data) (es : Entries) → EntriesAscend es → IfSome (first_key_of es) (IsBefore k) → first_value_of es key ≡ Some d
     → first_value_of (entry k e es) key ≡ Some d
-first_later k key e d es keys before is = elim (cases_Bool (pointwise nat_eq k key)) [
+first_later k key e d es keys before is = elim (cases_Bool _) [
   | inl same ↦
       let none : first_value_of es key ≡ None = rw ((bytes_eq-Decides k key).0 same) at (absent_before k es keys before) in
       absurd (let never : None ≡ Some d = sym none ∙ is in cc)
@@ -177,7 +177,7 @@ layers_canonical piece_length files layers h =
 
 small_piece : (n : ℕ) → is_piece_length n ≡ true → n ≤ max_piece_length
 small_piece n lawful =
-    let test : nat_le n max_piece_length ≡ true = (and_parts (is_power_of_two n && nat_le min_piece_length n) (nat_le n max_piece_length) lawful).1 in
+    let test : nat_le n max_piece_length ≡ true = (and_parts _ _ lawful).1 in
     grind (arith, nat_tests)
 
 module _ (name : List ℕ) (piece_length : ℕ) (files : List Given) where

@@ -94,7 +94,7 @@ entries_of_folder : (prefix : List (List ℕ)) (name : List ℕ) (es : Entries) 
     → tree_entries_among prefix (entry name (dictionary es) no_entries) ≡ with_folder (prefix ++ name ∷ []) es
 unfolding tree_entries_among
 entries_of_folder prefix [] es named = cc
-entries_of_folder prefix (byte ∷ bytes) es named = rw (append-nil (tree_entries_among (prefix ++ (byte ∷ bytes) ∷ []) es)) refl
+entries_of_folder prefix (byte ∷ bytes) es named = rw (append-nil _) refl
 
 -- ---- a file put into entries
 

@@ -90,7 +90,7 @@ taken piece_length before f h =
 named_from : (path : List (List ℕ)) → list_all is_element path ≡ true → AreNonEmpty path
 named_from [] e = tt
 named_from ([] ∷ path) e = cc
-named_from ((byte ∷ bytes) ∷ path) e = (refl, named_from path (and_parts (is_element (byte ∷ bytes)) (list_all is_element path) e).1)
+named_from ((byte ∷ bytes) ∷ path) e = (refl, named_from path (and_parts _ _ e).1)
 
 -- ---- files of one root
 
@@ -99,11 +99,11 @@ all_agree before f e k d lt some other same =
     let g = get_or before k d in
     let filled : (f.length == 0) ≡ false = grind (arith, nat_tests) in
     let none : list_any (λ g. is_conflict f.root f.length g.root g.length) before ≡ false = rw filled at e in
-    sym (no_conflict f.root f.length g.root g.length (none_of (λ (g : Given). is_conflict f.root f.length g.root g.length) before none k d lt) other (sym same))
+    sym (no_conflict _ _ _ _ (none_of (λ (g : Given). is_conflict f.root f.length g.root g.length) _ none k d lt) other (sym same))
 
 alike_more : (before : List Given) (f : Given) → AreAlike before → All (Agree f) before → AreAlike (before ++ f ∷ [])
 alike_more before f h own =
-    All-push (λ g. All (Agree g) (before ++ f ∷ [])) before f
+    All-push (λ g. All (Agree g) (before ++ f ∷ [])) _ f
     (λ k d lt. All-push (Agree (get_or before k d)) before f (h k d lt) (λ some other same. sym (own k d lt other some (sym same))))
     (All-push (Agree f) before f own (λ some other same. refl))
 
@@ -144,12 +144,12 @@ module _ (piece_length : ℕ) where
         }
 
     pub ordered_named : All (λ g. AreNonEmpty g.path) ordered
-    ordered_named = λ i d lt. named_from (get_or ordered i d).path
-        (and_parts (not (length (get_or ordered i d).path == 0)) (list_all is_element (get_or ordered i d).path) (lawful_ordered.each i d lt).path).1
+    ordered_named = λ i d lt. named_from _
+        (and_parts _ _ (lawful_ordered.each i d lt).path).1
 
 pub lent_short : (piece_length : ℕ) (files : List Given) (ordered : List (Bor Made))
     → first_of (with_earlier (file_refusal piece_length) [] files) ≡ None → IsInTreeOrder files (map given_at ordered)
     → All (λ (m : Bor Made). m.now.length ≤ max_file_length) ordered
 lent_short piece_length files ordered none order k d lt =
-    rw (get_or-map given_at ordered k d (given_at d) lt) at
-    ((lawful_ordered piece_length files (map given_at ordered) none order).each k (given_at d) (rw (length-map ordered given_at) lt)).short
+    rw (get_or-map _ _ k d (given_at d) lt) at
+    ((lawful_ordered _ _ _ none order).each k (given_at d) (rw (length-map _ _) lt)).short

@@ -72,11 +72,11 @@ module _ (n : ℕ) (f : Given) (long : nat_lt n f.length ≡ true) where
   layer_there : (before rest : List Given) → All (λ g. IsLawful n g × Agree f g) (before ++ f ∷ rest)
       → (layer : List ℕ) × (first_layer n (before ++ f ∷ rest) f.root ≡ Some layer) × IsLayer layer
   layer_there [] rest h =
-      let here : has f ≡ true = rw (long, (bytes_eq-Decides f.root f.root).1 refl) refl in
-      (f.layer, rw here refl, layer_of f here (All-head (λ g. IsLawful n g × Agree f g) f rest h))
-  layer_there (g ∷ before) rest h = elim (cases_Bool (has g)) [
-    | inl here ↦ (g.layer, rw here refl, layer_of g here (All-head (λ g. IsLawful n g × Agree f g) g (before ++ f ∷ rest) h))
-    | inr other ↦ rw other (layer_there before rest (All-tail (λ g. IsLawful n g × Agree f g) g (before ++ f ∷ rest) h))
+      let here : has f ≡ true = rw (long, (bytes_eq-Decides _ _).1 refl) refl in
+      (f.layer, rw here refl, layer_of f here (All-head (λ g. IsLawful n g × Agree f g) f _ h))
+  layer_there (g ∷ before) rest h = elim (cases_Bool _) [
+    | inl here ↦ (g.layer, rw here refl, layer_of g here (All-head (λ g. IsLawful n g × Agree f g) g _ h))
+    | inr other ↦ rw other (layer_there before rest (All-tail (λ g. IsLawful n g × Agree f g) g _ h))
   ]
 
 module _ (n : ℕ) (all : List Given) (layers : Entries) (layered : AreLayersOf n all layers) where
@@ -86,14 +86,14 @@ module _ (n : ℕ) (all : List Given) (layers : Entries) (layered : AreLayersOf 
 
   layer_passes : AreLawful n all → (before : List Given) (f : Given) (rest : List Given) → before ++ f ∷ rest ≡ all
       → layer_check n (dictionary layers) (entry_made f) ≡ None
-  layer_passes h before f rest e = elim (cases_Bool (nat_lt n f.length)) [
+  layer_passes h before f rest e = elim (cases_Bool _) [
     | inl long ↦
-        let apart = All-head (λ x. All (Agree x) all) f rest
+        let apart = All-head (λ x. All (Agree x) all) f _
         (All-back (λ x. All (Agree x) all) before (f ∷ rest) (rw e h.alike)) in
         let both : All (λ g. IsLawful n g × Agree f g) all = λ k d lt. (h.each k d lt, apart k d lt) in
-        let one = layer_there n f long before rest (subst (λ xs. All (λ g. IsLawful n g × Agree f g) xs) (sym e) both) in
-        let there : string_at (dictionary layers) f.root ≡ Some one.0 = strings_are f.root ∙ ap (λ xs. first_layer n xs f.root) (sym e) ∙ one.1 in
-        rw (length_of_made f, root_of_made f, some_bytes n f.length long, long, there, one.2.size, one.2.root) refl
+        let one = layer_there n f long _ _ (subst (λ xs. All (λ g. IsLawful n g × Agree f g) xs) (sym e) both) in
+        let there : string_at (dictionary layers) f.root ≡ Some one.0 = strings_are _ ∙ ap (λ xs. first_layer n xs f.root) (sym e) ∙ one.1 in
+        rw (length_of_made f, root_of_made f, some_bytes n _ long, long, there, one.2.size, one.2.root) refl
     | inr short ↦ rw (length_of_made f, short) refl
   ]
 
@@ -109,11 +109,11 @@ module _ (n : ℕ) (all : List Given) (layers : Entries) (layered : AreLayersOf 
 
   all_files : (files : List Given) → filter is_file (map entry_made files) ≡ map entry_made files
   all_files [] = refl
-  all_files (f ∷ files) = rw (value_is_file f.path _) (ap (λ es. entry_made f ∷ es) (all_files files))
+  all_files (f ∷ files) = rw (value_is_file _ _) (ap (λ es. entry_made f ∷ es) (all_files files))
 
   layer_said : (f : Given) → layer_at n (dictionary layers) (entry_made f) ≡ (if nat_lt n f.length then unwrap_or (first_layer n all f.root) [] else [])
-  layer_said f = elim (cases_Bool (nat_lt n f.length)) [
-    | inl long ↦ rw (length_of_made f, root_of_made f, some_bytes n f.length long, long, strings_are f.root) refl
+  layer_said f = elim (cases_Bool _) [
+    | inl long ↦ rw (length_of_made f, root_of_made f, some_bytes n _ long, long, strings_are _) refl
     | inr short ↦ rw (length_of_made f, short) refl
   ]
 

@@ -82,7 +82,7 @@ pub record IsTreeOf (files : List Given) (tree : Entries) : Type 0 where
 
 tree_begun : IsTreeOf [] no_entries
 unfolding tree_entries_among
-tree_begun = record { good = All-nil IsGood; tree_entries = refl; nameless = refl }
+tree_begun = record { good = All-nil _; tree_entries = refl; nameless = refl }
 
 module _ (piece_length : ℕ) where
   file_more : (before : List Given) (f : Given) (tree : Entries) → IsLawful piece_length f → HasRoot f → ComesAfter f.path tree → IsTreeOf before tree

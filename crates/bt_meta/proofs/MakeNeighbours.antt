@@ -48,7 +48,7 @@ apart_more files i m n some lt first second apart h k d below = elim (cases_lt (
 ]
 
 pub apart_found : (files : List (Bor Made)) (i : ℕ) → AreApartTo files i → length files ≤ i → AreApart (map given_at files)
-apart_found files i h all k d lt = let n : length (map given_at files) ≡ length files = length-map files given_at in h k d (omega arith)
+apart_found files i h all k d lt = let n : length (map given_at files) ≡ length files = length-map _ _ in h k d (omega arith)
 
 -- ---- in tree order, with no path that begins the next one
 
@@ -56,7 +56,7 @@ tied_begins : (p q : List (List ℕ)) → path_order p q ≡ Equal → begins p 
 tied_begins [] [] e = refl
 tied_begins [] (m ∷ q) e = cc
 tied_begins (n ∷ p) [] e = cc
-tied_begins (n ∷ p) (m ∷ q) e = by_names (slice_cmp nat_cmp n m) refl (tied_begins p q)
+tied_begins (n ∷ p) (m ∷ q) e = by_names _ refl (tied_begins p q)
   where
     by_names : (o : Ordering) → o ≡ slice_cmp nat_cmp n m → (path_order p q ≡ Equal → begins p q ≡ true) → begins (n ∷ p) (m ∷ q) ≡ true
     by_names Less is later = let f : Less ≡ Equal = rw (← is) at e in cc
@@ -80,7 +80,7 @@ tree_paths files ordered h none k d lt =
 -- ---- the first refusal
 
 count_of : (files : List Made) (b : Bool) → b ≡ (length files == 0) → (length (map given_of files) == 0) ≡ b
-count_of files b is = ap (λ n. n == 0) (length-map files given_of) ∙ sym is
+count_of files b is = ap (λ n. n == 0) (length-map _ _) ∙ sym is
 
 pub length_refused : (piece_length : ℕ) (files : List Given) → false ≡ is_piece_length piece_length → refusal_of_files piece_length files ≡ Some PieceLength
 unfolding refusal_of_files
@@ -89,16 +89,16 @@ length_refused piece_length files is = rw (← is) refl
 pub none_refused : (piece_length : ℕ) (files : List Made) → true ≡ is_piece_length piece_length → true ≡ (length files == 0)
     → refusal_of_files piece_length (map given_of files) ≡ Some Count
 unfolding refusal_of_files
-none_refused piece_length files is none = rw (← is, count_of files true none) refl
+none_refused piece_length files is none = rw (← is, count_of _ _ none) refl
 
 pub files_refused : (piece_length : ℕ) (files : List Made) → true ≡ is_piece_length piece_length → false ≡ (length files == 0)
     → refusal_of_files piece_length (map given_of files) ≡ first_of (with_earlier (file_refusal piece_length) [] (map given_of files))
 unfolding refusal_of_files
-files_refused piece_length files is some = rw (← is, count_of files false some) refl
+files_refused piece_length files is some = rw (← is, count_of _ _ some) refl
 
 pub refused_as : (name : List ℕ) (piece_length : ℕ) (files : List Made) (e : MakeError) → true ≡ is_piece_length piece_length → false ≡ (length files == 0)
     → Refuses (first_of (with_earlier (file_refusal piece_length) [] (map given_of files))) e → IsNotMade name piece_length (map given_of files) e
 refused_as name piece_length files e is some h = elim h [
   | inl memory ↦ subst (λ x. IsNotMade name piece_length (map given_of files) x) (sym memory) no_memory
-  | inr found ↦ unlawful e (files_refused piece_length files is some ∙ found)
+  | inr found ↦ unlawful e (files_refused _ _ is some ∙ found)
 ]

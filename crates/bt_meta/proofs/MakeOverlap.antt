@@ -31,8 +31,8 @@ begins_between [] q r first second h = refl
 begins_between (n ∷ p) [] r first second h = cc
 begins_between (n ∷ p) (k ∷ q) [] first second h = cc
 begins_between (n ∷ p) (k ∷ q) (m ∷ r) first second h =
-    let parts = and_parts (pointwise nat_eq n m) (begins p r) h in
-    by_names (slice_cmp nat_cmp n k) refl ((bytes_eq-Decides n m).0 parts.0) (λ s t. begins_between p q r s t parts.1)
+    let parts = and_parts _ _ h in
+    by_names _ refl ((bytes_eq-Decides n m).0 parts.0) (λ s t. begins_between p q r s t parts.1)
   where
     by_names : (o : Ordering) → o ≡ slice_cmp nat_cmp n k → n ≡ m
         → (is_lt (path_order q p) ≡ false → is_lt (path_order r q) ≡ false → begins p q ≡ true) → begins (n ∷ p) (k ∷ q) ≡ true
@@ -67,20 +67,20 @@ any_none : (f : Given) (files : List Given) → (list_any (is_overlap f) files �
 any_none f [] = ((λ h. tt), λ h. refl)
 any_none f (g ∷ files) =
     let rest = any_none f files in (
-      (λ h. let p = or_parts (is_overlap f g) (list_any (is_overlap f) files) h in (p.0, rest.0 p.1)),
-      λ h. or_from (is_overlap f g)
-          (list_any (is_overlap f) files) h.0 (rest.1 h.1),
+      (λ h. let p = or_parts _ _ h in (p.0, rest.0 p.1)),
+      λ h. or_from _
+          _ h.0 (rest.1 h.1),
     )
 
 none_distinct : (files : List Given) → (have_overlap files ≡ false) ↔ IsDistinct is_overlap files
 unfolding IsDistinct
 none_distinct [] = ((λ h. tt), λ h. refl)
 none_distinct (f ∷ files) =
-    let first = any_none f files in
+    let first = any_none f _ in
     let rest = none_distinct files in (
-      (λ h. let p = or_parts (list_any (is_overlap f) files) (have_overlap files) h in (first.0 p.0, rest.0 p.1)),
+      (λ h. let p = or_parts _ _ h in (first.0 p.0, rest.0 p.1)),
       λ h. or_from
-          (list_any (is_overlap f) files) (have_overlap files) (first.1 h.0) (rest.1 h.1),
+          _ _ (first.1 h.0) (rest.1 h.1),
     )
 
 abbrev AreAllApart : List Given → Type 0
@@ -91,9 +91,9 @@ unfolding IsDistinct
 distinct_pairs [] = ((λ h i j d lt within. absurd (omega arith)), λ h. tt)
 distinct_pairs (f ∷ files) =
     let rest = distinct_pairs files in (
-      (λ h. AllPairs-cons (λ f g. is_overlap f g ≡ false) f files (All-from_recursion (λ g. is_overlap f g ≡ false) files h.0) (rest.0 h.1)),
+      (λ h. AllPairs-cons (λ f g. is_overlap f g ≡ false) f _ (All-from_recursion (λ g. is_overlap f g ≡ false) _ h.0) (rest.0 h.1)),
       λ h. (
-        recursion_from_All (λ g. is_overlap f g ≡ false) files (λ k d within. h 0 (suc k) d (omega arith) (omega arith)),
+        recursion_from_All (λ g. is_overlap f g ≡ false) _ (λ k d within. h 0 (suc k) d (omega arith) (omega arith)),
         rest.1
             (λ i j d lt within. h (suc i) (suc j) d (omega arith) (omega arith)),
       ),
@@ -118,7 +118,7 @@ pub next_apart : (files : List Given) → have_overlap files ≡ false → AreAp
 next_apart files h k d lt =
     let f = get_or files k d in
     let g = get_or files (k + 1) d in
-    (or_parts (begins f.path g.path) (begins g.path f.path) ((distinct_pairs files).0 ((none_distinct files).0 h) k (k + 1) d (omega arith) lt)).0
+    (or_parts _ _ ((distinct_pairs _).0 ((none_distinct _).0 h) k (k + 1) d (omega arith) lt)).0
 
 module _ (files : List Given) (up : IsSortedBy is_before files) where
   far : (i j : ℕ) (d : Given) → i ≤ j → j < length files → is_lt (path_order (get_or files j d).path (get_or files i d).path) ≡ false
@@ -143,7 +143,7 @@ pub overlap_found : (files : List (Bor Made)) (i : ℕ) (m n : Bor Made) → 1 �
     → begins (given_at m).path (given_at n).path ≡ true → true ≡ have_overlap (map given_at files)
 overlap_found files i m n some lt first second h =
     let on : i - 1 + 1 ≡ i = omega arith in
-    let long : length (map given_at files) ≡ length files = length-map files given_at in
-    sym (true_from_ne_false (have_overlap (map given_at files)) (λ none.
+    let long : length (map given_at files) ≡ length files = length-map _ _ in
+    sym (true_from_ne_false _ (λ none.
     true≢false (sym h ∙ (rw (on, lent_is files (i - 1) m (given_at m) (omega arith) first, lent_is files i n (given_at m) lt second) at
     (next_apart (map given_at files) none (i - 1) (given_at m) (omega arith))))))

@@ -52,7 +52,7 @@ taking_begun piece_length files tally none no_pieces no_lengths = record {
   within = record { files = omega arith; pieces = omega arith };
   taken = record { count = none; pieces = no_pieces; lengths = λ root n. rw no_lengths refl };
   faultless = refl;
-  rooted = All-nil HasRoot;
+  rooted = All-nil _;
 }
 
 module _ {n : ℕ} (files : List Made) (i : ℕ) {old : Tally} (h : Taking n files i old) where
@@ -91,7 +91,7 @@ module _ {n : ℕ} (files : List Made) (i : ℕ) {old : Tally} (h : Taking n fil
 
   module _ (all : length files ≤ i) where
     pub taking_found : first_of (checks_of n (map given_of files)) ≡ None
-    taking_found = rw (take_all i files all) at h.faultless
+    taking_found = rw (take_all i _ all) at h.faultless
 
     pub taking_rooted : All HasRoot (map given_of files)
-    taking_rooted = rw (take_all i files all) at h.rooted
+    taking_rooted = rw (take_all i _ all) at h.rooted

@@ -50,7 +50,7 @@ pub further_is : (path : Path) (key : List ℕ) (p : TreeEntry) (h : GoesOn (pat
 further_is path key p h = h.is ∙ append_assoc path (key ∷ []) (h.name ∷ h.rest)
 
 further : (path : Path) (key : List ℕ) (p : TreeEntry) → GoesOn (path ++ key ∷ []) p → GoesOn path p
-further path key p h = record { name = key; rest = h.name ∷ h.rest; is = further_is path key p h }
+further path key p h = record { name = key; rest = h.name ∷ h.rest; is = further_is _ _ p h }
 
 -- what lies in a folder stands behind it
 longer : (path : Path) (name : List ℕ) (rest : Path) → path_cmp path (path ++ name ∷ rest) ≡ Less
@@ -80,7 +80,7 @@ behind_both key other (entry third d es) less h = (nat_list_cmp_total.trans key 
 pub all_behind : (key : List ℕ) (d : Data) (es : Entries) → EntriesAscend (entry key d es) → AreBehind key es
 unfolding EntriesAscend
 all_behind key d no_entries h = tt
-all_behind key d (entry other e es) h = (h.0, behind_both key other es h.0 (all_behind other e es h.2))
+all_behind key d (entry other e es) h = (h.0, behind_both _ _ _ h.0 (all_behind other e es h.2))
 
 mutual
   unfolding tree_entries_below tree_entries_among

@@ -44,7 +44,7 @@ Agrees q p = is_file q ≡ true → is_file p ≡ true → length_of q ≢ 0 →
 root_length : (empty : Bool) (root : List ℕ) → (empty || length (if empty then replicate 32 0 else root) == 32) ≡ true
     → length (if empty then replicate 32 0 else root) ≡ 32
 root_length true root h = refl
-root_length false root h = eqb-true (length root) 32 h
+root_length false root h = eqb-true _ 32 h
 
 lawful_root : (properties : Data) → has_lawful_root properties ≡ true → length (root_in properties) ≡ 32
 unfolding has_lawful_root root_in
@@ -132,9 +132,9 @@ module _ (n : ℕ) where
       }
 
   checked_behind : (before es : List TreeEntry) → AreChecked n before → first_of (with_earlier (entry_check n) before es) ≡ None → AreChecked n (before ++ es)
-  checked_behind before [] h none = rw (append-nil before) h
+  checked_behind before [] h none = rw (append-nil _) h
   checked_behind before (p ∷ es) h none =
-      let p_passed = first_none (entry_check n before p) (with_earlier (entry_check n) (before ++ p ∷ []) es) none in
+      let p_passed = first_none _ _ none in
       rw (← append_assoc before (p ∷ []) es) (checked_behind (before ++ p ∷ []) es (checked_more before p h p_passed.0) p_passed.1)
 
   -- what is known of a tree without a fault

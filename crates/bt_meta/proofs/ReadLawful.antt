@@ -35,8 +35,8 @@ head_lawful info h = holds_unless (is_piece_length (piece_length_of info)) Piece
 
 pub piece_lawful : (n : ℕ) → is_piece_length n ≡ true → IsPieceLength n
 piece_lawful n e =
-    let outer = and_parts (is_power_of_two n && nat_le min_piece_length n) (nat_le n max_piece_length) e in
-    let inner = and_parts (is_power_of_two n) (nat_le min_piece_length n) outer.0 in
+    let outer = and_parts _ _ e in
+    let inner = and_parts _ _ outer.0 in
     record { power = inner.0; least = leb-true min_piece_length n inner.1; greatest = leb-true n max_piece_length outer.1 }
 
 abbrev IsFile : TreeEntry → Type 0
@@ -83,8 +83,8 @@ module _ (n : ℕ) (layers : Data) where
     of_each : (before ps : List TreeEntry) → All P ps → All Q (with_earlier (file_at n layers) before ps)
     of_each before [] h = All-nil Q
     of_each before (p ∷ ps) h =
-        All-cons Q (file_at n layers before p) (with_earlier (file_at n layers) (before ++ p ∷ []) ps) (same before p (All-head P p ps h))
-        (of_each (before ++ p ∷ []) ps (All-tail P p ps h))
+        All-cons Q _ _ (same before p (All-head P p _ h))
+        (of_each (before ++ p ∷ []) ps (All-tail P p _ h))
 
   -- a relation of two files, where it is one of their entries
   module _ (R : TreeEntry → TreeEntry → Type 0) (S : File → File → Type 0)
@@ -151,7 +151,7 @@ module _ (n : ℕ) (layers : Data) where
 -- an info dictionary has no layers
 none_layered : (n : ℕ) (ps : List TreeEntry) → All (IsLayered n no_dictionary) ps
 none_layered n ps k d lt =
-    let none = no_layer (nat_lt n (length_of (get_or ps k d))) (root_of (get_or ps k d)) in
+    let none = no_layer _ _ in
     record { long = λ some. absurd (some none); sized = λ some. absurd (some none); folds = λ some. absurd (some none) }
 
 -- ---- the whole

@@ -22,7 +22,7 @@ both : (a b : Bool) → a ≡ true → b ≡ true → (a && b) ≡ true
 both a b e f = rw (e, f) refl
 
 element : (byte : ℕ) (bytes : List ℕ) → is_path_element (byte ∷ bytes) ≡ true → is_element (byte ∷ bytes) ≡ true
-element byte bytes e = both (not (length (byte ∷ bytes) == 0)) (is_path_element (byte ∷ bytes)) (grind (arith, nat_tests)) e
+element byte bytes e = both _ _ (grind (arith, nat_tests)) e
 
 more : (path : List (List ℕ)) (name : List ℕ) → IsFolderPath path → is_element name ≡ true → IsFolderPath (path ++ name ∷ [])
 more path name p e = list_all-append is_element path (name ∷ [])

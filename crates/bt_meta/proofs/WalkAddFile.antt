@@ -86,14 +86,14 @@ module _ {path : List (List ℕ)} {name : List ℕ} {properties : Data} {p : Tre
         no_conflict : has_conflict before p ≡ false
         no_conflict = elim noted.lengths [
           | inl e ↦ rw (← long, e.0) refl
-          | inr s ↦ and_right (not (length_of p == 0)) (list_any (conflict p) before) (alike s.1.alike)
+          | inr s ↦ and_right _ _ (alike s.1.alike)
         ]
 
         noted_lengths : (root : List ℕ) (m : ℕ) → is_other_length (length_at mid.lengths root) m ≡ has_other_length (before ++ p ∷ []) root m
         noted_lengths root m = elim noted.lengths [
           | inl e ↦
               let none : (is_file p && not (length_of p == 0)) ≡ false = and_right (is_file p) (not (length_of p == 0)) (rw (← long, e.0) refl) in
-              rw (e.1, h.lengths root m) (sym (others_same n before p root m none))
+              rw (e.1, h.lengths root m) (sym (others_same n _ p _ m none))
           | inr s ↦ others_noted n before p at.file old mid (rw (← long) (positive facts.length s.0)) h (rw (← long, ← root_is) s.1) root m
         ]
 
@@ -101,7 +101,7 @@ module _ {path : List (List ℕ)} {name : List ℕ} {properties : Data} {p : Tre
         counted pieces e = e ∙ rw (noted.pieces, h.pieces, long) refl
 
         files_count : length mid.files.items ≡ length (filter is_file before)
-        files_count = ap (λ v. length v.items) noted.files ∙ count_of_files n before old.files.items h.files
+        files_count = ap (λ v. length v.items) noted.files ∙ count_of_files n _ _ h.files
 
         checked : {b : Bool} → (nat_lt max_path_length (length p.path) ||
             (nat_lt max_file_count (length (filter is_file before) + 1) || nat_lt max_piece_count (pieces_of n before + piece_count n (length_of p)))) ≡ b
@@ -120,14 +120,14 @@ module _ {path : List (List ℕ)} {name : List ℕ} {properties : Data} {p : Tre
       many_stop over = stops_at (λ before h.
           let count = files_count h noted in
           let deep = path_length in
-          let all = counted h noted pieces sum in
+          let all = counted h noted _ sum in
           let past : (max_path_length < length p.path) ⊎
           ((max_file_count < length (filter is_file before) + 1) ⊎ (max_piece_count < pieces_of n before + piece_count n (length_of p))) =
           elim over [
             | inl a ↦ inl (omega arith)
             | inr b ↦ elim b [ inl c ↦ inr (inl (omega arith)) | inr c ↦ inr (inr (omega arith)) ]
           ] in
-          file_counted n before p at.node at.named at.file (checks_are f.faultless) (no_conflict h noted) (checked h noted (many _ _ _ past)))
+          file_counted n _ p at.node at.named at.file (checks_are f.faultless) (no_conflict h noted) (checked h noted (many _ _ _ past)))
 
       pub file_passes : {new : Walk} (entry : FileEntry) → length path < max_path_length → length mid.files.items < max_file_count → pieces ≤ max_piece_count
           → new.files.items ≡ mid.files.items ++ entry ∷ [] → new.pieces ≡ pieces → new.lengths ≡ mid.lengths
@@ -156,7 +156,7 @@ last_push o (y ∷ xs) x = last_push (Some y) xs x
 
 pub name_of : (path : List (List ℕ)) (key : List ℕ) (d : Data) (b : Bool) → is_path_element key ≡ b
     → has_lawful_name (record { path = path ++ key ∷ []; value = d }) ≡ b
-name_of path key d b e = rw (last_push None path key) e
+name_of path key d b e = rw (last_push _ _ _) e
 
 pub node_is : (d : Data) (node : Node) → IsNodeOf d node → is_node d ≡ true
 node_is d Folder h = h.0
@@ -178,7 +178,7 @@ module _ (path : List (List ℕ)) (key : List ℕ) (d : Data) where
 
   counted_folder : (n : ℕ) (before : List TreeEntry) {b : Bool} → has_key d [] ≡ false → nat_lt max_path_length (length path + 1) ≡ b
       → is_too_many n before here ≡ b
-  counted_folder n before {b} folder e = rw (folder, length_push path key, e) (or-false b)
+  counted_folder n before {b} folder e = rw (folder, length_push _ _, e) (or-false b)
 
   module _ {n : ℕ} {w : Walk} where
     module _ (node : is_node d ≡ true) (name : is_path_element key ≡ true) (folder : has_key d [] ≡ false) where
@@ -197,7 +197,7 @@ module _ (path : List (List ℕ)) (key : List ℕ) (d : Data) where
     no_node_stops node = stops_at (λ before h. rw node refl)
 
     pub bad_name_stops : is_node d ≡ true → is_path_element key ≡ false → Stops n (here ∷ []) w BadPath
-    bad_name_stops node name = stops_at (λ before h. rw (node, name_of path key d false name) refl)
+    bad_name_stops node name = stops_at (λ before h. rw (node, name_of _ _ d _ name) refl)
 
     module _ (is : tree_entries_of path key d ≡ here ∷ tree_entries_below (path ++ key ∷ []) d) where
       -- a key is refused where its own entry is

@@ -59,8 +59,8 @@ module _ (n : ℕ) (before : List TreeEntry) where
     pub others_same : (root : List ℕ) (m : ℕ) → (is_file p && not (length_of p == 0)) ≡ false
         → has_other_length (before ++ p ∷ []) root m ≡ has_other_length before root m
     others_same root m e =
-        others_push root m ∙ rw (neither (is_file p) (not (length_of p == 0)) (pointwise nat_eq (root_of p) root) (not (length_of p == m)) e)
-        (or-false (has_other_length before root m))
+        others_push _ m ∙ rw (neither _ _ _ _ e)
+        (or-false _)
 
     module _ (file : is_file p ≡ true) where
       filter_file : filter is_file (before ++ p ∷ []) ≡ filter is_file before ++ p ∷ []

@@ -13,14 +13,14 @@ use Rattle.bt_meta.proofs.Checks.{first_of-append, first_of-append_some}
 
 pub with_earlier-append : {A B : Type 0} (f : List A → A → B) (before xs ys : List A)
     → with_earlier f before (xs ++ ys) ≡ with_earlier f before xs ++ with_earlier f (before ++ xs) ys
-with_earlier-append f before [] ys = ap (λ b. with_earlier f b ys) (sym (append-nil before))
-with_earlier-append f before (x ∷ xs) ys = ap (λ r. f before x ∷ r) (with_earlier-append f (before ++ x ∷ []) xs ys ∙ rw (append_assoc before (x ∷ []) xs) refl)
+with_earlier-append f before [] ys = ap (λ b. with_earlier f b ys) (sym (append-nil _))
+with_earlier-append f before (x ∷ xs) ys = ap (λ r. f before x ∷ r) (with_earlier-append f (before ++ x ∷ []) xs ys ∙ rw (append_assoc _ _ _) refl)
 
 -- ---- passing and stopping
 
 module _ {n : ℕ} {a : Walk} where
   pub passes_nothing : Passes n [] a a
-  passes_nothing = record { over = λ before h. (rw (append-nil before) h, refl) }
+  passes_nothing = record { over = λ before h. (rw (append-nil _) h, refl) }
 
   pub stops_sooner : (xs ys : List TreeEntry) {e : MetaError} → Stops n xs a e → Stops n (xs ++ ys) a e
   stops_sooner xs ys {e} s = record {
@@ -37,7 +37,7 @@ module _ {n : ℕ} {a : Walk} where
           let first = p.over before h in
           let none = first.1 in
           let second = q.over (before ++ xs) first.0 in
-          (rw (← append_assoc before xs ys) second.0, rw (with_earlier-append (entry_check n) before xs ys, first_of-append _ _ none) second.1);
+          (rw (← append_assoc _ _ _) second.0, rw (with_earlier-append _ _ _ _, first_of-append _ _ none) second.1);
     }
 
     pub stops_later : {b : Walk} {e : MetaError} → Passes n xs a b → Stops n ys b e → Stops n (xs ++ ys) a e
@@ -45,7 +45,7 @@ module _ {n : ℕ} {a : Walk} where
       refused = λ before h.
           let first = p.over before h in
           let none = first.1 in
-          rw (with_earlier-append (entry_check n) before xs ys, first_of-append _ _ none) (s.refused (before ++ xs) first.0);
+          rw (with_earlier-append _ _ _ _, first_of-append _ _ none) (s.refused (before ++ xs) first.0);
     }
 
 -- ---- the tree entries of a folder
@@ -71,22 +71,22 @@ module _ (path : List (List ℕ)) where
     -- the tree entries of the first i keys, with one key more
     entries_more : tree_entries_among path (entries_of (take (i + 1) es)) ≡ tree_entries_among path
         (entries_of (take i es)) ++ tree_entries_of path e.0.items (data_of e.1)
-    entries_more = rw (take_more es i e lt, ← is, map-append entry_data (take i es) (e ∷ [])) (among-append _ _)
+    entries_more = rw (take_more _ i e lt, ← is, map-append _ _ _) (among-append _ _)
 
     -- all tree entries: those of the first i keys, of the next, and of the rest
     entries_split : tree_entries_among path (entries_of es)
         ≡ tree_entries_among path (entries_of (take i es)) ++
         (tree_entries_of path e.0.items (data_of e.1) ++ tree_entries_among path (entries_of (drop (i + 1) es)))
     entries_split =
-        let rest : drop i es ≡ e ∷ drop (i + 1) es = drop_more es i e lt ∙ ap (λ x. x ∷ drop (i + 1) es) (sym is) in
-        let whole : es ≡ take i es ++ e ∷ drop (i + 1) es = sym (take-append-drop i es) ∙ ap (λ xs. take i es ++ xs) rest in
+        let rest : drop i es ≡ e ∷ drop (i + 1) es = drop_more _ i e lt ∙ ap (λ x. x ∷ drop (i + 1) es) (sym is) in
+        let whole : es ≡ take i es ++ e ∷ drop (i + 1) es = sym (take-append-drop i _) ∙ ap (λ xs. take i es ++ xs) rest in
         ap (λ xs. tree_entries_among path (entries_of xs)) whole
-        ∙ rw (map-append entry_data (take i es) (e ∷ drop (i + 1) es), ← among_key e.0.items (data_of e.1) (entries_of (drop (i + 1) es))) (among-append _ _)
+        ∙ rw (map-append _ _ _, ← among_key _ _ _) (among-append _ _)
 
     module _ {n : ℕ} {old mid : Walk} (passed : Passes n (tree_entries_among path (entries_of (take i es))) old mid) where
       pub folder_stops : {fault : MetaError} → Stops n (tree_entries_of path e.0.items (data_of e.1)) mid fault
           → Stops n (tree_entries_among path (entries_of es)) old fault
-      folder_stops stopped = rw entries_split (stops_later passed (stops_sooner (tree_entries_of path e.0.items (data_of e.1)) _ stopped))
+      folder_stops stopped = rw entries_split (stops_later passed (stops_sooner _ _ stopped))
 
       pub folder_passes_more : (new : Walk) → Passes n (tree_entries_of path e.0.items (data_of e.1)) mid new
           → Passes n (tree_entries_among path (entries_of (take (i + 1) es))) old new

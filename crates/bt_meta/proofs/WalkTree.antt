@@ -90,6 +90,6 @@ module _ (n : ℕ) (tree : Data) where
             record {
               faultless = to_last e;
               files = rw files walked.files;
-              pieces = rw (files, pieces, walked.pieces, walked.files) (sym (same_sum n no_dictionary tree));
+              pieces = rw (files, pieces, walked.pieces, walked.files) (sym (same_sum n _ _));
               short = rw files walked.short;
             }

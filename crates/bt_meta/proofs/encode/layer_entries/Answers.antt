@@ -22,9 +22,9 @@ loop-root-preserved c =
 
 pub returns-clause-ascending : goal.returns-clause-ascending
 returns-clause-ascending c =
-    rw (list_found (entries_of c.loop-root.entries.items) c.loop-root.root-iterator
-    (layer_list c.args.layers.now.entries) c.in-None.ensures.steps.0 c.loop-root.invariant)
-    (list_ascends c.args.layers.now.entries c.into_iter-root-iterator.ensures.into_iter_gives.5)
+    rw (list_found _ _
+    _ c.in-None.ensures.steps.0 c.loop-root.invariant)
+    (list_ascends _ c.into_iter-root-iterator.ensures.into_iter_gives.5)
 
 pub returns-clause-layers : goal.returns-clause-layers
 returns-clause-layers c root =

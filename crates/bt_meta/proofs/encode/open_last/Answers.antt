@@ -26,14 +26,14 @@ returns-in_ok-push-in-Ok c path behind =
     rw (
       c.in_ok-push-in-Ok.ensures.items,
       c.in-Some.ensures.items,
-      entries_push es c.in-Some.key (views.Dict c.in-Ok.inner),
-      entries_push es c.in-Some.key c.in-Some.value,
+      entries_push _ _ _,
+      entries_push _ _ _,
       data_of-Dict c.in-Ok.inner,
       c.in-Ok.ensures.entries,
     ) refl in
     rw (same, c.new-in-Ok.ensures.items, c.in-Some.ensures.items)
-    (opened_other c.args.name.now path es c.in-Some.key c.in-Some.value (rw c.in-Some.ensures.items at behind)
-    (λ inner seen named. false≢true (c.if-eq.ensures ∙ rw (c.as_slice.ensures.value) ((bytes_eq-Decides c.in-Some.key.items c.args.name.now).1 named))))
+    (opened_other _ _ _ _ _ (rw c.in-Some.ensures.items at behind)
+    (λ inner seen named. false≢true (c.if-eq.ensures ∙ rw (c.as_slice.ensures.value) ((bytes_eq-Decides _ _).1 named))))
 
 pub returns-in_ok-push-in-Err : goal.returns-in_ok-push-in-Err
 returns-in_ok-push-in-Err c path behind =
@@ -42,10 +42,10 @@ returns-in_ok-push-in-Err c path behind =
     rw (
       c.in_ok-push-in-Err.ensures.items,
       c.in-Some.ensures.items,
-      entries_push es c.in-Some.key c.in-Err.other,
-      entries_push es c.in-Some.key c.in-Some.value,
+      entries_push _ _ _,
+      entries_push _ _ _,
       c.in-Err.ensures.back,
     ) refl in
     rw (same, c.new-in-Err.ensures.items, c.in-Some.ensures.items)
-    (opened_other c.args.name.now path es c.in-Some.key c.in-Some.value (rw c.in-Some.ensures.items at behind)
+    (opened_other _ _ _ _ _ (rw c.in-Some.ensures.items at behind)
     (λ inner seen named. c.in-Err.ensures.other inner seen))

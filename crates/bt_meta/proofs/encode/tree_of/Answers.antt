@@ -7,7 +7,7 @@ use Rattle.bt_meta.proofs.EncodeTree.{grown_begun, grown_more, grown_found, lent
 use Rattle.bt_meta.proofs.encode.tree_of.Goals as goal
 
 pub loop-file-init : goal.loop-file-init
-loop-file-init c = rw (c.new-tree.ensures.items) (grown_begun (map given_at c.args.files.now))
+loop-file-init c = rw (c.new-tree.ensures.items) (grown_begun _)
 
 pub folder_with-requires : goal.folder_with-requires
 folder_with-requires c =

@@ -48,8 +48,7 @@ loop-file-preserved c =
 
 pub returns-clause-whole : goal.returns-clause-whole
 returns-clause-whole c =
-    all_changed file_of (with_layer c.args.piece_length
-    (dictionary (entries_of c.args.entries.now))) c.loop-file.file-index c.args.files.now c.loop-file.files (omega arith)
+    all_changed _ _ _ _ _ (omega arith)
     (omega arith) c.loop-file.invariant.changed
 
 pub returns-clause-faultless : goal.returns-clause-faultless

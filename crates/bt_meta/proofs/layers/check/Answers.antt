@@ -9,7 +9,7 @@ use Rattle.bt_meta.proofs.layers.check.Goals as goal
 pub returns-in-Ok : goal.returns-in-Ok
 returns-in-Ok c =
     let k : c.height.result ≡ piece_layer_of c.args.piece_length = c.height.ensures.value ∙ ap (λ n. height_of (block_count n)) c.shape-piece.ensures in
-    layer_right c.args.piece_length c.args.length c.args.root.now c.args.layer.now k (rw c.shape.ensures at (c.in-Ok.ensures.variant.0 refl))
+    layer_right _ _ _ _ k (rw c.shape.ensures at (c.in-Ok.ensures.variant.0 refl))
 
 pub returns-in-Err-Size : goal.returns-in-Err-Size
 returns-in-Err-Size c =

@@ -8,7 +8,7 @@ use Rattle.bt_meta.proofs.ReadHead.{not_info, first_info_fault_in, info_head_fau
 use Rattle.bt_meta.proofs.reader.info_in.Goals as goal
 
 pub returns-then-not-is_dictionary-clause-refused : goal.returns-then-not-is_dictionary-clause-refused
-returns-then-not-is_dictionary-clause-refused c = inr (not_info (data_of c.args.info.now) c.if-not-is_dictionary.ensures)
+returns-then-not-is_dictionary-clause-refused c = inr (not_info _ c.if-not-is_dictionary.ensures)
 
 pub returns-in_err-head-clause-refused : goal.returns-in_err-head-clause-refused
 returns-in_err-head-clause-refused c =
@@ -30,9 +30,9 @@ torrent_of-requires-clause-lawful c =
     (info_keeps_to d c.requires faultless)
 
 pub returns-clause-faultless : goal.returns-clause-faultless
-returns-clause-faultless c = first_info_fault_in (data_of c.args.info.now) c.if-not-is_dictionary.ensures ∙ info_faults c.in_ok-head.ensures
+returns-clause-faultless c = first_info_fault_in _ c.if-not-is_dictionary.ensures ∙ info_faults c.in_ok-head.ensures
     ∙ c.in_ok-listing.ensures.faultless
 
 pub returns-clause-described : goal.returns-clause-described
 returns-clause-described c = c.in_ok-torrent.ensures
-    ∙ sym (metainfo_is no_dictionary (map file_of c.in_ok-listing.listing.files.items) c.in_ok-head.ensures c.in_ok-listing.ensures.files)
+    ∙ sym (metainfo_is _ _ c.in_ok-head.ensures c.in_ok-listing.ensures.files)

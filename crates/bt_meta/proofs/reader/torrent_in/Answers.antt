@@ -11,7 +11,7 @@ use Rattle.bt_meta.proofs.LayerFiles.{files_with_layers, pieces_after}
 use Rattle.bt_meta.proofs.reader.torrent_in.Goals as goal
 
 pub returns-in_default-clause-refused : goal.returns-in_default-clause-refused
-returns-in_default-clause-refused c = inr (no_info (data_of c.args.value.now) c.in_default.ensures)
+returns-in_default-clause-refused c = inr (no_info _ c.in_default.ensures)
 
 pub returns-in_err-head-clause-refused : goal.returns-in_err-head-clause-refused
 returns-in_err-head-clause-refused c =
@@ -49,7 +49,7 @@ torrent_of-requires-clause-counted c =
     c.in_ok-add_layers.ensures.whole
 
 pub returns-clause-faultless : goal.returns-clause-faultless
-returns-clause-faultless c = torrent_layers (data_of c.args.value.now) c.in-Some.ensures c.in_ok-head.ensures c.in_ok-listing.ensures
+returns-clause-faultless c = torrent_layers _ c.in-Some.ensures c.in_ok-head.ensures c.in_ok-listing.ensures
     ∙ c.in_ok-add_layers.ensures.faultless
 
 pub returns-clause-described : goal.returns-clause-described

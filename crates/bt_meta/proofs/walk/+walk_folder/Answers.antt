@@ -9,16 +9,16 @@ use Rattle.bt_meta.proofs.WalkJoins.{passes_nothing, entries_first, folder_stops
 use Rattle.bt_meta.proofs.walk.+walk_folder.Goals as goal
 
 pub returns-in-Int-clause-passed : goal.returns-in-Int-clause-passed
-returns-in-Int-clause-passed t c = rw (nothing_below _ _ (no_dictionary_is c.args.folder.now c.in-Int.is)) passes_nothing
+returns-in-Int-clause-passed t c = rw (nothing_below _ _ (no_dictionary_is _ c.in-Int.is)) passes_nothing
 
 pub returns-in-Int-2-clause-passed : goal.returns-in-Int-2-clause-passed
-returns-in-Int-2-clause-passed t c = rw (nothing_below _ _ (no_dictionary_is c.args.folder.now c.in-Int.is)) passes_nothing
+returns-in-Int-2-clause-passed t c = rw (nothing_below _ _ (no_dictionary_is _ c.in-Int.is)) passes_nothing
 
 pub returns-in-Int-3-clause-passed : goal.returns-in-Int-3-clause-passed
-returns-in-Int-3-clause-passed t c = rw (nothing_below _ _ (no_dictionary_is c.args.folder.now c.in-Int.is)) passes_nothing
+returns-in-Int-3-clause-passed t c = rw (nothing_below _ _ (no_dictionary_is _ c.in-Int.is)) passes_nothing
 
 pub loop-key-init : goal.loop-key-init
-loop-key-init t c = rw (entries_first (folder_elements c.args.path.now) c.deref-key-items.result.now) passes_nothing
+loop-key-init t c = rw (entries_first _ _) passes_nothing
 
 pub returns-in_err-inner-clause-stopped : goal.returns-in_err-inner-clause-stopped
 returns-in_err-inner-clause-stopped t c =

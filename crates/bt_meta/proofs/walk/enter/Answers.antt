@@ -17,15 +17,15 @@ returns-in_default c =
     let path = folder_elements c.args.path.now in
     let key = c.args.key.now in
     let d = data_of c.args.value.now in
-    entry_stops path key d (key_entries path key d c.if-is_empty.ensures) (no_node_stops path key d c.in_default.ensures)
+    entry_stops _ _ d (key_entries _ _ d c.if-is_empty.ensures) (no_node_stops _ _ d c.in_default.ensures)
 
 pub returns-in_default-path_element : goal.returns-in_default-path_element
 returns-in_default-path_element c =
     let path = folder_elements c.args.path.now in
     let key = c.args.key.now in
     let d = data_of c.args.value.now in
-    entry_stops path key d (key_entries path key d c.if-is_empty.ensures)
-    (bad_name_stops path key d (node_is d c.in-Some.node c.in-Some.ensures) (test_of_none (is_path_element key) key c.in_default-path_element.ensures))
+    entry_stops _ _ d (key_entries _ _ d c.if-is_empty.ensures)
+    (bad_name_stops _ _ d (node_is d _ c.in-Some.ensures) (test_of_none _ _ c.in_default-path_element.ensures))
 
 pub returns-in_err-add_file-in-File : goal.returns-in_err-add_file-in-File
 returns-in_err-add_file-in-File c =
@@ -43,10 +43,10 @@ returns-then-folder_length-ge-MAX_PATH_LENGTH c =
     let path = folder_elements c.args.path.now in
     let key = c.args.key.now in
     let d = data_of c.args.value.now in
-    let named = test_of_some (is_path_element key) key c.in-Some-path_element.name.now c.in-Some-path_element.ensures in
+    let named = test_of_some _ _ _ c.in-Some-path_element.ensures in
     let node = rw c.in-Folder.is at c.in-Some.ensures in
-    entry_stops path key d (key_entries path key d c.if-is_empty.ensures)
-    (folder_many path key d node.0 named.0 node.1 (omega (arith, c.if-folder_length-ge-MAX_PATH_LENGTH.true)))
+    entry_stops _ _ d (key_entries _ _ d c.if-is_empty.ensures)
+    (folder_many _ _ d node.0 named.0 node.1 (omega (arith, c.if-folder_length-ge-MAX_PATH_LENGTH.true)))
 
 pub returns-in_ok-add_file-in-File : goal.returns-in_ok-add_file-in-File
 returns-in_ok-add_file-in-File c =

@@ -6,7 +6,7 @@ use Rattle.bt_meta.proofs.WalkTree.{start, key_at_top, tree_stops, no_file, whol
 use Rattle.bt_meta.proofs.walk.read_tree.Goals as goal
 
 pub returns-then-has : goal.returns-then-has
-returns-then-has c = inr (key_at_top c.args.piece_length (data_of c.args.tree.now) c.if-has.ensures)
+returns-then-has c = inr (key_at_top _ _ c.if-has.ensures)
 
 pub returns-in_err-walk_folder : goal.returns-in_err-walk_folder
 returns-in_err-walk_folder c =

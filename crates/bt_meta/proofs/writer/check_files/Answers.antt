@@ -4,7 +4,7 @@ use Rattle.bt_meta.proofs.MakeTally.{taking_begun, taking_more, taking_stops, ta
 use Rattle.bt_meta.proofs.writer.check_files.Goals as goal
 
 pub loop-file-init : goal.loop-file-init
-loop-file-init c = taking_begun c.args.piece_length c.args.files.now (record { files = 0; pieces = 0; lengths = c.new.result }) refl refl c.new.ensures.empty
+loop-file-init c = taking_begun _ _ _ refl refl c.new.ensures.empty
 
 pub take-requires-clause-within : goal.take-requires-clause-within
 take-requires-clause-within c = c.loop-file.invariant.within

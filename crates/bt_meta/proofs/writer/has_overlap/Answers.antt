@@ -5,7 +5,7 @@ use Rattle.bt_meta.proofs.MakeOverlap.{overlap_found, none_overlap}
 use Rattle.bt_meta.proofs.writer.has_overlap.Goals as goal
 
 pub loop-i-init : goal.loop-i-init
-loop-i-init c = apart_begun c.args.files.now
+loop-i-init c = apart_begun _
 
 pub loop-i-preserved : goal.loop-i-preserved
 loop-i-preserved c =

@@ -14,11 +14,11 @@ use Rattle.bt_meta.proofs.writer.make.Goals as goal
 
 pub returns-then-not-is_lawful_length-clause-refused : goal.returns-then-not-is_lawful_length-clause-refused
 returns-then-not-is_lawful_length-clause-refused c =
-    unlawful PieceLength (length_refused c.args.piece_length (map given_of c.args.files.now) c.if-not-is_lawful_length.ensures)
+    unlawful PieceLength (length_refused _ _ c.if-not-is_lawful_length.ensures)
 
 pub returns-then-is_empty-clause-refused : goal.returns-then-is_empty-clause-refused
 returns-then-is_empty-clause-refused c =
-    unlawful Count (none_refused c.args.piece_length c.args.files.now c.if-not-is_lawful_length.ensures c.if-is_empty.ensures)
+    unlawful Count (none_refused _ _ c.if-not-is_lawful_length.ensures c.if-is_empty.ensures)
 
 pub returns-in_err-check_files-clause-refused : goal.returns-in_err-check_files-clause-refused
 returns-in_err-check_files-clause-refused c =
@@ -31,12 +31,12 @@ has_overlap-requires c = rw (c.deref.ensures.value) c.in_ok-ordered.ensures.asce
 
 pub returns-then-has_overlap-clause-refused : goal.returns-then-has_overlap-clause-refused
 returns-then-has_overlap-clause-refused c =
-    overlap (files_refused c.args.piece_length c.args.files.now c.if-not-is_lawful_length.ensures c.if-is_empty.ensures ∙ c.in_ok-check_files.ensures.checked)
-    (same_overlap (map given_of c.args.files.now) _ _ c.in_ok-ordered.ensures.same (rw (c.deref.ensures.value) at c.if-has_overlap.ensures))
+    overlap (files_refused _ _ c.if-not-is_lawful_length.ensures c.if-is_empty.ensures ∙ c.in_ok-check_files.ensures.checked)
+    (same_overlap _ _ _ c.in_ok-ordered.ensures.same (rw (c.deref.ensures.value) at c.if-has_overlap.ensures))
 
 pub value_of-requires-clause-tree_paths : goal.value_of-requires-clause-tree_paths
 value_of-requires-clause-tree_paths c =
-    rw (c.deref-2.ensures.value) (tree_paths (map given_of c.args.files.now) _ c.in_ok-ordered.ensures
+    rw (c.deref-2.ensures.value) (tree_paths _ _ c.in_ok-ordered.ensures
     (rw (c.deref.ensures.value) at (sym c.if-has_overlap.ensures)))
 
 pub value_of-requires-clause-named : goal.value_of-requires-clause-named
@@ -87,7 +87,7 @@ returns-clause-made c =
 
 pub returns-clause-apart : goal.returns-clause-apart
 returns-clause-apart c =
-    same_overlap (map given_of c.args.files.now) _ _ c.in_ok-ordered.ensures.same (rw (c.deref.ensures.value) at c.if-has_overlap.ensures)
+    same_overlap _ _ _ c.in_ok-ordered.ensures.same (rw (c.deref.ensures.value) at c.if-has_overlap.ensures)
 
 pub returns-in_err-ordered-clause-refused : goal.returns-in_err-ordered-clause-refused
 returns-in_err-ordered-clause-refused c =

@@ -12,8 +12,8 @@ returns-clause-some c =
     let same : map file_of items ≡ torrent.files = ap (λ t. t.files) c.self.view_is in
     let lay : IsLaidOut torrent.piece_length torrent.files = rw (← c.self.view_is) c.self.invariant.1.laid_out in
     let point = IsPartitionPoint-from_clause (λ e. leb e.first_piece c.args.piece) _ _ c.partition_point-begun.ensures.partitioned
-    (rw c.deref.ensures.value (entries_parted torrent.files items same torrent.piece_length c.args.piece lay)) (λ a r q k. search rules) in
-    last_of torrent.files items same c.args.piece _ (rw (← c.deref.ensures.value) point) _
+    (rw c.deref.ensures.value (entries_parted _ _ same _ _ lay)) (λ a r q k. search rules) in
+    last_of _ _ same _ _ (rw (← c.deref.ensures.value) point) _
     (rw (← c.deref.ensures.value) c.partition_point-begun.ensures.bound) c.checked_sub.ensures
 
 pub returns-clause-none : goal.returns-clause-none
@@ -23,5 +23,5 @@ returns-clause-none c =
     let same : map file_of items ≡ torrent.files = ap (λ t. t.files) c.self.view_is in
     let lay : IsLaidOut torrent.piece_length torrent.files = rw (← c.self.view_is) c.self.invariant.1.laid_out in
     let point = IsPartitionPoint-from_clause (λ e. leb e.first_piece c.args.piece) _ _ c.partition_point-begun.ensures.partitioned
-    (rw c.deref.ensures.value (entries_parted torrent.files items same torrent.piece_length c.args.piece lay)) (λ a r q k. search rules) in
-    none_of torrent.files items same c.args.piece _ (rw (← c.deref.ensures.value) point) _ c.checked_sub.ensures
+    (rw c.deref.ensures.value (entries_parted _ _ same _ _ lay)) (λ a r q k. search rules) in
+    none_of _ _ same _ _ (rw (← c.deref.ensures.value) point) _ c.checked_sub.ensures

@@ -11,7 +11,7 @@ overflow_sub-at c =
     let e = c.index-file.result.now in
     let same : map file_of c.self.inside.files.items ≡ torrent.files = ap (λ t. t.files) c.self.view_is in
     let last : IsLastFileAt torrent.files c.args.piece c.in-Some.index = c.in-Some.ensures.some in
-    let found = entry_at torrent.files c.self.inside.files.items same c.in-Some.index e c.index-file.ensures last.listed in
+    let found = entry_at _ _ same _ e c.index-file.ensures last.listed in
     rw (found (file_of e)) at (last.begun (file_of e))
 
 pub returns-then-length-eq0-clause-none : goal.returns-then-length-eq0-clause-none
@@ -21,8 +21,8 @@ returns-then-length-eq0-clause-none c span place =
     let same : map file_of c.self.inside.files.items ≡ torrent.files = ap (λ t. t.files) c.self.view_is in
     let lay : IsLaidOut torrent.piece_length torrent.files = rw (← c.self.view_is) c.self.invariant.1.laid_out in
     let last : IsLastFileAt torrent.files c.args.piece c.in-Some.index = c.in-Some.ensures.some in
-    let found = entry_at torrent.files c.self.inside.files.items same c.in-Some.index e c.index-file.ensures last.listed in
-    let asked = fits torrent c.args.piece c.args.begin c.args.length c.in-Some.index (file_of e) last found span lay place in
+    let found = entry_at _ _ same _ e c.index-file.ensures last.listed in
+    let asked = fits _ _ _ _ _ _ last found _ lay place in
     let length = ap (λ t. t.piece_length) c.self.view_is in
     let begun = ap (λ t. (c.args.piece - e.first_piece) * t.piece_length) c.self.view_is in
     elim c.then-length-eq0.branch [
@@ -38,8 +38,8 @@ returns-clause-some c =
     let e = c.index-file.result.now in
     let same : map file_of c.self.inside.files.items ≡ torrent.files = ap (λ t. t.files) c.self.view_is in
     let last : IsLastFileAt torrent.files c.args.piece c.in-Some.index = c.in-Some.ensures.some in
-    let found = entry_at torrent.files c.self.inside.files.items same c.in-Some.index e c.index-file.ensures last.listed in
+    let found = entry_at _ _ same _ e c.index-file.ensures last.listed in
     let some : 1 ≤ c.args.length = omega (arith, c.if-length-eq0.false) in
     rw (ap (λ t. t.piece_length) c.self.view_is)
-    (place_at torrent c.args.piece c.args.begin c.args.length c.in-Some.index (file_of e) last found some c.if-length-gt-MAX_RANGE.false
+    (place_at _ _ _ _ _ _ last found some c.if-length-gt-MAX_RANGE.false
     (rw (← ap (λ t. t.piece_length) c.self.view_is) c.if-end-self.false) (rw (← ap (λ t. t.piece_length) c.self.view_is) c.if-at-end.false))
