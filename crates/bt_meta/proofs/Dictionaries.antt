@@ -82,7 +82,7 @@ module _ (d : Data) where
 pub empty_key : (path : List (List ℕ)) (key : List ℕ) (d : Data) → true ≡ (length key == 0) → tree_entries_of path key d ≡ []
 unfolding tree_entries_among
 empty_key path [] d e = refl
-empty_key path (byte ∷ bytes) d e = absurd (not_empty byte bytes e)
+empty_key path (byte ∷ bytes) d e = absurd (not_empty byte _ e)
   where
     not_empty : (byte : ℕ) (bytes : List ℕ) → true ≡ (length (byte ∷ bytes) == 0) → ⊥
     not_empty byte bytes e = grind (arith, nat_tests)

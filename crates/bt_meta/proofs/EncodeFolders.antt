@@ -99,11 +99,11 @@ module _ (name : List ℕ) (path : List (List ℕ)) (es : List (Vec ℕ × Value
       let whole : entries_of (es ++ (key, v) ∷ []) ≡ entries_before (entries_of es) (entry name (dictionary inner) no_entries) =
       rw (entries_push es key v, seen, named) refl in
       elim behind [
-        | inl before ↦ absurd (not_greater _ (itself name) (before_last name name (dictionary inner) (entries_of es) (rw whole at before)))
+        | inl before ↦ absurd (not_greater _ (itself name) (before_last name name _ _ (rw whole at before)))
         | inr last ↦
-            let p = last_same (entries_of es) last.earlier name name (dictionary inner) (dictionary last.inner) (sym whole ∙ last.last) in
+            let p = last_same _ _ name name _ _ (sym whole ∙ last.last) in
             let i : inner ≡ last.inner = cc in
-            opened_within name path (entries_of (es ++ (key, v) ∷ [])) (entries_of es) inner whole (rw p.0 last.before) (rw i last.behind)
+            opened_within name path _ _ _ whole (rw p.0 last.before) (rw i last.behind)
       ]
 
   -- it is none

@@ -39,10 +39,10 @@ before_more (entry k e es) rest key d = ap (entry k e) (before_more es rest key 
 -- the next pair goes behind the entries
 pub list_more : (es new : Entries) (key : List ℕ) (layer : Bor (List ℕ)) (left rest : List (List ℕ × Bor (List ℕ))) (all : Entries) → left ≡ (key, layer) ∷ rest
     → new ≡ entries_before es (entry key (string layer.now) no_entries) → entries_before es (layer_list left) ≡ all → entries_before new (layer_list rest) ≡ all
-list_more es new key layer left rest all e put h = rw put (before_more es (layer_list rest) key (string layer.now)) ∙ rw e at h
+list_more es new key layer left rest all e put h = rw put (before_more _ _ _ _) ∙ rw e at h
 
 pub list_found : (es : Entries) (left : List (List ℕ × Bor (List ℕ))) (all : Entries) → left ≡ [] → entries_before es (layer_list left) ≡ all → es ≡ all
-list_found es left all e h = sym (before_none es) ∙ rw e at h
+list_found es left all e h = sym (before_none _) ∙ rw e at h
 
 pub list_ascends : (es : List (List ℕ × Bor (List ℕ))) → IsStrictlySortedBy (slice_cmp nat_cmp) (keys_of es) → EntriesAscend (layer_list es)
 unfolding IsStrictlySortedBy EntriesAscend HasAscendingKeys
@@ -67,8 +67,8 @@ pub list_finds : (es : List (List ℕ × Bor (List ℕ))) (root : List ℕ)
 list_finds [] root = refl
 list_finds (e ∷ es) root =
     ap (λ t. if t then Some (string e.1.now) else first_value_of (layer_list es) root) (same_bytes_either_way e.0 root ∙ sym (is_eq-slice_cmp root e.0))
-    ∙ choice (λ (layer : Bor (List ℕ)). string layer.now) (is_eq (slice_cmp nat_cmp root e.0)) e.1 (lookup (is_at (slice_cmp nat_cmp root)) es)
-    (first_value_of (layer_list es) root) (list_finds es root)
+    ∙ choice (λ (layer : Bor (List ℕ)). string layer.now) _ e.1 _
+    _ (list_finds es root)
 
 -- ---- one file more
 
@@ -98,7 +98,7 @@ module _ (n : ℕ) (files : List Given) (f : Given) where
   -- the first layer is that of the files before, or else that of the file
   behind : (root : List ℕ) → first_layer n (files ++ f ∷ []) root ≡ option_or (first_layer n files root) (first_layer n (f ∷ []) root)
   behind root = ap (option_map (λ (g : Given). g.layer)) (find-append (has root) files (f ∷ []))
-      ∙ behind_first (find (has root) files) (find (has root) (f ∷ []))
+      ∙ behind_first _ _
 
   -- the file has no layer at this root
   behind_none : (root : List ℕ) → has root f ≡ false → first_layer n (files ++ f ∷ []) root ≡ first_layer n files root

@@ -101,13 +101,13 @@ grown_found files i tree h all = h.made ∙ ap tree_made (take_all i files all)
 
 pub lent_at : (files : List (Bor Made)) (i : ℕ) (m : Bor Made) → i < length files → m ≡ get_or files i m
     → given_at m ≡ get_or (map given_at files) i (given_at m)
-lent_at files i m lt is = ap given_at is ∙ sym (get_or-map given_at files i m (given_at m) lt)
+lent_at files i m lt is = ap given_at is ∙ sym (get_or-map _ files i m (given_at m) lt)
 
 pub behind_here : (files : List (Bor Made)) (i : ℕ) (m : Bor Made) (tree : Entries) → i < length files → m ≡ get_or files i m
     → IsGrown (map given_at files) i tree → ComesAfter (given_at m).path tree
 behind_here files i m tree lt is h =
-    let within : i < length (map given_at files) = rw (length-map files given_at) lt in
-    subst (λ (g : Given). ComesAfter g.path tree) (sym (lent_at files i m lt is)) (h.behind (given_at m) within)
+    let within : i < length (map given_at files) = rw (length-map _ _) lt in
+    subst (λ (g : Given). ComesAfter g.path tree) (sym (lent_at _ i m lt is)) (h.behind (given_at m) within)
 
 -- ---- what is so of the tree of all files
 
@@ -136,4 +136,4 @@ module _ (files : List Given) (tree_paths : HaveTreePaths files) (named : All (�
       )
 
   pub grows : P files (tree_made files)
-  grows = subst (λ fs. P fs (tree_made fs)) (take_all (length files) files (omega arith)) (grown_to (length files) (omega arith)).1
+  grows = subst (λ fs. P fs (tree_made fs)) (take_all (length files) files (omega arith)) (grown_to _ (omega arith)).1

@@ -39,7 +39,7 @@ next_above (x ∷ xs) (suc k) d h lt = next_above xs k d h.2 (omega arith)
 other_head : (k key : List ℕ) (d : Data) (es : Entries) → (slice_cmp nat_cmp k key ≡ Equal → ⊥) → first_value_of (entry k d es) key ≡ first_value_of es key
 other_head k key d es h =
     let other : pointwise nat_eq k key ≡ false =
-    false_from_ne_true (pointwise nat_eq k key) (λ t. h (rw ((bytes_eq-Decides k key).0 t) (tied_itself nat_list_cmp_total key))) in
+    false_from_ne_true _ (λ t. h (rw ((bytes_eq-Decides k key).0 t) (tied_itself nat_list_cmp_total key))) in
     rw other refl
 
 module _ (key : List ℕ) where
@@ -50,7 +50,7 @@ module _ (key : List ℕ) where
   found_at (x ∷ xs) zero d h lt e = rw ((bytes_eq-Decides _ _).1 e) refl
   found_at (x ∷ xs) (suc i) d h lt e =
       let less : slice_cmp nat_cmp x.0.items key ≡ Less = rw e at (before_head x _ i d h (omega arith)) in
-      found_at xs i d h.2 (omega arith) e ∙ sym (other_head x.0.items key (data_of x.1) (entries_of xs) (λ tied. cc))
+      found_at xs i d h.2 (omega arith) e ∙ sym (other_head x.0.items key _ _ (λ tied. cc))
 
   found_nowhere : (es : List (Vec ℕ × Value)) → ((i : ℕ) (d : Vec ℕ × Value) → i < length es → entry_cmp key (get_or es i d) ≡ Equal → ⊥)
       → None ≡ first_value_of (entries_of es) key
@@ -63,12 +63,12 @@ module _ (key : List ℕ) where
 
     pub found_here : (i : ℕ) (d : Vec ℕ × Value) → i < length es → HoldsAt (λ y. entry_cmp key y ≡ Equal) es i
         → Some (data_of (get_or es i d).1) ≡ first_value_of (entries_of es) key
-    found_here i d lt equal = found_at es i d ascend lt (exact_bytes _ key (equal d))
+    found_here i d lt equal = found_at _ i d ascend lt (exact_bytes _ key (equal d))
 
     pub not_found : (i : ℕ) → IsBinarySearchResult (entry_cmp key) es (Err i) → None ≡ first_value_of (entries_of es) key
     not_found i parted =
-        let point = parted (searchable_from_sorted nat_list_cmp_total (λ e. e.0.items) es key sorted) in
-        found_nowhere es (λ k d lt equal. elim (cases_lt k i) [
+        let point = parted (searchable_from_sorted nat_list_cmp_total (λ e. e.0.items) _ _ sorted) in
+        found_nowhere _ (λ k d lt equal. elim (cases_lt k i) [
           | inl below ↦ let less = point.0 k d (omega arith) below in cc
           | inr above ↦ let greater = point.1 k d above lt in cc
         ])

@@ -21,6 +21,6 @@ none_of test (x ∷ xs) h = let p = or_parts _ _ h in All-cons (λ y. test y ≡
 pub pairs_append : {A : Type 0} (R : A → A → Type 0) (xs ys : List A) → AllPairs R xs → AllPairs R ys → All (λ x. All (R x) ys) xs → AllPairs R (xs ++ ys)
 pairs_append R [] ys h k cross = k
 pairs_append R (x ∷ xs) ys h k cross =
-    AllPairs-cons R x (xs ++ ys)
+    AllPairs-cons R x _
     (All-append (R x) xs ys (λ i d within. h 0 (suc i) d (omega arith) (omega arith)) (All-head (λ z. All (R z) ys) x xs cross))
-    (pairs_append R xs ys (λ i j d lt within. h (suc i) (suc j) d (omega arith) (omega arith)) k (All-tail (λ z. All (R z) ys) x xs cross))
+    (pairs_append R xs ys (λ i j d lt within. h (suc i) (suc j) d (omega arith) (omega arith)) k (All-tail (λ z. All (R z) ys) x _ cross))

@@ -105,9 +105,9 @@ canonical_put (name ∷ path) m (suc n) d old new put some here le =
     let all : AreCanonicalWithin (n + 1) old = rw add-one some in
     let parts : AreCanonicalWithin (n + 1) put.earlier × AreCanonicalWithin n put.inner = elim put.split [
       | inl s ↦ (rw (← s.0) all, rw s.1 none_canonical)
-      | inr e ↦ let p = parts_canonical name (dictionary put.inner) put.earlier (rw e at all) in (p.0, within_dictionary n put.inner p.1)
+      | inr e ↦ let p = parts_canonical name _ _ (rw e at all) in (p.0, within_dictionary n put.inner p.1)
     ] in
-    rw (← add-one, put.new_is) (last_canonical name (dictionary put.more) put.earlier put.before parts.0
+    rw (← add-one, put.new_is) (last_canonical name _ _ put.before parts.0
     (dictionary_canonical n (canonical_put path m n d put.inner put.more put.below parts.1 here (omega arith))))
 
 -- ---- the tree of files
@@ -125,7 +125,7 @@ tree_canonical files tree_paths named low short =
     grows files tree_paths named (λ fs tree. AreCanonicalWithin 65 tree) none_canonical (λ i tree lt behind some.
     let f = get_or files i nothing in
     let depth = low i nothing lt in
-    canonical_put f.path 1 65 (properties_made f) tree _ (put_there f.path (properties_made f) tree behind) some
+    canonical_put f.path 1 65 _ tree _ (put_there _ _ tree behind) some
     (properties_canonical f (short i nothing lt)) (omega arith))
 
 -- ---- ascending entries, by the first value of each key
@@ -163,7 +163,7 @@ unfolding EntriesAscend
 values_canonical n no_entries keys all = none_canonical
 values_canonical n (entry key d es) keys all =
     first_canonical keys.0 (all key d (first_here key d es))
-    (values_canonical n es keys.2 (λ k e is. all k e (first_later key k d e es keys.2 keys.0 is)))
+    (values_canonical n es keys.2 (λ k e is. all k e (first_later _ k d e es keys.2 keys.0 is)))
 
 layer_canonical : (layer : Option (List ℕ)) (d : Data) → option_map string layer ≡ Some d → IsCanonicalWithin 0 d
 layer_canonical None d e = cc
@@ -171,7 +171,7 @@ layer_canonical (Some s) d e = let is : string s ≡ d = cc in rw (← is) strin
 
 pub layers_canonical : (piece_length : ℕ) (files : List Given) (layers : Entries) → AreLayersOf piece_length files layers → AreCanonicalWithin 0 layers
 layers_canonical piece_length files layers h =
-    values_canonical 0 layers h.ascending (λ key d is. layer_canonical (first_layer piece_length files key) d (sym (h.first key) ∙ is))
+    values_canonical 0 _ h.ascending (λ key d is. layer_canonical _ d (sym (h.first key) ∙ is))
 
 -- ---- the whole
 
@@ -193,5 +193,5 @@ module _ (name : List ℕ) (piece_length : ℕ) (files : List Given) where
       → All (λ f. f.length ≤ max_file_length) files → AreLayersOf piece_length files layers → IsCanonical (value_made name piece_length files layers)
   canonical_made layers lawful tree_paths named low short layered =
       canonical_up (omega arith) (dictionary_canonical 67
-      (first_canonical refl (info_canonical (small_piece piece_length lawful) (tree_canonical files tree_paths named low short))
-      (first_canonical tt (canonical_up (omega arith) (dictionary_canonical 0 (layers_canonical piece_length files layers layered))) none_canonical)))
+      (first_canonical refl (info_canonical (small_piece _ lawful) (tree_canonical _ tree_paths named low short))
+      (first_canonical tt (canonical_up (omega arith) (dictionary_canonical 0 (layers_canonical _ _ _ layered))) none_canonical)))

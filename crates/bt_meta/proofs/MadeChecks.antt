@@ -43,7 +43,7 @@ agree_free p before h = elim (cases_Bool (length_of p == 0)) [
   | inl none ↦ rw none refl
   | inr some ↦
       let filled : length_of p ≢ 0 = λ e. let zero : (length_of p == 0) ≡ true = grind (arith, nat_tests) in true≢false (sym zero ∙ some) in
-      let none = list_any_none (λ q. is_conflict (root_of p) (length_of p) (root_of q) (length_of q)) (filter is_file before)
+      let none = list_any_none (λ q. is_conflict (root_of p) (length_of p) (root_of q) (length_of q)) _
       (λ k d lt. let q = get_or (filter is_file before) k d in
       conflict_free (root_of p) (length_of p) (root_of q) (length_of q) (λ other same. sym (h k d lt filled other (sym same)))) in
       rw (some, any_filter p before) none
@@ -67,7 +67,7 @@ module _ (n : ℕ) (all : List TreeEntry) (good : All IsGood all) (alike : All (
       let files = ap length whole ∙ length-append (filter is_file (before ++ p ∷ [])) (filter is_file rest) in
       let pieces = ap (sum_by count) whole ∙ sum_by-append count (filter is_file (before ++ p ∷ [])) (filter is_file rest) in
       let many : is_too_many n before p ≡ false =
-      not_too_many (is_file p) (length p.path) (length (filter is_file (before ++ p ∷ []))) (pieces_of n (before ++ p ∷ [])) here.shallow
+      not_too_many (is_file p) (length p.path) _ (pieces_of n (before ++ p ∷ [])) here.shallow
       (omega arith) (omega arith) in
       elim (cases_Bool (is_file p)) [
         | inl file ↦
@@ -84,7 +84,7 @@ module _ (n : ℕ) (all : List TreeEntry) (good : All IsGood all) (alike : All (
   entries_pass : (before es : List TreeEntry) → before ++ es ≡ all → first_of (with_earlier (entry_check n) before es) ≡ None
   entries_pass before [] e = refl
   entries_pass before (p ∷ es) e =
-      skips (entry_check n before p) (with_earlier (entry_check n) (before ++ p ∷ []) es) (one_passes before p es e)
+      skips _ _ (one_passes before p es e)
       ∙ entries_pass (before ++ p ∷ []) es (append_assoc before (p ∷ []) es ∙ e)
 
 -- ---- the files as entries
@@ -120,7 +120,7 @@ pub tree_passes : (n : ℕ) (files : List Given) (tree : Entries) → IsTreeOf f
 unfolding tree_checks tree_entries_below has_key
 tree_passes n files tree h alike few pieces some =
     let es = tree_entries_among [] tree in
-    let pass = entries_pass n es h.good (rw h.tree_entries (alike_entries files alike)) (rw (h.tree_entries, length-map files entry_made) few)
+    let pass = entries_pass n es h.good (rw h.tree_entries (alike_entries files alike)) (rw (h.tree_entries, length-map files _) few)
     (rw h.tree_entries (rw (count_made n files) pieces)) [] es refl in
-    let there : list_any is_file es ≡ true = some_file es (map entry_made files) h.tree_entries (rw (length-map files entry_made) some) in
-    rw (h.nameless) (first_of-append (with_earlier (entry_check n) [] es) (fault_if (not (list_any is_file es)) Tree ∷ []) pass ∙ rw there refl)
+    let there : list_any is_file es ≡ true = some_file es _ h.tree_entries (rw (length-map _ _) some) in
+    rw (h.nameless) (first_of-append (with_earlier (entry_check n) [] es) _ pass ∙ rw there refl)

@@ -110,17 +110,17 @@ has_names path = list_all is_element path
 old_nameless : (path : List (List ℕ)) (d : Data) (old new : Entries) → has_names path ≡ true → IsPut d path old new → first_value_of old [] ≡ None
 old_nameless [] d old new lawful put = rw put.0 refl
 old_nameless (name ∷ path) d old new lawful put =
-    let named = element_named name (and_parts (is_element name) (has_names path) lawful).0 in
+    let named = element_named name (and_parts _ _ lawful).0 in
     elim put.split [
       | inl s ↦ rw s.0 (nameless name put.earlier put.before)
-      | inr e ↦ rw e (nameless_with name (dictionary put.inner) put.earlier named (nameless name put.earlier put.before))
+      | inr e ↦ rw e (nameless_with name (dictionary put.inner) put.earlier named (nameless name _ put.before))
     ]
 
 pub new_nameless : (name : List ℕ) (path : List (List ℕ)) (d : Data) (old new : Entries) → has_names (name ∷ path) ≡ true
     → IsPut d (name ∷ path) old new → first_value_of new [] ≡ None
 new_nameless name path d old new lawful put =
-    rw put.new_is (nameless_with name (dictionary put.more) put.earlier (element_named name (and_parts (is_element name) (has_names path) lawful).0)
-    (nameless name put.earlier put.before))
+    rw put.new_is (nameless_with name (dictionary put.more) put.earlier (element_named name (and_parts _ _ lawful).0)
+    (nameless name _ put.before))
 
 module _ (properties : Entries) (faultless : first_of (property_checks (dictionary properties)) ≡ None) where
   pub put_in : (prefix path : List (List ℕ)) (old new : Entries) → is_path_element (unwrap_or (last_or None prefix) []) ≡ true → has_names path ≡ true
@@ -130,7 +130,7 @@ module _ (properties : Entries) (faultless : first_of (property_checks (dictiona
   put_in prefix [] old new last lawful shallow put =
       let whole = append-nil prefix in
       rw (put.0, put.1) (record {
-        good = λ h. All-cons IsGood (record { path = prefix; value = file_value properties }) []
+        good = λ h. All-cons IsGood _ []
             (good_file prefix last (rw whole at shallow) properties faultless) (All-nil IsGood);
         files = rw (value_is_file prefix properties, whole) refl;
       })
@@ -156,7 +156,7 @@ module _ (properties : Entries) (faultless : first_of (property_checks (dictiona
             rw (e, there) (
               (λ h. (
                 All-front IsGood ahead (with_folder inner put.inner) h,
-                All-tail IsGood (record { path = inner; value = dictionary put.inner })
+                All-tail IsGood _
                     (tree_entries_among inner put.inner) (All-back IsGood ahead (with_folder inner put.inner) h),
               )),
               filter-append is_file ahead (with_folder inner put.inner) ∙ rw folder refl,

@@ -73,16 +73,16 @@ taken piece_length before f h =
     ∷ [] in
     let p = each_none all h in
     let q = each_none own p.0 in
-    let limits = within_limits (length f.path) (length (before ++ f ∷ [])) (count_in piece_length (before ++ f ∷ []))
-    (not_faulty (is_beyond piece_length before f) Count p.1.1.0) in
+    let limits = within_limits (length f.path) _ _
+    (not_faulty _ Count p.1.1.0) in
     record {
       lawful = record {
-        path = holds_unless (is_path f.path) BadPath q.0;
-        short = leb-true f.length max_file_length (holds_unless (nat_le f.length max_file_length) FileLength q.1.0);
+        path = holds_unless _ BadPath q.0;
+        short = leb-true f.length _ (holds_unless _ FileLength q.1.0);
         layer = q.1.1.0;
         shallow = limits.0;
       };
-      alike = not_faulty (conflict_with before f) RootConflict p.1.0;
+      alike = not_faulty _ RootConflict p.1.0;
       few = limits.1;
       pieces = limits.2;
     }
@@ -114,8 +114,8 @@ module _ (piece_length : ℕ) where
       → first_of (with_earlier (file_refusal piece_length) before files) ≡ None → AreLawful piece_length (before ++ files)
   lawful_behind before [] h none = rw (append-nil before) h
   lawful_behind before (f ∷ files) h none =
-      let p = first_none (file_refusal piece_length before f) (with_earlier (file_refusal piece_length) (before ++ f ∷ []) files) none in
-      let one = taken piece_length before f p.0 in
+      let p = first_none _ _ none in
+      let one = taken _ before f p.0 in
       let more : AreLawful piece_length (before ++ f ∷ []) = record {
         each = All-push (IsLawful piece_length) before f h.each one.lawful;
         alike = alike_more before f h.alike (all_agree before f one.alike);
@@ -129,7 +129,7 @@ module _ (piece_length : ℕ) where
     pub lawful_ordered : AreLawful piece_length ordered
     lawful_ordered =
         let h = lawful_behind [] files (record {
-          each = All-nil (IsLawful piece_length);
+          each = All-nil _;
           alike = All-nil (λ f. All (Agree f) []);
           few =
               omega arith;
@@ -138,9 +138,9 @@ module _ (piece_length : ℕ) where
         record {
           each = All-permutation (IsLawful piece_length) files ordered order.same h.each;
           alike = All-permutation (λ f. All (Agree f) ordered) files ordered order.same
-              (λ i d lt. All-permutation (Agree (get_or files i d)) files ordered order.same (h.alike i d lt));
-          few = rw (length_permutation files ordered order.same) h.few;
-          pieces = rw (sum_by-IsPermutation (λ (g : Given). piece_count piece_length g.length) files ordered order.same) h.pieces;
+              (λ i d lt. All-permutation (Agree (get_or files i d)) files _ order.same (h.alike i d lt));
+          few = rw (length_permutation files _ order.same) h.few;
+          pieces = rw (sum_by-IsPermutation (λ (g : Given). piece_count piece_length g.length) files _ order.same) h.pieces;
         }
 
     pub ordered_named : All (λ g. AreNonEmpty g.path) ordered

@@ -57,7 +57,7 @@ module _ (n : ℕ) (f : Given) (long : nat_lt n f.length ≡ true) where
   -- that of a file of the same root does
   layer_of : (g : Given) → has g ≡ true → IsLawful n g × Agree f g → IsLayer g.layer
   layer_of g h both =
-      let parts = and_parts (nat_lt n g.length) (pointwise nat_eq g.root f.root) h in
+      let parts = and_parts _ _ h in
       let rooted = (bytes_eq-Decides g.root f.root).0 parts.1 in
       let sized = sym (both.1 (more_bytes n f.length long) (more_bytes n g.length parts.0) (sym rooted)) in
       let checks : List Check = fault_if (not (has_layer_size n g.length g.layer)) layer_size ∷ fault_if
@@ -65,7 +65,7 @@ module _ (n : ℕ) (f : Given) (long : nat_lt n f.length ≡ true) where
       let own = each_none checks (rw parts.0 at both.0.layer) in
       record {
         size = rw (← sized) (holds_unless (has_layer_size n g.length g.layer) layer_size own.0);
-        root = rw (← sized, ← rooted) (holds_unless (has_root n g.length g.root g.layer) layer_differs own.1.0);
+        root = rw (← sized, ← rooted) (holds_unless _ _ own.1.0);
       }
 
   -- the look-up finds such a layer
@@ -101,7 +101,7 @@ module _ (n : ℕ) (all : List Given) (layers : Entries) (layered : AreLayersOf 
       → first_of (map (layer_check n (dictionary layers)) (map entry_made files)) ≡ None
   layers_pass h before [] e = refl
   layers_pass h before (f ∷ files) e =
-      skips (layer_check n (dictionary layers) (entry_made f)) (map (layer_check n (dictionary layers)) (map entry_made files))
+      skips _ _
       (layer_passes h before f files e)
       ∙ layers_pass h (before ++ f ∷ []) files (append_assoc before (f ∷ []) files ∙ e)
 
@@ -172,7 +172,7 @@ module _ (name : List ℕ) (n : ℕ) (files : List Given) (layers : Entries) whe
     made_passes : is_piece_length n ≡ true → AreLawful n files → length files ≢ 0 → first_fault value ≡ None
     unfolding first_fault layer_checks tree_entries_below
     made_passes lawful h some =
-        let body = tree_passes n files (tree_made files) tree h.alike h.few h.pieces some in
+        let body = tree_passes n files _ tree h.alike h.few h.pieces some in
         let checks = layer_checks n (dictionary layers) (dictionary (tree_made files)) in
         let behind : first_of checks ≡ None = rw (tree.tree_entries) (layers_pass n files layers layered h [] files refl) in
         rw (info_there, info_is, layers_are, length_is, tree_there)
@@ -197,16 +197,16 @@ pub torrent_of_given : (name : List ℕ) (n : ℕ) (files : List Made) (ordered 
     → IsTorrent bytes (torrent_made name n ordered)
 torrent_of_given name n files ordered layers bytes lawful some none rooted order tree_paths layered small spelled =
     let given = map given_of files in
-    let h = lawful_ordered n given ordered none order in
-    let named = ordered_named n given ordered none order in
-    let tree = tree_is n ordered tree_paths named h.each (All-permutation HasRoot given ordered order.same rooted) in
+    let h = lawful_ordered n given _ none order in
+    let named = ordered_named n given _ none order in
+    let tree = tree_is n _ tree_paths named h.each (All-permutation HasRoot given _ order.same rooted) in
     let more : length files ≢ 0 = grind (arith, nat_tests) in
-    let as_many : length ordered ≡ length files = length_permutation given ordered order.same ∙ length-map files given_of in
+    let as_many : length ordered ≡ length files = length_permutation given _ order.same ∙ length-map files _ in
     record {
       value = value_made name n ordered layers;
       small = small;
-      canonical = canonical_made name n ordered layers lawful tree_paths named (λ i d lt. (h.each i d lt).shallow) (λ i d lt. (h.each i d lt).short) layered;
+      canonical = canonical_made name n _ layers lawful tree_paths named (λ i d lt. (h.each i d lt).shallow) (λ i d lt. (h.each i d lt).short) layered;
       spelled = sym spelled;
-      faultless = made_passes name n ordered layers layered tree lawful h (rw as_many more);
-      described = said name n ordered layers layered tree;
+      faultless = made_passes name n _ layers layered tree lawful h (rw as_many more);
+      described = said name n _ layers layered tree;
     }

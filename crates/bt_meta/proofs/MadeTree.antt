@@ -30,7 +30,7 @@ length_made f = refl
 
 pub root_made : (f : Given) → root_in (properties_made f) ≡ (if f.length == 0 then replicate 32 0 else f.root)
 unfolding root_in length_in integer_at string_at
-root_made f = by_test (f.length == 0) refl
+root_made f = by_test _ refl
   where
     by_test : (b : Bool) → b ≡ (f.length == 0) → root_in (properties_made f) ≡ (if b then replicate 32 0 else f.root)
     by_test true e = rw (← e) refl
@@ -89,7 +89,7 @@ module _ (piece_length : ℕ) where
       → IsTreeOf (before ++ f ∷ []) (with_file f.path (properties_made f) tree)
   unfolding is_path_element
   file_more before f tree lawful rooted behind h =
-      by_path f.path refl (and_parts (not (length f.path == 0)) (has_names f.path) lawful.path) (put_there f.path (properties_made f) tree behind)
+      by_path _ refl (and_parts _ _ lawful.path) (put_there _ _ _ behind)
     where
       by_path : (path : List (List ℕ)) → path ≡ f.path → (not (length path == 0) ≡ true) × (has_names path ≡ true)
           → IsPut (properties_made f) path tree (with_file f.path (properties_made f) tree)
@@ -99,12 +99,12 @@ module _ (piece_length : ℕ) where
           let new = with_file f.path (properties_made f) tree in
           let more = put_in _ (properties_pass f lawful.short rooted) [] (name ∷ path) tree new (is_utf8-from_IsUtf8 [] IsUtf8-nil) names.1
           (rw (← is) at lawful.shallow) put in
-          let none = new_nameless name path (properties_made f) tree new names.1 put in
+          let none = new_nameless _ _ _ _ _ names.1 put in
           record {
-            good = All-tail IsGood (record { path = []; value = dictionary new }) (tree_entries_among [] new) (more.good h.good);
+            good = All-tail IsGood _ _ (more.good h.good);
             tree_entries = ap (λ b. cond b (record { path = []; value = dictionary new } ∷ filter is_file (tree_entries_among [] new))
                 (filter is_file (tree_entries_among [] new))) (sym (folder_is_none [] new none))
-                ∙ more.files ∙ rw (h.tree_entries, is, map_push entry_made before f) refl;
+                ∙ more.files ∙ rw (h.tree_entries, is, map_push _ _ f) refl;
             nameless = none;
           }
 
@@ -112,4 +112,4 @@ module _ (piece_length : ℕ) where
       → All HasRoot files → IsTreeOf files (tree_made files)
   tree_is files tree_paths named lawful rooted =
       grows files tree_paths named IsTreeOf tree_begun
-      (λ i tree lt behind h. file_more (take i files) (get_or files i nothing) tree (lawful i nothing lt) (rooted i nothing lt) behind h)
+      (λ i tree lt behind h. file_more (take i files) _ tree (lawful i nothing lt) (rooted i nothing lt) behind h)

@@ -39,12 +39,12 @@ apart_begun files k d lt = absurd (omega arith)
 
 pub apart_more : (files : List (Bor Made)) (i : ℕ) (m n : Bor Made) → 1 ≤ i → i < length files → m ≡ get_or files (i - 1) m → n ≡ get_or files i n
     → begins (given_at m).path (given_at n).path ≡ false → AreApartTo files i → AreApartTo files (i + 1)
-apart_more files i m n some lt first second apart h k d below = elim (cases_lt (k + 1) i) [
+apart_more files i m n some lt first second apart h k d below = elim (cases_lt _ i) [
   | inl sooner ↦ h k d sooner
   | inr here ↦
       let last : k ≡ i - 1 = omega arith in
       let next : k + 1 ≡ i = omega arith in
-      rw (next, last, lent_is files (i - 1) m d (omega arith) first, lent_is files i n d lt second) apart
+      rw (next, last, lent_is files _ m d (omega arith) first, lent_is files i n d lt second) apart
 ]
 
 pub apart_found : (files : List (Bor Made)) (i : ℕ) → AreApartTo files i → length files ≤ i → AreApart (map given_at files)
@@ -72,10 +72,10 @@ before_next p q Greater is up apart =
 
 pub tree_paths : (files ordered : List Given) → IsInTreeOrder files ordered → have_overlap ordered ≡ false → HaveTreePaths ordered
 tree_paths files ordered h none k d lt =
-    let apart : AreApart ordered = next_apart ordered none in
+    let apart : AreApart ordered = next_apart _ none in
     let p = (get_or ordered k d).path in
     let q = (get_or ordered (k + 1) d).path in
-    (before_next p q (path_order p q) refl (h.ascending k d (omega arith) lt) (apart k d lt), apart k d lt)
+    (before_next p q _ refl (h.ascending k d (omega arith) lt) (apart k d lt), apart k d lt)
 
 -- ---- the first refusal
 

@@ -31,12 +31,12 @@ ranks = ranks_by (lists_total nat_list_cmp_total) (λ (m : Bor Made). (given_at 
 sorted_map : {A B : Type 0} (key : A → B) (lt : B → B → Bool) (xs : List A) → IsSortedBy (λ x y. lt (key x) (key y)) xs → IsSortedBy lt (map key xs)
 sorted_map key lt [] h k d low next = absurd (omega arith)
 sorted_map key lt (x ∷ xs) h k d low next =
-    let within : k + 1 < length (x ∷ xs) = rw (← length-map (x ∷ xs) key) next in
+    let within : k + 1 < length (x ∷ xs) = rw (← length-map _ key) next in
     rw (get_or-map key (x ∷ xs) (k + 1) x d within, get_or-map key (x ∷ xs) k x d (omega arith)) (h k x low within)
 
 pub in_order : (files : List Given) (before after : List (Bor Made)) → map given_at before ≡ files → IsPermutation before after → IsSortedBy lent_before after
     → IsInTreeOrder files (map given_at after)
 in_order files before after same permuted sorted = record {
-  same = rw (← same) (IsPermutation-map given_at before after permuted);
-  ascending = sorted_map given_at is_before after sorted;
+  same = rw (← same) (IsPermutation-map _ before after permuted);
+  ascending = sorted_map _ is_before after sorted;
 }

@@ -50,7 +50,7 @@ begins_back [] [] h up = refl
 begins_back [] (n ∷ p) h up = cc
 begins_back (m ∷ r) [] h up = cc
 begins_back (m ∷ r) (n ∷ p) h up =
-    let parts = and_parts (pointwise nat_eq m n) (begins r p) h in
+    let parts = and_parts _ (begins r p) h in
     let same : m ≡ n = (bytes_eq-Decides m n).0 parts.0 in
     let level : slice_cmp nat_cmp m n ≡ Equal = rw same (tied_itself nat_list_cmp_total n) in
     rw ((bytes_eq-Decides n m).1 (sym same)) (begins_back r p parts.1 (rw level at up))
@@ -102,11 +102,11 @@ distinct_pairs (f ∷ files) =
 -- in another order no other files overlap
 none_in : (files ordered : List Given) → IsPermutation files ordered → have_overlap files ≡ false → have_overlap ordered ≡ false
 none_in files ordered same h = (none_distinct ordered).1
-    (IsDistinct-IsPermutation is_overlap (λ f g. flipped_or (begins f.path g.path) (begins g.path f.path)) files ordered same ((none_distinct files).0 h))
+    (IsDistinct-IsPermutation _ (λ f g. flipped_or (begins f.path g.path) (begins g.path f.path)) files ordered same ((none_distinct files).0 h))
 
 pub same_overlap : (files ordered : List Given) (b : Bool) → IsPermutation files ordered → b ≡ have_overlap ordered → have_overlap files ≡ b
-same_overlap files ordered true same is = true_from_ne_false (have_overlap files) (λ none. true≢false (is ∙ none_in files ordered same none))
-same_overlap files ordered false same is = none_in ordered files (IsPermutation-sym files ordered same) (sym is)
+same_overlap files ordered true same is = true_from_ne_false _ (λ none. true≢false (is ∙ none_in _ _ same none))
+same_overlap files ordered false same is = none_in _ _ (IsPermutation-sym _ _ same) (sym is)
 
 -- ---- in tree order
 
@@ -125,14 +125,14 @@ module _ (files : List Given) (up : IsSortedBy is_before files) where
   far = sorted_far is_before (ranks_by (lists_total nat_list_cmp_total) (λ (f : Given). f.path)) files up
 
   pub none_overlap : AreApart files → false ≡ have_overlap files
-  none_overlap apart = sym ((none_distinct files).1 ((distinct_pairs files).1 (λ i j d lt within.
+  none_overlap apart = sym ((none_distinct _).1 ((distinct_pairs _).1 (λ i j d lt within.
       let p = (get_or files i d).path in
       let r = (get_or files j d).path in
       let forth : begins p r ≡ true → ⊥ =
-      λ h. true≢false (sym (begins_between p (get_or files (i + 1) d).path r (far i (i + 1) d (omega arith) (omega arith))
-      (far (i + 1) j d (omega arith) within) h) ∙ apart i d (omega arith)) in
-      or_from (begins p r) (begins r p) (false_from_ne_true (begins p r) forth)
-      (false_from_ne_true (begins r p) (λ h. forth (begins_back r p h (far i j d (omega arith) within)))))))
+      λ h. true≢false (sym (begins_between p _ r (far i _ d (omega arith) (omega arith))
+      (far _ j d (omega arith) within) h) ∙ apart i d (omega arith)) in
+      or_from _ _ (false_from_ne_true _ forth)
+      (false_from_ne_true _ (λ h. forth (begins_back r p h (far i j d (omega arith) within)))))))
 
 pub lent_is : (files : List (Bor Made)) (i : ℕ) (m : Bor Made) (d : Given) → i < length files → m ≡ get_or files i m
     → get_or (map given_at files) i d ≡ given_at m
@@ -145,5 +145,5 @@ overlap_found files i m n some lt first second h =
     let on : i - 1 + 1 ≡ i = omega arith in
     let long : length (map given_at files) ≡ length files = length-map _ _ in
     sym (true_from_ne_false _ (λ none.
-    true≢false (sym h ∙ (rw (on, lent_is files (i - 1) m (given_at m) (omega arith) first, lent_is files i n (given_at m) lt second) at
+    true≢false (sym h ∙ (rw (on, lent_is files (i - 1) m _ (omega arith) first, lent_is files i n _ lt second) at
     (next_apart (map given_at files) none (i - 1) (given_at m) (omega arith))))))

@@ -24,7 +24,7 @@ use Rattle.bt_meta.proofs.RootLengths.{noted_more}
 pub path_test : (path : List (String Global)) (all : Bool) → false ≡ (length path == 0) → all ≡ list_all (λ e. is_element (string_bytes e)) path
     → all ≡ is_path (map string_bytes path)
 path_test path all some is =
-    let more : false ≡ (length (map string_bytes path) == 0) = some ∙ ap (λ n. n == 0) (sym (length-map path string_bytes)) in
+    let more : false ≡ (length (map string_bytes path) == 0) = some ∙ ap (λ n. n == 0) (sym (length-map path _)) in
     is ∙ sym (list_all-map is_element string_bytes path) ∙ ap (λ b. not b && list_all is_element (map string_bytes path)) more
 
 pub lengths_noted : (files : List Given) (f : Given) (old new : Lengths) (other : List ℕ) (n : ℕ) → (f.length == 0) ≡ false
@@ -32,7 +32,7 @@ pub lengths_noted : (files : List Given) (f : Given) (old new : Lengths) (other 
     → is_other_length (length_at new other) n ≡ has_conflict (files ++ f ∷ []) other n
 lengths_noted files f old new other n some h noted =
     let test = λ (g : Given). is_conflict other n g.root g.length in
-    noted_more noted other n ∙ sym (list_any-append test files (f ∷ []) ∙ ap (λ b. has_conflict files other n || b) (or-false (test f)) ∙ rw (some, ← h) refl)
+    noted_more noted other n ∙ sym (list_any-append test files _ ∙ ap (λ b. has_conflict files other n || b) (or-false _) ∙ rw (some, ← h) refl)
 
 -- ---- the loop
 
@@ -68,13 +68,13 @@ module _ {n : ℕ} (files : List Made) (i : ℕ) {old : Tally} (h : Taking n fil
         → ((fs : List Given) → IsTallyOf n fs old → file_refusal n fs (given_of m) ≡ None) → HasRoot (given_of m) → Taking n files (i + 1) new
     taking_more within taken faultless rooted =
         let before = map given_of (take i files) in
-        let more : map given_of (take (i + 1) files) ≡ before ++ given_of m ∷ [] = map_more given_of files i m lt
+        let more : map given_of (take (i + 1) files) ≡ before ++ given_of m ∷ [] = map_more _ files i m lt
         ∙ ap (λ x. before ++ given_of x ∷ []) (sym is) in
         record {
           within = within;
           taken = rw more (taken before h.taken);
-          faultless = ap (λ fs. first_of (checks_of n fs)) more ∙ checks_behind (given_of m) [] ∙ rw (faultless before h.taken) refl;
-          rooted = rw more (All-push HasRoot before (given_of m) h.rooted rooted);
+          faultless = ap (λ fs. first_of (checks_of n fs)) more ∙ checks_behind _ [] ∙ rw (faultless before h.taken) refl;
+          rooted = rw more (All-push HasRoot before _ h.rooted rooted);
         }
 
     pub taking_stops : {e : MakeError} → ((fs : List Given) → IsTallyOf n fs old → RefusesFile n fs (given_of m) e)

@@ -60,7 +60,7 @@ module _ (files : List File) (items : List FileEntry) (same : map file_of items 
   pub entries_parted : (n piece : ℕ) → IsLaidOut n files → IsPartitionedBy (λ e. leb e.first_piece piece) items
   entries_parted n piece lay = IsPartitionedBy-leb (λ e. e.first_piece) items piece (λ i j d le within.
       let count = all in
-      rw (first_at n lay i d (omega arith), first_at n lay j d within) (sums_rise (λ f. piece_count n f.length) files i j (file_of d) le (omega arith)))
+      rw (first_at n lay i d (omega arith), first_at n lay j d within) (sums_rise (λ f. piece_count n f.length) _ i j (file_of d) le (omega arith)))
 
   module _ (piece point : ℕ) (h : IsPoint items piece point) where
     -- what is one below the point, if there is such a place

@@ -64,7 +64,7 @@ behind_name : (path : Path) (key other : List ℕ) (rest more : Path) → IsBefo
 behind_name path key other rest more less = behind_common path (key ∷ rest) (other ∷ more) (ap (λ o. ordering_then o (path_cmp rest more)) less)
 
 goes_behind : (path : Path) (key other : List ℕ) (p : TreeEntry) → IsBefore key other → GoesOn (path ++ other ∷ []) p → IsBehindName path key p
-goes_behind path key other p less h rest = ap (path_cmp (path ++ key ∷ rest)) (further_is path other p h)
+goes_behind path key other p less h rest = ap (path_cmp (path ++ key ∷ rest)) (further_is path _ p h)
     ∙ behind_name path key other rest (h.name ∷ h.rest) less
 
 -- ---- the entries of one folder
@@ -98,9 +98,9 @@ mutual
       let name = byte ∷ bytes in
       let inner = path ++ name ∷ [] in
       let here : TreeEntry = record { path = inner; value = d } in
-      All-cons (GoesOn path) here (tree_entries_below inner d ++ tree_entries_among path es) (record { name = name; rest = []; is = refl })
-      (All-append (GoesOn path) (tree_entries_below inner d) (tree_entries_among path es)
-      (All-weaker (GoesOn inner) (GoesOn path) (further path name) (tree_entries_below inner d) (below_goes_on inner d)) (among_goes_on path es))
+      All-cons (GoesOn path) here _ (record { name = name; rest = []; is = refl })
+      (All-append (GoesOn path) _ _
+      (All-weaker _ (GoesOn path) (further path name) _ (below_goes_on inner d)) (among_goes_on path es))
 
 -- the entries behind a key stand behind all that begin with it
 pub among_behind : (path : Path) (key : List ℕ) (es : Entries) → AreBehind key es → All (IsBehindName path key) (tree_entries_among path es)
@@ -111,9 +111,9 @@ among_behind path key (entry (byte ∷ bytes) d es) h =
     let name = byte ∷ bytes in
     let inner = path ++ name ∷ [] in
     let here : TreeEntry = record { path = inner; value = d } in
-    All-cons (IsBehindName path key) here (tree_entries_below inner d ++ tree_entries_among path es) (λ rest. behind_name path key name rest [] h.0)
-    (All-append (IsBehindName path key) (tree_entries_below inner d) (tree_entries_among path es)
-    (All-weaker (GoesOn inner) (IsBehindName path key) (λ p g. goes_behind path key name p h.0 g) (tree_entries_below inner d)
+    All-cons (IsBehindName path key) here _ (λ rest. behind_name path key name rest [] h.0)
+    (All-append (IsBehindName path key) _ _
+    (All-weaker (GoesOn inner) (IsBehindName path key) (λ p g. goes_behind path key name p h.0 g) _
     (below_goes_on inner d)) (among_behind path key es h.1))
 
 -- ---- the whole tree
@@ -144,11 +144,11 @@ mutual
       let within : All (GoesOn inner) below = below_goes_on inner d in
       let behind : All (IsBehindName path name) others = among_behind path name es (all_behind name d es h) in
       let rest : All IsNode (below ++ others) = All-tail IsNode here (below ++ others) nodes in
-      let node : is_node d ≡ true = All-head IsNode here (below ++ others) nodes in
-      AllPairs-cons IsAhead here (below ++ others)
+      let node : is_node d ≡ true = All-head IsNode here _ nodes in
+      AllPairs-cons IsAhead here _
       (All-append (IsAhead here) below others
       (λ k e lt. record {
-        before = in_folder inner (get_or below k e) (within k e lt);
+        before = in_folder inner _ (within k e lt);
         cut = λ file. let none = ap length (file_below d inner node file) in absurd (omega arith);
       })
       (λ k e lt. record { before = behind k e lt []; cut = λ file more. rw (append_assoc path (name ∷ []) more) (behind k e lt more) }))
@@ -156,10 +156,10 @@ mutual
       (among_ahead path es h.2 (All-back IsNode below others rest))
       (λ i e lt j f lt'.
       let g = within i e lt in
-      let is = further_is path name (get_or below i e) g in
+      let is = further_is path name _ g in
       record {
         before = rw is (behind j f lt' (g.name ∷ g.rest));
-        cut = λ file more. rw (is, append_assoc path (name ∷ g.name ∷ g.rest) more) (behind j f lt' (g.name ∷ (g.rest ++ more)));
+        cut = λ file more. rw (is, append_assoc path _ more) (behind j f lt' (g.name ∷ (g.rest ++ more)));
       }))
 
 -- nothing that begins with a path stands before it
@@ -171,7 +171,7 @@ not_before (name ∷ path) rest e =
 
 pub apart : (p q : TreeEntry) → is_file p ≡ true → IsAhead p q → IsApart p.path q.path
 apart p q file h rest = (
-  (λ e. not_before (p.path ++ rest) [] (rw (append-nil (p.path ++ rest)) (rw e at (h.cut file rest)))),
+  (λ e. not_before (p.path ++ rest) [] (rw (append-nil _) (rw e at (h.cut file rest)))),
   λ e. not_before q.path rest (rw (← e) h.before),
 )
 
@@ -179,7 +179,7 @@ apart p q file h rest = (
 
 pub at_key : (d : Data) (key : List ℕ) → HasAscendingKeys d → HasAscendingKeys (unwrap_or (dictionary_at d key) no_dictionary)
 unfolding dictionary_at HasAscendingKeys EntriesAscend
-at_key d key h = by_field (field_of d key) (λ v e. field_ascends d key v h e)
+at_key d key h = by_field _ (λ v e. field_ascends d _ v h e)
   where
     by_field : (o : Option Data) → ((v : Data) → o ≡ Some v → HasAscendingKeys v) → HasAscendingKeys (unwrap_or (option_and_then as_dictionary o) no_dictionary)
     by_field None k = tt

@@ -76,15 +76,15 @@ module _ (n : ℕ) (before : List TreeEntry) (p : TreeEntry) where
       let of_file : is_file p ≡ true → AreNone (file_checks before p) =
       λ file. each_none (file_checks before p) (ap (λ b. if b then first_of (file_checks before p) else None) (sym file) ∙ own.1.1.0) in
       record {
-        node = holds_unless (is_node p.value) Tree own.0;
-        named = holds_unless (has_lawful_name p) BadPath own.1.0;
+        node = holds_unless _ Tree own.0;
+        named = holds_unless _ BadPath own.1.0;
         sound = λ file. record {
-          short = lawful_is_short properties (holds_unless (has_lawful_length properties) FileLength (of_file file).1.0);
-          rooted = lawful_root properties (holds_unless (has_lawful_root properties) BadRoot (of_file file).1.1.0);
-          zeros = root_of_none properties;
+          short = lawful_is_short properties (holds_unless _ FileLength (of_file file).1.0);
+          rooted = lawful_root properties (holds_unless _ BadRoot (of_file file).1.1.0);
+          zeros = root_of_none _;
         };
-        alike = λ file. not_faulty (has_conflict before p) RootConflict (of_file file).1.1.1.0;
-        few = not_faulty (is_too_many n before p) TooMany own.1.1.1.0;
+        alike = λ file. not_faulty _ _ (of_file file).1.1.1.0;
+        few = not_faulty _ TooMany own.1.1.1.0;
       }
 
 agree_one : (before : List TreeEntry) (p : TreeEntry) → (is_file p ≡ true → has_conflict before p ≡ false) → All (λ q. Agrees q p) before
@@ -92,8 +92,8 @@ agree_one before p alike = λ k d within file_q file_p some_q some_p same.
     let q : TreeEntry = get_or before k d in
     let filled : (length_of p == 0) ≡ false = grind (arith, nat_tests) in
     let none : list_any (conflict p) before ≡ false = rw filled at alike file_p in
-    let found : is_conflict (root_of p) (length_of p) (root_of q) (length_of q) ≡ false = rw file_q at (none_of (conflict p) before none k d within) in
-    no_conflict (root_of p) (length_of p) (root_of q) (length_of q) found some_q same
+    let found : is_conflict (root_of p) (length_of p) (root_of q) (length_of q) ≡ false = rw file_q at (none_of _ before none k d within) in
+    no_conflict (root_of p) _ (root_of q) _ found some_q same
 
 within_count : (a : Bool) (files pieces : ℕ) → (a || (nat_lt max_file_count files || nat_lt max_piece_count pieces)) ≡ false
     → (files ≤ max_file_count) × (pieces ≤ max_piece_count)
@@ -115,7 +115,7 @@ module _ (n : ℕ) where
       let c = checked_entry n before p none in
       let counts : (length (filter is_file (before ++ p ∷ [])) ≤ max_file_count) × (pieces_of n (before ++ p ∷ []) ≤ max_piece_count) =
       elim (cases_Bool (is_file p)) [
-        | inl file ↦ within_count (nat_lt max_path_length (length p.path)) (length (filter is_file (before ++ p ∷ [])))
+        | inl file ↦ within_count _ _
             (pieces_of n (before ++ p ∷ [])) (rw file at c.few)
         | inr folder ↦
             let same : filter is_file (before ++ p ∷ []) ≡ filter is_file before = filter-append is_file before (p ∷ [])
@@ -153,7 +153,7 @@ module _ (n : ℕ) where
       let begun : AreChecked n [] = record {
         nodes = All-nil IsNode;
         named = All-nil IsNamed;
-        sound = All-nil HasSoundFile;
+        sound = All-nil _;
         agree = λ i j d lt within. absurd (omega arith);
         files = omega arith;
         pieces = omega arith;

@@ -77,7 +77,7 @@ info_head_fault info h = first_of-append_some (head_checks info) (tree_checks (p
 -- the checks of an info dictionary are those of its head and those of its tree
 pub info_faults : {info : Data} {head : Head} → IsHead info head
     → first_of (info_checks info) ≡ first_of (tree_checks head.piece_length (data_of head.tree.now))
-info_faults {info} h = first_of-append (head_checks info) (tree_checks (piece_length_of info) (tree_of info)) h.faultless ∙ rw (h.piece_length, h.tree) refl
+info_faults {info} h = first_of-append (head_checks info) _ h.faultless ∙ rw (h.piece_length, h.tree) refl
 
 pub metainfo_is : {info : Data} {head : Head} (layers : Data) (files : List File) → IsHead info head
     → files ≡ files_of head.piece_length layers (data_of head.tree.now)
@@ -107,7 +107,7 @@ module _ (torrent : Data) where
     module _ {head : Head} {listing : Listing} (h : IsHead info head) (l : IsListing head.piece_length (data_of head.tree.now) listing) where
       pub torrent_layers : first_fault torrent ≡ first_of (layer_faults head.piece_length (layers_of torrent) (map file_of listing.files.items))
       torrent_layers =
-          first_fault_in ∙ first_of-append (info_checks info) (layer_checks (piece_length_of info) (layers_of torrent) (tree_of info))
+          first_fault_in ∙ first_of-append (info_checks info) _
           (info_faults h ∙ l.faultless)
           ∙ rw (h.piece_length, h.tree, l.files, layer_faults_are head.piece_length (layers_of torrent) (data_of head.tree.now)) refl
 
@@ -119,4 +119,4 @@ refuses_as same h = rw same h
 pub tree_refuses : (torrent : Data) {info : Data} {head : Head} {e : MetaError} → Some info ≡ dictionary_at torrent (codes "info") → IsHead info head
     → Refuses (first_of (tree_checks head.piece_length (data_of head.tree.now))) e → Refuses (first_fault torrent) e
 tree_refuses torrent there h (inl m) = inl m
-tree_refuses torrent there h (inr k) = inr (torrent_info_fault torrent there (info_faults h ∙ k))
+tree_refuses torrent there h (inr k) = inr (torrent_info_fault _ there (info_faults h ∙ k))

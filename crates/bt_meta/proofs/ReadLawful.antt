@@ -31,7 +31,7 @@ use Rattle.bt_meta.proofs.ReadAscending.{IsAhead, below_ahead, apart, at_key}
 
 head_lawful : (info : Data) → first_of (head_checks info) ≡ None → is_piece_length (piece_length_of info) ≡ true
 unfolding head_checks
-head_lawful info h = holds_unless (is_piece_length (piece_length_of info)) PieceLength (each_none (head_checks info) h).1.1.1.0
+head_lawful info h = holds_unless _ PieceLength (each_none (head_checks info) h).1.1.1.0
 
 pub piece_lawful : (n : ℕ) → is_piece_length n ≡ true → IsPieceLength n
 piece_lawful n e =
@@ -57,25 +57,25 @@ module _ (n : ℕ) (layers : Data) where
 
   layered_entry : (p : TreeEntry) → layer_check n layers p ≡ None → IsLayered p
   layered_entry p h =
-      let long : layer_at n layers p ≢ [] → nat_lt n (length_of p) ≡ true = then_long (nat_lt n (length_of p)) (unwrap_or (string_at layers (root_of p)) []) in
+      let long : layer_at n layers p ≢ [] → nat_lt n (length_of p) ≡ true = then_long _ _ in
       let checks : List Check = fault_if (is_none (string_at layers (root_of p))) LayerMissing ∷ layer_bytes_checks n (length_of p) (root_of p)
       (layer_at n layers p) in
       let own = λ (some : layer_at n layers p ≢ []). each_none checks (ap (λ b. if b then first_of checks else None) (sym (long some)) ∙ h) in
       record {
         long = λ some. ltb-true n (length_of p) (long some);
         sized = λ some. holds_unless (has_layer_size n (length_of p) (layer_at n layers p)) LayerSize (own some).1.0;
-        folds = λ some. holds_unless (has_root n (length_of p) (root_of p) (layer_at n layers p)) LayerDiffers (own some).1.1.0;
+        folds = λ some. holds_unless _ LayerDiffers (own some).1.1.0;
       }
 
   layered_all : (files : List TreeEntry) → first_of (map (layer_check n layers) files) ≡ None → All IsLayered files
   layered_all [] h = All-nil IsLayered
   layered_all (p ∷ files) h =
-      let q = first_none (layer_check n layers p) (map (layer_check n layers) files) h in
+      let q = first_none _ _ h in
       All-cons IsLayered p files (layered_entry p q.0) (layered_all files q.1)
 
   layered_tree : (tree : Data) → first_of (layer_checks n layers tree) ≡ None → All IsLayered (filter is_file (tree_entries_below [] tree))
   unfolding layer_checks
-  layered_tree tree h = layered_all (filter is_file (tree_entries_below [] tree)) h
+  layered_tree tree h = layered_all _ h
 
   -- ---- files, from their entries
 
@@ -94,14 +94,14 @@ module _ (n : ℕ) (layers : Data) where
     of_all before (p ∷ ps) files h =
         let file = All-head IsFile p ps files in
         let rest = All-tail IsFile p ps files in
-        AllPairs-cons S (file_at n layers before p) (with_earlier (file_at n layers) (before ++ p ∷ []) ps)
-        (of_each (λ q. IsFile q × R p q) (S (file_at n layers before p)) (λ c q both. same before c p q file both.0 both.1) (before ++ p ∷ []) ps
+        AllPairs-cons S _ _
+        (of_each (λ q. IsFile q × R p q) (S (file_at n layers before p)) (λ c q both. same before c p q file both.0 both.1) _ ps
         (λ i d within. (rest i d within, h 0 (suc i) d (omega arith) (omega arith))))
         (of_all (before ++ p ∷ []) ps rest (λ i j d lt within. h (suc i) (suc j) d (omega arith) (omega arith)))
 
     of_files : (tree : Data) → AllPairs R (tree_entries_below [] tree) → AllPairs S (files_of n layers tree)
     unfolding files_of
-    of_files tree h = let es = tree_entries_below [] tree in of_all [] (filter is_file es) (filter_passes is_file es) (AllPairs-filter R is_file es h)
+    of_files tree h = let es = tree_entries_below [] tree in of_all [] (filter is_file es) (filter_passes is_file es) (AllPairs-filter R _ es h)
 
   module _ (tree : Data) (sound : IsSoundTree n tree) where
     lawful_files : All IsLayered (filter is_file (tree_entries_below [] tree)) → All (IsLawfulFile n) (files_of n layers tree)
@@ -121,7 +121,7 @@ module _ (n : ℕ) (layers : Data) where
     some_file =
         let es = filter is_file (tree_entries_below [] tree) in
         let filled : not (length es == 0) ≡ true = sym (some_of_filter is_file (tree_entries_below [] tree)) ∙ sound.some in
-        rw (length-with_earlier (file_at n layers) [] es) (not_none (length es) filled)
+        rw (length-with_earlier _ [] es) (not_none (length es) filled)
       where
         not_none : (k : ℕ) → not (k == 0) ≡ true → 0 < k
         not_none k e = grind (arith, nat_tests)
@@ -138,12 +138,12 @@ module _ (n : ℕ) (layers : Data) where
           each = lawful_files layered;
           few_pieces = rw (same_sum n layers tree) few.pieces;
           laid_out = record {
-            few = rw (length-with_earlier (file_at n layers) [] (filter is_file (tree_entries_below [] tree))) few.files;
+            few = rw (length-with_earlier _ [] (filter is_file (tree_entries_below [] tree))) few.files;
             in_turn =
                 in_turn n layers tree;
           };
           ascending = of_files IsAhead (λ f g. slice_cmp (slice_cmp nat_cmp) f.path g.path ≡ Less) (λ b c p q file other a. a.before) tree ahead;
-          apart = of_files IsAhead (λ f g. IsApart f.path g.path) (λ b c p q file other a. apart p q file a) tree ahead;
+          apart = of_files _ (λ f g. IsApart f.path g.path) (λ b c p q file other a. apart p q file a) tree ahead;
           one_length = of_files Agrees (λ f g. f.length ≢ 0 → g.length ≢ 0 → f.root ≡ g.root → f.length ≡ g.length)
               (λ b c p q file other one. one file other) tree few.agree;
         }
@@ -175,13 +175,13 @@ lawful_info info layers keys h layered =
     let n = piece_length_of info in
     let tree = tree_of info in
     let parts = both_none (head_checks info) (tree_checks n tree) h in
-    lawful_tree n layers tree (tree_sound n tree parts.1) (at_key info (codes "file tree") keys) (head_lawful info parts.0) layered
+    lawful_tree n _ tree (tree_sound n tree parts.1) (at_key info _ keys) (head_lawful info parts.0) layered
 
 pub info_keeps_to : (info : Data) → HasAscendingKeys info → first_info_fault info ≡ None → KeepsTo (metainfo_of info no_dictionary)
 unfolding first_info_fault
 info_keeps_to info keys h =
     lawful_info info no_dictionary keys (first_none (fault_if (not (is_dictionary info)) NoInfo) (info_checks info) h).1
-    (none_layered (piece_length_of info) (filter is_file (tree_entries_below [] (tree_of info))))
+    (none_layered _ _)
 
 pub torrent_keeps_to : (value : Data) → HasAscendingKeys value → first_fault value ≡ None → KeepsTo (metainfo_of (info_of value) (layers_of value))
 unfolding info_of first_fault
@@ -191,4 +191,4 @@ torrent_keeps_to value keys h =
     let checks : List Check = layer_checks n (layers_of value) (tree_of info) in
     let parts = both_none (info_checks info) checks
     (first_none (fault_if (is_none (dictionary_at value (codes "info"))) NoInfo) (info_checks info ++ checks) h).1 in
-    lawful_info info (layers_of value) (at_key value (codes "info") keys) parts.0 (layered_tree n (layers_of value) (tree_of info) parts.1)
+    lawful_info info _ (at_key value (codes "info") keys) parts.0 (layered_tree n _ (tree_of info) parts.1)

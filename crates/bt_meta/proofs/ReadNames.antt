@@ -26,7 +26,7 @@ element byte bytes e = both _ _ (grind (arith, nat_tests)) e
 
 more : (path : List (List ℕ)) (name : List ℕ) → IsFolderPath path → is_element name ≡ true → IsFolderPath (path ++ name ∷ [])
 more path name p e = list_all-append is_element path (name ∷ [])
-    ∙ both (list_all is_element path) (list_all is_element (name ∷ [])) p (both (is_element name) true e refl)
+    ∙ both _ _ p (both _ true e refl)
 
 some : (path : List (List ℕ)) (name : List ℕ) → not (length (path ++ name ∷ []) == 0) ≡ true
 some [] name = refl
@@ -38,11 +38,11 @@ mutual
   pub below_lawful : (path : List (List ℕ)) (d : Data) → IsFolderPath path → All IsNamed (tree_entries_below path d) → All HasPath (tree_entries_below path d)
   below_lawful path (integer z) p h = All-nil HasPath
   below_lawful path (string s) p h = All-nil HasPath
-  below_lawful path (list ds) p h = All-nil HasPath
+  below_lawful path (list ds) p h = All-nil _
   below_lawful path (dictionary es) p h = among_lawful path es p h
 
   among_lawful : (path : List (List ℕ)) (es : Entries) → IsFolderPath path → All IsNamed (tree_entries_among path es) → All HasPath (tree_entries_among path es)
-  among_lawful path no_entries p h = All-nil HasPath
+  among_lawful path no_entries p h = All-nil _
   among_lawful path (entry [] d es) p h = among_lawful path es p h
   among_lawful path (entry (byte ∷ bytes) d es) p h =
       let name = byte ∷ bytes in
@@ -50,9 +50,9 @@ mutual
       let here : TreeEntry = record { path = inner; value = d } in
       let below : List TreeEntry = tree_entries_below inner d in
       let others : List TreeEntry = tree_entries_among path es in
-      let own : is_path_element name ≡ true = sym (name_of path name d (is_path_element name) refl) ∙ All-head IsNamed here (below ++ others) h in
+      let own : is_path_element name ≡ true = sym (name_of path name d _ refl) ∙ All-head IsNamed here _ h in
       let whole : IsFolderPath inner = more path name p (element byte bytes own) in
-      let rest : All IsNamed (below ++ others) = All-tail IsNamed here (below ++ others) h in
-      All-cons HasPath here (below ++ others) (both (not (length inner == 0)) (list_all is_element inner) (some path name) whole)
-      (All-append HasPath below others (below_lawful inner d whole (All-front IsNamed below others rest))
-      (among_lawful path es p (All-back IsNamed below others rest)))
+      let rest : All IsNamed (below ++ others) = All-tail IsNamed here _ h in
+      All-cons HasPath here _ (both _ _ (some path name) whole)
+      (All-append HasPath below others (below_lawful inner d whole (All-front IsNamed below _ rest))
+      (among_lawful path es p (All-back IsNamed below _ rest)))

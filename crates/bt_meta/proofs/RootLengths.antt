@@ -30,7 +30,7 @@ pub noted_more : {old new : Lengths} {root : List ℕ} {length : ℕ} → NotesL
 noted_more {old} {new} {root} {length} noted other n =
     let test = is_eq-slice_cmp root other in
     ap (λ o. is_other_length o n) (noted.noted other)
-    ∙ at length n (is_eq (slice_cmp nat_cmp root other)) (length_at old root) (length_at old other) noted.alike
+    ∙ at length n _ (length_at old root) _ noted.alike
     (λ e. ap (length_at old) ((bytes_eq-Decides root other).0 (sym test ∙ e)))
     ∙ rw test refl
 

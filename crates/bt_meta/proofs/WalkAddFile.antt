@@ -92,9 +92,9 @@ module _ {path : List (List ℕ)} {name : List ℕ} {properties : Data} {p : Tre
         noted_lengths : (root : List ℕ) (m : ℕ) → is_other_length (length_at mid.lengths root) m ≡ has_other_length (before ++ p ∷ []) root m
         noted_lengths root m = elim noted.lengths [
           | inl e ↦
-              let none : (is_file p && not (length_of p == 0)) ≡ false = and_right (is_file p) (not (length_of p == 0)) (rw (← long, e.0) refl) in
+              let none : (is_file p && not (length_of p == 0)) ≡ false = and_right (is_file p) _ (rw (← long, e.0) refl) in
               rw (e.1, h.lengths root m) (sym (others_same n _ p _ m none))
-          | inr s ↦ others_noted n before p at.file old mid (rw (← long) (positive facts.length s.0)) h (rw (← long, ← root_is) s.1) root m
+          | inr s ↦ others_noted n _ p at.file old mid (rw (← long) (positive _ s.0)) h (rw (← long, ← root_is) s.1) root m
         ]
 
         counted : (pieces : ℕ) → pieces ≡ mid.pieces + div_ceil facts.length n → pieces ≡ pieces_of n before + piece_count n (length_of p)
@@ -106,13 +106,13 @@ module _ {path : List (List ℕ)} {name : List ℕ} {properties : Data} {p : Tre
         checked : {b : Bool} → (nat_lt max_path_length (length p.path) ||
             (nat_lt max_file_count (length (filter is_file before) + 1) || nat_lt max_piece_count (pieces_of n before + piece_count n (length_of p)))) ≡ b
             → is_too_many n before p ≡ b
-        checked e = rw (at.file, count_push n before p at.file, pieces_push n before p at.file) e
+        checked e = rw (at.file, count_push n _ p at.file, pieces_push n _ p at.file) e
 
     pub conflict_stops : {n : ℕ} {old : Walk} {e : MetaError} → 0 < facts.length → IsLengthConflict old.lengths facts.root facts.length e
         → Stops n (p ∷ []) old e
     conflict_stops some (inl m) = record { refused = λ before h. inl m.0 }
     conflict_stops {n} some (inr c) = stops_at (λ before h.
-        let both : has_conflict before p ≡ true = rw (← long, positive facts.length some, alike h c.1) refl in
+        let both : has_conflict before p ≡ true = rw (← long, positive _ some, alike h c.1) refl in
         bad_root n before p at.node at.named at.file (checks_are f.faultless) both ∙ ap Some (sym c.0))
 
     module _ {n : ℕ} {old mid : Walk} (noted : IsNotedWalk facts old mid) (pieces : ℕ) (sum : pieces ≡ mid.pieces + div_ceil facts.length n) where
@@ -137,15 +137,15 @@ module _ {path : List (List ℕ)} {name : List ℕ} {properties : Data} {p : Tre
           let count = files_count h noted in
           let deep = path_length in
           let all = counted h noted pieces sum in
-          let test = few (length p.path) (length (filter is_file before) + 1) (pieces_of n before + piece_count n (length_of p)) (omega arith)
+          let test = few (length p.path) (length (filter is_file before) + 1) _ (omega arith)
           (omega arith) (omega arith) in
           let path_is = at.path_is in
           let sized_as = long in
           let rooted_as = root_is in
           let piece = noted.pieces in (
-            file_walked n before p at.file old new entry h (cc) (rw sized f.short) (files ∙ ap (λ v. v.items ++ entry ∷ []) noted.files)
+            file_walked n _ p at.file old new entry h (cc) (rw sized f.short) (files ∙ ap (λ v. v.items ++ entry ∷ []) noted.files)
                 (taken ∙ all ∙ rw h.pieces refl) (λ r m. ap (λ l. is_other_length (length_at l r) m) lengths ∙ noted_lengths h noted r m),
-            file_counted n before p at.node at.named at.file (checks_are f.faultless) (no_conflict h noted) (checked h noted test),
+            file_counted n _ p at.node at.named at.file (checks_are f.faultless) (no_conflict h noted) (checked h noted test),
           ))
 
 -- ---- entries
@@ -171,7 +171,7 @@ module _ (path : List (List ℕ)) (key : List ℕ) (d : Data) where
   file_entry same node named file at = record {
     path_is = ap (λ x. path ++ x ∷ []) (sym same);
     node = node;
-    named = name_of path key d true named;
+    named = name_of path key d _ named;
     file = file;
     properties_are = ap (λ o. unwrap_or o no_dictionary) at;
   }
@@ -183,13 +183,13 @@ module _ (path : List (List ℕ)) (key : List ℕ) (d : Data) where
   module _ {n : ℕ} {w : Walk} where
     module _ (node : is_node d ≡ true) (name : is_path_element key ≡ true) (folder : has_key d [] ≡ false) where
       pub folder_many : max_path_length ≤ length path → Stops n (here ∷ []) w TooMany
-      folder_many deep = stops_at (λ before h. folder_counted n before here node (name_of path key d true name) {many = true} folder
+      folder_many deep = stops_at (λ before h. folder_counted n _ here node (name_of path key d _ name) {many = true} folder
           (counted_folder n before folder (grind (arith, nat_tests))))
 
       pub folder_passes : length path < max_path_length → Passes n (here ∷ []) w w
       folder_passes near = passes_one (λ before h. (
-        folder_walked n before here w h folder,
-        folder_counted n before here node (name_of path key d true name) {many = false} folder
+        folder_walked n _ here w h folder,
+        folder_counted n _ here node (name_of path key d _ name) {many = false} folder
             (counted_folder n before folder (grind (arith, nat_tests))),
       ))
 
@@ -202,7 +202,7 @@ module _ (path : List (List ℕ)) (key : List ℕ) (d : Data) where
     module _ (is : tree_entries_of path key d ≡ here ∷ tree_entries_below (path ++ key ∷ []) d) where
       -- a key is refused where its own entry is
       pub entry_stops : {e : MetaError} → Stops n (here ∷ []) w e → StopsAtEntry n path key d w e
-      entry_stops h = rw is (stops_sooner (here ∷ []) _ h)
+      entry_stops h = rw is (stops_sooner _ _ h)
 
       pub file_entered : {new : Walk} → tree_entries_below (path ++ key ∷ []) d ≡ [] → Passes n (here ∷ []) w new → Passes n (tree_entries_of path key d) w new
       file_entered none h = rw (is, none) h

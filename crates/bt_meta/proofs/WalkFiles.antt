@@ -53,7 +53,7 @@ module _ (n : ℕ) (before : List TreeEntry) where
         → has_other_length (before ++ p ∷ []) root m ≡ (has_other_length before root m || (is_file p && is_conflict root m (root_of p) (length_of p)))
     others_push root m =
         let test = λ (q : TreeEntry). is_file q && is_conflict root m (root_of q) (length_of q) in
-        list_any-append test before (p ∷ []) ∙ ap (λ b. has_other_length before root m || b) (or-false (test p))
+        list_any-append test before (p ∷ []) ∙ ap (λ b. has_other_length before root m || b) (or-false _)
 
     -- no file, or an empty one
     pub others_same : (root : List ℕ) (m : ℕ) → (is_file p && not (length_of p == 0)) ≡ false
@@ -64,7 +64,7 @@ module _ (n : ℕ) (before : List TreeEntry) where
 
     module _ (file : is_file p ≡ true) where
       filter_file : filter is_file (before ++ p ∷ []) ≡ filter is_file before ++ p ∷ []
-      filter_file = filter-append is_file before (p ∷ []) ∙ rw file refl
+      filter_file = filter-append is_file before _ ∙ rw file refl
 
       pub pieces_push : pieces_of n (before ++ p ∷ []) ≡ pieces_of n before + piece_count n (length_of p)
       pieces_push =
@@ -73,11 +73,11 @@ module _ (n : ℕ) (before : List TreeEntry) where
           ap (sum_by g) filter_file ∙ sum_by-append g (filter is_file before) (p ∷ []) ∙ ap (λ k. pieces_of n before + k) one
 
       pub count_push : length (filter is_file (before ++ p ∷ [])) ≡ length (filter is_file before) + 1
-      count_push = ap length filter_file ∙ length_push (filter is_file before) p
+      count_push = ap length filter_file ∙ length_push _ p
 
       pub others_noted : (old new : Walk) → (length_of p == 0) ≡ false → IsWalkOver n before old → NotesLength old.lengths new.lengths (root_of p) (length_of p)
           → (root : List ℕ) (m : ℕ) → is_other_length (length_at new.lengths root) m ≡ has_other_length (before ++ p ∷ []) root m
-      others_noted old new some h noted root m = noted_more noted root m ∙ sym (others_push root m ∙ rw (file, some, ← h.lengths root m) refl)
+      others_noted old new some h noted root m = noted_more noted _ m ∙ sym (others_push _ m ∙ rw (file, some, ← h.lengths root m) refl)
 
       pub file_walked : (old new : Walk) (e : FileEntry) → IsWalkOver n before old
           → file_of e ≡ record (file_at n no_dictionary (filter is_file before) p) { first_piece = old.pieces; layer = [] }
@@ -100,11 +100,11 @@ module _ (n : ℕ) (before : List TreeEntry) where
 
     pub folder_walked : (w : Walk) → IsWalkOver n before w → is_file p ≡ false → IsWalkOver n (before ++ p ∷ []) w
     folder_walked w h folder =
-        let same : filter is_file (before ++ p ∷ []) ≡ filter is_file before = filter-append is_file before (p ∷ [])
+        let same : filter is_file (before ++ p ∷ []) ≡ filter is_file before = filter-append is_file before _
         ∙ rw (folder, append-nil (filter is_file before)) refl in
         record {
           files = rw same h.files;
           pieces = rw same h.pieces;
           short = h.short;
-          lengths = λ root m. h.lengths root m ∙ sym (others_same root m (and_left (is_file p) (not (length_of p == 0)) folder));
+          lengths = λ root m. h.lengths root m ∙ sym (others_same root m (and_left _ _ folder));
         }

@@ -26,7 +26,7 @@ module _ {n : ℕ} {a : Walk} where
   stops_sooner xs ys {e} s = record {
     refused = λ before h. elim (s.refused before h) [
       | inl m ↦ inl m
-      | inr k ↦ inr (rw (with_earlier-append (entry_check n) before xs ys) (first_of-append_some (with_earlier (entry_check n) before xs) _ e k))
+      | inr k ↦ inr (rw (with_earlier-append _ before xs ys) (first_of-append_some (with_earlier (entry_check n) before xs) _ e k))
     ];
   }
 
@@ -61,7 +61,7 @@ module _ (path : List (List ℕ)) where
   unfolding tree_entries_among
   among-append [] ys = refl
   among-append (e ∷ xs) ys =
-      rw (among_key e.0.items e.1 (entries_from (xs ++ ys)), among_key e.0.items e.1 (entries_from xs), among-append xs ys, append_assoc) refl
+      rw (among_key e.0.items e.1 _, among_key e.0.items e.1 (entries_from xs), among-append xs ys, append_assoc) refl
 
   pub entries_first : (es : List (Vec ℕ × Value)) → tree_entries_among path (entries_of (take 0 es)) ≡ []
   unfolding tree_entries_among

@@ -11,12 +11,12 @@ pub returns-in_default : goal.returns-in_default
 returns-in_default c path behind =
     let left : c.pop.new.self.items ≡ [] = c.in_default.ensures.rest ∙ ap (λ n. take (n - 1) c.args.folder.items) c.in_default.ensures.cases.0 in
     let whole : c.args.folder.items ≡ [] = c.in_default.ensures.items ∙ ap (λ xs. xs ++ []) left in
-    rw (whole, left, c.new.ensures.items) (opened_nothing c.args.name.now path)
+    rw (whole, left, c.new.ensures.items) (opened_nothing _ _)
 
 pub returns-then-eq : goal.returns-then-eq
 returns-then-eq c path behind =
-    let named = (bytes_eq-Decides c.in-Some.key.items c.args.name.now).0 (rw (← c.as_slice.ensures.value) (sym c.if-eq.ensures)) in
-    rw c.in-Some.ensures.items (opened_folder c.args.name.now path c.pop.new.self.items c.in-Some.key c.in-Some.value
+    let named = (bytes_eq-Decides _ _).0 (rw (← c.as_slice.ensures.value) (sym c.if-eq.ensures)) in
+    rw c.in-Some.ensures.items (opened_folder _ _ _ _ _
     (rw c.in-Some.ensures.items at behind) c.in-Ok.ensures.entries named)
 
 pub returns-in_ok-push-in-Ok : goal.returns-in_ok-push-in-Ok

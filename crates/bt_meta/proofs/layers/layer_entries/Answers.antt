@@ -8,7 +8,7 @@ returns-in-Some-clause-strings c =
 
 pub returns-in-Some-clause-ascending : goal.returns-in-Some-clause-ascending
 returns-in-Some-clause-ascending c =
-    layers_ascend (data_of c.args.torrent.now) (data_of c.in-Some.layers.now) (entries_of c.entries.result.now) c.in-Some.ensures c.entries.ensures c.requires
+    layers_ascend _ _ _ c.in-Some.ensures c.entries.ensures c.requires
 
 pub returns-in-None-clause-strings : goal.returns-in-None-clause-strings
 returns-in-None-clause-strings c = λ key. layers_absent _ _ c.in-None.ensures

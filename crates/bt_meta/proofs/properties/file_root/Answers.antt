@@ -10,7 +10,7 @@ pub returns-in-Ok : goal.returns-in-Ok
 returns-in-Ok c =
     let whole = c.in-Ok.ensures.1 in
     ap Some whole.same
-    ∙ root_there (data_of c.args.properties.now) (λ e. c.if-length-eq0.false (c.requires ∙ e)) c.in_ok-root.ensures whole.long
+    ∙ root_there _ (λ e. c.if-length-eq0.false (c.requires ∙ e)) c.in_ok-root.ensures whole.long
 
 pub returns-in-Err : goal.returns-in-Err
 returns-in-Err c = root_of_other_size _ (λ e. c.if-length-eq0.false (c.requires ∙ e)) c.in_ok-root.ensures c.in-Err.ensures.1

@@ -26,7 +26,7 @@ pub torrent_of-requires-clause-lawful : goal.torrent_of-requires-clause-lawful
 torrent_of-requires-clause-lawful c =
     let d = data_of c.args.info.now in
     let faultless = first_info_fault_in d c.if-not-is_dictionary.ensures ∙ info_faults c.in_ok-head.ensures ∙ c.in_ok-listing.ensures.faultless in
-    keeps_to (metainfo_is no_dictionary (map file_of c.in_ok-listing.listing.files.items) c.in_ok-head.ensures c.in_ok-listing.ensures.files)
+    keeps_to (metainfo_is _ _ c.in_ok-head.ensures c.in_ok-listing.ensures.files)
     (info_keeps_to d c.requires faultless)
 
 pub returns-clause-faultless : goal.returns-clause-faultless

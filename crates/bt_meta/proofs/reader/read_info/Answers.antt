@@ -30,5 +30,5 @@ pub returns-clause-ascending : goal.returns-clause-ascending
 returns-clause-ascending c =
     let same = ap data_of c.value.ensures.same in
     let canonical : IsCanonical (data_of c.value.result.now) = rw same c.value.ensures.canonical in
-    ascends (metainfo_of (data_of c.value.result.now) no_dictionary) c.info_in.result
-    (info_keeps_to (data_of c.value.result.now) canonical.keys) c.info_in.ensures.faultless c.info_in.ensures.described
+    ascends _ c.info_in.result
+    (info_keeps_to _ canonical.keys) c.info_in.ensures.faultless c.info_in.ensures.described

@@ -29,5 +29,5 @@ pub returns-clause-ascending : goal.returns-clause-ascending
 returns-clause-ascending c =
     let same = ap data_of c.value.ensures.same in
     let canonical : IsCanonical (data_of c.value.result.now) = rw same c.value.ensures.canonical in
-    ascends (metainfo_of (info_of (data_of c.value.result.now)) (layers_of (data_of c.value.result.now))) c.torrent_in.result
-    (torrent_keeps_to (data_of c.value.result.now) canonical.keys) c.torrent_in.ensures.faultless c.torrent_in.ensures.described
+    ascends _ c.torrent_in.result
+    (torrent_keeps_to _ canonical.keys) c.torrent_in.ensures.faultless c.torrent_in.ensures.described

@@ -28,7 +28,7 @@ returns-in_err-inner-clause-stopped t c =
     let folder : data_of c.args.folder.now ≡ dictionary (entries_of es) = ap data_of c.in-Dict.is ∙ data_of-Dict c.in-Dict.entries
     ∙ ap (λ xs. dictionary (entries_of xs)) (sym c.deref-key-items.ensures.value) in
     rw (q.1, q.2, below_entries path (data_of c.args.folder.now) (entries_of es) folder)
-    (folder_stops path es c.loop-key.key-index c.loop-key-item.result c.loop-key-test.true c.loop-key-item.is c.loop-key.invariant
+    (folder_stops path es c.loop-key.key-index _ c.loop-key-test.true c.loop-key-item.is c.loop-key.invariant
     (rw (← c.deref.ensures.value) c.in_err-inner.ensures))
 
 pub returns-in_err-walk_folder-clause-stopped : goal.returns-in_err-walk_folder-clause-stopped
@@ -49,12 +49,12 @@ returns-clause-passed t c =
     let es = c.deref-key-items.result.now in
     let folder : data_of c.args.folder.now ≡ dictionary (entries_of es) = ap data_of c.in-Dict.is ∙ data_of-Dict c.in-Dict.entries
     ∙ ap (λ xs. dictionary (entries_of xs)) (sym c.deref-key-items.ensures.value) in
-    let whole : take c.loop-key.key-index es ≡ es = take_all c.loop-key.key-index es (omega arith) in
-    rw (below_entries path (data_of c.args.folder.now) (entries_of es) folder) (rw whole at c.loop-key.invariant)
+    let whole : take c.loop-key.key-index es ≡ es = take_all _ es (omega arith) in
+    rw (below_entries path _ (entries_of es) folder) (rw whole at c.loop-key.invariant)
 
 pub loop-key-preserved : goal.loop-key-preserved
 loop-key-preserved t c =
-    let more = folder_passes_more (folder_elements c.args.path.now) c.deref-key-items.result.now c.loop-key.key-index c.loop-key-item.result c.loop-key-test.true c.loop-key-item.is c.loop-key.invariant in
+    let more = folder_passes_more _ _ _ _ c.loop-key-test.true c.loop-key-item.is c.loop-key.invariant in
     elim c.match-branch-2.branch [
       | goal.in-Some+in_ok-new+in_ok-walk_folder+in-Some-1 w ↦
           let entered = rw (c.deref.ensures.value, w.in-Some.is) at c.in_ok-inner.ensures in

@@ -17,10 +17,10 @@ returns-in_err-take-clause-checked c =
 pub loop-file-preserved : goal.loop-file-preserved
 loop-file-preserved c =
     let e = c.in_ok-take.ensures in
-    taking_more c.args.files.now c.loop-file.file-index c.loop-file.invariant c.file-item.result c.loop-file-test.true c.file-item.is e.within e.taken e.faultless e.rooted
+    taking_more c.args.files.now _ c.loop-file.invariant c.file-item.result c.loop-file-test.true c.file-item.is e.within e.taken e.faultless e.rooted
 
 pub returns-clause-checked : goal.returns-clause-checked
-returns-clause-checked c = taking_found c.args.files.now c.loop-file.file-index c.loop-file.invariant (omega (arith, c.loop-file-test.false))
+returns-clause-checked c = taking_found c.args.files.now _ c.loop-file.invariant (omega (arith, c.loop-file-test.false))
 
 pub returns-clause-rooted : goal.returns-clause-rooted
-returns-clause-rooted c = taking_rooted c.args.files.now c.loop-file.file-index c.loop-file.invariant (omega (arith, c.loop-file-test.false))
+returns-clause-rooted c = taking_rooted c.args.files.now _ c.loop-file.invariant (omega (arith, c.loop-file-test.false))

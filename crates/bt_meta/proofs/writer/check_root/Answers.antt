@@ -6,5 +6,5 @@ use Rattle.bt_meta.proofs.writer.check_root.Goals as goal
 
 pub returns-in-Ok-clause-noted : goal.returns-in-Ok-clause-noted
 returns-in-Ok-clause-noted c files h root n =
-    lengths_noted files (given_of c.args.file.now) c.args.lengths.now c.note_length.new.lengths root n (grind (arith, nat_tests))
+    lengths_noted files (given_of c.args.file.now) c.args.lengths.now _ root n (grind (arith, nat_tests))
     (h root n) c.in-Ok.ensures.noted

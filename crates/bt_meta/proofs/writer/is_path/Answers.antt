@@ -10,4 +10,4 @@ pub returns-then-not-is_empty : goal.returns-then-not-is_empty
 returns-then-not-is_empty c =
     let all = all_from_yields_List (λ e. is_element (string_bytes e)) _ _ c.all.result c.all.ensures.ran (YieldsList-from_slice c.args.path.now cc)
     (λ x b q k. search (rules, tests)) in
-    path_test c.args.path.now c.all.result c.if-not-is_empty.ensures all
+    path_test _ _ c.if-not-is_empty.ensures all
