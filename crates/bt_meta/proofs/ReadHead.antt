@@ -6,7 +6,8 @@ use Rattle.bt_bencode.specs.Value.{Data, data_of}
 use Rattle.bt_bencode.specs.Spelling.{spelling_of}
 use Rattle.bt_meta.specs.Fields.{integer_at, string_at, dictionary_at, is_dictionary}
 use Rattle.bt_meta.specs.Files.{File, file_of, files_of}
-use Rattle.bt_meta.specs.Faults.{Check, first_of, head_checks, info_checks, tree_checks, layer_checks, version_check, is_hybrid, is_piece_length, piece_length_of, tree_of, info_of, layers_of, first_fault, first_info_fault}
+use Rattle.bt_meta.specs.Faults.{Check, first_of, head_checks, info_checks, tree_checks, layer_checks, version_check, is_hybrid, is_piece_length}
+use Rattle.bt_meta.specs.Faults.{piece_length_of, tree_of, info_of, layers_of, first_fault, first_info_fault}
 use Rattle.bt_meta.specs.Torrent.{metainfo_of}
 use Rattle.bt_meta.specs.ReaderSteps.{Refuses, IsHead, IsListing}
 use Rattle.bt_meta.specs.LayerSteps.{layer_faults}
@@ -15,7 +16,7 @@ use Rattle.bt_meta.specs.declared.walk.Listing.{Listing}
 use Rattle.bt_meta.specs.declared.error.MetaError.{MetaError}
 use Rattle.bt_meta.specs.declared.error.MetaError.TheVariants.{NoInfo, Hybrid, NoName, PieceLength, Tree}
 use Rattle.bt_meta.proofs.Checks.{first_of-append, first_of-append_some}
-use Rattle.bt_meta.proofs.LayerFiles.{layer_faults_are}
+use Rattle.bt_meta.proofs.FileLayers.{layer_faults_are}
 
 -- ---- the head
 

@@ -1,4 +1,4 @@
-use Rattle.bt_meta.proofs.EncodeFolders.{entries_push}
+use Rattle.bt_meta.proofs.EncodeValue.{entries_push}
 use Rattle.bt_meta.proofs.encode.entries_with.Goals as goal
 
 pub returns : goal.returns

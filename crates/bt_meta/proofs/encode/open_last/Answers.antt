@@ -1,10 +1,9 @@
 use Rattle.std.proofs.Common.{refl, ◌≡◌, ◌-◌, ◌++◌, [], take, sym, ◌∙◌, ap}
 use Rattle.std.proofs.lemmas.Slice.Eq.{bytes_eq-Decides}
-use Rattle.bt_bencode.specs.Value.{entries_of}
 use Rattle.std.proofs.lemmas.Bool.{false≢true}
-use Rattle.bt_bencode.specs.declared.value.Value.TheViews as views
+use Rattle.bt_bencode.specs.Value.{entries_of}
 use Rattle.bt_bencode.proofs.ValueData.{data_of-Dict}
-use Rattle.bt_meta.proofs.EncodeFolders.{entries_push, opened_nothing, opened_folder, opened_other}
+use Rattle.bt_meta.proofs.EncodeValue.{entries_push, opened_nothing, opened_folder, opened_other}
 use Rattle.bt_meta.proofs.encode.open_last.Goals as goal
 
 pub returns-in_default : goal.returns-in_default

@@ -6,7 +6,7 @@ use Rattle.bt_bencode.specs.Value.{dictionary, entries_of}
 use Rattle.bt_meta.specs.Files.{file_of}
 use Rattle.bt_meta.specs.declared.torrent.FileEntry.{FileEntry}
 use Rattle.bt_meta.specs.LayerSteps.{with_layer, layer_fault}
-use Rattle.bt_meta.proofs.LayerChecks.{unchanged_item, changed_more, all_changed, faultless_more, refused_at, short_at}
+use Rattle.bt_meta.proofs.FileLayers.{unchanged_item, changed_more, all_changed, faultless_more, refused_at, short_at}
 use Rattle.bt_meta.proofs.layers.add_layers_of.Goals as goal
 
 pub loop-file-init : goal.loop-file-init

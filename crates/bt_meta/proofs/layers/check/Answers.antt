@@ -3,7 +3,7 @@ use Rattle.bt_tree.specs.Blocks.{block_count}
 use Rattle.bt_tree.specs.TreeShape.{height_of}
 use Rattle.bt_tree.proofs.TreeShape.{height_is}
 use Rattle.bt_meta.specs.Layers.{piece_layer_of}
-use Rattle.bt_meta.proofs.LayerChecks.{layer_right, layer_sized_wrong, layer_differs, layer_inside}
+use Rattle.bt_meta.proofs.FileLayers.{layer_right, layer_sized_wrong, layer_differs, layer_inside}
 use Rattle.bt_meta.proofs.layers.check.Goals as goal
 
 pub returns-in-Ok : goal.returns-in-Ok

@@ -1,6 +1,6 @@
 use Rattle.std.proofs.Common.{rules, ◌≡◌}
 use Rattle.std.proofs.lemmas.Fn.{always_returns_same}
-use Rattle.bt_meta.proofs.LayerLookup.{entry_cmp, found_here, not_found}
+use Rattle.bt_meta.proofs.FileLayers.{entry_cmp, found_here, not_found}
 use Rattle.bt_meta.proofs.layers.find.Goals as goal
 
 pub returns-in-Ok : goal.returns-in-Ok

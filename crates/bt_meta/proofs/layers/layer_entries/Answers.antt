@@ -1,4 +1,3 @@
-use Rattle.bt_bencode.specs.Value.{data_of, entries_of}
 use Rattle.bt_meta.proofs.Dictionaries.{layers_ascend, layers_strings, layers_absent, nothing_ascends}
 use Rattle.bt_meta.proofs.layers.layer_entries.Goals as goal
 

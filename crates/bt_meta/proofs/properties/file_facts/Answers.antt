@@ -1,9 +1,7 @@
-use Rattle.bt_bencode.specs.Value.{data_of}
-use Rattle.bt_meta.specs.Files.{length_in, root_in}
-use Rattle.bt_meta.specs.Faults.{has_lawful_length, has_lawful_root}
 use Rattle.std.proofs.Common.{arith}
+use Rattle.bt_bencode.specs.Value.{data_of}
 use Rattle.bt_meta.proofs.Choices.{test_of_some}
-use Rattle.bt_meta.proofs.WalkAddFile.{lawful_is_short, properties_pass}
+use Rattle.bt_meta.proofs.TreeWalk.{lawful_is_short, properties_pass}
 use Rattle.bt_meta.proofs.properties.file_facts.Goals as goal
 
 pub returns : goal.returns

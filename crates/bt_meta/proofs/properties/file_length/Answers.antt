@@ -1,8 +1,6 @@
 use Rattle.std.proofs.Common.{◌≡◌, ◌∙◌, ◌^◌, false, true, arith}
-use Rattle.std.specs.Prelude.{codes, nat_le}
+use Rattle.std.specs.Prelude.{nat_le}
 use Rattle.std.proofs.lemmas.Bool.Decides.{nat_tests}
-use Rattle.bt_bencode.specs.Value.{data_of}
-use Rattle.bt_meta.specs.Fields.{natural_at}
 use Rattle.bt_meta.specs.Files.{length_in}
 use Rattle.bt_meta.specs.Faults.{has_lawful_length}
 use Rattle.bt_meta.proofs.Choices.{some_there, none_there, none_nowhere}

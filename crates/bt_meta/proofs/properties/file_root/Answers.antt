@@ -1,5 +1,4 @@
 use Rattle.std.proofs.Common.{sym, ◌∙◌, ap, Some}
-use Rattle.bt_bencode.specs.Value.{data_of}
 use Rattle.bt_meta.proofs.ReadProperties.{root_of_nothing, root_there, root_of_other_size, root_nowhere}
 use Rattle.bt_meta.proofs.properties.file_root.Goals as goal
 

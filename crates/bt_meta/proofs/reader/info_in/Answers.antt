@@ -1,9 +1,7 @@
-use Rattle.std.proofs.Common.{◌∙◌, sym, map, inr}
+use Rattle.std.proofs.Common.{◌∙◌, sym, inr}
 use Rattle.std.proofs.lemmas.Result.{err_from_is_err_and}
 use Rattle.bt_bencode.specs.Value.{data_of}
-use Rattle.bt_meta.specs.Fields.{no_dictionary}
-use Rattle.bt_meta.specs.Files.{file_of}
-use Rattle.bt_meta.proofs.ReadLawful.{info_keeps_to, keeps_to}
+use Rattle.bt_meta.proofs.ReadFiles.{info_keeps_to, keeps_to}
 use Rattle.bt_meta.proofs.ReadHead.{not_info, first_info_fault_in, info_head_fault, refuses_as, info_faults, metainfo_is}
 use Rattle.bt_meta.proofs.reader.info_in.Goals as goal
 

@@ -1,10 +1,8 @@
 use Rattle.std.proofs.Common.{◌≡◌, ◌^◌, false, refl, sym, ◌∙◌, arith}
-use Rattle.std.specs.Prelude.{codes, nat_le, ◌&&◌}
+use Rattle.std.specs.Prelude.{nat_le, ◌&&◌}
 use Rattle.std.proofs.lemmas.Bool.{and_right}
 use Rattle.std.proofs.lemmas.Bool.Decides.{nat_tests}
 use Rattle.std.specs.Int.{is_power_of_two}
-use Rattle.bt_bencode.specs.Value.{data_of}
-use Rattle.bt_meta.specs.Fields.{natural_at}
 use Rattle.bt_meta.specs.Faults.{is_piece_length, piece_length_of}
 use Rattle.bt_meta.proofs.Choices.{some_by_test, none_by_test, none_of_nothing}
 use Rattle.bt_meta.proofs.reader.piece_length.Goals as goal

@@ -1,9 +1,8 @@
 use Rattle.std.proofs.Common.{refl}
 use Rattle.std.proofs.lemmas.Result.{err_from_is_err_and}
 use Rattle.bt_bencode.specs.Value.{data_of}
-use Rattle.bt_meta.specs.Faults.{piece_length_of}
 use Rattle.bt_meta.proofs.Choices.{test_of_some, test_of_none}
-use Rattle.bt_meta.proofs.ReadHead.{lawful_in, head_version, head_hybrid, head_name, head_length, head_tree, head_is}
+use Rattle.bt_meta.proofs.ReadHead.{head_version, head_hybrid, head_name, head_length, head_tree, head_is}
 use Rattle.bt_meta.proofs.reader.read_head.Goals as goal
 
 pub returns-in_err-check_version : goal.returns-in_err-check_version

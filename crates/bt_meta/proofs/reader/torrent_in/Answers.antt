@@ -6,8 +6,8 @@ use Rattle.bt_meta.specs.Faults.{layers_of}
 use Rattle.bt_meta.specs.Torrent.{metainfo_of}
 use Rattle.bt_meta.specs.LayerSteps.{with_layer}
 use Rattle.bt_meta.proofs.ReadHead.{no_info, info_is, torrent_info_fault, info_head_fault, tree_refuses, torrent_layers, refuses_as, metainfo_is}
-use Rattle.bt_meta.proofs.ReadLawful.{keeps_to, torrent_keeps_to}
-use Rattle.bt_meta.proofs.LayerFiles.{files_with_layers, pieces_after}
+use Rattle.bt_meta.proofs.ReadFiles.{keeps_to, torrent_keeps_to}
+use Rattle.bt_meta.proofs.FileLayers.{files_with_layers, pieces_after}
 use Rattle.bt_meta.proofs.reader.torrent_in.Goals as goal
 
 pub returns-in_default-clause-refused : goal.returns-in_default-clause-refused

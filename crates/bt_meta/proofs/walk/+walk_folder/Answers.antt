@@ -5,7 +5,7 @@ use Rattle.bt_bencode.specs.Value.{dictionary, data_of, entries_of}
 use Rattle.bt_bencode.proofs.ValueData.{data_of-Dict}
 use Rattle.bt_meta.specs.FilePath.{folder_elements}
 use Rattle.bt_meta.proofs.Dictionaries.{below_entries, nothing_below, no_dictionary_is}
-use Rattle.bt_meta.proofs.WalkJoins.{passes_nothing, entries_first, folder_stops, inner_stops, inner_passes, folder_passes_more}
+use Rattle.bt_meta.proofs.TreeWalk.{passes_nothing, entries_first, folder_stops, inner_stops, inner_passes, folder_passes_more}
 use Rattle.bt_meta.proofs.walk.+walk_folder.Goals as goal
 
 pub returns-in-Int-clause-passed : goal.returns-in-Int-clause-passed

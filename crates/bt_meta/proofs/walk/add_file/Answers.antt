@@ -1,7 +1,7 @@
 use Rattle.std.proofs.Common.{◌+◌, refl, ap, inl, inr, arith}
-use Rattle.bt_meta.specs.declared.torrent.FileEntry.{FileEntry}
 use Rattle.std.proofs.lemmas.Result.{err_from_is_err_and}
-use Rattle.bt_meta.proofs.WalkAddFile.{IsNotedWalk, conflict_stops, many_stop, file_passes}
+use Rattle.bt_meta.specs.declared.torrent.FileEntry.{FileEntry}
+use Rattle.bt_meta.proofs.TreeWalk.{IsNotedWalk, conflict_stops, many_stop, file_passes}
 use Rattle.bt_meta.proofs.walk.add_file.Goals as goal
 
 pub returns-in_err-note_length-clause-stopped : goal.returns-in_err-note_length-clause-stopped

@@ -5,8 +5,8 @@ use Rattle.bt_meta.specs.Faults.{is_path_element}
 use Rattle.bt_meta.specs.FilePath.{folder_elements}
 use Rattle.bt_meta.proofs.Choices.{test_of_some, test_of_none}
 use Rattle.bt_meta.proofs.Dictionaries.{empty_key, key_entries}
-use Rattle.bt_meta.proofs.WalkJoins.{passes_nothing}
-use Rattle.bt_meta.proofs.WalkAddFile.{no_node_stops, bad_name_stops, folder_many, folder_passes, entry_stops, file_entry, node_is, file_entered, folder_entered}
+use Rattle.bt_meta.proofs.TreeWalk.{passes_nothing, no_node_stops, bad_name_stops, folder_many, folder_passes, entry_stops, file_entry, node_is, file_entered}
+use Rattle.bt_meta.proofs.TreeWalk.{folder_entered}
 use Rattle.bt_meta.proofs.walk.enter.Goals as goal
 
 pub returns-then-is_empty : goal.returns-then-is_empty

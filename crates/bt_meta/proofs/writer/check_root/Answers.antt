@@ -1,7 +1,7 @@
 use Rattle.std.proofs.Common.{arith}
 use Rattle.std.proofs.lemmas.Bool.Decides.{nat_tests}
 use Rattle.bt_meta.specs.GivenFiles.{given_of}
-use Rattle.bt_meta.proofs.MakeTally.{lengths_noted}
+use Rattle.bt_meta.proofs.MakeFiles.{lengths_noted}
 use Rattle.bt_meta.proofs.writer.check_root.Goals as goal
 
 pub returns-in-Ok-clause-noted : goal.returns-in-Ok-clause-noted

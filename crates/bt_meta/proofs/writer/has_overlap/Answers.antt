@@ -1,7 +1,5 @@
-use Rattle.std.proofs.Common.{arith, sym, ◌∙◌, refl, map}
-use Rattle.bt_meta.specs.EncodeSteps.{given_at}
-use Rattle.bt_meta.proofs.MakeNeighbours.{apart_begun, apart_more, apart_found}
-use Rattle.bt_meta.proofs.MakeOverlap.{overlap_found, none_overlap}
+use Rattle.std.proofs.Common.{arith, sym, ◌∙◌, refl}
+use Rattle.bt_meta.proofs.MakeFiles.{apart_begun, apart_more, apart_found, overlap_found, none_overlap}
 use Rattle.bt_meta.proofs.writer.has_overlap.Goals as goal
 
 pub loop-i-init : goal.loop-i-init

@@ -3,7 +3,7 @@ use Rattle.std.specs.Prelude.{string_bytes}
 use Rattle.std.proofs.lemmas.Iterator.{YieldsList-from_slice}
 use Rattle.std.proofs.lemmas.Iterator.Search.{all_from_yields_List}
 use Rattle.bt_meta.specs.Faults.{is_element}
-use Rattle.bt_meta.proofs.MakeTally.{path_test}
+use Rattle.bt_meta.proofs.MakeFiles.{path_test}
 use Rattle.bt_meta.proofs.writer.is_path.Goals as goal
 
 pub returns-then-not-is_empty : goal.returns-then-not-is_empty
