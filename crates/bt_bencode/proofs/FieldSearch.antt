@@ -13,15 +13,15 @@ use Rattle.bt_bencode.proofs.ValueData.{data_of-Dict}
 
 module _ (es : List (Vec ℕ × Value)) (i : ℕ) (e : Vec ℕ × Value) (key : List ℕ) (lt : i < length es) (is : e ≡ get_or es i e) where
   pub other_key : pointwise nat_eq e.0.items key ≡ false → first_value_of (entries_of (drop i es)) key ≡ first_value_of (entries_of (drop (i + 1) es)) key
-  other_key differs = rw (drop_more es i e lt, ← is, differs) refl
+  other_key differs = rw (drop_more _ i e lt, ← is, differs) refl
 
   pub this_key : pointwise nat_eq e.0.items key ≡ true → first_value_of (entries_of (drop i es)) key ≡ Some (data_of e.1)
-  this_key same = rw (drop_more es i e lt, ← is, same) refl
+  this_key same = rw (drop_more _ i e lt, ← is, same) refl
 
 pub no_key : (es : List (Vec ℕ × Value)) (i : ℕ) (key : List ℕ) → length es ≡ i → first_value_of (entries_of (drop i es)) key ≡ None
-no_key es i key whole = rw (← whole, drop-length es) refl
+no_key es i key whole = rw (← whole, drop-length _) refl
 
 -- the field of a value that is a dictionary of these entries
 pub field-Dict : (value : Value) (entries : Vec (Vec ℕ × Value)) (key : List ℕ) → value ≡ views.Dict entries
     → field_of (data_of value) key ≡ first_value_of (entries_of entries.items) key
-field-Dict value entries key is = rw (is, data_of-Dict entries) refl
+field-Dict value entries key is = rw (is, data_of-Dict _) refl

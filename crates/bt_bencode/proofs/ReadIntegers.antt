@@ -25,16 +25,16 @@ pub record IsSigned (negative : Bool) (bytes : List ℕ) (at : ℕ) : Type 0 whe
   whole : IsTrue negative ⊎ (get_or (drop (at + 1 + from_bool negative) bytes) 0 0 ≢ 45)
 
 pub is_signed : (b : Bool) (bytes : List ℕ) (at : ℕ) → IsTrue b ↔ ((at + 1 < length bytes) × (get_or bytes (at + 1) 0 ≡ 45)) → IsSigned b bytes at
-is_signed true bytes at iff = record { text = drop_byte bytes (at + 1) 45 (iff.0 refl).0 (iff.0 refl).1; whole = inl refl }
+is_signed true bytes at iff = record { text = drop_byte _ _ 45 (iff.0 refl).0 (iff.0 refl).1; whole = inl refl }
 is_signed false bytes at iff = record {
-  text = rw (add-zero (at + 1)) refl;
-  whole = inr (rw (add-zero (at + 1), drop_first (at + 1) bytes) (not_standing bytes (at + 1) 45 (omega arith) iff.1));
+  text = rw (add-zero _) refl;
+  whole = inr (rw (add-zero _, drop_first _ _) (not_standing _ _ 45 (omega arith) iff.1));
 }
 
 -- the same of a slice that ends behind the sign
 slice_of_sign : (negative : Bool) (bytes : List ℕ) (at end : ℕ) → IsSigned negative bytes at → at + 1 + from_bool negative < end
     → slice_range bytes (at + 1) end ≡ sign_text negative ++ slice_range bytes (at + 1 + from_bool negative) end
-slice_of_sign false bytes at end signed lt = rw (add-zero (at + 1)) refl
+slice_of_sign false bytes at end signed lt = rw (add-zero _) refl
 slice_of_sign true bytes at end signed lt =
     let size : end - (at + 1) ≡ suc (end - (at + 1 + 1)) = omega arith in
     rw (size, signed.text) refl
@@ -44,7 +44,7 @@ positive : (negative : Bool) (ds more : List ℕ) → IsNumeral 10 ds → ¬ Lea
 positive negative ds more numeral no_zero below is =
     let zero_digit : 48 ∷ [] ≡ ds = sym (decimal_digit 0 (omega arith)) ∙ ap decimal (sym is)
     ∙ decimal_again negative ds more numeral.1 numeral.0 no_zero (omega arith) in
-    no_zero (get_or_append_left ds more 0 0 numeral.0 ∙ ap (λ xs. get_or xs 0 0) (sym zero_digit), inl below)
+    no_zero (get_or_append_left _ _ 0 0 numeral.0 ∙ ap (λ xs. get_or xs 0 0) (sym zero_digit), inl below)
 
 signed_decimal_of : (negative : Bool) (n : ℕ) → (IsTrue negative → n ≢ 0) → signed_decimal (signed_number negative n) ≡ sign_text negative ++ decimal n
 signed_decimal_of false n some = refl
@@ -86,11 +86,11 @@ module _ (bytes : List ℕ) (at : ℕ) (negative : Bool) (signed : IsSigned nega
   -- a numeral that stops a reading, behind `i` and the sign
   pub integer_stops : (n : ℕ) → at < length bytes → get_or bytes at 0 ≡ 105 → (f : Fault) (offset : ℕ)
       → FaultFrom (NumeralStops negative 101) bytes (at + 1 + from_bool negative) f offset → FaultFrom (Stops n) bytes at f offset
-  integer_stops n lt first f offset h = (h.0, rw (drop_byte bytes at 105 lt first, signed.text) (in_integer n negative _ f _ signed.whole h.1))
+  integer_stops n lt first f offset h = (h.0, rw (drop_byte _ at 105 lt first, signed.text) (in_integer n negative _ f _ signed.whole h.1))
 
   module _ (end : ℕ) (numeral : IsNumeralAt negative 101 bytes (at + 1 + from_bool negative) end) where
     pub integer_is_ascii : IsAscii (slice_range bytes (at + 1) end)
-    integer_is_ascii = rw (slice_of_sign negative bytes at end signed numeral.forward) (signed_is_ascii negative _ (IsAscii-from_digits _ numeral.digits))
+    integer_is_ascii = rw (slice_of_sign _ _ at end signed numeral.forward) (signed_is_ascii _ _ (IsAscii-from_digits _ numeral.digits))
 
     -- the text from `i` on: the sign, the digits, and what is behind the e
     record Parts (ds rest : List ℕ) : Type 0 where
@@ -100,7 +100,7 @@ module _ (bytes : List ℕ) (at : ℕ) (negative : Bool) (signed : IsSigned nega
 
     parts : Parts (slice_range bytes (at + 1 + from_bool negative) end) (drop (end + 1) bytes)
     parts =
-        let split = numeral_split negative 101 bytes _ end numeral in
+        let split = numeral_split _ 101 _ _ _ numeral in
         record {
           digits = (omega (arith, length-between bytes (at + 1 + from_bool negative) end (omega (arith, numeral.inside)), numeral.forward), numeral.digits);
           no_zero = rw split numeral.no_zero;
@@ -109,7 +109,7 @@ module _ (bytes : List ℕ) (at : ℕ) (negative : Bool) (signed : IsSigned nega
 
     said_at : (r : Option ℤ) → Says (slice_range bytes (at + 1) end) r
         → let z = signed_number negative (digits_value 10 (slice_range bytes (at + 1 + from_bool negative) end)) in SomeIff r (FitsSigned w64 z) z
-    said_at r says = said_of negative _ r parts.digits (rw (slice_of_sign negative bytes at end signed numeral.forward) at says)
+    said_at r says = said_of _ _ r parts.digits (rw (slice_of_sign _ _ at end signed numeral.forward) at says)
 
     pub integer_found : (z : ℤ) → at < length bytes → get_or bytes at 0 ≡ 105 → Says (slice_range bytes (at + 1) end) (Some z) → ReadsInteger bytes at (end + 1) z
     unfolding spelling_of
@@ -125,7 +125,7 @@ module _ (bytes : List ℕ) (at : ℕ) (negative : Bool) (signed : IsSigned nega
             forward = omega arith;
             inside = omega arith;
             spelled = rw (
-              append_assoc (signed_decimal (signed_number negative n)) (101 ∷ []) (drop (end + 1) bytes),
+              append_assoc _ (101 ∷ []) (drop (end + 1) bytes),
               signed_decimal_of negative n (positive negative _ _ parts.digits parts.no_zero),
               drop_byte bytes at 105 lt first,
               parts.text,
@@ -138,4 +138,4 @@ module _ (bytes : List ℕ) (at : ℕ) (negative : Bool) (signed : IsSigned nega
     pub integer_out_of_range : (n : ℕ) → at < length bytes → get_or bytes at 0 ≡ 105 → Says (slice_range bytes (at + 1) end) None
         → FaultFrom (Stops n) bytes at int_range (at + 1)
     integer_out_of_range n lt first says =
-        (omega arith, rw (drop_byte bytes at 105 lt first, parts.text) (out_of_range n negative _ _ parts.digits parts.no_zero (said_at None says)))
+        (omega arith, rw (drop_byte _ at 105 lt first, parts.text) (out_of_range n negative _ _ parts.digits parts.no_zero (said_at None says)))

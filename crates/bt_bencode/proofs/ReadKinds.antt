@@ -14,7 +14,7 @@ module _ (n : ℕ) (bytes : List ℕ) (at : ℕ) where
   pub too_deep_at : (opening : ℕ) → n ≡ 0 → at < length bytes → get_or bytes at 0 ≡ opening → (opening ≡ 108) ⊎ (opening ≡ 100)
       → FaultFrom (Stops n) bytes at too_deep at
   too_deep_at opening none lt first which =
-      (omega arith, rw (none, drop_byte bytes at opening lt first) (at_max_nesting opening (drop (at + 1) bytes) which))
+      (omega arith, rw (none, drop_byte _ at opening lt first) (at_max_nesting opening (drop (at + 1) bytes) which))
 
   pub nothing_stops : at ≡ length bytes → FaultFrom (Stops n) bytes at truncated at
   nothing_stops whole = let none : drop at bytes ≡ [] = ap (λ k. drop k bytes) whole ∙ drop-length bytes in (omega arith, rw none (at_end n))

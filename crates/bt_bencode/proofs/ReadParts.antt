@@ -70,7 +70,7 @@ module _ (n : ℕ) (bytes : List ℕ) (at : ℕ) where
   list_begun vs none some lt first = rw none (record {
     forward = omega arith;
     inside = omega arith;
-    spelled = sym (drop_byte bytes at 108 lt first);
+    spelled = sym (drop_byte _ at 108 lt first);
     canonical = record { nesting = omega arith; keys = tt; integers = tt };
   })
 
@@ -79,7 +79,7 @@ module _ (n : ℕ) (bytes : List ℕ) (at : ℕ) where
   dictionary_begun es none some lt first = rw none (record {
     forward = omega arith;
     inside = omega arith;
-    spelled = sym (drop_byte bytes at 100 lt first);
+    spelled = sym (drop_byte _ at 100 lt first);
     canonical = record { nesting = omega arith; keys = tt; integers = tt };
   })
 
@@ -92,7 +92,7 @@ module _ (n : ℕ) (bytes : List ℕ) (at : ℕ) where
           forward = omega arith;
           inside = inside;
           canonical = canonical;
-          spelled = rw (is, append_assoc parts part (drop end bytes), spelled) so_far.spelled;
+          spelled = rw (is, append_assoc _ _ _, spelled) so_far.spelled;
         }
 
     parts_found : (opening : ℕ) (parts : List ℕ) (d : Data) → PartsTo opening parts n d bytes at next → next < length bytes → get_or bytes next 0 ≡ 101
@@ -102,7 +102,7 @@ module _ (n : ℕ) (bytes : List ℕ) (at : ℕ) where
         record {
           forward = omega arith;
           inside = omega arith;
-          spelled = rw (append_assoc parts (101 ∷ []) (drop (next + 1) bytes), ← drop_byte bytes next 101 lt last) so_far.spelled;
+          spelled = rw (append_assoc _ _ _, ← drop_byte _ _ 101 lt last) so_far.spelled;
         }
 
     pub list_more : (vs ws : List Value) (v : Value) (end : ℕ) → 0 < n → ItemsTo n bytes at next vs → ReadsValue (n - 1) bytes next end (data_of v)
@@ -110,7 +110,7 @@ module _ (n : ℕ) (bytes : List ℕ) (at : ℕ) where
     list_more vs ws v end some so_far read is =
         let seen = ap (map data_of) is ∙ map_push data_of vs v in
         rw seen (parts_more 108 _ (spelling_of (data_of v)) _ _ _ end so_far read.spans.forward read.spans.inside read.spans.spelled
-        (items_spelling-push (map data_of vs) (data_of v)) (list-push n (map data_of vs) (data_of v) some so_far.canonical read.canonical))
+        (items_spelling-push (map data_of vs) (data_of v)) (list-push n _ (data_of v) some so_far.canonical read.canonical))
 
     pub dictionary_more : (es fs : List (Vec ℕ × Value)) (key : Vec ℕ) (v : Value) (colon end : ℕ) → 0 < n → EntriesTo n bytes at next es
         → ReadsString bytes next colon key.items → EndsBefore (entries_of es) key.items → ReadsValue (n - 1) bytes colon end (data_of v)
@@ -120,10 +120,10 @@ module _ (n : ℕ) (bytes : List ℕ) (at : ℕ) where
         let to_colon : next < colon = string.forward in
         let to_end : colon < end = read.spans.forward in
         let pair : (string_spelling key.items ++ spelling_of (data_of v)) ++ drop end bytes ≡ drop next bytes =
-        rw (append_assoc (string_spelling key.items) (spelling_of (data_of v)) (drop end bytes), read.spans.spelled) string.spelled in
+        rw (append_assoc _ _ (drop end bytes), read.spans.spelled) string.spelled in
         rw seen (parts_more 100 _ (string_spelling key.items ++ spelling_of (data_of v)) _ _ _ end so_far (omega arith) read.spans.inside pair
         (entries_spelling-push (map entry_data es) key (data_of v))
-        (dictionary-push n (map entry_data es) key (data_of v) some so_far.canonical last read.canonical))
+        (dictionary-push n _ key (data_of v) some so_far.canonical last read.canonical))
 
     pub list_found : (vs : List Value) → ItemsTo n bytes at next vs → next < length bytes → get_or bytes next 0 ≡ 101
         → ReadsValue n bytes at (next + 1) (list (items_of vs))
@@ -147,7 +147,7 @@ module _ (n : ℕ) (bytes : List ℕ) (at next : ℕ) (deep : n ≡ suc (n - 1))
       → FaultFrom (Stops (n - 1)) bytes next f offset → FaultFrom (Stops n) bytes at f offset
   list_stops vs so_far going f offset h = (
     h.0,
-    parts_stop 108 _ _ f (drop offset bytes) so_far
+    parts_stop 108 _ _ f _ so_far
         (λ canonical. in_item (n - 1) (items_of vs) _ f _ canonical (λ e. going (sym (drop_first next bytes) ∙ e)) h.1),
   )
 
@@ -155,14 +155,14 @@ module _ (n : ℕ) (bytes : List ℕ) (at next : ℕ) (deep : n ≡ suc (n - 1))
     pub key_stops : get_or bytes next 0 ≢ 101 → (f : Fault) (offset : ℕ) → FaultFrom StringStops bytes next f offset → FaultFrom (Stops n) bytes at f offset
     key_stops going f offset h = (
       h.0,
-      parts_stop 100 _ _ f (drop offset bytes) so_far
+      parts_stop 100 _ _ f _ so_far
           (λ canonical. in_key (n - 1) (entries_of es) _ f _ canonical (λ e. going (sym (drop_first next bytes) ∙ e)) h.1),
     )
 
     pub order_stops : (key : List ℕ) (colon : ℕ) → ReadsString bytes next colon key → ¬ EndsBefore (entries_of es) key → FaultFrom (Stops n) bytes at key_order next
     order_stops key colon string order = (
       so_far.inside,
-      parts_stop 100 _ _ key_order (drop next bytes) so_far
+      parts_stop 100 _ _ _ _ so_far
           (λ canonical. rw (← string.spelled) (at_key (n - 1) (entries_of es) key (drop colon bytes) canonical order)),
     )
 
@@ -170,7 +170,7 @@ module _ (n : ℕ) (bytes : List ℕ) (at next : ℕ) (deep : n ≡ suc (n - 1))
         → FaultFrom (Stops (n - 1)) bytes colon f offset → FaultFrom (Stops n) bytes at f offset
     value_stops key colon string order f offset h = (
       h.0,
-      parts_stop 100 _ _ f (drop offset bytes) so_far
+      parts_stop 100 _ _ f _ so_far
           (λ canonical. rw (← string.spelled) (in_value (n - 1) (entries_of es) key (drop colon bytes) f _ canonical order h.1)),
     )
 
@@ -184,7 +184,7 @@ pub last_decides : (es : List (Vec ℕ × Value)) (e : Vec ℕ × Value) (key : 
 last_decides es e key some is =
     let whole : length es - 1 + 1 ≡ length es = omega arith in
     let parts : es ≡ take (length es - 1) es ++ e ∷ [] =
-    sym (ap (λ x. take (length es - 1) es ++ x ∷ []) is ∙ sym (take_more es (length es - 1) e (omega arith)) ∙ ap (λ k. take k es) whole
-    ∙ take_all (length es) es (omega arith)) in
-    let last : last_key_of (entries_of es) ≡ Some e.0.items = ap (λ xs. last_key_of (entries_of xs)) parts ∙ last_key-push (take (length es - 1) es) e in
-    rw last (less_decides (slice_cmp nat_cmp e.0.items key))
+    sym (ap (λ x. take (length es - 1) es ++ x ∷ []) is ∙ sym (take_more _ _ e (omega arith)) ∙ ap (λ k. take k es) whole
+    ∙ take_all _ _ (omega arith)) in
+    let last : last_key_of (entries_of es) ≡ Some e.0.items = ap (λ xs. last_key_of (entries_of xs)) parts ∙ last_key-push _ e in
+    rw last (less_decides _)

@@ -31,10 +31,10 @@ module _ (bytes : List ℕ) (at colon : ℕ) (numeral : IsNumeralAt false 58 byt
         forward = omega arith;
         inside = inside;
         spelled = rw (
-          append_assoc (decimal (length s)) (58 ∷ s) (drop (colon + 1 + n) bytes),
+          append_assoc _ _ _,
           digits,
           is,
-          ← drop-drop n (colon + 1) bytes,
+          ← drop-drop n _ bytes,
           take-append-drop n rest,
         ) parts;
       }
@@ -43,5 +43,5 @@ module _ (bytes : List ℕ) (at colon : ℕ) (numeral : IsNumeralAt false 58 byt
   string_short short = (
     omega arith,
     rw drop-length (in_bytes (slice_range bytes at colon) (drop (colon + 1) bytes)
-        (sym (numeral_split false 58 bytes at colon numeral)) (some, numeral.digits) numeral.no_zero (omega (arith, length-drop (colon + 1) bytes))),
+        (sym (numeral_split _ 58 _ at colon numeral)) (some, numeral.digits) numeral.no_zero (omega (arith, length-drop (colon + 1) bytes))),
   )

@@ -46,7 +46,7 @@ digits_of (c ∷ text) = if is_ascii_digit c then (c ∷ (digits_of text).0, (di
 digits_split : (ds rest : List ℕ) → AllDigits 10 ds → ¬ IsAsciiDigit (get_or rest 0 0) → digits_of (ds ++ rest) ≡ (ds, rest)
 unfolding digits_of
 digits_split [] [] digits other = refl
-digits_split [] (c ∷ rest) digits other = rw (denied (is_ascii_digit c) (digit_decides c) other) refl
+digits_split [] (c ∷ rest) digits other = rw (denied _ (digit_decides c) other) refl
 digits_split (d ∷ ds) rest digits other =
     rw ((digit_decides d).1 (digit_from_value d digits.0), digits_split ds rest digits.1 other) refl
 
@@ -55,8 +55,8 @@ leads negative text = (get_or text 0 0 == 48) && (negative || is_ascii_digit (ge
 
 leads_decides : (negative : Bool) (text : List ℕ) → Decides (leads negative text) (LeadsWithZero negative text)
 unfolding leads
-leads_decides negative text = Decides-and _ _ (Decides-eqb (get_or text 0 0) 48)
-    (Decides-or negative _ (λ is. is, λ is. is) (digit_decides (get_or text 1 0)))
+leads_decides negative text = Decides-and _ _ (Decides-eqb _ 48)
+    (Decides-or _ _ (λ is. is, λ is. is) (digit_decides _))
 
 behind_digits : ℕ → List ℕ → List ℕ → Outcome (List ℕ)
 behind_digits stop ds [] = stopped truncated []
@@ -72,18 +72,18 @@ unfolding behind_digits
 other_behind stop ds [] some differs = absurd (omega arith)
 other_behind stop [] (c ∷ rest) some differs = refl
 other_behind stop (d ∷ ds) (c ∷ rest) some (inl none) = cc
-other_behind stop (d ∷ ds) (c ∷ rest) some (inr other) = rw (ne_eqb c stop other) refl
+other_behind stop (d ∷ ds) (c ∷ rest) some (inr other) = rw (ne_eqb c _ other) refl
 
 pub numeral_stops : (negative : Bool) (stop : ℕ) (text : List ℕ) (f : Fault) (rest : List ℕ) → NumeralStops negative stop text f rest
     → read_numeral negative stop text ≡ stopped f rest
 unfolding read_numeral behind_digits
-numeral_stops negative stop text f rest (at_zero is) = rw ((leads_decides negative text).1 is) refl
+numeral_stops negative stop text f rest (at_zero is) = rw ((leads_decides _ text).1 is) refl
 numeral_stops negative stop text f rest (at_end digits no_lead) =
     let split : digits_of text ≡ (text, []) = ap digits_of (sym (append-nil text)) ∙ digits_split text [] digits (λ digit. absurd (omega (arith, digit.0))) in
-    rw (denied (leads negative text) (leads_decides negative text) no_lead, split) refl
+    rw (denied _ (leads_decides negative text) no_lead, split) refl
 numeral_stops negative stop text f rest (at_other ds more parts digits no_lead some other differs) =
-    rw (denied (leads negative text) (leads_decides negative text) no_lead, ap digits_of parts ∙ digits_split ds more digits other)
-    (other_behind stop ds more some differs)
+    rw (denied _ (leads_decides negative text) no_lead, ap digits_of parts ∙ digits_split ds more digits other)
+    (other_behind stop ds _ some differs)
 
 pub no_digit : (stop : ℕ) → 57 < stop → ¬ IsAsciiDigit stop
 no_digit stop other digit = absurd (omega (arith, digit.1))
@@ -94,9 +94,9 @@ unfolding read_numeral behind_digits
 numeral_read negative stop [] rest high numeral no_zero = absurd (omega (arith, numeral.0))
 numeral_read negative stop (d ∷ ds) rest high numeral no_zero =
     rw (
-      denied (leads negative (d ∷ ds ++ stop ∷ rest)) (leads_decides negative (d ∷ ds ++ stop ∷ rest)) no_zero,
-      digits_split (d ∷ ds) (stop ∷ rest) numeral.1 (no_digit stop high),
-      eq-eqb stop stop refl,
+      denied _ (leads_decides negative (d ∷ ds ++ stop ∷ rest)) no_zero,
+      digits_split _ _ numeral.1 (no_digit _ high),
+      eq-eqb _ _ refl,
     ) refl
 
 -- a number's digits have no zero that may not stand, and behind a minus none but 0 itself begins with one
@@ -105,18 +105,18 @@ decimal_no_zero : (negative : Bool) (n stop : ℕ) (rest : List ℕ) → (IsTrue
 decimal_no_zero negative zero stop rest some fits other leads = elim leads.1 [
   | inl is ↦ absurd (omega (arith, some is))
   | inr digit ↦ let text : decimal 0 ++ stop ∷ rest ≡ 48 ∷ stop ∷ rest = ap (λ ds. ds ++ stop ∷ rest) (decimal_digit 0 (omega arith)) in
-      no_digit stop other (subst (λ t. IsAsciiDigit (get_or t 1 0)) text digit)
+      no_digit _ other (subst (λ t. IsAsciiDigit (get_or t 1 0)) text digit)
 ]
 decimal_no_zero negative (suc n) stop rest positive fits other leads =
-    let some : 0 < length (decimal (suc n)) = decimal_nonempty (suc n) fits in
-    let first : get_or (decimal (suc n) ++ stop ∷ rest) 0 0 ≡ get_or (decimal (suc n)) 0 0 = get_or_append_left (decimal (suc n)) (stop ∷ rest) 0 0 some in
-    let above : 48 < get_or (decimal (suc n)) 0 0 = first_decimal (suc n) (omega arith) fits in
+    let some : 0 < length (decimal (suc n)) = decimal_nonempty _ fits in
+    let first : get_or (decimal (suc n) ++ stop ∷ rest) 0 0 ≡ get_or (decimal (suc n)) 0 0 = get_or_append_left _ _ 0 0 some in
+    let above : 48 < get_or (decimal (suc n)) 0 0 = first_decimal _ (omega arith) fits in
     omega (arith, leads.0)
 
 pub decimal_read : (negative : Bool) (stop n : ℕ) (rest : List ℕ) → 57 < stop → n < 2 ^ 64 → (IsTrue negative → 0 < n)
     → read_numeral negative stop (decimal n ++ stop ∷ rest) ≡ read (decimal n) rest
 decimal_read negative stop n rest high fits some =
-    numeral_read negative stop (decimal n) rest high (decimal_is_IsNumeral n fits).0 (decimal_no_zero negative n stop rest some fits high)
+    numeral_read _ _ _ _ high (decimal_is_IsNumeral n fits).0 (decimal_no_zero _ n _ _ some fits high)
 
 pub read_string : List ℕ → Outcome (List ℕ)
 read_string text = and_then (read_numeral false 58 text) (λ ds rest. let n = digits_value 10 ds in
@@ -127,7 +127,7 @@ unfolding read_string
 string_read s rest fits =
     let whole : ltb (length (s ++ rest)) (length s) ≡ false = grind (arith, nat_tests, length-append s rest) in
     rw (
-      append_assoc (decimal (length s)) (58 ∷ s) rest,
+      append_assoc _ (58 ∷ s) rest,
       decimal_read false 58 (length s) (s ++ rest) (omega arith) fits (λ is. cc),
       (decimal_is_IsNumeral (length s) fits).1,
       whole,
@@ -137,10 +137,10 @@ string_read s rest fits =
 
 pub string_stops : (text : List ℕ) (f : Fault) (rest : List ℕ) → StringStops text f rest → read_string text ≡ stopped f rest
 unfolding read_string
-string_stops text f rest (in_length g left stops) = rw (numeral_stops false 58 text g left stops) refl
+string_stops text f rest (in_length g left stops) = rw (numeral_stops _ 58 _ g _ stops) refl
 string_stops text f rest (in_bytes ds more parts numeral no_lead short) =
-    let shorter : ltb (length more) (digits_value 10 ds) ≡ true = (Decides-ltb (length more) (digits_value 10 ds)).1 short in
-    rw (parts, numeral_read false 58 ds more (omega arith) numeral (rw parts at no_lead), shorter) refl
+    let shorter : ltb (length more) (digits_value 10 ds) ≡ true = (Decides-ltb _ _).1 short in
+    rw (parts, numeral_read _ 58 _ _ (omega arith) numeral (rw parts at no_lead), shorter) refl
 
 -- the sign in front, and what is behind it
 sign_of : List ℕ → Bool × List ℕ
@@ -160,8 +160,8 @@ is_small (negsuc n) = ltb n (2 ^ 63)
 
 small_decides : (z : ℤ) → Decides (is_small z) (FitsSigned w64 z)
 unfolding is_small
-small_decides (pos n) = (λ is. omega (arith, ints, (Decides-ltb n (2 ^ 63)).0 is), λ fits. (Decides-ltb n (2 ^ 63)).1 (omega (arith, ints, fits)))
-small_decides (negsuc n) = (λ is. omega (arith, ints, (Decides-ltb n (2 ^ 63)).0 is), λ fits. (Decides-ltb n (2 ^ 63)).1 (omega (arith, ints, fits)))
+small_decides (pos n) = (λ is. omega (arith, ints, (Decides-ltb n (2 ^ 63)).0 is), λ fits. (Decides-ltb n _).1 (omega (arith, ints, fits)))
+small_decides (negsuc n) = (λ is. omega (arith, ints, (Decides-ltb n (2 ^ 63)).0 is), λ fits. (Decides-ltb n _).1 (omega (arith, ints, fits)))
 
 -- an integer, behind its i
 pub read_integer : List ℕ → Outcome ℤ
@@ -172,7 +172,7 @@ read_integer text = and_then (read_numeral (sign_of text).0 101 (sign_of text).1
 pub integer_stops : (negative : Bool) (more : List ℕ) (f : Fault) (rest : List ℕ) → IsTrue negative ⊎ (get_or more 0 0 ≢ 45)
     → NumeralStops negative 101 more f rest → read_integer (sign_text negative ++ more) ≡ stopped f rest
 unfolding read_integer
-integer_stops negative more f rest whole stops = rw (sign_split negative more whole, numeral_stops negative 101 more f rest stops) refl
+integer_stops negative more f rest whole stops = rw (sign_split _ _ whole, numeral_stops _ 101 _ f _ stops) refl
 
 plain : (ds more : List ℕ) → IsNumeral 10 ds → get_or (ds ++ more) 0 0 ≢ 45
 plain ds more numeral is = omega (arith, (digit_at ds 0 numeral.1 numeral.0).0, get_or_append_left ds more 0 0 numeral.0)
@@ -182,33 +182,33 @@ integer_behind : (negative : Bool) (ds more : List ℕ) → IsNumeral 10 ds → 
     if is_small z then read z more else stopped int_range (sign_text negative ++ (ds ++ 101 ∷ more)))
 unfolding read_integer
 integer_behind negative ds more numeral no_zero =
-    rw (sign_split negative (ds ++ 101 ∷ more) (inr (plain ds (101 ∷ more) numeral)), numeral_read negative 101 ds more (omega arith) numeral no_zero) refl
+    rw (sign_split _ _ (inr (plain _ _ numeral)), numeral_read _ 101 _ _ (omega arith) numeral no_zero) refl
 
 pub range_stops : (negative : Bool) (ds more : List ℕ) → IsNumeral 10 ds → ¬ LeadsWithZero negative (ds ++ 101 ∷ more)
     → ¬ FitsSigned w64 (signed_number negative (digits_value 10 ds))
     → read_integer (sign_text negative ++ (ds ++ 101 ∷ more)) ≡ stopped int_range (sign_text negative ++ (ds ++ 101 ∷ more))
 range_stops negative ds more numeral no_zero out =
     let z = signed_number negative (digits_value 10 ds) in
-    rw (integer_behind negative ds more numeral no_zero, denied (is_small z) (small_decides z) out) refl
+    rw (integer_behind _ _ _ numeral no_zero, denied _ (small_decides z) out) refl
 
 integer_of_parts : (negative : Bool) (n : ℕ) (rest : List ℕ) → n < 2 ^ 64 → (IsTrue negative → 0 < n) → FitsSigned w64 (signed_number negative n)
     → read_integer ((sign_text negative ++ decimal n) ++ 101 ∷ rest) ≡ read (signed_number negative n) rest
 integer_of_parts negative n rest fits some small =
     let numeral = decimal_is_IsNumeral n fits in
     rw (
-      append_assoc (sign_text negative) (decimal n) (101 ∷ rest),
-      integer_behind negative (decimal n) rest numeral.0 (decimal_no_zero negative n 101 rest some fits (omega arith)),
+      append_assoc _ _ _,
+      integer_behind _ _ _ numeral.0 (decimal_no_zero _ n 101 _ some fits (omega arith)),
       numeral.1,
-      (small_decides (signed_number negative n)).1 small,
+      (small_decides _).1 small,
     ) refl
 
 pub integer_read : (z : ℤ) (rest : List ℕ) → FitsSigned w64 z → read_integer (signed_decimal z ++ 101 ∷ rest) ≡ read z rest
 integer_read (pos n) rest fits = integer_of_parts false n rest (omega (arith, ints, fits)) (λ is. cc) fits
-integer_read (negsuc n) rest fits = integer_of_parts true (suc n) rest (omega (arith, ints, fits)) (λ is. omega arith) fits
+integer_read (negsuc n) rest fits = integer_of_parts true _ rest (omega (arith, ints, fits)) (λ is. omega arith) fits
 
 -- a string begins with a digit
 pub string_digit : (s rest : List ℕ) → length s < 2 ^ 64 → IsAsciiDigit (get_or (string_spelling s ++ rest) 0 0)
 string_digit s rest fits =
-    let some : 0 < length (decimal (length s)) = decimal_nonempty (length s) fits in
-    rw (append_assoc (decimal (length s)) (58 ∷ s) rest, get_or_append_left (decimal (length s)) (58 ∷ (s ++ rest)) 0 0 some)
-    (digit_at (decimal (length s)) 0 (decimal_is_IsNumeral (length s) fits).0.1 some)
+    let some : 0 < length (decimal (length s)) = decimal_nonempty _ fits in
+    rw (append_assoc _ _ _, get_or_append_left _ _ 0 0 some)
+    (digit_at _ 0 (decimal_is_IsNumeral _ fits).0.1 some)

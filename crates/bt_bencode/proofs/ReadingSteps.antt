@@ -5,7 +5,6 @@ use Rattle.std.specs.Prelude.{IsTrue, if◌then◌else◌, Option, None, Some, I
 use Rattle.std.specs.Char.{IsAsciiDigit, is_ascii_digit}
 use Rattle.std.specs.Ordering.{nat_cmp, is_lt}
 use Rattle.std.specs.Cmp.Lexicographic.{slice_cmp}
-use Rattle.std.specs.Fmt.{signed_decimal}
 use Rattle.std.proofs.Math.Dec.{eqb}
 use Rattle.std.proofs.lemmas.Bool.{ne_eqb}
 use Rattle.bt_bencode.specs.Value.{Data, integer, string, list, dictionary, Items, no_items, item, Entries, no_entries, entry}
@@ -163,18 +162,18 @@ module _ (ordered : Bool) where
 
     pub value_read : (d : Data) (n : ℕ) (rest : List ℕ) → nesting_of d ≤ n → (IsTrue ordered → HasAscendingKeys d) → IsRepresentable d
         → Gives ordered (value n) (spelling_of d ++ rest) (read d rest)
-    value_read (integer z) n rest deep keys fits = at_once _ _ _ _ (λ go. rw (append_assoc (signed_decimal z) (101 ∷ []) rest, integer_read z rest fits) refl)
-    value_read (string s) n rest deep keys fits = at_once _ _ _ _ (λ go. rw (digit_kind _ (string_digit s rest fits), string_read s rest fits) refl)
+    value_read (integer z) n rest deep keys fits = at_once _ _ _ _ (λ go. rw (append_assoc _ _ _, integer_read z _ fits) refl)
+    value_read (string s) n rest deep keys fits = at_once _ _ _ _ (λ go. rw (digit_kind _ (string_digit s _ fits), string_read s _ fits) refl)
     value_read (list ds) zero rest deep keys fits = absurd (omega arith)
     value_read (list ds) (suc n) rest deep keys fits =
-        behind _ _ _ _ _ _ _ (items_read ds n list (101 ∷ rest) (read (list ds) rest) (omega arith) keys fits
-        (at_once _ _ _ _ (λ go. rw (append_no_items ds) refl)))
-        (λ go gives. rw (append_assoc (items_spelling ds) (101 ∷ []) rest) gives)
+        behind _ _ _ _ _ _ _ (items_read ds n list _ _ (omega arith) keys fits
+        (at_once _ _ _ _ (λ go. rw (append_no_items _) refl)))
+        (λ go gives. rw (append_assoc _ _ _) gives)
     value_read (dictionary es) zero rest deep keys fits = absurd (omega arith)
     value_read (dictionary es) (suc n) rest deep keys fits =
-        behind _ _ _ _ _ _ _ (entries_read es n None dictionary (101 ∷ rest) (read (dictionary es) rest) (omega arith) keys (first_of_all ordered es) fits
-        (at_once _ _ _ _ (λ go. rw (append_no_entries es) refl)))
-        (λ go gives. rw (append_assoc (entries_spelling es) (101 ∷ []) rest) gives)
+        behind _ _ _ _ _ _ _ (entries_read es n None _ _ _ (omega arith) keys (first_of_all ordered es) fits
+        (at_once _ _ _ _ (λ go. rw (append_no_entries _) refl)))
+        (λ go gives. rw (append_assoc _ _ _) gives)
 
     pub items_read : (ds : Items) (n : ℕ) (made : Items → Data) (rest : List ℕ) (o : Outcome Data) → items_nesting ds ≤ n
         → (IsTrue ordered → ItemsHaveAscendingKeys ds) → ItemsAreRepresentable ds

@@ -1,5 +1,5 @@
 -- What is written, part by part.
-use Rattle.std.proofs.Common.{◌≡◌, ℕ, ℤ, ◌+◌, ◌<◌, List, [], ◌∷◌, ◌++◌, length, take, get_or, map, refl, sym, ◌∙◌, append_assoc}
+use Rattle.std.proofs.Common.{◌≡◌, ℕ, ℤ, ◌+◌, ◌<◌, List, [], ◌∷◌, ◌++◌, length, take, get_or, refl, sym, ◌∙◌, append_assoc}
 use Rattle.std.specs.Global.{Vec}
 use Rattle.std.specs.Fmt.{signed_decimal}
 use Rattle.std.proofs.lemmas.List.{take_more, map_push, append-nil}
@@ -21,7 +21,7 @@ no_entries_written a = sym (append-nil a)
 pub item_written : (a b c : List ℕ) (vs : List Value) (i : ℕ) (v : Value) → i < length vs → v ≡ get_or vs i v
     → b ≡ a ++ items_spelling (items_of (take i vs)) → c ≡ b ++ spelling_of (data_of v) → c ≡ a ++ items_spelling (items_of (take (i + 1) vs))
 item_written a b c vs i v lt is before after =
-    rw (after, before, take_more vs i v lt, ← is, map_push data_of (take i vs) v, items_spelling-push (map data_of (take i vs)) (data_of v))
+    rw (after, before, take_more _ i v lt, ← is, map_push _ _ v, items_spelling-push _ _)
     (append_assoc a _ _)
 
 pub entry_written : (a b m c : List ℕ) (es : List (Vec ℕ × Value)) (i : ℕ) (e : Vec ℕ × Value) → i < length es → e ≡ get_or es i e
@@ -34,19 +34,19 @@ entry_written a b m c es i e lt is before key value =
       before,
       take_more es i e lt,
       ← is,
-      map_push entry_data (take i es) e,
-      entries_spelling-push (map entry_data (take i es)) e.0 (data_of e.1),
+      map_push entry_data _ e,
+      entries_spelling-push _ e.0 _,
     ) (append_assoc (a ++ _) _ _ ∙ append_assoc a _ _)
 
 pub list_written : (a b c : List ℕ) (items : Vec Value) (v : Value) → v ≡ views.List items
     → b ≡ (a ++ 108 ∷ []) ++ items_spelling (items_of items.items) → c ≡ b ++ 101 ∷ [] → c ≡ a ++ spelling_of (data_of v)
 unfolding spelling_of
-list_written a b c items v is inner end = rw (is, data_of-List items, end, inner) (simp append_assoc)
+list_written a b c items v is inner end = rw (is, data_of-List _, end, inner) (simp append_assoc)
 
 pub dictionary_written : (a b c : List ℕ) (entries : Vec (Vec ℕ × Value)) (v : Value) → v ≡ views.Dict entries
     → b ≡ (a ++ 100 ∷ []) ++ entries_spelling (entries_of entries.items) → c ≡ b ++ 101 ∷ [] → c ≡ a ++ spelling_of (data_of v)
 unfolding spelling_of
-dictionary_written a b c entries v is inner end = rw (is, data_of-Dict entries, end, inner) (simp append_assoc)
+dictionary_written a b c entries v is inner end = rw (is, data_of-Dict _, end, inner) (simp append_assoc)
 
 pub integer_written : (a b c : List ℕ) (z : ℤ) (v : Value) → v ≡ Int z → b ≡ 105 ∷ (signed_decimal z ++ 101 ∷ []) → c ≡ a ++ b
     → c ≡ a ++ spelling_of (data_of v)

@@ -19,7 +19,7 @@ integer_of-requires c =
 
 pub returns-in-Some-clause-found : goal.returns-in-Some-clause-found
 returns-in-Some-clause-found c =
-    let found = integer_found _ _ _ (is_signed _ c.args.bytes.now c.args.at c.stands_at-negative.ensures) _ (rw c.from.ensures at c.in_ok-end.ensures.found) _
+    let found = integer_found _ _ _ (is_signed _ _ _ c.stands_at-negative.ensures) _ (rw c.from.ensures at c.in_ok-end.ensures.found) _
     c.requires.inside c.requires.first c.in-Some.ensures in
     rw (to_z-of_z _ c.in-Some.integer found.fits) found
 

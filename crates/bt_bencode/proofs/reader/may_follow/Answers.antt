@@ -14,4 +14,4 @@ returns-in-len1-up c =
     c.is_lt.ensures ∙ ap is_lt (c.cmp.ensures ∙ ap (λ xs. slice_cmp nat_cmp xs c.args.key.now) c.as_slice.ensures.value
     ∙ ap (λ e. slice_cmp nat_cmp e.0.items c.args.key.now) (sym c.index-entries-entries.is)) in
     subst (λ b. IsTrue b ↔ EndsBefore (entries_of c.args.entries.now) c.args.key.now) (sym same)
-    (last_decides c.args.entries.now last c.args.key.now c.in-len1-up.len_at_least c.index-entries-entries.is)
+    (last_decides _ last _ c.in-len1-up.len_at_least c.index-entries-entries.is)

@@ -17,7 +17,7 @@ loop-key-init t c = c.in_ok-push-in-Dict.ensures.items ∙ no_entries_written _
 
 pub loop-key-preserved : goal.loop-key-preserved
 loop-key-preserved t c =
-    entry_written _ _ _ _ _ _ c.loop-key-item.result c.loop-key-test.true c.loop-key-item.is c.loop-key.invariant
+    entry_written _ _ _ _ _ _ _ c.loop-key-test.true c.loop-key-item.is c.loop-key.invariant
     (c.in_ok-put_string-in-Dict.ensures ∙ ap (λ xs. c.loop-key.out.items ++ string_spelling xs) c.deref-in-loop-key.ensures.value)
     c.in_ok-put_value-in-Dict.ensures
 
