@@ -10,7 +10,7 @@ use Rattle.std.proofs.lemmas.Bool.Decides.{nat_tests}
 use Rattle.bt_bencode.specs.Value.{Data, integer, string, list, dictionary, Entries, no_entries, entry, data_of, entries_of}
 use Rattle.bt_bencode.specs.Dictionary.{field_of, first_value_of}
 use Rattle.bt_bencode.specs.Doc.{HasAscendingKeys, EntriesAscend}
-use Rattle.bt_bencode.proofs.ValueData.{data_of-Int, data_of-Bytes, data_of-List}
+use Rattle.bt_bencode.proofs.ValueData.{data_of-Int, data_of-Bytes, data_of-List, data_of-Dict}
 use Rattle.bt_bencode.specs.declared.value.Value.TheViews as views
 use Rattle.bt_bencode.specs.declared.value.Value.{Value, Int, Bytes}
 use Rattle.bt_meta.specs.Fields.{as_dictionary, has_key, dictionary_at, string_at, entries_in, no_dictionary, is_dictionary, is_single}
@@ -27,9 +27,11 @@ nothing_below path (string s) e = refl
 nothing_below path (list ds) e = refl
 nothing_below path (dictionary es) e = cc
 
-pub below_entries : (path : List (List ℕ)) (d : Data) (es : Entries) → d ≡ dictionary es → tree_entries_below path d ≡ tree_entries_among path es
+-- the tree entries below a value that is a dictionary of these entries
+pub entries_below : (path : List (List ℕ)) (v : Value) (entries : Vec (Vec ℕ × Value)) (es : List (Vec ℕ × Value)) → v ≡ views.Dict entries → es ≡ entries.items
+    → tree_entries_below path (data_of v) ≡ tree_entries_among path (entries_of es)
 unfolding tree_entries_below
-below_entries path d es e = rw e refl
+entries_below path v entries es is same = rw (is, data_of-Dict entries, same) refl
 
 pub single_entry : (es : List (Vec ℕ × Value)) → (length es == 1) ≡ is_single (dictionary (entries_of es))
 single_entry [] = refl
