@@ -35,7 +35,6 @@ use Rattle.bt_meta.specs.declared.writer.MakeError.{MakeError}
 use Rattle.bt_meta.specs.declared.writer.Tally.{Tally}
 use Rattle.bt_meta.proofs.Checks.{first_of-append}
 use Rattle.bt_meta.proofs.TreeWalk.{with_earlier-append}
-use Rattle.bt_meta.proofs.RootLengths.{noted_more}
 use Rattle.bt_meta.specs.EncodeSteps.{given_at}
 use Rattle.bt_meta.specs.Writer.{is_overlap, have_overlap, IsNotMade, no_memory, unlawful}
 use Rattle.bt_meta.proofs.EncodeValue.{same_bytes}
@@ -49,12 +48,12 @@ path_test path all some is =
     let more : false ≡ (length (map string_bytes path) == 0) = some ∙ ap (λ n. n == 0) (sym (length-map path _)) in
     is ∙ sym (list_all-map is_element string_bytes path) ∙ ap (λ b. not b && list_all is_element (map string_bytes path)) more
 
-pub lengths_noted : (files : List Given) (f : Given) (old new : Lengths) (other : List ℕ) (n : ℕ) → (f.length == 0) ≡ false
+pub lengths_noted : (files : List Given) (f : Given) (old new : Lengths) (other : List ℕ) (n : ℕ)
     → is_other_length (length_at old other) n ≡ has_conflict files other n → NotesLength old new f.root f.length
     → is_other_length (length_at new other) n ≡ has_conflict (files ++ f ∷ []) other n
-lengths_noted files f old new other n some h noted =
+lengths_noted files f old new other n h noted =
     let test = λ (g : Given). is_conflict other n g.root g.length in
-    noted_more noted other n ∙ sym (list_any-append test files _ ∙ ap (λ b. has_conflict files other n || b) (or-false _) ∙ rw (some, ← h) refl)
+    noted.noted other n ∙ sym (list_any-append test files _ ∙ ap (λ b. has_conflict files other n || b) (or-false _) ∙ rw (← h) refl)
 
 -- ---- the loop
 

@@ -1,7 +1,8 @@
 -- What the lengths of roots tell once one length more is noted.
 use Rattle.std.proofs.Common.{◌≡◌, ◌≢◌, ℕ, Bool, true, false, List, Option, None, Some, refl, sym, ap, ◌∙◌, arith}
-use Rattle.std.specs.Prelude.{nat_eq, not, ◌&&◌, ◌||◌, ◌==◌, cond}
-use Rattle.std.specs.Cmp.Lexicographic.{pointwise}
+use Rattle.std.specs.Prelude.{not, ◌&&◌, ◌||◌, ◌==◌, cond}
+use Rattle.std.specs.Ordering.{nat_cmp, is_eq}
+use Rattle.std.specs.Cmp.Lexicographic.{slice_cmp}
 use Rattle.std.proofs.Math.Bool.{or-false}
 use Rattle.std.proofs.lemmas.Bool.{and_parts, false_from_ne_true, true≢false}
 use Rattle.std.proofs.lemmas.Bool.Decides.{nat_tests}
@@ -24,14 +25,17 @@ module _ (length n : ℕ) where
   at true o p alike same = rw (← same refl) (other_than o alike)
   at false o p alike same = sym (or-false _)
 
-pub noted_more : {old new : Lengths} {root : List ℕ} {length : ℕ} → NotesLength old new root length → (other : List ℕ) (n : ℕ)
-    → is_other_length (length_at new other) n ≡ (is_other_length (length_at old other) n || (pointwise nat_eq root other && not (length == n)))
-noted_more {old} {new} {root} {length} noted other n =
-    let test = is_eq-slice_cmp root other in
-    ap (λ o. is_other_length o n) (noted.noted other)
-    ∙ at length n _ (length_at old root) _ noted.alike
-    (λ e. ap (length_at old) ((bytes_eq-Decides root other).0 (sym test ∙ e)))
-    ∙ rw test refl
+pub noted_now : {old new : Lengths} {root : List ℕ} {length : ℕ} → (length == 0) ≡ false → is_other_length (length_at old root) length ≡ false
+    → ((other : List ℕ) → length_at new other ≡ cond (is_eq (slice_cmp nat_cmp root other)) (Some length) (length_at old other))
+    → NotesLength old new root length
+noted_now {old} {new} {root} {length} some alike noted = record {
+  alike = rw (some, alike) refl;
+  noted = λ other n.
+      let test = is_eq-slice_cmp root other in
+      ap (λ o. is_other_length o n) (noted other)
+      ∙ at length n _ (length_at old root) _ alike (λ e. ap (length_at old) ((bytes_eq-Decides root other).0 (sym test ∙ e)))
+      ∙ rw (test, some) refl;
+}
 
 -- ---- what a root conflict is
 

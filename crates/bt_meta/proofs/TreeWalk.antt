@@ -6,7 +6,7 @@ use Rattle.std.specs.List.{list_any, last_or}
 use Rattle.std.specs.Global.{Vec}
 use Rattle.std.proofs.lemmas.List.{append-nil, map-append, take_more, drop_more, take-append-drop, map_push, length-map, length_push}
 use Rattle.std.proofs.Math.Bool.{or-false}
-use Rattle.std.proofs.lemmas.Bool.{and_left, cases_Bool, and_right}
+use Rattle.std.proofs.lemmas.Bool.{cases_Bool}
 use Rattle.std.proofs.lemmas.List.Elements.{filter-append, All-push, All-same, All-nil}
 use Rattle.std.proofs.lemmas.List.Folds.{list_any-append}
 use Rattle.std.proofs.lemmas.List.Sums.{sum_by-append, sum_by-cons}
@@ -21,7 +21,7 @@ use Rattle.bt_meta.specs.Files.{is_file, properties_of, length_of, File, root_of
 use Rattle.bt_meta.specs.Files.{files_of}
 use Rattle.bt_meta.specs.Faults.{Check, first_of, fault_if, is_node, has_lawful_name, conflict, is_too_many, entry_check, file_checks, has_lawful_length}
 use Rattle.bt_meta.specs.Faults.{has_lawful_root, is_path_element, tree_checks}
-use Rattle.bt_meta.specs.PropertySteps.{property_checks, length_at, is_other_length, NotesLength, IsFileFacts, IsLengthConflict}
+use Rattle.bt_meta.specs.PropertySteps.{property_checks, Lengths, length_at, is_other_length, NotesLength, IsFileFacts, IsLengthConflict}
 use Rattle.bt_meta.specs.WalkSteps.{IsWalkOver, Passes, Stops, tree_entries_of, has_other_length, IsFileEntry, IsNodeOf, StopsAtEntry}
 use Rattle.bt_meta.specs.declared.walk.Walk.{Walk}
 use Rattle.bt_meta.specs.declared.error.MetaError.{MetaError}
@@ -29,7 +29,6 @@ use Rattle.bt_meta.specs.declared.error.MetaError.TheVariants.{RootConflict, Too
 use Rattle.bt_meta.proofs.Checks.{first_of-append, first_of-append_some}
 use Rattle.bt_meta.specs.Fields.{string_at, no_dictionary, has_key, natural_at, dictionary_at}
 use Rattle.bt_meta.specs.declared.torrent.FileEntry.{FileEntry}
-use Rattle.bt_meta.proofs.RootLengths.{noted_more}
 use Rattle.bt_meta.specs.Limits.{max_path_length, max_file_count, max_piece_count}
 use Rattle.bt_meta.specs.declared.walk.Node.{Node}
 use Rattle.bt_meta.specs.declared.walk.Node.TheVariants.{Folder, File as file_node}
@@ -178,10 +177,6 @@ unfolding string_at
 no_layer true key = refl
 no_layer false key = refl
 
-neither : (a b c d : Bool) → (a && b) ≡ false → (a && (b && c && d)) ≡ false
-neither true b c d e = rw e refl
-neither false b c d e = refl
-
 -- ---- an entry more
 
 module _ (n : ℕ) (before : List TreeEntry) where
@@ -192,18 +187,11 @@ module _ (n : ℕ) (before : List TreeEntry) where
   count_of_files entries h = sym (length-map entries file_of) ∙ ap length h ∙ length-with_earlier (file_at n no_dictionary) [] (filter is_file before)
 
   module _ (p : TreeEntry) where
-    others_push : (root : List ℕ) (m : ℕ)
+    pub others_push : (root : List ℕ) (m : ℕ)
         → has_other_length (before ++ p ∷ []) root m ≡ (has_other_length before root m || (is_file p && is_conflict root m (root_of p) (length_of p)))
     others_push root m =
         let test = λ (q : TreeEntry). is_file q && is_conflict root m (root_of q) (length_of q) in
         list_any-append test before (p ∷ []) ∙ ap (λ b. has_other_length before root m || b) (or-false _)
-
-    -- no file, or an empty one
-    pub others_same : (root : List ℕ) (m : ℕ) → (is_file p && not (length_of p == 0)) ≡ false
-        → has_other_length (before ++ p ∷ []) root m ≡ has_other_length before root m
-    others_same root m e =
-        others_push _ m ∙ rw (neither _ _ _ _ e)
-        (or-false _)
 
     module _ (file : is_file p ≡ true) where
       filter_file : filter is_file (before ++ p ∷ []) ≡ filter is_file before ++ p ∷ []
@@ -217,10 +205,6 @@ module _ (n : ℕ) (before : List TreeEntry) where
 
       pub count_push : length (filter is_file (before ++ p ∷ [])) ≡ length (filter is_file before) + 1
       count_push = ap length filter_file ∙ length_push _ p
-
-      pub others_noted : (old new : Walk) → (length_of p == 0) ≡ false → IsWalkOver n before old → NotesLength old.lengths new.lengths (root_of p) (length_of p)
-          → (root : List ℕ) (m : ℕ) → is_other_length (length_at new.lengths root) m ≡ has_other_length (before ++ p ∷ []) root m
-      others_noted old new some h noted root m = noted_more noted _ m ∙ sym (others_push _ m ∙ rw (file, some, ← h.lengths root m) refl)
 
       pub file_walked : (old new : Walk) (e : FileEntry) → IsWalkOver n before old
           → file_of e ≡ record (file_at n no_dictionary (filter is_file before) p) { first_piece = old.pieces; layer = [] }
@@ -249,7 +233,7 @@ module _ (n : ℕ) (before : List TreeEntry) where
           files = rw same h.files;
           pieces = rw same h.pieces;
           short = h.short;
-          lengths = λ root m. h.lengths root m ∙ sym (others_same root m (and_left _ _ folder));
+          lengths = λ root m. h.lengths root m ∙ sym (others_push root m ∙ rw folder (or-false _));
         }
 
 -- ==== adding a file, and entering a folder
@@ -270,12 +254,6 @@ properties_pass properties link length root = rw (← link, length, root) refl
 
 -- ---- a file
 
--- the walk once the file's length is noted
-pub record IsNotedWalk (facts : FileFacts) (old mid : Walk) : Type 0 where
-  pub files : mid.files ≡ old.files
-  pub pieces : mid.pieces ≡ old.pieces
-  pub lengths : ((facts.length ≡ 0) × (mid.lengths ≡ old.lengths)) ⊎ ((0 < facts.length) × NotesLength old.lengths mid.lengths facts.root facts.length)
-
 module _ (n m k : ℕ) where
   many : (max_path_length < n) ⊎ ((max_file_count < m) ⊎ (max_piece_count < k))
       → (nat_lt max_path_length n || (nat_lt max_file_count m || nat_lt max_piece_count k)) ≡ true
@@ -286,9 +264,6 @@ module _ (n m k : ℕ) where
   few : n ≤ max_path_length → m ≤ max_file_count → k ≤ max_piece_count
       → (nat_lt max_path_length n || (nat_lt max_file_count m || nat_lt max_piece_count k)) ≡ false
   few a b c = grind (arith, nat_tests)
-
-positive : (n : ℕ) → 0 < n → (n == 0) ≡ false
-positive n h = grind (arith, nat_tests)
 
 module _ {path : List (List ℕ)} {name : List ℕ} {properties : Data} {p : TreeEntry} (at : IsFileEntry path name properties p) where
   checks_are : {c : Check} → first_of (property_checks properties) ≡ c → first_of (property_checks (properties_of p)) ≡ c
@@ -308,71 +283,55 @@ module _ {path : List (List ℕ)} {name : List ℕ} {properties : Data} {p : Tre
       alike : {b : Bool} → is_other_length (length_at old.lengths facts.root) facts.length ≡ b → list_any (conflict p) before ≡ b
       alike e = sym (h.lengths (root_of p) (length_of p)) ∙ rw (← root_is, ← long) e
 
-      module _ {mid : Walk} (noted : IsNotedWalk facts old mid) where
-        no_conflict : has_conflict before p ≡ false
-        no_conflict = elim noted.lengths [
-          | inl e ↦ rw (← long, e.0) refl
-          | inr s ↦ and_right _ _ (alike s.1.alike)
-        ]
+      counted : (pieces : ℕ) → pieces ≡ old.pieces + div_ceil facts.length n → pieces ≡ pieces_of n before + piece_count n (length_of p)
+      counted pieces e = e ∙ rw (h.pieces, long) refl
 
-        noted_lengths : (root : List ℕ) (m : ℕ) → is_other_length (length_at mid.lengths root) m ≡ has_other_length (before ++ p ∷ []) root m
-        noted_lengths root m = elim noted.lengths [
-          | inl e ↦
-              let none : (is_file p && not (length_of p == 0)) ≡ false = and_right (is_file p) _ (rw (← long, e.0) refl) in
-              rw (e.1, h.lengths root m) (sym (others_same n _ p _ m none))
-          | inr s ↦ others_noted n _ p at.file old mid (rw (← long) (positive _ s.0)) h (rw (← long, ← root_is) s.1) root m
-        ]
+      checked : {b : Bool} → (nat_lt max_path_length (length p.path) ||
+          (nat_lt max_file_count (length (filter is_file before) + 1) || nat_lt max_piece_count (pieces_of n before + piece_count n (length_of p)))) ≡ b
+          → is_too_many n before p ≡ b
+      checked e = rw (at.file, count_push n _ p at.file, pieces_push n _ p at.file) e
 
-        counted : (pieces : ℕ) → pieces ≡ mid.pieces + div_ceil facts.length n → pieces ≡ pieces_of n before + piece_count n (length_of p)
-        counted pieces e = e ∙ rw (noted.pieces, h.pieces, long) refl
+    module _ {n : ℕ} {old : Walk} where
+      pub conflict_stops : {e : MetaError} → IsLengthConflict old.lengths facts.root facts.length e → Stops n (p ∷ []) old e
+      conflict_stops conflict = elim conflict.1 [
+        | inl memory ↦ record { refused = λ before h. inl memory.0 }
+        | inr other ↦ stops_at (λ before h.
+            let both : has_conflict before p ≡ true = rw (← long, conflict.0, alike h other.1) refl in
+            bad_root n before p at.node at.named at.file (checks_are f.faultless) both ∙ ap Some (sym other.0))
+      ]
 
-        files_count : length mid.files.items ≡ length (filter is_file before)
-        files_count = ap (λ v. length v.items) noted.files ∙ count_of_files n _ _ h.files
+      module _ {lengths : Lengths} (noted : NotesLength old.lengths lengths facts.root facts.length) (pieces : ℕ) (sum : pieces ≡ old.pieces + div_ceil facts.length n) where
+        no_conflict : {before : List TreeEntry} → IsWalkOver n before old → has_conflict before p ≡ false
+        no_conflict h = rw (← h.lengths (root_of p) (length_of p), ← root_is, ← long) noted.alike
 
-        checked : {b : Bool} → (nat_lt max_path_length (length p.path) ||
-            (nat_lt max_file_count (length (filter is_file before) + 1) || nat_lt max_piece_count (pieces_of n before + piece_count n (length_of p)))) ≡ b
-            → is_too_many n before p ≡ b
-        checked e = rw (at.file, count_push n _ p at.file, pieces_push n _ p at.file) e
+        pub many_stop : (max_path_length ≤ length path) ⊎ ((max_file_count ≤ length old.files.items) ⊎ (max_piece_count < pieces)) → Stops n (p ∷ []) old TooMany
+        many_stop over = stops_at {n = n} {old = old} (λ before h.
+            let count : length old.files.items ≡ length (filter is_file before) = count_of_files n before old.files.items h.files in
+            let deep = path_length in
+            let all : pieces ≡ pieces_of n before + piece_count n (length_of p) = counted h pieces sum in
+            let past : (max_path_length < length p.path) ⊎
+            ((max_file_count < length (filter is_file before) + 1) ⊎ (max_piece_count < pieces_of n before + piece_count n (length_of p))) =
+            elim over [
+              | inl a ↦ inl (omega arith)
+              | inr b ↦ elim b [ inl c ↦ inr (inl (omega arith)) | inr c ↦ inr (inr (omega arith)) ]
+            ] in
+            file_counted n _ p at.node at.named at.file (checks_are f.faultless) (no_conflict h) (checked h (many _ _ _ past)))
 
-    pub conflict_stops : {n : ℕ} {old : Walk} {e : MetaError} → 0 < facts.length → IsLengthConflict old.lengths facts.root facts.length e
-        → Stops n (p ∷ []) old e
-    conflict_stops some (inl m) = record { refused = λ before h. inl m.0 }
-    conflict_stops {n} some (inr c) = stops_at (λ before h.
-        let both : has_conflict before p ≡ true = rw (← long, positive _ some, alike h c.1) refl in
-        bad_root n before p at.node at.named at.file (checks_are f.faultless) both ∙ ap Some (sym c.0))
-
-    module _ {n : ℕ} {old mid : Walk} (noted : IsNotedWalk facts old mid) (pieces : ℕ) (sum : pieces ≡ mid.pieces + div_ceil facts.length n) where
-      pub many_stop : (max_path_length ≤ length path) ⊎ ((max_file_count ≤ length mid.files.items) ⊎ (max_piece_count < pieces)) → Stops n (p ∷ []) old TooMany
-      many_stop over = stops_at (λ before h.
-          let count = files_count h noted in
-          let deep = path_length in
-          let all = counted h noted _ sum in
-          let past : (max_path_length < length p.path) ⊎
-          ((max_file_count < length (filter is_file before) + 1) ⊎ (max_piece_count < pieces_of n before + piece_count n (length_of p))) =
-          elim over [
-            | inl a ↦ inl (omega arith)
-            | inr b ↦ elim b [ inl c ↦ inr (inl (omega arith)) | inr c ↦ inr (inr (omega arith)) ]
-          ] in
-          file_counted n _ p at.node at.named at.file (checks_are f.faultless) (no_conflict h noted) (checked h noted (many _ _ _ past)))
-
-      pub file_passes : {new : Walk} (added : FileEntry) → length path < max_path_length → length mid.files.items < max_file_count → pieces ≤ max_piece_count
-          → new.files.items ≡ mid.files.items ++ added ∷ [] → new.pieces ≡ pieces → new.lengths ≡ mid.lengths
-          → added.path ≡ path ++ name ∷ [] → added.length ≡ facts.length → added.root ≡ facts.root → added.first_piece ≡ mid.pieces
-          → added.layer.items ≡ [] → Passes n (p ∷ []) old new
-      file_passes {new} added near few_files few_pieces files taken lengths named sized rooted first layer = passes_one (λ before h.
-          let count = files_count h noted in
-          let deep = path_length in
-          let all = counted h noted pieces sum in
-          let test = few (length p.path) (length (filter is_file before) + 1) _ (omega arith)
-          (omega arith) (omega arith) in
-          let path_is = at.path_is in
-          let sized_as = long in
-          let rooted_as = root_is in
-          let piece = noted.pieces in (
-            file_walked n _ p at.file old new added h (cc) (rw sized f.short) (files ∙ ap (λ v. v.items ++ added ∷ []) noted.files)
-                (taken ∙ all ∙ rw h.pieces refl) (λ r m. ap (λ l. is_other_length (length_at l r) m) lengths ∙ noted_lengths h noted r m),
-            file_counted n _ p at.node at.named at.file (checks_are f.faultless) (no_conflict h noted) (checked h noted test),
-          ))
+        pub file_passes : {new : Walk} (added : FileEntry) → length path < max_path_length → length old.files.items < max_file_count → pieces ≤ max_piece_count
+            → new.files.items ≡ old.files.items ++ added ∷ [] → new.pieces ≡ pieces → new.lengths ≡ lengths
+            → file_of added ≡ record { path = path ++ name ∷ []; length = facts.length; root = facts.root; first_piece = old.pieces; layer = [] }
+            → Passes n (p ∷ []) old new
+        file_passes {new} added near few_files few_pieces files taken lengths_are is = passes_one {n = n} {old = old} (λ before h.
+            let count : length old.files.items ≡ length (filter is_file before) = count_of_files n before old.files.items h.files in
+            let deep = path_length in
+            let all : pieces ≡ pieces_of n before + piece_count n (length_of p) = counted h pieces sum in
+            let test = few (length p.path) (length (filter is_file before) + 1) _ (omega arith) (omega arith) (omega arith) in
+            let sized : added.length ≡ facts.length = ap (λ g. g.length) is in (
+              file_walked n _ p at.file old new added h (is ∙ rw (← at.path_is, long, root_is) refl) (rw sized f.short) files
+                  (taken ∙ all ∙ rw h.pieces refl) (λ r m. rw lengths_are
+                  (noted.noted r m ∙ sym (others_push n before p r m ∙ rw (at.file, ← h.lengths r m, ← long, ← root_is) refl))),
+              file_counted n _ p at.node at.named at.file (checks_are f.faultless) (no_conflict h) (checked h test),
+            ))
 
 -- ---- entries
 

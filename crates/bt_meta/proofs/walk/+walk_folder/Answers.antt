@@ -1,8 +1,6 @@
-use Rattle.std.proofs.Common.{◌≡◌, take, sym, ap, ◌∙◌, arith}
+use Rattle.std.proofs.Common.{◌≡◌, take, arith}
 use Rattle.std.proofs.lemmas.List.{take_all}
 use Rattle.std.proofs.lemmas.Result.{err_from_is_err_and}
-use Rattle.bt_bencode.specs.Value.{dictionary, data_of, entries_of}
-use Rattle.bt_bencode.proofs.ValueData.{data_of-Dict}
 use Rattle.bt_meta.specs.FilePath.{folder_elements}
 use Rattle.bt_meta.proofs.Dictionaries.{entries_below, nothing_below, no_dictionary_is}
 use Rattle.bt_meta.proofs.TreeWalk.{passes_nothing, entries_first, folder_stops, inner_stops, inner_passes, folder_passes_more}

@@ -1,7 +1,6 @@
 use Rattle.std.proofs.Common.{◌∷◌, ◌++◌, [], ap, ◌∙◌, arith}
 use Rattle.std.proofs.lemmas.Result.{err_from_is_err_and}
 use Rattle.bt_bencode.specs.Value.{data_of}
-use Rattle.bt_meta.specs.Faults.{is_path_element}
 use Rattle.bt_meta.specs.FilePath.{folder_elements}
 use Rattle.bt_meta.proofs.Choices.{test_of_some, test_of_none}
 use Rattle.bt_meta.proofs.Dictionaries.{empty_key, key_entries}

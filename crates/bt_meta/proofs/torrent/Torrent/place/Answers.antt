@@ -1,4 +1,4 @@
-use Rattle.std.proofs.Common.{◌≡◌, ◌≤◌, ◌-◌, ◌*◌, map, arith, ap}
+use Rattle.std.proofs.Common.{◌≤◌, ◌-◌, ◌*◌, arith, ap}
 use Rattle.bt_meta.specs.Files.{file_of}
 use Rattle.bt_meta.specs.Torrent.{IsLaidOut}
 use Rattle.bt_meta.proofs.PlacePieces.{entry_at, fits, place_at}
