@@ -14,7 +14,7 @@ use Rattle.std.proofs.lemmas.Cmp.{nat_list_cmp_total, tied_itself}
 use Rattle.std.proofs.lemmas.List.Sorted.{searchable_from_sorted}
 use Rattle.std.proofs.lemmas.Map.Lookups.{exact_bytes}
 use Rattle.std.proofs.lemmas.Slice.Eq.{bytes_eq-Decides}
-use Rattle.std.proofs.lemmas.List.{map-append, take_more, take_more_set, drop_more, drop-set-lt, map_push, take-append-drop, take_all, get_or-map, length-map}
+use Rattle.std.proofs.lemmas.List.{map-append, take_more, take_more_set, drop_more, drop-set-lt, map_push, take_all, get_or-map, length-map}
 use Rattle.std.proofs.lemmas.List.Sums.{sum_by-cons}
 use Rattle.sha2.specs.Sha256.{sha256}
 use Rattle.bt_bencode.specs.Value.{Data, Entries, entry, data_of, entries_of}
@@ -34,6 +34,7 @@ use Rattle.bt_meta.specs.LayerSteps.{layer_bytes_fault, with_layer, layer_faults
 use Rattle.bt_meta.specs.declared.error.MetaError.{MetaError}
 use Rattle.bt_meta.specs.declared.error.MetaError.TheVariants.{LayerSize, LayerDiffers}
 use Rattle.bt_meta.proofs.Checks.{first_of-append}
+use Rattle.bt_meta.proofs.Lists.{parts_at}
 use Rattle.bt_meta.specs.Fields.{no_dictionary}
 use Rattle.bt_meta.specs.TreeEntries.{TreeEntry, tree_entries_below, with_earlier}
 
@@ -152,10 +153,7 @@ module _ {A : Type 0} (check : A → Check) (i : ℕ) (xs : List A) (e : A) (lt 
   faultless_more c = rw (take_more _ i e lt, ← is, map_push _ _ e, first_of-append _ _ h, c) refl
 
   faulty_at : {fault : MetaError} → check e ≡ Some fault → first_of (map check xs) ≡ Some fault
-  faulty_at c =
-      let rest : drop i xs ≡ e ∷ drop (i + 1) xs = drop_more _ i e lt ∙ ap (λ y. y ∷ drop (i + 1) xs) (sym is) in
-      let whole : xs ≡ take i xs ++ e ∷ drop (i + 1) xs = sym (take-append-drop i _) ∙ ap (λ ys. take i xs ++ ys) rest in
-      ap (λ ys. first_of (map check ys)) whole
+  faulty_at c = ap (λ ys. first_of (map check ys)) (parts_at xs i e lt is)
       ∙ rw (map-append _ _ _, first_of-append _ _ h, c) refl
 
   pub refused_at : {fault : MetaError} → Refuses (check e) fault → Refuses (first_of (map check xs)) fault

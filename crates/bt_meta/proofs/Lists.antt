@@ -1,7 +1,8 @@
 -- Facts of lists.
-use Rattle.std.proofs.Common.{◌≡◌, Bool, false, List, [], ◌∷◌, ◌++◌, suc, arith}
+use Rattle.std.proofs.Common.{◌≡◌, Bool, false, List, [], ◌∷◌, ◌++◌, suc, arith, ℕ, ◌+◌, ◌<◌, length, take, drop, get_or, sym, ap, ◌∙◌}
 use Rattle.std.specs.List.{All, AllPairs, list_any}
 use Rattle.std.proofs.lemmas.Bool.{or_parts}
+use Rattle.std.proofs.lemmas.List.{drop_more, take-append-drop}
 use Rattle.std.proofs.lemmas.List.Elements.{All-nil, All-cons, All-head, All-tail, All-append}
 use Rattle.std.proofs.lemmas.List.Kept.{AllPairs-cons}
 
@@ -24,3 +25,7 @@ pairs_append R (x ∷ xs) ys h k cross =
     AllPairs-cons R x _
     (All-append (R x) xs ys (λ i d within. h 0 (suc i) d (omega arith) (omega arith)) (All-head (λ z. All (R z) ys) x xs cross))
     (pairs_append R xs ys (λ i j d lt within. h (suc i) (suc j) d (omega arith) (omega arith)) k (All-tail (λ z. All (R z) ys) x _ cross))
+
+-- a list is its first i elements, the next one, and the rest
+pub parts_at : {A : Type 0} (xs : List A) (i : ℕ) (e : A) → i < length xs → e ≡ get_or xs i e → xs ≡ take i xs ++ e ∷ drop (i + 1) xs
+parts_at xs i e lt is = sym (take-append-drop i xs) ∙ ap (λ ys. take i xs ++ ys) (drop_more xs i e lt ∙ ap (λ x. x ∷ drop (i + 1) xs) (sym is))

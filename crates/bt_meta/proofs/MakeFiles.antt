@@ -5,7 +5,7 @@ use Rattle.std.specs.Prelude.{string_bytes, not, ◌&&◌, ◌||◌, ◌==◌, S
 use Rattle.std.specs.Global.{Global}
 use Rattle.std.specs.List.{list_all, All, AllByRecursion, AllPairs, IsDistinct, list_any, starts_with}
 use Rattle.std.proofs.lemmas.List.Elements.{All-nil, All-push, All-from_recursion, recursion_from_All}
-use Rattle.std.proofs.lemmas.List.{length-map, map-append, take_all, take-append-drop, map_more, drop_more, get_or-map}
+use Rattle.std.proofs.lemmas.List.{length-map, map-append, take_all, map_more, get_or-map}
 use Rattle.std.proofs.lemmas.List.Folds.{list_any-append, list_all-map}
 use Rattle.std.proofs.Math.Bool.{or-false}
 use Rattle.std.specs.Borrow.{Bor}
@@ -34,6 +34,7 @@ use Rattle.bt_meta.specs.declared.writer.Made.{Made}
 use Rattle.bt_meta.specs.declared.writer.MakeError.{MakeError}
 use Rattle.bt_meta.specs.declared.writer.Tally.{Tally}
 use Rattle.bt_meta.proofs.Checks.{first_of-append}
+use Rattle.bt_meta.proofs.Lists.{parts_at}
 use Rattle.bt_meta.proofs.TreeWalk.{with_earlier-append}
 use Rattle.bt_meta.specs.EncodeSteps.{given_at}
 use Rattle.bt_meta.specs.Writer.{is_overlap, have_overlap, IsNotMade, no_memory, unlawful}
@@ -103,9 +104,7 @@ module _ {n : ℕ} (files : List Made) (i : ℕ) {old : Tally} (h : Taking n fil
     taking_stops refused = elim (refused (map given_of (take i files)) h.taken) [
       | inl memory ↦ inl memory.0
       | inr found ↦
-          let rest : drop i files ≡ m ∷ drop (i + 1) files = drop_more files i m lt ∙ ap (λ x. x ∷ drop (i + 1) files) (sym is) in
-          let whole : files ≡ take i files ++ m ∷ drop (i + 1) files = sym (take-append-drop i files) ∙ ap (λ xs. take i files ++ xs) rest in
-          inr (ap (λ fs. first_of (checks_of n (map given_of fs))) whole
+          inr (ap (λ fs. first_of (checks_of n (map given_of fs))) (parts_at files i m lt is)
           ∙ ap (λ fs. first_of (checks_of n fs)) (map-append given_of (take i files) (m ∷ drop (i + 1) files))
           ∙ checks_behind (given_of m) (map given_of (drop (i + 1) files)) ∙ rw found refl)
     ]

@@ -4,7 +4,7 @@ use Rattle.std.proofs.Common.{append_assoc, inl, ◌≤◌, map, arith, ◌⊎�
 use Rattle.std.specs.Prelude.{not, ◌&&◌, ◌==◌, filter, sum_by, ◌||◌, unwrap_or, nat_lt, if◌then◌else◌, codes, nat_le}
 use Rattle.std.specs.List.{list_any, last_or}
 use Rattle.std.specs.Global.{Vec}
-use Rattle.std.proofs.lemmas.List.{append-nil, map-append, take_more, drop_more, take-append-drop, map_push, length-map, length_push}
+use Rattle.std.proofs.lemmas.List.{append-nil, map-append, take_more, map_push, length-map, length_push}
 use Rattle.std.proofs.Math.Bool.{or-false}
 use Rattle.std.proofs.lemmas.Bool.{cases_Bool}
 use Rattle.std.proofs.lemmas.List.Elements.{filter-append, All-push, All-same, All-nil}
@@ -27,6 +27,7 @@ use Rattle.bt_meta.specs.declared.walk.Walk.{Walk}
 use Rattle.bt_meta.specs.declared.error.MetaError.{MetaError}
 use Rattle.bt_meta.specs.declared.error.MetaError.TheVariants.{RootConflict, TooMany, Tree, BadPath}
 use Rattle.bt_meta.proofs.Checks.{first_of-append, first_of-append_some}
+use Rattle.bt_meta.proofs.Lists.{parts_at}
 use Rattle.bt_meta.specs.Fields.{string_at, no_dictionary, has_key, natural_at, dictionary_at}
 use Rattle.bt_meta.specs.declared.torrent.FileEntry.{FileEntry}
 use Rattle.bt_meta.specs.Limits.{max_path_length, max_file_count, max_piece_count}
@@ -137,9 +138,7 @@ module _ (path : List (List ℕ)) where
         ≡ tree_entries_among path (entries_of (take i es)) ++
         (tree_entries_of path e.0.items (data_of e.1) ++ tree_entries_among path (entries_of (drop (i + 1) es)))
     entries_split =
-        let rest : drop i es ≡ e ∷ drop (i + 1) es = drop_more _ i e lt ∙ ap (λ x. x ∷ drop (i + 1) es) (sym is) in
-        let whole : es ≡ take i es ++ e ∷ drop (i + 1) es = sym (take-append-drop i _) ∙ ap (λ xs. take i es ++ xs) rest in
-        ap (λ xs. tree_entries_among path (entries_of xs)) whole
+        ap (λ xs. tree_entries_among path (entries_of xs)) (parts_at es i e lt is)
         ∙ rw (map-append _ _ _, ← among_key _ _ _) (among-append _ _)
 
     module _ {n : ℕ} {old mid : Walk} (passed : Passes n (tree_entries_among path (entries_of (take i es))) old mid) where
