@@ -6,20 +6,14 @@ pub mod ReadRanges
 pub mod ReadNumerals
 pub mod ReadStrings
 pub mod ReadIntegers
-pub mod ReadLists
-pub mod ReadDictionaries
--- the law of spellings: none begins another
-pub mod LawPrefixes
-pub mod LawRepresentable
-pub mod LawSpellings
--- what a fault says of all the bytes: no canonical value spells them, and where its offset is
-pub mod ReadRefusals
-pub mod ReadFaults
--- the law of the first fault: bytes have one at most
-pub mod LawNumeralFaults
-pub mod LawParts
-pub mod LawStops
-pub mod LawOneFault
+pub mod ReadKinds
+pub mod ReadParts
+-- the laws of spellings and of the first fault, by a reading that is a function of the text
+pub mod Representable
+pub mod Reading
+pub mod ReadingSteps
+pub mod ReadingLaws
+pub mod FirstFaults
 -- what the look-up of a key and the writer do
 pub mod FieldSearch
 pub mod WriteParts

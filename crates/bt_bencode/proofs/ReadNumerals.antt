@@ -11,26 +11,26 @@ use Rattle.bt_bencode.specs.Number.{LeadsWithZero}
 use Rattle.bt_bencode.specs.ReaderSteps.{IsNumeralAt}
 
 pub digits_model : IsNumeralModel (AllDigits 10) (digits_value 10)
-digits_model = numerals_by_value (AllDigits 10) tells_digits
+digits_model = numerals_by_value _ tells_digits
 
 -- a zero in front stands alone
 pub zero_alone : (negative : Bool) (ds more : List ℕ) → AllDigits 10 ds → ¬ LeadsWithZero negative (ds ++ more) → get_or ds 0 0 ≡ 48 → 0 < length ds
     → length ds ≡ 1
 zero_alone negative ds more digits no_zero first some =
     let short : ¬ (1 < length ds) = λ lt.
-    no_zero (get_or_append_left ds more 0 0 some ∙ first, inr (rw (get_or_append_left ds more 0 1 lt) (digit_at ds 1 digits lt))) in
+    no_zero (get_or_append_left _ _ 0 0 some ∙ first, inr (rw (get_or_append_left _ _ 0 1 lt) (digit_at _ 1 digits lt))) in
     omega arith
 
 -- the digits are those that their value is written with
 pub decimal_again : (negative : Bool) (ds more : List ℕ) → AllDigits 10 ds → 0 < length ds → ¬ LeadsWithZero negative (ds ++ more)
     → digits_value 10 ds < 2 ^ 64 → decimal (digits_value 10 ds) ≡ ds
 decimal_again negative ds more digits some no_zero small =
-    decimal-digits_value digits_model ds digits some (λ first. zero_alone negative ds more digits no_zero first some) small
+    decimal-digits_value digits_model _ digits some (λ first. zero_alone _ _ _ digits no_zero first some) small
 
 -- a numeral in the bytes, the byte behind it, and the rest
 pub numeral_split : (negative : Bool) (stop : ℕ) (bytes : List ℕ) (at end : ℕ) → IsNumeralAt negative stop bytes at end
     → slice_range bytes at end ++ stop ∷ drop (end + 1) bytes ≡ drop at bytes
 numeral_split negative stop bytes at end numeral =
     let forward : at < end = numeral.forward in
-    ap (λ xs. slice_range bytes at end ++ xs) (ap (λ c. c ∷ drop (end + 1) bytes) (sym numeral.stopped) ∙ sym (drop_more bytes end 0 numeral.inside))
-    ∙ sym (drop_split bytes at end (omega arith))
+    ap (λ xs. slice_range bytes at end ++ xs) (ap (λ c. c ∷ drop (end + 1) bytes) (sym numeral.stopped) ∙ sym (drop_more _ _ 0 numeral.inside))
+    ∙ sym (drop_split _ at end (omega arith))

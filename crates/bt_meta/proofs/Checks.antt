@@ -17,17 +17,6 @@ module _ {E : Type 0} where
   pub skips : (check : Option E) (checks : List (Option E)) → check ≡ None → first_of (check ∷ checks) ≡ first_of checks
   skips check checks e = rw e refl
 
-  pub stops : (check : Option E) (checks : List (Option E)) (fault : E) → check ≡ Some fault → first_of (check ∷ checks) ≡ Some fault
-  stops check checks fault e = rw e refl
-
-  pub head_none : (check : Option E) (checks : List (Option E)) → first_of (check ∷ checks) ≡ None → check ≡ None
-  head_none None checks e = refl
-  head_none (Some fault) checks e = cc
-
-  pub tail_none : (check : Option E) (checks : List (Option E)) → first_of (check ∷ checks) ≡ None → first_of checks ≡ None
-  tail_none None checks e = e
-  tail_none (Some fault) checks e = cc
-
   pub not_faulty : (test : Bool) (fault : E) → fault_if test fault ≡ None → test ≡ false
   not_faulty true fault e = cc
   not_faulty false fault e = refl

@@ -1,6 +1,6 @@
 -- What dictionaries have.
 use Rattle.std.proofs.Common.{◌≡◌, ◌⊎◌, inl, inr, ℕ, ℤ, Bool, true, false, List, [], ◌∷◌, ◌++◌, length, Option, None, Some, refl, sym, ap, ◌∙◌, arith}
-use Rattle.std.specs.Prelude.{codes, unwrap_or, nat_eq, not, is_some, ◌&&◌, ◌||◌, ◌==◌}
+use Rattle.std.specs.Prelude.{codes, unwrap_or, nat_eq, not, ◌&&◌, ◌||◌, ◌==◌}
 use Rattle.std.specs.Option.{option_and_then}
 use Rattle.std.specs.Cmp.Lexicographic.{pointwise}
 use Rattle.std.specs.Global.{Vec}
@@ -10,7 +10,7 @@ use Rattle.std.proofs.lemmas.Bool.Decides.{nat_tests}
 use Rattle.bt_bencode.specs.Value.{Data, integer, string, list, dictionary, Entries, no_entries, entry, data_of, entries_of}
 use Rattle.bt_bencode.specs.Dictionary.{field_of, first_value_of}
 use Rattle.bt_bencode.specs.Doc.{HasAscendingKeys, EntriesAscend}
-use Rattle.bt_bencode.proofs.ValueData.{data_of-Int, data_of-Bytes, data_of-List}
+use Rattle.bt_bencode.proofs.ValueData.{data_of-Int, data_of-Bytes, data_of-List, data_of-Dict}
 use Rattle.bt_bencode.specs.declared.value.Value.TheViews as views
 use Rattle.bt_bencode.specs.declared.value.Value.{Value, Int, Bytes}
 use Rattle.bt_meta.specs.Fields.{as_dictionary, has_key, dictionary_at, string_at, entries_in, no_dictionary, is_dictionary, is_single}
@@ -27,9 +27,11 @@ nothing_below path (string s) e = refl
 nothing_below path (list ds) e = refl
 nothing_below path (dictionary es) e = cc
 
-pub below_entries : (path : List (List ℕ)) (d : Data) (es : Entries) → d ≡ dictionary es → tree_entries_below path d ≡ tree_entries_among path es
+-- the tree entries below a value that is a dictionary of these entries
+pub entries_below : (path : List (List ℕ)) (v : Value) (entries : Vec (Vec ℕ × Value)) (es : List (Vec ℕ × Value)) → v ≡ views.Dict entries → es ≡ entries.items
+    → tree_entries_below path (data_of v) ≡ tree_entries_among path (entries_of es)
 unfolding tree_entries_below
-below_entries path d es e = rw e refl
+entries_below path v entries es is same = rw (is, data_of-Dict entries, same) refl
 
 pub single_entry : (es : List (Vec ℕ × Value)) → (length es == 1) ≡ is_single (dictionary (entries_of es))
 single_entry [] = refl
@@ -59,7 +61,7 @@ module _ (d : Data) where
   -- nothing lies below a file
   pub file_below : (path : List (List ℕ)) → is_node d ≡ true → has_key d [] ≡ true → tree_entries_below path d ≡ []
   unfolding is_node
-  file_below path node file = single_below path d (both_hold (is_dictionary d) (is_single d) (is_some (dictionary_at d [])) (rw file at node)) file
+  file_below path node file = single_below _ d (both_hold _ _ _ (rw file at node)) file
 
   module _ (e : is_dictionary d ≡ true) where
     pub folder_node : has_key d [] ≡ false → is_node d ≡ true
@@ -82,7 +84,7 @@ module _ (d : Data) where
 pub empty_key : (path : List (List ℕ)) (key : List ℕ) (d : Data) → true ≡ (length key == 0) → tree_entries_of path key d ≡ []
 unfolding tree_entries_among
 empty_key path [] d e = refl
-empty_key path (byte ∷ bytes) d e = absurd (not_empty byte bytes e)
+empty_key path (byte ∷ bytes) d e = absurd (not_empty byte _ e)
   where
     not_empty : (byte : ℕ) (bytes : List ℕ) → true ≡ (length (byte ∷ bytes) == 0) → ⊥
     not_empty byte bytes e = grind (arith, nat_tests)
@@ -92,7 +94,7 @@ pub key_entries : (path : List (List ℕ)) (key : List ℕ) (d : Data) → false
 unfolding tree_entries_among
 key_entries path [] d e = cc
 key_entries path (byte ∷ bytes) d e = let inner = path ++ (byte ∷ bytes) ∷ [] in
-    ap (λ xs. record { path = inner; value = d } ∷ xs) (append-nil (tree_entries_below inner d))
+    ap (λ xs. record { path = inner; value = d } ∷ xs) (append-nil _)
 
 -- ---- `piece layers`
 
@@ -109,7 +111,7 @@ unfolding HasAscendingKeys
 field_ascends (integer z) key v h e = cc
 field_ascends (string s) key v h e = cc
 field_ascends (list ds) key v h e = cc
-field_ascends (dictionary es) key v h e = value_ascends es key v h e
+field_ascends (dictionary es) key v h e = value_ascends _ _ v h e
 
 entries_ascend : (d : Data) → HasAscendingKeys d → EntriesAscend (entries_in d)
 unfolding HasAscendingKeys EntriesAscend
@@ -145,19 +147,19 @@ module _ (torrent : Data) where
   module _ (layers : Data) (es : Entries) (e : Some layers ≡ dictionary_at torrent (codes "piece layers")) (is : es ≡ entries_in layers) where
     field_there : field_of torrent (codes "piece layers") ≡ Some layers
     unfolding dictionary_at
-    field_there = dictionary_is_field (field_of torrent (codes "piece layers")) layers e
+    field_there = dictionary_is_field _ _ e
 
     pub layers_ascend : HasAscendingKeys torrent → EntriesAscend es
-    layers_ascend h = rw is (entries_ascend layers (field_ascends torrent (codes "piece layers") layers h field_there))
+    layers_ascend h = rw is (entries_ascend _ (field_ascends _ _ _ h field_there))
 
     pub layers_strings : (key : List ℕ) → string_at (dictionary es) key ≡ string_at (layers_of torrent) key
     unfolding layers_of
-    layers_strings key = rw (is, field_there) (strings_in layers key)
+    layers_strings key = rw (is, field_there) (strings_in _ _)
 
   pub layers_absent : (key : List ℕ) → None ≡ dictionary_at torrent (codes "piece layers")
       → string_at (dictionary no_entries) key ≡ string_at (layers_of torrent) key
   unfolding layers_of dictionary_at
-  layers_absent key e = no_strings (field_of torrent (codes "piece layers")) key e
+  layers_absent key e = no_strings _ _ e
 
 pub nothing_ascends : EntriesAscend no_entries
 unfolding EntriesAscend

@@ -1,37 +1,145 @@
 -- What is made of lawful files is a torrent, and gives them back.
-use Rattle.std.proofs.Common.{subst, ◌≡◌, ◌≢◌, ℕ, ◌≤◌, Bool, true, false, List, [], ◌∷◌, ◌++◌, length, map, Option, None, Some, refl, sym, ap, ◌∙◌, arith, inl, inr, append_assoc}
-use Rattle.std.specs.Prelude.{filter, codes, nat_eq, nat_lt, not, ◌&&◌, ◌==◌, sum_by, unwrap_or, if◌then◌else◌}
-use Rattle.std.specs.Option.{option_map, option_and_then}
-use Rattle.std.specs.List.{All}
-use Rattle.std.specs.Cmp.Lexicographic.{pointwise}
-use Rattle.std.proofs.lemmas.Bool.{cases_Bool, and_parts, true≢false}
+use Rattle.std.proofs.Common.{subst, get_or, ◌≡◌, ◌≢◌, ℕ, ◌≤◌, Bool, true, false, List, [], ◌∷◌, ◌++◌, length, map, None, refl, sym, ap, ◌∙◌, arith, inl, inr}
+use Rattle.std.proofs.Common.{append_assoc, length-append, Option, Some}
+use Rattle.std.specs.Prelude.{filter, nat_lt, not, ◌&&◌, ◌||◌, ◌==◌, sum_by, codes, nat_eq, unwrap_or, if◌then◌else◌}
+use Rattle.std.specs.List.{All, list_any}
+use Rattle.std.proofs.lemmas.Bool.{cases_Bool, true≢false, and_parts}
 use Rattle.std.proofs.lemmas.Bool.Decides.{nat_tests}
-use Rattle.std.proofs.lemmas.List.{map_push, length-map}
+use Rattle.std.proofs.lemmas.List.{length-map, map_push}
+use Rattle.std.proofs.lemmas.List.Elements.{All-head, All-map, filter-append, All-tail}
+use Rattle.std.proofs.lemmas.List.Folds.{list_any_none}
+use Rattle.std.proofs.lemmas.List.Sums.{sum_by-append, sum_by-cons}
+use Rattle.std.specs.Option.{option_map, option_and_then}
+use Rattle.std.specs.Cmp.Lexicographic.{pointwise}
 use Rattle.std.proofs.lemmas.List.Sorted.{All-permutation, length_permutation}
-use Rattle.std.proofs.lemmas.List.Elements.{All-head, All-tail}
 use Rattle.std.proofs.lemmas.Slice.Eq.{bytes_eq-Decides}
-use Rattle.bt_meta.specs.Limits.{max_text_length}
-use Rattle.bt_bencode.specs.Value.{Data, string, dictionary, Entries}
+use Rattle.bt_bencode.specs.Value.{dictionary, Entries, Data, string}
 use Rattle.bt_bencode.specs.Spelling.{spelling_of}
-use Rattle.bt_meta.specs.Fields.{integer_at, string_at, dictionary_at, has_key, as_string}
-use Rattle.bt_meta.specs.TreeEntries.{tree_entries_below, with_earlier}
-use Rattle.bt_meta.specs.Files.{is_file, length_of, pieces_of, piece_count, layer_at, file_at, files_of}
+use Rattle.bt_meta.specs.Limits.{max_path_length, max_file_count, max_piece_count, max_text_length}
+use Rattle.bt_meta.specs.Fields.{has_key, integer_at, string_at, dictionary_at, as_string}
+use Rattle.bt_meta.specs.TreeEntries.{TreeEntry, tree_entries_below, tree_entries_among, with_earlier}
+use Rattle.bt_meta.specs.Files.{is_file, length_of, root_of, is_conflict, pieces_of, piece_count, layer_at, file_at, files_of}
+use Rattle.bt_meta.specs.Faults.{first_of, fault_if, conflict, is_too_many, entry_check, tree_checks, is_piece_length, head_checks, piece_length_of, tree_of}
+use Rattle.bt_meta.specs.Faults.{layer_check, layer_checks, info_of, layers_of, first_fault}
+use Rattle.bt_meta.specs.GivenFiles.{Given, given_of, HasRoot, IsInTreeOrder, HaveTreePaths}
+use Rattle.bt_meta.proofs.Checks.{skips, first_of-append, each_none, holds_unless}
+use Rattle.bt_meta.proofs.Lists.{All-front, All-back}
+use Rattle.bt_meta.proofs.TreeWalk.{has_conflict, file_counted, folder_counted}
+use Rattle.bt_meta.proofs.RootLengths.{conflict_free}
+use Rattle.bt_meta.proofs.MadeTree.{Agree, AreAlike, IsGood, entry_made, length_of_made, root_of_some, IsTreeOf, canonical_made, AreLawful, IsLawful}
+use Rattle.bt_meta.proofs.MadeTree.{lawful_ordered, ordered_named, value_is_file, root_of_made, tree_is}
 use Rattle.bt_meta.specs.Layers.{has_layer_size, has_root}
-use Rattle.bt_meta.specs.Faults.{fault_if, first_of, is_piece_length, head_checks, piece_length_of, tree_of, tree_checks, layer_check, layer_checks, info_of, layers_of, first_fault}
 use Rattle.bt_meta.specs.Torrent.{metainfo_of, IsTorrent}
 use Rattle.bt_meta.specs.declared.writer.Made.{Made}
 use Rattle.bt_meta.specs.declared.writer.MakeError.TheVariants.{LayerSize as layer_size, LayerDiffers as layer_differs}
-use Rattle.bt_meta.specs.GivenFiles.{Given, given_of, HasRoot, IsInTreeOrder, HaveTreePaths}
 use Rattle.bt_meta.specs.WriterRefusals.{Check, file_refusal}
 use Rattle.bt_meta.specs.Encode.{first_layer, AreLayersOf, tree_made, info_made, value_made}
 use Rattle.bt_meta.specs.Writer.{file_made, torrent_made}
-use Rattle.bt_meta.proofs.Checks.{skips, first_of-append, each_none, holds_unless}
-use Rattle.bt_meta.proofs.MadeCanonical.{canonical_made}
-use Rattle.bt_meta.proofs.MadeGiven.{Agree, AreLawful, IsLawful, lawful_ordered, ordered_named}
-use Rattle.bt_meta.proofs.Lists.{All-back}
-use Rattle.bt_meta.proofs.MadeEntries.{value_is_file}
-use Rattle.bt_meta.proofs.MadeTree.{entry_made, length_of_made, root_of_made, IsTreeOf, tree_is}
-use Rattle.bt_meta.proofs.MadeChecks.{tree_passes, count_made}
+
+-- ==== no check refuses the tree of files that are lawful
+
+-- ---- entries of one root
+
+-- where both have bytes and one root, they have one length
+abbrev AgreeAt : TreeEntry → TreeEntry → Type 0
+AgreeAt p q = length_of p ≢ 0 → length_of q ≢ 0 → root_of p ≡ root_of q → length_of p ≡ length_of q
+
+any_filter : (p : TreeEntry) (before : List TreeEntry)
+    → list_any (conflict p) before ≡ list_any (λ q. is_conflict (root_of p) (length_of p) (root_of q) (length_of q)) (filter is_file before)
+any_filter p [] = refl
+any_filter p (q ∷ before) = elim (cases_Bool (is_file q)) [
+  | inl file ↦ rw (file, any_filter p before) refl
+  | inr folder ↦ rw (folder, any_filter p before) refl
+]
+
+agree_free : (p : TreeEntry) (before : List TreeEntry) → All (AgreeAt p) (filter is_file before) → has_conflict before p ≡ false
+agree_free p before h = elim (cases_Bool (length_of p == 0)) [
+  | inl none ↦ rw none refl
+  | inr some ↦
+      let filled : length_of p ≢ 0 = λ e. let zero : (length_of p == 0) ≡ true = grind (arith, nat_tests) in true≢false (sym zero ∙ some) in
+      let none = list_any_none (λ q. is_conflict (root_of p) (length_of p) (root_of q) (length_of q)) _
+      (λ k d lt. let q = get_or (filter is_file before) k d in
+      conflict_free (root_of p) (length_of p) (root_of q) (length_of q) (λ other same. sym (h k d lt filled other (sym same)))) in
+      rw (some, any_filter p before) none
+]
+
+not_too_many : (file : Bool) (path files pieces : ℕ) → path ≤ max_path_length → files ≤ max_file_count → pieces ≤ max_piece_count
+    → (nat_lt max_path_length path || (file && (nat_lt max_file_count files || nat_lt max_piece_count pieces))) ≡ false
+not_too_many true path files pieces a b c = grind (arith, nat_tests)
+not_too_many false path files pieces a b c = grind (arith, nat_tests)
+
+-- ---- the entries of a tree
+
+module _ (n : ℕ) (all : List TreeEntry) (good : All IsGood all) (alike : All (λ x. All (AgreeAt x) (filter is_file all)) (filter is_file all))
+    (few : length (filter is_file all) ≤ max_file_count) (few_pieces : pieces_of n all ≤ max_piece_count) where
+  one_passes : (before : List TreeEntry) (p : TreeEntry) (rest : List TreeEntry) → before ++ p ∷ rest ≡ all → entry_check n before p ≡ None
+  one_passes before p rest e =
+      let count = λ (q : TreeEntry). piece_count n (length_of q) in
+      let here = All-head IsGood p rest (All-back IsGood before (p ∷ rest) (rw e good)) in
+      let whole : filter is_file all ≡ filter is_file (before ++ p ∷ []) ++ filter is_file rest =
+      rw (← e, ← append_assoc before (p ∷ []) rest) (filter-append is_file (before ++ p ∷ []) rest) in
+      let files = ap length whole ∙ length-append (filter is_file (before ++ p ∷ [])) (filter is_file rest) in
+      let pieces = ap (sum_by count) whole ∙ sum_by-append count (filter is_file (before ++ p ∷ [])) (filter is_file rest) in
+      let many : is_too_many n before p ≡ false =
+      not_too_many (is_file p) (length p.path) _ (pieces_of n (before ++ p ∷ [])) here.shallow
+      (omega arith) (omega arith) in
+      elim (cases_Bool (is_file p)) [
+        | inl file ↦
+            let parts : filter is_file all ≡ filter is_file before ++ p ∷ filter is_file rest = rw (← e, filter-append is_file before (p ∷ rest), file) refl in
+            let none = All-head (λ x. All (AgreeAt x) (filter is_file all)) p (filter is_file rest)
+            (All-back (λ x. All (AgreeAt x) (filter is_file all)) (filter is_file before) (p ∷ filter is_file rest)
+            (subst (λ xs. All (λ x. All (AgreeAt x) (filter is_file all)) xs) parts alike)) in
+            file_counted n before p here.node here.named file (here.faultless file) {many = false}
+            (agree_free p before (All-front (AgreeAt p) (filter is_file before) (p ∷ filter is_file rest)
+            (subst (λ xs. All (AgreeAt p) xs) parts none))) many
+        | inr folder ↦ folder_counted n before p here.node here.named {many = false} folder many
+      ]
+
+  entries_pass : (before es : List TreeEntry) → before ++ es ≡ all → first_of (with_earlier (entry_check n) before es) ≡ None
+  entries_pass before [] e = refl
+  entries_pass before (p ∷ es) e =
+      skips _ _ (one_passes before p es e)
+      ∙ entries_pass (before ++ p ∷ []) es (append_assoc before (p ∷ []) es ∙ e)
+
+-- ---- the files as entries
+
+agree_made : (f g : Given) → Agree f g → AgreeAt (entry_made f) (entry_made g)
+agree_made f g agree = rw (length_of_made f, length_of_made g) (λ some other same.
+    agree some other (sym (root_of_some f some) ∙ same ∙ root_of_some g other))
+
+alike_entries : (files : List Given) → AreAlike files → All (λ x. All (AgreeAt x) (map entry_made files)) (map entry_made files)
+alike_entries files h =
+    All-map (λ x. All (AgreeAt x) (map entry_made files)) entry_made files
+    (λ i f lt. All-map (AgreeAt (entry_made (get_or files i f))) entry_made files
+    (λ j g lt'. agree_made (get_or files i f) (get_or files j g) (h i f lt j g lt')))
+
+pub count_made : (n : ℕ) (files : List Given) → sum_by (λ p. piece_count n (length_of p)) (map entry_made files) ≡ sum_by (λ g. piece_count n g.length) files
+count_made n [] = refl
+count_made n (f ∷ files) =
+    sum_by-cons (λ (p : TreeEntry). piece_count n (length_of p)) (entry_made f) (map entry_made files)
+    ∙ rw (length_of_made f, count_made n files) (sym (sum_by-cons (λ (g : Given). piece_count n g.length) f files))
+
+-- ---- the tree
+
+some_file : (es files : List TreeEntry) → filter is_file es ≡ files → length files ≢ 0 → list_any is_file es ≡ true
+some_file [] files e some = absurd (some (ap length (sym e)))
+some_file (p ∷ es) files e some = elim (cases_Bool (is_file p)) [
+  | inl file ↦ rw file refl
+  | inr folder ↦ rw (folder, some_file es files (rw folder at e) some) refl
+]
+
+pub tree_passes : (n : ℕ) (files : List Given) (tree : Entries) → IsTreeOf files tree → AreAlike files → length files ≤ max_file_count
+    → sum_by (λ g. piece_count n g.length) files ≤ max_piece_count → length files ≢ 0
+    → first_of (tree_checks n (dictionary tree)) ≡ None
+unfolding tree_checks tree_entries_below has_key
+tree_passes n files tree h alike few pieces some =
+    let es = tree_entries_among [] tree in
+    let pass = entries_pass n es h.good (rw h.tree_entries (alike_entries files alike)) (rw (h.tree_entries, length-map files _) few)
+    (rw h.tree_entries (rw (count_made n files) pieces)) [] es refl in
+    let there : list_any is_file es ≡ true = some_file es _ h.tree_entries (rw (length-map _ _) some) in
+    rw (h.nameless) (first_of-append (with_earlier (entry_check n) [] es) _ pass ∙ rw there refl)
+
+-- ==== their layers pass, and the files are given back
 
 -- ---- the layer at a root
 
@@ -57,7 +165,7 @@ module _ (n : ℕ) (f : Given) (long : nat_lt n f.length ≡ true) where
   -- that of a file of the same root does
   layer_of : (g : Given) → has g ≡ true → IsLawful n g × Agree f g → IsLayer g.layer
   layer_of g h both =
-      let parts = and_parts (nat_lt n g.length) (pointwise nat_eq g.root f.root) h in
+      let parts = and_parts _ _ h in
       let rooted = (bytes_eq-Decides g.root f.root).0 parts.1 in
       let sized = sym (both.1 (more_bytes n f.length long) (more_bytes n g.length parts.0) (sym rooted)) in
       let checks : List Check = fault_if (not (has_layer_size n g.length g.layer)) layer_size ∷ fault_if
@@ -65,18 +173,18 @@ module _ (n : ℕ) (f : Given) (long : nat_lt n f.length ≡ true) where
       let own = each_none checks (rw parts.0 at both.0.layer) in
       record {
         size = rw (← sized) (holds_unless (has_layer_size n g.length g.layer) layer_size own.0);
-        root = rw (← sized, ← rooted) (holds_unless (has_root n g.length g.root g.layer) layer_differs own.1.0);
+        root = rw (← sized, ← rooted) (holds_unless _ _ own.1.0);
       }
 
   -- the look-up finds such a layer
   layer_there : (before rest : List Given) → All (λ g. IsLawful n g × Agree f g) (before ++ f ∷ rest)
       → (layer : List ℕ) × (first_layer n (before ++ f ∷ rest) f.root ≡ Some layer) × IsLayer layer
   layer_there [] rest h =
-      let here : has f ≡ true = rw (long, (bytes_eq-Decides f.root f.root).1 refl) refl in
-      (f.layer, rw here refl, layer_of f here (All-head (λ g. IsLawful n g × Agree f g) f rest h))
-  layer_there (g ∷ before) rest h = elim (cases_Bool (has g)) [
-    | inl here ↦ (g.layer, rw here refl, layer_of g here (All-head (λ g. IsLawful n g × Agree f g) g (before ++ f ∷ rest) h))
-    | inr other ↦ rw other (layer_there before rest (All-tail (λ g. IsLawful n g × Agree f g) g (before ++ f ∷ rest) h))
+      let here : has f ≡ true = rw (long, (bytes_eq-Decides _ _).1 refl) refl in
+      (f.layer, rw here refl, layer_of f here (All-head (λ g. IsLawful n g × Agree f g) f _ h))
+  layer_there (g ∷ before) rest h = elim (cases_Bool _) [
+    | inl here ↦ (g.layer, rw here refl, layer_of g here (All-head (λ g. IsLawful n g × Agree f g) g _ h))
+    | inr other ↦ rw other (layer_there before rest (All-tail (λ g. IsLawful n g × Agree f g) g _ h))
   ]
 
 module _ (n : ℕ) (all : List Given) (layers : Entries) (layered : AreLayersOf n all layers) where
@@ -86,14 +194,14 @@ module _ (n : ℕ) (all : List Given) (layers : Entries) (layered : AreLayersOf 
 
   layer_passes : AreLawful n all → (before : List Given) (f : Given) (rest : List Given) → before ++ f ∷ rest ≡ all
       → layer_check n (dictionary layers) (entry_made f) ≡ None
-  layer_passes h before f rest e = elim (cases_Bool (nat_lt n f.length)) [
+  layer_passes h before f rest e = elim (cases_Bool _) [
     | inl long ↦
-        let apart = All-head (λ x. All (Agree x) all) f rest
+        let apart = All-head (λ x. All (Agree x) all) f _
         (All-back (λ x. All (Agree x) all) before (f ∷ rest) (rw e h.alike)) in
         let both : All (λ g. IsLawful n g × Agree f g) all = λ k d lt. (h.each k d lt, apart k d lt) in
-        let one = layer_there n f long before rest (subst (λ xs. All (λ g. IsLawful n g × Agree f g) xs) (sym e) both) in
-        let there : string_at (dictionary layers) f.root ≡ Some one.0 = strings_are f.root ∙ ap (λ xs. first_layer n xs f.root) (sym e) ∙ one.1 in
-        rw (length_of_made f, root_of_made f, some_bytes n f.length long, long, there, one.2.size, one.2.root) refl
+        let one = layer_there n f long _ _ (subst (λ xs. All (λ g. IsLawful n g × Agree f g) xs) (sym e) both) in
+        let there : string_at (dictionary layers) f.root ≡ Some one.0 = strings_are _ ∙ ap (λ xs. first_layer n xs f.root) (sym e) ∙ one.1 in
+        rw (length_of_made f, root_of_made f, some_bytes n _ long, long, there, one.2.size, one.2.root) refl
     | inr short ↦ rw (length_of_made f, short) refl
   ]
 
@@ -101,7 +209,7 @@ module _ (n : ℕ) (all : List Given) (layers : Entries) (layered : AreLayersOf 
       → first_of (map (layer_check n (dictionary layers)) (map entry_made files)) ≡ None
   layers_pass h before [] e = refl
   layers_pass h before (f ∷ files) e =
-      skips (layer_check n (dictionary layers) (entry_made f)) (map (layer_check n (dictionary layers)) (map entry_made files))
+      skips _ _
       (layer_passes h before f files e)
       ∙ layers_pass h (before ++ f ∷ []) files (append_assoc before (f ∷ []) files ∙ e)
 
@@ -109,11 +217,11 @@ module _ (n : ℕ) (all : List Given) (layers : Entries) (layered : AreLayersOf 
 
   all_files : (files : List Given) → filter is_file (map entry_made files) ≡ map entry_made files
   all_files [] = refl
-  all_files (f ∷ files) = rw (value_is_file f.path _) (ap (λ es. entry_made f ∷ es) (all_files files))
+  all_files (f ∷ files) = rw (value_is_file _ _) (ap (λ es. entry_made f ∷ es) (all_files files))
 
   layer_said : (f : Given) → layer_at n (dictionary layers) (entry_made f) ≡ (if nat_lt n f.length then unwrap_or (first_layer n all f.root) [] else [])
-  layer_said f = elim (cases_Bool (nat_lt n f.length)) [
-    | inl long ↦ rw (length_of_made f, root_of_made f, some_bytes n f.length long, long, strings_are f.root) refl
+  layer_said f = elim (cases_Bool _) [
+    | inl long ↦ rw (length_of_made f, root_of_made f, some_bytes n _ long, long, strings_are _) refl
     | inr short ↦ rw (length_of_made f, short) refl
   ]
 
@@ -172,7 +280,7 @@ module _ (name : List ℕ) (n : ℕ) (files : List Given) (layers : Entries) whe
     made_passes : is_piece_length n ≡ true → AreLawful n files → length files ≢ 0 → first_fault value ≡ None
     unfolding first_fault layer_checks tree_entries_below
     made_passes lawful h some =
-        let body = tree_passes n files (tree_made files) tree h.alike h.few h.pieces some in
+        let body = tree_passes n files _ tree h.alike h.few h.pieces some in
         let checks = layer_checks n (dictionary layers) (dictionary (tree_made files)) in
         let behind : first_of checks ≡ None = rw (tree.tree_entries) (layers_pass n files layers layered h [] files refl) in
         rw (info_there, info_is, layers_are, length_is, tree_there)
@@ -197,16 +305,16 @@ pub torrent_of_given : (name : List ℕ) (n : ℕ) (files : List Made) (ordered 
     → IsTorrent bytes (torrent_made name n ordered)
 torrent_of_given name n files ordered layers bytes lawful some none rooted order tree_paths layered small spelled =
     let given = map given_of files in
-    let h = lawful_ordered n given ordered none order in
-    let named = ordered_named n given ordered none order in
-    let tree = tree_is n ordered tree_paths named h.each (All-permutation HasRoot given ordered order.same rooted) in
+    let h = lawful_ordered n given _ none order in
+    let named = ordered_named n given _ none order in
+    let tree = tree_is n _ tree_paths named h.each (All-permutation HasRoot given _ order.same rooted) in
     let more : length files ≢ 0 = grind (arith, nat_tests) in
-    let as_many : length ordered ≡ length files = length_permutation given ordered order.same ∙ length-map files given_of in
+    let as_many : length ordered ≡ length files = length_permutation given _ order.same ∙ length-map files _ in
     record {
       value = value_made name n ordered layers;
       small = small;
-      canonical = canonical_made name n ordered layers lawful tree_paths named (λ i d lt. (h.each i d lt).shallow) (λ i d lt. (h.each i d lt).short) layered;
+      canonical = canonical_made name n _ layers lawful tree_paths named (λ i d lt. (h.each i d lt).shallow) (λ i d lt. (h.each i d lt).short) layered;
       spelled = sym spelled;
-      faultless = made_passes name n ordered layers layered tree lawful h (rw as_many more);
-      described = said name n ordered layers layered tree;
+      faultless = made_passes name n _ layers layered tree lawful h (rw as_many more);
+      described = said name n _ layers layered tree;
     }

@@ -21,8 +21,8 @@ module _ (f : File → ℕ) (files : List File) (j k : ℕ) (d : File) where
   -- the file at j ends no later than that at k begins
   ends_before : j < k → k ≤ length files → sum_by f (take j files) + f (get_or files j d) ≤ sum_by f (take k files)
   ends_before lt le =
-      let shorter : j < length (take k files) = rw (length-take-le k files le) lt in
-      rw (take-take j k files (omega arith), get_or-take k files j d lt) at (sum_by_more_le f (take k files) j d shorter)
+      let shorter : j < length (take k files) = rw (length-take-le k _ le) lt in
+      rw (take-take j k _ (omega arith), get_or-take k _ j d lt) at (sum_by_more_le f _ j d shorter)
 
   sums_rise : j ≤ k → k ≤ length files → sum_by f (take j files) ≤ sum_by f (take k files)
   sums_rise le within = elim (cases_lt j k) [
@@ -37,30 +37,30 @@ IsPoint items piece point = IsPartitionPoint (λ e. leb e.first_piece piece ≡ 
 
 module _ (files : List File) (items : List FileEntry) (same : map file_of items ≡ files) where
   all : length files ≡ length items
-  all = rw (← same) (length-map items file_of)
+  all = rw (← same) (length-map _ _)
 
   -- an entry, by its file
   pub entry_at : (k : ℕ) (e : FileEntry) → e ≡ get_or items k e → k < length files → (d : File) → get_or files k d ≡ file_of e
   entry_at k e at listed d = let within = all in rw (← same) (get_or-map file_of items k e d (omega arith) ∙ ap file_of (sym at))
 
   file_there : (k : ℕ) (d : File) → k < length items → (P : File → Type 0) → ((e : FileEntry) → P (file_of (get_or items k e))) → P (get_or files k d)
-  file_there k d within P h = by_items items same within h
+  file_there k d within P h = by_items _ same within h
     where
       by_items : (xs : List FileEntry) → map file_of xs ≡ files → k < length xs → ((e : FileEntry) → P (file_of (get_or xs k e))) → P (get_or files k d)
       by_items [] is lt g = elim lt [ ]
-      by_items (e ∷ xs) is lt g = rw (← is, get_or-map file_of (e ∷ xs) k e d lt) (g e)
+      by_items (e ∷ xs) is lt g = rw (← is, get_or-map _ _ k e d lt) (g e)
 
   first_at : (n : ℕ) → IsLaidOut n files → (k : ℕ) (d : FileEntry) → k < length items
       → (get_or items k d).first_piece ≡ sum_by (λ f. piece_count n f.length) (take k files)
   first_at n lay k d lt =
       let count = all in
-      let there : get_or files k (file_of d) ≡ file_of (get_or items k d) = rw (← same) (get_or-map file_of items k d (file_of d) lt) in
+      let there : get_or files k (file_of d) ≡ file_of (get_or items k d) = rw (← same) (get_or-map _ _ k d (file_of d) lt) in
       sym (ap (λ f. f.first_piece) there) ∙ lay.in_turn k (file_of d) (omega arith)
 
   pub entries_parted : (n piece : ℕ) → IsLaidOut n files → IsPartitionedBy (λ e. leb e.first_piece piece) items
   entries_parted n piece lay = IsPartitionedBy-leb (λ e. e.first_piece) items piece (λ i j d le within.
       let count = all in
-      rw (first_at n lay i d (omega arith), first_at n lay j d within) (sums_rise (λ f. piece_count n f.length) files i j (file_of d) le (omega arith)))
+      rw (first_at n lay i d (omega arith), first_at n lay j d within) (sums_rise (λ f. piece_count n f.length) _ i j (file_of d) le (omega arith)))
 
   module _ (piece point : ℕ) (h : IsPoint items piece point) where
     -- what is one below the point, if there is such a place
@@ -71,7 +71,7 @@ module _ (files : List File) (items : List FileEntry) (same : map file_of items 
         let some : 1 ≤ point = search rules in
         rw p (record {
           listed = omega arith;
-          begun = λ d. file_there (point - 1) d (omega arith) (λ f. f.first_piece ≤ piece) (λ e. leb-true _ _ (h.0 (point - 1) e (omega arith) (omega arith)));
+          begun = λ d. file_there _ d (omega arith) (λ f. f.first_piece ≤ piece) (λ e. leb-true _ _ (h.0 (point - 1) e (omega arith) (omega arith)));
           last = λ k d after listed. file_there k d (omega arith) (λ f. piece < f.first_piece) (λ e. leb-false _ _ (h.1 k e (omega arith) (omega arith)));
         })
     last_of None within one = tt
@@ -86,7 +86,7 @@ module _ (files : List File) (items : List FileEntry) (same : map file_of items 
 -- ---- the place of a range
 
 within_pieces : (n p q : ℕ) → 0 < p → q * p < n → q < div_ceil n p
-within_pieces n p q some lt = elim (cases_lt q (div_ceil n p)) [
+within_pieces n p q some lt = elim (cases_lt q _) [
   | inl below ↦ below
   | inr above ↦ let most : div_ceil n p * p ≤ q * p = mul-le-mul_right p above in absurd (omega (arith, (div_ceil_times n p some).0))
 ]
@@ -95,15 +95,12 @@ below_of : (piece first count : ℕ) → first ≤ piece → piece - first < cou
 below_of piece first count from lt = omega arith
 
 module _ (torrent : Metainfo) (piece begin count : ℕ) where
-  pub nowhere : (span : Span) → HasNoFileAt torrent.files piece → IsPlace torrent piece begin count span → ⊥
-  nowhere span none place = absurd (omega (arith, none span.file place.file place.listed, place.from, ap (λ f. f.first_piece) (place.found place.file)))
-
   module _ (index : ℕ) (f : File) (last : IsLastFileAt torrent.files piece index) (at : (d : File) → get_or torrent.files index d ≡ f) where
     module _ (span : Span) (lay : IsLaidOut torrent.piece_length torrent.files) (place : IsPlace torrent piece begin count span) where
       begins : (j k : ℕ) (d : File) → j < k → k < length torrent.files
           → (get_or torrent.files j d).first_piece + piece_count torrent.piece_length (get_or torrent.files j d).length ≤ (get_or torrent.files k d).first_piece
       begins j k d lt within = rw (lay.in_turn j d (omega arith), lay.in_turn k d within)
-          (ends_before (λ g. piece_count torrent.piece_length g.length) torrent.files j k d lt (omega arith))
+          (ends_before (λ g. piece_count torrent.piece_length g.length) _ j k d lt (omega arith))
 
       -- a place lies in the last file that begins at the piece or before it
       only_there : span.file ≡ index
@@ -139,8 +136,8 @@ module _ (torrent : Metainfo) (piece begin count : ℕ) where
           listed = last.listed;
           found = at;
           from = from;
-          below = below_of piece f.first_piece (piece_count torrent.piece_length f.length) from
-              (within_pieces f.length torrent.piece_length (piece - f.first_piece) (omega arith) (omega arith));
+          below = below_of _ _ _ from
+              (within_pieces _ _ _ (omega arith) (omega arith));
           start = refl;
           all = refl;
           some = some;

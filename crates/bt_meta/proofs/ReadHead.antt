@@ -6,7 +6,8 @@ use Rattle.bt_bencode.specs.Value.{Data, data_of}
 use Rattle.bt_bencode.specs.Spelling.{spelling_of}
 use Rattle.bt_meta.specs.Fields.{integer_at, string_at, dictionary_at, is_dictionary}
 use Rattle.bt_meta.specs.Files.{File, file_of, files_of}
-use Rattle.bt_meta.specs.Faults.{Check, first_of, head_checks, info_checks, tree_checks, layer_checks, version_check, is_hybrid, is_piece_length, piece_length_of, tree_of, info_of, layers_of, first_fault, first_info_fault}
+use Rattle.bt_meta.specs.Faults.{Check, first_of, head_checks, info_checks, tree_checks, layer_checks, version_check, is_hybrid, is_piece_length}
+use Rattle.bt_meta.specs.Faults.{piece_length_of, tree_of, info_of, layers_of, first_fault, first_info_fault}
 use Rattle.bt_meta.specs.Torrent.{metainfo_of}
 use Rattle.bt_meta.specs.ReaderSteps.{Refuses, IsHead, IsListing}
 use Rattle.bt_meta.specs.LayerSteps.{layer_faults}
@@ -15,7 +16,7 @@ use Rattle.bt_meta.specs.declared.walk.Listing.{Listing}
 use Rattle.bt_meta.specs.declared.error.MetaError.{MetaError}
 use Rattle.bt_meta.specs.declared.error.MetaError.TheVariants.{NoInfo, Hybrid, NoName, PieceLength, Tree}
 use Rattle.bt_meta.proofs.Checks.{first_of-append, first_of-append_some}
-use Rattle.bt_meta.proofs.LayerFiles.{layer_faults_are}
+use Rattle.bt_meta.proofs.FileLayers.{layer_faults_are}
 
 -- ---- the head
 
@@ -77,7 +78,7 @@ info_head_fault info h = first_of-append_some (head_checks info) (tree_checks (p
 -- the checks of an info dictionary are those of its head and those of its tree
 pub info_faults : {info : Data} {head : Head} → IsHead info head
     → first_of (info_checks info) ≡ first_of (tree_checks head.piece_length (data_of head.tree.now))
-info_faults {info} h = first_of-append (head_checks info) (tree_checks (piece_length_of info) (tree_of info)) h.faultless ∙ rw (h.piece_length, h.tree) refl
+info_faults {info} h = first_of-append (head_checks info) _ h.faultless ∙ rw (h.piece_length, h.tree) refl
 
 pub metainfo_is : {info : Data} {head : Head} (layers : Data) (files : List File) → IsHead info head
     → files ≡ files_of head.piece_length layers (data_of head.tree.now)
@@ -107,7 +108,7 @@ module _ (torrent : Data) where
     module _ {head : Head} {listing : Listing} (h : IsHead info head) (l : IsListing head.piece_length (data_of head.tree.now) listing) where
       pub torrent_layers : first_fault torrent ≡ first_of (layer_faults head.piece_length (layers_of torrent) (map file_of listing.files.items))
       torrent_layers =
-          first_fault_in ∙ first_of-append (info_checks info) (layer_checks (piece_length_of info) (layers_of torrent) (tree_of info))
+          first_fault_in ∙ first_of-append (info_checks info) _
           (info_faults h ∙ l.faultless)
           ∙ rw (h.piece_length, h.tree, l.files, layer_faults_are head.piece_length (layers_of torrent) (data_of head.tree.now)) refl
 
@@ -119,4 +120,4 @@ refuses_as same h = rw same h
 pub tree_refuses : (torrent : Data) {info : Data} {head : Head} {e : MetaError} → Some info ≡ dictionary_at torrent (codes "info") → IsHead info head
     → Refuses (first_of (tree_checks head.piece_length (data_of head.tree.now))) e → Refuses (first_fault torrent) e
 tree_refuses torrent there h (inl m) = inl m
-tree_refuses torrent there h (inr k) = inr (torrent_info_fault torrent there (info_faults h ∙ k))
+tree_refuses torrent there h (inr k) = inr (torrent_info_fault _ there (info_faults h ∙ k))

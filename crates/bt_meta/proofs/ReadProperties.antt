@@ -2,7 +2,7 @@
 use Rattle.std.proofs.Common.{◌≡◌, ◌≢◌, ℕ, true, false, List, length, Option, None, Some, refl, arith}
 use Rattle.std.specs.Prelude.{codes, not, ◌==◌, ◌||◌, replicate, if◌then◌else◌}
 use Rattle.std.specs.List.{list_any}
-use Rattle.std.specs.Str.{IsUtf8, is_utf8}
+use Rattle.std.specs.Str.{IsUtf8}
 use Rattle.std.proofs.lemmas.Bool.{and_right, false_from_ne_true}
 use Rattle.std.proofs.lemmas.Bool.Decides.{nat_tests}
 use Rattle.std.proofs.lemmas.Str.{IsUtf8-from_is_utf8, is_utf8-from_IsUtf8}
@@ -24,7 +24,7 @@ module _ (element : List ℕ) where
   refused_bytes broken =
       let names = not (is_dots element || list_any (λ b. b == slash) element || list_any (λ b. b == 0) element) in
       let refused : is_path_element element ≡ false =
-      and_right names (is_utf8 element) (false_from_ne_true (is_utf8 element) (λ t. broken (IsUtf8-from_is_utf8 element t))) in
+      and_right _ _ (false_from_ne_true _ (λ t. broken (IsUtf8-from_is_utf8 _ t))) in
       rw refused refl
 
   module _ (p : false ≡ is_dots element) where
@@ -39,7 +39,7 @@ module _ (element : List ℕ) where
 
       pub lawful_text : {text : List ℕ} → false ≡ list_any (λ b. b == 0) element → IsUtf8 element → text ≡ element → Some text ≡ lawful
       unfolding is_path_element
-      lawful_text r u e = rw (← p, ← q, ← r, is_utf8-from_IsUtf8 element u, e) refl
+      lawful_text r u e = rw (← p, ← q, ← r, is_utf8-from_IsUtf8 _ u, e) refl
 
 -- ---- roots
 

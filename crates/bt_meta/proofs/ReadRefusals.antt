@@ -18,4 +18,4 @@ pub value_refused : {T : Type 0} (first : Data → Check) (bytes : List ℕ) (va
     → IsCanonical value → spelling_of value ≡ bytes
     → IfErr r (Refuses (first value)) → IfErr r (IsRefused first bytes)
 value_refused first bytes value (Ok x) small canonical spelled h = h
-value_refused first bytes value (Err e) small canonical spelled h = refused_by first bytes value e small canonical spelled h
+value_refused first bytes value (Err e) small canonical spelled h = refused_by _ _ _ e small canonical spelled h

@@ -1,8 +1,8 @@
 -- What the lengths of roots tell once one length more is noted.
 use Rattle.std.proofs.Common.{◌≡◌, ◌≢◌, ℕ, Bool, true, false, List, Option, None, Some, refl, sym, ap, ◌∙◌, arith}
-use Rattle.std.specs.Prelude.{nat_eq, not, ◌&&◌, ◌||◌, ◌==◌, cond}
+use Rattle.std.specs.Prelude.{not, ◌&&◌, ◌||◌, ◌==◌, cond}
 use Rattle.std.specs.Ordering.{nat_cmp, is_eq}
-use Rattle.std.specs.Cmp.Lexicographic.{pointwise, slice_cmp}
+use Rattle.std.specs.Cmp.Lexicographic.{slice_cmp}
 use Rattle.std.proofs.Math.Bool.{or-false}
 use Rattle.std.proofs.lemmas.Bool.{and_parts, false_from_ne_true, true≢false}
 use Rattle.std.proofs.lemmas.Bool.Decides.{nat_tests}
@@ -18,21 +18,24 @@ module _ (length n : ℕ) where
 
   other_than : (o : Option ℕ) → is_other_length o length ≡ false → is_other_length (Some length) n ≡ (is_other_length o n || is_other_length (Some length) n)
   other_than None e = refl
-  other_than (Some m) e = let same : m ≡ length = grind (arith, nat_tests) in rw same (twice (not (length == n)))
+  other_than (Some m) e = let same : m ≡ length = grind (arith, nat_tests) in rw same (twice _)
 
   at : (b : Bool) (o p : Option ℕ) → is_other_length o length ≡ false → (b ≡ true → o ≡ p)
       → is_other_length (cond b (Some length) p) n ≡ (is_other_length p n || (b && not (length == n)))
   at true o p alike same = rw (← same refl) (other_than o alike)
-  at false o p alike same = sym (or-false (is_other_length p n))
+  at false o p alike same = sym (or-false _)
 
-pub noted_more : {old new : Lengths} {root : List ℕ} {length : ℕ} → NotesLength old new root length → (other : List ℕ) (n : ℕ)
-    → is_other_length (length_at new other) n ≡ (is_other_length (length_at old other) n || (pointwise nat_eq root other && not (length == n)))
-noted_more {old} {new} {root} {length} noted other n =
-    let test = is_eq-slice_cmp root other in
-    ap (λ o. is_other_length o n) (noted.noted other)
-    ∙ at length n (is_eq (slice_cmp nat_cmp root other)) (length_at old root) (length_at old other) noted.alike
-    (λ e. ap (length_at old) ((bytes_eq-Decides root other).0 (sym test ∙ e)))
-    ∙ rw test refl
+pub noted_now : {old new : Lengths} {root : List ℕ} {length : ℕ} → (length == 0) ≡ false → is_other_length (length_at old root) length ≡ false
+    → ((other : List ℕ) → length_at new other ≡ cond (is_eq (slice_cmp nat_cmp root other)) (Some length) (length_at old other))
+    → NotesLength old new root length
+noted_now {old} {new} {root} {length} some alike noted = record {
+  alike = rw (some, alike) refl;
+  noted = λ other n.
+      let test = is_eq-slice_cmp root other in
+      ap (λ o. is_other_length o n) (noted other)
+      ∙ at length n _ (length_at old root) _ alike (λ e. ap (length_at old) ((bytes_eq-Decides root other).0 (sym test ∙ e)))
+      ∙ rw (test, some) refl;
+}
 
 -- ---- what a root conflict is
 
@@ -40,14 +43,14 @@ module _ (root : List ℕ) (n : ℕ) (other : List ℕ) (m : ℕ) where
   pub no_conflict : is_conflict root n other m ≡ false → m ≢ 0 → other ≡ root → m ≡ n
   no_conflict e some same =
       let filled : (m == 0) ≡ false = grind (arith, nat_tests) in
-      let test : not (m == n) ≡ false = rw (filled, (bytes_eq-Decides other root).1 same) at e in
+      let test : not (m == n) ≡ false = rw (filled, (bytes_eq-Decides _ _).1 same) at e in
       grind (arith, nat_tests)
 
   pub conflict_free : (m ≢ 0 → other ≡ root → m ≡ n) → is_conflict root n other m ≡ false
-  conflict_free agree = false_from_ne_true (is_conflict root n other m) (λ t.
-      let p = and_parts (not (m == 0) && pointwise nat_eq other root) (not (m == n)) t in
-      let q = and_parts (not (m == 0)) (pointwise nat_eq other root) p.0 in
-      differs p.1 (agree (some q.0) ((bytes_eq-Decides other root).0 q.1)))
+  conflict_free agree = false_from_ne_true _ (λ t.
+      let p = and_parts _ _ t in
+      let q = and_parts _ _ p.0 in
+      differs p.1 (agree (some q.0) ((bytes_eq-Decides _ _).0 q.1)))
     where
       some : not (m == 0) ≡ true → m ≢ 0
       some e = λ none. let zero : (m == 0) ≡ true = grind (arith, nat_tests) in true≢false (sym (rw zero at e))

@@ -1,12 +1,12 @@
 -- The steps of reading a file's properties. No public contract cites them.
-use Rattle.std.specs.Prelude.{◌≡◌, ℕ, ◌≤◌, ◌==◌, ◌⊎◌, Bool, true, false, not, List, [], ◌∷◌, codes, Option, None, Some, cond}
-use Rattle.std.specs.Ordering.{nat_cmp, is_eq}
+use Rattle.std.specs.Prelude.{◌≡◌, ℕ, ◌≤◌, ◌==◌, ◌⊎◌, Bool, true, false, not, List, [], ◌∷◌, codes, Option, None, Some, ◌&&◌, ◌||◌}
+use Rattle.std.specs.Ordering.{nat_cmp}
 use Rattle.std.specs.Cmp.Lexicographic.{slice_cmp}
 use Rattle.std.specs.BTreeMap.{BTreeMap, get}
 use Rattle.bt_bencode.specs.Value.{Data}
 use Rattle.bt_tree.specs.Limits.{max_file_length}
 use Rattle.bt_meta.specs.Fields.{has_key}
-use Rattle.bt_meta.specs.Files.{length_in, root_in}
+use Rattle.bt_meta.specs.Files.{length_in, root_in, is_conflict}
 use Rattle.bt_meta.specs.Faults.{Check, first_of, fault_if, has_lawful_length, has_lawful_root}
 use Rattle.bt_meta.specs.declared.error.MetaError.{MetaError}
 use Rattle.bt_meta.specs.declared.error.MetaError.TheVariants.{Symlink, FileLength, BadRoot, RootConflict, OutOfMemory}
@@ -38,14 +38,14 @@ abbrev pub is_other_length : Option ℕ → ℕ → Bool
 is_other_length None n = false
 is_other_length (Some m) n = not (m == n)
 
--- the root has this length now, if it had no other, and all other roots have what they had
+-- the root had no other length, and has this one now, where the file is not empty; all others have what they had
 pub record NotesLength (old new : Lengths) (root : List ℕ) (n : ℕ) : Type 0 where
-  pub alike : is_other_length (length_at old root) n ≡ false
-  pub noted : (other : List ℕ) →
-      length_at new other ≡ cond (is_eq (slice_cmp nat_cmp root other)) (Some n) (length_at old other)
+  pub alike : (not (n == 0) && is_other_length (length_at old root) n) ≡ false
+  pub noted : (other : List ℕ) (m : ℕ) → is_other_length (length_at new other) m
+      ≡ (is_other_length (length_at old other) m || is_conflict other m root n)
 
 -- no length was noted, and out of memory is told; or another length was, and this is told
 abbrev pub IsLengthConflict : Lengths → List ℕ → ℕ → MetaError → Type 0
-IsLengthConflict lengths root n e =
-    ((e ≡ OutOfMemory) × (length_at lengths root ≡ None))
-    ⊎ ((e ≡ RootConflict) × (is_other_length (length_at lengths root) n ≡ true))
+IsLengthConflict lengths root n e = ((n == 0) ≡ false)
+    × (((e ≡ OutOfMemory) × (length_at lengths root ≡ None))
+    ⊎ ((e ≡ RootConflict) × (is_other_length (length_at lengths root) n ≡ true)))

@@ -20,7 +20,6 @@ use crate::torrent::FileEntry;
 use bt_bencode::Value;
 use bt_tree::{Geometry, Hash32, LayerError, Plain, check_layer};
 use std::alloc::Global;
-use std::cmp::Ordering;
 
 /// Gives each file that is longer than a piece its layer, out of the `piece layers` of the torrent.
 pub(crate) fn add_layers(
@@ -123,18 +122,10 @@ fn find<'a>(entries: &'a [(Vec<u8>, Value)], key: &[u8]) -> Option<&'a Value>
     requires { EntriesAscend (entries_of entries.now) }
     ensures { option_map data_of (option_copied result) ≡ first_value_of (entries_of entries.now) key.now }
 {
-    let mut low = 0;
-    let mut high = entries.len();
-    while low < high {
-        let middle = low + (high - low) / 2;
-        let (name, value) = &entries[middle];
-        match name.as_slice().cmp(key) {
-            Ordering::Less => low = middle + 1,
-            Ordering::Equal => return Some(value),
-            Ordering::Greater => high = middle,
-        }
+    match entries.binary_search_by(|(name, _)| name.as_slice().cmp(key)) {
+        Ok(index) => Some(&entries[index].1),
+        Err(_) => None,
     }
-    None
 }
 
 /// Refuses a layer that is not the one of a file's pieces.

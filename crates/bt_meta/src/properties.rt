@@ -40,8 +40,8 @@ pub(crate) fn file_facts(properties: &Value) -> Result<FileFacts, MetaError>
     Ok(FileFacts { length, root })
 }
 
-/// Notes the length of the files of a root. It is refused where another was noted; and where none was, with
-/// `OutOfMemory` alone.
+/// Notes the length of the files of a root; not that of an empty file. It is refused where another was noted;
+/// and where none was, with `OutOfMemory` alone.
 pub(crate) fn note_length(
     lengths: &mut BTreeMap<Hash32, u64>,
     root: Hash32,
@@ -50,6 +50,9 @@ pub(crate) fn note_length(
     ensures noted { OnOk result (NotesLength lengths.old lengths.new root length) }
     ensures refused { IfErr result (IsLengthConflict lengths.old root length) }
 {
+    if length == 0 {
+        return Ok(());
+    }
     match lengths.insert(root, length)? {
         Some(known) if known != length => Err(MetaError::RootConflict),
         _ => Ok(()),

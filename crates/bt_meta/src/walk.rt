@@ -178,9 +178,7 @@ fn add_file(
         Stops piece_length (p ∷ []) walk.old e)) }
 {
     let FileFacts { length, root } = file_facts(properties)?;
-    if length > 0 {
-        note_length(&mut walk.lengths, root, length)?;
-    }
+    note_length(&mut walk.lengths, root, length)?;
     let pieces = walk.pieces as u64 + length.div_ceil(piece_length as u64);
     let depth = folder_length(folder);
     if depth >= MAX_PATH_LENGTH || walk.files.len() >= MAX_FILES || pieces > MAX_PIECES {

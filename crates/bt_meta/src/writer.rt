@@ -224,11 +224,7 @@ fn check_root(lengths: &mut BTreeMap<Hash32, u64>, file: &Made) -> Result<(), Ma
         → ((e ≡ out_of_memory) × (conflict_with files (given_of file.now) ≡ false))
         ⊎ ((e ≡ root_conflict) × (conflict_with files (given_of file.now) ≡ true))) }
 {
-    let root = file.root;
-    if file.length == 0 {
-        return Ok(());
-    }
-    match note_length(lengths, root, file.length) {
+    match note_length(lengths, file.root, file.length) {
         Ok(()) => Ok(()),
         Err(MetaError::OutOfMemory) => Err(MakeError::OutOfMemory),
         Err(_) => Err(MakeError::RootConflict),

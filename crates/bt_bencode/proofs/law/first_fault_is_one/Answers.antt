@@ -1,5 +1,4 @@
-use Rattle.bt_bencode.proofs.ReadFaults.{none_spells}
-use Rattle.bt_bencode.proofs.LawOneFault.{first_fault_is_one}
+use Rattle.bt_bencode.proofs.FirstFaults.{none_spells, first_fault_is_one}
 use Rattle.bt_bencode.proofs.law.first_fault_is_one.Goals as goal
 
 pub returns : goal.returns

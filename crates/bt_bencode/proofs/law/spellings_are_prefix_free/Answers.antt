@@ -1,4 +1,4 @@
-use Rattle.bt_bencode.proofs.LawSpellings.{no_proper_prefix, begins_once}
+use Rattle.bt_bencode.proofs.ReadingLaws.{no_proper_prefix, begins_once}
 use Rattle.bt_bencode.proofs.law.spellings_are_prefix_free.Goals as goal
 
 pub returns : goal.returns

@@ -10,5 +10,5 @@ loop-end-preserved c =
     record {
       from = omega arith;
       inside = omega arith;
-      digits = digits_one_more c.args.bytes.now c.args.at c.loop-end.end c.loop-end.invariant.from c.loop-end-test.true digit c.loop-end.invariant.digits;
+      digits = digits_one_more _ _ _ c.loop-end.invariant.from c.loop-end-test.true digit c.loop-end.invariant.digits;
     }

@@ -31,11 +31,11 @@ returns-then-end-at-clause-fault c =
     c.if-leads_with_zero.ensures.1 (rw take_rest leads) in cc in
     let first : slice_index (drop end bytes) 0 ≡ slice_index bytes end = drop_first end bytes in
     let other : (slice_range bytes c.args.at end ≡ []) ⊎ (slice_index (drop end bytes) 0 ≢ c.args.stop) = elim c.then-end-at.branch [
-      | then-end-at-via-then-end-at w ↦ inl (nothing_between bytes c.args.at end (omega arith))
+      | then-end-at-via-then-end-at w ↦ inl (nothing_between bytes _ end (omega arith))
       | then-end-at-via-else-end-at+then-bytes-end w ↦ inr (λ same. w.if-bytes-end.true (sym first ∙ same))
     ] in (
       c.digits_end-end.ensures.inside,
-      at_other (slice_range bytes c.args.at end) (drop end bytes) (drop_split bytes c.args.at end c.digits_end-end.ensures.from)
+      at_other (slice_range bytes c.args.at end) (drop end bytes) (drop_split _ _ end c.digits_end-end.ensures.from)
           c.digits_end-end.ensures.digits no_zero
           (omega (arith, length-drop end bytes)) (rw first c.digits_end-end.ensures.ended) other,
     )

@@ -1,6 +1,5 @@
 use Rattle.std.proofs.Common.{◌+◌, ◌-◌, ◌*◌, length}
-use Rattle.bt_bencode.proofs.ReadLists.{ItemsTo}
-use Rattle.bt_bencode.proofs.ReadDictionaries.{EntriesTo}
+use Rattle.bt_bencode.proofs.ReadParts.{ItemsTo, EntriesTo}
 use Rattle.bt_bencode.proofs.reader.+value.Given as goal
 
 abbrev pub decreases-value_at : goal.decreases-value_at

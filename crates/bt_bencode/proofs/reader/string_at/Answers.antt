@@ -1,4 +1,4 @@
-use Rattle.std.proofs.Common.{◌≡◌, ◌+◌, ◌-◌, ◌<◌, ◌^◌, false, length, take, drop, sym, ap, ◌∙◌, subst, arith}
+use Rattle.std.proofs.Common.{◌≡◌, ◌+◌, ◌-◌, ◌<◌, false, length, take, drop, sym, ap, ◌∙◌, arith}
 use Rattle.std.specs.Prelude.{slice_range}
 use Rattle.std.specs.Str.Parse.{digits_value}
 use Rattle.std.proofs.lemmas.Result.{err_from_is_err_and}
@@ -15,7 +15,7 @@ pub returns-in_err-colon-clause-fault : goal.returns-in_err-colon-clause-fault
 returns-in_err-colon-clause-fault c =
     let p = err_from_is_err_and c.from_residual.result c.from_residual.ensures.1 in
     rw (p.1, p.2) (fault_passed (FaultFrom (NumeralStops false 58) c.args.bytes.now c.args.at) (FaultFrom StringStops c.args.bytes.now c.args.at)
-    (λ f offset h. (h.0, in_length f (drop offset c.args.bytes.now) h.1)) c.in_err-colon.field-0.0 c.in_err-colon.ensures.fault)
+    (λ f offset h. (h.0, in_length f _ h.1)) _ c.in_err-colon.ensures.fault)
 
 pub returns-in_ok-string-in-Some-clause-found : goal.returns-in_ok-string-in-Some-clause-found
 returns-in_ok-string-in-Some-clause-found c =
@@ -24,8 +24,7 @@ returns-in_ok-string-in-Some-clause-found c =
     let inside : colon < length bytes = c.in_ok-colon.ensures.found.inside in
     let size : colon + 1 + c.in-Some.length - (colon + 1) ≡ c.in-Some.length = omega arith in
     let value = c.in-Some.ensures.1 in
-    string_read bytes c.args.at colon c.in-Some.length c.in_ok-string-in-Some.string.items c.in_ok-colon.ensures.found (sym value)
-    (subst (λ k. k < 2 ^ 64) (sym value) c.in-Some.ensures.0)
+    string_read _ _ _ c.in_ok-colon.ensures.found _ _ (sym value) (rw value c.in-Some.ensures.0)
     (omega arith) (c.in_ok-string-in-Some.ensures.items ∙ ap (λ k. take k (drop (colon + 1) bytes)) size)
 
 pub returns-in_default-clause-fault : goal.returns-in_default-clause-fault
@@ -36,4 +35,4 @@ returns-in_default-clause-fault c =
       | in_default-via-in-Some+else-length-left w ↦ omega (arith, w.if-length-left.false, w.in-Some.ensures.1)
       | in_default-via-in_default w ↦ omega (arith, unless_some c.length_of.result _ _ c.length_of.ensures w.in_default.not-Some)
     ] in
-    string_short bytes c.args.at colon c.in_ok-colon.ensures.found long
+    string_short _ _ _ c.in_ok-colon.ensures.found long

@@ -2,11 +2,11 @@ use Rattle.std.proofs.Common.{arith, ◌≡◌, ◌∷◌, map, sym, ◌∙◌, 
 use Rattle.std.specs.Prelude.{string_bytes}
 use Rattle.std.proofs.lemmas.Result.{IfOk-weaker}
 use Rattle.bt_bencode.specs.Value.{dictionary, no_entries, data_of, entries_of}
-use Rattle.bt_bencode.specs.declared.value.Value.TheViews as views
 use Rattle.bt_bencode.proofs.ValueData.{data_of-Dict}
 use Rattle.bt_meta.specs.Encode.{with_file}
 use Rattle.bt_meta.specs.EncodeSteps.{ComesAfter}
-use Rattle.bt_meta.proofs.EncodeFolders.{file_in, file_alone, no_path}
+use Rattle.bt_meta.proofs.EncodeValue.{file_in, file_alone, no_path}
+use Rattle.bt_bencode.specs.declared.value.Value.TheViews as views
 use Rattle.bt_meta.proofs.encode.+folder_with.Goals as goal
 
 pub returns-in_default : goal.returns-in_default
@@ -37,4 +37,4 @@ returns t c =
     let named = c.as_bytes-2.ensures.value ∙ sym c.as_bytes.ensures.value in
     IfOk-weaker c.entries_with-2.result _ _
     (λ x h. h ∙ rw (named, inner, whole)
-    (file_in name rest d es (entries_of c.in_ok-folder.folder.items) (entries_of c.in_ok-folder.inner.items) opened)) c.entries_with-2.ensures
+    (file_in name rest d es _ (entries_of c.in_ok-folder.inner.items) opened)) c.entries_with-2.ensures

@@ -3,7 +3,7 @@ use Rattle.bt_bencode.specs.Value.{string, no_entries, entry, entries_of}
 use Rattle.bt_bencode.specs.Dictionary.{first_value_of}
 use Rattle.bt_bencode.proofs.ValueData.{data_of-Bytes}
 use Rattle.bt_meta.specs.EncodeSteps.{entries_before}
-use Rattle.bt_meta.proofs.EncodeLayers.{layer_list, list_more, list_found, list_ascends, list_finds}
+use Rattle.bt_meta.proofs.EncodeValue.{layer_list, list_more, list_found, list_ascends, list_finds}
 use Rattle.bt_meta.proofs.encode.layer_entries.Goals as goal
 
 pub loop-root-init : goal.loop-root-init
@@ -11,24 +11,24 @@ loop-root-init c = rw (c.new-entries.ensures.items) (ap layer_list c.into_iter-r
 
 pub loop-root-preserved : goal.loop-root-preserved
 loop-root-preserved c =
-    list_more (entries_of c.loop-root.entries.items)
-    (entries_of c.in_ok-entries.entries.items) c.in-Some.root.now c.in-Some.layer.now c.loop-root.root-iterator c.next.new.self
-    (layer_list c.args.layers.now.entries)
+    list_more _
+    _ _ _ _ _
+    _
     c.in-Some.ensures.steps
     (c.in_ok-entries.ensures ∙ ap (λ d. entries_before (entries_of c.loop-root.entries.items) (entry c.in-Some.root.now d no_entries))
-    (data_of-Bytes c.in_ok-layer.layer)
+    (data_of-Bytes _)
     ∙ ap (λ bytes. entries_before (entries_of c.loop-root.entries.items) (entry c.in-Some.root.now (string bytes) no_entries)) c.in_ok-layer.ensures.items)
     c.loop-root.invariant
 
 pub returns-clause-ascending : goal.returns-clause-ascending
 returns-clause-ascending c =
-    rw (list_found (entries_of c.loop-root.entries.items) c.loop-root.root-iterator
-    (layer_list c.args.layers.now.entries) c.in-None.ensures.steps.0 c.loop-root.invariant)
-    (list_ascends c.args.layers.now.entries c.into_iter-root-iterator.ensures.into_iter_gives.5)
+    rw (list_found _ _
+    _ c.in-None.ensures.steps.0 c.loop-root.invariant)
+    (list_ascends _ c.into_iter-root-iterator.ensures.into_iter_gives.5)
 
 pub returns-clause-layers : goal.returns-clause-layers
 returns-clause-layers c root =
     ap (λ es. first_value_of es root)
-    (list_found (entries_of c.loop-root.entries.items) c.loop-root.root-iterator
-    (layer_list c.args.layers.now.entries) c.in-None.ensures.steps.0 c.loop-root.invariant)
+    (list_found _ c.loop-root.root-iterator
+    _ c.in-None.ensures.steps.0 c.loop-root.invariant)
     ∙ list_finds c.args.layers.now.entries root

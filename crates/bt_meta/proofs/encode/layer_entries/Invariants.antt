@@ -1,7 +1,7 @@
 use Rattle.std.proofs.Common.{◌≡◌}
 use Rattle.bt_bencode.specs.Value.{entries_of}
 use Rattle.bt_meta.specs.EncodeSteps.{entries_before}
-use Rattle.bt_meta.proofs.EncodeLayers.{layer_list}
+use Rattle.bt_meta.proofs.EncodeValue.{layer_list}
 use Rattle.bt_meta.proofs.encode.layer_entries.Given as goal
 
 abbrev pub invariant-loop-root : goal.invariant-loop-root

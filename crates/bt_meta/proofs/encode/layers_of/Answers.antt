@@ -1,16 +1,15 @@
 use Rattle.std.proofs.Common.{map, ap}
-use Rattle.std.specs.Prelude.{take}
 use Rattle.std.proofs.lemmas.List.{take_all}
 use Rattle.bt_bencode.specs.Value.{entries_of}
 use Rattle.bt_meta.specs.EncodeSteps.{given_at}
-use Rattle.bt_meta.proofs.EncodeLayers.{layers_made, both}
+use Rattle.bt_meta.proofs.EncodeValue.{layers_made, both}
 use Rattle.bt_meta.proofs.encode.layers_of.Goals as goal
 
 pub returns : goal.returns
 returns c =
     let i = c.loop-file.file-index in
     both c.layer_entries.result _ _ _
-    (λ entries ascending finds. layers_made c.args.piece_length (map given_at (take i c.args.files.now))
-    (map given_at c.args.files.now) c.loop-file.layers (entries_of entries.items)
+    (λ entries ascending finds. layers_made c.args.piece_length _
+    _ c.loop-file.layers (entries_of entries.items)
     (ap (map given_at) (take_all i c.args.files.now c.loop-file-test.false)) c.loop-file.invariant ascending finds)
     c.layer_entries.ensures.ascending c.layer_entries.ensures.layers

@@ -1,22 +1,21 @@
 use Rattle.std.proofs.Common.{refl, ◌≡◌, ◌-◌, ◌++◌, [], take, sym, ◌∙◌, ap}
 use Rattle.std.proofs.lemmas.Slice.Eq.{bytes_eq-Decides}
-use Rattle.bt_bencode.specs.Value.{entries_of}
 use Rattle.std.proofs.lemmas.Bool.{false≢true}
-use Rattle.bt_bencode.specs.declared.value.Value.TheViews as views
+use Rattle.bt_bencode.specs.Value.{entries_of}
 use Rattle.bt_bencode.proofs.ValueData.{data_of-Dict}
-use Rattle.bt_meta.proofs.EncodeFolders.{entries_push, opened_nothing, opened_folder, opened_other}
+use Rattle.bt_meta.proofs.EncodeValue.{entries_push, opened_nothing, opened_folder, opened_other}
 use Rattle.bt_meta.proofs.encode.open_last.Goals as goal
 
 pub returns-in_default : goal.returns-in_default
 returns-in_default c path behind =
     let left : c.pop.new.self.items ≡ [] = c.in_default.ensures.rest ∙ ap (λ n. take (n - 1) c.args.folder.items) c.in_default.ensures.cases.0 in
     let whole : c.args.folder.items ≡ [] = c.in_default.ensures.items ∙ ap (λ xs. xs ++ []) left in
-    rw (whole, left, c.new.ensures.items) (opened_nothing c.args.name.now path)
+    rw (whole, left, c.new.ensures.items) (opened_nothing _ _)
 
 pub returns-then-eq : goal.returns-then-eq
 returns-then-eq c path behind =
-    let named = (bytes_eq-Decides c.in-Some.key.items c.args.name.now).0 (rw (← c.as_slice.ensures.value) (sym c.if-eq.ensures)) in
-    rw c.in-Some.ensures.items (opened_folder c.args.name.now path c.pop.new.self.items c.in-Some.key c.in-Some.value
+    let named = (bytes_eq-Decides _ _).0 (rw (← c.as_slice.ensures.value) (sym c.if-eq.ensures)) in
+    rw c.in-Some.ensures.items (opened_folder _ _ _ _ _
     (rw c.in-Some.ensures.items at behind) c.in-Ok.ensures.entries named)
 
 pub returns-in_ok-push-in-Ok : goal.returns-in_ok-push-in-Ok
@@ -26,14 +25,14 @@ returns-in_ok-push-in-Ok c path behind =
     rw (
       c.in_ok-push-in-Ok.ensures.items,
       c.in-Some.ensures.items,
-      entries_push es c.in-Some.key (views.Dict c.in-Ok.inner),
-      entries_push es c.in-Some.key c.in-Some.value,
+      entries_push _ _ _,
+      entries_push _ _ _,
       data_of-Dict c.in-Ok.inner,
       c.in-Ok.ensures.entries,
     ) refl in
     rw (same, c.new-in-Ok.ensures.items, c.in-Some.ensures.items)
-    (opened_other c.args.name.now path es c.in-Some.key c.in-Some.value (rw c.in-Some.ensures.items at behind)
-    (λ inner seen named. false≢true (c.if-eq.ensures ∙ rw (c.as_slice.ensures.value) ((bytes_eq-Decides c.in-Some.key.items c.args.name.now).1 named))))
+    (opened_other _ _ _ _ _ (rw c.in-Some.ensures.items at behind)
+    (λ inner seen named. false≢true (c.if-eq.ensures ∙ rw (c.as_slice.ensures.value) ((bytes_eq-Decides _ _).1 named))))
 
 pub returns-in_ok-push-in-Err : goal.returns-in_ok-push-in-Err
 returns-in_ok-push-in-Err c path behind =
@@ -42,10 +41,10 @@ returns-in_ok-push-in-Err c path behind =
     rw (
       c.in_ok-push-in-Err.ensures.items,
       c.in-Some.ensures.items,
-      entries_push es c.in-Some.key c.in-Err.other,
-      entries_push es c.in-Some.key c.in-Some.value,
+      entries_push _ _ _,
+      entries_push _ _ _,
       c.in-Err.ensures.back,
     ) refl in
     rw (same, c.new-in-Err.ensures.items, c.in-Some.ensures.items)
-    (opened_other c.args.name.now path es c.in-Some.key c.in-Some.value (rw c.in-Some.ensures.items at behind)
+    (opened_other _ _ _ _ _ (rw c.in-Some.ensures.items at behind)
     (λ inner seen named. c.in-Err.ensures.other inner seen))

@@ -3,28 +3,28 @@ use Rattle.std.proofs.lemmas.List.{length-map}
 use Rattle.bt_bencode.specs.Value.{entries_of}
 use Rattle.bt_meta.specs.Encode.{with_file, properties_made}
 use Rattle.bt_meta.specs.EncodeSteps.{given_at}
-use Rattle.bt_meta.proofs.EncodeTree.{grown_begun, grown_more, grown_found, lent_at, behind_here}
+use Rattle.bt_meta.proofs.EncodeValue.{grown_begun, grown_more, grown_found, lent_at, behind_here}
 use Rattle.bt_meta.proofs.encode.tree_of.Goals as goal
 
 pub loop-file-init : goal.loop-file-init
-loop-file-init c = rw (c.new-tree.ensures.items) (grown_begun (map given_at c.args.files.now))
+loop-file-init c = rw (c.new-tree.ensures.items) (grown_begun _)
 
 pub folder_with-requires : goal.folder_with-requires
 folder_with-requires c =
     let m = c.file-item.result in
     let i = c.loop-file.file-index in
-    rw (c.deref.ensures.value) (behind_here c.args.files.now i m (entries_of c.loop-file.tree.items) c.loop-file-test.true c.file-item.is c.loop-file.invariant)
+    rw (c.deref.ensures.value) (behind_here _ i m _ c.loop-file-test.true c.file-item.is c.loop-file.invariant)
 
 pub loop-file-preserved : goal.loop-file-preserved
 loop-file-preserved c =
     let m = c.file-item.result in
     let i = c.loop-file.file-index in
-    let lt : i < length (map given_at c.args.files.now) = rw (length-map c.args.files.now given_at) c.loop-file-test.true in
+    let lt : i < length (map given_at c.args.files.now) = rw (length-map _ _) c.loop-file-test.true in
     let put : entries_of c.in_ok-tree.tree.items ≡ with_file (given_at m).path (properties_made (given_at m)) (entries_of c.loop-file.tree.items) =
     c.in_ok-tree.ensures ∙ rw (c.deref.ensures.value, c.in_ok-properties_of.ensures) refl in
-    rw put (grown_more (map given_at c.args.files.now) i (given_at m) (entries_of c.loop-file.tree.items) c.requires.tree_paths c.requires.named lt
-    (lent_at c.args.files.now i m c.loop-file-test.true c.file-item.is) c.loop-file.invariant)
+    rw put (grown_more _ i _ _ c.requires.tree_paths c.requires.named lt
+    (lent_at _ i m c.loop-file-test.true c.file-item.is) c.loop-file.invariant)
 
 pub returns : goal.returns
-returns c = grown_found (map given_at c.args.files.now) c.loop-file.file-index (entries_of c.loop-file.tree.items) c.loop-file.invariant
-    (rw (length-map c.args.files.now given_at) (omega (arith, c.loop-file-test.false)))
+returns c = grown_found _ _ _ c.loop-file.invariant
+    (rw (length-map _ _) (omega (arith, c.loop-file-test.false)))

@@ -13,4 +13,4 @@ some_is (Some v) = refl
 
 pub returns : goal.returns
 unfolding has_key
-returns c = c.is_some.ensures ∙ some_is c.field.result ∙ ap is_some c.field.ensures
+returns c = c.is_some.ensures ∙ some_is _ ∙ ap is_some c.field.ensures

@@ -8,5 +8,5 @@ use Rattle.bt_meta.proofs.fields.is_single.Goals as goal
 
 pub returns-in-Dict : goal.returns-in-Dict
 returns-in-Dict c =
-    ap (λ es. length es == 1) c.as_slice.ensures.value ∙ single_entry c.in-Dict.entries.items
+    ap (λ es. length es == 1) c.as_slice.ensures.value ∙ single_entry _
     ∙ sym (ap is_single (ap data_of c.in-Dict.is ∙ data_of-Dict c.in-Dict.entries))

@@ -6,7 +6,7 @@ use Rattle.bt_bencode.specs.Value.{dictionary, entries_of}
 use Rattle.bt_meta.specs.Files.{file_of}
 use Rattle.bt_meta.specs.declared.torrent.FileEntry.{FileEntry}
 use Rattle.bt_meta.specs.LayerSteps.{with_layer, layer_fault}
-use Rattle.bt_meta.proofs.LayerChecks.{unchanged_item, changed_more, all_changed, faultless_more, refused_at, short_at}
+use Rattle.bt_meta.proofs.FileLayers.{unchanged_item, changed_more, all_changed, faultless_more, refused_at, short_at}
 use Rattle.bt_meta.proofs.layers.add_layers_of.Goals as goal
 
 pub loop-file-init : goal.loop-file-init
@@ -16,8 +16,8 @@ pub add_layer-requires-clause-short : goal.add_layer-requires-clause-short
 add_layer-requires-clause-short c =
     let less : c.loop-file.file-index < length c.args.files.now = c.loop-file-test.true in
     let lt : c.loop-file.file-index < length c.loop-file.files = omega arith in
-    let item = unchanged_item file_of _ c.loop-file.file-index c.args.files.now c.loop-file.files c.file-item.result lt less c.file-item.is c.loop-file.invariant.changed in
-    rw (← item, c.file-item.is) at (short_at c.args.files.now c.loop-file.file-index c.file-item.result less c.requires.short)
+    let item = unchanged_item file_of _ _ c.args.files.now c.loop-file.files c.file-item.result lt less c.file-item.is c.loop-file.invariant.changed in
+    rw (← item, c.file-item.is) at (short_at c.args.files.now _ c.file-item.result less c.requires.short)
 
 pub returns-in_err-add_layer-clause-refused : goal.returns-in_err-add_layer-clause-refused
 returns-in_err-add_layer-clause-refused c =
@@ -37,19 +37,18 @@ loop-file-preserved c =
     let e = c.file-item.result in
     let layers = dictionary (entries_of c.args.entries.now) in
     let W = with_layer c.args.piece_length layers in
-    let item = unchanged_item file_of W c.loop-file.file-index c.args.files.now c.loop-file.files e lt less c.file-item.is c.loop-file.invariant.changed in
+    let item = unchanged_item file_of W _ c.args.files.now c.loop-file.files e lt less c.file-item.is c.loop-file.invariant.changed in
     record {
-      changed = changed_more file_of W c.loop-file.file-index c.args.files.now c.loop-file.files e lt less c.file-item.is c.loop-file.invariant.changed c.add_layer.new.file
+      changed = changed_more file_of W _ c.args.files.now c.loop-file.files e lt less c.file-item.is c.loop-file.invariant.changed _
           (c.in_ok-add_layer.ensures.whole ∙ ap (λ f. with_layer c.args.piece_length layers (file_of f)) (sym c.file-item.is));
       faultless = faultless_more (λ (f : FileEntry). layer_fault c.args.piece_length layers
-          (file_of f)) c.loop-file.file-index c.args.files.now e less item c.loop-file.invariant.faultless
+          (file_of f)) _ c.args.files.now e less item c.loop-file.invariant.faultless
           (ap (λ f. layer_fault c.args.piece_length layers (file_of f)) c.file-item.is ∙ c.in_ok-add_layer.ensures.faultless);
     }
 
 pub returns-clause-whole : goal.returns-clause-whole
 returns-clause-whole c =
-    all_changed file_of (with_layer c.args.piece_length
-    (dictionary (entries_of c.args.entries.now))) c.loop-file.file-index c.args.files.now c.loop-file.files (omega arith)
+    all_changed _ _ _ _ _ (omega arith)
     (omega arith) c.loop-file.invariant.changed
 
 pub returns-clause-faultless : goal.returns-clause-faultless

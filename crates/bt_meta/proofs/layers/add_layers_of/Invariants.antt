@@ -3,7 +3,7 @@ use Rattle.bt_bencode.specs.Value.{dictionary, entries_of}
 use Rattle.bt_meta.specs.Files.{file_of}
 use Rattle.bt_meta.specs.Faults.{first_of}
 use Rattle.bt_meta.specs.LayerSteps.{with_layer, layer_fault}
-use Rattle.bt_meta.proofs.LayerChecks.{ChangedBelow}
+use Rattle.bt_meta.proofs.FileLayers.{ChangedBelow}
 use Rattle.bt_meta.proofs.layers.add_layers_of.Given as goal
 
 abbrev pub invariant-loop-file : goal.invariant-loop-file

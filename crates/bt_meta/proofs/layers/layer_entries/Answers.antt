@@ -1,17 +1,16 @@
-use Rattle.bt_bencode.specs.Value.{data_of, entries_of}
 use Rattle.bt_meta.proofs.Dictionaries.{layers_ascend, layers_strings, layers_absent, nothing_ascends}
 use Rattle.bt_meta.proofs.layers.layer_entries.Goals as goal
 
 pub returns-in-Some-clause-strings : goal.returns-in-Some-clause-strings
 returns-in-Some-clause-strings c =
-    λ key. layers_strings (data_of c.args.torrent.now) (data_of c.in-Some.layers.now) (entries_of c.entries.result.now) c.in-Some.ensures c.entries.ensures key
+    λ key. layers_strings _ _ _ c.in-Some.ensures c.entries.ensures _
 
 pub returns-in-Some-clause-ascending : goal.returns-in-Some-clause-ascending
 returns-in-Some-clause-ascending c =
-    layers_ascend (data_of c.args.torrent.now) (data_of c.in-Some.layers.now) (entries_of c.entries.result.now) c.in-Some.ensures c.entries.ensures c.requires
+    layers_ascend _ _ _ c.in-Some.ensures c.entries.ensures c.requires
 
 pub returns-in-None-clause-strings : goal.returns-in-None-clause-strings
-returns-in-None-clause-strings c = λ key. layers_absent (data_of c.args.torrent.now) key c.in-None.ensures
+returns-in-None-clause-strings c = λ key. layers_absent _ _ c.in-None.ensures
 
 pub returns-in-None-clause-ascending : goal.returns-in-None-clause-ascending
 returns-in-None-clause-ascending c = nothing_ascends

@@ -3,12 +3,10 @@ use Rattle.std.proofs.lemmas.Result.{err_from_is_err_and}
 use Rattle.bt_bencode.specs.Spelling.{spelling_of}
 use Rattle.bt_bencode.specs.Doc.{IsCanonical}
 use Rattle.bt_bencode.specs.Value.{data_of}
-use Rattle.bt_meta.specs.Fields.{no_dictionary}
 use Rattle.bt_meta.specs.Faults.{first_info_fault}
 use Rattle.bt_meta.specs.Reader.{too_long, no_spelling}
 use Rattle.bt_meta.proofs.ReadRefusals.{value_refused}
-use Rattle.bt_meta.specs.Torrent.{metainfo_of}
-use Rattle.bt_meta.proofs.ReadLawful.{ascends, info_keeps_to}
+use Rattle.bt_meta.proofs.ReadFiles.{ascends, info_keeps_to}
 use Rattle.bt_meta.proofs.reader.read_info.Goals as goal
 
 pub returns-then-bytes-gt-MAX_TEXT_LENGTH-clause-refused : goal.returns-then-bytes-gt-MAX_TEXT_LENGTH-clause-refused
@@ -30,5 +28,5 @@ pub returns-clause-ascending : goal.returns-clause-ascending
 returns-clause-ascending c =
     let same = ap data_of c.value.ensures.same in
     let canonical : IsCanonical (data_of c.value.result.now) = rw same c.value.ensures.canonical in
-    ascends (metainfo_of (data_of c.value.result.now) no_dictionary) c.info_in.result
-    (info_keeps_to (data_of c.value.result.now) canonical.keys) c.info_in.ensures.faultless c.info_in.ensures.described
+    ascends _ c.info_in.result
+    (info_keeps_to _ canonical.keys) c.info_in.ensures.faultless c.info_in.ensures.described

@@ -3,11 +3,10 @@ use Rattle.std.proofs.lemmas.Result.{err_from_is_err_and}
 use Rattle.bt_bencode.specs.Spelling.{spelling_of}
 use Rattle.bt_bencode.specs.Doc.{IsCanonical}
 use Rattle.bt_bencode.specs.Value.{data_of}
-use Rattle.bt_meta.specs.Faults.{first_fault, info_of, layers_of}
+use Rattle.bt_meta.specs.Faults.{first_fault}
 use Rattle.bt_meta.specs.Reader.{too_long, no_spelling}
 use Rattle.bt_meta.proofs.ReadRefusals.{value_refused}
-use Rattle.bt_meta.specs.Torrent.{metainfo_of}
-use Rattle.bt_meta.proofs.ReadLawful.{ascends, torrent_keeps_to}
+use Rattle.bt_meta.proofs.ReadFiles.{ascends, torrent_keeps_to}
 use Rattle.bt_meta.proofs.reader.read_torrent.Goals as goal
 
 pub returns-then-bytes-gt-MAX_TEXT_LENGTH-clause-refused : goal.returns-then-bytes-gt-MAX_TEXT_LENGTH-clause-refused
@@ -29,5 +28,5 @@ pub returns-clause-ascending : goal.returns-clause-ascending
 returns-clause-ascending c =
     let same = ap data_of c.value.ensures.same in
     let canonical : IsCanonical (data_of c.value.result.now) = rw same c.value.ensures.canonical in
-    ascends (metainfo_of (info_of (data_of c.value.result.now)) (layers_of (data_of c.value.result.now))) c.torrent_in.result
-    (torrent_keeps_to (data_of c.value.result.now) canonical.keys) c.torrent_in.ensures.faultless c.torrent_in.ensures.described
+    ascends _ c.torrent_in.result
+    (torrent_keeps_to _ canonical.keys) c.torrent_in.ensures.faultless c.torrent_in.ensures.described

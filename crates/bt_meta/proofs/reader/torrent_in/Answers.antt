@@ -6,12 +6,12 @@ use Rattle.bt_meta.specs.Faults.{layers_of}
 use Rattle.bt_meta.specs.Torrent.{metainfo_of}
 use Rattle.bt_meta.specs.LayerSteps.{with_layer}
 use Rattle.bt_meta.proofs.ReadHead.{no_info, info_is, torrent_info_fault, info_head_fault, tree_refuses, torrent_layers, refuses_as, metainfo_is}
-use Rattle.bt_meta.proofs.ReadLawful.{keeps_to, torrent_keeps_to}
-use Rattle.bt_meta.proofs.LayerFiles.{files_with_layers, pieces_after}
+use Rattle.bt_meta.proofs.ReadFiles.{keeps_to, torrent_keeps_to}
+use Rattle.bt_meta.proofs.FileLayers.{files_with_layers, pieces_after}
 use Rattle.bt_meta.proofs.reader.torrent_in.Goals as goal
 
 pub returns-in_default-clause-refused : goal.returns-in_default-clause-refused
-returns-in_default-clause-refused c = inr (no_info (data_of c.args.value.now) c.in_default.ensures)
+returns-in_default-clause-refused c = inr (no_info _ c.in_default.ensures)
 
 pub returns-in_err-head-clause-refused : goal.returns-in_err-head-clause-refused
 returns-in_err-head-clause-refused c =
@@ -37,19 +37,19 @@ torrent_of-requires-clause-lawful c =
     let tree = data_of c.in_ok-head.head.tree.now in
     let all = map file_of c.add_layers.new.files.items in
     let files : all ≡ files_of pl layers tree = c.in_ok-add_layers.ensures.whole ∙ ap (map (with_layer pl layers)) c.in_ok-listing.ensures.files
-    ∙ files_with_layers pl layers tree in
+    ∙ files_with_layers pl _ tree in
     let faultless = torrent_layers d c.in-Some.ensures c.in_ok-head.ensures c.in_ok-listing.ensures ∙ c.in_ok-add_layers.ensures.faultless in
-    keeps_to (ap (λ i. metainfo_of i layers) (info_is d c.in-Some.ensures) ∙ metainfo_is layers all c.in_ok-head.ensures files)
+    keeps_to (ap (λ i. metainfo_of i layers) (info_is d c.in-Some.ensures) ∙ metainfo_is _ all c.in_ok-head.ensures files)
     (torrent_keeps_to d c.requires faultless)
 
 pub torrent_of-requires-clause-counted : goal.torrent_of-requires-clause-counted
 torrent_of-requires-clause-counted c =
-    pieces_after c.in_ok-head.head.piece_length
-    (layers_of (data_of c.args.value.now)) c.in_ok-listing.listing.pieces c.in_ok-listing.listing.files.items c.add_layers.new.files.items c.in_ok-listing.ensures.pieces
+    pieces_after _
+    _ _ _ _ c.in_ok-listing.ensures.pieces
     c.in_ok-add_layers.ensures.whole
 
 pub returns-clause-faultless : goal.returns-clause-faultless
-returns-clause-faultless c = torrent_layers (data_of c.args.value.now) c.in-Some.ensures c.in_ok-head.ensures c.in_ok-listing.ensures
+returns-clause-faultless c = torrent_layers _ c.in-Some.ensures c.in_ok-head.ensures c.in_ok-listing.ensures
     ∙ c.in_ok-add_layers.ensures.faultless
 
 pub returns-clause-described : goal.returns-clause-described
@@ -59,6 +59,6 @@ returns-clause-described c =
     let pl = c.in_ok-head.head.piece_length in
     let tree = data_of c.in_ok-head.head.tree.now in
     c.in_ok-torrent.ensures
-    ∙ sym (metainfo_is layers (map file_of c.add_layers.new.files.items) c.in_ok-head.ensures
-    (c.in_ok-add_layers.ensures.whole ∙ ap (map (with_layer pl layers)) c.in_ok-listing.ensures.files ∙ files_with_layers pl layers tree))
+    ∙ sym (metainfo_is layers _ c.in_ok-head.ensures
+    (c.in_ok-add_layers.ensures.whole ∙ ap (map (with_layer pl layers)) c.in_ok-listing.ensures.files ∙ files_with_layers pl _ tree))
     ∙ ap (λ i. metainfo_of i layers) (sym (info_is d c.in-Some.ensures))

@@ -1,60 +1,46 @@
-use Rattle.std.proofs.Common.{◌≡◌, take, sym, ap, ◌∙◌, arith}
+use Rattle.std.proofs.Common.{◌≡◌, take, arith}
 use Rattle.std.proofs.lemmas.List.{take_all}
 use Rattle.std.proofs.lemmas.Result.{err_from_is_err_and}
-use Rattle.bt_bencode.specs.Value.{dictionary, data_of, entries_of}
-use Rattle.bt_bencode.proofs.ValueData.{data_of-Dict}
 use Rattle.bt_meta.specs.FilePath.{folder_elements}
-use Rattle.bt_meta.proofs.Dictionaries.{below_entries, nothing_below, no_dictionary_is}
-use Rattle.bt_meta.proofs.WalkJoins.{passes_nothing, entries_first, folder_stops, inner_stops, inner_passes, folder_passes_more}
+use Rattle.bt_meta.proofs.Dictionaries.{entries_below, nothing_below, no_dictionary_is}
+use Rattle.bt_meta.proofs.TreeWalk.{passes_nothing, entries_first, folder_stops, inner_stops, inner_passes, folder_passes_more}
 use Rattle.bt_meta.proofs.walk.+walk_folder.Goals as goal
 
 pub returns-in-Int-clause-passed : goal.returns-in-Int-clause-passed
-returns-in-Int-clause-passed t c = rw (nothing_below _ _ (no_dictionary_is c.args.folder.now c.in-Int.is)) passes_nothing
+returns-in-Int-clause-passed t c = rw (nothing_below _ _ (no_dictionary_is _ c.in-Int.is)) passes_nothing
 
 pub returns-in-Int-2-clause-passed : goal.returns-in-Int-2-clause-passed
-returns-in-Int-2-clause-passed t c = rw (nothing_below _ _ (no_dictionary_is c.args.folder.now c.in-Int.is)) passes_nothing
+returns-in-Int-2-clause-passed t c = rw (nothing_below _ _ (no_dictionary_is _ c.in-Int.is)) passes_nothing
 
 pub returns-in-Int-3-clause-passed : goal.returns-in-Int-3-clause-passed
-returns-in-Int-3-clause-passed t c = rw (nothing_below _ _ (no_dictionary_is c.args.folder.now c.in-Int.is)) passes_nothing
+returns-in-Int-3-clause-passed t c = rw (nothing_below _ _ (no_dictionary_is _ c.in-Int.is)) passes_nothing
 
 pub loop-key-init : goal.loop-key-init
-loop-key-init t c = rw (entries_first (folder_elements c.args.path.now) c.deref-key-items.result.now) passes_nothing
+loop-key-init t c = rw (entries_first _ _) passes_nothing
 
 pub returns-in_err-inner-clause-stopped : goal.returns-in_err-inner-clause-stopped
 returns-in_err-inner-clause-stopped t c =
     let q = err_from_is_err_and c.from_residual.result c.from_residual.ensures.1 in
-    let path = folder_elements c.args.path.now in
-    let es = c.deref-key-items.result.now in
-    let folder : data_of c.args.folder.now ≡ dictionary (entries_of es) = ap data_of c.in-Dict.is ∙ data_of-Dict c.in-Dict.entries
-    ∙ ap (λ xs. dictionary (entries_of xs)) (sym c.deref-key-items.ensures.value) in
-    rw (q.1, q.2, below_entries path (data_of c.args.folder.now) (entries_of es) folder)
-    (folder_stops path es c.loop-key.key-index c.loop-key-item.result c.loop-key-test.true c.loop-key-item.is c.loop-key.invariant
-    (rw (← c.deref.ensures.value) c.in_err-inner.ensures))
+    rw (q.1, q.2, entries_below (folder_elements c.args.path.now) _ _ _ c.in-Dict.is c.deref-key-items.ensures.value)
+    (folder_stops _ _ _ _ c.loop-key-test.true c.loop-key-item.is c.loop-key.invariant (rw (← c.deref.ensures.value) c.in_err-inner.ensures))
 
 pub returns-in_err-walk_folder-clause-stopped : goal.returns-in_err-walk_folder-clause-stopped
 returns-in_err-walk_folder-clause-stopped t c =
     let q = err_from_is_err_and c.from_residual-in_err-walk_folder.result c.from_residual-in_err-walk_folder.ensures.1 in
-    let path = folder_elements c.args.path.now in
-    let es = c.deref-key-items.result.now in
-    let folder : data_of c.args.folder.now ≡ dictionary (entries_of es) = ap data_of c.in-Dict.is ∙ data_of-Dict c.in-Dict.entries
-    ∙ ap (λ xs. dictionary (entries_of xs)) (sym c.deref-key-items.ensures.value) in
     let entered = rw (c.deref.ensures.value, c.in-Some.is) at c.in_ok-inner.ensures in
-    rw (q.1, q.2, below_entries path (data_of c.args.folder.now) (entries_of es) folder)
-    (folder_stops path es c.loop-key.key-index c.loop-key-item.result c.loop-key-test.true c.loop-key-item.is c.loop-key.invariant
+    rw (q.1, q.2, entries_below (folder_elements c.args.path.now) _ _ _ c.in-Dict.is c.deref-key-items.ensures.value)
+    (folder_stops _ _ _ c.loop-key-item.result c.loop-key-test.true c.loop-key-item.is c.loop-key.invariant
     (inner_stops entered.1 entered.0 (rw c.in_ok-new.ensures.ok at c.in_err-walk_folder.ensures.stopped)))
 
 pub returns-clause-passed : goal.returns-clause-passed
 returns-clause-passed t c =
-    let path = folder_elements c.args.path.now in
     let es = c.deref-key-items.result.now in
-    let folder : data_of c.args.folder.now ≡ dictionary (entries_of es) = ap data_of c.in-Dict.is ∙ data_of-Dict c.in-Dict.entries
-    ∙ ap (λ xs. dictionary (entries_of xs)) (sym c.deref-key-items.ensures.value) in
-    let whole : take c.loop-key.key-index es ≡ es = take_all c.loop-key.key-index es (omega arith) in
-    rw (below_entries path (data_of c.args.folder.now) (entries_of es) folder) (rw whole at c.loop-key.invariant)
+    let whole : take c.loop-key.key-index es ≡ es = take_all _ es (omega arith) in
+    rw (entries_below (folder_elements c.args.path.now) _ _ _ c.in-Dict.is c.deref-key-items.ensures.value) (rw whole at c.loop-key.invariant)
 
 pub loop-key-preserved : goal.loop-key-preserved
 loop-key-preserved t c =
-    let more = folder_passes_more (folder_elements c.args.path.now) c.deref-key-items.result.now c.loop-key.key-index c.loop-key-item.result c.loop-key-test.true c.loop-key-item.is c.loop-key.invariant in
+    let more = folder_passes_more _ _ _ _ c.loop-key-test.true c.loop-key-item.is c.loop-key.invariant in
     elim c.match-branch-2.branch [
       | goal.in-Some+in_ok-new+in_ok-walk_folder+in-Some-1 w ↦
           let entered = rw (c.deref.ensures.value, w.in-Some.is) at c.in_ok-inner.ensures in

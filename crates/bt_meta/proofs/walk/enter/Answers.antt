@@ -1,69 +1,57 @@
 use Rattle.std.proofs.Common.{◌∷◌, ◌++◌, [], ap, ◌∙◌, arith}
 use Rattle.std.proofs.lemmas.Result.{err_from_is_err_and}
 use Rattle.bt_bencode.specs.Value.{data_of}
-use Rattle.bt_meta.specs.Faults.{is_path_element}
 use Rattle.bt_meta.specs.FilePath.{folder_elements}
 use Rattle.bt_meta.proofs.Choices.{test_of_some, test_of_none}
 use Rattle.bt_meta.proofs.Dictionaries.{empty_key, key_entries}
-use Rattle.bt_meta.proofs.WalkJoins.{passes_nothing}
-use Rattle.bt_meta.proofs.WalkAddFile.{no_node_stops, bad_name_stops, folder_many, folder_passes, entry_stops, file_entry, node_is, file_entered, folder_entered}
+use Rattle.bt_meta.proofs.TreeWalk.{passes_nothing, no_node_stops, bad_name_stops, folder_many, folder_passes, entry_stops, file_entry, node_is, file_entered}
+use Rattle.bt_meta.proofs.TreeWalk.{folder_entered}
 use Rattle.bt_meta.proofs.walk.enter.Goals as goal
 
 pub returns-then-is_empty : goal.returns-then-is_empty
-returns-then-is_empty c = rw (empty_key (folder_elements c.args.path.now) c.args.key.now (data_of c.args.value.now) c.if-is_empty.ensures) passes_nothing
+returns-then-is_empty c = rw (empty_key _ _ _ c.if-is_empty.ensures) passes_nothing
 
 pub returns-in_default : goal.returns-in_default
 returns-in_default c =
-    let path = folder_elements c.args.path.now in
-    let key = c.args.key.now in
     let d = data_of c.args.value.now in
-    entry_stops path key d (key_entries path key d c.if-is_empty.ensures) (no_node_stops path key d c.in_default.ensures)
+    entry_stops _ _ d (key_entries _ _ d c.if-is_empty.ensures) (no_node_stops _ _ d c.in_default.ensures)
 
 pub returns-in_default-path_element : goal.returns-in_default-path_element
 returns-in_default-path_element c =
-    let path = folder_elements c.args.path.now in
-    let key = c.args.key.now in
     let d = data_of c.args.value.now in
-    entry_stops path key d (key_entries path key d c.if-is_empty.ensures)
-    (bad_name_stops path key d (node_is d c.in-Some.node c.in-Some.ensures) (test_of_none (is_path_element key) key c.in_default-path_element.ensures))
+    entry_stops _ _ d (key_entries _ _ d c.if-is_empty.ensures)
+    (bad_name_stops _ _ d (node_is d _ c.in-Some.ensures) (test_of_none _ _ c.in_default-path_element.ensures))
 
 pub returns-in_err-add_file-in-File : goal.returns-in_err-add_file-in-File
 returns-in_err-add_file-in-File c =
-    let path = folder_elements c.args.path.now in
-    let key = c.args.key.now in
     let d = data_of c.args.value.now in
     let q = err_from_is_err_and c.from_residual.result c.from_residual.ensures.1 in
-    let named = test_of_some (is_path_element key) key c.in-Some-path_element.name.now c.in-Some-path_element.ensures in
+    let named = test_of_some _ _ _ c.in-Some-path_element.ensures in
     let node = rw c.in-File.is at c.in-Some.ensures in
-    rw (q.1, q.2) (entry_stops path key d (key_entries path key d c.if-is_empty.ensures)
-    (c.in_err-add_file-in-File.ensures.stopped _ (file_entry path key d named.1 node.0 named.0 node.1 node.2)))
+    rw (q.1, q.2) (entry_stops (folder_elements c.args.path.now) c.args.key.now d (key_entries _ _ d c.if-is_empty.ensures)
+    (c.in_err-add_file-in-File.ensures.stopped _ (file_entry _ _ d named.1 node.0 named.0 node.1 node.2)))
 
 pub returns-then-folder_length-ge-MAX_PATH_LENGTH : goal.returns-then-folder_length-ge-MAX_PATH_LENGTH
 returns-then-folder_length-ge-MAX_PATH_LENGTH c =
-    let path = folder_elements c.args.path.now in
-    let key = c.args.key.now in
     let d = data_of c.args.value.now in
-    let named = test_of_some (is_path_element key) key c.in-Some-path_element.name.now c.in-Some-path_element.ensures in
+    let named = test_of_some _ _ _ c.in-Some-path_element.ensures in
     let node = rw c.in-Folder.is at c.in-Some.ensures in
-    entry_stops path key d (key_entries path key d c.if-is_empty.ensures)
-    (folder_many path key d node.0 named.0 node.1 (omega (arith, c.if-folder_length-ge-MAX_PATH_LENGTH.true)))
+    entry_stops _ _ d (key_entries _ _ d c.if-is_empty.ensures)
+    (folder_many _ _ d node.0 named.0 node.1 (omega (arith, c.if-folder_length-ge-MAX_PATH_LENGTH.true)))
 
 pub returns-in_ok-add_file-in-File : goal.returns-in_ok-add_file-in-File
 returns-in_ok-add_file-in-File c =
-    let path = folder_elements c.args.path.now in
-    let key = c.args.key.now in
     let d = data_of c.args.value.now in
-    let named = test_of_some (is_path_element key) key c.in-Some-path_element.name.now c.in-Some-path_element.ensures in
+    let named = test_of_some _ _ _ c.in-Some-path_element.ensures in
     let node = rw c.in-File.is at c.in-Some.ensures in
-    file_entered path key d (key_entries path key d c.if-is_empty.ensures) (node.3 (path ++ key ∷ []))
-    (c.in_ok-add_file-in-File.ensures.passed _ (file_entry path key d named.1 node.0 named.0 node.1 node.2))
+    file_entered _ _ d (key_entries _ _ d c.if-is_empty.ensures) (node.3 _)
+    (c.in_ok-add_file-in-File.ensures.passed _ (file_entry _ _ d named.1 node.0 named.0 node.1 node.2))
 
 pub returns-in_ok-inside-in-Folder : goal.returns-in_ok-inside-in-Folder
 returns-in_ok-inside-in-Folder c =
-    let path = folder_elements c.args.path.now in
-    let key = c.args.key.now in
     let d = data_of c.args.value.now in
-    let named = test_of_some (is_path_element key) key c.in-Some-path_element.name.now c.in-Some-path_element.ensures in
+    let named = test_of_some _ _ _ c.in-Some-path_element.ensures in
     let node = rw c.in-Folder.is at c.in-Some.ensures in
-    folder_entered path key d (key_entries path key d c.if-is_empty.ensures) (c.in_ok-inside-in-Folder.ensures ∙ ap (λ n. path ++ n ∷ []) named.1)
-    (folder_passes path key d node.0 named.0 node.1 (omega (arith, c.if-folder_length-ge-MAX_PATH_LENGTH.false)))
+    folder_entered _ _ d (key_entries _ _ d c.if-is_empty.ensures)
+    (c.in_ok-inside-in-Folder.ensures ∙ ap (λ n. folder_elements c.args.path.now ++ n ∷ []) named.1)
+    (folder_passes _ _ d node.0 named.0 node.1 (omega (arith, c.if-folder_length-ge-MAX_PATH_LENGTH.false)))

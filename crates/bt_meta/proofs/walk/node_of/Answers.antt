@@ -4,13 +4,13 @@ use Rattle.bt_meta.proofs.Dictionaries.{not_node, folder_node, crowded_node, fil
 use Rattle.bt_meta.proofs.walk.node_of.Goals as goal
 
 pub returns-then-not-is_dictionary : goal.returns-then-not-is_dictionary
-returns-then-not-is_dictionary c = not_node (data_of c.args.value.now) (sym c.if-not-is_dictionary.ensures)
+returns-then-not-is_dictionary c = not_node _ (sym c.if-not-is_dictionary.ensures)
 
 pub returns-then-not-has : goal.returns-then-not-has
-returns-then-not-has c = (folder_node (data_of c.args.value.now) (sym c.if-not-is_dictionary.ensures) (sym c.if-not-has.ensures), sym c.if-not-has.ensures)
+returns-then-not-has c = (folder_node _ (sym c.if-not-is_dictionary.ensures) (sym c.if-not-has.ensures), sym c.if-not-has.ensures)
 
 pub returns-then-not-is_single : goal.returns-then-not-is_single
-returns-then-not-is_single c = crowded_node (data_of c.args.value.now) (sym c.if-not-is_dictionary.ensures) (sym c.if-not-has.ensures)
+returns-then-not-is_single c = crowded_node _ (sym c.if-not-is_dictionary.ensures) (sym c.if-not-has.ensures)
     (sym c.if-not-is_single.ensures)
 
 pub returns-in-Some : goal.returns-in-Some
@@ -19,9 +19,9 @@ returns-in-Some c =
       file_node_is d (sym c.if-not-is_dictionary.ensures) (sym c.if-not-has.ensures) (sym c.if-not-is_single.ensures) c.in-Some.ensures,
       sym c.if-not-has.ensures,
       sym c.in-Some.ensures,
-      λ path. single_below path d (sym c.if-not-is_single.ensures) (sym c.if-not-has.ensures),
+      λ path. single_below _ d (sym c.if-not-is_single.ensures) (sym c.if-not-has.ensures),
     )
 
 pub returns-in-None : goal.returns-in-None
-returns-in-None c = empty_node (data_of c.args.value.now) (sym c.if-not-is_dictionary.ensures) (sym c.if-not-has.ensures)
+returns-in-None c = empty_node _ (sym c.if-not-is_dictionary.ensures) (sym c.if-not-has.ensures)
     (sym c.if-not-is_single.ensures) c.in-None.ensures

@@ -1,5 +1,5 @@
 use Rattle.std.proofs.Common.{◌∙◌}
-use Rattle.bt_meta.proofs.MakeNeighbours.{begins_by_bytes}
+use Rattle.bt_meta.proofs.MakeFiles.{begins_by_bytes}
 use Rattle.bt_meta.proofs.writer.begins.Goals as goal
 
 pub returns : goal.returns

@@ -1,4 +1,4 @@
-use Rattle.bt_meta.proofs.MakeTally.{Taking}
+use Rattle.bt_meta.proofs.MakeFiles.{Taking}
 use Rattle.bt_meta.proofs.writer.check_files.Given as goal
 
 abbrev pub invariant-loop-file : goal.invariant-loop-file

@@ -1,15 +1,13 @@
-use Rattle.std.proofs.Common.{arith, sym, ◌∙◌, refl, map}
-use Rattle.bt_meta.specs.EncodeSteps.{given_at}
-use Rattle.bt_meta.proofs.MakeNeighbours.{apart_begun, apart_more, apart_found}
-use Rattle.bt_meta.proofs.MakeOverlap.{overlap_found, none_overlap}
+use Rattle.std.proofs.Common.{arith, sym, ◌∙◌, refl}
+use Rattle.bt_meta.proofs.MakeFiles.{apart_begun, apart_more, apart_found, overlap_found, none_overlap}
 use Rattle.bt_meta.proofs.writer.has_overlap.Goals as goal
 
 pub loop-i-init : goal.loop-i-init
-loop-i-init c = apart_begun c.args.files.now
+loop-i-init c = apart_begun _
 
 pub loop-i-preserved : goal.loop-i-preserved
 loop-i-preserved c =
-    apart_more c.args.files.now c.loop-i.i c.index-files-i.result c.index-files-i-in-loop-i.result c.loop-i.auto.i c.loop-i-test.true c.index-files-i.is c.index-files-i-in-loop-i.is
+    apart_more _ _ _ _ c.loop-i.auto.i c.loop-i-test.true c.index-files-i.is c.index-files-i-in-loop-i.is
     (sym (c.if-begins.ensures ∙ rw (
       c.deref.ensures.value,
       c.deref-in-loop-i.ensures.value,
@@ -19,9 +17,9 @@ loop-i-preserved c =
 
 pub returns-then-begins : goal.returns-then-begins
 returns-then-begins c =
-    overlap_found c.args.files.now c.loop-i.i c.index-files-i.result c.index-files-i-in-loop-i.result c.loop-i.auto.i c.loop-i-test.true c.index-files-i.is c.index-files-i-in-loop-i.is
+    overlap_found _ _ _ _ c.loop-i.auto.i c.loop-i-test.true c.index-files-i.is c.index-files-i-in-loop-i.is
     (sym (c.if-begins.ensures ∙ rw (c.deref.ensures.value, c.deref-in-loop-i.ensures.value, ← c.index-files-i.is, ← c.index-files-i-in-loop-i.is) refl))
 
 pub returns : goal.returns
-returns c = none_overlap (map given_at c.args.files.now) c.requires
-    (apart_found c.args.files.now c.loop-i.i c.loop-i.invariant (omega (arith, c.loop-i-test.false)))
+returns c = none_overlap _ c.requires
+    (apart_found _ _ c.loop-i.invariant (omega (arith, c.loop-i-test.false)))

@@ -1,4 +1,4 @@
-use Rattle.bt_meta.proofs.MakeNeighbours.{AreApartTo}
+use Rattle.bt_meta.proofs.MakeFiles.{AreApartTo}
 use Rattle.bt_meta.proofs.writer.has_overlap.Given as goal
 
 abbrev pub invariant-loop-i : goal.invariant-loop-i

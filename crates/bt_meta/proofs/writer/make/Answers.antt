@@ -1,24 +1,22 @@
 use Rattle.std.proofs.Common.{◌≤◌, length, arith, ap, ◌∙◌, sym, map}
 use Rattle.std.proofs.lemmas.Result.{err_from_is_err_and}
 use Rattle.bt_bencode.specs.Spelling.{spelling_of}
-use Rattle.bt_meta.specs.GivenFiles.{given_of}
 use Rattle.bt_meta.specs.Limits.{max_text_length}
 use Rattle.bt_meta.specs.EncodeSteps.{given_at}
 use Rattle.bt_meta.specs.Writer.{no_memory, unlawful, overlap, too_long}
 use Rattle.bt_meta.specs.declared.writer.MakeError.TheVariants.{PieceLength, Count}
-use Rattle.bt_meta.proofs.MakeOverlap.{same_overlap}
-use Rattle.bt_meta.proofs.MadeGiven.{ordered_named, lent_short}
-use Rattle.bt_meta.proofs.MakeNeighbours.{tree_paths, length_refused, none_refused, files_refused, refused_as}
+use Rattle.bt_meta.proofs.MakeFiles.{same_overlap, tree_paths, length_refused, none_refused, files_refused, refused_as}
+use Rattle.bt_meta.proofs.MadeTree.{ordered_named, lent_short}
 use Rattle.bt_meta.proofs.MadeTorrent.{torrent_of_given}
 use Rattle.bt_meta.proofs.writer.make.Goals as goal
 
 pub returns-then-not-is_lawful_length-clause-refused : goal.returns-then-not-is_lawful_length-clause-refused
 returns-then-not-is_lawful_length-clause-refused c =
-    unlawful PieceLength (length_refused c.args.piece_length (map given_of c.args.files.now) c.if-not-is_lawful_length.ensures)
+    unlawful PieceLength (length_refused _ _ c.if-not-is_lawful_length.ensures)
 
 pub returns-then-is_empty-clause-refused : goal.returns-then-is_empty-clause-refused
 returns-then-is_empty-clause-refused c =
-    unlawful Count (none_refused c.args.piece_length c.args.files.now c.if-not-is_lawful_length.ensures c.if-is_empty.ensures)
+    unlawful Count (none_refused _ _ c.if-not-is_lawful_length.ensures c.if-is_empty.ensures)
 
 pub returns-in_err-check_files-clause-refused : goal.returns-in_err-check_files-clause-refused
 returns-in_err-check_files-clause-refused c =
@@ -31,30 +29,30 @@ has_overlap-requires c = rw (c.deref.ensures.value) c.in_ok-ordered.ensures.asce
 
 pub returns-then-has_overlap-clause-refused : goal.returns-then-has_overlap-clause-refused
 returns-then-has_overlap-clause-refused c =
-    overlap (files_refused c.args.piece_length c.args.files.now c.if-not-is_lawful_length.ensures c.if-is_empty.ensures ∙ c.in_ok-check_files.ensures.checked)
-    (same_overlap (map given_of c.args.files.now) _ _ c.in_ok-ordered.ensures.same (rw (c.deref.ensures.value) at c.if-has_overlap.ensures))
+    overlap (files_refused _ _ c.if-not-is_lawful_length.ensures c.if-is_empty.ensures ∙ c.in_ok-check_files.ensures.checked)
+    (same_overlap _ _ _ c.in_ok-ordered.ensures.same (rw (c.deref.ensures.value) at c.if-has_overlap.ensures))
 
 pub value_of-requires-clause-tree_paths : goal.value_of-requires-clause-tree_paths
 value_of-requires-clause-tree_paths c =
-    rw (c.deref-2.ensures.value) (tree_paths (map given_of c.args.files.now) _ c.in_ok-ordered.ensures
+    rw (c.deref-2.ensures.value) (tree_paths _ _ c.in_ok-ordered.ensures
     (rw (c.deref.ensures.value) at (sym c.if-has_overlap.ensures)))
 
 pub value_of-requires-clause-named : goal.value_of-requires-clause-named
 value_of-requires-clause-named c =
-    rw (c.deref-2.ensures.value) (ordered_named c.args.piece_length
-    (map given_of c.args.files.now) _ c.in_ok-check_files.ensures.checked c.in_ok-ordered.ensures)
+    rw (c.deref-2.ensures.value) (ordered_named _
+    _ _ c.in_ok-check_files.ensures.checked c.in_ok-ordered.ensures)
 
 pub value_of-requires-clause-short : goal.value_of-requires-clause-short
 value_of-requires-clause-short c =
-    rw (c.deref-2.ensures.value) (lent_short c.args.piece_length
-    (map given_of c.args.files.now) c.in_ok-ordered.ordered.items c.in_ok-check_files.ensures.checked c.in_ok-ordered.ensures)
+    rw (c.deref-2.ensures.value) (lent_short _
+    _ _ c.in_ok-check_files.ensures.checked c.in_ok-ordered.ensures)
 
 pub returns-then-len-gt-MAX_TEXT_LENGTH-clause-refused : goal.returns-then-len-gt-MAX_TEXT_LENGTH-clause-refused
 returns-then-len-gt-MAX_TEXT_LENGTH-clause-refused c =
     let value = rw (c.deref-2.ensures.value) at c.in_ok-value.ensures in
     let spelled = c.in_ok-text.ensures ∙ ap spelling_of value.made in
-    too_long (files_refused c.args.piece_length c.args.files.now c.if-not-is_lawful_length.ensures c.if-is_empty.ensures ∙ c.in_ok-check_files.ensures.checked)
-    (same_overlap (map given_of c.args.files.now) _ _ c.in_ok-ordered.ensures.same (rw (c.deref.ensures.value) at c.if-has_overlap.ensures))
+    too_long (files_refused _ c.args.files.now c.if-not-is_lawful_length.ensures c.if-is_empty.ensures ∙ c.in_ok-check_files.ensures.checked)
+    (same_overlap _ _ _ c.in_ok-ordered.ensures.same (rw (c.deref.ensures.value) at c.if-has_overlap.ensures))
     (record {
       ordered = map given_at c.in_ok-ordered.ordered.items;
       in_order = c.in_ok-ordered.ensures;
@@ -67,11 +65,11 @@ pub returns-clause-made : goal.returns-clause-made
 returns-clause-made c =
     let value = rw (c.deref-2.ensures.value) at c.in_ok-value.ensures in
     let ordered = map given_at c.in_ok-ordered.ordered.items in
-    let apart = tree_paths (map given_of c.args.files.now) ordered c.in_ok-ordered.ensures (rw (c.deref.ensures.value) at (sym c.if-has_overlap.ensures)) in
+    let apart = tree_paths _ ordered c.in_ok-ordered.ensures (rw (c.deref.ensures.value) at (sym c.if-has_overlap.ensures)) in
     let spelled = c.in_ok-text.ensures ∙ ap spelling_of value.made in
     let small : length c.in_ok-text.text.items ≤ max_text_length = omega arith in
     record {
-      faultless = files_refused c.args.piece_length c.args.files.now c.if-not-is_lawful_length.ensures c.if-is_empty.ensures
+      faultless = files_refused _ c.args.files.now c.if-not-is_lawful_length.ensures c.if-is_empty.ensures
           ∙ c.in_ok-check_files.ensures.checked;
       ordered = ordered;
       in_order = c.in_ok-ordered.ensures;
@@ -79,7 +77,7 @@ returns-clause-made c =
       layers = value.layers;
       layered = value.layered;
       spelled = spelled;
-      torrent = torrent_of_given c.args.name.now c.args.piece_length c.args.files.now ordered value.layers c.in_ok-text.text.items
+      torrent = torrent_of_given c.args.name.now _ _ ordered value.layers _
           (sym c.if-not-is_lawful_length.ensures)
           c.if-is_empty.ensures c.in_ok-check_files.ensures.checked c.in_ok-check_files.ensures.rooted c.in_ok-ordered.ensures apart value.layered small spelled;
       small = small;
@@ -87,7 +85,7 @@ returns-clause-made c =
 
 pub returns-clause-apart : goal.returns-clause-apart
 returns-clause-apart c =
-    same_overlap (map given_of c.args.files.now) _ _ c.in_ok-ordered.ensures.same (rw (c.deref.ensures.value) at c.if-has_overlap.ensures)
+    same_overlap _ _ _ c.in_ok-ordered.ensures.same (rw (c.deref.ensures.value) at c.if-has_overlap.ensures)
 
 pub returns-in_err-ordered-clause-refused : goal.returns-in_err-ordered-clause-refused
 returns-in_err-ordered-clause-refused c =

@@ -1,5 +1,5 @@
 use Rattle.std.proofs.Common.{◌∙◌}
-use Rattle.bt_meta.proofs.MakeOrder.{order_by_bytes}
+use Rattle.bt_meta.proofs.MakeFiles.{order_by_bytes}
 use Rattle.bt_meta.proofs.writer.order_of.Goals as goal
 
 pub returns : goal.returns

@@ -1,6 +1,5 @@
-use Rattle.std.proofs.Common.{rules, leb, map, ◌≡◌, ap}
+use Rattle.std.proofs.Common.{rules, leb, ap}
 use Rattle.std.proofs.lemmas.List.Sorted.{IsPartitionPoint-from_clause}
-use Rattle.bt_meta.specs.Files.{file_of}
 use Rattle.bt_meta.specs.Torrent.{IsLaidOut}
 use Rattle.bt_meta.proofs.PlacePieces.{entries_parted, last_of, none_of}
 use Rattle.bt_meta.proofs.torrent.Torrent.last_file_at.Goals as goal
@@ -8,20 +7,18 @@ use Rattle.bt_meta.proofs.torrent.Torrent.last_file_at.Goals as goal
 pub returns-clause-some : goal.returns-clause-some
 returns-clause-some c =
     let torrent = c.args.self.now in
-    let items = c.self.inside.files.items in
-    let same : map file_of items ≡ torrent.files = ap (λ t. t.files) c.self.view_is in
+    let same = ap (λ t. t.files) c.self.view_is in
     let lay : IsLaidOut torrent.piece_length torrent.files = rw (← c.self.view_is) c.self.invariant.1.laid_out in
     let point = IsPartitionPoint-from_clause (λ e. leb e.first_piece c.args.piece) _ _ c.partition_point-begun.ensures.partitioned
-    (rw c.deref.ensures.value (entries_parted torrent.files items same torrent.piece_length c.args.piece lay)) (λ a r q k. search rules) in
-    last_of torrent.files items same c.args.piece _ (rw (← c.deref.ensures.value) point) _
+    (rw c.deref.ensures.value (entries_parted _ _ same _ _ lay)) (λ a r q k. search rules) in
+    last_of torrent.files _ same _ _ (rw (← c.deref.ensures.value) point) _
     (rw (← c.deref.ensures.value) c.partition_point-begun.ensures.bound) c.checked_sub.ensures
 
 pub returns-clause-none : goal.returns-clause-none
 returns-clause-none c =
     let torrent = c.args.self.now in
-    let items = c.self.inside.files.items in
-    let same : map file_of items ≡ torrent.files = ap (λ t. t.files) c.self.view_is in
+    let same = ap (λ t. t.files) c.self.view_is in
     let lay : IsLaidOut torrent.piece_length torrent.files = rw (← c.self.view_is) c.self.invariant.1.laid_out in
     let point = IsPartitionPoint-from_clause (λ e. leb e.first_piece c.args.piece) _ _ c.partition_point-begun.ensures.partitioned
-    (rw c.deref.ensures.value (entries_parted torrent.files items same torrent.piece_length c.args.piece lay)) (λ a r q k. search rules) in
-    none_of torrent.files items same c.args.piece _ (rw (← c.deref.ensures.value) point) _ c.checked_sub.ensures
+    (rw c.deref.ensures.value (entries_parted _ _ same _ _ lay)) (λ a r q k. search rules) in
+    none_of torrent.files _ same _ _ (rw (← c.deref.ensures.value) point) _ c.checked_sub.ensures

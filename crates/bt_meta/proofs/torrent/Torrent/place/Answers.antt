@@ -1,28 +1,23 @@
-use Rattle.std.proofs.Common.{◌≡◌, ◌≤◌, ◌-◌, ◌*◌, map, arith, ap}
+use Rattle.std.proofs.Common.{◌≤◌, ◌-◌, ◌*◌, arith, ap}
 use Rattle.bt_meta.specs.Files.{file_of}
 use Rattle.bt_meta.specs.Torrent.{IsLaidOut}
-use Rattle.bt_meta.specs.PlaceSteps.{IsLastFileAt}
 use Rattle.bt_meta.proofs.PlacePieces.{entry_at, fits, place_at}
 use Rattle.bt_meta.proofs.torrent.Torrent.place.Goals as goal
 
 pub overflow_sub-at : goal.overflow_sub-at
 overflow_sub-at c =
-    let torrent = c.args.self.now in
-    let e = c.index-file.result.now in
-    let same : map file_of c.self.inside.files.items ≡ torrent.files = ap (λ t. t.files) c.self.view_is in
-    let last : IsLastFileAt torrent.files c.args.piece c.in-Some.index = c.in-Some.ensures.some in
-    let found = entry_at torrent.files c.self.inside.files.items same c.in-Some.index e c.index-file.ensures last.listed in
-    rw (found (file_of e)) at (last.begun (file_of e))
+    let last = c.in-Some.ensures.some in
+    let e = file_of c.index-file.result.now in
+    rw (entry_at c.args.self.now.files _ (ap (λ t. t.files) c.self.view_is) _ _ c.index-file.ensures last.listed e) at (last.begun e)
 
 pub returns-then-length-eq0-clause-none : goal.returns-then-length-eq0-clause-none
 returns-then-length-eq0-clause-none c span place =
     let torrent = c.args.self.now in
     let e = c.index-file.result.now in
-    let same : map file_of c.self.inside.files.items ≡ torrent.files = ap (λ t. t.files) c.self.view_is in
     let lay : IsLaidOut torrent.piece_length torrent.files = rw (← c.self.view_is) c.self.invariant.1.laid_out in
-    let last : IsLastFileAt torrent.files c.args.piece c.in-Some.index = c.in-Some.ensures.some in
-    let found = entry_at torrent.files c.self.inside.files.items same c.in-Some.index e c.index-file.ensures last.listed in
-    let asked = fits torrent c.args.piece c.args.begin c.args.length c.in-Some.index (file_of e) last found span lay place in
+    let last = c.in-Some.ensures.some in
+    let found = entry_at torrent.files _ (ap (λ t. t.files) c.self.view_is) _ e c.index-file.ensures last.listed in
+    let asked = fits torrent _ _ _ _ _ last found span lay place in
     let length = ap (λ t. t.piece_length) c.self.view_is in
     let begun = ap (λ t. (c.args.piece - e.first_piece) * t.piece_length) c.self.view_is in
     elim c.then-length-eq0.branch [
@@ -34,12 +29,9 @@ returns-then-length-eq0-clause-none c span place =
 
 pub returns-clause-some : goal.returns-clause-some
 returns-clause-some c =
-    let torrent = c.args.self.now in
-    let e = c.index-file.result.now in
-    let same : map file_of c.self.inside.files.items ≡ torrent.files = ap (λ t. t.files) c.self.view_is in
-    let last : IsLastFileAt torrent.files c.args.piece c.in-Some.index = c.in-Some.ensures.some in
-    let found = entry_at torrent.files c.self.inside.files.items same c.in-Some.index e c.index-file.ensures last.listed in
+    let last = c.in-Some.ensures.some in
+    let found = entry_at c.args.self.now.files _ (ap (λ t. t.files) c.self.view_is) _ c.index-file.result.now c.index-file.ensures last.listed in
     let some : 1 ≤ c.args.length = omega (arith, c.if-length-eq0.false) in
-    rw (ap (λ t. t.piece_length) c.self.view_is)
-    (place_at torrent c.args.piece c.args.begin c.args.length c.in-Some.index (file_of e) last found some c.if-length-gt-MAX_RANGE.false
-    (rw (← ap (λ t. t.piece_length) c.self.view_is) c.if-end-self.false) (rw (← ap (λ t. t.piece_length) c.self.view_is) c.if-at-end.false))
+    let length = ap (λ t. t.piece_length) c.self.view_is in
+    rw length (place_at c.args.self.now _ _ _ _ _ last found some c.if-length-gt-MAX_RANGE.false
+    (rw (← length) c.if-end-self.false) (rw (← length) c.if-at-end.false))

@@ -6,7 +6,7 @@ use Rattle.bt_bencode.specs.Spelling.{string_spelling, spelling_of, items_spelli
 use Rattle.bt_bencode.specs.Doc.{HasSmallIntegers, ItemsHaveSmallIntegers, EntriesHaveSmallIntegers}
 use Rattle.bt_bencode.specs.Law.{IsRepresentable, ItemsAreRepresentable, EntriesAreRepresentable}
 
-string_is_longer : (s : List ℕ) → length s ≤ length (string_spelling s)
+pub string_is_longer : (s : List ℕ) → length s ≤ length (string_spelling s)
 string_is_longer s = omega (arith, length-append (decimal (length s)) (58 ∷ s))
 
 mutual
