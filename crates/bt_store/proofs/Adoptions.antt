@@ -11,7 +11,7 @@ use Rattle.bt_sparse.specs.declared.claim.ProofError.{ProofError}
 use Rattle.bt_sparse.specs.declared.claim.ProofError.TheVariants.{OutOfMemory}
 use Rattle.bt_store.specs.FileStore.{StoreView}
 use Rattle.bt_store.specs.BlockReads.{BlockRead, call_of}
-use Rattle.bt_store.specs.Adoption.{IsUnknownGroup, of_unknown, claimed_digest, is_whole, leaf_claim, claim_of_reads, marked_run, AreWhole, accepted, refused, short, unread, IsAdopted, StopsAdopting}
+use Rattle.bt_store.specs.Adoption.{IsUnknownGroup, claimed_digest, is_whole, leaf_claim, claim_of_reads, marked_run, AreWhole, accepted, refused, short, unread, IsAdopted, StopsAdopting}
 use Rattle.bt_store.specs.GroupsSteps.{IsGroupRead}
 use Rattle.bt_store.specs.declared.groups.Census.{Census}
 use Rattle.bt_store.proofs.GroupReads.{group_size, group_limits}
@@ -22,8 +22,10 @@ module _ {D : Type 0} (history : D → History) (honest : D → Type 0) (faults 
   pub stops_before : IsUnknownGroup k from anchor first count → StopsAdopting history honest faults dig k from old [] old
   stops_before group = record {
     calls = has_none history honest faults old.disk;
-    blocks = range_with_len first count;
-    group = of_unknown anchor first count group;
+    anchor = anchor;
+    first = first;
+    count = count;
+    group = group;
     in_order = inl refl;
     others = refl;
   }
@@ -52,8 +54,10 @@ module _ {D : Type 0} (history : D → History) (honest : D → Type 0) (faults 
       → new ≡ record old { disk = new.disk } → StopsAdopting history honest faults dig k from old reads new
   stops_after group read others = record {
     calls = read.calls;
-    blocks = range_with_len first count;
-    group = of_unknown anchor first count group;
+    anchor = anchor;
+    first = first;
+    count = count;
+    group = group;
     in_order = inr read.in_order;
     others = others;
   }

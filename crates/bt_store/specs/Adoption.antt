@@ -33,12 +33,6 @@ pub record IsUnknownGroup (k : Facts) (from anchor first count : ℕ) : Type 0 w
   pub starts : first ≡ from / 2 ^ anchor * 2 ^ anchor
   pub counts : count ≡ min (2 ^ anchor) (blocks_of k - first)
 
--- the blocks of the group that a block belongs to
-pub data IsGroup (dig : List ℕ → List ℕ) (k : Facts) (from : ℕ) : List ℕ → Type 0 where
-  of_known : (count : ℕ) → IsKnownGroup dig k from count → IsGroup dig k from (range_with_len from count)
-  of_unknown : (anchor first count : ℕ) → IsUnknownGroup k from anchor first count
-      → IsGroup dig k from (range_with_len first count)
-
 -- the read gave the whole block, in a file of so many bytes
 abbrev pub is_whole : ℕ → BlockRead → Bool
 is_whole n (given i bytes) = length bytes == block_length n i
@@ -108,7 +102,7 @@ pub data Adopts (dig : List ℕ → List ℕ) (k : Facts) (from : ℕ) (states :
       → Adopts dig k from states reads
       (record { next = first + count; anchor = 0; marked = 0; faults = fault_count reads }) k states
 
--- these reads were made and no other call of the device, and the rest is what `Adopts` says
+-- these reads were made, no other call changed the device or failed, and the rest is what `Adopts` says
 pub record IsAdopted {D : Type 0} (history : D → History) (honest : D → Type 0) (faults : D → ℕ)
     (dig : List ℕ → List ℕ) (k : Facts) (from : ℕ) (old : StoreView D) (reads : List BlockRead)
     (adopted : Adopted) (grown : Facts) (new : StoreView D) : Type 0 where
@@ -116,13 +110,15 @@ pub record IsAdopted {D : Type 0} (history : D → History) (honest : D → Type
   pub adopts : Adopts dig k from old.states reads adopted grown new.states
   pub same_file : new.file_length ≡ old.file_length
 
--- memory was refused: the group was read or it was not, no other call of the device was made, and nothing
--- else changed
+-- memory was refused, which only blocks below a held node take: they were read or they were not, no other
+-- call changed the device or failed, and nothing else changed
 pub record StopsAdopting {D : Type 0} (history : D → History) (honest : D → Type 0) (faults : D → ℕ)
     (dig : List ℕ → List ℕ) (k : Facts) (from : ℕ) (old : StoreView D) (reads : List BlockRead)
     (new : StoreView D) : Type 0 where
   pub calls : HasCalls history honest faults old.disk (map (call_of old.file_length) reads) new.disk
-  pub blocks : List ℕ
-  pub group : IsGroup dig k from blocks
-  pub in_order : (reads ≡ []) ⊎ (map block_of reads ≡ blocks)
+  pub anchor : ℕ
+  pub first : ℕ
+  pub count : ℕ
+  pub group : IsUnknownGroup k from anchor first count
+  pub in_order : (reads ≡ []) ⊎ (map block_of reads ≡ range_with_len first count)
   pub others : new ≡ record old { disk = new.disk }

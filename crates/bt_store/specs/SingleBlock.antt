@@ -1,6 +1,6 @@
 -- What becomes of one block that is read to be lent, or to be found again.
 use Rattle.std.specs.Prelude.{◌≡◌, ◌≢◌, ℕ, ◌≤◌, ◌<◌, Bool, true, false, List, [], ◌∷◌, map, take, slice_get, slice_set, Some, IsSome, Result, Ok, Err}
-use Rattle.bt_tree.specs.Blocks.{block_count}
+use Rattle.bt_tree.specs.Blocks.{block_count, block_length}
 use Rattle.bt_disk.specs.History.{History}
 use Rattle.bt_disk.specs.Calls.{HasCalls}
 use Rattle.bt_sparse.specs.SparseTree.{Facts, value_at}
@@ -19,7 +19,8 @@ use Rattle.bt_store.specs.declared.error.StoreError.TheVariants.{Range, Device}
 pub data Lends (dig : List ℕ → List ℕ) (k : Facts) (i : ℕ) (out : List ℕ) (states : List BlockState)
     : List BlockRead → Result ℕ ReadError → List BlockState → Type 0 where
   not_marked : slice_get states i ≢ Some Marked → Lends dig k i out states [] (Err NotMarked) states
-  right : (n : ℕ) → slice_get states i ≡ Some Marked → IsRight dig k i (take n out)
+  right : (n : ℕ) → slice_get states i ≡ Some Marked → n ≡ block_length k.file_length i
+      → IsRight dig k i (take n out)
       → Lends dig k i out states (given i (take n out) ∷ []) (Ok n) states
   damaged : (bytes : List ℕ) → slice_get states i ≡ Some Marked → ¬ IsRight dig k i bytes
       → Lends dig k i out states (given i bytes ∷ []) (Err Damaged) (slice_set states i Missing)
@@ -43,7 +44,7 @@ pub data Restores (dig : List ℕ → List ℕ) (k : Facts) (i : ℕ) (states : 
       → Restores dig k i states (given i bytes ∷ []) (Ok false) states
   fault : IsLost dig k i states → Restores dig k i states (failed i ∷ []) (Err Device) states
 
--- these reads were made, and no other call of the device, and the answer and the states are those that
+-- these reads were made, no other call changed the device or failed, and the answer and the states are those that
 -- `Lends` says
 pub record IsLent {D : Type 0} (history : D → History) (honest : D → Type 0) (faults : D → ℕ)
     (dig : List ℕ → List ℕ) (k : Facts) (i : ℕ) (out : List ℕ) (old : StoreView D) (reads : List BlockRead)
@@ -52,7 +53,7 @@ pub record IsLent {D : Type 0} (history : D → History) (honest : D → Type 0)
   pub answer : Lends dig k i out old.states reads result new.states
   pub same_file : new.file_length ≡ old.file_length
 
--- these reads were made, and no other call of the device, and the answer and the states are those that
+-- these reads were made, no other call changed the device or failed, and the answer and the states are those that
 -- `Restores` says
 pub record IsRestored {D : Type 0} (history : D → History) (honest : D → Type 0) (faults : D → ℕ)
     (dig : List ℕ → List ℕ) (k : Facts) (i : ℕ) (old : StoreView D) (reads : List BlockRead)

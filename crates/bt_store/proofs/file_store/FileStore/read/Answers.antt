@@ -1,6 +1,6 @@
-use Rattle.std.proofs.Common.{◌≡◌, List, [], ◌∷◌, ◌++◌, length, take, drop, Some, Ok, Err, refl, sym, subst, rules}
+use Rattle.std.proofs.Common.{◌≡◌, ap, ◌∙◌, List, [], ◌∷◌, ◌++◌, length, take, drop, Some, Ok, Err, refl, sym, subst, rules}
 use Rattle.std.specs.Prelude.{slice_get}
-use Rattle.std.proofs.lemmas.List.{take-append-le}
+use Rattle.std.proofs.lemmas.List.{length-take-le, take-append-le}
 use Rattle.bt_tree.specs.Blocks.{block_length}
 use Rattle.bt_disk.specs.Calls.{HasCalls, IsAnswered, bytes_given, read_fault}
 use Rattle.bt_disk.proofs.CallLists.{has_none}
@@ -72,13 +72,15 @@ returns g c =
     let marked : slice_get a.states i ≡ Some Marked = subst (λ s. slice_get s.states i ≡ Some Marked) (sym c.self.view_is) c.if-not-is_marked.ensures.yes in
     let size : length c.read_at.new.out ≡ block_length a.geometry i = search rules in
     let front : take n out ≡ take n c.read_at.new.out = take-append-le n c.read_at.new.out (drop c.block_len-length.result c.args.out.now) w.within in
+    let few : length (take n out) ≡ n = ap length front ∙ length-take-le n c.read_at.new.out w.within in
+    let whole : n ≡ block_length c.args.tree.now.file_length i = sym few ∙ c.if-not-is_right.ensures.yes.whole in
     subst (λ s. (reads : List BlockRead) × IsLent d.history d.honest d.faults g.H.NodeHash.digest c.args.tree.now i out s reads (Ok n) after) c.self.view_is (
       given i (take n out) ∷ [],
       record {
         calls = subst (λ bytes. HasCalls d.history d.honest d.faults a.disk (call_of a.geometry (given i bytes) ∷ []) c.read_at.new.self) (sym front)
             (one_given d.history d.honest d.faults a.geometry i a.disk c.read_at.new.self c.read_at.new.out n size w.counted w.as_honest
             (λ h. subst (λ at. IsAnswered (d.history a.disk) (bytes_given at (length c.read_at.new.out) (take n c.read_at.new.out)) (d.history c.read_at.new.self)) c.place_of.ensures (w.answered h)));
-        answer = right n marked c.if-not-is_right.ensures.yes;
+        answer = right n marked whole c.if-not-is_right.ensures.yes;
         same_file = refl;
       },
     )
