@@ -1,5 +1,5 @@
 -- A complete file on an honest device is the published one.
-use Rattle.std.proofs.Common.{◌≡◌, ℕ, zero, suc, ◌<◌, List, [], ◌∷◌, length, take, replicate, Option, Some, refl, sym, ap, ◌∙◌, subst, arith}
+use Rattle.std.proofs.Common.{◌≡◌, ℕ, zero, suc, ◌<◌, List, [], ◌∷◌, length, take, replicate, Option, Some, sym, ap, ◌∙◌, subst}
 use Rattle.std.specs.Prelude.{slice_get}
 use Rattle.bt_disk.specs.History.{History}
 use Rattle.bt_tree.specs.Blocks.{block_count}
@@ -18,7 +18,7 @@ use Rattle.bt_engine.specs.Step.{Answer, Step, Run}
 use Rattle.bt_engine.specs.Stored.{HasFile}
 use Rattle.bt_engine.specs.Sound.{IsSound, RunOn}
 use Rattle.bt_engine.specs.Headline.{IsPublished, CompleteFilesArePublished}
-use Rattle.bt_engine.proofs.Lists.{same_some, some_below}
+use Rattle.bt_engine.proofs.Lists.{get_some, same_some, some_below}
 use Rattle.bt_engine.proofs.Rooted.{run_rooted}
 use Rattle.bt_engine.proofs.Start.{start_rooted}
 use Rattle.bt_engine.proofs.Tame.{step_tame}
@@ -28,11 +28,6 @@ use Rattle.bt_engine.proofs.Sound.{run_sound, complete_stands}
 abbrev IsOf : Metainfo → EngineState → Type 0
 IsOf torrent s = (i : ℕ) (file : File) (f : FileState) (k : Facts) → slice_get torrent.files i ≡ Some file → 0 < file.length → slice_get s.files i ≡ Some f → slice_get s.trees f.tree ≡ Some k
     → (k.file_length ≡ file.length) × (k.root ≡ file.root)
-
-get_some : {X : Type 0} (xs : List X) (i : ℕ) → i < length xs → (x : X) × (slice_get xs i ≡ Some x)
-get_some [] i lt = absurd (omega (arith, lt))
-get_some (x ∷ xs) zero lt = (x, refl)
-get_some (x ∷ xs) (suc i) lt = get_some xs i (omega (arith, lt))
 
 none_marked : (n i : ℕ) → slice_get (replicate n Missing) i ≡ Some Marked → ⊥
 none_marked zero zero e = absurd cc

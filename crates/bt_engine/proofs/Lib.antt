@@ -4,9 +4,15 @@ pub mod Rooted
 pub mod Start
 -- marks
 pub mod Marks
+pub mod Adopting
 pub mod Marking
 -- data
 pub mod Sends
+pub mod Taught
+-- peers and files
+pub mod Shape
+pub mod Pairs
+pub mod Orderly
 -- devices
 pub mod Stored
 pub mod Tame
@@ -33,3 +39,11 @@ pub mod ExampleThreeEngine
 pub mod ExampleThreeBlocks
 pub mod ExampleWaiting
 pub mod ExampleServing
+-- what is left free
+pub mod DeterminedParts
+pub mod DeterminedEvents
+pub mod DeterminedFollow
+pub mod DeterminedNext
+pub mod DeterminedPeers
+pub mod DeterminedAdopt
+pub mod Determined

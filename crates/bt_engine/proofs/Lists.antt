@@ -1,8 +1,9 @@
 -- Lists of which one element is set, and what lists contain.
-use Rattle.std.proofs.Common.{◌≡◌, ℕ, zero, suc, ◌+◌, ◌<◌, ◌⊎◌, inl, inr, Bool, true, false, List, [], ◌∷◌, length, map, Option, Some, None, refl, sym, ap, ◌∙◌, subst, arith}
-use Rattle.std.specs.Prelude.{slice_get, slice_set, option_map, Contains, filter, flat_map, ◌&&◌, cond}
+use Rattle.std.proofs.Common.{◌≡◌, ◌≢◌, ℕ, zero, suc, ◌+◌, ◌<◌, ◌≤◌, ◌⊎◌, inl, inr, Bool, true, false, List, [], ◌∷◌, length, map, Option, Some, None, refl, sym, ap, ◌∙◌, subst, arith}
+use Rattle.std.specs.Prelude.{is_some, IsSome, slice_get, slice_set, option_map, Contains, filter, flat_map, ◌&&◌, cond}
 use Rattle.std.specs.Option.{option_and_then}
 use Rattle.std.specs.List.{range_with_len}
+use Rattle.std.proofs.lemmas.List.FromFn.{length-range_with_len, get_or-range_with_len}
 use Rattle.std.proofs.lemmas.List.Elements.{Contains-append_left, Contains-append_right, Contains-append_cases}
 
 pub same_some : {X : Type 0} (o : Option X) (x y : X) → o ≡ Some x → o ≡ Some y → x ≡ y
@@ -88,6 +89,13 @@ set_same [] (suc i) x y e = absurd cc
 set_same (z ∷ xs) zero x y e = refl
 set_same (z ∷ xs) (suc i) x y e = set_same xs i x y e
 
+pub set_other : {X : Type 0} (xs : List X) (i j : ℕ) (x : X) → j ≢ i → slice_get (slice_set xs i x) j ≡ slice_get xs j
+set_other [] i j x apart = refl
+set_other (z ∷ xs) zero zero x apart = absurd (apart refl)
+set_other (z ∷ xs) zero (suc j) x apart = refl
+set_other (z ∷ xs) (suc i) zero x apart = refl
+set_other (z ∷ xs) (suc i) (suc j) x apart = set_other xs i j x (λ e. apart (ap (λ n. suc n) e))
+
 pub contains_map : {X Y : Type 0} (f : X → Y) (xs : List X) (y : Y) → Contains (map f xs) y → (x : X) × Contains xs x × (f x ≡ y)
 contains_map f [] y c = absurd (contains_none y c)
 contains_map f (x ∷ xs) y c = elim (contains_cases (f x) y (map f xs) c) [
@@ -101,3 +109,17 @@ contains_flat_map f (x ∷ xs) y c = elim (Contains-append_cases (f x) (flat_map
   | inl one ↦ (x, here x x xs refl, one)
   | inr more ↦ let r = contains_flat_map f xs y more in (r.0, later x r.0 xs r.1, r.2)
 ]
+
+pub range_limits : (a n i : ℕ) → Contains (range_with_len a n) i → (a ≤ i) × (i < a + n)
+range_limits a n i c =
+    let size = length-range_with_len a n in
+    let at : a + c.0 ≡ i = sym (get_or-range_with_len a n c.0 i (omega (arith, c.1, size))) ∙ c.2 in
+    (omega (arith, at), omega (arith, at, c.1, size))
+
+pub get_some : {X : Type 0} (xs : List X) (i : ℕ) → i < length xs → (x : X) × (slice_get xs i ≡ Some x)
+get_some [] i lt = absurd (omega (arith, lt))
+get_some (x ∷ xs) zero lt = (x, refl)
+get_some (x ∷ xs) (suc i) lt = get_some xs i (omega (arith, lt))
+
+pub some_not_none : {X : Type 0} (o : Option X) → IsSome o → o ≡ None → ⊥
+some_not_none o some gone = let no : false ≡ true = sym (ap (λ x. is_some x) gone) ∙ some in absurd cc

@@ -1,5 +1,5 @@
 -- A step marks a block by bytes of that step alone.
-use Rattle.std.proofs.Common.{◌≡◌, ◌≢◌, ℕ, ◌*◌, ◌⊎◌, inl, inr, List, [], ◌∷◌, length, Some, refl, sym, ap, ◌∙◌, subst}
+use Rattle.std.proofs.Common.{◌≡◌, ◌≢◌, ℕ, ◌*◌, ◌⊎◌, inl, inr, true, List, [], ◌∷◌, length, Some, refl, sym, ap, ◌∙◌, subst}
 use Rattle.std.specs.Prelude.{slice_get, slice_set, Contains, Result, Ok, Err}
 use Rattle.std.specs.Option.{option_and_then}
 use Rattle.bt_tree.specs.Limits.{full_block_length}
@@ -19,7 +19,7 @@ use Rattle.bt_wire.specs.declared.message.Message.TheVariants.{KeepAlive, Choke,
 use Rattle.bt_wire.specs.declared.event.WireEvent.{WireEvent}
 use Rattle.bt_wire.specs.declared.event.WireEvent.TheVariants.{Hello, Message, Skipped}
 use Rattle.bt_engine.specs.declared.event.Event.{Event}
-use Rattle.bt_engine.specs.declared.event.Event.TheVariants.{Connect, Feed, Next, Lost, Rechoke, Flush}
+use Rattle.bt_engine.specs.declared.event.Event.TheVariants.{Connect, Feed, Next, Lost, Rechoke, Adopt, Flush}
 use Rattle.bt_engine.specs.State.{PeerState, FileState, EngineState}
 use Rattle.bt_engine.specs.Devices.{DeviceCalls, calls_at}
 use Rattle.bt_engine.specs.Blocks.{state_at, tree_of, with_file, with_peer, with_tree}
@@ -37,6 +37,7 @@ use Rattle.bt_engine.specs.Step.{Answer, Step, Run}
 use Rattle.bt_engine.specs.Law.{IsReadBack, IsMarkedBy, brought, read_back, IsSoAtOne, IsMarkedIn}
 use Rattle.bt_engine.proofs.Lists.{set_cases, set_same}
 use Rattle.bt_engine.proofs.Marks.{state_is, file_marked, missing_marks, settle_marks}
+use Rattle.bt_engine.proofs.Adopting.{adopt_marks}
 
 block_is : (b c : BlockId) → b.file ≡ c.file → b.block ≡ c.block → b ≡ c
 block_is b c e f = ap (λ n. record b { file = n }) e ∙ ap (λ n. record c { block = n }) f
@@ -131,9 +132,9 @@ module _ (dig : List ℕ → List ℕ) (b : BlockId) where
   hashes_marks s mid i p key digests calls effect event (no_claim f x y c) m = inl (as_before _ mid c.after m)
   hashes_marks s mid i p key digests calls effect event (refused f t k c x y z g) m = inl (as_before _ mid g.after m)
   hashes_marks s mid i p key digests calls effect event (learns l) m =
-      elim (settle_marks dig l.tree key.index _ (with_tree s l.tree l.new) l.settled calls l.notes l.settles b (as_before _ mid l.after m)) [
+      elim (settle_marks dig (λ file. true) l.tree key.index _ (with_tree s l.tree l.new) l.settled calls l.notes l.settles b (as_before _ mid l.after m)) [
         | inl old ↦ inl old
-        | inr r ↦ inr (waited (back_in _ s l.settled mid calls refl (ap (λ x. tree_of x b.file) l.after) r))
+        | inr r ↦ inr (waited (back_in _ s l.settled mid calls refl (ap (λ x. tree_of x b.file) l.after) r.0))
       ]
 
   message_marks : (s mid : EngineState) (i : ℕ) (p : PeerState) (msg : Sent) (calls : DeviceCalls) (effect : Effect) → HandlesMessage dig s i p msg calls effect mid → state_at mid b ≡ Some Marked
@@ -233,6 +234,7 @@ module _ (dig : List ℕ → List ℕ) (b : BlockId) where
   step_cases s new (Next key) calls a t m = next_marks s new key calls t.0 t.2 m
   step_cases s new (Lost key) calls a t m = inl (lost_marks s new key t.0 t.3 m)
   step_cases s new Rechoke calls a t m = inl (rechoke_marks s new t.0 t.3 m)
+  step_cases s new (Adopt file) calls a t m = adopt_marks dig b s new file calls t.0 t.2 m
   step_cases s new Flush calls a t m = inl (flush_marks s new calls t.0 t.2 m)
 
 pub step_marks : (dig : List ℕ → List ℕ) (s new : EngineState) (e : Event) (calls : DeviceCalls) (a : Answer) → Step dig s e calls a new

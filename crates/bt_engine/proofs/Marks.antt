@@ -17,7 +17,7 @@ use Rattle.bt_book.specs.declared.names.BlockId.{BlockId}
 use Rattle.bt_engine.specs.State.{FileState, EngineState}
 use Rattle.bt_engine.specs.Devices.{DeviceCalls, reads_at}
 use Rattle.bt_engine.specs.Blocks.{state_at, with_file, file_numbers}
-use Rattle.bt_engine.specs.Settling.{judged_file, due_blocks, Settles}
+use Rattle.bt_engine.specs.Settling.{judged_file, due_blocks, SettlesIn}
 use Rattle.bt_engine.specs.Law.{IsReadBack}
 use Rattle.bt_engine.proofs.Lists.{set_cases, and_then_some, map_some, and_true, here, later, contains_none, contains_filter, map_contains, flat_map_contains, some_below, range_contains}
 
@@ -95,10 +95,16 @@ due_then dig k tree from count f i c = by (f.tree == tree) refl c
         (eqb-true f.tree tree e, waits_then (slice_get f.states i) (and_true (is_waiting_at f.states i) (is_some (value_at dig k 0 i)) d.1).0)
     by false e c = absurd (contains_none i c)
 
--- a block that is marked after its run was settled was marked, or was read back
-pub settle_marks : (dig : List ℕ → List ℕ) (tree from count : ℕ) (old new : EngineState) (calls : DeviceCalls) (notes : _) → Settles dig tree from count old calls notes new
-    → (b : BlockId) → state_at new b ≡ Some Marked → (state_at old b ≡ Some Marked) ⊎ IsReadBack dig old calls new b
-settle_marks dig tree from count old new calls notes s b e =
+-- with a test that a file is meant
+pub meant_then : (dig : List ℕ → List ℕ) (k : Facts) (b : Bool) (tree from count : ℕ) (f : FileState) (i : ℕ) → Contains (if b then due_blocks dig k tree from count f else []) i
+    → (b ≡ true) × (f.tree ≡ tree) × (slice_get f.states i ≡ Some Waiting)
+meant_then dig k true tree from count f i c = let d = due_then dig k tree from count f i c in (refl, d.0, d.1)
+meant_then dig k false tree from count f i c = absurd (contains_none i c)
+
+-- a block that is marked after its run was settled was marked, or was read back in a file that was meant
+pub settle_marks : (dig : List ℕ → List ℕ) (is_meant : ℕ → Bool) (tree from count : ℕ) (old new : EngineState) (calls : DeviceCalls) (notes : _) → SettlesIn dig is_meant tree from count old calls notes new
+    → (b : BlockId) → state_at new b ≡ Some Marked → (state_at old b ≡ Some Marked) ⊎ (IsReadBack dig old calls new b × (is_meant b.file ≡ true))
+settle_marks dig is_meant tree from count old new calls notes s b e =
     let m = and_then_some (λ q. slice_get q.states b.block) (slice_get new.files b.file) Marked e in
     let p = map_some (judged_file dig s.facts (s.reads b.file)) (slice_get old.files b.file) m.0 (sym (s.files b.file) ∙ m.1) in
     let there : slice_get (judged dig s.facts false (s.reads b.file) p.0.states) b.block ≡ Some Marked = ap (λ q. slice_get q.states b.block) p.2 ∙ m.2 in
@@ -106,19 +112,22 @@ settle_marks dig tree from count old new calls notes s b e =
       | inl before ↦ inl (state_is old b p.0 Marked p.1 before)
       | inr g ↦
           let read : Contains (map block_of (s.reads b.file)) b.block = map_contains block_of (s.reads b.file) (given b.block g.bytes) g.gives in
-          let due = due_then dig s.facts tree from count p.0 b.block (subst (λ xs. Contains xs b.block) (s.due b.file p.0 p.1) read) in
+          let due = meant_then dig s.facts (is_meant b.file) tree from count p.0 b.block (subst (λ xs. Contains xs b.block) (s.due b.file p.0 p.1) read) in
           let trees : new.trees ≡ old.trees = ap (λ s. s.trees) s.others in
-          let hung : slice_get new.trees p.0.tree ≡ Some s.facts = ap (λ ts. slice_get ts p.0.tree) trees ∙ ap (slice_get old.trees) due.0 ∙ s.here in
+          let hung : slice_get new.trees p.0.tree ≡ Some s.facts = ap (λ ts. slice_get ts p.0.tree) trees ∙ ap (slice_get old.trees) due.1 ∙ s.here in
           let file : slice_get new.files b.file ≡ Some (judged_file dig s.facts (s.reads b.file) p.0) = s.files b.file ∙ ap (option_map (judged_file dig s.facts (s.reads b.file))) p.1 in
           let one : Contains (reads_at b.file s.facts.file_length (s.reads b.file)) (b.file, call_of s.facts.file_length (given b.block g.bytes)) =
           map_contains (λ read. (b.file, call_of s.facts.file_length read)) (s.reads b.file) (given b.block g.bytes) g.gives in
-          inr (record {
-            tree = s.facts;
-            bytes = g.bytes;
-            waited = state_is old b p.0 Waiting p.1 due.1;
-            hung = ap (option_and_then (λ q. slice_get new.trees q.tree)) file ∙ hung;
-            read = subst (λ cs. Contains cs (b.file, call_of s.facts.file_length (given b.block g.bytes))) (sym s.made)
-                (flat_map_contains (λ file. reads_at file s.facts.file_length (s.reads file)) (file_numbers old) b.file _ (range_contains (length old.files) b.file (some_below old.files b.file p.0 p.1)) one);
-            right = g.right;
-          })
+          inr ((
+            record {
+              tree = s.facts;
+              bytes = g.bytes;
+              waited = state_is old b p.0 Waiting p.1 due.2;
+              hung = ap (option_and_then (λ q. slice_get new.trees q.tree)) file ∙ hung;
+              read = subst (λ cs. Contains cs (b.file, call_of s.facts.file_length (given b.block g.bytes))) (sym s.made)
+                  (flat_map_contains (λ file. reads_at file s.facts.file_length (s.reads file)) (file_numbers old) b.file _ (range_contains (length old.files) b.file (some_below old.files b.file p.0 p.1)) one);
+              right = g.right;
+            },
+            due.0,
+          ))
     ]

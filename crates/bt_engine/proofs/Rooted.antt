@@ -14,7 +14,7 @@ use Rattle.bt_wire.specs.declared.message.Message.TheVariants.{KeepAlive, Choke,
 use Rattle.bt_wire.specs.declared.event.WireEvent.{WireEvent}
 use Rattle.bt_wire.specs.declared.event.WireEvent.TheVariants.{Hello, Message, Skipped}
 use Rattle.bt_engine.specs.declared.event.Event.{Event}
-use Rattle.bt_engine.specs.declared.event.Event.TheVariants.{Connect, Feed, Next, Lost, Rechoke, Flush}
+use Rattle.bt_engine.specs.declared.event.Event.TheVariants.{Connect, Feed, Next, Lost, Rechoke, Adopt, Flush}
 use Rattle.bt_engine.specs.State.{PeerState, FileState, EngineState}
 use Rattle.bt_engine.specs.Devices.{DeviceCalls}
 use Rattle.bt_engine.specs.Blocks.{with_tree}
@@ -26,10 +26,12 @@ use Rattle.bt_engine.specs.WireEvents.{HandlesHave, in_range, out_of_range, Hand
 use Rattle.bt_engine.specs.Next.{StepNext, no_peer, waits, goes_on, closes, faulty, no_memory}
 use Rattle.bt_engine.specs.Peers.{StepConnect, joins, full, spent, no_memory as no_room, StepFeed, feeds, no_peer as not_fed, no_memory as no_room_to_feed, StepLost, goes, no_peer as not_lost}
 use Rattle.bt_engine.specs.Rechoke.{FollowsEach, StepRechoke, rechokes, no_memory as not_rechoked}
+use Rattle.bt_engine.specs.Adopting.{AdoptsGroup, AdoptsGroups, StepAdopt, no_file, busy, empty, adopts, no_memory as not_adopted}
 use Rattle.bt_engine.specs.Flush.{StepFlush, syncs, fails}
 use Rattle.bt_engine.specs.Step.{Answer, Step, Run}
 use Rattle.bt_engine.specs.Law.{AreRooted, AreChecked}
 use Rattle.bt_engine.proofs.Lists.{set_cases}
+use Rattle.bt_engine.proofs.Adopting.{group_extends}
 
 module _ (dig : List ℕ → List ℕ) where
   -- the engine is one with the same trees
@@ -121,6 +123,21 @@ module _ (dig : List ℕ → List ℕ) where
   rechoke_rooted s new answer (rechokes out a b) r = each_rooted _ _ new a.sent a.follows r
   rechoke_rooted s new answer (not_rechoked a e) r = as_before _ new e r
 
+  group_rooted : (s new : EngineState) (file from : ℕ) (calls : DeviceCalls) (adopted : _) → AdoptsGroup dig s file from calls adopted new → AreRooted dig s → AreRooted dig new
+  group_rooted s new file from calls adopted g r =
+      as_before _ new g.after (grown_rooted s g.state.tree g.grown r ((group_extends dig s new file from calls adopted g).rooted (r g.state.tree g.tree g.is_file.hung)))
+
+  groups_rooted : (s new : EngineState) (file from : ℕ) (groups : List DeviceCalls) (total : _) → AdoptsGroups dig s file from groups total new → AreRooted dig s → AreRooted dig new
+  groups_rooted s new file from [] total g r = as_before _ new g.1 r
+  groups_rooted s new file from (calls ∷ groups) total g r = groups_rooted g.1 new file g.0.next groups g.2 g.4 (group_rooted s g.1 file from calls g.0 g.3 r)
+
+  adopt_rooted : (s new : EngineState) (file : ℕ) (calls : DeviceCalls) (answer : _) → StepAdopt dig s file calls answer new → AreRooted dig s → AreRooted dig new
+  adopt_rooted s new file calls answer (no_file a b c e) r = as_before _ new e r
+  adopt_rooted s new file calls answer (busy a b c d e) r = as_before _ new e r
+  adopt_rooted s new file calls answer (empty f a b c d g e) r = as_before _ new e r
+  adopt_rooted s new file calls answer (adopts total a x b) r = as_before _ new x.after (as_before _ x.settled x.settles.others (groups_rooted s x.mid file 0 x.groups total x.adopts r))
+  adopt_rooted s new file calls answer (not_adopted a x b) r = groups_rooted s new file 0 x.groups x.done x.adopts r
+
   flush_rooted : (s new : EngineState) (calls : DeviceCalls) (answer : _) → StepFlush s calls answer new → AreRooted dig s → AreRooted dig new
   flush_rooted s new calls answer (syncs a b c e) r = as_before _ new e r
   flush_rooted s new calls answer (fails before file after a b c e) r = as_before _ new e r
@@ -131,6 +148,7 @@ module _ (dig : List ℕ → List ℕ) where
   step_rooted s new (Next key) calls a t r = next_rooted s new key calls t.0 t.2 r
   step_rooted s new (Lost key) calls a t r = lost_rooted s new key t.0 t.3 r
   step_rooted s new Rechoke calls a t r = rechoke_rooted s new t.0 t.3 r
+  step_rooted s new (Adopt file) calls a t r = adopt_rooted s new file calls t.0 t.2 r
   step_rooted s new Flush calls a t r = flush_rooted s new calls t.0 t.2 r
 
   pub run_rooted : (s new : EngineState) (es : List Event) (calls : List DeviceCalls) (answers : List Answer) → Run dig s es calls answers new → AreRooted dig s → AreRooted dig new

@@ -23,7 +23,7 @@ use Rattle.bt_wire.specs.declared.event.WireEvent.TheVariants.{Hello, Message, S
 use Rattle.bt_engine.specs.declared.answer.Frame.{Frame}
 use Rattle.bt_engine.specs.declared.answer.Frame.TheVariants.{Hello as hello_frame, Message as message_frame}
 use Rattle.bt_engine.specs.declared.event.Event.{Event}
-use Rattle.bt_engine.specs.declared.event.Event.TheVariants.{Connect, Feed, Next, Lost, Rechoke, Flush}
+use Rattle.bt_engine.specs.declared.event.Event.TheVariants.{Connect, Feed, Next, Lost, Rechoke, Adopt, Flush}
 use Rattle.bt_engine.specs.State.{PeerState, FileState, EngineState}
 use Rattle.bt_engine.specs.Devices.{DeviceCalls}
 use Rattle.bt_engine.specs.Blocks.{tree_of, with_peer}
@@ -302,6 +302,7 @@ module _ (dig : List ℕ → List ℕ) where
   step_sends s new (Next key) calls a t = sends_is _ _ _ (ap sent_by t.1) (next_sends s new key calls t.0 t.2)
   step_sends s new (Lost key) calls a t = nothing _ a _ t.1 plain_none
   step_sends s new Rechoke calls a t = sends_is _ _ _ (ap sent_by t.1) (rechoke_sends _ s new t.0 t.3)
+  step_sends s new (Adopt file) calls a t = nothing _ a _ t.1 plain_none
   step_sends s new Flush calls a t = nothing _ a _ t.1 plain_none
 
   pub run_sends : (s new : EngineState) (es : List Event) (calls : List DeviceCalls) (answers : List Answer) → Run dig s es calls answers new → (answer : Answer) → Contains answers answer → (key : PeerKey) (piece begin : ℕ) (bytes : List ℕ)

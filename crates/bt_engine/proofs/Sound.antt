@@ -17,7 +17,7 @@ use Rattle.bt_engine.specs.Devices.{DeviceCalls, calls_of}
 use Rattle.bt_engine.specs.Blocks.{block_id, state_at, tree_of}
 use Rattle.bt_engine.specs.Stored.{stored_block, AreRight}
 use Rattle.bt_engine.specs.Step.{Answer, Step}
-use Rattle.bt_engine.specs.Law.{IsReadBack, brought, read_back}
+use Rattle.bt_engine.specs.Law.{brought, read_back, found}
 use Rattle.bt_engine.specs.Sound.{IsSound, StepKeepsSound, RunOn, CompleteFilesStand}
 use Rattle.bt_engine.proofs.Lists.{same_some, here, later, contains_none, contains_cases, contains_filter, contains_map}
 use Rattle.bt_engine.proofs.Marking.{step_cases}
@@ -169,21 +169,22 @@ module _ {D : Type 0} (history : D → History) (honest : D → Type 0) (faults 
             let a : AreAnswered before (bytes_written (full_block_length * i) x.bytes ∷ []) after = subst (λ cs. AreAnswered before cs after) one answered in
             let is : stored_block k.file_length after.now.bytes i ≡ x.bytes = stands k.file_length i before after x.bytes r.whole (a.2 ∙ a.1) in
             subst (λ bytes. IsRight dig k i bytes) (sym is) r
-        | inr (read_back x) ↦ read_right x tree tame.1
+        | inr (read_back x) ↦ read_right x.tree x.bytes x.hung x.read x.right tree tame.1
+        | inr (found x) ↦ read_right x.tree x.bytes x.hung x.read x.right tree tame.1
       ]
     where
-      read_right : IsReadBack dig old calls new (block_id file i) → tree_of new file ≡ Some k → Touches old.files old.trees calls → IsRight dig k i (stored_block k.file_length after.now.bytes i)
-      read_right x tree (keeping keep) =
-          let same : x.tree ≡ k = same_some (tree_of new file) x.tree k x.hung tree in
+      read_right : (l : Facts) (bytes : List ℕ) → tree_of new file ≡ Some l → Contains calls (file, call_of l.file_length (given i bytes)) → IsRight dig l i bytes → tree_of new file ≡ Some k → Touches old.files old.trees calls → IsRight dig k i (stored_block k.file_length after.now.bytes i)
+      read_right l bytes l_hung l_read l_right tree (keeping keep) =
+          let same : l ≡ k = same_some (tree_of new file) l k l_hung tree in
           let reads = calls_keep before after (calls_of file calls) (λ c among. keep (file, c) (of_all file calls c among)) answered in
-          let there : x.bytes ≡ stored_block x.tree.file_length before.now.bytes i = reads.read _ _ x.bytes (among_file file calls _ x.read) in
-          let is : x.bytes ≡ stored_block k.file_length after.now.bytes i = there ∙ ap (λ (l : Facts). stored_block l.file_length before.now.bytes i) same ∙ ap (λ xs. stored_block k.file_length xs i) (sym reads.same) in
-          subst (λ bytes. IsRight dig k i bytes) is (subst (λ l. IsRight dig l i x.bytes) same x.right)
-      read_right x tree (putting c bytes g l call there rooted missing size made is) =
-          let one : Contains ((c.file, call) ∷ []) (file, call_of x.tree.file_length (given i x.bytes)) = subst (λ cs. Contains cs (file, call_of x.tree.file_length (given i x.bytes))) made x.read in
-          elim (contains_cases (c.file, call) (file, call_of x.tree.file_length (given i x.bytes)) [] one) [
+          let there : bytes ≡ stored_block l.file_length before.now.bytes i = reads.read _ _ bytes (among_file file calls _ l_read) in
+          let is : bytes ≡ stored_block k.file_length after.now.bytes i = there ∙ ap (λ (m : Facts). stored_block m.file_length before.now.bytes i) same ∙ ap (λ xs. stored_block k.file_length xs i) (sym reads.same) in
+          subst (λ ys. IsRight dig k i ys) is (subst (λ m. IsRight dig m i bytes) same l_right)
+      read_right l bytes l_hung l_read l_right tree (putting c more g m call there rooted missing size made is) =
+          let one : Contains ((c.file, call) ∷ []) (file, call_of l.file_length (given i bytes)) = subst (λ cs. Contains cs (file, call_of l.file_length (given i bytes))) made l_read in
+          elim (contains_cases (c.file, call) (file, call_of l.file_length (given i bytes)) [] one) [
             | inl same ↦
-                let call_is : call ≡ bytes_given (full_block_length * i) (block_length x.tree.file_length i) x.bytes = ap (λ (a : ℕ × Call). a.1) same in
+                let call_is : call ≡ bytes_given (full_block_length * i) (block_length l.file_length i) bytes = ap (λ (a : ℕ × Call). a.1) same in
                 absurd (elim is [ inl wrote ↦ no_write (sym call_is ∙ wrote) | inr failed ↦ no_fault (sym call_is ∙ failed) ])
             | inr none ↦ absurd (contains_none _ none)
           ]

@@ -1,6 +1,6 @@
 -- What a step does to trees, files and devices: trees grow, and it reads blocks, or syncs, or writes one missing block.
-use Rattle.std.proofs.Common.{◌≡◌, ℕ, ◌*◌, ◌⊎◌, inl, inr, List, [], ◌∷◌, ◌++◌, length, Some, Result, Ok, Err, refl, sym, ap, ◌∙◌, subst}
-use Rattle.std.specs.Prelude.{slice_get, slice_set, Contains, ⊤}
+use Rattle.std.proofs.Common.{◌≡◌, ℕ, ◌*◌, ◌⊎◌, inl, inr, Bool, true, List, [], ◌∷◌, ◌++◌, length, Some, Result, Ok, Err, refl, sym, ap, ◌∙◌, subst}
+use Rattle.std.specs.Prelude.{slice_get, slice_set, Contains, flat_map, ⊤}
 use Rattle.std.proofs.lemmas.List.Elements.{Contains-append_cases}
 use Rattle.bt_tree.specs.Limits.{full_block_length}
 use Rattle.bt_tree.specs.Blocks.{block_count, block_length}
@@ -8,7 +8,6 @@ use Rattle.bt_tree.specs.TreeShape.{CoversBlock, IsPadding}
 use Rattle.bt_disk.specs.Calls.{Call, bytes_written, write_fault, length_set, resize_fault, sync_made, sync_fault}
 use Rattle.bt_hashreq.specs.declared.key.HashKey.{HashKey}
 use Rattle.bt_sparse.specs.SparseTree.{Facts, blocks_of, held_at, value_at}
-use Rattle.bt_sparse.specs.Acceptance.{Accepts}
 use Rattle.bt_sparse.proofs.Values.{value_inside, value_covers, value_padding, cases_node}
 use Rattle.bt_store.specs.BlockReads.{BlockRead, given, failed, call_of}
 use Rattle.bt_store.specs.Arrival.{PutIsDue, calls_of_put, states_after_put}
@@ -24,11 +23,11 @@ use Rattle.bt_wire.specs.declared.message.Message.TheVariants.{KeepAlive, Choke,
 use Rattle.bt_wire.specs.declared.event.WireEvent.{WireEvent}
 use Rattle.bt_wire.specs.declared.event.WireEvent.TheVariants.{Hello, Message, Skipped}
 use Rattle.bt_engine.specs.declared.event.Event.{Event}
-use Rattle.bt_engine.specs.declared.event.Event.TheVariants.{Connect, Feed, Next, Lost, Rechoke, Flush}
+use Rattle.bt_engine.specs.declared.event.Event.TheVariants.{Connect, Feed, Next, Lost, Rechoke, Adopt, Flush}
 use Rattle.bt_engine.specs.State.{PeerState, FileState, EngineState}
 use Rattle.bt_engine.specs.Devices.{DeviceCalls, calls_at, reads_at}
 use Rattle.bt_engine.specs.Blocks.{with_file, with_tree, file_numbers}
-use Rattle.bt_engine.specs.Settling.{judged_file, Settles}
+use Rattle.bt_engine.specs.Settling.{judged_file, SettlesIn}
 use Rattle.bt_engine.specs.Output.{Sent as SentFrame, Effect}
 use Rattle.bt_engine.specs.Request.{FindsFault, damaged, fault, HandlesRequest, ignored, no_place, not_marked, served, stopped}
 use Rattle.bt_engine.specs.Arrival.{Arrives, HandlesPiece, stale, arrives}
@@ -37,9 +36,11 @@ use Rattle.bt_engine.specs.WireEvents.{HandlesHave, in_range, out_of_range, Hand
 use Rattle.bt_engine.specs.Next.{StepNext, no_peer, waits, goes_on, closes, faulty, no_memory}
 use Rattle.bt_engine.specs.Peers.{StepConnect, joins, full, spent, no_memory as no_room, StepFeed, feeds, no_peer as not_fed, no_memory as no_room_to_feed, StepLost, goes, no_peer as not_lost}
 use Rattle.bt_engine.specs.Rechoke.{FollowsEach, StepRechoke, rechokes, no_memory as not_rechoked}
+use Rattle.bt_engine.specs.Adopting.{AdoptsGroup, AdoptsGroups, is_other, StepAdopt, no_file, busy, empty, adopts, no_memory as not_adopted}
 use Rattle.bt_engine.specs.Flush.{StepFlush, syncs_of, syncs, fails}
 use Rattle.bt_engine.specs.Step.{Answer, Step}
 use Rattle.bt_engine.proofs.Lists.{set_cases, map_some, contains_none, contains_cases, contains_map, contains_flat_map}
+use Rattle.bt_engine.proofs.Adopting.{group_extends}
 
 -- a call that leaves a device's bytes as they are
 abbrev pub KeepsBytes : Call → Type 0
@@ -176,29 +177,30 @@ module _ (dig : List ℕ → List ℕ) where
   piece_tame s mid i p piece begin bytes calls effect (arrives a) = arrives_tame s mid i p piece begin bytes calls effect a
 
   -- a grown tree stands in the place of the one that it grew from
-  tree_grows : (s : EngineState) (t : ℕ) (old new : Facts) (claim : _) → slice_get s.trees t ≡ Some old → Accepts dig old claim new → Grows dig s.files s.trees (with_tree s t new)
-  tree_grows s t old new claim at a file f k there hung = elim (set_cases s.trees t f.tree new k hung) [
+  tree_grows : (s : EngineState) (t : ℕ) (old new : Facts) → slice_get s.trees t ≡ Some old → new.file_length ≡ old.file_length → new.root ≡ old.root
+      → ((i : ℕ) (d : List ℕ) → value_at dig old 0 i ≡ Some d → value_at dig new 0 i ≡ Some d) → Grows dig s.files s.trees (with_tree s t new)
+  tree_grows s t old new at size root kept file f k there hung = elim (set_cases s.trees t f.tree new k hung) [
     | inl now ↦ subst (λ x. GrownFrom dig s.files s.trees file x) (sym now.1) (record {
       old_file = f;
       old_tree = old;
       here = there;
       hung = ap (slice_get s.trees) now.0 ∙ at;
-      same_length = a.joins.file_length;
-      same_root = a.joins.root;
-      kept = value_kept dig old new a.joins.file_length a.joins.kept 0;
+      same_length = size;
+      same_root = root;
+      kept = kept;
     })
     | inr before ↦ same_tree s.files s.trees file f k there before
   ]
 
-  settled_grows : (files : List FileState) (trees : List Facts) (t from count : ℕ) (old new : EngineState) (calls : DeviceCalls) (notes : _) → Settles dig t from count old calls notes new → Grows dig files trees old
+  settled_grows : (files : List FileState) (trees : List Facts) (is_meant : ℕ → Bool) (t from count : ℕ) (old new : EngineState) (calls : DeviceCalls) (notes : _) → SettlesIn dig is_meant t from count old calls notes new → Grows dig files trees old
       → Grows dig files trees new
-  settled_grows files trees t from count old new calls notes s g file f k at hung =
+  settled_grows files trees is_meant t from count old new calls notes s g file f k at hung =
       let m = map_some (judged_file dig s.facts (s.reads file)) (slice_get old.files file) f (sym (s.files file) ∙ at) in
       let tree : m.0.tree ≡ f.tree = ap (λ (q : FileState). q.tree) m.2 in
       g file m.0 k m.1 (ap (slice_get old.trees) tree ∙ sym (ap (λ ts. slice_get ts f.tree) (ap (λ z. z.trees) s.others)) ∙ hung)
 
-  settled_keeps : (t from count : ℕ) (old new : EngineState) (calls : DeviceCalls) (notes : _) → Settles dig t from count old calls notes new → AllKeepBytes calls
-  settled_keeps t from count old new calls notes s = keep_is calls _ s.made (λ c among.
+  settled_keeps : (is_meant : ℕ → Bool) (t from count : ℕ) (old new : EngineState) (calls : DeviceCalls) (notes : _) → SettlesIn dig is_meant t from count old calls notes new → AllKeepBytes calls
+  settled_keeps is_meant t from count old new calls notes s = keep_is calls _ s.made (λ c among.
       let m = contains_flat_map (λ file. reads_at file s.facts.file_length (s.reads file)) (file_numbers old) c among in
       reads_keep m.0 s.facts.file_length (s.reads m.0) c m.2)
 
@@ -207,9 +209,9 @@ module _ (dig : List ℕ → List ℕ) where
   hashes_tame s mid i p key digests calls effect (no_claim f x y c) = quiet s mid calls (ap (λ z. z.files) c.after) (ap (λ z. z.trees) c.after) c.made
   hashes_tame s mid i p key digests calls effect (refused f t k c x y z g) = quiet s mid calls (ap (λ z. z.files) g.after) (ap (λ z. z.trees) g.after) g.made
   hashes_tame s mid i p key digests calls effect (learns l) =
-      let settled : Grows dig s.files s.trees l.settled = settled_grows s.files s.trees l.tree key.index _ (with_tree s l.tree l.new) l.settled calls l.notes l.settles (tree_grows s l.tree l.old l.new l.claim l.here.here l.accepts) in (
+      let settled : Grows dig s.files s.trees l.settled = settled_grows s.files s.trees (λ file. true) l.tree key.index _ (with_tree s l.tree l.new) l.settled calls l.notes l.settles (tree_grows s l.tree l.old l.new l.here.here l.accepts.joins.file_length l.accepts.joins.root (value_kept dig l.old l.new l.accepts.joins.file_length l.accepts.joins.kept 0)) in (
         like s.files s.trees l.settled mid (ap (λ z. z.files) l.after) (ap (λ z. z.trees) l.after) settled,
-        keeping (settled_keeps l.tree key.index _ (with_tree s l.tree l.new) l.settled calls l.notes l.settles),
+        keeping (settled_keeps (λ file. true) l.tree key.index _ (with_tree s l.tree l.new) l.settled calls l.notes l.settles),
       )
 
   message_tame : (s mid : EngineState) (i : ℕ) (p : PeerState) (m : Sent) (calls : DeviceCalls) (effect : Effect) → HandlesMessage dig s i p m calls effect mid → Tame dig s.files s.trees calls mid
@@ -269,6 +271,54 @@ module _ (dig : List ℕ → List ℕ) where
   rechoke_tame s new calls answer none (rechokes out r x) = let same = each_same _ _ new r.sent r.follows in quiet s new calls same.0 same.1 none
   rechoke_tame s new calls answer none (not_rechoked x e) = quiet s new calls (ap (λ z. z.files) e) (ap (λ z. z.trees) e) none
 
+  -- a tree that comes from one that has grown
+  grows_then : (s mid new : EngineState) → Grows dig s.files s.trees mid → Grows dig mid.files mid.trees new → Grows dig s.files s.trees new
+  grows_then s mid new first second file f k at hung =
+      let later = second file f k at hung in
+      let before = first file later.old_file later.old_tree later.here later.hung in
+      record {
+        old_file = before.old_file;
+        old_tree = before.old_tree;
+        here = before.here;
+        hung = before.hung;
+        same_length = later.same_length ∙ before.same_length;
+        same_root = later.same_root ∙ before.same_root;
+        kept = λ i d e. later.kept i d (before.kept i d e);
+      }
+
+  group_tame : (s new : EngineState) (file from : ℕ) (calls : DeviceCalls) (adopted : _) → AdoptsGroup dig s file from calls adopted new → Grows dig s.files s.trees new × AllKeepBytes calls
+  group_tame s new file from calls adopted g =
+      let state : FileState = record g.state { states = g.states } in
+      let extends = group_extends dig s new file from calls adopted g in
+      let placed : EngineState = with_file s file state in (
+        like s.files s.trees (with_tree placed g.state.tree g.grown) new (ap (λ z. z.files) g.after) (ap (λ z. z.trees) g.after)
+            (grows_then s placed (with_tree placed g.state.tree g.grown) (file_grows s file g.state state g.is_file.here refl)
+            (tree_grows placed g.state.tree g.tree g.grown g.is_file.hung extends.file_length extends.root (extends.values 0))),
+        keep_is calls _ g.made (reads_keep file g.tree.file_length g.reads),
+      )
+
+  groups_tame : (s new : EngineState) (file from : ℕ) (groups : List DeviceCalls) (total : _) → AdoptsGroups dig s file from groups total new
+      → Grows dig s.files s.trees new × AllKeepBytes (flat_map (λ c. c) groups)
+  groups_tame s new file from [] total g = (stays s new (ap (λ z. z.files) g.1) (ap (λ z. z.trees) g.1), no_calls)
+  groups_tame s new file from (calls ∷ groups) total g =
+      let one = group_tame s g.1 file from calls g.0 g.3 in
+      let more = groups_tame g.1 new file g.0.next groups g.2 g.4 in
+      (grows_then s g.1 new one.0 more.0, append_keeps calls (flat_map (λ c. c) groups) one.1 more.1)
+
+  adopt_tame : (s new : EngineState) (file : ℕ) (calls : DeviceCalls) (answer : _) → StepAdopt dig s file calls answer new → Tame dig s.files s.trees calls new
+  adopt_tame s new file calls answer (no_file x y z e) = quiet s new calls (ap (λ z. z.files) e) (ap (λ z. z.trees) e) y
+  adopt_tame s new file calls answer (busy x y z w e) = quiet s new calls (ap (λ z. z.files) e) (ap (λ z. z.trees) e) z
+  adopt_tame s new file calls answer (empty f x y z w v e) = quiet s new calls (ap (λ z. z.files) e) (ap (λ z. z.trees) e) w
+  adopt_tame s new file calls answer (adopts total x a y) =
+      let groups = groups_tame s a.mid file 0 a.groups total a.adopts in
+      let settled : Grows dig s.files s.trees a.settled = settled_grows s.files s.trees (is_other file) a.state.tree 0 _ a.mid a.settled a.settling a.notes a.settles groups.0 in (
+        like s.files s.trees a.settled new (ap (λ z. z.files) a.after) (ap (λ z. z.trees) a.after) settled,
+        keeping (keep_is calls _ a.made (append_keeps (flat_map (λ c. c) a.groups) a.settling groups.1 (settled_keeps (is_other file) a.state.tree 0 _ a.mid a.settled a.settling a.notes a.settles))),
+      )
+  adopt_tame s new file calls answer (not_adopted x a y) =
+      let groups = groups_tame s new file 0 a.groups a.done a.adopts in
+      (groups.0, keeping (keep_is calls _ a.made (append_keeps (flat_map (λ c. c) a.groups) _ groups.1 (reads_keep file a.tree.file_length a.reads))))
+
   flush_tame : (s new : EngineState) (calls : DeviceCalls) (answer : _) → StepFlush s calls answer new → Tame dig s.files s.trees calls new
   flush_tame s new calls answer (syncs x y z e) = (stays s new (ap (λ z. z.files) e) (ap (λ z. z.trees) e), keeping (keep_is calls _ y (syncs_keep _)))
   flush_tame s new calls answer (fails before file after x y z e) = (
@@ -285,4 +335,5 @@ module _ (dig : List ℕ → List ℕ) where
   step_tame s new (Next key) calls a t = next_tame s new key calls t.0 t.2
   step_tame s new (Lost key) calls a t = lost_tame s new key calls t.0 t.2 t.3
   step_tame s new Rechoke calls a t = rechoke_tame s new calls t.0 t.2 t.3
+  step_tame s new (Adopt file) calls a t = adopt_tame s new file calls t.0 t.2
   step_tame s new Flush calls a t = flush_tame s new calls t.0 t.2

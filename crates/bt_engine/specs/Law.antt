@@ -18,13 +18,13 @@ use Rattle.bt_meta.specs.declared.torrent.Span.{Span}
 use Rattle.bt_engine.specs.declared.answer.Frame.TheVariants.{Message as message_frame}
 use Rattle.bt_engine.specs.Output.{Sent}
 use Rattle.bt_engine.specs.declared.event.Event.{Event}
-use Rattle.bt_engine.specs.declared.event.Event.TheVariants.{Next}
+use Rattle.bt_engine.specs.declared.event.Event.TheVariants.{Next, Adopt}
 use Rattle.bt_engine.specs.State.{PeerState, EngineState}
 use Rattle.bt_engine.specs.Devices.{DeviceCalls}
 use Rattle.bt_engine.specs.Blocks.{state_at, tree_of}
 use Rattle.bt_engine.specs.Spans.{IsWholeBlock, spanned_blocks, cut_from}
 use Rattle.bt_engine.specs.Next.{IsPeer}
-use Rattle.bt_engine.specs.Step.{Answer, of_connect, of_feed, of_next, of_lost, of_rechoke, of_flush, Step, Run}
+use Rattle.bt_engine.specs.Step.{Answer, of_connect, of_feed, of_next, of_lost, of_rechoke, of_adopt, of_flush, Step, Run}
 
 -- ---- trees
 
@@ -95,11 +95,23 @@ pub record IsReadBack (dig : List ℕ → List ℕ) (old : EngineState) (calls :
   pub read : Contains calls (b.file, call_of tree.file_length (given b.block bytes))
   pub right : IsRight dig tree b.block bytes
 
+-- A block of the file that this event takes in was read in it. Its digest is the leaf that its tree has after
+-- the event.
+pub record IsFound (dig : List ℕ → List ℕ) (event : Event) (calls : DeviceCalls) (new : EngineState)
+    (b : BlockId) : Type 0 where
+  pub tree : Facts
+  pub bytes : List ℕ
+  pub is_adopt : event ≡ Adopt b.file
+  pub hung : tree_of new b.file ≡ Some tree
+  pub read : Contains calls (b.file, call_of tree.file_length (given b.block bytes))
+  pub right : IsRight dig tree b.block bytes
+
 -- how a block becomes marked
 pub data IsMarkedBy (dig : List ℕ → List ℕ) (old : EngineState) (event : Event) (calls : DeviceCalls)
     (new : EngineState) (b : BlockId) : Type 0 where
   brought : IsBrought dig old event calls new b → IsMarkedBy dig old event calls new b
   read_back : IsReadBack dig old calls new b → IsMarkedBy dig old event calls new b
+  found : IsFound dig event calls new b → IsMarkedBy dig old event calls new b
 
 -- it becomes so in no other way
 abbrev pub StepMarksByBytes : (List ℕ → List ℕ) → Type 0
@@ -153,6 +165,7 @@ sent_by (of_next (Err _)) = []
 sent_by (of_lost _) = []
 sent_by (of_rechoke (Some out)) = out.send
 sent_by (of_rechoke None) = []
+sent_by (of_adopt _) = []
 sent_by (of_flush _) = []
 
 -- A peer that we do not choke asked for bytes of a piece in this event. Each block that they lie in was read

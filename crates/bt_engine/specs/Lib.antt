@@ -15,12 +15,17 @@ pub mod FollowUp
 pub mod Next
 pub mod Peers
 pub mod Rechoke
+pub mod Adopting
 pub mod Flush
 pub mod Start
 pub mod Step
 -- laws
 pub mod Stored
 pub mod Law
+pub mod Taught
+pub mod Orderly
+pub mod Shape
+pub mod Determined
 pub mod Sound
 pub mod Headline
 pub mod AnswerLaw

@@ -1,5 +1,5 @@
 -- Blocks that waited for their leaf, which has come: they are read back, and their bytes decide.
-use Rattle.std.specs.Prelude.{◌≡◌, ℕ, ◌==◌, nat_lt, false, List, [], ◌∷◌, ◌++◌, map, flat_map, Some, slice_get, option_map, if◌then◌else◌}
+use Rattle.std.specs.Prelude.{◌≡◌, ℕ, ◌==◌, nat_lt, Bool, true, false, List, [], ◌∷◌, ◌++◌, map, flat_map, Some, slice_get, option_map, if◌then◌else◌}
 use Rattle.bt_sparse.specs.SparseTree.{Facts}
 use Rattle.bt_store.specs.BlockReads.{BlockRead, given, failed, block_of, judged, is_right, fault_count}
 use Rattle.bt_store.specs.Review.{waiting_blocks}
@@ -28,17 +28,23 @@ abbrev pub due_blocks : (List ℕ → List ℕ) → Facts → (tree from count :
 due_blocks dig k tree from count f =
     if f.tree == tree then waiting_blocks dig k f.states from count else []
 
--- In every file of the tree those of the blocks are read that wait and whose leaf is known. `reads` has the
--- reads of each file. They are made file by file upwards, and nothing else changes.
-pub record Settles (dig : List ℕ → List ℕ) (tree from count : ℕ) (old : EngineState)
+-- In those of the meant files that have the tree, so many blocks from one on are looked at, and those are
+-- read that wait and whose leaf is known. `reads` has the reads of each file. They are made file by file
+-- upwards, and nothing else changes.
+pub record SettlesIn (dig : List ℕ → List ℕ) (is_meant : ℕ → Bool) (tree from count : ℕ) (old : EngineState)
     (calls : DeviceCalls) (notes : List Note) (new : EngineState) : Type 0 where
   pub facts : Facts
   pub reads : ℕ → List BlockRead
   pub here : slice_get old.trees tree ≡ Some facts
   pub due : (file : ℕ) (f : FileState) → slice_get old.files file ≡ Some f
-      → map block_of (reads file) ≡ due_blocks dig facts tree from count f
+      → map block_of (reads file) ≡ (if is_meant file then due_blocks dig facts tree from count f else [])
   pub made : calls ≡ flat_map (λ file. reads_at file facts.file_length (reads file)) (file_numbers old)
   pub noted : notes ≡ flat_map (λ file. settling_notes dig facts file (reads file)) (file_numbers old)
   pub files : (file : ℕ)
       → slice_get new.files file ≡ option_map (judged_file dig facts (reads file)) (slice_get old.files file)
   pub others : new ≡ record old { files = new.files }
+
+-- in every file
+abbrev pub Settles : (List ℕ → List ℕ) → (tree from count : ℕ) → EngineState → DeviceCalls → List Note
+    → EngineState → Type 0
+Settles dig = SettlesIn dig (λ file. true)

@@ -1,10 +1,12 @@
 -- One event of an engine, and lists of events.
 use Rattle.std.specs.Prelude.{◌≡◌, ℕ, List, [], ◌∷◌, Option, Result}
 use Rattle.bt_book.specs.declared.names.PeerKey.{PeerKey}
+use Rattle.bt_store.specs.declared.adoption.Adopted.{Adopted}
 use Rattle.bt_engine.specs.declared.event.Event.{Event}
-use Rattle.bt_engine.specs.declared.event.Event.TheVariants.{Connect, Feed, Next, Lost, Rechoke, Flush}
+use Rattle.bt_engine.specs.declared.event.Event.TheVariants.{Connect, Feed, Next, Lost, Rechoke, Adopt, Flush}
 use Rattle.bt_engine.specs.declared.error.ConnectError.{ConnectError}
 use Rattle.bt_engine.specs.declared.error.EngineError.{EngineError}
+use Rattle.bt_engine.specs.declared.error.AdoptError.{AdoptError}
 use Rattle.bt_engine.specs.declared.error.FlushError.{FlushError}
 use Rattle.bt_engine.specs.State.{EngineState}
 use Rattle.bt_engine.specs.Devices.{DeviceCalls}
@@ -12,6 +14,7 @@ use Rattle.bt_engine.specs.Output.{Output}
 use Rattle.bt_engine.specs.Next.{StepNext}
 use Rattle.bt_engine.specs.Peers.{StepConnect, StepFeed, StepLost}
 use Rattle.bt_engine.specs.Rechoke.{StepRechoke}
+use Rattle.bt_engine.specs.Adopting.{StepAdopt}
 use Rattle.bt_engine.specs.Flush.{StepFlush}
 
 -- what an event answers
@@ -21,6 +24,7 @@ pub data Answer : Type 0 where
   of_next : Result (Option Output) EngineError → Answer
   of_lost : Result (Unit {0}) EngineError → Answer
   of_rechoke : Option Output → Answer
+  of_adopt : Result Adopted AdoptError → Answer
   of_flush : Result (Unit {0}) FlushError → Answer
 
 -- From the old engine an event leads to the new one, with these calls of devices and this answer.
@@ -36,6 +40,8 @@ Step dig old (Lost key) calls answer new =
     (r : Result (Unit {0}) EngineError) × (answer ≡ of_lost r) × (calls ≡ []) × StepLost old key r new
 Step dig old Rechoke calls answer new =
     (r : Option Output) × (answer ≡ of_rechoke r) × (calls ≡ []) × StepRechoke dig old r new
+Step dig old (Adopt file) calls answer new =
+    (r : Result Adopted AdoptError) × (answer ≡ of_adopt r) × StepAdopt dig old file calls r new
 Step dig old Flush calls answer new =
     (r : Result (Unit {0}) FlushError) × (answer ≡ of_flush r) × StepFlush old calls r new
 

@@ -23,6 +23,20 @@ pub enum EngineError {
     OutOfMemory,
 }
 
+/// Why a file is not taken in, or not all of it.
+#[derive(Clone, Copy, Debug, PartialEq, Eq, Error)]
+pub enum AdoptError {
+    /// The torrent has no such file.
+    #[error("NoFile")]
+    NoFile,
+    /// A peer is connected.
+    #[error("Busy")]
+    Busy,
+    /// The groups that were taken in before stay so.
+    #[error("OutOfMemory")]
+    OutOfMemory,
+}
+
 /// Why not all devices are flushed.
 #[derive(Clone, Copy, Debug, PartialEq, Eq, Error)]
 pub enum FlushError {

@@ -14,6 +14,8 @@ pub enum Event {
     Lost(PeerKey),
     /// The peers to serve are chosen anew.
     Rechoke,
+    /// What the device of this file has already is taken in.
+    Adopt(u32),
     /// All data devices are synced.
     Flush,
 }

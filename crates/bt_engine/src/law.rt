@@ -1,5 +1,9 @@
 ghost use Rattle.bt_engine.specs.Headline.{CompleteFilesArePublished};
 ghost use Rattle.bt_engine.specs.Stored.{CompleteHasRoot};
+ghost use Rattle.bt_engine.specs.Taught.{TaughtKeysAreAnswered};
+ghost use Rattle.bt_engine.specs.Determined.{StepIsDetermined};
+ghost use Rattle.bt_engine.specs.Shape.{RunsKeepShape};
+ghost use Rattle.bt_engine.specs.Orderly.{StepKeepsOrder, RunsAreOrderly};
 ghost use Rattle.bt_engine.specs.Sound.{StepKeepsSound, RunKeepsSound, CompleteFilesStand};
 ghost use Rattle.bt_engine.specs.Law.{StepKeepsRooted, RunKeepsRooted, RootedIsChecked, RunsAreChecked, RightIsChecked, StepMarksByBytes, RunMarksByBytes, StepSendsReadBytes, RunSendsReadBytes};
 
@@ -31,8 +35,9 @@ pub fn right_is_checked<H: NodeHash>(_hash: H)
     ensures { RightIsChecked H.digest }
 {}
 
-/// A block becomes marked in two ways only: it came from a peer that was asked for it and was written, or it
-/// waited and was read back. In each its digest is its leaf, and its bytes are of this event.
+/// A block becomes marked in three ways only: it came from a peer that was asked for it and was written, it
+/// waited and was read back, or its file was taken in and it was read. In each its digest is its leaf, and its
+/// bytes are of this event.
 pub fn step_marks_by_bytes<H: NodeHash>(_hash: H)
     ensures { StepMarksByBytes H.digest }
 {}
@@ -51,6 +56,35 @@ pub fn step_sends_read_bytes<H: NodeHash>(_hash: H)
 /// So it is of each answer of a list of events.
 pub fn run_sends_read_bytes<H: NodeHash>(_hash: H)
     ensures { RunSendsReadBytes H.digest }
+{}
+
+/// Where the blocks of a group were claimed together and found right, the tree answers the keys of the proofs
+/// that are left for a log, and they are of the right shape.
+pub fn taught_keys_are_answered<H: NodeHash>(_hash: H)
+    ensures { TaughtKeysAreAnswered H.digest }
+{}
+
+/// At most 64 peers are connected, in the order of their keys. Each is asked for at most 16 blocks, which are
+/// missing, and no block is asked twice. Each event keeps it so.
+pub fn step_keeps_order<H: NodeHash>(_hash: H)
+    ensures { StepKeepsOrder H.digest }
+{}
+
+/// So it is of every engine that events lead to from the start of a torrent.
+pub fn runs_are_orderly<H: NodeHash>(_hash: H)
+    ensures { RunsAreOrderly H.digest }
+{}
+
+/// After any list of events from the start of a torrent there are its files, each with a state for each block
+/// and the tree of its root, one tree for each root, and no hint for a log.
+pub fn runs_keep_shape<H: NodeHash>(_hash: H)
+    ensures { RunsKeepShape H.digest }
+{}
+
+/// From an engine that events lead to, what an event answers and what the engine knows then follow from what
+/// devices answer, but for which blocks are requested, and for out of memory.
+pub fn step_is_determined<H: NodeHash>(_hash: H)
+    ensures { StepIsDetermined H.digest }
 {}
 
 /// Where all blocks of a file are marked and stand on the device as they were marked, the file there has its

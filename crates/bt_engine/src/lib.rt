@@ -19,7 +19,7 @@ pub use answer_law::{
     next_notes_complete_files, step_announces_whole_pieces, step_closes_for_cause,
     step_requests_missing, step_tells_changed_interest,
 };
-pub use error::{ConnectError, EngineError, FlushError};
+pub use error::{AdoptError, ConnectError, EngineError, FlushError};
 pub use event::Event;
 pub use example::{
     fetch_of_abc_is_run, fetch_of_three_is_run, serving_is_run, waiting_fetch_is_run,
@@ -27,6 +27,7 @@ pub use example::{
 pub use law::{
     complete_files_are_published, complete_files_stand, complete_has_root, right_is_checked,
     rooted_is_checked, run_keeps_rooted, run_keeps_sound, run_marks_by_bytes, run_sends_read_bytes,
-    runs_are_checked, step_keeps_rooted, step_keeps_sound, step_marks_by_bytes,
-    step_sends_read_bytes,
+    runs_are_checked, runs_are_orderly, runs_keep_shape, step_is_determined, step_keeps_order,
+    step_keeps_rooted, step_keeps_sound, step_marks_by_bytes, step_sends_read_bytes,
+    taught_keys_are_answered,
 };

@@ -20,7 +20,7 @@ use Rattle.bt_hashreq.specs.Claim.{digests_in}
 use Rattle.bt_hashreq.specs.Request.{max_run_height}
 use Rattle.bt_hashreq.specs.Law.{HasLeaves, IsLawfulPlan, TeachesLeaf, PlansTeach}
 use Rattle.bt_hashreq.proofs.ClaimRun.{height_of-pow}
-use Rattle.bt_hashreq.proofs.RequestAnchor.{covers_above}
+use Rattle.bt_sparse.proofs.Anchors.{covers_above}
 use Rattle.bt_hashreq.proofs.RequestShape.{plans_are_lawful, anchor_above}
 
 -- ---- a rooted tree with all leaves holds every node that covers a block

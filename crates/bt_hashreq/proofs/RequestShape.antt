@@ -7,7 +7,8 @@ use Rattle.bt_tree.specs.TreeShape.{height_of}
 use Rattle.bt_tree.proofs.TreeShape.{height_is, height_limit, pow_le}
 use Rattle.bt_sparse.specs.SparseTree.{Facts, blocks_of, height, held_at}
 use Rattle.bt_hashreq.specs.declared.key.HashKey.{HashKey}
-use Rattle.bt_hashreq.specs.Request.{IsAnchor, max_run_height}
+use Rattle.bt_sparse.specs.Anchor.{IsAnchor}
+use Rattle.bt_hashreq.specs.Request.{max_run_height}
 use Rattle.bt_hashreq.specs.Law.{IsLawfulPlan, PlansAreLawful}
 use Rattle.bt_hashreq.proofs.ClaimRun.{height_of-pow, run_length}
 

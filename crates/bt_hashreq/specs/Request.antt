@@ -1,17 +1,12 @@
 -- What to ask for next, so that a leaf is known (BEP 52, "hash request").
-use Rattle.std.specs.Prelude.{◌≡◌, ℕ, ◌-◌, ◌*◌, ◌/◌, ◌^◌, ◌<◌, ◌≤◌, min, IsSome, None}
-use Rattle.bt_sparse.specs.SparseTree.{Facts, height, held_at}
+use Rattle.std.specs.Prelude.{◌≡◌, ℕ, ◌-◌, ◌*◌, ◌/◌, ◌^◌, min}
+use Rattle.bt_sparse.specs.SparseTree.{Facts}
+use Rattle.bt_sparse.specs.Anchor.{IsAnchor}
 use Rattle.bt_hashreq.specs.declared.key.HashKey.{HashKey}
 
 -- the height of the longest run
 abbrev pub max_run_height : ℕ
 max_run_height = 9
-
--- the layer of the nearest node above a leaf that is held
-pub record IsAnchor (k : Facts) (leaf anchor : ℕ) : Type 0 where
-  pub inside : anchor ≤ height k
-  pub held : IsSome (held_at k anchor (leaf / 2 ^ anchor))
-  pub nearest : (layer : ℕ) → layer < anchor → held_at k layer (leaf / 2 ^ layer) ≡ None
 
 -- The run of leaves that has this one, as long as a run may be and below the anchor; the proof layers end
 -- below the anchor.

@@ -1,6 +1,6 @@
 ghost use Rattle.std.specs.Prelude.{◌≡◌, ◌<◌, ◌↔◌, IsSome, IsNone, IfSome};
 ghost use Rattle.bt_sparse.specs.SparseTree.{held_at, blocks_of};
-ghost use Rattle.bt_hashreq.specs.Request.{IsPlan, IsAnchor};
+ghost use Rattle.bt_hashreq.specs.Request.{IsPlan};
 
 use crate::key::HashKey;
 use bt_sparse::SparseTree;
@@ -17,7 +17,7 @@ pub fn plan<H: NodeHash>(tree: &SparseTree<H>, leaf: u32) -> Option<HashKey>
     ensures none { IsNone result ↔ IsSome (held_at tree.now 0 leaf) }
     ensures plan { IfSome result (IsPlan tree.now leaf) }
 {
-    let anchor = anchor_of(tree, leaf);
+    let anchor = tree.anchor(leaf);
     if anchor == 0 {
         return None;
     }
@@ -29,17 +29,4 @@ pub fn plan<H: NodeHash>(tree: &SparseTree<H>, leaf: u32) -> Option<HashKey>
         length: 1 << height,
         layers: anchor - 1,
     })
-}
-
-/// The layer of the nearest node above a leaf that is held, 0 for the leaf itself.
-fn anchor_of<H: NodeHash>(tree: &SparseTree<H>, leaf: u32) -> u32
-    requires { leaf < blocks_of tree.now }
-    ensures { IsAnchor tree.now leaf result }
-{
-    for layer in 0..tree.geometry().height() as u32 {
-        if tree.known(layer, leaf >> layer).is_some() {
-            return layer;
-        }
-    }
-    tree.geometry().height() as u32
 }

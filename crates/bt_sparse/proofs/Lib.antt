@@ -18,3 +18,4 @@ pub mod Requests
 pub mod LayerNodes
 pub mod Taken
 pub mod Leaves
+pub mod Anchors

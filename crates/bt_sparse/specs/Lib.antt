@@ -1,6 +1,7 @@
 pub mod Page
 pub mod NodeMap
 pub mod SparseTree
+pub mod Anchor
 pub mod Claim
 pub mod Acceptance
 pub mod Answer

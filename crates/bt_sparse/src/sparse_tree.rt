@@ -1,5 +1,7 @@
-ghost use Rattle.std.specs.Prelude.{◌≡◌, IfOk};
-ghost use Rattle.bt_sparse.specs.SparseTree.{held_at, value_at, root_facts, IsSound};
+ghost use Rattle.std.specs.Prelude.{◌≡◌, ◌<◌, ◌≤◌, IfOk};
+ghost use Rattle.bt_tree.specs.Limits.{max_height};
+ghost use Rattle.bt_sparse.specs.SparseTree.{blocks_of, held_at, value_at, root_facts, IsSound};
+ghost use Rattle.bt_sparse.specs.Anchor.{IsAnchor};
 
 use crate::node_map::NodeMap;
 use bt_tree::{Geometry, Hash32, NodeHash, pad};
@@ -92,5 +94,21 @@ impl<H: NodeHash> SparseTree<H> {
         } else {
             Some(pad(self.hash, layer))
         }
+    }
+
+    /// The layer of the nearest node above a leaf that is held, 0 for the leaf itself. The leaf is that of a
+    /// block.
+    pub fn anchor(&self, leaf: u32) -> u32
+        requires { leaf < blocks_of self.now }
+        ensures nearest { IsAnchor self.now leaf result }
+        ensures limit { result ≤ max_height }
+    {
+        let height = self.geometry.height() as u32;
+        for layer in 0..height {
+            if self.held(layer, leaf >> layer).is_some() {
+                return layer;
+            }
+        }
+        height
     }
 }

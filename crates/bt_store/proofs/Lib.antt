@@ -10,6 +10,7 @@ pub mod Judgements
 pub mod Reviews
 -- Groups of blocks that are taken in.
 pub mod GroupReads
-pub mod Anchors
 pub mod Marks
 pub mod Adoptions
+-- What is marked there.
+pub mod AdoptionMarks

@@ -5,7 +5,8 @@ use Rattle.bt_tree.specs.Blocks.{block_length}
 use Rattle.bt_tree.specs.Tree.{padding_digest}
 use Rattle.bt_disk.specs.History.{History}
 use Rattle.bt_disk.specs.Calls.{HasCalls}
-use Rattle.bt_sparse.specs.SparseTree.{Facts, blocks_of, height, held_at, value_at}
+use Rattle.bt_sparse.specs.SparseTree.{Facts, blocks_of, value_at}
+use Rattle.bt_sparse.specs.Anchor.{IsAnchor}
 use Rattle.bt_sparse.specs.Acceptance.{Accepts, IsRefused}
 use Rattle.bt_sparse.specs.declared.claim.Claim.{Claim}
 use Rattle.bt_sparse.specs.declared.claim.ProofError.{ProofError}
@@ -15,12 +16,6 @@ use Rattle.bt_store.specs.BlockReads.{BlockRead, given, failed, block_of, call_o
 use Rattle.bt_store.specs.declared.block_states.BlockState.{BlockState}
 use Rattle.bt_store.specs.declared.block_states.BlockState.TheVariants.{Marked}
 use Rattle.bt_store.specs.declared.adoption.Adopted.{Adopted}
-
--- the layer of the nearest node above a leaf that is held, 0 for the leaf itself
-pub record IsAnchor (k : Facts) (leaf anchor : ℕ) : Type 0 where
-  pub inside : anchor ≤ height k
-  pub held : IsSome (held_at k anchor (leaf / 2 ^ anchor))
-  pub nearest : (layer : ℕ) → layer < anchor → held_at k layer (leaf / 2 ^ layer) ≡ None
 
 -- from a block on, so many whose leaves are known: as many as lie next to each other, but at most eight
 pub record IsKnownGroup (dig : List ℕ → List ℕ) (k : Facts) (from count : ℕ) : Type 0 where

@@ -1,10 +1,15 @@
 -- What follows from the definitions.
-use Rattle.std.specs.Prelude.{◌≡◌, ◌≢◌, ℕ, ◌<◌, List, length}
+use Rattle.std.specs.Prelude.{◌≡◌, ◌≢◌, ℕ, ◌<◌, ◌⊎◌, List, length, slice_get, Some, Contains}
 use Rattle.bt_tree.specs.Blocks.{block_at}
 use Rattle.bt_tree.specs.Tree.{file_root}
-use Rattle.bt_sparse.specs.SparseTree.{Facts, blocks_of, IsSound}
+use Rattle.bt_sparse.specs.SparseTree.{Facts, blocks_of, value_at, IsRooted, IsSound}
+use Rattle.bt_sparse.specs.Acceptance.{Accepts}
 use Rattle.bt_sparse.specs.Laws.{IsClashOnPath}
-use Rattle.bt_store.specs.BlockReads.{IsRight}
+use Rattle.bt_store.specs.BlockReads.{BlockRead, given, IsRight}
+use Rattle.bt_store.specs.Adoption.{IsUnknownGroup, AreWhole, claim_of_reads, Adopts}
+use Rattle.bt_store.specs.declared.block_states.BlockState.{BlockState}
+use Rattle.bt_store.specs.declared.block_states.BlockState.TheVariants.{Marked}
+use Rattle.bt_store.specs.declared.adoption.Adopted.{Adopted}
 
 -- The bytes are block i of the file; or at one node on its path to the root the input here is another than
 -- the file's, and has the same digest: at the leaf the bytes are the input, above it two digests that the
@@ -21,3 +26,39 @@ abbrev pub RightBlocksAreFiles : (List ℕ → List ℕ) → Type 0
 RightBlocksAreFiles dig = (k : Facts) (file : List ℕ) (i : ℕ) (bytes : List ℕ) → IsSound dig k
     → i < blocks_of k → length file ≡ k.file_length → file_root dig file ≡ k.root → IsRight dig k i bytes
     → IsBlockOrClash dig k file i bytes
+
+-- one of these reads gave right bytes of block i
+pub record IsReadRight (dig : List ℕ → List ℕ) (k : Facts) (reads : List BlockRead) (i : ℕ) : Type 0 where
+  pub bytes : List ℕ
+  pub gives : Contains reads (given i bytes)
+  pub right : IsRight dig k i bytes
+
+-- Each block that is marked after an `adopt` was marked before it, or was read in it with the digest of the
+-- leaf that the tree has then.
+abbrev pub AdoptMarksByBytes : (List ℕ → List ℕ) → Type 0
+AdoptMarksByBytes dig = (k grown : Facts) (from : ℕ) (old new : List BlockState) (reads : List BlockRead)
+    (adopted : Adopted) → Adopts dig k from old reads adopted grown new
+    → (i : ℕ) → slice_get new i ≡ Some Marked
+    → (slice_get old i ≡ Some Marked) ⊎ IsReadRight dig grown reads i
+
+-- Where the blocks of a group are claimed together and the tree accepts that, each of their reads gave right
+-- bytes, by the leaves that the tree has then.
+abbrev pub AcceptedReadsAreRight : (List ℕ → List ℕ) → Type 0
+AcceptedReadsAreRight dig = (k grown : Facts) (from anchor first count : ℕ) (reads : List BlockRead)
+    → IsUnknownGroup k from anchor first count → AreWhole k.file_length first count reads
+    → Accepts dig k (claim_of_reads dig k.file_length anchor first reads) grown
+    → (i : ℕ) (bytes : List ℕ) → Contains reads (given i bytes) → IsRight dig grown i bytes
+
+-- a tree of the same length and root that has every value that the other has, and is rooted where the other
+-- is
+pub record Extends (dig : List ℕ → List ℕ) (k grown : Facts) : Type 0 where
+  pub file_length : grown.file_length ≡ k.file_length
+  pub root : grown.root ≡ k.root
+  pub values : (layer i : ℕ) (d : List ℕ) → value_at dig k layer i ≡ Some d
+      → value_at dig grown layer i ≡ Some d
+  pub rooted : IsRooted dig k → IsRooted dig grown
+
+-- the tree after an `adopt` extends the one before it
+abbrev pub AdoptExtends : (List ℕ → List ℕ) → Type 0
+AdoptExtends dig = (k grown : Facts) (from : ℕ) (old new : List BlockState) (reads : List BlockRead)
+    (adopted : Adopted) → Adopts dig k from old reads adopted grown new → Extends dig k grown

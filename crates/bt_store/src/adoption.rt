@@ -1,17 +1,18 @@
-ghost use Rattle.std.specs.Prelude.{◌≡◌, ℕ, ◌+◌, ◌-◌, ◌*◌, ◌/◌, ◌^◌, ◌<◌, ◌≤◌, ◌⊎◌, List, [], IfOk, IfErr, IsSome, IsNone, map, length, replicate, slice_get};
+ghost use Rattle.std.specs.Prelude.{◌≡◌, ℕ, ◌+◌, ◌-◌, ◌*◌, ◌/◌, ◌^◌, ◌<◌, ◌≤◌, ◌⊎◌, List, [], IfOk, IfErr, IsSome, None, map, length, replicate, slice_get};
 ghost use Rattle.std.specs.List.{count_by, range_with_len};
 ghost use Rattle.bt_tree.specs.Limits.{full_block_length, max_block_count, max_height};
 ghost use Rattle.bt_tree.specs.Blocks.{block_count};
 ghost use Rattle.bt_tree.specs.Tree.{padding_digest};
 ghost use Rattle.bt_disk.specs.Calls.{HasCalls};
 ghost use Rattle.bt_sparse.specs.SparseTree.{Facts, blocks_of, held_at, value_at};
+ghost use Rattle.bt_sparse.specs.Anchor.{IsAnchor};
 ghost use Rattle.bt_store.specs.BlockReads.{BlockRead};
-ghost use Rattle.bt_store.specs.Adoption.{IsAnchor, IsKnownGroup, IsUnknownGroup, marked_run, IsAdopted, StopsAdopting};
+ghost use Rattle.bt_store.specs.Adoption.{IsKnownGroup, IsUnknownGroup, marked_run, IsAdopted, StopsAdopting};
 ghost use Rattle.bt_store.specs.GroupsSteps.{IsGroupRead};
 
 use crate::file_store::FileStore;
 use crate::groups::{
-    Census, Group, anchor_of, claim_leaves, group_below, known_run, mark_run, padding, read_group,
+    Census, Group, claim_leaves, group_below, known_run, mark_run, padding, read_group,
 };
 use crate::runs::RUN_LEN;
 use bt_disk::Disk;
@@ -42,7 +43,8 @@ impl<D: Disk + Drop, H: NodeHash> FileStore<D, H> {
     /// and where the tree accepts it all become marked. Where it does not, or a read failed or gave too few
     /// bytes, nothing changes.
     ///
-    /// The one error is out of memory. It changes nothing, though the group may have been read.
+    /// The one error is out of memory, and comes only where the leaf is unknown. It changes nothing, though
+    /// the group may have been read.
     pub fn adopt(&mut self, tree: &mut SparseTree<H>, from: u32) -> Result<Adopted, AllocError>
         requires geometry { tree.old.file_length ≡ self.old.file_length }
         requires inside { from ≤ block_count self.old.file_length }
@@ -51,6 +53,7 @@ impl<D: Disk + Drop, H: NodeHash> FileStore<D, H> {
         ensures stop { IfErr result (λ _. (reads : List BlockRead) × StopsAdopting D.history D.honest D.faults
             H.digest tree.old from self.old reads self.new) }
         ensures tree { IfErr result (λ _. tree.new ≡ tree.old) }
+        ensures unknown { IfErr result (λ _. value_at H.digest tree.old 0 from ≡ None) }
     {
         if from == self.geometry.blocks() {
             return Ok(Adopted {
@@ -60,7 +63,7 @@ impl<D: Disk + Drop, H: NodeHash> FileStore<D, H> {
                 faults: 0,
             });
         }
-        let anchor = anchor_of(tree, from);
+        let anchor = tree.anchor(from);
         if anchor == 0 {
             return Ok(self.adopt_known(tree, from));
         }

@@ -95,7 +95,7 @@ impl<D: Disk + Drop, H: NodeHash> FileStore<D, H> {
     pub fn is_complete(&self) -> bool
         ensures { IsTrue result ↔ All (λ state. state ≡ BlockState.Marked) self.now.states }
     {
-        self.states.marked() == self.geometry.blocks()
+        self.marked() == self.geometry.blocks()
     }
 
     /// The device.

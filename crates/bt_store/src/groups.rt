@@ -6,8 +6,9 @@ ghost use Rattle.bt_tree.specs.Tree.{padding_digest};
 ghost use Rattle.bt_sparse.specs.SparseTree.{blocks_of, value_at};
 ghost use Rattle.bt_sparse.specs.Acceptance.{Accepts, IsRefused};
 ghost use Rattle.bt_sparse.specs.declared.claim.ProofError.{ProofError};
+ghost use Rattle.bt_sparse.specs.Anchor.{IsAnchor};
 ghost use Rattle.bt_store.specs.BlockReads.{BlockRead};
-ghost use Rattle.bt_store.specs.Adoption.{IsAnchor, IsKnownGroup, IsUnknownGroup, leaf_claim, marked_run};
+ghost use Rattle.bt_store.specs.Adoption.{IsKnownGroup, IsUnknownGroup, leaf_claim, marked_run};
 ghost use Rattle.bt_store.specs.GroupsSteps.{noted, counted, noted_findings, counted_findings, IsGroupRead};
 
 use crate::block_states::{BlockState, BlockStates};
@@ -45,20 +46,6 @@ impl Census {
             },
         }
     }
-}
-
-/// The layer of the nearest node above a leaf that is held, 0 for the leaf itself.
-pub(crate) fn anchor_of<H: NodeHash>(tree: &SparseTree<H>, leaf: u32) -> u32
-    requires { leaf < blocks_of tree.now }
-    ensures anchor { IsAnchor tree.now leaf result }
-    ensures limit { result ≤ max_height }
-{
-    for layer in 0..tree.geometry().height() as u32 {
-        if tree.known(layer, leaf >> layer).is_some() {
-            return layer;
-        }
-    }
-    tree.geometry().height() as u32
 }
 
 /// How many blocks from one on have leaves that are known, as far as eight.

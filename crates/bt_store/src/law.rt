@@ -1,4 +1,4 @@
-ghost use Rattle.bt_store.specs.Laws.{RightBlocksAreFiles};
+ghost use Rattle.bt_store.specs.Laws.{RightBlocksAreFiles, AdoptMarksByBytes, AcceptedReadsAreRight, AdoptExtends};
 
 use bt_sparse::leaves_are_files;
 use bt_tree::NodeHash;
@@ -12,3 +12,19 @@ pub fn right_blocks_are_files<H: NodeHash>(hash: H)
 {
     leaves_are_files(hash);
 }
+
+/// Each block that `adopt` marks was read in that call with the digest of the leaf that the tree has then.
+pub fn adopt_marks_by_bytes<H: NodeHash>(_hash: H)
+    ensures { AdoptMarksByBytes H.digest }
+{}
+
+/// Where the blocks of a group are claimed together and the tree accepts that, the digest of each is the leaf
+/// that the tree has then.
+pub fn accepted_reads_are_right<H: NodeHash>(_hash: H)
+    ensures { AcceptedReadsAreRight H.digest }
+{}
+
+/// The tree after `adopt` is of the same file length and root, has every value that it had, and stays rooted.
+pub fn adopt_extends<H: NodeHash>(_hash: H)
+    ensures { AdoptExtends H.digest }
+{}

@@ -19,7 +19,9 @@ pub use arrival::Put;
 pub use block_states::BlockState;
 pub use error::{ReadError, Refused, StoreError};
 pub use file_store::FileStore;
-pub use law::right_blocks_are_files;
+pub use law::{
+    accepted_reads_are_right, adopt_extends, adopt_marks_by_bytes, right_blocks_are_files,
+};
 pub use review::{Rechecked, Settled};
 
 #[cfg(test)]

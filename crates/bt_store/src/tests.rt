@@ -1,6 +1,10 @@
-//! Worked examples, and a failure at each call of a device.
+//! Worked examples. A store is called through functions without a contract, so that a test's proof carries no
+//! clause of its calls.
 ghost use Rattle.std.specs.Prelude.{◌≡◌};
 ghost use Rattle.std.specs.Bool.{OnTrue};
+
+mod faults;
+mod ranges;
 
 use crate::{Adopted, BlockState, FileStore, Put, ReadError, Rechecked, Settled, StoreError};
 use bt_disk::{DeviceFault, FaultDisk, MemoryDisk};
@@ -78,6 +82,19 @@ impl Fixture {
     fn state(&self, block: u32) -> Option<BlockState> {
         self.store.state(block)
     }
+
+    fn marked(&self) -> u32 {
+        self.store.marked()
+    }
+
+    fn sync(&mut self) -> Result<(), DeviceFault> {
+        self.store.sync()
+    }
+
+    /// The bytes of the disk.
+    fn bytes(&self) -> &[u8] {
+        self.store.disk().inner().bytes()
+    }
 }
 
 /// A block of one byte over and over.
@@ -106,7 +123,7 @@ fn root(leaves: &[Hash32; 4]) -> Hash32 {
 }
 
 /// The claim of all leaves.
-fn claim(alloc: Global, leaves: &[Hash32; 4]) -> Result<Claim, AllocError> {
+fn claim(alloc: Global, leaves: &[Hash32]) -> Result<Claim, AllocError> {
     Ok(Claim {
         base: 0,
         index: 0,
@@ -120,14 +137,24 @@ fn zeros(alloc: Global, length: usize) -> Result<FaultDisk<MemoryDisk>, AllocErr
     Ok(FaultDisk::new(MemoryDisk::new(alloc, block(alloc, 0, length)?)))
 }
 
-/// The store of the three blocks, whose tree knows the root alone.
-fn three_blocks(alloc: Global, disk: FaultDisk<MemoryDisk>) -> Result<Fixture, Fail> {
-    let geometry = Geometry::new(49152).ok_or("no geometry")?;
-    let tree = SparseTree::new(alloc, Plain, geometry, root(&leaves(alloc)?))?;
+/// A store of a file of which the root alone is known.
+fn rooted(
+    alloc: Global,
+    length: usize,
+    root: Hash32,
+    disk: FaultDisk<MemoryDisk>,
+) -> Result<Fixture, Fail> {
+    let geometry = Geometry::new(length as u64).ok_or("no geometry")?;
+    let tree = SparseTree::new(alloc, Plain, geometry, root)?;
     let store = FileStore::create(alloc, disk, Plain, geometry)
         .ok()
         .ok_or("no store")?;
     Ok(Fixture { store, tree })
+}
+
+/// The store of the three blocks, of which the root alone is known.
+fn three_blocks(alloc: Global, disk: FaultDisk<MemoryDisk>) -> Result<Fixture, Fail> {
+    rooted(alloc, 49152, root(&leaves(alloc)?), disk)
 }
 
 #[test]
@@ -194,61 +221,6 @@ fn first_marked(alloc: Global, disk: FaultDisk<MemoryDisk>) -> Result<Fixture, F
 }
 
 #[test]
-fn a_write_that_fails_leaves_its_block_missing(rt: HostRuntime) -> Result<(), Fail> {
-    let alloc = rt.alloc();
-    let mut f = three_blocks(alloc, zeros(alloc, 49152)?.failing_once(1))?;
-    let first = block(alloc, 1, BLOCK_LEN)?;
-    assert_eq!(rt; f.put(0, &first), Some(Err(StoreError::Device)));
-    assert_eq!(rt; f.state(0), Some(BlockState::Missing));
-    assert_eq!(rt; f.put(0, &first), Some(Ok(Put::Waiting)));
-    Ok(())
-}
-
-#[test]
-fn a_read_that_fails_frees_a_block_that_waits(rt: HostRuntime) -> Result<(), Fail> {
-    let alloc = rt.alloc();
-    let mut f = three_blocks(alloc, zeros(alloc, 49152)?.failing_once(3))?;
-    assert_eq!(rt;
-        f.put(0, &block(alloc, 1, BLOCK_LEN)?),
-        Some(Ok(Put::Waiting))
-    );
-    assert_eq!(rt;
-        f.put(1, &block(alloc, 2, BLOCK_LEN)?),
-        Some(Ok(Put::Waiting))
-    );
-    assert!(rt; f.accept(&claim(alloc, &leaves(alloc)?)?));
-    let settled = Settled {
-        marked: 1,
-        freed: 0,
-        faults: 1,
-    };
-    assert_eq!(rt; f.settle(0, 3), Some(Ok(settled)));
-    assert_eq!(rt; f.state(0), Some(BlockState::Missing));
-    assert_eq!(rt; f.state(1), Some(BlockState::Marked));
-    Ok(())
-}
-
-#[test]
-fn a_read_that_fails_leaves_a_marked_block(rt: HostRuntime) -> Result<(), Fail> {
-    let alloc = rt.alloc();
-    let mut f = first_marked(alloc, zeros(alloc, 49152)?.failing_once(2))?;
-    let mut out = block(alloc, 0, BLOCK_LEN)?;
-    assert_eq!(rt; f.read(0, &mut out), Some(Err(ReadError::Device)));
-    assert_eq!(rt; f.read(0, &mut out), Some(Ok(BLOCK_LEN)));
-    Ok(())
-}
-
-#[test]
-fn a_read_that_fails_restores_nothing(rt: HostRuntime) -> Result<(), Fail> {
-    let alloc = rt.alloc();
-    let mut f = first_marked(alloc, zeros(alloc, 49152)?.failing_once(2))?;
-    f.store.clear();
-    assert_eq!(rt; f.restore(0), Some(Err(StoreError::Device)));
-    assert_eq!(rt; f.restore(0), Some(Ok(true)));
-    Ok(())
-}
-
-#[test]
 fn a_changed_bit_is_not_lent(rt: HostRuntime) -> Result<(), Fail> {
     let alloc = rt.alloc();
     let mut f = first_marked(alloc, zeros(alloc, 49152)?.flipping(2, 0))?;
@@ -258,31 +230,49 @@ fn a_changed_bit_is_not_lent(rt: HostRuntime) -> Result<(), Fail> {
     Ok(())
 }
 
-#[test]
-fn a_sync_may_fail(rt: HostRuntime) -> Result<(), Fail> {
-    let alloc = rt.alloc();
-    let mut f = first_marked(alloc, zeros(alloc, 49152)?.failing_once(2))?;
-    assert_eq!(rt; f.store.sync(), Err(DeviceFault));
-    assert_eq!(rt; f.store.sync(), Ok(()));
-    assert_eq!(rt; f.state(0), Some(BlockState::Marked));
-    Ok(())
+/// The digests of a file of zeros.
+#[derive(Drop)]
+struct ZeroFile {
+    length: usize,
+    root: Hash32,
+    leaves: Vec<Hash32>,
 }
 
-/// A file of zeros on a disk, of which all leaves are known.
-fn zero_file(alloc: Global, length: usize, disk: FaultDisk<MemoryDisk>) -> Result<Fixture, Fail> {
-    let geometry = Geometry::new(length as u64).ok_or("no geometry")?;
-    let file = block(alloc, 0, length)?;
-    let mut builder = RootBuilder::new(Plain, geometry);
-    let mut leaves = Vec::new(alloc);
-    for bytes in file.chunks(BLOCK_LEN) {
-        leaves.extend_from_slice(&Plain.block(bytes))?;
-        builder.push(bytes)?;
+impl ZeroFile {
+    fn new(alloc: Global, length: usize) -> Result<ZeroFile, Fail> {
+        let geometry = Geometry::new(length as u64).ok_or("no geometry")?;
+        let file = block(alloc, 0, length)?;
+        let mut builder = RootBuilder::new(Plain, geometry);
+        let mut leaves = Vec::new(alloc);
+        for bytes in file.chunks(BLOCK_LEN) {
+            leaves.push(Plain.block(bytes))?;
+            builder.push(bytes)?;
+        }
+        Ok(ZeroFile {
+            length,
+            root: builder.finish()?,
+            leaves,
+        })
     }
-    let tree = SparseTree::with_layer(alloc, Plain, geometry, builder.finish()?, 0, &leaves)?;
-    let store = FileStore::create(alloc, disk, Plain, geometry)
-        .ok()
-        .ok_or("no store")?;
-    Ok(Fixture { store, tree })
+
+    /// A store of the file, of which all leaves are known.
+    fn known(&self, alloc: Global, disk: FaultDisk<MemoryDisk>) -> Result<Fixture, Fail> {
+        let geometry = Geometry::new(self.length as u64).ok_or("no geometry")?;
+        let mut layer = Vec::new(alloc);
+        for leaf in &self.leaves {
+            layer.extend_from_slice(leaf)?;
+        }
+        let tree = SparseTree::with_layer(alloc, Plain, geometry, self.root, 0, &layer)?;
+        let store = FileStore::create(alloc, disk, Plain, geometry)
+            .ok()
+            .ok_or("no store")?;
+        Ok(Fixture { store, tree })
+    }
+
+    /// A store of the file on a disk that has it, of which the root alone is known.
+    fn rooted(&self, alloc: Global) -> Result<Fixture, Fail> {
+        rooted(alloc, self.length, self.root, zeros(alloc, self.length)?)
+    }
 }
 
 /// The answer of `adopt` without a fault.
@@ -297,7 +287,7 @@ fn adopted(next: u32, anchor: u32, marked: u32) -> Option<Result<Adopted, AllocE
 
 /// Adopts nine blocks by nine calls of the device.
 fn nine_blocks(alloc: Global, disk: FaultDisk<MemoryDisk>) -> Result<Fixture, Fail> {
-    let mut f = zero_file(alloc, 131073, disk)?;
+    let mut f = ZeroFile::new(alloc, 131073)?.known(alloc, disk)?;
     if f.adopt(0) != adopted(8, 0, 8) || f.adopt(8) != adopted(9, 0, 1) {
         return Err("not adopted")?;
     }
@@ -319,44 +309,15 @@ fn a_recheck_finds_a_changed_bit(rt: HostRuntime) -> Result<(), Fail> {
 }
 
 #[test]
-fn a_recheck_keeps_a_block_whose_read_fails(rt: HostRuntime) -> Result<(), Fail> {
-    let alloc = rt.alloc();
-    let mut f = nine_blocks(alloc, zeros(alloc, 131073)?.failing_once(12))?;
-    let rechecked = Rechecked {
-        kept: 8,
-        unmarked: 0,
-        faults: 1,
-    };
-    assert_eq!(rt; f.recheck(), Some(rechecked));
-    assert_eq!(rt; f.store.marked(), 9);
-    assert!(rt; f.store.is_complete());
-    Ok(())
-}
-
-#[test]
 fn the_last_block_may_be_short(rt: HostRuntime) -> Result<(), Fail> {
     let alloc = rt.alloc();
     let mut out = block(alloc, 0, BLOCK_LEN)?;
     for (length, last, rest) in [(1usize, 0u32, 1usize), (16384, 0, 16384), (16385, 1, 1)] {
-        let mut f = zero_file(alloc, length, zeros(alloc, length)?)?;
+        let mut f = ZeroFile::new(alloc, length)?.known(alloc, zeros(alloc, length)?)?;
         assert!(rt; f.adopt(0) == adopted(last + 1, 0, last + 1));
         assert!(rt; f.store.is_complete());
         assert_eq!(rt; f.read(last, &mut out), Some(Ok(rest)));
     }
-    Ok(())
-}
-
-#[test]
-fn an_empty_range_is_settled(rt: HostRuntime) -> Result<(), Fail> {
-    let alloc = rt.alloc();
-    let mut f = three_blocks(alloc, zeros(alloc, 0)?)?;
-    let settled = Settled {
-        marked: 0,
-        freed: 0,
-        faults: 0,
-    };
-    assert_eq!(rt; f.settle(3, 0), Some(Ok(settled)));
-    assert_eq!(rt; f.settle(4, 0), Some(Err(StoreError::Range)));
     Ok(())
 }
 
@@ -397,38 +358,9 @@ fn a_short_disk_is_not_adopted(rt: HostRuntime) -> Result<(), Fail> {
 }
 
 #[test]
-fn a_group_with_a_fault_is_not_adopted(rt: HostRuntime) -> Result<(), Fail> {
-    let alloc = rt.alloc();
-    let mut f = three_blocks(alloc, filled(alloc)?.failing_once(2))?;
-    let failed = Adopted {
-        next: 3,
-        anchor: 0,
-        marked: 0,
-        faults: 1,
-    };
-    assert!(rt; f.adopt(0) == Some(Ok(failed)));
-    assert!(rt; f.adopt(0) == adopted(3, 2, 3));
-    Ok(())
-}
-
-/// A file of zeros on a disk, of which the root alone is known.
-fn rooted_file(alloc: Global, length: usize) -> Result<Fixture, Fail> {
-    let geometry = Geometry::new(length as u64).ok_or("no geometry")?;
-    let file = block(alloc, 0, length)?;
-    let mut builder = RootBuilder::new(Plain, geometry);
-    builder.push(&file)?;
-    let tree = SparseTree::new(alloc, Plain, geometry, builder.finish()?)?;
-    let disk = FaultDisk::new(MemoryDisk::new(alloc, file));
-    let store = FileStore::create(alloc, disk, Plain, geometry)
-        .ok()
-        .ok_or("no store")?;
-    Ok(Fixture { store, tree })
-}
-
-#[test]
 fn an_adopted_file_answers_with_uncles(rt: HostRuntime) -> Result<(), Fail> {
     let alloc = rt.alloc();
-    let mut f = rooted_file(alloc, 1048577)?;
+    let mut f = ZeroFile::new(alloc, 1048577)?.rooted(alloc)?;
     assert!(rt; f.adopt(64) == adopted(65, 7, 65));
     let digests = f.answer(64, 6)?;
     assert_eq!(rt; digests.len(), 8);

@@ -1,10 +1,11 @@
-use Rattle.std.proofs.Common.{◌≡◌, ◌/◌, ◌^◌, ◌<◌, ◌≤◌, [], refl, sym, ap, ◌∙◌, subst, arith}
+use Rattle.std.proofs.Common.{◌≡◌, ◌/◌, ◌^◌, ◌<◌, ◌≤◌, None, [], refl, sym, ap, ◌∙◌, subst, arith}
+use Rattle.std.proofs.lemmas.Result.{IfErr-weaker}
 use Rattle.std.specs.Prelude.{IsSome}
 use Rattle.bt_tree.specs.Blocks.{block_count}
 use Rattle.bt_disk.proofs.CallLists.{has_none}
 use Rattle.bt_sparse.specs.SparseTree.{blocks_of, held_at, value_at}
 use Rattle.bt_store.specs.Adoption.{none}
-use Rattle.bt_store.proofs.Anchors.{known_above}
+use Rattle.bt_sparse.proofs.Anchors.{known_above}
 use Rattle.bt_store.proofs.file_store.FileStore.adopt.Goals as goal
 
 pub returns-then-from-blocks-clause-ok : goal.returns-then-from-blocks-clause-ok
@@ -23,7 +24,21 @@ adopt_known-requires-clause-known g c =
     let count : blocks_of k ≡ c.blocks-2.result = sym (c.blocks-2.ensures.value ∙ ap (λ n. block_count n) same) in
     let up_to : from ≤ blocks_of k = subst (λ n. from ≤ block_count n) (sym c.requires.geometry) c.requires.inside in
     let inside : from < blocks_of k = omega (arith, count, up_to, c.if-from-blocks.false) in
-    let held : IsSome (held_at k 0 (from / 2 ^ 0)) = subst (λ a. IsSome (held_at k a (from / 2 ^ a))) c.if-anchor-eq0.true c.anchor_of-anchor.ensures.anchor.held in
+    let held : IsSome (held_at k 0 (from / 2 ^ 0)) = subst (λ a. IsSome (held_at k a (from / 2 ^ a))) c.if-anchor-eq0.true c.anchor-anchor.ensures.nearest.held in
     let value : IsSome (value_at dig k 0 (from / 2 ^ 0)) = subst (λ o. IsSome o) (sym (known_above dig k from 0 inside (omega arith))) held in
     let whole : from / 2 ^ 0 ≡ from = omega arith in
     subst (λ i. IsSome (value_at dig k 0 i)) whole value
+
+pub returns-clause-unknown : goal.returns-clause-unknown
+returns-clause-unknown g c =
+    let k = c.args.tree.now in
+    let from = c.args.from in
+    let dig = g.H.NodeHash.digest in
+    let same : c.self.inside.geometry ≡ k.file_length = ap (λ s. s.file_length) c.self.view_is ∙ sym c.requires.geometry in
+    let count : blocks_of k ≡ c.blocks-2.result = sym (c.blocks-2.ensures.value ∙ ap (λ n. block_count n) same) in
+    let up_to : from ≤ blocks_of k = subst (λ n. from ≤ block_count n) (sym c.requires.geometry) c.requires.inside in
+    let inside : from < blocks_of k = omega (arith, count, up_to, c.if-from-blocks.false) in
+    let unheld : held_at k 0 (from / 2 ^ 0) ≡ None = c.anchor-anchor.ensures.nearest.nearest 0 (omega (arith, c.if-anchor-eq0.false)) in
+    let whole : from / 2 ^ 0 ≡ from = omega arith in
+    let unknown : value_at dig k 0 from ≡ None = subst (λ i. value_at dig k 0 i ≡ None) whole (known_above dig k from 0 inside (omega arith) ∙ unheld) in
+    IfErr-weaker c.adopt_unknown.result _ _ (λ _ _. unknown) c.adopt_unknown.ensures.tree

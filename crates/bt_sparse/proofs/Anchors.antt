@@ -1,5 +1,5 @@
 -- The nodes above a leaf, and the nearest of them that is held.
-use Rattle.std.proofs.Common.{◌≡◌, ℕ, ◌+◌, ◌-◌, ◌*◌, ◌/◌, ◌^◌, ◌<◌, ◌≤◌, List, Option, None, true, is_some, inl, inr, ap, sym, ◌∙◌, arith}
+use Rattle.std.proofs.Common.{◌≡◌, ℕ, ◌+◌, ◌-◌, ◌*◌, ◌/◌, ◌^◌, ◌<◌, ◌≤◌, List, None, is_some, inl, inr, ap, ◌∙◌, arith}
 use Rattle.std.specs.Int.{div_ceil}
 use Rattle.std.proofs.Math.Nat.{div-lt_iff_lt-mul, div-mul-le_self, mul-le-mul_right}
 use Rattle.std.proofs.lemmas.Nat.{pow_pos, pow-add}
@@ -9,7 +9,7 @@ use Rattle.bt_tree.specs.TreeShape.{height_of, CoversBlock}
 use Rattle.bt_tree.proofs.TreeShape.{height_is}
 use Rattle.bt_sparse.specs.SparseTree.{Facts, blocks_of, height, held_at, value_at, IsRooted}
 use Rattle.bt_sparse.proofs.Values.{value_covers}
-use Rattle.bt_store.specs.Adoption.{IsAnchor}
+use Rattle.bt_sparse.specs.Anchor.{IsAnchor}
 
 -- among n things in groups of p, each lies in one of the groups
 in_group : (n p i : ℕ) → 0 < p → i < n → i / p < div_ceil n p
@@ -39,16 +39,6 @@ covers_above n leaf layer h low =
 pub known_above : (dig : List ℕ → List ℕ) (k : Facts) (leaf layer : ℕ) → leaf < blocks_of k → layer ≤ height k
     → value_at dig k layer (leaf / 2 ^ layer) ≡ held_at k layer (leaf / 2 ^ layer)
 known_above dig k leaf layer h low = value_covers dig k layer (leaf / 2 ^ layer) (covers_above (blocks_of k) leaf layer h low)
-
--- a node above the leaf of which something is known, while nothing is held below it
-pub anchor_here : (dig : List ℕ → List ℕ) (k : Facts) (leaf layer : ℕ) (found : Option (List ℕ)) → leaf < blocks_of k → layer ≤ height k
-    → found ≡ value_at dig k layer (leaf / 2 ^ layer) → is_some found ≡ true
-    → ((l : ℕ) → l < layer → held_at k l (leaf / 2 ^ l) ≡ None) → IsAnchor k leaf layer
-anchor_here dig k leaf layer found h low known some below = record {
-  inside = low;
-  held = sym (ap (λ o. is_some o) (known ∙ known_above dig k leaf layer h low)) ∙ some;
-  nearest = below;
-}
 
 -- the root, where nothing is held below it
 pub anchor_at_root : (dig : List ℕ → List ℕ) (k : Facts) (leaf : ℕ) → leaf < blocks_of k → IsRooted dig k

@@ -1,0 +1,148 @@
+-- What is left to an engine where peers come and go, bytes come, peers are chosen, and devices are synced.
+use Rattle.std.proofs.Common.{◌≡◌, ◌≢◌, ℕ, zero, suc, ◌+◌, ◌-◌, ◌*◌, ◌/◌, ◌%◌, ◌<◌, false, List, [], ◌∷◌, ◌++◌, length, map, get_or, replicate, Option, Some, None, refl, sym, ap, ◌∙◌, subst, arith}
+use Rattle.std.specs.Prelude.{◌==◌, All, Contains, Result, Ok, Err}
+use Rattle.std.proofs.lemmas.List.Elements.{Contains-append_right}
+use Rattle.bt_disk.specs.Calls.{Call, sync_made, sync_fault}
+use Rattle.bt_meta.specs.Torrent.{total_pieces}
+use Rattle.bt_book.specs.declared.names.PeerKey.{PeerKey}
+use Rattle.bt_book.proofs.Ranks.{same_peer}
+use Rattle.bt_wire.specs.Cutter.{fed}
+use Rattle.bt_engine.specs.declared.error.ConnectError.{ConnectError}
+use Rattle.bt_engine.specs.declared.error.ConnectError.TheVariants.{OutOfMemory as no_room_to_connect}
+use Rattle.bt_engine.specs.declared.error.EngineError.{EngineError}
+use Rattle.bt_engine.specs.declared.error.EngineError.TheVariants.{OutOfMemory}
+use Rattle.bt_engine.specs.declared.error.FlushError.{FlushError}
+use Rattle.bt_engine.specs.State.{PeerState, EngineState}
+use Rattle.bt_engine.specs.Devices.{DeviceCalls}
+use Rattle.bt_engine.specs.Blocks.{piece_numbers, is_whole, with_peer}
+use Rattle.bt_engine.specs.Output.{Output}
+use Rattle.bt_engine.specs.WireEvents.{bits_of, bits_in}
+use Rattle.bt_engine.specs.Next.{without_peer}
+use Rattle.bt_engine.specs.Peers.{new_peer, IsOurBitfield, greeting, StepConnect, joins, full, spent, no_memory, StepFeed, feeds, no_peer as not_fed, no_memory as no_room_to_feed, StepLost, goes, no_peer as not_lost}
+use Rattle.bt_engine.specs.Rechoke.{chokes_sent, rechoked, StepRechoke, rechokes, no_memory as not_rechoked}
+use Rattle.bt_engine.specs.Flush.{data_files, syncs_of, StepFlush, syncs, fails}
+use Rattle.bt_engine.specs.Orderly.{IsOrderly}
+use Rattle.bt_engine.specs.Step.{Answer, of_connect, of_feed, of_lost, of_rechoke, of_flush}
+use Rattle.bt_engine.specs.Determined.{other_frames, without_requests, plain_answer, without_asked}
+use Rattle.bt_engine.proofs.Lists.{contains_map, here}
+use Rattle.bt_engine.proofs.Orderly.{length-bits_of}
+use Rattle.bt_engine.proofs.DeterminedParts.{peer_one}
+use Rattle.bt_engine.proofs.DeterminedEvents.{split_one}
+use Rattle.bt_engine.proofs.DeterminedFollow.{other_append, each_one}
+
+-- ---- bitfields
+
+bit_one : (a b : ℕ) → a < 2 → b < 2 → (a == 1) ≡ (b == 1) → a ≡ b
+bit_one zero zero p q e = refl
+bit_one zero (suc zero) p q e = absurd cc
+bit_one (suc zero) zero p q e = absurd cc
+bit_one (suc zero) (suc zero) p q e = refl
+bit_one (suc (suc a)) b p q e = absurd (omega (arith, p))
+bit_one a (suc (suc b)) p q e = absurd (omega (arith, q))
+
+-- a byte is the sum of its bits
+byte_sum : (x : ℕ) → x < 256
+    → x ≡ 128 * (x / 128 % 2) + 64 * (x / 64 % 2) + 32 * (x / 32 % 2) + 16 * (x / 16 % 2) + 8 * (x / 8 % 2) + 4 * (x / 4 % 2) + 2 * (x / 2 % 2) + x / 1 % 2
+byte_sum x lt = omega (arith, lt)
+
+byte_one : (x y : ℕ) → x < 256 → y < 256 → bits_of x ≡ bits_of y → x ≡ y
+byte_one x y p q e =
+    let b0 : x / 128 % 2 ≡ y / 128 % 2 = bit_one (x / 128 % 2) (y / 128 % 2) (omega arith) (omega arith) (ap (λ bs. get_or bs 0 false) e) in
+    let b1 : x / 64 % 2 ≡ y / 64 % 2 = bit_one (x / 64 % 2) (y / 64 % 2) (omega arith) (omega arith) (ap (λ bs. get_or bs 1 false) e) in
+    let b2 : x / 32 % 2 ≡ y / 32 % 2 = bit_one (x / 32 % 2) (y / 32 % 2) (omega arith) (omega arith) (ap (λ bs. get_or bs 2 false) e) in
+    let b3 : x / 16 % 2 ≡ y / 16 % 2 = bit_one (x / 16 % 2) (y / 16 % 2) (omega arith) (omega arith) (ap (λ bs. get_or bs 3 false) e) in
+    let b4 : x / 8 % 2 ≡ y / 8 % 2 = bit_one (x / 8 % 2) (y / 8 % 2) (omega arith) (omega arith) (ap (λ bs. get_or bs 4 false) e) in
+    let b5 : x / 4 % 2 ≡ y / 4 % 2 = bit_one (x / 4 % 2) (y / 4 % 2) (omega arith) (omega arith) (ap (λ bs. get_or bs 5 false) e) in
+    let b6 : x / 2 % 2 ≡ y / 2 % 2 = bit_one (x / 2 % 2) (y / 2 % 2) (omega arith) (omega arith) (ap (λ bs. get_or bs 6 false) e) in
+    let b7 : x / 1 % 2 ≡ y / 1 % 2 = bit_one (x / 1 % 2) (y / 1 % 2) (omega arith) (omega arith) (ap (λ bs. get_or bs 7 false) e) in
+    omega (arith, byte_sum x p, byte_sum y q, b0, b1, b2, b3, b4, b5, b6, b7)
+
+pub bytes_one : (xs ys : List ℕ) → All (λ byte. byte < 256) xs → All (λ byte. byte < 256) ys → length xs ≡ length ys → bits_in xs ≡ bits_in ys → xs ≡ ys
+bytes_one [] [] p q size e = refl
+bytes_one [] (y ∷ ys) p q size e = absurd (omega (arith, size))
+bytes_one (x ∷ xs) [] p q size e = absurd (omega (arith, size))
+bytes_one (x ∷ xs) (y ∷ ys) p q size e =
+    let parts = split_one (bits_of x) (bits_of y) (bits_in xs) (bits_in ys) (length-bits_of x ∙ sym (length-bits_of y)) e in
+    ap (λ z. z ∷ xs) (byte_one x y (p 0 x (omega arith)) (q 0 y (omega arith)) parts.0)
+    ∙ ap (λ zs. y ∷ zs) (bytes_one xs ys (λ k d lt. p (suc k) d (omega (arith, lt))) (λ k d lt. q (suc k) d (omega (arith, lt))) (omega (arith, size)) parts.1)
+
+bitfield_one : (s : EngineState) (xs ys : List ℕ) → IsOurBitfield s xs → IsOurBitfield s ys → xs ≡ ys
+bitfield_one s xs ys x y =
+    let size : length xs ≡ length ys = x.size ∙ sym y.size in
+    bytes_one xs ys x.are_bytes y.are_bytes size (x.bits ∙ ap (λ n. map (is_whole s) (piece_numbers s) ++ replicate (8 * n - total_pieces s.torrent) false) size ∙ sym y.bits)
+
+-- ---- peers that come and go
+
+abbrev Same : Answer → EngineState → Answer → EngineState → Type 0
+Same a m b n = (plain_answer a ≡ plain_answer b) × (without_asked m ≡ without_asked n)
+
+connect_same : (s m n : EngineState) (a b : Result (PeerKey × Output) ConnectError) → a ≡ b → m ≡ n → Same (of_connect a) m (of_connect b) n
+connect_same s m n a b e f = (ap (λ r. plain_answer (of_connect r)) e, ap without_asked f)
+
+pub connect_one : (s m n : EngineState) (a b : Result (PeerKey × Output) ConnectError) → StepConnect s a m → StepConnect s b n → a ≢ Err no_room_to_connect → b ≢ Err no_room_to_connect → Same (of_connect a) m (of_connect b) n
+connect_one s m n a b (no_memory x y z w) q r t = absurd (r z)
+connect_one s m n a b q (no_memory x y z w) r t = absurd (t z)
+connect_one s m n a b (joins key bytes lt below is bits e f) (joins other more lt2 below2 is2 bits2 e2 f2) r t =
+    let keys : key ≡ other = same_peer key other (is ∙ sym is2) in
+    let fields : bytes ≡ more = bitfield_one s bytes more bits bits2 in
+    connect_same s m n a b (e ∙ ap (λ k. Ok (k, greeting s k bytes)) keys ∙ ap (λ bs. Ok (other, greeting s other bs)) fields ∙ sym e2)
+    (f ∙ ap (λ k. record s { peers = s.peers ++ new_peer s k ∷ []; next_key = s.next_key + 1 }) keys ∙ sym f2)
+connect_one s m n a b (joins key bytes lt below is bits e f) (full x y z) r t = absurd (omega (arith, lt, x))
+connect_one s m n a b (joins key bytes lt below is bits e f) (spent x y z w) r t = absurd (omega (arith, below, y))
+connect_one s m n a b (full x y z) (joins key bytes lt below is bits e f) r t = absurd (omega (arith, lt, x))
+connect_one s m n a b (full x y z) (full u v w) r t = connect_same s m n a b (y ∙ sym v) (z ∙ sym w)
+connect_one s m n a b (full x y z) (spent u v w o) r t = absurd (omega (arith, x, u))
+connect_one s m n a b (spent x y z w) (joins key bytes lt below is bits e f) r t = absurd (omega (arith, below, y))
+connect_one s m n a b (spent u v w o) (full x y z) r t = absurd (omega (arith, x, u))
+connect_one s m n a b (spent x y z w) (spent u v o q) r t = connect_same s m n a b (z ∙ sym o) (w ∙ sym q)
+
+pub feed_one : (s m n : EngineState) (key : PeerKey) (bytes : List ℕ) (a b : Result (Unit {0}) EngineError) → IsOrderly s → StepFeed s key bytes a m → StepFeed s key bytes b n → a ≢ Err OutOfMemory → b ≢ Err OutOfMemory
+    → Same (of_feed a) m (of_feed b) n
+feed_one s m n key bytes a b o (no_room_to_feed i p x y z) q r t = absurd (r y)
+feed_one s m n key bytes a b o q (no_room_to_feed i p x y z) r t = absurd (t y)
+feed_one s m n key bytes a b o (feeds i p x y z) (feeds j q u v w) r t =
+    let same = peer_one s key i j p q o x u in (
+      ap of_feed (y ∙ sym v),
+      ap without_asked (z ∙ ap (λ k. with_peer s k (record p { stream = fed p.stream bytes })) same.0 ∙ ap (λ (l : PeerState). with_peer s j (record l { stream = fed l.stream bytes })) same.1 ∙ sym w),
+    )
+feed_one s m n key bytes a b o (feeds i p x y z) (not_fed u v w) r t = absurd (u i p x)
+feed_one s m n key bytes a b o (not_fed u v w) (feeds i p x y z) r t = absurd (u i p x)
+feed_one s m n key bytes a b o (not_fed x y z) (not_fed u v w) r t = (ap of_feed (y ∙ sym v), ap without_asked (z ∙ sym w))
+
+pub lost_one : (s m n : EngineState) (key : PeerKey) (a b : Result (Unit {0}) EngineError) → IsOrderly s → StepLost s key a m → StepLost s key b n → Same (of_lost a) m (of_lost b) n
+lost_one s m n key a b o (goes i p x y z) (goes j q u v w) = (ap of_lost (y ∙ sym v), ap without_asked (z ∙ ap (λ k. without_peer k s) (peer_one s key i j p q o x u).0 ∙ sym w))
+lost_one s m n key a b o (goes i p x y z) (not_lost u v w) = absurd (u i p x)
+lost_one s m n key a b o (not_lost u v w) (goes i p x y z) = absurd (u i p x)
+lost_one s m n key a b o (not_lost x y z) (not_lost u v w) = (ap of_lost (y ∙ sym v), ap without_asked (z ∙ sym w))
+
+-- ---- peers to serve
+
+pub rechoke_one : (dig : List ℕ → List ℕ) (s m n : EngineState) (a b : Option Output) → StepRechoke dig s a m → StepRechoke dig s b n → a ≢ None → b ≢ None → Same (of_rechoke a) m (of_rechoke b) n
+rechoke_one dig s m n a b (not_rechoked x y) q r t = absurd (r x)
+rechoke_one dig s m n a b q (not_rechoked x y) r t = absurd (t x)
+rechoke_one dig s m n a b (rechokes out x e) (rechokes other y f) r t =
+    let each = each_one dig _ (rechoked s) (rechoked s) x.sent y.sent m n refl x.follows y.follows in
+    let send : other_frames (chokes_sent s ++ x.sent) ≡ other_frames (chokes_sent s ++ y.sent)
+    = other_append (chokes_sent s) x.sent ∙ ap (λ zs. other_frames (chokes_sent s) ++ zs) each.0 ∙ sym (other_append (chokes_sent s) y.sent) in (
+      ap (λ z. plain_answer (of_rechoke z)) e ∙ ap (λ z. of_rechoke (Some (without_requests z))) x.is ∙ ap (λ zs. of_rechoke (Some (record { send = zs; close = None; notes = [] }))) send
+          ∙ sym (ap (λ z. of_rechoke (Some (without_requests z))) y.is) ∙ sym (ap (λ z. plain_answer (of_rechoke z)) f),
+      each.1,
+    )
+
+-- ---- devices
+
+no_fault_among : (files : List ℕ) (c : ℕ × Call) → Contains (syncs_of files) c → c.1 ≡ sync_fault → ⊥
+no_fault_among files c among e =
+    let m = contains_map (λ file. (file, sync_made)) files c among in
+    let no : sync_made ≡ sync_fault = ap (λ (x : ℕ × Call). x.1) m.2 ∙ e in
+    absurd cc
+
+synced_or_not : (files before : List ℕ) (file : ℕ) → syncs_of files ≡ syncs_of before ++ (file, sync_fault) ∷ [] → ⊥
+synced_or_not files before file e =
+    no_fault_among files (file, sync_fault) (subst (λ cs. Contains cs (file, sync_fault)) (sym e) (Contains-append_right (syncs_of before) ((file, sync_fault) ∷ []) (file, sync_fault) (here (file, sync_fault) (file, sync_fault) [] refl))) refl
+
+pub flush_one : (s m n : EngineState) (calls : DeviceCalls) (a b : Result (Unit {0}) FlushError) → StepFlush s calls a m → StepFlush s calls b n → Same (of_flush a) m (of_flush b) n
+flush_one s m n calls a b (syncs x y z w) (syncs u v o q) = (ap of_flush (z ∙ sym o), ap without_asked (w ∙ sym q))
+flush_one s m n calls a b (syncs x y z w) (fails before file after u v o q) = absurd (synced_or_not (data_files s) before file (sym y ∙ v))
+flush_one s m n calls a b (fails before file after u v o q) (syncs x y z w) = absurd (synced_or_not (data_files s) before file (sym y ∙ v))
+flush_one s m n calls a b (fails before file after u v o q) (fails before2 file2 after2 x y z w) = (ap of_flush (o ∙ sym z), ap without_asked (q ∙ sym w))

@@ -1,7 +1,0 @@
-use Rattle.std.proofs.Common.{◌≡◌, ℕ, ◌/◌, ◌^◌, ◌<◌, None}
-use Rattle.bt_sparse.specs.SparseTree.{held_at}
-use Rattle.bt_store.proofs.groups.anchor_of.Given as goal
-
--- none of the nodes so far is held
-abbrev pub invariant-loop-layer : goal.invariant-loop-layer
-invariant-loop-layer g l = (k : ℕ) → k < l.layer → held_at l.tree k (l.leaf / 2 ^ k) ≡ None
