@@ -4,6 +4,7 @@ use Rattle.std.specs.Prelude.{slice_get, Contains, not, filter, ◌&&◌, cond}
 use Rattle.std.specs.List.{range_with_len}
 use Rattle.std.proofs.lemmas.List.Elements.{Contains-append_left, Contains-append_right, Contains-append_cases}
 use Rattle.bt_meta.specs.Torrent.{total_pieces}
+use Rattle.bt_store.specs.declared.adoption.Adopted.{Adopted}
 use Rattle.bt_book.specs.declared.names.PeerKey.{PeerKey}
 use Rattle.bt_wire.specs.declared.message.Message.TheVariants.{Have}
 use Rattle.bt_engine.specs.declared.answer.Frame.{Frame}
@@ -11,7 +12,7 @@ use Rattle.bt_engine.specs.declared.answer.Frame.TheVariants.{Message as message
 use Rattle.bt_engine.specs.declared.answer.Note.{Note}
 use Rattle.bt_engine.specs.declared.answer.Note.TheVariants.{Complete}
 use Rattle.bt_engine.specs.declared.event.Event.{Event}
-use Rattle.bt_engine.specs.declared.event.Event.TheVariants.{Connect, Feed, Next, Lost, Rechoke, Flush}
+use Rattle.bt_engine.specs.declared.event.Event.TheVariants.{Connect, Feed, Next, Lost, Rechoke, Adopt, Flush}
 use Rattle.bt_engine.specs.State.{PeerState, EngineState}
 use Rattle.bt_engine.specs.Devices.{DeviceCalls}
 use Rattle.bt_engine.specs.Blocks.{with_peer, is_whole, is_complete, has_become, new_whole_pieces, new_complete_files, piece_numbers, file_numbers}
@@ -19,8 +20,9 @@ use Rattle.bt_engine.specs.Output.{Sent, Output, sent_to, haves}
 use Rattle.bt_engine.specs.Next.{IsPeer, GoesOn, StepNext, no_peer, waits, goes_on, closes, faulty, no_memory}
 use Rattle.bt_engine.specs.Peers.{StepConnect, joins, full, spent, no_memory as no_room, StepFeed, feeds, no_peer as not_fed, no_memory as no_room_to_feed, StepLost, goes, no_peer as not_lost}
 use Rattle.bt_engine.specs.Rechoke.{FollowsEach, StepRechoke, rechokes, no_memory as not_rechoked, rechoked}
+use Rattle.bt_engine.specs.Adopting.{AdoptsGroups, AdoptsFile, StepAdopt, no_file, busy, empty, adopts, no_memory as adopt_memory}
 use Rattle.bt_engine.specs.Flush.{StepFlush, syncs, fails}
-use Rattle.bt_engine.specs.Step.{Answer, of_connect, of_feed, of_next, of_lost, of_rechoke, of_flush, Step}
+use Rattle.bt_engine.specs.Step.{Answer, of_connect, of_feed, of_next, of_lost, of_rechoke, of_adopt, of_flush, Step}
 use Rattle.bt_engine.specs.Law.{sent_by}
 use Rattle.bt_engine.specs.AnswerLaw.{output_of, IsConnected, BecomesSo, NotesComplete, StepAnnouncesWholePieces, NextNotesCompleteFiles}
 use Rattle.bt_engine.proofs.Lists.{contains_none, contains_cases, contains_map, contains_flat_map, contains_filter, map_contains, flat_map_contains, range_contains, and_true, same_some, set_cases, set_same, here, later}
@@ -132,13 +134,31 @@ rechoke_keeps dig s new r (not_rechoked e x) = same_state dig s new _ _ (ap (λ 
 keeps_as : (dig : List ℕ → List ℕ) (s new : EngineState) (a b : Answer) → a ≡ b → Keeps dig s b new → Keeps dig s a new
 keeps_as dig s new a b e k = subst (λ x. Keeps dig s x new) (sym e) k
 
-step_keeps : (dig : List ℕ → List ℕ) (s new : EngineState) (e : Event) (calls : DeviceCalls) (a : Answer) → Step dig s e calls a new → Keeps dig s a new
-step_keeps dig s new Connect calls a t = keeps_as dig s new a _ t.1 (connect_keeps dig s new t.0 t.3)
-step_keeps dig s new (Feed key bytes) calls a t = keeps_as dig s new a _ t.1 (feed_keeps dig s new key bytes t.0 t.3)
-step_keeps dig s new (Next key) calls a t = keeps_as dig s new a _ t.1 (next_keeps dig s new key calls t.0 t.2)
-step_keeps dig s new (Lost key) calls a t = keeps_as dig s new a _ t.1 (lost_keeps dig s new key t.0 t.3)
-step_keeps dig s new Rechoke calls a t = keeps_as dig s new a _ t.1 (rechoke_keeps dig s new t.0 t.3)
-step_keeps dig s new Flush calls a t = keeps_as dig s new a _ t.1 (flush_keeps dig s new calls t.0 t.2)
+-- ---- taking in a file leaves no peer to tell
+
+groups_peers : (dig : List ℕ → List ℕ) (s new : EngineState) (file from : ℕ) (groups : List DeviceCalls) (total : Adopted) → AdoptsGroups dig s file from groups total new → new.peers ≡ s.peers
+groups_peers dig s new file from [] total f = ap (λ (x : EngineState). x.peers) f.1
+groups_peers dig s new file from (calls ∷ more) total f = groups_peers dig f.1 new file f.0.next more f.2 f.4 ∙ ap (λ (x : EngineState). x.peers) f.3.after
+
+file_peers : (dig : List ℕ → List ℕ) (s new : EngineState) (file : ℕ) (calls : DeviceCalls) (total : Adopted) → AdoptsFile dig s file calls total new → new.peers ≡ s.peers
+file_peers dig s new file calls total f =
+    ap (λ (x : EngineState). x.peers) f.after ∙ ap (λ (x : EngineState). x.peers) f.settles.others ∙ groups_peers dig s f.mid file 0 f.groups _ f.adopts
+
+adopt_keeps : (dig : List ℕ → List ℕ) (s new : EngineState) (file : ℕ) (calls : DeviceCalls) (r : _) → StepAdopt dig s file calls r new → Keeps dig s (of_adopt r) new ⊎ (new.peers ≡ [])
+adopt_keeps dig s new file calls r (no_file x y e z) = inl (same_state dig s new _ _ (ap (λ x. of_adopt x) e) refl z)
+adopt_keeps dig s new file calls r (busy x y z e w) = inl (same_state dig s new _ _ (ap (λ x. of_adopt x) e) refl w)
+adopt_keeps dig s new file calls r (empty f x y z w e v) = inl (same_state dig s new _ _ (ap (λ x. of_adopt x) e) refl v)
+adopt_keeps dig s new file calls r (adopts total alone f e) = inr (file_peers dig s new file calls total f ∙ alone)
+adopt_keeps dig s new file calls r (adopt_memory alone f e) = inr (groups_peers dig s new file 0 f.groups f.done f.adopts ∙ alone)
+
+step_keeps : (dig : List ℕ → List ℕ) (s new : EngineState) (e : Event) (calls : DeviceCalls) (a : Answer) → Step dig s e calls a new → Keeps dig s a new ⊎ (new.peers ≡ [])
+step_keeps dig s new Connect calls a t = inl (keeps_as dig s new a _ t.1 (connect_keeps dig s new t.0 t.3))
+step_keeps dig s new (Feed key bytes) calls a t = inl (keeps_as dig s new a _ t.1 (feed_keeps dig s new key bytes t.0 t.3))
+step_keeps dig s new (Next key) calls a t = inl (keeps_as dig s new a _ t.1 (next_keeps dig s new key calls t.0 t.2))
+step_keeps dig s new (Lost key) calls a t = inl (keeps_as dig s new a _ t.1 (lost_keeps dig s new key t.0 t.3))
+step_keeps dig s new Rechoke calls a t = inl (keeps_as dig s new a _ t.1 (rechoke_keeps dig s new t.0 t.3))
+step_keeps dig s new (Adopt file) calls a t = elim (adopt_keeps dig s new file calls t.0 t.2) [ inl kept ↦ inl (keeps_as dig s new a _ t.1 kept) | inr alone ↦ inr alone ]
+step_keeps dig s new Flush calls a t = inl (keeps_as dig s new a _ t.1 (flush_keeps dig s new calls t.0 t.2))
 
 -- ---- where a peer goes on
 
@@ -251,6 +271,9 @@ module _ (dig : List ℕ → List ℕ) where
         | inr more ↦ no_have_in places f.0 f.2 f.4 more
       ]
 
+  none_connected : {X : Type 0} (new : EngineState) (key : PeerKey) → new.peers ≡ [] → IsConnected new key → X
+  none_connected new key none c = absurd (contains_none c.1 (get_contains [] c.0 c.1 (ap (λ l. slice_get l c.0) (sym none) ∙ c.2.here)))
+
   sends_have : (s new : EngineState) (a : Answer) (key : PeerKey) (piece : ℕ) → Keeps dig s a new → IsConnected new key → piece < total_pieces new.torrent → BecomesSo is_whole s new piece
       → Contains (sent_by a) (frame_to key (Have piece))
   sends_have s new a key piece (keeps f t x) c below b = becomes_nothing is_whole s new piece (whole_same s new piece f t) b
@@ -258,7 +281,10 @@ module _ (dig : List ℕ → List ℕ) where
       subst (λ x. Contains (sent_by x) (frame_to key (Have piece))) (sym e) (tells_have dig s new other i p calls out peer g key piece c below b)
 
   pub step_announces : StepAnnouncesWholePieces dig
-  step_announces s new e calls a t key piece = (λ c. have_sent s new key piece (step_sent dig s new e calls a t _ c), λ c. sends_have s new a key piece (step_keeps dig s new e calls a t) c.0 c.1 c.2)
+  step_announces s new e calls a t key piece = (
+    λ c. have_sent s new key piece (step_sent dig s new e calls a t _ c),
+    λ c. elim (step_keeps dig s new e calls a t) [ inl kept ↦ sends_have s new a key piece kept c.0 c.1 c.2 | inr none ↦ none_connected new key none c.0 ],
+  )
 
   complete_cases : (s new : EngineState) (a : Answer) (file : ℕ) → Keeps dig s a new → NotesComplete a file ↔ (file < length new.files) × BecomesSo is_complete s new file
   complete_cases s new a file (keeps f t x) = (λ c. absurd (x file c), λ b. becomes_nothing is_complete s new file (complete_same s new file f) b.1)
@@ -270,4 +296,4 @@ module _ (dig : List ℕ → List ℕ) where
   )
 
   pub next_notes : NextNotesCompleteFiles dig
-  next_notes s new key calls a t file = complete_cases s new a file (step_keeps dig s new (Next key) calls a t)
+  next_notes s new key calls a t file = complete_cases s new a file (keeps_as dig s new a _ t.1 (next_keeps dig s new key calls t.0 t.2))

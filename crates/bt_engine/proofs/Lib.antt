@@ -18,14 +18,6 @@ pub mod Stored
 pub mod Tame
 pub mod Sound
 pub mod Headline
--- what is left free
-pub mod DeterminedParts
-pub mod DeterminedEvents
-pub mod DeterminedFollow
-pub mod DeterminedNext
-pub mod DeterminedPeers
-pub mod DeterminedAdopt
-pub mod Determined
 -- answers
 pub mod AnswerParts
 pub mod AnswerSends
@@ -47,3 +39,11 @@ pub mod ExampleThreeEngine
 pub mod ExampleThreeBlocks
 pub mod ExampleWaiting
 pub mod ExampleServing
+-- what is left free
+pub mod DeterminedParts
+pub mod DeterminedEvents
+pub mod DeterminedFollow
+pub mod DeterminedNext
+pub mod DeterminedPeers
+pub mod DeterminedAdopt
+pub mod Determined
