@@ -39,7 +39,7 @@ pub(crate) fn read_run<D: Disk>(
 ) -> [Option<usize>; RUN_BLOCKS]
     requires few { count ≤ 8 }
     requires inside { first + count ≤ block_count geometry }
-    requires room { length buffer.old ≡ 8 * full_block_length }
+    requires room { count * full_block_length ≤ length buffer.old }
     ensures calls { HasCalls D.history D.honest D.faults
         disk.old (map (call_of geometry) (run_reads first result buffer.new count)) disk.new }
     ensures within { (j : ℕ) → j < count
@@ -67,7 +67,7 @@ pub(crate) fn digest_run<H: NodeHash>(
 ) -> [Finding; RUN_BLOCKS]
     requires few { count ≤ 8 }
     requires inside { first + count ≤ block_count geometry }
-    requires room { length buffer.now ≡ 8 * full_block_length }
+    requires room { count * full_block_length ≤ length buffer.now }
     ensures { (j : ℕ) → j < count → slice_index_or result j Failed
         ≡ finding_of H.digest geometry (first + j) (slice_index_or lengths.now j None)
         (block_at buffer.now j) }
@@ -95,12 +95,12 @@ fn is_full(geometry: Geometry, first: u32, lengths: &[Option<usize>; RUN_BLOCKS]
         && lengths.iter().all(|length| *length == Some(BLOCK_LEN))
 }
 
-/// Digests eight full blocks together.
+/// Digests eight full blocks together, with which the buffer begins.
 fn digest_eight<H: NodeHash>(hash: H, buffer: &[u8]) -> [Finding; RUN_BLOCKS]
-    requires { length buffer.now ≡ 8 * full_block_length }
+    requires { 8 * full_block_length ≤ length buffer.now }
     ensures { (j : ℕ) → j < 8 → slice_index_or result j Failed ≡ Whole (H.digest (block_at buffer.now j)) }
 {
-    let digests = hash.blocks8(buffer);
+    let digests = hash.blocks8(&buffer[..RUN_LEN]);
     let mut findings = [Finding::Failed; RUN_BLOCKS];
     for j in 0..RUN_BLOCKS {
         findings[j] = Finding::Whole(digests[j]);

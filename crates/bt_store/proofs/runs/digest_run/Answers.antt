@@ -25,3 +25,6 @@ loop-j-preserved g c =
       below = filled_more (λ t. finding_of dig c.args.geometry (c.args.first + t) (get_or c.args.lengths.now t None) (block_at c.args.buffer.now t))
           c.loop-j.findings j c.digest_slot.result Failed within c.loop-j.invariant.below here;
     }
+
+pub digest_eight-requires : goal.digest_eight-requires
+digest_eight-requires g c = omega (arith, c.requires.room, c.if-count-eq-RUN_BLOCKS.true)
