@@ -1,5 +1,5 @@
 ghost use Rattle.std.specs.Prelude.{◌≡◌, ℕ, ◌+◌, ◌*◌, ◌<◌, ◌≤◌, List, IfSome, Some, None, length, map, slice_index_or};
-ghost use Rattle.std.specs.Bool.{OnTrue};
+ghost use Rattle.std.specs.Bool.{OnTrue, OnFalse};
 ghost use Rattle.bt_tree.specs.Limits.{full_block_length};
 ghost use Rattle.bt_tree.specs.Blocks.{block_count, block_at, block_length};
 ghost use Rattle.bt_disk.specs.Calls.{HasCalls};
@@ -87,9 +87,12 @@ pub(crate) fn digest_run<H: NodeHash>(
 /// Whether each of eight reads gave a full block.
 fn is_full(geometry: Geometry, first: u32, lengths: &[Option<usize>; RUN_BLOCKS]) -> bool
     requires { first + 8 ≤ block_count geometry }
-    ensures { OnTrue result ((j : ℕ) → j < 8
+    ensures yes { OnTrue result ((j : ℕ) → j < 8
         → (slice_index_or lengths.now j None ≡ Some full_block_length)
         × (block_length geometry (first + j) ≡ full_block_length)) }
+    ensures no { OnFalse result (¬ ((j : ℕ) → j < 8
+        → (slice_index_or lengths.now j None ≡ Some full_block_length)
+        × (block_length geometry (first + j) ≡ full_block_length))) }
 {
     geometry.block_len(first + 7) == BLOCK_LEN
         && lengths.iter().all(|length| *length == Some(BLOCK_LEN))

@@ -10,7 +10,7 @@ use Rattle.bt_store.proofs.runs.digest_run.Goals as goal
 pub returns-then-is_full : goal.returns-then-is_full
 returns-then-is_full g c = λ j lt.
     let few : j < 8 = omega (arith, c.requires.few) in
-    let full = c.if-is_full.ensures j few in
+    let full = c.if-is_full.ensures.yes j few in
     c.digest_eight.ensures j few ∙ full_finding g.H.NodeHash.digest c.args.geometry (c.args.first + j) _ c.args.buffer.now j full.0 full.1
 
 pub loop-j-preserved : goal.loop-j-preserved
