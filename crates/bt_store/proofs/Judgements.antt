@@ -179,11 +179,11 @@ module _ (dig : List ℕ → List ℕ) (k : Facts) (first : ℕ) (counts : List 
       (subst (IsTallyOf dig k (run_reads first counts buffer j ++ read ∷ [])) next (tally_more dig k (run_reads first counts buffer j) read (tally_of dig k first findings j) before))
 
 -- a part of the buffer is full
-part_size : (buffer : List ℕ) (j : ℕ) → length buffer ≡ 8 * 16384 → j < 8 → length (block_at buffer j) ≡ 16384
-part_size buffer j size lt =
+part_size : (buffer : List ℕ) (j : ℕ) → j * 16384 + 16384 ≤ length buffer → length (block_at buffer j) ≡ 16384
+part_size buffer j size =
     omega (arith, length-take 16384 (drop (16384 * j) buffer), length-drop (16384 * j) buffer)
 
-pub within_parts : (n first count : ℕ) (counts : List (Option ℕ)) (buffer : List ℕ) → length buffer ≡ 8 * 16384 → count ≤ 8
+pub within_parts : (n first count : ℕ) (counts : List (Option ℕ)) (buffer : List ℕ) → count * 16384 ≤ length buffer
     → ((t : ℕ) → t < count → IfSome (get_or counts t None) (λ m. m ≤ block_length n (first + t))) → IsWithinParts counts buffer count
-within_parts n first count counts buffer size few within t lt =
-    IfSome_then (get_or counts t None) (within t lt) (λ m le. omega (arith, part_size buffer t size (omega arith)))
+within_parts n first count counts buffer size within t lt =
+    IfSome_then (get_or counts t None) (within t lt) (λ m le. omega (arith, part_size buffer t (omega (arith, size, lt))))

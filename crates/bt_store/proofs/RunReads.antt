@@ -99,6 +99,12 @@ part_is j buffer =
     let place : j * 16384 ≡ 16384 * j = omega arith in
     ap (λ m. take m (drop (j * 16384) buffer)) size ∙ ap (λ m. take 16384 (drop m buffer)) place
 
+-- and as the front of a longer buffer has it
+pub front_part : (j : ℕ) (buffer : List ℕ) → j < 8 → block_at (take 131072 buffer) j ≡ block_at buffer j
+front_part j buffer few =
+    sym (drop-take (16384 * j) 16384 (take 131072 buffer)) ∙ ap (drop (16384 * j)) (take-take (16384 * j + 16384) 131072 buffer (omega arith))
+    ∙ drop-take (16384 * j) 16384 buffer
+
 pub given_within : {E : Type 0} (n : ℕ) (out : List ℕ) (r : Result ℕ E) → length out ≡ n → IfOk r (λ count. count ≤ length out) → IfSome (result_ok r) (λ count. count ≤ n)
 given_within n out (Ok count) size within = omega arith
 given_within n out (Err e) size within = within

@@ -311,7 +311,7 @@ impl<D: Disk + Drop, H: NodeHash> FileStore<D, H> {
         requires geometry { tree.now.file_length ≡ self.old.file_length }
         requires few { count ≤ 8 }
         requires inside { first + count ≤ block_count self.old.file_length }
-        requires room { length buffer.old ≡ 8 * full_block_length }
+        requires room { count * full_block_length ≤ length buffer.old }
         ensures judged { (reads : List BlockRead)
             × IsJudged D.history D.honest D.faults H.digest tree.now forgiving
             (range_with_len first count) self.old reads self.new

@@ -1,5 +1,5 @@
 ghost use Rattle.std.specs.Prelude.{◌≡◌, ℕ, ◌+◌, ◌*◌, ◌<◌, ◌≤◌, List, IfSome, Some, None, length, map, slice_index_or};
-ghost use Rattle.std.specs.Bool.{OnTrue};
+ghost use Rattle.std.specs.Bool.{OnTrue, OnFalse};
 ghost use Rattle.bt_tree.specs.Limits.{full_block_length};
 ghost use Rattle.bt_tree.specs.Blocks.{block_count, block_at, block_length};
 ghost use Rattle.bt_disk.specs.Calls.{HasCalls};
@@ -39,7 +39,7 @@ pub(crate) fn read_run<D: Disk>(
 ) -> [Option<usize>; RUN_BLOCKS]
     requires few { count ≤ 8 }
     requires inside { first + count ≤ block_count geometry }
-    requires room { length buffer.old ≡ 8 * full_block_length }
+    requires room { count * full_block_length ≤ length buffer.old }
     ensures calls { HasCalls D.history D.honest D.faults
         disk.old (map (call_of geometry) (run_reads first result buffer.new count)) disk.new }
     ensures within { (j : ℕ) → j < count
@@ -67,7 +67,7 @@ pub(crate) fn digest_run<H: NodeHash>(
 ) -> [Finding; RUN_BLOCKS]
     requires few { count ≤ 8 }
     requires inside { first + count ≤ block_count geometry }
-    requires room { length buffer.now ≡ 8 * full_block_length }
+    requires room { count * full_block_length ≤ length buffer.now }
     ensures { (j : ℕ) → j < count → slice_index_or result j Failed
         ≡ finding_of H.digest geometry (first + j) (slice_index_or lengths.now j None)
         (block_at buffer.now j) }
@@ -87,20 +87,23 @@ pub(crate) fn digest_run<H: NodeHash>(
 /// Whether each of eight reads gave a full block.
 fn is_full(geometry: Geometry, first: u32, lengths: &[Option<usize>; RUN_BLOCKS]) -> bool
     requires { first + 8 ≤ block_count geometry }
-    ensures { OnTrue result ((j : ℕ) → j < 8
+    ensures yes { OnTrue result ((j : ℕ) → j < 8
         → (slice_index_or lengths.now j None ≡ Some full_block_length)
         × (block_length geometry (first + j) ≡ full_block_length)) }
+    ensures no { OnFalse result (¬ ((j : ℕ) → j < 8
+        → (slice_index_or lengths.now j None ≡ Some full_block_length)
+        × (block_length geometry (first + j) ≡ full_block_length))) }
 {
     geometry.block_len(first + 7) == BLOCK_LEN
         && lengths.iter().all(|length| *length == Some(BLOCK_LEN))
 }
 
-/// Digests eight full blocks together.
+/// Digests eight full blocks together, with which the buffer begins.
 fn digest_eight<H: NodeHash>(hash: H, buffer: &[u8]) -> [Finding; RUN_BLOCKS]
-    requires { length buffer.now ≡ 8 * full_block_length }
+    requires { 8 * full_block_length ≤ length buffer.now }
     ensures { (j : ℕ) → j < 8 → slice_index_or result j Failed ≡ Whole (H.digest (block_at buffer.now j)) }
 {
-    let digests = hash.blocks8(buffer);
+    let digests = hash.blocks8(&buffer[..RUN_LEN]);
     let mut findings = [Finding::Failed; RUN_BLOCKS];
     for j in 0..RUN_BLOCKS {
         findings[j] = Finding::Whole(digests[j]);

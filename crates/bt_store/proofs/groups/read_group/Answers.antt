@@ -27,7 +27,7 @@ loop-done-preserved g c =
     let next = group_next d.history d.honest d.faults g.H.NodeHash.digest c.args.geometry c.args.first (length c.args.digests.now) c.loop-done.done m
     c.args.disk.now c.loop-done.disk c.read_run-lengths.new.disk before.read.0 c.loop-done.census c.loop-done.digests counts buffer c.digest_run-findings.result before.read.1
     (omega (arith, inside, c.requires.fits)) c.read_run-lengths.ensures.calls
-    (within_parts c.args.geometry first m counts buffer room (omega (arith, size)) c.read_run-lengths.ensures.within) c.digest_run-findings.ensures in
+    (within_parts c.args.geometry first m counts buffer (omega (arith, size, room)) c.read_run-lengths.ensures.within) c.digest_run-findings.ensures in
     record {
       read = (
         before.read.0 ++ run_reads first counts buffer m,

@@ -10,7 +10,7 @@ use Rattle.bt_store.proofs.runs.digest_run.Goals as goal
 pub returns-then-is_full : goal.returns-then-is_full
 returns-then-is_full g c = λ j lt.
     let few : j < 8 = omega (arith, c.requires.few) in
-    let full = c.if-is_full.ensures j few in
+    let full = c.if-is_full.ensures.yes j few in
     c.digest_eight.ensures j few ∙ full_finding g.H.NodeHash.digest c.args.geometry (c.args.first + j) _ c.args.buffer.now j full.0 full.1
 
 pub loop-j-preserved : goal.loop-j-preserved
@@ -25,3 +25,6 @@ loop-j-preserved g c =
       below = filled_more (λ t. finding_of dig c.args.geometry (c.args.first + t) (get_or c.args.lengths.now t None) (block_at c.args.buffer.now t))
           c.loop-j.findings j c.digest_slot.result Failed within c.loop-j.invariant.below here;
     }
+
+pub digest_eight-requires : goal.digest_eight-requires
+digest_eight-requires g c = omega (arith, c.requires.room, c.if-count-eq-RUN_BLOCKS.true)

@@ -1,4 +1,4 @@
-use Rattle.std.proofs.Common.{◌≡◌, ◌+◌, ◌*◌, List, length, get_or, None, refl, sym, ap, ◌∙◌, subst}
+use Rattle.std.proofs.Common.{◌≡◌, ◌+◌, ◌*◌, ◌≤◌, List, length, get_or, None, refl, sym, ap, ◌∙◌, subst, arith}
 use Rattle.std.specs.List.{range_with_len}
 use Rattle.bt_tree.specs.Blocks.{block_at}
 use Rattle.bt_store.specs.FileStore.{StoreView}
@@ -25,8 +25,8 @@ returns-clause-judged g c =
     let reads = run_reads first counts buffer count in
     let after : StoreView g.row.D.Denot = record { file_length = a.geometry; disk = c.read_run-lengths.new.disk; states = c.judge_findings.new.states } in
     let same : a.geometry ≡ k.file_length = ap (λ s. s.file_length) c.self.view_is ∙ sym c.requires.geometry in
-    let size : length buffer ≡ 8 * 16384 = c.read_run-lengths.auto.buffer ∙ c.requires.room in
-    let within : IsWithinParts counts buffer count = within_parts a.geometry first count counts buffer size c.requires.few c.read_run-lengths.ensures.within in
+    let size : count * 16384 ≤ length buffer = omega (arith, c.read_run-lengths.auto.buffer, c.requires.room) in
+    let within : IsWithinParts counts buffer count = within_parts a.geometry first count counts buffer size c.read_run-lengths.ensures.within in
     let found : AreFound dig k.file_length first counts buffer findings count = λ t lt.
     c.digest_run-findings.ensures t lt ∙ ap (λ n. finding_of dig n (first + t) (get_or counts t None) (block_at buffer t)) same in
     subst (λ s. (reads : List BlockRead) × IsJudged d.history d.honest d.faults dig k c.args.forgiving (range_with_len first count) s reads after × IsTallyOf dig k reads c.judge_findings.result)
