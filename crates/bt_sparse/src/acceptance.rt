@@ -1,11 +1,10 @@
-ghost use Rattle.std.specs.Prelude.{◌≡◌, ℕ, ◌+◌, ◌*◌, ◌<◌, ◌≤◌, ◌↔◌, ◌++◌, List, [], ◌^◌, IsTrue, IfOk, IfErr, IfSome, OnErr, OnOk, MatchOption, length, slice_index_or};
+ghost use Rattle.std.specs.Prelude.{◌≡◌, ℕ, ◌+◌, ◌*◌, ◌<◌, ◌≤◌, List, ◌^◌, IfOk, IfErr, IfSome, OnErr, OnOk, MatchOption, length};
 ghost use Rattle.std.specs.List.{All};
 ghost use Rattle.std.specs.FinMap as finite;
-ghost use Rattle.bt_tree.specs.Limits.{max_block_count, max_height};
+ghost use Rattle.bt_tree.specs.Limits.{max_height};
 ghost use Rattle.bt_tree.specs.Blocks.{block_count};
 ghost use Rattle.bt_tree.specs.TreeShape.{height_of, real_width};
 ghost use Rattle.bt_sparse.specs.NodeMap.{nodes_in, HasPlace, KeepsPlaces};
-ghost use Rattle.bt_tree.specs.Tree.{padding_digest};
 ghost use Rattle.bt_sparse.specs.SparseTree.{blocks_of, height, IsRooted};
 ghost use Rattle.bt_sparse.specs.Acceptance.{Accepts, IsRefused, HasHeldTop};
 ghost use Rattle.bt_sparse.specs.ExpansionSteps.{IsPairOf};
