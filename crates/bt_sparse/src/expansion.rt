@@ -68,7 +68,8 @@ pub(crate) fn top_of(claim: &Claim) -> (u32, u32)
     (claim.base + layers + uncles, node >> uncles)
 }
 
-/// The pairs of siblings that a claim of the right shape names, and its top's digest. Each pair is digested once.
+/// The pairs of siblings that a claim of the right shape names, and its top's digest. Each pair is digested
+/// once.
 pub(crate) fn expand<H: NodeHash>(
     hash: H,
     alloc: Global,
