@@ -11,7 +11,6 @@ use Rattle.bt_tree.specs.Limits.{max_height}
 use Rattle.bt_tree.specs.TreeShape.{real_width, CoversBlock}
 use Rattle.bt_tree.specs.Tree.{padding_digest}
 use Rattle.bt_tree.proofs.TreeShape.{real_le, pow_le}
-use Rattle.bt_tree.proofs.TreeNodes.{padding_suc}
 use Rattle.bt_tree.proofs.ComparisonTwins.{same_bytes, other_bytes}
 use Rattle.bt_tree.proofs.ComparisonClash.{same_parts}
 use Rattle.bt_sparse.specs.declared.claim.Claim.{Claim}
@@ -26,7 +25,7 @@ use Rattle.bt_sparse.specs.ExpansionSteps.{level_pairs, run_pairs, path_pairs, c
 use Rattle.bt_sparse.specs.AcceptanceSteps.{IsPairIn, IsPadded, HasNoDifference, IsNotHigher, IsHighestIn, IsAdded, AgreesAt, IsGrownBy, IsExpandedClaim}
 use Rattle.bt_sparse.proofs.Halves.{parity, power_next}
 use Rattle.bt_sparse.proofs.Values.{same_value, value_covers, value_padding, value_inside, cases_node}
-use Rattle.bt_sparse.proofs.Claims.{pair_of, last_of, claimed_inside, top_pair}
+use Rattle.bt_sparse.proofs.Claims.{pair_of, last_of, claimed_inside}
 use Rattle.bt_sparse.proofs.Single.{claims_one}
 use Rattle.bt_sparse.proofs.Expansions.{pairs_claimed, pairs_have}
 use Rattle.bt_sparse.proofs.Joins.{keeps_rooted}
@@ -337,10 +336,6 @@ accepted dig k c nodes count shape padding top agree h = record {
           (on_path record { above = length c.uncles; here = last.0; within = omega arith; node = last.1; digest = refl }) in
           h.grown.kept layer i d (rw (last.0, last.1, one) top)
     ]
-
--- what holds of each pair, at equal numbers and lists
-pub moved : (P : ℕ → ClaimedPair → Type 0) (n m : ℕ) (xs ys : List ClaimedPair) → n ≡ m → xs ≡ ys → All (P n) xs → All (P m) ys
-moved P n m xs ys e f h = subst (All (P m)) f (subst (λ i. All (P i) xs) e h)
 
 -- what `!=` of two digests says
 not_cases : (b : Bool) → ((not b ≡ true) × (b ≡ false)) ⊎ ((not b ≡ false) × (b ≡ true))

@@ -1,12 +1,12 @@
 -- The nodes of a claim lie in the tree, in pairs of siblings below their parent, but for the last.
-use Rattle.std.proofs.Common.{◌≡◌, ℕ, zero, suc, ◌+◌, ◌-◌, ◌*◌, ◌/◌, ◌^◌, ◌<◌, ◌≤◌, inl, inr, List, [], ◌++◌, length, get_or, refl, sym, ap, ◌∙◌, subst, arith}
+use Rattle.std.proofs.Common.{◌≡◌, ℕ, suc, ◌+◌, ◌-◌, ◌*◌, ◌/◌, ◌^◌, ◌<◌, ◌≤◌, inl, inr, List, [], ◌++◌, length, get_or, refl, sym, ap, ◌∙◌, subst, arith}
 use Rattle.std.proofs.Math.Nat.{pow-suc, div-div-eq-div-mul}
 use Rattle.std.proofs.lemmas.Nat.{pow_pos, div_below}
 use Rattle.std.proofs.lemmas.Bool.{cases_lt}
 use Rattle.bt_tree.specs.Peaks.{row_node}
 use Rattle.bt_tree.proofs.TreeNodes.{row_parent}
 use Rattle.bt_sparse.specs.declared.claim.Claim.{Claim}
-use Rattle.bt_sparse.specs.Claim.{Claims, in_run, on_path, uncle, run_height, run_top, run_node, run_digest, path_node, path_digest, sibling_of, top_layer, top_node, HasShape}
+use Rattle.bt_sparse.specs.Claim.{Claims, in_run, on_path, uncle, run_height, run_top, run_node, run_digest, path_digest, sibling_of, top_layer, top_node, HasShape}
 use Rattle.bt_sparse.proofs.Halves.{parity, half_div, power_split, below_times}
 
 -- both children of a node, and the node
@@ -127,39 +127,3 @@ claimed_inside dig h c layer i d shape (uncle r) =
         | inr p ↦ rw p.1 (omega (arith, p.0, even, beside))
       ]),
     )
-
--- the two nodes below the top
-pub record IsTopPair (dig : List ℕ → List ℕ) (c : Claim) : Type 0 where
-  pub some : 0 < top_layer c
-  pub pair : IsClaimedPair dig c (top_layer c - 1) (top_node c)
-
-pub top_pair : (dig : List ℕ → List ℕ) (h : ℕ) (c : Claim) → HasShape h c → IsTopPair dig c
-top_pair dig h c shape = go (length c.uncles) refl
-  where
-    some_layers : 0 < run_height c
-    some_layers = above (run_height c) shape.power
-      where
-        above : (m : ℕ) → length c.run ≡ 2 ^ m → 0 < m
-        above zero e = absurd (omega (arith, shape.some, e))
-        above (suc m) e = omega arith
-
-    go : (q : ℕ) → length c.uncles ≡ q → IsTopPair dig c
-    go zero e =
-        let up : run_height c ≡ suc (run_height c - 1) = omega (arith, some_layers) in
-        let none : run_height c - suc (run_height c - 1) ≡ 0 = omega (arith, some_layers) in
-        let whole : run_node c / 1 ≡ run_node c = omega arith in
-        let node : run_node c ≡ top_node c = sym whole ∙ ap (path_node c) (sym e) in
-        let below : c.base + (run_height c - 1) ≡ top_layer c - 1 = omega (arith, e, some_layers) in
-        record {
-          some = omega (arith, some_layers);
-          pair = subst (λ l. IsClaimedPair dig c l (top_node c)) below (subst (IsClaimedPair dig c (c.base + (run_height c - 1))) node
-              (run_pair dig c (run_height c - 1) (run_node c) (omega arith) (ap (λ n. run_node c / 2 ^ n) none ∙ whole)));
-        }
-    go (suc q) e =
-        let below : run_top c + q ≡ top_layer c - 1 = omega (arith, e) in
-        let half : path_node c q / 2 ≡ top_node c =
-        div-div-eq-div-mul (run_node c) (2 ^ q) 2 ∙ ap (λ p. run_node c / p) (sym (pow-suc 2 q)) ∙ ap (path_node c) (sym e) in
-        record {
-          some = omega (arith, e);
-          pair = subst (λ l. IsClaimedPair dig c l (top_node c)) below (subst (IsClaimedPair dig c (run_top c + q)) half (path_pair_claimed dig c q (omega arith)));
-        }

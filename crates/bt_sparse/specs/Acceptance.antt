@@ -1,5 +1,5 @@
 -- When a claim is accepted, what is known after it, and why it is refused.
-use Rattle.std.specs.Prelude.{◌≡◌, ◌≢◌, ℕ, ◌+◌, ◌*◌, ◌<◌, ◌≤◌, ◌⊎◌, List, ◌++◌, Some, None}
+use Rattle.std.specs.Prelude.{◌≡◌, ◌≢◌, ℕ, ◌+◌, ◌*◌, ◌<◌, ◌≤◌, ◌⊎◌, List, ◌++◌, Some, None, IsSome}
 use Rattle.bt_tree.specs.TreeShape.{IsPadding, CoversBlock}
 use Rattle.bt_tree.specs.Tree.{padding_digest}
 use Rattle.bt_sparse.specs.SparseTree.{Facts, blocks_of, height, held_at, value_at}
@@ -68,6 +68,12 @@ pub record IsHighestClash (dig : List ℕ → List ℕ) (k : Facts) (c : Claim) 
   pub digests : dig ours ≡ dig theirs
   pub highest : (l j : ℕ) (o t : List ℕ) → DiffersBelow dig k c l j o t
       → (l < layer) ⊎ ((l ≡ layer) × (i ≤ j))
+
+-- the claim has the right shape and padding, and its top is held
+pub record HasHeldTop (dig : List ℕ → List ℕ) (k : Facts) (c : Claim) : Type 0 where
+  pub shape : HasShape (height k) c
+  pub padding : HasPadding dig k c
+  pub held : IsSome (held_at k (top_layer c) (top_node c))
 
 -- The first condition that fails, in the order of `IsAcceptable`. Out of memory may come in place of all but
 -- the first.

@@ -1,13 +1,12 @@
-ghost use Rattle.std.specs.Prelude.{◌≡◌, ℕ, ◌+◌, ◌*◌, ◌<◌, ◌≤◌, ◌↔◌, ◌++◌, List, [], ◌^◌, IsTrue, IfOk, IfErr, IfSome, OnErr, OnOk, MatchOption, length, slice_index_or};
+ghost use Rattle.std.specs.Prelude.{◌≡◌, ℕ, ◌+◌, ◌*◌, ◌<◌, ◌≤◌, List, ◌^◌, IfOk, IfErr, IfSome, OnErr, OnOk, MatchOption, length};
 ghost use Rattle.std.specs.List.{All};
 ghost use Rattle.std.specs.FinMap as finite;
-ghost use Rattle.bt_tree.specs.Limits.{max_block_count, max_height};
+ghost use Rattle.bt_tree.specs.Limits.{max_height};
 ghost use Rattle.bt_tree.specs.Blocks.{block_count};
 ghost use Rattle.bt_tree.specs.TreeShape.{height_of, real_width};
 ghost use Rattle.bt_sparse.specs.NodeMap.{nodes_in, HasPlace, KeepsPlaces};
-ghost use Rattle.bt_tree.specs.Tree.{padding_digest};
 ghost use Rattle.bt_sparse.specs.SparseTree.{blocks_of, height, IsRooted};
-ghost use Rattle.bt_sparse.specs.Acceptance.{Accepts, IsRefused};
+ghost use Rattle.bt_sparse.specs.Acceptance.{Accepts, IsRefused, HasHeldTop};
 ghost use Rattle.bt_sparse.specs.ExpansionSteps.{IsPairOf};
 ghost use Rattle.bt_sparse.specs.AcceptanceSteps.{IsPairIn, IsPadded, HasNoDifference, IsDifference, higher_of, IsHighestOf, IsPut, AgreesAt, IsGrownBy, HangsFrom, IsExpandedClaim, HasPlaces};
 
@@ -46,11 +45,13 @@ impl<H: NodeHash> SparseTree<H> {
     /// Takes a claim, and returns how many nodes are newly held. A refusal leaves the tree as it was.
     ///
     /// The refusals are P1, P3, P4, P5 and P6 of `ProofError`, in this order, and P7, which may come in place
-    /// of any but P1.
+    /// of P5 and P6.
     pub fn accept(&mut self, claim: &Claim) -> Result<u32, ProofError>
         ensures ok { IfOk result (λ _. Accepts H.digest self.old claim.now self.new) }
         ensures count { IfOk result (λ count. finite.len self.new.nodes ≡ finite.len self.old.nodes + count) }
         ensures refused { IfErr result (IsRefused H.digest self.old claim.now) }
+        ensures memory { IfErr result (λ error. error ≡ ProofError.OutOfMemory
+            → HasHeldTop H.digest self.old claim.now) }
         ensures unchanged { OnErr result (self.new ≡ self.old) }
     {
         let expansion = match self.check(claim) {
@@ -69,6 +70,8 @@ impl<H: NodeHash> SparseTree<H> {
     fn check(&self, claim: &Claim) -> Result<Expansion, ProofError>
         ensures ok { IfOk result (IsExpandedClaim H.digest self.now claim.now) }
         ensures refused { IfErr result (IsRefused H.digest self.now claim.now) }
+        ensures memory { IfErr result (λ error. error ≡ ProofError.OutOfMemory
+            → HasHeldTop H.digest self.now claim.now) }
     {
         let top = self.top(claim)?;
         let height = self.geometry.height();
@@ -89,11 +92,13 @@ impl<H: NodeHash> SparseTree<H> {
         Ok(expansion)
     }
 
-    /// The digest that is held at a claim's top, where the claim's shape and padding are right. No node of the claim
-    /// is digested for this, and no memory taken.
+    /// The digest that is held at a claim's top, where the claim's shape and padding are right. No node of the
+    /// claim is digested for this, and no memory taken.
     fn top(&self, claim: &Claim) -> Result<Hash32, ProofError>
         ensures ok { IfOk result (HangsFrom H.digest self.now claim.now) }
         ensures refused { IfErr result (IsRefused H.digest self.now claim.now) }
+        ensures memory { IfErr result (λ error. error ≡ ProofError.OutOfMemory
+            → HasHeldTop H.digest self.now claim.now) }
     {
         if !has_shape(self.geometry.height(), claim) {
             return Err(ProofError::Shape);

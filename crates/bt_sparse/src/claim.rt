@@ -79,7 +79,7 @@ pub enum ProofError {
         ours: [u8; 64],
         theirs: [u8; 64],
     },
-    /// P7: Out of memory. It may come in place of P3 to P6.
+    /// P7: Out of memory. It may come in place of P5 and P6.
     #[error("P7 OutOfMemory")]
     OutOfMemory,
 }

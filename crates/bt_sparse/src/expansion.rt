@@ -2,7 +2,7 @@ ghost use Rattle.std.specs.Prelude.{◌≡◌, ℕ, List, [], slice_index_or, �
 ghost use Rattle.bt_tree.specs.Limits.{max_block_count, max_height};
 ghost use Rattle.bt_tree.specs.TreeShape.{height_of};
 ghost use Rattle.bt_tree.specs.Peaks.{row_node};
-ghost use Rattle.bt_sparse.specs.Claim.{run_digest, run_height, run_node, path_node, path_digest, top_layer, top_node, sibling_of, HasShape};
+ghost use Rattle.bt_sparse.specs.Claim.{run_digest, run_height, run_node, path_digest, top_layer, top_node, sibling_of, HasShape};
 ghost use Rattle.bt_sparse.specs.ExpansionSteps.{level_pairs, run_pairs, path_pairs, AreRunNodes, AreParents, IsShort, IsExpansion};
 
 use crate::claim::Claim;
@@ -68,7 +68,8 @@ pub(crate) fn top_of(claim: &Claim) -> (u32, u32)
     (claim.base + layers + uncles, node >> uncles)
 }
 
-/// The pairs of siblings that a claim of the right shape names, and its top's digest. Each pair is digested once.
+/// The pairs of siblings that a claim of the right shape names, and its top's digest. Each pair is digested
+/// once.
 pub(crate) fn expand<H: NodeHash>(
     hash: H,
     alloc: Global,

@@ -127,8 +127,8 @@ fn top_of(claim: &Claim) -> (u32, u32) {
     (claim.base.wrapping_add(up), claim.index.wrapping_shr(up))
 }
 
-/// What `accept` returns where no held node has another digest than the claim says: there is no P6 here. The shape
-/// and the claim's nodes come from `has_shape` and `expand`.
+/// What `accept` returns where no held node has another digest than the claim says: there is no P6 here. The
+/// shape and the claim's nodes come from `has_shape` and `expand`.
 pub(super) fn map_accept(tree: &mut MapTree, claim: &Claim) -> Result<u32, ProofError> {
     let height = tree.geometry.height();
     if !has_shape(height, claim) {

@@ -1,9 +1,9 @@
-use Rattle.std.proofs.Common.{◌≡◌, ℕ, ◌+◌, ◌/◌, ◌<◌, ◌≤◌, inl, inr, [], get_or, sym, ap, ◌∙◌, arith}
+use Rattle.std.proofs.Common.{◌≡◌, ◌/◌, ◌≤◌, inl, inr, [], get_or, sym, ap, ◌∙◌, arith}
 use Rattle.std.proofs.lemmas.Bool.{cases_lt}
 use Rattle.bt_tree.specs.Blocks.{block_count}
 use Rattle.bt_tree.specs.TreeShape.{real_width}
 use Rattle.bt_tree.specs.Tree.{padding_digest}
-use Rattle.bt_sparse.specs.Claim.{run_top, path_node, sibling_of}
+use Rattle.bt_sparse.specs.Claim.{sibling_of}
 use Rattle.bt_sparse.proofs.Expansions.{path_up}
 use Rattle.bt_sparse.proofs.Acceptances.{equal_bytes}
 use Rattle.bt_sparse.proofs.padding.are_uncles_padded.Goals as goal

@@ -1,8 +1,7 @@
-use Rattle.std.proofs.Common.{◌≡◌, ℕ, ◌+◌, ◌-◌, ◌<◌, ◌≤◌, [], get_or, length, take, drop, sym, ap, ◌∙◌, subst, refl, arith}
+use Rattle.std.proofs.Common.{◌≡◌, ℕ, ◌+◌, ◌-◌, ◌<◌, ◌≤◌, [], get_or, length, sym, ap, ◌∙◌, refl, arith}
 use Rattle.std.proofs.lemmas.Bool.{false≢true}
-use Rattle.bt_tree.specs.Tree.{padding_digest}
-use Rattle.bt_sparse.proofs.Paddings.{tail_length, tail_at, has_padding, uncles_padded, run_padded}
-use Rattle.bt_sparse.proofs.Acceptances.{equal_bytes, apart_bytes}
+use Rattle.bt_sparse.proofs.Paddings.{tail_length, tail_at}
+use Rattle.bt_sparse.proofs.Acceptances.{apart_bytes}
 use Rattle.bt_sparse.proofs.padding.is_run_padded.Goals as goal
 
 pub returns-then-ne : goal.returns-then-ne

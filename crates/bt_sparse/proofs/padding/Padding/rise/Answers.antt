@@ -1,5 +1,4 @@
 use Rattle.std.proofs.Common.{◌++◌, ap, ◌∙◌, add-one}
-use Rattle.bt_tree.specs.Tree.{padding_digest}
 use Rattle.bt_tree.proofs.TreeNodes.{padding_suc}
 use Rattle.bt_sparse.proofs.padding.Padding.rise.Goals as goal
 

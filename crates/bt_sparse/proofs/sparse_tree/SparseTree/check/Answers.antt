@@ -1,13 +1,12 @@
-use Rattle.std.proofs.Common.{◌≡◌, ◌<◌, ◌≤◌, length, Some, refl, sym, ap, ◌∙◌, subst, arith}
+use Rattle.std.proofs.Common.{◌≡◌, ◌<◌, ◌≤◌, length, Some, sym, ap, ◌∙◌, subst, arith}
 use Rattle.std.specs.List.{All}
 use Rattle.std.proofs.lemmas.List.Elements.{All-contains}
 use Rattle.bt_tree.specs.Limits.{max_height}
-use Rattle.bt_tree.specs.TreeShape.{height_of}
 use Rattle.bt_sparse.specs.SparseTree.{blocks_of, height, held_at, IsRooted}
 use Rattle.bt_sparse.specs.Claim.{HasShape, top_layer, top_node, top_digest}
 use Rattle.bt_sparse.specs.Acceptance.{top_differs, clash, no_memory}
 use Rattle.bt_sparse.specs.ExpansionSteps.{claimed_pairs}
-use Rattle.bt_sparse.specs.AcceptanceSteps.{IsPairIn, IsPadded, HasNoDifference, IsHighestIn, IsHighestOf, HangsFrom}
+use Rattle.bt_sparse.specs.AcceptanceSteps.{IsPairIn, IsPadded, HasNoDifference, IsHighestIn, IsHighestOf}
 use Rattle.bt_sparse.proofs.Acceptances.{pairs_in, pairs_few, padding_shown, agrees, is_clash, apart_bytes, equal_bytes}
 use Rattle.bt_sparse.proofs.sparse_tree.SparseTree.check.Goals as goal
 

@@ -1,10 +1,9 @@
-use Rattle.std.proofs.Common.{◌≡◌, ◌≤◌, sym, ap, ◌∙◌, subst, refl, arith}
+use Rattle.std.proofs.Common.{◌≡◌, sym, ap, ◌∙◌, subst, arith}
 use Rattle.std.proofs.lemmas.Bool.{false≢true}
-use Rattle.bt_tree.specs.Limits.{max_height}
 use Rattle.bt_tree.specs.Blocks.{block_count}
 use Rattle.bt_sparse.specs.SparseTree.{blocks_of, height, held_at}
 use Rattle.bt_sparse.specs.Claim.{HasShape, top_layer, top_node}
-use Rattle.bt_sparse.specs.Acceptance.{HasPadding, shape, padding, no_anchor}
+use Rattle.bt_sparse.specs.Acceptance.{HasPadding, shape, padding}
 use Rattle.bt_sparse.specs.ExpansionSteps.{IsShort}
 use Rattle.bt_sparse.specs.PaddingSteps.{HasPaddedRun, HasPaddedUncles}
 use Rattle.bt_sparse.proofs.Expansions.{short_run}
