@@ -22,7 +22,8 @@ use Rattle.bt_engine.specs.Sound.{IsSound, StepKeepsSound, RunOn, CompleteFilesS
 use Rattle.bt_engine.proofs.Lists.{same_some, here, later, contains_none, contains_cases, contains_filter, contains_map}
 use Rattle.bt_engine.proofs.Marking.{step_cases}
 use Rattle.bt_engine.proofs.Stored.{own_bytes, other_bytes, torn_bytes, complete_root}
-use Rattle.bt_engine.proofs.Tame.{KeepsBytes, Touches, keeping, putting, step_tame}
+use Rattle.bt_engine.specs.Writes.{KeepsBytes}
+use Rattle.bt_engine.proofs.Tame.{Touches, keeping, putting, step_tame}
 
 -- ---- calls of one device
 

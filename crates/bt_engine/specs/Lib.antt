@@ -22,6 +22,7 @@ pub mod Step
 -- laws
 pub mod Stored
 pub mod Law
+pub mod Writes
 pub mod Taught
 pub mod Orderly
 pub mod Shape

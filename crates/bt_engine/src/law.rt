@@ -1,5 +1,6 @@
 ghost use Rattle.bt_engine.specs.Headline.{CompleteFilesArePublished};
 ghost use Rattle.bt_engine.specs.Stored.{CompleteHasRoot};
+ghost use Rattle.bt_engine.specs.Writes.{StepWritesMissing};
 ghost use Rattle.bt_engine.specs.Taught.{TaughtKeysAreAnswered};
 ghost use Rattle.bt_engine.specs.Determined.{StepIsDetermined};
 ghost use Rattle.bt_engine.specs.Shape.{RunsKeepShape};
@@ -56,6 +57,12 @@ pub fn step_sends_read_bytes<H: NodeHash>(_hash: H)
 /// So it is of each answer of a list of events.
 pub fn run_sends_read_bytes<H: NodeHash>(_hash: H)
     ensures { RunSendsReadBytes H.digest }
+{}
+
+/// An event changes a device by one write at most, of a block that is missing: all of it, at its place. What
+/// waits or is marked is never written.
+pub fn step_writes_missing<H: NodeHash>(_hash: H)
+    ensures { StepWritesMissing H.digest }
 {}
 
 /// Where the blocks of a group were claimed together and found right, the tree answers the keys of the proofs

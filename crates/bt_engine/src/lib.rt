@@ -15,5 +15,5 @@ pub use law::{
     rooted_is_checked, run_keeps_rooted, run_keeps_sound, run_marks_by_bytes, run_sends_read_bytes,
     runs_are_checked, runs_are_orderly, runs_keep_shape, step_is_determined, step_keeps_order,
     step_keeps_rooted, step_keeps_sound, step_marks_by_bytes, step_sends_read_bytes,
-    taught_keys_are_answered,
+    step_writes_missing, taught_keys_are_answered,
 };
