@@ -18,6 +18,7 @@ pub mod Stored
 pub mod Tame
 pub mod Sound
 pub mod Headline
+pub mod Crash
 -- what is left free
 pub mod DeterminedParts
 pub mod DeterminedEvents

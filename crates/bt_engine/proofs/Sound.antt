@@ -58,7 +58,7 @@ calls_keep old new (call ∷ calls) keep a =
     }
 
 -- a device's calls are among all calls
-of_all : (file : ℕ) (calls : DeviceCalls) (c : Call) → Contains (calls_of file calls) c → Contains calls (file, c)
+pub of_all : (file : ℕ) (calls : DeviceCalls) (c : Call) → Contains (calls_of file calls) c → Contains calls (file, c)
 of_all file calls c among =
     let m = contains_map (λ a. a.1) (filter (λ a. a.0 == file) calls) c among in
     let t = contains_filter (λ a. a.0 == file) calls m.0 m.1 in

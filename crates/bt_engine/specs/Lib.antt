@@ -28,4 +28,5 @@ pub mod Orderly
 pub mod Shape
 pub mod Determined
 pub mod Sound
+pub mod Crash
 pub mod Headline

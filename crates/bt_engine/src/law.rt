@@ -5,6 +5,7 @@ ghost use Rattle.bt_engine.specs.Taught.{TaughtKeysAreAnswered};
 ghost use Rattle.bt_engine.specs.Determined.{StepIsDetermined};
 ghost use Rattle.bt_engine.specs.Shape.{RunsKeepShape};
 ghost use Rattle.bt_engine.specs.Orderly.{StepKeepsOrder, RunsAreOrderly};
+ghost use Rattle.bt_engine.specs.Crash.{StepKeepsImages};
 ghost use Rattle.bt_engine.specs.Sound.{StepKeepsSound, RunKeepsSound, CompleteFilesStand};
 ghost use Rattle.bt_engine.specs.Law.{StepKeepsRooted, RunKeepsRooted, RootedIsChecked, RunsAreChecked, RightIsChecked, StepMarksByBytes, RunMarksByBytes, StepSendsReadBytes, RunSendsReadBytes};
 
@@ -108,6 +109,12 @@ pub fn step_keeps_sound<D: Disk, H: NodeHash>(_disk: &D, _hash: H)
 /// So they do over a list of events.
 pub fn run_keeps_sound<D: Disk, H: NodeHash>(_disk: &D, _hash: H)
     ensures { RunKeepsSound D.history D.honest D.faults H.digest }
+{}
+
+/// What every image of an honest device since a moment has of a block that waits or is marked, every image goes
+/// on to have, also those of a crash within an event.
+pub fn step_keeps_images<D: Disk, H: NodeHash>(_disk: &D, _hash: H)
+    ensures { StepKeepsImages D.history D.honest D.faults H.digest }
 {}
 
 /// Where all blocks of a file are marked, the trees are rooted and the marked blocks right on honest devices,
