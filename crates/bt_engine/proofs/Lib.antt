@@ -18,6 +18,7 @@ pub mod Stored
 pub mod Tame
 pub mod Sound
 pub mod Headline
+pub mod Crash
 -- answers
 pub mod AnswerParts
 pub mod AnswerSends

@@ -22,7 +22,8 @@ use Rattle.bt_engine.specs.Sound.{IsSound, StepKeepsSound, RunOn, CompleteFilesS
 use Rattle.bt_engine.proofs.Lists.{same_some, here, later, contains_none, contains_cases, contains_filter, contains_map}
 use Rattle.bt_engine.proofs.Marking.{step_cases}
 use Rattle.bt_engine.proofs.Stored.{own_bytes, other_bytes, torn_bytes, complete_root}
-use Rattle.bt_engine.proofs.Tame.{KeepsBytes, Touches, keeping, putting, step_tame}
+use Rattle.bt_engine.specs.Writes.{KeepsBytes}
+use Rattle.bt_engine.proofs.Tame.{Touches, keeping, putting, step_tame}
 
 -- ---- calls of one device
 
@@ -57,7 +58,7 @@ calls_keep old new (call ∷ calls) keep a =
     }
 
 -- a device's calls are among all calls
-of_all : (file : ℕ) (calls : DeviceCalls) (c : Call) → Contains (calls_of file calls) c → Contains calls (file, c)
+pub of_all : (file : ℕ) (calls : DeviceCalls) (c : Call) → Contains (calls_of file calls) c → Contains calls (file, c)
 of_all file calls c among =
     let m = contains_map (λ a. a.1) (filter (λ a. a.0 == file) calls) c among in
     let t = contains_filter (λ a. a.0 == file) calls m.0 m.1 in

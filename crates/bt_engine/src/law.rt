@@ -1,9 +1,11 @@
 ghost use Rattle.bt_engine.specs.Headline.{CompleteFilesArePublished};
 ghost use Rattle.bt_engine.specs.Stored.{CompleteHasRoot};
+ghost use Rattle.bt_engine.specs.Writes.{StepWritesMissing};
 ghost use Rattle.bt_engine.specs.Taught.{TaughtKeysAreAnswered};
 ghost use Rattle.bt_engine.specs.Determined.{StepIsDetermined};
 ghost use Rattle.bt_engine.specs.Shape.{RunsKeepShape};
 ghost use Rattle.bt_engine.specs.Orderly.{StepKeepsOrder, RunsAreOrderly};
+ghost use Rattle.bt_engine.specs.Crash.{StepKeepsImages};
 ghost use Rattle.bt_engine.specs.Sound.{StepKeepsSound, RunKeepsSound, CompleteFilesStand};
 ghost use Rattle.bt_engine.specs.Law.{StepKeepsRooted, RunKeepsRooted, RootedIsChecked, RunsAreChecked, RightIsChecked, StepMarksByBytes, RunMarksByBytes, StepSendsReadBytes, RunSendsReadBytes};
 
@@ -58,6 +60,12 @@ pub fn run_sends_read_bytes<H: NodeHash>(_hash: H)
     ensures { RunSendsReadBytes H.digest }
 {}
 
+/// An event changes a device by one write at most, of a block that is missing: all of it, at its place. What
+/// waits or is marked is never written.
+pub fn step_writes_missing<H: NodeHash>(_hash: H)
+    ensures { StepWritesMissing H.digest }
+{}
+
 /// Where the blocks of a group were claimed together and found right, the tree answers the keys of the proofs
 /// that are left for a log, and they are of the right shape.
 pub fn taught_keys_are_answered<H: NodeHash>(_hash: H)
@@ -101,6 +109,12 @@ pub fn step_keeps_sound<D: Disk, H: NodeHash>(_disk: &D, _hash: H)
 /// So they do over a list of events.
 pub fn run_keeps_sound<D: Disk, H: NodeHash>(_disk: &D, _hash: H)
     ensures { RunKeepsSound D.history D.honest D.faults H.digest }
+{}
+
+/// What every image of an honest device since a moment has of a block that waits or is marked, every image goes
+/// on to have, also those of a crash within an event.
+pub fn step_keeps_images<D: Disk, H: NodeHash>(_disk: &D, _hash: H)
+    ensures { StepKeepsImages D.history D.honest D.faults H.digest }
 {}
 
 /// Where all blocks of a file are marked, the trees are rooted and the marked blocks right on honest devices,
