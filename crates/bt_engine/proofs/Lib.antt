@@ -27,3 +27,5 @@ pub mod DeterminedNext
 pub mod DeterminedPeers
 pub mod DeterminedAdopt
 pub mod Determined
+-- marks that go
+pub mod Unmarks
