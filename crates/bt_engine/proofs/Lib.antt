@@ -48,3 +48,5 @@ pub mod DeterminedNext
 pub mod DeterminedPeers
 pub mod DeterminedAdopt
 pub mod Determined
+-- marks that go
+pub mod Unmarks

@@ -28,6 +28,7 @@ pub mod Orderly
 pub mod Shape
 pub mod Determined
 pub mod Sound
+pub mod Unmarks
 pub mod Crash
 pub mod Headline
 pub mod AnswerLaw

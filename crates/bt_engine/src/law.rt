@@ -6,6 +6,7 @@ ghost use Rattle.bt_engine.specs.Determined.{StepIsDetermined};
 ghost use Rattle.bt_engine.specs.Shape.{RunsKeepShape};
 ghost use Rattle.bt_engine.specs.Orderly.{StepKeepsOrder, RunsAreOrderly};
 ghost use Rattle.bt_engine.specs.Crash.{StepKeepsImages};
+ghost use Rattle.bt_engine.specs.Unmarks.{StepUnmarksByBytes, StepKeepsMarks, RunKeepsMarks};
 ghost use Rattle.bt_engine.specs.Sound.{StepKeepsSound, RunKeepsSound, CompleteFilesStand};
 ghost use Rattle.bt_engine.specs.Law.{StepKeepsRooted, RunKeepsRooted, RootedIsChecked, RunsAreChecked, RightIsChecked, StepMarksByBytes, RunMarksByBytes, StepSendsReadBytes, RunSendsReadBytes};
 
@@ -47,6 +48,12 @@ pub fn step_marks_by_bytes<H: NodeHash>(_hash: H)
 /// Each block that a list of events has marked became so at one of them, by bytes of that event.
 pub fn run_marks_by_bytes<H: NodeHash>(_hash: H)
     ensures { RunMarksByBytes H.digest }
+{}
+
+/// A marked block ceases to be so in one way only: it was read in this event, and its device gave other bytes
+/// than those of its leaf.
+pub fn step_unmarks_by_bytes<H: NodeHash>(_hash: H)
+    ensures { StepUnmarksByBytes H.digest }
 {}
 
 /// Data is sent only to a peer that asked for it, cut from blocks that were read in that event with the
@@ -109,6 +116,16 @@ pub fn step_keeps_sound<D: Disk, H: NodeHash>(_disk: &D, _hash: H)
 /// So they do over a list of events.
 pub fn run_keeps_sound<D: Disk, H: NodeHash>(_disk: &D, _hash: H)
     ensures { RunKeepsSound D.history D.honest D.faults H.digest }
+{}
+
+/// So on an honest device a marked block that was right stays marked.
+pub fn step_keeps_marks<D: Disk, H: NodeHash>(_disk: &D, _hash: H)
+    ensures { StepKeepsMarks D.history D.honest D.faults H.digest }
+{}
+
+/// And so over a list of events.
+pub fn run_keeps_marks<D: Disk, H: NodeHash>(_disk: &D, _hash: H)
+    ensures { RunKeepsMarks D.history D.honest D.faults H.digest }
 {}
 
 /// What every image of an honest device since a moment has of a block that waits or is marked, every image goes
