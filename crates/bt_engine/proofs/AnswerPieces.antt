@@ -31,7 +31,7 @@ use Rattle.bt_engine.proofs.AnswerSends.{get_contains, contains_get, nat_cases, 
 
 -- ---- lists
 
-filter_contains : {X : Type 0} (test : X → Bool) (xs : List X) (x : X) → Contains xs x → test x ≡ true → Contains (filter test xs) x
+pub filter_contains : {X : Type 0} (test : X → Bool) (xs : List X) (x : X) → Contains xs x → test x ≡ true → Contains (filter test xs) x
 filter_contains test [] x c e = absurd (contains_none x c)
 filter_contains test (y ∷ xs) x c e = by (test y) refl (contains_cases y x xs c) (λ more. filter_contains test xs x more e)
   where

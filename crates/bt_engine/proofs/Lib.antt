@@ -29,6 +29,7 @@ pub mod AnswerPlaces
 pub mod AnswerDue
 pub mod AnswerBlocks
 pub mod AnswerMarks
+pub mod AnswerWaits
 pub mod AnswerShut
 pub mod AnswerAsks
 -- worked examples
