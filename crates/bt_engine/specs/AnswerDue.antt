@@ -19,7 +19,6 @@ use Rattle.bt_wire.specs.declared.message.Ask.{Ask}
 use Rattle.bt_wire.specs.declared.message.Message.TheVariants.{Request, Piece, HashRequest, Hashes, HashReject}
 use Rattle.bt_wire.specs.declared.event.WireEvent.TheVariants.{Message}
 use Rattle.bt_engine.specs.declared.answer.Why.{Why}
-use Rattle.bt_engine.specs.declared.answer.Note.{Note}
 use Rattle.bt_engine.specs.declared.answer.Note.TheVariants.{Marked as NowMarked, Damaged, Device}
 use Rattle.bt_engine.specs.declared.error.EngineError.TheVariants.{OutOfMemory}
 use Rattle.bt_engine.specs.declared.event.Event.TheVariants.{Next}
@@ -34,7 +33,7 @@ use Rattle.bt_engine.specs.FollowUp.{IsInteresting, NeedsLeaf}
 use Rattle.bt_engine.specs.Next.{IsPeer}
 use Rattle.bt_engine.specs.Step.{Answer, of_next, Step}
 use Rattle.bt_engine.specs.Orderly.{IsOrderly}
-use Rattle.bt_engine.specs.AnswerLaw.{Sends, output_of, IsCause, Closes}
+use Rattle.bt_engine.specs.AnswerLaw.{NotedBy, Sends, IsCause, Closes}
 
 -- the peer of the key stands at this place, and no other has the key
 pub record IsOnlyPeer (s : EngineState) (key : PeerKey) (place : ℕ) (p : PeerState) : Type 0 where
@@ -45,9 +44,6 @@ pub record IsOnlyPeer (s : EngineState) (key : PeerKey) (place : ℕ) (p : PeerS
 abbrev pub OrderlyPeersAreOnly : Type 0
 OrderlyPeersAreOnly = (s : EngineState) (key : PeerKey) (place : ℕ) (p : PeerState) → IsOrderly s
     → IsPeer s key place p → IsOnlyPeer s key place p
-
-abbrev pub NotedBy : Answer → Note → Type 0
-NotedBy answer note = (out : Output) × (output_of answer ≡ Some out) × Contains out.notes note
 
 abbrev pub IsOutOfMemory : Answer → Type 0
 IsOutOfMemory answer = answer ≡ of_next (Err OutOfMemory)
