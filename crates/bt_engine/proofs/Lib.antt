@@ -40,6 +40,7 @@ pub mod ExampleThreeEngine
 pub mod ExampleThreeBlocks
 pub mod ExampleWaiting
 pub mod ExampleServing
+pub mod ExampleHostile
 -- what is left free
 pub mod DeterminedParts
 pub mod DeterminedEvents

@@ -23,7 +23,8 @@ pub use answer_law::{
 pub use error::{AdoptError, ConnectError, EngineError, FlushError};
 pub use event::Event;
 pub use example::{
-    fetch_of_abc_is_run, fetch_of_three_is_run, serving_is_run, waiting_fetch_is_run,
+    fetch_of_abc_is_run, fetch_of_three_is_run, hostile_messages_are_runs, serving_is_run,
+    waiting_fetch_is_run, wrong_block_is_run,
 };
 pub use law::{
     complete_files_are_published, complete_files_stand, complete_has_root, right_is_checked,
