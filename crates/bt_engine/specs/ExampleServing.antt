@@ -1,5 +1,5 @@
--- A worked example: three blocks are marked, and a peer that is interested is unchoked. It requests a range of
--- the first two; one that is choked, or requests too much, gets nothing.
+-- A worked example: three blocks are marked, and a peer that is interested is unchoked. It requests a range
+-- of the first two; one that is choked, or requests too much, gets nothing.
 use Rattle.std.specs.Prelude.{◌≡◌, ℕ, Bool, true, false, List, [], ◌∷◌, ◌++◌, take, drop, Some, None}
 use Rattle.bt_disk.specs.Calls.{bytes_given}
 use Rattle.bt_sparse.specs.SparseTree.{Facts, value_at}
@@ -58,9 +58,11 @@ abbrev pub serving_answers : ThreeBlocks → List Answer
 serving_answers b =
     fed_answer ∷ taken_answer [] []
     ∷ of_rechoke (Some (record { send = to_first Unchoke ∷ []; close = None; notes = [] }))
-    ∷ fed_answer ∷ taken_answer (to_first (Piece 0 16334 (drop 16334 b.first ++ take 50 b.second)) ∷ []) [] ∷ []
+    ∷ fed_answer
+    ∷ taken_answer (to_first (Piece 0 16334 (drop 16334 b.first ++ take 50 b.second)) ∷ []) [] ∷ []
 
-pub record ServesReaders (dig : List ℕ → List ℕ) (b : ThreeBlocks) (infohash : List ℕ) (k : Facts) : Type 0 where
+pub record ServesReaders (dig : List ℕ → List ℕ) (b : ThreeBlocks) (infohash : List ℕ) (k : Facts)
+    : Type 0 where
   pub serves : Run dig (marked_engine dig b infohash k 0 (reader true false 0 ∷ []))
       serving_events (serving_calls b) (serving_answers b)
       (marked_engine dig b infohash k 1 (reader false true 100 ∷ []))

@@ -2,8 +2,8 @@ ghost use Rattle.bt_engine.specs.AnswerDue.{OrderlyPeersAreOnly, NextAnswersHash
 
 use bt_tree::NodeHash;
 
-/// Where peers stand in the order of their keys, each is the only one of its key. So it is in every engine that
-/// events lead to from the start of a torrent.
+/// Where peers stand in the order of their keys, each is the only one of its key. So it is in every engine
+/// that events lead to from the start of a torrent.
 pub fn orderly_peers_are_only()
     ensures { OrderlyPeersAreOnly }
 {}
@@ -35,8 +35,8 @@ pub fn next_closes_for_cause<H: NodeHash>(_hash: H)
     ensures { NextClosesForCause H.digest }
 {}
 
-/// After a message of a peer that stays, our interest in it is as it should be, and it is asked for all that it
-/// may be asked for.
+/// After a message of a peer that stays, our interest in it is as it should be, and it is asked for all that
+/// it may be asked for.
 pub fn next_asks_for_all<H: NodeHash>(_hash: H)
     ensures { NextAsksForAll H.digest }
 {}

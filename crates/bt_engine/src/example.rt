@@ -23,14 +23,14 @@ pub fn waiting_fetch_is_run<H: NodeHash>(_hash: H)
     ensures { WaitingFetchIsRun H.digest }
 {}
 
-/// A peer that is interested is unchoked, and what it requests is read and sent; a choked peer is ignored, and
-/// one that requests too much is closed. Those are runs too.
+/// A peer that is interested is unchoked, and what it requests is read and sent; a choked peer is ignored,
+/// and one that requests too much is closed. Those are runs too.
 pub fn serving_is_run<H: NodeHash>(_hash: H)
     ensures { ServingIsRun H.digest }
 {}
 
-/// What a peer sends that closes it, each with its reason, and what it sends that does not, while three blocks
-/// are fetched from it.
+/// What a peer sends that closes it, each with its reason, and what it sends that does not, while three
+/// blocks are fetched from it.
 pub fn hostile_messages_are_runs<H: NodeHash>(_hash: H)
     ensures { HostileMessagesAreRuns H.digest }
 {}
