@@ -26,14 +26,14 @@ use Rattle.bt_engine.proofs.Marks.{state_is, file_marked, settle_marks}
 
 module _ (dig : List ℕ → List ℕ) where
   -- the file has a tree that extends this one
-  record HasExtended (s : EngineState) (file : ℕ) (k : Facts) : Type 0 where
+  pub record HasExtended (s : EngineState) (file : ℕ) (k : Facts) : Type 0 where
     pub state : FileState
     pub tree : Facts
     pub is_file : IsFile s file state tree
     pub extends : Extends dig k tree
 
   -- bytes that are right stay right
-  right_in : (k grown : Facts) (i : ℕ) (bytes : List ℕ) → Extends dig k grown → IsRight dig k i bytes → IsRight dig grown i bytes
+  pub right_in : (k grown : Facts) (i : ℕ) (bytes : List ℕ) → Extends dig k grown → IsRight dig k i bytes → IsRight dig grown i bytes
   right_in k grown i bytes extends right = record { whole = right.whole ∙ ap (λ n. block_length n i) (sym extends.file_length); leaf = extends.values 0 i _ right.leaf }
 
   extends_then : (k mid grown : Facts) → Extends dig k mid → Extends dig mid grown → Extends dig k grown
@@ -55,7 +55,7 @@ module _ (dig : List ℕ → List ℕ) where
     hung = ap (λ (x : EngineState). slice_get x.trees g.state.tree) g.after ∙ set_same s.trees g.state.tree g.grown g.tree g.is_file.hung;
   }
 
-  group_forward : (s new : EngineState) (file from : ℕ) (calls : DeviceCalls) (adopted : Adopted) → AdoptsGroup dig s file from calls adopted new
+  pub group_forward : (s new : EngineState) (file from : ℕ) (calls : DeviceCalls) (adopted : Adopted) → AdoptsGroup dig s file from calls adopted new
       → (f : FileState) (k : Facts) → IsFile s file f k → HasExtended new file k
   group_forward s new file from calls adopted g f k is =
       let state : g.state ≡ f = same_some (slice_get s.files file) g.state f g.is_file.here is.here in

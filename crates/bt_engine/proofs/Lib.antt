@@ -18,6 +18,7 @@ pub mod Stored
 pub mod Tame
 pub mod Sound
 pub mod Headline
+pub mod Crash
 -- answers
 pub mod AnswerParts
 pub mod AnswerSends
@@ -49,3 +50,5 @@ pub mod DeterminedNext
 pub mod DeterminedPeers
 pub mod DeterminedAdopt
 pub mod Determined
+-- marks that go
+pub mod Unmarks

@@ -123,3 +123,10 @@ get_some (x ∷ xs) (suc i) lt = get_some xs i (omega (arith, lt))
 
 pub some_not_none : {X : Type 0} (o : Option X) → IsSome o → o ≡ None → ⊥
 some_not_none o some gone = let no : false ≡ true = sym (ap (λ x. is_some x) gone) ∙ some in absurd cc
+
+pub set_get : {X : Type 0} (xs : List X) (i j : ℕ) (y x : X) → slice_get xs j ≡ Some x → ((j ≡ i) × (slice_get (slice_set xs i y) j ≡ Some y)) ⊎ (slice_get (slice_set xs i y) j ≡ Some x)
+set_get [] i j y x e = absurd cc
+set_get (z ∷ xs) zero zero y x e = inl (refl, refl)
+set_get (z ∷ xs) zero (suc j) y x e = inr e
+set_get (z ∷ xs) (suc i) zero y x e = inr e
+set_get (z ∷ xs) (suc i) (suc j) y x e = elim (set_get xs i j y x e) [ inl now ↦ inl (ap (λ n. suc n) now.0, now.1) | inr old ↦ inr old ]

@@ -195,7 +195,7 @@ file_missing s file f new b at keep missing = by (b.file == file) refl
         let apart : b.file ≢ file = λ same. (let yes : (b.file == file) ≡ true = eq-eqb b.file file same in let no : true ≡ false = sym yes ∙ e in absurd cc) in
         ap (option_and_then (λ (q : FileState). slice_get q.states b.block)) (set_other s.files file b.file new apart) ∙ missing
 
-judged_other : (dig : List ℕ → List ℕ) (k : Facts) (forgiving : Bool) (reads : List BlockRead) (states : List BlockState) (i : ℕ) → (Contains (map block_of reads) i → ⊥)
+pub judged_other : (dig : List ℕ → List ℕ) (k : Facts) (forgiving : Bool) (reads : List BlockRead) (states : List BlockState) (i : ℕ) → (Contains (map block_of reads) i → ⊥)
     → slice_get (judged dig k forgiving reads states) i ≡ slice_get states i
 judged_other dig k forgiving [] states i none = refl
 judged_other dig k forgiving (given b bytes ∷ reads) states i none =

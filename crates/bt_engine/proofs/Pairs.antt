@@ -18,7 +18,7 @@ to_pairs R (x ∷ xs) h = (
   to_pairs R xs (λ i j d lt within. h (suc i) (suc j) d (omega (arith, lt)) (omega (arith, within))),
 )
 
-contains_at : {X : Type 0} (xs : List X) (j : ℕ) (d : X) → j < length xs → Contains xs (get_or xs j d)
+pub contains_at : {X : Type 0} (xs : List X) (j : ℕ) (d : X) → j < length xs → Contains xs (get_or xs j d)
 contains_at xs j d lt = (j, lt, get_or_default xs j (get_or xs j d) d lt)
 
 pub from_pairs : {X : Type 0} (R : X → X → Type 0) (xs : List X) → Pairs R xs → AllPairs R xs

@@ -1,5 +1,5 @@
 -- What stays over all events.
-use Rattle.std.proofs.Common.{◌≡◌, ◌≢◌, ℕ, zero, suc, ◌+◌, ◌<◌, ◌⊎◌, inl, inr, Bool, true, false, List, [], ◌∷◌, ◌++◌, length, map, get_or, Some, refl, sym, ap, ◌∙◌, arith}
+use Rattle.std.proofs.Common.{◌≡◌, ◌≢◌, ℕ, zero, suc, ◌+◌, ◌<◌, inl, inr, Bool, true, false, List, [], ◌∷◌, ◌++◌, length, map, get_or, Some, refl, sym, ap, ◌∙◌, arith}
 use Rattle.std.specs.Prelude.{slice_get, slice_set, option_map, if◌then◌else◌, Result, Ok, Err}
 use Rattle.std.specs.List.{AllPairs}
 use Rattle.std.proofs.lemmas.List.{length-set, length-map, length-replicate, append-nil, get_or-map}
@@ -40,7 +40,7 @@ use Rattle.bt_engine.specs.Flush.{StepFlush, syncs, fails}
 use Rattle.bt_engine.specs.Start.{IsNewFile}
 use Rattle.bt_engine.specs.Step.{Answer, Step, Run}
 use Rattle.bt_engine.specs.Shape.{HasShapeOf, RunsKeepShape}
-use Rattle.bt_engine.proofs.Lists.{same_some, set_cases, map_some}
+use Rattle.bt_engine.proofs.Lists.{same_some, set_get, set_cases, map_some}
 use Rattle.bt_engine.proofs.Adopting.{group_extends}
 
 -- a file of the new engine has the tree and the count of blocks that it had
@@ -117,13 +117,6 @@ file_keeps s file f new at tree blocks = record {
   hints = refl;
   pending = λ none. refl;
 }
-
-set_get : {X : Type 0} (xs : List X) (i j : ℕ) (y x : X) → slice_get xs j ≡ Some x → ((j ≡ i) × (slice_get (slice_set xs i y) j ≡ Some y)) ⊎ (slice_get (slice_set xs i y) j ≡ Some x)
-set_get [] i j y x e = absurd cc
-set_get (z ∷ xs) zero zero y x e = inl (refl, refl)
-set_get (z ∷ xs) zero (suc j) y x e = inr e
-set_get (z ∷ xs) (suc i) zero y x e = inr e
-set_get (z ∷ xs) (suc i) (suc j) y x e = elim (set_get xs i j y x e) [ inl now ↦ inl (ap (λ n. suc n) now.0, now.1) | inr old ↦ inr old ]
 
 map_set : {X Y : Type 0} (f : X → Y) (xs : List X) (i : ℕ) (x y : X) → slice_get xs i ≡ Some x → f y ≡ f x → map f (slice_set xs i y) ≡ map f xs
 map_set f [] i x y e same = refl

@@ -22,7 +22,8 @@ use Rattle.bt_engine.specs.Sound.{IsSound, StepKeepsSound, RunOn, CompleteFilesS
 use Rattle.bt_engine.proofs.Lists.{same_some, here, later, contains_none, contains_cases, contains_filter, contains_map}
 use Rattle.bt_engine.proofs.Marking.{step_cases}
 use Rattle.bt_engine.proofs.Stored.{own_bytes, other_bytes, torn_bytes, complete_root}
-use Rattle.bt_engine.proofs.Tame.{KeepsBytes, Touches, keeping, putting, step_tame}
+use Rattle.bt_engine.specs.Writes.{KeepsBytes}
+use Rattle.bt_engine.proofs.Tame.{Touches, keeping, putting, step_tame}
 
 -- ---- calls of one device
 
@@ -39,11 +40,11 @@ call_keeps old new sync_made k a = ap (λ h. h.now.bytes) a
 call_keeps old new sync_fault k a = ap (λ h. h.now.bytes) a
 
 -- a device's bytes stay, and what was read stands there
-record Reads (old new : History) (calls : List Call) : Type 0 where
-  same : new.now.bytes ≡ old.now.bytes
-  read : (at wanted : ℕ) (bytes : List ℕ) → Contains calls (bytes_given at wanted bytes) → bytes ≡ take wanted (drop at old.now.bytes)
+pub record Reads (old new : History) (calls : List Call) : Type 0 where
+  pub same : new.now.bytes ≡ old.now.bytes
+  pub read : (at wanted : ℕ) (bytes : List ℕ) → Contains calls (bytes_given at wanted bytes) → bytes ≡ take wanted (drop at old.now.bytes)
 
-calls_keep : (old new : History) (calls : List Call) → ((c : Call) → Contains calls c → KeepsBytes c) → AreAnswered old calls new → Reads old new calls
+pub calls_keep : (old new : History) (calls : List Call) → ((c : Call) → Contains calls c → KeepsBytes c) → AreAnswered old calls new → Reads old new calls
 calls_keep old new [] keep a = record { same = ap (λ h. h.now.bytes) a; read = λ at wanted bytes c. absurd (contains_none _ c) }
 calls_keep old new (call ∷ calls) keep a =
     let one : a.0.now.bytes ≡ old.now.bytes = call_keeps old a.0 call (keep call (here call call calls refl)) a.1 in
@@ -57,7 +58,7 @@ calls_keep old new (call ∷ calls) keep a =
     }
 
 -- a device's calls are among all calls
-of_all : (file : ℕ) (calls : DeviceCalls) (c : Call) → Contains (calls_of file calls) c → Contains calls (file, c)
+pub of_all : (file : ℕ) (calls : DeviceCalls) (c : Call) → Contains (calls_of file calls) c → Contains calls (file, c)
 of_all file calls c among =
     let m = contains_map (λ a. a.1) (filter (λ a. a.0 == file) calls) c among in
     let t = contains_filter (λ a. a.0 == file) calls m.0 m.1 in
@@ -72,7 +73,7 @@ none_false x file e = rw e refl
 one_true : (x : ℕ × Call) (file : ℕ) → (x.0 == file) ≡ true → calls_of file (x ∷ []) ≡ x.1 ∷ []
 one_true x file e = rw e refl
 
-among_file : (file : ℕ) (calls : DeviceCalls) (c : Call) → Contains calls (file, c) → Contains (calls_of file calls) c
+pub among_file : (file : ℕ) (calls : DeviceCalls) (c : Call) → Contains calls (file, c) → Contains (calls_of file calls) c
 among_file file [] c among = absurd (contains_none _ among)
 among_file file (x ∷ calls) c among = by (x.0 == file) refl (contains_cases x (file, c) calls among) (λ more. among_file file calls c more)
   where

@@ -1,11 +1,12 @@
 -- What a step does to trees, files and devices: trees grow, and it reads blocks, or syncs, or writes one missing block.
 use Rattle.std.proofs.Common.{◌≡◌, ℕ, ◌*◌, ◌⊎◌, inl, inr, Bool, true, List, [], ◌∷◌, ◌++◌, length, Some, Result, Ok, Err, refl, sym, ap, ◌∙◌, subst}
-use Rattle.std.specs.Prelude.{slice_get, slice_set, Contains, flat_map, ⊤}
+use Rattle.std.specs.Prelude.{slice_get, slice_set, flat_map}
+use Rattle.std.specs.Option.{option_and_then}
 use Rattle.std.proofs.lemmas.List.Elements.{Contains-append_cases}
 use Rattle.bt_tree.specs.Limits.{full_block_length}
 use Rattle.bt_tree.specs.Blocks.{block_count, block_length}
 use Rattle.bt_tree.specs.TreeShape.{CoversBlock, IsPadding}
-use Rattle.bt_disk.specs.Calls.{Call, bytes_written, write_fault, length_set, resize_fault, sync_made, sync_fault}
+use Rattle.bt_disk.specs.Calls.{Call, bytes_written, write_fault, sync_made, sync_fault}
 use Rattle.bt_hashreq.specs.declared.key.HashKey.{HashKey}
 use Rattle.bt_sparse.specs.SparseTree.{Facts, blocks_of, held_at, value_at}
 use Rattle.bt_sparse.proofs.Values.{value_inside, value_covers, value_padding, cases_node}
@@ -39,19 +40,9 @@ use Rattle.bt_engine.specs.Rechoke.{FollowsEach, StepRechoke, rechokes, no_memor
 use Rattle.bt_engine.specs.Adopting.{AdoptsGroup, AdoptsGroups, is_other, StepAdopt, no_file, busy, empty, adopts, no_memory as not_adopted}
 use Rattle.bt_engine.specs.Flush.{StepFlush, syncs_of, syncs, fails}
 use Rattle.bt_engine.specs.Step.{Answer, Step}
+use Rattle.bt_engine.specs.Writes.{KeepsBytes, AllKeepBytes, IsWriteOfMissing, StepWritesMissing}
 use Rattle.bt_engine.proofs.Lists.{set_cases, map_some, contains_none, contains_cases, contains_map, contains_flat_map}
 use Rattle.bt_engine.proofs.Adopting.{group_extends}
-
--- a call that leaves a device's bytes as they are
-abbrev pub KeepsBytes : Call → Type 0
-KeepsBytes (bytes_written at bytes) = ⊥
-KeepsBytes (write_fault at bytes) = ⊥
-KeepsBytes (length_set len) = ⊥
-KeepsBytes (resize_fault len) = ⊥
-KeepsBytes _ = ⊤
-
-abbrev pub AllKeepBytes : DeviceCalls → Type 0
-AllKeepBytes calls = (c : ℕ × Call) → Contains calls c → KeepsBytes c.1
 
 -- where a file's tree comes from
 pub record GrownFrom (dig : List ℕ → List ℕ) (files : List FileState) (trees : List Facts) (file : ℕ) (new : Facts) : Type 0 where
@@ -337,3 +328,20 @@ module _ (dig : List ℕ → List ℕ) where
   step_tame s new Rechoke calls a t = rechoke_tame s new calls t.0 t.2 t.3
   step_tame s new (Adopt file) calls a t = adopt_tame s new file calls t.0 t.2
   step_tame s new Flush calls a t = flush_tame s new calls t.0 t.2
+
+  writes_of : (s : EngineState) (calls : DeviceCalls) → Touches s.files s.trees calls → AllKeepBytes calls ⊎ IsWriteOfMissing s calls
+  writes_of s calls (keeping keep) = inl keep
+  writes_of s calls (putting b bytes f k call here hung missing whole only writes) = inr (record {
+    block = b;
+    tree = k;
+    bytes = bytes;
+    call = call;
+    missing = ap (option_and_then (λ (q : FileState). slice_get q.states b.block)) here ∙ missing;
+    hung = ap (option_and_then (λ (q : FileState). slice_get s.trees q.tree)) here ∙ hung;
+    whole = whole;
+    only = only;
+    writes = writes;
+  })
+
+  pub writes_missing : StepWritesMissing dig
+  writes_missing s new e calls a step = writes_of s calls (step_tame s new e calls a step).1

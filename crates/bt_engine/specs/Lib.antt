@@ -22,11 +22,14 @@ pub mod Step
 -- laws
 pub mod Stored
 pub mod Law
+pub mod Writes
 pub mod Taught
 pub mod Orderly
 pub mod Shape
 pub mod Determined
 pub mod Sound
+pub mod Unmarks
+pub mod Crash
 pub mod Headline
 pub mod AnswerLaw
 pub mod AnswerDue

@@ -1,9 +1,12 @@
 ghost use Rattle.bt_engine.specs.Headline.{CompleteFilesArePublished};
 ghost use Rattle.bt_engine.specs.Stored.{CompleteHasRoot};
+ghost use Rattle.bt_engine.specs.Writes.{StepWritesMissing};
 ghost use Rattle.bt_engine.specs.Taught.{TaughtKeysAreAnswered};
 ghost use Rattle.bt_engine.specs.Determined.{StepIsDetermined};
 ghost use Rattle.bt_engine.specs.Shape.{RunsKeepShape};
 ghost use Rattle.bt_engine.specs.Orderly.{StepKeepsOrder, RunsAreOrderly};
+ghost use Rattle.bt_engine.specs.Crash.{StepKeepsImages};
+ghost use Rattle.bt_engine.specs.Unmarks.{StepUnmarksByBytes, StepKeepsMarks, RunKeepsMarks};
 ghost use Rattle.bt_engine.specs.Sound.{StepKeepsSound, RunKeepsSound, CompleteFilesStand};
 ghost use Rattle.bt_engine.specs.Law.{StepKeepsRooted, RunKeepsRooted, RootedIsChecked, RunsAreChecked, RightIsChecked, StepMarksByBytes, RunMarksByBytes, StepSendsReadBytes, RunSendsReadBytes};
 
@@ -47,6 +50,12 @@ pub fn run_marks_by_bytes<H: NodeHash>(_hash: H)
     ensures { RunMarksByBytes H.digest }
 {}
 
+/// A marked block ceases to be so in one way only: it was read in this event, and its device gave other bytes
+/// than those of its leaf.
+pub fn step_unmarks_by_bytes<H: NodeHash>(_hash: H)
+    ensures { StepUnmarksByBytes H.digest }
+{}
+
 /// Data is sent only to a peer that asked for it, cut from blocks that were read in that event with the
 /// digests of their leaves.
 pub fn step_sends_read_bytes<H: NodeHash>(_hash: H)
@@ -56,6 +65,12 @@ pub fn step_sends_read_bytes<H: NodeHash>(_hash: H)
 /// So it is of each answer of a list of events.
 pub fn run_sends_read_bytes<H: NodeHash>(_hash: H)
     ensures { RunSendsReadBytes H.digest }
+{}
+
+/// An event changes a device by one write at most, of a block that is missing: all of it, at its place. What
+/// waits or is marked is never written.
+pub fn step_writes_missing<H: NodeHash>(_hash: H)
+    ensures { StepWritesMissing H.digest }
 {}
 
 /// Where the blocks of a group were claimed together and found right, the tree answers the keys of the proofs
@@ -101,6 +116,22 @@ pub fn step_keeps_sound<D: Disk, H: NodeHash>(_disk: &D, _hash: H)
 /// So they do over a list of events.
 pub fn run_keeps_sound<D: Disk, H: NodeHash>(_disk: &D, _hash: H)
     ensures { RunKeepsSound D.history D.honest D.faults H.digest }
+{}
+
+/// So on an honest device a marked block that was right stays marked.
+pub fn step_keeps_marks<D: Disk, H: NodeHash>(_disk: &D, _hash: H)
+    ensures { StepKeepsMarks D.history D.honest D.faults H.digest }
+{}
+
+/// And so over a list of events.
+pub fn run_keeps_marks<D: Disk, H: NodeHash>(_disk: &D, _hash: H)
+    ensures { RunKeepsMarks D.history D.honest D.faults H.digest }
+{}
+
+/// What every image of an honest device since a moment has of a block that waits or is marked, every image goes
+/// on to have, also those of a crash within an event.
+pub fn step_keeps_images<D: Disk, H: NodeHash>(_disk: &D, _hash: H)
+    ensures { StepKeepsImages D.history D.honest D.faults H.digest }
 {}
 
 /// Where all blocks of a file are marked, the trees are rooted and the marked blocks right on honest devices,
