@@ -1,7 +1,7 @@
 -- A body tells its message.
 use Rattle.std.proofs.Common.{◌≡◌, ℕ, ◌==◌, if◌then◌else◌, Option, Some, None, List, [], ◌++◌, length, take, drop, sym, ◌∙◌, ap, refl}
 use Rattle.std.specs.Int.{w32, to_be_bytes}
-use Rattle.std.proofs.lemmas.List.{take_at, drop_at, append_assoc, append-nil}
+use Rattle.std.proofs.lemmas.List.{take_at, drop_at, append_assoc, append-nil, take-append-drop, drop-drop}
 use Rattle.bt_hashreq.specs.declared.key.HashKey.{HashKey}
 use Rattle.bt_hashreq.specs.Key.{key_spelling, IsKey}
 use Rattle.bt_wire.specs.declared.message.Ask.{Ask}
@@ -102,3 +102,13 @@ message_is (HashReject key) lawful = ap HashReject (short_key key lawful)
 
 pub same_message : (m n : Message) → IsMessage m → IsMessage n → body_of m ≡ body_of n → m ≡ n
 same_message m n m-is n-is e = sym (message_is m m-is) ∙ ap message_in e ∙ message_is n n-is
+
+-- the payload of a piece: two numbers and the bytes behind them
+pub piece_payload : (payload : List ℕ) (piece begin : ℕ) → to_be_bytes w32 piece ≡ take 4 (drop 0 payload)
+    → to_be_bytes w32 begin ≡ take 4 (drop 4 payload)
+    → to_be_bytes w32 piece ++ (to_be_bytes w32 begin ++ drop 8 payload) ≡ payload
+piece_payload payload piece begin first second =
+    ap (λ xs. xs ++ (to_be_bytes w32 begin ++ drop 8 payload)) first
+    ∙ ap (λ xs. take 4 payload ++ xs)
+    (ap (λ xs. xs ++ drop 8 payload) second ∙ ap (λ xs. take 4 (drop 4 payload) ++ xs) (sym (drop-drop 4 4 payload)) ∙ take-append-drop 4 (drop 4 payload))
+    ∙ take-append-drop 4 payload

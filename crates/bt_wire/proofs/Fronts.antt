@@ -1,12 +1,15 @@
 -- The front of the unread bytes: a frame, or a misfit.
-use Rattle.std.proofs.Common.{◌≡◌, ℕ, suc, ◌+◌, ◌-◌, ◌≤◌, ◌<◌, Option, Some, None, List, ◌∷◌, ◌++◌, length, take, drop, slice_index, sym, ◌∙◌, ap, subst, arith}
+use Rattle.std.proofs.Common.{◌≡◌, ℕ, true, suc, ◌+◌, ◌-◌, ◌≤◌, ◌<◌, Option, Some, None, List, ◌∷◌, ◌++◌, length, take, drop, slice_index, sym, ◌∙◌, ap, subst, arith}
 use Rattle.std.specs.Int.{w32, to_be_bytes}
 use Rattle.std.proofs.lemmas.List.{length-drop, length-take-le, take-append-drop, drop_more, take_rest}
 use Rattle.bt_wire.specs.Limits.{max_length_field}
-use Rattle.bt_wire.specs.Message.{Body, body, frame_spelling}
-use Rattle.bt_wire.specs.Event.{ShowsBadLength}
+use Rattle.bt_wire.specs.declared.message.Message.{Message as Sent}
+use Rattle.bt_wire.specs.declared.event.WireEvent.{WireEvent}
+use Rattle.bt_wire.specs.declared.event.WireEvent.TheVariants.{Message}
+use Rattle.bt_wire.specs.Message.{Body, body, length_field, frame_spelling}
+use Rattle.bt_wire.specs.Event.{IsEvent, IsSent, ShowsBadLength}
 use Rattle.bt_wire.specs.FrontSteps.{FitsKind, IsMisfit, FitsBody, IsLawfulFrame, BeginsFrame}
-use Rattle.bt_wire.specs.ReaderSteps.{HasSize}
+use Rattle.bt_wire.specs.ReaderSteps.{HasSize, IsMessageOf}
 use Rattle.bt_wire.proofs.Sizes.{fitting_size}
 
 -- the bytes begin with a length field
@@ -66,3 +69,24 @@ lawful_size frame lawful long =
     subst (λ (xs : List ℕ). HasSize (slice_index frame 4) (length xs)) (sym whole)
     (subst (λ (xs : List ℕ). HasSize (slice_index xs 4) (length (drop 5 xs))) (sym lawful.spelled)
     (frame_size lawful.body lawful.fits (subst (λ (xs : List ℕ). 4 < length xs) lawful.spelled long)))
+
+-- a whole frame whose kind and payload are a message's is that message's
+sent_frame : (b : Option Body) → length_field b ≤ max_length_field → 4 < length (frame_spelling b)
+    → (m : Sent) → IsMessageOf (slice_index (frame_spelling b) 4) (drop 5 (frame_spelling b)) m → IsSent m (frame_spelling b)
+sent_frame None limit long m is = absurd (omega arith)
+sent_frame (Some b) limit long m is = record {
+  is_message = is.is_message;
+  fits = record { limit = subst (λ (it : Option Body). length_field it ≤ max_length_field) (sym is.body_is) limit; whole = is.whole };
+  spelled = ap frame_spelling (sym is.body_is);
+}
+
+pub has_frame : (frame : List ℕ) → IsLawfulFrame frame → 4 < length frame
+    → (m : Sent) × IsMessageOf (slice_index frame 4) (take (length frame - 5) (drop 5 frame)) m
+    → (e : WireEvent) × IsEvent true e frame
+has_frame frame lawful long found =
+    let at_end = subst (λ (xs : List ℕ). IsMessageOf (slice_index frame 4) xs found.0) (take_rest frame 5) found.1 in
+    let spelled = subst (λ (xs : List ℕ). IsMessageOf (slice_index xs 4) (drop 5 xs) found.0) lawful.spelled at_end in (
+      Message found.0,
+      subst (λ (xs : List ℕ). IsSent found.0 xs) (sym lawful.spelled)
+          (sent_frame lawful.body lawful.limit (subst (λ (xs : List ℕ). 4 < length xs) lawful.spelled long) found.0 spelled),
+    )

@@ -1,9 +1,12 @@
--- The first event is taken by a step of the offset.
-use Rattle.std.proofs.Common.{◌≡◌, ℕ, ◌+◌, ◌-◌, Bool, true, false, List, ◌++◌, length, take, drop, sym, ◌∙◌, ap, refl, subst}
+-- The first event is taken by a step of the offset, or stays where memory was refused.
+use Rattle.std.proofs.Common.{◌≡◌, ℕ, ◌+◌, ◌-◌, Bool, true, false, List, ◌++◌, length, take, drop, sym, ◌∙◌, ap, refl, subst, inl, inr, Result, Ok, Err, IfErr}
 use Rattle.std.proofs.lemmas.List.{take-append-drop, drop-drop, take_rest}
 use Rattle.bt_wire.specs.declared.event.WireEvent.{WireEvent}
-use Rattle.bt_wire.specs.Cutter.{stream, Takes}
-use Rattle.bt_wire.specs.FrontSteps.{BeginsEvent}
+use Rattle.bt_wire.specs.declared.event.WireError.{WireError}
+use Rattle.bt_wire.specs.declared.event.WireError.TheVariants.{OutOfMemory}
+use Rattle.bt_wire.specs.Event.{ShowsFault}
+use Rattle.bt_wire.specs.Cutter.{stream, Takes, HasEvent}
+use Rattle.bt_wire.specs.FrontSteps.{BeginsEvent, HasFront, IsFrontRefusal}
 
 pub takes_front : (bytes rest : List ℕ) (start n : ℕ) (greeted failed : Bool) (e : WireEvent) → failed ≡ false
     → rest ≡ drop (start + n) bytes → BeginsEvent greeted (take (length bytes - start) (drop start bytes)) e n
@@ -19,3 +22,27 @@ takes_front bytes rest start n greeted failed e running rest_is begins =
       greeted = refl;
       not_failed = running;
     }
+
+pub err_of : {T E P : Type 0} → (r : Result T E) → P → IfErr r (λ _. P)
+err_of (Ok _) p = tt
+err_of (Err _) p = p
+
+-- the event that is there stays first
+pub has_event : (bytes : List ℕ) (start : ℕ) (greeted failed : Bool) → failed ≡ false
+    → HasFront greeted (take (length bytes - start) (drop start bytes)) → HasEvent (stream (drop start bytes) greeted failed)
+has_event bytes start greeted failed running front = (
+  front.0,
+  stream (drop (start + front.1) bytes) true failed,
+  takes_front bytes (drop (start + front.1) bytes) start front.1 greeted failed front.0 running refl front.2,
+)
+
+-- out of memory is no fault of the stream
+no_fault : (greeted : Bool) (unread : List ℕ) → ¬ ShowsFault greeted unread OutOfMemory
+no_fault true unread shown = shown
+no_fault false unread shown = shown
+
+pub front_of : (greeted : Bool) (unread : List ℕ) (error : WireError) → error ≡ OutOfMemory → IsFrontRefusal greeted unread error
+    → HasFront greeted unread
+front_of greeted unread error is (inl refused) = refused.1
+front_of greeted unread error is (inr shown) =
+    absurd (no_fault greeted unread (subst (λ (fault : WireError). ShowsFault greeted unread fault) is shown))

@@ -30,6 +30,10 @@ pub record Takes (old : Stream) (e : WireEvent) (new : Stream) : Type 0 where
   pub greeted : new.greeted ≡ true
   pub not_failed : new.failed ≡ false
 
+-- an event stands first in the unread bytes
+abbrev pub HasEvent : Stream → Type 0
+HasEvent s = (e : WireEvent) × (rest : Stream) × Takes s e rest
+
 -- no event is whole, and no fault shows
 pub record Waits (s : Stream) : Type 0 where
   pub running : s.failed ≡ false
@@ -52,7 +56,7 @@ abbrev pub IsRefusal : Stream → WireError → Stream → Type 0
 IsRefusal old BadProtocol new = Fails old BadProtocol new
 IsRefusal old TooLong new = Fails old TooLong new
 IsRefusal old BadLength new = Fails old BadLength new
-IsRefusal old OutOfMemory new = (old.failed ≡ false) × (new ≡ old)
+IsRefusal old OutOfMemory new = HasEvent old × (new ≡ old)
 IsRefusal old Failed new = (old.failed ≡ true) × (new ≡ old)
 
 -- why `feed` returns an error

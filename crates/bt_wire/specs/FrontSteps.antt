@@ -51,6 +51,11 @@ pub record IsPartial (greeted : Bool) (unread : List ℕ) : Type 0 where
   pub no_event : HasNoEvent greeted unread
   pub no_fault : ShowsNoFault greeted unread
 
+-- an event is there, for which memory was refused
+abbrev pub HasFront : Bool → List ℕ → Type 0
+HasFront greeted unread = (e : WireEvent) × (n : ℕ) × BeginsEvent greeted unread e n
+
 -- why no event is returned
 abbrev pub IsFrontRefusal : Bool → List ℕ → WireError → Type 0
-IsFrontRefusal greeted unread error = (error ≡ OutOfMemory) ⊎ ShowsFault greeted unread error
+IsFrontRefusal greeted unread error =
+    ((error ≡ OutOfMemory) × HasFront greeted unread) ⊎ ShowsFault greeted unread error

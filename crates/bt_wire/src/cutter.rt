@@ -62,6 +62,7 @@ impl Cutter {
         if self.start >= self.bytes.len() - self.start {
             drop_front(&mut self.bytes, self.start);
             self.start = 0;
+            fit_room(self.alloc, &mut self.bytes);
         }
         self.bytes.extend_from_slice(bytes)?;
         Ok(())
@@ -70,7 +71,7 @@ impl Cutter {
     /// Takes the first event from the unread bytes; None where no event is whole and no fault shows.
     ///
     /// Errors: `BadProtocol`, `TooLong` or `BadLength` as soon as the bytes show that fault, and `Failed`
-    /// ever after; `OutOfMemory`, which leaves the cutter as it was.
+    /// ever after; `OutOfMemory` where an event is whole, which leaves the cutter as it was.
     pub fn next(&mut self) -> Result<Option<WireEvent>, WireError>
         ensures answer { IfOk result (λ found. IsAnswer self.old found self.new) }
         ensures refused { IfErr result (λ error. IsRefusal self.old error self.new) }
@@ -104,6 +105,19 @@ fn drop_front(bytes: &mut Vec<u8>, count: usize)
     let (front, back) = bytes.split_at_mut(count);
     front[..rest].copy_from_slice(back);
     bytes.truncate(rest);
+}
+
+/// Moves bytes that have four times the room they need, and more than is kept, to a buffer of their size; where
+/// memory for that is refused they stay.
+fn fit_room(alloc: Global, bytes: &mut Vec<u8>)
+    ensures { bytes.new.items ≡ bytes.old.items }
+{
+    if bytes.capacity() <= KEPT_ROOM || bytes.capacity() / 4 < bytes.len() {
+        return;
+    }
+    if let Ok(copy) = Vec::from_slice(alloc, bytes.as_slice()) {
+        *bytes = copy;
+    }
 }
 
 /// Gives a large buffer back where all its bytes are taken; returns where the others begin.

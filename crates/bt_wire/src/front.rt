@@ -108,7 +108,8 @@ fn fits_kind(kind: u8, len: usize) -> bool
 /// The event that these bytes spell, a whole message.
 fn read_frame(alloc: Global, frame: &[u8]) -> Result<WireEvent, AllocError>
     requires { IsLawfulFrame frame.now }
-    ensures { IfOk result (λ event. IsEvent true event frame.now) }
+    ensures event { IfOk result (λ event. IsEvent true event frame.now) }
+    ensures refused { IfErr result (λ _. (event : WireEvent) × IsEvent true event frame.now) }
 {
     if frame.len() <= 4 {
         return Ok(WireEvent::Message(Message::KeepAlive));

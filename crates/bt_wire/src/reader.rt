@@ -1,4 +1,4 @@
-ghost use Rattle.std.specs.Prelude.{◌≡◌, ◌+◌, ◌≤◌, ◌<◌, ◌↔◌, length, take, drop, IsSome, IsNone, IsTrue, IfSome, IfNone, IfOk};
+ghost use Rattle.std.specs.Prelude.{◌≡◌, ◌+◌, ◌≤◌, ◌<◌, ◌↔◌, length, take, drop, IsSome, IsNone, IsTrue, IfSome, IfNone, IfOk, IfErr};
 ghost use Rattle.std.specs.Int.{w32, to_be_bytes};
 ghost use Rattle.bt_hashreq.specs.Key.{key_length, key_spelling, IsKey};
 ghost use Rattle.bt_wire.specs.Message.{ask_spelling, IsAsk, IsKnownKind};
@@ -36,6 +36,7 @@ pub(crate) fn read_message(
     requires { HasSize kind (length payload.now) }
     ensures message { IfOk result (λ found. IfSome found (IsMessageOf kind payload.now)) }
     ensures unknown { IfOk result (λ found. IfNone found (¬ IsKnownKind kind)) }
+    ensures refused { IfErr result (λ _. (m : Message) × IsMessageOf kind payload.now m) }
 {
     match kind {
         kind::CHOKE => Ok(Some(Message::Choke)),

@@ -14,7 +14,16 @@ const HANDSHAKE: Handshake = Handshake {
     peer_id: [9; 20],
 };
 
-/// A message in words, with its numbers and how many bytes it carries.
+/// A sum of bytes that their order changes, modulo 2^32.
+fn sum(bytes: &[u8]) -> u32 {
+    let mut sum = 0u32;
+    for byte in bytes {
+        sum = sum.wrapping_mul(31).wrapping_add(*byte as u32);
+    }
+    sum
+}
+
+/// A message in words, with its numbers, and how many bytes it carries with their sum.
 fn words(alloc: Global, message: &Message) -> Result<String, Fail> {
     let text = match message {
         Message::KeepAlive => format!(in alloc; "keepalive")?,
@@ -35,11 +44,21 @@ fn words(alloc: Global, message: &Message) -> Result<String, Fail> {
             piece,
             begin,
             bytes,
-        } => format!(in alloc; "piece {piece} {begin} {}", bytes.as_slice().len())?,
-        Message::Cancel(ask) => format!(in alloc; "cancel {}", ask.piece)?,
+        } => {
+            let bytes = bytes.as_slice();
+            format!(in alloc; "piece {piece} {begin} {} {}", bytes.len(), sum(bytes))?
+        }
+        Message::Cancel(
+            Ask {
+                piece,
+                begin,
+                length,
+            },
+        ) => format!(in alloc; "cancel {piece} {begin} {length}")?,
         Message::HashRequest(key) => format!(in alloc; "hash request {}", key.index)?,
         Message::Hashes(key, digests) => {
-            format!(in alloc; "hashes {} {}", key.index, digests.as_slice().len())?
+            let digests = digests.as_slice();
+            format!(in alloc; "hashes {} {} {}", key.index, digests.len(), sum(digests))?
         }
         Message::HashReject(key) => format!(in alloc; "hash reject {}", key.index)?,
     };
@@ -199,19 +218,19 @@ const SIZES: [(u8, u16, &str); 34] = [
     (6, 12, "request 0 0 0;"),
     (6, 13, ""),
     (7, 7, ""),
-    (7, 8, "piece 0 0 0;"),
-    (7, 9, "piece 0 0 1;"),
+    (7, 8, "piece 0 0 0 0;"),
+    (7, 9, "piece 0 0 1 0;"),
     (8, 11, ""),
-    (8, 12, "cancel 0;"),
+    (8, 12, "cancel 0 0 0;"),
     (8, 13, ""),
     (21, 47, ""),
     (21, 48, "hash request 0;"),
     (21, 49, ""),
     (22, 47, ""),
-    (22, 48, "hashes 0 0;"),
+    (22, 48, "hashes 0 0 0;"),
     (22, 49, ""),
     (22, 79, ""),
-    (22, 80, "hashes 0 32;"),
+    (22, 80, "hashes 0 32 0;"),
     (22, 81, ""),
     (23, 47, ""),
     (23, 48, "hash reject 0;"),
@@ -272,7 +291,10 @@ fn the_longest_message(rt: HostRuntime) -> Result<(), Fail> {
     let mut bytes = greeted(alloc, &[0, 0x10, 0, 0, 7])?;
     bytes.resize(68 + 4 + (1 << 20), 1)?;
     let found = findings(alloc, &[&bytes])?;
-    assert_eq!(rt; found.as_str(), "hello;piece 16843009 16843009 1048567;");
+    assert_eq!(rt;
+        found.as_str(),
+        "hello;piece 16843009 16843009 1048567 1067443361;"
+    );
     Ok(())
 }
 
@@ -320,7 +342,7 @@ fn dozen(alloc: Global) -> Result<(Vec<u8>, &'static str), Fail> {
     }
     let found =
         "hello;keepalive;choke;unchoke;not interested;have 258;bitfield [128];request 1 16384 3;\
-        piece 1 5 3;cancel 1;hash reject 4;keepalive;interested;";
+        piece 1 5 3 96354;cancel 1 16384 3;hash reject 4;keepalive;interested;";
     Ok((bytes, found))
 }
 
@@ -365,7 +387,10 @@ fn spellings_of_messages(rt: HostRuntime) -> Result<(), Fail> {
     let hashes = Message::Hashes(key(6), Bytes::new(Vec::from_slice(alloc, &[5; 32])?));
     assert!(rt; fits(&hashes));
     let stream = greeted(alloc, &write_message(alloc, &hashes)?)?;
-    assert_eq!(rt; findings(alloc, &[&stream])?.as_str(), "hello;hashes 6 32;");
+    assert_eq!(rt;
+        findings(alloc, &[&stream])?.as_str(),
+        "hello;hashes 6 32 2499365376;"
+    );
     let reject = write_message(alloc, &Message::HashRequest(key(6)))?;
     assert_eq!(rt; reject.len(), 53);
     Ok(())
@@ -389,5 +414,97 @@ fn messages_that_do_not_fit(rt: HostRuntime) -> Result<(), Fail> {
     }
     let bits = Bytes::new(vec![in alloc; 0; 1048576]?);
     assert!(rt; !fits(&Message::Bitfield(bits)));
+    Ok(())
+}
+
+/// Bytes of which neighbours differ, and blocks of 256 too.
+fn pattern(alloc: Global, len: u32) -> Result<Vec<u8>, Fail> {
+    let mut bytes = Vec::new(alloc);
+    for i in 0..len {
+        bytes.push(((i % 251).wrapping_mul(7).wrapping_add(i / 256) % 251) as u8)?;
+    }
+    Ok(bytes)
+}
+
+#[test]
+fn long_messages_are_read_back(rt: HostRuntime) -> Result<(), Fail> {
+    let alloc = rt.alloc();
+    let digests = pattern(alloc, 538 * 32)?;
+    let hashes = format!(in alloc; "hashes 6 17216 {};", sum(&digests))?;
+    let block = pattern(alloc, 16384)?;
+    let piece = format!(in alloc; "piece 3 0 16384 {};", sum(&block))?;
+    let messages = [
+        (Message::Hashes(key(6), Bytes::new(digests)), hashes),
+        (
+            Message::Piece {
+                piece: 3,
+                begin: 0,
+                bytes: Bytes::new(block),
+            },
+            piece,
+        ),
+    ];
+    for (message, wanted) in &messages {
+        assert!(rt; fits(message));
+        if fits(message) {
+            let bytes = write_message(alloc, message)?;
+            let wanted = format!(in alloc; "hello;{}", wanted.as_str())?;
+            assert_eq!(rt; found_in(&rt, alloc, &bytes)?.as_str(), wanted.as_str());
+        }
+    }
+    Ok(())
+}
+
+#[test]
+fn the_longest_bitfield(rt: HostRuntime) -> Result<(), Fail> {
+    let alloc = rt.alloc();
+    let bits = Message::Bitfield(Bytes::new(vec![in alloc; 170; (1 << 20) - 1]?));
+    assert!(rt; fits(&bits));
+    if fits(&bits) {
+        let bytes = write_message(alloc, &bits)?;
+        let mut cutter = Cutter::new(alloc);
+        cutter.feed(&write_handshake(&HANDSHAKE))?;
+        cutter.feed(&bytes)?;
+        assert!(rt; matches!(cutter.next(), Ok(Some(WireEvent::Hello(_)))));
+        let Some(WireEvent::Message(Message::Bitfield(found))) = cutter.next()? else {
+            return Err("no bitfield".into());
+        };
+        assert_eq!(rt; found.as_slice().len(), (1 << 20) - 1);
+        assert_eq!(rt; found.as_slice().first(), Some(&170));
+        let one_more = [0, 0, 0, 1, 2];
+        for byte in &one_more {
+            cutter.feed(&[*byte])?;
+        }
+        assert!(rt;
+            matches!(
+                cutter.next(),
+                Ok(Some(WireEvent::Message(Message::Interested)))
+            )
+        );
+    }
+    Ok(())
+}
+
+#[test]
+fn texts_of_errors(rt: HostRuntime) -> Result<(), Fail> {
+    let alloc = rt.alloc();
+    let rows = [
+        (WireError::BadProtocol, "W1 BadProtocol"),
+        (WireError::TooLong, "W2 TooLong"),
+        (WireError::BadLength, "W3 BadLength"),
+        (WireError::OutOfMemory, "W4 OutOfMemory"),
+        (WireError::Failed, "W5 Failed"),
+    ];
+    for (error, text) in rows {
+        assert_eq!(rt; format!(in alloc; "{error}")?.as_str(), text);
+    }
+    Ok(())
+}
+
+#[test]
+fn bytes_give_their_vec_back(rt: HostRuntime) -> Result<(), Fail> {
+    let bytes = Bytes::new(Vec::from_slice(rt.alloc(), b"abc")?);
+    assert_eq!(rt; bytes.as_slice(), b"abc".as_slice());
+    assert_eq!(rt; bytes.into_vec().as_slice(), b"abc".as_slice());
     Ok(())
 }

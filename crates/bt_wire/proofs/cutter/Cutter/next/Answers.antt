@@ -1,4 +1,5 @@
-use Rattle.bt_wire.proofs.Takings.{takes_front}
+use Rattle.std.proofs.Common.{refl}
+use Rattle.bt_wire.proofs.Takings.{takes_front, has_event, front_of}
 use Rattle.bt_wire.proofs.cutter.Cutter.next.Goals as goal
 
 pub returns-in-Ok-Some-clause-answer : goal.returns-in-Ok-Some-clause-answer
@@ -9,3 +10,9 @@ returns-in-Ok-Some-clause-answer c =
     rw (← c.self.view_is)
     (takes_front a.bytes.items _ a.start c.in-Ok-Some.len a.greeted a.failed c.in-Ok-Some.event c.if-self.false
     c.start_of_rest-self-inside.ensures.same begins)
+
+pub returns-in-Err-OutOfMemory-clause-refused : goal.returns-in-Err-OutOfMemory-clause-refused
+returns-in-Err-OutOfMemory-clause-refused c =
+    let a = c.self.inside in
+    let front = front_of a.greeted _ _ c.in-Err-OutOfMemory.field-0-is c.in-Err-OutOfMemory.ensures.refused in
+    rw (← c.self.view_is) (has_event a.bytes.items a.start a.greeted a.failed c.if-self.false (rw c.deref.ensures.value at front), refl)
