@@ -36,8 +36,8 @@ use Rattle.bt_engine.specs.Request.{AreMarked, IsFile, Serves, StopsAtFault, Fin
 use Rattle.bt_engine.specs.Arrival.{HasPutEffect, Arrives, HandlesPiece, stale, arrives}
 use Rattle.bt_engine.specs.Next.{GoesOn, Closes}
 use Rattle.bt_engine.specs.Step.{Answer, of_next}
-use Rattle.bt_engine.specs.AnswerLaw.{output_of}
-use Rattle.bt_engine.specs.AnswerDue.{IsOutOfMemory, NotedBy, MarksBlock, marked, not_written, NextMarksRightBlock, ServesRange, sent, damaged, not_read, NextServesMarkedRange, WaitingIsNotComplete}
+use Rattle.bt_engine.specs.AnswerLaw.{NotedBy, output_of}
+use Rattle.bt_engine.specs.AnswerDue.{IsOutOfMemory, MarksBlock, marked, not_written, NextMarksRightBlock, ServesRange, sent, damaged, not_read, NextServesMarkedRange, WaitingIsNotComplete}
 use Rattle.bt_engine.proofs.Lists.{and_then_some, same_some, here, set_same, map_contains}
 use Rattle.bt_engine.proofs.AnswerSends.{frame_to, follows_of}
 use Rattle.bt_engine.proofs.AnswerPlaces.{same_place, same_block}

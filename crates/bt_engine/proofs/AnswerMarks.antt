@@ -34,7 +34,8 @@ use Rattle.bt_engine.specs.HashMessages.{HandlesHashes, unknown_root, no_claim, 
 use Rattle.bt_engine.specs.WireEvents.{HandlesHave, in_range, out_of_range, HandlesBitfield, right, wrong, HandlesMessage, Handles}
 use Rattle.bt_engine.specs.Next.{StepNext, no_peer as none_such, waits, goes_on, closes, faulty, no_memory}
 use Rattle.bt_engine.specs.Step.{of_next}
-use Rattle.bt_engine.specs.AnswerDue.{NotedBy, NextNotesMarkedBlocks}
+use Rattle.bt_engine.specs.AnswerLaw.{NotedBy}
+use Rattle.bt_engine.specs.AnswerDue.{NextNotesMarkedBlocks}
 use Rattle.bt_engine.proofs.Lists.{and_then_some, map_some, set_cases, set_same, map_contains, flat_map_contains, range_contains, some_below}
 use Rattle.bt_engine.proofs.Marks.{state_is, file_marked, missing_marks, judged_marks}
 use Rattle.bt_engine.proofs.AnswerParts.{event_leaves}

@@ -24,14 +24,14 @@ use Rattle.bt_engine.specs.Adopting.{AdoptsGroups, AdoptsFile, StepAdopt, no_fil
 use Rattle.bt_engine.specs.Flush.{StepFlush, syncs, fails}
 use Rattle.bt_engine.specs.Step.{Answer, of_connect, of_feed, of_next, of_lost, of_rechoke, of_adopt, of_flush, Step}
 use Rattle.bt_engine.specs.Law.{sent_by}
-use Rattle.bt_engine.specs.AnswerLaw.{output_of, IsConnected, BecomesSo, NotesComplete, StepAnnouncesWholePieces, NextNotesCompleteFiles}
+use Rattle.bt_engine.specs.AnswerLaw.{output_of, IsConnected, BecomesSo, NotedBy, StepAnnouncesWholePieces, NextNotesCompleteFiles}
 use Rattle.bt_engine.proofs.Lists.{contains_none, contains_cases, contains_map, contains_flat_map, contains_filter, map_contains, flat_map_contains, range_contains, and_true, same_some, set_cases, set_same, here, later}
 use Rattle.bt_engine.proofs.AnswerParts.{Part, greets, replies, announces, chokes, NoComplete, Leaves, event_leaves}
 use Rattle.bt_engine.proofs.AnswerSends.{get_contains, contains_get, nat_cases, set_other, frame_to, follows_of, IsSentBy, alike, announced, followed, rechoked_then, step_sent}
 
 -- ---- lists
 
-filter_contains : {X : Type 0} (test : X → Bool) (xs : List X) (x : X) → Contains xs x → test x ≡ true → Contains (filter test xs) x
+pub filter_contains : {X : Type 0} (test : X → Bool) (xs : List X) (x : X) → Contains xs x → test x ≡ true → Contains (filter test xs) x
 filter_contains test [] x c e = absurd (contains_none x c)
 filter_contains test (y ∷ xs) x c e = by (test y) refl (contains_cases y x xs c) (λ more. filter_contains test xs x more e)
   where
@@ -62,16 +62,16 @@ complete_same s new file f = ap (λ x. is_complete (record s { files = x }) file
 
 -- what a step does to pieces and files
 data Keeps (dig : List ℕ → List ℕ) (s : EngineState) (answer : Answer) (new : EngineState) : Type 0 where
-  keeps : new.files ≡ s.files → new.torrent ≡ s.torrent → ((file : ℕ) → NotesComplete answer file → ⊥) → Keeps dig s answer new
+  keeps : new.files ≡ s.files → new.torrent ≡ s.torrent → ((file : ℕ) → NotedBy answer (Complete file) → ⊥) → Keeps dig s answer new
   goes_further : (key : PeerKey) (i : ℕ) (p : PeerState) (calls : DeviceCalls) (out : Output) → IsPeer s key i p → GoesOn dig s i p calls out new
       → answer ≡ of_next (Ok (Some out)) → Keeps dig s answer new
 
 module _ (dig : List ℕ → List ℕ) (s new : EngineState) where
   -- an answer without an output, or with one without notes
-  no_output : (a b : Answer) → a ≡ b → output_of b ≡ None → (file : ℕ) → NotesComplete a file → ⊥
+  no_output : (a b : Answer) → a ≡ b → output_of b ≡ None → (file : ℕ) → NotedBy a (Complete file) → ⊥
   no_output a b e none file c = let wrong : None ≡ Some c.0 = sym none ∙ ap output_of (sym e) ∙ c.1 in absurd cc
 
-  no_note : (a b : Answer) (like : Output) → a ≡ b → output_of b ≡ Some like → NoComplete like.notes → (file : ℕ) → NotesComplete a file → ⊥
+  no_note : (a b : Answer) (like : Output) → a ≡ b → output_of b ≡ Some like → NoComplete like.notes → (file : ℕ) → NotedBy a (Complete file) → ⊥
   no_note a b like e is none file c =
       let same : c.0 ≡ like = same_some (output_of a) c.0 like c.1 (ap output_of e ∙ is) in
       let wrong : true ≡ false = none (Complete file) (subst (λ (o : Output). Contains o.notes (Complete file)) same c.2) in
@@ -286,7 +286,7 @@ module _ (dig : List ℕ → List ℕ) where
     λ c. elim (step_keeps dig s new e calls a t) [ inl kept ↦ sends_have s new a key piece kept c.0 c.1 c.2 | inr none ↦ none_connected new key none c.0 ],
   )
 
-  complete_cases : (s new : EngineState) (a : Answer) (file : ℕ) → Keeps dig s a new → NotesComplete a file ↔ (file < length new.files) × BecomesSo is_complete s new file
+  complete_cases : (s new : EngineState) (a : Answer) (file : ℕ) → Keeps dig s a new → NotedBy a (Complete file) ↔ (file < length new.files) × BecomesSo is_complete s new file
   complete_cases s new a file (keeps f t x) = (λ c. absurd (x file c), λ b. becomes_nothing is_complete s new file (complete_same s new file f) b.1)
   complete_cases s new a file (goes_further other i p calls out peer g e) = (
     λ c.

@@ -41,8 +41,9 @@ use Rattle.bt_engine.specs.HashMessages.{IsTreeOf, HandlesHashes, unknown_root, 
 use Rattle.bt_engine.specs.WireEvents.{HandlesHello, ours, other, HandlesHave, in_range, out_of_range, HandlesBitfield, right, wrong, Handles}
 use Rattle.bt_engine.specs.Next.{IsPeer, StepNext, no_peer, waits, goes_on, closes, faulty, no_memory}
 use Rattle.bt_engine.specs.Step.{Answer, of_next, Step}
+use Rattle.bt_engine.specs.Orderly.{IsOrderly}
 use Rattle.bt_engine.specs.AnswerLaw.{output_of, Closes, IsCause, wire, other_torrent, past_last_piece, other_length, no_place as has_no_place, wrong_block, unknown_root as of_unknown_root, no_claim as makes_no_claim, refused as is_refused}
-use Rattle.bt_engine.specs.AnswerDue.{IsOnlyPeer, IsOutOfMemory, NextClosesForCause}
+use Rattle.bt_engine.specs.AnswerDue.{IsOnlyPeer, OrderlyPeersAreOnly, IsOutOfMemory, NextClosesForCause}
 use Rattle.bt_engine.proofs.Lists.{same_some, some_below}
 use Rattle.bt_engine.proofs.AnswerPlaces.{same_block}
 use Rattle.bt_engine.proofs.AnswerDue.{Taken, no_room, goes, shuts, step_taken}
@@ -97,6 +98,24 @@ module _ (s : EngineState) (apart : AllPairs (λ (j k : Facts). j.root ≢ k.roo
       | inr to ↦ same_some (slice_get s.trees i) k l x.here (ap (slice_get s.trees) (omega (arith, from, to)) ∙ y.here)
     ]
   ]
+
+-- ---- one peer for each key
+
+not_both_peers : (s : EngineState) → IsOrderly s → (key : PeerKey) (i j : ℕ) (p q : PeerState) → IsPeer s key i p → IsPeer s key j q → i < j → ⊥
+not_both_peers s o key i j p q x y lt =
+    let before = o.in_order i j p lt (some_below s.peers j q y.here) in
+    let first : (slice_index_or s.peers i p).key.0 ≡ key.0 = ap (λ (r : PeerState). r.key.0) (get_index s.peers i p p x.here) ∙ ap (λ (k : PeerKey). k.0) x.same_key in
+    let second : (slice_index_or s.peers j p).key.0 ≡ key.0 = ap (λ (r : PeerState). r.key.0) (get_index s.peers j q p y.here) ∙ ap (λ (k : PeerKey). k.0) y.same_key in
+    absurd (omega (arith, before, first, second))
+
+pub orderly_only : OrderlyPeersAreOnly
+orderly_only s key i p o x = record {
+  is_peer = x;
+  only = λ j q y. elim (cases_lt i j) [
+    | inl before ↦ absurd (not_both_peers s o key i j p q x y before)
+    | inr from ↦ elim (cases_lt j i) [ inl after ↦ absurd (not_both_peers s o key j i q p y x after) | inr to ↦ omega (arith, from, to) ]
+  ];
+}
 
 -- ---- an event that is a cause closes
 

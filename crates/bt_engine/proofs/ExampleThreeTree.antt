@@ -10,7 +10,7 @@ use Rattle.bt_tree.specs.Tree.{padding_digest}
 use Rattle.bt_tree.specs.Peaks.{row_node}
 use Rattle.bt_sparse.specs.NodeMap.{Nodes, digest_at}
 use Rattle.bt_sparse.specs.SparseTree.{Facts, root_facts, value_at, held_at}
-use Rattle.bt_sparse.specs.Claim.{Claims, in_run, on_path, uncle, IsInRun, IsOnPath, run_digest, path_digest}
+use Rattle.bt_sparse.specs.Claim.{Claims, in_run, on_path, uncle, IsInRun, IsOnPath, run_digest, path_digest, top_digest}
 use Rattle.bt_sparse.specs.Answer.{claim_of}
 use Rattle.bt_sparse.specs.Acceptance.{IsAcceptable, IsJoined, Accepts}
 use Rattle.bt_sparse.specs.declared.claim.Claim.{Claim}
@@ -169,7 +169,7 @@ module _ (dig : List ℕ → List ℕ) (b : ThreeBlocks) where
     | inr none ↦ let wrong : None ≡ Some d = sym (digest_at_empty layer i) ∙ none in absurd cc
   ]
 
-  root_held : held_at at_first 2 0 ≡ Some (three_root dig b)
+  pub root_held : held_at at_first 2 0 ≡ Some (three_root dig b)
   unfolding height_up_to
   root_held = digest_at_new finite.empty 2 0 (three_root dig b)
 
@@ -209,7 +209,7 @@ module _ (dig : List ℕ → List ℕ) (b : ThreeBlocks) where
   same_root layer i d right high = absurd (omega (arith, high))
   same_root layer i d top high = refl
 
-  acceptable : IsAcceptable dig at_first leaves_claim
+  pub acceptable : IsAcceptable dig at_first leaves_claim
   unfolding height_up_to path_digest row_node
   acceptable = record {
     shape = record { some = omega arith; power = refl; aligned = refl; in_width = omega arith; in_height = omega arith };
@@ -217,6 +217,11 @@ module _ (dig : List ℕ → List ℕ) (b : ThreeBlocks) where
     top = root_held;
     agrees = λ layer i d e claim held. let is = only_root layer i e held in is.2 ∙ sym (same_root layer i d (claimed layer i d claim) is.0);
   }
+
+  -- the claim reaches the root
+  pub top_is : top_digest dig leaves_claim ≡ three_root dig b
+  unfolding height_up_to path_digest row_node
+  top_is = refl
 
   joined : IsJoined dig at_first leaves_claim proved
   unfolding height_up_to

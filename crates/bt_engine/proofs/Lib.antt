@@ -30,6 +30,7 @@ pub mod AnswerPlaces
 pub mod AnswerDue
 pub mod AnswerBlocks
 pub mod AnswerMarks
+pub mod AnswerWaits
 pub mod AnswerShut
 pub mod AnswerAsks
 -- worked examples
@@ -40,6 +41,7 @@ pub mod ExampleThreeEngine
 pub mod ExampleThreeBlocks
 pub mod ExampleWaiting
 pub mod ExampleServing
+pub mod ExampleHostile
 -- what is left free
 pub mod DeterminedParts
 pub mod DeterminedEvents

@@ -19,13 +19,12 @@ use Rattle.bt_wire.specs.declared.message.Ask.{Ask}
 use Rattle.bt_wire.specs.declared.message.Message.TheVariants.{Request, Piece, HashRequest, Hashes, HashReject}
 use Rattle.bt_wire.specs.declared.event.WireEvent.TheVariants.{Message}
 use Rattle.bt_engine.specs.declared.answer.Why.{Why}
-use Rattle.bt_engine.specs.declared.answer.Note.{Note}
 use Rattle.bt_engine.specs.declared.answer.Note.TheVariants.{Marked as NowMarked, Damaged, Device}
 use Rattle.bt_engine.specs.declared.error.EngineError.TheVariants.{OutOfMemory}
 use Rattle.bt_engine.specs.declared.event.Event.TheVariants.{Next}
 use Rattle.bt_engine.specs.State.{Idle, PeerState, EngineState}
 use Rattle.bt_engine.specs.Devices.{DeviceCalls}
-use Rattle.bt_engine.specs.Blocks.{block_id, state_at, tree_of, Has, IsAsked, is_complete}
+use Rattle.bt_engine.specs.Blocks.{block_id, state_at, tree_of, leaf_at, Has, IsAsked, is_complete}
 use Rattle.bt_engine.specs.Spans.{IsWholeBlock, spanned_blocks, cut_from}
 use Rattle.bt_engine.specs.Output.{Output}
 use Rattle.bt_engine.specs.Request.{AreMarked}
@@ -33,15 +32,18 @@ use Rattle.bt_engine.specs.HashMessages.{IsAnswered}
 use Rattle.bt_engine.specs.FollowUp.{IsInteresting, NeedsLeaf}
 use Rattle.bt_engine.specs.Next.{IsPeer}
 use Rattle.bt_engine.specs.Step.{Answer, of_next, Step}
-use Rattle.bt_engine.specs.AnswerLaw.{Sends, output_of, IsCause, Closes}
+use Rattle.bt_engine.specs.Orderly.{IsOrderly}
+use Rattle.bt_engine.specs.AnswerLaw.{NotedBy, Sends, IsCause, Closes}
 
 -- the peer of the key stands at this place, and no other has the key
 pub record IsOnlyPeer (s : EngineState) (key : PeerKey) (place : ℕ) (p : PeerState) : Type 0 where
   pub is_peer : IsPeer s key place p
   pub only : (j : ℕ) (q : PeerState) → IsPeer s key j q → j ≡ place
 
-abbrev pub NotedBy : Answer → Note → Type 0
-NotedBy answer note = (out : Output) × (output_of answer ≡ Some out) × Contains out.notes note
+-- So it is of each peer, where peers stand in the order of their keys.
+abbrev pub OrderlyPeersAreOnly : Type 0
+OrderlyPeersAreOnly = (s : EngineState) (key : PeerKey) (place : ℕ) (p : PeerState) → IsOrderly s
+    → IsPeer s key place p → IsOnlyPeer s key place p
 
 abbrev pub IsOutOfMemory : Answer → Type 0
 IsOutOfMemory answer = answer ≡ of_next (Err OutOfMemory)
@@ -111,7 +113,7 @@ NextServesMarkedRange dig = (old new : EngineState) (key : PeerKey) (place : ℕ
 
 -- ---- closing
 
--- A peer that sent what it is to be closed for is closed. There is one tree for each root, as in every engine.
+-- A peer that sent what it is to be closed for is closed. There is one tree for each root, as in any engine.
 abbrev pub NextClosesForCause : (List ℕ → List ℕ) → Type 0
 NextClosesForCause dig = (old new : EngineState) (key : PeerKey) (place : ℕ) (p : PeerState)
     (calls : DeviceCalls) (answer : Answer) (why : Why)
@@ -142,6 +144,14 @@ NextAsksForAll dig = (old new : EngineState) (key : PeerKey) (place : ℕ) (p : 
 abbrev pub WaitingIsNotComplete : Type 0
 WaitingIsNotComplete = (s : EngineState) (b : BlockId) → state_at s b ≡ Some Waiting
     → is_complete s b.file ≡ false
+
+-- A block that waits after a message waits for an unknown leaf, unless it waited for a known one before. So,
+-- where a message tells its leaf, it is settled in every file of the root.
+abbrev pub NextSettlesWaitingBlocks : (List ℕ → List ℕ) → Type 0
+NextSettlesWaitingBlocks dig = (old new : EngineState) (key : PeerKey) (calls : DeviceCalls) (answer : Answer)
+    (b : BlockId) → Step dig old (Next key) calls answer new
+    → (state_at old b ≡ Some Waiting → leaf_at dig old b ≡ None)
+    → state_at new b ≡ Some Waiting → leaf_at dig new b ≡ None
 
 -- A block that becomes marked is noted.
 abbrev pub NextNotesMarkedBlocks : (List ℕ → List ℕ) → Type 0

@@ -25,6 +25,7 @@ use Rattle.bt_wire.specs.declared.event.WireError.{WireError}
 use Rattle.bt_engine.specs.declared.answer.Frame.TheVariants.{Message as message_frame}
 use Rattle.bt_engine.specs.declared.answer.Why.{Why}
 use Rattle.bt_engine.specs.declared.answer.Why.TheVariants.{Wire, WrongTorrent, BadPiece, BadBitfield, BadRequest, WrongBlock, UnknownRoot, Proof}
+use Rattle.bt_engine.specs.declared.answer.Note.{Note}
 use Rattle.bt_engine.specs.declared.answer.Note.TheVariants.{Complete}
 use Rattle.bt_engine.specs.declared.event.Event.{Event}
 use Rattle.bt_engine.specs.declared.event.Event.TheVariants.{Next}
@@ -49,6 +50,10 @@ output_of (of_connect (Ok joined)) = Some joined.1
 output_of (of_next (Ok out)) = out
 output_of (of_rechoke out) = out
 output_of _ = None
+
+-- the answer has this note
+abbrev pub NotedBy : Answer → Note → Type 0
+NotedBy answer note = (out : Output) × (output_of answer ≡ Some out) × Contains out.notes note
 
 abbrev pub IsConnected : EngineState → PeerKey → Type 0
 IsConnected s key = (place : ℕ) × (p : PeerState) × IsPeer s key place p
@@ -109,16 +114,11 @@ StepAnnouncesWholePieces dig = (old new : EngineState) (event : Event) (calls : 
     → (key : PeerKey) (piece : ℕ) → Sends answer key (Have piece)
     ↔ IsConnected new key × (piece < total_pieces new.torrent) × BecomesSo is_whole old new piece
 
--- the answer notes that the file is complete
-abbrev pub NotesComplete : Answer → ℕ → Type 0
-NotesComplete answer file =
-    (out : Output) × (output_of answer ≡ Some out) × Contains out.notes (Complete file)
-
 -- Where the next wire event of a peer is taken, a file is noted as complete exactly where it became so.
 abbrev pub NextNotesCompleteFiles : (List ℕ → List ℕ) → Type 0
 NextNotesCompleteFiles dig = (old new : EngineState) (key : PeerKey) (calls : DeviceCalls) (answer : Answer)
     → Step dig old (Next key) calls answer new
-    → (file : ℕ) → NotesComplete answer file
+    → (file : ℕ) → NotedBy answer (Complete file)
     ↔ (file < length new.files) × BecomesSo is_complete old new file
 
 -- ---- closing

@@ -7,6 +7,7 @@ use Rattle.bt_wire.specs.declared.handshake.Handshake.{Handshake}
 use Rattle.bt_wire.specs.declared.message.Message.{Message}
 use Rattle.bt_wire.specs.declared.message.Message.TheVariants.{Bitfield}
 use Rattle.bt_engine.specs.declared.answer.Frame.TheVariants.{Hello as hello_frame, Message as message_frame}
+use Rattle.bt_engine.specs.declared.answer.Why.{Why}
 use Rattle.bt_engine.specs.declared.answer.Note.{Note}
 use Rattle.bt_engine.specs.State.{HashState, PeerState}
 use Rattle.bt_engine.specs.Output.{Sent}
@@ -57,6 +58,10 @@ fed_answer = of_feed (Ok tt)
 
 abbrev pub taken_answer : List Sent → List Note → Answer
 taken_answer send notes = of_next (Ok (Some (record { send = send; close = None; notes = notes })))
+
+-- the peer is closed
+abbrev pub closed_answer : Why → Answer
+closed_answer why = of_next (Ok (Some (record { send = []; close = Some why; notes = [] })))
 
 -- our handshake and an empty bitfield
 abbrev pub our_handshake : (infohash : List ℕ) → Handshake

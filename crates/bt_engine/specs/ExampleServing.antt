@@ -1,6 +1,6 @@
--- A worked example: three blocks are marked, and a peer that is interested is unchoked. It requests a range of
--- the first two; one that is choked, or requests too much, gets nothing.
-use Rattle.std.specs.Prelude.{◌≡◌, ℕ, Bool, true, false, List, [], ◌∷◌, ◌++◌, take, drop, Some, None, Ok}
+-- A worked example: three blocks are marked, and a peer that is interested is unchoked. It requests a range
+-- of the first two; one that is choked, or requests too much, gets nothing.
+use Rattle.std.specs.Prelude.{◌≡◌, ℕ, Bool, true, false, List, [], ◌∷◌, ◌++◌, take, drop, Some, None}
 use Rattle.bt_disk.specs.Calls.{bytes_given}
 use Rattle.bt_sparse.specs.SparseTree.{Facts, value_at}
 use Rattle.bt_store.specs.declared.block_states.BlockState.TheVariants.{Marked}
@@ -10,8 +10,8 @@ use Rattle.bt_engine.specs.declared.event.Event.{Event}
 use Rattle.bt_engine.specs.declared.event.Event.TheVariants.{Rechoke}
 use Rattle.bt_engine.specs.State.{Idle, PeerState, EngineState}
 use Rattle.bt_engine.specs.Devices.{DeviceCalls}
-use Rattle.bt_engine.specs.Step.{Answer, of_next, of_rechoke, Run}
-use Rattle.bt_engine.specs.ExamplePeer.{peer_with, all_taken, to_first, fed_answer, taken_answer}
+use Rattle.bt_engine.specs.Step.{Answer, of_rechoke, Run}
+use Rattle.bt_engine.specs.ExamplePeer.{peer_with, all_taken, to_first, fed_answer, taken_answer, closed_answer}
 use Rattle.bt_engine.specs.ExampleThreeBlocks.{ThreeBlocks, AreWhole, three_engine, told}
 
 -- the tree knows the leaves of the first two blocks
@@ -58,12 +58,11 @@ abbrev pub serving_answers : ThreeBlocks → List Answer
 serving_answers b =
     fed_answer ∷ taken_answer [] []
     ∷ of_rechoke (Some (record { send = to_first Unchoke ∷ []; close = None; notes = [] }))
-    ∷ fed_answer ∷ taken_answer (to_first (Piece 0 16334 (drop 16334 b.first ++ take 50 b.second)) ∷ []) [] ∷ []
+    ∷ fed_answer
+    ∷ taken_answer (to_first (Piece 0 16334 (drop 16334 b.first ++ take 50 b.second)) ∷ []) [] ∷ []
 
-abbrev pub closed_answer : Answer
-closed_answer = of_next (Ok (Some (record { send = []; close = Some BadRequest; notes = [] })))
-
-pub record ServesReaders (dig : List ℕ → List ℕ) (b : ThreeBlocks) (infohash : List ℕ) (k : Facts) : Type 0 where
+pub record ServesReaders (dig : List ℕ → List ℕ) (b : ThreeBlocks) (infohash : List ℕ) (k : Facts)
+    : Type 0 where
   pub serves : Run dig (marked_engine dig b infohash k 0 (reader true false 0 ∷ []))
       serving_events (serving_calls b) (serving_answers b)
       (marked_engine dig b infohash k 1 (reader false true 100 ∷ []))
@@ -71,7 +70,7 @@ pub record ServesReaders (dig : List ℕ → List ℕ) (b : ThreeBlocks) (infoha
       (told request_bytes []) ([] ∷ [] ∷ []) (fed_answer ∷ taken_answer [] [] ∷ [])
       (marked_engine dig b infohash k 0 (reader true true 0 ∷ []))
   pub closes : Run dig (marked_engine dig b infohash k 1 (reader false true 0 ∷ []))
-      (told long_request_bytes []) ([] ∷ [] ∷ []) (fed_answer ∷ closed_answer ∷ [])
+      (told long_request_bytes []) ([] ∷ [] ∷ []) (fed_answer ∷ closed_answer BadRequest ∷ [])
       (marked_engine dig b infohash k 1 [])
 
 abbrev pub ServingIsRun : (List ℕ → List ℕ) → Type 0

@@ -39,3 +39,4 @@ pub mod ExampleOneBlock
 pub mod ExampleThreeBlocks
 pub mod ExampleWaiting
 pub mod ExampleServing
+pub mod ExampleHostile

@@ -1,6 +1,12 @@
-ghost use Rattle.bt_engine.specs.AnswerDue.{NextAnswersHashRequest, NextMarksRightBlock, NextServesMarkedRange, NextNotesMarkedBlocks, NextClosesForCause, NextAsksForAll, WaitingIsNotComplete};
+ghost use Rattle.bt_engine.specs.AnswerDue.{OrderlyPeersAreOnly, NextAnswersHashRequest, NextMarksRightBlock, NextServesMarkedRange, NextNotesMarkedBlocks, NextClosesForCause, NextAsksForAll, NextSettlesWaitingBlocks, WaitingIsNotComplete};
 
 use bt_tree::NodeHash;
+
+/// Where peers stand in the order of their keys, each is the only one of its key. So it is in every engine
+/// that events lead to from the start of a torrent.
+pub fn orderly_peers_are_only()
+    ensures { OrderlyPeersAreOnly }
+{}
 
 /// A hash request is answered with the digests that are known, and rejected only where not all of them are.
 pub fn next_answers_hash_request<H: NodeHash>(_hash: H)
@@ -29,10 +35,15 @@ pub fn next_closes_for_cause<H: NodeHash>(_hash: H)
     ensures { NextClosesForCause H.digest }
 {}
 
-/// After a message of a peer that stays, our interest in it is as it should be, and it is asked for all that it
-/// may be asked for.
+/// After a message of a peer that stays, our interest in it is as it should be, and it is asked for all that
+/// it may be asked for.
 pub fn next_asks_for_all<H: NodeHash>(_hash: H)
     ensures { NextAsksForAll H.digest }
+{}
+
+/// A block whose leaf a message of a peer tells is settled, in every file of the root: it waits no longer.
+pub fn next_settles_waiting_blocks<H: NodeHash>(_hash: H)
+    ensures { NextSettlesWaitingBlocks H.digest }
 {}
 
 /// A file is not complete while a block of it waits.

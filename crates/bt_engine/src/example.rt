@@ -1,3 +1,4 @@
+ghost use Rattle.bt_engine.specs.ExampleHostile.{HostileMessagesAreRuns, WrongBlockIsRun};
 ghost use Rattle.bt_engine.specs.ExampleOneBlock.{FetchOfAbcIsRun};
 ghost use Rattle.bt_engine.specs.ExampleThreeBlocks.{FetchOfThreeIsRun};
 ghost use Rattle.bt_engine.specs.ExampleServing.{ServingIsRun};
@@ -22,8 +23,19 @@ pub fn waiting_fetch_is_run<H: NodeHash>(_hash: H)
     ensures { WaitingFetchIsRun H.digest }
 {}
 
-/// A peer that is interested is unchoked, and what it requests is read and sent; a choked peer is ignored, and
-/// one that requests too much is closed. Those are runs too.
+/// A peer that is interested is unchoked, and what it requests is read and sent; a choked peer is ignored,
+/// and one that requests too much is closed. Those are runs too.
 pub fn serving_is_run<H: NodeHash>(_hash: H)
     ensures { ServingIsRun H.digest }
+{}
+
+/// What a peer sends that closes it, each with its reason, and what it sends that does not, while three
+/// blocks are fetched from it.
+pub fn hostile_messages_are_runs<H: NodeHash>(_hash: H)
+    ensures { HostileMessagesAreRuns H.digest }
+{}
+
+/// A block with the wrong digest closes the peer that was asked for it, and stays missing.
+pub fn wrong_block_is_run<H: NodeHash>(_hash: H)
+    ensures { WrongBlockIsRun H.digest }
 {}

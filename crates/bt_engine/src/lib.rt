@@ -13,7 +13,8 @@ mod law;
 pub use answer::{Frame, Note, Why};
 pub use answer_due::{
     next_answers_hash_request, next_asks_for_all, next_closes_for_cause, next_marks_right_block,
-    next_notes_marked_blocks, next_serves_marked_range, waiting_is_not_complete,
+    next_notes_marked_blocks, next_serves_marked_range, next_settles_waiting_blocks,
+    orderly_peers_are_only, waiting_is_not_complete,
 };
 pub use answer_law::{
     next_notes_complete_files, step_announces_whole_pieces, step_closes_for_cause,
@@ -22,7 +23,8 @@ pub use answer_law::{
 pub use error::{AdoptError, ConnectError, EngineError, FlushError};
 pub use event::Event;
 pub use example::{
-    fetch_of_abc_is_run, fetch_of_three_is_run, serving_is_run, waiting_fetch_is_run,
+    fetch_of_abc_is_run, fetch_of_three_is_run, hostile_messages_are_runs, serving_is_run,
+    waiting_fetch_is_run, wrong_block_is_run,
 };
 pub use law::{
     complete_files_are_published, complete_files_stand, complete_has_root, right_is_checked,
