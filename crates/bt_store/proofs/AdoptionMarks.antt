@@ -18,7 +18,7 @@ use Rattle.bt_sparse.specs.Acceptance.{Accepts}
 use Rattle.bt_sparse.specs.declared.claim.Claim.{Claim}
 use Rattle.bt_sparse.proofs.Joins.{value_kept, claimed_value, keeps_rooted}
 use Rattle.bt_store.specs.BlockReads.{BlockRead, given, failed, block_of, is_leaf, is_right, IsRight, judged}
-use Rattle.bt_store.specs.Adoption.{IsUnknownGroup, AreWhole, is_whole, claimed_digest, claim_of_reads, marked_run, Adopts, none, known, accepted, refused, short, unread}
+use Rattle.bt_store.specs.Adoption.{AreWhole, is_whole, claimed_digest, claim_of_reads, marked_run, Adopts, none, known, accepted, refused, short, unread}
 use Rattle.bt_store.specs.Laws.{IsReadRight, Extends}
 use Rattle.bt_store.specs.declared.block_states.BlockState.{BlockState}
 use Rattle.bt_store.specs.declared.block_states.BlockState.TheVariants.{Missing, Marked}
@@ -186,19 +186,19 @@ module _ (dig : List ℕ → List ℕ) (k grown : Facts) (anchor first count : �
 same_bytes : (i j : ℕ) (xs ys : List ℕ) → given i xs ≡ given j ys → (i ≡ j) × (xs ≡ ys)
 same_bytes i j xs ys e = (cc, cc)
 
-pub accepted_reads : (dig : List ℕ → List ℕ) (k grown : Facts) (from anchor first count : ℕ) (reads : List BlockRead)
-    → IsUnknownGroup k from anchor first count → AreWhole k.file_length first count reads → Accepts dig k (claim_of_reads dig k.file_length anchor first reads) grown
+pub accepted_reads : (dig : List ℕ → List ℕ) (k grown : Facts) (anchor first count : ℕ) (reads : List BlockRead)
+    → AreWhole k.file_length first count reads → Accepts dig k (claim_of_reads dig k.file_length anchor first reads) grown
     → (i : ℕ) (bytes : List ℕ) → Contains reads (given i bytes) → IsRight dig grown i bytes
-accepted_reads dig k grown from anchor first count reads group whole accepts i bytes (j, lt, here) =
+accepted_reads dig k grown anchor first count reads whole accepts i bytes (j, lt, here) =
     let below : j < count = omega (arith, reads_count k.file_length first count reads whole, lt) in
     let w = whole_at k.file_length first count reads whole j below in
     let same = same_bytes i (first + j) bytes w.bytes (sym here ∙ get_or_default reads j (given i bytes) (failed 0) lt ∙ w.read) in
     subst (λ b. IsRight dig grown i b) (sym same.1) (subst (λ m. IsRight dig grown m w.bytes) (sym same.0) (right_at dig k grown anchor first count reads whole accepts j below w))
 
-accepted_marks : (dig : List ℕ → List ℕ) (k grown : Facts) (from anchor first count : ℕ) (reads : List BlockRead)
-    → IsUnknownGroup k from anchor first count → AreWhole k.file_length first count reads → Accepts dig k (claim_of_reads dig k.file_length anchor first reads) grown
+accepted_marks : (dig : List ℕ → List ℕ) (k grown : Facts) (anchor first count : ℕ) (reads : List BlockRead)
+    → AreWhole k.file_length first count reads → Accepts dig k (claim_of_reads dig k.file_length anchor first reads) grown
     → (j : ℕ) → j < count → IsReadRight dig grown reads (first + j)
-accepted_marks dig k grown from anchor first count reads group whole accepts j lt =
+accepted_marks dig k grown anchor first count reads whole accepts j lt =
     let w = whole_at k.file_length first count reads whole j lt in
     let within : j < length reads = omega (arith, reads_count k.file_length first count reads whole, lt) in
     record {
@@ -215,7 +215,7 @@ adopt_marks dig k grown from old new reads adopted (none end) i e = inl e
 adopt_marks dig k grown from old new reads adopted (known count rs group order) i e = judged_marks dig k true rs old i e
 adopt_marks dig k grown from old new reads adopted (accepted anchor first count rs g group whole accepts) i e = elim (marked_cases first count old i e) [
   | inl before ↦ inl before
-  | inr one ↦ inr (subst (IsReadRight dig g rs) (sym one.2) (accepted_marks dig k g from anchor first count rs group whole accepts one.0 one.1))
+  | inr one ↦ inr (subst (IsReadRight dig g rs) (sym one.2) (accepted_marks dig k g anchor first count rs whole accepts one.0 one.1))
 ]
 adopt_marks dig k grown from old new reads adopted (refused anchor first count rs error group whole why other) i e = inl e
 adopt_marks dig k grown from old new reads adopted (short anchor first count rs group order faults few) i e = inl e
