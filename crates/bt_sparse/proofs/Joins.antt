@@ -13,7 +13,8 @@ use Rattle.bt_sparse.proofs.Claims.{pair_of, last_of, claimed_inside}
 same_blocks : (dig : List ℕ → List ℕ) (old new : Facts) (c : Claim) → IsJoined dig old c new → blocks_of new ≡ blocks_of old
 same_blocks dig old new c joins = ap block_count joins.file_length
 
-value_kept : (dig : List ℕ → List ℕ) (old new : Facts) (c : Claim) (layer i : ℕ) (d : List ℕ) → IsJoined dig old c new
+-- no value changes
+pub value_kept : (dig : List ℕ → List ℕ) (old new : Facts) (c : Claim) (layer i : ℕ) (d : List ℕ) → IsJoined dig old c new
     → value_at dig old layer i ≡ Some d → value_at dig new layer i ≡ Some d
 value_kept dig old new c layer i d joins e =
     let same = same_blocks dig old new c joins in
@@ -23,7 +24,8 @@ value_kept dig old new c layer i d joins e =
       | inr past ↦ value_padding dig new layer i (rw same past) ∙ sym (value_padding dig old layer i past) ∙ e
     ]
 
-claimed_value : (dig : List ℕ → List ℕ) (old new : Facts) (c : Claim) (layer i : ℕ) (d : List ℕ) → Accepts dig old c new
+-- what was claimed of a node is its value
+pub claimed_value : (dig : List ℕ → List ℕ) (old new : Facts) (c : Claim) (layer i : ℕ) (d : List ℕ) → Accepts dig old c new
     → Claims dig c layer i d → value_at dig new layer i ≡ Some d
 claimed_value dig old new c layer i d h claim =
     let same = same_blocks dig old new c h.joins in

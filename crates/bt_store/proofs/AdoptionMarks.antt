@@ -3,26 +3,22 @@ use Rattle.std.proofs.Common.{◌≡◌, ℕ, zero, suc, ◌+◌, ◌-◌, ◌*�
 use Rattle.std.specs.Prelude.{slice_get, slice_set, Contains, ◌&&◌, ◌==◌}
 use Rattle.std.specs.List.{count_by}
 use Rattle.std.specs.Cmp.Lexicographic.{same_text}
-use Rattle.std.proofs.Math.Nat.{div-add-mod, min-le_right}
+use Rattle.std.proofs.Math.Nat.{div-add-mod}
 use Rattle.std.proofs.lemmas.Nat.{div-mul-add}
 use Rattle.std.proofs.lemmas.Bool.{eqb-true}
 use Rattle.std.proofs.lemmas.List.{get_or-map, get_or_append_left, get_or_default, length-map}
 use Rattle.std.proofs.lemmas.List.FromFn.{get_or-range_with_len, length-range_with_len}
 use Rattle.std.proofs.lemmas.List.Sums.{count_by-le-length, sum_by-cons}
-use Rattle.std.proofs.lemmas.Grind.{div_ceil_times}
-use Rattle.bt_tree.specs.Blocks.{block_count, block_length}
+use Rattle.bt_tree.specs.Blocks.{block_length}
 use Rattle.bt_tree.specs.Tree.{padding_digest}
-use Rattle.bt_tree.specs.TreeShape.{IsInside, CoversBlock}
 use Rattle.bt_tree.specs.Peaks.{row_node}
-use Rattle.bt_sparse.specs.SparseTree.{Facts, blocks_of, height, value_at}
+use Rattle.bt_sparse.specs.SparseTree.{Facts, height, value_at}
 use Rattle.bt_sparse.specs.Claim.{Claims, in_run, run_height, HasShape}
-use Rattle.bt_sparse.specs.Acceptance.{IsJoined, Accepts}
+use Rattle.bt_sparse.specs.Acceptance.{Accepts}
 use Rattle.bt_sparse.specs.declared.claim.Claim.{Claim}
-use Rattle.bt_sparse.proofs.Values.{value_covers, value_padding, value_inside, cases_node}
-use Rattle.bt_sparse.proofs.Claims.{claimed_inside}
-use Rattle.bt_sparse.proofs.Joins.{keeps_rooted}
+use Rattle.bt_sparse.proofs.Joins.{value_kept, claimed_value, keeps_rooted}
 use Rattle.bt_store.specs.BlockReads.{BlockRead, given, failed, block_of, is_leaf, is_right, IsRight, judged}
-use Rattle.bt_store.specs.Adoption.{IsUnknownGroup, AreWhole, is_whole, claimed_digest, claim_of_reads, marked_run, Adopts, none, known, accepted, refused, short, unread}
+use Rattle.bt_store.specs.Adoption.{AreWhole, is_whole, claimed_digest, claim_of_reads, marked_run, Adopts, none, known, accepted, refused, short, unread}
 use Rattle.bt_store.specs.Laws.{IsReadRight, Extends}
 use Rattle.bt_store.specs.declared.block_states.BlockState.{BlockState}
 use Rattle.bt_store.specs.declared.block_states.BlockState.TheVariants.{Missing, Marked}
@@ -166,24 +162,11 @@ leaf_claimed dig h c j base shape within =
       digest = ap (λ m. get_or c.run m []) (sym back);
     }
 
-same_blocks : (dig : List ℕ → List ℕ) (k grown : Facts) (c : Claim) → IsJoined dig k c grown → blocks_of grown ≡ blocks_of k
-same_blocks dig k grown c joins = ap block_count joins.file_length
-
--- a leaf that was claimed is known then
-leaf_known : (dig : List ℕ → List ℕ) (k grown : Facts) (c : Claim) (i : ℕ) (d : List ℕ) → Accepts dig k c grown → i < blocks_of k → Claims dig c 0 i d → value_at dig grown 0 i ≡ Some d
-leaf_known dig k grown c i d accepts within claim =
-    let at = claimed_inside dig (height k) c 0 i d accepts.conditions.shape claim in
-    let covers : CoversBlock (blocks_of k) 0 i = record {
-      inside = record { in_height = at.0; in_width = at.1 };
-      real = omega (arith, (div_ceil_times (blocks_of k) 1 (omega arith)).0);
-    } in
-    value_covers dig grown 0 i (rw (same_blocks dig k grown c accepts.joins) covers) ∙ accepts.joins.added 0 i d claim covers
-
-module _ (dig : List ℕ → List ℕ) (k grown : Facts) (from anchor first count : ℕ) (reads : List BlockRead) where
+module _ (dig : List ℕ → List ℕ) (k grown : Facts) (anchor first count : ℕ) (reads : List BlockRead) where
   -- the bytes of each block of the group are right
-  right_at : IsUnknownGroup k from anchor first count → AreWhole k.file_length first count reads → Accepts dig k (claim_of_reads dig k.file_length anchor first reads) grown
+  right_at : AreWhole k.file_length first count reads → Accepts dig k (claim_of_reads dig k.file_length anchor first reads) grown
       → (j : ℕ) → j < count → (w : IsWholeAt k.file_length first reads j) → IsRight dig grown (first + j) w.bytes
-  right_at group whole accepts j lt w =
+  right_at whole accepts j lt w =
       let n = k.file_length in
       let c = claim_of_reads dig n anchor first reads in
       let digests = map (claimed_digest dig n) reads in
@@ -195,34 +178,33 @@ module _ (dig : List ℕ → List ℕ) (k grown : Facts) (from anchor first coun
       ∙ ap (claimed_digest dig n) w.read ∙ whole_digest dig n (first + j) w.bytes w.size in
       let claim : Claims dig c 0 (first + j) (get_or (digests ++ rest) j []) =
       leaf_claimed dig (height k) c j refl accepts.conditions.shape (omega (arith, length-append digests rest, size, lt)) in
-      let inside : first + j < blocks_of k = omega (arith, group.counts, min-le_right (2 ^ anchor) (blocks_of k - first), lt) in
       record {
         whole = w.size ∙ ap (λ m. block_length m (first + j)) (sym accepts.joins.file_length);
-        leaf = leaf_known dig k grown c (first + j) (dig w.bytes) accepts inside (subst (Claims dig c 0 (first + j)) digest claim);
+        leaf = claimed_value dig k grown c 0 (first + j) (dig w.bytes) accepts (subst (Claims dig c 0 (first + j)) digest claim);
       }
 
 same_bytes : (i j : ℕ) (xs ys : List ℕ) → given i xs ≡ given j ys → (i ≡ j) × (xs ≡ ys)
 same_bytes i j xs ys e = (cc, cc)
 
-pub accepted_reads : (dig : List ℕ → List ℕ) (k grown : Facts) (from anchor first count : ℕ) (reads : List BlockRead)
-    → IsUnknownGroup k from anchor first count → AreWhole k.file_length first count reads → Accepts dig k (claim_of_reads dig k.file_length anchor first reads) grown
+pub accepted_reads : (dig : List ℕ → List ℕ) (k grown : Facts) (anchor first count : ℕ) (reads : List BlockRead)
+    → AreWhole k.file_length first count reads → Accepts dig k (claim_of_reads dig k.file_length anchor first reads) grown
     → (i : ℕ) (bytes : List ℕ) → Contains reads (given i bytes) → IsRight dig grown i bytes
-accepted_reads dig k grown from anchor first count reads group whole accepts i bytes (j, lt, here) =
+accepted_reads dig k grown anchor first count reads whole accepts i bytes (j, lt, here) =
     let below : j < count = omega (arith, reads_count k.file_length first count reads whole, lt) in
     let w = whole_at k.file_length first count reads whole j below in
     let same = same_bytes i (first + j) bytes w.bytes (sym here ∙ get_or_default reads j (given i bytes) (failed 0) lt ∙ w.read) in
-    subst (λ b. IsRight dig grown i b) (sym same.1) (subst (λ m. IsRight dig grown m w.bytes) (sym same.0) (right_at dig k grown from anchor first count reads group whole accepts j below w))
+    subst (λ b. IsRight dig grown i b) (sym same.1) (subst (λ m. IsRight dig grown m w.bytes) (sym same.0) (right_at dig k grown anchor first count reads whole accepts j below w))
 
-accepted_marks : (dig : List ℕ → List ℕ) (k grown : Facts) (from anchor first count : ℕ) (reads : List BlockRead)
-    → IsUnknownGroup k from anchor first count → AreWhole k.file_length first count reads → Accepts dig k (claim_of_reads dig k.file_length anchor first reads) grown
+accepted_marks : (dig : List ℕ → List ℕ) (k grown : Facts) (anchor first count : ℕ) (reads : List BlockRead)
+    → AreWhole k.file_length first count reads → Accepts dig k (claim_of_reads dig k.file_length anchor first reads) grown
     → (j : ℕ) → j < count → IsReadRight dig grown reads (first + j)
-accepted_marks dig k grown from anchor first count reads group whole accepts j lt =
+accepted_marks dig k grown anchor first count reads whole accepts j lt =
     let w = whole_at k.file_length first count reads whole j lt in
     let within : j < length reads = omega (arith, reads_count k.file_length first count reads whole, lt) in
     record {
       bytes = w.bytes;
       gives = (j, within, get_or_default reads j (given (first + j) w.bytes) (failed 0) within ∙ w.read);
-      right = right_at dig k grown from anchor first count reads group whole accepts j lt w;
+      right = right_at dig k grown anchor first count reads whole accepts j lt w;
     }
 
 -- ---- a group
@@ -233,20 +215,11 @@ adopt_marks dig k grown from old new reads adopted (none end) i e = inl e
 adopt_marks dig k grown from old new reads adopted (known count rs group order) i e = judged_marks dig k true rs old i e
 adopt_marks dig k grown from old new reads adopted (accepted anchor first count rs g group whole accepts) i e = elim (marked_cases first count old i e) [
   | inl before ↦ inl before
-  | inr one ↦ inr (subst (IsReadRight dig g rs) (sym one.2) (accepted_marks dig k g from anchor first count rs group whole accepts one.0 one.1))
+  | inr one ↦ inr (subst (IsReadRight dig g rs) (sym one.2) (accepted_marks dig k g anchor first count rs whole accepts one.0 one.1))
 ]
 adopt_marks dig k grown from old new reads adopted (refused anchor first count rs error group whole why other) i e = inl e
 adopt_marks dig k grown from old new reads adopted (short anchor first count rs group order faults few) i e = inl e
 adopt_marks dig k grown from old new reads adopted (unread anchor first count rs group order some) i e = inl e
-
-value_kept : (dig : List ℕ → List ℕ) (k grown : Facts) (c : Claim) → IsJoined dig k c grown → (layer i : ℕ) (d : List ℕ) → value_at dig k layer i ≡ Some d → value_at dig grown layer i ≡ Some d
-value_kept dig k grown c joins layer i d e =
-    let same = same_blocks dig k grown c joins in
-    let inside : IsInside (blocks_of k) layer i = value_inside dig k layer i d e in
-    elim (cases_node (blocks_of k) layer i inside) [
-      | inl covers ↦ value_covers dig grown layer i (rw same covers) ∙ joins.kept layer i d (sym (value_covers dig k layer i covers) ∙ e)
-      | inr past ↦ value_padding dig grown layer i (rw same past) ∙ sym (value_padding dig k layer i past) ∙ e
-    ]
 
 extends_itself : (dig : List ℕ → List ℕ) (k : Facts) → Extends dig k k
 extends_itself dig k = record { file_length = refl; root = refl; values = λ layer i d e. e; rooted = λ r. r }
@@ -258,7 +231,7 @@ adopt_extends dig k grown from old new reads adopted (known count rs group order
 adopt_extends dig k grown from old new reads adopted (accepted anchor first count rs g group whole accepts) = record {
   file_length = accepts.joins.file_length;
   root = accepts.joins.root;
-  values = value_kept dig k g (claim_of_reads dig k.file_length anchor first rs) accepts.joins;
+  values = λ layer i d. value_kept dig k g (claim_of_reads dig k.file_length anchor first rs) layer i d accepts.joins;
   rooted = keeps_rooted dig k g (claim_of_reads dig k.file_length anchor first rs) accepts;
 }
 adopt_extends dig k grown from old new reads adopted (refused anchor first count rs error group whole why other) = extends_itself dig k

@@ -6,7 +6,7 @@ use Rattle.bt_sparse.specs.SparseTree.{Facts, blocks_of, value_at, IsRooted, IsS
 use Rattle.bt_sparse.specs.Acceptance.{Accepts}
 use Rattle.bt_sparse.specs.Laws.{IsClashOnPath}
 use Rattle.bt_store.specs.BlockReads.{BlockRead, given, IsRight}
-use Rattle.bt_store.specs.Adoption.{IsUnknownGroup, AreWhole, claim_of_reads, Adopts}
+use Rattle.bt_store.specs.Adoption.{AreWhole, claim_of_reads, Adopts}
 use Rattle.bt_store.specs.declared.block_states.BlockState.{BlockState}
 use Rattle.bt_store.specs.declared.block_states.BlockState.TheVariants.{Marked}
 use Rattle.bt_store.specs.declared.adoption.Adopted.{Adopted}
@@ -44,8 +44,8 @@ AdoptMarksByBytes dig = (k grown : Facts) (from : ℕ) (old new : List BlockStat
 -- Where the blocks of a group are claimed together and the tree accepts that, each of their reads gave right
 -- bytes, by the leaves that the tree has then.
 abbrev pub AcceptedReadsAreRight : (List ℕ → List ℕ) → Type 0
-AcceptedReadsAreRight dig = (k grown : Facts) (from anchor first count : ℕ) (reads : List BlockRead)
-    → IsUnknownGroup k from anchor first count → AreWhole k.file_length first count reads
+AcceptedReadsAreRight dig = (k grown : Facts) (anchor first count : ℕ) (reads : List BlockRead)
+    → AreWhole k.file_length first count reads
     → Accepts dig k (claim_of_reads dig k.file_length anchor first reads) grown
     → (i : ℕ) (bytes : List ℕ) → Contains reads (given i bytes) → IsRight dig grown i bytes
 
