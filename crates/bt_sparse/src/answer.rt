@@ -5,7 +5,7 @@ ghost use Rattle.bt_tree.specs.TreeShape.{IsInside};
 ghost use Rattle.bt_sparse.specs.SparseTree.{blocks_of, height, value_at, IsSound};
 ghost use Rattle.bt_sparse.specs.Answer.{IsRequest, IsAnswer, HasUnknown, KnowsAll, answer_size, answer_layer, answer_index};
 
-use crate::expansion::{layers_above, sibling};
+use crate::expansion::{run_height, sibling};
 use crate::padding::Padding;
 use crate::sparse_tree::SparseTree;
 use bt_tree::{Hash32, NodeHash};
@@ -49,7 +49,7 @@ impl Request {
             return false;
         }
         let rest = height - self.base;
-        let above = layers_above(self.length) as u32;
+        let above = run_height(self.length) as u32;
         self.length as u64 == 1 << above
             && self.index % self.length == 0
             && above <= rest
@@ -63,7 +63,7 @@ impl Request {
         requires high { self.height ≤ max_height }
         ensures { result ≡ answer_size self.length self.layers }
     {
-        let above = layers_above(self.length) as u32;
+        let above = run_height(self.length) as u32;
         self.length + self.layers.saturating_sub(above - 1)
     }
 
@@ -78,7 +78,7 @@ impl Request {
         if t < self.length {
             return (self.base, self.index + t);
         }
-        let above = layers_above(self.length) as u32;
+        let above = run_height(self.length) as u32;
         let up = t - self.length;
         (self.base + above + up, sibling(self.index >> above >> up))
     }

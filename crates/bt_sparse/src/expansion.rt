@@ -26,7 +26,7 @@ pub(crate) struct Expansion {
 }
 
 /// How many layers lie between a run of this many nodes and the one node above it.
-pub(crate) fn layers_above(count: u32) -> u8
+pub(crate) fn run_height(count: u32) -> u8
     requires { 0 < count }
     ensures value { result ≡ height_of count }
     ensures limit { result ≤ 32 }
@@ -48,7 +48,7 @@ pub(crate) fn has_shape(height: u8, claim: &Claim) -> bool
     if count < 2 || count > 1 << rest || uncles > rest as usize {
         return false;
     }
-    let layers = layers_above(count as u32);
+    let layers = run_height(count as u32);
     count == 1 << layers
         && claim.index as usize % count == 0
         && claim.index as usize + count <= 1 << rest
@@ -62,7 +62,7 @@ pub(crate) fn top_of(claim: &Claim) -> (u32, u32)
     ensures layer { result.0 ≡ top_layer claim.now }
     ensures index { result.1 ≡ top_node claim.now }
 {
-    let layers = layers_above(claim.run.as_slice().len() as u32) as u32;
+    let layers = run_height(claim.run.as_slice().len() as u32) as u32;
     let uncles = claim.uncles.as_slice().len() as u32;
     let node = claim.index >> layers;
     (claim.base + layers + uncles, node >> uncles)
@@ -82,7 +82,7 @@ pub(crate) fn expand<H: NodeHash>(
 {
     let uncles = claim.uncles.as_slice();
     let count = claim.run.as_slice().len();
-    let layers = layers_above(count as u32);
+    let layers = run_height(count as u32);
     let mut pairs = Vec::with_capacity(alloc, count - 1 + uncles.len())?;
     let digest = add_run(hash, alloc, &mut pairs, claim, layers)?;
     let top_digest = add_path(hash, &mut pairs, claim, layers, digest)?;

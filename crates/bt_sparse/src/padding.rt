@@ -7,7 +7,7 @@ ghost use Rattle.bt_sparse.specs.Claim.{HasShape};
 ghost use Rattle.bt_sparse.specs.PaddingSteps.{HasPaddedRun, HasPaddedUncles};
 
 use crate::claim::Claim;
-use crate::expansion::{layers_above, sibling};
+use crate::expansion::{run_height, sibling};
 use bt_tree::{Geometry, Hash32, NodeHash, pad};
 use std::marker::Model;
 
@@ -85,7 +85,7 @@ pub(crate) fn are_uncles_padded<H: NodeHash>(hash: H, geometry: Geometry, claim:
     requires high { height_of (block_count geometry) ≤ max_height }
     ensures { IsTrue result ↔ HasPaddedUncles H.digest (block_count geometry) claim.now }
 {
-    let layers = layers_above(claim.run.as_slice().len() as u32);
+    let layers = run_height(claim.run.as_slice().len() as u32);
     let mut node = claim.index >> layers;
     let mut layer = claim.base as u8 + layers;
     let mut padding = Padding::new(hash);

@@ -10,8 +10,8 @@ add_run-requires-clause-shape g c = short_run c.args.height c.args.claim.now c.r
 
 pub add_path-requires-clause-digest : goal.add_path-requires-clause-digest
 add_path-requires-clause-digest g c =
-    let layers : c.layers_above-layers.result ≡ run_height c.args.claim.now =
-    c.layers_above-layers.ensures.value ∙ ap (λ ds. height_of (length ds)) c.as_slice-count.ensures in
+    let layers : c.run_height-layers.result ≡ run_height c.args.claim.now =
+    c.run_height-layers.ensures.value ∙ ap (λ ds. height_of (length ds)) c.as_slice-count.ensures in
     c.in_ok-digest.ensures.digest
     ∙ ap (λ h. row_node g.H.NodeHash.digest (run_digest c.args.claim.now) h (run_node c.args.claim.now)) layers
     ∙ sym (path_first g.H.NodeHash.digest c.args.claim.now)
