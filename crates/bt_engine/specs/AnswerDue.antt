@@ -50,7 +50,7 @@ IsOutOfMemory answer = answer ≡ of_next (Err OutOfMemory)
 
 -- ---- hash requests
 
--- the digests that are known are sent, and a reject only where not all of them are
+-- the digests asked for are sent, and a reject only where the request is not right or one of them is unknown
 pub data AnswersHashes (dig : List ℕ → List ℕ) (s : EngineState) (answer : Answer) (key : PeerKey)
     (asked : HashKey) : Type 0 where
   known : (digests : List (List ℕ)) → IsAnswered dig s asked digests

@@ -8,7 +8,8 @@ pub fn orderly_peers_are_only()
     ensures { OrderlyPeersAreOnly }
 {}
 
-/// A hash request is answered with the digests that are known, and rejected only where not all of them are.
+/// A hash request is answered with the digests that it asks for, and rejected only where it is not right or
+/// one of them is unknown.
 pub fn next_answers_hash_request<H: NodeHash>(_hash: H)
     ensures { NextAnswersHashRequest H.digest }
 {}
