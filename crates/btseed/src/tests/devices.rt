@@ -7,8 +7,9 @@ use crate::data_file::open_data_file;
 use crate::fault::Fault;
 use crate::folder::files_in;
 use crate::paths::found_path;
+use bt_disk::HandlePool;
 use bt_meta::MakeError;
-use std::alloc::{Allocator, Global};
+use std::alloc::{AllocError, Allocator, Global};
 use std::fs::{self, File, Metadata, OpenFile, OpenOptions};
 use std::io::{self, ErrorKind, Read, Seek, SeekFrom, Write};
 use std::path::PathBuf;
@@ -231,6 +232,11 @@ fn a_part_file_that_is_there_stays(rt: HostRuntime) -> Result<(), Fail> {
     Ok(())
 }
 
+/// The path of a name below a folder.
+fn data_file(rt: &HostRuntime, top: &str, name: &str) -> Result<PathBuf, AllocError> {
+    found_path(rt.alloc(), top, &[String::from_str(rt.alloc(), name)?])
+}
+
 /// What is at the paths is a device, and a file in its place would be whole.
 #[test]
 fn what_is_no_regular_file_is_neither_opened_nor_replaced(rt: HostRuntime) -> Result<(), Fail> {
@@ -242,11 +248,15 @@ fn what_is_no_regular_file_is_neither_opened_nor_replaced(rt: HostRuntime) -> Re
     confirm(written == Err(Fault::Device), "it is replaced")?;
     expect_bytes(&rt, top, "pipe", b"old")?;
     expect_entries(&rt, top, "", 1)?;
-    let data = found_path(rt.alloc(), top, &[String::from_str(rt.alloc(), "pipe")?])?;
-    let opened = open_data_file(&Device::new(&rt, Failing::Nothing), data.as_path());
+    let device = Device::new(&rt, Failing::Nothing);
+    let mut pool = HandlePool::new(rt.alloc(), &device, 1)?;
+    let opened = open_data_file(&device, &mut pool, data_file(&rt, top, "pipe")?);
     confirm(opened.err() == Some(Fault::Device), "it is opened")?;
-    let read = open_data_file(&rt, data.as_path())?.is_some();
-    confirm(read, "a file is not opened")?;
+    let mut pool = HandlePool::new(rt.alloc(), &rt, 1)?;
+    let opened = open_data_file(&rt, &mut pool, data_file(&rt, top, "pipe")?)?;
+    confirm(opened.is_some(), "a file is not opened")?;
+    let opened = open_data_file(&rt, &mut pool, data_file(&rt, top, "absent")?)?;
+    confirm(opened.is_none(), "no file is opened")?;
     fs::remove_dir_all(&rt, top)?;
     Ok(())
 }
