@@ -4,4 +4,4 @@ use Rattle.btseed.specs.declared.data_file.DataFile.{DataFile}
 
 -- the file of a torrent that a data file is for
 abbrev pub file_at : {D : Type 0} → DataFile D → File
-file_at data = file_of data.file.now
+file_at d = file_of d.file.now

@@ -1,6 +1,6 @@
 //! Checking a data file on its device, piece by piece (BEP 52).
-ghost use Rattle.std.specs.Prelude.{◌≡◌, ◌↔◌, ◌×◌, false, IsTrue, IfOk};
-ghost use Rattle.bt_tree.specs.Blocks.{block_count};
+ghost use Rattle.std.specs.Prelude.{◌≡◌, ◌↔◌, false, IsTrue, IfOk};
+ghost use Rattle.bt_tree.specs.Blocks.{IsFileLength};
 ghost use Rattle.bt_meta.specs.Files.{file_of};
 ghost use Rattle.btseed.specs.Check.{IsEntryFinding, IsFileFinding};
 ghost use Rattle.btseed.specs.CheckSteps.{IsCheckable, HoldsJust, IsBlockCheck};
@@ -114,6 +114,7 @@ fn check_blocks<D: Disk + Drop>(
 ) -> Result<BlockCheck<D>, AllocError>
     requires checkable { IsCheckable size.layer (file_of entry.now) }
     requires length { geometry ≡ entry.now.length }
+    requires lawful { IsFileLength geometry }
     ensures { IfOk result (IsBlockCheck D.history D.honest D.faults
         geometry (known_layer size.layer (file_of entry.now)) disk) }
 {
@@ -128,7 +129,7 @@ fn check_blocks<D: Disk + Drop>(
         let adopted = store.adopt(&mut tree, from)?;
         from = adopted.next;
         marked += adopted.marked;
-        faulty = faulty || adopted.faults > 0;
+        faulty |= adopted.faults > 0;
     }
     Ok(BlockCheck {
         disk: store.into_disk(),
@@ -146,6 +147,7 @@ fn known_tree(
 ) -> Result<SparseTree<FileHash>, AllocError>
     requires checkable { IsCheckable size.layer (file_of entry.now) }
     requires length { geometry ≡ entry.now.length }
+    requires lawful { IsFileLength geometry }
     ensures { IfOk result (HoldsJust geometry (known_layer size.layer (file_of entry.now))) }
 {
     if entry.layer.is_empty() {
