@@ -8,6 +8,8 @@ pub mod KnownTree
 pub mod PieceGroup
 pub mod AdoptedGroups
 pub mod BlockChecks
+pub mod DeviceBytes
+pub mod EntryChecks
 pub mod CheckFault
 -- `show`
 pub mod TorrentFileText

@@ -4,6 +4,8 @@ use Rattle.std.specs.List.{count_by, list_all}
 use Rattle.std.proofs.Math.Nat.{mul-le-mul_right}
 use Rattle.std.proofs.lemmas.List.{drop-append-le, length-drop, take-append-le}
 use Rattle.std.proofs.lemmas.List.Sums.{sum_by-append, count_by-le-length}
+use Rattle.std.proofs.lemmas.Bool.{cases_lt}
+use Rattle.bt_tree.specs.Blocks.{block_count}
 use Rattle.bt_store.specs.BlockReads.{BlockRead, given, failed, fault_count, is_fault}
 use Rattle.bt_store.specs.Adoption.{is_whole}
 use Rattle.btseed.specs.EntryCheck.{reads_of_piece, is_piece_read}
@@ -26,13 +28,42 @@ right_same f g n layer (suc index) same =
     ap (λ m. m + (if f index then piece_blocks n layer index else 0)) (right_same f g n layer index (λ j lt. same j (omega (arith, lt))))
     ∙ ap (λ b. right_blocks g n layer index + (if b then piece_blocks n layer index else 0)) (same index (omega arith))
 
--- no piece is right
-pub right_never : (f : ℕ → Bool) (n layer count : ℕ) → ((j : ℕ) → j < count → f j ≡ false) → right_blocks f n layer count ≡ 0
+-- the same pieces are right of those that have blocks
+none_either : (b : Bool) (m : ℕ) → m ≡ 0 → (if b then m else 0) ≡ 0
+none_either true m e = e
+none_either false m e = refl
+
+pub right_same_real : (f g : ℕ → Bool) (n layer count : ℕ) → ((j : ℕ) → j < count → j * 2 ^ layer < block_count n → f j ≡ g j)
+    → right_blocks f n layer count ≡ right_blocks g n layer count
 unfolding right_blocks
-right_never f n layer zero none = refl
-right_never f n layer (suc index) none =
-    ap (λ m. m + (if f index then piece_blocks n layer index else 0)) (right_never f n layer index (λ j lt. none j (omega (arith, lt))))
-    ∙ ap (λ b. 0 + (if b then piece_blocks n layer index else 0)) (none index (omega arith)) ∙ omega arith
+right_same_real f g n layer zero same = refl
+right_same_real f g n layer (suc index) same =
+    let before = right_same_real f g n layer index (λ j lt. same j (omega (arith, lt))) in
+    elim (cases_lt (index * 2 ^ layer) (block_count n)) [
+      | inl real ↦
+          ap (λ m. m + (if f index then piece_blocks n layer index else 0)) before
+          ∙ ap (λ b. right_blocks g n layer index + (if b then piece_blocks n layer index else 0)) (same index (omega arith) real)
+      | inr past ↦
+          let empty : piece_blocks n layer index ≡ 0 = omega (arith, past) in
+          omega (arith, before, none_either (f index) (piece_blocks n layer index) empty, none_either (g index) (piece_blocks n layer index) empty)
+    ]
+
+-- a file with no block has no right one
+pub right_empty : (f : ℕ → Bool) (n layer count : ℕ) → block_count n ≡ 0 → right_blocks f n layer count ≡ 0
+unfolding right_blocks
+right_empty f n layer zero none = refl
+right_empty f n layer (suc index) none =
+    let empty : piece_blocks n layer index ≡ 0 = omega (arith, none) in
+    omega (arith, right_empty f n layer index none, none_either (f index) (piece_blocks n layer index) empty)
+
+-- no piece is right of those that have blocks
+pub right_never : (f : ℕ → Bool) (n layer count : ℕ) → ((j : ℕ) → j * 2 ^ layer < block_count n → f j ≡ false) → right_blocks f n layer count ≡ 0
+right_never f n layer count none =
+    right_same_real f (λ _. false) n layer count (λ j lt real. none j real) ∙ never count
+  where
+    never : (m : ℕ) → right_blocks (λ _. false) n layer m ≡ 0
+    never zero = right_none (λ _. false) n layer
+    never (suc m) = let up : suc m ≡ m + 1 = omega arith in ap (right_blocks (λ _. false) n layer) up ∙ right_more (λ _. false) n layer m ∙ omega (arith, never m)
 
 -- ---- the reads of a piece
 

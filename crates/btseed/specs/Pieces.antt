@@ -21,7 +21,7 @@ piece_size file_length layer index =
 abbrev pub has_piece : List ℕ → ℕ → ℕ → ℕ → List ℕ → Bool
 has_piece bytes file_length layer index digest =
     nat_le (piece_start layer index + piece_size file_length layer index) (length bytes)
-    && pointwise nat_eq (node_digest sha256 (take file_length bytes) layer index) digest
+    && pointwise nat_eq digest (node_digest sha256 (take file_length bytes) layer index)
 
 -- the reader gave a piece of this size, and the digest is its node's: in each file that has these bytes there
 pub record GivesPiece (old new : Option (List ℕ)) (file_length layer index size : ℕ) (digest : List ℕ)

@@ -1,10 +1,11 @@
 //! Checking a data file on its device, piece by piece (BEP 52).
-ghost use Rattle.std.specs.Prelude.{◌≡◌, ◌↔◌, false, IsTrue, IfOk};
+ghost use Rattle.std.specs.Prelude.{◌≡◌, ◌<◌, ◌↔◌, [], ◌∷◌, false, IsTrue, IsSomeAnd, IfOk};
 ghost use Rattle.bt_tree.specs.Blocks.{IsFileLength};
+ghost use Rattle.bt_disk.specs.Calls.{HasCalls};
 ghost use Rattle.bt_meta.specs.Files.{file_of};
 ghost use Rattle.btseed.specs.Check.{IsEntryFinding, IsFileFinding};
 ghost use Rattle.btseed.specs.CheckSteps.{IsCheckable, HoldsJust, IsBlockCheck};
-ghost use Rattle.btseed.specs.EntryCheck.{Answers, IsEntryCheck};
+ghost use Rattle.btseed.specs.EntryCheck.{Answers, IsEntryCheck, len_call_of};
 ghost use Rattle.btseed.specs.Finding.{known_layer};
 
 use crate::data_file::Finding;
@@ -71,9 +72,9 @@ pub fn check_entry<D: Disk + Drop>(
         → IsEntryFinding (D.history disk).now.bytes size.layer (file_of entry.now) check.finding) }
 {
     let mut disk = disk;
-    let length = disk.len();
-    let longer = matches!(length, Ok(length) if length > entry.length);
-    let unknown = length.is_err();
+    let length = length_of(&mut disk);
+    let longer = is_longer(length, entry.length);
+    let unknown = length.is_none();
     let Some(geometry) = Geometry::new(entry.length) else {
         let finding = Finding {
             blocks: 0,
@@ -88,12 +89,32 @@ pub fn check_entry<D: Disk + Drop>(
         blocks: geometry.blocks(),
         marked: check.marked,
         longer,
-        faulty: unknown || check.faulty,
+        faulty: unknown | check.faulty,
     };
     Ok(EntryCheck {
         disk: check.disk,
         finding,
     })
+}
+
+/// How many bytes a device has; none where the call failed.
+fn length_of<D: Disk>(disk: &mut D) -> Option<u64>
+    ensures { HasCalls D.history D.honest D.faults disk.old (len_call_of result ∷ []) disk.new }
+{
+    match disk.len() {
+        Ok(length) => Some(length),
+        Err(_) => None,
+    }
+}
+
+/// Whether a device has more bytes than a file; not where its length is not known.
+fn is_longer(length: Option<u64>, file_length: u64) -> bool
+    ensures { IsTrue result ↔ IsSomeAnd length (λ length. file_length < length) }
+{
+    match length {
+        Some(length) => length > file_length,
+        None => false,
+    }
 }
 
 /// How many blocks of a file are right, whether a read failed, and the file's device.
