@@ -1,6 +1,7 @@
 //! Checking a data file on its device, piece by piece (BEP 52).
-ghost use Rattle.std.specs.Prelude.{◌≡◌, ◌<◌, ◌↔◌, [], ◌∷◌, false, IsTrue, IsSomeAnd, IfOk};
-ghost use Rattle.bt_tree.specs.Blocks.{IsFileLength};
+ghost use Rattle.std.specs.Prelude.{◌≡◌, ◌<◌, ◌≤◌, ◌↔◌, [], ◌∷◌, false, IsTrue, IsSomeAnd, IfOk};
+ghost use Rattle.bt_tree.specs.Blocks.{IsFileLength, block_count};
+ghost use Rattle.bt_tree.specs.Limits.{max_file_length};
 ghost use Rattle.bt_disk.specs.Calls.{HasCalls};
 ghost use Rattle.bt_meta.specs.Files.{file_of};
 ghost use Rattle.btseed.specs.Check.{IsEntryFinding, IsFileFinding};
@@ -42,9 +43,16 @@ pub fn check_data_file<D: Disk + Drop>(
 }
 
 /// What is found of a file of this length where there is no data file.
-fn absent_finding(length: u64) -> Finding {
+fn absent_finding(length: u64) -> Finding
+    requires { length ≤ max_file_length }
+    ensures { result ≡ record { blocks = block_count length; marked = 0; longer = false; faulty = false } }
+{
+    let blocks = match Geometry::new(length) {
+        Some(geometry) => geometry.blocks(),
+        None => 0,
+    };
     Finding {
-        blocks: Geometry::new(length).map_or(0, |geometry| geometry.blocks()),
+        blocks,
         marked: 0,
         longer: false,
         faulty: false,
