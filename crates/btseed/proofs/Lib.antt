@@ -11,6 +11,7 @@ pub mod BlockChecks
 pub mod DeviceBytes
 pub mod EntryChecks
 pub mod CheckFault
+pub mod ReportLines
 -- `show`
 pub mod TorrentFileText
 pub mod ShowText

@@ -51,7 +51,7 @@ fn check_files<D: Disk + Drop, W: Write>(
 ) -> Result<Summary, Fault>
     requires { All (IsCheckable size.layer) (map file_at files.items) }
     ensures report { IfOk result (λ summary. (found : List FileFinding)
-        × IsReportOf size.layer (map file_at files.items) found summary
+        × IsReportOf size.layer (map file_at files.entry.items) found summary
         × Appends (W.contents writer.old) (W.contents writer.new) (lines_text found)) }
     ensures fault { IfErr result (λ fault. (fault ≡ device) ⊎ (fault ≡ out_of_memory)) }
 {
