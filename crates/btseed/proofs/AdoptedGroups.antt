@@ -135,6 +135,7 @@ one_block n digests k done rest read same block leaf =
     drop_front : (xs : List BlockRead) → drop (length xs) (xs ++ read ∷ rest) ≡ read ∷ rest
     drop_front [] = refl
     drop_front (x ∷ xs) = drop_front xs
+
     take_one : (xs : List BlockRead) → reads_of_piece (xs ++ read ∷ rest) 0 (length xs) ≡ read ∷ []
     take_one xs = let one : length xs * 1 ≡ length xs = omega arith in ap (λ m. take 1 (drop m (xs ++ read ∷ rest))) one ∙ ap (take 1) (drop_front xs)
 
@@ -172,6 +173,7 @@ known_run n digests k done (read ∷ rest) same each within leaves =
   where
     first_of : {m : ℕ} {ms ns : List ℕ} → block_of read ∷ ns ≡ m ∷ ms → block_of read ≡ m
     first_of e = ap (λ l. get_or l 0 0) e
+
     rest_of : {m : ℕ} {ms ns : List ℕ} → block_of read ∷ ns ≡ m ∷ ms → ns ≡ ms
     rest_of e = ap (drop 1) e
 

@@ -50,8 +50,7 @@ module _ {D : Type 0} (history : D → History) (honest : D → Type 0) (faults 
       (record { blocks = blocks; marked = check.marked; longer = longer; faulty = unknown || check.faulty })
   blocks_found blocks marked check is blocks_are =
       let known : KnownLayer = known_layer layer file in
-      let whole : IsBlockCheck history honest faults file.length known mid check = subst (λ m. IsBlockCheck history honest faults m known mid check) same is in
-      (
+      let whole : IsBlockCheck history honest faults file.length known mid check = subst (λ m. IsBlockCheck history honest faults m known mid check) same is in (
         record { len = len; reads = whole.reads },
         record {
           calls = has_then history honest faults old mid check.disk (len_call_of len ∷ []) (map (call_of file.length) whole.reads) asked whole.calls;
@@ -69,8 +68,7 @@ module _ {D : Type 0} (history : D → History) (honest : D → Type 0) (faults 
   nothing_found empty =
       let known : KnownLayer = known_layer layer file in
       let none : block_count file.length ≡ 0 = omega (arith, empty, same) in
-      let is = is_unknown len unknown unknown_is in
-      (
+      let is = is_unknown len unknown unknown_is in (
         record { len = len; reads = [] },
         record {
           calls = asked;

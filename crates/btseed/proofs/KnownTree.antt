@@ -44,9 +44,9 @@ root_held n layer file k none same lawful is =
       length_is = ap (λ (f : Facts). f.file_length) is;
       inside = omega arith;
       width = omega (
-          arith,
-          real_some blocks (2 ^ height_of blocks) (pow_pos (height_of blocks)) (omega (arith, lawful.some)),
-          real_le blocks (2 ^ height_of blocks) 1 (pow_pos (height_of blocks)) (omega (arith, enough)),
+        arith,
+        real_some blocks (2 ^ height_of blocks) (pow_pos (height_of blocks)) (omega (arith, lawful.some)),
+        real_le blocks (2 ^ height_of blocks) 1 (pow_pos (height_of blocks)) (omega (arith, enough)),
       );
       holds = λ i lt.
           let first : i ≡ 0 = omega (arith, lt) in

@@ -293,6 +293,7 @@ module _ (n : ℕ) (known : KnownLayer) (k : Facts) (pieces from : ℕ) (ready :
       nothing : {X : Type 0} (o : Option X) → ((x : X) → o ≡ Some x → ⊥) → o ≡ None
       nothing None h = refl
       nothing (Some x) h = absurd (h x refl)
+
       not_held : (layer i : ℕ) (d : List ℕ) → layer < known.layer → next ≤ i * 2 ^ layer → held_at grown layer i ≡ Some d → ⊥
       not_held layer i d low here held = elim (accepts.joins.only layer i d held) [
         | inl old ↦ none_some d (sym (ready.below layer i low (omega (arith, next_is, here, real))) ∙ old)

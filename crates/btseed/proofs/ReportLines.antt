@@ -1,5 +1,5 @@
 -- Lemmas on what a check reports, file by file.
-use Rattle.std.proofs.Common.{◌≡◌, ℕ, zero, suc, ◌+◌, ◌<◌, ◌≤◌, ◌&&◌, ◌||◌, Bool, true, false, List, [], ◌∷◌, ◌++◌, Option, map, length, get_or, refl, sym, ap, ◌∙◌, subst, append-nil, append_assoc, arith}
+use Rattle.std.proofs.Common.{◌≡◌, ℕ, zero, suc, ◌+◌, ◌*◌, ◌^◌, ◌<◌, ◌≤◌, ◌&&◌, ◌||◌, Bool, true, false, List, [], ◌∷◌, ◌++◌, Option, map, length, get_or, refl, sym, ap, ◌∙◌, subst, append-nil, append_assoc, arith}
 use Rattle.std.specs.List.{flat_map, list_all, list_any, All}
 use Rattle.std.specs.Io.KnownBytes.{Appends}
 use Rattle.std.proofs.KnownBytes.{Appends-nil, Appends-trans}
@@ -13,7 +13,9 @@ use Rattle.btseed.specs.Check.{IsFileFinding}
 use Rattle.btseed.specs.CheckSteps.{IsCheckable}
 use Rattle.btseed.specs.DataFile.{file_at}
 use Rattle.btseed.specs.Finding.{is_complete_finding}
-use Rattle.btseed.specs.Report.{IsReportOf, file_in, file_line, lines_text, is_complete_report, is_faulty_report}
+use Rattle.bt_meta.specs.Torrent.{Metainfo}
+use Rattle.bt_tree.specs.Limits.{full_block_length}
+use Rattle.btseed.specs.Report.{IsReportOf, IsReportOn, file_in, file_line, last_line, lines_text, report_text, is_complete_report, is_faulty_report}
 use Rattle.btseed.specs.declared.data_file.DataFile.{DataFile}
 use Rattle.btseed.specs.declared.report.FileFinding.{FileFinding}
 use Rattle.btseed.specs.declared.report.Summary.{Summary}
@@ -70,13 +72,16 @@ reporting_more layer all before left file summary next one old mid new r taken s
     and_true : (b : Bool) → (b && true) ≡ b
     and_true true = refl
     and_true false = refl
+
     or_false : (b : Bool) → (b || false) ≡ b
     or_false true = refl
     or_false false = refl
+
     all_push : (xs : List FileFinding) → is_complete_report (xs ++ one ∷ []) ≡ (is_complete_report xs && is_complete_finding one.finding)
     all_push xs =
         list_all-append (λ f. is_complete_finding f.finding) xs (one ∷ [])
         ∙ ap (λ b. is_complete_report xs && b) (and_true (is_complete_finding one.finding))
+
     any_push : (xs : List FileFinding) → is_faulty_report (xs ++ one ∷ []) ≡ (is_faulty_report xs || one.finding.faulty)
     any_push xs = list_any-append (λ f. f.finding.faulty) xs (one ∷ []) ∙ ap (λ b. is_faulty_report xs || b) (or_false one.finding.faulty)
 
@@ -86,4 +91,15 @@ all_reported layer all summary old new r = (
   r.found,
   record { each = sym (r.parted ∙ append-nil (map file_in r.found)); are = r.are; complete = r.complete; faulty = r.faulty },
   r.lines,
+)
+
+-- and the last line is written
+pub report_on : (torrent : Metainfo) (layer bytes : ℕ) (files : List File) (summary : Summary) (words : List ℕ) (old mid new : Option (List ℕ))
+    → torrent.piece_length ≡ bytes → bytes ≡ full_block_length * 2 ^ layer → files ≡ torrent.files
+    → (found : List FileFinding) × IsReportOf layer files found summary × Appends old mid (lines_text found) → words ≡ last_line summary.complete
+    → Appends mid new words → (found : List FileFinding) × IsReportOn torrent found summary × Appends old new (report_text found)
+report_on torrent layer bytes files summary words old mid new length_is size same r last put = (
+  r.0,
+  record { layer = layer; pieces = length_is ∙ size; report = subst (λ fs. IsReportOf layer fs r.0 summary) same r.1 },
+  subst (Appends old new) (ap (λ w. lines_text r.0 ++ w) (last ∙ ap last_line r.1.complete)) (Appends-trans old mid new _ _ r.2 put),
 )

@@ -147,6 +147,7 @@ whole_or_fault n (read ∷ reads) =
     one_of : (b : Bool) → cond b 1 0 ≤ 1
     one_of true = omega arith
     one_of false = omega arith
+
     one : (r : BlockRead) → cond (is_whole n r) 1 0 + cond (is_fault r) 1 0 ≤ 1
     one (given i bytes) = let h = one_of (is_whole n (given i bytes)) in omega (arith, h)
     one (failed i) = omega arith

@@ -25,7 +25,7 @@ use std::rt::Files;
 ///
 /// All files are opened first, and one that can't be opened ends it before anything is written. A read that fails
 /// later does not: the summary tells it. After a fault the writer has a part of the text, or all.
-pub fn check<R: Files + AllocGlobal, W: Write>(
+pub fn check<R: Files + AllocGlobal + Clone + Drop, W: Write>(
     rt: &R,
     torrent: &Torrent,
     dir: &str,

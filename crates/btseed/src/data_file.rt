@@ -45,15 +45,15 @@ pub struct DataFile<'a, D> {
 }
 
 /// Opens the data files of some entries, in turn, to read them. They share a few handles.
-pub fn open_data_files<'a, R: Files + AllocGlobal>(
-    rt: &'a R,
+pub fn open_data_files<'a, R: Files + AllocGlobal + Clone + Drop>(
+    rt: &R,
     dir: &str,
     entries: &'a [FileEntry],
-) -> Result<Vec<DataFile<'a, PooledDisk<&'a R>>>, Fault>
+) -> Result<Vec<DataFile<'a, PooledDisk<R>>>, Fault>
     ensures each { IfOk result (λ files. map file_at files.items ≡ map file_of entries.now) }
     ensures fault { IfErr result (λ fault. (fault ≡ device) ⊎ (fault ≡ out_of_memory)) }
 {
-    let mut pool = HandlePool::new(rt.alloc(), rt, OPEN_FILES)?;
+    let mut pool = HandlePool::new(rt.alloc(), rt.clone()?, OPEN_FILES)?;
     let mut files = Vec::new(rt.alloc());
     for file in entries {
         let path = data_path(rt.alloc(), dir, &file.path)?;
@@ -66,11 +66,11 @@ pub fn open_data_files<'a, R: Files + AllocGlobal>(
 /// Opens a data file to read it; none where no file can be at the path, which is not kept then: a torrent may have
 /// many long ones. What is there and is no regular file is a device fault: it is not opened, since a pipe would
 /// wait for a writer.
-pub fn open_data_file<'a, R: Files>(
-    rt: &'a R,
-    pool: &mut HandlePool<&'a R>,
+pub fn open_data_file<R: Files + Drop>(
+    rt: &R,
+    pool: &mut HandlePool<R>,
     path: PathBuf,
-) -> Result<Option<PooledDisk<&'a R>>, Fault>
+) -> Result<Option<PooledDisk<R>>, Fault>
     ensures { IfErr result (λ fault. fault ≡ device) }
 {
     if is_absent(rt, path.as_path()) {

@@ -182,7 +182,14 @@ fn known_tree(
     if entry.layer.is_empty() {
         return SparseTree::new(alloc, FileHash, geometry, entry.root);
     }
-    match SparseTree::with_layer(alloc, FileHash, geometry, entry.root, size.layer, &entry.layer) {
+    match SparseTree::with_layer(
+        alloc,
+        FileHash,
+        geometry,
+        entry.root,
+        size.layer,
+        &entry.layer,
+    ) {
         Ok(tree) => Ok(tree),
         Err(LayerError::OutOfMemory) => Err(AllocError),
         // the layers of a torrent that was read are those of its files

@@ -148,7 +148,7 @@ fn perform_show<R: Files + AllocGlobal, O: Write>(
     Ok(0)
 }
 
-fn perform_check<R: Files + AllocGlobal, O: Write>(
+fn perform_check<R: Files + AllocGlobal + Clone + Drop, O: Write>(
     rt: &R,
     source: Source<'_>,
     dir: &str,

@@ -42,7 +42,11 @@ impl Summary {
 }
 
 /// Writes the line of one file.
-pub fn write_line<W: Write>(alloc: Global, file: &FileFinding<'_>, writer: &mut W) -> Result<(), Fault>
+pub fn write_line<W: Write>(
+    alloc: Global,
+    file: &FileFinding<'_>,
+    writer: &mut W,
+) -> Result<(), Fault>
     ensures text { OnOk result
         (Appends (W.contents writer.old) (W.contents writer.new) (file_line file.now)) }
     ensures fault { IfErr result (λ fault. (fault ≡ device) ⊎ (fault ≡ out_of_memory)) }

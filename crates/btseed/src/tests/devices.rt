@@ -249,10 +249,10 @@ fn what_is_no_regular_file_is_neither_opened_nor_replaced(rt: HostRuntime) -> Re
     expect_bytes(&rt, top, "pipe", b"old")?;
     expect_entries(&rt, top, "", 1)?;
     let device = Device::new(&rt, Failing::Nothing);
-    let mut pool = HandlePool::new(rt.alloc(), &device, 1)?;
+    let mut pool = HandlePool::new(rt.alloc(), device, 1)?;
     let opened = open_data_file(&device, &mut pool, data_file(&rt, top, "pipe")?);
     confirm(opened.err() == Some(Fault::Device), "it is opened")?;
-    let mut pool = HandlePool::new(rt.alloc(), &rt, 1)?;
+    let mut pool = HandlePool::new(rt.alloc(), rt.clone()?, 1)?;
     let opened = open_data_file(&rt, &mut pool, data_file(&rt, top, "pipe")?)?;
     confirm(opened.is_some(), "a file is not opened")?;
     let opened = open_data_file(&rt, &mut pool, data_file(&rt, top, "absent")?)?;
