@@ -156,9 +156,9 @@ fn check_blocks<D: Disk + Drop>(
     let mut faulty = false;
     while from < geometry.blocks() {
         let adopted = store.adopt(&mut tree, from)?;
-        from = adopted.next;
         marked += adopted.marked;
         faulty |= adopted.faults > 0;
+        from = adopted.next;
     }
     Ok(BlockCheck {
         disk: store.into_disk(),

@@ -1,7 +1,7 @@
 //! Devices that fail: a runtime that stands in for the file system.
 
 use super::steps::{expect_bytes, expect_entries};
-use super::tools::{confirm, folder, path_in, put};
+use super::tools::{confirm, expect, folder, front, path_in, put, put_folder, three_blocks};
 use crate::atomic_file::replace_file;
 use crate::data_file::open_data_file;
 use crate::fault::Fault;
@@ -20,6 +20,8 @@ use std::test::Fail;
 #[derive(Clone, Copy, PartialEq, Eq)]
 enum Failing {
     Nothing,
+    Opens,
+    Reads,
     Writes,
     Flushes,
     Syncs,
@@ -38,7 +40,8 @@ impl Failing {
 }
 
 /// The host's file system, of which some calls fail, in which every folder lists these names, and in which a path that
-/// ends in `pipe` is a device, which neither a read nor a write is to reach.
+/// ends in `pipe` is a device, which neither a read nor a write is to reach. Of opens that of a path that ends in `last`
+/// fails, and of reads the third of each file.
 #[derive(Clone, Copy)]
 struct Device<'a> {
     host: &'a HostRuntime,
@@ -79,9 +82,13 @@ impl<'a> Files for Device<'a> {
     type Dir = &'a [u8];
 
     fn open_file(&self, how: &OpenOptions, path: &str) -> io::Result<DeviceFile> {
+        if path.ends_with("last") {
+            self.failing.at(Failing::Opens)?;
+        }
         Ok(DeviceFile {
             file: self.host.open_file(how, path)?,
             failing: self.failing,
+            reads: 0,
         })
     }
 
@@ -131,10 +138,15 @@ impl<'a> Files for Device<'a> {
 struct DeviceFile {
     file: File,
     failing: Failing,
+    reads: u32,
 }
 
 impl Read for DeviceFile {
     fn read(&mut self, buf: &mut [u8]) -> io::Result<usize> {
+        self.reads = self.reads.saturating_add(1);
+        if self.reads == 3 {
+            self.failing.at(Failing::Reads)?;
+        }
         self.file.read(buf)
     }
 }
@@ -258,6 +270,53 @@ fn what_is_no_regular_file_is_neither_opened_nor_replaced(rt: HostRuntime) -> Re
     let opened = open_data_file(&rt, &mut pool, data_file(&rt, top, "absent")?)?;
     confirm(opened.is_none(), "no file is opened")?;
     fs::remove_dir_all(&rt, top)?;
+    Ok(())
+}
+
+/// A folder with the files `a`, `b` and `last`, of one, three and one block, and a torrent of them.
+fn checked_folder(rt: &HostRuntime, name: &str) -> Result<String, Fail> {
+    let top = folder(rt, name)?;
+    let file = three_blocks(rt.alloc())?;
+    put_folder(rt, top.as_str(), "files")?;
+    put(rt, top.as_str(), "files/a", b"abc")?;
+    put(rt, top.as_str(), "files/b", front(&file, 49152))?;
+    put(rt, top.as_str(), "files/last", b"abc")?;
+    let made = "infohash 7ec7172cdd49fe657144b07afdc9c247fbafa78b1748b44e1e2ae6d47e9d633a\n";
+    expect(rt, top.as_str(), "make @/files @/t --name n --piece-length 16384", 0, made, "")?;
+    Ok(top)
+}
+
+/// Checks the folder over a file system of which some calls fail, and expects this status, output and fault.
+fn expect_check(
+    rt: &HostRuntime,
+    top: &str,
+    failing: Failing,
+    status: u8,
+    output: &str,
+    faults: &str,
+) -> Result<(), Fail> {
+    let device = Device::new(rt, failing);
+    expect(&device, top, "check @/t @/files", status, output, faults)
+}
+
+#[test]
+fn a_read_that_fails_is_told_after_the_report(rt: HostRuntime) -> Result<(), Fail> {
+    let top = checked_folder(&rt, "reads")?;
+    let whole = "complete a\ncomplete b\ncomplete last\ncomplete\n";
+    let part = "complete a\n2 of 3 b\ncomplete last\nnot complete\n";
+    let fault = "btseed: device fault\n";
+    expect_check(&rt, top.as_str(), Failing::Nothing, 0, whole, "")?;
+    expect_check(&rt, top.as_str(), Failing::Reads, 3, part, fault)?;
+    fs::remove_dir_all(&rt, top.as_str())?;
+    Ok(())
+}
+
+#[test]
+fn a_file_that_cannot_be_opened_ends_a_check_unwritten(rt: HostRuntime) -> Result<(), Fail> {
+    let top = checked_folder(&rt, "opens")?;
+    let fault = "btseed: device fault\n";
+    expect_check(&rt, top.as_str(), Failing::Opens, 3, "", fault)?;
+    fs::remove_dir_all(&rt, top.as_str())?;
     Ok(())
 }
 
