@@ -1,11 +1,11 @@
 -- What each group that is adopted adds to a check of a file's blocks.
-use Rattle.std.proofs.Common.{◌≡◌, ◌≢◌, ℕ, zero, suc, ◌+◌, ◌-◌, ◌*◌, ◌^◌, ◌<◌, ◌≤◌, ◌&&◌, ◌==◌, Bool, true, false, true≢false, is_some, Option, None, Some, IsSome, List, [], ◌∷◌, ◌++◌, map, length, take, drop, replicate, get_or, inl, inr, arith, refl, sym, ap, ◌∙◌, subst, min, length-append, append_assoc, if◌then◌else◌}
+use Rattle.std.proofs.Common.{◌≡◌, ◌≢◌, ℕ, suc, ◌+◌, ◌-◌, ◌*◌, ◌^◌, ◌<◌, ◌≤◌, ◌&&◌, ◌==◌, Bool, true, false, true≢false, is_some, None, Some, IsSome, List, [], ◌∷◌, ◌++◌, map, length, take, drop, replicate, get_or, inl, inr, arith, refl, sym, ap, ◌∙◌, subst, min, length-append, append_assoc, if◌then◌else◌}
 use Rattle.std.specs.Prelude.{slice_index_or, nat_eq}
 use Rattle.std.specs.Cmp.Lexicographic.{pointwise}
 use Rattle.std.specs.List.{count_by, list_all, range_with_len}
 use Rattle.std.proofs.lemmas.Bool.{cases_lt, false_from_ne_true}
 use Rattle.std.proofs.lemmas.Nat.{pow_pos}
-use Rattle.std.proofs.lemmas.List.{length-map, length-replicate, map-append, get_or_append_left, get_or-append_right, get_or-replicate}
+use Rattle.std.proofs.lemmas.List.{length-map, length-replicate, get_or-append_right, get_or-replicate}
 use Rattle.std.proofs.lemmas.List.FromFn.{length-range_with_len}
 use Rattle.std.proofs.lemmas.List.Sums.{count_by-le-length}
 use Rattle.std.proofs.lemmas.Slice.Eq.{bytes_eq-Decides}
@@ -14,7 +14,7 @@ use Rattle.bt_tree.specs.Blocks.{block_count, block_length}
 use Rattle.bt_tree.specs.Layers.{fold_of}
 use Rattle.bt_tree.specs.Tree.{padding_digest}
 use Rattle.bt_tree.specs.TreeShape.{real_width}
-use Rattle.bt_sparse.specs.SparseTree.{Facts, blocks_of, held_at, value_at}
+use Rattle.bt_sparse.specs.SparseTree.{Facts, blocks_of, value_at}
 use Rattle.bt_sparse.specs.Acceptance.{Accepts, IsRefused}
 use Rattle.bt_sparse.specs.declared.claim.ProofError.{ProofError}
 use Rattle.bt_sparse.specs.declared.claim.ProofError.TheVariants.{OutOfMemory}

@@ -8,7 +8,6 @@ use Rattle.std.proofs.lemmas.List.{length-map, map-append}
 use Rattle.std.proofs.lemmas.List.FromFn.{length-range_with_len}
 use Rattle.std.proofs.lemmas.List.Sums.{sum_by-append}
 use Rattle.bt_tree.specs.Blocks.{block_count}
-use Rattle.bt_tree.specs.Limits.{max_block_count}
 use Rattle.bt_tree.specs.TreeShape.{real_width}
 use Rattle.bt_tree.proofs.TreeShape.{real_le}
 use Rattle.bt_disk.specs.History.{History}
@@ -24,7 +23,7 @@ use Rattle.btseed.specs.EntryCheck.{is_piece_read}
 use Rattle.btseed.specs.Finding.{KnownLayer, right_blocks}
 use Rattle.btseed.specs.declared.entry_check.BlockCheck.{BlockCheck}
 use Rattle.btseed.proofs.RightBlocks.{right_none}
-use Rattle.btseed.proofs.PieceGroup.{IsReady, piece_is_real}
+use Rattle.btseed.proofs.PieceGroup.{IsReady}
 use Rattle.btseed.proofs.AdoptedGroups.{IsGroupDone, group_done}
 use Rattle.sha2.specs.Sha256.{sha256}
 

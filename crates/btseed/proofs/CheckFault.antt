@@ -1,7 +1,6 @@
 -- Each file of a torrent can be checked.
-use Rattle.std.proofs.Common.{◌≡◌, ℕ, ◌*◌, ◌/◌, ◌^◌, ◌<◌, ◌≤◌, List, [], true, length, inl, inr, arith, refl, ap, ◌∙◌}
-use Rattle.std.specs.Prelude.{suc, zero, ◌≢◌}
-use Rattle.std.specs.Simd.{first_chunks}
+use Rattle.std.proofs.Common.{◌≡◌, ℕ, ◌*◌, ◌^◌, ◌<◌, ◌≤◌, List, [], true, length, inl, inr, arith, ap, ◌∙◌}
+use Rattle.std.specs.Prelude.{◌≢◌}
 use Rattle.std.specs.List.{All}
 use Rattle.std.proofs.Common.{map, get_or}
 use Rattle.std.proofs.lemmas.List.{length-map, get_or-map}

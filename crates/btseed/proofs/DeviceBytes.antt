@@ -1,14 +1,13 @@
 -- A check by the answers of an honest device is one of its bytes.
-use Rattle.std.proofs.Common.{◌≡◌, ◌≢◌, ℕ, zero, suc, ◌+◌, ◌-◌, ◌*◌, ◌^◌, ◌<◌, ◌≤◌, ◌↔◌, ◌⊎◌, ◌&&◌, ◌==◌, Bool, true, false, true≢false, IsTrue, cond, Option, None, Some, IsSomeAnd, List, [], ◌∷◌, ◌++◌, map, length, take, drop, replicate, get_or, inl, inr, arith, refl, sym, ap, ◌∙◌, subst, min}
-use Rattle.std.specs.Prelude.{slice_index_or, nat_eq, nat_le}
+use Rattle.std.proofs.Common.{◌≡◌, ℕ, zero, suc, ◌+◌, ◌-◌, ◌*◌, ◌^◌, ◌<◌, ◌≤◌, ◌&&◌, Bool, true, false, true≢false, cond, Option, None, Some, IsSomeAnd, List, [], ◌∷◌, map, length, take, drop, replicate, get_or, inl, inr, arith, refl, sym, ap, ◌∙◌, subst, min}
+use Rattle.std.specs.Prelude.{slice_index_or, nat_eq}
 use Rattle.std.specs.Cmp.Lexicographic.{pointwise}
 use Rattle.std.specs.List.{list_all, range_with_len}
-use Rattle.std.proofs.lemmas.Bool.{cases_lt, eq-eqb, le-leb, false_from_ne_true}
+use Rattle.std.proofs.lemmas.Bool.{cases_lt, eq-eqb}
 use Rattle.std.proofs.lemmas.Bool.Decides.{eqb_tells, leb_tells}
 use Rattle.std.proofs.lemmas.Nat.{pow_pos}
-use Rattle.std.proofs.lemmas.List.{length-map, length-take, length-drop, length-replicate, drop-take, take-take, get_or-map, get_or_append_left, get_or-append_right, get_or-replicate}
-use Rattle.std.proofs.lemmas.List.FromFn.{length-range_with_len, get_or-map-range_with_len, length-map-range_with_len}
-use Rattle.std.proofs.Math.Nat.{mul-le-mul_right}
+use Rattle.std.proofs.lemmas.List.{length-map, length-take, length-drop, drop-take, get_or-map, get_or_append_left, get_or-append_right, get_or-replicate}
+use Rattle.std.proofs.lemmas.List.FromFn.{get_or-map-range_with_len, length-map-range_with_len}
 use Rattle.sha2.specs.Sha256.{sha256}
 use Rattle.bt_tree.specs.Blocks.{block_count, block_at, block_length}
 use Rattle.bt_tree.specs.Layers.{fold_of}
@@ -19,8 +18,8 @@ use Rattle.bt_disk.specs.Calls.{AreAnswered, HasCalls, IsAnswered}
 use Rattle.bt_store.specs.BlockReads.{BlockRead, given, failed, block_of, call_of, fault_count, is_fault}
 use Rattle.bt_store.specs.Adoption.{is_whole, claimed_digest}
 use Rattle.btseed.specs.EntryCheck.{Answers, calls_of, len_call_of, leaves_read, reads_of_piece, is_piece_read, IsFindingBy}
-use Rattle.btseed.specs.Finding.{KnownLayer, right_blocks, piece_blocks, has_known_piece, IsFindingOf}
-use Rattle.btseed.specs.Pieces.{piece_start, piece_size, has_piece}
+use Rattle.btseed.specs.Finding.{KnownLayer, piece_blocks, has_known_piece, IsFindingOf}
+use Rattle.btseed.specs.Pieces.{piece_start, piece_size}
 use Rattle.btseed.specs.declared.data_file.Finding.{Finding}
 use Rattle.btseed.proofs.RightBlocks.{right_same_real, count_cons}
 

@@ -1,5 +1,5 @@
 -- What a check finds of a file of a torrent.
-use Rattle.std.proofs.Common.{◌≡◌, ℕ, ◌+◌, ◌<◌, ◌≤◌, ◌↔◌, ◌⊎◌, ◌*◌, ◌^◌, ◌||◌, ◌&&◌, not, Bool, true, false, true≢false, is_some, IsTrue, IsSomeAnd, Option, None, Some, List, [], ◌∷◌, ◌++◌, map, take, inl, inr, arith, refl, sym, ap, ◌∙◌, subst, length}
+use Rattle.std.proofs.Common.{◌≡◌, ℕ, ◌+◌, ◌<◌, ◌≤◌, ◌↔◌, ◌⊎◌, ◌||◌, ◌&&◌, not, Bool, true, false, true≢false, is_some, IsTrue, IsSomeAnd, Option, None, Some, [], ◌∷◌, map, take, inl, inr, arith, refl, sym, ap, ◌∙◌, subst, length}
 use Rattle.std.proofs.lemmas.Bool.{cases_lt, false≢true}
 use Rattle.bt_tree.specs.Blocks.{IsFileLength, block_count}
 use Rattle.bt_tree.specs.Limits.{max_file_length}
@@ -7,11 +7,10 @@ use Rattle.bt_disk.specs.History.{History}
 use Rattle.bt_disk.specs.Calls.{HasCalls}
 use Rattle.bt_disk.proofs.CallLists.{has_then}
 use Rattle.bt_meta.specs.Files.{File}
-use Rattle.bt_store.specs.BlockReads.{BlockRead, call_of, fault_count}
+use Rattle.bt_store.specs.BlockReads.{call_of, fault_count}
 use Rattle.btseed.specs.CheckSteps.{IsBlockCheck}
-use Rattle.btseed.specs.EntryCheck.{Answers, calls_of, len_call_of, IsEntryCheck}
+use Rattle.btseed.specs.EntryCheck.{Answers, len_call_of, IsEntryCheck}
 use Rattle.btseed.specs.Finding.{KnownLayer, known_layer}
-use Rattle.btseed.specs.declared.data_file.Finding.{Finding}
 use Rattle.btseed.specs.declared.entry_check.BlockCheck.{BlockCheck}
 use Rattle.std.specs.Prelude.{slice_index_or, nat_eq}
 use Rattle.std.specs.Cmp.Lexicographic.{pointwise}

@@ -1,30 +1,26 @@
 -- The group that is adopted is a piece, where the tree holds the layer of the pieces and nothing below it; and the claim
 -- of its blocks' digests is accepted exactly where they have the piece's digest together.
-use Rattle.std.proofs.Common.{◌≡◌, ◌≢◌, ℕ, zero, suc, ◌+◌, ◌-◌, ◌*◌, ◌/◌, ◌%◌, ◌^◌, ◌<◌, ◌≤◌, ◌⊎◌, Bool, true, false, true≢false, is_some, Option, None, Some, IsSome, List, [], ◌++◌, map, length, replicate, get_or, inl, inr, arith, refl, sym, ap, ◌∙◌, subst, min, length-append}
+use Rattle.std.proofs.Common.{◌≡◌, ◌≢◌, ℕ, zero, suc, ◌+◌, ◌-◌, ◌*◌, ◌/◌, ◌%◌, ◌^◌, ◌<◌, ◌≤◌, true≢false, is_some, Option, None, Some, IsSome, List, [], ◌++◌, length, get_or, inl, inr, arith, refl, sym, ap, ◌∙◌, subst, min}
 use Rattle.std.specs.Prelude.{slice_index_or}
-use Rattle.std.proofs.Math.Nat.{mul-le-mul_right, mul-div_cancel, mul-mod_left, div-lt_iff_lt-mul, le-div_iff_mul-le, div-mul-le_self}
+use Rattle.std.proofs.Math.Nat.{mul-le-mul_right, mul-div_cancel, mul-mod_left, div-lt_iff_lt-mul, le-div_iff_mul-le}
 use Rattle.std.proofs.lemmas.Nat.{pow_pos, pow-add, pow_below}
 use Rattle.std.proofs.lemmas.Bool.{cases_lt}
-use Rattle.std.proofs.lemmas.List.{length-map, length-replicate, get_or_append_left, get_or-append_right, get_or-replicate}
 use Rattle.sha2.specs.Sha256.{sha256}
 use Rattle.bt_tree.specs.Blocks.{block_count}
 use Rattle.bt_tree.specs.Layers.{fold_of}
 use Rattle.bt_tree.specs.Peaks.{row_node}
 use Rattle.bt_tree.specs.Tree.{padding_digest}
-use Rattle.bt_tree.specs.TreeShape.{height_of, real_width, IsPadding, CoversBlock}
+use Rattle.bt_tree.specs.TreeShape.{height_of, real_width}
 use Rattle.bt_tree.proofs.TreeShape.{height_is, real_lt, real_limit, pow_le}
 use Rattle.bt_tree.proofs.TreeNodes.{row_node_same, row_node_shift, fold_is, padding_suc}
 use Rattle.bt_sparse.specs.SparseTree.{Facts, blocks_of, height, held_at, value_at}
 use Rattle.bt_sparse.specs.Claim.{Claims, HasShape, in_run, on_path, uncle, run_height, run_node, run_digest, path_digest, top_layer, top_node, top_digest}
-use Rattle.bt_sparse.specs.Acceptance.{Accepts, IsJoined, IsRefused, HasPadding, IsHighestClash, shape, padding, no_anchor, top_differs, clash, no_memory}
-use Rattle.bt_sparse.specs.declared.claim.Claim.{Claim}
+use Rattle.bt_sparse.specs.Acceptance.{Accepts, IsRefused, HasPadding, IsHighestClash, shape, padding, no_anchor, top_differs, clash, no_memory}
 use Rattle.bt_sparse.specs.declared.claim.ProofError.{ProofError}
 use Rattle.bt_sparse.specs.declared.claim.ProofError.TheVariants.{OutOfMemory}
 use Rattle.bt_sparse.proofs.Values.{same_value, none_some, value_covers, value_padding, cases_node, value_inside}
 use Rattle.bt_sparse.proofs.Expansions.{path_first}
-use Rattle.bt_store.specs.BlockReads.{BlockRead}
-use Rattle.bt_store.specs.Adoption.{IsUnknownGroup, claimed_digest, leaf_claim}
-use Rattle.btseed.specs.EntryCheck.{leaves_read}
+use Rattle.bt_store.specs.Adoption.{IsUnknownGroup, leaf_claim}
 use Rattle.btseed.specs.Finding.{KnownLayer}
 use Rattle.btseed.proofs.PiecesNode.{width_covers}
 

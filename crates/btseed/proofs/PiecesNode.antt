@@ -1,22 +1,16 @@
 -- Lemmas on the nodes of pieces.
-use Rattle.std.proofs.Common.{◌≡◌, Option, ℕ, ◌/◌, ◌%◌, zero, suc, ◌+◌, ◌-◌, ◌*◌, ◌^◌, ◌<◌, ◌≤◌, true, false, ◌&&◌, List, [], ◌++◌, length, take, drop, inl, inr, arith, refl, sym, ap, ◌∙◌, subst, add-one, length-append, take_all, if◌then◌else◌}
-use Rattle.std.specs.Prelude.{slice_index_or, nat_eq, nat_le}
-use Rattle.std.specs.Cmp.Lexicographic.{pointwise}
+use Rattle.std.proofs.Common.{◌≡◌, Option, ℕ, ◌/◌, ◌%◌, ◌+◌, ◌*◌, ◌^◌, ◌<◌, ◌≤◌, List, length, inl, inr, arith, ap, ◌∙◌, subst}
 use Rattle.std.proofs.Math.Nat.{mul-le-mul_right}
 use Rattle.std.proofs.lemmas.Nat.{pow_pos, div-add-mod'}
-use Rattle.std.proofs.lemmas.Bool.{cases_lt, le-leb}
-use Rattle.std.proofs.lemmas.List.{drop-append-le, length-drop}
-use Rattle.std.proofs.lemmas.Bool.Decides.{leb_tells}
+use Rattle.std.proofs.lemmas.Bool.{cases_lt}
 use Rattle.sha2.specs.Sha256.{sha256}
-use Rattle.bt_tree.specs.Blocks.{block_count, block_at, HasRun}
+use Rattle.bt_tree.specs.Blocks.{block_count, HasRun}
 use Rattle.bt_tree.specs.RootBuilder.{BuilderState, BuildsFrom, first_block, node_end}
 use Rattle.bt_tree.specs.Tree.{node_digest}
 use Rattle.bt_tree.specs.TreeShape.{height_of, real_width, CoversBlock}
 use Rattle.bt_tree.proofs.TreeShape.{real_limit}
-use Rattle.bt_tree.proofs.TreeNodes.{row_node_same, node_digest_row, leaf_is}
 use Rattle.btseed.specs.Reader.{GivesNode}
 use Rattle.btseed.specs.Pieces.{piece_start, piece_size, GivesPiece}
-use lib.Seq.{take-append-le}
 
 -- a node of a layer that covers a block
 pub covers : (n layer index : ℕ) → layer ≤ height_of n → index < real_width n layer → CoversBlock n layer index

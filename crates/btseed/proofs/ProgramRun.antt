@@ -1,5 +1,5 @@
 -- Lemmas on what a run does.
-use Rattle.std.proofs.Common.{◌≡◌, ℕ, [], ◌∷◌, ◌++◌, codes, false, ap, append_assoc, List, Option, Result, Ok, Err, IfOk, IfErr, IsErrAnd, string_bytes, refl, sym, subst, ◌∙◌}
+use Rattle.std.proofs.Common.{◌≡◌, ℕ, [], ◌∷◌, ◌++◌, codes, false, ap, append_assoc, List, Option, Result, Ok, Err, IfOk, IfErr, IsErrAnd, refl, sym, subst, ◌∙◌}
 use Rattle.std.specs.Prelude.{◌⊎◌, if◌then◌else◌}
 use Rattle.std.specs.Io.KnownBytes.{Appends, Keeps}
 use Rattle.std.proofs.KnownBytes.{Keeps-refl}

@@ -1,22 +1,19 @@
 -- Lemmas on what a check reports, file by file.
-use Rattle.std.proofs.Common.{◌≡◌, ℕ, zero, suc, ◌+◌, ◌*◌, ◌^◌, ◌<◌, ◌≤◌, ◌&&◌, ◌||◌, Bool, true, false, List, [], ◌∷◌, ◌++◌, Option, map, length, get_or, refl, sym, ap, ◌∙◌, subst, append-nil, append_assoc, arith}
-use Rattle.std.specs.List.{flat_map, list_all, list_any, All}
+use Rattle.std.proofs.Common.{◌≡◌, ℕ, suc, ◌*◌, ◌^◌, ◌&&◌, ◌||◌, Bool, true, false, List, [], ◌∷◌, ◌++◌, Option, map, refl, sym, ap, ◌∙◌, subst, append-nil, append_assoc, arith}
+use Rattle.std.specs.List.{flat_map, All}
 use Rattle.std.specs.Io.KnownBytes.{Appends}
 use Rattle.std.proofs.KnownBytes.{Appends-nil, Appends-trans}
 use Rattle.std.proofs.lemmas.Grind.{flat_map-append}
 use Rattle.std.proofs.lemmas.List.Folds.{list_all-append, list_any-append}
 use Rattle.std.proofs.lemmas.List.{map-append}
-use Rattle.std.proofs.lemmas.List.Elements.{All-nil, All-push, All-same}
-use Rattle.bt_meta.specs.Files.{File, file_of}
-use Rattle.bt_meta.specs.declared.torrent.FileEntry.{FileEntry}
+use Rattle.std.proofs.lemmas.List.Elements.{All-nil, All-push}
+use Rattle.bt_meta.specs.Files.{File}
 use Rattle.btseed.specs.Check.{IsFileFinding}
 use Rattle.btseed.specs.CheckSteps.{IsCheckable}
-use Rattle.btseed.specs.DataFile.{file_at}
 use Rattle.btseed.specs.Finding.{is_complete_finding}
 use Rattle.bt_meta.specs.Torrent.{Metainfo}
 use Rattle.bt_tree.specs.Limits.{full_block_length}
 use Rattle.btseed.specs.Report.{IsReportOf, IsReportOn, file_in, file_line, last_line, lines_text, report_text, is_complete_report, is_faulty_report}
-use Rattle.btseed.specs.declared.data_file.DataFile.{DataFile}
 use Rattle.btseed.specs.declared.report.FileFinding.{FileFinding}
 use Rattle.btseed.specs.declared.report.Summary.{Summary}
 

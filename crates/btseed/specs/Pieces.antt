@@ -3,7 +3,7 @@
 use Rattle.std.specs.Prelude.{◌≡◌, ℕ, ◌+◌, ◌-◌, ◌*◌, ◌^◌, min, Bool, ◌&&◌, List, Option, length, take, nat_eq, nat_le}
 use Rattle.std.specs.Cmp.Lexicographic.{pointwise}
 use Rattle.sha2.specs.Sha256.{sha256}
-use Rattle.bt_tree.specs.Blocks.{block_count, HasRun}
+use Rattle.bt_tree.specs.Blocks.{HasRun}
 use Rattle.bt_tree.specs.Tree.{node_digest}
 use Rattle.bt_tree.specs.Limits.{full_block_length}
 use Rattle.btseed.specs.Reader.{Gives}

@@ -1,5 +1,5 @@
 -- What a check reports on the files of a torrent.
-use Rattle.std.specs.Prelude.{◌≡◌, ℕ, ◌*◌, ◌^◌, ◌++◌, ◌==◌, if◌then◌else◌, Bool, List, codes, map}
+use Rattle.std.specs.Prelude.{◌≡◌, ℕ, ◌*◌, ◌^◌, ◌++◌, if◌then◌else◌, Bool, List, codes, map}
 use Rattle.std.specs.Fmt.{decimal}
 use Rattle.std.specs.List.{flat_map, list_all, list_any, All}
 use Rattle.bt_meta.specs.Files.{File, file_of}

@@ -117,7 +117,7 @@ fn read_entry<R: Files + AllocGlobal>(
 
 /// Opens a file of the folder to read it. What is no regular file any more is a device fault, and is not opened, since a
 /// pipe would wait for a writer.
-fn open_file<R: Files>(rt: &R, path: Path<'_>) -> Result<R::File, Fault>
+pub fn open_file<R: Files>(rt: &R, path: Path<'_>) -> Result<R::File, Fault>
     ensures { IfErr result (λ fault. fault ≡ device) }
 {
     match fs::metadata(rt, path) {

@@ -6,6 +6,7 @@ use crate::atomic_file::replace_file;
 use crate::data_file::open_data_file;
 use crate::fault::Fault;
 use crate::folder::files_in;
+use crate::make::open_file;
 use crate::paths::found_path;
 use bt_disk::HandlePool;
 use bt_meta::MakeError;
@@ -264,6 +265,9 @@ fn what_is_no_regular_file_is_neither_opened_nor_replaced(rt: HostRuntime) -> Re
     let mut pool = HandlePool::new(rt.alloc(), device, 1)?;
     let opened = open_data_file(&device, &mut pool, data_file(&rt, top, "pipe")?);
     confirm(opened.err() == Some(Fault::Device), "it is opened")?;
+    let path = data_file(&rt, top, "pipe")?;
+    let opened = open_file(&device, path.as_path());
+    confirm(opened.err() == Some(Fault::Device), "it is digested")?;
     let mut pool = HandlePool::new(rt.alloc(), rt.clone()?, 1)?;
     let opened = open_data_file(&rt, &mut pool, data_file(&rt, top, "pipe")?)?;
     confirm(opened.is_some(), "a file is not opened")?;
@@ -282,7 +286,14 @@ fn checked_folder(rt: &HostRuntime, name: &str) -> Result<String, Fail> {
     put(rt, top.as_str(), "files/b", front(&file, 49152))?;
     put(rt, top.as_str(), "files/last", b"abc")?;
     let made = "infohash 7ec7172cdd49fe657144b07afdc9c247fbafa78b1748b44e1e2ae6d47e9d633a\n";
-    expect(rt, top.as_str(), "make @/files @/t --name n --piece-length 16384", 0, made, "")?;
+    expect(
+        rt,
+        top.as_str(),
+        "make @/files @/t --name n --piece-length 16384",
+        0,
+        made,
+        "",
+    )?;
     Ok(top)
 }
 

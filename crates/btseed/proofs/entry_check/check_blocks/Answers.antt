@@ -1,5 +1,4 @@
 use Rattle.std.proofs.Common.{◌<◌, arith, refl}
-use Rattle.btseed.proofs.DeviceBytes.{drop_map}
 use Rattle.bt_tree.specs.Blocks.{block_count}
 use Rattle.btseed.proofs.BlockChecks.{checking_begun, checking_more, next_is_later, next_is_inside, sum_is_few, all_checked}
 use Rattle.btseed.proofs.entry_check.check_blocks.Goals as goal

@@ -1,5 +1,4 @@
-use Rattle.std.proofs.Common.{◌≡◌, rules}
-use Rattle.std.specs.Prelude.{if◌then◌else◌}
+use Rattle.std.proofs.Common.{rules}
 use Rattle.btseed.proofs.ProgramRun.{checked}
 use Rattle.btseed.proofs.program.perform_check.Goals as goal
 
