@@ -6,7 +6,7 @@ use Rattle.std.proofs.KnownBytes.{Consumes-nil, Consumes-trans}
 use Rattle.std.specs.Io.KnownBytes.{Consumes}
 use Rattle.sha2.specs.Sha256.{sha256}
 use Rattle.bt_tree.specs.Blocks.{block_count, HasRun}
-use Rattle.bt_tree.specs.RootBuilder.{BuilderState, BuildsFrom, first_block}
+use Rattle.bt_tree.specs.RootBuilder.{BuilderState, BuildsFrom, first_block, node_end}
 use Rattle.bt_tree.specs.TreeShape.{height_of, real_width}
 use Rattle.bt_tree.specs.Tree.{node_digest}
 use Rattle.bt_tree.proofs.TreeShape.{height_is}
@@ -15,6 +15,14 @@ use Rattle.btseed.specs.DigestSteps.{IsRow, GivesLayer, GivesFile}
 use Rattle.btseed.specs.Digests.{AreDigestsOf, IsPieceLayer, GivesAll}
 use Rattle.btseed.specs.declared.digests.Digests.{Digests}
 use Rattle.btseed.proofs.DigestLayer.{row_of_layer}
+
+-- the whole file lies below the root
+pub root_covers : (bytes : ℕ) (b : BuilderState) → b.file_length ≡ bytes → b.layer ≡ height_of (block_count bytes) → b.index ≡ 0
+    → 16384 * first_block b + bytes ≡ node_end b
+root_covers bytes b size layer index =
+    let enough : block_count bytes ≤ 2 ^ b.layer = subst (λ h. block_count bytes ≤ 2 ^ h) (sym layer) (height_is (block_count bytes)).enough in
+    let first : first_block b ≡ 0 = rw index (omega arith) in
+    omega (arith, enough, first, size)
 
 -- a file longer than a piece has the layer of pieces
 pub layer_inside : (file_length layer : ℕ) → 16384 * 2 ^ layer < file_length → layer ≤ height_of (block_count file_length)

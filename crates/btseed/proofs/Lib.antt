@@ -1,11 +1,15 @@
--- readers, and what is found of a data file
+-- readers
 pub mod ReaderFill
 pub mod ReaderNode
-pub mod DataFileFinding
 pub mod PiecesNode
-pub mod PiecesCheck
 -- `check`
-pub mod CheckEntry
+pub mod RightBlocks
+pub mod KnownTree
+pub mod PieceGroup
+pub mod AdoptedGroups
+pub mod BlockChecks
+pub mod DeviceBytes
+pub mod EntryChecks
 pub mod CheckFault
 pub mod ReportLines
 -- `show`

@@ -1,5 +1,5 @@
 -- Lemmas on what a run does.
-use Rattle.std.proofs.Common.{◌≡◌, ℕ, [], ◌∷◌, ◌++◌, codes, ap, append_assoc, List, Option, Result, Ok, Err, IfOk, IfErr, IsErrAnd, string_bytes, refl, sym, subst, ◌∙◌}
+use Rattle.std.proofs.Common.{◌≡◌, ℕ, [], ◌∷◌, ◌++◌, codes, false, ap, append_assoc, List, Option, Result, Ok, Err, IfOk, IfErr, IsErrAnd, refl, sym, subst, ◌∙◌}
 use Rattle.std.specs.Prelude.{◌⊎◌, if◌then◌else◌}
 use Rattle.std.specs.Io.KnownBytes.{Appends, Keeps}
 use Rattle.std.proofs.KnownBytes.{Keeps-refl}
@@ -8,7 +8,7 @@ use Rattle.bt_tree.specs.TreeShape.{IsPieceLength}
 use Rattle.bt_meta.specs.declared.writer.MakeError.TheVariants.{PieceLength}
 use Rattle.btseed.specs.CommandLine.{IsTaskOf}
 use Rattle.bt_meta.specs.Torrent.{Metainfo}
-use Rattle.btseed.specs.Report.{IsReportOn, is_complete_report, report_text}
+use Rattle.btseed.specs.Report.{IsReportOn, report_text}
 use Rattle.btseed.specs.TorrentFile.{HasText}
 use Rattle.btseed.specs.Make.{IsMakeFault, IsMakeTorrent}
 use Rattle.btseed.specs.Program.{IsCheckResult, IsMakeResult, IsTaskResult, IsTaskEnd, IsRun, IsStart, Writes, no_words, on_words, task_result, task_end}
@@ -18,6 +18,7 @@ use Rattle.btseed.specs.Display.{line_text}
 use Rattle.btseed.specs.Fault.{make_fault, out_of_memory, status_of, words_fault}
 use Rattle.btseed.specs.declared.make.NewTorrent.{NewTorrent}
 use Rattle.btseed.specs.declared.report.FileFinding.{FileFinding}
+use Rattle.btseed.specs.declared.report.Summary.{Summary}
 use Rattle.btseed.specs.declared.command_line.MakeTask.{MakeTask}
 use Rattle.btseed.specs.declared.command_line.Source.{Source}
 use Rattle.btseed.specs.declared.command_line.Task.{Task}
@@ -34,11 +35,24 @@ not_made (Err found) request old fault cause why same = record {
   refused = λ _. Keeps-refl old;
 }
 
-pub checked : (source : Source) (torrent : Metainfo) (found : List FileFinding) (old new : Option (List ℕ)) (status : ℕ) → HasText source.is_info torrent
-    → IsReportOn torrent found → Appends old new (report_text found) → status ≡ (if is_complete_report found then 0 else 1)
-    → Writes (IsCheckResult source) old new status
-checked source torrent found old new status loaded report put is =
-    record { text = report_text found; written = put; is = record { torrent = torrent; loaded = loaded; found = found; report = report; lines = refl; answer = is } }
+pub checked : (source : Source) (torrent : Metainfo) (summary : Summary) (old new : Option (List ℕ)) (status : ℕ) → HasText source.is_info torrent
+    → (found : List FileFinding) × IsReportOn torrent found summary × Appends old new (report_text found) → summary.faulty ≡ false
+    → status ≡ (if summary.complete then 0 else 1) → Writes (IsCheckResult source) old new status
+checked source torrent summary old new status loaded r sound is =
+    record {
+      text = report_text r.0;
+      written = r.2;
+      is = record {
+        torrent = torrent;
+        loaded = loaded;
+        found = r.0;
+        summary = summary;
+        report = r.1;
+        sound = sym r.1.report.faulty ∙ sound;
+        lines = refl;
+        answer = is ∙ ap (λ b. if b then 0 else 1) r.1.report.complete;
+      };
+    }
 
 pub performed : (words : List Text) (task : Task) (old new : Option (List ℕ)) (r : Result ℕ Fault) → IsTaskOf words task
     → IfOk r (Writes (IsTaskResult task) old new) → IfErr r (IsTaskEnd task old new) → IsRun words old new (status_after r)

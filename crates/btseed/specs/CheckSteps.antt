@@ -1,26 +1,40 @@
 -- Steps of `check` that only its private functions cite.
-use Rattle.std.specs.Prelude.{◌≡◌, ◌≢◌, ℕ, ◌+◌, ◌≤◌, List, [], Option, length}
+use Rattle.std.specs.Prelude.{◌≡◌, ◌≢◌, ℕ, ◌<◌, ◌≤◌, ◌↔◌, List, [], None, Some, length, map, slice_index_or, IsTrue}
+use Rattle.std.specs.List.{range_with_len}
+use Rattle.sha2.specs.Sha256.{sha256}
 use Rattle.bt_tree.specs.Blocks.{block_count}
-use Rattle.bt_tree.specs.TreeShape.{height_of, real_width}
-use Rattle.bt_meta.specs.Files.{File}
+use Rattle.bt_tree.specs.Layers.{IsLayer}
 use Rattle.bt_tree.specs.Limits.{max_file_length}
-use Rattle.btseed.specs.Check.{IsEntryFinding, digests_in}
-use Rattle.btseed.specs.Reader.{Gives}
-use Rattle.btseed.specs.declared.data_file.Finding.{Finding}
+use Rattle.bt_tree.specs.TreeShape.{height_of, real_width}
+use Rattle.bt_disk.specs.History.{History}
+use Rattle.bt_disk.specs.Calls.{HasCalls}
+use Rattle.bt_sparse.specs.SparseTree.{Facts, held_at}
+use Rattle.bt_store.specs.BlockReads.{BlockRead, block_of, call_of, fault_count}
+use Rattle.bt_meta.specs.Files.{File}
+use Rattle.btseed.specs.EntryCheck.{is_piece_read}
+use Rattle.btseed.specs.Finding.{KnownLayer, right_blocks}
+use Rattle.btseed.specs.declared.entry_check.BlockCheck.{BlockCheck}
 
--- of the bytes that a reader gave, which was asked for the file and one byte more
-pub record IsEntryFindingAt (old new : Option (List ℕ)) (layer : ℕ) (file : File) (finding : Finding)
-    : Type 0 where
-  pub bytes : List ℕ
-  pub given : Gives old new (file.length + 1) bytes
-  pub found : IsEntryFinding bytes layer file finding
-
--- the layer has a digest for each piece of a file so long
-pub record HasLayerSize (layer file_length : ℕ) (digests : List (List ℕ)) : Type 0 where
-  pub inside : layer ≤ height_of (block_count file_length)
-  pub all : length digests ≡ real_width (block_count file_length) layer
-
--- the file is not too long, and a layer that it has has a digest for each piece, as in each torrent
+-- the file is not too long, and what it has for a layer is the layer of its pieces, as in each torrent
 pub record IsCheckable (layer : ℕ) (file : File) : Type 0 where
   pub short : file.length ≤ max_file_length
-  pub sized : file.layer ≢ [] → HasLayerSize layer file.length (digests_in file.layer)
+  pub layered : file.layer ≢ [] → IsLayer sha256 (block_count file.length) file.root layer file.layer
+
+-- of the tree over a file of n bytes this layer is held, and nothing below it
+pub record HoldsJust (n : ℕ) (known : KnownLayer) (k : Facts) : Type 0 where
+  pub length_is : k.file_length ≡ n
+  pub inside : known.layer ≤ height_of (block_count n)
+  pub width : length known.digests ≡ real_width (block_count n) known.layer
+  pub holds : (i : ℕ) → i < length known.digests
+      → held_at k known.layer i ≡ Some (slice_index_or known.digests i [])
+  pub below : (layer i : ℕ) → layer < known.layer → held_at k layer i ≡ None
+
+-- each block of a file of n bytes was read, in turn, and no other call of the device was made; and so many
+-- blocks are right
+pub record IsBlockCheck {D : Type 0} (history : D → History) (honest : D → Type 0) (faults : D → ℕ)
+    (n : ℕ) (known : KnownLayer) (old : D) (check : BlockCheck D) : Type 0 where
+  pub reads : List BlockRead
+  pub calls : HasCalls history honest faults old (map (call_of n) reads) check.disk
+  pub each : map block_of reads ≡ range_with_len 0 (block_count n)
+  pub marked : check.marked ≡ right_blocks (is_piece_read reads n known) n known.layer (length known.digests)
+  pub faulty : IsTrue check.faulty ↔ (0 < fault_count reads)

@@ -1,6 +1,8 @@
 pub mod Reader
 pub mod DataFile
 pub mod Pieces
+pub mod Finding
+pub mod EntryCheck
 pub mod Paths
 pub mod Display
 pub mod Fault

@@ -1,5 +1,5 @@
 -- Why a torrent can't have one file more, by what is known of it before it is read.
-use Rattle.std.specs.Prelude.{ℕ, ◌+◌, ◌^◌, ◌||◌, Option, None, Some, nat_lt, if◌then◌else◌}
+use Rattle.std.specs.Prelude.{ℕ, ◌+◌, ◌||◌, Option, None, Some, nat_lt, if◌then◌else◌}
 use Rattle.bt_meta.specs.Files.{piece_count}
 use Rattle.bt_meta.specs.declared.writer.MakeError.{MakeError}
 use Rattle.bt_meta.specs.declared.writer.MakeError.TheVariants.{FileLength, Count}

@@ -1,13 +1,12 @@
--- The pieces of a file, as nodes of its tree (BEP 52, "piece layers"), and what a check by pieces finds of a
--- data file. A piece has 2 ^ layer blocks, the last one of a file perhaps fewer.
-use Rattle.std.specs.Prelude.{◌≡◌, ℕ, zero, suc, ◌+◌, ◌-◌, ◌*◌, ◌^◌, ◌<◌, ◌↔◌, min, Bool, ◌&&◌, List, [], Option, length, take, slice_index_or, nat_eq, nat_le, IsTrue, if◌then◌else◌}
+-- The pieces of a file, as nodes of its tree (BEP 52, "piece layers"). A piece has 2 ^ layer blocks, the last
+-- one of a file perhaps fewer.
+use Rattle.std.specs.Prelude.{◌≡◌, ℕ, ◌+◌, ◌-◌, ◌*◌, ◌^◌, min, Bool, ◌&&◌, List, Option, length, take, nat_eq, nat_le}
 use Rattle.std.specs.Cmp.Lexicographic.{pointwise}
 use Rattle.sha2.specs.Sha256.{sha256}
-use Rattle.bt_tree.specs.Blocks.{block_count, HasRun}
+use Rattle.bt_tree.specs.Blocks.{HasRun}
 use Rattle.bt_tree.specs.Tree.{node_digest}
 use Rattle.bt_tree.specs.Limits.{full_block_length}
 use Rattle.btseed.specs.Reader.{Gives}
-use Rattle.btseed.specs.declared.data_file.Finding.{Finding}
 
 -- the byte at which a piece begins
 abbrev pub piece_start : ℕ → ℕ → ℕ
@@ -22,29 +21,7 @@ piece_size file_length layer index =
 abbrev pub has_piece : List ℕ → ℕ → ℕ → ℕ → List ℕ → Bool
 has_piece bytes file_length layer index digest =
     nat_le (piece_start layer index + piece_size file_length layer index) (length bytes)
-    && pointwise nat_eq (node_digest sha256 (take file_length bytes) layer index) digest
-
--- how many blocks are right of the pieces before this one: those of each piece that is there with its digest
-unfoldable pub right_blocks : List ℕ → ℕ → ℕ → List (List ℕ) → ℕ → ℕ
-right_blocks bytes file_length layer digests zero = 0
-right_blocks bytes file_length layer digests (suc index) =
-    right_blocks bytes file_length layer digests index
-    + (if has_piece bytes file_length layer index (slice_index_or digests index [])
-    then block_count (piece_size file_length layer index) else 0)
-
--- the right blocks are marked, and no others
-pub record IsFindingByPieces (bytes : List ℕ) (file_length layer : ℕ) (digests : List (List ℕ))
-    (finding : Finding) : Type 0 where
-  pub blocks : finding.blocks ≡ block_count file_length
-  pub marked : finding.marked ≡ right_blocks bytes file_length layer digests (length digests)
-  pub longer : IsTrue finding.longer ↔ (file_length < length bytes)
-
--- a finding of the bytes that a reader gave, which was asked for the file and one byte more
-pub record IsFindingByPiecesAt (old new : Option (List ℕ)) (file_length layer : ℕ) (digests : List (List ℕ))
-    (finding : Finding) : Type 0 where
-  pub bytes : List ℕ
-  pub given : Gives old new (file_length + 1) bytes
-  pub found : IsFindingByPieces bytes file_length layer digests finding
+    && pointwise nat_eq digest (node_digest sha256 (take file_length bytes) layer index)
 
 -- the reader gave a piece of this size, and the digest is its node's: in each file that has these bytes there
 pub record GivesPiece (old new : Option (List ℕ)) (file_length layer index size : ℕ) (digest : List ℕ)

@@ -1,5 +1,5 @@
 -- What the program does with its words: the status that it exits with, and the text that it writes.
-use Rattle.std.specs.Prelude.{◌≡◌, ℕ, ◌++◌, ◌⊎◌, List, Option, codes, if◌then◌else◌}
+use Rattle.std.specs.Prelude.{◌≡◌, ℕ, ◌++◌, ◌⊎◌, false, List, Option, codes, if◌then◌else◌}
 use Rattle.std.specs.Io.KnownBytes.{Appends, Keeps}
 use Rattle.clap.specs.Words.{Text}
 use Rattle.clap.specs.declared.error.kind.ErrorKind.{ErrorKind}
@@ -12,7 +12,7 @@ use Rattle.btseed.specs.CommandLine.{IsTaskOf, IsNoTaskOf}
 use Rattle.btseed.specs.Display.{line_text}
 use Rattle.btseed.specs.Fault.{make_fault, out_of_memory, status_of, words_fault}
 use Rattle.btseed.specs.Make.{IsMakeFault, IsMakeTorrent}
-use Rattle.btseed.specs.Report.{IsReportOn, is_complete_report, report_text}
+use Rattle.btseed.specs.Report.{IsReportOn, is_complete_report, is_faulty_report, report_text}
 use Rattle.btseed.specs.Show.{show_text}
 use Rattle.btseed.specs.TorrentFile.{HasText, IsLoadFault}
 use Rattle.btseed.specs.declared.command_line.MakeTask.{MakeTask}
@@ -22,6 +22,7 @@ use Rattle.btseed.specs.declared.command_line.Task.TheVariants.{Make, Show, Chec
 use Rattle.btseed.specs.declared.fault.Fault.{Fault}
 use Rattle.btseed.specs.declared.make.NewTorrent.{NewTorrent}
 use Rattle.btseed.specs.declared.report.FileFinding.{FileFinding}
+use Rattle.btseed.specs.declared.report.Summary.{Summary}
 
 -- ---- a task that is done
 
@@ -39,13 +40,15 @@ pub record IsShowResult (source : Source) (status : ℕ) (text : List ℕ) : Typ
   pub lines : text ≡ show_text torrent
   pub answer : status ≡ 0
 
--- a torrent was read and its files were checked, the text is the report's, and the status says whether all
--- are complete
+-- a torrent was read and its files were checked, no device of which failed; the text is the report's, and the
+-- status says whether all are complete
 pub record IsCheckResult (source : Source) (status : ℕ) (text : List ℕ) : Type 0 where
   pub torrent : Metainfo
   pub loaded : HasText source.is_info torrent
   pub found : List FileFinding
-  pub report : IsReportOn torrent found
+  pub summary : Summary
+  pub report : IsReportOn torrent found summary
+  pub sound : is_faulty_report found ≡ false
   pub lines : text ≡ report_text found
   pub answer : status ≡ (if is_complete_report found then 0 else 1)
 

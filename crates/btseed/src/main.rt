@@ -7,6 +7,7 @@ mod command_line;
 mod data_file;
 mod digests;
 mod display;
+mod entry_check;
 mod fault;
 mod file_hash;
 mod folder;

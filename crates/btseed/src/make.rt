@@ -6,13 +6,12 @@ ghost use Rattle.bt_meta.specs.declared.writer.MakeError.TheVariants.{PieceLengt
 ghost use Rattle.bt_meta.specs.Limits.{max_file_count, max_piece_count};
 ghost use Rattle.bt_tree.specs.Limits.{max_file_length};
 ghost use Rattle.btseed.specs.Digests.{IsDigestFault};
-ghost use Rattle.btseed.specs.Fault.{make_fault};
+ghost use Rattle.btseed.specs.Fault.{device, make_fault};
 ghost use Rattle.btseed.specs.Folder.{HasElement};
 ghost use Rattle.btseed.specs.Make.{HasContent, IsFolderFault, IsMakeFault, IsMakeTorrent};
 ghost use Rattle.btseed.specs.MakeSteps.{total_piece_count};
 
 use crate::command_line::MakeTask;
-use crate::data_file::open_data_file;
 use crate::digests::{Digests, digest_reader};
 use crate::fault::Fault;
 use crate::folder::files_in;
@@ -23,6 +22,7 @@ use crate::reader::BUFFER_LEN;
 use bt_meta::{Made, MakeError, read_torrent};
 use bt_tree::Hash32;
 use std::fs;
+use std::path::Path;
 use std::rt::Files;
 
 /// A torrent that was made: its bytes, and its infohash.
@@ -105,9 +105,7 @@ fn read_entry<R: Files + AllocGlobal>(
     let alloc = rt.alloc();
     let FolderFile { path, length } = file;
     let data = found_path(alloc, dir, &path)?;
-    let Some(mut reader) = open_data_file(rt, data.as_path())? else {
-        return Err(Fault::Device);
-    };
+    let mut reader = open_file(rt, data.as_path())?;
     let Digests { root, layer } = digest_reader(alloc, &mut reader, length, size, buffer)?;
     Ok(Made {
         path,
@@ -115,4 +113,19 @@ fn read_entry<R: Files + AllocGlobal>(
         root,
         layer,
     })
+}
+
+/// Opens a file of the folder to read it. What is no regular file any more is a device fault, and is not opened, since a
+/// pipe would wait for a writer.
+pub fn open_file<R: Files>(rt: &R, path: Path<'_>) -> Result<R::File, Fault>
+    ensures { IfErr result (λ fault. fault ≡ device) }
+{
+    match fs::metadata(rt, path) {
+        Ok(metadata) if metadata.is_file() => {}
+        _ => return Err(Fault::Device),
+    }
+    match fs::open(rt, path) {
+        Ok(file) => Ok(file),
+        Err(_) => Err(Fault::Device),
+    }
 }

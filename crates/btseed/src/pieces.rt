@@ -1,16 +1,15 @@
-//! Checking a data file piece by piece, against the layer of its tree whose nodes cover a piece each (BEP 52).
-ghost use Rattle.std.specs.Prelude.{◌≡◌, ◌+◌, ◌*◌, ◌^◌, ◌<◌, ◌≤◌, ◌↔◌, length, IsSome, IfOk, IfNone, IfSome, OnErr};
+//! The pieces of a file, and the layer of its tree whose nodes cover one each (BEP 52).
+ghost use Rattle.std.specs.Prelude.{◌≡◌, ◌*◌, ◌^◌, ◌<◌, ◌≤◌, ◌↔◌, IsSome, IfOk, IfNone, IfSome, OnErr};
 ghost use Rattle.bt_tree.specs.Blocks.{block_count};
 ghost use Rattle.bt_tree.specs.TreeShape.{height_of, real_width, IsPieceLength};
 ghost use Rattle.bt_tree.specs.Limits.{full_block_length, max_piece_layer};
 ghost use Rattle.btseed.specs.Reader.{LosesFront, EndsEarly};
-ghost use Rattle.btseed.specs.Pieces.{piece_size, GivesPiece, IsFindingByPieces, IsFindingByPiecesAt};
+ghost use Rattle.btseed.specs.Pieces.{piece_size, GivesPiece};
 
-use crate::data_file::{Finding, marked_blocks};
 use crate::fault::DeviceFault;
 use crate::file_hash::FileHash;
-use crate::reader::{BUFFER_LEN, has_more, read_node};
-use bt_tree::{BLOCK_LEN, Geometry, Hash32, RootBuilder, is_piece_length, piece_layer};
+use crate::reader::{BUFFER_LEN, read_node};
+use bt_tree::{Geometry, Hash32, RootBuilder, is_piece_length, piece_layer};
 use std::io::Read;
 
 /// How long a torrent's pieces are, and the layer whose nodes cover a piece each.
@@ -56,56 +55,4 @@ pub fn read_piece<R: Read>(
 {
     let builder = RootBuilder::for_node(FileHash, geometry, layer, index);
     read_node(reader, builder, size, buffer)
-}
-
-/// Checks the bytes of a reader, from where it stands, against a file of this geometry whose pieces have these digests:
-/// one for each node of the layer that covers a block.
-///
-/// It reads up to one byte past the file's length, in runs that fit the buffer, and no more once a piece is cut short.
-/// The blocks of a piece are marked where the piece is there and has its digest. After a fault the reader has lost what
-/// it gave.
-pub fn check_pieces<R: Read>(
-    reader: &mut R,
-    geometry: Geometry,
-    size: PieceSize,
-    digests: &[Hash32],
-    buffer: &mut [u8; BUFFER_LEN],
-) -> Result<Finding, DeviceFault>
-    requires inside { size.layer ≤ height_of (block_count geometry) }
-    requires all { length digests.now ≡ real_width (block_count geometry) size.layer }
-
-    // of the reader's bytes, where it tells them
-    ensures told { IfSome (R.remaining reader.old)
-        (λ bytes. IfOk result (IsFindingByPieces bytes geometry size.layer digests.now)) }
-
-    // of the bytes that it gave, at every reader
-    ensures given { IfOk result (IsFindingByPiecesAt
-        (R.remaining reader.old) (R.remaining reader.new) geometry size.layer digests.now) }
-    ensures err { OnErr result (LosesFront (R.remaining reader.old) (R.remaining reader.new)) }
-{
-    let blocks = geometry.blocks();
-    let mut marked = 0;
-    let mut index = 0;
-    let mut rest = geometry.length();
-    for wanted in digests {
-        let length = rest.min(size.bytes as u64);
-        let piece = read_piece(reader, geometry, size.layer, index, length, buffer)?;
-        let Some(found) = piece else {
-            return Ok(Finding {
-                blocks,
-                marked,
-                longer: false,
-            });
-        };
-        let in_piece = length.div_ceil(BLOCK_LEN as u64) as u32;
-        marked += marked_blocks(in_piece, &found, wanted);
-        index += 1;
-        rest -= length;
-    }
-    let longer = has_more(reader)?;
-    Ok(Finding {
-        blocks,
-        marked,
-        longer,
-    })
 }

@@ -15,7 +15,6 @@ use crate::fault::Fault;
 use crate::make::make;
 use crate::output::print;
 use crate::reader::BUFFER_LEN;
-use crate::report::print_report;
 use crate::show::show;
 use crate::torrent_file::load;
 use clap::Error;
@@ -149,7 +148,7 @@ fn perform_show<R: Files + AllocGlobal, O: Write>(
     Ok(0)
 }
 
-fn perform_check<R: Files + AllocGlobal, O: Write>(
+fn perform_check<R: Files + AllocGlobal + Clone + Drop, O: Write>(
     rt: &R,
     source: Source<'_>,
     dir: &str,
@@ -162,9 +161,11 @@ fn perform_check<R: Files + AllocGlobal, O: Write>(
 {
     let mut buffer = [0; BUFFER_LEN];
     let torrent = load(rt, source, &mut buffer)?;
-    let report = check(rt, &torrent, dir, &mut buffer)?;
-    print_report(rt.alloc(), &report, writer)?;
-    Ok(if report.is_complete() { 0 } else { 1 })
+    let summary = check(rt, &torrent, dir, writer)?;
+    if summary.faulty {
+        return Err(Fault::Device);
+    }
+    Ok(if summary.complete { 0 } else { 1 })
 }
 
 /// Prints help, or why the words are refused.

@@ -1,13 +1,14 @@
 //! What a check found, and its lines.
-ghost use Rattle.std.specs.Prelude.{◌≡◌, ◌++◌, ◌⊎◌, IfErr, OnOk, string_bytes};
+ghost use Rattle.std.specs.Prelude.{◌≡◌, ◌++◌, ◌⊎◌, ◌&&◌, ◌||◌, IfErr, OnOk, string_bytes};
 ghost use Rattle.std.specs.Io.KnownBytes.{Appends};
 ghost use Rattle.btseed.specs.Fault.{device, out_of_memory};
-ghost use Rattle.btseed.specs.Report.{file_line, finding_line, is_complete_report, last_line, report_text};
+ghost use Rattle.btseed.specs.Finding.{is_complete_finding};
+ghost use Rattle.btseed.specs.Report.{file_line, finding_line, last_line};
 
 use crate::data_file::Finding;
 use crate::display::display_path;
 use crate::fault::Fault;
-use crate::output::{print, write_text};
+use crate::output::write_text;
 use bt_meta::FileEntry;
 use std::alloc::{AllocError, Global};
 use std::fmt;
@@ -20,39 +21,32 @@ pub struct FileFinding<'a> {
     pub finding: Finding,
 }
 
-/// What a check found, file by file.
-#[derive(Drop)]
-pub struct Report<'a> {
-    pub found: Vec<FileFinding<'a>>,
+/// What a check found of all files so far: whether each is complete, and whether a call of a device failed.
+#[derive(Clone, Copy, Debug, PartialEq, Eq)]
+pub struct Summary {
+    pub complete: bool,
+    pub faulty: bool,
 }
 
-impl Report<'_> {
-    /// Whether every file is complete.
-    pub fn is_complete(&self) -> bool
-        ensures { result ≡ is_complete_report self.now.found.items }
+impl Summary {
+    /// Of one file more.
+    pub fn with(self, finding: Finding) -> Self
+        ensures complete { result.complete ≡ (self.complete && is_complete_finding finding) }
+        ensures faulty { result.faulty ≡ (self.faulty || finding.faulty) }
     {
-        self.found.iter().all(|file| file.finding.is_complete())
+        Summary {
+            complete: self.complete && finding.is_complete(),
+            faulty: self.faulty || finding.faulty,
+        }
     }
-}
-
-/// Writes the lines of a report, each as it is made. After a fault the writer has a part of them, or all.
-pub fn print_report<W: Write>(
-    alloc: Global,
-    report: &Report<'_>,
-    writer: &mut W,
-) -> Result<(), Fault>
-    ensures text { OnOk result
-        (Appends (W.contents writer.old) (W.contents writer.new) (report_text report.now.found.items)) }
-    ensures fault { IfErr result (λ fault. (fault ≡ device) ⊎ (fault ≡ out_of_memory)) }
-{
-    for file in &report.found {
-        write_line(alloc, file, writer)?;
-    }
-    print(writer, last_words(report.is_complete()))
 }
 
 /// Writes the line of one file.
-fn write_line<W: Write>(alloc: Global, file: &FileFinding<'_>, writer: &mut W) -> Result<(), Fault>
+pub fn write_line<W: Write>(
+    alloc: Global,
+    file: &FileFinding<'_>,
+    writer: &mut W,
+) -> Result<(), Fault>
     ensures text { OnOk result
         (Appends (W.contents writer.old) (W.contents writer.new) (file_line file.now)) }
     ensures fault { IfErr result (λ fault. (fault ≡ device) ⊎ (fault ≡ out_of_memory)) }
@@ -68,14 +62,10 @@ fn push_line(line: &mut String, finding: Finding, path: &str) -> Result<(), Allo
     ensures { OnOk result (string_bytes line.new ≡ string_bytes line.old ++ finding_line finding path.now) }
 {
     use fmt::Write;
-    let Finding {
-        blocks,
-        marked,
-        longer,
-    } = finding;
-    if longer {
+    let Finding { blocks, marked, .. } = finding;
+    if finding.longer {
         writeln!(line, "longer {path}")
-    } else if marked == blocks {
+    } else if finding.is_complete() {
         writeln!(line, "complete {path}")
     } else {
         writeln!(line, "{marked} of {blocks} {path}")
@@ -83,7 +73,7 @@ fn push_line(line: &mut String, finding: Finding, path: &str) -> Result<(), Allo
 }
 
 /// The last line.
-fn last_words(complete: bool) -> &'static str
+pub fn last_words(complete: bool) -> &'static str
     ensures { result.now ≡ last_line complete }
 {
     if complete {

@@ -2,6 +2,7 @@
 
 mod check;
 mod devices;
+mod entries;
 mod fault;
 mod limits;
 mod make;

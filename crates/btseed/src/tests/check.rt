@@ -116,6 +116,52 @@ fn pieces_are_checked(rt: HostRuntime) -> Result<(), Fail> {
     play(&rt, "pieces", &steps)
 }
 
+/// Checks a file of 65 blocks, the last of one byte, by pieces of a length of which the last has one block. So many blocks
+/// are right where a byte of the tenth is changed, and where the last 48,577 bytes are missing.
+fn expect_groups(
+    rt: &HostRuntime,
+    make: &str,
+    infohash: &str,
+    changed: &str,
+    cut: &str,
+) -> Result<(), Fail> {
+    let mut file = Vec::new(rt.alloc());
+    for i in 0..1048577u32 {
+        file.push((i / 16384) as u8)?;
+    }
+    let steps = [
+        Step::Folder("files"),
+        Step::File("files/f", &file),
+        Step::Run(make, 0, infohash),
+        Step::Run(CHECK, 0, "complete f\ncomplete\n"),
+        Step::Change("files/f", 150000),
+        Step::Run(CHECK, 1, changed),
+        Step::File("files/f", front(&file, 1048576)),
+        Step::Run(CHECK, 1, "64 of 65 f\nnot complete\n"),
+        Step::File("files/f", front(&file, 1000000)),
+        Step::Run(CHECK, 1, cut),
+    ];
+    play(rt, "groups", &steps)
+}
+
+#[test]
+fn groups_of_blocks_are_checked(rt: HostRuntime) -> Result<(), Fail> {
+    expect_groups(
+        &rt,
+        "make @/files @/t --name n --piece-length 16384",
+        "infohash 463665545d66181aec42a42f2aa6b29201db2c78da8eab011f80ac22b784ac89\n",
+        "64 of 65 f\nnot complete\n",
+        "61 of 65 f\nnot complete\n",
+    )?;
+    expect_groups(
+        &rt,
+        "make @/files @/t --name n --piece-length 65536",
+        "infohash ffcab4449f81f7a86468ed327ca308e6069242744379daa035f4c9f8ecbf17f8\n",
+        "61 of 65 f\nnot complete\n",
+        "60 of 65 f\nnot complete\n",
+    )
+}
+
 #[test]
 fn an_info_dictionary_counts_whole_files(rt: HostRuntime) -> Result<(), Fail> {
     let file = three_blocks(rt.alloc())?;

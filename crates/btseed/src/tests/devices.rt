@@ -1,14 +1,16 @@
 //! Devices that fail: a runtime that stands in for the file system.
 
 use super::steps::{expect_bytes, expect_entries};
-use super::tools::{confirm, folder, path_in, put};
+use super::tools::{confirm, expect, folder, front, path_in, put, put_folder, three_blocks};
 use crate::atomic_file::replace_file;
 use crate::data_file::open_data_file;
 use crate::fault::Fault;
 use crate::folder::files_in;
+use crate::make::open_file;
 use crate::paths::found_path;
+use bt_disk::HandlePool;
 use bt_meta::MakeError;
-use std::alloc::{Allocator, Global};
+use std::alloc::{AllocError, Allocator, Global};
 use std::fs::{self, File, Metadata, OpenFile, OpenOptions};
 use std::io::{self, ErrorKind, Read, Seek, SeekFrom, Write};
 use std::path::PathBuf;
@@ -19,6 +21,8 @@ use std::test::Fail;
 #[derive(Clone, Copy, PartialEq, Eq)]
 enum Failing {
     Nothing,
+    Opens,
+    Reads,
     Writes,
     Flushes,
     Syncs,
@@ -37,7 +41,8 @@ impl Failing {
 }
 
 /// The host's file system, of which some calls fail, in which every folder lists these names, and in which a path that
-/// ends in `pipe` is a device, which neither a read nor a write is to reach.
+/// ends in `pipe` is a device, which neither a read nor a write is to reach. Of opens that of a path that ends in `last`
+/// fails, and of reads the third of each file.
 #[derive(Clone, Copy)]
 struct Device<'a> {
     host: &'a HostRuntime,
@@ -78,9 +83,13 @@ impl<'a> Files for Device<'a> {
     type Dir = &'a [u8];
 
     fn open_file(&self, how: &OpenOptions, path: &str) -> io::Result<DeviceFile> {
+        if path.ends_with("last") {
+            self.failing.at(Failing::Opens)?;
+        }
         Ok(DeviceFile {
             file: self.host.open_file(how, path)?,
             failing: self.failing,
+            reads: 0,
         })
     }
 
@@ -130,10 +139,15 @@ impl<'a> Files for Device<'a> {
 struct DeviceFile {
     file: File,
     failing: Failing,
+    reads: u32,
 }
 
 impl Read for DeviceFile {
     fn read(&mut self, buf: &mut [u8]) -> io::Result<usize> {
+        self.reads = self.reads.saturating_add(1);
+        if self.reads == 3 {
+            self.failing.at(Failing::Reads)?;
+        }
         self.file.read(buf)
     }
 }
@@ -231,6 +245,11 @@ fn a_part_file_that_is_there_stays(rt: HostRuntime) -> Result<(), Fail> {
     Ok(())
 }
 
+/// The path of a name below a folder.
+fn data_file(rt: &HostRuntime, top: &str, name: &str) -> Result<PathBuf, AllocError> {
+    found_path(rt.alloc(), top, &[String::from_str(rt.alloc(), name)?])
+}
+
 /// What is at the paths is a device, and a file in its place would be whole.
 #[test]
 fn what_is_no_regular_file_is_neither_opened_nor_replaced(rt: HostRuntime) -> Result<(), Fail> {
@@ -242,12 +261,73 @@ fn what_is_no_regular_file_is_neither_opened_nor_replaced(rt: HostRuntime) -> Re
     confirm(written == Err(Fault::Device), "it is replaced")?;
     expect_bytes(&rt, top, "pipe", b"old")?;
     expect_entries(&rt, top, "", 1)?;
-    let data = found_path(rt.alloc(), top, &[String::from_str(rt.alloc(), "pipe")?])?;
-    let opened = open_data_file(&Device::new(&rt, Failing::Nothing), data.as_path());
+    let device = Device::new(&rt, Failing::Nothing);
+    let mut pool = HandlePool::new(rt.alloc(), device, 1)?;
+    let opened = open_data_file(&device, &mut pool, data_file(&rt, top, "pipe")?);
     confirm(opened.err() == Some(Fault::Device), "it is opened")?;
-    let read = open_data_file(&rt, data.as_path())?.is_some();
-    confirm(read, "a file is not opened")?;
+    let path = data_file(&rt, top, "pipe")?;
+    let opened = open_file(&device, path.as_path());
+    confirm(opened.err() == Some(Fault::Device), "it is digested")?;
+    let mut pool = HandlePool::new(rt.alloc(), rt.clone()?, 1)?;
+    let opened = open_data_file(&rt, &mut pool, data_file(&rt, top, "pipe")?)?;
+    confirm(opened.is_some(), "a file is not opened")?;
+    let opened = open_data_file(&rt, &mut pool, data_file(&rt, top, "absent")?)?;
+    confirm(opened.is_none(), "no file is opened")?;
     fs::remove_dir_all(&rt, top)?;
+    Ok(())
+}
+
+/// A folder with the files `a`, `b` and `last`, of one, three and one block, and a torrent of them.
+fn checked_folder(rt: &HostRuntime, name: &str) -> Result<String, Fail> {
+    let top = folder(rt, name)?;
+    let file = three_blocks(rt.alloc())?;
+    put_folder(rt, top.as_str(), "files")?;
+    put(rt, top.as_str(), "files/a", b"abc")?;
+    put(rt, top.as_str(), "files/b", front(&file, 49152))?;
+    put(rt, top.as_str(), "files/last", b"abc")?;
+    let made = "infohash 7ec7172cdd49fe657144b07afdc9c247fbafa78b1748b44e1e2ae6d47e9d633a\n";
+    expect(
+        rt,
+        top.as_str(),
+        "make @/files @/t --name n --piece-length 16384",
+        0,
+        made,
+        "",
+    )?;
+    Ok(top)
+}
+
+/// Checks the folder over a file system of which some calls fail, and expects this status, output and fault.
+fn expect_check(
+    rt: &HostRuntime,
+    top: &str,
+    failing: Failing,
+    status: u8,
+    output: &str,
+    faults: &str,
+) -> Result<(), Fail> {
+    let device = Device::new(rt, failing);
+    expect(&device, top, "check @/t @/files", status, output, faults)
+}
+
+#[test]
+fn a_read_that_fails_is_told_after_the_report(rt: HostRuntime) -> Result<(), Fail> {
+    let top = checked_folder(&rt, "reads")?;
+    let whole = "complete a\ncomplete b\ncomplete last\ncomplete\n";
+    let part = "complete a\n2 of 3 b\ncomplete last\nnot complete\n";
+    let fault = "btseed: device fault\n";
+    expect_check(&rt, top.as_str(), Failing::Nothing, 0, whole, "")?;
+    expect_check(&rt, top.as_str(), Failing::Reads, 3, part, fault)?;
+    fs::remove_dir_all(&rt, top.as_str())?;
+    Ok(())
+}
+
+#[test]
+fn a_file_that_cannot_be_opened_ends_a_check_unwritten(rt: HostRuntime) -> Result<(), Fail> {
+    let top = checked_folder(&rt, "opens")?;
+    let fault = "btseed: device fault\n";
+    expect_check(&rt, top.as_str(), Failing::Opens, 3, "", fault)?;
+    fs::remove_dir_all(&rt, top.as_str())?;
     Ok(())
 }
 

@@ -1,9 +1,8 @@
 //! The reading of files over readers that fail or give little.
 
-use super::tools::{THREE_ROOT, confirm, digest, front, three_blocks};
-use crate::data_file::{Finding, check_empty, check_file};
+use super::tools::{THREE_ROOT, digest, three_blocks};
 use crate::digests::digest_reader;
-use crate::fault::{DeviceFault, Fault};
+use crate::fault::Fault;
 use crate::pieces::PieceSize;
 use crate::reader::BUFFER_LEN;
 use crate::torrent_file::read_text;
@@ -49,34 +48,10 @@ fn slow_reader(bytes: &[u8], most: usize, fails_at: u32) -> Slow<'_> {
 
 const NEVER: u32 = u32::MAX;
 
-/// What is found of a reader that gives so many bytes at a time, as the file of three blocks.
-fn found_of(reader: &mut Slow<'_>) -> Result<Result<Finding, DeviceFault>, Fail> {
-    let geometry = Geometry::new(49152).ok_or("no geometry")?;
-    let root = digest(THREE_ROOT)?;
-    let mut buffer = [0; BUFFER_LEN];
-    Ok(check_file(reader, geometry, &root, &mut buffer))
-}
-
-/// Expects what is found of the first bytes of a file, so many, by a reader that gives at most so many at a time.
-fn expect_found(bytes: &[u8], most: usize, marked: u32, longer: bool) -> Result<(), Fail> {
-    let found = found_of(&mut slow_reader(bytes, most, NEVER))?;
-    let wanted = Finding {
-        blocks: 3,
-        marked,
-        longer,
-    };
-    confirm(found == Ok(wanted), "another finding")?;
-    Ok(())
-}
-
 #[test]
 fn short_reads_go_on(rt: HostRuntime) -> Result<(), Fail> {
     let file = three_blocks(rt.alloc())?;
     for most in [1, 7, 16384, 65536] {
-        expect_found(front(&file, 0), most, 0, false)?;
-        expect_found(front(&file, 49151), most, 0, false)?;
-        expect_found(front(&file, 49152), most, 3, false)?;
-        expect_found(front(&file, 49153), most, 3, true)?;
         let text = text_of(rt.alloc(), &mut slow_reader(&file, most, NEVER))?;
         assert_eq!(rt; text.as_slice(), file.as_slice());
     }
@@ -92,14 +67,8 @@ fn text_of(alloc: Global, reader: &mut Slow<'_>) -> Result<Vec<u8>, Fault> {
 fn a_read_that_fails_is_a_device_fault(rt: HostRuntime) -> Result<(), Fail> {
     let file = three_blocks(rt.alloc())?;
     for fails_at in 0..10 {
-        let found = found_of(&mut slow_reader(&file, 12288, fails_at))?;
-        assert_eq!(rt; found, Err(DeviceFault), "at read {fails_at}");
         let text = text_of(rt.alloc(), &mut slow_reader(&file, 12288, fails_at));
         assert!(rt; matches!(text, Err(Fault::Device)));
-    }
-    for fails_at in 0..2 {
-        let found = check_empty(&mut slow_reader(&file, 1, fails_at));
-        assert_eq!(rt; found, Err(DeviceFault));
     }
     Ok(())
 }

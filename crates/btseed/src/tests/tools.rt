@@ -4,6 +4,7 @@ use crate::program::run;
 use bt_tree::Hash32;
 use hex::FromHex;
 use std::alloc::{AllocError, Global};
+use std::rt::Files;
 use std::test::Fail;
 use std::{env, fs, process};
 
@@ -68,7 +69,11 @@ pub struct Answer {
 }
 
 /// Runs the program on the words of a line.
-fn answer_to(rt: &HostRuntime, top: &str, line: &str) -> Result<Answer, Fail> {
+fn answer_to<R: Files + AllocGlobal + Clone + Drop>(
+    rt: &R,
+    top: &str,
+    line: &str,
+) -> Result<Answer, Fail> {
     let words = words_of(rt.alloc(), top, line)?;
     let mut input: &[u8] = &[];
     let mut output = Vec::new(rt.alloc());
@@ -93,8 +98,8 @@ pub fn confirm(holds: bool, otherwise: &'static str) -> Result<(), &'static str>
 }
 
 /// Runs the program on the words of a line, and expects this status, output and fault.
-pub fn expect(
-    rt: &HostRuntime,
+pub fn expect<R: Files + AllocGlobal + Clone + Drop>(
+    rt: &R,
     top: &str,
     line: &str,
     status: u8,

@@ -1,7 +1,11 @@
--- The findings so far are of the entries so far.
-use Rattle.std.proofs.Common.{take}
-use Rattle.btseed.proofs.ReportLines.{AreFindings}
+-- The files so far are reported.
+use Rattle.std.proofs.Common.{map}
+use Rattle.std.specs.Vec.Iter.{into_iter_items}
+use Rattle.btseed.specs.DataFile.{file_at}
+use Rattle.btseed.proofs.ReportLines.{IsReporting}
 use Rattle.btseed.proofs.check.check_files.Given as goal
 
 abbrev pub invariant-loop-file : goal.invariant-loop-file
-invariant-loop-file g l = AreFindings l.size.layer (take l.file-index l.entries) l.found.items
+invariant-loop-file g l =
+    IsReporting l.size.layer (map file_at l.fn.files.items) (map file_at (into_iter_items l.file-iterator)) l.summary
+    (g.W.Write.contents l.fn.writer) (g.W.Write.contents l.writer)

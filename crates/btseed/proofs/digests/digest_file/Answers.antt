@@ -1,7 +1,6 @@
 use Rattle.std.proofs.Common.{ap, ◌-◌, refl, arith}
 use Rattle.bt_tree.specs.RootBuilder.{BuilderState}
-use Rattle.btseed.proofs.DataFileFinding.{root_covers}
-use Rattle.btseed.proofs.DigestFile.{layer_inside, long_file}
+use Rattle.btseed.proofs.DigestFile.{root_covers, layer_inside, long_file}
 use Rattle.btseed.proofs.digests.digest_file.Goals as goal
 
 pub read_node-requires-clause-all : goal.read_node-requires-clause-all

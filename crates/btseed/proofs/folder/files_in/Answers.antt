@@ -1,5 +1,5 @@
 use Rattle.std.proofs.lemmas.List.Elements.{All-push, All-same}
-use Rattle.btseed.proofs.FolderWalk.{IsFileNamed, IsNamed, popped, puts_named, walk_begun}
+use Rattle.btseed.proofs.FolderWalk.{IsFileNamed, popped, puts_named, walk_begun}
 use Rattle.btseed.proofs.folder.files_in.Goals as goal
 use Rattle.btseed.proofs.folder.files_in.Goals.{in-File+in_ok-push-in-File, in-Folder+in_ok-push_entries-in-Folder}
 
