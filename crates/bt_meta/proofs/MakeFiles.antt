@@ -22,6 +22,8 @@ use Rattle.std.proofs.lemmas.Bool.{true≢false, and_parts, or_parts, or_from, f
 use Rattle.std.proofs.lemmas.Cmp.{tied_itself}
 use Rattle.std.proofs.lemmas.List.Kept.{AllPairs-cons}
 use Rattle.std.proofs.lemmas.Map.Keys.{IsDistinct-IsPermutation}
+use Rattle.std.proofs.lemmas.Map.Lookups.{exact_bytes}
+use Rattle.std.proofs.Math.Bool.{or_comm}
 use Rattle.std.proofs.lemmas.Slice.Eq.{bytes_eq-Decides}
 use Rattle.bt_meta.specs.Faults.{first_of, is_element, is_path, is_piece_length}
 use Rattle.bt_meta.specs.PropertySteps.{Lengths, length_at, is_other_length, NotesLength}
@@ -38,7 +40,6 @@ use Rattle.bt_meta.proofs.Lists.{parts_at}
 use Rattle.bt_meta.proofs.TreeWalk.{with_earlier-append}
 use Rattle.bt_meta.specs.EncodeSteps.{given_at}
 use Rattle.bt_meta.specs.Writer.{is_overlap, have_overlap, IsNotMade, no_memory, unlawful}
-use Rattle.bt_meta.proofs.EncodeValue.{same_bytes}
 use Rattle.bt_meta.specs.declared.writer.MakeError.TheVariants.{PieceLength, Count}
 
 -- ==== what was taken of the files
@@ -165,7 +166,7 @@ begins_between (n ∷ p) (k ∷ q) (m ∷ r) first second h =
     by_names Equal is same later =
         let back : slice_cmp nat_cmp k n ≡ Equal = nat_list_cmp_total.antisymm k n ∙ ap ordering_reverse (sym is) in
         let on : slice_cmp nat_cmp m k ≡ Equal = rw (← same) (sym is) in
-        rw ((bytes_eq-Decides n k).1 (same_bytes n k (sym is))) (later (rw back at first) (rw on at second))
+        rw ((bytes_eq-Decides n k).1 (exact_bytes n k (sym is))) (later (rw back at first) (rw on at second))
 
 -- a path that begins another, and does not stand before it, is the other
 begins_back : (r p : List (List ℕ)) → begins r p ≡ true → is_lt (path_order r p) ≡ false → begins p r ≡ true
@@ -179,12 +180,6 @@ begins_back (m ∷ r) (n ∷ p) h up =
     rw ((bytes_eq-Decides n m).1 (sym same)) (begins_back r p parts.1 (rw level at up))
 
 -- ---- pairs of files
-
-flipped_or : (b c : Bool) → (b || c) ≡ (c || b)
-flipped_or true true = refl
-flipped_or true false = refl
-flipped_or false true = refl
-flipped_or false false = refl
 
 any_none : (f : Given) (files : List Given) → (list_any (is_overlap f) files ≡ false) ↔ AllByRecursion (λ g. is_overlap f g ≡ false) files
 any_none f [] = ((λ h. tt), λ h. refl)
@@ -225,7 +220,7 @@ distinct_pairs (f ∷ files) =
 -- in another order no other files overlap
 none_in : (files ordered : List Given) → IsPermutation files ordered → have_overlap files ≡ false → have_overlap ordered ≡ false
 none_in files ordered same h = (none_distinct ordered).1
-    (IsDistinct-IsPermutation _ (λ f g. flipped_or (begins f.path g.path) (begins g.path f.path)) files ordered same ((none_distinct files).0 h))
+    (IsDistinct-IsPermutation _ (λ f g. or_comm (begins f.path g.path) (begins g.path f.path)) files ordered same ((none_distinct files).0 h))
 
 pub same_overlap : (files ordered : List Given) (b : Bool) → IsPermutation files ordered → b ≡ have_overlap ordered → have_overlap files ≡ b
 same_overlap files ordered true same is = true_from_ne_false _ (λ none. true≢false (is ∙ none_in _ _ same none))
@@ -309,7 +304,7 @@ tied_begins (n ∷ p) (m ∷ q) e = by_names _ refl (tied_begins p q)
     by_names : (o : Ordering) → o ≡ slice_cmp nat_cmp n m → (path_order p q ≡ Equal → begins p q ≡ true) → begins (n ∷ p) (m ∷ q) ≡ true
     by_names Less is later = let f : Less ≡ Equal = rw (← is) at e in cc
     by_names Greater is later = let f : Greater ≡ Equal = rw (← is) at e in cc
-    by_names Equal is later = rw ((bytes_eq-Decides n m).1 (same_bytes n m (sym is))) (later (rw (← is) at e))
+    by_names Equal is later = rw ((bytes_eq-Decides n m).1 (exact_bytes n m (sym is))) (later (rw (← is) at e))
 
 before_next : (p q : List (List ℕ)) (o : Ordering) → o ≡ path_order p q → is_lt (path_order q p) ≡ false → begins p q ≡ false → path_order p q ≡ Less
 before_next p q Less is up apart = sym is
