@@ -120,9 +120,9 @@ module _ (name : List ℕ) (path : List (List ℕ)) (es : List (Vec ℕ × Value
       elim behind [
         | inl before ↦ absurd (not_greater _ (itself name) (before_last name name _ _ (rw whole at before)))
         | inr last ↦
-            let p = last_same _ _ name name _ _ (sym whole ∙ last.last) in
+            let p = last_same _ _ _ _ _ _ (sym whole ∙ last.last) in
             let i : inner ≡ last.inner = cc in
-            opened_within name path _ _ _ whole (rw p.0 last.before) (rw i last.behind)
+            opened_within _ _ _ _ _ whole (rw p.0 last.before) (rw i last.behind)
       ]
 
   -- it is none

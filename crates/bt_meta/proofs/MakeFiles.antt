@@ -141,7 +141,7 @@ sorted_map key lt (x ∷ xs) h k d low next =
 pub in_order : (files : List Given) (before after : List (Bor Made)) → map given_at before ≡ files → IsPermutation before after → IsSortedBy lent_before after
     → IsInTreeOrder files (map given_at after)
 in_order files before after same permuted sorted = record {
-  same = rw (← same) (IsPermutation-map _ before after permuted);
+  same = rw (← same) (IsPermutation-map _ _ after permuted);
   ascending = sorted_map _ is_before after sorted;
 }
 
@@ -220,7 +220,7 @@ distinct_pairs (f ∷ files) =
 -- in another order no other files overlap
 none_in : (files ordered : List Given) → IsPermutation files ordered → have_overlap files ≡ false → have_overlap ordered ≡ false
 none_in files ordered same h = (none_distinct ordered).1
-    (IsDistinct-IsPermutation _ (λ f g. or_comm (begins f.path g.path) (begins g.path f.path)) files ordered same ((none_distinct files).0 h))
+    (IsDistinct-IsPermutation _ (λ f g. or_comm (begins f.path g.path) (begins g.path f.path)) files _ same ((none_distinct files).0 h))
 
 pub same_overlap : (files ordered : List Given) (b : Bool) → IsPermutation files ordered → b ≡ have_overlap ordered → have_overlap files ≡ b
 same_overlap files ordered true same is = true_from_ne_false _ (λ none. true≢false (is ∙ none_in _ _ same none))
@@ -263,7 +263,7 @@ overlap_found files i m n some lt first second h =
     let on : i - 1 + 1 ≡ i = omega arith in
     let long : length (map given_at files) ≡ length files = length-map _ _ in
     sym (true_from_ne_false _ (λ none.
-    true≢false (sym h ∙ (rw (on, lent_is files (i - 1) m _ (omega arith) first, lent_is files i n _ lt second) at
+    true≢false (sym h ∙ (rw (on, lent_is files _ m _ (omega arith) first, lent_is files i n _ lt second) at
     (next_apart (map given_at files) none (i - 1) (given_at m) (omega arith))))))
 
 -- ==== whether a path begins the next one, and the first refusal
@@ -287,7 +287,7 @@ apart_more files i m n some lt first second apart h k d below = elim (cases_lt _
   | inr here ↦
       let last : k ≡ i - 1 = omega arith in
       let next : k + 1 ≡ i = omega arith in
-      rw (next, last, lent_is files _ m d (omega arith) first, lent_is files i n d lt second) apart
+      rw (next, last, lent_is files _ m d (omega arith) first, lent_is _ i n d lt second) apart
 ]
 
 pub apart_found : (files : List (Bor Made)) (i : ℕ) → AreApartTo files i → length files ≤ i → AreApart (map given_at files)
