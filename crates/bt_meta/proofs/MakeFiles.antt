@@ -234,8 +234,6 @@ AreApart files = (k : ℕ) (d : Given) → k + 1 < length files → begins (get_
 
 pub next_apart : (files : List Given) → have_overlap files ≡ false → AreApart files
 next_apart files h k d lt =
-    let f = get_or files k d in
-    let g = get_or files (k + 1) d in
     (or_parts _ _ ((distinct_pairs _).0 ((none_distinct _).0 h) k (k + 1) d (omega arith) lt)).0
 
 module _ (files : List Given) (up : IsSortedBy is_before files) where

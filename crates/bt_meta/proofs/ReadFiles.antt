@@ -92,7 +92,6 @@ module _ (n : ℕ) (before : List TreeEntry) (p : TreeEntry) where
       ∷ (if is_file p then first_of (file_checks before p) else None)
       ∷ fault_if (is_too_many n before p) TooMany
       ∷ [] in
-      let properties = properties_of p in
       let own = each_none checks h in
       let of_file : is_file p ≡ true → AreNone (file_checks before p) =
       λ file. each_none (file_checks before p) (ap (λ b. if b then first_of (file_checks before p) else None) (sym file) ∙ own.1.1.0) in
