@@ -77,7 +77,8 @@ module _ (key : List ℕ) where
   found_nowhere : (es : List (Vec ℕ × Value)) → ((i : ℕ) (d : Vec ℕ × Value) → i < length es → entry_cmp key (get_or es i d) ≡ Equal → ⊥)
       → None ≡ first_value_of (entries_of es) key
   found_nowhere [] h = refl
-  found_nowhere (x ∷ xs) h = found_nowhere xs (λ i d lt. h (suc i) d (omega arith)) ∙ sym (other_head x.0.items key (data_of x.1) (entries_of xs) (h 0 x (omega arith)))
+  found_nowhere (x ∷ xs) h =
+      found_nowhere xs (λ i d lt. h (suc i) d (omega arith)) ∙ sym (other_head x.0.items key (data_of x.1) (entries_of xs) (h 0 x (omega arith)))
 
   module _ (es : List (Vec ℕ × Value)) (ascend : EntriesAscend (entries_of es)) where
     sorted : IsSortedBy (λ a b. is_lt (slice_cmp nat_cmp a.0.items b.0.items)) es

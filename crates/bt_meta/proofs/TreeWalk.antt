@@ -299,11 +299,13 @@ module _ {path : List (List ℕ)} {name : List ℕ} {properties : Data} {p : Tre
             bad_root n _ p at.node at.named at.file (checks_are f.faultless) both ∙ ap Some (sym other.0))
       ]
 
-      module _ {lengths : Lengths} (noted : NotesLength old.lengths lengths facts.root facts.length) (pieces : ℕ) (sum : pieces ≡ old.pieces + div_ceil facts.length n) where
+      module _ {lengths : Lengths} (noted : NotesLength old.lengths lengths facts.root facts.length)
+          (pieces : ℕ) (sum : pieces ≡ old.pieces + div_ceil facts.length n) where
         no_conflict : {before : List TreeEntry} → IsWalkOver n before old → has_conflict before p ≡ false
         no_conflict h = rw (← h.lengths (root_of p) (length_of p), ← root_is, ← long) noted.alike
 
-        pub many_stop : (max_path_length ≤ length path) ⊎ ((max_file_count ≤ length old.files.items) ⊎ (max_piece_count < pieces)) → Stops n (p ∷ []) old TooMany
+        pub many_stop : (max_path_length ≤ length path) ⊎ ((max_file_count ≤ length old.files.items) ⊎ (max_piece_count < pieces))
+            → Stops n (p ∷ []) old TooMany
         many_stop over = stops_at {n = n} {old = old} (λ before h.
             let count : length old.files.items ≡ length (filter is_file before) = count_of_files n _ _ h.files in
             let deep = path_length in

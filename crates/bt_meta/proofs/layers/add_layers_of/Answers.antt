@@ -24,7 +24,8 @@ returns-in_err-add_layer-clause-refused c =
     let q = err_from_is_err_and c.from_residual.result c.from_residual.ensures.1 in
     let less : c.loop-file.file-index < length c.args.files.now = c.loop-file-test.true in
     let lt : c.loop-file.file-index < length c.loop-file.files = omega arith in
-    let item = unchanged_item file_of _ c.loop-file.file-index c.args.files.now c.loop-file.files c.file-item.result lt less c.file-item.is c.loop-file.invariant.changed in
+    let item = unchanged_item file_of _ c.loop-file.file-index c.args.files.now c.loop-file.files c.file-item.result lt less c.file-item.is
+    c.loop-file.invariant.changed in
     rw (q.1, q.2, map-map) (refused_at
     (λ (f : FileEntry). layer_fault c.args.piece_length (dictionary (entries_of c.args.entries.now))
     (file_of f)) c.loop-file.file-index c.args.files.now c.file-item.result less item c.loop-file.invariant.faultless

@@ -79,7 +79,8 @@ returns-clause-made c =
       spelled = spelled;
       torrent = torrent_of_given _ _ _ ordered _ _
           (sym c.if-not-is_lawful_length.ensures)
-          c.if-is_empty.ensures c.in_ok-check_files.ensures.checked c.in_ok-check_files.ensures.rooted c.in_ok-ordered.ensures apart value.layered small spelled;
+          c.if-is_empty.ensures c.in_ok-check_files.ensures.checked c.in_ok-check_files.ensures.rooted c.in_ok-ordered.ensures apart
+          value.layered small spelled;
       small = small;
     }
 
