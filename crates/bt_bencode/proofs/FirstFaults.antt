@@ -1,5 +1,6 @@
 -- What the first fault of some bytes tells of them.
-use Rattle.std.proofs.Common.{◌⊎◌, inl, inr, true, ◌≡◌, ◌≢◌, Bool, ℕ, ◌^◌, ◌<◌, ◌≤◌, List, [], length, take, drop, refl, sym, ap, ◌∙◌, arith, length-drop, length-append}
+use Rattle.std.proofs.Common.{◌⊎◌, inl, inr, true, ◌≡◌, ◌≢◌, Bool, ℕ, ◌^◌, ◌<◌, ◌≤◌, List, [], length, take, drop, refl, sym, ap, ◌∙◌, arith}
+use Rattle.std.proofs.Common.{length-drop, length-append}
 use Rattle.std.proofs.lemmas.List.{append-nil}
 use Rattle.bt_bencode.specs.Value.{Data}
 use Rattle.bt_bencode.specs.Spelling.{spelling_of}

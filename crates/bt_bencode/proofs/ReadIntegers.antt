@@ -111,7 +111,8 @@ module _ (bytes : List ℕ) (at : ℕ) (negative : Bool) (signed : IsSigned nega
         → let z = signed_number negative (digits_value 10 (slice_range bytes (at + 1 + from_bool negative) end)) in SomeIff r (FitsSigned w64 z) z
     said_at r says = said_of _ _ r parts.digits (rw (slice_of_sign _ _ at end signed numeral.forward) at says)
 
-    pub integer_found : (z : ℤ) → at < length bytes → get_or bytes at 0 ≡ 105 → Says (slice_range bytes (at + 1) end) (Some z) → ReadsInteger bytes at (end + 1) z
+    pub integer_found : (z : ℤ) → at < length bytes → get_or bytes at 0 ≡ 105 → Says (slice_range bytes (at + 1) end) (Some z)
+        → ReadsInteger bytes at (end + 1) z
     unfolding spelling_of
     integer_found z lt first says =
         let n = digits_value 10 (slice_range bytes (at + 1 + from_bool negative) end) in

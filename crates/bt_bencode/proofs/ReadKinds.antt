@@ -27,7 +27,8 @@ module _ (n : ℕ) (bytes : List ℕ) (at : ℕ) where
         (rw (drop_first at bytes) d) (rw (drop_first at bytes) digit),
   )
 
-  pub string_stops : IsAsciiDigit (get_or bytes at 0) → (f : Fault) (offset : ℕ) → FaultFrom StringStops bytes at f offset → FaultFrom (Stops n) bytes at f offset
+  pub string_stops : IsAsciiDigit (get_or bytes at 0) → (f : Fault) (offset : ℕ) → FaultFrom StringStops bytes at f offset
+      → FaultFrom (Stops n) bytes at f offset
   string_stops digit f offset h = (h.0, in_string n (drop at bytes) f (drop offset bytes) (rw (drop_first at bytes) digit) h.1)
 
   pub integer_value : (end : ℕ) (z : ℤ) → ReadsInteger bytes at end z → ReadsValue n bytes at end (integer z)

@@ -26,7 +26,7 @@ pub entries_spelling-push : (es : List (Vec ℕ × Data)) (key : Vec ℕ) (d : D
 unfolding entries_spelling
 entries_spelling-push [] key d = append-nil (string_spelling key.items ++ spelling_of d)
 entries_spelling-push (e ∷ es) key d =
-    rw (entries_spelling-push es key d) (sym (append_assoc (string_spelling e.0.items ++ spelling_of e.1) (entries_spelling (entries_from es)) (string_spelling key.items ++ spelling_of d)))
+    rw (entries_spelling-push es key d) (sym (append_assoc (string_spelling e.0.items ++ spelling_of e.1) _ _))
 
 list-push : (n : ℕ) (ds : List Data) (d : Data) → 0 < n → IsCanonicalWithin n (list (items_from ds)) → IsCanonicalWithin (n - 1) d
     → IsCanonicalWithin n (list (items_from (ds ++ d ∷ [])))
@@ -42,9 +42,14 @@ unfolding nesting_of HasAscendingKeys HasSmallIntegers
 dictionary-push n [] key d some so_far last here =
     record { nesting = omega (arith, here.nesting); keys = (tt, here.keys, tt); integers = (here.integers, tt) }
 dictionary-push n (e ∷ []) key d some so_far last here =
-    record { nesting = omega (arith, here.nesting, so_far.nesting); keys = (last, so_far.keys.1, (tt, here.keys, tt)); integers = (so_far.integers.0, (here.integers, tt)) }
+    record {
+      nesting = omega (arith, here.nesting, so_far.nesting);
+      keys = (last, so_far.keys.1, (tt, here.keys, tt));
+      integers = (so_far.integers.0, (here.integers, tt));
+    }
 dictionary-push n (e ∷ f ∷ es) key d some so_far last here =
-    let rest = dictionary-push n (f ∷ es) key d some (record { nesting = omega (arith, so_far.nesting); keys = so_far.keys.2; integers = so_far.integers.1 }) last here in
+    let rest = dictionary-push n (f ∷ es) key d some
+    (record { nesting = omega (arith, so_far.nesting); keys = so_far.keys.2; integers = so_far.integers.1 }) last here in
     record {
       nesting = omega (arith, so_far.nesting, rest.nesting);
       keys = (so_far.keys.0, so_far.keys.1, rest.keys);
@@ -159,7 +164,8 @@ module _ (n : ℕ) (bytes : List ℕ) (at next : ℕ) (deep : n ≡ suc (n - 1))
           (λ canonical. in_key (n - 1) (entries_of es) _ f _ canonical (λ e. going (sym (drop_first next bytes) ∙ e)) h.1),
     )
 
-    pub order_stops : (key : List ℕ) (colon : ℕ) → ReadsString bytes next colon key → ¬ EndsBefore (entries_of es) key → FaultFrom (Stops n) bytes at key_order next
+    pub order_stops : (key : List ℕ) (colon : ℕ) → ReadsString bytes next colon key → ¬ EndsBefore (entries_of es) key
+        → FaultFrom (Stops n) bytes at key_order next
     order_stops key colon string order = (
       so_far.inside,
       parts_stop 100 _ _ _ _ so_far

@@ -31,7 +31,7 @@ nothing_below path (dictionary es) e = cc
 pub entries_below : (path : List (List ℕ)) (v : Value) (entries : Vec (Vec ℕ × Value)) (es : List (Vec ℕ × Value)) → v ≡ views.Dict entries → es ≡ entries.items
     → tree_entries_below path (data_of v) ≡ tree_entries_among path (entries_of es)
 unfolding tree_entries_below
-entries_below path v entries es is same = rw (is, data_of-Dict entries, same) refl
+entries_below path v entries es is same = rw (is, data_of-Dict _, same) refl
 
 pub single_entry : (es : List (Vec ℕ × Value)) → (length es == 1) ≡ is_single (dictionary (entries_of es))
 single_entry [] = refl

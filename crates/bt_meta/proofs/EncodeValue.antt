@@ -10,6 +10,7 @@ use Rattle.std.specs.declared.cmp.Ordering.TheVariants.{Equal, Greater, Less}
 use Rattle.std.proofs.lemmas.Cmp.{tied_itself}
 use Rattle.std.proofs.lemmas.Map.Text.{is_eq-slice_cmp}
 use Rattle.std.proofs.lemmas.Bool.{true≢false, cases_Bool, and_parts, false_from_ne_true}
+use Rattle.std.proofs.lemmas.Map.Lookups.{exact_bytes}
 use Rattle.std.proofs.lemmas.Slice.Eq.{bytes_eq-Decides}
 use Rattle.std.specs.Borrow.{Bor}
 use Rattle.std.specs.List.{fold, All}
@@ -119,9 +120,9 @@ module _ (name : List ℕ) (path : List (List ℕ)) (es : List (Vec ℕ × Value
       elim behind [
         | inl before ↦ absurd (not_greater _ (itself name) (before_last name name _ _ (rw whole at before)))
         | inr last ↦
-            let p = last_same _ _ name name _ _ (sym whole ∙ last.last) in
+            let p = last_same _ _ _ _ _ _ (sym whole ∙ last.last) in
             let i : inner ≡ last.inner = cc in
-            opened_within name path _ _ _ whole (rw p.0 last.before) (rw i last.behind)
+            opened_within _ _ _ _ _ whole (rw p.0 last.before) (rw i last.behind)
       ]
 
   -- it is none
@@ -204,9 +205,6 @@ module _ (m n : List ℕ) (less : slice_cmp nat_cmp n m ≡ Less) where
   all_above d no_entries named h = (nat_list_cmp_total.antisymm m n ∙ ap ordering_reverse less, named, tt)
   all_above d (entry key e es) named h = (above key h.0, h.1, all_above d es named h.2)
 
-pub same_bytes : (n m : List ℕ) → slice_cmp nat_cmp n m ≡ Equal → n ≡ m
-same_bytes n m e = (bytes_eq-Decides n m).0 (sym (is_eq-slice_cmp n m) ∙ ap is_eq e)
-
 rest_apart : (n m : List ℕ) (b : Bool) → n ≡ m → (pointwise nat_eq n m && b) ≡ false → b ≡ false
 rest_apart n m b e apart =
     let one : pointwise nat_eq n m ≡ true = (bytes_eq-Decides n m).1 e in
@@ -223,7 +221,7 @@ next_behind (n ∷ p) (m ∷ q) d es new named put less apart =
         → ComesAfter (m ∷ q) (entries_before put.earlier (entry n (dictionary put.more) no_entries))
     by_order Less e later = inl (all_above m n (sym e) _ _ named.0 put.before)
     by_order Equal e later =
-        let same : n ≡ m = same_bytes n m (sym e) in
+        let same : n ≡ m = exact_bytes n m (sym e) in
         let rest : path_order p q ≡ Less = rw (← e) at less in
         inr (record {
           earlier = put.earlier;

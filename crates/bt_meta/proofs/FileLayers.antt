@@ -72,12 +72,13 @@ module _ (key : List ℕ) where
   found_at (x ∷ xs) zero d h lt e = rw ((bytes_eq-Decides _ _).1 e) refl
   found_at (x ∷ xs) (suc i) d h lt e =
       let less : slice_cmp nat_cmp x.0.items key ≡ Less = rw e at (before_head x _ i d h (omega arith)) in
-      found_at xs i d h.2 (omega arith) e ∙ sym (other_head x.0.items key _ _ (λ tied. cc))
+      found_at xs i d h.2 (omega arith) e ∙ sym (other_head _ key _ _ (λ tied. cc))
 
   found_nowhere : (es : List (Vec ℕ × Value)) → ((i : ℕ) (d : Vec ℕ × Value) → i < length es → entry_cmp key (get_or es i d) ≡ Equal → ⊥)
       → None ≡ first_value_of (entries_of es) key
   found_nowhere [] h = refl
-  found_nowhere (x ∷ xs) h = found_nowhere xs (λ i d lt. h (suc i) d (omega arith)) ∙ sym (other_head x.0.items key (data_of x.1) (entries_of xs) (h 0 x (omega arith)))
+  found_nowhere (x ∷ xs) h =
+      found_nowhere xs (λ i d lt. h (suc i) d (omega arith)) ∙ sym (other_head x.0.items key (data_of x.1) (entries_of xs) (h 0 x (omega arith)))
 
   module _ (es : List (Vec ℕ × Value)) (ascend : EntriesAscend (entries_of es)) where
     sorted : IsSortedBy (λ a b. is_lt (slice_cmp nat_cmp a.0.items b.0.items)) es
@@ -153,7 +154,7 @@ module _ {A : Type 0} (check : A → Check) (i : ℕ) (xs : List A) (e : A) (lt 
   faultless_more c = rw (take_more _ i e lt, ← is, map_push _ _ e, first_of-append _ _ h, c) refl
 
   faulty_at : {fault : MetaError} → check e ≡ Some fault → first_of (map check xs) ≡ Some fault
-  faulty_at c = ap (λ ys. first_of (map check ys)) (parts_at xs i e lt is)
+  faulty_at c = ap (λ ys. first_of (map check ys)) (parts_at _ i e lt is)
       ∙ rw (map-append _ _ _, first_of-append _ _ h, c) refl
 
   pub refused_at : {fault : MetaError} → Refuses (check e) fault → Refuses (first_of (map check xs)) fault

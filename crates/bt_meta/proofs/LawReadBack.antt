@@ -6,7 +6,8 @@ use Rattle.bt_bencode.specs.Doc.{IsCanonical}
 use Rattle.bt_bencode.specs.Law.{IsRepresentable}
 use Rattle.bt_bencode.specs.Error.{AtFault}
 use Rattle.bt_bencode.specs.declared.error.BencodeError.{BencodeError}
-use Rattle.bt_bencode.specs.declared.error.BencodeError.TheVariants.{Truncated, BadByte, LeadingZero, IntRange, KeyOrder, TooDeep, Trailing, OutOfMemory as no_memory_left}
+use Rattle.bt_bencode.specs.declared.error.BencodeError.TheVariants.{Truncated, BadByte, LeadingZero, IntRange, KeyOrder, TooDeep, Trailing}
+use Rattle.bt_bencode.specs.declared.error.BencodeError.TheVariants.{OutOfMemory as no_memory_left}
 use Rattle.bt_bencode.proofs.ReadingLaws.{begins_once}
 use Rattle.bt_bencode.proofs.Representable.{representable}
 use Rattle.bt_meta.specs.Faults.{first_fault, info_of, layers_of}
@@ -42,7 +43,7 @@ for_memory d bytes no_memory_left canonical spelled none = refl
 pub refused_for_memory : IsRefusedForMemoryAlone
 refused_for_memory bytes torrent e h (no_memory) = refl
 refused_for_memory bytes torrent e h (too_long long) = let small = h.small in absurd (omega arith)
-refused_for_memory bytes torrent e h (no_spelling fault small none) = for_memory h.value bytes fault h.canonical h.spelled none.spells_none
+refused_for_memory bytes torrent e h (no_spelling fault small none) = for_memory _ bytes fault h.canonical h.spelled none.spells_none
 refused_for_memory bytes torrent e h (faulty fault small found) =
     let same = same_value _ _ bytes small found.canonical found.spelled h.canonical h.spelled in
     let never : Some fault ≡ None = sym found.first ∙ ap first_fault same ∙ h.faultless in

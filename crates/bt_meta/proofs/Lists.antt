@@ -23,9 +23,9 @@ pub pairs_append : {A : Type 0} (R : A → A → Type 0) (xs ys : List A) → Al
 pairs_append R [] ys h k cross = k
 pairs_append R (x ∷ xs) ys h k cross =
     AllPairs-cons R x _
-    (All-append (R x) xs ys (λ i d within. h 0 (suc i) d (omega arith) (omega arith)) (All-head (λ z. All (R z) ys) x xs cross))
+    (All-append (R x) xs ys (λ i d within. h 0 (suc i) d (omega arith) (omega arith)) (All-head (λ z. All (R z) ys) x _ cross))
     (pairs_append R xs ys (λ i j d lt within. h (suc i) (suc j) d (omega arith) (omega arith)) k (All-tail (λ z. All (R z) ys) x _ cross))
 
 -- a list is its first i elements, the next one, and the rest
 pub parts_at : {A : Type 0} (xs : List A) (i : ℕ) (e : A) → i < length xs → e ≡ get_or xs i e → xs ≡ take i xs ++ e ∷ drop (i + 1) xs
-parts_at xs i e lt is = sym (take-append-drop i xs) ∙ ap (λ ys. take i xs ++ ys) (drop_more xs i e lt ∙ ap (λ x. x ∷ drop (i + 1) xs) (sym is))
+parts_at xs i e lt is = sym (take-append-drop i _) ∙ ap (λ ys. take i xs ++ ys) (drop_more _ i e lt ∙ ap (λ x. x ∷ drop (i + 1) xs) (sym is))

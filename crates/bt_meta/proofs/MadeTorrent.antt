@@ -134,8 +134,8 @@ pub tree_passes : (n : ℕ) (files : List Given) (tree : Entries) → IsTreeOf f
 unfolding tree_checks tree_entries_below has_key
 tree_passes n files tree h alike few pieces some =
     let es = tree_entries_among [] tree in
-    let pass = entries_pass n es h.good (rw h.tree_entries (alike_entries files alike)) (rw (h.tree_entries, length-map files _) few)
-    (rw h.tree_entries (rw (count_made n files) pieces)) [] es refl in
+    let pass = entries_pass n es h.good (rw h.tree_entries (alike_entries files alike)) (rw (h.tree_entries, length-map _ _) few)
+    (rw h.tree_entries (rw (count_made n _) pieces)) [] es refl in
     let there : list_any is_file es ≡ true = some_file es _ h.tree_entries (rw (length-map _ _) some) in
     rw (h.nameless) (first_of-append (with_earlier (entry_check n) [] es) _ pass ∙ rw there refl)
 
@@ -167,7 +167,7 @@ module _ (n : ℕ) (f : Given) (long : nat_lt n f.length ≡ true) where
   layer_of g h both =
       let parts = and_parts _ _ h in
       let rooted = (bytes_eq-Decides g.root f.root).0 parts.1 in
-      let sized = sym (both.1 (more_bytes n f.length long) (more_bytes n g.length parts.0) (sym rooted)) in
+      let sized = sym (both.1 (more_bytes n _ long) (more_bytes n _ parts.0) (sym rooted)) in
       let checks : List Check = fault_if (not (has_layer_size n g.length g.layer)) layer_size ∷ fault_if
       (not (has_root n g.length g.root g.layer)) layer_differs ∷ [] in
       let own = each_none checks (rw parts.0 at both.0.layer) in
@@ -309,12 +309,12 @@ torrent_of_given name n files ordered layers bytes lawful some none rooted order
     let named = ordered_named n given _ none order in
     let tree = tree_is n _ tree_paths named h.each (All-permutation HasRoot given _ order.same rooted) in
     let more : length files ≢ 0 = grind (arith, nat_tests) in
-    let as_many : length ordered ≡ length files = length_permutation given _ order.same ∙ length-map files _ in
+    let as_many : length ordered ≡ length files = length_permutation _ _ order.same ∙ length-map _ _ in
     record {
       value = value_made name n ordered layers;
       small = small;
-      canonical = canonical_made name n _ layers lawful tree_paths named (λ i d lt. (h.each i d lt).shallow) (λ i d lt. (h.each i d lt).short) layered;
+      canonical = canonical_made name n _ _ lawful tree_paths named (λ i d lt. (h.each i d lt).shallow) (λ i d lt. (h.each i d lt).short) layered;
       spelled = sym spelled;
-      faultless = made_passes name n _ layers layered tree lawful h (rw as_many more);
-      described = said name n _ layers layered tree;
+      faultless = made_passes name n _ _ layered tree lawful h (rw as_many more);
+      described = said name n _ _ layered tree;
     }

@@ -126,9 +126,9 @@ canonical_put (name ∷ path) m (suc n) d old new put some here le =
     let all : AreCanonicalWithin (n + 1) old = rw add-one some in
     let parts : AreCanonicalWithin (n + 1) put.earlier × AreCanonicalWithin n put.inner = elim put.split [
       | inl s ↦ (rw (← s.0) all, rw s.1 none_canonical)
-      | inr e ↦ let p = parts_canonical name _ _ (rw e at all) in (p.0, within_dictionary n put.inner p.1)
+      | inr e ↦ let p = parts_canonical name _ _ (rw e at all) in (p.0, within_dictionary n _ p.1)
     ] in
-    rw (← add-one, put.new_is) (last_canonical name _ _ put.before parts.0
+    rw (← add-one, put.new_is) (last_canonical _ _ _ put.before parts.0
     (dictionary_canonical n (canonical_put path m n d put.inner put.more put.below parts.1 here (omega arith))))
 
 -- ---- the tree of files
@@ -146,7 +146,7 @@ tree_canonical files tree_paths named low short =
     grows files tree_paths named (λ fs tree. AreCanonicalWithin 65 tree) none_canonical (λ i tree lt behind some.
     let f = get_or files i nothing in
     let depth = low i nothing lt in
-    canonical_put f.path 1 65 _ tree _ (put_there _ _ tree behind) some
+    canonical_put _ 1 65 _ tree _ (put_there _ _ tree behind) some
     (properties_canonical f (short i nothing lt)) (omega arith))
 
 -- ---- ascending entries, by the first value of each key
@@ -270,16 +270,16 @@ taken piece_length before f h =
     ∷ [] in
     let p = each_none all h in
     let q = each_none own p.0 in
-    let limits = within_limits (length f.path) _ _
+    let limits = within_limits _ _ _
     (not_faulty _ Count p.1.1.0) in
     record {
       lawful = record {
         path = holds_unless _ BadPath q.0;
-        short = leb-true f.length _ (holds_unless _ FileLength q.1.0);
+        short = leb-true f.length _ (holds_unless _ _ q.1.0);
         layer = q.1.1.0;
         shallow = limits.0;
       };
-      alike = not_faulty _ RootConflict p.1.0;
+      alike = not_faulty _ _ p.1.0;
       few = limits.1;
       pieces = limits.2;
     }
@@ -315,7 +315,7 @@ module _ (piece_length : ℕ) where
       let one = taken _ before f p.0 in
       let more : AreLawful piece_length (before ++ f ∷ []) = record {
         each = All-push (IsLawful piece_length) before f h.each one.lawful;
-        alike = alike_more before f h.alike (all_agree before f one.alike);
+        alike = alike_more _ f h.alike (all_agree _ f one.alike);
         few = one.few;
         pieces = one.pieces;
       } in
@@ -333,8 +333,8 @@ module _ (piece_length : ℕ) where
           pieces = omega arith;
         }) none in
         record {
-          each = All-permutation (IsLawful piece_length) files ordered order.same h.each;
-          alike = All-permutation (λ f. All (Agree f) ordered) files ordered order.same
+          each = All-permutation (IsLawful piece_length) files _ order.same h.each;
+          alike = All-permutation (λ f. All (Agree f) ordered) files _ order.same
               (λ i d lt. All-permutation (Agree (get_or files i d)) files _ order.same (h.alike i d lt));
           few = rw (length_permutation files _ order.same) h.few;
           pieces = rw (sum_by-IsPermutation (λ (g : Given). piece_count piece_length g.length) files _ order.same) h.pieces;
@@ -501,7 +501,7 @@ module _ (properties : Entries) (faultless : first_of (property_checks (dictiona
       record {
         good = λ h.
             let old_good = before.0 h in
-            All-cons IsGood (record { path = prefix; value = dictionary new }) (tree_entries_among prefix new) (good_folder prefix last short new none)
+            All-cons IsGood _ (tree_entries_among prefix new) (good_folder prefix last short new none)
             (rw whole (All-append IsGood ahead (with_folder inner put.more) old_good.0 (below.good old_good.1)));
         files = rw (
           folder_is_none prefix new none,

@@ -22,6 +22,8 @@ use Rattle.std.proofs.lemmas.Bool.{true≢false, and_parts, or_parts, or_from, f
 use Rattle.std.proofs.lemmas.Cmp.{tied_itself}
 use Rattle.std.proofs.lemmas.List.Kept.{AllPairs-cons}
 use Rattle.std.proofs.lemmas.Map.Keys.{IsDistinct-IsPermutation}
+use Rattle.std.proofs.lemmas.Map.Lookups.{exact_bytes}
+use Rattle.std.proofs.Math.Bool.{or_comm}
 use Rattle.std.proofs.lemmas.Slice.Eq.{bytes_eq-Decides}
 use Rattle.bt_meta.specs.Faults.{first_of, is_element, is_path, is_piece_length}
 use Rattle.bt_meta.specs.PropertySteps.{Lengths, length_at, is_other_length, NotesLength}
@@ -38,7 +40,6 @@ use Rattle.bt_meta.proofs.Lists.{parts_at}
 use Rattle.bt_meta.proofs.TreeWalk.{with_earlier-append}
 use Rattle.bt_meta.specs.EncodeSteps.{given_at}
 use Rattle.bt_meta.specs.Writer.{is_overlap, have_overlap, IsNotMade, no_memory, unlawful}
-use Rattle.bt_meta.proofs.EncodeValue.{same_bytes}
 use Rattle.bt_meta.specs.declared.writer.MakeError.TheVariants.{PieceLength, Count}
 
 -- ==== what was taken of the files
@@ -140,7 +141,7 @@ sorted_map key lt (x ∷ xs) h k d low next =
 pub in_order : (files : List Given) (before after : List (Bor Made)) → map given_at before ≡ files → IsPermutation before after → IsSortedBy lent_before after
     → IsInTreeOrder files (map given_at after)
 in_order files before after same permuted sorted = record {
-  same = rw (← same) (IsPermutation-map _ before after permuted);
+  same = rw (← same) (IsPermutation-map _ _ after permuted);
   ascending = sorted_map _ is_before after sorted;
 }
 
@@ -165,7 +166,7 @@ begins_between (n ∷ p) (k ∷ q) (m ∷ r) first second h =
     by_names Equal is same later =
         let back : slice_cmp nat_cmp k n ≡ Equal = nat_list_cmp_total.antisymm k n ∙ ap ordering_reverse (sym is) in
         let on : slice_cmp nat_cmp m k ≡ Equal = rw (← same) (sym is) in
-        rw ((bytes_eq-Decides n k).1 (same_bytes n k (sym is))) (later (rw back at first) (rw on at second))
+        rw ((bytes_eq-Decides n k).1 (exact_bytes n k (sym is))) (later (rw back at first) (rw on at second))
 
 -- a path that begins another, and does not stand before it, is the other
 begins_back : (r p : List (List ℕ)) → begins r p ≡ true → is_lt (path_order r p) ≡ false → begins p r ≡ true
@@ -179,12 +180,6 @@ begins_back (m ∷ r) (n ∷ p) h up =
     rw ((bytes_eq-Decides n m).1 (sym same)) (begins_back r p parts.1 (rw level at up))
 
 -- ---- pairs of files
-
-flipped_or : (b c : Bool) → (b || c) ≡ (c || b)
-flipped_or true true = refl
-flipped_or true false = refl
-flipped_or false true = refl
-flipped_or false false = refl
 
 any_none : (f : Given) (files : List Given) → (list_any (is_overlap f) files ≡ false) ↔ AllByRecursion (λ g. is_overlap f g ≡ false) files
 any_none f [] = ((λ h. tt), λ h. refl)
@@ -225,7 +220,7 @@ distinct_pairs (f ∷ files) =
 -- in another order no other files overlap
 none_in : (files ordered : List Given) → IsPermutation files ordered → have_overlap files ≡ false → have_overlap ordered ≡ false
 none_in files ordered same h = (none_distinct ordered).1
-    (IsDistinct-IsPermutation _ (λ f g. flipped_or (begins f.path g.path) (begins g.path f.path)) files ordered same ((none_distinct files).0 h))
+    (IsDistinct-IsPermutation _ (λ f g. or_comm (begins f.path g.path) (begins g.path f.path)) files _ same ((none_distinct files).0 h))
 
 pub same_overlap : (files ordered : List Given) (b : Bool) → IsPermutation files ordered → b ≡ have_overlap ordered → have_overlap files ≡ b
 same_overlap files ordered true same is = true_from_ne_false _ (λ none. true≢false (is ∙ none_in _ _ same none))
@@ -239,8 +234,6 @@ AreApart files = (k : ℕ) (d : Given) → k + 1 < length files → begins (get_
 
 pub next_apart : (files : List Given) → have_overlap files ≡ false → AreApart files
 next_apart files h k d lt =
-    let f = get_or files k d in
-    let g = get_or files (k + 1) d in
     (or_parts _ _ ((distinct_pairs _).0 ((none_distinct _).0 h) k (k + 1) d (omega arith) lt)).0
 
 module _ (files : List Given) (up : IsSortedBy is_before files) where
@@ -268,7 +261,7 @@ overlap_found files i m n some lt first second h =
     let on : i - 1 + 1 ≡ i = omega arith in
     let long : length (map given_at files) ≡ length files = length-map _ _ in
     sym (true_from_ne_false _ (λ none.
-    true≢false (sym h ∙ (rw (on, lent_is files (i - 1) m _ (omega arith) first, lent_is files i n _ lt second) at
+    true≢false (sym h ∙ (rw (on, lent_is files _ m _ (omega arith) first, lent_is files i n _ lt second) at
     (next_apart (map given_at files) none (i - 1) (given_at m) (omega arith))))))
 
 -- ==== whether a path begins the next one, and the first refusal
@@ -292,7 +285,7 @@ apart_more files i m n some lt first second apart h k d below = elim (cases_lt _
   | inr here ↦
       let last : k ≡ i - 1 = omega arith in
       let next : k + 1 ≡ i = omega arith in
-      rw (next, last, lent_is files _ m d (omega arith) first, lent_is files i n d lt second) apart
+      rw (next, last, lent_is files _ m d (omega arith) first, lent_is _ i n d lt second) apart
 ]
 
 pub apart_found : (files : List (Bor Made)) (i : ℕ) → AreApartTo files i → length files ≤ i → AreApart (map given_at files)
@@ -309,7 +302,7 @@ tied_begins (n ∷ p) (m ∷ q) e = by_names _ refl (tied_begins p q)
     by_names : (o : Ordering) → o ≡ slice_cmp nat_cmp n m → (path_order p q ≡ Equal → begins p q ≡ true) → begins (n ∷ p) (m ∷ q) ≡ true
     by_names Less is later = let f : Less ≡ Equal = rw (← is) at e in cc
     by_names Greater is later = let f : Greater ≡ Equal = rw (← is) at e in cc
-    by_names Equal is later = rw ((bytes_eq-Decides n m).1 (same_bytes n m (sym is))) (later (rw (← is) at e))
+    by_names Equal is later = rw ((bytes_eq-Decides n m).1 (exact_bytes n m (sym is))) (later (rw (← is) at e))
 
 before_next : (p q : List (List ℕ)) (o : Ordering) → o ≡ path_order p q → is_lt (path_order q p) ≡ false → begins p q ≡ false → path_order p q ≡ Less
 before_next p q Less is up apart = sym is

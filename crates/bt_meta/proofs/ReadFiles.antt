@@ -29,7 +29,7 @@ use Rattle.bt_meta.specs.Files.{layer_at}
 use Rattle.bt_meta.specs.Faults.{Check, first_of, fault_if, is_node, has_lawful_name, has_lawful_root, conflict, is_too_many, file_checks}
 use Rattle.bt_meta.specs.Faults.{entry_check, tree_checks, is_path_element, is_element, is_path, is_piece_length, piece_length_of, tree_of, info_of}
 use Rattle.bt_meta.specs.Faults.{layers_of, head_checks, info_checks, layer_check, layer_checks, layer_bytes_checks, first_fault, first_info_fault}
-use Rattle.bt_meta.specs.declared.error.MetaError.TheVariants.{Tree, BadPath, FileLength, BadRoot, TooMany, NoInfo, PieceLength, LayerMissing}
+use Rattle.bt_meta.specs.declared.error.MetaError.TheVariants.{Tree, BadPath, BadRoot, TooMany, NoInfo, PieceLength, LayerMissing}
 use Rattle.bt_meta.specs.declared.error.MetaError.TheVariants.{LayerSize, LayerDiffers}
 use Rattle.bt_meta.proofs.Checks.{AreNone, each_none, first_none, both_none, holds_unless, not_faulty}
 use Rattle.bt_meta.proofs.Lists.{none_of, All-front, All-back, pairs_append}
@@ -92,7 +92,6 @@ module _ (n : ℕ) (before : List TreeEntry) (p : TreeEntry) where
       ∷ (if is_file p then first_of (file_checks before p) else None)
       ∷ fault_if (is_too_many n before p) TooMany
       ∷ [] in
-      let properties = properties_of p in
       let own = each_none checks h in
       let of_file : is_file p ≡ true → AreNone (file_checks before p) =
       λ file. each_none (file_checks before p) (ap (λ b. if b then first_of (file_checks before p) else None) (sym file) ∙ own.1.1.0) in
@@ -100,12 +99,12 @@ module _ (n : ℕ) (before : List TreeEntry) (p : TreeEntry) where
         node = holds_unless _ Tree own.0;
         named = holds_unless _ BadPath own.1.0;
         sound = λ file. record {
-          short = lawful_is_short properties (holds_unless _ FileLength (of_file file).1.0);
-          rooted = lawful_root properties (holds_unless _ BadRoot (of_file file).1.1.0);
+          short = lawful_is_short _ (holds_unless _ _ (of_file file).1.0);
+          rooted = lawful_root _ (holds_unless _ BadRoot (of_file file).1.1.0);
           zeros = root_of_none _;
         };
         alike = λ file. not_faulty _ _ (of_file file).1.1.1.0;
-        few = not_faulty _ TooMany own.1.1.1.0;
+        few = not_faulty _ _ own.1.1.1.0;
       }
 
 agree_one : (before : List TreeEntry) (p : TreeEntry) → (is_file p ≡ true → has_conflict before p ≡ false) → All (λ q. Agrees q p) before
@@ -114,7 +113,7 @@ agree_one before p alike = λ k d within file_q file_p some_q some_p same.
     let filled : (length_of p == 0) ≡ false = grind (arith, nat_tests) in
     let none : list_any (conflict p) before ≡ false = rw filled at alike file_p in
     let found : is_conflict (root_of p) (length_of p) (root_of q) (length_of q) ≡ false = rw file_q at (none_of _ before none k d within) in
-    no_conflict (root_of p) _ (root_of q) _ found some_q same
+    no_conflict _ _ _ _ found some_q same
 
 within_count : (a : Bool) (files pieces : ℕ) → (a || (nat_lt max_file_count files || nat_lt max_piece_count pieces)) ≡ false
     → (files ≤ max_file_count) × (pieces ≤ max_piece_count)
@@ -140,7 +139,7 @@ module _ (n : ℕ) where
             (pieces_of n (before ++ p ∷ [])) (rw file at c.few)
         | inr folder ↦
             let same : filter is_file (before ++ p ∷ []) ≡ filter is_file before = filter-append is_file before (p ∷ [])
-            ∙ rw (folder, append-nil (filter is_file before)) refl in
+            ∙ rw (folder, append-nil _) refl in
             (rw same h.files, rw same h.pieces)
       ] in
       record {
@@ -173,7 +172,7 @@ module _ (n : ℕ) where
       let parts = both_none entries last behind_top.1 in
       let begun : AreChecked n [] = record {
         nodes = All-nil IsNode;
-        named = All-nil IsNamed;
+        named = All-nil _;
         sound = All-nil _;
         agree = λ i j d lt within. absurd (omega arith);
         files = omega arith;
@@ -239,7 +238,7 @@ mutual
 
   pub below_lawful : (path : List (List ℕ)) (d : Data) → IsFolderPath path → All IsNamed (tree_entries_below path d) → All HasPath (tree_entries_below path d)
   below_lawful path (integer z) p h = All-nil HasPath
-  below_lawful path (string s) p h = All-nil HasPath
+  below_lawful path (string s) p h = All-nil _
   below_lawful path (list ds) p h = All-nil _
   below_lawful path (dictionary es) p h = among_lawful path es p h
 
@@ -256,8 +255,8 @@ mutual
       let whole : IsFolderPath inner = more path name p (element byte bytes own) in
       let rest : All IsNamed (below ++ others) = All-tail IsNamed here _ h in
       All-cons HasPath here _ (both _ _ (some path name) whole)
-      (All-append HasPath below others (below_lawful inner d whole (All-front IsNamed below _ rest))
-      (among_lawful path es p (All-back IsNamed below _ rest)))
+      (All-append HasPath _ _ (below_lawful _ d whole (All-front IsNamed _ _ rest))
+      (among_lawful path es p (All-back IsNamed _ _ rest)))
 
 -- ==== where keys ascend, the paths of a tree's entries do
 
@@ -300,7 +299,7 @@ in_folder : (path : Path) (p : TreeEntry) → GoesOn path p → path_cmp path p.
 in_folder path p h = ap (path_cmp path) h.is ∙ longer path h.name h.rest
 
 behind_name : (path : Path) (key other : List ℕ) (rest more : Path) → IsBefore key other → path_cmp (path ++ key ∷ rest) (path ++ other ∷ more) ≡ Less
-behind_name path key other rest more less = behind_common path (key ∷ rest) (other ∷ more) (ap (λ o. ordering_then o (path_cmp rest more)) less)
+behind_name path key other rest more less = behind_common path _ _ (ap (λ o. ordering_then o (path_cmp rest more)) less)
 
 goes_behind : (path : Path) (key other : List ℕ) (p : TreeEntry) → IsBefore key other → GoesOn (path ++ other ∷ []) p → IsBehindName path key p
 goes_behind path key other p less h rest = ap (path_cmp (path ++ key ∷ rest)) (further_is path _ p h)
@@ -331,7 +330,7 @@ mutual
   below_goes_on path (dictionary es) = among_goes_on path es
 
   among_goes_on : (path : Path) (es : Entries) → All (GoesOn path) (tree_entries_among path es)
-  among_goes_on path no_entries = All-nil (GoesOn path)
+  among_goes_on path no_entries = All-nil _
   among_goes_on path (entry [] d es) = among_goes_on path es
   among_goes_on path (entry (byte ∷ bytes) d es) =
       let name = byte ∷ bytes in
@@ -339,12 +338,12 @@ mutual
       let here : TreeEntry = record { path = inner; value = d } in
       All-cons (GoesOn path) here _ (record { name = name; rest = []; is = refl })
       (All-append (GoesOn path) _ _
-      (All-weaker _ (GoesOn path) (further path name) _ (below_goes_on inner d)) (among_goes_on path es))
+      (All-weaker _ _ (further path name) _ (below_goes_on inner d)) (among_goes_on path es))
 
 -- the entries behind a key stand behind all that begin with it
 pub among_behind : (path : Path) (key : List ℕ) (es : Entries) → AreBehind key es → All (IsBehindName path key) (tree_entries_among path es)
 unfolding tree_entries_among
-among_behind path key no_entries h = All-nil (IsBehindName path key)
+among_behind path key no_entries h = All-nil _
 among_behind path key (entry [] d es) h = among_behind path key es h.1
 among_behind path key (entry (byte ∷ bytes) d es) h =
     let name = byte ∷ bytes in
@@ -382,7 +381,7 @@ mutual
       let others : List TreeEntry = tree_entries_among path es in
       let within : All (GoesOn inner) below = below_goes_on inner d in
       let behind : All (IsBehindName path name) others = among_behind path name es (all_behind name d es h) in
-      let rest : All IsNode (below ++ others) = All-tail IsNode here (below ++ others) nodes in
+      let rest : All IsNode (below ++ others) = All-tail IsNode here _ nodes in
       let node : is_node d ≡ true = All-head IsNode here _ nodes in
       AllPairs-cons IsAhead here _
       (All-append (IsAhead here) below others
@@ -462,7 +461,7 @@ module _ (n : ℕ) (layers : Data) where
       (layer_at n layers p) in
       let own = λ (some : layer_at n layers p ≢ []). each_none checks (ap (λ b. if b then first_of checks else None) (sym (long some)) ∙ h) in
       record {
-        long = λ some. ltb-true n (length_of p) (long some);
+        long = λ some. ltb-true n _ (long some);
         sized = λ some. holds_unless (has_layer_size n (length_of p) (layer_at n layers p)) LayerSize (own some).1.0;
         folds = λ some. holds_unless _ LayerDiffers (own some).1.1.0;
       }
@@ -575,7 +574,7 @@ lawful_info info layers keys h layered =
     let n = piece_length_of info in
     let tree = tree_of info in
     let parts = both_none (head_checks info) (tree_checks n tree) h in
-    lawful_tree n _ tree (tree_sound n tree parts.1) (at_key info _ keys) (head_lawful info parts.0) layered
+    lawful_tree n _ tree (tree_sound n tree parts.1) (at_key info _ keys) (head_lawful _ parts.0) layered
 
 pub info_keeps_to : (info : Data) → HasAscendingKeys info → first_info_fault info ≡ None → KeepsTo (metainfo_of info no_dictionary)
 unfolding first_info_fault
@@ -591,4 +590,4 @@ torrent_keeps_to value keys h =
     let checks : List Check = layer_checks n (layers_of value) (tree_of info) in
     let parts = both_none (info_checks info) checks
     (first_none (fault_if (is_none (dictionary_at value (codes "info"))) NoInfo) (info_checks info ++ checks) h).1 in
-    lawful_info info _ (at_key value (codes "info") keys) parts.0 (layered_tree n _ (tree_of info) parts.1)
+    lawful_info info _ (at_key value (codes "info") keys) parts.0 (layered_tree n _ _ parts.1)

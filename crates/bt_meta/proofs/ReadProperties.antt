@@ -1,6 +1,6 @@
 -- Path elements, and what is read of one file.
 use Rattle.std.proofs.Common.{◌≡◌, ◌≢◌, ℕ, true, false, List, length, Option, None, Some, refl, arith}
-use Rattle.std.specs.Prelude.{codes, not, ◌==◌, ◌||◌, replicate, if◌then◌else◌}
+use Rattle.std.specs.Prelude.{codes, ◌==◌, replicate, if◌then◌else◌}
 use Rattle.std.specs.List.{list_any}
 use Rattle.std.specs.Str.{IsUtf8}
 use Rattle.std.proofs.lemmas.Bool.{and_right, false_from_ne_true}
@@ -22,7 +22,6 @@ module _ (element : List ℕ) where
   pub refused_bytes : ¬ IsUtf8 element → None ≡ lawful
   unfolding is_path_element
   refused_bytes broken =
-      let names = not (is_dots element || list_any (λ b. b == slash) element || list_any (λ b. b == 0) element) in
       let refused : is_path_element element ≡ false =
       and_right _ _ (false_from_ne_true _ (λ t. broken (IsUtf8-from_is_utf8 _ t))) in
       rw refused refl

@@ -33,7 +33,7 @@ noted_now {old} {new} {root} {length} some alike noted = record {
   noted = λ other n.
       let test = is_eq-slice_cmp root other in
       ap (λ o. is_other_length o n) (noted other)
-      ∙ at length n _ (length_at old root) _ alike (λ e. ap (length_at old) ((bytes_eq-Decides root other).0 (sym test ∙ e)))
+      ∙ at length n _ _ _ alike (λ e. ap (length_at old) ((bytes_eq-Decides root other).0 (sym test ∙ e)))
       ∙ rw (test, some) refl;
 }
 

@@ -86,7 +86,7 @@ module _ {n : ℕ} {a : Walk} where
   stops_sooner xs ys {e} s = record {
     refused = λ before h. elim (s.refused before h) [
       | inl m ↦ inl m
-      | inr k ↦ inr (rw (with_earlier-append _ before xs ys) (first_of-append_some (with_earlier (entry_check n) before xs) _ e k))
+      | inr k ↦ inr (rw (with_earlier-append _ _ xs ys) (first_of-append_some (with_earlier (entry_check n) before xs) _ e k))
     ];
   }
 
@@ -138,7 +138,7 @@ module _ (path : List (List ℕ)) where
         ≡ tree_entries_among path (entries_of (take i es)) ++
         (tree_entries_of path e.0.items (data_of e.1) ++ tree_entries_among path (entries_of (drop (i + 1) es)))
     entries_split =
-        ap (λ xs. tree_entries_among path (entries_of xs)) (parts_at es i e lt is)
+        ap (λ xs. tree_entries_among path (entries_of xs)) (parts_at _ i e lt is)
         ∙ rw (map-append _ _ _, ← among_key _ _ _) (among-append _ _)
 
     module _ {n : ℕ} {old mid : Walk} (passed : Passes n (tree_entries_among path (entries_of (take i es))) old mid) where
@@ -194,7 +194,7 @@ module _ (n : ℕ) (before : List TreeEntry) where
 
     module _ (file : is_file p ≡ true) where
       filter_file : filter is_file (before ++ p ∷ []) ≡ filter is_file before ++ p ∷ []
-      filter_file = filter-append is_file before _ ∙ rw file refl
+      filter_file = filter-append _ before _ ∙ rw file refl
 
       pub pieces_push : pieces_of n (before ++ p ∷ []) ≡ pieces_of n before + piece_count n (length_of p)
       pieces_push =
@@ -226,7 +226,7 @@ module _ (n : ℕ) (before : List TreeEntry) where
 
     pub folder_walked : (w : Walk) → IsWalkOver n before w → is_file p ≡ false → IsWalkOver n (before ++ p ∷ []) w
     folder_walked w h folder =
-        let same : filter is_file (before ++ p ∷ []) ≡ filter is_file before = filter-append is_file before _
+        let same : filter is_file (before ++ p ∷ []) ≡ filter is_file before = filter-append _ before _
         ∙ rw (folder, append-nil (filter is_file before)) refl in
         record {
           files = rw same h.files;
@@ -296,18 +296,20 @@ module _ {path : List (List ℕ)} {name : List ℕ} {properties : Data} {p : Tre
         | inl memory ↦ record { refused = λ before h. inl memory.0 }
         | inr other ↦ stops_at (λ before h.
             let both : has_conflict before p ≡ true = rw (← long, conflict.0, alike h other.1) refl in
-            bad_root n before p at.node at.named at.file (checks_are f.faultless) both ∙ ap Some (sym other.0))
+            bad_root n _ p at.node at.named at.file (checks_are f.faultless) both ∙ ap Some (sym other.0))
       ]
 
-      module _ {lengths : Lengths} (noted : NotesLength old.lengths lengths facts.root facts.length) (pieces : ℕ) (sum : pieces ≡ old.pieces + div_ceil facts.length n) where
+      module _ {lengths : Lengths} (noted : NotesLength old.lengths lengths facts.root facts.length)
+          (pieces : ℕ) (sum : pieces ≡ old.pieces + div_ceil facts.length n) where
         no_conflict : {before : List TreeEntry} → IsWalkOver n before old → has_conflict before p ≡ false
         no_conflict h = rw (← h.lengths (root_of p) (length_of p), ← root_is, ← long) noted.alike
 
-        pub many_stop : (max_path_length ≤ length path) ⊎ ((max_file_count ≤ length old.files.items) ⊎ (max_piece_count < pieces)) → Stops n (p ∷ []) old TooMany
+        pub many_stop : (max_path_length ≤ length path) ⊎ ((max_file_count ≤ length old.files.items) ⊎ (max_piece_count < pieces))
+            → Stops n (p ∷ []) old TooMany
         many_stop over = stops_at {n = n} {old = old} (λ before h.
-            let count : length old.files.items ≡ length (filter is_file before) = count_of_files n before old.files.items h.files in
+            let count : length old.files.items ≡ length (filter is_file before) = count_of_files n _ _ h.files in
             let deep = path_length in
-            let all : pieces ≡ pieces_of n before + piece_count n (length_of p) = counted h pieces sum in
+            let all : pieces ≡ pieces_of n before + piece_count n (length_of p) = counted h _ sum in
             let past : (max_path_length < length p.path) ⊎
             ((max_file_count < length (filter is_file before) + 1) ⊎ (max_piece_count < pieces_of n before + piece_count n (length_of p))) =
             elim over [

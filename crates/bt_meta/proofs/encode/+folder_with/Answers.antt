@@ -37,4 +37,4 @@ returns t c =
     let named = c.as_bytes-2.ensures.value ∙ sym c.as_bytes.ensures.value in
     IfOk-weaker c.entries_with-2.result _ _
     (λ x h. h ∙ rw (named, inner, whole)
-    (file_in name rest d es _ (entries_of c.in_ok-folder.inner.items) opened)) c.entries_with-2.ensures
+    (file_in name rest d es _ _ opened)) c.entries_with-2.ensures

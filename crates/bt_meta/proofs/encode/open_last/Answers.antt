@@ -20,7 +20,6 @@ returns-then-eq c path behind =
 
 pub returns-in_ok-push-in-Ok : goal.returns-in_ok-push-in-Ok
 returns-in_ok-push-in-Ok c path behind =
-    let es = c.pop.new.self.items in
     let same : entries_of c.push.new.self.items ≡ entries_of c.args.folder.items =
     rw (
       c.in_ok-push-in-Ok.ensures.items,
@@ -36,7 +35,6 @@ returns-in_ok-push-in-Ok c path behind =
 
 pub returns-in_ok-push-in-Err : goal.returns-in_ok-push-in-Err
 returns-in_ok-push-in-Err c path behind =
-    let es = c.pop.new.self.items in
     let same : entries_of c.push-in-Err.new.self.items ≡ entries_of c.args.folder.items =
     rw (
       c.in_ok-push-in-Err.ensures.items,

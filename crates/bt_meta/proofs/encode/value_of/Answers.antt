@@ -15,7 +15,7 @@ returns c =
     record {
       layers = entries_of c.in_ok-layers.layers.items;
       layered = c.in_ok-layers.ensures;
-      made = data_of-Dict c.in_ok-both.both ∙ ap dictionary (c.in_ok-both.ensures ∙ ap (λ es. entries_before es rest) one)
+      made = data_of-Dict _ ∙ ap dictionary (c.in_ok-both.ensures ∙ ap (λ es. entries_before es rest) one)
           ∙ ap (λ d. dictionary (entry info d rest)) c.in_ok-info.ensures
           ∙ ap (λ d. dictionary (entry info (info_made c.args.name.now c.args.piece_length (map given_at c.args.files.now))
           (entry (codes "piece layers") d no_entries))) (data_of-Dict _);

@@ -14,13 +14,13 @@ returns-in-Ok c =
 pub returns-in-Err-Size : goal.returns-in-Err-Size
 returns-in-Err-Size c =
     let k : c.height.result ≡ piece_layer_of c.args.piece_length = c.height.ensures.value ∙ ap (λ n. height_of (block_count n)) c.shape-piece.ensures in
-    let inside = layer_inside _ c.args.length _ c.height.result c.requires.long
+    let inside = layer_inside _ c.args.length _ _ c.requires.long
     (rw c.shape-piece.ensures at c.height.ensures.least) (height_is _) in
-    layer_sized_wrong _ c.args.length c.args.root.now _ k inside
+    layer_sized_wrong _ c.args.length _ _ k inside
     (rw c.shape.ensures at (c.check_layer.ensures.size.0 (c.in-Err-Size.is ∙ ap Err c.in-Err-Size.field-0-is)))
 
 pub returns-in-Err-Differs : goal.returns-in-Err-Differs
 returns-in-Err-Differs c =
     let k : c.height.result ≡ piece_layer_of c.args.piece_length = c.height.ensures.value ∙ ap (λ n. height_of (block_count n)) c.shape-piece.ensures in
     let both = rw c.shape.ensures at (c.check_layer.ensures.differs.0 (c.in-Err-Differs.is ∙ ap Err c.in-Err-Differs.field-0-is)) in
-    layer_differs _ c.args.length c.args.root.now _ k both.0 both.1
+    layer_differs _ c.args.length _ _ k both.0 both.1

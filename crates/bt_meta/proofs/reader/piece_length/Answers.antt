@@ -24,8 +24,8 @@ returns-then-length c =
 pub returns-then-not-is_lawful_length : goal.returns-then-not-is_lawful_length
 unfolding piece_length_of
 returns-then-not-is_lawful_length c =
-    none_by_test _ c.in_ok-length.length is_piece_length c.in_ok-length.ensures c.if-not-is_lawful_length.ensures
+    none_by_test _ _ is_piece_length c.in_ok-length.ensures c.if-not-is_lawful_length.ensures
 
 pub returns : goal.returns
 unfolding piece_length_of
-returns c = some_by_test _ c.in_ok-length.length is_piece_length c.in_ok-length.ensures c.if-not-is_lawful_length.ensures
+returns c = some_by_test _ _ is_piece_length c.in_ok-length.ensures c.if-not-is_lawful_length.ensures

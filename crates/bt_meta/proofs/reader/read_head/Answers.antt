@@ -18,19 +18,16 @@ returns-in_default c = head_name _ c.in_ok-check_version.ensures c.if-is_hybrid.
 
 pub returns-in_default-piece_length : goal.returns-in_default-piece_length
 returns-in_default-piece_length c =
-    let info = data_of c.args.info.now in
     head_length _ c.in_ok-check_version.ensures c.if-is_hybrid.ensures c.in-Some.ensures
     (test_of_none _ _ c.in_default-piece_length.ensures)
 
 pub returns-in_default-dictionary : goal.returns-in_default-dictionary
 returns-in_default-dictionary c =
-    let info = data_of c.args.info.now in
     head_tree _ c.in_ok-check_version.ensures c.if-is_hybrid.ensures c.in-Some.ensures
     (test_of_some _ _ _ c.in-Some-piece_length.ensures).0 c.in_default-dictionary.ensures
 
 pub returns : goal.returns
 returns c =
-    let info = data_of c.args.info.now in
     let length = test_of_some _ _ _ c.in-Some-piece_length.ensures in
     head_is _ c.in_ok-check_version.ensures c.if-is_hybrid.ensures c.in-Some.ensures length.0
     _ refl length.1 c.in-Some-dictionary.ensures

@@ -28,5 +28,5 @@ pub returns-clause-ascending : goal.returns-clause-ascending
 returns-clause-ascending c =
     let same = ap data_of c.value.ensures.same in
     let canonical : IsCanonical (data_of c.value.result.now) = rw same c.value.ensures.canonical in
-    ascends _ c.torrent_in.result
+    ascends _ _
     (torrent_keeps_to _ canonical.keys) c.torrent_in.ensures.faultless c.torrent_in.ensures.described

@@ -37,7 +37,7 @@ torrent_of-requires-clause-lawful c =
     let tree = data_of c.in_ok-head.head.tree.now in
     let all = map file_of c.add_layers.new.files.items in
     let files : all ≡ files_of pl layers tree = c.in_ok-add_layers.ensures.whole ∙ ap (map (with_layer pl layers)) c.in_ok-listing.ensures.files
-    ∙ files_with_layers pl _ tree in
+    ∙ files_with_layers pl _ _ in
     let faultless = torrent_layers d c.in-Some.ensures c.in_ok-head.ensures c.in_ok-listing.ensures ∙ c.in_ok-add_layers.ensures.faultless in
     keeps_to (ap (λ i. metainfo_of i layers) (info_is d c.in-Some.ensures) ∙ metainfo_is _ all c.in_ok-head.ensures files)
     (torrent_keeps_to d c.requires faultless)
@@ -59,6 +59,6 @@ returns-clause-described c =
     let pl = c.in_ok-head.head.piece_length in
     let tree = data_of c.in_ok-head.head.tree.now in
     c.in_ok-torrent.ensures
-    ∙ sym (metainfo_is layers _ c.in_ok-head.ensures
+    ∙ sym (metainfo_is _ _ c.in_ok-head.ensures
     (c.in_ok-add_layers.ensures.whole ∙ ap (map (with_layer pl layers)) c.in_ok-listing.ensures.files ∙ files_with_layers pl _ tree))
     ∙ ap (λ i. metainfo_of i layers) (sym (info_is d c.in-Some.ensures))

@@ -35,8 +35,8 @@ returns-in_err-walk_folder-clause-stopped t c =
 pub returns-clause-passed : goal.returns-clause-passed
 returns-clause-passed t c =
     let es = c.deref-key-items.result.now in
-    let whole : take c.loop-key.key-index es ≡ es = take_all _ es (omega arith) in
-    rw (entries_below (folder_elements c.args.path.now) _ _ _ c.in-Dict.is c.deref-key-items.ensures.value) (rw whole at c.loop-key.invariant)
+    let whole : take c.loop-key.key-index es ≡ es = take_all _ _ (omega arith) in
+    rw (entries_below _ _ _ _ c.in-Dict.is c.deref-key-items.ensures.value) (rw whole at c.loop-key.invariant)
 
 pub loop-key-preserved : goal.loop-key-preserved
 loop-key-preserved t c =

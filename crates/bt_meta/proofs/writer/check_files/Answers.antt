@@ -12,7 +12,8 @@ take-requires-clause-within c = c.loop-file.invariant.within
 pub returns-in_err-take-clause-checked : goal.returns-in_err-take-clause-checked
 returns-in_err-take-clause-checked c =
     let p = err_from_is_err_and c.from_residual.result c.from_residual.ensures.1 in
-    rw (p.1, p.2) (taking_stops c.args.files.now c.loop-file.file-index c.loop-file.invariant c.file-item.result c.loop-file-test.true c.file-item.is c.in_err-take.ensures.refused)
+    rw (p.1, p.2) (taking_stops c.args.files.now c.loop-file.file-index c.loop-file.invariant c.file-item.result c.loop-file-test.true c.file-item.is
+    c.in_err-take.ensures.refused)
 
 pub loop-file-preserved : goal.loop-file-preserved
 loop-file-preserved c =

@@ -51,7 +51,7 @@ pub returns-then-len-gt-MAX_TEXT_LENGTH-clause-refused : goal.returns-then-len-g
 returns-then-len-gt-MAX_TEXT_LENGTH-clause-refused c =
     let value = rw (c.deref-2.ensures.value) at c.in_ok-value.ensures in
     let spelled = c.in_ok-text.ensures ∙ ap spelling_of value.made in
-    too_long (files_refused _ c.args.files.now c.if-not-is_lawful_length.ensures c.if-is_empty.ensures ∙ c.in_ok-check_files.ensures.checked)
+    too_long (files_refused _ _ c.if-not-is_lawful_length.ensures c.if-is_empty.ensures ∙ c.in_ok-check_files.ensures.checked)
     (same_overlap _ _ _ c.in_ok-ordered.ensures.same (rw (c.deref.ensures.value) at c.if-has_overlap.ensures))
     (record {
       ordered = map given_at c.in_ok-ordered.ordered.items;
@@ -69,7 +69,7 @@ returns-clause-made c =
     let spelled = c.in_ok-text.ensures ∙ ap spelling_of value.made in
     let small : length c.in_ok-text.text.items ≤ max_text_length = omega arith in
     record {
-      faultless = files_refused _ c.args.files.now c.if-not-is_lawful_length.ensures c.if-is_empty.ensures
+      faultless = files_refused _ _ c.if-not-is_lawful_length.ensures c.if-is_empty.ensures
           ∙ c.in_ok-check_files.ensures.checked;
       ordered = ordered;
       in_order = c.in_ok-ordered.ensures;
@@ -77,9 +77,10 @@ returns-clause-made c =
       layers = value.layers;
       layered = value.layered;
       spelled = spelled;
-      torrent = torrent_of_given c.args.name.now _ _ ordered value.layers _
+      torrent = torrent_of_given _ _ _ ordered _ _
           (sym c.if-not-is_lawful_length.ensures)
-          c.if-is_empty.ensures c.in_ok-check_files.ensures.checked c.in_ok-check_files.ensures.rooted c.in_ok-ordered.ensures apart value.layered small spelled;
+          c.if-is_empty.ensures c.in_ok-check_files.ensures.checked c.in_ok-check_files.ensures.rooted c.in_ok-ordered.ensures apart
+          value.layered small spelled;
       small = small;
     }
 

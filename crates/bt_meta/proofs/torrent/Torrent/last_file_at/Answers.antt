@@ -11,7 +11,7 @@ returns-clause-some c =
     let lay : IsLaidOut torrent.piece_length torrent.files = rw (← c.self.view_is) c.self.invariant.1.laid_out in
     let point = IsPartitionPoint-from_clause (λ e. leb e.first_piece c.args.piece) _ _ c.partition_point-begun.ensures.partitioned
     (rw c.deref.ensures.value (entries_parted _ _ same _ _ lay)) (λ a r q k. search rules) in
-    last_of torrent.files _ same _ _ (rw (← c.deref.ensures.value) point) _
+    last_of _ _ same _ _ (rw (← c.deref.ensures.value) point) _
     (rw (← c.deref.ensures.value) c.partition_point-begun.ensures.bound) c.checked_sub.ensures
 
 pub returns-clause-none : goal.returns-clause-none
@@ -21,4 +21,4 @@ returns-clause-none c =
     let lay : IsLaidOut torrent.piece_length torrent.files = rw (← c.self.view_is) c.self.invariant.1.laid_out in
     let point = IsPartitionPoint-from_clause (λ e. leb e.first_piece c.args.piece) _ _ c.partition_point-begun.ensures.partitioned
     (rw c.deref.ensures.value (entries_parted _ _ same _ _ lay)) (λ a r q k. search rules) in
-    none_of torrent.files _ same _ _ (rw (← c.deref.ensures.value) point) _ c.checked_sub.ensures
+    none_of _ _ same _ _ (rw (← c.deref.ensures.value) point) _ c.checked_sub.ensures

@@ -8,7 +8,7 @@ pub overflow_sub-at : goal.overflow_sub-at
 overflow_sub-at c =
     let last = c.in-Some.ensures.some in
     let e = file_of c.index-file.result.now in
-    rw (entry_at c.args.self.now.files _ (ap (λ t. t.files) c.self.view_is) _ _ c.index-file.ensures last.listed e) at (last.begun e)
+    rw (entry_at _ _ (ap (λ t. t.files) c.self.view_is) _ _ c.index-file.ensures last.listed e) at (last.begun e)
 
 pub returns-then-length-eq0-clause-none : goal.returns-then-length-eq0-clause-none
 returns-then-length-eq0-clause-none c span place =
@@ -16,8 +16,8 @@ returns-then-length-eq0-clause-none c span place =
     let e = c.index-file.result.now in
     let lay : IsLaidOut torrent.piece_length torrent.files = rw (← c.self.view_is) c.self.invariant.1.laid_out in
     let last = c.in-Some.ensures.some in
-    let found = entry_at torrent.files _ (ap (λ t. t.files) c.self.view_is) _ e c.index-file.ensures last.listed in
-    let asked = fits torrent _ _ _ _ _ last found span lay place in
+    let found = entry_at _ _ (ap (λ t. t.files) c.self.view_is) _ e c.index-file.ensures last.listed in
+    let asked = fits _ _ _ _ _ _ last found _ lay place in
     let length = ap (λ t. t.piece_length) c.self.view_is in
     let begun = ap (λ t. (c.args.piece - e.first_piece) * t.piece_length) c.self.view_is in
     elim c.then-length-eq0.branch [
@@ -30,8 +30,8 @@ returns-then-length-eq0-clause-none c span place =
 pub returns-clause-some : goal.returns-clause-some
 returns-clause-some c =
     let last = c.in-Some.ensures.some in
-    let found = entry_at c.args.self.now.files _ (ap (λ t. t.files) c.self.view_is) _ c.index-file.result.now c.index-file.ensures last.listed in
+    let found = entry_at _ _ (ap (λ t. t.files) c.self.view_is) _ _ c.index-file.ensures last.listed in
     let some : 1 ≤ c.args.length = omega (arith, c.if-length-eq0.false) in
     let length = ap (λ t. t.piece_length) c.self.view_is in
-    rw length (place_at c.args.self.now _ _ _ _ _ last found some c.if-length-gt-MAX_RANGE.false
+    rw length (place_at _ _ _ _ _ _ last found some c.if-length-gt-MAX_RANGE.false
     (rw (← length) c.if-end-self.false) (rw (← length) c.if-at-end.false))
