@@ -1,7 +1,9 @@
 //! The command `check`.
 
 use super::steps::{Step, play};
-use super::tools::{THREE_INFO, abc_torrent, front, three_blocks};
+use super::tools::{THREE_INFO, abc_torrent, expect, folder, front, put, put_folder, three_blocks};
+use std::alloc::{AllocError, Global};
+use std::fs;
 use std::test::Fail;
 
 const CHECK: &str = "check @/t @/files";
@@ -116,8 +118,17 @@ fn pieces_are_checked(rt: HostRuntime) -> Result<(), Fail> {
     play(&rt, "pieces", &steps)
 }
 
-/// Checks a file of 65 blocks, the last of one byte, by pieces of a length of which the last has one block. So many blocks
-/// are right where a byte of the tenth is changed, and where the last 48,577 bytes are missing.
+/// A file of 65 blocks, the last of one byte.
+fn many_blocks(alloc: Global) -> Result<Vec<u8>, AllocError> {
+    let mut file = Vec::new(alloc);
+    for i in 0..1048577u32 {
+        file.push((i / 16384) as u8)?;
+    }
+    Ok(file)
+}
+
+/// Checks the file of 65 blocks, by pieces of a length of which the last has one block. So many blocks are right where a
+/// byte of the tenth is changed, and where the last 48,577 bytes are missing.
 fn expect_groups(
     rt: &HostRuntime,
     make: &str,
@@ -125,23 +136,24 @@ fn expect_groups(
     changed: &str,
     cut: &str,
 ) -> Result<(), Fail> {
-    let mut file = Vec::new(rt.alloc());
-    for i in 0..1048577u32 {
-        file.push((i / 16384) as u8)?;
+    let mut file = many_blocks(rt.alloc())?;
+    let top = folder(rt, "groups")?;
+    let top = top.as_str();
+    put_folder(rt, top, "files")?;
+    put(rt, top, "files/f", &file)?;
+    expect(rt, top, make, 0, infohash, "")?;
+    expect(rt, top, CHECK, 0, "complete f\ncomplete\n", "")?;
+    put(rt, top, "files/f", front(&file, 1048576))?;
+    expect(rt, top, CHECK, 1, "64 of 65 f\nnot complete\n", "")?;
+    put(rt, top, "files/f", front(&file, 1000000))?;
+    expect(rt, top, CHECK, 1, cut, "")?;
+    if let Some(byte) = file.get_mut(150000) {
+        *byte ^= 1;
     }
-    let steps = [
-        Step::Folder("files"),
-        Step::File("files/f", &file),
-        Step::Run(make, 0, infohash),
-        Step::Run(CHECK, 0, "complete f\ncomplete\n"),
-        Step::Change("files/f", 150000),
-        Step::Run(CHECK, 1, changed),
-        Step::File("files/f", front(&file, 1048576)),
-        Step::Run(CHECK, 1, "64 of 65 f\nnot complete\n"),
-        Step::File("files/f", front(&file, 1000000)),
-        Step::Run(CHECK, 1, cut),
-    ];
-    play(rt, "groups", &steps)
+    put(rt, top, "files/f", &file)?;
+    expect(rt, top, CHECK, 1, changed, "")?;
+    fs::remove_dir_all(rt, top)?;
+    Ok(())
 }
 
 #[test]

@@ -3,12 +3,10 @@
 use super::steps::{expect_bytes, expect_entries};
 use super::tools::{confirm, expect, folder, front, path_in, put, put_folder, three_blocks};
 use crate::atomic_file::replace_file;
-use crate::data_file::open_data_file;
 use crate::fault::Fault;
 use crate::folder::files_in;
 use crate::make::open_file;
 use crate::paths::found_path;
-use bt_disk::HandlePool;
 use bt_meta::MakeError;
 use std::alloc::{AllocError, Allocator, Global};
 use std::fs::{self, File, Metadata, OpenFile, OpenOptions};
@@ -252,7 +250,7 @@ fn data_file(rt: &HostRuntime, top: &str, name: &str) -> Result<PathBuf, AllocEr
 
 /// What is at the paths is a device, and a file in its place would be whole.
 #[test]
-fn what_is_no_regular_file_is_neither_opened_nor_replaced(rt: HostRuntime) -> Result<(), Fail> {
+fn what_is_no_regular_file_is_not_replaced(rt: HostRuntime) -> Result<(), Fail> {
     let top = folder(&rt, "pipe")?;
     let top = top.as_str();
     put(&rt, top, "pipe", b"old")?;
@@ -261,19 +259,34 @@ fn what_is_no_regular_file_is_neither_opened_nor_replaced(rt: HostRuntime) -> Re
     confirm(written == Err(Fault::Device), "it is replaced")?;
     expect_bytes(&rt, top, "pipe", b"old")?;
     expect_entries(&rt, top, "", 1)?;
-    let device = Device::new(&rt, Failing::Nothing);
-    let mut pool = HandlePool::new(rt.alloc(), device, 1)?;
-    let opened = open_data_file(&device, &mut pool, data_file(&rt, top, "pipe")?);
-    confirm(opened.err() == Some(Fault::Device), "it is opened")?;
-    let path = data_file(&rt, top, "pipe")?;
-    let opened = open_file(&device, path.as_path());
-    confirm(opened.err() == Some(Fault::Device), "it is digested")?;
-    let mut pool = HandlePool::new(rt.alloc(), rt.clone()?, 1)?;
-    let opened = open_data_file(&rt, &mut pool, data_file(&rt, top, "pipe")?)?;
-    confirm(opened.is_some(), "a file is not opened")?;
-    let opened = open_data_file(&rt, &mut pool, data_file(&rt, top, "absent")?)?;
-    confirm(opened.is_none(), "no file is opened")?;
     fs::remove_dir_all(&rt, top)?;
+    Ok(())
+}
+
+#[test]
+fn what_is_no_regular_file_is_not_checked(rt: HostRuntime) -> Result<(), Fail> {
+    let top = folder(&rt, "unopened")?;
+    put_folder(&rt, top.as_str(), "files")?;
+    put(&rt, top.as_str(), "files/pipe", b"old")?;
+    let make = "make @/files @/t --name n --piece-length 16384";
+    let made = "infohash 8f53afa3f000da0fa96bf989b7997ce06588b0c5dbc772bc7dc83e68669bd27f\n";
+    expect(&rt, top.as_str(), make, 0, made, "")?;
+    let fault = "btseed: device fault\n";
+    expect_check(&rt, top.as_str(), Failing::Nothing, 3, "", fault)?;
+    fs::remove_dir_all(&rt, top.as_str())?;
+    Ok(())
+}
+
+#[test]
+fn what_is_no_regular_file_is_not_digested(rt: HostRuntime) -> Result<(), Fail> {
+    let top = folder(&rt, "digest")?;
+    put(&rt, top.as_str(), "pipe", b"old")?;
+    let path = data_file(&rt, top.as_str(), "pipe")?;
+    let opened = open_file(&Device::new(&rt, Failing::Nothing), path.as_path());
+    confirm(opened.err() == Some(Fault::Device), "it is opened")?;
+    let opened = open_file(&rt, path.as_path());
+    confirm(opened.is_ok(), "a file is not opened")?;
+    fs::remove_dir_all(&rt, top.as_str())?;
     Ok(())
 }
 
