@@ -119,7 +119,7 @@ fn pieces_are_checked(rt: HostRuntime) -> Result<(), Fail> {
 }
 
 /// A file of 65 blocks, the last of one byte.
-fn many_blocks(alloc: Global) -> Result<Vec<u8>, AllocError> {
+pub fn many_blocks(alloc: Global) -> Result<Vec<u8>, AllocError> {
     let mut file = Vec::new(alloc);
     for i in 0..1048577u32 {
         file.push((i / 16384) as u8)?;

@@ -1,13 +1,17 @@
 //! What a check finds of devices, some of which fail.
 
+use super::check::many_blocks;
 use super::tools::{THREE_INFO, THREE_ROOT, confirm, digest, front, three_blocks};
 use crate::data_file::Finding;
+use crate::digests::digest_reader;
 use crate::entry_check::check_entry;
 use crate::file_hash::FileHash;
 use crate::pieces::PieceSize;
+use crate::reader::BUFFER_LEN;
 use bt_disk::{Disk, FaultDisk, MemoryDisk};
 use bt_meta::{Made, Torrent, make, read_info, read_torrent};
-use bt_tree::NodeHash;
+use bt_sparse::SparseTree;
+use bt_tree::{Geometry, NodeHash, pad};
 use std::alloc::Global;
 use std::test::Fail;
 
@@ -120,5 +124,29 @@ fn each_call_of_a_check_may_fail(rt: HostRuntime) -> Result<(), Fail> {
     confirm(found == found_in_turn(3, 2), "another finding of pieces")?;
     let found = found_of_faults(alloc, &read_info(alloc, THREE_INFO)?)?;
     confirm(found == found_in_turn(3, 0), "another finding of the whole")?;
+    Ok(())
+}
+
+/// The tree of the file of 65 blocks, of which the digests of its pieces are known, four blocks each.
+fn tree_of_pieces(alloc: Global) -> Result<SparseTree<FileHash>, Fail> {
+    let file = many_blocks(alloc)?;
+    let mut reader = file.as_slice();
+    let mut buffer = [0; BUFFER_LEN];
+    let size = PieceSize::new(65536).ok_or("no piece length")?;
+    let digests = digest_reader(alloc, &mut reader, 1048577, size, &mut buffer)?;
+    confirm(digests.layer.len() == 544, "another layer")?;
+    let geometry = Geometry::new(1048577).ok_or("no geometry")?;
+    let tree = SparseTree::with_layer(alloc, FileHash, geometry, digests.root, 2, &digests.layer)?;
+    Ok(tree)
+}
+
+#[test]
+fn a_layer_tells_its_pieces_and_the_padding(rt: HostRuntime) -> Result<(), Fail> {
+    let tree = tree_of_pieces(rt.alloc())?;
+    let last = FileHash.pair(&FileHash.block(&[64]), &[0; 32]);
+    let last_piece = FileHash.pair(&last, &pad(FileHash, 1));
+    assert_eq!(rt; tree.known(2, 16), Some(last_piece));
+    assert_eq!(rt; tree.known(2, 17), Some(pad(FileHash, 2)));
+    assert_eq!(rt; tree.known(1, 0), None);
     Ok(())
 }
