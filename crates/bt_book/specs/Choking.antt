@@ -1,5 +1,6 @@
--- Whom to serve: the three interested peers with most payload bytes, to and fro, and one more in turn (BEP 3's
--- regular and optimistic unchokes). Who they are is said by counting, for each peer, those that come before it.
+-- Whom to serve: the three interested peers with most payload bytes, to and fro, and one more in turn (BEP
+-- 3's regular and optimistic unchokes). Who they are is said by counting, for each peer, those that come
+-- before it.
 use Rattle.std.specs.Prelude.{◌≡◌, ◌≢◌, ℕ, ◌%◌, ◌<◌, ◌==◌, nat_lt, Bool, true, ◌&&◌, ◌||◌, not, List, Contains, AllPairs, count_by}
 use Rattle.bt_book.specs.declared.names.PeerKey.{PeerKey}
 use Rattle.bt_book.specs.declared.choking.Standing.{Standing}

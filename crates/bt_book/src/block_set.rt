@@ -30,7 +30,7 @@ impl BlockSet {
     pub fn new(alloc: Global, blocks: &[u32]) -> Result<Self, AllocError>
         ensures { IfOk result (λ s. s ≡ map (λ n. replicate n false) blocks.now) }
     {
-        // No block has a greater index of its file.
+        // A block names its file by 32 bits, so no mark past these is needed.
         let filled = BitSet::new(alloc, blocks.len().min(1 << 32))?;
         let mut files = Vec::with_capacity(alloc, blocks.len())?;
         for count in blocks {

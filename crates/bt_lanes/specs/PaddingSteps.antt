@@ -1,9 +1,10 @@
--- The end of a message, as only the private steps of this crate speak of it. Sections are those of FIPS 180-4.
+-- The end of a message, as only the private steps of this crate speak of it. Sections are those of FIPS
+-- 180-4.
 use Rattle.std.specs.Prelude.{◌≡◌, ℕ, ◌+◌, ◌*◌, ◌/◌, ◌%◌, List, ◌++◌, length, take, drop}
 use Rattle.sha2.specs.Sha256.{padding}
 
--- how many message blocks are filled by the bytes behind the last whole one and the padding, which has 9 bytes at
--- least: two where the rest leaves fewer, else one
+-- how many message blocks are filled by the bytes behind the last whole one and the padding, which has 9
+-- bytes at least: two where the rest leaves fewer, else one
 abbrev pub tail_block_count : ℕ → ℕ
 tail_block_count message_length = (message_length % 64 + 8) / 64 + 1
 

@@ -184,7 +184,8 @@ fn next_round(variables: HashValues, schedule: &mut MessageBlocks, t: usize) -> 
     round(variables, ROUND_CONSTANTS[t], words)
 }
 
-/// The working variables after four rounds from t on, from 16 on. By fours a round's variables are renamed and not moved.
+/// The working variables after four rounds from t on, from 16 on. By fours a round's variables are renamed
+/// and not moved.
 #[inline(always)]
 fn next_rounds(variables: HashValues, schedule: &mut MessageBlocks, t: usize) -> HashValues
     requires { (16 ≤ t) × (t + 4 ≤ 64) }

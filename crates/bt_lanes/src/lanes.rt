@@ -7,7 +7,8 @@ ghost use Rattle.bt_lanes.specs.LaneSteps.{message_at};
 use crate::digest::{digest_eight, slices};
 use bt_tree::{BLOCK_LEN, Hash32, NodeHash, Plain};
 
-/// SHA-256 (FIPS 180-4), the digest of BitTorrent v2. Where a tree has eight inputs, they are digested at once.
+/// SHA-256 (FIPS 180-4), the digest of BitTorrent v2. Where a tree has eight inputs, they are digested at
+/// once.
 #[derive(Clone, Copy, Debug)]
 pub struct Lanes;
 

@@ -7,8 +7,8 @@ ghost use Rattle.bt_lanes.specs.LaneSteps.{lane_word, lane_of, lane_of_eight, me
 use crate::compression::{HashValues, MessageBlocks, compress};
 use std::simd::{u8x32, u32x8};
 
-/// Where each byte of four words lies in 16 bytes that spell them, the most significant byte of each word first. A vector's
-/// words have the least significant first.
+/// Where each byte of four words lies in 16 bytes that spell them, the most significant byte of each word
+/// first. A vector's words have the least significant first.
 const BYTE_ORDER: [u8; 32] = [
     3, 2, 1, 0, 7, 6, 5, 4, 11, 10, 9, 8, 15, 14, 13, 12, //
     3, 2, 1, 0, 7, 6, 5, 4, 11, 10, 9, 8, 15, 14, 13, 12,
@@ -33,8 +33,8 @@ fn take_turns(a: u32x8, b: u32x8) -> (u32x8, u32x8)
     a.interleave(b)
 }
 
-/// The same words, each in another place. A place is a number of six bits, the vector's three and the lane's three; the word
-/// there comes from the place whose bits are these, moved round to the right by one.
+/// The same words, each in another place. A place is a number of six bits, the vector's three and the lane's
+/// three; the word there comes from the place whose bits are these, moved round to the right by one.
 #[inline(always)]
 fn shuffle(vectors: [u32x8; 8]) -> [u32x8; 8]
     ensures { (i j : ℕ) → i < 8 → j < 8

@@ -1,5 +1,5 @@
-//! Against values from outside, worked examples of FIPS 180-4 and BEP 52 and what another implementation gave, and
-//! against the scalar digest of the kit.
+//! Against values from outside, worked examples of FIPS 180-4 and BEP 52 and what another implementation
+//! gave, and against the scalar digest of the kit.
 
 use crate::{Lanes, digest_many};
 use bt_tree::{Geometry, Hash32, LayerError, NodeHash, Plain, RootBuilder, check_layer, pad};
@@ -11,8 +11,8 @@ const EMPTY: &[u8; 64] = b"e3b0c44298fc1c149afbf4c8996fb92427ae41e4649b934ca4959
 
 const ABC: &[u8; 64] = b"ba7816bf8f01cfea414140de5dae2223b00361a396177a9cb410ff61f20015ad";
 
-/// The empty message, whose digest other programs gave, and the standard's examples of one message block and of
-/// two: `abc`, and 56 letters.
+/// The empty message, whose digest other programs gave, and the standard's examples of one message block and
+/// of two: `abc`, and 56 letters.
 const EXAMPLES: [(&[u8], &[u8; 64]); 3] = [
     (b"", EMPTY),
     (b"abc", ABC),

@@ -54,7 +54,7 @@ pub record IsMade (name : List ℕ) (piece_length : ℕ) (files : List Given) (b
 abbrev pub is_overlap : Given → Given → Bool
 is_overlap f g = begins f.path g.path || begins g.path f.path
 
--- two of the files is_overlap each other
+-- the paths of two of the files overlap
 abbrev pub have_overlap : List Given → Bool
 have_overlap [] = false
 have_overlap (f ∷ files) = list_any (is_overlap f) files || have_overlap files

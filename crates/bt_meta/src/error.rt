@@ -6,9 +6,9 @@ use bt_bencode::BencodeError;
 use std::alloc::{AllocError, AllocFailed};
 use thiserror::Error;
 
-/// Why bytes are no torrent that is taken here. The first that applies is returned, in the order in which
-/// they stand here; but `OutOfMemory` may stand in place of any, and more than 2^27 bytes are `TooMany`
-/// before all.
+/// Why bytes are no torrent that is taken here. The first that applies is returned: M1 to M7 as they stand
+/// here, then M8 to M14 entry by entry in tree order, then M15 to M17 file by file. But `OutOfMemory` may
+/// stand in place of any, and more than 2^27 bytes are `TooMany` before all.
 #[derive(Clone, Copy, Debug, PartialEq, Eq, Error)]
 pub enum MetaError {
     /// The bytes are no canonical bencoding.

@@ -78,6 +78,7 @@ impl FilePath {
         ensures { texts result.items ≡ self.now }
     {
         let mut elements = ArrayVec::new();
+        // A proof knows how long a path is at most only from a step that looks at its fields.
         let _ = &self.name;
         self.push_elements(&mut elements);
         elements

@@ -92,8 +92,8 @@ impl<H: NodeHash> SparseTree<H> {
         Ok(expansion)
     }
 
-    /// The digest that is held at a claim's top, where the claim's shape and padding are right. No node of the
-    /// claim is digested for this, and no memory taken.
+    /// The digest that is held at a claim's top, where the claim's shape and padding are right. No node of
+    /// the claim is digested for this, and no memory taken.
     fn top(&self, claim: &Claim) -> Result<Hash32, ProofError>
         ensures ok { IfOk result (HangsFrom H.digest self.now claim.now) }
         ensures refused { IfErr result (IsRefused H.digest self.now claim.now) }

@@ -5,8 +5,8 @@ use Rattle.bt_tree.specs.Blocks.{block_count, HasRun}
 use Rattle.bt_tree.specs.Tree.{node_digest}
 use Rattle.bt_tree.specs.Peaks.{peaks_of, peak_count}
 
--- A builder: how many bytes the file has, which node of its tree is built, how many of the node's blocks came, and
--- the digests of the widest whole nodes over them, the leftmost first.
+-- A builder: how many bytes the file has, which node of its tree is built, how many of the node's blocks
+-- came, and the digests of the widest whole nodes over them, the leftmost first.
 pub record BuilderState : Type 0 where
   pub file_length : ℕ
   pub layer : ℕ
@@ -38,9 +38,9 @@ blocks_below b = min (2 ^ b.layer) (block_count b.file_length - first_block b)
 abbrev pub file_peaks : (List ℕ → List ℕ) → List ℕ → ℕ → ℕ → List (List ℕ)
 file_peaks dig file first count = peaks_of dig (λ i. node_digest dig file 0 (first + i)) count
 
--- What the builder keeps is what this file's blocks give: the file has the builder's length, and the digests that are
--- kept are those of its blocks, as many as came, from the node's first on. Of the bytes that were pushed it says
--- nothing else.
+-- What the builder keeps is what this file's blocks give: the file has the builder's length, and the digests
+-- that are kept are those of its blocks, as many as came, from the node's first on. Of the bytes that were
+-- pushed it says nothing else.
 pub record BuildsFrom (dig : List ℕ → List ℕ) (b : BuilderState) (file : List ℕ) : Type 0 where
   pub file_length : length file ≡ b.file_length
   pub peaks : b.peaks ≡ file_peaks dig file (first_block b) b.count
@@ -49,8 +49,8 @@ pub record BuildsFrom (dig : List ℕ → List ℕ) (b : BuilderState) (file : L
 abbrev pub node_end : BuilderState → ℕ
 node_end b = min (full_block_length * (first_block b + 2 ^ b.layer)) b.file_length
 
--- so many bytes are one or more whole blocks, the next ones below the node: they end where a block does, at the
--- node's end at most
+-- so many bytes are one or more whole blocks, the next ones below the node: they end where a block does, at
+-- the node's end at most
 pub record IsNextRun (b : BuilderState) (bytes : ℕ) : Type 0 where
   pub some : 0 < bytes
   pub inside : full_block_length * next_block b + bytes ≤ node_end b

@@ -9,8 +9,8 @@ ghost use Rattle.bt_tree.specs.Layers.{fold_of};
 use crate::node_hash::{Hash32, NodeHash};
 use crate::peaks::{self, Peaks};
 
-/// The digest that the nodes of a layer fold to at the height of the tree: the given digests, and after them the
-/// padding's. `pads` has the padding's digest for each layer.
+/// The digest that the nodes of a layer fold to at the height of the tree: the given digests, and after them
+/// the padding's. `pads` has the padding's digest for each layer.
 pub(crate) fn fold<H: NodeHash>(
     hash: H,
     digests: &[Hash32],
@@ -35,8 +35,8 @@ pub(crate) fn fold<H: NodeHash>(
     fold_pairs(hash, &eight, 3, padding)
 }
 
-/// The eight nodes that lie `below + 1` layers above 16 * 2^below nodes of a layer: the given ones, and after them
-/// padding.
+/// The eight nodes that lie `below + 1` layers above 16 * 2^below nodes of a layer: the given ones, and after
+/// them padding.
 fn eight_nodes<H: NodeHash>(
     hash: H,
     digests: &[Hash32],
@@ -112,7 +112,8 @@ fn both(left: &[Hash32; 8], right: &[Hash32; 8]) -> [Hash32; 16]
     ]
 }
 
-/// The digest that 2^layers digests fold to, a pair at a time: the given ones, and after them that of the padding.
+/// The digest that 2^layers digests fold to, a pair at a time: the given ones, and after them that of the
+/// padding.
 fn fold_pairs<H: NodeHash>(hash: H, digests: &[Hash32], layers: u8, padding: Hash32) -> Hash32
     requires high { layers ≤ max_height }
     requires within { length digests.now ≤ 2 ^ layers }

@@ -22,8 +22,8 @@ pub enum LayerError {
     OutOfMemory,
 }
 
-/// Whether the bytes are a layer of a tree with this root: the digests of the layer's nodes that cover a block, from
-/// the left, 32 bytes each. The others are known: they have the digest of `pad`.
+/// Whether the bytes are a layer of a tree with this root: the digests of the layer's nodes that cover a
+/// block, from the left, 32 bytes each. The others are known: they have the digest of `pad`.
 pub fn check_layer<H: NodeHash>(
     hash: H,
     geometry: Geometry,

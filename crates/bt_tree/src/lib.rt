@@ -1,10 +1,10 @@
 //! The hash tree of a file, as BitTorrent v2 (BEP 52) builds it, over any digest of byte strings.
 //!
-//! A file is cut into blocks of 16,384 bytes, the last one perhaps shorter. The digests of the blocks are the first
-//! leaves of a complete binary tree, whose leaves past the last block are 32 zero bytes; any other node has the
-//! digest of its two children's digests, the left one first. A node is named by its *layer*, counted from the leaves
-//! at 0 up to the root, and by its *index* in the layer, counted from the left from 0. The *width* of a layer is how
-//! many nodes it has.
+//! A file is cut into blocks of 16,384 bytes, the last one perhaps shorter. The digests of the blocks are the
+//! first leaves of a complete binary tree, whose leaves past the last block are 32 zero bytes; any other node
+//! has the digest of its two children's digests, the left one first. A node is named by its *layer*, counted
+//! from the leaves at 0 up to the root, and by its *index* in the layer, counted from the left from 0. The
+//! *width* of a layer is how many nodes it has.
 //!
 //! Nothing here takes memory.
 #![tactic(auto)]

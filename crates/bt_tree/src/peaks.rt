@@ -6,8 +6,8 @@ ghost use Rattle.bt_tree.specs.Peaks.{row_node, peaks_of, peak_count};
 use crate::node_hash::{Hash32, NodeHash};
 use arrayvec::ArrayVec;
 
-/// The digests of the widest whole nodes over the nodes of a row that came so far, the leftmost first. There is at
-/// most one for each layer of a tree, so 27 are enough for 2^26 leaves.
+/// The digests of the widest whole nodes over the nodes of a row that came so far, the leftmost first. There
+/// is at most one for each layer of a tree, so 27 are enough for 2^26 leaves.
 pub(crate) type Peaks = ArrayVec<Hash32, 27>;
 
 /// Takes the digest of the row's next node, after the first `count`.
@@ -47,8 +47,8 @@ pub(crate) fn add_all<H: NodeHash>(hash: H, peaks: &mut Peaks, count: u32, diges
     }
 }
 
-/// The digest of the node that lies so many layers above the first 2^layers nodes of the row. The row's nodes past
-/// the first `count` all have the digest `padding`.
+/// The digest of the node that lies so many layers above the first 2^layers nodes of the row. The row's nodes
+/// past the first `count` all have the digest `padding`.
 pub(crate) fn close<H: NodeHash>(
     hash: H,
     peaks: &[Hash32],

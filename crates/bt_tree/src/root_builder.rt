@@ -53,8 +53,8 @@ impl<H: NodeHash> RootBuilder<H> {
         RootBuilder::for_node(hash, geometry, geometry.height(), 0)
     }
 
-    /// A builder of node `index` of a layer, which covers a block: the layer is at most the height of the tree, and
-    /// the index is below `real(layer)`.
+    /// A builder of node `index` of a layer, which covers a block: the layer is at most the height of the
+    /// tree, and the index is below `real(layer)`.
     pub fn for_node(hash: H, geometry: Geometry, layer: u8, index: u32) -> Self
         requires { CoversBlock (block_count geometry) layer index }
         ensures state { result ≡ initial_state geometry layer index }
@@ -74,9 +74,9 @@ impl<H: NodeHash> RootBuilder<H> {
 
     /// Takes one or more next blocks below the node, each of 16,384 bytes but for the file's last.
     ///
-    /// Errors: `Shape` for a run of no bytes, for one whose last byte is not the last of its block, and for one of more
-    /// bytes than the node still lacks; nothing of the run is then kept. However the bytes are cut into runs, the
-    /// builder ends up the same.
+    /// Errors: `Shape` for a run of no bytes, for one whose last byte is not the last of its block, and for
+    /// one of more bytes than the node still lacks; nothing of the run is then kept. However the bytes are
+    /// cut into runs, the builder ends up the same.
     pub fn push(&mut self, run: &[u8]) -> Result<(), Shape>
         ensures variant { IsOk result ↔ IsNextRun self.old (length run.now) }
         ensures state { OnOk result (TakesBlocks self.old self.new (block_count (length run.now))) }
@@ -84,7 +84,8 @@ impl<H: NodeHash> RootBuilder<H> {
             → HasRun file (full_block_length * next_block self.old) run.now
             → BuildsFrom H.digest self.new file) }
 
-        // However the bytes were cut into runs, a builder that took as many blocks of the same file is the same.
+        // However the bytes were cut into runs, a builder that took as many blocks of the same file is the
+        // same.
         ensures cut { OnOk result ((file : List ℕ) (other : BuilderState) → BuildsFrom H.digest self.new file
             → BuildsFrom H.digest other file → IsAsFar other self.new → other ≡ self.new) }
         ensures err { OnErr result (self.new ≡ self.old) }

@@ -107,8 +107,8 @@ fn drop_front(bytes: &mut Vec<u8>, count: usize)
     bytes.truncate(rest);
 }
 
-/// Moves bytes that have four times the room they need, and more than is kept, to a buffer of their size; where
-/// memory for that is refused they stay.
+/// Moves bytes that have four times the room they need, and more than is kept, to a buffer of their size;
+/// where memory for that is refused they stay.
 fn fit_room(alloc: Global, bytes: &mut Vec<u8>)
     ensures { bytes.new.items ≡ bytes.old.items }
 {

@@ -13,10 +13,11 @@ use std::rt::Files;
 /// How many symbolic links are followed from a path to its file, as many as Linux follows.
 const MAX_LINKS: u32 = 40;
 
-/// Writes a file: wholly, or it stays as it was. The bytes go into a new file beside it, which then takes its name.
+/// Writes a file: wholly, or it stays as it was. The bytes go into a new file beside it, which then takes its
+/// name.
 ///
-/// Where the path is a symbolic link, that is the file that it names, and the link stays. Where there is something that
-/// is no regular file, that is a device fault, and nothing is changed.
+/// Where the path is a symbolic link, that is the file that it names, and the link stays. Where there is
+/// something that is no regular file, that is a device fault, and nothing is changed.
 pub fn replace_file<R: Files + AllocGlobal>(rt: &R, path: &str, bytes: &[u8]) -> Result<(), Fault>
     ensures { IfErr result (λ fault. (fault ≡ device) ⊎ (fault ≡ out_of_memory)) }
 {
@@ -33,8 +34,8 @@ pub fn replace_file<R: Files + AllocGlobal>(rt: &R, path: &str, bytes: &[u8]) ->
     outcome
 }
 
-/// The path of the file that is replaced: the path itself, or where symbolic links lead from there. At it is a regular
-/// file or nothing.
+/// The path of the file that is replaced: the path itself, or where symbolic links lead from there. At it is
+/// a regular file or nothing.
 fn target_path<R: Files + AllocGlobal>(rt: &R, path: &str) -> Result<String, Fault>
     ensures { IfErr result (λ fault. (fault ≡ device) ⊎ (fault ≡ out_of_memory)) }
 {
@@ -61,7 +62,8 @@ fn followed_link<R: Files + AllocGlobal>(rt: &R, path: &str) -> Result<String, F
     Ok(link_target(rt.alloc(), path, text)?)
 }
 
-/// Where the text of a symbolic link leads: to itself from the top, and else from the folder that the link is in.
+/// Where the text of a symbolic link leads: to itself from the top, and else from the folder that the link is
+/// in.
 fn link_target(alloc: Global, path: &str, text: &str) -> Result<String, AllocError>
     ensures { IfOk result (λ target. IsLinkTarget path.now text.now (string_bytes target)) }
 {
@@ -72,7 +74,8 @@ fn link_target(alloc: Global, path: &str, text: &str) -> Result<String, AllocErr
     }
 }
 
-/// Makes a new file in the same folder, under the first name that is free. A file that is there is not opened.
+/// Makes a new file in the same folder, under the first name that is free. A file that is there is not
+/// opened.
 fn create_part<R: Files + AllocGlobal>(rt: &R, path: &str) -> Result<(String, R::File), Fault>
     ensures part { IfOk result
         (λ part. (number : ℕ) × IsSibling path.now (part_name number) (string_bytes part.0)) }

@@ -20,11 +20,11 @@ use std::alloc::Global;
 use std::io::Write;
 use std::rt::Files;
 
-/// Checks the files of a folder against a torrent, and writes what it finds: the line of each file as it is done, in
-/// the order of the torrent, and the last line.
+/// Checks the files of a folder against a torrent, and writes what it finds: the line of each file as it is
+/// done, in the order of the torrent, and the last line.
 ///
-/// All files are opened first, and one that can't be opened ends it before anything is written. A read that fails
-/// later does not: the summary tells it. After a fault the writer has a part of the text, or all.
+/// All files are opened first, and one that can't be opened ends it before anything is written. A read that
+/// fails later does not: the summary tells it. After a fault the writer has a part of the text, or all.
 pub fn check<R: Files + AllocGlobal + Clone + Drop, W: Write>(
     rt: &R,
     torrent: &Torrent,

@@ -43,7 +43,8 @@ const VERSION: &str = "0.1.0";
 
 const TORRENT_HELP: &str = "The torrent file";
 
-/// Reads the words that follow the program's name. Where they ask for help, or are refused, the error has the text.
+/// Reads the words that follow the program's name. Where they ask for help, or are refused, the error has the
+/// text.
 pub fn parse<'a>(alloc: Global, words: &'a [String]) -> Result<Task<'a>, Error>
     ensures task { IfOk result (IsTaskOf (map string_bytes words.now)) }
     ensures error { IfErr result (λ error. IsNoTaskOf (map string_bytes words.now) (kind_of error)) }

@@ -16,8 +16,8 @@ use std::rt::Files;
 /// How many data files are held open at a time.
 const OPEN_FILES: usize = 16;
 
-/// What a check found of one file: how many blocks it has, how many of them are marked as right, whether its data
-/// file is longer than the torrent says, and whether a call of its device failed.
+/// What a check found of one file: how many blocks it has, how many of them are marked as right, whether its
+/// data file is longer than the torrent says, and whether a call of its device failed.
 #[derive(Clone, Copy, Debug, PartialEq, Eq)]
 pub struct Finding {
     pub blocks: u32,
@@ -29,7 +29,8 @@ pub struct Finding {
 impl Finding {
     ghost use Rattle.btseed.specs.Finding.{is_complete_finding};
 
-    /// Whether the data file is the torrent's: all its blocks are marked, it is not longer, and no call failed.
+    /// Whether the data file is the torrent's: all its blocks are marked, it is not longer, and no call
+    /// failed.
     pub fn is_complete(self) -> bool
         ensures { result ≡ is_complete_finding self }
     {
@@ -63,9 +64,9 @@ pub fn open_data_files<'a, R: Files + AllocGlobal + Clone + Drop>(
     Ok(files)
 }
 
-/// Opens a data file to read it; none where no file can be at the path, which is not kept then: a torrent may have
-/// many long ones. What is there and is no regular file is a device fault: it is not opened, since a pipe would
-/// wait for a writer.
+/// Opens a data file to read it; none where no file can be at the path, which is not kept then: a torrent may
+/// have many long ones. What is there and is no regular file is a device fault: it is not opened, since a
+/// pipe would wait for a writer.
 pub fn open_data_file<R: Files + Drop>(
     rt: &R,
     pool: &mut HandlePool<R>,
@@ -87,8 +88,8 @@ fn is_absent<R: Files>(rt: &R, path: Path<'_>) -> bool {
     matches!(fs::metadata(rt, path), Err(error) if is_absence(error.kind()))
 }
 
-/// Whether an error says that no file can be at a path: there is nothing, one of its folders is none, or a name, or the
-/// path, is longer than the system takes.
+/// Whether an error says that no file can be at a path: there is nothing, one of its folders is none, or a
+/// name, or the path, is longer than the system takes.
 fn is_absence(kind: ErrorKind) -> bool
     ensures { IsTrue result ↔ ((kind ≡ ErrorKind.NotFound)
         ⊎ (kind ≡ ErrorKind.NotADirectory) ⊎ (kind ≡ ErrorKind.InvalidFilename)) }

@@ -19,15 +19,16 @@ use bt_tree::{Geometry, Hash32, NodeHash, RootBuilder, pad};
 use std::alloc::Global;
 use std::io::Read;
 
-/// The root of a file's tree, zeros for an empty file, and the digests of its pieces where it is longer than one.
+/// The root of a file's tree, zeros for an empty file, and the digests of its pieces where it is longer than
+/// one.
 #[derive(Debug, Drop)]
 pub struct Digests {
     pub root: Hash32,
     pub layer: Vec<u8>,
 }
 
-/// The digests of the bytes of a reader, which has `length` bytes. A reader that has fewer or more, as that of a file
-/// that is written to, is a device fault.
+/// The digests of the bytes of a reader, which has `length` bytes. A reader that has fewer or more, as that
+/// of a file that is written to, is a device fault.
 pub fn digest_reader<R: Read>(
     alloc: Global,
     reader: &mut R,
@@ -118,8 +119,8 @@ fn read_layer<R: Read>(
     Ok(layer)
 }
 
-/// The digest of a node that lies `layers` layers above the layer `base`: of the nodes of that layer that lie below it,
-/// those that cover a block have these digests.
+/// The digest of a node that lies `layers` layers above the layer `base`: of the nodes of that layer that lie
+/// below it, those that cover a block have these digests.
 fn node_above(digests: &[u8], base: u8, layers: u8) -> Hash32
     requires high { base + layers ≤ max_height }
     ensures { (file : List ℕ) (index count : ℕ) → IsRow file base layers index count digests.now

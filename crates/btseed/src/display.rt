@@ -9,8 +9,8 @@ use bt_meta::FilePath;
 use std::alloc::{AllocError, Global};
 use std::str;
 
-/// A name or a path as it is printed: as it is where it is text without control characters that does not begin with
-/// `0x`, and else as `0x` and its bytes in hexadecimal.
+/// A name or a path as it is printed: as it is where it is text without control characters that does not
+/// begin with `0x`, and else as `0x` and its bytes in hexadecimal.
 pub fn display(alloc: Global, name: &[u8]) -> Result<String, AllocError>
     ensures { IfOk result (λ text. string_bytes text ≡ display_text name.now) }
 {

@@ -26,7 +26,8 @@ pub struct EntryCheck<D: Disk + Drop> {
     pub finding: Finding,
 }
 
-/// Checks the data file of an entry. A file that is not there is not longer, and none of its blocks are marked.
+/// Checks the data file of an entry. A file that is not there is not longer, and none of its blocks are
+/// marked.
 pub fn check_data_file<D: Disk + Drop>(
     alloc: Global,
     disk: Option<D>,
@@ -61,8 +62,9 @@ fn absent_finding(length: u64) -> Finding
 
 /// Checks the bytes of a device against an entry: by the pieces whose digests the entry has, else as a whole.
 ///
-/// The device is asked for its length, and then each block is read, in turn, also after a call that failed. The blocks of a
-/// piece are marked where each was read whole and the piece has its digest. The one error is out of memory.
+/// The device is asked for its length, and then each block is read, in turn, also after a call that failed.
+/// The blocks of a piece are marked where each was read whole and the piece has its digest. The one error is
+/// out of memory.
 pub fn check_entry<D: Disk + Drop>(
     alloc: Global,
     disk: D,

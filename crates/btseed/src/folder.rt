@@ -32,8 +32,8 @@ struct FolderEntry {
     kind: EntryKind,
 }
 
-/// The paths of the files in a folder and its subfolders, folder by folder in the order of the names' bytes. A symbolic
-/// link is left out, and so is anything else that is neither a file nor a folder.
+/// The paths of the files in a folder and its subfolders, folder by folder in the order of the names' bytes.
+/// A symbolic link is left out, and so is anything else that is neither a file nor a folder.
 ///
 /// A name that is not UTF-8 is refused; a folder that can't be listed is a device fault.
 pub fn files_in<R: Files + AllocGlobal + Clone + Drop>(
@@ -116,8 +116,8 @@ fn kind_of(file_type: FileType) -> Option<EntryKind>
     }
 }
 
-/// The fault of an error in reading the next name of a folder: here alone a name that is not valid is one that is not
-/// UTF-8.
+/// The fault of an error in reading the next name of a folder: here alone a name that is not valid is one
+/// that is not UTF-8.
 fn listing_fault(error: &io::Error) -> Fault
     ensures { IsListingFault result }
 {

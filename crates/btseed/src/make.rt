@@ -32,8 +32,8 @@ pub struct NewTorrent {
     pub infohash: Hash32,
 }
 
-/// Makes the torrent of a folder. The first fault ends it, and is looked for in the piece length, then in the folder, and
-/// then in its files.
+/// Makes the torrent of a folder. The first fault ends it, and is looked for in the piece length, then in the
+/// folder, and then in its files.
 pub fn make<R: Files + AllocGlobal + Clone + Drop>(
     rt: &R,
     request: MakeTask<'_>,
@@ -64,7 +64,8 @@ struct FolderFile {
     length: u64,
 }
 
-/// The files of a folder. Where one is too long for a torrent, or they are too many, that is told before any is read.
+/// The files of a folder. Where one is too long for a torrent, or they are too many, that is told before any
+/// is read.
 fn folder_files<R: Files + AllocGlobal + Clone + Drop>(
     rt: &R,
     dir: &str,
@@ -115,8 +116,8 @@ fn read_entry<R: Files + AllocGlobal>(
     })
 }
 
-/// Opens a file of the folder to read it. What is no regular file any more is a device fault, and is not opened, since a
-/// pipe would wait for a writer.
+/// Opens a file of the folder to read it. What is no regular file any more is a device fault, and is not
+/// opened, since a pipe would wait for a writer.
 pub fn open_file<R: Files>(rt: &R, path: Path<'_>) -> Result<R::File, Fault>
     ensures { IfErr result (λ fault. fault ≡ device) }
 {

@@ -35,7 +35,8 @@ impl PieceSize {
     }
 }
 
-/// Reads the bytes of a piece, `size` in number, and gives the digest of its node: none where the bytes end before.
+/// Reads the bytes of a piece, `size` in number, and gives the digest of its node: none where the bytes end
+/// before.
 pub fn read_piece<R: Read>(
     reader: &mut R,
     geometry: Geometry,

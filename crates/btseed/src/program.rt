@@ -52,9 +52,9 @@ fn words(rt: &(impl Env + AllocGlobal)) -> Result<Vec<String>, Fault>
     }
 }
 
-/// Does what the words ask for, which follow the program's name, and returns the exit status: 0 where all is complete
-/// or done, 1 where it is not, 2 where the words or the torrent are refused, 3 for a device that failed and 4 for out of
-/// memory.
+/// Does what the words ask for, which follow the program's name, and returns the exit status: 0 where all is
+/// complete or done, 1 where it is not, 2 where the words or the torrent are refused, 3 for a device that
+/// failed and 4 for out of memory.
 ///
 /// Results and help go to the writer, faults to `faults`.
 pub fn run<R: Files + AllocGlobal + Clone + Drop, I: Read, O: Write, E: Write>(

@@ -12,7 +12,8 @@ use std::io::{ErrorKind, Read};
 /// How many bytes are read at a time: eight blocks, which are digested at once.
 pub const BUFFER_LEN: usize = 8 * BLOCK_LEN;
 
-/// Reads until the buffer is full or the bytes end, and says how many came. A read that was interrupted is made again.
+/// Reads until the buffer is full or the bytes end, and says how many came. A read that was interrupted is
+/// made again.
 pub fn fill<R: Read>(reader: &mut R, buffer: &mut [u8]) -> Result<usize, DeviceFault>
     ensures count { IfOk result (λ count. count ≤ length buffer.new) }
     ensures given { IfOk result (λ count. Gives
@@ -34,8 +35,8 @@ pub fn fill<R: Read>(reader: &mut R, buffer: &mut [u8]) -> Result<usize, DeviceF
     Err(DeviceFault)
 }
 
-/// Reads the bytes below the builder's node, of which none came before, and gives the node's digest: none where the
-/// bytes end before.
+/// Reads the bytes below the builder's node, of which none came before, and gives the node's digest: none
+/// where the bytes end before.
 pub fn read_node<R: Read>(
     reader: &mut R,
     builder: RootBuilder<FileHash>,

@@ -14,8 +14,8 @@ use bt_meta::{FileEntry, Torrent};
 use std::alloc::{AllocError, Global};
 use std::io::Write;
 
-/// Writes what a torrent says: five lines on the whole, and a line for each file. After a fault the writer has a part of
-/// the text, or all.
+/// Writes what a torrent says: five lines on the whole, and a line for each file. After a fault the writer
+/// has a part of the text, or all.
 pub fn show<W: Write>(alloc: Global, torrent: &Torrent, writer: &mut W) -> Result<(), Fault>
     ensures text { OnOk result
         (Appends (W.contents writer.old) (W.contents writer.new) (show_text torrent.now)) }

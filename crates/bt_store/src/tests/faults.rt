@@ -1,5 +1,5 @@
-//! Each call of a device fails once in turn: what is told of it, how the blocks stand then, and what the device
-//! has.
+//! Each call of a device fails once in turn: what is told of it, how the blocks stand then, and what the
+//! device has.
 
 use super::{
     Fixture, ZeroFile, adopted, block, claim, filled, leaf, root, rooted, three_blocks, zeros,
@@ -159,7 +159,8 @@ fn each_read_of_an_unknown_group_may_fail(rt: HostRuntime) -> Result<(), Fail> {
     Ok(())
 }
 
-/// What `adopt` answers of a group of known leaves whose blocks are all right, of which one read fails or none.
+/// What `adopt` answers of a group of known leaves whose blocks are all right, of which one read fails or
+/// none.
 fn known_group(next: u32, blocks: u32, fails: bool) -> Option<Result<Adopted, AllocError>> {
     let faults = fails as u32;
     Some(Ok(Adopted {

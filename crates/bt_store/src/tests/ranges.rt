@@ -35,8 +35,8 @@ fn a_range_has_to_end_within_the_file(rt: HostRuntime) -> Result<(), Fail> {
     Ok(())
 }
 
-/// What is refused, and what there is nothing to do for, makes no call of the device: the first one is that of
-/// `sync`.
+/// What is refused, and what there is nothing to do for, makes no call of the device: the first one is that
+/// of `sync`.
 #[test]
 fn refusals_reach_no_device(rt: HostRuntime) -> Result<(), Fail> {
     let alloc = rt.alloc();

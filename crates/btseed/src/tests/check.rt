@@ -127,8 +127,8 @@ pub fn many_blocks(alloc: Global) -> Result<Vec<u8>, AllocError> {
     Ok(file)
 }
 
-/// Checks the file of 65 blocks, by pieces of a length of which the last has one block. So many blocks are right where a
-/// byte of the tenth is changed, and where the last 48,577 bytes are missing.
+/// Checks the file of 65 blocks, by pieces of a length of which the last has one block. So many blocks are
+/// right where a byte of the tenth is changed, and where the last 48,577 bytes are missing.
 fn expect_groups(
     rt: &HostRuntime,
     make: &str,

@@ -38,9 +38,9 @@ impl Failing {
     }
 }
 
-/// The host's file system, of which some calls fail, in which every folder lists these names, and in which a path that
-/// ends in `pipe` is a device, which neither a read nor a write is to reach. Of opens that of a path that ends in `last`
-/// fails, and of reads the third of each file.
+/// The host's file system, of which some calls fail, in which every folder lists these names, and in which a
+/// path that ends in `pipe` is a device, which neither a read nor a write is to reach. Of opens that of a
+/// path that ends in `last` fails, and of reads the third of each file.
 #[derive(Clone, Copy)]
 struct Device<'a> {
     host: &'a HostRuntime,

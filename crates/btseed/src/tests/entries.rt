@@ -106,7 +106,8 @@ fn found_of_faults(alloc: Global, torrent: &Torrent) -> Result<[Finding; 5], Fai
     ])
 }
 
-/// What is to be found: the first call asks for the length, the next three read a block each, and there is no fifth.
+/// What is to be found: the first call asks for the length, the next three read a block each, and there is no
+/// fifth.
 fn found_in_turn(length_failed: u32, read_failed: u32) -> [Finding; 5] {
     [
         three(length_failed, false, true),

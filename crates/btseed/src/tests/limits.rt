@@ -48,8 +48,8 @@ fn the_first_file_that_is_refused_is_told(rt: HostRuntime) -> Result<(), Fail> {
     Ok(())
 }
 
-/// A torrent of the bytes `abc` twice: as `a.txt`, and as a file whose name has 256 bytes, where the file systems have
-/// names of up to 255.
+/// A torrent of the bytes `abc` twice: as `a.txt`, and as a file whose name has 256 bytes, where the file
+/// systems have names of up to 255.
 fn long_torrent(alloc: Global, name: &str) -> Result<Vec<u8>, Fail> {
     let file = b"d0:d6:lengthi3e11:pieces root32:";
     let root = digest(ABC_ROOT)?;

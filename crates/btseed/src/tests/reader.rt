@@ -12,7 +12,8 @@ use std::io;
 use std::io::{ErrorKind, Read};
 use std::test::Fail;
 
-/// A reader of bytes that gives at most so many at a time, is interrupted before each read, and fails at one of them.
+/// A reader of bytes that gives at most so many at a time, is interrupted before each read, and fails at one
+/// of them.
 #[derive(Drop)]
 struct Slow<'a> {
     bytes: &'a [u8],

@@ -58,8 +58,8 @@ pub fn words_of(alloc: Global, top: &str, line: &str) -> Result<Vec<String>, All
     Ok(words)
 }
 
-/// What the program answered to the words of a line: its status, and what it wrote. The error of a test whose answer is
-/// another.
+/// What the program answered to the words of a line: its status, and what it wrote. The error of a test whose
+/// answer is another.
 #[derive(Debug, Drop)]
 pub struct Answer {
     line: String,
