@@ -9,26 +9,11 @@ default), which takes a few minutes; it then runs three times, and the best time
 
 import pathlib
 import re
-import shutil
 import subprocess
 import sys
 import tempfile
 
-TOP = pathlib.Path(__file__).resolve().parent.parent
-
-
-def build(folder):
-    """The built program, in a repository of its own."""
-    crates = folder / "crates"
-    shutil.copytree(TOP / "crates" / "bt_book", crates / "bt_book", dirs_exist_ok=True)
-    source = crates / "book_bench" / "src"
-    source.mkdir(parents=True, exist_ok=True)
-    shutil.copy(TOP / "bench" / "book" / "main.rt.in", source / "main.rt")
-    (folder / "crates.txt").write_text("bt_book: arrayvec\nbook_bench: bt_book\n")
-    built = subprocess.run(["rt", "run"], cwd=crates / "book_bench", capture_output=True, text=True)
-    if built.returncode != 0:
-        sys.exit(built.stderr)
-    return crates / "book_bench" / "out" / "book_bench"
+from measure import built
 
 
 def best(program):
@@ -47,7 +32,7 @@ def main():
     folder = pathlib.Path(sys.argv[1] if len(sys.argv) > 1 else tempfile.mkdtemp())
     folder.mkdir(parents=True, exist_ok=True)
     last = None
-    for log, (asks, seconds) in sorted(best(build(folder)).items()):
+    for log, (asks, seconds) in sorted(best(built(folder, "book", ["bt_book"])).items()):
         rate = asks / seconds
         slower = "" if last is None else f", {last / rate:.2f} times slower"
         print(f"2^{log} blocks: {asks} asks in {seconds:.3f} s, {rate / 1e6:.2f} million a second{slower}")

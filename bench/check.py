@@ -16,7 +16,7 @@ import subprocess
 import sys
 import tempfile
 
-from bench import PROGRAM, TOP, apart, measured_once
+from measure import PROGRAM, TOP, apart, measured_once
 from speed import SIZE, write_data
 
 ROUNDS = 5

@@ -9,29 +9,14 @@ few times over, and so does `dd`. All run three times, and the best times are pr
 """
 
 import pathlib
-import shutil
 import subprocess
 import sys
 import tempfile
 
-TOP = pathlib.Path(__file__).resolve().parent.parent
+from measure import built
+
 SIZE = 256 << 20
 ROUNDS = 8
-
-
-def build(folder):
-    """The built program, in a repository of its own."""
-    crates = folder / "crates"
-    shutil.copytree(TOP / "crates" / "bt_disk", crates / "bt_disk", dirs_exist_ok=True)
-    source = crates / "disk_bench" / "src"
-    source.mkdir(parents=True, exist_ok=True)
-    shutil.copy(TOP / "bench" / "disk" / "main.rt.in", source / "main.rt")
-    (folder / "crates.txt").write_text("bt_disk: thiserror\ndisk_bench: bt_disk anyhow\n")
-    built = subprocess.run(["rt", "run", "--", "--help"], cwd=crates / "disk_bench", capture_output=True, text=True)
-    program = crates / "disk_bench" / "out" / "disk_bench"
-    if not program.exists():
-        sys.exit(built.stdout + built.stderr)
-    return program
 
 
 def seconds_of_dd(path, size):
@@ -44,7 +29,7 @@ def seconds_of_dd(path, size):
 def main():
     folder = pathlib.Path(sys.argv[1] if len(sys.argv) > 1 else tempfile.mkdtemp())
     folder.mkdir(parents=True, exist_ok=True)
-    program = build(folder)
+    program = built(folder, "disk", ["bt_disk", "anyhow"])
     path = folder / "data"
     path.write_bytes(bytes(range(256)) * (SIZE // 256))
     times = {}

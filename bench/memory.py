@@ -7,12 +7,13 @@ The torrents are made in FOLDER (a new temporary folder by default). From each p
 file is taken away. `./btseed` has to be built: call it once before.
 """
 
+import hashlib
 import os
 import pathlib
 import sys
 import tempfile
 
-from bench import PROGRAM, apart, measured_once
+from measure import PROGRAM, apart, measured_once
 
 FILES = 65_536
 EMPTY_FILE = b"d0:d6:lengthi0eee"
@@ -88,6 +89,25 @@ def unknown_texts():
     return torrent(flat(1), b"1:a" + b"l" + b"l1:ae" * 4_000_000 + b"e")
 
 
+def padded_root(digests, layers):
+    """The root so many layers above these digests of blocks, of which the missing ones are padding (BEP 52)."""
+    padding = bytes(32)
+    for _ in range(layers):
+        digests = digests + [padding] * (len(digests) % 2)
+        digests = [hashlib.sha256(left + right).digest() for left, right in zip(digests[::2], digests[1::2])]
+        padding = hashlib.sha256(padding * 2).digest()
+    return digests[0]
+
+
+def shared_layer():
+    """Files of one root and of 2^21 pieces together, whose layer stands in the text once."""
+    count = 2_290
+    root = padded_root([bytes(32)] * count, 12)
+    file = b"d0:d6:lengthi%de11:pieces root" % (count * 16_384) + spelled(root) + b"ee"
+    text = torrent(flat((1 << 21) // count, file))
+    return text[: -len(b"dee")] + b"d" + spelled(root) + spelled(bytes(32 * count)) + b"ee"
+
+
 def write(path, make):
     path.write_bytes(make())
 
@@ -95,7 +115,8 @@ def write(path, make):
 def main():
     folder = pathlib.Path(sys.argv[1] if len(sys.argv) > 1 else tempfile.mkdtemp())
     folder.mkdir(parents=True, exist_ok=True)
-    shapes = (files, short_names, long_folder, longer_folder, deep_files, own_folders, empty_folders, unknown_lists, unknown_texts)
+    shapes = (files, short_names, long_folder, longer_folder, deep_files, own_folders, empty_folders, unknown_lists, unknown_texts,
+              shared_layer)
     paths = {}
     for shape in (one_file, *shapes):
         paths[shape] = folder / f"{shape.__name__}.torrent"

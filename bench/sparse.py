@@ -10,37 +10,20 @@ a claim adds another count of nodes than it should.
 
 import pathlib
 import re
-import shutil
 import subprocess
 import sys
 import tempfile
 
-TOP = pathlib.Path(__file__).resolve().parent.parent
+from measure import built
+
 CLAIMS = re.compile(r"2\^(\d+) blocks: (\d+) nodes in (\d+) us, digests alone (\d+) us, (\d+) KiB")
 LAYER = re.compile(r"2\^(\d+) leaves as a layer: (\d+) us")
-
-
-def build(folder):
-    """The built program, in a repository of its own."""
-    crates = folder / "crates"
-    for name in ("bt_tree", "bt_sparse"):
-        shutil.copytree(TOP / "crates" / name, crates / name, dirs_exist_ok=True)
-    source = crates / "sparse_bench" / "src"
-    source.mkdir(parents=True, exist_ok=True)
-    shutil.copy(TOP / "bench" / "sparse" / "main.rt.in", source / "main.rt")
-    (folder / "crates.txt").write_text(
-        "bt_tree: sha2 arrayvec thiserror\nbt_sparse: bt_tree thiserror\nsparse_bench: bt_sparse bt_tree anyhow\n")
-    built = subprocess.run(["rt", "run"], cwd=crates / "sparse_bench", capture_output=True, text=True)
-    program = crates / "sparse_bench" / "out" / "sparse_bench"
-    if not program.exists():
-        sys.exit(built.stdout + built.stderr)
-    return program
 
 
 def main():
     folder = pathlib.Path(sys.argv[1] if len(sys.argv) > 1 else tempfile.mkdtemp())
     folder.mkdir(parents=True, exist_ok=True)
-    program = build(folder)
+    program = built(folder, "sparse", ["bt_sparse", "bt_tree", "anyhow"])
     texts = [subprocess.run([program], check=True, capture_output=True, text=True).stdout for _ in range(3)]
     print(re.search(r"65536 trees of one block: \d+ KiB", texts[0]).group())
     last = None

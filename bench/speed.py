@@ -16,7 +16,7 @@ import subprocess
 import sys
 import tempfile
 
-from bench import TOP, apart, measured_once
+from measure import TOP, apart, measured_once
 
 SIZE = 2 << 30
 ROUNDS = 5

@@ -9,42 +9,17 @@ folder by default), which takes some minutes; it then runs three times, and the 
 """
 
 import pathlib
-import shutil
 import subprocess
 import sys
 import tempfile
 
-TOP = pathlib.Path(__file__).resolve().parent.parent
-CRATES = """\
-bt_tree: sha2 arrayvec thiserror
-bt_lanes: bt_tree sha2
-bt_sparse: bt_tree thiserror
-bt_disk: thiserror
-bt_store: bt_disk bt_sparse bt_tree thiserror
-store_bench: bt_store bt_disk bt_sparse bt_lanes bt_tree
-"""
-
-
-def build(folder):
-    """The built program, in a repository of its own."""
-    crates = folder / "crates"
-    for name in ("bt_tree", "bt_lanes", "bt_sparse", "bt_disk", "bt_store"):
-        shutil.copytree(TOP / "crates" / name, crates / name, dirs_exist_ok=True)
-    source = crates / "store_bench" / "src"
-    source.mkdir(parents=True, exist_ok=True)
-    shutil.copy(TOP / "bench" / "store" / "main.rt.in", source / "main.rt")
-    (folder / "crates.txt").write_text(CRATES)
-    built = subprocess.run(["rt", "run"], cwd=crates / "store_bench", capture_output=True, text=True)
-    program = crates / "store_bench" / "out" / "store_bench"
-    if not program.exists():
-        sys.exit(built.stdout + built.stderr)
-    return program
+from measure import built
 
 
 def main():
     folder = pathlib.Path(sys.argv[1] if len(sys.argv) > 1 else tempfile.mkdtemp())
     folder.mkdir(parents=True, exist_ok=True)
-    program = build(folder)
+    program = built(folder, "store", ["bt_store", "bt_disk", "bt_sparse", "bt_lanes", "bt_tree"])
     best = {}
     for _ in range(3):
         told = subprocess.run([program], check=True, capture_output=True, text=True).stdout

@@ -10,30 +10,13 @@ temporary folder by default), which takes a few minutes; it then runs five times
 
 import pathlib
 import re
-import shutil
 import subprocess
 import sys
 import tempfile
 
-TOP = pathlib.Path(__file__).resolve().parent.parent
-CRATES = ["bt_tree", "bt_sparse", "bt_hashreq", "bt_wire"]
+from measure import built
+
 ROUNDS = 64
-
-
-def build(folder):
-    """The built program, in a repository of its own."""
-    crates = folder / "crates"
-    for name in CRATES:
-        shutil.copytree(TOP / "crates" / name, crates / name, dirs_exist_ok=True)
-    source = crates / "wire_bench" / "src"
-    source.mkdir(parents=True, exist_ok=True)
-    shutil.copy(TOP / "bench" / "wire" / "main.rt.in", source / "main.rt")
-    lines = [line for line in (TOP / "crates.txt").read_text().splitlines() if line.split(":")[0] in CRATES]
-    (folder / "crates.txt").write_text("\n".join(lines + ["wire_bench: bt_wire anyhow"]) + "\n")
-    built = subprocess.run(["rt", "run"], cwd=crates / "wire_bench", capture_output=True, text=True)
-    if built.returncode != 0:
-        sys.exit(built.stdout + built.stderr)
-    return crates / "wire_bench" / "out" / "wire_bench"
 
 
 def best(program):
@@ -52,7 +35,7 @@ def best(program):
 def main():
     folder = pathlib.Path(sys.argv[1] if len(sys.argv) > 1 else tempfile.mkdtemp())
     folder.mkdir(parents=True, exist_ok=True)
-    size, times = best(build(folder))
+    size, times = best(built(folder, "wire", ["bt_wire", "anyhow"]))
     copy = times["copy"][1]
     for name, (count, seconds) in times.items():
         if name == "haves":

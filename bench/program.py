@@ -1,7 +1,7 @@
 #!/usr/bin/env python3
 """Times `btseed` on large torrents and on a large file, beside `sha256sum` on the same bytes.
 
-    python3 bench/bench.py [FOLDER]
+    python3 bench/program.py [FOLDER]
 
 The inputs are made in FOLDER (a new temporary folder by default), which needs some 2 GiB. Each command runs three
 times; the best wall time and the greatest peak memory are printed. `./btseed` has to be built: call it once before.
@@ -10,14 +10,11 @@ times; the best wall time and the greatest peak memory are printed. `./btseed` h
 import hashlib
 import os
 import pathlib
-import resource
-import subprocess
 import sys
 import tempfile
-import time
 
-TOP = pathlib.Path(__file__).resolve().parent.parent
-PROGRAM = TOP / "crates" / "btseed" / "out" / "btseed"
+from measure import PROGRAM, apart, measured
+
 BLOCK = 16_384
 GIB = 1 << 30
 
@@ -78,51 +75,6 @@ def large_file(path):
     with open(path, "wb") as out:
         for number in range(GIB // len(run)):
             out.write(number.to_bytes(8, "big") + run[8:])
-
-
-def apart(make, *arguments):
-    """Makes an input in a process of its own: the peak memory of a command is not told below that of its parent."""
-    process = os.fork()
-    if process == 0:
-        make(*arguments)
-        os._exit(0)
-    if os.waitpid(process, 0)[1] != 0:
-        sys.exit(f"failed: {make.__name__}")
-
-
-def resident(process):
-    """The peak memory of a running process until now in KiB, or 0 where it has ended."""
-    try:
-        with open(f"/proc/{process}/status", encoding="ascii", errors="replace") as status:
-            return next((int(line.split()[1]) for line in status if line.startswith("VmHWM")), 0)
-    except OSError:
-        return 0
-
-
-def measured_once(words):
-    """The wall time and the processor time of one run in seconds, and its peak memory in MiB.
-
-    What the system tells at a command's end is not below the peak of this process; a lower peak is looked up while it runs.
-    """
-    own = resource.getrusage(resource.RUSAGE_SELF).ru_maxrss
-    started = time.perf_counter()
-    process = subprocess.Popen([str(word) for word in words], stdout=subprocess.DEVNULL)
-    ended, seen = 0, 0
-    while not ended:
-        time.sleep(0.002)
-        seen = max(seen, resident(process.pid))
-        ended, status, usage = os.wait4(process.pid, os.WNOHANG)
-    seconds = time.perf_counter() - started
-    if status != 0:
-        sys.exit(f"failed: {words}")
-    peak = usage.ru_maxrss if usage.ru_maxrss > own or seen == 0 else seen
-    return seconds, usage.ru_utime + usage.ru_stime, peak / 1024
-
-
-def measured(words):
-    """The best wall time of three runs in seconds, and the greatest peak memory in MiB."""
-    runs = [measured_once(words) for _ in range(3)]
-    return min(seconds for seconds, _, _ in runs), max(peak for _, _, peak in runs)
 
 
 def compare(what, words, path):
