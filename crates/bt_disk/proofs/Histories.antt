@@ -5,7 +5,7 @@ use Rattle.bt_disk.specs.State.{State, IsImage, IsKept, IsWithin, resized}
 use Rattle.bt_disk.specs.History.{History, then, moment_of, LeftBefore, LeftSince, IsKeptSince, IsWithinSince}
 use Rattle.bt_disk.specs.Calls.{Call, bytes_written, write_fault, length_set, resize_fault, sync_made, sync_fault, length_given, length_fault, bytes_given, read_fault, IsAnswered, IsRead, Spares, EndsWithin}
 use Rattle.bt_disk.specs.ReadsImage.{HasLength, has_length-call, has_length-synced, length-resized}
-use Rattle.bt_disk.specs.Laws.{SyncKeepsAll, ReadsChangeNothing, CallsKeepBytes, KeptFromNow, CallsKeepLengths, WithinFromNow}
+use Rattle.bt_disk.specs.Law.{SyncKeepsAll, ReadsChangeNothing, CallsKeepBytes, KeptFromNow, CallsKeepLengths, WithinFromNow}
 use Rattle.bt_disk.proofs.Images.{call_reaches, synced_image, resized_below}
 
 pub sync_keeps_all : SyncKeepsAll

@@ -10,7 +10,7 @@ use Rattle.std.proofs.lemmas.Option.{get_or_from_slice_get, slice_get-get_or, sl
 use Rattle.bt_disk.specs.State.{State, IsImage, IsOutside, IsTornWrite, IsTornResize, written, resized, write_state, resize_state, synced_state}
 use Rattle.bt_disk.specs.History.{History, after_write}
 use Rattle.bt_disk.specs.Calls.{Call, bytes_written, write_fault, length_set, resize_fault, sync_made, sync_fault, length_given, length_fault, bytes_given, read_fault, AfterWriteFault, AfterResizeFault, Spares}
-use Rattle.bt_disk.specs.Laws.{IsReached, CallsReachTheirRange}
+use Rattle.bt_disk.specs.Law.{IsReached, CallsReachTheirRange}
 
 -- ---- an image with the bytes of another list where a call reaches
 

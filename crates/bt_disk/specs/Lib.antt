@@ -9,4 +9,4 @@ pub mod FaultDisk
 pub mod FileDisk
 pub mod OpenHandles
 pub mod Pool
-pub mod Laws
+pub mod Law

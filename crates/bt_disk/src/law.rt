@@ -3,7 +3,7 @@
 ghost use Rattle.std.specs.Prelude.{◌++◌, ◌∷◌, [], ℕ, List, All};
 ghost use Rattle.bt_disk.specs.History.{IsKeptSince, IsWithinSince};
 ghost use Rattle.bt_disk.specs.Calls.{Call, HasCalls, Spares, EndsWithin};
-ghost use Rattle.bt_disk.specs.Laws.{SyncKeepsAll, ReadsChangeNothing, CallsReachTheirRange, CallsKeepBytes, KeptFromNow, CallsKeepLengths, WithinFromNow};
+ghost use Rattle.bt_disk.specs.Law.{SyncKeepsAll, ReadsChangeNothing, CallsReachTheirRange, CallsKeepBytes, KeptFromNow, CallsKeepLengths, WithinFromNow};
 
 use crate::disk::Disk;
 

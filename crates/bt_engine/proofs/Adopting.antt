@@ -10,7 +10,7 @@ use Rattle.bt_sparse.specs.SparseTree.{Facts}
 use Rattle.bt_store.specs.BlockReads.{given, call_of, IsRight}
 use Rattle.bt_store.specs.declared.block_states.BlockState.TheVariants.{Marked}
 use Rattle.bt_store.specs.declared.adoption.Adopted.{Adopted}
-use Rattle.bt_store.specs.Laws.{Extends}
+use Rattle.bt_store.specs.Law.{Extends}
 use Rattle.bt_store.proofs.AdoptionMarks.{adopt_marks as store_marks, adopt_extends}
 use Rattle.bt_book.specs.declared.names.BlockId.{BlockId}
 use Rattle.bt_engine.specs.declared.event.Event.TheVariants.{Adopt}

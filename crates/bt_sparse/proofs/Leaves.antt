@@ -9,7 +9,7 @@ use Rattle.bt_tree.proofs.TreeNodes.{node_parent, input_parent, length-padding_d
 use Rattle.bt_tree.proofs.ComparisonClash.{same_parts}
 use Rattle.bt_sparse.specs.NodeMap.{HasDigests}
 use Rattle.bt_sparse.specs.SparseTree.{Facts, blocks_of, height, held_at, value_at, IsRooted}
-use Rattle.bt_sparse.specs.Laws.{IsClashOnPath}
+use Rattle.bt_sparse.specs.Law.{IsClashOnPath}
 use Rattle.bt_sparse.proofs.Halves.{parity}
 use Rattle.bt_sparse.proofs.Values.{same_value, value_covers, value_padding, value_inside, cases_node}
 use Rattle.bt_sparse.proofs.Acceptances.{list_cases}

@@ -9,7 +9,7 @@ pub mod Acceptance
 pub mod Answer
 pub mod Layer
 pub mod LayerSteps
-pub mod Laws
+pub mod Law
 pub mod ExpansionSteps
 pub mod PaddingSteps
 pub mod AcceptanceSteps

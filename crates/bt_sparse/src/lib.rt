@@ -11,7 +11,7 @@ mod acceptance;
 mod answer;
 mod claim;
 mod expansion;
-mod laws;
+mod law;
 mod layer;
 mod layer_pages;
 mod node_map;
@@ -22,7 +22,7 @@ mod sparse_tree;
 
 pub use answer::{AnswerError, MAX_RUN_LENGTH};
 pub use claim::{Claim, Digests, ProofError};
-pub use laws::{
+pub use law::{
     answers_agree, answers_are_taken, answers_reach_roots, claims_one, held_is_checked,
     keeps_rooted, leaves_are_files,
 };

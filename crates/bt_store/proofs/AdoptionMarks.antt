@@ -19,7 +19,7 @@ use Rattle.bt_sparse.specs.declared.claim.Claim.{Claim}
 use Rattle.bt_sparse.proofs.Joins.{value_kept, claimed_value, keeps_rooted}
 use Rattle.bt_store.specs.BlockReads.{BlockRead, given, failed, block_of, is_leaf, is_right, IsRight, judged}
 use Rattle.bt_store.specs.Adoption.{AreWhole, is_whole, claimed_digest, claim_of_reads, marked_run, Adopts, none, known, accepted, refused, short, unread}
-use Rattle.bt_store.specs.Laws.{IsReadRight, Extends}
+use Rattle.bt_store.specs.Law.{IsReadRight, Extends}
 use Rattle.bt_store.specs.declared.block_states.BlockState.{BlockState}
 use Rattle.bt_store.specs.declared.block_states.BlockState.TheVariants.{Missing, Marked}
 use Rattle.bt_store.specs.declared.adoption.Adopted.{Adopted}

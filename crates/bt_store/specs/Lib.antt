@@ -6,6 +6,6 @@ pub mod RunsSteps
 pub mod Review
 pub mod ReviewSteps
 pub mod SingleBlock
-pub mod Laws
+pub mod Law
 pub mod Adoption
 pub mod GroupsSteps

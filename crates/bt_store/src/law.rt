@@ -1,4 +1,4 @@
-ghost use Rattle.bt_store.specs.Laws.{RightBlocksAreFiles, AdoptMarksByBytes, AcceptedReadsAreRight, AdoptExtends};
+ghost use Rattle.bt_store.specs.Law.{RightBlocksAreFiles, AdoptMarksByBytes, AcceptedReadsAreRight, AdoptExtends};
 
 use bt_sparse::leaves_are_files;
 use bt_tree::NodeHash;

@@ -8,7 +8,7 @@ use Rattle.bt_tree.specs.TreeShape.{CoversBlock}
 use Rattle.bt_tree.specs.Tree.{node_digest}
 use Rattle.bt_sparse.specs.SparseTree.{Facts, blocks_of, held_at, value_at}
 use Rattle.bt_sparse.proofs.Values.{value_covers, value_inside}
-use Rattle.bt_store.specs.Laws.{same, at_leaf, above}
+use Rattle.bt_store.specs.Law.{same, at_leaf, above}
 use Rattle.bt_store.proofs.law.right_blocks_are_files.Goals as goal
 
 -- a leaf with a value is held

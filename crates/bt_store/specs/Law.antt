@@ -4,7 +4,7 @@ use Rattle.bt_tree.specs.Blocks.{block_at}
 use Rattle.bt_tree.specs.Tree.{file_root}
 use Rattle.bt_sparse.specs.SparseTree.{Facts, blocks_of, value_at, IsRooted, IsSound}
 use Rattle.bt_sparse.specs.Acceptance.{Accepts}
-use Rattle.bt_sparse.specs.Laws.{IsClashOnPath}
+use Rattle.bt_sparse.specs.Law.{IsClashOnPath}
 use Rattle.bt_store.specs.BlockReads.{BlockRead, given, IsRight}
 use Rattle.bt_store.specs.Adoption.{AreWhole, claim_of_reads, Adopts}
 use Rattle.bt_store.specs.declared.block_states.BlockState.{BlockState}

@@ -1,4 +1,4 @@
-ghost use Rattle.bt_sparse.specs.Laws.{KeepsRooted, HeldIsChecked, ClaimsOne, MadeClaimsAgree, AnswersAgree, AnswersAreTaken, AnswersReachRoots, LeavesAreFiles};
+ghost use Rattle.bt_sparse.specs.Law.{KeepsRooted, HeldIsChecked, ClaimsOne, MadeClaimsAgree, AnswersAgree, AnswersAreTaken, AnswersReachRoots, LeavesAreFiles};
 
 use bt_tree::NodeHash;
 

@@ -1,6 +1,6 @@
 use Rattle.bt_sparse.proofs.Answers.{answers_agree}
 use Rattle.bt_sparse.proofs.Taken.{agree}
-use Rattle.bt_sparse.proofs.laws.answers_agree.Goals as goal
+use Rattle.bt_sparse.proofs.law.answers_agree.Goals as goal
 
 pub returns-clause-claims : goal.returns-clause-claims
 returns-clause-claims g c = answers_agree g.H.NodeHash.digest

@@ -1,9 +1,9 @@
 use Rattle.std.proofs.Common.{◌≡◌, ◌/◌, ◌^◌, ap, ◌∙◌, subst, ◌⊎◌, arith}
 use Rattle.bt_tree.specs.Tree.{node_digest}
 use Rattle.bt_sparse.specs.SparseTree.{height, held_at}
-use Rattle.bt_sparse.specs.Laws.{IsClashOnPath}
+use Rattle.bt_sparse.specs.Law.{IsClashOnPath}
 use Rattle.bt_sparse.proofs.Leaves.{on_leaf_path}
-use Rattle.bt_sparse.proofs.laws.leaves_are_files.Goals as goal
+use Rattle.bt_sparse.proofs.law.leaves_are_files.Goals as goal
 
 pub returns : goal.returns
 returns g c = λ k file i d rooted digests size root held.
