@@ -1,4 +1,4 @@
-ghost use Rattle.std.specs.Prelude.{◌≡◌, ◌≢◌, ◌<◌, ◌≤◌, ◌↔◌, None, IsTrue, IfOk};
+ghost use Rattle.std.specs.Prelude.{◌≡◌, ◌≢◌, ◌<◌, ◌≤◌, ◌↔◌, None, IsTrue, IfOk, OnOk};
 ghost use Rattle.std.specs.Bool.{OnTrue, OnFalse};
 ghost use Rattle.bt_tree.specs.Limits.{max_height};
 ghost use Rattle.bt_tree.specs.TreeShape.{IsInside};
@@ -96,6 +96,7 @@ impl<H: NodeHash> SparseTree<H> {
     ) -> Result<Vec<Hash32>, AnswerError>
         ensures ok { IfOk result (λ digests.
             IsAnswer H.digest self.now base index length layers digests.items) }
+        ensures lawful { OnOk result (IsRequest (height self.now) base index length layers) }
         ensures shape { (result ≡ Err AnswerError.Shape)
             ↔ (¬ IsRequest (height self.now) base index length layers) }
         ensures unknown { (result ≡ Err AnswerError.Unknown)
