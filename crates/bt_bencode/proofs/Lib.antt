@@ -9,11 +9,9 @@ pub mod ReadIntegers
 pub mod ReadKinds
 pub mod ReadParts
 -- the laws of spellings and of the first fault, by a reading that is a function of the text
-pub mod Representable
 pub mod Reading
 pub mod ReadingSteps
 pub mod ReadingLaws
-pub mod FirstFaults
 -- what the look-up of a key and the writer do
 pub mod FieldSearch
 pub mod WriteParts

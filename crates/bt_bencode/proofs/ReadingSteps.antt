@@ -1,8 +1,9 @@
--- A reading of values, by steps: enough steps give one outcome, and a canonical spelling gives its value.
-use Rattle.std.proofs.Common.{◌≡◌, ◌≢◌, ℕ, zero, suc, ◌+◌, ◌^◌, ◌<◌, ◌≤◌, Bool, true, false, List, [], ◌∷◌, ◌++◌, length, get_or, drop}
-use Rattle.std.proofs.Common.{refl, sym, ap, ◌∙◌, arith, append_assoc}
+-- A reading of values, step by step: the text alone determines what it gives, and a spelling gives its value.
+use Rattle.std.proofs.Common.{◌≡◌, ◌≢◌, ℕ, zero, suc, ◌^◌, ◌<◌, ◌≤◌, Bool, true, false, List, [], ◌∷◌, ◌++◌, length, get_or, drop}
+use Rattle.std.proofs.Common.{refl, ap, arith, append_assoc, length-append}
 use Rattle.std.specs.Prelude.{IsTrue, if◌then◌else◌, Option, None, Some, IfSome}
 use Rattle.std.specs.Char.{IsAsciiDigit, is_ascii_digit}
+use Rattle.std.specs.Fmt.{decimal}
 use Rattle.std.specs.Ordering.{nat_cmp, is_lt}
 use Rattle.std.specs.Cmp.Lexicographic.{slice_cmp}
 use Rattle.std.proofs.Math.Dec.{eqb}
@@ -10,29 +11,30 @@ use Rattle.std.proofs.lemmas.Bool.{ne_eqb}
 use Rattle.bt_bencode.specs.Value.{Data, integer, string, list, dictionary, Items, no_items, item, Entries, no_entries, entry}
 use Rattle.bt_bencode.specs.Spelling.{string_spelling, spelling_of, items_spelling, entries_spelling}
 use Rattle.bt_bencode.specs.Doc.{IsBefore, first_key_of, nesting_of, items_nesting, entries_nesting, HasAscendingKeys, ItemsHaveAscendingKeys, EntriesAscend}
-use Rattle.bt_bencode.specs.Error.{truncated, bad_byte, key_order, too_deep}
+use Rattle.bt_bencode.specs.Doc.{HasSmallIntegers, ItemsHaveSmallIntegers, EntriesHaveSmallIntegers}
+use Rattle.bt_bencode.specs.Error.{Fault, truncated, bad_byte, key_order, too_deep}
 use Rattle.bt_bencode.specs.Law.{IsRepresentable, ItemsAreRepresentable, EntriesAreRepresentable}
-use Rattle.bt_bencode.proofs.Reading.{Outcome, read, stopped, unfinished, and_then, digit_decides, read_string, string_read, read_integer, integer_read}
-use Rattle.bt_bencode.proofs.Reading.{string_digit}
+use Rattle.bt_bencode.proofs.Reading.{Outcome, read, stopped, after, digit_decides, read_string, string_read, read_integer, integer_read, string_digit}
 
--- what a text's first byte says of the value
-pub data Kind : Type 0 where
-  nothing an_integer a_list a_dictionary a_string another : Kind
-
-abbrev pub kind_of : List ℕ → Kind
-kind_of [] = nothing
-kind_of (c ∷ text) =
-    if eqb c 105 then an_integer else if eqb c 108 then a_list else if eqb c 100 then a_dictionary
-    else if is_ascii_digit c then a_string else another
-
--- what is read: a value of nesting at most n, or what is left of a list or a dictionary, which makes this value
+-- what is to be read: a value of nesting at most n, or the rest of a list or a dictionary, and what is done with it
 pub data Job : Type 0 where
-  value : ℕ → Job
-  items : ℕ → (Items → Data) → Job
-  entries : ℕ → Option (List ℕ) → (Entries → Data) → Job
+  final : Data → Job
+  value : ℕ → (Data → Job) → Job
+  items : ℕ → (Items → Job) → Job
+  entries : ℕ → Option (List ℕ) → (Entries → Job) → Job
 
-abbrev pub Reader : Type 0
-Reader = Job → List ℕ → Outcome Data
+-- the reading is over, or another job goes on with the rest
+pub data Next : Type 0 where
+  ends : Outcome Data → Next
+  on : Job → List ℕ → Next
+
+abbrev pub halt : Fault → List ℕ → Next
+halt f rest = ends (stopped f rest)
+
+-- a list or a dictionary, where one may begin
+abbrev pub opened : ℕ → (ℕ → Job) → List ℕ → Next
+opened zero inside text = halt too_deep text
+opened (suc n) inside text = on (inside n) (drop 1 text)
 
 -- whether the key may stand behind the one before, where keys have to ascend
 abbrev pub may_follow : Bool → Option (List ℕ) → List ℕ → Bool
@@ -40,166 +42,152 @@ may_follow false before key = true
 may_follow true None key = true
 may_follow true (Some last) key = is_lt (slice_cmp nat_cmp last key)
 
-abbrev pub by_kind : Kind → Reader → ℕ → List ℕ → Outcome Data
-by_kind nothing go n text = stopped truncated []
-by_kind an_integer go n text = and_then (read_integer (drop 1 text)) (λ z rest. read (integer z) rest)
-by_kind a_list go zero text = stopped too_deep text
-by_kind a_list go (suc n) text = go (items n list) (drop 1 text)
-by_kind a_dictionary go zero text = stopped too_deep text
-by_kind a_dictionary go (suc n) text = go (entries n None dictionary) (drop 1 text)
-by_kind a_string go n text = and_then (read_string text) (λ s rest. read (string s) rest)
-by_kind another go n text = stopped bad_byte text
+abbrev pub step : Bool → Job → List ℕ → Next
+step ordered (final d) text = ends (read d text)
+step ordered (value n next) text =
+    if eqb (get_or text 0 0) 105 then after (read_integer (drop 1 text)) halt (λ z rest. on (next (integer z)) rest)
+    else if eqb (get_or text 0 0) 108 then opened n (λ m. items m (λ ds. next (list ds))) text
+    else if eqb (get_or text 0 0) 100 then opened n (λ m. entries m None (λ es. next (dictionary es))) text
+    else if is_ascii_digit (get_or text 0 0) then after (read_string text) halt (λ s rest. on (next (string s)) rest)
+    else if eqb (length text) 0 then halt truncated text else halt bad_byte text
+step ordered (items n next) text =
+    if eqb (get_or text 0 0) 101 then on (next no_items) (drop 1 text) else on (value n (λ d. items n (λ ds. next (item d ds)))) text
+step ordered (entries n before next) text =
+    if eqb (get_or text 0 0) 101 then on (next no_entries) (drop 1 text)
+    else after (read_string text) halt (λ key rest. if may_follow ordered before key
+    then on (value n (λ d. entries n (Some key) (λ es. next (entry key d es)))) rest else halt key_order text)
 
-abbrev pub step : Bool → Reader → Reader
-step ordered go (value n) text = by_kind (kind_of text) go n text
-step ordered go (items n made) text =
-    if eqb (get_or text 0 0) 101 then read (made no_items) (drop 1 text)
-    else and_then (go (value n) text) (λ d rest. go (items n (λ ds. made (item d ds))) rest)
-step ordered go (entries n before made) text =
-    if eqb (get_or text 0 0) 101 then read (made no_entries) (drop 1 text)
-    else and_then (read_string text) (λ key rest. if may_follow ordered before key
-    then and_then (go (value n) rest) (λ d more. go (entries n (Some key) (λ es. made (entry key d es))) more)
-    else stopped key_order text)
+-- the steps from here end with this outcome
+pub data Gives (ordered : Bool) (o : Outcome Data) : Next → Type 0 where
+  there : (p : Outcome Data) → p ≡ o → Gives ordered o (ends p)
+  onward : (job : Job) (text : List ℕ) → Gives ordered o (step ordered job text) → Gives ordered o (on job text)
 
-abbrev run : Bool → ℕ → Reader
-run ordered zero job text = unfinished
-run ordered (suc k) job text = step ordered (run ordered k) job text
+pub gives_once : (ordered : Bool) (o p : Outcome Data) (next : Next) → Gives ordered o next → Gives ordered p next → o ≡ p
+gives_once ordered o p next (there q is) (there q' is') = cc
+gives_once ordered o p next (onward job text a) (onward job' text' b) = gives_once ordered o p (step ordered job text) a b
 
--- so many steps or more give this outcome
-pub record Gives (ordered : Bool) (job : Job) (text : List ℕ) (o : Outcome Data) : Type 0 where
-  steps : ℕ
-  enough : (k : ℕ) → steps ≤ k → run ordered k job text ≡ o
+pub go : {ordered : Bool} {o : Outcome Data} {job : Job} {text : List ℕ} → Gives ordered o (step ordered job text) → Gives ordered o (on job text)
+go {job = job} {text = text} later = onward job text later
 
-pub gives_once : (ordered : Bool) (job : Job) (text : List ℕ) (o p : Outcome Data) → Gives ordered job text o → Gives ordered job text p → o ≡ p
-gives_once ordered job text o p a b = sym (a.enough (a.steps + b.steps) (omega arith)) ∙ b.enough (a.steps + b.steps) (omega arith)
-
-module _ (ordered : Bool) (job : Job) (text : List ℕ) (o : Outcome Data) where
-  pub at_once : ((go : Reader) → step ordered go job text ≡ o) → Gives ordered job text o
-  at_once gives = record { steps = 1; enough = enough }
-    where
-      enough : (k : ℕ) → 1 ≤ k → run ordered k job text ≡ o
-      enough zero le = absurd (omega arith)
-      enough (suc k) le = gives (run ordered k)
-
-  pub behind : (next : Job) (rest : List ℕ) (p : Outcome Data) → Gives ordered next rest p
-      → ((go : Reader) → go next rest ≡ p → step ordered go job text ≡ o) → Gives ordered job text o
-  behind next rest p later gives = record { steps = suc later.steps; enough = enough }
-    where
-      enough : (k : ℕ) → suc later.steps ≤ k → run ordered k job text ≡ o
-      enough zero le = absurd (omega arith)
-      enough (suc k) le = gives (run ordered k) (later.enough k (omega arith))
-
-  pub behind_both : (first next : Job) (more rest : List ℕ) (p q : Outcome Data) → Gives ordered first more p → Gives ordered next rest q
-      → ((go : Reader) → go first more ≡ p → go next rest ≡ q → step ordered go job text ≡ o) → Gives ordered job text o
-  behind_both first next more rest p q inner later gives = record { steps = suc (inner.steps + later.steps); enough = enough }
-    where
-      enough : (k : ℕ) → suc (inner.steps + later.steps) ≤ k → run ordered k job text ≡ o
-      enough zero le = absurd (omega arith)
-      enough (suc k) le = gives (run ordered k) (inner.enough k (omega arith)) (later.enough k (omega arith))
-
-pub digit_kind : (text : List ℕ) → IsAsciiDigit (get_or text 0 0) → kind_of text ≡ a_string
-digit_kind [] digit = absurd (omega (arith, digit.0))
-digit_kind (c ∷ text) digit = rw (
-  ne_eqb c 105 (λ is. omega (arith, digit.1)),
-  ne_eqb c 108 (λ is. omega (arith, digit.1)),
-  ne_eqb c 100 (λ is. omega (arith, digit.1)),
-  (digit_decides c).1 digit,
+pub string_begins : (ordered : Bool) (n : ℕ) (next : Data → Job) (text : List ℕ) → IsAsciiDigit (get_or text 0 0)
+    → step ordered (value n next) text ≡ after (read_string text) halt (λ s rest. on (next (string s)) rest)
+string_begins ordered n next text digit = rw (
+  ne_eqb (get_or text 0 0) 105 (λ is. omega (arith, digit.1)),
+  ne_eqb (get_or text 0 0) 108 (λ is. omega (arith, digit.1)),
+  ne_eqb (get_or text 0 0) 100 (λ is. omega (arith, digit.1)),
+  (digit_decides _).1 digit,
 ) refl
 
--- items, and what is behind them
-pub append_items : Items → Items → Items
-append_items no_items es = es
-append_items (item d ds) es = item d (append_items ds es)
+-- what is done with the items behind these
+abbrev pub behind_items : Items → (Items → Job) → Items → Job
+behind_items no_items next = next
+behind_items (item d ds) next = behind_items ds (λ es. next (item d es))
 
-pub append_entries : Entries → Entries → Entries
-append_entries no_entries fs = fs
-append_entries (entry key d es) fs = entry key d (append_entries es fs)
+all_items : (ds : Items) (next : Items → Job) → behind_items ds next no_items ≡ next ds
+all_items no_items next = refl
+all_items (item d ds) next = all_items ds _
 
-append_no_items : (ds : Items) → append_items ds no_items ≡ ds
-unfolding append_items
-append_no_items no_items = refl
-append_no_items (item d ds) = ap (item d) (append_no_items ds)
+abbrev pub behind_entries : Entries → (Entries → Job) → Entries → Job
+behind_entries no_entries next = next
+behind_entries (entry key d es) next = behind_entries es (λ fs. next (entry key d fs))
 
-append_no_entries : (es : Entries) → append_entries es no_entries ≡ es
-unfolding append_entries
-append_no_entries no_entries = refl
-append_no_entries (entry key d es) = ap (entry key d) (append_no_entries es)
+all_entries : (es : Entries) (next : Entries → Job) → behind_entries es next no_entries ≡ next es
+all_entries no_entries next = refl
+all_entries (entry key d es) next = all_entries es _
 
 -- the last key of the entries, or the one before where there are none
 abbrev pub last_from : Option (List ℕ) → Entries → Option (List ℕ)
 last_from before no_entries = before
 last_from before (entry key d es) = last_from (Some key) es
 
--- the key may stand behind the one before
-abbrev pub Follows : Bool → Option (List ℕ) → List ℕ → Type 0
-Follows ordered before key = IsTrue (may_follow ordered before key)
+-- the key stands behind the one before
+abbrev pub Follows : Option (List ℕ) → List ℕ → Type 0
+Follows before key = IfSome before (λ last. IsBefore last key)
 
-pub first_follows : (ordered : Bool) (key : List ℕ) (es : Entries) → (IsTrue ordered → IfSome (first_key_of es) (IsBefore key))
-    → IfSome (first_key_of es) (Follows ordered (Some key))
-first_follows ordered key no_entries ascend = tt
-first_follows false key (entry k d es) ascend = refl
-first_follows true key (entry k d es) ascend = ap is_lt (ascend refl)
+follows_read : (ordered : Bool) (before : Option (List ℕ)) (key : List ℕ) → (IsTrue ordered → Follows before key) → IsTrue (may_follow ordered before key)
+follows_read false before key follows = refl
+follows_read true None key follows = refl
+follows_read true (Some last) key follows = ap is_lt (follows refl)
 
-pub first_of_all : (ordered : Bool) (es : Entries) → IfSome (first_key_of es) (Follows ordered None)
-first_of_all ordered no_entries = tt
-first_of_all false (entry key d es) = refl
-first_of_all true (entry key d es) = refl
+pub first_of_all : (es : Entries) → IfSome (first_key_of es) (Follows None)
+first_of_all no_entries = tt
+first_of_all (entry key d es) = tt
 
--- no value begins with e
-no_end : (d : Data) (rest : List ℕ) → IsRepresentable d → get_or (spelling_of d ++ rest) 0 0 ≢ 101
-unfolding spelling_of IsRepresentable
-no_end (integer z) rest fits is = omega (arith, is)
-no_end (string s) rest fits is = omega (arith, (string_digit s rest fits).1)
-no_end (list ds) rest fits is = omega (arith, is)
-no_end (dictionary es) rest fits is = omega (arith, is)
-
+-- neither a value nor a key begins with e
 pub no_e : (s rest : List ℕ) → length s < 2 ^ 64 → get_or (string_spelling s ++ rest) 0 0 ≢ 101
 no_e s rest fits is = omega (arith, is, (string_digit s rest fits).1)
 
-module _ (ordered : Bool) where
+no_end : (d : Data) (rest : List ℕ) → IsRepresentable d → get_or (spelling_of d ++ rest) 0 0 ≢ 101
+unfolding spelling_of IsRepresentable
+no_end (string s) rest fits = no_e s rest fits
+no_end _ rest fits = λ is. omega (arith, is)
+
+module _ (ordered : Bool) (o : Outcome Data) where
   mutual
-    unfolding spelling_of nesting_of HasAscendingKeys IsRepresentable append_items append_entries
+    unfolding spelling_of nesting_of HasAscendingKeys IsRepresentable
 
-    pub value_read : (d : Data) (n : ℕ) (rest : List ℕ) → nesting_of d ≤ n → (IsTrue ordered → HasAscendingKeys d) → IsRepresentable d
-        → Gives ordered (value n) (spelling_of d ++ rest) (read d rest)
-    value_read (integer z) n rest deep keys fits = at_once _ _ _ _ (λ go. rw (append_assoc _ _ _, integer_read z _ fits) refl)
-    value_read (string s) n rest deep keys fits = at_once _ _ _ _ (λ go. rw (digit_kind _ (string_digit s _ fits), string_read s _ fits) refl)
-    value_read (list ds) zero rest deep keys fits = absurd (omega arith)
-    value_read (list ds) (suc n) rest deep keys fits =
-        behind _ _ _ _ _ _ _ (items_read ds n list _ _ (omega arith) keys fits
-        (at_once _ _ _ _ (λ go. rw (append_no_items _) refl)))
-        (λ go gives. rw (append_assoc _ _ _) gives)
-    value_read (dictionary es) zero rest deep keys fits = absurd (omega arith)
-    value_read (dictionary es) (suc n) rest deep keys fits =
-        behind _ _ _ _ _ _ _ (entries_read es n None _ _ _ (omega arith) keys (first_of_all ordered es) fits
-        (at_once _ _ _ _ (λ go. rw (append_no_entries _) refl)))
-        (λ go gives. rw (append_assoc _ _ _) gives)
+    pub value_read : (d : Data) (n : ℕ) (next : Data → Job) (rest : List ℕ) → nesting_of d ≤ n → (IsTrue ordered → HasAscendingKeys d)
+        → IsRepresentable d → Gives ordered o (on (next d) rest) → Gives ordered o (on (value n next) (spelling_of d ++ rest))
+    value_read (integer z) n next rest deep keys fits later = go (rw (append_assoc _ _ _, integer_read z _ fits) later)
+    value_read (string s) n next rest deep keys fits later =
+        go (rw (string_begins _ _ _ _ (string_digit s _ fits), string_read s _ fits) later)
+    value_read (list ds) zero next rest deep keys fits later = absurd (omega arith)
+    value_read (list ds) (suc n) next rest deep keys fits later =
+        go (rw (append_assoc _ _ _) (items_read ds n _ _ (omega arith) keys fits (go (rw (all_items ds (λ es. next (list es))) later))))
+    value_read (dictionary es) zero next rest deep keys fits later = absurd (omega arith)
+    value_read (dictionary es) (suc n) next rest deep keys fits later =
+        go (rw (append_assoc _ _ _) (entries_read es n None _ _ (omega arith) keys (λ is. first_of_all es) fits
+        (go (rw (all_entries es (λ fs. next (dictionary fs))) later))))
 
-    pub items_read : (ds : Items) (n : ℕ) (made : Items → Data) (rest : List ℕ) (o : Outcome Data) → items_nesting ds ≤ n
+    pub items_read : (ds : Items) (n : ℕ) (next : Items → Job) (rest : List ℕ) → items_nesting ds ≤ n
         → (IsTrue ordered → ItemsHaveAscendingKeys ds) → ItemsAreRepresentable ds
-        → Gives ordered (items n (λ es. made (append_items ds es))) rest o
-        → Gives ordered (items n made) (items_spelling ds ++ rest) o
-    items_read no_items n made rest o deep keys fits later = later
-    items_read (item d ds) n made rest o deep keys fits later =
-        behind_both _ _ _ _ _ _ _ _ _ _ (value_read d n (items_spelling ds ++ rest) (omega arith) (λ is. (keys is).0) fits.0)
-        (items_read ds n (λ es. made (item d es)) rest o (omega arith) (λ is. (keys is).1) fits.1 later)
-        (λ go first next. rw (append_assoc (spelling_of d) (items_spelling ds) rest, ne_eqb _ 101 (no_end d (items_spelling ds ++ rest) fits.0), first) next)
+        → Gives ordered o (on (items n (behind_items ds next)) rest) → Gives ordered o (on (items n next) (items_spelling ds ++ rest))
+    items_read no_items n next rest deep keys fits later = later
+    items_read (item d ds) n next rest deep keys fits later =
+        go (rw (append_assoc (spelling_of d) (items_spelling ds) rest, ne_eqb _ 101 (no_end d (items_spelling ds ++ rest) fits.0))
+        (value_read d n _ _ (omega arith) (λ is. (keys is).0) fits.0 (items_read ds n _ rest (omega arith) (λ is. (keys is).1) fits.1 later)))
 
-    pub entries_read : (es : Entries) (n : ℕ) (before : Option (List ℕ)) (made : Entries → Data) (rest : List ℕ) (o : Outcome Data)
-        → entries_nesting es ≤ n → (IsTrue ordered → EntriesAscend es) → IfSome (first_key_of es) (Follows ordered before) → EntriesAreRepresentable es
-        → Gives ordered (entries n (last_from before es) (λ fs. made (append_entries es fs))) rest o
-        → Gives ordered (entries n before made) (entries_spelling es ++ rest) o
-    entries_read no_entries n before made rest o deep keys follows fits later = later
-    entries_read (entry key d es) n before made rest o deep keys follows fits later =
+    pub entries_read : (es : Entries) (n : ℕ) (before : Option (List ℕ)) (next : Entries → Job) (rest : List ℕ) → entries_nesting es ≤ n
+        → (IsTrue ordered → EntriesAscend es) → (IsTrue ordered → IfSome (first_key_of es) (Follows before)) → EntriesAreRepresentable es
+        → Gives ordered o (on (entries n (last_from before es) (behind_entries es next)) rest)
+        → Gives ordered o (on (entries n before next) (entries_spelling es ++ rest))
+    entries_read no_entries n before next rest deep keys follows fits later = later
+    entries_read (entry key d es) n before next rest deep keys follows fits later =
         let more = spelling_of d ++ (entries_spelling es ++ rest) in
-        behind_both _ _ _ _ _ _ _ _ _ _ (value_read d n (entries_spelling es ++ rest) (omega arith) (λ is. (keys is).1) fits.1)
-        (entries_read es n (Some key) (λ fs. made (entry key d fs)) rest o (omega arith) (λ is. (keys is).2)
-        (first_follows ordered key es (λ is. (keys is).0)) fits.2 later)
-        (λ go first next. rw (
+        go (rw (
           append_assoc (string_spelling key ++ spelling_of d) (entries_spelling es) rest,
           append_assoc (string_spelling key) (spelling_of d) (entries_spelling es ++ rest),
-          ne_eqb (get_or (string_spelling key ++ more) 0 0) 101 (no_e key more fits.0),
+          ne_eqb _ 101 (no_e key more fits.0),
           string_read key more fits.0,
-          follows,
-          first,
-        ) next)
+          follows_read ordered before key follows,
+        ) (value_read d n _ _ (omega arith) (λ is. (keys is).1) fits.1
+        (entries_read es n (Some key) _ rest (omega arith) (λ is. (keys is).2) (λ is. (keys is).0) fits.2 later)))
+
+pub string_is_longer : (s : List ℕ) → length s ≤ length (string_spelling s)
+string_is_longer s = omega (arith, length-append (decimal (length s)) (58 ∷ s))
+
+-- a spelling that fits memory is that of a value that a `Value` can hold
+mutual
+  unfolding spelling_of HasSmallIntegers IsRepresentable
+
+  pub representable : (d : Data) → HasSmallIntegers d → length (spelling_of d) < 2 ^ 64 → IsRepresentable d
+  representable (integer z) fits short = fits
+  representable (string s) fits short = omega (arith, string_is_longer s)
+  representable (list ds) fits short = items_representable ds fits (omega (arith, length-append (items_spelling ds) (101 ∷ [])))
+  representable (dictionary es) fits short = entries_representable es fits (omega (arith, length-append (entries_spelling es) (101 ∷ [])))
+
+  pub items_representable : (ds : Items) → ItemsHaveSmallIntegers ds → length (items_spelling ds) < 2 ^ 64 → ItemsAreRepresentable ds
+  items_representable no_items fits short = tt
+  items_representable (item d ds) fits short =
+      let parts = length-append (spelling_of d) (items_spelling ds) in
+      (representable d fits.0 (omega (arith, parts)), items_representable ds fits.1 (omega (arith, parts)))
+
+  pub entries_representable : (es : Entries) → EntriesHaveSmallIntegers es → length (entries_spelling es) < 2 ^ 64 → EntriesAreRepresentable es
+  entries_representable no_entries fits short = tt
+  entries_representable (entry key d es) fits short =
+      let outer = length-append (string_spelling key ++ spelling_of d) (entries_spelling es) in
+      let inner = length-append (string_spelling key) (spelling_of d) in (
+        omega (arith, outer, inner, string_is_longer key),
+        representable d fits.0 (omega (arith, outer, inner)),
+        entries_representable es fits.1 (omega (arith, outer, inner)),
+      )

@@ -6,7 +6,7 @@ use Rattle.bt_bencode.specs.Reader.{Stops, IsFirstFault, in_the_value, behind_th
 use Rattle.bt_bencode.specs.ReaderSteps.{FaultFrom}
 use Rattle.bt_bencode.specs.declared.error.BencodeError.{BencodeError}
 use Rattle.bt_bencode.proofs.FaultPassing.{fault_passed}
-use Rattle.bt_bencode.proofs.FirstFaults.{none_spells, truncated_at_end, trailing_behind_value}
+use Rattle.bt_bencode.proofs.ReadingLaws.{none_spells, truncated_at_end, trailing_behind_value}
 use Rattle.bt_bencode.proofs.reader.parse.Goals as goal
 
 -- what holds of a first fault, of one in the value
