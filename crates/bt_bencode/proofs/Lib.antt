@@ -1,9 +1,7 @@
 -- what a `Value` holds, and what a fault says
 pub mod ValueData
-pub mod FaultPassing
 -- what the reader finds: ranges of bytes, numerals, and each kind of value, part by part
 pub mod ReadRanges
-pub mod ReadNumerals
 pub mod ReadStrings
 pub mod ReadIntegers
 pub mod ReadKinds

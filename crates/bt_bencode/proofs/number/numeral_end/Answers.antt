@@ -1,11 +1,11 @@
-use Rattle.std.proofs.Common.{◌≡◌, ◌≢◌, [], ◌⊎◌, inl, inr, length, drop, slice_index, true, false, sym, ◌∙◌, refl, arith, length-drop}
+use Rattle.std.proofs.Common.{◌≡◌, ◌≢◌, ◌-◌, [], ◌⊎◌, inl, inr, length, drop, slice_index, true, false, sym, ◌∙◌, refl, arith, length-drop}
 use Rattle.std.specs.Prelude.{slice_range}
 use Rattle.std.specs.Str.Parse.{AllDigits}
 use Rattle.std.proofs.lemmas.List.{take_rest}
 use Rattle.std.proofs.lemmas.List.Folds.{drop_split}
 use Rattle.std.proofs.Math.Seq.{drop-length}
 use Rattle.bt_bencode.specs.Number.{LeadsWithZero, at_zero, at_end, at_other}
-use Rattle.bt_bencode.proofs.ReadRanges.{nothing_between, drop_first}
+use Rattle.bt_bencode.proofs.ReadRanges.{drop_first}
 use Rattle.bt_bencode.proofs.number.numeral_end.Goals as goal
 use Rattle.bt_bencode.proofs.number.numeral_end.Goals.{then-end-at-via-then-end-at, then-end-at-via-else-end-at+then-bytes-end}
 
@@ -31,7 +31,7 @@ returns-then-end-at-clause-fault c =
     c.if-leads_with_zero.ensures.1 (rw take_rest leads) in cc in
     let first : slice_index (drop end bytes) 0 ≡ slice_index bytes end = drop_first end bytes in
     let other : (slice_range bytes c.args.at end ≡ []) ⊎ (slice_index (drop end bytes) 0 ≢ c.args.stop) = elim c.then-end-at.branch [
-      | then-end-at-via-then-end-at w ↦ inl (nothing_between bytes _ end (omega arith))
+      | then-end-at-via-then-end-at w ↦ inl (let none : end - c.args.at ≡ 0 = omega arith in rw none refl)
       | then-end-at-via-else-end-at+then-bytes-end w ↦ inr (λ same. w.if-bytes-end.true (sym first ∙ same))
     ] in (
       c.digits_end-end.ensures.inside,
