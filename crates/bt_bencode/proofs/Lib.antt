@@ -4,7 +4,6 @@ pub mod ValueData
 pub mod ReadRanges
 pub mod ReadStrings
 pub mod ReadIntegers
-pub mod ReadKinds
 pub mod ReadParts
 -- the laws of spellings and of the first fault, by a reading that is a function of the text
 pub mod Reading
