@@ -6,7 +6,7 @@ use Rattle.std.specs.Ordering.{nat_cmp, is_lt}
 use Rattle.std.specs.Cmp.Lexicographic.{slice_cmp}
 use Rattle.std.proofs.lemmas.List.{take_more, take_all}
 use Rattle.bt_bencode.specs.Value.{Data, list, dictionary, data_of, items_of, entries_of}
-use Rattle.bt_bencode.specs.Spelling.{string_spelling, spelling_of, items_spelling, entries_spelling}
+use Rattle.bt_bencode.specs.Spelling.{spelling_of, items_spelling, entries_spelling}
 use Rattle.bt_bencode.specs.Doc.{nesting_of, HasAscendingKeys, HasSmallIntegers, IsCanonicalWithin}
 use Rattle.bt_bencode.specs.Error.{Fault, key_order, too_deep}
 use Rattle.bt_bencode.specs.Reader.{StringStops, Stops, last_key_of, EndsBefore, at_max_nesting, in_item, in_key, at_key, in_value}

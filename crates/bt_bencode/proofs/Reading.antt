@@ -1,5 +1,5 @@
 -- A reading of a text from the left as a function of the text: what it says of numerals, strings and integers.
-use Rattle.std.proofs.Common.{◌≡◌, ◌≢◌, ℕ, ℤ, zero, suc, pos, negsuc, ◌^◌, ◌<◌, Bool, true, false, ◌⊎◌, inl, inr, List, [], ◌∷◌, ◌++◌, length, get_or}
+use Rattle.std.proofs.Common.{◌≡◌, ◌≢◌, ℕ, ℤ, pos, negsuc, ◌^◌, ◌<◌, Bool, true, false, ◌⊎◌, inl, inr, List, [], ◌∷◌, ◌++◌, length, get_or}
 use Rattle.std.proofs.Common.{take, drop, refl, sym, ap, ◌∙◌, subst, arith, append_assoc, length-append}
 use Rattle.std.specs.Prelude.{FitsSigned, IsTrue, if◌then◌else◌, ◌==◌, ◌&&◌, ◌||◌}
 use Rattle.std.specs.Bool.{Decides}
@@ -82,11 +82,11 @@ other_behind stop (d ∷ ds) (c ∷ rest) some (inr other) = rw (ne_eqb c _ othe
 pub numeral_stops : (negative : Bool) (stop : ℕ) (text : List ℕ) (f : Fault) (rest : List ℕ) → NumeralStops negative stop text f rest
     → read_numeral negative stop text ≡ stopped f rest
 unfolding read_numeral behind_digits
-numeral_stops negative stop text f rest (at_zero is) = rw ((leads_decides _ text).1 is) refl
-numeral_stops negative stop text f rest (at_end digits no_lead) =
+numeral_stops _ _ text _ _ (at_zero is) = rw ((leads_decides _ text).1 is) refl
+numeral_stops _ _ text _ _ (at_end digits no_lead) =
     split_read _ _ text [] _ (sym (append-nil _)) digits no_lead (λ digit. absurd (omega (arith, digit.0)))
-numeral_stops negative stop text f rest (at_other ds more parts digits no_lead some other differs) =
-    split_read _ _ ds more _ parts digits no_lead other ∙ other_behind stop ds _ some differs
+numeral_stops _ _ text _ _ (at_other ds more parts digits no_lead some other differs) =
+    split_read _ _ ds more _ parts digits no_lead other ∙ other_behind _ ds _ some differs
 
 pub numeral_read : (negative : Bool) (stop : ℕ) (ds rest : List ℕ) → 57 < stop → IsNumeral 10 ds → ¬ LeadsWithZero negative (ds ++ stop ∷ rest)
     → read_numeral negative stop (ds ++ stop ∷ rest) ≡ read ds rest
@@ -98,16 +98,14 @@ numeral_read negative stop (d ∷ ds) rest high numeral no_zero =
 -- a number's digits have no zero that may not stand, and behind a minus none but 0 itself begins with one
 decimal_no_zero : (negative : Bool) (n stop : ℕ) (rest : List ℕ) → (IsTrue negative → 0 < n) → n < 2 ^ 64 → 57 < stop
     → ¬ LeadsWithZero negative (decimal n ++ stop ∷ rest)
-decimal_no_zero negative zero stop rest some fits other leads = elim leads.1 [
-  | inl is ↦ absurd (omega (arith, some is))
-  | inr digit ↦ let text : decimal 0 ++ stop ∷ rest ≡ 48 ∷ stop ∷ rest = ap (λ ds. ds ++ stop ∷ rest) (decimal_digit 0 (omega arith)) in
-      omega (arith, (subst (λ t. IsAsciiDigit (get_or t 1 0)) text digit).1)
-]
-decimal_no_zero negative (suc n) stop rest positive fits other leads =
-    let some : 0 < length (decimal (suc n)) = decimal_nonempty _ fits in
-    let first : get_or (decimal (suc n) ++ stop ∷ rest) 0 0 ≡ get_or (decimal (suc n)) 0 0 = get_or_append_left _ _ 0 0 some in
-    let above : 48 < get_or (decimal (suc n)) 0 0 = first_decimal _ (omega arith) fits in
-    omega (arith, leads.0)
+decimal_no_zero negative n stop rest some fits high leads =
+    let none : ¬ (0 < n) = λ above.
+    omega (arith, leads.0, first_decimal n above fits, get_or_append_left (decimal n) (stop ∷ rest) 0 0 (decimal_nonempty n fits)) in
+    elim leads.1 [
+      | inl is ↦ none (some is)
+      | inr digit ↦ let text : decimal n ≡ 48 ∷ [] = ap decimal (omega (arith, none)) ∙ decimal_digit 0 (omega arith) in
+          omega (arith, (rw text at digit).1)
+    ]
 
 pub read_string : List ℕ → Outcome (List ℕ)
 read_string text = after (read_numeral false 58 text) stopped (λ ds rest. let n = digits_value 10 ds in
@@ -129,8 +127,8 @@ string_read s rest fits =
 
 pub string_stops : (text : List ℕ) (f : Fault) (rest : List ℕ) → StringStops text f rest → read_string text ≡ stopped f rest
 unfolding read_string
-string_stops text f rest (in_length g left stops) = rw (numeral_stops _ 58 _ g _ stops) refl
-string_stops text f rest (in_bytes ds more parts numeral no_lead short) =
+string_stops _ _ _ (in_length f rest stops) = rw (numeral_stops _ 58 _ f _ stops) refl
+string_stops _ _ _ (in_bytes ds more parts numeral no_lead short) =
     let shorter : ltb (length more) (digits_value 10 ds) ≡ true = (Decides-ltb _ _).1 short in
     rw (parts, numeral_read _ 58 _ _ (omega arith) numeral (rw parts at no_lead), shorter) refl
 

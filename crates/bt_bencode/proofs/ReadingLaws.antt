@@ -1,27 +1,192 @@
--- What stops a reading stops it once, and only where no canonical value begins; and a text begins with one value at most.
-use Rattle.std.proofs.Common.{◌≡◌, ◌≢◌, ℕ, suc, ◌+◌, ◌^◌, ◌<◌, ◌≤◌, Bool, true, false, inl, inr, List, [], ◌∷◌, ◌++◌, length, get_or, take, drop}
-use Rattle.std.proofs.Common.{refl, sym, ap, ◌∙◌, subst, arith, length-append, length-drop}
-use Rattle.std.specs.Prelude.{None, Some, unwrap_or}
+-- A reading of values, step by step: the text alone determines what it gives. So what stops a reading stops it once,
+-- and only where no canonical value begins, and a text begins with one value at most.
+use Rattle.std.proofs.Common.{◌≡◌, ◌≢◌, ℕ, zero, suc, ◌^◌, ◌<◌, ◌≤◌, Bool, true, false, List, [], ◌∷◌, ◌++◌, length, get_or, drop, refl, ap, arith}
+use Rattle.std.proofs.Common.{append_assoc, length-append, ◌+◌, inl, inr, take, sym, ◌∙◌, subst, length-drop}
+use Rattle.std.specs.Prelude.{IsTrue, if◌then◌else◌, Option, None, Some, IfSome, unwrap_or}
+use Rattle.std.specs.Char.{IsAsciiDigit, is_ascii_digit}
+use Rattle.std.specs.Fmt.{decimal}
+use Rattle.std.specs.Ordering.{nat_cmp, is_lt}
+use Rattle.std.specs.Cmp.Lexicographic.{slice_cmp}
+use Rattle.std.proofs.Math.Dec.{eqb}
+use Rattle.std.proofs.lemmas.Bool.{ne_eqb}
+use Rattle.bt_bencode.specs.Value.{Data, integer, string, list, dictionary, Items, no_items, item, Entries, no_entries, entry}
+use Rattle.bt_bencode.specs.Spelling.{string_spelling, spelling_of, items_spelling, entries_spelling}
+use Rattle.bt_bencode.specs.Doc.{IsBefore, first_key_of, nesting_of, items_nesting, entries_nesting, HasAscendingKeys, ItemsHaveAscendingKeys}
+use Rattle.bt_bencode.specs.Doc.{EntriesAscend, HasSmallIntegers, ItemsHaveSmallIntegers, EntriesHaveSmallIntegers, IsCanonicalWithin}
+use Rattle.bt_bencode.specs.Error.{Fault, truncated, bad_byte, key_order, too_deep, trailing}
+use Rattle.bt_bencode.specs.Law.{IsRepresentable, ItemsAreRepresentable, EntriesAreRepresentable, NoProperPrefix, BeginsOnce, FirstFaultIsOne}
+use Rattle.bt_bencode.specs.Law.{FirstFaultRefuses}
+use Rattle.bt_bencode.proofs.Reading.{Outcome, read, stopped, after, digit_decides, read_string, string_read, read_integer, integer_read}
+use Rattle.bt_bencode.proofs.Reading.{string_digit, denied, integer_stops, range_stops, string_stops}
 use Rattle.std.specs.Bool.{Decides}
-use Rattle.std.specs.Ordering.{is_lt}
 use Rattle.std.specs.declared.cmp.Ordering.{Ordering}
 use Rattle.std.specs.declared.cmp.Ordering.TheVariants.{Less, Equal, Greater}
 use Rattle.std.proofs.Math.Seq.{take-append_seam}
-use Rattle.std.proofs.lemmas.Bool.{ne_eqb}
 use Rattle.std.proofs.lemmas.List.{append-nil}
-use Rattle.bt_bencode.specs.Value.{Data, dictionary, Entries, no_entries, entry}
-use Rattle.bt_bencode.specs.Spelling.{string_spelling, spelling_of, items_spelling, entries_spelling}
-use Rattle.bt_bencode.specs.Doc.{nesting_of, HasAscendingKeys, HasSmallIntegers, IsCanonicalWithin}
-use Rattle.bt_bencode.specs.Error.{Fault, truncated, trailing}
 use Rattle.bt_bencode.specs.Number.{NumeralStops, at_end as numeral_at_end}
-use Rattle.bt_bencode.specs.Reader.{last_key_of, EndsBefore, StringStops, in_length, in_bytes}
-use Rattle.bt_bencode.specs.Reader.{Stops, at_end, at_other, in_integer, out_of_range, in_string, at_max_nesting, in_item, in_key, at_key, in_value}
-use Rattle.bt_bencode.specs.Reader.{IsFirstFault, in_the_value, behind_the_value, IsValueEnd}
-use Rattle.bt_bencode.specs.Law.{IsRepresentable, NoProperPrefix, BeginsOnce, FirstFaultIsOne, FirstFaultRefuses}
-use Rattle.bt_bencode.proofs.Reading.{Outcome, read, stopped, denied, integer_stops, range_stops, string_read, string_stops, digit_decides}
-use Rattle.bt_bencode.proofs.ReadingSteps.{Job, final, value, entries, may_follow, on, Gives, there, go, gives_once, string_begins, behind_entries, last_from}
-use Rattle.bt_bencode.proofs.ReadingSteps.{first_of_all, no_e, value_read, items_read, entries_read, string_is_longer}
-use Rattle.bt_bencode.proofs.ReadingSteps.{representable, items_representable, entries_representable}
+use Rattle.bt_bencode.specs.Reader.{last_key_of, EndsBefore, StringStops, in_length, in_bytes, Stops, at_end, at_other, in_integer, out_of_range}
+use Rattle.bt_bencode.specs.Reader.{in_string, at_max_nesting, in_item, in_key, at_key, in_value, IsFirstFault, in_the_value, behind_the_value}
+use Rattle.bt_bencode.specs.Reader.{IsValueEnd}
+
+-- what is to be read: a value of nesting at most n, or the rest of a list or a dictionary, and what is done with it
+pub data Job : Type 0 where
+  final : Data → Job
+  value : ℕ → (Data → Job) → Job
+  items : ℕ → (Items → Job) → Job
+  entries : ℕ → Option (List ℕ) → (Entries → Job) → Job
+
+-- the reading is over, or another job goes on with the rest
+pub data Next : Type 0 where
+  ends : Outcome Data → Next
+  on : Job → List ℕ → Next
+
+abbrev halt : Fault → List ℕ → Next
+halt f rest = ends (stopped f rest)
+
+-- a list or a dictionary, where one may begin
+abbrev pub opened : ℕ → (ℕ → Job) → List ℕ → Next
+opened zero inside text = halt too_deep text
+opened (suc n) inside text = on (inside n) (drop 1 text)
+
+-- whether the key may stand behind the one before, where keys have to ascend
+abbrev pub may_follow : Bool → Option (List ℕ) → List ℕ → Bool
+may_follow false before key = true
+may_follow true None key = true
+may_follow true (Some last) key = is_lt (slice_cmp nat_cmp last key)
+
+abbrev pub step : Bool → Job → List ℕ → Next
+step ordered (final d) text = ends (read d text)
+step ordered (value n next) text =
+    if eqb (get_or text 0 0) 105 then after (read_integer (drop 1 text)) halt (λ z rest. on (next (integer z)) rest)
+    else if eqb (get_or text 0 0) 108 then opened n (λ m. items m (λ ds. next (list ds))) text
+    else if eqb (get_or text 0 0) 100 then opened n (λ m. entries m None (λ es. next (dictionary es))) text
+    else if is_ascii_digit (get_or text 0 0) then after (read_string text) halt (λ s rest. on (next (string s)) rest)
+    else if eqb (length text) 0 then halt truncated text else halt bad_byte text
+step ordered (items n next) text =
+    if eqb (get_or text 0 0) 101 then on (next no_items) (drop 1 text) else on (value n (λ d. items n (λ ds. next (item d ds)))) text
+step ordered (entries n before next) text =
+    if eqb (get_or text 0 0) 101 then on (next no_entries) (drop 1 text)
+    else after (read_string text) halt (λ key rest. if may_follow ordered before key
+    then on (value n (λ d. entries n (Some key) (λ es. next (entry key d es)))) rest else halt key_order text)
+
+-- the steps from here end with this outcome
+pub data Gives (ordered : Bool) (o : Outcome Data) : Next → Type 0 where
+  there : (p : Outcome Data) → p ≡ o → Gives ordered o (ends p)
+  onward : (job : Job) (text : List ℕ) → Gives ordered o (step ordered job text) → Gives ordered o (on job text)
+
+pub gives_once : (ordered : Bool) (o p : Outcome Data) (next : Next) → Gives ordered o next → Gives ordered p next → o ≡ p
+gives_once ordered o p next (there q is) (there q' is') = cc
+gives_once ordered o p next (onward job text a) (onward job' text' b) = gives_once ordered o p (step ordered job text) a b
+
+pub go : {ordered : Bool} {o : Outcome Data} {job : Job} {text : List ℕ} → Gives ordered o (step ordered job text) → Gives ordered o (on job text)
+go {job = job} {text = text} later = onward job text later
+
+pub string_begins : (ordered : Bool) (n : ℕ) (next : Data → Job) (text : List ℕ) → IsAsciiDigit (get_or text 0 0)
+    → step ordered (value n next) text ≡ after (read_string text) halt (λ s rest. on (next (string s)) rest)
+string_begins ordered n next text digit = rw (
+  ne_eqb (get_or text 0 0) 105 (λ is. omega (arith, digit.1)),
+  ne_eqb (get_or text 0 0) 108 (λ is. omega (arith, digit.1)),
+  ne_eqb (get_or text 0 0) 100 (λ is. omega (arith, digit.1)),
+  (digit_decides _).1 digit,
+) refl
+
+-- the last key of the entries, or the one before where there are none
+abbrev pub last_from : Option (List ℕ) → Entries → Option (List ℕ)
+last_from before no_entries = before
+last_from before (entry key d es) = last_from (Some key) es
+
+-- the key stands behind the one before
+abbrev pub Follows : Option (List ℕ) → List ℕ → Type 0
+Follows before key = IfSome before (λ last. IsBefore last key)
+
+follows_read : (ordered : Bool) (before : Option (List ℕ)) (key : List ℕ) → (IsTrue ordered → Follows before key) → IsTrue (may_follow ordered before key)
+follows_read false before key follows = refl
+follows_read true None key follows = refl
+follows_read true (Some last) key follows = ap is_lt (follows refl)
+
+pub first_of_all : (es : Entries) → IfSome (first_key_of es) (Follows None)
+first_of_all no_entries = tt
+first_of_all (entry key d es) = tt
+
+-- neither a value nor a key begins with e
+pub no_e : (s rest : List ℕ) → length s < 2 ^ 64 → get_or (string_spelling s ++ rest) 0 0 ≢ 101
+no_e s rest fits is = omega (arith, is, (string_digit s rest fits).1)
+
+no_end : (d : Data) (rest : List ℕ) → IsRepresentable d → get_or (spelling_of d ++ rest) 0 0 ≢ 101
+unfolding spelling_of IsRepresentable
+no_end (string s) rest fits = no_e s rest fits
+no_end _ rest fits = λ is. omega (arith, is)
+
+module _ (ordered : Bool) (o : Outcome Data) where
+  mutual
+    unfolding spelling_of nesting_of HasAscendingKeys IsRepresentable
+
+    pub value_read : (d : Data) (n : ℕ) (next : Data → Job) (rest : List ℕ) → nesting_of d ≤ n → (IsTrue ordered → HasAscendingKeys d)
+        → IsRepresentable d → Gives ordered o (on (next d) rest) → Gives ordered o (on (value n next) (spelling_of d ++ rest))
+    value_read (integer z) n next rest deep keys fits later = go (rw (append_assoc _ _ _, integer_read z _ fits) later)
+    value_read (string s) n next rest deep keys fits later =
+        go (rw (string_begins _ _ _ _ (string_digit s _ fits), string_read s _ fits) later)
+    value_read (list ds) zero next rest deep keys fits later = absurd (omega arith)
+    value_read (list ds) (suc n) next rest deep keys fits later =
+        go (rw (append_assoc _ _ _) (items_read ds n _ _ (omega arith) keys fits (λ onto is. go (rw is later))))
+    value_read (dictionary es) zero next rest deep keys fits later = absurd (omega arith)
+    value_read (dictionary es) (suc n) next rest deep keys fits later =
+        go (rw (append_assoc _ _ _) (entries_read es n None _ _ (omega arith) keys (λ is. first_of_all es) fits
+        (λ onto is. go (rw is later))))
+
+    pub items_read : (ds : Items) (n : ℕ) (next : Items → Job) (rest : List ℕ) → items_nesting ds ≤ n
+        → (IsTrue ordered → ItemsHaveAscendingKeys ds) → ItemsAreRepresentable ds
+        → ((onto : Items → Job) → onto no_items ≡ next ds → Gives ordered o (on (items n onto) rest))
+        → Gives ordered o (on (items n next) (items_spelling ds ++ rest))
+    items_read no_items n next rest deep keys fits later = later next refl
+    items_read (item d ds) n next rest deep keys fits later =
+        go (rw (append_assoc (spelling_of d) (items_spelling ds) rest, ne_eqb _ 101 (no_end d (items_spelling ds ++ rest) fits.0))
+        (value_read d n _ _ (omega arith) (λ is. (keys is).0) fits.0 (items_read ds n _ rest (omega arith) (λ is. (keys is).1) fits.1 later)))
+
+    pub entries_read : (es : Entries) (n : ℕ) (before : Option (List ℕ)) (next : Entries → Job) (rest : List ℕ) → entries_nesting es ≤ n
+        → (IsTrue ordered → EntriesAscend es) → (IsTrue ordered → IfSome (first_key_of es) (Follows before)) → EntriesAreRepresentable es
+        → ((onto : Entries → Job) → onto no_entries ≡ next es → Gives ordered o (on (entries n (last_from before es) onto) rest))
+        → Gives ordered o (on (entries n before next) (entries_spelling es ++ rest))
+    entries_read no_entries n before next rest deep keys follows fits later = later next refl
+    entries_read (entry key d es) n before next rest deep keys follows fits later =
+        let more = spelling_of d ++ (entries_spelling es ++ rest) in
+        go (rw (
+          append_assoc (string_spelling key ++ spelling_of d) (entries_spelling es) rest,
+          append_assoc (string_spelling key) (spelling_of d) (entries_spelling es ++ rest),
+          ne_eqb _ 101 (no_e key more fits.0),
+          string_read key more fits.0,
+          follows_read ordered before key follows,
+        ) (value_read d n _ _ (omega arith) (λ is. (keys is).1) fits.1
+        (entries_read es n (Some key) _ rest (omega arith) (λ is. (keys is).2) (λ is. (keys is).0) fits.2 later)))
+
+pub string_is_longer : (s : List ℕ) → length s ≤ length (string_spelling s)
+string_is_longer s = omega (arith, length-append (decimal (length s)) (58 ∷ s))
+
+-- a spelling that fits memory is that of a value that a `Value` can hold
+mutual
+  unfolding spelling_of HasSmallIntegers IsRepresentable
+
+  pub representable : (d : Data) → HasSmallIntegers d → length (spelling_of d) < 2 ^ 64 → IsRepresentable d
+  representable (integer z) fits short = fits
+  representable (string s) fits short = omega (arith, string_is_longer s)
+  representable (list ds) fits short = items_representable ds fits (omega (arith, length-append (items_spelling ds) (101 ∷ [])))
+  representable (dictionary es) fits short = entries_representable es fits (omega (arith, length-append (entries_spelling es) (101 ∷ [])))
+
+  pub items_representable : (ds : Items) → ItemsHaveSmallIntegers ds → length (items_spelling ds) < 2 ^ 64 → ItemsAreRepresentable ds
+  items_representable no_items fits short = tt
+  items_representable (item d ds) fits short =
+      let parts = length-append (spelling_of d) (items_spelling ds) in
+      (representable d fits.0 (omega (arith, parts)), items_representable ds fits.1 (omega (arith, parts)))
+
+  pub entries_representable : (es : Entries) → EntriesHaveSmallIntegers es → length (entries_spelling es) < 2 ^ 64 → EntriesAreRepresentable es
+  entries_representable no_entries fits short = tt
+  entries_representable (entry key d es) fits short =
+      let outer = length-append (string_spelling key ++ spelling_of d) (entries_spelling es) in
+      let inner = length-append (string_spelling key) (spelling_of d) in (
+        omega (arith, outer, inner, string_is_longer key),
+        representable d fits.0 (omega (arith, outer, inner)),
+        entries_representable es fits.1 (omega (arith, outer, inner)),
+      )
 
 pub less_decides : (o : Ordering) → Decides (is_lt o) (o ≡ Less)
 less_decides Less = (λ _. refl, λ _. refl)
@@ -39,12 +204,12 @@ follow_decides (entry k d es) key = rw (last_from_some k es) (less_decides _)
 -- what is read behind whole entries
 dictionary_read : (n : ℕ) (next : Data → Job) (es : Entries) (more : List ℕ) (o : Outcome Data) → IsCanonicalWithin (suc n) (dictionary es)
     → length (entries_spelling es ++ more) < 2 ^ 64
-    → Gives true o (on (entries n (last_from None es) (behind_entries es (λ fs. next (dictionary fs)))) more)
+    → ((onto : Entries → Job) → Gives true o (on (entries n (last_from None es) onto) more))
     → Gives true o (on (value (suc n) next) (100 ∷ (entries_spelling es ++ more)))
 unfolding nesting_of HasAscendingKeys HasSmallIntegers
 dictionary_read n next es more o canonical short later = go (entries_read true o es n None _ more (omega (arith, canonical.nesting))
     (λ _. canonical.keys) (λ _. first_of_all es)
-    (entries_representable es canonical.integers (omega (arith, length-append (entries_spelling es) more))) later)
+    (entries_representable es canonical.integers (omega (arith, length-append (entries_spelling es) more))) (λ onto is. later onto))
 
 -- the lengths of a key and of what is behind it
 key_short : (done : Entries) (key more : List ℕ) → length (entries_spelling done ++ (string_spelling key ++ more)) < 2 ^ 64
@@ -57,38 +222,38 @@ key_short done key more short =
 stops_given : (n : ℕ) (next : Data → Job) (text : List ℕ) (f : Fault) (rest : List ℕ) → length text < 2 ^ 64 → Stops n text f rest
     → Gives true (stopped f rest) (on (value n next) text)
 unfolding nesting_of HasAscendingKeys HasSmallIntegers
-stops_given n next text f rest short (at_end n') = go (there _ refl)
-stops_given n next text f rest short (at_other n' t some i l d digit) =
+stops_given _ next _ _ _ short (at_end n) = go (there _ refl)
+stops_given _ next _ _ _ short (at_other n t some i l d digit) =
     go (rw (ne_eqb _ 105 i, ne_eqb _ 108 l, ne_eqb _ 100 d, denied _ (digit_decides _) digit, ne_eqb (length t) 0 (omega arith)) (there _ refl))
-stops_given n next text f rest short (in_integer n' negative more g left whole stops) =
-    go (rw (integer_stops _ _ g _ whole stops) (there _ refl))
-stops_given n next text f rest short (out_of_range n' negative ds more numeral no_lead out) =
+stops_given _ next _ _ _ short (in_integer n negative more f rest whole stops) =
+    go (rw (integer_stops _ _ f _ whole stops) (there _ refl))
+stops_given _ next _ _ _ short (out_of_range n negative ds more numeral no_lead out) =
     go (rw (range_stops _ _ _ numeral no_lead out) (there _ refl))
-stops_given n next text f rest short (in_string n' t g left digit stops) =
-    go (rw (string_begins true n next t digit, string_stops t g _ stops) (there _ refl))
-stops_given n next text f rest short (at_max_nesting opening more (inl is)) = go (rw is (there _ refl))
-stops_given n next text f rest short (at_max_nesting opening more (inr is)) = go (rw is (there _ refl))
-stops_given n next text f rest short (in_item n' done more g left canonical going stops) =
+stops_given _ next _ _ _ short (in_string n t f rest digit stops) =
+    go (rw (string_begins true n next t digit, string_stops t f _ stops) (there _ refl))
+stops_given _ next _ _ _ short (at_max_nesting opening more (inl is)) = go (rw is (there _ refl))
+stops_given _ next _ _ _ short (at_max_nesting opening more (inr is)) = go (rw is (there _ refl))
+stops_given _ next _ _ _ short (in_item n done more f rest canonical going stops) =
     let parts = length-append (items_spelling done) more in
-    go (items_read true _ done n' _ more (omega (arith, canonical.nesting)) (λ _. canonical.keys)
+    go (items_read true _ done n _ more (omega (arith, canonical.nesting)) (λ _. canonical.keys)
     (items_representable done canonical.integers (omega (arith, parts)))
-    (go (rw (ne_eqb _ 101 going) (stops_given n' _ more g left (omega (arith, parts)) stops))))
-stops_given n next text f rest short (in_key n' done more g left canonical going stops) =
-    dictionary_read n' next done more _ canonical (omega arith) (go (rw (ne_eqb _ 101 going, string_stops _ g _ stops) (there _ refl)))
-stops_given n next text f rest short (at_key n' done key more canonical order) =
+    (λ onto is. go (rw (ne_eqb _ 101 going) (stops_given n _ more f rest (omega (arith, parts)) stops))))
+stops_given _ next _ _ _ short (in_key n done more f rest canonical going stops) =
+    dictionary_read n next done more _ canonical (omega arith) (λ onto. go (rw (ne_eqb _ 101 going, string_stops _ f _ stops) (there _ refl)))
+stops_given _ next _ _ _ short (at_key n done key more canonical order) =
     let fits = key_short done key more (omega arith) in
-    dictionary_read n' next done _ _ canonical (omega arith) (go (rw (
+    dictionary_read n next done _ _ canonical (omega arith) (λ onto. go (rw (
       ne_eqb _ 101 (no_e key more fits.0),
       string_read key more fits.0,
       denied _ (follow_decides done key) order,
     ) (there _ refl)))
-stops_given n next text f rest short (in_value n' done key more g left canonical order stops) =
+stops_given _ next _ _ _ short (in_value n done key more f rest canonical order stops) =
     let fits = key_short done key more (omega arith) in
-    dictionary_read n' next done _ _ canonical (omega arith) (go (rw (
+    dictionary_read n next done _ _ canonical (omega arith) (λ onto. go (rw (
       ne_eqb _ 101 (no_e key more fits.0),
       string_read key more fits.0,
       (follow_decides done key).1 order,
-    ) (stops_given n' _ more g left fits.1 stops)))
+    ) (stops_given n _ more f rest fits.1 stops)))
 
 -- a canonical value of nesting at most n begins a text that fits memory
 canonical_given : (n : ℕ) (d : Data) (more text : List ℕ) → length text < 2 ^ 64 → IsCanonicalWithin n d → spelling_of d ++ more ≡ text
@@ -117,32 +282,32 @@ abbrev EndsOrStays : Fault → List ℕ → Type 0
 EndsOrStays f rest = (f ≡ truncated → rest ≡ []) × (f ≢ trailing)
 
 numeral_fault : (negative : Bool) (stop : ℕ) (text : List ℕ) (f : Fault) (rest : List ℕ) → NumeralStops negative stop text f rest → EndsOrStays f rest
-numeral_fault negative stop text f rest (numeral_at_end digits no_lead) = (λ is. refl, λ is. cc)
-numeral_fault negative stop text f rest _ = (λ is. cc, λ is. cc)
+numeral_fault _ _ _ _ _ (numeral_at_end digits no_lead) = (λ is. refl, λ is. cc)
+numeral_fault _ _ _ _ _ _ = (λ is. cc, λ is. cc)
 
 string_fault : (text : List ℕ) (f : Fault) (rest : List ℕ) → StringStops text f rest → EndsOrStays f rest
-string_fault text f rest (in_length g left stops) = numeral_fault _ 58 _ g _ stops
-string_fault text f rest (in_bytes ds more parts numeral no_lead short) = (λ is. refl, λ is. cc)
+string_fault _ _ _ (in_length f rest stops) = numeral_fault _ 58 _ f _ stops
+string_fault _ _ _ (in_bytes ds more parts numeral no_lead short) = (λ is. refl, λ is. cc)
 
 value_fault : (n : ℕ) (text : List ℕ) (f : Fault) (rest : List ℕ) → Stops n text f rest → EndsOrStays f rest
-value_fault n text f rest (at_end n') = (λ is. refl, λ is. cc)
-value_fault n text f rest (in_integer n' negative more g left whole stops) = numeral_fault _ 101 _ g _ stops
-value_fault n text f rest (in_string n' t g left digit stops) = string_fault t g _ stops
-value_fault n text f rest (in_item n' done more g left canonical going stops) = value_fault n' more g left stops
-value_fault n text f rest (in_key n' done more g left canonical going stops) = string_fault _ g _ stops
-value_fault n text f rest (in_value n' done key more g left canonical order stops) = value_fault n' more g left stops
-value_fault n text f rest _ = (λ is. cc, λ is. cc)
+value_fault _ _ _ _ (at_end n) = (λ is. refl, λ is. cc)
+value_fault _ _ _ _ (in_integer n negative more f rest whole stops) = numeral_fault _ 101 _ f _ stops
+value_fault _ _ _ _ (in_string n t f rest digit stops) = string_fault t f _ stops
+value_fault _ _ _ _ (in_item n done more f rest canonical going stops) = value_fault n more f rest stops
+value_fault _ _ _ _ (in_key n done more f rest canonical going stops) = string_fault _ f _ stops
+value_fault _ _ _ _ (in_value n done key more f rest canonical order stops) = value_fault n more f rest stops
+value_fault _ _ _ _ _ = (λ is. cc, λ is. cc)
 
 pub truncated_at_end : (bytes : List ℕ) (f : Fault) (offset : ℕ) → IsFirstFault bytes f offset → f ≡ truncated → offset ≡ length bytes
-truncated_at_end bytes f offset (in_the_value g o inside stops) is =
-    let none : drop o bytes ≡ [] = (value_fault 128 _ g _ stops).0 is in
-    omega (arith, ap length none, length-drop o bytes)
-truncated_at_end bytes f offset (behind_the_value e o canonical lt spelled) is = cc
+truncated_at_end bytes _ _ (in_the_value f offset inside stops) is =
+    let none : drop offset bytes ≡ [] = (value_fault 128 _ f _ stops).0 is in
+    omega (arith, ap length none, length-drop offset bytes)
+truncated_at_end bytes _ _ (behind_the_value e offset canonical lt spelled) is = cc
 
 pub trailing_behind_value : (bytes : List ℕ) (f : Fault) (offset : ℕ) → IsFirstFault bytes f offset → f ≡ trailing → IsValueEnd bytes offset
-trailing_behind_value bytes f offset (in_the_value g o inside stops) is = absurd ((value_fault 128 _ g _ stops).1 is)
-trailing_behind_value bytes f offset (behind_the_value e o canonical lt spelled) is =
-    let size : length (spelling_of e) ≡ o = omega (arith, ap length spelled, length-append (spelling_of e) (drop o bytes), length-drop o bytes) in
+trailing_behind_value bytes _ _ (in_the_value f offset inside stops) is = absurd ((value_fault 128 _ f _ stops).1 is)
+trailing_behind_value bytes _ _ (behind_the_value e offset canonical lt spelled) is =
+    let size : length (spelling_of e) ≡ offset = omega (arith, ap length spelled, length-append (spelling_of e) (drop offset bytes), length-drop offset bytes) in
     record {
       value = e;
       canonical = canonical;
@@ -158,9 +323,9 @@ fault_of (stopped f rest) = (f, rest)
 -- what a reading of the bytes gives where they have this first fault
 given : (bytes : List ℕ) (f : Fault) (offset : ℕ) → length bytes < 2 ^ 64 → IsFirstFault bytes f offset
     → (o : Outcome Data) × Gives true o (on (value 128 final) bytes) × (fault_of o ≡ (f, drop offset bytes)) × (offset ≤ length bytes)
-given bytes f offset short (in_the_value g o inside stops) = (stopped g (drop o bytes), stops_given 128 final _ g _ short stops, refl, inside)
-given bytes f offset short (behind_the_value d o canonical lt spelled) =
-    (read d (drop o bytes), canonical_given 128 d _ _ short canonical spelled, refl, omega arith)
+given bytes _ _ short (in_the_value f offset inside stops) = (stopped f (drop offset bytes), stops_given 128 final _ f _ short stops, refl, inside)
+given bytes _ _ short (behind_the_value d offset canonical lt spelled) =
+    (read d (drop offset bytes), canonical_given 128 d _ _ short canonical spelled, refl, omega arith)
 
 pub first_fault_is_one : FirstFaultIsOne
 first_fault_is_one bytes f g n m short a b =

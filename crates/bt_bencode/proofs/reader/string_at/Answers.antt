@@ -4,7 +4,7 @@ use Rattle.std.specs.Str.Parse.{digits_value}
 use Rattle.bt_bencode.specs.Number.{NumeralStops}
 use Rattle.bt_bencode.specs.Reader.{StringStops, in_length}
 use Rattle.bt_bencode.proofs.ReadRanges.{unless_some, stop_passed}
-use Rattle.bt_bencode.proofs.ReadStrings.{string_read, string_short}
+use Rattle.bt_bencode.proofs.ReadNumerals.{string_read, string_short}
 use Rattle.bt_bencode.proofs.reader.string_at.Goals as goal
 use Rattle.bt_bencode.proofs.reader.string_at.Goals.{in_default-via-in-Some+else-length-left, in_default-via-in_default}
 
