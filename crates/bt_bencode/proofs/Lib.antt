@@ -5,5 +5,6 @@ pub mod ReadRanges
 pub mod ReadNumerals
 pub mod ReadParts
 -- the laws of spellings and of the first fault, by a reading that is a function of the text
+pub mod Representable
 pub mod Reading
 pub mod ReadingLaws

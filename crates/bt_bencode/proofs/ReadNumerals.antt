@@ -7,6 +7,7 @@ use Rattle.std.specs.Str.Parse.{IsNumeral, digits_value, without_leading_sign, s
 use Rattle.std.proofs.lemmas.Str.Parse.{numerals_by_value, tells_digits, digit_at}
 use Rattle.std.proofs.lemmas.Fmt.{decimal-digits_value, decimal_digit, IsAscii-from_digits}
 use Rattle.std.proofs.lemmas.List.{take-append-drop, length-take-le, drop-drop, get_or_append_left}
+use Rattle.std.proofs.lemmas.List.Edits.{length-between}
 use Rattle.std.proofs.lemmas.List.Folds.{drop_split}
 use Rattle.std.proofs.Math.Seq.{drop-length}
 use Rattle.bt_bencode.specs.Spelling.{string_spelling, spelling_of}
@@ -39,9 +40,7 @@ module _ (negative : Bool) (stop : ℕ) (bytes : List ℕ) (at end : ℕ) (numer
 
   pub numeral_digits : IsNumeral 10 (slice_range bytes at end)
   numeral_digits =
-      let size : length (slice_range bytes at end) ≡ end - at =
-      length-take-le _ _ (omega (arith, length-drop at bytes, numeral.inside)) in
-      (omega (arith, numeral.forward), numeral.digits)
+      (omega (arith, numeral.forward, length-between bytes at end (omega (arith, numeral.inside))), numeral.digits)
 
 module _ (bytes : List ℕ) (at colon : ℕ) (numeral : IsNumeralAt false 58 bytes at colon) where
   pub string_read : (n : ℕ) (s : List ℕ) → digits_value 10 (slice_range bytes at colon) ≡ n → n < 2 ^ 64 → colon + 1 + n ≤ length bytes
@@ -119,8 +118,11 @@ signed_again false ds more numeral no_zero fits = decimal_again false ds more nu
 signed_again true ds more numeral no_zero fits = behind_minus _ (decimal_again true ds more numeral no_zero (omega (arith, ints, fits)))
   where
     behind_minus : (n : ℕ) → decimal n ≡ ds → signed_decimal (neg_ℤ (pos n)) ≡ 45 ∷ ds
-    behind_minus zero same = absurd (no_zero (get_or_append_left ds more 0 0 numeral.0
-        ∙ ap (λ xs. get_or xs 0 0) (sym same ∙ decimal_digit 0 (omega arith)), inl refl))
+    behind_minus zero same = absurd (no_zero (
+      get_or_append_left ds more 0 0 numeral.0
+          ∙ ap (λ xs. get_or xs 0 0) (sym same ∙ decimal_digit 0 (omega arith)),
+      inl refl,
+    ))
     behind_minus (suc n) same = ap (λ xs. 45 ∷ xs) same
 
 module _ (bytes : List ℕ) (at : ℕ) (negative : Bool) (signed : IsSigned negative bytes at) (lt : at < length bytes) (first : get_or bytes at 0 ≡ 105) where
@@ -178,6 +180,8 @@ module _ (bytes : List ℕ) (at : ℕ) (negative : Bool) (signed : IsSigned nega
     pub integer_out_of_range : (n : ℕ) → Says None → FaultFrom (Stops n) bytes at int_range (at + 1)
     integer_out_of_range n says =
         let behind : drop (at + 1) bytes ≡ sign_text negative ++ (slice_range bytes (at + 1 + from_bool negative) end ++ 101 ∷ drop (end + 1) bytes) =
-        ap (drop 1) (sym (drop_byte bytes at 105 lt first) ∙ parts.text) in
-        (omega arith, rw (parts.text, behind) (out_of_range n negative _ _ parts.digits parts.no_zero
-        (λ fits. says (rw parts.written.digits parts.digits, rw parts.written.number fits))))
+        ap (drop 1) (sym (drop_byte bytes at 105 lt first) ∙ parts.text) in (
+          omega arith,
+          rw (parts.text, behind) (out_of_range n negative _ _ parts.digits parts.no_zero
+              (λ fits. says (rw parts.written.digits parts.digits, rw parts.written.number fits))),
+        )

@@ -6,7 +6,7 @@ use Rattle.std.specs.Ordering.{nat_cmp, is_lt}
 use Rattle.std.specs.Cmp.Lexicographic.{slice_cmp}
 use Rattle.std.proofs.lemmas.List.{take_more, take_all}
 use Rattle.bt_bencode.specs.Value.{Data, list, dictionary, data_of, items_of, entries_of}
-use Rattle.bt_bencode.specs.Spelling.{spelling_of, items_spelling, entries_spelling}
+use Rattle.bt_bencode.specs.Spelling.{items_spelling, entries_spelling}
 use Rattle.bt_bencode.specs.Doc.{nesting_of, HasAscendingKeys, HasSmallIntegers, IsCanonicalWithin}
 use Rattle.bt_bencode.specs.Error.{Fault, key_order, too_deep}
 use Rattle.bt_bencode.specs.Reader.{StringStops, Stops, last_key_of, EndsBefore, at_max_nesting, in_item, in_key, at_key, in_value}
@@ -84,17 +84,6 @@ module _ (n : ℕ) (bytes : List ℕ) (at : ℕ) where
       spans = spans_join _ _ _ _ _ _ so_far.spans (spans_join _ _ _ _ _ _ string read.spans);
       canonical = dictionary-push n es (key, v) some so_far.canonical last read.canonical;
     })
-
-    module _ (lt : next < length bytes) (last : get_or bytes next 0 ≡ 101) where
-      pub list_found : (vs : List Value) → ItemsTo n bytes at next vs → ReadsValue n bytes at (next + 1) (list (items_of vs))
-      unfolding spelling_of
-      list_found vs so_far =
-          record { spans = spans_join _ _ _ _ _ _ so_far.spans (spans_byte bytes next 101 lt last); canonical = so_far.canonical }
-
-      pub dictionary_found : (es : List (Vec ℕ × Value)) → EntriesTo n bytes at next es → ReadsValue n bytes at (next + 1) (dictionary (entries_of es))
-      unfolding spelling_of
-      dictionary_found es so_far =
-          record { spans = spans_join _ _ _ _ _ _ so_far.spans (spans_byte bytes next 101 lt last); canonical = so_far.canonical }
 
 -- what stops a reading behind the parts so far
 module _ (n : ℕ) (bytes : List ℕ) (at next : ℕ) (deep : n ≡ suc (n - 1)) where

@@ -1,14 +1,16 @@
 -- Ranges of some bytes, what a byte or a run of digits there tells, and a fault that is passed on.
-use Rattle.std.proofs.Common.{◌≡◌, ◌≢◌, ℕ, zero, suc, ◌+◌, ◌-◌, ◌<◌, ◌≤◌, List, [], ◌∷◌, ◌++◌, length, drop, get_or, refl, sym, ap, ◌∙◌, arith}
-use Rattle.std.proofs.Common.{length-drop, add-zero, append_assoc}
-use Rattle.std.specs.Prelude.{slice_range, Option, None, Some, IsTrue, true, false, Result, Ok, Err, IfErr}
+use Rattle.std.proofs.Common.{◌≡◌, ◌≢◌, ℕ, zero, suc, ◌+◌, ◌<◌, ◌≤◌, List, [], ◌∷◌, ◌++◌, length, drop, get_or, refl, sym, ap, ◌∙◌, arith}
+use Rattle.std.proofs.Common.{add-zero, append_assoc}
+use Rattle.std.specs.Prelude.{slice_range, Option, None, Some, IsTrue, false, Result, Ok, Err, IfErr}
 use Rattle.std.specs.Option.{SomeIff}
 use Rattle.std.specs.Result.{IsErrAnd}
 use Rattle.std.specs.Char.{IsAsciiDigit, digit_value}
 use Rattle.std.specs.Str.Parse.{AllDigits}
 use Rattle.std.proofs.lemmas.List.{get_or-drop, drop_more}
 use Rattle.std.proofs.lemmas.Str.{digit_value_digit}
-use Rattle.std.proofs.lemmas.Int.Digits.{digits_more}
+use Rattle.std.proofs.lemmas.Int.Digits.{digits_push}
+use Rattle.std.proofs.lemmas.List.Edits.{between_more}
+use Rattle.std.proofs.lemmas.Bool.{false≢true}
 use Rattle.bt_bencode.specs.Error.{Fault, AtFault}
 use Rattle.bt_bencode.specs.ReaderSteps.{Spans, FaultFrom}
 use Rattle.bt_bencode.specs.declared.error.BencodeError.{BencodeError}
@@ -18,12 +20,8 @@ use Rattle.bt_bencode.specs.declared.error.BencodeError.TheVariants.{OutOfMemory
 pub digits_one_more : (xs : List ℕ) (at end : ℕ) → at ≤ end → end < length xs → IsAsciiDigit (get_or xs end 0) → AllDigits 10 (slice_range xs at end)
     → AllDigits 10 (slice_range xs at (end + 1))
 digits_one_more xs at end le lt digit digits =
-    let e : at + (end - at) ≡ end = omega arith in
-    let same : get_or (drop at xs) (end - at) 0 ≡ get_or xs end 0 = get_or-drop at xs (end - at) 0 ∙ ap (λ k. get_or xs k 0) e in
-    let value : digit_value (get_or xs end 0) + 48 ≡ get_or xs end 0 = digit_value_digit _ digit in
-    let small : digit_value (get_or (drop at xs) (end - at) 0) < 10 = rw same (omega (arith, digit.0, digit.1)) in
-    let size : end + 1 - at ≡ end - at + 1 = omega arith in
-    rw size (digits_more 10 _ _ (omega (arith, length-drop at xs)) digits small)
+    let small : digit_value (get_or xs end 0) < 10 = omega (arith, digit_value_digit _ digit, digit.1) in
+    rw (between_more xs at end 0 le lt) (digits_push 10 _ _ digits small)
 
 pub drop_first : (i : ℕ) (xs : List ℕ) → get_or (drop i xs) 0 0 ≡ get_or xs i 0
 drop_first i xs = get_or-drop i _ 0 0 ∙ ap (λ k. get_or xs k 0) (add-zero i)
@@ -54,7 +52,7 @@ in_range (x ∷ xs) (suc i) c some e = let lt : i < length xs = in_range xs i c 
 
 -- what a test for a byte denies
 pub not_standing : (xs : List ℕ) (i c : ℕ) → c ≢ 0 → ((i < length xs) × (get_or xs i 0 ≡ c) → IsTrue false) → get_or xs i 0 ≢ c
-not_standing xs i c some denied e = let impossible : false ≡ true = denied (in_range _ i c some e, e) in cc
+not_standing xs i c some denied e = false≢true (denied (in_range _ i c some e, e))
 
 at_fault : (P Q : Fault → ℕ → Type 0) → ((f : Fault) (offset : ℕ) → P f offset → Q f offset) → (e : BencodeError) → AtFault P e → AtFault Q e
 at_fault P Q pass OutOfMemory h = tt

@@ -4,7 +4,6 @@ use Rattle.std.proofs.Common.{◌≡◌, ◌≢◌, ℕ, zero, suc, ◌^◌, ◌
 use Rattle.std.proofs.Common.{append_assoc, length-append, ◌+◌, inl, inr, take, sym, ◌∙◌, subst, length-drop}
 use Rattle.std.specs.Prelude.{IsTrue, if◌then◌else◌, Option, None, Some, IfSome, unwrap_or}
 use Rattle.std.specs.Char.{IsAsciiDigit, is_ascii_digit}
-use Rattle.std.specs.Fmt.{decimal}
 use Rattle.std.specs.Ordering.{nat_cmp, is_lt}
 use Rattle.std.specs.Cmp.Lexicographic.{slice_cmp}
 use Rattle.std.proofs.Math.Dec.{eqb}
@@ -12,10 +11,11 @@ use Rattle.std.proofs.lemmas.Bool.{ne_eqb}
 use Rattle.bt_bencode.specs.Value.{Data, integer, string, list, dictionary, Items, no_items, item, Entries, no_entries, entry}
 use Rattle.bt_bencode.specs.Spelling.{string_spelling, spelling_of, items_spelling, entries_spelling}
 use Rattle.bt_bencode.specs.Doc.{IsBefore, first_key_of, nesting_of, items_nesting, entries_nesting, HasAscendingKeys, ItemsHaveAscendingKeys}
-use Rattle.bt_bencode.specs.Doc.{EntriesAscend, HasSmallIntegers, ItemsHaveSmallIntegers, EntriesHaveSmallIntegers, IsCanonicalWithin}
+use Rattle.bt_bencode.specs.Doc.{EntriesAscend, HasSmallIntegers, IsCanonicalWithin}
 use Rattle.bt_bencode.specs.Error.{Fault, truncated, bad_byte, key_order, too_deep, trailing}
 use Rattle.bt_bencode.specs.Law.{IsRepresentable, ItemsAreRepresentable, EntriesAreRepresentable, NoProperPrefix, BeginsOnce, FirstFaultIsOne}
 use Rattle.bt_bencode.specs.Law.{FirstFaultRefuses}
+use Rattle.bt_bencode.proofs.Representable.{string_is_longer, representable, items_representable, entries_representable}
 use Rattle.bt_bencode.proofs.Reading.{Outcome, read, stopped, after, digit_decides, read_string, string_read, read_integer, integer_read}
 use Rattle.bt_bencode.proofs.Reading.{string_digit, denied, integer_stops, range_stops, string_stops}
 use Rattle.std.specs.Bool.{Decides}
@@ -159,35 +159,6 @@ module _ (ordered : Bool) (o : Outcome Data) where
         ) (value_read d n _ _ (omega arith) (λ is. (keys is).1) fits.1
         (entries_read es n (Some key) _ rest (omega arith) (λ is. (keys is).2) (λ is. (keys is).0) fits.2 later)))
 
-pub string_is_longer : (s : List ℕ) → length s ≤ length (string_spelling s)
-string_is_longer s = omega (arith, length-append (decimal (length s)) (58 ∷ s))
-
--- a spelling that fits memory is that of a value that a `Value` can hold
-mutual
-  unfolding spelling_of HasSmallIntegers IsRepresentable
-
-  pub representable : (d : Data) → HasSmallIntegers d → length (spelling_of d) < 2 ^ 64 → IsRepresentable d
-  representable (integer z) fits short = fits
-  representable (string s) fits short = omega (arith, string_is_longer s)
-  representable (list ds) fits short = items_representable ds fits (omega (arith, length-append (items_spelling ds) (101 ∷ [])))
-  representable (dictionary es) fits short = entries_representable es fits (omega (arith, length-append (entries_spelling es) (101 ∷ [])))
-
-  pub items_representable : (ds : Items) → ItemsHaveSmallIntegers ds → length (items_spelling ds) < 2 ^ 64 → ItemsAreRepresentable ds
-  items_representable no_items fits short = tt
-  items_representable (item d ds) fits short =
-      let parts = length-append (spelling_of d) (items_spelling ds) in
-      (representable d fits.0 (omega (arith, parts)), items_representable ds fits.1 (omega (arith, parts)))
-
-  pub entries_representable : (es : Entries) → EntriesHaveSmallIntegers es → length (entries_spelling es) < 2 ^ 64 → EntriesAreRepresentable es
-  entries_representable no_entries fits short = tt
-  entries_representable (entry key d es) fits short =
-      let outer = length-append (string_spelling key ++ spelling_of d) (entries_spelling es) in
-      let inner = length-append (string_spelling key) (spelling_of d) in (
-        omega (arith, outer, inner, string_is_longer key),
-        representable d fits.0 (omega (arith, outer, inner)),
-        entries_representable es fits.1 (omega (arith, outer, inner)),
-      )
-
 pub less_decides : (o : Ordering) → Decides (is_lt o) (o ≡ Less)
 less_decides Less = (λ _. refl, λ _. refl)
 less_decides Equal = (λ is. cc, λ is. cc)
@@ -279,35 +250,38 @@ begins_once d e rest more fits fits' h = (same_spelling d e _ _ fits fits' h).0
 
 -- nothing is left where the input ends too early, and bytes behind the value stop no reading of the value
 abbrev EndsOrStays : Fault → List ℕ → Type 0
-EndsOrStays f rest = (f ≡ truncated → rest ≡ []) × (f ≢ trailing)
+EndsOrStays truncated rest = rest ≡ []
+EndsOrStays trailing rest = ⊥
+EndsOrStays _ rest = Unit {0}
 
 numeral_fault : (negative : Bool) (stop : ℕ) (text : List ℕ) (f : Fault) (rest : List ℕ) → NumeralStops negative stop text f rest → EndsOrStays f rest
-numeral_fault _ _ _ _ _ (numeral_at_end digits no_lead) = (λ is. refl, λ is. cc)
-numeral_fault _ _ _ _ _ _ = (λ is. cc, λ is. cc)
+numeral_fault _ _ _ _ _ (numeral_at_end digits no_lead) = refl
+numeral_fault _ _ _ _ _ _ = tt
 
 string_fault : (text : List ℕ) (f : Fault) (rest : List ℕ) → StringStops text f rest → EndsOrStays f rest
 string_fault _ _ _ (in_length f rest stops) = numeral_fault _ 58 _ f _ stops
-string_fault _ _ _ (in_bytes ds more parts numeral no_lead short) = (λ is. refl, λ is. cc)
+string_fault _ _ _ (in_bytes ds more parts numeral no_lead short) = refl
 
 value_fault : (n : ℕ) (text : List ℕ) (f : Fault) (rest : List ℕ) → Stops n text f rest → EndsOrStays f rest
-value_fault _ _ _ _ (at_end n) = (λ is. refl, λ is. cc)
+value_fault _ _ _ _ (at_end n) = refl
 value_fault _ _ _ _ (in_integer n negative more f rest whole stops) = numeral_fault _ 101 _ f _ stops
 value_fault _ _ _ _ (in_string n t f rest digit stops) = string_fault t f _ stops
 value_fault _ _ _ _ (in_item n done more f rest canonical going stops) = value_fault n more f rest stops
 value_fault _ _ _ _ (in_key n done more f rest canonical going stops) = string_fault _ f _ stops
 value_fault _ _ _ _ (in_value n done key more f rest canonical order stops) = value_fault n more f rest stops
-value_fault _ _ _ _ _ = (λ is. cc, λ is. cc)
+value_fault _ _ _ _ _ = tt
 
 pub truncated_at_end : (bytes : List ℕ) (f : Fault) (offset : ℕ) → IsFirstFault bytes f offset → f ≡ truncated → offset ≡ length bytes
 truncated_at_end bytes _ _ (in_the_value f offset inside stops) is =
-    let none : drop offset bytes ≡ [] = (value_fault 128 _ f _ stops).0 is in
+    let none : drop offset bytes ≡ [] = rw is at (value_fault 128 _ f _ stops) in
     omega (arith, ap length none, length-drop offset bytes)
 truncated_at_end bytes _ _ (behind_the_value e offset canonical lt spelled) is = cc
 
 pub trailing_behind_value : (bytes : List ℕ) (f : Fault) (offset : ℕ) → IsFirstFault bytes f offset → f ≡ trailing → IsValueEnd bytes offset
-trailing_behind_value bytes _ _ (in_the_value f offset inside stops) is = absurd ((value_fault 128 _ f _ stops).1 is)
+trailing_behind_value bytes _ _ (in_the_value f offset inside stops) is = absurd (rw is at (value_fault 128 _ f _ stops))
 trailing_behind_value bytes _ _ (behind_the_value e offset canonical lt spelled) is =
-    let size : length (spelling_of e) ≡ offset = omega (arith, ap length spelled, length-append (spelling_of e) (drop offset bytes), length-drop offset bytes) in
+    let size : length (spelling_of e) ≡ offset =
+    omega (arith, ap length spelled, length-append (spelling_of e) (drop offset bytes), length-drop offset bytes) in
     record {
       value = e;
       canonical = canonical;

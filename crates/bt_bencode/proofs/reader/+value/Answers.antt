@@ -1,22 +1,24 @@
-use Rattle.std.proofs.Common.{refl, inl, inr, ◌≡◌, [], get_or, drop, ap, ◌∙◌, arith, rules, true, false, length-drop}
+use Rattle.std.proofs.Common.{refl, inl, inr, ◌≡◌, [], get_or, drop, ap, ◌∙◌, arith, rules, length-drop}
 use Rattle.std.specs.Char.{IsAsciiDigit}
 use Rattle.std.proofs.Math.Seq.{drop-length}
+use Rattle.std.proofs.lemmas.Bool.{false≢true}
 use Rattle.std.proofs.lemmas.Int.{to_z-of_z}
 use Rattle.bt_bencode.specs.Value.{entries_of}
 use Rattle.bt_bencode.specs.Spelling.{spelling_of}
 use Rattle.bt_bencode.specs.Doc.{nesting_of, HasAscendingKeys, HasSmallIntegers}
 use Rattle.bt_bencode.specs.Reader.{StringStops, Stops, EndsBefore, at_end, at_other, in_string}
-use Rattle.bt_bencode.proofs.ReadRanges.{drop_first, not_standing, stop_passed}
+use Rattle.bt_bencode.proofs.ReadRanges.{spans_byte, spans_join, drop_first, not_standing, stop_passed}
 use Rattle.bt_bencode.proofs.ValueData.{data_of-Int, data_of-Bytes, data_of-List, data_of-Dict}
-use Rattle.bt_bencode.proofs.ReadParts.{too_deep_at, begun, list_more, list_stops, list_found}
-use Rattle.bt_bencode.proofs.ReadParts.{dictionary_more, key_stops, order_stops, value_stops, dictionary_found}
+use Rattle.bt_bencode.proofs.ReadParts.{too_deep_at, begun, list_more, list_stops}
+use Rattle.bt_bencode.proofs.ReadParts.{dictionary_more, key_stops, order_stops, value_stops}
 use Rattle.bt_bencode.proofs.reader.+value.Goals as goal
 
 pub dictionary_at-returns-then-depth-eq0-clause-fault : goal.dictionary_at-returns-then-depth-eq0-clause-fault
 dictionary_at-returns-then-depth-eq0-clause-fault t c = too_deep_at _ _ _ 100 c.if-depth-eq0.true c.requires.inside c.requires.first (inr refl)
 
 pub dictionary_at-loop-alloc-init : goal.dictionary_at-loop-alloc-init
-dictionary_at-loop-alloc-init t c = rw c.new-entries.ensures.items ((begun c.args.depth c.args.bytes.now c.args.at (omega arith) c.requires.inside).1 c.requires.first)
+dictionary_at-loop-alloc-init t c =
+    rw c.new-entries.ensures.items ((begun c.args.depth c.args.bytes.now c.args.at (omega arith) c.requires.inside).1 c.requires.first)
 
 pub dictionary_at-returns-in_err-key-clause-fault : goal.dictionary_at-returns-in_err-key-clause-fault
 dictionary_at-returns-in_err-key-clause-fault t c =
@@ -27,7 +29,7 @@ dictionary_at-returns-in_err-key-clause-fault t c =
 pub dictionary_at-returns-then-not-may_follow-clause-fault : goal.dictionary_at-returns-then-not-may_follow-clause-fault
 dictionary_at-returns-then-not-may_follow-clause-fault t c =
     order_stops _ _ _ _ (omega arith) _ c.loop-alloc.invariant _ _ c.in_ok-key.ensures.found
-    (λ order. let impossible : false ≡ true = c.if-not-may_follow.ensures.1 (rw (c.deref.ensures.value, c.deref-in-loop-alloc.ensures.value) order) in cc)
+    (λ order. false≢true (c.if-not-may_follow.ensures.1 (rw (c.deref.ensures.value, c.deref-in-loop-alloc.ensures.value) order)))
 
 pub dictionary_at-returns-in_err-value-clause-fault : goal.dictionary_at-returns-in_err-value-clause-fault
 dictionary_at-returns-in_err-value-clause-fault t c =
@@ -45,9 +47,13 @@ dictionary_at-loop-alloc-preserved t c =
     c.in_ok-push_part.ensures
 
 pub dictionary_at-returns-clause-found : goal.dictionary_at-returns-clause-found
+unfolding spelling_of
 dictionary_at-returns-clause-found t c =
     let last = c.loop-alloc-test.ensures.0 refl in
-    rw (data_of-Dict, c.shrink_to_fit.ensures.items) (dictionary_found _ _ _ _ last.0 last.1 _ c.loop-alloc.invariant)
+    rw (data_of-Dict, c.shrink_to_fit.ensures.items) (record {
+      spans = spans_join _ _ _ _ _ _ c.loop-alloc.invariant.spans (spans_byte _ _ 101 last.0 last.1);
+      canonical = c.loop-alloc.invariant.canonical;
+    })
 
 pub list_at-returns-then-depth-eq0-clause-fault : goal.list_at-returns-then-depth-eq0-clause-fault
 list_at-returns-then-depth-eq0-clause-fault t c = too_deep_at _ _ _ 108 c.if-depth-eq0.true c.requires.inside c.requires.first (inl refl)
@@ -66,9 +72,13 @@ list_at-loop-alloc-preserved t c =
     list_more _ _ _ _ _ _ _ _ (omega arith) c.loop-alloc.invariant c.in_ok-item.ensures.found c.in_ok-push_part.ensures
 
 pub list_at-returns-clause-found : goal.list_at-returns-clause-found
+unfolding spelling_of
 list_at-returns-clause-found t c =
     let last = c.loop-alloc-test.ensures.0 refl in
-    rw (data_of-List, c.shrink_to_fit.ensures.items) (list_found _ _ _ _ last.0 last.1 _ c.loop-alloc.invariant)
+    rw (data_of-List, c.shrink_to_fit.ensures.items) (record {
+      spans = spans_join _ _ _ _ _ _ c.loop-alloc.invariant.spans (spans_byte _ _ 101 last.0 last.1);
+      canonical = c.loop-alloc.invariant.canonical;
+    })
 
 pub value_at-returns-then-at-bytes-clause-fault : goal.value_at-returns-then-at-bytes-clause-fault
 value_at-returns-then-at-bytes-clause-fault t c =
@@ -102,6 +112,8 @@ value_at-returns-in_ok-string-in_default-clause-found t c = rw data_of-Bytes
 pub value_at-returns-in_default-2-clause-fault : goal.value_at-returns-in_default-2-clause-fault
 value_at-returns-in_default-2-clause-fault t c =
     let first = drop_first c.args.at c.args.bytes.now in
-    let string : ¬ IsAsciiDigit (get_or c.args.bytes.now c.args.at 0) = search rules in
-    (omega arith, at_other _ (drop c.args.at c.args.bytes.now) (omega (arith, length-drop c.args.at c.args.bytes.now))
-        (rw first (omega arith)) (rw first (omega arith)) (rw first (omega arith)) (rw first string))
+    let string : ¬ IsAsciiDigit (get_or c.args.bytes.now c.args.at 0) = search rules in (
+      omega arith,
+      at_other _ (drop c.args.at c.args.bytes.now) (omega (arith, length-drop c.args.at c.args.bytes.now))
+          (rw first (omega arith)) (rw first (omega arith)) (rw first (omega arith)) (rw first string),
+    )
