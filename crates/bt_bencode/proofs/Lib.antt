@@ -1,19 +1,10 @@
--- what a `Value` holds, and what a fault says
+-- what a `Value` holds
 pub mod ValueData
-pub mod FaultPassing
--- what the reader finds: ranges of bytes, numerals, and each kind of value, part by part
+-- what the reader finds: ranges of bytes, numerals with the strings and integers that they begin, and each kind of value, part by part
 pub mod ReadRanges
 pub mod ReadNumerals
-pub mod ReadStrings
-pub mod ReadIntegers
-pub mod ReadKinds
 pub mod ReadParts
 -- the laws of spellings and of the first fault, by a reading that is a function of the text
 pub mod Representable
 pub mod Reading
-pub mod ReadingSteps
 pub mod ReadingLaws
-pub mod FirstFaults
--- what the look-up of a key and the writer do
-pub mod FieldSearch
-pub mod WriteParts

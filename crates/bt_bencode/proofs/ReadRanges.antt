@@ -1,24 +1,27 @@
--- Where a range of some bytes ends, the rest goes on; and what a run of digits tells.
-use Rattle.std.proofs.Common.{◌≡◌, ◌≢◌, ℕ, zero, suc, ◌+◌, ◌-◌, ◌<◌, ◌≤◌, List, [], ◌∷◌, length, drop, get_or, refl, sym, ap, ◌∙◌, arith}
-use Rattle.std.proofs.Common.{length-drop, add-zero}
-use Rattle.std.specs.Prelude.{slice_range, Option, None, Some, IsTrue, true, false}
+-- Ranges of some bytes, what a byte or a run of digits there tells, and a fault that is passed on.
+use Rattle.std.proofs.Common.{◌≡◌, ◌≢◌, ℕ, zero, suc, ◌+◌, ◌<◌, ◌≤◌, List, [], ◌∷◌, ◌++◌, length, drop, get_or, refl, sym, ap, ◌∙◌, arith}
+use Rattle.std.proofs.Common.{add-zero, append_assoc}
+use Rattle.std.specs.Prelude.{slice_range, Option, None, Some, IsTrue, false, Result, Ok, Err, IfErr}
 use Rattle.std.specs.Option.{SomeIff}
+use Rattle.std.specs.Result.{IsErrAnd}
 use Rattle.std.specs.Char.{IsAsciiDigit, digit_value}
 use Rattle.std.specs.Str.Parse.{AllDigits}
-use Rattle.std.proofs.lemmas.List.{length-take-le, get_or-drop, drop_more}
+use Rattle.std.proofs.lemmas.List.{get_or-drop, drop_more}
 use Rattle.std.proofs.lemmas.Str.{digit_value_digit}
-use Rattle.std.proofs.lemmas.Int.Digits.{digits_more}
+use Rattle.std.proofs.lemmas.Int.Digits.{digits_push}
+use Rattle.std.proofs.lemmas.List.Edits.{between_more}
+use Rattle.std.proofs.lemmas.Bool.{false≢true}
+use Rattle.bt_bencode.specs.Error.{Fault, AtFault}
+use Rattle.bt_bencode.specs.ReaderSteps.{Spans, FaultFrom}
+use Rattle.bt_bencode.specs.declared.error.BencodeError.{BencodeError}
+use Rattle.bt_bencode.specs.declared.error.BencodeError.TheVariants.{OutOfMemory}
 
 -- one digit more
 pub digits_one_more : (xs : List ℕ) (at end : ℕ) → at ≤ end → end < length xs → IsAsciiDigit (get_or xs end 0) → AllDigits 10 (slice_range xs at end)
     → AllDigits 10 (slice_range xs at (end + 1))
 digits_one_more xs at end le lt digit digits =
-    let e : at + (end - at) ≡ end = omega arith in
-    let same : get_or (drop at xs) (end - at) 0 ≡ get_or xs end 0 = get_or-drop at xs (end - at) 0 ∙ ap (λ k. get_or xs k 0) e in
-    let value : digit_value (get_or xs end 0) + 48 ≡ get_or xs end 0 = digit_value_digit _ digit in
-    let small : digit_value (get_or (drop at xs) (end - at) 0) < 10 = rw same (omega (arith, digit.0, digit.1)) in
-    let size : end + 1 - at ≡ end - at + 1 = omega arith in
-    rw size (digits_more 10 _ _ (omega (arith, length-drop at xs)) digits small)
+    let small : digit_value (get_or xs end 0) < 10 = omega (arith, digit_value_digit _ digit, digit.1) in
+    rw (between_more xs at end 0 le lt) (digits_push 10 _ _ digits small)
 
 pub drop_first : (i : ℕ) (xs : List ℕ) → get_or (drop i xs) 0 0 ≡ get_or xs i 0
 drop_first i xs = get_or-drop i _ 0 0 ∙ ap (λ k. get_or xs k 0) (add-zero i)
@@ -27,11 +30,14 @@ drop_first i xs = get_or-drop i _ 0 0 ∙ ap (λ k. get_or xs k 0) (add-zero i)
 pub drop_byte : (xs : List ℕ) (i c : ℕ) → i < length xs → get_or xs i 0 ≡ c → drop i xs ≡ c ∷ drop (i + 1) xs
 drop_byte xs i c lt is = drop_more _ i 0 lt ∙ ap (λ b. b ∷ drop (i + 1) xs) is
 
-pub nothing_between : (xs : List ℕ) (at end : ℕ) → end ≤ at → slice_range xs at end ≡ []
-nothing_between xs at end le = let e : end - at ≡ 0 = omega arith in rw e refl
+pub spans_byte : (bytes : List ℕ) (at c : ℕ) → at < length bytes → get_or bytes at 0 ≡ c → Spans bytes at (at + 1) (c ∷ [])
+spans_byte bytes at c lt is = record { forward = omega arith; inside = omega arith; spelled = sym (drop_byte bytes at c lt is) }
 
-pub length-between : (xs : List ℕ) (at end : ℕ) → end ≤ length xs → length (slice_range xs at end) ≡ end - at
-length-between xs at end le = length-take-le _ _ (omega (arith, length-drop at xs))
+pub spans_join : (bytes : List ℕ) (at middle end : ℕ) (x y : List ℕ) → Spans bytes at middle x → Spans bytes middle end y → Spans bytes at end (x ++ y)
+spans_join bytes at middle end x y a b =
+    let first : at < middle = a.forward in
+    let second : middle < end = b.forward in
+    record { forward = omega arith; inside = b.inside; spelled = rw (append_assoc x y (drop end bytes), b.spelled) a.spelled }
 
 -- what is answered by `None` does not hold
 pub unless_some : {X : Type 0} → (r : Option X) (P : Type 0) (v : X) → SomeIff r P v → ((x : X) → r ≡ Some x → ⊥) → ¬ P
@@ -46,4 +52,20 @@ in_range (x ∷ xs) (suc i) c some e = let lt : i < length xs = in_range xs i c 
 
 -- what a test for a byte denies
 pub not_standing : (xs : List ℕ) (i c : ℕ) → c ≢ 0 → ((i < length xs) × (get_or xs i 0 ≡ c) → IsTrue false) → get_or xs i 0 ≢ c
-not_standing xs i c some denied e = let impossible : false ≡ true = denied (in_range _ i c some e, e) in cc
+not_standing xs i c some denied e = false≢true (denied (in_range _ i c some e, e))
+
+at_fault : (P Q : Fault → ℕ → Type 0) → ((f : Fault) (offset : ℕ) → P f offset → Q f offset) → (e : BencodeError) → AtFault P e → AtFault Q e
+at_fault P Q pass OutOfMemory h = tt
+at_fault P Q pass _ h = pass _ _ h
+
+-- what a `?` returns
+pub fault_passed : {T : Type 0} (P Q : Fault → ℕ → Type 0) → ((f : Fault) (offset : ℕ) → P f offset → Q f offset)
+    → (r : Result T BencodeError) (e : BencodeError) → IsErrAnd r (λ y. y ≡ e) → AtFault P e → IfErr r (AtFault Q)
+fault_passed P Q pass (Ok x) e is h = absurd is
+fault_passed P Q pass (Err y) e is h = rw is (at_fault P Q pass e h)
+
+-- the same, where what stops a reading from one place stops that from another
+pub stop_passed : {T : Type 0} (P Q : List ℕ → Fault → List ℕ → Type 0) (bytes : List ℕ) (from at : ℕ)
+    → ((f : Fault) (rest : List ℕ) → P (drop from bytes) f rest → Q (drop at bytes) f rest)
+    → (r : Result T BencodeError) (e : BencodeError) → IsErrAnd r (λ y. y ≡ e) → AtFault (FaultFrom P bytes from) e → IfErr r (AtFault (FaultFrom Q bytes at))
+stop_passed P Q bytes from at pass = fault_passed (FaultFrom P bytes from) (FaultFrom Q bytes at) (λ f offset h. (h.0, pass f _ h.1))

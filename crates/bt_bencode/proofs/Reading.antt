@@ -1,17 +1,18 @@
 -- A reading of a text from the left as a function of the text: what it says of numerals, strings and integers.
-use Rattle.std.proofs.Common.{◌≡◌, ◌≢◌, ℕ, ℤ, zero, suc, pos, negsuc, ◌^◌, ◌<◌, Bool, true, false, ◌⊎◌, inl, inr, List, [], ◌∷◌, ◌++◌, length, get_or}
+use Rattle.std.proofs.Common.{◌≡◌, ◌≢◌, ℕ, ℤ, pos, negsuc, ◌^◌, ◌<◌, Bool, true, false, ◌⊎◌, inl, inr, List, [], ◌∷◌, ◌++◌, length, get_or}
 use Rattle.std.proofs.Common.{take, drop, refl, sym, ap, ◌∙◌, subst, arith, append_assoc, length-append}
 use Rattle.std.specs.Prelude.{FitsSigned, IsTrue, if◌then◌else◌, ◌==◌, ◌&&◌, ◌||◌}
 use Rattle.std.specs.Bool.{Decides}
-use Rattle.std.specs.Int.{w64}
+use Rattle.std.specs.Int.{w64, int_wrap}
+use Rattle.std.specs.Ordering.{int_eq}
 use Rattle.std.specs.Char.{IsAsciiDigit, is_ascii_digit}
 use Rattle.std.specs.Fmt.{decimal, signed_decimal}
 use Rattle.std.specs.Str.Parse.{AllDigits, IsNumeral, digits_value}
 use Rattle.std.proofs.Math.Dec.{eqb, ltb}
 use Rattle.std.proofs.Math.Seq.{take-append_seam, drop-append_seam}
 use Rattle.std.proofs.lemmas.Bool.{eq-eqb, ne_eqb}
-use Rattle.std.proofs.lemmas.Bool.Decides.{Decides-eqb, Decides-and, Decides-or, Decides-ltb, nat_tests}
-use Rattle.std.proofs.lemmas.Int.{ints}
+use Rattle.std.proofs.lemmas.Bool.Decides.{Decides-eqb, Decides-and, Decides-or, Decides-ltb, Decides-like, Decides-int_eq, nat_tests}
+use Rattle.std.proofs.lemmas.Int.{ints, SFits-int_wrap, int_wrap_fits}
 use Rattle.std.proofs.lemmas.Str.Parse.{digit_at, digit_from_value}
 use Rattle.std.proofs.lemmas.Fmt.{decimal_is_IsNumeral, decimal_nonempty, decimal_digit, first_decimal}
 use Rattle.std.proofs.lemmas.List.{append-nil, get_or_append_left}
@@ -24,12 +25,10 @@ use Rattle.bt_bencode.specs.Reader.{StringStops, in_length, in_bytes}
 pub data Outcome (A : Type 0) : Type 0 where
   read : A → List ℕ → Outcome A
   stopped : Fault → List ℕ → Outcome A
-  unfinished : Outcome A
 
-abbrev pub and_then : {A B : Type 0} → Outcome A → (A → List ℕ → Outcome B) → Outcome B
-and_then (read a rest) next = next a rest
-and_then (stopped f rest) next = stopped f rest
-and_then unfinished next = unfinished
+abbrev pub after : {A B : Type 0} → Outcome A → (Fault → List ℕ → B) → (A → List ℕ → B) → B
+after (read a rest) halt next = next a rest
+after (stopped f rest) halt next = halt f rest
 
 pub denied : {P : Type 0} (r : Bool) → Decides r P → ¬ P → r ≡ false
 denied true decides not = absurd (not (decides.0 refl))
@@ -67,6 +66,12 @@ pub read_numeral : Bool → ℕ → List ℕ → Outcome (List ℕ)
 read_numeral negative stop text =
     if leads negative text then stopped leading_zero text else behind_digits stop (digits_of text).0 (digits_of text).1
 
+split_read : (negative : Bool) (stop : ℕ) (ds rest text : List ℕ) → text ≡ ds ++ rest → AllDigits 10 ds → ¬ LeadsWithZero negative text
+    → ¬ IsAsciiDigit (get_or rest 0 0) → read_numeral negative stop text ≡ behind_digits stop ds rest
+unfolding read_numeral
+split_read negative stop ds rest text parts digits no_lead other =
+    rw (denied _ (leads_decides negative text) no_lead, parts, digits_split ds rest digits other) refl
+
 other_behind : (stop : ℕ) (ds more : List ℕ) → 0 < length more → (ds ≡ []) ⊎ (get_or more 0 0 ≢ stop) → behind_digits stop ds more ≡ stopped bad_byte more
 unfolding behind_digits
 other_behind stop ds [] some differs = absurd (omega arith)
@@ -77,95 +82,76 @@ other_behind stop (d ∷ ds) (c ∷ rest) some (inr other) = rw (ne_eqb c _ othe
 pub numeral_stops : (negative : Bool) (stop : ℕ) (text : List ℕ) (f : Fault) (rest : List ℕ) → NumeralStops negative stop text f rest
     → read_numeral negative stop text ≡ stopped f rest
 unfolding read_numeral behind_digits
-numeral_stops negative stop text f rest (at_zero is) = rw ((leads_decides _ text).1 is) refl
-numeral_stops negative stop text f rest (at_end digits no_lead) =
-    let split : digits_of text ≡ (text, []) = ap digits_of (sym (append-nil text)) ∙ digits_split text [] digits (λ digit. absurd (omega (arith, digit.0))) in
-    rw (denied _ (leads_decides negative text) no_lead, split) refl
-numeral_stops negative stop text f rest (at_other ds more parts digits no_lead some other differs) =
-    rw (denied _ (leads_decides negative text) no_lead, ap digits_of parts ∙ digits_split ds more digits other)
-    (other_behind stop ds _ some differs)
-
-pub no_digit : (stop : ℕ) → 57 < stop → ¬ IsAsciiDigit stop
-no_digit stop other digit = absurd (omega (arith, digit.1))
+numeral_stops _ _ text _ _ (at_zero is) = rw ((leads_decides _ text).1 is) refl
+numeral_stops _ _ text _ _ (at_end digits no_lead) =
+    split_read _ _ text [] _ (sym (append-nil _)) digits no_lead (λ digit. absurd (omega (arith, digit.0)))
+numeral_stops _ _ text _ _ (at_other ds more parts digits no_lead some other differs) =
+    split_read _ _ ds more _ parts digits no_lead other ∙ other_behind _ ds _ some differs
 
 pub numeral_read : (negative : Bool) (stop : ℕ) (ds rest : List ℕ) → 57 < stop → IsNumeral 10 ds → ¬ LeadsWithZero negative (ds ++ stop ∷ rest)
     → read_numeral negative stop (ds ++ stop ∷ rest) ≡ read ds rest
-unfolding read_numeral behind_digits
+unfolding behind_digits
 numeral_read negative stop [] rest high numeral no_zero = absurd (omega (arith, numeral.0))
 numeral_read negative stop (d ∷ ds) rest high numeral no_zero =
-    rw (
-      denied _ (leads_decides negative (d ∷ ds ++ stop ∷ rest)) no_zero,
-      digits_split _ _ numeral.1 (no_digit _ high),
-      eq-eqb _ _ refl,
-    ) refl
+    split_read _ stop (d ∷ ds) (stop ∷ rest) _ refl numeral.1 no_zero (λ digit. omega (arith, digit.1)) ∙ rw (eq-eqb _ _ refl) refl
 
 -- a number's digits have no zero that may not stand, and behind a minus none but 0 itself begins with one
 decimal_no_zero : (negative : Bool) (n stop : ℕ) (rest : List ℕ) → (IsTrue negative → 0 < n) → n < 2 ^ 64 → 57 < stop
     → ¬ LeadsWithZero negative (decimal n ++ stop ∷ rest)
-decimal_no_zero negative zero stop rest some fits other leads = elim leads.1 [
-  | inl is ↦ absurd (omega (arith, some is))
-  | inr digit ↦ let text : decimal 0 ++ stop ∷ rest ≡ 48 ∷ stop ∷ rest = ap (λ ds. ds ++ stop ∷ rest) (decimal_digit 0 (omega arith)) in
-      no_digit _ other (subst (λ t. IsAsciiDigit (get_or t 1 0)) text digit)
-]
-decimal_no_zero negative (suc n) stop rest positive fits other leads =
-    let some : 0 < length (decimal (suc n)) = decimal_nonempty _ fits in
-    let first : get_or (decimal (suc n) ++ stop ∷ rest) 0 0 ≡ get_or (decimal (suc n)) 0 0 = get_or_append_left _ _ 0 0 some in
-    let above : 48 < get_or (decimal (suc n)) 0 0 = first_decimal _ (omega arith) fits in
-    omega (arith, leads.0)
-
-pub decimal_read : (negative : Bool) (stop n : ℕ) (rest : List ℕ) → 57 < stop → n < 2 ^ 64 → (IsTrue negative → 0 < n)
-    → read_numeral negative stop (decimal n ++ stop ∷ rest) ≡ read (decimal n) rest
-decimal_read negative stop n rest high fits some =
-    numeral_read _ _ _ _ high (decimal_is_IsNumeral n fits).0 (decimal_no_zero _ n _ _ some fits high)
+decimal_no_zero negative n stop rest some fits high leads =
+    let none : ¬ (0 < n) = λ above.
+    omega (arith, leads.0, first_decimal n above fits, get_or_append_left (decimal n) (stop ∷ rest) 0 0 (decimal_nonempty n fits)) in
+    elim leads.1 [
+      | inl is ↦ none (some is)
+      | inr digit ↦ let text : decimal n ≡ 48 ∷ [] = ap decimal (omega (arith, none)) ∙ decimal_digit 0 (omega arith) in
+          omega (arith, (rw text at digit).1)
+    ]
 
 pub read_string : List ℕ → Outcome (List ℕ)
-read_string text = and_then (read_numeral false 58 text) (λ ds rest. let n = digits_value 10 ds in
+read_string text = after (read_numeral false 58 text) stopped (λ ds rest. let n = digits_value 10 ds in
     if ltb (length rest) n then stopped truncated [] else read (take n rest) (drop n rest))
 
 pub string_read : (s rest : List ℕ) → length s < 2 ^ 64 → read_string (string_spelling s ++ rest) ≡ read s rest
 unfolding read_string
 string_read s rest fits =
+    let numeral = decimal_is_IsNumeral (length s) fits in
     let whole : ltb (length (s ++ rest)) (length s) ≡ false = grind (arith, nat_tests, length-append s rest) in
     rw (
       append_assoc _ (58 ∷ s) rest,
-      decimal_read false 58 (length s) (s ++ rest) (omega arith) fits (λ is. cc),
-      (decimal_is_IsNumeral (length s) fits).1,
+      numeral_read false 58 _ _ (omega arith) numeral.0 (decimal_no_zero _ (length s) _ _ (λ is. cc) fits (omega arith)),
+      numeral.1,
       whole,
-      take-append_seam,
-      drop-append_seam,
+      take-append_seam s rest,
+      drop-append_seam s rest,
     ) refl
 
 pub string_stops : (text : List ℕ) (f : Fault) (rest : List ℕ) → StringStops text f rest → read_string text ≡ stopped f rest
 unfolding read_string
-string_stops text f rest (in_length g left stops) = rw (numeral_stops _ 58 _ g _ stops) refl
-string_stops text f rest (in_bytes ds more parts numeral no_lead short) =
+string_stops _ _ _ (in_length f rest stops) = rw (numeral_stops _ 58 _ f _ stops) refl
+string_stops _ _ _ (in_bytes ds more parts numeral no_lead short) =
     let shorter : ltb (length more) (digits_value 10 ds) ≡ true = (Decides-ltb _ _).1 short in
     rw (parts, numeral_read _ 58 _ _ (omega arith) numeral (rw parts at no_lead), shorter) refl
 
 -- the sign in front, and what is behind it
 sign_of : List ℕ → Bool × List ℕ
-sign_of [] = (false, [])
-sign_of (c ∷ text) = if eqb c 45 then (true, text) else (false, c ∷ text)
+sign_of text = if eqb (get_or text 0 0) 45 then (true, drop 1 text) else (false, text)
 
 sign_split : (negative : Bool) (text : List ℕ) → IsTrue negative ⊎ (get_or text 0 0 ≢ 45) → sign_of (sign_text negative ++ text) ≡ (negative, text)
 unfolding sign_of
 sign_split true text whole = refl
-sign_split false [] whole = refl
-sign_split false (c ∷ text) (inl is) = cc
-sign_split false (c ∷ text) (inr other) = rw (ne_eqb c 45 other) refl
+sign_split false text (inl is) = cc
+sign_split false text (inr other) = rw (ne_eqb _ 45 other) refl
 
 is_small : ℤ → Bool
-is_small (pos n) = ltb n (2 ^ 63)
-is_small (negsuc n) = ltb n (2 ^ 63)
+is_small z = int_eq (int_wrap w64 z) z
 
 small_decides : (z : ℤ) → Decides (is_small z) (FitsSigned w64 z)
 unfolding is_small
-small_decides (pos n) = (λ is. omega (arith, ints, (Decides-ltb n (2 ^ 63)).0 is), λ fits. (Decides-ltb n _).1 (omega (arith, ints, fits)))
-small_decides (negsuc n) = (λ is. omega (arith, ints, (Decides-ltb n (2 ^ 63)).0 is), λ fits. (Decides-ltb n _).1 (omega (arith, ints, fits)))
+small_decides z = Decides-like _ (λ same. subst (FitsSigned w64) same (SFits-int_wrap w64 z)) (int_wrap_fits w64 z) (Decides-int_eq _ z)
 
 -- an integer, behind its i
 pub read_integer : List ℕ → Outcome ℤ
-read_integer text = and_then (read_numeral (sign_of text).0 101 (sign_of text).1) (λ ds rest.
+read_integer text = after (read_numeral (sign_of text).0 101 (sign_of text).1) stopped (λ ds rest.
     let z = signed_number (sign_of text).0 (digits_value 10 ds) in
     if is_small z then read z rest else stopped int_range text)
 
@@ -174,22 +160,20 @@ pub integer_stops : (negative : Bool) (more : List ℕ) (f : Fault) (rest : List
 unfolding read_integer
 integer_stops negative more f rest whole stops = rw (sign_split _ _ whole, numeral_stops _ 101 _ f _ stops) refl
 
-plain : (ds more : List ℕ) → IsNumeral 10 ds → get_or (ds ++ more) 0 0 ≢ 45
-plain ds more numeral is = omega (arith, (digit_at ds 0 numeral.1 numeral.0).0, get_or_append_left ds more 0 0 numeral.0)
-
 integer_behind : (negative : Bool) (ds more : List ℕ) → IsNumeral 10 ds → ¬ LeadsWithZero negative (ds ++ 101 ∷ more)
     → read_integer (sign_text negative ++ (ds ++ 101 ∷ more)) ≡ (let z = signed_number negative (digits_value 10 ds) in
     if is_small z then read z more else stopped int_range (sign_text negative ++ (ds ++ 101 ∷ more)))
 unfolding read_integer
 integer_behind negative ds more numeral no_zero =
-    rw (sign_split _ _ (inr (plain _ _ numeral)), numeral_read _ 101 _ _ (omega arith) numeral no_zero) refl
+    let plain : get_or (ds ++ 101 ∷ more) 0 0 ≢ 45 = λ is.
+    omega (arith, (digit_at ds 0 numeral.1 numeral.0).0, get_or_append_left ds (101 ∷ more) 0 0 numeral.0) in
+    rw (sign_split _ _ (inr plain), numeral_read _ 101 _ _ (omega arith) numeral no_zero) refl
 
 pub range_stops : (negative : Bool) (ds more : List ℕ) → IsNumeral 10 ds → ¬ LeadsWithZero negative (ds ++ 101 ∷ more)
     → ¬ FitsSigned w64 (signed_number negative (digits_value 10 ds))
     → read_integer (sign_text negative ++ (ds ++ 101 ∷ more)) ≡ stopped int_range (sign_text negative ++ (ds ++ 101 ∷ more))
 range_stops negative ds more numeral no_zero out =
-    let z = signed_number negative (digits_value 10 ds) in
-    rw (integer_behind _ _ _ numeral no_zero, denied _ (small_decides z) out) refl
+    rw (integer_behind _ _ _ numeral no_zero, denied _ (small_decides _) out) refl
 
 integer_of_parts : (negative : Bool) (n : ℕ) (rest : List ℕ) → n < 2 ^ 64 → (IsTrue negative → 0 < n) → FitsSigned w64 (signed_number negative n)
     → read_integer ((sign_text negative ++ decimal n) ++ 101 ∷ rest) ≡ read (signed_number negative n) rest

@@ -1,5 +1,5 @@
 -- A spelling that fits memory is that of a value that a `Value` can hold.
-use Rattle.std.proofs.Common.{ℕ, ◌^◌, ◌<◌, ◌≤◌, List, [], ◌∷◌, ◌++◌, length, arith, length-append}
+use Rattle.std.proofs.Common.{ℕ, ◌^◌, ◌<◌, ◌≤◌, List, [], ◌∷◌, length, arith, length-append}
 use Rattle.std.specs.Fmt.{decimal}
 use Rattle.bt_bencode.specs.Value.{Data, integer, string, list, dictionary, Items, no_items, item, Entries, no_entries, entry}
 use Rattle.bt_bencode.specs.Spelling.{string_spelling, spelling_of, items_spelling, entries_spelling}
@@ -21,15 +21,14 @@ mutual
   pub items_representable : (ds : Items) → ItemsHaveSmallIntegers ds → length (items_spelling ds) < 2 ^ 64 → ItemsAreRepresentable ds
   items_representable no_items fits short = tt
   items_representable (item d ds) fits short =
-      let parts = length-append (spelling_of d) (items_spelling ds) in
+      let parts = simp length-append at short in
       (representable d fits.0 (omega (arith, parts)), items_representable ds fits.1 (omega (arith, parts)))
 
   pub entries_representable : (es : Entries) → EntriesHaveSmallIntegers es → length (entries_spelling es) < 2 ^ 64 → EntriesAreRepresentable es
   entries_representable no_entries fits short = tt
   entries_representable (entry key d es) fits short =
-      let outer = length-append (string_spelling key ++ spelling_of d) (entries_spelling es) in
-      let inner = length-append (string_spelling key) (spelling_of d) in (
-        omega (arith, outer, inner, string_is_longer key),
-        representable d fits.0 (omega (arith, outer, inner)),
-        entries_representable es fits.1 (omega (arith, outer, inner)),
+      let parts = simp length-append at short in (
+        omega (arith, parts, simp length-append at (string_is_longer key)),
+        representable d fits.0 (omega (arith, parts)),
+        entries_representable es fits.1 (omega (arith, parts)),
       )

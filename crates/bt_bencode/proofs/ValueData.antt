@@ -1,7 +1,9 @@
--- The data of a value of each kind.
-use Rattle.std.proofs.Common.{◌≡◌, ℕ, ℤ}
+-- The data of a value of each kind, and the spelling of one part more.
+use Rattle.std.proofs.Common.{◌≡◌, ℕ, ℤ, List, [], ◌∷◌, ◌++◌, sym, append_assoc}
 use Rattle.std.specs.Global.{Vec}
+use Rattle.std.proofs.lemmas.List.{append-nil}
 use Rattle.bt_bencode.specs.Value.{integer, string, list, dictionary, Data, data_of, data_step, items_of, entries_of}
+use Rattle.bt_bencode.specs.Spelling.{string_spelling, spelling_of, items_spelling, entries_spelling}
 use Rattle.bt_bencode.specs.declared.value.Value.{Value, Int, Bytes}
 use Rattle.bt_bencode.specs.declared.value.Value.TheOpen.{Value-F}
 use Rattle.bt_bencode.specs.declared.value.Value.TheFolds.{fold-roll-Value}
@@ -22,3 +24,16 @@ data_of-List v = fold-roll-Value Data data_step (Value-F.List v)
 pub data_of-Dict : (v : Vec (Vec ℕ × Value)) → data_of (views.Dict v) ≡ dictionary (entries_of v.items)
 unfolding views.roll-Value denote.Hole.Carrier.roll
 data_of-Dict v = fold-roll-Value Data data_step (Value-F.Dict v)
+
+pub items_spelling-push : (vs : List Value) (v : Value) → items_spelling (items_of (vs ++ v ∷ [])) ≡ items_spelling (items_of vs) ++ spelling_of (data_of v)
+unfolding items_spelling
+items_spelling-push [] v = append-nil (spelling_of (data_of v))
+items_spelling-push (w ∷ vs) v =
+    rw (items_spelling-push vs v) (sym (append_assoc (spelling_of (data_of w)) (items_spelling (items_of vs)) (spelling_of (data_of v))))
+
+pub entries_spelling-push : (es : List (Vec ℕ × Value)) (e : Vec ℕ × Value)
+    → entries_spelling (entries_of (es ++ e ∷ [])) ≡ entries_spelling (entries_of es) ++ (string_spelling e.0.items ++ spelling_of (data_of e.1))
+unfolding entries_spelling
+entries_spelling-push [] e = append-nil (string_spelling e.0.items ++ spelling_of (data_of e.1))
+entries_spelling-push (f ∷ es) e =
+    rw (entries_spelling-push es e) (sym (append_assoc (string_spelling f.0.items ++ spelling_of (data_of f.1)) _ _))

@@ -1,4 +1,4 @@
-use Rattle.bt_bencode.proofs.FirstFaults.{none_spells, first_fault_is_one}
+use Rattle.bt_bencode.proofs.ReadingLaws.{none_spells, first_fault_is_one}
 use Rattle.bt_bencode.proofs.law.first_fault_is_one.Goals as goal
 
 pub returns : goal.returns

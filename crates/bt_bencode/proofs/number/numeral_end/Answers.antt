@@ -1,11 +1,12 @@
-use Rattle.std.proofs.Common.{◌≡◌, ◌≢◌, [], ◌⊎◌, inl, inr, length, drop, slice_index, true, false, sym, ◌∙◌, refl, arith, length-drop}
+use Rattle.std.proofs.Common.{◌≡◌, ◌≢◌, ◌-◌, [], ◌⊎◌, inl, inr, length, drop, slice_index, sym, ◌∙◌, refl, arith, length-drop}
 use Rattle.std.specs.Prelude.{slice_range}
 use Rattle.std.specs.Str.Parse.{AllDigits}
+use Rattle.std.proofs.lemmas.Bool.{false≢true}
 use Rattle.std.proofs.lemmas.List.{take_rest}
 use Rattle.std.proofs.lemmas.List.Folds.{drop_split}
 use Rattle.std.proofs.Math.Seq.{drop-length}
 use Rattle.bt_bencode.specs.Number.{LeadsWithZero, at_zero, at_end, at_other}
-use Rattle.bt_bencode.proofs.ReadRanges.{nothing_between, drop_first}
+use Rattle.bt_bencode.proofs.ReadRanges.{drop_first}
 use Rattle.bt_bencode.proofs.number.numeral_end.Goals as goal
 use Rattle.bt_bencode.proofs.number.numeral_end.Goals.{then-end-at-via-then-end-at, then-end-at-via-else-end-at+then-bytes-end}
 
@@ -17,8 +18,8 @@ returns-then-leads_with_zero-clause-fault c =
 pub returns-then-end-bytes-clause-fault : goal.returns-then-end-bytes-clause-fault
 returns-then-end-bytes-clause-fault c =
     let bytes = c.args.bytes.now in
-    let no_zero : ¬ LeadsWithZero c.args.negative (drop c.args.at bytes) = λ leads. let impossible : false ≡ true =
-    c.if-leads_with_zero.ensures.1 (rw take_rest leads) in cc in
+    let no_zero : ¬ LeadsWithZero c.args.negative (drop c.args.at bytes) =
+    λ leads. false≢true (c.if-leads_with_zero.ensures.1 (rw take_rest leads)) in
     let whole : c.digits_end-end.result ≡ length bytes = omega arith in
     let digits : AllDigits 10 (drop c.args.at bytes) = rw (whole, take_rest) at c.digits_end-end.ensures.digits in
     (c.digits_end-end.ensures.inside, rw (whole, drop-length) (at_end digits no_zero))
@@ -27,11 +28,11 @@ pub returns-then-end-at-clause-fault : goal.returns-then-end-at-clause-fault
 returns-then-end-at-clause-fault c =
     let bytes = c.args.bytes.now in
     let end = c.digits_end-end.result in
-    let no_zero : ¬ LeadsWithZero c.args.negative (drop c.args.at bytes) = λ leads. let impossible : false ≡ true =
-    c.if-leads_with_zero.ensures.1 (rw take_rest leads) in cc in
+    let no_zero : ¬ LeadsWithZero c.args.negative (drop c.args.at bytes) =
+    λ leads. false≢true (c.if-leads_with_zero.ensures.1 (rw take_rest leads)) in
     let first : slice_index (drop end bytes) 0 ≡ slice_index bytes end = drop_first end bytes in
     let other : (slice_range bytes c.args.at end ≡ []) ⊎ (slice_index (drop end bytes) 0 ≢ c.args.stop) = elim c.then-end-at.branch [
-      | then-end-at-via-then-end-at w ↦ inl (nothing_between bytes _ end (omega arith))
+      | then-end-at-via-then-end-at w ↦ inl (let none : end - c.args.at ≡ 0 = omega arith in rw none refl)
       | then-end-at-via-else-end-at+then-bytes-end w ↦ inr (λ same. w.if-bytes-end.true (sym first ∙ same))
     ] in (
       c.digits_end-end.ensures.inside,

@@ -1,40 +1,36 @@
-use Rattle.std.proofs.Common.{ℕ, List, ◌<◌, ◌^◌, length, arith}
-use Rattle.std.proofs.lemmas.Result.{err_from_is_err_and}
+use Rattle.std.proofs.Common.{ℕ, List, ◌≡◌, ◌<◌, ◌^◌, length, arith}
+use Rattle.std.specs.Prelude.{Result, IfErr}
+use Rattle.std.specs.Result.{IsErrAnd}
 use Rattle.bt_bencode.specs.Value.{data_of}
 use Rattle.bt_bencode.specs.Error.{Fault, AtFault}
 use Rattle.bt_bencode.specs.Reader.{Stops, IsFirstFault, in_the_value, behind_the_value}
 use Rattle.bt_bencode.specs.ReaderSteps.{FaultFrom}
 use Rattle.bt_bencode.specs.declared.error.BencodeError.{BencodeError}
-use Rattle.bt_bencode.proofs.FaultPassing.{fault_passed}
-use Rattle.bt_bencode.proofs.FirstFaults.{none_spells, truncated_at_end, trailing_behind_value}
+use Rattle.bt_bencode.proofs.ReadRanges.{fault_passed}
+use Rattle.bt_bencode.proofs.ReadingLaws.{none_spells, truncated_at_end, trailing_behind_value}
 use Rattle.bt_bencode.proofs.reader.parse.Goals as goal
 
 -- what holds of a first fault, of one in the value
-in_value : (bytes : List ℕ) (Q : Fault → ℕ → Type 0) → ((f : Fault) (offset : ℕ) → IsFirstFault bytes f offset → Q f offset)
-    → (e : BencodeError) → AtFault (FaultFrom (Stops 128) bytes 0) e → AtFault Q e
+in_value : {T : Type 0} (bytes : List ℕ) (Q : Fault → ℕ → Type 0) → ((f : Fault) (offset : ℕ) → IsFirstFault bytes f offset → Q f offset)
+    → (r : Result T BencodeError) (e : BencodeError) → IsErrAnd r (λ y. y ≡ e) → AtFault (FaultFrom (Stops 128) bytes 0) e → IfErr r (AtFault Q)
 in_value bytes Q says = fault_passed (FaultFrom (Stops 128) bytes 0) Q (λ f offset h. says f offset (in_the_value f offset h.0 h.1))
 
 pub returns-in_err-value-clause-first_fault : goal.returns-in_err-value-clause-first_fault
 returns-in_err-value-clause-first_fault c =
-    let p = err_from_is_err_and c.from_residual.result c.from_residual.ensures.1 in
-    rw (p.1, p.2) (in_value c.args.bytes.now _ (λ f offset h. h) c.in_err-value.field-0.0 c.in_err-value.ensures.fault)
+    in_value c.args.bytes.now _ (λ f offset h. h) _ _ c.from_residual.ensures.1 c.in_err-value.ensures.fault
 
 pub returns-in_err-value-clause-none_spells : goal.returns-in_err-value-clause-none_spells
 returns-in_err-value-clause-none_spells c =
-    let p = err_from_is_err_and c.from_residual.result c.from_residual.ensures.1 in
-    let bytes = c.args.bytes.now in
-    let short : length bytes < 2 ^ 64 = omega arith in
-    rw (p.1, p.2) (in_value bytes _ (λ f offset h. none_spells bytes f offset short h) c.in_err-value.field-0.0 c.in_err-value.ensures.fault)
+    let short : length c.args.bytes.now < 2 ^ 64 = omega arith in
+    in_value c.args.bytes.now _ (λ f offset h. none_spells _ f offset short h) _ _ c.from_residual.ensures.1 c.in_err-value.ensures.fault
 
 pub returns-in_err-value-clause-truncated_at_end : goal.returns-in_err-value-clause-truncated_at_end
 returns-in_err-value-clause-truncated_at_end c =
-    let p = err_from_is_err_and c.from_residual.result c.from_residual.ensures.1 in
-    rw (p.1, p.2) (in_value c.args.bytes.now _ (truncated_at_end c.args.bytes.now) c.in_err-value.field-0.0 c.in_err-value.ensures.fault)
+    in_value c.args.bytes.now _ (truncated_at_end c.args.bytes.now) _ _ c.from_residual.ensures.1 c.in_err-value.ensures.fault
 
 pub returns-in_err-value-clause-trailing_behind_value : goal.returns-in_err-value-clause-trailing_behind_value
 returns-in_err-value-clause-trailing_behind_value c =
-    let p = err_from_is_err_and c.from_residual.result c.from_residual.ensures.1 in
-    rw (p.1, p.2) (in_value c.args.bytes.now _ (trailing_behind_value c.args.bytes.now) c.in_err-value.field-0.0 c.in_err-value.ensures.fault)
+    in_value c.args.bytes.now _ (trailing_behind_value c.args.bytes.now) _ _ c.from_residual.ensures.1 c.in_err-value.ensures.fault
 
 pub returns-then-end-length-clause-first_fault : goal.returns-then-end-length-clause-first_fault
 returns-then-end-length-clause-first_fault c =

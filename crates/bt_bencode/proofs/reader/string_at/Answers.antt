@@ -1,21 +1,16 @@
 use Rattle.std.proofs.Common.{◌≡◌, ◌+◌, ◌-◌, ◌<◌, false, length, take, drop, sym, ap, ◌∙◌, arith}
 use Rattle.std.specs.Prelude.{slice_range}
 use Rattle.std.specs.Str.Parse.{digits_value}
-use Rattle.std.proofs.lemmas.Result.{err_from_is_err_and}
 use Rattle.bt_bencode.specs.Number.{NumeralStops}
 use Rattle.bt_bencode.specs.Reader.{StringStops, in_length}
-use Rattle.bt_bencode.specs.ReaderSteps.{FaultFrom}
-use Rattle.bt_bencode.proofs.FaultPassing.{fault_passed}
-use Rattle.bt_bencode.proofs.ReadRanges.{unless_some}
-use Rattle.bt_bencode.proofs.ReadStrings.{string_read, string_short}
+use Rattle.bt_bencode.proofs.ReadRanges.{unless_some, stop_passed}
+use Rattle.bt_bencode.proofs.ReadNumerals.{string_read, string_short}
 use Rattle.bt_bencode.proofs.reader.string_at.Goals as goal
 use Rattle.bt_bencode.proofs.reader.string_at.Goals.{in_default-via-in-Some+else-length-left, in_default-via-in_default}
 
 pub returns-in_err-colon-clause-fault : goal.returns-in_err-colon-clause-fault
 returns-in_err-colon-clause-fault c =
-    let p = err_from_is_err_and c.from_residual.result c.from_residual.ensures.1 in
-    rw (p.1, p.2) (fault_passed (FaultFrom (NumeralStops false 58) c.args.bytes.now c.args.at) (FaultFrom StringStops c.args.bytes.now c.args.at)
-    (λ f offset h. (h.0, in_length f _ h.1)) _ c.in_err-colon.ensures.fault)
+    stop_passed (NumeralStops false 58) StringStops _ c.args.at _ (λ f rest h. in_length f rest h) _ _ c.from_residual.ensures.1 c.in_err-colon.ensures.fault
 
 pub returns-in_ok-string-in-Some-clause-found : goal.returns-in_ok-string-in-Some-clause-found
 returns-in_ok-string-in-Some-clause-found c =

@@ -1,19 +1,34 @@
-use Rattle.std.proofs.Common.{◌≡◌, ◌++◌, take, ap, ◌∙◌, arith}
-use Rattle.std.proofs.lemmas.List.{take_all}
-use Rattle.bt_bencode.specs.Spelling.{string_spelling}
-use Rattle.bt_bencode.proofs.WriteParts.{no_items_written, no_entries_written, item_written, entry_written, list_written, dictionary_written}
-use Rattle.bt_bencode.proofs.WriteParts.{integer_written, string_written}
+use Rattle.std.proofs.Common.{◌≡◌, ℕ, ◌+◌, ◌<◌, List, ◌++◌, take, get_or, length, ◌∙◌, append_assoc, sym, ap, arith, refl}
+use Rattle.std.specs.Global.{Vec}
+use Rattle.std.proofs.lemmas.List.{take_more, take_all, append-nil}
+use Rattle.bt_bencode.specs.Value.{data_of, items_of, entries_of}
+use Rattle.bt_bencode.specs.Spelling.{string_spelling, spelling_of, items_spelling, entries_spelling}
+use Rattle.bt_bencode.specs.declared.value.Value.{Value}
+use Rattle.bt_bencode.proofs.ValueData.{items_spelling-push, entries_spelling-push, data_of-Int, data_of-Bytes, data_of-List, data_of-Dict}
 use Rattle.bt_bencode.proofs.writer.+put_value.Goals as goal
 
+item_written : (a b c : List ℕ) (vs : List Value) (i : ℕ) (v : Value) → i < length vs → v ≡ get_or vs i v
+    → b ≡ a ++ items_spelling (items_of (take i vs)) → c ≡ b ++ spelling_of (data_of v) → c ≡ a ++ items_spelling (items_of (take (i + 1) vs))
+item_written a b c vs i v lt is before after =
+    rw (after, before, take_more _ i v lt, ← is, items_spelling-push _ v) (append_assoc a _ _)
+
+entry_written : (a b m c : List ℕ) (es : List (Vec ℕ × Value)) (i : ℕ) (e : Vec ℕ × Value) → i < length es → e ≡ get_or es i e
+    → b ≡ a ++ entries_spelling (entries_of (take i es)) → m ≡ b ++ string_spelling e.0.items → c ≡ m ++ spelling_of (data_of e.1)
+    → c ≡ a ++ entries_spelling (entries_of (take (i + 1) es))
+entry_written a b m c es i e lt is before key value =
+    rw (value, key, before, take_more es i e lt, ← is, entries_spelling-push _ e) (append_assoc (a ++ _) _ _ ∙ append_assoc a _ _)
+
 pub loop-item-init : goal.loop-item-init
-loop-item-init t c = c.in_ok-push-in-List.ensures.items ∙ no_items_written _
+unfolding items_spelling
+loop-item-init t c = c.in_ok-push-in-List.ensures.items ∙ sym (append-nil _)
 
 pub loop-item-preserved : goal.loop-item-preserved
 loop-item-preserved t c =
     item_written _ _ _ _ _ _ c.loop-item-test.true c.item-item.is c.loop-item.invariant c.in_ok-put_value-in-List.ensures
 
 pub loop-key-init : goal.loop-key-init
-loop-key-init t c = c.in_ok-push-in-Dict.ensures.items ∙ no_entries_written _
+unfolding entries_spelling
+loop-key-init t c = c.in_ok-push-in-Dict.ensures.items ∙ sym (append-nil _)
 
 pub loop-key-preserved : goal.loop-key-preserved
 loop-key-preserved t c =
@@ -22,20 +37,24 @@ loop-key-preserved t c =
     c.in_ok-put_value-in-Dict.ensures
 
 pub returns-in_ok-extend_from_slice-in-Int : goal.returns-in_ok-extend_from_slice-in-Int
+unfolding spelling_of
 returns-in_ok-extend_from_slice-in-Int t c =
-    integer_written _ _ _ _ _ c.in-Int.is (c.as_bytes.ensures.value ∙ c.in_ok-digits-in-Int.ensures.ok) c.in_ok-extend_from_slice-in-Int.ensures.items
+    rw (c.in-Int.is, data_of-Int, c.in_ok-extend_from_slice-in-Int.ensures.items, c.as_bytes.ensures.value, c.in_ok-digits-in-Int.ensures.ok) refl
 
 pub returns-in_ok-put_string-in-Bytes : goal.returns-in_ok-put_string-in-Bytes
-returns-in_ok-put_string-in-Bytes t c = string_written _ _ _ _ _ c.in-Bytes.is c.deref.ensures.value c.in_ok-put_string-in-Bytes.ensures
+unfolding spelling_of
+returns-in_ok-put_string-in-Bytes t c = rw (c.in-Bytes.is, data_of-Bytes, c.in_ok-put_string-in-Bytes.ensures, c.deref.ensures.value) refl
 
 pub returns-in_ok-push-in-List-2 : goal.returns-in_ok-push-in-List-2
+unfolding spelling_of
 returns-in_ok-push-in-List-2 t c =
     let whole : take c.loop-item.item-index c.deref-item-items.result.now ≡ c.in-List.items.items =
     take_all _ _ (omega arith) ∙ c.deref-item-items.ensures.value in
-    list_written _ _ _ _ _ c.in-List.is (rw whole at c.loop-item.invariant) c.in_ok-push-in-List-2.ensures.items
+    rw (c.in-List.is, data_of-List, c.in_ok-push-in-List-2.ensures.items, c.loop-item.invariant, whole) (simp append_assoc)
 
 pub returns-in_ok-push-in-Dict-2 : goal.returns-in_ok-push-in-Dict-2
+unfolding spelling_of
 returns-in_ok-push-in-Dict-2 t c =
     let whole : take c.loop-key.key-index c.deref-key-items.result.now ≡ c.in-Dict.entries.items =
     take_all _ _ (omega arith) ∙ c.deref-key-items.ensures.value in
-    dictionary_written _ _ _ _ _ c.in-Dict.is (rw whole at c.loop-key.invariant) c.in_ok-push-in-Dict-2.ensures.items
+    rw (c.in-Dict.is, data_of-Dict, c.in_ok-push-in-Dict-2.ensures.items, c.loop-key.invariant, whole) (simp append_assoc)
