@@ -46,6 +46,7 @@ pub mod ExampleHostile
 pub mod DeterminedParts
 pub mod DeterminedEvents
 pub mod DeterminedFollow
+pub mod DeterminedAsks
 pub mod DeterminedNext
 pub mod DeterminedPeers
 pub mod DeterminedAdopt

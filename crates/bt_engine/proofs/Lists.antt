@@ -130,3 +130,9 @@ set_get (z ∷ xs) zero zero y x e = inl (refl, refl)
 set_get (z ∷ xs) zero (suc j) y x e = inr e
 set_get (z ∷ xs) (suc i) zero y x e = inr e
 set_get (z ∷ xs) (suc i) (suc j) y x e = elim (set_get xs i j y x e) [ inl now ↦ inl (ap (λ n. suc n) now.0, now.1) | inr old ↦ inr old ]
+
+pub get_map : {X Y : Type 0} (f : X → Y) (xs : List X) (j : ℕ) (y : Y) → slice_get (map f xs) j ≡ Some y → (x : X) × (slice_get xs j ≡ Some x) × (f x ≡ y)
+get_map f [] zero y e = absurd cc
+get_map f [] (suc j) y e = absurd cc
+get_map f (x ∷ xs) zero y e = (x, refl, same_some (Some (f x)) (f x) y refl e)
+get_map f (x ∷ xs) (suc j) y e = get_map f xs j y e

@@ -29,8 +29,8 @@ pub use example::{
 pub use law::{
     complete_files_are_published, complete_files_stand, complete_has_root, right_is_checked,
     rooted_is_checked, run_keeps_marks, run_keeps_rooted, run_keeps_sound, run_marks_by_bytes,
-    run_sends_read_bytes, runs_are_checked, runs_are_orderly, runs_keep_shape, step_is_determined,
-    step_keeps_images, step_keeps_marks, step_keeps_order, step_keeps_rooted, step_keeps_sound,
+    run_sends_read_bytes, runs_are_checked, runs_are_determined, runs_are_orderly, runs_keep_shape,
+    step_is_determined, step_is_forced, step_keeps_images, step_keeps_marks, step_keeps_order, step_keeps_rooted, step_keeps_sound,
     step_marks_by_bytes, step_sends_read_bytes, step_unmarks_by_bytes, step_writes_missing,
     taught_keys_are_answered,
 };
