@@ -55,7 +55,7 @@ module _ (dig : List ℕ → List ℕ) where
   remembers : (a b : Answer) → a ≡ b → IsOutOfMemory b → ¬ IsOutOfMemory a → ⊥
   remembers a b e out memory = memory (subst (λ x. IsOutOfMemory x) (sym e) out)
 
-  step_one : (torrent : Metainfo) (s new other : EngineState) (event : Event) (calls : DeviceCalls) (answer another : Answer) → IsLaidOut torrent.piece_length torrent.files → IsShaped torrent s → IsOrderly s
+  pub step_one : (torrent : Metainfo) (s new other : EngineState) (event : Event) (calls : DeviceCalls) (answer another : Answer) → IsLaidOut torrent.piece_length torrent.files → IsShaped torrent s → IsOrderly s
       → Step dig s event calls answer new → Step dig s event calls another other → ¬ IsOutOfMemory answer → ¬ IsOutOfMemory another → AreOne answer new another other
   step_one torrent s new other Connect calls answer another lay shaped o x y memory room =
       answers answer another _ _ new other x.1 y.1 (connect_one s new other x.0 y.0 x.3 y.3 (λ e. remembers answer _ (x.1 ∙ ap of_connect e) tt memory) (λ e. remembers another _ (y.1 ∙ ap of_connect e) tt room))

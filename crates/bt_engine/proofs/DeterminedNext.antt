@@ -16,7 +16,7 @@ use Rattle.bt_engine.specs.Blocks.{with_peer, new_complete_files}
 use Rattle.bt_engine.specs.Output.{Sent, Output, Effect, haves}
 use Rattle.bt_engine.specs.WireEvents.{Handles}
 use Rattle.bt_engine.specs.FollowUp.{FollowsUp}
-use Rattle.bt_engine.specs.Next.{without_peer, with_pending, TakesEvent, GoesOn, Closes, ShowsFault, StepNext, no_peer, waits, goes_on, closes, faulty, no_memory}
+use Rattle.bt_engine.specs.Next.{IsPeer, without_peer, with_pending, TakesEvent, GoesOn, Closes, ShowsFault, StepNext, no_peer, waits, goes_on, closes, faulty, no_memory}
 use Rattle.bt_engine.specs.Orderly.{IsOrderly}
 use Rattle.bt_engine.specs.Step.{of_next}
 use Rattle.bt_engine.specs.Law.{sent_by}
@@ -128,6 +128,36 @@ module _ (dig : List ℕ → List ℕ) where
     fault_one : (i : ℕ) (p : PeerState) (c : DeviceCalls) (out other : Output) (new old : EngineState) → ShowsFault s i p calls out new → ShowsFault s i p calls other old → AreAlike out other new old
     fault_one i p c out other new old x y =
         outs_equal out other new old (x.is ∙ ap (λ f. record { send = []; close = Some (Wire f); notes = [] }) (fails_one p.stream x.fault y.fault x.failed y.failed x.fails y.fails) ∙ sym y.is) (x.after ∙ sym y.after)
+
+    -- an event stands there that keeps its peer, and it is taken
+    pub record GoesWith (i : ℕ) (effect : Effect) (mid : EngineState) (another : Result (Option Output) EngineError) (other : EngineState) : Type 0 where
+      pub sent : List Sent
+      pub follows : FollowsUp dig (with_pending s mid effect.proofs) i sent other
+      pub is : another ≡ Ok (Some (record { send = effect.send ++ haves s mid ++ sent; close = None; notes = effect.notes ++ map (λ file. Complete file) (new_complete_files s mid) }))
+
+    pub next_goes : (i : ℕ) (p : PeerState) (effect : Effect) (mid : EngineState) (another : Result (Option Output) EngineError) (other : EngineState) → IsPeer s key i p → TakesEvent dig s i p calls effect mid → effect.close ≡ None
+        → StepNext dig s key calls another other → another ≢ Err OutOfMemory → GoesWith i effect mid another other
+    next_goes i p effect mid another other is takes stays (no_peer h c a e) room = absurd (h i p is)
+    next_goes i p effect mid another other is takes stays (waits j q q_is w c a e) room = absurd (takes_waits p.stream takes.event takes.rest takes.takes (subst (λ r. Waits r.stream) (peer_one s key j i q p o q_is is).1 w))
+    next_goes i p effect mid another other is takes stays (goes_on j q out q_is g a) room =
+        let h = move_on j i q p out other (peer_one s key j i q p o q_is is) g in
+        let same = taken_one i p effect h.effect mid h.mid takes h.takes in
+        record {
+          sent = h.sent;
+          follows = subst (λ m. FollowsUp dig (with_pending s m effect.proofs) i h.sent other) (sym same.1) (subst (λ (e : Effect). FollowsUp dig (with_pending s h.mid e.proofs) i h.sent other) (sym same.0) h.follows);
+          is = a ∙ ap (λ z. Ok (Some z)) (out_is out (record { send = effect.send ++ haves s mid ++ h.sent; close = None; notes = effect.notes ++ map (λ file. Complete file) (new_complete_files s mid) })
+              (h.send ∙ ap (λ (e : Effect). e.send ++ haves s h.mid ++ h.sent) (sym same.0) ∙ ap (λ m. effect.send ++ haves s m ++ h.sent) (sym same.1)) h.close
+              (h.notes ∙ ap (λ (e : Effect). e.notes ++ map (λ file. Complete file) (new_complete_files s h.mid)) (sym same.0) ∙ ap (λ m. effect.notes ++ map (λ file. Complete file) (new_complete_files s m)) (sym same.1)));
+        }
+    next_goes i p effect mid another other is takes stays (closes j q out q_is g a) room =
+        let h = move_close j i q p out other (peer_one s key j i q p o q_is is) g in
+        let same = taken_one i p effect h.effect mid h.mid takes h.takes in
+        let no : None ≡ Some h.why = sym stays ∙ ap (λ (e : Effect). e.close) same.0 ∙ h.closed in
+        absurd cc
+    next_goes i p effect mid another other is takes stays (faulty j q out q_is g a) room =
+        let h = move_fault j i q p out other (peer_one s key j i q p o q_is is) g in
+        absurd (takes_fails p.stream takes.event h.fault takes.rest h.failed takes.takes h.fails)
+    next_goes i p effect mid another other is takes stays (no_memory j q q_is g a) room = absurd (room a)
 
     pub next_one : (answer another : Result (Option Output) EngineError) (new other : EngineState) → StepNext dig s key calls answer new → StepNext dig s key calls another other → answer ≢ Err OutOfMemory → another ≢ Err OutOfMemory
         → AreOne (of_next answer) new (of_next another) other

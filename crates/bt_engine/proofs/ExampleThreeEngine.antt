@@ -62,7 +62,7 @@ one_of x y z state zero (suc (suc zero)) e = third refl (some_is z state e)
 one_of x y z state zero (suc (suc (suc i))) e = absurd cc
 one_of x y z state (suc file) i e = absurd cc
 
-among_three : (x y z state : BlockState) (c : BlockId) → IsOne x y z c state → Contains all_three c
+pub among_three : (x y z state : BlockState) (c : BlockId) → IsOne x y z c state → Contains all_three c
 among_three x y z state c (first e f) = (0, omega arith, sym e)
 among_three x y z state c (second e f) = (1, omega arith, sym e)
 among_three x y z state c (third e f) = (2, omega arith, sym e)
@@ -233,7 +233,7 @@ module _ (dig : List ℕ → List ℕ) (b : ThreeBlocks) (infohash : List ℕ) w
     | inr more ↦ contains_none asked.0 more
   ]
 
-  is_open : (k : Facts) (p : PeerState) (c : BlockId) → p.asked ≡ [] → Has (engine k Missing Missing Missing p) p c → state_at (engine k Missing Missing Missing p) c ≡ Some Missing
+  pub is_open : (k : Facts) (p : PeerState) (c : BlockId) → p.asked ≡ [] → Has (engine k Missing Missing Missing p) p c → state_at (engine k Missing Missing Missing p) c ≡ Some Missing
       → IsOpen (engine k Missing Missing Missing p) p c
   is_open k p c none has missing = record { has = has; missing = missing; free = unasked k p c none }
 

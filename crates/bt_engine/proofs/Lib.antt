@@ -51,5 +51,9 @@ pub mod DeterminedNext
 pub mod DeterminedPeers
 pub mod DeterminedAdopt
 pub mod Determined
+-- worked examples that are forced
+pub mod Runs
+pub mod ForcedOneBlock
+pub mod ForcedWaiting
 -- marks that go
 pub mod Unmarks

@@ -40,3 +40,4 @@ pub mod ExampleThreeBlocks
 pub mod ExampleWaiting
 pub mod ExampleServing
 pub mod ExampleHostile
+pub mod ExampleForced
