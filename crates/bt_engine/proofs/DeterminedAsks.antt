@@ -1,5 +1,5 @@
 -- Where two answers request the same blocks, what follows for peers is the same.
-use Rattle.std.proofs.Common.{◌≡◌, ◌≢◌, ℕ, zero, suc, ◌+◌, ◌-◌, ◌*◌, ◌/◌, ◌<◌, inl, inr, Bool, true, false, List, [], ◌∷◌, ◌++◌, get_or, Some, refl, sym, ap, ◌∙◌, subst, arith}
+use Rattle.std.proofs.Common.{◌≡◌, ◌≢◌, ℕ, zero, suc, ◌+◌, ◌-◌, ◌*◌, ◌/◌, inl, inr, Bool, true, false, List, [], ◌∷◌, ◌++◌, get_or, Some, refl, sym, ap, ◌∙◌, subst, arith}
 use Rattle.std.specs.Prelude.{slice_get, slice_set, Contains, filter}
 use Rattle.std.specs.List.{range_with_len}
 use Rattle.std.proofs.Math.Nat.{add_left_cancel}
@@ -9,7 +9,6 @@ use Rattle.std.proofs.lemmas.List.Elements.{filter-append, Contains-append_cases
 use Rattle.bt_tree.specs.Blocks.{block_length}
 use Rattle.bt_meta.specs.Files.{File}
 use Rattle.bt_meta.specs.Torrent.{Metainfo, IsLaidOut}
-use Rattle.bt_store.specs.declared.block_states.BlockState.TheVariants.{Missing}
 use Rattle.bt_book.specs.declared.names.BlockId.{BlockId}
 use Rattle.bt_wire.specs.declared.message.Ask.{Ask}
 use Rattle.bt_wire.specs.declared.message.Message.TheVariants.{Request}
@@ -23,9 +22,9 @@ use Rattle.bt_engine.specs.Law.{sent_by}
 use Rattle.bt_engine.specs.Determined.{is_block_request, plain_answer, asked_nothing, without_asked, LacksOneAtMost}
 use Rattle.bt_engine.proofs.Lists.{same_some, here, later, contains_none, contains_cases, set_cases, range_limits}
 use Rattle.bt_engine.proofs.Pairs.{Pairs}
-use Rattle.bt_engine.proofs.AnswerSends.{Follows, follows_of}
+use Rattle.bt_engine.proofs.AnswerSends.{Follows, same_plan, follows_of}
 use Rattle.bt_engine.proofs.AnswerRequests.{missing_in}
-use Rattle.bt_engine.proofs.DeterminedParts.{whole_one}
+use Rattle.bt_engine.proofs.AnswerPlaces.{same_block}
 use Rattle.bt_engine.proofs.DeterminedFollow.{AlikePeers, interest_one, hash_one}
 
 -- ---- why two answers request the same blocks
@@ -58,14 +57,14 @@ nil_of_append : {X : Type 0} (xs ys : List X) → xs ++ ys ≡ [] → (xs ≡ []
 nil_of_append [] ys e = (refl, e)
 nil_of_append (x ∷ xs) ys e = absurd cc
 
-one_there : (s m : EngineState) → m.files ≡ s.files → LacksOneAtMost m → LacksOneAtMost s
-one_there s m e one b c x y = one b c (missing_in s m b e x) (missing_in s m c e y)
+lacks_there : (s m : EngineState) → m.files ≡ s.files → LacksOneAtMost m → LacksOneAtMost s
+lacks_there s m e one b c x y = one b c (missing_in s m b e x) (missing_in s m c e y)
 
 -- behind what both send
 pub asks_behind : (s m : EngineState) (xs f g : List Sent) → m.files ≡ s.files → SameAsks m (xs ++ f) (xs ++ g) → SameAsks s f g
 asks_behind s m xs f g e (by_requests same) = by_requests (append_cancel_left (requests_in xs) (requests_in f) (requests_in g) (sym (requests_append xs f) ∙ same ∙ requests_append xs g))
 asks_behind s m xs f g e (by_none none) = by_none (nil_of_append (requests_in xs) (requests_in f) (sym (requests_append xs f) ∙ none)).1
-asks_behind s m xs f g e (by_one one) = by_one (one_there s m e one)
+asks_behind s m xs f g e (by_one one) = by_one (lacks_there s m e one)
 
 -- ---- a block and its request
 
@@ -99,7 +98,7 @@ blocks_one s p (b ∷ bs) [] f lay x y = let no = sym y ∙ x.4 in absurd cc
 blocks_one s p (b ∷ bs) (c ∷ cs) f lay x y =
     let same = cons_one x.0 y.0 x.1 y.1 (sym x.4 ∙ y.4) in
     let ask : x.2.ask ≡ y.2.ask = ask_sent p x.2.ask y.2.ask (sym x.2.is ∙ same.0 ∙ y.2.is) in
-    let block : b ≡ c = whole_one s.torrent x.2.ask.piece x.2.ask.begin x.2.ask.length lay b c x.2.whole (subst (λ (a : Ask). IsWholeBlock s.torrent a.piece a.begin a.length c) (sym ask) y.2.whole) in
+    let block : b ≡ c = same_block s.torrent lay x.2.ask.piece x.2.ask.begin x.2.ask.length b c x.2.whole (subst (λ (a : Ask). IsWholeBlock s.torrent a.piece a.begin a.length c) (sym ask) y.2.whole) in
     ap (λ z. z ∷ bs) block ∙ ap (λ zs. c ∷ zs) (blocks_one s p bs cs x.1 lay x.3 (subst (λ zs. RequestsEach s p cs zs) (sym same.1) y.3))
 
 no_block : (s : EngineState) (p : PeerState) (bs : List BlockId) → RequestsEach s p bs [] → bs ≡ []
@@ -149,24 +148,19 @@ all_to s p (b ∷ blocks) sent z r c = elim (contains_cases r.0 z r.1 (subst (λ
   | inr more ↦ all_to s p blocks r.1 z r.3 more
 ]
 
-record SamePlan (p q : PeerState) (sent : List Sent) : Type 0 where
-  key : q.key ≡ p.key
-  asked : q.asked ≡ p.asked
-  no_request : requests_in sent ≡ []
+hash_no_request : (dig : List ℕ → List ℕ) (s : EngineState) (p q : PeerState) (sent : List Sent) → RequestsHashes dig s p sent q → requests_in sent ≡ []
+hash_no_request dig s p q sent (requests b k key x y z w e f) = ap requests_in e
+hash_no_request dig s p q sent (rests x e f) = ap requests_in e
 
 -- no two peers have one key
 abbrev pub KeysApart : EngineState → Type 0
 KeysApart s = (i j : ℕ) (p q : PeerState) → slice_get s.peers i ≡ Some p → slice_get s.peers j ≡ Some q → p.key ≡ q.key → i ≡ j
 
 module _ (dig : List ℕ → List ℕ) where
-  same_plan : (s : EngineState) (p q : PeerState) (sent : List Sent) → RequestsHashes dig s p sent q → SamePlan p q sent
-  same_plan s p q sent (requests b k key x y z w e f) = record { key = ap (λ (r : PeerState). r.key) f; asked = ap (λ (r : PeerState). r.asked) f; no_request = ap requests_in e }
-  same_plan s p q sent (rests x e f) = record { key = ap (λ (r : PeerState). r.key) f; asked = ap (λ (r : PeerState). r.asked) f; no_request = ap requests_in e }
-
   requests_of : (s : EngineState) (i : ℕ) (f : List Sent) (a : EngineState) → (x : FollowsUp dig s i f a) → requests_in f ≡ x.block_frames
   requests_of s i f a x =
       let interest : requests_in x.interest_frames ≡ [] = ap requests_in x.interest.told ∙ interest_no_request x.peer x.peer.am_interested x.interested.am_interested in
-      let hash : requests_in x.hash_frames ≡ [] = (same_plan s x.interested x.planned x.hash_frames x.hashes).no_request in
+      let hash : requests_in x.hash_frames ≡ [] = hash_no_request dig s x.interested x.planned x.hash_frames x.hashes in
       ap requests_in x.all ∙ requests_append (x.interest_frames ++ x.hash_frames) x.block_frames
       ∙ ap (λ zs. zs ++ requests_in x.block_frames) (requests_append x.interest_frames x.hash_frames ∙ ap (λ zs. zs ++ requests_in x.hash_frames) interest ∙ hash) ∙ only_requests s x.planned x.blocks x.block_frames x.requests
 
@@ -184,8 +178,8 @@ module _ (dig : List ℕ → List ℕ) where
 
     planned : x.planned ≡ y.planned
     planned =
-        let asked : x.planned.asked ≡ y.planned.asked = (same_plan s x.interested x.planned x.hash_frames x.hashes).asked ∙ ap (λ (p : PeerState). p.asked) x.interest.others ∙ ap (λ (p : PeerState). p.asked) peers
-        ∙ sym (ap (λ (p : PeerState). p.asked) y.interest.others) ∙ sym (same_plan s y.interested y.planned y.hash_frames y.hashes).asked in
+        let asked : x.planned.asked ≡ y.planned.asked = (same_plan dig s x.interested x.planned x.hash_frames x.hashes).same_asked ∙ ap (λ (p : PeerState). p.asked) x.interest.others ∙ ap (λ (p : PeerState). p.asked) peers
+        ∙ sym (ap (λ (p : PeerState). p.asked) y.interest.others) ∙ sym (same_plan dig s y.interested y.planned y.hash_frames y.hashes).same_asked in
         ap (λ l. record (asked_nothing x.planned) { asked = l }) asked ∙ ap (λ (p : PeerState). record p { asked = y.planned.asked }) hash.1
 
     theirs : AsksBlocks s x.planned y.blocks
@@ -232,7 +226,7 @@ module _ (dig : List ℕ → List ℕ) where
 
   own_key : (s : EngineState) (i : ℕ) (sent : List Sent) (new : EngineState) (z : Sent) → (x : FollowsUp dig s i sent new) → Contains (requests_in sent) z → z.peer ≡ x.peer.key
   own_key s i sent new z x c =
-      all_to s x.planned x.blocks x.block_frames z x.requests (subst (λ l. Contains l z) (requests_of s i sent new x) c) ∙ (same_plan s x.interested x.planned x.hash_frames x.hashes).key ∙ ap (λ (p : PeerState). p.key) x.interest.others
+      all_to s x.planned x.blocks x.block_frames z x.requests (subst (λ l. Contains l z) (requests_of s i sent new x) c) ∙ (same_plan dig s x.interested x.planned x.hash_frames x.hashes).same_key ∙ ap (λ (p : PeerState). p.key) x.interest.others
 
   each_key : (is : List ℕ) (s : EngineState) (sent : List Sent) (new : EngineState) (z : Sent) → FollowsEach dig is s sent new → Contains (requests_in sent) z → (j : ℕ) × Contains is j × (p : PeerState) × (slice_get s.peers j ≡ Some p) × (z.peer ≡ p.key)
   each_key [] s sent new z x c = absurd (contains_none z (subst (λ l. Contains (requests_in l) z) x.0 c))
@@ -290,7 +284,7 @@ module _ (dig : List ℕ → List ℕ) where
           (λ z c. others x.0 x.1 x.2 a z own x.4 c) (λ z c. others y.0 y.1 y.2 b z (follows_of dig s i y.1 y.0 y.3) y.4 c) (sym parts_of ∙ e ∙ ap requests_in y.5 ∙ requests_append y.1 y.2) in
           (by_requests both.0, by_requests both.1)
       split (by_none e) = let none = nil_of_append (requests_in x.1) (requests_in x.2) (sym parts_of ∙ e) in (by_none none.0, by_none none.1)
-      split (by_one one) = (by_one (one_there s a (each_files (i ∷ is) s f a x) one), by_one one)
+      split (by_one one) = (by_one (lacks_there s a (each_files (i ∷ is) s f a x) one), by_one one)
 
 -- places are no two the same
 pub range_apart : (a n : ℕ) → Pairs (λ i j. i ≢ j) (range_with_len a n)

@@ -43,7 +43,8 @@ use Rattle.bt_engine.specs.Settling.{judged_file, settling_notes, due_blocks, Se
 use Rattle.bt_engine.specs.HashMessages.{OnlyCloses, IsTreeOf, IsAnswered, HandlesHashRequest, answered, rejected, Resolves, ours, other, new_proofs, settled_count, Learns, HandlesHashes, unknown_root, no_claim, refused, learns}
 use Rattle.bt_engine.specs.WireEvents.{HandlesHello, ours as our_torrent, other as other_torrent, HandlesHave, in_range, out_of_range, HandlesBitfield, right, wrong, HandlesMessage, Handles}
 use Rattle.bt_engine.proofs.Lists.{get_some, same_some, here, later, contains_none, contains_cases, some_below, range_contains, range_limits}
-use Rattle.bt_engine.proofs.DeterminedParts.{place_one, whole_one, tree_one, accepts_one, answer_one, accepts_refused, refused_one, no_claim_one, claim_or_not}
+use Rattle.bt_engine.proofs.AnswerPlaces.{same_place, same_block}
+use Rattle.bt_engine.proofs.DeterminedParts.{tree_one, accepts_one, answer_one, accepts_refused, refused_one, no_claim_one, claim_or_not}
 
 -- ---- lists
 
@@ -324,22 +325,22 @@ module _ (dig : List ℕ → List ℕ) (s : EngineState) where
     request_one i p ask calls e f m n (not_marked xs xa xf xg xb xc xe) (ignored ya yb yc ye) = absurd (choked p.am_choking ya xa)
     request_one i p ask calls e f m n (not_marked xs xa xf xg xb xc xe) (no_place ya yf yb yc ye) = absurd (yf xs xf)
     request_one i p ask calls e f m n (not_marked xs xa xf xg xb xc xe) (not_marked ys ya yf yg yb yc ye) = (xc ∙ sym yc, xe ∙ sym ye)
-    request_one i p ask calls e f m n (not_marked xs xa xf xg xb xc xe) (served ys ya yf yg yx) = absurd (xg (subst (λ t. AreMarked s t) (place_one s.torrent ask.piece ask.begin ask.length lay ys xs yf xf) yg))
-    request_one i p ask calls e f m n (not_marked xs xa xf xg xb xc xe) (stopped ys ya yf yg yx) = absurd (xg (subst (λ t. AreMarked s t) (place_one s.torrent ask.piece ask.begin ask.length lay ys xs yf xf) yg))
+    request_one i p ask calls e f m n (not_marked xs xa xf xg xb xc xe) (served ys ya yf yg yx) = absurd (xg (subst (λ t. AreMarked s t) (same_place s.torrent lay ask.piece ask.begin ask.length ys xs yf xf) yg))
+    request_one i p ask calls e f m n (not_marked xs xa xf xg xb xc xe) (stopped ys ya yf yg yx) = absurd (xg (subst (λ t. AreMarked s t) (same_place s.torrent lay ask.piece ask.begin ask.length ys xs yf xf) yg))
     request_one i p ask calls e f m n (served xs xa xf xg xx) (ignored ya yb yc ye) = absurd (choked p.am_choking ya xa)
     request_one i p ask calls e f m n (served xs xa xf xg xx) (no_place ya yf yb yc ye) = absurd (yf xs xf)
-    request_one i p ask calls e f m n (served xs xa xf xg xx) (not_marked ys ya yf yg yb yc ye) = absurd (yg (subst (λ t. AreMarked s t) (place_one s.torrent ask.piece ask.begin ask.length lay xs ys xf yf) xg))
-    request_one i p ask calls e f m n (served xs xa xf xg xx) (served ys ya yf yg yx) = serves_one i p ask xs calls e f m n xx (subst (λ t. Serves dig s i p ask t calls f n) (place_one s.torrent ask.piece ask.begin ask.length lay ys xs yf xf) yx)
-    request_one i p ask calls e f m n (served xs xa xf xg xx) (stopped ys ya yf yg yx) = absurd (serve_or_stop i p ask xs calls e f m n xx (subst (λ t. StopsAtFault dig s t calls f n) (place_one s.torrent ask.piece ask.begin ask.length lay ys xs yf xf) yx))
+    request_one i p ask calls e f m n (served xs xa xf xg xx) (not_marked ys ya yf yg yb yc ye) = absurd (yg (subst (λ t. AreMarked s t) (same_place s.torrent lay ask.piece ask.begin ask.length xs ys xf yf) xg))
+    request_one i p ask calls e f m n (served xs xa xf xg xx) (served ys ya yf yg yx) = serves_one i p ask xs calls e f m n xx (subst (λ t. Serves dig s i p ask t calls f n) (same_place s.torrent lay ask.piece ask.begin ask.length ys xs yf xf) yx)
+    request_one i p ask calls e f m n (served xs xa xf xg xx) (stopped ys ya yf yg yx) = absurd (serve_or_stop i p ask xs calls e f m n xx (subst (λ t. StopsAtFault dig s t calls f n) (same_place s.torrent lay ask.piece ask.begin ask.length ys xs yf xf) yx))
     request_one i p ask calls e f m n (stopped xs xa xf xg xx) (ignored ya yb yc ye) = absurd (choked p.am_choking ya xa)
     request_one i p ask calls e f m n (stopped xs xa xf xg xx) (no_place ya yf yb yc ye) = absurd (yf xs xf)
-    request_one i p ask calls e f m n (stopped xs xa xf xg xx) (not_marked ys ya yf yg yb yc ye) = absurd (yg (subst (λ t. AreMarked s t) (place_one s.torrent ask.piece ask.begin ask.length lay xs ys xf yf) xg))
-    request_one i p ask calls e f m n (stopped xs xa xf xg xx) (served ys ya yf yg yx) = absurd (serve_or_stop i p ask ys calls f e n m yx (subst (λ t. StopsAtFault dig s t calls e m) (place_one s.torrent ask.piece ask.begin ask.length lay xs ys xf yf) xx))
-    request_one i p ask calls e f m n (stopped xs xa xf xg xx) (stopped ys ya yf yg yx) = stops_one xs calls e f m n xx (subst (λ t. StopsAtFault dig s t calls f n) (place_one s.torrent ask.piece ask.begin ask.length lay ys xs yf xf) yx)
+    request_one i p ask calls e f m n (stopped xs xa xf xg xx) (not_marked ys ya yf yg yb yc ye) = absurd (yg (subst (λ t. AreMarked s t) (same_place s.torrent lay ask.piece ask.begin ask.length xs ys xf yf) xg))
+    request_one i p ask calls e f m n (stopped xs xa xf xg xx) (served ys ya yf yg yx) = absurd (serve_or_stop i p ask ys calls f e n m yx (subst (λ t. StopsAtFault dig s t calls e m) (same_place s.torrent lay ask.piece ask.begin ask.length xs ys xf yf) xx))
+    request_one i p ask calls e f m n (stopped xs xa xf xg xx) (stopped ys ya yf yg yx) = stops_one xs calls e f m n xx (subst (λ t. StopsAtFault dig s t calls f n) (same_place s.torrent lay ask.piece ask.begin ask.length ys xs yf xf) yx)
 
     arrives_one : (i : ℕ) (p : PeerState) (piece begin : ℕ) (bytes : List ℕ) (calls : DeviceCalls) (e f : Effect) (m n : EngineState) → Arrives dig s i p piece begin bytes calls e m → Arrives dig s i p piece begin bytes calls f n → (e ≡ f) × (m ≡ n)
     arrives_one i p piece begin bytes calls e f m n x y =
-        let block : x.block ≡ y.block = whole_one s.torrent piece begin (length bytes) lay x.block y.block x.whole y.whole in
+        let block : x.block ≡ y.block = same_block s.torrent lay piece begin (length bytes) x.block y.block x.whole y.whole in
         let puts = puts_one x.block bytes calls e f x.stored y.stored x.puts (subst (λ b. Puts dig s b bytes calls f y.stored) (sym block) y.puts) in (
           puts.0,
           x.after ∙ ap (λ st. with_peer st i (with_payload (length bytes) (record p { asked = without_block x.block p.asked }))) puts.1

@@ -9,7 +9,7 @@ use Rattle.bt_wire.specs.Cutter.{Takes, Waits}
 use Rattle.bt_engine.specs.declared.answer.Why.TheVariants.{Wire}
 use Rattle.bt_engine.specs.declared.answer.Note.TheVariants.{Complete}
 use Rattle.bt_engine.specs.declared.error.EngineError.{EngineError}
-use Rattle.bt_engine.specs.declared.error.EngineError.TheVariants.{NoPeer, OutOfMemory}
+use Rattle.bt_engine.specs.declared.error.EngineError.TheVariants.{OutOfMemory}
 use Rattle.bt_engine.specs.State.{PeerState, EngineState}
 use Rattle.bt_engine.specs.Devices.{DeviceCalls}
 use Rattle.bt_engine.specs.Blocks.{with_peer, new_complete_files}

@@ -25,7 +25,7 @@ use Rattle.bt_engine.specs.Flush.{data_files, syncs_of, StepFlush, syncs, fails}
 use Rattle.bt_engine.specs.Orderly.{IsOrderly}
 use Rattle.bt_engine.specs.Step.{Answer, of_connect, of_feed, of_lost, of_rechoke, of_flush}
 use Rattle.bt_engine.specs.Law.{sent_by}
-use Rattle.bt_engine.specs.Determined.{other_frames, without_requests, plain_answer, without_asked}
+use Rattle.bt_engine.specs.Determined.{other_frames, plain_answer}
 use Rattle.bt_engine.proofs.Lists.{contains_map, here, get_map}
 use Rattle.bt_engine.proofs.Orderly.{length-bits_of}
 use Rattle.bt_engine.proofs.DeterminedParts.{peer_one}

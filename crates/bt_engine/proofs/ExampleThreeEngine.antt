@@ -29,8 +29,8 @@ use Rattle.bt_engine.specs.Peers.{StepConnect, joins, greeting, StepFeed, feeds}
 use Rattle.bt_engine.specs.Start.{Starts, by_root}
 use Rattle.bt_engine.specs.ExamplePeer.{first_key, peer_with, all_taken, their_handshake, bitfield_bytes, unchoke_bytes, to_first}
 use Rattle.bt_engine.specs.ExampleThreeBlocks.{ThreeBlocks, left_node, right_node, three_root, three_file, three_torrent, three_engine, leaves_key, four_leaves, leaves_message, block_request}
-use Rattle.bt_engine.proofs.Lists.{contains_none, contains_cases, here, and_then_some}
-use Rattle.bt_engine.proofs.ExamplePeer.{some_is, one_there, taken_bits, taken_unchoke, taken_hello}
+use Rattle.bt_engine.proofs.Lists.{some_is, contains_none, contains_cases, here, and_then_some}
+use Rattle.bt_engine.proofs.ExamplePeer.{one_there, taken_bits, taken_unchoke, taken_hello}
 use Rattle.bt_engine.proofs.ExampleThreeTree.{at_first, proved, first_unknown, first_known, second_known, third_known, plan, leaves_length}
 
 abbrev pub block : ℕ → BlockId

@@ -1,9 +1,8 @@
 -- The answers of the waiting fetch are the only ones, but for the order of three requests.
-use Rattle.std.proofs.Common.{◌≡◌, ◌≢◌, ℕ, zero, suc, ◌+◌, ◌*◌, ◌<◌, ◌⊎◌, inl, inr, true, false, List, [], ◌∷◌, ◌++◌, length, map, get_or, Some, Ok, Err, None, refl, sym, ap, ◌∙◌, subst, arith}
-use Rattle.std.specs.Prelude.{slice_get, slice_set, slice_index_or, Contains, Result, Option}
+use Rattle.std.proofs.Common.{◌≡◌, ◌≢◌, ℕ, ◌*◌, ◌<◌, ◌⊎◌, inl, inr, true, false, List, [], ◌∷◌, ◌++◌, length, map, get_or, Some, refl, sym, ap, ◌∙◌, subst, arith}
+use Rattle.std.specs.Prelude.{slice_get, slice_set, slice_index_or, Contains}
 use Rattle.std.specs.List.{AllPairs}
 use Rattle.bt_tree.specs.NodeHash.{IsDigest}
-use Rattle.bt_meta.specs.Files.{File}
 use Rattle.bt_meta.specs.Torrent.{IsLaidOut}
 use Rattle.bt_store.specs.declared.block_states.BlockState.TheVariants.{Missing, Marked}
 use Rattle.bt_book.specs.declared.names.BlockId.{BlockId}
@@ -11,17 +10,14 @@ use Rattle.bt_wire.specs.Cutter.{stream}
 use Rattle.bt_wire.specs.Message.{message_spelling}
 use Rattle.bt_wire.specs.declared.event.WireEvent.TheVariants.{Message as message_event}
 use Rattle.bt_wire.specs.declared.message.Message.TheVariants.{Unchoke, Request}
-use Rattle.bt_engine.specs.declared.error.EngineError.{EngineError}
-use Rattle.bt_engine.specs.declared.error.EngineError.TheVariants.{OutOfMemory}
 use Rattle.bt_engine.specs.declared.event.Event.{Event}
 use Rattle.bt_engine.specs.declared.event.Event.TheVariants.{Feed, Next}
 use Rattle.bt_engine.specs.State.{Idle, PeerState, EngineState}
 use Rattle.bt_engine.specs.Devices.{DeviceCalls}
 use Rattle.bt_engine.specs.Blocks.{state_at}
 use Rattle.bt_engine.specs.Spans.{IsWholeBlock}
-use Rattle.bt_engine.specs.Output.{Sent, Output, no_effect, sent_to}
+use Rattle.bt_engine.specs.Output.{Sent, no_effect, sent_to}
 use Rattle.bt_engine.specs.FollowUp.{TellsInterest, interest_sent, RequestsHashes, requests, rests, IsOpen, AsksBlocks, RequestsEach, FollowsUp}
-use Rattle.bt_engine.specs.Next.{StepNext}
 use Rattle.bt_engine.specs.Orderly.{IsOrderly}
 use Rattle.bt_engine.specs.Shape.{IsShaped}
 use Rattle.bt_engine.specs.Step.{Answer, of_next, Run}
@@ -37,7 +33,7 @@ use Rattle.bt_engine.proofs.Shape.{step_shape, shape_kept, shape_at_first}
 use Rattle.bt_engine.proofs.ExamplePeer.{taken_unchoke}
 use Rattle.bt_engine.proofs.ExampleThreeTree.{at_first, proved}
 use Rattle.bt_engine.proofs.ExampleThreeEngine.{block, all_three, asked_peer, is_one, among_three, whole_first, whole_second, whole_third, interesting, is_open, start, starts}
-use Rattle.bt_engine.proofs.ExampleWaiting.{AreAsked, three_cases, asked_key, asked_already, first_state, idle_peer, settled, only_third, before_unchoke, begin_events, begin_answers, begins, piece_events, piece_calls, piece_answers, all_wait, pieces_wait, settles}
+use Rattle.bt_engine.proofs.ExampleWaiting.{AreAsked, three_cases, asked_key, asked_already, first_state, settled, only_third, before_unchoke, begin_events, begin_answers, begins, piece_events, piece_calls, piece_answers, all_wait, pieces_wait, settles}
 use Rattle.bt_engine.proofs.DeterminedAsks.{by_none, by_one, range_one}
 use Rattle.bt_engine.proofs.DeterminedNext.{next_goes}
 use Rattle.bt_engine.proofs.Determined.{step_one, run_one}

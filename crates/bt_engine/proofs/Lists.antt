@@ -6,11 +6,11 @@ use Rattle.std.specs.List.{range_with_len}
 use Rattle.std.proofs.lemmas.List.FromFn.{length-range_with_len, get_or-range_with_len}
 use Rattle.std.proofs.lemmas.List.Elements.{Contains-append_left, Contains-append_right, Contains-append_cases}
 
+pub some_is : {X : Type 0} (x y : X) → Some x ≡ Some y → x ≡ y
+some_is x y e = cc
+
 pub same_some : {X : Type 0} (o : Option X) (x y : X) → o ≡ Some x → o ≡ Some y → x ≡ y
 same_some o x y e f = some_is x y (sym e ∙ f)
-  where
-    some_is : {X : Type 0} (x y : X) → Some x ≡ Some y → x ≡ y
-    some_is x y e = cc
 
 -- what stands there is the one that was set, or stood there before
 pub set_cases : {X : Type 0} (xs : List X) (i j : ℕ) (x y : X) → slice_get (slice_set xs i x) j ≡ Some y → ((j ≡ i) × (y ≡ x)) ⊎ (slice_get xs j ≡ Some y)
@@ -136,3 +136,8 @@ get_map f [] zero y e = absurd cc
 get_map f [] (suc j) y e = absurd cc
 get_map f (x ∷ xs) zero y e = (x, refl, same_some (Some (f x)) (f x) y refl e)
 get_map f (x ∷ xs) (suc j) y e = get_map f xs j y e
+
+pub set_id : {X : Type 0} (xs : List X) (i : ℕ) (x : X) → slice_get xs i ≡ Some x → slice_set xs i x ≡ xs
+set_id [] i x e = refl
+set_id (y ∷ xs) zero x e = ap (λ z. z ∷ xs) (sym (same_some (Some y) y x refl e))
+set_id (y ∷ xs) (suc i) x e = ap (λ ys. y ∷ ys) (set_id xs i x e)

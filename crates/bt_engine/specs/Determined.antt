@@ -81,8 +81,8 @@ block_requests answer = filter (λ x. is_block_request x.frame) (sent_by answer)
 abbrev pub LacksOneAtMost : EngineState → Type 0
 LacksOneAtMost s = (b c : BlockId) → state_at s b ≡ Some Missing → state_at s c ≡ Some Missing → b ≡ c
 
--- Where an answer requests no block, or at most one block is missing after it, nothing is left free: with memory
--- there is no other answer.
+-- Where an answer requests no block, or at most one block is missing after it, nothing is left free: with
+-- memory there is no other answer.
 abbrev pub StepIsForced : (List ℕ → List ℕ) → Type 0
 StepIsForced dig = (s new other : EngineState) (event : Event) (calls : DeviceCalls)
     (answer another : Answer) → IsReached dig s
@@ -97,8 +97,8 @@ StepIsForced dig = (s new other : EngineState) (event : Event) (calls : DeviceCa
 abbrev pub HaveMemory : List Answer → Type 0
 HaveMemory answers = All (λ answer. ¬ IsOutOfMemory answer) answers
 
--- Two runs of the same events, from an engine that is reached, with the same answers of devices, with memory, and
--- with the same requests of blocks at each event: they answer the same and lead to the same engine.
+-- Two runs of the same events, from an engine that is reached, with the same answers of devices, with memory,
+-- and with the same requests of blocks at each event: they answer the same and lead to the same engine.
 abbrev pub RunsAreDetermined : (List ℕ → List ℕ) → Type 0
 RunsAreDetermined dig = (s new other : EngineState) (events : List Event) (calls : List DeviceCalls)
     (answers others : List Answer) → IsReached dig s

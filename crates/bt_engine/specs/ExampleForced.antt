@@ -1,5 +1,6 @@
--- What is answered in two of the worked examples is all that may be: another run of the same events, with the same
--- answers of the device and with memory, answers the same. So an answer that is changed in any place is none.
+-- What is answered in two of the worked examples is all that may be: another run of the same events, with the
+-- same answers of the device and with memory, answers the same. So an answer that is changed in any place is
+-- none.
 use Rattle.std.specs.Prelude.{◌≡◌, ◌≢◌, ◌↔◌, ℕ, ◌*◌, List, [], ◌∷◌, length, map, slice_set, Contains}
 use Rattle.std.specs.List.{AllPairs}
 use Rattle.bt_tree.specs.Limits.{full_block_length}
@@ -33,7 +34,8 @@ pub record IsOrder (order : List BlockId) : Type 0 where
   pub all : (c : BlockId) → Contains order c ↔ Contains (block_id 0 0 ∷ block_id 0 1 ∷ block_id 0 2 ∷ []) c
 
 -- the answers of the example, but that the blocks are requested in this order, when the peer chokes no longer
-abbrev pub waiting_answers_in : (List ℕ → List ℕ) → ThreeBlocks → (infohash : List ℕ) → List BlockId → List Answer
+abbrev pub waiting_answers_in : (List ℕ → List ℕ) → ThreeBlocks → (infohash : List ℕ) → List BlockId
+    → List Answer
 waiting_answers_in dig b infohash order = slice_set (waiting_answers dig b infohash) 6
     (taken_answer (map (λ c. to_first (block_request (full_block_length * c.block))) order) [])
 
