@@ -68,7 +68,8 @@ asks_behind s m xs f g e (by_one one) = by_one (lacks_there s m e one)
 
 -- ---- a block and its request
 
-pub range_one : (torrent : Metainfo) (a c : Ask) (b : BlockId) → IsWholeBlock torrent a.piece a.begin a.length b → IsWholeBlock torrent c.piece c.begin c.length b → a ≡ c
+pub range_one : (torrent : Metainfo) (a c : Ask) (b : BlockId) → IsWholeBlock torrent a.piece a.begin a.length b
+    → IsWholeBlock torrent c.piece c.begin c.length b → a ≡ c
 range_one torrent a c b x y =
     let file : x.place.file ≡ y.place.file = sym (x.place.found x.place.file) ∙ ap (λ i. get_or torrent.files i x.place.file) (x.file ∙ sym y.file) ∙ y.place.found x.place.file in
     let start : (a.piece - x.place.file.first_piece) * torrent.piece_length + a.begin ≡ (c.piece - y.place.file.first_piece) * torrent.piece_length + c.begin = sym x.place.start ∙ x.start ∙ sym y.start ∙ y.place.start in
@@ -91,7 +92,8 @@ ask_sent p a c e = let frames = ap (λ (x : Sent). x.frame) e in cc
 pub cons_one : {X : Type 0} (x y : X) (xs ys : List X) → x ∷ xs ≡ y ∷ ys → (x ≡ y) × (xs ≡ ys)
 cons_one x y xs ys e = (cc, cc)
 
-blocks_one : (s : EngineState) (p : PeerState) (bs cs : List BlockId) (f : List Sent) → IsLaidOut s.torrent.piece_length s.torrent.files → RequestsEach s p bs f → RequestsEach s p cs f → bs ≡ cs
+blocks_one : (s : EngineState) (p : PeerState) (bs cs : List BlockId) (f : List Sent) → IsLaidOut s.torrent.piece_length s.torrent.files
+    → RequestsEach s p bs f → RequestsEach s p cs f → bs ≡ cs
 blocks_one s p [] [] f lay x y = refl
 blocks_one s p [] (c ∷ cs) f lay x y = let no = sym x ∙ y.4 in absurd cc
 blocks_one s p (b ∷ bs) [] f lay x y = let no = sym y ∙ x.4 in absurd cc
@@ -141,7 +143,8 @@ only_requests s p [] sent r = ap requests_in r ∙ sym r
 only_requests s p (b ∷ blocks) sent r =
     ap requests_in r.4 ∙ ap (λ x. requests_in (x ∷ r.1)) r.2.is ∙ ap (λ zs. sent_to p (Request r.2.ask) ∷ zs) (only_requests s p blocks r.1 r.3) ∙ ap (λ x. x ∷ r.1) (sym r.2.is) ∙ sym r.4
 
-all_to : (s : EngineState) (p : PeerState) (blocks : List BlockId) (sent : List Sent) (z : Sent) → RequestsEach s p blocks sent → Contains sent z → z.peer ≡ p.key
+all_to : (s : EngineState) (p : PeerState) (blocks : List BlockId) (sent : List Sent) (z : Sent) → RequestsEach s p blocks sent → Contains sent z
+    → z.peer ≡ p.key
 all_to s p [] sent z r c = absurd (contains_none z (subst (λ l. Contains l z) r c))
 all_to s p (b ∷ blocks) sent z r c = elim (contains_cases r.0 z r.1 (subst (λ l. Contains l z) r.4 c)) [
   | inl one ↦ ap (λ (x : Sent). x.peer) (sym one ∙ r.2.is)
@@ -212,7 +215,8 @@ module _ (dig : List ℕ → List ℕ) where
   -- ---- what follows for each peer
 
   -- each peer afterwards was there, under its key
-  before : (s new : EngineState) (i j : ℕ) (sent : List Sent) (q : PeerState) → Follows s i sent new → slice_get new.peers j ≡ Some q → (p : PeerState) × (slice_get s.peers j ≡ Some p) × (q.key ≡ p.key)
+  before : (s new : EngineState) (i j : ℕ) (sent : List Sent) (q : PeerState) → Follows s i sent new → slice_get new.peers j ≡ Some q
+      → (p : PeerState) × (slice_get s.peers j ≡ Some p) × (q.key ≡ p.key)
   before s new i j sent q f at = elim (set_cases s.peers i j f.after q (subst (λ l. slice_get l j ≡ Some q) f.peers at)) [
     | inl one ↦ (f.peer, ap (slice_get s.peers) one.0 ∙ f.was, ap (λ (x : PeerState). x.key) one.1 ∙ f.same_key)
     | inr old ↦ (q, old, refl)
@@ -224,11 +228,13 @@ module _ (dig : List ℕ → List ℕ) where
       let v = before s new i k sent q f y in
       apart j k u.0 v.0 u.1 v.1 (sym u.2 ∙ e ∙ v.2)
 
-  own_key : (s : EngineState) (i : ℕ) (sent : List Sent) (new : EngineState) (z : Sent) → (x : FollowsUp dig s i sent new) → Contains (requests_in sent) z → z.peer ≡ x.peer.key
+  own_key : (s : EngineState) (i : ℕ) (sent : List Sent) (new : EngineState) (z : Sent) → (x : FollowsUp dig s i sent new) → Contains (requests_in sent) z
+      → z.peer ≡ x.peer.key
   own_key s i sent new z x c =
       all_to s x.planned x.blocks x.block_frames z x.requests (subst (λ l. Contains l z) (requests_of s i sent new x) c) ∙ (same_plan dig s x.interested x.planned x.hash_frames x.hashes).same_key ∙ ap (λ (p : PeerState). p.key) x.interest.others
 
-  each_key : (is : List ℕ) (s : EngineState) (sent : List Sent) (new : EngineState) (z : Sent) → FollowsEach dig is s sent new → Contains (requests_in sent) z → (j : ℕ) × Contains is j × (p : PeerState) × (slice_get s.peers j ≡ Some p) × (z.peer ≡ p.key)
+  each_key : (is : List ℕ) (s : EngineState) (sent : List Sent) (new : EngineState) (z : Sent) → FollowsEach dig is s sent new → Contains (requests_in sent) z
+      → (j : ℕ) × Contains is j × (p : PeerState) × (slice_get s.peers j ≡ Some p) × (z.peer ≡ p.key)
   each_key [] s sent new z x c = absurd (contains_none z (subst (λ l. Contains (requests_in l) z) x.0 c))
   each_key (i ∷ is) s sent new z x c = elim (Contains-append_cases (requests_in x.1) (requests_in x.2) z (subst (λ l. Contains l z) (ap requests_in x.5 ∙ requests_append x.1 x.2) c)) [
     | inl own ↦ (i, here i i is refl, x.3.peer, x.3.here, own_key s i x.1 x.0 z x.3 own)
@@ -238,7 +244,8 @@ module _ (dig : List ℕ → List ℕ) where
         (r.0, later i r.0 is r.1, p.0, p.1, r.4 ∙ p.2)
   ]
 
-  split_by : (P : Sent → Type 0) (xs ys us vs : List Sent) → ((z : Sent) → Contains xs z → P z) → ((z : Sent) → Contains ys z → P z) → ((z : Sent) → Contains us z → ¬ P z) → ((z : Sent) → Contains vs z → ¬ P z) → xs ++ us ≡ ys ++ vs
+  split_by : (P : Sent → Type 0) (xs ys us vs : List Sent) → ((z : Sent) → Contains xs z → P z) → ((z : Sent) → Contains ys z → P z)
+      → ((z : Sent) → Contains us z → ¬ P z) → ((z : Sent) → Contains vs z → ¬ P z) → xs ++ us ≡ ys ++ vs
       → (xs ≡ ys) × (us ≡ vs)
   split_by P [] [] us vs p q r t e = (refl, e)
   split_by P [] (y ∷ ys) us vs p q r t e = absurd (r y (subst (λ l. Contains l y) (sym e) (here y y (ys ++ vs) refl)) (q y (here y y ys refl)))
@@ -252,7 +259,8 @@ module _ (dig : List ℕ → List ℕ) where
   each_files [] s sent new x = ap (λ z. z.files) x.1
   each_files (i ∷ is) s sent new x = each_files is x.0 x.2 new x.4 ∙ ap (λ z. z.files) x.3.after
 
-  pub each_same : (is : List ℕ) (s : EngineState) (f g : List Sent) (a b : EngineState) → IsLaidOut s.torrent.piece_length s.torrent.files → KeysApart s → Pairs (λ i j. i ≢ j) is → FollowsEach dig is s f a → FollowsEach dig is s g b → SameAsks a f g
+  pub each_same : (is : List ℕ) (s : EngineState) (f g : List Sent) (a b : EngineState) → IsLaidOut s.torrent.piece_length s.torrent.files → KeysApart s
+      → Pairs (λ i j. i ≢ j) is → FollowsEach dig is s f a → FollowsEach dig is s g b → SameAsks a f g
       → (f ≡ g) × (a ≡ b)
   each_same [] s f g a b lay apart once x y same = (x.0 ∙ sym y.0, x.1 ∙ sym y.1)
   each_same (i ∷ is) s f g a b lay apart once x y same =
@@ -269,7 +277,8 @@ module _ (dig : List ℕ → List ℕ) where
       peer_is = same_some (slice_get s.peers i) y.3.peer x.3.peer y.3.here x.3.here
 
       -- what is asked of later peers goes to other keys
-      others : (mid : EngineState) (h k : List Sent) (new : EngineState) (z : Sent) → Follows s i h mid → FollowsEach dig is mid k new → Contains (requests_in k) z → z.peer ≡ x.3.peer.key → ⊥
+      others : (mid : EngineState) (h k : List Sent) (new : EngineState) (z : Sent) → Follows s i h mid → FollowsEach dig is mid k new
+          → Contains (requests_in k) z → z.peer ≡ x.3.peer.key → ⊥
       others mid h k new z fol each c e =
           let r = each_key is mid k new z each c in
           let p = before s mid i r.0 h r.2 fol r.3 in

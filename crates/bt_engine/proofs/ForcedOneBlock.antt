@@ -38,7 +38,8 @@ module _ (dig : List ℕ → List ℕ) (infohash : List ℕ) where
   pub memory : HaveMemory (abc_answers infohash)
   memory = all_of (λ a. ¬ IsOutOfMemory a) (abc_answers infohash) (λ o. o, (λ o. o, (λ o. o, (λ o. o, (λ o. o, (λ o. o, (λ o. o, (λ o. o, (λ o. o, (λ o. o, tt))))))))))
 
-  forced : (last : EngineState) (answers : List Answer) → length infohash ≡ 32 → Run dig (abc_engine dig infohash Missing [] 1) (abc_events infohash) abc_calls answers last → HaveMemory answers
+  forced : (last : EngineState) (answers : List Answer) → length infohash ≡ 32
+      → Run dig (abc_engine dig infohash Missing [] 1) (abc_events infohash) abc_calls answers last → HaveMemory answers
       → (answers ≡ abc_answers infohash) × (last ≡ abc_engine dig infohash Marked (served_peer ∷ []) 2)
   forced last answers size x room =
       let known = fetch_is_run dig infohash size in

@@ -96,7 +96,8 @@ module _ (dig : List ℕ → List ℕ) (b : ThreeBlocks) (wrong : List ℕ) (inf
   abbrev request_of : BlockId → Sent
   request_of c = to_first (block_request (16384 * c.block))
 
-  requests_are : (blocks : List BlockId) (sent : List Sent) → ((c : BlockId) → Contains blocks c → Contains all_three c) → RequestsEach unchoked peer blocks sent → sent ≡ map request_of blocks
+  requests_are : (blocks : List BlockId) (sent : List Sent) → ((c : BlockId) → Contains blocks c → Contains all_three c)
+      → RequestsEach unchoked peer blocks sent → sent ≡ map request_of blocks
   requests_are [] sent among r = r
   requests_are (c ∷ blocks) sent among r =
       let ask = range_one (three_torrent dig b infohash) r.2.ask (record { piece = 0; begin = 16384 * c.block; length = 16384 }) c r.2.whole (range_is c (among c (here c c blocks refl))) in
@@ -170,13 +171,15 @@ module _ (dig : List ℕ → List ℕ) (b : ThreeBlocks) (wrong : List ℕ) (inf
   piece_memory = all_of (λ a. ¬ IsOutOfMemory a) (piece_answers dig b wrong infohash) (λ o. o, (λ o. o, (λ o. o, (λ o. o, (λ o. o, (λ o. o, tt))))))
 
   -- where no answer of a known run requests a block, it is the only one
-  quiet : (s new other : EngineState) (events : List Event) (calls : List DeviceCalls) (answers others : List Answer) → IsShaped (three_torrent dig b infohash) s → IsOrderly s → Run dig s events calls answers new → Run dig s events calls others other
+  quiet : (s new other : EngineState) (events : List Event) (calls : List DeviceCalls) (answers others : List Answer)
+      → IsShaped (three_torrent dig b infohash) s → IsOrderly s → Run dig s events calls answers new → Run dig s events calls others other
       → HaveMemory answers → HaveMemory others → Each AsksNone answers → (answers ≡ others) × (new ≡ other)
   quiet s new other events calls answers others shaped o x y memory room none =
       run_one dig (three_torrent dig b infohash) laid_out (λ a c. AsksNone a) (λ m a c shape e. by_none e) s new other events calls answers others shaped o x y memory room (pairs_of AsksNone answers others none)
 
   -- until the pieces, the answers are these, and after them all three wait
-  waits_forced : (mid : EngineState) (answers : List Answer) → AreWhole b → IsWrongThird dig b wrong → length infohash ≡ 32 → Run dig (start dig b infohash) (waiting_events b wrong infohash) (waiting_calls b wrong) answers mid → HaveMemory answers
+  waits_forced : (mid : EngineState) (answers : List Answer) → AreWhole b → IsWrongThird dig b wrong → length infohash ≡ 32
+      → Run dig (start dig b infohash) (waiting_events b wrong infohash) (waiting_calls b wrong) answers mid → HaveMemory answers
       → (order : List BlockId) × IsOrder order × (answers ≡ waiting_answers_in dig b infohash order) × (all_wait dig b wrong infohash ≡ mid) × IsShaped (three_torrent dig b infohash) mid × IsOrderly mid
   waits_forced mid answers whole other size x memory =
       let torrent = three_torrent dig b infohash in
@@ -226,8 +229,10 @@ module _ (dig : List ℕ → List ℕ) (b : ThreeBlocks) (wrong : List ℕ) (inf
         | inr none ↦ absurd (contains_none c none)
       ]
 
-  settling_forced : IsDigest dig → (last : EngineState) (settling : List Answer) → AreWhole b → IsWrongThird dig b wrong → IsShaped (three_torrent dig b infohash) (all_wait dig b wrong infohash) → IsOrderly (all_wait dig b wrong infohash)
-      → Run dig (all_wait dig b wrong infohash) (told (message_spelling (leaves_message dig b)) []) (settling_calls b wrong) settling last → HaveMemory settling → settling ≡ settling_answers
+  settling_forced : IsDigest dig → (last : EngineState) (settling : List Answer) → AreWhole b → IsWrongThird dig b wrong
+      → IsShaped (three_torrent dig b infohash) (all_wait dig b wrong infohash) → IsOrderly (all_wait dig b wrong infohash)
+      → Run dig (all_wait dig b wrong infohash) (told (message_spelling (leaves_message dig b)) []) (settling_calls b wrong) settling last
+      → HaveMemory settling → settling ≡ settling_answers
   settling_forced sizes last settling whole other shaped o z memory =
       let torrent = three_torrent dig b infohash in
       let state = all_wait dig b wrong infohash in

@@ -42,6 +42,7 @@ pub mod ExampleThreeBlocks
 pub mod ExampleWaiting
 pub mod ExampleServing
 pub mod ExampleHostile
+pub mod ExampleTwins
 -- what is left free
 pub mod DeterminedParts
 pub mod DeterminedEvents

@@ -48,7 +48,8 @@ pairs_of P (a ∷ answers) (b ∷ others) each = (each.0, pairs_of P answers oth
 
 -- ---- the engine with which a torrent of one file begins
 
-trees_one : (root : Facts) (trees : List Facts) (t : ℕ) (k : Facts) → ((i : ℕ) (j : Facts) → slice_get trees i ≡ Some j → j ≡ root) → AllPairs (λ (i j : Facts). i.root ≢ j.root) trees → slice_get trees t ≡ Some k → (trees ≡ root ∷ []) × (t ≡ 0)
+trees_one : (root : Facts) (trees : List Facts) (t : ℕ) (k : Facts) → ((i : ℕ) (j : Facts) → slice_get trees i ≡ Some j → j ≡ root)
+    → AllPairs (λ (i j : Facts). i.root ≢ j.root) trees → slice_get trees t ≡ Some k → (trees ≡ root ∷ []) × (t ≡ 0)
 trees_one root [] t k each apart at = absurd cc
 trees_one root (j ∷ []) zero k each apart at = (ap (λ z. z ∷ []) (each 0 j refl), refl)
 trees_one root (j ∷ []) (suc t) k each apart at = absurd cc
@@ -59,12 +60,14 @@ only_file [] e = absurd (omega (arith, e))
 only_file (f ∷ []) e = (f, refl)
 only_file (f ∷ g ∷ files) e = absurd (omega (arith, e))
 
-root_alone : (dig : List ℕ → List ℕ) (torrent : Metainfo) (file : File) (k : Facts) → file.layer ≡ [] → IsTreeFrom dig torrent file k → k ≡ root_facts file.length file.root
+root_alone : (dig : List ℕ → List ℕ) (torrent : Metainfo) (file : File) (k : Facts) → file.layer ≡ [] → IsTreeFrom dig torrent file k
+    → k ≡ root_facts file.length file.root
 root_alone dig torrent file k none (by_layer layer some x y) = absurd (some none)
 root_alone dig torrent file k none (by_root x e) = e
 
 module _ (dig : List ℕ → List ℕ) where
-  pub start_is : (torrent : Metainfo) (file : File) (first : EngineState) → torrent.files ≡ file ∷ [] → file.layer ≡ [] → 0 < file.length → Starts dig torrent first
+  pub start_is : (torrent : Metainfo) (file : File) (first : EngineState) → torrent.files ≡ file ∷ [] → file.layer ≡ [] → 0 < file.length
+      → Starts dig torrent first
       → first ≡ record {
         torrent = torrent;
         trees = root_facts file.length file.root ∷ [];
@@ -96,7 +99,8 @@ module _ (dig : List ℕ → List ℕ) where
 
   -- ---- runs
 
-  pub run_join : (es fs : List Event) (cs gs : List DeviceCalls) (answers others : List Answer) (s m n : EngineState) → Run dig s es cs answers m → Run dig m fs gs others n → Run dig s (es ++ fs) (cs ++ gs) (answers ++ others) n
+  pub run_join : (es fs : List Event) (cs gs : List DeviceCalls) (answers others : List Answer) (s m n : EngineState) → Run dig s es cs answers m
+      → Run dig m fs gs others n → Run dig s (es ++ fs) (cs ++ gs) (answers ++ others) n
   run_join [] fs [] gs [] others s m n x y = subst (λ z. Run dig z fs gs others n) x y
   run_join (e ∷ es) fs (c ∷ cs) gs (a ∷ answers) others s m n x y = (x.0, x.1, run_join es fs cs gs answers others x.0 m n x.2 y)
   run_join [] fs [] gs (a ∷ answers) others s m n x y = absurd x
@@ -112,7 +116,8 @@ module _ (dig : List ℕ → List ℕ) where
     pub begins : Run dig s es cs begin mid
     pub goes_on : Run dig mid fs gs rest n
 
-  pub run_split : (es fs : List Event) (cs gs : List DeviceCalls) (answers : List Answer) (s n : EngineState) → length es ≡ length cs → Run dig s (es ++ fs) (cs ++ gs) answers n → IsSplit s es fs cs gs answers n
+  pub run_split : (es fs : List Event) (cs gs : List DeviceCalls) (answers : List Answer) (s n : EngineState) → length es ≡ length cs
+      → Run dig s (es ++ fs) (cs ++ gs) answers n → IsSplit s es fs cs gs answers n
   run_split [] fs [] gs answers s n size x = record { begin = []; rest = answers; mid = s; is = refl; begins = refl; goes_on = x }
   run_split [] fs (c ∷ cs) gs answers s n size x = absurd (omega (arith, size))
   run_split (e ∷ es) fs [] gs answers s n size x = absurd (omega (arith, size))

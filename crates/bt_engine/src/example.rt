@@ -3,6 +3,7 @@ ghost use Rattle.bt_engine.specs.ExampleHostile.{HostileMessagesAreRuns, WrongBl
 ghost use Rattle.bt_engine.specs.ExampleOneBlock.{FetchOfAbcIsRun};
 ghost use Rattle.bt_engine.specs.ExampleThreeBlocks.{FetchOfThreeIsRun};
 ghost use Rattle.bt_engine.specs.ExampleServing.{ServingIsRun};
+ghost use Rattle.bt_engine.specs.ExampleTwins.{TwinFilesAreRun};
 ghost use Rattle.bt_engine.specs.ExampleWaiting.{WaitingFetchIsRun};
 
 use bt_tree::NodeHash;
@@ -32,6 +33,11 @@ pub fn waiting_fetch_is_run<H: NodeHash>(_hash: H)
 /// And what it answers is all that may be answered, but for the order in which three blocks are requested.
 pub fn waiting_answers_are_forced<H: NodeHash>(_hash: H)
     ensures { WaitingAnswersAreForced H.digest }
+{}
+
+/// Two files with one root, whose blocks wait, are settled by one proof.
+pub fn twin_files_are_run<H: NodeHash>(_hash: H)
+    ensures { TwinFilesAreRun H.digest }
 {}
 
 /// A peer that is interested is unchoked, and what it requests is read and sent; a choked peer is ignored,

@@ -24,7 +24,8 @@ pub use error::{AdoptError, ConnectError, EngineError, FlushError};
 pub use event::Event;
 pub use example::{
     abc_answers_are_forced, fetch_of_abc_is_run, fetch_of_three_is_run, hostile_messages_are_runs,
-    serving_is_run, waiting_answers_are_forced, waiting_fetch_is_run, wrong_block_is_run,
+    serving_is_run, twin_files_are_run, waiting_answers_are_forced, waiting_fetch_is_run,
+    wrong_block_is_run,
 };
 pub use law::{
     complete_files_are_published, complete_files_stand, complete_has_root, right_is_checked,
