@@ -24,7 +24,7 @@ use Rattle.bt_engine.specs.Step.{Answer, of_next, Run}
 use Rattle.bt_engine.specs.Determined.{IsOutOfMemory, block_requests, LacksOneAtMost, HaveMemory}
 use Rattle.bt_engine.specs.ExamplePeer.{first_key, peer_with, all_taken, unchoke_bytes, to_first, fed_answer, taken_answer}
 use Rattle.bt_engine.specs.ExampleThreeBlocks.{ThreeBlocks, AreWhole, three_file, three_torrent, leaves_message, told, block_request}
-use Rattle.bt_engine.specs.ExampleWaiting.{IsWrongThird, waiting_events, waiting_calls, settling_calls, settling_answers}
+use Rattle.bt_engine.specs.ExampleWaiting.{IsWrongThird, file_with, waiting_events, waiting_calls, settling_calls, settling_answers}
 use Rattle.bt_engine.specs.ExampleForced.{IsOrder, waiting_answers_in, WaitingAnswersAreForced}
 use Rattle.bt_engine.proofs.Lists.{same_some, here, later, contains_cases, contains_none}
 use Rattle.bt_engine.proofs.Pairs.{contains_at}
@@ -232,7 +232,7 @@ module _ (dig : List ℕ → List ℕ) (b : ThreeBlocks) (wrong : List ℕ) (inf
   settling_forced : IsDigest dig → (last : EngineState) (settling : List Answer) → AreWhole b → IsWrongThird dig b wrong
       → IsShaped (three_torrent dig b infohash) (all_wait dig b wrong infohash) → IsOrderly (all_wait dig b wrong infohash)
       → Run dig (all_wait dig b wrong infohash) (told (message_spelling (leaves_message dig b)) []) (settling_calls b wrong) settling last
-      → HaveMemory settling → settling ≡ settling_answers
+      → HaveMemory settling → (settling ≡ settling_answers) × (last.files ≡ file_with Marked Marked Missing)
   settling_forced sizes last settling whole other shaped o z memory =
       let torrent = three_torrent dig b infohash in
       let state = all_wait dig b wrong infohash in
@@ -245,14 +245,19 @@ module _ (dig : List ℕ → List ℕ) (b : ThreeBlocks) (wrong : List ℕ) (inf
       let step = one_step dig (Next first_key) reads one.rest known.0 last (subst (λ s. Run dig s (Next first_key ∷ []) (reads ∷ []) one.rest last) (sym begin.1) one.goes_on) in
       let remembers : ¬ IsOutOfMemory step.answer = (subst HaveMemory step.is (memory_after one.begin one.rest room)) 0 step.answer (omega arith) in
       let same = (step_one dig torrent known.0 known.2.0 last (Next first_key) reads (slice_index_or settling_answers 1 fed_answer) step.answer laid_out (step_shape dig torrent state known.0 fed [] fed_answer shaped known.1) (order_kept dig state known.0 fed [] fed_answer known.1 o)
-      known.2.1 step.step (λ o. o) remembers).whole (by_one (third_missing known.2.0 known.2.2)) in
-      one.is ∙ ap (λ l. l ++ one.rest) (sym begin.0) ∙ ap (λ l. fed_answer ∷ l) (step.is ∙ ap (λ a. a ∷ []) (sym same.0))
+      known.2.1 step.step (λ o. o) remembers).whole (by_one (third_missing known.2.0 known.2.2)) in (
+        one.is ∙ ap (λ l. l ++ one.rest) (sym begin.0) ∙ ap (λ l. fed_answer ∷ l) (step.is ∙ ap (λ a. a ∷ []) (sym same.0)),
+        ap (λ (m : EngineState). m.files) (sym (known.2.2 ∙ same.1)),
+      )
 
 pub answers_forced : (dig : List ℕ → List ℕ) → IsDigest dig → WaitingAnswersAreForced dig
 answers_forced dig sizes b wrong infohash first mid last answers settling whole other size begins x y memory room =
     let first_is = start_is dig (three_torrent dig b infohash) (three_file dig b) first refl refl (omega arith) begins in
-    let w = waits_forced dig b wrong infohash mid answers whole other size (subst (λ s. Run dig s (waiting_events b wrong infohash) (waiting_calls b wrong) answers mid) first_is x) memory in (
-      (w.0, w.1, w.2),
-      settling_forced dig b wrong infohash sizes last settling whole other (subst (λ s. IsShaped (three_torrent dig b infohash) s) (sym w.3) w.4) (subst IsOrderly (sym w.3) w.5)
-          (subst (λ s. Run dig s (told (message_spelling (leaves_message dig b)) []) (settling_calls b wrong) settling last) (sym w.3) y) room,
-    )
+    let begin : Run dig (start dig b infohash) (waiting_events b wrong infohash) (waiting_calls b wrong) answers mid
+    = subst (λ s. Run dig s (waiting_events b wrong infohash) (waiting_calls b wrong) answers mid) first_is x in
+    let w = waits_forced dig b wrong infohash mid answers whole other size begin memory in
+    let shaped = subst (λ s. IsShaped (three_torrent dig b infohash) s) (sym w.3) w.4 in
+    let rest : Run dig (all_wait dig b wrong infohash) (told (message_spelling (leaves_message dig b)) []) (settling_calls b wrong) settling last
+    = subst (λ s. Run dig s (told (message_spelling (leaves_message dig b)) []) (settling_calls b wrong) settling last) (sym w.3) y in
+    let z = settling_forced dig b wrong infohash sizes last settling whole other shaped (subst IsOrderly (sym w.3) w.5) rest room in
+    ((w.0, w.1, w.2), ap (λ (m : EngineState). m.files) (sym w.3), z.0, z.1)

@@ -4,7 +4,7 @@
 use Rattle.std.specs.Prelude.{◌≡◌, ◌≢◌, ◌↔◌, ℕ, ◌*◌, List, [], ◌∷◌, length, map, slice_set, Contains}
 use Rattle.std.specs.List.{AllPairs}
 use Rattle.bt_tree.specs.Limits.{full_block_length}
-use Rattle.bt_store.specs.declared.block_states.BlockState.TheVariants.{Marked}
+use Rattle.bt_store.specs.declared.block_states.BlockState.TheVariants.{Missing, Waiting, Marked}
 use Rattle.bt_book.specs.declared.names.BlockId.{BlockId}
 use Rattle.bt_wire.specs.Message.{message_spelling}
 use Rattle.bt_engine.specs.State.{EngineState}
@@ -15,7 +15,7 @@ use Rattle.bt_engine.specs.Determined.{HaveMemory}
 use Rattle.bt_engine.specs.ExamplePeer.{to_first, taken_answer}
 use Rattle.bt_engine.specs.ExampleOneBlock.{abc_torrent, abc_engine, served_peer, abc_events, abc_calls, abc_answers}
 use Rattle.bt_engine.specs.ExampleThreeBlocks.{ThreeBlocks, AreWhole, three_torrent, leaves_message, told, block_request}
-use Rattle.bt_engine.specs.ExampleWaiting.{IsWrongThird, waiting_events, waiting_calls, waiting_answers, settling_calls, settling_answers}
+use Rattle.bt_engine.specs.ExampleWaiting.{IsWrongThird, file_with, waiting_events, waiting_calls, waiting_answers, settling_calls, settling_answers}
 
 -- ---- one block
 
@@ -39,7 +39,7 @@ abbrev pub waiting_answers_in : (List ℕ → List ℕ) → ThreeBlocks → (inf
 waiting_answers_in dig b infohash order = slice_set (waiting_answers dig b infohash) 6
     (taken_answer (map (λ c. to_first (block_request (full_block_length * c.block))) order) [])
 
--- The order in which the three are requested is free, and nothing else is.
+-- The order in which the three are requested is free, and nothing else is; and the blocks come to the same.
 abbrev pub WaitingAnswersAreForced : (List ℕ → List ℕ) → Type 0
 WaitingAnswersAreForced dig = (b : ThreeBlocks) (wrong : List ℕ) (infohash : List ℕ)
     (first mid last : EngineState) (answers settling : List Answer)
@@ -49,4 +49,5 @@ WaitingAnswersAreForced dig = (b : ThreeBlocks) (wrong : List ℕ) (infohash : L
     → Run dig mid (told (message_spelling (leaves_message dig b)) []) (settling_calls b wrong) settling last
     → HaveMemory answers → HaveMemory settling
     → ((order : List BlockId) × IsOrder order × (answers ≡ waiting_answers_in dig b infohash order))
-    × (settling ≡ settling_answers)
+    × (mid.files ≡ file_with Waiting Waiting Waiting)
+    × (settling ≡ settling_answers) × (last.files ≡ file_with Marked Marked Missing)
