@@ -15,10 +15,10 @@ use Rattle.bt_engine.specs.Orderly.{IsOrderly}
 use Rattle.bt_engine.specs.Shape.{IsShaped}
 use Rattle.bt_engine.specs.Law.{sent_by}
 use Rattle.bt_engine.specs.Determined.{IsOutOfMemory, IsReached, StepIsDetermined, block_requests, StepIsForced, HaveMemory, RunsAreDetermined}
-use Rattle.bt_engine.proofs.Lists.{get_some, same_some, some_below}
+use Rattle.bt_engine.proofs.Lists.{heads, tails, get_some, same_some, some_below}
 use Rattle.bt_engine.proofs.Orderly.{order_kept, order_of_runs}
 use Rattle.bt_engine.proofs.Shape.{step_shape, shape_kept}
-use Rattle.bt_engine.proofs.DeterminedAsks.{SameAsks, by_requests, by_none, by_one, AreOne, cons_one}
+use Rattle.bt_engine.proofs.DeterminedAsks.{SameAsks, by_requests, by_none, by_one, AreOne}
 use Rattle.bt_engine.proofs.DeterminedNext.{next_one}
 use Rattle.bt_engine.proofs.DeterminedPeers.{connect_one, feed_one, lost_one, rechoke_one, flush_one}
 use Rattle.bt_engine.proofs.DeterminedAdopt.{adopt_one}
@@ -112,8 +112,7 @@ module _ (dig : List ℕ → List ℕ) where
   pairs_of [] others e = tt
   pairs_of (a ∷ answers) [] e = tt
   pairs_of (a ∷ answers) (b ∷ others) e =
-      let both = cons_one (block_requests a) (block_requests b) (map block_requests answers) (map block_requests others) e in
-      (both.0, pairs_of answers others both.1)
+      (heads e, pairs_of answers others (tails e))
 
   pub runs_determined : RunsAreDetermined dig
   runs_determined s new other events calls answers others r x y memory room same =

@@ -20,7 +20,7 @@ use Rattle.bt_engine.specs.Rechoke.{FollowsEach}
 use Rattle.bt_engine.specs.Step.{Answer}
 use Rattle.bt_engine.specs.Law.{sent_by}
 use Rattle.bt_engine.specs.Determined.{is_block_request, plain_answer, asked_nothing, without_asked, LacksOneAtMost}
-use Rattle.bt_engine.proofs.Lists.{same_some, here, later, contains_none, contains_cases, set_cases, range_limits}
+use Rattle.bt_engine.proofs.Lists.{heads, tails, same_some, here, later, contains_none, contains_cases, set_cases, range_limits}
 use Rattle.bt_engine.proofs.Pairs.{Pairs}
 use Rattle.bt_engine.proofs.AnswerSends.{Follows, same_plan, follows_of}
 use Rattle.bt_engine.proofs.AnswerRequests.{missing_in}
@@ -89,19 +89,16 @@ frames_one s p (b ∷ blocks) f g x y =
 ask_sent : (p : PeerState) (a c : Ask) → sent_to p (Request a) ≡ sent_to p (Request c) → a ≡ c
 ask_sent p a c e = let frames = ap (λ (x : Sent). x.frame) e in cc
 
-pub cons_one : {X : Type 0} (x y : X) (xs ys : List X) → x ∷ xs ≡ y ∷ ys → (x ≡ y) × (xs ≡ ys)
-cons_one x y xs ys e = (cc, cc)
-
 blocks_one : (s : EngineState) (p : PeerState) (bs cs : List BlockId) (f : List Sent) → IsLaidOut s.torrent.piece_length s.torrent.files
     → RequestsEach s p bs f → RequestsEach s p cs f → bs ≡ cs
 blocks_one s p [] [] f lay x y = refl
 blocks_one s p [] (c ∷ cs) f lay x y = let no = sym x ∙ y.4 in absurd cc
 blocks_one s p (b ∷ bs) [] f lay x y = let no = sym y ∙ x.4 in absurd cc
 blocks_one s p (b ∷ bs) (c ∷ cs) f lay x y =
-    let same = cons_one x.0 y.0 x.1 y.1 (sym x.4 ∙ y.4) in
-    let ask : x.2.ask ≡ y.2.ask = ask_sent p x.2.ask y.2.ask (sym x.2.is ∙ same.0 ∙ y.2.is) in
+    let same = sym x.4 ∙ y.4 in
+    let ask : x.2.ask ≡ y.2.ask = ask_sent p x.2.ask y.2.ask (sym x.2.is ∙ heads same ∙ y.2.is) in
     let block : b ≡ c = same_block s.torrent lay x.2.ask.piece x.2.ask.begin x.2.ask.length b c x.2.whole (subst (λ (a : Ask). IsWholeBlock s.torrent a.piece a.begin a.length c) (sym ask) y.2.whole) in
-    ap (λ z. z ∷ bs) block ∙ ap (λ zs. c ∷ zs) (blocks_one s p bs cs x.1 lay x.3 (subst (λ zs. RequestsEach s p cs zs) (sym same.1) y.3))
+    ap (λ z. z ∷ bs) block ∙ ap (λ zs. c ∷ zs) (blocks_one s p bs cs x.1 lay x.3 (subst (λ zs. RequestsEach s p cs zs) (sym (tails same)) y.3))
 
 no_block : (s : EngineState) (p : PeerState) (bs : List BlockId) → RequestsEach s p bs [] → bs ≡ []
 no_block s p [] x = refl
@@ -251,9 +248,8 @@ module _ (dig : List ℕ → List ℕ) where
   split_by P [] (y ∷ ys) us vs p q r t e = absurd (r y (subst (λ l. Contains l y) (sym e) (here y y (ys ++ vs) refl)) (q y (here y y ys refl)))
   split_by P (x ∷ xs) [] us vs p q r t e = absurd (t x (subst (λ l. Contains l x) e (here x x (xs ++ us) refl)) (p x (here x x xs refl)))
   split_by P (x ∷ xs) (y ∷ ys) us vs p q r t e =
-      let both = cons_one x y (xs ++ us) (ys ++ vs) e in
-      let tail = split_by P xs ys us vs (λ z c. p z (later x z xs c)) (λ z c. q z (later y z ys c)) r t both.1 in
-      (ap (λ z. z ∷ xs) both.0 ∙ ap (λ zs. y ∷ zs) tail.0, tail.1)
+      let tail = split_by P xs ys us vs (λ z c. p z (later x z xs c)) (λ z c. q z (later y z ys c)) r t (tails e) in
+      (ap (λ z. z ∷ xs) (heads e) ∙ ap (λ zs. y ∷ zs) tail.0, tail.1)
 
   each_files : (is : List ℕ) (s : EngineState) (sent : List Sent) (new : EngineState) → FollowsEach dig is s sent new → new.files ≡ s.files
   each_files [] s sent new x = ap (λ z. z.files) x.1
