@@ -17,7 +17,8 @@ use Rattle.bt_engine.specs.Step.{of_next}
 use Rattle.bt_engine.specs.AnswerDue.{IsOnlyPeer, IsAskedForAll, NextAsksForAll}
 use Rattle.bt_engine.proofs.Lists.{same_some, set_same, contains_none, contains_cases, here, later}
 use Rattle.bt_engine.proofs.AnswerParts.{event_leaves}
-use Rattle.bt_engine.proofs.AnswerSends.{get_contains, contains_get, nat_cases, set_other}
+use Rattle.bt_engine.proofs.Pairs.{contains_some, some_at}
+use Rattle.bt_engine.proofs.AnswerSends.{nat_cases, set_other}
 
 -- ---- whether somebody is asked for a block
 
@@ -103,16 +104,16 @@ module _ (dig : List ℕ → List ℕ) (s : EngineState) (i : ℕ) (sent : List 
   -- who is asked for a block is asked for it afterwards
   asked_still : (b : BlockId) → IsAsked s b → f.planned.asked ≡ f.peer.asked → IsAsked then b
   asked_still b asked same =
-      let at = contains_get s.peers asked.0 asked.1 in
+      let at = some_at s.peers asked.0 asked.1 in
       elim (nat_cases i at.0) [
         | inl e ↦
             let is : f.peer ≡ asked.0 = same_some (slice_get s.peers i) f.peer asked.0 f.here (ap (slice_get s.peers) e ∙ at.1) in
-            (after, get_contains then.peers i after (set_same s.peers i after f.peer f.here), Contains-append_left f.planned.asked f.blocks b (subst (λ l. Contains l b) (sym (same ∙ ap (λ (q : PeerState). q.asked) is)) asked.2))
-        | inr apart ↦ (asked.0, get_contains then.peers at.0 asked.0 (set_other s.peers i at.0 after apart ∙ at.1), asked.2)
+            (after, contains_some then.peers i after (set_same s.peers i after f.peer f.here), Contains-append_left f.planned.asked f.blocks b (subst (λ l. Contains l b) (sym (same ∙ ap (λ (q : PeerState). q.asked) is)) asked.2))
+        | inr apart ↦ (asked.0, contains_some then.peers at.0 asked.0 (set_other s.peers i at.0 after apart ∙ at.1), asked.2)
       ]
 
   asked_now : (b : BlockId) → Contains f.blocks b → IsAsked then b
-  asked_now b c = (after, get_contains then.peers i after (set_same s.peers i after f.peer f.here), Contains-append_right f.planned.asked f.blocks b c)
+  asked_now b c = (after, contains_some then.peers i after (set_same s.peers i after f.peer f.here), Contains-append_right f.planned.asked f.blocks b c)
 
   -- each open block is asked for, and so each missing one that the peer has
   all_asked : ((b : BlockId) → IsOpen s f.planned b → Contains f.blocks b) → (b : BlockId) → Has then after b → state_at then b ≡ Some Missing → IsAsked then b

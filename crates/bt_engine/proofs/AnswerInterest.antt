@@ -1,5 +1,5 @@
 -- Interest is told only where it changed.
-use Rattle.std.proofs.Common.{◌≡◌, ℕ, zero, suc, ◌+◌, ◌<◌, ◌≤◌, ◌⊎◌, inl, inr, Bool, true, false, List, [], ◌∷◌, length, map, Some, refl, sym, ap, ◌∙◌, subst, arith}
+use Rattle.std.proofs.Common.{◌≡◌, ℕ, zero, suc, ◌+◌, ◌<◌, ◌≤◌, ◌⊎◌, inl, inr, Bool, true, false, List, length, Some, refl, sym, ap, ◌∙◌, subst, arith}
 use Rattle.std.specs.Prelude.{slice_get, Contains}
 use Rattle.std.specs.List.{range_with_len}
 use Rattle.std.proofs.lemmas.List.Elements.{Contains-append_cases}
@@ -13,7 +13,7 @@ use Rattle.bt_engine.specs.FollowUp.{IsInteresting}
 use Rattle.bt_engine.specs.Next.{IsPeer, GoesOn}
 use Rattle.bt_engine.specs.Rechoke.{FollowsEach, rechoked, rechoked_peer}
 use Rattle.bt_engine.specs.AnswerLaw.{ChangesInterest, StepTellsChangedInterest}
-use Rattle.bt_engine.proofs.Lists.{contains_none, same_some, set_same}
+use Rattle.bt_engine.proofs.Lists.{contains_none, same_some, set_same, get_map}
 use Rattle.bt_engine.proofs.AnswerParts.{Part, greets, replies, interests, chokes, all_haves, event_leaves}
 use Rattle.bt_engine.proofs.AnswerSends.{set_other, frame_to, Follows, follows_of, IsSentBy, alike, announced, followed, rechoked_then, step_sent}
 use Rattle.bt_engine.proofs.AnswerRequests.{has_in, missing_in}
@@ -81,12 +81,6 @@ record Tells (old new : EngineState) (sent : List Sent) : Type 0 where
   interested : (key : PeerKey) → Contains sent (frame_to key Interested) → ChangesInterest old new key false true
   uninterested : (key : PeerKey) → Contains sent (frame_to key NotInterested) → ChangesInterest old new key true false
 
-map_get : {X Y : Type 0} (f : X → Y) (xs : List X) (j : ℕ) (y : Y) → slice_get (map f xs) j ≡ Some y → (x : X) × (slice_get xs j ≡ Some x) × (f x ≡ y)
-map_get f [] zero y e = absurd cc
-map_get f [] (suc j) y e = absurd cc
-map_get f (x ∷ xs) zero y e = (x, refl, same_some (Some (f x)) (f x) y refl e)
-map_get f (x ∷ xs) (suc j) y e = map_get f xs j y e
-
 module _ (dig : List ℕ → List ℕ) where
   each_stays : (n a : ℕ) (old s new : EngineState) (sent : List Sent) → FollowsEach dig (range_with_len a n) s sent new → (key : PeerKey) (was now : Bool) (place : ℕ) → place < a → ChangesAt old s key was now place
       → ChangesAt old new key was now place
@@ -121,7 +115,7 @@ module _ (dig : List ℕ → List ℕ) where
 
   rechoke_tells : (s new : EngineState) (sent : List Sent) → FollowsEach dig (range_with_len 0 (length s.peers)) (rechoked s) sent new → Tells s new sent
   rechoke_tells s new sent f = each_tells (length s.peers) 0 s (rechoked s) new sent f (λ j q above at.
-      let r = map_get (rechoked_peer s) s.peers j q at in
+      let r = get_map (rechoked_peer s) s.peers j q at in
       record { peer = r.0; here = r.1; same_key = ap (λ (x : PeerState). x.key) r.2; same_interest = ap (λ (x : PeerState). x.am_interested) r.2 })
 
   next_tells : (s new : EngineState) (key : PeerKey) (i : ℕ) (p : PeerState) (calls : DeviceCalls) (out : Output) → IsPeer s key i p → (g : GoesOn dig s i p calls out new) → Tells s new g.sent

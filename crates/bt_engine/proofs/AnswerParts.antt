@@ -1,5 +1,5 @@
 -- The parts of what is sent, and what a wire event leaves of the engine and its peer.
-use Rattle.std.proofs.Common.{◌≡◌, ℕ, zero, suc, inl, inr, Bool, true, false, List, [], ◌∷◌, ◌++◌, map, Some, Result, Ok, Err, refl, sym, ap, ◌∙◌, subst}
+use Rattle.std.proofs.Common.{◌≡◌, ℕ, inl, inr, Bool, true, false, List, [], ◌∷◌, ◌++◌, map, Some, Result, Ok, Err, refl, sym, ap, ◌∙◌, subst}
 use Rattle.std.specs.Prelude.{slice_get, slice_set, Contains, nat_lt, if◌then◌else◌}
 use Rattle.std.proofs.lemmas.List.Elements.{Contains-append_cases}
 use Rattle.bt_sparse.specs.SparseTree.{Facts}
@@ -32,7 +32,7 @@ use Rattle.bt_engine.specs.Settling.{settling_notes, read_note}
 use Rattle.bt_engine.specs.HashMessages.{HandlesHashRequest, answered, rejected, HandlesHashes, unknown_root, no_claim, refused, learns, new_proofs}
 use Rattle.bt_engine.specs.WireEvents.{HandlesHello, ours, other, HandlesHave, in_range, out_of_range, HandlesBitfield, right, wrong, HandlesMessage, Handles}
 use Rattle.bt_engine.specs.FollowUp.{interest_sent, RequestsHashes, requests, rests, RequestsEach}
-use Rattle.bt_engine.proofs.Lists.{contains_none, contains_cases, contains_map, contains_flat_map}
+use Rattle.bt_engine.proofs.Lists.{contains_none, contains_cases, contains_map, contains_flat_map, set_id}
 
 -- ---- parts of what is sent
 
@@ -142,14 +142,6 @@ pub record Leaves (s : EngineState) (i : ℕ) (p : PeerState) (effect : Effect) 
   pub noted : NoComplete effect.notes
   pub closed : (why : Why) → effect.close ≡ Some why → mid.files ≡ s.files
 
-set_self : {X : Type 0} (xs : List X) (i : ℕ) (x : X) → slice_get xs i ≡ Some x → slice_set xs i x ≡ xs
-set_self [] i x e = refl
-set_self (y ∷ xs) zero x e = ap (λ z. z ∷ xs) (some_is x y e)
-  where
-    some_is : {X : Type 0} (x y : X) → Some y ≡ Some x → x ≡ y
-    some_is x y e = cc
-set_self (y ∷ xs) (suc i) x e = ap (λ l. y ∷ l) (set_self xs i x e)
-
 module _ (dig : List ℕ → List ℕ) (s : EngineState) (i : ℕ) (p : PeerState) (at : slice_get s.peers i ≡ Some p) where
   -- the peer is another
   sets : (q : PeerState) (e effect : Effect) (mid : EngineState) → q.key ≡ p.key → q.am_interested ≡ p.am_interested → IsQuiet e → effect ≡ e → mid ≡ with_peer s i q → Leaves s i p effect mid
@@ -170,7 +162,7 @@ module _ (dig : List ℕ → List ℕ) (s : EngineState) (i : ℕ) (p : PeerStat
     peer = p;
     same_key = refl;
     same_interest = refl;
-    peers = sym (set_self s.peers i p at);
+    peers = sym (set_id s.peers i p at);
     torrent = refl;
     replied = quiet.replied;
     noted = quiet.noted;
@@ -183,7 +175,7 @@ module _ (dig : List ℕ → List ℕ) (s : EngineState) (i : ℕ) (p : PeerStat
     peer = p;
     same_key = refl;
     same_interest = refl;
-    peers = sym (set_self s.peers i p at);
+    peers = sym (set_id s.peers i p at);
     torrent = refl;
     replied = quiet.replied;
     noted = quiet.noted;
@@ -237,7 +229,7 @@ module _ (dig : List ℕ → List ℕ) (s : EngineState) (i : ℕ) (p : PeerStat
         torrent = refl;
         replied = quiet.replied;
         noted = quiet.noted;
-        closed = λ why c. ap (λ l. slice_set s.files b.file (record file { states = l })) (kept why c) ∙ set_self s.files b.file file there;
+        closed = λ why c. ap (λ l. slice_set s.files b.file (record file { states = l })) (kept why c) ∙ set_id s.files b.file file there;
       })
 
       of_effect : (r : Result Put StoreError) → HasPutEffect b r effect → (r ≡ Ok Wrong → states ≡ file.states) → Leaves s i p effect (with_peer (with_file s b.file (record file { states = states })) i q)

@@ -27,7 +27,8 @@ use Rattle.bt_engine.specs.Law.{sent_by}
 use Rattle.bt_engine.specs.AnswerLaw.{output_of, IsConnected, BecomesSo, NotedBy, StepAnnouncesWholePieces, NextNotesCompleteFiles}
 use Rattle.bt_engine.proofs.Lists.{contains_none, contains_cases, contains_map, contains_flat_map, contains_filter, map_contains, flat_map_contains, range_contains, and_true, same_some, set_cases, set_same, here, later}
 use Rattle.bt_engine.proofs.AnswerParts.{Part, greets, replies, announces, chokes, NoComplete, Leaves, event_leaves}
-use Rattle.bt_engine.proofs.AnswerSends.{get_contains, contains_get, nat_cases, set_other, frame_to, follows_of, IsSentBy, alike, announced, followed, rechoked_then, step_sent}
+use Rattle.bt_engine.proofs.Pairs.{contains_some, some_at}
+use Rattle.bt_engine.proofs.AnswerSends.{nat_cases, set_other, frame_to, follows_of, IsSentBy, alike, announced, followed, rechoked_then, step_sent}
 
 -- ---- lists
 
@@ -187,8 +188,8 @@ module _ (dig : List ℕ → List ℕ) (s new : EngineState) (key : PeerKey) (i 
   was_connected k c =
       let f = follows_of dig _ i g.sent new g.follows in
       elim (set_cases g.mid.peers i c.0 f.after c.1 (subst (λ l. slice_get l c.0 ≡ Some c.1) f.peers c.2.here)) [
-        | inl one ↦ (f.peer, get_contains g.mid.peers i f.peer f.was, sym f.same_key ∙ ap (λ (x : PeerState). x.key) (sym one.1) ∙ c.2.same_key)
-        | inr old ↦ (c.1, get_contains g.mid.peers c.0 c.1 old, c.2.same_key)
+        | inl one ↦ (f.peer, contains_some g.mid.peers i f.peer f.was, sym f.same_key ∙ ap (λ (x : PeerState). x.key) (sym one.1) ∙ c.2.same_key)
+        | inr old ↦ (c.1, contains_some g.mid.peers c.0 c.1 old, c.2.same_key)
       ]
 
   abbrev piece_in : Frame → ℕ
@@ -199,7 +200,7 @@ module _ (dig : List ℕ → List ℕ) (s new : EngineState) (key : PeerKey) (i 
   have_told k piece c =
       let r = contains_flat_map (λ n. map (λ q. sent_to q (Have n)) g.mid.peers) (new_whole_pieces s g.mid) (frame_to k (Have piece)) c in
       let q = contains_map (λ q. sent_to q (Have r.0)) g.mid.peers (frame_to k (Have piece)) r.2 in
-      let place = contains_get g.mid.peers q.0 q.1 in
+      let place = some_at g.mid.peers q.0 q.1 in
       let same : r.0 ≡ piece = ap (λ (x : Sent). piece_in x.frame) q.2 in
       let listed = contains_filter (has_become is_whole s g.mid) (piece_numbers g.mid) piece (subst (λ n. Contains (new_whole_pieces s g.mid) n) same r.1) in
       let both = and_true (is_whole g.mid piece) (not (is_whole s piece)) listed.1 in
@@ -272,7 +273,7 @@ module _ (dig : List ℕ → List ℕ) where
       ]
 
   none_connected : {X : Type 0} (new : EngineState) (key : PeerKey) → new.peers ≡ [] → IsConnected new key → X
-  none_connected new key none c = absurd (contains_none c.1 (get_contains [] c.0 c.1 (ap (λ l. slice_get l c.0) (sym none) ∙ c.2.here)))
+  none_connected new key none c = absurd (contains_none c.1 (contains_some [] c.0 c.1 (ap (λ l. slice_get l c.0) (sym none) ∙ c.2.here)))
 
   sends_have : (s new : EngineState) (a : Answer) (key : PeerKey) (piece : ℕ) → Keeps dig s a new → IsConnected new key → piece < total_pieces new.torrent → BecomesSo is_whole s new piece
       → Contains (sent_by a) (frame_to key (Have piece))

@@ -16,7 +16,8 @@ use Rattle.bt_engine.specs.Rechoke.{FollowsEach, rechoked}
 use Rattle.bt_engine.specs.AnswerLaw.{IsRequestedOf, StepRequestsMissing}
 use Rattle.bt_engine.proofs.Lists.{contains_none, same_some, set_cases}
 use Rattle.bt_engine.proofs.AnswerParts.{Part, greets, replies, chokes, asks, all_haves}
-use Rattle.bt_engine.proofs.AnswerSends.{get_contains, nat_cases, set_other, frame_to, Follows, follows_of, IsSentBy, alike, announced, followed, rechoked_then, step_sent}
+use Rattle.bt_engine.proofs.Pairs.{contains_some}
+use Rattle.bt_engine.proofs.AnswerSends.{nat_cases, set_other, frame_to, Follows, follows_of, IsSentBy, alike, announced, followed, rechoked_then, step_sent}
 
 -- another engine in which the peer has the same pieces
 pub has_in : (s new : EngineState) (p q : PeerState) (b : BlockId) → new.torrent ≡ s.torrent → q.has ≡ p.has → Has s p b → Has new q b
@@ -53,7 +54,7 @@ module _ (dig : List ℕ → List ℕ) where
           asked = subst (λ l. Contains l r.0) (sym f.asked) (Contains-append_right f.peer.asked f.blocks r.0 r.1);
           alone = λ j q at asked. elim (set_cases s.peers i j f.after q (subst (λ l. slice_get l j ≡ Some q) f.peers at)) [
             | inl one ↦ one.0
-            | inr old ↦ absurd (o.free (q, get_contains s.peers j q old, asked))
+            | inr old ↦ absurd (o.free (q, contains_some s.peers j q old, asked))
           ];
         };
       }
@@ -75,7 +76,7 @@ module _ (dig : List ℕ → List ℕ) where
           at_place : Contains (f.peer.asked ++ f.blocks) r.block → i ≡ r.place
           at_place c = elim (Contains-append_cases f.peer.asked f.blocks r.block c) [
             | inl before ↦ r.so.alone i f.peer f.was before
-            | inr fresh ↦ absurd ((f.open_blocks r.block fresh).free (r.peer, get_contains s.peers r.place r.peer r.is_peer.here, r.so.asked))
+            | inr fresh ↦ absurd ((f.open_blocks r.block fresh).free (r.peer, contains_some s.peers r.place r.peer r.is_peer.here, r.so.asked))
           ]
 
       by : (i ≡ r.place) ⊎ (i ≡ r.place → ⊥) → IsRequested new key ask

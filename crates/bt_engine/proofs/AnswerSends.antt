@@ -23,21 +23,8 @@ use Rattle.bt_engine.specs.Peers.{StepConnect, joins, full, spent, no_memory as 
 use Rattle.bt_engine.specs.Rechoke.{FollowsEach, Rechokes, StepRechoke, rechokes, no_memory as not_rechoked, choking_sent, chokes_sent, is_served, rechoked}
 use Rattle.bt_engine.specs.Step.{Answer, of_connect, of_next, of_rechoke, Step}
 use Rattle.bt_engine.specs.Law.{sent_by}
-use Rattle.bt_engine.proofs.Lists.{contains_none, contains_cases, contains_flat_map, here, later, set_same}
+use Rattle.bt_engine.proofs.Lists.{contains_none, contains_cases, contains_flat_map, here, later, set_same, set_other as stays_there}
 use Rattle.bt_engine.proofs.AnswerParts.{Part, greets, replies, interests, chokes, hashes, asks, part_of, AllOf, all_none, all_one, all_is, all_interest, all_hashes, all_asks, IsFollowing, in_interest, in_hash, in_block, following, event_leaves}
-
-pub get_contains : {X : Type 0} (xs : List X) (i : ℕ) (x : X) → slice_get xs i ≡ Some x → Contains xs x
-get_contains [] zero x e = absurd cc
-get_contains [] (suc i) x e = absurd cc
-get_contains (y ∷ xs) zero x e = here y x xs (some_is x y e)
-  where
-    some_is : {X : Type 0} (x y : X) → Some y ≡ Some x → y ≡ x
-    some_is x y e = cc
-get_contains (y ∷ xs) (suc i) x e = later y x xs (get_contains xs i x e)
-
-pub contains_get : {X : Type 0} (xs : List X) (x : X) → Contains xs x → (i : ℕ) × (slice_get xs i ≡ Some x)
-contains_get [] x c = absurd (contains_none x c)
-contains_get (y ∷ xs) x c = elim (contains_cases y x xs c) [ inl same ↦ (0, ap (λ z. Some z) same) | inr more ↦ let r = contains_get xs x more in (suc r.0, r.1) ]
 
 pub nat_cases : (i j : ℕ) → (i ≡ j) ⊎ (i ≡ j → ⊥)
 nat_cases zero zero = inl refl
@@ -47,11 +34,7 @@ nat_cases (suc i) (suc j) = elim (nat_cases i j) [ inl e ↦ inl (ap (λ n. suc 
 
 -- what stands elsewhere is not changed
 pub set_other : {X : Type 0} (xs : List X) (i j : ℕ) (x : X) → (i ≡ j → ⊥) → slice_get (slice_set xs i x) j ≡ slice_get xs j
-set_other [] i j x apart = refl
-set_other (y ∷ xs) zero zero x apart = absurd (apart refl)
-set_other (y ∷ xs) zero (suc j) x apart = refl
-set_other (y ∷ xs) (suc i) zero x apart = refl
-set_other (y ∷ xs) (suc i) (suc j) x apart = set_other xs i j x (λ e. apart (ap (λ n. suc n) e))
+set_other xs i j x apart = stays_there xs i j x (λ e. apart (sym e))
 
 -- ---- what follows for a peer
 
@@ -80,14 +63,14 @@ pub record Follows (s : EngineState) (i : ℕ) (sent : List Sent) (new : EngineS
   pub uninterested : (key : PeerKey) → Contains sent (frame_to key NotInterested) → (peer.am_interested ≡ true) × (after.am_interested ≡ false) × (peer.key ≡ key)
   pub no_have : (key : PeerKey) (piece : ℕ) → Contains sent (frame_to key (Have piece)) → ⊥
 
-record SamePlan (p q : PeerState) : Type 0 where
-  same_key : q.key ≡ p.key
-  same_choking : q.peer_choking ≡ p.peer_choking
-  same_interest : q.am_interested ≡ p.am_interested
-  same_has : q.has ≡ p.has
-  same_asked : q.asked ≡ p.asked
+pub record SamePlan (p q : PeerState) : Type 0 where
+  pub same_key : q.key ≡ p.key
+  pub same_choking : q.peer_choking ≡ p.peer_choking
+  pub same_interest : q.am_interested ≡ p.am_interested
+  pub same_has : q.has ≡ p.has
+  pub same_asked : q.asked ≡ p.asked
 
-same_plan : (dig : List ℕ → List ℕ) (s : EngineState) (p q : PeerState) (sent : List Sent) → RequestsHashes dig s p sent q → SamePlan p q
+pub same_plan : (dig : List ℕ → List ℕ) (s : EngineState) (p q : PeerState) (sent : List Sent) → RequestsHashes dig s p sent q → SamePlan p q
 same_plan dig s p q sent (requests b k key x y z w e f) = record {
   same_key = ap (λ (r : PeerState). r.key) f;
   same_choking = ap (λ (r : PeerState). r.peer_choking) f;
@@ -128,10 +111,6 @@ each_ask s p (b ∷ blocks) sent r x c = elim (contains_cases r.0 x r.1 (subst (
 abbrev ask_in : Frame → Ask
 ask_in (message_frame (Request ask)) = ask
 ask_in _ = record { piece = 0; begin = 0; length = 0 }
-
--- no frame of one part is of another
-other_part : (part : Part) (xs : List Sent) (x : Sent) → AllOf part xs → Contains xs x → part_of x.frame ≡ part
-other_part part xs x all c = all x c
 
 told_interest : (p : PeerState) (was now : Bool) (key : PeerKey) → Contains (interest_sent p was now) (frame_to key Interested) → (was ≡ false) × (now ≡ true) × (p.key ≡ key)
 told_interest p true true key c = absurd (contains_none _ c)

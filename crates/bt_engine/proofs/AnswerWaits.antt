@@ -1,9 +1,8 @@
 -- A block waits only for a leaf that is unknown.
-use Rattle.std.proofs.Common.{◌≡◌, ℕ, zero, suc, ◌+◌, ◌*◌, ◌/◌, ◌%◌, ◌^◌, ◌<◌, ◌≤◌, ◌⊎◌, inl, inr, Bool, true, false, List, [], ◌∷◌, length, map, drop, Option, Some, None, Result, Ok, Err, refl, sym, ap, ◌∙◌, subst, arith}
+use Rattle.std.proofs.Common.{◌≡◌, ℕ, zero, suc, ◌+◌, ◌*◌, ◌/◌, ◌%◌, ◌^◌, ◌<◌, ◌≤◌, ◌⊎◌, inl, inr, Bool, true, false, List, [], ◌∷◌, length, map, Option, Some, None, Result, Ok, Err, refl, sym, ap, ◌∙◌, subst, arith}
 use Rattle.std.specs.Prelude.{slice_get, slice_set, Contains, ◌&&◌, ◌==◌, is_some, option_map, if◌then◌else◌}
 use Rattle.std.specs.Option.{option_and_then}
 use Rattle.std.specs.List.{range_with_len}
-use Rattle.std.specs.Simd.{first_chunks}
 use Rattle.std.proofs.lemmas.Bool.{eq-eqb, cases_lt}
 use Rattle.std.proofs.lemmas.List.{length-take-le}
 use Rattle.std.proofs.Math.Nat.{div-add-mod, mod-lt}
@@ -45,6 +44,7 @@ use Rattle.bt_engine.specs.WireEvents.{HandlesHave, in_range, out_of_range, Hand
 use Rattle.bt_engine.specs.Next.{StepNext, no_peer as none_such, waits, goes_on, closes, faulty, no_memory}
 use Rattle.bt_engine.specs.AnswerDue.{NextSettlesWaitingBlocks}
 use Rattle.bt_engine.proofs.Lists.{and_then_some, map_some, same_some, set_cases, set_same, contains_none, here, later, contains_cases}
+use Rattle.bt_engine.proofs.Start.{chunk_count}
 use Rattle.bt_engine.proofs.Marks.{state_is}
 use Rattle.bt_engine.proofs.AnswerSends.{nat_cases, set_other}
 use Rattle.bt_engine.proofs.AnswerPieces.{filter_contains}
@@ -105,10 +105,6 @@ judged_waits dig k (failed b ∷ reads) states i e =
     record { waited = r.waited; unread = r.unread }
 
 -- ---- a leaf that a claim tells is one of its run
-
-chunk_count : (count : ℕ) (bytes : List ℕ) → length (first_chunks 32 count bytes) ≡ count
-chunk_count zero bytes = refl
-chunk_count (suc count) bytes = ap (λ n. suc n) (chunk_count count (drop 32 bytes))
 
 power_some : (n h : ℕ) → 2 ≤ n → n ≡ 2 ^ h → 1 ≤ h
 power_some n zero some e = absurd (omega (arith, some, e))

@@ -27,10 +27,10 @@ use Rattle.bt_engine.specs.Settling.{SettlesIn}
 use Rattle.bt_engine.specs.Next.{with_pending}
 use Rattle.bt_engine.specs.Adopting.{taught_keys, IsProof, AdoptsGroup, adopted_together, AdoptsGroups, is_other, AdoptsFile, StepAdopt, no_file, busy, empty, adopts, no_memory}
 use Rattle.bt_engine.specs.Step.{of_adopt}
-use Rattle.bt_engine.specs.Determined.{plain_answer, without_asked}
 use Rattle.bt_engine.proofs.Lists.{same_some, some_not_none, some_below}
 use Rattle.bt_engine.proofs.Adopting.{group_extends, group_file}
 use Rattle.bt_engine.proofs.DeterminedParts.{anchor_one, accepts_one, answer_one, accepts_refused}
+use Rattle.bt_engine.proofs.DeterminedAsks.{AreOne, are_equal}
 use Rattle.bt_engine.proofs.DeterminedEvents.{split_one, reads_one, file_one, settles_one}
 
 -- ---- groups
@@ -249,27 +249,21 @@ module _ (dig : List ℕ → List ℕ) where
       let settled = settles_one dig (is_other file) x.state.tree 0 (length x.state.states) x.mid x.settled y.settled x.settling x.notes y.notes x.settles settles in
       (groups.1, x.after ∙ ap (λ z. with_pending z x.settled []) groups.2 ∙ ap (λ z. with_pending y.mid z []) settled.1 ∙ sym y.after)
 
-  abbrev Same : Result Adopted AdoptError → EngineState → Result Adopted AdoptError → EngineState → Type 0
-  Same a m b n = (plain_answer (of_adopt a) ≡ plain_answer (of_adopt b)) × (without_asked m ≡ without_asked n)
-
-  same_both : (a b : Result Adopted AdoptError) (m n : EngineState) → a ≡ b → m ≡ n → Same a m b n
-  same_both a b m n e f = (ap (λ r. plain_answer (of_adopt r)) e, ap without_asked f)
-
   pub adopt_one : (s m n : EngineState) (file : ℕ) (calls : DeviceCalls) (a b : Result Adopted AdoptError) → ((f : FileState) (k : Facts) → IsFile s file f k → f.states ≢ [] → blocks_of k ≡ length f.states)
-      → StepAdopt dig s file calls a m → StepAdopt dig s file calls b n → a ≢ Err OutOfMemory → b ≢ Err OutOfMemory → Same a m b n
+      → StepAdopt dig s file calls a m → StepAdopt dig s file calls b n → a ≢ Err OutOfMemory → b ≢ Err OutOfMemory → AreOne (of_adopt a) m (of_adopt b) n
   adopt_one s m n file calls a b sized (no_memory x y z) q r t = absurd (r z)
   adopt_one s m n file calls a b sized q (no_memory x y z) r t = absurd (t z)
-  adopt_one s m n file calls a b sized (no_file x y z w) (no_file u v o q) r t = same_both a b m n (z ∙ sym o) (w ∙ sym q)
+  adopt_one s m n file calls a b sized (no_file x y z w) (no_file u v o q) r t = are_equal (ap of_adopt (z ∙ sym o)) (w ∙ sym q)
   adopt_one s m n file calls a b sized (no_file x y z w) (busy u v o q i) r t = absurd (omega (arith, x, u))
   adopt_one s m n file calls a b sized (no_file x y z w) (empty f u v o q i j) r t = absurd (omega (arith, x, some_below s.files file f v))
   adopt_one s m n file calls a b sized (no_file x y z w) (adopts u v o q) r t = absurd (omega (arith, x, some_below s.files file o.state o.here))
   adopt_one s m n file calls a b sized (busy u v o q i) (no_file x y z w) r t = absurd (omega (arith, x, u))
-  adopt_one s m n file calls a b sized (busy x y z w l) (busy u v o q i) r t = same_both a b m n (w ∙ sym q) (l ∙ sym i)
+  adopt_one s m n file calls a b sized (busy x y z w l) (busy u v o q i) r t = are_equal (ap of_adopt (w ∙ sym q)) (l ∙ sym i)
   adopt_one s m n file calls a b sized (busy x y z w l) (empty f u v o q i j) r t = absurd (y u)
   adopt_one s m n file calls a b sized (busy x y z w l) (adopts u v o q) r t = absurd (y v)
   adopt_one s m n file calls a b sized (empty f u v o q i j) (no_file x y z w) r t = absurd (omega (arith, x, some_below s.files file f v))
   adopt_one s m n file calls a b sized (empty f u v o q i j) (busy x y z w l) r t = absurd (y u)
-  adopt_one s m n file calls a b sized (empty f u v o q i j) (empty g x y z w l k) r t = same_both a b m n (i ∙ sym l) (j ∙ sym k)
+  adopt_one s m n file calls a b sized (empty f u v o q i j) (empty g x y z w l k) r t = are_equal (ap of_adopt (i ∙ sym l)) (j ∙ sym k)
   adopt_one s m n file calls a b sized (empty f u v o q i j) (adopts x y z w) r t =
       absurd (z.some (ap (λ (g : FileState). g.states) (same_some (slice_get s.files file) z.state f z.here v) ∙ o))
   adopt_one s m n file calls a b sized (adopts u v o q) (no_file x y z w) r t = absurd (omega (arith, x, some_below s.files file o.state o.here))
@@ -278,4 +272,4 @@ module _ (dig : List ℕ → List ℕ) where
       absurd (z.some (ap (λ (g : FileState). g.states) (same_some (slice_get s.files file) z.state f z.here v) ∙ o))
   adopt_one s m n file calls a b sized (adopts u v o q) (adopts x y z w) r t =
       let same = adopts_one s m n file calls u x sized o z in
-      same_both a b m n (q ∙ ap (λ c. Ok c) same.0 ∙ sym w) same.1
+      are_equal (ap of_adopt (q ∙ ap (λ c. Ok c) same.0 ∙ sym w)) same.1

@@ -42,8 +42,9 @@ use Rattle.bt_engine.specs.Arrival.{HasPutEffect, Puts, Arrives, HandlesPiece, s
 use Rattle.bt_engine.specs.Settling.{judged_file, settling_notes, due_blocks, SettlesIn}
 use Rattle.bt_engine.specs.HashMessages.{OnlyCloses, IsTreeOf, IsAnswered, HandlesHashRequest, answered, rejected, Resolves, ours, other, new_proofs, settled_count, Learns, HandlesHashes, unknown_root, no_claim, refused, learns}
 use Rattle.bt_engine.specs.WireEvents.{HandlesHello, ours as our_torrent, other as other_torrent, HandlesHave, in_range, out_of_range, HandlesBitfield, right, wrong, HandlesMessage, Handles}
-use Rattle.bt_engine.proofs.Lists.{get_some, same_some, here, later, contains_none, contains_cases, some_below, range_contains, range_limits}
-use Rattle.bt_engine.proofs.DeterminedParts.{place_one, whole_one, tree_one, accepts_one, answer_one, accepts_refused, refused_one, no_claim_one, claim_or_not}
+use Rattle.bt_engine.proofs.Lists.{heads, tails, get_some, some_is, same_some, here, later, contains_none, contains_cases, some_below, range_contains, range_limits}
+use Rattle.bt_engine.proofs.AnswerPlaces.{same_place, same_block}
+use Rattle.bt_engine.proofs.DeterminedParts.{tree_one, accepts_one, answer_one, accepts_refused, refused_one, no_claim_one, claim_or_not}
 
 -- ---- lists
 
@@ -62,10 +63,7 @@ last_one : {X : Type 0} (xs ys : List X) (x y : X) → xs ++ x ∷ [] ≡ ys ++ 
 last_one xs ys x y e =
     let size : length xs ≡ length ys = omega (arith, length-append xs (x ∷ []), length-append ys (y ∷ []), ap length e) in
     let parts = split_one xs ys (x ∷ []) (y ∷ []) size e in
-    (parts.0, head parts.1)
-  where
-    head : {X : Type 0} {x y : X} → x ∷ [] ≡ y ∷ [] → x ≡ y
-    head e = cc
+    (parts.0, heads parts.1)
 
 read_one : (n : ℕ) (a b : BlockRead) → call_of n a ≡ call_of n b → a ≡ b
 read_one n (given i xs) (given j ys) e =
@@ -79,13 +77,7 @@ read_one n (failed i) (failed j) e =
     ap (λ m. failed m) (omega (arith, place))
 
 first_call : (file : ℕ) (c d : Call) (xs ys : DeviceCalls) → (file, c) ∷ xs ≡ (file, d) ∷ ys → (c ≡ d) × (xs ≡ ys)
-first_call file c d xs ys e = (ap (λ (p : ℕ × Call). p.1) (first e), rest e)
-  where
-    first : {X : Type 0} {x y : X} {xs ys : List X} → x ∷ xs ≡ y ∷ ys → x ≡ y
-    first e = cc
-
-    rest : {X : Type 0} {x y : X} {xs ys : List X} → x ∷ xs ≡ y ∷ ys → xs ≡ ys
-    rest e = cc
+first_call file c d xs ys e = (ap (λ (p : ℕ × Call). p.1) (heads e), tails e)
 
 -- reads are told from their calls
 pub reads_one : (file n : ℕ) (xs ys : List BlockRead) → reads_at file n xs ≡ reads_at file n ys → xs ≡ ys
@@ -113,10 +105,7 @@ list_one : {X : Type 0} (xs ys : List X) → ((i : ℕ) → slice_get xs i ≡ s
 list_one [] [] same = refl
 list_one [] (y ∷ ys) same = let no = same 0 in absurd cc
 list_one (x ∷ xs) [] same = let no = same 0 in absurd cc
-list_one (x ∷ xs) (y ∷ ys) same = ap (λ z. z ∷ xs) (some_is (same 0)) ∙ ap (λ zs. y ∷ zs) (list_one xs ys (λ i. same (suc i)))
-  where
-    some_is : {X : Type 0} {x y : X} → Some x ≡ Some y → x ≡ y
-    some_is e = cc
+list_one (x ∷ xs) (y ∷ ys) same = ap (λ z. z ∷ xs) (some_is x y (same 0)) ∙ ap (λ zs. y ∷ zs) (list_one xs ys (λ i. same (suc i)))
 
 -- ---- settling
 
@@ -166,16 +155,10 @@ same_cut (i ∷ blocks) f g e =
 
 -- a list of reads that is longer than another by one, which begins as it does
 last_given : (f g : ℕ → List ℕ) (before : List ℕ) (block : ℕ) (after : List ℕ) (read : BlockRead) → map (λ i. given i (f i)) (before ++ block ∷ after) ≡ map (λ i. given i (g i)) before ++ read ∷ [] → given block (f block) ≡ read
-last_given f g [] block after read e = head e
-  where
-    head : {X : Type 0} {x y : X} {xs ys : List X} → x ∷ xs ≡ y ∷ ys → x ≡ y
-    head e = cc
+last_given f g [] block after read e = heads e
 last_given f g (i ∷ before) block after read e =
-    let rest : map (λ i. given i (f i)) (before ++ block ∷ after) ≡ map (λ i. given i (g i)) before ++ read ∷ [] = tail e in
+    let rest : map (λ i. given i (f i)) (before ++ block ∷ after) ≡ map (λ i. given i (g i)) before ++ read ∷ [] = tails e in
     last_given f g before block after read rest
-  where
-    tail : {X : Type 0} {x y : X} {xs ys : List X} → x ∷ xs ≡ y ∷ ys → xs ≡ ys
-    tail e = cc
 
 pub file_one : (s : EngineState) (file : ℕ) (f g : FileState) (k l : Facts) → IsFile s file f k → IsFile s file g l → (f ≡ g) × (k ≡ l)
 file_one s file f g k l x y =
@@ -233,16 +216,13 @@ module _ (dig : List ℕ → List ℕ) (s : EngineState) where
       let size : length x.before ≡ length y.before
       = sym (length-map x.before (λ i. given i (x.bytes i))) ∙ ap length (sym x.right.made ∙ reads.0 ∙ y.right.made) ∙ length-map y.before (λ i. given i (y.bytes i)) in
       let parts = split_one x.before y.before (x.block ∷ x.after) (y.block ∷ y.after) size (sym x.blocks ∙ y.blocks) in
-      let block : x.block ≡ y.block = first parts.1 in
+      let block : x.block ≡ y.block = heads parts.1 in
       let finds : FindsFault dig x.tree s span.file x.block x.file x.read f n
       = subst (λ k. FindsFault dig k s span.file x.block x.file x.read f n) (sym same.1)
       (subst (λ g. FindsFault dig y.tree s span.file x.block g x.read f n) (sym same.0)
       (subst (λ r. FindsFault dig y.tree s span.file x.block y.file r f n) (sym reads.1)
       (subst (λ b. FindsFault dig y.tree s span.file b y.file y.read f n) (sym block) y.finds))) in
       finds_one x.tree span.file x.block x.file x.read e f m n x.finds finds
-    where
-      first : {X : Type 0} {x y : X} {xs ys : List X} → x ∷ xs ≡ y ∷ ys → x ≡ y
-      first e = cc
 
   -- ---- a block that comes
 
@@ -324,22 +304,22 @@ module _ (dig : List ℕ → List ℕ) (s : EngineState) where
     request_one i p ask calls e f m n (not_marked xs xa xf xg xb xc xe) (ignored ya yb yc ye) = absurd (choked p.am_choking ya xa)
     request_one i p ask calls e f m n (not_marked xs xa xf xg xb xc xe) (no_place ya yf yb yc ye) = absurd (yf xs xf)
     request_one i p ask calls e f m n (not_marked xs xa xf xg xb xc xe) (not_marked ys ya yf yg yb yc ye) = (xc ∙ sym yc, xe ∙ sym ye)
-    request_one i p ask calls e f m n (not_marked xs xa xf xg xb xc xe) (served ys ya yf yg yx) = absurd (xg (subst (λ t. AreMarked s t) (place_one s.torrent ask.piece ask.begin ask.length lay ys xs yf xf) yg))
-    request_one i p ask calls e f m n (not_marked xs xa xf xg xb xc xe) (stopped ys ya yf yg yx) = absurd (xg (subst (λ t. AreMarked s t) (place_one s.torrent ask.piece ask.begin ask.length lay ys xs yf xf) yg))
+    request_one i p ask calls e f m n (not_marked xs xa xf xg xb xc xe) (served ys ya yf yg yx) = absurd (xg (subst (λ t. AreMarked s t) (same_place s.torrent lay ask.piece ask.begin ask.length ys xs yf xf) yg))
+    request_one i p ask calls e f m n (not_marked xs xa xf xg xb xc xe) (stopped ys ya yf yg yx) = absurd (xg (subst (λ t. AreMarked s t) (same_place s.torrent lay ask.piece ask.begin ask.length ys xs yf xf) yg))
     request_one i p ask calls e f m n (served xs xa xf xg xx) (ignored ya yb yc ye) = absurd (choked p.am_choking ya xa)
     request_one i p ask calls e f m n (served xs xa xf xg xx) (no_place ya yf yb yc ye) = absurd (yf xs xf)
-    request_one i p ask calls e f m n (served xs xa xf xg xx) (not_marked ys ya yf yg yb yc ye) = absurd (yg (subst (λ t. AreMarked s t) (place_one s.torrent ask.piece ask.begin ask.length lay xs ys xf yf) xg))
-    request_one i p ask calls e f m n (served xs xa xf xg xx) (served ys ya yf yg yx) = serves_one i p ask xs calls e f m n xx (subst (λ t. Serves dig s i p ask t calls f n) (place_one s.torrent ask.piece ask.begin ask.length lay ys xs yf xf) yx)
-    request_one i p ask calls e f m n (served xs xa xf xg xx) (stopped ys ya yf yg yx) = absurd (serve_or_stop i p ask xs calls e f m n xx (subst (λ t. StopsAtFault dig s t calls f n) (place_one s.torrent ask.piece ask.begin ask.length lay ys xs yf xf) yx))
+    request_one i p ask calls e f m n (served xs xa xf xg xx) (not_marked ys ya yf yg yb yc ye) = absurd (yg (subst (λ t. AreMarked s t) (same_place s.torrent lay ask.piece ask.begin ask.length xs ys xf yf) xg))
+    request_one i p ask calls e f m n (served xs xa xf xg xx) (served ys ya yf yg yx) = serves_one i p ask xs calls e f m n xx (subst (λ t. Serves dig s i p ask t calls f n) (same_place s.torrent lay ask.piece ask.begin ask.length ys xs yf xf) yx)
+    request_one i p ask calls e f m n (served xs xa xf xg xx) (stopped ys ya yf yg yx) = absurd (serve_or_stop i p ask xs calls e f m n xx (subst (λ t. StopsAtFault dig s t calls f n) (same_place s.torrent lay ask.piece ask.begin ask.length ys xs yf xf) yx))
     request_one i p ask calls e f m n (stopped xs xa xf xg xx) (ignored ya yb yc ye) = absurd (choked p.am_choking ya xa)
     request_one i p ask calls e f m n (stopped xs xa xf xg xx) (no_place ya yf yb yc ye) = absurd (yf xs xf)
-    request_one i p ask calls e f m n (stopped xs xa xf xg xx) (not_marked ys ya yf yg yb yc ye) = absurd (yg (subst (λ t. AreMarked s t) (place_one s.torrent ask.piece ask.begin ask.length lay xs ys xf yf) xg))
-    request_one i p ask calls e f m n (stopped xs xa xf xg xx) (served ys ya yf yg yx) = absurd (serve_or_stop i p ask ys calls f e n m yx (subst (λ t. StopsAtFault dig s t calls e m) (place_one s.torrent ask.piece ask.begin ask.length lay xs ys xf yf) xx))
-    request_one i p ask calls e f m n (stopped xs xa xf xg xx) (stopped ys ya yf yg yx) = stops_one xs calls e f m n xx (subst (λ t. StopsAtFault dig s t calls f n) (place_one s.torrent ask.piece ask.begin ask.length lay ys xs yf xf) yx)
+    request_one i p ask calls e f m n (stopped xs xa xf xg xx) (not_marked ys ya yf yg yb yc ye) = absurd (yg (subst (λ t. AreMarked s t) (same_place s.torrent lay ask.piece ask.begin ask.length xs ys xf yf) xg))
+    request_one i p ask calls e f m n (stopped xs xa xf xg xx) (served ys ya yf yg yx) = absurd (serve_or_stop i p ask ys calls f e n m yx (subst (λ t. StopsAtFault dig s t calls e m) (same_place s.torrent lay ask.piece ask.begin ask.length xs ys xf yf) xx))
+    request_one i p ask calls e f m n (stopped xs xa xf xg xx) (stopped ys ya yf yg yx) = stops_one xs calls e f m n xx (subst (λ t. StopsAtFault dig s t calls f n) (same_place s.torrent lay ask.piece ask.begin ask.length ys xs yf xf) yx)
 
     arrives_one : (i : ℕ) (p : PeerState) (piece begin : ℕ) (bytes : List ℕ) (calls : DeviceCalls) (e f : Effect) (m n : EngineState) → Arrives dig s i p piece begin bytes calls e m → Arrives dig s i p piece begin bytes calls f n → (e ≡ f) × (m ≡ n)
     arrives_one i p piece begin bytes calls e f m n x y =
-        let block : x.block ≡ y.block = whole_one s.torrent piece begin (length bytes) lay x.block y.block x.whole y.whole in
+        let block : x.block ≡ y.block = same_block s.torrent lay piece begin (length bytes) x.block y.block x.whole y.whole in
         let puts = puts_one x.block bytes calls e f x.stored y.stored x.puts (subst (λ b. Puts dig s b bytes calls f y.stored) (sym block) y.puts) in (
           puts.0,
           x.after ∙ ap (λ st. with_peer st i (with_payload (length bytes) (record p { asked = without_block x.block p.asked }))) puts.1

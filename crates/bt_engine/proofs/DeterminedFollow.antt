@@ -50,7 +50,7 @@ interest_plain p true false = refl
 interest_plain p false true = refl
 interest_plain p false false = refl
 
-interest_one : (s t : EngineState) (p q : PeerState) (f g : List Sent) (a b : PeerState) → Alike s t → AlikePeers p q → TellsInterest s p f a → TellsInterest t q g b → (f ≡ g) × AlikePeers a b
+pub interest_one : (s t : EngineState) (p q : PeerState) (f g : List Sent) (a b : PeerState) → Alike s t → AlikePeers p q → TellsInterest s p f a → TellsInterest t q g b → (f ≡ g) × AlikePeers a b
 interest_one s t p q f g a b same peers x y =
     let now : a.am_interested ≡ b.am_interested
     = bool_one _ _ a.am_interested b.am_interested (interesting_in s t p q same peers) (interesting_in t s q p (sym same) (sym peers)) x.interest y.interest in (
@@ -90,7 +90,7 @@ module _ (dig : List ℕ → List ℕ) where
       let anchor : x.anchor ≡ y.anchor = anchor_one k leaf x.anchor y.anchor x.nearest y.nearest in
       x.key_is ∙ ap (planned_key k leaf) anchor ∙ sym y.key_is
 
-  hash_one : (s t : EngineState) (p q : PeerState) (f g : List Sent) (a b : PeerState) → Alike s t → AlikePeers p q → RequestsHashes dig s p f a → RequestsHashes dig t q g b → (f ≡ g) × AlikePeers a b
+  pub hash_one : (s t : EngineState) (p q : PeerState) (f g : List Sent) (a b : PeerState) → Alike s t → AlikePeers p q → RequestsHashes dig s p f a → RequestsHashes dig t q g b → (f ≡ g) × AlikePeers a b
   hash_one s t p q f g a b same peers (requests c k x idle least hung plan sent new) (requests d l y idle2 least2 hung2 plan2 sent2 new2) =
       let block : c ≡ d = least_one s t p q c d same peers least least2 in
       let there : tree_of t c.file ≡ Some k = ap (λ (z : EngineState). tree_of z c.file) (sym same) ∙ hung in

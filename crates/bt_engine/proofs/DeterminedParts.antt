@@ -1,14 +1,9 @@
 -- What is one and no other: events, peers, places, trees, refusals, and what is known after a claim.
-use Rattle.std.proofs.Common.{◌≡◌, ◌≢◌, ℕ, ◌+◌, ◌-◌, ◌*◌, ◌<◌, ◌≤◌, inl, inr, List, [], ◌++◌, length, take, get_or, Option, Some, None, refl, sym, ap, ◌∙◌, subst, arith}
-use Rattle.std.specs.Prelude.{slice_get, sum_by}
+use Rattle.std.proofs.Common.{◌≡◌, ◌≢◌, ℕ, ◌+◌, ◌*◌, ◌<◌, inl, inr, List, [], ◌++◌, get_or, Option, Some, None, refl, sym, ap, ◌∙◌, subst, arith}
+use Rattle.std.specs.Prelude.{slice_get}
 use Rattle.std.specs.List.{AllPairs}
 use Rattle.std.proofs.lemmas.Bool.{cases_lt}
-use Rattle.std.proofs.lemmas.List.{length-take-le, take-take, get_or-take, ext_get_or}
-use Rattle.std.proofs.lemmas.List.Sums.{sum_by_more_le}
-use Rattle.bt_meta.specs.Files.{File, piece_count}
-use Rattle.bt_meta.specs.Torrent.{Metainfo, IsLaidOut}
-use Rattle.bt_meta.specs.Place.{IsPlace}
-use Rattle.bt_meta.specs.declared.torrent.Span.{Span}
+use Rattle.std.proofs.lemmas.List.{ext_get_or}
 use Rattle.bt_sparse.specs.SparseTree.{Facts, blocks_of, held_at, value_at}
 use Rattle.bt_sparse.specs.Anchor.{IsAnchor}
 use Rattle.bt_sparse.specs.Answer.{IsAnswer}
@@ -23,30 +18,22 @@ use Rattle.bt_sparse.proofs.Values.{value_inside, value_covers, value_padding, c
 use Rattle.bt_hashreq.specs.Claim.{IsClaimBy, IsNoClaim, shape as no_shape, count as no_count, no_memory as no_room}
 use Rattle.bt_hashreq.specs.declared.key.HashKey.{HashKey}
 use Rattle.bt_book.specs.declared.names.PeerKey.{PeerKey}
-use Rattle.bt_book.specs.declared.names.BlockId.{BlockId}
 use Rattle.bt_wire.specs.Cutter.{Stream, Takes, Waits, Fails}
 use Rattle.bt_wire.specs.declared.event.WireEvent.{WireEvent}
 use Rattle.bt_wire.specs.declared.event.WireError.{WireError}
-use Rattle.bt_wire.proofs.Events.{same_event}
 use Rattle.bt_wire.proofs.Faults.{fault_alone, one_fault}
 use Rattle.bt_engine.specs.State.{PeerState, EngineState}
-use Rattle.bt_engine.specs.Spans.{IsWholeBlock}
 use Rattle.bt_engine.specs.HashMessages.{IsTreeOf}
 use Rattle.bt_engine.specs.Next.{IsPeer}
 use Rattle.bt_engine.specs.Orderly.{IsOrderly}
 use Rattle.bt_engine.proofs.Lists.{same_some, some_not_none}
 use Rattle.bt_engine.proofs.Pairs.{to_pairs, pairs_at}
+use Rattle.bt_engine.proofs.AnswerDue.{same_taking}
 
 -- ---- streams
 
-stream_is : (a b : Stream) → a.unread ≡ b.unread → a.greeted ≡ b.greeted → a.failed ≡ b.failed → a ≡ b
-stream_is a b unread greeted failed =
-    ap (λ x. record a { unread = x }) unread ∙ ap (λ x. record a { unread = b.unread; greeted = x }) greeted ∙ ap (λ x. record b { failed = x }) failed
-
 pub takes_one : (s : Stream) (e f : WireEvent) (r t : Stream) → Takes s e r → Takes s f t → (e ≡ f) × (r ≡ t)
-takes_one s e f r t a b =
-    let same = same_event s.greeted e f a.bytes b.bytes r.unread t.unread a.event b.event (sym a.front ∙ b.front) in
-    (same.event_is, stream_is r t same.rest_is (a.greeted ∙ sym b.greeted) (a.not_failed ∙ sym b.not_failed))
+takes_one s e f r t a b = let same = same_taking s r t e f a b in (same.event_is, same.rest_is)
 
 pub takes_waits : (s : Stream) (e : WireEvent) (r : Stream) → Takes s e r → Waits s → ⊥
 takes_waits s e r a w = w.no_event e a.bytes r.unread a.event a.front
@@ -86,44 +73,6 @@ tree_one s root t u k l apart a b =
       ]
     ] in
     (place, same_some (slice_get s.trees u) k l (ap (slice_get s.trees) (sym place) ∙ a.here) b.here)
-
--- ---- places
-
-ends_before : (f : File → ℕ) (files : List File) (j k : ℕ) (d : File) → j < k → k < length files → sum_by f (take j files) + f (get_or files j d) ≤ sum_by f (take k files)
-ends_before f files j k d lt within =
-    let size : length (take k files) ≡ k = length-take-le k files (omega (arith, within)) in
-    let more = sum_by_more_le f (take k files) j d (omega (arith, lt, size)) in
-    omega (arith, more, ap (sum_by f) (take-take j k files (omega (arith, lt))), ap f (get_or-take k files j d lt))
-
-module _ (torrent : Metainfo) (piece begin count : ℕ) (lay : IsLaidOut torrent.piece_length torrent.files) where
-  -- no piece is of two files
-  not_before : (a b : Span) → IsPlace torrent piece begin count a → IsPlace torrent piece begin count b → a.file < b.file → ⊥
-  not_before a b x y lt =
-      let pieces : File → ℕ = λ f. piece_count torrent.piece_length f.length in
-      let own = lay.in_turn a.file x.file x.listed in
-      let other = lay.in_turn b.file x.file y.listed in
-      let ends = ends_before pieces torrent.files a.file b.file x.file lt y.listed in
-      absurd (omega (arith, own, other, ends, x.below, y.from, ap (λ f. f.first_piece) (x.found x.file), ap pieces (x.found x.file), ap (λ f. f.first_piece) (y.found x.file)))
-
-  same_file : (a b : Span) → IsPlace torrent piece begin count a → IsPlace torrent piece begin count b → a.file ≡ b.file
-  same_file a b x y = elim (cases_lt a.file b.file) [
-    | inl lt ↦ absurd (not_before a b x y lt)
-    | inr le ↦ elim (cases_lt b.file a.file) [ inl lt ↦ absurd (not_before b a y x lt) | inr ge ↦ omega (arith, le, ge) ]
-  ]
-
-  pub place_one : (a b : Span) → IsPlace torrent piece begin count a → IsPlace torrent piece begin count b → a ≡ b
-  place_one a b x y =
-      let file : a.file ≡ b.file = same_file a b x y in
-      let entry : x.file ≡ y.file = sym (x.found x.file) ∙ ap (λ n. get_or torrent.files n x.file) file ∙ y.found x.file in
-      let start : a.start ≡ b.start = x.start ∙ ap (λ (f : File). (piece - f.first_piece) * torrent.piece_length + begin) entry ∙ sym y.start in
-      ap (λ n. record a { file = n }) file ∙ ap (λ n. record a { file = b.file; start = n }) start ∙ ap (λ n. record b { length = n }) (x.all ∙ sym y.all)
-
-  pub whole_one : (b c : BlockId) → IsWholeBlock torrent piece begin count b → IsWholeBlock torrent piece begin count c → b ≡ c
-  whole_one b c x y =
-      let span : x.span ≡ y.span = place_one x.span y.span x.place y.place in
-      let file : b.file ≡ c.file = sym x.file ∙ ap (λ (s : Span). s.file) span ∙ y.file in
-      let start : 16384 * b.block ≡ 16384 * c.block = sym x.start ∙ ap (λ (s : Span). s.start) span ∙ y.start in
-      ap (λ n. record b { file = n }) file ∙ ap (λ n. record c { block = n }) (omega (arith, start))
 
 -- the nearest held node
 pub anchor_one : (k : Facts) (leaf a b : ℕ) → IsAnchor k leaf a → IsAnchor k leaf b → a ≡ b

@@ -1,9 +1,10 @@
 -- What is left to an engine where peers come and go, bytes come, peers are chosen, and devices are synced.
 use Rattle.std.proofs.Common.{◌≡◌, ◌≢◌, ℕ, zero, suc, ◌+◌, ◌-◌, ◌*◌, ◌/◌, ◌%◌, ◌<◌, false, List, [], ◌∷◌, ◌++◌, length, map, get_or, replicate, Option, Some, None, refl, sym, ap, ◌∙◌, subst, arith}
 use Rattle.std.specs.Prelude.{◌==◌, All, Contains, Result, Ok, Err}
+use Rattle.std.specs.List.{range_with_len}
 use Rattle.std.proofs.lemmas.List.Elements.{Contains-append_right}
 use Rattle.bt_disk.specs.Calls.{Call, sync_made, sync_fault}
-use Rattle.bt_meta.specs.Torrent.{total_pieces}
+use Rattle.bt_meta.specs.Torrent.{total_pieces, IsLaidOut}
 use Rattle.bt_book.specs.declared.names.PeerKey.{PeerKey}
 use Rattle.bt_book.proofs.Ranks.{same_peer}
 use Rattle.bt_wire.specs.Cutter.{fed}
@@ -15,20 +16,22 @@ use Rattle.bt_engine.specs.declared.error.FlushError.{FlushError}
 use Rattle.bt_engine.specs.State.{PeerState, EngineState}
 use Rattle.bt_engine.specs.Devices.{DeviceCalls}
 use Rattle.bt_engine.specs.Blocks.{piece_numbers, is_whole, with_peer}
-use Rattle.bt_engine.specs.Output.{Output}
+use Rattle.bt_engine.specs.Output.{Sent, Output}
 use Rattle.bt_engine.specs.WireEvents.{bits_of, bits_in}
 use Rattle.bt_engine.specs.Next.{without_peer}
 use Rattle.bt_engine.specs.Peers.{new_peer, IsOurBitfield, greeting, StepConnect, joins, full, spent, no_memory, StepFeed, feeds, no_peer as not_fed, no_memory as no_room_to_feed, StepLost, goes, no_peer as not_lost}
-use Rattle.bt_engine.specs.Rechoke.{chokes_sent, rechoked, StepRechoke, rechokes, no_memory as not_rechoked}
+use Rattle.bt_engine.specs.Rechoke.{chokes_sent, rechoked_peer, rechoked, StepRechoke, rechokes, no_memory as not_rechoked}
 use Rattle.bt_engine.specs.Flush.{data_files, syncs_of, StepFlush, syncs, fails}
 use Rattle.bt_engine.specs.Orderly.{IsOrderly}
 use Rattle.bt_engine.specs.Step.{Answer, of_connect, of_feed, of_lost, of_rechoke, of_flush}
-use Rattle.bt_engine.specs.Determined.{other_frames, without_requests, plain_answer, without_asked}
-use Rattle.bt_engine.proofs.Lists.{contains_map, here}
+use Rattle.bt_engine.specs.Law.{sent_by}
+use Rattle.bt_engine.specs.Determined.{other_frames, plain_answer}
+use Rattle.bt_engine.proofs.Lists.{contains_map, here, get_map}
 use Rattle.bt_engine.proofs.Orderly.{length-bits_of}
 use Rattle.bt_engine.proofs.DeterminedParts.{peer_one}
 use Rattle.bt_engine.proofs.DeterminedEvents.{split_one}
 use Rattle.bt_engine.proofs.DeterminedFollow.{other_append, each_one}
+use Rattle.bt_engine.proofs.DeterminedAsks.{AreOne, are_equal, asks_to, asks_behind, KeysApart, each_same, range_apart}
 
 -- ---- bitfields
 
@@ -73,61 +76,72 @@ bitfield_one s xs ys x y =
 
 -- ---- peers that come and go
 
-abbrev Same : Answer → EngineState → Answer → EngineState → Type 0
-Same a m b n = (plain_answer a ≡ plain_answer b) × (without_asked m ≡ without_asked n)
-
-connect_same : (s m n : EngineState) (a b : Result (PeerKey × Output) ConnectError) → a ≡ b → m ≡ n → Same (of_connect a) m (of_connect b) n
-connect_same s m n a b e f = (ap (λ r. plain_answer (of_connect r)) e, ap without_asked f)
-
-pub connect_one : (s m n : EngineState) (a b : Result (PeerKey × Output) ConnectError) → StepConnect s a m → StepConnect s b n → a ≢ Err no_room_to_connect → b ≢ Err no_room_to_connect → Same (of_connect a) m (of_connect b) n
+pub connect_one : (s m n : EngineState) (a b : Result (PeerKey × Output) ConnectError) → StepConnect s a m → StepConnect s b n → a ≢ Err no_room_to_connect → b ≢ Err no_room_to_connect → AreOne (of_connect a) m (of_connect b) n
 connect_one s m n a b (no_memory x y z w) q r t = absurd (r z)
 connect_one s m n a b q (no_memory x y z w) r t = absurd (t z)
 connect_one s m n a b (joins key bytes lt below is bits e f) (joins other more lt2 below2 is2 bits2 e2 f2) r t =
     let keys : key ≡ other = same_peer key other (is ∙ sym is2) in
     let fields : bytes ≡ more = bitfield_one s bytes more bits bits2 in
-    connect_same s m n a b (e ∙ ap (λ k. Ok (k, greeting s k bytes)) keys ∙ ap (λ bs. Ok (other, greeting s other bs)) fields ∙ sym e2)
+    are_equal (ap of_connect (e ∙ ap (λ k. Ok (k, greeting s k bytes)) keys ∙ ap (λ bs. Ok (other, greeting s other bs)) fields ∙ sym e2))
     (f ∙ ap (λ k. record s { peers = s.peers ++ new_peer s k ∷ []; next_key = s.next_key + 1 }) keys ∙ sym f2)
 connect_one s m n a b (joins key bytes lt below is bits e f) (full x y z) r t = absurd (omega (arith, lt, x))
 connect_one s m n a b (joins key bytes lt below is bits e f) (spent x y z w) r t = absurd (omega (arith, below, y))
 connect_one s m n a b (full x y z) (joins key bytes lt below is bits e f) r t = absurd (omega (arith, lt, x))
-connect_one s m n a b (full x y z) (full u v w) r t = connect_same s m n a b (y ∙ sym v) (z ∙ sym w)
+connect_one s m n a b (full x y z) (full u v w) r t = are_equal (ap of_connect (y ∙ sym v)) (z ∙ sym w)
 connect_one s m n a b (full x y z) (spent u v w o) r t = absurd (omega (arith, x, u))
 connect_one s m n a b (spent x y z w) (joins key bytes lt below is bits e f) r t = absurd (omega (arith, below, y))
 connect_one s m n a b (spent u v w o) (full x y z) r t = absurd (omega (arith, x, u))
-connect_one s m n a b (spent x y z w) (spent u v o q) r t = connect_same s m n a b (z ∙ sym o) (w ∙ sym q)
+connect_one s m n a b (spent x y z w) (spent u v o q) r t = are_equal (ap of_connect (z ∙ sym o)) (w ∙ sym q)
 
 pub feed_one : (s m n : EngineState) (key : PeerKey) (bytes : List ℕ) (a b : Result (Unit {0}) EngineError) → IsOrderly s → StepFeed s key bytes a m → StepFeed s key bytes b n → a ≢ Err OutOfMemory → b ≢ Err OutOfMemory
-    → Same (of_feed a) m (of_feed b) n
+    → AreOne (of_feed a) m (of_feed b) n
 feed_one s m n key bytes a b o (no_room_to_feed i p x y z) q r t = absurd (r y)
 feed_one s m n key bytes a b o q (no_room_to_feed i p x y z) r t = absurd (t y)
 feed_one s m n key bytes a b o (feeds i p x y z) (feeds j q u v w) r t =
-    let same = peer_one s key i j p q o x u in (
-      ap of_feed (y ∙ sym v),
-      ap without_asked (z ∙ ap (λ k. with_peer s k (record p { stream = fed p.stream bytes })) same.0 ∙ ap (λ (l : PeerState). with_peer s j (record l { stream = fed l.stream bytes })) same.1 ∙ sym w),
-    )
+    let same = peer_one s key i j p q o x u in
+    are_equal (ap of_feed (y ∙ sym v)) (z ∙ ap (λ k. with_peer s k (record p { stream = fed p.stream bytes })) same.0 ∙ ap (λ (l : PeerState). with_peer s j (record l { stream = fed l.stream bytes })) same.1 ∙ sym w)
 feed_one s m n key bytes a b o (feeds i p x y z) (not_fed u v w) r t = absurd (u i p x)
 feed_one s m n key bytes a b o (not_fed u v w) (feeds i p x y z) r t = absurd (u i p x)
-feed_one s m n key bytes a b o (not_fed x y z) (not_fed u v w) r t = (ap of_feed (y ∙ sym v), ap without_asked (z ∙ sym w))
+feed_one s m n key bytes a b o (not_fed x y z) (not_fed u v w) r t = are_equal (ap of_feed (y ∙ sym v)) (z ∙ sym w)
 
-pub lost_one : (s m n : EngineState) (key : PeerKey) (a b : Result (Unit {0}) EngineError) → IsOrderly s → StepLost s key a m → StepLost s key b n → Same (of_lost a) m (of_lost b) n
-lost_one s m n key a b o (goes i p x y z) (goes j q u v w) = (ap of_lost (y ∙ sym v), ap without_asked (z ∙ ap (λ k. without_peer k s) (peer_one s key i j p q o x u).0 ∙ sym w))
+pub lost_one : (s m n : EngineState) (key : PeerKey) (a b : Result (Unit {0}) EngineError) → IsOrderly s → StepLost s key a m → StepLost s key b n → AreOne (of_lost a) m (of_lost b) n
+lost_one s m n key a b o (goes i p x y z) (goes j q u v w) = are_equal (ap of_lost (y ∙ sym v)) (z ∙ ap (λ k. without_peer k s) (peer_one s key i j p q o x u).0 ∙ sym w)
 lost_one s m n key a b o (goes i p x y z) (not_lost u v w) = absurd (u i p x)
 lost_one s m n key a b o (not_lost u v w) (goes i p x y z) = absurd (u i p x)
-lost_one s m n key a b o (not_lost x y z) (not_lost u v w) = (ap of_lost (y ∙ sym v), ap without_asked (z ∙ sym w))
+lost_one s m n key a b o (not_lost x y z) (not_lost u v w) = are_equal (ap of_lost (y ∙ sym v)) (z ∙ sym w)
 
 -- ---- peers to serve
 
-pub rechoke_one : (dig : List ℕ → List ℕ) (s m n : EngineState) (a b : Option Output) → StepRechoke dig s a m → StepRechoke dig s b n → a ≢ None → b ≢ None → Same (of_rechoke a) m (of_rechoke b) n
-rechoke_one dig s m n a b (not_rechoked x y) q r t = absurd (r x)
-rechoke_one dig s m n a b q (not_rechoked x y) r t = absurd (t x)
-rechoke_one dig s m n a b (rechokes out x e) (rechokes other y f) r t =
+abbrev sends : EngineState → List Sent → Answer
+sends s sent = of_rechoke (Some (record { send = chokes_sent s ++ sent; close = None; notes = [] }))
+
+-- no two peers of an engine that events lead to have one key
+apart_at_first : (s : EngineState) → IsOrderly s → KeysApart (rechoked s)
+apart_at_first s o i j p q x y e =
+    let u = get_map (rechoked_peer s) s.peers i p x in
+    let v = get_map (rechoked_peer s) s.peers j q y in
+    (peer_one s v.0.key i j u.0 v.0 o
+    (record { here = u.1; same_key = ap (λ (z : PeerState). z.key) u.2 ∙ e ∙ sym (ap (λ (z : PeerState). z.key) v.2) })
+    (record { here = v.1; same_key = refl })).0
+
+pub rechoke_one : (dig : List ℕ → List ℕ) (s m n : EngineState) (a b : Option Output) → IsLaidOut s.torrent.piece_length s.torrent.files → IsOrderly s → StepRechoke dig s a m → StepRechoke dig s b n → a ≢ None → b ≢ None → AreOne (of_rechoke a) m (of_rechoke b) n
+rechoke_one dig s m n a b lay o (not_rechoked x y) q r t = absurd (r x)
+rechoke_one dig s m n a b lay o q (not_rechoked x y) r t = absurd (t x)
+rechoke_one dig s m n a b lay o (rechokes out x e) (rechokes other y f) r t =
     let each = each_one dig _ (rechoked s) (rechoked s) x.sent y.sent m n refl x.follows y.follows in
     let send : other_frames (chokes_sent s ++ x.sent) ≡ other_frames (chokes_sent s ++ y.sent)
-    = other_append (chokes_sent s) x.sent ∙ ap (λ zs. other_frames (chokes_sent s) ++ zs) each.0 ∙ sym (other_append (chokes_sent s) y.sent) in (
-      ap (λ z. plain_answer (of_rechoke z)) e ∙ ap (λ z. of_rechoke (Some (without_requests z))) x.is ∙ ap (λ zs. of_rechoke (Some (record { send = zs; close = None; notes = [] }))) send
-          ∙ sym (ap (λ z. of_rechoke (Some (without_requests z))) y.is) ∙ sym (ap (λ z. plain_answer (of_rechoke z)) f),
-      each.1,
-    )
+    = other_append (chokes_sent s) x.sent ∙ ap (λ zs. other_frames (chokes_sent s) ++ zs) each.0 ∙ sym (other_append (chokes_sent s) y.sent) in
+    let own : of_rechoke a ≡ sends s x.sent = ap of_rechoke (e ∙ ap (λ z. Some z) x.is) in
+    let their : of_rechoke b ≡ sends s y.sent = ap of_rechoke (f ∙ ap (λ z. Some z) y.is) in
+    record {
+      plain = ap plain_answer own ∙ ap (λ zs. of_rechoke (Some (record { send = zs; close = None; notes = [] }))) send ∙ sym (ap plain_answer their);
+      rest = each.1;
+      whole = λ same. (
+          let behind = asks_to m _ _ (chokes_sent s ++ x.sent) (chokes_sent s ++ y.sent) (ap sent_by own) (ap sent_by their) same in
+          let both = each_same dig (range_with_len 0 (length s.peers)) (rechoked s) x.sent y.sent m n lay (apart_at_first s o) (range_apart 0 (length s.peers)) x.follows y.follows (asks_behind m m (chokes_sent s) x.sent y.sent refl behind) in
+          (own ∙ ap (sends s) both.0 ∙ sym their, both.1)
+          );
+    }
 
 -- ---- devices
 
@@ -141,8 +155,8 @@ synced_or_not : (files before : List ℕ) (file : ℕ) → syncs_of files ≡ sy
 synced_or_not files before file e =
     no_fault_among files (file, sync_fault) (subst (λ cs. Contains cs (file, sync_fault)) (sym e) (Contains-append_right (syncs_of before) ((file, sync_fault) ∷ []) (file, sync_fault) (here (file, sync_fault) (file, sync_fault) [] refl))) refl
 
-pub flush_one : (s m n : EngineState) (calls : DeviceCalls) (a b : Result (Unit {0}) FlushError) → StepFlush s calls a m → StepFlush s calls b n → Same (of_flush a) m (of_flush b) n
-flush_one s m n calls a b (syncs x y z w) (syncs u v o q) = (ap of_flush (z ∙ sym o), ap without_asked (w ∙ sym q))
+pub flush_one : (s m n : EngineState) (calls : DeviceCalls) (a b : Result (Unit {0}) FlushError) → StepFlush s calls a m → StepFlush s calls b n → AreOne (of_flush a) m (of_flush b) n
+flush_one s m n calls a b (syncs x y z w) (syncs u v o q) = are_equal (ap of_flush (z ∙ sym o)) (w ∙ sym q)
 flush_one s m n calls a b (syncs x y z w) (fails before file after u v o q) = absurd (synced_or_not (data_files s) before file (sym y ∙ v))
 flush_one s m n calls a b (fails before file after u v o q) (syncs x y z w) = absurd (synced_or_not (data_files s) before file (sym y ∙ v))
-flush_one s m n calls a b (fails before file after u v o q) (fails before2 file2 after2 x y z w) = (ap of_flush (o ∙ sym z), ap without_asked (q ∙ sym w))
+flush_one s m n calls a b (fails before file after u v o q) (fails before2 file2 after2 x y z w) = are_equal (ap of_flush (o ∙ sym z)) (q ∙ sym w)

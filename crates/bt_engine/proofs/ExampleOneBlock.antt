@@ -34,8 +34,8 @@ use Rattle.bt_engine.specs.Start.{Starts, by_root}
 use Rattle.bt_engine.specs.Step.{Run}
 use Rattle.bt_engine.specs.ExampleOneBlock.{abc, abc_file, abc_torrent, abc_engine, served_peer, piece_bytes, abc_events, abc_calls, abc_answers, FetchOfAbcIsRun}
 use Rattle.bt_engine.specs.ExamplePeer.{first_key, peer_with, all_taken, their_handshake, bitfield_bytes, unchoke_bytes, to_first}
-use Rattle.bt_engine.proofs.ExamplePeer.{some_is, one_there, taken_bits, taken_unchoke, taken_hello, waits_empty}
-use Rattle.bt_engine.proofs.Lists.{contains_none, contains_cases, here, and_then_some, same_some}
+use Rattle.bt_engine.proofs.ExamplePeer.{one_there, taken_bits, taken_unchoke, taken_hello, waits_empty}
+use Rattle.bt_engine.proofs.Lists.{some_is, contains_none, contains_cases, here, and_then_some, same_some}
 
 -- ---- the piece
 

@@ -12,10 +12,8 @@ use Rattle.bt_wire.specs.declared.event.WireEvent.TheVariants.{Hello, Message as
 use Rattle.bt_wire.specs.declared.message.Message.{Message as PeerMessage}
 use Rattle.bt_wire.specs.declared.message.Message.TheVariants.{Unchoke, Bitfield, Piece}
 use Rattle.bt_wire.proofs.Events.{event_frame}
+use Rattle.bt_engine.proofs.Lists.{some_is}
 use Rattle.bt_engine.specs.ExamplePeer.{all_taken, their_handshake, bitfield_bytes, unchoke_bytes}
-
-pub some_is : {X : Type 0} (x y : X) → Some x ≡ Some y → x ≡ y
-some_is x y e = cc
 
 pub one_there : {X : Type 0} (x y : X) (i : ℕ) → slice_get (x ∷ []) i ≡ Some y → (i ≡ 0) × (x ≡ y)
 one_there x y zero e = (refl, some_is x y e)

@@ -29,8 +29,8 @@ use Rattle.bt_engine.specs.Peers.{StepConnect, joins, greeting, StepFeed, feeds}
 use Rattle.bt_engine.specs.Start.{Starts, by_root}
 use Rattle.bt_engine.specs.ExamplePeer.{first_key, peer_with, all_taken, their_handshake, bitfield_bytes, unchoke_bytes, to_first}
 use Rattle.bt_engine.specs.ExampleThreeBlocks.{ThreeBlocks, left_node, right_node, three_root, three_file, three_torrent, three_engine, leaves_key, four_leaves, leaves_message, block_request}
-use Rattle.bt_engine.proofs.Lists.{contains_none, contains_cases, here, and_then_some}
-use Rattle.bt_engine.proofs.ExamplePeer.{some_is, one_there, taken_bits, taken_unchoke, taken_hello}
+use Rattle.bt_engine.proofs.Lists.{some_is, contains_none, contains_cases, here, and_then_some}
+use Rattle.bt_engine.proofs.ExamplePeer.{one_there, taken_bits, taken_unchoke, taken_hello}
 use Rattle.bt_engine.proofs.ExampleThreeTree.{at_first, proved, first_unknown, first_known, second_known, third_known, plan, leaves_length}
 
 abbrev pub block : ℕ → BlockId
@@ -62,7 +62,7 @@ one_of x y z state zero (suc (suc zero)) e = third refl (some_is z state e)
 one_of x y z state zero (suc (suc (suc i))) e = absurd cc
 one_of x y z state (suc file) i e = absurd cc
 
-among_three : (x y z state : BlockState) (c : BlockId) → IsOne x y z c state → Contains all_three c
+pub among_three : (x y z state : BlockState) (c : BlockId) → IsOne x y z c state → Contains all_three c
 among_three x y z state c (first e f) = (0, omega arith, sym e)
 among_three x y z state c (second e f) = (1, omega arith, sym e)
 among_three x y z state c (third e f) = (2, omega arith, sym e)
@@ -233,7 +233,7 @@ module _ (dig : List ℕ → List ℕ) (b : ThreeBlocks) (infohash : List ℕ) w
     | inr more ↦ contains_none asked.0 more
   ]
 
-  is_open : (k : Facts) (p : PeerState) (c : BlockId) → p.asked ≡ [] → Has (engine k Missing Missing Missing p) p c → state_at (engine k Missing Missing Missing p) c ≡ Some Missing
+  pub is_open : (k : Facts) (p : PeerState) (c : BlockId) → p.asked ≡ [] → Has (engine k Missing Missing Missing p) p c → state_at (engine k Missing Missing Missing p) c ≡ Some Missing
       → IsOpen (engine k Missing Missing Missing p) p c
   is_open k p c none has missing = record { has = has; missing = missing; free = unasked k p c none }
 

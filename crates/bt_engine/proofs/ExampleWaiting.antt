@@ -1,6 +1,7 @@
 -- Blocks that come before the proof of their leaves wait, and are read back when it comes.
-use Rattle.std.proofs.Common.{◌≡◌, ◌∙◌, zero, suc, true, false, List, [], ◌∷◌, ◌++◌, inl, inr, ℕ, Bool, length, Some, Ok, refl, sym, ap, subst, arith}
+use Rattle.std.proofs.Common.{◌≡◌, ◌∙◌, zero, suc, ◌≤◌, ◌⊎◌, not, true, false, List, [], ◌∷◌, ◌++◌, inl, inr, ℕ, Bool, length, Some, Ok, refl, sym, ap, subst, arith}
 use Rattle.std.specs.Prelude.{slice_get, Contains, map, option_map}
+use Rattle.std.proofs.lemmas.List.Sums.{length-filter, count_by-le-length}
 use Rattle.bt_tree.specs.NodeHash.{IsDigest}
 use Rattle.bt_sparse.specs.SparseTree.{value_at}
 use Rattle.bt_disk.specs.Calls.{bytes_given, bytes_written}
@@ -9,13 +10,17 @@ use Rattle.bt_store.specs.declared.block_states.BlockState.{BlockState}
 use Rattle.bt_store.specs.declared.block_states.BlockState.TheVariants.{Missing, Waiting, Marked}
 use Rattle.bt_store.specs.declared.arrival.Put.TheVariants.{Waiting as PutWaiting}
 use Rattle.bt_book.specs.declared.names.BlockId.{BlockId}
+use Rattle.bt_book.specs.Blocks.{is_block}
+use Rattle.bt_book.specs.Book.{without_block}
 use Rattle.bt_wire.specs.Cutter.{Stream, stream}
 use Rattle.bt_wire.specs.Handshake.{handshake_spelling}
 use Rattle.bt_wire.specs.Message.{message_spelling}
 use Rattle.bt_wire.specs.declared.event.WireEvent.TheVariants.{Message as message_event}
-use Rattle.bt_wire.specs.declared.message.Message.TheVariants.{Interested, NotInterested, Piece}
+use Rattle.bt_wire.specs.declared.message.Message.TheVariants.{Interested, NotInterested, Piece, HashRequest}
 use Rattle.bt_engine.specs.declared.answer.Note.{Note}
 use Rattle.bt_engine.specs.declared.answer.Note.TheVariants.{Marked as NowMarked, Waiting as NowWaiting, Freed}
+use Rattle.bt_engine.specs.declared.event.Event.{Event}
+use Rattle.bt_engine.specs.declared.event.Event.TheVariants.{Connect, Feed, Next}
 use Rattle.bt_engine.specs.State.{HashState, Idle, Asked, PeerState, FileState, EngineState}
 use Rattle.bt_engine.specs.Spans.{IsWholeBlock}
 use Rattle.bt_engine.specs.Output.{Sent, no_effect, noting}
@@ -25,48 +30,75 @@ use Rattle.bt_engine.specs.Arrival.{arrives}
 use Rattle.bt_engine.specs.HashMessages.{learns, ours as resolved, new_proofs}
 use Rattle.bt_engine.specs.FollowUp.{IsInteresting, IsOpen, FollowsUp, rests}
 use Rattle.bt_engine.specs.Next.{StepNext, goes_on}
-use Rattle.bt_engine.specs.Step.{Run}
+use Rattle.bt_engine.specs.Devices.{DeviceCalls}
+use Rattle.bt_engine.specs.Step.{Answer, Run}
 use Rattle.bt_engine.specs.ExampleWaiting.{IsWrongThird, waiting_events, waiting_calls, waiting_answers, settling_calls, settling_answers, WaitingFetchIsRun}
-use Rattle.bt_engine.specs.ExamplePeer.{first_key, peer_with, all_taken, their_handshake, bitfield_bytes, unchoke_bytes, to_first}
+use Rattle.bt_engine.specs.ExamplePeer.{first_key, peer_with, all_taken, their_handshake, bitfield_bytes, unchoke_bytes, to_first, joined_answer, fed_answer, taken_answer}
 use Rattle.bt_engine.specs.ExampleThreeBlocks.{ThreeBlocks, AreWhole, three_torrent, leaves_key, four_leaves, leaves_message, told, block_request}
-use Rattle.bt_engine.proofs.Lists.{contains_none, contains_cases, same_some}
+use Rattle.bt_engine.proofs.Lists.{contains_none, contains_cases, contains_filter, here, later, same_some}
 use Rattle.bt_engine.proofs.Marks.{right_then}
 use Rattle.bt_engine.proofs.AnswerMarks.{right_true}
+use Rattle.bt_engine.proofs.Runs.{run_join}
 use Rattle.bt_engine.proofs.ExamplePeer.{one_there, taken_message, piece_fits}
 use Rattle.bt_engine.proofs.ExampleThreeTree.{at_first, proved, leaves_claim, accepts, first_unknown, second_unknown, third_unknown, first_known, second_known, third_known, claims}
 use Rattle.bt_engine.proofs.ExampleThreeEngine.{block, all_three, asked_peer, output_of, IsOne, first, second, third, engine, is_one, whole_first, whole_second, whole_third, needs_none, quietly, interesting, not_open, next_hello, next_bits, next_unchoke, key_fits, leaves_fit, fed_to, start, connects, starts}
 
+abbrev pub left_one : List BlockId → List BlockId
+left_one asked = without_block (block 0) asked
+
+abbrev pub left_two : List BlockId → List BlockId
+left_two asked = without_block (block 1) (left_one asked)
+
+-- the three blocks, and no other, are asked
+pub record AreAsked (asked : List BlockId) : Type 0 where
+  pub few : length asked ≤ 16
+  pub each : (c : BlockId) → Contains all_three c → Contains asked c
+  pub among : (c : BlockId) → Contains asked c → Contains all_three c
+
+stays_asked : (c d : BlockId) (xs : List BlockId) → is_block c d ≡ false → Contains xs d → Contains (without_block c xs) d
+stays_asked c d [] e among = among
+stays_asked c d (x ∷ xs) e among = by (is_block c x) refl (stays_asked c d xs e)
+  where
+    by : (t : Bool) → is_block c x ≡ t → (Contains xs d → Contains (without_block c xs) d) → Contains (without_block c (x ∷ xs)) d
+    by true f tail = elim (contains_cases x d xs among) [
+      | inl same ↦ (let both : true ≡ false = sym f ∙ ap (is_block c) same ∙ e in absurd cc)
+      | inr more ↦ rw f (tail more)
+    ]
+    by false f tail = elim (contains_cases x d xs among) [ inl same ↦ rw f (here x d (without_block c xs) same) | inr more ↦ rw f (later x d (without_block c xs) (tail more)) ]
+
+fewer : (c : BlockId) (xs : List BlockId) → length (without_block c xs) ≤ length xs
+fewer c xs = omega (arith, length-filter (λ d. not (is_block c d)) xs, count_by-le-length (λ d. not (is_block c d)) xs)
+
+none_within : (xs : List BlockId) → ((c : BlockId) → Contains xs c → ⊥) → xs ≡ []
+none_within [] none = refl
+none_within (x ∷ xs) none = absurd (none x (here x x xs refl))
+
+pub three_cases : (c : BlockId) → Contains all_three c → (c ≡ block 0) ⊎ (c ≡ block 1) ⊎ (c ≡ block 2)
+three_cases c among = elim (contains_cases (block 0) c (block 1 ∷ block 2 ∷ []) among) [
+  | inl e ↦ inl (sym e)
+  | inr more ↦ elim (contains_cases (block 1) c (block 2 ∷ []) more) [
+    | inl e ↦ inr (inl (sym e))
+    | inr last ↦ elim (contains_cases (block 2) c [] last) [ inl e ↦ inr (inr (sym e)) | inr none ↦ absurd (contains_none c none) ]
+  ]
+]
+
+no_other : (c : BlockId) → Contains all_three c → not (is_block (block 0) c) ≡ true → not (is_block (block 1) c) ≡ true → not (is_block (block 2) c) ≡ true → ⊥
+no_other c among x y z = by (three_cases c among)
+  where
+    by : (c ≡ block 0) ⊎ (c ≡ block 1) ⊎ (c ≡ block 2) → ⊥
+    by (inl e) = let no = ap (λ d. not (is_block (block 0) d)) (sym e) ∙ x in absurd cc
+    by (inr (inl e)) = let no = ap (λ d. not (is_block (block 1) d)) (sym e) ∙ y in absurd cc
+    by (inr (inr e)) = let no = ap (λ d. not (is_block (block 2) d)) (sym e) ∙ z in absurd cc
+
 module _ (dig : List ℕ → List ℕ) (b : ThreeBlocks) (wrong : List ℕ) (infohash : List ℕ) where
-  abbrev asked_key : HashState
+  abbrev pub asked_key : HashState
   asked_key = Asked (leaves_key dig b)
 
   -- the peer is asked for the leaves, and so for nothing more
-  asked_already : {X : Type 0} → asked_key ≡ Idle → X
+  pub asked_already : {X : Type 0} → asked_key ≡ Idle → X
   asked_already e = absurd cc
 
   -- ---- the blocks wait
-
-  after_first : FollowsUp dig (engine dig b infohash (at_first dig b) Waiting Missing Missing (asked_peer asked_key (block 1 ∷ block 2 ∷ []) 16384)) 0 [] (engine dig b infohash (at_first dig b) Waiting Missing Missing (asked_peer asked_key (block 1 ∷ block 2 ∷ []) 16384))
-  after_first =
-      let p = asked_peer asked_key (block 1 ∷ block 2 ∷ []) 16384 in
-      quietly dig b infohash (at_first dig b) Waiting Missing Missing p p [] refl (λ e. interesting dig b infohash (at_first dig b) Waiting Missing Missing p (block 1) refl refl refl, λ i. refl) refl
-      (λ idle. asked_already idle) (λ e f c may. none c (is_one dig b infohash (at_first dig b) Waiting Missing Missing Missing p c may.missing) may) (omega arith)
-    where
-      none : (c : BlockId) → IsOne Waiting Missing Missing c Missing → ¬ IsOpen (engine dig b infohash (at_first dig b) Waiting Missing Missing (asked_peer asked_key (block 1 ∷ block 2 ∷ []) 16384)) (asked_peer asked_key (block 1 ∷ block 2 ∷ []) 16384) c
-      none c (first e f) may = absurd cc
-      none c (second e f) may = not_open dig b infohash _ _ _ _ (asked_peer asked_key (block 1 ∷ block 2 ∷ []) 16384) c (0, omega arith, sym e) may
-      none c (third e f) may = not_open dig b infohash _ _ _ _ (asked_peer asked_key (block 1 ∷ block 2 ∷ []) 16384) c (1, omega arith, sym e) may
-
-  after_second : FollowsUp dig (engine dig b infohash (at_first dig b) Waiting Waiting Missing (asked_peer asked_key (block 2 ∷ []) 32768)) 0 [] (engine dig b infohash (at_first dig b) Waiting Waiting Missing (asked_peer asked_key (block 2 ∷ []) 32768))
-  after_second =
-      let p = asked_peer asked_key (block 2 ∷ []) 32768 in
-      quietly dig b infohash (at_first dig b) Waiting Waiting Missing p p [] refl (λ e. interesting dig b infohash (at_first dig b) Waiting Waiting Missing p (block 2) refl refl refl, λ i. refl) refl
-      (λ idle. asked_already idle) (λ e f c may. none c (is_one dig b infohash (at_first dig b) Waiting Waiting Missing Missing p c may.missing) may) (omega arith)
-    where
-      none : (c : BlockId) → IsOne Waiting Waiting Missing c Missing → ¬ IsOpen (engine dig b infohash (at_first dig b) Waiting Waiting Missing (asked_peer asked_key (block 2 ∷ []) 32768)) (asked_peer asked_key (block 2 ∷ []) 32768) c
-      none c (first e f) may = absurd cc
-      none c (second e f) may = absurd cc
-      none c (third e f) may = not_open dig b infohash _ _ _ _ (asked_peer asked_key (block 2 ∷ []) 32768) c (0, omega arith, sym e) may
 
   -- nothing is missing, so nothing is of interest
   none_missing : (p : PeerState) → ¬ IsInteresting (engine dig b infohash (at_first dig b) Waiting Waiting Waiting p) p
@@ -77,7 +109,7 @@ module _ (dig : List ℕ → List ℕ) (b : ThreeBlocks) (wrong : List ℕ) (inf
       never (second e f) = absurd cc
       never (third e f) = absurd cc
 
-  abbrev idle_peer : Stream → HashState → PeerState
+  abbrev pub idle_peer : Stream → HashState → PeerState
   idle_peer unread hash = peer_with unread false false true hash [] 49152
 
   after_third : FollowsUp dig (engine dig b infohash (at_first dig b) Waiting Waiting Waiting (asked_peer asked_key [] 49152)) 0 (to_first NotInterested ∷ []) (engine dig b infohash (at_first dig b) Waiting Waiting Waiting (idle_peer all_taken asked_key))
@@ -86,119 +118,168 @@ module _ (dig : List ℕ → List ℕ) (b : ThreeBlocks) (wrong : List ℕ) (inf
       quietly dig b infohash (at_first dig b) Waiting Waiting Waiting p (idle_peer all_taken asked_key) (to_first NotInterested ∷ []) refl (λ e. absurd cc, λ i. absurd (none_missing p i)) refl
       (λ idle. asked_already idle) (λ e f. absurd cc) (omega arith)
 
-  next_first : length b.first ≡ 16384 → StepNext dig (engine dig b infohash (at_first dig b) Missing Missing Missing (peer_with (stream (message_spelling (Piece 0 0 b.first)) true false) true false true asked_key all_three 0)) first_key ((0, bytes_written 0 b.first) ∷ [])
-      (Ok (Some (output_of [] (NowWaiting (block 0) ∷ [])))) (engine dig b infohash (at_first dig b) Waiting Missing Missing (asked_peer asked_key (block 1 ∷ block 2 ∷ []) 16384))
-  next_first size =
-      goes_on 0 (peer_with (stream (message_spelling (Piece 0 0 b.first)) true false) true false true asked_key all_three 0) (output_of [] (NowWaiting (block 0) ∷ [])) (record { here = refl; same_key = refl })
-      (record {
-        effect = noting (NowWaiting (block 0));
-        mid = engine dig b infohash (at_first dig b) Waiting Missing Missing (asked_peer asked_key (block 1 ∷ block 2 ∷ []) 16384);
-        sent = [];
-        takes = record {
-          event = message_event (Piece 0 0 b.first);
-          rest = all_taken;
-          takes = taken_message (Piece 0 0 b.first) (omega arith, omega arith) (piece_fits 0 b.first size);
-          handles = arrives (record {
-            block = block 0;
-            stored = engine dig b infohash (at_first dig b) Waiting Missing Missing (asked_peer asked_key all_three 0);
-            whole = subst (λ n. IsWholeBlock (three_torrent dig b infohash) 0 0 n (block 0)) (sym size) (whole_first dig b infohash);
-            asked = (0, omega arith, refl);
-            puts = record {
-              file = record { tree = 0; states = Missing ∷ Missing ∷ Missing ∷ [] };
-              tree = at_first dig b;
-              result = Ok PutWaiting;
-              is_file = record { here = refl; hung = refl };
-              due = (record { inside = omega arith; whole = size }, refl, first_unknown dig b);
-              made = refl;
-              has_effect = refl;
-              after = refl;
-            };
-            after = ap (λ n. engine dig b infohash (at_first dig b) Waiting Missing Missing (with_payload n (asked_peer asked_key (block 1 ∷ block 2 ∷ []) 0))) (sym size);
-          });
-        };
-        stays = refl;
-        follows = after_first;
-        send = refl;
-        close = refl;
-        notes = refl;
-      })
-      refl
+  -- ---- whichever way the three are asked
 
-  next_second : length b.second ≡ 16384 → StepNext dig (engine dig b infohash (at_first dig b) Waiting Missing Missing (peer_with (stream (message_spelling (Piece 0 16384 b.second)) true false) true false true asked_key (block 1 ∷ block 2 ∷ []) 16384)) first_key ((0, bytes_written 16384 b.second) ∷ [])
-      (Ok (Some (output_of [] (NowWaiting (block 1) ∷ [])))) (engine dig b infohash (at_first dig b) Waiting Waiting Missing (asked_peer asked_key (block 2 ∷ []) 32768))
-  next_second size =
-      goes_on 0 (peer_with (stream (message_spelling (Piece 0 16384 b.second)) true false) true false true asked_key (block 1 ∷ block 2 ∷ []) 16384) (output_of [] (NowWaiting (block 1) ∷ [])) (record { here = refl; same_key = refl })
-      (record {
-        effect = noting (NowWaiting (block 1));
-        mid = engine dig b infohash (at_first dig b) Waiting Waiting Missing (asked_peer asked_key (block 2 ∷ []) 32768);
-        sent = [];
-        takes = record {
-          event = message_event (Piece 0 16384 b.second);
-          rest = all_taken;
-          takes = taken_message (Piece 0 16384 b.second) (omega arith, omega arith) (piece_fits 16384 b.second size);
-          handles = arrives (record {
-            block = block 1;
-            stored = engine dig b infohash (at_first dig b) Waiting Waiting Missing (asked_peer asked_key (block 1 ∷ block 2 ∷ []) 16384);
-            whole = subst (λ n. IsWholeBlock (three_torrent dig b infohash) 0 16384 n (block 1)) (sym size) (whole_second dig b infohash);
-            asked = (0, omega arith, refl);
-            puts = record {
-              file = record { tree = 0; states = Waiting ∷ Missing ∷ Missing ∷ [] };
-              tree = at_first dig b;
-              result = Ok PutWaiting;
-              is_file = record { here = refl; hung = refl };
-              due = (record { inside = omega arith; whole = size }, refl, second_unknown dig b);
-              made = refl;
-              has_effect = refl;
-              after = refl;
-            };
-            after = ap (λ n. engine dig b infohash (at_first dig b) Waiting Waiting Missing (with_payload n (asked_peer asked_key (block 2 ∷ []) 16384))) (sym size);
-          });
-        };
-        stays = refl;
-        follows = after_second;
-        send = refl;
-        close = refl;
-        notes = refl;
-      })
-      refl
+  module _ (asked : List BlockId) (all : AreAsked asked) where
+    few_one : length (left_one asked) ≤ length asked
+    few_one = fewer (block 0) asked
 
-  next_third : length wrong ≡ 16384 → StepNext dig (engine dig b infohash (at_first dig b) Waiting Waiting Missing (peer_with (stream (message_spelling (Piece 0 32768 wrong)) true false) true false true asked_key (block 2 ∷ []) 32768)) first_key ((0, bytes_written 32768 wrong) ∷ [])
-      (Ok (Some (output_of (to_first NotInterested ∷ []) (NowWaiting (block 2) ∷ [])))) (engine dig b infohash (at_first dig b) Waiting Waiting Waiting (idle_peer all_taken asked_key))
-  next_third size =
-      goes_on 0 (peer_with (stream (message_spelling (Piece 0 32768 wrong)) true false) true false true asked_key (block 2 ∷ []) 32768) (output_of (to_first NotInterested ∷ []) (NowWaiting (block 2) ∷ [])) (record { here = refl; same_key = refl })
-      (record {
-        effect = noting (NowWaiting (block 2));
-        mid = engine dig b infohash (at_first dig b) Waiting Waiting Waiting (asked_peer asked_key [] 49152);
-        sent = (to_first NotInterested ∷ []);
-        takes = record {
-          event = message_event (Piece 0 32768 wrong);
-          rest = all_taken;
-          takes = taken_message (Piece 0 32768 wrong) (omega arith, omega arith) (piece_fits 32768 wrong size);
-          handles = arrives (record {
-            block = block 2;
-            stored = engine dig b infohash (at_first dig b) Waiting Waiting Waiting (asked_peer asked_key (block 2 ∷ []) 32768);
-            whole = subst (λ n. IsWholeBlock (three_torrent dig b infohash) 0 32768 n (block 2)) (sym size) (whole_third dig b infohash);
-            asked = (0, omega arith, refl);
-            puts = record {
-              file = record { tree = 0; states = Waiting ∷ Waiting ∷ Missing ∷ [] };
-              tree = at_first dig b;
-              result = Ok PutWaiting;
-              is_file = record { here = refl; hung = refl };
-              due = (record { inside = omega arith; whole = size }, refl, third_unknown dig b);
-              made = refl;
-              has_effect = refl;
-              after = refl;
-            };
-            after = ap (λ n. engine dig b infohash (at_first dig b) Waiting Waiting Waiting (with_payload n (asked_peer asked_key [] 32768))) (sym size);
-          });
-        };
-        stays = refl;
-        follows = after_third;
-        send = refl;
-        close = refl;
-        notes = refl;
-      })
-      refl
+    few_two : length (left_two asked) ≤ length (left_one asked)
+    few_two = fewer (block 1) (left_one asked)
+
+    second_left : Contains (left_one asked) (block 1)
+    second_left = stays_asked (block 0) (block 1) asked refl (all.each (block 1) (1, omega arith, refl))
+
+    third_left : Contains (left_one asked) (block 2)
+    third_left = stays_asked (block 0) (block 2) asked refl (all.each (block 2) (2, omega arith, refl))
+
+    third_last : Contains (left_two asked) (block 2)
+    third_last = stays_asked (block 1) (block 2) (left_one asked) refl third_left
+
+    none_left : without_block (block 2) (left_two asked) ≡ []
+    none_left = none_within (without_block (block 2) (left_two asked)) (λ c among. (
+        let x = contains_filter (λ d. not (is_block (block 2) d)) (left_two asked) c among in
+        let y = contains_filter (λ d. not (is_block (block 1) d)) (left_one asked) c x.0 in
+        let z = contains_filter (λ d. not (is_block (block 0) d)) asked c y.0 in
+        no_other c (all.among c z.0) z.1 y.1 x.1
+        ))
+
+    after_first : FollowsUp dig (engine dig b infohash (at_first dig b) Waiting Missing Missing (asked_peer asked_key (left_one asked) 16384)) 0 [] (engine dig b infohash (at_first dig b) Waiting Missing Missing (asked_peer asked_key (left_one asked) 16384))
+    after_first =
+        let p = asked_peer asked_key (left_one asked) 16384 in
+        quietly dig b infohash (at_first dig b) Waiting Missing Missing p p [] refl (λ e. interesting dig b infohash (at_first dig b) Waiting Missing Missing p (block 1) refl refl refl, λ i. refl) refl
+        (λ idle. asked_already idle) (λ e f c may. none c (is_one dig b infohash (at_first dig b) Waiting Missing Missing Missing p c may.missing) may) (omega (arith, few_one, all.few))
+      where
+        none : (c : BlockId) → IsOne Waiting Missing Missing c Missing → ¬ IsOpen (engine dig b infohash (at_first dig b) Waiting Missing Missing (asked_peer asked_key (left_one asked) 16384)) (asked_peer asked_key (left_one asked) 16384) c
+        none c (first e f) may = absurd cc
+        none c (second e f) may = not_open dig b infohash _ _ _ _ (asked_peer asked_key (left_one asked) 16384) c (subst (λ d. Contains (left_one asked) d) (sym e) second_left) may
+        none c (third e f) may = not_open dig b infohash _ _ _ _ (asked_peer asked_key (left_one asked) 16384) c (subst (λ d. Contains (left_one asked) d) (sym e) third_left) may
+
+    after_second : FollowsUp dig (engine dig b infohash (at_first dig b) Waiting Waiting Missing (asked_peer asked_key (left_two asked) 32768)) 0 [] (engine dig b infohash (at_first dig b) Waiting Waiting Missing (asked_peer asked_key (left_two asked) 32768))
+    after_second =
+        let p = asked_peer asked_key (left_two asked) 32768 in
+        quietly dig b infohash (at_first dig b) Waiting Waiting Missing p p [] refl (λ e. interesting dig b infohash (at_first dig b) Waiting Waiting Missing p (block 2) refl refl refl, λ i. refl) refl
+        (λ idle. asked_already idle) (λ e f c may. none c (is_one dig b infohash (at_first dig b) Waiting Waiting Missing Missing p c may.missing) may) (omega (arith, few_one, few_two, all.few))
+      where
+        none : (c : BlockId) → IsOne Waiting Waiting Missing c Missing → ¬ IsOpen (engine dig b infohash (at_first dig b) Waiting Waiting Missing (asked_peer asked_key (left_two asked) 32768)) (asked_peer asked_key (left_two asked) 32768) c
+        none c (first e f) may = absurd cc
+        none c (second e f) may = absurd cc
+        none c (third e f) may = not_open dig b infohash _ _ _ _ (asked_peer asked_key (left_two asked) 32768) c (subst (λ d. Contains (left_two asked) d) (sym e) third_last) may
+
+    next_first : length b.first ≡ 16384 → StepNext dig (engine dig b infohash (at_first dig b) Missing Missing Missing (peer_with (stream (message_spelling (Piece 0 0 b.first)) true false) true false true asked_key asked 0)) first_key ((0, bytes_written 0 b.first) ∷ [])
+        (Ok (Some (output_of [] (NowWaiting (block 0) ∷ [])))) (engine dig b infohash (at_first dig b) Waiting Missing Missing (asked_peer asked_key (left_one asked) 16384))
+    next_first size =
+        goes_on 0 (peer_with (stream (message_spelling (Piece 0 0 b.first)) true false) true false true asked_key asked 0) (output_of [] (NowWaiting (block 0) ∷ [])) (record { here = refl; same_key = refl })
+        (record {
+          effect = noting (NowWaiting (block 0));
+          mid = engine dig b infohash (at_first dig b) Waiting Missing Missing (asked_peer asked_key (left_one asked) 16384);
+          sent = [];
+          takes = record {
+            event = message_event (Piece 0 0 b.first);
+            rest = all_taken;
+            takes = taken_message (Piece 0 0 b.first) (omega arith, omega arith) (piece_fits 0 b.first size);
+            handles = arrives (record {
+              block = block 0;
+              stored = engine dig b infohash (at_first dig b) Waiting Missing Missing (asked_peer asked_key asked 0);
+              whole = subst (λ n. IsWholeBlock (three_torrent dig b infohash) 0 0 n (block 0)) (sym size) (whole_first dig b infohash);
+              asked = all.each (block 0) (0, omega arith, refl);
+              puts = record {
+                file = record { tree = 0; states = Missing ∷ Missing ∷ Missing ∷ [] };
+                tree = at_first dig b;
+                result = Ok PutWaiting;
+                is_file = record { here = refl; hung = refl };
+                due = (record { inside = omega arith; whole = size }, refl, first_unknown dig b);
+                made = refl;
+                has_effect = refl;
+                after = refl;
+              };
+              after = ap (λ n. engine dig b infohash (at_first dig b) Waiting Missing Missing (with_payload n (asked_peer asked_key (left_one asked) 0))) (sym size);
+            });
+          };
+          stays = refl;
+          follows = after_first;
+          send = refl;
+          close = refl;
+          notes = refl;
+        })
+        refl
+
+    next_second : length b.second ≡ 16384 → StepNext dig (engine dig b infohash (at_first dig b) Waiting Missing Missing (peer_with (stream (message_spelling (Piece 0 16384 b.second)) true false) true false true asked_key (left_one asked) 16384)) first_key ((0, bytes_written 16384 b.second) ∷ [])
+        (Ok (Some (output_of [] (NowWaiting (block 1) ∷ [])))) (engine dig b infohash (at_first dig b) Waiting Waiting Missing (asked_peer asked_key (left_two asked) 32768))
+    next_second size =
+        goes_on 0 (peer_with (stream (message_spelling (Piece 0 16384 b.second)) true false) true false true asked_key (left_one asked) 16384) (output_of [] (NowWaiting (block 1) ∷ [])) (record { here = refl; same_key = refl })
+        (record {
+          effect = noting (NowWaiting (block 1));
+          mid = engine dig b infohash (at_first dig b) Waiting Waiting Missing (asked_peer asked_key (left_two asked) 32768);
+          sent = [];
+          takes = record {
+            event = message_event (Piece 0 16384 b.second);
+            rest = all_taken;
+            takes = taken_message (Piece 0 16384 b.second) (omega arith, omega arith) (piece_fits 16384 b.second size);
+            handles = arrives (record {
+              block = block 1;
+              stored = engine dig b infohash (at_first dig b) Waiting Waiting Missing (asked_peer asked_key (left_one asked) 16384);
+              whole = subst (λ n. IsWholeBlock (three_torrent dig b infohash) 0 16384 n (block 1)) (sym size) (whole_second dig b infohash);
+              asked = second_left;
+              puts = record {
+                file = record { tree = 0; states = Waiting ∷ Missing ∷ Missing ∷ [] };
+                tree = at_first dig b;
+                result = Ok PutWaiting;
+                is_file = record { here = refl; hung = refl };
+                due = (record { inside = omega arith; whole = size }, refl, second_unknown dig b);
+                made = refl;
+                has_effect = refl;
+                after = refl;
+              };
+              after = ap (λ n. engine dig b infohash (at_first dig b) Waiting Waiting Missing (with_payload n (asked_peer asked_key (left_two asked) 16384))) (sym size);
+            });
+          };
+          stays = refl;
+          follows = after_second;
+          send = refl;
+          close = refl;
+          notes = refl;
+        })
+        refl
+
+    next_third : length wrong ≡ 16384 → StepNext dig (engine dig b infohash (at_first dig b) Waiting Waiting Missing (peer_with (stream (message_spelling (Piece 0 32768 wrong)) true false) true false true asked_key (left_two asked) 32768)) first_key ((0, bytes_written 32768 wrong) ∷ [])
+        (Ok (Some (output_of (to_first NotInterested ∷ []) (NowWaiting (block 2) ∷ [])))) (engine dig b infohash (at_first dig b) Waiting Waiting Waiting (idle_peer all_taken asked_key))
+    next_third size =
+        goes_on 0 (peer_with (stream (message_spelling (Piece 0 32768 wrong)) true false) true false true asked_key (left_two asked) 32768) (output_of (to_first NotInterested ∷ []) (NowWaiting (block 2) ∷ [])) (record { here = refl; same_key = refl })
+        (record {
+          effect = noting (NowWaiting (block 2));
+          mid = engine dig b infohash (at_first dig b) Waiting Waiting Waiting (asked_peer asked_key [] 49152);
+          sent = (to_first NotInterested ∷ []);
+          takes = record {
+            event = message_event (Piece 0 32768 wrong);
+            rest = all_taken;
+            takes = taken_message (Piece 0 32768 wrong) (omega arith, omega arith) (piece_fits 32768 wrong size);
+            handles = arrives (record {
+              block = block 2;
+              stored = engine dig b infohash (at_first dig b) Waiting Waiting Waiting (asked_peer asked_key (left_two asked) 32768);
+              whole = subst (λ n. IsWholeBlock (three_torrent dig b infohash) 0 32768 n (block 2)) (sym size) (whole_third dig b infohash);
+              asked = third_last;
+              puts = record {
+                file = record { tree = 0; states = Waiting ∷ Waiting ∷ Missing ∷ [] };
+                tree = at_first dig b;
+                result = Ok PutWaiting;
+                is_file = record { here = refl; hung = refl };
+                due = (record { inside = omega arith; whole = size }, refl, third_unknown dig b);
+                made = refl;
+                has_effect = refl;
+                after = refl;
+              };
+              after = ap (λ l. engine dig b infohash (at_first dig b) Waiting Waiting Waiting (asked_peer asked_key l 49152)) (sym none_left)
+                  ∙ ap (λ n. engine dig b infohash (at_first dig b) Waiting Waiting Waiting (with_payload n (asked_peer asked_key (without_block (block 2) (left_two asked)) 32768))) (sym size);
+            });
+          };
+          stays = refl;
+          follows = after_third;
+          send = refl;
+          close = refl;
+          notes = refl;
+        })
+        refl
 
   -- ---- they are read back
 
@@ -234,10 +315,10 @@ module _ (dig : List ℕ → List ℕ) (b : ThreeBlocks) (wrong : List ℕ) (inf
   judged_so : AreWhole b → IsWrongThird dig b wrong → judged_file dig (proved dig b) read_back waiting_file ≡ record { tree = 0; states = Marked ∷ Marked ∷ Missing ∷ [] }
   judged_so whole other = rw (first_right whole, second_right whole, third_wrong other) refl
 
-  abbrev settled : PeerState → EngineState
+  abbrev pub settled : PeerState → EngineState
   settled p = engine dig b infohash (proved dig b) Marked Marked Missing p
 
-  only_third : (p : PeerState) (c : BlockId) → IsOne Marked Marked Missing c Missing → Contains (block 2 ∷ []) c
+  pub only_third : (p : PeerState) (c : BlockId) → IsOne Marked Marked Missing c Missing → Contains (block 2 ∷ []) c
   only_third p c (first e f) = absurd cc
   only_third p c (second e f) = absurd cc
   only_third p c (third e f) = (0, omega arith, sym e)
@@ -344,12 +425,21 @@ module _ (dig : List ℕ → List ℕ) (b : ThreeBlocks) (wrong : List ℕ) (inf
 
   -- ---- the runs
 
-  abbrev first_state : BlockState → BlockState → BlockState → PeerState → EngineState
+  abbrev pub first_state : BlockState → BlockState → BlockState → PeerState → EngineState
   first_state x y z p = engine dig b infohash (at_first dig b) x y z p
 
-  waits : AreWhole b → IsWrongThird dig b wrong → length infohash ≡ 32
-      → Run dig (start dig b infohash) (waiting_events b wrong infohash) (waiting_calls b wrong) (waiting_answers dig b infohash) (first_state Waiting Waiting Waiting (idle_peer all_taken asked_key))
-  waits whole other size = (
+  abbrev pub before_unchoke : EngineState
+  before_unchoke = first_state Missing Missing Missing (peer_with (stream unchoke_bytes true false) true true true asked_key [] 0)
+
+  -- until it chokes no longer
+  abbrev pub begin_events : List Event
+  begin_events = Connect ∷ told (handshake_spelling (their_handshake infohash)) (told bitfield_bytes (Feed first_key unchoke_bytes ∷ []))
+
+  abbrev pub begin_answers : List Answer
+  begin_answers = joined_answer infohash ∷ fed_answer ∷ taken_answer [] [] ∷ fed_answer ∷ taken_answer (to_first Interested ∷ to_first (HashRequest (leaves_key dig b)) ∷ []) [] ∷ fed_answer ∷ []
+
+  pub begins : length infohash ≡ 32 → Run dig (start dig b infohash) begin_events ([] ∷ [] ∷ [] ∷ [] ∷ [] ∷ [] ∷ []) begin_answers before_unchoke
+  begins size = (
     first_state Missing Missing Missing (peer_with (stream [] false false) false true false Idle [] 0),
     (_, refl, refl, connects dig b infohash),
     (
@@ -365,37 +455,9 @@ module _ (dig : List ℕ → List ℕ) (b : ThreeBlocks) (wrong : List ℕ) (inf
             first_state Missing Missing Missing (peer_with all_taken true true true asked_key [] 0),
             (_, refl, next_bits dig b infohash),
             (
-              first_state Missing Missing Missing (peer_with (stream unchoke_bytes true false) true true true asked_key [] 0),
+              before_unchoke,
               (_, refl, refl, fed_to dig b infohash (at_first dig b) Missing Missing Missing (peer_with all_taken true true true asked_key [] 0) unchoke_bytes refl refl),
-              (
-                first_state Missing Missing Missing (asked_peer asked_key all_three 0),
-                (_, refl, next_unchoke dig b infohash (at_first dig b) asked_key (λ idle. asked_already idle)),
-                (
-                  first_state Missing Missing Missing (peer_with (stream (message_spelling (Piece 0 0 b.first)) true false) true false true asked_key all_three 0),
-                  (_, refl, refl, fed_to dig b infohash (at_first dig b) Missing Missing Missing (asked_peer asked_key all_three 0) (message_spelling (Piece 0 0 b.first)) refl refl),
-                  (
-                    first_state Waiting Missing Missing (asked_peer asked_key (block 1 ∷ block 2 ∷ []) 16384),
-                    (_, refl, next_first whole.first),
-                    (
-                      first_state Waiting Missing Missing (peer_with (stream (message_spelling (Piece 0 16384 b.second)) true false) true false true asked_key (block 1 ∷ block 2 ∷ []) 16384),
-                      (_, refl, refl, fed_to dig b infohash (at_first dig b) Waiting Missing Missing (asked_peer asked_key (block 1 ∷ block 2 ∷ []) 16384) (message_spelling (Piece 0 16384 b.second)) refl refl),
-                      (
-                        first_state Waiting Waiting Missing (asked_peer asked_key (block 2 ∷ []) 32768),
-                        (_, refl, next_second whole.second),
-                        (
-                          first_state Waiting Waiting Missing (peer_with (stream (message_spelling (Piece 0 32768 wrong)) true false) true false true asked_key (block 2 ∷ []) 32768),
-                          (_, refl, refl, fed_to dig b infohash (at_first dig b) Waiting Waiting Missing (asked_peer asked_key (block 2 ∷ []) 32768) (message_spelling (Piece 0 32768 wrong)) refl refl),
-                          (
-                            first_state Waiting Waiting Waiting (idle_peer all_taken asked_key),
-                            (_, refl, next_third other.whole),
-                            refl,
-                          ),
-                        ),
-                      ),
-                    ),
-                  ),
-                ),
-              ),
+              refl,
             ),
           ),
         ),
@@ -403,7 +465,56 @@ module _ (dig : List ℕ → List ℕ) (b : ThreeBlocks) (wrong : List ℕ) (inf
     ),
   )
 
-  settles : IsDigest dig → AreWhole b → IsWrongThird dig b wrong
+  -- the three pieces
+  abbrev pub piece_events : List Event
+  piece_events = told (message_spelling (Piece 0 0 b.first)) (told (message_spelling (Piece 0 16384 b.second)) (told (message_spelling (Piece 0 32768 wrong)) []))
+
+  abbrev pub piece_calls : List DeviceCalls
+  piece_calls = [] ∷ ((0, bytes_written 0 b.first) ∷ []) ∷ [] ∷ ((0, bytes_written 16384 b.second) ∷ []) ∷ [] ∷ ((0, bytes_written 32768 wrong) ∷ []) ∷ []
+
+  abbrev pub piece_answers : List Answer
+  piece_answers =
+      fed_answer ∷ taken_answer [] (NowWaiting (block 0) ∷ []) ∷ fed_answer ∷ taken_answer [] (NowWaiting (block 1) ∷ []) ∷ fed_answer ∷ taken_answer (to_first NotInterested ∷ []) (NowWaiting (block 2) ∷ []) ∷ []
+
+  abbrev pub all_wait : EngineState
+  all_wait = first_state Waiting Waiting Waiting (idle_peer all_taken asked_key)
+
+  pub pieces_wait : (asked : List BlockId) → AreAsked asked → AreWhole b → IsWrongThird dig b wrong → Run dig (first_state Missing Missing Missing (asked_peer asked_key asked 0)) piece_events piece_calls piece_answers all_wait
+  pieces_wait asked all whole other = (
+    first_state Missing Missing Missing (peer_with (stream (message_spelling (Piece 0 0 b.first)) true false) true false true asked_key asked 0),
+    (_, refl, refl, fed_to dig b infohash (at_first dig b) Missing Missing Missing (asked_peer asked_key asked 0) (message_spelling (Piece 0 0 b.first)) refl refl),
+    (
+      first_state Waiting Missing Missing (asked_peer asked_key (left_one asked) 16384),
+      (_, refl, next_first asked all whole.first),
+      (
+        first_state Waiting Missing Missing (peer_with (stream (message_spelling (Piece 0 16384 b.second)) true false) true false true asked_key (left_one asked) 16384),
+        (_, refl, refl, fed_to dig b infohash (at_first dig b) Waiting Missing Missing (asked_peer asked_key (left_one asked) 16384) (message_spelling (Piece 0 16384 b.second)) refl refl),
+        (
+          first_state Waiting Waiting Missing (asked_peer asked_key (left_two asked) 32768),
+          (_, refl, next_second asked all whole.second),
+          (
+            first_state Waiting Waiting Missing (peer_with (stream (message_spelling (Piece 0 32768 wrong)) true false) true false true asked_key (left_two asked) 32768),
+            (_, refl, refl, fed_to dig b infohash (at_first dig b) Waiting Waiting Missing (asked_peer asked_key (left_two asked) 32768) (message_spelling (Piece 0 32768 wrong)) refl refl),
+            (all_wait, (_, refl, next_third asked all other.whole), refl),
+          ),
+        ),
+      ),
+    ),
+  )
+
+  abbrev unchoke_answer : Answer
+  unchoke_answer = taken_answer (to_first (block_request 0) ∷ to_first (block_request 16384) ∷ to_first (block_request 32768) ∷ []) []
+
+  in_turn : AreAsked all_three
+  in_turn = record { few = omega arith; each = λ c among. among; among = λ c among. among }
+
+  waits : AreWhole b → IsWrongThird dig b wrong → length infohash ≡ 32 → Run dig (start dig b infohash) (waiting_events b wrong infohash) (waiting_calls b wrong) (waiting_answers dig b infohash) all_wait
+  waits whole other size =
+      let goes_on : Run dig before_unchoke (Next first_key ∷ piece_events) ([] ∷ piece_calls) (unchoke_answer ∷ piece_answers) all_wait
+      = (first_state Missing Missing Missing (asked_peer asked_key all_three 0), (_, refl, next_unchoke dig b infohash (at_first dig b) asked_key (λ idle. asked_already idle)), pieces_wait all_three in_turn whole other) in
+      run_join dig begin_events (Next first_key ∷ piece_events) ([] ∷ [] ∷ [] ∷ [] ∷ [] ∷ [] ∷ []) ([] ∷ piece_calls) begin_answers (unchoke_answer ∷ piece_answers) (start dig b infohash) before_unchoke all_wait (begins size) goes_on
+
+  pub settles : IsDigest dig → AreWhole b → IsWrongThird dig b wrong
       → Run dig (first_state Waiting Waiting Waiting (idle_peer all_taken asked_key)) (told (message_spelling (leaves_message dig b)) []) (settling_calls b wrong) settling_answers (settled (asked_peer Idle (block 2 ∷ []) 49152))
   settles sizes whole other = (
     first_state Waiting Waiting Waiting (idle_peer (stream (message_spelling (leaves_message dig b)) true false) asked_key),
@@ -414,7 +525,7 @@ module _ (dig : List ℕ → List ℕ) (b : ThreeBlocks) (wrong : List ℕ) (inf
 pub waiting_is_run : (dig : List ℕ → List ℕ) → IsDigest dig → WaitingFetchIsRun dig
 waiting_is_run dig sizes b wrong infohash whole other size = record {
   first = start dig b infohash;
-  mid = first_state dig b wrong infohash Waiting Waiting Waiting (idle_peer dig b wrong infohash all_taken (asked_key dig b wrong infohash));
+  mid = all_wait dig b wrong infohash;
   last = settled dig b wrong infohash (asked_peer Idle (block 2 ∷ []) 49152);
   starts = starts dig b infohash;
   waits = waits dig b wrong infohash whole other size;

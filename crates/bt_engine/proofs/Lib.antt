@@ -42,13 +42,19 @@ pub mod ExampleThreeBlocks
 pub mod ExampleWaiting
 pub mod ExampleServing
 pub mod ExampleHostile
+pub mod ExampleTwins
 -- what is left free
 pub mod DeterminedParts
 pub mod DeterminedEvents
 pub mod DeterminedFollow
+pub mod DeterminedAsks
 pub mod DeterminedNext
 pub mod DeterminedPeers
 pub mod DeterminedAdopt
 pub mod Determined
+-- worked examples that are forced
+pub mod Runs
+pub mod ForcedOneBlock
+pub mod ForcedWaiting
 -- marks that go
 pub mod Unmarks

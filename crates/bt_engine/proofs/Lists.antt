@@ -6,11 +6,17 @@ use Rattle.std.specs.List.{range_with_len}
 use Rattle.std.proofs.lemmas.List.FromFn.{length-range_with_len, get_or-range_with_len}
 use Rattle.std.proofs.lemmas.List.Elements.{Contains-append_left, Contains-append_right, Contains-append_cases}
 
+pub heads : {X : Type 0} {x y : X} {xs ys : List X} → x ∷ xs ≡ y ∷ ys → x ≡ y
+heads e = cc
+
+pub tails : {X : Type 0} {x y : X} {xs ys : List X} → x ∷ xs ≡ y ∷ ys → xs ≡ ys
+tails e = cc
+
+pub some_is : {X : Type 0} (x y : X) → Some x ≡ Some y → x ≡ y
+some_is x y e = cc
+
 pub same_some : {X : Type 0} (o : Option X) (x y : X) → o ≡ Some x → o ≡ Some y → x ≡ y
 same_some o x y e f = some_is x y (sym e ∙ f)
-  where
-    some_is : {X : Type 0} (x y : X) → Some x ≡ Some y → x ≡ y
-    some_is x y e = cc
 
 -- what stands there is the one that was set, or stood there before
 pub set_cases : {X : Type 0} (xs : List X) (i j : ℕ) (x y : X) → slice_get (slice_set xs i x) j ≡ Some y → ((j ≡ i) × (y ≡ x)) ⊎ (slice_get xs j ≡ Some y)
@@ -130,3 +136,14 @@ set_get (z ∷ xs) zero zero y x e = inl (refl, refl)
 set_get (z ∷ xs) zero (suc j) y x e = inr e
 set_get (z ∷ xs) (suc i) zero y x e = inr e
 set_get (z ∷ xs) (suc i) (suc j) y x e = elim (set_get xs i j y x e) [ inl now ↦ inl (ap (λ n. suc n) now.0, now.1) | inr old ↦ inr old ]
+
+pub get_map : {X Y : Type 0} (f : X → Y) (xs : List X) (j : ℕ) (y : Y) → slice_get (map f xs) j ≡ Some y → (x : X) × (slice_get xs j ≡ Some x) × (f x ≡ y)
+get_map f [] zero y e = absurd cc
+get_map f [] (suc j) y e = absurd cc
+get_map f (x ∷ xs) zero y e = (x, refl, same_some (Some (f x)) (f x) y refl e)
+get_map f (x ∷ xs) (suc j) y e = get_map f xs j y e
+
+pub set_id : {X : Type 0} (xs : List X) (i : ℕ) (x : X) → slice_get xs i ≡ Some x → slice_set xs i x ≡ xs
+set_id [] i x e = refl
+set_id (y ∷ xs) zero x e = ap (λ z. z ∷ xs) (sym (same_some (Some y) y x refl e))
+set_id (y ∷ xs) (suc i) x e = ap (λ ys. y ∷ ys) (set_id xs i x e)

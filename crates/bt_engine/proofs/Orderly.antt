@@ -48,7 +48,7 @@ use Rattle.bt_engine.specs.Adopting.{AdoptsGroups, StepAdopt, no_file, busy, emp
 use Rattle.bt_engine.specs.Flush.{StepFlush, syncs, fails}
 use Rattle.bt_engine.specs.Step.{Answer, Run}
 use Rattle.bt_engine.specs.Orderly.{IsOrderlyPeer, IsOrderly, AskedApart, StepKeepsOrder, RunsAreOrderly}
-use Rattle.bt_engine.proofs.Lists.{same_some, set_other, set_same, and_then_some, and_true, contains_none, contains_cases, contains_filter, contains_map, here, later}
+use Rattle.bt_engine.proofs.Lists.{same_some, set_id, set_other, set_same, and_then_some, and_true, contains_none, contains_cases, contains_filter, contains_map, here, later}
 use Rattle.bt_engine.proofs.Marks.{state_is, meant_then}
 use Rattle.bt_engine.proofs.Pairs.{Pairs, to_pairs, from_pairs, contains_some, pairs_at, contains_set, pairs_set, contains_without, pairs_without, length-without, pairs_append, pairs_map}
 
@@ -60,11 +60,6 @@ KeepsMissing s m = (b : BlockId) → state_at s b ≡ Some Missing → state_at 
 
 none_apart : (R : BlockId → BlockId → Type 0) → AllPairs R []
 none_apart R i j d lt within = absurd (omega (arith, within))
-
-set_id : {X : Type 0} (xs : List X) (i : ℕ) (x : X) → slice_get xs i ≡ Some x → slice_set xs i x ≡ xs
-set_id [] i x e = refl
-set_id (y ∷ xs) zero x e = ap (λ z. z ∷ xs) (sym (same_some (Some y) y x refl e))
-set_id (y ∷ xs) (suc i) x e = ap (λ ys. y ∷ ys) (set_id xs i x e)
 
 -- what is asked of two peers is apart
 two_apart : (peers : List PeerState) (i j : ℕ) (p q : PeerState) (b : BlockId) → Pairs AskedApart peers → slice_get peers i ≡ Some p → slice_get peers j ≡ Some q → j ≢ i → Contains p.asked b → Contains q.asked b → ⊥

@@ -5,6 +5,7 @@ use Rattle.std.specs.List.{AllPairs}
 use Rattle.std.proofs.lemmas.List.{length-set, length-map, length-replicate, append-nil, get_or-map}
 use Rattle.bt_tree.specs.Blocks.{block_count}
 use Rattle.bt_meta.specs.Files.{File}
+use Rattle.bt_meta.specs.Torrent.{Metainfo}
 use Rattle.bt_sparse.specs.SparseTree.{Facts}
 use Rattle.bt_hashreq.specs.declared.key.HashKey.{HashKey}
 use Rattle.bt_store.specs.BlockReads.{BlockRead, given, failed, judged}
@@ -37,9 +38,9 @@ use Rattle.bt_engine.specs.Peers.{StepConnect, joins, full, spent, no_memory as 
 use Rattle.bt_engine.specs.Rechoke.{rechoked, FollowsEach, StepRechoke, rechokes, no_memory as not_rechoked}
 use Rattle.bt_engine.specs.Adopting.{AdoptsGroup, AdoptsGroups, is_other, StepAdopt, no_file, busy, empty, adopts, no_memory as not_adopted}
 use Rattle.bt_engine.specs.Flush.{StepFlush, syncs, fails}
-use Rattle.bt_engine.specs.Start.{IsNewFile}
+use Rattle.bt_engine.specs.Start.{Starts}
 use Rattle.bt_engine.specs.Step.{Answer, Step, Run}
-use Rattle.bt_engine.specs.Shape.{HasShapeOf, RunsKeepShape}
+use Rattle.bt_engine.specs.Shape.{IsShaped, HasShapeOf, RunsKeepShape}
 use Rattle.bt_engine.proofs.Lists.{same_some, set_get, set_cases, map_some}
 use Rattle.bt_engine.proofs.Adopting.{group_extends}
 
@@ -365,29 +366,43 @@ module _ (dig : List ℕ → List ℕ) where
       let at : (n : ℕ) → n < length ys → (get_or xs n d).root ≡ (get_or ys n d).root = λ n below. sym (root_at xs n d (omega (arith, below, size))) ∙ ap (λ rs. get_or rs n d.root) (sym same) ∙ root_at ys n d below in
       apart i j d lt (omega (arith, within, size)) (at i (omega (arith, lt, within)) ∙ e ∙ sym (at j within))
 
-  file_shape : (file : File) (trees : List Facts) (m : EngineState) (f : FileState) (before : FileState) → IsNewFile file trees before → f.tree ≡ before.tree → length f.states ≡ length before.states
+  file_shape : (file : File) (trees : List Facts) (m : EngineState) (f : FileState) (before : FileState) → HasShapeOf file trees before → f.tree ≡ before.tree → length f.states ≡ length before.states
       → ((t : ℕ) (k : Facts) → slice_get trees t ≡ Some k → SameTree m.trees t k) → HasShapeOf file m.trees f
-  file_shape file trees m f before new tree blocks keep = record {
-    blocks = blocks ∙ ap length new.missing ∙ length-replicate (block_count file.length) Missing;
+  file_shape file trees m f before old tree blocks keep = record {
+    blocks = blocks ∙ old.blocks;
     hung = λ some. (
-        let k = new.hung some in
+        let k = old.hung some in
         let l = keep before.tree k.0 k.1 in
         (l.after, ap (slice_get m.trees) tree ∙ l.here, l.root ∙ k.2, l.length ∙ k.3)
         );
   }
 
+  shape_after : (torrent : Metainfo) (s new : EngineState) → IsShaped torrent s → Keeps s new → IsShaped torrent new
+  shape_after torrent s new shaped k = record {
+    same = k.torrent ∙ shaped.same;
+    roots = roots_apart s.trees new.trees k.roots shaped.roots;
+    count = k.count ∙ shaped.count;
+    each = λ i file f listed at. (let g = k.files i f at in file_shape file s.trees new f g.before (shaped.each i file g.before listed g.here) g.tree g.blocks k.trees);
+  }
+
+  pub shape_at_first : (torrent : Metainfo) (first : EngineState) → Starts dig torrent first → IsShaped torrent first
+  shape_at_first torrent first starts = record {
+    same = ap (λ z. z.torrent) starts.is;
+    roots = starts.is_new.roots;
+    count = starts.is_new.count;
+    each = λ i file f listed at. (
+        let new = starts.is_new.each_file i file f listed at in
+        record { blocks = ap length new.missing ∙ length-replicate (block_count file.length) Missing; hung = new.hung }
+        );
+  }
+
+  pub step_shape : (torrent : Metainfo) (s new : EngineState) (e : Event) (calls : DeviceCalls) (a : Answer) → IsShaped torrent s → Step dig s e calls a new → IsShaped torrent new
+  step_shape torrent s new e calls a shaped t = shape_after torrent s new shaped (step_keeps s new e calls a t)
+
   pub shape_kept : RunsKeepShape dig
   shape_kept torrent first last events calls answers starts run =
       let k = run_keeps first last events calls answers run in (
-        record {
-          same = k.torrent ∙ ap (λ z. z.torrent) starts.is;
-          roots = roots_apart first.trees last.trees k.roots starts.is_new.roots;
-          count = k.count ∙ starts.is_new.count;
-          each = λ i file f listed at. (
-              let g = k.files i f at in
-              file_shape file first.trees last f g.before (starts.is_new.each_file i file g.before listed g.here) g.tree g.blocks k.trees
-              );
-        },
+        shape_after torrent first last (shape_at_first torrent first starts) k,
         record {
           none = k.logged ∙ ap (λ z. z.logged) starts.is;
           read = k.hints ∙ ap (λ z. z.hints) starts.is;

@@ -112,10 +112,10 @@ torn n i j old new (x ∷ bytes) apart size whole (inr t) = ap (λ h. stored_blo
 apart_by : Some Missing ≡ Some Marked → ⊥
 apart_by e = absurd cc
 
-no_write : {at n to : ℕ} {xs ys : List ℕ} → bytes_given at n xs ≡ bytes_written to ys → ⊥
+pub no_write : {at n to : ℕ} {xs ys : List ℕ} → bytes_given at n xs ≡ bytes_written to ys → ⊥
 no_write e = absurd cc
 
-no_fault : {at n to : ℕ} {xs ys : List ℕ} → bytes_given at n xs ≡ write_fault to ys → ⊥
+pub no_fault : {at n to : ℕ} {xs ys : List ℕ} → bytes_given at n xs ≡ write_fault to ys → ⊥
 no_fault e = absurd cc
 
 -- the calls of a step leave a marked block of a file as it is

@@ -1,16 +1,14 @@
 -- How a block ceases to be marked.
-use Rattle.std.proofs.Common.{◌≡◌, ◌≢◌, ℕ, zero, suc, ◌+◌, ◌⊎◌, inl, inr, Bool, true, false, List, [], ◌∷◌, ◌++◌, length, map, Option, Some, refl, sym, ap, ◌∙◌, subst}
-use Rattle.std.specs.Prelude.{slice_get, slice_set, option_map, Contains, flat_map, ◌==◌, ◌&&◌, if◌then◌else◌, Result, Ok, Err}
+use Rattle.std.proofs.Common.{◌≡◌, ◌≢◌, ℕ, zero, suc, ◌+◌, ◌⊎◌, inl, inr, Bool, true, false, List, [], ◌∷◌, ◌++◌, map, Option, Some, refl, sym, ap, ◌∙◌, subst}
+use Rattle.std.specs.Prelude.{slice_get, slice_set, option_map, Contains, flat_map, ◌==◌, if◌then◌else◌, Result, Ok, Err}
 use Rattle.std.specs.Option.{option_and_then}
 use Rattle.std.proofs.lemmas.Bool.{eqb-true, eq-eqb}
-use Rattle.std.proofs.lemmas.Cmp.{nat_list_eq_equiv}
 use Rattle.std.proofs.lemmas.List.Elements.{Contains-append_left, Contains-append_right}
-use Rattle.bt_tree.specs.Blocks.{block_length}
 use Rattle.bt_disk.specs.History.{History}
-use Rattle.bt_disk.specs.Calls.{Call, bytes_given, bytes_written, write_fault, AreAnswered}
-use Rattle.bt_sparse.specs.SparseTree.{Facts, value_at}
+use Rattle.bt_disk.specs.Calls.{Call, AreAnswered}
+use Rattle.bt_sparse.specs.SparseTree.{Facts}
 use Rattle.bt_hashreq.specs.declared.key.HashKey.{HashKey}
-use Rattle.bt_store.specs.BlockReads.{BlockRead, given, failed, block_of, call_of, is_leaf, is_right, judged, IsRight}
+use Rattle.bt_store.specs.BlockReads.{BlockRead, given, failed, block_of, call_of, is_right, judged, IsRight}
 use Rattle.bt_store.specs.Adoption.{marked_run, Adopts, none, known, accepted, refused as not_accepted, short, unread}
 use Rattle.bt_store.specs.Arrival.{PutIsDue, states_after_put}
 use Rattle.bt_store.specs.declared.block_states.BlockState.{BlockState}
@@ -47,21 +45,13 @@ use Rattle.bt_engine.specs.Sound.{RunOn}
 use Rattle.bt_engine.specs.Unmarks.{IsFoundWrong, StepUnmarksByBytes, StepKeepsMarks, RunKeepsMarks}
 use Rattle.bt_engine.proofs.Lists.{same_some, set_get, set_other, set_same, and_then_some, contains_none, contains_cases, here, later, map_contains}
 use Rattle.bt_engine.proofs.Marks.{state_is, meant_then}
+use Rattle.bt_engine.proofs.AnswerMarks.{right_true}
 use Rattle.bt_engine.proofs.Orderly.{judged_other}
 use Rattle.bt_engine.proofs.Adopting.{right_in, group_forward}
 use Rattle.bt_engine.proofs.Tame.{Touches, keeping, putting, step_tame}
-use Rattle.bt_engine.proofs.Sound.{calls_keep, of_all, among_file, step_sound}
+use Rattle.bt_engine.proofs.Sound.{no_write, no_fault, calls_keep, of_all, among_file, step_sound}
 
 -- ---- states
-
-right_true : (dig : List ℕ → List ℕ) (k : Facts) (i : ℕ) (bytes : List ℕ) → IsRight dig k i bytes → is_right dig k i bytes ≡ true
-right_true dig k i bytes r =
-    both (length bytes == block_length k.file_length i) (is_leaf (value_at dig k 0 i) (dig bytes)) (eq-eqb _ _ r.whole) (ap (λ o. is_leaf o (dig bytes)) r.leaf ∙ nat_list_eq_equiv.refl (dig bytes))
-  where
-    both : (x y : Bool) → x ≡ true → y ≡ true → (x && y) ≡ true
-    both true true e f = refl
-    both true false e f = f
-    both false y e f = e
 
 -- a read of the block gave bytes that are not right
 abbrev GaveWrong : (List ℕ → List ℕ) → Facts → List BlockRead → ℕ → Type 0
@@ -353,12 +343,6 @@ pub step_unmarks : (dig : List ℕ → List ℕ) → StepUnmarksByBytes dig
 step_unmarks dig s new e calls a step b before after = elim (step_stays dig b s new e calls a step before) [ inl kept ↦ absurd (after kept) | inr w ↦ w ]
 
 -- ---- on an honest device
-
-no_write : {at n to : ℕ} {xs ys : List ℕ} → bytes_given at n xs ≡ bytes_written to ys → ⊥
-no_write e = absurd cc
-
-no_fault : {at n to : ℕ} {xs ys : List ℕ} → bytes_given at n xs ≡ write_fault to ys → ⊥
-no_fault e = absurd cc
 
 module _ {D : Type 0} (history : D → History) (honest : D → Type 0) (faults : D → ℕ) (dig : List ℕ → List ℕ) where
   -- what an honest device gave stands there

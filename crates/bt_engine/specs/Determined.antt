@@ -1,6 +1,8 @@
 -- What is left to an engine: which blocks it requests, and nothing else.
-use Rattle.std.specs.Prelude.{◌≡◌, Bool, true, false, not, ℕ, List, [], map, filter, Some, None, Ok, Err}
+use Rattle.std.specs.Prelude.{◌≡◌, ◌⊎◌, Bool, true, false, not, ℕ, List, [], map, filter, Some, None, Ok, Err, All}
 use Rattle.bt_meta.specs.Torrent.{Metainfo, IsLawful}
+use Rattle.bt_store.specs.declared.block_states.BlockState.TheVariants.{Missing}
+use Rattle.bt_book.specs.declared.names.BlockId.{BlockId}
 use Rattle.bt_wire.specs.declared.message.Message.TheVariants.{Request}
 use Rattle.bt_engine.specs.declared.answer.Frame.{Frame}
 use Rattle.bt_engine.specs.declared.answer.Frame.TheVariants.{Message as message_frame}
@@ -10,9 +12,11 @@ use Rattle.bt_engine.specs.declared.error.AdoptError.TheVariants.{OutOfMemory as
 use Rattle.bt_engine.specs.declared.event.Event.{Event}
 use Rattle.bt_engine.specs.State.{PeerState, EngineState}
 use Rattle.bt_engine.specs.Devices.{DeviceCalls}
+use Rattle.bt_engine.specs.Blocks.{state_at}
 use Rattle.bt_engine.specs.Output.{Sent, Output}
 use Rattle.bt_engine.specs.Start.{Starts}
 use Rattle.bt_engine.specs.Step.{Answer, of_connect, of_feed, of_next, of_rechoke, of_adopt, Step, Run}
+use Rattle.bt_engine.specs.Law.{sent_by}
 
 abbrev pub is_block_request : Frame → Bool
 is_block_request (message_frame (Request ask)) = true
@@ -66,3 +70,39 @@ StepIsDetermined dig = (s new other : EngineState) (event : Event) (calls : Devi
     → Step dig s event calls answer new → Step dig s event calls another other
     → ¬ IsOutOfMemory answer → ¬ IsOutOfMemory another
     → (plain_answer answer ≡ plain_answer another) × (without_asked new ≡ without_asked other)
+
+-- ---- where requests leave no choice
+
+-- the requests of blocks that an answer sends, in their order
+abbrev pub block_requests : Answer → List Sent
+block_requests answer = filter (λ x. is_block_request x.frame) (sent_by answer)
+
+-- at most one block is missing
+abbrev pub LacksOneAtMost : EngineState → Type 0
+LacksOneAtMost s = (b c : BlockId) → state_at s b ≡ Some Missing → state_at s c ≡ Some Missing → b ≡ c
+
+-- Where an answer requests no block, or at most one block is missing after it, nothing is left free: with
+-- memory there is no other answer.
+abbrev pub StepIsForced : (List ℕ → List ℕ) → Type 0
+StepIsForced dig = (s new other : EngineState) (event : Event) (calls : DeviceCalls)
+    (answer another : Answer) → IsReached dig s
+    → Step dig s event calls answer new → Step dig s event calls another other
+    → ¬ IsOutOfMemory answer → ¬ IsOutOfMemory another
+    → (block_requests answer ≡ []) ⊎ LacksOneAtMost new
+    → (answer ≡ another) × (new ≡ other)
+
+-- ---- lists of events
+
+-- nowhere out of memory
+abbrev pub HaveMemory : List Answer → Type 0
+HaveMemory answers = All (λ answer. ¬ IsOutOfMemory answer) answers
+
+-- Two runs of the same events, from an engine that is reached, with the same answers of devices, with memory,
+-- and with the same requests of blocks at each event: they answer the same and lead to the same engine.
+abbrev pub RunsAreDetermined : (List ℕ → List ℕ) → Type 0
+RunsAreDetermined dig = (s new other : EngineState) (events : List Event) (calls : List DeviceCalls)
+    (answers others : List Answer) → IsReached dig s
+    → Run dig s events calls answers new → Run dig s events calls others other
+    → HaveMemory answers → HaveMemory others
+    → map block_requests answers ≡ map block_requests others
+    → (answers ≡ others) × (new ≡ other)

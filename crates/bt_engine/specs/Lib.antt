@@ -40,3 +40,5 @@ pub mod ExampleThreeBlocks
 pub mod ExampleWaiting
 pub mod ExampleServing
 pub mod ExampleHostile
+pub mod ExampleTwins
+pub mod ExampleForced

@@ -1,7 +1,9 @@
+ghost use Rattle.bt_engine.specs.ExampleForced.{AbcAnswersAreForced, WaitingAnswersAreForced};
 ghost use Rattle.bt_engine.specs.ExampleHostile.{HostileMessagesAreRuns, WrongBlockIsRun};
 ghost use Rattle.bt_engine.specs.ExampleOneBlock.{FetchOfAbcIsRun};
 ghost use Rattle.bt_engine.specs.ExampleThreeBlocks.{FetchOfThreeIsRun};
 ghost use Rattle.bt_engine.specs.ExampleServing.{ServingIsRun};
+ghost use Rattle.bt_engine.specs.ExampleTwins.{TwinFilesAreRun};
 ghost use Rattle.bt_engine.specs.ExampleWaiting.{WaitingFetchIsRun};
 
 use bt_tree::NodeHash;
@@ -10,6 +12,11 @@ use bt_tree::NodeHash;
 /// answers are a run of the machine, from the start of the torrent to the complete file.
 pub fn fetch_of_abc_is_run<H: NodeHash>(_hash: H)
     ensures { FetchOfAbcIsRun H.digest }
+{}
+
+/// And what it answers is all that may be answered: there is one block to request, and no choice.
+pub fn abc_answers_are_forced<H: NodeHash>(_hash: H)
+    ensures { AbcAnswersAreForced H.digest }
 {}
 
 /// So is the fetch of any file of three whole blocks, with a hash request and its answer.
@@ -21,6 +28,16 @@ pub fn fetch_of_three_is_run<H: NodeHash>(_hash: H)
 /// right bytes are marked, and one with wrong bytes is asked for again. That is a run too.
 pub fn waiting_fetch_is_run<H: NodeHash>(_hash: H)
     ensures { WaitingFetchIsRun H.digest }
+{}
+
+/// And what it answers is all that may be answered, but for the order in which three blocks are requested.
+pub fn waiting_answers_are_forced<H: NodeHash>(_hash: H)
+    ensures { WaitingAnswersAreForced H.digest }
+{}
+
+/// Two files with one root, whose blocks wait, are settled by one proof.
+pub fn twin_files_are_run<H: NodeHash>(_hash: H)
+    ensures { TwinFilesAreRun H.digest }
 {}
 
 /// A peer that is interested is unchoked, and what it requests is read and sent; a choked peer is ignored,

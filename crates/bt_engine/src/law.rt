@@ -2,7 +2,7 @@ ghost use Rattle.bt_engine.specs.Headline.{CompleteFilesArePublished};
 ghost use Rattle.bt_engine.specs.Stored.{CompleteHasRoot};
 ghost use Rattle.bt_engine.specs.Writes.{StepWritesMissing};
 ghost use Rattle.bt_engine.specs.Taught.{TaughtKeysAreAnswered};
-ghost use Rattle.bt_engine.specs.Determined.{StepIsDetermined};
+ghost use Rattle.bt_engine.specs.Determined.{RunsAreDetermined, StepIsDetermined, StepIsForced};
 ghost use Rattle.bt_engine.specs.Shape.{RunsKeepShape};
 ghost use Rattle.bt_engine.specs.Orderly.{StepKeepsOrder, RunsAreOrderly};
 ghost use Rattle.bt_engine.specs.Crash.{StepKeepsImages};
@@ -100,6 +100,17 @@ pub fn runs_keep_shape<H: NodeHash>(_hash: H)
 /// devices answer, but for which blocks are requested, and for out of memory.
 pub fn step_is_determined<H: NodeHash>(_hash: H)
     ensures { StepIsDetermined H.digest }
+{}
+
+/// So where its answer requests no block, or at most one block is missing after it, nothing is left free.
+pub fn step_is_forced<H: NodeHash>(_hash: H)
+    ensures { StepIsForced H.digest }
+{}
+
+/// And two lists of answers to the same events, which request the same blocks, are one, and lead to the same
+/// engine.
+pub fn runs_are_determined<H: NodeHash>(_hash: H)
+    ensures { RunsAreDetermined H.digest }
 {}
 
 /// Where all blocks of a file are marked and stand on the device as they were marked, the file there has its

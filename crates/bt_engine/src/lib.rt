@@ -23,14 +23,15 @@ pub use answer_law::{
 pub use error::{AdoptError, ConnectError, EngineError, FlushError};
 pub use event::Event;
 pub use example::{
-    fetch_of_abc_is_run, fetch_of_three_is_run, hostile_messages_are_runs, serving_is_run,
-    waiting_fetch_is_run, wrong_block_is_run,
+    abc_answers_are_forced, fetch_of_abc_is_run, fetch_of_three_is_run, hostile_messages_are_runs,
+    serving_is_run, twin_files_are_run, waiting_answers_are_forced, waiting_fetch_is_run,
+    wrong_block_is_run,
 };
 pub use law::{
     complete_files_are_published, complete_files_stand, complete_has_root, right_is_checked,
     rooted_is_checked, run_keeps_marks, run_keeps_rooted, run_keeps_sound, run_marks_by_bytes,
-    run_sends_read_bytes, runs_are_checked, runs_are_orderly, runs_keep_shape, step_is_determined,
-    step_keeps_images, step_keeps_marks, step_keeps_order, step_keeps_rooted, step_keeps_sound,
-    step_marks_by_bytes, step_sends_read_bytes, step_unmarks_by_bytes, step_writes_missing,
-    taught_keys_are_answered,
+    run_sends_read_bytes, runs_are_checked, runs_are_determined, runs_are_orderly, runs_keep_shape,
+    step_is_determined, step_is_forced, step_keeps_images, step_keeps_marks, step_keeps_order,
+    step_keeps_rooted, step_keeps_sound, step_marks_by_bytes, step_sends_read_bytes,
+    step_unmarks_by_bytes, step_writes_missing, taught_keys_are_answered,
 };
