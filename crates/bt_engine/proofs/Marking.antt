@@ -34,7 +34,7 @@ use Rattle.bt_engine.specs.Peers.{StepConnect, joins, full, spent, no_memory as 
 use Rattle.bt_engine.specs.Rechoke.{FollowsEach, StepRechoke, rechokes, no_memory as not_rechoked}
 use Rattle.bt_engine.specs.Flush.{StepFlush, syncs, fails}
 use Rattle.bt_engine.specs.Step.{Answer, Step, Run}
-use Rattle.bt_engine.specs.Law.{IsReadBack, IsMarkedBy, brought, read_back, IsSoAtOne, IsMarkedIn}
+use Rattle.bt_engine.specs.Law.{IsReadBack, IsMarkedBy, brought, read_back, IsSoAt, IsMarkedIn}
 use Rattle.bt_engine.proofs.Lists.{set_cases, set_same}
 use Rattle.bt_engine.proofs.Marks.{state_is, file_marked, missing_marks, settle_marks}
 use Rattle.bt_engine.proofs.Adopting.{adopt_marks}
@@ -242,54 +242,69 @@ pub step_marks : (dig : List ℕ → List ℕ) (s new : EngineState) (e : Event)
 step_marks dig s new e calls a t b m before = elim (step_cases dig b s new e calls a t m) [ inl old ↦ absurd (before old) | inr now ↦ now ]
 
 -- one event further on
-pub after_step : (dig : List ℕ → List ℕ) (P : EngineState → Event → DeviceCalls → EngineState → Type 0) (s mid : EngineState) (e : Event) (es : List Event) (c : DeviceCalls) (calls : List DeviceCalls) (a : Answer) → Step dig s e c a mid
-    → IsSoAtOne dig mid es calls P → IsSoAtOne dig s (e ∷ es) (c ∷ calls) P
-after_step dig P s mid e es c calls a t i = record {
+pub after_step : (dig : List ℕ → List ℕ) (P : EngineState → Event → DeviceCalls → EngineState → Type 0) (s mid last : EngineState) (e : Event) (es : List Event)
+    (c : DeviceCalls) (calls : List DeviceCalls) (a : Answer) (before : List Answer) (answer : Answer) (after : List Answer) → Step dig s e c a mid
+    → IsSoAt dig mid es calls before answer after last P → IsSoAt dig s (e ∷ es) (c ∷ calls) (a ∷ before) answer after last P
+after_step dig P s mid last e es c calls a before answer after t i = record {
   events_before = e ∷ i.events_before;
   calls_before = c ∷ i.calls_before;
-  answers_before = a ∷ i.answers_before;
   old = i.old;
   event = i.event;
   calls_then = i.calls_then;
-  answer = i.answer;
   new = i.new;
   events_after = i.events_after;
   calls_after = i.calls_after;
-  run = (mid, t, i.run);
-  step = i.step;
-  is_so = i.is_so;
   events_are = ap (λ xs. e ∷ xs) i.events_are;
   calls_are = ap (λ xs. c ∷ xs) i.calls_are;
+  run = (mid, t, i.run);
+  step = i.step;
+  goes_on = i.goes_on;
+  is_so = i.is_so;
 }
 
 -- at the first event
-pub at_first : (dig : List ℕ → List ℕ) (P : EngineState → Event → DeviceCalls → EngineState → Type 0) (s mid : EngineState) (e : Event) (es : List Event) (c : DeviceCalls) (calls : List DeviceCalls) (a : Answer) → Step dig s e c a mid
-    → P s e c mid → IsSoAtOne dig s (e ∷ es) (c ∷ calls) P
-at_first dig P s mid e es c calls a t by = record {
+pub at_first : (dig : List ℕ → List ℕ) (P : EngineState → Event → DeviceCalls → EngineState → Type 0) (s mid last : EngineState) (e : Event) (es : List Event)
+    (c : DeviceCalls) (calls : List DeviceCalls) (a : Answer) (after : List Answer) → Step dig s e c a mid → Run dig mid es calls after last
+    → P s e c mid → IsSoAt dig s (e ∷ es) (c ∷ calls) [] a after last P
+at_first dig P s mid last e es c calls a after t rest by = record {
   events_before = [];
   calls_before = [];
-  answers_before = [];
   old = s;
   event = e;
   calls_then = c;
-  answer = a;
   new = mid;
   events_after = es;
   calls_after = calls;
-  run = refl;
-  step = t;
-  is_so = by;
   events_are = refl;
   calls_are = refl;
+  run = refl;
+  step = t;
+  goes_on = rest;
+  is_so = by;
 }
 
 -- a block that is marked after a run was so before it, or became so within it
 run_cases : (dig : List ℕ → List ℕ) (s new : EngineState) (es : List Event) (calls : List DeviceCalls) (answers : List Answer) → Run dig s es calls answers new → (b : BlockId) → state_at new b ≡ Some Marked
-    → (state_at s b ≡ Some Marked) ⊎ IsMarkedIn dig s es calls b
+    → (state_at s b ≡ Some Marked) ⊎ IsMarkedIn dig s es calls answers new b
 run_cases dig s new [] [] [] run b m = inl (subst (λ x. state_at x b ≡ Some Marked) run m)
 run_cases dig s new (e ∷ es) (c ∷ calls) (a ∷ answers) run b m = elim (run_cases dig run.0 new es calls answers run.2 b m) [
-  | inl mid ↦ elim (step_cases dig b s run.0 e c a run.1 mid) [ inl old ↦ inl old | inr now ↦ inr (at_first dig (λ old event calls_then new. IsMarkedBy dig old event calls_then new b) s run.0 e es c calls a run.1 now) ]
-  | inr more ↦ inr (after_step dig (λ old event calls_then new. IsMarkedBy dig old event calls_then new b) s run.0 e es c calls a run.1 more)
+  | inl mid ↦ elim (step_cases dig b s run.0 e c a run.1 mid) [
+    | inl old ↦ inl old
+    | inr now ↦ inr (record {
+      before = [];
+      answer = a;
+      after = answers;
+      answers_are = refl;
+      marked = at_first dig (λ old event calls_then new. IsMarkedBy dig old event calls_then new b) s run.0 new e es c calls a answers run.1 run.2 now;
+    })
+  ]
+  | inr i ↦ inr (record {
+    before = a ∷ i.before;
+    answer = i.answer;
+    after = i.after;
+    answers_are = ap (λ xs. a ∷ xs) i.answers_are;
+    marked = after_step dig (λ old event calls_then new. IsMarkedBy dig old event calls_then new b) s run.0 new e es c calls a i.before i.answer i.after run.1 i.marked;
+  })
 ]
 run_cases dig s new [] (c ∷ calls) answers run b m = absurd run
 run_cases dig s new [] [] (a ∷ answers) run b m = absurd run
@@ -297,5 +312,5 @@ run_cases dig s new (e ∷ es) [] answers run b m = absurd run
 run_cases dig s new (e ∷ es) (c ∷ calls) [] run b m = absurd run
 
 pub run_marks : (dig : List ℕ → List ℕ) (s new : EngineState) (es : List Event) (calls : List DeviceCalls) (answers : List Answer) → Run dig s es calls answers new
-    → (b : BlockId) → state_at new b ≡ Some Marked → state_at s b ≢ Some Marked → IsMarkedIn dig s es calls b
+    → (b : BlockId) → state_at new b ≡ Some Marked → state_at s b ≢ Some Marked → IsMarkedIn dig s es calls answers new b
 run_marks dig s new es calls answers run b m before = elim (run_cases dig s new es calls answers run b m) [ inl old ↦ absurd (before old) | inr now ↦ now ]

@@ -120,37 +120,43 @@ StepMarksByBytes dig = (old new : EngineState) (event : Event) (calls : DeviceCa
     → (b : BlockId) → state_at new b ≡ Some Marked → state_at old b ≢ Some Marked
     → IsMarkedBy dig old event calls new b
 
--- At one of the events of a run this is so of the step: of the engine before it, the event, the calls of
--- devices and the engine after it.
-pub record IsSoAtOne (dig : List ℕ → List ℕ) (first : EngineState) (events : List Event)
-    (calls : List DeviceCalls) (P : EngineState → Event → DeviceCalls → EngineState → Type 0) : Type 0 where
+-- Of a run that answers so, at the event of this one answer: this is so of the step there, of the engine
+-- before it, the event, the calls of devices and the engine after it. The run came to it with the answers
+-- before, and goes on from it with those after.
+pub record IsSoAt (dig : List ℕ → List ℕ) (first : EngineState) (events : List Event)
+    (calls : List DeviceCalls) (before : List Answer) (answer : Answer) (after : List Answer)
+    (last : EngineState) (P : EngineState → Event → DeviceCalls → EngineState → Type 0) : Type 0 where
   pub events_before : List Event
   pub calls_before : List DeviceCalls
-  pub answers_before : List Answer
   pub old : EngineState
   pub event : Event
   pub calls_then : DeviceCalls
-  pub answer : Answer
   pub new : EngineState
   pub events_after : List Event
   pub calls_after : List DeviceCalls
-  pub run : Run dig first events_before calls_before answers_before old
-  pub step : Step dig old event calls_then answer new
-  pub is_so : P old event calls_then new
   pub events_are : events ≡ events_before ++ event ∷ events_after
   pub calls_are : calls ≡ calls_before ++ calls_then ∷ calls_after
+  pub run : Run dig first events_before calls_before before old
+  pub step : Step dig old event calls_then answer new
+  pub goes_on : Run dig new events_after calls_after after last
+  pub is_so : P old event calls_then new
 
 -- the block became marked at one of the events of a run
-abbrev pub IsMarkedIn : (List ℕ → List ℕ) → EngineState → List Event → List DeviceCalls → BlockId → Type 0
-IsMarkedIn dig first events calls b =
-    IsSoAtOne dig first events calls (λ old event calls_then new. IsMarkedBy dig old event calls_then new b)
+pub record IsMarkedIn (dig : List ℕ → List ℕ) (first : EngineState) (events : List Event)
+    (calls : List DeviceCalls) (answers : List Answer) (last : EngineState) (b : BlockId) : Type 0 where
+  pub before : List Answer
+  pub answer : Answer
+  pub after : List Answer
+  pub answers_are : answers ≡ before ++ answer ∷ after
+  pub marked : IsSoAt dig first events calls before answer after last
+      (λ old event calls_then new. IsMarkedBy dig old event calls_then new b)
 
 abbrev pub RunMarksByBytes : (List ℕ → List ℕ) → Type 0
 RunMarksByBytes dig =
     (old new : EngineState) (events : List Event) (calls : List DeviceCalls) (answers : List Answer)
     → Run dig old events calls answers new
     → (b : BlockId) → state_at new b ≡ Some Marked → state_at old b ≢ Some Marked
-    → IsMarkedIn dig old events calls b
+    → IsMarkedIn dig old events calls answers new b
 
 -- ---- data
 
@@ -200,13 +206,12 @@ StepSendsReadBytes dig = (old new : EngineState) (event : Event) (calls : Device
     → Contains (sent_by answer) (record { peer = key; frame = message_frame (Piece piece begin bytes) })
     → IsServed dig old event calls key piece begin bytes
 
--- nor by any answer of a run
+-- nor by any answer of a run: what one sends was read at its own event
 abbrev pub RunSendsReadBytes : (List ℕ → List ℕ) → Type 0
-RunSendsReadBytes dig =
-    (old new : EngineState) (events : List Event) (calls : List DeviceCalls) (answers : List Answer)
-    → Run dig old events calls answers new
-    → (answer : Answer) → Contains answers answer
+RunSendsReadBytes dig = (old new : EngineState) (events : List Event) (calls : List DeviceCalls)
+    (before : List Answer) (answer : Answer) (after : List Answer)
+    → Run dig old events calls (before ++ answer ∷ after) new
     → (key : PeerKey) (piece begin : ℕ) (bytes : List ℕ)
     → Contains (sent_by answer) (record { peer = key; frame = message_frame (Piece piece begin bytes) })
-    → IsSoAtOne dig old events calls
+    → IsSoAt dig old events calls before answer after new
     (λ old event calls_then new. IsServed dig old event calls_then key piece begin bytes)
