@@ -1,14 +1,18 @@
 -- What follows from the steps of an engine, whatever the peers send and the devices answer.
-use Rattle.std.specs.Prelude.{◌≡◌, ◌≢◌, ℕ, ◌*◌, ◌<◌, List, ◌∷◌, ◌++◌, [], false, length, Some, None, Ok, Err, slice_get, Contains}
+use Rattle.std.specs.Prelude.{◌≡◌, ◌≢◌, ℕ, ◌+◌, ◌*◌, ◌<◌, ◌≤◌, ◌⊎◌, List, ◌∷◌, ◌++◌, [], false, length, Some, None, Ok, Err, slice_get, Contains}
 use Rattle.bt_tree.specs.Limits.{full_block_length}
 use Rattle.bt_disk.specs.Calls.{bytes_written}
 use Rattle.bt_sparse.specs.SparseTree.{Facts, blocks_of, held_at, IsRooted, IsChecked}
+use Rattle.bt_sparse.specs.Acceptance.{Accepts}
+use Rattle.bt_sparse.specs.declared.claim.Claim.{Claim}
+use Rattle.bt_hashreq.specs.Claim.{IsClaimBy}
+use Rattle.bt_hashreq.specs.declared.key.HashKey.{HashKey}
 use Rattle.bt_store.specs.BlockReads.{given, call_of, IsRight}
 use Rattle.bt_store.specs.declared.block_states.BlockState.TheVariants.{Waiting, Marked}
 use Rattle.bt_book.specs.declared.names.PeerKey.{PeerKey}
 use Rattle.bt_book.specs.declared.names.BlockId.{BlockId}
 use Rattle.bt_wire.specs.Cutter.{Stream, Takes}
-use Rattle.bt_wire.specs.declared.message.Message.TheVariants.{Piece, Request}
+use Rattle.bt_wire.specs.declared.message.Message.TheVariants.{Piece, Request, Hashes}
 use Rattle.bt_wire.specs.declared.event.WireEvent.TheVariants.{Message}
 use Rattle.bt_wire.specs.declared.message.Ask.{Ask}
 use Rattle.bt_meta.specs.Place.{IsPlace}
@@ -19,7 +23,7 @@ use Rattle.bt_engine.specs.declared.answer.Frame.TheVariants.{Message as message
 use Rattle.bt_engine.specs.Output.{Sent}
 use Rattle.bt_engine.specs.declared.event.Event.{Event}
 use Rattle.bt_engine.specs.declared.event.Event.TheVariants.{Next, Adopt}
-use Rattle.bt_engine.specs.State.{PeerState, EngineState}
+use Rattle.bt_engine.specs.State.{PeerState, FileState, EngineState}
 use Rattle.bt_engine.specs.Devices.{DeviceCalls}
 use Rattle.bt_engine.specs.Blocks.{state_at, tree_of}
 use Rattle.bt_engine.specs.Spans.{IsWholeBlock, spanned_blocks, cut_from}
@@ -85,12 +89,48 @@ pub record IsBrought (dig : List ℕ → List ℕ) (old : EngineState) (event : 
   pub written : calls ≡ (b.file, bytes_written (full_block_length * b.block) bytes) ∷ []
   pub right : IsRight dig tree b.block bytes
 
--- A block that waited was read in this event. Its digest is the leaf that its tree has after the event.
-pub record IsReadBack (dig : List ℕ → List ℕ) (old : EngineState) (calls : DeviceCalls) (new : EngineState)
-    (b : BlockId) : Type 0 where
+-- The leaf of a block came in this event: a peer sent a run of leaves with it, and the tree of the block's
+-- file, whose root they name, took them in, and is this one after it.
+pub record IsTold (dig : List ℕ → List ℕ) (old : EngineState) (event : Event) (b : BlockId) (tree : Facts)
+    : Type 0 where
+  pub key : PeerKey
+  pub place : ℕ
+  pub peer : PeerState
+  pub run : HashKey
+  pub digests : List ℕ
+  pub rest : Stream
+  pub before : Facts
+  pub claim : Claim
+  pub is_next : event ≡ Next key
+  pub is_peer : IsPeer old key place peer
+  pub takes : Takes peer.stream (Message (Hashes run digests)) rest
+  pub of_leaves : run.base ≡ 0
+  pub from : run.index ≤ b.block
+  pub below : b.block < run.index + run.length
+  pub hung : tree_of old b.file ≡ Some before
+  pub same_root : before.root ≡ run.root
+  pub claims : IsClaimBy run digests claim
+  pub accepts : Accepts dig before claim tree
+
+-- This event takes in another file, which has the tree of the block's file.
+pub record IsOfTwin (old : EngineState) (event : Event) (b : BlockId) : Type 0 where
+  pub other : ℕ
+  pub twin : FileState
+  pub own : FileState
+  pub is_adopt : event ≡ Adopt other
+  pub apart : other ≢ b.file
+  pub twin_here : slice_get old.files other ≡ Some twin
+  pub own_here : slice_get old.files b.file ≡ Some own
+  pub one_tree : own.tree ≡ twin.tree
+
+-- A block that waited was read in this event, which told its leaf or took in another file of its tree. Its
+-- digest is the leaf that its tree has after the event.
+pub record IsReadBack (dig : List ℕ → List ℕ) (old : EngineState) (event : Event) (calls : DeviceCalls)
+    (new : EngineState) (b : BlockId) : Type 0 where
   pub tree : Facts
   pub bytes : List ℕ
   pub waited : state_at old b ≡ Some Waiting
+  pub due : IsTold dig old event b tree ⊎ IsOfTwin old event b
   pub hung : tree_of new b.file ≡ Some tree
   pub read : Contains calls (b.file, call_of tree.file_length (given b.block bytes))
   pub right : IsRight dig tree b.block bytes
@@ -110,7 +150,7 @@ pub record IsFound (dig : List ℕ → List ℕ) (event : Event) (calls : Device
 pub data IsMarkedBy (dig : List ℕ → List ℕ) (old : EngineState) (event : Event) (calls : DeviceCalls)
     (new : EngineState) (b : BlockId) : Type 0 where
   brought : IsBrought dig old event calls new b → IsMarkedBy dig old event calls new b
-  read_back : IsReadBack dig old calls new b → IsMarkedBy dig old event calls new b
+  read_back : IsReadBack dig old event calls new b → IsMarkedBy dig old event calls new b
   found : IsFound dig event calls new b → IsMarkedBy dig old event calls new b
 
 -- it becomes so in no other way
