@@ -33,7 +33,7 @@ use Rattle.bt_engine.specs.FollowUp.{IsInteresting, NeedsLeaf}
 use Rattle.bt_engine.specs.Next.{IsPeer}
 use Rattle.bt_engine.specs.Step.{Answer, of_next, Step}
 use Rattle.bt_engine.specs.Orderly.{IsOrderly}
-use Rattle.bt_engine.specs.AnswerLaw.{NotedBy, Sends, IsCause, Closes}
+use Rattle.bt_engine.specs.AnswerLaw.{NotedBy, Sends, IsConnected, IsCause, Closes}
 
 -- the peer of the key stands at this place, and no other has the key
 pub record IsOnlyPeer (s : EngineState) (key : PeerKey) (place : ℕ) (p : PeerState) : Type 0 where
@@ -113,13 +113,14 @@ NextServesMarkedRange dig = (old new : EngineState) (key : PeerKey) (place : ℕ
 
 -- ---- closing
 
--- A peer that sent what it is to be closed for is closed. There is one tree for each root, as in any engine.
+-- A peer that sent what it is to be closed for is closed for it, and is connected no more. There is one tree
+-- for each root, as in any engine.
 abbrev pub NextClosesForCause : (List ℕ → List ℕ) → Type 0
 NextClosesForCause dig = (old new : EngineState) (key : PeerKey) (place : ℕ) (p : PeerState)
     (calls : DeviceCalls) (answer : Answer) (why : Why)
     → IsLawful old.torrent.piece_length old.torrent.files → AllPairs (λ j k. j.root ≢ k.root) old.trees
     → IsOnlyPeer old key place p → IsCause dig old p why → Step dig old (Next key) calls answer new
-    → IsOutOfMemory answer ⊎ ((cause : Why) × Closes answer cause)
+    → IsOutOfMemory answer ⊎ (Closes answer why × (¬ IsConnected new key))
 
 -- ---- what is asked of a peer
 

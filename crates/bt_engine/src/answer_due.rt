@@ -31,7 +31,7 @@ pub fn next_notes_marked_blocks<H: NodeHash>(_hash: H)
     ensures { NextNotesMarkedBlocks H.digest }
 {}
 
-/// A peer is closed that sent what it is to be closed for.
+/// A peer that sent what it is to be closed for is closed for it, and is connected no more.
 pub fn next_closes_for_cause<H: NodeHash>(_hash: H)
     ensures { NextClosesForCause H.digest }
 {}
