@@ -80,14 +80,14 @@ pub record Follows (s : EngineState) (i : ℕ) (sent : List Sent) (new : EngineS
   pub uninterested : (key : PeerKey) → Contains sent (frame_to key NotInterested) → (peer.am_interested ≡ true) × (after.am_interested ≡ false) × (peer.key ≡ key)
   pub no_have : (key : PeerKey) (piece : ℕ) → Contains sent (frame_to key (Have piece)) → ⊥
 
-record SamePlan (p q : PeerState) : Type 0 where
-  same_key : q.key ≡ p.key
-  same_choking : q.peer_choking ≡ p.peer_choking
-  same_interest : q.am_interested ≡ p.am_interested
-  same_has : q.has ≡ p.has
-  same_asked : q.asked ≡ p.asked
+pub record SamePlan (p q : PeerState) : Type 0 where
+  pub same_key : q.key ≡ p.key
+  pub same_choking : q.peer_choking ≡ p.peer_choking
+  pub same_interest : q.am_interested ≡ p.am_interested
+  pub same_has : q.has ≡ p.has
+  pub same_asked : q.asked ≡ p.asked
 
-same_plan : (dig : List ℕ → List ℕ) (s : EngineState) (p q : PeerState) (sent : List Sent) → RequestsHashes dig s p sent q → SamePlan p q
+pub same_plan : (dig : List ℕ → List ℕ) (s : EngineState) (p q : PeerState) (sent : List Sent) → RequestsHashes dig s p sent q → SamePlan p q
 same_plan dig s p q sent (requests b k key x y z w e f) = record {
   same_key = ap (λ (r : PeerState). r.key) f;
   same_choking = ap (λ (r : PeerState). r.peer_choking) f;
