@@ -296,16 +296,18 @@ module _ (dig : List ℕ → List ℕ) where
 
   feed_told : (s new : EngineState) (key : PeerKey) (bytes : List ℕ) (r : _) (sent : List Sent) → StepFeed s key bytes r new → (j : ℕ) (q : PeerState) → slice_get new.peers j ≡ Some q → Old s new sent q
   feed_told s new key bytes r sent (feeds i p is y e) j q at =
-      let then : slice_get (slice_set s.peers i _) j ≡ Some q = ap (λ (x : EngineState). slice_get x.peers j) (sym e) ∙ at in
-      (j, elim (set_cases s.peers i j _ q then) [
-        | inl one ↦ subst (λ x. IsTold s new sent j x) (sym one.1) (record {
-          before = p;
-          at_place = ap (slice_get s.peers) one.0 ∙ is.here;
-          same_key = refl;
-          tells = nothing_new new sent p.key p _ refl (asks_same p _ refl refl);
-        })
-        | inr old ↦ stays_so s new sent j q old
-      ])
+      let then : slice_get (slice_set s.peers i _) j ≡ Some q = ap (λ (x : EngineState). slice_get x.peers j) (sym e) ∙ at in (
+        j,
+        elim (set_cases s.peers i j _ q then) [
+          | inl one ↦ subst (λ x. IsTold s new sent j x) (sym one.1) (record {
+            before = p;
+            at_place = ap (slice_get s.peers) one.0 ∙ is.here;
+            same_key = refl;
+            tells = nothing_new new sent p.key p _ refl (asks_same p _ refl refl);
+          })
+          | inr old ↦ stays_so s new sent j q old
+        ],
+      )
   feed_told s new key bytes r sent (not_fed x y e) j q at = same_so s new sent j q e at
   feed_told s new key bytes r sent (no_room_to_feed i p x y e) j q at = same_so s new sent j q e at
 

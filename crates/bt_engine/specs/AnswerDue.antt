@@ -133,8 +133,8 @@ pub record IsAskedForAll (dig : List ℕ → List ℕ) (s : EngineState) (p : Pe
   pub blocks : p.peer_choking ≡ false → p.am_interested ≡ true → (length p.asked ≡ max_requests)
       ⊎ ((b : BlockId) → Has s p b → state_at s b ≡ Some Missing → IsAsked s b)
 
--- What changed of a peer is sent to it: our interest, told exactly where it changed; the hash request that it is
--- newly asked; and for each block that it is newly asked for, a request of the whole block.
+-- What changed of a peer is sent to it: our interest, told exactly where it changed; the hash request that it
+-- is newly asked; and for each block that it is newly asked for, a request of the whole block.
 pub record IsSentChanges (new : EngineState) (answer : Answer) (key : PeerKey) (before after : PeerState)
     : Type 0 where
   pub interested : Sends answer key Interested

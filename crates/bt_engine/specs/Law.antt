@@ -89,9 +89,9 @@ pub record IsBrought (dig : List ℕ → List ℕ) (old : EngineState) (event : 
   pub written : calls ≡ (b.file, bytes_written (full_block_length * b.block) bytes) ∷ []
   pub right : IsRight dig tree b.block bytes
 
--- The leaf of a block came in this event: a peer sent a run of leaves with it, and the tree of the block's
--- file, whose root they name, took them in, and is this one after it.
-pub record IsTold (dig : List ℕ → List ℕ) (old : EngineState) (event : Event) (b : BlockId) (tree : Facts)
+-- This event told the leaf of a block: a peer sent a run of leaves with it, and the tree of the block's file,
+-- whose root they name, accepted them, and is this one then.
+pub record TellsLeaf (dig : List ℕ → List ℕ) (old : EngineState) (event : Event) (b : BlockId) (tree : Facts)
     : Type 0 where
   pub key : PeerKey
   pub place : ℕ
@@ -113,7 +113,7 @@ pub record IsTold (dig : List ℕ → List ℕ) (old : EngineState) (event : Eve
   pub accepts : Accepts dig before claim tree
 
 -- This event takes in another file, which has the tree of the block's file.
-pub record IsOfTwin (old : EngineState) (event : Event) (b : BlockId) : Type 0 where
+pub record AdoptsTwin (old : EngineState) (event : Event) (b : BlockId) : Type 0 where
   pub other : ℕ
   pub twin : FileState
   pub own : FileState
@@ -130,7 +130,7 @@ pub record IsReadBack (dig : List ℕ → List ℕ) (old : EngineState) (event :
   pub tree : Facts
   pub bytes : List ℕ
   pub waited : state_at old b ≡ Some Waiting
-  pub due : IsTold dig old event b tree ⊎ IsOfTwin old event b
+  pub due : TellsLeaf dig old event b tree ⊎ AdoptsTwin old event b
   pub hung : tree_of new b.file ≡ Some tree
   pub read : Contains calls (b.file, call_of tree.file_length (given b.block bytes))
   pub right : IsRight dig tree b.block bytes
