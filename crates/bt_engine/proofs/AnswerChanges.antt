@@ -42,7 +42,8 @@ pub record Tells (new : EngineState) (sent : List Sent) (key : PeerKey) (before 
       → (ask : Ask) × IsWholeBlock new.torrent ask.piece ask.begin ask.length b × Contains sent (frame_to key (Request ask))
 
 -- of a peer of which nothing changed that is to be sent
-nothing_new : (new : EngineState) (sent : List Sent) (key : PeerKey) (before after : PeerState) → after.am_interested ≡ before.am_interested → AsksLess before after → Tells new sent key before after
+nothing_new : (new : EngineState) (sent : List Sent) (key : PeerKey) (before after : PeerState) → after.am_interested ≡ before.am_interested
+    → AsksLess before after → Tells new sent key before after
 nothing_new new sent key before after same less = record {
   interested = λ x y. (let no : false ≡ true = sym x ∙ sym same ∙ y in absurd cc);
   uninterested = λ x y. (let no : true ≡ false = sym x ∙ sym same ∙ y in absurd cc);
@@ -51,7 +52,8 @@ nothing_new new sent key before after same less = record {
 }
 
 -- of a peer that was changed before, and was asked for no more then
-told_since : (new : EngineState) (sent : List Sent) (key : PeerKey) (before mid after : PeerState) → mid.am_interested ≡ before.am_interested → AsksLess before mid → Tells new sent key mid after
+told_since : (new : EngineState) (sent : List Sent) (key : PeerKey) (before mid after : PeerState) → mid.am_interested ≡ before.am_interested
+    → AsksLess before mid → Tells new sent key mid after
     → Tells new sent key before after
 told_since new sent key before mid after same less t = record {
   interested = λ x y. t.interested (same ∙ x) y;
@@ -61,7 +63,8 @@ told_since new sent key before mid after same less t = record {
 }
 
 -- and among more frames, in another engine
-told_with : (s new : EngineState) (xs ys : List Sent) (key : PeerKey) (before after : PeerState) → new.torrent ≡ s.torrent → ((x : Sent) → Contains xs x → Contains ys x) → Tells s xs key before after
+told_with : (s new : EngineState) (xs ys : List Sent) (key : PeerKey) (before after : PeerState) → new.torrent ≡ s.torrent →
+    ((x : Sent) → Contains xs x → Contains ys x) → Tells s xs key before after
     → Tells new ys key before after
 told_with s new xs ys key before after torrent more t = record {
   interested = λ x y. more _ (t.interested x y);
@@ -72,7 +75,8 @@ told_with s new xs ys key before after torrent more t = record {
 
 -- ---- what follows for a peer
 
-each_block : (s : EngineState) (p : PeerState) (blocks : List BlockId) (sent : List Sent) → RequestsEach s p blocks sent → (b : BlockId) → Contains blocks b → (x : Sent) × Contains sent x × RequestsBlock s p b x
+each_block : (s : EngineState) (p : PeerState) (blocks : List BlockId) (sent : List Sent) → RequestsEach s p blocks sent → (b : BlockId) → Contains blocks b →
+    (x : Sent) × Contains sent x × RequestsBlock s p b x
 each_block s p [] sent r b c = absurd (contains_none b c)
 each_block s p (d ∷ blocks) sent r b c = elim (contains_cases d b blocks c) [
   | inl same ↦ (r.0, subst (λ l. Contains l r.0) (sym r.4) (here r.0 r.0 r.1 refl), subst (λ z. RequestsBlock s p z r.0) same r.2)
@@ -102,10 +106,14 @@ module _ (dig : List ℕ → List ℕ) (s : EngineState) (i : ℕ) (sent : List 
   key_then = plan_key ∙ interest_key
 
   in_interest : (x : Sent) → Contains f.interest_frames x → Contains sent x
-  in_interest x c = subst (λ l. Contains l x) (sym f.all) (Contains-append_left (f.interest_frames ++ f.hash_frames) f.block_frames x (Contains-append_left f.interest_frames f.hash_frames x c))
+  in_interest x c =
+      subst (λ l. Contains l x) (sym f.all)
+      (Contains-append_left (f.interest_frames ++ f.hash_frames) f.block_frames x (Contains-append_left f.interest_frames f.hash_frames x c))
 
   in_hashes : (x : Sent) → Contains f.hash_frames x → Contains sent x
-  in_hashes x c = subst (λ l. Contains l x) (sym f.all) (Contains-append_left (f.interest_frames ++ f.hash_frames) f.block_frames x (Contains-append_right f.interest_frames f.hash_frames x c))
+  in_hashes x c =
+      subst (λ l. Contains l x) (sym f.all)
+      (Contains-append_left (f.interest_frames ++ f.hash_frames) f.block_frames x (Contains-append_right f.interest_frames f.hash_frames x c))
 
   in_blocks : (x : Sent) → Contains f.block_frames x → Contains sent x
   in_blocks x c = subst (λ l. Contains l x) (sym f.all) (Contains-append_right (f.interest_frames ++ f.hash_frames) f.block_frames x c)
@@ -114,7 +122,8 @@ module _ (dig : List ℕ → List ℕ) (s : EngineState) (i : ℕ) (sent : List 
   now_interested = (same_plan dig s f.interested f.planned f.hash_frames f.hashes).same_interest
 
   told_interest : (was now : _) → f.peer.am_interested ≡ was → f.planned.am_interested ≡ now → f.interest_frames ≡ interest_sent f.peer was now
-  told_interest was now x y = f.interest.told ∙ ap (λ a. interest_sent f.peer a f.interested.am_interested) x ∙ ap (λ a. interest_sent f.peer was a) (sym now_interested ∙ y)
+  told_interest was now x y =
+      f.interest.told ∙ ap (λ a. interest_sent f.peer a f.interested.am_interested) x ∙ ap (λ a. interest_sent f.peer was a) (sym now_interested ∙ y)
 
   to_peer : (x y : PeerKey) (m : _) → x ≡ y → frame_to x m ≡ frame_to y m
   to_peer x y m e = ap (λ k. frame_to k m) e
@@ -125,7 +134,8 @@ module _ (dig : List ℕ → List ℕ) (s : EngineState) (i : ℕ) (sent : List 
       by : RequestsHashes dig s f.interested f.hash_frames f.planned → Contains sent (frame_to f.peer.key (HashRequest k))
       by (requests b tree key idle need hung plan e is) =
           let same : key ≡ k = asked_is key k (sym (ap (λ (q : PeerState). q.hash) is) ∙ y) in
-          let frame : frame_to f.interested.key (HashRequest key) ≡ frame_to f.peer.key (HashRequest k) = to_peer _ _ _ interest_key ∙ ap (λ n. frame_to f.peer.key (HashRequest n)) same in
+          let frame : frame_to f.interested.key (HashRequest key) ≡ frame_to f.peer.key (HashRequest k) =
+          to_peer _ _ _ interest_key ∙ ap (λ n. frame_to f.peer.key (HashRequest n)) same in
           in_hashes _ (subst (λ l. Contains l (frame_to f.peer.key (HashRequest k))) (sym e) (here _ _ [] frame))
       by (rests x e is) = absurd (none (sym (ap (λ (q : PeerState). q.hash) f.interest.others) ∙ sym (ap (λ (q : PeerState). q.hash) is) ∙ y))
 
@@ -167,14 +177,16 @@ same_so : (s new : EngineState) (sent : List Sent) (j : ℕ) (p : PeerState) →
 same_so s new sent j p e at = (j, stays_so s new sent j p (ap (λ (x : EngineState). slice_get x.peers j) (sym e) ∙ at))
 
 -- the peers are those of the old engine, but for one
-left_so : (s mid new : EngineState) (sent : List Sent) (i j : ℕ) (p : PeerState) → ((n : ℕ) → n ≢ i → slice_get mid.peers n ≡ slice_get s.peers n) → new ≡ without_peer i mid → slice_get new.peers j ≡ Some p
+left_so : (s mid new : EngineState) (sent : List Sent) (i j : ℕ) (p : PeerState) → ((n : ℕ) → n ≢ i → slice_get mid.peers n ≡ slice_get s.peers n)
+    → new ≡ without_peer i mid → slice_get new.peers j ≡ Some p
     → Old s new sent p
 left_so s mid new sent i j p others after at =
     let r = other_without mid.peers i j p (ap (λ (x : EngineState). slice_get x.peers j) (sym after) ∙ at) in
     (r.0, stays_so s new sent r.0 p (sym (others r.0 r.2) ∙ r.1))
 
 -- told in more frames
-told_more : (s new : EngineState) (xs ys : List Sent) (j : ℕ) (p : PeerState) → ((x : Sent) → Contains xs x → Contains ys x) → IsTold s new xs j p → IsTold s new ys j p
+told_more : (s new : EngineState) (xs ys : List Sent) (j : ℕ) (p : PeerState) → ((x : Sent) → Contains xs x → Contains ys x) → IsTold s new xs j p
+    → IsTold s new ys j p
 told_more s new xs ys j p more r = record {
   before = r.before;
   at_place = r.at_place;
@@ -203,7 +215,8 @@ none_there j p peers e at = by j (ap (λ l. slice_get l j) (sym e) ∙ at)
 
 module _ (dig : List ℕ → List ℕ) where
   -- what follows for other peers changes none of this one
-  each_keeps : (n a : ℕ) (s new : EngineState) (sent : List Sent) → FollowsEach dig (range_with_len a n) s sent new → (j : ℕ) → j < a → slice_get new.peers j ≡ slice_get s.peers j
+  each_keeps : (n a : ℕ) (s new : EngineState) (sent : List Sent) → FollowsEach dig (range_with_len a n) s sent new → (j : ℕ) → j < a
+      → slice_get new.peers j ≡ slice_get s.peers j
   each_keeps zero a s new sent f j below = ap (λ (x : EngineState). slice_get x.peers j) f.1
   each_keeps (suc n) a s new sent f j below =
       each_keeps n (a + 1) f.0 new f.2 f.4 j (omega (arith, below)) ∙ ap (λ l. slice_get l j) (peers_then dig s a f.1 f.0 f.3)
@@ -213,7 +226,8 @@ module _ (dig : List ℕ → List ℕ) where
   each_torrent [] s new sent f = ap (λ (x : EngineState). x.torrent) f.1
   each_torrent (i ∷ places) s new sent f = each_torrent places f.0 new f.2 f.4 ∙ torrent_then dig s i f.1 f.0 f.3
 
-  each_told : (n a : ℕ) (s new : EngineState) (sent : List Sent) → FollowsEach dig (range_with_len a n) s sent new → (j : ℕ) (p : PeerState) → slice_get new.peers j ≡ Some p → IsTold s new sent j p
+  each_told : (n a : ℕ) (s new : EngineState) (sent : List Sent) → FollowsEach dig (range_with_len a n) s sent new → (j : ℕ) (p : PeerState)
+      → slice_get new.peers j ≡ Some p → IsTold s new sent j p
   each_told zero a s new sent f j p at = stays_so s new sent j p (ap (λ (x : EngineState). slice_get x.peers j) (sym f.1) ∙ at)
   each_told (suc n) a s new sent f j p at =
       let front : (x : Sent) → Contains f.1 x → Contains sent x = λ x c. subst (λ l. Contains l x) (sym f.5) (Contains-append_left f.1 f.2 x c) in
@@ -222,12 +236,14 @@ module _ (dig : List ℕ → List ℕ) where
       let set : slice_get f.0.peers a ≡ Some first = ap (λ l. slice_get l a) (peers_then dig s a f.1 f.0 f.3) ∙ set_same s.peers a first f.3.peer f.3.here in
       elim (nat_cases a j) [
         | inl e ↦
-            let same : p ≡ first = same_some (slice_get new.peers a) p first (ap (slice_get new.peers) e ∙ at) (each_keeps n (a + 1) f.0 new f.2 f.4 a (omega arith) ∙ set) in
+            let same : p ≡ first =
+            same_some (slice_get new.peers a) p first (ap (slice_get new.peers) e ∙ at) (each_keeps n (a + 1) f.0 new f.2 f.4 a (omega arith) ∙ set) in
             subst (λ k. IsTold s new sent k p) e (subst (λ q. IsTold s new sent a q) (sym same) (record {
               before = f.3.peer;
               at_place = f.3.here;
               same_key = sym (key_then dig s a f.1 f.0 f.3);
-              tells = told_with f.0 new f.1 sent f.3.peer.key f.3.peer first (each_torrent (range_with_len (a + 1) n) f.0 new f.2 f.4) front (follow_tells dig s a f.1 f.0 f.3);
+              tells = told_with f.0 new f.1 sent f.3.peer.key f.3.peer first (each_torrent (range_with_len (a + 1) n) f.0 new f.2 f.4) front
+                  (follow_tells dig s a f.1 f.0 f.3);
             }))
         | inr apart ↦
             let r = each_told n (a + 1) f.0 new f.2 f.4 j p at in
@@ -239,7 +255,8 @@ module _ (dig : List ℕ → List ℕ) where
             }
       ]
 
-  rechoke_told : (s new : EngineState) (sent : List Sent) → FollowsEach dig (range_with_len 0 (length s.peers)) (rechoked s) sent new → (j : ℕ) (p : PeerState) → slice_get new.peers j ≡ Some p → IsTold s new sent j p
+  rechoke_told : (s new : EngineState) (sent : List Sent) → FollowsEach dig (range_with_len 0 (length s.peers)) (rechoked s) sent new → (j : ℕ) (p : PeerState)
+      → slice_get new.peers j ≡ Some p → IsTold s new sent j p
   rechoke_told s new sent f j p at =
       let r = each_told (length s.peers) 0 (rechoked s) new sent f j p at in
       let m = mapped_at (rechoked_peer s) s.peers j r.before r.at_place in
@@ -247,18 +264,22 @@ module _ (dig : List ℕ → List ℕ) where
         before = m.0;
         at_place = m.1;
         same_key = ap (λ (q : PeerState). q.key) m.2 ∙ r.same_key;
-        tells = told_since new sent m.0.key m.0 (rechoked_peer s m.0) p refl (asks_same m.0 (rechoked_peer s m.0) refl refl) (subst (λ (q : PeerState). Tells new sent q.key q p) (sym m.2) r.tells);
+        tells = told_since new sent m.0.key m.0 (rechoked_peer s m.0) p refl (asks_same m.0 (rechoked_peer s m.0) refl refl)
+            (subst (λ (q : PeerState). Tells new sent q.key q p) (sym m.2) r.tells);
       }
 
   -- the wire event changes no other peer
-  others_stay : (s mid : EngineState) (key : PeerKey) (i : ℕ) (p : PeerState) (calls : DeviceCalls) (effect : _) → IsPeer s key i p → TakesEvent dig s i p calls effect mid
+  others_stay : (s mid : EngineState) (key : PeerKey) (i : ℕ) (p : PeerState) (calls : DeviceCalls) (effect : _) → IsPeer s key i p
+      → TakesEvent dig s i p calls effect mid
       → (n : ℕ) → n ≢ i → slice_get mid.peers n ≡ slice_get s.peers n
   others_stay s mid key i p calls effect is t n apart =
       let rest = record p { stream = t.rest } in
       let left = event_leaves dig (with_peer s i rest) i rest (set_same s.peers i rest p is.here) mid t.event calls effect t.handles in
-      ap (λ l. slice_get l n) left.peers ∙ set_other (slice_set s.peers i rest) i n left.peer (λ e. apart (sym e)) ∙ set_other s.peers i n rest (λ e. apart (sym e))
+      ap (λ l. slice_get l n) left.peers ∙ set_other (slice_set s.peers i rest) i n left.peer (λ e. apart (sym e))
+      ∙ set_other s.peers i n rest (λ e. apart (sym e))
 
-  goes_told : (s new : EngineState) (key : PeerKey) (i : ℕ) (p : PeerState) (calls : DeviceCalls) (out : Output) → IsPeer s key i p → GoesOn dig s i p calls out new → (j : ℕ) (q : PeerState) → slice_get new.peers j ≡ Some q
+  goes_told : (s new : EngineState) (key : PeerKey) (i : ℕ) (p : PeerState) (calls : DeviceCalls) (out : Output) → IsPeer s key i p
+      → GoesOn dig s i p calls out new → (j : ℕ) (q : PeerState) → slice_get new.peers j ≡ Some q
       → IsTold s new out.send j q
   goes_told s new key i p calls out is g j q at =
       let rest = record p { stream = g.takes.rest } in
@@ -267,25 +288,31 @@ module _ (dig : List ℕ → List ℕ) where
       let f = g.follows in
       let t = then dig _ i g.sent new f in
       let peers : new.peers ≡ slice_set g.mid.peers i t = peers_then dig _ i g.sent new f in
-      let same : f.peer ≡ left.peer = same_some (slice_get g.mid.peers i) f.peer left.peer f.here (ap (λ l. slice_get l i) left.peers ∙ set_same (with_peer s i rest).peers i left.peer rest set) in
+      let same : f.peer ≡ left.peer =
+      same_some (slice_get g.mid.peers i) f.peer left.peer f.here (ap (λ l. slice_get l i) left.peers ∙ set_same (with_peer s i rest).peers i left.peer rest set) in
       let key_is : f.peer.key ≡ p.key = ap (λ (x : PeerState). x.key) same ∙ left.same_key in
       let less : AsksLess p f.peer = subst (λ x. AsksLess p x) (sym same) (record { blocks = left.asks_less.blocks; hashes = left.asks_less.hashes }) in
-      let more : (x : Sent) → Contains g.sent x → Contains out.send x = λ x c. subst (λ l. Contains l x) (sym g.send) (Contains-append_right (g.effect.send ++ haves s g.mid) g.sent x c) in
+      let more : (x : Sent) → Contains g.sent x → Contains out.send x =
+      λ x c. subst (λ l. Contains l x) (sym g.send) (Contains-append_right (g.effect.send ++ haves s g.mid) g.sent x c) in
       elim (nat_cases i j) [
         | inl e ↦
-            let now : q ≡ t = same_some (slice_get new.peers i) q t (ap (slice_get new.peers) e ∙ at) (ap (λ l. slice_get l i) peers ∙ set_same g.mid.peers i t f.peer f.here) in
+            let now : q ≡ t =
+            same_some (slice_get new.peers i) q t (ap (slice_get new.peers) e ∙ at) (ap (λ l. slice_get l i) peers ∙ set_same g.mid.peers i t f.peer f.here) in
             let told : Tells new g.sent p.key f.peer t = subst (λ k. Tells new g.sent k f.peer t) key_is (follow_tells dig _ i g.sent new f) in
             subst (λ k. IsTold s new out.send k q) e (subst (λ x. IsTold s new out.send i x) (sym now) (record {
               before = p;
               at_place = is.here;
               same_key = sym (key_then dig _ i g.sent new f ∙ key_is);
-              tells = told_with new new g.sent out.send p.key p t refl more (told_since new g.sent p.key p f.peer t (ap (λ (x : PeerState). x.am_interested) same ∙ left.same_interest) less told);
+              tells = told_with new new g.sent out.send p.key p t refl more
+                  (told_since new g.sent p.key p f.peer t (ap (λ (x : PeerState). x.am_interested) same ∙ left.same_interest) less told);
             }))
         | inr apart ↦ stays_so s new out.send j q
-            (sym (others_stay s g.mid key i p calls g.effect is g.takes j (λ e. apart (sym e))) ∙ sym (set_other g.mid.peers i j t apart) ∙ sym (ap (λ l. slice_get l j) peers) ∙ at)
+            (sym (others_stay s g.mid key i p calls g.effect is g.takes j (λ e. apart (sym e)))
+            ∙ sym (set_other g.mid.peers i j t apart) ∙ sym (ap (λ l. slice_get l j) peers) ∙ at)
       ]
 
-  next_told : (s new : EngineState) (key : PeerKey) (calls : DeviceCalls) (r : _) → StepNext dig s key calls r new → (j : ℕ) (q : PeerState) → slice_get new.peers j ≡ Some q → Old s new (sent_by (of_next r)) q
+  next_told : (s new : EngineState) (key : PeerKey) (calls : DeviceCalls) (r : _) → StepNext dig s key calls r new → (j : ℕ) (q : PeerState)
+      → slice_get new.peers j ≡ Some q → Old s new (sent_by (of_next r)) q
   next_told s new key calls r (no_peer x y z e) j q at = same_so s new _ j q e at
   next_told s new key calls r (waits i p x y z w e) j q at = same_so s new _ j q e at
   next_told s new key calls r (goes_on i p out is g e) j q at =
@@ -294,7 +321,8 @@ module _ (dig : List ℕ → List ℕ) where
   next_told s new key calls r (faulty i p out is g e) j q at = left_so s s new _ i j q (λ n apart. refl) g.after at
   next_told s new key calls r (no_memory i p is g e) j q at = left_so s s new _ i j q (λ n apart. refl) g.after at
 
-  feed_told : (s new : EngineState) (key : PeerKey) (bytes : List ℕ) (r : _) (sent : List Sent) → StepFeed s key bytes r new → (j : ℕ) (q : PeerState) → slice_get new.peers j ≡ Some q → Old s new sent q
+  feed_told : (s new : EngineState) (key : PeerKey) (bytes : List ℕ) (r : _) (sent : List Sent) → StepFeed s key bytes r new → (j : ℕ) (q : PeerState)
+      → slice_get new.peers j ≡ Some q → Old s new sent q
   feed_told s new key bytes r sent (feeds i p is y e) j q at =
       let then : slice_get (slice_set s.peers i _) j ≡ Some q = ap (λ (x : EngineState). slice_get x.peers j) (sym e) ∙ at in (
         j,
@@ -311,18 +339,22 @@ module _ (dig : List ℕ → List ℕ) where
   feed_told s new key bytes r sent (not_fed x y e) j q at = same_so s new sent j q e at
   feed_told s new key bytes r sent (no_room_to_feed i p x y e) j q at = same_so s new sent j q e at
 
-  lost_told : (s new : EngineState) (key : PeerKey) (r : _) (sent : List Sent) → StepLost s key r new → (j : ℕ) (q : PeerState) → slice_get new.peers j ≡ Some q → Old s new sent q
+  lost_told : (s new : EngineState) (key : PeerKey) (r : _) (sent : List Sent) → StepLost s key r new → (j : ℕ) (q : PeerState) → slice_get new.peers j ≡ Some q
+      → Old s new sent q
   lost_told s new key r sent (goes i p x y e) j q at = left_so s s new sent i j q (λ n apart. refl) e at
   lost_told s new key r sent (not_lost x y e) j q at = same_so s new sent j q e at
 
-  rechokes_told : (s new : EngineState) (r : _) → StepRechoke dig s r new → (j : ℕ) (q : PeerState) → slice_get new.peers j ≡ Some q → Old s new (sent_by (of_rechoke r)) q
+  rechokes_told : (s new : EngineState) (r : _) → StepRechoke dig s r new → (j : ℕ) (q : PeerState) → slice_get new.peers j ≡ Some q
+      → Old s new (sent_by (of_rechoke r)) q
   rechokes_told s new r (rechokes out x e) j q at =
       let more : (y : Sent) → Contains x.sent y → Contains (sent_by (of_rechoke r)) y = λ y c.
-      subst (λ z. Contains (sent_by (of_rechoke z)) y) (sym e) (subst (λ (o : Output). Contains o.send y) (sym x.is) (Contains-append_right (chokes_sent s) x.sent y c)) in
+      subst (λ z. Contains (sent_by (of_rechoke z)) y) (sym e)
+      (subst (λ (o : Output). Contains o.send y) (sym x.is) (Contains-append_right (chokes_sent s) x.sent y c)) in
       (j, told_more s new x.sent (sent_by (of_rechoke r)) j q more (rechoke_told s new x.sent x.follows j q at))
   rechokes_told s new r (not_rechoked x e) j q at = same_so s new _ j q e at
 
-  flush_told : (s new : EngineState) (calls : DeviceCalls) (r : _) (sent : List Sent) → StepFlush s calls r new → (j : ℕ) (q : PeerState) → slice_get new.peers j ≡ Some q → Old s new sent q
+  flush_told : (s new : EngineState) (calls : DeviceCalls) (r : _) (sent : List Sent) → StepFlush s calls r new → (j : ℕ) (q : PeerState)
+      → slice_get new.peers j ≡ Some q → Old s new sent q
   flush_told s new calls r sent (syncs x y z e) j q at = same_so s new sent j q e at
   flush_told s new calls r sent (fails before file after x y z e) j q at = same_so s new sent j q e at
 
@@ -333,21 +365,25 @@ module _ (dig : List ℕ → List ℕ) (s new : EngineState) (key : PeerKey) (pl
   told_of : (sent : List Sent) → after.key ≡ key → Old s new sent after → Tells new sent key before after
   told_of sent k r =
       let at : r.0 ≡ place = one.only r.0 r.1.before (record { here = r.1.at_place; same_key = r.1.same_key ∙ k }) in
-      let same : r.1.before ≡ before = same_some (slice_get s.peers place) r.1.before before (ap (slice_get s.peers) (sym at) ∙ r.1.at_place) one.is_peer.here in
+      let same : r.1.before ≡ before =
+      same_some (slice_get s.peers place) r.1.before before (ap (slice_get s.peers) (sym at) ∙ r.1.at_place) one.is_peer.here in
       subst (λ n. Tells new sent n before after) one.is_peer.same_key (subst (λ (q : PeerState). Tells new sent q.key q after) same r.1.tells)
 
   -- a peer that stays as it is
   unchanged : (sent : List Sent) → after ≡ before → Tells new sent key before after
   unchanged sent e = subst (λ x. Tells new sent key before x) (sym e) (nothing_new new sent key before before refl (asks_same before before refl refl))
 
-  changed_to : (was now : _) → ((c : PeerState) → IsPeer new key place c → c ≡ after) → ChangesInterest s new key was now → (before.am_interested ≡ was) × (after.am_interested ≡ now)
+  changed_to : (was now : _) → ((c : PeerState) → IsPeer new key place c → c ≡ after) → ChangesInterest s new key was now
+      → (before.am_interested ≡ was) × (after.am_interested ≡ now)
   changed_to was now alone c =
       let at : c.place ≡ place = one.only c.place c.before c.is_before in
-      let same : before ≡ c.before = same_some (slice_get s.peers place) before c.before one.is_peer.here (ap (slice_get s.peers) (sym at) ∙ c.is_before.here) in
+      let same : before ≡ c.before =
+      same_some (slice_get s.peers place) before c.before one.is_peer.here (ap (slice_get s.peers) (sym at) ∙ c.is_before.here) in
       let then : c.after ≡ after = alone c.after (subst (λ n. IsPeer new key n c.after) at c.is_after) in
       (ap (λ (q : PeerState). q.am_interested) same ∙ c.was_interested, ap (λ (q : PeerState). q.am_interested) (sym then) ∙ c.now_interested)
 
-  sent_changes : (e : Event) (calls : DeviceCalls) (a : Answer) → Step dig s e calls a new → ((c : PeerState) → IsPeer new key place c → c ≡ after) → Tells new (sent_by a) key before after
+  sent_changes : (e : Event) (calls : DeviceCalls) (a : Answer) → Step dig s e calls a new → ((c : PeerState) → IsPeer new key place c → c ≡ after)
+      → Tells new (sent_by a) key before after
       → IsSentChanges new a key before after
   sent_changes e calls a t alone tells =
       let told = step_tells dig s new e calls a t key in
@@ -359,14 +395,16 @@ module _ (dig : List ℕ → List ℕ) (s new : EngineState) (key : PeerKey) (pl
       }
 
 module _ (dig : List ℕ → List ℕ) where
-  pub next_changes : (s new : EngineState) (key : PeerKey) (place : ℕ) (before after : PeerState) (calls : DeviceCalls) (a : Answer) → IsOnlyPeer s key place before → IsPeer new key place after → Step dig s (Next key) calls a new
+  pub next_changes : (s new : EngineState) (key : PeerKey) (place : ℕ) (before after : PeerState) (calls : DeviceCalls) (a : Answer)
+      → IsOnlyPeer s key place before → IsPeer new key place after → Step dig s (Next key) calls a new
       → IsSentChanges new a key before after
   next_changes s new key place before after calls a one is t =
       let old : Old s new (sent_by a) after = subst (λ x. Old s new (sent_by x) after) (sym t.1) (next_told dig s new key calls t.0 t.2 place after is.here) in
       sent_changes dig s new key place before after one (Next key) calls a t (λ c x. same_some (slice_get new.peers place) c after x.here is.here)
       (told_of dig s new key place before after one (sent_by a) is.same_key old)
 
-  module _ (s new : EngineState) (key : PeerKey) (place : ℕ) (before : PeerState) (there : ℕ) (after : PeerState) (one : IsOnlyPeer s key place before) (now : IsOnlyPeer new key there after) where
+  module _ (s new : EngineState) (key : PeerKey) (place : ℕ) (before : PeerState) (there : ℕ) (after : PeerState) (one : IsOnlyPeer s key place before)
+      (now : IsOnlyPeer new key there after) where
     of_old : (sent : List Sent) → Old s new sent after → Tells new sent key before after
     of_old sent r = told_of dig s new key place before after one sent now.is_peer.same_key r
 
@@ -405,4 +443,5 @@ module _ (dig : List ℕ → List ℕ) where
 
   pub step_changes : StepSendsChanges dig
   step_changes s new e calls a key place before there after one now t =
-      sent_changes dig s new key place before after one e calls a t (alone s new key place before there after one now) (all_told s new key place before there after one now e calls a t)
+      sent_changes dig s new key place before after one e calls a t (alone s new key place before there after one now)
+      (all_told s new key place before there after one now e calls a t)
