@@ -198,7 +198,8 @@ module _ (dig : List ℕ → List ℕ) where
                   one_tree = r.of_tree;
                 });
                 hung = ap (λ x. tree_of x b.file) a.after ∙ r.hung;
-                read = subst (λ cs. Contains cs (b.file, call_of r.facts.file_length (given b.block r.bytes))) (sym a.made) (Contains-append_right own a.settling _ r.read);
+                read = subst (λ cs. Contains cs (b.file, call_of r.facts.file_length (given b.block r.bytes))) (sym a.made)
+                    (Contains-append_right own a.settling _ r.read);
                 right = r.right;
               }))
         ]

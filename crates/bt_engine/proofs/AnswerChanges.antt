@@ -289,7 +289,8 @@ module _ (dig : List ℕ → List ℕ) where
       let t = then dig _ i g.sent new f in
       let peers : new.peers ≡ slice_set g.mid.peers i t = peers_then dig _ i g.sent new f in
       let same : f.peer ≡ left.peer =
-      same_some (slice_get g.mid.peers i) f.peer left.peer f.here (ap (λ l. slice_get l i) left.peers ∙ set_same (with_peer s i rest).peers i left.peer rest set) in
+      same_some (slice_get g.mid.peers i) f.peer left.peer f.here
+      (ap (λ l. slice_get l i) left.peers ∙ set_same (with_peer s i rest).peers i left.peer rest set) in
       let key_is : f.peer.key ≡ p.key = ap (λ (x : PeerState). x.key) same ∙ left.same_key in
       let less : AsksLess p f.peer = subst (λ x. AsksLess p x) (sym same) (record { blocks = left.asks_less.blocks; hashes = left.asks_less.hashes }) in
       let more : (x : Sent) → Contains g.sent x → Contains out.send x =

@@ -141,7 +141,8 @@ pub asks_same : (p q : PeerState) → q.asked ≡ p.asked → q.hash ≡ p.hash 
 asks_same p q asked hash = record { blocks = λ b c. subst (λ l. Contains l b) asked c; hashes = λ k e. sym hash ∙ e }
 
 -- an answer to a hash request asks for none
-resolved : (key : HashKey) (next old new : HashState) → ((k : HashKey) → next ≡ Asked k → ⊥) → Resolves key next old new → (k : HashKey) → new ≡ Asked k → old ≡ Asked k
+resolved : (key : HashKey) (next old new : HashState) → ((k : HashKey) → next ≡ Asked k → ⊥) → Resolves key next old new → (k : HashKey) → new ≡ Asked k
+    → old ≡ Asked k
 resolved key next old new never (ours_asked x e) k f = absurd (never k (sym e ∙ f))
 resolved key next old new never (other_asked x e) k f = sym e ∙ f
 
@@ -173,7 +174,8 @@ set_self (y ∷ xs) (suc i) x e = ap (λ l. y ∷ l) (set_self xs i x e)
 
 module _ (dig : List ℕ → List ℕ) (s : EngineState) (i : ℕ) (p : PeerState) (at : slice_get s.peers i ≡ Some p) where
   -- the peer is another
-  sets : (q : PeerState) (e effect : Effect) (mid : EngineState) → q.key ≡ p.key → q.am_interested ≡ p.am_interested → IsQuiet e → effect ≡ e → mid ≡ with_peer s i q → AsksLess p q → Leaves s i p effect mid
+  sets : (q : PeerState) (e effect : Effect) (mid : EngineState) → q.key ≡ p.key → q.am_interested ≡ p.am_interested → IsQuiet e → effect ≡ e
+      → mid ≡ with_peer s i q → AsksLess p q → Leaves s i p effect mid
   sets q e effect mid k f quiet same after less = subst (λ x. Leaves s i p x mid) (sym same) (subst (λ x. Leaves s i p e x) (sym after) (record {
     peer = q;
     same_key = k;
@@ -242,12 +244,14 @@ module _ (dig : List ℕ → List ℕ) (s : EngineState) (i : ℕ) (p : PeerStat
   request_leaves mid ask calls effect (ignored a c e d) = stays _ effect mid silent e d
   request_leaves mid ask calls effect (no_place a c d e f) = stays _ effect mid (closes_quietly _) e f
   request_leaves mid ask calls effect (not_marked span a c d f e g) = stays _ effect mid silent e g
-  request_leaves mid ask calls effect (served span a place c f) = sets _ _ effect mid refl refl (replies_quietly _ refl) f.sent f.after (asks_same p _ refl refl)
+  request_leaves mid ask calls effect (served span a place c f) =
+      sets _ _ effect mid refl refl (replies_quietly _ refl) f.sent f.after (asks_same p _ refl refl)
   request_leaves mid ask calls effect (stopped span a c d f) = fault_leaves f.tree mid span.file f.block f.file f.read effect f.finds
 
   -- a block was put: its file may change, where the peer stays connected
   put_leaves : (b : BlockId) (file : FileState) (q : PeerState) (r : Result Put StoreError) (states : List _) (effect : Effect) (stored mid : EngineState)
-      → slice_get s.files b.file ≡ Some file → q.key ≡ p.key → q.am_interested ≡ p.am_interested → AsksLess p q → HasPutEffect b r effect → (r ≡ Ok Wrong → states ≡ file.states)
+      → slice_get s.files b.file ≡ Some file → q.key ≡ p.key → q.am_interested ≡ p.am_interested → AsksLess p q → HasPutEffect b r effect
+      → (r ≡ Ok Wrong → states ≡ file.states)
       → stored ≡ with_file s b.file (record file { states = states }) → mid ≡ with_peer stored i q → Leaves s i p effect mid
   put_leaves b file q r states effect stored mid there k f less has same is after =
       subst (λ x. Leaves s i p effect x) (sym (after ∙ ap (λ x. with_peer x i q) is)) (of_effect r has same)
@@ -275,7 +279,8 @@ module _ (dig : List ℕ → List ℕ) (s : EngineState) (i : ℕ) (p : PeerStat
 
   arrives_leaves : (mid : EngineState) (piece begin : ℕ) (bytes : List ℕ) (calls : DeviceCalls) (effect : Effect) → Arrives dig s i p piece begin bytes calls effect mid → Leaves s i p effect mid
   arrives_leaves mid piece begin bytes calls effect a =
-      put_leaves a.block a.puts.file _ a.puts.result (states_after_put a.block.block a.puts.result a.puts.file.states) effect a.stored mid a.puts.is_file.here refl refl
+      put_leaves a.block a.puts.file _ a.puts.result
+      (states_after_put a.block.block a.puts.result a.puts.file.states) effect a.stored mid a.puts.is_file.here refl refl
       (record { blocks = λ b c. (contains_filter (λ d. not (is_block a.block d)) p.asked b c).0; hashes = λ k e. e }) a.puts.has_effect
       (λ e. ap (λ r. states_after_put a.block.block r a.puts.file.states) e) a.puts.after a.after
 
@@ -330,7 +335,8 @@ module _ (dig : List ℕ → List ℕ) (s : EngineState) (i : ℕ) (p : PeerStat
 
   message_leaves : (mid : EngineState) (m : PeerMessage) (calls : DeviceCalls) (effect : Effect) → HandlesMessage dig s i p m calls effect mid → Leaves s i p effect mid
   message_leaves mid KeepAlive calls effect h = stays _ effect mid silent h.1 h.2
-  message_leaves mid Choke calls effect h = sets _ _ effect mid refl refl silent h.1 h.2 (record { blocks = λ b c. absurd (contains_none b c); hashes = λ k e. e })
+  message_leaves mid Choke calls effect h =
+      sets _ _ effect mid refl refl silent h.1 h.2 (record { blocks = λ b c. absurd (contains_none b c); hashes = λ k e. e })
   message_leaves mid Unchoke calls effect h = sets _ _ effect mid refl refl silent h.1 h.2 (asks_same p _ refl refl)
   message_leaves mid Interested calls effect h = sets _ _ effect mid refl refl silent h.1 h.2 (asks_same p _ refl refl)
   message_leaves mid NotInterested calls effect h = sets _ _ effect mid refl refl silent h.1 h.2 (asks_same p _ refl refl)
@@ -341,7 +347,9 @@ module _ (dig : List ℕ → List ℕ) (s : EngineState) (i : ℕ) (p : PeerStat
   message_leaves mid (Cancel ask) calls effect h = stays _ effect mid silent h.1 h.2
   message_leaves mid (HashRequest key) calls effect h = answer_leaves mid key effect h.1 h.2
   message_leaves mid (Hashes key digests) calls effect h = hashes_leaves mid key digests calls effect h
-  message_leaves mid (HashReject key) calls effect h = sets _ _ effect mid refl refl silent h.1 h.2.after (record { blocks = λ b c. c; hashes = resolved key Refused p.hash h.2.hash never_refused h.2.resolves })
+  message_leaves mid (HashReject key) calls effect h =
+      sets _ _ effect mid refl refl silent h.1 h.2.after
+      (record { blocks = λ b c. c; hashes = resolved key Refused p.hash h.2.hash never_refused h.2.resolves })
 
   hello_leaves : (mid : EngineState) (h : Handshake) (effect : Effect) → HandlesHello s h effect → mid ≡ s → Leaves s i p effect mid
   hello_leaves mid h effect (ours x e) after = stays _ effect mid silent e after

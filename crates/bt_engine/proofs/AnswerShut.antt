@@ -124,7 +124,8 @@ orderly_only s key i p o x = record {
 -- ---- a peer that is closed is gone
 
 -- no other peer has its key, and none comes
-gone : (s mid new : EngineState) (key : PeerKey) (i : ℕ) (p : PeerState) → IsOnlyPeer s key i p → ((n : ℕ) → n ≢ i → slice_get mid.peers n ≡ slice_get s.peers n) → new ≡ without_peer i mid
+gone : (s mid new : EngineState) (key : PeerKey) (i : ℕ) (p : PeerState) → IsOnlyPeer s key i p
+    → ((n : ℕ) → n ≢ i → slice_get mid.peers n ≡ slice_get s.peers n) → new ≡ without_peer i mid
     → IsConnected new key → ⊥
 gone s mid new key i p one others after (j, q, is) =
     let r = other_without mid.peers i j q (ap (λ (x : EngineState). slice_get x.peers j) (sym after) ∙ is.here) in
@@ -142,7 +143,8 @@ by_effect effect why e = ap (λ (x : Effect). x.close) e
 record AreFor (dig : List ℕ → List ℕ) (s : EngineState) (key : HashKey) (digests : List ℕ) (why : Why) : Type 0 where
   of_unknown : IsUnknownRoot s key.root → UnknownRoot ≡ why
   of_no_claim : (fault : ProofError) → ¬ IsUnknownRoot s key.root → IsNoClaim key digests fault → fault ≢ OutOfMemory → Proof fault ≡ why
-  of_refusal : (fault : ProofError) (tree : ℕ) (k : Facts) (claim : Claim) → IsTreeOf s key.root tree k → IsClaimBy key digests claim → IsRefused dig k claim fault → fault ≢ OutOfMemory → Proof fault ≡ why
+  of_refusal : (fault : ProofError) (tree : ℕ) (k : Facts) (claim : Claim) → IsTreeOf s key.root tree k → IsClaimBy key digests claim
+      → IsRefused dig k claim fault → fault ≢ OutOfMemory → Proof fault ≡ why
   never : (tree : ℕ) (k : Facts) (claim : Claim) → IsTreeOf s key.root tree k → IsClaimBy key digests claim → IsAcceptable dig k claim → ⊥
 
 module _ (dig : List ℕ → List ℕ) (s : EngineState) (key : HashKey) (digests : List ℕ) where
@@ -154,7 +156,8 @@ module _ (dig : List ℕ → List ℕ) (s : EngineState) (key : HashKey) (digest
     never = λ tree k claim is c a. unknown tree k is;
   }
 
-  no_claim_alone : (fault : ProofError) → ¬ IsUnknownRoot s key.root → IsNoClaim key digests fault → fault ≢ OutOfMemory → AreFor dig s key digests (Proof fault)
+  no_claim_alone : (fault : ProofError) → ¬ IsUnknownRoot s key.root → IsNoClaim key digests fault → fault ≢ OutOfMemory
+      → AreFor dig s key digests (Proof fault)
   no_claim_alone fault known none not = record {
     of_unknown = λ u. absurd (known u);
     of_no_claim = λ f k also n. ap (λ x. Proof x) (no_claim_one key digests f fault also none n not);
@@ -162,13 +165,16 @@ module _ (dig : List ℕ → List ℕ) (s : EngineState) (key : HashKey) (digest
     never = λ tree k claim is c a. not_no_claim key digests claim fault c none not;
   }
 
-  refused_alone : AllPairs (λ (j k : Facts). j.root ≢ k.root) s.trees → (fault : ProofError) (tree : ℕ) (k : Facts) (claim : Claim) → IsTreeOf s key.root tree k → IsClaimBy key digests claim → IsRefused dig k claim fault
+  refused_alone : AllPairs (λ (j k : Facts). j.root ≢ k.root) s.trees → (fault : ProofError) (tree : ℕ) (k : Facts) (claim : Claim) → IsTreeOf s key.root tree k
+      → IsClaimBy key digests claim → IsRefused dig k claim fault
       → fault ≢ OutOfMemory → AreFor dig s key digests (Proof fault)
   refused_alone apart fault tree k claim is c refusal not = record {
     of_unknown = λ u. absurd (u tree k is);
     of_no_claim = λ f known none n. absurd (not_no_claim key digests claim f c none n);
-    of_refusal = λ f t l d there e r n. ap (λ x. Proof x) (refused_one dig k claim f fault (subst (λ x. IsRefused dig x claim f) (same t l there) (subst (λ x. IsRefused dig l x f) (e.claim_is ∙ sym c.claim_is) r)) refusal n not);
-    never = λ t l d there e a. not_refused dig k claim fault (subst (λ x. IsAcceptable dig x claim) (same t l there) (subst (λ x. IsAcceptable dig l x) (e.claim_is ∙ sym c.claim_is) a)) refusal not;
+    of_refusal = λ f t l d there e r n. ap (λ x. Proof x)
+        (refused_one dig k claim f fault (subst (λ x. IsRefused dig x claim f) (same t l there) (subst (λ x. IsRefused dig l x f) (e.claim_is ∙ sym c.claim_is) r)) refusal n not);
+    never = λ t l d there e a. not_refused dig k claim fault
+        (subst (λ x. IsAcceptable dig x claim) (same t l there) (subst (λ x. IsAcceptable dig l x) (e.claim_is ∙ sym c.claim_is) a)) refusal not;
   }
     where
       same : (t : ℕ) (l : Facts) → IsTreeOf s key.root t l → l ≡ k
@@ -181,7 +187,8 @@ module _ (dig : List ℕ → List ℕ) (s : EngineState) (i : ℕ) (p : PeerStat
   abbrev t : EngineState
   t = with_peer s i q
 
-  put_shuts : (k : Facts) (b : BlockId) (bytes : List ℕ) (states : _) (effect : Effect) (r : Result Put StoreError) → IsWrong dig (value_at dig k 0 b.block) bytes → PutIsDue dig k b.block bytes states r → HasPutEffect b r effect
+  put_shuts : (k : Facts) (b : BlockId) (bytes : List ℕ) (states : _) (effect : Effect) (r : Result Put StoreError)
+      → IsWrong dig (value_at dig k 0 b.block) bytes → PutIsDue dig k b.block bytes states r → HasPutEffect b r effect
       → Shuts effect WrongBlock
   put_shuts k b bytes states effect (Ok PutMarked) w due e = absurd (w.2 (same_some (value_at dig k 0 b.block) w.0 (dig bytes) w.1 due.2))
   put_shuts k b bytes states effect (Ok PutWaiting) w due e = let no : None ≡ Some w.0 = sym due.2 ∙ w.1 in absurd cc
@@ -191,7 +198,8 @@ module _ (dig : List ℕ → List ℕ) (s : EngineState) (i : ℕ) (p : PeerStat
   put_shuts k b bytes states effect (Err Range) w due e = absurd e
 
   piece_shuts : (piece begin : ℕ) (bytes : List ℕ) (b : BlockId) (tree : Facts) (effect : Effect) (mid : EngineState) → IsLawful s.torrent.piece_length s.torrent.files → IsWholeBlock s.torrent piece begin (length bytes) b
-      → Contains p.asked b → tree_of s b.file ≡ Some tree → IsWrong dig (value_at dig tree 0 b.block) bytes → HandlesPiece dig t i q piece begin bytes calls effect mid → Shuts effect WrongBlock
+      → Contains p.asked b → tree_of s b.file ≡ Some tree → IsWrong dig (value_at dig tree 0 b.block) bytes
+      → HandlesPiece dig t i q piece begin bytes calls effect mid → Shuts effect WrongBlock
   piece_shuts piece begin bytes b tree effect mid lawful whole asked hung w (stale none x y z) = absurd (none b whole asked)
   piece_shuts piece begin bytes b tree effect mid lawful whole asked hung w (arrives r) =
       let same = same_block s.torrent lawful.laid_out piece begin (length bytes) r.block b r.whole whole in
@@ -213,11 +221,15 @@ module _ (dig : List ℕ → List ℕ) (s : EngineState) (i : ℕ) (p : PeerStat
   known_before : (root : List ℕ) → ¬ IsUnknownRoot t root → ¬ IsUnknownRoot s root
   known_before root known u = known (λ tree k is. u tree k (here_before root tree k is))
 
-  hashes_shut : (key : HashKey) (digests : List ℕ) (why : Why) (effect : Effect) (mid : EngineState) → AreFor dig s key digests why → HandlesHashes dig t i q key digests calls effect mid → Shuts effect why
+  hashes_shut : (key : HashKey) (digests : List ℕ) (why : Why) (effect : Effect) (mid : EngineState) → AreFor dig s key digests why
+      → HandlesHashes dig t i q key digests calls effect mid → Shuts effect why
   hashes_shut key digests why effect mid a (unknown_root x y e z) = by_effect effect why (e ∙ ap closing (a.of_unknown (unknown_before key.root x)))
-  hashes_shut key digests why effect mid a (no_claim f x y c) = by_effect effect why (c.has_effect ∙ ap closing (a.of_no_claim f (known_before key.root x) y c.not_memory))
-  hashes_shut key digests why effect mid a (refused f tree k c x y z g) = by_effect effect why (g.has_effect ∙ ap closing (a.of_refusal f tree k c (here_before key.root tree k x) y z g.not_memory))
-  hashes_shut key digests why effect mid a (learns l) = absurd (a.never l.tree l.old l.claim (here_before key.root l.tree l.old l.here) l.claims l.accepts.conditions)
+  hashes_shut key digests why effect mid a (no_claim f x y c) =
+      by_effect effect why (c.has_effect ∙ ap closing (a.of_no_claim f (known_before key.root x) y c.not_memory))
+  hashes_shut key digests why effect mid a (refused f tree k c x y z g) =
+      by_effect effect why (g.has_effect ∙ ap closing (a.of_refusal f tree k c (here_before key.root tree k x) y z g.not_memory))
+  hashes_shut key digests why effect mid a (learns l) =
+      absurd (a.never l.tree l.old l.claim (here_before key.root l.tree l.old l.here) l.claims l.accepts.conditions)
 
 module _ (dig : List ℕ → List ℕ) (s new : EngineState) (key : PeerKey) (i : ℕ) (p : PeerState) (calls : DeviceCalls) (a : Answer) (one : IsOnlyPeer s key i p) (step : Step dig s (Next key) calls a new) where
   abbrev IsShut : Why → Type 0
@@ -225,14 +237,16 @@ module _ (dig : List ℕ → List ℕ) (s new : EngineState) (key : PeerKey) (i 
 
   -- where each way to handle the event closes, the answer does
   shut_by : (why : Why) (e : WireEvent) (rest : Stream) → Takes p.stream e rest
-      → ((effect : Effect) (mid : EngineState) → Handles dig (with_peer s i (record p { stream = rest })) i (record p { stream = rest }) e calls effect mid → Shuts effect why) → IsShut why
+      → ((effect : Effect) (mid : EngineState)
+      → Handles dig (with_peer s i (record p { stream = rest })) i (record p { stream = rest }) e calls effect mid → Shuts effect why) → IsShut why
   shut_by why e rest takes shut = by (step_taken dig s new key i p calls e rest one takes a step)
     where
       stays_open : {X : Type 0} (effect : Effect) → Shuts effect why → effect.close ≡ None → X
       stays_open effect e none = let wrong : None ≡ Some why = sym none ∙ e in absurd cc
 
       -- the event changes no other peer
-      others : (effect : Effect) (mid : EngineState) → Handles dig (with_peer s i (record p { stream = rest })) i (record p { stream = rest }) e calls effect mid
+      others : (effect : Effect) (mid : EngineState)
+          → Handles dig (with_peer s i (record p { stream = rest })) i (record p { stream = rest }) e calls effect mid
           → (n : ℕ) → n ≢ i → slice_get mid.peers n ≡ slice_get s.peers n
       others effect mid h n apart =
           let q = record p { stream = rest } in
@@ -246,7 +260,8 @@ module _ (dig : List ℕ → List ℕ) (s new : EngineState) (key : PeerKey) (i 
           let cause : Some g.why ≡ Some why = sym g.closed ∙ shut g.effect g.mid h in
           inr ((out, ap output_of is, ap (λ (o : Output). o.close) g.is ∙ cause), gone s g.mid new key i p one (others g.effect g.mid h) g.after)
 
-  shut_for : (why : Why) → IsLawful s.torrent.piece_length s.torrent.files → AllPairs (λ (j k : Facts). j.root ≢ k.root) s.trees → IsCause dig s p why → IsShut why
+  shut_for : (why : Why) → IsLawful s.torrent.piece_length s.torrent.files → AllPairs (λ (j k : Facts). j.root ≢ k.root) s.trees → IsCause dig s p why
+      → IsShut why
   shut_for why lawful apart (wire fault failed f) = by_fault step.0 step.1 step.2
     where
       at : (j : ℕ) (q : PeerState) → IsPeer s key j q → q ≡ p
@@ -274,7 +289,8 @@ module _ (dig : List ℕ → List ℕ) (s new : EngineState) (key : PeerKey) (i 
       by_fault r is (no_memory j q x g e) = no_event g.event g.rest q (at j q x) g.takes
   shut_for why lawful apart (other_torrent h rest takes differs) = shut_by WrongTorrent (Hello h) rest takes hello
     where
-      hello : (effect : Effect) (mid : EngineState) → Handles dig (with_peer s i (record p { stream = rest })) i (record p { stream = rest }) (Hello h) calls effect mid → Shuts effect WrongTorrent
+      hello : (effect : Effect) (mid : EngineState)
+          → Handles dig (with_peer s i (record p { stream = rest })) i (record p { stream = rest }) (Hello h) calls effect mid → Shuts effect WrongTorrent
       hello effect mid x = by x.1
         where
           by : HandlesHello (with_peer s i (record p { stream = rest })) h effect → Shuts effect WrongTorrent
@@ -282,28 +298,35 @@ module _ (dig : List ℕ → List ℕ) (s new : EngineState) (key : PeerKey) (i 
           by (other differs_too e) = by_effect effect _ e
   shut_for why lawful apart (past_last_piece piece rest takes past) = shut_by BadPiece (Message (Have piece)) rest takes (λ effect mid x. have effect mid x.1)
     where
-      have : (effect : Effect) (mid : EngineState) → HandlesHave (with_peer s i (record p { stream = rest })) i (record p { stream = rest }) piece effect mid → Shuts effect BadPiece
+      have : (effect : Effect) (mid : EngineState) → HandlesHave (with_peer s i (record p { stream = rest })) i (record p { stream = rest }) piece effect mid
+          → Shuts effect BadPiece
       have effect mid (in_range below e y) = absurd (omega (arith, below, past))
       have effect mid (out_of_range x e y) = by_effect effect _ e
-  shut_for why lawful apart (other_length bytes rest takes differs) = shut_by BadBitfield (Message (Bitfield bytes)) rest takes (λ effect mid x. bits effect mid x.1)
+  shut_for why lawful apart (other_length bytes rest takes differs) =
+      shut_by BadBitfield (Message (Bitfield bytes)) rest takes (λ effect mid x. bits effect mid x.1)
     where
-      bits : (effect : Effect) (mid : EngineState) → HandlesBitfield (with_peer s i (record p { stream = rest })) i (record p { stream = rest }) bytes effect mid → Shuts effect BadBitfield
+      bits : (effect : Effect) (mid : EngineState)
+          → HandlesBitfield (with_peer s i (record p { stream = rest })) i (record p { stream = rest }) bytes effect mid → Shuts effect BadBitfield
       bits effect mid (right same e y) = absurd (differs same)
       bits effect mid (wrong x e y) = by_effect effect _ e
   shut_for why lawful apart (has_no_place ask rest takes open_to none) = shut_by BadRequest (Message (Request ask)) rest takes request
     where
-      request : (effect : Effect) (mid : EngineState) → HandlesRequest dig (with_peer s i (record p { stream = rest })) i (record p { stream = rest }) ask calls effect mid → Shuts effect BadRequest
+      request : (effect : Effect) (mid : EngineState)
+          → HandlesRequest dig (with_peer s i (record p { stream = rest })) i (record p { stream = rest }) ask calls effect mid → Shuts effect BadRequest
       request effect mid (ignored choked x y z) = let no : true ≡ false = sym choked ∙ open_to in absurd cc
       request effect mid (no_place x y z e w) = by_effect effect _ e
       request effect mid (not_marked span x there y z w v) = absurd (none span there)
       request effect mid (served span x there y z) = absurd (none span there)
       request effect mid (stopped span x there y z) = absurd (none span there)
   shut_for why lawful apart (wrong_block piece begin bytes rest b tree takes whole asked hung w) =
-      shut_by WrongBlock (Message (Piece piece begin bytes)) rest takes (λ effect mid x. piece_shuts dig s i p rest calls piece begin bytes b tree effect mid lawful whole asked hung w x)
+      shut_by WrongBlock (Message (Piece piece begin bytes)) rest takes
+      (λ effect mid x. piece_shuts dig s i p rest calls piece begin bytes b tree effect mid lawful whole asked hung w x)
   shut_for why lawful apart (of_unknown_root k digests rest takes unknown) =
-      shut_by UnknownRoot (Message (Hashes k digests)) rest takes (λ effect mid x. hashes_shut dig s i p rest calls k digests UnknownRoot effect mid (unknown_alone dig s k digests unknown) x)
+      shut_by UnknownRoot (Message (Hashes k digests)) rest takes
+      (λ effect mid x. hashes_shut dig s i p rest calls k digests UnknownRoot effect mid (unknown_alone dig s k digests unknown) x)
   shut_for why lawful apart (makes_no_claim k digests rest fault takes known none not) =
-      shut_by (Proof fault) (Message (Hashes k digests)) rest takes (λ effect mid x. hashes_shut dig s i p rest calls k digests (Proof fault) effect mid (no_claim_alone dig s k digests fault known none not) x)
+      shut_by (Proof fault) (Message (Hashes k digests)) rest takes
+      (λ effect mid x. hashes_shut dig s i p rest calls k digests (Proof fault) effect mid (no_claim_alone dig s k digests fault known none not) x)
   shut_for why lawful apart (is_refused k digests rest fault tree facts claim takes is c ref not) =
       shut_by (Proof fault) (Message (Hashes k digests)) rest takes
       (λ effect mid x. hashes_shut dig s i p rest calls k digests (Proof fault) effect mid (refused_alone dig s k digests apart fault tree facts claim is c ref not) x)

@@ -48,10 +48,12 @@ block_is : (b c : BlockId) → b.file ≡ c.file → b.block ≡ c.block → b �
 block_is b c e f = ap (λ n. record b { file = n }) e ∙ ap (λ n. record c { block = n }) f
 
 -- only a run of leaves has blocks to be settled
-leaves_only : (key : HashKey) (i : ℕ) → Contains (range_with_len key.index (settled_count key)) i → (key.base ≡ 0) × (key.index ≤ i) × (i < key.index + key.length)
+leaves_only : (key : HashKey) (i : ℕ) → Contains (range_with_len key.index (settled_count key)) i
+    → (key.base ≡ 0) × (key.index ≤ i) × (i < key.index + key.length)
 leaves_only key i c = by (key.base == 0) refl c
   where
-    by : (b : Bool) → (key.base == 0) ≡ b → Contains (range_with_len key.index (if b then key.length else 0)) i → (key.base ≡ 0) × (key.index ≤ i) × (i < key.index + key.length)
+    by : (b : Bool) → (key.base == 0) ≡ b → Contains (range_with_len key.index (if b then key.length else 0)) i
+        → (key.base ≡ 0) × (key.index ≤ i) × (i < key.index + key.length)
     by true e c = let limits = range_limits key.index key.length i c in (eqb-true key.base 0 e, limits.0, limits.1)
     by false e c = absurd (contains_none i c)
 
@@ -59,7 +61,8 @@ leaves_only key i c = by (key.base == 0) refl c
 data IsSeen (dig : List ℕ → List ℕ) (s : EngineState) (p : PeerState) (e : WireEvent) (calls : DeviceCalls) (mid : EngineState) (b : BlockId) : Type 0 where
   came : (piece begin : ℕ) (bytes : List ℕ) (tree : Facts) → e ≡ Message (Piece piece begin bytes) → IsWholeBlock s.torrent piece begin (length bytes) b → Contains p.asked b
       → tree_of mid b.file ≡ Some tree → calls ≡ (b.file, bytes_written (full_block_length * b.block) bytes) ∷ [] → IsRight dig tree b.block bytes → IsSeen dig s p e calls mid b
-  waited : (key : HashKey) (digests : List ℕ) (tree : ℕ) (old new : Facts) (claim : Claim) → e ≡ Message (Hashes key digests) → IsTreeOf s key.root tree old → IsClaimBy key digests claim → Accepts dig old claim new
+  waited : (key : HashKey) (digests : List ℕ) (tree : ℕ) (old new : Facts) (claim : Claim) → e ≡ Message (Hashes key digests) → IsTreeOf s key.root tree old
+      → IsClaimBy key digests claim → Accepts dig old claim new
       → IsSettled dig (λ file. true) tree key.index (settled_count key) (with_tree s tree new) calls mid b → IsSeen dig s p e calls mid b
 
 -- the block was marked before, or is seen to be right
@@ -362,7 +365,8 @@ run_cases dig s new (e ∷ es) (c ∷ calls) (a ∷ answers) run b m = elim (run
     answer = i.answer;
     after = i.after;
     answers_are = ap (λ xs. a ∷ xs) i.answers_are;
-    marked = after_step dig (λ old event calls_then new. IsMarkedBy dig old event calls_then new b) s run.0 new e es c calls a i.before i.answer i.after run.1 i.marked;
+    marked = after_step dig
+        (λ old event calls_then new. IsMarkedBy dig old event calls_then new b) s run.0 new e es c calls a i.before i.answer i.after run.1 i.marked;
   })
 ]
 run_cases dig s new [] (c ∷ calls) answers run b m = absurd run

@@ -89,7 +89,8 @@ pub record IsDue (tree from count : ℕ) (f : FileState) (i : ℕ) : Type 0 wher
   pub in_run : Contains (range_with_len from count) i
   pub waited : slice_get f.states i ≡ Some Waiting
 
-due_then : (dig : List ℕ → List ℕ) (k : Facts) (tree from count : ℕ) (f : FileState) (i : ℕ) → Contains (due_blocks dig k tree from count f) i → IsDue tree from count f i
+due_then : (dig : List ℕ → List ℕ) (k : Facts) (tree from count : ℕ) (f : FileState) (i : ℕ) → Contains (due_blocks dig k tree from count f) i
+    → IsDue tree from count f i
 due_then dig k tree from count f i c = by (f.tree == tree) refl c
   where
     by : (b : Bool) → (f.tree == tree) ≡ b → Contains (if b then waiting_blocks dig k f.states from count else []) i → IsDue tree from count f i
@@ -109,7 +110,8 @@ meant_then dig k true tree from count f i c = (refl, due_then dig k tree from co
 meant_then dig k false tree from count f i c = absurd (contains_none i c)
 
 -- a block that waited was read, with the digest of its leaf, as one of the run in a file of the tree that was meant
-pub record IsSettled (dig : List ℕ → List ℕ) (is_meant : ℕ → Bool) (tree from count : ℕ) (old : EngineState) (calls : DeviceCalls) (new : EngineState) (b : BlockId) : Type 0 where
+pub record IsSettled (dig : List ℕ → List ℕ) (is_meant : ℕ → Bool) (tree from count : ℕ) (old : EngineState) (calls : DeviceCalls) (new : EngineState)
+    (b : BlockId) : Type 0 where
   pub facts : Facts
   pub file : FileState
   pub bytes : List ℕ

@@ -103,7 +103,8 @@ other_removed (y ∷ xs) zero j x e = (suc j, e, λ f. absurd (omega (arith, f))
 other_removed (y ∷ xs) (suc i) zero x e = (0, e, λ f. absurd (omega (arith, f)))
 other_removed (y ∷ xs) (suc i) (suc j) x e = let r = other_removed xs i j x e in (suc r.0, r.1, λ f. r.2 (omega (arith, f)))
 
-pub other_without : {X : Type 0} (xs : List X) (i j : ℕ) (x : X) → slice_get (take i xs ++ drop (i + 1) xs) j ≡ Some x → (n : ℕ) × (slice_get xs n ≡ Some x) × (n ≢ i)
+pub other_without : {X : Type 0} (xs : List X) (i j : ℕ) (x : X) → slice_get (take i xs ++ drop (i + 1) xs) j ≡ Some x
+    → (n : ℕ) × (slice_get xs n ≡ Some x) × (n ≢ i)
 other_without xs i j x e = other_removed xs i j x (ap (λ ys. slice_get ys j) (sym (removed_is xs i)) ∙ e)
 
 pub contains_without : {X : Type 0} (xs : List X) (i : ℕ) (y : X) → Contains (take i xs ++ drop (i + 1) xs) y → Contains xs y

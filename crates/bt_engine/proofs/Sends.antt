@@ -305,7 +305,8 @@ module _ (dig : List ℕ → List ℕ) where
   step_sends s new (Adopt file) calls a t = nothing _ a _ t.1 plain_none
   step_sends s new Flush calls a t = nothing _ a _ t.1 plain_none
 
-  pub run_sends : (s new : EngineState) (es : List Event) (calls : List DeviceCalls) (before : List Answer) (answer : Answer) (after : List Answer) → Run dig s es calls (before ++ answer ∷ after) new
+  pub run_sends : (s new : EngineState) (es : List Event) (calls : List DeviceCalls) (before : List Answer) (answer : Answer) (after : List Answer)
+      → Run dig s es calls (before ++ answer ∷ after) new
       → (key : PeerKey) (piece begin : ℕ) (bytes : List ℕ) → Contains (sent_by answer) (piece_frame key piece begin bytes)
       → IsSoAt dig s es calls before answer after new (λ old event calls_then new. IsServed dig old event calls_then key piece begin bytes)
   run_sends s new (e ∷ es) (c ∷ calls) [] answer after run key piece begin bytes sent =
