@@ -154,14 +154,14 @@ module _ (dig : List ℕ → List ℕ) where
               (λ f k is. record { state = f; tree = k; is_file = is; extends = same_tree k }) x)
         ]
 
-    -- blocks of other files stay as they are
+    -- other files stay as they are
     groups_others : (s new : EngineState) (file from : ℕ) (groups : List DeviceCalls) (total : Adopted) → AdoptsGroups dig s file from groups total new
-        → b.file ≢ file → state_at new b ≡ state_at s b
-    groups_others s new file from [] total g apart = ap (λ x. state_at x b) g.1
+        → b.file ≢ file → slice_get new.files b.file ≡ slice_get s.files b.file
+    groups_others s new file from [] total g apart = ap (λ (x : EngineState). slice_get x.files b.file) g.1
     groups_others s new file from (calls ∷ groups) total g apart =
         let one = g.3 in
-        groups_others g.1 new file g.0.next groups g.2 g.4 apart ∙ ap (λ x. state_at x b) one.after
-        ∙ ap (option_and_then (λ (q : FileState). slice_get q.states b.block)) (set_other s.files file b.file (record one.state { states = one.states }) apart)
+        groups_others g.1 new file g.0.next groups g.2 g.4 apart ∙ ap (λ (x : EngineState). slice_get x.files b.file) one.after
+        ∙ set_other s.files file b.file (record one.state { states = one.states }) apart
 
     other_file : (file other : ℕ) → is_other file other ≡ true → other ≢ file
     other_file file other e same = by (other == file) (eq-eqb other file same) e
@@ -180,14 +180,28 @@ module _ (dig : List ℕ → List ℕ) where
             | inr x ↦ inr (found (found_later file own calls a.mid new (λ c among. subst (λ cs. Contains cs c) (sym a.made) (Contains-append_left own a.settling c among))
                 (λ f k is. in_new b.file k (settle_forward (is_other file) a.state.tree 0 _ a.mid a.settled a.settling a.notes a.settles b.file f k is)) x))
           ]
-          | inr r ↦ inr (read_back (record {
-            tree = r.0.tree;
-            bytes = r.0.bytes;
-            waited = sym (groups_others s a.mid file 0 a.groups total a.adopts (other_file file b.file r.1)) ∙ r.0.waited;
-            hung = ap (λ x. tree_of x b.file) a.after ∙ r.0.hung;
-            read = subst (λ cs. Contains cs (b.file, call_of r.0.tree.file_length (given b.block r.0.bytes))) (sym a.made) (Contains-append_right own a.settling _ r.0.read);
-            right = r.0.right;
-          }))
+          | inr r ↦
+              let apart : b.file ≢ file = other_file file b.file r.meant in
+              let same : slice_get a.mid.files b.file ≡ slice_get s.files b.file = groups_others s a.mid file 0 a.groups total a.adopts apart in
+              inr (read_back (record {
+                tree = r.facts;
+                bytes = r.bytes;
+                waited = sym (ap (option_and_then (λ (q : FileState). slice_get q.states b.block)) same) ∙ r.waited;
+                due = inr (record {
+                  other = file;
+                  twin = a.state;
+                  own = r.file;
+                  is_adopt = refl;
+                  apart = λ e. apart (sym e);
+                  twin_here = a.here;
+                  own_here = sym same ∙ r.here;
+                  one_tree = r.of_tree;
+                });
+                hung = ap (λ x. tree_of x b.file) a.after ∙ r.hung;
+                read = subst (λ cs. Contains cs (b.file, call_of r.facts.file_length (given b.block r.bytes))) (sym a.made)
+                    (Contains-append_right own a.settling _ r.read);
+                right = r.right;
+              }))
         ]
       where
         in_new : (other : ℕ) (k : Facts) → HasExtended a.settled other k → HasExtended new other k

@@ -18,6 +18,7 @@ use Rattle.bt_engine.specs.AnswerDue.{IsOnlyPeer, IsAskedForAll, NextAsksForAll}
 use Rattle.bt_engine.proofs.Lists.{same_some, set_same, contains_none, contains_cases, here, later}
 use Rattle.bt_engine.proofs.AnswerParts.{event_leaves}
 use Rattle.bt_engine.proofs.Pairs.{contains_some, some_at}
+use Rattle.bt_engine.proofs.AnswerChanges.{next_changes}
 use Rattle.bt_engine.proofs.AnswerSends.{nat_cases, set_other}
 
 -- ---- whether somebody is asked for a block
@@ -178,7 +179,9 @@ module _ (dig : List ℕ → List ℕ) (s new : EngineState) (key : PeerKey) (i 
   next_asks_all r e (no_memory j q x g y) = let wrong = e ∙ y in absurd cc
 
 pub next_asks : (dig : List ℕ → List ℕ) → NextAsksForAll dig
-next_asks dig s new key i p calls out one stays t = next_asks_all dig s new key i p calls out one stays t.0 (result_is t.0 t.1) t.2
+next_asks dig s new key i p calls out one stays t =
+    let r = next_asks_all dig s new key i p calls out one stays t.0 (result_is t.0 t.1) t.2 in
+    (r.0, r.1, r.2, next_changes dig s new key i p r.0 calls (of_next (Ok (Some out))) one r.1 t)
   where
     result_is : (r : Result (Option Output) EngineError) → of_next (Ok (Some out)) ≡ of_next r → Ok (Some out) ≡ r
     result_is r e = cc

@@ -1,5 +1,5 @@
 -- The parts of what is sent, and what a wire event leaves of the engine and its peer.
-use Rattle.std.proofs.Common.{◌≡◌, ℕ, inl, inr, Bool, true, false, List, [], ◌∷◌, ◌++◌, map, Some, Result, Ok, Err, refl, sym, ap, ◌∙◌, subst}
+use Rattle.std.proofs.Common.{◌≡◌, ℕ, inl, inr, Bool, true, false, not, List, [], ◌∷◌, ◌++◌, map, Some, Result, Ok, Err, refl, sym, ap, ◌∙◌, subst}
 use Rattle.std.specs.Prelude.{slice_get, slice_set, Contains, nat_lt, if◌then◌else◌}
 use Rattle.std.proofs.lemmas.List.Elements.{Contains-append_cases}
 use Rattle.bt_sparse.specs.SparseTree.{Facts}
@@ -11,6 +11,7 @@ use Rattle.bt_store.specs.declared.error.StoreError.TheVariants.{Range, Device a
 use Rattle.bt_store.specs.declared.arrival.Put.{Put}
 use Rattle.bt_store.specs.declared.arrival.Put.TheVariants.{Already, Wrong, Marked as PutMarked, Waiting as PutWaiting}
 use Rattle.bt_book.specs.declared.names.BlockId.{BlockId}
+use Rattle.bt_book.specs.Blocks.{is_block}
 use Rattle.bt_wire.specs.declared.handshake.Handshake.{Handshake}
 use Rattle.bt_wire.specs.declared.message.Ask.{Ask}
 use Rattle.bt_wire.specs.declared.message.Message.{Message as PeerMessage}
@@ -22,17 +23,17 @@ use Rattle.bt_engine.specs.declared.answer.Frame.TheVariants.{Hello as hello_fra
 use Rattle.bt_engine.specs.declared.answer.Note.{Note}
 use Rattle.bt_engine.specs.declared.answer.Note.TheVariants.{Device, Complete}
 use Rattle.bt_engine.specs.declared.answer.Why.{Why}
-use Rattle.bt_engine.specs.State.{PeerState, FileState, EngineState}
+use Rattle.bt_engine.specs.State.{HashState, Idle, Asked, Refused, PeerState, FileState, EngineState}
 use Rattle.bt_engine.specs.Devices.{DeviceCalls}
 use Rattle.bt_engine.specs.Blocks.{with_file, with_peer, with_tree, file_numbers}
 use Rattle.bt_engine.specs.Output.{Sent, Effect, sent_to, haves, no_effect, noting, closing, sending}
 use Rattle.bt_engine.specs.Request.{FindsFault, damaged, fault, HandlesRequest, ignored, no_place, not_marked, served, stopped}
 use Rattle.bt_engine.specs.Arrival.{HasPutEffect, Arrives, HandlesPiece, stale, arrives}
 use Rattle.bt_engine.specs.Settling.{settling_notes, read_note}
-use Rattle.bt_engine.specs.HashMessages.{HandlesHashRequest, answered, rejected, HandlesHashes, unknown_root, no_claim, refused, learns, new_proofs}
+use Rattle.bt_engine.specs.HashMessages.{HandlesHashRequest, answered, rejected, HandlesHashes, unknown_root, no_claim, refused, learns, new_proofs, Resolves, ours as ours_asked, other as other_asked}
 use Rattle.bt_engine.specs.WireEvents.{HandlesHello, ours, other, HandlesHave, in_range, out_of_range, HandlesBitfield, right, wrong, HandlesMessage, Handles}
 use Rattle.bt_engine.specs.FollowUp.{interest_sent, RequestsHashes, requests, rests, RequestsEach}
-use Rattle.bt_engine.proofs.Lists.{contains_none, contains_cases, contains_map, contains_flat_map, set_id}
+use Rattle.bt_engine.proofs.Lists.{contains_none, contains_cases, contains_filter, contains_map, contains_flat_map, set_id}
 
 -- ---- parts of what is sent
 
@@ -131,11 +132,32 @@ record IsQuiet (effect : Effect) : Type 0 where
   replied : AllOf replies effect.send
   noted : NoComplete effect.notes
 
+-- the peer is asked for nothing that it was not asked for before
+pub record AsksLess (p q : PeerState) : Type 0 where
+  pub blocks : (b : BlockId) → Contains q.asked b → Contains p.asked b
+  pub hashes : (k : HashKey) → q.hash ≡ Asked k → p.hash ≡ Asked k
+
+pub asks_same : (p q : PeerState) → q.asked ≡ p.asked → q.hash ≡ p.hash → AsksLess p q
+asks_same p q asked hash = record { blocks = λ b c. subst (λ l. Contains l b) asked c; hashes = λ k e. sym hash ∙ e }
+
+-- an answer to a hash request asks for none
+resolved : (key : HashKey) (next old new : HashState) → ((k : HashKey) → next ≡ Asked k → ⊥) → Resolves key next old new → (k : HashKey) → new ≡ Asked k
+    → old ≡ Asked k
+resolved key next old new never (ours_asked x e) k f = absurd (never k (sym e ∙ f))
+resolved key next old new never (other_asked x e) k f = sym e ∙ f
+
+never_idle : (k : HashKey) → Idle ≡ Asked k → ⊥
+never_idle k e = cc
+
+never_refused : (k : HashKey) → Refused ≡ Asked k → ⊥
+never_refused k e = cc
+
 -- Only its peer is changed, and that keeps its key and our side's flags. The files change only where it stays.
 pub record Leaves (s : EngineState) (i : ℕ) (p : PeerState) (effect : Effect) (mid : EngineState) : Type 0 where
   pub peer : PeerState
   pub same_key : peer.key ≡ p.key
   pub same_interest : peer.am_interested ≡ p.am_interested
+  pub asks_less : AsksLess p peer
   pub peers : mid.peers ≡ slice_set s.peers i peer
   pub torrent : mid.torrent ≡ s.torrent
   pub replied : AllOf replies effect.send
@@ -144,11 +166,13 @@ pub record Leaves (s : EngineState) (i : ℕ) (p : PeerState) (effect : Effect) 
 
 module _ (dig : List ℕ → List ℕ) (s : EngineState) (i : ℕ) (p : PeerState) (at : slice_get s.peers i ≡ Some p) where
   -- the peer is another
-  sets : (q : PeerState) (e effect : Effect) (mid : EngineState) → q.key ≡ p.key → q.am_interested ≡ p.am_interested → IsQuiet e → effect ≡ e → mid ≡ with_peer s i q → Leaves s i p effect mid
-  sets q e effect mid k f quiet same after = subst (λ x. Leaves s i p x mid) (sym same) (subst (λ x. Leaves s i p e x) (sym after) (record {
+  sets : (q : PeerState) (e effect : Effect) (mid : EngineState) → q.key ≡ p.key → q.am_interested ≡ p.am_interested → IsQuiet e → effect ≡ e
+      → mid ≡ with_peer s i q → AsksLess p q → Leaves s i p effect mid
+  sets q e effect mid k f quiet same after less = subst (λ x. Leaves s i p x mid) (sym same) (subst (λ x. Leaves s i p e x) (sym after) (record {
     peer = q;
     same_key = k;
     same_interest = f;
+    asks_less = less;
     peers = refl;
     torrent = refl;
     replied = quiet.replied;
@@ -162,6 +186,7 @@ module _ (dig : List ℕ → List ℕ) (s : EngineState) (i : ℕ) (p : PeerStat
     peer = p;
     same_key = refl;
     same_interest = refl;
+    asks_less = asks_same p p refl refl;
     peers = sym (set_id s.peers i p at);
     torrent = refl;
     replied = quiet.replied;
@@ -175,6 +200,7 @@ module _ (dig : List ℕ → List ℕ) (s : EngineState) (i : ℕ) (p : PeerStat
     peer = p;
     same_key = refl;
     same_interest = refl;
+    asks_less = asks_same p p refl refl;
     peers = sym (set_id s.peers i p at);
     torrent = refl;
     replied = quiet.replied;
@@ -195,11 +221,11 @@ module _ (dig : List ℕ → List ℕ) (s : EngineState) (i : ℕ) (p : PeerStat
   replies_quietly m e = record { replied = all_one replies (sent_to p m) [] e (all_none replies); noted = none_noted }
 
   have_leaves : (mid : EngineState) (piece : ℕ) (effect : Effect) → HandlesHave s i p piece effect mid → Leaves s i p effect mid
-  have_leaves mid piece effect (in_range x e y) = sets _ no_effect effect mid refl refl silent e y
+  have_leaves mid piece effect (in_range x e y) = sets _ no_effect effect mid refl refl silent e y (asks_same p _ refl refl)
   have_leaves mid piece effect (out_of_range x e y) = stays _ effect mid (closes_quietly _) e y
 
   bits_leaves : (mid : EngineState) (bytes : List ℕ) (effect : Effect) → HandlesBitfield s i p bytes effect mid → Leaves s i p effect mid
-  bits_leaves mid bytes effect (right x e y) = sets _ no_effect effect mid refl refl silent e y
+  bits_leaves mid bytes effect (right x e y) = sets _ no_effect effect mid refl refl silent e y (asks_same p _ refl refl)
   bits_leaves mid bytes effect (wrong x e y) = stays _ effect mid (closes_quietly _) e y
 
   fault_leaves : (k : Facts) (mid : EngineState) (file j : ℕ) (f : FileState) (read : BlockRead) (effect : Effect) → FindsFault dig k s file j f read effect mid → Leaves s i p effect mid
@@ -210,14 +236,16 @@ module _ (dig : List ℕ → List ℕ) (s : EngineState) (i : ℕ) (p : PeerStat
   request_leaves mid ask calls effect (ignored a c e d) = stays _ effect mid silent e d
   request_leaves mid ask calls effect (no_place a c d e f) = stays _ effect mid (closes_quietly _) e f
   request_leaves mid ask calls effect (not_marked span a c d f e g) = stays _ effect mid silent e g
-  request_leaves mid ask calls effect (served span a place c f) = sets _ _ effect mid refl refl (replies_quietly _ refl) f.sent f.after
+  request_leaves mid ask calls effect (served span a place c f) =
+      sets _ _ effect mid refl refl (replies_quietly _ refl) f.sent f.after (asks_same p _ refl refl)
   request_leaves mid ask calls effect (stopped span a c d f) = fault_leaves f.tree mid span.file f.block f.file f.read effect f.finds
 
   -- a block was put: its file may change, where the peer stays connected
   put_leaves : (b : BlockId) (file : FileState) (q : PeerState) (r : Result Put StoreError) (states : List _) (effect : Effect) (stored mid : EngineState)
-      → slice_get s.files b.file ≡ Some file → q.key ≡ p.key → q.am_interested ≡ p.am_interested → HasPutEffect b r effect → (r ≡ Ok Wrong → states ≡ file.states)
+      → slice_get s.files b.file ≡ Some file → q.key ≡ p.key → q.am_interested ≡ p.am_interested → AsksLess p q → HasPutEffect b r effect
+      → (r ≡ Ok Wrong → states ≡ file.states)
       → stored ≡ with_file s b.file (record file { states = states }) → mid ≡ with_peer stored i q → Leaves s i p effect mid
-  put_leaves b file q r states effect stored mid there k f has same is after =
+  put_leaves b file q r states effect stored mid there k f less has same is after =
       subst (λ x. Leaves s i p effect x) (sym (after ∙ ap (λ x. with_peer x i q) is)) (of_effect r has same)
     where
       leaves : (e : Effect) → IsQuiet e → ((why : Why) → e.close ≡ Some why → states ≡ file.states) → effect ≡ e → Leaves s i p effect (with_peer (with_file s b.file (record file { states = states })) i q)
@@ -225,6 +253,7 @@ module _ (dig : List ℕ → List ℕ) (s : EngineState) (i : ℕ) (p : PeerStat
         peer = q;
         same_key = k;
         same_interest = f;
+        asks_less = less;
         peers = refl;
         torrent = refl;
         replied = quiet.replied;
@@ -242,7 +271,9 @@ module _ (dig : List ℕ → List ℕ) (s : EngineState) (i : ℕ) (p : PeerStat
 
   arrives_leaves : (mid : EngineState) (piece begin : ℕ) (bytes : List ℕ) (calls : DeviceCalls) (effect : Effect) → Arrives dig s i p piece begin bytes calls effect mid → Leaves s i p effect mid
   arrives_leaves mid piece begin bytes calls effect a =
-      put_leaves a.block a.puts.file _ a.puts.result (states_after_put a.block.block a.puts.result a.puts.file.states) effect a.stored mid a.puts.is_file.here refl refl a.puts.has_effect
+      put_leaves a.block a.puts.file _ a.puts.result
+      (states_after_put a.block.block a.puts.result a.puts.file.states) effect a.stored mid a.puts.is_file.here refl refl
+      (record { blocks = λ b c. (contains_filter (λ d. not (is_block a.block d)) p.asked b c).0; hashes = λ k e. e }) a.puts.has_effect
       (λ e. ap (λ r. states_after_put a.block.block r a.puts.file.states) e) a.puts.after a.after
 
   piece_leaves : (mid : EngineState) (piece begin : ℕ) (bytes : List ℕ) (calls : DeviceCalls) (effect : Effect) → HandlesPiece dig s i p piece begin bytes calls effect mid → Leaves s i p effect mid
@@ -282,6 +313,7 @@ module _ (dig : List ℕ → List ℕ) (s : EngineState) (i : ℕ) (p : PeerStat
         peer = record p { hash = l.hash };
         same_key = refl;
         same_interest = refl;
+        asks_less = record { blocks = λ b c. c; hashes = resolved key Idle p.hash l.hash never_idle l.resolves };
         peers = refl;
         torrent = refl;
         replied = all_none replies;
@@ -295,10 +327,11 @@ module _ (dig : List ℕ → List ℕ) (s : EngineState) (i : ℕ) (p : PeerStat
 
   message_leaves : (mid : EngineState) (m : PeerMessage) (calls : DeviceCalls) (effect : Effect) → HandlesMessage dig s i p m calls effect mid → Leaves s i p effect mid
   message_leaves mid KeepAlive calls effect h = stays _ effect mid silent h.1 h.2
-  message_leaves mid Choke calls effect h = sets _ _ effect mid refl refl silent h.1 h.2
-  message_leaves mid Unchoke calls effect h = sets _ _ effect mid refl refl silent h.1 h.2
-  message_leaves mid Interested calls effect h = sets _ _ effect mid refl refl silent h.1 h.2
-  message_leaves mid NotInterested calls effect h = sets _ _ effect mid refl refl silent h.1 h.2
+  message_leaves mid Choke calls effect h =
+      sets _ _ effect mid refl refl silent h.1 h.2 (record { blocks = λ b c. absurd (contains_none b c); hashes = λ k e. e })
+  message_leaves mid Unchoke calls effect h = sets _ _ effect mid refl refl silent h.1 h.2 (asks_same p _ refl refl)
+  message_leaves mid Interested calls effect h = sets _ _ effect mid refl refl silent h.1 h.2 (asks_same p _ refl refl)
+  message_leaves mid NotInterested calls effect h = sets _ _ effect mid refl refl silent h.1 h.2 (asks_same p _ refl refl)
   message_leaves mid (Have piece) calls effect h = have_leaves mid piece effect h.1
   message_leaves mid (Bitfield bytes) calls effect h = bits_leaves mid bytes effect h.1
   message_leaves mid (Request ask) calls effect h = request_leaves mid ask calls effect h
@@ -306,7 +339,9 @@ module _ (dig : List ℕ → List ℕ) (s : EngineState) (i : ℕ) (p : PeerStat
   message_leaves mid (Cancel ask) calls effect h = stays _ effect mid silent h.1 h.2
   message_leaves mid (HashRequest key) calls effect h = answer_leaves mid key effect h.1 h.2
   message_leaves mid (Hashes key digests) calls effect h = hashes_leaves mid key digests calls effect h
-  message_leaves mid (HashReject key) calls effect h = sets _ _ effect mid refl refl silent h.1 h.2.after
+  message_leaves mid (HashReject key) calls effect h =
+      sets _ _ effect mid refl refl silent h.1 h.2.after
+      (record { blocks = λ b c. c; hashes = resolved key Refused p.hash h.2.hash never_refused h.2.resolves })
 
   hello_leaves : (mid : EngineState) (h : Handshake) (effect : Effect) → HandlesHello s h effect → mid ≡ s → Leaves s i p effect mid
   hello_leaves mid h effect (ours x e) after = stays _ effect mid silent e after

@@ -1,6 +1,6 @@
--- A peer that sent what it is to be closed for is closed.
+-- A peer that sent what it is to be closed for is closed for it.
 use Rattle.std.proofs.Common.{◌≡◌, ◌≢◌, ℕ, zero, suc, ◌+◌, ◌*◌, ◌<◌, ◌⊎◌, inl, inr, true, false, List, [], ◌∷◌, length, Some, None, Result, Ok, Err, refl, sym, ap, ◌∙◌, subst, arith}
-use Rattle.std.specs.Prelude.{slice_get, slice_index_or, Contains}
+use Rattle.std.specs.Prelude.{slice_get, slice_set, slice_index_or, Contains}
 use Rattle.std.specs.Option.{option_and_then}
 use Rattle.std.specs.List.{AllPairs}
 use Rattle.std.proofs.lemmas.Bool.{cases_lt}
@@ -22,13 +22,14 @@ use Rattle.bt_store.specs.declared.arrival.Put.{Put}
 use Rattle.bt_store.specs.declared.arrival.Put.TheVariants.{Already, Wrong, Marked as PutMarked, Waiting as PutWaiting}
 use Rattle.bt_book.specs.declared.names.PeerKey.{PeerKey}
 use Rattle.bt_book.specs.declared.names.BlockId.{BlockId}
-use Rattle.bt_wire.specs.Cutter.{Stream, Takes, Waits}
+use Rattle.bt_wire.specs.Cutter.{Stream, Takes, Waits, Fails}
 use Rattle.bt_wire.specs.declared.event.WireEvent.{WireEvent}
 use Rattle.bt_wire.specs.declared.event.WireEvent.TheVariants.{Hello, Message}
 use Rattle.bt_wire.specs.declared.message.Message.TheVariants.{Have, Bitfield, Request, Piece, Hashes}
-use Rattle.bt_wire.proofs.Faults.{fault_alone}
+use Rattle.bt_wire.specs.declared.event.WireError.{WireError}
+use Rattle.bt_wire.proofs.Faults.{fault_alone, one_fault}
 use Rattle.bt_engine.specs.declared.answer.Why.{Why}
-use Rattle.bt_engine.specs.declared.answer.Why.TheVariants.{Wire, WrongBlock}
+use Rattle.bt_engine.specs.declared.answer.Why.TheVariants.{Wire, WrongTorrent, BadPiece, BadBitfield, BadRequest, WrongBlock, UnknownRoot, Proof}
 use Rattle.bt_engine.specs.declared.event.Event.TheVariants.{Next}
 use Rattle.bt_engine.specs.State.{PeerState, FileState, EngineState}
 use Rattle.bt_engine.specs.Devices.{DeviceCalls}
@@ -37,14 +38,17 @@ use Rattle.bt_engine.specs.Spans.{IsWholeBlock}
 use Rattle.bt_engine.specs.Output.{Output, Effect, closing}
 use Rattle.bt_engine.specs.Request.{HandlesRequest, ignored, no_place, not_marked, served, stopped}
 use Rattle.bt_engine.specs.Arrival.{HasPutEffect, HandlesPiece, stale, arrives}
-use Rattle.bt_engine.specs.HashMessages.{IsTreeOf, HandlesHashes, unknown_root, no_claim, refused, learns}
+use Rattle.bt_engine.specs.HashMessages.{IsTreeOf, IsUnknownRoot, HandlesHashes, unknown_root, no_claim, refused, learns}
 use Rattle.bt_engine.specs.WireEvents.{HandlesHello, ours, other, HandlesHave, in_range, out_of_range, HandlesBitfield, right, wrong, Handles}
-use Rattle.bt_engine.specs.Next.{IsPeer, StepNext, no_peer, waits, goes_on, closes, faulty, no_memory}
+use Rattle.bt_engine.specs.Next.{IsPeer, without_peer, StepNext, no_peer, waits, goes_on, closes, faulty, no_memory}
 use Rattle.bt_engine.specs.Step.{Answer, of_next, Step}
 use Rattle.bt_engine.specs.Orderly.{IsOrderly}
-use Rattle.bt_engine.specs.AnswerLaw.{output_of, Closes, IsCause, wire, other_torrent, past_last_piece, other_length, no_place as has_no_place, wrong_block, unknown_root as of_unknown_root, no_claim as makes_no_claim, refused as is_refused}
+use Rattle.bt_engine.specs.AnswerLaw.{output_of, IsConnected, Closes, IsCause, wire, other_torrent, past_last_piece, other_length, no_place as has_no_place, wrong_block, unknown_root as of_unknown_root, no_claim as makes_no_claim, refused as is_refused}
 use Rattle.bt_engine.specs.AnswerDue.{IsOnlyPeer, OrderlyPeersAreOnly, IsOutOfMemory, NextClosesForCause}
-use Rattle.bt_engine.proofs.Lists.{same_some, some_below}
+use Rattle.bt_engine.proofs.Lists.{same_some, some_below, set_same, set_other}
+use Rattle.bt_engine.proofs.Pairs.{other_without}
+use Rattle.bt_engine.proofs.DeterminedParts.{refused_one, no_claim_one}
+use Rattle.bt_engine.proofs.AnswerParts.{event_leaves}
 use Rattle.bt_engine.proofs.AnswerPlaces.{same_block}
 use Rattle.bt_engine.proofs.AnswerDue.{Taken, no_room, goes, shuts, step_taken}
 
@@ -117,13 +121,64 @@ orderly_only s key i p o x = record {
   ];
 }
 
--- ---- an event that is a cause closes
+-- ---- a peer that is closed is gone
 
-pub data Shuts (effect : Effect) : Type 0 where
-  shuts_for : (why : Why) → effect.close ≡ Some why → Shuts effect
+-- no other peer has its key, and none comes
+gone : (s mid new : EngineState) (key : PeerKey) (i : ℕ) (p : PeerState) → IsOnlyPeer s key i p
+    → ((n : ℕ) → n ≢ i → slice_get mid.peers n ≡ slice_get s.peers n) → new ≡ without_peer i mid
+    → IsConnected new key → ⊥
+gone s mid new key i p one others after (j, q, is) =
+    let r = other_without mid.peers i j q (ap (λ (x : EngineState). slice_get x.peers j) (sym after) ∙ is.here) in
+    r.2 (one.only r.0 q (record { here = sym (others r.0 r.2) ∙ r.1; same_key = is.same_key }))
 
-by_effect : (effect : Effect) (why : Why) → effect ≡ closing why → Shuts effect
-by_effect effect why e = shuts_for why (ap (λ (x : Effect). x.close) e)
+-- ---- an event that is a cause closes, for that cause
+
+abbrev Shuts : Effect → Why → Type 0
+Shuts effect why = effect.close ≡ Some why
+
+by_effect : (effect : Effect) (why : Why) → effect ≡ closing why → Shuts effect why
+by_effect effect why e = ap (λ (x : Effect). x.close) e
+
+-- hashes for which a peer is to be closed are accepted by no tree, and no other reason fits them
+record AreFor (dig : List ℕ → List ℕ) (s : EngineState) (key : HashKey) (digests : List ℕ) (why : Why) : Type 0 where
+  of_unknown : IsUnknownRoot s key.root → UnknownRoot ≡ why
+  of_no_claim : (fault : ProofError) → ¬ IsUnknownRoot s key.root → IsNoClaim key digests fault → fault ≢ OutOfMemory → Proof fault ≡ why
+  of_refusal : (fault : ProofError) (tree : ℕ) (k : Facts) (claim : Claim) → IsTreeOf s key.root tree k → IsClaimBy key digests claim
+      → IsRefused dig k claim fault → fault ≢ OutOfMemory → Proof fault ≡ why
+  never : (tree : ℕ) (k : Facts) (claim : Claim) → IsTreeOf s key.root tree k → IsClaimBy key digests claim → IsAcceptable dig k claim → ⊥
+
+module _ (dig : List ℕ → List ℕ) (s : EngineState) (key : HashKey) (digests : List ℕ) where
+  unknown_alone : IsUnknownRoot s key.root → AreFor dig s key digests UnknownRoot
+  unknown_alone unknown = record {
+    of_unknown = λ u. refl;
+    of_no_claim = λ f known none not. absurd (known unknown);
+    of_refusal = λ f tree k claim is c r not. absurd (unknown tree k is);
+    never = λ tree k claim is c a. unknown tree k is;
+  }
+
+  no_claim_alone : (fault : ProofError) → ¬ IsUnknownRoot s key.root → IsNoClaim key digests fault → fault ≢ OutOfMemory
+      → AreFor dig s key digests (Proof fault)
+  no_claim_alone fault known none not = record {
+    of_unknown = λ u. absurd (known u);
+    of_no_claim = λ f k also n. ap (λ x. Proof x) (no_claim_one key digests f fault also none n not);
+    of_refusal = λ f tree k claim is c r n. absurd (not_no_claim key digests claim fault c none not);
+    never = λ tree k claim is c a. not_no_claim key digests claim fault c none not;
+  }
+
+  refused_alone : AllPairs (λ (j k : Facts). j.root ≢ k.root) s.trees → (fault : ProofError) (tree : ℕ) (k : Facts) (claim : Claim) → IsTreeOf s key.root tree k
+      → IsClaimBy key digests claim → IsRefused dig k claim fault
+      → fault ≢ OutOfMemory → AreFor dig s key digests (Proof fault)
+  refused_alone apart fault tree k claim is c refusal not = record {
+    of_unknown = λ u. absurd (u tree k is);
+    of_no_claim = λ f known none n. absurd (not_no_claim key digests claim f c none n);
+    of_refusal = λ f t l d there e r n. ap (λ x. Proof x)
+        (refused_one dig k claim f fault (subst (λ x. IsRefused dig x claim f) (same t l there) (subst (λ x. IsRefused dig l x f) (e.claim_is ∙ sym c.claim_is) r)) refusal n not);
+    never = λ t l d there e a. not_refused dig k claim fault
+        (subst (λ x. IsAcceptable dig x claim) (same t l there) (subst (λ x. IsAcceptable dig l x) (e.claim_is ∙ sym c.claim_is) a)) refusal not;
+  }
+    where
+      same : (t : ℕ) (l : Facts) → IsTreeOf s key.root t l → l ≡ k
+      same t l there = one_tree s apart key.root t tree l k there is
 
 module _ (dig : List ℕ → List ℕ) (s : EngineState) (i : ℕ) (p : PeerState) (rest : Stream) (calls : DeviceCalls) where
   abbrev q : PeerState
@@ -132,7 +187,9 @@ module _ (dig : List ℕ → List ℕ) (s : EngineState) (i : ℕ) (p : PeerStat
   abbrev t : EngineState
   t = with_peer s i q
 
-  put_shuts : (k : Facts) (b : BlockId) (bytes : List ℕ) (states : _) (effect : Effect) (r : Result Put StoreError) → IsWrong dig (value_at dig k 0 b.block) bytes → PutIsDue dig k b.block bytes states r → HasPutEffect b r effect → Shuts effect
+  put_shuts : (k : Facts) (b : BlockId) (bytes : List ℕ) (states : _) (effect : Effect) (r : Result Put StoreError)
+      → IsWrong dig (value_at dig k 0 b.block) bytes → PutIsDue dig k b.block bytes states r → HasPutEffect b r effect
+      → Shuts effect WrongBlock
   put_shuts k b bytes states effect (Ok PutMarked) w due e = absurd (w.2 (same_some (value_at dig k 0 b.block) w.0 (dig bytes) w.1 due.2))
   put_shuts k b bytes states effect (Ok PutWaiting) w due e = let no : None ≡ Some w.0 = sym due.2 ∙ w.1 in absurd cc
   put_shuts k b bytes states effect (Ok Wrong) w due e = by_effect effect WrongBlock e
@@ -141,7 +198,8 @@ module _ (dig : List ℕ → List ℕ) (s : EngineState) (i : ℕ) (p : PeerStat
   put_shuts k b bytes states effect (Err Range) w due e = absurd e
 
   piece_shuts : (piece begin : ℕ) (bytes : List ℕ) (b : BlockId) (tree : Facts) (effect : Effect) (mid : EngineState) → IsLawful s.torrent.piece_length s.torrent.files → IsWholeBlock s.torrent piece begin (length bytes) b
-      → Contains p.asked b → tree_of s b.file ≡ Some tree → IsWrong dig (value_at dig tree 0 b.block) bytes → HandlesPiece dig t i q piece begin bytes calls effect mid → Shuts effect
+      → Contains p.asked b → tree_of s b.file ≡ Some tree → IsWrong dig (value_at dig tree 0 b.block) bytes
+      → HandlesPiece dig t i q piece begin bytes calls effect mid → Shuts effect WrongBlock
   piece_shuts piece begin bytes b tree effect mid lawful whole asked hung w (stale none x y z) = absurd (none b whole asked)
   piece_shuts piece begin bytes b tree effect mid lawful whole asked hung w (arrives r) =
       let same = same_block s.torrent lawful.laid_out piece begin (length bytes) r.block b r.whole whole in
@@ -150,36 +208,60 @@ module _ (dig : List ℕ → List ℕ) (s : EngineState) (i : ℕ) (p : PeerStat
       put_shuts r.puts.tree r.block bytes r.puts.file.states effect r.puts.result
       (subst (λ (c : BlockId). IsWrong dig (value_at dig r.puts.tree 0 c.block) bytes) (sym same) (subst (λ k. IsWrong dig (value_at dig k 0 b.block) bytes) one w)) r.puts.due r.puts.has_effect
 
-  here_too : (root : List ℕ) (tree : ℕ) (k : Facts) → IsTreeOf t root tree k → IsTreeOf s root tree k
-  here_too root tree k x = record { here = x.here; same_root = x.same_root }
+  -- the same trees are there when the event is handled
+  here_before : (root : List ℕ) (tree : ℕ) (k : Facts) → IsTreeOf t root tree k → IsTreeOf s root tree k
+  here_before root tree k x = record { here = x.here; same_root = x.same_root }
 
-  hashes_shut : (key : HashKey) (digests : List ℕ) (effect : Effect) (mid : EngineState) → ((tree : ℕ) (old : Facts) (claim : Claim) → IsTreeOf s key.root tree old → IsClaimBy key digests claim → IsAcceptable dig old claim → ⊥)
-      → HandlesHashes dig t i q key digests calls effect mid → Shuts effect
-  hashes_shut key digests effect mid never (unknown_root x y e z) = by_effect effect _ e
-  hashes_shut key digests effect mid never (no_claim f x y c) = by_effect effect _ c.has_effect
-  hashes_shut key digests effect mid never (refused f tree k c x y z g) = by_effect effect _ g.has_effect
-  hashes_shut key digests effect mid never (learns l) = absurd (never l.tree l.old l.claim (here_too key.root l.tree l.old l.here) l.claims l.accepts.conditions)
+  here_then : (root : List ℕ) (tree : ℕ) (k : Facts) → IsTreeOf s root tree k → IsTreeOf t root tree k
+  here_then root tree k x = record { here = x.here; same_root = x.same_root }
 
-  same_claim : (key : HashKey) (digests : List ℕ) (c d : Claim) → IsClaimBy key digests c → IsClaimBy key digests d → c ≡ d
-  same_claim key digests c d x y = x.claim_is ∙ sym y.claim_is
+  unknown_before : (root : List ℕ) → IsUnknownRoot t root → IsUnknownRoot s root
+  unknown_before root u tree k is = u tree k (here_then root tree k is)
+
+  known_before : (root : List ℕ) → ¬ IsUnknownRoot t root → ¬ IsUnknownRoot s root
+  known_before root known u = known (λ tree k is. u tree k (here_before root tree k is))
+
+  hashes_shut : (key : HashKey) (digests : List ℕ) (why : Why) (effect : Effect) (mid : EngineState) → AreFor dig s key digests why
+      → HandlesHashes dig t i q key digests calls effect mid → Shuts effect why
+  hashes_shut key digests why effect mid a (unknown_root x y e z) = by_effect effect why (e ∙ ap closing (a.of_unknown (unknown_before key.root x)))
+  hashes_shut key digests why effect mid a (no_claim f x y c) =
+      by_effect effect why (c.has_effect ∙ ap closing (a.of_no_claim f (known_before key.root x) y c.not_memory))
+  hashes_shut key digests why effect mid a (refused f tree k c x y z g) =
+      by_effect effect why (g.has_effect ∙ ap closing (a.of_refusal f tree k c (here_before key.root tree k x) y z g.not_memory))
+  hashes_shut key digests why effect mid a (learns l) =
+      absurd (a.never l.tree l.old l.claim (here_before key.root l.tree l.old l.here) l.claims l.accepts.conditions)
 
 module _ (dig : List ℕ → List ℕ) (s new : EngineState) (key : PeerKey) (i : ℕ) (p : PeerState) (calls : DeviceCalls) (a : Answer) (one : IsOnlyPeer s key i p) (step : Step dig s (Next key) calls a new) where
-  abbrev IsShut : Type 0
-  IsShut = IsOutOfMemory a ⊎ ((cause : Why) × Closes a cause)
+  abbrev IsShut : Why → Type 0
+  IsShut why = IsOutOfMemory a ⊎ (Closes a why × (¬ IsConnected new key))
 
   -- where each way to handle the event closes, the answer does
-  shut_by : (e : WireEvent) (rest : Stream) → Takes p.stream e rest → ((effect : Effect) (mid : EngineState) → Handles dig (with_peer s i (record p { stream = rest })) i (record p { stream = rest }) e calls effect mid → Shuts effect) → IsShut
-  shut_by e rest takes shut = by (step_taken dig s new key i p calls e rest one takes a step)
+  shut_by : (why : Why) (e : WireEvent) (rest : Stream) → Takes p.stream e rest
+      → ((effect : Effect) (mid : EngineState)
+      → Handles dig (with_peer s i (record p { stream = rest })) i (record p { stream = rest }) e calls effect mid → Shuts effect why) → IsShut why
+  shut_by why e rest takes shut = by (step_taken dig s new key i p calls e rest one takes a step)
     where
-      stays_open : {X : Type 0} (effect : Effect) → Shuts effect → effect.close ≡ None → X
-      stays_open effect (shuts_for why e) none = let wrong : None ≡ Some why = sym none ∙ e in absurd cc
+      stays_open : {X : Type 0} (effect : Effect) → Shuts effect why → effect.close ≡ None → X
+      stays_open effect e none = let wrong : None ≡ Some why = sym none ∙ e in absurd cc
 
-      by : Taken dig s i p e rest calls a new → IsShut
+      -- the event changes no other peer
+      others : (effect : Effect) (mid : EngineState)
+          → Handles dig (with_peer s i (record p { stream = rest })) i (record p { stream = rest }) e calls effect mid
+          → (n : ℕ) → n ≢ i → slice_get mid.peers n ≡ slice_get s.peers n
+      others effect mid h n apart =
+          let q = record p { stream = rest } in
+          let left = event_leaves dig (with_peer s i q) i q (set_same s.peers i q p one.is_peer.here) mid e calls effect h in
+          ap (λ l. slice_get l n) left.peers ∙ set_other (slice_set s.peers i q) i n left.peer apart ∙ set_other s.peers i n q apart
+
+      by : Taken dig s i p e rest calls a new → IsShut why
       by (no_room x) = inl x
       by (goes out g h is) = stays_open g.effect (shut g.effect g.mid h) g.stays
-      by (shuts out g h is) = inr (g.why, (out, ap output_of is, ap (λ (o : Output). o.close) g.is))
+      by (shuts out g h is) =
+          let cause : Some g.why ≡ Some why = sym g.closed ∙ shut g.effect g.mid h in
+          inr ((out, ap output_of is, ap (λ (o : Output). o.close) g.is ∙ cause), gone s g.mid new key i p one (others g.effect g.mid h) g.after)
 
-  shut_for : (why : Why) → IsLawful s.torrent.piece_length s.torrent.files → AllPairs (λ (j k : Facts). j.root ≢ k.root) s.trees → IsCause dig s p why → IsShut
+  shut_for : (why : Why) → IsLawful s.torrent.piece_length s.torrent.files → AllPairs (λ (j k : Facts). j.root ≢ k.root) s.trees → IsCause dig s p why
+      → IsShut why
   shut_for why lawful apart (wire fault failed f) = by_fault step.0 step.1 step.2
     where
       at : (j : ℕ) (q : PeerState) → IsPeer s key j q → q ≡ p
@@ -190,48 +272,64 @@ module _ (dig : List ℕ → List ℕ) (s new : EngineState) (key : PeerKey) (i 
           let took = subst (λ (x : PeerState). Takes x.stream e rest) same takes in
           absurd (fault_alone p.stream.greeted p.stream.unread fault f.shown e took.bytes rest.unread took.event took.front)
 
-      by_fault : (r : _) → a ≡ of_next r → StepNext dig s key calls r new → IsShut
+      one_wire : (error : WireError) (then : Stream) (q : PeerState) → q ≡ p → Fails q.stream error then → Wire error ≡ Wire fault
+      one_wire error then q same x =
+          let shown = subst (λ (n : PeerState). Fails n.stream error then) same x in
+          ap (λ n. Wire n) (one_fault p.stream.greeted p.stream.unread error fault shown.shown f.shown)
+
+      by_fault : (r : _) → a ≡ of_next r → StepNext dig s key calls r new → IsShut (Wire fault)
       by_fault r is (no_peer none x y z) = absurd (none i p one.is_peer)
       by_fault r is (waits j q x w y z v) = absurd ((subst (λ (n : PeerState). Waits n.stream) (at j q x) w).no_fault fault f.shown)
       by_fault r is (goes_on j q out x g e) = no_event g.takes.event g.takes.rest q (at j q x) g.takes.takes
       by_fault r is (closes j q out x g e) = no_event g.takes.event g.takes.rest q (at j q x) g.takes.takes
-      by_fault r is (faulty j q out x g e) = inr (Wire g.fault, (out, ap output_of (is ∙ ap (λ x. of_next x) e), ap (λ (o : Output). o.close) g.is))
+      by_fault r is (faulty j q out x g e) = inr (
+        (out, ap output_of (is ∙ ap (λ x. of_next x) e), ap (λ (o : Output). o.close) g.is ∙ ap (λ n. Some n) (one_wire g.fault g.failed q (at j q x) g.fails)),
+        gone s s new key i p one (λ n apart. refl) (g.after ∙ ap (λ n. without_peer n s) (one.only j q x)),
+      )
       by_fault r is (no_memory j q x g e) = no_event g.event g.rest q (at j q x) g.takes
-  shut_for why lawful apart (other_torrent h rest takes differs) = shut_by (Hello h) rest takes hello
+  shut_for why lawful apart (other_torrent h rest takes differs) = shut_by WrongTorrent (Hello h) rest takes hello
     where
-      hello : (effect : Effect) (mid : EngineState) → Handles dig (with_peer s i (record p { stream = rest })) i (record p { stream = rest }) (Hello h) calls effect mid → Shuts effect
+      hello : (effect : Effect) (mid : EngineState)
+          → Handles dig (with_peer s i (record p { stream = rest })) i (record p { stream = rest }) (Hello h) calls effect mid → Shuts effect WrongTorrent
       hello effect mid x = by x.1
         where
-          by : HandlesHello (with_peer s i (record p { stream = rest })) h effect → Shuts effect
+          by : HandlesHello (with_peer s i (record p { stream = rest })) h effect → Shuts effect WrongTorrent
           by (ours same e) = absurd (differs same)
           by (other differs_too e) = by_effect effect _ e
-  shut_for why lawful apart (past_last_piece piece rest takes past) = shut_by (Message (Have piece)) rest takes (λ effect mid x. have effect mid x.1)
+  shut_for why lawful apart (past_last_piece piece rest takes past) = shut_by BadPiece (Message (Have piece)) rest takes (λ effect mid x. have effect mid x.1)
     where
-      have : (effect : Effect) (mid : EngineState) → HandlesHave (with_peer s i (record p { stream = rest })) i (record p { stream = rest }) piece effect mid → Shuts effect
+      have : (effect : Effect) (mid : EngineState) → HandlesHave (with_peer s i (record p { stream = rest })) i (record p { stream = rest }) piece effect mid
+          → Shuts effect BadPiece
       have effect mid (in_range below e y) = absurd (omega (arith, below, past))
       have effect mid (out_of_range x e y) = by_effect effect _ e
-  shut_for why lawful apart (other_length bytes rest takes differs) = shut_by (Message (Bitfield bytes)) rest takes (λ effect mid x. bits effect mid x.1)
+  shut_for why lawful apart (other_length bytes rest takes differs) =
+      shut_by BadBitfield (Message (Bitfield bytes)) rest takes (λ effect mid x. bits effect mid x.1)
     where
-      bits : (effect : Effect) (mid : EngineState) → HandlesBitfield (with_peer s i (record p { stream = rest })) i (record p { stream = rest }) bytes effect mid → Shuts effect
+      bits : (effect : Effect) (mid : EngineState)
+          → HandlesBitfield (with_peer s i (record p { stream = rest })) i (record p { stream = rest }) bytes effect mid → Shuts effect BadBitfield
       bits effect mid (right same e y) = absurd (differs same)
       bits effect mid (wrong x e y) = by_effect effect _ e
-  shut_for why lawful apart (has_no_place ask rest takes open_to none) = shut_by (Message (Request ask)) rest takes request
+  shut_for why lawful apart (has_no_place ask rest takes open_to none) = shut_by BadRequest (Message (Request ask)) rest takes request
     where
-      request : (effect : Effect) (mid : EngineState) → HandlesRequest dig (with_peer s i (record p { stream = rest })) i (record p { stream = rest }) ask calls effect mid → Shuts effect
+      request : (effect : Effect) (mid : EngineState)
+          → HandlesRequest dig (with_peer s i (record p { stream = rest })) i (record p { stream = rest }) ask calls effect mid → Shuts effect BadRequest
       request effect mid (ignored choked x y z) = let no : true ≡ false = sym choked ∙ open_to in absurd cc
       request effect mid (no_place x y z e w) = by_effect effect _ e
       request effect mid (not_marked span x there y z w v) = absurd (none span there)
       request effect mid (served span x there y z) = absurd (none span there)
       request effect mid (stopped span x there y z) = absurd (none span there)
   shut_for why lawful apart (wrong_block piece begin bytes rest b tree takes whole asked hung w) =
-      shut_by (Message (Piece piece begin bytes)) rest takes (λ effect mid x. piece_shuts dig s i p rest calls piece begin bytes b tree effect mid lawful whole asked hung w x)
+      shut_by WrongBlock (Message (Piece piece begin bytes)) rest takes
+      (λ effect mid x. piece_shuts dig s i p rest calls piece begin bytes b tree effect mid lawful whole asked hung w x)
   shut_for why lawful apart (of_unknown_root k digests rest takes unknown) =
-      shut_by (Message (Hashes k digests)) rest takes (λ effect mid x. hashes_shut dig s i p rest calls k digests effect mid (λ tree old claim is c acc. unknown tree old is) x)
+      shut_by UnknownRoot (Message (Hashes k digests)) rest takes
+      (λ effect mid x. hashes_shut dig s i p rest calls k digests UnknownRoot effect mid (unknown_alone dig s k digests unknown) x)
   shut_for why lawful apart (makes_no_claim k digests rest fault takes known none not) =
-      shut_by (Message (Hashes k digests)) rest takes (λ effect mid x. hashes_shut dig s i p rest calls k digests effect mid (λ tree old claim is c acc. not_no_claim k digests claim fault c none not) x)
+      shut_by (Proof fault) (Message (Hashes k digests)) rest takes
+      (λ effect mid x. hashes_shut dig s i p rest calls k digests (Proof fault) effect mid (no_claim_alone dig s k digests fault known none not) x)
   shut_for why lawful apart (is_refused k digests rest fault tree facts claim takes is c ref not) =
-      shut_by (Message (Hashes k digests)) rest takes (λ effect mid x. hashes_shut dig s i p rest calls k digests effect mid (λ tree2 old claim2 is2 c2 acc.
-      not_refused dig facts claim fault (subst (λ f. IsAcceptable dig f claim) (one_tree s apart k.root tree2 tree old facts is2 is) (subst (λ d. IsAcceptable dig old d) (same_claim dig s i p rest calls k digests claim2 claim c2 c) acc)) ref not) x)
+      shut_by (Proof fault) (Message (Hashes k digests)) rest takes
+      (λ effect mid x. hashes_shut dig s i p rest calls k digests (Proof fault) effect mid (refused_alone dig s k digests apart fault tree facts claim is c ref not) x)
 
 pub next_closes : (dig : List ℕ → List ℕ) → NextClosesForCause dig
 next_closes dig s new key i p calls a why lawful apart one cause step = shut_for dig s new key i p calls a one step why lawful apart cause

@@ -24,6 +24,7 @@ pub mod AnswerParts
 pub mod AnswerSends
 pub mod AnswerRequests
 pub mod AnswerInterest
+pub mod AnswerChanges
 pub mod AnswerPieces
 pub mod AnswerCauses
 pub mod AnswerPlaces

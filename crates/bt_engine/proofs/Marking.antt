@@ -1,10 +1,15 @@
 -- A step marks a block by bytes of that step alone.
-use Rattle.std.proofs.Common.{◌≡◌, ◌≢◌, ℕ, ◌*◌, ◌⊎◌, inl, inr, true, List, [], ◌∷◌, length, Some, refl, sym, ap, ◌∙◌, subst}
-use Rattle.std.specs.Prelude.{slice_get, slice_set, Contains, Result, Ok, Err}
+use Rattle.std.proofs.Common.{◌≡◌, ◌≢◌, ℕ, ◌+◌, ◌*◌, ◌<◌, ◌≤◌, ◌⊎◌, inl, inr, Bool, true, false, List, [], ◌∷◌, length, Some, refl, sym, ap, ◌∙◌, subst}
+use Rattle.std.specs.Prelude.{slice_get, slice_set, Contains, Result, Ok, Err, ◌==◌, if◌then◌else◌}
 use Rattle.std.specs.Option.{option_and_then}
+use Rattle.std.specs.List.{range_with_len}
+use Rattle.std.proofs.lemmas.Bool.{eqb-true}
 use Rattle.bt_tree.specs.Limits.{full_block_length}
 use Rattle.bt_sparse.specs.SparseTree.{Facts}
+use Rattle.bt_sparse.specs.Acceptance.{Accepts}
+use Rattle.bt_sparse.specs.declared.claim.Claim.{Claim}
 use Rattle.bt_disk.specs.Calls.{bytes_written}
+use Rattle.bt_hashreq.specs.Claim.{IsClaimBy}
 use Rattle.bt_hashreq.specs.declared.key.HashKey.{HashKey}
 use Rattle.bt_store.specs.BlockReads.{BlockRead, IsRight}
 use Rattle.bt_store.specs.Arrival.{PutIsDue, calls_of_put, states_after_put}
@@ -27,26 +32,38 @@ use Rattle.bt_engine.specs.Spans.{IsWholeBlock}
 use Rattle.bt_engine.specs.Output.{Sent as SentFrame, Effect}
 use Rattle.bt_engine.specs.Request.{FindsFault, damaged, fault, HandlesRequest, ignored, no_place, not_marked, served, stopped}
 use Rattle.bt_engine.specs.Arrival.{Arrives, HandlesPiece, stale, arrives}
-use Rattle.bt_engine.specs.HashMessages.{HandlesHashes, unknown_root, no_claim, refused, learns}
+use Rattle.bt_engine.specs.HashMessages.{IsTreeOf, settled_count, HandlesHashes, unknown_root, no_claim, refused, learns}
 use Rattle.bt_engine.specs.WireEvents.{HandlesHave, in_range, out_of_range, HandlesBitfield, right, wrong, HandlesMessage, Handles}
 use Rattle.bt_engine.specs.Next.{IsPeer, TakesEvent, StepNext, no_peer, waits, goes_on, closes, faulty, no_memory}
 use Rattle.bt_engine.specs.Peers.{StepConnect, joins, full, spent, no_memory as no_room, StepFeed, feeds, no_peer as not_fed, no_memory as no_room_to_feed, StepLost, goes, no_peer as not_lost}
 use Rattle.bt_engine.specs.Rechoke.{FollowsEach, StepRechoke, rechokes, no_memory as not_rechoked}
 use Rattle.bt_engine.specs.Flush.{StepFlush, syncs, fails}
 use Rattle.bt_engine.specs.Step.{Answer, Step, Run}
-use Rattle.bt_engine.specs.Law.{IsReadBack, IsMarkedBy, brought, read_back, IsSoAtOne, IsMarkedIn}
-use Rattle.bt_engine.proofs.Lists.{set_cases, set_same}
-use Rattle.bt_engine.proofs.Marks.{state_is, file_marked, missing_marks, settle_marks}
+use Rattle.bt_engine.specs.Law.{IsMarkedBy, brought, read_back, IsSoAt, IsMarkedIn}
+use Rattle.bt_engine.proofs.Lists.{same_some, contains_none, range_limits, set_cases, set_same}
+use Rattle.bt_engine.proofs.Marks.{state_is, file_marked, missing_marks, IsSettled, settle_marks}
 use Rattle.bt_engine.proofs.Adopting.{adopt_marks}
 
 block_is : (b c : BlockId) → b.file ≡ c.file → b.block ≡ c.block → b ≡ c
 block_is b c e f = ap (λ n. record b { file = n }) e ∙ ap (λ n. record c { block = n }) f
 
+-- only a run of leaves has blocks to be settled
+leaves_only : (key : HashKey) (i : ℕ) → Contains (range_with_len key.index (settled_count key)) i
+    → (key.base ≡ 0) × (key.index ≤ i) × (i < key.index + key.length)
+leaves_only key i c = by (key.base == 0) refl c
+  where
+    by : (b : Bool) → (key.base == 0) ≡ b → Contains (range_with_len key.index (if b then key.length else 0)) i
+        → (key.base ≡ 0) × (key.index ≤ i) × (i < key.index + key.length)
+    by true e c = let limits = range_limits key.index key.length i c in (eqb-true key.base 0 e, limits.0, limits.1)
+    by false e c = absurd (contains_none i c)
+
 -- what marked a block in the course of a wire event
 data IsSeen (dig : List ℕ → List ℕ) (s : EngineState) (p : PeerState) (e : WireEvent) (calls : DeviceCalls) (mid : EngineState) (b : BlockId) : Type 0 where
   came : (piece begin : ℕ) (bytes : List ℕ) (tree : Facts) → e ≡ Message (Piece piece begin bytes) → IsWholeBlock s.torrent piece begin (length bytes) b → Contains p.asked b
       → tree_of mid b.file ≡ Some tree → calls ≡ (b.file, bytes_written (full_block_length * b.block) bytes) ∷ [] → IsRight dig tree b.block bytes → IsSeen dig s p e calls mid b
-  waited : IsReadBack dig s calls mid b → IsSeen dig s p e calls mid b
+  waited : (key : HashKey) (digests : List ℕ) (tree : ℕ) (old new : Facts) (claim : Claim) → e ≡ Message (Hashes key digests) → IsTreeOf s key.root tree old
+      → IsClaimBy key digests claim → Accepts dig old claim new
+      → IsSettled dig (λ file. true) tree key.index (settled_count key) (with_tree s tree new) calls mid b → IsSeen dig s p e calls mid b
 
 -- the block was marked before, or is seen to be right
 abbrev Marks : (List ℕ → List ℕ) → EngineState → PeerState → WireEvent → DeviceCalls → EngineState → BlockId → Type 0
@@ -122,19 +139,33 @@ module _ (dig : List ℕ → List ℕ) (b : BlockId) where
   piece_marks s mid i p piece begin bytes calls effect (stale x y z e) m = inl (as_before _ mid e m)
   piece_marks s mid i p piece begin bytes calls effect (arrives a) m = arrives_marks s mid i p piece begin bytes calls effect a m
 
-  -- a block that was read back in one engine was so in one that has the same trees and waiting blocks
-  back_in : (s t mid new : EngineState) (calls : DeviceCalls) → state_at t b ≡ state_at s b → tree_of new b.file ≡ tree_of mid b.file → IsReadBack dig s calls mid b → IsReadBack dig t calls new b
-  back_in s t mid new calls same trees r = record { tree = r.tree; bytes = r.bytes; waited = same ∙ r.waited; hung = trees ∙ r.hung; read = r.read; right = r.right }
+  -- a block that was settled in one engine was so in one that has the same trees
+  settled_in : (tree from count : ℕ) (s mid new : EngineState) (calls : DeviceCalls) → tree_of new b.file ≡ tree_of mid b.file
+      → IsSettled dig (λ file. true) tree from count s calls mid b → IsSettled dig (λ file. true) tree from count s calls new b
+  settled_in tree from count s mid new calls trees r = record {
+    facts = r.facts;
+    file = r.file;
+    bytes = r.bytes;
+    meant = r.meant;
+    here = r.here;
+    of_tree = r.of_tree;
+    known = r.known;
+    in_run = r.in_run;
+    waited = r.waited;
+    hung = trees ∙ r.hung;
+    read = r.read;
+    right = r.right;
+  }
 
   hashes_marks : (s mid : EngineState) (i : ℕ) (p : PeerState) (key : HashKey) (digests : List ℕ) (calls : DeviceCalls) (effect : Effect) (e : WireEvent) → HandlesHashes dig s i p key digests calls effect mid
-      → state_at mid b ≡ Some Marked → Marks dig s p e calls mid b
-  hashes_marks s mid i p key digests calls effect event (unknown_root x y z e) m = inl (as_before _ mid e m)
-  hashes_marks s mid i p key digests calls effect event (no_claim f x y c) m = inl (as_before _ mid c.after m)
-  hashes_marks s mid i p key digests calls effect event (refused f t k c x y z g) m = inl (as_before _ mid g.after m)
-  hashes_marks s mid i p key digests calls effect event (learns l) m =
+      → e ≡ Message (Hashes key digests) → state_at mid b ≡ Some Marked → Marks dig s p e calls mid b
+  hashes_marks s mid i p key digests calls effect event (unknown_root x y z e) is m = inl (as_before _ mid e m)
+  hashes_marks s mid i p key digests calls effect event (no_claim f x y c) is m = inl (as_before _ mid c.after m)
+  hashes_marks s mid i p key digests calls effect event (refused f t k c x y z g) is m = inl (as_before _ mid g.after m)
+  hashes_marks s mid i p key digests calls effect event (learns l) is m =
       elim (settle_marks dig (λ file. true) l.tree key.index _ (with_tree s l.tree l.new) l.settled calls l.notes l.settles b (as_before _ mid l.after m)) [
         | inl old ↦ inl old
-        | inr r ↦ inr (waited (back_in _ s l.settled mid calls refl (ap (λ x. tree_of x b.file) l.after) r.0))
+        | inr r ↦ inr (waited key digests l.tree l.old l.new l.claim is l.here l.claims l.accepts (settled_in l.tree key.index _ (with_tree s l.tree l.new) l.settled mid calls (ap (λ x. tree_of x b.file) l.after) r))
       ]
 
   message_marks : (s mid : EngineState) (i : ℕ) (p : PeerState) (msg : Sent) (calls : DeviceCalls) (effect : Effect) → HandlesMessage dig s i p msg calls effect mid → state_at mid b ≡ Some Marked
@@ -150,7 +181,7 @@ module _ (dig : List ℕ → List ℕ) (b : BlockId) where
   message_marks s mid i p (Piece piece begin bytes) calls effect h m = piece_marks s mid i p piece begin bytes calls effect h m
   message_marks s mid i p (Cancel ask) calls effect h m = inl (as_before _ mid h.2 m)
   message_marks s mid i p (HashRequest key) calls effect h m = inl (as_before _ mid h.2 m)
-  message_marks s mid i p (Hashes key digests) calls effect h m = hashes_marks s mid i p key digests calls effect _ h m
+  message_marks s mid i p (Hashes key digests) calls effect h m = hashes_marks s mid i p key digests calls effect _ h refl m
   message_marks s mid i p (HashReject key) calls effect h m = inl (as_before _ mid h.2.after m)
 
   event_marks : (s mid : EngineState) (i : ℕ) (p : PeerState) (e : WireEvent) (calls : DeviceCalls) (effect : Effect) → Handles dig s i p e calls effect mid → state_at mid b ≡ Some Marked → Marks dig s p e calls mid b
@@ -187,7 +218,38 @@ module _ (dig : List ℕ → List ℕ) (b : BlockId) where
             written = written;
             right = exact;
           })
-      from (waited r) = read_back (back_in _ s mid new calls refl trees r)
+      from (waited run digests tree before after claim is here claims accepts r) =
+          let there : slice_get (slice_set s.trees tree after) tree ≡ Some after = set_same s.trees tree after before here.here in
+          let facts : after ≡ r.facts = same_some (slice_get (slice_set s.trees tree after) tree) after r.facts there r.known in
+          let leaves = leaves_only run b.block r.in_run in
+          read_back (record {
+            tree = r.facts;
+            bytes = r.bytes;
+            waited = r.waited;
+            due = inl (record {
+              key = key;
+              place = i;
+              peer = p;
+              run = run;
+              digests = digests;
+              rest = t.rest;
+              before = before;
+              claim = claim;
+              is_next = refl;
+              is_peer = peer;
+              takes = rw (sym is) t.takes;
+              of_leaves = leaves.0;
+              from = leaves.1;
+              below = leaves.2;
+              hung = ap (option_and_then (λ (f : FileState). slice_get s.trees f.tree)) r.here ∙ ap (slice_get s.trees) r.of_tree ∙ here.here;
+              same_root = here.same_root;
+              claims = claims;
+              accepts = subst (λ k. Accepts dig before claim k) facts accepts;
+            });
+            hung = trees ∙ r.hung;
+            read = r.read;
+            right = r.right;
+          })
 
   -- the block was marked before, or is marked by this event
   abbrev Now : EngineState → Event → DeviceCalls → EngineState → Type 0
@@ -242,54 +304,70 @@ pub step_marks : (dig : List ℕ → List ℕ) (s new : EngineState) (e : Event)
 step_marks dig s new e calls a t b m before = elim (step_cases dig b s new e calls a t m) [ inl old ↦ absurd (before old) | inr now ↦ now ]
 
 -- one event further on
-pub after_step : (dig : List ℕ → List ℕ) (P : EngineState → Event → DeviceCalls → EngineState → Type 0) (s mid : EngineState) (e : Event) (es : List Event) (c : DeviceCalls) (calls : List DeviceCalls) (a : Answer) → Step dig s e c a mid
-    → IsSoAtOne dig mid es calls P → IsSoAtOne dig s (e ∷ es) (c ∷ calls) P
-after_step dig P s mid e es c calls a t i = record {
+pub after_step : (dig : List ℕ → List ℕ) (P : EngineState → Event → DeviceCalls → EngineState → Type 0) (s mid last : EngineState) (e : Event) (es : List Event)
+    (c : DeviceCalls) (calls : List DeviceCalls) (a : Answer) (before : List Answer) (answer : Answer) (after : List Answer) → Step dig s e c a mid
+    → IsSoAt dig mid es calls before answer after last P → IsSoAt dig s (e ∷ es) (c ∷ calls) (a ∷ before) answer after last P
+after_step dig P s mid last e es c calls a before answer after t i = record {
   events_before = e ∷ i.events_before;
   calls_before = c ∷ i.calls_before;
-  answers_before = a ∷ i.answers_before;
   old = i.old;
   event = i.event;
   calls_then = i.calls_then;
-  answer = i.answer;
   new = i.new;
   events_after = i.events_after;
   calls_after = i.calls_after;
-  run = (mid, t, i.run);
-  step = i.step;
-  is_so = i.is_so;
   events_are = ap (λ xs. e ∷ xs) i.events_are;
   calls_are = ap (λ xs. c ∷ xs) i.calls_are;
+  run = (mid, t, i.run);
+  step = i.step;
+  goes_on = i.goes_on;
+  is_so = i.is_so;
 }
 
 -- at the first event
-pub at_first : (dig : List ℕ → List ℕ) (P : EngineState → Event → DeviceCalls → EngineState → Type 0) (s mid : EngineState) (e : Event) (es : List Event) (c : DeviceCalls) (calls : List DeviceCalls) (a : Answer) → Step dig s e c a mid
-    → P s e c mid → IsSoAtOne dig s (e ∷ es) (c ∷ calls) P
-at_first dig P s mid e es c calls a t by = record {
+pub at_first : (dig : List ℕ → List ℕ) (P : EngineState → Event → DeviceCalls → EngineState → Type 0) (s mid last : EngineState) (e : Event) (es : List Event)
+    (c : DeviceCalls) (calls : List DeviceCalls) (a : Answer) (after : List Answer) → Step dig s e c a mid → Run dig mid es calls after last
+    → P s e c mid → IsSoAt dig s (e ∷ es) (c ∷ calls) [] a after last P
+at_first dig P s mid last e es c calls a after t rest by = record {
   events_before = [];
   calls_before = [];
-  answers_before = [];
   old = s;
   event = e;
   calls_then = c;
-  answer = a;
   new = mid;
   events_after = es;
   calls_after = calls;
-  run = refl;
-  step = t;
-  is_so = by;
   events_are = refl;
   calls_are = refl;
+  run = refl;
+  step = t;
+  goes_on = rest;
+  is_so = by;
 }
 
 -- a block that is marked after a run was so before it, or became so within it
 run_cases : (dig : List ℕ → List ℕ) (s new : EngineState) (es : List Event) (calls : List DeviceCalls) (answers : List Answer) → Run dig s es calls answers new → (b : BlockId) → state_at new b ≡ Some Marked
-    → (state_at s b ≡ Some Marked) ⊎ IsMarkedIn dig s es calls b
+    → (state_at s b ≡ Some Marked) ⊎ IsMarkedIn dig s es calls answers new b
 run_cases dig s new [] [] [] run b m = inl (subst (λ x. state_at x b ≡ Some Marked) run m)
 run_cases dig s new (e ∷ es) (c ∷ calls) (a ∷ answers) run b m = elim (run_cases dig run.0 new es calls answers run.2 b m) [
-  | inl mid ↦ elim (step_cases dig b s run.0 e c a run.1 mid) [ inl old ↦ inl old | inr now ↦ inr (at_first dig (λ old event calls_then new. IsMarkedBy dig old event calls_then new b) s run.0 e es c calls a run.1 now) ]
-  | inr more ↦ inr (after_step dig (λ old event calls_then new. IsMarkedBy dig old event calls_then new b) s run.0 e es c calls a run.1 more)
+  | inl mid ↦ elim (step_cases dig b s run.0 e c a run.1 mid) [
+    | inl old ↦ inl old
+    | inr now ↦ inr (record {
+      before = [];
+      answer = a;
+      after = answers;
+      answers_are = refl;
+      marked = at_first dig (λ old event calls_then new. IsMarkedBy dig old event calls_then new b) s run.0 new e es c calls a answers run.1 run.2 now;
+    })
+  ]
+  | inr i ↦ inr (record {
+    before = a ∷ i.before;
+    answer = i.answer;
+    after = i.after;
+    answers_are = ap (λ xs. a ∷ xs) i.answers_are;
+    marked = after_step dig
+        (λ old event calls_then new. IsMarkedBy dig old event calls_then new b) s run.0 new e es c calls a i.before i.answer i.after run.1 i.marked;
+  })
 ]
 run_cases dig s new [] (c ∷ calls) answers run b m = absurd run
 run_cases dig s new [] [] (a ∷ answers) run b m = absurd run
@@ -297,5 +375,5 @@ run_cases dig s new (e ∷ es) [] answers run b m = absurd run
 run_cases dig s new (e ∷ es) (c ∷ calls) [] run b m = absurd run
 
 pub run_marks : (dig : List ℕ → List ℕ) (s new : EngineState) (es : List Event) (calls : List DeviceCalls) (answers : List Answer) → Run dig s es calls answers new
-    → (b : BlockId) → state_at new b ≡ Some Marked → state_at s b ≢ Some Marked → IsMarkedIn dig s es calls b
+    → (b : BlockId) → state_at new b ≡ Some Marked → state_at s b ≢ Some Marked → IsMarkedIn dig s es calls answers new b
 run_marks dig s new es calls answers run b m before = elim (run_cases dig s new es calls answers run b m) [ inl old ↦ absurd (before old) | inr now ↦ now ]

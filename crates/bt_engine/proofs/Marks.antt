@@ -16,9 +16,8 @@ use Rattle.bt_store.specs.declared.block_states.BlockState.TheVariants.{Missing,
 use Rattle.bt_book.specs.declared.names.BlockId.{BlockId}
 use Rattle.bt_engine.specs.State.{FileState, EngineState}
 use Rattle.bt_engine.specs.Devices.{DeviceCalls, reads_at}
-use Rattle.bt_engine.specs.Blocks.{state_at, with_file, file_numbers}
+use Rattle.bt_engine.specs.Blocks.{state_at, tree_of, with_file, file_numbers}
 use Rattle.bt_engine.specs.Settling.{judged_file, due_blocks, SettlesIn}
-use Rattle.bt_engine.specs.Law.{IsReadBack}
 use Rattle.bt_engine.proofs.Lists.{set_cases, and_then_some, map_some, and_true, here, later, contains_none, contains_filter, map_contains, flat_map_contains, some_below, range_contains}
 
 pub state_is : (s : EngineState) (c : BlockId) (f : FileState) (x : BlockState) → slice_get s.files c.file ≡ Some f → slice_get f.states c.block ≡ Some x → state_at s c ≡ Some x
@@ -84,26 +83,51 @@ waits_then (Some Missing) e = absurd cc
 waits_then (Some Waiting) e = refl
 waits_then (Some Marked) e = absurd cc
 
--- a block that was due waited, in a file of the tree
+-- a block that was due waited, in a file of the tree, and is one of the run
+pub record IsDue (tree from count : ℕ) (f : FileState) (i : ℕ) : Type 0 where
+  pub of_tree : f.tree ≡ tree
+  pub in_run : Contains (range_with_len from count) i
+  pub waited : slice_get f.states i ≡ Some Waiting
+
 due_then : (dig : List ℕ → List ℕ) (k : Facts) (tree from count : ℕ) (f : FileState) (i : ℕ) → Contains (due_blocks dig k tree from count f) i
-    → (f.tree ≡ tree) × (slice_get f.states i ≡ Some Waiting)
+    → IsDue tree from count f i
 due_then dig k tree from count f i c = by (f.tree == tree) refl c
   where
-    by : (b : Bool) → (f.tree == tree) ≡ b → Contains (if b then waiting_blocks dig k f.states from count else []) i → (f.tree ≡ tree) × (slice_get f.states i ≡ Some Waiting)
+    by : (b : Bool) → (f.tree == tree) ≡ b → Contains (if b then waiting_blocks dig k f.states from count else []) i → IsDue tree from count f i
     by true e c =
         let d = contains_filter (λ j. is_waiting_at f.states j && is_some (value_at dig k 0 j)) (range_with_len from count) i c in
-        (eqb-true f.tree tree e, waits_then (slice_get f.states i) (and_true (is_waiting_at f.states i) (is_some (value_at dig k 0 i)) d.1).0)
+        record {
+          of_tree = eqb-true f.tree tree e;
+          in_run = d.0;
+          waited = waits_then (slice_get f.states i) (and_true (is_waiting_at f.states i) (is_some (value_at dig k 0 i)) d.1).0;
+        }
     by false e c = absurd (contains_none i c)
 
 -- with a test that a file is meant
 pub meant_then : (dig : List ℕ → List ℕ) (k : Facts) (b : Bool) (tree from count : ℕ) (f : FileState) (i : ℕ) → Contains (if b then due_blocks dig k tree from count f else []) i
-    → (b ≡ true) × (f.tree ≡ tree) × (slice_get f.states i ≡ Some Waiting)
-meant_then dig k true tree from count f i c = let d = due_then dig k tree from count f i c in (refl, d.0, d.1)
+    → (b ≡ true) × IsDue tree from count f i
+meant_then dig k true tree from count f i c = (refl, due_then dig k tree from count f i c)
 meant_then dig k false tree from count f i c = absurd (contains_none i c)
 
--- a block that is marked after its run was settled was marked, or was read back in a file that was meant
+-- a block that waited was read, with the digest of its leaf, as one of the run in a file of the tree that was meant
+pub record IsSettled (dig : List ℕ → List ℕ) (is_meant : ℕ → Bool) (tree from count : ℕ) (old : EngineState) (calls : DeviceCalls) (new : EngineState)
+    (b : BlockId) : Type 0 where
+  pub facts : Facts
+  pub file : FileState
+  pub bytes : List ℕ
+  pub meant : is_meant b.file ≡ true
+  pub here : slice_get old.files b.file ≡ Some file
+  pub of_tree : file.tree ≡ tree
+  pub known : slice_get old.trees tree ≡ Some facts
+  pub in_run : Contains (range_with_len from count) b.block
+  pub waited : state_at old b ≡ Some Waiting
+  pub hung : tree_of new b.file ≡ Some facts
+  pub read : Contains calls (b.file, call_of facts.file_length (given b.block bytes))
+  pub right : IsRight dig facts b.block bytes
+
+-- a block that is marked after its run was settled was marked, or was read back
 pub settle_marks : (dig : List ℕ → List ℕ) (is_meant : ℕ → Bool) (tree from count : ℕ) (old new : EngineState) (calls : DeviceCalls) (notes : _) → SettlesIn dig is_meant tree from count old calls notes new
-    → (b : BlockId) → state_at new b ≡ Some Marked → (state_at old b ≡ Some Marked) ⊎ (IsReadBack dig old calls new b × (is_meant b.file ≡ true))
+    → (b : BlockId) → state_at new b ≡ Some Marked → (state_at old b ≡ Some Marked) ⊎ IsSettled dig is_meant tree from count old calls new b
 settle_marks dig is_meant tree from count old new calls notes s b e =
     let m = and_then_some (λ q. slice_get q.states b.block) (slice_get new.files b.file) Marked e in
     let p = map_some (judged_file dig s.facts (s.reads b.file)) (slice_get old.files b.file) m.0 (sym (s.files b.file) ∙ m.1) in
@@ -114,20 +138,23 @@ settle_marks dig is_meant tree from count old new calls notes s b e =
           let read : Contains (map block_of (s.reads b.file)) b.block = map_contains block_of (s.reads b.file) (given b.block g.bytes) g.gives in
           let due = meant_then dig s.facts (is_meant b.file) tree from count p.0 b.block (subst (λ xs. Contains xs b.block) (s.due b.file p.0 p.1) read) in
           let trees : new.trees ≡ old.trees = ap (λ s. s.trees) s.others in
-          let hung : slice_get new.trees p.0.tree ≡ Some s.facts = ap (λ ts. slice_get ts p.0.tree) trees ∙ ap (slice_get old.trees) due.1 ∙ s.here in
+          let hung : slice_get new.trees p.0.tree ≡ Some s.facts = ap (λ ts. slice_get ts p.0.tree) trees ∙ ap (slice_get old.trees) due.1.of_tree ∙ s.here in
           let file : slice_get new.files b.file ≡ Some (judged_file dig s.facts (s.reads b.file) p.0) = s.files b.file ∙ ap (option_map (judged_file dig s.facts (s.reads b.file))) p.1 in
           let one : Contains (reads_at b.file s.facts.file_length (s.reads b.file)) (b.file, call_of s.facts.file_length (given b.block g.bytes)) =
           map_contains (λ read. (b.file, call_of s.facts.file_length read)) (s.reads b.file) (given b.block g.bytes) g.gives in
-          inr ((
-            record {
-              tree = s.facts;
-              bytes = g.bytes;
-              waited = state_is old b p.0 Waiting p.1 due.2;
-              hung = ap (option_and_then (λ q. slice_get new.trees q.tree)) file ∙ hung;
-              read = subst (λ cs. Contains cs (b.file, call_of s.facts.file_length (given b.block g.bytes))) (sym s.made)
-                  (flat_map_contains (λ file. reads_at file s.facts.file_length (s.reads file)) (file_numbers old) b.file _ (range_contains (length old.files) b.file (some_below old.files b.file p.0 p.1)) one);
-              right = g.right;
-            },
-            due.0,
-          ))
+          inr (record {
+            facts = s.facts;
+            file = p.0;
+            bytes = g.bytes;
+            meant = due.0;
+            here = p.1;
+            of_tree = due.1.of_tree;
+            known = s.here;
+            in_run = due.1.in_run;
+            waited = state_is old b p.0 Waiting p.1 due.1.waited;
+            hung = ap (option_and_then (λ q. slice_get new.trees q.tree)) file ∙ hung;
+            read = subst (λ cs. Contains cs (b.file, call_of s.facts.file_length (given b.block g.bytes))) (sym s.made)
+                (flat_map_contains (λ file. reads_at file s.facts.file_length (s.reads file)) (file_numbers old) b.file _ (range_contains (length old.files) b.file (some_below old.files b.file p.0 p.1)) one);
+            right = g.right;
+          })
     ]

@@ -205,7 +205,7 @@ settle_missing dig is_meant tree from count old new calls notes s b missing =
     let f = and_then_some (λ (q : FileState). slice_get q.states b.block) (slice_get old.files b.file) Missing missing in
     let unread : Contains (map block_of (s.reads b.file)) b.block → ⊥ = λ c. (
     let due = meant_then dig s.facts (is_meant b.file) tree from count f.0 b.block (subst (λ xs. Contains xs b.block) (s.due b.file f.0 f.1) c) in
-    let no : Some Waiting ≡ Some Missing = sym due.2 ∙ f.2 in absurd cc
+    let no : Some Waiting ≡ Some Missing = sym due.1.waited ∙ f.2 in absurd cc
     ) in
     state_is new b (judged_file dig s.facts (s.reads b.file) f.0) Missing (s.files b.file ∙ ap (option_map (judged_file dig s.facts (s.reads b.file))) f.1)
     (judged_other dig s.facts false (s.reads b.file) f.0.states b.block unread ∙ f.2)

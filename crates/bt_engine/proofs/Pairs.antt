@@ -95,6 +95,18 @@ length-removed [] i = omega arith
 length-removed (x ∷ xs) zero = omega arith
 length-removed (x ∷ xs) (suc i) = let le = length-removed xs i in omega (arith, le)
 
+-- what is left stood at another place
+other_removed : {X : Type 0} (xs : List X) (i j : ℕ) (x : X) → slice_get (removed xs i) j ≡ Some x → (n : ℕ) × (slice_get xs n ≡ Some x) × (n ≢ i)
+other_removed [] i zero x e = absurd cc
+other_removed [] i (suc j) x e = absurd cc
+other_removed (y ∷ xs) zero j x e = (suc j, e, λ f. absurd (omega (arith, f)))
+other_removed (y ∷ xs) (suc i) zero x e = (0, e, λ f. absurd (omega (arith, f)))
+other_removed (y ∷ xs) (suc i) (suc j) x e = let r = other_removed xs i j x e in (suc r.0, r.1, λ f. r.2 (omega (arith, f)))
+
+pub other_without : {X : Type 0} (xs : List X) (i j : ℕ) (x : X) → slice_get (take i xs ++ drop (i + 1) xs) j ≡ Some x
+    → (n : ℕ) × (slice_get xs n ≡ Some x) × (n ≢ i)
+other_without xs i j x e = other_removed xs i j x (ap (λ ys. slice_get ys j) (sym (removed_is xs i)) ∙ e)
+
 pub contains_without : {X : Type 0} (xs : List X) (i : ℕ) (y : X) → Contains (take i xs ++ drop (i + 1) xs) y → Contains xs y
 contains_without xs i y c = contains_removed xs i y (subst (λ ys. Contains ys y) (removed_is xs i) c)
 

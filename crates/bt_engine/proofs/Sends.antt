@@ -38,7 +38,7 @@ use Rattle.bt_engine.specs.Next.{IsPeer, TakesEvent, StepNext, no_peer, waits, g
 use Rattle.bt_engine.specs.Peers.{new_peer, StepConnect, joins, full, spent, no_memory as no_room}
 use Rattle.bt_engine.specs.Rechoke.{FollowsEach, StepRechoke, rechokes, no_memory as not_rechoked, choking_sent, is_served}
 use Rattle.bt_engine.specs.Step.{Answer, of_connect, of_next, of_rechoke, Step, Run}
-use Rattle.bt_engine.specs.Law.{sent_by, IsServed, IsSoAtOne}
+use Rattle.bt_engine.specs.Law.{sent_by, IsServed, IsSoAt}
 use Rattle.bt_engine.proofs.Marking.{after_step, at_first}
 use Rattle.bt_engine.proofs.Lists.{contains_none, contains_cases, contains_map, contains_flat_map, map_contains}
 
@@ -305,16 +305,17 @@ module _ (dig : List ℕ → List ℕ) where
   step_sends s new (Adopt file) calls a t = nothing _ a _ t.1 plain_none
   step_sends s new Flush calls a t = nothing _ a _ t.1 plain_none
 
-  pub run_sends : (s new : EngineState) (es : List Event) (calls : List DeviceCalls) (answers : List Answer) → Run dig s es calls answers new → (answer : Answer) → Contains answers answer → (key : PeerKey) (piece begin : ℕ) (bytes : List ℕ)
-      → Contains (sent_by answer) (piece_frame key piece begin bytes) → IsSoAtOne dig s es calls (λ old event calls_then new. IsServed dig old event calls_then key piece begin bytes)
-  run_sends s new [] [] [] run answer among key piece begin bytes sent = absurd (contains_none _ among)
-  run_sends s new (e ∷ es) (c ∷ calls) (a ∷ answers) run answer among key piece begin bytes sent = elim (contains_cases a answer answers among) [
-    | inl same ↦ at_first dig (λ old event calls_then new. IsServed dig old event calls_then key piece begin bytes) s run.0 e es c calls a run.1
-        (step_sends s run.0 e c a run.1 key piece begin bytes (subst (λ x. Contains (sent_by x) (piece_frame key piece begin bytes)) (sym same) sent))
-    | inr more ↦ after_step dig (λ old event calls_then new. IsServed dig old event calls_then key piece begin bytes) s run.0 e es c calls a run.1
-        (run_sends run.0 new es calls answers run.2 answer more key piece begin bytes sent)
-  ]
-  run_sends s new [] (c ∷ calls) answers run answer among key piece begin bytes sent = absurd run
-  run_sends s new [] [] (a ∷ answers) run answer among key piece begin bytes sent = absurd run
-  run_sends s new (e ∷ es) [] answers run answer among key piece begin bytes sent = absurd run
-  run_sends s new (e ∷ es) (c ∷ calls) [] run answer among key piece begin bytes sent = absurd run
+  pub run_sends : (s new : EngineState) (es : List Event) (calls : List DeviceCalls) (before : List Answer) (answer : Answer) (after : List Answer)
+      → Run dig s es calls (before ++ answer ∷ after) new
+      → (key : PeerKey) (piece begin : ℕ) (bytes : List ℕ) → Contains (sent_by answer) (piece_frame key piece begin bytes)
+      → IsSoAt dig s es calls before answer after new (λ old event calls_then new. IsServed dig old event calls_then key piece begin bytes)
+  run_sends s new (e ∷ es) (c ∷ calls) [] answer after run key piece begin bytes sent =
+      at_first dig (λ old event calls_then new. IsServed dig old event calls_then key piece begin bytes) s run.0 new e es c calls answer after run.1 run.2
+      (step_sends s run.0 e c answer run.1 key piece begin bytes sent)
+  run_sends s new (e ∷ es) (c ∷ calls) (a ∷ before) answer after run key piece begin bytes sent =
+      after_step dig (λ old event calls_then new. IsServed dig old event calls_then key piece begin bytes) s run.0 new e es c calls a before answer after run.1
+      (run_sends run.0 new es calls before answer after run.2 key piece begin bytes sent)
+  run_sends s new [] [] [] answer after run key piece begin bytes sent = absurd run
+  run_sends s new [] [] (a ∷ before) answer after run key piece begin bytes sent = absurd run
+  run_sends s new [] (c ∷ calls) before answer after run key piece begin bytes sent = absurd run
+  run_sends s new (e ∷ es) [] before answer after run key piece begin bytes sent = absurd run

@@ -16,13 +16,14 @@ use Rattle.bt_book.specs.declared.names.PeerKey.{PeerKey}
 use Rattle.bt_book.specs.declared.names.BlockId.{BlockId}
 use Rattle.bt_wire.specs.Cutter.{Stream, Takes}
 use Rattle.bt_wire.specs.declared.message.Ask.{Ask}
-use Rattle.bt_wire.specs.declared.message.Message.TheVariants.{Request, Piece, HashRequest, Hashes, HashReject}
+use Rattle.bt_wire.specs.declared.message.Message.TheVariants.{Interested, NotInterested, Request, Piece, HashRequest, Hashes, HashReject}
 use Rattle.bt_wire.specs.declared.event.WireEvent.TheVariants.{Message}
 use Rattle.bt_engine.specs.declared.answer.Why.{Why}
 use Rattle.bt_engine.specs.declared.answer.Note.TheVariants.{Marked as NowMarked, Damaged, Device}
 use Rattle.bt_engine.specs.declared.error.EngineError.TheVariants.{OutOfMemory}
+use Rattle.bt_engine.specs.declared.event.Event.{Event}
 use Rattle.bt_engine.specs.declared.event.Event.TheVariants.{Next}
-use Rattle.bt_engine.specs.State.{Idle, PeerState, EngineState}
+use Rattle.bt_engine.specs.State.{Idle, Asked, PeerState, EngineState}
 use Rattle.bt_engine.specs.Devices.{DeviceCalls}
 use Rattle.bt_engine.specs.Blocks.{block_id, state_at, tree_of, leaf_at, Has, IsAsked, is_complete}
 use Rattle.bt_engine.specs.Spans.{IsWholeBlock, spanned_blocks, cut_from}
@@ -33,7 +34,7 @@ use Rattle.bt_engine.specs.FollowUp.{IsInteresting, NeedsLeaf}
 use Rattle.bt_engine.specs.Next.{IsPeer}
 use Rattle.bt_engine.specs.Step.{Answer, of_next, Step}
 use Rattle.bt_engine.specs.Orderly.{IsOrderly}
-use Rattle.bt_engine.specs.AnswerLaw.{NotedBy, Sends, IsCause, Closes}
+use Rattle.bt_engine.specs.AnswerLaw.{NotedBy, Sends, IsConnected, IsCause, Closes}
 
 -- the peer of the key stands at this place, and no other has the key
 pub record IsOnlyPeer (s : EngineState) (key : PeerKey) (place : ℕ) (p : PeerState) : Type 0 where
@@ -113,13 +114,14 @@ NextServesMarkedRange dig = (old new : EngineState) (key : PeerKey) (place : ℕ
 
 -- ---- closing
 
--- A peer that sent what it is to be closed for is closed. There is one tree for each root, as in any engine.
+-- A peer that sent what it is to be closed for is closed for it, and is connected no more. There is one tree
+-- for each root, as in any engine.
 abbrev pub NextClosesForCause : (List ℕ → List ℕ) → Type 0
 NextClosesForCause dig = (old new : EngineState) (key : PeerKey) (place : ℕ) (p : PeerState)
     (calls : DeviceCalls) (answer : Answer) (why : Why)
     → IsLawful old.torrent.piece_length old.torrent.files → AllPairs (λ j k. j.root ≢ k.root) old.trees
     → IsOnlyPeer old key place p → IsCause dig old p why → Step dig old (Next key) calls answer new
-    → IsOutOfMemory answer ⊎ ((cause : Why) × Closes answer cause)
+    → IsOutOfMemory answer ⊎ (Closes answer why × (¬ IsConnected new key))
 
 -- ---- what is asked of a peer
 
@@ -131,12 +133,33 @@ pub record IsAskedForAll (dig : List ℕ → List ℕ) (s : EngineState) (p : Pe
   pub blocks : p.peer_choking ≡ false → p.am_interested ≡ true → (length p.asked ≡ max_requests)
       ⊎ ((b : BlockId) → Has s p b → state_at s b ≡ Some Missing → IsAsked s b)
 
+-- What changed of a peer is sent to it: our interest, told exactly where it changed; the hash request that it
+-- is newly asked; and for each block that it is newly asked for, a request of the whole block.
+pub record IsSentChanges (new : EngineState) (answer : Answer) (key : PeerKey) (before after : PeerState)
+    : Type 0 where
+  pub interested : Sends answer key Interested
+      ↔ (before.am_interested ≡ false) × (after.am_interested ≡ true)
+  pub uninterested : Sends answer key NotInterested
+      ↔ (before.am_interested ≡ true) × (after.am_interested ≡ false)
+  pub hashes : (k : HashKey) → after.hash ≡ Asked k → before.hash ≢ Asked k → Sends answer key (HashRequest k)
+  pub blocks : (b : BlockId) → Contains after.asked b → ¬ Contains before.asked b
+      → (ask : Ask) × IsWholeBlock new.torrent ask.piece ask.begin ask.length b
+      × Sends answer key (Request ask)
+
+-- So it is of each peer that is connected before and after an event.
+abbrev pub StepSendsChanges : (List ℕ → List ℕ) → Type 0
+StepSendsChanges dig = (old new : EngineState) (event : Event) (calls : DeviceCalls) (answer : Answer)
+    (key : PeerKey) (place : ℕ) (before : PeerState) (there : ℕ) (after : PeerState)
+    → IsOnlyPeer old key place before → IsOnlyPeer new key there after → Step dig old event calls answer new
+    → IsSentChanges new answer key before after
+
 -- So it is of a peer after each of its messages that does not close it.
 abbrev pub NextAsksForAll : (List ℕ → List ℕ) → Type 0
 NextAsksForAll dig = (old new : EngineState) (key : PeerKey) (place : ℕ) (p : PeerState) (calls : DeviceCalls)
     (out : Output) → IsOnlyPeer old key place p → out.close ≡ None
     → Step dig old (Next key) calls (of_next (Ok (Some out))) new
     → (q : PeerState) × IsPeer new key place q × IsAskedForAll dig new q
+    × IsSentChanges new (of_next (Ok (Some out))) key p q
 
 -- ---- blocks that wait
 

@@ -18,7 +18,8 @@ reads_at file file_length reads = map (λ read. (file, call_of file_length read)
 abbrev pub calls_of : ℕ → DeviceCalls → List Call
 calls_of file calls = map (λ c. c.1) (filter (λ c. c.0 == file) calls)
 
--- The calls were made of these devices, of which there is one at most for each file, and were answered so.
+-- The calls were made of these devices, of which there is one at most for each file, and were answered so. Of
+-- calls of a file that has no device afterwards it says nothing, so laws of devices hold whatever those are.
 pub record HaveCalls
     {D : Type 0} (history : D → History) (honest : D → Type 0) (faults : D → ℕ)
     (old : List (Option D)) (calls : DeviceCalls) (new : List (Option D)) : Type 0 where

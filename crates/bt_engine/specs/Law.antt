@@ -1,14 +1,18 @@
 -- What follows from the steps of an engine, whatever the peers send and the devices answer.
-use Rattle.std.specs.Prelude.{◌≡◌, ◌≢◌, ℕ, ◌*◌, ◌<◌, List, ◌∷◌, ◌++◌, [], false, length, Some, None, Ok, Err, slice_get, Contains}
+use Rattle.std.specs.Prelude.{◌≡◌, ◌≢◌, ℕ, ◌+◌, ◌*◌, ◌<◌, ◌≤◌, ◌⊎◌, List, ◌∷◌, ◌++◌, [], false, length, Some, None, Ok, Err, slice_get, Contains}
 use Rattle.bt_tree.specs.Limits.{full_block_length}
 use Rattle.bt_disk.specs.Calls.{bytes_written}
 use Rattle.bt_sparse.specs.SparseTree.{Facts, blocks_of, held_at, IsRooted, IsChecked}
+use Rattle.bt_sparse.specs.Acceptance.{Accepts}
+use Rattle.bt_sparse.specs.declared.claim.Claim.{Claim}
+use Rattle.bt_hashreq.specs.Claim.{IsClaimBy}
+use Rattle.bt_hashreq.specs.declared.key.HashKey.{HashKey}
 use Rattle.bt_store.specs.BlockReads.{given, call_of, IsRight}
 use Rattle.bt_store.specs.declared.block_states.BlockState.TheVariants.{Waiting, Marked}
 use Rattle.bt_book.specs.declared.names.PeerKey.{PeerKey}
 use Rattle.bt_book.specs.declared.names.BlockId.{BlockId}
 use Rattle.bt_wire.specs.Cutter.{Stream, Takes}
-use Rattle.bt_wire.specs.declared.message.Message.TheVariants.{Piece, Request}
+use Rattle.bt_wire.specs.declared.message.Message.TheVariants.{Piece, Request, Hashes}
 use Rattle.bt_wire.specs.declared.event.WireEvent.TheVariants.{Message}
 use Rattle.bt_wire.specs.declared.message.Ask.{Ask}
 use Rattle.bt_meta.specs.Place.{IsPlace}
@@ -19,7 +23,7 @@ use Rattle.bt_engine.specs.declared.answer.Frame.TheVariants.{Message as message
 use Rattle.bt_engine.specs.Output.{Sent}
 use Rattle.bt_engine.specs.declared.event.Event.{Event}
 use Rattle.bt_engine.specs.declared.event.Event.TheVariants.{Next, Adopt}
-use Rattle.bt_engine.specs.State.{PeerState, EngineState}
+use Rattle.bt_engine.specs.State.{PeerState, FileState, EngineState}
 use Rattle.bt_engine.specs.Devices.{DeviceCalls}
 use Rattle.bt_engine.specs.Blocks.{state_at, tree_of}
 use Rattle.bt_engine.specs.Spans.{IsWholeBlock, spanned_blocks, cut_from}
@@ -85,12 +89,48 @@ pub record IsBrought (dig : List ℕ → List ℕ) (old : EngineState) (event : 
   pub written : calls ≡ (b.file, bytes_written (full_block_length * b.block) bytes) ∷ []
   pub right : IsRight dig tree b.block bytes
 
--- A block that waited was read in this event. Its digest is the leaf that its tree has after the event.
-pub record IsReadBack (dig : List ℕ → List ℕ) (old : EngineState) (calls : DeviceCalls) (new : EngineState)
-    (b : BlockId) : Type 0 where
+-- This event told the leaf of a block: a peer sent a run of leaves with it, and the tree of the block's file,
+-- whose root they name, accepted them, and is this one then.
+pub record TellsLeaf (dig : List ℕ → List ℕ) (old : EngineState) (event : Event) (b : BlockId) (tree : Facts)
+    : Type 0 where
+  pub key : PeerKey
+  pub place : ℕ
+  pub peer : PeerState
+  pub run : HashKey
+  pub digests : List ℕ
+  pub rest : Stream
+  pub before : Facts
+  pub claim : Claim
+  pub is_next : event ≡ Next key
+  pub is_peer : IsPeer old key place peer
+  pub takes : Takes peer.stream (Message (Hashes run digests)) rest
+  pub of_leaves : run.base ≡ 0
+  pub from : run.index ≤ b.block
+  pub below : b.block < run.index + run.length
+  pub hung : tree_of old b.file ≡ Some before
+  pub same_root : before.root ≡ run.root
+  pub claims : IsClaimBy run digests claim
+  pub accepts : Accepts dig before claim tree
+
+-- This event takes in another file, which has the tree of the block's file.
+pub record AdoptsTwin (old : EngineState) (event : Event) (b : BlockId) : Type 0 where
+  pub other : ℕ
+  pub twin : FileState
+  pub own : FileState
+  pub is_adopt : event ≡ Adopt other
+  pub apart : other ≢ b.file
+  pub twin_here : slice_get old.files other ≡ Some twin
+  pub own_here : slice_get old.files b.file ≡ Some own
+  pub one_tree : own.tree ≡ twin.tree
+
+-- A block that waited was read in this event, which told its leaf or took in another file of its tree. Its
+-- digest is the leaf that its tree has after the event.
+pub record IsReadBack (dig : List ℕ → List ℕ) (old : EngineState) (event : Event) (calls : DeviceCalls)
+    (new : EngineState) (b : BlockId) : Type 0 where
   pub tree : Facts
   pub bytes : List ℕ
   pub waited : state_at old b ≡ Some Waiting
+  pub due : TellsLeaf dig old event b tree ⊎ AdoptsTwin old event b
   pub hung : tree_of new b.file ≡ Some tree
   pub read : Contains calls (b.file, call_of tree.file_length (given b.block bytes))
   pub right : IsRight dig tree b.block bytes
@@ -110,7 +150,7 @@ pub record IsFound (dig : List ℕ → List ℕ) (event : Event) (calls : Device
 pub data IsMarkedBy (dig : List ℕ → List ℕ) (old : EngineState) (event : Event) (calls : DeviceCalls)
     (new : EngineState) (b : BlockId) : Type 0 where
   brought : IsBrought dig old event calls new b → IsMarkedBy dig old event calls new b
-  read_back : IsReadBack dig old calls new b → IsMarkedBy dig old event calls new b
+  read_back : IsReadBack dig old event calls new b → IsMarkedBy dig old event calls new b
   found : IsFound dig event calls new b → IsMarkedBy dig old event calls new b
 
 -- it becomes so in no other way
@@ -120,37 +160,43 @@ StepMarksByBytes dig = (old new : EngineState) (event : Event) (calls : DeviceCa
     → (b : BlockId) → state_at new b ≡ Some Marked → state_at old b ≢ Some Marked
     → IsMarkedBy dig old event calls new b
 
--- At one of the events of a run this is so of the step: of the engine before it, the event, the calls of
--- devices and the engine after it.
-pub record IsSoAtOne (dig : List ℕ → List ℕ) (first : EngineState) (events : List Event)
-    (calls : List DeviceCalls) (P : EngineState → Event → DeviceCalls → EngineState → Type 0) : Type 0 where
+-- Of a run that answers so, at the event of this one answer: this is so of the step there, of the engine
+-- before it, the event, the calls of devices and the engine after it. The run came to it with the answers
+-- before, and goes on from it with those after.
+pub record IsSoAt (dig : List ℕ → List ℕ) (first : EngineState) (events : List Event)
+    (calls : List DeviceCalls) (before : List Answer) (answer : Answer) (after : List Answer)
+    (last : EngineState) (P : EngineState → Event → DeviceCalls → EngineState → Type 0) : Type 0 where
   pub events_before : List Event
   pub calls_before : List DeviceCalls
-  pub answers_before : List Answer
   pub old : EngineState
   pub event : Event
   pub calls_then : DeviceCalls
-  pub answer : Answer
   pub new : EngineState
   pub events_after : List Event
   pub calls_after : List DeviceCalls
-  pub run : Run dig first events_before calls_before answers_before old
-  pub step : Step dig old event calls_then answer new
-  pub is_so : P old event calls_then new
   pub events_are : events ≡ events_before ++ event ∷ events_after
   pub calls_are : calls ≡ calls_before ++ calls_then ∷ calls_after
+  pub run : Run dig first events_before calls_before before old
+  pub step : Step dig old event calls_then answer new
+  pub goes_on : Run dig new events_after calls_after after last
+  pub is_so : P old event calls_then new
 
 -- the block became marked at one of the events of a run
-abbrev pub IsMarkedIn : (List ℕ → List ℕ) → EngineState → List Event → List DeviceCalls → BlockId → Type 0
-IsMarkedIn dig first events calls b =
-    IsSoAtOne dig first events calls (λ old event calls_then new. IsMarkedBy dig old event calls_then new b)
+pub record IsMarkedIn (dig : List ℕ → List ℕ) (first : EngineState) (events : List Event)
+    (calls : List DeviceCalls) (answers : List Answer) (last : EngineState) (b : BlockId) : Type 0 where
+  pub before : List Answer
+  pub answer : Answer
+  pub after : List Answer
+  pub answers_are : answers ≡ before ++ answer ∷ after
+  pub marked : IsSoAt dig first events calls before answer after last
+      (λ old event calls_then new. IsMarkedBy dig old event calls_then new b)
 
 abbrev pub RunMarksByBytes : (List ℕ → List ℕ) → Type 0
 RunMarksByBytes dig =
     (old new : EngineState) (events : List Event) (calls : List DeviceCalls) (answers : List Answer)
     → Run dig old events calls answers new
     → (b : BlockId) → state_at new b ≡ Some Marked → state_at old b ≢ Some Marked
-    → IsMarkedIn dig old events calls b
+    → IsMarkedIn dig old events calls answers new b
 
 -- ---- data
 
@@ -200,13 +246,12 @@ StepSendsReadBytes dig = (old new : EngineState) (event : Event) (calls : Device
     → Contains (sent_by answer) (record { peer = key; frame = message_frame (Piece piece begin bytes) })
     → IsServed dig old event calls key piece begin bytes
 
--- nor by any answer of a run
+-- nor by any answer of a run: what one sends was read at its own event
 abbrev pub RunSendsReadBytes : (List ℕ → List ℕ) → Type 0
-RunSendsReadBytes dig =
-    (old new : EngineState) (events : List Event) (calls : List DeviceCalls) (answers : List Answer)
-    → Run dig old events calls answers new
-    → (answer : Answer) → Contains answers answer
+RunSendsReadBytes dig = (old new : EngineState) (events : List Event) (calls : List DeviceCalls)
+    (before : List Answer) (answer : Answer) (after : List Answer)
+    → Run dig old events calls (before ++ answer ∷ after) new
     → (key : PeerKey) (piece begin : ℕ) (bytes : List ℕ)
     → Contains (sent_by answer) (record { peer = key; frame = message_frame (Piece piece begin bytes) })
-    → IsSoAtOne dig old events calls
+    → IsSoAt dig old events calls before answer after new
     (λ old event calls_then new. IsServed dig old event calls_then key piece begin bytes)

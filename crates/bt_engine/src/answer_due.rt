@@ -1,4 +1,4 @@
-ghost use Rattle.bt_engine.specs.AnswerDue.{OrderlyPeersAreOnly, NextAnswersHashRequest, NextMarksRightBlock, NextServesMarkedRange, NextNotesMarkedBlocks, NextClosesForCause, NextAsksForAll, NextSettlesWaitingBlocks, WaitingIsNotComplete};
+ghost use Rattle.bt_engine.specs.AnswerDue.{OrderlyPeersAreOnly, NextAnswersHashRequest, NextMarksRightBlock, NextServesMarkedRange, NextNotesMarkedBlocks, NextClosesForCause, StepSendsChanges, NextAsksForAll, NextSettlesWaitingBlocks, WaitingIsNotComplete};
 
 use bt_tree::NodeHash;
 
@@ -31,13 +31,19 @@ pub fn next_notes_marked_blocks<H: NodeHash>(_hash: H)
     ensures { NextNotesMarkedBlocks H.digest }
 {}
 
-/// A peer is closed that sent what it is to be closed for.
+/// A peer that sent what it is to be closed for is closed for it, and is connected no more.
 pub fn next_closes_for_cause<H: NodeHash>(_hash: H)
     ensures { NextClosesForCause H.digest }
 {}
 
-/// After a message of a peer that stays, our interest in it is as it should be, and it is asked for all that
-/// it may be asked for.
+/// What changed of a peer that is connected before and after an event is sent to it: our interest, a hash
+/// request, and requests of whole blocks.
+pub fn step_sends_changes<H: NodeHash>(_hash: H)
+    ensures { StepSendsChanges H.digest }
+{}
+
+/// After a message of a peer that stays, our interest in it is as it should be, it is asked for all that it
+/// may be asked for, and what is newly asked is sent.
 pub fn next_asks_for_all<H: NodeHash>(_hash: H)
     ensures { NextAsksForAll H.digest }
 {}

@@ -38,9 +38,9 @@ pub fn right_is_checked<H: NodeHash>(_hash: H)
     ensures { RightIsChecked H.digest }
 {}
 
-/// A block becomes marked in three ways only: it came from a peer that was asked for it and was written, it
-/// waited and was read back, or its file was taken in and it was read. In each its digest is its leaf, and its
-/// bytes are of this event.
+/// A block becomes marked in three ways only: it came from a peer that was asked for it and was written; it
+/// waited, and was read back as its leaf was told or another file of its tree was taken in; or its file was
+/// taken in and it was read. In each its digest is its leaf, and its bytes are of this event.
 pub fn step_marks_by_bytes<H: NodeHash>(_hash: H)
     ensures { StepMarksByBytes H.digest }
 {}
@@ -62,7 +62,7 @@ pub fn step_sends_read_bytes<H: NodeHash>(_hash: H)
     ensures { StepSendsReadBytes H.digest }
 {}
 
-/// So it is of each answer of a list of events.
+/// So it is of each answer of a list of events, at its own event.
 pub fn run_sends_read_bytes<H: NodeHash>(_hash: H)
     ensures { RunSendsReadBytes H.digest }
 {}

@@ -14,7 +14,7 @@ pub use answer::{Frame, Note, Why};
 pub use answer_due::{
     next_answers_hash_request, next_asks_for_all, next_closes_for_cause, next_marks_right_block,
     next_notes_marked_blocks, next_serves_marked_range, next_settles_waiting_blocks,
-    orderly_peers_are_only, waiting_is_not_complete,
+    orderly_peers_are_only, step_sends_changes, waiting_is_not_complete,
 };
 pub use answer_law::{
     next_notes_complete_files, step_announces_whole_pieces, step_closes_for_cause,
