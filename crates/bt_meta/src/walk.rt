@@ -143,7 +143,7 @@ fn enter(
 }
 
 /// What the value is as an entry of a file tree, if it is one.
-#[tactic(auto, using(crate::proofs::Dictionaries::not_node, crate::proofs::Dictionaries::folder_node, crate::proofs::Dictionaries::crowded_node, crate::proofs::Dictionaries::file_node_is, crate::proofs::Dictionaries::empty_node, crate::proofs::Dictionaries::single_below))]
+#[tactic(auto, using(crate::proofs::NodeFacts::node_facts))]
 fn node_of(value: &Value) -> Option<Node<'_>>
     ensures { MatchOption result (is_node (data_of value.now) ≡ false) (IsNodeOf (data_of value.now)) }
 {
