@@ -200,6 +200,7 @@ fn layer_entries(alloc: Global, layers: &BTreeMap<Hash32, &[u8]>) -> Result<Entr
 }
 
 /// The entries with one behind them.
+#[tactic(auto, using(crate::proofs::EncodeValue::entries_push))]
 fn entries_with(
     alloc: Global,
     entries: Entries,

@@ -7,6 +7,7 @@ ghost use Rattle.bt_meta.specs.Fields.{as_integer as integer_in, as_string as st
 use bt_bencode::{Value, field};
 
 /// The integer at the key.
+#[tactic(auto, unfolding(crate::specs::Fields::integer_at))]
 pub(crate) fn integer(value: &Value, key: &[u8]) -> Option<i64>
     ensures { result ≡ integer_at (data_of value.now) key.now }
 {
@@ -21,6 +22,7 @@ pub(crate) fn natural(value: &Value, key: &[u8]) -> Option<u64>
 }
 
 /// The string at the key.
+#[tactic(auto, unfolding(crate::specs::Fields::string_at))]
 pub(crate) fn string<'a>(value: &'a Value, key: &[u8]) -> Option<&'a [u8]>
     ensures { option_copied result ≡ string_at (data_of value.now) key.now }
 {
@@ -28,6 +30,7 @@ pub(crate) fn string<'a>(value: &'a Value, key: &[u8]) -> Option<&'a [u8]>
 }
 
 /// The value at the key, which is a dictionary.
+#[tactic(auto, unfolding(crate::specs::Fields::dictionary_at))]
 pub(crate) fn dictionary<'a>(value: &'a Value, key: &[u8]) -> Option<&'a Value>
     ensures { option_map data_of (option_copied result) ≡ dictionary_at (data_of value.now) key.now }
 {
@@ -35,6 +38,7 @@ pub(crate) fn dictionary<'a>(value: &'a Value, key: &[u8]) -> Option<&'a Value>
 }
 
 /// Whether the dictionary has the key.
+#[tactic(auto, unfolding(crate::specs::Fields::has_key))]
 pub(crate) fn has(value: &Value, key: &[u8]) -> bool
     ensures { result ≡ has_key (data_of value.now) key.now }
 {

@@ -110,6 +110,7 @@ fn add_layer(
 }
 
 /// The string at the root.
+#[tactic(auto, unfolding(crate::specs::Fields::string_at))]
 fn layer_at<'a>(entries: &'a [(Vec<u8>, Value)], root: &[u8]) -> Option<&'a [u8]>
     requires { EntriesAscend (entries_of entries.now) }
     ensures { option_copied result ≡ string_at (dictionary_of (entries_of entries.now)) root.now }

@@ -143,6 +143,7 @@ fn enter(
 }
 
 /// What the value is as an entry of a file tree, if it is one.
+#[tactic(auto, using(crate::proofs::NodeFacts::node_facts))]
 fn node_of(value: &Value) -> Option<Node<'_>>
     ensures { MatchOption result (is_node (data_of value.now) ≡ false) (IsNodeOf (data_of value.now)) }
 {

@@ -252,6 +252,7 @@ fn references<'a>(alloc: Global, files: &'a [Made]) -> Result<Vec<&'a Made>, All
 }
 
 /// How two paths stand to each other, as lists of byte strings.
+#[tactic(auto, using(crate::proofs::MakeFiles::order_by_bytes))]
 fn order_of(path: &[String], other: &[String]) -> Ordering
     ensures { result ≡ path_order (map string_bytes path.now) (map string_bytes other.now) }
 {
@@ -272,6 +273,7 @@ fn has_overlap(files: &[&Made]) -> bool
 }
 
 /// Whether the path begins the other, or is the other.
+#[tactic(auto, using(crate::proofs::MakeFiles::begins_by_bytes))]
 fn begins(path: &[String], other: &[String]) -> bool
     ensures { result ≡ begins_path (map string_bytes path.now) (map string_bytes other.now) }
 {
