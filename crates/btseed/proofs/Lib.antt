@@ -17,6 +17,7 @@ pub mod TorrentFileText
 pub mod ShowText
 -- `make`
 pub mod FolderWalk
+pub mod FolderFiles
 pub mod DigestLayer
 pub mod DigestFile
 pub mod MakeFault

@@ -29,8 +29,8 @@ pub record HoldsJust (n : ℕ) (known : KnownLayer) (k : Facts) : Type 0 where
       → held_at k known.layer i ≡ Some (slice_index_or known.digests i [])
   pub below : (layer i : ℕ) → layer < known.layer → held_at k layer i ≡ None
 
--- each block of a file of n bytes was read, in turn, and no other call of the device was made; and so many
--- blocks are right
+-- there is a read for each block of a file of n bytes, in turn, and no other call failed, or changed an honest
+-- device; and so many blocks are right
 pub record IsBlockCheck {D : Type 0} (history : D → History) (honest : D → Type 0) (faults : D → ℕ)
     (n : ℕ) (known : KnownLayer) (old : D) (check : BlockCheck D) : Type 0 where
   pub reads : List BlockRead

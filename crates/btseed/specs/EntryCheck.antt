@@ -51,8 +51,8 @@ pub record IsFindingBy (answers : Answers) (n : ℕ) (known : KnownLayer) (findi
   pub longer : IsTrue finding.longer ↔ IsSomeAnd answers.len (λ len. n < len)
   pub faulty : IsTrue finding.faulty ↔ ((answers.len ≡ None) ⊎ (0 < fault_count answers.reads))
 
--- the device was called so and in no other way, and this is what a check finds of a torrent's file by its
--- answers
+-- these calls lead from the old device to the new one, and this is what a check finds of a torrent's file by
+-- their answers
 pub record IsEntryCheck {D : Type 0} (history : D → History) (honest : D → Type 0) (faults : D → ℕ)
     (layer : ℕ) (file : File) (old : D) (answers : Answers) (new : D) (finding : Finding) : Type 0 where
   pub calls : HasCalls history honest faults old (calls_of file.length answers) new

@@ -1,9 +1,12 @@
 -- The files of a folder: steps of `make` that only private functions cite.
-use Rattle.std.specs.Prelude.{ℕ, List}
-use Rattle.std.specs.List.{sum_by}
-use Rattle.bt_meta.specs.Files.{piece_count}
+use Rattle.std.specs.Prelude.{String, Vec}
+use Rattle.std.specs.Global.{Global}
+use Rattle.bt_meta.specs.declared.writer.Made.{Made}
 use Rattle.btseed.specs.declared.make.FolderFile.{FolderFile}
 
--- how many pieces the files have together
-abbrev pub total_piece_count : ℕ → List FolderFile → ℕ
-total_piece_count piece_length files = sum_by (λ file. piece_count piece_length file.length) files
+abbrev pub path_of : FolderFile → Vec (String Global) Global
+path_of file = file.path
+
+-- the file that was read, as it was found
+abbrev pub file_of_made : Made → FolderFile
+file_of_made made = record { path = made.path; length = made.length }

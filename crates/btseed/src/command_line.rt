@@ -36,8 +36,7 @@ pub struct MakeTask<'a> {
     pub piece_length: u32,
 }
 
-const ABOUT: &str =
-    "A seed store for the files of a BitTorrent v2 torrent: tells which are right, by their pieces roots.";
+const ABOUT: &str = "Makes, shows and checks BitTorrent v2 torrents.";
 
 const VERSION: &str = "0.1.0";
 
@@ -56,7 +55,7 @@ pub fn parse<'a>(alloc: Global, words: &'a [String]) -> Result<Task<'a>, Error>
     }
     Err(command.error(
         ErrorKind::ValueValidation,
-        "the piece length is wanted as a decimal number below 2^32",
+        "--piece-length takes decimal digits: a power of two from 16384 to 268435456",
     )?)
 }
 

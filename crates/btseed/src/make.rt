@@ -1,15 +1,14 @@
 //! The command `make`.
-ghost use Rattle.std.specs.Prelude.{◌≡◌, ◌≤◌, ◌^◌, length, map, string_bytes, IfOk, IfErr, IsErrAnd};
+ghost use Rattle.std.specs.Prelude.{◌≡◌, ◌≤◌, ◌⊎◌, None, length, map, IfOk, IfErr, IsErrAnd};
 ghost use Rattle.std.specs.List.{All};
 ghost use Rattle.bt_tree.specs.TreeShape.{IsPieceLength};
 ghost use Rattle.bt_meta.specs.declared.writer.MakeError.TheVariants.{PieceLength};
 ghost use Rattle.bt_meta.specs.Limits.{max_file_count, max_piece_count};
 ghost use Rattle.bt_tree.specs.Limits.{max_file_length};
 ghost use Rattle.btseed.specs.Digests.{IsDigestFault};
-ghost use Rattle.btseed.specs.Fault.{device, make_fault};
-ghost use Rattle.btseed.specs.Folder.{HasElement};
-ghost use Rattle.btseed.specs.Make.{HasContent, IsFolderFault, IsMakeFault, IsMakeTorrent};
-ghost use Rattle.btseed.specs.MakeSteps.{total_piece_count};
+ghost use Rattle.btseed.specs.Fault.{device, make_fault, out_of_memory};
+ghost use Rattle.btseed.specs.Make.{HasContent, IsFilesFault, IsMakeFault, IsMakeTorrent, IsMeasuringFault, IsTorrentOf, elements_of, first_count_refusal, total_piece_count};
+ghost use Rattle.btseed.specs.MakeSteps.{file_of_made, path_of};
 
 use crate::command_line::MakeTask;
 use crate::digests::{Digests, digest_reader};
@@ -43,45 +42,59 @@ pub fn make<R: Files + AllocGlobal + Clone + Drop>(
         → IsErrAnd result (λ fault. fault ≡ make_fault PieceLength) }
     ensures fault { IfErr result (IsMakeFault request.entry.name.now request.entry.piece_length) }
 {
-    let alloc = rt.alloc();
     let Some(size) = PieceSize::new(request.piece_length) else {
         return Err(Fault::Make(MakeError::PieceLength));
     };
-    let mut buffer = [0; BUFFER_LEN];
-    let mut files = Vec::new(alloc);
-    for file in folder_files(rt, request.dir, size)? {
-        files.push(read_entry(rt, request.dir, file, size, &mut buffer)?)?;
-    }
-    let text = bt_meta::make(alloc, request.name.as_bytes(), request.piece_length, &files)?;
+    let paths = files_in(rt, request.dir)?;
+    torrent_of(rt, request.dir, request.name, size, paths)
+}
+
+/// Makes the torrent of the files of a folder that have these paths.
+fn torrent_of<R: Files + AllocGlobal>(
+    rt: &R,
+    dir: &str,
+    name: &str,
+    size: PieceSize,
+    paths: Vec<Vec<String>>,
+) -> Result<NewTorrent, Fault>
+    ensures torrent { IfOk result (IsTorrentOf (map elements_of paths.items) name.now size.bytes) }
+    ensures fault { IfErr result (IsFilesFault (map elements_of paths.items) name.now size.bytes) }
+{
+    let alloc = rt.alloc();
+    let files = measured_files(rt, dir, paths, size)?;
+    let files = read_files(rt, dir, files, size)?;
+    let text = bt_meta::make(alloc, name.as_bytes(), size.bytes, &files)?;
+    // read back for the infohash alone: what was made is lawful, so it is refused for memory at most
     let infohash = read_torrent(alloc, &text)?.infohash();
     Ok(NewTorrent { text, infohash })
 }
 
 /// A file of the folder: its path below it, and how many bytes it has.
 #[derive(Drop)]
-struct FolderFile {
-    path: Vec<String>,
-    length: u64,
+pub struct FolderFile {
+    pub path: Vec<String>,
+    pub length: u64,
 }
 
-/// The files of a folder. Where one is too long for a torrent, or they are too many, that is told before any
-/// is read.
-fn folder_files<R: Files + AllocGlobal + Clone + Drop>(
+/// The files of a folder that have these paths, with their lengths. Where one is too long for a torrent, or
+/// they are too many, that is told before any is read.
+fn measured_files<R: Files + AllocGlobal>(
     rt: &R,
     dir: &str,
+    paths: Vec<Vec<String>>,
     size: PieceSize,
 ) -> Result<Vec<FolderFile>, Fault>
-    ensures named { IfOk result
-        (λ files. All (λ file. HasElement (map string_bytes file.path.items)) files.items) }
+    ensures each { IfOk result (λ files. map path_of files.items ≡ paths.items) }
+    ensures faultless { IfOk result (λ files. first_count_refusal size.bytes files.items ≡ None) }
     ensures short { IfOk result (λ files. All (λ file. file.length ≤ max_file_length) files.items) }
     ensures count { IfOk result (λ files. length files.items ≤ max_file_count) }
     ensures pieces { IfOk result (λ files. total_piece_count size.bytes files.items ≤ max_piece_count) }
-    ensures fault { IfErr result IsFolderFault }
+    ensures fault { IfErr result (IsMeasuringFault (map elements_of paths.items) size.bytes) }
 {
     let alloc = rt.alloc();
     let mut counts = Counts::new();
     let mut files = Vec::new(alloc);
-    for path in files_in(rt, dir)? {
+    for path in paths {
         let data = found_path(alloc, dir, &path)?;
         let length = fs::metadata(rt, data).map_err(|_| Fault::Device)?.len();
         counts = counts.with(path.len(), length, size)?;
@@ -90,8 +103,28 @@ fn folder_files<R: Files + AllocGlobal + Clone + Drop>(
     Ok(files)
 }
 
+/// What a torrent says of each of these files of the folder.
+fn read_files<R: Files + AllocGlobal>(
+    rt: &R,
+    dir: &str,
+    files: Vec<FolderFile>,
+    size: PieceSize,
+) -> Result<Vec<Made>, Fault>
+    requires { All (λ file. file.length ≤ max_file_length) files.items }
+    ensures each { IfOk result (λ made. map file_of_made made.items ≡ files.items) }
+    ensures contents { IfOk result (λ made. All (HasContent size.layer) made.items) }
+    ensures fault { IfErr result (λ fault. (fault ≡ device) ⊎ (fault ≡ out_of_memory)) }
+{
+    let mut buffer = [0; BUFFER_LEN];
+    let mut made = Vec::new(rt.alloc());
+    for file in files {
+        made.push(read_file(rt, dir, file, size, &mut buffer)?)?;
+    }
+    Ok(made)
+}
+
 /// What a torrent says of a file of the folder.
-fn read_entry<R: Files + AllocGlobal>(
+fn read_file<R: Files + AllocGlobal>(
     rt: &R,
     dir: &str,
     file: FolderFile,
