@@ -6,9 +6,8 @@ ghost use Rattle.bt_tree.specs.TreeShape.{height_of};
 ghost use Rattle.sha2.specs.Sha256.{sha256};
 ghost use Rattle.bt_tree.specs.Limits.{max_height};
 ghost use Rattle.btseed.specs.Fault.{device, out_of_memory};
-ghost use Rattle.btseed.specs.Digests.{IsDigestFault};
 ghost use Rattle.btseed.specs.DigestSteps.{GivesLayer, GivesFile, IsRow};
-ghost use Rattle.btseed.specs.Digests.{AreDigestsOf, GivesAll};
+ghost use Rattle.btseed.specs.Digests.{AreDigestsOf, GivesAll, IsDigestFault};
 
 use crate::fault::Fault;
 use crate::file_hash::FileHash;

@@ -48,6 +48,7 @@ pub fn files_in<R: Files + AllocGlobal + Clone + Drop>(
     let mut files = Vec::new(alloc);
     let mut waiting = Vec::new(alloc);
     push_entries(rt, dir, &[], &mut waiting)?;
+    // A bound, so that it ends whatever the system gives.
     for _ in 0..u64::MAX {
         let Some(FolderEntry { path, kind }) = waiting.pop() else {
             return Ok(files);

@@ -21,6 +21,7 @@ pub fn fill<R: Read>(reader: &mut R, buffer: &mut [u8]) -> Result<usize, DeviceF
     ensures err { OnErr result (LosesFront (R.remaining reader.old) (R.remaining reader.new)) }
 {
     let mut filled = 0;
+    // A bound, so that it ends whatever the system gives.
     for _ in 0..u64::MAX {
         if filled >= buffer.len() {
             return Ok(filled);
