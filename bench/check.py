@@ -5,13 +5,15 @@
 
 The other commit's program is proved and built in FOLDER (a new temporary folder by default), which takes some minutes; this one's
 is the one that `./btseed` has built: call it once before. The file is checked with the digests of its pieces, and by its info
-dictionary alone, as one piece. The commands take turns, five times; the best processor time of each counts, which other work on
-the machine disturbs less than the time on the clock, and its greatest peak memory.
+dictionary alone, as one piece. The commands take turns, fourteen times. Printed are the least processor time of each, which other
+work on the machine disturbs less than the time on the clock, the median, and the greatest peak memory. How fast a run is hangs on
+where the system puts its stack, by a tenth and more, so few runs say little.
 """
 
 import os
 import pathlib
 import shutil
+import statistics
 import subprocess
 import sys
 import tempfile
@@ -19,7 +21,7 @@ import tempfile
 from measure import PROGRAM, TOP, apart, measured_once
 from speed import SIZE, write_data
 
-ROUNDS = 5
+ROUNDS = 14
 
 
 def program_of(commit, folder):
@@ -75,13 +77,15 @@ def main():
     for _ in range(ROUNDS):
         for way, name in runs:
             runs[way, name].append(measured_once([programs[name], "check", *ways[way]]))
-    print(f"2 GiB, best of {ROUNDS}; 0.6 % of the file are {SIZE * 0.006 / (1 << 20):.1f} MiB, 1.2 % {SIZE * 0.012 / (1 << 20):.1f} MiB")
+    print(f"2 GiB, {ROUNDS} runs; 0.6 % of the file are {SIZE * 0.006 / (1 << 20):.1f} MiB, 1.2 % {SIZE * 0.012 / (1 << 20):.1f} MiB")
     for way in ways:
-        best = {name: min(run[1] for run in runs[way, name]) for name in programs}
-        for name in programs:
+        seconds = {name: [run[1] for run in runs[way, name]] for name in programs}
+        for name, its in seconds.items():
+            other = seconds[sys.argv[1]]
+            least, median = min(other) / min(its), statistics.median(other) / statistics.median(its)
             peak = max(run[2] for run in runs[way, name])
-            ratio = best[sys.argv[1]] / best[name]
-            print(f"{way:10} {name:12} {SIZE / best[name] / 1e6:6.0f} MB/s by processor time, {ratio:5.2f} of {sys.argv[1]}, {peak:6.1f} MiB")
+            print(f"{way:10} {name:12} {SIZE / min(its) / 1e6:6.0f} MB/s by processor time, {least:5.2f} of {sys.argv[1]} by the least time, "
+                  f"{median:5.2f} by the median, {peak:6.1f} MiB")
 
 
 if __name__ == "__main__":
