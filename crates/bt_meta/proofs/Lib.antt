@@ -25,3 +25,5 @@ pub mod MadeTree
 pub mod MadeTorrent
 -- the law by which it is read back
 pub mod LawReadBack
+-- what closes the steps of each function
+pub mod Steps

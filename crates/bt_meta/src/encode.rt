@@ -24,6 +24,7 @@ use std::collections::BTreeMap;
 type Entries = Vec<(Vec<u8>, Value)>;
 
 /// The value of a torrent of these files, which are in ascending order of their paths.
+#[tactic(auto, using(crate::proofs::Steps::value_of_steps))]
 pub(crate) fn value_of(
     alloc: Global,
     name: &[u8],
@@ -68,6 +69,7 @@ fn info_of(
 }
 
 /// The tree of files that are in ascending order of their paths.
+#[tactic(auto, using(crate::proofs::Steps::tree_of_steps))]
 fn tree_of(alloc: Global, files: &[&Made]) -> Result<Entries, AllocError>
     requires tree_paths { HaveTreePaths (map given_at files.now) }
     requires named { All (λ f. AreNonEmpty f.path) (map given_at files.now) }
@@ -82,6 +84,7 @@ fn tree_of(alloc: Global, files: &[&Made]) -> Result<Entries, AllocError>
 }
 
 /// The folder with a file behind the others, at a path that stands behind theirs.
+#[tactic(auto, using(crate::proofs::Steps::folder_with_steps))]
 fn folder_with(
     alloc: Global,
     folder: Entries,
@@ -169,6 +172,7 @@ fn layers_of(alloc: Global, piece_length: u32, files: &[&Made]) -> Result<Entrie
 }
 
 /// Adds the layer of a file, if it is longer than a piece and there is none of its root yet.
+#[tactic(auto, using(crate::proofs::Steps::add_layer_steps))]
 fn add_layer<'a>(
     layers: &mut BTreeMap<Hash32, &'a [u8]>,
     piece_length: u32,

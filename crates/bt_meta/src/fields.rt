@@ -53,6 +53,7 @@ pub(crate) fn is_dictionary(value: &Value) -> bool
 }
 
 /// Whether the value is a dictionary of one entry.
+#[tactic(auto, using(crate::proofs::Steps::is_single_steps))]
 pub(crate) fn is_single(value: &Value) -> bool
     ensures { result ≡ is_single_data (data_of value.now) }
 {

@@ -44,6 +44,7 @@ pub(crate) fn add_layers(
 }
 
 /// The entries of `piece layers`; none where it is absent or no dictionary.
+#[tactic(auto, using(crate::proofs::Dictionaries::field_ascends), unfolding(crate::specs::Faults::layers_of, crate::specs::Fields::dictionary_at, crate::specs::Fields::string_at, bt_bencode::specs::Doc::HasAscendingKeys, bt_bencode::specs::Doc::EntriesAscend))]
 fn layer_entries(torrent: &Value) -> &[(Vec<u8>, Value)]
     requires { HasAscendingKeys (data_of torrent.now) }
     ensures strings { HasStringsOf (dictionary_of (entries_of result.now)) (layers_of (data_of torrent.now)) }

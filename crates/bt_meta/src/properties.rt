@@ -23,6 +23,7 @@ pub(crate) struct FileFacts {
 }
 
 /// Reads the properties of a file.
+#[tactic(auto, unfolding(crate::specs::Faults::has_lawful_length, crate::specs::Files::length_in))]
 pub(crate) fn file_facts(properties: &Value) -> Result<FileFacts, MetaError>
     ensures { MatchResult result
         (IsFileFacts (data_of properties.now))
@@ -60,6 +61,7 @@ pub(crate) fn note_length(
 }
 
 /// The element as text, if it may stand in a path.
+#[tactic(auto, using(crate::proofs::Steps::path_element_steps), unfolding(crate::specs::Faults::is_path_element))]
 pub(crate) fn path_element(element: &[u8]) -> Option<&str>
     ensures { option_copied result ≡ (if is_path_element element.now then Some element.now else None) }
 {
@@ -80,6 +82,7 @@ fn is_dots(element: &[u8]) -> bool
 }
 
 /// The length of a file, if it is lawful: 0 to 2^40 bytes.
+#[tactic(auto, unfolding(crate::specs::Faults::has_lawful_length, crate::specs::Files::length_in))]
 fn file_length(properties: &Value) -> Option<u64>
     ensures { result ≡ (
         if has_lawful_length (data_of properties.now)
@@ -93,6 +96,7 @@ fn file_length(properties: &Value) -> Option<u64>
 }
 
 /// The root of a file of this length, if it is lawful: zeros for an empty file.
+#[tactic(auto, unfolding(crate::specs::Faults::has_lawful_root, crate::specs::Files::root_in))]
 fn file_root(properties: &Value, length: u64) -> Option<Hash32>
     requires { length ≡ length_in (data_of properties.now) }
     ensures { result ≡ (

@@ -28,6 +28,7 @@ pub const MAX_TEXT_LENGTH: usize = 1 << 27;
 /// The torrent that the bytes spell.
 ///
 /// Errors: the first of [`MetaError`] that applies; `OutOfMemory` may stand in place of any.
+#[tactic(auto, using(crate::proofs::Steps::read_torrent_steps))]
 pub fn read_torrent(alloc: Global, bytes: &[u8]) -> Result<Torrent, MetaError>
     ensures torrent { IfOk result (IsTorrent bytes.now) }
     ensures ascending { IfOk result (λ torrent. HaveAscendingPaths torrent.files) }
@@ -43,6 +44,7 @@ pub fn read_torrent(alloc: Global, bytes: &[u8]) -> Result<Torrent, MetaError>
 /// The torrent whose `info` the bytes spell: it has no layers, and none is looked for.
 ///
 /// Errors: those of [`read_torrent`] but the three of layers, in its order.
+#[tactic(auto, using(crate::proofs::Steps::read_info_steps))]
 pub fn read_info(alloc: Global, bytes: &[u8]) -> Result<Torrent, MetaError>
     ensures torrent { IfOk result (IsInfo bytes.now) }
     ensures ascending { IfOk result (λ torrent. HaveAscendingPaths torrent.files) }
@@ -56,6 +58,7 @@ pub fn read_info(alloc: Global, bytes: &[u8]) -> Result<Torrent, MetaError>
 }
 
 /// The torrent that the value describes.
+#[tactic(auto, using(crate::proofs::Steps::torrent_in_steps), unfolding(crate::specs::Faults::first_fault))]
 fn torrent_in(alloc: Global, value: &Value) -> Result<Torrent, MetaError>
     requires { HasAscendingKeys (data_of value.now) }
     ensures faultless { IfOk result (λ _. first_fault (data_of value.now) ≡ None) }
@@ -74,6 +77,7 @@ fn torrent_in(alloc: Global, value: &Value) -> Result<Torrent, MetaError>
 }
 
 /// The torrent that the value describes as its `info`.
+#[tactic(auto, using(crate::proofs::Steps::info_in_steps), unfolding(crate::specs::Faults::first_info_fault))]
 fn info_in(alloc: Global, info: &Value) -> Result<Torrent, MetaError>
     requires { HasAscendingKeys (data_of info.now) }
     ensures faultless { IfOk result (λ _. first_info_fault (data_of info.now) ≡ None) }
@@ -122,6 +126,7 @@ struct Head<'a> {
 }
 
 /// Reads what `info` says beside the files.
+#[tactic(auto, unfolding(crate::specs::Faults::head_checks, crate::specs::Faults::piece_length_of, crate::specs::Faults::tree_of))]
 fn read_head(info: &Value) -> Result<Head<'_>, MetaError>
     ensures { MatchResult result
         (IsHead (data_of info.now))
@@ -166,6 +171,7 @@ fn is_hybrid(info: &Value) -> bool
 }
 
 /// The piece length, if it is lawful.
+#[tactic(auto, unfolding(crate::specs::Faults::piece_length_of))]
 fn piece_length(info: &Value) -> Option<u32>
     ensures { let length = piece_length_of (data_of info.now) in
         result ≡ (if is_lawful_piece_length length then Some length else None) }

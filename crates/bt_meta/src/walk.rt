@@ -49,6 +49,7 @@ enum Node<'a> {
 }
 
 /// The files of the tree.
+#[tactic(auto, using(crate::proofs::Steps::read_tree_steps))]
 pub(crate) fn read_tree(
     alloc: Global,
     tree: &Value,
@@ -106,6 +107,7 @@ fn walk_folder(
 }
 
 /// Tests an entry of a folder with this path. A file is put to the others; of a folder the path is returned.
+#[tactic(auto, using(crate::proofs::Steps::enter_steps))]
 fn enter(
     alloc: Global,
     walk: &mut Walk,
@@ -143,7 +145,7 @@ fn enter(
 }
 
 /// What the value is as an entry of a file tree, if it is one.
-#[tactic(auto, using(crate::proofs::NodeFacts::node_facts))]
+#[tactic(auto, using(crate::proofs::Dictionaries::single_below), unfolding(crate::specs::Faults::is_node))]
 fn node_of(value: &Value) -> Option<Node<'_>>
     ensures { MatchOption result (is_node (data_of value.now) ≡ false) (IsNodeOf (data_of value.now)) }
 {
@@ -163,6 +165,7 @@ fn node_of(value: &Value) -> Option<Node<'_>>
 }
 
 /// Puts a file with these properties to those of the walk.
+#[tactic(auto, using(crate::proofs::Steps::add_file_steps))]
 fn add_file(
     alloc: Global,
     walk: &mut Walk,

@@ -112,6 +112,7 @@ pub fn make(
 }
 
 /// Refuses the first file that is not lawful, in the order given.
+#[tactic(auto, using(crate::proofs::Steps::check_files_steps))]
 fn check_files(alloc: Global, piece_length: u32, files: &[Made]) -> Result<(), MakeError>
     requires { is_lawful_piece_length piece_length ≡ true }
     ensures rooted { OnOk result (All HasRoot (map given_of files.now)) }
@@ -214,6 +215,7 @@ fn check_layer(piece_length: u32, file: &Made) -> Result<(), MakeError>
 }
 
 /// Refuses a file whose root is that of an earlier file of another length.
+#[tactic(auto, using(crate::proofs::MakeFiles::lengths_noted))]
 fn check_root(lengths: &mut BTreeMap<Hash32, u64>, file: &Made) -> Result<(), MakeError>
     ensures rooted { HasRoot (given_of file.now) }
     ensures noted { OnOk result ((files : List Given) → HasLengths lengths.old files
@@ -260,6 +262,7 @@ fn order_of(path: &[String], other: &[String]) -> Ordering
 }
 
 /// Whether a path is or begins another. In tree order this is so just where a path begins the next one.
+#[tactic(auto, using(crate::proofs::Steps::has_overlap_steps))]
 fn has_overlap(files: &[&Made]) -> bool
     requires { IsSortedBy is_before (map given_at files.now) }
     ensures { result ≡ have_overlap (map given_at files.now) }

@@ -6,9 +6,6 @@ use Rattle.bt_meta.specs.EncodeSteps.{entries_before}
 use Rattle.bt_meta.proofs.EncodeValue.{layer_list, list_more, list_found, list_ascends, list_finds}
 use Rattle.bt_meta.proofs.encode.layer_entries.Goals as goal
 
-pub loop-root-init : goal.loop-root-init
-loop-root-init c = rw (c.new-entries.ensures.items) (ap layer_list c.into_iter-root-iterator.ensures.into_iter_gives.0)
-
 pub loop-root-preserved : goal.loop-root-preserved
 loop-root-preserved c =
     list_more _

@@ -9,12 +9,6 @@ use Rattle.bt_meta.proofs.encode.tree_of.Goals as goal
 pub loop-file-init : goal.loop-file-init
 loop-file-init c = rw (c.new-tree.ensures.items) (grown_begun _)
 
-pub folder_with-requires : goal.folder_with-requires
-folder_with-requires c =
-    let m = c.file-item.result in
-    let i = c.loop-file.file-index in
-    rw (c.deref.ensures.value) (behind_here _ i m _ c.loop-file-test.true c.file-item.is c.loop-file.invariant)
-
 pub loop-file-preserved : goal.loop-file-preserved
 loop-file-preserved c =
     let m = c.file-item.result in
@@ -24,7 +18,3 @@ loop-file-preserved c =
     c.in_ok-tree.ensures ∙ rw (c.deref.ensures.value, c.in_ok-properties_of.ensures) refl in
     rw put (grown_more _ i _ _ c.requires.tree_paths c.requires.named lt
     (lent_at _ i m c.loop-file-test.true c.file-item.is) c.loop-file.invariant)
-
-pub returns : goal.returns
-returns c = grown_found _ _ _ c.loop-file.invariant
-    (rw (length-map _ _) (omega (arith, c.loop-file-test.false)))

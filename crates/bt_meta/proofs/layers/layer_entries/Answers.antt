@@ -1,16 +1,9 @@
 use Rattle.bt_meta.proofs.Dictionaries.{layers_ascend, layers_strings, layers_absent, nothing_ascends}
 use Rattle.bt_meta.proofs.layers.layer_entries.Goals as goal
 
-pub returns-in-Some-clause-strings : goal.returns-in-Some-clause-strings
-returns-in-Some-clause-strings c =
-    λ key. layers_strings _ _ _ c.in-Some.ensures c.entries.ensures _
-
 pub returns-in-Some-clause-ascending : goal.returns-in-Some-clause-ascending
 returns-in-Some-clause-ascending c =
     layers_ascend _ _ _ c.in-Some.ensures c.entries.ensures c.requires
 
 pub returns-in-None-clause-strings : goal.returns-in-None-clause-strings
 returns-in-None-clause-strings c = λ key. layers_absent _ _ c.in-None.ensures
-
-pub returns-in-None-clause-ascending : goal.returns-in-None-clause-ascending
-returns-in-None-clause-ascending c = nothing_ascends

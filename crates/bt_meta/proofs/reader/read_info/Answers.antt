@@ -23,10 +23,3 @@ returns-clause-refused c =
     let same = ap data_of c.value.ensures.same in
     value_refused first_info_fault c.args.bytes.now (data_of c.value.result.now) c.info_in.result (omega arith) (rw same c.value.ensures.canonical)
     (ap spelling_of same ∙ c.in_ok-info.ensures.spelled) c.info_in.ensures.refused
-
-pub returns-clause-ascending : goal.returns-clause-ascending
-returns-clause-ascending c =
-    let same = ap data_of c.value.ensures.same in
-    let canonical : IsCanonical (data_of c.value.result.now) = rw same c.value.ensures.canonical in
-    ascends _ _
-    (info_keeps_to _ canonical.keys) c.info_in.ensures.faultless c.info_in.ensures.described

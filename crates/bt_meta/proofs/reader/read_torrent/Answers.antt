@@ -23,10 +23,3 @@ returns-clause-refused c =
     let same = ap data_of c.value.ensures.same in
     value_refused first_fault c.args.bytes.now (data_of c.value.result.now) c.torrent_in.result (omega arith) (rw same c.value.ensures.canonical)
     (ap spelling_of same ∙ c.in_ok-doc.ensures.spelled) c.torrent_in.ensures.refused
-
-pub returns-clause-ascending : goal.returns-clause-ascending
-returns-clause-ascending c =
-    let same = ap data_of c.value.ensures.same in
-    let canonical : IsCanonical (data_of c.value.result.now) = rw same c.value.ensures.canonical in
-    ascends _ _
-    (torrent_keeps_to _ canonical.keys) c.torrent_in.ensures.faultless c.torrent_in.ensures.described

@@ -10,24 +10,10 @@ use Rattle.bt_meta.proofs.ReadFiles.{keeps_to, torrent_keeps_to}
 use Rattle.bt_meta.proofs.FileLayers.{files_with_layers, pieces_after}
 use Rattle.bt_meta.proofs.reader.torrent_in.Goals as goal
 
-pub returns-in_default-clause-refused : goal.returns-in_default-clause-refused
-returns-in_default-clause-refused c = inr (no_info _ c.in_default.ensures)
-
-pub returns-in_err-head-clause-refused : goal.returns-in_err-head-clause-refused
-returns-in_err-head-clause-refused c =
-    let q = err_from_is_err_and c.from_residual.result c.from_residual.ensures.1 in
-    rw (q.1, q.2) (inr (torrent_info_fault (data_of c.args.value.now) c.in-Some.ensures (info_head_fault (data_of c.in-Some.info.now) c.in_err-head.ensures)))
-
 pub returns-in_err-listing-clause-refused : goal.returns-in_err-listing-clause-refused
 returns-in_err-listing-clause-refused c =
     let q = err_from_is_err_and c.from_residual-in_err-listing.result c.from_residual-in_err-listing.ensures.1 in
     rw (q.1, q.2) (tree_refuses (data_of c.args.value.now) c.in-Some.ensures c.in_ok-head.ensures c.in_err-listing.ensures)
-
-pub returns-in_err-add_layers-clause-refused : goal.returns-in_err-add_layers-clause-refused
-returns-in_err-add_layers-clause-refused c =
-    let q = err_from_is_err_and c.from_residual-in_err-add_layers.result c.from_residual-in_err-add_layers.ensures.1 in
-    rw (q.1, q.2) (refuses_as (torrent_layers
-    (data_of c.args.value.now) c.in-Some.ensures c.in_ok-head.ensures c.in_ok-listing.ensures) c.in_err-add_layers.ensures.refused)
 
 pub torrent_of-requires-clause-lawful : goal.torrent_of-requires-clause-lawful
 torrent_of-requires-clause-lawful c =
@@ -41,24 +27,3 @@ torrent_of-requires-clause-lawful c =
     let faultless = torrent_layers d c.in-Some.ensures c.in_ok-head.ensures c.in_ok-listing.ensures ∙ c.in_ok-add_layers.ensures.faultless in
     keeps_to (ap (λ i. metainfo_of i layers) (info_is d c.in-Some.ensures) ∙ metainfo_is _ all c.in_ok-head.ensures files)
     (torrent_keeps_to d c.requires faultless)
-
-pub torrent_of-requires-clause-counted : goal.torrent_of-requires-clause-counted
-torrent_of-requires-clause-counted c =
-    pieces_after _
-    _ _ _ _ c.in_ok-listing.ensures.pieces
-    c.in_ok-add_layers.ensures.whole
-
-pub returns-clause-faultless : goal.returns-clause-faultless
-returns-clause-faultless c = torrent_layers _ c.in-Some.ensures c.in_ok-head.ensures c.in_ok-listing.ensures
-    ∙ c.in_ok-add_layers.ensures.faultless
-
-pub returns-clause-described : goal.returns-clause-described
-returns-clause-described c =
-    let d = data_of c.args.value.now in
-    let layers = layers_of d in
-    let pl = c.in_ok-head.head.piece_length in
-    let tree = data_of c.in_ok-head.head.tree.now in
-    c.in_ok-torrent.ensures
-    ∙ sym (metainfo_is _ _ c.in_ok-head.ensures
-    (c.in_ok-add_layers.ensures.whole ∙ ap (map (with_layer pl layers)) c.in_ok-listing.ensures.files ∙ files_with_layers pl _ tree))
-    ∙ ap (λ i. metainfo_of i layers) (sym (info_is d c.in-Some.ensures))

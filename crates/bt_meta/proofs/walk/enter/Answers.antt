@@ -8,29 +8,6 @@ use Rattle.bt_meta.proofs.TreeWalk.{passes_nothing, no_node_stops, bad_name_stop
 use Rattle.bt_meta.proofs.TreeWalk.{folder_entered}
 use Rattle.bt_meta.proofs.walk.enter.Goals as goal
 
-pub returns-then-is_empty : goal.returns-then-is_empty
-returns-then-is_empty c = rw (empty_key _ _ _ c.if-is_empty.ensures) passes_nothing
-
-pub returns-in_default : goal.returns-in_default
-returns-in_default c =
-    let d = data_of c.args.value.now in
-    entry_stops _ _ d (key_entries _ _ d c.if-is_empty.ensures) (no_node_stops _ _ d c.in_default.ensures)
-
-pub returns-in_default-path_element : goal.returns-in_default-path_element
-returns-in_default-path_element c =
-    let d = data_of c.args.value.now in
-    entry_stops _ _ d (key_entries _ _ d c.if-is_empty.ensures)
-    (bad_name_stops _ _ d (node_is d _ c.in-Some.ensures) (test_of_none _ _ c.in_default-path_element.ensures))
-
-pub returns-in_err-add_file-in-File : goal.returns-in_err-add_file-in-File
-returns-in_err-add_file-in-File c =
-    let d = data_of c.args.value.now in
-    let q = err_from_is_err_and c.from_residual.result c.from_residual.ensures.1 in
-    let named = test_of_some _ _ _ c.in-Some-path_element.ensures in
-    let node = rw c.in-File.is at c.in-Some.ensures in
-    rw (q.1, q.2) (entry_stops (folder_elements c.args.path.now) c.args.key.now d (key_entries _ _ d c.if-is_empty.ensures)
-    (c.in_err-add_file-in-File.ensures.stopped _ (file_entry _ _ d named.1 node.0 named.0 node.1 node.2)))
-
 pub returns-then-folder_length-ge-MAX_PATH_LENGTH : goal.returns-then-folder_length-ge-MAX_PATH_LENGTH
 returns-then-folder_length-ge-MAX_PATH_LENGTH c =
     let d = data_of c.args.value.now in
@@ -46,12 +23,3 @@ returns-in_ok-add_file-in-File c =
     let node = rw c.in-File.is at c.in-Some.ensures in
     file_entered _ _ d (key_entries _ _ d c.if-is_empty.ensures) (node.3 _)
     (c.in_ok-add_file-in-File.ensures.passed _ (file_entry _ _ d named.1 node.0 named.0 node.1 node.2))
-
-pub returns-in_ok-inside-in-Folder : goal.returns-in_ok-inside-in-Folder
-returns-in_ok-inside-in-Folder c =
-    let d = data_of c.args.value.now in
-    let named = test_of_some _ _ _ c.in-Some-path_element.ensures in
-    let node = rw c.in-Folder.is at c.in-Some.ensures in
-    folder_entered _ _ d (key_entries _ _ d c.if-is_empty.ensures)
-    (c.in_ok-inside-in-Folder.ensures ∙ ap (λ n. folder_elements c.args.path.now ++ n ∷ []) named.1)
-    (folder_passes _ _ d node.0 named.0 node.1 (omega (arith, c.if-folder_length-ge-MAX_PATH_LENGTH.false)))

@@ -3,12 +3,6 @@ use Rattle.std.proofs.lemmas.Result.{err_from_is_err_and}
 use Rattle.bt_meta.proofs.MakeFiles.{taking_begun, taking_more, taking_stops, taking_found, taking_rooted}
 use Rattle.bt_meta.proofs.writer.check_files.Goals as goal
 
-pub loop-file-init : goal.loop-file-init
-loop-file-init c = taking_begun _ _ _ refl refl c.new.ensures.empty
-
-pub take-requires-clause-within : goal.take-requires-clause-within
-take-requires-clause-within c = c.loop-file.invariant.within
-
 pub returns-in_err-take-clause-checked : goal.returns-in_err-take-clause-checked
 returns-in_err-take-clause-checked c =
     let p = err_from_is_err_and c.from_residual.result c.from_residual.ensures.1 in
@@ -19,9 +13,3 @@ pub loop-file-preserved : goal.loop-file-preserved
 loop-file-preserved c =
     let e = c.in_ok-take.ensures in
     taking_more c.args.files.now _ c.loop-file.invariant c.file-item.result c.loop-file-test.true c.file-item.is e.within e.taken e.faultless e.rooted
-
-pub returns-clause-checked : goal.returns-clause-checked
-returns-clause-checked c = taking_found c.args.files.now _ c.loop-file.invariant (omega (arith, c.loop-file-test.false))
-
-pub returns-clause-rooted : goal.returns-clause-rooted
-returns-clause-rooted c = taking_rooted c.args.files.now _ c.loop-file.invariant (omega (arith, c.loop-file-test.false))
