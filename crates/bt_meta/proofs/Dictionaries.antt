@@ -49,10 +49,6 @@ single_below path (dictionary (entry (byte ∷ bytes) d no_entries)) s h = cc
 single_below path (dictionary (entry key d (entry other e es))) s h = cc
 
 module _ (d : Data) where
-  pub not_node : is_dictionary d ≡ false → is_node d ≡ false
-  unfolding is_node
-  not_node e = rw e refl
-
   both_hold : (a b c : Bool) → (a && (not true || (b && c))) ≡ true → b ≡ true
   both_hold true true c e = refl
   both_hold true false c e = cc
@@ -62,24 +58,6 @@ module _ (d : Data) where
   pub file_below : (path : List (List ℕ)) → is_node d ≡ true → has_key d [] ≡ true → tree_entries_below path d ≡ []
   unfolding is_node
   file_below path node file = single_below _ d (both_hold _ _ _ (rw file at node)) file
-
-  module _ (e : is_dictionary d ≡ true) where
-    pub folder_node : has_key d [] ≡ false → is_node d ≡ true
-    unfolding is_node
-    folder_node h = rw (e, h) refl
-
-    module _ (h : has_key d [] ≡ true) where
-      pub crowded_node : is_single d ≡ false → is_node d ≡ false
-      unfolding is_node
-      crowded_node s = rw (e, h, s) refl
-
-      pub file_node_is : {properties : Data} → is_single d ≡ true → Some properties ≡ dictionary_at d [] → is_node d ≡ true
-      unfolding is_node
-      file_node_is s p = rw (e, h, s, ← p) refl
-
-      pub empty_node : is_single d ≡ true → None ≡ dictionary_at d [] → is_node d ≡ false
-      unfolding is_node
-      empty_node s p = rw (e, h, s, ← p) refl
 
 pub empty_key : (path : List (List ℕ)) (key : List ℕ) (d : Data) → true ≡ (length key == 0) → tree_entries_of path key d ≡ []
 unfolding tree_entries_among
@@ -113,7 +91,7 @@ field_ascends (string s) key v h e = cc
 field_ascends (list ds) key v h e = cc
 field_ascends (dictionary es) key v h e = value_ascends _ _ v h e
 
-entries_ascend : (d : Data) → HasAscendingKeys d → EntriesAscend (entries_in d)
+pub entries_ascend : (d : Data) → HasAscendingKeys d → EntriesAscend (entries_in d)
 unfolding HasAscendingKeys EntriesAscend
 entries_ascend (integer z) h = tt
 entries_ascend (string s) h = tt
@@ -126,13 +104,6 @@ dictionary_is_field (Some (integer z)) v e = cc
 dictionary_is_field (Some (string s)) v e = cc
 dictionary_is_field (Some (list ds)) v e = cc
 dictionary_is_field (Some (dictionary es)) v e = sym e
-
-strings_in : (d : Data) (key : List ℕ) → string_at (dictionary (entries_in d)) key ≡ string_at d key
-unfolding string_at
-strings_in (integer z) key = refl
-strings_in (string s) key = refl
-strings_in (list ds) key = refl
-strings_in (dictionary es) key = refl
 
 no_strings : (o : Option Data) (key : List ℕ) → None ≡ option_and_then as_dictionary o
     → string_at (dictionary no_entries) key ≡ string_at (unwrap_or o no_dictionary) key
@@ -151,10 +122,6 @@ module _ (torrent : Data) where
 
     pub layers_ascend : HasAscendingKeys torrent → EntriesAscend es
     layers_ascend h = rw is (entries_ascend _ (field_ascends _ _ _ h field_there))
-
-    pub layers_strings : (key : List ℕ) → string_at (dictionary es) key ≡ string_at (layers_of torrent) key
-    unfolding layers_of
-    layers_strings key = rw (is, field_there) (strings_in _ _)
 
   pub layers_absent : (key : List ℕ) → None ≡ dictionary_at torrent (codes "piece layers")
       → string_at (dictionary no_entries) key ≡ string_at (layers_of torrent) key

@@ -24,6 +24,7 @@ use Rattle.bt_bencode.specs.declared.value.Value.{Value}
 use Rattle.bt_tree.specs.Limits.{max_file_length}
 use Rattle.bt_tree.specs.Blocks.{block_count}
 use Rattle.bt_tree.specs.TreeShape.{height_of, IsHeight}
+use Rattle.bt_tree.proofs.TreeShape.{height_is}
 use Rattle.bt_tree.specs.Layers.{fold_of, layer_digests, HasLayerSize, IsLayer}
 use Rattle.bt_meta.specs.Files.{file_of, File, is_file, file_at, files_of, piece_count}
 use Rattle.bt_meta.specs.declared.torrent.FileEntry.{FileEntry}
@@ -101,7 +102,7 @@ module _ (key : List ℕ) where
 -- ---- one layer
 
 -- a layer of a longer file's tree lies below its root
-pub layer_inside : (n bytes h k : ℕ) → n < bytes → IsHeight (block_count n) k → IsHeight (block_count bytes) h → k ≤ h
+layer_inside : (n bytes h k : ℕ) → n < bytes → IsHeight (block_count n) k → IsHeight (block_count bytes) h → k ≤ h
 layer_inside n bytes h k long low high =
     let enough = high.enough in
     let fewer : block_count n ≤ block_count bytes = omega arith in
@@ -123,12 +124,11 @@ module _ (n bytes : ℕ) (root layer : List ℕ) where
         let right : has_root n bytes root layer ≡ true = (bytes_eq-Decides _ _).1 at.folds in
         rw (size_right at.size, right) refl
 
-    pub layer_sized_wrong : k ≤ height_of (block_count bytes) → ¬ HasLayerSize (block_count bytes) k layer
-        → Some LayerSize ≡ layer_bytes_fault n bytes root layer
+    pub layer_sized_wrong : n < bytes → ¬ HasLayerSize (block_count bytes) k layer → Some LayerSize ≡ layer_bytes_fault n bytes root layer
     unfolding has_layer_size
-    layer_sized_wrong inside h =
-        let wrong : has_layer_size n bytes layer ≡ false =
-        ne_eqb _ _ (λ e. rw is at h (record { inside = rw is at inside; size = e })) in
+    layer_sized_wrong long h =
+        let inside = layer_inside n bytes _ _ long (height_is _) (height_is _) in
+        let wrong : has_layer_size n bytes layer ≡ false = ne_eqb _ _ (λ e. rw is at h (record { inside = inside; size = e })) in
         rw wrong refl
 
     pub layer_differs : HasLayerSize (block_count bytes) k layer → ¬ IsLayer sha256 (block_count bytes) root k layer

@@ -3,9 +3,7 @@ pub mod Checks
 pub mod Choices
 pub mod Dictionaries
 pub mod Lists
-pub mod NodeFacts
 -- reading: one entry of a file tree, the walk over all, and what it finds
-pub mod ReadProperties
 pub mod RootLengths
 pub mod TreeWalk
 -- reading: the layers of the files

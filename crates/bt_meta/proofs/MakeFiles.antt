@@ -222,9 +222,12 @@ none_in : (files ordered : List Given) → IsPermutation files ordered → have_
 none_in files ordered same h = (none_distinct ordered).1
     (IsDistinct-IsPermutation _ (λ f g. or_comm (begins f.path g.path) (begins g.path f.path)) files _ same ((none_distinct files).0 h))
 
-pub same_overlap : (files ordered : List Given) (b : Bool) → IsPermutation files ordered → b ≡ have_overlap ordered → have_overlap files ≡ b
-same_overlap files ordered true same is = true_from_ne_false _ (λ none. true≢false (is ∙ none_in _ _ same none))
-same_overlap files ordered false same is = none_in _ _ (IsPermutation-sym _ _ same) (sym is)
+pub same_overlap : (files ordered : List Given) → IsInTreeOrder files ordered → have_overlap files ≡ have_overlap ordered
+same_overlap files ordered order = by_test _ refl
+  where
+    by_test : (b : Bool) → b ≡ have_overlap ordered → have_overlap files ≡ b
+    by_test true is = true_from_ne_false _ (λ none. true≢false (is ∙ none_in _ _ order.same none))
+    by_test false is = none_in _ _ (IsPermutation-sym _ _ order.same) (sym is)
 
 -- ---- in tree order
 

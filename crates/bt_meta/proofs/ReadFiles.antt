@@ -37,6 +37,13 @@ use Rattle.bt_meta.proofs.RootLengths.{no_conflict}
 use Rattle.bt_meta.proofs.TreeWalk.{has_conflict, lawful_is_short, pieces_push, name_of, same_sum, some_of_filter, no_layer, length-with_earlier}
 use Rattle.bt_meta.specs.Torrent.{IsApart, Metainfo, metainfo_of, HaveAscendingPaths, IsLawful, IsLawfulFile}
 use Rattle.bt_meta.proofs.Dictionaries.{field_ascends, file_below}
+use Rattle.bt_meta.proofs.FileLayers.{files_with_layers, layer_faults_are}
+use Rattle.bt_meta.specs.declared.reader.Head.{Head}
+use Rattle.bt_meta.specs.declared.walk.Listing.{Listing}
+use Rattle.bt_meta.specs.ReaderSteps.{IsHead, IsListing}
+use Rattle.bt_meta.specs.LayerSteps.{with_layer, layer_faults}
+use Rattle.bt_meta.specs.Files.{file_of}
+use Rattle.bt_bencode.specs.Value.{data_of}
 use Rattle.bt_meta.specs.Layers.{has_layer_size, has_root}
 
 -- ==== the entries of a tree in which no check finds a fault
@@ -428,10 +435,6 @@ at_key d key h = by_field _ (λ v e. field_ascends d _ v h e)
 
 -- ==== the files, and the torrent
 
-head_lawful : (info : Data) → first_of (head_checks info) ≡ None → is_piece_length (piece_length_of info) ≡ true
-unfolding head_checks
-head_lawful info h = holds_unless _ PieceLength (each_none (head_checks info) h).1.1.1.0
-
 pub piece_lawful : (n : ℕ) → is_piece_length n ≡ true → IsPieceLength n
 piece_lawful n e =
     let outer = and_parts _ _ e in
@@ -555,39 +558,27 @@ none_layered n ps k d lt =
 
 -- ---- the whole
 
-abbrev KeepsTo : Metainfo → Type 0
-KeepsTo torrent = IsLawful torrent.piece_length torrent.files
+-- the paths of a lawful torrent's files ascend
+pub ascends : {E : Type 0} (r : Result Metainfo E) → IfOk r (λ torrent. IsLawful torrent.piece_length torrent.files)
+    → IfOk r (λ torrent. HaveAscendingPaths torrent.files)
+ascends (Ok torrent) lawful = lawful.ascending
+ascends (Err e) lawful = lawful
 
-pub keeps_to : {torrent other : Metainfo} → torrent ≡ other → KeepsTo torrent → IsLawful other.piece_length other.files
-keeps_to same h = subst KeepsTo same h
+module _ {info : Data} {head : Head} {listing : Listing} (keys : HasAscendingKeys info) (h : IsHead info head)
+    (l : IsListing head.piece_length (data_of head.tree.now) listing) where
+  lawful_with : (layers : Data) → All (IsLayered head.piece_length layers) (filter is_file (tree_entries_below [] (data_of head.tree.now)))
+      → IsLawful head.piece_length (files_of head.piece_length layers (data_of head.tree.now))
+  unfolding tree_of
+  lawful_with layers = lawful_tree head.piece_length layers _ (tree_sound _ _ l.faultless) (rw h.tree at (at_key info (codes "file tree") keys)) h.lawful
 
--- the paths of a result's files ascend, where it keeps to that
-pub ascends : {N E : Type 0} (other : Metainfo) (r : Result Metainfo E) → (N → IsLawful other.piece_length other.files) → IfOk r (λ torrent. N)
-    → IfOk r (λ torrent. torrent ≡ other) → IfOk r (λ torrent. HaveAscendingPaths torrent.files)
-ascends other (Ok torrent) keeps none is = rw is (keeps none).ascending
-ascends other (Err e) keeps none is = is
+  pub info_lawful : IsLawful head.piece_length (map file_of listing.files.items)
+  info_lawful = rw l.files (lawful_with no_dictionary (none_layered _ _))
 
-lawful_info : (info layers : Data) → HasAscendingKeys info → first_of (info_checks info) ≡ None
-    → All (IsLayered (piece_length_of info) layers) (filter is_file (tree_entries_below [] (tree_of info))) → KeepsTo (metainfo_of info layers)
-unfolding metainfo_of tree_of
-lawful_info info layers keys h layered =
-    let n = piece_length_of info in
-    let tree = tree_of info in
-    let parts = both_none (head_checks info) (tree_checks n tree) h in
-    lawful_tree n _ tree (tree_sound n tree parts.1) (at_key info _ keys) (head_lawful _ parts.0) layered
+  pub layers_lawful : (layers : Data) → first_of (layer_faults head.piece_length layers (map file_of listing.files.items)) ≡ None
+      → IsLawful head.piece_length (map (with_layer head.piece_length layers) (map file_of listing.files.items))
+  layers_lawful layers none = rw (l.files, files_with_layers head.piece_length layers (data_of head.tree.now))
+      (lawful_with layers (layered_tree _ _ _ (rw (l.files, layer_faults_are head.piece_length layers (data_of head.tree.now)) at none)))
 
-pub info_keeps_to : (info : Data) → HasAscendingKeys info → first_info_fault info ≡ None → KeepsTo (metainfo_of info no_dictionary)
-unfolding first_info_fault
-info_keeps_to info keys h =
-    lawful_info info no_dictionary keys (first_none (fault_if (not (is_dictionary info)) NoInfo) (info_checks info) h).1
-    (none_layered _ _)
-
-pub torrent_keeps_to : (value : Data) → HasAscendingKeys value → first_fault value ≡ None → KeepsTo (metainfo_of (info_of value) (layers_of value))
-unfolding info_of first_fault
-torrent_keeps_to value keys h =
-    let info : Data = info_of value in
-    let n = piece_length_of info in
-    let checks : List Check = layer_checks n (layers_of value) (tree_of info) in
-    let parts = both_none (info_checks info) checks
-    (first_none (fault_if (is_none (dictionary_at value (codes "info"))) NoInfo) (info_checks info ++ checks) h).1 in
-    lawful_info info _ (at_key value (codes "info") keys) parts.0 (layered_tree n _ _ parts.1)
+-- `info` has ascending keys where the whole has
+pub info_ascends : (torrent : Data) {info : Data} → HasAscendingKeys torrent → Some info ≡ dictionary_at torrent (codes "info") → HasAscendingKeys info
+info_ascends torrent keys there = rw (← there) at (at_key torrent (codes "info") keys)

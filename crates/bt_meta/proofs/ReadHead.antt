@@ -1,4 +1,4 @@
--- What the checks of an info dictionary's head come to, and what follows for the whole.
+-- What the checks of an info dictionary and of a torrent come to, behind those of the head.
 use Rattle.std.proofs.Common.{◌≡◌, ℕ, Bool, true, false, List, ◌++◌, map, None, Some, refl, sym, ◌∙◌, inl, inr}
 use Rattle.std.specs.Prelude.{codes}
 use Rattle.sha2.specs.Sha256.{sha256}
@@ -18,62 +18,7 @@ use Rattle.bt_meta.specs.declared.error.MetaError.TheVariants.{NoInfo, Hybrid, N
 use Rattle.bt_meta.proofs.Checks.{first_of-append, first_of-append_some}
 use Rattle.bt_meta.proofs.FileLayers.{layer_faults_are}
 
--- ---- the head
-
-module _ (info : Data) where
-  abbrev pub version_in : Check
-  version_in = version_check (integer_at info (codes "meta version"))
-
-  abbrev pub lawful_in : Bool
-  lawful_in = is_piece_length (piece_length_of info)
-
-  pub head_version : {e : MetaError} → Some e ≡ version_in → first_of (head_checks info) ≡ Some e
-  unfolding head_checks
-  head_version p = rw (← p) refl
-
-  module _ (p : None ≡ version_in) where
-    pub head_hybrid : true ≡ is_hybrid info → first_of (head_checks info) ≡ Some Hybrid
-    unfolding head_checks
-    head_hybrid q = rw (← p, ← q) refl
-
-    module _ (q : false ≡ is_hybrid info) where
-      pub head_name : None ≡ string_at info (codes "name") → first_of (head_checks info) ≡ Some NoName
-      unfolding head_checks
-      head_name r = rw (← p, ← q, ← r) refl
-
-      module _ {name : List ℕ} (r : Some name ≡ string_at info (codes "name")) where
-        pub head_length : lawful_in ≡ false → first_of (head_checks info) ≡ Some PieceLength
-        unfolding head_checks
-        head_length s = rw (← p, ← q, ← r, s) refl
-
-        module _ (s : lawful_in ≡ true) where
-          pub head_tree : None ≡ dictionary_at info (codes "file tree") → first_of (head_checks info) ≡ Some Tree
-          unfolding head_checks
-          head_tree t = rw (← p, ← q, ← r, s, ← t) refl
-
-          pub head_is : (head : Head) → name ≡ head.name.now → head.piece_length ≡ piece_length_of info
-              → Some (data_of head.tree.now) ≡ dictionary_at info (codes "file tree") → IsHead info head
-          unfolding head_checks tree_of
-          head_is head named l t = record {
-            faultless = rw (← p, ← q, ← r, s, ← t) refl;
-            name = rw (← r, named) refl;
-            piece_length = sym l;
-            lawful = rw l s;
-            tree = rw (← t) refl;
-          }
-
 -- ---- the whole of an info dictionary
-
-pub first_info_fault_in : (info : Data) → true ≡ is_dictionary info → first_info_fault info ≡ first_of (info_checks info)
-unfolding first_info_fault
-first_info_fault_in info e = rw (← e) refl
-
-pub not_info : (info : Data) → false ≡ is_dictionary info → first_info_fault info ≡ Some NoInfo
-unfolding first_info_fault
-not_info info e = rw (← e) refl
-
-pub info_head_fault : (info : Data) {e : MetaError} → first_of (head_checks info) ≡ Some e → first_of (info_checks info) ≡ Some e
-info_head_fault info h = first_of-append_some (head_checks info) (tree_checks (piece_length_of info) (tree_of info)) _ h
 
 -- the checks of an info dictionary are those of its head and those of its tree
 pub info_faults : {info : Data} {head : Head} → IsHead info head
@@ -89,10 +34,6 @@ metainfo_is layers files h f = rw (h.name, h.piece_length, h.tree, f) refl
 -- ---- the whole of a torrent
 
 module _ (torrent : Data) where
-  pub no_info : None ≡ dictionary_at torrent (codes "info") → first_fault torrent ≡ Some NoInfo
-  unfolding first_fault
-  no_info e = rw (← e) refl
-
   module _ {info : Data} (there : Some info ≡ dictionary_at torrent (codes "info")) where
     pub info_is : info_of torrent ≡ info
     unfolding info_of
@@ -105,19 +46,16 @@ module _ (torrent : Data) where
     pub torrent_info_fault : {e : MetaError} → first_of (info_checks info) ≡ Some e → first_fault torrent ≡ Some e
     torrent_info_fault f = first_fault_in ∙ first_of-append_some (info_checks info) (layer_checks (piece_length_of info) (layers_of torrent) (tree_of info)) _ f
 
+    pub torrent_head_fault : {e : MetaError} → first_of (head_checks info) ≡ Some e → first_fault torrent ≡ Some e
+    torrent_head_fault f = torrent_info_fault (first_of-append_some (head_checks info) (tree_checks (piece_length_of info) (tree_of info)) _ f)
+
+    pub torrent_tree_fault : {head : Head} {e : MetaError} → IsHead info head
+        → first_of (tree_checks head.piece_length (data_of head.tree.now)) ≡ Some e → first_fault torrent ≡ Some e
+    torrent_tree_fault h f = torrent_info_fault (info_faults h ∙ f)
+
     module _ {head : Head} {listing : Listing} (h : IsHead info head) (l : IsListing head.piece_length (data_of head.tree.now) listing) where
       pub torrent_layers : first_fault torrent ≡ first_of (layer_faults head.piece_length (layers_of torrent) (map file_of listing.files.items))
       torrent_layers =
           first_fault_in ∙ first_of-append (info_checks info) _
           (info_faults h ∙ l.faultless)
           ∙ rw (h.piece_length, h.tree, l.files, layer_faults_are head.piece_length (layers_of torrent) (data_of head.tree.now)) refl
-
--- ---- refusals
-
-pub refuses_as : {c d : Check} {e : MetaError} → c ≡ d → Refuses d e → Refuses c e
-refuses_as same h = rw same h
-
-pub tree_refuses : (torrent : Data) {info : Data} {head : Head} {e : MetaError} → Some info ≡ dictionary_at torrent (codes "info") → IsHead info head
-    → Refuses (first_of (tree_checks head.piece_length (data_of head.tree.now))) e → Refuses (first_fault torrent) e
-tree_refuses torrent there h (inl m) = inl m
-tree_refuses torrent there h (inr k) = inr (torrent_info_fault _ there (info_faults h ∙ k))

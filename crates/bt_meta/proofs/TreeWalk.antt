@@ -247,10 +247,6 @@ pub lawful_is_short : (properties : Data) → has_lawful_length properties ≡ t
 unfolding has_lawful_length length_in
 lawful_is_short properties e = short_length (natural_at properties (codes "length")) e
 
-pub properties_pass : (properties : Data) → false ≡ has_key properties (codes "symlink path") → has_lawful_length properties ≡ true
-    → has_lawful_root properties ≡ true → first_of (property_checks properties) ≡ None
-properties_pass properties link length root = rw (← link, length, root) refl
-
 -- ---- a file
 
 module _ (n m k : ℕ) where

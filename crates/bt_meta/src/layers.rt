@@ -44,7 +44,7 @@ pub(crate) fn add_layers(
 }
 
 /// The entries of `piece layers`; none where it is absent or no dictionary.
-#[tactic(auto, using(crate::proofs::Dictionaries::field_ascends), unfolding(crate::specs::Faults::layers_of, crate::specs::Fields::dictionary_at, crate::specs::Fields::string_at, bt_bencode::specs::Doc::HasAscendingKeys, bt_bencode::specs::Doc::EntriesAscend))]
+#[tactic(auto, using(crate::proofs::Steps::layers_there), unfolding(crate::specs::Faults::layers_of, crate::specs::Fields::dictionary_at, crate::specs::Fields::string_at))]
 fn layer_entries(torrent: &Value) -> &[(Vec<u8>, Value)]
     requires { HasAscendingKeys (data_of torrent.now) }
     ensures strings { HasStringsOf (dictionary_of (entries_of result.now)) (layers_of (data_of torrent.now)) }
@@ -57,6 +57,7 @@ fn layer_entries(torrent: &Value) -> &[(Vec<u8>, Value)]
 }
 
 /// Gives each file that is longer than a piece its layer, out of these entries.
+#[tactic(auto, using(crate::proofs::Steps::add_layers_of_steps))]
 fn add_layers_of(
     alloc: Global,
     files: &mut [FileEntry],
@@ -131,6 +132,7 @@ fn find<'a>(entries: &'a [(Vec<u8>, Value)], key: &[u8]) -> Option<&'a Value>
 }
 
 /// Refuses a layer that is not the one of a file's pieces.
+#[tactic(auto, using(crate::proofs::Steps::check_steps))]
 pub(crate) fn check(
     root: &Hash32,
     length: u64,

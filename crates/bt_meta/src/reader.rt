@@ -28,7 +28,7 @@ pub const MAX_TEXT_LENGTH: usize = 1 << 27;
 /// The torrent that the bytes spell.
 ///
 /// Errors: the first of [`MetaError`] that applies; `OutOfMemory` may stand in place of any.
-#[tactic(auto, using(crate::proofs::Steps::read_torrent_steps))]
+#[tactic(auto, using(crate::proofs::Steps::read_steps))]
 pub fn read_torrent(alloc: Global, bytes: &[u8]) -> Result<Torrent, MetaError>
     ensures torrent { IfOk result (IsTorrent bytes.now) }
     ensures ascending { IfOk result (λ torrent. HaveAscendingPaths torrent.files) }
@@ -44,7 +44,7 @@ pub fn read_torrent(alloc: Global, bytes: &[u8]) -> Result<Torrent, MetaError>
 /// The torrent whose `info` the bytes spell: it has no layers, and none is looked for.
 ///
 /// Errors: those of [`read_torrent`] but the three of layers, in its order.
-#[tactic(auto, using(crate::proofs::Steps::read_info_steps))]
+#[tactic(auto, using(crate::proofs::Steps::read_steps))]
 pub fn read_info(alloc: Global, bytes: &[u8]) -> Result<Torrent, MetaError>
     ensures torrent { IfOk result (IsInfo bytes.now) }
     ensures ascending { IfOk result (λ torrent. HaveAscendingPaths torrent.files) }
@@ -58,12 +58,13 @@ pub fn read_info(alloc: Global, bytes: &[u8]) -> Result<Torrent, MetaError>
 }
 
 /// The torrent that the value describes.
-#[tactic(auto, using(crate::proofs::Steps::torrent_in_steps), unfolding(crate::specs::Faults::first_fault))]
+#[tactic(auto, using(crate::proofs::Steps::torrent_in_steps), unfolding(crate::specs::Faults::first_fault, crate::specs::Faults::info_of))]
 fn torrent_in(alloc: Global, value: &Value) -> Result<Torrent, MetaError>
     requires { HasAscendingKeys (data_of value.now) }
     ensures faultless { IfOk result (λ _. first_fault (data_of value.now) ≡ None) }
     ensures described { IfOk result (λ torrent.
         torrent ≡ metainfo_of (info_of (data_of value.now)) (layers_of (data_of value.now))) }
+    ensures lawful { IfOk result (λ torrent. IsLawful torrent.piece_length torrent.files) }
     ensures refused { IfErr result (Refuses (first_fault (data_of value.now))) }
 {
     let Some(info) = dictionary(value, b"info") else {
@@ -82,6 +83,7 @@ fn info_in(alloc: Global, info: &Value) -> Result<Torrent, MetaError>
     requires { HasAscendingKeys (data_of info.now) }
     ensures faultless { IfOk result (λ _. first_info_fault (data_of info.now) ≡ None) }
     ensures described { IfOk result (λ torrent. torrent ≡ metainfo_of (data_of info.now) no_dictionary) }
+    ensures lawful { IfOk result (λ torrent. IsLawful torrent.piece_length torrent.files) }
     ensures refused { IfErr result (Refuses (first_info_fault (data_of info.now))) }
 {
     if !is_dictionary(info) {

@@ -9,9 +9,6 @@ use Rattle.bt_meta.specs.LayerSteps.{with_layer, layer_fault}
 use Rattle.bt_meta.proofs.FileLayers.{unchanged_item, changed_more, all_changed, faultless_more, refused_at, short_at}
 use Rattle.bt_meta.proofs.layers.add_layers_of.Goals as goal
 
-pub loop-file-init : goal.loop-file-init
-loop-file-init c = record { changed = record { done = refl; rest = refl }; faultless = refl }
-
 pub add_layer-requires-clause-short : goal.add_layer-requires-clause-short
 add_layer-requires-clause-short c =
     let less : c.loop-file.file-index < length c.args.files.now = c.loop-file-test.true in
@@ -46,11 +43,6 @@ loop-file-preserved c =
           (file_of f)) _ c.args.files.now e less item c.loop-file.invariant.faultless
           (ap (λ f. layer_fault c.args.piece_length layers (file_of f)) c.file-item.is ∙ c.in_ok-add_layer.ensures.faultless);
     }
-
-pub returns-clause-whole : goal.returns-clause-whole
-returns-clause-whole c =
-    all_changed _ _ _ _ _ (omega arith)
-    (omega arith) c.loop-file.invariant.changed
 
 pub returns-clause-faultless : goal.returns-clause-faultless
 returns-clause-faultless c = let all : take c.loop-file.file-index c.args.files.now ≡ c.args.files.now =

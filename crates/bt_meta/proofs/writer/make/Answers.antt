@@ -10,49 +10,22 @@ use Rattle.bt_meta.proofs.MadeTree.{ordered_named, lent_short}
 use Rattle.bt_meta.proofs.MadeTorrent.{torrent_of_given}
 use Rattle.bt_meta.proofs.writer.make.Goals as goal
 
-pub returns-then-not-is_lawful_length-clause-refused : goal.returns-then-not-is_lawful_length-clause-refused
-returns-then-not-is_lawful_length-clause-refused c =
-    unlawful PieceLength (length_refused _ _ c.if-not-is_lawful_length.ensures)
-
-pub returns-then-is_empty-clause-refused : goal.returns-then-is_empty-clause-refused
-returns-then-is_empty-clause-refused c =
-    unlawful Count (none_refused _ _ c.if-not-is_lawful_length.ensures c.if-is_empty.ensures)
-
-pub returns-in_err-check_files-clause-refused : goal.returns-in_err-check_files-clause-refused
-returns-in_err-check_files-clause-refused c =
-    let p = err_from_is_err_and c.from_residual.result c.from_residual.ensures.1 in
-    rw (p.1, p.2) (refused_as c.args.name.now c.args.piece_length c.args.files.now c.in_err-check_files.field-0.0
-    c.if-not-is_lawful_length.ensures c.if-is_empty.ensures c.in_err-check_files.ensures.checked)
-
-pub has_overlap-requires : goal.has_overlap-requires
-has_overlap-requires c = rw (c.deref.ensures.value) c.in_ok-ordered.ensures.ascending
-
 pub returns-then-has_overlap-clause-refused : goal.returns-then-has_overlap-clause-refused
 returns-then-has_overlap-clause-refused c =
     overlap (files_refused _ _ c.if-not-is_lawful_length.ensures c.if-is_empty.ensures ∙ c.in_ok-check_files.ensures.checked)
-    (same_overlap _ _ _ c.in_ok-ordered.ensures.same (rw (c.deref.ensures.value) at c.if-has_overlap.ensures))
+    (same_overlap _ _ c.in_ok-ordered.ensures ∙ sym (rw (c.deref.ensures.value) at c.if-has_overlap.ensures))
 
 pub value_of-requires-clause-tree_paths : goal.value_of-requires-clause-tree_paths
 value_of-requires-clause-tree_paths c =
     rw (c.deref-2.ensures.value) (tree_paths _ _ c.in_ok-ordered.ensures
     (rw (c.deref.ensures.value) at (sym c.if-has_overlap.ensures)))
 
-pub value_of-requires-clause-named : goal.value_of-requires-clause-named
-value_of-requires-clause-named c =
-    rw (c.deref-2.ensures.value) (ordered_named _
-    _ _ c.in_ok-check_files.ensures.checked c.in_ok-ordered.ensures)
-
-pub value_of-requires-clause-short : goal.value_of-requires-clause-short
-value_of-requires-clause-short c =
-    rw (c.deref-2.ensures.value) (lent_short _
-    _ _ c.in_ok-check_files.ensures.checked c.in_ok-ordered.ensures)
-
 pub returns-then-len-gt-MAX_TEXT_LENGTH-clause-refused : goal.returns-then-len-gt-MAX_TEXT_LENGTH-clause-refused
 returns-then-len-gt-MAX_TEXT_LENGTH-clause-refused c =
     let value = rw (c.deref-2.ensures.value) at c.in_ok-value.ensures in
     let spelled = c.in_ok-text.ensures ∙ ap spelling_of value.made in
     too_long (files_refused _ _ c.if-not-is_lawful_length.ensures c.if-is_empty.ensures ∙ c.in_ok-check_files.ensures.checked)
-    (same_overlap _ _ _ c.in_ok-ordered.ensures.same (rw (c.deref.ensures.value) at c.if-has_overlap.ensures))
+    (same_overlap _ _ c.in_ok-ordered.ensures ∙ sym (rw (c.deref.ensures.value) at c.if-has_overlap.ensures))
     (record {
       ordered = map given_at c.in_ok-ordered.ordered.items;
       in_order = c.in_ok-ordered.ensures;
@@ -86,19 +59,4 @@ returns-clause-made c =
 
 pub returns-clause-apart : goal.returns-clause-apart
 returns-clause-apart c =
-    same_overlap _ _ _ c.in_ok-ordered.ensures.same (rw (c.deref.ensures.value) at c.if-has_overlap.ensures)
-
-pub returns-in_err-ordered-clause-refused : goal.returns-in_err-ordered-clause-refused
-returns-in_err-ordered-clause-refused c =
-    let p = err_from_is_err_and c.from_residual-in_err-ordered.result c.from_residual-in_err-ordered.ensures.1 in
-    rw (p.1, p.2) no_memory
-
-pub returns-in_err-value-clause-refused : goal.returns-in_err-value-clause-refused
-returns-in_err-value-clause-refused c =
-    let p = err_from_is_err_and c.from_residual-in_err-value.result c.from_residual-in_err-value.ensures.1 in
-    rw (p.1, p.2) no_memory
-
-pub returns-in_err-text-clause-refused : goal.returns-in_err-text-clause-refused
-returns-in_err-text-clause-refused c =
-    let p = err_from_is_err_and c.from_residual-in_err-text.result c.from_residual-in_err-text.ensures.1 in
-    rw (p.1, p.2) no_memory
+    same_overlap _ _ c.in_ok-ordered.ensures ∙ sym (rw (c.deref.ensures.value) at c.if-has_overlap.ensures)
