@@ -1,7 +1,6 @@
 -- What a choice by a test says.
-use Rattle.std.proofs.Common.{◌≡◌, ℕ, Bool, true, false, Option, None, Some, refl}
-use Rattle.std.specs.Prelude.{unwrap_or, if◌then◌else◌}
-use Rattle.std.specs.Option.{option_map_or}
+use Rattle.std.proofs.Common.{◌≡◌, Bool, true, false, None, Some, refl}
+use Rattle.std.specs.Prelude.{if◌then◌else◌}
 
 pub test_of_some : {A : Type 0} (test : Bool) (x y : A) → Some y ≡ (if test then Some x else None) → (test ≡ true) × (y ≡ x)
 test_of_some true x y e = (refl, cc)

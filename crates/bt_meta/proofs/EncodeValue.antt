@@ -1,6 +1,5 @@
 -- The value of files in tree order: its tree, and its layers by their roots.
-use Rattle.std.proofs.Common.{◌≡◌, ◌⊎◌, ℕ, false, List, [], ◌∷◌, ◌++◌, length, arith, refl, sym, ap, ◌∙◌, inl, inr, Some, None, subst, zero, suc, ◌+◌, ◌<◌}
-use Rattle.std.proofs.Common.{◌≤◌, Bool, true, map, add-one, Option, Result, Ok, Err, IfOk}
+use Rattle.std.proofs.Common.{◌≡◌, ◌⊎◌, ℕ, false, List, [], ◌∷◌, ◌++◌, length, arith, refl, sym, ap, ◌∙◌, inl, inr, Some, None, subst, zero, suc, ◌+◌, ◌<◌, ◌≤◌, Bool, true, map, add-one, Option, Result, Ok, Err, IfOk}
 use Rattle.std.specs.Prelude.{nat_eq, take, get_or, ◌&&◌, is_some, nat_lt, if◌then◌else◌, cond}
 use Rattle.std.specs.Global.{Vec}
 use Rattle.std.specs.Ordering.{nat_cmp, is_eq, ordering_reverse}

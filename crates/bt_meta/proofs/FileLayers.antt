@@ -1,6 +1,5 @@
 -- The layers of the files of a torrent that is read.
-use Rattle.std.proofs.Common.{◌≡◌, ℕ, zero, suc, ◌<◌, false, List, [], ◌∷◌, length, get_or, None, Some, Err, refl, sym, ◌∙◌, arith, add-one, inl, inr, ◌+◌}
-use Rattle.std.proofs.Common.{◌-◌, ◌≤◌, true, ◌++◌, take, drop, set, map, ap}
+use Rattle.std.proofs.Common.{◌≡◌, ℕ, zero, suc, ◌<◌, false, List, [], ◌∷◌, length, get_or, None, Some, Err, refl, sym, ◌∙◌, arith, add-one, inl, inr, ◌+◌, ◌-◌, ◌≤◌, true, ◌++◌, take, drop, set, map, ap}
 use Rattle.std.specs.Prelude.{nat_eq, filter, sum_by}
 use Rattle.std.specs.Global.{Vec}
 use Rattle.std.specs.List.{HoldsAt}

@@ -6,8 +6,7 @@ use Rattle.bt_bencode.specs.Doc.{IsCanonical}
 use Rattle.bt_bencode.specs.Law.{IsRepresentable}
 use Rattle.bt_bencode.specs.Error.{AtFault}
 use Rattle.bt_bencode.specs.declared.error.BencodeError.{BencodeError}
-use Rattle.bt_bencode.specs.declared.error.BencodeError.TheVariants.{Truncated, BadByte, LeadingZero, IntRange, KeyOrder, TooDeep, Trailing}
-use Rattle.bt_bencode.specs.declared.error.BencodeError.TheVariants.{OutOfMemory as no_memory_left}
+use Rattle.bt_bencode.specs.declared.error.BencodeError.TheVariants.{Truncated, BadByte, LeadingZero, IntRange, KeyOrder, TooDeep, Trailing, OutOfMemory as no_memory_left}
 use Rattle.bt_bencode.proofs.ReadingLaws.{begins_once}
 use Rattle.bt_bencode.proofs.Representable.{representable}
 use Rattle.bt_meta.specs.Faults.{first_fault, info_of, layers_of}

@@ -1,8 +1,6 @@
 -- The tree of files that are put into it in their order: it is canonical, and has an entry for each file.
-use Rattle.std.proofs.Common.{◌≡◌, ℕ, zero, suc, ◌+◌, ◌<◌, ◌≤◌, ◌^◌, true, false, List, [], ◌∷◌, length, refl, sym, ap, ◌∙◌, arith, add-one, inl, inr, None}
-use Rattle.std.proofs.Common.{Some, pos, ◌≢◌, ◌++◌, map, get_or, append_assoc, Bool, length-append}
-use Rattle.std.specs.Prelude.{Option, IfSome, get_or, nat_eq, nat_le, ◌==◌, FitsSigned, nat_lt, not, ◌||◌, sum_by, filter, unwrap_or, take, replicate}
-use Rattle.std.specs.Prelude.{codes, if◌then◌else◌, cond}
+use Rattle.std.proofs.Common.{◌≡◌, ℕ, zero, suc, ◌+◌, ◌<◌, ◌≤◌, ◌^◌, true, false, List, [], ◌∷◌, length, refl, sym, ap, ◌∙◌, arith, add-one, inl, inr, None, Some, pos, ◌≢◌, ◌++◌, map, get_or, append_assoc, Bool, length-append}
+use Rattle.std.specs.Prelude.{Option, IfSome, nat_eq, nat_le, ◌==◌, FitsSigned, nat_lt, not, ◌||◌, sum_by, filter, unwrap_or, take, replicate, codes, if◌then◌else◌, cond}
 use Rattle.std.specs.Int.{w64}
 use Rattle.std.specs.List.{All, list_any, list_all, last_or}
 use Rattle.std.specs.Option.{option_map}
@@ -21,12 +19,10 @@ use Rattle.std.proofs.lemmas.List.Sorted.{All-permutation, length_permutation, s
 use Rattle.std.proofs.lemmas.Str.{IsUtf8-nil, is_utf8-from_IsUtf8}
 use Rattle.bt_bencode.specs.Value.{Data, integer, string, dictionary, Entries, no_entries, entry}
 use Rattle.bt_bencode.specs.Dictionary.{first_value_of}
-use Rattle.bt_bencode.specs.Doc.{nesting_of, entries_nesting, IsBefore, first_key_of, HasAscendingKeys, EntriesAscend, HasSmallIntegers}
-use Rattle.bt_bencode.specs.Doc.{EntriesHaveSmallIntegers, IsCanonicalWithin, IsCanonical}
+use Rattle.bt_bencode.specs.Doc.{nesting_of, entries_nesting, IsBefore, first_key_of, HasAscendingKeys, EntriesAscend, HasSmallIntegers, EntriesHaveSmallIntegers, IsCanonicalWithin, IsCanonical}
 use Rattle.bt_tree.specs.Limits.{max_file_length, max_piece_length}
 use Rattle.bt_meta.specs.Limits.{max_path_length, max_file_count, max_piece_count}
-use Rattle.bt_meta.specs.Faults.{is_piece_length, first_of, fault_if, is_path, is_element, is_node, has_lawful_name, is_path_element, has_lawful_length}
-use Rattle.bt_meta.specs.Faults.{has_lawful_root}
+use Rattle.bt_meta.specs.Faults.{is_piece_length, first_of, fault_if, is_path, is_element, is_node, has_lawful_name, is_path_element, has_lawful_length, has_lawful_root}
 use Rattle.bt_meta.specs.GivenFiles.{Given, HaveTreePaths, IsInTreeOrder, HasRoot}
 use Rattle.bt_meta.specs.Encode.{properties_made, tree_made, AreLayersOf, info_made, value_made, with_file}
 use Rattle.bt_meta.specs.EncodeSteps.{entries_before, AreNonEmpty, AreBefore, given_at, is_nonempty, ComesAfter}

@@ -1,13 +1,12 @@
 -- The files that a torrent is made of: one by one, in their order, and of which no path begins another.
-use Rattle.std.proofs.Common.{◌≡◌, ℕ, ◌+◌, ◌<◌, ◌≤◌, Bool, false, List, [], ◌∷◌, ◌++◌, length, map, None, refl, sym, ap, ◌∙◌, arith, inl, inr, suc, ◌-◌, true}
-use Rattle.std.proofs.Common.{◌↔◌, subst, Some}
+use Rattle.std.proofs.Common.{◌≡◌, ℕ, ◌+◌, ◌<◌, ◌≤◌, Bool, false, List, [], ◌∷◌, ◌++◌, length, map, None, refl, sym, ap, ◌∙◌, arith, inl, inr, suc, ◌-◌, true, ◌↔◌, subst, Some}
 use Rattle.std.specs.Prelude.{string_bytes, not, ◌&&◌, ◌||◌, ◌==◌, String, take, drop, get_or}
 use Rattle.std.specs.Global.{Global}
 use Rattle.std.specs.List.{list_all, All, AllByRecursion, AllPairs, IsDistinct, list_any, starts_with}
 use Rattle.std.proofs.lemmas.List.Elements.{All-nil, All-push, All-from_recursion, recursion_from_All}
 use Rattle.std.proofs.lemmas.List.{length-map, map-append, take_all, map_more, get_or-map}
 use Rattle.std.proofs.lemmas.List.Folds.{list_any-append, list_all-map}
-use Rattle.std.proofs.Math.Bool.{or-false}
+use Rattle.std.proofs.Math.Bool.{or-false, or_comm}
 use Rattle.std.specs.Borrow.{Bor}
 use Rattle.std.specs.Ordering.{ordering_then, nat_cmp, is_lt, ordering_reverse}
 use Rattle.std.specs.String.{string_cmp, string_eq}
@@ -23,7 +22,6 @@ use Rattle.std.proofs.lemmas.Cmp.{tied_itself}
 use Rattle.std.proofs.lemmas.List.Kept.{AllPairs-cons}
 use Rattle.std.proofs.lemmas.Map.Keys.{IsDistinct-IsPermutation}
 use Rattle.std.proofs.lemmas.Map.Lookups.{exact_bytes}
-use Rattle.std.proofs.Math.Bool.{or_comm}
 use Rattle.std.proofs.lemmas.Slice.Eq.{bytes_eq-Decides}
 use Rattle.bt_meta.specs.Faults.{first_of, is_element, is_path, is_piece_length}
 use Rattle.bt_meta.specs.PropertySteps.{Lengths, length_at, is_other_length, NotesLength}

@@ -1,6 +1,5 @@
 -- The files of a torrent take its pieces one after the other.
-use Rattle.std.proofs.Common.{◌≡◌, ◌≤◌, ◌<◌, ◌+◌, ◌-◌, ◌*◌, ℕ, List, length, map, refl, sym, ◌∙◌, ap, arith, inl, inr, leb, leb-true, true, false}
-use Rattle.std.proofs.Common.{[], ◌∷◌, Option, Some, None, rules}
+use Rattle.std.proofs.Common.{◌≡◌, ◌≤◌, ◌<◌, ◌+◌, ◌-◌, ◌*◌, ℕ, List, length, map, refl, sym, ◌∙◌, ap, arith, inl, inr, leb, leb-true, true, false, [], ◌∷◌, Option, Some, None, rules}
 use Rattle.std.specs.Prelude.{take, get_or, sum_by, SomeIff, IfSome, IfNone}
 use Rattle.std.proofs.lemmas.Bool.{cases_lt, leb-false}
 use Rattle.std.proofs.lemmas.List.{length-take-le, take-take, get_or-take, get_or-map, length-map}

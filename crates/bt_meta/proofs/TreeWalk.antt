@@ -1,6 +1,5 @@
 -- The walk over a file tree, entry by entry.
-use Rattle.std.proofs.Common.{◌≡◌, ℕ, Bool, true, false, List, [], ◌∷◌, ◌++◌, None, Some, refl, inr, ◌+◌, ◌<◌, length, take, drop, get_or, sym, ap, ◌∙◌}
-use Rattle.std.proofs.Common.{append_assoc, inl, ◌≤◌, map, arith, ◌⊎◌, Option}
+use Rattle.std.proofs.Common.{◌≡◌, ℕ, Bool, true, false, List, [], ◌∷◌, ◌++◌, None, Some, refl, inr, ◌+◌, ◌<◌, length, take, drop, get_or, sym, ap, ◌∙◌, append_assoc, inl, ◌≤◌, map, arith, ◌⊎◌, Option}
 use Rattle.std.specs.Prelude.{not, ◌&&◌, ◌==◌, filter, sum_by, ◌||◌, unwrap_or, nat_lt, if◌then◌else◌, codes, nat_le}
 use Rattle.std.specs.List.{list_any, last_or}
 use Rattle.std.specs.Global.{Vec}
@@ -17,10 +16,8 @@ use Rattle.bt_bencode.specs.Value.{Data, Entries, entry, data_of, entries_of, en
 use Rattle.bt_bencode.specs.declared.value.Value.{Value}
 use Rattle.bt_tree.specs.Limits.{max_file_length}
 use Rattle.bt_meta.specs.TreeEntries.{TreeEntry, tree_entries_below, tree_entries_among, with_earlier}
-use Rattle.bt_meta.specs.Files.{is_file, properties_of, length_of, File, root_of, is_conflict, file_of, file_at, pieces_of, piece_count, length_in, root_in}
-use Rattle.bt_meta.specs.Files.{files_of}
-use Rattle.bt_meta.specs.Faults.{Check, first_of, fault_if, is_node, has_lawful_name, conflict, is_too_many, entry_check, file_checks, has_lawful_length}
-use Rattle.bt_meta.specs.Faults.{has_lawful_root, is_path_element, tree_checks}
+use Rattle.bt_meta.specs.Files.{is_file, properties_of, length_of, File, root_of, is_conflict, file_of, file_at, pieces_of, piece_count, length_in, root_in, files_of}
+use Rattle.bt_meta.specs.Faults.{Check, first_of, fault_if, is_node, has_lawful_name, conflict, is_too_many, entry_check, file_checks, has_lawful_length, is_path_element, tree_checks}
 use Rattle.bt_meta.specs.PropertySteps.{property_checks, Lengths, length_at, is_other_length, NotesLength, IsFileFacts, IsLengthConflict}
 use Rattle.bt_meta.specs.WalkSteps.{IsWalkOver, Passes, Stops, tree_entries_of, has_other_length, IsFileEntry, IsNodeOf, StopsAtEntry}
 use Rattle.bt_meta.specs.declared.walk.Walk.{Walk}

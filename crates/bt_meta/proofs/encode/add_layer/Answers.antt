@@ -1,7 +1,6 @@
 use Rattle.std.proofs.Common.{arith, sym}
 use Rattle.std.proofs.lemmas.Bool.Decides.{nat_tests}
-use Rattle.bt_meta.specs.GivenFiles.{given_of}
-use Rattle.bt_meta.proofs.EncodeValue.{layers_of_short, layers_of_known, layers_of_new}
+use Rattle.bt_meta.proofs.EncodeValue.{layers_of_new}
 use Rattle.bt_meta.proofs.encode.add_layer.Goals as goal
 
 pub returns : goal.returns

@@ -3,7 +3,7 @@ use Rattle.bt_bencode.specs.Value.{string, no_entries, entry, entries_of}
 use Rattle.bt_bencode.specs.Dictionary.{first_value_of}
 use Rattle.bt_bencode.proofs.ValueData.{data_of-Bytes}
 use Rattle.bt_meta.specs.EncodeSteps.{entries_before}
-use Rattle.bt_meta.proofs.EncodeValue.{layer_list, list_more, list_found, list_ascends, list_finds}
+use Rattle.bt_meta.proofs.EncodeValue.{list_more, list_found, list_ascends, list_finds}
 use Rattle.bt_meta.proofs.encode.layer_entries.Goals as goal
 
 pub loop-root-preserved : goal.loop-root-preserved

@@ -1,7 +1,5 @@
-use Rattle.std.proofs.Common.{◌+◌, refl, ap, inl, inr, arith}
-use Rattle.std.proofs.lemmas.Result.{err_from_is_err_and}
-use Rattle.bt_meta.specs.declared.torrent.FileEntry.{FileEntry}
-use Rattle.bt_meta.proofs.TreeWalk.{conflict_stops, many_stop, file_passes}
+use Rattle.std.proofs.Common.{◌+◌, ap, inl, inr, arith}
+use Rattle.bt_meta.proofs.TreeWalk.{many_stop}
 use Rattle.bt_meta.proofs.walk.add_file.Goals as goal
 
 pub returns-then-depth-ge-MAX_PATH_LENGTH-clause-stopped : goal.returns-then-depth-ge-MAX_PATH_LENGTH-clause-stopped

@@ -1,11 +1,8 @@
-use Rattle.std.proofs.Common.{◌∷◌, ◌++◌, [], ap, ◌∙◌, arith}
-use Rattle.std.proofs.lemmas.Result.{err_from_is_err_and}
+use Rattle.std.proofs.Common.{arith}
 use Rattle.bt_bencode.specs.Value.{data_of}
-use Rattle.bt_meta.specs.FilePath.{folder_elements}
-use Rattle.bt_meta.proofs.Choices.{test_of_some, test_of_none}
-use Rattle.bt_meta.proofs.Dictionaries.{empty_key, key_entries}
-use Rattle.bt_meta.proofs.TreeWalk.{passes_nothing, no_node_stops, bad_name_stops, folder_many, folder_passes, entry_stops, file_entry, node_is, file_entered}
-use Rattle.bt_meta.proofs.TreeWalk.{folder_entered}
+use Rattle.bt_meta.proofs.Choices.{test_of_some}
+use Rattle.bt_meta.proofs.Dictionaries.{key_entries}
+use Rattle.bt_meta.proofs.TreeWalk.{folder_many, entry_stops, file_entry, file_entered}
 use Rattle.bt_meta.proofs.walk.enter.Goals as goal
 
 pub returns-then-folder_length-ge-MAX_PATH_LENGTH : goal.returns-then-folder_length-ge-MAX_PATH_LENGTH

@@ -1,8 +1,6 @@
-use Rattle.std.proofs.Common.{◌∙◌, length, refl, ap, inr}
+use Rattle.std.proofs.Common.{◌∙◌, length, refl, ap}
 use Rattle.std.specs.Prelude.{◌==◌}
-use Rattle.std.proofs.lemmas.Result.{err_from_is_err_and}
-use Rattle.bt_bencode.specs.Value.{data_of}
-use Rattle.bt_meta.proofs.TreeWalk.{start, key_at_top, tree_stops, no_file, whole_tree}
+use Rattle.bt_meta.proofs.TreeWalk.{start, whole_tree}
 use Rattle.bt_meta.proofs.walk.read_tree.Goals as goal
 
 pub returns : goal.returns

@@ -1,6 +1,5 @@
-use Rattle.std.proofs.Common.{refl, arith}
 use Rattle.std.proofs.lemmas.Result.{err_from_is_err_and}
-use Rattle.bt_meta.proofs.MakeFiles.{taking_begun, taking_more, taking_stops, taking_found, taking_rooted}
+use Rattle.bt_meta.proofs.MakeFiles.{taking_more, taking_stops}
 use Rattle.bt_meta.proofs.writer.check_files.Goals as goal
 
 pub returns-in_err-take-clause-checked : goal.returns-in_err-take-clause-checked

@@ -1,12 +1,9 @@
 use Rattle.std.proofs.Common.{◌≤◌, length, arith, ap, ◌∙◌, sym, map}
-use Rattle.std.proofs.lemmas.Result.{err_from_is_err_and}
 use Rattle.bt_bencode.specs.Spelling.{spelling_of}
 use Rattle.bt_meta.specs.Limits.{max_text_length}
 use Rattle.bt_meta.specs.EncodeSteps.{given_at}
-use Rattle.bt_meta.specs.Writer.{no_memory, unlawful, overlap, too_long}
-use Rattle.bt_meta.specs.declared.writer.MakeError.TheVariants.{PieceLength, Count}
-use Rattle.bt_meta.proofs.MakeFiles.{same_overlap, tree_paths, length_refused, none_refused, files_refused, refused_as}
-use Rattle.bt_meta.proofs.MadeTree.{ordered_named, lent_short}
+use Rattle.bt_meta.specs.Writer.{overlap, too_long}
+use Rattle.bt_meta.proofs.MakeFiles.{same_overlap, tree_paths, files_refused}
 use Rattle.bt_meta.proofs.MadeTorrent.{torrent_of_given}
 use Rattle.bt_meta.proofs.writer.make.Goals as goal
 
