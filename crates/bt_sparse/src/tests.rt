@@ -32,6 +32,20 @@ fn known<H: NodeHash>(tree: &SparseTree<H>, layer: u32, index: u32) -> Option<Ha
     tree.known(layer, index)
 }
 
+/// The first of these nodes of which the tree does not know what is told.
+fn first_difference<H: NodeHash>(
+    tree: &SparseTree<H>,
+    nodes: &[(u32, u32, Option<Hash32>)],
+) -> Option<(u32, u32)> {
+    for node in nodes {
+        let (layer, index, wanted) = *node;
+        if known(tree, layer, index) != wanted {
+            return Some((layer, index));
+        }
+    }
+    None
+}
+
 fn accept<H: NodeHash>(tree: &mut SparseTree<H>, claim: &Claim) -> Result<u32, ProofError> {
     tree.accept(claim)
 }
@@ -67,10 +81,9 @@ fn at(digests: &[Hash32], index: usize) -> Hash32 {
 /// The digests of the layer above.
 fn parents(alloc: Global, nodes: &[Hash32]) -> Result<Vec<Hash32>, AllocError> {
     let mut above = Vec::new(alloc);
-    for pair in nodes.chunks(2) {
-        if let [left, right] = pair {
-            above.push(Plain.pair(left, right))?;
-        }
+    for i in 0..nodes.len() / 2 {
+        let left = i.wrapping_mul(2);
+        above.push(Plain.pair(&at(nodes, left), &at(nodes, left.wrapping_add(1))))?;
     }
     Ok(above)
 }
