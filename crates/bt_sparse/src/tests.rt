@@ -13,6 +13,7 @@ mod shapes;
 use crate::{AnswerError, Claim, Digests, ProofError, SparseTree};
 use bt_tree::{Geometry, Hash32, LayerError, NodeHash, Plain, Weak};
 use std::alloc::{AllocError, Global};
+use std::process::Abort;
 use std::test::Fail;
 
 const ZEROS: Hash32 = [0; 32];
@@ -32,22 +33,28 @@ fn known<H: NodeHash>(tree: &SparseTree<H>, layer: u32, index: u32) -> Option<Ha
     tree.known(layer, index)
 }
 
-/// The first of these nodes of which the tree does not know what is told.
-fn first_difference<H: NodeHash>(
-    tree: &SparseTree<H>,
-    nodes: &[(u32, u32, Option<Hash32>)],
-) -> Option<(u32, u32)> {
-    for node in nodes {
-        let (layer, index, wanted) = *node;
-        if known(tree, layer, index) != wanted {
-            return Some((layer, index));
-        }
-    }
-    None
-}
-
 fn accept<H: NodeHash>(tree: &mut SparseTree<H>, claim: &Claim) -> Result<u32, ProofError> {
     tree.accept(claim)
+}
+
+/// What a tree is to know of a node: its layer, its index and its digest.
+type Known = (u32, u32, Option<Hash32>);
+
+fn expect_known<H: NodeHash>(rt: &impl Abort, tree: &SparseTree<H>, nodes: &[Known]) {
+    for node in nodes {
+        let (layer, index, wanted) = *node;
+        assert_eq!(rt; known(tree, layer, index), wanted, "{layer} {index}");
+    }
+}
+
+/// Gives a tree a claim, and expects this answer.
+fn expect_accept<H: NodeHash>(
+    rt: &impl Abort,
+    tree: &mut SparseTree<H>,
+    claim: &Claim,
+    wanted: Result<u32, ProofError>,
+) {
+    assert_eq!(rt; accept(tree, claim), wanted);
 }
 
 fn answer<H: NodeHash>(

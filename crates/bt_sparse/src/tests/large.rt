@@ -44,7 +44,7 @@ fn answers_zeros(
 }
 
 /// What the tree knows once it has the last 512 leaves: the nodes on their paths, and those beside these.
-const LAST_NODES: &[(u32, u32, Option<Hash32>)] = &[
+const LAST_NODES: &[Known] = &[
     (0, 0x3ffffff, Some(ZEROS)),
     (0, 0x3fffe00, Some(ZEROS)),
     (0, 0x3fffdff, None),
@@ -57,9 +57,9 @@ const LAST_NODES: &[(u32, u32, Option<Hash32>)] = &[
 fn the_last_leaves_of_the_greatest_file(rt: HostRuntime) -> Result<(), Fail> {
     let mut tree = zero_tree(rt.alloc())?;
     let last = zero_claim(rt.alloc(), 0, 0x3fffe00, 512, 17)?;
-    assert_eq!(rt; accept(&mut tree, &last), Ok(1056));
-    assert_eq!(rt; accept(&mut tree, &last), Ok(0));
-    assert_eq!(rt; first_difference(&tree, LAST_NODES), None);
+    expect_accept(&rt, &mut tree, &last, Ok(1056));
+    expect_accept(&rt, &mut tree, &last, Ok(0));
+    expect_known(&rt, &tree, LAST_NODES);
     assert!(rt; answers_zeros(rt.alloc(), &tree, (0, 0x3fffe00, 512, 25), 529)?);
     Ok(())
 }
@@ -104,7 +104,9 @@ fn runs_of_each_base_and_length(rt: HostRuntime) -> Result<(), Fail> {
 /// A digest that begins with this number.
 fn numbered(number: u32) -> Hash32 {
     let mut digest = [7; 32];
-    digest[..4].copy_from_slice(&number.to_be_bytes()[..]);
+    for (place, byte) in digest.iter_mut().zip(number.to_be_bytes()) {
+        *place = byte;
+    }
     digest
 }
 
@@ -123,20 +125,17 @@ fn has_node(tree: &SparseTree<Plain>, layers: &[Vec<Hash32>], layer: u32, index:
     known(tree, layer, index) == Some(node(layers, layer, index))
 }
 
-/// The first of these nodes of a layer, from `first` up to `end`, that the tree does not have from the layers.
-fn first_other_node(
+/// Expects the tree to have the layers' nodes of a layer from one index up to another.
+fn expect_nodes(
+    rt: &impl Abort,
     tree: &SparseTree<Plain>,
     layers: &[Vec<Hash32>],
     layer: u32,
-    first: u32,
-    end: u32,
-) -> Option<u32> {
-    for index in first..end {
-        if !has_node(tree, layers, layer, index) {
-            return Some(index);
-        }
+    ends: (u32, u32),
+) {
+    for index in ends.0..ends.1 {
+        assert!(rt; has_node(tree, layers, layer, index), "{layer} {index}");
     }
-    None
 }
 
 /// The file of 1,100 blocks.
@@ -147,33 +146,18 @@ fn all_nodes(alloc: Global) -> Result<Vec<Vec<Hash32>>, AllocError> {
     layers(alloc, distinct_leaves(alloc, 1100)?, 11)
 }
 
-/// What a tree makes of the run of two leaves below a node of layer 1, with this many uncles.
-type Answer = (u32, u32, Result<u32, ProofError>);
-
-/// Runs about the end of the first page. Below layer 9 their paths are apart, and runs 256 and 257 have
-/// one parent.
-const ANSWERS: &[Answer] = &[
-    (255, 10, Ok(22)),
-    (256, 1, Err(ProofError::NoAnchor)),
-    (256, 10, Ok(18)),
-    (257, 10, Ok(2)),
-];
-
-/// The first of these runs that is answered otherwise.
-fn first_other_answer(
-    alloc: Global,
+/// Gives a tree the claim of the two leaves below a node, with this many uncles, and expects this answer.
+fn expect_pair(
+    rt: &(impl AllocGlobal + Abort),
     tree: &mut SparseTree<Plain>,
     nodes: &[Vec<Hash32>],
-    answers: &[Answer],
-) -> Result<Option<(u32, u32)>, AllocError> {
-    for answer in answers {
-        let (top, uncles, wanted) = *answer;
-        let run = planted(alloc, nodes, (0, 1, top, uncles))?;
-        if accept(tree, &run) != wanted {
-            return Ok(Some((top, uncles)));
-        }
-    }
-    Ok(None)
+    place: (u32, u32),
+    wanted: Result<u32, ProofError>,
+) -> Result<(), AllocError> {
+    let (top, uncles) = place;
+    let pair = planted(rt.alloc(), nodes, (0, 1, top, uncles))?;
+    expect_accept(rt, tree, &pair, wanted);
+    Ok(())
 }
 
 #[test]
@@ -181,15 +165,17 @@ fn leaves_of_two_pages(rt: HostRuntime) -> Result<(), Fail> {
     let all = all_nodes(rt.alloc())?;
     let nodes = all.as_slice();
     let mut tree = new_tree(rt.alloc(), Plain, LENGTH, &node(nodes, 11, 0))?;
-    assert_eq!(rt;
-        first_other_answer(rt.alloc(), &mut tree, nodes, ANSWERS)?,
-        None
-    );
-    assert_eq!(rt; first_other_node(&tree, nodes, 0, 510, 516), None);
-    assert_eq!(rt;
-        first_difference(&tree, &[(0, 509, None), (0, 516, None)]),
-        None
-    );
+    // Below layer 9 the pairs' paths are apart, and pairs 256 and 257 have one parent.
+    for (top, uncles, wanted) in [
+        (255, 10, Ok(22)),
+        (256, 1, Err(ProofError::NoAnchor)),
+        (256, 10, Ok(18)),
+        (257, 10, Ok(2)),
+    ] {
+        expect_pair(&rt, &mut tree, nodes, (top, uncles), wanted)?;
+    }
+    expect_nodes(&rt, &tree, nodes, 0, (510, 516));
+    expect_known(&rt, &tree, &[(0, 509, None), (0, 516, None)]);
     Ok(())
 }
 
@@ -211,12 +197,7 @@ fn a_layer_of_1100_nodes(rt: HostRuntime) -> Result<(), Fail> {
     let nodes = all.as_slice();
     let tree = leaf_tree(rt.alloc(), nodes)?;
     for layer in 0..12u32 {
-        let end = 2048u32.wrapping_shr(layer);
-        assert_eq!(rt;
-            first_other_node(&tree, nodes, layer, 0, end),
-            None,
-            "{layer}"
-        );
+        expect_nodes(&rt, &tree, nodes, layer, (0, 2048u32.wrapping_shr(layer)));
     }
     Ok(())
 }

@@ -93,6 +93,20 @@ fn up_to_root(
     planted(alloc, nodes, place)
 }
 
+/// Expects that the claim of this run is taken by a new tree, and by this one.
+fn expect_taken(
+    rt: &(impl AllocGlobal + Abort),
+    nodes: &[Vec<Hash32>],
+    place: (u32, u32, u32),
+    tree: &mut SparseTree<Plain>,
+) -> Result<(), Fail> {
+    let (base, layer, top) = place;
+    let claim = up_to_root(rt.alloc(), nodes, base, (layer, top))?;
+    let is_taken = is_taken(rt.alloc(), nodes, &claim, tree)?;
+    assert!(rt; is_taken, "{base} {layer} {top}");
+    Ok(())
+}
+
 #[test]
 fn planted_claims_give_the_nodes_of_the_file(rt: HostRuntime) -> Result<(), Fail> {
     let all = layers(rt.alloc(), five_leaves(rt.alloc())?, HEIGHT)?;
@@ -107,9 +121,7 @@ fn planted_claims_give_the_nodes_of_the_file(rt: HostRuntime) -> Result<(), Fail
         (0, 1, 4),
     ] {
         for top in 0..width {
-            let claim = up_to_root(rt.alloc(), nodes, base, (layer, top))?;
-            let taken = is_taken(rt.alloc(), nodes, &claim, &mut tree)?;
-            assert!(rt; taken, "{base} {layer} {top}");
+            expect_taken(&rt, nodes, (base, layer, top), &mut tree)?;
         }
     }
     assert!(rt; is_whole(&tree));

@@ -36,11 +36,11 @@ fn the_first_proof_of_three_blocks(rt: HostRuntime) -> Result<(), Fail> {
         (0, 4, None),
         (3, 0, None),
     ];
-    assert_eq!(rt; first_difference(&tree, &nodes), None);
+    expect_known(&rt, &tree, &nodes);
     let leaves = three_leaves(rt.alloc())?;
     let first = claim(rt.alloc(), 0, 0, leaves.as_slice(), &[])?;
-    assert_eq!(rt; accept(&mut tree, &first), Ok(5));
-    assert_eq!(rt; accept(&mut tree, &first), Ok(0));
+    expect_accept(&rt, &mut tree, &first, Ok(5));
+    expect_accept(&rt, &mut tree, &first, Ok(0));
     assert_eq!(rt; first_other_leaf(&tree, leaves.as_slice()), None);
     Ok(())
 }
@@ -64,7 +64,7 @@ fn padding_and_top_are_compared(rt: HostRuntime) -> Result<(), Fail> {
     let mut tree = three_blocks_tree(rt.alloc())?;
     for (leaf, wanted) in [(3, ProofError::Padding), (1, ProofError::TopDiffers)] {
         let turned = turned_claim(rt.alloc(), leaf)?;
-        assert_eq!(rt; accept(&mut tree, &turned), Err(wanted));
+        expect_accept(&rt, &mut tree, &turned, Err(wanted));
     }
     let nodes = [
         (0, 0, None),
@@ -72,7 +72,7 @@ fn padding_and_top_are_compared(rt: HostRuntime) -> Result<(), Fail> {
         (1, 0, None),
         (2, 0, Some(three_blocks_root())),
     ];
-    assert_eq!(rt; first_difference(&tree, &nodes), None);
+    expect_known(&rt, &tree, &nodes);
     Ok(())
 }
 
@@ -80,7 +80,7 @@ fn padding_and_top_are_compared(rt: HostRuntime) -> Result<(), Fail> {
 fn a_proof_below_an_unknown_node(rt: HostRuntime) -> Result<(), Fail> {
     let mut tree = many_blocks_tree(rt.alloc())?;
     let loose = claim(rt.alloc(), 0, 0, &[ZEROS, ZEROS], &[])?;
-    assert_eq!(rt; accept(&mut tree, &loose), Err(ProofError::NoAnchor));
+    expect_accept(&rt, &mut tree, &loose, Err(ProofError::NoAnchor));
     assert_eq!(rt; known(&tree, 0, 0), None);
     Ok(())
 }
@@ -119,7 +119,7 @@ fn the_clash_that_is_told_is_the_highest(rt: HostRuntime) -> Result<(), Fail> {
         ((1, 2, 3), Ok(0)),
     ] {
         let planted = weak_claim(rt.alloc(), leaves)?;
-        assert_eq!(rt; accept(&mut tree, &planted), wanted);
+        expect_accept(&rt, &mut tree, &planted, wanted);
     }
     assert_eq!(rt; known(&tree, 0, 0), Some(weak(1)));
     Ok(())
@@ -148,7 +148,7 @@ fn of_several_clashes_in_a_layer_the_leftmost_is_told(rt: HostRuntime) -> Result
         ),
     ] {
         let planted = weak_leaves(rt.alloc(), leaves)?;
-        assert_eq!(rt; accept(&mut tree, &planted), wanted);
+        expect_accept(&rt, &mut tree, &planted, wanted);
     }
     Ok(())
 }
@@ -211,16 +211,16 @@ fn digests_of(alloc: Global, claim: &Claim) -> Result<Vec<Hash32>, AllocError> {
 fn all_leaves_of_65_blocks(rt: HostRuntime) -> Result<(), Fail> {
     let mut tree = many_blocks_tree(rt.alloc())?;
     let whole = claim(rt.alloc(), 0, 0, many_leaves(rt.alloc())?.as_slice(), &[])?;
-    assert_eq!(rt; accept(&mut tree, &whole), Ok(134));
+    expect_accept(&rt, &mut tree, &whole, Ok(134));
     let last = last_claim(rt.alloc(), &tree)?;
     assert_eq!(rt;
         answer(&tree, (0, 64, 2, 6))?,
         digests_of(rt.alloc(), &last)?
     );
     let mut other = many_blocks_tree(rt.alloc())?;
-    assert_eq!(rt; accept(&mut other, &last), Ok(8));
+    expect_accept(&rt, &mut other, &last, Ok(8));
     let nodes = [(0, 64, Some(last_leaf())), (0, 63, None)];
-    assert_eq!(rt; first_difference(&other, &nodes), None);
+    expect_known(&rt, &other, &nodes);
     Ok(())
 }
 
@@ -273,12 +273,9 @@ fn a_piece_layer_of_65_blocks(rt: HostRuntime) -> Result<(), Fail> {
     let bytes = bytes_of(rt.alloc(), layer.as_slice())?;
     assert_eq!(rt; bytes.len(), 544);
     let mut tree = layer_tree(rt.alloc(), 2, bytes.as_slice())?;
-    assert_eq!(rt;
-        first_difference(&tree, &nodes_of_layer(layer.as_slice())),
-        None
-    );
+    expect_known(&rt, &tree, &nodes_of_layer(layer.as_slice()));
     let last = claim(rt.alloc(), 0, 64, &[last_leaf(), ZEROS, ZEROS, ZEROS], &[])?;
-    assert_eq!(rt; accept(&mut tree, &last), Ok(2));
+    expect_accept(&rt, &mut tree, &last, Ok(2));
     let wanted = [Some(LayerError::Differs), Some(LayerError::Size)];
     assert_eq!(rt; refusals(rt.alloc(), bytes.as_slice())?, wanted);
     Ok(())
