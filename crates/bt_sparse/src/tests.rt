@@ -13,6 +13,7 @@ mod shapes;
 use crate::{AnswerError, Claim, Digests, ProofError, SparseTree};
 use bt_tree::{Geometry, Hash32, LayerError, NodeHash, Plain, Weak};
 use std::alloc::{AllocError, Global};
+use std::process::Abort;
 use std::test::Fail;
 
 const ZEROS: Hash32 = [0; 32];
@@ -34,6 +35,26 @@ fn known<H: NodeHash>(tree: &SparseTree<H>, layer: u32, index: u32) -> Option<Ha
 
 fn accept<H: NodeHash>(tree: &mut SparseTree<H>, claim: &Claim) -> Result<u32, ProofError> {
     tree.accept(claim)
+}
+
+/// What a tree is to know of a node: its layer, its index and its digest.
+type Known = (u32, u32, Option<Hash32>);
+
+fn expect_known<H: NodeHash>(rt: &impl Abort, tree: &SparseTree<H>, nodes: &[Known]) {
+    for node in nodes {
+        let (layer, index, wanted) = *node;
+        assert_eq!(rt; known(tree, layer, index), wanted, "{layer} {index}");
+    }
+}
+
+/// Gives a tree a claim, and expects this answer.
+fn expect_accept<H: NodeHash>(
+    rt: &impl Abort,
+    tree: &mut SparseTree<H>,
+    claim: &Claim,
+    wanted: Result<u32, ProofError>,
+) {
+    assert_eq!(rt; accept(tree, claim), wanted);
 }
 
 fn answer<H: NodeHash>(
@@ -67,10 +88,9 @@ fn at(digests: &[Hash32], index: usize) -> Hash32 {
 /// The digests of the layer above.
 fn parents(alloc: Global, nodes: &[Hash32]) -> Result<Vec<Hash32>, AllocError> {
     let mut above = Vec::new(alloc);
-    for pair in nodes.chunks(2) {
-        if let [left, right] = pair {
-            above.push(Plain.pair(left, right))?;
-        }
+    for i in 0..nodes.len() / 2 {
+        let left = i.wrapping_mul(2);
+        above.push(Plain.pair(&at(nodes, left), &at(nodes, left.wrapping_add(1))))?;
     }
     Ok(above)
 }

@@ -1,7 +1,7 @@
 //! The pages and the ordered map run the same claims of the file of 65 blocks, and answer alike.
 
 use super::files::{many_blocks_root, many_leaves};
-use super::full_tree::{layers, planted};
+use super::full_tree::{layers, node, planted};
 use super::map_body::{MapTree, map_accept, map_known, new_map_tree};
 use super::*;
 
@@ -24,11 +24,7 @@ fn claims(alloc: Global, layers: &[Vec<Hash32>]) -> Result<Vec<Claim>, AllocErro
     ] {
         claims.push(planted(alloc, layers, place)?)?;
     }
-    let unpadded = [
-        at(layers.first().map_or(&[], |l| l.as_slice()), 64),
-        [1; 32],
-    ];
-    claims.push(claim(alloc, 0, 64, &unpadded, &[])?)?;
+    claims.push(claim(alloc, 0, 64, &[node(layers, 0, 64), [1; 32]], &[])?)?;
     Ok(claims)
 }
 

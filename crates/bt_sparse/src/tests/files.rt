@@ -3,34 +3,23 @@
 use super::*;
 
 /// The root of the file of 49,152 bytes whose three blocks are filled with 1, 2 and 3.
-const THREE_BLOCKS: &[u8; 64] = b"35754ee03360cacab5e9e27647da3d2a4ab6f97614ed7d1692b9eb3c42a65d69";
+const THREE_BLOCKS: Hash32 = [
+    0x35, 0x75, 0x4e, 0xe0, 0x33, 0x60, 0xca, 0xca, 0xb5, 0xe9, 0xe2, 0x76, 0x47, 0xda, 0x3d, 0x2a,
+    0x4a, 0xb6, 0xf9, 0x76, 0x14, 0xed, 0x7d, 0x16, 0x92, 0xb9, 0xeb, 0x3c, 0x42, 0xa6, 0x5d, 0x69,
+];
 
 /// The root of the file of 1,048,577 bytes whose byte i is (7 i + i / 16384) mod 256.
-const SIXTY_FIVE_BLOCKS: &[u8; 64] =
-    b"33f4ac8eb36703deb23139e4dc7a7a7b911d108c906e9d197b3cad85455f9763";
-
-fn nibble(digit: u8) -> u8 {
-    match digit {
-        b'0'..=b'9' => digit - b'0',
-        b'a'..=b'f' => digit - b'a' + 10,
-        _ => 255,
-    }
-}
-
-fn digest(hex: &[u8; 64]) -> Hash32 {
-    let mut bytes = ZEROS;
-    for i in 0..32usize {
-        bytes[i] = nibble(hex[2 * i]).wrapping_mul(16) | nibble(hex[2 * i + 1]);
-    }
-    bytes
-}
+const SIXTY_FIVE_BLOCKS: Hash32 = [
+    0x33, 0xf4, 0xac, 0x8e, 0xb3, 0x67, 0x03, 0xde, 0xb2, 0x31, 0x39, 0xe4, 0xdc, 0x7a, 0x7a, 0x7b,
+    0x91, 0x1d, 0x10, 0x8c, 0x90, 0x6e, 0x9d, 0x19, 0x7b, 0x3c, 0xad, 0x85, 0x45, 0x5f, 0x97, 0x63,
+];
 
 pub(super) fn three_blocks_root() -> Hash32 {
-    digest(THREE_BLOCKS)
+    THREE_BLOCKS
 }
 
 pub(super) fn many_blocks_root() -> Hash32 {
-    digest(SIXTY_FIVE_BLOCKS)
+    SIXTY_FIVE_BLOCKS
 }
 
 /// The leaf of a block that is filled with this byte.
@@ -50,12 +39,14 @@ pub(super) fn three_leaves(alloc: Global) -> Result<Vec<Hash32>, AllocError> {
     Ok(leaves)
 }
 
-/// The bytes of one block of the file of 65 blocks.
-fn block(alloc: Global, index: u64) -> Result<Vec<u8>, AllocError> {
+/// The bytes of one block of the file of 65 blocks: 7 times the bytes before a block is 0 mod 256.
+fn block(alloc: Global, index: u8) -> Result<Vec<u8>, AllocError> {
     let mut bytes = Vec::new(alloc);
-    let length = if index < 64 { 16384u64 } else { 1 };
-    for i in 0..length {
-        bytes.push((i.wrapping_mul(7).wrapping_add(index) % 256) as u8)?;
+    let length = if index < 64 { 16384u32 } else { 1 };
+    let mut byte = index;
+    for _ in 0..length {
+        bytes.push(byte)?;
+        byte = byte.wrapping_add(7);
     }
     Ok(bytes)
 }
@@ -63,7 +54,7 @@ fn block(alloc: Global, index: u64) -> Result<Vec<u8>, AllocError> {
 /// The leaves of the file of 65 blocks, and 63 of padding.
 pub(super) fn many_leaves(alloc: Global) -> Result<Vec<Hash32>, AllocError> {
     let mut leaves = Vec::new(alloc);
-    for index in 0..65u64 {
+    for index in 0..65u8 {
         leaves.push(Plain.block(block(alloc, index)?.as_slice()))?;
     }
     leaves.resize(128, ZEROS)?;

@@ -32,24 +32,35 @@ fn zero_claim(
     claim(alloc, base, index, run.as_slice(), uncles.as_slice())
 }
 
+/// Whether the tree answers this many zeros.
+fn answers_zeros(
+    alloc: Global,
+    tree: &SparseTree<Weak>,
+    request: (u32, u32, u32, u32),
+    count: u32,
+) -> Result<bool, Fail> {
+    let wanted = zeros(alloc, count)?;
+    Ok(answer(tree, request)? == wanted)
+}
+
+/// What the tree knows once it has the last 512 leaves: the nodes on their paths, and those beside these.
+const LAST_NODES: &[Known] = &[
+    (0, 0x3ffffff, Some(ZEROS)),
+    (0, 0x3fffe00, Some(ZEROS)),
+    (0, 0x3fffdff, None),
+    (9, 0x1fffe, Some(ZEROS)),
+    (9, 0x1fffd, None),
+    (25, 0, Some(ZEROS)),
+];
+
 #[test]
 fn the_last_leaves_of_the_greatest_file(rt: HostRuntime) -> Result<(), Fail> {
     let mut tree = zero_tree(rt.alloc())?;
     let last = zero_claim(rt.alloc(), 0, 0x3fffe00, 512, 17)?;
-    assert_eq!(rt; accept(&mut tree, &last), Ok(1056));
-    assert_eq!(rt; accept(&mut tree, &last), Ok(0));
-    for (layer, index, wanted) in [
-        (0, 0x3ffffff, Some(ZEROS)),
-        (0, 0x3fffe00, Some(ZEROS)),
-        (0, 0x3fffdff, None),
-        (9, 0x1fffe, Some(ZEROS)),
-        (9, 0x1fffd, None),
-        (25, 0, Some(ZEROS)),
-    ] {
-        assert_eq!(rt; known(&tree, layer, index), wanted, "{layer} {index}");
-    }
-    let wanted = zeros(rt.alloc(), 529)?;
-    assert_eq!(rt; answer(&tree, (0, 0x3fffe00, 512, 25))?, wanted);
+    expect_accept(&rt, &mut tree, &last, Ok(1056));
+    expect_accept(&rt, &mut tree, &last, Ok(0));
+    expect_known(&rt, &tree, LAST_NODES);
+    assert!(rt; answers_zeros(rt.alloc(), &tree, (0, 0x3fffe00, 512, 25), 529)?);
     Ok(())
 }
 
@@ -71,7 +82,7 @@ fn takes_last_run(alloc: Global, base: u32, above: u32, length: u32) -> Result<b
     // All nodes but the root are new: 2 length - 1 in the run and above it, and two for each uncle.
     Ok(
         accept(&mut tree, &last) == Ok(count.wrapping_mul(2).wrapping_sub(2))
-            && answer(&tree, request)? == zeros(alloc, count)?,
+            && answers_zeros(alloc, &tree, request, count)?,
     )
 }
 
@@ -90,13 +101,20 @@ fn runs_of_each_base_and_length(rt: HostRuntime) -> Result<(), Fail> {
     Ok(())
 }
 
+/// A digest that begins with this number.
+fn numbered(number: u32) -> Hash32 {
+    let mut digest = [7; 32];
+    for (place, byte) in digest.iter_mut().zip(number.to_be_bytes()) {
+        *place = byte;
+    }
+    digest
+}
+
 /// Leaves of which each is another, and padding up to 2,048.
 fn distinct_leaves(alloc: Global, count: u32) -> Result<Vec<Hash32>, AllocError> {
     let mut leaves = Vec::new(alloc);
     for i in 0..count {
-        let mut leaf = [7; 32];
-        leaf[..4].copy_from_slice(&i.to_be_bytes()[..]);
-        leaves.push(leaf)?;
+        leaves.push(numbered(i))?;
     }
     leaves.resize(2048, ZEROS)?;
     Ok(leaves)
@@ -107,29 +125,57 @@ fn has_node(tree: &SparseTree<Plain>, layers: &[Vec<Hash32>], layer: u32, index:
     known(tree, layer, index) == Some(node(layers, layer, index))
 }
 
+/// Expects the tree to have the layers' nodes of a layer from one index up to another.
+fn expect_nodes(
+    rt: &impl Abort,
+    tree: &SparseTree<Plain>,
+    layers: &[Vec<Hash32>],
+    layer: u32,
+    ends: (u32, u32),
+) {
+    for index in ends.0..ends.1 {
+        assert!(rt; has_node(tree, layers, layer, index), "{layer} {index}");
+    }
+}
+
 /// The file of 1,100 blocks.
 const LENGTH: u64 = 1100 * 16384;
 
+/// All nodes of its tree.
+fn all_nodes(alloc: Global) -> Result<Vec<Vec<Hash32>>, AllocError> {
+    layers(alloc, distinct_leaves(alloc, 1100)?, 11)
+}
+
+/// Gives a tree the claim of the two leaves below a node, with this many uncles, and expects this answer.
+fn expect_pair(
+    rt: &(impl AllocGlobal + Abort),
+    tree: &mut SparseTree<Plain>,
+    nodes: &[Vec<Hash32>],
+    place: (u32, u32),
+    wanted: Result<u32, ProofError>,
+) -> Result<(), AllocError> {
+    let (top, uncles) = place;
+    let pair = planted(rt.alloc(), nodes, (0, 1, top, uncles))?;
+    expect_accept(rt, tree, &pair, wanted);
+    Ok(())
+}
+
 #[test]
 fn leaves_of_two_pages(rt: HostRuntime) -> Result<(), Fail> {
-    let all = layers(rt.alloc(), distinct_leaves(rt.alloc(), 1100)?, 11)?;
+    let all = all_nodes(rt.alloc())?;
     let nodes = all.as_slice();
     let mut tree = new_tree(rt.alloc(), Plain, LENGTH, &node(nodes, 11, 0))?;
-    // Below layer 9 the runs' paths are apart, and runs 256 and 257 have one parent.
+    // Below layer 9 the pairs' paths are apart, and pairs 256 and 257 have one parent.
     for (top, uncles, wanted) in [
         (255, 10, Ok(22)),
         (256, 1, Err(ProofError::NoAnchor)),
         (256, 10, Ok(18)),
         (257, 10, Ok(2)),
     ] {
-        let run = planted(rt.alloc(), nodes, (0, 1, top, uncles))?;
-        assert_eq!(rt; accept(&mut tree, &run), wanted, "{top} {uncles}");
+        expect_pair(&rt, &mut tree, nodes, (top, uncles), wanted)?;
     }
-    for index in 510..516u32 {
-        assert!(rt; has_node(&tree, nodes, 0, index), "{index}");
-    }
-    assert_eq!(rt; known(&tree, 0, 509), None);
-    assert_eq!(rt; known(&tree, 0, 516), None);
+    expect_nodes(&rt, &tree, nodes, 0, (510, 516));
+    expect_known(&rt, &tree, &[(0, 509, None), (0, 516, None)]);
     Ok(())
 }
 
@@ -147,13 +193,11 @@ fn leaf_tree(alloc: Global, nodes: &[Vec<Hash32>]) -> Result<SparseTree<Plain>, 
 
 #[test]
 fn a_layer_of_1100_nodes(rt: HostRuntime) -> Result<(), Fail> {
-    let all = layers(rt.alloc(), distinct_leaves(rt.alloc(), 1100)?, 11)?;
+    let all = all_nodes(rt.alloc())?;
     let nodes = all.as_slice();
     let tree = leaf_tree(rt.alloc(), nodes)?;
     for layer in 0..12u32 {
-        for index in 0..2048u32.wrapping_shr(layer) {
-            assert!(rt; has_node(&tree, nodes, layer, index), "{layer} {index}");
-        }
+        expect_nodes(&rt, &tree, nodes, layer, (0, 2048u32.wrapping_shr(layer)));
     }
     Ok(())
 }

@@ -4,27 +4,44 @@ use super::files::{bytes_of, many_blocks_root, many_leaves, three_blocks_root, t
 use super::*;
 use bt_tree::pad;
 
+/// The tree of the file of three blocks of which the root alone is known.
+fn three_blocks_tree(alloc: Global) -> Result<SparseTree<Plain>, Fail> {
+    new_tree(alloc, Plain, 49152, &three_blocks_root())
+}
+
+/// The tree of the file of 65 blocks of which the root alone is known.
+fn many_blocks_tree(alloc: Global) -> Result<SparseTree<Plain>, Fail> {
+    new_tree(alloc, Plain, 1048577, &many_blocks_root())
+}
+
+/// The first of these leaves that is not the tree's.
+fn first_other_leaf(tree: &SparseTree<Plain>, leaves: &[Hash32]) -> Option<u32> {
+    let mut index: u32 = 0;
+    for leaf in leaves {
+        if known(tree, 0, index) != Some(*leaf) {
+            return Some(index);
+        }
+        index = index.wrapping_add(1);
+    }
+    None
+}
+
 #[test]
 fn the_first_proof_of_three_blocks(rt: HostRuntime) -> Result<(), Fail> {
-    let root = three_blocks_root();
-    let list = three_leaves(rt.alloc())?;
-    let leaves = list.as_slice();
-    let mut tree = new_tree(rt.alloc(), Plain, 49152, &root)?;
-    for (layer, index, wanted) in [
-        (2, 0, Some(root)),
+    let mut tree = three_blocks_tree(rt.alloc())?;
+    let nodes = [
+        (2, 0, Some(three_blocks_root())),
         (0, 0, None),
         (0, 3, Some(ZEROS)),
         (0, 4, None),
         (3, 0, None),
-    ] {
-        assert_eq!(rt; known(&tree, layer, index), wanted);
-    }
-    let first = claim(rt.alloc(), 0, 0, leaves, &[])?;
-    assert_eq!(rt; accept(&mut tree, &first), Ok(5));
-    assert_eq!(rt; accept(&mut tree, &first), Ok(0));
-    for index in 0..4u32 {
-        assert_eq!(rt; known(&tree, 0, index), leaves.get(index as usize).copied());
-    }
+    ];
+    expect_known(&rt, &tree, &nodes);
+    let leaves = three_leaves(rt.alloc())?;
+    let first = claim(rt.alloc(), 0, 0, leaves.as_slice(), &[])?;
+    expect_accept(&rt, &mut tree, &first, Ok(5));
+    expect_accept(&rt, &mut tree, &first, Ok(0));
+    assert_eq!(rt; first_other_leaf(&tree, leaves.as_slice()), None);
     Ok(())
 }
 
@@ -35,29 +52,35 @@ fn turn_bit(digests: &mut [Hash32], index: usize) {
     }
 }
 
+/// The claim of the leaves of three blocks, of which one has a bit turned.
+fn turned_claim(alloc: Global, index: usize) -> Result<Claim, AllocError> {
+    let mut leaves = three_leaves(alloc)?;
+    turn_bit(&mut leaves, index);
+    claim(alloc, 0, 0, leaves.as_slice(), &[])
+}
+
 #[test]
 fn padding_and_top_are_compared(rt: HostRuntime) -> Result<(), Fail> {
-    let root = three_blocks_root();
-    let mut tree = new_tree(rt.alloc(), Plain, 49152, &root)?;
-    let mut leaves = three_leaves(rt.alloc())?;
-    turn_bit(&mut leaves, 3);
-    let unpadded = claim(rt.alloc(), 0, 0, leaves.as_slice(), &[])?;
-    assert_eq!(rt; accept(&mut tree, &unpadded), Err(ProofError::Padding));
-    turn_bit(&mut leaves, 3);
-    turn_bit(&mut leaves, 1);
-    let other = claim(rt.alloc(), 0, 0, leaves.as_slice(), &[])?;
-    assert_eq!(rt; accept(&mut tree, &other), Err(ProofError::TopDiffers));
-    for (layer, index, wanted) in [(0, 0, None), (0, 1, None), (1, 0, None), (2, 0, Some(root))] {
-        assert_eq!(rt; known(&tree, layer, index), wanted);
+    let mut tree = three_blocks_tree(rt.alloc())?;
+    for (leaf, wanted) in [(3, ProofError::Padding), (1, ProofError::TopDiffers)] {
+        let turned = turned_claim(rt.alloc(), leaf)?;
+        expect_accept(&rt, &mut tree, &turned, Err(wanted));
     }
+    let nodes = [
+        (0, 0, None),
+        (0, 1, None),
+        (1, 0, None),
+        (2, 0, Some(three_blocks_root())),
+    ];
+    expect_known(&rt, &tree, &nodes);
     Ok(())
 }
 
 #[test]
 fn a_proof_below_an_unknown_node(rt: HostRuntime) -> Result<(), Fail> {
-    let mut tree = new_tree(rt.alloc(), Plain, 1048577, &many_blocks_root())?;
+    let mut tree = many_blocks_tree(rt.alloc())?;
     let loose = claim(rt.alloc(), 0, 0, &[ZEROS, ZEROS], &[])?;
-    assert_eq!(rt; accept(&mut tree, &loose), Err(ProofError::NoAnchor));
+    expect_accept(&rt, &mut tree, &loose, Err(ProofError::NoAnchor));
     assert_eq!(rt; known(&tree, 0, 0), None);
     Ok(())
 }
@@ -96,7 +119,7 @@ fn the_clash_that_is_told_is_the_highest(rt: HostRuntime) -> Result<(), Fail> {
         ((1, 2, 3), Ok(0)),
     ] {
         let planted = weak_claim(rt.alloc(), leaves)?;
-        assert_eq!(rt; accept(&mut tree, &planted), wanted);
+        expect_accept(&rt, &mut tree, &planted, wanted);
     }
     assert_eq!(rt; known(&tree, 0, 0), Some(weak(1)));
     Ok(())
@@ -125,7 +148,7 @@ fn of_several_clashes_in_a_layer_the_leftmost_is_told(rt: HostRuntime) -> Result
         ),
     ] {
         let planted = weak_leaves(rt.alloc(), leaves)?;
-        assert_eq!(rt; accept(&mut tree, &planted), wanted);
+        expect_accept(&rt, &mut tree, &planted, wanted);
     }
     Ok(())
 }
@@ -156,27 +179,48 @@ fn a_list_of_digests_gives_its_vec_back(rt: HostRuntime) -> Result<(), Fail> {
     Ok(())
 }
 
+/// The uncles of the last block of 65: padding, and the node above the other blocks.
+fn last_uncles(alloc: Global, tree: &SparseTree<Plain>) -> Result<Vec<Hash32>, Fail> {
+    let mut uncles = Vec::new(alloc);
+    for layer in 1..6u8 {
+        uncles.push(pad(Plain, layer))?;
+    }
+    uncles.push(known(tree, 6, 0).ok_or("not known")?)?;
+    Ok(uncles)
+}
+
+/// The leaf of the last block of 65.
+fn last_leaf() -> Hash32 {
+    Plain.block(&[64])
+}
+
+/// The claim of the last block of 65, with all its uncles.
+fn last_claim(alloc: Global, tree: &SparseTree<Plain>) -> Result<Claim, Fail> {
+    let uncles = last_uncles(alloc, tree)?;
+    Ok(claim(alloc, 0, 64, &[last_leaf(), ZEROS], uncles.as_slice())?)
+}
+
+/// The digests of a claim: its run, and then its uncles.
+fn digests_of(alloc: Global, claim: &Claim) -> Result<Vec<Hash32>, AllocError> {
+    let mut digests = Vec::from_slice(alloc, claim.run.as_slice())?;
+    digests.extend_from_slice(claim.uncles.as_slice())?;
+    Ok(digests)
+}
+
 #[test]
 fn all_leaves_of_65_blocks(rt: HostRuntime) -> Result<(), Fail> {
-    let root = many_blocks_root();
-    let leaves = many_leaves(rt.alloc())?;
-    let mut tree = new_tree(rt.alloc(), Plain, 1048577, &root)?;
-    let whole = claim(rt.alloc(), 0, 0, leaves.as_slice(), &[])?;
-    assert_eq!(rt; accept(&mut tree, &whole), Ok(134));
-    let run = [Plain.block(&[64]), ZEROS];
-    let mut uncles = Vec::new(rt.alloc());
-    for k in 1..6u8 {
-        uncles.push(pad(Plain, k))?;
-    }
-    uncles.push(known(&tree, 6, 0).ok_or("not known")?)?;
-    let mut wanted = Vec::from_slice(rt.alloc(), &run)?;
-    wanted.extend_from_slice(uncles.as_slice())?;
-    assert_eq!(rt; answer(&tree, (0, 64, 2, 6))?, wanted);
-    let proof = claim(rt.alloc(), 0, 64, &run, uncles.as_slice())?;
-    let mut other = new_tree(rt.alloc(), Plain, 1048577, &root)?;
-    assert_eq!(rt; accept(&mut other, &proof), Ok(8));
-    assert_eq!(rt; known(&other, 0, 64), Some(Plain.block(&[64])));
-    assert_eq!(rt; known(&other, 0, 63), None);
+    let mut tree = many_blocks_tree(rt.alloc())?;
+    let whole = claim(rt.alloc(), 0, 0, many_leaves(rt.alloc())?.as_slice(), &[])?;
+    expect_accept(&rt, &mut tree, &whole, Ok(134));
+    let last = last_claim(rt.alloc(), &tree)?;
+    assert_eq!(rt;
+        answer(&tree, (0, 64, 2, 6))?,
+        digests_of(rt.alloc(), &last)?
+    );
+    let mut other = many_blocks_tree(rt.alloc())?;
+    expect_accept(&rt, &mut other, &last, Ok(8));
+    let nodes = [(0, 64, Some(last_leaf())), (0, 63, None)];
+    expect_known(&rt, &other, &nodes);
     Ok(())
 }
 
@@ -200,41 +244,39 @@ fn piece_layer(alloc: Global) -> Result<Vec<Hash32>, AllocError> {
     parents(alloc, first.as_slice())
 }
 
-#[test]
-fn a_piece_layer_of_65_blocks(rt: HostRuntime) -> Result<(), Fail> {
-    let mut nodes = piece_layer(rt.alloc())?;
-    let last_node = at(nodes.as_slice(), 16);
-    nodes.truncate(17);
-    let mut bytes = bytes_of(rt.alloc(), nodes.as_slice())?;
-    assert_eq!(rt; bytes.len(), 544);
-    let mut tree = layer_tree(rt.alloc(), 2, bytes.as_slice())?;
-    for (layer, index, wanted) in [
-        (2, 16, Some(last_node)),
-        (2, 17, Some(pad(Plain, 2))),
-        (7, 0, Some(many_blocks_root())),
-        (1, 0, None),
-    ] {
-        assert_eq!(rt; known(&tree, layer, index), wanted);
-    }
-    let last = claim(
-        rt.alloc(),
-        0,
-        64,
-        &[Plain.block(&[64]), ZEROS, ZEROS, ZEROS],
-        &[],
-    )?;
-    assert_eq!(rt; accept(&mut tree, &last), Ok(2));
+/// Why layer 2 of the file of 65 blocks is refused with its last bit turned, and then also without the byte
+/// of that bit.
+fn refusals(alloc: Global, layer: &[u8]) -> Result<[Option<LayerError>; 2], Fail> {
+    let mut bytes = Vec::from_slice(alloc, layer)?;
     if let Some(byte) = bytes.last_mut() {
         *byte ^= 1;
     }
-    assert_eq!(rt;
-        layer_error(rt.alloc(), bytes.as_slice())?,
-        Some(LayerError::Differs)
-    );
+    let turned = layer_error(alloc, bytes.as_slice())?;
     bytes.truncate(543);
-    assert_eq!(rt;
-        layer_error(rt.alloc(), bytes.as_slice())?,
-        Some(LayerError::Size)
-    );
+    Ok([turned, layer_error(alloc, bytes.as_slice())?])
+}
+
+/// What a tree knows once it has this layer 2 of the file of 65 blocks.
+fn nodes_of_layer(layer: &[Hash32]) -> [(u32, u32, Option<Hash32>); 4] {
+    [
+        (2, 16, Some(at(layer, 16))),
+        (2, 17, Some(pad(Plain, 2))),
+        (7, 0, Some(many_blocks_root())),
+        (1, 0, None),
+    ]
+}
+
+#[test]
+fn a_piece_layer_of_65_blocks(rt: HostRuntime) -> Result<(), Fail> {
+    let mut layer = piece_layer(rt.alloc())?;
+    layer.truncate(17);
+    let bytes = bytes_of(rt.alloc(), layer.as_slice())?;
+    assert_eq!(rt; bytes.len(), 544);
+    let mut tree = layer_tree(rt.alloc(), 2, bytes.as_slice())?;
+    expect_known(&rt, &tree, &nodes_of_layer(layer.as_slice()));
+    let last = claim(rt.alloc(), 0, 64, &[last_leaf(), ZEROS, ZEROS, ZEROS], &[])?;
+    expect_accept(&rt, &mut tree, &last, Ok(2));
+    let wanted = [Some(LayerError::Differs), Some(LayerError::Size)];
+    assert_eq!(rt; refusals(rt.alloc(), bytes.as_slice())?, wanted);
     Ok(())
 }

@@ -104,20 +104,36 @@ fn requests_of_another_shape(rt: HostRuntime) -> Result<(), Fail> {
     Ok(())
 }
 
+/// The tree of the file of three blocks that has its leaves.
+fn leaf_tree(
+    rt: &(impl AllocGlobal + Abort),
+    leaves: &[Hash32],
+) -> Result<SparseTree<Plain>, Fail> {
+    let mut tree = new_tree(rt.alloc(), Plain, 49152, &three_blocks_root())?;
+    let first = claim(rt.alloc(), 0, 0, leaves, &[])?;
+    expect_accept(rt, &mut tree, &first, Ok(5));
+    Ok(tree)
+}
+
+/// Asks a tree, and expects these digests.
+fn expect_answer(
+    rt: &impl Abort,
+    tree: &SparseTree<Plain>,
+    request: (u32, u32, u32, u32),
+    wanted: &[Hash32],
+) -> Result<(), Fail> {
+    assert_eq!(rt; answer(tree, request)?.as_slice(), wanted);
+    Ok(())
+}
+
 #[test]
 fn requests_of_three_blocks(rt: HostRuntime) -> Result<(), Fail> {
-    let mut tree = new_tree(rt.alloc(), Plain, 49152, &three_blocks_root())?;
     let list = three_leaves(rt.alloc())?;
     let leaves = list.as_slice();
-    let first = claim(rt.alloc(), 0, 0, leaves, &[])?;
-    assert_eq!(rt; accept(&mut tree, &first), Ok(5));
-    assert_eq!(rt; answer(&tree, (0, 0, 4, 1))?.as_slice(), leaves);
-    assert_eq!(rt; answer(&tree, (0, 0, 4, 0))?.as_slice(), leaves);
-    let half = answer(&tree, (0, 2, 2, 1))?;
+    let tree = leaf_tree(&rt, leaves)?;
+    expect_answer(&rt, &tree, (0, 0, 4, 1), leaves)?;
+    expect_answer(&rt, &tree, (0, 0, 4, 0), leaves)?;
     let above = parents(rt.alloc(), leaves)?;
-    assert_eq!(rt;
-        half.as_slice(),
-        [at(leaves, 2), ZEROS, at(above.as_slice(), 0)].as_slice()
-    );
-    Ok(())
+    let wanted = [at(leaves, 2), ZEROS, at(above.as_slice(), 0)];
+    expect_answer(&rt, &tree, (0, 2, 2, 1), &wanted)
 }
