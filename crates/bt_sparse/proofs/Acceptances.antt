@@ -1,5 +1,5 @@
 -- What `accept` finds of a claim's pairs is what the definitions say of the claim.
-use Rattle.std.proofs.Common.{◌≡◌, ◌≢◌, ℕ, zero, suc, ◌+◌, ◌-◌, ◌*◌, ◌/◌, ◌^◌, ◌<◌, ◌≤◌, ◌⊎◌, inl, inr, Bool, true, false, not, eqb, List, ◌++◌, length, Some, refl, sym, ap, ◌∙◌, subst, length-append, arith}
+use Rattle.std.proofs.Common.{◌≡◌, ◌≢◌, ℕ, zero, suc, ◌+◌, ◌-◌, ◌*◌, ◌/◌, ◌^◌, ◌<◌, ◌≤◌, ◌⊎◌, inl, inr, Bool, true, false, not, eqb, List, ◌++◌, length, Some, Result, Ok, Err, IfErr, IsErrAnd, refl, sym, ap, ◌∙◌, subst, length-append, arith}
 use Rattle.std.specs.List.{All}
 use lib.Pointwise.{pointwise}
 use Rattle.std.proofs.Math.Nat.{pow-suc, mul-le-mul_right}
@@ -14,13 +14,15 @@ use Rattle.bt_tree.proofs.TreeShape.{real_le, pow_le}
 use Rattle.bt_tree.proofs.ComparisonTwins.{same_bytes, other_bytes}
 use Rattle.bt_tree.proofs.ComparisonClash.{same_parts}
 use Rattle.bt_sparse.specs.declared.claim.Claim.{Claim}
+use Rattle.bt_sparse.specs.declared.claim.ProofError.{ProofError}
+use Rattle.bt_sparse.specs.declared.claim.ProofError.TheVariants.{OutOfMemory}
 use Rattle.bt_sparse.specs.declared.expansion.ClaimedPair.{ClaimedPair}
 use Rattle.bt_sparse.specs.declared.expansion.Expansion.{Expansion}
 use Rattle.bt_sparse.specs.declared.acceptance.Difference.{Difference}
 use Rattle.bt_sparse.specs.NodeMap.{Nodes, digest_at}
 use Rattle.bt_sparse.specs.SparseTree.{Facts, blocks_of, height, held_at, value_at, IsRooted, IsSound}
 use Rattle.bt_sparse.specs.Claim.{Claims, on_path, HasShape, run_height, run_node, top_layer, top_node, top_digest}
-use Rattle.bt_sparse.specs.Acceptance.{HasPadding, Agrees, IsAcceptable, Accepts, DiffersBelow, IsHighestClash}
+use Rattle.bt_sparse.specs.Acceptance.{HasPadding, Agrees, IsAcceptable, Accepts, DiffersBelow, IsHighestClash, IsRefused, no_memory}
 use Rattle.bt_sparse.specs.ExpansionSteps.{level_pairs, run_pairs, path_pairs, claimed_pairs, IsPairOf}
 use Rattle.bt_sparse.specs.AcceptanceSteps.{IsPairIn, IsPadded, HasNoDifference, IsNotHigher, IsHighestIn, IsAdded, AgreesAt, IsGrownBy, IsExpandedClaim}
 use Rattle.bt_sparse.proofs.Halves.{parity, power_next}
@@ -381,3 +383,9 @@ grown_sound dig k c nodes count sound h grown = record {
   rooted = keeps_rooted dig k record { file_length = k.file_length; root = k.root; nodes = nodes } c (grown_accepts dig k c nodes count h grown) sound.rooted;
   digests = grown.grown.sizes sound.digests;
 }
+
+-- out of memory, where the shape is right
+pub refused_memory : {A : Type 0} → (dig : List ℕ → List ℕ) (k : Facts) (c : Claim) (r : Result A ProofError) → IsErrAnd r (λ e. e ≡ OutOfMemory)
+    → HasShape (height k) c → IfErr r (IsRefused dig k c)
+refused_memory dig k c (Ok a) e shape = absurd e
+refused_memory dig k c (Err f) e shape = rw e (no_memory shape)

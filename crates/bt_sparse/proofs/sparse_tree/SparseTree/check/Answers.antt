@@ -4,14 +4,15 @@ use Rattle.std.proofs.lemmas.List.Elements.{All-contains}
 use Rattle.bt_tree.specs.Limits.{max_height}
 use Rattle.bt_sparse.specs.SparseTree.{blocks_of, height, held_at, IsRooted}
 use Rattle.bt_sparse.specs.Claim.{HasShape, top_layer, top_node, top_digest}
-use Rattle.bt_sparse.specs.Acceptance.{top_differs, clash, no_memory}
+use Rattle.bt_sparse.specs.Acceptance.{top_differs, clash}
 use Rattle.bt_sparse.specs.ExpansionSteps.{claimed_pairs}
 use Rattle.bt_sparse.specs.AcceptanceSteps.{IsPairIn, IsPadded, HasNoDifference, IsHighestIn, IsHighestOf}
-use Rattle.bt_sparse.proofs.Acceptances.{pairs_in, pairs_few, padding_shown, agrees, is_clash, apart_bytes, equal_bytes}
+use Rattle.bt_sparse.proofs.Acceptances.{pairs_in, pairs_few, padding_shown, agrees, is_clash, apart_bytes, equal_bytes, refused_memory}
 use Rattle.bt_sparse.proofs.sparse_tree.SparseTree.check.Goals as goal
 
-pub returns-in_default-clause-refused : goal.returns-in_default-clause-refused
-returns-in_default-clause-refused g c = no_memory c.in_ok-top.ensures.ok.shape
+pub returns-in_err-expansion-clause-refused : goal.returns-in_err-expansion-clause-refused
+returns-in_err-expansion-clause-refused g c =
+    refused_memory g.H.NodeHash.digest c.args.self.now c.args.claim.now _ c.from_residual-in_err-expansion.ensures.1 c.in_ok-top.ensures.ok.shape
 
 pub expand-requires-clause-shape : goal.expand-requires-clause-shape
 expand-requires-clause-shape g c =
@@ -21,19 +22,19 @@ expand-requires-clause-shape g c =
 pub returns-then-ne-clause-refused : goal.returns-then-ne-clause-refused
 returns-then-ne-clause-refused g c =
     let hangs = c.in_ok-top.ensures.ok in
-    top_differs c.in_ok-top.top hangs.shape hangs.padding hangs.held (λ e. apart_bytes _ _ _ c.ne.ensures c.if-ne.true (e ∙ sym c.in-Ok.ensures.digest))
+    top_differs c.in_ok-top.top hangs.shape hangs.padding hangs.held (λ e. apart_bytes _ _ _ c.ne.ensures c.if-ne.true (e ∙ sym c.in_ok-expansion.ensures.digest))
 
 pub highest_difference-requires-clause-inside : goal.highest_difference-requires-clause-inside
 highest_difference-requires-clause-inside g c =
     let level : c.height-height.result ≡ height c.args.self.now = c.height-height.ensures.value ∙ ap height c.self.view_is in
     let high : height c.args.self.now ≤ max_height = omega (arith, c.height-height.ensures.limit, level) in
-    let pairs : c.as_slice.result.now ≡ claimed_pairs g.H.NodeHash.digest c.args.claim.now = c.as_slice.ensures.value ∙ c.in-Ok.ensures.pairs in
+    let pairs : c.as_slice.result.now ≡ claimed_pairs g.H.NodeHash.digest c.args.claim.now = c.as_slice.ensures.value ∙ c.in_ok-expansion.ensures.pairs in
     subst (All (IsPairIn (height c.args.self.now))) (sym pairs) (pairs_in g.H.NodeHash.digest (height c.args.self.now) c.args.claim.now c.in_ok-top.ensures.ok.shape high)
 
 pub highest_difference-requires-clause-padded : goal.highest_difference-requires-clause-padded
 highest_difference-requires-clause-padded g c =
     let hangs = c.in_ok-top.ensures.ok in
-    let pairs : c.as_slice.result.now ≡ claimed_pairs g.H.NodeHash.digest c.args.claim.now = c.as_slice.ensures.value ∙ c.in-Ok.ensures.pairs in
+    let pairs : c.as_slice.result.now ≡ claimed_pairs g.H.NodeHash.digest c.args.claim.now = c.as_slice.ensures.value ∙ c.in_ok-expansion.ensures.pairs in
     subst (All (IsPadded g.H.NodeHash.digest (blocks_of c.args.self.now))) (sym pairs)
     (padding_shown g.H.NodeHash.digest c.args.self.now c.args.claim.now hangs.shape hangs.padding)
 
@@ -44,7 +45,7 @@ pub overflow_add-result : goal.overflow_add-result
 overflow_add-result g c =
     let level : c.height-height.result ≡ height c.args.self.now = c.height-height.ensures.value ∙ ap height c.self.view_is in
     let high : height c.args.self.now ≤ max_height = omega (arith, c.height-height.ensures.limit, level) in
-    let pairs : c.as_slice.result.now ≡ claimed_pairs g.H.NodeHash.digest c.args.claim.now = c.as_slice.ensures.value ∙ c.in-Ok.ensures.pairs in
+    let pairs : c.as_slice.result.now ≡ claimed_pairs g.H.NodeHash.digest c.args.claim.now = c.as_slice.ensures.value ∙ c.in_ok-expansion.ensures.pairs in
     let found : IsHighestIn g.H.NodeHash.digest c.args.self.now (claimed_pairs g.H.NodeHash.digest c.args.claim.now) c.in-Some.found =
     subst (λ ps. IsHighestIn g.H.NodeHash.digest c.args.self.now ps c.in-Some.found) pairs c.in-Some.ensures in
     let inside = All-contains (IsPairIn (height c.args.self.now)) (claimed_pairs g.H.NodeHash.digest c.args.claim.now) c.in-Some.found.pair
@@ -54,10 +55,10 @@ overflow_add-result g c =
 pub returns-in-Some-clause-refused : goal.returns-in-Some-clause-refused
 returns-in-Some-clause-refused g c =
     let hangs = c.in_ok-top.ensures.ok in
-    let pairs : c.as_slice.result.now ≡ claimed_pairs g.H.NodeHash.digest c.args.claim.now = c.as_slice.ensures.value ∙ c.in-Ok.ensures.pairs in
+    let pairs : c.as_slice.result.now ≡ claimed_pairs g.H.NodeHash.digest c.args.claim.now = c.as_slice.ensures.value ∙ c.in_ok-expansion.ensures.pairs in
     let rooted : IsRooted g.H.NodeHash.digest c.args.self.now = subst (IsRooted g.H.NodeHash.digest) c.self.view_is c.self.invariant.rooted in
     let top : held_at c.args.self.now (top_layer c.args.claim.now) (top_node c.args.claim.now) ≡ Some (top_digest g.H.NodeHash.digest c.args.claim.now) =
-    hangs.held ∙ ap (λ d. Some d) (equal_bytes _ _ _ c.ne.ensures c.if-ne.false ∙ c.in-Ok.ensures.digest) in
+    hangs.held ∙ ap (λ d. Some d) (equal_bytes _ _ _ c.ne.ensures c.if-ne.false ∙ c.in_ok-expansion.ensures.digest) in
     let found : IsHighestIn g.H.NodeHash.digest c.args.self.now (claimed_pairs g.H.NodeHash.digest c.args.claim.now) c.in-Some.found =
     subst (λ ps. IsHighestIn g.H.NodeHash.digest c.args.self.now ps c.in-Some.found) pairs c.in-Some.ensures in
     rw (c.input.ensures.value, c.input-in-Some.ensures.value)
@@ -70,10 +71,10 @@ returns-clause-ok g c =
     let hangs = c.in_ok-top.ensures.ok in
     let level : c.height-height.result ≡ height c.args.self.now = c.height-height.ensures.value ∙ ap height c.self.view_is in
     let high : height c.args.self.now ≤ max_height = omega (arith, c.height-height.ensures.limit, level) in
-    let pairs : c.as_slice.result.now ≡ claimed_pairs g.H.NodeHash.digest c.args.claim.now = c.as_slice.ensures.value ∙ c.in-Ok.ensures.pairs in
+    let pairs : c.as_slice.result.now ≡ claimed_pairs g.H.NodeHash.digest c.args.claim.now = c.as_slice.ensures.value ∙ c.in_ok-expansion.ensures.pairs in
     let rooted : IsRooted g.H.NodeHash.digest c.args.self.now = subst (IsRooted g.H.NodeHash.digest) c.self.view_is c.self.invariant.rooted in
     let top : held_at c.args.self.now (top_layer c.args.claim.now) (top_node c.args.claim.now) ≡ Some (top_digest g.H.NodeHash.digest c.args.claim.now) =
-    hangs.held ∙ ap (λ d. Some d) (equal_bytes _ _ _ c.ne.ensures c.if-ne.false ∙ c.in-Ok.ensures.digest) in
+    hangs.held ∙ ap (λ d. Some d) (equal_bytes _ _ _ c.ne.ensures c.if-ne.false ∙ c.in_ok-expansion.ensures.digest) in
     record {
       conditions = record {
         shape = hangs.shape;
@@ -81,9 +82,9 @@ returns-clause-ok g c =
         top = top;
         agrees = agrees g.H.NodeHash.digest c.args.self.now c.args.claim.now hangs.shape rooted top
             (subst (All (HasNoDifference g.H.NodeHash.digest c.args.self.now)) pairs
-            (subst (IsHighestOf g.H.NodeHash.digest c.args.self.now c.as_slice.result.now) c.in_default-highest_difference.is c.highest_difference.ensures));
+            (subst (IsHighestOf g.H.NodeHash.digest c.args.self.now c.as_slice.result.now) c.in_default.is c.highest_difference.ensures));
       };
-      expansion = c.in-Ok.ensures;
-      inside = subst (All (IsPairIn (height c.args.self.now))) (sym c.in-Ok.ensures.pairs) (pairs_in g.H.NodeHash.digest (height c.args.self.now) c.args.claim.now hangs.shape high);
-      narrow = subst (λ ps. length ps < 268435456) (sym c.in-Ok.ensures.pairs) (pairs_few g.H.NodeHash.digest (height c.args.self.now) c.args.claim.now hangs.shape high);
+      expansion = c.in_ok-expansion.ensures;
+      inside = subst (All (IsPairIn (height c.args.self.now))) (sym c.in_ok-expansion.ensures.pairs) (pairs_in g.H.NodeHash.digest (height c.args.self.now) c.args.claim.now hangs.shape high);
+      narrow = subst (λ ps. length ps < 268435456) (sym c.in_ok-expansion.ensures.pairs) (pairs_few g.H.NodeHash.digest (height c.args.self.now) c.args.claim.now hangs.shape high);
     }
