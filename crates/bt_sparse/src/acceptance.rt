@@ -11,7 +11,7 @@ ghost use Rattle.bt_sparse.specs.ExpansionSteps.{IsPairOf};
 ghost use Rattle.bt_sparse.specs.AcceptanceSteps.{IsPairIn, IsPadded, HasNoDifference, IsDifference, higher_of, IsHighestOf, IsPut, AgreesAt, IsGrownBy, HangsFrom, IsExpandedClaim, HasPlaces};
 
 use crate::claim::{Claim, ProofError};
-use crate::expansion::{ClaimedPair, Expansion, expand, has_shape, input, top_of};
+use crate::expansion::{ClaimedPair, Expansion, expand_covered, has_shape, input, top_of};
 use crate::node_map::NodeMap;
 use crate::padding::{are_uncles_padded, is_run_padded};
 use crate::sparse_tree::SparseTree;
@@ -69,8 +69,7 @@ impl<H: NodeHash> SparseTree<H> {
             → HasHeldTop H.digest self.now claim.now) }
     {
         let top = self.top(claim)?;
-        let height = self.geometry.height();
-        let expansion = expand(self.hash, self.alloc, height, claim)?;
+        let expansion = expand_covered(self.hash, self.alloc, self.geometry, claim)?;
         if top != expansion.top_digest {
             return Err(ProofError::TopDiffers);
         }
