@@ -189,20 +189,20 @@ highest : (dig : List ℕ → List ℕ) (k : Facts) (c : Claim) (f : Difference)
 highest dig k c f padding h l j o t d = elim (cases_lt d.below (top_layer c)) [
   | inl low ↦ elim (cases_lt (2 * j) (real_width (blocks_of k) d.below)) [
     | inl covers ↦
-      let node = pairs_have dig (blocks_of k) c d.below (2 * j) d.their_left d.claims_left low covers in
-      let claimed = All-contains (IsPairOf dig c) (claimed_pairs dig (blocks_of k) c) node.pair (pairs_claimed dig (blocks_of k) c) node.among in
-      let index : node.pair.index ≡ j = omega (arith, node.parent) in
-      let left : d.their_left ≡ node.pair.left = left_is dig c node.pair d.below (2 * j) d.their_left claimed node.here (omega (arith, index)) d.claims_left in
-      let right : d.their_right ≡ node.pair.right = right_is dig c node.pair d.below (2 * j + 1) d.their_right claimed node.here (omega (arith, index)) d.claims_right in
-      elim (All-contains (λ p. HasNoDifference dig k p ⊎ IsNotHigher p f.pair) (claimed_pairs dig (blocks_of k) c) node.pair h.highest node.among) [
-        | inl none ↦
-            let same = none d.our_left d.our_right (rw (node.here, index) d.knows_left) (rw (node.here, index) d.knows_right) in
-            absurd (elim d.differ [ inl a ↦ a (same.0 ∙ sym left) | inr b ↦ b (same.1 ∙ sym right) ])
-        | inr lower ↦ elim lower [
-          | inl less ↦ inl (omega (arith, d.above, node.here, less))
-          | inr level ↦ inr (omega (arith, d.above, node.here, level.0), omega (arith, index, level.1))
+        let node = pairs_have dig (blocks_of k) c d.below (2 * j) d.their_left d.claims_left low covers in
+        let claimed = All-contains (IsPairOf dig c) (claimed_pairs dig (blocks_of k) c) node.pair (pairs_claimed dig (blocks_of k) c) node.among in
+        let index : node.pair.index ≡ j = omega (arith, node.parent) in
+        let left : d.their_left ≡ node.pair.left = left_is dig c node.pair d.below (2 * j) d.their_left claimed node.here (omega (arith, index)) d.claims_left in
+        let right : d.their_right ≡ node.pair.right = right_is dig c node.pair d.below (2 * j + 1) d.their_right claimed node.here (omega (arith, index)) d.claims_right in
+        elim (All-contains (λ p. HasNoDifference dig k p ⊎ IsNotHigher p f.pair) (claimed_pairs dig (blocks_of k) c) node.pair h.highest node.among) [
+          | inl none ↦
+              let same = none d.our_left d.our_right (rw (node.here, index) d.knows_left) (rw (node.here, index) d.knows_right) in
+              absurd (elim d.differ [ inl a ↦ a (same.0 ∙ sym left) | inr b ↦ b (same.1 ∙ sym right) ])
+          | inr lower ↦ elim lower [
+            | inl less ↦ inl (omega (arith, d.above, node.here, less))
+            | inr level ↦ inr (omega (arith, d.above, node.here, level.0), omega (arith, index, level.1))
+          ]
         ]
-      ]
     | inr past ↦ absurd (elim d.differ [
       | inl a ↦ a (both_padded dig k c d.below (2 * j) d.our_left d.their_left padding d.claims_left d.knows_left past)
       | inr b ↦ b (both_padded dig k c d.below (2 * j + 1) d.our_right d.their_right padding d.claims_right d.knows_right (omega (arith, past)))

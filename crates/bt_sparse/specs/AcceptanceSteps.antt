@@ -106,7 +106,7 @@ pub record HangsFrom (dig : List ℕ → List ℕ) (k : Facts) (c : Claim) (d : 
   pub padding : HasPadding dig k c
   pub held : held_at k (top_layer c) (top_node c) ≡ Some d
 
--- the tree can accept the claim, and this is what it names
+-- the tree can accept the claim, and these are its pairs
 pub record IsExpandedClaim (dig : List ℕ → List ℕ) (k : Facts) (c : Claim) (e : Expansion) : Type 0 where
   pub conditions : IsAcceptable dig k c
   pub expansion : IsExpansion dig (blocks_of k) c e

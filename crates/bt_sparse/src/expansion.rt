@@ -13,6 +13,12 @@ use crate::padding::Padding;
 use bt_tree::{Geometry, Hash32, NodeHash};
 use std::alloc::{AllocError, Global};
 
+#[cfg(test)]
+mod whole;
+
+#[cfg(test)]
+pub(crate) use whole::expand;
+
 /// Two siblings that a claim names, in layer `layer`, below node `index` of the next one.
 #[derive(Clone, Copy)]
 pub(crate) struct ClaimedPair {
@@ -22,7 +28,8 @@ pub(crate) struct ClaimedPair {
     pub(crate) right: Hash32,
 }
 
-/// All nodes that a claim names: in pairs, and the digest of the top, which the others hang from.
+/// The nodes that a claim names, in pairs, but for pairs of its run's layers that cover no block; and the
+/// digest of the top, which the others hang from.
 #[derive(Drop)]
 pub(crate) struct Expansion {
     pub(crate) pairs: Vec<ClaimedPair>,

@@ -1,4 +1,4 @@
-use Rattle.std.proofs.Common.{◌≡◌, ◌-◌, min, length, sym, ap, arith}
+use Rattle.std.proofs.Common.{◌≡◌, ◌-◌, min, length, ap, arith}
 use Rattle.bt_tree.specs.Blocks.{block_count}
 use Rattle.bt_tree.specs.TreeShape.{real_width}
 use Rattle.bt_sparse.proofs.Covered.{covered_run}
