@@ -14,9 +14,6 @@ use Rattle.bt_sparse.proofs.Halves.{power_next}
 pub real_next : (n l : ℕ) → real_width n (l + 1) ≡ (real_width n l + 1) / 2
 real_next n l = both (real_width n l) (real_width n (l + 1)) below above
   where
-    p : ℕ
-    p = 2 ^ l
-
     wide : 2 ^ (l + 1) ≡ 2 ^ l * 2
     wide = power_next l
 

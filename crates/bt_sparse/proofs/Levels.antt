@@ -93,10 +93,3 @@ padded_top dig n c layers layer short run all here none =
   where
     whole : (k : ℕ) → k / 1 ≡ k
     whole k = omega arith
-
--- at the run's top there is one node at most
-pub top_limit : (n : ℕ) (c : Claim) (layers : ℕ) → layers ≡ run_height c → covered_count n c layers ≤ 1
-top_limit n c layers all =
-    let flat : run_height c - layers ≡ 0 = omega arith in
-    let one : 2 ^ (run_height c - layers) ≡ 1 = ap (λ k. 2 ^ k) flat in
-    omega (arith, covered_limit n c layers, one)

@@ -57,7 +57,6 @@ add_level-requires-in-loop-above g c =
 pub loop-above-preserved : goal.loop-above-preserved
 loop-above-preserved g c =
     let w = c.loop-above.invariant in
-    let up : List (List ℕ) = c.in_ok-level-2.level.items in
     let under : c.loop-above.above < run_height c.args.claim.now = omega (arith, c.requires.layers, c.loop-above-test.true) in
     let level = whole_level g.H.NodeHash.digest (block_count c.args.geometry) c.args.claim.now c.loop-above.above c.loop-above.first (c.args.claim.now.base + c.loop-above.above) c.loop-above.level.items c.complete.new.level.items
     c.requires.shape c.requires.padded under refl w.first w.size w.nodes c.in_ok-complete.ensures.level in

@@ -6,7 +6,6 @@ use Rattle.bt_sparse.proofs.expansion.covered_count.Goals as goal
 
 pub returns-clause-value : goal.returns-clause-value
 returns-clause-value c =
-    let k = c.args.claim.now in
     let size = ap length c.as_slice.ensures in
     let least : c.min.result ≡ min (length c.args.claim.now.run) (real_width (block_count c.args.geometry) c.args.claim.now.base - c.args.claim.now.index) =
     omega (arith, size, c.min.ensures, c.saturating_sub-real.ensures, c.real.ensures.value) in
