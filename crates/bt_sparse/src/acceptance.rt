@@ -44,8 +44,8 @@ fn higher(found: Option<Difference>, next: Option<Difference>) -> Option<Differe
 impl<H: NodeHash> SparseTree<H> {
     /// Takes a claim, and returns how many nodes are newly held. A refusal leaves the tree as it was.
     ///
-    /// The refusals are P1, P3, P4, P5 and P6 of `ProofError`, in this order, and P7: only where the shape and
-    /// the padding are right and the top is held, in place of Ok, P5 or P6.
+    /// The refusals are P1, P3, P4, P5 and P6 of `ProofError`, in this order, and P7: only where the shape
+    /// and the padding are right and the top is held, in place of Ok, P5 or P6.
     pub fn accept(&mut self, claim: &Claim) -> Result<u32, ProofError>
         ensures ok { IfOk result (λ _. Accepts H.digest self.old claim.now self.new) }
         ensures count { IfOk result (λ count. finite.len self.new.nodes ≡ finite.len self.old.nodes + count) }

@@ -79,8 +79,8 @@ pub(crate) fn top_of(claim: &Claim) -> (u32, u32)
     (claim.base + layers + uncles, node >> uncles)
 }
 
-/// The pairs of siblings that a claim of the right shape and padding names, and its top's digest. Pairs of the
-/// run's layers that cover no block are left out. Each pair is digested once.
+/// The pairs of siblings that a claim of the right shape and padding names, and its top's digest. Pairs of
+/// the run's layers that cover no block are left out. Each pair is digested once.
 pub(crate) fn expand_covered<H: NodeHash>(
     hash: H,
     alloc: Global,
