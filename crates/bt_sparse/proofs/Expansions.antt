@@ -6,15 +6,17 @@ use Rattle.std.proofs.lemmas.Nat.{div-add-mod', div-mul-add, pow_pos}
 use Rattle.std.proofs.lemmas.Bool.{cases_lt}
 use Rattle.std.proofs.lemmas.List.Elements.{All-nil, All-append, All-push, Contains-append_left, Contains-append_right, Contains-push}
 use Rattle.bt_tree.specs.Limits.{max_block_count, max_height}
+use Rattle.bt_tree.specs.TreeShape.{real_width}
 use Rattle.bt_tree.specs.Peaks.{row_node}
 use Rattle.bt_tree.proofs.TreeNodes.{row_parent}
 use Rattle.bt_tree.proofs.TreeShape.{pow_le}
 use Rattle.bt_sparse.specs.declared.claim.Claim.{Claim}
 use Rattle.bt_sparse.specs.declared.expansion.ClaimedPair.{ClaimedPair}
 use Rattle.bt_sparse.specs.Claim.{Claims, in_run, on_path, uncle, run_height, run_top, run_node, run_digest, path_node, path_digest, parent_digest, top_layer, HasShape}
-use Rattle.bt_sparse.specs.ExpansionSteps.{run_pair, level_pairs, run_pairs, path_pair, path_pairs, claimed_pairs, AreRunNodes, AreParents, IsShort, IsPairOf}
+use Rattle.bt_sparse.specs.ExpansionSteps.{run_pair, level_pairs, covered_count, run_pairs, path_pair, path_pairs, claimed_pairs, AreRunNodes, AreParents, IsShort, IsPairOf}
 use Rattle.bt_sparse.proofs.Halves.{parity, half_div}
 use Rattle.bt_sparse.proofs.Claims.{double_div, at_top, half_sibling}
+use Rattle.bt_sparse.proofs.Covered.{real_next, half_first, covered_limit, covered_here}
 
 pub level_pairs_none : (dig : List ℕ → List ℕ) (c : Claim) (above first : ℕ) → level_pairs dig c above first 0 ≡ []
 unfolding level_pairs
@@ -36,14 +38,14 @@ level_pair dig c above first layer i level e nodes lt =
     let r = nodes (2 * i + 1) (omega arith) ∙ ap (row_node dig (run_digest c) above) right in
     rw (e, l, r) refl
 
-pub run_pairs_none : (dig : List ℕ → List ℕ) (c : Claim) → run_pairs dig c 0 ≡ []
+pub run_pairs_none : (dig : List ℕ → List ℕ) (n : ℕ) (c : Claim) → run_pairs dig n c 0 ≡ []
 unfolding run_pairs
-run_pairs_none dig c = refl
+run_pairs_none dig n c = refl
 
-pub run_pairs_more : (dig : List ℕ → List ℕ) (c : Claim) (above first count : ℕ) → first ≡ run_node c * 2 ^ (run_height c - (above + 1))
-    → count ≡ 2 ^ (run_height c - (above + 1)) → run_pairs dig c (above + 1) ≡ run_pairs dig c above ++ level_pairs dig c above first count
+pub run_pairs_more : (dig : List ℕ → List ℕ) (n : ℕ) (c : Claim) (above first count : ℕ) → first ≡ run_node c * 2 ^ (run_height c - (above + 1))
+    → count ≡ covered_count n c (above + 1) → run_pairs dig n c (above + 1) ≡ run_pairs dig n c above ++ level_pairs dig c above first count
 unfolding run_pairs
-run_pairs_more dig c above first count f n = rw (f, n, add-one above) refl
+run_pairs_more dig n c above first count f e = rw (f, e, add-one above) refl
 
 -- the nodes above nodes of the run
 pub nodes_above : (dig : List ℕ → List ℕ) (c : Claim) (above first start : ℕ) (level up : List (List ℕ)) → start ≡ 2 * first
@@ -63,45 +65,31 @@ pub run_nodes : (dig : List ℕ → List ℕ) (c : Claim) → AreRunNodes dig c 
 unfolding row_node
 run_nodes dig c i lt = let e : c.index + i - c.index ≡ i = omega arith in sym (ap (λ k. get_or c.run k []) e)
 
--- where a layer's nodes begin, and how many they are
-pub half_first : (c : Claim) (above : ℕ) → above < run_height c → run_node c * 2 ^ (run_height c - above) ≡ 2 * (run_node c * 2 ^ (run_height c - (above + 1)))
-half_first c above low =
-    let up : run_height c - above ≡ suc (run_height c - (above + 1)) = omega arith in
-    let wide : 2 ^ (run_height c - above) ≡ 2 ^ (run_height c - (above + 1)) * 2 = ap (λ k. 2 ^ k) up ∙ pow-suc 2 (run_height c - (above + 1)) in
-    ap (λ p. run_node c * p) wide ∙ omega arith
-
-pub half_count : (c : Claim) (above : ℕ) → above < run_height c → 2 ^ (run_height c - above) / 2 ≡ 2 ^ (run_height c - (above + 1))
-half_count c above low =
-    let up : run_height c - above ≡ suc (run_height c - (above + 1)) = omega arith in
-    let wide : 2 ^ (run_height c - above) ≡ 2 ^ (run_height c - (above + 1)) * 2 = ap (λ k. 2 ^ k) up ∙ pow-suc 2 (run_height c - (above + 1)) in
-    omega (arith, wide)
-
 -- from the nodes of a layer to those above
-pub record IsLevelAbove (dig : List ℕ → List ℕ) (c : Claim) (above first start : ℕ) (level up : List (List ℕ)) : Type 0 where
+pub record IsLevelAbove (dig : List ℕ → List ℕ) (n : ℕ) (c : Claim) (above first start : ℕ) (level up : List (List ℕ)) : Type 0 where
   pub first_is : first ≡ run_node c * 2 ^ (run_height c - (above + 1))
   pub doubled : start ≡ 2 * first
-  pub size : length up ≡ 2 ^ (run_height c - (above + 1))
+  pub size : length up ≡ covered_count n c (above + 1)
   pub nodes : AreRunNodes dig c (above + 1) first up
-  pub pairs : run_pairs dig c (above + 1) ≡ run_pairs dig c above ++ level_pairs dig c above first (length level / 2)
+  pub pairs : run_pairs dig n c (above + 1) ≡ run_pairs dig n c above ++ level_pairs dig c above first (length level / 2)
 
-pub level_above : (dig : List ℕ → List ℕ) (c : Claim) (above first start : ℕ) (level up : List (List ℕ)) → above < run_height c
-    → start ≡ run_node c * 2 ^ (run_height c - above) → first ≡ start / 2 → length level ≡ 2 ^ (run_height c - above)
-    → AreRunNodes dig c above start level → AreParents dig level up (length level / 2) → IsLevelAbove dig c above first start level up
-level_above dig c above first start level up low from half size nodes parents =
+pub level_above : (dig : List ℕ → List ℕ) (n : ℕ) (c : Claim) (above first start : ℕ) (level up : List (List ℕ)) → above < run_height c
+    → start ≡ run_node c * 2 ^ (run_height c - above) → first ≡ start / 2 → length level / 2 ≡ covered_count n c (above + 1)
+    → AreRunNodes dig c above start level → AreParents dig level up (length level / 2) → IsLevelAbove dig n c above first start level up
+level_above dig n c above first start level up low from half count nodes parents =
     let twice : start ≡ 2 * (run_node c * 2 ^ (run_height c - (above + 1))) = from ∙ half_first c above low in
     let is : first ≡ run_node c * 2 ^ (run_height c - (above + 1)) = omega (arith, half, twice) in
-    let count : length level / 2 ≡ 2 ^ (run_height c - (above + 1)) = ap (λ n. n / 2) size ∙ half_count c above low in
     record {
       first_is = is;
       doubled = twice ∙ ap (λ n. 2 * n) (sym is);
       size = parents.size ∙ count;
       nodes = nodes_above dig c above first start level up (twice ∙ ap (λ n. 2 * n) (sym is)) nodes parents;
-      pairs = run_pairs_more dig c above first (length level / 2) is count;
+      pairs = run_pairs_more dig n c above first (length level / 2) is count;
     }
 
 -- numbers of a run's layers are small
 pub short_level : (c : Claim) (above first : ℕ) (level : List (List ℕ)) → IsShort c → above ≤ run_height c
-    → first ≡ run_node c * 2 ^ (run_height c - above) → length level ≡ 2 ^ (run_height c - above) → first + length level ≤ max_block_count
+    → first ≡ run_node c * 2 ^ (run_height c - above) → length level ≤ 2 ^ (run_height c - above) → first + length level ≤ max_block_count
 short_level c above first level short low from size =
     let less : 2 ^ (run_height c - above) ≤ 2 ^ run_height c = pow_le (run_height c - above) (run_height c) (omega arith) in
     omega (arith, from, size, short.narrow, short.power, short.start, mul-le-mul_left (run_node c) less)
@@ -186,14 +174,14 @@ in_row node w i from to =
     let split : i ≡ node * w + (i - node * w) = omega arith in
     ap (λ k. k / w) split ∙ div-mul-add node w (i - node * w) (omega arith)
 
-run_pairs_claimed : (dig : List ℕ → List ℕ) (c : Claim) (n : ℕ) → n ≤ run_height c → All (IsPairOf dig c) (run_pairs dig c n)
+run_pairs_claimed : (dig : List ℕ → List ℕ) (n : ℕ) (c : Claim) (k : ℕ) → k ≤ run_height c → All (IsPairOf dig c) (run_pairs dig n c k)
 unfolding run_pairs
-run_pairs_claimed dig c zero low = All-nil (IsPairOf dig c)
-run_pairs_claimed dig c (suc n) low =
-    All-append (IsPairOf dig c) (run_pairs dig c n) (level_pairs dig c n (run_node c * 2 ^ (run_height c - suc n)) (2 ^ (run_height c - suc n)))
-    (run_pairs_claimed dig c n (omega arith))
-    (level_claimed dig c n (run_node c * 2 ^ (run_height c - suc n)) (2 ^ (run_height c - suc n)) (omega arith)
-    (λ i from to. in_row (run_node c) (2 ^ (run_height c - suc n)) i from to))
+run_pairs_claimed dig n c zero low = All-nil (IsPairOf dig c)
+run_pairs_claimed dig n c (suc k) low =
+    All-append (IsPairOf dig c) (run_pairs dig n c k) (level_pairs dig c k (run_node c * 2 ^ (run_height c - suc k)) (covered_count n c (suc k)))
+    (run_pairs_claimed dig n c k (omega arith))
+    (level_claimed dig c k (run_node c * 2 ^ (run_height c - suc k)) (covered_count n c (suc k)) (omega arith)
+    (λ i from to. in_row (run_node c) (2 ^ (run_height c - suc k)) i from (omega (arith, to, covered_limit n c (suc k)))))
 
 path_pair_is : (dig : List ℕ → List ℕ) (c : Claim) (t : ℕ) → t < length c.uncles → IsPairOf dig c (path_pair dig c t)
 path_pair_is dig c t within =
@@ -217,10 +205,10 @@ path_pairs_claimed dig c zero within = All-nil (IsPairOf dig c)
 path_pairs_claimed dig c (suc t) within =
     All-push (IsPairOf dig c) (path_pairs dig c t) (path_pair dig c t) (path_pairs_claimed dig c t (omega arith)) (path_pair_is dig c t within)
 
-pub pairs_claimed : (dig : List ℕ → List ℕ) (c : Claim) → All (IsPairOf dig c) (claimed_pairs dig c)
-pairs_claimed dig c =
-    All-append (IsPairOf dig c) (run_pairs dig c (run_height c)) (path_pairs dig c (length c.uncles))
-    (run_pairs_claimed dig c (run_height c) (omega arith))
+pub pairs_claimed : (dig : List ℕ → List ℕ) (n : ℕ) (c : Claim) → All (IsPairOf dig c) (claimed_pairs dig n c)
+pairs_claimed dig n c =
+    All-append (IsPairOf dig c) (run_pairs dig n c (run_height c)) (path_pairs dig c (length c.uncles))
+    (run_pairs_claimed dig n c (run_height c) (omega arith))
     (path_pairs_claimed dig c (length c.uncles) (omega arith))
 
 -- a pair among them has this node
@@ -248,15 +236,23 @@ level_pairs_has dig c above first (suc n) i from to = elim (cases_lt i (first + 
       (Contains-push (level_pairs dig c above first n) (run_pair dig c above (first + n)))
 ]
 
-run_pairs_has : (dig : List ℕ → List ℕ) (c : Claim) (n k i : ℕ) → k < n → n ≤ run_height c → i / 2 ^ (run_height c - k) ≡ run_node c
-    → HasNode (run_pairs dig c n) (c.base + k) i
+-- a node that covers a block lies below one that does
+parent_covers : (n layer above i : ℕ) → above ≡ layer + 1 → i < real_width n layer → i / 2 < real_width n above
+parent_covers n layer above i e real =
+    subst (λ l. i / 2 < real_width n l) (sym e) (subst (λ r. i / 2 < r) (sym (real_next n layer)) (half (real_width n layer) i real))
+  where
+    half : (r i : ℕ) → i < r → i / 2 < (r + 1) / 2
+    half r i lt = omega arith
+
+run_pairs_has : (dig : List ℕ → List ℕ) (blocks : ℕ) (c : Claim) (n k i : ℕ) → k < n → n ≤ run_height c → i / 2 ^ (run_height c - k) ≡ run_node c
+    → i < real_width blocks (c.base + k) → HasNode (run_pairs dig blocks c n) (c.base + k) i
 unfolding run_pairs
-run_pairs_has dig c zero k i low within under = absurd (omega arith)
-run_pairs_has dig c (suc n) k i low within under =
+run_pairs_has dig blocks c zero k i low within under real = absurd (omega arith)
+run_pairs_has dig blocks c (suc n) k i low within under real =
     let first : ℕ = run_node c * 2 ^ (run_height c - suc n) in
-    let level : List ClaimedPair = level_pairs dig c n (run_node c * 2 ^ (run_height c - suc n)) (2 ^ (run_height c - suc n)) in
+    let level : List ClaimedPair = level_pairs dig c n (run_node c * 2 ^ (run_height c - suc n)) (covered_count blocks c (suc n)) in
     elim (cases_lt k n) [
-      | inl lt ↦ in_left (run_pairs dig c n) level (c.base + k) i (run_pairs_has dig c n k i lt (omega arith) under)
+      | inl lt ↦ in_left (run_pairs dig blocks c n) level (c.base + k) i (run_pairs_has dig blocks c n k i lt (omega arith) under real)
       | inr le ↦
           let last : k ≡ n = omega arith in
           let up : run_height c - n ≡ suc (run_height c - suc n) = omega arith in
@@ -266,9 +262,15 @@ run_pairs_has dig c (suc n) k i low within under =
           let next : i / 2 < i / 2 / 2 ^ (run_height c - suc n) * 2 ^ (run_height c - suc n) + 2 ^ (run_height c - suc n)
           = lt-div-mul-add {a = i / 2} {b = 2 ^ (run_height c - suc n)} (pow_pos (run_height c - suc n)) in
           let times = ap (λ q. q * 2 ^ (run_height c - suc n)) half in
-          in_right (run_pairs dig c n) level (c.base + k) i record {
+          let from : run_node c * 2 ^ (run_height c - suc n) ≤ i / 2 = omega (arith, times, floor) in
+          let here : run_node c * 2 ^ (run_height c - suc n) + (i / 2 - run_node c * 2 ^ (run_height c - suc n)) ≡ i / 2 = omega arith in
+          let covers : i / 2 < real_width blocks (c.base + suc n) = parent_covers blocks (c.base + k) (c.base + suc n) i (omega arith) real in
+          let among : i / 2 - run_node c * 2 ^ (run_height c - suc n) < covered_count blocks c (suc n) =
+          covered_here blocks c (suc n) (i / 2 - run_node c * 2 ^ (run_height c - suc n)) (omega (arith, times, next, from))
+          (subst (λ m. m < real_width blocks (c.base + suc n)) (sym here) covers) in
+          in_right (run_pairs dig blocks c n) level (c.base + k) i record {
             pair = run_pair dig c n (i / 2);
-            among = level_pairs_has dig c n (run_node c * 2 ^ (run_height c - suc n)) (2 ^ (run_height c - suc n)) (i / 2) (omega (arith, times, floor)) (omega (arith, times, next));
+            among = level_pairs_has dig c n (run_node c * 2 ^ (run_height c - suc n)) (covered_count blocks c (suc n)) (i / 2) from (omega (arith, from, among));
             here = ap (λ m. c.base + m) (sym last);
             parent = refl;
           }
@@ -282,23 +284,23 @@ path_pairs_has dig c (suc t) k low = elim (cases_lt k t) [
   | inr le ↦ (let last : k ≡ t = omega arith in rw last (Contains-push (path_pairs dig c t) (path_pair dig c t)))
 ]
 
--- each claimed node but the top is in one
-pub pairs_have : (dig : List ℕ → List ℕ) (c : Claim) (layer i : ℕ) (d : List ℕ) → Claims dig c layer i d → layer < top_layer c
-    → HasNode (claimed_pairs dig c) layer i
-pairs_have dig c layer i d claim low = go claim
+-- each claimed node but the top that covers a block is in one
+pub pairs_have : (dig : List ℕ → List ℕ) (n : ℕ) (c : Claim) (layer i : ℕ) (d : List ℕ) → Claims dig c layer i d → layer < top_layer c
+    → i < real_width n layer → HasNode (claimed_pairs dig n c) layer i
+pairs_have dig n c layer i d claim low real = go claim
   where
-    on_the_path : (k : ℕ) → layer ≡ run_top c + k → i / 2 ≡ path_node c k / 2 → HasNode (claimed_pairs dig c) layer i
-    on_the_path k here node = in_right (run_pairs dig c (run_height c)) (path_pairs dig c (length c.uncles)) layer i record {
+    on_the_path : (k : ℕ) → layer ≡ run_top c + k → i / 2 ≡ path_node c k / 2 → HasNode (claimed_pairs dig n c) layer i
+    on_the_path k here node = in_right (run_pairs dig n c (run_height c)) (path_pairs dig c (length c.uncles)) layer i record {
       pair = path_pair dig c k;
       among = path_pairs_has dig c (length c.uncles) k (omega arith);
       here = sym here;
       parent = sym node;
     }
 
-    go : Claims dig c layer i d → HasNode (claimed_pairs dig c) layer i
+    go : Claims dig c layer i d → HasNode (claimed_pairs dig n c) layer i
     go (in_run r) = elim (cases_lt r.above (run_height c)) [
-      | inl lt ↦ in_left (run_pairs dig c (run_height c)) (path_pairs dig c (length c.uncles)) layer i
-          (rw r.here (run_pairs_has dig c (run_height c) r.above i lt (omega arith) r.under))
+      | inl lt ↦ in_left (run_pairs dig n c (run_height c)) (path_pairs dig c (length c.uncles)) layer i
+          (rw r.here (run_pairs_has dig n c (run_height c) r.above i lt (omega arith) r.under (subst (λ l. i < real_width n l) r.here real)))
       | inr le ↦ on_the_path 0 (omega (arith, r.here, r.low)) (ap (λ n. n / 2) (at_top c r.above i le r.low r.under))
     ]
     go (on_path r) = on_the_path r.above r.here (ap (λ n. n / 2) r.node)

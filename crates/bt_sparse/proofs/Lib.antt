@@ -4,11 +4,13 @@ pub mod Halves
 pub mod Values
 pub mod Claims
 pub mod Parents
+pub mod Covered
 pub mod Expansions
 pub mod Differences
 pub mod Growths
 pub mod Acceptances
 pub mod Paddings
+pub mod Levels
 pub mod Joins
 pub mod Answers
 pub mod Paths

@@ -48,7 +48,7 @@ padded_parent : (dig : List ℕ → List ℕ) (layer : ℕ) (left right : List �
     → dig (left ++ right) ≡ padding_digest dig (suc layer)
 padded_parent dig layer left right l r = rw (l, r) (padding_suc dig layer)
 
-padded_run : (dig : List ℕ → List ℕ) (n : ℕ) (c : Claim) → IsShort c → HasPaddedRun dig n c → (above i : ℕ) → above ≤ run_height c
+pub padded_run : (dig : List ℕ → List ℕ) (n : ℕ) (c : Claim) → IsShort c → HasPaddedRun dig n c → (above i : ℕ) → above ≤ run_height c
     → i / 2 ^ (run_height c - above) ≡ run_node c → real_width n (c.base + above) ≤ i → row_node dig (run_digest c) above i ≡ padding_digest dig (c.base + above)
 unfolding row_node
 padded_run dig n c short run zero i low under past =

@@ -69,14 +69,15 @@ pub record IsHighestClash (dig : List ℕ → List ℕ) (k : Facts) (c : Claim) 
   pub highest : (l j : ℕ) (o t : List ℕ) → DiffersBelow dig k c l j o t
       → (l < layer) ⊎ ((l ≡ layer) × (i ≤ j))
 
--- The claim has the right shape and padding, and its top is held. `accept` runs out of memory only then.
+-- The claim has the right shape and padding, and its top is held. `accept` runs out of memory only then, in
+-- place of Ok, P5 or P6.
 pub record HasHeldTop (dig : List ℕ → List ℕ) (k : Facts) (c : Claim) : Type 0 where
   pub shape : HasShape (height k) c
   pub padding : HasPadding dig k c
   pub held : IsSome (held_at k (top_layer c) (top_node c))
 
--- The first condition that fails, in the order of `IsAcceptable`. Out of memory may come where the shape is
--- right.
+-- The first condition that fails, in the order of `IsAcceptable`. Of out of memory this asks the shape alone;
+-- `HasHeldTop` says when it may come.
 pub data IsRefused (dig : List ℕ → List ℕ) (k : Facts) (c : Claim) : ProofError → Type 0 where
   shape : ¬ HasShape (height k) c → IsRefused dig k c Shape
   padding : HasShape (height k) c → ¬ HasPadding dig k c → IsRefused dig k c Padding

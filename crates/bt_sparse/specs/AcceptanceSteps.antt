@@ -6,7 +6,7 @@ use Rattle.bt_tree.specs.Limits.{max_block_count, max_height}
 use Rattle.bt_tree.specs.TreeShape.{real_width}
 use Rattle.bt_tree.specs.Tree.{padding_digest}
 use Rattle.bt_sparse.specs.NodeMap.{Nodes, digest_at, HasDigests, Layers, HasPlace}
-use Rattle.bt_sparse.specs.SparseTree.{Facts, height, held_at, value_at}
+use Rattle.bt_sparse.specs.SparseTree.{Facts, blocks_of, height, held_at, value_at}
 use Rattle.bt_sparse.specs.Claim.{Claims, HasShape, top_layer, top_node}
 use Rattle.bt_sparse.specs.Acceptance.{HasPadding, IsAcceptable}
 use Rattle.bt_sparse.specs.ExpansionSteps.{IsExpansion}
@@ -106,9 +106,9 @@ pub record HangsFrom (dig : List ℕ → List ℕ) (k : Facts) (c : Claim) (d : 
   pub padding : HasPadding dig k c
   pub held : held_at k (top_layer c) (top_node c) ≡ Some d
 
--- the tree can accept the claim, and this is what it names
+-- the tree can accept the claim, and these are its pairs
 pub record IsExpandedClaim (dig : List ℕ → List ℕ) (k : Facts) (c : Claim) (e : Expansion) : Type 0 where
   pub conditions : IsAcceptable dig k c
-  pub expansion : IsExpansion dig c e
+  pub expansion : IsExpansion dig (blocks_of k) c e
   pub inside : All (IsPairIn (height k)) e.pairs.items
   pub narrow : length e.pairs.items < 2 ^ 28

@@ -11,7 +11,7 @@ ghost use Rattle.bt_sparse.specs.ExpansionSteps.{IsPairOf};
 ghost use Rattle.bt_sparse.specs.AcceptanceSteps.{IsPairIn, IsPadded, HasNoDifference, IsDifference, higher_of, IsHighestOf, IsPut, AgreesAt, IsGrownBy, HangsFrom, IsExpandedClaim, HasPlaces};
 
 use crate::claim::{Claim, ProofError};
-use crate::expansion::{ClaimedPair, Expansion, expand, has_shape, input, top_of};
+use crate::expansion::{ClaimedPair, Expansion, expand_covered, has_shape, input, top_of};
 use crate::node_map::NodeMap;
 use crate::padding::{are_uncles_padded, is_run_padded};
 use crate::sparse_tree::SparseTree;
@@ -44,8 +44,8 @@ fn higher(found: Option<Difference>, next: Option<Difference>) -> Option<Differe
 impl<H: NodeHash> SparseTree<H> {
     /// Takes a claim, and returns how many nodes are newly held. A refusal leaves the tree as it was.
     ///
-    /// The refusals are P1, P3, P4, P5 and P6 of `ProofError`, in this order, and P7, which may come in place
-    /// of P5 and P6.
+    /// The refusals are P1, P3, P4, P5 and P6 of `ProofError`, in this order, and P7: only where the shape
+    /// and the padding are right and the top is held, in place of Ok, P5 or P6.
     pub fn accept(&mut self, claim: &Claim) -> Result<u32, ProofError>
         ensures ok { IfOk result (λ _. Accepts H.digest self.old claim.now self.new) }
         ensures count { IfOk result (λ count. finite.len self.new.nodes ≡ finite.len self.old.nodes + count) }
@@ -54,15 +54,10 @@ impl<H: NodeHash> SparseTree<H> {
             → HasHeldTop H.digest self.old claim.now) }
         ensures unchanged { OnErr result (self.new ≡ self.old) }
     {
-        let expansion = match self.check(claim) {
-            Ok(expansion) => expansion,
-            Err(error) => return Err(error),
-        };
+        let expansion = self.check(claim)?;
         let pairs = expansion.pairs.as_slice();
         // All pages before the first digest, so that out of memory leaves the facts as they were.
-        if make_pages(self.geometry, &mut self.nodes, pairs).is_err() {
-            return Err(ProofError::OutOfMemory);
-        }
+        make_pages(self.geometry, &mut self.nodes, pairs)?;
         Ok(put_pairs(self.geometry, &mut self.nodes, pairs))
     }
 
@@ -74,10 +69,7 @@ impl<H: NodeHash> SparseTree<H> {
             → HasHeldTop H.digest self.now claim.now) }
     {
         let top = self.top(claim)?;
-        let height = self.geometry.height();
-        let Ok(expansion) = expand(self.hash, self.alloc, height, claim) else {
-            return Err(ProofError::OutOfMemory);
-        };
+        let expansion = expand_covered(self.hash, self.alloc, self.geometry, claim)?;
         if top != expansion.top_digest {
             return Err(ProofError::TopDiffers);
         }

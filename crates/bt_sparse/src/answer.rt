@@ -3,6 +3,7 @@ ghost use Rattle.std.specs.Bool.{OnTrue, OnFalse};
 ghost use Rattle.bt_tree.specs.Limits.{max_height};
 ghost use Rattle.bt_tree.specs.TreeShape.{IsInside};
 ghost use Rattle.bt_sparse.specs.SparseTree.{blocks_of, height, value_at, IsSound};
+ghost use Rattle.bt_sparse.specs.declared.answer.AnswerError.TheVariants.{OutOfMemory as out_of_memory};
 ghost use Rattle.bt_sparse.specs.Answer.{IsRequest, IsAnswer, HasUnknown, KnowsAll, answer_size, answer_layer, answer_index};
 
 use crate::expansion::{run_height, sibling};
@@ -26,6 +27,14 @@ pub enum AnswerError {
     Unknown,
     #[error("out of memory")]
     OutOfMemory,
+}
+
+impl From<AllocError> for AnswerError {
+    ghost from_gives = { λ _ e. e ≡ out_of_memory };
+
+    fn from(_error: AllocError) -> Self {
+        AnswerError::OutOfMemory
+    }
 }
 
 /// What a peer asks of a tree of this height: a run of nodes of layer `base`, and proof layers.
@@ -116,10 +125,7 @@ impl<H: NodeHash> SparseTree<H> {
         if !self.knows_all(request) {
             return Err(AnswerError::Unknown);
         }
-        let Ok(digests) = self.values(request) else {
-            return Err(AnswerError::OutOfMemory);
-        };
-        Ok(digests)
+        Ok(self.values(request)?)
     }
 }
 

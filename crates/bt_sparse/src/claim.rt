@@ -1,6 +1,8 @@
 ghost use Rattle.std.specs.Prelude.{◌≡◌};
+ghost use Rattle.bt_sparse.specs.declared.claim.ProofError.TheVariants.{OutOfMemory as out_of_memory};
 
 use bt_tree::Hash32;
+use std::alloc::AllocError;
 use std::marker::Model;
 use thiserror::Error;
 
@@ -79,7 +81,16 @@ pub enum ProofError {
         ours: [u8; 64],
         theirs: [u8; 64],
     },
-    /// P7: Out of memory. It may come in place of P5 and P6.
+    /// P7: Out of memory. It comes only where the shape and the padding are right and the top is held, in
+    /// place of Ok, P5 or P6.
     #[error("P7 OutOfMemory")]
     OutOfMemory,
+}
+
+impl From<AllocError> for ProofError {
+    ghost from_gives = { λ _ e. e ≡ out_of_memory };
+
+    fn from(_error: AllocError) -> Self {
+        ProofError::OutOfMemory
+    }
 }

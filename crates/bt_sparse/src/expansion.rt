@@ -1,13 +1,23 @@
 ghost use Rattle.std.specs.Prelude.{◌≡◌, ℕ, List, [], slice_index_or, ◌*◌, ◌/◌, ◌+◌, ◌%◌, ◌++◌, ◌<◌, ◌≤◌, ◌==◌, ◌↔◌, if◌then◌else◌, IsTrue, IfOk, OnOk, length};
 ghost use Rattle.bt_tree.specs.Limits.{max_block_count, max_height};
+ghost use Rattle.bt_tree.specs.Blocks.{block_count};
 ghost use Rattle.bt_tree.specs.TreeShape.{height_of};
+ghost use Rattle.bt_tree.specs.Tree.{padding_digest};
 ghost use Rattle.bt_tree.specs.Peaks.{row_node};
 ghost use Rattle.bt_sparse.specs.Claim.{run_digest, run_height, run_node, path_digest, top_layer, top_node, sibling_of, HasShape};
-ghost use Rattle.bt_sparse.specs.ExpansionSteps.{level_pairs, run_pairs, path_pairs, AreRunNodes, AreParents, IsShort, IsExpansion};
+ghost use Rattle.bt_sparse.specs.ExpansionSteps.{level_pairs, covered_count, run_pairs, path_pairs, AreRunNodes, AreParents, IsCompleted, IsShort, IsExpansion};
+ghost use Rattle.bt_sparse.specs.PaddingSteps.{HasPaddedRun};
 
 use crate::claim::Claim;
-use bt_tree::{Hash32, NodeHash};
+use crate::padding::Padding;
+use bt_tree::{Geometry, Hash32, NodeHash};
 use std::alloc::{AllocError, Global};
+
+#[cfg(test)]
+mod whole;
+
+#[cfg(test)]
+pub(crate) use whole::expand;
 
 /// Two siblings that a claim names, in layer `layer`, below node `index` of the next one.
 #[derive(Clone, Copy)]
@@ -18,7 +28,8 @@ pub(crate) struct ClaimedPair {
     pub(crate) right: Hash32,
 }
 
-/// All nodes that a claim names: in pairs, and the digest of the top, which the others hang from.
+/// The nodes that a claim names, in pairs, but for pairs of its run's layers that cover no block; and the
+/// digest of the top, which the others hang from.
 #[derive(Drop)]
 pub(crate) struct Expansion {
     pub(crate) pairs: Vec<ClaimedPair>,
@@ -68,52 +79,95 @@ pub(crate) fn top_of(claim: &Claim) -> (u32, u32)
     (claim.base + layers + uncles, node >> uncles)
 }
 
-/// The pairs of siblings that a claim of the right shape names, and its top's digest. Each pair is digested
-/// once.
-pub(crate) fn expand<H: NodeHash>(
+/// The pairs of siblings that a claim of the right shape and padding names, and its top's digest. Pairs of
+/// the run's layers that cover no block are left out. Each pair is digested once.
+pub(crate) fn expand_covered<H: NodeHash>(
     hash: H,
     alloc: Global,
-    height: u8,
+    geometry: Geometry,
     claim: &Claim,
 ) -> Result<Expansion, AllocError>
-    requires shape { HasShape height claim.now }
-    requires high { height ≤ max_height }
-    ensures { IfOk result (IsExpansion H.digest claim.now) }
+    requires shape { HasShape (height_of (block_count geometry)) claim.now }
+    requires high { height_of (block_count geometry) ≤ max_height }
+    requires padded { HasPaddedRun H.digest (block_count geometry) claim.now }
+    ensures { IfOk result (IsExpansion H.digest (block_count geometry) claim.now) }
 {
-    let uncles = claim.uncles.as_slice();
     let count = claim.run.as_slice().len();
     let layers = run_height(count as u32);
-    let mut pairs = Vec::with_capacity(alloc, count - 1 + uncles.len())?;
-    let digest = add_run(hash, alloc, &mut pairs, claim, layers)?;
+    let covered = covered_count(geometry, claim);
+    // The run's layers have this many pairs at most.
+    let most = (covered + layers as usize).min(count - 1);
+    let mut pairs = Vec::with_capacity(alloc, most + claim.uncles.as_slice().len())?;
+    let digest = add_run(hash, alloc, &mut pairs, geometry, claim, layers)?;
     let top_digest = add_path(hash, &mut pairs, claim, layers, digest)?;
     Ok(Expansion { pairs, top_digest })
 }
 
+/// How many nodes of a claim's run cover a block: the first of them.
+fn covered_count(geometry: Geometry, claim: &Claim) -> usize
+    requires shape { IsShort claim.now }
+    requires inside { claim.now.base ≤ height_of (block_count geometry) }
+    ensures value { result ≡ covered_count (block_count geometry) claim.now 0 }
+    ensures limit { result ≤ length claim.now.run }
+{
+    let real = geometry.real(claim.base as u8).saturating_sub(claim.index);
+    claim.run.as_slice().len().min(real as usize)
+}
+
 /// Adds the pairs below the run's top, which lies this many layers above the run, layer by layer, and returns
-/// the top's digest.
+/// the top's digest. Nodes that cover no block are kept only beside one that does.
 fn add_run<H: NodeHash>(
     hash: H,
     alloc: Global,
     pairs: &mut Vec<ClaimedPair>,
+    geometry: Geometry,
     claim: &Claim,
     layers: u8,
 ) -> Result<Hash32, AllocError>
     requires shape { IsShort claim.now }
+    requires inside { claim.now.base ≤ height_of (block_count geometry) }
+    requires padded { HasPaddedRun H.digest (block_count geometry) claim.now }
     requires layers { layers ≡ run_height claim.now }
     ensures digest { IfOk result (λ digest.
         digest ≡ row_node H.digest (run_digest claim.now) layers (run_node claim.now)) }
-    ensures pairs { OnOk result (pairs.new.items ≡ pairs.old.items ++ run_pairs H.digest claim.now layers) }
+    ensures pairs { OnOk result (pairs.new.items
+        ≡ pairs.old.items ++ run_pairs H.digest (block_count geometry) claim.now layers) }
 {
-    let run = claim.run.as_slice();
+    let count = covered_count(geometry, claim).div_ceil(2);
+    let run = &claim.run.as_slice()[..2 * count];
+    let mut padding = Padding::new(hash);
     let mut first = claim.index / 2;
     add_level(pairs, claim.base, first, run)?;
     let mut level = parents(hash, alloc, run)?;
     for above in 1..layers {
+        let layer = claim.base as u8 + above;
+        complete(&mut padding, layer, &mut level)?;
         first /= 2;
-        add_level(pairs, claim.base + above as u32, first, &level)?;
+        add_level(pairs, layer as u32, first, &level)?;
         level = parents(hash, alloc, &level)?;
     }
+    if level.is_empty() {
+        return Ok(padding.rise(claim.base as u8 + layers));
+    }
     Ok(level[0])
+}
+
+/// Adds the padding behind an odd number of nodes of a layer, so that the last one has its sibling.
+fn complete<H: NodeHash>(
+    padding: &mut Padding<H>,
+    layer: u8,
+    level: &mut Vec<Hash32>,
+) -> Result<(), AllocError>
+    requires { padding.old ≤ layer }
+    ensures low { OnOk result (padding.new ≤ layer) }
+    ensures level { OnOk result
+        (IsCompleted (padding_digest H.digest layer) level.old.items level.new.items) }
+{
+    if level.len() % 2 == 0 {
+        return Ok(());
+    }
+    level.push(padding.rise(layer))?;
+    Ok(())
 }
 
 /// Adds the pairs that these nodes of a layer make, below the nodes from index `first` on of the next one.
@@ -148,7 +202,8 @@ pub(crate) fn parents<H: NodeHash>(
     ensures { IfOk result (λ above. AreParents H.digest nodes.now above.items (length nodes.now / 2)) }
 {
     let count = nodes.len() / 2;
-    let mut above = Vec::with_capacity(alloc, count)?;
+    // And room for the padding that may complete their last pair.
+    let mut above = Vec::with_capacity(alloc, count + 1)?;
     add_eights(hash, &mut above, nodes)?;
     for i in count / 8 * 8..count {
         above.push(hash.pair(&nodes[2 * i], &nodes[2 * i + 1]))?;

@@ -36,10 +36,7 @@ impl<H: NodeHash> SparseTree<H> {
     {
         // A geometry's length is lawful: its clause says so.
         let _ = geometry.length();
-        match check_layer(hash, geometry, &root, layer, bytes) {
-            Ok(()) => {}
-            Err(error) => return Err(error),
-        }
+        check_layer(hash, geometry, &root, layer, bytes)?;
         let (digests, _) = bytes.as_chunks::<32>();
         let Ok(nodes) = nodes_from(alloc, hash, geometry, layer, digests) else {
             return Err(LayerError::OutOfMemory);

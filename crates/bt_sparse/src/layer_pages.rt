@@ -63,8 +63,10 @@ impl LayerPages {
         ensures same { (t : ℕ) → slice_index_or self.new t [] ≡ slice_index_or self.old t [] }
         ensures ready { OnOk result (count ≤ length self.new) }
     {
+        // Room for a power of two of them, so that a list that is filled upwards is seldom moved.
+        let room = count.checked_next_power_of_two().unwrap_or(count);
         self.tables
-            .reserve_exact(count.saturating_sub(self.tables.len()))?;
+            .reserve_exact(room.saturating_sub(self.tables.len()))?;
         for _ in self.tables.len()..count {
             self.tables.push(PageTable::new(alloc))?;
         }

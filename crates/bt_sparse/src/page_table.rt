@@ -61,8 +61,10 @@ impl PageTable {
         ensures same { (p : ℕ) → slice_index_or self.new p [] ≡ slice_index_or self.old p [] }
         ensures ready { OnOk result (count ≤ length self.new) }
     {
+        // Room for a power of two of them, so that a table that is filled upwards is seldom moved.
+        let room = count.checked_next_power_of_two().unwrap_or(count);
         self.pages
-            .reserve_exact(count.saturating_sub(self.pages.len()))?;
+            .reserve_exact(room.saturating_sub(self.pages.len()))?;
         for _ in self.pages.len()..count {
             self.pages.push(Page::new(alloc))?;
         }
