@@ -1,7 +1,8 @@
 //! What the program says on standard error.
 
 use super::tools::confirm;
-use crate::fault::{DeviceFault, Fault};
+use crate::fault::Fault;
+use bt_disk::DeviceFault;
 use bt_meta::{MakeError, MetaError};
 use std::test::Fail;
 
