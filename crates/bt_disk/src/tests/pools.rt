@@ -7,6 +7,17 @@ use std::test::Fail;
 
 const DISKS: u32 = 2000;
 
+/// A device with a byte of its own at the place of its number.
+fn device_with_byte(
+    pool: &mut HandlePool<HostRuntime>,
+    path: String,
+    number: u32,
+) -> Result<PooledDisk<HostRuntime>, Fail> {
+    let mut disk = pool.writing(path)?;
+    disk.write_at(number as u64, &[(number % 251) as u8])?;
+    Ok(disk)
+}
+
 /// Makes the devices of a folder, each with a byte of its own at its place.
 fn devices(
     rt: &HostRuntime,
@@ -16,9 +27,7 @@ fn devices(
     let mut disks = Vec::new(rt.alloc());
     for number in 0..DISKS {
         let path = format!(in rt.alloc(); "{top}/{number}")?;
-        let mut disk = pool.writing(path)?;
-        disk.write_at(number as u64, &[(number % 251) as u8])?;
-        disks.push(disk)?;
+        disks.push(device_with_byte(pool, path, number)?)?;
     }
     Ok(disks)
 }
