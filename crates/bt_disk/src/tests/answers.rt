@@ -21,6 +21,14 @@ fn opened<'a>(
     FileDisk::writing(&system, path)
 }
 
+/// Reads twice of a file of `abcdefgh`, and writes over its end.
+fn read_and_write<D: Disk>(disk: &mut D) -> Result<(), Fail> {
+    expect_read(disk, 1, 5, b"bcdef")?;
+    expect_read(disk, 0, 12, b"abcdefgh")?;
+    make(disk, Step::Write(6, b"12345"))?;
+    Ok(())
+}
+
 /// Short and interrupted reads and writes are made whole.
 #[test]
 fn a_read_or_write_in_parts_is_whole(rt: HostRuntime) -> Result<(), Fail> {
@@ -28,9 +36,7 @@ fn a_read_or_write_in_parts_is_whole(rt: HostRuntime) -> Result<(), Fail> {
     let path = file_with(&rt, top.as_str(), b"abcdefgh")?;
     let counts = Counts::new();
     let mut disk = opened(&rt, Manner::Parts, &counts, path.as_str())?;
-    expect_read(&mut disk, 1, 5, b"bcdef")?;
-    expect_read(&mut disk, 0, 12, b"abcdefgh")?;
-    make(&mut disk, Step::Write(6, b"12345"))?;
+    read_and_write(&mut disk)?;
     expect_file(&rt, path.as_str(), b"abcdef12345")?;
     fs::remove_dir_all(&rt, top.as_str())?;
     Ok(())
@@ -159,10 +165,9 @@ fn a_call_of_an_open_file_of_a_pool_makes_no_more(rt: HostRuntime) -> Result<(),
 
 /// Reads a byte of the devices at these places, in turn.
 fn read_in_turn(disks: &mut [PooledDisk<System<'_>>], places: &[usize]) -> Result<(), Fail> {
-    let mut out = [0; 1];
     for place in places {
         let disk = disks.get_mut(*place).ok_or("no such device")?;
-        confirm(disk.read_at(0, &mut out)? == 1, "a short read")?;
+        expect_read(disk, 0, 1, b"a")?;
     }
     Ok(())
 }

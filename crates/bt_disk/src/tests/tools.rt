@@ -3,7 +3,7 @@
 use crate::{DeviceFault, Disk};
 use std::alloc::Global;
 use std::test::Fail;
-use std::{env, fs, process};
+use std::{env, fs, io, process};
 
 /// A call of a device.
 #[derive(Clone, Copy, Debug)]
@@ -49,9 +49,24 @@ pub fn bytes_of<D: Disk>(alloc: Global, disk: &mut D) -> Result<Vec<u8>, Fail> {
 pub fn expect_read<D: Disk>(disk: &mut D, at: u64, asked: usize, bytes: &[u8]) -> Result<(), Fail> {
     let mut out = [9; 16];
     let count = disk.read_at(at, &mut out[..asked.min(16)])?;
-    confirm(&out[..count] == bytes, "other bytes of a read")?;
-    let behind = &out[count..];
-    confirm(behind == &[9; 16][count..], "bytes behind those of a read")?;
+    expect_front(&out, count, bytes)?;
+    Ok(())
+}
+
+/// Expects just these bytes in front of a buffer of nines, and none changed behind them.
+fn expect_front(out: &[u8], count: usize, bytes: &[u8]) -> Result<(), &'static str> {
+    let front = out.get(..count).ok_or("more bytes than asked")?;
+    confirm(front == bytes, "other bytes of a read")?;
+    let mut behind = out.iter().skip(count);
+    confirm(
+        behind.all(|byte| *byte == 9),
+        "bytes behind those of a read",
+    )
+}
+
+/// Expects so many bytes of a device.
+pub fn expect_len<D: Disk>(disk: &mut D, len: u64) -> Result<(), Fail> {
+    confirm(disk.len()? == len, "another length")?;
     Ok(())
 }
 
@@ -71,10 +86,9 @@ pub fn folder(rt: &HostRuntime, name: &str) -> Result<String, Fail> {
 }
 
 /// Makes a folder, in place of one that may be there.
-fn make_empty(rt: &HostRuntime, path: &str) -> Result<(), Fail> {
+fn make_empty(rt: &HostRuntime, path: &str) -> io::Result<()> {
     let _ = fs::remove_dir_all(rt, path);
-    fs::create_dir(rt, path)?;
-    Ok(())
+    fs::create_dir(rt, path)
 }
 
 /// The path of a name below a folder.
