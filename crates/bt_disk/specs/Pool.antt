@@ -1,5 +1,5 @@
 -- A pool, and how a device of it uses its file.
-use Rattle.std.specs.Prelude.{ℕ}
+use Rattle.std.specs.Prelude.{ℕ, List}
 use Rattle.bt_disk.specs.FileDisk.{Access, absent, reading, writing}
 use Rattle.bt_disk.specs.declared.pool.Use.{Use}
 use Rattle.bt_disk.specs.declared.pool.Use.TheVariants.{Absent, Reading, Writing}
@@ -16,9 +16,10 @@ pub record PoolView : Type 0 where
 abbrev pub new_pool : PoolView
 new_pool = record { made = 0 }
 
--- A device that a pool made: its number, by which the pool knows its handle, whether its file may be written,
--- and how many of its calls failed.
+-- A device that a pool made: its number, by which the pool knows its handle, the bytes of its file's path,
+-- whether that file may be written, and how many of its calls failed.
 pub record PooledView : Type 0 where
   pub number : ℕ
+  pub path : List ℕ
   pub access : Access
   pub failed : ℕ

@@ -1,7 +1,7 @@
 //! A device that fails where it is told to.
-ghost use Rattle.std.specs.Prelude.{◌≡◌, ◌-◌, ◌^◌, ◌<◌, nat_lt, if◌then◌else◌, None};
+ghost use Rattle.std.specs.Prelude.{◌≡◌, ◌-◌, ◌^◌, ◌<◌};
 ghost use Rattle.std.specs.Bool.{OnTrue, OnFalse};
-ghost use Rattle.bt_disk.specs.FaultDisk.{new_fault_disk, next_call, fails_next, after_failure, flipped};
+ghost use Rattle.bt_disk.specs.FaultDisk.{new_fault_disk, setting_after, next_call, fails_next, after_failure, flipped};
 
 use crate::disk::{DeviceFault, Disk};
 use std::marker::Model;
@@ -10,7 +10,8 @@ use std::marker::Model;
 /// device inside, which a call that fails here does not reach.
 ///
 /// Calls are counted from 1, from its making, in a count that stays at 2^64 - 1. The three settings stand
-/// side by side; a second one of a kind replaces the first. A device that has a flip is not honest.
+/// side by side, and each may be made between calls. A second one of a kind replaces the first, but one whose
+/// call was made before has no effect; a flip has, since it lasts. A device that has a flip is not honest.
 #[derive(Drop)]
 pub struct FaultDisk<D: Disk + Drop> {
     inner: D,
@@ -52,23 +53,27 @@ impl<D: Disk + Drop> FaultDisk<D> {
         }
     }
 
-    /// Lets the k-th call fail; nothing, where that call was made before.
+    /// Lets the k-th call fail; it does nothing, where that call was made before.
     pub fn failing_once(mut self, k: u64) -> Self
         requires some { 0 < k }
         requires within { k < 2 ^ 64 - 1 }
-        ensures { result ≡ record self { failing_once = Some k } }
+        ensures { result ≡ record self { failing_once = setting_after self.calls k self.failing_once } }
     {
-        self.once = Some(k);
+        if self.calls < k {
+            self.once = Some(k);
+        }
         self
     }
 
-    /// Lets every call from the k-th on fail; none, where the k-th was made before.
+    /// Lets every call from the k-th on fail; it does nothing, where the k-th was made before.
     pub fn failing_from(mut self, k: u64) -> Self
         requires some { 0 < k }
         requires within { k < 2 ^ 64 - 1 }
-        ensures { result ≡ record self { failing_from = (if nat_lt self.calls k then Some k else None) } }
+        ensures { result ≡ record self { failing_from = setting_after self.calls k self.failing_from } }
     {
-        self.from = if self.calls < k { Some(k) } else { None };
+        if self.calls < k {
+            self.from = Some(k);
+        }
         self
     }
 

@@ -1,5 +1,5 @@
 //! Files of the system that share a few open handles.
-ghost use Rattle.std.specs.Prelude.{◌≡◌, ◌≢◌, ◌+◌, ◌<◌, ◌≤◌, IfOk, IfErr, length};
+ghost use Rattle.std.specs.Prelude.{◌≡◌, ◌≢◌, ◌+◌, ◌<◌, ◌≤◌, IfOk, IfErr, length, string_bytes};
 ghost use Rattle.bt_disk.specs.FileDisk.{writing};
 ghost use Rattle.bt_disk.specs.Pool.{access_of_use, new_pool};
 
@@ -59,6 +59,7 @@ impl<R: Files + Drop> HandlePool<R> {
         ensures failed { IfOk result (λ disk. disk.failed ≡ 0) }
         ensures access { IfOk result (λ disk. disk.access ≢ writing) }
         ensures number { IfOk result (λ disk. disk.number ≡ self.new.made) }
+        ensures path { IfOk result (λ disk. disk.path ≡ string_bytes path) }
         ensures one_more { IfOk result (λ _. self.new.made ≡ self.old.made + 1) }
         ensures no_more { IfErr result (λ _. self.new ≡ self.old) }
     {
@@ -75,8 +76,10 @@ impl<R: Files + Drop> HandlePool<R> {
     ///
     /// Errors: also where no number is left for a device, or no count of the `Rc` that they share.
     pub fn writing(&mut self, path: String) -> Result<PooledDisk<R>, DeviceFault>
-        ensures device { IfOk result (λ disk.
-            disk ≡ record { number = self.new.made; access = writing; failed = 0 }) }
+        ensures failed { IfOk result (λ disk. disk.failed ≡ 0) }
+        ensures access { IfOk result (λ disk. disk.access ≡ writing) }
+        ensures number { IfOk result (λ disk. disk.number ≡ self.new.made) }
+        ensures path { IfOk result (λ disk. disk.path ≡ string_bytes path) }
         ensures one_more { IfOk result (λ _. self.new.made ≡ self.old.made + 1) }
         ensures no_more { IfErr result (λ _. self.new ≡ self.old) }
     {
@@ -89,8 +92,12 @@ impl<R: Files + Drop> HandlePool<R> {
 
     /// The next device, with a number that no other of this pool has.
     fn device(&mut self, path: String, usage: Use) -> Result<PooledDisk<R>, DeviceFault>
-        ensures device { IfOk result (λ disk.
-            disk ≡ record { number = self.new.made; access = access_of_use usage; failed = 0 }) }
+        ensures device { IfOk result (λ disk. disk ≡ record {
+          number = self.new.made;
+          path = string_bytes path;
+          access = access_of_use usage;
+          failed = 0;
+        }) }
         ensures one_more { IfOk result (λ _. self.new.made ≡ self.old.made + 1) }
         ensures no_more { IfErr result (λ _. self.new ≡ self.old) }
     {
@@ -133,11 +140,17 @@ pub struct PooledDisk<R: Files + Drop> {
 }
 
 impl<R: Files + Drop> Model for PooledDisk<R> {
+    ghost use Rattle.std.specs.Prelude.{string_bytes};
     ghost use Rattle.bt_disk.specs.Pool.{PooledView, access_of_use};
 
     ghost Value = { PooledView };
 
-    ghost view = { λ d. record { number = d.number; access = access_of_use d.usage; failed = d.failed } };
+    ghost view = { λ d. record {
+      number = d.number;
+      path = string_bytes d.path;
+      access = access_of_use d.usage;
+      failed = d.failed;
+    } };
 }
 
 impl<R: Files + Drop> PooledDisk<R> {
@@ -218,6 +231,7 @@ impl<R: Files + Drop> Disk for PooledDisk<R> {
     fn len(&mut self) -> Result<u64, DeviceFault>
         ensures absent { self.old.access ≡ absent → result ≡ Ok 0 }
         ensures number { self.new.number ≡ self.old.number }
+        ensures path { self.new.path ≡ self.old.path }
         ensures access { self.new.access ≡ self.old.access }
         ensures counted { self.new.failed ≡ count_after self.old.failed result }
         ensures as_honest { ⊥ ↔ ⊥ }
@@ -235,6 +249,7 @@ impl<R: Files + Drop> Disk for PooledDisk<R> {
     fn read_at(&mut self, at: u64, out: &mut [u8]) -> Result<usize, DeviceFault>
         ensures absent { self.old.access ≡ absent → result ≡ Ok 0 }
         ensures number { self.new.number ≡ self.old.number }
+        ensures path { self.new.path ≡ self.old.path }
         ensures access { self.new.access ≡ self.old.access }
         ensures within { IfOk result (λ count. count ≤ length out.new) }
         ensures counted { self.new.failed ≡ count_after self.old.failed result }
@@ -253,6 +268,7 @@ impl<R: Files + Drop> Disk for PooledDisk<R> {
     fn write_at(&mut self, at: u64, bytes: &[u8]) -> Result<(), DeviceFault>
         ensures refused { self.old.access ≢ writing → IsErr result }
         ensures number { self.new.number ≡ self.old.number }
+        ensures path { self.new.path ≡ self.old.path }
         ensures access { self.new.access ≡ self.old.access }
         ensures counted { self.new.failed ≡ count_after self.old.failed result }
         ensures as_honest { ⊥ ↔ ⊥ }
@@ -267,6 +283,7 @@ impl<R: Files + Drop> Disk for PooledDisk<R> {
     fn set_len(&mut self, len: u64) -> Result<(), DeviceFault>
         ensures refused { self.old.access ≢ writing → IsErr result }
         ensures number { self.new.number ≡ self.old.number }
+        ensures path { self.new.path ≡ self.old.path }
         ensures access { self.new.access ≡ self.old.access }
         ensures counted { self.new.failed ≡ count_after self.old.failed result }
         ensures as_honest { ⊥ ↔ ⊥ }
@@ -281,6 +298,7 @@ impl<R: Files + Drop> Disk for PooledDisk<R> {
     fn sync(&mut self) -> Result<(), DeviceFault>
         ensures refused { self.old.access ≢ writing → IsErr result }
         ensures number { self.new.number ≡ self.old.number }
+        ensures path { self.new.path ≡ self.old.path }
         ensures access { self.new.access ≡ self.old.access }
         ensures counted { self.new.failed ≡ count_after self.old.failed result }
         ensures as_honest { ⊥ ↔ ⊥ }

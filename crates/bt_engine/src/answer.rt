@@ -16,7 +16,7 @@ pub enum Why {
     Wire(WireError),
     /// C2: Its handshake names another torrent.
     WrongTorrent,
-    /// C3: It has a piece that the torrent has not.
+    /// C3: It has a piece that the torrent does not have.
     BadPiece,
     /// C4: Its bitfield has another number of bytes.
     BadBitfield,

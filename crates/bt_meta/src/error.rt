@@ -57,7 +57,7 @@ pub enum MetaError {
     /// A file longer than one piece has no string in `piece layers`.
     #[error("M15 LayerMissing")]
     LayerMissing,
-    /// A layer has not 32 bytes for each piece of its file.
+    /// A layer does not have 32 bytes for each piece of its file.
     #[error("M16 LayerSize")]
     LayerSize,
     /// A layer gives another root than its file's.

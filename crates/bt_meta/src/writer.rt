@@ -56,7 +56,7 @@ pub enum MakeError {
     /// A file has more than 2^40 bytes.
     #[error("N3 FileLength")]
     FileLength,
-    /// A layer has not 32 bytes for each piece of its file; or stands where none belongs.
+    /// A layer does not have 32 bytes for each piece of its file; or stands where none belongs.
     #[error("N4 LayerSize")]
     LayerSize,
     /// A layer gives another root than its file's.

@@ -1,5 +1,5 @@
 -- Lemmas on what a run does.
-use Rattle.std.proofs.Common.{◌≡◌, ℕ, [], ◌∷◌, ◌++◌, codes, false, ap, append_assoc, List, Option, Result, Ok, Err, IfOk, IfErr, IsErrAnd, refl, sym, subst, ◌∙◌}
+use Rattle.std.proofs.Common.{◌≡◌, ℕ, [], ◌∷◌, ◌++◌, codes, Bool, true, false, ap, append_assoc, List, Option, Result, Ok, Err, IfOk, IfErr, IsErrAnd, refl, sym, subst, ◌∙◌}
 use Rattle.std.specs.Prelude.{◌⊎◌, if◌then◌else◌}
 use Rattle.std.specs.Io.KnownBytes.{Appends, Keeps}
 use Rattle.std.proofs.KnownBytes.{Keeps-refl}
@@ -8,14 +8,14 @@ use Rattle.bt_tree.specs.TreeShape.{IsPieceLength}
 use Rattle.bt_meta.specs.declared.writer.MakeError.TheVariants.{PieceLength}
 use Rattle.btseed.specs.CommandLine.{IsTaskOf}
 use Rattle.bt_meta.specs.Torrent.{Metainfo}
-use Rattle.btseed.specs.Report.{IsReportOn, report_text}
+use Rattle.btseed.specs.Report.{IsReportOn, check_outcome, report_text}
 use Rattle.btseed.specs.TorrentFile.{HasText}
 use Rattle.btseed.specs.Make.{IsMakeFault, IsMakeTorrent}
 use Rattle.btseed.specs.Program.{IsCheckResult, IsMakeResult, IsTaskResult, IsTaskEnd, IsRun, IsStart, Writes, no_words, on_words, task_result, task_end}
 use Rattle.btseed.specs.ProgramSteps.{status_after}
 use Rattle.hex.specs.Hex.{encode_lower}
 use Rattle.btseed.specs.Display.{line_text}
-use Rattle.btseed.specs.Fault.{make_fault, out_of_memory, status_of, words_fault}
+use Rattle.btseed.specs.Fault.{device, make_fault, out_of_memory, status_of, words_fault}
 use Rattle.btseed.specs.declared.make.NewTorrent.{NewTorrent}
 use Rattle.btseed.specs.declared.report.FileFinding.{FileFinding}
 use Rattle.btseed.specs.declared.report.Summary.{Summary}
@@ -53,6 +53,20 @@ checked source torrent summary old new status loaded r sound is =
         answer = is ∙ ap (λ b. if b then 0 else 1) r.1.report.complete;
       };
     }
+
+outcome_written : (source : Source) (torrent : Metainfo) (summary : Summary) (old new : Option (List ℕ)) (is_faulty : Bool) → HasText source.is_info torrent
+    → (found : List FileFinding) × IsReportOn torrent found summary × Appends old new (report_text found) → summary.faulty ≡ is_faulty
+    → IfOk (if is_faulty then Err device else Ok (if summary.complete then 0 else 1)) (Writes (IsCheckResult source) old new)
+outcome_written source torrent summary old new true loaded r sound = tt
+outcome_written source torrent summary old new false loaded r sound = checked source torrent summary old new _ loaded r sound refl
+
+-- a check that was done ends as its summary says
+pub check_done : (source : Source) (torrent : Metainfo) (summary : Summary) (old new : Option (List ℕ)) (outcome : Result ℕ Fault)
+    → outcome ≡ check_outcome summary → HasText source.is_info torrent
+    → (found : List FileFinding) × IsReportOn torrent found summary × Appends old new (report_text found)
+    → IfOk outcome (Writes (IsCheckResult source) old new)
+check_done source torrent summary old new outcome is loaded r =
+    subst (λ o. IfOk o (Writes (IsCheckResult source) old new)) (sym is) (outcome_written source torrent summary old new summary.faulty loaded r refl)
 
 pub performed : (words : List Text) (task : Task) (old new : Option (List ℕ)) (r : Result ℕ Fault) → IsTaskOf words task
     → IfOk r (Writes (IsTaskResult task) old new) → IfErr r (IsTaskEnd task old new) → IsRun words old new (status_after r)

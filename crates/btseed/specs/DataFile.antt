@@ -1,7 +1,14 @@
 -- The data files of a torrent.
+use Rattle.std.specs.Prelude.{◌≡◌, ℕ, List, IfSome}
+use Rattle.bt_disk.specs.Pool.{PooledView}
 use Rattle.bt_meta.specs.Files.{File, file_of}
+use Rattle.btseed.specs.Paths.{path_below}
 use Rattle.btseed.specs.declared.data_file.DataFile.{DataFile}
 
 -- the file of a torrent that a data file is for
 abbrev pub file_at : {D : Type 0} → DataFile D → File
 file_at d = file_of d.file.now
+
+-- its device, where it has one, is that of the file's path below a folder
+abbrev pub IsAtPath : List ℕ → DataFile PooledView → Type 0
+IsAtPath dir d = IfSome d.disk (λ disk. disk.path ≡ path_below dir (file_at d).path)

@@ -1,5 +1,7 @@
 -- Why the program ends without a result, and the statuses that it exits with.
 use Rattle.std.specs.Prelude.{ℕ}
+use Rattle.std.specs.declared.io.ErrorKind.{ErrorKind}
+use Rattle.std.specs.declared.io.ErrorKind.TheVariants.{OutOfMemory as no_growth}
 use Rattle.bt_meta.specs.declared.error.MetaError.{MetaError}
 use Rattle.bt_meta.specs.declared.error.MetaError.TheVariants.{OutOfMemory as no_memory}
 use Rattle.bt_meta.specs.declared.writer.MakeError.{MakeError}
@@ -33,3 +35,8 @@ torrent_fault refusal = Torrent refusal
 abbrev pub make_fault : MakeError → Fault
 make_fault no_memory_to_make = OutOfMemory
 make_fault refusal = Make refusal
+
+-- a call of the system that takes memory: it was refused some, or the device failed
+abbrev pub system_fault : ErrorKind → Fault
+system_fault no_growth = OutOfMemory
+system_fault kind = Device

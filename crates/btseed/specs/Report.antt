@@ -1,5 +1,5 @@
 -- What a check reports on the files of a torrent.
-use Rattle.std.specs.Prelude.{◌≡◌, ℕ, ◌*◌, ◌^◌, ◌++◌, if◌then◌else◌, Bool, List, codes, map}
+use Rattle.std.specs.Prelude.{◌≡◌, ℕ, ◌*◌, ◌^◌, ◌++◌, if◌then◌else◌, Bool, List, Result, Ok, Err, codes, map}
 use Rattle.std.specs.Fmt.{decimal}
 use Rattle.std.specs.List.{flat_map, list_all, list_any, All}
 use Rattle.bt_meta.specs.Files.{File, file_of}
@@ -8,8 +8,10 @@ use Rattle.bt_tree.specs.Limits.{full_block_length}
 use Rattle.btseed.specs.Check.{IsFileFinding}
 use Rattle.btseed.specs.Finding.{is_complete_finding}
 use Rattle.btseed.specs.Display.{display_text, line_text}
+use Rattle.btseed.specs.Fault.{device}
 use Rattle.btseed.specs.Paths.{path_text}
 use Rattle.btseed.specs.declared.data_file.Finding.{Finding}
+use Rattle.btseed.specs.declared.fault.Fault.{Fault}
 use Rattle.btseed.specs.declared.report.FileFinding.{FileFinding}
 use Rattle.btseed.specs.declared.report.Summary.{Summary}
 
@@ -38,6 +40,10 @@ pub record IsReportOn (torrent : Metainfo) (found : List FileFinding) (summary :
   pub layer : ℕ
   pub pieces : torrent.piece_length ≡ full_block_length * 2 ^ layer
   pub report : IsReportOf layer torrent.files found summary
+
+-- status 0 where all are complete and 1 where one is not; a fault where a device failed
+abbrev pub check_outcome : Summary → Result ℕ Fault
+check_outcome summary = if summary.faulty then Err device else Ok (if summary.complete then 0 else 1)
 
 -- the line of a finding
 abbrev pub finding_line : Finding → List ℕ → List ℕ

@@ -4,7 +4,7 @@ ghost use Rattle.std.specs.Io.KnownBytes.{Appends};
 ghost use Rattle.btseed.specs.AtomicFileSteps.{IsLinkTarget, IsSibling, part_name};
 ghost use Rattle.btseed.specs.Fault.{device, out_of_memory};
 
-use crate::fault::Fault;
+use crate::fault::{Fault, system_fault};
 use std::alloc::{AllocError, Global};
 use std::fs::{self, File, OpenFile};
 use std::io::{ErrorKind, Write};
@@ -40,7 +40,8 @@ fn target_path<R: Files + AllocGlobal>(rt: &R, path: &str) -> Result<String, Fau
     ensures { IfErr result (λ fault. (fault ≡ device) ⊎ (fault ≡ out_of_memory)) }
 {
     let mut target = String::from_str(rt.alloc(), path)?;
-    for _ in 0..MAX_LINKS {
+    // a look at each link, and one at the file behind them
+    for _ in 0..=MAX_LINKS {
         match fs::symlink_metadata(rt, target.as_str()) {
             Ok(metadata) if metadata.is_file() => return Ok(target),
             Ok(metadata) if metadata.is_symlink() => {
@@ -57,7 +58,9 @@ fn target_path<R: Files + AllocGlobal>(rt: &R, path: &str) -> Result<String, Fau
 fn followed_link<R: Files + AllocGlobal>(rt: &R, path: &str) -> Result<String, Fault>
     ensures { IfErr result (λ fault. (fault ≡ device) ⊎ (fault ≡ out_of_memory)) }
 {
-    let link = rt.read_link(rt.alloc(), path).map_err(|_| Fault::Device)?;
+    let link = rt
+        .read_link(rt.alloc(), path)
+        .map_err(|e| system_fault(e.kind()))?;
     let text = link.to_str().ok_or(Fault::Device)?;
     Ok(link_target(rt.alloc(), path, text)?)
 }

@@ -1,7 +1,9 @@
 //! The data files of a torrent, and what a check finds of one.
-ghost use Rattle.std.specs.Prelude.{◌≡◌, ◌↔◌, ◌⊎◌, map, IsTrue, IfOk, IfErr};
+ghost use Rattle.std.specs.Prelude.{◌≡◌, ◌↔◌, ◌⊎◌, map, IsTrue, IfOk, IfErr, IfSome};
+ghost use Rattle.std.specs.List.{All};
+ghost use Rattle.std.specs.Path.{path_buf_bytes};
 ghost use Rattle.bt_meta.specs.Files.{file_of};
-ghost use Rattle.btseed.specs.DataFile.{file_at};
+ghost use Rattle.btseed.specs.DataFile.{file_at, IsAtPath};
 ghost use Rattle.btseed.specs.Fault.{device, out_of_memory};
 
 use crate::fault::Fault;
@@ -52,6 +54,7 @@ pub fn open_data_files<'a, R: Files + AllocGlobal + Clone + Drop>(
     entries: &'a [FileEntry],
 ) -> Result<Vec<DataFile<'a, PooledDisk<R>>>, Fault>
     ensures each { IfOk result (λ files. map file_at files.items ≡ map file_of entries.now) }
+    ensures paths { IfOk result (λ files. All (IsAtPath dir.now) files.items) }
     ensures fault { IfErr result (λ fault. (fault ≡ device) ⊎ (fault ≡ out_of_memory)) }
 {
     let mut pool = HandlePool::new(rt.alloc(), rt.clone()?, OPEN_FILES)?;
@@ -72,15 +75,13 @@ pub fn open_data_file<R: Files + Drop>(
     pool: &mut HandlePool<R>,
     path: PathBuf,
 ) -> Result<Option<PooledDisk<R>>, Fault>
-    ensures { IfErr result (λ fault. fault ≡ device) }
+    ensures path { IfOk result (λ found. IfSome found (λ disk. disk.path ≡ path_buf_bytes path)) }
+    ensures fault { IfErr result (λ fault. fault ≡ device) }
 {
     if is_absent(rt, path.as_path()) {
         return Ok(None);
     }
-    match pool.reading(path.into_string()) {
-        Ok(disk) => Ok(Some(disk)),
-        Err(_) => Err(Fault::Device),
-    }
+    Ok(Some(pool.reading(path.into_string())?))
 }
 
 /// Whether the system says that no file can be at a path.

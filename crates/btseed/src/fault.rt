@@ -1,15 +1,12 @@
 //! Why the program ends without a result.
 ghost use Rattle.std.specs.Prelude.{◌≡◌};
-ghost use Rattle.btseed.specs.Fault.{status_of, torrent_fault, make_fault, out_of_memory, device};
+ghost use Rattle.btseed.specs.Fault.{status_of, torrent_fault, make_fault, system_fault, out_of_memory, device};
 
+use bt_disk::DeviceFault;
 use bt_meta::{MakeError, MetaError};
 use std::alloc::{AllocError, AllocFailed};
+use std::io::ErrorKind;
 use thiserror::Error;
-
-/// A file, or a stream, could not be opened, read or written.
-#[derive(Clone, Copy, Debug, PartialEq, Eq, Error)]
-#[error("device fault")]
-pub struct DeviceFault;
 
 /// Why the program ends without a result, as it says on standard error.
 #[derive(Clone, Copy, Debug, PartialEq, Eq, Error)]
@@ -40,6 +37,16 @@ impl Fault {
             Fault::Device => 3,
             Fault::OutOfMemory => 4,
         }
+    }
+}
+
+/// The fault of a call of the system that takes memory, by the kind of its error.
+pub fn system_fault(kind: ErrorKind) -> Fault
+    ensures { result ≡ system_fault kind }
+{
+    match kind {
+        ErrorKind::OutOfMemory => Fault::OutOfMemory,
+        _ => Fault::Device,
     }
 }
 

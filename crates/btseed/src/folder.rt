@@ -4,18 +4,17 @@ ghost use Rattle.std.specs.List.{All};
 ghost use Rattle.std.specs.Fs.{IsDir, IsFile};
 ghost use Rattle.std.specs.String.{string_cmp};
 ghost use Rattle.std.specs.BTreeMap.{IsOrdered};
-ghost use Rattle.btseed.specs.Fault.{device, out_of_memory};
-ghost use Rattle.btseed.specs.Folder.{HasElement, IsListingFault};
+ghost use Rattle.btseed.specs.Folder.{HasElement, IsListingFault, listing_fault};
 ghost use Rattle.btseed.specs.FolderSteps.{PutsEntries};
 ghost use Rattle.btseed.specs.declared.folder.EntryKind.TheVariants.{File, Folder};
 
-use crate::fault::Fault;
+use crate::fault::{Fault, system_fault};
 use crate::paths::found_path;
 use bt_meta::MakeError;
 use std::alloc::{AllocError, Global};
 use std::collections::BTreeMap;
 use std::fs::{self, FileType};
-use std::io::{self, ErrorKind};
+use std::io::ErrorKind;
 use std::rt::Files;
 
 /// What a torrent takes of a folder.
@@ -91,9 +90,10 @@ fn names_in<R: Files + AllocGlobal + Clone + Drop>(
 {
     let alloc = rt.alloc();
     let mut names = BTreeMap::new(alloc);
-    for entry in fs::read_dir(rt, found_path(alloc, dir, folder)?).map_err(|e| opening_fault(&e))? {
-        let entry = entry.map_err(|e| listing_fault(&e))?;
-        let file_type = entry.file_type().map_err(|e| opening_fault(&e))?;
+    let folder = found_path(alloc, dir, folder)?;
+    for entry in fs::read_dir(rt, folder).map_err(|e| system_fault(e.kind()))? {
+        let entry = entry.map_err(|e| listing_fault(e.kind()))?;
+        let file_type = entry.file_type().map_err(|e| system_fault(e.kind()))?;
         if let Some(kind) = kind_of(file_type) {
             let name = String::from_str(alloc, entry.file_name())?;
             names.insert(name, kind)?;
@@ -119,22 +119,12 @@ fn kind_of(file_type: FileType) -> Option<EntryKind>
 
 /// The fault of an error in reading the next name of a folder: here alone a name that is not valid is one
 /// that is not UTF-8.
-fn listing_fault(error: &io::Error) -> Fault
-    ensures { IsListingFault result }
+fn listing_fault(kind: ErrorKind) -> Fault
+    ensures { result ≡ listing_fault kind }
 {
-    match error.kind() {
+    match kind {
         ErrorKind::InvalidFilename => Fault::Make(MakeError::BadPath),
-        _ => opening_fault(error),
-    }
-}
-
-/// The fault of an error in opening a folder, or in asking what an entry is.
-fn opening_fault(error: &io::Error) -> Fault
-    ensures { (result ≡ device) ⊎ (result ≡ out_of_memory) }
-{
-    match error.kind() {
-        ErrorKind::OutOfMemory => Fault::OutOfMemory,
-        _ => Fault::Device,
+        _ => system_fault(kind),
     }
 }
 

@@ -6,9 +6,9 @@ ghost use Rattle.bt_tree.specs.Limits.{full_block_length, max_piece_layer};
 ghost use Rattle.btseed.specs.Reader.{LosesFront, EndsEarly};
 ghost use Rattle.btseed.specs.Pieces.{piece_size, GivesPiece};
 
-use crate::fault::DeviceFault;
 use crate::file_hash::FileHash;
 use crate::reader::{BUFFER_LEN, read_node};
+use bt_disk::DeviceFault;
 use bt_tree::{Geometry, Hash32, RootBuilder, is_piece_length, piece_layer};
 use std::io::Read;
 

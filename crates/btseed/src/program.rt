@@ -162,10 +162,7 @@ fn perform_check<R: Files + AllocGlobal + Clone + Drop, O: Write>(
     let mut buffer = [0; BUFFER_LEN];
     let torrent = load(rt, source, &mut buffer)?;
     let summary = check(rt, &torrent, dir, writer)?;
-    if summary.faulty {
-        return Err(Fault::Device);
-    }
-    Ok(if summary.complete { 0 } else { 1 })
+    summary.outcome()
 }
 
 /// Prints help, or why the words are refused.
@@ -182,6 +179,7 @@ fn explain<O: Write, E: Write>(error: &Error, writer: &mut O, faults: &mut E) ->
         Ok(2)
     } else {
         write!(writer, "{error}").map_err(|_| Fault::Device)?;
+        writer.flush().map_err(|_| Fault::Device)?;
         Ok(0)
     }
 }

@@ -4,8 +4,8 @@ ghost use Rattle.bt_tree.specs.RootBuilder.{first_block, node_end};
 ghost use Rattle.bt_tree.specs.Limits.{full_block_length};
 ghost use Rattle.btseed.specs.Reader.{EndsEarly, Gives, GivesNode, LosesFront, TellsMore};
 
-use crate::fault::DeviceFault;
 use crate::file_hash::FileHash;
+use bt_disk::DeviceFault;
 use bt_tree::{BLOCK_LEN, Hash32, RootBuilder};
 use std::io::{ErrorKind, Read};
 

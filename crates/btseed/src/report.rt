@@ -3,7 +3,7 @@ ghost use Rattle.std.specs.Prelude.{◌≡◌, ◌++◌, ◌⊎◌, ◌&&◌, �
 ghost use Rattle.std.specs.Io.KnownBytes.{Appends};
 ghost use Rattle.btseed.specs.Fault.{device, out_of_memory};
 ghost use Rattle.btseed.specs.Finding.{is_complete_finding};
-ghost use Rattle.btseed.specs.Report.{file_line, finding_line, last_line};
+ghost use Rattle.btseed.specs.Report.{check_outcome, file_line, finding_line, last_line};
 
 use crate::data_file::Finding;
 use crate::display::display_path;
@@ -37,6 +37,19 @@ impl Summary {
         Summary {
             complete: self.complete && finding.is_complete(),
             faulty: self.faulty || finding.faulty,
+        }
+    }
+
+    /// What a check comes to that found this: the status of the program, or the fault of a device.
+    pub fn outcome(self) -> Result<u8, Fault>
+        ensures { result ≡ check_outcome self }
+    {
+        if self.faulty {
+            Err(Fault::Device)
+        } else if self.complete {
+            Ok(0)
+        } else {
+            Ok(1)
         }
     }
 }

@@ -1,7 +1,7 @@
 //! Reading torrents from files.
-ghost use Rattle.std.specs.Prelude.{◌≡◌, ◌⊎◌, ◌+◌, ◌^◌, take, IfOk, IfErr, IfSome};
+ghost use Rattle.std.specs.Prelude.{◌≡◌, ◌⊎◌, ◌+◌, IfOk, IfErr, IfSome};
 ghost use Rattle.bt_meta.specs.Limits.{max_text_length};
-ghost use Rattle.btseed.specs.TorrentFile.{HasText, IsLoadFault};
+ghost use Rattle.btseed.specs.TorrentFile.{HasText, IsLoadFault, IsSourceFault, IsTorrentOfText, text_in};
 ghost use Rattle.btseed.specs.Reader.{Gives};
 ghost use Rattle.btseed.specs.Fault.{device, out_of_memory};
 
@@ -24,11 +24,27 @@ pub fn load<R: Files + AllocGlobal>(
     ensures fault { IfErr result (IsLoadFault source.entry.is_info) }
 {
     let mut file = fs::open(rt, source.path).map_err(|_| Fault::Device)?;
-    let text = read_text(rt.alloc(), &mut file, buffer)?;
-    if source.is_info {
-        Ok(read_info(rt.alloc(), &text)?)
+    read_source(rt.alloc(), &mut file, source.is_info, buffer)
+}
+
+/// Reads a torrent, or the info dictionary of one alone, from what a reader has.
+fn read_source<R: Read>(
+    alloc: Global,
+    reader: &mut R,
+    is_info: bool,
+    buffer: &mut [u8; BUFFER_LEN],
+) -> Result<Torrent, Fault>
+    ensures torrent { IfSome (R.remaining reader.old)
+        (λ bytes. IfOk result (IsTorrentOfText is_info (text_in bytes))) }
+    ensures refusal { IfSome (R.remaining reader.old) (λ bytes. IfErr result (IsSourceFault is_info bytes)) }
+    ensures some_torrent { IfOk result (HasText is_info) }
+    ensures some_fault { IfErr result (IsLoadFault is_info) }
+{
+    let text = read_text(alloc, reader, buffer)?;
+    if is_info {
+        Ok(read_info(alloc, &text)?)
     } else {
-        Ok(read_torrent(rt.alloc(), &text)?)
+        Ok(read_torrent(alloc, &text)?)
     }
 }
 
@@ -40,7 +56,7 @@ pub fn read_text<R: Read>(
 ) -> Result<Vec<u8>, Fault>
     ensures told { IfSome
         (R.remaining reader.old)
-        (λ bytes. IfOk result (λ text. text.items ≡ take (max_text_length + 1) bytes)) }
+        (λ bytes. IfOk result (λ text. text.items ≡ text_in bytes)) }
     ensures given { IfOk result
         (λ text. Gives (R.remaining reader.old) (R.remaining reader.new) (max_text_length + 1) text.items) }
     ensures fault { IfErr result (λ fault. (fault ≡ device) ⊎ (fault ≡ out_of_memory)) }

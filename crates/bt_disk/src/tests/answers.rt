@@ -1,7 +1,7 @@
 //! What a file makes of the system's answers.
 
 use super::system::{Counts, Manner, System, expect_file, file_with};
-use super::tools::{Step, confirm, folder, make, path_in};
+use super::tools::{Step, confirm, expect_fault, expect_read, folder, make, path_in};
 use crate::{DeviceFault, Disk, FileDisk, HandlePool, PooledDisk};
 use std::fs;
 use std::test::Fail;
@@ -21,6 +21,14 @@ fn opened<'a>(
     FileDisk::writing(&system, path)
 }
 
+/// Reads twice of a file of `abcdefgh`, and writes over its end.
+fn read_and_write<D: Disk>(disk: &mut D) -> Result<(), Fail> {
+    expect_read(disk, 1, 5, b"bcdef")?;
+    expect_read(disk, 0, 12, b"abcdefgh")?;
+    make(disk, Step::Write(6, b"12345"))?;
+    Ok(())
+}
+
 /// Short and interrupted reads and writes are made whole.
 #[test]
 fn a_read_or_write_in_parts_is_whole(rt: HostRuntime) -> Result<(), Fail> {
@@ -28,13 +36,7 @@ fn a_read_or_write_in_parts_is_whole(rt: HostRuntime) -> Result<(), Fail> {
     let path = file_with(&rt, top.as_str(), b"abcdefgh")?;
     let counts = Counts::new();
     let mut disk = opened(&rt, Manner::Parts, &counts, path.as_str())?;
-    let mut five = [0; 5];
-    confirm(disk.read_at(1, &mut five)? == 5, "a short read")?;
-    confirm(five == *b"bcdef", "other bytes")?;
-    let mut out = [0; 12];
-    confirm(disk.read_at(0, &mut out)? == 8, "another count at the end")?;
-    confirm(out == *b"abcdefgh\0\0\0\0", "other bytes at the end")?;
-    disk.write_at(6, b"12345")?;
+    read_and_write(&mut disk)?;
     expect_file(&rt, path.as_str(), b"abcdef12345")?;
     fs::remove_dir_all(&rt, top.as_str())?;
     Ok(())
@@ -47,11 +49,8 @@ fn a_fault_in_mid_read_is_a_fault(rt: HostRuntime) -> Result<(), Fail> {
     let path = file_with(&rt, top.as_str(), b"abcdefgh")?;
     let counts = Counts::new();
     let mut disk = opened(&rt, Manner::ReadFaults, &counts, path.as_str())?;
-    let mut out = [0; 8];
-    confirm(disk.read_at(0, &mut out).is_err(), "half a read")?;
-    let mut four = [0; 4];
-    confirm(disk.read_at(3, &mut four)? == 4, "a short read")?;
-    confirm(four == *b"defg", "other bytes")?;
+    expect_fault(&mut disk, Step::Read(0, 8))?;
+    expect_read(&mut disk, 3, 4, b"defg")?;
     fs::remove_dir_all(&rt, top.as_str())?;
     Ok(())
 }
@@ -63,15 +62,18 @@ fn a_refused_call_is_a_fault(rt: HostRuntime) -> Result<(), Fail> {
     let path = file_with(&rt, top.as_str(), b"abc")?;
     let counts = Counts::new();
     let mut disk = opened(&rt, Manner::Full, &counts, path.as_str())?;
-    let mut out = [0; 3];
-    confirm(disk.write_at(1, b"xy").is_err(), "a write without space")?;
-    confirm(disk.read_at(0, &mut out)? == 3, "a short read")?;
+    expect_fault(&mut disk, Step::Write(1, b"xy"))?;
+    expect_read(&mut disk, 0, 3, b"abc")?;
     let mut disk = opened(&rt, Manner::Broken, &counts, path.as_str())?;
-    confirm(disk.read_at(2, &mut out).is_err(), "a read without a place")?;
-    confirm(disk.read_at(3, &mut out)? == 0, "bytes past the end")?;
-    confirm(disk.write_at(0, b"x").is_err(), "a write without a place")?;
-    confirm(disk.set_len(1).is_err(), "another length")?;
-    confirm(disk.sync().is_err(), "a sync that was refused")?;
+    expect_read(&mut disk, 3, 3, b"")?;
+    for step in [
+        Step::Read(2, 3),
+        Step::Write(0, b"x"),
+        Step::SetLen(1),
+        Step::Sync,
+    ] {
+        expect_fault(&mut disk, step)?;
+    }
     expect_file(&rt, path.as_str(), b"abc")?;
     fs::remove_dir_all(&rt, top.as_str())?;
     Ok(())
@@ -163,10 +165,9 @@ fn a_call_of_an_open_file_of_a_pool_makes_no_more(rt: HostRuntime) -> Result<(),
 
 /// Reads a byte of the devices at these places, in turn.
 fn read_in_turn(disks: &mut [PooledDisk<System<'_>>], places: &[usize]) -> Result<(), Fail> {
-    let mut out = [0; 1];
     for place in places {
         let disk = disks.get_mut(*place).ok_or("no such device")?;
-        confirm(disk.read_at(0, &mut out)? == 1, "a short read")?;
+        expect_read(disk, 0, 1, b"a")?;
     }
     Ok(())
 }

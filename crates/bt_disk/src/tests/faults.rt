@@ -104,9 +104,31 @@ fn the_settings_stand_side_by_side(rt: HostRuntime) -> Result<(), Fail> {
         disk.sync().is_err() && disk.sync().is_err(),
         "the last calls did not fail",
     )?;
-    // A setting whose call was made before has no effect.
-    let mut disk = disk.failing_from(3).failing_once(4);
-    disk.sync()?;
-    disk.sync()?;
+    Ok(())
+}
+
+/// Makes a sync for each of these answers, which say whether it is to succeed.
+fn expect_syncs<D: Disk>(disk: &mut D, answers: &[bool]) -> Result<(), Fail> {
+    for answer in answers {
+        confirm(disk.sync().is_ok() == *answer, "another call failed")?;
+    }
+    Ok(())
+}
+
+#[test]
+fn a_setting_whose_call_is_past_has_no_effect(rt: HostRuntime) -> Result<(), Fail> {
+    let mut disk = FaultDisk::new(empty_disk(&rt))
+        .failing_once(4)
+        .failing_from(6);
+    expect_syncs(&mut disk, &[true, true, true])?;
+    // Those of calls 4 and 6 are still to come, and stay.
+    let mut disk = disk.failing_once(3).failing_from(1);
+    expect_syncs(&mut disk, &[false, true, false])?;
+    // So does that of call 6, now that it is at work.
+    let mut disk = disk.failing_once(6).failing_from(5);
+    expect_syncs(&mut disk, &[false, false])?;
+    // One that is still to come takes its place.
+    let mut disk = disk.failing_from(10);
+    expect_syncs(&mut disk, &[true, false])?;
     Ok(())
 }

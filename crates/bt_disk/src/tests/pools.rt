@@ -1,11 +1,27 @@
 //! Files that share a few open handles.
 
-use super::tools::{confirm, folder, path_in};
-use crate::{Disk, HandlePool, PooledDisk};
+use super::tools::{confirm, expect_len, expect_read, folder, path_in};
+use crate::{DeviceFault, Disk, HandlePool, PooledDisk};
 use std::fs;
 use std::test::Fail;
 
 const DISKS: u32 = 2000;
+
+/// Writes the byte of a number, at the place of that number.
+fn put_byte<D: Disk>(disk: &mut D, number: u32) -> Result<(), DeviceFault> {
+    disk.write_at(number as u64, &[(number % 251) as u8])
+}
+
+/// A device with a byte of its own at the place of its number.
+fn device_with_byte(
+    pool: &mut HandlePool<HostRuntime>,
+    path: String,
+    number: u32,
+) -> Result<PooledDisk<HostRuntime>, Fail> {
+    let mut disk = pool.writing(path)?;
+    put_byte(&mut disk, number)?;
+    Ok(disk)
+}
 
 /// Makes the devices of a folder, each with a byte of its own at its place.
 fn devices(
@@ -16,21 +32,21 @@ fn devices(
     let mut disks = Vec::new(rt.alloc());
     for number in 0..DISKS {
         let path = format!(in rt.alloc(); "{top}/{number}")?;
-        let mut disk = pool.writing(path)?;
-        disk.write_at(number as u64, &[(number % 251) as u8])?;
-        disks.push(disk)?;
+        disks.push(device_with_byte(pool, path, number)?)?;
     }
     Ok(disks)
 }
 
+/// Expects the byte of a number as the last one.
+fn expect_byte<D: Disk>(disk: &mut D, number: u32) -> Result<(), Fail> {
+    expect_len(disk, number as u64 + 1)?;
+    expect_read(disk, number as u64, 2, &[(number % 251) as u8])
+}
+
 /// Reads of device `number` what was written there.
 fn read_back(disks: &mut Vec<PooledDisk<HostRuntime>>, number: u32) -> Result<(), Fail> {
-    let mut out = [0; 2];
     let disk = disks.get_mut(number as usize).ok_or("no such device")?;
-    confirm(disk.len()? == number as u64 + 1, "another length")?;
-    confirm(disk.read_at(number as u64, &mut out)? == 1, "a short read")?;
-    confirm(out[0] == (number % 251) as u8, "another byte")?;
-    Ok(())
+    expect_byte(disk, number)
 }
 
 #[test]

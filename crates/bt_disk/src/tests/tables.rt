@@ -1,6 +1,6 @@
 //! One table of calls, with the bytes after each, over all devices.
 
-use super::tools::{Step, bytes_of, confirm, folder, make, path_in};
+use super::tools::{Step, bytes_of, confirm, expect_read, folder, make, path_in};
 use crate::{Disk, FaultDisk, FileDisk, HandlePool, MemoryDisk};
 use std::fs;
 use std::fs::File;
@@ -46,11 +46,8 @@ const READS: [(u64, usize, &[u8]); 7] = [
 ];
 
 fn make_reads<D: Disk>(disk: &mut D) -> Result<(), Fail> {
-    for (at, wanted, bytes) in READS {
-        let mut out = [9; 4];
-        let count = disk.read_at(at, &mut out[..wanted.min(4)])?;
-        let found = &out[..count];
-        confirm(found == bytes, "other bytes of a read")?;
+    for (at, asked, bytes) in READS {
+        expect_read(disk, at, asked, bytes)?;
     }
     Ok(())
 }

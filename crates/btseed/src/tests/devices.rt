@@ -1,7 +1,7 @@
 //! Devices that fail: a runtime that stands in for the file system.
 
-use super::steps::{expect_bytes, expect_entries};
-use super::tools::{confirm, expect, folder, front, path_in, put, put_folder, three_blocks};
+use super::steps::{Step, expect_bytes, expect_entries, play_in, set_up};
+use super::tools::{confirm, expect, folder, front, path_in, remove_folder, three_blocks};
 use crate::atomic_file::replace_file;
 use crate::fault::Fault;
 use crate::folder::files_in;
@@ -9,7 +9,7 @@ use crate::make::open_file;
 use crate::paths::found_path;
 use bt_meta::MakeError;
 use std::alloc::{AllocError, Allocator, Global};
-use std::fs::{self, File, Metadata, OpenFile, OpenOptions};
+use std::fs::{File, Metadata, OpenFile, OpenOptions};
 use std::io::{self, ErrorKind, Read, Seek, SeekFrom, Write};
 use std::path::PathBuf;
 use std::rt::Files;
@@ -203,44 +203,60 @@ fn expect_written(
     expect_entries(rt, top, "", 1)
 }
 
-#[test]
-fn a_file_that_is_not_written_stays(rt: HostRuntime) -> Result<(), Fail> {
-    let top = folder(&rt, "stays")?;
-    put(&rt, top.as_str(), "kept", b"old")?;
-    for failing in [
-        Failing::Writes,
-        Failing::Flushes,
-        Failing::Syncs,
-        Failing::Renames,
-    ] {
-        expect_written(&rt, top.as_str(), failing, Err(Fault::Device), b"old")?;
+const KEPT: &[Failing] = &[
+    Failing::Writes,
+    Failing::Flushes,
+    Failing::Syncs,
+    Failing::Renames,
+];
+
+fn expect_kept(rt: &HostRuntime, top: &str) -> Result<(), Fail> {
+    for failing in KEPT {
+        expect_written(rt, top, *failing, Err(Fault::Device), b"old")?;
     }
-    expect_written(&rt, top.as_str(), Failing::Nothing, Ok(()), b"new")?;
-    fs::remove_dir_all(&rt, top.as_str())?;
     Ok(())
 }
 
 #[test]
+fn a_file_that_is_not_written_stays(rt: HostRuntime) -> Result<(), Fail> {
+    let top = set_up(&rt, "stays", &[Step::File("kept", b"old")])?;
+    expect_kept(&rt, top.as_str())?;
+    expect_written(&rt, top.as_str(), Failing::Nothing, Ok(()), b"new")?;
+    remove_folder(&rt, top.as_str())
+}
+
+/// Writes over the file `kept`, and expects that it succeeds or not, and these bytes in it after.
+fn expect_replaced(
+    rt: &HostRuntime,
+    top: &str,
+    failing: Failing,
+    succeeds: bool,
+    bytes: &[u8],
+) -> Result<(), Fail> {
+    let path = path_in(rt, top, "kept")?;
+    let found = replace_file(&Device::new(rt, failing), path.as_str(), b"new");
+    confirm(found.is_ok() == succeeds, "another answer")?;
+    expect_bytes(rt, top, "kept", bytes)
+}
+
+#[test]
 fn a_part_file_that_is_there_stays(rt: HostRuntime) -> Result<(), Fail> {
-    let top = folder(&rt, "parts")?;
-    let top = top.as_str();
-    put(&rt, top, "kept", b"old")?;
-    put(&rt, top, ".btseed-0.part", b"one")?;
-    put(&rt, top, ".btseed-1.part", b"two")?;
-    let path = path_in(&rt, top, "kept")?;
-    for (failing, kept) in [(Failing::Renames, b"old"), (Failing::Nothing, b"new")] {
-        let found = replace_file(&Device::new(&rt, failing), path.as_str(), b"new");
-        confirm(
-            found.is_ok() == (failing == Failing::Nothing),
-            "another answer",
-        )?;
-        expect_bytes(&rt, top, "kept", kept)?;
-        expect_bytes(&rt, top, ".btseed-0.part", b"one")?;
-        expect_bytes(&rt, top, ".btseed-1.part", b"two")?;
-        expect_entries(&rt, top, "", 3)?;
-    }
-    fs::remove_dir_all(&rt, top)?;
-    Ok(())
+    let put_down = [
+        Step::File("kept", b"old"),
+        Step::File(".btseed-0.part", b"one"),
+        Step::File(".btseed-1.part", b"two"),
+    ];
+    let stays = [
+        Step::Has(".btseed-0.part", b"one"),
+        Step::Has(".btseed-1.part", b"two"),
+        Step::Entries("", 3),
+    ];
+    let top = set_up(&rt, "parts", &put_down)?;
+    expect_replaced(&rt, top.as_str(), Failing::Renames, false, b"old")?;
+    play_in(&rt, top.as_str(), &stays)?;
+    expect_replaced(&rt, top.as_str(), Failing::Nothing, true, b"new")?;
+    play_in(&rt, top.as_str(), &stays)?;
+    remove_folder(&rt, top.as_str())
 }
 
 /// The path of a name below a folder.
@@ -248,66 +264,73 @@ fn data_file(rt: &HostRuntime, top: &str, name: &str) -> Result<PathBuf, AllocEr
     found_path(rt.alloc(), top, &[String::from_str(rt.alloc(), name)?])
 }
 
+/// Expects that what stands at `pipe` is not replaced.
+fn expect_not_replaced(rt: &HostRuntime, top: &str) -> Result<(), Fail> {
+    let path = path_in(rt, top, "pipe")?;
+    let written = replace_file(&Device::new(rt, Failing::Nothing), path.as_str(), b"new");
+    confirm(written == Err(Fault::Device), "it is replaced")?;
+    expect_bytes(rt, top, "pipe", b"old")?;
+    expect_entries(rt, top, "", 1)
+}
+
 /// What is at the paths is a device, and a file in its place would be whole.
 #[test]
 fn what_is_no_regular_file_is_not_replaced(rt: HostRuntime) -> Result<(), Fail> {
-    let top = folder(&rt, "pipe")?;
-    let top = top.as_str();
-    put(&rt, top, "pipe", b"old")?;
-    let path = path_in(&rt, top, "pipe")?;
-    let written = replace_file(&Device::new(&rt, Failing::Nothing), path.as_str(), b"new");
-    confirm(written == Err(Fault::Device), "it is replaced")?;
-    expect_bytes(&rt, top, "pipe", b"old")?;
-    expect_entries(&rt, top, "", 1)?;
-    fs::remove_dir_all(&rt, top)?;
-    Ok(())
+    let top = set_up(&rt, "pipe", &[Step::File("pipe", b"old")])?;
+    expect_not_replaced(&rt, top.as_str())?;
+    remove_folder(&rt, top.as_str())
 }
+
+const PIPE_HASH: &str =
+    "infohash 8f53afa3f000da0fa96bf989b7997ce06588b0c5dbc772bc7dc83e68669bd27f\n";
 
 #[test]
 fn what_is_no_regular_file_is_not_checked(rt: HostRuntime) -> Result<(), Fail> {
-    let top = folder(&rt, "unopened")?;
-    put_folder(&rt, top.as_str(), "files")?;
-    put(&rt, top.as_str(), "files/pipe", b"old")?;
-    let make = "make @/files @/t --name n --piece-length 16384";
-    let made = "infohash 8f53afa3f000da0fa96bf989b7997ce06588b0c5dbc772bc7dc83e68669bd27f\n";
-    expect(&rt, top.as_str(), make, 0, made, "")?;
-    let fault = "btseed: device fault\n";
-    expect_check(&rt, top.as_str(), Failing::Nothing, 3, "", fault)?;
-    fs::remove_dir_all(&rt, top.as_str())?;
+    let steps = [
+        Step::Folder("files"),
+        Step::File("files/pipe", b"old"),
+        Step::Run(MAKE_CHECKED, 0, PIPE_HASH),
+    ];
+    let top = set_up(&rt, "unopened", &steps)?;
+    expect_check(&rt, top.as_str(), Failing::Nothing, 3, "", DEVICE_FAULT)?;
+    remove_folder(&rt, top.as_str())
+}
+
+/// Expects that what stands at `pipe` is opened where it is a file, and not where it is a device.
+fn expect_opened(rt: &HostRuntime, top: &str) -> Result<(), Fail> {
+    let path = data_file(rt, top, "pipe")?;
+    let opened = open_file(&Device::new(rt, Failing::Nothing), path.as_path());
+    confirm(opened.err() == Some(Fault::Device), "it is opened")?;
+    let opened = open_file(rt, path.as_path());
+    confirm(opened.is_ok(), "a file is not opened")?;
     Ok(())
 }
 
 #[test]
 fn what_is_no_regular_file_is_not_digested(rt: HostRuntime) -> Result<(), Fail> {
-    let top = folder(&rt, "digest")?;
-    put(&rt, top.as_str(), "pipe", b"old")?;
-    let path = data_file(&rt, top.as_str(), "pipe")?;
-    let opened = open_file(&Device::new(&rt, Failing::Nothing), path.as_path());
-    confirm(opened.err() == Some(Fault::Device), "it is opened")?;
-    let opened = open_file(&rt, path.as_path());
-    confirm(opened.is_ok(), "a file is not opened")?;
-    fs::remove_dir_all(&rt, top.as_str())?;
-    Ok(())
+    let top = set_up(&rt, "digest", &[Step::File("pipe", b"old")])?;
+    expect_opened(&rt, top.as_str())?;
+    remove_folder(&rt, top.as_str())
 }
+
+const MAKE_CHECKED: &str = "make @/files @/t --name n --piece-length 16384";
+
+const CHECKED_HASH: &str =
+    "infohash 7ec7172cdd49fe657144b07afdc9c247fbafa78b1748b44e1e2ae6d47e9d633a\n";
+
+const DEVICE_FAULT: &str = "btseed: device fault\n";
 
 /// A folder with the files `a`, `b` and `last`, of one, three and one block, and a torrent of them.
 fn checked_folder(rt: &HostRuntime, name: &str) -> Result<String, Fail> {
-    let top = folder(rt, name)?;
     let file = three_blocks(rt.alloc())?;
-    put_folder(rt, top.as_str(), "files")?;
-    put(rt, top.as_str(), "files/a", b"abc")?;
-    put(rt, top.as_str(), "files/b", front(&file, 49152))?;
-    put(rt, top.as_str(), "files/last", b"abc")?;
-    let made = "infohash 7ec7172cdd49fe657144b07afdc9c247fbafa78b1748b44e1e2ae6d47e9d633a\n";
-    expect(
-        rt,
-        top.as_str(),
-        "make @/files @/t --name n --piece-length 16384",
-        0,
-        made,
-        "",
-    )?;
-    Ok(top)
+    let steps = [
+        Step::Folder("files"),
+        Step::File("files/a", b"abc"),
+        Step::File("files/b", front(&file, 49152)),
+        Step::File("files/last", b"abc"),
+        Step::Run(MAKE_CHECKED, 0, CHECKED_HASH),
+    ];
+    set_up(rt, name, &steps)
 }
 
 /// Checks the folder over a file system of which some calls fail, and expects this status, output and fault.
@@ -328,20 +351,16 @@ fn a_read_that_fails_is_told_after_the_report(rt: HostRuntime) -> Result<(), Fai
     let top = checked_folder(&rt, "reads")?;
     let whole = "complete a\ncomplete b\ncomplete last\ncomplete\n";
     let part = "complete a\n2 of 3 b\ncomplete last\nnot complete\n";
-    let fault = "btseed: device fault\n";
     expect_check(&rt, top.as_str(), Failing::Nothing, 0, whole, "")?;
-    expect_check(&rt, top.as_str(), Failing::Reads, 3, part, fault)?;
-    fs::remove_dir_all(&rt, top.as_str())?;
-    Ok(())
+    expect_check(&rt, top.as_str(), Failing::Reads, 3, part, DEVICE_FAULT)?;
+    remove_folder(&rt, top.as_str())
 }
 
 #[test]
 fn a_file_that_cannot_be_opened_ends_a_check_unwritten(rt: HostRuntime) -> Result<(), Fail> {
     let top = checked_folder(&rt, "opens")?;
-    let fault = "btseed: device fault\n";
-    expect_check(&rt, top.as_str(), Failing::Opens, 3, "", fault)?;
-    fs::remove_dir_all(&rt, top.as_str())?;
-    Ok(())
+    expect_check(&rt, top.as_str(), Failing::Opens, 3, "", DEVICE_FAULT)?;
+    remove_folder(&rt, top.as_str())
 }
 
 /// Why no files are found in a folder that lists these names, of files that are not there.
@@ -354,22 +373,23 @@ fn fault_of_names(rt: &HostRuntime, dir: &str, names: &[u8]) -> Option<Fault> {
     files_in(&device, dir).err()
 }
 
+/// Expects that names that are no text are refused, and that those of no file are device faults.
+fn expect_refused_names(rt: &HostRuntime, dir: &str, long: &[u8]) -> Result<(), Fail> {
+    let bad = Some(Fault::Make(MakeError::BadPath));
+    let device = Some(Fault::Device);
+    confirm(fault_of_names(rt, dir, b"\xff\0") == bad, "a byte")?;
+    confirm(fault_of_names(rt, dir, b"a\xc3\0") == bad, "half a letter")?;
+    confirm(fault_of_names(rt, dir, b"a\0") == device, "no file")?;
+    confirm(fault_of_names(rt, dir, long) == device, "a long name")?;
+    confirm(fault_of_names(rt, dir, b"").is_none(), "no name")?;
+    Ok(())
+}
+
 #[test]
 fn a_name_that_is_no_text_is_refused(rt: HostRuntime) -> Result<(), Fail> {
     let top = folder(&rt, "names")?;
-    let dir = top.as_str();
-    let bad = Some(Fault::Make(MakeError::BadPath));
-    let device = Some(Fault::Device);
     let long = "n".repeat(rt.alloc(), 256)?;
     let long = format!(in rt.alloc(); "{long}\0")?;
-    confirm(fault_of_names(&rt, dir, b"\xff\0") == bad, "a byte")?;
-    confirm(fault_of_names(&rt, dir, b"a\xc3\0") == bad, "half a letter")?;
-    confirm(fault_of_names(&rt, dir, b"a\0") == device, "no file")?;
-    confirm(
-        fault_of_names(&rt, dir, long.as_bytes()) == device,
-        "a long name",
-    )?;
-    confirm(fault_of_names(&rt, dir, b"").is_none(), "no name")?;
-    fs::remove_dir_all(&rt, dir)?;
-    Ok(())
+    expect_refused_names(&rt, top.as_str(), long.as_bytes())?;
+    remove_folder(&rt, top.as_str())
 }

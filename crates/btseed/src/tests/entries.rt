@@ -3,7 +3,7 @@
 use super::check::many_blocks;
 use super::tools::{THREE_INFO, THREE_ROOT, confirm, digest, front, three_blocks};
 use crate::data_file::Finding;
-use crate::digests::digest_reader;
+use crate::digests::{Digests, digest_reader};
 use crate::entry_check::check_entry;
 use crate::file_hash::FileHash;
 use crate::pieces::PieceSize;
@@ -11,26 +11,39 @@ use crate::reader::BUFFER_LEN;
 use bt_disk::{Disk, FaultDisk, MemoryDisk};
 use bt_meta::{Made, Torrent, make, read_info, read_torrent};
 use bt_sparse::SparseTree;
-use bt_tree::{Geometry, NodeHash, pad};
+use bt_tree::{Geometry, Hash32, NodeHash, pad};
 use std::alloc::Global;
 use std::test::Fail;
 
-/// The torrent of the file of three blocks, with the digests of its pieces, a block each.
-fn torrent_of_pieces(alloc: Global) -> Result<Torrent, Fail> {
+/// The digests of the pieces of the file of three blocks, a block each.
+fn piece_layer(alloc: Global) -> Result<Vec<u8>, Fail> {
     let file = three_blocks(alloc)?;
     let mut layer = Vec::new(alloc);
     for block in front(&file, 49152).chunks(16384) {
         layer.extend_from_slice(&FileHash.block(block))?;
     }
-    let path = vec![in alloc; String::from_str(alloc, "f")?]?;
+    Ok(layer)
+}
+
+/// The text of the torrent of the file of three blocks, with the digests of its pieces.
+fn text_of_pieces(alloc: Global) -> Result<Vec<u8>, Fail> {
     let made = Made {
-        path,
+        path: vec![in alloc; String::from_str(alloc, "f")?]?,
         length: 49152,
         root: digest(THREE_ROOT)?,
-        layer,
+        layer: piece_layer(alloc)?,
     };
-    let text = make(alloc, b"f", 16384, &[made])?;
+    Ok(make(alloc, b"f", 16384, &[made])?)
+}
+
+fn torrent_of_pieces(alloc: Global) -> Result<Torrent, Fail> {
+    let text = text_of_pieces(alloc)?;
     Ok(read_torrent(alloc, &text)?)
+}
+
+/// The torrent of the file of three blocks, with no digests of its pieces.
+fn torrent_of_the_whole(alloc: Global) -> Result<Torrent, Fail> {
+    Ok(read_info(alloc, THREE_INFO)?)
 }
 
 /// What is found of a device as the one file of a torrent.
@@ -68,24 +81,43 @@ fn expect_found(
     Ok(())
 }
 
+/// A device that has so many bytes of the file, one of which is changed, and what is found of it: so many
+/// blocks that are marked, and whether it is longer.
+type Case = (usize, usize, u32, bool);
+
+/// The byte of no device.
+const NONE: usize = usize::MAX;
+
+const BY_PIECES: &[Case] = &[
+    (49152, NONE, 3, false),
+    (49153, NONE, 3, true),
+    (49151, NONE, 2, false),
+    (49152, 20000, 2, false),
+    (49153, 49152, 3, true),
+    (0, NONE, 0, false),
+];
+
+const BY_THE_WHOLE: &[Case] = &[
+    (49152, NONE, 3, false),
+    (49153, NONE, 3, true),
+    (49151, NONE, 0, false),
+    (49153, 20000, 0, true),
+    (0, NONE, 0, false),
+];
+
+fn expect_cases(alloc: Global, torrent: &Torrent, cases: &[Case]) -> Result<(), Fail> {
+    for (length, changed, marked, longer) in cases {
+        let wanted = three(*marked, *longer, false);
+        expect_found(alloc, torrent, *length, *changed, wanted)?;
+    }
+    Ok(())
+}
+
 #[test]
 fn a_device_is_checked_by_its_bytes(rt: HostRuntime) -> Result<(), Fail> {
     let alloc = rt.alloc();
-    let none = usize::MAX;
-    let pieces = torrent_of_pieces(alloc)?;
-    expect_found(alloc, &pieces, 49152, none, three(3, false, false))?;
-    expect_found(alloc, &pieces, 49153, none, three(3, true, false))?;
-    expect_found(alloc, &pieces, 49151, none, three(2, false, false))?;
-    expect_found(alloc, &pieces, 49152, 20000, three(2, false, false))?;
-    expect_found(alloc, &pieces, 49153, 49152, three(3, true, false))?;
-    expect_found(alloc, &pieces, 0, none, three(0, false, false))?;
-    let whole = read_info(alloc, THREE_INFO)?;
-    expect_found(alloc, &whole, 49152, none, three(3, false, false))?;
-    expect_found(alloc, &whole, 49153, none, three(3, true, false))?;
-    expect_found(alloc, &whole, 49151, none, three(0, false, false))?;
-    expect_found(alloc, &whole, 49153, 20000, three(0, true, false))?;
-    expect_found(alloc, &whole, 0, none, three(0, false, false))?;
-    Ok(())
+    expect_cases(alloc, &torrent_of_pieces(alloc)?, BY_PIECES)?;
+    expect_cases(alloc, &torrent_of_the_whole(alloc)?, BY_THE_WHOLE)
 }
 
 /// A device of the file.
@@ -123,30 +155,40 @@ fn each_call_of_a_check_may_fail(rt: HostRuntime) -> Result<(), Fail> {
     let alloc = rt.alloc();
     let found = found_of_faults(alloc, &torrent_of_pieces(alloc)?)?;
     confirm(found == found_in_turn(3, 2), "another finding of pieces")?;
-    let found = found_of_faults(alloc, &read_info(alloc, THREE_INFO)?)?;
+    let found = found_of_faults(alloc, &torrent_of_the_whole(alloc)?)?;
     confirm(found == found_in_turn(3, 0), "another finding of the whole")?;
     Ok(())
 }
 
-/// The tree of the file of 65 blocks, of which the digests of its pieces are known, four blocks each.
-fn tree_of_pieces(alloc: Global) -> Result<SparseTree<FileHash>, Fail> {
+/// The digests of the file of 65 blocks, in pieces of four blocks each.
+fn digests_of_pieces(alloc: Global) -> Result<Digests, Fail> {
     let file = many_blocks(alloc)?;
     let mut reader = file.as_slice();
     let mut buffer = [0; BUFFER_LEN];
     let size = PieceSize::new(65536).ok_or("no piece length")?;
     let digests = digest_reader(alloc, &mut reader, 1048577, size, &mut buffer)?;
+    Ok(digests)
+}
+
+/// The tree of the file of 65 blocks, of which the digests of its pieces are known.
+fn tree_of_pieces(alloc: Global) -> Result<SparseTree<FileHash>, Fail> {
+    let digests = digests_of_pieces(alloc)?;
     confirm(digests.layer.len() == 544, "another layer")?;
     let geometry = Geometry::new(1048577).ok_or("no geometry")?;
     let tree = SparseTree::with_layer(alloc, FileHash, geometry, digests.root, 2, &digests.layer)?;
     Ok(tree)
 }
 
+/// The digest of the last piece of the file of 65 blocks, of which one block has a byte.
+fn last_piece() -> Hash32 {
+    let last = FileHash.pair(&FileHash.block(&[64]), &[0; 32]);
+    FileHash.pair(&last, &pad(FileHash, 1))
+}
+
 #[test]
 fn a_layer_tells_its_pieces_and_the_padding(rt: HostRuntime) -> Result<(), Fail> {
     let tree = tree_of_pieces(rt.alloc())?;
-    let last = FileHash.pair(&FileHash.block(&[64]), &[0; 32]);
-    let last_piece = FileHash.pair(&last, &pad(FileHash, 1));
-    assert_eq!(rt; tree.known(2, 16), Some(last_piece));
+    assert_eq!(rt; tree.known(2, 16), Some(last_piece()));
     assert_eq!(rt; tree.known(2, 17), Some(pad(FileHash, 2)));
     assert_eq!(rt; tree.known(1, 0), None);
     Ok(())

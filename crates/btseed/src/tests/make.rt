@@ -1,7 +1,7 @@
 //! The command `make`.
 
-use super::steps::{Step, play};
-use super::tools::{abc_torrent, front, three_blocks};
+use super::steps::{Step, play, play_in, set_up};
+use super::tools::{abc_torrent, front, remove_folder, three_blocks};
 use std::test::Fail;
 
 const ABC_HASH: &str =
@@ -193,6 +193,48 @@ fn a_link_leads_to_the_file_that_is_written(rt: HostRuntime) -> Result<(), Fail>
         Step::Entries("", 6),
     ];
     play(&rt, "links", &steps)
+}
+
+/// Links from `chain/1` to `chain/41`, each to the one before, down to the file `chain/0`.
+fn put_chain(rt: &HostRuntime, top: &str) -> Result<(), Fail> {
+    for number in 0..41u32 {
+        let next = number + 1;
+        let text = format!(in rt.alloc(); "{number}")?;
+        let name = format!(in rt.alloc(); "chain/{next}")?;
+        play_in(rt, top, &[Step::Link(text.as_str(), name.as_str())])?;
+    }
+    Ok(())
+}
+
+/// As many links in a row are followed as the system follows.
+#[test]
+fn forty_links_in_a_row_lead_to_the_file_that_is_written(rt: HostRuntime) -> Result<(), Fail> {
+    let torrent = abc_torrent(rt.alloc())?;
+    let steps = [
+        Step::Folder("files"),
+        Step::File("files/a.txt", b"abc"),
+        Step::Folder("chain"),
+        Step::File("chain/0", b"old"),
+    ];
+    let top = set_up(&rt, "chain", &steps)?;
+    put_chain(&rt, top.as_str())?;
+    let steps = [
+        Step::Fault(
+            "make @/files @/chain/41 --name n",
+            3,
+            "btseed: device fault\n",
+        ),
+        Step::Has("chain/0", b"old"),
+        Step::Run(
+            "make @/files @/chain/40 --name a.txt --piece-length 16384",
+            0,
+            ABC_HASH,
+        ),
+        Step::Has("chain/0", &torrent),
+        Step::LinkHas("chain/40", "39"),
+    ];
+    play_in(&rt, top.as_str(), &steps)?;
+    remove_folder(&rt, top.as_str())
 }
 
 const DEEP_LINES: &str = "complete .hidden

@@ -1,6 +1,6 @@
 //! The reading of files over readers that fail or give little.
 
-use super::tools::{THREE_ROOT, digest, three_blocks};
+use super::tools::{THREE_ROOT, digest, front, three_blocks};
 use crate::digests::digest_reader;
 use crate::fault::Fault;
 use crate::pieces::PieceSize;
@@ -10,6 +10,7 @@ use bt_tree::{Geometry, Hash32};
 use std::alloc::Global;
 use std::io;
 use std::io::{ErrorKind, Read};
+use std::process::Abort;
 use std::test::Fail;
 
 /// A reader of bytes that gives at most so many at a time, is interrupted before each read, and fails at one
@@ -49,19 +50,25 @@ fn slow_reader(bytes: &[u8], most: usize, fails_at: u32) -> Slow<'_> {
 
 const NEVER: u32 = u32::MAX;
 
+fn text_of(alloc: Global, reader: &mut Slow<'_>) -> Result<Vec<u8>, Fault> {
+    let mut buffer = [0; BUFFER_LEN];
+    read_text(alloc, reader, &mut buffer)
+}
+
+/// Expects that the bytes are read whole, at most so many at a time.
+fn expect_whole(rt: &(impl Abort + AllocGlobal), bytes: &[u8], most: usize) -> Result<(), Fail> {
+    let text = text_of(rt.alloc(), &mut slow_reader(bytes, most, NEVER))?;
+    assert_eq!(rt; text.as_slice(), bytes);
+    Ok(())
+}
+
 #[test]
 fn short_reads_go_on(rt: HostRuntime) -> Result<(), Fail> {
     let file = three_blocks(rt.alloc())?;
     for most in [1, 7, 16384, 65536] {
-        let text = text_of(rt.alloc(), &mut slow_reader(&file, most, NEVER))?;
-        assert_eq!(rt; text.as_slice(), file.as_slice());
+        expect_whole(&rt, &file, most)?;
     }
     Ok(())
-}
-
-fn text_of(alloc: Global, reader: &mut Slow<'_>) -> Result<Vec<u8>, Fault> {
-    let mut buffer = [0; BUFFER_LEN];
-    read_text(alloc, reader, &mut buffer)
 }
 
 #[test]
@@ -82,22 +89,29 @@ fn digests_of(alloc: Global, reader: &mut Slow<'_>, length: u64) -> Result<Hash3
     Ok(digests.root)
 }
 
+/// Expects this root, or this fault, of the bytes as a file of this length, of which a read fails.
+fn expect_digested(
+    rt: &(impl Abort + AllocGlobal),
+    bytes: &[u8],
+    length: u64,
+    fails_at: u32,
+    wanted: Result<Hash32, Fault>,
+) {
+    let found = digests_of(rt.alloc(), &mut slow_reader(bytes, 12288, fails_at), length);
+    assert_eq!(rt; found, wanted, "{length} bytes, at read {fails_at}");
+}
+
 #[test]
 fn a_file_that_changes_is_not_digested(rt: HostRuntime) -> Result<(), Fail> {
     let file = three_blocks(rt.alloc())?;
-    let bytes = file.as_slice().get(..49152).ok_or("too short")?;
+    let bytes = front(&file, 49152);
     let root = digest(THREE_ROOT)?;
-    assert_eq!(rt;
-        digests_of(rt.alloc(), &mut slow_reader(bytes, 12288, NEVER), 49152),
-        Ok(root)
-    );
+    expect_digested(&rt, bytes, 49152, NEVER, Ok(root));
     for length in [0, 1, 16384, 16385, 49151, 49153] {
-        let found = digests_of(rt.alloc(), &mut slow_reader(bytes, 12288, NEVER), length);
-        assert_eq!(rt; found, Err(Fault::Device), "{length} bytes");
+        expect_digested(&rt, bytes, length, NEVER, Err(Fault::Device));
     }
     for fails_at in 0..10 {
-        let found = digests_of(rt.alloc(), &mut slow_reader(bytes, 12288, fails_at), 49152);
-        assert_eq!(rt; found, Err(Fault::Device), "at read {fails_at}");
+        expect_digested(&rt, bytes, 49152, fails_at, Err(Fault::Device));
     }
     Ok(())
 }

@@ -28,20 +28,23 @@ fn a_torrent_is_shown(rt: HostRuntime) -> Result<(), Fail> {
     play(&rt, "show", &steps)
 }
 
+/// Names, and how they are shown.
+const SHOWN: &[(&[u8], &str)] = &[
+    (b"a/b.txt", "a/b.txt"),
+    (b"", ""),
+    (b"0x", "0x3078"),
+    (b"a0x ~", "a0x ~"),
+    (b"a\nb", "0x610a62"),
+    (b"\x7f", "0x7f"),
+    (b"\xc3\xbc", "\u{fc}"),
+    (b"\xff", "0xff"),
+];
+
 #[test]
 fn names_are_shown_as_text_or_in_hexadecimal(rt: HostRuntime) -> Result<(), Fail> {
-    let cases: [(&[u8], &str); 8] = [
-        (b"a/b.txt", "a/b.txt"),
-        (b"", ""),
-        (b"0x", "0x3078"),
-        (b"a0x ~", "a0x ~"),
-        (b"a\nb", "0x610a62"),
-        (b"\x7f", "0x7f"),
-        (b"\xc3\xbc", "\u{fc}"),
-        (b"\xff", "0xff"),
-    ];
-    for (name, text) in cases {
-        assert_eq!(rt; display(rt.alloc(), name)?.as_str(), text);
+    for (name, text) in SHOWN {
+        let shown = display(rt.alloc(), name)?;
+        assert_eq!(rt; shown.as_str(), *text);
     }
     Ok(())
 }

@@ -1,6 +1,6 @@
 //! Tests as rows: files that are put down, and runs of the program with what they must answer.
 
-use super::tools::{bytes_of, confirm, expect, folder, path_in, put, put_folder};
+use super::tools::{bytes_of, confirm, expect, folder, path_in, put, put_folder, remove_folder};
 use std::fs;
 use std::os::unix::fs::symlink;
 use std::process::Command;
@@ -35,11 +35,22 @@ pub enum Step<'a> {
 
 /// Does the steps of a test, in a folder of its own.
 pub fn play(rt: &HostRuntime, test: &str, steps: &[Step<'_>]) -> Result<(), Fail> {
+    let top = set_up(rt, test, steps)?;
+    remove_folder(rt, top.as_str())
+}
+
+/// Does the first steps of a test, in a folder of its own, which it leaves.
+pub fn set_up(rt: &HostRuntime, test: &str, steps: &[Step<'_>]) -> Result<String, Fail> {
     let top = folder(rt, test)?;
+    play_in(rt, top.as_str(), steps)?;
+    Ok(top)
+}
+
+/// Does steps of a test, in its folder.
+pub fn play_in(rt: &HostRuntime, top: &str, steps: &[Step<'_>]) -> Result<(), Fail> {
     for step in steps {
-        step_in(rt, top.as_str(), step)?;
+        step_in(rt, top, step)?;
     }
-    fs::remove_dir_all(rt, top.as_str())?;
     Ok(())
 }
 

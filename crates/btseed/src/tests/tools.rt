@@ -4,6 +4,7 @@ use crate::program::run;
 use bt_tree::Hash32;
 use hex::FromHex;
 use std::alloc::{AllocError, Global};
+use std::io::Write;
 use std::rt::Files;
 use std::test::Fail;
 use std::{env, fs, process};
@@ -14,6 +15,12 @@ pub fn folder(rt: &HostRuntime, name: &str) -> Result<String, Fail> {
     let _ = fs::remove_dir_all(rt, path.as_str());
     fs::create_dir(rt, path.as_str())?;
     Ok(path)
+}
+
+/// Removes a test's folder, with what is in it.
+pub fn remove_folder(rt: &HostRuntime, top: &str) -> Result<(), Fail> {
+    fs::remove_dir_all(rt, top)?;
+    Ok(())
 }
 
 /// A path in the folder for temporary files, by the test's name and the process.
@@ -50,12 +57,25 @@ pub fn bytes_of(rt: &HostRuntime, top: &str, name: &str) -> Result<Vec<u8>, Fail
 }
 
 /// The words of a line. `@` stands for the folder.
-pub fn words_of(alloc: Global, top: &str, line: &str) -> Result<Vec<String>, AllocError> {
+fn words_of(alloc: Global, top: &str, line: &str) -> Result<Vec<String>, AllocError> {
     let mut words = Vec::new(alloc);
     for word in line.split_whitespace() {
         words.push(word.replace(alloc, "@", top)?)?;
     }
     Ok(words)
+}
+
+/// Runs the program on the words of a line, with these writers, and gives its status.
+pub fn status_of<R: Files + AllocGlobal + Clone + Drop, O: Write, E: Write>(
+    rt: &R,
+    top: &str,
+    line: &str,
+    output: &mut O,
+    faults: &mut E,
+) -> Result<u8, AllocError> {
+    let words = words_of(rt.alloc(), top, line)?;
+    let mut input: &[u8] = &[];
+    Ok(run(rt, words.as_slice(), &mut input, output, faults))
 }
 
 /// What the program answered to the words of a line: its status, and what it wrote. The error of a test whose
@@ -74,17 +94,19 @@ fn answer_to<R: Files + AllocGlobal + Clone + Drop>(
     top: &str,
     line: &str,
 ) -> Result<Answer, Fail> {
-    let words = words_of(rt.alloc(), top, line)?;
-    let mut input: &[u8] = &[];
     let mut output = Vec::new(rt.alloc());
     let mut faults = Vec::new(rt.alloc());
-    let status = run(rt, words.as_slice(), &mut input, &mut output, &mut faults);
+    let status = status_of(rt, top, line, &mut output, &mut faults)?;
     Ok(Answer {
         line: String::from_str(rt.alloc(), line)?,
         status,
-        output: String::from_utf8(output)?,
-        faults: String::from_utf8(faults)?,
+        output: text_of(output)?,
+        faults: text_of(faults)?,
     })
+}
+
+fn text_of(bytes: Vec<u8>) -> Result<String, Fail> {
+    Ok(String::from_utf8(bytes)?)
 }
 
 /// The answer is an error where it is not the one wanted.

@@ -1,55 +1,57 @@
 //! The command line, and an output that fails.
 
-use super::tools::{
-    abc_torrent, confirm, expect_help, expect_refused, folder, put, put_folder, words_of,
-};
-use crate::program::run;
-use std::io::{ErrorKind, Write};
+use super::steps::{Step, set_up};
+use super::tools::{abc_torrent, confirm, expect_help, expect_refused, remove_folder, status_of};
+use std::io::{self, ErrorKind, Write};
 use std::test::Fail;
-use std::{fs, io};
+
+const REFUSED_LINES: &[&str] = &[
+    "",
+    "chek",
+    "check",
+    "check t",
+    "check t d e",
+    "check t d --inf",
+    "show",
+    "show t u",
+    "make",
+    "make d",
+    "make d o",
+    "make d o --name",
+    "make d o e --name n",
+    "make d o --name n --name m",
+    "make d o --name n --info",
+    "make d o --name n --piece-length",
+    "make d o --name n --piece-length=x",
+    "make d o --name n --piece-length=+16384",
+    "make d o --name n --piece-length=-16384",
+    "make d o --name n --piece-length=4294967296",
+    "make d o --name n --piece-length=",
+];
 
 #[test]
 fn refused_words_are_told_why(rt: HostRuntime) -> Result<(), Fail> {
-    for line in [
-        "",
-        "chek",
-        "check",
-        "check t",
-        "check t d e",
-        "check t d --inf",
-        "show",
-        "show t u",
-        "make",
-        "make d",
-        "make d o",
-        "make d o --name",
-        "make d o e --name n",
-        "make d o --name n --name m",
-        "make d o --name n --info",
-        "make d o --name n --piece-length",
-        "make d o --name n --piece-length=x",
-        "make d o --name n --piece-length=+16384",
-        "make d o --name n --piece-length=-16384",
-        "make d o --name n --piece-length=4294967296",
-        "make d o --name n --piece-length=",
-    ] {
+    for line in REFUSED_LINES {
         expect_refused(&rt, line)?;
     }
     Ok(())
 }
 
+/// Lines that ask for help, and a part of it.
+const HELP_LINES: &[(&str, &str)] = &[
+    ("--help", "BitTorrent v2"),
+    ("help", "check"),
+    ("help", "make"),
+    ("help", "show"),
+    ("check --help", "TORRENT"),
+    ("show --help", "--info"),
+    ("make --help", "--piece-length"),
+    ("--version", "btseed 0."),
+];
+
 #[test]
 fn help_is_told(rt: HostRuntime) -> Result<(), Fail> {
-    for (line, part) in [
-        ("--help", "BitTorrent v2"),
-        ("help", "check"),
-        ("help", "make"),
-        ("help", "show"),
-        ("check --help", "TORRENT"),
-        ("show --help", "--info"),
-        ("make --help", "--piece-length"),
-        ("--version", "btseed 0."),
-    ] {
+    for (line, part) in HELP_LINES {
         expect_help(&rt, line, part)?;
     }
     Ok(())
@@ -91,14 +93,11 @@ fn expect_device_fault(
     line: &str,
     failing: Failing,
 ) -> Result<(), Fail> {
-    let words = words_of(rt.alloc(), top, line)?;
-    let words = words.as_slice();
     let mut output = failing;
-    let mut input: &[u8] = &[];
     let mut faults = Vec::new(rt.alloc());
-    let status = run(rt, words, &mut input, &mut output, &mut faults);
-    let untold = run(rt, words, &mut input, &mut output, &mut Failing::Writes);
-    confirm(status == 3 && untold == 3, "another status")?;
+    let told = status_of(rt, top, line, &mut output, &mut faults)?;
+    let untold = status_of(rt, top, line, &mut output, &mut Failing::Writes)?;
+    confirm(told == 3 && untold == 3, "another status")?;
     confirm(
         faults.as_slice() == b"btseed: device fault\n".as_slice(),
         "another fault",
@@ -106,18 +105,35 @@ fn expect_device_fault(
     Ok(())
 }
 
+/// Lines that have an output, and how it fails.
+const FAILING_LINES: &[(&str, Failing)] = &[
+    ("check @/t @", Failing::Writes),
+    ("check @/t @", Failing::Flushes),
+    ("show @/t", Failing::Writes),
+    ("show @/t", Failing::Flushes),
+    ("make @/files @/t --name n", Failing::Writes),
+    ("make @/files @/t --name n", Failing::Flushes),
+    ("--help", Failing::Writes),
+    ("--help", Failing::Flushes),
+    ("--version", Failing::Flushes),
+];
+
+fn expect_device_faults(rt: &HostRuntime, top: &str) -> Result<(), Fail> {
+    for (line, failing) in FAILING_LINES {
+        expect_device_fault(rt, top, line, *failing)?;
+    }
+    Ok(())
+}
+
 #[test]
 fn an_output_that_fails_is_a_device_fault(rt: HostRuntime) -> Result<(), Fail> {
-    let top = folder(&rt, "output")?;
     let torrent = abc_torrent(rt.alloc())?;
-    put(&rt, top.as_str(), "t", &torrent)?;
-    put_folder(&rt, top.as_str(), "files")?;
-    put(&rt, top.as_str(), "files/a.txt", b"abc")?;
-    for line in ["check @/t @", "show @/t", "make @/files @/t --name n"] {
-        expect_device_fault(&rt, top.as_str(), line, Failing::Writes)?;
-        expect_device_fault(&rt, top.as_str(), line, Failing::Flushes)?;
-    }
-    expect_device_fault(&rt, top.as_str(), "--help", Failing::Writes)?;
-    fs::remove_dir_all(&rt, top.as_str())?;
-    Ok(())
+    let steps = [
+        Step::File("t", &torrent),
+        Step::Folder("files"),
+        Step::File("files/a.txt", b"abc"),
+    ];
+    let top = set_up(&rt, "output", &steps)?;
+    expect_device_faults(&rt, top.as_str())?;
+    remove_folder(&rt, top.as_str())
 }
