@@ -35,9 +35,9 @@ record ChangesAt (old new : EngineState) (key : PeerKey) (was now : Bool) (place
   at_place : changes.place ≡ place
 
 -- a peer whose interest changed by what follows for it
-changes_by : (old s new : EngineState) (i : ℕ) (sent : List Sent) (f : Follows s i sent new) → WasSo old i f.peer → (key : PeerKey) (was now : Bool) → f.peer.am_interested ≡ was → f.after.am_interested ≡ now
+changes_by : {old s new : EngineState} {i : ℕ} {sent : List Sent} (f : Follows s i sent new) → WasSo old i f.peer → {key : PeerKey} {was now : Bool} → f.peer.am_interested ≡ was → f.after.am_interested ≡ now
     → f.peer.key ≡ key → ChangesAt old new key was now i
-changes_by old s new i sent f w key was now x y k = record {
+changes_by {s} {new} {i} f w x y k = record {
   changes = record {
     place = i;
     before = w.peer;
@@ -55,8 +55,8 @@ changes_by old s new i sent f w key was now x y k = record {
 }
 
 -- and it stays so while others follow
-stays_changed : (old s new : EngineState) (i : ℕ) (sent : List Sent) → Follows s i sent new → (key : PeerKey) (was now : Bool) (place : ℕ) → (i ≡ place → ⊥) → ChangesAt old s key was now place → ChangesAt old new key was now place
-stays_changed old s new i sent f key was now place apart c = record {
+stays_changed : {old s new : EngineState} {i : ℕ} {sent : List Sent} → Follows s i sent new → {key : PeerKey} {was now : Bool} {place : ℕ} → (i ≡ place → ⊥) → ChangesAt old s key was now place → ChangesAt old new key was now place
+stays_changed {s} {new} {i} f {place} apart c = record {
   changes = record {
     place = c.changes.place;
     before = c.changes.before;
@@ -82,49 +82,49 @@ record Tells (old new : EngineState) (sent : List Sent) : Type 0 where
   uninterested : (key : PeerKey) → Contains sent (frame_to key NotInterested) → ChangesInterest old new key true false
 
 module _ (dig : List ℕ → List ℕ) where
-  each_stays : (n a : ℕ) (old s new : EngineState) (sent : List Sent) → FollowsEach dig (range_with_len a n) s sent new → (key : PeerKey) (was now : Bool) (place : ℕ) → place < a → ChangesAt old s key was now place
+  each_stays : (n a : ℕ) {old s new : EngineState} (sent : List Sent) → FollowsEach dig (range_with_len a n) s sent new → {key : PeerKey} {was now : Bool} {place : ℕ} → place < a → ChangesAt old s key was now place
       → ChangesAt old new key was now place
-  each_stays zero a old s new sent f key was now place below c = subst (λ x. ChangesAt old x key was now place) (sym f.1) c
-  each_stays (suc n) a old s new sent f key was now place below c =
-      each_stays n (a + 1) old f.0 new f.2 f.4 key was now place (omega (arith, below))
-      (stays_changed old s f.0 a f.1 (follows_of dig s a f.1 f.0 f.3) key was now place (λ e. absurd (omega (arith, below, e))) c)
+  each_stays zero a {old} sent f {key} {was} {now} {place} below c = subst (λ x. ChangesAt old x key was now place) (sym f.1) c
+  each_stays (suc n) a sent f below c =
+      each_stays n (a + 1) f.2 f.4 (omega (arith, below))
+      (stays_changed (follows_of f.3) (λ e. absurd (omega (arith, below, e))) c)
 
-  each_tells : (n a : ℕ) (old s new : EngineState) (sent : List Sent) → FollowsEach dig (range_with_len a n) s sent new → ((j : ℕ) (q : PeerState) → a ≤ j → slice_get s.peers j ≡ Some q → WasSo old j q) → Tells old new sent
-  each_tells zero a old s new sent f was_so = record {
-    interested = λ key c. absurd (contains_none _ (subst (λ l. Contains l (frame_to key Interested)) f.0 c));
-    uninterested = λ key c. absurd (contains_none _ (subst (λ l. Contains l (frame_to key NotInterested)) f.0 c));
+  each_tells : (n a : ℕ) {old : EngineState} (s : EngineState) {new : EngineState} {sent : List Sent} → FollowsEach dig (range_with_len a n) s sent new → ((j : ℕ) (q : PeerState) → a ≤ j → slice_get s.peers j ≡ Some q → WasSo old j q) → Tells old new sent
+  each_tells zero a s f was_so = record {
+    interested = λ key c. absurd (contains_none (subst (λ l. Contains l (frame_to key Interested)) f.0 c));
+    uninterested = λ key c. absurd (contains_none (subst (λ l. Contains l (frame_to key NotInterested)) f.0 c));
   }
-  each_tells (suc n) a old s new sent f was_so =
-      let first = follows_of dig s a f.1 f.0 f.3 in
+  each_tells (suc n) a {old} s {new} f was_so =
+      let first = follows_of f.3 in
       let later : (j : ℕ) (q : PeerState) → a + 1 ≤ j → slice_get f.0.peers j ≡ Some q → WasSo old j q = λ j q above at.
       was_so j q (omega (arith, above)) (sym (ap (λ l. slice_get l j) first.peers ∙ set_other s.peers a j first.after (λ e. absurd (omega (arith, above, e)))) ∙ at) in
-      let rest = each_tells n (a + 1) old f.0 new f.2 f.4 later in
+      let rest = each_tells n (a + 1) f.0 f.4 later in
       let was = was_so a first.peer (omega arith) first.was in
       let stays : (key : PeerKey) (was now : Bool) → ChangesAt old f.0 key was now a → ChangesInterest old new key was now = λ key was now c.
-      (each_stays n (a + 1) old f.0 new f.2 f.4 key was now a (omega arith) c).changes in
+      (each_stays n (a + 1) f.2 f.4 (omega arith) c).changes in
       record {
         interested = λ key c. elim (Contains-append_cases f.1 f.2 (frame_to key Interested) (subst (λ l. Contains l (frame_to key Interested)) f.5 c)) [
-          | inl one ↦ let r = first.interested key one in stays key false true (changes_by old s f.0 a f.1 first was key false true r.0 r.1 r.2)
+          | inl one ↦ let r = first.interested key one in stays key false true (changes_by first was r.0 r.1 r.2)
           | inr more ↦ rest.interested key more
         ];
         uninterested = λ key c. elim (Contains-append_cases f.1 f.2 (frame_to key NotInterested) (subst (λ l. Contains l (frame_to key NotInterested)) f.5 c)) [
-          | inl one ↦ let r = first.uninterested key one in stays key true false (changes_by old s f.0 a f.1 first was key true false r.0 r.1 r.2)
+          | inl one ↦ let r = first.uninterested key one in stays key true false (changes_by first was r.0 r.1 r.2)
           | inr more ↦ rest.uninterested key more
         ];
       }
 
-  rechoke_tells : (s new : EngineState) (sent : List Sent) → FollowsEach dig (range_with_len 0 (length s.peers)) (rechoked s) sent new → Tells s new sent
-  rechoke_tells s new sent f = each_tells (length s.peers) 0 s (rechoked s) new sent f (λ j q above at.
-      let r = get_map (rechoked_peer s) s.peers j q at in
+  rechoke_tells : {s new : EngineState} {sent : List Sent} → FollowsEach dig (range_with_len 0 (length s.peers)) (rechoked s) sent new → Tells s new sent
+  rechoke_tells {s} f = each_tells (length s.peers) 0 (rechoked s) f (λ j q above at.
+      let r = get_map (rechoked_peer s) s.peers j at in
       record { peer = r.0; here = r.1; same_key = ap (λ (x : PeerState). x.key) r.2; same_interest = ap (λ (x : PeerState). x.am_interested) r.2 })
 
-  next_tells : (s new : EngineState) (key : PeerKey) (i : ℕ) (p : PeerState) (calls : DeviceCalls) (out : Output) → IsPeer s key i p → (g : GoesOn dig s i p calls out new) → Tells s new g.sent
-  next_tells s new key i p calls out peer g =
+  next_tells : {s new : EngineState} {key : PeerKey} {i : ℕ} {p : PeerState} {calls : DeviceCalls} {out : Output} → IsPeer s key i p → (g : GoesOn dig s i p calls out new) → Tells s new g.sent
+  next_tells {s} {i} {p} {calls} peer g =
       let rest = record p { stream = g.takes.rest } in
-      let set = set_same s.peers i rest p peer.here in
-      let left = event_leaves dig (with_peer s i rest) i rest set g.mid g.takes.event calls g.effect g.takes.handles in
-      let f = follows_of dig _ i g.sent new g.follows in
-      let same : f.peer ≡ left.peer = same_some (slice_get g.mid.peers i) f.peer left.peer f.was (ap (λ l. slice_get l i) left.peers ∙ set_same (with_peer s i rest).peers i left.peer rest set) in
+      let set = set_same s.peers i peer.here in
+      let left = event_leaves dig (with_peer s i rest) i set g.takes.event calls g.takes.handles in
+      let f = follows_of g.follows in
+      let same : f.peer ≡ left.peer = same_some f.was (ap (λ l. slice_get l i) left.peers ∙ set_same (with_peer s i rest).peers i set) in
       let was : WasSo s i f.peer = record {
         peer = p;
         here = peer.here;
@@ -132,26 +132,26 @@ module _ (dig : List ℕ → List ℕ) where
         same_interest = sym (ap (λ (x : PeerState). x.am_interested) same ∙ left.same_interest);
       } in
       record {
-        interested = λ k c. let r = f.interested k c in (changes_by s _ new i g.sent f was k false true r.0 r.1 r.2).changes;
-        uninterested = λ k c. let r = f.uninterested k c in (changes_by s _ new i g.sent f was k true false r.0 r.1 r.2).changes;
+        interested = λ k c. let r = f.interested k c in (changes_by f was r.0 r.1 r.2).changes;
+        uninterested = λ k c. let r = f.uninterested k c in (changes_by f was r.0 r.1 r.2).changes;
       }
 
-  unlike : (part : Part) → (part ≡ greets) ⊎ (part ≡ replies) ⊎ (part ≡ chokes) → interests ≡ part → ⊥
-  unlike part (inl x) e = absurd cc
-  unlike part (inr (inl x)) e = absurd cc
-  unlike part (inr (inr x)) e = absurd cc
+  unlike : {part : Part} → (part ≡ greets) ⊎ (part ≡ replies) ⊎ (part ≡ chokes) → interests ≡ part → ⊥
+  unlike (inl x) e = absurd cc
+  unlike (inr (inl x)) e = absurd cc
+  unlike (inr (inr x)) e = absurd cc
 
-  interest_sent : (s new : EngineState) (key : PeerKey) → IsSentBy dig s new (frame_to key Interested) → ChangesInterest s new key false true
-  interest_sent s new key (alike part like e) = absurd (unlike part like e)
-  interest_sent s new key (announced other i p calls out peer g c) = let e = all_haves s g.mid _ c in absurd cc
-  interest_sent s new key (followed other i p calls out peer g c) = (next_tells s new other i p calls out peer g).interested key c
-  interest_sent s new key (rechoked_then sent f c) = (rechoke_tells s new sent f).interested key c
+  interest_sent : {s new : EngineState} {key : PeerKey} → IsSentBy dig s new (frame_to key Interested) → ChangesInterest s new key false true
+  interest_sent (alike part like e) = absurd (unlike like e)
+  interest_sent {s} (announced other i p calls out peer g c) = let e = all_haves s g.mid _ c in absurd cc
+  interest_sent {key} (followed other i p calls out peer g c) = (next_tells peer g).interested key c
+  interest_sent {key} (rechoked_then sent f c) = (rechoke_tells f).interested key c
 
-  no_interest_sent : (s new : EngineState) (key : PeerKey) → IsSentBy dig s new (frame_to key NotInterested) → ChangesInterest s new key true false
-  no_interest_sent s new key (alike part like e) = absurd (unlike part like e)
-  no_interest_sent s new key (announced other i p calls out peer g c) = let e = all_haves s g.mid _ c in absurd cc
-  no_interest_sent s new key (followed other i p calls out peer g c) = (next_tells s new other i p calls out peer g).uninterested key c
-  no_interest_sent s new key (rechoked_then sent f c) = (rechoke_tells s new sent f).uninterested key c
+  no_interest_sent : {s new : EngineState} {key : PeerKey} → IsSentBy dig s new (frame_to key NotInterested) → ChangesInterest s new key true false
+  no_interest_sent (alike part like e) = absurd (unlike like e)
+  no_interest_sent {s} (announced other i p calls out peer g c) = let e = all_haves s g.mid _ c in absurd cc
+  no_interest_sent {key} (followed other i p calls out peer g c) = (next_tells peer g).uninterested key c
+  no_interest_sent {key} (rechoked_then sent f c) = (rechoke_tells f).uninterested key c
 
   pub step_tells : StepTellsChangedInterest dig
-  step_tells s new e calls a t key = (λ c. interest_sent s new key (step_sent dig s new e calls a t _ c), λ c. no_interest_sent s new key (step_sent dig s new e calls a t _ c))
+  step_tells s new e calls a t key = (λ c. interest_sent (step_sent dig s new e calls a t _ c), λ c. no_interest_sent (step_sent dig s new e calls a t _ c))

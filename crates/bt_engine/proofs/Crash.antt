@@ -38,23 +38,23 @@ beside n m i b j bytes apart lt size = elim (cases_lt i b) [
   | inr le ↦ elim (cases_lt b i) [ inl above ↦ inr (omega (arith, above, size)) | inr ge ↦ absurd (apart (omega (arith, le, ge))) ]
 ]
 
-write_spares : (n m i b j : ℕ) (bytes : List ℕ) (c : Call) → i ≢ b → j < block_length n i → length bytes ≡ block_length m b → (c ≡ bytes_written (16384 * b) bytes) ⊎ (c ≡ write_fault (16384 * b) bytes) → Spares (16384 * i + j) c
-write_spares n m i b j bytes c apart lt size (inl e) = subst (λ d. Spares (16384 * i + j) d) (sym e) (beside n m i b j bytes apart lt size)
-write_spares n m i b j bytes c apart lt size (inr e) = subst (λ d. Spares (16384 * i + j) d) (sym e) (beside n m i b j bytes apart lt size)
+write_spares : (n m i b j : ℕ) {bytes : List ℕ} {c : Call} → i ≢ b → j < block_length n i → length bytes ≡ block_length m b → (c ≡ bytes_written (16384 * b) bytes) ⊎ (c ≡ write_fault (16384 * b) bytes) → Spares (16384 * i + j) c
+write_spares n m i b j {bytes} apart lt size (inl e) = subst (λ d. Spares (16384 * i + j) d) (sym e) (beside n m i b j bytes apart lt size)
+write_spares n m i b j {bytes} apart lt size (inr e) = subst (λ d. Spares (16384 * i + j) d) (sym e) (beside n m i b j bytes apart lt size)
 
 -- no call of a step reaches a block of the file that is not missing
-step_spares : (s : EngineState) (calls : DeviceCalls) (file i j : ℕ) (f : FileState) (k : Facts) → Touches s.files s.trees calls → IsFile s file f k → slice_get f.states i ≢ Some Missing → j < block_length k.file_length i
-    → (c : Call) → Contains calls (file, c) → Spares (16384 * i + j) c
-step_spares s calls file i j f k (keeping keep) is present lt c among = keeps_spare (16384 * i + j) c (keep (file, c) among)
-step_spares s calls file i j f k (putting b bytes g l call here hung missing whole only writes) is present lt c among =
-    elim (contains_cases (b.file, call) (file, c) [] (subst (λ cs. Contains cs (file, c)) only among)) [
+step_spares : {s : EngineState} {calls : DeviceCalls} {file : ℕ} (i j : ℕ) {f : FileState} {k : Facts} → Touches s.files s.trees calls → IsFile s file f k → slice_get f.states i ≢ Some Missing → j < block_length k.file_length i
+    → {c : Call} → Contains calls (file, c) → Spares (16384 * i + j) c
+step_spares {file} i j (keeping keep) is present lt {c} among = keeps_spare (16384 * i + j) c (keep (file, c) among)
+step_spares {s} {file} i j {f} {k} (putting b bytes g l call here hung missing whole only writes) is present lt {c} among =
+    elim (contains_cases [] (subst (λ cs. Contains cs (file, c)) only among)) [
       | inl same ↦
           let at : b.file ≡ file = ap (λ (x : ℕ × Call). x.0) same in
           let call_is : call ≡ c = ap (λ (x : ℕ × Call). x.1) same in
-          let g_is : g ≡ f = same_some (slice_get s.files file) g f (sym (ap (slice_get s.files) at) ∙ here) is.here in
+          let g_is : g ≡ f = same_some (sym (ap (slice_get s.files) at) ∙ here) is.here in
           let apart : i ≢ b.block = λ e. present (ap (slice_get f.states) e ∙ ap (λ (q : FileState). slice_get q.states b.block) (sym g_is) ∙ missing) in
-          subst (λ d. Spares (16384 * i + j) d) call_is (write_spares k.file_length l.file_length i b.block j bytes call apart lt whole writes)
-      | inr none ↦ absurd (contains_none _ none)
+          subst (λ d. Spares (16384 * i + j) d) call_is (write_spares k.file_length l.file_length i b.block j apart lt whole writes)
+      | inr none ↦ absurd (contains_none none)
     ]
 
 all_of : {X : Type 0} (P : X → Type 0) (xs : List X) → ((x : X) → Contains xs x → P x) → All P xs
@@ -65,6 +65,6 @@ module _ {D : Type 0} (history : D → History) (honest : D → Type 0) (faults 
   images_kept reads old new event calls answer disks after file i t f k bytes e step have is present size there honest_now kept j byte at =
       let d = have.each file e there in
       let honest_before : honest d.0 = d.2.as_honest.1 honest_now in
-      let inside : j < block_length k.file_length i = (let lt = some_below bytes j byte at in omega (arith, lt, size)) in
-      let spares = all_of (Spares (16384 * i + j)) (calls_of file calls) (λ c among. step_spares old calls file i j f k (step_tame dig old new event calls answer step).1 is present inside c (of_all file calls c among)) in
+      let inside : j < block_length k.file_length i = (let lt = some_below bytes j at in omega (arith, lt, size)) in
+      let spares = all_of (Spares (16384 * i + j)) (calls_of file calls) (λ c among. step_spares i j (step_tame dig old new event calls answer step).1 is present inside (of_all calls among)) in
       calls_keep_bytes (history d.0) (history e) (calls_of file calls) t (16384 * i + j) byte (reads d.0 honest_before) (d.2.answered honest_before) spares (kept d.0 d.1 j byte at)

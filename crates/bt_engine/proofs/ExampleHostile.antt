@@ -47,8 +47,8 @@ use Rattle.bt_engine.proofs.ExampleThreeEngine.{block, output_of, engine, whole_
 key_size : (root p q r s : List ℕ) → length root ≡ 32 → length p ≡ 4 → length q ≡ 4 → length r ≡ 4 → length s ≡ 4 → length (root ++ p ++ q ++ r ++ s) ≡ 48
 key_size root p q r s a b c d e = omega (arith, length-append (root ++ p ++ q ++ r) s, length-append (root ++ p ++ q) r, length-append (root ++ p) q, length-append root p, a, b, c, d, e)
 
-hashes_fit : (root digests : List ℕ) → length root ≡ 32 → length digests ≡ 128 → Fits (Hashes (record { root = root; base = 0; index = 0; length = 4; layers = 1 }) digests)
-hashes_fit root digests root_size size = record {
+hashes_fit : {root digests : List ℕ} → length root ≡ 32 → length digests ≡ 128 → Fits (Hashes (record { root = root; base = 0; index = 0; length = 4; layers = 1 }) digests)
+hashes_fit {root} {digests} root_size size = record {
   limit = omega (
     arith,
     length-append (root ++ to_be_bytes w32 0 ++ to_be_bytes w32 0 ++ to_be_bytes w32 4 ++ to_be_bytes w32 1) digests,
@@ -58,8 +58,8 @@ hashes_fit root digests root_size size = record {
   whole = ap (λ n. n % 32) size;
 }
 
-far_fits : (root : List ℕ) → length root ≡ 32 → Fits (HashRequest (record { root = root; base = 0; index = 4294967294; length = 2; layers = 0 }))
-far_fits root root_size = record {
+far_fits : {root : List ℕ} → length root ≡ 32 → Fits (HashRequest (record { root = root; base = 0; index = 4294967294; length = 2; layers = 0 }))
+far_fits {root} root_size = record {
   limit = omega (arith, key_size root (to_be_bytes w32 0) (to_be_bytes w32 4294967294) (to_be_bytes w32 2) (to_be_bytes w32 0) root_size refl refl refl refl);
   whole = tt;
 }
@@ -74,14 +74,14 @@ module _ (dig : List ℕ → List ℕ) (b : ThreeBlocks) (infohash : List ℕ) w
   abbrev fed_peer : List ℕ → PeerState
   fed_peer bytes = record peer { stream = stream bytes true false }
 
-  fed_leaves_peer : (bytes : List ℕ) → StepFeed (before_leaves peer) first_key bytes (Ok tt) (before_leaves (fed_peer bytes))
-  fed_leaves_peer bytes = fed_to dig b infohash (at_first dig b) Missing Missing Missing peer bytes refl refl
+  fed_leaves_peer : {bytes : List ℕ} → StepFeed (before_leaves peer) first_key bytes (Ok tt) (before_leaves (fed_peer bytes))
+  fed_leaves_peer = fed_to dig b infohash (at_first dig b) Missing Missing Missing peer refl refl
 
   -- a message that closes the peer, however it is taken
-  closes_on : (m : Message) (why : Why) → IsMessage m → Fits m → HandlesMessage dig (before_leaves peer) 0 peer m [] (closing why) (before_leaves peer) → ClosesOn dig (empty_engine dig b infohash (root_alone dig b)) peer (message_spelling m) why
-  closes_on m why is fits handles = (
+  closes_on : {m : Message} (why : Why) → IsMessage m → Fits m → HandlesMessage dig (before_leaves peer) 0 peer m [] (closing why) (before_leaves peer) → ClosesOn dig (empty_engine dig b infohash (root_alone dig b)) peer (message_spelling m) why
+  closes_on {m} why is fits handles = (
     before_leaves (fed_peer (message_spelling m)),
-    (_, refl, refl, fed_leaves_peer (message_spelling m)),
+    (_, refl, refl, fed_leaves_peer),
     (
       empty_engine dig b infohash (root_alone dig b) [],
       (
@@ -92,7 +92,7 @@ module _ (dig : List ℕ → List ℕ) (b : ThreeBlocks) (infohash : List ℕ) w
               effect = closing why;
               mid = before_leaves peer;
               why = why;
-              takes = record { event = message_event m; rest = all_taken; takes = taken_message m is fits; handles = handles };
+              takes = record { event = message_event m; rest = all_taken; takes = taken_message is fits; handles = handles };
               closed = refl;
               is = refl;
               after = refl;
@@ -106,15 +106,15 @@ module _ (dig : List ℕ → List ℕ) (b : ThreeBlocks) (infohash : List ℕ) w
   -- nothing follows: the peer chokes us, is asked for the leaves, and is of interest
   nothing_follows : FollowsUp dig (before_leaves peer) 0 [] (before_leaves peer)
   nothing_follows =
-      quietly dig b infohash (at_first dig b) Missing Missing Missing peer peer [] refl (λ e. interesting dig b infohash (at_first dig b) Missing Missing Missing peer (block 0) refl refl refl, λ i. refl) refl
+      quietly dig b infohash (at_first dig b) Missing Missing Missing peer refl (λ e. interesting dig b infohash (at_first dig b) Missing Missing Missing peer (block 0) refl refl refl, λ i. refl) refl
       (λ idle. absurd cc) (λ open_to. absurd cc) (omega arith)
 
   -- a message that changes nothing, but may be answered and noted
-  stays_on : (m : Message) (sent : List Sent) (notes : List Note) → IsMessage m → Fits m → HandlesMessage dig (before_leaves peer) 0 peer m [] (record { send = sent; close = None; notes = notes; proofs = [] }) (before_leaves peer)
+  stays_on : {m : Message} (sent : List Sent) (notes : List Note) → IsMessage m → Fits m → HandlesMessage dig (before_leaves peer) 0 peer m [] (record { send = sent; close = None; notes = notes; proofs = [] }) (before_leaves peer)
       → StaysOn dig (empty_engine dig b infohash (root_alone dig b)) peer (message_spelling m) sent notes
-  stays_on m sent notes is fits handles = (
+  stays_on {m} sent notes is fits handles = (
     before_leaves (fed_peer (message_spelling m)),
-    (_, refl, refl, fed_leaves_peer (message_spelling m)),
+    (_, refl, refl, fed_leaves_peer),
     (
       before_leaves peer,
       (
@@ -125,7 +125,7 @@ module _ (dig : List ℕ → List ℕ) (b : ThreeBlocks) (infohash : List ℕ) w
               effect = record { send = sent; close = None; notes = notes; proofs = [] };
               mid = before_leaves peer;
               sent = [];
-              takes = record { event = message_event m; rest = all_taken; takes = taken_message m is fits; handles = handles };
+              takes = record { event = message_event m; rest = all_taken; takes = taken_message is fits; handles = handles };
               stays = refl;
               follows = nothing_follows;
               send = sym (append-nil (sent ++ []) ∙ append-nil sent);
@@ -143,7 +143,7 @@ module _ (dig : List ℕ → List ℕ) (b : ThreeBlocks) (infohash : List ℕ) w
   second_handshake =
       let bytes = handshake_spelling (their_handshake infohash) in (
         before_leaves (fed_peer bytes),
-        (_, refl, refl, fed_leaves_peer bytes),
+        (_, refl, refl, fed_leaves_peer),
         (
           empty_engine dig b infohash (root_alone dig b) [],
           (
@@ -166,18 +166,18 @@ module _ (dig : List ℕ → List ℕ) (b : ThreeBlocks) (infohash : List ℕ) w
 
   -- no tree has a root of zeros
   zeros_unknown : three_root dig b ≢ zero_leaf → (tree : ℕ) (k : Facts) → ¬ IsTreeOf (before_leaves peer) zero_leaf tree k
-  zeros_unknown differs tree k is = differs (ap (λ (f : Facts). f.root) (one_there (at_first dig b) k tree is.here).1 ∙ is.same_root)
+  zeros_unknown differs tree k is = differs (ap (λ (f : Facts). f.root) (one_there tree is.here).1 ∙ is.same_root)
 
   -- no run of two leaves is so far to the right
   not_answered : (digests : List (List ℕ)) → ¬ IsAnswered dig (before_leaves peer) (far_key dig b) digests
   unfolding height_up_to
-  not_answered digests a = absurd (far (height a.facts) (small a.tree a.facts a.here) a.request)
+  not_answered digests a = absurd (far (small a.here) a.request)
     where
-      small : (tree : ℕ) (k : Facts) → IsTreeOf (before_leaves peer) (three_root dig b) tree k → height k ≡ 2
-      small tree k is = ap height (sym (one_there (at_first dig b) k tree is.here).1)
+      small : {tree : ℕ} {k : Facts} → IsTreeOf (before_leaves peer) (three_root dig b) tree k → height k ≡ 2
+      small {tree} is = ap height (sym (one_there tree is.here).1)
 
-      far : (h : ℕ) → h ≡ 2 → IsRequest h 0 4294967294 2 0 → ⊥
-      far h e r = absurd (omega (arith, subst (λ n. 4294967294 + 2 ≤ 2 ^ (n - 0)) e r.in_width))
+      far : {h : ℕ} → h ≡ 2 → IsRequest h 0 4294967294 2 0 → ⊥
+      far e r = absurd (omega (arith, subst (λ n. 4294967294 + 2 ≤ 2 ^ (n - 0)) e r.in_width))
 
   -- the claim of other blocks has a shape and its padding, and reaches another digest at the root
   other_refused : (other : ThreeBlocks) → three_root dig b ≢ three_root dig other → IsRefused dig (at_first dig b) (leaves_claim dig other) TopDiffers
@@ -197,21 +197,21 @@ module _ (dig : List ℕ → List ℕ) (b : ThreeBlocks) (infohash : List ℕ) w
         claim_is = c.claim_is;
       }
 
-  key_is : (root : List ℕ) → length root ≡ 32 → IsKey (record { root = root; base = 0; index = 0; length = 4; layers = 1 })
-  key_is root size = record { root = size; base = omega arith; index = omega arith; length = omega arith; layers = omega arith }
+  key_is : {root : List ℕ} → length root ≡ 32 → IsKey (record { root = root; base = 0; index = 0; length = 4; layers = 1 })
+  key_is {root} size = record { root = size; base = omega arith; index = omega arith; length = omega arith; layers = omega arith }
 
 pub hostile_are_runs : (dig : List ℕ → List ℕ) → IsDigest dig → HostileMessagesAreRuns dig
 hostile_are_runs dig sizes b other infohash whole not_zeros differs = record {
-  past_last = closes_on dig b infohash (Have 1) BadPiece (omega arith) (record { limit = omega arith; whole = tt }) (refl, out_of_range (omega arith) refl refl);
-  long_bitfield = closes_on dig b infohash (Bitfield (128 ∷ 0 ∷ [])) BadBitfield tt (record { limit = omega arith; whole = tt }) (refl, wrong_length (λ e. absurd (omega (arith, e))) refl refl);
+  past_last = closes_on dig b infohash {m = Have 1} BadPiece (omega arith) (record { limit = omega arith; whole = tt }) (refl, out_of_range (omega arith) refl refl);
+  long_bitfield = closes_on dig b infohash {m = Bitfield (128 ∷ 0 ∷ [])} BadBitfield tt (record { limit = omega arith; whole = tt }) (refl, wrong_length (λ e. absurd (omega (arith, e))) refl refl);
   second_handshake = second_handshake dig b infohash;
-  zero_root = closes_on dig b infohash (Hashes (zero_root_key dig b) (four_leaves dig b)) UnknownRoot (key_is dig b infohash zero_leaf refl) (hashes_fit zero_leaf (four_leaves dig b) refl (leaves_length dig sizes b))
+  zero_root = closes_on dig b infohash UnknownRoot (key_is dig b infohash refl) (hashes_fit refl (leaves_length dig sizes b))
       (unknown_root (zeros_unknown dig b infohash not_zeros) refl refl refl);
-  other_leaves = closes_on dig b infohash (Hashes (leaves_key dig b) (four_leaves dig other)) (Proof TopDiffers) (key_is dig b infohash (three_root dig b) (sizes _)) (hashes_fit (three_root dig b) (four_leaves dig other) (sizes _) (leaves_length dig sizes other))
+  other_leaves = closes_on dig b infohash (Proof TopDiffers) (key_is dig b infohash (sizes _)) (hashes_fit (sizes _) (leaves_length dig sizes other))
       (refused TopDiffers 0 (at_first dig b) (leaves_claim dig other) (record { here = refl; same_root = refl }) (claims_other dig b infohash sizes other) (other_refused dig b infohash other differs)
       (record { not_memory = λ e. absurd cc; made = refl; has_effect = refl; after = refl }));
-  not_asked = stays_on dig b infohash (Piece 0 0 b.first) [] (Stale ∷ []) (omega arith, omega arith) (piece_fits 0 b.first whole.first) (stale (λ c is asked. contains_none c asked) refl refl refl);
-  far = stays_on dig b infohash (HashRequest (far_key dig b)) (to_first (HashReject (far_key dig b)) ∷ []) [] (record { root = sizes _; base = omega arith; index = omega arith; length = omega arith; layers = omega arith }) (far_fits (three_root dig b) (sizes _))
+  not_asked = stays_on dig b infohash [] (Stale ∷ []) (omega arith, omega arith) (piece_fits 0 whole.first) (stale (λ c is asked. contains_none asked) refl refl refl);
+  far = stays_on dig b infohash (to_first (HashReject (far_key dig b)) ∷ []) [] (record { root = sizes _; base = omega arith; index = omega arith; length = omega arith; layers = omega arith }) (far_fits (sizes _))
       (refl, rejected (not_answered dig b infohash) refl, refl);
 }
 
@@ -221,7 +221,7 @@ pub wrong_is_run : (dig : List ℕ → List ℕ) → WrongBlockIsRun dig
 wrong_is_run dig b wrong infohash k other size known =
     let p = record blocks_peer { stream = stream (message_spelling (Piece 0 16384 wrong)) true false } in (
       engine dig b infohash k Missing Missing Missing p,
-      (_, refl, refl, fed_to dig b infohash k Missing Missing Missing blocks_peer (message_spelling (Piece 0 16384 wrong)) refl refl),
+      (_, refl, refl, fed_to dig b infohash k Missing Missing Missing blocks_peer refl refl),
       (
         empty_engine dig b infohash k [],
         (
@@ -235,7 +235,7 @@ wrong_is_run dig b wrong infohash k other size known =
                 takes = record {
                   event = message_event (Piece 0 16384 wrong);
                   rest = all_taken;
-                  takes = taken_message (Piece 0 16384 wrong) (omega arith, omega arith) (piece_fits 16384 wrong other.whole);
+                  takes = taken_message (omega arith, omega arith) (piece_fits 16384 other.whole);
                   handles = arrives (record {
                     block = block 1;
                     stored = engine dig b infohash k Missing Missing Missing blocks_peer;

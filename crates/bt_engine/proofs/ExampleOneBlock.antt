@@ -49,10 +49,10 @@ unfolding value_at height_up_to
 value_here dig = digest_at_new finite.empty 0 0 (dig abc)
 
 -- there is one block
-one_block : (x y : BlockState) (f i : ℕ) → option_and_then (λ (q : FileState). slice_get q.states i) (slice_get ((record { tree = 0; states = x ∷ [] }) ∷ []) f) ≡ Some y → (f ≡ 0) × (i ≡ 0) × (x ≡ y)
-one_block x y zero zero e = (refl, refl, some_is x y e)
-one_block x y zero (suc i) e = absurd cc
-one_block x y (suc f) i e = absurd cc
+one_block : {x y : BlockState} (f i : ℕ) → option_and_then (λ (q : FileState). slice_get q.states i) (slice_get ((record { tree = 0; states = x ∷ [] }) ∷ []) f) ≡ Some y → (f ≡ 0) × (i ≡ 0) × (x ≡ y)
+one_block zero zero e = (refl, refl, some_is e)
+one_block zero (suc i) e = absurd cc
+one_block (suc f) i e = absurd cc
 
 abbrev the_block : BlockId
 the_block = block_id 0 0
@@ -65,9 +65,9 @@ module _ (dig : List ℕ → List ℕ) (infohash : List ℕ) where
   no_needs : (x : BlockState) (p q : PeerState) (b : BlockId) → ¬ NeedsLeaf dig (engine x p) q b
   no_needs x p q b needs =
       let y : (y : BlockState) × (state_at (engine x p) b ≡ Some y) = elim needs.not_marked [ inl m ↦ (Missing, m) | inr w ↦ (Waiting, w) ] in
-      let one = one_block x y.0 b.file b.block y.1 in
+      let one = one_block b.file b.block y.1 in
       let at_file : tree_of (engine x p) b.file ≡ Some (root_facts 3 (dig abc)) = ap (tree_of (engine x p)) one.0 in
-      let same : needs.tree ≡ root_facts 3 (dig abc) = same_some (tree_of (engine x p) b.file) _ _ needs.hung at_file in
+      let same : needs.tree ≡ root_facts 3 (dig abc) = same_some needs.hung at_file in
       let known : value_at dig needs.tree 0 b.block ≡ Some (dig abc) = ap (λ k. value_at dig k 0 b.block) same ∙ ap (value_at dig (root_facts 3 (dig abc)) 0) one.1 ∙ value_here dig in
       let both : None ≡ Some (dig abc) = sym needs.unknown ∙ known in
       absurd cc
@@ -84,18 +84,18 @@ module _ (dig : List ℕ → List ℕ) (infohash : List ℕ) where
 
   -- a peer without a piece is of no interest, and one with the piece is as long as the block is missing
   dull : (unread : Stream) (b : BlockId) → ¬ Has (engine Missing (peer_with unread false true false Idle [] 0)) (peer_with unread false true false Idle [] 0) b
-  dull unread b has = let p = and_then_some (λ piece. slice_get (false ∷ []) piece) _ true has in let one = one_there false true p.0 p.2 in let wrong : false ≡ true = one.1 in absurd cc
+  dull unread b has = let p = and_then_some (λ piece. slice_get (false ∷ []) piece) _ has in let one = one_there p.0 p.2 in let wrong : false ≡ true = one.1 in absurd cc
 
   interesting : (p : PeerState) → p.has ≡ true ∷ [] → IsInteresting (engine Missing p) p
   interesting p has = (the_block, ap (λ h. slice_get h 0) has, refl)
 
   none_missing : (p : PeerState) (b : BlockId) → ¬ (state_at (engine Marked p) b ≡ Some Missing)
-  none_missing p b e = let one = one_block Marked Missing b.file b.block e in let wrong : Marked ≡ Missing = one.2 in absurd cc
+  none_missing p b e = let one = one_block b.file b.block e in let wrong : Marked ≡ Missing = one.2 in absurd cc
 
   -- what follows where nothing is requested
-  quietly : (x : BlockState) (p q : PeerState) (sent : List Sent) → q ≡ record p { am_interested = q.am_interested } → ((q.am_interested ≡ true) ↔ IsInteresting (engine x p) p) → sent ≡ interest_sent p p.am_interested q.am_interested
+  quietly : (x : BlockState) (p : PeerState) {q : PeerState} {sent : List Sent} → q ≡ record p { am_interested = q.am_interested } → ((q.am_interested ≡ true) ↔ IsInteresting (engine x p) p) → sent ≡ interest_sent p p.am_interested q.am_interested
       → (q.peer_choking ≡ true) ⊎ (q.am_interested ≡ false) → length q.asked + 0 ≤ 16 → FollowsUp dig (engine x p) 0 sent (engine x q)
-  quietly x p q sent same due told shut few =
+  quietly x p {q} {sent} same due told shut few =
       record {
         peer = p;
         interested = q;
@@ -109,7 +109,7 @@ module _ (dig : List ℕ → List ℕ) (infohash : List ℕ) where
         hashes = rests (λ idle b. no_needs x p q b) refl refl;
         asks = record {
           shut = λ _. refl;
-          are_open = λ b c. absurd (contains_none b c);
+          are_open = λ b c. absurd (contains_none c);
           distinct = λ i j d lt below. absurd (omega arith);
           few = few;
           all = λ open_to interested. absurd (never shut open_to interested);
@@ -124,26 +124,26 @@ module _ (dig : List ℕ → List ℕ) (infohash : List ℕ) where
       never (inr dull) open_to interested = let wrong : false ≡ true = sym dull ∙ interested in absurd cc
 
   after_hello : FollowsUp dig (engine Missing (peer_with all_taken false true false Idle [] 0)) 0 [] (engine Missing (peer_with all_taken false true false Idle [] 0))
-  after_hello = quietly Missing _ (peer_with all_taken false true false Idle [] 0) [] refl (λ e. absurd cc, λ i. absurd (dull all_taken i.0 i.1)) refl (inl refl) (omega arith)
+  after_hello = quietly Missing _ refl (λ e. absurd cc, λ i. absurd (dull all_taken i.0 i.1)) refl (inl refl) (omega arith)
 
   after_bits : FollowsUp dig (engine Missing (peer_with all_taken false true true Idle [] 0)) 0 (to_first Interested ∷ []) (engine Missing (peer_with all_taken true true true Idle [] 0))
   after_bits =
       let p = peer_with all_taken false true true Idle [] 0 in
-      quietly Missing p (peer_with all_taken true true true Idle [] 0) (to_first Interested ∷ []) refl (λ e. interesting p refl, λ i. refl) refl (inl refl) (omega arith)
+      quietly Missing p refl (λ e. interesting p refl, λ i. refl) refl (inl refl) (omega arith)
 
   after_piece : FollowsUp dig (engine Marked (peer_with all_taken true false true Idle [] 3)) 0 (to_first NotInterested ∷ []) (engine Marked served_peer)
   after_piece =
       let p = peer_with all_taken true false true Idle [] 3 in
-      quietly Marked p served_peer (to_first NotInterested ∷ []) refl (λ e. absurd cc, λ i. absurd (none_missing p i.0 i.2)) refl (inr refl) (omega arith)
+      quietly Marked p refl (λ e. absurd cc, λ i. absurd (none_missing p i.0 i.2)) refl (inr refl) (omega arith)
 
   unasked : (p : PeerState) (b : BlockId) → p.asked ≡ [] → ¬ IsAsked (engine Missing p) b
-  unasked p b none asked = elim (contains_cases p asked.0 [] asked.1) [
-    | inl same ↦ contains_none b (subst (λ l. Contains l b) (ap (λ (q : PeerState). q.asked) (sym same) ∙ none) asked.2)
-    | inr more ↦ contains_none asked.0 more
+  unasked p b none asked = elim (contains_cases [] asked.1) [
+    | inl same ↦ contains_none (subst (λ l. Contains l b) (ap (λ (q : PeerState). q.asked) (sym same) ∙ none) asked.2)
+    | inr more ↦ contains_none more
   ]
 
-  the_one : (p : PeerState) (b : BlockId) → state_at (engine Missing p) b ≡ Some Missing → the_block ≡ b
-  the_one p b e = let one = one_block Missing Missing b.file b.block e in ap (λ i. block_id 0 i) (sym one.1) ∙ ap (λ f. record b { file = f }) (sym one.0)
+  the_one : (p : PeerState) {b : BlockId} → state_at (engine Missing p) b ≡ Some Missing → the_block ≡ b
+  the_one p {b} e = let one = one_block b.file b.block e in ap (λ i. block_id 0 i) (sym one.1) ∙ ap (λ f. record b { file = f }) (sym one.0)
 
   abbrev first_ask : Ask
   first_ask = record { piece = 0; begin = 0; length = 3 }
@@ -164,13 +164,13 @@ module _ (dig : List ℕ → List ℕ) (infohash : List ℕ) where
         hashes = rests (λ idle b. no_needs Missing p p b) refl refl;
         asks = record {
           shut = λ x. elim x [ inl e ↦ absurd cc | inr e ↦ absurd cc ];
-          are_open = λ b c. elim (contains_cases the_block b [] c) [
+          are_open = λ b c. elim (contains_cases [] c) [
             | inl same ↦ subst (λ x. IsOpen (engine Missing p) p x) same (record { has = refl; missing = refl; free = unasked p the_block refl })
-            | inr more ↦ absurd (contains_none b more)
+            | inr more ↦ absurd (contains_none more)
           ];
           distinct = λ i j d lt below. absurd (omega (arith, lt, below));
           few = omega arith;
-          all = λ e f. inr (λ b may. here the_block b [] (the_one p b may.missing));
+          all = λ e f. inr (λ b may. here [] (the_one p may.missing));
         };
         requests = (to_first (Request first_ask), [], record { ask = first_ask; whole = whole_block; is = refl }, refl, refl);
         all = refl;
@@ -254,7 +254,7 @@ module _ (dig : List ℕ → List ℕ) (infohash : List ℕ) where
             block = the_block;
             stored = engine Marked (peer_with all_taken true false true Idle (the_block ∷ []) 0);
             whole = whole_block;
-            asked = here the_block the_block [] refl;
+            asked = here [] refl;
             puts = record {
               file = record { tree = 0; states = Missing ∷ [] };
               tree = root_facts 3 (dig abc);
@@ -281,9 +281,9 @@ module _ (dig : List ℕ → List ℕ) (infohash : List ℕ) where
   next_none : StepNext dig (engine Marked served_peer) first_key [] (Ok None) (engine Marked served_peer)
   next_none = waits 0 served_peer (record { here = refl; same_key = refl }) waits_empty refl refl refl
 
-  fed_to : (x : BlockState) (p : PeerState) (bytes : List ℕ) → p.key ≡ first_key → p.stream ≡ stream [] p.stream.greeted p.stream.failed
+  fed_to : (x : BlockState) (p : PeerState) {bytes : List ℕ} → p.key ≡ first_key → p.stream ≡ stream [] p.stream.greeted p.stream.failed
       → StepFeed (engine x p) first_key bytes (Ok tt) (engine x (record p { stream = stream bytes p.stream.greeted p.stream.failed }))
-  fed_to x p bytes key empty = feeds 0 p (record { here = refl; same_key = key }) refl (ap (λ (t : Stream). engine x (record p { stream = fed t bytes })) (sym empty))
+  fed_to x p {bytes} key empty = feeds 0 p (record { here = refl; same_key = key }) refl (ap (λ (t : Stream). engine x (record p { stream = fed t bytes })) (sym empty))
 
   connects : StepConnect (abc_engine dig infohash Missing [] 1) (Ok (first_key, greeting (abc_engine dig infohash Missing [] 1) first_key (0 ∷ []))) (engine Missing (peer_with (stream [] false false) false true false Idle [] 0))
   connects = joins first_key (0 ∷ []) (omega arith) (omega arith) refl (record { are_bytes = search rules; size = refl; bits = refl }) refl refl
@@ -293,11 +293,11 @@ module _ (dig : List ℕ → List ℕ) (infohash : List ℕ) where
       record {
         is_new = record {
           roots = λ i j d lt below. absurd (omega (arith, lt, below));
-          each_tree = λ t k at. record { number = 0; file = abc_file dig; listed = refl; some = omega arith; says = by_root refl (sym (one_there (root_facts 3 (dig abc)) k t at).1) };
+          each_tree = λ t k at. record { number = 0; file = abc_file dig; listed = refl; some = omega arith; says = by_root refl (sym (one_there t at).1) };
           count = refl;
           each_file = λ i file f listed at.
-              let one = one_there (record { tree = 0; states = Missing ∷ [] }) f i at in
-              let same : abc_file dig ≡ file = (one_there (abc_file dig) file i listed).1 in
+              let one = one_there i at in
+              let same : abc_file dig ≡ file = (one_there i listed).1 in
               record {
                 missing = ap (λ (q : FileState). q.states) (sym one.1) ∙ ap (λ (g : File). new_states g.length) same;
                 hung = λ some. (root_facts 3 (dig abc), ap (λ (q : FileState). slice_get (root_facts 3 (dig abc) ∷ []) q.tree) (sym one.1), ap (λ (g : File). g.root) same, ap (λ (g : File). g.length) same);
@@ -312,25 +312,25 @@ module _ (dig : List ℕ → List ℕ) (infohash : List ℕ) where
     (_, refl, refl, connects),
     (
       engine Missing (peer_with (stream (handshake_spelling (their_handshake infohash)) false false) false true false Idle [] 0),
-      (_, refl, refl, fed_to Missing (peer_with (stream [] false false) false true false Idle [] 0) (handshake_spelling (their_handshake infohash)) refl refl),
+      (_, refl, refl, fed_to Missing (peer_with (stream [] false false) false true false Idle [] 0) refl refl),
       (
         engine Missing (peer_with all_taken false true false Idle [] 0),
         (_, refl, next_hello size),
         (
           engine Missing (peer_with (stream bitfield_bytes true false) false true false Idle [] 0),
-          (_, refl, refl, fed_to Missing (peer_with all_taken false true false Idle [] 0) bitfield_bytes refl refl),
+          (_, refl, refl, fed_to Missing (peer_with all_taken false true false Idle [] 0) refl refl),
           (
             engine Missing (peer_with all_taken true true true Idle [] 0),
             (_, refl, next_bits),
             (
               engine Missing (peer_with (stream unchoke_bytes true false) true true true Idle [] 0),
-              (_, refl, refl, fed_to Missing (peer_with all_taken true true true Idle [] 0) unchoke_bytes refl refl),
+              (_, refl, refl, fed_to Missing (peer_with all_taken true true true Idle [] 0) refl refl),
               (
                 engine Missing (peer_with all_taken true false true Idle (the_block ∷ []) 0),
                 (_, refl, next_unchoke),
                 (
                   engine Missing (peer_with (stream piece_bytes true false) true false true Idle (the_block ∷ []) 0),
-                  (_, refl, refl, fed_to Missing (peer_with all_taken true false true Idle (the_block ∷ []) 0) piece_bytes refl refl),
+                  (_, refl, refl, fed_to Missing (peer_with all_taken true false true Idle (the_block ∷ []) 0) refl refl),
                   (
                     engine Marked served_peer,
                     (_, refl, next_piece),

@@ -15,9 +15,9 @@ use Rattle.bt_wire.proofs.Events.{event_frame}
 use Rattle.bt_engine.proofs.Lists.{some_is}
 use Rattle.bt_engine.specs.ExamplePeer.{all_taken, their_handshake, bitfield_bytes, unchoke_bytes}
 
-pub one_there : {X : Type 0} (x y : X) (i : ℕ) → slice_get (x ∷ []) i ≡ Some y → (i ≡ 0) × (x ≡ y)
-one_there x y zero e = (refl, some_is x y e)
-one_there x y (suc i) e = absurd cc
+pub one_there : {X : Type 0} {x y : X} (i : ℕ) → slice_get (x ∷ []) i ≡ Some y → (i ≡ 0) × (x ≡ y)
+one_there zero e = (refl, some_is e)
+one_there (suc i) e = absurd cc
 
 -- ---- the bytes
 
@@ -37,15 +37,15 @@ taken_hello infohash size = record {
   not_failed = refl;
 }
 
-front_none : (body : Option Body) (bytes rest : List ℕ) → bytes ≡ frame_spelling body → [] ≡ bytes ++ rest → ⊥
-front_none None bytes rest spelled same = let long = same ∙ ap (λ xs. xs ++ rest) spelled in absurd cc
-front_none (Some b) bytes rest spelled same = let long = same ∙ ap (λ xs. xs ++ rest) spelled in absurd cc
+front_none : (body : Option Body) {bytes : List ℕ} (rest : List ℕ) → bytes ≡ frame_spelling body → [] ≡ bytes ++ rest → ⊥
+front_none None rest spelled same = let long = same ∙ ap (λ xs. xs ++ rest) spelled in absurd cc
+front_none (Some b) rest spelled same = let long = same ∙ ap (λ xs. xs ++ rest) spelled in absurd cc
 
 pub waits_empty : Waits all_taken
 waits_empty = record { running = refl; no_event = nothing; no_fault = faultless }
   where
     nothing : HasNoEvent true []
-    nothing e bytes rest event same = let f = event_frame e bytes event in front_none f.body bytes rest f.spelled same
+    nothing e bytes rest event same = let f = event_frame e bytes event in front_none f.body rest f.spelled same
 
     faultless : ShowsNoFault true []
     faultless BadProtocol shown = shown
@@ -55,8 +55,8 @@ waits_empty = record { running = refl; no_event = nothing; no_fault = faultless 
     faultless Failed shown = shown
 
 -- a message that was fed alone is taken, and nothing is left
-pub taken_message : (m : PeerMessage) → IsMessage m → Fits m → Takes (stream (message_spelling m) true false) (message_event m) all_taken
-taken_message m is_message fits = record {
+pub taken_message : {m : PeerMessage} → IsMessage m → Fits m → Takes (stream (message_spelling m) true false) (message_event m) all_taken
+taken_message {m} is_message fits = record {
   bytes = message_spelling m;
   event = record { is_message = is_message; fits = fits; spelled = refl };
   front = sym (append-nil (message_spelling m));
@@ -65,8 +65,8 @@ taken_message m is_message fits = record {
   not_failed = refl;
 }
 
-pub piece_fits : (begin : ℕ) (bytes : List ℕ) → length bytes ≡ 16384 → Fits (Piece 0 begin bytes)
-piece_fits begin bytes size = record {
+pub piece_fits : (begin : ℕ) {bytes : List ℕ} → length bytes ≡ 16384 → Fits (Piece 0 begin bytes)
+piece_fits begin {bytes} size = record {
   limit = omega (arith, length-append (to_be_bytes w32 0 ++ to_be_bytes w32 begin) bytes, length-append (to_be_bytes w32 0) (to_be_bytes w32 begin), size);
   whole = tt;
 }

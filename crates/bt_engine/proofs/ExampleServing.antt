@@ -72,8 +72,8 @@ module _ (dig : List ℕ → List ℕ) (b : ThreeBlocks) (infohash : List ℕ) (
 
   -- ---- nothing follows: each block is marked
 
-  all_marked : (turn : ℕ) (p : PeerState) (c : BlockId) (state : BlockState) → state_at (engine turn p) c ≡ Some state → state ≡ Marked
-  all_marked turn p c state e = by (one_of Marked Marked Marked state c.file c.block e)
+  all_marked : (turn : ℕ) (p : PeerState) (c : BlockId) {state : BlockState} → state_at (engine turn p) c ≡ Some state → state ≡ Marked
+  all_marked turn p c {state} e = by (one_of c.file c.block e)
     where
       by : IsOne Marked Marked Marked c state → state ≡ Marked
       by (first x y) = sym y
@@ -81,10 +81,10 @@ module _ (dig : List ℕ → List ℕ) (b : ThreeBlocks) (infohash : List ℕ) (
       by (third x y) = sym y
 
   not_missing : (turn : ℕ) (p : PeerState) (c : BlockId) → ¬ (state_at (engine turn p) c ≡ Some Missing)
-  not_missing turn p c e = let wrong = all_marked turn p c Missing e in absurd cc
+  not_missing turn p c e = let wrong = all_marked turn p c e in absurd cc
 
   no_needs : (turn : ℕ) (p q : PeerState) (c : BlockId) → ¬ NeedsLeaf dig (engine turn p) q c
-  no_needs turn p q c needs = elim needs.not_marked [ inl m ↦ absurd (not_missing turn p c m) | inr w ↦ (let wrong = all_marked turn p c Waiting w in absurd cc) ]
+  no_needs turn p q c needs = elim needs.not_marked [ inl m ↦ absurd (not_missing turn p c m) | inr w ↦ (let wrong = all_marked turn p c w in absurd cc) ]
 
   nothing_follows : (turn : ℕ) (p : PeerState) → p.am_interested ≡ false → length p.asked + 0 ≤ 16 → FollowsUp dig (engine turn p) 0 [] (engine turn p)
   nothing_follows turn p dull few =
@@ -105,7 +105,7 @@ module _ (dig : List ℕ → List ℕ) (b : ThreeBlocks) (infohash : List ℕ) (
         hashes = rests (λ idle c. no_needs turn p p c) refl refl;
         asks = record {
           shut = λ _. refl;
-          are_open = λ c among. absurd (contains_none c among);
+          are_open = λ c among. absurd (contains_none among);
           distinct = λ i j d lt below. absurd (omega (arith, lt, below));
           few = few;
           all = λ open_to interested. (let wrong : false ≡ true = sym dull ∙ interested in absurd cc);
@@ -117,8 +117,8 @@ module _ (dig : List ℕ → List ℕ) (b : ThreeBlocks) (infohash : List ℕ) (
 
   -- ---- the steps
 
-  fed_to : (turn : ℕ) (p : PeerState) (bytes : List ℕ) → p.key ≡ first_key → p.stream ≡ all_taken → StepFeed (engine turn p) first_key bytes (Ok tt) (engine turn (with_stream (stream bytes true false) p))
-  fed_to turn p bytes key empty = feeds 0 p (record { here = refl; same_key = key }) refl (ap (λ (t : Stream). engine turn (with_stream (fed t bytes) p)) (sym empty))
+  fed_to : (turn : ℕ) (p : PeerState) {bytes : List ℕ} → p.key ≡ first_key → p.stream ≡ all_taken → StepFeed (engine turn p) first_key bytes (Ok tt) (engine turn (with_stream (stream bytes true false) p))
+  fed_to turn p {bytes} key empty = feeds 0 p (record { here = refl; same_key = key }) refl (ap (λ (t : Stream). engine turn (with_stream (fed t bytes) p)) (sym empty))
 
   next_interested : StepNext dig (engine 0 (with_stream (stream interested_bytes true false) (reader true false 0))) first_key [] (Ok (Some (output_of [] []))) (engine 0 (reader true true 0))
   next_interested =
@@ -151,9 +151,9 @@ module _ (dig : List ℕ → List ℕ) (b : ThreeBlocks) (infohash : List ℕ) (
   two_blocks (suc i) = b.second
 
   of_two : (P : ℕ → Type 0) → P 0 → P 1 → (i : ℕ) → Contains (spanned_blocks range_span) i → P i
-  of_two P x y i c = elim (contains_cases 0 i (1 ∷ []) c) [
+  of_two P x y i c = elim (contains_cases (1 ∷ []) c) [
     | inl same ↦ subst P same x
-    | inr more ↦ elim (contains_cases 1 i [] more) [ inl same ↦ subst P same y | inr none ↦ absurd (contains_none i none) ]
+    | inr more ↦ elim (contains_cases [] more) [ inl same ↦ subst P same y | inr none ↦ absurd (contains_none none) ]
   ]
 
   cut : AreWhole b → cut_from range_span two_blocks ≡ drop 16334 b.first ++ take 50 b.second
@@ -243,7 +243,7 @@ module _ (dig : List ℕ → List ℕ) (b : ThreeBlocks) (infohash : List ℕ) (
   serves : AreWhole b → KnowsTwo dig b k → Run dig (engine 0 (reader true false 0)) serving_events (serving_calls b) (serving_answers b) (engine 1 (reader false true 100))
   serves whole knows = (
     engine 0 (with_stream (stream interested_bytes true false) (reader true false 0)),
-    (_, refl, refl, fed_to 0 (reader true false 0) interested_bytes refl refl),
+    (_, refl, refl, fed_to 0 (reader true false 0) refl refl),
     (
       engine 0 (reader true true 0),
       (_, refl, next_interested),
@@ -252,7 +252,7 @@ module _ (dig : List ℕ → List ℕ) (b : ThreeBlocks) (infohash : List ℕ) (
         (_, refl, refl, unchokes),
         (
           engine 1 (with_stream (stream request_bytes true false) (reader false true 0)),
-          (_, refl, refl, fed_to 1 (reader false true 0) request_bytes refl refl),
+          (_, refl, refl, fed_to 1 (reader false true 0) refl refl),
           (engine 1 (reader false true 100), (_, refl, next_request whole knows), refl),
         ),
       ),
@@ -264,12 +264,12 @@ serving_is_run dig b infohash k whole knows = record {
   serves = serves dig b infohash k whole knows;
   ignores = (
     marked_engine dig b infohash k 0 (record (reader true true 0) { stream = stream request_bytes true false } ∷ []),
-    (_, refl, refl, fed_to dig b infohash k 0 (reader true true 0) request_bytes refl refl),
+    (_, refl, refl, fed_to dig b infohash k 0 (reader true true 0) refl refl),
     (marked_engine dig b infohash k 0 (reader true true 0 ∷ []), (_, refl, next_ignored dig b infohash k), refl),
   );
   closes = (
     marked_engine dig b infohash k 1 (record (reader false true 0) { stream = stream long_request_bytes true false } ∷ []),
-    (_, refl, refl, fed_to dig b infohash k 1 (reader false true 0) long_request_bytes refl refl),
+    (_, refl, refl, fed_to dig b infohash k 1 (reader false true 0) refl refl),
     (marked_engine dig b infohash k 1 [], (_, refl, next_closed dig b infohash k), refl),
   );
 }

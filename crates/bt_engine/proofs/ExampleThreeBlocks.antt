@@ -34,30 +34,30 @@ module _ (dig : List ℕ → List ℕ) (b : ThreeBlocks) (infohash : List ℕ) w
   after_leaves : FollowsUp dig (engine dig b infohash (proved dig b) Missing Missing Missing (peer_with all_taken true true true Idle [] 0)) 0 [] (engine dig b infohash (proved dig b) Missing Missing Missing (peer_with all_taken true true true Idle [] 0))
   after_leaves =
       let p = peer_with all_taken true true true Idle [] 0 in
-      quietly dig b infohash (proved dig b) Missing Missing Missing p p [] refl (λ e. interesting dig b infohash (proved dig b) Missing Missing Missing p (block 0) refl refl refl, λ i. refl) refl
+      quietly dig b infohash (proved dig b) Missing Missing Missing p refl (λ e. interesting dig b infohash (proved dig b) Missing Missing Missing p (block 0) refl refl refl, λ i. refl) refl
       (λ idle c. needs_none dig b infohash Missing Missing Missing p p c) (λ e. absurd cc) (omega arith)
 
   after_first : FollowsUp dig (engine dig b infohash (proved dig b) Marked Missing Missing (asked_peer Idle (block 1 ∷ block 2 ∷ []) 16384)) 0 [] (engine dig b infohash (proved dig b) Marked Missing Missing (asked_peer Idle (block 1 ∷ block 2 ∷ []) 16384))
   after_first =
       let p = asked_peer Idle (block 1 ∷ block 2 ∷ []) 16384 in
-      quietly dig b infohash (proved dig b) Marked Missing Missing p p [] refl (λ e. interesting dig b infohash (proved dig b) Marked Missing Missing p (block 1) refl refl refl, λ i. refl) refl
-      (λ idle c. needs_none dig b infohash Marked Missing Missing p p c) (λ e f c may. none c (is_one dig b infohash (proved dig b) Marked Missing Missing Missing p c may.missing) may) (omega arith)
+      quietly dig b infohash (proved dig b) Marked Missing Missing p refl (λ e. interesting dig b infohash (proved dig b) Marked Missing Missing p (block 1) refl refl refl, λ i. refl) refl
+      (λ idle c. needs_none dig b infohash Marked Missing Missing p p c) (λ e f c may. none (is_one dig b infohash (proved dig b) p may.missing) may) (omega arith)
     where
-      none : (c : BlockId) → IsOne Marked Missing Missing c Missing → ¬ IsOpen (engine dig b infohash (proved dig b) Marked Missing Missing (asked_peer Idle (block 1 ∷ block 2 ∷ []) 16384)) (asked_peer Idle (block 1 ∷ block 2 ∷ []) 16384) c
-      none c (first e f) may = absurd cc
-      none c (second e f) may = not_open dig b infohash _ _ _ _ (asked_peer Idle (block 1 ∷ block 2 ∷ []) 16384) c (0, omega arith, sym e) may
-      none c (third e f) may = not_open dig b infohash _ _ _ _ (asked_peer Idle (block 1 ∷ block 2 ∷ []) 16384) c (1, omega arith, sym e) may
+      none : {c : BlockId} → IsOne Marked Missing Missing c Missing → ¬ IsOpen (engine dig b infohash (proved dig b) Marked Missing Missing (asked_peer Idle (block 1 ∷ block 2 ∷ []) 16384)) (asked_peer Idle (block 1 ∷ block 2 ∷ []) 16384) c
+      none (first e f) may = absurd cc
+      none (second e f) may = not_open dig b infohash _ _ _ _ (asked_peer Idle (block 1 ∷ block 2 ∷ []) 16384) (0, omega arith, sym e) may
+      none (third e f) may = not_open dig b infohash _ _ _ _ (asked_peer Idle (block 1 ∷ block 2 ∷ []) 16384) (1, omega arith, sym e) may
 
   after_second : FollowsUp dig (engine dig b infohash (proved dig b) Marked Marked Missing (asked_peer Idle (block 2 ∷ []) 32768)) 0 [] (engine dig b infohash (proved dig b) Marked Marked Missing (asked_peer Idle (block 2 ∷ []) 32768))
   after_second =
       let p = asked_peer Idle (block 2 ∷ []) 32768 in
-      quietly dig b infohash (proved dig b) Marked Marked Missing p p [] refl (λ e. interesting dig b infohash (proved dig b) Marked Marked Missing p (block 2) refl refl refl, λ i. refl) refl
-      (λ idle c. needs_none dig b infohash Marked Marked Missing p p c) (λ e f c may. none c (is_one dig b infohash (proved dig b) Marked Marked Missing Missing p c may.missing) may) (omega arith)
+      quietly dig b infohash (proved dig b) Marked Marked Missing p refl (λ e. interesting dig b infohash (proved dig b) Marked Marked Missing p (block 2) refl refl refl, λ i. refl) refl
+      (λ idle c. needs_none dig b infohash Marked Marked Missing p p c) (λ e f c may. none (is_one dig b infohash (proved dig b) p may.missing) may) (omega arith)
     where
-      none : (c : BlockId) → IsOne Marked Marked Missing c Missing → ¬ IsOpen (engine dig b infohash (proved dig b) Marked Marked Missing (asked_peer Idle (block 2 ∷ []) 32768)) (asked_peer Idle (block 2 ∷ []) 32768) c
-      none c (first e f) may = absurd cc
-      none c (second e f) may = absurd cc
-      none c (third e f) may = not_open dig b infohash _ _ _ _ (asked_peer Idle (block 2 ∷ []) 32768) c (0, omega arith, sym e) may
+      none : {c : BlockId} → IsOne Marked Marked Missing c Missing → ¬ IsOpen (engine dig b infohash (proved dig b) Marked Marked Missing (asked_peer Idle (block 2 ∷ []) 32768)) (asked_peer Idle (block 2 ∷ []) 32768) c
+      none (first e f) may = absurd cc
+      none (second e f) may = absurd cc
+      none (third e f) may = not_open dig b infohash _ _ _ _ (asked_peer Idle (block 2 ∷ []) 32768) (0, omega arith, sym e) may
 
   abbrev served : PeerState
   served = peer_with all_taken false false true Idle [] 49152
@@ -65,7 +65,7 @@ module _ (dig : List ℕ → List ℕ) (b : ThreeBlocks) (infohash : List ℕ) w
   after_third : FollowsUp dig (engine dig b infohash (proved dig b) Marked Marked Marked (asked_peer Idle [] 49152)) 0 (to_first NotInterested ∷ []) (engine dig b infohash (proved dig b) Marked Marked Marked served)
   after_third =
       let p = asked_peer Idle [] 49152 in
-      quietly dig b infohash (proved dig b) Marked Marked Marked p served (to_first NotInterested ∷ []) refl (λ e. absurd cc, λ i. absurd (none_missing dig b infohash (proved dig b) p i)) refl
+      quietly dig b infohash (proved dig b) Marked Marked Marked p refl (λ e. absurd cc, λ i. absurd (none_missing dig b infohash (proved dig b) p i)) refl
       (λ idle c. needs_none dig b infohash Marked Marked Marked p served c) (λ e f. absurd cc) (omega arith)
 
   next_leaves : IsDigest dig → StepNext dig (engine dig b infohash (at_first dig b) Missing Missing Missing (peer_with (stream (message_spelling (leaves_message dig b)) true false) true true true (Asked (leaves_key dig b)) [] 0)) first_key []
@@ -80,7 +80,7 @@ module _ (dig : List ℕ → List ℕ) (b : ThreeBlocks) (infohash : List ℕ) w
         takes = record {
           event = message_event (leaves_message dig b);
           rest = all_taken;
-          takes = taken_message (leaves_message dig b) (key_fits dig b infohash sizes) (leaves_fit dig b infohash sizes);
+          takes = taken_message (key_fits dig b infohash sizes) (leaves_fit dig b infohash sizes);
           handles = learns (record {
             tree = 0;
             old = at_first dig b;
@@ -96,7 +96,7 @@ module _ (dig : List ℕ → List ℕ) (b : ThreeBlocks) (infohash : List ℕ) w
               facts = proved dig b;
               reads = λ _. [];
               here = refl;
-              due = λ file f at. ap (λ (g : FileState). due_blocks dig (proved dig b) 0 0 4 g) (one_there (record { tree = 0; states = Missing ∷ Missing ∷ Missing ∷ [] }) f file at).1;
+              due = λ file f at. ap (λ (g : FileState). due_blocks dig (proved dig b) 0 0 4 g) (one_there file at).1;
               made = refl;
               noted = refl;
               files = unchanged;
@@ -131,7 +131,7 @@ module _ (dig : List ℕ → List ℕ) (b : ThreeBlocks) (infohash : List ℕ) w
         takes = record {
           event = message_event (Piece 0 0 b.first);
           rest = all_taken;
-          takes = taken_message (Piece 0 0 b.first) (omega arith, omega arith) (piece_fits 0 b.first whole.first);
+          takes = taken_message (omega arith, omega arith) (piece_fits 0 whole.first);
           handles = arrives (record {
             block = block 0;
             stored = engine dig b infohash (proved dig b) Marked Missing Missing (asked_peer Idle all_three 0);
@@ -169,7 +169,7 @@ module _ (dig : List ℕ → List ℕ) (b : ThreeBlocks) (infohash : List ℕ) w
         takes = record {
           event = message_event (Piece 0 16384 b.second);
           rest = all_taken;
-          takes = taken_message (Piece 0 16384 b.second) (omega arith, omega arith) (piece_fits 16384 b.second whole.second);
+          takes = taken_message (omega arith, omega arith) (piece_fits 16384 whole.second);
           handles = arrives (record {
             block = block 1;
             stored = engine dig b infohash (proved dig b) Marked Marked Missing (asked_peer Idle (block 1 ∷ block 2 ∷ []) 16384);
@@ -213,7 +213,7 @@ module _ (dig : List ℕ → List ℕ) (b : ThreeBlocks) (infohash : List ℕ) w
         takes = record {
           event = message_event (Piece 0 32768 b.third);
           rest = all_taken;
-          takes = taken_message (Piece 0 32768 b.third) (omega arith, omega arith) (piece_fits 32768 b.third whole.third);
+          takes = taken_message (omega arith, omega arith) (piece_fits 32768 whole.third);
           handles = arrives (record {
             block = block 2;
             stored = engine dig b infohash (proved dig b) Marked Marked Marked (asked_peer Idle (block 2 ∷ []) 32768);
@@ -255,43 +255,43 @@ module _ (dig : List ℕ → List ℕ) (b : ThreeBlocks) (infohash : List ℕ) w
     (_, refl, refl, connects dig b infohash),
     (
       first_state (peer_with (stream (handshake_spelling (their_handshake infohash)) false false) false true false Idle [] 0),
-      (_, refl, refl, fed_to dig b infohash (at_first dig b) Missing Missing Missing (peer_with (stream [] false false) false true false Idle [] 0) (handshake_spelling (their_handshake infohash)) refl refl),
+      (_, refl, refl, fed_to dig b infohash (at_first dig b) Missing Missing Missing (peer_with (stream [] false false) false true false Idle [] 0) refl refl),
       (
         first_state (peer_with all_taken false true false Idle [] 0),
         (_, refl, next_hello dig b infohash size),
         (
           first_state (peer_with (stream bitfield_bytes true false) false true false Idle [] 0),
-          (_, refl, refl, fed_to dig b infohash (at_first dig b) Missing Missing Missing (peer_with all_taken false true false Idle [] 0) bitfield_bytes refl refl),
+          (_, refl, refl, fed_to dig b infohash (at_first dig b) Missing Missing Missing (peer_with all_taken false true false Idle [] 0) refl refl),
           (
             first_state (peer_with all_taken true true true asked_key [] 0),
             (_, refl, next_bits dig b infohash),
             (
               first_state (peer_with (stream (message_spelling (leaves_message dig b)) true false) true true true asked_key [] 0),
-              (_, refl, refl, fed_to dig b infohash (at_first dig b) Missing Missing Missing (peer_with all_taken true true true asked_key [] 0) (message_spelling (leaves_message dig b)) refl refl),
+              (_, refl, refl, fed_to dig b infohash (at_first dig b) Missing Missing Missing (peer_with all_taken true true true asked_key [] 0) refl refl),
               (
                 proved_state Missing Missing Missing (peer_with all_taken true true true Idle [] 0),
                 (_, refl, next_leaves sizes),
                 (
                   proved_state Missing Missing Missing (peer_with (stream unchoke_bytes true false) true true true Idle [] 0),
-                  (_, refl, refl, fed_to dig b infohash (proved dig b) Missing Missing Missing (peer_with all_taken true true true Idle [] 0) unchoke_bytes refl refl),
+                  (_, refl, refl, fed_to dig b infohash (proved dig b) Missing Missing Missing (peer_with all_taken true true true Idle [] 0) refl refl),
                   (
                     proved_state Missing Missing Missing (asked_peer Idle all_three 0),
                     (_, refl, next_unchoke dig b infohash (proved dig b) Idle (λ idle c. needs_none dig b infohash Missing Missing Missing (asked_peer Idle [] 0) (asked_peer Idle [] 0) c)),
                     (
                       proved_state Missing Missing Missing (peer_with (stream (message_spelling (Piece 0 0 b.first)) true false) true false true Idle all_three 0),
-                      (_, refl, refl, fed_to dig b infohash (proved dig b) Missing Missing Missing (asked_peer Idle all_three 0) (message_spelling (Piece 0 0 b.first)) refl refl),
+                      (_, refl, refl, fed_to dig b infohash (proved dig b) Missing Missing Missing (asked_peer Idle all_three 0) refl refl),
                       (
                         proved_state Marked Missing Missing (asked_peer Idle (block 1 ∷ block 2 ∷ []) 16384),
                         (_, refl, next_first whole),
                         (
                           proved_state Marked Missing Missing (peer_with (stream (message_spelling (Piece 0 16384 b.second)) true false) true false true Idle (block 1 ∷ block 2 ∷ []) 16384),
-                          (_, refl, refl, fed_to dig b infohash (proved dig b) Marked Missing Missing (asked_peer Idle (block 1 ∷ block 2 ∷ []) 16384) (message_spelling (Piece 0 16384 b.second)) refl refl),
+                          (_, refl, refl, fed_to dig b infohash (proved dig b) Marked Missing Missing (asked_peer Idle (block 1 ∷ block 2 ∷ []) 16384) refl refl),
                           (
                             proved_state Marked Marked Missing (asked_peer Idle (block 2 ∷ []) 32768),
                             (_, refl, next_second whole),
                             (
                               proved_state Marked Marked Missing (peer_with (stream (message_spelling (Piece 0 32768 b.third)) true false) true false true Idle (block 2 ∷ []) 32768),
-                              (_, refl, refl, fed_to dig b infohash (proved dig b) Marked Marked Missing (asked_peer Idle (block 2 ∷ []) 32768) (message_spelling (Piece 0 32768 b.third)) refl refl),
+                              (_, refl, refl, fed_to dig b infohash (proved dig b) Marked Marked Missing (asked_peer Idle (block 2 ∷ []) 32768) refl refl),
                               (
                                 proved_state Marked Marked Marked served,
                                 (_, refl, next_third whole),

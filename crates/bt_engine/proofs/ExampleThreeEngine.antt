@@ -55,17 +55,17 @@ pub data IsOne (x y z : BlockState) (c : BlockId) (state : BlockState) : Type 0 
   second : c ≡ block 1 → y ≡ state → IsOne x y z c state
   third : c ≡ block 2 → z ≡ state → IsOne x y z c state
 
-pub one_of : (x y z state : BlockState) (file i : ℕ) → option_and_then (λ (f : FileState). slice_get f.states i) (slice_get ((record { tree = 0; states = x ∷ y ∷ z ∷ [] }) ∷ []) file) ≡ Some state → IsOne x y z (block_id file i) state
-one_of x y z state zero zero e = first refl (some_is x state e)
-one_of x y z state zero (suc zero) e = second refl (some_is y state e)
-one_of x y z state zero (suc (suc zero)) e = third refl (some_is z state e)
-one_of x y z state zero (suc (suc (suc i))) e = absurd cc
-one_of x y z state (suc file) i e = absurd cc
+pub one_of : {x y z state : BlockState} (file i : ℕ) → option_and_then (λ (f : FileState). slice_get f.states i) (slice_get ((record { tree = 0; states = x ∷ y ∷ z ∷ [] }) ∷ []) file) ≡ Some state → IsOne x y z (block_id file i) state
+one_of zero zero e = first refl (some_is e)
+one_of zero (suc zero) e = second refl (some_is e)
+one_of zero (suc (suc zero)) e = third refl (some_is e)
+one_of zero (suc (suc (suc i))) e = absurd cc
+one_of (suc file) i e = absurd cc
 
-pub among_three : (x y z state : BlockState) (c : BlockId) → IsOne x y z c state → Contains all_three c
-among_three x y z state c (first e f) = (0, omega arith, sym e)
-among_three x y z state c (second e f) = (1, omega arith, sym e)
-among_three x y z state c (third e f) = (2, omega arith, sym e)
+pub among_three : {x y z state : BlockState} {c : BlockId} → IsOne x y z c state → Contains all_three c
+among_three (first e f) = (0, omega arith, sym e)
+among_three (second e f) = (1, omega arith, sym e)
+among_three (third e f) = (2, omega arith, sym e)
 
 number_at : (i : ℕ) (d : BlockId) → i < 3 → (slice_index_or all_three i d).block ≡ i
 number_at zero d lt = refl
@@ -77,8 +77,8 @@ module _ (dig : List ℕ → List ℕ) (b : ThreeBlocks) (infohash : List ℕ) w
   abbrev pub engine : Facts → BlockState → BlockState → BlockState → PeerState → EngineState
   engine k x y z p = three_engine dig b infohash k (x ∷ y ∷ z ∷ []) (p ∷ []) 2
 
-  pub is_one : (k : Facts) (x y z state : BlockState) (p : PeerState) (c : BlockId) → state_at (engine k x y z p) c ≡ Some state → IsOne x y z c state
-  is_one k x y z state p c e = one_of x y z state c.file c.block e
+  pub is_one : (k : Facts) {x y z state : BlockState} (p : PeerState) {c : BlockId} → state_at (engine k x y z p) c ≡ Some state → IsOne x y z c state
+  is_one k p {c} e = one_of c.file c.block e
 
   pub whole_first : IsWholeBlock (three_torrent dig b infohash) 0 0 16384 (block 0)
   whole_first = record {
@@ -112,8 +112,8 @@ module _ (dig : List ℕ → List ℕ) (b : ThreeBlocks) (infohash : List ℕ) w
   -- a peer without the piece has none of the blocks
   has_none : (k : Facts) (x y z : BlockState) (p q : PeerState) (c : BlockId) → q.has ≡ false ∷ [] → ¬ Has (engine k x y z p) q c
   has_none k x y z p q c none has =
-      let r = and_then_some (λ n. slice_get q.has n) _ true has in
-      let one = one_there false true r.0 (ap (λ l. slice_get l r.0) (sym none) ∙ r.2) in
+      let r = and_then_some (λ n. slice_get q.has n) _ has in
+      let one = one_there r.0 (ap (λ l. slice_get l r.0) (sym none) ∙ r.2) in
       let wrong : false ≡ true = one.1 in
       absurd cc
 
@@ -121,28 +121,28 @@ module _ (dig : List ℕ → List ℕ) (b : ThreeBlocks) (infohash : List ℕ) w
   needs_none_of k x y z p q c none needs = has_none k x y z p q c none needs.has
 
   -- after the proof each leaf is known
-  pub all_known : (x y z state : BlockState) (c : BlockId) → IsOne x y z c state → value_at dig (proved dig b) 0 c.block ≡ None → ⊥
-  all_known x y z state c (first e f) none = let both = sym none ∙ ap (λ (d : BlockId). value_at dig (proved dig b) 0 d.block) e ∙ first_known dig b in absurd cc
-  all_known x y z state c (second e f) none = let both = sym none ∙ ap (λ (d : BlockId). value_at dig (proved dig b) 0 d.block) e ∙ second_known dig b in absurd cc
-  all_known x y z state c (third e f) none = let both = sym none ∙ ap (λ (d : BlockId). value_at dig (proved dig b) 0 d.block) e ∙ third_known dig b in absurd cc
+  pub all_known : {x y z state : BlockState} {c : BlockId} → IsOne x y z c state → value_at dig (proved dig b) 0 c.block ≡ None → ⊥
+  all_known (first e f) none = let both = sym none ∙ ap (λ (d : BlockId). value_at dig (proved dig b) 0 d.block) e ∙ first_known dig b in absurd cc
+  all_known (second e f) none = let both = sym none ∙ ap (λ (d : BlockId). value_at dig (proved dig b) 0 d.block) e ∙ second_known dig b in absurd cc
+  all_known (third e f) none = let both = sym none ∙ ap (λ (d : BlockId). value_at dig (proved dig b) 0 d.block) e ∙ third_known dig b in absurd cc
 
   pub needs_none : (x y z : BlockState) (p q : PeerState) (c : BlockId) → ¬ NeedsLeaf dig (engine (proved dig b) x y z p) q c
   needs_none x y z p q c needs =
       let is : (state : BlockState) × (state_at (engine (proved dig b) x y z p) c ≡ Some state) = elim needs.not_marked [ inl m ↦ (Missing, m) | inr w ↦ (Waiting, w) ] in
-      let one = is_one (proved dig b) x y z is.0 p c is.1 in
-      all_known x y z is.0 c one (ap (λ k. value_at dig k 0 c.block) (sym (same_tree c one needs.tree needs.hung)) ∙ needs.unknown)
+      let one = is_one (proved dig b) p is.1 in
+      all_known one (ap (λ k. value_at dig k 0 c.block) (sym (same_tree one needs.hung)) ∙ needs.unknown)
     where
-      same_tree : (c : BlockId) {state : BlockState} → IsOne x y z c state → (tree : Facts) → tree_of (engine (proved dig b) x y z p) c.file ≡ Some tree → tree ≡ proved dig b
-      same_tree c (first e f) tree hung = sym (some_is _ tree (ap (λ (d : BlockId). tree_of (engine (proved dig b) x y z p) d.file) (sym e) ∙ hung))
-      same_tree c (second e f) tree hung = sym (some_is _ tree (ap (λ (d : BlockId). tree_of (engine (proved dig b) x y z p) d.file) (sym e) ∙ hung))
-      same_tree c (third e f) tree hung = sym (some_is _ tree (ap (λ (d : BlockId). tree_of (engine (proved dig b) x y z p) d.file) (sym e) ∙ hung))
+      same_tree : {c : BlockId} {state : BlockState} → IsOne x y z c state → {tree : Facts} → tree_of (engine (proved dig b) x y z p) c.file ≡ Some tree → tree ≡ proved dig b
+      same_tree (first e f) hung = sym (some_is (ap (λ (d : BlockId). tree_of (engine (proved dig b) x y z p) d.file) (sym e) ∙ hung))
+      same_tree (second e f) hung = sym (some_is (ap (λ (d : BlockId). tree_of (engine (proved dig b) x y z p) d.file) (sym e) ∙ hung))
+      same_tree (third e f) hung = sym (some_is (ap (λ (d : BlockId). tree_of (engine (proved dig b) x y z p) d.file) (sym e) ∙ hung))
 
   -- ---- what follows where nothing is requested
 
-  pub quietly : (k : Facts) (x y z : BlockState) (p q : PeerState) (sent : List Sent) → q ≡ record p { am_interested = q.am_interested } → ((q.am_interested ≡ true) ↔ IsInteresting (engine k x y z p) p)
+  pub quietly : (k : Facts) (x y z : BlockState) (p : PeerState) {q : PeerState} {sent : List Sent} → q ≡ record p { am_interested = q.am_interested } → ((q.am_interested ≡ true) ↔ IsInteresting (engine k x y z p) p)
       → sent ≡ interest_sent p p.am_interested q.am_interested → (q.hash ≡ Idle → (c : BlockId) → ¬ NeedsLeaf dig (engine k x y z p) q c)
       → (q.peer_choking ≡ false → q.am_interested ≡ true → (c : BlockId) → ¬ IsOpen (engine k x y z p) q c) → length q.asked + 0 ≤ 16 → FollowsUp dig (engine k x y z p) 0 sent (engine k x y z q)
-  quietly k x y z p q sent same due told known none few =
+  quietly k x y z p {q} {sent} same due told known none few =
       record {
         peer = p;
         interested = q;
@@ -156,7 +156,7 @@ module _ (dig : List ℕ → List ℕ) (b : ThreeBlocks) (infohash : List ℕ) w
         hashes = rests known refl refl;
         asks = record {
           shut = λ _. refl;
-          are_open = λ c among. absurd (contains_none c among);
+          are_open = λ c among. absurd (contains_none among);
           distinct = λ i j d lt below. absurd (omega (arith, lt, below));
           few = few;
           all = λ open_to interested. inr (λ c may. absurd (none open_to interested c may));
@@ -171,7 +171,7 @@ module _ (dig : List ℕ → List ℕ) (b : ThreeBlocks) (infohash : List ℕ) w
   interesting k x y z p c has is missing = (c, subst (λ h. Has (engine k x y z p) (record p { has = h }) c) (sym has) is, missing)
 
   pub none_missing : (k : Facts) (p : PeerState) → ¬ IsInteresting (engine k Marked Marked Marked p) p
-  none_missing k p i = never (is_one k Marked Marked Marked Missing p i.0 i.2)
+  none_missing k p i = never (is_one k p i.2)
     where
       never : IsOne Marked Marked Marked i.0 Missing → ⊥
       never (first e f) = absurd cc
@@ -183,11 +183,11 @@ module _ (dig : List ℕ → List ℕ) (b : ThreeBlocks) (infohash : List ℕ) w
   after_hello : FollowsUp dig (engine (at_first dig b) Missing Missing Missing (peer_with all_taken false true false Idle [] 0)) 0 [] (engine (at_first dig b) Missing Missing Missing (peer_with all_taken false true false Idle [] 0))
   after_hello =
       let p = peer_with all_taken false true false Idle [] 0 in
-      quietly (at_first dig b) Missing Missing Missing p p [] refl (λ e. absurd cc, λ i. absurd (has_none (at_first dig b) Missing Missing Missing p p i.0 refl i.1)) refl
+      quietly (at_first dig b) Missing Missing Missing p refl (λ e. absurd cc, λ i. absurd (has_none (at_first dig b) Missing Missing Missing p p i.0 refl i.1)) refl
       (λ idle c. needs_none_of (at_first dig b) Missing Missing Missing p p c refl) (λ e. absurd cc) (omega arith)
 
-  least_need : (p q : PeerState) → q.has ≡ true ∷ [] → IsLeastNeed dig (engine (at_first dig b) Missing Missing Missing p) q (block 0)
-  least_need p q has = record {
+  least_need : (p : PeerState) {q : PeerState} → q.has ≡ true ∷ [] → IsLeastNeed dig (engine (at_first dig b) Missing Missing Missing p) q (block 0)
+  least_need p {q} has = record {
     needs = record {
       has = subst (λ h. Has (engine (at_first dig b) Missing Missing Missing p) (record q { has = h }) (block 0)) (sym has) refl;
       not_marked = inl refl;
@@ -214,10 +214,10 @@ module _ (dig : List ℕ → List ℕ) (b : ThreeBlocks) (infohash : List ℕ) w
         blocks = [];
         here = refl;
         interest = record { interest = (λ e. interesting (at_first dig b) Missing Missing Missing p (block 0) refl refl refl, λ i. refl); others = refl; told = refl };
-        hashes = requests (block 0) (at_first dig b) (leaves_key dig b) refl (least_need p q refl) refl (plan dig b) refl refl;
+        hashes = requests (block 0) (at_first dig b) (leaves_key dig b) refl (least_need p refl) refl (plan dig b) refl refl;
         asks = record {
           shut = λ _. refl;
-          are_open = λ c among. absurd (contains_none c among);
+          are_open = λ c among. absurd (contains_none among);
           distinct = λ i j d lt below. absurd (omega (arith, lt, below));
           few = omega arith;
           all = λ open_to interested. absurd cc;
@@ -228,14 +228,14 @@ module _ (dig : List ℕ → List ℕ) (b : ThreeBlocks) (infohash : List ℕ) w
       }
 
   unasked : (k : Facts) (p : PeerState) (c : BlockId) → p.asked ≡ [] → ¬ IsAsked (engine k Missing Missing Missing p) c
-  unasked k p c none asked = elim (contains_cases p asked.0 [] asked.1) [
-    | inl same ↦ contains_none c (subst (λ l. Contains l c) (ap (λ (q : PeerState). q.asked) (sym same) ∙ none) asked.2)
-    | inr more ↦ contains_none asked.0 more
+  unasked k p c none asked = elim (contains_cases [] asked.1) [
+    | inl same ↦ contains_none (subst (λ l. Contains l c) (ap (λ (q : PeerState). q.asked) (sym same) ∙ none) asked.2)
+    | inr more ↦ contains_none more
   ]
 
-  pub is_open : (k : Facts) (p : PeerState) (c : BlockId) → p.asked ≡ [] → Has (engine k Missing Missing Missing p) p c → state_at (engine k Missing Missing Missing p) c ≡ Some Missing
+  pub is_open : (k : Facts) {p : PeerState} {c : BlockId} → p.asked ≡ [] → Has (engine k Missing Missing Missing p) p c → state_at (engine k Missing Missing Missing p) c ≡ Some Missing
       → IsOpen (engine k Missing Missing Missing p) p c
-  is_open k p c none has missing = record { has = has; missing = missing; free = unasked k p c none }
+  is_open k {p} {c} none has missing = record { has = has; missing = missing; free = unasked k p c none }
 
   after_unchoke : (k : Facts) (hash : HashState) → (hash ≡ Idle → (c : BlockId) → ¬ NeedsLeaf dig (engine k Missing Missing Missing (asked_peer hash [] 0)) (asked_peer hash [] 0) c) → FollowsUp dig (engine k Missing Missing Missing (asked_peer hash [] 0)) 0 (to_first (block_request 0) ∷ to_first (block_request 16384) ∷ to_first (block_request 32768) ∷ [])
       (engine k Missing Missing Missing (asked_peer hash all_three 0))
@@ -255,19 +255,19 @@ module _ (dig : List ℕ → List ℕ) (b : ThreeBlocks) (infohash : List ℕ) w
         hashes = rests known refl refl;
         asks = record {
           shut = λ x. elim x [ inl e ↦ absurd cc | inr e ↦ absurd cc ];
-          are_open = λ c among. elim (contains_cases (block 0) c (block 1 ∷ block 2 ∷ []) among) [
-            | inl same ↦ subst (λ x. IsOpen s p x) same (is_open k p (block 0) refl refl refl)
-            | inr more ↦ elim (contains_cases (block 1) c (block 2 ∷ []) more) [
-              | inl same ↦ subst (λ x. IsOpen s p x) same (is_open k p (block 1) refl refl refl)
-              | inr rest ↦ elim (contains_cases (block 2) c [] rest) [
-                | inl same ↦ subst (λ x. IsOpen s p x) same (is_open k p (block 2) refl refl refl)
-                | inr none ↦ absurd (contains_none c none)
+          are_open = λ c among. elim (contains_cases (block 1 ∷ block 2 ∷ []) among) [
+            | inl same ↦ subst (λ x. IsOpen s p x) same (is_open k refl refl refl)
+            | inr more ↦ elim (contains_cases (block 2 ∷ []) more) [
+              | inl same ↦ subst (λ x. IsOpen s p x) same (is_open k refl refl refl)
+              | inr rest ↦ elim (contains_cases [] rest) [
+                | inl same ↦ subst (λ x. IsOpen s p x) same (is_open k refl refl refl)
+                | inr none ↦ absurd (contains_none none)
               ]
             ]
           ];
           distinct = λ i j d lt below same. absurd (omega (arith, lt, below, number_at i d (omega (arith, lt, below)), number_at j d below, ap (λ (c : BlockId). c.block) same));
           few = omega arith;
-          all = λ e f. inr (λ c may. among_three Missing Missing Missing Missing c (is_one k Missing Missing Missing Missing p c may.missing));
+          all = λ e f. inr (λ c may. among_three (is_one k p may.missing));
         };
         requests = (
           to_first (block_request 0),
@@ -293,8 +293,8 @@ module _ (dig : List ℕ → List ℕ) (b : ThreeBlocks) (infohash : List ℕ) w
       }
 
   -- a block that this peer is asked for is not open
-  pub not_open : (k : Facts) (x y z : BlockState) (p : PeerState) (c : BlockId) → Contains p.asked c → ¬ IsOpen (engine k x y z p) p c
-  not_open k x y z p c asked may = may.free (p, here p p [] refl, asked)
+  pub not_open : (k : Facts) (x y z : BlockState) (p : PeerState) {c : BlockId} → Contains p.asked c → ¬ IsOpen (engine k x y z p) p c
+  not_open k x y z p asked may = may.free (p, here [] refl, asked)
 
   -- ---- the steps
 
@@ -375,9 +375,9 @@ module _ (dig : List ℕ → List ℕ) (b : ThreeBlocks) (infohash : List ℕ) w
 
   -- ---- the start, and bytes that come
 
-  pub fed_to : (k : Facts) (x y z : BlockState) (p : PeerState) (bytes : List ℕ) → p.key ≡ first_key → p.stream ≡ stream [] p.stream.greeted p.stream.failed
+  pub fed_to : (k : Facts) (x y z : BlockState) (p : PeerState) {bytes : List ℕ} → p.key ≡ first_key → p.stream ≡ stream [] p.stream.greeted p.stream.failed
       → StepFeed (engine k x y z p) first_key bytes (Ok tt) (engine k x y z (record p { stream = stream bytes p.stream.greeted p.stream.failed }))
-  fed_to k x y z p bytes key empty = feeds 0 p (record { here = refl; same_key = key }) refl (ap (λ (t : Stream). engine k x y z (record p { stream = fed t bytes })) (sym empty))
+  fed_to k x y z p {bytes} key empty = feeds 0 p (record { here = refl; same_key = key }) refl (ap (λ (t : Stream). engine k x y z (record p { stream = fed t bytes })) (sym empty))
 
   abbrev pub start : EngineState
   start = three_engine dig b infohash (at_first dig b) (Missing ∷ Missing ∷ Missing ∷ []) [] 1
@@ -390,11 +390,11 @@ module _ (dig : List ℕ → List ℕ) (b : ThreeBlocks) (infohash : List ℕ) w
       record {
         is_new = record {
           roots = λ i j d lt below. absurd (omega (arith, lt, below));
-          each_tree = λ t k at. record { number = 0; file = three_file dig b; listed = refl; some = omega arith; says = by_root refl (sym (one_there (at_first dig b) k t at).1) };
+          each_tree = λ t k at. record { number = 0; file = three_file dig b; listed = refl; some = omega arith; says = by_root refl (sym (one_there t at).1) };
           count = refl;
           each_file = λ i file f listed at.
-              let one = one_there (record { tree = 0; states = Missing ∷ Missing ∷ Missing ∷ [] }) f i at in
-              let same : three_file dig b ≡ file = (one_there (three_file dig b) file i listed).1 in
+              let one = one_there i at in
+              let same : three_file dig b ≡ file = (one_there i listed).1 in
               record {
                 missing = ap (λ (q : FileState). q.states) (sym one.1) ∙ ap (λ (g : File). new_states g.length) same;
                 hung = λ some. (at_first dig b, ap (λ (q : FileState). slice_get (at_first dig b ∷ []) q.tree) (sym one.1), ap (λ (g : File). g.root) same, ap (λ (g : File). g.length) same);

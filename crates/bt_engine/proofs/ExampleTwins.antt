@@ -32,26 +32,26 @@ use Rattle.bt_engine.proofs.ExampleThreeTree.{at_first, proved, leaves_claim, ac
 use Rattle.bt_engine.proofs.ExampleThreeEngine.{key_fits, leaves_fit}
 
 -- each block that is there has the state of all
-same_state : (x y : BlockState) (file i : ℕ) → option_and_then (λ (f : FileState). slice_get f.states i) (slice_get (twin_files x) file) ≡ Some y → x ≡ y
-same_state x y zero zero e = some_is x y e
-same_state x y zero (suc zero) e = some_is x y e
-same_state x y zero (suc (suc zero)) e = some_is x y e
-same_state x y zero (suc (suc (suc i))) e = absurd cc
-same_state x y (suc zero) zero e = some_is x y e
-same_state x y (suc zero) (suc zero) e = some_is x y e
-same_state x y (suc zero) (suc (suc zero)) e = some_is x y e
-same_state x y (suc zero) (suc (suc (suc i))) e = absurd cc
-same_state x y (suc (suc file)) i e = absurd cc
+same_state : {x y : BlockState} (file i : ℕ) → option_and_then (λ (f : FileState). slice_get f.states i) (slice_get (twin_files x) file) ≡ Some y → x ≡ y
+same_state zero zero e = some_is e
+same_state zero (suc zero) e = some_is e
+same_state zero (suc (suc zero)) e = some_is e
+same_state zero (suc (suc (suc i))) e = absurd cc
+same_state (suc zero) zero e = some_is e
+same_state (suc zero) (suc zero) e = some_is e
+same_state (suc zero) (suc (suc zero)) e = some_is e
+same_state (suc zero) (suc (suc (suc i))) e = absurd cc
+same_state (suc (suc file)) i e = absurd cc
 
 module _ (dig : List ℕ → List ℕ) (b : ThreeBlocks) (infohash : List ℕ) where
   abbrev settled : PeerState → EngineState
   settled p = twin_engine dig b infohash (proved dig b) Marked p
 
   none_missing : (p : PeerState) (c : BlockId) → ¬ (state_at (settled p) c ≡ Some Missing)
-  none_missing p c e = let wrong = same_state Marked Missing c.file c.block e in absurd cc
+  none_missing p c e = let wrong = same_state c.file c.block e in absurd cc
 
   none_waiting : (p : PeerState) (c : BlockId) → ¬ (state_at (settled p) c ≡ Some Waiting)
-  none_waiting p c e = let wrong = same_state Marked Waiting c.file c.block e in absurd cc
+  none_waiting p c e = let wrong = same_state c.file c.block e in absurd cc
 
   no_need : (p q : PeerState) (c : BlockId) → ¬ NeedsLeaf dig (settled p) q c
   no_need p q c needs = elim needs.not_marked [ inl m ↦ none_missing p c m | inr w ↦ none_waiting p c w ]
@@ -73,7 +73,7 @@ module _ (dig : List ℕ → List ℕ) (b : ThreeBlocks) (infohash : List ℕ) w
         hashes = rests (λ idle c. no_need p p c) refl refl;
         asks = record {
           shut = λ _. refl;
-          are_open = λ c among. absurd (contains_none c among);
+          are_open = λ c among. absurd (contains_none among);
           distinct = λ i j d lt below. absurd (omega (arith, lt, below));
           few = omega arith;
           all = λ e f. absurd cc;
@@ -97,13 +97,13 @@ module _ (dig : List ℕ → List ℕ) (b : ThreeBlocks) (infohash : List ℕ) w
   file_in x = record { tree = 0; states = x ∷ x ∷ x ∷ [] }
 
   first_right : AreWhole b → is_right dig (proved dig b) 0 b.first ≡ true
-  first_right whole = right_true dig (proved dig b) 0 b.first (record { whole = whole.first; leaf = first_known dig b })
+  first_right whole = right_true (record { whole = whole.first; leaf = first_known dig b })
 
   second_right : AreWhole b → is_right dig (proved dig b) 1 b.second ≡ true
-  second_right whole = right_true dig (proved dig b) 1 b.second (record { whole = whole.second; leaf = second_known dig b })
+  second_right whole = right_true (record { whole = whole.second; leaf = second_known dig b })
 
   third_right : AreWhole b → is_right dig (proved dig b) 2 b.third ≡ true
-  third_right whole = right_true dig (proved dig b) 2 b.third (record { whole = whole.third; leaf = third_known dig b })
+  third_right whole = right_true (record { whole = whole.third; leaf = third_known dig b })
 
   all_due : due_blocks dig (proved dig b) 0 0 4 (file_in Waiting) ≡ 0 ∷ 1 ∷ 2 ∷ []
   all_due = rw (first_known dig b, second_known dig b, third_known dig b) refl
@@ -139,7 +139,7 @@ module _ (dig : List ℕ → List ℕ) (b : ThreeBlocks) (infohash : List ℕ) w
         takes = record {
           event = message_event (leaves_message dig b);
           rest = all_taken;
-          takes = taken_message (leaves_message dig b) (key_fits dig b infohash sizes) (leaves_fit dig b infohash sizes);
+          takes = taken_message (key_fits dig b infohash sizes) (leaves_fit dig b infohash sizes);
           handles = learns (record {
             tree = 0;
             old = at_first dig b;
@@ -176,8 +176,8 @@ module _ (dig : List ℕ → List ℕ) (b : ThreeBlocks) (infohash : List ℕ) w
       refl
     where
       due : (file : ℕ) (f : FileState) → slice_get (twin_files Waiting) file ≡ Some f → map block_of (reads file) ≡ due_blocks dig (proved dig b) 0 0 4 f
-      due zero f at = sym all_due ∙ ap (λ (g : FileState). due_blocks dig (proved dig b) 0 0 4 g) (some_is (file_in Waiting) f at)
-      due (suc zero) f at = sym all_due ∙ ap (λ (g : FileState). due_blocks dig (proved dig b) 0 0 4 g) (some_is (file_in Waiting) f at)
+      due zero f at = sym all_due ∙ ap (λ (g : FileState). due_blocks dig (proved dig b) 0 0 4 g) (some_is at)
+      due (suc zero) f at = sym all_due ∙ ap (λ (g : FileState). due_blocks dig (proved dig b) 0 0 4 g) (some_is at)
       due (suc (suc file)) f at = absurd cc
 
       files : (file : ℕ) → slice_get (twin_files Marked) file ≡ option_map (judged_file dig (proved dig b) (reads file)) (slice_get (twin_files Waiting) file)

@@ -55,35 +55,35 @@ pub record AreAsked (asked : List BlockId) : Type 0 where
   pub each : (c : BlockId) → Contains all_three c → Contains asked c
   pub among : (c : BlockId) → Contains asked c → Contains all_three c
 
-stays_asked : (c d : BlockId) (xs : List BlockId) → is_block c d ≡ false → Contains xs d → Contains (without_block c xs) d
-stays_asked c d [] e among = among
-stays_asked c d (x ∷ xs) e among = by (is_block c x) refl (stays_asked c d xs e)
+stays_asked : (c : BlockId) {d : BlockId} (xs : List BlockId) → is_block c d ≡ false → Contains xs d → Contains (without_block c xs) d
+stays_asked c [] e among = among
+stays_asked c {d} (x ∷ xs) e among = by (is_block c x) refl (stays_asked c xs e)
   where
     by : (t : Bool) → is_block c x ≡ t → (Contains xs d → Contains (without_block c xs) d) → Contains (without_block c (x ∷ xs)) d
-    by true f tail = elim (contains_cases x d xs among) [
+    by true f tail = elim (contains_cases xs among) [
       | inl same ↦ (let both : true ≡ false = sym f ∙ ap (is_block c) same ∙ e in absurd cc)
       | inr more ↦ rw f (tail more)
     ]
-    by false f tail = elim (contains_cases x d xs among) [ inl same ↦ rw f (here x d (without_block c xs) same) | inr more ↦ rw f (later x d (without_block c xs) (tail more)) ]
+    by false f tail = elim (contains_cases xs among) [ inl same ↦ rw f (here (without_block c xs) same) | inr more ↦ rw f (later x (without_block c xs) (tail more)) ]
 
 fewer : (c : BlockId) (xs : List BlockId) → length (without_block c xs) ≤ length xs
 fewer c xs = omega (arith, length-filter (λ d. not (is_block c d)) xs, count_by-le-length (λ d. not (is_block c d)) xs)
 
 none_within : (xs : List BlockId) → ((c : BlockId) → Contains xs c → ⊥) → xs ≡ []
 none_within [] none = refl
-none_within (x ∷ xs) none = absurd (none x (here x x xs refl))
+none_within (x ∷ xs) none = absurd (none x (here xs refl))
 
-pub three_cases : (c : BlockId) → Contains all_three c → (c ≡ block 0) ⊎ (c ≡ block 1) ⊎ (c ≡ block 2)
-three_cases c among = elim (contains_cases (block 0) c (block 1 ∷ block 2 ∷ []) among) [
+pub three_cases : {c : BlockId} → Contains all_three c → (c ≡ block 0) ⊎ (c ≡ block 1) ⊎ (c ≡ block 2)
+three_cases among = elim (contains_cases (block 1 ∷ block 2 ∷ []) among) [
   | inl e ↦ inl (sym e)
-  | inr more ↦ elim (contains_cases (block 1) c (block 2 ∷ []) more) [
+  | inr more ↦ elim (contains_cases (block 2 ∷ []) more) [
     | inl e ↦ inr (inl (sym e))
-    | inr last ↦ elim (contains_cases (block 2) c [] last) [ inl e ↦ inr (inr (sym e)) | inr none ↦ absurd (contains_none c none) ]
+    | inr last ↦ elim (contains_cases [] last) [ inl e ↦ inr (inr (sym e)) | inr none ↦ absurd (contains_none none) ]
   ]
 ]
 
-no_other : (c : BlockId) → Contains all_three c → not (is_block (block 0) c) ≡ true → not (is_block (block 1) c) ≡ true → not (is_block (block 2) c) ≡ true → ⊥
-no_other c among x y z = by (three_cases c among)
+no_other : {c : BlockId} → Contains all_three c → not (is_block (block 0) c) ≡ true → not (is_block (block 1) c) ≡ true → not (is_block (block 2) c) ≡ true → ⊥
+no_other {c} among x y z = by (three_cases among)
   where
     by : (c ≡ block 0) ⊎ (c ≡ block 1) ⊎ (c ≡ block 2) → ⊥
     by (inl e) = let no = ap (λ d. not (is_block (block 0) d)) (sym e) ∙ x in absurd cc
@@ -102,7 +102,7 @@ module _ (dig : List ℕ → List ℕ) (b : ThreeBlocks) (wrong : List ℕ) (inf
 
   -- nothing is missing, so nothing is of interest
   none_missing : (p : PeerState) → ¬ IsInteresting (engine dig b infohash (at_first dig b) Waiting Waiting Waiting p) p
-  none_missing p i = never (is_one dig b infohash (at_first dig b) Waiting Waiting Waiting Missing p i.0 i.2)
+  none_missing p i = never (is_one dig b infohash (at_first dig b) p i.2)
     where
       never : IsOne Waiting Waiting Waiting i.0 Missing → ⊥
       never (first e f) = absurd cc
@@ -115,12 +115,12 @@ module _ (dig : List ℕ → List ℕ) (b : ThreeBlocks) (wrong : List ℕ) (inf
   after_third : FollowsUp dig (engine dig b infohash (at_first dig b) Waiting Waiting Waiting (asked_peer asked_key [] 49152)) 0 (to_first NotInterested ∷ []) (engine dig b infohash (at_first dig b) Waiting Waiting Waiting (idle_peer all_taken asked_key))
   after_third =
       let p = asked_peer asked_key [] 49152 in
-      quietly dig b infohash (at_first dig b) Waiting Waiting Waiting p (idle_peer all_taken asked_key) (to_first NotInterested ∷ []) refl (λ e. absurd cc, λ i. absurd (none_missing p i)) refl
+      quietly dig b infohash (at_first dig b) Waiting Waiting Waiting p refl (λ e. absurd cc, λ i. absurd (none_missing p i)) refl
       (λ idle. asked_already idle) (λ e f. absurd cc) (omega arith)
 
   -- ---- whichever way the three are asked
 
-  module _ (asked : List BlockId) (all : AreAsked asked) where
+  module _ {asked : List BlockId} (all : AreAsked asked) where
     few_one : length (left_one asked) ≤ length asked
     few_one = fewer (block 0) asked
 
@@ -128,43 +128,43 @@ module _ (dig : List ℕ → List ℕ) (b : ThreeBlocks) (wrong : List ℕ) (inf
     few_two = fewer (block 1) (left_one asked)
 
     second_left : Contains (left_one asked) (block 1)
-    second_left = stays_asked (block 0) (block 1) asked refl (all.each (block 1) (1, omega arith, refl))
+    second_left = stays_asked (block 0) asked refl (all.each (block 1) (1, omega arith, refl))
 
     third_left : Contains (left_one asked) (block 2)
-    third_left = stays_asked (block 0) (block 2) asked refl (all.each (block 2) (2, omega arith, refl))
+    third_left = stays_asked (block 0) asked refl (all.each (block 2) (2, omega arith, refl))
 
     third_last : Contains (left_two asked) (block 2)
-    third_last = stays_asked (block 1) (block 2) (left_one asked) refl third_left
+    third_last = stays_asked (block 1) (left_one asked) refl third_left
 
     none_left : without_block (block 2) (left_two asked) ≡ []
     none_left = none_within (without_block (block 2) (left_two asked)) (λ c among. (
-        let x = contains_filter (λ d. not (is_block (block 2) d)) (left_two asked) c among in
-        let y = contains_filter (λ d. not (is_block (block 1) d)) (left_one asked) c x.0 in
-        let z = contains_filter (λ d. not (is_block (block 0) d)) asked c y.0 in
-        no_other c (all.among c z.0) z.1 y.1 x.1
+        let x = contains_filter (λ d. not (is_block (block 2) d)) (left_two asked) among in
+        let y = contains_filter (λ d. not (is_block (block 1) d)) (left_one asked) x.0 in
+        let z = contains_filter (λ d. not (is_block (block 0) d)) asked y.0 in
+        no_other (all.among c z.0) z.1 y.1 x.1
         ))
 
     after_first : FollowsUp dig (engine dig b infohash (at_first dig b) Waiting Missing Missing (asked_peer asked_key (left_one asked) 16384)) 0 [] (engine dig b infohash (at_first dig b) Waiting Missing Missing (asked_peer asked_key (left_one asked) 16384))
     after_first =
         let p = asked_peer asked_key (left_one asked) 16384 in
-        quietly dig b infohash (at_first dig b) Waiting Missing Missing p p [] refl (λ e. interesting dig b infohash (at_first dig b) Waiting Missing Missing p (block 1) refl refl refl, λ i. refl) refl
-        (λ idle. asked_already idle) (λ e f c may. none c (is_one dig b infohash (at_first dig b) Waiting Missing Missing Missing p c may.missing) may) (omega (arith, few_one, all.few))
+        quietly dig b infohash (at_first dig b) Waiting Missing Missing p refl (λ e. interesting dig b infohash (at_first dig b) Waiting Missing Missing p (block 1) refl refl refl, λ i. refl) refl
+        (λ idle. asked_already idle) (λ e f c may. none (is_one dig b infohash (at_first dig b) p may.missing) may) (omega (arith, few_one, all.few))
       where
-        none : (c : BlockId) → IsOne Waiting Missing Missing c Missing → ¬ IsOpen (engine dig b infohash (at_first dig b) Waiting Missing Missing (asked_peer asked_key (left_one asked) 16384)) (asked_peer asked_key (left_one asked) 16384) c
-        none c (first e f) may = absurd cc
-        none c (second e f) may = not_open dig b infohash _ _ _ _ (asked_peer asked_key (left_one asked) 16384) c (subst (λ d. Contains (left_one asked) d) (sym e) second_left) may
-        none c (third e f) may = not_open dig b infohash _ _ _ _ (asked_peer asked_key (left_one asked) 16384) c (subst (λ d. Contains (left_one asked) d) (sym e) third_left) may
+        none : {c : BlockId} → IsOne Waiting Missing Missing c Missing → ¬ IsOpen (engine dig b infohash (at_first dig b) Waiting Missing Missing (asked_peer asked_key (left_one asked) 16384)) (asked_peer asked_key (left_one asked) 16384) c
+        none (first e f) may = absurd cc
+        none (second e f) may = not_open dig b infohash _ _ _ _ (asked_peer asked_key (left_one asked) 16384) (subst (λ d. Contains (left_one asked) d) (sym e) second_left) may
+        none (third e f) may = not_open dig b infohash _ _ _ _ (asked_peer asked_key (left_one asked) 16384) (subst (λ d. Contains (left_one asked) d) (sym e) third_left) may
 
     after_second : FollowsUp dig (engine dig b infohash (at_first dig b) Waiting Waiting Missing (asked_peer asked_key (left_two asked) 32768)) 0 [] (engine dig b infohash (at_first dig b) Waiting Waiting Missing (asked_peer asked_key (left_two asked) 32768))
     after_second =
         let p = asked_peer asked_key (left_two asked) 32768 in
-        quietly dig b infohash (at_first dig b) Waiting Waiting Missing p p [] refl (λ e. interesting dig b infohash (at_first dig b) Waiting Waiting Missing p (block 2) refl refl refl, λ i. refl) refl
-        (λ idle. asked_already idle) (λ e f c may. none c (is_one dig b infohash (at_first dig b) Waiting Waiting Missing Missing p c may.missing) may) (omega (arith, few_one, few_two, all.few))
+        quietly dig b infohash (at_first dig b) Waiting Waiting Missing p refl (λ e. interesting dig b infohash (at_first dig b) Waiting Waiting Missing p (block 2) refl refl refl, λ i. refl) refl
+        (λ idle. asked_already idle) (λ e f c may. none (is_one dig b infohash (at_first dig b) p may.missing) may) (omega (arith, few_one, few_two, all.few))
       where
-        none : (c : BlockId) → IsOne Waiting Waiting Missing c Missing → ¬ IsOpen (engine dig b infohash (at_first dig b) Waiting Waiting Missing (asked_peer asked_key (left_two asked) 32768)) (asked_peer asked_key (left_two asked) 32768) c
-        none c (first e f) may = absurd cc
-        none c (second e f) may = absurd cc
-        none c (third e f) may = not_open dig b infohash _ _ _ _ (asked_peer asked_key (left_two asked) 32768) c (subst (λ d. Contains (left_two asked) d) (sym e) third_last) may
+        none : {c : BlockId} → IsOne Waiting Waiting Missing c Missing → ¬ IsOpen (engine dig b infohash (at_first dig b) Waiting Waiting Missing (asked_peer asked_key (left_two asked) 32768)) (asked_peer asked_key (left_two asked) 32768) c
+        none (first e f) may = absurd cc
+        none (second e f) may = absurd cc
+        none (third e f) may = not_open dig b infohash _ _ _ _ (asked_peer asked_key (left_two asked) 32768) (subst (λ d. Contains (left_two asked) d) (sym e) third_last) may
 
     next_first : length b.first ≡ 16384 → StepNext dig (engine dig b infohash (at_first dig b) Missing Missing Missing (peer_with (stream (message_spelling (Piece 0 0 b.first)) true false) true false true asked_key asked 0)) first_key ((0, bytes_written 0 b.first) ∷ [])
         (Ok (Some (output_of [] (NowWaiting (block 0) ∷ [])))) (engine dig b infohash (at_first dig b) Waiting Missing Missing (asked_peer asked_key (left_one asked) 16384))
@@ -177,7 +177,7 @@ module _ (dig : List ℕ → List ℕ) (b : ThreeBlocks) (wrong : List ℕ) (inf
           takes = record {
             event = message_event (Piece 0 0 b.first);
             rest = all_taken;
-            takes = taken_message (Piece 0 0 b.first) (omega arith, omega arith) (piece_fits 0 b.first size);
+            takes = taken_message (omega arith, omega arith) (piece_fits 0 size);
             handles = arrives (record {
               block = block 0;
               stored = engine dig b infohash (at_first dig b) Waiting Missing Missing (asked_peer asked_key asked 0);
@@ -215,7 +215,7 @@ module _ (dig : List ℕ → List ℕ) (b : ThreeBlocks) (wrong : List ℕ) (inf
           takes = record {
             event = message_event (Piece 0 16384 b.second);
             rest = all_taken;
-            takes = taken_message (Piece 0 16384 b.second) (omega arith, omega arith) (piece_fits 16384 b.second size);
+            takes = taken_message (omega arith, omega arith) (piece_fits 16384 size);
             handles = arrives (record {
               block = block 1;
               stored = engine dig b infohash (at_first dig b) Waiting Waiting Missing (asked_peer asked_key (left_one asked) 16384);
@@ -253,7 +253,7 @@ module _ (dig : List ℕ → List ℕ) (b : ThreeBlocks) (wrong : List ℕ) (inf
           takes = record {
             event = message_event (Piece 0 32768 wrong);
             rest = all_taken;
-            takes = taken_message (Piece 0 32768 wrong) (omega arith, omega arith) (piece_fits 32768 wrong size);
+            takes = taken_message (omega arith, omega arith) (piece_fits 32768 size);
             handles = arrives (record {
               block = block 2;
               stored = engine dig b infohash (at_first dig b) Waiting Waiting Waiting (asked_peer asked_key (left_two asked) 32768);
@@ -294,16 +294,16 @@ module _ (dig : List ℕ → List ℕ) (b : ThreeBlocks) (wrong : List ℕ) (inf
   waiting_file = record { tree = 0; states = Waiting ∷ Waiting ∷ Waiting ∷ [] }
 
   first_right : AreWhole b → is_right dig (proved dig b) 0 b.first ≡ true
-  first_right whole = right_true dig (proved dig b) 0 b.first (record { whole = whole.first; leaf = first_known dig b })
+  first_right whole = right_true (record { whole = whole.first; leaf = first_known dig b })
 
   second_right : AreWhole b → is_right dig (proved dig b) 1 b.second ≡ true
-  second_right whole = right_true dig (proved dig b) 1 b.second (record { whole = whole.second; leaf = second_known dig b })
+  second_right whole = right_true (record { whole = whole.second; leaf = second_known dig b })
 
   third_wrong : IsWrongThird dig b wrong → is_right dig (proved dig b) 2 wrong ≡ false
   third_wrong other = by (is_right dig (proved dig b) 2 wrong) refl
     where
       by : (x : Bool) → is_right dig (proved dig b) 2 wrong ≡ x → x ≡ false
-      by true e = absurd (other.differs (same_some (value_at dig (proved dig b) 0 2) (dig wrong) (dig b.third) (right_then dig (proved dig b) 2 wrong e).leaf (third_known dig b)))
+      by true e = absurd (other.differs (same_some (right_then e).leaf (third_known dig b)))
       by false e = refl
 
   all_due : due_blocks dig (proved dig b) 0 0 4 waiting_file ≡ 0 ∷ 1 ∷ 2 ∷ []
@@ -318,18 +318,18 @@ module _ (dig : List ℕ → List ℕ) (b : ThreeBlocks) (wrong : List ℕ) (inf
   abbrev pub settled : PeerState → EngineState
   settled p = engine dig b infohash (proved dig b) Marked Marked Missing p
 
-  pub only_third : (p : PeerState) (c : BlockId) → IsOne Marked Marked Missing c Missing → Contains (block 2 ∷ []) c
-  only_third p c (first e f) = absurd cc
-  only_third p c (second e f) = absurd cc
-  only_third p c (third e f) = (0, omega arith, sym e)
+  pub only_third : (p : PeerState) {c : BlockId} → IsOne Marked Marked Missing c Missing → Contains (block 2 ∷ []) c
+  only_third p (first e f) = absurd cc
+  only_third p (second e f) = absurd cc
+  only_third p (third e f) = (0, omega arith, sym e)
 
   third_open : IsOpen (settled (idle_peer all_taken Idle)) (asked_peer Idle [] 49152) (block 2)
   third_open = record {
     has = refl;
     missing = refl;
-    free = λ asked. elim (contains_cases (idle_peer all_taken Idle) asked.0 [] asked.1) [
-      | inl same ↦ contains_none (block 2) (subst (λ (q : PeerState). Contains q.asked (block 2)) (sym same) asked.2)
-      | inr more ↦ contains_none asked.0 more
+    free = λ asked. elim (contains_cases [] asked.1) [
+      | inl same ↦ contains_none (subst (λ (q : PeerState). Contains q.asked (block 2)) (sym same) asked.2)
+      | inr more ↦ contains_none more
     ];
   }
 
@@ -353,13 +353,13 @@ module _ (dig : List ℕ → List ℕ) (b : ThreeBlocks) (wrong : List ℕ) (inf
         hashes = rests (λ idle c. needs_none dig b infohash Marked Marked Missing p q c) refl refl;
         asks = record {
           shut = λ x. elim x [ inl e ↦ absurd cc | inr e ↦ absurd cc ];
-          are_open = λ c among. elim (contains_cases (block 2) c [] among) [
+          are_open = λ c among. elim (contains_cases [] among) [
             | inl same ↦ subst (λ x. IsOpen (settled p) q x) same third_open
-            | inr none ↦ absurd (contains_none c none)
+            | inr none ↦ absurd (contains_none none)
           ];
           distinct = λ i j d lt below. absurd (omega (arith, lt, below));
           few = omega arith;
-          all = λ e f. inr (λ c may. only_third p c (is_one dig b infohash (proved dig b) Marked Marked Missing Missing p c may.missing));
+          all = λ e f. inr (λ c may. only_third p (is_one dig b infohash (proved dig b) p may.missing));
         };
         requests = (to_first (block_request 32768), [], record { ask = record { piece = 0; begin = 32768; length = 16384 }; whole = whole_third dig b infohash; is = refl }, refl, refl);
         all = refl;
@@ -380,7 +380,7 @@ module _ (dig : List ℕ → List ℕ) (b : ThreeBlocks) (wrong : List ℕ) (inf
         takes = record {
           event = message_event (leaves_message dig b);
           rest = all_taken;
-          takes = taken_message (leaves_message dig b) (key_fits dig b infohash sizes) (leaves_fit dig b infohash sizes);
+          takes = taken_message (key_fits dig b infohash sizes) (leaves_fit dig b infohash sizes);
           handles = learns (record {
             tree = 0;
             old = at_first dig b;
@@ -416,7 +416,7 @@ module _ (dig : List ℕ → List ℕ) (b : ThreeBlocks) (wrong : List ℕ) (inf
       refl
     where
       due : (file : ℕ) (f : FileState) → slice_get (waiting_file ∷ []) file ≡ Some f → map block_of (reads file) ≡ due_blocks dig (proved dig b) 0 0 4 f
-      due zero f at = sym all_due ∙ ap (λ (g : FileState). due_blocks dig (proved dig b) 0 0 4 g) (one_there waiting_file f 0 at).1
+      due zero f at = sym all_due ∙ ap (λ (g : FileState). due_blocks dig (proved dig b) 0 0 4 g) (one_there 0 at).1
       due (suc file) f at = absurd cc
 
       files : (file : ℕ) → slice_get ((record { tree = 0; states = Marked ∷ Marked ∷ Missing ∷ [] }) ∷ []) file ≡ option_map (judged_file dig (proved dig b) (reads file)) (slice_get (waiting_file ∷ []) file)
@@ -444,19 +444,19 @@ module _ (dig : List ℕ → List ℕ) (b : ThreeBlocks) (wrong : List ℕ) (inf
     (_, refl, refl, connects dig b infohash),
     (
       first_state Missing Missing Missing (peer_with (stream (handshake_spelling (their_handshake infohash)) false false) false true false Idle [] 0),
-      (_, refl, refl, fed_to dig b infohash (at_first dig b) Missing Missing Missing (peer_with (stream [] false false) false true false Idle [] 0) (handshake_spelling (their_handshake infohash)) refl refl),
+      (_, refl, refl, fed_to dig b infohash (at_first dig b) Missing Missing Missing (peer_with (stream [] false false) false true false Idle [] 0) refl refl),
       (
         first_state Missing Missing Missing (peer_with all_taken false true false Idle [] 0),
         (_, refl, next_hello dig b infohash size),
         (
           first_state Missing Missing Missing (peer_with (stream bitfield_bytes true false) false true false Idle [] 0),
-          (_, refl, refl, fed_to dig b infohash (at_first dig b) Missing Missing Missing (peer_with all_taken false true false Idle [] 0) bitfield_bytes refl refl),
+          (_, refl, refl, fed_to dig b infohash (at_first dig b) Missing Missing Missing (peer_with all_taken false true false Idle [] 0) refl refl),
           (
             first_state Missing Missing Missing (peer_with all_taken true true true asked_key [] 0),
             (_, refl, next_bits dig b infohash),
             (
               before_unchoke,
-              (_, refl, refl, fed_to dig b infohash (at_first dig b) Missing Missing Missing (peer_with all_taken true true true asked_key [] 0) unchoke_bytes refl refl),
+              (_, refl, refl, fed_to dig b infohash (at_first dig b) Missing Missing Missing (peer_with all_taken true true true asked_key [] 0) refl refl),
               refl,
             ),
           ),
@@ -479,23 +479,23 @@ module _ (dig : List ℕ → List ℕ) (b : ThreeBlocks) (wrong : List ℕ) (inf
   abbrev pub all_wait : EngineState
   all_wait = first_state Waiting Waiting Waiting (idle_peer all_taken asked_key)
 
-  pub pieces_wait : (asked : List BlockId) → AreAsked asked → AreWhole b → IsWrongThird dig b wrong → Run dig (first_state Missing Missing Missing (asked_peer asked_key asked 0)) piece_events piece_calls piece_answers all_wait
-  pieces_wait asked all whole other = (
+  pub pieces_wait : {asked : List BlockId} → AreAsked asked → AreWhole b → IsWrongThird dig b wrong → Run dig (first_state Missing Missing Missing (asked_peer asked_key asked 0)) piece_events piece_calls piece_answers all_wait
+  pieces_wait {asked} all whole other = (
     first_state Missing Missing Missing (peer_with (stream (message_spelling (Piece 0 0 b.first)) true false) true false true asked_key asked 0),
-    (_, refl, refl, fed_to dig b infohash (at_first dig b) Missing Missing Missing (asked_peer asked_key asked 0) (message_spelling (Piece 0 0 b.first)) refl refl),
+    (_, refl, refl, fed_to dig b infohash (at_first dig b) Missing Missing Missing (asked_peer asked_key asked 0) refl refl),
     (
       first_state Waiting Missing Missing (asked_peer asked_key (left_one asked) 16384),
-      (_, refl, next_first asked all whole.first),
+      (_, refl, next_first all whole.first),
       (
         first_state Waiting Missing Missing (peer_with (stream (message_spelling (Piece 0 16384 b.second)) true false) true false true asked_key (left_one asked) 16384),
-        (_, refl, refl, fed_to dig b infohash (at_first dig b) Waiting Missing Missing (asked_peer asked_key (left_one asked) 16384) (message_spelling (Piece 0 16384 b.second)) refl refl),
+        (_, refl, refl, fed_to dig b infohash (at_first dig b) Waiting Missing Missing (asked_peer asked_key (left_one asked) 16384) refl refl),
         (
           first_state Waiting Waiting Missing (asked_peer asked_key (left_two asked) 32768),
-          (_, refl, next_second asked all whole.second),
+          (_, refl, next_second all whole.second),
           (
             first_state Waiting Waiting Missing (peer_with (stream (message_spelling (Piece 0 32768 wrong)) true false) true false true asked_key (left_two asked) 32768),
-            (_, refl, refl, fed_to dig b infohash (at_first dig b) Waiting Waiting Missing (asked_peer asked_key (left_two asked) 32768) (message_spelling (Piece 0 32768 wrong)) refl refl),
-            (all_wait, (_, refl, next_third asked all other.whole), refl),
+            (_, refl, refl, fed_to dig b infohash (at_first dig b) Waiting Waiting Missing (asked_peer asked_key (left_two asked) 32768) refl refl),
+            (all_wait, (_, refl, next_third all other.whole), refl),
           ),
         ),
       ),
@@ -511,14 +511,14 @@ module _ (dig : List ℕ → List ℕ) (b : ThreeBlocks) (wrong : List ℕ) (inf
   waits : AreWhole b → IsWrongThird dig b wrong → length infohash ≡ 32 → Run dig (start dig b infohash) (waiting_events b wrong infohash) (waiting_calls b wrong) (waiting_answers dig b infohash) all_wait
   waits whole other size =
       let goes_on : Run dig before_unchoke (Next first_key ∷ piece_events) ([] ∷ piece_calls) (unchoke_answer ∷ piece_answers) all_wait
-      = (first_state Missing Missing Missing (asked_peer asked_key all_three 0), (_, refl, next_unchoke dig b infohash (at_first dig b) asked_key (λ idle. asked_already idle)), pieces_wait all_three in_turn whole other) in
+      = (first_state Missing Missing Missing (asked_peer asked_key all_three 0), (_, refl, next_unchoke dig b infohash (at_first dig b) asked_key (λ idle. asked_already idle)), pieces_wait in_turn whole other) in
       run_join dig begin_events (Next first_key ∷ piece_events) ([] ∷ [] ∷ [] ∷ [] ∷ [] ∷ [] ∷ []) ([] ∷ piece_calls) begin_answers (unchoke_answer ∷ piece_answers) (start dig b infohash) before_unchoke all_wait (begins size) goes_on
 
   pub settles : IsDigest dig → AreWhole b → IsWrongThird dig b wrong
       → Run dig (first_state Waiting Waiting Waiting (idle_peer all_taken asked_key)) (told (message_spelling (leaves_message dig b)) []) (settling_calls b wrong) settling_answers (settled (asked_peer Idle (block 2 ∷ []) 49152))
   settles sizes whole other = (
     first_state Waiting Waiting Waiting (idle_peer (stream (message_spelling (leaves_message dig b)) true false) asked_key),
-    (_, refl, refl, fed_to dig b infohash (at_first dig b) Waiting Waiting Waiting (idle_peer all_taken asked_key) (message_spelling (leaves_message dig b)) refl refl),
+    (_, refl, refl, fed_to dig b infohash (at_first dig b) Waiting Waiting Waiting (idle_peer all_taken asked_key) refl refl),
     (settled (asked_peer Idle (block 2 ∷ []) 49152), (_, refl, next_leaves sizes whole other), refl),
   )
 

@@ -36,17 +36,17 @@ none_marked (suc n) zero e = absurd cc
 none_marked (suc n) (suc i) e = none_marked n i e
 
 module _ {D : Type 0} (history : D → History) (honest : D → Type 0) (faults : D → ℕ) (dig : List ℕ → List ℕ) where
-  start_sound : (torrent : Metainfo) (s : EngineState) (disks : List (Option D)) → Starts dig torrent s → IsSound history honest dig s disks
-  start_sound torrent s disks starts i f k d is_file there honest_now j marked =
-      let lt : i < length torrent.files = subst (λ n. i < n) starts.is_new.count (some_below s.files i f is_file.here) in
+  start_sound : {torrent : Metainfo} {s : EngineState} (disks : List (Option D)) → Starts dig torrent s → IsSound history honest dig s disks
+  start_sound {torrent} {s} disks starts i f k d is_file there honest_now j marked =
+      let lt : i < length torrent.files = subst (λ n. i < n) starts.is_new.count (some_below s.files i is_file.here) in
       let file = get_some torrent.files i lt in
       let new = starts.is_new.each_file i file.0 f file.1 is_file.here in
       absurd (none_marked (block_count file.0.length) j (sym (ap (λ xs. slice_get xs j) new.missing) ∙ marked))
 
-  start_of : (torrent : Metainfo) (s : EngineState) → Starts dig torrent s → IsOf torrent s
-  start_of torrent s starts i file f k listed some here hung =
+  start_of : {torrent : Metainfo} {s : EngineState} → Starts dig torrent s → IsOf torrent s
+  start_of starts i file f k listed some here hung =
       let tree = (starts.is_new.each_file i file f listed here).hung some in
-      let same : tree.0 ≡ k = same_some (slice_get s.trees f.tree) tree.0 k tree.1 hung in
+      let same : tree.0 ≡ k = same_some tree.1 hung in
       (ap (λ (l : Facts). l.file_length) (sym same) ∙ tree.3, ap (λ (l : Facts). l.root) (sym same) ∙ tree.2)
 
   step_of : (torrent : Metainfo) (old new : EngineState) (e : Event) (calls : DeviceCalls) (a : Answer) → Step dig old e calls a new → IsOf torrent old → IsOf torrent new
@@ -73,8 +73,8 @@ module _ {D : Type 0} (history : D → History) (honest : D → Type 0) (faults 
   without_devices old new (e ∷ es) [] answers disks after run = absurd run
   without_devices old new (e ∷ es) (c ∷ calls) [] disks after run = absurd run
 
-  published : IsDigest dig → (file : File) (k : Facts) (bytes : List ℕ) → k.file_length ≡ file.length → k.root ≡ file.root → HasFile dig k bytes → IsPublished dig file bytes
-  published sizes file k bytes size root has =
+  published : IsDigest dig → {file : File} {k : Facts} {bytes : List ℕ} → k.file_length ≡ file.length → k.root ≡ file.root → HasFile dig k bytes → IsPublished dig file bytes
+  published sizes {file} {bytes} size root has =
       let all : length (take file.length bytes) ≡ file.length = subst (λ n. length (take n bytes) ≡ n) size has.all in
       let own : file_root dig (take file.length bytes) ≡ file.root = ap (λ n. file_root dig (take n bytes)) (sym size) ∙ has.root ∙ root in
       record {
@@ -86,9 +86,9 @@ module _ {D : Type 0} (history : D → History) (honest : D → Type 0) (faults 
   pub files_published : IsDigest dig → CompleteFilesArePublished history honest faults dig
   files_published sizes torrent first last events calls answers disks after number file d lawful starts run complete there honest_now =
       let plain = without_devices first last events calls answers disks after run in
-      let rooted = run_rooted dig first last events calls answers plain (start_rooted dig sizes torrent first lawful starts) in
-      let sound = run_sound history honest faults dig first last events calls answers disks after run (start_sound torrent first disks starts) in
-      let of = run_of torrent first last events calls answers plain (start_of torrent first starts) number file complete.state complete.tree complete.listed complete.some complete.here complete.hung in
-      published sizes file complete.tree (history d).now.bytes of.0 of.1
+      let rooted = run_rooted dig first last events calls answers plain (start_rooted sizes lawful starts) in
+      let sound = run_sound history honest faults dig first last events calls answers disks after run (start_sound disks starts) in
+      let of = run_of torrent first last events calls answers plain (start_of starts) number file complete.state complete.tree complete.listed complete.some complete.here complete.hung in
+      published sizes of.0 of.1
       (complete_stands history honest faults dig last after number complete.state complete.tree d rooted sound (record { here = complete.here; hung = complete.hung }) (subst (λ n. 0 < n) (sym of.0) complete.some)
       (λ i lt. complete.marked i (subst (λ n. i < block_count n) of.0 lt)) there honest_now)

@@ -35,9 +35,9 @@ unfolding row_node
 row_length dig sizes row zero i first = first i refl refl
 row_length dig sizes row (suc up) i first = sizes _
 
-layer_whole : (dig : List ℕ → List ℕ) → IsDigest dig → (n : ℕ) (root : List ℕ) (layer : ℕ) (bytes : List ℕ) (k : Facts) → HoldsLayer dig n root layer bytes k
+layer_whole : {dig : List ℕ → List ℕ} → IsDigest dig → {n : ℕ} {root : List ℕ} {layer : ℕ} {bytes : List ℕ} {k : Facts} → HoldsLayer dig n root layer bytes k
     → IsWhole dig (block_count n) (layer_digest dig (block_count n) layer bytes) layer k.nodes
-layer_whole dig sizes n root layer bytes k h = record {
+layer_whole {dig} sizes {n} {layer} {bytes} h = record {
   past = layer_past dig (block_count n) layer bytes;
   low = h.is_layer.size.inside;
   holds = λ l i from within real.
@@ -45,7 +45,7 @@ layer_whole dig sizes n root layer bytes k h = record {
       h.holds l i from (record { inside = record { in_height = low; in_width = (let wide = real_limit (block_count n) l low in omega (arith, wide, real)) }; real = real });
   only = λ l i d held.
       let o = h.only l i d held in
-      (o.0, at_layer l i o.1.inside.in_height o.1.real, o.1.real);
+      (o.0, at_layer i o.1.inside.in_height o.1.real, o.1.real);
   sizes = λ l i d held.
       let o = h.only l i d held in
       let is = some_is (sym held ∙ h.holds l i o.0 o.1) in
@@ -58,38 +58,38 @@ layer_whole dig sizes n root layer bytes k h = record {
     some_is : {x y : List ℕ} → Some x ≡ Some y → x ≡ y
     some_is e = cc
 
-    at_layer : (l i : ℕ) → l ≤ height_of (block_count n) → i < real_width (block_count n) l
+    at_layer : {l : ℕ} (i : ℕ) → l ≤ height_of (block_count n) → i < real_width (block_count n) l
         → (l < height_of (block_count n)) ⊎ ((l ≡ height_of (block_count n)) × (i < real_width (block_count n) (height_of (block_count n))))
-    at_layer l i le real = elim (cases_lt l (height_of (block_count n))) [
+    at_layer {l} i le real = elim (cases_lt l (height_of (block_count n))) [
       | inl lt ↦ inl lt
       | inr ge ↦ (let same : l ≡ height_of (block_count n) = omega arith in inr (same, subst (λ m. i < real_width (block_count n) m) same real))
     ]
 
-pub layer_rooted : (dig : List ℕ → List ℕ) → IsDigest dig → (n : ℕ) (root : List ℕ) (layer : ℕ) (bytes : List ℕ) (k : Facts) → IsFileLength n → HoldsLayer dig n root layer bytes k → IsRooted dig k
-layer_rooted dig sizes n root layer bytes k lawful h =
+pub layer_rooted : {dig : List ℕ → List ℕ} → IsDigest dig → {n : ℕ} {root : List ℕ} {layer : ℕ} {bytes : List ℕ} {k : Facts} → IsFileLength n → HoldsLayer dig n root layer bytes k → IsRooted dig k
+layer_rooted {dig} sizes {n} {root} {layer} {bytes} {k} lawful h =
     let row : ℕ → List ℕ = layer_digest dig (block_count n) layer bytes in
-    let sound = filled_sound dig n row layer root k.nodes (layer_whole dig sizes n root layer bytes k h) lawful
+    let sound = filled_sound dig n row layer root k.nodes (layer_whole sizes h) lawful
     (layer_folds dig (block_count n) layer root bytes (chunk_count (real_width (block_count n) layer) bytes) h.is_layer) in
     let is : record { file_length = n; root = root; nodes = k.nodes } ≡ k = ap (λ m. record k { root = root; file_length = m }) (sym h.length_is) ∙ ap (λ r. record k { root = r }) (sym h.root_is) in
     subst (λ x. IsRooted dig x) is sound.rooted
 
-get_is : {X : Type 0} (xs : List X) (i : ℕ) (x : X) → slice_get xs i ≡ Some x → (i < length xs) × (get_or xs i x ≡ x)
-get_is [] zero x e = absurd cc
-get_is [] (suc i) x e = absurd cc
-get_is (y ∷ xs) zero x e = (omega arith, same e)
+get_is : {X : Type 0} (xs : List X) (i : ℕ) {x : X} → slice_get xs i ≡ Some x → (i < length xs) × (get_or xs i x ≡ x)
+get_is [] zero e = absurd cc
+get_is [] (suc i) e = absurd cc
+get_is (y ∷ xs) zero {x} e = (omega arith, same e)
   where
     same : Some y ≡ Some x → y ≡ x
     same e = cc
-get_is (y ∷ xs) (suc i) x e = let r = get_is xs i x e in (omega (arith, r.0), r.1)
+get_is (y ∷ xs) (suc i) e = let r = get_is xs i e in (omega (arith, r.0), r.1)
 
-tree_rooted : (dig : List ℕ → List ℕ) → IsDigest dig → (torrent : Metainfo) (file : File) (k : Facts) → IsFileLength file.length → length file.root ≡ 32 → IsTreeFrom dig torrent file k → IsRooted dig k
-tree_rooted dig sizes torrent file k lawful size (by_layer layer some piece h) = layer_rooted dig sizes file.length file.root layer file.layer k lawful h
-tree_rooted dig sizes torrent file k lawful size (by_root none is) = subst (λ x. IsRooted dig x) (sym is) (root_sound dig file.length file.root lawful size).rooted
+tree_rooted : {dig : List ℕ → List ℕ} → IsDigest dig → {torrent : Metainfo} {file : File} {k : Facts} → IsFileLength file.length → length file.root ≡ 32 → IsTreeFrom dig torrent file k → IsRooted dig k
+tree_rooted sizes lawful size (by_layer layer some piece h) = layer_rooted sizes lawful h
+tree_rooted {dig} sizes {file} lawful size (by_root none is) = subst (λ x. IsRooted dig x) (sym is) (root_sound dig file.length file.root lawful size).rooted
 
-pub start_rooted : (dig : List ℕ → List ℕ) → IsDigest dig → (torrent : Metainfo) (s : EngineState) → IsLawful torrent.piece_length torrent.files → Starts dig torrent s → AreRooted dig s
-start_rooted dig sizes torrent s lawful starts t k at =
+pub start_rooted : {dig : List ℕ → List ℕ} → IsDigest dig → {torrent : Metainfo} {s : EngineState} → IsLawful torrent.piece_length torrent.files → Starts dig torrent s → AreRooted dig s
+start_rooted sizes {torrent} lawful starts t k at =
     let tree = starts.is_new.each_tree t k at in
-    let found = get_is torrent.files tree.number tree.file tree.listed in
+    let found = get_is torrent.files tree.number tree.listed in
     let file : IsLawfulFile torrent.piece_length tree.file = subst (λ f. IsLawfulFile torrent.piece_length f) found.1
     (All-get_or (IsLawfulFile torrent.piece_length) torrent.files tree.number tree.file found.0 lawful.each) in
-    tree_rooted dig sizes torrent tree.file k (record { some = tree.some; limit = file.short }) file.rooted tree.says
+    tree_rooted sizes (record { some = tree.some; limit = file.short }) file.rooted tree.says

@@ -75,16 +75,16 @@ listed zero f each = ([], refl, λ t lt. absurd (omega (arith, lt)))
 listed (suc n) f each =
     let first = each 0 (omega arith) in
     let more = listed n (λ t. f (suc t)) (λ t lt. each (suc t) (omega (arith, lt))) in
-    (first.0 ∷ more.0, omega (arith, more.1), by first.0 more.0 first.1 more.2)
+    (first.0 ∷ more.0, omega (arith, more.1), by more.0 first.1 more.2)
   where
-    by : (d : List ℕ) (ds : List (List ℕ)) → f 0 ≡ Some d → ((t : ℕ) → t < n → f (suc t) ≡ Some (get_or ds t [])) → (t : ℕ) → t < suc n → f t ≡ Some (get_or (d ∷ ds) t [])
-    by d ds e more zero lt = e
-    by d ds e more (suc t) lt = more t (omega (arith, lt))
+    by : {d : List ℕ} (ds : List (List ℕ)) → f 0 ≡ Some d → ((t : ℕ) → t < n → f (suc t) ≡ Some (get_or ds t [])) → (t : ℕ) → t < suc n → f t ≡ Some (get_or (d ∷ ds) t [])
+    by ds e more zero lt = e
+    by ds e more (suc t) lt = more t (omega (arith, lt))
 
 -- a group of which nothing was marked taught nothing
-none_taught : (b : Bool) (keys : List HashKey) (key : HashKey) → Contains (if b && false then keys else []) key → ⊥
-none_taught true keys key c = contains_none key c
-none_taught false keys key c = contains_none key c
+none_taught : (b : Bool) (keys : List HashKey) {key : HashKey} → Contains (if b && false then keys else []) key → ⊥
+none_taught true keys c = contains_none c
+none_taught false keys c = contains_none c
 
 -- the node of a digest of an answer: one of the run, or an uncle
 
@@ -128,10 +128,10 @@ module _ (dig : List ℕ → List ℕ) (k grown : Facts) (from anchor first coun
       let place : i ≡ from / 2 ^ anchor * 2 ^ anchor + (i - from / 2 ^ anchor * 2 ^ anchor) = omega (arith, low) in
       ap (λ n. n / 2 ^ anchor) place ∙ div-mul-add (from / 2 ^ anchor) (2 ^ anchor) (i - from / 2 ^ anchor * 2 ^ anchor) (omega (arith, low, high))
 
-  key_answer : (m i : ℕ) → IsUnknownGroup k from anchor first count → AreWhole k.file_length first count reads → Accepts dig k (claim_of_reads dig k.file_length anchor first reads) grown
+  key_answer : {m : ℕ} (i : ℕ) → IsUnknownGroup k from anchor first count → AreWhole k.file_length first count reads → Accepts dig k (claim_of_reads dig k.file_length anchor first reads) grown
       → m ≡ min anchor max_run_height → i % 2 ^ m ≡ 0 → first ≤ i → i < first + count
       → HasAnswer dig grown (record { root = grown.root; base = 0; index = i / 2 ^ m * 2 ^ m; length = 2 ^ m; layers = anchor - 1 })
-  key_answer m i group whole accepts m_is aligned low high = record { request = request; digests = answers.0; answer = record { size = answers.1; values = λ t lt. answers.2 t (omega (arith, lt, answers.1)) } }
+  key_answer {m} i group whole accepts m_is aligned low high = record { request = request; digests = answers.0; answer = record { size = answers.1; values = λ t lt. answers.2 t (omega (arith, lt, answers.1)) } }
     where
       least : 1 ≤ m
       least = let some = group.above in omega (arith, m_is, some)
@@ -181,9 +181,9 @@ module _ (dig : List ℕ → List ℕ) (k grown : Facts) (from anchor first coun
       known_at : (layer j : ℕ) → layer ≤ anchor → j / 2 ^ (anchor - layer) ≡ first / 2 ^ anchor → (d : List ℕ) × (value_at dig grown layer j ≡ Some d)
       known_at = known_below dig k grown anchor first count reads whole (few_blocks group) accepts
 
-      at_node : (t layer j : ℕ) → answer_layer 0 (2 ^ m) t ≡ layer → answer_index (i / 2 ^ m * 2 ^ m) (2 ^ m) t ≡ j → (d : List ℕ) × (value_at dig grown layer j ≡ Some d)
+      at_node : (t : ℕ) {layer j : ℕ} → answer_layer 0 (2 ^ m) t ≡ layer → answer_index (i / 2 ^ m * 2 ^ m) (2 ^ m) t ≡ j → (d : List ℕ) × (value_at dig grown layer j ≡ Some d)
           → (d : List ℕ) × (value_at dig grown (answer_layer 0 (2 ^ m) t) (answer_index (i / 2 ^ m * 2 ^ m) (2 ^ m) t) ≡ Some d)
-      at_node t layer j e f v = (v.0, ap (λ l. value_at dig grown l (answer_index (i / 2 ^ m * 2 ^ m) (2 ^ m) t)) e ∙ ap (value_at dig grown layer) f ∙ v.1)
+      at_node t {layer} e f v = (v.0, ap (λ l. value_at dig grown l (answer_index (i / 2 ^ m * 2 ^ m) (2 ^ m) t)) e ∙ ap (value_at dig grown layer) f ∙ v.1)
 
       -- a sibling on the path lies below the node too
       beside : (u : ℕ) → m + u < anchor → sibling_of (i / 2 ^ m / 2 ^ u) / 2 ^ (anchor - (m + u)) ≡ first / 2 ^ anchor
@@ -200,7 +200,7 @@ module _ (dig : List ℕ → List ℕ) (k grown : Facts) (from anchor first coun
       each t within = elim (cases_lt t (2 ^ m)) [
         | inl lt ↦
             let whole_path : anchor - 0 ≡ anchor = omega arith in
-            at_node t 0 (i / 2 ^ m * 2 ^ m + t) (layer_run (2 ^ m) t lt) (index_run (i / 2 ^ m * 2 ^ m) (2 ^ m) t lt)
+            at_node t (layer_run (2 ^ m) t lt) (index_run (i / 2 ^ m * 2 ^ m) (2 ^ m) t lt)
             (known_at 0 (i / 2 ^ m * 2 ^ m + t) (omega arith) (ap (λ h. (i / 2 ^ m * 2 ^ m + t) / 2 ^ h) whole_path ∙ leaf_over (i / 2 ^ m * 2 ^ m + t) (omega (arith, index)) (omega (arith, index, lt))))
         | inr le ↦
             let u : ℕ = t - 2 ^ m in
@@ -210,7 +210,7 @@ module _ (dig : List ℕ → List ℕ) (k grown : Facts) (from anchor first coun
             let node : answer_index (i / 2 ^ m * 2 ^ m) (2 ^ m) t ≡ sibling_of (i / 2 ^ m / 2 ^ u) =
             ap (answer_index (i / 2 ^ m * 2 ^ m) (2 ^ m)) split ∙ index_uncle (i / 2 ^ m * 2 ^ m) (2 ^ m) u ∙ ap (λ h. sibling_of (i / 2 ^ m * 2 ^ m / 2 ^ h / 2 ^ u)) top
             ∙ ap (λ x. sibling_of (x / 2 ^ m / 2 ^ u)) index in
-            at_node t (m + u) (sibling_of (i / 2 ^ m / 2 ^ u)) layer node (known_at (m + u) (sibling_of (i / 2 ^ m / 2 ^ u)) (omega (arith, high_node)) (beside u high_node))
+            at_node t layer node (known_at (m + u) (sibling_of (i / 2 ^ m / 2 ^ u)) (omega (arith, high_node)) (beside u high_node))
       ]
 
       answers : (ds : List (List ℕ)) × (length ds ≡ answer_size (2 ^ m) (anchor - 1)) × ((t : ℕ) → t < answer_size (2 ^ m) (anchor - 1)
@@ -218,19 +218,19 @@ module _ (dig : List ℕ → List ℕ) (k grown : Facts) (from anchor first coun
       answers = listed (answer_size (2 ^ m) (anchor - 1)) (λ t. value_at dig grown (answer_layer 0 (2 ^ m) t) (answer_index (i / 2 ^ m * 2 ^ m) (2 ^ m) t)) each
 
 pub taught_answered : (dig : List ℕ → List ℕ) → TaughtKeysAreAnswered dig
-taught_answered dig k grown from old new reads adopted key (none end) c = absurd (contains_none key c)
-taught_answered dig k grown from old new reads adopted key (known count rs group order) c = absurd (contains_none key c)
+taught_answered dig k grown from old new reads adopted key (none end) c = absurd (contains_none c)
+taught_answered dig k grown from old new reads adopted key (known count rs group order) c = absurd (contains_none c)
 taught_answered dig k grown from old new reads adopted key (accepted anchor first count rs g group whole accepts) c = by (nat_lt 0 anchor && nat_lt 0 count) c
   where
     by : (b : Bool) → Contains (if b then map (λ i. planned_key g i anchor) (run_starts anchor (group_blocks from (record { next = first + count; anchor = anchor; marked = count; faults = 0 }))) else []) key → HasAnswer dig g key
-    by false c = absurd (contains_none key c)
+    by false c = absurd (contains_none c)
     by true c =
-        let m = contains_map (λ i. planned_key g i anchor) (run_starts anchor (group_blocks from (record { next = first + count; anchor = anchor; marked = count; faults = 0 }))) key c in
-        let run = contains_filter (λ i. i % 2 ^ min anchor max_run_height == 0) (group_blocks from (record { next = first + count; anchor = anchor; marked = count; faults = 0 })) m.0 m.1 in
+        let m = contains_map (λ i. planned_key g i anchor) (run_starts anchor (group_blocks from (record { next = first + count; anchor = anchor; marked = count; faults = 0 }))) c in
+        let run = contains_filter (λ i. i % 2 ^ min anchor max_run_height == 0) (group_blocks from (record { next = first + count; anchor = anchor; marked = count; faults = 0 })) m.1 in
         let start : first ≡ from / 2 ^ anchor * 2 ^ anchor = group.starts in
-        let inside = range_limits (from / 2 ^ anchor * 2 ^ anchor) (first + count - from / 2 ^ anchor * 2 ^ anchor) m.0 run.0 in
-        subst (λ x. HasAnswer dig g x) m.2 (key_answer dig k g from anchor first count rs (min anchor max_run_height) m.0 group whole accepts refl (eqb-true (m.0 % 2 ^ min anchor max_run_height) 0 run.1)
+        let inside = range_limits (from / 2 ^ anchor * 2 ^ anchor) (first + count - from / 2 ^ anchor * 2 ^ anchor) run.0 in
+        subst (λ x. HasAnswer dig g x) m.2 (key_answer dig k g from anchor first count rs m.0 group whole accepts refl (eqb-true (m.0 % 2 ^ min anchor max_run_height) 0 run.1)
         (omega (arith, start, inside.0)) (omega (arith, start, inside.0, inside.1)))
-taught_answered dig k grown from old new reads adopted key (refused anchor first count rs error group whole why other) c = absurd (none_taught (nat_lt 0 anchor) _ key c)
-taught_answered dig k grown from old new reads adopted key (short anchor first count rs group order faults few) c = absurd (none_taught (nat_lt 0 anchor) _ key c)
-taught_answered dig k grown from old new reads adopted key (unread anchor first count rs group order some) c = absurd (contains_none key c)
+taught_answered dig k grown from old new reads adopted key (refused anchor first count rs error group whole why other) c = absurd (none_taught (nat_lt 0 anchor) _ c)
+taught_answered dig k grown from old new reads adopted key (short anchor first count rs group order faults few) c = absurd (none_taught (nat_lt 0 anchor) _ c)
+taught_answered dig k grown from old new reads adopted key (unread anchor first count rs group order some) c = absurd (contains_none c)
