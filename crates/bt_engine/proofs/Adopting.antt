@@ -33,10 +33,10 @@ module _ (dig : List ℕ → List ℕ) where
     pub extends : Extends dig k tree
 
   -- bytes that are right stay right
-  pub right_in : {k grown : Facts} {i : ℕ} {bytes : List ℕ} → Extends dig k grown → IsRight dig k i bytes → IsRight dig grown i bytes
+  pub right_in : {k grown i bytes : _} → Extends dig k grown → IsRight dig k i bytes → IsRight dig grown i bytes
   right_in {i} extends right = record { whole = right.whole ∙ ap (λ n. block_length n i) (sym extends.file_length); leaf = extends.values 0 i _ right.leaf }
 
-  extends_then : {k mid grown : Facts} → Extends dig k mid → Extends dig mid grown → Extends dig k grown
+  extends_then : {k mid grown : _} → Extends dig k mid → Extends dig mid grown → Extends dig k grown
   extends_then e f = record {
     file_length = f.file_length ∙ e.file_length;
     root = f.root ∙ e.root;
@@ -45,18 +45,18 @@ module _ (dig : List ℕ → List ℕ) where
   }
 
   -- a group's own tree
-  pub group_extends : {s new : EngineState} {file from : ℕ} {calls : DeviceCalls} {adopted : Adopted} (g : AdoptsGroup dig s file from calls adopted new) → Extends dig g.tree g.grown
+  pub group_extends : {s new file from calls adopted : _} (g : AdoptsGroup dig s file from calls adopted new) → Extends dig g.tree g.grown
   group_extends {from} {adopted} g = adopt_extends dig g.tree g.grown from g.state.states g.states g.reads adopted g.adopts
 
-  pub group_file : {s new : EngineState} {file from : ℕ} {calls : DeviceCalls} {adopted : Adopted} (g : AdoptsGroup dig s file from calls adopted new)
+  pub group_file : {s new file from calls adopted : _} (g : AdoptsGroup dig s file from calls adopted new)
       → IsFile new file (record g.state { states = g.states }) g.grown
   group_file {s} {file} g = record {
     here = ap (λ (x : EngineState). slice_get x.files file) g.after ∙ set_same s.files file g.is_file.here;
     hung = ap (λ (x : EngineState). slice_get x.trees g.state.tree) g.after ∙ set_same s.trees g.state.tree g.is_file.hung;
   }
 
-  pub group_forward : {s new : EngineState} {file from : ℕ} {calls : DeviceCalls} {adopted : Adopted} → AdoptsGroup dig s file from calls adopted new
-      → {f : FileState} {k : Facts} → IsFile s file f k → HasExtended new file k
+  pub group_forward : {s new file from calls adopted : _} → AdoptsGroup dig s file from calls adopted new
+      → {f k : _} → IsFile s file f k → HasExtended new file k
   group_forward {s} g {f} {k} is =
       let state : g.state ≡ f = same_some g.is_file.here is.here in
       let tree : g.tree ≡ k = same_some (ap (λ (q : FileState). slice_get s.trees q.tree) (sym state) ∙ g.is_file.hung) is.hung in
@@ -67,14 +67,14 @@ module _ (dig : List ℕ → List ℕ) where
         extends = subst (λ x. Extends dig x g.grown) tree (group_extends g);
       }
 
-  file_in : {m new : EngineState} {file : ℕ} {f : FileState} {k : Facts} → new ≡ m → IsFile m file f k → IsFile new file f k
+  file_in : {m new file f k : _} → new ≡ m → IsFile m file f k → IsFile new file f k
   file_in {file} {f} {k} e is = subst (λ x. IsFile x file f k) (sym e) is
 
-  same_tree : {k : Facts} → Extends dig k k
+  same_tree : {k : _} → Extends dig k k
   same_tree = record { file_length = refl; root = refl; values = λ layer i d v. v; rooted = λ r. r }
 
-  groups_forward : (s : EngineState) {new : EngineState} {file : ℕ} (from : ℕ) (groups : List DeviceCalls) (total : Adopted) → AdoptsGroups dig s file from groups total new
-      → {f : FileState} {k : Facts} → IsFile s file f k → HasExtended new file k
+  groups_forward : (s : EngineState) {new file : _} (from : ℕ) (groups : List DeviceCalls) (total : Adopted) → AdoptsGroups dig s file from groups total new
+      → {f k : _} → IsFile s file f k → HasExtended new file k
   groups_forward s from [] total g {f} {k} is = record { state = f; tree = k; is_file = file_in g.1 is; extends = same_tree }
   groups_forward s from (calls ∷ groups) total g is =
       let one = group_forward g.3 is in
@@ -82,8 +82,8 @@ module _ (dig : List ℕ → List ℕ) where
       record { state = more.state; tree = more.tree; is_file = more.is_file; extends = extends_then one.extends more.extends }
 
   -- settling leaves trees as they are
-  settle_forward : {is_meant : ℕ → Bool} {t from count : ℕ} {old new : EngineState} {calls : DeviceCalls} {notes : _} → SettlesIn dig is_meant t from count old calls notes new
-      → {file : ℕ} {f : FileState} {k : Facts} → IsFile old file f k → HasExtended new file k
+  settle_forward : {is_meant t from count old new calls notes : _} → SettlesIn dig is_meant t from count old calls notes new
+      → {file f k : _} → IsFile old file f k → HasExtended new file k
   settle_forward s {file} {f} {k} is = record {
     state = judged_file dig s.facts (s.reads file) f;
     tree = k;
@@ -101,7 +101,7 @@ module _ (dig : List ℕ → List ℕ) where
     found_is e = cc
 
     -- a block that was found in some calls is found in more of them, and in a later engine
-    found_later : {file : ℕ} {calls more : DeviceCalls} {mid new : EngineState} → ((c : ℕ × Call) → Contains calls c → Contains more c)
+    found_later : {file calls more mid new : _} → ((c : ℕ × Call) → Contains calls c → Contains more c)
         → ((f : FileState) (k : Facts) → IsFile mid b.file f k → HasExtended new b.file k) → IsFound dig (Adopt file) calls mid b → IsFound dig (Adopt file) more new b
     found_later {more} {mid} {new} among forward x =
         let f = and_then_some (λ (q : FileState). slice_get mid.trees q.tree) (slice_get mid.files b.file) x.hung in
@@ -116,7 +116,7 @@ module _ (dig : List ℕ → List ℕ) where
           right = right_in h.extends x.right;
         }
 
-    group_marks : {s new : EngineState} {file from : ℕ} {calls : DeviceCalls} {adopted : Adopted} → AdoptsGroup dig s file from calls adopted new
+    group_marks : {s new file from calls adopted : _} → AdoptsGroup dig s file from calls adopted new
         → state_at new b ≡ Some Marked → (state_at s b ≡ Some Marked) ⊎ IsFound dig (Adopt file) calls new b
     group_marks {s} {new} {file} {from} {calls} {adopted} g m = elim (file_marked s (record g.state { states = g.states }) b (subst (λ x. state_at x b ≡ Some Marked) g.after m)) [
       | inl now ↦ elim (store_marks dig g.tree g.grown from g.state.states g.states g.reads adopted g.adopts b.block now.1) [
@@ -138,7 +138,7 @@ module _ (dig : List ℕ → List ℕ) where
       | inr old ↦ inl old
     ]
 
-    pub groups_marks : (s : EngineState) {new : EngineState} {file : ℕ} (from : ℕ) (groups : List DeviceCalls) (total : Adopted) → AdoptsGroups dig s file from groups total new
+    pub groups_marks : (s : EngineState) {new file : _} (from : ℕ) (groups : List DeviceCalls) (total : Adopted) → AdoptsGroups dig s file from groups total new
         → state_at new b ≡ Some Marked → (state_at s b ≡ Some Marked) ⊎ IsFound dig (Adopt file) (flat_map (λ c. c) groups) new b
     groups_marks s from [] total g m = inl (subst (λ x. state_at x b ≡ Some Marked) g.1 m)
     groups_marks s {new} {file} from (calls ∷ groups) total g m =
@@ -170,7 +170,7 @@ module _ (dig : List ℕ → List ℕ) where
         by true x y = absurd cc
         by false x y = absurd cc
 
-    file_marks : {s new : EngineState} {file : ℕ} {calls : DeviceCalls} {total : Adopted} → AdoptsFile dig s file calls total new → state_at new b ≡ Some Marked
+    file_marks : {s new file calls total : _} → AdoptsFile dig s file calls total new → state_at new b ≡ Some Marked
         → (state_at s b ≡ Some Marked) ⊎ IsMarkedBy dig s (Adopt file) calls new b
     file_marks {s} {new} {file} {total} a m =
         let own = flat_map (λ c. c) a.groups in
@@ -204,7 +204,7 @@ module _ (dig : List ℕ → List ℕ) where
               }))
         ]
       where
-        in_new : {other : ℕ} {k : Facts} → HasExtended a.settled other k → HasExtended new other k
+        in_new : {other k : _} → HasExtended a.settled other k → HasExtended new other k
         in_new {other} h = record {
           state = h.state;
           tree = h.tree;
@@ -212,7 +212,7 @@ module _ (dig : List ℕ → List ℕ) where
           extends = h.extends;
         }
 
-    stop_marks : {s new : EngineState} {file : ℕ} {calls : DeviceCalls} → StopsAdopting dig s file calls new → state_at new b ≡ Some Marked
+    stop_marks : {s new file calls : _} → StopsAdopting dig s file calls new → state_at new b ≡ Some Marked
         → (state_at s b ≡ Some Marked) ⊎ IsMarkedBy dig s (Adopt file) calls new b
     stop_marks {s} {file} a m =
         let own = flat_map (λ c. c) a.groups in
@@ -223,7 +223,7 @@ module _ (dig : List ℕ → List ℕ) where
               (λ f k is. record { state = f; tree = k; is_file = is; extends = same_tree }) x))
         ]
 
-    pub adopt_marks : {s new : EngineState} {file : ℕ} {calls : DeviceCalls} {answer : _} → StepAdopt dig s file calls answer new → state_at new b ≡ Some Marked
+    pub adopt_marks : {s new file calls answer : _} → StepAdopt dig s file calls answer new → state_at new b ≡ Some Marked
         → (state_at s b ≡ Some Marked) ⊎ IsMarkedBy dig s (Adopt file) calls new b
     adopt_marks (no_file x y z e) m = inl (subst (λ x. state_at x b ≡ Some Marked) e m)
     adopt_marks (busy x y z w e) m = inl (subst (λ x. state_at x b ≡ Some Marked) e m)

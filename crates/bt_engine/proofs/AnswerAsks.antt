@@ -23,7 +23,7 @@ use Rattle.bt_engine.proofs.AnswerSends.{nat_cases, set_other}
 
 -- ---- whether somebody is asked for a block
 
-same_or_not : {b : BlockId} (c : BlockId) → (b ≡ c) ⊎ (b ≡ c → ⊥)
+same_or_not : {b : _} (c : BlockId) → (b ≡ c) ⊎ (b ≡ c → ⊥)
 same_or_not {b} c = elim (nat_cases b.file c.file) [
   | inl file ↦ elim (nat_cases b.block c.block) [
     | inl block ↦ inl (ap (λ n. record b { file = n }) file ∙ ap (λ n. record c { block = n }) block)
@@ -32,7 +32,7 @@ same_or_not {b} c = elim (nat_cases b.file c.file) [
   | inr apart ↦ inr (λ e. apart (ap (λ (d : BlockId). d.file) e))
 ]
 
-in_or_not : (xs : List BlockId) {b : BlockId} → Contains xs b ⊎ (Contains xs b → ⊥)
+in_or_not : (xs : List BlockId) {b : _} → Contains xs b ⊎ (Contains xs b → ⊥)
 in_or_not [] = inr (λ c. contains_none c)
 in_or_not (x ∷ xs) {b} = elim (same_or_not b) [
   | inl same ↦ inl (here xs same)
@@ -113,7 +113,7 @@ module _ {dig : List ℕ → List ℕ} {s : EngineState} {i : ℕ} {sent : List 
         | inr apart ↦ (asked.0, contains_some then.peers at.0 (set_other s.peers i at.0 after apart ∙ at.1), asked.2)
       ]
 
-  asked_now : {b : BlockId} → Contains f.blocks b → IsAsked then b
+  asked_now : {b : _} → Contains f.blocks b → IsAsked then b
   asked_now {b} c = (after, contains_some then.peers i (set_same s.peers i f.here), Contains-append_right f.planned.asked f.blocks b c)
 
   -- each open block is asked for, and so each missing one that the peer has
@@ -151,7 +151,7 @@ module _ (dig : List ℕ → List ℕ) {s : EngineState} (new : EngineState) {ke
   abbrev answer : Output → NextAnswer
   answer a = Ok (Some a)
 
-  some_out : {a : Output} → answer out ≡ answer a → out ≡ a
+  some_out : {a : _} → answer out ≡ answer a → out ≡ a
   some_out e = cc
 
   goes_asking : (g : GoesOn dig s i p calls out new) → Asked_then
@@ -166,7 +166,7 @@ module _ (dig : List ℕ → List ℕ) {s : EngineState} (new : EngineState) {ke
       subst (λ x. (q : PeerState) × IsPeer x key i q × IsAskedForAll dig x q) (sym f.after)
       (after f, record { here = peer_then f; same_key = key_is }, asked_for_all f)
 
-  next_asks_all : {r : NextAnswer} → answer out ≡ r → StepNext dig s key calls r new → Asked_then
+  next_asks_all : {r : _} → answer out ≡ r → StepNext dig s key calls r new → Asked_then
   next_asks_all e (no_peer x y z w) = let wrong = e ∙ z in absurd cc
   next_asks_all e (waits j q x y z w v) = let wrong = e ∙ w in absurd cc
   next_asks_all e (goes_on j q o x g y) =
@@ -183,5 +183,5 @@ next_asks dig s new key i p calls out one stays t =
     let r = next_asks_all dig new calls out one stays (result_is t.1) t.2 in
     (r.0, r.1, r.2, next_changes dig calls one r.1 t)
   where
-    result_is : {r : Result (Option Output) EngineError} → of_next (Ok (Some out)) ≡ of_next r → Ok (Some out) ≡ r
+    result_is : {r : _} → of_next (Ok (Some out)) ≡ of_next r → Ok (Some out) ≡ r
     result_is e = cc

@@ -50,7 +50,7 @@ not_all [] zero e = absurd cc
 not_all [] (suc i) e = absurd cc
 not_all (x ∷ states) zero e = ap (λ y. is_marked y && list_all is_marked states) (some_is e)
   where
-    some_is : {x : BlockState} → Some x ≡ Some Waiting → x ≡ Waiting
+    some_is : {x : _} → Some x ≡ Some Waiting → x ≡ Waiting
     some_is e = cc
 not_all (x ∷ states) (suc i) e = ap (λ b. is_marked x && b) (not_all states i e) ∙ and_false (is_marked x)
   where
@@ -65,12 +65,12 @@ waiting_is_not_complete s b e =
 
 -- ---- what an event notes is noted
 
-pub noted_with : {dig : List ℕ → List ℕ} {s new : EngineState} {i : ℕ} {p : PeerState} {calls : DeviceCalls} {out : Output} {a : Answer} (g : GoesOn dig s i p calls out new) → a ≡ of_next (Ok (Some out))
+pub noted_with : {dig s new i p calls out a : _} (g : GoesOn dig s i p calls out new) → a ≡ of_next (Ok (Some out))
     → (note : Note) → Contains g.effect.notes note → NotedBy a note
 noted_with {s} {out} g is note c =
     (out, ap output_of is, subst (λ l. Contains l note) (sym g.notes) (Contains-append_left g.effect.notes (map (λ file. Complete file) (new_complete_files s g.mid)) note c))
 
-pub one_note : {effect : Effect} {note : Note} → effect ≡ noting note → Contains effect.notes note
+pub one_note : {effect note : _} → effect ≡ noting note → Contains effect.notes note
 one_note {note} e = subst (λ l. Contains l note) (sym (ap (λ (x : Effect). x.notes) e)) (here [] refl)
 
 -- an event that closes nobody
@@ -84,7 +84,7 @@ data PutRight (b : BlockId) (effect : Effect) (r : Result Put StoreError) : Type
   is_marked_now : r ≡ Ok PutMarked → effect ≡ noting (NowMarked b) → PutRight b effect r
   is_not_written : r ≡ Err DeviceFault → effect ≡ noting (Device b.file) → PutRight b effect r
 
-put_right : (dig : List ℕ → List ℕ) (k : Facts) {b : BlockId} (bytes : List ℕ) (states : List BlockState) {effect : Effect} (r : Result Put StoreError) → value_at dig k 0 b.block ≡ Some (dig bytes)
+put_right : (dig : List ℕ → List ℕ) (k : Facts) {b : BlockId} (bytes : List ℕ) (states : List BlockState) {effect : _} (r : Result Put StoreError) → value_at dig k 0 b.block ≡ Some (dig bytes)
     → PutIsDue dig k b.block bytes states r → HasPutEffect b r effect → PutRight b effect r
 put_right dig k bytes states (Ok PutMarked) leaf due e = is_marked_now refl e
 put_right dig k bytes states (Ok PutWaiting) leaf due e = let wrong : None ≡ Some (dig bytes) = sym due.2 ∙ leaf in absurd cc
@@ -101,7 +101,7 @@ module _ (dig : List ℕ → List ℕ) (s new : EngineState) (key : PeerKey) (i 
   t = with_peer s i q
 
   -- it is the block that came, in the tree of its file
-  right_put : {effect : Effect} {mid : EngineState} → tree_of s b.file ≡ Some tree → IsRight dig tree b.block bytes → (r : Arrives dig t i q piece begin bytes calls effect mid) → r.block ≡ b → PutRight r.block effect r.puts.result
+  right_put : {effect mid : _} → tree_of s b.file ≡ Some tree → IsRight dig tree b.block bytes → (r : Arrives dig t i q piece begin bytes calls effect mid) → r.block ≡ b → PutRight r.block effect r.puts.result
   right_put hung exact r same =
       let there : tree_of s r.block.file ≡ Some r.puts.tree = ap (option_and_then (λ (f : FileState). slice_get s.trees f.tree)) r.puts.is_file.here ∙ r.puts.is_file.hung in
       let one : r.puts.tree ≡ tree = same_some there (ap (λ (c : BlockId). tree_of s c.file) same ∙ hung) in
@@ -109,7 +109,7 @@ module _ (dig : List ℕ → List ℕ) (s new : EngineState) (key : PeerKey) (i 
       put_right dig r.puts.tree bytes r.puts.file.states r.puts.result leaf r.puts.due r.puts.has_effect
 
   -- its state then
-  now_marked : {effect : Effect} {mid : EngineState} (r : Arrives dig t i q piece begin bytes calls effect mid) → r.block ≡ b → r.puts.result ≡ Ok PutMarked → state_at mid b ≡ Some Marked
+  now_marked : {effect mid : _} (r : Arrives dig t i q piece begin bytes calls effect mid) → r.block ≡ b → r.puts.result ≡ Ok PutMarked → state_at mid b ≡ Some Marked
   now_marked {mid} r same is =
       let after : FileState = record r.puts.file { states = states_after_put r.block.block r.puts.result r.puts.file.states } in
       let missing : slice_get r.puts.file.states r.block.block ≡ Some Missing = (subst (λ x. PutIsDue dig r.puts.tree r.block.block bytes r.puts.file.states x) is r.puts.due).1 in
@@ -119,7 +119,7 @@ module _ (dig : List ℕ → List ℕ) (s new : EngineState) (key : PeerKey) (i 
       let stored : state_at (with_file t r.block.file after) r.block ≡ Some Marked = ap (option_and_then (λ (f : FileState). slice_get f.states r.block.block)) file ∙ block in
       subst (λ c. state_at mid c ≡ Some Marked) same (subst (λ x. state_at x r.block ≡ Some Marked) (sym r.after) (subst (λ x. state_at x r.block ≡ Some Marked) (sym r.puts.after) stored))
 
-  marks_by : {effect : Effect} {mid : EngineState} → (state_at mid b ≡ Some Marked → state_at new b ≡ Some Marked) → ((note : Note) → Contains effect.notes note → NotedBy a note)
+  marks_by : {effect : Effect} {mid : _} → (state_at mid b ≡ Some Marked → state_at new b ≡ Some Marked) → ((note : Note) → Contains effect.notes note → NotedBy a note)
       → (r : Arrives dig t i q piece begin bytes calls effect mid) → r.block ≡ b → PutRight r.block effect r.puts.result → MarksBlock b bytes calls a new
   marks_by later_on noted r same (is_marked_now is e) =
       marked (later_on (now_marked r same is)) (noted (NowMarked b) (one_note (e ∙ ap (λ c. noting (NowMarked c)) same)))
@@ -127,7 +127,7 @@ module _ (dig : List ℕ → List ℕ) (s new : EngineState) (key : PeerKey) (i 
       not_written (r.puts.made ∙ ap (λ x. calls_at r.block.file (calls_of_put r.block.block bytes x)) is ∙ ap (λ (c : BlockId). (c.file, write_fault (full_block_length * c.block) bytes) ∷ []) same)
       (noted (Device b.file) (one_note (e ∙ ap (λ (c : BlockId). noting (Device c.file)) same)))
 
-  piece_arrives : {effect : Effect} {mid : EngineState} → IsWholeBlock s.torrent piece begin (length bytes) b → Contains p.asked b → HandlesPiece dig t i q piece begin bytes calls effect mid → Arrives dig t i q piece begin bytes calls effect mid
+  piece_arrives : {effect mid : _} → IsWholeBlock s.torrent piece begin (length bytes) b → Contains p.asked b → HandlesPiece dig t i q piece begin bytes calls effect mid → Arrives dig t i q piece begin bytes calls effect mid
   piece_arrives whole asked (stale none x y z) = absurd (none b whole asked)
   piece_arrives whole asked (arrives r) = r
 
@@ -166,17 +166,17 @@ module _ (dig : List ℕ → List ℕ) (s new : EngineState) (key : PeerKey) (i 
     finds_damage : (j : ℕ) (bytes : List ℕ) → Contains (spanned_blocks span) j → ¬ IsRight dig tree j bytes → Called (given j bytes) → effect ≡ noting (Damaged (block_id span.file j)) → Serving effect
     cannot_read : (j : ℕ) → Contains (spanned_blocks span) j → Called (failed j) → effect ≡ noting (Device span.file) → Serving effect
 
-  finds : {mid : EngineState} {j : ℕ} {f : FileState} {read : BlockRead} {effect : Effect} → Contains (spanned_blocks span) j → Called read → FindsFault dig tree at_request span.file j f read effect mid → Serving effect
+  finds : {mid j f read effect : _} → Contains (spanned_blocks span) j → Called read → FindsFault dig tree at_request span.file j f read effect mid → Serving effect
   finds {j} c called (found_damaged bytes x y e z) = finds_damage j bytes c y (subst Called x called) e
   finds {j} c called (fault x e y) = cannot_read j c (subst Called x called) e
 
-  same_tree : {k : Facts} {f : FileState} → tree_of s span.file ≡ Some tree → IsFile at_request span.file f k → k ≡ tree
+  same_tree : {k f : _} → tree_of s span.file ≡ Some tree → IsFile at_request span.file f k → k ≡ tree
   same_tree hung is = same_some (ap (option_and_then (λ (g : FileState). slice_get s.trees g.tree)) is.here ∙ is.hung) hung
 
-  serves : {effect : Effect} {mid : EngineState} → tree_of s span.file ≡ Some tree → Serves dig at_request i asker ask span calls effect mid → Serving effect
+  serves : {effect mid : _} → tree_of s span.file ≡ Some tree → Serves dig at_request i asker ask span calls effect mid → Serving effect
   serves hung f = gives f.bytes (subst (λ k. (j : ℕ) → Contains (spanned_blocks span) j → IsRight dig k j (f.bytes j)) (same_tree hung f.is_file) f.right.right) f.sent
 
-  stops : {effect : Effect} {mid : EngineState} → tree_of s span.file ≡ Some tree → StopsAtFault dig at_request span calls effect mid → Serving effect
+  stops : {effect mid : _} → tree_of s span.file ≡ Some tree → StopsAtFault dig at_request span calls effect mid → Serving effect
   stops {effect} {mid} hung f =
       let same = same_tree hung f.is_file in
       let c : Contains (spanned_blocks span) f.block = subst (λ l. Contains l f.block) (sym f.blocks) (Contains-append_right f.before (f.block ∷ f.after) f.block (here f.after refl)) in
@@ -186,7 +186,7 @@ module _ (dig : List ℕ → List ℕ) (s new : EngineState) (key : PeerKey) (i 
       finds c (subst (λ k. Contains calls (span.file, call_of k.file_length f.read)) same called)
       (subst (λ k. FindsFault dig k at_request span.file f.block f.file f.read effect mid) same f.finds)
 
-  serving : {effect : Effect} {mid : EngineState} → IsLawful s.torrent.piece_length s.torrent.files → p.am_choking ≡ false → IsPlace s.torrent ask.piece ask.begin ask.length span → AreMarked s span → tree_of s span.file ≡ Some tree
+  serving : {effect mid : _} → IsLawful s.torrent.piece_length s.torrent.files → p.am_choking ≡ false → IsPlace s.torrent ask.piece ask.begin ask.length span → AreMarked s span → tree_of s span.file ≡ Some tree
       → HandlesRequest dig at_request i asker ask calls effect mid → Serving effect
   serving lawful open_to place are hung (ignored choked x y z) = let wrong : true ≡ false = sym choked ∙ open_to in absurd cc
   serving lawful open_to place are hung (no_place x none y z w) = absurd (none span place)
@@ -197,13 +197,13 @@ module _ (dig : List ℕ → List ℕ) (s new : EngineState) (key : PeerKey) (i 
   serving {effect} {mid} lawful open_to place are hung (stopped other x there y f) =
       stops hung (subst (λ (l : Span). StopsAtFault dig at_request l calls effect mid) (same_place s.torrent lawful.laid_out ask.piece ask.begin ask.length there place) f)
 
-  serves_by : {out : Output} (g : GoesOn dig s i p calls out new) → a ≡ of_next (Ok (Some out)) → p.key ≡ key → Serving g.effect → ServesRange dig tree key ask span calls a
+  serves_by : {out : _} (g : GoesOn dig s i p calls out new) → a ≡ of_next (Ok (Some out)) → p.key ≡ key → Serving g.effect → ServesRange dig tree key ask span calls a
   serves_by g is same (gives bytes right e) = sent bytes right (sent_with g is
       (subst (λ l. Contains l (frame_to key (Piece ask.piece ask.begin (cut_from span bytes)))) (sym (ap (λ (x : Effect). x.send) e)) (here [] (ap (λ n. frame_to n (Piece ask.piece ask.begin (cut_from span bytes))) same))))
   serves_by g is same (finds_damage j bytes c wrong called e) = damaged j bytes c wrong called (noted_with g is _ (one_note e))
   serves_by g is same (cannot_read j c called e) = not_read j c called (noted_with g is _ (one_note e))
 
-  not_shut : {X : Type 0} {out : Output} (g : Closes dig s i p calls out new) → Serving g.effect → X
+  not_shut : {X : Type 0} {out : _} (g : Closes dig s i p calls out new) → Serving g.effect → X
   not_shut g (gives bytes right e) = not_closed e refl g.closed
   not_shut g (finds_damage j bytes c wrong called e) = not_closed e refl g.closed
   not_shut g (cannot_read j c called e) = not_closed e refl g.closed

@@ -62,30 +62,30 @@ module _ (dig : List ℕ → List ℕ) (s : EngineState) (i : ℕ) (p : PeerStat
   closes_for : {effect like : Effect} {cause : Why} → effect ≡ like → like.close ≡ Some cause → IsCause dig s p cause → Causes effect
   closes_for e closed is why c = subst (λ w. IsCause dig s p w) (same_why e closed c) is
 
-  hello_causes : {h : Handshake} {effect : Effect} → Takes p.stream (Hello h) rest → HandlesHello t h effect → Causes effect
+  hello_causes : {h effect : _} → Takes p.stream (Hello h) rest → HandlesHello t h effect → Causes effect
   hello_causes takes (ours x e) = open_still e refl
   hello_causes {h} takes (other x e) = closes_for e refl (other_torrent h rest takes x)
 
-  have_causes : {mid : EngineState} {piece : ℕ} {effect : Effect} → Takes p.stream (Message (Have piece)) rest → HandlesHave t i q piece effect mid → Causes effect
+  have_causes : {mid piece effect : _} → Takes p.stream (Message (Have piece)) rest → HandlesHave t i q piece effect mid → Causes effect
   have_causes takes (in_range x e y) = open_still e refl
   have_causes {piece} takes (out_of_range x e y) = closes_for e refl (past_last_piece piece rest takes x)
 
-  bits_causes : {mid : EngineState} {bytes : List ℕ} {effect : Effect} → Takes p.stream (Message (Bitfield bytes)) rest → HandlesBitfield t i q bytes effect mid → Causes effect
+  bits_causes : {mid bytes effect : _} → Takes p.stream (Message (Bitfield bytes)) rest → HandlesBitfield t i q bytes effect mid → Causes effect
   bits_causes takes (right x e y) = open_still e refl
   bits_causes {bytes} takes (wrong x e y) = closes_for e refl (other_length bytes rest takes x)
 
-  fault_causes : {k : Facts} {mid : EngineState} {file j : ℕ} {f : FileState} {read : BlockRead} {effect : Effect} → FindsFault dig k t file j f read effect mid → Causes effect
+  fault_causes : {k mid file j f read effect : _} → FindsFault dig k t file j f read effect mid → Causes effect
   fault_causes (damaged bytes x y e z) = open_still e refl
   fault_causes (fault x e y) = open_still e refl
 
-  request_causes : {mid : EngineState} {ask : Ask} {calls : DeviceCalls} {effect : Effect} → Takes p.stream (Message (Request ask)) rest → HandlesRequest dig t i q ask calls effect mid → Causes effect
+  request_causes : {mid ask calls effect : _} → Takes p.stream (Message (Request ask)) rest → HandlesRequest dig t i q ask calls effect mid → Causes effect
   request_causes takes (ignored a c e d) = open_still e refl
   request_causes {ask} takes (no_place a c d e f) = closes_for e refl (is_no_place ask rest takes a c)
   request_causes takes (not_marked span a c d f e g) = open_still e refl
   request_causes takes (served span a place c f) = open_still f.sent refl
   request_causes takes (stopped span a c d f) = fault_causes f.finds
 
-  piece_causes : {mid : EngineState} {piece begin : ℕ} {bytes : List ℕ} {calls : DeviceCalls} {effect : Effect} → Takes p.stream (Message (Piece piece begin bytes)) rest → HandlesPiece dig t i q piece begin bytes calls effect mid → Causes effect
+  piece_causes : {mid piece begin bytes calls effect : _} → Takes p.stream (Message (Piece piece begin bytes)) rest → HandlesPiece dig t i q piece begin bytes calls effect mid → Causes effect
   piece_causes takes (stale x y e z) = open_still e refl
   piece_causes {piece} {begin} {bytes} {effect} takes (arrives a) = by a.puts.result a.puts.due a.puts.has_effect
     where
@@ -99,7 +99,7 @@ module _ (dig : List ℕ → List ℕ) (s : EngineState) (i : ℕ) (p : PeerStat
       by (Err DeviceFault) due e = open_still e refl
       by (Err Range) due e = absurd e
 
-  hashes_causes : {mid : EngineState} {key : HashKey} {digests : List ℕ} {calls : DeviceCalls} {effect : Effect} → Takes p.stream (Message (Hashes key digests)) rest → HandlesHashes dig t i q key digests calls effect mid → Causes effect
+  hashes_causes : {mid key digests calls effect : _} → Takes p.stream (Message (Hashes key digests)) rest → HandlesHashes dig t i q key digests calls effect mid → Causes effect
   hashes_causes {key} {digests} takes (unknown_root x y e z) =
       closes_for e refl (is_unknown_root key digests rest takes (λ tree k is. x tree k (record { here = is.here; same_root = is.same_root })))
   hashes_causes {key} {digests} takes (no_claim f x y c) =
@@ -108,7 +108,7 @@ module _ (dig : List ℕ → List ℕ) (s : EngineState) (i : ℕ) (p : PeerStat
       closes_for g.has_effect refl (is_refused key digests rest f tree k c takes (record { here = x.here; same_root = x.same_root }) y z g.not_memory)
   hashes_causes takes (learns l) = open_still l.has_effect refl
 
-  answer_causes : {key : HashKey} {effect : Effect} → HandlesHashRequest dig t q key effect → Causes effect
+  answer_causes : {key effect : _} → HandlesHashRequest dig t q key effect → Causes effect
   answer_causes (answered digests x e) = open_still e refl
   answer_causes (rejected x e) = open_still e refl
 
@@ -141,20 +141,20 @@ module _ (dig : List ℕ → List ℕ) where
     is_peer : IsPeer s key place peer
     cause : IsCause dig s peer why
 
-  output_is : {a b : Answer} {out like : Output} → a ≡ b → output_of a ≡ Some out → output_of b ≡ Some like → out ≡ like
+  output_is : {a b out like : _} → a ≡ b → output_of a ≡ Some out → output_of b ≡ Some like → out ≡ like
   output_is {out} {like} e x y = some_is (sym x ∙ ap output_of e ∙ y)
     where
       some_is : Some out ≡ Some like → out ≡ like
       some_is e = cc
 
   -- an answer without an output, or with one that closes nothing
-  no_output : {X : Type 0} {a b : Answer} {why : Why} → a ≡ b → output_of b ≡ None → Closes a why → X
+  no_output : {X : Type 0} {a b why : _} → a ≡ b → output_of b ≡ None → Closes a why → X
   no_output e none c = let wrong : None ≡ Some c.0 = sym none ∙ ap output_of (sym e) ∙ c.1 in absurd cc
 
-  open_output : {X : Type 0} {a b : Answer} {like : Output} {why : Why} → a ≡ b → output_of b ≡ Some like → like.close ≡ None → Closes a why → X
+  open_output : {X : Type 0} {a b like why : _} → a ≡ b → output_of b ≡ Some like → like.close ≡ None → Closes a why → X
   open_output {why} e is none c = let wrong : None ≡ Some why = sym none ∙ ap (λ (o : Output). o.close) (sym (output_is e c.1 is)) ∙ c.2 in absurd cc
 
-  next_closes : {s new : EngineState} {key : PeerKey} {calls : DeviceCalls} {r : _} → StepNext dig s key calls r new → {why : Why} → Closes (of_next r) why → IsClosedFor s (Next key) why
+  next_closes : {s new key calls r : _} → StepNext dig s key calls r new → {why : _} → Closes (of_next r) why → IsClosedFor s (Next key) why
   next_closes (no_peer x y e z) c = no_output (ap (λ x. of_next x) e) refl c
   next_closes (waits i p x y z e f) c = no_output (ap (λ x. of_next x) e) refl c
   next_closes (goes_on i p out x g e) c = open_output (ap (λ x. of_next x) e) refl g.close c
@@ -180,24 +180,24 @@ module _ (dig : List ℕ → List ℕ) where
         cause = subst (λ w. IsCause dig s p w) (some_is (ap (λ (o : Output). o.close) (sym (same ∙ g.is)) ∙ c.2)) (wire g.fault g.failed g.fails);
       }
     where
-      some_is : {cause : Why} → Some cause ≡ Some why → cause ≡ why
+      some_is : {cause : _} → Some cause ≡ Some why → cause ≡ why
       some_is e = cc
   next_closes (no_memory i p x g e) c = no_output (ap (λ x. of_next x) e) refl c
 
-  connect_closes : {X : Type 0} {s new : EngineState} {r : _} → StepConnect s r new → {why : Why} → Closes (of_connect r) why → X
+  connect_closes : {X : Type 0} {s new r : _} → StepConnect s r new → {why : _} → Closes (of_connect r) why → X
   connect_closes (joins key bytes x y z w e f) c = open_output (ap (λ x. of_connect x) e) refl refl c
   connect_closes (full x e y) c = no_output (ap (λ x. of_connect x) e) refl c
   connect_closes (spent x y e z) c = no_output (ap (λ x. of_connect x) e) refl c
   connect_closes (no_room x y e z) c = no_output (ap (λ x. of_connect x) e) refl c
 
-  rechoke_closes : {X : Type 0} {s new : EngineState} {r : _} → StepRechoke dig s r new → {why : Why} → Closes (of_rechoke r) why → X
+  rechoke_closes : {X : Type 0} {s new r : _} → StepRechoke dig s r new → {why : _} → Closes (of_rechoke r) why → X
   rechoke_closes (rechokes out x e) c = open_output (ap (λ x. of_rechoke x) (e ∙ ap (λ o. Some o) x.is)) refl refl c
   rechoke_closes (not_rechoked e x) c = no_output (ap (λ x. of_rechoke x) e) refl c
 
-  closes_as : {a b : Answer} {why : Why} → a ≡ b → Closes a why → Closes b why
+  closes_as : {a b why : _} → a ≡ b → Closes a why → Closes b why
   closes_as {why} e c = subst (λ x. Closes x why) e c
 
-  step_cases : {s : EngineState} (new : EngineState) (e : Event) (calls : DeviceCalls) (a : Answer) → Step dig s e calls a new → {why : Why} → Closes a why → IsClosedFor s e why
+  step_cases : {s : _} (new : EngineState) (e : Event) (calls : DeviceCalls) (a : Answer) → Step dig s e calls a new → {why : _} → Closes a why → IsClosedFor s e why
   step_cases new Connect calls a t c = connect_closes t.3 (closes_as t.1 c)
   step_cases new (Next key) calls a t c = next_closes t.2 (closes_as t.1 c)
   step_cases new Rechoke calls a t c = rechoke_closes t.3 (closes_as t.1 c)

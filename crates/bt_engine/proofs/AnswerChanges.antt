@@ -42,7 +42,7 @@ pub record Tells (new : EngineState) (sent : List Sent) (key : PeerKey) (before 
       → (ask : Ask) × IsWholeBlock new.torrent ask.piece ask.begin ask.length b × Contains sent (frame_to key (Request ask))
 
 -- of a peer of which nothing changed that is to be sent
-nothing_new : {new : EngineState} {sent : List Sent} {key : PeerKey} {before after : PeerState} → after.am_interested ≡ before.am_interested
+nothing_new : {before after : PeerState} {new sent key : _} → after.am_interested ≡ before.am_interested
     → AsksLess before after → Tells new sent key before after
 nothing_new same less = record {
   interested = λ x y. (let no : false ≡ true = sym x ∙ sym same ∙ y in absurd cc);
@@ -52,7 +52,7 @@ nothing_new same less = record {
 }
 
 -- of a peer that was changed before, and was asked for no more then
-told_since : {new : EngineState} {sent : List Sent} {key : PeerKey} {before mid after : PeerState} → mid.am_interested ≡ before.am_interested
+told_since : {before mid : PeerState} {new sent key after : _} → mid.am_interested ≡ before.am_interested
     → AsksLess before mid → Tells new sent key mid after
     → Tells new sent key before after
 told_since same less t = record {
@@ -63,7 +63,7 @@ told_since same less t = record {
 }
 
 -- and among more frames, in another engine
-told_with : {s new : EngineState} {xs ys : List Sent} {key : PeerKey} {before after : PeerState} → new.torrent ≡ s.torrent →
+told_with : {s new : EngineState} {xs ys key before after : _} → new.torrent ≡ s.torrent →
     ((x : Sent) → Contains xs x → Contains ys x) → Tells s xs key before after
     → Tells new ys key before after
 told_with torrent more t = record {
@@ -75,7 +75,7 @@ told_with torrent more t = record {
 
 -- ---- what follows for a peer
 
-each_block : {s : EngineState} {p : PeerState} (blocks : List BlockId) (sent : List Sent) → RequestsEach s p blocks sent → {b : BlockId} → Contains blocks b →
+each_block : {s p : _} (blocks : List BlockId) (sent : List Sent) → RequestsEach s p blocks sent → {b : _} → Contains blocks b →
     (x : Sent) × Contains sent x × RequestsBlock s p b x
 each_block [] sent r c = absurd (contains_none c)
 each_block {s} {p} (d ∷ blocks) sent r c = elim (contains_cases blocks c) [
@@ -83,7 +83,7 @@ each_block {s} {p} (d ∷ blocks) sent r c = elim (contains_cases blocks c) [
   | inr more ↦ let q = each_block blocks r.1 r.3 more in (q.0, subst (λ l. Contains l q.0) (sym r.4) (later r.0 r.1 q.1), q.2)
 ]
 
-asked_is : {j k : HashKey} → Asked j ≡ Asked k → j ≡ k
+asked_is : {j k : _} → Asked j ≡ Asked k → j ≡ k
 asked_is e = cc
 
 module _ {dig : List ℕ → List ℕ} {s : EngineState} {i : ℕ} {sent : List Sent} {new : EngineState} (f : FollowsUp dig s i sent new) where
@@ -105,17 +105,17 @@ module _ {dig : List ℕ → List ℕ} {s : EngineState} {i : ℕ} {sent : List 
   pub key_then : f.planned.key ≡ f.peer.key
   key_then = plan_key ∙ interest_key
 
-  in_interest : {x : Sent} → Contains f.interest_frames x → Contains sent x
+  in_interest : {x : _} → Contains f.interest_frames x → Contains sent x
   in_interest {x} c =
       subst (λ l. Contains l x) (sym f.all)
       (Contains-append_left (f.interest_frames ++ f.hash_frames) f.block_frames x (Contains-append_left f.interest_frames f.hash_frames x c))
 
-  in_hashes : {x : Sent} → Contains f.hash_frames x → Contains sent x
+  in_hashes : {x : _} → Contains f.hash_frames x → Contains sent x
   in_hashes {x} c =
       subst (λ l. Contains l x) (sym f.all)
       (Contains-append_left (f.interest_frames ++ f.hash_frames) f.block_frames x (Contains-append_right f.interest_frames f.hash_frames x c))
 
-  in_blocks : {x : Sent} → Contains f.block_frames x → Contains sent x
+  in_blocks : {x : _} → Contains f.block_frames x → Contains sent x
   in_blocks {x} c = subst (λ l. Contains l x) (sym f.all) (Contains-append_right (f.interest_frames ++ f.hash_frames) f.block_frames x c)
 
   now_interested : f.planned.am_interested ≡ f.interested.am_interested
@@ -125,7 +125,7 @@ module _ {dig : List ℕ → List ℕ} {s : EngineState} {i : ℕ} {sent : List 
   told_interest {was} x y =
       f.interest.told ∙ ap (λ a. interest_sent f.peer a f.interested.am_interested) x ∙ ap (λ a. interest_sent f.peer was a) (sym now_interested ∙ y)
 
-  to_peer : {x y : PeerKey} (m : _) → x ≡ y → frame_to x m ≡ frame_to y m
+  to_peer : {x y : _} (m : _) → x ≡ y → frame_to x m ≡ frame_to y m
   to_peer m e = ap (λ k. frame_to k m) e
 
   asked_hashes : (k : HashKey) → f.planned.hash ≡ Asked k → f.peer.hash ≢ Asked k → Contains sent (frame_to f.peer.key (HashRequest k))
@@ -169,7 +169,7 @@ pub record IsTold (s new : EngineState) (sent : List Sent) (place : ℕ) (after 
 abbrev Old : EngineState → EngineState → List Sent → PeerState → Type 0
 Old s new sent after = (place : ℕ) × IsTold s new sent place after
 
-stays_so : {s new : EngineState} {sent : List Sent} {j : ℕ} {p : PeerState} → slice_get s.peers j ≡ Some p → IsTold s new sent j p
+stays_so : {s : EngineState} {new sent j p : _} → slice_get s.peers j ≡ Some p → IsTold s new sent j p
 stays_so {p} at = record { before = p; at_place = at; same_key = refl; tells = nothing_new refl (asks_same refl refl) }
 
 -- the engine is the old one
@@ -177,7 +177,7 @@ same_so : {s new : EngineState} (sent : List Sent) (j : ℕ) {p : PeerState} →
 same_so sent j e at = (j, stays_so (ap (λ (x : EngineState). slice_get x.peers j) (sym e) ∙ at))
 
 -- the peers are those of the old engine, but for one
-left_so : (s mid : EngineState) {new : EngineState} (sent : List Sent) (i j : ℕ) {p : PeerState} → ((n : ℕ) → n ≢ i → slice_get mid.peers n ≡ slice_get s.peers n)
+left_so : (s mid : EngineState) {new : _} (sent : List Sent) (i j : ℕ) {p : _} → ((n : ℕ) → n ≢ i → slice_get mid.peers n ≡ slice_get s.peers n)
     → new ≡ without_peer i mid → slice_get new.peers j ≡ Some p
     → Old s new sent p
 left_so s mid sent i j others after at =
@@ -185,7 +185,7 @@ left_so s mid sent i j others after at =
     (r.0, stays_so (sym (others r.0 r.2) ∙ r.1))
 
 -- told in more frames
-told_more : {s new : EngineState} {xs ys : List Sent} {j : ℕ} {p : PeerState} → ((x : Sent) → Contains xs x → Contains ys x) → IsTold s new xs j p
+told_more : {s new xs ys j p : _} → ((x : Sent) → Contains xs x → Contains ys x) → IsTold s new xs j p
     → IsTold s new ys j p
 told_more more r = record {
   before = r.before;
@@ -226,7 +226,7 @@ module _ (dig : List ℕ → List ℕ) where
   each_torrent [] s new sent f = ap (λ (x : EngineState). x.torrent) f.1
   each_torrent (i ∷ places) s new sent f = each_torrent places f.0 new f.2 f.4 ∙ torrent_then f.3
 
-  each_told : (n a : ℕ) {s new : EngineState} {sent : List Sent} → FollowsEach dig (range_with_len a n) s sent new → {j : ℕ} {p : PeerState}
+  each_told : (n a : ℕ) {s new sent : _} → FollowsEach dig (range_with_len a n) s sent new → {j p : _}
       → slice_get new.peers j ≡ Some p → IsTold s new sent j p
   each_told zero a f {j} at = stays_so (ap (λ (x : EngineState). slice_get x.peers j) (sym f.1) ∙ at)
   each_told (suc n) a {s} {new} {sent} f {j} {p} at =
@@ -255,7 +255,7 @@ module _ (dig : List ℕ → List ℕ) where
             }
       ]
 
-  rechoke_told : {s new : EngineState} {sent : List Sent} → FollowsEach dig (range_with_len 0 (length s.peers)) (rechoked s) sent new → {j : ℕ} {p : PeerState}
+  rechoke_told : {s : EngineState} {new sent : _} → FollowsEach dig (range_with_len 0 (length s.peers)) (rechoked s) sent new → {j p : _}
       → slice_get new.peers j ≡ Some p → IsTold s new sent j p
   rechoke_told {s} {new} {sent} f {j} {p} at =
       let r = each_told (length s.peers) 0 f at in
@@ -269,7 +269,7 @@ module _ (dig : List ℕ → List ℕ) where
       }
 
   -- the wire event changes no other peer
-  others_stay : {s mid : EngineState} {key : PeerKey} {i : ℕ} {p : PeerState} {calls : DeviceCalls} {effect : _} → IsPeer s key i p
+  others_stay : {s mid key i p calls effect : _} → IsPeer s key i p
       → TakesEvent dig s i p calls effect mid
       → (n : ℕ) → n ≢ i → slice_get mid.peers n ≡ slice_get s.peers n
   others_stay {s} {i} {p} {calls} is t n apart =
@@ -278,8 +278,8 @@ module _ (dig : List ℕ → List ℕ) where
       ap (λ l. slice_get l n) left.peers ∙ set_other (slice_set s.peers i rest) i n left.peer (λ e. apart (sym e))
       ∙ set_other s.peers i n rest (λ e. apart (sym e))
 
-  goes_told : {s new : EngineState} {key : PeerKey} {i : ℕ} {p : PeerState} {calls : DeviceCalls} {out : Output} → IsPeer s key i p
-      → GoesOn dig s i p calls out new → {j : ℕ} {q : PeerState} → slice_get new.peers j ≡ Some q
+  goes_told : {s new key i p calls out : _} → IsPeer s key i p
+      → GoesOn dig s i p calls out new → {j q : _} → slice_get new.peers j ≡ Some q
       → IsTold s new out.send j q
   goes_told {s} {new} {i} {p} {calls} {out} is g {j} {q} at =
       let rest = record p { stream = g.takes.rest } in
@@ -312,7 +312,7 @@ module _ (dig : List ℕ → List ℕ) where
             ∙ sym (set_other g.mid.peers i j t apart) ∙ sym (ap (λ l. slice_get l j) peers) ∙ at)
       ]
 
-  next_told : {s new : EngineState} {key : PeerKey} {calls : DeviceCalls} {r : _} → StepNext dig s key calls r new → (j : ℕ) {q : PeerState}
+  next_told : {s new key calls r : _} → StepNext dig s key calls r new → (j : ℕ) {q : _}
       → slice_get new.peers j ≡ Some q → Old s new (sent_by (of_next r)) q
   next_told (no_peer x y z e) j at = same_so _ j e at
   next_told (waits i p x y z w e) j at = same_so _ j e at
@@ -322,7 +322,7 @@ module _ (dig : List ℕ → List ℕ) where
   next_told {s} (faulty i p out is g e) j at = left_so s s _ i j (λ n apart. refl) g.after at
   next_told {s} (no_memory i p is g e) j at = left_so s s _ i j (λ n apart. refl) g.after at
 
-  feed_told : {s new : EngineState} {key : PeerKey} {bytes : List ℕ} {r : _} (sent : List Sent) → StepFeed s key bytes r new → (j : ℕ) {q : PeerState}
+  feed_told : {s new key bytes r : _} (sent : List Sent) → StepFeed s key bytes r new → (j : ℕ) {q : _}
       → slice_get new.peers j ≡ Some q → Old s new sent q
   feed_told {s} {new} sent (feeds i p is y e) j {q} at =
       let then : slice_get (slice_set s.peers i _) j ≡ Some q = ap (λ (x : EngineState). slice_get x.peers j) (sym e) ∙ at in (
@@ -340,12 +340,12 @@ module _ (dig : List ℕ → List ℕ) where
   feed_told sent (not_fed x y e) j at = same_so sent j e at
   feed_told sent (no_room_to_feed i p x y e) j at = same_so sent j e at
 
-  lost_told : {s new : EngineState} {key : PeerKey} {r : _} (sent : List Sent) → StepLost s key r new → (j : ℕ) {q : PeerState} → slice_get new.peers j ≡ Some q
+  lost_told : {s new key r : _} (sent : List Sent) → StepLost s key r new → (j : ℕ) {q : _} → slice_get new.peers j ≡ Some q
       → Old s new sent q
   lost_told {s} sent (goes i p x y e) j at = left_so s s sent i j (λ n apart. refl) e at
   lost_told sent (not_lost x y e) j at = same_so sent j e at
 
-  rechokes_told : {s new : EngineState} {r : _} → StepRechoke dig s r new → (j : ℕ) {q : PeerState} → slice_get new.peers j ≡ Some q
+  rechokes_told : {s new r : _} → StepRechoke dig s r new → (j : ℕ) {q : _} → slice_get new.peers j ≡ Some q
       → Old s new (sent_by (of_rechoke r)) q
   rechokes_told {s} {r} (rechokes out x e) j at =
       let more : (y : Sent) → Contains x.sent y → Contains (sent_by (of_rechoke r)) y = λ y c.
@@ -354,7 +354,7 @@ module _ (dig : List ℕ → List ℕ) where
       (j, told_more more (rechoke_told x.follows at))
   rechokes_told (not_rechoked x e) j at = same_so _ j e at
 
-  flush_told : {s new : EngineState} {calls : DeviceCalls} {r : _} (sent : List Sent) → StepFlush s calls r new → (j : ℕ) {q : PeerState}
+  flush_told : {s new calls r : _} (sent : List Sent) → StepFlush s calls r new → (j : ℕ) {q : _}
       → slice_get new.peers j ≡ Some q → Old s new sent q
   flush_told sent (syncs x y z e) j at = same_so sent j e at
   flush_told sent (fails before file after x y z e) j at = same_so sent j e at
@@ -363,7 +363,7 @@ module _ (dig : List ℕ → List ℕ) where
 
 module _ (dig : List ℕ → List ℕ) {s : EngineState} (new : EngineState) {key : PeerKey} {place : ℕ} {before : PeerState} (after : PeerState) (one : IsOnlyPeer s key place before) where
   -- the peer before is the one of its key
-  told_of : {sent : List Sent} → after.key ≡ key → Old s new sent after → Tells new sent key before after
+  told_of : {sent : _} → after.key ≡ key → Old s new sent after → Tells new sent key before after
   told_of {sent} k r =
       let at : r.0 ≡ place = one.only r.0 r.1.before (record { here = r.1.at_place; same_key = r.1.same_key ∙ k }) in
       let same : r.1.before ≡ before =
@@ -371,7 +371,7 @@ module _ (dig : List ℕ → List ℕ) {s : EngineState} (new : EngineState) {ke
       subst (λ n. Tells new sent n before after) one.is_peer.same_key (subst (λ (q : PeerState). Tells new sent q.key q after) same r.1.tells)
 
   -- a peer that stays as it is
-  unchanged : {sent : List Sent} → after ≡ before → Tells new sent key before after
+  unchanged : {sent : _} → after ≡ before → Tells new sent key before after
   unchanged {sent} e = subst (λ x. Tells new sent key before x) (sym e) (nothing_new refl (asks_same refl refl))
 
   changed_to : {was now : _} → ((c : PeerState) → IsPeer new key place c → c ≡ after) → ChangesInterest s new key was now
@@ -383,7 +383,7 @@ module _ (dig : List ℕ → List ℕ) {s : EngineState} (new : EngineState) {ke
       let then : c.after ≡ after = alone c.after (subst (λ n. IsPeer new key n c.after) at c.is_after) in
       (ap (λ (q : PeerState). q.am_interested) same ∙ c.was_interested, ap (λ (q : PeerState). q.am_interested) (sym then) ∙ c.now_interested)
 
-  sent_changes : (e : Event) (calls : DeviceCalls) {a : Answer} → Step dig s e calls a new → ((c : PeerState) → IsPeer new key place c → c ≡ after)
+  sent_changes : (e : Event) (calls : DeviceCalls) {a : _} → Step dig s e calls a new → ((c : PeerState) → IsPeer new key place c → c ≡ after)
       → Tells new (sent_by a) key before after
       → IsSentChanges new a key before after
   sent_changes e calls {a} t alone tells =
@@ -396,7 +396,7 @@ module _ (dig : List ℕ → List ℕ) {s : EngineState} (new : EngineState) {ke
       }
 
 module _ (dig : List ℕ → List ℕ) where
-  pub next_changes : {s new : EngineState} {key : PeerKey} {place : ℕ} {before after : PeerState} (calls : DeviceCalls) {a : Answer}
+  pub next_changes : {s new key place before after : _} (calls : DeviceCalls) {a : _}
       → IsOnlyPeer s key place before → IsPeer new key place after → Step dig s (Next key) calls a new
       → IsSentChanges new a key before after
   next_changes {s} {new} {key} {place} {after} calls {a} one is t =
@@ -406,7 +406,7 @@ module _ (dig : List ℕ → List ℕ) where
 
   module _ {s new : EngineState} {key : PeerKey} {place : ℕ} {before : PeerState} {there : ℕ} {after : PeerState} (one : IsOnlyPeer s key place before)
       (now : IsOnlyPeer new key there after) where
-    of_old : {sent : List Sent} → Old s new sent after → Tells new sent key before after
+    of_old : {sent : _} → Old s new sent after → Tells new sent key before after
     of_old r = told_of dig new after one now.is_peer.same_key r
 
     at : slice_get new.peers there ≡ Some after
@@ -415,10 +415,10 @@ module _ (dig : List ℕ → List ℕ) where
     alone : (c : PeerState) → IsPeer new key place c → c ≡ after
     alone c is = same_some (ap (slice_get new.peers) (sym (now.only place c is)) ∙ is.here) at
 
-    still : {sent : List Sent} → slice_get new.peers place ≡ Some before → Tells new sent key before after
+    still : {sent : _} → slice_get new.peers place ≡ Some before → Tells new sent key before after
     still e = unchanged dig new after one (sym (alone before (record { here = e; same_key = one.is_peer.same_key })))
 
-    connect_tells : {r : _} {sent : List Sent} → StepConnect s r new → Tells new sent key before after
+    connect_tells : {r sent : _} → StepConnect s r new → Tells new sent key before after
     connect_tells (joins k bytes x y z w e f) =
         still (ap (λ (n : EngineState). slice_get n.peers place) f ∙ put_behind s.peers _ place one.is_peer.here)
     connect_tells {sent} (full x y e) = of_old (same_so sent there e at)
@@ -426,7 +426,7 @@ module _ (dig : List ℕ → List ℕ) where
     connect_tells {sent} (no_room x y z e) = of_old (same_so sent there e at)
 
     -- while a file is taken in no peer is connected
-    adopt_tells : {file : ℕ} {calls : DeviceCalls} {r : _} {sent : List Sent} → StepAdopt dig s file calls r new → Tells new sent key before after
+    adopt_tells : {file calls r sent : _} → StepAdopt dig s file calls r new → Tells new sent key before after
     adopt_tells {sent} (no_file x y z e) = of_old (same_so sent there e at)
     adopt_tells {sent} (busy x y z w e) = of_old (same_so sent there e at)
     adopt_tells (empty f none y z w v e) = absurd (none_there place none one.is_peer.here)

@@ -35,7 +35,7 @@ record ChangesAt (old new : EngineState) (key : PeerKey) (was now : Bool) (place
   at_place : changes.place ≡ place
 
 -- a peer whose interest changed by what follows for it
-changes_by : {old s new : EngineState} {i : ℕ} {sent : List Sent} (f : Follows s i sent new) → WasSo old i f.peer → {key : PeerKey} {was now : Bool} → f.peer.am_interested ≡ was → f.after.am_interested ≡ now
+changes_by : {old s new i sent : _} (f : Follows s i sent new) → WasSo old i f.peer → {key was now : _} → f.peer.am_interested ≡ was → f.after.am_interested ≡ now
     → f.peer.key ≡ key → ChangesAt old new key was now i
 changes_by {s} {new} {i} f w x y k = record {
   changes = record {
@@ -55,7 +55,7 @@ changes_by {s} {new} {i} f w x y k = record {
 }
 
 -- and it stays so while others follow
-stays_changed : {old s new : EngineState} {i : ℕ} {sent : List Sent} → Follows s i sent new → {key : PeerKey} {was now : Bool} {place : ℕ} → (i ≡ place → ⊥) → ChangesAt old s key was now place → ChangesAt old new key was now place
+stays_changed : {old s new i sent : _} → Follows s i sent new → {key was now place : _} → (i ≡ place → ⊥) → ChangesAt old s key was now place → ChangesAt old new key was now place
 stays_changed {s} {new} {i} f {place} apart c = record {
   changes = record {
     place = c.changes.place;
@@ -82,14 +82,14 @@ record Tells (old new : EngineState) (sent : List Sent) : Type 0 where
   uninterested : (key : PeerKey) → Contains sent (frame_to key NotInterested) → ChangesInterest old new key true false
 
 module _ (dig : List ℕ → List ℕ) where
-  each_stays : (n a : ℕ) {old s new : EngineState} (sent : List Sent) → FollowsEach dig (range_with_len a n) s sent new → {key : PeerKey} {was now : Bool} {place : ℕ} → place < a → ChangesAt old s key was now place
+  each_stays : (n a : ℕ) {old s new : _} (sent : List Sent) → FollowsEach dig (range_with_len a n) s sent new → {key was now place : _} → place < a → ChangesAt old s key was now place
       → ChangesAt old new key was now place
   each_stays zero a {old} sent f {key} {was} {now} {place} below c = subst (λ x. ChangesAt old x key was now place) (sym f.1) c
   each_stays (suc n) a sent f below c =
       each_stays n (a + 1) f.2 f.4 (omega (arith, below))
       (stays_changed (follows_of f.3) (λ e. absurd (omega (arith, below, e))) c)
 
-  each_tells : (n a : ℕ) {old : EngineState} (s : EngineState) {new : EngineState} {sent : List Sent} → FollowsEach dig (range_with_len a n) s sent new → ((j : ℕ) (q : PeerState) → a ≤ j → slice_get s.peers j ≡ Some q → WasSo old j q) → Tells old new sent
+  each_tells : (n a : ℕ) {old : _} (s : EngineState) {new sent : _} → FollowsEach dig (range_with_len a n) s sent new → ((j : ℕ) (q : PeerState) → a ≤ j → slice_get s.peers j ≡ Some q → WasSo old j q) → Tells old new sent
   each_tells zero a s f was_so = record {
     interested = λ key c. absurd (contains_none (subst (λ l. Contains l (frame_to key Interested)) f.0 c));
     uninterested = λ key c. absurd (contains_none (subst (λ l. Contains l (frame_to key NotInterested)) f.0 c));
@@ -113,12 +113,12 @@ module _ (dig : List ℕ → List ℕ) where
         ];
       }
 
-  rechoke_tells : {s new : EngineState} {sent : List Sent} → FollowsEach dig (range_with_len 0 (length s.peers)) (rechoked s) sent new → Tells s new sent
+  rechoke_tells : {s : EngineState} {new sent : _} → FollowsEach dig (range_with_len 0 (length s.peers)) (rechoked s) sent new → Tells s new sent
   rechoke_tells {s} f = each_tells (length s.peers) 0 (rechoked s) f (λ j q above at.
       let r = get_map (rechoked_peer s) s.peers j at in
       record { peer = r.0; here = r.1; same_key = ap (λ (x : PeerState). x.key) r.2; same_interest = ap (λ (x : PeerState). x.am_interested) r.2 })
 
-  next_tells : {s new : EngineState} {key : PeerKey} {i : ℕ} {p : PeerState} {calls : DeviceCalls} {out : Output} → IsPeer s key i p → (g : GoesOn dig s i p calls out new) → Tells s new g.sent
+  next_tells : {s new key i p calls out : _} → IsPeer s key i p → (g : GoesOn dig s i p calls out new) → Tells s new g.sent
   next_tells {s} {i} {p} {calls} peer g =
       let rest = record p { stream = g.takes.rest } in
       let set = set_same s.peers i peer.here in
@@ -136,18 +136,18 @@ module _ (dig : List ℕ → List ℕ) where
         uninterested = λ k c. let r = f.uninterested k c in (changes_by f was r.0 r.1 r.2).changes;
       }
 
-  unlike : {part : Part} → (part ≡ greets) ⊎ (part ≡ replies) ⊎ (part ≡ chokes) → interests ≡ part → ⊥
+  unlike : {part : _} → (part ≡ greets) ⊎ (part ≡ replies) ⊎ (part ≡ chokes) → interests ≡ part → ⊥
   unlike (inl x) e = absurd cc
   unlike (inr (inl x)) e = absurd cc
   unlike (inr (inr x)) e = absurd cc
 
-  interest_sent : {s new : EngineState} {key : PeerKey} → IsSentBy dig s new (frame_to key Interested) → ChangesInterest s new key false true
+  interest_sent : {s new key : _} → IsSentBy dig s new (frame_to key Interested) → ChangesInterest s new key false true
   interest_sent (alike part like e) = absurd (unlike like e)
   interest_sent {s} (announced other i p calls out peer g c) = let e = all_haves s g.mid _ c in absurd cc
   interest_sent {key} (followed other i p calls out peer g c) = (next_tells peer g).interested key c
   interest_sent {key} (rechoked_then sent f c) = (rechoke_tells f).interested key c
 
-  no_interest_sent : {s new : EngineState} {key : PeerKey} → IsSentBy dig s new (frame_to key NotInterested) → ChangesInterest s new key true false
+  no_interest_sent : {s new key : _} → IsSentBy dig s new (frame_to key NotInterested) → ChangesInterest s new key true false
   no_interest_sent (alike part like e) = absurd (unlike like e)
   no_interest_sent {s} (announced other i p calls out peer g c) = let e = all_haves s g.mid _ c in absurd cc
   no_interest_sent {key} (followed other i p calls out peer g c) = (next_tells peer g).uninterested key c

@@ -47,7 +47,7 @@ same_leaf [] = refl
 same_leaf (x ∷ d) = rw (eq-eqb x x refl) (same_leaf d)
 
 -- right bytes are told to be right
-pub right_true : {dig : List ℕ → List ℕ} {k : Facts} {i : ℕ} {bytes : List ℕ} → IsRight dig k i bytes → is_right dig k i bytes ≡ true
+pub right_true : {dig k i bytes : _} → IsRight dig k i bytes → is_right dig k i bytes ≡ true
 right_true {dig} {k} {i} {bytes} r = rw (eq-eqb (length bytes) (block_length k.file_length i) r.whole) (ap (λ o. is_leaf o (dig bytes)) r.leaf ∙ same_leaf (dig bytes))
 
 -- what was marked in the course of an event is noted by it
@@ -55,17 +55,17 @@ abbrev NotesMark : EngineState → Effect → EngineState → BlockId → Type 0
 NotesMark t effect mid b = (state_at t b ≡ Some Marked) ⊎ Contains effect.notes (NowMarked b)
 
 module _ (dig : List ℕ → List ℕ) (t mid : EngineState) (i : ℕ) (p : PeerState) (b : BlockId) (effect : Effect) where
-  as_before : {m : EngineState} → mid ≡ m → (state_at m b ≡ Some Marked → state_at t b ≡ Some Marked) → state_at mid b ≡ Some Marked → NotesMark t effect mid b
+  as_before : {m : _} → mid ≡ m → (state_at m b ≡ Some Marked → state_at t b ≡ Some Marked) → state_at mid b ≡ Some Marked → NotesMark t effect mid b
   as_before e kept now = inl (kept (subst (λ x. state_at x b ≡ Some Marked) e now))
 
-  fault_notes : {k : Facts} {file j : ℕ} {f : FileState} {read : BlockRead} → slice_get t.files file ≡ Some f → FindsFault dig k t file j f read effect mid → state_at mid b ≡ Some Marked → NotesMark t effect mid b
+  fault_notes : {k file j f read : _} → slice_get t.files file ≡ Some f → FindsFault dig k t file j f read effect mid → state_at mid b ≡ Some Marked → NotesMark t effect mid b
   fault_notes {j} {f} at (found_damaged bytes x y z e) m = as_before e (λ now. elim (file_marked t _ b now) [
     | inl one ↦ state_is t b (ap (slice_get t.files) one.0 ∙ at) (missing_marks f.states j b.block one.1)
     | inr old ↦ old
   ]) m
   fault_notes at (fault x y e) m = as_before e (λ now. now) m
 
-  request_notes : {ask : Ask} {calls : DeviceCalls} → HandlesRequest dig t i p ask calls effect mid → state_at mid b ≡ Some Marked → NotesMark t effect mid b
+  request_notes : {ask calls : _} → HandlesRequest dig t i p ask calls effect mid → state_at mid b ≡ Some Marked → NotesMark t effect mid b
   request_notes (ignored x c d e) m = as_before e (λ now. now) m
   request_notes (no_place x c d f e) m = as_before e (λ now. now) m
   request_notes (not_marked span x c d f g e) m = as_before e (λ now. now) m
@@ -73,7 +73,7 @@ module _ (dig : List ℕ → List ℕ) (t mid : EngineState) (i : ℕ) (p : Peer
   request_notes (stopped span x c d f) m = fault_notes f.is_file.here f.finds m
 
   -- a block was put: it alone can be marked by that
-  put_notes : (c : BlockId) {f : FileState} (states : List BlockState) {stored : EngineState} (q : PeerState) → slice_get t.files c.file ≡ Some f → stored ≡ with_file t c.file (record f { states = states }) → mid ≡ with_peer stored i q
+  put_notes : (c : BlockId) {f : _} (states : List BlockState) {stored : _} (q : PeerState) → slice_get t.files c.file ≡ Some f → stored ≡ with_file t c.file (record f { states = states }) → mid ≡ with_peer stored i q
       → (slice_get states b.block ≡ Some Marked → b.file ≡ c.file → (slice_get f.states b.block ≡ Some Marked) ⊎ Contains effect.notes (NowMarked b)) → state_at mid b ≡ Some Marked → NotesMark t effect mid b
   put_notes c {f} states q at is after changes m =
       elim (file_marked t (record f { states = states }) b (subst (λ x. state_at x b ≡ Some Marked) is (subst (λ x. state_at x b ≡ Some Marked) after m))) [
@@ -92,7 +92,7 @@ module _ (dig : List ℕ → List ℕ) (t mid : EngineState) (i : ℕ) (p : Peer
   put_changes c states (Ok Already) e now file = inl now
   put_changes c states (Err x) e now file = inl now
 
-  piece_notes : {piece begin : ℕ} {bytes : List ℕ} {calls : DeviceCalls} → HandlesPiece dig t i p piece begin bytes calls effect mid → state_at mid b ≡ Some Marked → NotesMark t effect mid b
+  piece_notes : {piece begin bytes calls : _} → HandlesPiece dig t i p piece begin bytes calls effect mid → state_at mid b ≡ Some Marked → NotesMark t effect mid b
   piece_notes (stale x y z e) m = as_before e (λ now. now) m
   piece_notes (arrives r) m =
       put_notes r.block (states_after_put r.block.block r.puts.result r.puts.file.states) _ r.puts.is_file.here r.puts.after r.after (put_changes r.block r.puts.file.states r.puts.result r.puts.has_effect) m
@@ -115,7 +115,7 @@ module _ (dig : List ℕ → List ℕ) (t mid : EngineState) (i : ℕ) (p : Peer
             (Contains-append_left (map (read_note dig s.facts b.file) (s.reads b.file)) _ (NowMarked b) one)))
       ]
 
-  hashes_notes : {key : HashKey} {digests : List ℕ} {calls : DeviceCalls} → HandlesHashes dig t i p key digests calls effect mid → state_at mid b ≡ Some Marked → NotesMark t effect mid b
+  hashes_notes : {key digests calls : _} → HandlesHashes dig t i p key digests calls effect mid → state_at mid b ≡ Some Marked → NotesMark t effect mid b
   hashes_notes (unknown_root x y z e) m = as_before e (λ now. now) m
   hashes_notes (no_claim f x y c) m = as_before c.after (λ now. now) m
   hashes_notes (refused f n k c x y z g) m = as_before g.after (λ now. now) m
@@ -129,7 +129,7 @@ module _ (dig : List ℕ → List ℕ) (t mid : EngineState) (i : ℕ) (p : Peer
   have_notes (in_range x y e) m = as_before e (λ now. now) m
   have_notes (out_of_range x y e) m = as_before e (λ now. now) m
 
-  bits_notes : {bytes : List ℕ} → HandlesBitfield t i p bytes effect mid → state_at mid b ≡ Some Marked → NotesMark t effect mid b
+  bits_notes : {bytes : _} → HandlesBitfield t i p bytes effect mid → state_at mid b ≡ Some Marked → NotesMark t effect mid b
   bits_notes (right x y e) m = as_before e (λ now. now) m
   bits_notes (wrong x y e) m = as_before e (λ now. now) m
 

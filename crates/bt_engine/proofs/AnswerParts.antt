@@ -71,10 +71,10 @@ AllOf part xs = (x : Sent) → Contains xs x → part_of x.frame ≡ part
 pub all_none : (part : Part) → AllOf part []
 all_none part x c = absurd (contains_none c)
 
-pub all_one : {part : Part} (x : Sent) (xs : List Sent) → part_of x.frame ≡ part → AllOf part xs → AllOf part (x ∷ xs)
+pub all_one : {part : _} (x : Sent) (xs : List Sent) → part_of x.frame ≡ part → AllOf part xs → AllOf part (x ∷ xs)
 all_one x xs e rest y c = elim (contains_cases xs c) [ inl same ↦ ap (λ (s : Sent). part_of s.frame) (sym same) ∙ e | inr more ↦ rest y more ]
 
-pub all_is : (part : Part) {xs ys : List Sent} → xs ≡ ys → AllOf part ys → AllOf part xs
+pub all_is : (part : Part) {xs ys : _} → xs ≡ ys → AllOf part ys → AllOf part xs
 all_is part e f = subst (λ l. AllOf part l) (sym e) f
 
 pub all_haves : (old new : EngineState) → AllOf announces (haves old new)
@@ -89,7 +89,7 @@ all_interest p true false = all_one _ [] refl (all_none interests)
 all_interest p false true = all_one _ [] refl (all_none interests)
 all_interest p false false = all_none interests
 
-pub all_hashes : {dig : List ℕ → List ℕ} {s : EngineState} {p q : PeerState} {sent : List Sent} → RequestsHashes dig s p sent q → AllOf hashes sent
+pub all_hashes : {dig s p q sent : _} → RequestsHashes dig s p sent q → AllOf hashes sent
 all_hashes (requests b k key x y z w e f) = all_is hashes e (all_one _ [] refl (all_none hashes))
 all_hashes (rests x e y) = all_is hashes e (all_none hashes)
 
@@ -104,7 +104,7 @@ pub data IsFollowing (interest hash block : List Sent) (x : Sent) : Type 0 where
   in_hash : Contains hash x → IsFollowing interest hash block x
   in_block : Contains block x → IsFollowing interest hash block x
 
-pub following : {interest hash block sent : List Sent} {x : Sent} → sent ≡ interest ++ hash ++ block → Contains sent x → IsFollowing interest hash block x
+pub following : {interest hash block sent x : _} → sent ≡ interest ++ hash ++ block → Contains sent x → IsFollowing interest hash block x
 following {interest} {hash} {block} {x} e c =
     elim (Contains-append_cases (interest ++ hash) block x (subst (λ l. Contains l x) e c)) [
       | inl front ↦ elim (Contains-append_cases interest hash x front) [ inl one ↦ in_interest one | inr two ↦ in_hash two ]
@@ -141,7 +141,7 @@ pub asks_same : {p q : PeerState} → q.asked ≡ p.asked → q.hash ≡ p.hash 
 asks_same asked hash = record { blocks = λ b c. subst (λ l. Contains l b) asked c; hashes = λ k e. sym hash ∙ e }
 
 -- an answer to a hash request asks for none
-resolved : {key : HashKey} {next old new : HashState} → ((k : HashKey) → next ≡ Asked k → ⊥) → Resolves key next old new → (k : HashKey) → new ≡ Asked k
+resolved : {key next old new : _} → ((k : HashKey) → next ≡ Asked k → ⊥) → Resolves key next old new → (k : HashKey) → new ≡ Asked k
     → old ≡ Asked k
 resolved never (ours_asked x e) k f = absurd (never k (sym e ∙ f))
 resolved never (other_asked x e) k f = sym e ∙ f
@@ -166,7 +166,7 @@ pub record Leaves (s : EngineState) (i : ℕ) (p : PeerState) (effect : Effect) 
 
 module _ (dig : List ℕ → List ℕ) (s : EngineState) (i : ℕ) {p : PeerState} (at : slice_get s.peers i ≡ Some p) where
   -- the peer is another
-  sets : {q : PeerState} {e effect : Effect} {mid : EngineState} → q.key ≡ p.key → q.am_interested ≡ p.am_interested → IsQuiet e → effect ≡ e
+  sets : {q : PeerState} {e effect mid : _} → q.key ≡ p.key → q.am_interested ≡ p.am_interested → IsQuiet e → effect ≡ e
       → mid ≡ with_peer s i q → AsksLess p q → Leaves s i p effect mid
   sets {q} {e} {mid} k f quiet same after less = subst (λ x. Leaves s i p x mid) (sym same) (subst (λ x. Leaves s i p e x) (sym after) (record {
     peer = q;
@@ -181,7 +181,7 @@ module _ (dig : List ℕ → List ℕ) (s : EngineState) (i : ℕ) {p : PeerStat
   }))
 
   -- nothing changes
-  stays : {e effect : Effect} {mid : EngineState} → IsQuiet e → effect ≡ e → mid ≡ s → Leaves s i p effect mid
+  stays : {e effect mid : _} → IsQuiet e → effect ≡ e → mid ≡ s → Leaves s i p effect mid
   stays {e} {mid} quiet same after = subst (λ x. Leaves s i p x mid) (sym same) (subst (λ x. Leaves s i p e x) (sym after) (record {
     peer = p;
     same_key = refl;
@@ -195,7 +195,7 @@ module _ (dig : List ℕ → List ℕ) (s : EngineState) (i : ℕ) {p : PeerStat
   }))
 
   -- a file is another, and the peer stays connected
-  changes_file : (file : ℕ) (f : FileState) {e effect : Effect} {mid : EngineState} → IsQuiet e → ((why : Why) → e.close ≡ Some why → ⊥) → effect ≡ e → mid ≡ with_file s file f → Leaves s i p effect mid
+  changes_file : (file : ℕ) (f : FileState) {e effect mid : _} → IsQuiet e → ((why : Why) → e.close ≡ Some why → ⊥) → effect ≡ e → mid ≡ with_file s file f → Leaves s i p effect mid
   changes_file file f {e} {mid} quiet open_still same after = subst (λ x. Leaves s i p x mid) (sym same) (subst (λ x. Leaves s i p e x) (sym after) (record {
     peer = p;
     same_key = refl;
@@ -220,19 +220,19 @@ module _ (dig : List ℕ → List ℕ) (s : EngineState) (i : ℕ) {p : PeerStat
   replies_quietly : (m : PeerMessage) → part_of_message m ≡ replies → IsQuiet (sending p m)
   replies_quietly m e = record { replied = all_one (sent_to p m) [] e (all_none replies); noted = none_noted }
 
-  have_leaves : {mid : EngineState} {piece : ℕ} {effect : Effect} → HandlesHave s i p piece effect mid → Leaves s i p effect mid
+  have_leaves : {mid piece effect : _} → HandlesHave s i p piece effect mid → Leaves s i p effect mid
   have_leaves (in_range x e y) = sets refl refl silent e y (asks_same refl refl)
   have_leaves (out_of_range x e y) = stays (closes_quietly _) e y
 
-  bits_leaves : {mid : EngineState} {bytes : List ℕ} {effect : Effect} → HandlesBitfield s i p bytes effect mid → Leaves s i p effect mid
+  bits_leaves : {mid bytes effect : _} → HandlesBitfield s i p bytes effect mid → Leaves s i p effect mid
   bits_leaves (right x e y) = sets refl refl silent e y (asks_same refl refl)
   bits_leaves (wrong x e y) = stays (closes_quietly _) e y
 
-  fault_leaves : {k : Facts} {mid : EngineState} {file j : ℕ} {f : FileState} {read : BlockRead} {effect : Effect} → FindsFault dig k s file j f read effect mid → Leaves s i p effect mid
+  fault_leaves : {k mid file j f read effect : _} → FindsFault dig k s file j f read effect mid → Leaves s i p effect mid
   fault_leaves {file} (damaged bytes x y e z) = changes_file file _ (notes_quietly _ refl) (λ why c. absurd cc) e z
   fault_leaves (fault x e y) = stays (notes_quietly _ refl) e y
 
-  request_leaves : {mid : EngineState} {ask : Ask} {calls : DeviceCalls} {effect : Effect} → HandlesRequest dig s i p ask calls effect mid → Leaves s i p effect mid
+  request_leaves : {mid ask calls effect : _} → HandlesRequest dig s i p ask calls effect mid → Leaves s i p effect mid
   request_leaves (ignored a c e d) = stays silent e d
   request_leaves (no_place a c d e f) = stays (closes_quietly _) e f
   request_leaves (not_marked span a c d f e g) = stays silent e g
@@ -248,7 +248,7 @@ module _ (dig : List ℕ → List ℕ) (s : EngineState) (i : ℕ) {p : PeerStat
   put_leaves b {file} {q} r states {effect} there k f less has same is after =
       subst (λ x. Leaves s i p effect x) (sym (after ∙ ap (λ x. with_peer x i q) is)) (of_effect r has same)
     where
-      leaves : {e : Effect} → IsQuiet e → ((why : Why) → e.close ≡ Some why → states ≡ file.states) → effect ≡ e → Leaves s i p effect (with_peer (with_file s b.file (record file { states = states })) i q)
+      leaves : {e : _} → IsQuiet e → ((why : Why) → e.close ≡ Some why → states ≡ file.states) → effect ≡ e → Leaves s i p effect (with_peer (with_file s b.file (record file { states = states })) i q)
       leaves quiet kept same_effect = subst (λ x. Leaves s i p x (with_peer (with_file s b.file (record file { states = states })) i q)) (sym same_effect) (record {
         peer = q;
         same_key = k;
@@ -269,14 +269,14 @@ module _ (dig : List ℕ → List ℕ) (s : EngineState) (i : ℕ) {p : PeerStat
       of_effect (Err DeviceFault) e same = leaves (notes_quietly _ refl) (λ why c. absurd cc) e
       of_effect (Err Range) e same = absurd e
 
-  arrives_leaves : {mid : EngineState} {piece begin : ℕ} {bytes : List ℕ} {calls : DeviceCalls} {effect : Effect} → Arrives dig s i p piece begin bytes calls effect mid → Leaves s i p effect mid
+  arrives_leaves : {mid piece begin bytes calls effect : _} → Arrives dig s i p piece begin bytes calls effect mid → Leaves s i p effect mid
   arrives_leaves a =
       put_leaves a.block a.puts.result
       (states_after_put a.block.block a.puts.result a.puts.file.states) a.puts.is_file.here refl refl
       (record { blocks = λ b c. (contains_filter (λ d. not (is_block a.block d)) p.asked c).0; hashes = λ k e. e }) a.puts.has_effect
       (λ e. ap (λ r. states_after_put a.block.block r a.puts.file.states) e) a.puts.after a.after
 
-  piece_leaves : {mid : EngineState} {piece begin : ℕ} {bytes : List ℕ} {calls : DeviceCalls} {effect : Effect} → HandlesPiece dig s i p piece begin bytes calls effect mid → Leaves s i p effect mid
+  piece_leaves : {mid piece begin bytes calls effect : _} → HandlesPiece dig s i p piece begin bytes calls effect mid → Leaves s i p effect mid
   piece_leaves (stale x y e z) = stays (notes_quietly _ refl) e z
   piece_leaves (arrives a) = arrives_leaves a
 
@@ -299,7 +299,7 @@ module _ (dig : List ℕ → List ℕ) (s : EngineState) (i : ℕ) {p : PeerStat
       by_fault true c = one_noted (Device file) refl note c
       by_fault false c = absurd (contains_none c)
 
-  hashes_leaves : {mid : EngineState} {key : HashKey} {digests : List ℕ} {calls : DeviceCalls} {effect : Effect} → HandlesHashes dig s i p key digests calls effect mid → Leaves s i p effect mid
+  hashes_leaves : {mid key digests calls effect : _} → HandlesHashes dig s i p key digests calls effect mid → Leaves s i p effect mid
   hashes_leaves (unknown_root x y e z) = stays (closes_quietly _) e z
   hashes_leaves (no_claim f x y c) = stays (closes_quietly _) c.has_effect c.after
   hashes_leaves (refused f t k c x y z g) = stays (closes_quietly _) g.has_effect g.after
@@ -321,11 +321,11 @@ module _ (dig : List ℕ → List ℕ) (s : EngineState) (i : ℕ) {p : PeerStat
         closed = λ why c. absurd cc;
       }))
 
-  answer_leaves : {mid : EngineState} {key : HashKey} {effect : Effect} → HandlesHashRequest dig s p key effect → mid ≡ s → Leaves s i p effect mid
+  answer_leaves : {mid key effect : _} → HandlesHashRequest dig s p key effect → mid ≡ s → Leaves s i p effect mid
   answer_leaves (answered digests x e) after = stays (replies_quietly _ refl) e after
   answer_leaves (rejected x e) after = stays (replies_quietly _ refl) e after
 
-  message_leaves : {mid : EngineState} (m : PeerMessage) (calls : DeviceCalls) {effect : Effect} → HandlesMessage dig s i p m calls effect mid → Leaves s i p effect mid
+  message_leaves : {mid : _} (m : PeerMessage) (calls : DeviceCalls) {effect : _} → HandlesMessage dig s i p m calls effect mid → Leaves s i p effect mid
   message_leaves KeepAlive calls h = stays silent h.1 h.2
   message_leaves Choke calls h =
       sets refl refl silent h.1 h.2 (record { blocks = λ b c. absurd (contains_none c); hashes = λ k e. e })
@@ -343,11 +343,11 @@ module _ (dig : List ℕ → List ℕ) (s : EngineState) (i : ℕ) {p : PeerStat
       sets refl refl silent h.1 h.2.after
       (record { blocks = λ b c. c; hashes = resolved never_refused h.2.resolves })
 
-  hello_leaves : {mid : EngineState} {h : Handshake} {effect : Effect} → HandlesHello s h effect → mid ≡ s → Leaves s i p effect mid
+  hello_leaves : {mid h effect : _} → HandlesHello s h effect → mid ≡ s → Leaves s i p effect mid
   hello_leaves (ours x e) after = stays silent e after
   hello_leaves (other x e) after = stays (closes_quietly _) e after
 
-  pub event_leaves : {mid : EngineState} (e : WireEvent) (calls : DeviceCalls) {effect : Effect} → Handles dig s i p e calls effect mid → Leaves s i p effect mid
+  pub event_leaves : {mid : _} (e : WireEvent) (calls : DeviceCalls) {effect : _} → Handles dig s i p e calls effect mid → Leaves s i p effect mid
   event_leaves (Hello h) calls t = hello_leaves t.1 t.2
   event_leaves (Message m) calls t = message_leaves m calls t
   event_leaves (Skipped kind) calls t = stays silent t.1 t.2

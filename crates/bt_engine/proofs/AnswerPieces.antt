@@ -50,7 +50,7 @@ not_so : (b : Bool) → not b ≡ true → b ≡ false
 not_so true e = absurd cc
 not_so false e = refl
 
-becomes : {now before : Bool} → now ≡ true → before ≡ false → (now && not before) ≡ true
+becomes : {now before : _} → now ≡ true → before ≡ false → (now && not before) ≡ true
 becomes e f = rw e (rw f refl)
 
 -- ---- where pieces and files are the same
@@ -69,25 +69,25 @@ data Keeps (dig : List ℕ → List ℕ) (s : EngineState) (answer : Answer) (ne
 
 module _ (dig : List ℕ → List ℕ) (s new : EngineState) where
   -- an answer without an output, or with one without notes
-  no_output : {a b : Answer} → a ≡ b → output_of b ≡ None → (file : ℕ) → NotedBy a (Complete file) → ⊥
+  no_output : {a b : _} → a ≡ b → output_of b ≡ None → (file : ℕ) → NotedBy a (Complete file) → ⊥
   no_output e none file c = let wrong : None ≡ Some c.0 = sym none ∙ ap output_of (sym e) ∙ c.1 in absurd cc
 
-  no_note : {a b : Answer} {like : Output} → a ≡ b → output_of b ≡ Some like → NoComplete like.notes → (file : ℕ) → NotedBy a (Complete file) → ⊥
+  no_note : {a b like : _} → a ≡ b → output_of b ≡ Some like → NoComplete like.notes → (file : ℕ) → NotedBy a (Complete file) → ⊥
   no_note {like} e is none file c =
       let same : c.0 ≡ like = same_some c.1 (ap output_of e ∙ is) in
       let wrong : true ≡ false = none (Complete file) (subst (λ (o : Output). Contains o.notes (Complete file)) same c.2) in
       absurd cc
 
-  same_state : {a b : Answer} → a ≡ b → output_of b ≡ None → new ≡ s → Keeps dig s a new
+  same_state : {a b : _} → a ≡ b → output_of b ≡ None → new ≡ s → Keeps dig s a new
   same_state e none is = keeps (ap (λ (x : EngineState). x.files) is) (ap (λ (x : EngineState). x.torrent) is) (no_output e none)
 
-  like_state : {a b : Answer} {like : EngineState} → a ≡ b → output_of b ≡ None → like.files ≡ s.files → like.torrent ≡ s.torrent → new ≡ like → Keeps dig s a new
+  like_state : {like : EngineState} {a b : _} → a ≡ b → output_of b ≡ None → like.files ≡ s.files → like.torrent ≡ s.torrent → new ≡ like → Keeps dig s a new
   like_state e none f t is = keeps (ap (λ (x : EngineState). x.files) is ∙ f) (ap (λ (x : EngineState). x.torrent) is ∙ t) (no_output e none)
 
   no_notes : NoComplete []
   no_notes note c = absurd (contains_none c)
 
-  next_keeps : {key : PeerKey} {calls : DeviceCalls} {r : _} → StepNext dig s key calls r new → Keeps dig s (of_next r) new
+  next_keeps : {key calls r : _} → StepNext dig s key calls r new → Keeps dig s (of_next r) new
   next_keeps (no_peer x y e z) = same_state (ap (λ x. of_next x) e) refl z
   next_keeps (waits i p x y z e f) = same_state (ap (λ x. of_next x) e) refl f
   next_keeps {key} {calls} (goes_on i p out x g e) = goes_further key i p calls out x g (ap (λ x. of_next x) e)
@@ -106,16 +106,16 @@ module _ (dig : List ℕ → List ℕ) (s new : EngineState) where
   connect_keeps (spent x y e z) = same_state (ap (λ x. of_connect x) e) refl z
   connect_keeps (no_room x y e z) = same_state (ap (λ x. of_connect x) e) refl z
 
-  feed_keeps : {key : PeerKey} {bytes : List ℕ} {r : _} → StepFeed s key bytes r new → Keeps dig s (of_feed r) new
+  feed_keeps : {key bytes r : _} → StepFeed s key bytes r new → Keeps dig s (of_feed r) new
   feed_keeps (feeds i p x e y) = like_state (ap (λ x. of_feed x) e) refl refl refl y
   feed_keeps (not_fed x e y) = same_state (ap (λ x. of_feed x) e) refl y
   feed_keeps (no_room_to_feed i p x e y) = same_state (ap (λ x. of_feed x) e) refl y
 
-  lost_keeps : {key : PeerKey} {r : _} → StepLost s key r new → Keeps dig s (of_lost r) new
+  lost_keeps : {key r : _} → StepLost s key r new → Keeps dig s (of_lost r) new
   lost_keeps (goes i p x e y) = like_state (ap (λ x. of_lost x) e) refl refl refl y
   lost_keeps (not_lost x e y) = same_state (ap (λ x. of_lost x) e) refl y
 
-  flush_keeps : {calls : DeviceCalls} {r : _} → StepFlush s calls r new → Keeps dig s (of_flush r) new
+  flush_keeps : {calls r : _} → StepFlush s calls r new → Keeps dig s (of_flush r) new
   flush_keeps (syncs x y e z) = same_state (ap (λ x. of_flush x) e) refl z
   flush_keeps (fails before file after x y e z) = same_state (ap (λ x. of_flush x) e) refl z
 
@@ -126,13 +126,13 @@ each_keeps dig (i ∷ places) s new sent f =
     let rest = each_keeps dig places f.0 new f.2 f.4 in
     (rest.0 ∙ first.files, rest.1 ∙ first.torrent)
 
-rechoke_keeps : {dig : List ℕ → List ℕ} {s new : EngineState} {r : _} → StepRechoke dig s r new → Keeps dig s (of_rechoke r) new
+rechoke_keeps : {dig s new r : _} → StepRechoke dig s r new → Keeps dig s (of_rechoke r) new
 rechoke_keeps {dig} {s} {new} (rechokes out x e) =
     let kept = each_keeps dig _ (rechoked s) new x.sent x.follows in
     keeps kept.0 kept.1 (no_note dig s new (ap (λ x. of_rechoke x) (e ∙ ap (λ o. Some o) x.is)) refl (no_notes dig s new))
 rechoke_keeps {dig} {s} {new} (not_rechoked e x) = same_state dig s new (ap (λ x. of_rechoke x) e) refl x
 
-keeps_as : {dig : List ℕ → List ℕ} {s new : EngineState} {a b : Answer} → a ≡ b → Keeps dig s b new → Keeps dig s a new
+keeps_as : {dig s new a b : _} → a ≡ b → Keeps dig s b new → Keeps dig s a new
 keeps_as {dig} {s} {new} e k = subst (λ x. Keeps dig s x new) (sym e) k
 
 -- ---- taking in a file leaves no peer to tell
@@ -141,18 +141,18 @@ groups_peers : (dig : List ℕ → List ℕ) (s new : EngineState) (file from : 
 groups_peers dig s new file from [] total f = ap (λ (x : EngineState). x.peers) f.1
 groups_peers dig s new file from (calls ∷ more) total f = groups_peers dig f.1 new file f.0.next more f.2 f.4 ∙ ap (λ (x : EngineState). x.peers) f.3.after
 
-file_peers : {dig : List ℕ → List ℕ} {s new : EngineState} {file : ℕ} {calls : DeviceCalls} {total : Adopted} → AdoptsFile dig s file calls total new → new.peers ≡ s.peers
+file_peers : {dig s new file calls total : _} → AdoptsFile dig s file calls total new → new.peers ≡ s.peers
 file_peers {dig} {s} {file} f =
     ap (λ (x : EngineState). x.peers) f.after ∙ ap (λ (x : EngineState). x.peers) f.settles.others ∙ groups_peers dig s f.mid file 0 f.groups _ f.adopts
 
-adopt_keeps : {dig : List ℕ → List ℕ} {s new : EngineState} {file : ℕ} {calls : DeviceCalls} {r : _} → StepAdopt dig s file calls r new → Keeps dig s (of_adopt r) new ⊎ (new.peers ≡ [])
+adopt_keeps : {dig s new file calls r : _} → StepAdopt dig s file calls r new → Keeps dig s (of_adopt r) new ⊎ (new.peers ≡ [])
 adopt_keeps {dig} {s} {new} (no_file x y e z) = inl (same_state dig s new (ap (λ x. of_adopt x) e) refl z)
 adopt_keeps {dig} {s} {new} (busy x y z e w) = inl (same_state dig s new (ap (λ x. of_adopt x) e) refl w)
 adopt_keeps {dig} {s} {new} (empty f x y z w e v) = inl (same_state dig s new (ap (λ x. of_adopt x) e) refl v)
 adopt_keeps (adopts total alone f e) = inr (file_peers f ∙ alone)
 adopt_keeps {dig} {s} {new} {file} (adopt_memory alone f e) = inr (groups_peers dig s new file 0 f.groups f.done f.adopts ∙ alone)
 
-step_keeps : {dig : List ℕ → List ℕ} {s new : EngineState} (e : Event) (calls : DeviceCalls) {a : Answer} → Step dig s e calls a new → Keeps dig s a new ⊎ (new.peers ≡ [])
+step_keeps : {dig s new : _} (e : Event) (calls : DeviceCalls) {a : _} → Step dig s e calls a new → Keeps dig s a new ⊎ (new.peers ≡ [])
 step_keeps {dig} {s} {new} Connect calls t = inl (keeps_as t.1 (connect_keeps dig s new t.3))
 step_keeps {dig} {s} {new} (Feed key bytes) calls t = inl (keeps_as t.1 (feed_keeps dig s new t.3))
 step_keeps {dig} {s} {new} (Next key) calls t = inl (keeps_as t.1 (next_keeps dig s new t.2))
@@ -174,7 +174,7 @@ module _ {dig : List ℕ → List ℕ} {s new : EngineState} {key : PeerKey} {i 
   torrent_is = (follows_of g.follows).torrent
 
   -- the same keys are connected
-  connected : {q : PeerState} (j : ℕ) → slice_get g.mid.peers j ≡ Some q → IsConnected new q.key
+  connected : {q : _} (j : ℕ) → slice_get g.mid.peers j ≡ Some q → IsConnected new q.key
   connected {q} j at =
       let f = follows_of g.follows in
       elim (nat_cases i j) [
@@ -184,7 +184,7 @@ module _ {dig : List ℕ → List ℕ} {s new : EngineState} {key : PeerKey} {i 
         | inr apart ↦ (j, q, record { here = ap (λ l. slice_get l j) f.peers ∙ set_other g.mid.peers i j f.after apart ∙ at; same_key = refl })
       ]
 
-  was_connected : {k : PeerKey} → IsConnected new k → (q : PeerState) × Contains g.mid.peers q × (q.key ≡ k)
+  was_connected : {k : _} → IsConnected new k → (q : PeerState) × Contains g.mid.peers q × (q.key ≡ k)
   was_connected c =
       let f = follows_of g.follows in
       elim (set_cases g.mid.peers i c.0 (subst (λ l. slice_get l c.0 ≡ Some c.1) f.peers c.2.here)) [
@@ -254,10 +254,10 @@ becomes_nothing : {X : Type 0} {holds : EngineState → ℕ → Bool} {s new : E
 becomes_nothing same b = let wrong : false ≡ true = sym b.before ∙ sym same ∙ b.after in absurd cc
 
 module _ (dig : List ℕ → List ℕ) where
-  have_sent : {s new : EngineState} (key : PeerKey) {piece : ℕ} → IsSentBy dig s new (frame_to key (Have piece)) → IsConnected new key × (piece < total_pieces new.torrent) × BecomesSo is_whole s new piece
+  have_sent : {s new : _} (key : PeerKey) {piece : ℕ} → IsSentBy dig s new (frame_to key (Have piece)) → IsConnected new key × (piece < total_pieces new.torrent) × BecomesSo is_whole s new piece
   have_sent key (alike part like e) = absurd (unlike like e)
     where
-      unlike : {part : Part} → (part ≡ greets) ⊎ (part ≡ replies) ⊎ (part ≡ chokes) → announces ≡ part → ⊥
+      unlike : {part : _} → (part ≡ greets) ⊎ (part ≡ replies) ⊎ (part ≡ chokes) → announces ≡ part → ⊥
       unlike (inl x) e = absurd cc
       unlike (inr (inl x)) e = absurd cc
       unlike (inr (inr x)) e = absurd cc
@@ -275,7 +275,7 @@ module _ (dig : List ℕ → List ℕ) where
   none_connected : {X : Type 0} (new : EngineState) (key : PeerKey) → new.peers ≡ [] → IsConnected new key → X
   none_connected new key none c = absurd (contains_none (contains_some [] c.0 (ap (λ l. slice_get l c.0) (sym none) ∙ c.2.here)))
 
-  sends_have : {s new : EngineState} {a : Answer} (key : PeerKey) {piece : ℕ} → Keeps dig s a new → IsConnected new key → piece < total_pieces new.torrent → BecomesSo is_whole s new piece
+  sends_have : {s new a : _} (key : PeerKey) {piece : ℕ} → Keeps dig s a new → IsConnected new key → piece < total_pieces new.torrent → BecomesSo is_whole s new piece
       → Contains (sent_by a) (frame_to key (Have piece))
   sends_have {s} {new} key {piece} (keeps f t x) c below b = becomes_nothing (whole_same s new piece f t) b
   sends_have key {piece} (goes_further other i p calls out peer g e) c below b =
@@ -287,7 +287,7 @@ module _ (dig : List ℕ → List ℕ) where
     λ c. elim (step_keeps e calls t) [ inl kept ↦ sends_have key kept c.0 c.1 c.2 | inr none ↦ none_connected new key none c.0 ],
   )
 
-  complete_cases : {s new : EngineState} {a : Answer} {file : ℕ} → Keeps dig s a new → NotedBy a (Complete file) ↔ (file < length new.files) × BecomesSo is_complete s new file
+  complete_cases : {s new a file : _} → Keeps dig s a new → NotedBy a (Complete file) ↔ (file < length new.files) × BecomesSo is_complete s new file
   complete_cases {s} {new} {file} (keeps f t x) = (λ c. absurd (x file c), λ b. becomes_nothing (complete_same s new file f) b.1)
   complete_cases {file} (goes_further other i p calls out peer g e) = (
     λ c.

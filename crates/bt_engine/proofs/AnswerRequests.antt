@@ -35,7 +35,7 @@ module _ (dig : List ℕ → List ℕ) where
     so : IsRequestedOf new place peer ask block
 
   -- a request that follows for a peer
-  asks_rightly : {s new : EngineState} {i : ℕ} {sent : List Sent} → Follows s i sent new → {key : PeerKey} {ask : Ask} → Contains sent (frame_to key (Request ask)) → IsRequested new key ask
+  asks_rightly : {s new i sent : _} → Follows s i sent new → {key ask : _} → Contains sent (frame_to key (Request ask)) → IsRequested new key ask
   asks_rightly {s} {new} {i} f {key} {ask} c =
       let r = f.requested key ask c in
       let o = f.open_blocks r.0 r.1 in
@@ -60,7 +60,7 @@ module _ (dig : List ℕ → List ℕ) where
       }
 
   -- it stays so while others follow
-  stays_right : {s new : EngineState} {i : ℕ} {sent : List Sent} → Follows s i sent new → {key : PeerKey} {ask : Ask} → IsRequested s key ask → IsRequested new key ask
+  stays_right : {s new i sent : _} → Follows s i sent new → {key ask : _} → IsRequested s key ask → IsRequested new key ask
   stays_right {s} {new} {i} f {key} {ask} r = by (nat_cases i r.place)
     where
       whole : IsWholeBlock new.torrent ask.piece ask.begin ask.length r.block
@@ -113,21 +113,21 @@ module _ (dig : List ℕ → List ℕ) where
         };
       }
 
-  each_stays : (places : List ℕ) {s new : EngineState} (sent : List Sent) → FollowsEach dig places s sent new → {key : PeerKey} {ask : Ask} → IsRequested s key ask → IsRequested new key ask
+  each_stays : (places : List ℕ) {s new : _} (sent : List Sent) → FollowsEach dig places s sent new → {key ask : _} → IsRequested s key ask → IsRequested new key ask
   each_stays [] sent f {key} {ask} r = subst (λ x. IsRequested x key ask) (sym f.1) r
   each_stays (i ∷ places) sent f r = each_stays places f.2 f.4 (stays_right (follows_of f.3) r)
 
-  each_asks : (places : List ℕ) (s : EngineState) {new : EngineState} (sent : List Sent) → FollowsEach dig places s sent new → {key : PeerKey} {ask : Ask} → Contains sent (frame_to key (Request ask)) → IsRequested new key ask
+  each_asks : (places : List ℕ) (s : EngineState) {new : _} (sent : List Sent) → FollowsEach dig places s sent new → {key ask : _} → Contains sent (frame_to key (Request ask)) → IsRequested new key ask
   each_asks [] s sent f {key} {ask} c = absurd (contains_none (subst (λ l. Contains l (frame_to key (Request ask))) f.0 c))
   each_asks (i ∷ places) s sent f {key} {ask} c = elim (Contains-append_cases f.1 f.2 (frame_to key (Request ask)) (subst (λ l. Contains l (frame_to key (Request ask))) f.5 c)) [
     | inl one ↦ each_stays places f.2 f.4 (asks_rightly (follows_of f.3) one)
     | inr more ↦ each_asks places f.0 f.2 f.4 more
   ]
 
-  request_sent : {s new : EngineState} {key : PeerKey} {ask : Ask} → IsSentBy dig s new (frame_to key (Request ask)) → IsRequested new key ask
+  request_sent : {s new key ask : _} → IsSentBy dig s new (frame_to key (Request ask)) → IsRequested new key ask
   request_sent (alike part like e) = absurd (unlike like e)
     where
-      unlike : {part : Part} → (part ≡ greets) ⊎ (part ≡ replies) ⊎ (part ≡ chokes) → asks ≡ part → ⊥
+      unlike : {part : _} → (part ≡ greets) ⊎ (part ≡ replies) ⊎ (part ≡ chokes) → asks ≡ part → ⊥
       unlike (inl x) e = absurd cc
       unlike (inr (inl x)) e = absurd cc
       unlike (inr (inr x)) e = absurd cc

@@ -70,7 +70,7 @@ pub record SamePlan (p q : PeerState) : Type 0 where
   pub same_has : q.has ≡ p.has
   pub same_asked : q.asked ≡ p.asked
 
-pub same_plan : {dig : List ℕ → List ℕ} {s : EngineState} {p q : PeerState} {sent : List Sent} → RequestsHashes dig s p sent q → SamePlan p q
+pub same_plan : {dig s p q sent : _} → RequestsHashes dig s p sent q → SamePlan p q
 same_plan (requests b k key x y z w e f) = record {
   same_key = ap (λ (r : PeerState). r.key) f;
   same_choking = ap (λ (r : PeerState). r.peer_choking) f;
@@ -101,7 +101,7 @@ not_false : (b : Bool) → (b ≡ false → ⊥) → b ≡ true
 not_false true never = refl
 not_false false never = absurd (never refl)
 
-each_ask : {s : EngineState} {p : PeerState} (blocks : List BlockId) (sent : List Sent) → RequestsEach s p blocks sent → {x : Sent} → Contains sent x → (b : BlockId) × Contains blocks b × RequestsBlock s p b x
+each_ask : {s p : _} (blocks : List BlockId) (sent : List Sent) → RequestsEach s p blocks sent → {x : _} → Contains sent x → (b : BlockId) × Contains blocks b × RequestsBlock s p b x
 each_ask [] sent r {x} c = absurd (contains_none (subst (λ l. Contains l x) r c))
 each_ask {s} {p} (b ∷ blocks) sent r {x} c = elim (contains_cases r.1 (subst (λ l. Contains l x) r.4 c)) [
   | inl same ↦ (b, here blocks refl, subst (λ y. RequestsBlock s p b y) same r.2)
@@ -112,7 +112,7 @@ abbrev ask_in : Frame → Ask
 ask_in (message_frame (Request ask)) = ask
 ask_in _ = record { piece = 0; begin = 0; length = 0 }
 
-told_interest : (p : PeerState) (was now : Bool) {key : PeerKey} → Contains (interest_sent p was now) (frame_to key Interested) → (was ≡ false) × (now ≡ true) × (p.key ≡ key)
+told_interest : (p : PeerState) (was now : Bool) {key : _} → Contains (interest_sent p was now) (frame_to key Interested) → (was ≡ false) × (now ≡ true) × (p.key ≡ key)
 told_interest p true true c = absurd (contains_none c)
 told_interest p false false c = absurd (contains_none c)
 told_interest p false true c = elim (contains_cases [] c) [ inl same ↦ (refl, refl, ap (λ (x : Sent). x.peer) same) | inr none ↦ absurd (contains_none none) ]
@@ -125,7 +125,7 @@ told_interest p true false {key} c = elim (contains_cases [] c) [ inl same ↦ a
     not_told : frame_to p.key NotInterested ≡ frame_to key Interested → ⊥
     not_told same = let wrong : false ≡ true = ap (λ (x : Sent). is_told x.frame) same in absurd cc
 
-told_no_interest : (p : PeerState) (was now : Bool) {key : PeerKey} → Contains (interest_sent p was now) (frame_to key NotInterested) → (was ≡ true) × (now ≡ false) × (p.key ≡ key)
+told_no_interest : (p : PeerState) (was now : Bool) {key : _} → Contains (interest_sent p was now) (frame_to key NotInterested) → (was ≡ true) × (now ≡ false) × (p.key ≡ key)
 told_no_interest p true true c = absurd (contains_none c)
 told_no_interest p false false c = absurd (contains_none c)
 told_no_interest p true false c = elim (contains_cases [] c) [ inl same ↦ (refl, refl, ap (λ (x : Sent). x.peer) same) | inr none ↦ absurd (contains_none none) ]
@@ -142,19 +142,19 @@ module _ {dig : List ℕ → List ℕ} {s : EngineState} {i : ℕ} {sent : List 
   abbrev stands : Sent → Type 0
   stands x = IsFollowing f.interest_frames f.hash_frames f.block_frames x
 
-  place_in : {x : Sent} → Contains sent x → stands x
+  place_in : {x : _} → Contains sent x → stands x
   place_in c = following f.all c
 
-  of_interest : {x : Sent} → Contains f.interest_frames x → part_of x.frame ≡ interests
+  of_interest : {x : _} → Contains f.interest_frames x → part_of x.frame ≡ interests
   of_interest {x} c = all_is interests f.interest.told (all_interest f.peer f.peer.am_interested f.interested.am_interested) x c
 
-  of_hash : {x : Sent} → Contains f.hash_frames x → part_of x.frame ≡ hashes
+  of_hash : {x : _} → Contains f.hash_frames x → part_of x.frame ≡ hashes
   of_hash {x} c = all_hashes f.hashes x c
 
-  of_block : {x : Sent} → Contains f.block_frames x → part_of x.frame ≡ asks
+  of_block : {x : _} → Contains f.block_frames x → part_of x.frame ≡ asks
   of_block {x} c = all_asks s f.planned f.blocks f.block_frames f.requests x c
 
-  ask_sent : {key : PeerKey} (ask : Ask) → stands (frame_to key (Request ask)) → (b : BlockId) × Contains f.blocks b × IsWholeBlock s.torrent ask.piece ask.begin ask.length b × (f.planned.key ≡ key)
+  ask_sent : {key : _} (ask : Ask) → stands (frame_to key (Request ask)) → (b : BlockId) × Contains f.blocks b × IsWholeBlock s.torrent ask.piece ask.begin ask.length b × (f.planned.key ≡ key)
   ask_sent ask (in_interest c) = let e = of_interest c in absurd cc
   ask_sent ask (in_hash c) = let e = of_hash c in absurd cc
   ask_sent ask (in_block c) =
@@ -162,12 +162,12 @@ module _ {dig : List ℕ → List ℕ} {s : EngineState} {i : ℕ} {sent : List 
       let same : ask ≡ r.2.ask = ap (λ (x : Sent). ask_in x.frame) r.2.is in
       (r.0, r.1, subst (λ (a : Ask). IsWholeBlock s.torrent a.piece a.begin a.length r.0) (sym same) r.2.whole, ap (λ (x : Sent). x.peer) (sym r.2.is))
 
-  interest_told : {key : PeerKey} → stands (frame_to key Interested) → (f.peer.am_interested ≡ false) × (f.interested.am_interested ≡ true) × (f.peer.key ≡ key)
+  interest_told : {key : _} → stands (frame_to key Interested) → (f.peer.am_interested ≡ false) × (f.interested.am_interested ≡ true) × (f.peer.key ≡ key)
   interest_told {key} (in_interest c) = told_interest f.peer _ _ (subst (λ l. Contains l (frame_to key Interested)) f.interest.told c)
   interest_told (in_hash c) = let e = of_hash c in absurd cc
   interest_told (in_block c) = let e = of_block c in absurd cc
 
-  no_interest_told : {key : PeerKey} → stands (frame_to key NotInterested) → (f.peer.am_interested ≡ true) × (f.interested.am_interested ≡ false) × (f.peer.key ≡ key)
+  no_interest_told : {key : _} → stands (frame_to key NotInterested) → (f.peer.am_interested ≡ true) × (f.interested.am_interested ≡ false) × (f.peer.key ≡ key)
   no_interest_told {key} (in_interest c) = told_no_interest f.peer _ _ (subst (λ l. Contains l (frame_to key NotInterested)) f.interest.told c)
   no_interest_told (in_hash c) = let e = of_hash c in absurd cc
   no_interest_told (in_block c) = let e = of_block c in absurd cc
@@ -222,16 +222,16 @@ module _ (dig : List ℕ → List ℕ) where
   abbrev Sent_by : EngineState → EngineState → List Sent → Type 0
   Sent_by s new xs = (x : Sent) → Contains xs x → IsSentBy dig s new x
 
-  nothing_sent : (s new : EngineState) {a b : Answer} → a ≡ b → sent_by b ≡ [] → Sent_by s new (sent_by a)
+  nothing_sent : (s new : EngineState) {a b : _} → a ≡ b → sent_by b ≡ [] → Sent_by s new (sent_by a)
   nothing_sent s new e none x c = absurd (contains_none (subst (λ l. Contains l x) (ap sent_by e ∙ none) c))
 
-  sent_is : (s new : EngineState) {xs ys : List Sent} → xs ≡ ys → Sent_by s new ys → Sent_by s new xs
+  sent_is : (s new : EngineState) {xs ys : _} → xs ≡ ys → Sent_by s new ys → Sent_by s new xs
   sent_is s new e f = subst (λ l. Sent_by s new l) (sym e) f
 
   greeting_sent : (s new : EngineState) (xs : List Sent) → AllOf greets xs → Sent_by s new xs
   greeting_sent s new xs all x c = alike greets (inl refl) (all x c)
 
-  goes_on_sent : {s new : EngineState} {key : PeerKey} {i : ℕ} {p : PeerState} {calls : DeviceCalls} {out : Output} → IsPeer s key i p → GoesOn dig s i p calls out new → Sent_by s new out.send
+  goes_on_sent : {s new key i p calls out : _} → IsPeer s key i p → GoesOn dig s i p calls out new → Sent_by s new out.send
   goes_on_sent {s} {key} {i} {p} {calls} {out} peer g x c =
       let rest = record p { stream = g.takes.rest } in
       let left = event_leaves dig (with_peer s i rest) i (set_same s.peers i peer.here) g.takes.event calls g.takes.handles in
@@ -243,7 +243,7 @@ module _ (dig : List ℕ → List ℕ) where
         | inr three ↦ followed key i p calls out peer g three
       ]
 
-  next_sent : {s new : EngineState} {key : PeerKey} {calls : DeviceCalls} {r : _} → StepNext dig s key calls r new → Sent_by s new (sent_by (of_next r))
+  next_sent : {s new key calls r : _} → StepNext dig s key calls r new → Sent_by s new (sent_by (of_next r))
   next_sent {s} {new} (no_peer x y e z) = nothing_sent s new (ap (λ x. of_next x) e) refl
   next_sent {s} {new} (waits i p x y z e f) = nothing_sent s new (ap (λ x. of_next x) e) refl
   next_sent {s} {new} (goes_on i p out peer g e) = sent_is s new (ap (λ x. sent_by (of_next x)) e) (goes_on_sent peer g)
@@ -251,7 +251,7 @@ module _ (dig : List ℕ → List ℕ) where
   next_sent {s} {new} (faulty i p out x g e) = nothing_sent s new (ap (λ x. of_next x) (e ∙ ap (λ o. Ok (Some o)) g.is)) refl
   next_sent {s} {new} (no_memory i p x g e) = nothing_sent s new (ap (λ x. of_next x) e) refl
 
-  connect_sent : {s new : EngineState} {r : _} → StepConnect s r new → Sent_by s new (sent_by (of_connect r))
+  connect_sent : {s new r : _} → StepConnect s r new → Sent_by s new (sent_by (of_connect r))
   connect_sent {s} {new} (joins key bytes x y z w e f) =
       sent_is s new (ap (λ x. sent_by (of_connect x)) e)
       (greeting_sent s new (greeting s key bytes).send (all_one (record { peer = key; frame = hello_frame (our_handshake s) }) (sent_to (new_peer s key) (Bitfield bytes) ∷ []) refl (all_one (sent_to (new_peer s key) (Bitfield bytes)) [] refl (all_none greets))))
@@ -265,7 +265,7 @@ module _ (dig : List ℕ → List ℕ) where
   choking_part p false true = all_none chokes
   choking_part p false false = all_one _ [] refl (all_none chokes)
 
-  rechokes_sent : {s new : EngineState} {out : Output} → Rechokes dig s out new → Sent_by s new out.send
+  rechokes_sent : {s new out : _} → Rechokes dig s out new → Sent_by s new out.send
   rechokes_sent {s} r x c =
       elim (Contains-append_cases (chokes_sent s) r.sent x (subst (λ (o : Output). Contains o.send x) r.is c)) [
         | inl front ↦
@@ -274,7 +274,7 @@ module _ (dig : List ℕ → List ℕ) where
         | inr more ↦ rechoked_then r.sent r.follows more
       ]
 
-  rechoke_sent : {s new : EngineState} {r : _} → StepRechoke dig s r new → Sent_by s new (sent_by (of_rechoke r))
+  rechoke_sent : {s new r : _} → StepRechoke dig s r new → Sent_by s new (sent_by (of_rechoke r))
   rechoke_sent {s} {new} (rechokes out x e) = sent_is s new (ap (λ x. sent_by (of_rechoke x)) e) (rechokes_sent x)
   rechoke_sent {s} {new} (not_rechoked e x) = nothing_sent s new (ap (λ x. of_rechoke x) e) refl
 

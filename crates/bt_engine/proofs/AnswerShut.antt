@@ -55,19 +55,19 @@ use Rattle.bt_engine.proofs.AnswerDue.{Taken, no_room, goes, shuts, step_taken}
 -- ---- claims that are refused are not accepted
 
 -- what is known of a node is what an acceptable claim says of it
-value_claimed : {dig : List ℕ → List ℕ} {k : Facts} {c : Claim} → IsAcceptable dig k c → {layer i : ℕ} {x y : List ℕ} → value_at dig k layer i ≡ Some x → Claims dig c layer i y → x ≡ y
+value_claimed : {dig k c : _} → IsAcceptable dig k c → {layer i x y : _} → value_at dig k layer i ≡ Some x → Claims dig c layer i y → x ≡ y
 value_claimed {dig} {k} a {layer} {i} {x} {y} e claim = elim (cases_node (blocks_of k) layer i (value_inside dig k layer i x e)) [
   | inl covers ↦ a.agrees layer i y x claim (sym (value_covers dig k layer i covers) ∙ e)
   | inr past ↦ same_some e (value_padding dig k layer i past) ∙ sym (a.padding layer i y claim past)
 ]
 
-no_difference : {dig : List ℕ → List ℕ} {k : Facts} {c : Claim} {layer i : ℕ} {o t : List ℕ} → IsAcceptable dig k c → DiffersBelow dig k c layer i o t → ⊥
+no_difference : {dig k c layer i o t : _} → IsAcceptable dig k c → DiffersBelow dig k c layer i o t → ⊥
 no_difference a d = elim d.differ [
   | inl low ↦ low (value_claimed a d.knows_left d.claims_left)
   | inr high ↦ high (value_claimed a d.knows_right d.claims_right)
 ]
 
-not_refused : {dig : List ℕ → List ℕ} {k : Facts} {c : Claim} {fault : ProofError} → IsAcceptable dig k c → IsRefused dig k c fault → fault ≢ OutOfMemory → ⊥
+not_refused : {dig k c fault : _} → IsAcceptable dig k c → IsRefused dig k c fault → fault ≢ OutOfMemory → ⊥
 not_refused a (shape x) not = x a.shape
 not_refused a (padding x y) not = y a.padding
 not_refused a (no_anchor x y z) not = let wrong = sym z ∙ a.top in absurd cc
@@ -76,7 +76,7 @@ not_refused a (clash layer i o t x y z w) not = no_difference a w.differs
 not_refused a (refused_memory x) not = not refl
 
 -- a claim and none
-not_no_claim : {key : HashKey} {digests : List ℕ} {claim : Claim} {fault : ProofError} → IsClaimBy key digests claim → IsNoClaim key digests fault → fault ≢ OutOfMemory → ⊥
+not_no_claim : {key digests claim fault : _} → IsClaimBy key digests claim → IsNoClaim key digests fault → fault ≢ OutOfMemory → ⊥
 not_no_claim c (no_shape x) not = x c.shape
 not_no_claim c (no_count x y) not = y c.size
 not_no_claim c (claim_memory x y) not = not refl
@@ -90,11 +90,11 @@ get_index (y ∷ xs) zero d e = same_some refl e
 get_index (y ∷ xs) (suc i) d e = get_index xs i d e
 
 module _ (s : EngineState) (apart : AllPairs (λ (j k : Facts). j.root ≢ k.root) s.trees) (root : List ℕ) where
-  not_both : {i j : ℕ} {k l : Facts} → IsTreeOf s root i k → IsTreeOf s root j l → i < j → ⊥
+  not_both : {i j k l : _} → IsTreeOf s root i k → IsTreeOf s root j l → i < j → ⊥
   not_both {i} {j} {k} x y lt = apart i j k lt (some_below s.trees j y.here)
       (ap (λ (f : Facts). f.root) (get_index s.trees i k x.here) ∙ x.same_root ∙ sym y.same_root ∙ ap (λ (f : Facts). f.root) (sym (get_index s.trees j k y.here)))
 
-  one_tree : {i j : ℕ} {k l : Facts} → IsTreeOf s root i k → IsTreeOf s root j l → k ≡ l
+  one_tree : {i j k l : _} → IsTreeOf s root i k → IsTreeOf s root j l → k ≡ l
   one_tree {i} {j} x y = elim (cases_lt i j) [
     | inl before ↦ absurd (not_both x y before)
     | inr from ↦ elim (cases_lt j i) [
@@ -105,7 +105,7 @@ module _ (s : EngineState) (apart : AllPairs (λ (j k : Facts). j.root ≢ k.roo
 
 -- ---- one peer for each key
 
-not_both_peers : {s : EngineState} → IsOrderly s → {key : PeerKey} {i j : ℕ} {p q : PeerState} → IsPeer s key i p → IsPeer s key j q → i < j → ⊥
+not_both_peers : {s : _} → IsOrderly s → {key i j p q : _} → IsPeer s key i p → IsPeer s key j q → i < j → ⊥
 not_both_peers {s} o {key} {i} {j} {p} x y lt =
     let before = o.in_order i j p lt (some_below s.peers j y.here) in
     let first : (slice_index_or s.peers i p).key.0 ≡ key.0 = ap (λ (r : PeerState). r.key.0) (get_index s.peers i p x.here) ∙ ap (λ (k : PeerKey). k.0) x.same_key in
@@ -124,7 +124,7 @@ orderly_only s key i p o x = record {
 -- ---- a peer that is closed is gone
 
 -- no other peer has its key, and none comes
-gone : {s : EngineState} (mid : EngineState) {new : EngineState} {key : PeerKey} {i : ℕ} {p : PeerState} → IsOnlyPeer s key i p
+gone : {s : _} (mid : EngineState) {new key i p : _} → IsOnlyPeer s key i p
     → ((n : ℕ) → n ≢ i → slice_get mid.peers n ≡ slice_get s.peers n) → new ≡ without_peer i mid
     → IsConnected new key → ⊥
 gone mid {i} one others after (j, q, is) =
@@ -136,7 +136,7 @@ gone mid {i} one others after (j, q, is) =
 abbrev Shuts : Effect → Why → Type 0
 Shuts effect why = effect.close ≡ Some why
 
-by_effect : {effect : Effect} (why : Why) → effect ≡ closing why → Shuts effect why
+by_effect : {effect : _} (why : Why) → effect ≡ closing why → Shuts effect why
 by_effect why e = ap (λ (x : Effect). x.close) e
 
 -- hashes for which a peer is to be closed are accepted by no tree, and no other reason fits them
@@ -156,7 +156,7 @@ module _ (dig : List ℕ → List ℕ) (s : EngineState) (key : HashKey) (digest
     never = λ tree k claim is c a. unknown tree k is;
   }
 
-  no_claim_alone : {fault : ProofError} → ¬ IsUnknownRoot s key.root → IsNoClaim key digests fault → fault ≢ OutOfMemory
+  no_claim_alone : {fault : _} → ¬ IsUnknownRoot s key.root → IsNoClaim key digests fault → fault ≢ OutOfMemory
       → AreFor dig s key digests (Proof fault)
   no_claim_alone known none not = record {
     of_unknown = λ u. absurd (known u);
@@ -165,7 +165,7 @@ module _ (dig : List ℕ → List ℕ) (s : EngineState) (key : HashKey) (digest
     never = λ tree k claim is c a. not_no_claim c none not;
   }
 
-  refused_alone : AllPairs (λ (j k : Facts). j.root ≢ k.root) s.trees → {fault : ProofError} {tree : ℕ} {k : Facts} {claim : Claim} → IsTreeOf s key.root tree k
+  refused_alone : AllPairs (λ (j k : Facts). j.root ≢ k.root) s.trees → {fault tree k claim : _} → IsTreeOf s key.root tree k
       → IsClaimBy key digests claim → IsRefused dig k claim fault
       → fault ≢ OutOfMemory → AreFor dig s key digests (Proof fault)
   refused_alone apart {tree} {k} {claim} is c refusal not = record {
@@ -177,7 +177,7 @@ module _ (dig : List ℕ → List ℕ) (s : EngineState) (key : HashKey) (digest
         (subst (λ x. IsAcceptable dig x claim) (same there) (subst (λ x. IsAcceptable dig l x) (e.claim_is ∙ sym c.claim_is) a)) refusal not;
   }
     where
-      same : {t : ℕ} {l : Facts} → IsTreeOf s key.root t l → l ≡ k
+      same : {t l : _} → IsTreeOf s key.root t l → l ≡ k
       same there = one_tree s apart key.root there is
 
 module _ (dig : List ℕ → List ℕ) (s : EngineState) (i : ℕ) (p : PeerState) (rest : Stream) (calls : DeviceCalls) where
@@ -197,7 +197,7 @@ module _ (dig : List ℕ → List ℕ) (s : EngineState) (i : ℕ) (p : PeerStat
   put_shuts k b bytes states effect (Err DeviceFault) w due e = absurd (w.2 (due.2 w.0 w.1))
   put_shuts k b bytes states effect (Err Range) w due e = absurd e
 
-  piece_shuts : {piece begin : ℕ} {bytes : List ℕ} {b : BlockId} {tree : Facts} {effect : Effect} {mid : EngineState} → IsLawful s.torrent.piece_length s.torrent.files → IsWholeBlock s.torrent piece begin (length bytes) b
+  piece_shuts : {piece begin bytes b tree effect mid : _} → IsLawful s.torrent.piece_length s.torrent.files → IsWholeBlock s.torrent piece begin (length bytes) b
       → Contains p.asked b → tree_of s b.file ≡ Some tree → IsWrong dig (value_at dig tree 0 b.block) bytes
       → HandlesPiece dig t i q piece begin bytes calls effect mid → Shuts effect WrongBlock
   piece_shuts {b} lawful whole asked hung w (stale none x y z) = absurd (none b whole asked)
@@ -209,10 +209,10 @@ module _ (dig : List ℕ → List ℕ) (s : EngineState) (i : ℕ) (p : PeerStat
       (subst (λ (c : BlockId). IsWrong dig (value_at dig r.puts.tree 0 c.block) bytes) (sym same) (subst (λ k. IsWrong dig (value_at dig k 0 b.block) bytes) one w)) r.puts.due r.puts.has_effect
 
   -- the same trees are there when the event is handled
-  here_before : {root : List ℕ} {tree : ℕ} {k : Facts} → IsTreeOf t root tree k → IsTreeOf s root tree k
+  here_before : {root tree k : _} → IsTreeOf t root tree k → IsTreeOf s root tree k
   here_before x = record { here = x.here; same_root = x.same_root }
 
-  here_then : {root : List ℕ} {tree : ℕ} {k : Facts} → IsTreeOf s root tree k → IsTreeOf t root tree k
+  here_then : {root tree k : _} → IsTreeOf s root tree k → IsTreeOf t root tree k
   here_then x = record { here = x.here; same_root = x.same_root }
 
   unknown_before : (root : List ℕ) → IsUnknownRoot t root → IsUnknownRoot s root
@@ -221,7 +221,7 @@ module _ (dig : List ℕ → List ℕ) (s : EngineState) (i : ℕ) (p : PeerStat
   known_before : (root : List ℕ) → ¬ IsUnknownRoot t root → ¬ IsUnknownRoot s root
   known_before root known u = known (λ tree k is. u tree k (here_before is))
 
-  hashes_shut : {key : HashKey} {digests : List ℕ} {why : Why} {effect : Effect} {mid : EngineState} → AreFor dig s key digests why
+  hashes_shut : {key digests why effect mid : _} → AreFor dig s key digests why
       → HandlesHashes dig t i q key digests calls effect mid → Shuts effect why
   hashes_shut {key} {why} a (unknown_root x y e z) = by_effect why (e ∙ ap closing (a.of_unknown (unknown_before key.root x)))
   hashes_shut {key} {why} a (no_claim f x y c) =
@@ -236,7 +236,7 @@ module _ (dig : List ℕ → List ℕ) {s : EngineState} (new : EngineState) {ke
   IsShut why = IsOutOfMemory a ⊎ (Closes a why × (¬ IsConnected new key))
 
   -- where each way to handle the event closes, the answer does
-  shut_by : (why : Why) {e : WireEvent} {rest : Stream} → Takes p.stream e rest
+  shut_by : (why : Why) {e rest : _} → Takes p.stream e rest
       → ((effect : Effect) (mid : EngineState)
       → Handles dig (with_peer s i (record p { stream = rest })) i (record p { stream = rest }) e calls effect mid → Shuts effect why) → IsShut why
   shut_by why {e} {rest} takes shut = by (step_taken dig new calls one takes step)
@@ -260,19 +260,19 @@ module _ (dig : List ℕ → List ℕ) {s : EngineState} (new : EngineState) {ke
           let cause : Some g.why ≡ Some why = sym g.closed ∙ shut g.effect g.mid h in
           inr ((out, ap output_of is, ap (λ (o : Output). o.close) g.is ∙ cause), gone g.mid one (others g.effect g.mid h) g.after)
 
-  shut_for : {why : Why} → IsLawful s.torrent.piece_length s.torrent.files → AllPairs (λ (j k : Facts). j.root ≢ k.root) s.trees → IsCause dig s p why
+  shut_for : {why : _} → IsLawful s.torrent.piece_length s.torrent.files → AllPairs (λ (j k : Facts). j.root ≢ k.root) s.trees → IsCause dig s p why
       → IsShut why
   shut_for lawful apart (wire fault failed f) = by_fault step.1 step.2
     where
-      at : {j : ℕ} {q : PeerState} → IsPeer s key j q → q ≡ p
+      at : {j q : _} → IsPeer s key j q → q ≡ p
       at {j} {q} is = same_some (ap (slice_get s.peers) (sym (one.only j q is)) ∙ is.here) one.is_peer.here
 
-      no_event : {X : Type 0} {e : WireEvent} {rest : Stream} {q : PeerState} → q ≡ p → Takes q.stream e rest → X
+      no_event : {X : Type 0} {e rest q : _} → q ≡ p → Takes q.stream e rest → X
       no_event {e} {rest} same takes =
           let took = subst (λ (x : PeerState). Takes x.stream e rest) same takes in
           absurd (fault_alone p.stream.greeted p.stream.unread fault f.shown e took.bytes rest.unread took.event took.front)
 
-      one_wire : {error : WireError} {then : Stream} {q : PeerState} → q ≡ p → Fails q.stream error then → Wire error ≡ Wire fault
+      one_wire : {error then q : _} → q ≡ p → Fails q.stream error then → Wire error ≡ Wire fault
       one_wire {error} {then} same x =
           let shown = subst (λ (n : PeerState). Fails n.stream error then) same x in
           ap (λ n. Wire n) (one_fault p.stream.greeted p.stream.unread error fault shown.shown f.shown)
@@ -298,14 +298,14 @@ module _ (dig : List ℕ → List ℕ) {s : EngineState} (new : EngineState) {ke
           by (other differs_too e) = by_effect _ e
   shut_for lawful apart (past_last_piece piece rest takes past) = shut_by BadPiece takes (λ effect mid x. have x.1)
     where
-      have : {effect : Effect} {mid : EngineState} → HandlesHave (with_peer s i (record p { stream = rest })) i (record p { stream = rest }) piece effect mid
+      have : {effect mid : _} → HandlesHave (with_peer s i (record p { stream = rest })) i (record p { stream = rest }) piece effect mid
           → Shuts effect BadPiece
       have (in_range below e y) = absurd (omega (arith, below, past))
       have (out_of_range x e y) = by_effect _ e
   shut_for lawful apart (other_length bytes rest takes differs) =
       shut_by BadBitfield takes (λ effect mid x. bits x.1)
     where
-      bits : {effect : Effect} {mid : EngineState}
+      bits : {effect mid : _}
           → HandlesBitfield (with_peer s i (record p { stream = rest })) i (record p { stream = rest }) bytes effect mid → Shuts effect BadBitfield
       bits (right same e y) = absurd (differs same)
       bits (wrong x e y) = by_effect _ e

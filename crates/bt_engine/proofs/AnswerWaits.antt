@@ -52,7 +52,7 @@ use Rattle.bt_engine.proofs.AnswerPieces.{filter_contains}
 -- ---- states
 
 -- a block's state after a file was replaced: it stands in the new file, or it was so
-file_state : (s : EngineState) {file : ℕ} (new : FileState) (b : BlockId) {x : BlockState} → state_at (with_file s file new) b ≡ Some x → ((b.file ≡ file) × (slice_get new.states b.block ≡ Some x)) ⊎ (state_at s b ≡ Some x)
+file_state : (s : EngineState) {file : ℕ} (new : FileState) (b : BlockId) {x : _} → state_at (with_file s file new) b ≡ Some x → ((b.file ≡ file) × (slice_get new.states b.block ≡ Some x)) ⊎ (state_at s b ≡ Some x)
 file_state s {file} new b {x} e =
     let m = and_then_some (λ (q : FileState). slice_get q.states b.block) (slice_get (slice_set s.files file new) b.file) e in
     elim (set_cases s.files file b.file m.1) [
@@ -61,7 +61,7 @@ file_state s {file} new b {x} e =
     ]
 
 -- its tree is the same where the file keeps its tree
-same_tree : (s : EngineState) (file : ℕ) {f : FileState} (states : List BlockState) (n : ℕ) → slice_get s.files file ≡ Some f → tree_of (with_file s file (record f { states = states })) n ≡ tree_of s n
+same_tree : (s : EngineState) (file : ℕ) {f : _} (states : List BlockState) (n : ℕ) → slice_get s.files file ≡ Some f → tree_of (with_file s file (record f { states = states })) n ≡ tree_of s n
 same_tree s file {f} states n at = elim (nat_cases file n) [
   | inl e ↦
       ap (λ m. option_and_then (λ (q : FileState). slice_get s.trees q.tree) (slice_get (slice_set s.files file (record f { states = states })) m)) (sym e)
@@ -86,7 +86,7 @@ set_value (z ∷ xs) zero e = same_some e refl
 set_value (z ∷ xs) (suc i) e = set_value xs i e
 
 -- one read more
-more_unread : {b i : ℕ} (v : BlockState) {reads : List BlockRead} {states : List BlockState} → (Waiting ≡ v → ⊥) → WaitedUnread reads (slice_set states b v) i → WaitedUnread (given b [] ∷ reads) states i
+more_unread : {b i : ℕ} (v : BlockState) {reads states : _} → (Waiting ≡ v → ⊥) → WaitedUnread reads (slice_set states b v) i → WaitedUnread (given b [] ∷ reads) states i
 more_unread {b} {i} v {reads} {states} never rest = elim (nat_cases b i) [
   | inl same ↦ absurd (never (set_value states b (subst (λ n. slice_get (slice_set states b v) n ≡ Some Waiting) (sym same) rest.waited)))
   | inr apart ↦ record {
@@ -95,7 +95,7 @@ more_unread {b} {i} v {reads} {states} never rest = elim (nat_cases b i) [
   }
 ]
 
-judged_waits : (dig : List ℕ → List ℕ) (k : Facts) (reads : List BlockRead) {states : List BlockState} {i : ℕ} → slice_get (judged dig k false reads states) i ≡ Some Waiting → WaitedUnread reads states i
+judged_waits : (dig : List ℕ → List ℕ) (k : Facts) (reads : List BlockRead) {states i : _} → slice_get (judged dig k false reads states) i ≡ Some Waiting → WaitedUnread reads states i
 judged_waits dig k [] e = record { waited = e; unread = λ c. contains_none c }
 judged_waits dig k (given b bytes ∷ reads) e =
     let r = more_unread (if is_right dig k b bytes then Marked else Missing) (verdict_waits (is_right dig k b bytes)) (judged_waits dig k reads e) in
@@ -115,7 +115,7 @@ record IsInRunOf (c : Claim) (i : ℕ) : Type 0 where
   from : c.index ≤ i
   to : i < c.index + length c.run
 
-leaf_in_run : {dig : List ℕ → List ℕ} {h : ℕ} {c : Claim} {i : ℕ} {d : List ℕ} → HasShape h c → Claims dig c 0 i d → IsInRunOf c i
+leaf_in_run : {dig h c i d : _} → HasShape h c → Claims dig c 0 i d → IsInRunOf c i
 leaf_in_run {c} {i} s (in_run r) =
     let above : r.above ≡ 0 = omega (arith, r.here) in
     let same : i / 2 ^ run_height c ≡ c.index / 2 ^ run_height c = ap (λ n. i / 2 ^ n) (omega (arith, above)) ∙ r.under in
@@ -141,11 +141,11 @@ Unknown dig t mid b = (state_at t b ≡ Some Waiting → leaf_at dig t b ≡ Non
 
 module _ (dig : List ℕ → List ℕ) (t mid : EngineState) (i : ℕ) (p : PeerState) (b : BlockId) (effect : Effect) where
   -- an engine in which the block's state and tree are the same
-  as_before : {m : EngineState} → mid ≡ m → (state_at m b ≡ Some Waiting → state_at t b ≡ Some Waiting) → tree_of m b.file ≡ tree_of t b.file → Unknown dig t mid b
+  as_before : {m : _} → mid ≡ m → (state_at m b ≡ Some Waiting → state_at t b ≡ Some Waiting) → tree_of m b.file ≡ tree_of t b.file → Unknown dig t mid b
   as_before e states trees before now =
       subst (λ x. leaf_at dig x b ≡ None) (sym e) (ap (option_and_then (λ (k : Facts). value_at dig k 0 b.block)) trees ∙ before (states (subst (λ x. state_at x b ≡ Some Waiting) e now)))
 
-  fault_waits : {k : Facts} {file j : ℕ} {f : FileState} {read : BlockRead} → slice_get t.files file ≡ Some f → FindsFault dig k t file j f read effect mid → Unknown dig t mid b
+  fault_waits : {k file j f read : _} → slice_get t.files file ≡ Some f → FindsFault dig k t file j f read effect mid → Unknown dig t mid b
   fault_waits {file} {j} {f} at (found_damaged bytes x y z e) = as_before e (λ now. elim (file_state t (record f { states = slice_set f.states j Missing }) b now) [
     | inl one ↦ elim (set_cases f.states j b.block one.1) [
       | inl here_now ↦ (let no : Waiting ≡ Missing = here_now.1 in absurd cc)
@@ -155,7 +155,7 @@ module _ (dig : List ℕ → List ℕ) (t mid : EngineState) (i : ℕ) (p : Peer
   ]) (same_tree t file (slice_set f.states j Missing) b.file at)
   fault_waits at (fault x e y) = as_before y (λ now. now) refl
 
-  request_waits : {ask : Ask} {calls : DeviceCalls} → HandlesRequest dig t i p ask calls effect mid → Unknown dig t mid b
+  request_waits : {ask calls : _} → HandlesRequest dig t i p ask calls effect mid → Unknown dig t mid b
   request_waits (ignored x c d e) = as_before e (λ now. now) refl
   request_waits (no_place x c d f e) = as_before e (λ now. now) refl
   request_waits (not_marked span x c d f g e) = as_before e (λ now. now) refl
@@ -171,7 +171,7 @@ module _ (dig : List ℕ → List ℕ) (t mid : EngineState) (i : ℕ) (p : Peer
   put_waits k c bytes states (Ok Already) due now = inr now
   put_waits k c bytes states (Err x) due now = inr now
 
-  piece_waits : {piece begin : ℕ} {bytes : List ℕ} {calls : DeviceCalls} → HandlesPiece dig t i p piece begin bytes calls effect mid → Unknown dig t mid b
+  piece_waits : {piece begin bytes calls : _} → HandlesPiece dig t i p piece begin bytes calls effect mid → Unknown dig t mid b
   piece_waits (stale x y z e) before now = as_before e (λ still. still) refl before now
   piece_waits {bytes} (arrives r) before now =
       let f : FileState = r.puts.file in
@@ -196,7 +196,7 @@ module _ (dig : List ℕ → List ℕ) (t mid : EngineState) (i : ℕ) (p : Peer
   have_waits (in_range x y e) = as_before e (λ now. now) refl
   have_waits (out_of_range x y e) = as_before e (λ now. now) refl
 
-  bits_waits : {bytes : List ℕ} → HandlesBitfield t i p bytes effect mid → Unknown dig t mid b
+  bits_waits : {bytes : _} → HandlesBitfield t i p bytes effect mid → Unknown dig t mid b
   bits_waits (right x y e) = as_before e (λ now. now) refl
   bits_waits (wrong x y e) = as_before e (λ now. now) refl
 
@@ -223,7 +223,7 @@ module _ {dig : List ℕ → List ℕ} {t mid : EngineState} {i : ℕ} {p : Peer
       ap (λ (c : Claim). length c.run) l.claims.claim_is ∙ length-take-le key.length (digests_in digests) (omega (arith, count, l.claims.size))
 
   -- a leaf that the proof told is one of the run
-  told_in_run : {d : List ℕ} → value_at dig l.old 0 b.block ≡ None → value_at dig l.new 0 b.block ≡ Some d → IsInRunOf l.claim b.block
+  told_in_run : {d : _} → value_at dig l.old 0 b.block ≡ None → value_at dig l.new 0 b.block ≡ Some d → IsInRunOf l.claim b.block
   told_in_run {d} unknown known = elim (cases_node (blocks_of l.new) 0 b.block (value_inside dig l.new 0 b.block d known)) [
     | inl covers ↦ elim (l.accepts.joins.only 0 b.block d (sym (value_covers dig l.new 0 b.block covers) ∙ known)) [
       | inl held ↦ (let no : None ≡ Some d = sym unknown ∙ value_covers dig l.old 0 b.block (subst (λ n. CoversBlock (block_count n) 0 b.block) l.accepts.joins.file_length covers) ∙ held in absurd cc)
@@ -235,7 +235,7 @@ module _ {dig : List ℕ → List ℕ} {t mid : EngineState} {i : ℕ} {p : Peer
   ]
 
   -- such a block is looked at, if it waits in a file of the tree
-  is_due : (f : FileState) {d : List ℕ} → f.tree ≡ l.tree → slice_get f.states b.block ≡ Some Waiting → value_at dig l.settles.facts 0 b.block ≡ Some d → IsInRunOf l.claim b.block
+  is_due : (f : FileState) {d : _} → f.tree ≡ l.tree → slice_get f.states b.block ≡ Some Waiting → value_at dig l.settles.facts 0 b.block ≡ Some d → IsInRunOf l.claim b.block
       → Contains (due_blocks dig l.settles.facts l.tree key.index (settled_count key) f) b.block
   is_due f tree waiting known run =
       let base : key.base ≡ 0 = ap (λ (c : Claim). c.base) (sym l.claims.claim_is) ∙ run.base in
@@ -246,7 +246,7 @@ module _ {dig : List ℕ → List ℕ} {t mid : EngineState} {i : ℕ} {p : Peer
       rw (eq-eqb f.tree l.tree tree) (filter_contains (λ j. is_waiting_at f.states j && is_some (value_at dig l.settles.facts 0 j)) (range_with_len key.index (settled_count key)) in_range test)
 
   -- the leaf of a block that waits still
-  leaf_still : {f : FileState} → slice_get t.files b.file ≡ Some f → (state_at t b ≡ Some Waiting → leaf_at dig t b ≡ None) → slice_get f.states b.block ≡ Some Waiting → (Contains (map block_of (l.settles.reads b.file)) b.block → ⊥)
+  leaf_still : {f : _} → slice_get t.files b.file ≡ Some f → (state_at t b ≡ Some Waiting → leaf_at dig t b ≡ None) → slice_get f.states b.block ≡ Some Waiting → (Contains (map block_of (l.settles.reads b.file)) b.block → ⊥)
       → option_and_then (λ (k : Facts). value_at dig k 0 b.block) (slice_get (slice_set t.trees l.tree l.new) f.tree) ≡ None
   leaf_still {f} at before waiting unread = elim (nat_cases l.tree f.tree) [
     | inl same ↦
@@ -286,10 +286,10 @@ module _ {dig : List ℕ → List ℕ} {t mid : EngineState} {i : ℕ} {p : Peer
 -- ---- every message
 
 module _ (dig : List ℕ → List ℕ) (t mid : EngineState) (i : ℕ) (p : PeerState) (b : BlockId) (effect : Effect) where
-  unchanged : {m : EngineState} → mid ≡ m → (state_at m b ≡ Some Waiting → state_at t b ≡ Some Waiting) → tree_of m b.file ≡ tree_of t b.file → Unknown dig t mid b
+  unchanged : {m : _} → mid ≡ m → (state_at m b ≡ Some Waiting → state_at t b ≡ Some Waiting) → tree_of m b.file ≡ tree_of t b.file → Unknown dig t mid b
   unchanged e states trees = as_before dig t mid i p b effect e states trees
 
-  hashes_waits : {key : HashKey} {digests : List ℕ} {calls : DeviceCalls} → HandlesHashes dig t i p key digests calls effect mid → Unknown dig t mid b
+  hashes_waits : {key digests calls : _} → HandlesHashes dig t i p key digests calls effect mid → Unknown dig t mid b
   hashes_waits (unknown_root x y z e) = unchanged e (λ now. now) refl
   hashes_waits (no_claim f x y c) = unchanged c.after (λ now. now) refl
   hashes_waits (refused f n k c x y z g) = unchanged g.after (λ now. now) refl
@@ -316,7 +316,7 @@ module _ (dig : List ℕ → List ℕ) (t mid : EngineState) (i : ℕ) (p : Peer
   event_waits (Skipped kind) calls x = unchanged x.2 (λ now. now) refl
 
 module _ (dig : List ℕ → List ℕ) (s new : EngineState) (key : PeerKey) (calls : DeviceCalls) (b : BlockId) where
-  like_old : {m : EngineState} → new ≡ m → m.files ≡ s.files → m.trees ≡ s.trees → Unknown dig s new b
+  like_old : {m : _} → new ≡ m → m.files ≡ s.files → m.trees ≡ s.trees → Unknown dig s new b
   like_old {m} e files trees before now =
       let still : state_at m b ≡ Some Waiting = subst (λ x. state_at x b ≡ Some Waiting) e now in
       subst (λ x. leaf_at dig x b ≡ None) (sym e)

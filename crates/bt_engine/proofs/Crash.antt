@@ -38,13 +38,13 @@ beside n m i b j bytes apart lt size = elim (cases_lt i b) [
   | inr le ↦ elim (cases_lt b i) [ inl above ↦ inr (omega (arith, above, size)) | inr ge ↦ absurd (apart (omega (arith, le, ge))) ]
 ]
 
-write_spares : (n m i b j : ℕ) {bytes : List ℕ} {c : Call} → i ≢ b → j < block_length n i → length bytes ≡ block_length m b → (c ≡ bytes_written (16384 * b) bytes) ⊎ (c ≡ write_fault (16384 * b) bytes) → Spares (16384 * i + j) c
+write_spares : (n m i b j : ℕ) {bytes c : _} → i ≢ b → j < block_length n i → length bytes ≡ block_length m b → (c ≡ bytes_written (16384 * b) bytes) ⊎ (c ≡ write_fault (16384 * b) bytes) → Spares (16384 * i + j) c
 write_spares n m i b j {bytes} apart lt size (inl e) = subst (λ d. Spares (16384 * i + j) d) (sym e) (beside n m i b j bytes apart lt size)
 write_spares n m i b j {bytes} apart lt size (inr e) = subst (λ d. Spares (16384 * i + j) d) (sym e) (beside n m i b j bytes apart lt size)
 
 -- no call of a step reaches a block of the file that is not missing
-step_spares : {s : EngineState} {calls : DeviceCalls} {file : ℕ} (i j : ℕ) {f : FileState} {k : Facts} → Touches s.files s.trees calls → IsFile s file f k → slice_get f.states i ≢ Some Missing → j < block_length k.file_length i
-    → {c : Call} → Contains calls (file, c) → Spares (16384 * i + j) c
+step_spares : {s : EngineState} {calls file : _} (i j : ℕ) {f k : _} → Touches s.files s.trees calls → IsFile s file f k → slice_get f.states i ≢ Some Missing → j < block_length k.file_length i
+    → {c : _} → Contains calls (file, c) → Spares (16384 * i + j) c
 step_spares {file} i j (keeping keep) is present lt {c} among = keeps_spare (16384 * i + j) c (keep (file, c) among)
 step_spares {s} {file} i j {f} {k} (putting b bytes g l call here hung missing whole only writes) is present lt {c} among =
     elim (contains_cases [] (subst (λ cs. Contains cs (file, c)) only among)) [

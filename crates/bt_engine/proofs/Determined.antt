@@ -28,7 +28,7 @@ nil_of [] e = refl
 nil_of (x ∷ xs) e = absurd (omega (arith, e))
 
 -- a file with a block has as many states as its tree has blocks
-sized : {torrent : Metainfo} {s : EngineState} → IsShaped torrent s → {file : ℕ} (f : FileState) (k : Facts) → IsFile s file f k → f.states ≢ [] → blocks_of k ≡ length f.states
+sized : {torrent s : _} → IsShaped torrent s → {file : ℕ} (f : FileState) (k : Facts) → IsFile s file f k → f.states ≢ [] → blocks_of k ≡ length f.states
 sized {torrent} {s} shaped {file} f k is some =
     let entry = get_some torrent.files file (omega (arith, some_below s.files file is.here, shaped.count)) in
     let shape = shaped.each file entry.0 f entry.1 is.here in
@@ -39,7 +39,7 @@ sized {torrent} {s} shaped {file} f k is some =
       | inr short ↦ absurd (some (nil_of f.states (omega (arith, short, shape.blocks))))
     ]
 
-laid : {torrent : Metainfo} {s : EngineState} → IsShaped torrent s → IsLaidOut torrent.piece_length torrent.files → IsLaidOut s.torrent.piece_length s.torrent.files
+laid : {torrent s : _} → IsShaped torrent s → IsLaidOut torrent.piece_length torrent.files → IsLaidOut s.torrent.piece_length s.torrent.files
 laid shaped lay = subst (λ t. IsLaidOut t.piece_length t.files) (sym shaped.same) lay
 
 -- what holds between the answers of two runs, one by one
@@ -49,13 +49,13 @@ EachPair P _ _ = ⊤
 
 module _ (dig : List ℕ → List ℕ) where
   -- what two results come to, in their answers
-  answers : {a b c d : Answer} {m n : EngineState} → a ≡ c → b ≡ d → AreOne c m d n → AreOne a m b n
+  answers : {a b c d m n : _} → a ≡ c → b ≡ d → AreOne c m d n → AreOne a m b n
   answers {b} {c} {m} {n} e f same = subst (λ z. AreOne z m b n) (sym e) (subst (λ z. AreOne c m z n) (sym f) same)
 
-  remembers : {a b : Answer} → a ≡ b → IsOutOfMemory b → ¬ IsOutOfMemory a → ⊥
+  remembers : {a b : _} → a ≡ b → IsOutOfMemory b → ¬ IsOutOfMemory a → ⊥
   remembers e out memory = memory (subst (λ x. IsOutOfMemory x) (sym e) out)
 
-  pub step_one : {torrent : Metainfo} {s new other : EngineState} (event : Event) (calls : DeviceCalls) {answer another : Answer} → IsLaidOut torrent.piece_length torrent.files → IsShaped torrent s → IsOrderly s
+  pub step_one : {torrent : Metainfo} {s new other : _} (event : Event) (calls : DeviceCalls) {answer another : _} → IsLaidOut torrent.piece_length torrent.files → IsShaped torrent s → IsOrderly s
       → Step dig s event calls answer new → Step dig s event calls another other → ¬ IsOutOfMemory answer → ¬ IsOutOfMemory another → AreOne answer new another other
   step_one Connect calls lay shaped o x y memory room =
       answers x.1 y.1 (connect_one x.3 y.3 (λ e. remembers (x.1 ∙ ap of_connect e) tt memory) (λ e. remembers (y.1 ∙ ap of_connect e) tt room))
@@ -76,7 +76,7 @@ module _ (dig : List ℕ → List ℕ) where
 
   module _ (torrent : Metainfo) (lay : IsLaidOut torrent.piece_length torrent.files) (P : Answer → Answer → Type 0) (force : (m : EngineState) (a b : Answer) → IsShaped torrent m → P a b → SameAsks m (sent_by a) (sent_by b)) where
     -- where each two answers request the same, for this reason
-    pub run_one : (s : EngineState) {new other : EngineState} (events : List Event) (calls : List DeviceCalls) (answers others : List Answer) → IsShaped torrent s → IsOrderly s
+    pub run_one : (s : EngineState) {new other : _} (events : List Event) (calls : List DeviceCalls) (answers others : List Answer) → IsShaped torrent s → IsOrderly s
         → Run dig s events calls answers new → Run dig s events calls others other → HaveMemory answers → HaveMemory others → EachPair P answers others → (answers ≡ others) × (new ≡ other)
     run_one s [] [] [] [] shaped o x y memory room each = (refl, x ∙ sym y)
     run_one s {other} (e ∷ es) (c ∷ cs) (a ∷ answers) (b ∷ others) shaped o x y memory room each =
@@ -93,10 +93,10 @@ module _ (dig : List ℕ → List ℕ) where
     run_one s (e ∷ es) (c ∷ cs) [] others shaped o x y memory room each = absurd x
     run_one s (e ∷ es) (c ∷ cs) (a ∷ answers) [] shaped o x y memory room each = absurd y
 
-  shape_of : {s : EngineState} → (r : IsReached dig s) → IsShaped r.torrent s
+  shape_of : {s : _} → (r : IsReached dig s) → IsShaped r.torrent s
   shape_of {s} r = (shape_kept dig r.torrent r.first s r.events r.calls r.answers r.starts r.run).0
 
-  order_of : {s : EngineState} → IsReached dig s → IsOrderly s
+  order_of : {s : _} → IsReached dig s → IsOrderly s
   order_of {s} r = order_of_runs dig r.torrent r.first s r.events r.calls r.answers r.starts r.run
 
   pub step_determined : StepIsDetermined dig

@@ -35,7 +35,7 @@ use Rattle.bt_engine.proofs.DeterminedEvents.{split_one, reads_one, file_one, se
 
 -- ---- groups
 
-known_or_unknown : {dig : List ℕ → List ℕ} {k : Facts} {from count anchor first other : ℕ} → from < blocks_of k → IsKnownGroup dig k from count → IsUnknownGroup k from anchor first other → ⊥
+known_or_unknown : {dig k from count anchor first other : _} → from < blocks_of k → IsKnownGroup dig k from count → IsUnknownGroup k from anchor first other → ⊥
 known_or_unknown {dig} {k} {from} left x y =
     let n : ℕ = blocks_of k in
     let real : real_width (blocks_of k) 0 ≡ blocks_of k = omega arith in
@@ -46,7 +46,7 @@ known_or_unknown {dig} {k} {from} left x y =
     let unheld : held_at k 0 from ≡ None = subst (λ i. held_at k 0 i ≡ None) place (y.nearest.nearest 0 y.above) in
     some_not_none (subst (λ i. IsSome (value_at dig k 0 i)) first_block (x.known 0 x.some)) (value_covers dig k 0 from covers ∙ unheld)
 
-not_longer : {dig : List ℕ → List ℕ} {k : Facts} {from c d : ℕ} → IsKnownGroup dig k from c → IsKnownGroup dig k from d → c < d → ⊥
+not_longer : {dig k from c d : _} → IsKnownGroup dig k from c → IsKnownGroup dig k from d → c < d → ⊥
 not_longer {c} x y lt = elim x.longest [
   | inl eight ↦ absurd (omega (arith, eight, lt, y.few))
   | inr rest ↦ elim rest [
@@ -55,13 +55,13 @@ not_longer {c} x y lt = elim x.longest [
   ]
 ]
 
-known_one : {dig : List ℕ → List ℕ} {k : Facts} {from c d : ℕ} → IsKnownGroup dig k from c → IsKnownGroup dig k from d → c ≡ d
+known_one : {dig k from c d : _} → IsKnownGroup dig k from c → IsKnownGroup dig k from d → c ≡ d
 known_one {c} {d} x y = elim (cases_lt c d) [
   | inl lt ↦ absurd (not_longer x y lt)
   | inr le ↦ elim (cases_lt d c) [ inl lt ↦ absurd (not_longer y x lt) | inr ge ↦ omega (arith, le, ge) ]
 ]
 
-unknown_one : {k : Facts} {from a f c b g d : ℕ} → IsUnknownGroup k from a f c → IsUnknownGroup k from b g d → (a ≡ b) × (f ≡ g) × (c ≡ d)
+unknown_one : {k from a f c b g d : _} → IsUnknownGroup k from a f c → IsUnknownGroup k from b g d → (a ≡ b) × (f ≡ g) × (c ≡ d)
 unknown_one {k} {from} {f} {b} {g} x y =
     let anchor = anchor_one x.nearest y.nearest in
     let first : f ≡ g = x.starts ∙ ap (λ n. from / 2 ^ n * 2 ^ n) anchor ∙ sym y.starts in
@@ -75,7 +75,7 @@ data IsSize (dig : List ℕ → List ℕ) (k : Facts) (from n : ℕ) : Type 0 wh
 reads_size : (reads : List BlockRead) (first : ℕ) {count : ℕ} → map block_of reads ≡ range_with_len first count → length reads ≡ count
 reads_size reads first {count} e = sym (length-map reads block_of) ∙ ap length e ∙ length-range_with_len first count
 
-adopts_size : {dig : List ℕ → List ℕ} {k : Facts} {from : ℕ} {states : List BlockState} {reads : List BlockRead} {adopted : Adopted} {grown : Facts} {after : List BlockState} → from < blocks_of k
+adopts_size : {dig k from states reads adopted grown after : _} → from < blocks_of k
     → Adopts dig k from states reads adopted grown after → IsSize dig k from (length reads)
 adopts_size left (none end) = absurd (omega (arith, left, end))
 adopts_size {from} left (known c rs g w) = of_known c g (reads_size rs from w)
@@ -84,7 +84,7 @@ adopts_size left (refused a f c rs e g w p o) = of_unknown a f c g (reads_size r
 adopts_size left (short a f c rs g w z l) = of_unknown a f c g (reads_size rs f w)
 adopts_size left (unread a f c rs g w z) = of_unknown a f c g (reads_size rs f w)
 
-size_one : {dig : List ℕ → List ℕ} {k : Facts} {from n m : ℕ} → from < blocks_of k → IsSize dig k from n → IsSize dig k from m → n ≡ m
+size_one : {dig k from n m : _} → from < blocks_of k → IsSize dig k from n → IsSize dig k from m → n ≡ m
 size_one left (of_known c x e) (of_known d y f) = e ∙ known_one x y ∙ sym f
 size_one left (of_known c x e) (of_unknown a i d y f) = absurd (known_or_unknown left x y)
 size_one left (of_unknown a i d y f) (of_known c x e) = absurd (known_or_unknown left x y)
@@ -105,7 +105,7 @@ counts_le n (failed i ∷ reads) =
     let more = counts_le n reads in
     omega (arith, more, sum_by-cons (λ x. cond (is_whole n x) 1 0) (failed i) reads, sum_by-cons (λ x. cond (is_fault x) 1 0) (failed i) reads)
 
-whole_or_failed : {n first count : ℕ} {reads : List BlockRead} → AreWhole n first count reads → 0 < fault_count reads → ⊥
+whole_or_failed : {n first count reads : _} → AreWhole n first count reads → 0 < fault_count reads → ⊥
 whole_or_failed {n} {first} {reads} whole some = absurd (omega (arith, whole.whole, counts_le n reads, reads_size reads first whole.blocks, some))
 
 same_claim : (dig : List ℕ → List ℕ) (k : Facts) {a b f g : ℕ} (reads : List BlockRead) → a ≡ b → f ≡ g → claim_of_reads dig k.file_length a f reads ≡ claim_of_reads dig k.file_length b g reads
@@ -120,7 +120,7 @@ together {g} {c} {d} {a} {b} {m} {n} {x} e1 e2 e3 e4 e5 =
     ap (λ z. adopted_as (z + c) a m x) e1 ∙ ap (λ z. adopted_as (g + z) a m x) e2 ∙ ap (λ z. adopted_as (g + d) z m x) e3 ∙ ap (λ z. adopted_as (g + d) b z x) e4 ∙ ap (λ z. adopted_as (g + d) b n z) e5
 
 -- the same reads come to the same
-result_one : {dig : List ℕ → List ℕ} {k : Facts} {from : ℕ} {states : List BlockState} → from < blocks_of k → {reads : List BlockRead} {d1 d2 : Adopted} {k1 k2 : Facts} {s1 s2 : List BlockState}
+result_one : {dig k from states : _} → from < blocks_of k → {reads d1 d2 k1 k2 s1 s2 : _}
     → Adopts dig k from states reads d1 k1 s1 → Adopts dig k from states reads d2 k2 s2 → (d1 ≡ d2) × (k1 ≡ k2) × (s1 ≡ s2)
 result_one {dig} {k} {from} left (known c1 rs1 g1 w1) (known c2 rs2 g2 w2) = (ap (λ c. record { next = from + c; anchor = 0; marked = right_count dig k rs1; faults = fault_count rs1 }) (known_one g1 g2), refl, refl)
 result_one left (known c1 rs1 g1 w1) (accepted a2 f2 c2 rs2 h2 g2 w2 p2) = absurd (known_or_unknown left g1 g2)
@@ -172,7 +172,7 @@ proofs_one dig k (key ∷ keys) (h ∷ xs) (i ∷ ys) x y =
     ap (λ z. z ∷ xs) (x.0.2 ∙ ap (λ ds. proof_of key ds) same ∙ sym y.0.2) ∙ ap (λ zs. i ∷ zs) (proofs_one dig k keys xs ys x.1 y.1)
 
 module _ (dig : List ℕ → List ℕ) where
-  group_one : {s : EngineState} {file from : ℕ} {c d more rest : DeviceCalls} {x y : Adopted} {m n : EngineState} → AdoptsGroup dig s file from c x m → AdoptsGroup dig s file from d y n → c ++ more ≡ d ++ rest
+  group_one : {s file from c d more rest x y m n : _} → AdoptsGroup dig s file from c x m → AdoptsGroup dig s file from d y n → c ++ more ≡ d ++ rest
       → (more ≡ rest) × (x ≡ y) × (m ≡ n)
   group_one {s} {file} {from} {c} {d} {more} {rest} {x} {y} {m} {n} g h e = (parts.1, result.0, after)
     where
@@ -212,13 +212,13 @@ module _ (dig : List ℕ → List ℕ) where
   abbrev HasBlocks : EngineState → ℕ → ℕ → Type 0
   HasBlocks s file n = (f : FileState) (k : Facts) → IsFile s file f k → blocks_of k ≡ n
 
-  blocks_stay : {s m : EngineState} {file from : ℕ} (n : ℕ) {c : DeviceCalls} {x : Adopted} → AdoptsGroup dig s file from c x m → HasBlocks s file n → HasBlocks m file n
+  blocks_stay : {s m file from : _} (n : ℕ) {c x : _} → AdoptsGroup dig s file from c x m → HasBlocks s file n → HasBlocks m file n
   blocks_stay n g sized f k is =
       let own = group_file dig g in
       let tree : g.grown ≡ k = (file_one own is).1 in
       ap blocks_of (sym tree) ∙ ap block_count (group_extends dig g).file_length ∙ sized g.state g.tree g.is_file
 
-  groups_one : (s : EngineState) (file from : ℕ) {n : ℕ} (xs ys : List DeviceCalls) {more rest : DeviceCalls} {t u : Adopted} {a b : EngineState} → HasBlocks s file n → AdoptsGroups dig s file from xs t a → AdoptsGroups dig s file from ys u b
+  groups_one : (s : EngineState) (file from : ℕ) {n : ℕ} (xs ys : List DeviceCalls) {more rest t u a b : _} → HasBlocks s file n → AdoptsGroups dig s file from xs t a → AdoptsGroups dig s file from ys u b
       → t.next ≡ n → u.next ≡ n → flat_map (λ c. c) xs ++ more ≡ flat_map (λ c. c) ys ++ rest → (more ≡ rest) × (t ≡ u) × (a ≡ b)
   groups_one s file from [] [] sized x y p q e = (e, x.0 ∙ sym y.0, x.1 ∙ sym y.1)
   groups_one s file from [] (d ∷ ys) sized x y p q e =
@@ -233,7 +233,7 @@ module _ (dig : List ℕ → List ℕ) where
       (sym (ap (λ (z : Adopted). z.next) x.5) ∙ p) (sym (ap (λ (z : Adopted). z.next) y.5) ∙ q) first.0 in
       (tail.0, x.5 ∙ ap (λ z. adopted_together z x.2) first.1 ∙ ap (adopted_together y.0) tail.1 ∙ sym y.5, tail.2)
 
-  adopts_one : {s m n : EngineState} {file : ℕ} {calls : DeviceCalls} {t u : Adopted} → ((f : FileState) (k : Facts) → IsFile s file f k → f.states ≢ [] → blocks_of k ≡ length f.states) → AdoptsFile dig s file calls t m → AdoptsFile dig s file calls u n
+  adopts_one : {s m n file calls t u : _} → ((f : FileState) (k : Facts) → IsFile s file f k → f.states ≢ [] → blocks_of k ≡ length f.states) → AdoptsFile dig s file calls t m → AdoptsFile dig s file calls u n
       → (t ≡ u) × (m ≡ n)
   adopts_one {s} {file} sized x y =
       let state : x.state ≡ y.state = same_some x.here y.here in
@@ -249,7 +249,7 @@ module _ (dig : List ℕ → List ℕ) where
       let settled = settles_one x.settles settles in
       (groups.1, x.after ∙ ap (λ z. with_pending z x.settled []) groups.2 ∙ ap (λ z. with_pending y.mid z []) settled.1 ∙ sym y.after)
 
-  pub adopt_one : {s m n : EngineState} {file : ℕ} {calls : DeviceCalls} {a b : Result Adopted AdoptError} → ((f : FileState) (k : Facts) → IsFile s file f k → f.states ≢ [] → blocks_of k ≡ length f.states)
+  pub adopt_one : {s m n file calls a b : _} → ((f : FileState) (k : Facts) → IsFile s file f k → f.states ≢ [] → blocks_of k ≡ length f.states)
       → StepAdopt dig s file calls a m → StepAdopt dig s file calls b n → a ≢ Err OutOfMemory → b ≢ Err OutOfMemory → AreOne (of_adopt a) m (of_adopt b) n
   adopt_one sized (no_memory x y z) q r t = absurd (r z)
   adopt_one sized q (no_memory x y z) r t = absurd (t z)

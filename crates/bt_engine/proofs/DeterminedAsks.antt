@@ -44,10 +44,10 @@ pub record AreOne (a : Answer) (m : EngineState) (b : Answer) (n : EngineState) 
   pub rest : without_asked m ≡ without_asked n
   pub whole : SameAsks m (sent_by a) (sent_by b) → (a ≡ b) × (m ≡ n)
 
-pub are_equal : {a b : Answer} {m n : EngineState} → a ≡ b → m ≡ n → AreOne a m b n
+pub are_equal : {a b m n : _} → a ≡ b → m ≡ n → AreOne a m b n
 are_equal e f = record { plain = ap plain_answer e; rest = ap without_asked f; whole = λ same. (e, f) }
 
-pub asks_to : {m : EngineState} {f g h k : List Sent} → f ≡ h → g ≡ k → SameAsks m f g → SameAsks m h k
+pub asks_to : {m f g h k : _} → f ≡ h → g ≡ k → SameAsks m f g → SameAsks m h k
 asks_to {m} {g} {h} e i same = subst (λ z. SameAsks m h z) i (subst (λ z. SameAsks m z g) e same)
 
 requests_append : (xs ys : List Sent) → requests_in (xs ++ ys) ≡ requests_in xs ++ requests_in ys
@@ -61,7 +61,7 @@ lacks_there : (s m : EngineState) → m.files ≡ s.files → LacksOneAtMost m �
 lacks_there s m e one b c x y = one b c (missing_in s m b e x) (missing_in s m c e y)
 
 -- behind what both send
-pub asks_behind : {s m : EngineState} (xs : List Sent) {f g : List Sent} → m.files ≡ s.files → SameAsks m (xs ++ f) (xs ++ g) → SameAsks s f g
+pub asks_behind : {s m : EngineState} (xs : List Sent) {f g : _} → m.files ≡ s.files → SameAsks m (xs ++ f) (xs ++ g) → SameAsks s f g
 asks_behind xs {f} {g} e (by_requests same) = by_requests (append_cancel_left (requests_in xs) (requests_in f) (requests_in g) (sym (requests_append xs f) ∙ same ∙ requests_append xs g))
 asks_behind xs {f} e (by_none none) = by_none (nil_of_append (requests_in xs) (sym (requests_append xs f) ∙ none)).1
 asks_behind {s} {m} xs e (by_one one) = by_one (lacks_there s m e one)
@@ -81,12 +81,12 @@ range_one {torrent} {a} {c} {b} x y =
     let count : a.length ≡ c.length = x.whole ∙ ap (λ (f : File). block_length f.length b.block) file ∙ sym y.whole in
     ap (λ n. record a { piece = n }) piece ∙ ap (λ n. record a { piece = c.piece; begin = n }) begin ∙ ap (λ n. record c { length = n }) count
 
-frames_one : (s : EngineState) (p : PeerState) (blocks : List BlockId) {f g : List Sent} → RequestsEach s p blocks f → RequestsEach s p blocks g → f ≡ g
+frames_one : (s : EngineState) (p : PeerState) (blocks : List BlockId) {f g : _} → RequestsEach s p blocks f → RequestsEach s p blocks g → f ≡ g
 frames_one s p [] x y = x ∙ sym y
 frames_one s p (b ∷ blocks) x y =
     x.4 ∙ ap (λ z. z ∷ x.1) (x.2.is ∙ ap (λ a. sent_to p (Request a)) (range_one x.2.whole y.2.whole) ∙ sym y.2.is) ∙ ap (λ zs. y.0 ∷ zs) (frames_one s p blocks x.3 y.3) ∙ sym y.4
 
-ask_sent : (p : PeerState) {a c : Ask} → sent_to p (Request a) ≡ sent_to p (Request c) → a ≡ c
+ask_sent : (p : PeerState) {a c : _} → sent_to p (Request a) ≡ sent_to p (Request c) → a ≡ c
 ask_sent p e = let frames = ap (λ (x : Sent). x.frame) e in cc
 
 blocks_one : (s : EngineState) (p : PeerState) (bs cs : List BlockId) (f : List Sent) → IsLaidOut s.torrent.piece_length s.torrent.files
@@ -107,7 +107,7 @@ no_block s p (b ∷ bs) x = let no = x.4 in absurd cc
 -- ---- which blocks are asked
 
 -- where none is asked, none may be
-asks_none : {s : EngineState} {p : PeerState} (bs : List BlockId) → AsksBlocks s p [] → AsksBlocks s p bs → bs ≡ []
+asks_none : {s p : _} (bs : List BlockId) → AsksBlocks s p [] → AsksBlocks s p bs → bs ≡ []
 asks_none [] x y = refl
 asks_none {p} (b ∷ bs) x y = absurd (never p.peer_choking p.am_interested refl refl)
   where
@@ -117,13 +117,13 @@ asks_none {p} (b ∷ bs) x y = absurd (never p.peer_choking p.am_interested refl
     never false true e f = elim (x.all e f) [ inl full ↦ (let few = y.few in absurd (omega (arith, full, few))) | inr every ↦ contains_none (every b (y.are_open b (here bs refl))) ]
 
 -- where at most one block is missing, there is no choice
-asks_one : {s : EngineState} {p : PeerState} (bs cs : List BlockId) → LacksOneAtMost s → AsksBlocks s p bs → AsksBlocks s p cs → bs ≡ cs
+asks_one : {s p : _} (bs cs : List BlockId) → LacksOneAtMost s → AsksBlocks s p bs → AsksBlocks s p cs → bs ≡ cs
 asks_one [] cs one x y = sym (asks_none cs x y)
 asks_one (b ∷ bs) [] one x y = asks_none (b ∷ bs) y x
 asks_one {s} {p} (b ∷ bs) (c ∷ cs) one x y =
     ap (λ zs. b ∷ zs) (alone bs x) ∙ ap (λ z. z ∷ []) (one b c (x.are_open b (here bs refl)).missing (y.are_open c (here cs refl)).missing) ∙ ap (λ zs. c ∷ zs) (sym (alone cs y))
   where
-    alone : {d : BlockId} (ds : List BlockId) → AsksBlocks s p (d ∷ ds) → ds ≡ []
+    alone : {d : _} (ds : List BlockId) → AsksBlocks s p (d ∷ ds) → ds ≡ []
     alone [] x = refl
     alone {d} (e ∷ ds) x = absurd (x.distinct 0 1 d (omega arith) (omega arith) (one d e (x.are_open d (here (e ∷ ds) refl)).missing (x.are_open e (later d (e ∷ ds) (here ds refl))).missing))
 
@@ -135,12 +135,12 @@ interest_no_request p true false = refl
 interest_no_request p false true = refl
 interest_no_request p false false = refl
 
-only_requests : (s : EngineState) (p : PeerState) (blocks : List BlockId) {sent : List Sent} → RequestsEach s p blocks sent → requests_in sent ≡ sent
+only_requests : (s : EngineState) (p : PeerState) (blocks : List BlockId) {sent : _} → RequestsEach s p blocks sent → requests_in sent ≡ sent
 only_requests s p [] r = ap requests_in r ∙ sym r
 only_requests s p (b ∷ blocks) r =
     ap requests_in r.4 ∙ ap (λ x. requests_in (x ∷ r.1)) r.2.is ∙ ap (λ zs. sent_to p (Request r.2.ask) ∷ zs) (only_requests s p blocks r.3) ∙ ap (λ x. x ∷ r.1) (sym r.2.is) ∙ sym r.4
 
-all_to : (s : EngineState) (p : PeerState) (blocks : List BlockId) (sent : List Sent) {z : Sent} → RequestsEach s p blocks sent → Contains sent z
+all_to : (s : EngineState) (p : PeerState) (blocks : List BlockId) (sent : List Sent) {z : _} → RequestsEach s p blocks sent → Contains sent z
     → z.peer ≡ p.key
 all_to s p [] sent {z} r c = absurd (contains_none (subst (λ l. Contains l z) r c))
 all_to s p (b ∷ blocks) sent {z} r c = elim (contains_cases r.1 (subst (λ l. Contains l z) r.4 c)) [
@@ -148,7 +148,7 @@ all_to s p (b ∷ blocks) sent {z} r c = elim (contains_cases r.1 (subst (λ l. 
   | inr more ↦ all_to s p blocks r.1 r.3 more
 ]
 
-hash_no_request : {dig : List ℕ → List ℕ} {s : EngineState} {p q : PeerState} {sent : List Sent} → RequestsHashes dig s p sent q → requests_in sent ≡ []
+hash_no_request : {dig s p q sent : _} → RequestsHashes dig s p sent q → requests_in sent ≡ []
 hash_no_request (requests b k key x y z w e f) = ap requests_in e
 hash_no_request (rests x e f) = ap requests_in e
 
@@ -157,7 +157,7 @@ abbrev pub KeysApart : EngineState → Type 0
 KeysApart s = (i j : ℕ) (p q : PeerState) → slice_get s.peers i ≡ Some p → slice_get s.peers j ≡ Some q → p.key ≡ q.key → i ≡ j
 
 module _ (dig : List ℕ → List ℕ) where
-  requests_of : {s : EngineState} {i : ℕ} {f : List Sent} {a : EngineState} → (x : FollowsUp dig s i f a) → requests_in f ≡ x.block_frames
+  requests_of : {s i f a : _} → (x : FollowsUp dig s i f a) → requests_in f ≡ x.block_frames
   requests_of {s} x =
       let interest : requests_in x.interest_frames ≡ [] = ap requests_in x.interest.told ∙ interest_no_request x.peer x.peer.am_interested x.interested.am_interested in
       let hash : requests_in x.hash_frames ≡ [] = hash_no_request x.hashes in
@@ -212,25 +212,25 @@ module _ (dig : List ℕ → List ℕ) where
   -- ---- what follows for each peer
 
   -- each peer afterwards was there, under its key
-  before : {s new : EngineState} {i : ℕ} (j : ℕ) {sent : List Sent} {q : PeerState} → Follows s i sent new → slice_get new.peers j ≡ Some q
+  before : {s new i : _} (j : ℕ) {sent q : _} → Follows s i sent new → slice_get new.peers j ≡ Some q
       → (p : PeerState) × (slice_get s.peers j ≡ Some p) × (q.key ≡ p.key)
   before {s} {i} j {q} f at = elim (set_cases s.peers i j (subst (λ l. slice_get l j ≡ Some q) f.peers at)) [
     | inl one ↦ (f.peer, ap (slice_get s.peers) one.0 ∙ f.was, ap (λ (x : PeerState). x.key) one.1 ∙ f.same_key)
     | inr old ↦ (q, old, refl)
   ]
 
-  apart_after : {s new : EngineState} {i : ℕ} {sent : List Sent} → Follows s i sent new → KeysApart s → KeysApart new
+  apart_after : {s new i sent : _} → Follows s i sent new → KeysApart s → KeysApart new
   apart_after f apart j k p q x y e =
       let u = before j f x in
       let v = before k f y in
       apart j k u.0 v.0 u.1 v.1 (sym u.2 ∙ e ∙ v.2)
 
-  own_key : {s : EngineState} {i : ℕ} {sent : List Sent} {new : EngineState} {z : Sent} → (x : FollowsUp dig s i sent new) → Contains (requests_in sent) z
+  own_key : {s i sent new z : _} → (x : FollowsUp dig s i sent new) → Contains (requests_in sent) z
       → z.peer ≡ x.peer.key
   own_key {s} {z} x c =
       all_to s x.planned x.blocks x.block_frames x.requests (subst (λ l. Contains l z) (requests_of x) c) ∙ (same_plan x.hashes).same_key ∙ ap (λ (p : PeerState). p.key) x.interest.others
 
-  each_key : (is : List ℕ) (s : EngineState) (sent : List Sent) (new : EngineState) {z : Sent} → FollowsEach dig is s sent new → Contains (requests_in sent) z
+  each_key : (is : List ℕ) (s : EngineState) (sent : List Sent) (new : EngineState) {z : _} → FollowsEach dig is s sent new → Contains (requests_in sent) z
       → (j : ℕ) × Contains is j × (p : PeerState) × (slice_get s.peers j ≡ Some p) × (z.peer ≡ p.key)
   each_key [] s sent new {z} x c = absurd (contains_none (subst (λ l. Contains (requests_in l) z) x.0 c))
   each_key (i ∷ is) s sent new {z} x c = elim (Contains-append_cases (requests_in x.1) (requests_in x.2) z (subst (λ l. Contains l z) (ap requests_in x.5 ∙ requests_append x.1 x.2) c)) [
@@ -241,7 +241,7 @@ module _ (dig : List ℕ → List ℕ) where
         (r.0, later i is r.1, p.0, p.1, r.4 ∙ p.2)
   ]
 
-  split_by : (P : Sent → Type 0) (xs ys : List Sent) {us vs : List Sent} → ((z : Sent) → Contains xs z → P z) → ((z : Sent) → Contains ys z → P z)
+  split_by : (P : Sent → Type 0) (xs ys : List Sent) {us vs : _} → ((z : Sent) → Contains xs z → P z) → ((z : Sent) → Contains ys z → P z)
       → ((z : Sent) → Contains us z → ¬ P z) → ((z : Sent) → Contains vs z → ¬ P z) → xs ++ us ≡ ys ++ vs
       → (xs ≡ ys) × (us ≡ vs)
   split_by P [] [] p q r t e = (refl, e)
@@ -255,7 +255,7 @@ module _ (dig : List ℕ → List ℕ) where
   each_files [] s sent new x = ap (λ z. z.files) x.1
   each_files (i ∷ is) s sent new x = each_files is x.0 x.2 new x.4 ∙ ap (λ z. z.files) x.3.after
 
-  pub each_same : (is : List ℕ) (s : EngineState) {f g : List Sent} {a b : EngineState} → IsLaidOut s.torrent.piece_length s.torrent.files → KeysApart s
+  pub each_same : (is : List ℕ) (s : EngineState) {f g a b : _} → IsLaidOut s.torrent.piece_length s.torrent.files → KeysApart s
       → Pairs (λ i j. i ≢ j) is → FollowsEach dig is s f a → FollowsEach dig is s g b → SameAsks a f g
       → (f ≡ g) × (a ≡ b)
   each_same [] s lay apart once x y same = (x.0 ∙ sym y.0, x.1 ∙ sym y.1)
@@ -273,7 +273,7 @@ module _ (dig : List ℕ → List ℕ) where
       peer_is = same_some y.3.here x.3.here
 
       -- what is asked of later peers goes to other keys
-      others : {mid : EngineState} {h : List Sent} (k : List Sent) (new : EngineState) {z : Sent} → Follows s i h mid → FollowsEach dig is mid k new
+      others : {mid h : _} (k : List Sent) (new : EngineState) {z : _} → Follows s i h mid → FollowsEach dig is mid k new
           → Contains (requests_in k) z → z.peer ≡ x.3.peer.key → ⊥
       others {mid} k new fol each c e =
           let r = each_key is mid k new each c in

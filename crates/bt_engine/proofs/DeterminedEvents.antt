@@ -113,7 +113,7 @@ settled_files : (dig : List ℕ → List ℕ) (k : Facts) (o : Option FileState)
 settled_files dig k None xs ys same = refl
 settled_files dig k (Some f) xs ys same = ap (λ zs. Some (judged_file dig k zs f)) (same f refl)
 
-pub settles_one : {dig : List ℕ → List ℕ} {is_meant : ℕ → Bool} {tree from count : ℕ} {old a b : EngineState} {calls : DeviceCalls} {m n : List Note} → SettlesIn dig is_meant tree from count old calls m a
+pub settles_one : {dig is_meant tree from count old a b calls m n : _} → SettlesIn dig is_meant tree from count old calls m a
     → SettlesIn dig is_meant tree from count old calls n b → (m ≡ n) × (a ≡ b)
 settles_one {dig} {is_meant} {tree} {from} {count} {old} {a} {b} x y = (
   x.noted ∙ flat_same (λ file. settling_notes dig x.facts file (x.reads file)) (λ file. settling_notes dig y.facts file (y.reads file)) (file_numbers old)
@@ -154,19 +154,19 @@ same_cut (i ∷ blocks) f g e =
     ap (λ xs. xs ++ flat_map f blocks) first ∙ ap (λ xs. g i ++ xs) (same_cut blocks f g rest)
 
 -- a list of reads that is longer than another by one, which begins as it does
-last_given : (f g : ℕ → List ℕ) (before : List ℕ) {block : ℕ} (after : List ℕ) {read : BlockRead} → map (λ i. given i (f i)) (before ++ block ∷ after) ≡ map (λ i. given i (g i)) before ++ read ∷ [] → given block (f block) ≡ read
+last_given : (f g : ℕ → List ℕ) (before : List ℕ) {block : ℕ} (after : List ℕ) {read : _} → map (λ i. given i (f i)) (before ++ block ∷ after) ≡ map (λ i. given i (g i)) before ++ read ∷ [] → given block (f block) ≡ read
 last_given f g [] after e = heads e
 last_given f g (i ∷ before) {block} after {read} e =
     let rest : map (λ i. given i (f i)) (before ++ block ∷ after) ≡ map (λ i. given i (g i)) before ++ read ∷ [] = tails e in
     last_given f g before after rest
 
-pub file_one : {s : EngineState} {file : ℕ} {f g : FileState} {k l : Facts} → IsFile s file f k → IsFile s file g l → (f ≡ g) × (k ≡ l)
+pub file_one : {s file f g k l : _} → IsFile s file f k → IsFile s file g l → (f ≡ g) × (k ≡ l)
 file_one {s} {f} {g} x y =
     let same : f ≡ g = same_some x.here y.here in
     (same, same_some (ap (λ (q : FileState). slice_get s.trees q.tree) (sym same) ∙ x.hung) y.hung)
 
 module _ (dig : List ℕ → List ℕ) (s : EngineState) where
-  serves_one : {i : ℕ} {p : PeerState} {ask : Ask} {span : Span} {calls : DeviceCalls} {e f : Effect} {m n : EngineState} → Serves dig s i p ask span calls e m → Serves dig s i p ask span calls f n → (e ≡ f) × (m ≡ n)
+  serves_one : {i p ask span calls e f m n : _} → Serves dig s i p ask span calls e m → Serves dig s i p ask span calls f n → (e ≡ f) × (m ≡ n)
   serves_one {p} {ask} {span} x y =
       let tree : x.tree ≡ y.tree = (file_one x.is_file y.is_file).1 in
       let reads : x.reads ≡ y.reads = reads_one span.file x.tree.file_length x.reads y.reads (sym x.made ∙ y.made ∙ ap (λ (k : Facts). reads_at span.file k.file_length y.reads) (sym tree)) in
@@ -174,7 +174,7 @@ module _ (dig : List ℕ → List ℕ) (s : EngineState) where
       let cut : cut_from span x.bytes ≡ cut_from span y.bytes = ap (λ bs. take span.length (drop (span.start - 16384 * first_block span) bs)) bytes in
       (x.sent ∙ ap (λ bs. sending p (Piece ask.piece ask.begin bs)) cut ∙ sym y.sent, x.after ∙ sym y.after)
 
-  serve_or_stop : {i : ℕ} {p : PeerState} {ask : Ask} {span : Span} {calls : DeviceCalls} {e f : Effect} {m n : EngineState} → Serves dig s i p ask span calls e m → StopsAtFault dig s span calls f n → ⊥
+  serve_or_stop : {i p ask span calls e f m n : _} → Serves dig s i p ask span calls e m → StopsAtFault dig s span calls f n → ⊥
   serve_or_stop {i} {span} {e} {f} {n} x y = by y.finds
     where
       tree : x.tree ≡ y.tree
@@ -191,23 +191,23 @@ module _ (dig : List ℕ → List ℕ) (s : EngineState) where
       exact = subst (λ k. IsRight dig k y.block (x.bytes y.block)) tree
           (x.right.right y.block (subst (λ bs. Contains bs y.block) (sym y.blocks) (Contains-append_right y.before (y.block ∷ y.after) y.block (here y.after refl))))
 
-      same_bytes : {xs ys : List ℕ} → given y.block xs ≡ given y.block ys → xs ≡ ys
+      same_bytes : {xs ys : _} → given y.block xs ≡ given y.block ys → xs ≡ ys
       same_bytes e = cc
 
-      not_failed : {xs : List ℕ} → given y.block xs ≡ failed y.block → ⊥
+      not_failed : {xs : _} → given y.block xs ≡ failed y.block → ⊥
       not_failed e = absurd cc
 
       by : FindsFault dig y.tree s span.file y.block y.file y.read f n → ⊥
       by (damaged bytes is wrong_bytes z w) = wrong_bytes (subst (λ bs. IsRight dig y.tree y.block bs) (same_bytes (last ∙ is)) exact)
       by (fault is z w) = not_failed (last ∙ is)
 
-  finds_one : {k : Facts} {file i : ℕ} {g : FileState} {read : BlockRead} {e f : Effect} {m n : EngineState} → FindsFault dig k s file i g read e m → FindsFault dig k s file i g read f n → (e ≡ f) × (m ≡ n)
+  finds_one : {k file i g read e f m n : _} → FindsFault dig k s file i g read e m → FindsFault dig k s file i g read f n → (e ≡ f) × (m ≡ n)
   finds_one (damaged b is w x y) (damaged c js v z u) = (x ∙ sym z, y ∙ sym u)
   finds_one {i} (damaged b is w x y) (fault js z u) = (let no : given i b ≡ failed i = sym is ∙ js in absurd cc)
   finds_one {i} (fault is x y) (damaged c js v z u) = (let no : given i c ≡ failed i = sym js ∙ is in absurd cc)
   finds_one (fault is x y) (fault js z u) = (x ∙ sym z, y ∙ sym u)
 
-  stops_one : {span : Span} {calls : DeviceCalls} {e f : Effect} {m n : EngineState} → StopsAtFault dig s span calls e m → StopsAtFault dig s span calls f n → (e ≡ f) × (m ≡ n)
+  stops_one : {span calls e f m n : _} → StopsAtFault dig s span calls e m → StopsAtFault dig s span calls f n → (e ≡ f) × (m ≡ n)
   stops_one {span} {f} {n} x y =
       let same = file_one x.is_file y.is_file in
       let all : x.reads ++ x.read ∷ [] ≡ y.reads ++ y.read ∷ []
@@ -229,7 +229,7 @@ module _ (dig : List ℕ → List ℕ) (s : EngineState) where
   some_none : {X : Type 0} {o : Option X} {x : X} → o ≡ Some x → o ≡ None → ⊥
   some_none e f = let no = sym e ∙ f in absurd cc
 
-  wrong_right : {leaf : Option (List ℕ)} (bytes : List ℕ) → IsWrong dig leaf bytes → leaf ≡ Some (dig bytes) → ⊥
+  wrong_right : {leaf : _} (bytes : List ℕ) → IsWrong dig leaf bytes → leaf ≡ Some (dig bytes) → ⊥
   wrong_right bytes w e = w.2 (same_some w.1 e)
 
   wrote_or_failed : (file at : ℕ) (bytes : List ℕ) → calls_at file (bytes_written at bytes ∷ []) ≡ calls_at file (write_fault at bytes ∷ []) → ⊥
@@ -238,7 +238,7 @@ module _ (dig : List ℕ → List ℕ) (s : EngineState) where
   some_or_none : (file : ℕ) (c : Call) → calls_at file (c ∷ []) ≡ [] → ⊥
   some_or_none file c e = absurd cc
 
-  put_one : (file i : ℕ) (bytes : List ℕ) (k : Facts) (states : List BlockState) {calls : DeviceCalls} (e f : Effect) (r q : Result Put StoreError) → PutIsDue dig k i bytes states r → PutIsDue dig k i bytes states q
+  put_one : (file i : ℕ) (bytes : List ℕ) (k : Facts) (states : List BlockState) {calls : _} (e f : Effect) (r q : Result Put StoreError) → PutIsDue dig k i bytes states r → PutIsDue dig k i bytes states q
       → HasPutEffect (block_id file i) r e → HasPutEffect (block_id file i) q f → calls ≡ calls_at file (calls_of_put i bytes r) → calls ≡ calls_at file (calls_of_put i bytes q) → r ≡ q
   put_one file i bytes k states e f (Ok PutMarked) (Ok PutMarked) x y ex fy x_made y_made = refl
   put_one file i bytes k states e f (Ok PutMarked) (Ok PutWaiting) x y ex fy x_made y_made = absurd (some_none x.2 y.2)
@@ -267,7 +267,7 @@ module _ (dig : List ℕ → List ℕ) (s : EngineState) where
   put_one file i bytes k states e f (Ok Already) r x y ex fy x_made y_made = absurd ex
   put_one file i bytes k states e f (Err Range) r x y ex fy x_made y_made = absurd ex
 
-  put_effect : (b : BlockId) (r : Result Put StoreError) {e f : Effect} → HasPutEffect b r e → HasPutEffect b r f → e ≡ f
+  put_effect : (b : BlockId) (r : Result Put StoreError) {e f : _} → HasPutEffect b r e → HasPutEffect b r f → e ≡ f
   put_effect b (Ok PutMarked) x y = x ∙ sym y
   put_effect b (Ok PutWaiting) x y = x ∙ sym y
   put_effect b (Ok Wrong) x y = x ∙ sym y
@@ -275,7 +275,7 @@ module _ (dig : List ℕ → List ℕ) (s : EngineState) where
   put_effect b (Ok Already) x y = absurd x
   put_effect b (Err Range) x y = absurd x
 
-  puts_one : {b : BlockId} {bytes : List ℕ} {calls : DeviceCalls} {e f : Effect} {m n : EngineState} → Puts dig s b bytes calls e m → Puts dig s b bytes calls f n → (e ≡ f) × (m ≡ n)
+  puts_one : {b bytes calls e f m n : _} → Puts dig s b bytes calls e m → Puts dig s b bytes calls f n → (e ≡ f) × (m ≡ n)
   puts_one {b} {bytes} {e} {f} x y =
       let same = file_one x.is_file y.is_file in
       let due : PutIsDue dig x.tree b.block bytes x.file.states y.result
@@ -287,10 +287,10 @@ module _ (dig : List ℕ → List ℕ) (s : EngineState) where
       )
 
   module _ (lay : IsLaidOut s.torrent.piece_length s.torrent.files) (roots : AllPairs (λ (j k : Facts). j.root ≢ k.root) s.trees) where
-    choked : {b : Bool} → b ≡ true → b ≡ false → ⊥
+    choked : {b : _} → b ≡ true → b ≡ false → ⊥
     choked e f = let no : true ≡ false = sym e ∙ f in absurd cc
 
-    request_one : {i : ℕ} {p : PeerState} {ask : Ask} {calls : DeviceCalls} {e f : Effect} {m n : EngineState} → HandlesRequest dig s i p ask calls e m → HandlesRequest dig s i p ask calls f n → (e ≡ f) × (m ≡ n)
+    request_one : {i p ask calls e f m n : _} → HandlesRequest dig s i p ask calls e m → HandlesRequest dig s i p ask calls f n → (e ≡ f) × (m ≡ n)
     request_one (ignored xa xb xc xe) (ignored ya yb yc ye) = (xc ∙ sym yc, xe ∙ sym ye)
     request_one (ignored xa xb xc xe) (no_place ya yf yb yc ye) = absurd (choked xa ya)
     request_one (ignored xa xb xc xe) (not_marked ys ya yf yg yb yc ye) = absurd (choked xa ya)
@@ -317,7 +317,7 @@ module _ (dig : List ℕ → List ℕ) (s : EngineState) where
     request_one {ask} {calls} {e} {m} (stopped xs xa xf xg xx) (served ys ya yf yg yx) = absurd (serve_or_stop yx (subst (λ t. StopsAtFault dig s t calls e m) (same_place s.torrent lay ask.piece ask.begin ask.length xf yf) xx))
     request_one {ask} {calls} {f} {n} (stopped xs xa xf xg xx) (stopped ys ya yf yg yx) = stops_one xx (subst (λ t. StopsAtFault dig s t calls f n) (same_place s.torrent lay ask.piece ask.begin ask.length yf xf) yx)
 
-    arrives_one : {i : ℕ} {p : PeerState} {piece begin : ℕ} {bytes : List ℕ} {calls : DeviceCalls} {e f : Effect} {m n : EngineState} → Arrives dig s i p piece begin bytes calls e m → Arrives dig s i p piece begin bytes calls f n → (e ≡ f) × (m ≡ n)
+    arrives_one : {i p piece begin bytes calls e f m n : _} → Arrives dig s i p piece begin bytes calls e m → Arrives dig s i p piece begin bytes calls f n → (e ≡ f) × (m ≡ n)
     arrives_one {i} {p} {piece} {begin} {bytes} {calls} {f} x y =
         let block : x.block ≡ y.block = same_block s.torrent lay piece begin (length bytes) x.whole y.whole in
         let puts = puts_one x.puts (subst (λ b. Puts dig s b bytes calls f y.stored) (sym block) y.puts) in (
@@ -326,7 +326,7 @@ module _ (dig : List ℕ → List ℕ) (s : EngineState) where
               ∙ ap (λ b. with_peer y.stored i (with_payload (length bytes) (record p { asked = without_block b p.asked }))) block ∙ sym y.after,
         )
 
-    piece_one : {i : ℕ} {p : PeerState} {piece begin : ℕ} {bytes : List ℕ} {calls : DeviceCalls} {e f : Effect} {m n : EngineState} → HandlesPiece dig s i p piece begin bytes calls e m → HandlesPiece dig s i p piece begin bytes calls f n → (e ≡ f) × (m ≡ n)
+    piece_one : {i p piece begin bytes calls e f m n : _} → HandlesPiece dig s i p piece begin bytes calls e m → HandlesPiece dig s i p piece begin bytes calls f n → (e ≡ f) × (m ≡ n)
     piece_one (stale a b c d) (stale w x y z) = (c ∙ sym y, d ∙ sym z)
     piece_one (stale a b c d) (arrives y) = absurd (a y.block y.whole y.asked)
     piece_one (arrives x) (stale a b c d) = absurd (a x.block x.whole x.asked)
@@ -334,24 +334,24 @@ module _ (dig : List ℕ → List ℕ) (s : EngineState) where
 
     -- ---- hash messages
 
-    answered_one : {key : HashKey} {ds es : List (List ℕ)} → IsAnswered dig s key ds → IsAnswered dig s key es → ds ≡ es
+    answered_one : {key ds es : _} → IsAnswered dig s key ds → IsAnswered dig s key es → ds ≡ es
     answered_one {key} {ds} x y =
         let tree = tree_one roots x.here y.here in
         answer_one dig (subst (λ k. IsAnswer dig k key.base key.index key.length key.layers ds) tree.1 x.answer) y.answer
 
-    hash_request_one : {p : PeerState} {key : HashKey} {e f : Effect} → HandlesHashRequest dig s p key e → HandlesHashRequest dig s p key f → e ≡ f
+    hash_request_one : {p key e f : _} → HandlesHashRequest dig s p key e → HandlesHashRequest dig s p key f → e ≡ f
     hash_request_one {p} {key} (answered ds x a) (answered es y b) = a ∙ ap (λ d. sending p (Hashes key (concat d))) (answered_one x y) ∙ sym b
     hash_request_one (answered ds x a) (rejected y b) = absurd (y ds x)
     hash_request_one (rejected x a) (answered es y b) = absurd (x es y)
     hash_request_one (rejected x a) (rejected y b) = a ∙ sym b
 
-    resolves_one : {key : HashKey} {next old a b : HashState} → Resolves key next old a → Resolves key next old b → a ≡ b
+    resolves_one : {key next old a b : _} → Resolves key next old a → Resolves key next old b → a ≡ b
     resolves_one (ours x e) (ours y f) = e ∙ sym f
     resolves_one (ours x e) (other y f) = absurd (y x)
     resolves_one (other x e) (ours y f) = absurd (x y)
     resolves_one (other x e) (other y f) = e ∙ sym f
 
-    learns_one : {i : ℕ} {p : PeerState} {key : HashKey} {digests : List ℕ} {calls : DeviceCalls} {e f : Effect} {m n : EngineState} → Learns dig s i p key digests calls e m → Learns dig s i p key digests calls f n → (e ≡ f) × (m ≡ n)
+    learns_one : {i p key digests calls e f m n : _} → Learns dig s i p key digests calls e m → Learns dig s i p key digests calls f n → (e ≡ f) × (m ≡ n)
     learns_one {i} {p} {key} {digests} {calls} x y =
         let tree = tree_one roots x.here y.here in
         let claim : x.claim ≡ y.claim = x.claims.claim_is ∙ sym y.claims.claim_is in
@@ -367,22 +367,22 @@ module _ (dig : List ℕ → List ℕ) (s : EngineState) where
           x.after ∙ ap (λ st. with_peer st i (record p { hash = x.hash })) settled.1 ∙ ap (λ h. with_peer y.settled i (record p { hash = h })) hash ∙ sym y.after,
         )
 
-    closes_one : {a b : ProofError} {calls : DeviceCalls} {e f : Effect} {m n : EngineState} → a ≡ b → OnlyCloses s a calls e m → OnlyCloses s b calls f n → (e ≡ f) × (m ≡ n)
+    closes_one : {a b calls e f m n : _} → a ≡ b → OnlyCloses s a calls e m → OnlyCloses s b calls f n → (e ≡ f) × (m ≡ n)
     closes_one same x y = (x.has_effect ∙ ap (λ c. closing (Proof c)) same ∙ sym y.has_effect, x.after ∙ sym y.after)
 
-    refusals_one : {key : HashKey} {digests : List ℕ} {a b : ProofError} {t u : ℕ} {k l : Facts} {c d : Claim} → IsTreeOf s key.root t k → IsTreeOf s key.root u l → IsClaimBy key digests c → IsClaimBy key digests d
+    refusals_one : {key : HashKey} {digests a b t u k l c d : _} → IsTreeOf s key.root t k → IsTreeOf s key.root u l → IsClaimBy key digests c → IsClaimBy key digests d
         → IsRefused dig k c a → IsRefused dig l d b → a ≢ OutOfMemory → b ≢ OutOfMemory → a ≡ b
     refusals_one {a} {k} {l} {c} x y v w r q m n =
         let tree = tree_one roots x y in
         refused_one dig (subst (λ c. IsRefused dig l c a) (v.claim_is ∙ sym w.claim_is) (subst (λ k. IsRefused dig k c a) tree.1 r)) q m n
 
-    learns_or_not : {i : ℕ} {p : PeerState} {key : HashKey} {digests : List ℕ} {calls : DeviceCalls} {e : Effect} {m : EngineState} {a : ProofError} {t : ℕ} {k : Facts} {c : Claim} → Learns dig s i p key digests calls e m
+    learns_or_not : {i p key digests calls e m a t k c : _} → Learns dig s i p key digests calls e m
         → IsTreeOf s key.root t k → IsClaimBy key digests c → IsRefused dig k c a → a ≢ OutOfMemory → ⊥
     learns_or_not {k} x at by r not_memory =
         let tree = tree_one roots x.here at in
         accepts_refused dig (subst (λ d. Accepts dig k d x.new) (x.claims.claim_is ∙ sym by.claim_is) (subst (λ l. Accepts dig l x.claim x.new) tree.1 x.accepts)) r not_memory
 
-    hashes_one : {i : ℕ} {p : PeerState} {key : HashKey} {digests : List ℕ} {calls : DeviceCalls} {e f : Effect} {m n : EngineState} → HandlesHashes dig s i p key digests calls e m → HandlesHashes dig s i p key digests calls f n → (e ≡ f) × (m ≡ n)
+    hashes_one : {i p key digests calls e f m n : _} → HandlesHashes dig s i p key digests calls e m → HandlesHashes dig s i p key digests calls f n → (e ≡ f) × (m ≡ n)
     hashes_one (unknown_root a b c d) (unknown_root w x y z) = (c ∙ sym y, d ∙ sym z)
     hashes_one (unknown_root a b c d) (no_claim g x y z) = absurd (x a)
     hashes_one (unknown_root a b c d) (refused g t k h x y z o) = absurd (a t k x)
@@ -402,25 +402,25 @@ module _ (dig : List ℕ → List ℕ) (s : EngineState) where
 
     -- ---- all of them
 
-    have_one : {i : ℕ} {p : PeerState} {piece : ℕ} {e f : Effect} {m n : EngineState} → HandlesHave s i p piece e m → HandlesHave s i p piece f n → (e ≡ f) × (m ≡ n)
+    have_one : {i p piece e f m n : _} → HandlesHave s i p piece e m → HandlesHave s i p piece f n → (e ≡ f) × (m ≡ n)
     have_one (in_range a b c) (in_range x y z) = (b ∙ sym y, c ∙ sym z)
     have_one (in_range a b c) (out_of_range x y z) = absurd (omega (arith, a, x))
     have_one (out_of_range a b c) (in_range x y z) = absurd (omega (arith, a, x))
     have_one (out_of_range a b c) (out_of_range x y z) = (b ∙ sym y, c ∙ sym z)
 
-    bits_one : {i : ℕ} {p : PeerState} {bytes : List ℕ} {e f : Effect} {m n : EngineState} → HandlesBitfield s i p bytes e m → HandlesBitfield s i p bytes f n → (e ≡ f) × (m ≡ n)
+    bits_one : {i p bytes e f m n : _} → HandlesBitfield s i p bytes e m → HandlesBitfield s i p bytes f n → (e ≡ f) × (m ≡ n)
     bits_one (right a b c) (right x y z) = (b ∙ sym y, c ∙ sym z)
     bits_one (right a b c) (wrong x y z) = absurd (x a)
     bits_one (wrong a b c) (right x y z) = absurd (a x)
     bits_one (wrong a b c) (wrong x y z) = (b ∙ sym y, c ∙ sym z)
 
-    hello_one : {h : Handshake} {e f : Effect} → HandlesHello s h e → HandlesHello s h f → e ≡ f
+    hello_one : {h e f : _} → HandlesHello s h e → HandlesHello s h f → e ≡ f
     hello_one (our_torrent a b) (our_torrent x y) = b ∙ sym y
     hello_one (our_torrent a b) (other_torrent x y) = absurd (x a)
     hello_one (other_torrent a b) (our_torrent x y) = absurd (a x)
     hello_one (other_torrent a b) (other_torrent x y) = b ∙ sym y
 
-    message_one : (i : ℕ) (p : PeerState) (msg : Sent) (calls : DeviceCalls) {e f : Effect} {m n : EngineState} → HandlesMessage dig s i p msg calls e m → HandlesMessage dig s i p msg calls f n → (e ≡ f) × (m ≡ n)
+    message_one : (i : ℕ) (p : PeerState) (msg : Sent) (calls : DeviceCalls) {e f m n : _} → HandlesMessage dig s i p msg calls e m → HandlesMessage dig s i p msg calls f n → (e ≡ f) × (m ≡ n)
     message_one i p KeepAlive calls x y = (x.1 ∙ sym y.1, x.2 ∙ sym y.2)
     message_one i p Choke calls x y = (x.1 ∙ sym y.1, x.2 ∙ sym y.2)
     message_one i p Unchoke calls x y = (x.1 ∙ sym y.1, x.2 ∙ sym y.2)
@@ -436,7 +436,7 @@ module _ (dig : List ℕ → List ℕ) (s : EngineState) where
     message_one i p (HashReject key) calls x y =
         (x.1 ∙ sym y.1, x.2.after ∙ ap (λ h. with_peer s i (record p { hash = h })) (resolves_one x.2.resolves y.2.resolves) ∙ sym y.2.after)
 
-    pub event_one : (i : ℕ) (p : PeerState) (event : WireEvent) (calls : DeviceCalls) {e f : Effect} {m n : EngineState} → Handles dig s i p event calls e m → Handles dig s i p event calls f n → (e ≡ f) × (m ≡ n)
+    pub event_one : (i : ℕ) (p : PeerState) (event : WireEvent) (calls : DeviceCalls) {e f m n : _} → Handles dig s i p event calls e m → Handles dig s i p event calls f n → (e ≡ f) × (m ≡ n)
     event_one i p (Hello h) calls x y = (hello_one x.1 y.1, x.2 ∙ sym y.2)
     event_one i p (Message msg) calls x y = message_one i p msg calls x y
     event_one i p (Skipped kind) calls x y = (x.1 ∙ sym y.1, x.2 ∙ sym y.2)

@@ -50,7 +50,7 @@ interest_plain p true false = refl
 interest_plain p false true = refl
 interest_plain p false false = refl
 
-pub interest_one : {s t : EngineState} {p q : PeerState} {f g : List Sent} {a b : PeerState} → Alike s t → AlikePeers p q → TellsInterest s p f a → TellsInterest t q g b → (f ≡ g) × AlikePeers a b
+pub interest_one : {s t p q f g a b : _} → Alike s t → AlikePeers p q → TellsInterest s p f a → TellsInterest t q g b → (f ≡ g) × AlikePeers a b
 interest_one {s} {t} {p} {q} {a} {b} same peers x y =
     let now : a.am_interested ≡ b.am_interested
     = bool_one _ _ a.am_interested b.am_interested (interesting_in s t p q same peers) (interesting_in t s q p (sym same) (sym peers)) x.interest y.interest in (
@@ -62,7 +62,7 @@ interest_one {s} {t} {p} {q} {a} {b} same peers x y =
 -- ---- the hash request
 
 module _ (dig : List ℕ → List ℕ) where
-  needs_in : {s t : EngineState} {p q : PeerState} {b : BlockId} → Alike s t → AlikePeers p q → NeedsLeaf dig s p b → NeedsLeaf dig t q b
+  needs_in : {s t p q b : _} → Alike s t → AlikePeers p q → NeedsLeaf dig s p b → NeedsLeaf dig t q b
   needs_in {s} {t} {p} {q} {b} same peers x = record {
     has = has_in s t p q b same peers x.has;
     not_marked = elim x.not_marked [ inl e ↦ inl (state_in s t b same ∙ e) | inr e ↦ inr (state_in s t b same ∙ e) ];
@@ -71,7 +71,7 @@ module _ (dig : List ℕ → List ℕ) where
     unknown = x.unknown;
   }
 
-  least_one : {s t : EngineState} {p q : PeerState} {b c : BlockId} → Alike s t → AlikePeers p q → IsLeastNeed dig s p b → IsLeastNeed dig t q c → b ≡ c
+  least_one : {s t p q b c : _} → Alike s t → AlikePeers p q → IsLeastNeed dig s p b → IsLeastNeed dig t q c → b ≡ c
   least_one {b} {c} same peers x y =
       let not_first = y.least b (needs_in same peers x.needs) in
       let not_second = x.least c (needs_in (sym same) (sym peers) y.needs) in
@@ -85,12 +85,12 @@ module _ (dig : List ℕ → List ℕ) where
       ] in
       ap (λ n. record b { file = n }) file ∙ ap (λ n. record c { block = n }) block
 
-  plan_one : {k : Facts} {leaf : ℕ} {a b : HashKey} → IsPlan k leaf a → IsPlan k leaf b → a ≡ b
+  plan_one : {k leaf a b : _} → IsPlan k leaf a → IsPlan k leaf b → a ≡ b
   plan_one {k} {leaf} x y =
       let anchor : x.anchor ≡ y.anchor = anchor_one x.nearest y.nearest in
       x.key_is ∙ ap (planned_key k leaf) anchor ∙ sym y.key_is
 
-  pub hash_one : {s t : EngineState} {p q : PeerState} {f g : List Sent} {a b : PeerState} → Alike s t → AlikePeers p q → RequestsHashes dig s p f a → RequestsHashes dig t q g b → (f ≡ g) × AlikePeers a b
+  pub hash_one : {s t p q f g a b : _} → Alike s t → AlikePeers p q → RequestsHashes dig s p f a → RequestsHashes dig t q g b → (f ≡ g) × AlikePeers a b
   hash_one {t} {q} same peers (requests c k x idle least hung plan sent new) (requests d l y idle2 least2 hung2 plan2 sent2 new2) =
       let block : c ≡ d = least_one same peers least least2 in
       let there : tree_of t c.file ≡ Some k = ap (λ (z : EngineState). tree_of z c.file) (sym same) ∙ hung in
@@ -127,7 +127,7 @@ other_append xs ys = filter-append (λ (x : Sent). not (is_block_request x.frame
 -- ---- all three
 
 module _ (dig : List ℕ → List ℕ) where
-  pub follows_one : {s t : EngineState} {i : ℕ} {f g : List Sent} {a b : EngineState} → Alike s t → FollowsUp dig s i f a → FollowsUp dig t i g b → (other_frames f ≡ other_frames g) × Alike a b
+  pub follows_one : {s t i f g a b : _} → Alike s t → FollowsUp dig s i f a → FollowsUp dig t i g b → (other_frames f ≡ other_frames g) × Alike a b
   follows_one {s} {t} {i} same x y =
       let peer : AlikePeers x.peer y.peer = same_some
       (ap (λ (z : EngineState). slice_get z.peers i) (sym same) ∙ map_get asked_nothing s.peers i x.here) (map_get asked_nothing t.peers i y.here) in
@@ -141,7 +141,7 @@ module _ (dig : List ℕ → List ℕ) where
             ∙ ap (λ (z : EngineState). record z { peers = slice_set z.peers i (asked_nothing y.planned) }) same ∙ sym (plain t y.planned y.blocks y.after),
       )
     where
-      plain : (r : EngineState) {m : EngineState} (p : PeerState) (blocks : List BlockId) → m ≡ record r { peers = slice_set r.peers i (record p { asked = p.asked ++ blocks }) }
+      plain : (r : EngineState) {m : _} (p : PeerState) (blocks : List BlockId) → m ≡ record r { peers = slice_set r.peers i (record p { asked = p.asked ++ blocks }) }
           → without_asked m ≡ record (without_asked r) { peers = slice_set (map asked_nothing r.peers) i (asked_nothing p) }
       plain r p blocks e = ap without_asked e ∙ ap (λ ps. record r { peers = ps }) (map_slice_set asked_nothing r.peers i (record p { asked = p.asked ++ blocks }))
 

@@ -33,7 +33,7 @@ out_is {a} {b} e f g = ap (λ l. record a { send = l }) e ∙ ap (λ c. record {
 
 module _ (dig : List ℕ → List ℕ) where
   module _ {s : EngineState} (key : PeerKey) (calls : DeviceCalls) (lay : IsLaidOut s.torrent.piece_length s.torrent.files) (roots : AllPairs (λ (j k : Facts). j.root ≢ k.root) s.trees) (o : IsOrderly s) where
-    taken_one : {i : ℕ} {p : PeerState} {e f : Effect} {m n : EngineState} → TakesEvent dig s i p calls e m → TakesEvent dig s i p calls f n → (e ≡ f) × (m ≡ n)
+    taken_one : {i p e f m n : _} → TakesEvent dig s i p calls e m → TakesEvent dig s i p calls f n → (e ≡ f) × (m ≡ n)
     taken_one {i} {p} {f} {n} x y =
         let same = takes_one x.takes y.takes in
         let handles : Handles dig (with_peer s i (record p { stream = x.rest })) i (record p { stream = x.rest }) x.event calls f n
@@ -41,16 +41,16 @@ module _ (dig : List ℕ → List ℕ) where
         (subst (λ w. Handles dig (with_peer s i (record p { stream = y.rest })) i (record p { stream = y.rest }) w calls f n) (sym same.0) y.handles) in
         event_one dig (with_peer s i (record p { stream = x.rest })) lay roots i (record p { stream = x.rest }) x.event calls x.handles handles
 
-    move_on : {i j : ℕ} {p q : PeerState} {out : Output} {new : EngineState} → (i ≡ j) × (p ≡ q) → GoesOn dig s i p calls out new → GoesOn dig s j q calls out new
+    move_on : {i j p q out new : _} → (i ≡ j) × (p ≡ q) → GoesOn dig s i p calls out new → GoesOn dig s j q calls out new
     move_on {j} {p} {out} {new} same g = subst (λ r. GoesOn dig s j r calls out new) same.1 (subst (λ n. GoesOn dig s n p calls out new) same.0 g)
 
-    move_close : {i j : ℕ} {p q : PeerState} {out : Output} {new : EngineState} → (i ≡ j) × (p ≡ q) → Closes dig s i p calls out new → Closes dig s j q calls out new
+    move_close : {i j p q out new : _} → (i ≡ j) × (p ≡ q) → Closes dig s i p calls out new → Closes dig s j q calls out new
     move_close {j} {p} {out} {new} same g = subst (λ r. Closes dig s j r calls out new) same.1 (subst (λ n. Closes dig s n p calls out new) same.0 g)
 
-    move_fault : {i j : ℕ} {p q : PeerState} {out : Output} {new : EngineState} → (i ≡ j) × (p ≡ q) → ShowsFault s i p calls out new → ShowsFault s j q calls out new
+    move_fault : {i j p q out new : _} → (i ≡ j) × (p ≡ q) → ShowsFault s i p calls out new → ShowsFault s j q calls out new
     move_fault {j} {p} {out} {new} same g = subst (λ r. ShowsFault s j r calls out new) same.1 (subst (λ n. ShowsFault s n p calls out new) same.0 g)
 
-    close_one : {i : ℕ} {p : PeerState} {out other : Output} {new old : EngineState} → Closes dig s i p calls out new → Closes dig s i p calls other old → (out ≡ other) × (new ≡ old)
+    close_one : {i p out other new old : _} → Closes dig s i p calls out new → Closes dig s i p calls other old → (out ≡ other) × (new ≡ old)
     close_one {i} x y =
         let same = taken_one x.takes y.takes in
         let why : Some x.why ≡ Some y.why = sym x.closed ∙ ap (λ (e : Effect). e.close) same.0 ∙ y.closed in (
@@ -58,7 +58,7 @@ module _ (dig : List ℕ → List ℕ) where
           x.after ∙ ap (without_peer i) same.1 ∙ sym y.after,
         )
 
-    fault_one : {i : ℕ} {p : PeerState} {out other : Output} {new old : EngineState} → ShowsFault s i p calls out new → ShowsFault s i p calls other old → (out ≡ other) × (new ≡ old)
+    fault_one : {i p out other new old : _} → ShowsFault s i p calls out new → ShowsFault s i p calls other old → (out ≡ other) × (new ≡ old)
     fault_one x y =
         (x.is ∙ ap (λ f. record { send = []; close = Some (Wire f); notes = [] }) (fails_one x.fails y.fails) ∙ sym y.is, x.after ∙ sym y.after)
 
@@ -68,7 +68,7 @@ module _ (dig : List ℕ → List ℕ) where
       pub follows : FollowsUp dig (with_pending s mid effect.proofs) i sent other
       pub is : another ≡ Ok (Some (record { send = effect.send ++ haves s mid ++ sent; close = None; notes = effect.notes ++ map (λ file. Complete file) (new_complete_files s mid) }))
 
-    pub next_goes : {i : ℕ} {p : PeerState} {effect : Effect} {mid : EngineState} {another : Result (Option Output) EngineError} {other : EngineState} → IsPeer s key i p → TakesEvent dig s i p calls effect mid → effect.close ≡ None
+    pub next_goes : {i p effect mid another other : _} → IsPeer s key i p → TakesEvent dig s i p calls effect mid → effect.close ≡ None
         → StepNext dig s key calls another other → another ≢ Err OutOfMemory → GoesWith i effect mid another other
     next_goes {i} {p} is takes stays (no_peer h c a e) room = absurd (h i p is)
     next_goes is takes stays (waits j q q_is w c a e) room = absurd (takes_waits takes.takes (subst (λ r. Waits r.stream) (peer_one o q_is is).1 w))
@@ -124,7 +124,7 @@ module _ (dig : List ℕ → List ℕ) where
             );
       }
 
-    pub next_one : {answer another : Result (Option Output) EngineError} {new other : EngineState} → StepNext dig s key calls answer new → StepNext dig s key calls another other → answer ≢ Err OutOfMemory → another ≢ Err OutOfMemory
+    pub next_one : {answer another new other : _} → StepNext dig s key calls answer new → StepNext dig s key calls another other → answer ≢ Err OutOfMemory → another ≢ Err OutOfMemory
         → AreOne (of_next answer) new (of_next another) other
     next_one (no_memory i p is g a) y memory room = absurd (memory a)
     next_one x (no_memory i p is g a) memory room = absurd (room a)

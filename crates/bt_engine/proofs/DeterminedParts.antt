@@ -32,24 +32,24 @@ use Rattle.bt_engine.proofs.AnswerDue.{same_taking}
 
 -- ---- streams
 
-pub takes_one : {s : Stream} {e f : WireEvent} {r t : Stream} → Takes s e r → Takes s f t → (e ≡ f) × (r ≡ t)
+pub takes_one : {s e f r t : _} → Takes s e r → Takes s f t → (e ≡ f) × (r ≡ t)
 takes_one a b = let same = same_taking a b in (same.event_is, same.rest_is)
 
-pub takes_waits : {s : Stream} {e : WireEvent} {r : Stream} → Takes s e r → Waits s → ⊥
+pub takes_waits : {s e r : _} → Takes s e r → Waits s → ⊥
 takes_waits {e} {r} a w = w.no_event e a.bytes r.unread a.event a.front
 
-pub takes_fails : {s : Stream} {e : WireEvent} {fault : WireError} {r t : Stream} → Takes s e r → Fails s fault t → ⊥
+pub takes_fails : {s e fault r t : _} → Takes s e r → Fails s fault t → ⊥
 takes_fails {s} {e} {fault} {r} a f = fault_alone s.greeted s.unread fault f.shown e a.bytes r.unread a.event a.front
 
-pub waits_fails : {s : Stream} {fault : WireError} {t : Stream} → Waits s → Fails s fault t → ⊥
+pub waits_fails : {s fault t : _} → Waits s → Fails s fault t → ⊥
 waits_fails {fault} w f = w.no_fault fault f.shown
 
-pub fails_one : {s : Stream} {fault other : WireError} {r t : Stream} → Fails s fault r → Fails s other t → fault ≡ other
+pub fails_one : {s fault other r t : _} → Fails s fault r → Fails s other t → fault ≡ other
 fails_one {s} {fault} {other} a b = one_fault s.greeted s.unread fault other a.shown b.shown
 
 -- ---- peers and trees, by their keys and roots
 
-pub peer_one : {s : EngineState} {key : PeerKey} {i j : ℕ} {p q : PeerState} → IsOrderly s → IsPeer s key i p → IsPeer s key j q → (i ≡ j) × (p ≡ q)
+pub peer_one : {s key i j p q : _} → IsOrderly s → IsPeer s key i p → IsPeer s key j q → (i ≡ j) × (p ≡ q)
 peer_one {s} {i} {j} {p} {q} o a b =
     let keys : p.key.0 ≡ q.key.0 = ap (λ k. k.0) (a.same_key ∙ sym b.same_key) in
     let pairs = to_pairs (λ (x y : PeerState). x.key.0 < y.key.0) s.peers o.in_order in
@@ -62,7 +62,7 @@ peer_one {s} {i} {j} {p} {q} o a b =
     ] in
     (place, same_some (ap (slice_get s.peers) (sym place) ∙ a.here) b.here)
 
-pub tree_one : {s : EngineState} {root : List ℕ} {t u : ℕ} {k l : Facts} → AllPairs (λ j k. j.root ≢ k.root) s.trees → IsTreeOf s root t k → IsTreeOf s root u l → (t ≡ u) × (k ≡ l)
+pub tree_one : {s : EngineState} {root t u k l : _} → AllPairs (λ j k. j.root ≢ k.root) s.trees → IsTreeOf s root t k → IsTreeOf s root u l → (t ≡ u) × (k ≡ l)
 tree_one {s} {t} {u} apart a b =
     let pairs = to_pairs (λ (x y : Facts). x.root ≢ y.root) s.trees apart in
     let place : t ≡ u = elim (cases_lt t u) [
@@ -75,7 +75,7 @@ tree_one {s} {t} {u} apart a b =
     (place, same_some (ap (slice_get s.trees) (sym place) ∙ a.here) b.here)
 
 -- the nearest held node
-pub anchor_one : {k : Facts} {leaf a b : ℕ} → IsAnchor k leaf a → IsAnchor k leaf b → a ≡ b
+pub anchor_one : {k leaf a b : _} → IsAnchor k leaf a → IsAnchor k leaf b → a ≡ b
 anchor_one {a} {b} x y = elim (cases_lt a b) [
   | inl lt ↦ absurd (some_not_none x.held (y.nearest a lt))
   | inr le ↦ elim (cases_lt b a) [ inl lt ↦ absurd (some_not_none y.held (x.nearest b lt)) | inr ge ↦ omega (arith, le, ge) ]
@@ -94,28 +94,28 @@ facts_is {a} {b} size root nodes =
     ap (λ x. record a { file_length = x }) size ∙ ap (λ x. record a { file_length = b.file_length; root = x }) root ∙ ap (λ x. record b { nodes = x }) nodes
 
 module _ (dig : List ℕ → List ℕ) where
-  accepted_in : {k : Facts} {c : Claim} {a b : Facts} → Accepts dig k c a → Accepts dig k c b → (layer i : ℕ) (d : List ℕ) → held_at a layer i ≡ Some d → held_at b layer i ≡ Some d
+  accepted_in : {k c a b : _} → Accepts dig k c a → Accepts dig k c b → (layer i : ℕ) (d : List ℕ) → held_at a layer i ≡ Some d → held_at b layer i ≡ Some d
   accepted_in x y layer i d e = elim (x.joins.only layer i d e) [ inl old ↦ y.joins.kept layer i d old | inr new ↦ y.joins.added layer i d new.0 new.1 ]
 
-  pub accepts_one : {k : Facts} {c : Claim} {a b : Facts} → Accepts dig k c a → Accepts dig k c b → a ≡ b
+  pub accepts_one : {k c a b : _} → Accepts dig k c a → Accepts dig k c b → a ≡ b
   accepts_one {a} {b} x y = facts_is (x.joins.file_length ∙ sym y.joins.file_length) (x.joins.root ∙ sym y.joins.root)
       (same_map a.nodes b.nodes (λ q. both_ways (held_at a q.0 q.1) (held_at b q.0 q.1) (accepted_in x y q.0 q.1) (accepted_in y x q.0 q.1)))
 
   -- an answer's digests are one list
-  pub answer_one : {k : Facts} {base index count layers : ℕ} {ds es : List (List ℕ)} → IsAnswer dig k base index count layers ds → IsAnswer dig k base index count layers es → ds ≡ es
+  pub answer_one : {k base index count layers ds es : _} → IsAnswer dig k base index count layers ds → IsAnswer dig k base index count layers es → ds ≡ es
   answer_one {ds} {es} a b =
       ext_get_or [] ds es (a.size ∙ sym b.size) (λ t lt. same_some (a.values t lt) (b.values t (omega (arith, lt, a.size, b.size))))
 
   -- ---- refusals
 
   -- what is known of a node and what an acceptable claim says of it are one
-  agrees : {k : Facts} {c : Claim} → IsAcceptable dig k c → {layer i : ℕ} {d e : List ℕ} → value_at dig k layer i ≡ Some d → Claims dig c layer i e → d ≡ e
+  agrees : {k c : _} → IsAcceptable dig k c → {layer i d e : _} → value_at dig k layer i ≡ Some d → Claims dig c layer i e → d ≡ e
   agrees {k} ok {layer} {i} {d} {e} value claim = elim (cases_node (blocks_of k) layer i (value_inside dig k layer i d value)) [
     | inl covers ↦ ok.agrees layer i e d claim (sym (value_covers dig k layer i covers) ∙ value)
     | inr past ↦ (let pad = ok.padding layer i e claim past in same_some value (value_padding dig k layer i past) ∙ sym pad)
   ]
 
-  no_difference : {k : Facts} {c : Claim} → IsAcceptable dig k c → {layer i : ℕ} {ours theirs : List ℕ} → DiffersBelow dig k c layer i ours theirs → ⊥
+  no_difference : {k c : _} → IsAcceptable dig k c → {layer i ours theirs : _} → DiffersBelow dig k c layer i ours theirs → ⊥
   no_difference ok d = elim d.differ [
     | inl left ↦ left (agrees ok d.knows_left d.claims_left)
     | inr right ↦ right (agrees ok d.knows_right d.claims_right)
@@ -124,7 +124,7 @@ module _ (dig : List ℕ → List ℕ) where
   none_some : {X : Type 0} {o : Option X} {x : X} → o ≡ None → o ≡ Some x → ⊥
   none_some e f = let no = sym e ∙ f in absurd cc
 
-  pub accepts_refused : {k : Facts} {c : Claim} {new : Facts} {fault : ProofError} → Accepts dig k c new → IsRefused dig k c fault → fault ≢ OutOfMemory → ⊥
+  pub accepts_refused : {k c new fault : _} → Accepts dig k c new → IsRefused dig k c fault → fault ≢ OutOfMemory → ⊥
   accepts_refused a (shape not_shape) other = not_shape a.conditions.shape
   accepts_refused a (padding ok not_padding) other = not_padding a.conditions.padding
   accepts_refused a (no_anchor ok pads none) other = none_some none a.conditions.top
@@ -133,7 +133,7 @@ module _ (dig : List ℕ → List ℕ) where
   accepts_refused a (no_memory ok) other = other refl
 
   -- the highest difference is one
-  same_inputs : {k : Facts} {c : Claim} {layer i : ℕ} {o t p u : List ℕ} → DiffersBelow dig k c layer i o t → DiffersBelow dig k c layer i p u → (o ≡ p) × (t ≡ u)
+  same_inputs : {k c layer i o t p u : _} → DiffersBelow dig k c layer i o t → DiffersBelow dig k c layer i p u → (o ≡ p) × (t ≡ u)
   same_inputs {k} {c} {i} a b =
       let below : a.below ≡ b.below = omega (arith, a.above, b.above) in
       let ol : a.our_left ≡ b.our_left = same_some (ap (λ n. value_at dig k n (2 * i)) (sym below) ∙ a.knows_left) b.knows_left in
@@ -144,7 +144,7 @@ module _ (dig : List ℕ → List ℕ) where
         a.is_theirs ∙ ap (λ x. x ++ a.their_right) tl ∙ ap (λ x. b.their_left ++ x) tr ∙ sym b.is_theirs,
       )
 
-  clash_one : {k : Facts} {c : Claim} {layer i : ℕ} {o t : List ℕ} {l j : ℕ} {p u : List ℕ} → IsHighestClash dig k c layer i o t → IsHighestClash dig k c l j p u → Clash layer i o t ≡ Clash l j p u
+  clash_one : {k c layer i o t l j p u : _} → IsHighestClash dig k c layer i o t → IsHighestClash dig k c l j p u → Clash layer i o t ≡ Clash l j p u
   clash_one {k} {c} {layer} {i} {o} {t} {l} {j} {p} {u} a b =
       let one = a.highest l j p u b.differs in
       let two = b.highest layer i o t a.differs in
@@ -156,7 +156,7 @@ module _ (dig : List ℕ → List ℕ) where
       let inputs = same_inputs moved b.differs in
       ap (λ n. Clash n i o t) place.0 ∙ ap (λ n. Clash l n o t) place.1 ∙ ap (λ x. Clash l j x t) inputs.0 ∙ ap (λ x. Clash l j p x) inputs.1
 
-  pub refused_one : {k : Facts} {c : Claim} {f g : ProofError} → IsRefused dig k c f → IsRefused dig k c g → f ≢ OutOfMemory → g ≢ OutOfMemory → f ≡ g
+  pub refused_one : {k c f g : _} → IsRefused dig k c f → IsRefused dig k c g → f ≢ OutOfMemory → g ≢ OutOfMemory → f ≡ g
   refused_one (no_memory x) b m n = absurd (m refl)
   refused_one a (no_memory x) m n = absurd (n refl)
   refused_one (shape x) (shape y) m n = refl
@@ -185,7 +185,7 @@ module _ (dig : List ℕ → List ℕ) where
   refused_one (clash l i o t x p e v) (top_differs d y q h w) m n = absurd (w (same_some h e))
   refused_one (clash l i o t x p e v) (clash l2 i2 o2 t2 y q h w) m n = clash_one v w
 
-pub no_claim_one : {key : HashKey} {digests : List ℕ} {f g : ProofError} → IsNoClaim key digests f → IsNoClaim key digests g → f ≢ OutOfMemory → g ≢ OutOfMemory → f ≡ g
+pub no_claim_one : {key digests f g : _} → IsNoClaim key digests f → IsNoClaim key digests g → f ≢ OutOfMemory → g ≢ OutOfMemory → f ≡ g
 no_claim_one (no_room x y) b m n = absurd (m refl)
 no_claim_one a (no_room x y) m n = absurd (n refl)
 no_claim_one (no_shape x) (no_shape y) m n = refl
@@ -193,7 +193,7 @@ no_claim_one (no_shape x) (no_count y z) m n = absurd (x y)
 no_claim_one (no_count x z) (no_shape y) m n = absurd (y x)
 no_claim_one (no_count x z) (no_count y w) m n = refl
 
-pub claim_or_not : {key : HashKey} {digests : List ℕ} {f : ProofError} {c : Claim} → IsNoClaim key digests f → IsClaimBy key digests c → f ≢ OutOfMemory → ⊥
+pub claim_or_not : {key digests f c : _} → IsNoClaim key digests f → IsClaimBy key digests c → f ≢ OutOfMemory → ⊥
 claim_or_not (no_shape x) y m = x y.shape
 claim_or_not (no_count x z) y m = z y.size
 claim_or_not (no_room x z) y m = m refl

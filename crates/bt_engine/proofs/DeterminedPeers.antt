@@ -69,14 +69,14 @@ bytes_one (x ∷ xs) (y ∷ ys) p q size e =
     ap (λ z. z ∷ xs) (byte_one (p 0 x (omega arith)) (q 0 y (omega arith)) parts.0)
     ∙ ap (λ zs. y ∷ zs) (bytes_one xs ys (λ k d lt. p (suc k) d (omega (arith, lt))) (λ k d lt. q (suc k) d (omega (arith, lt))) (omega (arith, size)) parts.1)
 
-bitfield_one : {s : EngineState} {xs ys : List ℕ} → IsOurBitfield s xs → IsOurBitfield s ys → xs ≡ ys
+bitfield_one : {s xs ys : _} → IsOurBitfield s xs → IsOurBitfield s ys → xs ≡ ys
 bitfield_one {s} {xs} {ys} x y =
     let size : length xs ≡ length ys = x.size ∙ sym y.size in
     bytes_one xs ys x.are_bytes y.are_bytes size (x.bits ∙ ap (λ n. map (is_whole s) (piece_numbers s) ++ replicate (8 * n - total_pieces s.torrent) false) size ∙ sym y.bits)
 
 -- ---- peers that come and go
 
-pub connect_one : {s m n : EngineState} {a b : Result (PeerKey × Output) ConnectError} → StepConnect s a m → StepConnect s b n → a ≢ Err no_room_to_connect → b ≢ Err no_room_to_connect → AreOne (of_connect a) m (of_connect b) n
+pub connect_one : {s m n a b : _} → StepConnect s a m → StepConnect s b n → a ≢ Err no_room_to_connect → b ≢ Err no_room_to_connect → AreOne (of_connect a) m (of_connect b) n
 connect_one (no_memory x y z w) q r t = absurd (r z)
 connect_one q (no_memory x y z w) r t = absurd (t z)
 connect_one {s} (joins key bytes lt below is bits e f) (joins other more lt2 below2 is2 bits2 e2 f2) r t =
@@ -93,7 +93,7 @@ connect_one (spent x y z w) (joins key bytes lt below is bits e f) r t = absurd 
 connect_one (spent u v w o) (full x y z) r t = absurd (omega (arith, x, u))
 connect_one (spent x y z w) (spent u v o q) r t = are_equal (ap of_connect (z ∙ sym o)) (w ∙ sym q)
 
-pub feed_one : {s m n : EngineState} {key : PeerKey} {bytes : List ℕ} {a b : Result (Unit {0}) EngineError} → IsOrderly s → StepFeed s key bytes a m → StepFeed s key bytes b n → a ≢ Err OutOfMemory → b ≢ Err OutOfMemory
+pub feed_one : {s m n key bytes a b : _} → IsOrderly s → StepFeed s key bytes a m → StepFeed s key bytes b n → a ≢ Err OutOfMemory → b ≢ Err OutOfMemory
     → AreOne (of_feed a) m (of_feed b) n
 feed_one o (no_room_to_feed i p x y z) q r t = absurd (r y)
 feed_one o q (no_room_to_feed i p x y z) r t = absurd (t y)
@@ -104,7 +104,7 @@ feed_one o (feeds i p x y z) (not_fed u v w) r t = absurd (u i p x)
 feed_one o (not_fed u v w) (feeds i p x y z) r t = absurd (u i p x)
 feed_one o (not_fed x y z) (not_fed u v w) r t = are_equal (ap of_feed (y ∙ sym v)) (z ∙ sym w)
 
-pub lost_one : {s m n : EngineState} {key : PeerKey} {a b : Result (Unit {0}) EngineError} → IsOrderly s → StepLost s key a m → StepLost s key b n → AreOne (of_lost a) m (of_lost b) n
+pub lost_one : {s m n key a b : _} → IsOrderly s → StepLost s key a m → StepLost s key b n → AreOne (of_lost a) m (of_lost b) n
 lost_one {s} o (goes i p x y z) (goes j q u v w) = are_equal (ap of_lost (y ∙ sym v)) (z ∙ ap (λ k. without_peer k s) (peer_one o x u).0 ∙ sym w)
 lost_one o (goes i p x y z) (not_lost u v w) = absurd (u i p x)
 lost_one o (not_lost u v w) (goes i p x y z) = absurd (u i p x)
@@ -116,7 +116,7 @@ abbrev sends : EngineState → List Sent → Answer
 sends s sent = of_rechoke (Some (record { send = chokes_sent s ++ sent; close = None; notes = [] }))
 
 -- no two peers of an engine that events lead to have one key
-apart_at_first : {s : EngineState} → IsOrderly s → KeysApart (rechoked s)
+apart_at_first : {s : _} → IsOrderly s → KeysApart (rechoked s)
 apart_at_first {s} o i j p q x y e =
     let u = get_map (rechoked_peer s) s.peers i x in
     let v = get_map (rechoked_peer s) s.peers j y in
@@ -145,7 +145,7 @@ rechoke_one {dig} {s} {m} {n} {a} {b} lay o (rechokes out x e) (rechokes other y
 
 -- ---- devices
 
-no_fault_among : (files : List ℕ) {c : ℕ × Call} → Contains (syncs_of files) c → c.1 ≡ sync_fault → ⊥
+no_fault_among : (files : List ℕ) {c : _} → Contains (syncs_of files) c → c.1 ≡ sync_fault → ⊥
 no_fault_among files among e =
     let m = contains_map (λ file. (file, sync_made)) files among in
     let no : sync_made ≡ sync_fault = ap (λ (x : ℕ × Call). x.1) m.2 ∙ e in
@@ -155,7 +155,7 @@ synced_or_not : (files before : List ℕ) (file : ℕ) → syncs_of files ≡ sy
 synced_or_not files before file e =
     no_fault_among files (subst (λ cs. Contains cs (file, sync_fault)) (sym e) (Contains-append_right (syncs_of before) ((file, sync_fault) ∷ []) (file, sync_fault) (here [] refl))) refl
 
-pub flush_one : {s m n : EngineState} {calls : DeviceCalls} {a b : Result (Unit {0}) FlushError} → StepFlush s calls a m → StepFlush s calls b n → AreOne (of_flush a) m (of_flush b) n
+pub flush_one : {s m n calls a b : _} → StepFlush s calls a m → StepFlush s calls b n → AreOne (of_flush a) m (of_flush b) n
 flush_one (syncs x y z w) (syncs u v o q) = are_equal (ap of_flush (z ∙ sym o)) (w ∙ sym q)
 flush_one {s} (syncs x y z w) (fails before file after u v o q) = absurd (synced_or_not (data_files s) before file (sym y ∙ v))
 flush_one {s} (fails before file after u v o q) (syncs x y z w) = absurd (synced_or_not (data_files s) before file (sym y ∙ v))

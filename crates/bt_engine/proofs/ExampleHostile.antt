@@ -47,7 +47,7 @@ use Rattle.bt_engine.proofs.ExampleThreeEngine.{block, output_of, engine, whole_
 key_size : (root p q r s : List ℕ) → length root ≡ 32 → length p ≡ 4 → length q ≡ 4 → length r ≡ 4 → length s ≡ 4 → length (root ++ p ++ q ++ r ++ s) ≡ 48
 key_size root p q r s a b c d e = omega (arith, length-append (root ++ p ++ q ++ r) s, length-append (root ++ p ++ q) r, length-append (root ++ p) q, length-append root p, a, b, c, d, e)
 
-hashes_fit : {root digests : List ℕ} → length root ≡ 32 → length digests ≡ 128 → Fits (Hashes (record { root = root; base = 0; index = 0; length = 4; layers = 1 }) digests)
+hashes_fit : {root digests : _} → length root ≡ 32 → length digests ≡ 128 → Fits (Hashes (record { root = root; base = 0; index = 0; length = 4; layers = 1 }) digests)
 hashes_fit {root} {digests} root_size size = record {
   limit = omega (
     arith,
@@ -58,7 +58,7 @@ hashes_fit {root} {digests} root_size size = record {
   whole = ap (λ n. n % 32) size;
 }
 
-far_fits : {root : List ℕ} → length root ≡ 32 → Fits (HashRequest (record { root = root; base = 0; index = 4294967294; length = 2; layers = 0 }))
+far_fits : {root : _} → length root ≡ 32 → Fits (HashRequest (record { root = root; base = 0; index = 4294967294; length = 2; layers = 0 }))
 far_fits {root} root_size = record {
   limit = omega (arith, key_size root (to_be_bytes w32 0) (to_be_bytes w32 4294967294) (to_be_bytes w32 2) (to_be_bytes w32 0) root_size refl refl refl refl);
   whole = tt;
@@ -74,11 +74,11 @@ module _ (dig : List ℕ → List ℕ) (b : ThreeBlocks) (infohash : List ℕ) w
   abbrev fed_peer : List ℕ → PeerState
   fed_peer bytes = record peer { stream = stream bytes true false }
 
-  fed_leaves_peer : {bytes : List ℕ} → StepFeed (before_leaves peer) first_key bytes (Ok tt) (before_leaves (fed_peer bytes))
+  fed_leaves_peer : {bytes : _} → StepFeed (before_leaves peer) first_key bytes (Ok tt) (before_leaves (fed_peer bytes))
   fed_leaves_peer = fed_to dig b infohash (at_first dig b) Missing Missing Missing peer refl refl
 
   -- a message that closes the peer, however it is taken
-  closes_on : {m : Message} (why : Why) → IsMessage m → Fits m → HandlesMessage dig (before_leaves peer) 0 peer m [] (closing why) (before_leaves peer) → ClosesOn dig (empty_engine dig b infohash (root_alone dig b)) peer (message_spelling m) why
+  closes_on : {m : _} (why : Why) → IsMessage m → Fits m → HandlesMessage dig (before_leaves peer) 0 peer m [] (closing why) (before_leaves peer) → ClosesOn dig (empty_engine dig b infohash (root_alone dig b)) peer (message_spelling m) why
   closes_on {m} why is fits handles = (
     before_leaves (fed_peer (message_spelling m)),
     (_, refl, refl, fed_leaves_peer),
@@ -110,7 +110,7 @@ module _ (dig : List ℕ → List ℕ) (b : ThreeBlocks) (infohash : List ℕ) w
       (λ idle. absurd cc) (λ open_to. absurd cc) (omega arith)
 
   -- a message that changes nothing, but may be answered and noted
-  stays_on : {m : Message} (sent : List Sent) (notes : List Note) → IsMessage m → Fits m → HandlesMessage dig (before_leaves peer) 0 peer m [] (record { send = sent; close = None; notes = notes; proofs = [] }) (before_leaves peer)
+  stays_on : {m : _} (sent : List Sent) (notes : List Note) → IsMessage m → Fits m → HandlesMessage dig (before_leaves peer) 0 peer m [] (record { send = sent; close = None; notes = notes; proofs = [] }) (before_leaves peer)
       → StaysOn dig (empty_engine dig b infohash (root_alone dig b)) peer (message_spelling m) sent notes
   stays_on {m} sent notes is fits handles = (
     before_leaves (fed_peer (message_spelling m)),
@@ -173,7 +173,7 @@ module _ (dig : List ℕ → List ℕ) (b : ThreeBlocks) (infohash : List ℕ) w
   unfolding height_up_to
   not_answered digests a = absurd (far (small a.here) a.request)
     where
-      small : {tree : ℕ} {k : Facts} → IsTreeOf (before_leaves peer) (three_root dig b) tree k → height k ≡ 2
+      small : {tree k : _} → IsTreeOf (before_leaves peer) (three_root dig b) tree k → height k ≡ 2
       small {tree} is = ap height (sym (one_there tree is.here).1)
 
       far : {h : ℕ} → h ≡ 2 → IsRequest h 0 4294967294 2 0 → ⊥
@@ -197,7 +197,7 @@ module _ (dig : List ℕ → List ℕ) (b : ThreeBlocks) (infohash : List ℕ) w
         claim_is = c.claim_is;
       }
 
-  key_is : {root : List ℕ} → length root ≡ 32 → IsKey (record { root = root; base = 0; index = 0; length = 4; layers = 1 })
+  key_is : {root : _} → length root ≡ 32 → IsKey (record { root = root; base = 0; index = 0; length = 4; layers = 1 })
   key_is {root} size = record { root = size; base = omega arith; index = omega arith; length = omega arith; layers = omega arith }
 
 pub hostile_are_runs : (dig : List ℕ → List ℕ) → IsDigest dig → HostileMessagesAreRuns dig

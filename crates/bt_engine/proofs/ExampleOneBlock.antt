@@ -49,7 +49,7 @@ unfolding value_at height_up_to
 value_here dig = digest_at_new finite.empty 0 0 (dig abc)
 
 -- there is one block
-one_block : {x y : BlockState} (f i : ℕ) → option_and_then (λ (q : FileState). slice_get q.states i) (slice_get ((record { tree = 0; states = x ∷ [] }) ∷ []) f) ≡ Some y → (f ≡ 0) × (i ≡ 0) × (x ≡ y)
+one_block : {x y : _} (f i : ℕ) → option_and_then (λ (q : FileState). slice_get q.states i) (slice_get ((record { tree = 0; states = x ∷ [] }) ∷ []) f) ≡ Some y → (f ≡ 0) × (i ≡ 0) × (x ≡ y)
 one_block zero zero e = (refl, refl, some_is e)
 one_block zero (suc i) e = absurd cc
 one_block (suc f) i e = absurd cc
@@ -93,7 +93,7 @@ module _ (dig : List ℕ → List ℕ) (infohash : List ℕ) where
   none_missing p b e = let one = one_block b.file b.block e in let wrong : Marked ≡ Missing = one.2 in absurd cc
 
   -- what follows where nothing is requested
-  quietly : (x : BlockState) (p : PeerState) {q : PeerState} {sent : List Sent} → q ≡ record p { am_interested = q.am_interested } → ((q.am_interested ≡ true) ↔ IsInteresting (engine x p) p) → sent ≡ interest_sent p p.am_interested q.am_interested
+  quietly : (x : BlockState) (p : PeerState) {q sent : _} → q ≡ record p { am_interested = q.am_interested } → ((q.am_interested ≡ true) ↔ IsInteresting (engine x p) p) → sent ≡ interest_sent p p.am_interested q.am_interested
       → (q.peer_choking ≡ true) ⊎ (q.am_interested ≡ false) → length q.asked + 0 ≤ 16 → FollowsUp dig (engine x p) 0 sent (engine x q)
   quietly x p {q} {sent} same due told shut few =
       record {
@@ -142,7 +142,7 @@ module _ (dig : List ℕ → List ℕ) (infohash : List ℕ) where
     | inr more ↦ contains_none more
   ]
 
-  the_one : (p : PeerState) {b : BlockId} → state_at (engine Missing p) b ≡ Some Missing → the_block ≡ b
+  the_one : (p : PeerState) {b : _} → state_at (engine Missing p) b ≡ Some Missing → the_block ≡ b
   the_one p {b} e = let one = one_block b.file b.block e in ap (λ i. block_id 0 i) (sym one.1) ∙ ap (λ f. record b { file = f }) (sym one.0)
 
   abbrev first_ask : Ask
@@ -281,7 +281,7 @@ module _ (dig : List ℕ → List ℕ) (infohash : List ℕ) where
   next_none : StepNext dig (engine Marked served_peer) first_key [] (Ok None) (engine Marked served_peer)
   next_none = waits 0 served_peer (record { here = refl; same_key = refl }) waits_empty refl refl refl
 
-  fed_to : (x : BlockState) (p : PeerState) {bytes : List ℕ} → p.key ≡ first_key → p.stream ≡ stream [] p.stream.greeted p.stream.failed
+  fed_to : (x : BlockState) (p : PeerState) {bytes : _} → p.key ≡ first_key → p.stream ≡ stream [] p.stream.greeted p.stream.failed
       → StepFeed (engine x p) first_key bytes (Ok tt) (engine x (record p { stream = stream bytes p.stream.greeted p.stream.failed }))
   fed_to x p {bytes} key empty = feeds 0 p (record { here = refl; same_key = key }) refl (ap (λ (t : Stream). engine x (record p { stream = fed t bytes })) (sym empty))
 

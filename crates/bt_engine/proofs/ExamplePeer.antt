@@ -37,7 +37,7 @@ taken_hello infohash size = record {
   not_failed = refl;
 }
 
-front_none : (body : Option Body) {bytes : List ℕ} (rest : List ℕ) → bytes ≡ frame_spelling body → [] ≡ bytes ++ rest → ⊥
+front_none : (body : Option Body) {bytes : _} (rest : List ℕ) → bytes ≡ frame_spelling body → [] ≡ bytes ++ rest → ⊥
 front_none None rest spelled same = let long = same ∙ ap (λ xs. xs ++ rest) spelled in absurd cc
 front_none (Some b) rest spelled same = let long = same ∙ ap (λ xs. xs ++ rest) spelled in absurd cc
 
@@ -55,7 +55,7 @@ waits_empty = record { running = refl; no_event = nothing; no_fault = faultless 
     faultless Failed shown = shown
 
 -- a message that was fed alone is taken, and nothing is left
-pub taken_message : {m : PeerMessage} → IsMessage m → Fits m → Takes (stream (message_spelling m) true false) (message_event m) all_taken
+pub taken_message : {m : _} → IsMessage m → Fits m → Takes (stream (message_spelling m) true false) (message_event m) all_taken
 taken_message {m} is_message fits = record {
   bytes = message_spelling m;
   event = record { is_message = is_message; fits = fits; spelled = refl };
@@ -65,7 +65,7 @@ taken_message {m} is_message fits = record {
   not_failed = refl;
 }
 
-pub piece_fits : (begin : ℕ) {bytes : List ℕ} → length bytes ≡ 16384 → Fits (Piece 0 begin bytes)
+pub piece_fits : (begin : ℕ) {bytes : _} → length bytes ≡ 16384 → Fits (Piece 0 begin bytes)
 piece_fits begin {bytes} size = record {
   limit = omega (arith, length-append (to_be_bytes w32 0 ++ to_be_bytes w32 begin) bytes, length-append (to_be_bytes w32 0) (to_be_bytes w32 begin), size);
   whole = tt;

@@ -72,7 +72,7 @@ module _ (dig : List ℕ → List ℕ) (b : ThreeBlocks) (infohash : List ℕ) (
 
   -- ---- nothing follows: each block is marked
 
-  all_marked : (turn : ℕ) (p : PeerState) (c : BlockId) {state : BlockState} → state_at (engine turn p) c ≡ Some state → state ≡ Marked
+  all_marked : (turn : ℕ) (p : PeerState) (c : BlockId) {state : _} → state_at (engine turn p) c ≡ Some state → state ≡ Marked
   all_marked turn p c {state} e = by (one_of c.file c.block e)
     where
       by : IsOne Marked Marked Marked c state → state ≡ Marked
@@ -117,7 +117,7 @@ module _ (dig : List ℕ → List ℕ) (b : ThreeBlocks) (infohash : List ℕ) (
 
   -- ---- the steps
 
-  fed_to : (turn : ℕ) (p : PeerState) {bytes : List ℕ} → p.key ≡ first_key → p.stream ≡ all_taken → StepFeed (engine turn p) first_key bytes (Ok tt) (engine turn (with_stream (stream bytes true false) p))
+  fed_to : (turn : ℕ) (p : PeerState) {bytes : _} → p.key ≡ first_key → p.stream ≡ all_taken → StepFeed (engine turn p) first_key bytes (Ok tt) (engine turn (with_stream (stream bytes true false) p))
   fed_to turn p {bytes} key empty = feeds 0 p (record { here = refl; same_key = key }) refl (ap (λ (t : Stream). engine turn (with_stream (fed t bytes) p)) (sym empty))
 
   next_interested : StepNext dig (engine 0 (with_stream (stream interested_bytes true false) (reader true false 0))) first_key [] (Ok (Some (output_of [] []))) (engine 0 (reader true true 0))

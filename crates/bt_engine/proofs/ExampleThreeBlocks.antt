@@ -43,7 +43,7 @@ module _ (dig : List ℕ → List ℕ) (b : ThreeBlocks) (infohash : List ℕ) w
       quietly dig b infohash (proved dig b) Marked Missing Missing p refl (λ e. interesting dig b infohash (proved dig b) Marked Missing Missing p (block 1) refl refl refl, λ i. refl) refl
       (λ idle c. needs_none dig b infohash Marked Missing Missing p p c) (λ e f c may. none (is_one dig b infohash (proved dig b) p may.missing) may) (omega arith)
     where
-      none : {c : BlockId} → IsOne Marked Missing Missing c Missing → ¬ IsOpen (engine dig b infohash (proved dig b) Marked Missing Missing (asked_peer Idle (block 1 ∷ block 2 ∷ []) 16384)) (asked_peer Idle (block 1 ∷ block 2 ∷ []) 16384) c
+      none : {c : _} → IsOne Marked Missing Missing c Missing → ¬ IsOpen (engine dig b infohash (proved dig b) Marked Missing Missing (asked_peer Idle (block 1 ∷ block 2 ∷ []) 16384)) (asked_peer Idle (block 1 ∷ block 2 ∷ []) 16384) c
       none (first e f) may = absurd cc
       none (second e f) may = not_open dig b infohash _ _ _ _ (asked_peer Idle (block 1 ∷ block 2 ∷ []) 16384) (0, omega arith, sym e) may
       none (third e f) may = not_open dig b infohash _ _ _ _ (asked_peer Idle (block 1 ∷ block 2 ∷ []) 16384) (1, omega arith, sym e) may
@@ -54,7 +54,7 @@ module _ (dig : List ℕ → List ℕ) (b : ThreeBlocks) (infohash : List ℕ) w
       quietly dig b infohash (proved dig b) Marked Marked Missing p refl (λ e. interesting dig b infohash (proved dig b) Marked Marked Missing p (block 2) refl refl refl, λ i. refl) refl
       (λ idle c. needs_none dig b infohash Marked Marked Missing p p c) (λ e f c may. none (is_one dig b infohash (proved dig b) p may.missing) may) (omega arith)
     where
-      none : {c : BlockId} → IsOne Marked Marked Missing c Missing → ¬ IsOpen (engine dig b infohash (proved dig b) Marked Marked Missing (asked_peer Idle (block 2 ∷ []) 32768)) (asked_peer Idle (block 2 ∷ []) 32768) c
+      none : {c : _} → IsOne Marked Marked Missing c Missing → ¬ IsOpen (engine dig b infohash (proved dig b) Marked Marked Missing (asked_peer Idle (block 2 ∷ []) 32768)) (asked_peer Idle (block 2 ∷ []) 32768) c
       none (first e f) may = absurd cc
       none (second e f) may = absurd cc
       none (third e f) may = not_open dig b infohash _ _ _ _ (asked_peer Idle (block 2 ∷ []) 32768) (0, omega arith, sym e) may

@@ -55,14 +55,14 @@ pub data IsOne (x y z : BlockState) (c : BlockId) (state : BlockState) : Type 0 
   second : c ≡ block 1 → y ≡ state → IsOne x y z c state
   third : c ≡ block 2 → z ≡ state → IsOne x y z c state
 
-pub one_of : {x y z state : BlockState} (file i : ℕ) → option_and_then (λ (f : FileState). slice_get f.states i) (slice_get ((record { tree = 0; states = x ∷ y ∷ z ∷ [] }) ∷ []) file) ≡ Some state → IsOne x y z (block_id file i) state
+pub one_of : {x y z state : _} (file i : ℕ) → option_and_then (λ (f : FileState). slice_get f.states i) (slice_get ((record { tree = 0; states = x ∷ y ∷ z ∷ [] }) ∷ []) file) ≡ Some state → IsOne x y z (block_id file i) state
 one_of zero zero e = first refl (some_is e)
 one_of zero (suc zero) e = second refl (some_is e)
 one_of zero (suc (suc zero)) e = third refl (some_is e)
 one_of zero (suc (suc (suc i))) e = absurd cc
 one_of (suc file) i e = absurd cc
 
-pub among_three : {x y z state : BlockState} {c : BlockId} → IsOne x y z c state → Contains all_three c
+pub among_three : {x y z state c : _} → IsOne x y z c state → Contains all_three c
 among_three (first e f) = (0, omega arith, sym e)
 among_three (second e f) = (1, omega arith, sym e)
 among_three (third e f) = (2, omega arith, sym e)
@@ -77,7 +77,7 @@ module _ (dig : List ℕ → List ℕ) (b : ThreeBlocks) (infohash : List ℕ) w
   abbrev pub engine : Facts → BlockState → BlockState → BlockState → PeerState → EngineState
   engine k x y z p = three_engine dig b infohash k (x ∷ y ∷ z ∷ []) (p ∷ []) 2
 
-  pub is_one : (k : Facts) {x y z state : BlockState} (p : PeerState) {c : BlockId} → state_at (engine k x y z p) c ≡ Some state → IsOne x y z c state
+  pub is_one : (k : Facts) {x y z state : _} (p : PeerState) {c : _} → state_at (engine k x y z p) c ≡ Some state → IsOne x y z c state
   is_one k p {c} e = one_of c.file c.block e
 
   pub whole_first : IsWholeBlock (three_torrent dig b infohash) 0 0 16384 (block 0)
@@ -121,7 +121,7 @@ module _ (dig : List ℕ → List ℕ) (b : ThreeBlocks) (infohash : List ℕ) w
   needs_none_of k x y z p q c none needs = has_none k x y z p q c none needs.has
 
   -- after the proof each leaf is known
-  pub all_known : {x y z state : BlockState} {c : BlockId} → IsOne x y z c state → value_at dig (proved dig b) 0 c.block ≡ None → ⊥
+  pub all_known : {x y z state c : _} → IsOne x y z c state → value_at dig (proved dig b) 0 c.block ≡ None → ⊥
   all_known (first e f) none = let both = sym none ∙ ap (λ (d : BlockId). value_at dig (proved dig b) 0 d.block) e ∙ first_known dig b in absurd cc
   all_known (second e f) none = let both = sym none ∙ ap (λ (d : BlockId). value_at dig (proved dig b) 0 d.block) e ∙ second_known dig b in absurd cc
   all_known (third e f) none = let both = sym none ∙ ap (λ (d : BlockId). value_at dig (proved dig b) 0 d.block) e ∙ third_known dig b in absurd cc
@@ -132,14 +132,14 @@ module _ (dig : List ℕ → List ℕ) (b : ThreeBlocks) (infohash : List ℕ) w
       let one = is_one (proved dig b) p is.1 in
       all_known one (ap (λ k. value_at dig k 0 c.block) (sym (same_tree one needs.hung)) ∙ needs.unknown)
     where
-      same_tree : {c : BlockId} {state : BlockState} → IsOne x y z c state → {tree : Facts} → tree_of (engine (proved dig b) x y z p) c.file ≡ Some tree → tree ≡ proved dig b
+      same_tree : {c state : _} → IsOne x y z c state → {tree : _} → tree_of (engine (proved dig b) x y z p) c.file ≡ Some tree → tree ≡ proved dig b
       same_tree (first e f) hung = sym (some_is (ap (λ (d : BlockId). tree_of (engine (proved dig b) x y z p) d.file) (sym e) ∙ hung))
       same_tree (second e f) hung = sym (some_is (ap (λ (d : BlockId). tree_of (engine (proved dig b) x y z p) d.file) (sym e) ∙ hung))
       same_tree (third e f) hung = sym (some_is (ap (λ (d : BlockId). tree_of (engine (proved dig b) x y z p) d.file) (sym e) ∙ hung))
 
   -- ---- what follows where nothing is requested
 
-  pub quietly : (k : Facts) (x y z : BlockState) (p : PeerState) {q : PeerState} {sent : List Sent} → q ≡ record p { am_interested = q.am_interested } → ((q.am_interested ≡ true) ↔ IsInteresting (engine k x y z p) p)
+  pub quietly : (k : Facts) (x y z : BlockState) (p : PeerState) {q sent : _} → q ≡ record p { am_interested = q.am_interested } → ((q.am_interested ≡ true) ↔ IsInteresting (engine k x y z p) p)
       → sent ≡ interest_sent p p.am_interested q.am_interested → (q.hash ≡ Idle → (c : BlockId) → ¬ NeedsLeaf dig (engine k x y z p) q c)
       → (q.peer_choking ≡ false → q.am_interested ≡ true → (c : BlockId) → ¬ IsOpen (engine k x y z p) q c) → length q.asked + 0 ≤ 16 → FollowsUp dig (engine k x y z p) 0 sent (engine k x y z q)
   quietly k x y z p {q} {sent} same due told known none few =
@@ -233,7 +233,7 @@ module _ (dig : List ℕ → List ℕ) (b : ThreeBlocks) (infohash : List ℕ) w
     | inr more ↦ contains_none more
   ]
 
-  pub is_open : (k : Facts) {p : PeerState} {c : BlockId} → p.asked ≡ [] → Has (engine k Missing Missing Missing p) p c → state_at (engine k Missing Missing Missing p) c ≡ Some Missing
+  pub is_open : (k : Facts) {p : PeerState} {c : _} → p.asked ≡ [] → Has (engine k Missing Missing Missing p) p c → state_at (engine k Missing Missing Missing p) c ≡ Some Missing
       → IsOpen (engine k Missing Missing Missing p) p c
   is_open k {p} {c} none has missing = record { has = has; missing = missing; free = unasked k p c none }
 
@@ -293,7 +293,7 @@ module _ (dig : List ℕ → List ℕ) (b : ThreeBlocks) (infohash : List ℕ) w
       }
 
   -- a block that this peer is asked for is not open
-  pub not_open : (k : Facts) (x y z : BlockState) (p : PeerState) {c : BlockId} → Contains p.asked c → ¬ IsOpen (engine k x y z p) p c
+  pub not_open : (k : Facts) (x y z : BlockState) (p : PeerState) {c : _} → Contains p.asked c → ¬ IsOpen (engine k x y z p) p c
   not_open k x y z p asked may = may.free (p, here [] refl, asked)
 
   -- ---- the steps
@@ -375,7 +375,7 @@ module _ (dig : List ℕ → List ℕ) (b : ThreeBlocks) (infohash : List ℕ) w
 
   -- ---- the start, and bytes that come
 
-  pub fed_to : (k : Facts) (x y z : BlockState) (p : PeerState) {bytes : List ℕ} → p.key ≡ first_key → p.stream ≡ stream [] p.stream.greeted p.stream.failed
+  pub fed_to : (k : Facts) (x y z : BlockState) (p : PeerState) {bytes : _} → p.key ≡ first_key → p.stream ≡ stream [] p.stream.greeted p.stream.failed
       → StepFeed (engine k x y z p) first_key bytes (Ok tt) (engine k x y z (record p { stream = stream bytes p.stream.greeted p.stream.failed }))
   fed_to k x y z p {bytes} key empty = feeds 0 p (record { here = refl; same_key = key }) refl (ap (λ (t : Stream). engine k x y z (record p { stream = fed t bytes })) (sym empty))
 

@@ -63,11 +63,11 @@ module _ (dig : List ℕ → List ℕ) (b : ThreeBlocks) where
   in_row (suc (suc zero)) (suc i) low under = absurd (omega (arith, under))
   in_row (suc (suc (suc above))) i low under = absurd (omega (arith, low))
 
-  run_claims : {layer i : ℕ} {d : List ℕ} → IsInRun dig leaves_claim layer i d → IsClaimed layer i d
+  run_claims : {layer i d : _} → IsInRun dig leaves_claim layer i d → IsClaimed layer i d
   unfolding height_up_to
   run_claims {layer} {i} {d} r = let same : r.above ≡ layer = omega (arith, r.here) in subst (λ l. IsClaimed l i d) same (subst (λ x. IsClaimed r.above i x) (sym r.digest) (in_row r.above i r.low r.under))
 
-  path_claims : {layer i : ℕ} {d : List ℕ} → IsOnPath dig leaves_claim layer i d → IsClaimed layer i d
+  path_claims : {layer i d : _} → IsOnPath dig leaves_claim layer i d → IsClaimed layer i d
   unfolding height_up_to path_digest row_node
   path_claims {layer} {i} {d} r = at_above r.above r.here r.within r.node r.digest
     where
@@ -75,7 +75,7 @@ module _ (dig : List ℕ → List ℕ) (b : ThreeBlocks) where
       at_above zero here within node digest = subst (λ l. IsClaimed l i d) (sym here) (subst (λ n. IsClaimed 2 n d) (sym node) (subst (λ x. IsClaimed 2 0 x) (sym digest) top))
       at_above (suc above) here within node digest = absurd (omega (arith, within))
 
-  claimed : {layer i : ℕ} {d : List ℕ} → Claims dig leaves_claim layer i d → IsClaimed layer i d
+  claimed : {layer i d : _} → Claims dig leaves_claim layer i d → IsClaimed layer i d
   claimed (in_run r) = run_claims r
   claimed (on_path r) = path_claims r
   claimed (uncle r) = absurd (omega (arith, r.within))
@@ -120,7 +120,7 @@ module _ (dig : List ℕ → List ℕ) (b : ThreeBlocks) where
       ∙ digest_at_new finite.empty 2 0 (three_root dig b)
 
   -- every node of the claim that covers a block is held
-  held_claimed : {layer i : ℕ} {d : List ℕ} → IsClaimed layer i d → CoversBlock 3 layer i → held_at proved layer i ≡ Some d
+  held_claimed : {layer i d : _} → IsClaimed layer i d → CoversBlock 3 layer i → held_at proved layer i ≡ Some d
   held_claimed first_leaf covers = held_first
   held_claimed second_leaf covers = held_second
   held_claimed third_leaf covers = held_third
@@ -130,11 +130,11 @@ module _ (dig : List ℕ → List ℕ) (b : ThreeBlocks) where
   held_claimed top covers = held_top
 
   -- and no other is
-  held_cases : {layer i : ℕ} {d : List ℕ} → held_at proved layer i ≡ Some d → (held_at at_first layer i ≡ Some d) ⊎ (IsClaimed layer i d × CoversBlock 3 layer i)
+  held_cases : {layer i d : _} → held_at proved layer i ≡ Some d → (held_at at_first layer i ≡ Some d) ⊎ (IsClaimed layer i d × CoversBlock 3 layer i)
   unfolding height_up_to
   held_cases {layer} {i} {d} held = third (digest_at_cases _ 0 2 layer i (dig b.third) d held)
     where
-      node : {l j : ℕ} {x : List ℕ} → IsClaimed l j x → CoversBlock 3 l j → (layer ≡ l) × (i ≡ j) × (d ≡ x) → (held_at at_first layer i ≡ Some d) ⊎ (IsClaimed layer i d × CoversBlock 3 layer i)
+      node : {l j x : _} → IsClaimed l j x → CoversBlock 3 l j → (layer ≡ l) × (i ≡ j) × (d ≡ x) → (held_at at_first layer i ≡ Some d) ⊎ (IsClaimed layer i d × CoversBlock 3 layer i)
       node {l} {j} is covers e = inr (
         subst (λ n. IsClaimed n i d) (sym e.0) (subst (λ n. IsClaimed l n d) (sym e.1) (subst (λ y. IsClaimed l j y) (sym e.2) is)),
         subst (λ n. CoversBlock 3 n i) (sym e.0) (subst (λ n. CoversBlock 3 l n) (sym e.1) covers),
@@ -162,7 +162,7 @@ module _ (dig : List ℕ → List ℕ) (b : ThreeBlocks) where
       third (inr rest) = second (digest_at_cases _ 0 1 layer i (dig b.second) d rest)
 
   -- at first the root is held, and nothing else
-  only_root : {layer i : ℕ} {d : List ℕ} → held_at at_first layer i ≡ Some d → (layer ≡ 2) × (i ≡ 0) × (d ≡ three_root dig b)
+  only_root : {layer i d : _} → held_at at_first layer i ≡ Some d → (layer ≡ 2) × (i ≡ 0) × (d ≡ three_root dig b)
   unfolding height_up_to
   only_root {layer} {i} {d} held = elim (digest_at_cases finite.empty 2 0 layer i (three_root dig b) d held) [
     | inl e ↦ e
@@ -178,7 +178,7 @@ module _ (dig : List ℕ → List ℕ) (b : ThreeBlocks) where
   none_below layer i low = digest_at_other finite.empty 2 0 layer i (three_root dig b) (λ e f. absurd (omega (arith, low, e))) ∙ digest_at_empty layer i
 
   -- a claimed node is one of the claim
-  claim_is : {layer i : ℕ} {d : List ℕ} → IsClaimed layer i d → Claims dig leaves_claim layer i d
+  claim_is : {layer i d : _} → IsClaimed layer i d → Claims dig leaves_claim layer i d
   unfolding row_node
   claim_is first_leaf = run_node_claims (omega arith) refl
   claim_is second_leaf = run_node_claims (omega arith) refl
@@ -190,7 +190,7 @@ module _ (dig : List ℕ → List ℕ) (b : ThreeBlocks) where
 
   -- ---- the proof of the leaves
 
-  pads : {layer i : ℕ} {d : List ℕ} → IsClaimed layer i d → IsPadding 3 layer i → d ≡ padding_digest dig layer
+  pads : {layer i d : _} → IsClaimed layer i d → IsPadding 3 layer i → d ≡ padding_digest dig layer
   unfolding padding_digest
   pads first_leaf past = absurd (omega (arith, past.past))
   pads second_leaf past = absurd (omega (arith, past.past))
@@ -200,7 +200,7 @@ module _ (dig : List ℕ → List ℕ) (b : ThreeBlocks) where
   pads right past = absurd (omega (arith, past.past))
   pads top past = absurd (omega (arith, past.past))
 
-  same_root : {layer i : ℕ} {d : List ℕ} → IsClaimed layer i d → layer ≡ 2 → d ≡ three_root dig b
+  same_root : {layer i d : _} → IsClaimed layer i d → layer ≡ 2 → d ≡ three_root dig b
   same_root first_leaf high = absurd (omega (arith, high))
   same_root second_leaf high = absurd (omega (arith, high))
   same_root third_leaf high = absurd (omega (arith, high))
@@ -287,7 +287,7 @@ module _ (dig : List ℕ → List ℕ) (sizes : IsDigest dig) (b : ThreeBlocks) 
   )
 
   -- digests of 32 bytes, one after the other
-  next_chunks : (n : ℕ) {bytes d : List ℕ} (rest : List ℕ) → bytes ≡ d ++ rest → length d ≡ 32 → first_chunks 32 (suc n) bytes ≡ d ∷ first_chunks 32 n rest
+  next_chunks : (n : ℕ) {bytes d : _} (rest : List ℕ) → bytes ≡ d ++ rest → length d ≡ 32 → first_chunks 32 (suc n) bytes ≡ d ∷ first_chunks 32 n rest
   next_chunks n {d} rest is size =
       ap (λ xs. first_chunks 32 (suc n) xs) is
       ∙ ap (λ x. x ∷ first_chunks 32 n (drop 32 (d ++ rest))) (take_at d rest 32 size)

@@ -32,7 +32,7 @@ use Rattle.bt_engine.proofs.ExampleThreeTree.{at_first, proved, leaves_claim, ac
 use Rattle.bt_engine.proofs.ExampleThreeEngine.{key_fits, leaves_fit}
 
 -- each block that is there has the state of all
-same_state : {x y : BlockState} (file i : ℕ) → option_and_then (λ (f : FileState). slice_get f.states i) (slice_get (twin_files x) file) ≡ Some y → x ≡ y
+same_state : {x y : _} (file i : ℕ) → option_and_then (λ (f : FileState). slice_get f.states i) (slice_get (twin_files x) file) ≡ Some y → x ≡ y
 same_state zero zero e = some_is e
 same_state zero (suc zero) e = some_is e
 same_state zero (suc (suc zero)) e = some_is e

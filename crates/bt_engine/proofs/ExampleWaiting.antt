@@ -55,7 +55,7 @@ pub record AreAsked (asked : List BlockId) : Type 0 where
   pub each : (c : BlockId) → Contains all_three c → Contains asked c
   pub among : (c : BlockId) → Contains asked c → Contains all_three c
 
-stays_asked : (c : BlockId) {d : BlockId} (xs : List BlockId) → is_block c d ≡ false → Contains xs d → Contains (without_block c xs) d
+stays_asked : (c : BlockId) {d : _} (xs : List BlockId) → is_block c d ≡ false → Contains xs d → Contains (without_block c xs) d
 stays_asked c [] e among = among
 stays_asked c {d} (x ∷ xs) e among = by (is_block c x) refl (stays_asked c xs e)
   where
@@ -73,7 +73,7 @@ none_within : (xs : List BlockId) → ((c : BlockId) → Contains xs c → ⊥) 
 none_within [] none = refl
 none_within (x ∷ xs) none = absurd (none x (here xs refl))
 
-pub three_cases : {c : BlockId} → Contains all_three c → (c ≡ block 0) ⊎ (c ≡ block 1) ⊎ (c ≡ block 2)
+pub three_cases : {c : _} → Contains all_three c → (c ≡ block 0) ⊎ (c ≡ block 1) ⊎ (c ≡ block 2)
 three_cases among = elim (contains_cases (block 1 ∷ block 2 ∷ []) among) [
   | inl e ↦ inl (sym e)
   | inr more ↦ elim (contains_cases (block 2 ∷ []) more) [
@@ -82,7 +82,7 @@ three_cases among = elim (contains_cases (block 1 ∷ block 2 ∷ []) among) [
   ]
 ]
 
-no_other : {c : BlockId} → Contains all_three c → not (is_block (block 0) c) ≡ true → not (is_block (block 1) c) ≡ true → not (is_block (block 2) c) ≡ true → ⊥
+no_other : {c : _} → Contains all_three c → not (is_block (block 0) c) ≡ true → not (is_block (block 1) c) ≡ true → not (is_block (block 2) c) ≡ true → ⊥
 no_other {c} among x y z = by (three_cases among)
   where
     by : (c ≡ block 0) ⊎ (c ≡ block 1) ⊎ (c ≡ block 2) → ⊥
@@ -150,7 +150,7 @@ module _ (dig : List ℕ → List ℕ) (b : ThreeBlocks) (wrong : List ℕ) (inf
         quietly dig b infohash (at_first dig b) Waiting Missing Missing p refl (λ e. interesting dig b infohash (at_first dig b) Waiting Missing Missing p (block 1) refl refl refl, λ i. refl) refl
         (λ idle. asked_already idle) (λ e f c may. none (is_one dig b infohash (at_first dig b) p may.missing) may) (omega (arith, few_one, all.few))
       where
-        none : {c : BlockId} → IsOne Waiting Missing Missing c Missing → ¬ IsOpen (engine dig b infohash (at_first dig b) Waiting Missing Missing (asked_peer asked_key (left_one asked) 16384)) (asked_peer asked_key (left_one asked) 16384) c
+        none : {c : _} → IsOne Waiting Missing Missing c Missing → ¬ IsOpen (engine dig b infohash (at_first dig b) Waiting Missing Missing (asked_peer asked_key (left_one asked) 16384)) (asked_peer asked_key (left_one asked) 16384) c
         none (first e f) may = absurd cc
         none (second e f) may = not_open dig b infohash _ _ _ _ (asked_peer asked_key (left_one asked) 16384) (subst (λ d. Contains (left_one asked) d) (sym e) second_left) may
         none (third e f) may = not_open dig b infohash _ _ _ _ (asked_peer asked_key (left_one asked) 16384) (subst (λ d. Contains (left_one asked) d) (sym e) third_left) may
@@ -161,7 +161,7 @@ module _ (dig : List ℕ → List ℕ) (b : ThreeBlocks) (wrong : List ℕ) (inf
         quietly dig b infohash (at_first dig b) Waiting Waiting Missing p refl (λ e. interesting dig b infohash (at_first dig b) Waiting Waiting Missing p (block 2) refl refl refl, λ i. refl) refl
         (λ idle. asked_already idle) (λ e f c may. none (is_one dig b infohash (at_first dig b) p may.missing) may) (omega (arith, few_one, few_two, all.few))
       where
-        none : {c : BlockId} → IsOne Waiting Waiting Missing c Missing → ¬ IsOpen (engine dig b infohash (at_first dig b) Waiting Waiting Missing (asked_peer asked_key (left_two asked) 32768)) (asked_peer asked_key (left_two asked) 32768) c
+        none : {c : _} → IsOne Waiting Waiting Missing c Missing → ¬ IsOpen (engine dig b infohash (at_first dig b) Waiting Waiting Missing (asked_peer asked_key (left_two asked) 32768)) (asked_peer asked_key (left_two asked) 32768) c
         none (first e f) may = absurd cc
         none (second e f) may = absurd cc
         none (third e f) may = not_open dig b infohash _ _ _ _ (asked_peer asked_key (left_two asked) 32768) (subst (λ d. Contains (left_two asked) d) (sym e) third_last) may
@@ -318,7 +318,7 @@ module _ (dig : List ℕ → List ℕ) (b : ThreeBlocks) (wrong : List ℕ) (inf
   abbrev pub settled : PeerState → EngineState
   settled p = engine dig b infohash (proved dig b) Marked Marked Missing p
 
-  pub only_third : (p : PeerState) {c : BlockId} → IsOne Marked Marked Missing c Missing → Contains (block 2 ∷ []) c
+  pub only_third : (p : PeerState) {c : _} → IsOne Marked Marked Missing c Missing → Contains (block 2 ∷ []) c
   only_third p (first e f) = absurd cc
   only_third p (second e f) = absurd cc
   only_third p (third e f) = (0, omega arith, sym e)
@@ -479,7 +479,7 @@ module _ (dig : List ℕ → List ℕ) (b : ThreeBlocks) (wrong : List ℕ) (inf
   abbrev pub all_wait : EngineState
   all_wait = first_state Waiting Waiting Waiting (idle_peer all_taken asked_key)
 
-  pub pieces_wait : {asked : List BlockId} → AreAsked asked → AreWhole b → IsWrongThird dig b wrong → Run dig (first_state Missing Missing Missing (asked_peer asked_key asked 0)) piece_events piece_calls piece_answers all_wait
+  pub pieces_wait : {asked : _} → AreAsked asked → AreWhole b → IsWrongThird dig b wrong → Run dig (first_state Missing Missing Missing (asked_peer asked_key asked 0)) piece_events piece_calls piece_answers all_wait
   pieces_wait {asked} all whole other = (
     first_state Missing Missing Missing (peer_with (stream (message_spelling (Piece 0 0 b.first)) true false) true false true asked_key asked 0),
     (_, refl, refl, fed_to dig b infohash (at_first dig b) Missing Missing Missing (asked_peer asked_key asked 0) refl refl),

@@ -24,7 +24,7 @@ module _ (dig : List ℕ → List ℕ) (infohash : List ℕ) where
   laid_out = record { few = omega arith; in_turn = λ k d lt. (let first : k ≡ 0 = omega (arith, lt) in rw first refl) }
 
   -- there is one block
-  the_block : {m : EngineState} {b : BlockId} → IsShaped (abc_torrent dig infohash) m → state_at m b ≡ Some Missing → b ≡ block_id 0 0
+  the_block : {m b : _} → IsShaped (abc_torrent dig infohash) m → state_at m b ≡ Some Missing → b ≡ block_id 0 0
   the_block {m} {b} shaped e =
       let f = and_then_some (λ (q : FileState). slice_get q.states b.block) (slice_get m.files b.file) e in
       let file : b.file ≡ 0 = omega (arith, some_below m.files b.file f.1, shaped.count) in
@@ -32,13 +32,13 @@ module _ (dig : List ℕ → List ℕ) (infohash : List ℕ) where
       let block : b.block ≡ 0 = omega (arith, some_below f.0.states b.block f.2, shape.blocks) in
       ap (λ n. record b { file = n }) file ∙ ap (λ n. block_id 0 n) block
 
-  one_missing : {m : EngineState} → IsShaped (abc_torrent dig infohash) m → LacksOneAtMost m
+  one_missing : {m : _} → IsShaped (abc_torrent dig infohash) m → LacksOneAtMost m
   one_missing shaped b c x y = the_block shaped x ∙ sym (the_block shaped y)
 
   pub memory : HaveMemory (abc_answers infohash)
   memory = all_of (λ a. ¬ IsOutOfMemory a) (abc_answers infohash) (λ o. o, (λ o. o, (λ o. o, (λ o. o, (λ o. o, (λ o. o, (λ o. o, (λ o. o, (λ o. o, (λ o. o, tt))))))))))
 
-  forced : {last : EngineState} {answers : List Answer} → length infohash ≡ 32
+  forced : {last answers : _} → length infohash ≡ 32
       → Run dig (abc_engine dig infohash Missing [] 1) (abc_events infohash) abc_calls answers last → HaveMemory answers
       → (answers ≡ abc_answers infohash) × (last ≡ abc_engine dig infohash Marked (served_peer ∷ []) 2)
   forced {answers} size x room =

@@ -78,7 +78,7 @@ module _ (dig : List ℕ → List ℕ) (b : ThreeBlocks) (wrong : List ℕ) (inf
 
   -- ---- the requests
 
-  range_is : {c : BlockId} → Contains all_three c → IsWholeBlock (three_torrent dig b infohash) 0 (16384 * c.block) 16384 c
+  range_is : {c : _} → Contains all_three c → IsWholeBlock (three_torrent dig b infohash) 0 (16384 * c.block) 16384 c
   range_is {c} among = by (three_cases among)
     where
       by : (c ≡ block 0) ⊎ (c ≡ block 1) ⊎ (c ≡ block 2) → IsWholeBlock (three_torrent dig b infohash) 0 (16384 * c.block) 16384 c
@@ -96,14 +96,14 @@ module _ (dig : List ℕ → List ℕ) (b : ThreeBlocks) (wrong : List ℕ) (inf
   abbrev request_of : BlockId → Sent
   request_of c = to_first (block_request (16384 * c.block))
 
-  requests_are : (blocks : List BlockId) {sent : List Sent} → ((c : BlockId) → Contains blocks c → Contains all_three c)
+  requests_are : (blocks : List BlockId) {sent : _} → ((c : BlockId) → Contains blocks c → Contains all_three c)
       → RequestsEach unchoked peer blocks sent → sent ≡ map request_of blocks
   requests_are [] among r = r
   requests_are (c ∷ blocks) among r =
       let ask = range_one r.2.whole (range_is (among c (here blocks refl))) in
       r.4 ∙ ap (λ z. z ∷ r.1) (r.2.is ∙ ap (λ a. sent_to peer (Request a)) ask) ∙ ap (λ zs. request_of c ∷ zs) (requests_are blocks (λ d x. among d (later c blocks x)) r.3)
 
-  three_open : {c : BlockId} → Contains all_three c → IsOpen unchoked peer c
+  three_open : {c : _} → Contains all_three c → IsOpen unchoked peer c
   three_open {c} among = by (three_cases among)
     where
       by : (c ≡ block 0) ⊎ (c ≡ block 1) ⊎ (c ≡ block 2) → IsOpen unchoked peer c
@@ -118,11 +118,11 @@ module _ (dig : List ℕ → List ℕ) (b : ThreeBlocks) (wrong : List ℕ) (inf
     sends : sent ≡ map request_of order
     after : other ≡ first_state dig b wrong infohash Missing Missing Missing (asked_peer (asked_key dig b wrong infohash) order 0)
 
-  hash_rests : {sent : List Sent} {q : PeerState} → RequestsHashes dig unchoked peer sent q → (sent ≡ []) × (q ≡ peer)
+  hash_rests : {sent q : _} → RequestsHashes dig unchoked peer sent q → (sent ≡ []) × (q ≡ peer)
   hash_rests (requests c k key idle x y z w e) = asked_already dig b wrong infohash idle
   hash_rests (rests x e f) = (e, f)
 
-  order_free : {sent : List Sent} {other : EngineState} → FollowsUp dig unchoked 0 sent other → IsAskedInOrder sent other
+  order_free : {sent other : _} → FollowsUp dig unchoked 0 sent other → IsAskedInOrder sent other
   order_free x =
       record {
         order = x.blocks;
@@ -171,14 +171,14 @@ module _ (dig : List ℕ → List ℕ) (b : ThreeBlocks) (wrong : List ℕ) (inf
   piece_memory = all_of (λ a. ¬ IsOutOfMemory a) (piece_answers dig b wrong infohash) (λ o. o, (λ o. o, (λ o. o, (λ o. o, (λ o. o, (λ o. o, tt))))))
 
   -- where no answer of a known run requests a block, it is the only one
-  quiet : {s new other : EngineState} (events : List Event) (calls : List DeviceCalls) {answers others : List Answer}
+  quiet : {s new other : _} (events : List Event) (calls : List DeviceCalls) {answers others : _}
       → IsShaped (three_torrent dig b infohash) s → IsOrderly s → Run dig s events calls answers new → Run dig s events calls others other
       → HaveMemory answers → HaveMemory others → Each AsksNone answers → (answers ≡ others) × (new ≡ other)
   quiet {s} events calls {answers} {others} shaped o x y memory room none =
       run_one dig (three_torrent dig b infohash) laid_out (λ a c. AsksNone a) (λ m a c shape e. by_none e) s events calls answers others shaped o x y memory room (pairs_of AsksNone answers others none)
 
   -- until the pieces, the answers are these, and after them all three wait
-  waits_forced : {mid : EngineState} {answers : List Answer} → AreWhole b → IsWrongThird dig b wrong → length infohash ≡ 32
+  waits_forced : {mid answers : _} → AreWhole b → IsWrongThird dig b wrong → length infohash ≡ 32
       → Run dig (start dig b infohash) (waiting_events b wrong infohash) (waiting_calls b wrong) answers mid → HaveMemory answers
       → (order : List BlockId) × IsOrder order × (answers ≡ waiting_answers_in dig b infohash order) × (all_wait dig b wrong infohash ≡ mid) × IsShaped (three_torrent dig b infohash) mid × IsOrderly mid
   waits_forced {mid} {answers} whole other size x memory =
@@ -220,16 +220,16 @@ module _ (dig : List ℕ → List ℕ) (b : ThreeBlocks) (wrong : List ℕ) (inf
   abbrev last_peer : PeerState
   last_peer = asked_peer Idle (block 2 ∷ []) 49152
 
-  third_missing : {m : EngineState} → settled dig b wrong infohash last_peer ≡ m → LacksOneAtMost m
+  third_missing : {m : _} → settled dig b wrong infohash last_peer ≡ m → LacksOneAtMost m
   third_missing e = subst LacksOneAtMost e (λ c d x y. sym (third x) ∙ third y)
     where
-      third : {c : BlockId} → state_at (settled dig b wrong infohash last_peer) c ≡ Some Missing → block 2 ≡ c
+      third : {c : _} → state_at (settled dig b wrong infohash last_peer) c ≡ Some Missing → block 2 ≡ c
       third x = elim (contains_cases [] (only_third dig b wrong infohash last_peer (is_one dig b infohash (proved dig b) last_peer x))) [
         | inl same ↦ same
         | inr none ↦ absurd (contains_none none)
       ]
 
-  settling_forced : IsDigest dig → (last : EngineState) {settling : List Answer} → AreWhole b → IsWrongThird dig b wrong
+  settling_forced : IsDigest dig → (last : EngineState) {settling : _} → AreWhole b → IsWrongThird dig b wrong
       → IsShaped (three_torrent dig b infohash) (all_wait dig b wrong infohash) → IsOrderly (all_wait dig b wrong infohash)
       → Run dig (all_wait dig b wrong infohash) (told (message_spelling (leaves_message dig b)) []) (settling_calls b wrong) settling last
       → HaveMemory settling → (settling ≡ settling_answers) × (last.files ≡ file_with Marked Marked Missing)

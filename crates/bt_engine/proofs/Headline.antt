@@ -36,14 +36,14 @@ none_marked (suc n) zero e = absurd cc
 none_marked (suc n) (suc i) e = none_marked n i e
 
 module _ {D : Type 0} (history : D → History) (honest : D → Type 0) (faults : D → ℕ) (dig : List ℕ → List ℕ) where
-  start_sound : {torrent : Metainfo} {s : EngineState} (disks : List (Option D)) → Starts dig torrent s → IsSound history honest dig s disks
+  start_sound : {torrent s : _} (disks : List (Option D)) → Starts dig torrent s → IsSound history honest dig s disks
   start_sound {torrent} {s} disks starts i f k d is_file there honest_now j marked =
       let lt : i < length torrent.files = subst (λ n. i < n) starts.is_new.count (some_below s.files i is_file.here) in
       let file = get_some torrent.files i lt in
       let new = starts.is_new.each_file i file.0 f file.1 is_file.here in
       absurd (none_marked (block_count file.0.length) j (sym (ap (λ xs. slice_get xs j) new.missing) ∙ marked))
 
-  start_of : {torrent : Metainfo} {s : EngineState} → Starts dig torrent s → IsOf torrent s
+  start_of : {torrent s : _} → Starts dig torrent s → IsOf torrent s
   start_of starts i file f k listed some here hung =
       let tree = (starts.is_new.each_file i file f listed here).hung some in
       let same : tree.0 ≡ k = same_some tree.1 hung in
@@ -73,7 +73,7 @@ module _ {D : Type 0} (history : D → History) (honest : D → Type 0) (faults 
   without_devices old new (e ∷ es) [] answers disks after run = absurd run
   without_devices old new (e ∷ es) (c ∷ calls) [] disks after run = absurd run
 
-  published : IsDigest dig → {file : File} {k : Facts} {bytes : List ℕ} → k.file_length ≡ file.length → k.root ≡ file.root → HasFile dig k bytes → IsPublished dig file bytes
+  published : IsDigest dig → {file : File} {k : Facts} {bytes : _} → k.file_length ≡ file.length → k.root ≡ file.root → HasFile dig k bytes → IsPublished dig file bytes
   published sizes {file} {bytes} size root has =
       let all : length (take file.length bytes) ≡ file.length = subst (λ n. length (take n bytes) ≡ n) size has.all in
       let own : file_root dig (take file.length bytes) ≡ file.root = ap (λ n. file_root dig (take n bytes)) (sym size) ∙ has.root ∙ root in

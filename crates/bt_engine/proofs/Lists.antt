@@ -34,7 +34,7 @@ pub map_some : {X Y : Type 0} (f : X → Y) (o : Option X) {y : Y} → option_ma
 map_some f None e = absurd cc
 map_some f (Some x) e = (x, refl, same_some refl e)
 
-pub and_true : (a : Bool) {b : Bool} → (a && b) ≡ true → (a ≡ true) × (b ≡ true)
+pub and_true : (a : Bool) {b : _} → (a && b) ≡ true → (a ≡ true) × (b ≡ true)
 and_true true e = (refl, e)
 and_true false e = absurd cc
 

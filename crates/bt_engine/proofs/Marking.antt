@@ -71,31 +71,31 @@ Marks dig s p e calls mid b = (state_at s b ≡ Some Marked) ⊎ IsSeen dig s p 
 
 module _ (dig : List ℕ → List ℕ) (b : BlockId) where
   -- the engine is one in which the same blocks are marked
-  as_before : {m mid : EngineState} → mid ≡ m → state_at mid b ≡ Some Marked → state_at m b ≡ Some Marked
+  as_before : {m mid : _} → mid ≡ m → state_at mid b ≡ Some Marked → state_at m b ≡ Some Marked
   as_before e marked = subst (λ x. state_at x b ≡ Some Marked) e marked
 
-  have_marks : {s mid : EngineState} {i : ℕ} {p : PeerState} {piece : ℕ} {effect : Effect} → HandlesHave s i p piece effect mid → state_at mid b ≡ Some Marked → state_at s b ≡ Some Marked
+  have_marks : {s mid i p piece effect : _} → HandlesHave s i p piece effect mid → state_at mid b ≡ Some Marked → state_at s b ≡ Some Marked
   have_marks (in_range x y e) m = as_before e m
   have_marks (out_of_range x y e) m = as_before e m
 
-  bits_marks : {s mid : EngineState} {i : ℕ} {p : PeerState} {bytes : List ℕ} {effect : Effect} → HandlesBitfield s i p bytes effect mid → state_at mid b ≡ Some Marked → state_at s b ≡ Some Marked
+  bits_marks : {s mid i p bytes effect : _} → HandlesBitfield s i p bytes effect mid → state_at mid b ≡ Some Marked → state_at s b ≡ Some Marked
   bits_marks (right x y e) m = as_before e m
   bits_marks (wrong x y e) m = as_before e m
 
   -- in a file that stands in the place of another
-  in_file : (s : EngineState) (file : ℕ) {f : FileState} (new : FileState) → slice_get s.files file ≡ Some f → state_at (with_file s file new) b ≡ Some Marked
+  in_file : (s : EngineState) (file : ℕ) {f : _} (new : FileState) → slice_get s.files file ≡ Some f → state_at (with_file s file new) b ≡ Some Marked
       → (slice_get new.states b.block ≡ Some Marked → slice_get f.states b.block ≡ Some Marked) → state_at s b ≡ Some Marked
   in_file s file new at marked kept = elim (file_marked s new b marked) [
     | inl now ↦ state_is s b (ap (slice_get s.files) now.0 ∙ at) (kept now.1)
     | inr old ↦ old
   ]
 
-  fault_marks : {k : Facts} {s mid : EngineState} {file i : ℕ} {f : FileState} {read : BlockRead} {effect : Effect} → slice_get s.files file ≡ Some f → FindsFault dig k s file i f read effect mid
+  fault_marks : {s : EngineState} {k mid file i f read effect : _} → slice_get s.files file ≡ Some f → FindsFault dig k s file i f read effect mid
       → state_at mid b ≡ Some Marked → state_at s b ≡ Some Marked
   fault_marks {s} {file} {i} {f} at (damaged bytes x y z e) m = in_file s file _ at (as_before e m) (λ now. missing_marks f.states i b.block now)
   fault_marks at (fault x y e) m = as_before e m
 
-  request_marks : {s mid : EngineState} {i : ℕ} {p : PeerState} {ask : Ask} {calls : DeviceCalls} {effect : Effect} → HandlesRequest dig s i p ask calls effect mid → state_at mid b ≡ Some Marked → state_at s b ≡ Some Marked
+  request_marks : {s mid i p ask calls effect : _} → HandlesRequest dig s i p ask calls effect mid → state_at mid b ≡ Some Marked → state_at s b ≡ Some Marked
   request_marks (ignored a c d e) m = as_before e m
   request_marks (no_place a c d f e) m = as_before e m
   request_marks (not_marked span a c d f g e) m = as_before e m
@@ -103,7 +103,7 @@ module _ (dig : List ℕ → List ℕ) (b : BlockId) where
   request_marks (stopped span a c d f) m = fault_marks f.is_file.here f.finds m
 
   -- a block that is marked after one was put was marked, or is that one
-  put_marks : (s : EngineState) {c : BlockId} {bytes : List ℕ} {f : FileState} {tree : Facts} → slice_get s.files c.file ≡ Some f → (r : Result Put StoreError) → PutIsDue dig tree c.block bytes f.states r
+  put_marks : (s : EngineState) {c : BlockId} {bytes f tree : _} → slice_get s.files c.file ≡ Some f → (r : Result Put StoreError) → PutIsDue dig tree c.block bytes f.states r
       → state_at (with_file s c.file (record f { states = states_after_put c.block r f.states })) b ≡ Some Marked
       → (state_at s b ≡ Some Marked) ⊎ ((c ≡ b) × (r ≡ Ok PutMarked) × IsRight dig tree c.block bytes)
   put_marks s {c} {f} at (Ok PutMarked) due m = elim (file_marked s (record f { states = slice_set f.states c.block Marked }) b m) [
@@ -118,7 +118,7 @@ module _ (dig : List ℕ → List ℕ) (b : BlockId) where
   put_marks s {c} at (Ok Wrong) due m = inl (in_file s c.file _ at m (λ now. now))
   put_marks s {c} at (Err e) due m = inl (in_file s c.file _ at m (λ now. now))
 
-  arrives_marks : {s mid : EngineState} {i : ℕ} {p : PeerState} {piece begin : ℕ} {bytes : List ℕ} {calls : DeviceCalls} {effect : Effect} → Arrives dig s i p piece begin bytes calls effect mid
+  arrives_marks : {s mid i p piece begin bytes calls effect : _} → Arrives dig s i p piece begin bytes calls effect mid
       → state_at mid b ≡ Some Marked → Marks dig s p (Message (Piece piece begin bytes)) calls mid b
   arrives_marks {s} {mid} {p} {piece} {begin} {bytes} {calls} a m =
       let at : slice_get s.files a.block.file ≡ Some a.puts.file = a.puts.is_file.here in
@@ -134,13 +134,13 @@ module _ (dig : List ℕ → List ℕ) (b : BlockId) where
             inr (subst (λ c. IsSeen dig s p (Message (Piece piece begin bytes)) calls mid c) now.0 (came piece begin bytes a.puts.tree refl a.whole a.asked known made now.2))
       ]
 
-  piece_marks : {s mid : EngineState} {i : ℕ} {p : PeerState} {piece begin : ℕ} {bytes : List ℕ} {calls : DeviceCalls} {effect : Effect} → HandlesPiece dig s i p piece begin bytes calls effect mid
+  piece_marks : {s mid i p piece begin bytes calls effect : _} → HandlesPiece dig s i p piece begin bytes calls effect mid
       → state_at mid b ≡ Some Marked → Marks dig s p (Message (Piece piece begin bytes)) calls mid b
   piece_marks (stale x y z e) m = inl (as_before e m)
   piece_marks (arrives a) m = arrives_marks a m
 
   -- a block that was settled in one engine was so in one that has the same trees
-  settled_in : {tree from count : ℕ} {s mid new : EngineState} {calls : DeviceCalls} → tree_of new b.file ≡ tree_of mid b.file
+  settled_in : {tree from count s mid new calls : _} → tree_of new b.file ≡ tree_of mid b.file
       → IsSettled dig (λ file. true) tree from count s calls mid b → IsSettled dig (λ file. true) tree from count s calls new b
   settled_in trees r = record {
     facts = r.facts;
@@ -157,7 +157,7 @@ module _ (dig : List ℕ → List ℕ) (b : BlockId) where
     right = r.right;
   }
 
-  hashes_marks : {s mid : EngineState} {i : ℕ} {p : PeerState} {key : HashKey} {digests : List ℕ} {calls : DeviceCalls} {effect : Effect} {e : WireEvent} → HandlesHashes dig s i p key digests calls effect mid
+  hashes_marks : {s mid i p key digests calls effect e : _} → HandlesHashes dig s i p key digests calls effect mid
       → e ≡ Message (Hashes key digests) → state_at mid b ≡ Some Marked → Marks dig s p e calls mid b
   hashes_marks (unknown_root x y z e) is m = inl (as_before e m)
   hashes_marks (no_claim f x y c) is m = inl (as_before c.after m)
@@ -190,7 +190,7 @@ module _ (dig : List ℕ → List ℕ) (b : BlockId) where
   event_marks s mid i p (Skipped kind) calls effect t m = inl (as_before t.2 m)
 
   -- a block that a taken event marked, in an engine that has the trees after it
-  taken_marks : {s mid new : EngineState} {key : _} {i : ℕ} {p : PeerState} {calls : DeviceCalls} {effect : Effect} → IsPeer s key i p → TakesEvent dig s i p calls effect mid
+  taken_marks : {s mid new key i p calls effect : _} → IsPeer s key i p → TakesEvent dig s i p calls effect mid
       → tree_of new b.file ≡ tree_of mid b.file → state_at mid b ≡ Some Marked → (state_at s b ≡ Some Marked) ⊎ IsMarkedBy dig s (Next key) calls new b
   taken_marks {s} {mid} {new} {key} {i} {p} {calls} {effect} peer t trees m =
       elim (event_marks (with_peer s i (record p { stream = t.rest })) mid i (record p { stream = t.rest }) t.event calls effect t.handles m) [
@@ -255,7 +255,7 @@ module _ (dig : List ℕ → List ℕ) (b : BlockId) where
   abbrev Now : EngineState → Event → DeviceCalls → EngineState → Type 0
   Now s event calls new = (state_at s b ≡ Some Marked) ⊎ IsMarkedBy dig s event calls new b
 
-  next_marks : {s new : EngineState} {key : _} {calls : DeviceCalls} {answer : _} → StepNext dig s key calls answer new → state_at new b ≡ Some Marked → Now s (Next key) calls new
+  next_marks : {s new key calls answer : _} → StepNext dig s key calls answer new → state_at new b ≡ Some Marked → Now s (Next key) calls new
   next_marks (no_peer x y z e) m = inl (as_before e m)
   next_marks (waits i p x y z w e) m = inl (as_before e m)
   next_marks (goes_on i p out peer g x) m = taken_marks peer g.takes (ap (λ x. tree_of x b.file) g.follows.after) (as_before g.follows.after m)
@@ -263,18 +263,18 @@ module _ (dig : List ℕ → List ℕ) (b : BlockId) where
   next_marks (faulty i p out peer g x) m = inl (as_before g.after m)
   next_marks (no_memory i p peer g x) m = inl (as_before g.after m)
 
-  connect_marks : {s new : EngineState} {answer : _} → StepConnect s answer new → state_at new b ≡ Some Marked → state_at s b ≡ Some Marked
+  connect_marks : {s new answer : _} → StepConnect s answer new → state_at new b ≡ Some Marked → state_at s b ≡ Some Marked
   connect_marks (joins key bytes x y z w v e) m = as_before e m
   connect_marks (full x y e) m = as_before e m
   connect_marks (spent x y z e) m = as_before e m
   connect_marks (no_room x y z e) m = as_before e m
 
-  feed_marks : {s new : EngineState} {key : _} {bytes : List ℕ} {answer : _} → StepFeed s key bytes answer new → state_at new b ≡ Some Marked → state_at s b ≡ Some Marked
+  feed_marks : {s new key bytes answer : _} → StepFeed s key bytes answer new → state_at new b ≡ Some Marked → state_at s b ≡ Some Marked
   feed_marks (feeds i p x y e) m = as_before e m
   feed_marks (not_fed x y e) m = as_before e m
   feed_marks (no_room_to_feed i p x y e) m = as_before e m
 
-  lost_marks : {s new : EngineState} {key : _} {answer : _} → StepLost s key answer new → state_at new b ≡ Some Marked → state_at s b ≡ Some Marked
+  lost_marks : {s new key answer : _} → StepLost s key answer new → state_at new b ≡ Some Marked → state_at s b ≡ Some Marked
   lost_marks (goes i p x y e) m = as_before e m
   lost_marks (not_lost x y e) m = as_before e m
 
@@ -282,11 +282,11 @@ module _ (dig : List ℕ → List ℕ) (b : BlockId) where
   each_marks [] s new sent f m = as_before f.1 m
   each_marks (i ∷ peers) s new sent f m = as_before f.3.after (each_marks peers f.0 new f.2 f.4 m)
 
-  rechoke_marks : {s new : EngineState} {answer : _} → StepRechoke dig s answer new → state_at new b ≡ Some Marked → state_at s b ≡ Some Marked
+  rechoke_marks : {s new answer : _} → StepRechoke dig s answer new → state_at new b ≡ Some Marked → state_at s b ≡ Some Marked
   rechoke_marks {new} (rechokes out r x) m = each_marks _ _ new r.sent r.follows m
   rechoke_marks (not_rechoked x e) m = as_before e m
 
-  flush_marks : {s new : EngineState} {calls : DeviceCalls} {answer : _} → StepFlush s calls answer new → state_at new b ≡ Some Marked → state_at s b ≡ Some Marked
+  flush_marks : {s new calls answer : _} → StepFlush s calls answer new → state_at new b ≡ Some Marked → state_at s b ≡ Some Marked
   flush_marks (syncs x y z e) m = as_before e m
   flush_marks (fails before file after x y z e) m = as_before e m
 
@@ -299,13 +299,12 @@ module _ (dig : List ℕ → List ℕ) (b : BlockId) where
   step_cases s new (Adopt file) calls a t m = adopt_marks dig b t.2 m
   step_cases s new Flush calls a t m = inl (flush_marks t.2 m)
 
-pub step_marks : {dig : List ℕ → List ℕ} (s new : EngineState) (e : Event) (calls : DeviceCalls) (a : Answer) → Step dig s e calls a new
+pub step_marks : {dig : _} (s new : EngineState) (e : Event) (calls : DeviceCalls) (a : Answer) → Step dig s e calls a new
     → (b : BlockId) → state_at new b ≡ Some Marked → state_at s b ≢ Some Marked → IsMarkedBy dig s e calls new b
 step_marks {dig} s new e calls a t b m before = elim (step_cases dig b s new e calls a t m) [ inl old ↦ absurd (before old) | inr now ↦ now ]
 
 -- one event further on
-pub after_step : {dig : List ℕ → List ℕ} {P : EngineState → Event → DeviceCalls → EngineState → Type 0} {s mid last : EngineState} {e : Event} {es : List Event}
-    {c : DeviceCalls} {calls : List DeviceCalls} {a : Answer} {before : List Answer} {answer : Answer} {after : List Answer} → Step dig s e c a mid
+pub after_step : {dig P s mid last e es c calls a before answer after : _} → Step dig s e c a mid
     → IsSoAt dig mid es calls before answer after last P → IsSoAt dig s (e ∷ es) (c ∷ calls) (a ∷ before) answer after last P
 after_step {mid} {e} {c} t i = record {
   events_before = e ∷ i.events_before;
@@ -346,7 +345,7 @@ at_first {s} mid {e} {es} {c} {calls} t rest by = record {
 }
 
 -- a block that is marked after a run was so before it, or became so within it
-run_cases : {dig : List ℕ → List ℕ} {s new : EngineState} (es : List Event) (calls : List DeviceCalls) (answers : List Answer) → Run dig s es calls answers new → {b : BlockId} → state_at new b ≡ Some Marked
+run_cases : {dig s new : _} (es : List Event) (calls : List DeviceCalls) (answers : List Answer) → Run dig s es calls answers new → {b : _} → state_at new b ≡ Some Marked
     → (state_at s b ≡ Some Marked) ⊎ IsMarkedIn dig s es calls answers new b
 run_cases [] [] [] run {b} m = inl (subst (λ x. state_at x b ≡ Some Marked) run m)
 run_cases {dig} {s} (e ∷ es) (c ∷ calls) (a ∷ answers) run {b} m = elim (run_cases es calls answers run.2 m) [
@@ -373,6 +372,6 @@ run_cases [] [] (a ∷ answers) run m = absurd run
 run_cases (e ∷ es) [] answers run m = absurd run
 run_cases (e ∷ es) (c ∷ calls) [] run m = absurd run
 
-pub run_marks : {dig : List ℕ → List ℕ} (s new : EngineState) (es : List Event) (calls : List DeviceCalls) (answers : List Answer) → Run dig s es calls answers new
+pub run_marks : {dig : _} (s new : EngineState) (es : List Event) (calls : List DeviceCalls) (answers : List Answer) → Run dig s es calls answers new
     → (b : BlockId) → state_at new b ≡ Some Marked → state_at s b ≢ Some Marked → IsMarkedIn dig s es calls answers new b
 run_marks s new es calls answers run b m before = elim (run_cases es calls answers run m) [ inl old ↦ absurd (before old) | inr now ↦ now ]

@@ -20,7 +20,7 @@ use Rattle.bt_engine.specs.Blocks.{state_at, tree_of, with_file, file_numbers}
 use Rattle.bt_engine.specs.Settling.{judged_file, due_blocks, SettlesIn}
 use Rattle.bt_engine.proofs.Lists.{set_cases, and_then_some, map_some, and_true, here, later, contains_none, contains_filter, map_contains, flat_map_contains, some_below, range_contains}
 
-pub state_is : (s : EngineState) (c : BlockId) {f : FileState} {x : BlockState} → slice_get s.files c.file ≡ Some f → slice_get f.states c.block ≡ Some x → state_at s c ≡ Some x
+pub state_is : (s : EngineState) (c : BlockId) {f x : _} → slice_get s.files c.file ≡ Some f → slice_get f.states c.block ≡ Some x → state_at s c ≡ Some x
 state_is s c e g = ap (option_and_then (λ q. slice_get q.states c.block)) e ∙ g
 
 -- a block that is marked after a file was replaced: it stands in the new file, or it was marked
@@ -34,11 +34,11 @@ file_marked s {file} new b e =
     ]
 
 -- bytes by which a leaf is told are those of the digest
-leaf_then : (o : Option (List ℕ)) {d : List ℕ} → is_leaf o d ≡ true → o ≡ Some d
+leaf_then : (o : Option (List ℕ)) {d : _} → is_leaf o d ≡ true → o ≡ Some d
 leaf_then None e = absurd cc
 leaf_then (Some x) {d} e = ap (λ y. Some y) (same_bytes x d (pointwise nat_eq x d) refl e)
 
-pub right_then : {dig : List ℕ → List ℕ} {k : Facts} {i : ℕ} {bytes : List ℕ} → is_right dig k i bytes ≡ true → IsRight dig k i bytes
+pub right_then : {dig k i bytes : _} → is_right dig k i bytes ≡ true → IsRight dig k i bytes
 right_then {dig} {k} {i} {bytes} e =
     let both = and_true (length bytes == block_length k.file_length i) e in
     record { whole = eqb-true (length bytes) (block_length k.file_length i) both.0; leaf = leaf_then (value_at dig k 0 i) both.1 }
@@ -53,13 +53,13 @@ pub record GaveRight (dig : List ℕ → List ℕ) (k : Facts) (reads : List Blo
   pub gives : Contains reads (given i bytes)
   pub right : IsRight dig k i bytes
 
-more_given : {dig : List ℕ → List ℕ} {k : Facts} {read : BlockRead} {reads : List BlockRead} {i : ℕ} → GaveRight dig k reads i → GaveRight dig k (read ∷ reads) i
+more_given : {dig k read reads i : _} → GaveRight dig k reads i → GaveRight dig k (read ∷ reads) i
 more_given {read} {reads} g = record { bytes = g.bytes; gives = later read reads g.gives; right = g.right }
 
 pub missing_marks : (states : List BlockState) (b i : ℕ) → slice_get (slice_set states b Missing) i ≡ Some Marked → slice_get states i ≡ Some Marked
 missing_marks states b i e = elim (set_cases states b i e) [ inl wrong ↦ (let no : Marked ≡ Missing = wrong.1 in absurd cc) | inr old ↦ old ]
 
-pub judged_marks : {dig : List ℕ → List ℕ} {k : Facts} (reads : List BlockRead) (states : List BlockState) {i : ℕ}
+pub judged_marks : {dig k : _} (reads : List BlockRead) (states : List BlockState) {i : ℕ}
     → slice_get (judged dig k false reads states) i ≡ Some Marked → (slice_get states i ≡ Some Marked) ⊎ GaveRight dig k reads i
 judged_marks [] states e = inl e
 judged_marks {dig} {k} (given b bytes ∷ reads) states {i} e = elim (judged_marks reads _ e) [
@@ -89,7 +89,7 @@ pub record IsDue (tree from count : ℕ) (f : FileState) (i : ℕ) : Type 0 wher
   pub in_run : Contains (range_with_len from count) i
   pub waited : slice_get f.states i ≡ Some Waiting
 
-due_then : (dig : List ℕ → List ℕ) (k : Facts) {tree from count : ℕ} {f : FileState} {i : ℕ} → Contains (due_blocks dig k tree from count f) i
+due_then : (dig : List ℕ → List ℕ) (k : Facts) {tree from count f i : _} → Contains (due_blocks dig k tree from count f) i
     → IsDue tree from count f i
 due_then dig k {tree} {from} {count} {f} {i} c = by (f.tree == tree) refl c
   where
@@ -104,7 +104,7 @@ due_then dig k {tree} {from} {count} {f} {i} c = by (f.tree == tree) refl c
     by false e c = absurd (contains_none c)
 
 -- with a test that a file is meant
-pub meant_then : (dig : List ℕ → List ℕ) (k : Facts) (b : Bool) {tree from count : ℕ} {f : FileState} {i : ℕ} → Contains (if b then due_blocks dig k tree from count f else []) i
+pub meant_then : (dig : List ℕ → List ℕ) (k : Facts) (b : Bool) {tree from count f i : _} → Contains (if b then due_blocks dig k tree from count f else []) i
     → (b ≡ true) × IsDue tree from count f i
 meant_then dig k true c = (refl, due_then dig k c)
 meant_then dig k false c = absurd (contains_none c)
@@ -126,8 +126,8 @@ pub record IsSettled (dig : List ℕ → List ℕ) (is_meant : ℕ → Bool) (tr
   pub right : IsRight dig facts b.block bytes
 
 -- a block that is marked after its run was settled was marked, or was read back
-pub settle_marks : {dig : List ℕ → List ℕ} {is_meant : ℕ → Bool} {tree from count : ℕ} {old new : EngineState} {calls : DeviceCalls} {notes : _} → SettlesIn dig is_meant tree from count old calls notes new
-    → {b : BlockId} → state_at new b ≡ Some Marked → (state_at old b ≡ Some Marked) ⊎ IsSettled dig is_meant tree from count old calls new b
+pub settle_marks : {dig is_meant tree from count old new calls notes : _} → SettlesIn dig is_meant tree from count old calls notes new
+    → {b : _} → state_at new b ≡ Some Marked → (state_at old b ≡ Some Marked) ⊎ IsSettled dig is_meant tree from count old calls new b
 settle_marks {dig} {is_meant} {old} {new} s {b} e =
     let m = and_then_some (λ q. slice_get q.states b.block) (slice_get new.files b.file) e in
     let p = map_some (judged_file dig s.facts (s.reads b.file)) (slice_get old.files b.file) (sym (s.files b.file) ∙ m.1) in

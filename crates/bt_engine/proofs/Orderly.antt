@@ -62,7 +62,7 @@ none_apart : (R : BlockId → BlockId → Type 0) → AllPairs R []
 none_apart R i j d lt within = absurd (omega (arith, within))
 
 -- what is asked of two peers is apart
-two_apart : (peers : List PeerState) (i j : ℕ) {p q : PeerState} {b : BlockId} → Pairs AskedApart peers → slice_get peers i ≡ Some p → slice_get peers j ≡ Some q → j ≢ i → Contains p.asked b → Contains q.asked b → ⊥
+two_apart : (peers : List PeerState) (i j : ℕ) {p q b : _} → Pairs AskedApart peers → slice_get peers i ≡ Some p → slice_get peers j ≡ Some q → j ≢ i → Contains p.asked b → Contains q.asked b → ⊥
 two_apart peers i j {b} apart e f other own theirs = elim (cases_lt i j) [
   | inl lt ↦ pairs_at AskedApart peers i j apart e f lt b own theirs
   | inr le ↦ elim (cases_lt j i) [
@@ -85,7 +85,7 @@ record PeerChange (s : EngineState) (i : ℕ) (p : PeerState) (m : EngineState) 
   pub once : AllPairs (λ b c. b ≢ c) p.asked → AllPairs (λ b c. b ≢ c) new.asked
   pub states : (b : BlockId) → state_at s b ≡ Some Missing → (state_at m b ≡ Some Missing) ⊎ (Contains p.asked b × (Contains new.asked b → ⊥))
 
-peer_in : {s m : EngineState} {q : PeerState} → m.next_key ≡ s.next_key → m.torrent ≡ s.torrent → IsOrderlyPeer s q → ((b : BlockId) → Contains q.asked b → state_at m b ≡ Some Missing) → IsOrderlyPeer m q
+peer_in : {s m : EngineState} {q : _} → m.next_key ≡ s.next_key → m.torrent ≡ s.torrent → IsOrderlyPeer s q → ((b : BlockId) → Contains q.asked b → state_at m b ≡ Some Missing) → IsOrderlyPeer m q
 peer_in {q} next torrent o missing = record {
   key = subst (λ n. q.key.0 < n) (sym next) o.key;
   pieces = o.pieces ∙ ap total_pieces (sym torrent);
@@ -94,7 +94,7 @@ peer_in {q} next torrent o missing = record {
   missing = missing;
 }
 
-changed : {s m : EngineState} {i : ℕ} {p : PeerState} → slice_get s.peers i ≡ Some p → PeerChange s i p m → IsOrderly s → IsOrderly m
+changed : {s : EngineState} {m i p : _} → slice_get s.peers i ≡ Some p → PeerChange s i p m → IsOrderly s → IsOrderly m
 changed {s} {m} {i} {p} at c o = record {
   few = subst (λ ps. length ps ≤ max_peers) (sym c.peers) (subst (λ n. n ≤ max_peers) (sym (length-set s.peers i c.new)) o.few);
   in_order = subst (λ ps. AllPairs KeyBefore ps) (sym c.peers) (from_pairs KeyBefore (slice_set s.peers i c.new)
@@ -141,11 +141,11 @@ placed x {i} {p} q peers next torrent states e key has asked = record {
 }
 
 -- a peer of which other things are changed
-replaced : {s m : EngineState} {i : ℕ} {p : PeerState} (q : PeerState) → m ≡ with_peer s i q → q.key ≡ p.key → length q.has ≡ length p.has → q.asked ≡ p.asked → PeerChange s i p m
+replaced : {p : PeerState} {s m i : _} (q : PeerState) → m ≡ with_peer s i q → q.key ≡ p.key → length q.has ≡ length p.has → q.asked ≡ p.asked → PeerChange s i p m
 replaced {s} q e key has asked = placed s q refl refl refl (λ b x. x) e key has asked
 
 -- the peers stay
-kept : {s m : EngineState} {i : ℕ} {p : PeerState} → slice_get s.peers i ≡ Some p → m.peers ≡ s.peers → m.next_key ≡ s.next_key → m.torrent ≡ s.torrent → KeepsMissing s m → PeerChange s i p m
+kept : {s m : EngineState} {i p : _} → slice_get s.peers i ≡ Some p → m.peers ≡ s.peers → m.next_key ≡ s.next_key → m.torrent ≡ s.torrent → KeepsMissing s m → PeerChange s i p m
 kept {s} {i} {p} at peers next torrent states = record {
   new = p;
   peers = peers ∙ sym (set_id s.peers i at);
@@ -159,7 +159,7 @@ kept {s} {i} {p} at peers next torrent states = record {
   states = λ b missing. inl (states b missing);
 }
 
-quiet : {s m : EngineState} {i : ℕ} {p : PeerState} → slice_get s.peers i ≡ Some p → m ≡ s → PeerChange s i p m
+quiet : {s : EngineState} {m i p : _} → slice_get s.peers i ≡ Some p → m ≡ s → PeerChange s i p m
 quiet at e = kept at (ap (λ z. z.peers) e) (ap (λ z. z.next_key) e) (ap (λ z. z.torrent) e) (λ b x. ap (λ z. state_at z b) e ∙ x)
 
 -- ---- states
@@ -172,7 +172,7 @@ set_missing (x ∷ states) (suc i) zero e = e
 set_missing (x ∷ states) (suc i) (suc j) e = set_missing states i j e
 
 -- in a file that stands in the place of another
-file_missing : (s : EngineState) (file : ℕ) {f : FileState} (new : FileState) (b : BlockId) → slice_get s.files file ≡ Some f → (b.file ≡ file → slice_get f.states b.block ≡ Some Missing → slice_get new.states b.block ≡ Some Missing)
+file_missing : (s : EngineState) (file : ℕ) {f : _} (new : FileState) (b : BlockId) → slice_get s.files file ≡ Some f → (b.file ≡ file → slice_get f.states b.block ≡ Some Missing → slice_get new.states b.block ≡ Some Missing)
     → state_at s b ≡ Some Missing → state_at (with_file s file new) b ≡ Some Missing
 file_missing s file {f} new b at keep missing = by (b.file == file) refl
   where
@@ -200,7 +200,7 @@ judged_other dig k false (failed b ∷ reads) states i none =
     judged_other dig k false reads _ i (λ c. none (later b (map block_of reads) c)) ∙ set_other states b i Missing (λ e. none (here (map block_of reads) (sym e)))
 
 -- blocks that are settled waited
-settle_missing : {dig : List ℕ → List ℕ} {is_meant : ℕ → Bool} {tree from count : ℕ} {old new : EngineState} {calls : DeviceCalls} {notes : _} → SettlesIn dig is_meant tree from count old calls notes new → KeepsMissing old new
+settle_missing : {dig is_meant tree from count old new calls notes : _} → SettlesIn dig is_meant tree from count old calls notes new → KeepsMissing old new
 settle_missing {dig} {is_meant} {old} {new} s b missing =
     let f = and_then_some (λ (q : FileState). slice_get q.states b.block) (slice_get old.files b.file) missing in
     let unread : Contains (map block_of (s.reads b.file)) b.block → ⊥ = λ c. (
@@ -212,12 +212,12 @@ settle_missing {dig} {is_meant} {old} {new} s b missing =
 
 -- ---- wire events
 
-block_is : {b c : BlockId} → is_block b c ≡ true → c ≡ b
+block_is : {b c : _} → is_block b c ≡ true → c ≡ b
 block_is {b} {c} e =
     let both = and_true (c.file == b.file) e in
     ap (λ n. record c { file = n }) (eqb-true c.file b.file both.0) ∙ ap (λ n. record b { block = n }) (eqb-true c.block b.block both.1)
 
-is_itself : {b c : BlockId} → c ≡ b → is_block b c ≡ true
+is_itself : {b c : _} → c ≡ b → is_block b c ≡ true
 is_itself {b} e = subst (λ d. is_block b d ≡ true) (sym e) (both (b.file == b.file) (b.block == b.block) (eq-eqb b.file b.file refl) (eq-eqb b.block b.block refl))
   where
     both : (x y : Bool) → x ≡ true → y ≡ true → (x && y) ≡ true
@@ -233,14 +233,14 @@ length-bits_in [] = omega arith
 length-bits_in (byte ∷ bytes) = let more = length-bits_in bytes in omega (arith, length-append (bits_of byte) (bits_in bytes), length-bits_of byte, more)
 
 module _ (dig : List ℕ → List ℕ) where
-  fault_change : {k : Facts} {s mid : EngineState} {file i : ℕ} {f : FileState} {read : BlockRead} {effect : Effect} {place : ℕ} {p : PeerState} → slice_get s.peers place ≡ Some p → slice_get s.files file ≡ Some f
+  fault_change : {s : EngineState} {k mid file i f read effect place p : _} → slice_get s.peers place ≡ Some p → slice_get s.files file ≡ Some f
       → FindsFault dig k s file i f read effect mid → PeerChange s place p mid
   fault_change {s} {file} {i} {f} at there (damaged bytes x y z e) =
       kept at (ap (λ z. z.peers) e) (ap (λ z. z.next_key) e) (ap (λ z. z.torrent) e)
       (λ b missing. ap (λ z. state_at z b) e ∙ file_missing s file (record f { states = slice_set f.states i Missing }) b there (λ same. set_missing f.states i b.block) missing)
   fault_change at there (fault x y e) = quiet at e
 
-  request_change : {s mid : EngineState} {i : ℕ} {p : PeerState} {ask : Ask} {calls : DeviceCalls} {effect : Effect} → slice_get s.peers i ≡ Some p → HandlesRequest dig s i p ask calls effect mid → PeerChange s i p mid
+  request_change : {s : EngineState} {mid i p ask calls effect : _} → slice_get s.peers i ≡ Some p → HandlesRequest dig s i p ask calls effect mid → PeerChange s i p mid
   request_change at (ignored a c d e) = quiet at e
   request_change at (no_place a c d f e) = quiet at e
   request_change at (not_marked span a c d f g e) = quiet at e
@@ -254,7 +254,7 @@ module _ (dig : List ℕ → List ℕ) where
   put_missing (Ok Wrong) i j states apart e = e
   put_missing (Err x) i j states apart e = e
 
-  arrives_change : {s mid : EngineState} {i : ℕ} {p : PeerState} {piece begin : ℕ} {bytes : List ℕ} {calls : DeviceCalls} {effect : Effect} → Arrives dig s i p piece begin bytes calls effect mid → PeerChange s i p mid
+  arrives_change : {s mid i p piece begin bytes calls effect : _} → Arrives dig s i p piece begin bytes calls effect mid → PeerChange s i p mid
   arrives_change {s} {mid} {i} {p} {bytes} a = record {
     new = with_payload (length bytes) (record p { asked = without_block a.block p.asked });
     peers = ap (λ z. z.peers) a.after ∙ ap (λ (z : EngineState). slice_set z.peers i (with_payload (length bytes) (record p { asked = without_block a.block p.asked }))) a.puts.after;
@@ -268,7 +268,7 @@ module _ (dig : List ℕ → List ℕ) where
     states = λ b missing. by missing (is_block a.block b) refl;
   }
     where
-      no_longer : {b : BlockId} → is_block a.block b ≡ true → Contains (without_block a.block p.asked) b → ⊥
+      no_longer : {b : _} → is_block a.block b ≡ true → Contains (without_block a.block p.asked) b → ⊥
       no_longer {b} e c = let f : not (is_block a.block b) ≡ true = (contains_filter (λ c. not (is_block a.block c)) p.asked c).1 in let no : not true ≡ true = ap not (sym e) ∙ f in absurd cc
 
       elsewhere : (b : BlockId) → is_block a.block b ≡ false → b.file ≡ a.block.file → b.block ≢ a.block.block
@@ -276,21 +276,21 @@ module _ (dig : List ℕ → List ℕ) where
           let is : b ≡ a.block = ap (λ n. record b { file = n }) same_file ∙ ap (λ n. record a.block { block = n }) same in
           let no : true ≡ false = sym (is_itself is) ∙ e in absurd cc
 
-      by : {b : BlockId} → state_at s b ≡ Some Missing → (t : Bool) → is_block a.block b ≡ t → (state_at mid b ≡ Some Missing) ⊎ (Contains p.asked b × (Contains (without_block a.block p.asked) b → ⊥))
+      by : {b : _} → state_at s b ≡ Some Missing → (t : Bool) → is_block a.block b ≡ t → (state_at mid b ≡ Some Missing) ⊎ (Contains p.asked b × (Contains (without_block a.block p.asked) b → ⊥))
       by missing true e = inr (subst (λ c. Contains p.asked c) (sym (block_is e)) a.asked, no_longer e)
       by {b} missing false e = inl (ap (λ z. state_at z b) a.after ∙ ap (λ z. state_at z b) a.puts.after
           ∙ file_missing s a.block.file (record a.puts.file { states = states_after_put a.block.block a.puts.result a.puts.file.states }) b a.puts.is_file.here
           (λ same_file now. put_missing a.puts.result a.block.block b.block a.puts.file.states (elsewhere b e same_file) now) missing)
 
-  piece_change : {s mid : EngineState} {i : ℕ} {p : PeerState} {piece begin : ℕ} {bytes : List ℕ} {calls : DeviceCalls} {effect : Effect} → slice_get s.peers i ≡ Some p → HandlesPiece dig s i p piece begin bytes calls effect mid → PeerChange s i p mid
+  piece_change : {s : EngineState} {mid i p piece begin bytes calls effect : _} → slice_get s.peers i ≡ Some p → HandlesPiece dig s i p piece begin bytes calls effect mid → PeerChange s i p mid
   piece_change at (stale x y z e) = quiet at e
   piece_change at (arrives a) = arrives_change a
 
-  have_change : {s mid : EngineState} {i : ℕ} {p : PeerState} {piece : ℕ} {effect : Effect} → slice_get s.peers i ≡ Some p → HandlesHave s i p piece effect mid → PeerChange s i p mid
+  have_change : {s : EngineState} {mid i p piece effect : _} → slice_get s.peers i ≡ Some p → HandlesHave s i p piece effect mid → PeerChange s i p mid
   have_change {p} {piece} at (in_range x y e) = replaced _ e refl (length-set p.has piece true) refl
   have_change at (out_of_range x y e) = quiet at e
 
-  hashes_change : {s mid : EngineState} {i : ℕ} {p : PeerState} {key : HashKey} {digests : List ℕ} {calls : DeviceCalls} {effect : Effect} → slice_get s.peers i ≡ Some p → HandlesHashes dig s i p key digests calls effect mid → PeerChange s i p mid
+  hashes_change : {s : EngineState} {mid i p key digests calls effect : _} → slice_get s.peers i ≡ Some p → HandlesHashes dig s i p key digests calls effect mid → PeerChange s i p mid
   hashes_change at (unknown_root x y z e) = quiet at e
   hashes_change at (no_claim f x y c) = quiet at c.after
   hashes_change at (refused f t k c x y z g) = quiet at g.after
@@ -298,7 +298,7 @@ module _ (dig : List ℕ → List ℕ) where
       placed l.settled _ (ap (λ z. z.peers) l.settles.others) (ap (λ z. z.next_key) l.settles.others) (ap (λ z. z.torrent) l.settles.others)
       (λ b missing. settle_missing l.settles b missing) l.after refl refl refl
 
-  bits_change : {s mid : EngineState} {i : ℕ} {p : PeerState} {bytes : List ℕ} {effect : Effect} → slice_get s.peers i ≡ Some p → length p.has ≡ total_pieces s.torrent → HandlesBitfield s i p bytes effect mid → PeerChange s i p mid
+  bits_change : {s : EngineState} {mid i p bytes effect : _} → slice_get s.peers i ≡ Some p → length p.has ≡ total_pieces s.torrent → HandlesBitfield s i p bytes effect mid → PeerChange s i p mid
   bits_change {s} {bytes} at pieces (right size y e) = replaced _ e refl (long ∙ sym pieces) refl
     where
       long : length (take (total_pieces s.torrent) (bits_in bytes)) ≡ total_pieces s.torrent
@@ -308,7 +308,7 @@ module _ (dig : List ℕ → List ℕ) where
           omega (arith, length-take (total_pieces s.torrent) (bits_in bytes), all, enough, size)
   bits_change at pieces (wrong x y e) = quiet at e
 
-  message_change : {s mid : EngineState} {i : ℕ} {p : PeerState} (m : Sent) (calls : DeviceCalls) (effect : Effect) → slice_get s.peers i ≡ Some p → length p.has ≡ total_pieces s.torrent → HandlesMessage dig s i p m calls effect mid → PeerChange s i p mid
+  message_change : {s : EngineState} {mid i p : _} (m : Sent) (calls : DeviceCalls) (effect : Effect) → slice_get s.peers i ≡ Some p → length p.has ≡ total_pieces s.torrent → HandlesMessage dig s i p m calls effect mid → PeerChange s i p mid
   message_change KeepAlive calls effect at pieces h = quiet at h.2
   message_change {p} Choke calls effect at pieces h = record {
     new = record p { peer_choking = true; asked = [] };
@@ -334,12 +334,12 @@ module _ (dig : List ℕ → List ℕ) where
   message_change (Hashes key digests) calls effect at pieces h = hashes_change at h
   message_change (HashReject key) calls effect at pieces h = replaced _ h.2.after refl refl refl
 
-  event_change : {s mid : EngineState} {i : ℕ} {p : PeerState} (e : WireEvent) (calls : DeviceCalls) (effect : Effect) → slice_get s.peers i ≡ Some p → length p.has ≡ total_pieces s.torrent → Handles dig s i p e calls effect mid → PeerChange s i p mid
+  event_change : {s : EngineState} {mid i p : _} (e : WireEvent) (calls : DeviceCalls) (effect : Effect) → slice_get s.peers i ≡ Some p → length p.has ≡ total_pieces s.torrent → Handles dig s i p e calls effect mid → PeerChange s i p mid
   event_change (Hello h) calls effect at pieces t = quiet at t.2
   event_change (Message m) calls effect at pieces t = message_change m calls effect at pieces t
   event_change (Skipped kind) calls effect at pieces t = quiet at t.2
 
-  taken_order : {s mid : EngineState} {i : ℕ} {p : PeerState} {calls : DeviceCalls} {effect : Effect} → slice_get s.peers i ≡ Some p → TakesEvent dig s i p calls effect mid → IsOrderly s → IsOrderly mid
+  taken_order : {s : EngineState} {mid i p calls effect : _} → slice_get s.peers i ≡ Some p → TakesEvent dig s i p calls effect mid → IsOrderly s → IsOrderly mid
   taken_order {s} {i} {p} {calls} {effect} at t o =
       let fed : PeerState = record p { stream = t.rest } in
       let there : slice_get (with_peer s i fed).peers i ≡ Some fed = set_same s.peers i at in
@@ -348,10 +348,10 @@ module _ (dig : List ℕ → List ℕ) where
 
   -- ---- events
 
-  order_is : {m new : EngineState} → new ≡ m → IsOrderly m → IsOrderly new
+  order_is : {m new : _} → new ≡ m → IsOrderly m → IsOrderly new
   order_is e o = subst (λ x. IsOrderly x) (sym e) o
 
-  without_order : {s new : EngineState} (i : ℕ) → new ≡ without_peer i s → IsOrderly s → IsOrderly new
+  without_order : {s new : _} (i : ℕ) → new ≡ without_peer i s → IsOrderly s → IsOrderly new
   without_order {s} i e o = order_is e (record {
     few = (let le = length-without s.peers i in omega (arith, le, o.few));
     in_order = from_pairs KeyBefore (take i s.peers ++ drop (i + 1) s.peers) (pairs_without KeyBefore s.peers i (to_pairs KeyBefore s.peers o.in_order));
@@ -359,7 +359,7 @@ module _ (dig : List ℕ → List ℕ) where
     each = λ p c. (let q = o.each p (contains_without s.peers i c) in peer_in refl refl q q.missing);
   })
 
-  pending_order : (old : EngineState) {s : EngineState} (proofs : _) → IsOrderly s → IsOrderly (with_pending old s proofs)
+  pending_order : (old : EngineState) {s : _} (proofs : _) → IsOrderly s → IsOrderly (with_pending old s proofs)
   pending_order old proofs o = record {
     few = o.few;
     in_order = o.in_order;
@@ -367,11 +367,11 @@ module _ (dig : List ℕ → List ℕ) where
     each = λ p c. (let q = o.each p c in peer_in refl refl q q.missing);
   }
 
-  planned_same : {s : EngineState} {old new : PeerState} {sent : List SentFrame} → RequestsHashes dig s old sent new → (new.key ≡ old.key) × (new.has ≡ old.has) × (new.asked ≡ old.asked)
+  planned_same : {s old new sent : _} → RequestsHashes dig s old sent new → (new.key ≡ old.key) × (new.has ≡ old.has) × (new.asked ≡ old.asked)
   planned_same (requests b k key x y z w v e) = (ap (λ (q : PeerState). q.key) e, ap (λ (q : PeerState). q.has) e, ap (λ (q : PeerState). q.asked) e)
   planned_same (rests x y e) = (ap (λ (q : PeerState). q.key) e, ap (λ (q : PeerState). q.has) e, ap (λ (q : PeerState). q.asked) e)
 
-  follow_order : {s new : EngineState} {i : ℕ} {sent : List SentFrame} → FollowsUp dig s i sent new → IsOrderly s → IsOrderly new
+  follow_order : {s new i sent : _} → FollowsUp dig s i sent new → IsOrderly s → IsOrderly new
   follow_order {s} {i} f o = order_is f.after (record {
     few = subst (λ n. n ≤ max_peers) (sym (length-set s.peers i asking)) o.few;
     in_order = from_pairs KeyBefore (slice_set s.peers i asking) (pairs_set KeyBefore s.peers i asking f.here (λ y among r. subst (λ k. k.0 < y.key.0) (sym same.0) r) (λ y among r. subst (λ k. y.key.0 < k.0) (sym same.0) r)
@@ -411,11 +411,11 @@ module _ (dig : List ℕ → List ℕ) where
         ];
       }
 
-  each_order : (peers : List ℕ) {s new : EngineState} (sent : List SentFrame) → FollowsEach dig peers s sent new → IsOrderly s → IsOrderly new
+  each_order : (peers : List ℕ) {s new : _} (sent : List SentFrame) → FollowsEach dig peers s sent new → IsOrderly s → IsOrderly new
   each_order [] sent f o = order_is f.1 o
   each_order (i ∷ peers) sent f o = each_order peers f.2 f.4 (follow_order f.3 o)
 
-  next_order : {s new : EngineState} {key : _} {calls : DeviceCalls} {answer : _} → StepNext dig s key calls answer new → IsOrderly s → IsOrderly new
+  next_order : {s new key calls answer : _} → StepNext dig s key calls answer new → IsOrderly s → IsOrderly new
   next_order (no_peer x y z e) o = order_is e o
   next_order (waits i p x y z w e) o = order_is e o
   next_order {s} (goes_on i p out peer g x) o =
@@ -446,25 +446,25 @@ module _ (dig : List ℕ → List ℕ) where
     ];
   }
     where
-      last : {q : PeerState} → Contains (new_peer s key ∷ []) q → new_peer s key ≡ q
+      last : {q : _} → Contains (new_peer s key ∷ []) q → new_peer s key ≡ q
       last c = elim (contains_cases [] c) [ inl e ↦ e | inr none ↦ absurd (contains_none none) ]
 
-  connect_order : {s new : EngineState} {answer : _} → StepConnect s answer new → IsOrderly s → IsOrderly new
+  connect_order : {s new answer : _} → StepConnect s answer new → IsOrderly s → IsOrderly new
   connect_order (joins key bytes few y is w v e) o = order_is e (joins_order key few is o)
   connect_order (full x y e) o = order_is e o
   connect_order (spent x y z e) o = order_is e o
   connect_order (no_room x y z e) o = order_is e o
 
-  feed_order : {s new : EngineState} {key : _} {bytes : List ℕ} {answer : _} → StepFeed s key bytes answer new → IsOrderly s → IsOrderly new
+  feed_order : {s new key bytes answer : _} → StepFeed s key bytes answer new → IsOrderly s → IsOrderly new
   feed_order (feeds i p peer y e) o = changed peer.here (replaced _ e refl refl refl) o
   feed_order (not_fed x y e) o = order_is e o
   feed_order (no_room_to_feed i p x y e) o = order_is e o
 
-  lost_order : {s new : EngineState} {key : _} {answer : _} → StepLost s key answer new → IsOrderly s → IsOrderly new
+  lost_order : {s new key answer : _} → StepLost s key answer new → IsOrderly s → IsOrderly new
   lost_order (goes i p x y e) o = without_order i e o
   lost_order (not_lost x y e) o = order_is e o
 
-  rechoked_order : {s : EngineState} → IsOrderly s → IsOrderly (rechoked s)
+  rechoked_order : {s : _} → IsOrderly s → IsOrderly (rechoked s)
   rechoked_order {s} o = record {
     few = (let same = length-map s.peers (rechoked_peer s) in omega (arith, same, o.few));
     in_order = from_pairs KeyBefore (map (rechoked_peer s) s.peers) (pairs_map KeyBefore KeyBefore (rechoked_peer s) s.peers (λ p q r. r) (to_pairs KeyBefore s.peers o.in_order));
@@ -472,10 +472,10 @@ module _ (dig : List ℕ → List ℕ) where
     each = λ q among. (let m = contains_map (rechoked_peer s) s.peers among in subst (λ x. IsOrderlyPeer (rechoked s) x) m.2 (one m.1));
   }
     where
-      one : {p : PeerState} → Contains s.peers p → IsOrderlyPeer (rechoked s) (rechoked_peer s p)
+      one : {p : _} → Contains s.peers p → IsOrderlyPeer (rechoked s) (rechoked_peer s p)
       one {p} c = let old = o.each p c in record { key = old.key; pieces = old.pieces; few = old.few; once = old.once; missing = old.missing }
 
-  rechoke_order : {s new : EngineState} {answer : _} → StepRechoke dig s answer new → IsOrderly s → IsOrderly new
+  rechoke_order : {s new answer : _} → StepRechoke dig s answer new → IsOrderly s → IsOrderly new
   rechoke_order (rechokes out r x) o = each_order _ r.sent r.follows (rechoked_order o)
   rechoke_order (not_rechoked x e) o = order_is e o
 
@@ -492,7 +492,7 @@ module _ (dig : List ℕ → List ℕ) where
     each = λ p c. absurd (contains_none (subst (λ ps. Contains ps p) none c));
   }
 
-  adopt_order : {s new : EngineState} {file : ℕ} {calls : DeviceCalls} {answer : _} → StepAdopt dig s file calls answer new → IsOrderly s → IsOrderly new
+  adopt_order : {s new file calls answer : _} → StepAdopt dig s file calls answer new → IsOrderly s → IsOrderly new
   adopt_order (no_file x y z e) o = order_is e o
   adopt_order (busy x y z w e) o = order_is e o
   adopt_order (empty f x y z w v e) o = order_is e o
@@ -500,7 +500,7 @@ module _ (dig : List ℕ → List ℕ) where
       none_order (ap (λ z. z.peers) a.after ∙ ap (λ z. z.peers) a.settles.others ∙ groups_peers s a.mid file 0 a.groups total a.adopts ∙ none)
   adopt_order {s} {new} {file} (not_adopted none a y) o = none_order (groups_peers s new file 0 a.groups a.done a.adopts ∙ none)
 
-  flush_order : {s new : EngineState} {calls : DeviceCalls} {answer : _} → StepFlush s calls answer new → IsOrderly s → IsOrderly new
+  flush_order : {s new calls answer : _} → StepFlush s calls answer new → IsOrderly s → IsOrderly new
   flush_order (syncs x y z e) o = order_is e o
   flush_order (fails before file after x y z e) o = order_is e o
 
@@ -513,7 +513,7 @@ module _ (dig : List ℕ → List ℕ) where
   order_kept s new (Adopt file) calls a t o = adopt_order t.2 o
   order_kept s new Flush calls a t o = flush_order t.2 o
 
-  run_order : (s : EngineState) {new : EngineState} (es : List Event) (calls : List DeviceCalls) (answers : List Answer) → Run dig s es calls answers new → IsOrderly s → IsOrderly new
+  run_order : (s : EngineState) {new : _} (es : List Event) (calls : List DeviceCalls) (answers : List Answer) → Run dig s es calls answers new → IsOrderly s → IsOrderly new
   run_order s [] [] [] run o = order_is run o
   run_order s (e ∷ es) (c ∷ calls) (a ∷ answers) run o = run_order run.0 es calls answers run.2 (order_kept s run.0 e c a run.1 o)
   run_order s [] (c ∷ calls) answers run o = absurd run

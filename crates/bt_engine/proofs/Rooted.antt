@@ -35,36 +35,36 @@ use Rattle.bt_engine.proofs.Adopting.{group_extends}
 
 module _ (dig : List ℕ → List ℕ) where
   -- the engine is one with the same trees
-  as_before : {m new : EngineState} → new ≡ m → AreRooted dig m → AreRooted dig new
+  as_before : {m new : _} → new ≡ m → AreRooted dig m → AreRooted dig new
   as_before e r = subst (λ x. AreRooted dig x) (sym e) r
 
-  grown_rooted : (s : EngineState) (t : ℕ) {k : Facts} → AreRooted dig s → IsRooted dig k → AreRooted dig (with_tree s t k)
+  grown_rooted : (s : EngineState) (t : ℕ) {k : _} → AreRooted dig s → IsRooted dig k → AreRooted dig (with_tree s t k)
   grown_rooted s t r rooted u j e = elim (set_cases s.trees t u e) [ inl new ↦ subst (λ x. IsRooted dig x) (sym new.1) rooted | inr old ↦ r u j old ]
 
-  have_rooted : {s mid : EngineState} {i : ℕ} {p : PeerState} {piece : ℕ} {effect : Effect} → HandlesHave s i p piece effect mid → AreRooted dig s → AreRooted dig mid
+  have_rooted : {s mid i p piece effect : _} → HandlesHave s i p piece effect mid → AreRooted dig s → AreRooted dig mid
   have_rooted (in_range a b e) r = as_before e r
   have_rooted (out_of_range a b e) r = as_before e r
 
-  bits_rooted : {s mid : EngineState} {i : ℕ} {p : PeerState} {bytes : List ℕ} {effect : Effect} → HandlesBitfield s i p bytes effect mid → AreRooted dig s → AreRooted dig mid
+  bits_rooted : {s mid i p bytes effect : _} → HandlesBitfield s i p bytes effect mid → AreRooted dig s → AreRooted dig mid
   bits_rooted (right a b e) r = as_before e r
   bits_rooted (wrong a b e) r = as_before e r
 
-  fault_rooted : {k : Facts} {s mid : EngineState} {file i : ℕ} {f : FileState} {read : BlockRead} {effect : Effect} → FindsFault dig k s file i f read effect mid → AreRooted dig s → AreRooted dig mid
+  fault_rooted : {k s mid file i f read effect : _} → FindsFault dig k s file i f read effect mid → AreRooted dig s → AreRooted dig mid
   fault_rooted (damaged bytes x y z e) r = as_before e r
   fault_rooted (fault x y e) r = as_before e r
 
-  request_rooted : {s mid : EngineState} {i : ℕ} {p : PeerState} {ask : Ask} {calls : DeviceCalls} {effect : Effect} → HandlesRequest dig s i p ask calls effect mid → AreRooted dig s → AreRooted dig mid
+  request_rooted : {s mid i p ask calls effect : _} → HandlesRequest dig s i p ask calls effect mid → AreRooted dig s → AreRooted dig mid
   request_rooted (ignored a b c e) r = as_before e r
   request_rooted (no_place a b c d e) r = as_before e r
   request_rooted (not_marked span a b c d f e) r = as_before e r
   request_rooted (served span a b c d) r = as_before d.after r
   request_rooted (stopped span a b c d) r = fault_rooted d.finds r
 
-  piece_rooted : {s mid : EngineState} {i : ℕ} {p : PeerState} {piece begin : ℕ} {bytes : List ℕ} {calls : DeviceCalls} {effect : Effect} → HandlesPiece dig s i p piece begin bytes calls effect mid → AreRooted dig s → AreRooted dig mid
+  piece_rooted : {s mid i p piece begin bytes calls effect : _} → HandlesPiece dig s i p piece begin bytes calls effect mid → AreRooted dig s → AreRooted dig mid
   piece_rooted (stale a b c e) r = as_before e r
   piece_rooted (arrives a) r = as_before a.after (as_before a.puts.after r)
 
-  hashes_rooted : {s mid : EngineState} {i : ℕ} {p : PeerState} {key : HashKey} {digests : List ℕ} {calls : DeviceCalls} {effect : Effect} → HandlesHashes dig s i p key digests calls effect mid → AreRooted dig s → AreRooted dig mid
+  hashes_rooted : {s mid i p key digests calls effect : _} → HandlesHashes dig s i p key digests calls effect mid → AreRooted dig s → AreRooted dig mid
   hashes_rooted (unknown_root a b c e) r = as_before e r
   hashes_rooted (no_claim f a b c) r = as_before c.after r
   hashes_rooted (refused f t k c a b d g) r = as_before g.after r
@@ -92,7 +92,7 @@ module _ (dig : List ℕ → List ℕ) where
   event_rooted s mid i p (Message m) calls effect t r = message_rooted s mid i p m calls effect t r
   event_rooted s mid i p (Skipped kind) calls effect t r = as_before t.2 r
 
-  next_rooted : {s new : EngineState} {key : _} {calls : DeviceCalls} {answer : _} → StepNext dig s key calls answer new → AreRooted dig s → AreRooted dig new
+  next_rooted : {s new key calls answer : _} → StepNext dig s key calls answer new → AreRooted dig s → AreRooted dig new
   next_rooted (no_peer a b c e) r = as_before e r
   next_rooted (waits i p a b c d e) r = as_before e r
   next_rooted {calls} (goes_on i p out a g b) r = as_before g.follows.after (event_rooted _ g.mid i _ g.takes.event calls g.effect g.takes.handles r)
@@ -100,18 +100,18 @@ module _ (dig : List ℕ → List ℕ) where
   next_rooted (faulty i p out a g b) r = as_before g.after r
   next_rooted (no_memory i p a g b) r = as_before g.after r
 
-  connect_rooted : {s new : EngineState} {answer : _} → StepConnect s answer new → AreRooted dig s → AreRooted dig new
+  connect_rooted : {s new answer : _} → StepConnect s answer new → AreRooted dig s → AreRooted dig new
   connect_rooted (joins key bytes a b c d f e) r = as_before e r
   connect_rooted (full a b e) r = as_before e r
   connect_rooted (spent a b c e) r = as_before e r
   connect_rooted (no_room a b c e) r = as_before e r
 
-  feed_rooted : {s new : EngineState} {key : _} {bytes : List ℕ} {answer : _} → StepFeed s key bytes answer new → AreRooted dig s → AreRooted dig new
+  feed_rooted : {s new key bytes answer : _} → StepFeed s key bytes answer new → AreRooted dig s → AreRooted dig new
   feed_rooted (feeds i p a b e) r = as_before e r
   feed_rooted (not_fed a b e) r = as_before e r
   feed_rooted (no_room_to_feed i p a b e) r = as_before e r
 
-  lost_rooted : {s new : EngineState} {key : _} {answer : _} → StepLost s key answer new → AreRooted dig s → AreRooted dig new
+  lost_rooted : {s new key answer : _} → StepLost s key answer new → AreRooted dig s → AreRooted dig new
   lost_rooted (goes i p a b e) r = as_before e r
   lost_rooted (not_lost a b e) r = as_before e r
 
@@ -119,11 +119,11 @@ module _ (dig : List ℕ → List ℕ) where
   each_rooted [] s new sent f r = as_before f.1 r
   each_rooted (i ∷ peers) s new sent f r = each_rooted peers f.0 new f.2 f.4 (as_before f.3.after r)
 
-  rechoke_rooted : {s new : EngineState} {answer : _} → StepRechoke dig s answer new → AreRooted dig s → AreRooted dig new
+  rechoke_rooted : {s new answer : _} → StepRechoke dig s answer new → AreRooted dig s → AreRooted dig new
   rechoke_rooted {new} (rechokes out a b) r = each_rooted _ _ new a.sent a.follows r
   rechoke_rooted (not_rechoked a e) r = as_before e r
 
-  group_rooted : {s new : EngineState} {file from : ℕ} {calls : DeviceCalls} {adopted : _} → AdoptsGroup dig s file from calls adopted new → AreRooted dig s → AreRooted dig new
+  group_rooted : {s new file from calls adopted : _} → AdoptsGroup dig s file from calls adopted new → AreRooted dig s → AreRooted dig new
   group_rooted {s} g r =
       as_before g.after (grown_rooted s g.state.tree r ((group_extends dig g).rooted (r g.state.tree g.tree g.is_file.hung)))
 
@@ -131,14 +131,14 @@ module _ (dig : List ℕ → List ℕ) where
   groups_rooted s new file from [] total g r = as_before g.1 r
   groups_rooted s new file from (calls ∷ groups) total g r = groups_rooted g.1 new file g.0.next groups g.2 g.4 (group_rooted g.3 r)
 
-  adopt_rooted : {s new : EngineState} {file : ℕ} {calls : DeviceCalls} {answer : _} → StepAdopt dig s file calls answer new → AreRooted dig s → AreRooted dig new
+  adopt_rooted : {s new file calls answer : _} → StepAdopt dig s file calls answer new → AreRooted dig s → AreRooted dig new
   adopt_rooted (no_file a b c e) r = as_before e r
   adopt_rooted (busy a b c d e) r = as_before e r
   adopt_rooted (empty f a b c d g e) r = as_before e r
   adopt_rooted {s} {file} (adopts total a x b) r = as_before x.after (as_before x.settles.others (groups_rooted s x.mid file 0 x.groups total x.adopts r))
   adopt_rooted {s} {new} {file} (not_adopted a x b) r = groups_rooted s new file 0 x.groups x.done x.adopts r
 
-  flush_rooted : {s new : EngineState} {calls : DeviceCalls} {answer : _} → StepFlush s calls answer new → AreRooted dig s → AreRooted dig new
+  flush_rooted : {s new calls answer : _} → StepFlush s calls answer new → AreRooted dig s → AreRooted dig new
   flush_rooted (syncs a b c e) r = as_before e r
   flush_rooted (fails before file after a b c e) r = as_before e r
 
@@ -164,7 +164,7 @@ rooted_checked dig s rooted t k at layer i d held =
     let hung = rooted t k at in
     held_is_checked dig k hung (height k - layer) layer i d (omega (arith, (hung.covers layer i d held).inside.in_height)) held
 
-pub right_checked : {dig : List ℕ → List ℕ} (k : Facts) (i : ℕ) (bytes : List ℕ) → IsRooted dig k → i < blocks_of k → IsRight dig k i bytes → IsChecked dig k 0 i (dig bytes)
+pub right_checked : {dig : _} (k : Facts) (i : ℕ) (bytes : List ℕ) → IsRooted dig k → i < blocks_of k → IsRight dig k i bytes → IsChecked dig k 0 i (dig bytes)
 right_checked {dig} k i bytes rooted lt exact =
     let real : real_width (blocks_of k) 0 ≡ blocks_of k = omega arith in
     let wide = real_limit (blocks_of k) 0 (omega arith) in

@@ -19,7 +19,7 @@ use Rattle.bt_engine.proofs.Determined.{EachPair}
 
 -- ---- memory
 
-remembers : (answers : List Answer) {a : Answer} → HaveMemory answers → Contains answers a → ¬ IsOutOfMemory a
+remembers : (answers : List Answer) {a : _} → HaveMemory answers → Contains answers a → ¬ IsOutOfMemory a
 remembers answers {a} memory c = subst (λ b. ¬ IsOutOfMemory b) c.2 (memory c.0 a c.1)
 
 memory_of : (answers : List Answer) → ((a : Answer) → Contains answers a → ¬ IsOutOfMemory a) → HaveMemory answers
@@ -48,7 +48,7 @@ pairs_of P (a ∷ answers) (b ∷ others) each = (each.0, pairs_of P answers oth
 
 -- ---- the engine with which a torrent of one file begins
 
-trees_one : {root : Facts} (trees : List Facts) (t : ℕ) {k : Facts} → ((i : ℕ) (j : Facts) → slice_get trees i ≡ Some j → j ≡ root)
+trees_one : {root : _} (trees : List Facts) (t : ℕ) {k : _} → ((i : ℕ) (j : Facts) → slice_get trees i ≡ Some j → j ≡ root)
     → AllPairs (λ (i j : Facts). i.root ≢ j.root) trees → slice_get trees t ≡ Some k → (trees ≡ root ∷ []) × (t ≡ 0)
 trees_one [] t each apart at = absurd cc
 trees_one (j ∷ []) zero each apart at = (ap (λ z. z ∷ []) (each 0 j refl), refl)
@@ -60,13 +60,13 @@ only_file [] e = absurd (omega (arith, e))
 only_file (f ∷ []) e = (f, refl)
 only_file (f ∷ g ∷ files) e = absurd (omega (arith, e))
 
-root_alone : {dig : List ℕ → List ℕ} {torrent : Metainfo} {file : File} {k : Facts} → file.layer ≡ [] → IsTreeFrom dig torrent file k
+root_alone : {file : File} {dig torrent k : _} → file.layer ≡ [] → IsTreeFrom dig torrent file k
     → k ≡ root_facts file.length file.root
 root_alone none (by_layer layer some x y) = absurd (some none)
 root_alone none (by_root x e) = e
 
 module _ (dig : List ℕ → List ℕ) where
-  pub start_is : {torrent : Metainfo} {file : File} {first : EngineState} → torrent.files ≡ file ∷ [] → file.layer ≡ [] → 0 < file.length
+  pub start_is : {torrent : Metainfo} {file first : _} → torrent.files ≡ file ∷ [] → file.layer ≡ [] → 0 < file.length
       → Starts dig torrent first
       → first ≡ record {
         torrent = torrent;
@@ -116,7 +116,7 @@ module _ (dig : List ℕ → List ℕ) where
     pub begins : Run dig s es cs begin mid
     pub goes_on : Run dig mid fs gs rest n
 
-  pub run_split : (es fs : List Event) (cs gs : List DeviceCalls) (answers : List Answer) {s n : EngineState} → length es ≡ length cs
+  pub run_split : (es fs : List Event) (cs gs : List DeviceCalls) (answers : List Answer) {s n : _} → length es ≡ length cs
       → Run dig s (es ++ fs) (cs ++ gs) answers n → IsSplit s es fs cs gs answers n
   run_split [] fs [] gs answers {s} size x = record { begin = []; rest = answers; mid = s; is = refl; begins = refl; goes_on = x }
   run_split [] fs (c ∷ cs) gs answers size x = absurd (omega (arith, size))

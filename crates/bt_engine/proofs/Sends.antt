@@ -63,7 +63,7 @@ plain_one x xs e rest y c = elim (contains_cases xs c) [ inl same ↦ ap (λ (s 
 plain_append : (xs ys : List Sent) → Plain xs → Plain ys → Plain (xs ++ ys)
 plain_append xs ys f g x c = elim (Contains-append_cases xs ys x c) [ inl one ↦ f x one | inr more ↦ g x more ]
 
-plain_is : {xs ys : List Sent} → xs ≡ ys → Plain ys → Plain xs
+plain_is : {xs ys : _} → xs ≡ ys → Plain ys → Plain xs
 plain_is e f = subst (λ l. Plain l) (sym e) f
 
 plain_haves : (old new : EngineState) → Plain (haves old new)
@@ -88,11 +88,11 @@ plain_each_block : (s : EngineState) (p : PeerState) (blocks : List BlockId) (se
 plain_each_block s p [] sent r = plain_is r plain_none
 plain_each_block s p (b ∷ blocks) sent r = plain_is r.4 (plain_one r.0 r.1 (ap (λ (s : Sent). data_frame s.frame) r.2.is) (plain_each_block s p blocks r.1 r.3))
 
-plain_hashes : {dig : List ℕ → List ℕ} {s : EngineState} {p q : PeerState} {sent : List Sent} → RequestsHashes dig s p sent q → Plain sent
+plain_hashes : {dig s p q sent : _} → RequestsHashes dig s p sent q → Plain sent
 plain_hashes (requests b k key x y z w e f) = plain_is e (plain_one _ [] refl plain_none)
 plain_hashes (rests x e y) = plain_is e plain_none
 
-plain_follows : {dig : List ℕ → List ℕ} {s : EngineState} {i : ℕ} {sent : List Sent} {new : EngineState} → FollowsUp dig s i sent new → Plain sent
+plain_follows : {dig s i sent new : _} → FollowsUp dig s i sent new → Plain sent
 plain_follows {s} f =
     let first : Plain f.interest_frames = plain_is f.interest.told (plain_interest f.peer f.peer.am_interested f.interested.am_interested) in
     let second : Plain f.hash_frames = plain_hashes f.hashes in
@@ -113,7 +113,7 @@ Sends P sends = (key : PeerKey) (piece begin : ℕ) (bytes : List ℕ) → Conta
 sends_plain : (P : PeerKey → ℕ → ℕ → List ℕ → Type 0) (xs : List Sent) → Plain xs → Sends P xs
 sends_plain P xs f key piece begin bytes c = let no_data = f (piece_frame key piece begin bytes) c in absurd cc
 
-sends_is : (P : PeerKey → ℕ → ℕ → List ℕ → Type 0) {xs ys : List Sent} → xs ≡ ys → Sends P ys → Sends P xs
+sends_is : (P : PeerKey → ℕ → ℕ → List ℕ → Type 0) {xs ys : _} → xs ≡ ys → Sends P ys → Sends P xs
 sends_is P e f = subst (λ l. Sends P l) (sym e) f
 
 sends_append : (P : PeerKey → ℕ → ℕ → List ℕ → Type 0) (xs ys : List Sent) → Sends P xs → Sends P ys → Sends P (xs ++ ys)
@@ -177,7 +177,7 @@ module _ (dig : List ℕ → List ℕ) where
         | inr none ↦ absurd (contains_none none)
       ]
 
-  request_sends : {s mid : EngineState} {i : ℕ} {p : PeerState} {ask : Ask} {calls : DeviceCalls} {effect : Effect} → HandlesRequest dig s i p ask calls effect mid
+  request_sends : {s mid i p ask calls effect : _} → HandlesRequest dig s i p ask calls effect mid
       → Sends (IsCut dig s p (Message (Request ask)) calls) effect.send
   request_sends (ignored a c e d) = effect_is _ e plain_none
   request_sends (no_place a c d e f) = effect_is _ e plain_none
@@ -185,7 +185,7 @@ module _ (dig : List ℕ → List ℕ) where
   request_sends (served span a place c f) = serves_sends a place f
   request_sends {s} {mid} {i} {p} {ask} {calls} {effect} (stopped span a c d f) = fault_sends f.finds
     where
-      fault_sends : {k : Facts} {file i : ℕ} {f : FileState} {read : BlockRead} → FindsFault dig k s file i f read effect mid → Sends (IsCut dig s p (Message (Request ask)) calls) effect.send
+      fault_sends : {k file i f read : _} → FindsFault dig k s file i f read effect mid → Sends (IsCut dig s p (Message (Request ask)) calls) effect.send
       fault_sends (damaged bytes x y e z) = effect_is _ e plain_none
       fault_sends (fault x e y) = effect_is _ e plain_none
 
@@ -197,29 +197,29 @@ module _ (dig : List ℕ → List ℕ) where
   put_sends P b (Err DeviceFault) effect e = effect_is P e plain_none
   put_sends P b (Err Range) effect e = absurd e
 
-  piece_sends : (P : PeerKey → ℕ → ℕ → List ℕ → Type 0) {s mid : EngineState} {i : ℕ} {p : PeerState} {piece begin : ℕ} {bytes : List ℕ} {calls : DeviceCalls} {effect : Effect} → HandlesPiece dig s i p piece begin bytes calls effect mid → Sends P effect.send
+  piece_sends : (P : PeerKey → ℕ → ℕ → List ℕ → Type 0) {s mid i p piece begin bytes calls effect : _} → HandlesPiece dig s i p piece begin bytes calls effect mid → Sends P effect.send
   piece_sends P (stale x y e z) = effect_is P e plain_none
   piece_sends P {effect} (arrives a) = put_sends P a.block a.puts.result effect a.puts.has_effect
 
-  hashes_sends : (P : PeerKey → ℕ → ℕ → List ℕ → Type 0) {s mid : EngineState} {i : ℕ} {p : PeerState} {key : HashKey} {digests : List ℕ} {calls : DeviceCalls} {effect : Effect} → HandlesHashes dig s i p key digests calls effect mid → Sends P effect.send
+  hashes_sends : (P : PeerKey → ℕ → ℕ → List ℕ → Type 0) {s mid i p key digests calls effect : _} → HandlesHashes dig s i p key digests calls effect mid → Sends P effect.send
   hashes_sends P (unknown_root x y e z) = effect_is P e plain_none
   hashes_sends P (no_claim f x y c) = effect_is P c.has_effect plain_none
   hashes_sends P (refused f t k c x y z g) = effect_is P g.has_effect plain_none
   hashes_sends P (learns l) = effect_is P l.has_effect plain_none
 
-  answer_sends : (P : PeerKey → ℕ → ℕ → List ℕ → Type 0) {s : EngineState} {p : PeerState} {key : HashKey} {effect : Effect} → HandlesHashRequest dig s p key effect → Sends P effect.send
+  answer_sends : (P : PeerKey → ℕ → ℕ → List ℕ → Type 0) {s p key effect : _} → HandlesHashRequest dig s p key effect → Sends P effect.send
   answer_sends P (answered digests x e) = effect_is P e (plain_one _ [] refl plain_none)
   answer_sends P (rejected x e) = effect_is P e (plain_one _ [] refl plain_none)
 
-  have_sends : (P : PeerKey → ℕ → ℕ → List ℕ → Type 0) {s mid : EngineState} {i : ℕ} {p : PeerState} {piece : ℕ} {effect : Effect} → HandlesHave s i p piece effect mid → Sends P effect.send
+  have_sends : (P : PeerKey → ℕ → ℕ → List ℕ → Type 0) {s mid i p piece effect : _} → HandlesHave s i p piece effect mid → Sends P effect.send
   have_sends P (in_range x e y) = effect_is P e plain_none
   have_sends P (out_of_range x e y) = effect_is P e plain_none
 
-  bits_sends : (P : PeerKey → ℕ → ℕ → List ℕ → Type 0) {s mid : EngineState} {i : ℕ} {p : PeerState} {bytes : List ℕ} {effect : Effect} → HandlesBitfield s i p bytes effect mid → Sends P effect.send
+  bits_sends : (P : PeerKey → ℕ → ℕ → List ℕ → Type 0) {s mid i p bytes effect : _} → HandlesBitfield s i p bytes effect mid → Sends P effect.send
   bits_sends P (right x e y) = effect_is P e plain_none
   bits_sends P (wrong x e y) = effect_is P e plain_none
 
-  hello_sends : (P : PeerKey → ℕ → ℕ → List ℕ → Type 0) {s : EngineState} {h : Handshake} {effect : Effect} → HandlesHello s h effect → Sends P effect.send
+  hello_sends : (P : PeerKey → ℕ → ℕ → List ℕ → Type 0) {s h effect : _} → HandlesHello s h effect → Sends P effect.send
   hello_sends P (ours x e) = effect_is P e plain_none
   hello_sends P (other x e) = effect_is P e plain_none
 
@@ -243,7 +243,7 @@ module _ (dig : List ℕ → List ℕ) where
   event_sends s mid i p (Message m) calls effect t = message_sends s mid i p m calls effect t
   event_sends s mid i p (Skipped kind) calls effect t = effect_is _ t.1 plain_none
 
-  taken_sends : {s mid : EngineState} {key : PeerKey} {i : ℕ} {p : PeerState} {calls : DeviceCalls} {effect : Effect} → IsPeer s key i p → TakesEvent dig s i p calls effect mid → Sends (IsServed dig s (Next key) calls) effect.send
+  taken_sends : {s mid key i p calls effect : _} → IsPeer s key i p → TakesEvent dig s i p calls effect mid → Sends (IsServed dig s (Next key) calls) effect.send
   taken_sends {s} {mid} {key} {i} {p} {calls} {effect} peer t asker piece begin bytes c =
       let f = event_sends (with_peer s i (record p { stream = t.rest })) mid i (record p { stream = t.rest }) t.event calls effect t.handles asker piece begin bytes c in
       let same : key ≡ asker = sym peer.same_key ∙ f.same_key in
@@ -268,10 +268,10 @@ module _ (dig : List ℕ → List ℕ) where
         cut = f.cut;
       }
 
-  nothing : (P : PeerKey → ℕ → ℕ → List ℕ → Type 0) {a b : Answer} → a ≡ b → Plain (sent_by b) → Sends P (sent_by a)
+  nothing : (P : PeerKey → ℕ → ℕ → List ℕ → Type 0) {a b : _} → a ≡ b → Plain (sent_by b) → Sends P (sent_by a)
   nothing P {a} e f = sends_plain P (sent_by a) (plain_is (ap sent_by e) f)
 
-  next_sends : {s new : EngineState} {key : PeerKey} {calls : DeviceCalls} {r : _} → StepNext dig s key calls r new → Sends (IsServed dig s (Next key) calls) (sent_by (of_next r))
+  next_sends : {s new key calls r : _} → StepNext dig s key calls r new → Sends (IsServed dig s (Next key) calls) (sent_by (of_next r))
   next_sends (no_peer x y e z) = nothing _ (ap (λ x. of_next x) e) plain_none
   next_sends (waits i p x y z e f) = nothing _ (ap (λ x. of_next x) e) plain_none
   next_sends {s} (goes_on i p out x g e) =
@@ -284,13 +284,13 @@ module _ (dig : List ℕ → List ℕ) where
   next_sends (faulty i p out x g e) = nothing _ (ap (λ x. of_next x) (e ∙ ap (λ o. Ok (Some o)) g.is)) plain_none
   next_sends (no_memory i p x g e) = nothing _ (ap (λ x. of_next x) e) plain_none
 
-  connect_sends : (P : PeerKey → ℕ → ℕ → List ℕ → Type 0) {s new : EngineState} {r : _} → StepConnect s r new → Sends P (sent_by (of_connect r))
+  connect_sends : (P : PeerKey → ℕ → ℕ → List ℕ → Type 0) {s new r : _} → StepConnect s r new → Sends P (sent_by (of_connect r))
   connect_sends P {s} (joins key bytes x y z w e f) = nothing P (ap (λ x. of_connect x) e) (plain_one _ (sent_to (new_peer s key) (Bitfield bytes) ∷ []) refl (plain_one (sent_to (new_peer s key) (Bitfield bytes)) [] refl plain_none))
   connect_sends P (full x e y) = nothing P (ap (λ x. of_connect x) e) plain_none
   connect_sends P (spent x y e z) = nothing P (ap (λ x. of_connect x) e) plain_none
   connect_sends P (no_room x y e z) = nothing P (ap (λ x. of_connect x) e) plain_none
 
-  rechoke_sends : (P : PeerKey → ℕ → ℕ → List ℕ → Type 0) {s new : EngineState} {r : _} → StepRechoke dig s r new → Sends P (sent_by (of_rechoke r))
+  rechoke_sends : (P : PeerKey → ℕ → ℕ → List ℕ → Type 0) {s new r : _} → StepRechoke dig s r new → Sends P (sent_by (of_rechoke r))
   rechoke_sends P {s} {new} (rechokes out x e) =
       nothing P (ap (λ x. of_rechoke x) (e ∙ ap (λ o. Some o) x.is))
       (plain_append _ x.sent (λ y c. let p = contains_flat_map (λ p. choking_sent p p.am_choking (is_served s p)) s.peers c in plain_choking p.0 _ _ y p.2) (plain_each dig _ _ x.sent new x.follows))

@@ -67,7 +67,7 @@ record Keeps (s m : EngineState) : Type 0 where
   pub hints : m.hints ≡ s.hints
   pub pending : s.logged ≡ false → m.pending ≡ s.pending
 
-keeps_then : {s m n : EngineState} → Keeps s m → Keeps m n → Keeps s n
+keeps_then : {s m n : _} → Keeps s m → Keeps m n → Keeps s n
 keeps_then a b = record {
   torrent = b.torrent ∙ a.torrent;
   count = b.count ∙ a.count;
@@ -92,19 +92,19 @@ same_all torrent files trees logged hints pending = record {
   pending = λ none. pending;
 }
 
-is_same : {s m : EngineState} → m ≡ s → Keeps s m
+is_same : {s m : _} → m ≡ s → Keeps s m
 is_same e = same_all (ap (λ z. z.torrent) e) (ap (λ z. z.files) e) (ap (λ z. z.trees) e) (ap (λ z. z.logged) e) (ap (λ z. z.hints) e) (ap (λ z. z.pending) e)
 
 -- only peers, the next key and the turn are others
 peers_change : {s m x : EngineState} → x.torrent ≡ s.torrent → x.files ≡ s.files → x.trees ≡ s.trees → x.logged ≡ s.logged → x.hints ≡ s.hints → x.pending ≡ s.pending → m ≡ x → Keeps s m
 peers_change torrent files trees logged hints pending e = keeps_then (same_all torrent files trees logged hints pending) (is_same e)
 
-with_peer_keeps : {s m : EngineState} (i : ℕ) (q : PeerState) → m ≡ with_peer s i q → Keeps s m
+with_peer_keeps : {s m : _} (i : ℕ) (q : PeerState) → m ≡ with_peer s i q → Keeps s m
 with_peer_keeps i q e = peers_change refl refl refl refl refl refl e
 
 -- ---- files and trees
 
-file_keeps : {s : EngineState} (file : ℕ) {f : FileState} (new : FileState) → slice_get s.files file ≡ Some f → new.tree ≡ f.tree → length new.states ≡ length f.states → Keeps s (with_file s file new)
+file_keeps : {s : EngineState} (file : ℕ) {f : _} (new : FileState) → slice_get s.files file ≡ Some f → new.tree ≡ f.tree → length new.states ≡ length f.states → Keeps s (with_file s file new)
 file_keeps {s} file {f} new at tree blocks = record {
   torrent = refl;
   count = length-set s.files file new;
@@ -124,7 +124,7 @@ map_set f [] i y e same = refl
 map_set f (z ∷ xs) zero y e same = ap (λ w. w ∷ map f xs) (same ∙ ap f (sym (same_some refl e)))
 map_set f (z ∷ xs) (suc i) y e same = ap (λ ws. f z ∷ ws) (map_set f xs i y e same)
 
-tree_keeps : {s : EngineState} (t : ℕ) {old : Facts} (new : Facts) → slice_get s.trees t ≡ Some old → new.root ≡ old.root → new.file_length ≡ old.file_length → Keeps s (with_tree s t new)
+tree_keeps : {s : EngineState} (t : ℕ) {old : _} (new : Facts) → slice_get s.trees t ≡ Some old → new.root ≡ old.root → new.file_length ≡ old.file_length → Keeps s (with_tree s t new)
 tree_keeps {s} t {old} new at root size = record {
   torrent = refl;
   count = refl;
@@ -167,7 +167,7 @@ as_long f (x ∷ xs) [] same = let no = same 0 in absurd cc
 as_long f (x ∷ xs) (y ∷ ys) same = ap (λ n. suc n) (as_long (λ i. f (suc i)) xs ys (λ i. same (suc i)))
 
 module _ (dig : List ℕ → List ℕ) where
-  settle_keeps : {is_meant : ℕ → Bool} {tree from count : ℕ} {old new : EngineState} {calls : DeviceCalls} {notes : _} → SettlesIn dig is_meant tree from count old calls notes new → Keeps old new
+  settle_keeps : {is_meant tree from count old new calls notes : _} → SettlesIn dig is_meant tree from count old calls notes new → Keeps old new
   settle_keeps {tree} {count} {old} {new} s = record {
     torrent = ap (λ z. z.torrent) s.others;
     count = as_long (λ file. judged_file dig s.facts (s.reads file)) old.files new.files s.files;
@@ -187,7 +187,7 @@ module _ (dig : List ℕ → List ℕ) where
     pending = λ none. ap (λ z. z.pending) s.others;
   }
 
-  pending_keeps : (old : EngineState) {s : EngineState} (proofs : _) → Keeps s (with_pending old s proofs)
+  pending_keeps : (old : EngineState) {s : _} (proofs : _) → Keeps s (with_pending old s proofs)
   pending_keeps old {s} proofs = record {
     torrent = refl;
     count = refl;
@@ -201,34 +201,34 @@ module _ (dig : List ℕ → List ℕ) where
 
   -- ---- wire events
 
-  fault_keeps : {k : Facts} {s mid : EngineState} {file i : ℕ} {f : FileState} {read : BlockRead} {effect : Effect} → slice_get s.files file ≡ Some f → FindsFault dig k s file i f read effect mid → Keeps s mid
+  fault_keeps : {s : EngineState} {k mid file i f read effect : _} → slice_get s.files file ≡ Some f → FindsFault dig k s file i f read effect mid → Keeps s mid
   fault_keeps {file} {i} {f} at (damaged bytes x y z e) =
       keeps_then (file_keeps file (record f { states = slice_set f.states i Missing }) at refl (length-set f.states i Missing)) (is_same e)
   fault_keeps at (fault x y e) = is_same e
 
-  request_keeps : {s mid : EngineState} {i : ℕ} {p : PeerState} {ask : Ask} {calls : DeviceCalls} {effect : Effect} → HandlesRequest dig s i p ask calls effect mid → Keeps s mid
+  request_keeps : {s mid i p ask calls effect : _} → HandlesRequest dig s i p ask calls effect mid → Keeps s mid
   request_keeps (ignored a c d e) = is_same e
   request_keeps (no_place a c d f e) = is_same e
   request_keeps (not_marked span a c d f g e) = is_same e
   request_keeps {i} (served span a c d f) = with_peer_keeps i _ f.after
   request_keeps (stopped span a c d f) = fault_keeps f.is_file.here f.finds
 
-  piece_keeps : {s mid : EngineState} {i : ℕ} {p : PeerState} {piece begin : ℕ} {bytes : List ℕ} {calls : DeviceCalls} {effect : Effect} → HandlesPiece dig s i p piece begin bytes calls effect mid → Keeps s mid
+  piece_keeps : {s mid i p piece begin bytes calls effect : _} → HandlesPiece dig s i p piece begin bytes calls effect mid → Keeps s mid
   piece_keeps (stale x y z e) = is_same e
   piece_keeps {i} (arrives a) =
       let new : FileState = record a.puts.file { states = states_after_put a.block.block a.puts.result a.puts.file.states } in
       let put = file_keeps a.block.file new a.puts.is_file.here refl (length-put a.block.block a.puts.result a.puts.file.states) in
       keeps_then (keeps_then put (is_same a.puts.after)) (with_peer_keeps i _ a.after)
 
-  have_keeps : {s mid : EngineState} {i : ℕ} {p : PeerState} {piece : ℕ} {effect : Effect} → HandlesHave s i p piece effect mid → Keeps s mid
+  have_keeps : {s mid i p piece effect : _} → HandlesHave s i p piece effect mid → Keeps s mid
   have_keeps {i} (in_range x y e) = with_peer_keeps i _ e
   have_keeps (out_of_range x y e) = is_same e
 
-  bits_keeps : {s mid : EngineState} {i : ℕ} {p : PeerState} {bytes : List ℕ} {effect : Effect} → HandlesBitfield s i p bytes effect mid → Keeps s mid
+  bits_keeps : {s mid i p bytes effect : _} → HandlesBitfield s i p bytes effect mid → Keeps s mid
   bits_keeps {i} (right x y e) = with_peer_keeps i _ e
   bits_keeps (wrong x y e) = is_same e
 
-  hashes_keeps : {s mid : EngineState} {i : ℕ} {p : PeerState} {key : HashKey} {digests : List ℕ} {calls : DeviceCalls} {effect : Effect} → HandlesHashes dig s i p key digests calls effect mid → Keeps s mid
+  hashes_keeps : {s mid i p key digests calls effect : _} → HandlesHashes dig s i p key digests calls effect mid → Keeps s mid
   hashes_keeps (unknown_root x y z e) = is_same e
   hashes_keeps (no_claim f x y c) = is_same c.after
   hashes_keeps (refused f t k c x y z g) = is_same g.after
@@ -236,7 +236,7 @@ module _ (dig : List ℕ → List ℕ) where
       let grown = tree_keeps l.tree l.new l.here.here l.accepts.joins.root l.accepts.joins.file_length in
       keeps_then (keeps_then grown (settle_keeps l.settles)) (with_peer_keeps i _ l.after)
 
-  message_keeps : {s mid : EngineState} (i : ℕ) (p : PeerState) (m : Sent) (calls : DeviceCalls) (effect : Effect) → HandlesMessage dig s i p m calls effect mid → Keeps s mid
+  message_keeps : {s mid : _} (i : ℕ) (p : PeerState) (m : Sent) (calls : DeviceCalls) (effect : Effect) → HandlesMessage dig s i p m calls effect mid → Keeps s mid
   message_keeps i p KeepAlive calls effect h = is_same h.2
   message_keeps i p Choke calls effect h = with_peer_keeps i _ h.2
   message_keeps i p Unchoke calls effect h = with_peer_keeps i _ h.2
@@ -251,29 +251,29 @@ module _ (dig : List ℕ → List ℕ) where
   message_keeps i p (Hashes key digests) calls effect h = hashes_keeps h
   message_keeps i p (HashReject key) calls effect h = with_peer_keeps i _ h.2.after
 
-  event_keeps : {s mid : EngineState} (i : ℕ) (p : PeerState) (e : WireEvent) (calls : DeviceCalls) (effect : Effect) → Handles dig s i p e calls effect mid → Keeps s mid
+  event_keeps : {s mid : _} (i : ℕ) (p : PeerState) (e : WireEvent) (calls : DeviceCalls) (effect : Effect) → Handles dig s i p e calls effect mid → Keeps s mid
   event_keeps i p (Hello h) calls effect t = is_same t.2
   event_keeps i p (Message m) calls effect t = message_keeps i p m calls effect t
   event_keeps i p (Skipped kind) calls effect t = is_same t.2
 
   -- ---- events
 
-  taken_keeps : {s mid : EngineState} {i : ℕ} {p : PeerState} {calls : DeviceCalls} {effect : Effect} → TakesEvent dig s i p calls effect mid → Keeps s mid
+  taken_keeps : {s mid i p calls effect : _} → TakesEvent dig s i p calls effect mid → Keeps s mid
   taken_keeps {s} {i} {p} {calls} {effect} t =
       let taken : EngineState = with_peer s i (record p { stream = t.rest }) in
       keeps_then (with_peer_keeps i _ refl) (event_keeps i _ t.event calls effect t.handles)
 
-  follow_keeps : {s new : EngineState} {i : ℕ} {sent : List SentFrame} → FollowsUp dig s i sent new → Keeps s new
+  follow_keeps : {s new i sent : _} → FollowsUp dig s i sent new → Keeps s new
   follow_keeps {i} f = with_peer_keeps i _ f.after
 
-  gone_keeps : {s new : EngineState} (i : ℕ) → new ≡ without_peer i s → Keeps s new
+  gone_keeps : {s new : _} (i : ℕ) → new ≡ without_peer i s → Keeps s new
   gone_keeps i e = peers_change refl refl refl refl refl refl e
 
-  each_keeps : (peers : List ℕ) {s new : EngineState} (sent : List SentFrame) → FollowsEach dig peers s sent new → Keeps s new
+  each_keeps : (peers : List ℕ) {s new : _} (sent : List SentFrame) → FollowsEach dig peers s sent new → Keeps s new
   each_keeps [] sent f = is_same f.1
   each_keeps (i ∷ peers) sent f = keeps_then (follow_keeps f.3) (each_keeps peers f.2 f.4)
 
-  next_keeps : {s new : EngineState} {key : _} {calls : DeviceCalls} {answer : _} → StepNext dig s key calls answer new → Keeps s new
+  next_keeps : {s new key calls answer : _} → StepNext dig s key calls answer new → Keeps s new
   next_keeps (no_peer x y z e) = is_same e
   next_keeps (waits i p x y z w e) = is_same e
   next_keeps {s} (goes_on i p out peer g x) =
@@ -283,26 +283,26 @@ module _ (dig : List ℕ → List ℕ) where
   next_keeps (faulty i p out peer g x) = gone_keeps i g.after
   next_keeps (no_memory i p peer g x) = gone_keeps i g.after
 
-  connect_keeps : {s new : EngineState} {answer : _} → StepConnect s answer new → Keeps s new
+  connect_keeps : {s new answer : _} → StepConnect s answer new → Keeps s new
   connect_keeps (joins key bytes x y z w v e) = peers_change refl refl refl refl refl refl e
   connect_keeps (full x y e) = is_same e
   connect_keeps (spent x y z e) = is_same e
   connect_keeps (no_room x y z e) = is_same e
 
-  feed_keeps : {s new : EngineState} {key : _} {bytes : List ℕ} {answer : _} → StepFeed s key bytes answer new → Keeps s new
+  feed_keeps : {s new key bytes answer : _} → StepFeed s key bytes answer new → Keeps s new
   feed_keeps (feeds i p x y e) = with_peer_keeps i _ e
   feed_keeps (not_fed x y e) = is_same e
   feed_keeps (no_room_to_feed i p x y e) = is_same e
 
-  lost_keeps : {s new : EngineState} {key : _} {answer : _} → StepLost s key answer new → Keeps s new
+  lost_keeps : {s new key answer : _} → StepLost s key answer new → Keeps s new
   lost_keeps (goes i p x y e) = gone_keeps i e
   lost_keeps (not_lost x y e) = is_same e
 
-  rechoke_keeps : {s new : EngineState} {answer : _} → StepRechoke dig s answer new → Keeps s new
+  rechoke_keeps : {s new answer : _} → StepRechoke dig s answer new → Keeps s new
   rechoke_keeps (rechokes out r x) = keeps_then (peers_change refl refl refl refl refl refl refl) (each_keeps _ r.sent r.follows)
   rechoke_keeps (not_rechoked x e) = is_same e
 
-  length-adopted : {k grown : Facts} {from : ℕ} {old new : List BlockState} {reads : List BlockRead} {adopted : _} → Adopts dig k from old reads adopted grown new → length new ≡ length old
+  length-adopted : {k grown from old new reads adopted : _} → Adopts dig k from old reads adopted grown new → length new ≡ length old
   length-adopted (none end) = refl
   length-adopted {k} {old} (known count rs group order) = length-judged dig k true rs old
   length-adopted {old} (accepted anchor first count rs g group whole accepts) = length-marked first count old
@@ -310,7 +310,7 @@ module _ (dig : List ℕ → List ℕ) where
   length-adopted (short anchor first count rs group order faults few) = refl
   length-adopted (unread anchor first count rs group order some) = refl
 
-  group_keeps : {s new : EngineState} {file from : ℕ} {calls : DeviceCalls} {adopted : _} → AdoptsGroup dig s file from calls adopted new → Keeps s new
+  group_keeps : {s new file from calls adopted : _} → AdoptsGroup dig s file from calls adopted new → Keeps s new
   group_keeps {s} {file} g =
       let state : FileState = record g.state { states = g.states } in
       let placed : EngineState = with_file s file state in
@@ -320,11 +320,11 @@ module _ (dig : List ℕ → List ℕ) where
       let two = tree_keeps g.state.tree g.grown g.is_file.hung extends.root extends.file_length in
       keeps_then (keeps_then (keeps_then one two) (pending_keeps s g.proofs)) (is_same g.after)
 
-  groups_keep : (s : EngineState) {new : EngineState} (file from : ℕ) (groups : List DeviceCalls) (total : _) → AdoptsGroups dig s file from groups total new → Keeps s new
+  groups_keep : (s : EngineState) {new : _} (file from : ℕ) (groups : List DeviceCalls) (total : _) → AdoptsGroups dig s file from groups total new → Keeps s new
   groups_keep s file from [] total g = is_same g.1
   groups_keep s file from (calls ∷ groups) total g = keeps_then (group_keeps g.3) (groups_keep g.1 file g.0.next groups g.2 g.4)
 
-  adopt_keeps : {s new : EngineState} {file : ℕ} {calls : DeviceCalls} {answer : _} → StepAdopt dig s file calls answer new → Keeps s new
+  adopt_keeps : {s new file calls answer : _} → StepAdopt dig s file calls answer new → Keeps s new
   adopt_keeps (no_file x y z e) = is_same e
   adopt_keeps (busy x y z w e) = is_same e
   adopt_keeps (empty f x y z w v e) = is_same e
@@ -334,11 +334,11 @@ module _ (dig : List ℕ → List ℕ) where
       keeps_then (keeps_then (keeps_then own others) (pending_keeps a.mid [])) (is_same a.after)
   adopt_keeps {s} {file} (not_adopted x a y) = groups_keep s file 0 a.groups a.done a.adopts
 
-  flush_keeps : {s new : EngineState} {calls : DeviceCalls} {answer : _} → StepFlush s calls answer new → Keeps s new
+  flush_keeps : {s new calls answer : _} → StepFlush s calls answer new → Keeps s new
   flush_keeps (syncs x y z e) = is_same e
   flush_keeps (fails before file after x y z e) = is_same e
 
-  step_keeps : {s new : EngineState} (e : Event) (calls : DeviceCalls) (a : Answer) → Step dig s e calls a new → Keeps s new
+  step_keeps : {s new : _} (e : Event) (calls : DeviceCalls) (a : Answer) → Step dig s e calls a new → Keeps s new
   step_keeps Connect calls a t = connect_keeps t.3
   step_keeps (Feed key bytes) calls a t = feed_keeps t.3
   step_keeps (Next key) calls a t = next_keeps t.2
@@ -347,7 +347,7 @@ module _ (dig : List ℕ → List ℕ) where
   step_keeps (Adopt file) calls a t = adopt_keeps t.2
   step_keeps Flush calls a t = flush_keeps t.2
 
-  run_keeps : (s : EngineState) {new : EngineState} (es : List Event) (calls : List DeviceCalls) (answers : List Answer) → Run dig s es calls answers new → Keeps s new
+  run_keeps : (s : EngineState) {new : _} (es : List Event) (calls : List DeviceCalls) (answers : List Answer) → Run dig s es calls answers new → Keeps s new
   run_keeps s [] [] [] run = is_same run
   run_keeps s (e ∷ es) (c ∷ calls) (a ∷ answers) run = keeps_then (step_keeps e c a run.1) (run_keeps run.0 es calls answers run.2)
   run_keeps s [] (c ∷ calls) answers run = absurd run
@@ -366,7 +366,7 @@ module _ (dig : List ℕ → List ℕ) where
       let at : (n : ℕ) → n < length ys → (get_or xs n d).root ≡ (get_or ys n d).root = λ n below. sym (root_at xs n d (omega (arith, below, size))) ∙ ap (λ rs. get_or rs n d.root) (sym same) ∙ root_at ys n d below in
       apart i j d lt (omega (arith, within, size)) (at i (omega (arith, lt, within)) ∙ e ∙ sym (at j within))
 
-  file_shape : {file : File} {trees : List Facts} (m : EngineState) {f : FileState} {before : FileState} → HasShapeOf file trees before → f.tree ≡ before.tree → length f.states ≡ length before.states
+  file_shape : {file trees : _} (m : EngineState) {f : FileState} {before : _} → HasShapeOf file trees before → f.tree ≡ before.tree → length f.states ≡ length before.states
       → ((t : ℕ) (k : Facts) → slice_get trees t ≡ Some k → SameTree m.trees t k) → HasShapeOf file m.trees f
   file_shape m {before} old tree blocks keep = record {
     blocks = blocks ∙ old.blocks;
@@ -377,7 +377,7 @@ module _ (dig : List ℕ → List ℕ) where
         );
   }
 
-  shape_after : {torrent : Metainfo} {s new : EngineState} → IsShaped torrent s → Keeps s new → IsShaped torrent new
+  shape_after : {torrent s new : _} → IsShaped torrent s → Keeps s new → IsShaped torrent new
   shape_after {s} {new} shaped k = record {
     same = k.torrent ∙ shaped.same;
     roots = roots_apart s.trees new.trees k.roots shaped.roots;
@@ -385,7 +385,7 @@ module _ (dig : List ℕ → List ℕ) where
     each = λ i file f listed at. (let g = k.files i f at in file_shape new (shaped.each i file g.before listed g.here) g.tree g.blocks k.trees);
   }
 
-  pub shape_at_first : {torrent : Metainfo} {first : EngineState} → Starts dig torrent first → IsShaped torrent first
+  pub shape_at_first : {torrent first : _} → Starts dig torrent first → IsShaped torrent first
   shape_at_first starts = record {
     same = ap (λ z. z.torrent) starts.is;
     roots = starts.is_new.roots;
@@ -396,7 +396,7 @@ module _ (dig : List ℕ → List ℕ) where
         );
   }
 
-  pub step_shape : {torrent : Metainfo} {s new : EngineState} (e : Event) (calls : DeviceCalls) (a : Answer) → IsShaped torrent s → Step dig s e calls a new → IsShaped torrent new
+  pub step_shape : {torrent s new : _} (e : Event) (calls : DeviceCalls) (a : Answer) → IsShaped torrent s → Step dig s e calls a new → IsShaped torrent new
   step_shape e calls a shaped t = shape_after shaped (step_keeps e calls a t)
 
   pub shape_kept : RunsKeepShape dig

@@ -44,7 +44,7 @@ pub record Reads (old new : History) (calls : List Call) : Type 0 where
   pub same : new.now.bytes ≡ old.now.bytes
   pub read : (at wanted : ℕ) (bytes : List ℕ) → Contains calls (bytes_given at wanted bytes) → bytes ≡ take wanted (drop at old.now.bytes)
 
-pub calls_keep : (old : History) {new : History} (calls : List Call) → ((c : Call) → Contains calls c → KeepsBytes c) → AreAnswered old calls new → Reads old new calls
+pub calls_keep : (old : History) {new : _} (calls : List Call) → ((c : Call) → Contains calls c → KeepsBytes c) → AreAnswered old calls new → Reads old new calls
 calls_keep old [] keep a = record { same = ap (λ h. h.now.bytes) a; read = λ at wanted bytes c. absurd (contains_none c) }
 calls_keep old (call ∷ calls) keep a =
     let one : a.0.now.bytes ≡ old.now.bytes = call_keeps old a.0 call (keep call (here calls refl)) a.1 in
@@ -58,7 +58,7 @@ calls_keep old (call ∷ calls) keep a =
     }
 
 -- a device's calls are among all calls
-pub of_all : {file : ℕ} (calls : DeviceCalls) {c : Call} → Contains (calls_of file calls) c → Contains calls (file, c)
+pub of_all : {file : ℕ} (calls : DeviceCalls) {c : _} → Contains (calls_of file calls) c → Contains calls (file, c)
 of_all {file} calls {c} among =
     let m = contains_map (λ a. a.1) (filter (λ a. a.0 == file) calls) among in
     let t = contains_filter (λ a. a.0 == file) calls m.1 in
@@ -73,7 +73,7 @@ none_false x file e = rw e refl
 one_true : (x : ℕ × Call) (file : ℕ) → (x.0 == file) ≡ true → calls_of file (x ∷ []) ≡ x.1 ∷ []
 one_true x file e = rw e refl
 
-pub among_file : {file : ℕ} (calls : DeviceCalls) {c : Call} → Contains calls (file, c) → Contains (calls_of file calls) c
+pub among_file : {file : ℕ} (calls : DeviceCalls) {c : _} → Contains calls (file, c) → Contains (calls_of file calls) c
 among_file [] among = absurd (contains_none among)
 among_file {file} (x ∷ calls) {c} among = by (x.0 == file) refl (contains_cases calls among) (λ more. among_file calls more)
   where
@@ -92,12 +92,12 @@ moved {dig} {old} {new} xs ys {i} size kept same r =
     record { whole = ap length is ∙ r.whole ∙ ap (λ n. block_length n i) (sym size); leaf = kept _ r.leaf ∙ ap (λ x. Some (dig x)) (sym is) }
 
 -- a block that was written stands there
-stands : (n i : ℕ) (old : History) {new : History} (bytes : List ℕ) → length bytes ≡ block_length n i → new ≡ after_write old (full_block_length * i) bytes → stored_block n new.now.bytes i ≡ bytes
+stands : (n i : ℕ) (old : History) {new : _} (bytes : List ℕ) → length bytes ≡ block_length n i → new ≡ after_write old (full_block_length * i) bytes → stored_block n new.now.bytes i ≡ bytes
 stands n i old {new} [] size e = ap (λ m. take m (drop (full_block_length * i) new.now.bytes)) (sym size)
 stands n i old (x ∷ bytes) size e = ap (λ h. stored_block n h.now.bytes i) e ∙ own_bytes n old.now.bytes i size
 
 -- another block stays
-others : (n i j : ℕ) (old : History) {new : History} (bytes : List ℕ) → i ≢ j → length bytes ≡ block_length n j → length (stored_block n old.now.bytes i) ≡ block_length n i
+others : (n i j : ℕ) (old : History) {new : _} (bytes : List ℕ) → i ≢ j → length bytes ≡ block_length n j → length (stored_block n old.now.bytes i) ≡ block_length n i
     → new ≡ after_write old (full_block_length * j) bytes → stored_block n new.now.bytes i ≡ stored_block n old.now.bytes i
 others n i j old [] apart size whole e = ap (λ h. stored_block n h.now.bytes i) e
 others n i j old (x ∷ bytes) apart size whole e = ap (λ h. stored_block n h.now.bytes i) e ∙ other_bytes n old.now.bytes (x ∷ bytes) i j apart size whole
@@ -112,10 +112,10 @@ torn n i j old new (x ∷ bytes) apart size whole (inr t) = ap (λ h. stored_blo
 apart_by : Some Missing ≡ Some Marked → ⊥
 apart_by e = absurd cc
 
-pub no_write : {at n to : ℕ} {xs ys : List ℕ} → bytes_given at n xs ≡ bytes_written to ys → ⊥
+pub no_write : {at n to xs ys : _} → bytes_given at n xs ≡ bytes_written to ys → ⊥
 no_write e = absurd cc
 
-pub no_fault : {at n to : ℕ} {xs ys : List ℕ} → bytes_given at n xs ≡ write_fault to ys → ⊥
+pub no_fault : {at n to xs ys : _} → bytes_given at n xs ≡ write_fault to ys → ⊥
 no_fault e = absurd cc
 
 -- the calls of a step leave a marked block of a file as it is
@@ -147,7 +147,7 @@ kept_block dig {files} {trees} file i {f} {k} {calls} old new at hung marked (pu
         ]
 
 module _ {D : Type 0} (history : D → History) (honest : D → Type 0) (faults : D → ℕ) (dig : List ℕ → List ℕ) where
-  block_right : (old new : EngineState) (event : Event) (calls : DeviceCalls) (answer : Answer) (file : ℕ) {i : ℕ} {f : FileState} {k : Facts} (before after : History) → Step dig old event calls answer new
+  block_right : (old new : EngineState) (event : Event) (calls : DeviceCalls) (answer : Answer) (file : ℕ) {i f k : _} (before after : History) → Step dig old event calls answer new
       → slice_get new.files file ≡ Some f → slice_get new.trees f.tree ≡ Some k → AreAnswered before (calls_of file calls) after
       → ((g : FileState) (l : Facts) → slice_get old.files file ≡ Some g → slice_get old.trees g.tree ≡ Some l → AreRight dig l before.now.bytes g.states)
       → slice_get f.states i ≡ Some Marked → IsRight dig k i (stored_block k.file_length after.now.bytes i)
@@ -174,7 +174,7 @@ module _ {D : Type 0} (history : D → History) (honest : D → Type 0) (faults 
         | inr (found x) ↦ read_right x.hung x.read x.right tree tame.1
       ]
     where
-      read_right : {l : Facts} {bytes : List ℕ} → tree_of new file ≡ Some l → Contains calls (file, call_of l.file_length (given i bytes)) → IsRight dig l i bytes → tree_of new file ≡ Some k → Touches old.files old.trees calls → IsRight dig k i (stored_block k.file_length after.now.bytes i)
+      read_right : {l bytes : _} → tree_of new file ≡ Some l → Contains calls (file, call_of l.file_length (given i bytes)) → IsRight dig l i bytes → tree_of new file ≡ Some k → Touches old.files old.trees calls → IsRight dig k i (stored_block k.file_length after.now.bytes i)
       read_right {l} {bytes} l_hung l_read l_right tree (keeping keep) =
           let same : l ≡ k = same_some l_hung tree in
           let reads = calls_keep before (calls_of file calls) (λ c among. keep (file, c) (of_all calls among)) answered in

@@ -65,7 +65,7 @@ layer_whole {dig} sizes {n} {layer} {bytes} h = record {
       | inr ge ↦ (let same : l ≡ height_of (block_count n) = omega arith in inr (same, subst (λ m. i < real_width (block_count n) m) same real))
     ]
 
-pub layer_rooted : {dig : List ℕ → List ℕ} → IsDigest dig → {n : ℕ} {root : List ℕ} {layer : ℕ} {bytes : List ℕ} {k : Facts} → IsFileLength n → HoldsLayer dig n root layer bytes k → IsRooted dig k
+pub layer_rooted : {dig : _} → IsDigest dig → {n root layer bytes k : _} → IsFileLength n → HoldsLayer dig n root layer bytes k → IsRooted dig k
 layer_rooted {dig} sizes {n} {root} {layer} {bytes} {k} lawful h =
     let row : ℕ → List ℕ = layer_digest dig (block_count n) layer bytes in
     let sound = filled_sound dig n row layer root k.nodes (layer_whole sizes h) lawful
@@ -82,11 +82,11 @@ get_is (y ∷ xs) zero {x} e = (omega arith, same e)
     same e = cc
 get_is (y ∷ xs) (suc i) e = let r = get_is xs i e in (omega (arith, r.0), r.1)
 
-tree_rooted : {dig : List ℕ → List ℕ} → IsDigest dig → {torrent : Metainfo} {file : File} {k : Facts} → IsFileLength file.length → length file.root ≡ 32 → IsTreeFrom dig torrent file k → IsRooted dig k
+tree_rooted : {dig : _} → IsDigest dig → {file : File} {torrent k : _} → IsFileLength file.length → length file.root ≡ 32 → IsTreeFrom dig torrent file k → IsRooted dig k
 tree_rooted sizes lawful size (by_layer layer some piece h) = layer_rooted sizes lawful h
 tree_rooted {dig} sizes {file} lawful size (by_root none is) = subst (λ x. IsRooted dig x) (sym is) (root_sound dig file.length file.root lawful size).rooted
 
-pub start_rooted : {dig : List ℕ → List ℕ} → IsDigest dig → {torrent : Metainfo} {s : EngineState} → IsLawful torrent.piece_length torrent.files → Starts dig torrent s → AreRooted dig s
+pub start_rooted : {dig : _} → IsDigest dig → {torrent : Metainfo} {s : _} → IsLawful torrent.piece_length torrent.files → Starts dig torrent s → AreRooted dig s
 start_rooted sizes {torrent} lawful starts t k at =
     let tree = starts.is_new.each_tree t k at in
     let found = get_is torrent.files tree.number tree.listed in

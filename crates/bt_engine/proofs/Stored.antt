@@ -58,7 +58,7 @@ same_at n xs ys i whole longer same =
     let low : k < block_length n i = omega (arith, length_at n ys i) in
     index_at n ys i k low ∙ same (16384 * i + k) (omega arith) (omega arith) (omega (arith, length_at n xs i, whole)) ∙ sym (index_at n xs i k low))
 
-pub own_bytes : (n : ℕ) (xs : List ℕ) {more : List ℕ} (i : ℕ) → length more ≡ block_length n i → stored_block n (written xs (16384 * i) more) i ≡ more
+pub own_bytes : (n : ℕ) (xs : List ℕ) {more : _} (i : ℕ) → length more ≡ block_length n i → stored_block n (written xs (16384 * i) more) i ≡ more
 own_bytes n xs {more} i size =
     let all = length_at n (written xs (16384 * i) more) i in
     same_number_lists (stored_block n (written xs (16384 * i) more) i) more (omega (arith, all, length-written xs more (16384 * i), size))
@@ -74,7 +74,7 @@ other_bytes n xs more i j apart size whole =
     same_at n xs (written xs (16384 * j) more) i whole (omega (arith, length-written xs more (16384 * j)))
     (λ x from to within. written_outside xs more (16384 * j) x within (away n i j x (length more) apart (omega arith) from to))
 
-pub torn_bytes : (n : ℕ) {s t : State} (i j : ℕ) {m : ℕ} → i ≢ j → m ≡ block_length n j → IsTornWrite (16384 * j) m s t → length (stored_block n s.bytes i) ≡ block_length n i → stored_block n t.bytes i ≡ stored_block n s.bytes i
+pub torn_bytes : (n : ℕ) {s t : _} (i j : ℕ) {m : ℕ} → i ≢ j → m ≡ block_length n j → IsTornWrite (16384 * j) m s t → length (stored_block n s.bytes i) ≡ block_length n i → stored_block n t.bytes i ≡ stored_block n s.bytes i
 torn_bytes n {s} {t} i j {m} apart size torn whole =
     same_at n s.bytes t.bytes i whole torn.no_shorter
     (λ x from to within. elim (away n i j x m apart (omega arith) from to) [
@@ -107,7 +107,7 @@ block_is {n} bytes i whole =
     let low : j < block_length n i = omega (arith, front, back, whole) in
     get_or-take 16384 (drop (16384 * i) (take n bytes)) j 0 (omega arith) ∙ get_or-drop (16384 * i) (take n bytes) j 0 ∙ get_or-take n bytes (16384 * i + j) 0 (omega arith) ∙ sym (index_at n bytes i j low))
 
-node_is : {dig : List ℕ → List ℕ} {k : Facts} (bytes : List ℕ) → IsRooted dig k → length (take k.file_length bytes) ≡ k.file_length → ((i : ℕ) → i < blocks_of k → IsRight dig k i (stored_block k.file_length bytes i))
+node_is : {dig k : _} (bytes : List ℕ) → IsRooted dig k → length (take k.file_length bytes) ≡ k.file_length → ((i : ℕ) → i < blocks_of k → IsRight dig k i (stored_block k.file_length bytes i))
     → (layer : ℕ) {i : ℕ} → IsInside (blocks_of k) layer i → value_at dig k layer i ≡ Some (node_digest dig (take k.file_length bytes) layer i)
 node_is {dig} {k} bytes rooted whole right zero {i} inside =
     let file = take k.file_length bytes in
@@ -129,7 +129,7 @@ node_is {dig} {k} bytes rooted whole right (suc layer) {i} inside =
     ∙ value_above dig k layer i _ _ rooted low (node_is bytes rooted whole right layer left) (node_is bytes rooted whole right layer right_one)
     ∙ ap (λ x. Some x) (sym (node_parent dig file layer i))
 
-pub complete_root : {dig : List ℕ → List ℕ} (k : Facts) (bytes : List ℕ) (states : List BlockState) → IsRooted dig k → 0 < k.file_length
+pub complete_root : {dig : _} (k : Facts) (bytes : List ℕ) (states : List BlockState) → IsRooted dig k → 0 < k.file_length
     → ((i : ℕ) → i < blocks_of k → slice_get states i ≡ Some Marked) → AreRight dig k bytes states
     → HasFile dig k bytes
 complete_root {dig} k bytes states rooted some marked right =

@@ -79,7 +79,7 @@ value_kept dig old new size kept l i d e =
 no_calls : AllKeepBytes []
 no_calls c among = absurd (contains_none among)
 
-keep_is : {xs ys : DeviceCalls} → xs ≡ ys → AllKeepBytes ys → AllKeepBytes xs
+keep_is : {xs ys : _} → xs ≡ ys → AllKeepBytes ys → AllKeepBytes xs
 keep_is e f = subst (λ cs. AllKeepBytes cs) (sym e) f
 
 read_keeps : (n : ℕ) (r : BlockRead) → KeepsBytes (call_of n r)
@@ -111,31 +111,31 @@ module _ (dig : List ℕ → List ℕ) where
   like : (files : List FileState) (trees : List Facts) (m mid : EngineState) → mid.files ≡ m.files → mid.trees ≡ m.trees → Grows dig files trees m → Grows dig files trees mid
   like files trees m mid sames sametrees g file f k at hung = g file f k (sym (ap (λ fs. slice_get fs file) sames) ∙ at) (sym (ap (λ ts. slice_get ts f.tree) sametrees) ∙ hung)
 
-  quiet : (s mid : EngineState) {calls : DeviceCalls} → mid.files ≡ s.files → mid.trees ≡ s.trees → calls ≡ [] → Tame dig s.files s.trees calls mid
+  quiet : (s mid : EngineState) {calls : _} → mid.files ≡ s.files → mid.trees ≡ s.trees → calls ≡ [] → Tame dig s.files s.trees calls mid
   quiet s mid files trees none = (stays s mid files trees, keeping (keep_is none no_calls))
 
   -- a file stands in the place of one with the same tree
-  file_grows : (s : EngineState) (file : ℕ) {f : FileState} (new : FileState) → slice_get s.files file ≡ Some f → new.tree ≡ f.tree → Grows dig s.files s.trees (with_file s file new)
+  file_grows : (s : EngineState) (file : ℕ) {f : _} (new : FileState) → slice_get s.files file ≡ Some f → new.tree ≡ f.tree → Grows dig s.files s.trees (with_file s file new)
   file_grows s file new at same other g k there hung = elim (set_cases s.files file other there) [
     | inl now ↦ same_tree (ap (slice_get s.files) now.0 ∙ at) (ap (slice_get s.trees) (sym same ∙ sym (ap (λ (q : FileState). q.tree) now.1)) ∙ hung)
     | inr old ↦ same_tree old hung
   ]
 
-  have_tame : {s mid : EngineState} {i : ℕ} {p : PeerState} {piece : ℕ} {calls : DeviceCalls} {effect : Effect} → calls ≡ [] → HandlesHave s i p piece effect mid → Tame dig s.files s.trees calls mid
+  have_tame : {s mid i p piece calls effect : _} → calls ≡ [] → HandlesHave s i p piece effect mid → Tame dig s.files s.trees calls mid
   have_tame {s} {mid} none (in_range x y e) = quiet s mid (ap (λ z. z.files) e) (ap (λ z. z.trees) e) none
   have_tame {s} {mid} none (out_of_range x y e) = quiet s mid (ap (λ z. z.files) e) (ap (λ z. z.trees) e) none
 
-  bits_tame : {s mid : EngineState} {i : ℕ} {p : PeerState} {bytes : List ℕ} {calls : DeviceCalls} {effect : Effect} → calls ≡ [] → HandlesBitfield s i p bytes effect mid → Tame dig s.files s.trees calls mid
+  bits_tame : {s mid i p bytes calls effect : _} → calls ≡ [] → HandlesBitfield s i p bytes effect mid → Tame dig s.files s.trees calls mid
   bits_tame {s} {mid} none (right x y e) = quiet s mid (ap (λ z. z.files) e) (ap (λ z. z.trees) e) none
   bits_tame {s} {mid} none (wrong x y e) = quiet s mid (ap (λ z. z.files) e) (ap (λ z. z.trees) e) none
 
-  fault_grows : {k : Facts} {s mid : EngineState} {file i : ℕ} {f : FileState} {read : BlockRead} {effect : Effect} → slice_get s.files file ≡ Some f → FindsFault dig k s file i f read effect mid → Grows dig s.files s.trees mid
+  fault_grows : {s : EngineState} {k mid file i f read effect : _} → slice_get s.files file ≡ Some f → FindsFault dig k s file i f read effect mid → Grows dig s.files s.trees mid
   fault_grows {s} {mid} {file} {i} {f} at (damaged bytes x y z e) =
       let new : FileState = record f { states = slice_set f.states i Missing } in
       like s.files s.trees (with_file s file new) mid (ap (λ z. z.files) e) (ap (λ z. z.trees) e) (file_grows s file new at refl)
   fault_grows {s} {mid} at (fault x y e) = stays s mid (ap (λ z. z.files) e) (ap (λ z. z.trees) e)
 
-  request_tame : {s mid : EngineState} {i : ℕ} {p : PeerState} {ask : Ask} {calls : DeviceCalls} {effect : Effect} → HandlesRequest dig s i p ask calls effect mid → Tame dig s.files s.trees calls mid
+  request_tame : {s mid i p ask calls effect : _} → HandlesRequest dig s i p ask calls effect mid → Tame dig s.files s.trees calls mid
   request_tame {s} {mid} (ignored a c d e) = quiet s mid (ap (λ z. z.files) e) (ap (λ z. z.trees) e) c
   request_tame {s} {mid} (no_place a c d f e) = quiet s mid (ap (λ z. z.files) e) (ap (λ z. z.trees) e) d
   request_tame {s} {mid} (not_marked span a c d f g e) = quiet s mid (ap (λ z. z.files) e) (ap (λ z. z.trees) e) f
@@ -154,7 +154,7 @@ module _ (dig : List ℕ → List ℕ) where
   put_touches c bytes at hung (Ok Wrong) due made = keeping (keep_is made no_calls)
   put_touches c bytes at hung (Err Range) due made = keeping (keep_is made no_calls)
 
-  arrives_tame : {s mid : EngineState} {i : ℕ} {p : PeerState} {piece begin : ℕ} {bytes : List ℕ} {calls : DeviceCalls} {effect : Effect} → Arrives dig s i p piece begin bytes calls effect mid → Tame dig s.files s.trees calls mid
+  arrives_tame : {s mid i p piece begin bytes calls effect : _} → Arrives dig s i p piece begin bytes calls effect mid → Tame dig s.files s.trees calls mid
   arrives_tame {s} {mid} {bytes} a =
       let q = a.puts in
       let new : FileState = record q.file { states = states_after_put a.block.block q.result q.file.states } in
@@ -163,12 +163,12 @@ module _ (dig : List ℕ → List ℕ) where
         put_touches a.block bytes q.is_file.here q.is_file.hung q.result q.due q.made,
       )
 
-  piece_tame : {s mid : EngineState} {i : ℕ} {p : PeerState} {piece begin : ℕ} {bytes : List ℕ} {calls : DeviceCalls} {effect : Effect} → HandlesPiece dig s i p piece begin bytes calls effect mid → Tame dig s.files s.trees calls mid
+  piece_tame : {s mid i p piece begin bytes calls effect : _} → HandlesPiece dig s i p piece begin bytes calls effect mid → Tame dig s.files s.trees calls mid
   piece_tame {s} {mid} (stale x y z e) = quiet s mid (ap (λ z. z.files) e) (ap (λ z. z.trees) e) y
   piece_tame (arrives a) = arrives_tame a
 
   -- a grown tree stands in the place of the one that it grew from
-  tree_grows : (s : EngineState) (t : ℕ) {old : Facts} (new : Facts) → slice_get s.trees t ≡ Some old → new.file_length ≡ old.file_length → new.root ≡ old.root
+  tree_grows : (s : EngineState) (t : ℕ) {old : _} (new : Facts) → slice_get s.trees t ≡ Some old → new.file_length ≡ old.file_length → new.root ≡ old.root
       → ((i : ℕ) (d : List ℕ) → value_at dig old 0 i ≡ Some d → value_at dig new 0 i ≡ Some d) → Grows dig s.files s.trees (with_tree s t new)
   tree_grows s t {old} new at size root kept file f k there hung = elim (set_cases s.trees t f.tree hung) [
     | inl now ↦ subst (λ x. GrownFrom dig s.files s.trees file x) (sym now.1) (record {
@@ -183,19 +183,19 @@ module _ (dig : List ℕ → List ℕ) where
     | inr before ↦ same_tree there before
   ]
 
-  settled_grows : (files : List FileState) (trees : List Facts) {is_meant : ℕ → Bool} {t from count : ℕ} {old new : EngineState} {calls : DeviceCalls} {notes : _} → SettlesIn dig is_meant t from count old calls notes new → Grows dig files trees old
+  settled_grows : (files : List FileState) (trees : List Facts) {is_meant t from count old new calls notes : _} → SettlesIn dig is_meant t from count old calls notes new → Grows dig files trees old
       → Grows dig files trees new
   settled_grows files trees {old} s g file f k at hung =
       let m = map_some (judged_file dig s.facts (s.reads file)) (slice_get old.files file) (sym (s.files file) ∙ at) in
       let tree : m.0.tree ≡ f.tree = ap (λ (q : FileState). q.tree) m.2 in
       g file m.0 k m.1 (ap (slice_get old.trees) tree ∙ sym (ap (λ ts. slice_get ts f.tree) (ap (λ z. z.trees) s.others)) ∙ hung)
 
-  settled_keeps : {is_meant : ℕ → Bool} {t from count : ℕ} {old new : EngineState} {calls : DeviceCalls} {notes : _} → SettlesIn dig is_meant t from count old calls notes new → AllKeepBytes calls
+  settled_keeps : {is_meant t from count old new calls notes : _} → SettlesIn dig is_meant t from count old calls notes new → AllKeepBytes calls
   settled_keeps {old} s = keep_is s.made (λ c among.
       let m = contains_flat_map (λ file. reads_at file s.facts.file_length (s.reads file)) (file_numbers old) among in
       reads_keep m.0 s.facts.file_length (s.reads m.0) c m.2)
 
-  hashes_tame : {s mid : EngineState} {i : ℕ} {p : PeerState} {key : HashKey} {digests : List ℕ} {calls : DeviceCalls} {effect : Effect} → HandlesHashes dig s i p key digests calls effect mid → Tame dig s.files s.trees calls mid
+  hashes_tame : {s mid i p key digests calls effect : _} → HandlesHashes dig s i p key digests calls effect mid → Tame dig s.files s.trees calls mid
   hashes_tame {s} {mid} (unknown_root x y z e) = quiet s mid (ap (λ z. z.files) e) (ap (λ z. z.trees) e) y
   hashes_tame {s} {mid} (no_claim f x y c) = quiet s mid (ap (λ z. z.files) c.after) (ap (λ z. z.trees) c.after) c.made
   hashes_tame {s} {mid} (refused f t k c x y z g) = quiet s mid (ap (λ z. z.files) g.after) (ap (λ z. z.trees) g.after) g.made
@@ -225,7 +225,7 @@ module _ (dig : List ℕ → List ℕ) where
   event_tame s mid i p (Message m) calls effect t = message_tame s mid i p m calls effect t
   event_tame s mid i p (Skipped kind) calls effect t = quiet s mid (ap (λ z. z.files) t.2) (ap (λ z. z.trees) t.2) t.0
 
-  next_tame : {s new : EngineState} {key : _} {calls : DeviceCalls} {answer : _} → StepNext dig s key calls answer new → Tame dig s.files s.trees calls new
+  next_tame : {s new key calls answer : _} → StepNext dig s key calls answer new → Tame dig s.files s.trees calls new
   next_tame {s} {new} (no_peer x y z e) = quiet s new (ap (λ z. z.files) e) (ap (λ z. z.trees) e) y
   next_tame {s} {new} (waits i p x y z w e) = quiet s new (ap (λ z. z.files) e) (ap (λ z. z.trees) e) z
   next_tame {s} {new} {calls} (goes_on i p out x g y) =
@@ -243,22 +243,22 @@ module _ (dig : List ℕ → List ℕ) where
       let r = each_same peers f.0 new f.2 f.4 in
       (r.0 ∙ ap (λ z. z.files) f.3.after, r.1 ∙ ap (λ z. z.trees) f.3.after)
 
-  connect_tame : {s new : EngineState} {calls : DeviceCalls} {answer : _} → calls ≡ [] → StepConnect s answer new → Tame dig s.files s.trees calls new
+  connect_tame : {s new calls answer : _} → calls ≡ [] → StepConnect s answer new → Tame dig s.files s.trees calls new
   connect_tame {s} {new} none (joins key bytes x y z w v e) = quiet s new (ap (λ z. z.files) e) (ap (λ z. z.trees) e) none
   connect_tame {s} {new} none (full x y e) = quiet s new (ap (λ z. z.files) e) (ap (λ z. z.trees) e) none
   connect_tame {s} {new} none (spent x y z e) = quiet s new (ap (λ z. z.files) e) (ap (λ z. z.trees) e) none
   connect_tame {s} {new} none (no_room x y z e) = quiet s new (ap (λ z. z.files) e) (ap (λ z. z.trees) e) none
 
-  feed_tame : {s new : EngineState} {key : _} {bytes : List ℕ} {calls : DeviceCalls} {answer : _} → calls ≡ [] → StepFeed s key bytes answer new → Tame dig s.files s.trees calls new
+  feed_tame : {s new key bytes calls answer : _} → calls ≡ [] → StepFeed s key bytes answer new → Tame dig s.files s.trees calls new
   feed_tame {s} {new} none (feeds i p x y e) = quiet s new (ap (λ z. z.files) e) (ap (λ z. z.trees) e) none
   feed_tame {s} {new} none (not_fed x y e) = quiet s new (ap (λ z. z.files) e) (ap (λ z. z.trees) e) none
   feed_tame {s} {new} none (no_room_to_feed i p x y e) = quiet s new (ap (λ z. z.files) e) (ap (λ z. z.trees) e) none
 
-  lost_tame : {s new : EngineState} {key : _} {calls : DeviceCalls} {answer : _} → calls ≡ [] → StepLost s key answer new → Tame dig s.files s.trees calls new
+  lost_tame : {s new key calls answer : _} → calls ≡ [] → StepLost s key answer new → Tame dig s.files s.trees calls new
   lost_tame {s} {new} none (goes i p x y e) = quiet s new (ap (λ z. z.files) e) (ap (λ z. z.trees) e) none
   lost_tame {s} {new} none (not_lost x y e) = quiet s new (ap (λ z. z.files) e) (ap (λ z. z.trees) e) none
 
-  rechoke_tame : {s new : EngineState} {calls : DeviceCalls} {answer : _} → calls ≡ [] → StepRechoke dig s answer new → Tame dig s.files s.trees calls new
+  rechoke_tame : {s new calls answer : _} → calls ≡ [] → StepRechoke dig s answer new → Tame dig s.files s.trees calls new
   rechoke_tame {s} {new} none (rechokes out r x) = let same = each_same _ _ new r.sent r.follows in quiet s new same.0 same.1 none
   rechoke_tame {s} {new} none (not_rechoked x e) = quiet s new (ap (λ z. z.files) e) (ap (λ z. z.trees) e) none
 
@@ -277,7 +277,7 @@ module _ (dig : List ℕ → List ℕ) where
         kept = λ i d e. later.kept i d (before.kept i d e);
       }
 
-  group_tame : {s new : EngineState} {file from : ℕ} {calls : DeviceCalls} {adopted : _} → AdoptsGroup dig s file from calls adopted new → Grows dig s.files s.trees new × AllKeepBytes calls
+  group_tame : {s new file from calls adopted : _} → AdoptsGroup dig s file from calls adopted new → Grows dig s.files s.trees new × AllKeepBytes calls
   group_tame {s} {new} {file} g =
       let state : FileState = record g.state { states = g.states } in
       let extends = group_extends dig g in
@@ -296,7 +296,7 @@ module _ (dig : List ℕ → List ℕ) where
       let more = groups_tame g.1 new file g.0.next groups g.2 g.4 in
       (grows_then s g.1 new one.0 more.0, append_keeps calls (flat_map (λ c. c) groups) one.1 more.1)
 
-  adopt_tame : {s new : EngineState} {file : ℕ} {calls : DeviceCalls} {answer : _} → StepAdopt dig s file calls answer new → Tame dig s.files s.trees calls new
+  adopt_tame : {s new file calls answer : _} → StepAdopt dig s file calls answer new → Tame dig s.files s.trees calls new
   adopt_tame {s} {new} (no_file x y z e) = quiet s new (ap (λ z. z.files) e) (ap (λ z. z.trees) e) y
   adopt_tame {s} {new} (busy x y z w e) = quiet s new (ap (λ z. z.files) e) (ap (λ z. z.trees) e) z
   adopt_tame {s} {new} (empty f x y z w v e) = quiet s new (ap (λ z. z.files) e) (ap (λ z. z.trees) e) w
@@ -310,7 +310,7 @@ module _ (dig : List ℕ → List ℕ) where
       let groups = groups_tame s new file 0 a.groups a.done a.adopts in
       (groups.0, keeping (keep_is a.made (append_keeps (flat_map (λ c. c) a.groups) _ groups.1 (reads_keep file a.tree.file_length a.reads))))
 
-  flush_tame : {s new : EngineState} {calls : DeviceCalls} {answer : _} → StepFlush s calls answer new → Tame dig s.files s.trees calls new
+  flush_tame : {s new calls answer : _} → StepFlush s calls answer new → Tame dig s.files s.trees calls new
   flush_tame {s} {new} (syncs x y z e) = (stays s new (ap (λ z. z.files) e) (ap (λ z. z.trees) e), keeping (keep_is y (syncs_keep _)))
   flush_tame {s} {new} (fails before file after x y z e) = (
     stays s new (ap (λ z. z.files) e) (ap (λ z. z.trees) e),
@@ -329,7 +329,7 @@ module _ (dig : List ℕ → List ℕ) where
   step_tame s new (Adopt file) calls a t = adopt_tame t.2
   step_tame s new Flush calls a t = flush_tame t.2
 
-  writes_of : {s : EngineState} {calls : DeviceCalls} → Touches s.files s.trees calls → AllKeepBytes calls ⊎ IsWriteOfMissing s calls
+  writes_of : {s : EngineState} {calls : _} → Touches s.files s.trees calls → AllKeepBytes calls ⊎ IsWriteOfMissing s calls
   writes_of (keeping keep) = inl keep
   writes_of {s} (putting b bytes f k call here hung missing whole only writes) = inr (record {
     block = b;

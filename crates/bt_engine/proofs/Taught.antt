@@ -77,12 +77,12 @@ listed (suc n) f each =
     let more = listed n (λ t. f (suc t)) (λ t lt. each (suc t) (omega (arith, lt))) in
     (first.0 ∷ more.0, omega (arith, more.1), by more.0 first.1 more.2)
   where
-    by : {d : List ℕ} (ds : List (List ℕ)) → f 0 ≡ Some d → ((t : ℕ) → t < n → f (suc t) ≡ Some (get_or ds t [])) → (t : ℕ) → t < suc n → f t ≡ Some (get_or (d ∷ ds) t [])
+    by : {d : _} (ds : List (List ℕ)) → f 0 ≡ Some d → ((t : ℕ) → t < n → f (suc t) ≡ Some (get_or ds t [])) → (t : ℕ) → t < suc n → f t ≡ Some (get_or (d ∷ ds) t [])
     by ds e more zero lt = e
     by ds e more (suc t) lt = more t (omega (arith, lt))
 
 -- a group of which nothing was marked taught nothing
-none_taught : (b : Bool) (keys : List HashKey) {key : HashKey} → Contains (if b && false then keys else []) key → ⊥
+none_taught : (b : Bool) (keys : List HashKey) {key : _} → Contains (if b && false then keys else []) key → ⊥
 none_taught true keys c = contains_none c
 none_taught false keys c = contains_none c
 

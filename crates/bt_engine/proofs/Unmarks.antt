@@ -91,14 +91,14 @@ module _ (dig : List ℕ → List ℕ) (b : BlockId) where
   abbrev Stays : EngineState → DeviceCalls → EngineState → Type 0
   Stays s calls mid = (state_at mid b ≡ Some Marked) ⊎ IsFoundWrong dig s calls b
 
-  same_stays : {s mid : EngineState} (calls : DeviceCalls) → mid ≡ s → state_at s b ≡ Some Marked → Stays s calls mid
+  same_stays : {s mid : _} (calls : DeviceCalls) → mid ≡ s → state_at s b ≡ Some Marked → Stays s calls mid
   same_stays calls e m = inl (ap (λ z. state_at z b) e ∙ m)
 
-  found_in : {s t : EngineState} {calls more : DeviceCalls} → tree_of t b.file ≡ tree_of s b.file → ((c : ℕ × Call) → Contains calls c → Contains more c) → IsFoundWrong dig s calls b → IsFoundWrong dig t more b
+  found_in : {s t calls more : _} → tree_of t b.file ≡ tree_of s b.file → ((c : ℕ × Call) → Contains calls c → Contains more c) → IsFoundWrong dig s calls b → IsFoundWrong dig t more b
   found_in trees among w = record { tree = w.tree; bytes = w.bytes; hung = trees ∙ w.hung; read = among _ w.read; wrong = w.wrong }
 
   -- in a file that stands in the place of another
-  file_stays : (R : Type 0) (s : EngineState) (file : ℕ) {f : FileState} (new : FileState) → slice_get s.files file ≡ Some f → state_at s b ≡ Some Marked
+  file_stays : (R : Type 0) (s : EngineState) (file : ℕ) {f : _} (new : FileState) → slice_get s.files file ≡ Some f → state_at s b ≡ Some Marked
       → (b.file ≡ file → slice_get f.states b.block ≡ Some Marked → (slice_get new.states b.block ≡ Some Marked) ⊎ R) → (state_at (with_file s file new) b ≡ Some Marked) ⊎ R
   file_stays R s file {f} new at m keep = by (b.file == file) refl
     where
@@ -115,12 +115,12 @@ module _ (dig : List ℕ → List ℕ) (b : BlockId) where
           let apart : b.file ≢ file = λ same. (let yes : (b.file == file) ≡ true = eq-eqb b.file file same in let no : true ≡ false = sym yes ∙ e in absurd cc) in
           inl (ap (option_and_then (λ (q : FileState). slice_get q.states b.block)) (set_other s.files file b.file new apart) ∙ m)
 
-  hung_in : {s : EngineState} {file : ℕ} {f : FileState} {k : Facts} → IsFile s file f k → b.file ≡ file → tree_of s b.file ≡ Some k
+  hung_in : {s file f k : _} → IsFile s file f k → b.file ≡ file → tree_of s b.file ≡ Some k
   hung_in {s} is same = ap (option_and_then (λ (q : FileState). slice_get s.trees q.tree)) (ap (slice_get s.files) same ∙ is.here) ∙ is.hung
 
   -- ---- wire events
 
-  stop_stays : {s mid : EngineState} {span : _} {calls : DeviceCalls} {effect : Effect} → StopsAtFault dig s span calls effect mid → state_at s b ≡ Some Marked → Stays s calls mid
+  stop_stays : {s mid span calls effect : _} → StopsAtFault dig s span calls effect mid → state_at s b ≡ Some Marked → Stays s calls mid
   stop_stays {s} {mid} {span} {calls} {effect} x m = by x.finds
     where
       read_at_end : Contains calls (span.file, call_of x.tree.file_length x.read)
@@ -141,7 +141,7 @@ module _ (dig : List ℕ → List ℕ) (b : BlockId) where
           ])) [ inl kept ↦ inl (ap (λ z. state_at z b) e ∙ kept) | inr w ↦ inr w ]
       by (fault is y e) = same_stays calls e m
 
-  request_stays : {s mid : EngineState} {i : ℕ} {p : PeerState} {ask : Ask} {calls : DeviceCalls} {effect : Effect} → HandlesRequest dig s i p ask calls effect mid → state_at s b ≡ Some Marked → Stays s calls mid
+  request_stays : {s mid i p ask calls effect : _} → HandlesRequest dig s i p ask calls effect mid → state_at s b ≡ Some Marked → Stays s calls mid
   request_stays {calls} (ignored a c d e) m = same_stays calls e m
   request_stays {calls} (no_place a c d f e) m = same_stays calls e m
   request_stays {calls} (not_marked span a c d f g e) m = same_stays calls e m
@@ -158,7 +158,7 @@ module _ (dig : List ℕ → List ℕ) (b : BlockId) where
   put_stays k i bytes states j (Ok Wrong) due e = e
   put_stays k i bytes states j (Err x) due e = e
 
-  piece_stays : {s mid : EngineState} {i : ℕ} {p : PeerState} {piece begin : ℕ} {bytes : List ℕ} {calls : DeviceCalls} {effect : Effect} → HandlesPiece dig s i p piece begin bytes calls effect mid → state_at s b ≡ Some Marked → Stays s calls mid
+  piece_stays : {s mid i p piece begin bytes calls effect : _} → HandlesPiece dig s i p piece begin bytes calls effect mid → state_at s b ≡ Some Marked → Stays s calls mid
   piece_stays {calls} (stale x y z e) m = same_stays calls e m
   piece_stays {s} {bytes} {calls} (arrives a) m =
       let q = a.puts in
@@ -169,7 +169,7 @@ module _ (dig : List ℕ → List ℕ) (b : BlockId) where
       ]
 
   -- a marked block is not due
-  settle_stays : {is_meant : ℕ → Bool} {tree from count : ℕ} {old new : EngineState} {calls : DeviceCalls} {notes : _} → SettlesIn dig is_meant tree from count old calls notes new → state_at old b ≡ Some Marked → state_at new b ≡ Some Marked
+  settle_stays : {is_meant tree from count old new calls notes : _} → SettlesIn dig is_meant tree from count old calls notes new → state_at old b ≡ Some Marked → state_at new b ≡ Some Marked
   settle_stays {is_meant} {old} {new} s m =
       let f = and_then_some (λ (q : FileState). slice_get q.states b.block) (slice_get old.files b.file) m in
       let unread : Contains (map block_of (s.reads b.file)) b.block → ⊥ = λ c. (
@@ -179,18 +179,18 @@ module _ (dig : List ℕ → List ℕ) (b : BlockId) where
       state_is new b (s.files b.file ∙ ap (option_map (judged_file dig s.facts (s.reads b.file))) f.1)
       (judged_other dig s.facts false (s.reads b.file) f.0.states b.block unread ∙ f.2)
 
-  hashes_stays : {s mid : EngineState} {i : ℕ} {p : PeerState} {key : HashKey} {digests : List ℕ} {calls : DeviceCalls} {effect : Effect} → HandlesHashes dig s i p key digests calls effect mid → state_at s b ≡ Some Marked → Stays s calls mid
+  hashes_stays : {s mid i p key digests calls effect : _} → HandlesHashes dig s i p key digests calls effect mid → state_at s b ≡ Some Marked → Stays s calls mid
   hashes_stays {calls} (unknown_root x y z e) m = same_stays calls e m
   hashes_stays {calls} (no_claim f x y c) m = same_stays calls c.after m
   hashes_stays {calls} (refused f t k c x y z g) m = same_stays calls g.after m
   hashes_stays (learns l) m =
       inl (ap (λ z. state_at z b) l.after ∙ settle_stays l.settles m)
 
-  have_stays : {s mid : EngineState} {i : ℕ} {p : PeerState} {piece : ℕ} (calls : DeviceCalls) {effect : Effect} → HandlesHave s i p piece effect mid → state_at s b ≡ Some Marked → Stays s calls mid
+  have_stays : {s mid i p piece : _} (calls : DeviceCalls) {effect : _} → HandlesHave s i p piece effect mid → state_at s b ≡ Some Marked → Stays s calls mid
   have_stays calls (in_range x y e) m = inl (ap (λ z. state_at z b) e ∙ m)
   have_stays calls (out_of_range x y e) m = same_stays calls e m
 
-  bits_stays : {s mid : EngineState} {i : ℕ} {p : PeerState} {bytes : List ℕ} (calls : DeviceCalls) {effect : Effect} → HandlesBitfield s i p bytes effect mid → state_at s b ≡ Some Marked → Stays s calls mid
+  bits_stays : {s mid i p bytes : _} (calls : DeviceCalls) {effect : _} → HandlesBitfield s i p bytes effect mid → state_at s b ≡ Some Marked → Stays s calls mid
   bits_stays calls (right x y e) m = inl (ap (λ z. state_at z b) e ∙ m)
   bits_stays calls (wrong x y e) m = same_stays calls e m
 
@@ -216,13 +216,13 @@ module _ (dig : List ℕ → List ℕ) (b : BlockId) where
 
   -- ---- events
 
-  taken_stays : {s mid : EngineState} (new : EngineState) {i : ℕ} {p : PeerState} {calls : DeviceCalls} {effect : Effect} → TakesEvent dig s i p calls effect mid → state_at new b ≡ state_at mid b → state_at s b ≡ Some Marked → Stays s calls new
+  taken_stays : {s mid : _} (new : EngineState) {i p calls effect : _} → TakesEvent dig s i p calls effect mid → state_at new b ≡ state_at mid b → state_at s b ≡ Some Marked → Stays s calls new
   taken_stays {s} {mid} new {i} {p} {calls} {effect} t same m = elim (event_stays (with_peer s i (record p { stream = t.rest })) mid i _ t.event calls effect t.handles m) [
     | inl kept ↦ inl (same ∙ kept)
     | inr w ↦ inr (found_in refl (λ c among. among) w)
   ]
 
-  next_stays : {s new : EngineState} {key : _} {calls : DeviceCalls} {answer : _} → StepNext dig s key calls answer new → state_at s b ≡ Some Marked → Stays s calls new
+  next_stays : {s new key calls answer : _} → StepNext dig s key calls answer new → state_at s b ≡ Some Marked → Stays s calls new
   next_stays {calls} (no_peer x y z e) m = same_stays calls e m
   next_stays {calls} (waits i p x y z w e) m = same_stays calls e m
   next_stays {new} (goes_on i p out peer g x) m = taken_stays new g.takes (ap (λ z. state_at z b) g.follows.after) m
@@ -230,18 +230,18 @@ module _ (dig : List ℕ → List ℕ) (b : BlockId) where
   next_stays (faulty i p out peer g x) m = inl (ap (λ z. state_at z b) g.after ∙ m)
   next_stays (no_memory i p peer g x) m = inl (ap (λ z. state_at z b) g.after ∙ m)
 
-  connect_stays : {s new : EngineState} {answer : _} → StepConnect s answer new → state_at new b ≡ state_at s b
+  connect_stays : {s new answer : _} → StepConnect s answer new → state_at new b ≡ state_at s b
   connect_stays (joins key bytes x y z w v e) = ap (λ z. state_at z b) e
   connect_stays (full x y e) = ap (λ z. state_at z b) e
   connect_stays (spent x y z e) = ap (λ z. state_at z b) e
   connect_stays (no_room x y z e) = ap (λ z. state_at z b) e
 
-  feed_stays : {s new : EngineState} {key : _} {bytes : List ℕ} {answer : _} → StepFeed s key bytes answer new → state_at new b ≡ state_at s b
+  feed_stays : {s new key bytes answer : _} → StepFeed s key bytes answer new → state_at new b ≡ state_at s b
   feed_stays (feeds i p x y e) = ap (λ z. state_at z b) e
   feed_stays (not_fed x y e) = ap (λ z. state_at z b) e
   feed_stays (no_room_to_feed i p x y e) = ap (λ z. state_at z b) e
 
-  lost_stays : {s new : EngineState} {key : _} {answer : _} → StepLost s key answer new → state_at new b ≡ state_at s b
+  lost_stays : {s new key answer : _} → StepLost s key answer new → state_at new b ≡ state_at s b
   lost_stays (goes i p x y e) = ap (λ z. state_at z b) e
   lost_stays (not_lost x y e) = ap (λ z. state_at z b) e
 
@@ -249,17 +249,17 @@ module _ (dig : List ℕ → List ℕ) (b : BlockId) where
   each_stays [] s new sent f = ap (λ z. state_at z b) f.1
   each_stays (i ∷ peers) s new sent f = each_stays peers f.0 new f.2 f.4 ∙ ap (λ z. state_at z b) f.3.after
 
-  rechoke_stays : {s new : EngineState} {answer : _} → StepRechoke dig s answer new → state_at new b ≡ state_at s b
+  rechoke_stays : {s new answer : _} → StepRechoke dig s answer new → state_at new b ≡ state_at s b
   rechoke_stays {new} (rechokes out r x) = each_stays _ _ new r.sent r.follows
   rechoke_stays (not_rechoked x e) = ap (λ z. state_at z b) e
 
-  flush_stays : {s new : EngineState} {calls : DeviceCalls} {answer : _} → StepFlush s calls answer new → state_at new b ≡ state_at s b
+  flush_stays : {s new calls answer : _} → StepFlush s calls answer new → state_at new b ≡ state_at s b
   flush_stays (syncs x y z e) = ap (λ z. state_at z b) e
   flush_stays (fails before file after x y z e) = ap (λ z. state_at z b) e
 
   -- ---- a file that is taken in
 
-  adopts_keep : {k grown : Facts} {from : ℕ} {old new : List BlockState} {reads : List BlockRead} {adopted : Adopted} (i : ℕ) → Adopts dig k from old reads adopted grown new → slice_get old i ≡ Some Marked
+  adopts_keep : {k grown from old new reads adopted : _} (i : ℕ) → Adopts dig k from old reads adopted grown new → slice_get old i ≡ Some Marked
       → (slice_get new i ≡ Some Marked) ⊎ GaveWrong dig k reads i
   adopts_keep i (none end) e = inl e
   adopts_keep {k} {old} i (known count rs group order) e = judged_keeps dig k rs old i e
@@ -272,7 +272,7 @@ module _ (dig : List ℕ → List ℕ) (b : BlockId) where
   abbrev StaysIn : ℕ → EngineState → DeviceCalls → EngineState → Type 0
   StaysIn file s calls mid = (state_at mid b ≡ Some Marked) ⊎ ((b.file ≡ file) × IsFoundWrong dig s calls b)
 
-  group_stays : {s new : EngineState} {file from : ℕ} {calls : DeviceCalls} {adopted : Adopted} → AdoptsGroup dig s file from calls adopted new → state_at s b ≡ Some Marked → StaysIn file s calls new
+  group_stays : {s new file from calls adopted : _} → AdoptsGroup dig s file from calls adopted new → state_at s b ≡ Some Marked → StaysIn file s calls new
   group_stays {s} {file} {calls} g m =
       elim (file_stays ((b.file ≡ file) × IsFoundWrong dig s calls b) s file (record g.state { states = g.states }) g.is_file.here m
       (λ same marked. elim (adopts_keep b.block g.adopts marked) [
@@ -291,7 +291,7 @@ module _ (dig : List ℕ → List ℕ) (b : BlockId) where
       ])) [ inl kept ↦ inl (ap (λ z. state_at z b) g.after ∙ kept) | inr w ↦ inr w ]
 
   -- what is wrong by a tree that has grown was so before
-  wrong_before : {s mid : EngineState} {file from : ℕ} {calls more : DeviceCalls} {adopted : Adopted} → AdoptsGroup dig s file from calls adopted mid → b.file ≡ file → IsFoundWrong dig mid more b → IsFoundWrong dig s more b
+  wrong_before : {s mid file from calls more adopted : _} → AdoptsGroup dig s file from calls adopted mid → b.file ≡ file → IsFoundWrong dig mid more b → IsFoundWrong dig s more b
   wrong_before {more} g same w =
       let h = group_forward dig g g.is_file in
       let tree : w.tree ≡ h.tree = same_some w.hung (hung_in h.is_file same) in
@@ -317,7 +317,7 @@ module _ (dig : List ℕ → List ℕ) (b : BlockId) where
     | inr w ↦ inr (w.0, found_in refl (λ c among. Contains-append_left calls (flat_map (λ c. c) groups) c among) w.1)
   ]
 
-  adopt_stays : {s new : EngineState} {file : ℕ} {calls : DeviceCalls} {answer : _} → StepAdopt dig s file calls answer new → state_at s b ≡ Some Marked → Stays s calls new
+  adopt_stays : {s new file calls answer : _} → StepAdopt dig s file calls answer new → state_at s b ≡ Some Marked → Stays s calls new
   adopt_stays {calls} (no_file x y z e) m = same_stays calls e m
   adopt_stays {calls} (busy x y z w e) m = same_stays calls e m
   adopt_stays {calls} (empty f x y z w v e) m = same_stays calls e m
@@ -346,7 +346,7 @@ step_unmarks dig s new e calls a step b before after = elim (step_stays dig b s 
 
 module _ {D : Type 0} (history : D → History) (honest : D → Type 0) (faults : D → ℕ) (dig : List ℕ → List ℕ) where
   -- what an honest device gave stands there
-  given_stands : (s : EngineState) {calls : DeviceCalls} {file : ℕ} (i n : ℕ) {bytes : List ℕ} (before after : History) → Touches s.files s.trees calls → AreAnswered before (calls_of file calls) after
+  given_stands : (s : EngineState) {calls file : _} (i n : ℕ) {bytes : _} (before after : History) → Touches s.files s.trees calls → AreAnswered before (calls_of file calls) after
       → Contains calls (file, call_of n (given i bytes)) → bytes ≡ stored_block n before.now.bytes i
   given_stands s {calls} {file} i n {bytes} before after (keeping keep) answered among =
       (calls_keep before (calls_of file calls) (λ c m. keep (file, c) (of_all calls m)) answered).read _ _ bytes (among_file calls among)
