@@ -1,26 +1,6 @@
 -- How what a file's device has already is taken in: what it marks, and what becomes of trees.
-use Rattle.std.proofs.Common.{◌≡◌, ◌≢◌, ℕ, ◌⊎◌, inl, inr, Bool, true, false, not, List, [], ◌∷◌, ◌++◌, Some, refl, sym, ap, ◌∙◌, subst}
-use Rattle.std.specs.Prelude.{slice_get, option_map, Contains, flat_map, ◌==◌}
-use Rattle.std.specs.Option.{option_and_then}
-use Rattle.std.proofs.lemmas.Bool.{eq-eqb}
-use Rattle.std.proofs.lemmas.List.Elements.{Contains-append_left, Contains-append_right}
-use Rattle.bt_tree.specs.Blocks.{block_length}
-use Rattle.bt_disk.specs.Calls.{Call}
-use Rattle.bt_sparse.specs.SparseTree.{Facts}
-use Rattle.bt_store.specs.BlockReads.{given, call_of, IsRight}
-use Rattle.bt_store.specs.declared.block_states.BlockState.TheVariants.{Marked}
-use Rattle.bt_store.specs.declared.adoption.Adopted.{Adopted}
-use Rattle.bt_store.specs.Law.{Extends}
-use Rattle.bt_store.proofs.AdoptionMarks.{adopt_marks as store_marks, adopt_extends}
-use Rattle.bt_book.specs.declared.names.BlockId.{BlockId}
-use Rattle.bt_engine.specs.declared.event.Event.TheVariants.{Adopt}
-use Rattle.bt_engine.specs.State.{FileState, EngineState}
-use Rattle.bt_engine.specs.Devices.{DeviceCalls, reads_at}
-use Rattle.bt_engine.specs.Blocks.{state_at, tree_of}
-use Rattle.bt_engine.specs.Request.{IsFile}
-use Rattle.bt_engine.specs.Settling.{judged_file, SettlesIn}
-use Rattle.bt_engine.specs.Adopting.{AdoptsGroup, AdoptsGroups, is_other, AdoptsFile, StopsAdopting, StepAdopt, no_file, busy, empty, adopts, no_memory}
-use Rattle.bt_engine.specs.Law.{IsFound, IsMarkedBy, read_back, found}
+use Rattle.bt_engine.proofs.Base.{◌≡◌, ◌≢◌, ℕ, ◌⊎◌, inl, inr, Bool, true, false, not, List, [], ◌∷◌, ◌++◌, Some, refl, sym, ap, ◌∙◌, subst, slice_get, option_map, Contains, flat_map, ◌==◌, option_and_then, eq-eqb, Contains-append_left, Contains-append_right, block_length, Call, Facts, given, call_of, IsRight, Marked, Adopted, Extends, store_marks, adopt_extends, BlockId}
+use Rattle.bt_engine.proofs.Machine.{Adopt, FileState, EngineState, DeviceCalls, reads_at, state_at, tree_of, IsFile, judged_file, SettlesIn, AdoptsGroup, AdoptsGroups, is_other, AdoptsFile, StopsAdopting, StepAdopt, no_file, busy, empty, adopts, not_adopted as no_memory, IsFound, IsMarkedBy, read_back, found}
 use Rattle.bt_engine.proofs.Lists.{same_some, set_same, set_other, map_contains, and_then_some}
 use Rattle.bt_engine.proofs.Marks.{state_is, file_marked, settle_marks}
 

@@ -1,20 +1,6 @@
 -- Nothing that a peer may be asked for is left.
-use Rattle.std.proofs.Common.{◌≡◌, ℕ, ◌⊎◌, inl, inr, List, [], ◌∷◌, ◌++◌, Option, Some, None, Result, Ok, refl, sym, ap, ◌∙◌, subst}
-use Rattle.std.specs.Prelude.{slice_get, slice_set, Contains}
-use Rattle.std.proofs.lemmas.List.{length-append}
-use Rattle.std.proofs.lemmas.List.Elements.{Contains-append_left, Contains-append_right}
-use Rattle.bt_store.specs.declared.block_states.BlockState.TheVariants.{Missing}
-use Rattle.bt_book.specs.declared.names.PeerKey.{PeerKey}
-use Rattle.bt_book.specs.declared.names.BlockId.{BlockId}
-use Rattle.bt_engine.specs.declared.error.EngineError.{EngineError}
-use Rattle.bt_engine.specs.State.{Idle, Asked, PeerState, EngineState}
-use Rattle.bt_engine.specs.Devices.{DeviceCalls}
-use Rattle.bt_engine.specs.Blocks.{state_at, Has, IsAsked, with_peer}
-use Rattle.bt_engine.specs.Output.{Sent, Output}
-use Rattle.bt_engine.specs.FollowUp.{NeedsLeaf, IsOpen, FollowsUp, RequestsHashes, requests, rests}
-use Rattle.bt_engine.specs.Next.{IsPeer, GoesOn, StepNext, no_peer, waits, goes_on, closes, faulty, no_memory}
-use Rattle.bt_engine.specs.Step.{of_next}
-use Rattle.bt_engine.specs.AnswerDue.{IsOnlyPeer, IsAskedForAll, NextAsksForAll}
+use Rattle.bt_engine.proofs.Base.{◌≡◌, ℕ, ◌⊎◌, inl, inr, List, [], ◌∷◌, ◌++◌, Option, Some, None, Result, Ok, refl, sym, ap, ◌∙◌, subst, slice_get, slice_set, Contains, length-append, Contains-append_left, Contains-append_right, Missing, PeerKey, BlockId}
+use Rattle.bt_engine.proofs.Machine.{EngineError, Idle, Asked, PeerState, EngineState, DeviceCalls, state_at, Has, IsAsked, with_peer, Sent, Output, NeedsLeaf, IsOpen, FollowsUp, RequestsHashes, requests, rests, IsPeer, GoesOn, StepNext, no_peer, waits, goes_on, closes, faulty, no_memory, of_next, IsOnlyPeer, IsAskedForAll, NextAsksForAll}
 use Rattle.bt_engine.proofs.Lists.{same_some, set_same, contains_none, contains_cases, here, later}
 use Rattle.bt_engine.proofs.AnswerParts.{event_leaves}
 use Rattle.bt_engine.proofs.Pairs.{contains_some, some_at}

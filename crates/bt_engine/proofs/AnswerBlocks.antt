@@ -1,43 +1,7 @@
 -- What becomes of blocks that come and of requests.
-use Rattle.std.proofs.Common.{◌≡◌, ℕ, zero, suc, ◌*◌, ◌⊎◌, inl, inr, Bool, true, false, List, [], ◌∷◌, ◌++◌, length, map, Some, None, Result, Ok, Err, refl, sym, ap, ◌∙◌, subst}
-use Rattle.std.specs.Prelude.{slice_get, slice_set, Contains, ◌&&◌}
-use Rattle.std.specs.Option.{option_and_then, option_map_or}
-use Rattle.std.specs.List.{list_all}
-use Rattle.std.proofs.lemmas.List.Elements.{Contains-append_left, Contains-append_right}
-use Rattle.bt_tree.specs.Limits.{full_block_length}
-use Rattle.bt_disk.specs.Calls.{write_fault}
-use Rattle.bt_meta.specs.Torrent.{IsLawful}
-use Rattle.bt_meta.specs.Place.{IsPlace}
-use Rattle.bt_meta.specs.declared.torrent.Span.{Span}
-use Rattle.bt_sparse.specs.SparseTree.{Facts, value_at}
-use Rattle.bt_store.specs.Arrival.{PutIsDue, calls_of_put, states_after_put}
-use Rattle.bt_store.specs.BlockReads.{BlockRead, given, failed, call_of, IsRight}
-use Rattle.bt_store.specs.BlockStates.{is_marked}
-use Rattle.bt_store.specs.declared.block_states.BlockState.{BlockState}
-use Rattle.bt_store.specs.declared.block_states.BlockState.TheVariants.{Missing, Waiting, Marked}
-use Rattle.bt_store.specs.declared.error.StoreError.{StoreError}
-use Rattle.bt_store.specs.declared.error.StoreError.TheVariants.{Range, Device as DeviceFault}
-use Rattle.bt_store.specs.declared.arrival.Put.{Put}
-use Rattle.bt_store.specs.declared.arrival.Put.TheVariants.{Already, Wrong, Marked as PutMarked, Waiting as PutWaiting}
-use Rattle.bt_book.specs.declared.names.PeerKey.{PeerKey}
-use Rattle.bt_book.specs.declared.names.BlockId.{BlockId}
-use Rattle.bt_wire.specs.Cutter.{Stream}
-use Rattle.bt_wire.specs.declared.event.WireEvent.TheVariants.{Message}
-use Rattle.bt_wire.specs.declared.message.Ask.{Ask}
-use Rattle.bt_wire.specs.declared.message.Message.TheVariants.{Request, Piece}
-use Rattle.bt_engine.specs.declared.answer.Note.{Note}
-use Rattle.bt_engine.specs.declared.answer.Note.TheVariants.{Marked as NowMarked, Damaged, Device, Complete}
-use Rattle.bt_engine.specs.State.{PeerState, FileState, EngineState}
-use Rattle.bt_engine.specs.Devices.{DeviceCalls, calls_at}
-use Rattle.bt_engine.specs.Blocks.{block_id, state_at, tree_of, with_file, with_peer, new_complete_files}
-use Rattle.bt_engine.specs.Spans.{IsWholeBlock, spanned_blocks, cut_from}
-use Rattle.bt_engine.specs.Output.{Output, Effect, noting, sending}
-use Rattle.bt_engine.specs.Request.{AreMarked, IsFile, Serves, StopsAtFault, FindsFault, damaged as found_damaged, fault, HandlesRequest, ignored, no_place, not_marked, served, stopped}
-use Rattle.bt_engine.specs.Arrival.{HasPutEffect, Arrives, HandlesPiece, stale, arrives}
-use Rattle.bt_engine.specs.Next.{GoesOn, Closes}
-use Rattle.bt_engine.specs.Step.{Answer, of_next}
-use Rattle.bt_engine.specs.AnswerLaw.{NotedBy, output_of}
-use Rattle.bt_engine.specs.AnswerDue.{IsOutOfMemory, MarksBlock, marked, not_written, NextMarksRightBlock, ServesRange, sent, damaged, not_read, NextServesMarkedRange, WaitingIsNotComplete}
+use Rattle.bt_engine.proofs.Base.{◌≡◌, ℕ, zero, suc, ◌*◌, ◌⊎◌, inl, inr, Bool, true, false, List, [], ◌∷◌, ◌++◌, length, map, Some, None, Result, Ok, Err, refl, sym, ap, ◌∙◌, subst, slice_get, slice_set, Contains, ◌&&◌, option_and_then, option_map_or, list_all, Contains-append_left, Contains-append_right, full_block_length, write_fault, IsLawful, IsPlace, Span, Facts, value_at, PutIsDue, calls_of_put, states_after_put, BlockRead, given, failed, call_of, IsRight, is_marked, BlockState, Missing, Waiting, Marked, StoreError, Range, DeviceFault, Put, Already, Wrong, PutMarked, PutWaiting, PeerKey, BlockId, Stream, Message, Ask, Request, Piece}
+use Rattle.bt_engine.proofs.Machine.{Note, NowMarked, Damaged, Device, Complete, PeerState, FileState, EngineState, DeviceCalls, calls_at, block_id, state_at, tree_of, with_file, with_peer, new_complete_files, IsWholeBlock, spanned_blocks, cut_from, Output, Effect, noting, sending, AreMarked, IsFile, Serves, StopsAtFault, FindsFault, damaged as found_damaged, fault, HandlesRequest, ignored, no_place, not_marked, served, stopped, HasPutEffect, Arrives, HandlesPiece, stale, arrives, GoesOn, Closes, Answer, of_next, NotedBy, output_of, MarksBlock, marked, not_written, NextMarksRightBlock, ServesRange, sent, not_read, NextServesMarkedRange, WaitingIsNotComplete}
+use Rattle.bt_engine.specs.AnswerDue.{IsOutOfMemory, damaged}
 use Rattle.bt_engine.proofs.Lists.{and_then_some, same_some, here, set_same, map_contains}
 use Rattle.bt_engine.proofs.AnswerSends.{frame_to, follows_of}
 use Rattle.bt_engine.proofs.AnswerPlaces.{same_place, same_block}

@@ -1,39 +1,7 @@
 -- A peer is closed only for what it sent.
-use Rattle.std.proofs.Common.{◌≡◌, ℕ, List, Some, None, Result, Ok, Err, refl, sym, ap, ◌∙◌, subst}
-use Rattle.std.specs.Prelude.{slice_get}
-use Rattle.std.specs.Option.{option_and_then}
-use Rattle.bt_sparse.specs.SparseTree.{Facts}
-use Rattle.bt_hashreq.specs.declared.key.HashKey.{HashKey}
-use Rattle.bt_store.specs.Arrival.{PutIsDue}
-use Rattle.bt_store.specs.BlockReads.{BlockRead}
-use Rattle.bt_store.specs.declared.error.StoreError.{StoreError}
-use Rattle.bt_store.specs.declared.error.StoreError.TheVariants.{Range, Device as DeviceFault}
-use Rattle.bt_store.specs.declared.arrival.Put.{Put}
-use Rattle.bt_store.specs.declared.arrival.Put.TheVariants.{Already, Wrong, Marked as PutMarked, Waiting as PutWaiting}
-use Rattle.bt_book.specs.declared.names.PeerKey.{PeerKey}
-use Rattle.bt_wire.specs.Cutter.{Stream, Takes}
-use Rattle.bt_wire.specs.declared.handshake.Handshake.{Handshake}
-use Rattle.bt_wire.specs.declared.message.Ask.{Ask}
-use Rattle.bt_wire.specs.declared.message.Message.{Message as PeerMessage}
-use Rattle.bt_wire.specs.declared.message.Message.TheVariants.{KeepAlive, Choke, Unchoke, Interested, NotInterested, Have, Bitfield, Request, Piece, Cancel, HashRequest, Hashes, HashReject}
-use Rattle.bt_wire.specs.declared.event.WireEvent.{WireEvent}
-use Rattle.bt_wire.specs.declared.event.WireEvent.TheVariants.{Hello, Message, Skipped}
-use Rattle.bt_engine.specs.declared.answer.Why.{Why}
-use Rattle.bt_engine.specs.declared.event.Event.{Event}
-use Rattle.bt_engine.specs.declared.event.Event.TheVariants.{Connect, Next, Rechoke}
-use Rattle.bt_engine.specs.State.{PeerState, FileState, EngineState}
-use Rattle.bt_engine.specs.Devices.{DeviceCalls}
-use Rattle.bt_engine.specs.Blocks.{with_peer}
-use Rattle.bt_engine.specs.Output.{Output, Effect}
-use Rattle.bt_engine.specs.Request.{FindsFault, damaged, fault, HandlesRequest, ignored, no_place, not_marked, served, stopped}
-use Rattle.bt_engine.specs.Arrival.{HasPutEffect, HandlesPiece, stale, arrives}
-use Rattle.bt_engine.specs.HashMessages.{HandlesHashRequest, answered, rejected, HandlesHashes, unknown_root, no_claim, refused, learns}
-use Rattle.bt_engine.specs.WireEvents.{HandlesHello, ours, other, HandlesHave, in_range, out_of_range, HandlesBitfield, right, wrong, HandlesMessage, Handles}
-use Rattle.bt_engine.specs.Next.{IsPeer, StepNext, no_peer, waits, goes_on, closes, faulty, no_memory}
-use Rattle.bt_engine.specs.Peers.{StepConnect, joins, full, spent, no_memory as no_room}
-use Rattle.bt_engine.specs.Rechoke.{StepRechoke, rechokes, no_memory as not_rechoked}
-use Rattle.bt_engine.specs.Step.{Answer, of_connect, of_next, of_rechoke, Step}
-use Rattle.bt_engine.specs.AnswerLaw.{output_of, Closes, IsCause, wire, other_torrent, past_last_piece, other_length, no_place as is_no_place, wrong_block, unknown_root as is_unknown_root, no_claim as makes_no_claim, refused as is_refused, StepClosesForCause}
+use Rattle.bt_engine.proofs.Base.{◌≡◌, ℕ, List, Some, None, Result, Ok, Err, refl, sym, ap, ◌∙◌, subst, slice_get, option_and_then, Facts, HashKey, PutIsDue, BlockRead, StoreError, Range, DeviceFault, Put, Already, Wrong, PutMarked, PutWaiting, PeerKey, Stream, Takes, Handshake, Ask, PeerMessage, KeepAlive, Choke, Unchoke, Interested, NotInterested, Have, Bitfield, Request, Piece, Cancel, HashRequest, Hashes, HashReject, WireEvent, Hello, Message, Skipped}
+use Rattle.bt_engine.proofs.Machine.{Why, Event, Connect, Next, Rechoke, PeerState, FileState, EngineState, DeviceCalls, with_peer, Output, Effect, FindsFault, damaged, fault, HandlesRequest, ignored, no_place, not_marked, served, stopped, HasPutEffect, HandlesPiece, stale, arrives, HandlesHashRequest, answered, rejected, HandlesHashes, unknown_root, no_claim, refused, learns, HandlesHello, ours, other, HandlesHave, in_range, out_of_range, HandlesBitfield, right, wrong, HandlesMessage, Handles, IsPeer, StepNext, no_peer, waits, goes_on, closes, faulty, no_memory, StepConnect, joins, full, spent, no_room, StepRechoke, rechokes, not_rechoked, Answer, of_connect, of_next, of_rechoke, Step, output_of, IsCause, wire, other_torrent, past_last_piece, other_length, is_no_place, wrong_block, is_unknown_root, makes_no_claim, is_refused, StepClosesForCause}
+use Rattle.bt_engine.specs.AnswerLaw.{Closes}
 
 -- nothing closes where an effect does not
 stays_open : {X : Type 0} {effect like : Effect} {why : Why} → effect ≡ like → like.close ≡ None → effect.close ≡ Some why → X

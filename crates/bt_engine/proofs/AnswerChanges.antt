@@ -1,30 +1,6 @@
 -- What changed of a peer is sent to it.
-use Rattle.std.proofs.Common.{◌≡◌, ◌≢◌, ℕ, zero, suc, ◌+◌, ◌<◌, inl, inr, true, false, List, [], ◌∷◌, ◌++◌, length, map, Some, refl, sym, ap, ◌∙◌, subst, arith}
-use Rattle.std.specs.Prelude.{slice_get, slice_set, Contains}
-use Rattle.std.specs.List.{range_with_len}
-use Rattle.std.proofs.lemmas.List.Elements.{Contains-append_left, Contains-append_right, Contains-append_cases}
-use Rattle.bt_hashreq.specs.declared.key.HashKey.{HashKey}
-use Rattle.bt_book.specs.declared.names.PeerKey.{PeerKey}
-use Rattle.bt_book.specs.declared.names.BlockId.{BlockId}
-use Rattle.bt_wire.specs.declared.message.Ask.{Ask}
-use Rattle.bt_wire.specs.declared.message.Message.TheVariants.{Interested, NotInterested, Request, HashRequest}
-use Rattle.bt_engine.specs.declared.event.Event.{Event}
-use Rattle.bt_engine.specs.declared.event.Event.TheVariants.{Connect, Feed, Next, Lost, Rechoke, Adopt, Flush}
-use Rattle.bt_engine.specs.State.{Asked, PeerState, EngineState}
-use Rattle.bt_engine.specs.Devices.{DeviceCalls}
-use Rattle.bt_engine.specs.Blocks.{with_peer}
-use Rattle.bt_engine.specs.Spans.{IsWholeBlock}
-use Rattle.bt_engine.specs.Output.{Sent, Output, haves}
-use Rattle.bt_engine.specs.FollowUp.{FollowsUp, RequestsHashes, requests, rests, RequestsBlock, RequestsEach, interest_sent}
-use Rattle.bt_engine.specs.Next.{IsPeer, without_peer, TakesEvent, GoesOn, StepNext, no_peer, waits, goes_on, closes, faulty, no_memory}
-use Rattle.bt_engine.specs.Peers.{StepConnect, joins, full, spent, no_memory as no_room, StepFeed, feeds, no_peer as not_fed, no_memory as no_room_to_feed, StepLost, goes, no_peer as not_lost}
-use Rattle.bt_engine.specs.Rechoke.{FollowsEach, StepRechoke, rechokes, no_memory as not_rechoked, chokes_sent, rechoked, rechoked_peer}
-use Rattle.bt_engine.specs.Adopting.{StepAdopt, no_file, busy, empty, adopts, no_memory as not_adopted}
-use Rattle.bt_engine.specs.Flush.{StepFlush, syncs, fails}
-use Rattle.bt_engine.specs.Step.{Answer, of_next, of_rechoke, Step}
-use Rattle.bt_engine.specs.Law.{sent_by}
-use Rattle.bt_engine.specs.AnswerLaw.{ChangesInterest}
-use Rattle.bt_engine.specs.AnswerDue.{IsOnlyPeer, IsSentChanges, StepSendsChanges}
+use Rattle.bt_engine.proofs.Base.{◌≡◌, ◌≢◌, ℕ, zero, suc, ◌+◌, ◌<◌, inl, inr, true, false, List, [], ◌∷◌, ◌++◌, length, map, Some, refl, sym, ap, ◌∙◌, subst, arith, slice_get, slice_set, Contains, range_with_len, Contains-append_left, Contains-append_right, Contains-append_cases, HashKey, PeerKey, BlockId, Ask, Interested, NotInterested, Request, HashRequest}
+use Rattle.bt_engine.proofs.Machine.{Event, Connect, Feed, Next, Lost, Rechoke, Adopt, Flush, Asked, PeerState, EngineState, DeviceCalls, with_peer, IsWholeBlock, Sent, Output, haves, FollowsUp, RequestsHashes, requests, rests, RequestsBlock, RequestsEach, interest_sent, IsPeer, without_peer, TakesEvent, GoesOn, StepNext, no_peer, waits, goes_on, closes, faulty, no_memory, StepConnect, joins, full, spent, no_room, StepFeed, feeds, not_fed, no_room as no_room_to_feed, StepLost, goes, not_fed as not_lost, FollowsEach, StepRechoke, rechokes, not_rechoked, chokes_sent, rechoked, rechoked_peer, StepAdopt, no_file, busy, empty, adopts, not_adopted, StepFlush, syncs, fails, Answer, of_next, of_rechoke, Step, sent_by, ChangesInterest, IsOnlyPeer, IsSentChanges, StepSendsChanges}
 use Rattle.bt_engine.proofs.Lists.{same_some, contains_none, contains_cases, here, later, set_cases, set_same}
 use Rattle.bt_engine.proofs.Pairs.{other_without}
 use Rattle.bt_engine.proofs.AnswerParts.{AsksLess, asks_same, event_leaves}

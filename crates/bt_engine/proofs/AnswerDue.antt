@@ -1,27 +1,7 @@
 -- What a message must lead to: the event that stands first is the one that is taken.
-use Rattle.std.proofs.Common.{◌≡◌, ℕ, ◌⊎◌, inl, inr, List, [], ◌++◌, Some, None, Ok, sym, ap, ◌∙◌, subst}
-use Rattle.std.specs.Prelude.{slice_get, Contains}
-use Rattle.std.specs.List.{concat}
-use Rattle.std.proofs.lemmas.List.Elements.{Contains-append_left}
-use Rattle.bt_book.specs.declared.names.PeerKey.{PeerKey}
-use Rattle.bt_hashreq.specs.declared.key.HashKey.{HashKey}
-use Rattle.bt_wire.specs.Cutter.{Stream, Takes, Waits}
-use Rattle.bt_wire.specs.declared.event.WireEvent.{WireEvent}
-use Rattle.bt_wire.specs.declared.event.WireEvent.TheVariants.{Message}
-use Rattle.bt_wire.specs.declared.message.Message.TheVariants.{HashRequest, Hashes, HashReject}
-use Rattle.bt_wire.proofs.Events.{same_event}
-use Rattle.bt_wire.proofs.Faults.{fault_alone}
-use Rattle.bt_engine.specs.declared.event.Event.TheVariants.{Next}
-use Rattle.bt_engine.specs.State.{PeerState, EngineState}
-use Rattle.bt_engine.specs.Devices.{DeviceCalls}
-use Rattle.bt_engine.specs.Blocks.{with_peer}
-use Rattle.bt_engine.specs.Output.{Sent, Output, Effect, haves}
-use Rattle.bt_engine.specs.HashMessages.{IsAnswered, HandlesHashRequest, answered, rejected}
-use Rattle.bt_engine.specs.WireEvents.{Handles}
-use Rattle.bt_engine.specs.Next.{IsPeer, GoesOn, Closes, ShowsFault, StepNext, no_peer, waits, goes_on, closes, faulty, no_memory}
-use Rattle.bt_engine.specs.Step.{Answer, of_next, Step}
-use Rattle.bt_engine.specs.Law.{sent_by}
-use Rattle.bt_engine.specs.AnswerDue.{IsOnlyPeer, IsOutOfMemory, AnswersHashes, known, unknown, NextAnswersHashRequest}
+use Rattle.bt_engine.proofs.Base.{◌≡◌, ℕ, ◌⊎◌, inl, inr, List, [], ◌++◌, Some, None, Ok, sym, ap, ◌∙◌, subst, slice_get, Contains, concat, Contains-append_left, PeerKey, HashKey, Stream, Takes, Waits, WireEvent, Message, HashRequest, Hashes, HashReject, same_event, fault_alone}
+use Rattle.bt_engine.proofs.Machine.{Next, PeerState, EngineState, DeviceCalls, with_peer, Sent, Output, Effect, haves, IsAnswered, HandlesHashRequest, answered, rejected, Handles, IsPeer, GoesOn, Closes, ShowsFault, StepNext, no_peer, waits, goes_on, closes, faulty, no_memory, Answer, of_next, Step, sent_by, IsOnlyPeer, AnswersHashes, unknown, NextAnswersHashRequest}
+use Rattle.bt_engine.specs.AnswerDue.{IsOutOfMemory, known}
 use Rattle.bt_engine.proofs.Lists.{same_some, here}
 use Rattle.bt_engine.proofs.AnswerSends.{frame_to}
 

@@ -1,18 +1,6 @@
 -- Interest is told only where it changed.
-use Rattle.std.proofs.Common.{◌≡◌, ℕ, zero, suc, ◌+◌, ◌<◌, ◌≤◌, ◌⊎◌, inl, inr, Bool, true, false, List, length, Some, refl, sym, ap, ◌∙◌, subst, arith}
-use Rattle.std.specs.Prelude.{slice_get, Contains}
-use Rattle.std.specs.List.{range_with_len}
-use Rattle.std.proofs.lemmas.List.Elements.{Contains-append_cases}
-use Rattle.bt_book.specs.declared.names.PeerKey.{PeerKey}
-use Rattle.bt_wire.specs.declared.message.Message.TheVariants.{Interested, NotInterested}
-use Rattle.bt_engine.specs.State.{PeerState, EngineState}
-use Rattle.bt_engine.specs.Devices.{DeviceCalls}
-use Rattle.bt_engine.specs.Blocks.{with_peer}
-use Rattle.bt_engine.specs.Output.{Sent, Output}
-use Rattle.bt_engine.specs.FollowUp.{IsInteresting}
-use Rattle.bt_engine.specs.Next.{IsPeer, GoesOn}
-use Rattle.bt_engine.specs.Rechoke.{FollowsEach, rechoked, rechoked_peer}
-use Rattle.bt_engine.specs.AnswerLaw.{ChangesInterest, StepTellsChangedInterest}
+use Rattle.bt_engine.proofs.Base.{◌≡◌, ℕ, zero, suc, ◌+◌, ◌<◌, ◌≤◌, ◌⊎◌, inl, inr, Bool, true, false, List, length, Some, refl, sym, ap, ◌∙◌, subst, arith, slice_get, Contains, range_with_len, Contains-append_cases, PeerKey, Interested, NotInterested}
+use Rattle.bt_engine.proofs.Machine.{PeerState, EngineState, DeviceCalls, with_peer, Sent, Output, IsInteresting, IsPeer, GoesOn, FollowsEach, rechoked, rechoked_peer, ChangesInterest, StepTellsChangedInterest}
 use Rattle.bt_engine.proofs.Lists.{contains_none, same_some, set_same, get_map}
 use Rattle.bt_engine.proofs.AnswerParts.{Part, greets, replies, interests, chokes, all_haves, event_leaves}
 use Rattle.bt_engine.proofs.AnswerSends.{set_other, frame_to, Follows, follows_of, IsSentBy, alike, announced, followed, rechoked_then, step_sent}

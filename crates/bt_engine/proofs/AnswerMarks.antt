@@ -1,41 +1,6 @@
 -- A block that becomes marked is noted.
-use Rattle.std.proofs.Common.{◌≡◌, ℕ, ◌⊎◌, inl, inr, true, false, List, [], ◌∷◌, length, map, Some, Result, Ok, Err, refl, sym, ap, ◌∙◌, subst}
-use Rattle.std.specs.Prelude.{slice_get, Contains, nat_eq, if◌then◌else◌}
-use Rattle.std.specs.Cmp.Lexicographic.{pointwise}
-use Rattle.std.proofs.lemmas.Bool.{eq-eqb}
-use Rattle.std.proofs.lemmas.List.Elements.{Contains-append_left}
-use Rattle.bt_tree.specs.Blocks.{block_length}
-use Rattle.bt_sparse.specs.SparseTree.{Facts}
-use Rattle.bt_hashreq.specs.declared.key.HashKey.{HashKey}
-use Rattle.bt_store.specs.Arrival.{states_after_put}
-use Rattle.bt_store.specs.BlockReads.{BlockRead, given, is_leaf, is_right, IsRight, judged}
-use Rattle.bt_store.specs.declared.block_states.BlockState.{BlockState}
-use Rattle.bt_store.specs.declared.block_states.BlockState.TheVariants.{Waiting, Marked}
-use Rattle.bt_store.specs.declared.error.StoreError.{StoreError}
-use Rattle.bt_store.specs.declared.arrival.Put.{Put}
-use Rattle.bt_store.specs.declared.arrival.Put.TheVariants.{Already, Wrong, Marked as PutMarked, Waiting as PutWaiting}
-use Rattle.bt_book.specs.declared.names.PeerKey.{PeerKey}
-use Rattle.bt_book.specs.declared.names.BlockId.{BlockId}
-use Rattle.bt_wire.specs.declared.event.WireEvent.{WireEvent}
-use Rattle.bt_wire.specs.declared.event.WireEvent.TheVariants.{Hello, Message, Skipped}
-use Rattle.bt_wire.specs.declared.message.Ask.{Ask}
-use Rattle.bt_wire.specs.declared.message.Message.{Message as PeerMessage}
-use Rattle.bt_wire.specs.declared.message.Message.TheVariants.{KeepAlive, Choke, Unchoke, Interested, NotInterested, Have, Bitfield, Request, Piece, Cancel, HashRequest, Hashes, HashReject}
-use Rattle.bt_engine.specs.declared.answer.Note.{Note}
-use Rattle.bt_engine.specs.declared.answer.Note.TheVariants.{Marked as NowMarked, Freed}
-use Rattle.bt_engine.specs.State.{PeerState, FileState, EngineState}
-use Rattle.bt_engine.specs.Devices.{DeviceCalls}
-use Rattle.bt_engine.specs.Blocks.{state_at, with_file, with_peer, with_tree, file_numbers}
-use Rattle.bt_engine.specs.Output.{Effect, noting}
-use Rattle.bt_engine.specs.Request.{FindsFault, damaged as found_damaged, fault, HandlesRequest, ignored, no_place, not_marked, served, stopped}
-use Rattle.bt_engine.specs.Arrival.{HasPutEffect, HandlesPiece, stale, arrives}
-use Rattle.bt_engine.specs.Settling.{Settles, judged_file, read_note, settling_notes}
-use Rattle.bt_engine.specs.HashMessages.{HandlesHashes, unknown_root, no_claim, refused, learns}
-use Rattle.bt_engine.specs.WireEvents.{HandlesHave, in_range, out_of_range, HandlesBitfield, right, wrong, HandlesMessage, Handles}
-use Rattle.bt_engine.specs.Next.{StepNext, no_peer as none_such, waits, goes_on, closes, faulty, no_memory}
-use Rattle.bt_engine.specs.Step.{of_next}
-use Rattle.bt_engine.specs.AnswerLaw.{NotedBy}
-use Rattle.bt_engine.specs.AnswerDue.{NextNotesMarkedBlocks}
+use Rattle.bt_engine.proofs.Base.{◌≡◌, ℕ, ◌⊎◌, inl, inr, true, false, List, [], ◌∷◌, length, map, Some, Result, Ok, Err, refl, sym, ap, ◌∙◌, subst, slice_get, Contains, nat_eq, if◌then◌else◌, pointwise, eq-eqb, Contains-append_left, block_length, Facts, HashKey, states_after_put, BlockRead, given, is_leaf, is_right, IsRight, judged, BlockState, Waiting, Marked, StoreError, Put, Already, Wrong, PutMarked, PutWaiting, PeerKey, BlockId, WireEvent, Hello, Message, Skipped, Ask, PeerMessage, KeepAlive, Choke, Unchoke, Interested, NotInterested, Have, Bitfield, Request, Piece, Cancel, HashRequest, Hashes, HashReject}
+use Rattle.bt_engine.proofs.Machine.{Note, NowMarked, Freed, PeerState, FileState, EngineState, DeviceCalls, state_at, with_file, with_peer, with_tree, file_numbers, Effect, noting, FindsFault, damaged as found_damaged, fault, HandlesRequest, ignored, no_place, not_marked, served, stopped, HasPutEffect, HandlesPiece, stale, arrives, Settles, judged_file, read_note, settling_notes, HandlesHashes, unknown_root, no_claim, refused, learns, HandlesHave, in_range, out_of_range, HandlesBitfield, right, wrong, HandlesMessage, Handles, StepNext, no_peer as none_such, waits, goes_on, closes, faulty, no_memory, of_next, NotedBy, NextNotesMarkedBlocks}
 use Rattle.bt_engine.proofs.Lists.{and_then_some, map_some, set_cases, set_same, map_contains, flat_map_contains, range_contains, some_below}
 use Rattle.bt_engine.proofs.Marks.{state_is, file_marked, missing_marks, judged_marks}
 use Rattle.bt_engine.proofs.AnswerParts.{event_leaves}

@@ -1,30 +1,6 @@
 -- Haves and completed files are told exactly where pieces became whole and files complete.
-use Rattle.std.proofs.Common.{◌≡◌, ℕ, zero, suc, ◌+◌, ◌<◌, ◌⊎◌, inl, inr, ◌↔◌, Bool, true, false, List, [], ◌∷◌, ◌++◌, length, map, Some, None, Ok, refl, sym, ap, ◌∙◌, subst, arith}
-use Rattle.std.specs.Prelude.{slice_get, Contains, not, filter, ◌&&◌, cond}
-use Rattle.std.specs.List.{range_with_len}
-use Rattle.std.proofs.lemmas.List.Elements.{Contains-append_left, Contains-append_right, Contains-append_cases}
-use Rattle.bt_meta.specs.Torrent.{total_pieces}
-use Rattle.bt_store.specs.declared.adoption.Adopted.{Adopted}
-use Rattle.bt_book.specs.declared.names.PeerKey.{PeerKey}
-use Rattle.bt_wire.specs.declared.message.Message.TheVariants.{Have}
-use Rattle.bt_engine.specs.declared.answer.Frame.{Frame}
-use Rattle.bt_engine.specs.declared.answer.Frame.TheVariants.{Message as message_frame}
-use Rattle.bt_engine.specs.declared.answer.Note.{Note}
-use Rattle.bt_engine.specs.declared.answer.Note.TheVariants.{Complete}
-use Rattle.bt_engine.specs.declared.event.Event.{Event}
-use Rattle.bt_engine.specs.declared.event.Event.TheVariants.{Connect, Feed, Next, Lost, Rechoke, Adopt, Flush}
-use Rattle.bt_engine.specs.State.{PeerState, EngineState}
-use Rattle.bt_engine.specs.Devices.{DeviceCalls}
-use Rattle.bt_engine.specs.Blocks.{with_peer, is_whole, is_complete, has_become, new_whole_pieces, new_complete_files, piece_numbers, file_numbers}
-use Rattle.bt_engine.specs.Output.{Sent, Output, sent_to, haves}
-use Rattle.bt_engine.specs.Next.{IsPeer, GoesOn, StepNext, no_peer, waits, goes_on, closes, faulty, no_memory}
-use Rattle.bt_engine.specs.Peers.{StepConnect, joins, full, spent, no_memory as no_room, StepFeed, feeds, no_peer as not_fed, no_memory as no_room_to_feed, StepLost, goes, no_peer as not_lost}
-use Rattle.bt_engine.specs.Rechoke.{FollowsEach, StepRechoke, rechokes, no_memory as not_rechoked, rechoked}
-use Rattle.bt_engine.specs.Adopting.{AdoptsGroups, AdoptsFile, StepAdopt, no_file, busy, empty, adopts, no_memory as adopt_memory}
-use Rattle.bt_engine.specs.Flush.{StepFlush, syncs, fails}
-use Rattle.bt_engine.specs.Step.{Answer, of_connect, of_feed, of_next, of_lost, of_rechoke, of_adopt, of_flush, Step}
-use Rattle.bt_engine.specs.Law.{sent_by}
-use Rattle.bt_engine.specs.AnswerLaw.{output_of, IsConnected, BecomesSo, NotedBy, StepAnnouncesWholePieces, NextNotesCompleteFiles}
+use Rattle.bt_engine.proofs.Base.{◌≡◌, ℕ, zero, suc, ◌+◌, ◌<◌, ◌⊎◌, inl, inr, ◌↔◌, Bool, true, false, List, [], ◌∷◌, ◌++◌, length, map, Some, None, Ok, refl, sym, ap, ◌∙◌, subst, arith, slice_get, Contains, not, filter, ◌&&◌, cond, range_with_len, Contains-append_left, Contains-append_right, Contains-append_cases, total_pieces, Adopted, PeerKey, Have}
+use Rattle.bt_engine.proofs.Machine.{Frame, message_frame, Note, Complete, Event, Connect, Feed, Next, Lost, Rechoke, Adopt, Flush, PeerState, EngineState, DeviceCalls, with_peer, is_whole, is_complete, has_become, new_whole_pieces, new_complete_files, piece_numbers, file_numbers, Sent, Output, sent_to, haves, IsPeer, GoesOn, StepNext, no_peer, waits, goes_on, closes, faulty, no_memory, StepConnect, joins, full, spent, no_room, StepFeed, feeds, not_fed, no_room as no_room_to_feed, StepLost, goes, not_fed as not_lost, FollowsEach, StepRechoke, rechokes, not_rechoked, rechoked, AdoptsGroups, AdoptsFile, StepAdopt, no_file, busy, empty, adopts, not_adopted as adopt_memory, StepFlush, syncs, fails, Answer, of_connect, of_feed, of_next, of_lost, of_rechoke, of_adopt, of_flush, Step, sent_by, output_of, IsConnected, BecomesSo, NotedBy, StepAnnouncesWholePieces, NextNotesCompleteFiles}
 use Rattle.bt_engine.proofs.Lists.{contains_none, contains_cases, contains_map, contains_flat_map, contains_filter, map_contains, flat_map_contains, range_contains, and_true, same_some, set_cases, set_same, here, later}
 use Rattle.bt_engine.proofs.AnswerParts.{Part, greets, replies, announces, chokes, NoComplete, Leaves, event_leaves}
 use Rattle.bt_engine.proofs.Pairs.{contains_some, some_at}

@@ -1,15 +1,6 @@
 -- A range of a piece lies in one place.
-use Rattle.std.proofs.Common.{◌≡◌, ℕ, ◌+◌, ◌-◌, ◌*◌, ◌<◌, ◌≤◌, inl, inr, List, length, sym, ap, ◌∙◌, arith}
-use Rattle.std.specs.Prelude.{take, get_or, sum_by}
-use Rattle.std.proofs.lemmas.Bool.{cases_lt}
-use Rattle.std.proofs.lemmas.List.{length-take-le, take-take, get_or-take}
-use Rattle.std.proofs.lemmas.List.Sums.{sum_by_more_le}
-use Rattle.bt_meta.specs.Files.{File, piece_count}
-use Rattle.bt_meta.specs.Torrent.{Metainfo, IsLaidOut}
-use Rattle.bt_meta.specs.Place.{IsPlace}
-use Rattle.bt_meta.specs.declared.torrent.Span.{Span}
-use Rattle.bt_book.specs.declared.names.BlockId.{BlockId}
-use Rattle.bt_engine.specs.Spans.{IsWholeBlock}
+use Rattle.bt_engine.proofs.Base.{◌≡◌, ℕ, ◌+◌, ◌-◌, ◌*◌, ◌<◌, ◌≤◌, inl, inr, List, length, sym, ap, ◌∙◌, arith, take, get_or, sum_by, cases_lt, length-take-le, take-take, get_or-take, sum_by_more_le, File, piece_count, Metainfo, IsLaidOut, IsPlace, Span, BlockId}
+use Rattle.bt_engine.proofs.Machine.{IsWholeBlock}
 
 -- the file at j ends no later than that at k begins
 ends_before : (f : File → ℕ) (files : List File) (j k : ℕ) (d : File) → j < k → k ≤ length files → sum_by f (take j files) + f (get_or files j d) ≤ sum_by f (take k files)

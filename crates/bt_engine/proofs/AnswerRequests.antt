@@ -1,19 +1,6 @@
 -- Of whom blocks are requested.
-use Rattle.std.proofs.Common.{◌≡◌, ℕ, ◌⊎◌, inl, inr, List, [], ◌∷◌, ◌++◌, Some, refl, sym, ap, ◌∙◌, subst}
-use Rattle.std.specs.Prelude.{slice_get, Contains}
-use Rattle.std.proofs.lemmas.List.Elements.{Contains-append_left, Contains-append_right, Contains-append_cases}
-use Rattle.bt_store.specs.declared.block_states.BlockState.TheVariants.{Missing}
-use Rattle.bt_book.specs.declared.names.PeerKey.{PeerKey}
-use Rattle.bt_book.specs.declared.names.BlockId.{BlockId}
-use Rattle.bt_wire.specs.declared.message.Ask.{Ask}
-use Rattle.bt_wire.specs.declared.message.Message.TheVariants.{Request}
-use Rattle.bt_engine.specs.State.{PeerState, EngineState}
-use Rattle.bt_engine.specs.Blocks.{state_at, Has}
-use Rattle.bt_engine.specs.Spans.{IsWholeBlock}
-use Rattle.bt_engine.specs.Output.{Sent}
-use Rattle.bt_engine.specs.Next.{IsPeer}
-use Rattle.bt_engine.specs.Rechoke.{FollowsEach, rechoked}
-use Rattle.bt_engine.specs.AnswerLaw.{IsRequestedOf, StepRequestsMissing}
+use Rattle.bt_engine.proofs.Base.{◌≡◌, ℕ, ◌⊎◌, inl, inr, List, [], ◌∷◌, ◌++◌, Some, refl, sym, ap, ◌∙◌, subst, slice_get, Contains, Contains-append_left, Contains-append_right, Contains-append_cases, Missing, PeerKey, BlockId, Ask, Request}
+use Rattle.bt_engine.proofs.Machine.{PeerState, EngineState, state_at, Has, IsWholeBlock, Sent, IsPeer, FollowsEach, rechoked, IsRequestedOf, StepRequestsMissing}
 use Rattle.bt_engine.proofs.Lists.{contains_none, same_some, set_cases}
 use Rattle.bt_engine.proofs.AnswerParts.{Part, greets, replies, chokes, asks, all_haves}
 use Rattle.bt_engine.proofs.Pairs.{contains_some}

@@ -1,28 +1,6 @@
 -- What each frame of an answer follows from.
-use Rattle.std.proofs.Common.{◌≡◌, ℕ, zero, suc, ◌⊎◌, inl, inr, ◌↔◌, Bool, true, false, List, [], ◌∷◌, ◌++◌, length, Some, Ok, refl, sym, ap, ◌∙◌, subst, arith}
-use Rattle.std.specs.Prelude.{slice_get, slice_set, Contains}
-use Rattle.std.specs.List.{range_with_len}
-use Rattle.std.proofs.lemmas.List.Elements.{Contains-append_cases}
-use Rattle.bt_book.specs.declared.names.PeerKey.{PeerKey}
-use Rattle.bt_book.specs.declared.names.BlockId.{BlockId}
-use Rattle.bt_wire.specs.declared.message.Ask.{Ask}
-use Rattle.bt_wire.specs.declared.message.Message.{Message as PeerMessage}
-use Rattle.bt_wire.specs.declared.message.Message.TheVariants.{Interested, NotInterested, Have, Bitfield, Request}
-use Rattle.bt_engine.specs.declared.answer.Frame.{Frame}
-use Rattle.bt_engine.specs.declared.answer.Frame.TheVariants.{Hello as hello_frame, Message as message_frame}
-use Rattle.bt_engine.specs.declared.event.Event.{Event}
-use Rattle.bt_engine.specs.declared.event.Event.TheVariants.{Connect, Next, Rechoke}
-use Rattle.bt_engine.specs.State.{PeerState, EngineState}
-use Rattle.bt_engine.specs.Devices.{DeviceCalls}
-use Rattle.bt_engine.specs.Blocks.{Has, with_peer}
-use Rattle.bt_engine.specs.Spans.{IsWholeBlock}
-use Rattle.bt_engine.specs.Output.{Sent, Output, sent_to, haves}
-use Rattle.bt_engine.specs.FollowUp.{FollowsUp, RequestsHashes, requests, rests, IsOpen, IsInteresting, RequestsBlock, RequestsEach, interest_sent}
-use Rattle.bt_engine.specs.Next.{IsPeer, GoesOn, StepNext, no_peer, waits, goes_on, closes, faulty, no_memory}
-use Rattle.bt_engine.specs.Peers.{StepConnect, joins, full, spent, no_memory as no_room, new_peer, our_handshake, greeting}
-use Rattle.bt_engine.specs.Rechoke.{FollowsEach, Rechokes, StepRechoke, rechokes, no_memory as not_rechoked, choking_sent, chokes_sent, is_served, rechoked}
-use Rattle.bt_engine.specs.Step.{Answer, of_connect, of_next, of_rechoke, Step}
-use Rattle.bt_engine.specs.Law.{sent_by}
+use Rattle.bt_engine.proofs.Base.{◌≡◌, ℕ, zero, suc, ◌⊎◌, inl, inr, ◌↔◌, Bool, true, false, List, [], ◌∷◌, ◌++◌, length, Some, Ok, refl, sym, ap, ◌∙◌, subst, arith, slice_get, slice_set, Contains, range_with_len, Contains-append_cases, PeerKey, BlockId, Ask, PeerMessage, Interested, NotInterested, Have, Bitfield, Request}
+use Rattle.bt_engine.proofs.Machine.{Frame, hello_frame, message_frame, Event, Connect, Next, Rechoke, PeerState, EngineState, DeviceCalls, Has, with_peer, IsWholeBlock, Sent, Output, sent_to, haves, FollowsUp, RequestsHashes, requests, rests, IsOpen, IsInteresting, RequestsBlock, RequestsEach, interest_sent, IsPeer, GoesOn, StepNext, no_peer, waits, goes_on, closes, faulty, no_memory, StepConnect, joins, full, spent, no_room, new_peer, our_handshake, greeting, FollowsEach, Rechokes, StepRechoke, rechokes, not_rechoked, choking_sent, chokes_sent, is_served, rechoked, Answer, of_connect, of_next, of_rechoke, Step, sent_by}
 use Rattle.bt_engine.proofs.Lists.{contains_none, contains_cases, contains_flat_map, here, later, set_same, set_other as stays_there}
 use Rattle.bt_engine.proofs.AnswerParts.{Part, greets, replies, interests, chokes, hashes, asks, part_of, AllOf, all_none, all_one, all_is, all_interest, all_hashes, all_asks, IsFollowing, in_interest, in_hash, in_block, following, event_leaves}
 

@@ -1,50 +1,8 @@
 -- A peer that sent what it is to be closed for is closed for it.
-use Rattle.std.proofs.Common.{◌≡◌, ◌≢◌, ℕ, zero, suc, ◌+◌, ◌*◌, ◌<◌, ◌⊎◌, inl, inr, true, false, List, [], ◌∷◌, length, Some, None, Result, Ok, Err, refl, sym, ap, ◌∙◌, subst, arith}
-use Rattle.std.specs.Prelude.{slice_get, slice_set, slice_index_or, Contains}
-use Rattle.std.specs.Option.{option_and_then}
-use Rattle.std.specs.List.{AllPairs}
-use Rattle.std.proofs.lemmas.Bool.{cases_lt}
-use Rattle.bt_tree.specs.Tree.{padding_digest}
-use Rattle.bt_meta.specs.Torrent.{IsLawful}
-use Rattle.bt_sparse.specs.SparseTree.{Facts, blocks_of, value_at}
-use Rattle.bt_sparse.specs.Claim.{Claims}
-use Rattle.bt_sparse.specs.Acceptance.{IsAcceptable, IsRefused, shape, padding, no_anchor, top_differs, clash, no_memory as refused_memory, DiffersBelow}
-use Rattle.bt_sparse.specs.declared.claim.Claim.{Claim}
-use Rattle.bt_sparse.specs.declared.claim.ProofError.{ProofError}
-use Rattle.bt_sparse.specs.declared.claim.ProofError.TheVariants.{OutOfMemory}
-use Rattle.bt_sparse.proofs.Values.{value_covers, value_padding, value_inside, cases_node}
-use Rattle.bt_hashreq.specs.Claim.{IsClaimBy, IsNoClaim, shape as no_shape, count as no_count, no_memory as claim_memory}
-use Rattle.bt_hashreq.specs.declared.key.HashKey.{HashKey}
-use Rattle.bt_store.specs.Arrival.{PutIsDue, IsWrong}
-use Rattle.bt_store.specs.declared.error.StoreError.{StoreError}
-use Rattle.bt_store.specs.declared.error.StoreError.TheVariants.{Range, Device as DeviceFault}
-use Rattle.bt_store.specs.declared.arrival.Put.{Put}
-use Rattle.bt_store.specs.declared.arrival.Put.TheVariants.{Already, Wrong, Marked as PutMarked, Waiting as PutWaiting}
-use Rattle.bt_book.specs.declared.names.PeerKey.{PeerKey}
-use Rattle.bt_book.specs.declared.names.BlockId.{BlockId}
-use Rattle.bt_wire.specs.Cutter.{Stream, Takes, Waits, Fails}
-use Rattle.bt_wire.specs.declared.event.WireEvent.{WireEvent}
-use Rattle.bt_wire.specs.declared.event.WireEvent.TheVariants.{Hello, Message}
-use Rattle.bt_wire.specs.declared.message.Message.TheVariants.{Have, Bitfield, Request, Piece, Hashes}
-use Rattle.bt_wire.specs.declared.event.WireError.{WireError}
-use Rattle.bt_wire.proofs.Faults.{fault_alone, one_fault}
-use Rattle.bt_engine.specs.declared.answer.Why.{Why}
-use Rattle.bt_engine.specs.declared.answer.Why.TheVariants.{Wire, WrongTorrent, BadPiece, BadBitfield, BadRequest, WrongBlock, UnknownRoot, Proof}
-use Rattle.bt_engine.specs.declared.event.Event.TheVariants.{Next}
-use Rattle.bt_engine.specs.State.{PeerState, FileState, EngineState}
-use Rattle.bt_engine.specs.Devices.{DeviceCalls}
-use Rattle.bt_engine.specs.Blocks.{tree_of, with_peer}
-use Rattle.bt_engine.specs.Spans.{IsWholeBlock}
-use Rattle.bt_engine.specs.Output.{Output, Effect, closing}
-use Rattle.bt_engine.specs.Request.{HandlesRequest, ignored, no_place, not_marked, served, stopped}
-use Rattle.bt_engine.specs.Arrival.{HasPutEffect, HandlesPiece, stale, arrives}
-use Rattle.bt_engine.specs.HashMessages.{IsTreeOf, IsUnknownRoot, HandlesHashes, unknown_root, no_claim, refused, learns}
-use Rattle.bt_engine.specs.WireEvents.{HandlesHello, ours, other, HandlesHave, in_range, out_of_range, HandlesBitfield, right, wrong, Handles}
-use Rattle.bt_engine.specs.Next.{IsPeer, without_peer, StepNext, no_peer, waits, goes_on, closes, faulty, no_memory}
-use Rattle.bt_engine.specs.Step.{Answer, of_next, Step}
-use Rattle.bt_engine.specs.Orderly.{IsOrderly}
-use Rattle.bt_engine.specs.AnswerLaw.{output_of, IsConnected, Closes, IsCause, wire, other_torrent, past_last_piece, other_length, no_place as has_no_place, wrong_block, unknown_root as of_unknown_root, no_claim as makes_no_claim, refused as is_refused}
-use Rattle.bt_engine.specs.AnswerDue.{IsOnlyPeer, OrderlyPeersAreOnly, IsOutOfMemory, NextClosesForCause}
+use Rattle.bt_engine.proofs.Base.{◌≡◌, ◌≢◌, ℕ, zero, suc, ◌+◌, ◌*◌, ◌<◌, ◌⊎◌, inl, inr, true, false, List, [], ◌∷◌, length, Some, None, Result, Ok, Err, refl, sym, ap, ◌∙◌, subst, arith, slice_get, slice_set, slice_index_or, Contains, option_and_then, AllPairs, cases_lt, padding_digest, IsLawful, Facts, blocks_of, value_at, Claims, IsAcceptable, IsRefused, shape, padding, no_anchor, top_differs, clash, refused_memory, DiffersBelow, Claim, ProofError, OutOfMemory, value_covers, value_padding, value_inside, cases_node, IsClaimBy, IsNoClaim, no_shape, no_count, claim_memory, HashKey, PutIsDue, IsWrong, StoreError, Range, DeviceFault, Put, Already, Wrong, PutMarked, PutWaiting, PeerKey, BlockId, Stream, Takes, Waits, Fails, WireEvent, Hello, Message, Have, Bitfield, Request, Piece, Hashes, WireError, fault_alone, one_fault}
+use Rattle.bt_engine.proofs.Machine.{Why, Wire, WrongTorrent, BadPiece, BadBitfield, BadRequest, WrongBlock, UnknownRoot, Proof, Next, PeerState, FileState, EngineState, DeviceCalls, tree_of, with_peer, IsWholeBlock, Output, Effect, closing, HandlesRequest, ignored, no_place, not_marked, served, stopped, HasPutEffect, HandlesPiece, stale, arrives, IsTreeOf, IsUnknownRoot, HandlesHashes, unknown_root, no_claim, refused, learns, HandlesHello, ours, other, HandlesHave, in_range, out_of_range, HandlesBitfield, right, wrong, Handles, IsPeer, without_peer, StepNext, no_peer, waits, goes_on, closes, faulty, no_memory, Answer, of_next, Step, IsOrderly, output_of, IsConnected, IsCause, wire, other_torrent, past_last_piece, other_length, is_no_place as has_no_place, wrong_block, is_unknown_root as of_unknown_root, makes_no_claim, is_refused, IsOnlyPeer, OrderlyPeersAreOnly, NextClosesForCause}
+use Rattle.bt_engine.specs.AnswerLaw.{Closes}
+use Rattle.bt_engine.specs.AnswerDue.{IsOutOfMemory}
 use Rattle.bt_engine.proofs.Lists.{same_some, some_below, set_same, set_other}
 use Rattle.bt_engine.proofs.Pairs.{other_without}
 use Rattle.bt_engine.proofs.DeterminedParts.{refused_one, no_claim_one}

@@ -1,48 +1,6 @@
 -- A block waits only for a leaf that is unknown.
-use Rattle.std.proofs.Common.{◌≡◌, ℕ, zero, suc, ◌+◌, ◌*◌, ◌/◌, ◌%◌, ◌^◌, ◌<◌, ◌≤◌, ◌⊎◌, inl, inr, Bool, true, false, List, [], ◌∷◌, length, map, Option, Some, None, Result, Ok, Err, refl, sym, ap, ◌∙◌, subst, arith}
-use Rattle.std.specs.Prelude.{slice_get, slice_set, Contains, ◌&&◌, ◌==◌, is_some, option_map, if◌then◌else◌}
-use Rattle.std.specs.Option.{option_and_then}
-use Rattle.std.specs.List.{range_with_len}
-use Rattle.std.proofs.lemmas.Bool.{eq-eqb, cases_lt}
-use Rattle.std.proofs.lemmas.List.{length-take-le}
-use Rattle.std.proofs.Math.Nat.{div-add-mod, mod-lt}
-use Rattle.bt_tree.specs.Blocks.{block_count}
-use Rattle.bt_tree.specs.TreeShape.{CoversBlock, IsPadding}
-use Rattle.bt_tree.specs.Tree.{padding_digest}
-use Rattle.bt_sparse.specs.SparseTree.{Facts, blocks_of, height, value_at}
-use Rattle.bt_sparse.specs.Claim.{Claims, in_run, on_path, uncle, HasShape, run_height}
-use Rattle.bt_sparse.specs.declared.claim.Claim.{Claim}
-use Rattle.bt_sparse.proofs.Values.{value_covers, value_padding, value_inside, cases_node}
-use Rattle.bt_hashreq.specs.Claim.{digests_in}
-use Rattle.bt_hashreq.specs.declared.key.HashKey.{HashKey}
-use Rattle.bt_store.specs.Arrival.{PutIsDue, states_after_put}
-use Rattle.bt_store.specs.BlockReads.{BlockRead, given, failed, block_of, is_right, judged}
-use Rattle.bt_store.specs.Review.{is_waiting_at}
-use Rattle.bt_store.specs.declared.block_states.BlockState.{BlockState}
-use Rattle.bt_store.specs.declared.block_states.BlockState.TheVariants.{Missing, Waiting, Marked}
-use Rattle.bt_store.specs.declared.error.StoreError.{StoreError}
-use Rattle.bt_store.specs.declared.arrival.Put.{Put}
-use Rattle.bt_store.specs.declared.arrival.Put.TheVariants.{Already, Wrong, Marked as PutMarked, Waiting as PutWaiting}
-use Rattle.bt_book.specs.Book.{without_block}
-use Rattle.bt_book.specs.declared.names.PeerKey.{PeerKey}
-use Rattle.bt_book.specs.declared.names.BlockId.{BlockId}
-use Rattle.bt_wire.specs.Cutter.{Stream}
-use Rattle.bt_wire.specs.declared.event.WireEvent.{WireEvent}
-use Rattle.bt_wire.specs.declared.event.WireEvent.TheVariants.{Hello, Message, Skipped}
-use Rattle.bt_wire.specs.declared.message.Ask.{Ask}
-use Rattle.bt_wire.specs.declared.message.Message.{Message as PeerMessage}
-use Rattle.bt_wire.specs.declared.message.Message.TheVariants.{KeepAlive, Choke, Unchoke, Interested, NotInterested, Have, Bitfield, Request, Piece, Cancel, HashRequest, Hashes, HashReject}
-use Rattle.bt_engine.specs.State.{PeerState, FileState, EngineState}
-use Rattle.bt_engine.specs.Devices.{DeviceCalls}
-use Rattle.bt_engine.specs.Blocks.{state_at, tree_of, leaf_at, with_file, with_peer}
-use Rattle.bt_engine.specs.Output.{Effect}
-use Rattle.bt_engine.specs.Request.{with_payload, FindsFault, damaged as found_damaged, fault, HandlesRequest, ignored, no_place, not_marked, served, stopped}
-use Rattle.bt_engine.specs.Arrival.{HandlesPiece, stale, arrives}
-use Rattle.bt_engine.specs.Settling.{judged_file, due_blocks}
-use Rattle.bt_engine.specs.HashMessages.{HandlesHashes, Learns, settled_count, unknown_root, no_claim, refused, learns}
-use Rattle.bt_engine.specs.WireEvents.{HandlesHave, in_range, out_of_range, HandlesBitfield, right, wrong, HandlesMessage, Handles}
-use Rattle.bt_engine.specs.Next.{StepNext, no_peer as none_such, waits, goes_on, closes, faulty, no_memory}
-use Rattle.bt_engine.specs.AnswerDue.{NextSettlesWaitingBlocks}
+use Rattle.bt_engine.proofs.Base.{◌≡◌, ℕ, zero, suc, ◌+◌, ◌*◌, ◌/◌, ◌%◌, ◌^◌, ◌<◌, ◌≤◌, ◌⊎◌, inl, inr, Bool, true, false, List, [], ◌∷◌, length, map, Option, Some, None, Result, Ok, Err, refl, sym, ap, ◌∙◌, subst, arith, slice_get, slice_set, Contains, ◌&&◌, ◌==◌, is_some, option_map, if◌then◌else◌, option_and_then, range_with_len, eq-eqb, cases_lt, length-take-le, div-add-mod, mod-lt, block_count, CoversBlock, IsPadding, padding_digest, Facts, blocks_of, height, value_at, Claims, in_run, on_path, uncle, HasShape, run_height, Claim, value_covers, value_padding, value_inside, cases_node, digests_in, HashKey, PutIsDue, states_after_put, BlockRead, given, failed, block_of, is_right, judged, is_waiting_at, BlockState, Missing, Waiting, Marked, StoreError, Put, Already, Wrong, PutMarked, PutWaiting, without_block, PeerKey, BlockId, Stream, WireEvent, Hello, Message, Skipped, Ask, PeerMessage, KeepAlive, Choke, Unchoke, Interested, NotInterested, Have, Bitfield, Request, Piece, Cancel, HashRequest, Hashes, HashReject}
+use Rattle.bt_engine.proofs.Machine.{PeerState, FileState, EngineState, DeviceCalls, state_at, tree_of, leaf_at, with_file, with_peer, Effect, with_payload, FindsFault, damaged as found_damaged, fault, HandlesRequest, ignored, no_place, not_marked, served, stopped, HandlesPiece, stale, arrives, judged_file, due_blocks, HandlesHashes, Learns, settled_count, unknown_root, no_claim, refused, learns, HandlesHave, in_range, out_of_range, HandlesBitfield, right, wrong, HandlesMessage, Handles, StepNext, no_peer as none_such, waits, goes_on, closes, faulty, no_memory, NextSettlesWaitingBlocks}
 use Rattle.bt_engine.proofs.Lists.{and_then_some, map_some, same_some, set_cases, set_same, contains_none, here, later, contains_cases}
 use Rattle.bt_engine.proofs.Start.{chunk_count}
 use Rattle.bt_engine.proofs.Marks.{state_is}

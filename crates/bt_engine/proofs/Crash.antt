@@ -1,19 +1,6 @@
 -- What a crash leaves of blocks that are not missing.
-use Rattle.std.proofs.Common.{◌≡◌, ◌≢◌, ℕ, ◌+◌, ◌*◌, ◌<◌, ◌≤◌, ◌⊎◌, inl, inr, List, [], length, Some, sym, ap, ◌∙◌, subst, arith}
-use Rattle.std.specs.Prelude.{slice_get, Contains, All}
-use Rattle.std.proofs.lemmas.Bool.{cases_lt}
-use Rattle.bt_tree.specs.Blocks.{block_length}
-use Rattle.bt_disk.specs.State.{IsImage}
-use Rattle.bt_disk.specs.History.{History}
-use Rattle.bt_disk.specs.Calls.{Call, length_given, length_fault, bytes_given, read_fault, bytes_written, write_fault, length_set, resize_fault, sync_made, sync_fault, Spares}
-use Rattle.bt_disk.proofs.Histories.{calls_keep_bytes}
-use Rattle.bt_sparse.specs.SparseTree.{Facts}
-use Rattle.bt_store.specs.declared.block_states.BlockState.TheVariants.{Missing}
-use Rattle.bt_engine.specs.State.{FileState, EngineState}
-use Rattle.bt_engine.specs.Devices.{DeviceCalls, calls_of}
-use Rattle.bt_engine.specs.Request.{IsFile}
-use Rattle.bt_engine.specs.Writes.{KeepsBytes}
-use Rattle.bt_engine.specs.Crash.{StepKeepsImages}
+use Rattle.bt_engine.proofs.Base.{◌≡◌, ◌≢◌, ℕ, ◌+◌, ◌*◌, ◌<◌, ◌≤◌, ◌⊎◌, inl, inr, List, [], length, Some, sym, ap, ◌∙◌, subst, arith, slice_get, Contains, All, cases_lt, block_length, IsImage, History, Call, length_given, length_fault, bytes_given, read_fault, bytes_written, write_fault, length_set, resize_fault, sync_made, sync_fault, Spares, calls_keep_bytes, Facts, Missing}
+use Rattle.bt_engine.proofs.Machine.{FileState, EngineState, DeviceCalls, calls_of, IsFile, KeepsBytes, StepKeepsImages}
 use Rattle.bt_engine.proofs.Lists.{same_some, some_below, contains_none, contains_cases}
 use Rattle.bt_engine.proofs.Pairs.{contains_at}
 use Rattle.bt_engine.proofs.Tame.{Touches, keeping, putting, step_tame}

@@ -1,20 +1,6 @@
 -- What is left to an engine.
-use Rattle.std.proofs.Common.{◌≡◌, ◌≢◌, ℕ, suc, inl, inr, List, [], ◌∷◌, length, refl, sym, ap, ◌∙◌, subst, arith}
-use Rattle.std.specs.Prelude.{slice_get, map, ⊤}
-use Rattle.std.proofs.lemmas.Bool.{cases_lt}
-use Rattle.bt_tree.specs.Blocks.{block_count}
-use Rattle.bt_meta.specs.Torrent.{Metainfo, IsLaidOut}
-use Rattle.bt_sparse.specs.SparseTree.{Facts, blocks_of}
-use Rattle.bt_engine.specs.declared.event.Event.{Event}
-use Rattle.bt_engine.specs.declared.event.Event.TheVariants.{Connect, Feed, Next, Lost, Rechoke, Adopt, Flush}
-use Rattle.bt_engine.specs.State.{FileState, EngineState}
-use Rattle.bt_engine.specs.Devices.{DeviceCalls}
-use Rattle.bt_engine.specs.Request.{IsFile}
-use Rattle.bt_engine.specs.Step.{Answer, of_connect, of_feed, of_next, of_rechoke, of_adopt, Step, Run}
-use Rattle.bt_engine.specs.Orderly.{IsOrderly}
-use Rattle.bt_engine.specs.Shape.{IsShaped}
-use Rattle.bt_engine.specs.Law.{sent_by}
-use Rattle.bt_engine.specs.Determined.{IsOutOfMemory, IsReached, StepIsDetermined, block_requests, StepIsForced, HaveMemory, RunsAreDetermined}
+use Rattle.bt_engine.proofs.Base.{◌≡◌, ◌≢◌, ℕ, suc, inl, inr, List, [], ◌∷◌, length, refl, sym, ap, ◌∙◌, subst, arith, slice_get, map, ⊤, cases_lt, block_count, Metainfo, IsLaidOut, Facts, blocks_of}
+use Rattle.bt_engine.proofs.Machine.{Event, Connect, Feed, Next, Lost, Rechoke, Adopt, Flush, FileState, EngineState, DeviceCalls, IsFile, Answer, of_connect, of_feed, of_next, of_rechoke, of_adopt, Step, Run, IsOrderly, IsShaped, sent_by, IsOutOfMemory, IsReached, StepIsDetermined, block_requests, StepIsForced, HaveMemory, RunsAreDetermined}
 use Rattle.bt_engine.proofs.Lists.{heads, tails, get_some, same_some, some_below}
 use Rattle.bt_engine.proofs.Orderly.{order_kept, order_of_runs}
 use Rattle.bt_engine.proofs.Shape.{step_shape, shape_kept}

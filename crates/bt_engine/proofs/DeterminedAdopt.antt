@@ -1,32 +1,8 @@
 -- What is left to an engine where a file is taken in.
-use Rattle.std.proofs.Common.{◌≡◌, ◌≢◌, ℕ, ◌+◌, ◌-◌, ◌*◌, ◌/◌, ◌^◌, ◌<◌, ◌≤◌, inl, inr, min, Bool, true, false, cond, List, [], ◌∷◌, ◌++◌, length, map, None, refl, sym, ap, ◌∙◌, subst, arith, append_assoc}
-use Rattle.std.specs.Prelude.{slice_get, flat_map, IsSome, Result, Ok, Err}
-use Rattle.std.specs.List.{AllZip, count_by, range_with_len}
-use Rattle.std.proofs.lemmas.Bool.{cases_lt}
-use Rattle.std.proofs.lemmas.List.{length-map}
-use Rattle.std.proofs.lemmas.List.FromFn.{length-range_with_len}
-use Rattle.std.proofs.lemmas.List.Sums.{sum_by-cons}
-use Rattle.bt_tree.specs.TreeShape.{CoversBlock, real_width}
-use Rattle.bt_tree.specs.Blocks.{block_count}
-use Rattle.bt_tree.proofs.TreeShape.{real_limit}
-use Rattle.bt_sparse.specs.SparseTree.{Facts, blocks_of, held_at, value_at}
-use Rattle.bt_sparse.specs.Acceptance.{Accepts, IsRefused}
-use Rattle.bt_sparse.proofs.Values.{value_covers}
-use Rattle.bt_hashreq.specs.declared.key.HashKey.{HashKey}
-use Rattle.bt_store.specs.BlockReads.{BlockRead, given, failed, block_of, is_fault, right_count, fault_count}
-use Rattle.bt_store.specs.Adoption.{IsKnownGroup, IsUnknownGroup, is_whole, claim_of_reads, marked_run, AreWhole, Adopts, none, known, accepted, refused, short, unread}
-use Rattle.bt_store.specs.declared.block_states.BlockState.{BlockState}
-use Rattle.bt_store.specs.declared.adoption.Adopted.{Adopted}
-use Rattle.bt_engine.specs.declared.error.AdoptError.{AdoptError}
+use Rattle.bt_engine.proofs.Base.{◌≡◌, ◌≢◌, ℕ, ◌+◌, ◌-◌, ◌*◌, ◌/◌, ◌^◌, ◌<◌, ◌≤◌, inl, inr, min, Bool, true, false, cond, List, [], ◌∷◌, ◌++◌, length, map, None, refl, sym, ap, ◌∙◌, subst, arith, append_assoc, slice_get, flat_map, IsSome, Result, Ok, Err, AllZip, count_by, range_with_len, cases_lt, length-map, length-range_with_len, sum_by-cons, CoversBlock, real_width, block_count, real_limit, Facts, blocks_of, held_at, value_at, Accepts, IsRefused, value_covers, HashKey, BlockRead, given, failed, block_of, is_fault, right_count, fault_count, IsKnownGroup, IsUnknownGroup, claim_of_reads, marked_run, Adopts, none, known, accepted, not_accepted as refused, short, unread, BlockState, Adopted}
+use Rattle.bt_engine.proofs.Machine.{AdoptError, FileState, EngineState, Hint, proof_of, DeviceCalls, reads_at, with_file, with_tree, IsFile, SettlesIn, with_pending, taught_keys, IsProof, AdoptsGroup, adopted_together, AdoptsGroups, is_other, AdoptsFile, StepAdopt, no_file, busy, empty, adopts, not_adopted as no_memory, of_adopt}
+use Rattle.bt_store.specs.Adoption.{is_whole, AreWhole}
 use Rattle.bt_engine.specs.declared.error.AdoptError.TheVariants.{OutOfMemory}
-use Rattle.bt_engine.specs.State.{FileState, EngineState, Hint, proof_of}
-use Rattle.bt_engine.specs.Devices.{DeviceCalls, reads_at}
-use Rattle.bt_engine.specs.Blocks.{with_file, with_tree}
-use Rattle.bt_engine.specs.Request.{IsFile}
-use Rattle.bt_engine.specs.Settling.{SettlesIn}
-use Rattle.bt_engine.specs.Next.{with_pending}
-use Rattle.bt_engine.specs.Adopting.{taught_keys, IsProof, AdoptsGroup, adopted_together, AdoptsGroups, is_other, AdoptsFile, StepAdopt, no_file, busy, empty, adopts, no_memory}
-use Rattle.bt_engine.specs.Step.{of_adopt}
 use Rattle.bt_engine.proofs.Lists.{same_some, some_not_none, some_below}
 use Rattle.bt_engine.proofs.Adopting.{group_extends, group_file}
 use Rattle.bt_engine.proofs.DeterminedParts.{anchor_one, accepts_one, answer_one, accepts_refused}

@@ -1,25 +1,6 @@
 -- Where two answers request the same blocks, what follows for peers is the same.
-use Rattle.std.proofs.Common.{◌≡◌, ◌≢◌, ℕ, zero, suc, ◌+◌, ◌-◌, ◌*◌, ◌/◌, inl, inr, Bool, true, false, List, [], ◌∷◌, ◌++◌, get_or, Some, refl, sym, ap, ◌∙◌, subst, arith}
-use Rattle.std.specs.Prelude.{slice_get, slice_set, Contains, filter}
-use Rattle.std.specs.List.{range_with_len}
-use Rattle.std.proofs.Math.Nat.{add_left_cancel}
-use Rattle.std.proofs.lemmas.Nat.{div-mul-add}
-use Rattle.std.proofs.lemmas.List.{append_cancel_left}
-use Rattle.std.proofs.lemmas.List.Elements.{filter-append, Contains-append_cases}
-use Rattle.bt_tree.specs.Blocks.{block_length}
-use Rattle.bt_meta.specs.Files.{File}
-use Rattle.bt_meta.specs.Torrent.{Metainfo, IsLaidOut}
-use Rattle.bt_book.specs.declared.names.BlockId.{BlockId}
-use Rattle.bt_wire.specs.declared.message.Ask.{Ask}
-use Rattle.bt_wire.specs.declared.message.Message.TheVariants.{Request}
-use Rattle.bt_engine.specs.State.{PeerState, EngineState}
-use Rattle.bt_engine.specs.Spans.{IsWholeBlock}
-use Rattle.bt_engine.specs.Output.{Sent, sent_to}
-use Rattle.bt_engine.specs.FollowUp.{interest_sent, RequestsHashes, requests, rests, AsksBlocks, RequestsEach, FollowsUp}
-use Rattle.bt_engine.specs.Rechoke.{FollowsEach}
-use Rattle.bt_engine.specs.Step.{Answer}
-use Rattle.bt_engine.specs.Law.{sent_by}
-use Rattle.bt_engine.specs.Determined.{is_block_request, plain_answer, asked_nothing, without_asked, LacksOneAtMost}
+use Rattle.bt_engine.proofs.Base.{◌≡◌, ◌≢◌, ℕ, zero, suc, ◌+◌, ◌-◌, ◌*◌, ◌/◌, inl, inr, Bool, true, false, List, [], ◌∷◌, ◌++◌, get_or, Some, refl, sym, ap, ◌∙◌, subst, arith, slice_get, slice_set, Contains, filter, range_with_len, add_left_cancel, div-mul-add, append_cancel_left, filter-append, Contains-append_cases, block_length, File, Metainfo, IsLaidOut, BlockId, Ask, Request}
+use Rattle.bt_engine.proofs.Machine.{PeerState, EngineState, IsWholeBlock, Sent, sent_to, interest_sent, RequestsHashes, requests, rests, AsksBlocks, RequestsEach, FollowsUp, FollowsEach, Answer, sent_by, is_block_request, plain_answer, asked_nothing, without_asked, LacksOneAtMost}
 use Rattle.bt_engine.proofs.Lists.{heads, tails, same_some, here, later, contains_none, contains_cases, set_cases, range_limits}
 use Rattle.bt_engine.proofs.Pairs.{Pairs}
 use Rattle.bt_engine.proofs.AnswerSends.{Follows, same_plan, follows_of}

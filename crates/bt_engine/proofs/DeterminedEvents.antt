@@ -1,47 +1,6 @@
 -- What one wire event does by itself is one and no other, with the same answers of devices.
-use Rattle.std.proofs.Common.{◌≡◌, ◌≢◌, ℕ, suc, ◌*◌, ◌<◌, inl, inr, Bool, true, false, List, [], ◌∷◌, ◌++◌, length, map, take, drop, ◌-◌, Option, Some, None, refl, sym, ap, ◌∙◌, subst, arith, length-append}
-use Rattle.std.specs.Prelude.{slice_get, option_map, Contains, flat_map, if◌then◌else◌, Result, Ok, Err}
-use Rattle.std.specs.List.{AllPairs, concat}
-use Rattle.std.proofs.lemmas.List.{length-map}
-use Rattle.std.proofs.lemmas.List.Elements.{Contains-append_right}
-use Rattle.bt_disk.specs.Calls.{Call, bytes_written, write_fault}
-use Rattle.bt_meta.specs.Torrent.{IsLaidOut}
-use Rattle.bt_meta.specs.declared.torrent.Span.{Span}
-use Rattle.bt_sparse.specs.SparseTree.{Facts}
-use Rattle.bt_sparse.specs.Answer.{IsAnswer}
-use Rattle.bt_sparse.specs.Acceptance.{Accepts, IsRefused}
-use Rattle.bt_sparse.specs.declared.claim.Claim.{Claim}
-use Rattle.bt_sparse.specs.declared.claim.ProofError.{ProofError}
-use Rattle.bt_sparse.specs.declared.claim.ProofError.TheVariants.{OutOfMemory}
-use Rattle.bt_hashreq.specs.Claim.{IsClaimBy}
-use Rattle.bt_hashreq.specs.declared.key.HashKey.{HashKey}
-use Rattle.bt_store.specs.BlockReads.{BlockRead, given, failed, block_of, call_of, IsRight}
-use Rattle.bt_store.specs.Arrival.{IsWrong, PutIsDue, calls_of_put, states_after_put}
-use Rattle.bt_store.specs.declared.block_states.BlockState.{BlockState}
-use Rattle.bt_store.specs.declared.error.StoreError.{StoreError}
-use Rattle.bt_store.specs.declared.error.StoreError.TheVariants.{Range, Device as DeviceFault}
-use Rattle.bt_store.specs.declared.arrival.Put.{Put}
-use Rattle.bt_store.specs.declared.arrival.Put.TheVariants.{Already, Wrong, Marked as PutMarked, Waiting as PutWaiting}
-use Rattle.bt_book.specs.declared.names.BlockId.{BlockId}
-use Rattle.bt_book.specs.Book.{without_block}
-use Rattle.bt_wire.specs.declared.message.Ask.{Ask}
-use Rattle.bt_wire.specs.declared.message.Message.{Message as Sent}
-use Rattle.bt_wire.specs.declared.message.Message.TheVariants.{KeepAlive, Choke, Unchoke, Interested, NotInterested, Have, Bitfield, Request, Piece, Cancel, HashRequest, Hashes, HashReject}
-use Rattle.bt_wire.specs.declared.handshake.Handshake.{Handshake}
-use Rattle.bt_wire.specs.declared.event.WireEvent.{WireEvent}
-use Rattle.bt_wire.specs.declared.event.WireEvent.TheVariants.{Hello, Message, Skipped}
-use Rattle.bt_engine.specs.declared.answer.Why.TheVariants.{Proof}
-use Rattle.bt_engine.specs.declared.answer.Note.{Note}
-use Rattle.bt_engine.specs.State.{HashState, PeerState, FileState, EngineState}
-use Rattle.bt_engine.specs.Devices.{DeviceCalls, calls_at, reads_at}
-use Rattle.bt_engine.specs.Blocks.{block_id, with_file, with_tree, with_peer, file_numbers}
-use Rattle.bt_engine.specs.Output.{Effect, no_effect, closing, sending}
-use Rattle.bt_engine.specs.Spans.{first_block, spanned_blocks, cut_from}
-use Rattle.bt_engine.specs.Request.{with_payload, AreMarked, IsFile, Serves, FindsFault, damaged, fault, StopsAtFault, HandlesRequest, ignored, no_place, not_marked, served, stopped}
-use Rattle.bt_engine.specs.Arrival.{HasPutEffect, Puts, Arrives, HandlesPiece, stale, arrives}
-use Rattle.bt_engine.specs.Settling.{judged_file, settling_notes, due_blocks, SettlesIn}
-use Rattle.bt_engine.specs.HashMessages.{OnlyCloses, IsTreeOf, IsAnswered, HandlesHashRequest, answered, rejected, Resolves, ours, other, new_proofs, settled_count, Learns, HandlesHashes, unknown_root, no_claim, refused, learns}
-use Rattle.bt_engine.specs.WireEvents.{HandlesHello, ours as our_torrent, other as other_torrent, HandlesHave, in_range, out_of_range, HandlesBitfield, right, wrong, HandlesMessage, Handles}
+use Rattle.bt_engine.proofs.Base.{◌≡◌, ◌≢◌, ℕ, suc, ◌*◌, ◌<◌, inl, inr, Bool, true, false, List, [], ◌∷◌, ◌++◌, length, map, take, drop, ◌-◌, Option, Some, None, refl, sym, ap, ◌∙◌, subst, arith, length-append, slice_get, option_map, Contains, flat_map, if◌then◌else◌, Result, Ok, Err, AllPairs, concat, length-map, Contains-append_right, Call, bytes_written, write_fault, IsLaidOut, Span, Facts, IsAnswer, Accepts, IsRefused, Claim, ProofError, OutOfMemory, IsClaimBy, HashKey, BlockRead, given, failed, block_of, call_of, IsRight, IsWrong, PutIsDue, calls_of_put, states_after_put, BlockState, StoreError, Range, DeviceFault, Put, Already, Wrong, PutMarked, PutWaiting, BlockId, without_block, Ask, PeerMessage as Sent, KeepAlive, Choke, Unchoke, Interested, NotInterested, Have, Bitfield, Request, Piece, Cancel, HashRequest, Hashes, HashReject, Handshake, WireEvent, Hello, Message, Skipped}
+use Rattle.bt_engine.proofs.Machine.{Proof, Note, HashState, PeerState, FileState, EngineState, DeviceCalls, calls_at, reads_at, block_id, with_file, with_tree, with_peer, file_numbers, Effect, no_effect, closing, sending, first_block, spanned_blocks, cut_from, with_payload, AreMarked, IsFile, Serves, FindsFault, damaged, fault, StopsAtFault, HandlesRequest, ignored, no_place, not_marked, served, stopped, HasPutEffect, Puts, Arrives, HandlesPiece, stale, arrives, judged_file, settling_notes, due_blocks, SettlesIn, OnlyCloses, IsTreeOf, IsAnswered, HandlesHashRequest, answered, rejected, Resolves, resolved as ours, other_asked as other, new_proofs, settled_count, Learns, HandlesHashes, unknown_root, no_claim, refused, learns, HandlesHello, ours as our_torrent, other as other_torrent, HandlesHave, in_range, out_of_range, HandlesBitfield, right, wrong, HandlesMessage, Handles}
 use Rattle.bt_engine.proofs.Lists.{heads, tails, get_some, some_is, same_some, here, later, contains_none, contains_cases, some_below, range_contains, range_limits}
 use Rattle.bt_engine.proofs.AnswerPlaces.{same_place, same_block}
 use Rattle.bt_engine.proofs.DeterminedParts.{tree_one, accepts_one, answer_one, accepts_refused, refused_one, no_claim_one, claim_or_not}

@@ -1,20 +1,6 @@
 -- What follows for a peer is one and no other, but for the blocks that are requested.
-use Rattle.std.proofs.Common.{◌≡◌, ℕ, zero, suc, inl, inr, Bool, true, false, not, List, [], ◌∷◌, ◌++◌, map, Some, refl, sym, ap, ◌∙◌, subst, arith}
-use Rattle.std.specs.Prelude.{slice_get, slice_set, ◌↔◌}
-use Rattle.std.specs.Option.{option_and_then}
-use Rattle.std.proofs.lemmas.Bool.{cases_lt}
-use Rattle.std.proofs.lemmas.List.Elements.{filter-append}
-use Rattle.bt_sparse.specs.SparseTree.{Facts}
-use Rattle.bt_hashreq.specs.Request.{IsPlan, planned_key}
-use Rattle.bt_hashreq.specs.declared.key.HashKey.{HashKey}
-use Rattle.bt_book.specs.declared.names.BlockId.{BlockId}
-use Rattle.bt_wire.specs.declared.message.Message.TheVariants.{HashRequest}
-use Rattle.bt_engine.specs.State.{Asked, PeerState, EngineState}
-use Rattle.bt_engine.specs.Blocks.{state_at, tree_of, piece_of, Has}
-use Rattle.bt_engine.specs.Output.{Sent, sent_to}
-use Rattle.bt_engine.specs.FollowUp.{IsInteresting, interest_sent, TellsInterest, NeedsLeaf, IsLeastNeed, RequestsHashes, requests, rests, RequestsEach, FollowsUp}
-use Rattle.bt_engine.specs.Rechoke.{FollowsEach}
-use Rattle.bt_engine.specs.Determined.{is_block_request, other_frames, asked_nothing, without_asked}
+use Rattle.bt_engine.proofs.Base.{◌≡◌, ℕ, zero, suc, inl, inr, Bool, true, false, not, List, [], ◌∷◌, ◌++◌, map, Some, refl, sym, ap, ◌∙◌, subst, arith, slice_get, slice_set, ◌↔◌, option_and_then, cases_lt, filter-append, Facts, IsPlan, planned_key, HashKey, BlockId, HashRequest}
+use Rattle.bt_engine.proofs.Machine.{Asked, PeerState, EngineState, state_at, tree_of, piece_of, Has, Sent, sent_to, IsInteresting, interest_sent, TellsInterest, NeedsLeaf, IsLeastNeed, RequestsHashes, requests, rests, RequestsEach, FollowsUp, FollowsEach, is_block_request, other_frames, asked_nothing, without_asked}
 use Rattle.bt_engine.proofs.Lists.{same_some}
 use Rattle.bt_engine.proofs.DeterminedParts.{anchor_one}
 

@@ -1,26 +1,7 @@
 -- What is left to an engine where the next wire event of a peer is taken.
-use Rattle.std.proofs.Common.{◌≡◌, ◌≢◌, ℕ, List, [], ◌++◌, map, Option, Some, None, refl, sym, ap, ◌∙◌, subst}
-use Rattle.std.specs.Prelude.{Result, Ok, Err, slice_get}
-use Rattle.std.specs.List.{AllPairs}
-use Rattle.bt_meta.specs.Torrent.{IsLaidOut}
-use Rattle.bt_sparse.specs.SparseTree.{Facts}
-use Rattle.bt_book.specs.declared.names.PeerKey.{PeerKey}
-use Rattle.bt_wire.specs.Cutter.{Takes, Waits}
-use Rattle.bt_engine.specs.declared.answer.Why.TheVariants.{Wire}
-use Rattle.bt_engine.specs.declared.answer.Note.TheVariants.{Complete}
-use Rattle.bt_engine.specs.declared.error.EngineError.{EngineError}
+use Rattle.bt_engine.proofs.Base.{◌≡◌, ◌≢◌, ℕ, List, [], ◌++◌, map, Option, Some, None, refl, sym, ap, ◌∙◌, subst, Result, Ok, Err, slice_get, AllPairs, IsLaidOut, Facts, PeerKey, Takes, Waits}
+use Rattle.bt_engine.proofs.Machine.{Wire, Complete, EngineError, PeerState, EngineState, DeviceCalls, with_peer, new_complete_files, Sent, Output, Effect, haves, Handles, FollowsUp, IsPeer, without_peer, with_pending, TakesEvent, GoesOn, Closes, ShowsFault, StepNext, no_peer, waits, goes_on, closes, faulty, no_memory, IsOrderly, Answer, of_next, sent_by, other_frames, plain_answer, without_asked}
 use Rattle.bt_engine.specs.declared.error.EngineError.TheVariants.{OutOfMemory}
-use Rattle.bt_engine.specs.State.{PeerState, EngineState}
-use Rattle.bt_engine.specs.Devices.{DeviceCalls}
-use Rattle.bt_engine.specs.Blocks.{with_peer, new_complete_files}
-use Rattle.bt_engine.specs.Output.{Sent, Output, Effect, haves}
-use Rattle.bt_engine.specs.WireEvents.{Handles}
-use Rattle.bt_engine.specs.FollowUp.{FollowsUp}
-use Rattle.bt_engine.specs.Next.{IsPeer, without_peer, with_pending, TakesEvent, GoesOn, Closes, ShowsFault, StepNext, no_peer, waits, goes_on, closes, faulty, no_memory}
-use Rattle.bt_engine.specs.Orderly.{IsOrderly}
-use Rattle.bt_engine.specs.Step.{Answer, of_next}
-use Rattle.bt_engine.specs.Law.{sent_by}
-use Rattle.bt_engine.specs.Determined.{other_frames, plain_answer, without_asked}
 use Rattle.bt_engine.proofs.Lists.{set_same}
 use Rattle.bt_engine.proofs.AnswerParts.{event_leaves}
 use Rattle.bt_engine.proofs.DeterminedParts.{takes_one, takes_waits, takes_fails, waits_fails, fails_one, peer_one}

@@ -1,31 +1,6 @@
 -- What is one and no other: events, peers, places, trees, refusals, and what is known after a claim.
-use Rattle.std.proofs.Common.{◌≡◌, ◌≢◌, ℕ, ◌+◌, ◌*◌, ◌<◌, inl, inr, List, [], ◌++◌, get_or, Option, Some, None, refl, sym, ap, ◌∙◌, subst, arith}
-use Rattle.std.specs.Prelude.{slice_get}
-use Rattle.std.specs.List.{AllPairs}
-use Rattle.std.proofs.lemmas.Bool.{cases_lt}
-use Rattle.std.proofs.lemmas.List.{ext_get_or}
-use Rattle.bt_sparse.specs.SparseTree.{Facts, blocks_of, held_at, value_at}
-use Rattle.bt_sparse.specs.Anchor.{IsAnchor}
-use Rattle.bt_sparse.specs.Answer.{IsAnswer}
-use Rattle.bt_sparse.specs.Claim.{Claims, top_digest}
-use Rattle.bt_sparse.specs.Acceptance.{IsAcceptable, Accepts, DiffersBelow, IsHighestClash, IsRefused, shape, padding, no_anchor, top_differs, clash, no_memory}
-use Rattle.bt_sparse.specs.declared.claim.Claim.{Claim}
-use Rattle.bt_sparse.specs.declared.claim.ProofError.{ProofError}
-use Rattle.bt_sparse.specs.declared.claim.ProofError.TheVariants.{Clash, OutOfMemory}
-use Rattle.bt_sparse.proofs.Single.{claims_one}
-use Rattle.bt_sparse.proofs.NodeMaps.{same_map}
-use Rattle.bt_sparse.proofs.Values.{value_inside, value_covers, value_padding, cases_node}
-use Rattle.bt_hashreq.specs.Claim.{IsClaimBy, IsNoClaim, shape as no_shape, count as no_count, no_memory as no_room}
-use Rattle.bt_hashreq.specs.declared.key.HashKey.{HashKey}
-use Rattle.bt_book.specs.declared.names.PeerKey.{PeerKey}
-use Rattle.bt_wire.specs.Cutter.{Stream, Takes, Waits, Fails}
-use Rattle.bt_wire.specs.declared.event.WireEvent.{WireEvent}
-use Rattle.bt_wire.specs.declared.event.WireError.{WireError}
-use Rattle.bt_wire.proofs.Faults.{fault_alone, one_fault}
-use Rattle.bt_engine.specs.State.{PeerState, EngineState}
-use Rattle.bt_engine.specs.HashMessages.{IsTreeOf}
-use Rattle.bt_engine.specs.Next.{IsPeer}
-use Rattle.bt_engine.specs.Orderly.{IsOrderly}
+use Rattle.bt_engine.proofs.Base.{◌≡◌, ◌≢◌, ℕ, ◌+◌, ◌*◌, ◌<◌, inl, inr, List, [], ◌++◌, get_or, Option, Some, None, refl, sym, ap, ◌∙◌, subst, arith, slice_get, AllPairs, cases_lt, ext_get_or, Facts, blocks_of, held_at, value_at, IsAnchor, IsAnswer, Claims, top_digest, IsAcceptable, Accepts, DiffersBelow, IsHighestClash, IsRefused, shape, padding, no_anchor, top_differs, clash, refused_memory as no_memory, Claim, ProofError, Clash, OutOfMemory, claims_one, same_map, value_inside, value_covers, value_padding, cases_node, IsClaimBy, IsNoClaim, no_shape, no_count, claim_memory as no_room, HashKey, PeerKey, Stream, Takes, Waits, Fails, WireEvent, WireError, fault_alone, one_fault}
+use Rattle.bt_engine.proofs.Machine.{PeerState, EngineState, IsTreeOf, IsPeer, IsOrderly}
 use Rattle.bt_engine.proofs.Lists.{same_some, some_not_none}
 use Rattle.bt_engine.proofs.Pairs.{to_pairs, pairs_at}
 use Rattle.bt_engine.proofs.AnswerDue.{same_taking}

@@ -1,31 +1,7 @@
 -- What is left to an engine where peers come and go, bytes come, peers are chosen, and devices are synced.
-use Rattle.std.proofs.Common.{◌≡◌, ◌≢◌, ℕ, zero, suc, ◌+◌, ◌-◌, ◌*◌, ◌/◌, ◌%◌, ◌<◌, false, List, [], ◌∷◌, ◌++◌, length, map, get_or, replicate, Option, Some, None, refl, sym, ap, ◌∙◌, subst, arith}
-use Rattle.std.specs.Prelude.{◌==◌, All, Contains, Result, Ok, Err}
-use Rattle.std.specs.List.{range_with_len}
-use Rattle.std.proofs.lemmas.List.Elements.{Contains-append_right}
-use Rattle.bt_disk.specs.Calls.{Call, sync_made, sync_fault}
-use Rattle.bt_meta.specs.Torrent.{total_pieces, IsLaidOut}
-use Rattle.bt_book.specs.declared.names.PeerKey.{PeerKey}
-use Rattle.bt_book.proofs.Ranks.{same_peer}
-use Rattle.bt_wire.specs.Cutter.{fed}
-use Rattle.bt_engine.specs.declared.error.ConnectError.{ConnectError}
-use Rattle.bt_engine.specs.declared.error.ConnectError.TheVariants.{OutOfMemory as no_room_to_connect}
-use Rattle.bt_engine.specs.declared.error.EngineError.{EngineError}
+use Rattle.bt_engine.proofs.Base.{◌≡◌, ◌≢◌, ℕ, zero, suc, ◌+◌, ◌-◌, ◌*◌, ◌/◌, ◌%◌, ◌<◌, false, List, [], ◌∷◌, ◌++◌, length, map, get_or, replicate, Option, Some, None, refl, sym, ap, ◌∙◌, subst, arith, ◌==◌, All, Contains, Result, Ok, Err, range_with_len, Contains-append_right, Call, sync_made, sync_fault, total_pieces, IsLaidOut, PeerKey, same_peer, fed}
+use Rattle.bt_engine.proofs.Machine.{ConnectError, no_room_to_connect, EngineError, FlushError, PeerState, EngineState, DeviceCalls, piece_numbers, is_whole, with_peer, Sent, Output, bits_of, bits_in, without_peer, new_peer, IsOurBitfield, greeting, StepConnect, joins, full, spent, no_room as no_memory, StepFeed, feeds, not_fed, no_room as no_room_to_feed, StepLost, goes, not_fed as not_lost, chokes_sent, rechoked_peer, rechoked, StepRechoke, rechokes, not_rechoked, data_files, syncs_of, StepFlush, syncs, fails, IsOrderly, Answer, of_connect, of_feed, of_lost, of_rechoke, of_flush, sent_by, other_frames, plain_answer}
 use Rattle.bt_engine.specs.declared.error.EngineError.TheVariants.{OutOfMemory}
-use Rattle.bt_engine.specs.declared.error.FlushError.{FlushError}
-use Rattle.bt_engine.specs.State.{PeerState, EngineState}
-use Rattle.bt_engine.specs.Devices.{DeviceCalls}
-use Rattle.bt_engine.specs.Blocks.{piece_numbers, is_whole, with_peer}
-use Rattle.bt_engine.specs.Output.{Sent, Output}
-use Rattle.bt_engine.specs.WireEvents.{bits_of, bits_in}
-use Rattle.bt_engine.specs.Next.{without_peer}
-use Rattle.bt_engine.specs.Peers.{new_peer, IsOurBitfield, greeting, StepConnect, joins, full, spent, no_memory, StepFeed, feeds, no_peer as not_fed, no_memory as no_room_to_feed, StepLost, goes, no_peer as not_lost}
-use Rattle.bt_engine.specs.Rechoke.{chokes_sent, rechoked_peer, rechoked, StepRechoke, rechokes, no_memory as not_rechoked}
-use Rattle.bt_engine.specs.Flush.{data_files, syncs_of, StepFlush, syncs, fails}
-use Rattle.bt_engine.specs.Orderly.{IsOrderly}
-use Rattle.bt_engine.specs.Step.{Answer, of_connect, of_feed, of_lost, of_rechoke, of_flush}
-use Rattle.bt_engine.specs.Law.{sent_by}
-use Rattle.bt_engine.specs.Determined.{other_frames, plain_answer}
 use Rattle.bt_engine.proofs.Lists.{contains_map, here, get_map}
 use Rattle.bt_engine.proofs.Orderly.{length-bits_of}
 use Rattle.bt_engine.proofs.DeterminedParts.{peer_one}

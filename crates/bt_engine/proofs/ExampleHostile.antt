@@ -1,43 +1,7 @@
 -- What closes a peer, and what does not.
-use Rattle.std.proofs.Common.{◌≡◌, ◌∙◌, ◌≢◌, ℕ, ◌+◌, ◌%◌, ◌^◌, ◌-◌, ◌<◌, ◌≤◌, true, false, List, [], ◌∷◌, ◌++◌, length, drop, Some, None, Ok, refl, sym, ap, subst, arith}
-use Rattle.std.specs.Int.{w32, to_be_bytes}
-use Rattle.std.proofs.lemmas.List.{append-nil, length-append}
-use Rattle.bt_tree.specs.Blocks.{block_count, block_length}
+use Rattle.bt_engine.proofs.Base.{◌≡◌, ◌∙◌, ◌≢◌, ℕ, ◌+◌, ◌%◌, ◌^◌, ◌-◌, ◌<◌, ◌≤◌, true, false, List, [], ◌∷◌, ◌++◌, length, drop, Some, None, Ok, refl, sym, ap, subst, arith, w32, to_be_bytes, append-nil, length-append, block_count, block_length, IsDigest, Facts, height, held_at, top_layer, top_node, IsRequest, IsRefused, top_differs, TopDiffers, IsKey, IsClaimBy, Missing, Wrong, stream, handshake_spelling, IsMessage, Fits, message_spelling, TooLong, Message as message_event, PeerMessage as Message, Have, Bitfield, Piece, HashRequest, Hashes, HashReject}
+use Rattle.bt_engine.proofs.Machine.{Why, Wire, BadPiece, BadBitfield, WrongBlock, UnknownRoot, Proof, Note, Stale, PeerState, EngineState, IsWholeBlock, with_payload, Sent, closing, stale, arrives, IsTreeOf, IsAnswered, rejected, unknown_root, refused, out_of_range, wrong as wrong_length, HandlesMessage, FollowsUp, goes_on, closes, faulty, StepFeed, first_key, all_taken, their_handshake, to_first, ThreeBlocks, zero_leaf, three_root, three_torrent, leaves_key, four_leaves, empty_engine, root_alone, leaves_peer, blocks_peer, ClosesOn, StaysOn, zero_root_key, far_key, HostileMessagesAreRuns, WrongBlockIsRun}
 use Rattle.bt_tree.specs.TreeShape.{height_up_to}
-use Rattle.bt_tree.specs.NodeHash.{IsDigest}
-use Rattle.bt_sparse.specs.SparseTree.{Facts, height, held_at}
-use Rattle.bt_sparse.specs.Claim.{top_layer, top_node}
-use Rattle.bt_sparse.specs.Answer.{IsRequest}
-use Rattle.bt_sparse.specs.Acceptance.{IsRefused, top_differs}
-use Rattle.bt_sparse.specs.declared.claim.ProofError.TheVariants.{TopDiffers}
-use Rattle.bt_hashreq.specs.Key.{IsKey}
-use Rattle.bt_hashreq.specs.Claim.{IsClaimBy}
-use Rattle.bt_store.specs.declared.block_states.BlockState.TheVariants.{Missing}
-use Rattle.bt_store.specs.declared.arrival.Put.TheVariants.{Wrong}
-use Rattle.bt_wire.specs.Cutter.{stream}
-use Rattle.bt_wire.specs.Handshake.{handshake_spelling}
-use Rattle.bt_wire.specs.Message.{IsMessage, Fits, message_spelling}
-use Rattle.bt_wire.specs.declared.event.WireError.TheVariants.{TooLong}
-use Rattle.bt_wire.specs.declared.event.WireEvent.TheVariants.{Message as message_event}
-use Rattle.bt_wire.specs.declared.message.Message.{Message}
-use Rattle.bt_wire.specs.declared.message.Message.TheVariants.{Have, Bitfield, Piece, HashRequest, Hashes, HashReject}
-use Rattle.bt_engine.specs.declared.answer.Why.{Why}
-use Rattle.bt_engine.specs.declared.answer.Why.TheVariants.{Wire, BadPiece, BadBitfield, WrongBlock, UnknownRoot, Proof}
-use Rattle.bt_engine.specs.declared.answer.Note.{Note}
-use Rattle.bt_engine.specs.declared.answer.Note.TheVariants.{Stale}
-use Rattle.bt_engine.specs.State.{PeerState, EngineState}
-use Rattle.bt_engine.specs.Spans.{IsWholeBlock}
-use Rattle.bt_engine.specs.Request.{with_payload}
-use Rattle.bt_engine.specs.Output.{Sent, closing}
-use Rattle.bt_engine.specs.Arrival.{stale, arrives}
-use Rattle.bt_engine.specs.HashMessages.{IsTreeOf, IsAnswered, rejected, unknown_root, refused}
-use Rattle.bt_engine.specs.WireEvents.{out_of_range, wrong as wrong_length, HandlesMessage}
-use Rattle.bt_engine.specs.FollowUp.{FollowsUp}
-use Rattle.bt_engine.specs.Next.{goes_on, closes, faulty}
-use Rattle.bt_engine.specs.Peers.{StepFeed}
-use Rattle.bt_engine.specs.ExamplePeer.{first_key, all_taken, their_handshake, to_first}
-use Rattle.bt_engine.specs.ExampleThreeBlocks.{ThreeBlocks, zero_leaf, three_root, three_torrent, leaves_key, four_leaves}
-use Rattle.bt_engine.specs.ExampleHostile.{empty_engine, root_alone, leaves_peer, blocks_peer, ClosesOn, StaysOn, zero_root_key, far_key, HostileMessagesAreRuns, WrongBlockIsRun}
 use Rattle.bt_engine.proofs.Lists.{contains_none}
 use Rattle.bt_engine.proofs.ExamplePeer.{one_there, taken_message, piece_fits}
 use Rattle.bt_engine.proofs.ExampleThreeTree.{at_first, leaves_claim, acceptable, root_held, top_is, leaves_length, claims}

@@ -1,41 +1,11 @@
 -- The fetch of the file `abc` is a run.
-use Rattle.std.proofs.Common.{◌≡◌, ℕ, zero, suc, ◌+◌, ◌≤◌, ◌⊎◌, inl, inr, ◌↔◌, true, false, List, [], ◌∷◌, ◌++◌, length, Some, None, Ok, refl, sym, ap, ◌∙◌, subst, arith, rules}
-use Rattle.std.specs.Prelude.{slice_get, Contains}
-use Rattle.std.specs.Option.{option_and_then}
-use Rattle.std.proofs.lemmas.List.{append-nil}
+use Rattle.bt_engine.proofs.Base.{◌≡◌, ℕ, zero, suc, ◌+◌, ◌≤◌, ◌⊎◌, inl, inr, ◌↔◌, true, false, List, [], ◌∷◌, ◌++◌, length, Some, None, Ok, refl, sym, ap, ◌∙◌, subst, arith, rules, slice_get, Contains, option_and_then, append-nil, File, root_facts, digest_at_new, new_states, BlockState, Missing, Waiting, Marked, PutMarked, bytes_written, BlockId, Stream, stream, fed, Takes, handshake_spelling, Hello, Message as message_event, Ask, PeerMessage as Message, Interested, NotInterested, Unchoke, Have, Bitfield, Request, Piece}
+use Rattle.bt_engine.proofs.Machine.{NowMarked, Complete, Idle, PeerState, FileState, EngineState, block_id, state_at, tree_of, Has, IsAsked, IsWholeBlock, Sent, Output, no_effect, noting, arrives, ours, right, IsInteresting, NeedsLeaf, IsOpen, FollowsUp, rests, interest_sent, StepNext, goes_on, waits, StepConnect, joins, greeting, StepFeed, feeds, Starts, by_root, Run, abc, abc_file, abc_torrent, abc_engine, served_peer, piece_bytes, abc_events, abc_calls, abc_answers, FetchOfAbcIsRun, first_key, peer_with, all_taken, their_handshake, bitfield_bytes, unchoke_bytes, to_first}
 use Rattle.bt_tree.specs.TreeShape.{height_up_to}
-use Rattle.bt_meta.specs.Files.{File}
-use Rattle.bt_sparse.specs.SparseTree.{root_facts, value_at}
-use Rattle.bt_sparse.proofs.NodeMaps.{digest_at_new}
-use Rattle.std.specs.FinMap as finite
-use Rattle.bt_store.specs.FileStore.{new_states}
-use Rattle.bt_store.specs.declared.block_states.BlockState.{BlockState}
-use Rattle.bt_store.specs.declared.block_states.BlockState.TheVariants.{Missing, Waiting, Marked}
-use Rattle.bt_store.specs.declared.arrival.Put.TheVariants.{Marked as PutMarked}
-use Rattle.bt_disk.specs.Calls.{bytes_written}
-use Rattle.bt_book.specs.declared.names.BlockId.{BlockId}
-use Rattle.bt_wire.specs.Cutter.{Stream, stream, fed, Takes}
-use Rattle.bt_wire.specs.Handshake.{handshake_spelling}
-use Rattle.bt_wire.specs.declared.event.WireEvent.TheVariants.{Hello, Message as message_event}
-use Rattle.bt_wire.specs.declared.message.Ask.{Ask}
-use Rattle.bt_wire.specs.declared.message.Message.{Message}
-use Rattle.bt_wire.specs.declared.message.Message.TheVariants.{Interested, NotInterested, Unchoke, Have, Bitfield, Request, Piece}
-use Rattle.bt_engine.specs.declared.answer.Note.TheVariants.{Marked as NowMarked, Complete}
-use Rattle.bt_engine.specs.State.{Idle, PeerState, FileState, EngineState}
-use Rattle.bt_engine.specs.Blocks.{block_id, state_at, tree_of, Has, IsAsked}
-use Rattle.bt_engine.specs.Spans.{IsWholeBlock}
-use Rattle.bt_engine.specs.Output.{Sent, Output, no_effect, noting}
-use Rattle.bt_engine.specs.Arrival.{arrives}
-use Rattle.bt_engine.specs.WireEvents.{ours, right}
-use Rattle.bt_engine.specs.FollowUp.{IsInteresting, NeedsLeaf, IsOpen, FollowsUp, rests, interest_sent}
-use Rattle.bt_engine.specs.Next.{StepNext, goes_on, waits}
-use Rattle.bt_engine.specs.Peers.{StepConnect, joins, greeting, StepFeed, feeds}
-use Rattle.bt_engine.specs.Start.{Starts, by_root}
-use Rattle.bt_engine.specs.Step.{Run}
-use Rattle.bt_engine.specs.ExampleOneBlock.{abc, abc_file, abc_torrent, abc_engine, served_peer, piece_bytes, abc_events, abc_calls, abc_answers, FetchOfAbcIsRun}
-use Rattle.bt_engine.specs.ExamplePeer.{first_key, peer_with, all_taken, their_handshake, bitfield_bytes, unchoke_bytes, to_first}
+use Rattle.bt_sparse.specs.SparseTree.{value_at}
 use Rattle.bt_engine.proofs.ExamplePeer.{one_there, taken_bits, taken_unchoke, taken_hello, waits_empty}
 use Rattle.bt_engine.proofs.Lists.{some_is, contains_none, contains_cases, here, and_then_some, same_some}
+use Rattle.std.specs.FinMap as finite
 
 -- ---- the piece
 

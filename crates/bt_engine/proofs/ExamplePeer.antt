@@ -1,19 +1,8 @@
 -- The messages of the peer of the worked examples, and lists of one.
-use Rattle.std.proofs.Common.{◌≡◌, ℕ, zero, suc, true, false, List, [], ◌∷◌, ◌++◌, length, replicate, Option, Some, None, refl, sym, ap, ◌∙◌, arith}
-use Rattle.std.specs.Prelude.{slice_get}
-use Rattle.std.specs.Int.{w32, to_be_bytes}
-use Rattle.std.proofs.lemmas.List.{append-nil, length-append, length-take}
-use Rattle.bt_wire.specs.Cutter.{stream, Takes, Waits}
-use Rattle.bt_wire.specs.Event.{HasNoEvent, ShowsNoFault}
-use Rattle.bt_wire.specs.Handshake.{handshake_spelling}
-use Rattle.bt_wire.specs.Message.{Body, IsMessage, Fits, frame_spelling, message_spelling}
-use Rattle.bt_wire.specs.declared.event.WireError.TheVariants.{BadProtocol, TooLong, BadLength, OutOfMemory, Failed}
-use Rattle.bt_wire.specs.declared.event.WireEvent.TheVariants.{Hello, Message as message_event}
-use Rattle.bt_wire.specs.declared.message.Message.{Message as PeerMessage}
-use Rattle.bt_wire.specs.declared.message.Message.TheVariants.{Unchoke, Bitfield, Piece}
-use Rattle.bt_wire.proofs.Events.{event_frame}
+use Rattle.bt_engine.proofs.Base.{◌≡◌, ℕ, zero, suc, true, false, List, [], ◌∷◌, ◌++◌, length, replicate, Option, Some, None, refl, sym, ap, ◌∙◌, arith, slice_get, w32, to_be_bytes, append-nil, length-append, length-take, stream, Takes, Waits, HasNoEvent, ShowsNoFault, handshake_spelling, Body, IsMessage, Fits, frame_spelling, message_spelling, BadProtocol, TooLong, BadLength, Failed, Hello, Message as message_event, PeerMessage, Unchoke, Bitfield, Piece, event_frame}
+use Rattle.bt_engine.proofs.Machine.{all_taken, their_handshake, bitfield_bytes, unchoke_bytes}
+use Rattle.bt_wire.specs.declared.event.WireError.TheVariants.{OutOfMemory}
 use Rattle.bt_engine.proofs.Lists.{some_is}
-use Rattle.bt_engine.specs.ExamplePeer.{all_taken, their_handshake, bitfield_bytes, unchoke_bytes}
 
 pub one_there : {X : Type 0} {x y : X} (i : ℕ) → slice_get (x ∷ []) i ≡ Some y → (i ≡ 0) × (x ≡ y)
 one_there zero e = (refl, some_is e)

@@ -1,36 +1,6 @@
 -- Requests are served, ignored, or close their peer.
-use Rattle.std.proofs.Common.{◌≡◌, ◌∙◌, ℕ, zero, suc, ◌+◌, ◌≤◌, inl, inr, true, false, List, [], ◌∷◌, ◌++◌, length, take, drop, Some, Ok, refl, sym, ap, subst, arith}
-use Rattle.std.specs.Prelude.{Contains}
-use Rattle.std.proofs.lemmas.List.{append-nil, length-drop, drop-append-le}
-use Rattle.std.proofs.Math.Seq.{take-append-add}
-use Rattle.bt_tree.specs.Blocks.{block_length}
-use Rattle.bt_disk.specs.Calls.{bytes_given}
-use Rattle.bt_meta.specs.Place.{IsPlace}
-use Rattle.bt_meta.specs.declared.torrent.Span.{Span}
-use Rattle.bt_sparse.specs.SparseTree.{Facts}
-use Rattle.bt_store.specs.BlockReads.{given, IsRight}
-use Rattle.bt_store.specs.declared.block_states.BlockState.{BlockState}
-use Rattle.bt_store.specs.declared.block_states.BlockState.TheVariants.{Missing, Waiting, Marked}
-use Rattle.bt_book.specs.declared.names.BlockId.{BlockId}
-use Rattle.bt_wire.specs.Cutter.{Stream, stream, fed, Takes}
-use Rattle.bt_wire.specs.declared.event.WireEvent.TheVariants.{Message as message_event}
-use Rattle.bt_wire.specs.declared.message.Ask.{Ask}
-use Rattle.bt_wire.specs.declared.message.Message.TheVariants.{Interested, Unchoke, Request, Piece}
-use Rattle.bt_engine.specs.declared.answer.Why.TheVariants.{BadRequest}
-use Rattle.bt_engine.specs.State.{PeerState, EngineState}
-use Rattle.bt_engine.specs.Devices.{DeviceCalls, reads_at}
-use Rattle.bt_engine.specs.Blocks.{block_id, state_at}
-use Rattle.bt_engine.specs.Spans.{spanned_blocks, cut_from}
-use Rattle.bt_engine.specs.Output.{Sent, no_effect, closing, sending}
-use Rattle.bt_engine.specs.Request.{ignored, no_place, served}
-use Rattle.bt_engine.specs.FollowUp.{NeedsLeaf, FollowsUp, rests, interest_sent}
-use Rattle.bt_engine.specs.Next.{StepNext, goes_on, closes}
-use Rattle.bt_engine.specs.Peers.{StepFeed, feeds}
-use Rattle.bt_engine.specs.Rechoke.{StepRechoke, rechokes}
-use Rattle.bt_engine.specs.Step.{Run}
-use Rattle.bt_engine.specs.ExamplePeer.{first_key, all_taken, to_first}
-use Rattle.bt_engine.specs.ExampleThreeBlocks.{ThreeBlocks, AreWhole, three_file, three_torrent}
-use Rattle.bt_engine.specs.ExampleServing.{KnowsTwo, marked_engine, reader, interested_bytes, request_bytes, long_request_bytes, serving_events, serving_calls, serving_answers, ServingIsRun}
+use Rattle.bt_engine.proofs.Base.{◌≡◌, ◌∙◌, ℕ, zero, suc, ◌+◌, ◌≤◌, inl, inr, true, false, List, [], ◌∷◌, ◌++◌, length, take, drop, Some, Ok, refl, sym, ap, subst, arith, Contains, append-nil, length-drop, drop-append-le, take-append-add, block_length, bytes_given, IsPlace, Span, Facts, given, IsRight, BlockState, Missing, Waiting, Marked, BlockId, Stream, stream, fed, Takes, Message as message_event, Ask, Interested, Unchoke, Request, Piece}
+use Rattle.bt_engine.proofs.Machine.{BadRequest, PeerState, EngineState, DeviceCalls, reads_at, block_id, state_at, spanned_blocks, cut_from, Sent, no_effect, closing, sending, ignored, no_place, served, NeedsLeaf, FollowsUp, rests, interest_sent, StepNext, goes_on, closes, StepFeed, feeds, StepRechoke, rechokes, Run, first_key, all_taken, to_first, ThreeBlocks, AreWhole, three_file, three_torrent, KnowsTwo, marked_engine, reader, interested_bytes, request_bytes, long_request_bytes, serving_events, serving_calls, serving_answers, ServingIsRun}
 use Rattle.bt_engine.proofs.Lists.{contains_none, contains_cases}
 use Rattle.bt_engine.proofs.ExampleThreeEngine.{output_of, IsOne, first, second, third, one_of}
 

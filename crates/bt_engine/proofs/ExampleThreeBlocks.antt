@@ -1,31 +1,6 @@
 -- The fetch of three blocks is a run.
-use Rattle.std.proofs.Common.{◌≡◌, ℕ, zero, suc, true, false, List, [], ◌∷◌, length, Some, Ok, refl, sym, ap, subst, arith}
-use Rattle.std.specs.Prelude.{slice_get, option_map}
-use Rattle.bt_tree.specs.NodeHash.{IsDigest}
-use Rattle.bt_disk.specs.Calls.{bytes_written}
-use Rattle.bt_store.specs.declared.block_states.BlockState.{BlockState}
-use Rattle.bt_store.specs.declared.block_states.BlockState.TheVariants.{Missing, Marked}
-use Rattle.bt_store.specs.declared.arrival.Put.TheVariants.{Marked as PutMarked}
-use Rattle.bt_book.specs.declared.names.BlockId.{BlockId}
-use Rattle.bt_wire.specs.Cutter.{stream}
-use Rattle.bt_wire.specs.Handshake.{handshake_spelling}
-use Rattle.bt_wire.specs.Message.{message_spelling}
-use Rattle.bt_wire.specs.declared.event.WireEvent.TheVariants.{Message as message_event}
-use Rattle.bt_wire.specs.declared.message.Message.TheVariants.{NotInterested, Have, Piece}
-use Rattle.bt_engine.specs.declared.answer.Note.{Note}
-use Rattle.bt_engine.specs.declared.answer.Note.TheVariants.{Marked as NowMarked, Complete}
-use Rattle.bt_engine.specs.State.{HashState, Idle, Asked, PeerState, FileState, EngineState}
-use Rattle.bt_engine.specs.Spans.{IsWholeBlock}
-use Rattle.bt_engine.specs.Output.{Sent, no_effect, noting}
-use Rattle.bt_engine.specs.Settling.{judged_file, due_blocks}
-use Rattle.bt_engine.specs.Request.{with_payload}
-use Rattle.bt_engine.specs.Arrival.{arrives}
-use Rattle.bt_engine.specs.HashMessages.{learns, ours as resolved, new_proofs}
-use Rattle.bt_engine.specs.FollowUp.{IsOpen, FollowsUp}
-use Rattle.bt_engine.specs.Next.{StepNext, goes_on}
-use Rattle.bt_engine.specs.Step.{Run}
-use Rattle.bt_engine.specs.ExamplePeer.{first_key, peer_with, all_taken, their_handshake, bitfield_bytes, unchoke_bytes, to_first}
-use Rattle.bt_engine.specs.ExampleThreeBlocks.{ThreeBlocks, AreWhole, three_torrent, leaves_key, four_leaves, leaves_message, three_events, three_calls, three_answers, FetchOfThreeIsRun}
+use Rattle.bt_engine.proofs.Base.{◌≡◌, ℕ, zero, suc, true, false, List, [], ◌∷◌, length, Some, Ok, refl, sym, ap, subst, arith, slice_get, option_map, IsDigest, bytes_written, BlockState, Missing, Marked, PutMarked, BlockId, stream, handshake_spelling, message_spelling, Message as message_event, NotInterested, Have, Piece}
+use Rattle.bt_engine.proofs.Machine.{Note, NowMarked, Complete, HashState, Idle, Asked, PeerState, FileState, EngineState, IsWholeBlock, Sent, no_effect, noting, judged_file, due_blocks, with_payload, arrives, learns, resolved, new_proofs, IsOpen, FollowsUp, StepNext, goes_on, Run, first_key, peer_with, all_taken, their_handshake, bitfield_bytes, unchoke_bytes, to_first, ThreeBlocks, AreWhole, three_torrent, leaves_key, four_leaves, leaves_message, three_events, three_calls, three_answers, FetchOfThreeIsRun}
 use Rattle.bt_engine.proofs.ExamplePeer.{one_there, taken_message, piece_fits}
 use Rattle.bt_engine.proofs.ExampleThreeTree.{at_first, proved, leaves_claim, accepts, first_known, second_known, third_known, claims}
 use Rattle.bt_engine.proofs.ExampleThreeEngine.{block, all_three, asked_peer, output_of, IsOne, first, second, third, engine, is_one, whole_first, whole_second, whole_third, needs_none, quietly, interesting, none_missing, not_open, next_hello, next_bits, next_unchoke, key_fits, leaves_fit, fed_to, start, connects, starts}

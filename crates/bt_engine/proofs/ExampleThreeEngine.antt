@@ -1,34 +1,6 @@
 -- The engine that fetches three blocks, and what the messages before the pieces lead to.
-use Rattle.std.proofs.Common.{◌≡◌, ℕ, zero, suc, ◌+◌, ◌%◌, ◌<◌, ◌≤◌, inl, inr, ◌↔◌, true, false, List, [], ◌∷◌, ◌++◌, length, Some, None, Ok, refl, sym, ap, ◌∙◌, subst, arith, rules}
-use Rattle.std.specs.Prelude.{slice_get, slice_index_or, Contains}
-use Rattle.std.specs.Option.{option_and_then}
-use Rattle.std.specs.Int.{w32, to_be_bytes}
-use Rattle.std.proofs.lemmas.List.{append-nil, length-append}
-use Rattle.bt_tree.specs.NodeHash.{IsDigest}
-use Rattle.bt_meta.specs.Files.{File}
-use Rattle.bt_sparse.specs.SparseTree.{Facts, value_at}
-use Rattle.bt_hashreq.specs.Key.{IsKey, key_spelling}
-use Rattle.bt_store.specs.FileStore.{new_states}
-use Rattle.bt_store.specs.declared.block_states.BlockState.{BlockState}
-use Rattle.bt_store.specs.declared.block_states.BlockState.TheVariants.{Missing, Waiting, Marked}
-use Rattle.bt_book.specs.declared.names.BlockId.{BlockId}
-use Rattle.bt_wire.specs.Cutter.{Stream, stream, fed}
-use Rattle.bt_wire.specs.Handshake.{handshake_spelling}
-use Rattle.bt_wire.specs.Message.{Fits}
-use Rattle.bt_wire.specs.declared.event.WireEvent.TheVariants.{Hello, Message as message_event}
-use Rattle.bt_wire.specs.declared.message.Message.TheVariants.{Interested, Unchoke, Bitfield, HashRequest}
-use Rattle.bt_engine.specs.declared.answer.Note.{Note}
-use Rattle.bt_engine.specs.State.{HashState, Idle, Asked, PeerState, FileState, EngineState}
-use Rattle.bt_engine.specs.Blocks.{block_id, state_at, tree_of, Has, IsAsked}
-use Rattle.bt_engine.specs.Spans.{IsWholeBlock}
-use Rattle.bt_engine.specs.Output.{Sent, Output, no_effect}
-use Rattle.bt_engine.specs.WireEvents.{ours, right}
-use Rattle.bt_engine.specs.FollowUp.{IsInteresting, NeedsLeaf, IsLeastNeed, IsOpen, FollowsUp, requests, rests, interest_sent}
-use Rattle.bt_engine.specs.Next.{StepNext, goes_on}
-use Rattle.bt_engine.specs.Peers.{StepConnect, joins, greeting, StepFeed, feeds}
-use Rattle.bt_engine.specs.Start.{Starts, by_root}
-use Rattle.bt_engine.specs.ExamplePeer.{first_key, peer_with, all_taken, their_handshake, bitfield_bytes, unchoke_bytes, to_first}
-use Rattle.bt_engine.specs.ExampleThreeBlocks.{ThreeBlocks, left_node, right_node, three_root, three_file, three_torrent, three_engine, leaves_key, four_leaves, leaves_message, block_request}
+use Rattle.bt_engine.proofs.Base.{◌≡◌, ℕ, zero, suc, ◌+◌, ◌%◌, ◌<◌, ◌≤◌, inl, inr, ◌↔◌, true, false, List, [], ◌∷◌, ◌++◌, length, Some, None, Ok, refl, sym, ap, ◌∙◌, subst, arith, rules, slice_get, slice_index_or, Contains, option_and_then, w32, to_be_bytes, append-nil, length-append, IsDigest, File, Facts, value_at, IsKey, key_spelling, new_states, BlockState, Missing, Waiting, Marked, BlockId, Stream, stream, fed, handshake_spelling, Fits, Hello, Message as message_event, Interested, Unchoke, Bitfield, HashRequest}
+use Rattle.bt_engine.proofs.Machine.{Note, HashState, Idle, Asked, PeerState, FileState, EngineState, block_id, state_at, tree_of, Has, IsAsked, IsWholeBlock, Sent, Output, no_effect, ours, right, IsInteresting, NeedsLeaf, IsLeastNeed, IsOpen, FollowsUp, requests, rests, interest_sent, StepNext, goes_on, StepConnect, joins, greeting, StepFeed, feeds, Starts, by_root, first_key, peer_with, all_taken, their_handshake, bitfield_bytes, unchoke_bytes, to_first, ThreeBlocks, left_node, right_node, three_root, three_file, three_torrent, three_engine, leaves_key, four_leaves, leaves_message, block_request}
 use Rattle.bt_engine.proofs.Lists.{some_is, contains_none, contains_cases, here, and_then_some}
 use Rattle.bt_engine.proofs.ExamplePeer.{one_there, taken_bits, taken_unchoke, taken_hello}
 use Rattle.bt_engine.proofs.ExampleThreeTree.{at_first, proved, first_unknown, first_known, second_known, third_known, plan, leaves_length}

@@ -1,23 +1,12 @@
 -- The tree of the three blocks: what is known of it at first, and after the proof of its leaves.
-use Rattle.std.proofs.Common.{◌≡◌, ℕ, zero, suc, ◌+◌, ◌-◌, ◌/◌, ◌^◌, ◌<◌, ◌≤◌, ◌⊎◌, inl, inr, List, [], ◌∷◌, ◌++◌, length, drop, Some, None, refl, sym, ap, ◌∙◌, subst, arith}
-use Rattle.std.specs.FinMap as finite
-use Rattle.std.specs.Simd.{first_chunks}
-use Rattle.std.specs.Option.{IsSome}
-use Rattle.std.proofs.lemmas.List.{take_at, drop_at, append_assoc, length-append}
-use Rattle.bt_tree.specs.TreeShape.{height_up_to, IsPadding, CoversBlock}
-use Rattle.bt_tree.specs.NodeHash.{IsDigest}
+use Rattle.bt_engine.proofs.Base.{◌≡◌, ℕ, zero, suc, ◌+◌, ◌-◌, ◌/◌, ◌^◌, ◌<◌, ◌≤◌, ◌⊎◌, inl, inr, List, [], ◌∷◌, ◌++◌, length, drop, Some, None, refl, sym, ap, ◌∙◌, subst, arith, first_chunks, IsSome, take_at, drop_at, append_assoc, length-append, IsPadding, CoversBlock, IsDigest, Nodes, digest_at, Facts, root_facts, held_at, Claims, in_run, on_path, uncle, IsInRun, IsOnPath, run_digest, top_digest, claim_of, IsAcceptable, IsJoined, Accepts, Claim, digest_at_new, digest_at_cases, digest_at_empty, digest_at_other, IsClaimBy, digests_in, IsPlan}
+use Rattle.bt_engine.proofs.Machine.{ThreeBlocks, zero_leaf, left_node, right_node, three_root, leaves_key, four_leaves}
+use Rattle.bt_tree.specs.TreeShape.{height_up_to}
 use Rattle.bt_tree.specs.Tree.{padding_digest}
 use Rattle.bt_tree.specs.Peaks.{row_node}
-use Rattle.bt_sparse.specs.NodeMap.{Nodes, digest_at}
-use Rattle.bt_sparse.specs.SparseTree.{Facts, root_facts, value_at, held_at}
-use Rattle.bt_sparse.specs.Claim.{Claims, in_run, on_path, uncle, IsInRun, IsOnPath, run_digest, path_digest, top_digest}
-use Rattle.bt_sparse.specs.Answer.{claim_of}
-use Rattle.bt_sparse.specs.Acceptance.{IsAcceptable, IsJoined, Accepts}
-use Rattle.bt_sparse.specs.declared.claim.Claim.{Claim}
-use Rattle.bt_sparse.proofs.NodeMaps.{digest_at_new, digest_at_cases, digest_at_empty, digest_at_other}
-use Rattle.bt_hashreq.specs.Claim.{IsClaimBy, digests_in}
-use Rattle.bt_hashreq.specs.Request.{IsPlan}
-use Rattle.bt_engine.specs.ExampleThreeBlocks.{ThreeBlocks, zero_leaf, left_node, right_node, three_root, leaves_key, four_leaves}
+use Rattle.bt_sparse.specs.SparseTree.{value_at}
+use Rattle.bt_sparse.specs.Claim.{path_digest}
+use Rattle.std.specs.FinMap as finite
 
 module _ (dig : List ℕ → List ℕ) (b : ThreeBlocks) where
   -- the root alone

@@ -1,30 +1,6 @@
 -- One proof settles the waiting blocks of two files.
-use Rattle.std.proofs.Common.{◌≡◌, ℕ, zero, suc, true, false, List, [], ◌∷◌, ◌++◌, Some, None, Ok, inl, inr, refl, sym, ap, ◌∙◌, arith}
-use Rattle.std.specs.Prelude.{slice_get, map, option_map, option_and_then}
-use Rattle.bt_tree.specs.NodeHash.{IsDigest}
-use Rattle.bt_disk.specs.Calls.{bytes_given}
-use Rattle.bt_store.specs.BlockReads.{BlockRead, given, block_of, is_right}
-use Rattle.bt_store.specs.declared.block_states.BlockState.{BlockState}
-use Rattle.bt_store.specs.declared.block_states.BlockState.TheVariants.{Missing, Waiting, Marked}
-use Rattle.bt_book.specs.declared.names.BlockId.{BlockId}
-use Rattle.bt_wire.specs.Cutter.{stream}
-use Rattle.bt_wire.specs.Message.{message_spelling}
-use Rattle.bt_wire.specs.declared.event.WireEvent.TheVariants.{Message as message_event}
-use Rattle.bt_wire.specs.declared.message.Message.TheVariants.{Have}
-use Rattle.bt_engine.specs.declared.answer.Note.{Note}
-use Rattle.bt_engine.specs.declared.answer.Note.TheVariants.{Marked as NowMarked, Complete}
-use Rattle.bt_engine.specs.State.{Idle, Asked, PeerState, FileState, EngineState}
-use Rattle.bt_engine.specs.Devices.{DeviceCalls}
-use Rattle.bt_engine.specs.Blocks.{block_id, state_at}
-use Rattle.bt_engine.specs.Output.{Output, no_effect}
-use Rattle.bt_engine.specs.Settling.{judged_file, due_blocks, settling_notes}
-use Rattle.bt_engine.specs.HashMessages.{learns, ours as resolved, new_proofs}
-use Rattle.bt_engine.specs.FollowUp.{NeedsLeaf, FollowsUp, rests}
-use Rattle.bt_engine.specs.Next.{StepNext, goes_on}
-use Rattle.bt_engine.specs.Peers.{feeds}
-use Rattle.bt_engine.specs.ExamplePeer.{first_key, all_taken, to_first}
-use Rattle.bt_engine.specs.ExampleThreeBlocks.{ThreeBlocks, AreWhole, leaves_key, four_leaves, leaves_message}
-use Rattle.bt_engine.specs.ExampleTwins.{twin_files, twin_engine, twin_peer, TwinFilesAreRun}
+use Rattle.bt_engine.proofs.Base.{◌≡◌, ℕ, zero, suc, true, false, List, [], ◌∷◌, ◌++◌, Some, None, Ok, inl, inr, refl, sym, ap, ◌∙◌, arith, slice_get, map, option_map, option_and_then, IsDigest, bytes_given, BlockRead, given, block_of, is_right, BlockState, Missing, Waiting, Marked, BlockId, stream, message_spelling, Message as message_event, Have}
+use Rattle.bt_engine.proofs.Machine.{Note, NowMarked, Complete, Idle, Asked, PeerState, FileState, EngineState, DeviceCalls, block_id, state_at, Output, no_effect, judged_file, due_blocks, settling_notes, learns, resolved, new_proofs, NeedsLeaf, FollowsUp, rests, StepNext, goes_on, feeds, first_key, all_taken, to_first, ThreeBlocks, AreWhole, leaves_key, four_leaves, leaves_message, twin_files, twin_engine, twin_peer, TwinFilesAreRun}
 use Rattle.bt_engine.proofs.Lists.{some_is, contains_none}
 use Rattle.bt_engine.proofs.AnswerMarks.{right_true}
 use Rattle.bt_engine.proofs.ExamplePeer.{taken_message}

@@ -1,40 +1,6 @@
 -- Blocks that come before the proof of their leaves wait, and are read back when it comes.
-use Rattle.std.proofs.Common.{◌≡◌, ◌∙◌, zero, suc, ◌≤◌, ◌⊎◌, not, true, false, List, [], ◌∷◌, ◌++◌, inl, inr, ℕ, Bool, length, Some, Ok, refl, sym, ap, subst, arith}
-use Rattle.std.specs.Prelude.{slice_get, Contains, map, option_map}
-use Rattle.std.proofs.lemmas.List.Sums.{length-filter, count_by-le-length}
-use Rattle.bt_tree.specs.NodeHash.{IsDigest}
-use Rattle.bt_sparse.specs.SparseTree.{value_at}
-use Rattle.bt_disk.specs.Calls.{bytes_given, bytes_written}
-use Rattle.bt_store.specs.BlockReads.{BlockRead, given, block_of, is_right}
-use Rattle.bt_store.specs.declared.block_states.BlockState.{BlockState}
-use Rattle.bt_store.specs.declared.block_states.BlockState.TheVariants.{Missing, Waiting, Marked}
-use Rattle.bt_store.specs.declared.arrival.Put.TheVariants.{Waiting as PutWaiting}
-use Rattle.bt_book.specs.declared.names.BlockId.{BlockId}
-use Rattle.bt_book.specs.Blocks.{is_block}
-use Rattle.bt_book.specs.Book.{without_block}
-use Rattle.bt_wire.specs.Cutter.{Stream, stream}
-use Rattle.bt_wire.specs.Handshake.{handshake_spelling}
-use Rattle.bt_wire.specs.Message.{message_spelling}
-use Rattle.bt_wire.specs.declared.event.WireEvent.TheVariants.{Message as message_event}
-use Rattle.bt_wire.specs.declared.message.Message.TheVariants.{Interested, NotInterested, Piece, HashRequest}
-use Rattle.bt_engine.specs.declared.answer.Note.{Note}
-use Rattle.bt_engine.specs.declared.answer.Note.TheVariants.{Marked as NowMarked, Waiting as NowWaiting, Freed}
-use Rattle.bt_engine.specs.declared.event.Event.{Event}
-use Rattle.bt_engine.specs.declared.event.Event.TheVariants.{Connect, Feed, Next}
-use Rattle.bt_engine.specs.State.{HashState, Idle, Asked, PeerState, FileState, EngineState}
-use Rattle.bt_engine.specs.Spans.{IsWholeBlock}
-use Rattle.bt_engine.specs.Output.{Sent, no_effect, noting}
-use Rattle.bt_engine.specs.Settling.{judged_file, due_blocks, settling_notes}
-use Rattle.bt_engine.specs.Request.{with_payload}
-use Rattle.bt_engine.specs.Arrival.{arrives}
-use Rattle.bt_engine.specs.HashMessages.{learns, ours as resolved, new_proofs}
-use Rattle.bt_engine.specs.FollowUp.{IsInteresting, IsOpen, FollowsUp, rests}
-use Rattle.bt_engine.specs.Next.{StepNext, goes_on}
-use Rattle.bt_engine.specs.Devices.{DeviceCalls}
-use Rattle.bt_engine.specs.Step.{Answer, Run}
-use Rattle.bt_engine.specs.ExampleWaiting.{IsWrongThird, waiting_events, waiting_calls, waiting_answers, settling_calls, settling_answers, WaitingFetchIsRun}
-use Rattle.bt_engine.specs.ExamplePeer.{first_key, peer_with, all_taken, their_handshake, bitfield_bytes, unchoke_bytes, to_first, joined_answer, fed_answer, taken_answer}
-use Rattle.bt_engine.specs.ExampleThreeBlocks.{ThreeBlocks, AreWhole, three_torrent, leaves_key, four_leaves, leaves_message, told, block_request}
+use Rattle.bt_engine.proofs.Base.{◌≡◌, ◌∙◌, zero, suc, ◌≤◌, ◌⊎◌, not, true, false, List, [], ◌∷◌, ◌++◌, inl, inr, ℕ, Bool, length, Some, Ok, refl, sym, ap, subst, arith, slice_get, Contains, map, option_map, length-filter, count_by-le-length, IsDigest, value_at, bytes_given, bytes_written, BlockRead, given, block_of, is_right, BlockState, Missing, Waiting, Marked, PutWaiting, BlockId, is_block, without_block, Stream, stream, handshake_spelling, message_spelling, Message as message_event, Interested, NotInterested, Piece, HashRequest}
+use Rattle.bt_engine.proofs.Machine.{Note, NowMarked, NowWaiting, Freed, Event, Connect, Feed, Next, HashState, Idle, Asked, PeerState, FileState, EngineState, IsWholeBlock, Sent, no_effect, noting, judged_file, due_blocks, settling_notes, with_payload, arrives, learns, resolved, new_proofs, IsInteresting, IsOpen, FollowsUp, rests, StepNext, goes_on, DeviceCalls, Answer, Run, IsWrongThird, waiting_events, waiting_calls, waiting_answers, settling_calls, settling_answers, WaitingFetchIsRun, first_key, peer_with, all_taken, their_handshake, bitfield_bytes, unchoke_bytes, to_first, joined_answer, fed_answer, taken_answer, ThreeBlocks, AreWhole, three_torrent, leaves_key, four_leaves, leaves_message, told, block_request}
 use Rattle.bt_engine.proofs.Lists.{contains_none, contains_cases, contains_filter, here, later, same_some}
 use Rattle.bt_engine.proofs.Marks.{right_then}
 use Rattle.bt_engine.proofs.AnswerMarks.{right_true}

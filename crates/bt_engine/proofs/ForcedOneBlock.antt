@@ -1,16 +1,6 @@
 -- The answers of the fetch of `abc` are the only ones.
-use Rattle.std.proofs.Common.{◌≡◌, ℕ, List, [], ◌∷◌, length, refl, sym, ap, ◌∙◌, subst, arith}
-use Rattle.std.specs.Prelude.{slice_get, Some, ⊤}
-use Rattle.bt_meta.specs.Torrent.{IsLaidOut}
-use Rattle.bt_store.specs.declared.block_states.BlockState.TheVariants.{Missing, Marked}
-use Rattle.bt_book.specs.declared.names.BlockId.{BlockId}
-use Rattle.bt_engine.specs.State.{FileState, EngineState}
-use Rattle.bt_engine.specs.Blocks.{block_id, state_at}
-use Rattle.bt_engine.specs.Shape.{IsShaped}
-use Rattle.bt_engine.specs.Step.{Answer, Run}
-use Rattle.bt_engine.specs.Determined.{IsOutOfMemory, LacksOneAtMost, HaveMemory}
-use Rattle.bt_engine.specs.ExampleOneBlock.{abc_file, abc_torrent, abc_engine, served_peer, abc_events, abc_calls, abc_answers}
-use Rattle.bt_engine.specs.ExampleForced.{AbcAnswersAreForced}
+use Rattle.bt_engine.proofs.Base.{◌≡◌, ℕ, List, [], ◌∷◌, length, refl, sym, ap, ◌∙◌, subst, arith, slice_get, Some, ⊤, IsLaidOut, Missing, Marked, BlockId}
+use Rattle.bt_engine.proofs.Machine.{FileState, EngineState, block_id, state_at, IsShaped, Answer, Run, IsOutOfMemory, LacksOneAtMost, HaveMemory, abc_file, abc_torrent, abc_engine, served_peer, abc_events, abc_calls, abc_answers, AbcAnswersAreForced}
 use Rattle.bt_engine.proofs.Lists.{and_then_some, some_below}
 use Rattle.bt_engine.proofs.Orderly.{order_of_runs}
 use Rattle.bt_engine.proofs.Shape.{shape_at_first}

@@ -1,31 +1,6 @@
 -- The answers of the waiting fetch are the only ones, but for the order of three requests.
-use Rattle.std.proofs.Common.{◌≡◌, ◌≢◌, ℕ, ◌*◌, ◌<◌, ◌⊎◌, inl, inr, true, false, List, [], ◌∷◌, ◌++◌, length, map, get_or, Some, refl, sym, ap, ◌∙◌, subst, arith}
-use Rattle.std.specs.Prelude.{slice_get, slice_set, slice_index_or, Contains}
-use Rattle.std.specs.List.{AllPairs}
-use Rattle.bt_tree.specs.NodeHash.{IsDigest}
-use Rattle.bt_meta.specs.Torrent.{IsLaidOut}
-use Rattle.bt_store.specs.declared.block_states.BlockState.TheVariants.{Missing, Marked}
-use Rattle.bt_book.specs.declared.names.BlockId.{BlockId}
-use Rattle.bt_wire.specs.Cutter.{stream}
-use Rattle.bt_wire.specs.Message.{message_spelling}
-use Rattle.bt_wire.specs.declared.event.WireEvent.TheVariants.{Message as message_event}
-use Rattle.bt_wire.specs.declared.message.Message.TheVariants.{Unchoke, Request}
-use Rattle.bt_engine.specs.declared.event.Event.{Event}
-use Rattle.bt_engine.specs.declared.event.Event.TheVariants.{Feed, Next}
-use Rattle.bt_engine.specs.State.{Idle, PeerState, EngineState}
-use Rattle.bt_engine.specs.Devices.{DeviceCalls}
-use Rattle.bt_engine.specs.Blocks.{state_at}
-use Rattle.bt_engine.specs.Spans.{IsWholeBlock}
-use Rattle.bt_engine.specs.Output.{Sent, no_effect, sent_to}
-use Rattle.bt_engine.specs.FollowUp.{TellsInterest, interest_sent, RequestsHashes, requests, rests, IsOpen, AsksBlocks, RequestsEach, FollowsUp}
-use Rattle.bt_engine.specs.Orderly.{IsOrderly}
-use Rattle.bt_engine.specs.Shape.{IsShaped}
-use Rattle.bt_engine.specs.Step.{Answer, of_next, Run}
-use Rattle.bt_engine.specs.Determined.{IsOutOfMemory, block_requests, LacksOneAtMost, HaveMemory}
-use Rattle.bt_engine.specs.ExamplePeer.{first_key, peer_with, all_taken, unchoke_bytes, to_first, fed_answer, taken_answer}
-use Rattle.bt_engine.specs.ExampleThreeBlocks.{ThreeBlocks, AreWhole, three_file, three_torrent, leaves_message, told, block_request}
-use Rattle.bt_engine.specs.ExampleWaiting.{IsWrongThird, file_with, waiting_events, waiting_calls, settling_calls, settling_answers}
-use Rattle.bt_engine.specs.ExampleForced.{IsOrder, waiting_answers_in, WaitingAnswersAreForced}
+use Rattle.bt_engine.proofs.Base.{◌≡◌, ◌≢◌, ℕ, ◌*◌, ◌<◌, ◌⊎◌, inl, inr, true, false, List, [], ◌∷◌, ◌++◌, length, map, get_or, Some, refl, sym, ap, ◌∙◌, subst, arith, slice_get, slice_set, slice_index_or, Contains, AllPairs, IsDigest, IsLaidOut, Missing, Marked, BlockId, stream, message_spelling, Message as message_event, Unchoke, Request}
+use Rattle.bt_engine.proofs.Machine.{Event, Feed, Next, Idle, PeerState, EngineState, DeviceCalls, state_at, IsWholeBlock, Sent, no_effect, sent_to, TellsInterest, interest_sent, RequestsHashes, requests, rests, IsOpen, AsksBlocks, RequestsEach, FollowsUp, IsOrderly, IsShaped, Answer, of_next, Run, IsOutOfMemory, block_requests, LacksOneAtMost, HaveMemory, first_key, peer_with, all_taken, unchoke_bytes, to_first, fed_answer, taken_answer, ThreeBlocks, AreWhole, three_file, three_torrent, leaves_message, told, block_request, IsWrongThird, file_with, waiting_events, waiting_calls, settling_calls, settling_answers, IsOrder, waiting_answers_in, WaitingAnswersAreForced}
 use Rattle.bt_engine.proofs.Lists.{same_some, here, later, contains_cases, contains_none}
 use Rattle.bt_engine.proofs.Pairs.{contains_at}
 use Rattle.bt_engine.proofs.Orderly.{order_kept, order_of_runs}

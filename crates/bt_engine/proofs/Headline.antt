@@ -1,23 +1,6 @@
 -- A complete file on an honest device is the published one.
-use Rattle.std.proofs.Common.{◌≡◌, ℕ, zero, suc, ◌<◌, List, [], ◌∷◌, length, take, replicate, Option, Some, sym, ap, ◌∙◌, subst}
-use Rattle.std.specs.Prelude.{slice_get}
-use Rattle.bt_disk.specs.History.{History}
-use Rattle.bt_tree.specs.Blocks.{block_count}
-use Rattle.bt_tree.specs.Tree.{file_root}
-use Rattle.bt_tree.specs.NodeHash.{IsDigest}
-use Rattle.bt_tree.proofs.ComparisonClash.{same_or_clash}
-use Rattle.bt_meta.specs.Files.{File}
-use Rattle.bt_meta.specs.Torrent.{Metainfo}
-use Rattle.bt_sparse.specs.SparseTree.{Facts}
-use Rattle.bt_store.specs.declared.block_states.BlockState.TheVariants.{Missing, Marked}
-use Rattle.bt_engine.specs.declared.event.Event.{Event}
-use Rattle.bt_engine.specs.State.{FileState, EngineState}
-use Rattle.bt_engine.specs.Devices.{DeviceCalls}
-use Rattle.bt_engine.specs.Start.{Starts}
-use Rattle.bt_engine.specs.Step.{Answer, Step, Run}
-use Rattle.bt_engine.specs.Stored.{HasFile}
-use Rattle.bt_engine.specs.Sound.{IsSound, RunOn}
-use Rattle.bt_engine.specs.Headline.{IsPublished, CompleteFilesArePublished}
+use Rattle.bt_engine.proofs.Base.{◌≡◌, ℕ, zero, suc, ◌<◌, List, [], ◌∷◌, length, take, replicate, Option, Some, sym, ap, ◌∙◌, subst, slice_get, History, block_count, file_root, IsDigest, same_or_clash, File, Metainfo, Facts, Missing, Marked}
+use Rattle.bt_engine.proofs.Machine.{Event, FileState, EngineState, DeviceCalls, Starts, Answer, Step, Run, HasFile, IsSound, RunOn, IsPublished, CompleteFilesArePublished}
 use Rattle.bt_engine.proofs.Lists.{get_some, same_some, some_below}
 use Rattle.bt_engine.proofs.Rooted.{run_rooted}
 use Rattle.bt_engine.proofs.Start.{start_rooted}

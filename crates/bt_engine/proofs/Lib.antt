@@ -1,3 +1,6 @@
+pub mod Base
+pub mod Machine
+
 pub mod Lists
 -- trees
 pub mod Rooted

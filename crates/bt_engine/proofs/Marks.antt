@@ -1,23 +1,6 @@
 -- How blocks become marked.
-use Rattle.std.proofs.Common.{◌≡◌, ℕ, ◌⊎◌, inl, inr, Bool, true, false, List, [], ◌∷◌, length, map, Option, Some, None, refl, sym, ap, ◌∙◌, subst}
-use Rattle.std.specs.Prelude.{slice_get, slice_set, option_map, Contains, ◌&&◌, ◌==◌, is_some, nat_eq, if◌then◌else◌}
-use Rattle.std.specs.Option.{option_and_then, option_map_or}
-use Rattle.std.specs.List.{range_with_len}
-use Rattle.std.specs.Cmp.Lexicographic.{pointwise}
-use Rattle.std.proofs.lemmas.Bool.{eqb-true}
-use Rattle.bt_tree.specs.Blocks.{block_length}
-use Rattle.bt_tree.proofs.ComparisonTwins.{same_bytes}
-use Rattle.bt_sparse.specs.SparseTree.{Facts, value_at}
-use Rattle.bt_store.specs.BlockStates.{is_waiting}
-use Rattle.bt_store.specs.BlockReads.{BlockRead, given, failed, block_of, call_of, is_leaf, is_right, IsRight, judged}
-use Rattle.bt_store.specs.Review.{waiting_blocks, is_waiting_at}
-use Rattle.bt_store.specs.declared.block_states.BlockState.{BlockState}
-use Rattle.bt_store.specs.declared.block_states.BlockState.TheVariants.{Missing, Waiting, Marked}
-use Rattle.bt_book.specs.declared.names.BlockId.{BlockId}
-use Rattle.bt_engine.specs.State.{FileState, EngineState}
-use Rattle.bt_engine.specs.Devices.{DeviceCalls, reads_at}
-use Rattle.bt_engine.specs.Blocks.{state_at, tree_of, with_file, file_numbers}
-use Rattle.bt_engine.specs.Settling.{judged_file, due_blocks, SettlesIn}
+use Rattle.bt_engine.proofs.Base.{◌≡◌, ℕ, ◌⊎◌, inl, inr, Bool, true, false, List, [], ◌∷◌, length, map, Option, Some, None, refl, sym, ap, ◌∙◌, subst, slice_get, slice_set, option_map, Contains, ◌&&◌, ◌==◌, is_some, nat_eq, if◌then◌else◌, option_and_then, option_map_or, range_with_len, pointwise, eqb-true, block_length, same_bytes, Facts, value_at, is_waiting, BlockRead, given, failed, block_of, call_of, is_leaf, is_right, IsRight, judged, waiting_blocks, is_waiting_at, BlockState, Missing, Waiting, Marked, BlockId}
+use Rattle.bt_engine.proofs.Machine.{FileState, EngineState, DeviceCalls, reads_at, state_at, tree_of, with_file, file_numbers, judged_file, due_blocks, SettlesIn}
 use Rattle.bt_engine.proofs.Lists.{set_cases, and_then_some, map_some, and_true, here, later, contains_none, contains_filter, map_contains, flat_map_contains, some_below, range_contains}
 
 pub state_is : (s : EngineState) (c : BlockId) {f x : _} → slice_get s.files c.file ≡ Some f → slice_get f.states c.block ≡ Some x → state_at s c ≡ Some x

@@ -1,35 +1,6 @@
 -- Trees stay rooted.
-use Rattle.std.proofs.Common.{◌≡◌, ℕ, ◌-◌, arith, inl, inr, List, [], ◌∷◌, sym, subst, ◌<◌, ◌∙◌}
-use Rattle.bt_sparse.specs.SparseTree.{Facts, blocks_of, height, IsRooted, IsChecked}
-use Rattle.bt_sparse.proofs.Joins.{keeps_rooted}
-use Rattle.bt_sparse.proofs.Paths.{held_is_checked}
-use Rattle.bt_sparse.proofs.Values.{value_covers}
-use Rattle.bt_tree.specs.TreeShape.{CoversBlock, real_width}
-use Rattle.bt_tree.proofs.TreeShape.{real_limit}
-use Rattle.bt_hashreq.specs.declared.key.HashKey.{HashKey}
-use Rattle.bt_store.specs.BlockReads.{BlockRead, IsRight}
-use Rattle.bt_wire.specs.declared.message.Ask.{Ask}
-use Rattle.bt_wire.specs.declared.message.Message.{Message as Sent}
-use Rattle.bt_wire.specs.declared.message.Message.TheVariants.{KeepAlive, Choke, Unchoke, Interested, NotInterested, Have, Bitfield, Request, Piece, Cancel, HashRequest, Hashes, HashReject}
-use Rattle.bt_wire.specs.declared.event.WireEvent.{WireEvent}
-use Rattle.bt_wire.specs.declared.event.WireEvent.TheVariants.{Hello, Message, Skipped}
-use Rattle.bt_engine.specs.declared.event.Event.{Event}
-use Rattle.bt_engine.specs.declared.event.Event.TheVariants.{Connect, Feed, Next, Lost, Rechoke, Adopt, Flush}
-use Rattle.bt_engine.specs.State.{PeerState, FileState, EngineState}
-use Rattle.bt_engine.specs.Devices.{DeviceCalls}
-use Rattle.bt_engine.specs.Blocks.{with_tree}
-use Rattle.bt_engine.specs.Output.{Sent as SentFrame, Effect}
-use Rattle.bt_engine.specs.Request.{FindsFault, damaged, fault, HandlesRequest, ignored, no_place, not_marked, served, stopped}
-use Rattle.bt_engine.specs.Arrival.{HandlesPiece, stale, arrives}
-use Rattle.bt_engine.specs.HashMessages.{HandlesHashes, unknown_root, no_claim, refused, learns}
-use Rattle.bt_engine.specs.WireEvents.{HandlesHave, in_range, out_of_range, HandlesBitfield, right, wrong, HandlesMessage, Handles}
-use Rattle.bt_engine.specs.Next.{StepNext, no_peer, waits, goes_on, closes, faulty, no_memory}
-use Rattle.bt_engine.specs.Peers.{StepConnect, joins, full, spent, no_memory as no_room, StepFeed, feeds, no_peer as not_fed, no_memory as no_room_to_feed, StepLost, goes, no_peer as not_lost}
-use Rattle.bt_engine.specs.Rechoke.{FollowsEach, StepRechoke, rechokes, no_memory as not_rechoked}
-use Rattle.bt_engine.specs.Adopting.{AdoptsGroup, AdoptsGroups, StepAdopt, no_file, busy, empty, adopts, no_memory as not_adopted}
-use Rattle.bt_engine.specs.Flush.{StepFlush, syncs, fails}
-use Rattle.bt_engine.specs.Step.{Answer, Step, Run}
-use Rattle.bt_engine.specs.Law.{AreRooted, AreChecked}
+use Rattle.bt_engine.proofs.Base.{◌≡◌, ℕ, ◌-◌, arith, inl, inr, List, [], ◌∷◌, sym, subst, ◌<◌, ◌∙◌, Facts, blocks_of, height, IsRooted, IsChecked, keeps_rooted, held_is_checked, value_covers, CoversBlock, real_width, real_limit, HashKey, BlockRead, IsRight, Ask, PeerMessage as Sent, KeepAlive, Choke, Unchoke, Interested, NotInterested, Have, Bitfield, Request, Piece, Cancel, HashRequest, Hashes, HashReject, WireEvent, Hello, Message, Skipped}
+use Rattle.bt_engine.proofs.Machine.{Event, Connect, Feed, Next, Lost, Rechoke, Adopt, Flush, PeerState, FileState, EngineState, DeviceCalls, with_tree, Sent as SentFrame, Effect, FindsFault, damaged, fault, HandlesRequest, ignored, no_place, not_marked, served, stopped, HandlesPiece, stale, arrives, HandlesHashes, unknown_root, no_claim, refused, learns, HandlesHave, in_range, out_of_range, HandlesBitfield, right, wrong, HandlesMessage, Handles, StepNext, no_peer, waits, goes_on, closes, faulty, no_memory, StepConnect, joins, full, spent, no_room, StepFeed, feeds, not_fed, no_room as no_room_to_feed, StepLost, goes, not_fed as not_lost, FollowsEach, StepRechoke, rechokes, not_rechoked, AdoptsGroup, AdoptsGroups, StepAdopt, no_file, busy, empty, adopts, not_adopted, StepFlush, syncs, fails, Answer, Step, Run, AreRooted, AreChecked}
 use Rattle.bt_engine.proofs.Lists.{set_cases}
 use Rattle.bt_engine.proofs.Adopting.{group_extends}
 

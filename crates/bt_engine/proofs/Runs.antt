@@ -1,18 +1,6 @@
 -- Runs that are joined and split, and what is forced on a run by one that is known.
-use Rattle.std.proofs.Common.{◌≡◌, ◌≢◌, ℕ, zero, suc, ◌<◌, false, List, [], ◌∷◌, ◌++◌, length, refl, sym, ap, ◌∙◌, subst, arith}
-use Rattle.std.specs.Prelude.{slice_get, Some, Contains, All, ⊤}
-use Rattle.std.specs.List.{AllPairs}
-use Rattle.std.proofs.lemmas.List.Elements.{Contains-append_left, Contains-append_right}
-use Rattle.bt_meta.specs.Files.{File}
-use Rattle.bt_meta.specs.Torrent.{Metainfo}
-use Rattle.bt_sparse.specs.SparseTree.{Facts, root_facts}
-use Rattle.bt_store.specs.FileStore.{new_states}
-use Rattle.bt_engine.specs.declared.event.Event.{Event}
-use Rattle.bt_engine.specs.State.{FileState, EngineState}
-use Rattle.bt_engine.specs.Devices.{DeviceCalls}
-use Rattle.bt_engine.specs.Start.{IsTreeFrom, by_layer, by_root, Starts}
-use Rattle.bt_engine.specs.Step.{Answer, Step, Run}
-use Rattle.bt_engine.specs.Determined.{IsOutOfMemory, HaveMemory}
+use Rattle.bt_engine.proofs.Base.{◌≡◌, ◌≢◌, ℕ, zero, suc, ◌<◌, false, List, [], ◌∷◌, ◌++◌, length, refl, sym, ap, ◌∙◌, subst, arith, slice_get, Some, Contains, All, ⊤, AllPairs, Contains-append_left, Contains-append_right, File, Metainfo, Facts, root_facts, new_states}
+use Rattle.bt_engine.proofs.Machine.{Event, FileState, EngineState, DeviceCalls, IsTreeFrom, by_layer, by_root, Starts, Answer, Step, Run, IsOutOfMemory, HaveMemory}
 use Rattle.bt_engine.proofs.Pairs.{contains_at}
 use Rattle.bt_engine.proofs.ExamplePeer.{one_there}
 use Rattle.bt_engine.proofs.Determined.{EachPair}

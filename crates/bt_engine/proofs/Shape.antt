@@ -1,46 +1,7 @@
 -- What stays over all events.
-use Rattle.std.proofs.Common.{◌≡◌, ◌≢◌, ℕ, zero, suc, ◌+◌, ◌<◌, inl, inr, Bool, true, false, List, [], ◌∷◌, ◌++◌, length, map, get_or, Some, refl, sym, ap, ◌∙◌, arith}
-use Rattle.std.specs.Prelude.{slice_get, slice_set, option_map, if◌then◌else◌, Result, Ok, Err}
-use Rattle.std.specs.List.{AllPairs}
-use Rattle.std.proofs.lemmas.List.{length-set, length-map, length-replicate, append-nil, get_or-map}
-use Rattle.bt_tree.specs.Blocks.{block_count}
-use Rattle.bt_meta.specs.Files.{File}
-use Rattle.bt_meta.specs.Torrent.{Metainfo}
-use Rattle.bt_sparse.specs.SparseTree.{Facts}
-use Rattle.bt_hashreq.specs.declared.key.HashKey.{HashKey}
-use Rattle.bt_store.specs.BlockReads.{BlockRead, given, failed, judged}
-use Rattle.bt_store.specs.Adoption.{marked_run, Adopts, none, known, accepted, refused as not_accepted, short, unread}
-use Rattle.bt_store.specs.Arrival.{states_after_put}
-use Rattle.bt_store.specs.declared.block_states.BlockState.{BlockState}
-use Rattle.bt_store.specs.declared.block_states.BlockState.TheVariants.{Missing, Waiting, Marked}
-use Rattle.bt_store.specs.declared.error.StoreError.{StoreError}
-use Rattle.bt_store.specs.declared.arrival.Put.{Put}
-use Rattle.bt_store.specs.declared.arrival.Put.TheVariants.{Already, Wrong, Marked as PutMarked, Waiting as PutWaiting}
-use Rattle.bt_wire.specs.declared.message.Ask.{Ask}
-use Rattle.bt_wire.specs.declared.message.Message.{Message as Sent}
-use Rattle.bt_wire.specs.declared.message.Message.TheVariants.{KeepAlive, Choke, Unchoke, Interested, NotInterested, Have, Bitfield, Request, Piece, Cancel, HashRequest, Hashes, HashReject}
-use Rattle.bt_wire.specs.declared.event.WireEvent.{WireEvent}
-use Rattle.bt_wire.specs.declared.event.WireEvent.TheVariants.{Hello, Message, Skipped}
-use Rattle.bt_engine.specs.declared.event.Event.{Event}
-use Rattle.bt_engine.specs.declared.event.Event.TheVariants.{Connect, Feed, Next, Lost, Rechoke, Adopt, Flush}
-use Rattle.bt_engine.specs.State.{PeerState, FileState, EngineState, mark_of}
-use Rattle.bt_engine.specs.Devices.{DeviceCalls}
-use Rattle.bt_engine.specs.Blocks.{with_file, with_tree, with_peer, new_marked_blocks}
-use Rattle.bt_engine.specs.Output.{Sent as SentFrame, Effect}
-use Rattle.bt_engine.specs.Request.{FindsFault, damaged, fault, HandlesRequest, ignored, no_place, not_marked, served, stopped}
-use Rattle.bt_engine.specs.Arrival.{HandlesPiece, stale, arrives}
-use Rattle.bt_engine.specs.Settling.{judged_file, SettlesIn}
-use Rattle.bt_engine.specs.HashMessages.{HandlesHashes, unknown_root, no_claim, refused, learns}
-use Rattle.bt_engine.specs.WireEvents.{HandlesHave, in_range, out_of_range, HandlesBitfield, right, wrong, HandlesMessage, Handles}
-use Rattle.bt_engine.specs.FollowUp.{FollowsUp}
-use Rattle.bt_engine.specs.Next.{without_peer, with_pending, TakesEvent, StepNext, no_peer, waits, goes_on, closes, faulty, no_memory}
-use Rattle.bt_engine.specs.Peers.{StepConnect, joins, full, spent, no_memory as no_room, StepFeed, feeds, no_peer as not_fed, no_memory as no_room_to_feed, StepLost, goes, no_peer as not_lost}
-use Rattle.bt_engine.specs.Rechoke.{rechoked, FollowsEach, StepRechoke, rechokes, no_memory as not_rechoked}
-use Rattle.bt_engine.specs.Adopting.{AdoptsGroup, AdoptsGroups, is_other, StepAdopt, no_file, busy, empty, adopts, no_memory as not_adopted}
-use Rattle.bt_engine.specs.Flush.{StepFlush, syncs, fails}
-use Rattle.bt_engine.specs.Start.{Starts}
-use Rattle.bt_engine.specs.Step.{Answer, Step, Run}
-use Rattle.bt_engine.specs.Shape.{IsShaped, HasShapeOf, RunsKeepShape}
+use Rattle.bt_engine.proofs.Base.{◌≡◌, ◌≢◌, ℕ, zero, suc, ◌+◌, ◌<◌, inl, inr, Bool, true, false, List, [], ◌∷◌, ◌++◌, length, map, get_or, Some, refl, sym, ap, ◌∙◌, arith, slice_get, slice_set, option_map, if◌then◌else◌, Result, Ok, Err, AllPairs, length-set, length-map, length-replicate, append-nil, get_or-map, block_count, File, Metainfo, Facts, HashKey, BlockRead, given, failed, judged, Adopts, none, known, accepted, not_accepted, short, unread, states_after_put, BlockState, Missing, Waiting, Marked, StoreError, Put, Already, Wrong, PutMarked, PutWaiting, Ask, PeerMessage as Sent, KeepAlive, Choke, Unchoke, Interested, NotInterested, Have, Bitfield, Request, Piece, Cancel, HashRequest, Hashes, HashReject, WireEvent, Hello, Message, Skipped}
+use Rattle.bt_engine.proofs.Machine.{Event, Connect, Feed, Next, Lost, Rechoke, Adopt, Flush, PeerState, FileState, EngineState, mark_of, DeviceCalls, with_file, with_tree, with_peer, new_marked_blocks, Sent as SentFrame, Effect, FindsFault, damaged, fault, HandlesRequest, ignored, no_place, not_marked, served, stopped, HandlesPiece, stale, arrives, judged_file, SettlesIn, HandlesHashes, unknown_root, no_claim, refused, learns, HandlesHave, in_range, out_of_range, HandlesBitfield, right, wrong, HandlesMessage, Handles, FollowsUp, without_peer, with_pending, TakesEvent, StepNext, no_peer, waits, goes_on, closes, faulty, no_memory, StepConnect, joins, full, spent, no_room, StepFeed, feeds, not_fed, no_room as no_room_to_feed, StepLost, goes, not_fed as not_lost, rechoked, FollowsEach, StepRechoke, rechokes, not_rechoked, AdoptsGroup, AdoptsGroups, is_other, StepAdopt, no_file, busy, empty, adopts, not_adopted, StepFlush, syncs, fails, Starts, Answer, Step, Run, IsShaped, HasShapeOf, RunsKeepShape}
+use Rattle.bt_store.specs.Adoption.{marked_run}
 use Rattle.bt_engine.proofs.Lists.{same_some, set_get, set_cases, map_some}
 use Rattle.bt_engine.proofs.Adopting.{group_extends}
 

@@ -1,28 +1,10 @@
 -- Marked blocks stay right on honest devices.
-use Rattle.std.proofs.Common.{◌≡◌, ◌≢◌, ℕ, ◌*◌, ◌⊎◌, inl, inr, Bool, true, false, List, [], ◌∷◌, length, take, drop, Option, Some, refl, sym, ap, ◌∙◌, subst}
-use Rattle.std.specs.Prelude.{slice_get, Contains, filter, ◌==◌}
-use Rattle.std.specs.Option.{option_and_then}
-use Rattle.std.proofs.lemmas.Bool.{eqb-true, eq-eqb}
-use Rattle.bt_tree.specs.Limits.{full_block_length}
-use Rattle.bt_tree.specs.Blocks.{block_length}
-use Rattle.bt_disk.specs.History.{History, after_write}
-use Rattle.bt_disk.specs.Calls.{Call, length_given, length_fault, bytes_given, read_fault, bytes_written, write_fault, length_set, resize_fault, sync_made, sync_fault, IsAnswered, AreAnswered, AfterWriteFault}
-use Rattle.bt_sparse.specs.SparseTree.{Facts, value_at}
-use Rattle.bt_store.specs.BlockReads.{given, call_of, IsRight}
-use Rattle.bt_store.specs.declared.block_states.BlockState.TheVariants.{Missing, Marked}
-use Rattle.bt_book.specs.declared.names.BlockId.{BlockId}
-use Rattle.bt_engine.specs.declared.event.Event.{Event}
-use Rattle.bt_engine.specs.State.{FileState, EngineState}
-use Rattle.bt_engine.specs.Devices.{DeviceCalls, calls_of}
-use Rattle.bt_engine.specs.Blocks.{block_id, state_at, tree_of}
-use Rattle.bt_engine.specs.Stored.{stored_block, AreRight}
-use Rattle.bt_engine.specs.Step.{Answer, Step}
-use Rattle.bt_engine.specs.Law.{brought, read_back, found}
-use Rattle.bt_engine.specs.Sound.{IsSound, StepKeepsSound, RunOn, CompleteFilesStand}
+use Rattle.bt_engine.proofs.Base.{◌≡◌, ◌≢◌, ℕ, ◌*◌, ◌⊎◌, inl, inr, Bool, true, false, List, [], ◌∷◌, length, take, drop, Option, Some, refl, sym, ap, ◌∙◌, subst, slice_get, Contains, filter, ◌==◌, option_and_then, eqb-true, eq-eqb, full_block_length, block_length, History, after_write, Call, length_given, length_fault, bytes_given, read_fault, bytes_written, write_fault, length_set, resize_fault, sync_made, sync_fault, AreAnswered, AfterWriteFault, Facts, value_at, given, call_of, IsRight, Missing, Marked, BlockId}
+use Rattle.bt_engine.proofs.Machine.{Event, FileState, EngineState, DeviceCalls, calls_of, block_id, state_at, tree_of, stored_block, AreRight, Answer, Step, brought, read_back, found, IsSound, StepKeepsSound, RunOn, CompleteFilesStand, KeepsBytes}
+use Rattle.bt_disk.specs.Calls.{IsAnswered}
 use Rattle.bt_engine.proofs.Lists.{same_some, here, later, contains_none, contains_cases, contains_filter, contains_map}
 use Rattle.bt_engine.proofs.Marking.{step_cases}
 use Rattle.bt_engine.proofs.Stored.{own_bytes, other_bytes, torn_bytes, complete_root}
-use Rattle.bt_engine.specs.Writes.{KeepsBytes}
 use Rattle.bt_engine.proofs.Tame.{Touches, keeping, putting, step_tame}
 
 -- ---- calls of one device

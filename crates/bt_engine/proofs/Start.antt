@@ -1,25 +1,7 @@
 -- The trees of an engine that has just started are rooted.
-use Rattle.std.proofs.Common.{◌≡◌, ℕ, zero, suc, ◌-◌, ◌*◌, ◌<◌, ◌≤◌, ◌⊎◌, inl, inr, List, [], ◌∷◌, length, drop, get_or, Some, refl, sym, ap, ◌∙◌, subst, arith, length-drop}
-use Rattle.std.specs.Prelude.{slice_get}
-use Rattle.std.specs.Simd.{first_chunks}
-use Rattle.std.proofs.lemmas.Bool.{cases_lt}
-use Rattle.std.proofs.lemmas.List.{length-take}
-use Rattle.bt_tree.specs.Blocks.{IsFileLength, block_count}
-use Rattle.bt_tree.specs.TreeShape.{height_of, real_width}
-use Rattle.bt_tree.specs.NodeHash.{IsDigest}
+use Rattle.bt_engine.proofs.Base.{◌≡◌, ℕ, zero, suc, ◌-◌, ◌*◌, ◌<◌, ◌≤◌, ◌⊎◌, inl, inr, List, [], ◌∷◌, length, drop, get_or, Some, refl, sym, ap, ◌∙◌, subst, arith, length-drop, slice_get, first_chunks, cases_lt, length-take, IsFileLength, block_count, height_of, real_width, IsDigest, real_limit, Facts, IsRooted, layer_digest, HoldsLayer, IsWhole, All-get_or, File, Metainfo, IsLawful, IsLawfulFile, root_sound, layer_real, layer_past, layer_folds, filled_sound}
+use Rattle.bt_engine.proofs.Machine.{EngineState, IsTreeFrom, by_layer, by_root, Starts, AreRooted}
 use Rattle.bt_tree.specs.Peaks.{row_node}
-use Rattle.bt_tree.proofs.TreeShape.{real_limit}
-use Rattle.bt_sparse.specs.SparseTree.{Facts, IsRooted}
-use Rattle.bt_sparse.specs.Layer.{layer_digest, HoldsLayer}
-use Rattle.bt_sparse.specs.LayerSteps.{IsWhole}
-use Rattle.std.proofs.lemmas.List.Elements.{All-get_or}
-use Rattle.bt_meta.specs.Files.{File}
-use Rattle.bt_meta.specs.Torrent.{Metainfo, IsLawful, IsLawfulFile}
-use Rattle.bt_engine.specs.State.{EngineState}
-use Rattle.bt_engine.specs.Start.{IsTreeFrom, by_layer, by_root, Starts}
-use Rattle.bt_engine.specs.Law.{AreRooted}
-use Rattle.bt_sparse.proofs.Values.{root_sound}
-use Rattle.bt_sparse.proofs.LayerNodes.{layer_real, layer_past, layer_folds, filled_sound}
 
 chunk_length : (count i : ℕ) (bytes : List ℕ) → i < count → 32 * count ≤ length bytes → length (get_or (first_chunks 32 count bytes) i []) ≡ 32
 chunk_length zero i bytes lt room = absurd (omega (arith, lt))

@@ -1,21 +1,6 @@
 -- Marked blocks on a device, and a complete file.
-use Rattle.std.proofs.Common.{◌≡◌, ◌≢◌, ℕ, zero, suc, ◌+◌, ◌-◌, ◌*◌, ◌^◌, ◌<◌, ◌≤◌, ◌⊎◌, inl, inr, min, List, ◌++◌, length, take, drop, replicate, get_or, Some, sym, ap, ◌∙◌, subst, arith, length-append, length-drop, pow-suc}
-use Rattle.std.specs.Prelude.{slice_get, slice_index, ◌/◌}
-use Rattle.std.proofs.lemmas.Bool.{cases_lt}
-use Rattle.std.proofs.lemmas.List.{get_or-take, get_or-drop, get_or_append_left, get_or-append_right, length-take, length-replicate}
-use Rattle.std.proofs.lemmas.Grind.{same_number_lists}
-use Rattle.bt_disk.specs.State.{State, written, IsTornWrite}
-use Rattle.bt_tree.specs.Blocks.{block_count, block_length, block_at}
-use Rattle.bt_tree.specs.TreeShape.{height_of, IsInside, real_width}
-use Rattle.bt_tree.specs.Tree.{node_digest}
-use Rattle.bt_tree.proofs.TreeNodes.{leaf_is, leaf_past, node_parent}
-use Rattle.bt_sparse.specs.SparseTree.{Facts, blocks_of, height, value_at, IsRooted}
-use Rattle.bt_sparse.proofs.Values.{value_covers, value_padding}
-use Rattle.bt_sparse.proofs.Answers.{value_above}
-use Rattle.bt_store.specs.BlockReads.{IsRight}
-use Rattle.bt_store.specs.declared.block_states.BlockState.{BlockState}
-use Rattle.bt_store.specs.declared.block_states.BlockState.TheVariants.{Marked}
-use Rattle.bt_engine.specs.Stored.{stored_block, AreRight, HasFile}
+use Rattle.bt_engine.proofs.Base.{◌≡◌, ◌≢◌, ℕ, zero, suc, ◌+◌, ◌-◌, ◌*◌, ◌^◌, ◌<◌, ◌≤◌, ◌⊎◌, inl, inr, min, List, ◌++◌, length, take, drop, replicate, get_or, Some, sym, ap, ◌∙◌, subst, arith, length-append, length-drop, pow-suc, slice_get, slice_index, ◌/◌, cases_lt, get_or-take, get_or-drop, get_or_append_left, get_or-append_right, length-take, length-replicate, same_number_lists, State, written, IsTornWrite, block_count, block_length, block_at, height_of, IsInside, real_width, node_digest, leaf_is, leaf_past, node_parent, Facts, blocks_of, height, value_at, IsRooted, value_covers, value_padding, value_above, IsRight, BlockState, Marked}
+use Rattle.bt_engine.proofs.Machine.{stored_block, AreRight, HasFile}
 use Rattle.bt_engine.proofs.Lists.{same_some}
 
 length-front : (xs : List ℕ) {at : ℕ} → length (take at xs ++ replicate (at - length xs) 0) ≡ at

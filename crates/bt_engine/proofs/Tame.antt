@@ -1,46 +1,6 @@
 -- What a step does to trees, files and devices: trees grow, and it reads blocks, or syncs, or writes one missing block.
-use Rattle.std.proofs.Common.{◌≡◌, ℕ, ◌*◌, ◌⊎◌, inl, inr, Bool, true, List, [], ◌∷◌, ◌++◌, length, Some, Result, Ok, Err, refl, sym, ap, ◌∙◌, subst}
-use Rattle.std.specs.Prelude.{slice_get, slice_set, flat_map}
-use Rattle.std.specs.Option.{option_and_then}
-use Rattle.std.proofs.lemmas.List.Elements.{Contains-append_cases}
-use Rattle.bt_tree.specs.Limits.{full_block_length}
-use Rattle.bt_tree.specs.Blocks.{block_count, block_length}
-use Rattle.bt_tree.specs.TreeShape.{CoversBlock, IsPadding}
-use Rattle.bt_disk.specs.Calls.{Call, bytes_written, write_fault, sync_made, sync_fault}
-use Rattle.bt_hashreq.specs.declared.key.HashKey.{HashKey}
-use Rattle.bt_sparse.specs.SparseTree.{Facts, blocks_of, held_at, value_at}
-use Rattle.bt_sparse.proofs.Values.{value_inside, value_covers, value_padding, cases_node}
-use Rattle.bt_store.specs.BlockReads.{BlockRead, given, failed, call_of}
-use Rattle.bt_store.specs.Arrival.{PutIsDue, calls_of_put, states_after_put}
-use Rattle.bt_store.specs.declared.block_states.BlockState.TheVariants.{Missing}
-use Rattle.bt_store.specs.declared.error.StoreError.{StoreError}
-use Rattle.bt_store.specs.declared.error.StoreError.TheVariants.{Range, Device as DeviceFault}
-use Rattle.bt_store.specs.declared.arrival.Put.{Put}
-use Rattle.bt_store.specs.declared.arrival.Put.TheVariants.{Already, Wrong, Marked as PutMarked, Waiting as PutWaiting}
-use Rattle.bt_book.specs.declared.names.BlockId.{BlockId}
-use Rattle.bt_wire.specs.declared.message.Ask.{Ask}
-use Rattle.bt_wire.specs.declared.message.Message.{Message as Sent}
-use Rattle.bt_wire.specs.declared.message.Message.TheVariants.{KeepAlive, Choke, Unchoke, Interested, NotInterested, Have, Bitfield, Request, Piece, Cancel, HashRequest, Hashes, HashReject}
-use Rattle.bt_wire.specs.declared.event.WireEvent.{WireEvent}
-use Rattle.bt_wire.specs.declared.event.WireEvent.TheVariants.{Hello, Message, Skipped}
-use Rattle.bt_engine.specs.declared.event.Event.{Event}
-use Rattle.bt_engine.specs.declared.event.Event.TheVariants.{Connect, Feed, Next, Lost, Rechoke, Adopt, Flush}
-use Rattle.bt_engine.specs.State.{PeerState, FileState, EngineState}
-use Rattle.bt_engine.specs.Devices.{DeviceCalls, calls_at, reads_at}
-use Rattle.bt_engine.specs.Blocks.{with_file, with_tree, file_numbers}
-use Rattle.bt_engine.specs.Settling.{judged_file, SettlesIn}
-use Rattle.bt_engine.specs.Output.{Sent as SentFrame, Effect}
-use Rattle.bt_engine.specs.Request.{FindsFault, damaged, fault, HandlesRequest, ignored, no_place, not_marked, served, stopped}
-use Rattle.bt_engine.specs.Arrival.{Arrives, HandlesPiece, stale, arrives}
-use Rattle.bt_engine.specs.HashMessages.{HandlesHashes, unknown_root, no_claim, refused, learns}
-use Rattle.bt_engine.specs.WireEvents.{HandlesHave, in_range, out_of_range, HandlesBitfield, right, wrong, HandlesMessage, Handles}
-use Rattle.bt_engine.specs.Next.{StepNext, no_peer, waits, goes_on, closes, faulty, no_memory}
-use Rattle.bt_engine.specs.Peers.{StepConnect, joins, full, spent, no_memory as no_room, StepFeed, feeds, no_peer as not_fed, no_memory as no_room_to_feed, StepLost, goes, no_peer as not_lost}
-use Rattle.bt_engine.specs.Rechoke.{FollowsEach, StepRechoke, rechokes, no_memory as not_rechoked}
-use Rattle.bt_engine.specs.Adopting.{AdoptsGroup, AdoptsGroups, is_other, StepAdopt, no_file, busy, empty, adopts, no_memory as not_adopted}
-use Rattle.bt_engine.specs.Flush.{StepFlush, syncs_of, syncs, fails}
-use Rattle.bt_engine.specs.Step.{Answer, Step}
-use Rattle.bt_engine.specs.Writes.{KeepsBytes, AllKeepBytes, IsWriteOfMissing, StepWritesMissing}
+use Rattle.bt_engine.proofs.Base.{◌≡◌, ℕ, ◌*◌, ◌⊎◌, inl, inr, Bool, true, List, [], ◌∷◌, ◌++◌, length, Some, Result, Ok, Err, refl, sym, ap, ◌∙◌, subst, slice_get, slice_set, flat_map, option_and_then, Contains-append_cases, full_block_length, block_count, block_length, CoversBlock, IsPadding, Call, bytes_written, write_fault, sync_made, sync_fault, HashKey, Facts, blocks_of, held_at, value_at, value_inside, value_covers, value_padding, cases_node, BlockRead, given, failed, call_of, PutIsDue, calls_of_put, states_after_put, Missing, StoreError, Range, DeviceFault, Put, Already, Wrong, PutMarked, PutWaiting, BlockId, Ask, PeerMessage as Sent, KeepAlive, Choke, Unchoke, Interested, NotInterested, Have, Bitfield, Request, Piece, Cancel, HashRequest, Hashes, HashReject, WireEvent, Hello, Message, Skipped}
+use Rattle.bt_engine.proofs.Machine.{Event, Connect, Feed, Next, Lost, Rechoke, Adopt, Flush, PeerState, FileState, EngineState, DeviceCalls, calls_at, reads_at, with_file, with_tree, file_numbers, judged_file, SettlesIn, Sent as SentFrame, Effect, FindsFault, damaged, fault, HandlesRequest, ignored, no_place, not_marked, served, stopped, Arrives, HandlesPiece, stale, arrives, HandlesHashes, unknown_root, no_claim, refused, learns, HandlesHave, in_range, out_of_range, HandlesBitfield, right, wrong, HandlesMessage, Handles, StepNext, no_peer, waits, goes_on, closes, faulty, no_memory, StepConnect, joins, full, spent, no_room, StepFeed, feeds, not_fed, no_room as no_room_to_feed, StepLost, goes, not_fed as not_lost, FollowsEach, StepRechoke, rechokes, not_rechoked, AdoptsGroup, AdoptsGroups, is_other, StepAdopt, no_file, busy, empty, adopts, not_adopted, StepFlush, syncs_of, syncs, fails, Answer, Step, KeepsBytes, AllKeepBytes, IsWriteOfMissing, StepWritesMissing}
 use Rattle.bt_engine.proofs.Lists.{set_cases, map_some, contains_none, contains_cases, contains_map, contains_flat_map}
 use Rattle.bt_engine.proofs.Adopting.{group_extends}
 

@@ -1,30 +1,7 @@
 -- The tree after a group answers the keys that ask for what the group taught.
-use Rattle.std.proofs.Common.{◌≡◌, ℕ, zero, suc, ◌+◌, ◌-◌, ◌*◌, ◌/◌, ◌%◌, ◌^◌, ◌<◌, ◌≤◌, inl, inr, min, Bool, true, false, List, [], ◌∷◌, length, map, replicate, get_or, Option, Some, refl, sym, ap, ◌∙◌, subst, arith, length-append}
-use Rattle.std.specs.Prelude.{Contains, nat_lt, ◌&&◌, ◌==◌, if◌then◌else◌}
-use Rattle.std.proofs.Math.Nat.{div-add-mod, mul_assoc, add-mul, div-div-eq-div-mul, mul-mod_left, lt_of_mul-lt-mul_right, mul-le-mul_right}
-use Rattle.std.proofs.lemmas.Bool.{cases_lt, lt-ltb, le-ltb, eqb-true}
-use Rattle.std.proofs.lemmas.Nat.{div-mul-add, pow-add, pow_pos}
-use Rattle.std.proofs.lemmas.List.{length-map, length-replicate}
-use Rattle.std.proofs.lemmas.List.FromFn.{length-range_with_len}
-use Rattle.bt_tree.specs.Blocks.{block_count}
-use Rattle.bt_tree.specs.Tree.{padding_digest}
-use Rattle.bt_tree.specs.TreeShape.{height_of, IsInside}
-use Rattle.bt_tree.specs.Peaks.{row_node}
-use Rattle.bt_tree.proofs.TreeShape.{pow_le}
-use Rattle.bt_sparse.specs.SparseTree.{Facts, blocks_of, height, value_at}
-use Rattle.bt_sparse.specs.Claim.{Claims, in_run, run_height, run_digest, sibling_of}
-use Rattle.bt_sparse.specs.declared.claim.Claim.{Claim}
-use Rattle.bt_sparse.specs.Answer.{IsRequest, answer_size, answer_layer, answer_index}
-use Rattle.bt_sparse.specs.Acceptance.{Accepts}
-use Rattle.bt_sparse.proofs.Values.{value_covers, value_padding, cases_node}
-use Rattle.bt_sparse.proofs.Claims.{claimed_inside, double_div, half_sibling}
-use Rattle.bt_hashreq.specs.Request.{max_run_height, planned_key}
-use Rattle.bt_hashreq.specs.declared.key.HashKey.{HashKey}
-use Rattle.bt_hashreq.proofs.ClaimRun.{height_of-pow}
-use Rattle.bt_store.specs.BlockReads.{BlockRead, block_of}
-use Rattle.bt_store.specs.Adoption.{IsUnknownGroup, AreWhole, claimed_digest, claim_of_reads, none, known, accepted, refused, short, unread}
-use Rattle.bt_engine.specs.Adopting.{group_blocks, run_starts}
-use Rattle.bt_engine.specs.Taught.{HasAnswer, TaughtKeysAreAnswered}
+use Rattle.bt_engine.proofs.Base.{◌≡◌, ℕ, zero, suc, ◌+◌, ◌-◌, ◌*◌, ◌/◌, ◌%◌, ◌^◌, ◌<◌, ◌≤◌, inl, inr, min, Bool, true, false, List, [], ◌∷◌, length, map, replicate, get_or, Option, Some, refl, sym, ap, ◌∙◌, subst, arith, length-append, Contains, nat_lt, ◌&&◌, ◌==◌, if◌then◌else◌, div-add-mod, mul_assoc, add-mul, div-div-eq-div-mul, mul-mod_left, lt_of_mul-lt-mul_right, mul-le-mul_right, cases_lt, lt-ltb, le-ltb, eqb-true, div-mul-add, pow-add, pow_pos, length-map, length-replicate, length-range_with_len, block_count, padding_digest, height_of, IsInside, row_node, pow_le, Facts, blocks_of, height, value_at, Claims, in_run, run_height, run_digest, sibling_of, Claim, IsRequest, answer_size, answer_layer, answer_index, Accepts, value_covers, value_padding, cases_node, claimed_inside, double_div, half_sibling, max_run_height, planned_key, HashKey, height_of-pow, BlockRead, block_of, IsUnknownGroup, claimed_digest, claim_of_reads, none, known, accepted, not_accepted as refused, short, unread}
+use Rattle.bt_engine.proofs.Machine.{group_blocks, run_starts, HasAnswer, TaughtKeysAreAnswered}
+use Rattle.bt_store.specs.Adoption.{AreWhole}
 use Rattle.bt_engine.proofs.Lists.{range_limits, contains_none, contains_map, contains_filter}
 
 -- ---- numbers
