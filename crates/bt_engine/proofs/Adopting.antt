@@ -14,12 +14,12 @@ module _ (dig : List ℕ → List ℕ) where
 
   -- bytes that are right stay right
   pub right_in : {k grown i bytes : _} → Extends dig k grown → IsRight dig k i bytes → IsRight dig grown i bytes
-  right_in {i} extends right = record { whole = right.whole ∙ ap (λ n. block_length n i) (sym extends.file_length); leaf = extends.values 0 i _ right.leaf }
+  right_in {i} extends right = record { whole = cc; leaf = extends.values 0 i _ right.leaf }
 
   extends_then : {k mid grown : _} → Extends dig k mid → Extends dig mid grown → Extends dig k grown
   extends_then e f = record {
-    file_length = f.file_length ∙ e.file_length;
-    root = f.root ∙ e.root;
+    file_length = cc;
+    root = cc;
     values = λ layer i d v. f.values layer i d (e.values layer i d v);
     rooted = λ r. f.rooted (e.rooted r);
   }
@@ -38,17 +38,17 @@ module _ (dig : List ℕ → List ℕ) where
   pub group_forward : {s new file from calls adopted : _} → AdoptsGroup dig s file from calls adopted new
       → {f k : _} → IsFile s file f k → HasExtended new file k
   group_forward {s} g {f} {k} is =
-      let state : g.state ≡ f = same_some g.is_file.here is.here in
-      let tree : g.tree ≡ k = same_some (ap (λ (q : FileState). slice_get s.trees q.tree) (sym state) ∙ g.is_file.hung) is.hung in
+      let state : g.state ≡ f = cc in
+      let tree : g.tree ≡ k = cc in
       record {
         state = record g.state { states = g.states };
         tree = g.grown;
         is_file = group_file g;
-        extends = subst (λ x. Extends dig x g.grown) tree (group_extends g);
+        extends = rw (← tree) (group_extends g);
       }
 
   file_in : {m new file f k : _} → new ≡ m → IsFile m file f k → IsFile new file f k
-  file_in {file} {f} {k} e is = subst (λ x. IsFile x file f k) (sym e) is
+  file_in {file} {f} {k} e is = rw e is
 
   same_tree : {k : _} → Extends dig k k
   same_tree = record { file_length = refl; root = refl; values = λ layer i d v. v; rooted = λ r. r }
@@ -69,7 +69,7 @@ module _ (dig : List ℕ → List ℕ) where
     tree = k;
     is_file = record {
       here = s.files file ∙ ap (option_map (judged_file dig s.facts (s.reads file))) is.here;
-      hung = ap (λ (x : EngineState). slice_get x.trees f.tree) s.others ∙ is.hung;
+      hung = cc;
     };
     extends = same_tree;
   }
@@ -86,13 +86,13 @@ module _ (dig : List ℕ → List ℕ) where
     found_later {more} {mid} {new} among forward x =
         let f = and_then_some (λ (q : FileState). slice_get mid.trees q.tree) (slice_get mid.files b.file) x.hung in
         let h = forward f.0 x.tree (record { here = f.1; hung = f.2 }) in
-        let one : call_of x.tree.file_length (given b.block x.bytes) ≡ call_of h.tree.file_length (given b.block x.bytes) = ap (λ n. call_of n (given b.block x.bytes)) (sym h.extends.file_length) in
+        let one : call_of x.tree.file_length (given b.block x.bytes) ≡ call_of h.tree.file_length (given b.block x.bytes) = cc in
         record {
           tree = h.tree;
           bytes = x.bytes;
           is_adopt = x.is_adopt;
-          hung = ap (option_and_then (λ (q : FileState). slice_get new.trees q.tree)) h.is_file.here ∙ h.is_file.hung;
-          read = subst (λ c. Contains more (b.file, c)) one (among _ x.read);
+          hung = cc;
+          read = rw (← one) (among _ x.read);
           right = right_in h.extends x.right;
         }
 
@@ -120,15 +120,15 @@ module _ (dig : List ℕ → List ℕ) where
 
     pub groups_marks : (s : EngineState) {new file : _} (from : ℕ) (groups : List DeviceCalls) (total : Adopted) → AdoptsGroups dig s file from groups total new
         → state_at new b ≡ Some Marked → (state_at s b ≡ Some Marked) ⊎ IsFound dig (Adopt file) (flat_map (λ c. c) groups) new b
-    groups_marks s from [] total g m = inl (subst (λ x. state_at x b ≡ Some Marked) g.1 m)
+    groups_marks s from [] total g m = inl (rw (← g.1) m)
     groups_marks s {new} {file} from (calls ∷ groups) total g m =
         elim (groups_marks g.1 g.0.next groups g.2 g.4 m) [
           | inl mid ↦ elim (group_marks g.3 mid) [
             | inl old ↦ inl old
             | inr x ↦
-                let same : b.file ≡ file = sym (found_is x.is_adopt) in
+                let same : b.file ≡ file = cc in
                 inr (found_later (λ c among. Contains-append_left calls (flat_map (λ c. c) groups) c among)
-                (λ f k is. subst (λ n. HasExtended new n k) (sym same) (groups_forward g.1 g.0.next groups g.2 g.4 (subst (λ n. IsFile g.1 n f k) same is))) x)
+                (λ f k is. rw same (groups_forward g.1 g.0.next groups g.2 g.4 (subst (λ n. IsFile g.1 n f k) same is))) x)
           ]
           | inr x ↦ inr (found_later (λ c among. Contains-append_right calls (flat_map (λ c. c) groups) c among)
               (λ f k is. record { state = f; tree = k; is_file = is; extends = same_tree }) x)
@@ -137,7 +137,7 @@ module _ (dig : List ℕ → List ℕ) where
     -- other files stay as they are
     groups_others : (s new : EngineState) (file from : ℕ) (groups : List DeviceCalls) (total : Adopted) → AdoptsGroups dig s file from groups total new
         → b.file ≢ file → slice_get new.files b.file ≡ slice_get s.files b.file
-    groups_others s new file from [] total g apart = ap (λ (x : EngineState). slice_get x.files b.file) g.1
+    groups_others s new file from [] total g apart = cc
     groups_others s new file from (calls ∷ groups) total g apart =
         let one = g.3 in
         groups_others g.1 new file g.0.next groups g.2 g.4 apart ∙ ap (λ (x : EngineState). slice_get x.files b.file) one.after
@@ -157,7 +157,7 @@ module _ (dig : List ℕ → List ℕ) where
         elim (settle_marks a.settles (subst (λ x. state_at x b ≡ Some Marked) a.after m)) [
           | inl mid ↦ elim (groups_marks s 0 a.groups total a.adopts mid) [
             | inl old ↦ inl old
-            | inr x ↦ inr (found (found_later (λ c among. subst (λ cs. Contains cs c) (sym a.made) (Contains-append_left own a.settling c among))
+            | inr x ↦ inr (found (found_later (λ c among. rw a.made (Contains-append_left own a.settling c among))
                 (λ f k is. in_new (settle_forward a.settles is)) x))
           ]
           | inr r ↦
@@ -166,7 +166,7 @@ module _ (dig : List ℕ → List ℕ) where
               inr (read_back (record {
                 tree = r.facts;
                 bytes = r.bytes;
-                waited = sym (ap (option_and_then (λ (q : FileState). slice_get q.states b.block)) same) ∙ r.waited;
+                waited = cc;
                 due = inr (record {
                   other = file;
                   twin = a.state;
@@ -174,12 +174,11 @@ module _ (dig : List ℕ → List ℕ) where
                   is_adopt = refl;
                   apart = λ e. apart (sym e);
                   twin_here = a.here;
-                  own_here = sym same ∙ r.here;
+                  own_here = cc;
                   one_tree = r.of_tree;
                 });
-                hung = ap (λ x. tree_of x b.file) a.after ∙ r.hung;
-                read = subst (λ cs. Contains cs (b.file, call_of r.facts.file_length (given b.block r.bytes))) (sym a.made)
-                    (Contains-append_right own a.settling _ r.read);
+                hung = cc;
+                read = rw a.made (Contains-append_right own a.settling _ r.read);
                 right = r.right;
               }))
         ]
@@ -188,7 +187,7 @@ module _ (dig : List ℕ → List ℕ) where
         in_new {other} h = record {
           state = h.state;
           tree = h.tree;
-          is_file = record { here = ap (λ (x : EngineState). slice_get x.files other) a.after ∙ h.is_file.here; hung = ap (λ (x : EngineState). slice_get x.trees h.state.tree) a.after ∙ h.is_file.hung };
+          is_file = record { here = cc; hung = cc };
           extends = h.extends;
         }
 
@@ -199,14 +198,14 @@ module _ (dig : List ℕ → List ℕ) where
         let last = reads_at file a.tree.file_length a.reads in
         elim (groups_marks s 0 a.groups a.done a.adopts m) [
           | inl old ↦ inl old
-          | inr x ↦ inr (found (found_later (λ c among. subst (λ cs. Contains cs c) (sym a.made) (Contains-append_left own last c among))
+          | inr x ↦ inr (found (found_later (λ c among. rw a.made (Contains-append_left own last c among))
               (λ f k is. record { state = f; tree = k; is_file = is; extends = same_tree }) x))
         ]
 
     pub adopt_marks : {s new file calls answer : _} → StepAdopt dig s file calls answer new → state_at new b ≡ Some Marked
         → (state_at s b ≡ Some Marked) ⊎ IsMarkedBy dig s (Adopt file) calls new b
-    adopt_marks (no_file x y z e) m = inl (subst (λ x. state_at x b ≡ Some Marked) e m)
-    adopt_marks (busy x y z w e) m = inl (subst (λ x. state_at x b ≡ Some Marked) e m)
-    adopt_marks (empty f x y z w v e) m = inl (subst (λ x. state_at x b ≡ Some Marked) e m)
+    adopt_marks (no_file x y z e) m = inl (rw (← e) m)
+    adopt_marks (busy x y z w e) m = inl (rw (← e) m)
+    adopt_marks (empty f x y z w v e) m = inl (rw (← e) m)
     adopt_marks (adopts total x a y) m = file_marks a m
     adopt_marks (no_memory x a y) m = stop_marks a m

@@ -38,7 +38,7 @@ asked_or_not (p ∷ peers) b = elim (in_or_not p.asked) [
   | inr apart ↦ elim (asked_or_not peers b) [
     | inl more ↦ inl (more.0, later p peers more.1, more.2)
     | inr none ↦ inr (λ a. elim (contains_cases peers a.1) [
-      | inl same ↦ apart (subst (λ (q : PeerState). Contains q.asked b) (sym same) a.2)
+      | inl same ↦ apart (rw same a.2)
       | inr rest ↦ none (a.0, rest, a.2)
     ])
   ]
@@ -65,28 +65,28 @@ module _ {dig : List ℕ → List ℕ} {s : EngineState} {i : ℕ} {sent : List 
   same_flags = by f.hashes
     where
       has : f.interested.has ≡ f.peer.has
-      has = ap (λ (q : PeerState). q.has) f.interest.others
+      has = cc
 
       by : RequestsHashes dig s f.interested f.hash_frames f.planned → SameFlags
       by (requests b k key idle need hung plan e is) = record {
-        has = ap (λ (q : PeerState). q.has) is ∙ has;
-        asked = ap (λ (q : PeerState). q.asked) is ∙ ap (λ (q : PeerState). q.asked) f.interest.others;
-        interest = ap (λ (q : PeerState). q.am_interested) is;
-        leaves = λ still. (let wrong : Asked key ≡ Idle = sym (ap (λ (q : PeerState). q.hash) is) ∙ still in absurd cc);
+        has = cc;
+        asked = cc;
+        interest = cc;
+        leaves = λ still. absurd cc;
       }
       by (rests none e is) = record {
-        has = ap (λ (q : PeerState). q.has) is ∙ has;
-        asked = ap (λ (q : PeerState). q.asked) is ∙ ap (λ (q : PeerState). q.asked) f.interest.others;
-        interest = ap (λ (q : PeerState). q.am_interested) is;
-        leaves = λ idle b. subst (λ q. ¬ NeedsLeaf dig s q b) (sym is) (none (ap (λ (q : PeerState). q.hash) (sym is) ∙ idle) b);
+        has = cc;
+        asked = cc;
+        interest = cc;
+        leaves = λ idle b. rw is (none (cc) b);
       }
 
   same_key : f.planned.key ≡ f.peer.key
   same_key = by f.hashes ∙ ap (λ (q : PeerState). q.key) f.interest.others
     where
       by : RequestsHashes dig s f.interested f.hash_frames f.planned → f.planned.key ≡ f.interested.key
-      by (requests b k key idle need hung plan e is) = ap (λ (q : PeerState). q.key) is
-      by (rests none e is) = ap (λ (q : PeerState). q.key) is
+      by (requests b k key idle need hung plan e is) = cc
+      by (rests none e is) = cc
 
   -- who is asked for a block is asked for it afterwards
   asked_still : (b : BlockId) → IsAsked s b → f.planned.asked ≡ f.peer.asked → IsAsked then b
@@ -94,8 +94,8 @@ module _ {dig : List ℕ → List ℕ} {s : EngineState} {i : ℕ} {sent : List 
       let at = some_at s.peers asked.1 in
       elim (nat_cases i at.0) [
         | inl e ↦
-            let is : f.peer ≡ asked.0 = same_some f.here (ap (slice_get s.peers) e ∙ at.1) in
-            (after, contains_some then.peers i (set_same s.peers i f.here), Contains-append_left f.planned.asked f.blocks b (subst (λ l. Contains l b) (sym (same ∙ ap (λ (q : PeerState). q.asked) is)) asked.2))
+            let is : f.peer ≡ asked.0 = cc in
+            (after, contains_some then.peers i (set_same s.peers i f.here), Contains-append_left f.planned.asked f.blocks b (rw (same ∙ ap (λ (q : PeerState). q.asked) is) asked.2))
         | inr apart ↦ (asked.0, contains_some then.peers at.0 (set_other s.peers i at.0 after apart ∙ at.1), asked.2)
       ]
 
@@ -113,7 +113,7 @@ module _ {dig : List ℕ → List ℕ} {s : EngineState} {i : ℕ} {sent : List 
   asked_for_all = record {
     interest = (
       λ e. (let i = f.interest.interest.0 (sym same_flags.interest ∙ e) in (i.0, subst (λ h. Has then (record after { has = h }) i.0) (sym same_flags.has) i.1, i.2)),
-      λ i. same_flags.interest ∙ f.interest.interest.1 (i.0, subst (λ h. Has s (record f.peer { has = h }) i.0) same_flags.has i.1, i.2),
+      λ i. same_flags.interest ∙ f.interest.interest.1 (i.0, rw (← same_flags.has) i.1, i.2),
     );
     leaves = λ idle b needs. same_flags.leaves idle b (record { has = needs.has; not_marked = needs.not_marked; tree = needs.tree; hung = needs.hung; unknown = needs.unknown });
     blocks = λ open_to interested. elim (f.asks.all open_to interested) [
@@ -148,9 +148,8 @@ module _ (dig : List ℕ → List ℕ) {s : EngineState} (new : EngineState) {ke
       let f = g.follows in
       let same : f.peer ≡ left.peer = same_some f.here (ap (λ l. slice_get l i) left.peers ∙ set_same (with_peer s i rest).peers i set) in
       let planned = same_key f in
-      let key_is : f.planned.key ≡ key = planned ∙ ap (λ (q : PeerState). q.key) same ∙ left.same_key ∙ one.is_peer.same_key in
-      subst (λ x. (q : PeerState) × IsPeer x key i q × IsAskedForAll dig x q) (sym f.after)
-      (after f, record { here = peer_then f; same_key = key_is }, asked_for_all f)
+      let key_is : f.planned.key ≡ key = cc in
+      rw f.after (after f, record { here = peer_then f; same_key = key_is }, asked_for_all f)
 
   next_asks_all : {r : _} → answer out ≡ r → StepNext dig s key calls r new → Asked_then
   next_asks_all e (no_peer x y z w) = let wrong = e ∙ z in absurd cc
@@ -158,10 +157,10 @@ module _ (dig : List ℕ → List ℕ) {s : EngineState} (new : EngineState) {ke
   next_asks_all e (goes_on j q o x g y) =
       let same = some_out (e ∙ y) in
       let place = one.only j q x in
-      let is : q ≡ p = same_some (ap (slice_get s.peers) (sym place) ∙ x.here) one.is_peer.here in
-      goes_asking (subst (λ n. GoesOn dig s i p calls n new) (sym same) (subst (λ n. GoesOn dig s i n calls o new) is (subst (λ n. GoesOn dig s n q calls o new) place g)))
-  next_asks_all e (closes j q o x g y) = let same = some_out (e ∙ y) ∙ g.is in let wrong : None ≡ Some g.why = sym stays ∙ ap (λ (x : Output). x.close) same in absurd cc
-  next_asks_all e (faulty j q o x g y) = let same = some_out (e ∙ y) ∙ g.is in let wrong = sym stays ∙ ap (λ (x : Output). x.close) same in absurd cc
+      let is : q ≡ p = cc in
+      goes_asking (rw same (rw (← is) (rw (← place) g)))
+  next_asks_all e (closes j q o x g y) = let same = some_out (cc) ∙ g.is in absurd cc
+  next_asks_all e (faulty j q o x g y) = let same = some_out (cc) ∙ g.is in let wrong = sym stays ∙ ap (λ (x : Output). x.close) same in absurd cc
   next_asks_all e (no_memory j q x g y) = let wrong = e ∙ y in absurd cc
 
 pub next_asks : (dig : List ℕ → List ℕ) → NextAsksForAll dig

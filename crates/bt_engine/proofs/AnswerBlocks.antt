@@ -12,7 +12,7 @@ use Rattle.bt_engine.proofs.AnswerDue.{Taken, no_room, goes, shuts, step_taken, 
 not_all : (states : List BlockState) (i : ℕ) → slice_get states i ≡ Some Waiting → list_all is_marked states ≡ false
 not_all [] zero e = absurd cc
 not_all [] (suc i) e = absurd cc
-not_all (x ∷ states) zero e = ap (λ y. is_marked y && list_all is_marked states) (some_is e)
+not_all (x ∷ states) zero e = cc
   where
     some_is : {x : _} → Some x ≡ Some Waiting → x ≡ Waiting
     some_is e = cc
@@ -32,14 +32,14 @@ waiting_is_not_complete s b e =
 pub noted_with : {dig s new i p calls out a : _} (g : GoesOn dig s i p calls out new) → a ≡ of_next (Ok (Some out))
     → (note : Note) → Contains g.effect.notes note → NotedBy a note
 noted_with {s} {out} g is note c =
-    (out, ap output_of is, subst (λ l. Contains l note) (sym g.notes) (Contains-append_left g.effect.notes (map (λ file. Complete file) (new_complete_files s g.mid)) note c))
+    (out, ap output_of is, rw g.notes (Contains-append_left g.effect.notes (map (λ file. Complete file) (new_complete_files s g.mid)) note c))
 
 pub one_note : {effect note : _} → effect ≡ noting note → Contains effect.notes note
-one_note {note} e = subst (λ l. Contains l note) (sym (ap (λ (x : Effect). x.notes) e)) (here [] refl)
+one_note {note} e = rw (ap (λ (x : Effect). x.notes) e) (here [] refl)
 
 -- an event that closes nobody
 not_closed : {X : Type 0} {effect like : Effect} {why : _} → effect ≡ like → like.close ≡ None → effect.close ≡ Some why → X
-not_closed {why} e none c = let wrong : None ≡ Some why = sym none ∙ ap (λ (x : Effect). x.close) (sym e) ∙ c in absurd cc
+not_closed {why} e none c = absurd cc
 
 -- ---- blocks that come
 
@@ -51,7 +51,7 @@ data PutRight (b : BlockId) (effect : Effect) (r : Result Put StoreError) : Type
 put_right : (dig : List ℕ → List ℕ) (k : Facts) {b : BlockId} (bytes : List ℕ) (states : List BlockState) {effect : _} (r : Result Put StoreError) → value_at dig k 0 b.block ≡ Some (dig bytes)
     → PutIsDue dig k b.block bytes states r → HasPutEffect b r effect → PutRight b effect r
 put_right dig k bytes states (Ok PutMarked) leaf due e = is_marked_now refl e
-put_right dig k bytes states (Ok PutWaiting) leaf due e = let wrong : None ≡ Some (dig bytes) = sym due.2 ∙ leaf in absurd cc
+put_right dig k bytes states (Ok PutWaiting) leaf due e = absurd cc
 put_right dig k bytes states (Ok Wrong) leaf due e = absurd (due.2.2 (same_some due.2.1 leaf))
 put_right dig k bytes states (Ok Already) leaf due e = absurd e
 put_right dig k bytes states (Err DeviceFault) leaf due e = is_not_written refl e
@@ -67,9 +67,9 @@ module _ (dig : List ℕ → List ℕ) (s new : EngineState) (key : PeerKey) (i 
   -- it is the block that came, in the tree of its file
   right_put : {effect mid : _} → tree_of s b.file ≡ Some tree → IsRight dig tree b.block bytes → (r : Arrives dig t i q piece begin bytes calls effect mid) → r.block ≡ b → PutRight r.block effect r.puts.result
   right_put hung exact r same =
-      let there : tree_of s r.block.file ≡ Some r.puts.tree = ap (option_and_then (λ (f : FileState). slice_get s.trees f.tree)) r.puts.is_file.here ∙ r.puts.is_file.hung in
-      let one : r.puts.tree ≡ tree = same_some there (ap (λ (c : BlockId). tree_of s c.file) same ∙ hung) in
-      let leaf : value_at dig r.puts.tree 0 r.block.block ≡ Some (dig bytes) = ap (λ k. value_at dig k 0 r.block.block) one ∙ ap (λ (c : BlockId). value_at dig tree 0 c.block) same ∙ exact.leaf in
+      let there : tree_of s r.block.file ≡ Some r.puts.tree = cc in
+      let one : r.puts.tree ≡ tree = cc in
+      let leaf : value_at dig r.puts.tree 0 r.block.block ≡ Some (dig bytes) = cc in
       put_right dig r.puts.tree bytes r.puts.file.states r.puts.result leaf r.puts.due r.puts.has_effect
 
   -- its state then
@@ -77,18 +77,18 @@ module _ (dig : List ℕ → List ℕ) (s new : EngineState) (key : PeerKey) (i 
   now_marked {mid} r same is =
       let after : FileState = record r.puts.file { states = states_after_put r.block.block r.puts.result r.puts.file.states } in
       let missing : slice_get r.puts.file.states r.block.block ≡ Some Missing = (subst (λ x. PutIsDue dig r.puts.tree r.block.block bytes r.puts.file.states x) is r.puts.due).1 in
-      let states : after.states ≡ slice_set r.puts.file.states r.block.block Marked = ap (λ x. states_after_put r.block.block x r.puts.file.states) is in
+      let states : after.states ≡ slice_set r.puts.file.states r.block.block Marked = cc in
       let block : slice_get after.states r.block.block ≡ Some Marked = ap (λ l. slice_get l r.block.block) states ∙ set_same r.puts.file.states r.block.block missing in
       let file : slice_get (with_file t r.block.file after).files r.block.file ≡ Some after = set_same s.files r.block.file r.puts.is_file.here in
-      let stored : state_at (with_file t r.block.file after) r.block ≡ Some Marked = ap (option_and_then (λ (f : FileState). slice_get f.states r.block.block)) file ∙ block in
-      subst (λ c. state_at mid c ≡ Some Marked) same (subst (λ x. state_at x r.block ≡ Some Marked) (sym r.after) (subst (λ x. state_at x r.block ≡ Some Marked) (sym r.puts.after) stored))
+      let stored : state_at (with_file t r.block.file after) r.block ≡ Some Marked = cc in
+      rw (← same) (rw r.after (rw r.puts.after stored))
 
   marks_by : {effect : Effect} {mid : _} → (state_at mid b ≡ Some Marked → state_at new b ≡ Some Marked) → ((note : Note) → Contains effect.notes note → NotedBy a note)
       → (r : Arrives dig t i q piece begin bytes calls effect mid) → r.block ≡ b → PutRight r.block effect r.puts.result → MarksBlock b bytes calls a new
   marks_by later_on noted r same (is_marked_now is e) =
       marked (later_on (now_marked r same is)) (noted (NowMarked b) (one_note (e ∙ ap (λ c. noting (NowMarked c)) same)))
   marks_by later_on noted r same (is_not_written is e) =
-      not_written (r.puts.made ∙ ap (λ x. calls_at r.block.file (calls_of_put r.block.block bytes x)) is ∙ ap (λ (c : BlockId). (c.file, write_fault (full_block_length * c.block) bytes) ∷ []) same)
+      not_written (cc)
       (noted (Device b.file) (one_note (e ∙ ap (λ (c : BlockId). noting (Device c.file)) same)))
 
   piece_arrives : {effect mid : _} → IsWholeBlock s.torrent piece begin (length bytes) b → Contains p.asked b → HandlesPiece dig t i q piece begin bytes calls effect mid → Arrives dig t i q piece begin bytes calls effect mid
@@ -102,7 +102,7 @@ module _ (dig : List ℕ → List ℕ) (s new : EngineState) (key : PeerKey) (i 
       let r = piece_arrives whole asked h in
       let same = same_block s.torrent lawful.laid_out piece begin (length bytes) r.whole whole in
       let files = (follows_of g.follows).files in
-      inr (marks_by {effect = g.effect} (λ m. subst (λ f. state_at (record new { files = f }) b ≡ Some Marked) (sym files) m) (noted_with g is) r same (right_put hung exact r same))
+      inr (marks_by {effect = g.effect} (λ m. rw files m) (noted_with g is) r same (right_put hung exact r same))
   block_taken lawful whole asked hung exact (shuts out g h is) =
       let r = piece_arrives whole asked h in
       let same = same_block s.torrent lawful.laid_out piece begin (length bytes) r.whole whole in
@@ -135,27 +135,27 @@ module _ (dig : List ℕ → List ℕ) (s new : EngineState) (key : PeerKey) (i 
   finds {j} c called (fault x e y) = cannot_read j c (subst Called x called) e
 
   same_tree : {k f : _} → tree_of s span.file ≡ Some tree → IsFile at_request span.file f k → k ≡ tree
-  same_tree hung is = same_some (ap (option_and_then (λ (g : FileState). slice_get s.trees g.tree)) is.here ∙ is.hung) hung
+  same_tree hung is = cc
 
   serves : {effect mid : _} → tree_of s span.file ≡ Some tree → Serves dig at_request i asker ask span calls effect mid → Serving effect
-  serves hung f = gives f.bytes (subst (λ k. (j : ℕ) → Contains (spanned_blocks span) j → IsRight dig k j (f.bytes j)) (same_tree hung f.is_file) f.right.right) f.sent
+  serves hung f = gives f.bytes (rw (← (same_tree hung f.is_file)) f.right.right) f.sent
 
   stops : {effect mid : _} → tree_of s span.file ≡ Some tree → StopsAtFault dig at_request span calls effect mid → Serving effect
   stops {effect} {mid} hung f =
       let same = same_tree hung f.is_file in
-      let c : Contains (spanned_blocks span) f.block = subst (λ l. Contains l f.block) (sym f.blocks) (Contains-append_right f.before (f.block ∷ f.after) f.block (here f.after refl)) in
+      let c : Contains (spanned_blocks span) f.block = rw f.blocks (Contains-append_right f.before (f.block ∷ f.after) f.block (here f.after refl)) in
       let last : Contains (f.reads ++ f.read ∷ []) f.read = Contains-append_right f.reads (f.read ∷ []) f.read (here [] refl) in
       let called : Contains calls (span.file, call_of f.tree.file_length f.read) =
-      subst (λ l. Contains l (span.file, call_of f.tree.file_length f.read)) (sym f.made) (map_contains (λ r. (span.file, call_of f.tree.file_length r)) (f.reads ++ f.read ∷ []) last) in
+      rw f.made (map_contains (λ r. (span.file, call_of f.tree.file_length r)) (f.reads ++ f.read ∷ []) last) in
       finds c (subst (λ k. Contains calls (span.file, call_of k.file_length f.read)) same called)
       (subst (λ k. FindsFault dig k at_request span.file f.block f.file f.read effect mid) same f.finds)
 
   serving : {effect mid : _} → IsLawful s.torrent.piece_length s.torrent.files → p.am_choking ≡ false → IsPlace s.torrent ask.piece ask.begin ask.length span → AreMarked s span → tree_of s span.file ≡ Some tree
       → HandlesRequest dig at_request i asker ask calls effect mid → Serving effect
-  serving lawful open_to place are hung (ignored choked x y z) = let wrong : true ≡ false = sym choked ∙ open_to in absurd cc
+  serving lawful open_to place are hung (ignored choked x y z) = absurd cc
   serving lawful open_to place are hung (no_place x none y z w) = absurd (none span place)
   serving lawful open_to place are hung (not_marked other x there none y z w) =
-      absurd (none (subst (λ (l : Span). AreMarked at_request l) (same_place s.torrent lawful.laid_out ask.piece ask.begin ask.length place there) are))
+      absurd (none (rw (← (same_place s.torrent lawful.laid_out ask.piece ask.begin ask.length place there)) are))
   serving {effect} {mid} lawful open_to place are hung (served other x there y f) =
       serves hung (subst (λ (l : Span). Serves dig at_request i asker ask l calls effect mid) (same_place s.torrent lawful.laid_out ask.piece ask.begin ask.length there place) f)
   serving {effect} {mid} lawful open_to place are hung (stopped other x there y f) =
@@ -163,7 +163,7 @@ module _ (dig : List ℕ → List ℕ) (s new : EngineState) (key : PeerKey) (i 
 
   serves_by : {out : _} (g : GoesOn dig s i p calls out new) → a ≡ of_next (Ok (Some out)) → p.key ≡ key → Serving g.effect → ServesRange dig tree key ask span calls a
   serves_by g is same (gives bytes right e) = sent bytes right (sent_with g is
-      (subst (λ l. Contains l (frame_to key (Piece ask.piece ask.begin (cut_from span bytes)))) (sym (ap (λ (x : Effect). x.send) e)) (here [] (ap (λ n. frame_to n (Piece ask.piece ask.begin (cut_from span bytes))) same))))
+      (rw (ap (λ (x : Effect). x.send) e) (here [] (ap (λ n. frame_to n (Piece ask.piece ask.begin (cut_from span bytes))) same))))
   serves_by g is same (finds_damage j bytes c wrong called e) = damaged j bytes c wrong called (noted_with g is _ (one_note e))
   serves_by g is same (cannot_read j c called e) = not_read j c called (noted_with g is _ (one_note e))
 

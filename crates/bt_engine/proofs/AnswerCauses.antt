@@ -5,10 +5,10 @@ use Rattle.bt_engine.specs.AnswerLaw.{Closes}
 
 -- nothing closes where an effect does not
 stays_open : {X : Type 0} {effect like : Effect} {why : Why} → effect ≡ like → like.close ≡ None → effect.close ≡ Some why → X
-stays_open {why} e none c = let wrong : None ≡ Some why = sym none ∙ ap (λ (x : Effect). x.close) (sym e) ∙ c in absurd cc
+stays_open {why} e none c = absurd cc
 
 same_why : {effect like : Effect} {why cause : Why} → effect ≡ like → like.close ≡ Some cause → effect.close ≡ Some why → cause ≡ why
-same_why {why} {cause} e closed c = some_is (sym closed ∙ ap (λ (x : Effect). x.close) (sym e) ∙ c)
+same_why {why} {cause} e closed c = cc
   where
     some_is : Some cause ≡ Some why → cause ≡ why
     some_is e = cc
@@ -28,7 +28,7 @@ module _ (dig : List ℕ → List ℕ) (s : EngineState) (i : ℕ) (p : PeerStat
   open_still e none why c = stays_open e none c
 
   closes_for : {effect like : Effect} {cause : Why} → effect ≡ like → like.close ≡ Some cause → IsCause dig s p cause → Causes effect
-  closes_for e closed is why c = subst (λ w. IsCause dig s p w) (same_why e closed c) is
+  closes_for e closed is why c = rw (← (same_why e closed c)) is
 
   hello_causes : {h effect : _} → Takes p.stream (Hello h) rest → HandlesHello t h effect → Causes effect
   hello_causes takes (ours x e) = open_still e refl
@@ -62,7 +62,7 @@ module _ (dig : List ℕ → List ℕ) (s : EngineState) (i : ℕ) (p : PeerStat
       by (Ok PutWaiting) due e = open_still e refl
       by (Ok Wrong) due e =
           closes_for e refl
-          (wrong_block piece begin bytes rest a.block a.puts.tree takes a.whole a.asked (ap (option_and_then (λ (f : FileState). slice_get t.trees f.tree)) a.puts.is_file.here ∙ a.puts.is_file.hung) due.2)
+          (wrong_block piece begin bytes rest a.block a.puts.tree takes a.whole a.asked (cc) due.2)
       by (Ok Already) due e = absurd e
       by (Err DeviceFault) due e = open_still e refl
       by (Err Range) due e = absurd e
@@ -110,17 +110,17 @@ module _ (dig : List ℕ → List ℕ) where
     cause : IsCause dig s peer why
 
   output_is : {a b out like : _} → a ≡ b → output_of a ≡ Some out → output_of b ≡ Some like → out ≡ like
-  output_is {out} {like} e x y = some_is (sym x ∙ ap output_of e ∙ y)
+  output_is {out} {like} e x y = cc
     where
       some_is : Some out ≡ Some like → out ≡ like
       some_is e = cc
 
   -- an answer without an output, or with one that closes nothing
   no_output : {X : Type 0} {a b why : _} → a ≡ b → output_of b ≡ None → Closes a why → X
-  no_output e none c = let wrong : None ≡ Some c.0 = sym none ∙ ap output_of (sym e) ∙ c.1 in absurd cc
+  no_output e none c = absurd cc
 
   open_output : {X : Type 0} {a b like why : _} → a ≡ b → output_of b ≡ Some like → like.close ≡ None → Closes a why → X
-  open_output {why} e is none c = let wrong : None ≡ Some why = sym none ∙ ap (λ (o : Output). o.close) (sym (output_is e c.1 is)) ∙ c.2 in absurd cc
+  open_output {why} e is none c = absurd cc
 
   next_closes : {s new key calls r : _} → StepNext dig s key calls r new → {why : _} → Closes (of_next r) why → IsClosedFor s (Next key) why
   next_closes (no_peer x y e z) c = no_output (ap (λ x. of_next x) e) refl c
@@ -128,14 +128,14 @@ module _ (dig : List ℕ → List ℕ) where
   next_closes (goes_on i p out x g e) c = open_output (ap (λ x. of_next x) e) refl g.close c
   next_closes {s} {key} {calls} (closes i p out x g e) {why} c =
       let same : c.0 ≡ out = output_is (ap (λ x. of_next x) e) c.1 refl in
-      let is : Some g.why ≡ Some why = ap (λ (o : Output). o.close) (sym (same ∙ g.is)) ∙ c.2 in
+      let is : Some g.why ≡ Some why = cc in
       record {
         key = key;
         place = i;
         peer = p;
         is_next = refl;
         is_peer = x;
-        cause = event_causes dig s i p g.takes.rest g.mid g.takes.event calls g.effect g.takes.takes g.takes.handles why (g.closed ∙ is);
+        cause = event_causes dig s i p g.takes.rest g.mid g.takes.event calls g.effect g.takes.takes g.takes.handles why (cc);
       }
   next_closes {s} {key} (faulty i p out x g e) {why} c =
       let same : c.0 ≡ out = output_is (ap (λ x. of_next x) e) c.1 refl in
@@ -145,7 +145,7 @@ module _ (dig : List ℕ → List ℕ) where
         peer = p;
         is_next = refl;
         is_peer = x;
-        cause = subst (λ w. IsCause dig s p w) (some_is (ap (λ (o : Output). o.close) (sym (same ∙ g.is)) ∙ c.2)) (wire g.fault g.failed g.fails);
+        cause = rw (← (some_is (ap (λ (o : Output). o.close) (sym (same ∙ g.is)) ∙ c.2))) (wire g.fault g.failed g.fails);
       }
     where
       some_is : {cause : _} → Some cause ≡ Some why → cause ≡ why
@@ -163,7 +163,7 @@ module _ (dig : List ℕ → List ℕ) where
   rechoke_closes (not_rechoked e x) c = no_output (ap (λ x. of_rechoke x) e) refl c
 
   closes_as : {a b why : _} → a ≡ b → Closes a why → Closes b why
-  closes_as {why} e c = subst (λ x. Closes x why) e c
+  closes_as {why} e c = rw (← e) c
 
   step_cases : {s : _} (new : EngineState) (e : Event) (calls : DeviceCalls) (a : Answer) → Step dig s e calls a new → {why : _} → Closes a why → IsClosedFor s e why
   step_cases new Connect calls a t c = connect_closes t.3 (closes_as t.1 c)

@@ -21,8 +21,8 @@ pub record Tells (new : EngineState) (sent : List Sent) (key : PeerKey) (before 
 nothing_new : {before after : PeerState} {new sent key : _} → after.am_interested ≡ before.am_interested
     → AsksLess before after → Tells new sent key before after
 nothing_new same less = record {
-  interested = λ x y. (let no : false ≡ true = sym x ∙ sym same ∙ y in absurd cc);
-  uninterested = λ x y. (let no : true ≡ false = sym x ∙ sym same ∙ y in absurd cc);
+  interested = λ x y. absurd cc;
+  uninterested = λ x y. absurd cc;
   hashes = λ k y none. absurd (none (less.hashes k y));
   blocks = λ b c none. absurd (none (less.blocks b c));
 }
@@ -32,8 +32,8 @@ told_since : {before mid : PeerState} {new sent key after : _} → mid.am_intere
     → AsksLess before mid → Tells new sent key mid after
     → Tells new sent key before after
 told_since same less t = record {
-  interested = λ x y. t.interested (same ∙ x) y;
-  uninterested = λ x y. t.uninterested (same ∙ x) y;
+  interested = λ x y. t.interested (cc) y;
+  uninterested = λ x y. t.uninterested (cc) y;
   hashes = λ k y none. t.hashes k y (λ e. none (less.hashes k e));
   blocks = λ b c none. t.blocks b c (λ d. none (less.blocks b d));
 }
@@ -46,7 +46,7 @@ told_with torrent more t = record {
   interested = λ x y. more _ (t.interested x y);
   uninterested = λ x y. more _ (t.uninterested x y);
   hashes = λ k y none. more _ (t.hashes k y none);
-  blocks = λ b c none. (let r = t.blocks b c none in (r.0, subst (λ z. IsWholeBlock z r.0.piece r.0.begin r.0.length b) (sym torrent) r.1, more _ r.2));
+  blocks = λ b c none. (let r = t.blocks b c none in (r.0, rw torrent r.1, more _ r.2));
 }
 
 -- ---- what follows for a peer
@@ -55,8 +55,8 @@ each_block : {s p : _} (blocks : List BlockId) (sent : List Sent) → RequestsEa
     (x : Sent) × Contains sent x × RequestsBlock s p b x
 each_block [] sent r c = absurd (contains_none c)
 each_block {s} {p} (d ∷ blocks) sent r c = elim (contains_cases blocks c) [
-  | inl same ↦ (r.0, subst (λ l. Contains l r.0) (sym r.4) (here r.1 refl), subst (λ z. RequestsBlock s p z r.0) same r.2)
-  | inr more ↦ let q = each_block blocks r.1 r.3 more in (q.0, subst (λ l. Contains l q.0) (sym r.4) (later r.0 r.1 q.1), q.2)
+  | inl same ↦ (r.0, rw r.4 (here r.1 refl), rw (← same) r.2)
+  | inr more ↦ let q = each_block blocks r.1 r.3 more in (q.0, rw r.4 (later r.0 r.1 q.1), q.2)
 ]
 
 asked_is : {j k : _} → Asked j ≡ Asked k → j ≡ k
@@ -67,32 +67,30 @@ module _ {dig : List ℕ → List ℕ} {s : EngineState} {i : ℕ} {sent : List 
   then = record f.planned { asked = f.planned.asked ++ f.blocks }
 
   pub peers_then : new.peers ≡ slice_set s.peers i then
-  peers_then = ap (λ (x : EngineState). x.peers) f.after
+  peers_then = cc
 
   pub torrent_then : new.torrent ≡ s.torrent
-  torrent_then = ap (λ (x : EngineState). x.torrent) f.after
+  torrent_then = cc
 
   plan_key : f.planned.key ≡ f.interested.key
   plan_key = (same_plan f.hashes).same_key
 
   interest_key : f.interested.key ≡ f.peer.key
-  interest_key = ap (λ (q : PeerState). q.key) f.interest.others
+  interest_key = cc
 
   pub key_then : f.planned.key ≡ f.peer.key
   key_then = plan_key ∙ interest_key
 
   in_interest : {x : _} → Contains f.interest_frames x → Contains sent x
   in_interest {x} c =
-      subst (λ l. Contains l x) (sym f.all)
-      (Contains-append_left (f.interest_frames ++ f.hash_frames) f.block_frames x (Contains-append_left f.interest_frames f.hash_frames x c))
+      rw f.all (Contains-append_left (f.interest_frames ++ f.hash_frames) f.block_frames x (Contains-append_left f.interest_frames f.hash_frames x c))
 
   in_hashes : {x : _} → Contains f.hash_frames x → Contains sent x
   in_hashes {x} c =
-      subst (λ l. Contains l x) (sym f.all)
-      (Contains-append_left (f.interest_frames ++ f.hash_frames) f.block_frames x (Contains-append_right f.interest_frames f.hash_frames x c))
+      rw f.all (Contains-append_left (f.interest_frames ++ f.hash_frames) f.block_frames x (Contains-append_right f.interest_frames f.hash_frames x c))
 
   in_blocks : {x : _} → Contains f.block_frames x → Contains sent x
-  in_blocks {x} c = subst (λ l. Contains l x) (sym f.all) (Contains-append_right (f.interest_frames ++ f.hash_frames) f.block_frames x c)
+  in_blocks {x} c = rw f.all (Contains-append_right (f.interest_frames ++ f.hash_frames) f.block_frames x c)
 
   now_interested : f.planned.am_interested ≡ f.interested.am_interested
   now_interested = (same_plan f.hashes).same_interest
@@ -102,33 +100,33 @@ module _ {dig : List ℕ → List ℕ} {s : EngineState} {i : ℕ} {sent : List 
       f.interest.told ∙ ap (λ a. interest_sent f.peer a f.interested.am_interested) x ∙ ap (λ a. interest_sent f.peer was a) (sym now_interested ∙ y)
 
   to_peer : {x y : _} (m : _) → x ≡ y → frame_to x m ≡ frame_to y m
-  to_peer m e = ap (λ k. frame_to k m) e
+  to_peer m e = cc
 
   asked_hashes : (k : HashKey) → f.planned.hash ≡ Asked k → f.peer.hash ≢ Asked k → Contains sent (frame_to f.peer.key (HashRequest k))
   asked_hashes k y none = by f.hashes
     where
       by : RequestsHashes dig s f.interested f.hash_frames f.planned → Contains sent (frame_to f.peer.key (HashRequest k))
       by (requests b tree key idle need hung plan e is) =
-          let same : key ≡ k = asked_is (sym (ap (λ (q : PeerState). q.hash) is) ∙ y) in
+          let same : key ≡ k = asked_is (cc) in
           let frame : frame_to f.interested.key (HashRequest key) ≡ frame_to f.peer.key (HashRequest k) =
-          to_peer _ interest_key ∙ ap (λ n. frame_to f.peer.key (HashRequest n)) same in
-          in_hashes (subst (λ l. Contains l (frame_to f.peer.key (HashRequest k))) (sym e) (here [] frame))
-      by (rests x e is) = absurd (none (sym (ap (λ (q : PeerState). q.hash) f.interest.others) ∙ sym (ap (λ (q : PeerState). q.hash) is) ∙ y))
+          cc in
+          in_hashes (rw e (here [] frame))
+      by (rests x e is) = absurd (none (cc))
 
   asked_blocks : (b : BlockId) → Contains (f.planned.asked ++ f.blocks) b → ¬ Contains f.peer.asked b
       → (ask : Ask) × IsWholeBlock new.torrent ask.piece ask.begin ask.length b × Contains sent (frame_to f.peer.key (Request ask))
   asked_blocks b c none = elim (Contains-append_cases f.planned.asked f.blocks b c) [
-    | inl old ↦ absurd (none (subst (λ l. Contains l b) ((same_plan f.hashes).same_asked ∙ ap (λ (q : PeerState). q.asked) f.interest.others) old))
+    | inl old ↦ absurd (none (rw (← ((same_plan f.hashes).same_asked ∙ ap (λ (q : PeerState). q.asked) f.interest.others)) old))
     | inr fresh ↦
         let r = each_block f.blocks f.block_frames f.requests fresh in
         let frame : r.0 ≡ frame_to f.peer.key (Request r.2.ask) = r.2.is ∙ to_peer _ key_then in
-        (r.2.ask, subst (λ z. IsWholeBlock z r.2.ask.piece r.2.ask.begin r.2.ask.length b) (sym torrent_then) r.2.whole, in_blocks (subst (λ x. Contains f.block_frames x) frame r.1))
+        (r.2.ask, rw torrent_then r.2.whole, in_blocks (rw (← frame) r.1))
   ]
 
   pub follow_tells : Tells new sent f.peer.key f.peer then
   follow_tells = record {
-    interested = λ x y. in_interest (subst (λ l. Contains l (frame_to f.peer.key Interested)) (sym (told_interest x y)) (here [] refl));
-    uninterested = λ x y. in_interest (subst (λ l. Contains l (frame_to f.peer.key NotInterested)) (sym (told_interest x y)) (here [] refl));
+    interested = λ x y. in_interest (rw (told_interest x y) (here [] refl));
+    uninterested = λ x y. in_interest (rw (told_interest x y) (here [] refl));
     hashes = asked_hashes;
     blocks = asked_blocks;
   }
@@ -150,7 +148,7 @@ stays_so {p} at = record { before = p; at_place = at; same_key = refl; tells = n
 
 -- the engine is the old one
 same_so : {s new : EngineState} (sent : List Sent) (j : ℕ) {p : PeerState} → new ≡ s → slice_get new.peers j ≡ Some p → Old s new sent p
-same_so sent j e at = (j, stays_so (ap (λ (x : EngineState). slice_get x.peers j) (sym e) ∙ at))
+same_so sent j e at = (j, stays_so (cc))
 
 -- the peers are those of the old engine, but for one
 left_so : (s mid : EngineState) {new : _} (sent : List Sent) (i j : ℕ) {p : _} → ((n : ℕ) → n ≢ i → slice_get mid.peers n ≡ slice_get s.peers n)
@@ -183,7 +181,7 @@ put_behind (y ∷ xs) ys zero e = e
 put_behind (y ∷ xs) ys (suc j) e = put_behind xs ys j e
 
 none_there : (j : ℕ) {p : PeerState} {peers : List PeerState} → peers ≡ [] → slice_get peers j ≡ Some p → ⊥
-none_there j {p} e at = by j (ap (λ l. slice_get l j) (sym e) ∙ at)
+none_there j {p} e at = by j (cc)
   where
     by : (n : ℕ) → slice_get [] n ≡ Some p → ⊥
     by zero f = cc
@@ -193,28 +191,28 @@ module _ (dig : List ℕ → List ℕ) where
   -- what follows for other peers changes none of this one
   each_keeps : (n a : ℕ) (s new : EngineState) (sent : List Sent) → FollowsEach dig (range_with_len a n) s sent new → (j : ℕ) → j < a
       → slice_get new.peers j ≡ slice_get s.peers j
-  each_keeps zero a s new sent f j below = ap (λ (x : EngineState). slice_get x.peers j) f.1
+  each_keeps zero a s new sent f j below = cc
   each_keeps (suc n) a s new sent f j below =
-      each_keeps n (a + 1) f.0 new f.2 f.4 j (omega (arith, below)) ∙ ap (λ l. slice_get l j) (peers_then f.3)
-      ∙ set_other s.peers a j (then f.3) (λ e. absurd (omega (arith, below, e)))
+      each_keeps n (a + 1) f.0 new f.2 f.4 j (omega arith) ∙ ap (λ l. slice_get l j) (peers_then f.3)
+      ∙ set_other s.peers a j (then f.3) (λ e. absurd (omega arith))
 
   each_torrent : (places : List ℕ) (s new : EngineState) (sent : List Sent) → FollowsEach dig places s sent new → new.torrent ≡ s.torrent
-  each_torrent [] s new sent f = ap (λ (x : EngineState). x.torrent) f.1
+  each_torrent [] s new sent f = cc
   each_torrent (i ∷ places) s new sent f = each_torrent places f.0 new f.2 f.4 ∙ torrent_then f.3
 
   each_told : (n a : ℕ) {s new sent : _} → FollowsEach dig (range_with_len a n) s sent new → {j p : _}
       → slice_get new.peers j ≡ Some p → IsTold s new sent j p
-  each_told zero a f {j} at = stays_so (ap (λ (x : EngineState). slice_get x.peers j) (sym f.1) ∙ at)
+  each_told zero a f {j} at = stays_so (cc)
   each_told (suc n) a {s} {new} {sent} f {j} {p} at =
-      let front : (x : Sent) → Contains f.1 x → Contains sent x = λ x c. subst (λ l. Contains l x) (sym f.5) (Contains-append_left f.1 f.2 x c) in
-      let back : (x : Sent) → Contains f.2 x → Contains sent x = λ x c. subst (λ l. Contains l x) (sym f.5) (Contains-append_right f.1 f.2 x c) in
+      let front : (x : Sent) → Contains f.1 x → Contains sent x = λ x c. rw f.5 (Contains-append_left f.1 f.2 x c) in
+      let back : (x : Sent) → Contains f.2 x → Contains sent x = λ x c. rw f.5 (Contains-append_right f.1 f.2 x c) in
       let first = then f.3 in
       let set : slice_get f.0.peers a ≡ Some first = ap (λ l. slice_get l a) (peers_then f.3) ∙ set_same s.peers a f.3.here in
       elim (nat_cases a j) [
         | inl e ↦
             let same : p ≡ first =
             same_some (ap (slice_get new.peers) e ∙ at) (each_keeps n (a + 1) f.0 new f.2 f.4 a (omega arith) ∙ set) in
-            subst (λ k. IsTold s new sent k p) e (subst (λ q. IsTold s new sent a q) (sym same) (record {
+            rw (← e) (rw same (record {
               before = f.3.peer;
               at_place = f.3.here;
               same_key = sym (key_then f.3);
@@ -239,7 +237,7 @@ module _ (dig : List ℕ → List ℕ) where
       record {
         before = m.0;
         at_place = m.1;
-        same_key = ap (λ (q : PeerState). q.key) m.2 ∙ r.same_key;
+        same_key = cc;
         tells = told_since refl (asks_same refl refl)
             (subst (λ (q : PeerState). Tells new sent q.key q p) (sym m.2) r.tells);
       }
@@ -267,21 +265,21 @@ module _ (dig : List ℕ → List ℕ) where
       let same : f.peer ≡ left.peer =
       same_some f.here
       (ap (λ l. slice_get l i) left.peers ∙ set_same (with_peer s i rest).peers i set) in
-      let key_is : f.peer.key ≡ p.key = ap (λ (x : PeerState). x.key) same ∙ left.same_key in
-      let less : AsksLess p f.peer = subst (λ x. AsksLess p x) (sym same) (record { blocks = left.asks_less.blocks; hashes = left.asks_less.hashes }) in
+      let key_is : f.peer.key ≡ p.key = cc in
+      let less : AsksLess p f.peer = rw same (record { blocks = left.asks_less.blocks; hashes = left.asks_less.hashes }) in
       let more : (x : Sent) → Contains g.sent x → Contains out.send x =
-      λ x c. subst (λ l. Contains l x) (sym g.send) (Contains-append_right (g.effect.send ++ haves s g.mid) g.sent x c) in
+      λ x c. rw g.send (Contains-append_right (g.effect.send ++ haves s g.mid) g.sent x c) in
       elim (nat_cases i j) [
         | inl e ↦
             let now : q ≡ t =
             same_some (ap (slice_get new.peers) e ∙ at) (ap (λ l. slice_get l i) peers ∙ set_same g.mid.peers i f.here) in
-            let told : Tells new g.sent p.key f.peer t = subst (λ k. Tells new g.sent k f.peer t) key_is (follow_tells f) in
-            subst (λ k. IsTold s new out.send k q) e (subst (λ x. IsTold s new out.send i x) (sym now) (record {
+            let told : Tells new g.sent p.key f.peer t = rw (← key_is) (follow_tells f) in
+            rw (← e) (rw now (record {
               before = p;
               at_place = is.here;
               same_key = sym (key_then f ∙ key_is);
               tells = told_with refl more
-                  (told_since (ap (λ (x : PeerState). x.am_interested) same ∙ left.same_interest) less told);
+                  (told_since (cc) less told);
             }))
         | inr apart ↦ stays_so
             (sym (others_stay is g.takes j (λ e. apart (sym e)))
@@ -293,7 +291,7 @@ module _ (dig : List ℕ → List ℕ) where
   next_told (no_peer x y z e) j at = same_so _ j e at
   next_told (waits i p x y z w e) j at = same_so _ j e at
   next_told (goes_on i p out is g e) j at =
-      (j, told_more (λ x c. subst (λ y. Contains (sent_by (of_next y)) x) (sym e) c) (goes_told is g at))
+      (j, told_more (λ x c. rw e c) (goes_told is g at))
   next_told {s} (closes i p out is g e) j at = left_so s g.mid _ i j (others_stay is g.takes) g.after at
   next_told {s} (faulty i p out is g e) j at = left_so s s _ i j (λ n apart. refl) g.after at
   next_told {s} (no_memory i p is g e) j at = left_so s s _ i j (λ n apart. refl) g.after at
@@ -304,9 +302,9 @@ module _ (dig : List ℕ → List ℕ) where
       let then : slice_get (slice_set s.peers i _) j ≡ Some q = ap (λ (x : EngineState). slice_get x.peers j) (sym e) ∙ at in (
         j,
         elim (set_cases s.peers i j then) [
-          | inl one ↦ subst (λ x. IsTold s new sent j x) (sym one.1) (record {
+          | inl one ↦ rw one.1 (record {
             before = p;
-            at_place = ap (slice_get s.peers) one.0 ∙ is.here;
+            at_place = cc;
             same_key = refl;
             tells = nothing_new refl (asks_same refl refl);
           })
@@ -325,8 +323,7 @@ module _ (dig : List ℕ → List ℕ) where
       → Old s new (sent_by (of_rechoke r)) q
   rechokes_told {s} {r} (rechokes out x e) j at =
       let more : (y : Sent) → Contains x.sent y → Contains (sent_by (of_rechoke r)) y = λ y c.
-      subst (λ z. Contains (sent_by (of_rechoke z)) y) (sym e)
-      (subst (λ (o : Output). Contains o.send y) (sym x.is) (Contains-append_right (chokes_sent s) x.sent y c)) in
+      rw e (rw x.is (Contains-append_right (chokes_sent s) x.sent y c)) in
       (j, told_more more (rechoke_told x.follows at))
   rechokes_told (not_rechoked x e) j at = same_so _ j e at
 
@@ -341,22 +338,22 @@ module _ (dig : List ℕ → List ℕ) {s : EngineState} (new : EngineState) {ke
   -- the peer before is the one of its key
   told_of : {sent : _} → after.key ≡ key → Old s new sent after → Tells new sent key before after
   told_of {sent} k r =
-      let at : r.0 ≡ place = one.only r.0 r.1.before (record { here = r.1.at_place; same_key = r.1.same_key ∙ k }) in
+      let at : r.0 ≡ place = one.only r.0 r.1.before (record { here = r.1.at_place; same_key = cc }) in
       let same : r.1.before ≡ before =
-      same_some (ap (slice_get s.peers) (sym at) ∙ r.1.at_place) one.is_peer.here in
-      subst (λ n. Tells new sent n before after) one.is_peer.same_key (subst (λ (q : PeerState). Tells new sent q.key q after) same r.1.tells)
+      cc in
+      rw (← one.is_peer.same_key) (rw (← same) r.1.tells)
 
   -- a peer that stays as it is
   unchanged : {sent : _} → after ≡ before → Tells new sent key before after
-  unchanged {sent} e = subst (λ x. Tells new sent key before x) (sym e) (nothing_new refl (asks_same refl refl))
+  unchanged {sent} e = rw e (nothing_new refl (asks_same refl refl))
 
   changed_to : {was now : _} → ((c : PeerState) → IsPeer new key place c → c ≡ after) → ChangesInterest s new key was now
       → (before.am_interested ≡ was) × (after.am_interested ≡ now)
   changed_to alone c =
       let at : c.place ≡ place = one.only c.place c.before c.is_before in
       let same : before ≡ c.before =
-      same_some one.is_peer.here (ap (slice_get s.peers) (sym at) ∙ c.is_before.here) in
-      let then : c.after ≡ after = alone c.after (subst (λ n. IsPeer new key n c.after) at c.is_after) in
+      cc in
+      let then : c.after ≡ after = alone c.after (rw (← at) c.is_after) in
       (ap (λ (q : PeerState). q.am_interested) same ∙ c.was_interested, ap (λ (q : PeerState). q.am_interested) (sym then) ∙ c.now_interested)
 
   sent_changes : (e : Event) (calls : DeviceCalls) {a : _} → Step dig s e calls a new → ((c : PeerState) → IsPeer new key place c → c ≡ after)
@@ -376,7 +373,7 @@ module _ (dig : List ℕ → List ℕ) where
       → IsOnlyPeer s key place before → IsPeer new key place after → Step dig s (Next key) calls a new
       → IsSentChanges new a key before after
   next_changes {s} {new} {key} {place} {after} calls {a} one is t =
-      let old : Old s new (sent_by a) after = subst (λ x. Old s new (sent_by x) after) (sym t.1) (next_told dig t.2 place is.here) in
+      let old : Old s new (sent_by a) after = rw t.1 (next_told dig t.2 place is.here) in
       sent_changes dig new after one (Next key) calls t (λ c x. same_some x.here is.here)
       (told_of dig new after one is.same_key old)
 
@@ -412,9 +409,9 @@ module _ (dig : List ℕ → List ℕ) where
     all_told : (e : Event) (calls : DeviceCalls) (a : Answer) → Step dig s e calls a new → Tells new (sent_by a) key before after
     all_told Connect calls a t = connect_tells t.3
     all_told (Feed k bytes) calls a t = of_old (feed_told dig (sent_by a) t.3 there at)
-    all_told (Next k) calls a t = of_old (subst (λ x. Old s new (sent_by x) after) (sym t.1) (next_told dig t.2 there at))
+    all_told (Next k) calls a t = of_old (rw t.1 (next_told dig t.2 there at))
     all_told (Lost k) calls a t = of_old (lost_told dig (sent_by a) t.3 there at)
-    all_told Rechoke calls a t = of_old (subst (λ x. Old s new (sent_by x) after) (sym t.1) (rechokes_told dig t.3 there at))
+    all_told Rechoke calls a t = of_old (rw t.1 (rechokes_told dig t.3 there at))
     all_told (Adopt file) calls a t = adopt_tells t.2
     all_told Flush calls a t = of_old (flush_told dig (sent_by a) t.2 there at)
 

@@ -16,8 +16,8 @@ same_stream {r} {s} u g f = ap (λ x. record r { unread = x }) u ∙ ap (λ x. r
 
 pub same_taking : {old r s e f : _} → Takes old e r → Takes old f s → SameTaking e f r s
 same_taking {old} {r} {s} {e} {f} t u =
-    let same = same_event old.greeted e f t.bytes u.bytes r.unread s.unread t.event u.event (sym t.front ∙ u.front) in
-    record { event_is = same.event_is; rest_is = same_stream same.rest_is (t.greeted ∙ sym u.greeted) (t.not_failed ∙ sym u.not_failed) }
+    let same = same_event old.greeted e f t.bytes u.bytes r.unread s.unread t.event u.event (cc) in
+    record { event_is = same.event_is; rest_is = same_stream same.rest_is (cc) (cc) }
 
 -- ---- what the step does with it
 
@@ -33,13 +33,13 @@ module _ (dig : List ℕ → List ℕ) {s : EngineState} (new : EngineState) {ke
   handled_as : {f r : _} (effect : Effect) (mid : EngineState) → Takes p.stream f r → HandlesAt dig s i p r f calls effect mid → HandlesAt dig s i p rest e calls effect mid
   handled_as {r} effect mid took handles =
       let same = same_taking took takes in
-      subst (λ x. HandlesAt dig s i p x e calls effect mid) same.rest_is (subst (λ x. HandlesAt dig s i p r x calls effect mid) same.event_is handles)
+      rw (← same.rest_is) (rw (← same.event_is) handles)
 
   by_peer : (P : ℕ → PeerState → Type 0) {j q : _} → IsPeer s key j q → P j q → P i p
   by_peer P {j} {q} is holds =
       let place = one.only j q is in
-      let same : q ≡ p = same_some (ap (slice_get s.peers) (sym place) ∙ is.here) one.is_peer.here in
-      subst (λ x. P i x) same (subst (λ n. P n q) place holds)
+      let same : q ≡ p = cc in
+      rw (← same) (rw (← place) holds)
 
   next_taken : {r : _} → StepNext dig s key calls r new → Taken dig s i p e rest calls (of_next r) new
   next_taken (no_peer none x y z) = absurd (none i p one.is_peer)
@@ -56,13 +56,12 @@ module _ (dig : List ℕ → List ℕ) {s : EngineState} (new : EngineState) {ke
   next_taken (no_memory j q is g y) = no_room (ap (λ x. of_next x) y)
 
   pub step_taken : {a : _} → Step dig s (Next key) calls a new → Taken dig s i p e rest calls a new
-  step_taken t = subst (λ x. Taken dig s i p e rest calls x new) (sym t.1) (next_taken t.2)
+  step_taken t = rw t.1 (next_taken t.2)
 
 -- what the event itself sends is sent
 pub sent_with : {dig s new i p calls out a : _} (g : GoesOn dig s i p calls out new) → a ≡ of_next (Ok (Some out))
     → {x : _} → Contains g.effect.send x → Contains (sent_by a) x
-sent_with {s} g is {x} c = subst (λ y. Contains (sent_by y) x) (sym is) (subst (λ l. Contains l x) (sym g.send)
-    (Contains-append_left (g.effect.send ++ haves s g.mid) g.sent x (Contains-append_left g.effect.send (haves s g.mid) x c)))
+sent_with {s} g is {x} c = rw is (rw g.send (Contains-append_left (g.effect.send ++ haves s g.mid) g.sent x (Contains-append_left g.effect.send (haves s g.mid) x c)))
 
 -- ---- hash requests
 
@@ -75,14 +74,14 @@ module _ (dig : List ℕ → List ℕ) {s : EngineState} (new : EngineState) {ke
 
   by_hashes : {out : _} (g : GoesOn dig s i p calls out new) → a ≡ of_next (Ok (Some out)) → HandlesHashRequest dig (with_peer s i (record p { stream = rest })) (record p { stream = rest }) asked g.effect → AnswersHashes dig s a key asked
   by_hashes g is (answered digests k e) = known digests (same_answers k) (sent_with g is
-      (subst (λ x. Contains x (frame_to key (Hashes asked (concat digests)))) (sym (ap (λ (x : Effect). x.send) e)) (here [] (ap (λ n. frame_to n (Hashes asked (concat digests))) one.is_peer.same_key))))
+      (rw (ap (λ (x : Effect). x.send) e) (here [] (ap (λ n. frame_to n (Hashes asked (concat digests))) one.is_peer.same_key))))
   by_hashes g is (rejected none e) = unknown (λ digests k. none digests (same_unknown k)) (sent_with g is
-      (subst (λ x. Contains x (frame_to key (HashReject asked))) (sym (ap (λ (x : Effect). x.send) e)) (here [] (ap (λ n. frame_to n (HashReject asked)) one.is_peer.same_key))))
+      (rw (ap (λ (x : Effect). x.send) e) (here [] (ap (λ n. frame_to n (HashReject asked)) one.is_peer.same_key))))
 
   -- such an event closes nobody
   not_shut : {X : Type 0} {out : _} (g : Closes dig s i p calls out new) → HandlesHashRequest dig (with_peer s i (record p { stream = rest })) (record p { stream = rest }) asked g.effect → X
-  not_shut g (answered digests k e) = let wrong : None ≡ Some g.why = ap (λ (x : Effect). x.close) (sym e) ∙ g.closed in absurd cc
-  not_shut g (rejected none e) = let wrong : None ≡ Some g.why = ap (λ (x : Effect). x.close) (sym e) ∙ g.closed in absurd cc
+  not_shut g (answered digests k e) = absurd cc
+  not_shut g (rejected none e) = absurd cc
 
   hashes_answered : Taken dig s i p (Message (HashRequest asked)) rest calls a new → IsOutOfMemory a ⊎ AnswersHashes dig s a key asked
   hashes_answered (no_room e) = inl e

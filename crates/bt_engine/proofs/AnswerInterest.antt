@@ -30,12 +30,12 @@ changes_by {s} {new} {i} f w x y k = record {
     place = i;
     before = w.peer;
     after = f.after;
-    is_before = record { here = w.here; same_key = w.same_key ∙ k };
-    is_after = record { here = f.now; same_key = f.same_key ∙ k };
-    was_interested = w.same_interest ∙ x;
+    is_before = record { here = w.here; same_key = cc };
+    is_after = record { here = f.now; same_key = cc };
+    was_interested = cc;
     now_interested = y;
     due = (
-      λ e. interesting_in s new f.peer f.after f.torrent f.files f.same_has (f.due.0 (y ∙ e)),
+      λ e. interesting_in s new f.peer f.after f.torrent f.files f.same_has (f.due.0 (cc)),
       λ e. sym y ∙ f.due.1 (interesting_in new s f.after f.peer (sym f.torrent) (sym f.files) (sym f.same_has) e),
     );
   };
@@ -51,7 +51,7 @@ stays_changed {s} {new} {i} f {place} apart c = record {
     after = c.changes.after;
     is_before = c.changes.is_before;
     is_after = record {
-      here = ap (λ l. slice_get l c.changes.place) f.peers ∙ set_other s.peers i c.changes.place f.after (λ e. apart (e ∙ c.at_place)) ∙ c.changes.is_after.here;
+      here = ap (λ l. slice_get l c.changes.place) f.peers ∙ set_other s.peers i c.changes.place f.after (λ e. apart (cc)) ∙ c.changes.is_after.here;
       same_key = c.changes.is_after.same_key;
     };
     was_interested = c.changes.was_interested;
@@ -72,10 +72,10 @@ record Tells (old new : EngineState) (sent : List Sent) : Type 0 where
 module _ (dig : List ℕ → List ℕ) where
   each_stays : (n a : ℕ) {old s new : _} (sent : List Sent) → FollowsEach dig (range_with_len a n) s sent new → {key was now place : _} → place < a → ChangesAt old s key was now place
       → ChangesAt old new key was now place
-  each_stays zero a {old} sent f {key} {was} {now} {place} below c = subst (λ x. ChangesAt old x key was now place) (sym f.1) c
+  each_stays zero a {old} sent f {key} {was} {now} {place} below c = rw f.1 c
   each_stays (suc n) a sent f below c =
-      each_stays n (a + 1) f.2 f.4 (omega (arith, below))
-      (stays_changed (follows_of f.3) (λ e. absurd (omega (arith, below, e))) c)
+      each_stays n (a + 1) f.2 f.4 (omega arith)
+      (stays_changed (follows_of f.3) (λ e. absurd (omega arith)) c)
 
   each_tells : (n a : ℕ) {old : _} (s : EngineState) {new sent : _} → FollowsEach dig (range_with_len a n) s sent new → ((j : ℕ) (q : PeerState) → a ≤ j → slice_get s.peers j ≡ Some q → WasSo old j q) → Tells old new sent
   each_tells zero a s f was_so = record {
@@ -85,17 +85,17 @@ module _ (dig : List ℕ → List ℕ) where
   each_tells (suc n) a {old} s {new} f was_so =
       let first = follows_of f.3 in
       let later : (j : ℕ) (q : PeerState) → a + 1 ≤ j → slice_get f.0.peers j ≡ Some q → WasSo old j q = λ j q above at.
-      was_so j q (omega (arith, above)) (sym (ap (λ l. slice_get l j) first.peers ∙ set_other s.peers a j first.after (λ e. absurd (omega (arith, above, e)))) ∙ at) in
+      was_so j q (omega arith) (sym (ap (λ l. slice_get l j) first.peers ∙ set_other s.peers a j first.after (λ e. absurd (omega arith))) ∙ at) in
       let rest = each_tells n (a + 1) f.0 f.4 later in
       let was = was_so a first.peer (omega arith) first.was in
       let stays : (key : PeerKey) (was now : Bool) → ChangesAt old f.0 key was now a → ChangesInterest old new key was now = λ key was now c.
       (each_stays n (a + 1) f.2 f.4 (omega arith) c).changes in
       record {
-        interested = λ key c. elim (Contains-append_cases f.1 f.2 (frame_to key Interested) (subst (λ l. Contains l (frame_to key Interested)) f.5 c)) [
+        interested = λ key c. elim (Contains-append_cases f.1 f.2 (frame_to key Interested) (rw (← f.5) c)) [
           | inl one ↦ let r = first.interested key one in stays key false true (changes_by first was r.0 r.1 r.2)
           | inr more ↦ rest.interested key more
         ];
-        uninterested = λ key c. elim (Contains-append_cases f.1 f.2 (frame_to key NotInterested) (subst (λ l. Contains l (frame_to key NotInterested)) f.5 c)) [
+        uninterested = λ key c. elim (Contains-append_cases f.1 f.2 (frame_to key NotInterested) (rw (← f.5) c)) [
           | inl one ↦ let r = first.uninterested key one in stays key true false (changes_by first was r.0 r.1 r.2)
           | inr more ↦ rest.uninterested key more
         ];
@@ -104,7 +104,7 @@ module _ (dig : List ℕ → List ℕ) where
   rechoke_tells : {s : EngineState} {new sent : _} → FollowsEach dig (range_with_len 0 (length s.peers)) (rechoked s) sent new → Tells s new sent
   rechoke_tells {s} f = each_tells (length s.peers) 0 (rechoked s) f (λ j q above at.
       let r = get_map (rechoked_peer s) s.peers j at in
-      record { peer = r.0; here = r.1; same_key = ap (λ (x : PeerState). x.key) r.2; same_interest = ap (λ (x : PeerState). x.am_interested) r.2 })
+      record { peer = r.0; here = r.1; same_key = cc; same_interest = cc })
 
   next_tells : {s new key i p calls out : _} → IsPeer s key i p → (g : GoesOn dig s i p calls out new) → Tells s new g.sent
   next_tells {s} {i} {p} {calls} peer g =
@@ -116,8 +116,8 @@ module _ (dig : List ℕ → List ℕ) where
       let was : WasSo s i f.peer = record {
         peer = p;
         here = peer.here;
-        same_key = sym (ap (λ (x : PeerState). x.key) same ∙ left.same_key);
-        same_interest = sym (ap (λ (x : PeerState). x.am_interested) same ∙ left.same_interest);
+        same_key = cc;
+        same_interest = cc;
       } in
       record {
         interested = λ k c. let r = f.interested k c in (changes_by f was r.0 r.1 r.2).changes;

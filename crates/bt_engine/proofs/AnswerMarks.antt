@@ -21,7 +21,7 @@ NotesMark t effect mid b = (state_at t b ≡ Some Marked) ⊎ Contains effect.no
 
 module _ (dig : List ℕ → List ℕ) (t mid : EngineState) (i : ℕ) (p : PeerState) (b : BlockId) (effect : Effect) where
   as_before : {m : _} → mid ≡ m → (state_at m b ≡ Some Marked → state_at t b ≡ Some Marked) → state_at mid b ≡ Some Marked → NotesMark t effect mid b
-  as_before e kept now = inl (kept (subst (λ x. state_at x b ≡ Some Marked) e now))
+  as_before e kept now = inl (kept (rw (← e) now))
 
   fault_notes : {k file j f read : _} → slice_get t.files file ≡ Some f → FindsFault dig k t file j f read effect mid → state_at mid b ≡ Some Marked → NotesMark t effect mid b
   fault_notes {j} {f} at (found_damaged bytes x y z e) m = as_before e (λ now. elim (file_marked t _ b now) [
@@ -52,7 +52,7 @@ module _ (dig : List ℕ → List ℕ) (t mid : EngineState) (i : ℕ) (p : Peer
     | inl one ↦ inr (one_note (e ∙ ap (λ n. noting (NowMarked (record c { file = n }))) (sym file) ∙ ap (λ n. noting (NowMarked (record b { block = n }))) (sym one.0)))
     | inr old ↦ inl old
   ]
-  put_changes c states (Ok PutWaiting) e now file = elim (set_cases states c.block b.block now) [ inl one ↦ (let wrong : Marked ≡ Waiting = one.1 in absurd cc) | inr old ↦ inl old ]
+  put_changes c states (Ok PutWaiting) e now file = elim (set_cases states c.block b.block now) [ inl one ↦ absurd cc | inr old ↦ inl old ]
   put_changes c states (Ok Wrong) e now file = inl now
   put_changes c states (Ok Already) e now file = inl now
   put_changes c states (Err x) e now file = inl now
@@ -68,15 +68,14 @@ module _ (dig : List ℕ → List ℕ) (t mid : EngineState) (i : ℕ) (p : Peer
   settle_notes tree from count calls notes old settled s now =
       let m = and_then_some (λ (q : FileState). slice_get q.states b.block) (slice_get settled.files b.file) now in
       let f = map_some (judged_file dig s.facts (s.reads b.file)) (slice_get old.files b.file) (sym (s.files b.file) ∙ m.1) in
-      let there : slice_get (judged dig s.facts false (s.reads b.file) f.0.states) b.block ≡ Some Marked = ap (λ (q : FileState). slice_get q.states b.block) f.2 ∙ m.2 in
+      let there : slice_get (judged dig s.facts false (s.reads b.file) f.0.states) b.block ≡ Some Marked = cc in
       elim (judged_marks (s.reads b.file) f.0.states there) [
         | inl before ↦ inl (state_is old b f.1 before)
         | inr r ↦
             let note : read_note dig s.facts b.file (given b.block r.bytes) ≡ NowMarked b = ap (λ x. if x then NowMarked b else Freed b) (right_true r.right) in
             let one : Contains (map (read_note dig s.facts b.file) (s.reads b.file)) (NowMarked b) =
-            subst (λ x. Contains (map (read_note dig s.facts b.file) (s.reads b.file)) x) note (map_contains (read_note dig s.facts b.file) (s.reads b.file) r.gives) in
-            inr (subst (λ l. Contains l (NowMarked b)) (sym s.noted)
-            (flat_map_contains (λ file. settling_notes dig s.facts file (s.reads file)) (file_numbers old) (range_contains (length old.files) (some_below old.files b.file f.1))
+            rw (← note) (map_contains (read_note dig s.facts b.file) (s.reads b.file) r.gives) in
+            inr (rw s.noted (flat_map_contains (λ file. settling_notes dig s.facts file (s.reads file)) (file_numbers old) (range_contains (length old.files) (some_below old.files b.file f.1))
             (Contains-append_left (map (read_note dig s.facts b.file) (s.reads b.file)) _ (NowMarked b) one)))
       ]
 
@@ -87,7 +86,7 @@ module _ (dig : List ℕ → List ℕ) (t mid : EngineState) (i : ℕ) (p : Peer
   hashes_notes {key} {calls} (learns l) m =
       elim (settle_notes l.tree key.index _ calls l.notes (with_tree t l.tree l.new) l.settled l.settles (subst (λ x. state_at x b ≡ Some Marked) l.after m)) [
         | inl old ↦ inl old
-        | inr noted ↦ inr (subst (λ x. Contains x (NowMarked b)) (sym (ap (λ (x : Effect). x.notes) l.has_effect)) noted)
+        | inr noted ↦ inr (rw (ap (λ (x : Effect). x.notes) l.has_effect) noted)
       ]
 
   have_notes : {piece : ℕ} → HandlesHave t i p piece effect mid → state_at mid b ≡ Some Marked → NotesMark t effect mid b
@@ -120,14 +119,14 @@ module _ (dig : List ℕ → List ℕ) (t mid : EngineState) (i : ℕ) (p : Peer
 
 module _ (dig : List ℕ → List ℕ) (s new : EngineState) (key : PeerKey) (calls : DeviceCalls) (b : BlockId) (before : ¬ (state_at s b ≡ Some Marked)) (now : state_at new b ≡ Some Marked) where
   unchanged : {X : Type 0} {like : EngineState} → like.files ≡ s.files → new ≡ like → X
-  unchanged files e = absurd (before (subst (λ f. state_at (record s { files = f }) b ≡ Some Marked) files (subst (λ x. state_at x b ≡ Some Marked) e now)))
+  unchanged files e = absurd (before (rw (← files) (rw (← e) now)))
 
   mark_noted : {r : _} → StepNext dig s key calls r new → NotedBy (of_next r) (NowMarked b)
   mark_noted (none_such x y z e) = unchanged refl e
   mark_noted (waits i p x y z w e) = unchanged refl e
   mark_noted (goes_on i p out is g e) =
       let rest = record p { stream = g.takes.rest } in
-      elim (event_notes dig (with_peer s i rest) g.mid i rest b g.effect g.takes.event calls g.takes.handles (subst (λ f. state_at (record g.mid { files = f }) b ≡ Some Marked) (follows_of g.follows).files now)) [
+      elim (event_notes dig (with_peer s i rest) g.mid i rest b g.effect g.takes.event calls g.takes.handles (rw (← (follows_of g.follows).files) now)) [
         | inl old ↦ absurd (before old)
         | inr noted ↦ noted_with g (ap (λ x. of_next x) e) (NowMarked b) noted
       ]
@@ -139,4 +138,4 @@ module _ (dig : List ℕ → List ℕ) (s new : EngineState) (key : PeerKey) (ca
   mark_noted (no_memory i p is g e) = unchanged refl g.after
 
 pub next_notes_marked : (dig : List ℕ → List ℕ) → NextNotesMarkedBlocks dig
-next_notes_marked dig s new key calls a b t before now = subst (λ x. NotedBy x (NowMarked b)) (sym t.1) (mark_noted dig s new key calls b before now t.2)
+next_notes_marked dig s new key calls a b t before now = rw t.1 (mark_noted dig s new key calls b before now t.2)

@@ -43,7 +43,7 @@ pub all_one : {part : _} (x : Sent) (xs : List Sent) → part_of x.frame ≡ par
 all_one x xs e rest y c = elim (contains_cases xs c) [ inl same ↦ ap (λ (s : Sent). part_of s.frame) (sym same) ∙ e | inr more ↦ rest y more ]
 
 pub all_is : (part : Part) {xs ys : _} → xs ≡ ys → AllOf part ys → AllOf part xs
-all_is part e f = subst (λ l. AllOf part l) (sym e) f
+all_is part e f = rw e f
 
 pub all_haves : (old new : EngineState) → AllOf announces (haves old new)
 all_haves old new x c =
@@ -74,7 +74,7 @@ pub data IsFollowing (interest hash block : List Sent) (x : Sent) : Type 0 where
 
 pub following : {interest hash block sent x : _} → sent ≡ interest ++ hash ++ block → Contains sent x → IsFollowing interest hash block x
 following {interest} {hash} {block} {x} e c =
-    elim (Contains-append_cases (interest ++ hash) block x (subst (λ l. Contains l x) e c)) [
+    elim (Contains-append_cases (interest ++ hash) block x (rw (← e) c)) [
       | inl front ↦ elim (Contains-append_cases interest hash x front) [ inl one ↦ in_interest one | inr two ↦ in_hash two ]
       | inr three ↦ in_block three
     ]
@@ -106,13 +106,13 @@ pub record AsksLess (p q : PeerState) : Type 0 where
   pub hashes : (k : HashKey) → q.hash ≡ Asked k → p.hash ≡ Asked k
 
 pub asks_same : {p q : PeerState} → q.asked ≡ p.asked → q.hash ≡ p.hash → AsksLess p q
-asks_same asked hash = record { blocks = λ b c. subst (λ l. Contains l b) asked c; hashes = λ k e. sym hash ∙ e }
+asks_same asked hash = record { blocks = λ b c. rw (← asked) c; hashes = λ k e. sym hash ∙ e }
 
 -- an answer to a hash request asks for none
 resolved : {key next old new : _} → ((k : HashKey) → next ≡ Asked k → ⊥) → Resolves key next old new → (k : HashKey) → new ≡ Asked k
     → old ≡ Asked k
-resolved never (ours_asked x e) k f = absurd (never k (sym e ∙ f))
-resolved never (other_asked x e) k f = sym e ∙ f
+resolved never (ours_asked x e) k f = absurd (never k (cc))
+resolved never (other_asked x e) k f = cc
 
 never_idle : (k : HashKey) → Idle ≡ Asked k → ⊥
 never_idle k e = cc
@@ -136,7 +136,7 @@ module _ (dig : List ℕ → List ℕ) (s : EngineState) (i : ℕ) {p : PeerStat
   -- the peer is another
   sets : {q : PeerState} {e effect mid : _} → q.key ≡ p.key → q.am_interested ≡ p.am_interested → IsQuiet e → effect ≡ e
       → mid ≡ with_peer s i q → AsksLess p q → Leaves s i p effect mid
-  sets {q} {e} {mid} k f quiet same after less = subst (λ x. Leaves s i p x mid) (sym same) (subst (λ x. Leaves s i p e x) (sym after) (record {
+  sets {q} {e} {mid} k f quiet same after less = rw same (rw after (record {
     peer = q;
     same_key = k;
     same_interest = f;
@@ -150,7 +150,7 @@ module _ (dig : List ℕ → List ℕ) (s : EngineState) (i : ℕ) {p : PeerStat
 
   -- nothing changes
   stays : {e effect mid : _} → IsQuiet e → effect ≡ e → mid ≡ s → Leaves s i p effect mid
-  stays {e} {mid} quiet same after = subst (λ x. Leaves s i p x mid) (sym same) (subst (λ x. Leaves s i p e x) (sym after) (record {
+  stays {e} {mid} quiet same after = rw same (rw after (record {
     peer = p;
     same_key = refl;
     same_interest = refl;
@@ -164,7 +164,7 @@ module _ (dig : List ℕ → List ℕ) (s : EngineState) (i : ℕ) {p : PeerStat
 
   -- a file is another, and the peer stays connected
   changes_file : (file : ℕ) (f : FileState) {e effect mid : _} → IsQuiet e → ((why : Why) → e.close ≡ Some why → ⊥) → effect ≡ e → mid ≡ with_file s file f → Leaves s i p effect mid
-  changes_file file f {e} {mid} quiet open_still same after = subst (λ x. Leaves s i p x mid) (sym same) (subst (λ x. Leaves s i p e x) (sym after) (record {
+  changes_file file f {e} {mid} quiet open_still same after = rw same (rw after (record {
     peer = p;
     same_key = refl;
     same_interest = refl;
@@ -214,10 +214,10 @@ module _ (dig : List ℕ → List ℕ) (s : EngineState) (i : ℕ) {p : PeerStat
       → (r ≡ Ok Wrong → states ≡ file.states)
       → stored ≡ with_file s b.file (record file { states = states }) → mid ≡ with_peer stored i q → Leaves s i p effect mid
   put_leaves b {file} {q} r states {effect} there k f less has same is after =
-      subst (λ x. Leaves s i p effect x) (sym (after ∙ ap (λ x. with_peer x i q) is)) (of_effect r has same)
+      rw (after ∙ ap (λ x. with_peer x i q) is) (of_effect r has same)
     where
       leaves : {e : _} → IsQuiet e → ((why : Why) → e.close ≡ Some why → states ≡ file.states) → effect ≡ e → Leaves s i p effect (with_peer (with_file s b.file (record file { states = states })) i q)
-      leaves quiet kept same_effect = subst (λ x. Leaves s i p x (with_peer (with_file s b.file (record file { states = states })) i q)) (sym same_effect) (record {
+      leaves quiet kept same_effect = rw same_effect (record {
         peer = q;
         same_key = k;
         same_interest = f;
@@ -274,10 +274,10 @@ module _ (dig : List ℕ → List ℕ) (s : EngineState) (i : ℕ) {p : PeerStat
   hashes_leaves {mid} {key} {digests} (learns l) =
       let like : Effect = record no_effect { notes = l.notes; proofs = new_proofs key digests l.old l.new } in
       let noted : NoComplete l.notes = λ note c.
-      let r = contains_flat_map (λ file. settling_notes dig l.settles.facts file (l.settles.reads file)) (file_numbers (with_tree s l.tree l.new)) (subst (λ x. Contains x note) l.settles.noted c) in
+      let r = contains_flat_map (λ file. settling_notes dig l.settles.facts file (l.settles.reads file)) (file_numbers (with_tree s l.tree l.new)) (rw (← l.settles.noted) c) in
       settling_noted l.settles.facts r.0 (l.settles.reads r.0) note r.2 in
       let settled : l.settled ≡ record (with_tree s l.tree l.new) { files = l.settled.files } = l.settles.others in
-      subst (λ x. Leaves s i p x mid) (sym l.has_effect) (subst (λ x. Leaves s i p like x) (sym (l.after ∙ ap (λ x. with_peer x i (record p { hash = l.hash })) settled)) (record {
+      rw l.has_effect (rw (l.after ∙ ap (λ x. with_peer x i (record p { hash = l.hash })) settled) (record {
         peer = record p { hash = l.hash };
         same_key = refl;
         same_interest = refl;

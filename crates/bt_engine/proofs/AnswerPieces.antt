@@ -15,12 +15,12 @@ filter_contains test (y ∷ xs) {x} c e = by (test y) refl (contains_cases xs c)
     by : (b : Bool) → test y ≡ b → (y ≡ x) ⊎ Contains xs x → (Contains xs x → Contains (filter test xs) x) → Contains (cond b (y ∷ filter test xs) (filter test xs)) x
     by true is (inl same) rest = here (filter test xs) same
     by true is (inr more) rest = later y (filter test xs) (rest more)
-    by false is (inl same) rest = let wrong : false ≡ true = sym is ∙ ap test same ∙ e in absurd cc
+    by false is (inl same) rest = absurd cc
     by false is (inr more) rest = rest more
 
 range_below : (a n : ℕ) {x : ℕ} → Contains (range_with_len a n) x → x < a + n
 range_below a zero c = absurd (contains_none c)
-range_below a (suc n) c = elim (contains_cases (range_with_len (a + 1) n) c) [ inl same ↦ omega (arith, same) | inr more ↦ let below = range_below (a + 1) n more in omega (arith, below) ]
+range_below a (suc n) c = elim (contains_cases (range_with_len (a + 1) n) c) [ inl same ↦ omega arith | inr more ↦ let below = range_below (a + 1) n more in omega arith ]
 
 not_so : (b : Bool) → not b ≡ true → b ≡ false
 not_so true e = absurd cc
@@ -35,7 +35,7 @@ whole_same : (s new : EngineState) (piece : ℕ) → new.files ≡ s.files → n
 whole_same s new piece f t = ap (λ x. is_whole (record s { torrent = x; files = new.files }) piece) t ∙ ap (λ x. is_whole (record s { files = x }) piece) f
 
 complete_same : (s new : EngineState) (file : ℕ) → new.files ≡ s.files → is_complete new file ≡ is_complete s file
-complete_same s new file f = ap (λ x. is_complete (record s { files = x }) file) f
+complete_same s new file f = cc
 
 -- what a step does to pieces and files
 data Keeps (dig : List ℕ → List ℕ) (s : EngineState) (answer : Answer) (new : EngineState) : Type 0 where
@@ -46,19 +46,19 @@ data Keeps (dig : List ℕ → List ℕ) (s : EngineState) (answer : Answer) (ne
 module _ (dig : List ℕ → List ℕ) (s new : EngineState) where
   -- an answer without an output, or with one without notes
   no_output : {a b : _} → a ≡ b → output_of b ≡ None → (file : ℕ) → NotedBy a (Complete file) → ⊥
-  no_output e none file c = let wrong : None ≡ Some c.0 = sym none ∙ ap output_of (sym e) ∙ c.1 in absurd cc
+  no_output e none file c = absurd cc
 
   no_note : {a b like : _} → a ≡ b → output_of b ≡ Some like → NoComplete like.notes → (file : ℕ) → NotedBy a (Complete file) → ⊥
   no_note {like} e is none file c =
-      let same : c.0 ≡ like = same_some c.1 (ap output_of e ∙ is) in
-      let wrong : true ≡ false = none (Complete file) (subst (λ (o : Output). Contains o.notes (Complete file)) same c.2) in
+      let same : c.0 ≡ like = cc in
+      let wrong : true ≡ false = none (Complete file) (rw (← same) c.2) in
       absurd cc
 
   same_state : {a b : _} → a ≡ b → output_of b ≡ None → new ≡ s → Keeps dig s a new
   same_state e none is = keeps (ap (λ (x : EngineState). x.files) is) (ap (λ (x : EngineState). x.torrent) is) (no_output e none)
 
   like_state : {like : EngineState} {a b : _} → a ≡ b → output_of b ≡ None → like.files ≡ s.files → like.torrent ≡ s.torrent → new ≡ like → Keeps dig s a new
-  like_state e none f t is = keeps (ap (λ (x : EngineState). x.files) is ∙ f) (ap (λ (x : EngineState). x.torrent) is ∙ t) (no_output e none)
+  like_state e none f t is = keeps (cc) (cc) (no_output e none)
 
   no_notes : NoComplete []
   no_notes note c = absurd (contains_none c)
@@ -70,7 +70,7 @@ module _ (dig : List ℕ → List ℕ) (s new : EngineState) where
   next_keeps {calls} (closes i p out x g e) =
       let rest = record p { stream = g.takes.rest } in
       let left = event_leaves dig (with_peer s i rest) i (set_same s.peers i x.here) g.takes.event calls g.takes.handles in
-      keeps (ap (λ (x : EngineState). x.files) g.after ∙ left.closed g.why g.closed) (ap (λ (x : EngineState). x.torrent) g.after ∙ left.torrent)
+      keeps (ap (λ (x : EngineState). x.files) g.after ∙ left.closed g.why g.closed) (cc)
       (no_note (ap (λ x. of_next x) (e ∙ ap (λ o. Ok (Some o)) g.is)) refl left.noted)
   next_keeps (faulty i p out x g e) =
       keeps (ap (λ (x : EngineState). x.files) g.after) (ap (λ (x : EngineState). x.torrent) g.after) (no_note (ap (λ x. of_next x) (e ∙ ap (λ o. Ok (Some o)) g.is)) refl no_notes)
@@ -109,12 +109,12 @@ rechoke_keeps {dig} {s} {new} (rechokes out x e) =
 rechoke_keeps {dig} {s} {new} (not_rechoked e x) = same_state dig s new (ap (λ x. of_rechoke x) e) refl x
 
 keeps_as : {dig s new a b : _} → a ≡ b → Keeps dig s b new → Keeps dig s a new
-keeps_as {dig} {s} {new} e k = subst (λ x. Keeps dig s x new) (sym e) k
+keeps_as {dig} {s} {new} e k = rw e k
 
 -- ---- taking in a file leaves no peer to tell
 
 groups_peers : (dig : List ℕ → List ℕ) (s new : EngineState) (file from : ℕ) (groups : List DeviceCalls) (total : Adopted) → AdoptsGroups dig s file from groups total new → new.peers ≡ s.peers
-groups_peers dig s new file from [] total f = ap (λ (x : EngineState). x.peers) f.1
+groups_peers dig s new file from [] total f = cc
 groups_peers dig s new file from (calls ∷ more) total f = groups_peers dig f.1 new file f.0.next more f.2 f.4 ∙ ap (λ (x : EngineState). x.peers) f.3.after
 
 file_peers : {dig s new file calls total : _} → AdoptsFile dig s file calls total new → new.peers ≡ s.peers
@@ -155,8 +155,8 @@ module _ {dig : List ℕ → List ℕ} {s new : EngineState} {key : PeerKey} {i 
       let f = follows_of g.follows in
       elim (nat_cases i j) [
         | inl e ↦
-            let same : f.peer ≡ q = same_some f.was (ap (slice_get g.mid.peers) e ∙ at) in
-            (i, f.after, record { here = f.now; same_key = f.same_key ∙ ap (λ (x : PeerState). x.key) same })
+            let same : f.peer ≡ q = cc in
+            (i, f.after, record { here = f.now; same_key = cc })
         | inr apart ↦ (j, q, record { here = ap (λ l. slice_get l j) f.peers ∙ set_other g.mid.peers i j f.after apart ∙ at; same_key = refl })
       ]
 
@@ -178,25 +178,24 @@ module _ {dig : List ℕ → List ℕ} {s new : EngineState} {key : PeerKey} {i 
       let q = contains_map (λ q. sent_to q (Have r.0)) g.mid.peers r.2 in
       let place = some_at g.mid.peers q.1 in
       let same : r.0 ≡ piece = ap (λ (x : Sent). piece_in x.frame) q.2 in
-      let listed = contains_filter (has_become is_whole s g.mid) (piece_numbers g.mid) (subst (λ n. Contains (new_whole_pieces s g.mid) n) same r.1) in
+      let listed = contains_filter (has_become is_whole s g.mid) (piece_numbers g.mid) (rw (← same) r.1) in
       let both = and_true (is_whole g.mid piece) listed.1 in
-      let below : piece < total_pieces g.mid.torrent = (let lt = range_below 0 (total_pieces g.mid.torrent) listed.0 in omega (arith, lt)) in (
-        subst (λ x. IsConnected new x) (ap (λ (x : Sent). x.peer) q.2) (connected place.0 place.1),
-        subst (λ t. piece < total_pieces t) (sym torrent_is) below,
+      let below : piece < total_pieces g.mid.torrent = (let lt = range_below 0 (total_pieces g.mid.torrent) listed.0 in omega arith) in (
+        rw (← (ap (λ (x : Sent). x.peer) q.2)) (connected place.0 place.1),
+        rw torrent_is below,
         record { before = not_so (is_whole s piece) both.1; after = whole_same g.mid new piece files_are torrent_is ∙ both.0 },
       )
 
   tells_have : (k : PeerKey) {piece : ℕ} → IsConnected new k → piece < total_pieces new.torrent → BecomesSo is_whole s new piece → Contains out.send (frame_to k (Have piece))
   tells_have k {piece} c below b =
       let q = was_connected c in
-      let in_range : Contains (piece_numbers g.mid) piece = range_contains (total_pieces g.mid.torrent) (subst (λ t. piece < total_pieces t) torrent_is below) in
-      let whole : is_whole g.mid piece ≡ true = sym (whole_same g.mid new piece files_are torrent_is) ∙ b.after in
+      let in_range : Contains (piece_numbers g.mid) piece = range_contains (total_pieces g.mid.torrent) (rw (← torrent_is) below) in
+      let whole : is_whole g.mid piece ≡ true = cc in
       let listed : Contains (new_whole_pieces s g.mid) piece = filter_contains (has_become is_whole s g.mid) (piece_numbers g.mid) in_range (becomes whole b.before) in
       let told : Contains (map (λ q. sent_to q (Have piece)) g.mid.peers) (sent_to q.0 (Have piece)) = map_contains (λ q. sent_to q (Have piece)) g.mid.peers q.1 in
       let among : Contains (haves s g.mid) (frame_to k (Have piece)) =
-      flat_map_contains (λ n. map (λ q. sent_to q (Have n)) g.mid.peers) (new_whole_pieces s g.mid) listed (subst (λ x. Contains (map (λ q. sent_to q (Have piece)) g.mid.peers) (frame_to x (Have piece))) q.2 told) in
-      subst (λ l. Contains l (frame_to k (Have piece))) (sym g.send)
-      (Contains-append_left (g.effect.send ++ haves s g.mid) g.sent (frame_to k (Have piece)) (Contains-append_right g.effect.send (haves s g.mid) (frame_to k (Have piece)) among))
+      flat_map_contains (λ n. map (λ q. sent_to q (Have n)) g.mid.peers) (new_whole_pieces s g.mid) listed (rw (← q.2) told) in
+      rw g.send (Contains-append_left (g.effect.send ++ haves s g.mid) g.sent (frame_to k (Have piece)) (Contains-append_right g.effect.send (haves s g.mid) (frame_to k (Have piece)) among))
 
   abbrev file_in : Note → ℕ
   file_in (Complete file) = file
@@ -204,30 +203,29 @@ module _ {dig : List ℕ → List ℕ} {s new : EngineState} {key : PeerKey} {i 
 
   complete_noted : {file : ℕ} → Contains out.notes (Complete file) → (file < length new.files) × BecomesSo is_complete s new file
   complete_noted {file} c =
-      elim (Contains-append_cases g.effect.notes (map (λ n. Complete n) (new_complete_files s g.mid)) (Complete file) (subst (λ l. Contains l (Complete file)) g.notes c)) [
+      elim (Contains-append_cases g.effect.notes (map (λ n. Complete n) (new_complete_files s g.mid)) (Complete file) (rw (← g.notes) c)) [
         | inl one ↦ let wrong : true ≡ false = left.noted (Complete file) one in absurd cc
         | inr more ↦
             let r = contains_map (λ n. Complete n) (new_complete_files s g.mid) more in
-            let same : r.0 ≡ file = ap file_in r.2 in
-            let listed = contains_filter (has_become is_complete s g.mid) (file_numbers g.mid) (subst (λ n. Contains (new_complete_files s g.mid) n) same r.1) in
+            let same : r.0 ≡ file = cc in
+            let listed = contains_filter (has_become is_complete s g.mid) (file_numbers g.mid) (rw (← same) r.1) in
             let both = and_true (is_complete g.mid file) listed.1 in
-            let below : file < length g.mid.files = (let lt = range_below 0 (length g.mid.files) listed.0 in omega (arith, lt)) in
-            (subst (λ l. file < length l) (sym files_are) below, record { before = not_so (is_complete s file) both.1; after = complete_same g.mid new file files_are ∙ both.0 })
+            let below : file < length g.mid.files = (let lt = range_below 0 (length g.mid.files) listed.0 in omega arith) in
+            (rw files_are below, record { before = not_so (is_complete s file) both.1; after = complete_same g.mid new file files_are ∙ both.0 })
       ]
 
   notes_complete : {file : ℕ} → file < length new.files → BecomesSo is_complete s new file → Contains out.notes (Complete file)
   notes_complete {file} below b =
-      let in_range : Contains (file_numbers g.mid) file = range_contains (length g.mid.files) (subst (λ l. file < length l) files_are below) in
-      let complete : is_complete g.mid file ≡ true = sym (complete_same g.mid new file files_are) ∙ b.after in
+      let in_range : Contains (file_numbers g.mid) file = range_contains (length g.mid.files) (rw (← files_are) below) in
+      let complete : is_complete g.mid file ≡ true = cc in
       let listed : Contains (new_complete_files s g.mid) file = filter_contains (has_become is_complete s g.mid) (file_numbers g.mid) in_range (becomes complete b.before) in
-      subst (λ l. Contains l (Complete file)) (sym g.notes)
-      (Contains-append_right g.effect.notes (map (λ n. Complete n) (new_complete_files s g.mid)) (Complete file) (map_contains (λ n. Complete n) (new_complete_files s g.mid) listed))
+      rw g.notes (Contains-append_right g.effect.notes (map (λ n. Complete n) (new_complete_files s g.mid)) (Complete file) (map_contains (λ n. Complete n) (new_complete_files s g.mid) listed))
 
 -- ---- the laws
 
 -- nothing becomes so where nothing changes
 becomes_nothing : {X : Type 0} {holds : EngineState → ℕ → Bool} {s new : EngineState} {x : ℕ} → holds new x ≡ holds s x → BecomesSo holds s new x → X
-becomes_nothing same b = let wrong : false ≡ true = sym b.before ∙ sym same ∙ b.after in absurd cc
+becomes_nothing same b = absurd cc
 
 module _ (dig : List ℕ → List ℕ) where
   have_sent : {s new : _} (key : PeerKey) {piece : ℕ} → IsSentBy dig s new (frame_to key (Have piece)) → IsConnected new key × (piece < total_pieces new.torrent) × BecomesSo is_whole s new piece
@@ -243,7 +241,7 @@ module _ (dig : List ℕ → List ℕ) where
     where
       no_have_in : (places : List ℕ) (t : EngineState) (sent : List Sent) → FollowsEach dig places t sent new → Contains sent (frame_to key (Have piece)) → ⊥
       no_have_in [] t sent f c = contains_none (subst (λ l. Contains l (frame_to key (Have piece))) f.0 c)
-      no_have_in (i ∷ places) t sent f c = elim (Contains-append_cases f.1 f.2 (frame_to key (Have piece)) (subst (λ l. Contains l (frame_to key (Have piece))) f.5 c)) [
+      no_have_in (i ∷ places) t sent f c = elim (Contains-append_cases f.1 f.2 (frame_to key (Have piece)) (rw (← f.5) c)) [
         | inl one ↦ (follows_of f.3).no_have key piece one
         | inr more ↦ no_have_in places f.0 f.2 f.4 more
       ]
@@ -255,7 +253,7 @@ module _ (dig : List ℕ → List ℕ) where
       → Contains (sent_by a) (frame_to key (Have piece))
   sends_have {s} {new} key {piece} (keeps f t x) c below b = becomes_nothing (whole_same s new piece f t) b
   sends_have key {piece} (goes_further other i p calls out peer g e) c below b =
-      subst (λ x. Contains (sent_by x) (frame_to key (Have piece))) (sym e) (tells_have peer g key c below b)
+      rw e (tells_have peer g key c below b)
 
   pub step_announces : StepAnnouncesWholePieces dig
   step_announces s new e calls a t key piece = (
@@ -267,8 +265,8 @@ module _ (dig : List ℕ → List ℕ) where
   complete_cases {s} {new} {file} (keeps f t x) = (λ c. absurd (x file c), λ b. becomes_nothing (complete_same s new file f) b.1)
   complete_cases {file} (goes_further other i p calls out peer g e) = (
     λ c.
-        let same : c.0 ≡ out = same_some c.1 (ap output_of e) in
-        complete_noted peer g (subst (λ (o : Output). Contains o.notes (Complete file)) same c.2),
+        let same : c.0 ≡ out = cc in
+        complete_noted peer g (rw (← same) c.2),
     λ b. (out, ap output_of e, notes_complete peer g b.0 b.1),
   )
 

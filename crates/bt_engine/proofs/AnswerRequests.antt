@@ -8,10 +8,10 @@ use Rattle.bt_engine.proofs.AnswerSends.{nat_cases, set_other, frame_to, Follows
 
 -- another engine in which the peer has the same pieces
 pub has_in : (s new : EngineState) (p q : PeerState) (b : BlockId) → new.torrent ≡ s.torrent → q.has ≡ p.has → Has s p b → Has new q b
-has_in s new p q b e f has = subst (λ t. Has (record new { torrent = t }) q b) (sym e) (subst (λ h. Has (record new { torrent = s.torrent }) (record q { has = h }) b) (sym f) has)
+has_in s new p q b e f has = rw e (rw f has)
 
 pub missing_in : (s new : EngineState) (b : BlockId) → new.files ≡ s.files → state_at s b ≡ Some Missing → state_at new b ≡ Some Missing
-missing_in s new b e m = subst (λ f. state_at (record new { files = f }) b ≡ Some Missing) (sym e) m
+missing_in s new b e m = rw e m
 
 module _ (dig : List ℕ → List ℕ) where
   record IsRequested (new : EngineState) (key : PeerKey) (ask : Ask) : Type 0 where
@@ -56,7 +56,7 @@ module _ (dig : List ℕ → List ℕ) where
       -- no other peer is asked for it afterwards
       alone : (j : ℕ) (q : PeerState) → slice_get new.peers j ≡ Some q → Contains q.asked r.block → j ≡ r.place
       alone j q at asked = elim (set_cases s.peers i j (subst (λ l. slice_get l j ≡ Some q) f.peers at)) [
-        | inl one ↦ one.0 ∙ at_place (subst (λ l. Contains l r.block) (ap (λ (x : PeerState). x.asked) one.1 ∙ f.asked) asked)
+        | inl one ↦ one.0 ∙ at_place (subst (λ l. Contains l r.block) (cc) asked)
         | inr old ↦ r.so.alone j q old asked
       ]
         where
@@ -68,7 +68,7 @@ module _ (dig : List ℕ → List ℕ) where
 
       by : (i ≡ r.place) ⊎ (i ≡ r.place → ⊥) → IsRequested new key ask
       by (inl e) =
-          let same : f.peer ≡ r.peer = same_some f.was (ap (slice_get s.peers) e ∙ r.is_peer.here) in
+          let same : f.peer ≡ r.peer = same_some f.was (cc) in
           record {
             place = r.place;
             peer = f.after;
@@ -101,12 +101,12 @@ module _ (dig : List ℕ → List ℕ) where
       }
 
   each_stays : (places : List ℕ) {s new : _} (sent : List Sent) → FollowsEach dig places s sent new → {key ask : _} → IsRequested s key ask → IsRequested new key ask
-  each_stays [] sent f {key} {ask} r = subst (λ x. IsRequested x key ask) (sym f.1) r
+  each_stays [] sent f {key} {ask} r = rw f.1 r
   each_stays (i ∷ places) sent f r = each_stays places f.2 f.4 (stays_right (follows_of f.3) r)
 
   each_asks : (places : List ℕ) (s : EngineState) {new : _} (sent : List Sent) → FollowsEach dig places s sent new → {key ask : _} → Contains sent (frame_to key (Request ask)) → IsRequested new key ask
   each_asks [] s sent f {key} {ask} c = absurd (contains_none (subst (λ l. Contains l (frame_to key (Request ask))) f.0 c))
-  each_asks (i ∷ places) s sent f {key} {ask} c = elim (Contains-append_cases f.1 f.2 (frame_to key (Request ask)) (subst (λ l. Contains l (frame_to key (Request ask))) f.5 c)) [
+  each_asks (i ∷ places) s sent f {key} {ask} c = elim (Contains-append_cases f.1 f.2 (frame_to key (Request ask)) (rw (← f.5) c)) [
     | inl one ↦ each_stays places f.2 f.4 (asks_rightly (follows_of f.3) one)
     | inr more ↦ each_asks places f.0 f.2 f.4 more
   ]

@@ -6,9 +6,9 @@ use Rattle.bt_engine.proofs.AnswerParts.{Part, greets, replies, interests, choke
 
 pub nat_cases : (i j : ℕ) → (i ≡ j) ⊎ (i ≡ j → ⊥)
 nat_cases zero zero = inl refl
-nat_cases zero (suc j) = inr (λ e. absurd (omega (arith, e)))
-nat_cases (suc i) zero = inr (λ e. absurd (omega (arith, e)))
-nat_cases (suc i) (suc j) = elim (nat_cases i j) [ inl e ↦ inl (ap (λ n. suc n) e) | inr apart ↦ inr (λ e. apart (omega (arith, e))) ]
+nat_cases zero (suc j) = inr (λ e. absurd (omega arith))
+nat_cases (suc i) zero = inr (λ e. absurd (omega arith))
+nat_cases (suc i) (suc j) = elim (nat_cases i j) [ inl e ↦ inl (ap (λ n. suc n) e) | inr apart ↦ inr (λ e. apart (omega arith)) ]
 
 -- what stands elsewhere is not changed
 pub set_other : {X : Type 0} (xs : List X) (i j : ℕ) (x : X) → (i ≡ j → ⊥) → slice_get (slice_set xs i x) j ≡ slice_get xs j
@@ -50,23 +50,23 @@ pub record SamePlan (p q : PeerState) : Type 0 where
 
 pub same_plan : {dig s p q sent : _} → RequestsHashes dig s p sent q → SamePlan p q
 same_plan (requests b k key x y z w e f) = record {
-  same_key = ap (λ (r : PeerState). r.key) f;
-  same_choking = ap (λ (r : PeerState). r.peer_choking) f;
-  same_interest = ap (λ (r : PeerState). r.am_interested) f;
-  same_has = ap (λ (r : PeerState). r.has) f;
-  same_asked = ap (λ (r : PeerState). r.asked) f;
+  same_key = cc;
+  same_choking = cc;
+  same_interest = cc;
+  same_has = cc;
+  same_asked = cc;
 }
 same_plan (rests x e f) = record {
-  same_key = ap (λ (r : PeerState). r.key) f;
-  same_choking = ap (λ (r : PeerState). r.peer_choking) f;
-  same_interest = ap (λ (r : PeerState). r.am_interested) f;
-  same_has = ap (λ (r : PeerState). r.has) f;
-  same_asked = ap (λ (r : PeerState). r.asked) f;
+  same_key = cc;
+  same_choking = cc;
+  same_interest = cc;
+  same_has = cc;
+  same_asked = cc;
 }
 
 open_with : {s : EngineState} {p q : PeerState} {b : BlockId} → q.has ≡ p.has → IsOpen s q b → IsOpen s p b
 open_with {s} {p} {b} e o = record {
-  has = subst (λ h. Has s (record p { has = h }) b) e o.has;
+  has = rw (← e) o.has;
   missing = o.missing;
   free = o.free;
 }
@@ -141,12 +141,12 @@ module _ {dig : List ℕ → List ℕ} {s : EngineState} {i : ℕ} {sent : List 
       (r.0, r.1, subst (λ (a : Ask). IsWholeBlock s.torrent a.piece a.begin a.length r.0) (sym same) r.2.whole, ap (λ (x : Sent). x.peer) (sym r.2.is))
 
   interest_told : {key : _} → stands (frame_to key Interested) → (f.peer.am_interested ≡ false) × (f.interested.am_interested ≡ true) × (f.peer.key ≡ key)
-  interest_told {key} (in_interest c) = told_interest f.peer _ _ (subst (λ l. Contains l (frame_to key Interested)) f.interest.told c)
+  interest_told {key} (in_interest c) = told_interest f.peer _ _ (rw (← f.interest.told) c)
   interest_told (in_hash c) = let e = of_hash c in absurd cc
   interest_told (in_block c) = let e = of_block c in absurd cc
 
   no_interest_told : {key : _} → stands (frame_to key NotInterested) → (f.peer.am_interested ≡ true) × (f.interested.am_interested ≡ false) × (f.peer.key ≡ key)
-  no_interest_told {key} (in_interest c) = told_no_interest f.peer _ _ (subst (λ l. Contains l (frame_to key NotInterested)) f.interest.told c)
+  no_interest_told {key} (in_interest c) = told_no_interest f.peer _ _ (rw (← f.interest.told) c)
   no_interest_told (in_hash c) = let e = of_hash c in absurd cc
   no_interest_told (in_block c) = let e = of_block c in absurd cc
 
@@ -159,10 +159,10 @@ module _ {dig : List ℕ → List ℕ} {s : EngineState} {i : ℕ} {sent : List 
   follows_of =
       let plan = same_plan f.hashes in
       let after : PeerState = record f.planned { asked = f.planned.asked ++ f.blocks } in
-      let has : f.interested.has ≡ f.peer.has = ap (λ (r : PeerState). r.has) f.interest.others in
-      let key : f.interested.key ≡ f.peer.key = ap (λ (r : PeerState). r.key) f.interest.others in
-      let choking : f.interested.peer_choking ≡ f.peer.peer_choking = ap (λ (r : PeerState). r.peer_choking) f.interest.others in
-      let asked : f.interested.asked ≡ f.peer.asked = ap (λ (r : PeerState). r.asked) f.interest.others in
+      let has : f.interested.has ≡ f.peer.has = cc in
+      let key : f.interested.key ≡ f.peer.key = cc in
+      let choking : f.interested.peer_choking ≡ f.peer.peer_choking = cc in
+      let asked : f.interested.asked ≡ f.peer.asked = cc in
       let some_block : (b : BlockId) → Contains f.blocks b → f.blocks ≡ [] → ⊥ = λ b c e. contains_none (subst (λ l. Contains l b) e c) in
       record {
         peer = f.peer;
@@ -170,16 +170,16 @@ module _ {dig : List ℕ → List ℕ} {s : EngineState} {i : ℕ} {sent : List 
         blocks = f.blocks;
         was = f.here;
         now = ap (λ (x : EngineState). slice_get x.peers i) f.after ∙ set_same s.peers i f.here;
-        same_key = plan.same_key ∙ key;
-        same_choking = plan.same_choking ∙ choking;
-        same_has = plan.same_has ∙ has;
-        due = (λ e. f.interest.interest.0 (sym plan.same_interest ∙ e), λ e. plan.same_interest ∙ f.interest.interest.1 e);
-        asked = ap (λ l. l ++ f.blocks) (plan.same_asked ∙ asked);
-        open_blocks = λ b c. open_with (plan.same_has ∙ has) (f.asks.are_open b c);
+        same_key = cc;
+        same_choking = cc;
+        same_has = cc;
+        due = (λ e. f.interest.interest.0 (cc), λ e. plan.same_interest ∙ f.interest.interest.1 e);
+        asked = cc;
+        open_blocks = λ b c. open_with (cc) (f.asks.are_open b c);
         may_ask = λ b c. (not_true f.planned.peer_choking (λ e. some_block b c (f.asks.shut (inl e))), not_false f.planned.am_interested (λ e. some_block b c (f.asks.shut (inr e))));
-        peers = ap (λ (x : EngineState). x.peers) f.after;
-        files = ap (λ (x : EngineState). x.files) f.after;
-        torrent = ap (λ (x : EngineState). x.torrent) f.after;
+        peers = cc;
+        files = cc;
+        torrent = cc;
         requested = λ k ask c. ask_sent ask (place_in c);
         interested = λ k c. let r = interest_told (place_in c) in (r.0, plan.same_interest ∙ r.1, r.2);
         uninterested = λ k c. let r = no_interest_told (place_in c) in (r.0, plan.same_interest ∙ r.1, r.2);
@@ -204,7 +204,7 @@ module _ (dig : List ℕ → List ℕ) where
   nothing_sent s new e none x c = absurd (contains_none (subst (λ l. Contains l x) (ap sent_by e ∙ none) c))
 
   sent_is : (s new : EngineState) {xs ys : _} → xs ≡ ys → Sent_by s new ys → Sent_by s new xs
-  sent_is s new e f = subst (λ l. Sent_by s new l) (sym e) f
+  sent_is s new e f = rw e f
 
   greeting_sent : (s new : EngineState) (xs : List Sent) → AllOf greets xs → Sent_by s new xs
   greeting_sent s new xs all x c = alike greets (inl refl) (all x c)
@@ -213,7 +213,7 @@ module _ (dig : List ℕ → List ℕ) where
   goes_on_sent {s} {key} {i} {p} {calls} {out} peer g x c =
       let rest = record p { stream = g.takes.rest } in
       let left = event_leaves dig (with_peer s i rest) i (set_same s.peers i peer.here) g.takes.event calls g.takes.handles in
-      elim (Contains-append_cases (g.effect.send ++ haves s g.mid) g.sent x (subst (λ l. Contains l x) g.send c)) [
+      elim (Contains-append_cases (g.effect.send ++ haves s g.mid) g.sent x (rw (← g.send) c)) [
         | inl front ↦ elim (Contains-append_cases g.effect.send (haves s g.mid) x front) [
           | inl one ↦ alike replies (inr (inl refl)) (left.replied x one)
           | inr two ↦ announced key i p calls out peer g two

@@ -44,7 +44,7 @@ not_no_claim c (claim_memory x y) not = not refl
 get_index : {X : Type 0} (xs : List X) (i : ℕ) {x : X} (d : X) → slice_get xs i ≡ Some x → slice_index_or xs i d ≡ x
 get_index [] zero d e = absurd cc
 get_index [] (suc i) d e = absurd cc
-get_index (y ∷ xs) zero d e = same_some refl e
+get_index (y ∷ xs) zero d e = cc
 get_index (y ∷ xs) (suc i) d e = get_index xs i d e
 
 module _ (s : EngineState) (apart : AllPairs (λ (j k : Facts). j.root ≢ k.root) s.trees) (root : List ℕ) where
@@ -57,7 +57,7 @@ module _ (s : EngineState) (apart : AllPairs (λ (j k : Facts). j.root ≢ k.roo
     | inl before ↦ absurd (not_both x y before)
     | inr from ↦ elim (cases_lt j i) [
       | inl after ↦ absurd (not_both y x after)
-      | inr to ↦ same_some x.here (ap (slice_get s.trees) (omega (arith, from, to)) ∙ y.here)
+      | inr to ↦ same_some x.here (ap (slice_get s.trees) (omega arith) ∙ y.here)
     ]
   ]
 
@@ -68,14 +68,14 @@ not_both_peers {s} o {key} {i} {j} {p} x y lt =
     let before = o.in_order i j p lt (some_below s.peers j y.here) in
     let first : (slice_index_or s.peers i p).key.0 ≡ key.0 = ap (λ (r : PeerState). r.key.0) (get_index s.peers i p x.here) ∙ ap (λ (k : PeerKey). k.0) x.same_key in
     let second : (slice_index_or s.peers j p).key.0 ≡ key.0 = ap (λ (r : PeerState). r.key.0) (get_index s.peers j p y.here) ∙ ap (λ (k : PeerKey). k.0) y.same_key in
-    absurd (omega (arith, before, first, second))
+    absurd (omega arith)
 
 pub orderly_only : OrderlyPeersAreOnly
 orderly_only s key i p o x = record {
   is_peer = x;
   only = λ j q y. elim (cases_lt i j) [
     | inl before ↦ absurd (not_both_peers o x y before)
-    | inr from ↦ elim (cases_lt j i) [ inl after ↦ absurd (not_both_peers o y x after) | inr to ↦ omega (arith, from, to) ]
+    | inr from ↦ elim (cases_lt j i) [ inl after ↦ absurd (not_both_peers o y x after) | inr to ↦ omega arith ]
   ];
 }
 
@@ -95,7 +95,7 @@ abbrev Shuts : Effect → Why → Type 0
 Shuts effect why = effect.close ≡ Some why
 
 by_effect : {effect : _} (why : Why) → effect ≡ closing why → Shuts effect why
-by_effect why e = ap (λ (x : Effect). x.close) e
+by_effect why e = cc
 
 -- hashes for which a peer is to be closed are accepted by no tree, and no other reason fits them
 record AreFor (dig : List ℕ → List ℕ) (s : EngineState) (key : HashKey) (digests : List ℕ) (why : Why) : Type 0 where
@@ -130,9 +130,9 @@ module _ (dig : List ℕ → List ℕ) (s : EngineState) (key : HashKey) (digest
     of_unknown = λ u. absurd (u tree k is);
     of_no_claim = λ f known none n. absurd (not_no_claim c none n);
     of_refusal = λ f t l d there e r n. ap (λ x. Proof x)
-        (refused_one dig (subst (λ x. IsRefused dig x claim f) (same there) (subst (λ x. IsRefused dig l x f) (e.claim_is ∙ sym c.claim_is) r)) refusal n not);
+        (refused_one dig (rw (← (same there)) (rw (← (e.claim_is ∙ sym c.claim_is)) r)) refusal n not);
     never = λ t l d there e a. not_refused
-        (subst (λ x. IsAcceptable dig x claim) (same there) (subst (λ x. IsAcceptable dig l x) (e.claim_is ∙ sym c.claim_is) a)) refusal not;
+        (rw (← (same there)) (rw (← (e.claim_is ∙ sym c.claim_is)) a)) refusal not;
   }
     where
       same : {t l : _} → IsTreeOf s key.root t l → l ≡ k
@@ -149,7 +149,7 @@ module _ (dig : List ℕ → List ℕ) (s : EngineState) (i : ℕ) (p : PeerStat
       → IsWrong dig (value_at dig k 0 b.block) bytes → PutIsDue dig k b.block bytes states r → HasPutEffect b r effect
       → Shuts effect WrongBlock
   put_shuts k b bytes states effect (Ok PutMarked) w due e = absurd (w.2 (same_some w.1 due.2))
-  put_shuts k b bytes states effect (Ok PutWaiting) w due e = let no : None ≡ Some w.0 = sym due.2 ∙ w.1 in absurd cc
+  put_shuts k b bytes states effect (Ok PutWaiting) w due e = absurd cc
   put_shuts k b bytes states effect (Ok Wrong) w due e = by_effect WrongBlock e
   put_shuts k b bytes states effect (Ok Already) w due e = absurd e
   put_shuts k b bytes states effect (Err DeviceFault) w due e = absurd (w.2 (due.2 w.0 w.1))
@@ -161,10 +161,10 @@ module _ (dig : List ℕ → List ℕ) (s : EngineState) (i : ℕ) (p : PeerStat
   piece_shuts {b} lawful whole asked hung w (stale none x y z) = absurd (none b whole asked)
   piece_shuts {piece} {begin} {bytes} {b} {tree} {effect} lawful whole asked hung w (arrives r) =
       let same = same_block s.torrent lawful.laid_out piece begin (length bytes) r.whole whole in
-      let there : tree_of s r.block.file ≡ Some r.puts.tree = ap (option_and_then (λ (f : FileState). slice_get s.trees f.tree)) r.puts.is_file.here ∙ r.puts.is_file.hung in
-      let one : tree ≡ r.puts.tree = same_some (ap (λ (c : BlockId). tree_of s c.file) same ∙ hung) there in
+      let there : tree_of s r.block.file ≡ Some r.puts.tree = cc in
+      let one : tree ≡ r.puts.tree = cc in
       put_shuts r.puts.tree r.block bytes r.puts.file.states effect r.puts.result
-      (subst (λ (c : BlockId). IsWrong dig (value_at dig r.puts.tree 0 c.block) bytes) (sym same) (subst (λ k. IsWrong dig (value_at dig k 0 b.block) bytes) one w)) r.puts.due r.puts.has_effect
+      (rw same (rw (← one) w)) r.puts.due r.puts.has_effect
 
   -- the same trees are there when the event is handled
   here_before : {root tree k : _} → IsTreeOf t root tree k → IsTreeOf s root tree k
@@ -200,7 +200,7 @@ module _ (dig : List ℕ → List ℕ) {s : EngineState} (new : EngineState) {ke
   shut_by why {e} {rest} takes shut = by (step_taken dig new calls one takes step)
     where
       stays_open : {X : Type 0} (effect : Effect) → Shuts effect why → effect.close ≡ None → X
-      stays_open effect e none = let wrong : None ≡ Some why = sym none ∙ e in absurd cc
+      stays_open effect e none = absurd cc
 
       -- the event changes no other peer
       others : (effect : Effect) (mid : EngineState)
@@ -258,7 +258,7 @@ module _ (dig : List ℕ → List ℕ) {s : EngineState} (new : EngineState) {ke
     where
       have : {effect mid : _} → HandlesHave (with_peer s i (record p { stream = rest })) i (record p { stream = rest }) piece effect mid
           → Shuts effect BadPiece
-      have (in_range below e y) = absurd (omega (arith, below, past))
+      have (in_range below e y) = absurd (omega (arith, past))
       have (out_of_range x e y) = by_effect _ e
   shut_for lawful apart (other_length bytes rest takes differs) =
       shut_by BadBitfield takes (λ effect mid x. bits x.1)
@@ -271,7 +271,7 @@ module _ (dig : List ℕ → List ℕ) {s : EngineState} (new : EngineState) {ke
     where
       request : (effect : Effect) (mid : EngineState)
           → HandlesRequest dig (with_peer s i (record p { stream = rest })) i (record p { stream = rest }) ask calls effect mid → Shuts effect BadRequest
-      request effect mid (ignored choked x y z) = let no : true ≡ false = sym choked ∙ open_to in absurd cc
+      request effect mid (ignored choked x y z) = absurd cc
       request effect mid (no_place x y z e w) = by_effect _ e
       request effect mid (not_marked span x there y z w v) = absurd (none span there)
       request effect mid (served span x there y z) = absurd (none span there)

@@ -14,7 +14,7 @@ file_state : (s : EngineState) {file : ℕ} (new : FileState) (b : BlockId) {x :
 file_state s {file} new b {x} e =
     let m = and_then_some (λ (q : FileState). slice_get q.states b.block) (slice_get (slice_set s.files file new) b.file) e in
     elim (set_cases s.files file b.file m.1) [
-      | inl same ↦ inl (same.0, subst (λ (q : FileState). slice_get q.states b.block ≡ Some x) same.1 m.2)
+      | inl same ↦ inl (same.0, rw (← same.1) m.2)
       | inr old ↦ inr (state_is s b old m.2)
     ]
 
@@ -40,7 +40,7 @@ verdict_waits false e = absurd cc
 set_value : {X : Type 0} (xs : List X) (i : ℕ) {x y : X} → slice_get (slice_set xs i x) i ≡ Some y → y ≡ x
 set_value [] zero e = absurd cc
 set_value [] (suc i) e = absurd cc
-set_value (z ∷ xs) zero e = same_some e refl
+set_value (z ∷ xs) zero e = cc
 set_value (z ∷ xs) (suc i) e = set_value xs i e
 
 -- one read more
@@ -65,7 +65,7 @@ judged_waits dig k (failed b ∷ reads) e =
 -- ---- a leaf that a claim tells is one of its run
 
 power_some : {n : ℕ} (h : ℕ) → 2 ≤ n → n ≡ 2 ^ h → 1 ≤ h
-power_some zero some e = absurd (omega (arith, some, e))
+power_some zero some e = absurd (omega arith)
 power_some (suc h) some e = omega arith
 
 record IsInRunOf (c : Claim) (i : ℕ) : Type 0 where
@@ -75,21 +75,21 @@ record IsInRunOf (c : Claim) (i : ℕ) : Type 0 where
 
 leaf_in_run : {dig h c i d : _} → HasShape h c → Claims dig c 0 i d → IsInRunOf c i
 leaf_in_run {c} {i} s (in_run r) =
-    let above : r.above ≡ 0 = omega (arith, r.here) in
-    let same : i / 2 ^ run_height c ≡ c.index / 2 ^ run_height c = ap (λ n. i / 2 ^ n) (omega (arith, above)) ∙ r.under in
+    let above : r.above ≡ 0 = omega arith in
+    let same : i / 2 ^ run_height c ≡ c.index / 2 ^ run_height c = ap (λ n. i / 2 ^ n) (omega arith) ∙ r.under in
     within s.power same
   where
     within : {p : ℕ} → length c.run ≡ p → i / p ≡ c.index / p → IsInRunOf c i
     within {p} e same =
-        let some : 0 < p = omega (arith, e, s.some) in
-        let aligned : c.index % p ≡ 0 = ap (λ m. c.index % m) (sym e) ∙ s.aligned in
-        let product : p * (i / p) ≡ p * (c.index / p) = ap (λ q. p * q) same in
+        let some : 0 < p = omega arith in
+        let aligned : c.index % p ≡ 0 = cc in
+        let product : p * (i / p) ≡ p * (c.index / p) = cc in
         let own = div-add-mod i p in
         let first = div-add-mod c.index p in
         let below = mod-lt i some in
-        record { base = omega (arith, r.here); from = omega (arith, aligned, product, own, first); to = omega (arith, aligned, product, own, first, below, e) }
-leaf_in_run {c} s (on_path r) = absurd (omega (arith, r.here, power_some (run_height c) s.some s.power))
-leaf_in_run {c} s (uncle r) = absurd (omega (arith, r.here, power_some (run_height c) s.some s.power))
+        record { base = omega arith; from = omega arith; to = omega arith }
+leaf_in_run {c} s (on_path r) = absurd (omega (arith, power_some (run_height c) s.some s.power))
+leaf_in_run {c} s (uncle r) = absurd (omega (arith, power_some (run_height c) s.some s.power))
 
 -- ---- what an event leaves waiting
 
@@ -101,12 +101,12 @@ module _ (dig : List ℕ → List ℕ) (t mid : EngineState) (i : ℕ) (p : Peer
   -- an engine in which the block's state and tree are the same
   as_before : {m : _} → mid ≡ m → (state_at m b ≡ Some Waiting → state_at t b ≡ Some Waiting) → tree_of m b.file ≡ tree_of t b.file → Unknown dig t mid b
   as_before e states trees before now =
-      subst (λ x. leaf_at dig x b ≡ None) (sym e) (ap (option_and_then (λ (k : Facts). value_at dig k 0 b.block)) trees ∙ before (states (subst (λ x. state_at x b ≡ Some Waiting) e now)))
+      rw e (ap (option_and_then (λ (k : Facts). value_at dig k 0 b.block)) trees ∙ before (states (rw (← e) now)))
 
   fault_waits : {k file j f read : _} → slice_get t.files file ≡ Some f → FindsFault dig k t file j f read effect mid → Unknown dig t mid b
   fault_waits {file} {j} {f} at (found_damaged bytes x y z e) = as_before e (λ now. elim (file_state t (record f { states = slice_set f.states j Missing }) b now) [
     | inl one ↦ elim (set_cases f.states j b.block one.1) [
-      | inl here_now ↦ (let no : Waiting ≡ Missing = here_now.1 in absurd cc)
+      | inl here_now ↦ absurd cc
       | inr old ↦ state_is t b (ap (slice_get t.files) one.0 ∙ at) old
     ]
     | inr old ↦ old
@@ -123,7 +123,7 @@ module _ (dig : List ℕ → List ℕ) (t mid : EngineState) (i : ℕ) (p : Peer
   -- a block that was put waits only where its leaf is unknown
   put_waits : (k : Facts) (c : BlockId) (bytes : List ℕ) (states : List BlockState) (r : Result Put StoreError) → PutIsDue dig k c.block bytes states r → slice_get (states_after_put c.block r states) b.block ≡ Some Waiting
       → ((b.block ≡ c.block) × (value_at dig k 0 c.block ≡ None)) ⊎ (slice_get states b.block ≡ Some Waiting)
-  put_waits k c bytes states (Ok PutMarked) due now = elim (set_cases states c.block b.block now) [ inl one ↦ (let no : Waiting ≡ Marked = one.1 in absurd cc) | inr old ↦ inr old ]
+  put_waits k c bytes states (Ok PutMarked) due now = elim (set_cases states c.block b.block now) [ inl one ↦ absurd cc | inr old ↦ inr old ]
   put_waits k c bytes states (Ok PutWaiting) due now = elim (set_cases states c.block b.block now) [ inl one ↦ inl (one.0, due.2) | inr old ↦ inr old ]
   put_waits k c bytes states (Ok Wrong) due now = inr now
   put_waits k c bytes states (Ok Already) due now = inr now
@@ -136,15 +136,15 @@ module _ (dig : List ℕ → List ℕ) (t mid : EngineState) (i : ℕ) (p : Peer
       let states : List BlockState = states_after_put r.block.block r.puts.result f.states in
       let stored : EngineState = with_file t r.block.file (record f { states = states }) in
       let q : PeerState = with_payload (length bytes) (record p { asked = without_block r.block p.asked }) in
-      let is : mid ≡ with_peer stored i q = r.after ∙ ap (λ x. with_peer x i q) r.puts.after in
+      let is : mid ≡ with_peer stored i q = cc in
       let there : state_at stored b ≡ Some Waiting = subst (λ x. state_at x b ≡ Some Waiting) is now in
       let tree : tree_of stored b.file ≡ tree_of t b.file = same_tree t r.block.file states b.file r.puts.is_file.here in
-      let leaf : leaf_at dig t b ≡ None → leaf_at dig mid b ≡ None = λ e. subst (λ x. leaf_at dig x b ≡ None) (sym is) (ap (option_and_then (λ (k : Facts). value_at dig k 0 b.block)) tree ∙ e) in
+      let leaf : leaf_at dig t b ≡ None → leaf_at dig mid b ≡ None = λ e. rw is (cc) in
       elim (file_state t (record f { states = states }) b there) [
         | inl one ↦ elim (put_waits r.puts.tree r.block bytes f.states r.puts.result r.puts.due one.1) [
           | inl put ↦
-              let hung : tree_of t b.file ≡ Some r.puts.tree = ap (tree_of t) one.0 ∙ ap (option_and_then (λ (q : FileState). slice_get t.trees q.tree)) r.puts.is_file.here ∙ r.puts.is_file.hung in
-              leaf (ap (option_and_then (λ (k : Facts). value_at dig k 0 b.block)) hung ∙ ap (value_at dig r.puts.tree 0) put.0 ∙ put.1)
+              let hung : tree_of t b.file ≡ Some r.puts.tree = cc in
+              leaf (cc)
           | inr old ↦ leaf (before (state_is t b (ap (slice_get t.files) one.0 ∙ r.puts.is_file.here) old))
         ]
         | inr old ↦ leaf (before old)
@@ -162,33 +162,33 @@ module _ (dig : List ℕ → List ℕ) (t mid : EngineState) (i : ℕ) (p : Peer
 
 -- the count of the blocks that are looked at
 count_is : (key : HashKey) → key.base ≡ 0 → settled_count key ≡ key.length
-count_is key e = ap (λ n. if n == 0 then key.length else 0) e
+count_is key e = cc
 
 range_has : (a n : ℕ) {i : ℕ} → a ≤ i → i < a + n → Contains (range_with_len a n) i
-range_has a zero from to = absurd (omega (arith, from, to))
+range_has a zero from to = absurd (omega arith)
 range_has a (suc n) {i} from to = elim (nat_cases a i) [
   | inl same ↦ here (range_with_len (a + 1) n) same
-  | inr apart ↦ later a (range_with_len (a + 1) n) (range_has (a + 1) n (below a i from apart) (omega (arith, to)))
+  | inr apart ↦ later a (range_with_len (a + 1) n) (range_has (a + 1) n (below a i from apart) (omega arith))
 ]
   where
     below : (a i : ℕ) → a ≤ i → (a ≡ i → ⊥) → a + 1 ≤ i
-    below a i le apart = elim (cases_lt a i) [ inl lt ↦ omega (arith, lt) | inr ge ↦ absurd (apart (omega (arith, le, ge))) ]
+    below a i le apart = elim (cases_lt a i) [ inl lt ↦ omega arith | inr ge ↦ absurd (apart (omega arith)) ]
 
 module _ {dig : List ℕ → List ℕ} {t mid : EngineState} {i : ℕ} {p : PeerState} (b : BlockId) {key : HashKey} {digests : List ℕ} {calls : DeviceCalls} {effect : Effect} (l : Learns dig t i p key digests calls effect mid) where
   run_length : length l.claim.run ≡ key.length
   run_length =
       let count = chunk_count (length digests / 32) digests in
-      ap (λ (c : Claim). length c.run) l.claims.claim_is ∙ length-take-le key.length (digests_in digests) (omega (arith, count, l.claims.size))
+      ap (λ (c : Claim). length c.run) l.claims.claim_is ∙ length-take-le key.length (digests_in digests) (omega arith)
 
   -- a leaf that the proof told is one of the run
   told_in_run : {d : _} → value_at dig l.old 0 b.block ≡ None → value_at dig l.new 0 b.block ≡ Some d → IsInRunOf l.claim b.block
   told_in_run {d} unknown known = elim (cases_node (blocks_of l.new) 0 b.block (value_inside dig l.new 0 b.block d known)) [
     | inl covers ↦ elim (l.accepts.joins.only 0 b.block d (sym (value_covers dig l.new 0 b.block covers) ∙ known)) [
-      | inl held ↦ (let no : None ≡ Some d = sym unknown ∙ value_covers dig l.old 0 b.block (subst (λ n. CoversBlock (block_count n) 0 b.block) l.accepts.joins.file_length covers) ∙ held in absurd cc)
+      | inl held ↦ (let no : None ≡ Some d = sym unknown ∙ value_covers dig l.old 0 b.block (rw (← l.accepts.joins.file_length) covers) ∙ held in absurd cc)
       | inr told ↦ leaf_in_run l.accepts.conditions.shape told.0
     ]
     | inr past ↦
-        let no : None ≡ Some (padding_digest dig 0) = sym unknown ∙ value_padding dig l.old 0 b.block (subst (λ n. IsPadding (block_count n) 0 b.block) l.accepts.joins.file_length past) in
+        let no : None ≡ Some (padding_digest dig 0) = sym unknown ∙ value_padding dig l.old 0 b.block (rw (← l.accepts.joins.file_length) past) in
         absurd cc
   ]
 
@@ -196,10 +196,10 @@ module _ {dig : List ℕ → List ℕ} {t mid : EngineState} {i : ℕ} {p : Peer
   is_due : (f : FileState) {d : _} → f.tree ≡ l.tree → slice_get f.states b.block ≡ Some Waiting → value_at dig l.settles.facts 0 b.block ≡ Some d → IsInRunOf l.claim b.block
       → Contains (due_blocks dig l.settles.facts l.tree key.index (settled_count key) f) b.block
   is_due f tree waiting known run =
-      let base : key.base ≡ 0 = ap (λ (c : Claim). c.base) (sym l.claims.claim_is) ∙ run.base in
-      let index : l.claim.index ≡ key.index = ap (λ (c : Claim). c.index) l.claims.claim_is in
+      let base : key.base ≡ 0 = cc in
+      let index : l.claim.index ≡ key.index = cc in
       let in_range : Contains (range_with_len key.index (settled_count key)) b.block =
-      subst (λ n. Contains (range_with_len key.index n) b.block) (sym (count_is key base)) (range_has key.index key.length (omega (arith, run.from, index)) (omega (arith, run.to, index, run_length))) in
+      rw (count_is key base) (range_has key.index key.length (omega arith) (omega (arith, run_length))) in
       let test : (is_waiting_at f.states b.block && is_some (value_at dig l.settles.facts 0 b.block)) ≡ true = rw (waiting, known) refl in
       rw (eq-eqb f.tree l.tree tree) (filter_contains (λ j. is_waiting_at f.states j && is_some (value_at dig l.settles.facts 0 j)) (range_with_len key.index (settled_count key)) in_range test)
 
@@ -217,7 +217,7 @@ module _ {dig : List ℕ → List ℕ} {t mid : EngineState} {i : ℕ} {p : Peer
       unknown = before (state_is t b at waiting)
 
       hung : tree_of t b.file ≡ slice_get t.trees f.tree
-      hung = ap (option_and_then (λ (q : FileState). slice_get t.trees q.tree)) at
+      hung = cc
 
       facts_are : l.settles.facts ≡ l.new
       facts_are = same_some l.settles.here (set_same t.trees l.tree l.here.here)
@@ -226,7 +226,7 @@ module _ {dig : List ℕ → List ℕ} {t mid : EngineState} {i : ℕ} {p : Peer
       still_unknown None e tree old = e
       still_unknown (Some d) e tree old =
           let due = is_due f tree waiting (ap (λ k. value_at dig k 0 b.block) facts_are ∙ e) (told_in_run old e) in
-          absurd (unread (subst (λ xs. Contains xs b.block) (sym (l.settles.due b.file f at)) due))
+          absurd (unread (rw (l.settles.due b.file f at) due))
 
   learns_waits : Unknown dig t mid b
   learns_waits before now =
@@ -234,10 +234,9 @@ module _ {dig : List ℕ → List ℕ} {t mid : EngineState} {i : ℕ} {p : Peer
       let m = and_then_some (λ (q : FileState). slice_get q.states b.block) (slice_get l.settled.files b.file) there in
       let f = map_some (judged_file dig l.settles.facts (l.settles.reads b.file)) (slice_get t.files b.file) (sym (l.settles.files b.file) ∙ m.1) in
       let u = judged_waits dig l.settles.facts (l.settles.reads b.file) (ap (λ (q : FileState). slice_get q.states b.block) f.2 ∙ m.2) in
-      let file : slice_get l.settled.files b.file ≡ Some (judged_file dig l.settles.facts (l.settles.reads b.file) f.0) = l.settles.files b.file ∙ ap (option_map (judged_file dig l.settles.facts (l.settles.reads b.file))) f.1 in
-      let trees : l.settled.trees ≡ slice_set t.trees l.tree l.new = ap (λ (x : EngineState). x.trees) l.settles.others in
-      subst (λ x. leaf_at dig x b ≡ None) (sym l.after)
-      (ap (λ o. option_and_then (λ (k : Facts). value_at dig k 0 b.block) (option_and_then (λ (q : FileState). slice_get l.settled.trees q.tree) o)) file
+      let file : slice_get l.settled.files b.file ≡ Some (judged_file dig l.settles.facts (l.settles.reads b.file) f.0) = cc in
+      let trees : l.settled.trees ≡ slice_set t.trees l.tree l.new = cc in
+      rw l.after (ap (λ o. option_and_then (λ (k : Facts). value_at dig k 0 b.block) (option_and_then (λ (q : FileState). slice_get l.settled.trees q.tree) o)) file
       ∙ ap (λ ts. option_and_then (λ (k : Facts). value_at dig k 0 b.block) (slice_get ts f.0.tree)) trees
       ∙ leaf_still f.1 before u.waited u.unread)
 
@@ -276,16 +275,15 @@ module _ (dig : List ℕ → List ℕ) (t mid : EngineState) (i : ℕ) (p : Peer
 module _ (dig : List ℕ → List ℕ) (s new : EngineState) (key : PeerKey) (calls : DeviceCalls) (b : BlockId) where
   like_old : {m : _} → new ≡ m → m.files ≡ s.files → m.trees ≡ s.trees → Unknown dig s new b
   like_old {m} e files trees before now =
-      let still : state_at m b ≡ Some Waiting = subst (λ x. state_at x b ≡ Some Waiting) e now in
-      subst (λ x. leaf_at dig x b ≡ None) (sym e)
-      (ap (λ ts. leaf_at dig (record m { trees = ts }) b) trees ∙ ap (λ fs. leaf_at dig (record s { files = fs }) b) files ∙ before (subst (λ fs. state_at (record m { files = fs }) b ≡ Some Waiting) files still))
+      let still : state_at m b ≡ Some Waiting = rw (← e) now in
+      rw e (ap (λ ts. leaf_at dig (record m { trees = ts }) b) trees ∙ ap (λ fs. leaf_at dig (record s { files = fs }) b) files ∙ before (rw (← files) still))
 
   -- what follows, and a peer that goes, change no block and no tree
   after_event : (i : ℕ) (p : PeerState) (effect : Effect) (mid : EngineState) (e : WireEvent) (rest : Stream) → Handles dig (with_peer s i (record p { stream = rest })) i (record p { stream = rest }) e calls effect mid
       → new.files ≡ mid.files → new.trees ≡ mid.trees → Unknown dig s new b
   after_event i p effect mid e rest handles files trees before now =
       ap (λ ts. leaf_at dig (record new { trees = ts }) b) trees ∙ ap (λ fs. leaf_at dig (record mid { files = fs }) b) files
-      ∙ event_waits dig (with_peer s i (record p { stream = rest })) mid i (record p { stream = rest }) b effect e calls handles before (subst (λ fs. state_at (record new { files = fs }) b ≡ Some Waiting) files now)
+      ∙ event_waits dig (with_peer s i (record p { stream = rest })) mid i (record p { stream = rest }) b effect e calls handles before (rw (← files) now)
 
   next_waits : {r : _} → StepNext dig s key calls r new → Unknown dig s new b
   next_waits (none_such x y z e) = like_old e refl refl

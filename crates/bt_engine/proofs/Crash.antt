@@ -21,13 +21,13 @@ keeps_spare n sync_fault k = tt
 -- a write of another block is beside the block
 beside : (n m i b j : ℕ) (bytes : List ℕ) → i ≢ b → j < block_length n i → length bytes ≡ block_length m b → (16384 * i + j < 16384 * b) ⊎ (16384 * b + length bytes ≤ 16384 * i + j)
 beside n m i b j bytes apart lt size = elim (cases_lt i b) [
-  | inl below ↦ inl (omega (arith, below, lt))
-  | inr le ↦ elim (cases_lt b i) [ inl above ↦ inr (omega (arith, above, size)) | inr ge ↦ absurd (apart (omega (arith, le, ge))) ]
+  | inl below ↦ inl (omega arith)
+  | inr le ↦ elim (cases_lt b i) [ inl above ↦ inr (omega arith) | inr ge ↦ absurd (apart (omega arith)) ]
 ]
 
 write_spares : (n m i b j : ℕ) {bytes c : _} → i ≢ b → j < block_length n i → length bytes ≡ block_length m b → (c ≡ bytes_written (16384 * b) bytes) ⊎ (c ≡ write_fault (16384 * b) bytes) → Spares (16384 * i + j) c
-write_spares n m i b j {bytes} apart lt size (inl e) = subst (λ d. Spares (16384 * i + j) d) (sym e) (beside n m i b j bytes apart lt size)
-write_spares n m i b j {bytes} apart lt size (inr e) = subst (λ d. Spares (16384 * i + j) d) (sym e) (beside n m i b j bytes apart lt size)
+write_spares n m i b j {bytes} apart lt size (inl e) = rw e (beside n m i b j bytes apart lt size)
+write_spares n m i b j {bytes} apart lt size (inr e) = rw e (beside n m i b j bytes apart lt size)
 
 -- no call of a step reaches a block of the file that is not missing
 step_spares : {s : EngineState} {calls file : _} (i j : ℕ) {f k : _} → Touches s.files s.trees calls → IsFile s file f k → slice_get f.states i ≢ Some Missing → j < block_length k.file_length i
@@ -38,9 +38,9 @@ step_spares {s} {file} i j {f} {k} (putting b bytes g l call here hung missing w
       | inl same ↦
           let at : b.file ≡ file = ap (λ (x : ℕ × Call). x.0) same in
           let call_is : call ≡ c = ap (λ (x : ℕ × Call). x.1) same in
-          let g_is : g ≡ f = same_some (sym (ap (slice_get s.files) at) ∙ here) is.here in
-          let apart : i ≢ b.block = λ e. present (ap (slice_get f.states) e ∙ ap (λ (q : FileState). slice_get q.states b.block) (sym g_is) ∙ missing) in
-          subst (λ d. Spares (16384 * i + j) d) call_is (write_spares k.file_length l.file_length i b.block j apart lt whole writes)
+          let g_is : g ≡ f = cc in
+          let apart : i ≢ b.block = λ e. present (cc) in
+          rw (← call_is) (write_spares k.file_length l.file_length i b.block j apart lt whole writes)
       | inr none ↦ absurd (contains_none none)
     ]
 
@@ -52,6 +52,6 @@ module _ {D : Type 0} (history : D → History) (honest : D → Type 0) (faults 
   images_kept reads old new event calls answer disks after file i t f k bytes e step have is present size there honest_now kept j byte at =
       let d = have.each file e there in
       let honest_before : honest d.0 = d.2.as_honest.1 honest_now in
-      let inside : j < block_length k.file_length i = (let lt = some_below bytes j at in omega (arith, lt, size)) in
+      let inside : j < block_length k.file_length i = (let lt = some_below bytes j at in omega arith) in
       let spares = all_of (Spares (16384 * i + j)) (calls_of file calls) (λ c among. step_spares i j (step_tame dig old new event calls answer step).1 is present inside (of_all calls among)) in
       calls_keep_bytes (history d.0) (history e) (calls_of file calls) t (16384 * i + j) byte (reads d.0 honest_before) (d.2.answered honest_before) spares (kept d.0 d.1 j byte at)

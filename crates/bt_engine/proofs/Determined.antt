@@ -11,22 +11,22 @@ use Rattle.bt_engine.proofs.DeterminedAdopt.{adopt_one}
 
 nil_of : {X : Type 0} (xs : List X) → length xs ≡ 0 → xs ≡ []
 nil_of [] e = refl
-nil_of (x ∷ xs) e = absurd (omega (arith, e))
+nil_of (x ∷ xs) e = absurd (omega arith)
 
 -- a file with a block has as many states as its tree has blocks
 sized : {torrent s : _} → IsShaped torrent s → {file : ℕ} (f : FileState) (k : Facts) → IsFile s file f k → f.states ≢ [] → blocks_of k ≡ length f.states
 sized {torrent} {s} shaped {file} f k is some =
-    let entry = get_some torrent.files file (omega (arith, some_below s.files file is.here, shaped.count)) in
+    let entry = get_some torrent.files file (omega (arith, some_below s.files file is.here)) in
     let shape = shaped.each file entry.0 f entry.1 is.here in
     elim (cases_lt 0 entry.0.length) [
       | inl long ↦
           let tree = shape.hung long in
           ap blocks_of (same_some is.hung tree.1) ∙ ap block_count tree.3 ∙ sym shape.blocks
-      | inr short ↦ absurd (some (nil_of f.states (omega (arith, short, shape.blocks))))
+      | inr short ↦ absurd (some (nil_of f.states (omega arith)))
     ]
 
 laid : {torrent s : _} → IsShaped torrent s → IsLaidOut torrent.piece_length torrent.files → IsLaidOut s.torrent.piece_length s.torrent.files
-laid shaped lay = subst (λ t. IsLaidOut t.piece_length t.files) (sym shaped.same) lay
+laid shaped lay = rw shaped.same lay
 
 -- what holds between the answers of two runs, one by one
 abbrev pub EachPair : (Answer → Answer → Type 0) → List Answer → List Answer → Type 0
@@ -36,10 +36,10 @@ EachPair P _ _ = ⊤
 module _ (dig : List ℕ → List ℕ) where
   -- what two results come to, in their answers
   answers : {a b c d m n : _} → a ≡ c → b ≡ d → AreOne c m d n → AreOne a m b n
-  answers {b} {c} {m} {n} e f same = subst (λ z. AreOne z m b n) (sym e) (subst (λ z. AreOne c m z n) (sym f) same)
+  answers {b} {c} {m} {n} e f same = rw e (rw f same)
 
   remembers : {a b : _} → a ≡ b → IsOutOfMemory b → ¬ IsOutOfMemory a → ⊥
-  remembers e out memory = memory (subst (λ x. IsOutOfMemory x) (sym e) out)
+  remembers e out memory = memory (rw e out)
 
   pub step_one : {torrent : Metainfo} {s new other : _} (event : Event) (calls : DeviceCalls) {answer another : _} → IsLaidOut torrent.piece_length torrent.files → IsShaped torrent s → IsOrderly s
       → Step dig s event calls answer new → Step dig s event calls another other → ¬ IsOutOfMemory answer → ¬ IsOutOfMemory another → AreOne answer new another other
@@ -69,8 +69,8 @@ module _ (dig : List ℕ → List ℕ) where
         let one = step_one e c lay shaped o x.1 y.1 (memory 0 a (omega arith)) (room 0 b (omega arith)) in
         let after = step_shape dig e c a shaped x.1 in
         let same = one.whole (force x.0 a b after each.0) in
-        let more = run_one x.0 es cs answers others after (order_kept dig s x.0 e c a x.1 o) x.2 (subst (λ m. Run dig m es cs others other) (sym same.1) y.2)
-        (λ k d lt. memory (suc k) d (omega (arith, lt))) (λ k d lt. room (suc k) d (omega (arith, lt))) each.1 in
+        let more = run_one x.0 es cs answers others after (order_kept dig s x.0 e c a x.1 o) x.2 (rw same.1 y.2)
+        (λ k d lt. memory (suc k) d (omega arith)) (λ k d lt. room (suc k) d (omega arith)) each.1 in
         (ap (λ z. z ∷ answers) same.0 ∙ ap (λ zs. b ∷ zs) more.0, more.1)
     run_one s [] [] [] (b ∷ others) shaped o x y memory room each = absurd y
     run_one s [] [] (a ∷ answers) others shaped o x y memory room each = absurd x

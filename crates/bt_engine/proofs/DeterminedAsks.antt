@@ -26,10 +26,10 @@ pub record AreOne (a : Answer) (m : EngineState) (b : Answer) (n : EngineState) 
   pub whole : SameAsks m (sent_by a) (sent_by b) → (a ≡ b) × (m ≡ n)
 
 pub are_equal : {a b m n : _} → a ≡ b → m ≡ n → AreOne a m b n
-are_equal e f = record { plain = ap plain_answer e; rest = ap without_asked f; whole = λ same. (e, f) }
+are_equal e f = record { plain = cc; rest = cc; whole = λ same. (e, f) }
 
 pub asks_to : {m f g h k : _} → f ≡ h → g ≡ k → SameAsks m f g → SameAsks m h k
-asks_to {m} {g} {h} e i same = subst (λ z. SameAsks m h z) i (subst (λ z. SameAsks m z g) e same)
+asks_to {m} {g} {h} e i same = rw (← i) (rw (← e) same)
 
 requests_append : (xs ys : List Sent) → requests_in (xs ++ ys) ≡ requests_in xs ++ requests_in ys
 requests_append xs ys = filter-append (λ (x : Sent). is_block_request x.frame) xs ys
@@ -52,18 +52,18 @@ asks_behind {s} {m} xs e (by_one one) = by_one (lacks_there s m e one)
 pub range_one : {torrent : Metainfo} {a c : Ask} {b : BlockId} → IsWholeBlock torrent a.piece a.begin a.length b
     → IsWholeBlock torrent c.piece c.begin c.length b → a ≡ c
 range_one {torrent} {a} {c} {b} x y =
-    let file : x.place.file ≡ y.place.file = sym (x.place.found x.place.file) ∙ ap (λ i. get_or torrent.files i x.place.file) (x.file ∙ sym y.file) ∙ y.place.found x.place.file in
-    let start : (a.piece - x.place.file.first_piece) * torrent.piece_length + a.begin ≡ (c.piece - y.place.file.first_piece) * torrent.piece_length + c.begin = sym x.place.start ∙ x.start ∙ sym y.start ∙ y.place.start in
+    let file : x.place.file ≡ y.place.file = sym (x.place.found x.place.file) ∙ ap (λ i. get_or torrent.files i x.place.file) (cc) ∙ y.place.found x.place.file in
+    let start : (a.piece - x.place.file.first_piece) * torrent.piece_length + a.begin ≡ (c.piece - y.place.file.first_piece) * torrent.piece_length + c.begin = cc in
     let turn : a.piece - x.place.file.first_piece ≡ c.piece - y.place.file.first_piece
-    = sym (div-mul-add (a.piece - x.place.file.first_piece) torrent.piece_length a.begin (omega (arith, x.place.in_piece, x.place.some))) ∙ ap (λ n. n / torrent.piece_length) start
-    ∙ div-mul-add (c.piece - y.place.file.first_piece) torrent.piece_length c.begin (omega (arith, y.place.in_piece, y.place.some)) in
-    let piece : a.piece ≡ c.piece = omega (arith, turn, x.place.from, y.place.from, ap (λ (f : File). f.first_piece) file) in
-    let begin : a.begin ≡ c.begin = add_left_cancel ((c.piece - y.place.file.first_piece) * torrent.piece_length) (ap (λ n. n * torrent.piece_length + a.begin) (sym turn) ∙ start) in
-    let count : a.length ≡ c.length = x.whole ∙ ap (λ (f : File). block_length f.length b.block) file ∙ sym y.whole in
+    = sym (div-mul-add (a.piece - x.place.file.first_piece) torrent.piece_length a.begin (omega arith)) ∙ ap (λ n. n / torrent.piece_length) start
+    ∙ div-mul-add (c.piece - y.place.file.first_piece) torrent.piece_length c.begin (omega arith) in
+    let piece : a.piece ≡ c.piece = omega (arith, ap (λ (f : File). f.first_piece) file) in
+    let begin : a.begin ≡ c.begin = add_left_cancel ((c.piece - y.place.file.first_piece) * torrent.piece_length) (cc) in
+    let count : a.length ≡ c.length = cc in
     ap (λ n. record a { piece = n }) piece ∙ ap (λ n. record a { piece = c.piece; begin = n }) begin ∙ ap (λ n. record c { length = n }) count
 
 frames_one : (s : EngineState) (p : PeerState) (blocks : List BlockId) {f g : _} → RequestsEach s p blocks f → RequestsEach s p blocks g → f ≡ g
-frames_one s p [] x y = x ∙ sym y
+frames_one s p [] x y = cc
 frames_one s p (b ∷ blocks) x y =
     x.4 ∙ ap (λ z. z ∷ x.1) (x.2.is ∙ ap (λ a. sent_to p (Request a)) (range_one x.2.whole y.2.whole) ∙ sym y.2.is) ∙ ap (λ zs. y.0 ∷ zs) (frames_one s p blocks x.3 y.3) ∙ sym y.4
 
@@ -77,9 +77,9 @@ blocks_one s p [] (c ∷ cs) f lay x y = let no = sym x ∙ y.4 in absurd cc
 blocks_one s p (b ∷ bs) [] f lay x y = let no = sym y ∙ x.4 in absurd cc
 blocks_one s p (b ∷ bs) (c ∷ cs) f lay x y =
     let same = sym x.4 ∙ y.4 in
-    let ask : x.2.ask ≡ y.2.ask = ask_sent p (sym x.2.is ∙ heads same ∙ y.2.is) in
-    let block : b ≡ c = same_block s.torrent lay x.2.ask.piece x.2.ask.begin x.2.ask.length x.2.whole (subst (λ (a : Ask). IsWholeBlock s.torrent a.piece a.begin a.length c) (sym ask) y.2.whole) in
-    ap (λ z. z ∷ bs) block ∙ ap (λ zs. c ∷ zs) (blocks_one s p bs cs x.1 lay x.3 (subst (λ zs. RequestsEach s p cs zs) (sym (tails same)) y.3))
+    let ask : x.2.ask ≡ y.2.ask = ask_sent p (cc) in
+    let block : b ≡ c = same_block s.torrent lay x.2.ask.piece x.2.ask.begin x.2.ask.length x.2.whole (rw ask y.2.whole) in
+    ap (λ z. z ∷ bs) block ∙ ap (λ zs. c ∷ zs) (blocks_one s p bs cs x.1 lay x.3 (rw (tails same) y.3))
 
 no_block : (s : EngineState) (p : PeerState) (bs : List BlockId) → RequestsEach s p bs [] → bs ≡ []
 no_block s p [] x = refl
@@ -95,7 +95,7 @@ asks_none {p} (b ∷ bs) x y = absurd (never p.peer_choking p.am_interested refl
     never : (chokes interested : Bool) → p.peer_choking ≡ chokes → p.am_interested ≡ interested → ⊥
     never true interested e f = let no = y.shut (inl e) in absurd cc
     never false false e f = let no = y.shut (inr f) in absurd cc
-    never false true e f = elim (x.all e f) [ inl full ↦ (let few = y.few in absurd (omega (arith, full, few))) | inr every ↦ contains_none (every b (y.are_open b (here bs refl))) ]
+    never false true e f = elim (x.all e f) [ inl full ↦ (let few = y.few in absurd (omega arith)) | inr every ↦ contains_none (every b (y.are_open b (here bs refl))) ]
 
 -- where at most one block is missing, there is no choice
 asks_one : {s p : _} (bs cs : List BlockId) → LacksOneAtMost s → AsksBlocks s p bs → AsksBlocks s p cs → bs ≡ cs
@@ -117,7 +117,7 @@ interest_no_request p false true = refl
 interest_no_request p false false = refl
 
 only_requests : (s : EngineState) (p : PeerState) (blocks : List BlockId) {sent : _} → RequestsEach s p blocks sent → requests_in sent ≡ sent
-only_requests s p [] r = ap requests_in r ∙ sym r
+only_requests s p [] r = cc
 only_requests s p (b ∷ blocks) r =
     ap requests_in r.4 ∙ ap (λ x. requests_in (x ∷ r.1)) r.2.is ∙ ap (λ zs. sent_to p (Request r.2.ask) ∷ zs) (only_requests s p blocks r.3) ∙ ap (λ x. x ∷ r.1) (sym r.2.is) ∙ sym r.4
 
@@ -130,8 +130,8 @@ all_to s p (b ∷ blocks) sent {z} r c = elim (contains_cases r.1 (subst (λ l. 
 ]
 
 hash_no_request : {dig s p q sent : _} → RequestsHashes dig s p sent q → requests_in sent ≡ []
-hash_no_request (requests b k key x y z w e f) = ap requests_in e
-hash_no_request (rests x e f) = ap requests_in e
+hash_no_request (requests b k key x y z w e f) = cc
+hash_no_request (rests x e f) = cc
 
 -- no two peers have one key
 abbrev pub KeysApart : EngineState → Type 0
@@ -149,7 +149,7 @@ module _ (dig : List ℕ → List ℕ) where
 
   module _ {s : EngineState} {i : ℕ} {f g : List Sent} {a b : EngineState} (lay : IsLaidOut s.torrent.piece_length s.torrent.files) (x : FollowsUp dig s i f a) (y : FollowsUp dig s i g b) where
     peers : x.peer ≡ y.peer
-    peers = same_some x.here y.here
+    peers = cc
 
     interest : (x.interest_frames ≡ y.interest_frames) × AlikePeers x.interested y.interested
     interest = interest_one refl (ap asked_nothing peers) x.interest y.interest
@@ -164,21 +164,21 @@ module _ (dig : List ℕ → List ℕ) where
         ap (λ l. record (asked_nothing x.planned) { asked = l }) asked ∙ ap (λ (p : PeerState). record p { asked = y.planned.asked }) hash.1
 
     theirs : AsksBlocks s x.planned y.blocks
-    theirs = subst (λ p. AsksBlocks s p y.blocks) (sym planned) y.asks
+    theirs = rw planned y.asks
 
     their_requests : RequestsEach s x.planned y.blocks y.block_frames
-    their_requests = subst (λ p. RequestsEach s p y.blocks y.block_frames) (sym planned) y.requests
+    their_requests = rw planned y.requests
 
     by_blocks : x.blocks ≡ y.blocks → x.block_frames ≡ y.block_frames
-    by_blocks e = frames_one s x.planned x.blocks x.requests (subst (λ bs. RequestsEach s x.planned bs y.block_frames) (sym e) their_requests)
+    by_blocks e = frames_one s x.planned x.blocks x.requests (rw e their_requests)
 
     blocks : SameAsks s f g → (x.blocks ≡ y.blocks) × (x.block_frames ≡ y.block_frames)
     blocks (by_requests same) =
         let frames : x.block_frames ≡ y.block_frames = sym (requests_of x) ∙ same ∙ requests_of y in
-        (blocks_one s x.planned x.blocks y.blocks x.block_frames lay x.requests (subst (λ zs. RequestsEach s x.planned y.blocks zs) (sym frames) their_requests), frames)
+        (blocks_one s x.planned x.blocks y.blocks x.block_frames lay x.requests (rw frames their_requests), frames)
     blocks (by_none none) =
-        let own : x.blocks ≡ [] = no_block s x.planned x.blocks (subst (λ zs. RequestsEach s x.planned x.blocks zs) (sym (requests_of x) ∙ none) x.requests) in
-        let e : x.blocks ≡ y.blocks = own ∙ sym (asks_none y.blocks (subst (λ bs. AsksBlocks s x.planned bs) own x.asks) theirs) in
+        let own : x.blocks ≡ [] = no_block s x.planned x.blocks (rw (← (sym (requests_of x) ∙ none)) x.requests) in
+        let e : x.blocks ≡ y.blocks = own ∙ sym (asks_none y.blocks (rw (← own) x.asks) theirs) in
         (e, by_blocks e)
     blocks (by_one one) = let e = asks_one x.blocks y.blocks one x.asks theirs in (e, by_blocks e)
 
@@ -204,7 +204,7 @@ module _ (dig : List ℕ → List ℕ) where
   apart_after f apart j k p q x y e =
       let u = before j f x in
       let v = before k f y in
-      apart j k u.0 v.0 u.1 v.1 (sym u.2 ∙ e ∙ v.2)
+      apart j k u.0 v.0 u.1 v.1 (cc)
 
   own_key : {s i sent new z : _} → (x : FollowsUp dig s i sent new) → Contains (requests_in sent) z
       → z.peer ≡ x.peer.key
@@ -214,7 +214,7 @@ module _ (dig : List ℕ → List ℕ) where
   each_key : (is : List ℕ) (s : EngineState) (sent : List Sent) (new : EngineState) {z : _} → FollowsEach dig is s sent new → Contains (requests_in sent) z
       → (j : ℕ) × Contains is j × (p : PeerState) × (slice_get s.peers j ≡ Some p) × (z.peer ≡ p.key)
   each_key [] s sent new {z} x c = absurd (contains_none (subst (λ l. Contains (requests_in l) z) x.0 c))
-  each_key (i ∷ is) s sent new {z} x c = elim (Contains-append_cases (requests_in x.1) (requests_in x.2) z (subst (λ l. Contains l z) (ap requests_in x.5 ∙ requests_append x.1 x.2) c)) [
+  each_key (i ∷ is) s sent new {z} x c = elim (Contains-append_cases (requests_in x.1) (requests_in x.2) z (rw (← (ap requests_in x.5 ∙ requests_append x.1 x.2)) c)) [
     | inl own ↦ (i, here is refl, x.3.peer, x.3.here, own_key x.3 own)
     | inr more ↦
         let r = each_key is x.0 x.2 new x.4 more in
@@ -226,14 +226,14 @@ module _ (dig : List ℕ → List ℕ) where
       → ((z : Sent) → Contains us z → ¬ P z) → ((z : Sent) → Contains vs z → ¬ P z) → xs ++ us ≡ ys ++ vs
       → (xs ≡ ys) × (us ≡ vs)
   split_by P [] [] p q r t e = (refl, e)
-  split_by P [] (y ∷ ys) {vs} p q r t e = absurd (r y (subst (λ l. Contains l y) (sym e) (here (ys ++ vs) refl)) (q y (here ys refl)))
-  split_by P (x ∷ xs) [] {us} p q r t e = absurd (t x (subst (λ l. Contains l x) e (here (xs ++ us) refl)) (p x (here xs refl)))
+  split_by P [] (y ∷ ys) {vs} p q r t e = absurd (r y (rw e (here (ys ++ vs) refl)) (q y (here ys refl)))
+  split_by P (x ∷ xs) [] {us} p q r t e = absurd (t x (rw (← e) (here (xs ++ us) refl)) (p x (here xs refl)))
   split_by P (x ∷ xs) (y ∷ ys) p q r t e =
       let tail = split_by P xs ys (λ z c. p z (later x xs c)) (λ z c. q z (later y ys c)) r t (tails e) in
       (ap (λ z. z ∷ xs) (heads e) ∙ ap (λ zs. y ∷ zs) tail.0, tail.1)
 
   each_files : (is : List ℕ) (s : EngineState) (sent : List Sent) (new : EngineState) → FollowsEach dig is s sent new → new.files ≡ s.files
-  each_files [] s sent new x = ap (λ z. z.files) x.1
+  each_files [] s sent new x = cc
   each_files (i ∷ is) s sent new x = each_files is x.0 x.2 new x.4 ∙ ap (λ z. z.files) x.3.after
 
   pub each_same : (is : List ℕ) (s : EngineState) {f g a b : _} → IsLaidOut s.torrent.piece_length s.torrent.files → KeysApart s
@@ -243,15 +243,15 @@ module _ (dig : List ℕ → List ℕ) where
   each_same (i ∷ is) s {f} {g} {a} {b} lay apart once x y same =
       let parts = split same in
       let first = follows_same lay x.3 y.3 parts.0 in
-      let there : FollowsEach dig is x.0 y.2 b = subst (λ m. FollowsEach dig is m y.2 b) (sym first.1) y.4 in
-      let rest = each_same is x.0 (subst (λ t. IsLaidOut t.piece_length t.files) (sym own.torrent) lay) (apart_after own apart) once.1 x.4 there parts.1 in
+      let there : FollowsEach dig is x.0 y.2 b = rw first.1 y.4 in
+      let rest = each_same is x.0 (rw own.torrent lay) (apart_after own apart) once.1 x.4 there parts.1 in
       (x.5 ∙ ap (λ zs. zs ++ x.2) first.0 ∙ ap (λ zs. y.1 ++ zs) rest.0 ∙ sym y.5, rest.1)
     where
       own : Follows s i x.1 x.0
       own = follows_of x.3
 
       peer_is : y.3.peer ≡ x.3.peer
-      peer_is = same_some y.3.here x.3.here
+      peer_is = cc
 
       -- what is asked of later peers goes to other keys
       others : {mid h : _} (k : List Sent) (new : EngineState) {z : _} → Follows s i h mid → FollowsEach dig is mid k new
@@ -259,7 +259,7 @@ module _ (dig : List ℕ → List ℕ) where
       others {mid} k new fol each c e =
           let r = each_key is mid k new each c in
           let p = before r.0 fol r.3 in
-          once.0 r.0 r.1 (sym (apart r.0 i p.0 x.3.peer p.1 x.3.here (sym p.2 ∙ sym r.4 ∙ e)))
+          once.0 r.0 r.1 (sym (apart r.0 i p.0 x.3.peer p.1 x.3.here (cc)))
 
       parts_of : requests_in f ≡ requests_in x.1 ++ requests_in x.2
       parts_of = ap requests_in x.5 ∙ requests_append x.1 x.2
@@ -275,4 +275,4 @@ module _ (dig : List ℕ → List ℕ) where
 -- places are no two the same
 pub range_apart : (a n : ℕ) → Pairs (λ i j. i ≢ j) (range_with_len a n)
 range_apart a zero = tt
-range_apart a (suc n) = (λ j c e. absurd (let limits = range_limits (a + 1) n c in omega (arith, limits.0, e)), range_apart (a + 1) n)
+range_apart a (suc n) = (λ j c e. absurd (let limits = range_limits (a + 1) n c in omega arith), range_apart (a + 1) n)

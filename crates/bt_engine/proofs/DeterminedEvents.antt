@@ -10,12 +10,12 @@ use Rattle.bt_engine.proofs.DeterminedParts.{tree_one, accepts_one, answer_one, 
 -- two lists of one length at the front of one list
 pub split_one : {X : Type 0} (xs ys : List X) {us vs : List X} → length xs ≡ length ys → xs ++ us ≡ ys ++ vs → (xs ≡ ys) × (us ≡ vs)
 split_one [] [] size e = (refl, e)
-split_one [] (y ∷ ys) size e = absurd (omega (arith, size))
-split_one (x ∷ xs) [] size e = absurd (omega (arith, size))
+split_one [] (y ∷ ys) size e = absurd (omega arith)
+split_one (x ∷ xs) [] size e = absurd (omega arith)
 split_one (x ∷ xs) (y ∷ ys) {us} {vs} size e =
     let first : x ≡ y = cc in
     let rest : xs ++ us ≡ ys ++ vs = cc in
-    let more = split_one xs ys (omega (arith, size)) rest in
+    let more = split_one xs ys (omega arith) rest in
     (ap (λ z. z ∷ xs) first ∙ ap (λ zs. y ∷ zs) more.0, more.1)
 
 last_one : {X : Type 0} {xs ys : List X} {x y : X} → xs ++ x ∷ [] ≡ ys ++ y ∷ [] → (xs ≡ ys) × (x ≡ y)
@@ -28,12 +28,12 @@ read_one : (n : ℕ) (a b : BlockRead) → call_of n a ≡ call_of n b → a ≡
 read_one n (given i xs) (given j ys) e =
     let place : 16384 * i ≡ 16384 * j = cc in
     let bytes : xs ≡ ys = cc in
-    ap (λ m. given m xs) (omega (arith, place)) ∙ ap (λ zs. given j zs) bytes
+    ap (λ m. given m xs) (omega arith) ∙ ap (λ zs. given j zs) bytes
 read_one n (given i xs) (failed j) e = absurd cc
 read_one n (failed i) (given j ys) e = absurd cc
 read_one n (failed i) (failed j) e =
     let place : 16384 * i ≡ 16384 * j = cc in
-    ap (λ m. failed m) (omega (arith, place))
+    ap (λ m. failed m) (omega arith)
 
 first_call : {file : ℕ} {c d : Call} {xs ys : DeviceCalls} → (file, c) ∷ xs ≡ (file, d) ∷ ys → (c ≡ d) × (xs ≡ ys)
 first_call e = (ap (λ (p : ℕ × Call). p.1) (heads e), tails e)
@@ -52,7 +52,7 @@ flat_one f g [] size e c = absurd (contains_none c)
 flat_one f g (z ∷ xs) size e c =
     let parts = split_one (f z) (g z) (size z (here xs refl)) e in
     elim (contains_cases xs c) [
-      | inl same ↦ subst (λ w. f w ≡ g w) same parts.0
+      | inl same ↦ rw (← same) parts.0
       | inr more ↦ flat_one f g xs (λ w d. size w (later z xs d)) parts.1 more
     ]
 
@@ -81,10 +81,10 @@ settles_one {dig} {is_meant} {tree} {from} {count} {old} {a} {b} x y = (
 )
   where
     facts : x.facts ≡ y.facts
-    facts = same_some x.here y.here
+    facts = cc
 
     inside : {file : ℕ} → Contains (file_numbers old) file → file < length old.files
-    inside c = let l = range_limits 0 (length old.files) c in omega (arith, l.1)
+    inside c = let l = range_limits 0 (length old.files) c in omega arith
 
     size : (file : ℕ) → Contains (file_numbers old) file → length (reads_at file x.facts.file_length (x.reads file)) ≡ length (reads_at file y.facts.file_length (y.reads file))
     size file c =
@@ -95,9 +95,9 @@ settles_one {dig} {is_meant} {tree} {from} {count} {old} {a} {b} x y = (
 
     reads_same : (file : ℕ) → file < length old.files → x.reads file ≡ y.reads file
     reads_same file lt =
-        let calls_same = flat_one (λ file. reads_at file x.facts.file_length (x.reads file)) (λ file. reads_at file y.facts.file_length (y.reads file)) (file_numbers old) size (sym x.made ∙ y.made)
+        let calls_same = flat_one (λ file. reads_at file x.facts.file_length (x.reads file)) (λ file. reads_at file y.facts.file_length (y.reads file)) (file_numbers old) size (cc)
         (range_contains (length old.files) lt) in
-        reads_one file x.facts.file_length (x.reads file) (y.reads file) (calls_same ∙ ap (λ (k : Facts). reads_at file k.file_length (y.reads file)) (sym facts))
+        reads_one file x.facts.file_length (x.reads file) (y.reads file) (cc)
 
     files : a.files ≡ b.files
     files = list_one a.files b.files (λ i. x.files i ∙ settled_files dig x.facts (slice_get old.files i) (x.reads i) (y.reads i) (λ f at. reads_same i (some_below old.files i at))
@@ -121,16 +121,16 @@ last_given f g (i ∷ before) {block} after {read} e =
 
 pub file_one : {s file f g k l : _} → IsFile s file f k → IsFile s file g l → (f ≡ g) × (k ≡ l)
 file_one {s} {f} {g} x y =
-    let same : f ≡ g = same_some x.here y.here in
-    (same, same_some (ap (λ (q : FileState). slice_get s.trees q.tree) (sym same) ∙ x.hung) y.hung)
+    let same : f ≡ g = cc in
+    (same, same_some (cc) y.hung)
 
 module _ (dig : List ℕ → List ℕ) (s : EngineState) where
   serves_one : {i p ask span calls e f m n : _} → Serves dig s i p ask span calls e m → Serves dig s i p ask span calls f n → (e ≡ f) × (m ≡ n)
   serves_one {p} {ask} {span} x y =
       let tree : x.tree ≡ y.tree = (file_one x.is_file y.is_file).1 in
-      let reads : x.reads ≡ y.reads = reads_one span.file x.tree.file_length x.reads y.reads (sym x.made ∙ y.made ∙ ap (λ (k : Facts). reads_at span.file k.file_length y.reads) (sym tree)) in
-      let bytes = same_cut (spanned_blocks span) x.bytes y.bytes (sym x.right.made ∙ reads ∙ y.right.made) in
-      let cut : cut_from span x.bytes ≡ cut_from span y.bytes = ap (λ bs. take span.length (drop (span.start - 16384 * first_block span) bs)) bytes in
+      let reads : x.reads ≡ y.reads = reads_one span.file x.tree.file_length x.reads y.reads (cc) in
+      let bytes = same_cut (spanned_blocks span) x.bytes y.bytes (cc) in
+      let cut : cut_from span x.bytes ≡ cut_from span y.bytes = cc in
       (x.sent ∙ ap (λ bs. sending p (Piece ask.piece ask.begin bs)) cut ∙ sym y.sent, x.after ∙ sym y.after)
 
   serve_or_stop : {i p ask span calls e f m n : _} → Serves dig s i p ask span calls e m → StopsAtFault dig s span calls f n → ⊥
@@ -140,15 +140,14 @@ module _ (dig : List ℕ → List ℕ) (s : EngineState) where
       tree = (file_one x.is_file y.is_file).1
 
       reads : x.reads ≡ y.reads ++ y.read ∷ []
-      reads = reads_one span.file x.tree.file_length x.reads (y.reads ++ y.read ∷ []) (sym x.made ∙ y.made ∙ ap (λ (k : Facts). reads_at span.file k.file_length (y.reads ++ y.read ∷ [])) (sym tree))
+      reads = reads_one span.file x.tree.file_length x.reads (y.reads ++ y.read ∷ []) (cc)
 
       last : given y.block (x.bytes y.block) ≡ y.read
       last = last_given x.bytes y.bytes y.before y.after
           (ap (λ bs. map (λ i. given i (x.bytes i)) bs) (sym y.blocks) ∙ sym x.right.made ∙ reads ∙ ap (λ rs. rs ++ y.read ∷ []) y.right.made)
 
       exact : IsRight dig y.tree y.block (x.bytes y.block)
-      exact = subst (λ k. IsRight dig k y.block (x.bytes y.block)) tree
-          (x.right.right y.block (subst (λ bs. Contains bs y.block) (sym y.blocks) (Contains-append_right y.before (y.block ∷ y.after) y.block (here y.after refl))))
+      exact = rw (← tree) (x.right.right y.block (rw y.blocks (Contains-append_right y.before (y.block ∷ y.after) y.block (here y.after refl))))
 
       same_bytes : {xs ys : _} → given y.block xs ≡ given y.block ys → xs ≡ ys
       same_bytes e = cc
@@ -157,30 +156,27 @@ module _ (dig : List ℕ → List ℕ) (s : EngineState) where
       not_failed e = absurd cc
 
       by : FindsFault dig y.tree s span.file y.block y.file y.read f n → ⊥
-      by (damaged bytes is wrong_bytes z w) = wrong_bytes (subst (λ bs. IsRight dig y.tree y.block bs) (same_bytes (last ∙ is)) exact)
+      by (damaged bytes is wrong_bytes z w) = wrong_bytes (rw (← (same_bytes (last ∙ is))) exact)
       by (fault is z w) = not_failed (last ∙ is)
 
   finds_one : {k file i g read e f m n : _} → FindsFault dig k s file i g read e m → FindsFault dig k s file i g read f n → (e ≡ f) × (m ≡ n)
   finds_one (damaged b is w x y) (damaged c js v z u) = (x ∙ sym z, y ∙ sym u)
-  finds_one {i} (damaged b is w x y) (fault js z u) = (let no : given i b ≡ failed i = sym is ∙ js in absurd cc)
-  finds_one {i} (fault is x y) (damaged c js v z u) = (let no : given i c ≡ failed i = sym js ∙ is in absurd cc)
+  finds_one {i} (damaged b is w x y) (fault js z u) = absurd cc
+  finds_one {i} (fault is x y) (damaged c js v z u) = absurd cc
   finds_one (fault is x y) (fault js z u) = (x ∙ sym z, y ∙ sym u)
 
   stops_one : {span calls e f m n : _} → StopsAtFault dig s span calls e m → StopsAtFault dig s span calls f n → (e ≡ f) × (m ≡ n)
   stops_one {span} {f} {n} x y =
       let same = file_one x.is_file y.is_file in
       let all : x.reads ++ x.read ∷ [] ≡ y.reads ++ y.read ∷ []
-      = reads_one span.file x.tree.file_length (x.reads ++ x.read ∷ []) (y.reads ++ y.read ∷ []) (sym x.made ∙ y.made ∙ ap (λ (k : Facts). reads_at span.file k.file_length (y.reads ++ y.read ∷ [])) (sym same.1)) in
+      = reads_one span.file x.tree.file_length (x.reads ++ x.read ∷ []) (y.reads ++ y.read ∷ []) (cc) in
       let reads = last_one all in
       let size : length x.before ≡ length y.before
-      = sym (length-map x.before (λ i. given i (x.bytes i))) ∙ ap length (sym x.right.made ∙ reads.0 ∙ y.right.made) ∙ length-map y.before (λ i. given i (y.bytes i)) in
+      = sym (length-map x.before (λ i. given i (x.bytes i))) ∙ ap length (cc) ∙ length-map y.before (λ i. given i (y.bytes i)) in
       let parts = split_one x.before y.before size (sym x.blocks ∙ y.blocks) in
       let block : x.block ≡ y.block = heads parts.1 in
       let finds : FindsFault dig x.tree s span.file x.block x.file x.read f n
-      = subst (λ k. FindsFault dig k s span.file x.block x.file x.read f n) (sym same.1)
-      (subst (λ g. FindsFault dig y.tree s span.file x.block g x.read f n) (sym same.0)
-      (subst (λ r. FindsFault dig y.tree s span.file x.block y.file r f n) (sym reads.1)
-      (subst (λ b. FindsFault dig y.tree s span.file b y.file y.read f n) (sym block) y.finds))) in
+      = rw same.1 (rw same.0 (rw reads.1 (rw block y.finds))) in
       finds_one x.finds finds
 
   -- ---- a block that comes
@@ -227,10 +223,10 @@ module _ (dig : List ℕ → List ℕ) (s : EngineState) where
   put_one file i bytes k states e f (Err Range) r x y ex fy x_made y_made = absurd ex
 
   put_effect : (b : BlockId) (r : Result Put StoreError) {e f : _} → HasPutEffect b r e → HasPutEffect b r f → e ≡ f
-  put_effect b (Ok PutMarked) x y = x ∙ sym y
-  put_effect b (Ok PutWaiting) x y = x ∙ sym y
-  put_effect b (Ok Wrong) x y = x ∙ sym y
-  put_effect b (Err DeviceFault) x y = x ∙ sym y
+  put_effect b (Ok PutMarked) x y = cc
+  put_effect b (Ok PutWaiting) x y = cc
+  put_effect b (Ok Wrong) x y = cc
+  put_effect b (Err DeviceFault) x y = cc
   put_effect b (Ok Already) x y = absurd x
   put_effect b (Err Range) x y = absurd x
 
@@ -238,16 +234,16 @@ module _ (dig : List ℕ → List ℕ) (s : EngineState) where
   puts_one {b} {bytes} {e} {f} x y =
       let same = file_one x.is_file y.is_file in
       let due : PutIsDue dig x.tree b.block bytes x.file.states y.result
-      = subst (λ k. PutIsDue dig k b.block bytes x.file.states y.result) (sym same.1) (subst (λ (g : FileState). PutIsDue dig y.tree b.block bytes g.states y.result) (sym same.0) y.due) in
+      = rw same.1 (rw same.0 y.due) in
       let result : x.result ≡ y.result = put_one b.file b.block bytes x.tree x.file.states e f x.result y.result x.due due x.has_effect y.has_effect x.made y.made in (
-        put_effect b x.result x.has_effect (subst (λ r. HasPutEffect b r f) (sym result) y.has_effect),
+        put_effect b x.result x.has_effect (rw result y.has_effect),
         x.after ∙ ap (λ (g : FileState). with_file s b.file (record g { states = states_after_put b.block x.result g.states })) same.0
             ∙ ap (λ r. with_file s b.file (record y.file { states = states_after_put b.block r y.file.states })) result ∙ sym y.after,
       )
 
   module _ (lay : IsLaidOut s.torrent.piece_length s.torrent.files) (roots : AllPairs (λ (j k : Facts). j.root ≢ k.root) s.trees) where
     choked : {b : _} → b ≡ true → b ≡ false → ⊥
-    choked e f = let no : true ≡ false = sym e ∙ f in absurd cc
+    choked e f = absurd cc
 
     request_one : {i p ask calls e f m n : _} → HandlesRequest dig s i p ask calls e m → HandlesRequest dig s i p ask calls f n → (e ≡ f) × (m ≡ n)
     request_one (ignored xa xb xc xe) (ignored ya yb yc ye) = (xc ∙ sym yc, xe ∙ sym ye)
@@ -263,23 +259,23 @@ module _ (dig : List ℕ → List ℕ) (s : EngineState) where
     request_one (not_marked xs xa xf xg xb xc xe) (ignored ya yb yc ye) = absurd (choked ya xa)
     request_one (not_marked xs xa xf xg xb xc xe) (no_place ya yf yb yc ye) = absurd (yf xs xf)
     request_one (not_marked xs xa xf xg xb xc xe) (not_marked ys ya yf yg yb yc ye) = (xc ∙ sym yc, xe ∙ sym ye)
-    request_one {ask} (not_marked xs xa xf xg xb xc xe) (served ys ya yf yg yx) = absurd (xg (subst (λ t. AreMarked s t) (same_place s.torrent lay ask.piece ask.begin ask.length yf xf) yg))
-    request_one {ask} (not_marked xs xa xf xg xb xc xe) (stopped ys ya yf yg yx) = absurd (xg (subst (λ t. AreMarked s t) (same_place s.torrent lay ask.piece ask.begin ask.length yf xf) yg))
+    request_one {ask} (not_marked xs xa xf xg xb xc xe) (served ys ya yf yg yx) = absurd (xg (rw (← (same_place s.torrent lay ask.piece ask.begin ask.length yf xf)) yg))
+    request_one {ask} (not_marked xs xa xf xg xb xc xe) (stopped ys ya yf yg yx) = absurd (xg (rw (← (same_place s.torrent lay ask.piece ask.begin ask.length yf xf)) yg))
     request_one (served xs xa xf xg xx) (ignored ya yb yc ye) = absurd (choked ya xa)
     request_one (served xs xa xf xg xx) (no_place ya yf yb yc ye) = absurd (yf xs xf)
-    request_one {ask} (served xs xa xf xg xx) (not_marked ys ya yf yg yb yc ye) = absurd (yg (subst (λ t. AreMarked s t) (same_place s.torrent lay ask.piece ask.begin ask.length xf yf) xg))
-    request_one {i} {p} {ask} {calls} {f} {n} (served xs xa xf xg xx) (served ys ya yf yg yx) = serves_one xx (subst (λ t. Serves dig s i p ask t calls f n) (same_place s.torrent lay ask.piece ask.begin ask.length yf xf) yx)
+    request_one {ask} (served xs xa xf xg xx) (not_marked ys ya yf yg yb yc ye) = absurd (yg (rw (← (same_place s.torrent lay ask.piece ask.begin ask.length xf yf)) xg))
+    request_one {i} {p} {ask} {calls} {f} {n} (served xs xa xf xg xx) (served ys ya yf yg yx) = serves_one xx (rw (← (same_place s.torrent lay ask.piece ask.begin ask.length yf xf)) yx)
     request_one {ask} {calls} {f} {n} (served xs xa xf xg xx) (stopped ys ya yf yg yx) = absurd (serve_or_stop xx (subst (λ t. StopsAtFault dig s t calls f n) (same_place s.torrent lay ask.piece ask.begin ask.length yf xf) yx))
     request_one (stopped xs xa xf xg xx) (ignored ya yb yc ye) = absurd (choked ya xa)
     request_one (stopped xs xa xf xg xx) (no_place ya yf yb yc ye) = absurd (yf xs xf)
-    request_one {ask} (stopped xs xa xf xg xx) (not_marked ys ya yf yg yb yc ye) = absurd (yg (subst (λ t. AreMarked s t) (same_place s.torrent lay ask.piece ask.begin ask.length xf yf) xg))
+    request_one {ask} (stopped xs xa xf xg xx) (not_marked ys ya yf yg yb yc ye) = absurd (yg (rw (← (same_place s.torrent lay ask.piece ask.begin ask.length xf yf)) xg))
     request_one {ask} {calls} {e} {m} (stopped xs xa xf xg xx) (served ys ya yf yg yx) = absurd (serve_or_stop yx (subst (λ t. StopsAtFault dig s t calls e m) (same_place s.torrent lay ask.piece ask.begin ask.length xf yf) xx))
-    request_one {ask} {calls} {f} {n} (stopped xs xa xf xg xx) (stopped ys ya yf yg yx) = stops_one xx (subst (λ t. StopsAtFault dig s t calls f n) (same_place s.torrent lay ask.piece ask.begin ask.length yf xf) yx)
+    request_one {ask} {calls} {f} {n} (stopped xs xa xf xg xx) (stopped ys ya yf yg yx) = stops_one xx (rw (← (same_place s.torrent lay ask.piece ask.begin ask.length yf xf)) yx)
 
     arrives_one : {i p piece begin bytes calls e f m n : _} → Arrives dig s i p piece begin bytes calls e m → Arrives dig s i p piece begin bytes calls f n → (e ≡ f) × (m ≡ n)
     arrives_one {i} {p} {piece} {begin} {bytes} {calls} {f} x y =
         let block : x.block ≡ y.block = same_block s.torrent lay piece begin (length bytes) x.whole y.whole in
-        let puts = puts_one x.puts (subst (λ b. Puts dig s b bytes calls f y.stored) (sym block) y.puts) in (
+        let puts = puts_one x.puts (rw block y.puts) in (
           puts.0,
           x.after ∙ ap (λ st. with_peer st i (with_payload (length bytes) (record p { asked = without_block x.block p.asked }))) puts.1
               ∙ ap (λ b. with_peer y.stored i (with_payload (length bytes) (record p { asked = without_block b p.asked }))) block ∙ sym y.after,
@@ -296,28 +292,27 @@ module _ (dig : List ℕ → List ℕ) (s : EngineState) where
     answered_one : {key ds es : _} → IsAnswered dig s key ds → IsAnswered dig s key es → ds ≡ es
     answered_one {key} {ds} x y =
         let tree = tree_one roots x.here y.here in
-        answer_one dig (subst (λ k. IsAnswer dig k key.base key.index key.length key.layers ds) tree.1 x.answer) y.answer
+        answer_one dig (rw (← tree.1) x.answer) y.answer
 
     hash_request_one : {p key e f : _} → HandlesHashRequest dig s p key e → HandlesHashRequest dig s p key f → e ≡ f
     hash_request_one {p} {key} (answered ds x a) (answered es y b) = a ∙ ap (λ d. sending p (Hashes key (concat d))) (answered_one x y) ∙ sym b
     hash_request_one (answered ds x a) (rejected y b) = absurd (y ds x)
     hash_request_one (rejected x a) (answered es y b) = absurd (x es y)
-    hash_request_one (rejected x a) (rejected y b) = a ∙ sym b
+    hash_request_one (rejected x a) (rejected y b) = cc
 
     resolves_one : {key next old a b : _} → Resolves key next old a → Resolves key next old b → a ≡ b
-    resolves_one (ours x e) (ours y f) = e ∙ sym f
+    resolves_one (ours x e) (ours y f) = cc
     resolves_one (ours x e) (other y f) = absurd (y x)
     resolves_one (other x e) (ours y f) = absurd (x y)
-    resolves_one (other x e) (other y f) = e ∙ sym f
+    resolves_one (other x e) (other y f) = cc
 
     learns_one : {i p key digests calls e f m n : _} → Learns dig s i p key digests calls e m → Learns dig s i p key digests calls f n → (e ≡ f) × (m ≡ n)
     learns_one {i} {p} {key} {digests} {calls} x y =
         let tree = tree_one roots x.here y.here in
-        let claim : x.claim ≡ y.claim = x.claims.claim_is ∙ sym y.claims.claim_is in
-        let new : x.new ≡ y.new = accepts_one dig (subst (λ c. Accepts dig y.old c x.new) claim (subst (λ k. Accepts dig k x.claim x.new) tree.1 x.accepts)) y.accepts in
+        let claim : x.claim ≡ y.claim = cc in
+        let new : x.new ≡ y.new = accepts_one dig (rw (← claim) (rw (← tree.1) x.accepts)) y.accepts in
         let settles : SettlesIn dig (λ file. true) x.tree key.index (settled_count key) (with_tree s x.tree x.new) calls y.notes y.settled
-        = subst (λ k. SettlesIn dig (λ file. true) x.tree key.index (settled_count key) (with_tree s x.tree k) calls y.notes y.settled) (sym new)
-        (subst (λ t. SettlesIn dig (λ file. true) t key.index (settled_count key) (with_tree s t y.new) calls y.notes y.settled) (sym tree.0) y.settles) in
+        = rw new (rw tree.0 y.settles) in
         let settled = settles_one x.settles settles in
         let hash : x.hash ≡ y.hash = resolves_one x.resolves y.resolves in (
           x.has_effect ∙ ap (λ ns. record no_effect { notes = ns; proofs = new_proofs key digests x.old x.new }) settled.0
@@ -333,13 +328,13 @@ module _ (dig : List ℕ → List ℕ) (s : EngineState) where
         → IsRefused dig k c a → IsRefused dig l d b → a ≢ OutOfMemory → b ≢ OutOfMemory → a ≡ b
     refusals_one {a} {k} {l} {c} x y v w r q m n =
         let tree = tree_one roots x y in
-        refused_one dig (subst (λ c. IsRefused dig l c a) (v.claim_is ∙ sym w.claim_is) (subst (λ k. IsRefused dig k c a) tree.1 r)) q m n
+        refused_one dig (rw (← (v.claim_is ∙ sym w.claim_is)) (rw (← tree.1) r)) q m n
 
     learns_or_not : {i p key digests calls e m a t k c : _} → Learns dig s i p key digests calls e m
         → IsTreeOf s key.root t k → IsClaimBy key digests c → IsRefused dig k c a → a ≢ OutOfMemory → ⊥
     learns_or_not {k} x at by r not_memory =
         let tree = tree_one roots x.here at in
-        accepts_refused dig (subst (λ d. Accepts dig k d x.new) (x.claims.claim_is ∙ sym by.claim_is) (subst (λ l. Accepts dig l x.claim x.new) tree.1 x.accepts)) r not_memory
+        accepts_refused dig (subst (λ d. Accepts dig k d x.new) (x.claims.claim_is ∙ sym by.claim_is) (rw (← tree.1) x.accepts)) r not_memory
 
     hashes_one : {i p key digests calls e f m n : _} → HandlesHashes dig s i p key digests calls e m → HandlesHashes dig s i p key digests calls f n → (e ≡ f) × (m ≡ n)
     hashes_one (unknown_root a b c d) (unknown_root w x y z) = (c ∙ sym y, d ∙ sym z)
@@ -363,8 +358,8 @@ module _ (dig : List ℕ → List ℕ) (s : EngineState) where
 
     have_one : {i p piece e f m n : _} → HandlesHave s i p piece e m → HandlesHave s i p piece f n → (e ≡ f) × (m ≡ n)
     have_one (in_range a b c) (in_range x y z) = (b ∙ sym y, c ∙ sym z)
-    have_one (in_range a b c) (out_of_range x y z) = absurd (omega (arith, a, x))
-    have_one (out_of_range a b c) (in_range x y z) = absurd (omega (arith, a, x))
+    have_one (in_range a b c) (out_of_range x y z) = absurd (omega arith)
+    have_one (out_of_range a b c) (in_range x y z) = absurd (omega arith)
     have_one (out_of_range a b c) (out_of_range x y z) = (b ∙ sym y, c ∙ sym z)
 
     bits_one : {i p bytes e f m n : _} → HandlesBitfield s i p bytes e m → HandlesBitfield s i p bytes f n → (e ≡ f) × (m ≡ n)
@@ -374,10 +369,10 @@ module _ (dig : List ℕ → List ℕ) (s : EngineState) where
     bits_one (wrong a b c) (wrong x y z) = (b ∙ sym y, c ∙ sym z)
 
     hello_one : {h e f : _} → HandlesHello s h e → HandlesHello s h f → e ≡ f
-    hello_one (our_torrent a b) (our_torrent x y) = b ∙ sym y
+    hello_one (our_torrent a b) (our_torrent x y) = cc
     hello_one (our_torrent a b) (other_torrent x y) = absurd (x a)
     hello_one (other_torrent a b) (our_torrent x y) = absurd (a x)
-    hello_one (other_torrent a b) (other_torrent x y) = b ∙ sym y
+    hello_one (other_torrent a b) (other_torrent x y) = cc
 
     message_one : (i : ℕ) (p : PeerState) (msg : Sent) (calls : DeviceCalls) {e f m n : _} → HandlesMessage dig s i p msg calls e m → HandlesMessage dig s i p msg calls f n → (e ≡ f) × (m ≡ n)
     message_one i p KeepAlive calls x y = (x.1 ∙ sym y.1, x.2 ∙ sym y.2)

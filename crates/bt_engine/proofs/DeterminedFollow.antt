@@ -63,11 +63,11 @@ module _ (dig : List ℕ → List ℕ) where
       let not_second = x.least c (needs_in (sym same) (sym peers) y.needs) in
       let file : b.file ≡ c.file = elim (cases_lt b.file c.file) [
         | inl lt ↦ absurd (not_first (inl lt))
-        | inr le ↦ elim (cases_lt c.file b.file) [ inl lt ↦ absurd (not_second (inl lt)) | inr ge ↦ omega (arith, le, ge) ]
+        | inr le ↦ elim (cases_lt c.file b.file) [ inl lt ↦ absurd (not_second (inl lt)) | inr ge ↦ omega arith ]
       ] in
       let block : b.block ≡ c.block = elim (cases_lt b.block c.block) [
         | inl lt ↦ absurd (not_first (inr (file, lt)))
-        | inr le ↦ elim (cases_lt c.block b.block) [ inl lt ↦ absurd (not_second (inr (sym file, lt))) | inr ge ↦ omega (arith, le, ge) ]
+        | inr le ↦ elim (cases_lt c.block b.block) [ inl lt ↦ absurd (not_second (inr (sym file, lt))) | inr ge ↦ omega arith ]
       ] in
       ap (λ n. record b { file = n }) file ∙ ap (λ n. record c { block = n }) block
 
@@ -80,8 +80,8 @@ module _ (dig : List ℕ → List ℕ) where
   hash_one {t} {q} same peers (requests c k x idle least hung plan sent new) (requests d l y idle2 least2 hung2 plan2 sent2 new2) =
       let block : c ≡ d = least_one same peers least least2 in
       let there : tree_of t c.file ≡ Some k = ap (λ (z : EngineState). tree_of z c.file) (sym same) ∙ hung in
-      let tree : k ≡ l = same_some (subst (λ (e : BlockId). tree_of t e.file ≡ Some k) block there) hung2 in
-      let key : x ≡ y = plan_one (subst (λ (e : BlockId). IsPlan l e.block x) block (subst (λ t. IsPlan t c.block x) tree plan)) plan2 in (
+      let tree : k ≡ l = cc in
+      let key : x ≡ y = plan_one (rw (← block) (rw (← tree) plan)) plan2 in (
         sent ∙ ap (λ (z : PeerState). sent_to z (HashRequest x) ∷ []) peers ∙ ap (λ h. sent_to q (HashRequest h) ∷ []) key ∙ sym sent2,
         ap asked_nothing new ∙ ap (λ (z : PeerState). record z { hash = Asked x }) peers ∙ ap (λ h. record (asked_nothing q) { hash = Asked h }) key ∙ sym (ap asked_nothing new2),
       )
@@ -94,7 +94,7 @@ module _ (dig : List ℕ → List ℕ) where
 -- ---- requests of blocks
 
 no_others : (s : EngineState) (p : PeerState) (blocks : List BlockId) (sent : List Sent) → RequestsEach s p blocks sent → other_frames sent ≡ []
-no_others s p [] sent r = ap other_frames r
+no_others s p [] sent r = cc
 no_others s p (b ∷ blocks) sent r = ap other_frames r.4 ∙ ap (λ x. other_frames (x ∷ r.1)) r.2.is ∙ no_others s p blocks r.1 r.3
 
 map_slice_set : {X Y : Type 0} (f : X → Y) (xs : List X) (i : ℕ) (x : X) → map f (slice_set xs i x) ≡ slice_set (map f xs) i (f x)
@@ -104,7 +104,7 @@ map_slice_set f (y ∷ xs) (suc i) x = ap (λ ys. f y ∷ ys) (map_slice_set f x
 
 map_get : {X Y : Type 0} (f : X → Y) (xs : List X) (i : ℕ) {x : X} → slice_get xs i ≡ Some x → slice_get (map f xs) i ≡ Some (f x)
 map_get f [] i e = absurd cc
-map_get f (y ∷ xs) zero e = ap (λ z. Some (f z)) (same_some refl e)
+map_get f (y ∷ xs) zero e = cc
 map_get f (y ∷ xs) (suc i) e = map_get f xs i e
 
 pub other_append : (xs ys : List Sent) → other_frames (xs ++ ys) ≡ other_frames xs ++ other_frames ys

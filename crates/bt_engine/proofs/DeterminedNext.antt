@@ -18,23 +18,22 @@ module _ (dig : List ℕ → List ℕ) where
     taken_one {i} {p} {f} {n} x y =
         let same = takes_one x.takes y.takes in
         let handles : Handles dig (with_peer s i (record p { stream = x.rest })) i (record p { stream = x.rest }) x.event calls f n
-        = subst (λ r. Handles dig (with_peer s i (record p { stream = r })) i (record p { stream = r }) x.event calls f n) (sym same.1)
-        (subst (λ w. Handles dig (with_peer s i (record p { stream = y.rest })) i (record p { stream = y.rest }) w calls f n) (sym same.0) y.handles) in
+        = rw same.1 (rw same.0 y.handles) in
         event_one dig (with_peer s i (record p { stream = x.rest })) lay roots i (record p { stream = x.rest }) x.event calls x.handles handles
 
     move_on : {i j p q out new : _} → (i ≡ j) × (p ≡ q) → GoesOn dig s i p calls out new → GoesOn dig s j q calls out new
-    move_on {j} {p} {out} {new} same g = subst (λ r. GoesOn dig s j r calls out new) same.1 (subst (λ n. GoesOn dig s n p calls out new) same.0 g)
+    move_on {j} {p} {out} {new} same g = rw (← same.1) (rw (← same.0) g)
 
     move_close : {i j p q out new : _} → (i ≡ j) × (p ≡ q) → Closes dig s i p calls out new → Closes dig s j q calls out new
-    move_close {j} {p} {out} {new} same g = subst (λ r. Closes dig s j r calls out new) same.1 (subst (λ n. Closes dig s n p calls out new) same.0 g)
+    move_close {j} {p} {out} {new} same g = rw (← same.1) (rw (← same.0) g)
 
     move_fault : {i j p q out new : _} → (i ≡ j) × (p ≡ q) → ShowsFault s i p calls out new → ShowsFault s j q calls out new
-    move_fault {j} {p} {out} {new} same g = subst (λ r. ShowsFault s j r calls out new) same.1 (subst (λ n. ShowsFault s n p calls out new) same.0 g)
+    move_fault {j} {p} {out} {new} same g = rw (← same.1) (rw (← same.0) g)
 
     close_one : {i p out other new old : _} → Closes dig s i p calls out new → Closes dig s i p calls other old → (out ≡ other) × (new ≡ old)
     close_one {i} x y =
         let same = taken_one x.takes y.takes in
-        let why : Some x.why ≡ Some y.why = sym x.closed ∙ ap (λ (e : Effect). e.close) same.0 ∙ y.closed in (
+        let why : Some x.why ≡ Some y.why = cc in (
           x.is ∙ ap (λ w. record { send = []; close = w; notes = x.effect.notes }) why ∙ ap (λ (e : Effect). record { send = []; close = Some y.why; notes = e.notes }) same.0 ∙ sym y.is,
           x.after ∙ ap (without_peer i) same.1 ∙ sym y.after,
         )
@@ -52,21 +51,20 @@ module _ (dig : List ℕ → List ℕ) where
     pub next_goes : {i p effect mid another other : _} → IsPeer s key i p → TakesEvent dig s i p calls effect mid → effect.close ≡ None
         → StepNext dig s key calls another other → another ≢ Err OutOfMemory → GoesWith i effect mid another other
     next_goes {i} {p} is takes stays (no_peer h c a e) room = absurd (h i p is)
-    next_goes is takes stays (waits j q q_is w c a e) room = absurd (takes_waits takes.takes (subst (λ r. Waits r.stream) (peer_one o q_is is).1 w))
+    next_goes is takes stays (waits j q q_is w c a e) room = absurd (takes_waits takes.takes (rw (← (peer_one o q_is is).1) w))
     next_goes {i} {effect} {other} is takes stays (goes_on j q out q_is g a) room =
         let h = move_on (peer_one o q_is is) g in
         let same = taken_one takes h.takes in
         record {
           sent = h.sent;
-          follows = subst (λ m. FollowsUp dig (with_pending s m effect.proofs) i h.sent other) (sym same.1) (subst (λ (e : Effect). FollowsUp dig (with_pending s h.mid e.proofs) i h.sent other) (sym same.0) h.follows);
+          follows = rw same.1 (rw same.0 h.follows);
           is = a ∙ ap (λ z. Ok (Some z)) (out_is
-              (h.send ∙ ap (λ (e : Effect). e.send ++ haves s h.mid ++ h.sent) (sym same.0) ∙ ap (λ m. effect.send ++ haves s m ++ h.sent) (sym same.1)) h.close
-              (h.notes ∙ ap (λ (e : Effect). e.notes ++ map (λ file. Complete file) (new_complete_files s h.mid)) (sym same.0) ∙ ap (λ m. effect.notes ++ map (λ file. Complete file) (new_complete_files s m)) (sym same.1)));
+              (cc) h.close
+              (cc));
         }
     next_goes is takes stays (closes j q out q_is g a) room =
         let h = move_close (peer_one o q_is is) g in
         let same = taken_one takes h.takes in
-        let no : None ≡ Some h.why = sym stays ∙ ap (λ (e : Effect). e.close) same.0 ∙ h.closed in
         absurd cc
     next_goes is takes stays (faulty j q out q_is g a) room =
         let h = move_fault (peer_one o q_is is) g in
@@ -89,7 +87,7 @@ module _ (dig : List ℕ → List ℕ) where
       laid =
           let peer = record p { stream = takes.rest } in
           let left = event_leaves dig (with_peer s i peer) i (set_same s.peers i there) takes.event calls takes.handles in
-          subst (λ t. IsLaidOut t.piece_length t.files) (sym left.torrent) lay
+          rw left.torrent lay
 
       rest : (other_frames x.sent ≡ other_frames y.sent) × (without_asked m ≡ without_asked n)
       rest = follows_one dig refl x.follows y.follows
@@ -115,19 +113,19 @@ module _ (dig : List ℕ → List ℕ) where
     next_one x (goes_on i p out is g a) memory room =
         on_one is.here g.takes
         (next_goes is g.takes g.stays x memory) (next_goes is g.takes g.stays (goes_on i p out is g a) room)
-    next_one (no_peer xh xc xa xe) (no_peer yh yc ya ye) memory room = are_equal (ap of_next (xa ∙ sym ya)) (xe ∙ sym ye)
+    next_one (no_peer xh xc xa xe) (no_peer yh yc ya ye) memory room = are_equal (ap of_next (cc)) (cc)
     next_one (no_peer xh xc xa xe) (waits yi yp yq yw yc ya ye) memory room = absurd (xh yi yp yq)
     next_one (no_peer xh xc xa xe) (closes yi yp yo yq yg ya) memory room = absurd (xh yi yp yq)
     next_one (no_peer xh xc xa xe) (faulty yi yp yo yq yg ya) memory room = absurd (xh yi yp yq)
     next_one (waits xi xp xq xw xc xa xe) (no_peer yh yc ya ye) memory room = absurd (yh xi xp xq)
-    next_one (waits xi xp xq xw xc xa xe) (waits yi yp yq yw yc ya ye) memory room = are_equal (ap of_next (xa ∙ sym ya)) (xe ∙ sym ye)
-    next_one (waits xi xp xq xw xc xa xe) (closes yi yp yo yq yg ya) memory room = absurd (takes_waits yg.takes.takes (subst (λ p. Waits p.stream) (peer_one o xq yq).1 xw))
-    next_one (waits xi xp xq xw xc xa xe) (faulty yi yp yo yq yg ya) memory room = absurd (waits_fails (subst (λ p. Waits p.stream) (peer_one o xq yq).1 xw) yg.fails)
+    next_one (waits xi xp xq xw xc xa xe) (waits yi yp yq yw yc ya ye) memory room = are_equal (ap of_next (cc)) (cc)
+    next_one (waits xi xp xq xw xc xa xe) (closes yi yp yo yq yg ya) memory room = absurd (takes_waits yg.takes.takes (rw (← (peer_one o xq yq).1) xw))
+    next_one (waits xi xp xq xw xc xa xe) (faulty yi yp yo yq yg ya) memory room = absurd (waits_fails (rw (← (peer_one o xq yq).1) xw) yg.fails)
     next_one (closes xi xp xo xq xg xa) (no_peer yh yc ya ye) memory room = absurd (yh xi xp xq)
-    next_one (closes xi xp xo xq xg xa) (waits yi yp yq yw yc ya ye) memory room = absurd (takes_waits xg.takes.takes (subst (λ p. Waits p.stream) (peer_one o yq xq).1 yw))
-    next_one (closes xi xp xo xq xg xa) (closes yi yp yo yq yg ya) memory room = (let r = close_one xg (move_close (peer_one o yq xq) yg) in are_equal (ap of_next (xa ∙ ap (λ w. Ok (Some w)) r.0 ∙ sym ya)) r.1)
+    next_one (closes xi xp xo xq xg xa) (waits yi yp yq yw yc ya ye) memory room = absurd (takes_waits xg.takes.takes (rw (← (peer_one o yq xq).1) yw))
+    next_one (closes xi xp xo xq xg xa) (closes yi yp yo yq yg ya) memory room = (let r = close_one xg (move_close (peer_one o yq xq) yg) in are_equal (ap of_next (cc)) r.1)
     next_one (closes xi xp xo xq xg xa) (faulty yi yp yo yq yg ya) memory room = absurd (takes_fails (subst (λ p. Takes p.stream xg.takes.event xg.takes.rest) (peer_one o xq yq).1 xg.takes.takes) yg.fails)
     next_one (faulty xi xp xo xq xg xa) (no_peer yh yc ya ye) memory room = absurd (yh xi xp xq)
-    next_one (faulty xi xp xo xq xg xa) (waits yi yp yq yw yc ya ye) memory room = absurd (waits_fails (subst (λ p. Waits p.stream) (peer_one o yq xq).1 yw) xg.fails)
+    next_one (faulty xi xp xo xq xg xa) (waits yi yp yq yw yc ya ye) memory room = absurd (waits_fails (rw (← (peer_one o yq xq).1) yw) xg.fails)
     next_one (faulty xi xp xo xq xg xa) (closes yi yp yo yq yg ya) memory room = absurd (takes_fails (subst (λ p. Takes p.stream yg.takes.event yg.takes.rest) (peer_one o yq xq).1 yg.takes.takes) xg.fails)
-    next_one (faulty xi xp xo xq xg xa) (faulty yi yp yo yq yg ya) memory room = (let r = fault_one xg (move_fault (peer_one o yq xq) yg) in are_equal (ap of_next (xa ∙ ap (λ w. Ok (Some w)) r.0 ∙ sym ya)) r.1)
+    next_one (faulty xi xp xo xq xg xa) (faulty yi yp yo yq yg ya) memory room = (let r = fault_one xg (move_fault (peer_one o yq xq) yg) in are_equal (ap of_next (cc)) r.1)

@@ -26,34 +26,34 @@ fails_one {s} {fault} {other} a b = one_fault s.greeted s.unread fault other a.s
 
 pub peer_one : {s key i j p q : _} → IsOrderly s → IsPeer s key i p → IsPeer s key j q → (i ≡ j) × (p ≡ q)
 peer_one {s} {i} {j} {p} {q} o a b =
-    let keys : p.key.0 ≡ q.key.0 = ap (λ k. k.0) (a.same_key ∙ sym b.same_key) in
+    let keys : p.key.0 ≡ q.key.0 = cc in
     let pairs = to_pairs (λ (x y : PeerState). x.key.0 < y.key.0) s.peers o.in_order in
     let place : i ≡ j = elim (cases_lt i j) [
-      | inl lt ↦ (let before = pairs_at (λ (x y : PeerState). x.key.0 < y.key.0) s.peers i j pairs a.here b.here lt in absurd (omega (arith, before, keys)))
+      | inl lt ↦ (let before = pairs_at (λ (x y : PeerState). x.key.0 < y.key.0) s.peers i j pairs a.here b.here lt in absurd (omega arith))
       | inr le ↦ elim (cases_lt j i) [
-        | inl lt ↦ (let before = pairs_at (λ (x y : PeerState). x.key.0 < y.key.0) s.peers j i pairs b.here a.here lt in absurd (omega (arith, before, keys)))
-        | inr ge ↦ omega (arith, le, ge)
+        | inl lt ↦ (let before = pairs_at (λ (x y : PeerState). x.key.0 < y.key.0) s.peers j i pairs b.here a.here lt in absurd (omega arith))
+        | inr ge ↦ omega arith
       ]
     ] in
-    (place, same_some (ap (slice_get s.peers) (sym place) ∙ a.here) b.here)
+    (place, same_some (cc) b.here)
 
 pub tree_one : {s : EngineState} {root t u k l : _} → AllPairs (λ j k. j.root ≢ k.root) s.trees → IsTreeOf s root t k → IsTreeOf s root u l → (t ≡ u) × (k ≡ l)
 tree_one {s} {t} {u} apart a b =
     let pairs = to_pairs (λ (x y : Facts). x.root ≢ y.root) s.trees apart in
     let place : t ≡ u = elim (cases_lt t u) [
-      | inl lt ↦ absurd (pairs_at (λ (x y : Facts). x.root ≢ y.root) s.trees t u pairs a.here b.here lt (a.same_root ∙ sym b.same_root))
+      | inl lt ↦ absurd (pairs_at (λ (x y : Facts). x.root ≢ y.root) s.trees t u pairs a.here b.here lt (cc))
       | inr le ↦ elim (cases_lt u t) [
-        | inl lt ↦ absurd (pairs_at (λ (x y : Facts). x.root ≢ y.root) s.trees u t pairs b.here a.here lt (b.same_root ∙ sym a.same_root))
-        | inr ge ↦ omega (arith, le, ge)
+        | inl lt ↦ absurd (pairs_at (λ (x y : Facts). x.root ≢ y.root) s.trees u t pairs b.here a.here lt (cc))
+        | inr ge ↦ omega arith
       ]
     ] in
-    (place, same_some (ap (slice_get s.trees) (sym place) ∙ a.here) b.here)
+    (place, same_some (cc) b.here)
 
 -- the nearest held node
 pub anchor_one : {k leaf a b : _} → IsAnchor k leaf a → IsAnchor k leaf b → a ≡ b
 anchor_one {a} {b} x y = elim (cases_lt a b) [
   | inl lt ↦ absurd (some_not_none x.held (y.nearest a lt))
-  | inr le ↦ elim (cases_lt b a) [ inl lt ↦ absurd (some_not_none y.held (x.nearest b lt)) | inr ge ↦ omega (arith, le, ge) ]
+  | inr le ↦ elim (cases_lt b a) [ inl lt ↦ absurd (some_not_none y.held (x.nearest b lt)) | inr ge ↦ omega arith ]
 ]
 
 -- ---- what is known
@@ -73,13 +73,13 @@ module _ (dig : List ℕ → List ℕ) where
   accepted_in x y layer i d e = elim (x.joins.only layer i d e) [ inl old ↦ y.joins.kept layer i d old | inr new ↦ y.joins.added layer i d new.0 new.1 ]
 
   pub accepts_one : {k c a b : _} → Accepts dig k c a → Accepts dig k c b → a ≡ b
-  accepts_one {a} {b} x y = facts_is (x.joins.file_length ∙ sym y.joins.file_length) (x.joins.root ∙ sym y.joins.root)
+  accepts_one {a} {b} x y = facts_is (cc) (cc)
       (same_map a.nodes b.nodes (λ q. both_ways (held_at a q.0 q.1) (held_at b q.0 q.1) (accepted_in x y q.0 q.1) (accepted_in y x q.0 q.1)))
 
   -- an answer's digests are one list
   pub answer_one : {k base index count layers ds es : _} → IsAnswer dig k base index count layers ds → IsAnswer dig k base index count layers es → ds ≡ es
   answer_one {ds} {es} a b =
-      ext_get_or [] ds es (a.size ∙ sym b.size) (λ t lt. same_some (a.values t lt) (b.values t (omega (arith, lt, a.size, b.size))))
+      ext_get_or [] ds es (cc) (λ t lt. same_some (a.values t lt) (b.values t (omega arith)))
 
   -- ---- refusals
 
@@ -110,11 +110,11 @@ module _ (dig : List ℕ → List ℕ) where
   -- the highest difference is one
   same_inputs : {k c layer i o t p u : _} → DiffersBelow dig k c layer i o t → DiffersBelow dig k c layer i p u → (o ≡ p) × (t ≡ u)
   same_inputs {k} {c} {i} a b =
-      let below : a.below ≡ b.below = omega (arith, a.above, b.above) in
-      let ol : a.our_left ≡ b.our_left = same_some (ap (λ n. value_at dig k n (2 * i)) (sym below) ∙ a.knows_left) b.knows_left in
-      let or : a.our_right ≡ b.our_right = same_some (ap (λ n. value_at dig k n (2 * i + 1)) (sym below) ∙ a.knows_right) b.knows_right in
-      let tl : a.their_left ≡ b.their_left = claims_one dig c b.below (2 * i) a.their_left b.their_left (subst (λ n. Claims dig c n (2 * i) a.their_left) below a.claims_left) b.claims_left in
-      let tr : a.their_right ≡ b.their_right = claims_one dig c b.below (2 * i + 1) a.their_right b.their_right (subst (λ n. Claims dig c n (2 * i + 1) a.their_right) below a.claims_right) b.claims_right in (
+      let below : a.below ≡ b.below = omega arith in
+      let ol : a.our_left ≡ b.our_left = cc in
+      let or : a.our_right ≡ b.our_right = cc in
+      let tl : a.their_left ≡ b.their_left = claims_one dig c b.below (2 * i) a.their_left b.their_left (rw (← below) a.claims_left) b.claims_left in
+      let tr : a.their_right ≡ b.their_right = claims_one dig c b.below (2 * i + 1) a.their_right b.their_right (rw (← below) a.claims_right) b.claims_right in (
         a.is_ours ∙ ap (λ x. x ++ a.our_right) ol ∙ ap (λ x. b.our_left ++ x) or ∙ sym b.is_ours,
         a.is_theirs ∙ ap (λ x. x ++ a.their_right) tl ∙ ap (λ x. b.their_left ++ x) tr ∙ sym b.is_theirs,
       )
@@ -124,10 +124,10 @@ module _ (dig : List ℕ → List ℕ) where
       let one = a.highest l j p u b.differs in
       let two = b.highest layer i o t a.differs in
       let place : (layer ≡ l) × (i ≡ j) = elim one [
-        | inl below ↦ elim two [ inl above ↦ absurd (omega (arith, below, above)) | inr same ↦ absurd (omega (arith, below, same.0)) ]
-        | inr same ↦ elim two [ inl above ↦ absurd (omega (arith, same.0, above)) | inr also ↦ (sym same.0, omega (arith, same.1, also.1)) ]
+        | inl below ↦ elim two [ inl above ↦ absurd (omega arith) | inr same ↦ absurd (omega arith) ]
+        | inr same ↦ elim two [ inl above ↦ absurd (omega arith) | inr also ↦ (sym same.0, omega arith) ]
       ] in
-      let moved : DiffersBelow dig k c l j o t = subst (λ n. DiffersBelow dig k c n j o t) place.0 (subst (λ n. DiffersBelow dig k c layer n o t) place.1 a.differs) in
+      let moved : DiffersBelow dig k c l j o t = rw (← place.0) (rw (← place.1) a.differs) in
       let inputs = same_inputs moved b.differs in
       ap (λ n. Clash n i o t) place.0 ∙ ap (λ n. Clash l n o t) place.1 ∙ ap (λ x. Clash l j x t) inputs.0 ∙ ap (λ x. Clash l j p x) inputs.1
 

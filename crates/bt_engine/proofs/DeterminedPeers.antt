@@ -16,13 +16,13 @@ bit_one zero zero p q e = refl
 bit_one zero (suc zero) p q e = absurd cc
 bit_one (suc zero) zero p q e = absurd cc
 bit_one (suc zero) (suc zero) p q e = refl
-bit_one (suc (suc a)) b p q e = absurd (omega (arith, p))
-bit_one a (suc (suc b)) p q e = absurd (omega (arith, q))
+bit_one (suc (suc a)) b p q e = absurd (omega arith)
+bit_one a (suc (suc b)) p q e = absurd (omega arith)
 
 -- a byte is the sum of its bits
 byte_sum : {x : ℕ} → x < 256
     → x ≡ 128 * (x / 128 % 2) + 64 * (x / 64 % 2) + 32 * (x / 32 % 2) + 16 * (x / 16 % 2) + 8 * (x / 8 % 2) + 4 * (x / 4 % 2) + 2 * (x / 2 % 2) + x / 1 % 2
-byte_sum lt = omega (arith, lt)
+byte_sum lt = omega arith
 
 byte_one : {x y : ℕ} → x < 256 → y < 256 → bits_of x ≡ bits_of y → x ≡ y
 byte_one {x} {y} p q e =
@@ -34,21 +34,21 @@ byte_one {x} {y} p q e =
     let b5 : x / 4 % 2 ≡ y / 4 % 2 = bit_one (x / 4 % 2) (y / 4 % 2) (omega arith) (omega arith) (ap (λ bs. get_or bs 5 false) e) in
     let b6 : x / 2 % 2 ≡ y / 2 % 2 = bit_one (x / 2 % 2) (y / 2 % 2) (omega arith) (omega arith) (ap (λ bs. get_or bs 6 false) e) in
     let b7 : x / 1 % 2 ≡ y / 1 % 2 = bit_one (x / 1 % 2) (y / 1 % 2) (omega arith) (omega arith) (ap (λ bs. get_or bs 7 false) e) in
-    omega (arith, byte_sum p, byte_sum q, b0, b1, b2, b3, b4, b5, b6, b7)
+    omega (arith, byte_sum p, byte_sum q)
 
 pub bytes_one : (xs ys : List ℕ) → All (λ byte. byte < 256) xs → All (λ byte. byte < 256) ys → length xs ≡ length ys → bits_in xs ≡ bits_in ys → xs ≡ ys
 bytes_one [] [] p q size e = refl
-bytes_one [] (y ∷ ys) p q size e = absurd (omega (arith, size))
-bytes_one (x ∷ xs) [] p q size e = absurd (omega (arith, size))
+bytes_one [] (y ∷ ys) p q size e = absurd (omega arith)
+bytes_one (x ∷ xs) [] p q size e = absurd (omega arith)
 bytes_one (x ∷ xs) (y ∷ ys) p q size e =
-    let parts = split_one (bits_of x) (bits_of y) (length-bits_of x ∙ sym (length-bits_of y)) e in
+    let parts = split_one (bits_of x) (bits_of y) (cc) e in
     ap (λ z. z ∷ xs) (byte_one (p 0 x (omega arith)) (q 0 y (omega arith)) parts.0)
-    ∙ ap (λ zs. y ∷ zs) (bytes_one xs ys (λ k d lt. p (suc k) d (omega (arith, lt))) (λ k d lt. q (suc k) d (omega (arith, lt))) (omega (arith, size)) parts.1)
+    ∙ ap (λ zs. y ∷ zs) (bytes_one xs ys (λ k d lt. p (suc k) d (omega arith)) (λ k d lt. q (suc k) d (omega arith)) (omega arith) parts.1)
 
 bitfield_one : {s xs ys : _} → IsOurBitfield s xs → IsOurBitfield s ys → xs ≡ ys
 bitfield_one {s} {xs} {ys} x y =
-    let size : length xs ≡ length ys = x.size ∙ sym y.size in
-    bytes_one xs ys x.are_bytes y.are_bytes size (x.bits ∙ ap (λ n. map (is_whole s) (piece_numbers s) ++ replicate (8 * n - total_pieces s.torrent) false) size ∙ sym y.bits)
+    let size : length xs ≡ length ys = cc in
+    bytes_one xs ys x.are_bytes y.are_bytes size (cc)
 
 -- ---- peers that come and go
 
@@ -56,18 +56,18 @@ pub connect_one : {s m n a b : _} → StepConnect s a m → StepConnect s b n �
 connect_one (no_memory x y z w) q r t = absurd (r z)
 connect_one q (no_memory x y z w) r t = absurd (t z)
 connect_one {s} (joins key bytes lt below is bits e f) (joins other more lt2 below2 is2 bits2 e2 f2) r t =
-    let keys : key ≡ other = same_peer key other (is ∙ sym is2) in
+    let keys : key ≡ other = same_peer key other (cc) in
     let fields : bytes ≡ more = bitfield_one bits bits2 in
-    are_equal (ap of_connect (e ∙ ap (λ k. Ok (k, greeting s k bytes)) keys ∙ ap (λ bs. Ok (other, greeting s other bs)) fields ∙ sym e2))
-    (f ∙ ap (λ k. record s { peers = s.peers ++ new_peer s k ∷ []; next_key = s.next_key + 1 }) keys ∙ sym f2)
-connect_one (joins key bytes lt below is bits e f) (full x y z) r t = absurd (omega (arith, lt, x))
-connect_one (joins key bytes lt below is bits e f) (spent x y z w) r t = absurd (omega (arith, below, y))
-connect_one (full x y z) (joins key bytes lt below is bits e f) r t = absurd (omega (arith, lt, x))
-connect_one (full x y z) (full u v w) r t = are_equal (ap of_connect (y ∙ sym v)) (z ∙ sym w)
-connect_one (full x y z) (spent u v w o) r t = absurd (omega (arith, x, u))
-connect_one (spent x y z w) (joins key bytes lt below is bits e f) r t = absurd (omega (arith, below, y))
-connect_one (spent u v w o) (full x y z) r t = absurd (omega (arith, x, u))
-connect_one (spent x y z w) (spent u v o q) r t = are_equal (ap of_connect (z ∙ sym o)) (w ∙ sym q)
+    are_equal (ap of_connect (cc))
+    (cc)
+connect_one (joins key bytes lt below is bits e f) (full x y z) r t = absurd (omega arith)
+connect_one (joins key bytes lt below is bits e f) (spent x y z w) r t = absurd (omega arith)
+connect_one (full x y z) (joins key bytes lt below is bits e f) r t = absurd (omega arith)
+connect_one (full x y z) (full u v w) r t = are_equal (ap of_connect (cc)) (cc)
+connect_one (full x y z) (spent u v w o) r t = absurd (omega arith)
+connect_one (spent x y z w) (joins key bytes lt below is bits e f) r t = absurd (omega arith)
+connect_one (spent u v w o) (full x y z) r t = absurd (omega arith)
+connect_one (spent x y z w) (spent u v o q) r t = are_equal (ap of_connect (cc)) (cc)
 
 pub feed_one : {s m n key bytes a b : _} → IsOrderly s → StepFeed s key bytes a m → StepFeed s key bytes b n → a ≢ Err OutOfMemory → b ≢ Err OutOfMemory
     → AreOne (of_feed a) m (of_feed b) n
@@ -75,16 +75,16 @@ feed_one o (no_room_to_feed i p x y z) q r t = absurd (r y)
 feed_one o q (no_room_to_feed i p x y z) r t = absurd (t y)
 feed_one {s} {bytes} o (feeds i p x y z) (feeds j q u v w) r t =
     let same = peer_one o x u in
-    are_equal (ap of_feed (y ∙ sym v)) (z ∙ ap (λ k. with_peer s k (record p { stream = fed p.stream bytes })) same.0 ∙ ap (λ (l : PeerState). with_peer s j (record l { stream = fed l.stream bytes })) same.1 ∙ sym w)
+    are_equal (ap of_feed (cc)) (cc)
 feed_one o (feeds i p x y z) (not_fed u v w) r t = absurd (u i p x)
 feed_one o (not_fed u v w) (feeds i p x y z) r t = absurd (u i p x)
-feed_one o (not_fed x y z) (not_fed u v w) r t = are_equal (ap of_feed (y ∙ sym v)) (z ∙ sym w)
+feed_one o (not_fed x y z) (not_fed u v w) r t = are_equal (ap of_feed (cc)) (cc)
 
 pub lost_one : {s m n key a b : _} → IsOrderly s → StepLost s key a m → StepLost s key b n → AreOne (of_lost a) m (of_lost b) n
-lost_one {s} o (goes i p x y z) (goes j q u v w) = are_equal (ap of_lost (y ∙ sym v)) (z ∙ ap (λ k. without_peer k s) (peer_one o x u).0 ∙ sym w)
+lost_one {s} o (goes i p x y z) (goes j q u v w) = are_equal (ap of_lost (cc)) (z ∙ ap (λ k. without_peer k s) (peer_one o x u).0 ∙ sym w)
 lost_one o (goes i p x y z) (not_lost u v w) = absurd (u i p x)
 lost_one o (not_lost u v w) (goes i p x y z) = absurd (u i p x)
-lost_one o (not_lost x y z) (not_lost u v w) = are_equal (ap of_lost (y ∙ sym v)) (z ∙ sym w)
+lost_one o (not_lost x y z) (not_lost u v w) = are_equal (ap of_lost (cc)) (cc)
 
 -- ---- peers to serve
 
@@ -97,7 +97,7 @@ apart_at_first {s} o i j p q x y e =
     let u = get_map (rechoked_peer s) s.peers i x in
     let v = get_map (rechoked_peer s) s.peers j y in
     (peer_one o
-    (record { here = u.1; same_key = ap (λ (z : PeerState). z.key) u.2 ∙ e ∙ sym (ap (λ (z : PeerState). z.key) v.2) })
+    (record { here = u.1; same_key = cc })
     (record { here = v.1; same_key = refl })).0
 
 pub rechoke_one : {dig : List ℕ → List ℕ} {s m n : EngineState} {a b : Option Output} → IsLaidOut s.torrent.piece_length s.torrent.files → IsOrderly s → StepRechoke dig s a m → StepRechoke dig s b n → a ≢ None → b ≢ None → AreOne (of_rechoke a) m (of_rechoke b) n
@@ -107,10 +107,10 @@ rechoke_one {dig} {s} {m} {n} {a} {b} lay o (rechokes out x e) (rechokes other y
     let each = each_one dig _ (rechoked s) (rechoked s) x.sent y.sent m n refl x.follows y.follows in
     let send : other_frames (chokes_sent s ++ x.sent) ≡ other_frames (chokes_sent s ++ y.sent)
     = other_append (chokes_sent s) x.sent ∙ ap (λ zs. other_frames (chokes_sent s) ++ zs) each.0 ∙ sym (other_append (chokes_sent s) y.sent) in
-    let own : of_rechoke a ≡ sends s x.sent = ap of_rechoke (e ∙ ap (λ z. Some z) x.is) in
-    let their : of_rechoke b ≡ sends s y.sent = ap of_rechoke (f ∙ ap (λ z. Some z) y.is) in
+    let own : of_rechoke a ≡ sends s x.sent = cc in
+    let their : of_rechoke b ≡ sends s y.sent = cc in
     record {
-      plain = ap plain_answer own ∙ ap (λ zs. of_rechoke (Some (record { send = zs; close = None; notes = [] }))) send ∙ sym (ap plain_answer their);
+      plain = cc;
       rest = each.1;
       whole = λ same. (
           let behind = asks_to (ap sent_by own) (ap sent_by their) same in
@@ -124,7 +124,6 @@ rechoke_one {dig} {s} {m} {n} {a} {b} lay o (rechokes out x e) (rechokes other y
 no_fault_among : (files : List ℕ) {c : _} → Contains (syncs_of files) c → c.1 ≡ sync_fault → ⊥
 no_fault_among files among e =
     let m = contains_map (λ file. (file, sync_made)) files among in
-    let no : sync_made ≡ sync_fault = ap (λ (x : ℕ × Call). x.1) m.2 ∙ e in
     absurd cc
 
 synced_or_not : (files before : List ℕ) (file : ℕ) → syncs_of files ≡ syncs_of before ++ (file, sync_fault) ∷ [] → ⊥
@@ -132,7 +131,7 @@ synced_or_not files before file e =
     no_fault_among files (subst (λ cs. Contains cs (file, sync_fault)) (sym e) (Contains-append_right (syncs_of before) ((file, sync_fault) ∷ []) (file, sync_fault) (here [] refl))) refl
 
 pub flush_one : {s m n calls a b : _} → StepFlush s calls a m → StepFlush s calls b n → AreOne (of_flush a) m (of_flush b) n
-flush_one (syncs x y z w) (syncs u v o q) = are_equal (ap of_flush (z ∙ sym o)) (w ∙ sym q)
-flush_one {s} (syncs x y z w) (fails before file after u v o q) = absurd (synced_or_not (data_files s) before file (sym y ∙ v))
-flush_one {s} (fails before file after u v o q) (syncs x y z w) = absurd (synced_or_not (data_files s) before file (sym y ∙ v))
-flush_one (fails before file after u v o q) (fails before2 file2 after2 x y z w) = are_equal (ap of_flush (o ∙ sym z)) (q ∙ sym w)
+flush_one (syncs x y z w) (syncs u v o q) = are_equal (ap of_flush (cc)) (cc)
+flush_one {s} (syncs x y z w) (fails before file after u v o q) = absurd (synced_or_not (data_files s) before file (cc))
+flush_one {s} (fails before file after u v o q) (syncs x y z w) = absurd (synced_or_not (data_files s) before file (cc))
+flush_one (fails before file after u v o q) (fails before2 file2 after2 x y z w) = are_equal (ap of_flush (cc)) (cc)

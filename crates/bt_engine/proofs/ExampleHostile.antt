@@ -9,17 +9,12 @@ use Rattle.bt_engine.proofs.ExampleThreeEngine.{block, output_of, engine, whole_
 
 -- how long a key is
 key_size : (root p q r s : List ℕ) → length root ≡ 32 → length p ≡ 4 → length q ≡ 4 → length r ≡ 4 → length s ≡ 4 → length (root ++ p ++ q ++ r ++ s) ≡ 48
-key_size root p q r s a b c d e = omega (arith, length-append (root ++ p ++ q ++ r) s, length-append (root ++ p ++ q) r, length-append (root ++ p) q, length-append root p, a, b, c, d, e)
+key_size root p q r s a b c d e = omega (arith, length-append (root ++ p ++ q ++ r) s, length-append (root ++ p ++ q) r, length-append (root ++ p) q, length-append root p)
 
 hashes_fit : {root digests : _} → length root ≡ 32 → length digests ≡ 128 → Fits (Hashes (record { root = root; base = 0; index = 0; length = 4; layers = 1 }) digests)
 hashes_fit {root} {digests} root_size size = record {
-  limit = omega (
-    arith,
-    length-append (root ++ to_be_bytes w32 0 ++ to_be_bytes w32 0 ++ to_be_bytes w32 4 ++ to_be_bytes w32 1) digests,
-    key_size root (to_be_bytes w32 0) (to_be_bytes w32 0) (to_be_bytes w32 4) (to_be_bytes w32 1) root_size refl refl refl refl,
-    size,
-  );
-  whole = ap (λ n. n % 32) size;
+  limit = omega (arith, length-append (root ++ to_be_bytes w32 0 ++ to_be_bytes w32 0 ++ to_be_bytes w32 4 ++ to_be_bytes w32 1) digests, key_size root (to_be_bytes w32 0) (to_be_bytes w32 0) (to_be_bytes w32 4) (to_be_bytes w32 1) root_size refl refl refl refl, );
+  whole = cc;
 }
 
 far_fits : {root : _} → length root ≡ 32 → Fits (HashRequest (record { root = root; base = 0; index = 4294967294; length = 2; layers = 0 }))
@@ -167,7 +162,7 @@ module _ (dig : List ℕ → List ℕ) (b : ThreeBlocks) (infohash : List ℕ) w
 pub hostile_are_runs : (dig : List ℕ → List ℕ) → IsDigest dig → HostileMessagesAreRuns dig
 hostile_are_runs dig sizes b other infohash whole not_zeros differs = record {
   past_last = closes_on dig b infohash {m = Have 1} BadPiece (omega arith) (record { limit = omega arith; whole = tt }) (refl, out_of_range (omega arith) refl refl);
-  long_bitfield = closes_on dig b infohash {m = Bitfield (128 ∷ 0 ∷ [])} BadBitfield tt (record { limit = omega arith; whole = tt }) (refl, wrong_length (λ e. absurd (omega (arith, e))) refl refl);
+  long_bitfield = closes_on dig b infohash {m = Bitfield (128 ∷ 0 ∷ [])} BadBitfield tt (record { limit = omega arith; whole = tt }) (refl, wrong_length (λ e. absurd (omega arith)) refl refl);
   second_handshake = second_handshake dig b infohash;
   zero_root = closes_on dig b infohash UnknownRoot (key_is dig b infohash refl) (hashes_fit refl (leaves_length dig sizes b))
       (unknown_root (zeros_unknown dig b infohash not_zeros) refl refl refl);
@@ -203,14 +198,14 @@ wrong_is_run dig b wrong infohash k other size known =
                   handles = arrives (record {
                     block = block 1;
                     stored = engine dig b infohash k Missing Missing Missing blocks_peer;
-                    whole = subst (λ n. IsWholeBlock (three_torrent dig b infohash) 0 16384 n (block 1)) (sym other.whole) (whole_second dig b infohash);
+                    whole = rw other.whole (whole_second dig b infohash);
                     asked = (1, omega arith, refl);
                     puts = record {
                       file = record { tree = 0; states = Missing ∷ Missing ∷ Missing ∷ [] };
                       tree = k;
                       result = Ok Wrong;
                       is_file = record { here = refl; hung = refl };
-                      due = (record { inside = subst (λ n. 1 < block_count n) (sym size) (omega arith); whole = other.whole ∙ sym (ap (λ n. block_length n 1) size) }, refl, (dig b.second, known, other.differs));
+                      due = (record { inside = rw size (omega arith); whole = cc }, refl, (dig b.second, known, other.differs));
                       made = refl;
                       has_effect = refl;
                       after = refl;

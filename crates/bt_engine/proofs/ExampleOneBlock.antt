@@ -36,10 +36,9 @@ module _ (dig : List ℕ → List ℕ) (infohash : List ℕ) where
   no_needs x p q b needs =
       let y : (y : BlockState) × (state_at (engine x p) b ≡ Some y) = elim needs.not_marked [ inl m ↦ (Missing, m) | inr w ↦ (Waiting, w) ] in
       let one = one_block b.file b.block y.1 in
-      let at_file : tree_of (engine x p) b.file ≡ Some (root_facts 3 (dig abc)) = ap (tree_of (engine x p)) one.0 in
-      let same : needs.tree ≡ root_facts 3 (dig abc) = same_some needs.hung at_file in
+      let at_file : tree_of (engine x p) b.file ≡ Some (root_facts 3 (dig abc)) = cc in
+      let same : needs.tree ≡ root_facts 3 (dig abc) = cc in
       let known : value_at dig needs.tree 0 b.block ≡ Some (dig abc) = ap (λ k. value_at dig k 0 b.block) same ∙ ap (value_at dig (root_facts 3 (dig abc)) 0) one.1 ∙ value_here dig in
-      let both : None ≡ Some (dig abc) = sym needs.unknown ∙ known in
       absurd cc
 
   whole_block : IsWholeBlock (abc_torrent dig infohash) 0 0 3 the_block
@@ -54,13 +53,13 @@ module _ (dig : List ℕ → List ℕ) (infohash : List ℕ) where
 
   -- a peer without a piece is of no interest, and one with the piece is as long as the block is missing
   dull : (unread : Stream) (b : BlockId) → ¬ Has (engine Missing (peer_with unread false true false Idle [] 0)) (peer_with unread false true false Idle [] 0) b
-  dull unread b has = let p = and_then_some (λ piece. slice_get (false ∷ []) piece) _ has in let one = one_there p.0 p.2 in let wrong : false ≡ true = one.1 in absurd cc
+  dull unread b has = let p = and_then_some (λ piece. slice_get (false ∷ []) piece) _ has in let one = one_there p.0 p.2 in absurd cc
 
   interesting : (p : PeerState) → p.has ≡ true ∷ [] → IsInteresting (engine Missing p) p
   interesting p has = (the_block, ap (λ h. slice_get h 0) has, refl)
 
   none_missing : (p : PeerState) (b : BlockId) → ¬ (state_at (engine Marked p) b ≡ Some Missing)
-  none_missing p b e = let one = one_block b.file b.block e in let wrong : Marked ≡ Missing = one.2 in absurd cc
+  none_missing p b e = let one = one_block b.file b.block e in absurd cc
 
   -- what follows where nothing is requested
   quietly : (x : BlockState) (p : PeerState) {q sent : _} → q ≡ record p { am_interested = q.am_interested } → ((q.am_interested ≡ true) ↔ IsInteresting (engine x p) p) → sent ≡ interest_sent p p.am_interested q.am_interested
@@ -90,8 +89,8 @@ module _ (dig : List ℕ → List ℕ) (infohash : List ℕ) where
       }
     where
       never : (q.peer_choking ≡ true) ⊎ (q.am_interested ≡ false) → q.peer_choking ≡ false → q.am_interested ≡ true → ⊥
-      never (inl chokes) open_to interested = let wrong : true ≡ false = sym chokes ∙ open_to in absurd cc
-      never (inr dull) open_to interested = let wrong : false ≡ true = sym dull ∙ interested in absurd cc
+      never (inl chokes) open_to interested = absurd cc
+      never (inr dull) open_to interested = absurd cc
 
   after_hello : FollowsUp dig (engine Missing (peer_with all_taken false true false Idle [] 0)) 0 [] (engine Missing (peer_with all_taken false true false Idle [] 0))
   after_hello = quietly Missing _ refl (λ e. absurd cc, λ i. absurd (dull all_taken i.0 i.1)) refl (inl refl) (omega arith)
@@ -135,10 +134,10 @@ module _ (dig : List ℕ → List ℕ) (infohash : List ℕ) where
         asks = record {
           shut = λ x. elim x [ inl e ↦ absurd cc | inr e ↦ absurd cc ];
           are_open = λ b c. elim (contains_cases [] c) [
-            | inl same ↦ subst (λ x. IsOpen (engine Missing p) p x) same (record { has = refl; missing = refl; free = unasked p the_block refl })
+            | inl same ↦ rw (← same) (record { has = refl; missing = refl; free = unasked p the_block refl })
             | inr more ↦ absurd (contains_none more)
           ];
-          distinct = λ i j d lt below. absurd (omega (arith, lt, below));
+          distinct = λ i j d lt below. absurd (omega arith);
           few = omega arith;
           all = λ e f. inr (λ b may. here [] (the_one p may.missing));
         };
@@ -262,14 +261,14 @@ module _ (dig : List ℕ → List ℕ) (infohash : List ℕ) where
   starts =
       record {
         is_new = record {
-          roots = λ i j d lt below. absurd (omega (arith, lt, below));
+          roots = λ i j d lt below. absurd (omega arith);
           each_tree = λ t k at. record { number = 0; file = abc_file dig; listed = refl; some = omega arith; says = by_root refl (sym (one_there t at).1) };
           count = refl;
           each_file = λ i file f listed at.
               let one = one_there i at in
               let same : abc_file dig ≡ file = (one_there i listed).1 in
               record {
-                missing = ap (λ (q : FileState). q.states) (sym one.1) ∙ ap (λ (g : File). new_states g.length) same;
+                missing = cc;
                 hung = λ some. (root_facts 3 (dig abc), ap (λ (q : FileState). slice_get (root_facts 3 (dig abc) ∷ []) q.tree) (sym one.1), ap (λ (g : File). g.root) same, ap (λ (g : File). g.length) same);
               };
         };

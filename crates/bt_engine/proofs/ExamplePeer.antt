@@ -19,7 +19,7 @@ taken_unchoke = record { bytes = unchoke_bytes; event = record { is_message = tt
 pub taken_hello : (infohash : List ℕ) → length infohash ≡ 32 → Takes (stream (handshake_spelling (their_handshake infohash)) false false) (Hello (their_handshake infohash)) all_taken
 taken_hello infohash size = record {
   bytes = handshake_spelling (their_handshake infohash);
-  event = record { reserved = replicate 8 0; is_handshake = record { infohash = omega (arith, length-take 20 infohash, size); peer_id = refl }; eight = refl; spelled = refl };
+  event = record { reserved = replicate 8 0; is_handshake = record { infohash = omega (arith, length-take 20 infohash); peer_id = refl }; eight = refl; spelled = refl };
   front = sym (append-nil (handshake_spelling (their_handshake infohash)));
   running = refl;
   greeted = refl;
@@ -56,6 +56,6 @@ taken_message {m} is_message fits = record {
 
 pub piece_fits : (begin : ℕ) {bytes : _} → length bytes ≡ 16384 → Fits (Piece 0 begin bytes)
 piece_fits begin {bytes} size = record {
-  limit = omega (arith, length-append (to_be_bytes w32 0 ++ to_be_bytes w32 begin) bytes, length-append (to_be_bytes w32 0) (to_be_bytes w32 begin), size);
+  limit = omega (arith, length-append (to_be_bytes w32 0 ++ to_be_bytes w32 begin) bytes, length-append (to_be_bytes w32 0) (to_be_bytes w32 begin));
   whole = tt;
 }

@@ -68,17 +68,17 @@ module _ (dig : List ℕ → List ℕ) (b : ThreeBlocks) (infohash : List ℕ) (
         blocks = [];
         here = refl;
         interest = record {
-          interest = (λ e. (let wrong : false ≡ true = sym dull ∙ e in absurd cc), λ i. absurd (not_missing turn p i.0 i.2));
+          interest = (λ e. absurd cc, λ i. absurd (not_missing turn p i.0 i.2));
           others = refl;
-          told = sym (ap (λ x. interest_sent p x x) dull);
+          told = cc;
         };
         hashes = rests (λ idle c. no_needs turn p p c) refl refl;
         asks = record {
           shut = λ _. refl;
           are_open = λ c among. absurd (contains_none among);
-          distinct = λ i j d lt below. absurd (omega (arith, lt, below));
+          distinct = λ i j d lt below. absurd (omega arith);
           few = few;
-          all = λ open_to interested. (let wrong : false ≡ true = sym dull ∙ interested in absurd cc);
+          all = λ open_to interested. absurd cc;
         };
         requests = refl;
         all = refl;
@@ -128,8 +128,8 @@ module _ (dig : List ℕ → List ℕ) (b : ThreeBlocks) (infohash : List ℕ) (
 
   cut : AreWhole b → cut_from range_span two_blocks ≡ drop 16334 b.first ++ take 50 b.second
   cut whole =
-      let front : 100 ≡ length (drop 16334 b.first) + 50 = omega (arith, length-drop 16334 b.first, whole.first) in
-      ap (λ l. take 100 l) (drop-append-le 16334 b.first (b.second ++ []) (omega (arith, whole.first)))
+      let front : 100 ≡ length (drop 16334 b.first) + 50 = omega (arith, length-drop 16334 b.first) in
+      ap (λ l. take 100 l) (drop-append-le 16334 b.first (b.second ++ []) (omega arith))
       ∙ ap (λ n. take n (drop 16334 b.first ++ (b.second ++ []))) front
       ∙ take-append-add (drop 16334 b.first) (b.second ++ []) 50
       ∙ ap (λ l. drop 16334 b.first ++ take 50 l) (append-nil b.second)
@@ -160,10 +160,10 @@ module _ (dig : List ℕ → List ℕ) (b : ThreeBlocks) (infohash : List ℕ) (
             right = record {
               made = refl;
               right = of_two (λ i. IsRight dig k i (two_blocks i))
-                  (record { whole = whole.first ∙ sym (ap (λ n. block_length n 0) knows.file_length); leaf = knows.first })
-                  (record { whole = whole.second ∙ sym (ap (λ n. block_length n 1) knows.file_length); leaf = knows.second });
+                  (record { whole = cc; leaf = knows.first })
+                  (record { whole = cc; leaf = knows.second });
             };
-            made = sym (ap (λ n. reads_at 0 n (given 0 b.first ∷ given 1 b.second ∷ [])) knows.file_length);
+            made = cc;
             sent = ap (λ l. sending (reader false true 0) (Piece 0 16334 l)) (sym (cut whole));
             after = refl;
           });
@@ -194,7 +194,7 @@ module _ (dig : List ℕ → List ℕ) (b : ThreeBlocks) (infohash : List ℕ) (
 
   -- no range is longer than a block
   too_long : (span : Span) → ¬ IsPlace (three_torrent dig b infohash) 0 0 16385 span
-  too_long span place = absurd (omega (arith, place.block))
+  too_long span place = absurd (omega arith)
 
   next_closed : StepNext dig (engine 1 (with_stream (stream long_request_bytes true false) (reader false true 0))) first_key [] (Ok (Some (record { send = []; close = Some BadRequest; notes = [] }))) (marked_engine dig b infohash k 1 [])
   next_closed =

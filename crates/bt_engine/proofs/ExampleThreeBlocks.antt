@@ -110,7 +110,7 @@ module _ (dig : List ℕ → List ℕ) (b : ThreeBlocks) (infohash : List ℕ) w
           handles = arrives (record {
             block = block 0;
             stored = engine dig b infohash (proved dig b) Marked Missing Missing (asked_peer Idle all_three 0);
-            whole = subst (λ n. IsWholeBlock (three_torrent dig b infohash) 0 0 n (block 0)) (sym whole.first) (whole_first dig b infohash);
+            whole = rw whole.first (whole_first dig b infohash);
             asked = (0, omega arith, refl);
             puts = record {
               file = record { tree = 0; states = Missing ∷ Missing ∷ Missing ∷ [] };
@@ -122,7 +122,7 @@ module _ (dig : List ℕ → List ℕ) (b : ThreeBlocks) (infohash : List ℕ) w
               has_effect = refl;
               after = refl;
             };
-            after = ap (λ n. engine dig b infohash (proved dig b) Marked Missing Missing (with_payload n (asked_peer Idle (block 1 ∷ block 2 ∷ []) 0))) (sym whole.first);
+            after = cc;
           });
         };
         stays = refl;
@@ -148,7 +148,7 @@ module _ (dig : List ℕ → List ℕ) (b : ThreeBlocks) (infohash : List ℕ) w
           handles = arrives (record {
             block = block 1;
             stored = engine dig b infohash (proved dig b) Marked Marked Missing (asked_peer Idle (block 1 ∷ block 2 ∷ []) 16384);
-            whole = subst (λ n. IsWholeBlock (three_torrent dig b infohash) 0 16384 n (block 1)) (sym whole.second) (whole_second dig b infohash);
+            whole = rw whole.second (whole_second dig b infohash);
             asked = (0, omega arith, refl);
             puts = record {
               file = record { tree = 0; states = Marked ∷ Missing ∷ Missing ∷ [] };
@@ -160,7 +160,7 @@ module _ (dig : List ℕ → List ℕ) (b : ThreeBlocks) (infohash : List ℕ) w
               has_effect = refl;
               after = refl;
             };
-            after = ap (λ n. engine dig b infohash (proved dig b) Marked Marked Missing (with_payload n (asked_peer Idle (block 2 ∷ []) 16384))) (sym whole.second);
+            after = cc;
           });
         };
         stays = refl;
@@ -192,7 +192,7 @@ module _ (dig : List ℕ → List ℕ) (b : ThreeBlocks) (infohash : List ℕ) w
           handles = arrives (record {
             block = block 2;
             stored = engine dig b infohash (proved dig b) Marked Marked Marked (asked_peer Idle (block 2 ∷ []) 32768);
-            whole = subst (λ n. IsWholeBlock (three_torrent dig b infohash) 0 32768 n (block 2)) (sym whole.third) (whole_third dig b infohash);
+            whole = rw whole.third (whole_third dig b infohash);
             asked = (0, omega arith, refl);
             puts = record {
               file = record { tree = 0; states = Marked ∷ Marked ∷ Missing ∷ [] };
@@ -204,7 +204,7 @@ module _ (dig : List ℕ → List ℕ) (b : ThreeBlocks) (infohash : List ℕ) w
               has_effect = refl;
               after = refl;
             };
-            after = ap (λ n. engine dig b infohash (proved dig b) Marked Marked Marked (with_payload n (asked_peer Idle [] 32768))) (sym whole.third);
+            after = cc;
           });
         };
         stays = refl;

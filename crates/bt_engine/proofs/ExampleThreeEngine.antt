@@ -43,7 +43,7 @@ number_at : (i : ℕ) (d : BlockId) → i < 3 → (slice_index_or all_three i d)
 number_at zero d lt = refl
 number_at (suc zero) d lt = refl
 number_at (suc (suc zero)) d lt = refl
-number_at (suc (suc (suc i))) d lt = absurd (omega (arith, lt))
+number_at (suc (suc (suc i))) d lt = absurd (omega arith)
 
 module _ (dig : List ℕ → List ℕ) (b : ThreeBlocks) (infohash : List ℕ) where
   abbrev pub engine : Facts → BlockState → BlockState → BlockState → PeerState → EngineState
@@ -85,7 +85,7 @@ module _ (dig : List ℕ → List ℕ) (b : ThreeBlocks) (infohash : List ℕ) w
   has_none : (k : Facts) (x y z : BlockState) (p q : PeerState) (c : BlockId) → q.has ≡ false ∷ [] → ¬ Has (engine k x y z p) q c
   has_none k x y z p q c none has =
       let r = and_then_some (λ n. slice_get q.has n) _ has in
-      let one = one_there r.0 (ap (λ l. slice_get l r.0) (sym none) ∙ r.2) in
+      let one = one_there r.0 (cc) in
       let wrong : false ≡ true = one.1 in
       absurd cc
 
@@ -105,9 +105,9 @@ module _ (dig : List ℕ → List ℕ) (b : ThreeBlocks) (infohash : List ℕ) w
       all_known one (ap (λ k. value_at dig k 0 c.block) (sym (same_tree one needs.hung)) ∙ needs.unknown)
     where
       same_tree : {c state : _} → IsOne x y z c state → {tree : _} → tree_of (engine (proved dig b) x y z p) c.file ≡ Some tree → tree ≡ proved dig b
-      same_tree (first e f) hung = sym (some_is (ap (λ (d : BlockId). tree_of (engine (proved dig b) x y z p) d.file) (sym e) ∙ hung))
-      same_tree (second e f) hung = sym (some_is (ap (λ (d : BlockId). tree_of (engine (proved dig b) x y z p) d.file) (sym e) ∙ hung))
-      same_tree (third e f) hung = sym (some_is (ap (λ (d : BlockId). tree_of (engine (proved dig b) x y z p) d.file) (sym e) ∙ hung))
+      same_tree (first e f) hung = cc
+      same_tree (second e f) hung = cc
+      same_tree (third e f) hung = cc
 
   -- ---- what follows where nothing is requested
 
@@ -129,7 +129,7 @@ module _ (dig : List ℕ → List ℕ) (b : ThreeBlocks) (infohash : List ℕ) w
         asks = record {
           shut = λ _. refl;
           are_open = λ c among. absurd (contains_none among);
-          distinct = λ i j d lt below. absurd (omega (arith, lt, below));
+          distinct = λ i j d lt below. absurd (omega arith);
           few = few;
           all = λ open_to interested. inr (λ c may. absurd (none open_to interested c may));
         };
@@ -140,7 +140,7 @@ module _ (dig : List ℕ → List ℕ) (b : ThreeBlocks) (infohash : List ℕ) w
 
   -- a missing block in the piece that the peer has
   pub interesting : (k : Facts) (x y z : BlockState) (p : PeerState) (c : BlockId) → p.has ≡ true ∷ [] → Has (engine k x y z p) (record p { has = true ∷ [] }) c → state_at (engine k x y z p) c ≡ Some Missing → IsInteresting (engine k x y z p) p
-  interesting k x y z p c has is missing = (c, subst (λ h. Has (engine k x y z p) (record p { has = h }) c) (sym has) is, missing)
+  interesting k x y z p c has is missing = (c, rw has is, missing)
 
   pub none_missing : (k : Facts) (p : PeerState) → ¬ IsInteresting (engine k Marked Marked Marked p) p
   none_missing k p i = never (is_one k p i.2)
@@ -161,13 +161,13 @@ module _ (dig : List ℕ → List ℕ) (b : ThreeBlocks) (infohash : List ℕ) w
   least_need : (p : PeerState) {q : PeerState} → q.has ≡ true ∷ [] → IsLeastNeed dig (engine (at_first dig b) Missing Missing Missing p) q (block 0)
   least_need p {q} has = record {
     needs = record {
-      has = subst (λ h. Has (engine (at_first dig b) Missing Missing Missing p) (record q { has = h }) (block 0)) (sym has) refl;
+      has = rw has refl;
       not_marked = inl refl;
       tree = at_first dig b;
       hung = refl;
       unknown = first_unknown dig b;
     };
-    least = λ c needs before. elim before [ inl lower ↦ absurd (omega (arith, lower)) | inr lower ↦ absurd (omega (arith, lower.1)) ];
+    least = λ c needs before. elim before [ inl lower ↦ absurd (omega arith) | inr lower ↦ absurd (omega arith) ];
   }
 
   after_bits : FollowsUp dig (engine (at_first dig b) Missing Missing Missing (peer_with all_taken false true true Idle [] 0)) 0 (to_first Interested ∷ to_first (HashRequest (leaves_key dig b)) ∷ [])
@@ -190,7 +190,7 @@ module _ (dig : List ℕ → List ℕ) (b : ThreeBlocks) (infohash : List ℕ) w
         asks = record {
           shut = λ _. refl;
           are_open = λ c among. absurd (contains_none among);
-          distinct = λ i j d lt below. absurd (omega (arith, lt, below));
+          distinct = λ i j d lt below. absurd (omega arith);
           few = omega arith;
           all = λ open_to interested. absurd cc;
         };
@@ -228,16 +228,16 @@ module _ (dig : List ℕ → List ℕ) (b : ThreeBlocks) (infohash : List ℕ) w
         asks = record {
           shut = λ x. elim x [ inl e ↦ absurd cc | inr e ↦ absurd cc ];
           are_open = λ c among. elim (contains_cases (block 1 ∷ block 2 ∷ []) among) [
-            | inl same ↦ subst (λ x. IsOpen s p x) same (is_open k refl refl refl)
+            | inl same ↦ rw (← same) (is_open k refl refl refl)
             | inr more ↦ elim (contains_cases (block 2 ∷ []) more) [
-              | inl same ↦ subst (λ x. IsOpen s p x) same (is_open k refl refl refl)
+              | inl same ↦ rw (← same) (is_open k refl refl refl)
               | inr rest ↦ elim (contains_cases [] rest) [
-                | inl same ↦ subst (λ x. IsOpen s p x) same (is_open k refl refl refl)
+                | inl same ↦ rw (← same) (is_open k refl refl refl)
                 | inr none ↦ absurd (contains_none none)
               ]
             ]
           ];
-          distinct = λ i j d lt below same. absurd (omega (arith, lt, below, number_at i d (omega (arith, lt, below)), number_at j d below, ap (λ (c : BlockId). c.block) same));
+          distinct = λ i j d lt below same. absurd (omega (arith, number_at i d (omega (arith, lt, below)), number_at j d below, ap (λ (c : BlockId). c.block) same));
           few = omega arith;
           all = λ e f. inr (λ c may. among_three (is_one k p may.missing));
         };
@@ -361,14 +361,14 @@ module _ (dig : List ℕ → List ℕ) (b : ThreeBlocks) (infohash : List ℕ) w
   starts =
       record {
         is_new = record {
-          roots = λ i j d lt below. absurd (omega (arith, lt, below));
+          roots = λ i j d lt below. absurd (omega arith);
           each_tree = λ t k at. record { number = 0; file = three_file dig b; listed = refl; some = omega arith; says = by_root refl (sym (one_there t at).1) };
           count = refl;
           each_file = λ i file f listed at.
               let one = one_there i at in
               let same : three_file dig b ≡ file = (one_there i listed).1 in
               record {
-                missing = ap (λ (q : FileState). q.states) (sym one.1) ∙ ap (λ (g : File). new_states g.length) same;
+                missing = cc;
                 hung = λ some. (at_first dig b, ap (λ (q : FileState). slice_get (at_first dig b ∷ []) q.tree) (sym one.1), ap (λ (g : File). g.root) same, ap (λ (g : File). g.length) same);
               };
         };

@@ -44,30 +44,30 @@ module _ (dig : List ℕ → List ℕ) (b : ThreeBlocks) where
   in_row zero (suc zero) low under = second_leaf
   in_row zero (suc (suc zero)) low under = third_leaf
   in_row zero (suc (suc (suc zero))) low under = padding_leaf
-  in_row zero (suc (suc (suc (suc i)))) low under = absurd (omega (arith, under))
+  in_row zero (suc (suc (suc (suc i)))) low under = absurd (omega arith)
   in_row (suc zero) zero low under = left
   in_row (suc zero) (suc zero) low under = right
-  in_row (suc zero) (suc (suc i)) low under = absurd (omega (arith, under))
+  in_row (suc zero) (suc (suc i)) low under = absurd (omega arith)
   in_row (suc (suc zero)) zero low under = top
-  in_row (suc (suc zero)) (suc i) low under = absurd (omega (arith, under))
-  in_row (suc (suc (suc above))) i low under = absurd (omega (arith, low))
+  in_row (suc (suc zero)) (suc i) low under = absurd (omega arith)
+  in_row (suc (suc (suc above))) i low under = absurd (omega arith)
 
   run_claims : {layer i d : _} → IsInRun dig leaves_claim layer i d → IsClaimed layer i d
   unfolding height_up_to
-  run_claims {layer} {i} {d} r = let same : r.above ≡ layer = omega (arith, r.here) in subst (λ l. IsClaimed l i d) same (subst (λ x. IsClaimed r.above i x) (sym r.digest) (in_row r.above i r.low r.under))
+  run_claims {layer} {i} {d} r = let same : r.above ≡ layer = omega arith in rw (← same) (rw r.digest (in_row r.above i r.low r.under))
 
   path_claims : {layer i d : _} → IsOnPath dig leaves_claim layer i d → IsClaimed layer i d
   unfolding height_up_to path_digest row_node
   path_claims {layer} {i} {d} r = at_above r.above r.here r.within r.node r.digest
     where
       at_above : (above : ℕ) → layer ≡ 2 + above → above ≤ 0 → i ≡ 0 / 2 ^ above → d ≡ path_digest dig leaves_claim above → IsClaimed layer i d
-      at_above zero here within node digest = subst (λ l. IsClaimed l i d) (sym here) (subst (λ n. IsClaimed 2 n d) (sym node) (subst (λ x. IsClaimed 2 0 x) (sym digest) top))
-      at_above (suc above) here within node digest = absurd (omega (arith, within))
+      at_above zero here within node digest = rw here (rw node (rw digest top))
+      at_above (suc above) here within node digest = absurd (omega arith)
 
   claimed : {layer i d : _} → Claims dig leaves_claim layer i d → IsClaimed layer i d
   claimed (in_run r) = run_claims r
   claimed (on_path r) = path_claims r
-  claimed (uncle r) = absurd (omega (arith, r.within))
+  claimed (uncle r) = absurd (omega arith)
 
   run_node_claims : {layer i : ℕ} → layer ≤ 2 → i / 2 ^ (2 - layer) ≡ 0 → Claims dig leaves_claim layer i (row_node dig (run_digest leaves_claim) layer i)
   unfolding height_up_to
@@ -77,12 +77,12 @@ module _ (dig : List ℕ → List ℕ) (b : ThreeBlocks) where
 
   held_first : held_at proved 0 0 ≡ Some (dig b.first)
   held_first =
-      digest_at_other _ 0 2 0 0 (dig b.third) (λ e f. absurd (omega (arith, f)))
-      ∙ digest_at_other _ 0 1 0 0 (dig b.second) (λ e f. absurd (omega (arith, f)))
+      digest_at_other _ 0 2 0 0 (dig b.third) (λ e f. absurd (omega arith))
+      ∙ digest_at_other _ 0 1 0 0 (dig b.second) (λ e f. absurd (omega arith))
       ∙ digest_at_new nodes_above 0 0 (dig b.first)
 
   held_second : held_at proved 0 1 ≡ Some (dig b.second)
-  held_second = digest_at_other _ 0 2 0 1 (dig b.third) (λ e f. absurd (omega (arith, f))) ∙ digest_at_new _ 0 1 (dig b.second)
+  held_second = digest_at_other _ 0 2 0 1 (dig b.third) (λ e f. absurd (omega arith)) ∙ digest_at_new _ 0 1 (dig b.second)
 
   held_third : held_at proved 0 2 ≡ Some (dig b.third)
   held_third = digest_at_new _ 0 2 (dig b.third)
@@ -90,22 +90,22 @@ module _ (dig : List ℕ → List ℕ) (b : ThreeBlocks) where
   -- the leaves are below the other nodes
   held_high : (layer i : ℕ) → held_at proved (suc layer) i ≡ digest_at nodes_above (suc layer) i
   held_high layer i =
-      digest_at_other _ 0 2 (suc layer) i (dig b.third) (λ e f. absurd (omega (arith, e)))
-      ∙ digest_at_other _ 0 1 (suc layer) i (dig b.second) (λ e f. absurd (omega (arith, e)))
-      ∙ digest_at_other nodes_above 0 0 (suc layer) i (dig b.first) (λ e f. absurd (omega (arith, e)))
+      digest_at_other _ 0 2 (suc layer) i (dig b.third) (λ e f. absurd (omega arith))
+      ∙ digest_at_other _ 0 1 (suc layer) i (dig b.second) (λ e f. absurd (omega arith))
+      ∙ digest_at_other nodes_above 0 0 (suc layer) i (dig b.first) (λ e f. absurd (omega arith))
 
   held_right : held_at proved 1 1 ≡ Some (right_node dig b)
   held_right = held_high 0 1 ∙ digest_at_new _ 1 1 (right_node dig b)
 
   held_left : held_at proved 1 0 ≡ Some (left_node dig b)
-  held_left = held_high 0 0 ∙ digest_at_other _ 1 1 1 0 (right_node dig b) (λ e f. absurd (omega (arith, f))) ∙ digest_at_new _ 1 0 (left_node dig b)
+  held_left = held_high 0 0 ∙ digest_at_other _ 1 1 1 0 (right_node dig b) (λ e f. absurd (omega arith)) ∙ digest_at_new _ 1 0 (left_node dig b)
 
   held_top : held_at proved 2 0 ≡ Some (three_root dig b)
   unfolding height_up_to
   held_top =
       held_high 1 0
-      ∙ digest_at_other _ 1 1 2 0 (right_node dig b) (λ e f. absurd (omega (arith, e)))
-      ∙ digest_at_other at_first.nodes 1 0 2 0 (left_node dig b) (λ e f. absurd (omega (arith, e)))
+      ∙ digest_at_other _ 1 1 2 0 (right_node dig b) (λ e f. absurd (omega arith))
+      ∙ digest_at_other at_first.nodes 1 0 2 0 (left_node dig b) (λ e f. absurd (omega arith))
       ∙ digest_at_new finite.empty 2 0 (three_root dig b)
 
   -- every node of the claim that covers a block is held
@@ -113,7 +113,7 @@ module _ (dig : List ℕ → List ℕ) (b : ThreeBlocks) where
   held_claimed first_leaf covers = held_first
   held_claimed second_leaf covers = held_second
   held_claimed third_leaf covers = held_third
-  held_claimed padding_leaf covers = absurd (omega (arith, covers.real))
+  held_claimed padding_leaf covers = absurd (omega arith)
   held_claimed left covers = held_left
   held_claimed right covers = held_right
   held_claimed top covers = held_top
@@ -125,8 +125,8 @@ module _ (dig : List ℕ → List ℕ) (b : ThreeBlocks) where
     where
       node : {l j x : _} → IsClaimed l j x → CoversBlock 3 l j → (layer ≡ l) × (i ≡ j) × (d ≡ x) → (held_at at_first layer i ≡ Some d) ⊎ (IsClaimed layer i d × CoversBlock 3 layer i)
       node {l} {j} is covers e = inr (
-        subst (λ n. IsClaimed n i d) (sym e.0) (subst (λ n. IsClaimed l n d) (sym e.1) (subst (λ y. IsClaimed l j y) (sym e.2) is)),
-        subst (λ n. CoversBlock 3 n i) (sym e.0) (subst (λ n. CoversBlock 3 l n) (sym e.1) covers),
+        rw e.0 (rw e.1 (rw e.2 is)),
+        rw e.0 (rw e.1 covers),
       )
 
       at_left : ((layer ≡ 1) × (i ≡ 0) × (d ≡ left_node dig b)) ⊎ (held_at at_first layer i ≡ Some d) → (held_at at_first layer i ≡ Some d) ⊎ (IsClaimed layer i d × CoversBlock 3 layer i)
@@ -164,7 +164,7 @@ module _ (dig : List ℕ → List ℕ) (b : ThreeBlocks) where
 
   none_below : (layer i : ℕ) → layer < 2 → held_at at_first layer i ≡ None
   unfolding height_up_to
-  none_below layer i low = digest_at_other finite.empty 2 0 layer i (three_root dig b) (λ e f. absurd (omega (arith, low, e))) ∙ digest_at_empty layer i
+  none_below layer i low = digest_at_other finite.empty 2 0 layer i (three_root dig b) (λ e f. absurd (omega arith)) ∙ digest_at_empty layer i
 
   -- a claimed node is one of the claim
   claim_is : {layer i d : _} → IsClaimed layer i d → Claims dig leaves_claim layer i d
@@ -181,21 +181,21 @@ module _ (dig : List ℕ → List ℕ) (b : ThreeBlocks) where
 
   pads : {layer i d : _} → IsClaimed layer i d → IsPadding 3 layer i → d ≡ padding_digest dig layer
   unfolding padding_digest
-  pads first_leaf past = absurd (omega (arith, past.past))
-  pads second_leaf past = absurd (omega (arith, past.past))
-  pads third_leaf past = absurd (omega (arith, past.past))
+  pads first_leaf past = absurd (omega arith)
+  pads second_leaf past = absurd (omega arith)
+  pads third_leaf past = absurd (omega arith)
   pads padding_leaf past = refl
-  pads left past = absurd (omega (arith, past.past))
-  pads right past = absurd (omega (arith, past.past))
-  pads top past = absurd (omega (arith, past.past))
+  pads left past = absurd (omega arith)
+  pads right past = absurd (omega arith)
+  pads top past = absurd (omega arith)
 
   same_root : {layer i d : _} → IsClaimed layer i d → layer ≡ 2 → d ≡ three_root dig b
-  same_root first_leaf high = absurd (omega (arith, high))
-  same_root second_leaf high = absurd (omega (arith, high))
-  same_root third_leaf high = absurd (omega (arith, high))
-  same_root padding_leaf high = absurd (omega (arith, high))
-  same_root left high = absurd (omega (arith, high))
-  same_root right high = absurd (omega (arith, high))
+  same_root first_leaf high = absurd (omega arith)
+  same_root second_leaf high = absurd (omega arith)
+  same_root third_leaf high = absurd (omega arith)
+  same_root padding_leaf high = absurd (omega arith)
+  same_root left high = absurd (omega arith)
+  same_root right high = absurd (omega arith)
   same_root top high = refl
 
   pub acceptable : IsAcceptable dig at_first leaves_claim

@@ -50,7 +50,7 @@ module _ (dig : List ℕ → List ℕ) (b : ThreeBlocks) (infohash : List ℕ) w
         asks = record {
           shut = λ _. refl;
           are_open = λ c among. absurd (contains_none among);
-          distinct = λ i j d lt below. absurd (omega (arith, lt, below));
+          distinct = λ i j d lt below. absurd (omega arith);
           few = omega arith;
           all = λ e f. absurd cc;
         };

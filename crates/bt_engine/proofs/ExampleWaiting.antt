@@ -27,7 +27,7 @@ stays_asked c {d} (x ∷ xs) e among = by (is_block c x) refl (stays_asked c xs 
   where
     by : (t : Bool) → is_block c x ≡ t → (Contains xs d → Contains (without_block c xs) d) → Contains (without_block c (x ∷ xs)) d
     by true f tail = elim (contains_cases xs among) [
-      | inl same ↦ (let both : true ≡ false = sym f ∙ ap (is_block c) same ∙ e in absurd cc)
+      | inl same ↦ absurd cc
       | inr more ↦ rw f (tail more)
     ]
     by false f tail = elim (contains_cases xs among) [ inl same ↦ rw f (here (without_block c xs) same) | inr more ↦ rw f (later x (without_block c xs) (tail more)) ]
@@ -114,23 +114,23 @@ module _ (dig : List ℕ → List ℕ) (b : ThreeBlocks) (wrong : List ℕ) (inf
     after_first =
         let p = asked_peer asked_key (left_one asked) 16384 in
         quietly dig b infohash (at_first dig b) Waiting Missing Missing p refl (λ e. interesting dig b infohash (at_first dig b) Waiting Missing Missing p (block 1) refl refl refl, λ i. refl) refl
-        (λ idle. asked_already idle) (λ e f c may. none (is_one dig b infohash (at_first dig b) p may.missing) may) (omega (arith, few_one, all.few))
+        (λ idle. asked_already idle) (λ e f c may. none (is_one dig b infohash (at_first dig b) p may.missing) may) (omega (arith, few_one))
       where
         none : {c : _} → IsOne Waiting Missing Missing c Missing → ¬ IsOpen (engine dig b infohash (at_first dig b) Waiting Missing Missing (asked_peer asked_key (left_one asked) 16384)) (asked_peer asked_key (left_one asked) 16384) c
         none (first e f) may = absurd cc
-        none (second e f) may = not_open dig b infohash _ _ _ _ (asked_peer asked_key (left_one asked) 16384) (subst (λ d. Contains (left_one asked) d) (sym e) second_left) may
-        none (third e f) may = not_open dig b infohash _ _ _ _ (asked_peer asked_key (left_one asked) 16384) (subst (λ d. Contains (left_one asked) d) (sym e) third_left) may
+        none (second e f) may = not_open dig b infohash _ _ _ _ (asked_peer asked_key (left_one asked) 16384) (rw e second_left) may
+        none (third e f) may = not_open dig b infohash _ _ _ _ (asked_peer asked_key (left_one asked) 16384) (rw e third_left) may
 
     after_second : FollowsUp dig (engine dig b infohash (at_first dig b) Waiting Waiting Missing (asked_peer asked_key (left_two asked) 32768)) 0 [] (engine dig b infohash (at_first dig b) Waiting Waiting Missing (asked_peer asked_key (left_two asked) 32768))
     after_second =
         let p = asked_peer asked_key (left_two asked) 32768 in
         quietly dig b infohash (at_first dig b) Waiting Waiting Missing p refl (λ e. interesting dig b infohash (at_first dig b) Waiting Waiting Missing p (block 2) refl refl refl, λ i. refl) refl
-        (λ idle. asked_already idle) (λ e f c may. none (is_one dig b infohash (at_first dig b) p may.missing) may) (omega (arith, few_one, few_two, all.few))
+        (λ idle. asked_already idle) (λ e f c may. none (is_one dig b infohash (at_first dig b) p may.missing) may) (omega (arith, few_one, few_two))
       where
         none : {c : _} → IsOne Waiting Waiting Missing c Missing → ¬ IsOpen (engine dig b infohash (at_first dig b) Waiting Waiting Missing (asked_peer asked_key (left_two asked) 32768)) (asked_peer asked_key (left_two asked) 32768) c
         none (first e f) may = absurd cc
         none (second e f) may = absurd cc
-        none (third e f) may = not_open dig b infohash _ _ _ _ (asked_peer asked_key (left_two asked) 32768) (subst (λ d. Contains (left_two asked) d) (sym e) third_last) may
+        none (third e f) may = not_open dig b infohash _ _ _ _ (asked_peer asked_key (left_two asked) 32768) (rw e third_last) may
 
     next_first : length b.first ≡ 16384 → StepNext dig (engine dig b infohash (at_first dig b) Missing Missing Missing (peer_with (stream (message_spelling (Piece 0 0 b.first)) true false) true false true asked_key asked 0)) first_key ((0, bytes_written 0 b.first) ∷ [])
         (Ok (Some (output_of [] (NowWaiting (block 0) ∷ [])))) (engine dig b infohash (at_first dig b) Waiting Missing Missing (asked_peer asked_key (left_one asked) 16384))
@@ -147,7 +147,7 @@ module _ (dig : List ℕ → List ℕ) (b : ThreeBlocks) (wrong : List ℕ) (inf
             handles = arrives (record {
               block = block 0;
               stored = engine dig b infohash (at_first dig b) Waiting Missing Missing (asked_peer asked_key asked 0);
-              whole = subst (λ n. IsWholeBlock (three_torrent dig b infohash) 0 0 n (block 0)) (sym size) (whole_first dig b infohash);
+              whole = rw size (whole_first dig b infohash);
               asked = all.each (block 0) (0, omega arith, refl);
               puts = record {
                 file = record { tree = 0; states = Missing ∷ Missing ∷ Missing ∷ [] };
@@ -159,7 +159,7 @@ module _ (dig : List ℕ → List ℕ) (b : ThreeBlocks) (wrong : List ℕ) (inf
                 has_effect = refl;
                 after = refl;
               };
-              after = ap (λ n. engine dig b infohash (at_first dig b) Waiting Missing Missing (with_payload n (asked_peer asked_key (left_one asked) 0))) (sym size);
+              after = cc;
             });
           };
           stays = refl;
@@ -185,7 +185,7 @@ module _ (dig : List ℕ → List ℕ) (b : ThreeBlocks) (wrong : List ℕ) (inf
             handles = arrives (record {
               block = block 1;
               stored = engine dig b infohash (at_first dig b) Waiting Waiting Missing (asked_peer asked_key (left_one asked) 16384);
-              whole = subst (λ n. IsWholeBlock (three_torrent dig b infohash) 0 16384 n (block 1)) (sym size) (whole_second dig b infohash);
+              whole = rw size (whole_second dig b infohash);
               asked = second_left;
               puts = record {
                 file = record { tree = 0; states = Waiting ∷ Missing ∷ Missing ∷ [] };
@@ -197,7 +197,7 @@ module _ (dig : List ℕ → List ℕ) (b : ThreeBlocks) (wrong : List ℕ) (inf
                 has_effect = refl;
                 after = refl;
               };
-              after = ap (λ n. engine dig b infohash (at_first dig b) Waiting Waiting Missing (with_payload n (asked_peer asked_key (left_two asked) 16384))) (sym size);
+              after = cc;
             });
           };
           stays = refl;
@@ -223,7 +223,7 @@ module _ (dig : List ℕ → List ℕ) (b : ThreeBlocks) (wrong : List ℕ) (inf
             handles = arrives (record {
               block = block 2;
               stored = engine dig b infohash (at_first dig b) Waiting Waiting Waiting (asked_peer asked_key (left_two asked) 32768);
-              whole = subst (λ n. IsWholeBlock (three_torrent dig b infohash) 0 32768 n (block 2)) (sym size) (whole_third dig b infohash);
+              whole = rw size (whole_third dig b infohash);
               asked = third_last;
               puts = record {
                 file = record { tree = 0; states = Waiting ∷ Waiting ∷ Missing ∷ [] };
@@ -320,10 +320,10 @@ module _ (dig : List ℕ → List ℕ) (b : ThreeBlocks) (wrong : List ℕ) (inf
         asks = record {
           shut = λ x. elim x [ inl e ↦ absurd cc | inr e ↦ absurd cc ];
           are_open = λ c among. elim (contains_cases [] among) [
-            | inl same ↦ subst (λ x. IsOpen (settled p) q x) same third_open
+            | inl same ↦ rw (← same) third_open
             | inr none ↦ absurd (contains_none none)
           ];
-          distinct = λ i j d lt below. absurd (omega (arith, lt, below));
+          distinct = λ i j d lt below. absurd (omega arith);
           few = omega arith;
           all = λ e f. inr (λ c may. only_third p (is_one dig b infohash (proved dig b) p may.missing));
         };

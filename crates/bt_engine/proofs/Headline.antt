@@ -21,15 +21,15 @@ none_marked (suc n) (suc i) e = none_marked n i e
 module _ {D : Type 0} (history : D → History) (honest : D → Type 0) (faults : D → ℕ) (dig : List ℕ → List ℕ) where
   start_sound : {torrent s : _} (disks : List (Option D)) → Starts dig torrent s → IsSound history honest dig s disks
   start_sound {torrent} {s} disks starts i f k d is_file there honest_now j marked =
-      let lt : i < length torrent.files = subst (λ n. i < n) starts.is_new.count (some_below s.files i is_file.here) in
+      let lt : i < length torrent.files = rw (← starts.is_new.count) (some_below s.files i is_file.here) in
       let file = get_some torrent.files i lt in
       let new = starts.is_new.each_file i file.0 f file.1 is_file.here in
-      absurd (none_marked (block_count file.0.length) j (sym (ap (λ xs. slice_get xs j) new.missing) ∙ marked))
+      absurd (none_marked (block_count file.0.length) j (cc))
 
   start_of : {torrent s : _} → Starts dig torrent s → IsOf torrent s
   start_of starts i file f k listed some here hung =
       let tree = (starts.is_new.each_file i file f listed here).hung some in
-      let same : tree.0 ≡ k = same_some tree.1 hung in
+      let same : tree.0 ≡ k = cc in
       (ap (λ (l : Facts). l.file_length) (sym same) ∙ tree.3, ap (λ (l : Facts). l.root) (sym same) ∙ tree.2)
 
   step_of : (torrent : Metainfo) (old new : EngineState) (e : Event) (calls : DeviceCalls) (a : Answer) → Step dig old e calls a new → IsOf torrent old → IsOf torrent new
@@ -39,7 +39,7 @@ module _ {D : Type 0} (history : D → History) (honest : D → Type 0) (faults 
       (g.same_length ∙ before.0, g.same_root ∙ before.1)
 
   run_of : (torrent : Metainfo) (old new : EngineState) (es : List Event) (calls : List DeviceCalls) (answers : List Answer) → Run dig old es calls answers new → IsOf torrent old → IsOf torrent new
-  run_of torrent old new [] [] [] run of = subst (λ s. IsOf torrent s) (sym run) of
+  run_of torrent old new [] [] [] run of = rw run of
   run_of torrent old new (e ∷ es) (c ∷ calls) (a ∷ answers) run of = run_of torrent run.0 new es calls answers run.2 (step_of torrent old run.0 e c a run.1 of)
   run_of torrent old new [] (c ∷ calls) answers run of = absurd run
   run_of torrent old new [] [] (a ∷ answers) run of = absurd run
@@ -58,12 +58,12 @@ module _ {D : Type 0} (history : D → History) (honest : D → Type 0) (faults 
 
   published : IsDigest dig → {file : File} {k : Facts} {bytes : _} → k.file_length ≡ file.length → k.root ≡ file.root → HasFile dig k bytes → IsPublished dig file bytes
   published sizes {file} {bytes} size root has =
-      let all : length (take file.length bytes) ≡ file.length = subst (λ n. length (take n bytes) ≡ n) size has.all in
-      let own : file_root dig (take file.length bytes) ≡ file.root = ap (λ n. file_root dig (take n bytes)) (sym size) ∙ has.root ∙ root in
+      let all : length (take file.length bytes) ≡ file.length = rw (← size) has.all in
+      let own : file_root dig (take file.length bytes) ≡ file.root = cc in
       record {
         all = all;
         root = own;
-        same = λ other other_size other_root. same_or_clash dig sizes (take file.length bytes) other (all ∙ sym other_size) (own ∙ sym other_root);
+        same = λ other other_size other_root. same_or_clash dig sizes (take file.length bytes) other (cc) (cc);
       }
 
   pub files_published : IsDigest dig → CompleteFilesArePublished history honest faults dig
@@ -73,5 +73,5 @@ module _ {D : Type 0} (history : D → History) (honest : D → Type 0) (faults 
       let sound = run_sound history honest faults dig first last events calls answers disks after run (start_sound disks starts) in
       let of = run_of torrent first last events calls answers plain (start_of starts) number file complete.state complete.tree complete.listed complete.some complete.here complete.hung in
       published sizes of.0 of.1
-      (complete_stands history honest faults dig last after number complete.state complete.tree d rooted sound (record { here = complete.here; hung = complete.hung }) (subst (λ n. 0 < n) (sym of.0) complete.some)
-      (λ i lt. complete.marked i (subst (λ n. i < block_count n) of.0 lt)) there honest_now)
+      (complete_stands history honest faults dig last after number complete.state complete.tree d rooted sound (record { here = complete.here; hung = complete.hung }) (rw of.0 complete.some)
+      (λ i lt. complete.marked i (rw (← of.0) lt)) there honest_now)

@@ -11,7 +11,7 @@ pub some_is : {X : Type 0} {x y : X} → Some x ≡ Some y → x ≡ y
 some_is e = cc
 
 pub same_some : {X : Type 0} {o : Option X} {x y : X} → o ≡ Some x → o ≡ Some y → x ≡ y
-same_some e f = some_is (sym e ∙ f)
+same_some e f = cc
 
 -- what stands there is the one that was set, or stood there before
 pub set_cases : {X : Type 0} (xs : List X) (i j : ℕ) {x y : X} → slice_get (slice_set xs i x) j ≡ Some y → ((j ≡ i) × (y ≡ x)) ⊎ (slice_get xs j ≡ Some y)
@@ -37,14 +37,14 @@ pub here : {X : Type 0} {x y : X} (xs : List X) → x ≡ y → Contains (x ∷ 
 here xs e = (0, omega arith, e)
 
 pub later : {X : Type 0} (x : X) {y : X} (xs : List X) → Contains xs y → Contains (x ∷ xs) y
-later x xs c = (suc c.0, omega (arith, c.1), c.2)
+later x xs c = (suc c.0, omega arith, c.2)
 
 pub contains_none : {X : Type 0} {y : X} → Contains [] y → ⊥
-contains_none c = absurd (omega (arith, c.1))
+contains_none c = absurd (omega arith)
 
 pub contains_cases : {X : Type 0} {x y : X} (xs : List X) → Contains (x ∷ xs) y → (x ≡ y) ⊎ Contains xs y
 contains_cases xs (zero, lt, e) = inl e
-contains_cases xs (suc k, lt, e) = inr (k, omega (arith, lt), e)
+contains_cases xs (suc k, lt, e) = inr (k, omega arith, e)
 
 filter_by : {X : Type 0} (test : X → Bool) (x : X) (xs : List X) {y : X} (b : Bool) → test x ≡ b → (Contains (filter test xs) y → Contains xs y × (test y ≡ true))
     → Contains (cond b (x ∷ filter test xs) (filter test xs)) y → Contains (x ∷ xs) y × (test y ≡ true)
@@ -65,7 +65,7 @@ map_contains f (z ∷ xs) c = elim (contains_cases xs c) [ inl same ↦ here (ma
 pub flat_map_contains : {X Y : Type 0} (f : X → List Y) (xs : List X) {x : X} {y : Y} → Contains xs x → Contains (f x) y → Contains (flat_map f xs) y
 flat_map_contains f [] c d = absurd (contains_none c)
 flat_map_contains f (z ∷ xs) {y} c d = elim (contains_cases xs c) [
-  | inl same ↦ Contains-append_left (f z) (flat_map f xs) y (subst (λ w. Contains (f w) y) (sym same) d)
+  | inl same ↦ Contains-append_left (f z) (flat_map f xs) y (rw same d)
   | inr more ↦ Contains-append_right (f z) (flat_map f xs) y (flat_map_contains f xs more d)
 ]
 
@@ -73,13 +73,13 @@ pub some_below : {X : Type 0} (xs : List X) (i : ℕ) {x : X} → slice_get xs i
 some_below [] zero e = absurd cc
 some_below [] (suc i) e = absurd cc
 some_below (y ∷ xs) zero e = omega arith
-some_below (y ∷ xs) (suc i) e = let lt = some_below xs i e in omega (arith, lt)
+some_below (y ∷ xs) (suc i) e = let lt = some_below xs i e in omega arith
 
 range_contains_from : (a n i : ℕ) → i < n → Contains (range_with_len a n) (a + i)
-range_contains_from a zero i lt = absurd (omega (arith, lt))
+range_contains_from a zero i lt = absurd (omega arith)
 range_contains_from a (suc n) zero lt = here (range_with_len (a + 1) n) (omega arith)
 range_contains_from a (suc n) (suc i) lt =
-    later a (range_with_len (a + 1) n) (subst (λ x. Contains (range_with_len (a + 1) n) x) (omega arith) (range_contains_from (a + 1) n i (omega (arith, lt))))
+    later a (range_with_len (a + 1) n) (subst (λ x. Contains (range_with_len (a + 1) n) x) (omega arith) (range_contains_from (a + 1) n i (omega arith)))
 
 pub range_contains : (n : ℕ) {i : ℕ} → i < n → Contains (range_with_len 0 n) i
 range_contains n {i} lt = subst (λ x. Contains (range_with_len 0 n) x) (omega arith) (range_contains_from 0 n i lt)
@@ -114,16 +114,16 @@ contains_flat_map f (x ∷ xs) {y} c = elim (Contains-append_cases (f x) (flat_m
 pub range_limits : (a n : ℕ) {i : ℕ} → Contains (range_with_len a n) i → (a ≤ i) × (i < a + n)
 range_limits a n {i} c =
     let size = length-range_with_len a n in
-    let at : a + c.0 ≡ i = sym (get_or-range_with_len a n c.0 i (omega (arith, c.1, size))) ∙ c.2 in
-    (omega (arith, at), omega (arith, at, c.1, size))
+    let at : a + c.0 ≡ i = sym (get_or-range_with_len a n c.0 i (omega arith)) ∙ c.2 in
+    (omega arith, omega arith)
 
 pub get_some : {X : Type 0} (xs : List X) (i : ℕ) → i < length xs → (x : X) × (slice_get xs i ≡ Some x)
-get_some [] i lt = absurd (omega (arith, lt))
+get_some [] i lt = absurd (omega arith)
 get_some (x ∷ xs) zero lt = (x, refl)
-get_some (x ∷ xs) (suc i) lt = get_some xs i (omega (arith, lt))
+get_some (x ∷ xs) (suc i) lt = get_some xs i (omega arith)
 
 pub some_not_none : {X : Type 0} {o : Option X} → IsSome o → o ≡ None → ⊥
-some_not_none some gone = let no : false ≡ true = sym (ap (λ x. is_some x) gone) ∙ some in absurd cc
+some_not_none some gone = absurd cc
 
 pub set_get : {X : Type 0} (xs : List X) (i j : ℕ) {y x : X} → slice_get xs j ≡ Some x → ((j ≡ i) × (slice_get (slice_set xs i y) j ≡ Some y)) ⊎ (slice_get (slice_set xs i y) j ≡ Some x)
 set_get [] i j e = absurd cc
@@ -140,5 +140,5 @@ get_map f (x ∷ xs) (suc j) e = get_map f xs j e
 
 pub set_id : {X : Type 0} (xs : List X) (i : ℕ) {x : X} → slice_get xs i ≡ Some x → slice_set xs i x ≡ xs
 set_id [] i e = refl
-set_id (y ∷ xs) zero e = ap (λ z. z ∷ xs) (sym (same_some refl e))
+set_id (y ∷ xs) zero e = cc
 set_id (y ∷ xs) (suc i) e = ap (λ ys. y ∷ ys) (set_id xs i e)

@@ -33,7 +33,7 @@ Marks dig s p e calls mid b = (state_at s b ≡ Some Marked) ⊎ IsSeen dig s p 
 module _ (dig : List ℕ → List ℕ) (b : BlockId) where
   -- the engine is one in which the same blocks are marked
   as_before : {m mid : _} → mid ≡ m → state_at mid b ≡ Some Marked → state_at m b ≡ Some Marked
-  as_before e marked = subst (λ x. state_at x b ≡ Some Marked) e marked
+  as_before e marked = rw (← e) marked
 
   have_marks : {s mid i p piece effect : _} → HandlesHave s i p piece effect mid → state_at mid b ≡ Some Marked → state_at s b ≡ Some Marked
   have_marks (in_range x y e) m = as_before e m
@@ -74,7 +74,7 @@ module _ (dig : List ℕ → List ℕ) (b : BlockId) where
     ]
     | inr old ↦ inl old
   ]
-  put_marks s {c} {f} at (Ok PutWaiting) due m = inl (in_file s c.file _ at m (λ now. elim (set_cases f.states c.block b.block now) [ inl one ↦ (let no : Marked ≡ Waiting = one.1 in absurd cc) | inr old ↦ old ]))
+  put_marks s {c} {f} at (Ok PutWaiting) due m = inl (in_file s c.file _ at m (λ now. elim (set_cases f.states c.block b.block now) [ inl one ↦ absurd cc | inr old ↦ old ]))
   put_marks s {c} at (Ok Already) due m = inl (in_file s c.file _ at m (λ now. now))
   put_marks s {c} at (Ok Wrong) due m = inl (in_file s c.file _ at m (λ now. now))
   put_marks s {c} at (Err e) due m = inl (in_file s c.file _ at m (λ now. now))
@@ -89,10 +89,10 @@ module _ (dig : List ℕ → List ℕ) (b : BlockId) where
         | inr now ↦
             let hung : tree_of (with_file s a.block.file new) a.block.file ≡ Some a.puts.tree =
             ap (option_and_then (λ q. slice_get s.trees q.tree)) (set_same s.files a.block.file at) ∙ a.puts.is_file.hung in
-            let stored : tree_of a.stored a.block.file ≡ Some a.puts.tree = subst (λ x. tree_of x a.block.file ≡ Some a.puts.tree) (sym a.puts.after) hung in
-            let known : tree_of mid a.block.file ≡ Some a.puts.tree = subst (λ x. tree_of x a.block.file ≡ Some a.puts.tree) (sym a.after) stored in
-            let made : calls ≡ (a.block.file, bytes_written (full_block_length * a.block.block) bytes) ∷ [] = a.puts.made ∙ ap (λ r. calls_at a.block.file (calls_of_put a.block.block bytes r)) now.1 in
-            inr (subst (λ c. IsSeen dig s p (Message (Piece piece begin bytes)) calls mid c) now.0 (came piece begin bytes a.puts.tree refl a.whole a.asked known made now.2))
+            let stored : tree_of a.stored a.block.file ≡ Some a.puts.tree = rw a.puts.after hung in
+            let known : tree_of mid a.block.file ≡ Some a.puts.tree = rw a.after stored in
+            let made : calls ≡ (a.block.file, bytes_written (full_block_length * a.block.block) bytes) ∷ [] = cc in
+            inr (rw (← now.0) (came piece begin bytes a.puts.tree refl a.whole a.asked known made now.2))
       ]
 
   piece_marks : {s mid i p piece begin bytes calls effect : _} → HandlesPiece dig s i p piece begin bytes calls effect mid
@@ -113,7 +113,7 @@ module _ (dig : List ℕ → List ℕ) (b : BlockId) where
     known = r.known;
     in_run = r.in_run;
     waited = r.waited;
-    hung = trees ∙ r.hung;
+    hung = cc;
     read = r.read;
     right = r.right;
   }
@@ -175,13 +175,13 @@ module _ (dig : List ℕ → List ℕ) (b : BlockId) where
             takes = rw (sym is) t.takes;
             whole = whole;
             asked = asked;
-            hung = trees ∙ hung;
+            hung = cc;
             written = written;
             right = exact;
           })
       from (waited run digests tree before after claim is here claims accepts r) =
           let there : slice_get (slice_set s.trees tree after) tree ≡ Some after = set_same s.trees tree here.here in
-          let facts : after ≡ r.facts = same_some there r.known in
+          let facts : after ≡ r.facts = cc in
           let leaves = leaves_only run r.in_run in
           read_back (record {
             tree = r.facts;
@@ -202,12 +202,12 @@ module _ (dig : List ℕ → List ℕ) (b : BlockId) where
               of_leaves = leaves.0;
               from = leaves.1;
               below = leaves.2;
-              hung = ap (option_and_then (λ (f : FileState). slice_get s.trees f.tree)) r.here ∙ ap (slice_get s.trees) r.of_tree ∙ here.here;
+              hung = cc;
               same_root = here.same_root;
               claims = claims;
-              accepts = subst (λ k. Accepts dig before claim k) facts accepts;
+              accepts = rw (← facts) accepts;
             });
-            hung = trees ∙ r.hung;
+            hung = cc;
             read = r.read;
             right = r.right;
           })
@@ -276,8 +276,8 @@ after_step {mid} {e} {c} t i = record {
   new = i.new;
   events_after = i.events_after;
   calls_after = i.calls_after;
-  events_are = ap (λ xs. e ∷ xs) i.events_are;
-  calls_are = ap (λ xs. c ∷ xs) i.calls_are;
+  events_are = cc;
+  calls_are = cc;
   run = (mid, t, i.run);
   step = i.step;
   goes_on = i.goes_on;
@@ -308,7 +308,7 @@ at_first {s} mid {e} {es} {c} {calls} t rest by = record {
 -- a block that is marked after a run was so before it, or became so within it
 run_cases : {dig s new : _} (es : List Event) (calls : List DeviceCalls) (answers : List Answer) → Run dig s es calls answers new → {b : _} → state_at new b ≡ Some Marked
     → (state_at s b ≡ Some Marked) ⊎ IsMarkedIn dig s es calls answers new b
-run_cases [] [] [] run {b} m = inl (subst (λ x. state_at x b ≡ Some Marked) run m)
+run_cases [] [] [] run {b} m = inl (rw (← run) m)
 run_cases {dig} {s} (e ∷ es) (c ∷ calls) (a ∷ answers) run {b} m = elim (run_cases es calls answers run.2 m) [
   | inl mid ↦ elim (step_cases dig b s run.0 e c a run.1 mid) [
     | inl old ↦ inl old
@@ -324,7 +324,7 @@ run_cases {dig} {s} (e ∷ es) (c ∷ calls) (a ∷ answers) run {b} m = elim (r
     before = a ∷ i.before;
     answer = i.answer;
     after = i.after;
-    answers_are = ap (λ xs. a ∷ xs) i.answers_are;
+    answers_are = cc;
     marked = after_step run.1 i.marked;
   })
 ]

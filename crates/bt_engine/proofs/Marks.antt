@@ -4,7 +4,7 @@ use Rattle.bt_engine.proofs.Machine.{FileState, EngineState, DeviceCalls, reads_
 use Rattle.bt_engine.proofs.Lists.{set_cases, and_then_some, map_some, and_true, here, later, contains_none, contains_filter, map_contains, flat_map_contains, some_below, range_contains}
 
 pub state_is : (s : EngineState) (c : BlockId) {f x : _} → slice_get s.files c.file ≡ Some f → slice_get f.states c.block ≡ Some x → state_at s c ≡ Some x
-state_is s c e g = ap (option_and_then (λ q. slice_get q.states c.block)) e ∙ g
+state_is s c e g = cc
 
 -- a block that is marked after a file was replaced: it stands in the new file, or it was marked
 pub file_marked : (s : EngineState) {file : ℕ} (new : FileState) (b : BlockId) → state_at (with_file s file new) b ≡ Some Marked
@@ -12,7 +12,7 @@ pub file_marked : (s : EngineState) {file : ℕ} (new : FileState) (b : BlockId)
 file_marked s {file} new b e =
     let m = and_then_some (λ q. slice_get q.states b.block) (slice_get (slice_set s.files file new) b.file) e in
     elim (set_cases s.files file b.file m.1) [
-      | inl same ↦ inl (same.0, subst (λ q. slice_get q.states b.block ≡ Some Marked) same.1 m.2)
+      | inl same ↦ inl (same.0, rw (← same.1) m.2)
       | inr old ↦ inr (state_is s b old m.2)
     ]
 
@@ -40,7 +40,7 @@ more_given : {dig k read reads i : _} → GaveRight dig k reads i → GaveRight 
 more_given {read} {reads} g = record { bytes = g.bytes; gives = later read reads g.gives; right = g.right }
 
 pub missing_marks : (states : List BlockState) (b i : ℕ) → slice_get (slice_set states b Missing) i ≡ Some Marked → slice_get states i ≡ Some Marked
-missing_marks states b i e = elim (set_cases states b i e) [ inl wrong ↦ (let no : Marked ≡ Missing = wrong.1 in absurd cc) | inr old ↦ old ]
+missing_marks states b i e = elim (set_cases states b i e) [ inl wrong ↦ absurd cc | inr old ↦ old ]
 
 pub judged_marks : {dig k : _} (reads : List BlockRead) (states : List BlockState) {i : ℕ}
     → slice_get (judged dig k false reads states) i ≡ Some Marked → (slice_get states i ≡ Some Marked) ⊎ GaveRight dig k reads i
@@ -50,7 +50,7 @@ judged_marks {dig} {k} (given b bytes ∷ reads) states {i} e = elim (judged_mar
     | inl one ↦
         let right : is_right dig k b bytes ≡ true = verdict_true (is_right dig k b bytes) one.1 in
         let same : b ≡ i = sym one.0 in
-        inr (record { bytes = bytes; gives = here reads (ap (λ j. given j bytes) same); right = right_then (ap (λ j. is_right dig k j bytes) one.0 ∙ right) })
+        inr (record { bytes = bytes; gives = here reads (ap (λ j. given j bytes) same); right = right_then (cc) })
     | inr old ↦ inl old
   ]
   | inr later_on ↦ inr (more_given later_on)
@@ -114,15 +114,15 @@ pub settle_marks : {dig is_meant tree from count old new calls notes : _} → Se
 settle_marks {dig} {is_meant} {old} {new} s {b} e =
     let m = and_then_some (λ q. slice_get q.states b.block) (slice_get new.files b.file) e in
     let p = map_some (judged_file dig s.facts (s.reads b.file)) (slice_get old.files b.file) (sym (s.files b.file) ∙ m.1) in
-    let there : slice_get (judged dig s.facts false (s.reads b.file) p.0.states) b.block ≡ Some Marked = ap (λ q. slice_get q.states b.block) p.2 ∙ m.2 in
+    let there : slice_get (judged dig s.facts false (s.reads b.file) p.0.states) b.block ≡ Some Marked = cc in
     elim (judged_marks (s.reads b.file) p.0.states there) [
       | inl before ↦ inl (state_is old b p.1 before)
       | inr g ↦
           let read : Contains (map block_of (s.reads b.file)) b.block = map_contains block_of (s.reads b.file) g.gives in
-          let due = meant_then dig s.facts (is_meant b.file) (subst (λ xs. Contains xs b.block) (s.due b.file p.0 p.1) read) in
-          let trees : new.trees ≡ old.trees = ap (λ s. s.trees) s.others in
+          let due = meant_then dig s.facts (is_meant b.file) (rw (← (s.due b.file p.0 p.1)) read) in
+          let trees : new.trees ≡ old.trees = cc in
           let hung : slice_get new.trees p.0.tree ≡ Some s.facts = ap (λ ts. slice_get ts p.0.tree) trees ∙ ap (slice_get old.trees) due.1.of_tree ∙ s.here in
-          let file : slice_get new.files b.file ≡ Some (judged_file dig s.facts (s.reads b.file) p.0) = s.files b.file ∙ ap (option_map (judged_file dig s.facts (s.reads b.file))) p.1 in
+          let file : slice_get new.files b.file ≡ Some (judged_file dig s.facts (s.reads b.file) p.0) = cc in
           let one : Contains (reads_at b.file s.facts.file_length (s.reads b.file)) (b.file, call_of s.facts.file_length (given b.block g.bytes)) =
           map_contains (λ read. (b.file, call_of s.facts.file_length read)) (s.reads b.file) g.gives in
           inr (record {
@@ -135,9 +135,8 @@ settle_marks {dig} {is_meant} {old} {new} s {b} e =
             known = s.here;
             in_run = due.1.in_run;
             waited = state_is old b p.1 due.1.waited;
-            hung = ap (option_and_then (λ q. slice_get new.trees q.tree)) file ∙ hung;
-            read = subst (λ cs. Contains cs (b.file, call_of s.facts.file_length (given b.block g.bytes))) (sym s.made)
-                (flat_map_contains (λ file. reads_at file s.facts.file_length (s.reads file)) (file_numbers old) (range_contains (length old.files) (some_below old.files b.file p.1)) one);
+            hung = cc;
+            read = rw s.made (flat_map_contains (λ file. reads_at file s.facts.file_length (s.reads file)) (file_numbers old) (range_contains (length old.files) (some_below old.files b.file p.1)) one);
             right = g.right;
           })
     ]

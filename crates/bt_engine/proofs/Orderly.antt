@@ -12,7 +12,7 @@ abbrev KeepsMissing : EngineState → EngineState → Type 0
 KeepsMissing s m = (b : BlockId) → state_at s b ≡ Some Missing → state_at m b ≡ Some Missing
 
 none_apart : (R : BlockId → BlockId → Type 0) → AllPairs R []
-none_apart R i j d lt within = absurd (omega (arith, within))
+none_apart R i j d lt within = absurd (omega arith)
 
 -- what is asked of two peers is apart
 two_apart : (peers : List PeerState) (i j : ℕ) {p q b : _} → Pairs AskedApart peers → slice_get peers i ≡ Some p → slice_get peers j ≡ Some q → j ≢ i → Contains p.asked b → Contains q.asked b → ⊥
@@ -20,7 +20,7 @@ two_apart peers i j {b} apart e f other own theirs = elim (cases_lt i j) [
   | inl lt ↦ pairs_at AskedApart peers i j apart e f lt b own theirs
   | inr le ↦ elim (cases_lt j i) [
     | inl lt ↦ pairs_at AskedApart peers j i apart f e lt b theirs own
-    | inr ge ↦ absurd (other (omega (arith, le, ge)))
+    | inr ge ↦ absurd (other (omega arith))
   ]
 ]
 
@@ -40,8 +40,8 @@ record PeerChange (s : EngineState) (i : ℕ) (p : PeerState) (m : EngineState) 
 
 peer_in : {s m : EngineState} {q : _} → m.next_key ≡ s.next_key → m.torrent ≡ s.torrent → IsOrderlyPeer s q → ((b : BlockId) → Contains q.asked b → state_at m b ≡ Some Missing) → IsOrderlyPeer m q
 peer_in {q} next torrent o missing = record {
-  key = subst (λ n. q.key.0 < n) (sym next) o.key;
-  pieces = o.pieces ∙ ap total_pieces (sym torrent);
+  key = rw next o.key;
+  pieces = cc;
   few = o.few;
   once = o.once;
   missing = missing;
@@ -49,12 +49,12 @@ peer_in {q} next torrent o missing = record {
 
 changed : {s : EngineState} {m i p : _} → slice_get s.peers i ≡ Some p → PeerChange s i p m → IsOrderly s → IsOrderly m
 changed {s} {m} {i} {p} at c o = record {
-  few = subst (λ ps. length ps ≤ max_peers) (sym c.peers) (subst (λ n. n ≤ max_peers) (sym (length-set s.peers i c.new)) o.few);
-  in_order = subst (λ ps. AllPairs KeyBefore ps) (sym c.peers) (from_pairs KeyBefore (slice_set s.peers i c.new)
-      (pairs_set KeyBefore s.peers i c.new at (λ y among r. subst (λ k. k.0 < y.key.0) (sym c.key) r) (λ y among r. subst (λ k. y.key.0 < k.0) (sym c.key) r) (to_pairs KeyBefore s.peers o.in_order)));
-  apart = subst (λ ps. AllPairs AskedApart ps) (sym c.peers) (from_pairs AskedApart (slice_set s.peers i c.new)
+  few = rw c.peers (rw (length-set s.peers i c.new) o.few);
+  in_order = rw c.peers (from_pairs KeyBefore (slice_set s.peers i c.new)
+      (pairs_set KeyBefore s.peers i c.new at (λ y among r. rw c.key r) (λ y among r. rw c.key r) (to_pairs KeyBefore s.peers o.in_order)));
+  apart = rw c.peers (from_pairs AskedApart (slice_set s.peers i c.new)
       (pairs_set AskedApart s.peers i c.new at (λ y among r b own theirs. r b (c.among b own) theirs) (λ y among r b theirs own. r b theirs (c.among b own)) (to_pairs AskedApart s.peers o.apart)));
-  each = λ q among. elim (contains_set s.peers i (subst (λ ps. Contains ps q) c.peers among)) [
+  each = λ q among. elim (contains_set s.peers i (rw (← c.peers) among)) [
     | inl is ↦ subst (λ x. IsOrderlyPeer m x) (sym is) own
     | inr other ↦
         let before = o.each q (contains_some s.peers other.0 other.2) in
@@ -70,7 +70,7 @@ changed {s} {m} {i} {p} at c o = record {
 
     own : IsOrderlyPeer m c.new
     own = record {
-      key = subst (λ n. c.new.key.0 < n) (sym c.next) (subst (λ k. k.0 < s.next_key) (sym c.key) before.key);
+      key = rw c.next (rw c.key before.key);
       pieces = c.has ∙ before.pieces ∙ ap total_pieces (sym c.torrent);
       few = omega (arith, before.few, c.few);
       once = c.once before.once;
@@ -82,14 +82,14 @@ placed : {s : EngineState} (x : EngineState) {m : EngineState} {i : ℕ} {p : Pe
     → q.key ≡ p.key → length q.has ≡ length p.has → q.asked ≡ p.asked → PeerChange s i p m
 placed x {i} {p} q peers next torrent states e key has asked = record {
   new = q;
-  peers = ap (λ z. z.peers) e ∙ ap (λ ps. slice_set ps i q) peers;
-  next = ap (λ z. z.next_key) e ∙ next;
-  torrent = ap (λ z. z.torrent) e ∙ torrent;
+  peers = cc;
+  next = cc;
+  torrent = cc;
   key = key;
   has = has;
-  few = (let same : length q.asked ≡ length p.asked = ap length asked in omega (arith, same));
-  among = λ b c. subst (λ bs. Contains bs b) asked c;
-  once = λ o. subst (λ bs. AllPairs (λ b c. b ≢ c) bs) (sym asked) o;
+  few = (let same : length q.asked ≡ length p.asked = cc in omega arith);
+  among = λ b c. rw (← asked) c;
+  once = λ o. rw asked o;
   states = λ b missing. inl (ap (λ z. state_at z b) e ∙ states b missing);
 }
 
@@ -132,7 +132,7 @@ file_missing s file {f} new b at keep missing = by (b.file == file) refl
     f_is : b.file ≡ file → slice_get f.states b.block ≡ Some Missing
     f_is same =
         let g = and_then_some (λ (q : FileState). slice_get q.states b.block) (slice_get s.files b.file) missing in
-        let is : g.0 ≡ f = same_some g.1 (ap (slice_get s.files) same ∙ at) in
+        let is : g.0 ≡ f = cc in
         ap (λ (q : FileState). slice_get q.states b.block) (sym is) ∙ g.2
 
     by : (t : Bool) → (b.file == file) ≡ t → state_at (with_file s file new) b ≡ Some Missing
@@ -140,7 +140,7 @@ file_missing s file {f} new b at keep missing = by (b.file == file) refl
         let same : b.file ≡ file = eqb-true b.file file e in
         state_is (with_file s file new) b (ap (slice_get (slice_set s.files file new)) same ∙ set_same s.files file at) (keep same (f_is same))
     by false e =
-        let apart : b.file ≢ file = λ same. (let yes : (b.file == file) ≡ true = eq-eqb b.file file same in let no : true ≡ false = sym yes ∙ e in absurd cc) in
+        let apart : b.file ≢ file = λ same. (let yes : (b.file == file) ≡ true = eq-eqb b.file file same in absurd cc) in
         ap (option_and_then (λ (q : FileState). slice_get q.states b.block)) (set_other s.files file b.file new apart) ∙ missing
 
 pub judged_other : (dig : List ℕ → List ℕ) (k : Facts) (forgiving : Bool) (reads : List BlockRead) (states : List BlockState) (i : ℕ) → (Contains (map block_of reads) i → ⊥)
@@ -171,7 +171,7 @@ block_is {b} {c} e =
     ap (λ n. record c { file = n }) (eqb-true c.file b.file both.0) ∙ ap (λ n. record b { block = n }) (eqb-true c.block b.block both.1)
 
 is_itself : {b c : _} → c ≡ b → is_block b c ≡ true
-is_itself {b} e = subst (λ d. is_block b d ≡ true) (sym e) (both (b.file == b.file) (b.block == b.block) (eq-eqb b.file b.file refl) (eq-eqb b.block b.block refl))
+is_itself {b} e = rw e (both (b.file == b.file) (b.block == b.block) (eq-eqb b.file b.file refl) (eq-eqb b.block b.block refl))
   where
     both : (x y : Bool) → x ≡ true → y ≡ true → (x && y) ≡ true
     both true true e f = refl
@@ -179,11 +179,11 @@ is_itself {b} e = subst (λ d. is_block b d ≡ true) (sym e) (both (b.file == b
     both false y e f = e
 
 pub length-bits_of : (byte : ℕ) → length (bits_of byte) ≡ 8
-length-bits_of byte = length-map (range_with_len 0 8) (λ j. byte / 2 ^ (7 - j) % 2 == 1) ∙ length-range_with_len 0 8
+length-bits_of byte = cc
 
 length-bits_in : (bytes : List ℕ) → length (bits_in bytes) ≡ 8 * length bytes
 length-bits_in [] = omega arith
-length-bits_in (byte ∷ bytes) = let more = length-bits_in bytes in omega (arith, length-append (bits_of byte) (bits_in bytes), length-bits_of byte, more)
+length-bits_in (byte ∷ bytes) = let more = length-bits_in bytes in omega (arith, length-append (bits_of byte) (bits_in bytes), length-bits_of byte)
 
 module _ (dig : List ℕ → List ℕ) where
   fault_change : {s : EngineState} {k mid file i f read effect place p : _} → slice_get s.peers place ≡ Some p → slice_get s.files file ≡ Some f
@@ -210,9 +210,9 @@ module _ (dig : List ℕ → List ℕ) where
   arrives_change : {s mid i p piece begin bytes calls effect : _} → Arrives dig s i p piece begin bytes calls effect mid → PeerChange s i p mid
   arrives_change {s} {mid} {i} {p} {bytes} a = record {
     new = with_payload (length bytes) (record p { asked = without_block a.block p.asked });
-    peers = ap (λ z. z.peers) a.after ∙ ap (λ (z : EngineState). slice_set z.peers i (with_payload (length bytes) (record p { asked = without_block a.block p.asked }))) a.puts.after;
-    next = ap (λ z. z.next_key) a.after ∙ ap (λ z. z.next_key) a.puts.after;
-    torrent = ap (λ z. z.torrent) a.after ∙ ap (λ z. z.torrent) a.puts.after;
+    peers = cc;
+    next = cc;
+    torrent = cc;
     key = refl;
     has = refl;
     few = omega (arith, length-filter (λ c. not (is_block a.block c)) p.asked, count_by-le-length (λ c. not (is_block a.block c)) p.asked);
@@ -222,7 +222,7 @@ module _ (dig : List ℕ → List ℕ) where
   }
     where
       no_longer : {b : _} → is_block a.block b ≡ true → Contains (without_block a.block p.asked) b → ⊥
-      no_longer {b} e c = let f : not (is_block a.block b) ≡ true = (contains_filter (λ c. not (is_block a.block c)) p.asked c).1 in let no : not true ≡ true = ap not (sym e) ∙ f in absurd cc
+      no_longer {b} e c = let f : not (is_block a.block b) ≡ true = (contains_filter (λ c. not (is_block a.block c)) p.asked c).1 in absurd cc
 
       elsewhere : (b : BlockId) → is_block a.block b ≡ false → b.file ≡ a.block.file → b.block ≢ a.block.block
       elsewhere b e same_file same =
@@ -258,22 +258,22 @@ module _ (dig : List ℕ → List ℕ) where
       long =
           let all = length-bits_in bytes in
           let enough = (div_ceil_times (total_pieces s.torrent) 8 (omega arith)).0 in
-          omega (arith, length-take (total_pieces s.torrent) (bits_in bytes), all, enough, size)
+          omega (arith, length-take (total_pieces s.torrent) (bits_in bytes), size)
   bits_change at pieces (wrong x y e) = quiet at e
 
   message_change : {s : EngineState} {mid i p : _} (m : Sent) (calls : DeviceCalls) (effect : Effect) → slice_get s.peers i ≡ Some p → length p.has ≡ total_pieces s.torrent → HandlesMessage dig s i p m calls effect mid → PeerChange s i p mid
   message_change KeepAlive calls effect at pieces h = quiet at h.2
   message_change {p} Choke calls effect at pieces h = record {
     new = record p { peer_choking = true; asked = [] };
-    peers = ap (λ z. z.peers) h.2;
-    next = ap (λ z. z.next_key) h.2;
-    torrent = ap (λ z. z.torrent) h.2;
+    peers = cc;
+    next = cc;
+    torrent = cc;
     key = refl;
     has = refl;
     few = omega arith;
     among = λ b c. absurd (contains_none c);
     once = λ o. none_apart (λ b c. b ≢ c);
-    states = λ b missing. inl (ap (λ z. state_at z b) h.2 ∙ missing);
+    states = λ b missing. inl (cc);
   }
   message_change Unchoke calls effect at pieces h = replaced _ h.2 refl refl refl
   message_change Interested calls effect at pieces h = replaced _ h.2 refl refl refl
@@ -302,11 +302,11 @@ module _ (dig : List ℕ → List ℕ) where
   -- ---- events
 
   order_is : {m new : _} → new ≡ m → IsOrderly m → IsOrderly new
-  order_is e o = subst (λ x. IsOrderly x) (sym e) o
+  order_is e o = rw e o
 
   without_order : {s new : _} (i : ℕ) → new ≡ without_peer i s → IsOrderly s → IsOrderly new
   without_order {s} i e o = order_is e (record {
-    few = (let le = length-without s.peers i in omega (arith, le, o.few));
+    few = (let le = length-without s.peers i in omega arith);
     in_order = from_pairs KeyBefore (take i s.peers ++ drop (i + 1) s.peers) (pairs_without KeyBefore s.peers i (to_pairs KeyBefore s.peers o.in_order));
     apart = from_pairs AskedApart (take i s.peers ++ drop (i + 1) s.peers) (pairs_without AskedApart s.peers i (to_pairs AskedApart s.peers o.apart));
     each = λ p c. (let q = o.each p (contains_without s.peers i c) in peer_in refl refl q q.missing);
@@ -326,15 +326,15 @@ module _ (dig : List ℕ → List ℕ) where
 
   follow_order : {s new i sent : _} → FollowsUp dig s i sent new → IsOrderly s → IsOrderly new
   follow_order {s} {i} f o = order_is f.after (record {
-    few = subst (λ n. n ≤ max_peers) (sym (length-set s.peers i asking)) o.few;
-    in_order = from_pairs KeyBefore (slice_set s.peers i asking) (pairs_set KeyBefore s.peers i asking f.here (λ y among r. subst (λ k. k.0 < y.key.0) (sym same.0) r) (λ y among r. subst (λ k. y.key.0 < k.0) (sym same.0) r)
+    few = rw (length-set s.peers i asking) o.few;
+    in_order = from_pairs KeyBefore (slice_set s.peers i asking) (pairs_set KeyBefore s.peers i asking f.here (λ y among r. rw same.0 r) (λ y among r. rw same.0 r)
         (to_pairs KeyBefore s.peers o.in_order));
     apart = from_pairs AskedApart (slice_set s.peers i asking) (pairs_set AskedApart s.peers i asking f.here
-        (λ y among r b own theirs. elim (Contains-append_cases f.planned.asked f.blocks b own) [ inl old ↦ r b (subst (λ bs. Contains bs b) same.2 old) theirs | inr asked ↦ (f.asks.are_open b asked).free (y, among, theirs) ])
-        (λ y among r b theirs own. elim (Contains-append_cases f.planned.asked f.blocks b own) [ inl old ↦ r b theirs (subst (λ bs. Contains bs b) same.2 old) | inr asked ↦ (f.asks.are_open b asked).free (y, among, theirs) ])
+        (λ y among r b own theirs. elim (Contains-append_cases f.planned.asked f.blocks b own) [ inl old ↦ r b (rw (← same.2) old) theirs | inr asked ↦ (f.asks.are_open b asked).free (y, among, theirs) ])
+        (λ y among r b theirs own. elim (Contains-append_cases f.planned.asked f.blocks b own) [ inl old ↦ r b theirs (rw (← same.2) old) | inr asked ↦ (f.asks.are_open b asked).free (y, among, theirs) ])
         (to_pairs AskedApart s.peers o.apart));
     each = λ q among. elim (contains_set s.peers i among) [
-      | inl is ↦ subst (λ x. IsOrderlyPeer (with_peer s i asking) x) (sym is) own
+      | inl is ↦ rw is own
       | inr other ↦ (let old = o.each q (contains_some s.peers other.0 other.2) in peer_in refl refl old old.missing)
     ];
   })
@@ -352,14 +352,14 @@ module _ (dig : List ℕ → List ℕ) where
 
       own : IsOrderlyPeer (with_peer s i asking) asking
       own = record {
-        key = subst (λ k. k.0 < s.next_key) (sym same.0) before.key;
+        key = rw same.0 before.key;
         pieces = ap length same.1 ∙ before.pieces;
-        few = (let few = f.asks.few in omega (arith, few, length-append f.planned.asked f.blocks));
+        few = (let few = f.asks.few in omega (arith, length-append f.planned.asked f.blocks));
         once = from_pairs (λ b c. b ≢ c) (f.planned.asked ++ f.blocks) (pairs_append (λ b c. b ≢ c) f.planned.asked f.blocks
-            (to_pairs (λ b c. b ≢ c) f.planned.asked (subst (λ bs. AllPairs (λ b c. b ≢ c) bs) (sym same.2) before.once)) (to_pairs (λ b c. b ≢ c) f.blocks f.asks.distinct)
-            (λ b c asked now e. (f.asks.are_open c now).free (f.peer, contains_some s.peers i f.here, subst (λ d. Contains f.peer.asked d) e (subst (λ bs. Contains bs b) same.2 asked))));
+            (to_pairs (λ b c. b ≢ c) f.planned.asked (rw same.2 before.once)) (to_pairs (λ b c. b ≢ c) f.blocks f.asks.distinct)
+            (λ b c asked now e. (f.asks.are_open c now).free (f.peer, contains_some s.peers i f.here, rw (← e) (rw (← same.2) asked))));
         missing = λ b among. elim (Contains-append_cases f.planned.asked f.blocks b among) [
-          | inl asked ↦ before.missing b (subst (λ bs. Contains bs b) same.2 asked)
+          | inl asked ↦ before.missing b (rw (← same.2) asked)
           | inr now ↦ (f.asks.are_open b now).missing
         ];
       }
@@ -379,18 +379,18 @@ module _ (dig : List ℕ → List ℕ) where
 
   joins_order : {s : EngineState} (key : PeerKey) → length s.peers < max_peers → key.0 ≡ s.next_key → IsOrderly s → IsOrderly (record s { peers = s.peers ++ new_peer s key ∷ []; next_key = s.next_key + 1 })
   joins_order {s} key few is o = record {
-    few = omega (arith, few, length-append s.peers (new_peer s key ∷ []));
+    few = omega (arith, length-append s.peers (new_peer s key ∷ []));
     in_order = from_pairs KeyBefore (s.peers ++ new_peer s key ∷ []) (pairs_append KeyBefore s.peers (new_peer s key ∷ []) (to_pairs KeyBefore s.peers o.in_order) (λ y c. absurd (contains_none c), tt)
-        (λ p q own theirs. subst (λ x. KeyBefore p x) (last theirs) (subst (λ n. p.key.0 < n) (sym is) (o.each p own).key)));
+        (λ p q own theirs. rw (← (last theirs)) (rw is (o.each p own).key)));
     apart = from_pairs AskedApart (s.peers ++ new_peer s key ∷ []) (pairs_append AskedApart s.peers (new_peer s key ∷ []) (to_pairs AskedApart s.peers o.apart) (λ y c. absurd (contains_none c), tt)
         (λ p q own theirs b mine yours. contains_none (subst (λ (x : PeerState). Contains x.asked b) (sym (last theirs)) yours)));
     each = λ q among. elim (Contains-append_cases s.peers (new_peer s key ∷ []) q among) [
       | inl own ↦ (
           let old = o.each q own in
-          record { key = omega (arith, old.key); pieces = old.pieces; few = old.few; once = old.once; missing = old.missing }
+          record { key = omega arith; pieces = old.pieces; few = old.few; once = old.once; missing = old.missing }
           )
-      | inr theirs ↦ subst (λ x. IsOrderlyPeer (record s { peers = s.peers ++ new_peer s key ∷ []; next_key = s.next_key + 1 }) x) (last theirs) (record {
-        key = omega (arith, is);
+      | inr theirs ↦ rw (← (last theirs)) (record {
+        key = omega arith;
         pieces = length-replicate (total_pieces s.torrent) false;
         few = omega arith;
         once = none_apart (λ b c. b ≢ c);
@@ -419,10 +419,10 @@ module _ (dig : List ℕ → List ℕ) where
 
   rechoked_order : {s : _} → IsOrderly s → IsOrderly (rechoked s)
   rechoked_order {s} o = record {
-    few = (let same = length-map s.peers (rechoked_peer s) in omega (arith, same, o.few));
+    few = (let same = length-map s.peers (rechoked_peer s) in omega arith);
     in_order = from_pairs KeyBefore (map (rechoked_peer s) s.peers) (pairs_map KeyBefore KeyBefore (rechoked_peer s) s.peers (λ p q r. r) (to_pairs KeyBefore s.peers o.in_order));
     apart = from_pairs AskedApart (map (rechoked_peer s) s.peers) (pairs_map AskedApart AskedApart (rechoked_peer s) s.peers (λ p q r. r) (to_pairs AskedApart s.peers o.apart));
-    each = λ q among. (let m = contains_map (rechoked_peer s) s.peers among in subst (λ x. IsOrderlyPeer (rechoked s) x) m.2 (one m.1));
+    each = λ q among. (let m = contains_map (rechoked_peer s) s.peers among in rw (← m.2) (one m.1));
   }
     where
       one : {p : _} → Contains s.peers p → IsOrderlyPeer (rechoked s) (rechoked_peer s p)
@@ -433,15 +433,15 @@ module _ (dig : List ℕ → List ℕ) where
   rechoke_order (not_rechoked x e) o = order_is e o
 
   groups_peers : (s new : EngineState) (file from : ℕ) (groups : List DeviceCalls) (total : _) → AdoptsGroups dig s file from groups total new → new.peers ≡ s.peers
-  groups_peers s new file from [] total g = ap (λ z. z.peers) g.1
+  groups_peers s new file from [] total g = cc
   groups_peers s new file from (calls ∷ groups) total g = groups_peers g.1 new file g.0.next groups g.2 g.4 ∙ ap (λ z. z.peers) g.3.after
 
   -- of no peer there is nothing to say
   none_order : {m : EngineState} → m.peers ≡ [] → IsOrderly m
   none_order none = record {
-    few = subst (λ ps. length ps ≤ max_peers) (sym none) (omega arith);
-    in_order = subst (λ ps. AllPairs KeyBefore ps) (sym none) (from_pairs KeyBefore [] tt);
-    apart = subst (λ ps. AllPairs AskedApart ps) (sym none) (from_pairs AskedApart [] tt);
+    few = rw none (omega arith);
+    in_order = rw none (from_pairs KeyBefore [] tt);
+    apart = rw none (from_pairs AskedApart [] tt);
     each = λ p c. absurd (contains_none (subst (λ ps. Contains ps p) none c));
   }
 

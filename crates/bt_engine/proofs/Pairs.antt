@@ -10,18 +10,18 @@ Pairs {X} R (x ∷ xs) = ((y : X) → Contains xs y → R x y) × Pairs R xs
 pub to_pairs : {X : Type 0} (R : X → X → Type 0) (xs : List X) → AllPairs R xs → Pairs R xs
 to_pairs R [] h = tt
 to_pairs R (x ∷ xs) h = (
-  λ y c. subst (λ z. R x z) c.2 (h 0 (suc c.0) y (omega arith) (omega (arith, c.1))),
-  to_pairs R xs (λ i j d lt within. h (suc i) (suc j) d (omega (arith, lt)) (omega (arith, within))),
+  λ y c. rw (← c.2) (h 0 (suc c.0) y (omega arith) (omega arith)),
+  to_pairs R xs (λ i j d lt within. h (suc i) (suc j) d (omega arith) (omega arith)),
 )
 
 pub contains_at : {X : Type 0} (xs : List X) (j : ℕ) (d : X) → j < length xs → Contains xs (get_or xs j d)
 contains_at xs j d lt = (j, lt, get_or_default xs j (get_or xs j d) d lt)
 
 pub from_pairs : {X : Type 0} (R : X → X → Type 0) (xs : List X) → Pairs R xs → AllPairs R xs
-from_pairs R [] p i j d lt within = absurd (omega (arith, within))
-from_pairs R (x ∷ xs) p i zero d lt within = absurd (omega (arith, lt))
-from_pairs R (x ∷ xs) p zero (suc j) d lt within = p.0 (get_or xs j d) (contains_at xs j d (omega (arith, within)))
-from_pairs R (x ∷ xs) p (suc i) (suc j) d lt within = from_pairs R xs p.1 i j d (omega (arith, lt)) (omega (arith, within))
+from_pairs R [] p i j d lt within = absurd (omega arith)
+from_pairs R (x ∷ xs) p i zero d lt within = absurd (omega arith)
+from_pairs R (x ∷ xs) p zero (suc j) d lt within = p.0 (get_or xs j d) (contains_at xs j d (omega arith))
+from_pairs R (x ∷ xs) p (suc i) (suc j) d lt within = from_pairs R xs p.1 i j d (omega arith) (omega arith)
 
 pub contains_some : {X : Type 0} (xs : List X) (i : ℕ) {x : X} → slice_get xs i ≡ Some x → Contains xs x
 contains_some [] i e = absurd cc
@@ -34,28 +34,28 @@ some_at (x ∷ xs) c = elim (contains_cases xs c) [ inl e ↦ (0, ap (λ z. Some
 
 pub pairs_at : {X : Type 0} (R : X → X → Type 0) (xs : List X) (i j : ℕ) {x y : X} → Pairs R xs → slice_get xs i ≡ Some x → slice_get xs j ≡ Some y → i < j → R x y
 pairs_at R [] i j p e f lt = absurd cc
-pairs_at R (z ∷ xs) i zero p e f lt = absurd (omega (arith, lt))
-pairs_at R (z ∷ xs) zero (suc j) {y} p e f lt = subst (λ w. R w y) (same_some refl e) (p.0 y (contains_some xs j f))
-pairs_at R (z ∷ xs) (suc i) (suc j) p e f lt = pairs_at R xs i j p.1 e f (omega (arith, lt))
+pairs_at R (z ∷ xs) i zero p e f lt = absurd (omega arith)
+pairs_at R (z ∷ xs) zero (suc j) {y} p e f lt = rw (← (same_some refl e)) (p.0 y (contains_some xs j f))
+pairs_at R (z ∷ xs) (suc i) (suc j) p e f lt = pairs_at R xs i j p.1 e f (omega arith)
 
 -- ---- an element is replaced
 
 -- what is contained then is the new one, or stands at another place
 pub contains_set : {X : Type 0} (xs : List X) (i : ℕ) {x y : X} → Contains (slice_set xs i x) y → (y ≡ x) ⊎ ((j : ℕ) × (j ≢ i) × (slice_get xs j ≡ Some y))
 contains_set [] i c = absurd (contains_none c)
-contains_set (z ∷ xs) zero c = elim (contains_cases xs c) [ inl e ↦ inl (sym e) | inr more ↦ inr (let m = some_at xs more in (suc m.0, (λ e. omega (arith, e)), m.1)) ]
+contains_set (z ∷ xs) zero c = elim (contains_cases xs c) [ inl e ↦ inl (sym e) | inr more ↦ inr (let m = some_at xs more in (suc m.0, (λ e. omega arith), m.1)) ]
 contains_set (z ∷ xs) (suc i) {x} c = elim (contains_cases (slice_set xs i x) c) [
-  | inl e ↦ inr (0, (λ f. omega (arith, f)), ap (λ w. Some w) e)
-  | inr more ↦ elim (contains_set xs i more) [ inl e ↦ inl e | inr m ↦ inr (suc m.0, (λ f. m.1 (omega (arith, f))), m.2) ]
+  | inl e ↦ inr (0, (λ f. omega arith), ap (λ w. Some w) e)
+  | inr more ↦ elim (contains_set xs i more) [ inl e ↦ inl e | inr m ↦ inr (suc m.0, (λ f. m.1 (omega arith)), m.2) ]
 ]
 
 pub pairs_set : {X : Type 0} (R : X → X → Type 0) (xs : List X) (i : ℕ) {old : X} (new : X) → slice_get xs i ≡ Some old → ((y : X) → Contains xs y → R old y → R new y) → ((y : X) → Contains xs y → R y old → R y new)
     → Pairs R xs → Pairs R (slice_set xs i new)
 pairs_set R [] i new e right left p = absurd cc
-pairs_set R (z ∷ xs) zero new e right left p = (λ y c. right y (later z xs c) (subst (λ w. R w y) (same_some refl e) (p.0 y c)), p.1)
+pairs_set R (z ∷ xs) zero new e right left p = (λ y c. right y (later z xs c) (rw (← (same_some refl e)) (p.0 y c)), p.1)
 pairs_set R (z ∷ xs) (suc i) {old} new e right left p = (
   λ y c. elim (contains_set xs i c) [
-    | inl is ↦ subst (λ w. R z w) (sym is) (left z (here xs refl) (p.0 old (contains_some xs i e)))
+    | inl is ↦ rw is (left z (here xs refl) (p.0 old (contains_some xs i e)))
     | inr m ↦ p.0 y (contains_some xs m.0 m.2)
   ],
   pairs_set R xs i new e (λ y c. right y (later z xs c)) (λ y c. left y (later z xs c)) p.1,
@@ -89,28 +89,28 @@ pairs_removed R (x ∷ xs) (suc i) p = (λ y c. p.0 y (contains_removed xs i c),
 length-removed : {X : Type 0} (xs : List X) (i : ℕ) → length (removed xs i) ≤ length xs
 length-removed [] i = omega arith
 length-removed (x ∷ xs) zero = omega arith
-length-removed (x ∷ xs) (suc i) = let le = length-removed xs i in omega (arith, le)
+length-removed (x ∷ xs) (suc i) = let le = length-removed xs i in omega arith
 
 -- what is left stood at another place
 other_removed : {X : Type 0} (xs : List X) (i j : ℕ) {x : X} → slice_get (removed xs i) j ≡ Some x → (n : ℕ) × (slice_get xs n ≡ Some x) × (n ≢ i)
 other_removed [] i zero e = absurd cc
 other_removed [] i (suc j) e = absurd cc
-other_removed (y ∷ xs) zero j e = (suc j, e, λ f. absurd (omega (arith, f)))
-other_removed (y ∷ xs) (suc i) zero e = (0, e, λ f. absurd (omega (arith, f)))
-other_removed (y ∷ xs) (suc i) (suc j) e = let r = other_removed xs i j e in (suc r.0, r.1, λ f. r.2 (omega (arith, f)))
+other_removed (y ∷ xs) zero j e = (suc j, e, λ f. absurd (omega arith))
+other_removed (y ∷ xs) (suc i) zero e = (0, e, λ f. absurd (omega arith))
+other_removed (y ∷ xs) (suc i) (suc j) e = let r = other_removed xs i j e in (suc r.0, r.1, λ f. r.2 (omega arith))
 
 pub other_without : {X : Type 0} (xs : List X) (i j : ℕ) {x : X} → slice_get (take i xs ++ drop (i + 1) xs) j ≡ Some x
     → (n : ℕ) × (slice_get xs n ≡ Some x) × (n ≢ i)
 other_without xs i j e = other_removed xs i j (ap (λ ys. slice_get ys j) (sym (removed_is xs i)) ∙ e)
 
 pub contains_without : {X : Type 0} (xs : List X) (i : ℕ) {y : X} → Contains (take i xs ++ drop (i + 1) xs) y → Contains xs y
-contains_without xs i {y} c = contains_removed xs i (subst (λ ys. Contains ys y) (removed_is xs i) c)
+contains_without xs i {y} c = contains_removed xs i (rw (← (removed_is xs i)) c)
 
 pub pairs_without : {X : Type 0} (R : X → X → Type 0) (xs : List X) (i : ℕ) → Pairs R xs → Pairs R (take i xs ++ drop (i + 1) xs)
-pairs_without R xs i p = subst (λ ys. Pairs R ys) (sym (removed_is xs i)) (pairs_removed R xs i p)
+pairs_without R xs i p = rw (removed_is xs i) (pairs_removed R xs i p)
 
 pub length-without : {X : Type 0} (xs : List X) (i : ℕ) → length (take i xs ++ drop (i + 1) xs) ≤ length xs
-length-without xs i = subst (λ ys. length ys ≤ length xs) (sym (removed_is xs i)) (length-removed xs i)
+length-without xs i = rw (removed_is xs i) (length-removed xs i)
 
 -- ---- lists that are put together, filtered and mapped
 
@@ -124,6 +124,6 @@ pairs_append R (x ∷ xs) ys p q across = (
 pub pairs_map : {X Y : Type 0} (R : X → X → Type 0) (S : Y → Y → Type 0) (f : X → Y) (xs : List X) → ((x y : X) → R x y → S (f x) (f y)) → Pairs R xs → Pairs S (map f xs)
 pairs_map R S f [] keep p = tt
 pairs_map R S f (x ∷ xs) keep p = (
-  λ y c. (let m = contains_map f xs c in subst (λ z. S (f x) z) m.2 (keep x m.0 (p.0 m.0 m.1))),
+  λ y c. (let m = contains_map f xs c in rw (← m.2) (keep x m.0 (p.0 m.0 m.1))),
   pairs_map R S f xs keep p.1,
 )

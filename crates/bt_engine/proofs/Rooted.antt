@@ -7,10 +7,10 @@ use Rattle.bt_engine.proofs.Adopting.{group_extends}
 module _ (dig : List ℕ → List ℕ) where
   -- the engine is one with the same trees
   as_before : {m new : _} → new ≡ m → AreRooted dig m → AreRooted dig new
-  as_before e r = subst (λ x. AreRooted dig x) (sym e) r
+  as_before e r = rw e r
 
   grown_rooted : (s : EngineState) (t : ℕ) {k : _} → AreRooted dig s → IsRooted dig k → AreRooted dig (with_tree s t k)
-  grown_rooted s t r rooted u j e = elim (set_cases s.trees t u e) [ inl new ↦ subst (λ x. IsRooted dig x) (sym new.1) rooted | inr old ↦ r u j old ]
+  grown_rooted s t r rooted u j e = elim (set_cases s.trees t u e) [ inl new ↦ rw new.1 rooted | inr old ↦ r u j old ]
 
   have_rooted : {s mid i p piece effect : _} → HandlesHave s i p piece effect mid → AreRooted dig s → AreRooted dig mid
   have_rooted (in_range a b e) r = as_before e r
@@ -139,5 +139,5 @@ pub right_checked : {dig : _} (k : Facts) (i : ℕ) (bytes : List ℕ) → IsRoo
 right_checked {dig} k i bytes rooted lt exact =
     let real : real_width (blocks_of k) 0 ≡ blocks_of k = omega arith in
     let wide = real_limit (blocks_of k) 0 (omega arith) in
-    let covers : CoversBlock (blocks_of k) 0 i = record { inside = record { in_height = omega arith; in_width = omega (arith, wide, real, lt) }; real = omega (arith, real, lt) } in
+    let covers : CoversBlock (blocks_of k) 0 i = record { inside = record { in_height = omega arith; in_width = omega arith }; real = omega arith } in
     held_is_checked dig k rooted (height k - 0) 0 i (dig bytes) (omega arith) (sym (value_covers dig k 0 i covers) ∙ exact.leaf)

@@ -8,7 +8,7 @@ use Rattle.bt_engine.proofs.Determined.{EachPair}
 -- ---- memory
 
 remembers : (answers : List Answer) {a : _} → HaveMemory answers → Contains answers a → ¬ IsOutOfMemory a
-remembers answers {a} memory c = subst (λ b. ¬ IsOutOfMemory b) c.2 (memory c.0 a c.1)
+remembers answers {a} memory c = rw (← c.2) (memory c.0 a c.1)
 
 memory_of : (answers : List Answer) → ((a : Answer) → Contains answers a → ¬ IsOutOfMemory a) → HaveMemory answers
 memory_of answers each k d lt = each _ (contains_at answers k d lt)
@@ -25,9 +25,9 @@ Each P [] = ⊤
 Each P (a ∷ answers) = P a × Each P answers
 
 pub all_of : (P : Answer → Type 0) (answers : List Answer) → Each P answers → All P answers
-all_of P [] each k d lt = absurd (omega (arith, lt))
+all_of P [] each k d lt = absurd (omega arith)
 all_of P (a ∷ answers) each zero d lt = each.0
-all_of P (a ∷ answers) each (suc k) d lt = all_of P answers each.1 k d (omega (arith, lt))
+all_of P (a ∷ answers) each (suc k) d lt = all_of P answers each.1 k d (omega arith)
 
 pub pairs_of : (P : Answer → Type 0) (answers others : List Answer) → Each P answers → EachPair (λ a b. P a) answers others
 pairs_of P [] others each = tt
@@ -44,9 +44,9 @@ trees_one (j ∷ []) (suc t) each apart at = absurd cc
 trees_one (i ∷ j ∷ more) t each apart at = absurd (apart 0 1 i (omega arith) (omega arith) (ap (λ (z : Facts). z.root) (each 0 i refl ∙ sym (each 1 j refl))))
 
 only_file : (files : List FileState) → length files ≡ 1 → (f : FileState) × (files ≡ f ∷ [])
-only_file [] e = absurd (omega (arith, e))
+only_file [] e = absurd (omega arith)
 only_file (f ∷ []) e = (f, refl)
-only_file (f ∷ g ∷ files) e = absurd (omega (arith, e))
+only_file (f ∷ g ∷ files) e = absurd (omega arith)
 
 root_alone : {file : File} {dig torrent k : _} → file.layer ≡ [] → IsTreeFrom dig torrent file k
     → k ≡ root_facts file.length file.root
@@ -69,12 +69,12 @@ module _ (dig : List ℕ → List ℕ) where
       }
   start_is {torrent} {file} {first} files none some starts =
       let new = starts.is_new in
-      let only = only_file first.files (new.count ∙ ap length files) in
+      let only = only_file first.files (cc) in
       let f = new.each_file 0 file only.0 (ap (λ l. slice_get l 0) files) (ap (λ l. slice_get l 0) only.1) in
       let k = f.hung some in
       let trees = trees_one first.trees only.0.tree each new.roots k.1 in
       let file_is : only.0 ≡ record { tree = 0; states = new_states file.length } = ap (λ n. record only.0 { tree = n }) trees.1 ∙ ap (λ l. record { tree = 0; states = l }) f.missing in
-      starts.is ∙ ap (λ ts. record (empty first.files) { trees = ts }) trees.0 ∙ ap empty (only.1 ∙ ap (λ g. g ∷ []) file_is)
+      starts.is ∙ ap (λ ts. record (empty first.files) { trees = ts }) trees.0 ∙ ap empty (cc)
     where
       empty : List FileState → EngineState
       empty files = record { torrent = torrent; trees = root_facts file.length file.root ∷ []; files = files; peers = []; next_key = 1; turn = 0; logged = false; pending = []; hints = [] }
@@ -89,7 +89,7 @@ module _ (dig : List ℕ → List ℕ) where
 
   pub run_join : (es fs : List Event) (cs gs : List DeviceCalls) (answers others : List Answer) (s m n : EngineState) → Run dig s es cs answers m
       → Run dig m fs gs others n → Run dig s (es ++ fs) (cs ++ gs) (answers ++ others) n
-  run_join [] fs [] gs [] others s m n x y = subst (λ z. Run dig z fs gs others n) x y
+  run_join [] fs [] gs [] others s m n x y = rw (← x) y
   run_join (e ∷ es) fs (c ∷ cs) gs (a ∷ answers) others s m n x y = (x.0, x.1, run_join es fs cs gs answers others x.0 m n x.2 y)
   run_join [] fs [] gs (a ∷ answers) others s m n x y = absurd x
   run_join [] fs (c ∷ cs) gs answers others s m n x y = absurd x
@@ -107,12 +107,12 @@ module _ (dig : List ℕ → List ℕ) where
   pub run_split : (es fs : List Event) (cs gs : List DeviceCalls) (answers : List Answer) {s n : _} → length es ≡ length cs
       → Run dig s (es ++ fs) (cs ++ gs) answers n → IsSplit s es fs cs gs answers n
   run_split [] fs [] gs answers {s} size x = record { begin = []; rest = answers; mid = s; is = refl; begins = refl; goes_on = x }
-  run_split [] fs (c ∷ cs) gs answers size x = absurd (omega (arith, size))
-  run_split (e ∷ es) fs [] gs answers size x = absurd (omega (arith, size))
+  run_split [] fs (c ∷ cs) gs answers size x = absurd (omega arith)
+  run_split (e ∷ es) fs [] gs answers size x = absurd (omega arith)
   run_split (e ∷ es) fs (c ∷ cs) gs [] size x = absurd x
   run_split (e ∷ es) fs (c ∷ cs) gs (a ∷ answers) size x =
-      let r = run_split es fs cs gs answers (omega (arith, size)) x.2 in
-      record { begin = a ∷ r.begin; rest = r.rest; mid = r.mid; is = ap (λ l. a ∷ l) r.is; begins = (x.0, x.1, r.begins); goes_on = r.goes_on }
+      let r = run_split es fs cs gs answers (omega arith) x.2 in
+      record { begin = a ∷ r.begin; rest = r.rest; mid = r.mid; is = cc; begins = (x.0, x.1, r.begins); goes_on = r.goes_on }
 
   pub record IsOneStep (s : EngineState) (e : Event) (c : DeviceCalls) (answers : List Answer) (n : EngineState) : Type 0 where
     pub answer : Answer
@@ -121,5 +121,5 @@ module _ (dig : List ℕ → List ℕ) where
 
   pub one_step : (e : Event) (c : DeviceCalls) (answers : List Answer) (s n : EngineState) → Run dig s (e ∷ []) (c ∷ []) answers n → IsOneStep s e c answers n
   one_step e c [] s n x = absurd x
-  one_step e c (a ∷ []) s n x = record { answer = a; is = refl; step = subst (λ m. Step dig s e c a m) (sym x.2) x.1 }
+  one_step e c (a ∷ []) s n x = record { answer = a; is = refl; step = rw x.2 x.1 }
   one_step e c (a ∷ b ∷ answers) s n x = absurd x.2

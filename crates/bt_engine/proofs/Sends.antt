@@ -26,7 +26,7 @@ plain_append : (xs ys : List Sent) → Plain xs → Plain ys → Plain (xs ++ ys
 plain_append xs ys f g x c = elim (Contains-append_cases xs ys x c) [ inl one ↦ f x one | inr more ↦ g x more ]
 
 plain_is : {xs ys : _} → xs ≡ ys → Plain ys → Plain xs
-plain_is e f = subst (λ l. Plain l) (sym e) f
+plain_is e f = rw e f
 
 plain_haves : (old new : EngineState) → Plain (haves old new)
 plain_haves old new x c =
@@ -76,7 +76,7 @@ sends_plain : (P : PeerKey → ℕ → ℕ → List ℕ → Type 0) (xs : List S
 sends_plain P xs f key piece begin bytes c = let no_data = f (piece_frame key piece begin bytes) c in absurd cc
 
 sends_is : (P : PeerKey → ℕ → ℕ → List ℕ → Type 0) {xs ys : _} → xs ≡ ys → Sends P ys → Sends P xs
-sends_is P e f = subst (λ l. Sends P l) (sym e) f
+sends_is P e f = rw e f
 
 sends_append : (P : PeerKey → ℕ → ℕ → List ℕ → Type 0) (xs ys : List Sent) → Sends P xs → Sends P ys → Sends P (xs ++ ys)
 sends_append P xs ys f g key piece begin bytes c = elim (Contains-append_cases xs ys (piece_frame key piece begin bytes) c) [ inl one ↦ f key piece begin bytes one | inr more ↦ g key piece begin bytes more ]
@@ -125,16 +125,15 @@ module _ (dig : List ℕ → List ℕ) where
               blocks = f.bytes;
               is_request = refl;
               same_key = ap (λ (x : Sent). x.peer) same;
-              same_piece = ap (λ x. x.0) says;
-              same_begin = ap (λ x. x.1.0) says;
+              same_piece = cc;
+              same_begin = cc;
               unchoked = open_to;
               spans = place;
-              hung = ap (option_and_then (λ q. slice_get s.trees q.tree)) f.is_file.here ∙ f.is_file.hung;
-              read = λ j among. subst (λ cs. Contains cs (span.file, call_of f.tree.file_length (given j (f.bytes j)))) (sym f.made)
-                  (map_contains (λ r. (span.file, call_of f.tree.file_length r)) f.reads
+              hung = cc;
+              read = λ j among. rw f.made (map_contains (λ r. (span.file, call_of f.tree.file_length r)) f.reads
                   (subst (λ rs. Contains rs (given j (f.bytes j))) (sym f.right.made) (map_contains (λ i. given i (f.bytes i)) (spanned_blocks span) among)));
               exact = f.right.right;
-              cut = sym (ap (λ x. x.1.1) says);
+              cut = cc;
             }
         | inr none ↦ absurd (contains_none none)
       ]
@@ -208,7 +207,7 @@ module _ (dig : List ℕ → List ℕ) where
   taken_sends : {s mid key i p calls effect : _} → IsPeer s key i p → TakesEvent dig s i p calls effect mid → Sends (IsServed dig s (Next key) calls) effect.send
   taken_sends {s} {mid} {key} {i} {p} {calls} {effect} peer t asker piece begin bytes c =
       let f = event_sends (with_peer s i (record p { stream = t.rest })) mid i (record p { stream = t.rest }) t.event calls effect t.handles asker piece begin bytes c in
-      let same : key ≡ asker = sym peer.same_key ∙ f.same_key in
+      let same : key ≡ asker = cc in
       record {
         place = i;
         peer = p;
@@ -217,7 +216,7 @@ module _ (dig : List ℕ → List ℕ) where
         span = f.span;
         tree = f.tree;
         blocks = f.blocks;
-        is_next = ap (λ k. Next k) same;
+        is_next = cc;
         is_peer = record { here = peer.here; same_key = f.same_key };
         takes = rw (sym f.is_request) t.takes;
         unchoked = f.unchoked;

@@ -30,24 +30,24 @@ record Keeps (s m : EngineState) : Type 0 where
 
 keeps_then : {s m n : _} → Keeps s m → Keeps m n → Keeps s n
 keeps_then a b = record {
-  torrent = b.torrent ∙ a.torrent;
-  count = b.count ∙ a.count;
-  files = λ i f at. (let g = b.files i f at in let h = a.files i g.before g.here in record { before = h.before; here = h.here; tree = g.tree ∙ h.tree; blocks = g.blocks ∙ h.blocks });
-  roots = b.roots ∙ a.roots;
-  trees = λ t k at. (let g = a.trees t k at in let h = b.trees t g.after g.here in record { after = h.after; here = h.here; root = h.root ∙ g.root; length = h.length ∙ g.length });
-  logged = b.logged ∙ a.logged;
-  hints = b.hints ∙ a.hints;
-  pending = λ none. b.pending (a.logged ∙ none) ∙ a.pending none;
+  torrent = cc;
+  count = cc;
+  files = λ i f at. (let g = b.files i f at in let h = a.files i g.before g.here in record { before = h.before; here = h.here; tree = cc; blocks = cc });
+  roots = cc;
+  trees = λ t k at. (let g = a.trees t k at in let h = b.trees t g.after g.here in record { after = h.after; here = h.here; root = cc; length = cc });
+  logged = cc;
+  hints = cc;
+  pending = λ none. b.pending (cc) ∙ a.pending none;
 }
 
 -- the engine has all of this as before
 same_all : {s m : EngineState} → m.torrent ≡ s.torrent → m.files ≡ s.files → m.trees ≡ s.trees → m.logged ≡ s.logged → m.hints ≡ s.hints → m.pending ≡ s.pending → Keeps s m
 same_all torrent files trees logged hints pending = record {
   torrent = torrent;
-  count = ap length files;
-  files = λ i f at. record { before = f; here = sym (ap (λ fs. slice_get fs i) files) ∙ at; tree = refl; blocks = refl };
-  roots = ap (λ ts. map (λ k. k.root) ts) trees;
-  trees = λ t k at. record { after = k; here = ap (λ ts. slice_get ts t) trees ∙ at; root = refl; length = refl };
+  count = cc;
+  files = λ i f at. record { before = f; here = cc; tree = refl; blocks = refl };
+  roots = cc;
+  trees = λ t k at. record { after = k; here = cc; root = refl; length = refl };
   logged = logged;
   hints = hints;
   pending = λ none. pending;
@@ -70,7 +70,7 @@ file_keeps {s} file {f} new at tree blocks = record {
   torrent = refl;
   count = length-set s.files file new;
   files = λ i g there. elim (set_cases s.files file i there) [
-    | inl now ↦ record { before = f; here = ap (slice_get s.files) now.0 ∙ at; tree = ap (λ (q : FileState). q.tree) now.1 ∙ tree; blocks = ap (λ (q : FileState). length q.states) now.1 ∙ blocks }
+    | inl now ↦ record { before = f; here = cc; tree = cc; blocks = cc }
     | inr old ↦ record { before = g; here = old; tree = refl; blocks = refl }
   ];
   roots = refl;
@@ -82,7 +82,7 @@ file_keeps {s} file {f} new at tree blocks = record {
 
 map_set : {X Y : Type 0} (f : X → Y) (xs : List X) (i : ℕ) {x : X} (y : X) → slice_get xs i ≡ Some x → f y ≡ f x → map f (slice_set xs i y) ≡ map f xs
 map_set f [] i y e same = refl
-map_set f (z ∷ xs) zero y e same = ap (λ w. w ∷ map f xs) (same ∙ ap f (sym (same_some refl e)))
+map_set f (z ∷ xs) zero y e same = cc
 map_set f (z ∷ xs) (suc i) y e same = ap (λ ws. f z ∷ ws) (map_set f xs i y e same)
 
 tree_keeps : {s : EngineState} (t : ℕ) {old : _} (new : Facts) → slice_get s.trees t ≡ Some old → new.root ≡ old.root → new.file_length ≡ old.file_length → Keeps s (with_tree s t new)
@@ -93,8 +93,8 @@ tree_keeps {s} t {old} new at root size = record {
   roots = map_set (λ k. k.root) s.trees t new at root;
   trees = λ u k there. elim (set_get s.trees t u {y = new} there) [
     | inl now ↦ (
-        let is : old ≡ k = same_some at (ap (slice_get s.trees) (sym now.0) ∙ there) in
-        record { after = new; here = now.1; root = root ∙ ap (λ (l : Facts). l.root) is; length = size ∙ ap (λ (l : Facts). l.file_length) is }
+        let is : old ≡ k = cc in
+        record { after = new; here = now.1; root = cc; length = cc }
         )
     | inr still ↦ record { after = k; here = still; root = refl; length = refl }
   ];
@@ -130,21 +130,21 @@ as_long f (x ∷ xs) (y ∷ ys) same = ap (λ n. suc n) (as_long (λ i. f (suc i
 module _ (dig : List ℕ → List ℕ) where
   settle_keeps : {is_meant tree from count old new calls notes : _} → SettlesIn dig is_meant tree from count old calls notes new → Keeps old new
   settle_keeps {tree} {count} {old} {new} s = record {
-    torrent = ap (λ z. z.torrent) s.others;
+    torrent = cc;
     count = as_long (λ file. judged_file dig s.facts (s.reads file)) old.files new.files s.files;
     files = λ i f at. (
         let m = map_some (judged_file dig s.facts (s.reads i)) (slice_get old.files i) (sym (s.files i) ∙ at) in
         record {
           before = m.0;
           here = m.1;
-          tree = ap (λ (q : FileState). q.tree) (sym m.2);
+          tree = cc;
           blocks = ap (λ (q : FileState). length q.states) (sym m.2) ∙ length-judged dig s.facts false (s.reads i) m.0.states;
         }
         );
-    roots = ap (λ z. map (λ k. k.root) z.trees) s.others;
-    trees = λ t k at. record { after = k; here = ap (λ z. slice_get z.trees t) s.others ∙ at; root = refl; length = refl };
-    logged = ap (λ z. z.logged) s.others;
-    hints = ap (λ z. z.hints) s.others;
+    roots = cc;
+    trees = λ t k at. record { after = k; here = cc; root = refl; length = refl };
+    logged = cc;
+    hints = cc;
     pending = λ none. ap (λ z. z.pending) s.others;
   }
 
@@ -324,13 +324,13 @@ module _ (dig : List ℕ → List ℕ) where
   roots_apart : (xs ys : List Facts) → map (λ (k : Facts). k.root) ys ≡ map (λ (k : Facts). k.root) xs → AllPairs (λ (j k : Facts). j.root ≢ k.root) xs → AllPairs (λ (j k : Facts). j.root ≢ k.root) ys
   roots_apart xs ys same apart i j d lt within e =
       let size : length ys ≡ length xs = sym (length-map ys (λ (k : Facts). k.root)) ∙ ap length same ∙ length-map xs (λ (k : Facts). k.root) in
-      let at : (n : ℕ) → n < length ys → (get_or xs n d).root ≡ (get_or ys n d).root = λ n below. sym (root_at xs n d (omega (arith, below, size))) ∙ ap (λ rs. get_or rs n d.root) (sym same) ∙ root_at ys n d below in
-      apart i j d lt (omega (arith, within, size)) (at i (omega (arith, lt, within)) ∙ e ∙ sym (at j within))
+      let at : (n : ℕ) → n < length ys → (get_or xs n d).root ≡ (get_or ys n d).root = λ n below. sym (root_at xs n d (omega arith)) ∙ ap (λ rs. get_or rs n d.root) (sym same) ∙ root_at ys n d below in
+      apart i j d lt (omega arith) (at i (omega arith) ∙ e ∙ sym (at j within))
 
   file_shape : {file trees : _} (m : EngineState) {f : FileState} {before : _} → HasShapeOf file trees before → f.tree ≡ before.tree → length f.states ≡ length before.states
       → ((t : ℕ) (k : Facts) → slice_get trees t ≡ Some k → SameTree m.trees t k) → HasShapeOf file m.trees f
   file_shape m {before} old tree blocks keep = record {
-    blocks = blocks ∙ old.blocks;
+    blocks = cc;
     hung = λ some. (
         let k = old.hung some in
         let l = keep before.tree k.0 k.1 in
@@ -340,15 +340,15 @@ module _ (dig : List ℕ → List ℕ) where
 
   shape_after : {torrent s new : _} → IsShaped torrent s → Keeps s new → IsShaped torrent new
   shape_after {s} {new} shaped k = record {
-    same = k.torrent ∙ shaped.same;
+    same = cc;
     roots = roots_apart s.trees new.trees k.roots shaped.roots;
-    count = k.count ∙ shaped.count;
+    count = cc;
     each = λ i file f listed at. (let g = k.files i f at in file_shape new (shaped.each i file g.before listed g.here) g.tree g.blocks k.trees);
   }
 
   pub shape_at_first : {torrent first : _} → Starts dig torrent first → IsShaped torrent first
   shape_at_first starts = record {
-    same = ap (λ z. z.torrent) starts.is;
+    same = cc;
     roots = starts.is_new.roots;
     count = starts.is_new.count;
     each = λ i file f listed at. (
@@ -365,8 +365,8 @@ module _ (dig : List ℕ → List ℕ) where
       let k = run_keeps first events calls answers run in (
         shape_after (shape_at_first starts) k,
         record {
-          none = k.logged ∙ ap (λ z. z.logged) starts.is;
-          read = k.hints ∙ ap (λ z. z.hints) starts.is;
+          none = cc;
+          read = cc;
           written = k.pending (ap (λ z. z.logged) starts.is) ∙ ap (λ z. z.pending) starts.is;
         },
       )

@@ -10,16 +10,16 @@ use Rattle.bt_engine.proofs.Tame.{Touches, keeping, putting, step_tame}
 -- ---- calls of one device
 
 call_keeps : (old new : History) (call : Call) → KeepsBytes call → IsAnswered old call new → new.now.bytes ≡ old.now.bytes
-call_keeps old new (length_given len) k a = ap (λ h. h.now.bytes) a.1
-call_keeps old new length_fault k a = ap (λ h. h.now.bytes) a
-call_keeps old new (bytes_given at wanted bytes) k a = ap (λ h. h.now.bytes) a.1
-call_keeps old new (read_fault at wanted) k a = ap (λ h. h.now.bytes) a
+call_keeps old new (length_given len) k a = cc
+call_keeps old new length_fault k a = cc
+call_keeps old new (bytes_given at wanted bytes) k a = cc
+call_keeps old new (read_fault at wanted) k a = cc
 call_keeps old new (bytes_written at bytes) k a = absurd k
 call_keeps old new (write_fault at bytes) k a = absurd k
 call_keeps old new (length_set len) k a = absurd k
 call_keeps old new (resize_fault len) k a = absurd k
 call_keeps old new sync_made k a = ap (λ h. h.now.bytes) a
-call_keeps old new sync_fault k a = ap (λ h. h.now.bytes) a
+call_keeps old new sync_fault k a = cc
 
 -- a device's bytes stay, and what was read stands there
 pub record Reads (old new : History) (calls : List Call) : Type 0 where
@@ -27,12 +27,12 @@ pub record Reads (old new : History) (calls : List Call) : Type 0 where
   pub read : (at wanted : ℕ) (bytes : List ℕ) → Contains calls (bytes_given at wanted bytes) → bytes ≡ take wanted (drop at old.now.bytes)
 
 pub calls_keep : (old : History) {new : _} (calls : List Call) → ((c : Call) → Contains calls c → KeepsBytes c) → AreAnswered old calls new → Reads old new calls
-calls_keep old [] keep a = record { same = ap (λ h. h.now.bytes) a; read = λ at wanted bytes c. absurd (contains_none c) }
+calls_keep old [] keep a = record { same = cc; read = λ at wanted bytes c. absurd (contains_none c) }
 calls_keep old (call ∷ calls) keep a =
     let one : a.0.now.bytes ≡ old.now.bytes = call_keeps old a.0 call (keep call (here calls refl)) a.1 in
     let more = calls_keep a.0 calls (λ c among. keep c (later call calls among)) a.2 in
     record {
-      same = more.same ∙ one;
+      same = cc;
       read = λ at wanted bytes c. elim (contains_cases calls c) [
         | inl is ↦ (let answered : IsAnswered old (bytes_given at wanted bytes) a.0 = subst (λ x. IsAnswered old x a.0) is a.1 in answered.0)
         | inr among ↦ more.read at wanted bytes among ∙ ap (λ xs. take wanted (drop at xs)) one
@@ -44,10 +44,10 @@ pub of_all : {file : ℕ} (calls : DeviceCalls) {c : _} → Contains (calls_of f
 of_all {file} calls {c} among =
     let m = contains_map (λ a. a.1) (filter (λ a. a.0 == file) calls) among in
     let t = contains_filter (λ a. a.0 == file) calls m.1 in
-    subst (λ a. Contains calls a) (pair_is m.0 (eqb-true m.0.0 file t.1) m.2) t.0
+    rw (← (pair_is m.0 (eqb-true m.0.0 file t.1) m.2)) t.0
   where
     pair_is : (a : ℕ × Call) → a.0 ≡ file → a.1 ≡ c → a ≡ (file, c)
-    pair_is (g, y) e same = ap (λ z. (z, y)) e ∙ ap (λ z. (file, z)) same
+    pair_is (g, y) e same = cc
 
 none_false : (x : ℕ × Call) (file : ℕ) → (x.0 == file) ≡ false → calls_of file (x ∷ []) ≡ []
 none_false x file e = rw e refl
@@ -70,25 +70,25 @@ among_file {file} (x ∷ calls) {c} among = by (x.0 == file) refl (contains_case
 moved : {dig : List ℕ → List ℕ} {old new : Facts} (xs ys : List ℕ) {i : ℕ} → new.file_length ≡ old.file_length → ((d : List ℕ) → value_at dig old 0 i ≡ Some d → value_at dig new 0 i ≡ Some d)
     → stored_block old.file_length ys i ≡ stored_block old.file_length xs i → IsRight dig old i (stored_block old.file_length xs i) → IsRight dig new i (stored_block new.file_length ys i)
 moved {dig} {old} {new} xs ys {i} size kept same r =
-    let is : stored_block new.file_length ys i ≡ stored_block old.file_length xs i = ap (λ n. stored_block n ys i) size ∙ same in
-    record { whole = ap length is ∙ r.whole ∙ ap (λ n. block_length n i) (sym size); leaf = kept _ r.leaf ∙ ap (λ x. Some (dig x)) (sym is) }
+    let is : stored_block new.file_length ys i ≡ stored_block old.file_length xs i = cc in
+    record { whole = cc; leaf = kept _ r.leaf ∙ ap (λ x. Some (dig x)) (sym is) }
 
 -- a block that was written stands there
 stands : (n i : ℕ) (old : History) {new : _} (bytes : List ℕ) → length bytes ≡ block_length n i → new ≡ after_write old (full_block_length * i) bytes → stored_block n new.now.bytes i ≡ bytes
-stands n i old {new} [] size e = ap (λ m. take m (drop (full_block_length * i) new.now.bytes)) (sym size)
+stands n i old {new} [] size e = cc
 stands n i old (x ∷ bytes) size e = ap (λ h. stored_block n h.now.bytes i) e ∙ own_bytes n old.now.bytes i size
 
 -- another block stays
 others : (n i j : ℕ) (old : History) {new : _} (bytes : List ℕ) → i ≢ j → length bytes ≡ block_length n j → length (stored_block n old.now.bytes i) ≡ block_length n i
     → new ≡ after_write old (full_block_length * j) bytes → stored_block n new.now.bytes i ≡ stored_block n old.now.bytes i
-others n i j old [] apart size whole e = ap (λ h. stored_block n h.now.bytes i) e
+others n i j old [] apart size whole e = cc
 others n i j old (x ∷ bytes) apart size whole e = ap (λ h. stored_block n h.now.bytes i) e ∙ other_bytes n old.now.bytes (x ∷ bytes) i j apart size whole
 
 -- also where the write failed
 torn : (n i j : ℕ) (old new : History) (bytes : List ℕ) → i ≢ j → length bytes ≡ block_length n j → length (stored_block n old.now.bytes i) ≡ block_length n i
     → AfterWriteFault (full_block_length * j) bytes old new → stored_block n new.now.bytes i ≡ stored_block n old.now.bytes i
-torn n i j old new [] apart size whole e = ap (λ h. stored_block n h.now.bytes i) e
-torn n i j old new (x ∷ bytes) apart size whole (inl e) = ap (λ h. stored_block n h.now.bytes i) e
+torn n i j old new [] apart size whole e = cc
+torn n i j old new (x ∷ bytes) apart size whole (inl e) = cc
 torn n i j old new (x ∷ bytes) apart size whole (inr t) = ap (λ h. stored_block n h.now.bytes i) t.2 ∙ torn_bytes n i j apart size t.1 whole
 
 apart_by : Some Missing ≡ Some Marked → ⊥
@@ -110,19 +110,19 @@ kept_block dig {files} {trees} file i {f} {k} {calls} old new at hung marked (pu
   where
     by : (t : Bool) → (b.file == file) ≡ t → stored_block k.file_length new.now.bytes i ≡ stored_block k.file_length old.now.bytes i
     by false e =
-        let none : calls_of file calls ≡ [] = ap (calls_of file) made ∙ none_false (b.file, call) file e in
+        let none : calls_of file calls ≡ [] = cc in
         let still : AreAnswered old [] new = subst (λ cs. AreAnswered old cs new) none answered in
         ap (λ h. stored_block k.file_length h.now.bytes i) still
     by true e =
-        let one : calls_of file calls ≡ call ∷ [] = ap (calls_of file) made ∙ one_true (b.file, call) file e in
+        let one : calls_of file calls ≡ call ∷ [] = cc in
         let a : AreAnswered old (call ∷ []) new = subst (λ cs. AreAnswered old cs new) one answered in
         let same_file : b.file ≡ file = eqb-true b.file file e in
-        let g_is : g ≡ f = same_some (sym (ap (slice_get files) same_file) ∙ there) at in
-        let l_is : l ≡ k = same_some (ap (λ (q : FileState). slice_get trees q.tree) (sym g_is) ∙ rooted) hung in
-        let gone : slice_get f.states b.block ≡ Some Missing = ap (λ (q : FileState). slice_get q.states b.block) (sym g_is) ∙ missing in
-        let apart : i ≢ b.block = λ same. apart_by (sym gone ∙ ap (slice_get f.states) (sym same) ∙ marked) in
-        let long : length bytes ≡ block_length k.file_length b.block = size ∙ ap (λ (q : Facts). block_length q.file_length b.block) l_is in
-        let answer : IsAnswered old call new = subst (λ h. IsAnswered old call h) (sym a.2) a.1 in
+        let g_is : g ≡ f = cc in
+        let l_is : l ≡ k = cc in
+        let gone : slice_get f.states b.block ≡ Some Missing = cc in
+        let apart : i ≢ b.block = λ same. apart_by (cc) in
+        let long : length bytes ≡ block_length k.file_length b.block = cc in
+        let answer : IsAnswered old call new = rw a.2 a.1 in
         elim is [
           | inl wrote ↦ others k.file_length i b.block old bytes apart long whole (let x : IsAnswered old (bytes_written (full_block_length * b.block) bytes) new = subst (λ c. IsAnswered old c new) wrote answer in x)
           | inr failed ↦ torn k.file_length i b.block old new bytes apart long whole (let x : IsAnswered old (write_fault (full_block_length * b.block) bytes) new = subst (λ c. IsAnswered old c new) failed answer in x)
@@ -137,32 +137,32 @@ module _ {D : Type 0} (history : D → History) (honest : D → Type 0) (faults 
       let tame = step_tame dig old new event calls answer step in
       let grown = tame.0 file f k at hung in
       let b : BlockId = block_id file i in
-      let now : state_at new b ≡ Some Marked = ap (option_and_then (λ (q : FileState). slice_get q.states i)) at ∙ marked in
-      let tree : tree_of new file ≡ Some k = ap (option_and_then (λ (q : FileState). slice_get new.trees q.tree)) at ∙ hung in
+      let now : state_at new b ≡ Some Marked = cc in
+      let tree : tree_of new file ≡ Some k = cc in
       elim (step_cases dig b old new event calls answer step now) [
         | inl was ↦
-            let marked_before : slice_get grown.old_file.states i ≡ Some Marked = sym (ap (option_and_then (λ (q : FileState). slice_get q.states i)) grown.here) ∙ was in
+            let marked_before : slice_get grown.old_file.states i ≡ Some Marked = cc in
             let r = sound grown.old_file grown.old_tree grown.here grown.hung i marked_before in
             moved before.now.bytes after.now.bytes grown.same_length (grown.kept i)
             (kept_block dig file i before after grown.here grown.hung marked_before tame.1 answered r.whole) r
         | inr (brought x) ↦
-            let same : x.tree ≡ k = same_some x.hung tree in
-            let r : IsRight dig k i x.bytes = subst (λ l. IsRight dig l i x.bytes) same x.right in
+            let same : x.tree ≡ k = cc in
+            let r : IsRight dig k i x.bytes = rw (← same) x.right in
             let one : calls_of file calls ≡ bytes_written (full_block_length * i) x.bytes ∷ [] = ap (calls_of file) x.written ∙ one_true (file, bytes_written (full_block_length * i) x.bytes) file (eq-eqb file file refl) in
             let a : AreAnswered before (bytes_written (full_block_length * i) x.bytes ∷ []) after = subst (λ cs. AreAnswered before cs after) one answered in
             let is : stored_block k.file_length after.now.bytes i ≡ x.bytes = stands k.file_length i before x.bytes r.whole (a.2 ∙ a.1) in
-            subst (λ bytes. IsRight dig k i bytes) (sym is) r
+            rw is r
         | inr (read_back x) ↦ read_right x.hung x.read x.right tree tame.1
         | inr (found x) ↦ read_right x.hung x.read x.right tree tame.1
       ]
     where
       read_right : {l bytes : _} → tree_of new file ≡ Some l → Contains calls (file, call_of l.file_length (given i bytes)) → IsRight dig l i bytes → tree_of new file ≡ Some k → Touches old.files old.trees calls → IsRight dig k i (stored_block k.file_length after.now.bytes i)
       read_right {l} {bytes} l_hung l_read l_right tree (keeping keep) =
-          let same : l ≡ k = same_some l_hung tree in
+          let same : l ≡ k = cc in
           let reads = calls_keep before (calls_of file calls) (λ c among. keep (file, c) (of_all calls among)) answered in
           let there : bytes ≡ stored_block l.file_length before.now.bytes i = reads.read _ _ bytes (among_file calls l_read) in
-          let is : bytes ≡ stored_block k.file_length after.now.bytes i = there ∙ ap (λ (m : Facts). stored_block m.file_length before.now.bytes i) same ∙ ap (λ xs. stored_block k.file_length xs i) (sym reads.same) in
-          subst (λ ys. IsRight dig k i ys) is (subst (λ m. IsRight dig m i bytes) same l_right)
+          let is : bytes ≡ stored_block k.file_length after.now.bytes i = cc in
+          rw (← is) (rw (← same) l_right)
       read_right {l} {bytes} l_hung l_read l_right tree (putting c more g m call there rooted missing size made is) =
           let one : Contains ((c.file, call) ∷ []) (file, call_of l.file_length (given i bytes)) = subst (λ cs. Contains cs (file, call_of l.file_length (given i bytes))) made l_read in
           elim (contains_cases {x = (c.file, call)} {y = (file, call_of l.file_length (given i bytes))} [] one) [
@@ -182,8 +182,8 @@ module _ {D : Type 0} (history : D → History) (honest : D → Type 0) (faults 
   pub run_sound : (old new : EngineState) (events : List Event) (calls : List DeviceCalls) (answers : List Answer) (disks after : List (Option D)) → RunOn history honest faults dig old disks events calls answers new after
       → IsSound history honest dig old disks → IsSound history honest dig new after
   run_sound old new [] [] [] disks after run sound = λ file f k e is_file there honest_now.
-      sound file f k e (record { here = sym (ap (λ (s : EngineState). slice_get s.files file) run.0) ∙ is_file.here; hung = sym (ap (λ (s : EngineState). slice_get s.trees f.tree) run.0) ∙ is_file.hung })
-      (sym (ap (λ ds. slice_get ds file) run.1) ∙ there) honest_now
+      sound file f k e (record { here = cc; hung = cc })
+      (cc) honest_now
   run_sound old new (e ∷ es) (c ∷ calls) (a ∷ answers) disks after run sound = run_sound run.0 new es calls answers run.1 after run.4 (step_sound old run.0 e c a disks run.1 run.2 run.3 sound)
   run_sound old new [] (c ∷ calls) answers disks after run sound = absurd run
   run_sound old new [] [] (a ∷ answers) disks after run sound = absurd run

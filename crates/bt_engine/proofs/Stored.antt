@@ -38,18 +38,18 @@ index_at n bytes i j lt = get_or-take (block_length n i) (drop (16384 * i) bytes
 same_at : (n : ℕ) (xs ys : List ℕ) (i : ℕ) → length (stored_block n xs i) ≡ block_length n i → length xs ≤ length ys
     → ((j : ℕ) → 16384 * i ≤ j → j < 16384 * i + block_length n i → j < length xs → get_or ys j 0 ≡ get_or xs j 0) → stored_block n ys i ≡ stored_block n xs i
 same_at n xs ys i whole longer same =
-    same_number_lists (stored_block n ys i) (stored_block n xs i) (omega (arith, length_at n xs i, length_at n ys i, whole))
+    same_number_lists (stored_block n ys i) (stored_block n xs i) (omega (arith, length_at n xs i, length_at n ys i))
     (λ k lt.
     let low : k < block_length n i = omega (arith, length_at n ys i) in
-    index_at n ys i k low ∙ same (16384 * i + k) (omega arith) (omega arith) (omega (arith, length_at n xs i, whole)) ∙ sym (index_at n xs i k low))
+    index_at n ys i k low ∙ same (16384 * i + k) (omega arith) (omega arith) (omega (arith, length_at n xs i)) ∙ sym (index_at n xs i k low))
 
 pub own_bytes : (n : ℕ) (xs : List ℕ) {more : _} (i : ℕ) → length more ≡ block_length n i → stored_block n (written xs (16384 * i) more) i ≡ more
 own_bytes n xs {more} i size =
     let all = length_at n (written xs (16384 * i) more) i in
-    same_number_lists (stored_block n (written xs (16384 * i) more) i) more (omega (arith, all, length-written xs more (16384 * i), size))
+    same_number_lists (stored_block n (written xs (16384 * i) more) i) more (omega (arith, length-written xs more (16384 * i)))
     (λ k lt.
-    let low : k < block_length n i = omega (arith, all) in
-    index_at n (written xs (16384 * i) more) i k low ∙ written_inside xs more (16384 * i) k (omega (arith, size)))
+    let low : k < block_length n i = omega arith in
+    index_at n (written xs (16384 * i) more) i k low ∙ written_inside xs more (16384 * i) k (omega arith))
 
 away : (n i j : ℕ) (x m : ℕ) → i ≢ j → m ≤ 16384 → 16384 * i ≤ x → x < 16384 * i + block_length n i → (x < 16384 * j) ⊎ (16384 * j + m ≤ x)
 away n i j x m apart few from to = elim (cases_lt x (16384 * j)) [ inl lt ↦ inl lt | inr le ↦ inr (omega arith) ]
@@ -81,35 +81,35 @@ whole_file : (dig : List ℕ → List ℕ) (k : Facts) (bytes : List ℕ) → 0 
 whole_file dig k bytes some right =
     let n = k.file_length in
     let last = right ((n + 16383) / 16384 - 1) (omega arith) in
-    omega (arith, length-take n bytes, length_at n bytes ((n + 16383) / 16384 - 1), last.whole)
+    omega (arith, length-take n bytes, length_at n bytes ((n + 16383) / 16384 - 1))
 
 block_is : {n : ℕ} (bytes : List ℕ) (i : ℕ) → length (take n bytes) ≡ n → block_at (take n bytes) i ≡ stored_block n bytes i
 block_is {n} bytes i whole =
     let front = length-take 16384 (drop (16384 * i) (take n bytes)) in
     let back = length-drop (16384 * i) (take n bytes) in
-    same_number_lists (block_at (take n bytes) i) (stored_block n bytes i) (omega (arith, front, back, whole, length_at n bytes i, length-take n bytes))
+    same_number_lists (block_at (take n bytes) i) (stored_block n bytes i) (omega (arith, length_at n bytes i, length-take n bytes))
     (λ j lt.
-    let low : j < block_length n i = omega (arith, front, back, whole) in
+    let low : j < block_length n i = omega arith in
     get_or-take 16384 (drop (16384 * i) (take n bytes)) j 0 (omega arith) ∙ get_or-drop (16384 * i) (take n bytes) j 0 ∙ get_or-take n bytes (16384 * i + j) 0 (omega arith) ∙ sym (index_at n bytes i j low))
 
 node_is : {dig k : _} (bytes : List ℕ) → IsRooted dig k → length (take k.file_length bytes) ≡ k.file_length → ((i : ℕ) → i < blocks_of k → IsRight dig k i (stored_block k.file_length bytes i))
     → (layer : ℕ) {i : ℕ} → IsInside (blocks_of k) layer i → value_at dig k layer i ≡ Some (node_digest dig (take k.file_length bytes) layer i)
 node_is {dig} {k} bytes rooted whole right zero {i} inside =
     let file = take k.file_length bytes in
-    let count : block_count (length file) ≡ blocks_of k = ap block_count whole in
+    let count : block_count (length file) ≡ blocks_of k = cc in
     elim (cases_lt i (blocks_of k)) [
-      | inl lt ↦ (right i lt).leaf ∙ ap (λ x. Some (dig x)) (sym (block_is bytes i whole)) ∙ ap (λ x. Some x) (sym (leaf_is dig file i (subst (λ m. i < m) (sym count) lt)))
+      | inl lt ↦ (right i lt).leaf ∙ ap (λ x. Some (dig x)) (sym (block_is bytes i whole)) ∙ ap (λ x. Some x) (sym (leaf_is dig file i (rw count lt)))
       | inr le ↦
           let real : real_width (blocks_of k) 0 ≡ blocks_of k = real_leaves in
-          value_padding dig k 0 i (record { inside = inside; past = subst (λ m. m ≤ i) (sym real) le }) ∙ ap (λ x. Some x) (sym (leaf_past dig file i (subst (λ m. m ≤ i) (sym count) le)))
+          value_padding dig k 0 i (record { inside = inside; past = rw real le }) ∙ ap (λ x. Some x) (sym (leaf_past dig file i (rw count le)))
     ]
 node_is {dig} {k} bytes rooted whole right (suc layer) {i} inside =
     let file = take k.file_length bytes in
     let next : layer + 1 ≡ suc layer = omega arith in
     let low : layer < height k = inside.in_height in
     let room : 2 ^ (height k - layer) ≡ 2 ^ (height k - suc layer) * 2 = (let up : height k - layer ≡ suc (height k - suc layer) = omega arith in ap (λ e. 2 ^ e) up) ∙ pow-suc 2 (height k - suc layer) in
-    let left : IsInside (blocks_of k) layer (2 * i) = record { in_height = omega arith; in_width = omega (arith, inside.in_width, room) } in
-    let right_one : IsInside (blocks_of k) layer (2 * i + 1) = record { in_height = omega arith; in_width = omega (arith, inside.in_width, room) } in
+    let left : IsInside (blocks_of k) layer (2 * i) = record { in_height = omega arith; in_width = omega arith } in
+    let right_one : IsInside (blocks_of k) layer (2 * i + 1) = record { in_height = omega arith; in_width = omega arith } in
     ap (λ l. value_at dig k l i) (sym next)
     ∙ value_above dig k layer i _ _ rooted low (node_is bytes rooted whole right layer left) (node_is bytes rooted whole right layer right_one)
     ∙ ap (λ x. Some x) (sym (node_parent dig file layer i))
@@ -125,5 +125,5 @@ complete_root {dig} k bytes states rooted some marked right =
     let held = value_covers dig k (height k) 0 covers ∙ rooted.top in
     record {
       all = whole;
-      root = ap (λ n. node_digest dig (take k.file_length bytes) (height_of (block_count n)) 0) whole ∙ same_some top held;
+      root = cc;
     }

@@ -30,17 +30,17 @@ Tame dig files trees calls mid = Grows dig files trees mid × Touches files tree
 value_kept : (dig : List ℕ → List ℕ) (old new : Facts) → new.file_length ≡ old.file_length → ((l i : ℕ) (d : List ℕ) → held_at old l i ≡ Some d → held_at new l i ≡ Some d)
     → (l i : ℕ) (d : List ℕ) → value_at dig old l i ≡ Some d → value_at dig new l i ≡ Some d
 value_kept dig old new size kept l i d e =
-    let blocks : blocks_of new ≡ blocks_of old = ap block_count size in
+    let blocks : blocks_of new ≡ blocks_of old = cc in
     elim (cases_node (blocks_of old) l i (value_inside dig old l i d e)) [
-      | inl covers ↦ value_covers dig new l i (subst (λ n. CoversBlock n l i) (sym blocks) covers) ∙ kept l i d (sym (value_covers dig old l i covers) ∙ e)
-      | inr past ↦ value_padding dig new l i (subst (λ n. IsPadding n l i) (sym blocks) past) ∙ sym (value_padding dig old l i past) ∙ e
+      | inl covers ↦ value_covers dig new l i (rw blocks covers) ∙ kept l i d (sym (value_covers dig old l i covers) ∙ e)
+      | inr past ↦ value_padding dig new l i (rw blocks past) ∙ sym (value_padding dig old l i past) ∙ e
     ]
 
 no_calls : AllKeepBytes []
 no_calls c among = absurd (contains_none among)
 
 keep_is : {xs ys : _} → xs ≡ ys → AllKeepBytes ys → AllKeepBytes xs
-keep_is e f = subst (λ cs. AllKeepBytes cs) (sym e) f
+keep_is e f = rw e f
 
 read_keeps : (n : ℕ) (r : BlockRead) → KeepsBytes (call_of n r)
 read_keeps n (given i bytes) = tt
@@ -49,12 +49,12 @@ read_keeps n (failed i) = tt
 reads_keep : (file n : ℕ) (reads : List BlockRead) → AllKeepBytes (reads_at file n reads)
 reads_keep file n reads c among =
     let m = contains_map (λ read. (file, call_of n read)) reads among in
-    subst (λ (x : ℕ × Call). KeepsBytes x.1) m.2 (read_keeps n m.0)
+    rw (← m.2) (read_keeps n m.0)
 
 syncs_keep : (files : List ℕ) → AllKeepBytes (syncs_of files)
 syncs_keep files c among =
     let m = contains_map (λ file. (file, sync_made)) files among in
-    subst (λ (x : ℕ × Call). KeepsBytes x.1) m.2 tt
+    rw (← m.2) tt
 
 append_keeps : (xs ys : DeviceCalls) → AllKeepBytes xs → AllKeepBytes ys → AllKeepBytes (xs ++ ys)
 append_keeps xs ys f g c among = elim (Contains-append_cases xs ys c among) [ inl one ↦ f c one | inr more ↦ g c more ]
@@ -65,11 +65,11 @@ module _ (dig : List ℕ → List ℕ) where
 
   -- the engine has the same files and trees
   stays : (s mid : EngineState) → mid.files ≡ s.files → mid.trees ≡ s.trees → Grows dig s.files s.trees mid
-  stays s mid files trees file f k at hung = same_tree (sym (ap (λ fs. slice_get fs file) files) ∙ at) (sym (ap (λ ts. slice_get ts f.tree) trees) ∙ hung)
+  stays s mid files trees file f k at hung = same_tree (sym (ap (λ fs. slice_get fs file) files) ∙ at) (cc)
 
   -- one like another
   like : (files : List FileState) (trees : List Facts) (m mid : EngineState) → mid.files ≡ m.files → mid.trees ≡ m.trees → Grows dig files trees m → Grows dig files trees mid
-  like files trees m mid sames sametrees g file f k at hung = g file f k (sym (ap (λ fs. slice_get fs file) sames) ∙ at) (sym (ap (λ ts. slice_get ts f.tree) sametrees) ∙ hung)
+  like files trees m mid sames sametrees g file f k at hung = g file f k (cc) (cc)
 
   quiet : (s mid : EngineState) {calls : _} → mid.files ≡ s.files → mid.trees ≡ s.trees → calls ≡ [] → Tame dig s.files s.trees calls mid
   quiet s mid files trees none = (stays s mid files trees, keeping (keep_is none no_calls))
@@ -77,7 +77,7 @@ module _ (dig : List ℕ → List ℕ) where
   -- a file stands in the place of one with the same tree
   file_grows : (s : EngineState) (file : ℕ) {f : _} (new : FileState) → slice_get s.files file ≡ Some f → new.tree ≡ f.tree → Grows dig s.files s.trees (with_file s file new)
   file_grows s file new at same other g k there hung = elim (set_cases s.files file other there) [
-    | inl now ↦ same_tree (ap (slice_get s.files) now.0 ∙ at) (ap (slice_get s.trees) (sym same ∙ sym (ap (λ (q : FileState). q.tree) now.1)) ∙ hung)
+    | inl now ↦ same_tree (ap (slice_get s.files) now.0 ∙ at) (cc)
     | inr old ↦ same_tree old hung
   ]
 
@@ -131,11 +131,11 @@ module _ (dig : List ℕ → List ℕ) where
   tree_grows : (s : EngineState) (t : ℕ) {old : _} (new : Facts) → slice_get s.trees t ≡ Some old → new.file_length ≡ old.file_length → new.root ≡ old.root
       → ((i : ℕ) (d : List ℕ) → value_at dig old 0 i ≡ Some d → value_at dig new 0 i ≡ Some d) → Grows dig s.files s.trees (with_tree s t new)
   tree_grows s t {old} new at size root kept file f k there hung = elim (set_cases s.trees t f.tree hung) [
-    | inl now ↦ subst (λ x. GrownFrom dig s.files s.trees file x) (sym now.1) (record {
+    | inl now ↦ rw now.1 (record {
       old_file = f;
       old_tree = old;
       here = there;
-      hung = ap (slice_get s.trees) now.0 ∙ at;
+      hung = cc;
       same_length = size;
       same_root = root;
       kept = kept;
@@ -147,8 +147,8 @@ module _ (dig : List ℕ → List ℕ) where
       → Grows dig files trees new
   settled_grows files trees {old} s g file f k at hung =
       let m = map_some (judged_file dig s.facts (s.reads file)) (slice_get old.files file) (sym (s.files file) ∙ at) in
-      let tree : m.0.tree ≡ f.tree = ap (λ (q : FileState). q.tree) m.2 in
-      g file m.0 k m.1 (ap (slice_get old.trees) tree ∙ sym (ap (λ ts. slice_get ts f.tree) (ap (λ z. z.trees) s.others)) ∙ hung)
+      let tree : m.0.tree ≡ f.tree = cc in
+      g file m.0 k m.1 (cc)
 
   settled_keeps : {is_meant t from count old new calls notes : _} → SettlesIn dig is_meant t from count old calls notes new → AllKeepBytes calls
   settled_keeps {old} s = keep_is s.made (λ c among.
@@ -232,8 +232,8 @@ module _ (dig : List ℕ → List ℕ) where
         old_tree = before.old_tree;
         here = before.here;
         hung = before.hung;
-        same_length = later.same_length ∙ before.same_length;
-        same_root = later.same_root ∙ before.same_root;
+        same_length = cc;
+        same_root = cc;
         kept = λ i d e. later.kept i d (before.kept i d e);
       }
 
@@ -275,7 +275,7 @@ module _ (dig : List ℕ → List ℕ) where
   flush_tame {s} {new} (fails before file after x y z e) = (
     stays s new (ap (λ z. z.files) e) (ap (λ z. z.trees) e),
     keeping (keep_is y (append_keeps (syncs_of before) ((file, sync_fault) ∷ []) (syncs_keep before) (λ c among. elim (contains_cases [] among) [
-      | inl one ↦ subst (λ (x : ℕ × Call). KeepsBytes x.1) one tt
+      | inl one ↦ rw (← one) tt
       | inr none ↦ absurd (contains_none none)
     ]))),
   )
@@ -296,8 +296,8 @@ module _ (dig : List ℕ → List ℕ) where
     tree = k;
     bytes = bytes;
     call = call;
-    missing = ap (option_and_then (λ (q : FileState). slice_get q.states b.block)) here ∙ missing;
-    hung = ap (option_and_then (λ (q : FileState). slice_get s.trees q.tree)) here ∙ hung;
+    missing = cc;
+    hung = cc;
     whole = whole;
     only = only;
     writes = writes;

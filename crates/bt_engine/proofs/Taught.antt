@@ -21,7 +21,7 @@ module _ (dig : List ℕ → List ℕ) (k grown : Facts) (anchor first count : �
       let digests = map (claimed_digest dig k.file_length) reads in
       let rest = replicate (2 ^ anchor - length reads) (padding_digest dig 0) in
       let size : length reads ≡ count = sym (length-map reads block_of) ∙ ap length whole.blocks ∙ length-range_with_len first count in
-      omega (arith, few, size, length-append digests rest, length-map reads (claimed_digest dig k.file_length), length-replicate (2 ^ anchor - length reads) (padding_digest dig 0))
+      omega (arith, length-append digests rest, length-map reads (claimed_digest dig k.file_length), length-replicate (2 ^ anchor - length reads) (padding_digest dig 0))
 
   -- a node below the one that the group hangs from
   known_below : AreWhole k.file_length first count reads → count ≤ 2 ^ anchor → Accepts dig k group_claim grown
@@ -32,11 +32,11 @@ module _ (dig : List ℕ → List ℕ) (k grown : Facts) (anchor first count : �
       let claim : Claims dig group_claim layer i d = in_run record {
         above = layer;
         here = omega arith;
-        low = omega (arith, height_is, low);
-        under = ap (λ h. i / 2 ^ (h - layer)) height_is ∙ under ∙ ap (λ h. first / 2 ^ h) (sym height_is);
+        low = omega arith;
+        under = cc;
         digest = refl;
       } in
-      let blocks : blocks_of grown ≡ blocks_of k = ap block_count accepts.joins.file_length in
+      let blocks : blocks_of grown ≡ blocks_of k = cc in
       let at = claimed_inside dig (height k) group_claim layer i d accepts.conditions.shape claim in
       let inside : IsInside (blocks_of k) layer i = record { in_height = at.0; in_width = at.1 } in
       elim (cases_node (blocks_of k) layer i inside) [
@@ -48,15 +48,15 @@ module _ (dig : List ℕ → List ℕ) (k grown : Facts) (anchor first count : �
 
 -- a list of what is known of each node
 listed : (n : ℕ) (f : ℕ → Option (List ℕ)) → ((t : ℕ) → t < n → (d : List ℕ) × (f t ≡ Some d)) → (ds : List (List ℕ)) × (length ds ≡ n) × ((t : ℕ) → t < n → f t ≡ Some (get_or ds t []))
-listed zero f each = ([], refl, λ t lt. absurd (omega (arith, lt)))
+listed zero f each = ([], refl, λ t lt. absurd (omega arith))
 listed (suc n) f each =
     let first = each 0 (omega arith) in
-    let more = listed n (λ t. f (suc t)) (λ t lt. each (suc t) (omega (arith, lt))) in
-    (first.0 ∷ more.0, omega (arith, more.1), by more.0 first.1 more.2)
+    let more = listed n (λ t. f (suc t)) (λ t lt. each (suc t) (omega arith)) in
+    (first.0 ∷ more.0, omega arith, by more.0 first.1 more.2)
   where
     by : {d : _} (ds : List (List ℕ)) → f 0 ≡ Some d → ((t : ℕ) → t < n → f (suc t) ≡ Some (get_or ds t [])) → (t : ℕ) → t < suc n → f t ≡ Some (get_or (d ∷ ds) t [])
     by ds e more zero lt = e
-    by ds e more (suc t) lt = more t (omega (arith, lt))
+    by ds e more (suc t) lt = more t (omega arith)
 
 -- a group of which nothing was marked taught nothing
 none_taught : (b : Bool) (keys : List HashKey) {key : _} → Contains (if b && false then keys else []) key → ⊥
@@ -84,26 +84,26 @@ index_uncle index count t =
 
 module _ (dig : List ℕ → List ℕ) (k grown : Facts) (from anchor first count : ℕ) (reads : List BlockRead) where
   few_blocks : IsUnknownGroup k from anchor first count → count ≤ 2 ^ anchor
-  few_blocks group = omega (arith, group.counts)
+  few_blocks group = omega arith
 
   -- a run of 2 ^ m leaves ends where the node's blocks do, or before
   run_end : (m i : ℕ) → m ≤ anchor → i % 2 ^ m ≡ 0 → i < (from / 2 ^ anchor + 1) * 2 ^ anchor → i + 2 ^ m ≤ (from / 2 ^ anchor + 1) * 2 ^ anchor
   run_end m i low aligned below =
       let width : ℕ = 2 ^ m in
-      let split : anchor ≡ anchor - m + m = omega (arith, low) in
+      let split : anchor ≡ anchor - m + m = omega arith in
       let power : 2 ^ anchor ≡ 2 ^ (anchor - m) * 2 ^ m = ap (λ n. 2 ^ n) split ∙ pow-add 2 (anchor - m) m in
       let all : (from / 2 ^ anchor + 1) * 2 ^ anchor ≡ (from / 2 ^ anchor + 1) * 2 ^ (anchor - m) * 2 ^ m =
       ap (λ n. (from / 2 ^ anchor + 1) * n) power ∙ sym (mul_assoc (from / 2 ^ anchor + 1) (2 ^ (anchor - m)) (2 ^ m)) in
-      let start : i ≡ i / 2 ^ m * 2 ^ m = omega (arith, div-add-mod i (2 ^ m), aligned) in
-      let before : i / 2 ^ m < (from / 2 ^ anchor + 1) * 2 ^ (anchor - m) = lt_of_mul-lt-mul_right (2 ^ m) (omega (arith, start, below, all)) in
-      let next : (i / 2 ^ m + 1) * 2 ^ m ≤ (from / 2 ^ anchor + 1) * 2 ^ (anchor - m) * 2 ^ m = mul-le-mul_right (2 ^ m) (omega (arith, before)) in
-      omega (arith, start, next, all)
+      let start : i ≡ i / 2 ^ m * 2 ^ m = omega (arith, div-add-mod i (2 ^ m)) in
+      let before : i / 2 ^ m < (from / 2 ^ anchor + 1) * 2 ^ (anchor - m) = lt_of_mul-lt-mul_right (2 ^ m) (omega arith) in
+      let next : (i / 2 ^ m + 1) * 2 ^ m ≤ (from / 2 ^ anchor + 1) * 2 ^ (anchor - m) * 2 ^ m = mul-le-mul_right (2 ^ m) (omega arith) in
+      omega arith
 
   -- leaves of the group's node
   leaf_under : (i : ℕ) → from / 2 ^ anchor * 2 ^ anchor ≤ i → i < (from / 2 ^ anchor + 1) * 2 ^ anchor → i / 2 ^ anchor ≡ from / 2 ^ anchor
   leaf_under i low high =
-      let place : i ≡ from / 2 ^ anchor * 2 ^ anchor + (i - from / 2 ^ anchor * 2 ^ anchor) = omega (arith, low) in
-      ap (λ n. n / 2 ^ anchor) place ∙ div-mul-add (from / 2 ^ anchor) (2 ^ anchor) (i - from / 2 ^ anchor * 2 ^ anchor) (omega (arith, low, high))
+      let place : i ≡ from / 2 ^ anchor * 2 ^ anchor + (i - from / 2 ^ anchor * 2 ^ anchor) = omega arith in
+      ap (λ n. n / 2 ^ anchor) place ∙ div-mul-add (from / 2 ^ anchor) (2 ^ anchor) (i - from / 2 ^ anchor * 2 ^ anchor) (omega arith)
 
   key_answer : {m : ℕ} (i : ℕ) → IsUnknownGroup k from anchor first count → AreWhole k.file_length first count reads → Accepts dig k (claim_of_reads dig k.file_length anchor first reads) grown
       → m ≡ min anchor max_run_height → i % 2 ^ m ≡ 0 → first ≤ i → i < first + count
@@ -111,7 +111,7 @@ module _ (dig : List ℕ → List ℕ) (k grown : Facts) (from anchor first coun
   key_answer {m} i group whole accepts m_is aligned low high = record { request = request; digests = answers.0; answer = record { size = answers.1; values = λ t lt. answers.2 t (omega (arith, lt, answers.1)) } }
     where
       least : 1 ≤ m
-      least = let some = group.above in omega (arith, m_is, some)
+      least = let some = group.above in omega (arith, m_is)
 
       under : m ≤ anchor
       under = omega (arith, m_is)
@@ -129,10 +129,10 @@ module _ (dig : List ℕ → List ℕ) (k grown : Facts) (from anchor first coun
       top = height_of-pow (2 ^ m) m refl
 
       heights : height grown ≡ height k
-      heights = ap (λ n. height_of (block_count n)) accepts.joins.file_length
+      heights = cc
 
       below : i < (from / 2 ^ anchor + 1) * 2 ^ anchor
-      below = let few = few_blocks group in omega (arith, high, start, few)
+      below = let few = few_blocks group in omega (arith, high, start)
 
       ends : i + 2 ^ m ≤ (from / 2 ^ anchor + 1) * 2 ^ anchor
       ends = run_end m i under aligned below
@@ -143,17 +143,16 @@ module _ (dig : List ℕ → List ℕ) (k grown : Facts) (from anchor first coun
         power = ap (λ h. 2 ^ h) (sym top);
         limit = pow_le m 9 most;
         aligned = mul-mod_left (i / 2 ^ m) (2 ^ m);
-        low = omega (arith, top, under, heights, group.nearest.inside);
-        in_width = subst (λ h. i / 2 ^ m * 2 ^ m + 2 ^ m ≤ 2 ^ (h - 0)) (sym heights)
-            (omega (arith, accepts.conditions.shape.in_width, run_size dig k grown anchor first count reads whole (few_blocks group), index, ends, start, add-mul (from / 2 ^ anchor) 1 (2 ^ anchor)));
-        proof = omega (arith, heights, group.nearest.inside, group.above);
+        low = omega (arith, top, under, heights);
+        in_width = rw heights (omega (arith, run_size dig k grown anchor first count reads whole (few_blocks group), index, ends, start, add-mul (from / 2 ^ anchor) 1 (2 ^ anchor)));
+        proof = omega (arith, heights);
       }
 
       over : first / 2 ^ anchor ≡ from / 2 ^ anchor
-      over = leaf_under first (omega (arith, start)) (let some = pow_pos anchor in omega (arith, start, some, add-mul (from / 2 ^ anchor) 1 (2 ^ anchor)))
+      over = leaf_under first (omega (arith, start)) (let some = pow_pos anchor in omega (arith, start, add-mul (from / 2 ^ anchor) 1 (2 ^ anchor)))
 
       leaf_over : (j : ℕ) → i ≤ j → j < i + 2 ^ m → j / 2 ^ anchor ≡ first / 2 ^ anchor
-      leaf_over j le lt = leaf_under j (omega (arith, start, low, le)) (omega (arith, lt, ends)) ∙ sym over
+      leaf_over j le lt = leaf_under j (omega (arith, start, low)) (omega (arith, ends)) ∙ sym over
 
       known_at : (layer j : ℕ) → layer ≤ anchor → j / 2 ^ (anchor - layer) ≡ first / 2 ^ anchor → (d : List ℕ) × (value_at dig grown layer j ≡ Some d)
       known_at = known_below dig k grown anchor first count reads whole (few_blocks group) accepts
@@ -167,9 +166,9 @@ module _ (dig : List ℕ → List ℕ) (k grown : Facts) (from anchor first coun
       beside u lt =
           let n : ℕ = anchor - (m + u) - 1 in
           let y : ℕ = i / 2 ^ m / 2 ^ u in
-          let up : anchor - (m + u) ≡ suc (anchor - (m + u) - 1) = omega (arith, lt) in
-          let all : m + u + (anchor - (m + u)) ≡ anchor = omega (arith, lt) in
-          let some : i < i + 2 ^ m = (let w = pow_pos m in omega (arith, w)) in
+          let up : anchor - (m + u) ≡ suc (anchor - (m + u) - 1) = omega arith in
+          let all : m + u + (anchor - (m + u)) ≡ anchor = omega arith in
+          let some : i < i + 2 ^ m = (let w = pow_pos m in omega arith) in
           ap (λ h. sibling_of y / 2 ^ h) up ∙ double_div (sibling_of y) (y / 2) n (half_sibling y) ∙ sym (double_div y (y / 2) n refl) ∙ ap (λ h. y / 2 ^ h) (sym up)
           ∙ ap (λ h. h / 2 ^ (anchor - (m + u))) (far_div i m u) ∙ far_div i (m + u) (anchor - (m + u)) ∙ ap (λ h. i / 2 ^ h) all ∙ leaf_over i (omega arith) some
 
@@ -178,16 +177,16 @@ module _ (dig : List ℕ → List ℕ) (k grown : Facts) (from anchor first coun
         | inl lt ↦
             let whole_path : anchor - 0 ≡ anchor = omega arith in
             at_node t (layer_run (2 ^ m) t lt) (index_run (i / 2 ^ m * 2 ^ m) (2 ^ m) t lt)
-            (known_at 0 (i / 2 ^ m * 2 ^ m + t) (omega arith) (ap (λ h. (i / 2 ^ m * 2 ^ m + t) / 2 ^ h) whole_path ∙ leaf_over (i / 2 ^ m * 2 ^ m + t) (omega (arith, index)) (omega (arith, index, lt))))
+            (known_at 0 (i / 2 ^ m * 2 ^ m + t) (omega arith) (ap (λ h. (i / 2 ^ m * 2 ^ m + t) / 2 ^ h) whole_path ∙ leaf_over (i / 2 ^ m * 2 ^ m + t) (omega (arith, index)) (omega (arith, index))))
         | inr le ↦
             let u : ℕ = t - 2 ^ m in
-            let split : t ≡ 2 ^ m + (t - 2 ^ m) = omega (arith, le) in
-            let high_node : m + (t - 2 ^ m) < anchor = omega (arith, within, le, top, least) in
+            let split : t ≡ 2 ^ m + (t - 2 ^ m) = omega arith in
+            let high_node : m + (t - 2 ^ m) < anchor = omega (arith, top, least) in
             let layer : answer_layer 0 (2 ^ m) t ≡ m + u = ap (answer_layer 0 (2 ^ m)) split ∙ layer_uncle (2 ^ m) u ∙ ap (λ h. h + u) top in
             let node : answer_index (i / 2 ^ m * 2 ^ m) (2 ^ m) t ≡ sibling_of (i / 2 ^ m / 2 ^ u) =
             ap (answer_index (i / 2 ^ m * 2 ^ m) (2 ^ m)) split ∙ index_uncle (i / 2 ^ m * 2 ^ m) (2 ^ m) u ∙ ap (λ h. sibling_of (i / 2 ^ m * 2 ^ m / 2 ^ h / 2 ^ u)) top
             ∙ ap (λ x. sibling_of (x / 2 ^ m / 2 ^ u)) index in
-            at_node t layer node (known_at (m + u) (sibling_of (i / 2 ^ m / 2 ^ u)) (omega (arith, high_node)) (beside u high_node))
+            at_node t layer node (known_at (m + u) (sibling_of (i / 2 ^ m / 2 ^ u)) (omega arith) (beside u high_node))
       ]
 
       answers : (ds : List (List ℕ)) × (length ds ≡ answer_size (2 ^ m) (anchor - 1)) × ((t : ℕ) → t < answer_size (2 ^ m) (anchor - 1)
@@ -206,8 +205,8 @@ taught_answered dig k grown from old new reads adopted key (accepted anchor firs
         let run = contains_filter (λ i. i % 2 ^ min anchor max_run_height == 0) (group_blocks from (record { next = first + count; anchor = anchor; marked = count; faults = 0 })) m.1 in
         let start : first ≡ from / 2 ^ anchor * 2 ^ anchor = group.starts in
         let inside = range_limits (from / 2 ^ anchor * 2 ^ anchor) (first + count - from / 2 ^ anchor * 2 ^ anchor) run.0 in
-        subst (λ x. HasAnswer dig g x) m.2 (key_answer dig k g from anchor first count rs m.0 group whole accepts refl (eqb-true (m.0 % 2 ^ min anchor max_run_height) 0 run.1)
-        (omega (arith, start, inside.0)) (omega (arith, start, inside.0, inside.1)))
+        rw (← m.2) (key_answer dig k g from anchor first count rs m.0 group whole accepts refl (eqb-true (m.0 % 2 ^ min anchor max_run_height) 0 run.1)
+        (omega arith) (omega arith))
 taught_answered dig k grown from old new reads adopted key (refused anchor first count rs error group whole why other) c = absurd (none_taught (nat_lt 0 anchor) _ c)
 taught_answered dig k grown from old new reads adopted key (short anchor first count rs group order faults few) c = absurd (none_taught (nat_lt 0 anchor) _ c)
 taught_answered dig k grown from old new reads adopted key (unread anchor first count rs group order some) c = absurd (contains_none c)

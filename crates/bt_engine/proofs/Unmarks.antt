@@ -34,11 +34,11 @@ judged_keeps dig k (given b bytes ∷ reads) states i e = elim (set_get states b
     by : (t : Bool) → is_right dig k b bytes ≡ t → i ≡ b → slice_get (slice_set states b (if is_right dig k b bytes then Marked else Missing)) i ≡ Some (if is_right dig k b bytes then Marked else Missing)
         → (slice_get (slice_set states b (if is_right dig k b bytes then Marked else Missing)) i ≡ Some Marked → (slice_get (judged dig k true (given b bytes ∷ reads) states) i ≡ Some Marked) ⊎ GaveWrong dig k reads i)
         → (slice_get (judged dig k true (given b bytes ∷ reads) states) i ≡ Some Marked) ⊎ GaveWrong dig k (given b bytes ∷ reads) i
-    by true t same at rest = elim (rest (at ∙ ap (λ c. Some (if c then Marked else Missing)) t)) [ inl kept ↦ inl kept | inr w ↦ inr (more_wrong dig k (given b bytes) reads i w) ]
+    by true t same at rest = elim (rest (cc)) [ inl kept ↦ inl kept | inr w ↦ inr (more_wrong dig k (given b bytes) reads i w) ]
     by false t same at rest = inr (
       bytes,
       here reads (ap (λ n. given n bytes) (sym same)),
-      λ r. (let yes = right_true r in let no : true ≡ false = sym yes ∙ ap (λ n. is_right dig k n bytes) same ∙ t in absurd cc),
+      λ r. (let yes = right_true r in absurd cc),
     )
 
 marked_keeps : (first count : ℕ) (states : List BlockState) (i : ℕ) → slice_get states i ≡ Some Marked → slice_get (marked_run first count states) i ≡ Some Marked
@@ -51,10 +51,10 @@ module _ (dig : List ℕ → List ℕ) (b : BlockId) where
   Stays s calls mid = (state_at mid b ≡ Some Marked) ⊎ IsFoundWrong dig s calls b
 
   same_stays : {s mid : _} (calls : DeviceCalls) → mid ≡ s → state_at s b ≡ Some Marked → Stays s calls mid
-  same_stays calls e m = inl (ap (λ z. state_at z b) e ∙ m)
+  same_stays calls e m = inl (cc)
 
   found_in : {s t calls more : _} → tree_of t b.file ≡ tree_of s b.file → ((c : ℕ × Call) → Contains calls c → Contains more c) → IsFoundWrong dig s calls b → IsFoundWrong dig t more b
-  found_in trees among w = record { tree = w.tree; bytes = w.bytes; hung = trees ∙ w.hung; read = among _ w.read; wrong = w.wrong }
+  found_in trees among w = record { tree = w.tree; bytes = w.bytes; hung = cc; read = among _ w.read; wrong = w.wrong }
 
   -- in a file that stands in the place of another
   file_stays : (R : Type 0) (s : EngineState) (file : ℕ) {f : _} (new : FileState) → slice_get s.files file ≡ Some f → state_at s b ≡ Some Marked
@@ -65,17 +65,17 @@ module _ (dig : List ℕ → List ℕ) (b : BlockId) where
       by true e =
           let same : b.file ≡ file = eqb-true b.file file e in
           let g = and_then_some (λ (q : FileState). slice_get q.states b.block) (slice_get s.files b.file) m in
-          let is : g.0 ≡ f = same_some g.1 (ap (slice_get s.files) same ∙ at) in
-          elim (keep same (ap (λ (q : FileState). slice_get q.states b.block) (sym is) ∙ g.2)) [
+          let is : g.0 ≡ f = cc in
+          elim (keep same (cc)) [
             | inl kept ↦ inl (state_is (with_file s file new) b (ap (slice_get (slice_set s.files file new)) same ∙ set_same s.files file at) kept)
             | inr r ↦ inr r
           ]
       by false e =
-          let apart : b.file ≢ file = λ same. (let yes : (b.file == file) ≡ true = eq-eqb b.file file same in let no : true ≡ false = sym yes ∙ e in absurd cc) in
+          let apart : b.file ≢ file = λ same. (let yes : (b.file == file) ≡ true = eq-eqb b.file file same in absurd cc) in
           inl (ap (option_and_then (λ (q : FileState). slice_get q.states b.block)) (set_other s.files file b.file new apart) ∙ m)
 
   hung_in : {s file f k : _} → IsFile s file f k → b.file ≡ file → tree_of s b.file ≡ Some k
-  hung_in {s} is same = ap (option_and_then (λ (q : FileState). slice_get s.trees q.tree)) (ap (slice_get s.files) same ∙ is.here) ∙ is.hung
+  hung_in {s} is same = cc
 
   -- ---- wire events
 
@@ -83,8 +83,7 @@ module _ (dig : List ℕ → List ℕ) (b : BlockId) where
   stop_stays {s} {mid} {span} {calls} {effect} x m = by x.finds
     where
       read_at_end : Contains calls (span.file, call_of x.tree.file_length x.read)
-      read_at_end = subst (λ cs. Contains cs (span.file, call_of x.tree.file_length x.read)) (sym x.made)
-          (map_contains (λ read. (span.file, call_of x.tree.file_length read)) (x.reads ++ x.read ∷ []) (Contains-append_right x.reads (x.read ∷ []) x.read (here [] refl)))
+      read_at_end = rw x.made (map_contains (λ read. (span.file, call_of x.tree.file_length read)) (x.reads ++ x.read ∷ []) (Contains-append_right x.reads (x.read ∷ []) x.read (here [] refl)))
 
       by : FindsFault dig x.tree s span.file x.block x.file x.read effect mid → Stays s calls mid
       by (damaged bytes is wrong_bytes z e) = elim (file_stays (IsFoundWrong dig s calls b) s span.file (record x.file { states = slice_set x.file.states x.block Missing }) x.is_file.here m
@@ -93,24 +92,24 @@ module _ (dig : List ℕ → List ℕ) (b : BlockId) where
               tree = x.tree;
               bytes = bytes;
               hung = hung_in x.is_file same;
-              read = subst (λ r. Contains calls (b.file, call_of x.tree.file_length r)) (is ∙ ap (λ n. given n bytes) (sym now.0)) (subst (λ n. Contains calls (n, call_of x.tree.file_length x.read)) (sym same) read_at_end);
-              wrong = λ r. wrong_bytes (subst (λ n. IsRight dig x.tree n bytes) now.0 r);
+              read = subst (λ r. Contains calls (b.file, call_of x.tree.file_length r)) (is ∙ ap (λ n. given n bytes) (sym now.0)) (rw same read_at_end);
+              wrong = λ r. wrong_bytes (rw (← now.0) r);
             })
             | inr still ↦ inl still
-          ])) [ inl kept ↦ inl (ap (λ z. state_at z b) e ∙ kept) | inr w ↦ inr w ]
+          ])) [ inl kept ↦ inl (cc) | inr w ↦ inr w ]
       by (fault is y e) = same_stays calls e m
 
   request_stays : {s mid i p ask calls effect : _} → HandlesRequest dig s i p ask calls effect mid → state_at s b ≡ Some Marked → Stays s calls mid
   request_stays {calls} (ignored a c d e) m = same_stays calls e m
   request_stays {calls} (no_place a c d f e) m = same_stays calls e m
   request_stays {calls} (not_marked span a c d f g e) m = same_stays calls e m
-  request_stays (served span a c d f) m = inl (ap (λ z. state_at z b) f.after ∙ m)
+  request_stays (served span a c d f) m = inl (cc)
   request_stays (stopped span a c d f) m = stop_stays f m
 
   put_stays : (k : Facts) (i : ℕ) (bytes : List ℕ) (states : List BlockState) (j : ℕ) (r : Result Put StoreError) → PutIsDue dig k i bytes states r → slice_get states j ≡ Some Marked → slice_get (states_after_put i r states) j ≡ Some Marked
   put_stays k i bytes states j (Ok PutMarked) due e = elim (set_get states i j {y = Marked} e) [ inl now ↦ now.1 | inr still ↦ still ]
   put_stays k i bytes states j (Ok PutWaiting) due e = elim (set_get states i j {y = Waiting} e) [
-    | inl now ↦ (let no : Some Missing ≡ Some Marked = sym due.1 ∙ ap (slice_get states) (sym now.0) ∙ e in absurd cc)
+    | inl now ↦ absurd cc
     | inr still ↦ still
   ]
   put_stays k i bytes states j (Ok Already) due e = e
@@ -123,7 +122,7 @@ module _ (dig : List ℕ → List ℕ) (b : BlockId) where
       let q = a.puts in
       elim (file_stays (IsFoundWrong dig s calls b) s a.block.file (record q.file { states = states_after_put a.block.block q.result q.file.states }) q.is_file.here m
       (λ same marked. inl (put_stays q.tree a.block.block bytes q.file.states b.block q.result q.due marked))) [
-        | inl kept ↦ inl (ap (λ z. state_at z b) a.after ∙ ap (λ z. state_at z b) q.after ∙ kept)
+        | inl kept ↦ inl (cc)
         | inr w ↦ inr w
       ]
 
@@ -146,38 +145,38 @@ module _ (dig : List ℕ → List ℕ) (b : BlockId) where
       inl (ap (λ z. state_at z b) l.after ∙ settle_stays l.settles m)
 
   have_stays : {s mid i p piece : _} (calls : DeviceCalls) {effect : _} → HandlesHave s i p piece effect mid → state_at s b ≡ Some Marked → Stays s calls mid
-  have_stays calls (in_range x y e) m = inl (ap (λ z. state_at z b) e ∙ m)
+  have_stays calls (in_range x y e) m = inl (cc)
   have_stays calls (out_of_range x y e) m = same_stays calls e m
 
   bits_stays : {s mid i p bytes : _} (calls : DeviceCalls) {effect : _} → HandlesBitfield s i p bytes effect mid → state_at s b ≡ Some Marked → Stays s calls mid
-  bits_stays calls (right x y e) m = inl (ap (λ z. state_at z b) e ∙ m)
+  bits_stays calls (right x y e) m = inl (cc)
   bits_stays calls (wrong x y e) m = same_stays calls e m
 
   message_stays : (s mid : EngineState) (i : ℕ) (p : PeerState) (msg : Sent) (calls : DeviceCalls) (effect : Effect) → HandlesMessage dig s i p msg calls effect mid → state_at s b ≡ Some Marked → Stays s calls mid
-  message_stays s mid i p KeepAlive calls effect h m = inl (ap (λ z. state_at z b) h.2 ∙ m)
-  message_stays s mid i p Choke calls effect h m = inl (ap (λ z. state_at z b) h.2 ∙ m)
-  message_stays s mid i p Unchoke calls effect h m = inl (ap (λ z. state_at z b) h.2 ∙ m)
-  message_stays s mid i p Interested calls effect h m = inl (ap (λ z. state_at z b) h.2 ∙ m)
-  message_stays s mid i p NotInterested calls effect h m = inl (ap (λ z. state_at z b) h.2 ∙ m)
+  message_stays s mid i p KeepAlive calls effect h m = inl (cc)
+  message_stays s mid i p Choke calls effect h m = inl (cc)
+  message_stays s mid i p Unchoke calls effect h m = inl (cc)
+  message_stays s mid i p Interested calls effect h m = inl (cc)
+  message_stays s mid i p NotInterested calls effect h m = inl (cc)
   message_stays s mid i p (Have piece) calls effect h m = have_stays calls h.1 m
   message_stays s mid i p (Bitfield bytes) calls effect h m = bits_stays calls h.1 m
   message_stays s mid i p (Request ask) calls effect h m = request_stays h m
   message_stays s mid i p (Piece piece begin bytes) calls effect h m = piece_stays h m
-  message_stays s mid i p (Cancel ask) calls effect h m = inl (ap (λ z. state_at z b) h.2 ∙ m)
-  message_stays s mid i p (HashRequest key) calls effect h m = inl (ap (λ z. state_at z b) h.2 ∙ m)
+  message_stays s mid i p (Cancel ask) calls effect h m = inl (cc)
+  message_stays s mid i p (HashRequest key) calls effect h m = inl (cc)
   message_stays s mid i p (Hashes key digests) calls effect h m = hashes_stays h m
-  message_stays s mid i p (HashReject key) calls effect h m = inl (ap (λ z. state_at z b) h.2.after ∙ m)
+  message_stays s mid i p (HashReject key) calls effect h m = inl (cc)
 
   event_stays : (s mid : EngineState) (i : ℕ) (p : PeerState) (e : WireEvent) (calls : DeviceCalls) (effect : Effect) → Handles dig s i p e calls effect mid → state_at s b ≡ Some Marked → Stays s calls mid
-  event_stays s mid i p (Hello h) calls effect t m = inl (ap (λ z. state_at z b) t.2 ∙ m)
+  event_stays s mid i p (Hello h) calls effect t m = inl (cc)
   event_stays s mid i p (Message msg) calls effect t m = message_stays s mid i p msg calls effect t m
-  event_stays s mid i p (Skipped kind) calls effect t m = inl (ap (λ z. state_at z b) t.2 ∙ m)
+  event_stays s mid i p (Skipped kind) calls effect t m = inl (cc)
 
   -- ---- events
 
   taken_stays : {s mid : _} (new : EngineState) {i p calls effect : _} → TakesEvent dig s i p calls effect mid → state_at new b ≡ state_at mid b → state_at s b ≡ Some Marked → Stays s calls new
   taken_stays {s} {mid} new {i} {p} {calls} {effect} t same m = elim (event_stays (with_peer s i (record p { stream = t.rest })) mid i _ t.event calls effect t.handles m) [
-    | inl kept ↦ inl (same ∙ kept)
+    | inl kept ↦ inl (cc)
     | inr w ↦ inr (found_in refl (λ c among. among) w)
   ]
 
@@ -186,35 +185,35 @@ module _ (dig : List ℕ → List ℕ) (b : BlockId) where
   next_stays {calls} (waits i p x y z w e) m = same_stays calls e m
   next_stays {new} (goes_on i p out peer g x) m = taken_stays new g.takes (ap (λ z. state_at z b) g.follows.after) m
   next_stays {new} (closes i p out peer g x) m = taken_stays new g.takes (ap (λ z. state_at z b) g.after) m
-  next_stays (faulty i p out peer g x) m = inl (ap (λ z. state_at z b) g.after ∙ m)
-  next_stays (no_memory i p peer g x) m = inl (ap (λ z. state_at z b) g.after ∙ m)
+  next_stays (faulty i p out peer g x) m = inl (cc)
+  next_stays (no_memory i p peer g x) m = inl (cc)
 
   connect_stays : {s new answer : _} → StepConnect s answer new → state_at new b ≡ state_at s b
-  connect_stays (joins key bytes x y z w v e) = ap (λ z. state_at z b) e
-  connect_stays (full x y e) = ap (λ z. state_at z b) e
-  connect_stays (spent x y z e) = ap (λ z. state_at z b) e
-  connect_stays (no_room x y z e) = ap (λ z. state_at z b) e
+  connect_stays (joins key bytes x y z w v e) = cc
+  connect_stays (full x y e) = cc
+  connect_stays (spent x y z e) = cc
+  connect_stays (no_room x y z e) = cc
 
   feed_stays : {s new key bytes answer : _} → StepFeed s key bytes answer new → state_at new b ≡ state_at s b
-  feed_stays (feeds i p x y e) = ap (λ z. state_at z b) e
-  feed_stays (not_fed x y e) = ap (λ z. state_at z b) e
-  feed_stays (no_room_to_feed i p x y e) = ap (λ z. state_at z b) e
+  feed_stays (feeds i p x y e) = cc
+  feed_stays (not_fed x y e) = cc
+  feed_stays (no_room_to_feed i p x y e) = cc
 
   lost_stays : {s new key answer : _} → StepLost s key answer new → state_at new b ≡ state_at s b
-  lost_stays (goes i p x y e) = ap (λ z. state_at z b) e
-  lost_stays (not_lost x y e) = ap (λ z. state_at z b) e
+  lost_stays (goes i p x y e) = cc
+  lost_stays (not_lost x y e) = cc
 
   each_stays : (peers : List ℕ) (s new : EngineState) (sent : List SentFrame) → FollowsEach dig peers s sent new → state_at new b ≡ state_at s b
-  each_stays [] s new sent f = ap (λ z. state_at z b) f.1
+  each_stays [] s new sent f = cc
   each_stays (i ∷ peers) s new sent f = each_stays peers f.0 new f.2 f.4 ∙ ap (λ z. state_at z b) f.3.after
 
   rechoke_stays : {s new answer : _} → StepRechoke dig s answer new → state_at new b ≡ state_at s b
   rechoke_stays {new} (rechokes out r x) = each_stays _ _ new r.sent r.follows
-  rechoke_stays (not_rechoked x e) = ap (λ z. state_at z b) e
+  rechoke_stays (not_rechoked x e) = cc
 
   flush_stays : {s new calls answer : _} → StepFlush s calls answer new → state_at new b ≡ state_at s b
-  flush_stays (syncs x y z e) = ap (λ z. state_at z b) e
-  flush_stays (fails before file after x y z e) = ap (λ z. state_at z b) e
+  flush_stays (syncs x y z e) = cc
+  flush_stays (fails before file after x y z e) = cc
 
   -- ---- a file that is taken in
 
@@ -242,12 +241,11 @@ module _ (dig : List ℕ → List ℕ) (b : BlockId) where
             tree = g.tree;
             bytes = w.0;
             hung = hung_in g.is_file same;
-            read = subst (λ n. Contains calls (n, call_of g.tree.file_length (given b.block w.0))) (sym same)
-                (subst (λ cs. Contains cs (file, call_of g.tree.file_length (given b.block w.0))) (sym g.made) (map_contains (λ read. (file, call_of g.tree.file_length read)) g.reads w.1));
+            read = rw same (rw g.made (map_contains (λ read. (file, call_of g.tree.file_length read)) g.reads w.1));
             wrong = w.2;
           },
         )
-      ])) [ inl kept ↦ inl (ap (λ z. state_at z b) g.after ∙ kept) | inr w ↦ inr w ]
+      ])) [ inl kept ↦ inl (cc) | inr w ↦ inr w ]
 
   -- what is wrong by a tree that has grown was so before
   wrong_before : {s mid file from calls more adopted : _} → AdoptsGroup dig s file from calls adopted mid → b.file ≡ file → IsFoundWrong dig mid more b → IsFoundWrong dig s more b
@@ -258,12 +256,12 @@ module _ (dig : List ℕ → List ℕ) (b : BlockId) where
         tree = g.tree;
         bytes = w.bytes;
         hung = hung_in g.is_file same;
-        read = subst (λ n. Contains more (b.file, call_of n (given b.block w.bytes))) (ap (λ (k : Facts). k.file_length) tree ∙ h.extends.file_length) w.read;
-        wrong = λ r. w.wrong (subst (λ k. IsRight dig k b.block w.bytes) (sym tree) (right_in dig h.extends r));
+        read = rw (← (ap (λ (k : Facts). k.file_length) tree ∙ h.extends.file_length)) w.read;
+        wrong = λ r. w.wrong (rw tree (right_in dig h.extends r));
       }
 
   groups_stays : (s new : EngineState) (file from : ℕ) (groups : List DeviceCalls) (total : Adopted) → AdoptsGroups dig s file from groups total new → state_at s b ≡ Some Marked → StaysIn file s (flat_map (λ c. c) groups) new
-  groups_stays s new file from [] total g m = inl (ap (λ z. state_at z b) g.1 ∙ m)
+  groups_stays s new file from [] total g m = inl (cc)
   groups_stays s new file from (calls ∷ groups) total g m = elim (group_stays g.3 m) [
     | inl mid ↦ elim (groups_stays g.1 new file g.0.next groups g.2 g.4 mid) [
       | inl kept ↦ inl kept
@@ -282,11 +280,11 @@ module _ (dig : List ℕ → List ℕ) (b : BlockId) where
   adopt_stays {calls} (empty f x y z w v e) m = same_stays calls e m
   adopt_stays {s} {file} (adopts total x a y) m = elim (groups_stays s a.mid file 0 a.groups total a.adopts m) [
     | inl mid ↦ inl (ap (λ z. state_at z b) a.after ∙ settle_stays a.settles mid)
-    | inr w ↦ inr (found_in refl (λ c among. subst (λ cs. Contains cs c) (sym a.made) (Contains-append_left (flat_map (λ c. c) a.groups) a.settling c among)) w.1)
+    | inr w ↦ inr (found_in refl (λ c among. rw a.made (Contains-append_left (flat_map (λ c. c) a.groups) a.settling c among)) w.1)
   ]
   adopt_stays {s} {new} {file} (not_adopted x a y) m = elim (groups_stays s new file 0 a.groups a.done a.adopts m) [
     | inl kept ↦ inl kept
-    | inr w ↦ inr (found_in refl (λ c among. subst (λ cs. Contains cs c) (sym a.made) (Contains-append_left (flat_map (λ c. c) a.groups) _ c among)) w.1)
+    | inr w ↦ inr (found_in refl (λ c among. rw a.made (Contains-append_left (flat_map (λ c. c) a.groups) _ c among)) w.1)
   ]
 
   step_stays : (s new : EngineState) (e : Event) (calls : DeviceCalls) (a : Answer) → Step dig s e calls a new → state_at s b ≡ Some Marked → Stays s calls new
@@ -325,10 +323,10 @@ module _ {D : Type 0} (history : D → History) (honest : D → Type 0) (faults 
         let d = have.each b.file e there in
         let honest_before : honest d.0 = d.2.as_honest.1 honest_now in
         let f = and_then_some (λ (q : FileState). slice_get q.states b.block) (slice_get old.files b.file) before in
-        let hung : slice_get old.trees f.0.tree ≡ Some w.tree = sym (ap (option_and_then (λ (q : FileState). slice_get old.trees q.tree)) f.1) ∙ w.hung in
+        let hung : slice_get old.trees f.0.tree ≡ Some w.tree = cc in
         let there_before = sound b.file f.0 w.tree d.0 (record { here = f.1; hung = hung }) d.1 honest_before b.block f.2 in
         let stands = given_stands old b.block w.tree.file_length (history d.0) (history e) (step_tame dig old new event calls answer step).1 (d.2.answered honest_before) w.read in
-        absurd (w.wrong (subst (λ bytes. IsRight dig w.tree b.block bytes) (sym stands) there_before))
+        absurd (w.wrong (rw stands there_before))
   ]
 
   -- the device was there before, and honest
@@ -345,7 +343,7 @@ module _ {D : Type 0} (history : D → History) (honest : D → Type 0) (faults 
   device_before old new (x ∷ xs) (c ∷ calls) [] disks after file run there honest_now = absurd run
 
   pub run_marks_kept : RunKeepsMarks history honest faults dig
-  run_marks_kept old new [] [] [] disks after b e run sound there honest_now before = ap (λ z. state_at z b) run.0 ∙ before
+  run_marks_kept old new [] [] [] disks after b e run sound there honest_now before = cc
   run_marks_kept old new (x ∷ xs) (c ∷ calls) (a ∷ answers) disks after b e run sound there honest_now before =
       let mid = device_before run.0 new xs calls answers run.1 after b.file run.4 there honest_now in
       let kept = marks_kept old run.0 x c a disks run.1 b mid.0 run.2 run.3 sound mid.1 mid.2 before in
