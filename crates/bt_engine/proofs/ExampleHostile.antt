@@ -3,7 +3,7 @@ use Rattle.bt_engine.proofs.Base.{◌≡◌, ◌∙◌, ◌≢◌, ℕ, ◌+◌,
 use Rattle.bt_engine.proofs.Machine.{Why, Wire, BadPiece, BadBitfield, WrongBlock, UnknownRoot, Proof, Note, Stale, PeerState, EngineState, IsWholeBlock, with_payload, Sent, closing, stale, arrives, IsTreeOf, IsAnswered, rejected, unknown_root, refused, out_of_range, wrong as wrong_length, HandlesMessage, FollowsUp, goes_on, closes, faulty, StepFeed, first_key, all_taken, their_handshake, to_first, ThreeBlocks, zero_leaf, three_root, three_torrent, leaves_key, four_leaves, empty_engine, root_alone, leaves_peer, blocks_peer, ClosesOn, StaysOn, zero_root_key, far_key, HostileMessagesAreRuns, WrongBlockIsRun}
 use Rattle.bt_tree.specs.TreeShape.{height_up_to}
 use Rattle.bt_engine.proofs.Lists.{contains_none}
-use Rattle.bt_engine.proofs.ExamplePeer.{one_there, taken_message, piece_fits}
+use Rattle.bt_engine.proofs.ExamplePeer.{one_there, taken_message, piece_fits, went, closed_for, comes, fed_first}
 use Rattle.bt_engine.proofs.ExampleThreeTree.{at_first, leaves_claim, acceptable, root_held, top_is, leaves_length, claims}
 use Rattle.bt_engine.proofs.ExampleThreeEngine.{block, output_of, engine, whole_second, quietly, interesting, fed_to}
 
@@ -39,24 +39,14 @@ module _ (dig : List ℕ → List ℕ) (b : ThreeBlocks) (infohash : List ℕ) w
   -- a message that closes the peer, however it is taken
   closes_on : {m : _} (why : Why) → IsMessage m → Fits m → HandlesMessage dig (before_leaves peer) 0 peer m [] (closing why) (before_leaves peer) → ClosesOn dig (empty_engine dig b infohash (root_alone dig b)) peer (message_spelling m) why
   closes_on {m} why is fits handles = (
-    before_leaves (fed_peer (message_spelling m)),
+    _,
     (_, refl, refl, fed_leaves_peer),
     (
-      empty_engine dig b infohash (root_alone dig b) [],
+      _,
       (
         _,
         refl,
-        closes 0 (fed_peer (message_spelling m)) (record { send = []; close = Some why; notes = [] }) (record { here = refl; same_key = refl })
-            (record {
-              effect = closing why;
-              mid = before_leaves peer;
-              why = why;
-              takes = record { event = message_event m; rest = all_taken; takes = taken_message is fits; handles = handles };
-              closed = refl;
-              is = refl;
-              after = refl;
-            })
-            refl,
+        closed_for why (before_leaves peer) refl refl (taken_message is fits) handles,
       ),
       refl,
     ),
@@ -72,26 +62,14 @@ module _ (dig : List ℕ → List ℕ) (b : ThreeBlocks) (infohash : List ℕ) w
   stays_on : {m : _} (sent : List Sent) (notes : List Note) → IsMessage m → Fits m → HandlesMessage dig (before_leaves peer) 0 peer m [] (record { send = sent; close = None; notes = notes; proofs = [] }) (before_leaves peer)
       → StaysOn dig (empty_engine dig b infohash (root_alone dig b)) peer (message_spelling m) sent notes
   stays_on {m} sent notes is fits handles = (
-    before_leaves (fed_peer (message_spelling m)),
+    _,
     (_, refl, refl, fed_leaves_peer),
     (
-      before_leaves peer,
+      _,
       (
         _,
         refl,
-        goes_on 0 (fed_peer (message_spelling m)) (output_of sent notes) (record { here = refl; same_key = refl })
-            (record {
-              effect = record { send = sent; close = None; notes = notes; proofs = [] };
-              mid = before_leaves peer;
-              sent = [];
-              takes = record { event = message_event m; rest = all_taken; takes = taken_message is fits; handles = handles };
-              stays = refl;
-              follows = nothing_follows;
-              send = sym (append-nil (sent ++ []) ∙ append-nil sent);
-              close = refl;
-              notes = sym (append-nil notes);
-            })
-            refl,
+        went (record { send = sent; close = None; notes = notes; proofs = [] }) (before_leaves peer) refl refl refl (taken_message is fits) handles nothing_follows (sym (append-nil (sent ++ []) ∙ append-nil sent)) (sym (append-nil notes)),
       ),
       refl,
     ),
@@ -101,10 +79,10 @@ module _ (dig : List ℕ → List ℕ) (b : ThreeBlocks) (infohash : List ℕ) w
   second_handshake : ClosesOn dig (empty_engine dig b infohash (root_alone dig b)) peer (handshake_spelling (their_handshake infohash)) (Wire TooLong)
   second_handshake =
       let bytes = handshake_spelling (their_handshake infohash) in (
-        before_leaves (fed_peer bytes),
+        _,
         (_, refl, refl, fed_leaves_peer),
         (
-          empty_engine dig b infohash (root_alone dig b) [],
+          _,
           (
             _,
             refl,
@@ -179,45 +157,14 @@ hostile_are_runs dig sizes b other infohash whole not_zeros differs = record {
 pub wrong_is_run : (dig : List ℕ → List ℕ) → WrongBlockIsRun dig
 wrong_is_run dig b wrong infohash k other size known =
     let p = record blocks_peer { stream = stream (message_spelling (Piece 0 16384 wrong)) true false } in (
-      engine dig b infohash k Missing Missing Missing p,
-      (_, refl, refl, fed_to dig b infohash k Missing Missing Missing blocks_peer refl refl),
+      _,
+      (_, refl, refl, fed_first refl refl),
       (
-        empty_engine dig b infohash k [],
+        _,
         (
           _,
           refl,
-          closes 0 p (record { send = []; close = Some WrongBlock; notes = [] }) (record { here = refl; same_key = refl })
-              (record {
-                effect = closing WrongBlock;
-                mid = engine dig b infohash k Missing Missing Missing (with_payload (length wrong) (record blocks_peer { asked = block 0 ∷ block 2 ∷ [] }));
-                why = WrongBlock;
-                takes = record {
-                  event = message_event (Piece 0 16384 wrong);
-                  rest = all_taken;
-                  takes = taken_message (omega arith, omega arith) (piece_fits 16384 other.whole);
-                  handles = arrives (record {
-                    block = block 1;
-                    stored = engine dig b infohash k Missing Missing Missing blocks_peer;
-                    whole = rw other.whole (whole_second dig b infohash);
-                    asked = (1, omega arith, refl);
-                    puts = record {
-                      file = record { tree = 0; states = Missing ∷ Missing ∷ Missing ∷ [] };
-                      tree = k;
-                      result = Ok Wrong;
-                      is_file = record { here = refl; hung = refl };
-                      due = (record { inside = rw size (omega arith); whole = cc }, refl, (dig b.second, known, other.differs));
-                      made = refl;
-                      has_effect = refl;
-                      after = refl;
-                    };
-                    after = refl;
-                  });
-                };
-                closed = refl;
-                is = refl;
-                after = refl;
-              })
-              refl,
+          closed_for WrongBlock (engine dig b infohash k Missing Missing Missing (with_payload 16384 (record blocks_peer { asked = block 0 ∷ block 2 ∷ [] }))) refl refl (taken_message (omega arith, omega arith) (piece_fits 16384 other.whole)) (comes (block 1) (Ok Wrong) (whole_second dig b infohash) other.whole (1, omega arith, refl) refl refl (record { inside = rw size (omega arith); whole = cc }, refl, (dig b.second, known, other.differs)) refl refl refl),
         ),
         refl,
       ),

@@ -3,7 +3,7 @@ use Rattle.bt_engine.proofs.Base.{◌≡◌, ℕ, zero, suc, ◌+◌, ◌≤◌,
 use Rattle.bt_engine.proofs.Machine.{NowMarked, Complete, Idle, PeerState, FileState, EngineState, block_id, state_at, tree_of, Has, IsAsked, IsWholeBlock, Sent, Output, no_effect, noting, arrives, ours, right, IsInteresting, NeedsLeaf, IsOpen, FollowsUp, rests, interest_sent, StepNext, goes_on, waits, StepConnect, joins, greeting, StepFeed, feeds, Starts, by_root, Run, abc, abc_file, abc_torrent, abc_engine, served_peer, piece_bytes, abc_events, abc_calls, abc_answers, FetchOfAbcIsRun, first_key, peer_with, all_taken, their_handshake, bitfield_bytes, unchoke_bytes, to_first}
 use Rattle.bt_tree.specs.TreeShape.{height_up_to}
 use Rattle.bt_sparse.specs.SparseTree.{value_at}
-use Rattle.bt_engine.proofs.ExamplePeer.{one_there, taken_bits, taken_unchoke, taken_hello, waits_empty}
+use Rattle.bt_engine.proofs.ExamplePeer.{one_there, taken_bits, taken_unchoke, taken_hello, waits_empty, went, comes, fed_first}
 use Rattle.bt_engine.proofs.Lists.{some_is, contains_none, contains_cases, here, and_then_some, same_some}
 use Rattle.std.specs.FinMap as finite
 
@@ -158,92 +158,23 @@ module _ (dig : List ℕ → List ℕ) (infohash : List ℕ) where
       (engine Missing (peer_with all_taken false true false Idle [] 0))
   next_hello size =
       let p = peer_with (stream (handshake_spelling (their_handshake infohash)) false false) false true false Idle [] 0 in
-      goes_on 0 p nothing_sent (record { here = refl; same_key = refl })
-      (record {
-        effect = no_effect;
-        mid = engine Missing (peer_with all_taken false true false Idle [] 0);
-        sent = [];
-        takes = record { event = Hello (their_handshake infohash); rest = all_taken; takes = taken_hello infohash size; handles = (refl, ours refl refl, refl) };
-        stays = refl;
-        follows = after_hello;
-        send = refl;
-        close = refl;
-        notes = refl;
-      })
-      refl
+      went no_effect (engine Missing (peer_with all_taken false true false Idle [] 0)) refl refl refl (taken_hello infohash size) (refl, ours refl refl, refl) after_hello refl refl
 
   next_bits : StepNext dig (engine Missing (peer_with (stream bitfield_bytes true false) false true false Idle [] 0)) first_key [] (Ok (Some (only_sends Interested))) (engine Missing (peer_with all_taken true true true Idle [] 0))
   next_bits =
-      goes_on 0 (peer_with (stream bitfield_bytes true false) false true false Idle [] 0) (only_sends Interested) (record { here = refl; same_key = refl })
-      (record {
-        effect = no_effect;
-        mid = engine Missing (peer_with all_taken false true true Idle [] 0);
-        sent = to_first Interested ∷ [];
-        takes = record { event = message_event (Bitfield (128 ∷ [])); rest = all_taken; takes = taken_bits; handles = (refl, right refl refl refl) };
-        stays = refl;
-        follows = after_bits;
-        send = refl;
-        close = refl;
-        notes = refl;
-      })
-      refl
+      went no_effect (engine Missing (peer_with all_taken false true true Idle [] 0)) refl refl refl taken_bits (refl, right refl refl refl) after_bits refl refl
 
   next_unchoke : StepNext dig (engine Missing (peer_with (stream unchoke_bytes true false) true true true Idle [] 0)) first_key [] (Ok (Some (only_sends (Request first_ask))))
       (engine Missing (peer_with all_taken true false true Idle (the_block ∷ []) 0))
   next_unchoke =
-      goes_on 0 (peer_with (stream unchoke_bytes true false) true true true Idle [] 0) (only_sends (Request first_ask)) (record { here = refl; same_key = refl })
-      (record {
-        effect = no_effect;
-        mid = engine Missing (peer_with all_taken true false true Idle [] 0);
-        sent = to_first (Request first_ask) ∷ [];
-        takes = record { event = message_event Unchoke; rest = all_taken; takes = taken_unchoke; handles = (refl, refl, refl) };
-        stays = refl;
-        follows = after_unchoke;
-        send = refl;
-        close = refl;
-        notes = refl;
-      })
-      refl
+      went no_effect (engine Missing (peer_with all_taken true false true Idle [] 0)) refl refl refl taken_unchoke (refl, refl, refl) after_unchoke refl refl
 
   abbrev last_output : Output
   last_output = record { send = to_first (Have 0) ∷ to_first NotInterested ∷ []; close = None; notes = NowMarked the_block ∷ Complete 0 ∷ [] }
 
   next_piece : StepNext dig (engine Missing (peer_with (stream piece_bytes true false) true false true Idle (the_block ∷ []) 0)) first_key ((0, bytes_written 0 abc) ∷ []) (Ok (Some last_output)) (engine Marked served_peer)
   next_piece =
-      goes_on 0 (peer_with (stream piece_bytes true false) true false true Idle (the_block ∷ []) 0) last_output (record { here = refl; same_key = refl })
-      (record {
-        effect = noting (NowMarked the_block);
-        mid = engine Marked (peer_with all_taken true false true Idle [] 3);
-        sent = to_first NotInterested ∷ [];
-        takes = record {
-          event = message_event (Piece 0 0 abc);
-          rest = all_taken;
-          takes = taken_piece;
-          handles = arrives (record {
-            block = the_block;
-            stored = engine Marked (peer_with all_taken true false true Idle (the_block ∷ []) 0);
-            whole = whole_block;
-            asked = here [] refl;
-            puts = record {
-              file = record { tree = 0; states = Missing ∷ [] };
-              tree = root_facts 3 (dig abc);
-              result = Ok PutMarked;
-              is_file = record { here = refl; hung = refl };
-              due = (record { inside = omega arith; whole = refl }, refl, value_here dig);
-              made = refl;
-              has_effect = refl;
-              after = refl;
-            };
-            after = refl;
-          });
-        };
-        stays = refl;
-        follows = after_piece;
-        send = refl;
-        close = refl;
-        notes = refl;
-      })
-      refl
+      went (noting (NowMarked the_block)) (engine Marked (peer_with all_taken true false true Idle [] 3)) refl refl refl taken_piece (comes the_block (Ok PutMarked) whole_block refl (here [] refl) refl refl (record { inside = omega arith; whole = refl }, refl, value_here dig) refl refl refl) after_piece refl refl
 
   -- ---- the run
 
@@ -277,33 +208,33 @@ module _ (dig : List ℕ → List ℕ) (infohash : List ℕ) where
 
   runs : length infohash ≡ 32 → Run dig (abc_engine dig infohash Missing [] 1) (abc_events infohash) abc_calls (abc_answers infohash) (engine Marked served_peer)
   runs size = (
-    engine Missing (peer_with (stream [] false false) false true false Idle [] 0),
+    _,
     (_, refl, refl, connects),
     (
-      engine Missing (peer_with (stream (handshake_spelling (their_handshake infohash)) false false) false true false Idle [] 0),
-      (_, refl, refl, fed_to Missing (peer_with (stream [] false false) false true false Idle [] 0) refl refl),
+      _,
+      (_, refl, refl, fed_first refl refl),
       (
-        engine Missing (peer_with all_taken false true false Idle [] 0),
+        _,
         (_, refl, next_hello size),
         (
-          engine Missing (peer_with (stream bitfield_bytes true false) false true false Idle [] 0),
-          (_, refl, refl, fed_to Missing (peer_with all_taken false true false Idle [] 0) refl refl),
+          _,
+          (_, refl, refl, fed_first refl refl),
           (
-            engine Missing (peer_with all_taken true true true Idle [] 0),
+            _,
             (_, refl, next_bits),
             (
-              engine Missing (peer_with (stream unchoke_bytes true false) true true true Idle [] 0),
-              (_, refl, refl, fed_to Missing (peer_with all_taken true true true Idle [] 0) refl refl),
+              _,
+              (_, refl, refl, fed_first refl refl),
               (
-                engine Missing (peer_with all_taken true false true Idle (the_block ∷ []) 0),
+                _,
                 (_, refl, next_unchoke),
                 (
-                  engine Missing (peer_with (stream piece_bytes true false) true false true Idle (the_block ∷ []) 0),
-                  (_, refl, refl, fed_to Missing (peer_with all_taken true false true Idle (the_block ∷ []) 0) refl refl),
+                  _,
+                  (_, refl, refl, fed_first refl refl),
                   (
-                    engine Marked served_peer,
+                    _,
                     (_, refl, next_piece),
-                    (engine Marked served_peer, (_, refl, next_none), refl),
+                    (_, (_, refl, next_none), refl),
                   ),
                 ),
               ),

@@ -3,6 +3,7 @@ use Rattle.bt_engine.proofs.Base.{◌≡◌, ◌∙◌, ℕ, zero, suc, ◌+◌,
 use Rattle.bt_engine.proofs.Machine.{BadRequest, PeerState, EngineState, DeviceCalls, reads_at, block_id, state_at, spanned_blocks, cut_from, Sent, no_effect, closing, sending, ignored, no_place, served, NeedsLeaf, FollowsUp, rests, interest_sent, StepNext, goes_on, closes, StepFeed, feeds, StepRechoke, rechokes, Run, first_key, all_taken, to_first, ThreeBlocks, AreWhole, three_file, three_torrent, KnowsTwo, marked_engine, reader, interested_bytes, request_bytes, long_request_bytes, serving_events, serving_calls, serving_answers, ServingIsRun}
 use Rattle.bt_engine.proofs.Lists.{contains_none, contains_cases}
 use Rattle.bt_engine.proofs.ExampleThreeEngine.{output_of, IsOne, first, second, third, one_of}
+use Rattle.bt_engine.proofs.ExamplePeer.{went, closed_for, fed_first}
 
 abbrev range_ask : Ask
 range_ask = record { piece = 0; begin = 16334; length = 100 }
@@ -92,19 +93,7 @@ module _ (dig : List ℕ → List ℕ) (b : ThreeBlocks) (infohash : List ℕ) (
 
   next_interested : StepNext dig (engine 0 (with_stream (stream interested_bytes true false) (reader true false 0))) first_key [] (Ok (Some (output_of [] []))) (engine 0 (reader true true 0))
   next_interested =
-      goes_on 0 (with_stream (stream interested_bytes true false) (reader true false 0)) (output_of [] []) (record { here = refl; same_key = refl })
-      (record {
-        effect = no_effect;
-        mid = engine 0 (reader true true 0);
-        sent = [];
-        takes = record { event = message_event Interested; rest = all_taken; takes = taken_interested; handles = (refl, refl, refl) };
-        stays = refl;
-        follows = nothing_follows 0 (reader true true 0) refl (omega arith);
-        send = refl;
-        close = refl;
-        notes = refl;
-      })
-      refl
+      went no_effect (engine 0 (reader true true 0)) refl refl refl taken_interested (refl, refl, refl) (nothing_follows 0 (reader true true 0) refl (omega arith)) refl refl
 
   unchokes : StepRechoke dig (engine 0 (reader true true 0)) (Some (output_of (to_first Unchoke ∷ []) [])) (engine 1 (reader false true 0))
   unchokes = rechokes (output_of (to_first Unchoke ∷ []) []) (record { sent = []; follows = (engine 1 (reader false true 0), [], [], nothing_follows 1 (reader false true 0) refl (omega arith), (refl, refl), refl); is = refl }) refl
@@ -142,55 +131,11 @@ module _ (dig : List ℕ → List ℕ) (b : ThreeBlocks) (infohash : List ℕ) (
 
   next_request : AreWhole b → KnowsTwo dig b k → StepNext dig (engine 1 (with_stream (stream request_bytes true false) (reader false true 0))) first_key two_reads (Ok (Some (output_of piece_sent []))) (engine 1 (reader false true 100))
   next_request whole knows =
-      goes_on 0 (with_stream (stream request_bytes true false) (reader false true 0)) (output_of piece_sent []) (record { here = refl; same_key = refl })
-      (record {
-        effect = sending (reader false true 0) (Piece 0 16334 (drop 16334 b.first ++ take 50 b.second));
-        mid = engine 1 (reader false true 100);
-        sent = [];
-        takes = record {
-          event = message_event (Request range_ask);
-          rest = all_taken;
-          takes = taken_request;
-          handles = served range_span refl range_place (of_two (λ i. state_at (engine 1 (reader false true 0)) (block_id 0 i) ≡ Some Marked) refl refl) (record {
-            file = record { tree = 0; states = Marked ∷ Marked ∷ Marked ∷ [] };
-            tree = k;
-            bytes = two_blocks;
-            reads = given 0 b.first ∷ given 1 b.second ∷ [];
-            is_file = record { here = refl; hung = refl };
-            right = record {
-              made = refl;
-              right = of_two (λ i. IsRight dig k i (two_blocks i))
-                  (record { whole = cc; leaf = knows.first })
-                  (record { whole = cc; leaf = knows.second });
-            };
-            made = cc;
-            sent = ap (λ l. sending (reader false true 0) (Piece 0 16334 l)) (sym (cut whole));
-            after = refl;
-          });
-        };
-        stays = refl;
-        follows = nothing_follows 1 (reader false true 100) refl (omega arith);
-        send = refl;
-        close = refl;
-        notes = refl;
-      })
-      refl
+      went (sending (reader false true 0) (Piece 0 16334 (drop 16334 b.first ++ take 50 b.second))) (engine 1 (reader false true 100)) refl refl refl taken_request (served range_span refl range_place (of_two (λ i. state_at (engine 1 (reader false true 0)) (block_id 0 i) ≡ Some Marked) refl refl) (record { file = record { tree = 0; states = Marked ∷ Marked ∷ Marked ∷ [] }; tree = k; bytes = two_blocks; reads = given 0 b.first ∷ given 1 b.second ∷ []; is_file = record { here = refl; hung = refl }; right = record { made = refl; right = of_two (λ i. IsRight dig k i (two_blocks i)) (record { whole = cc; leaf = knows.first }) (record { whole = cc; leaf = knows.second }); }; made = cc; sent = ap (λ l. sending (reader false true 0) (Piece 0 16334 l)) (sym (cut whole)); after = refl; })) (nothing_follows 1 (reader false true 100) refl (omega arith)) refl refl
 
   next_ignored : StepNext dig (engine 0 (with_stream (stream request_bytes true false) (reader true true 0))) first_key [] (Ok (Some (output_of [] []))) (engine 0 (reader true true 0))
   next_ignored =
-      goes_on 0 (with_stream (stream request_bytes true false) (reader true true 0)) (output_of [] []) (record { here = refl; same_key = refl })
-      (record {
-        effect = no_effect;
-        mid = engine 0 (reader true true 0);
-        sent = [];
-        takes = record { event = message_event (Request range_ask); rest = all_taken; takes = taken_request; handles = ignored refl refl refl refl };
-        stays = refl;
-        follows = nothing_follows 0 (reader true true 0) refl (omega arith);
-        send = refl;
-        close = refl;
-        notes = refl;
-      })
-      refl
+      went no_effect (engine 0 (reader true true 0)) refl refl refl taken_request (ignored refl refl refl refl) (nothing_follows 0 (reader true true 0) refl (omega arith)) refl refl
 
   -- no range is longer than a block
   too_long : (span : Span) → ¬ IsPlace (three_torrent dig b infohash) 0 0 16385 span
@@ -198,32 +143,22 @@ module _ (dig : List ℕ → List ℕ) (b : ThreeBlocks) (infohash : List ℕ) (
 
   next_closed : StepNext dig (engine 1 (with_stream (stream long_request_bytes true false) (reader false true 0))) first_key [] (Ok (Some (record { send = []; close = Some BadRequest; notes = [] }))) (marked_engine dig b infohash k 1 [])
   next_closed =
-      closes 0 (with_stream (stream long_request_bytes true false) (reader false true 0)) (record { send = []; close = Some BadRequest; notes = [] }) (record { here = refl; same_key = refl })
-      (record {
-        effect = closing BadRequest;
-        mid = engine 1 (reader false true 0);
-        why = BadRequest;
-        takes = record { event = message_event (Request long_ask); rest = all_taken; takes = taken_long; handles = no_place refl too_long refl refl refl };
-        closed = refl;
-        is = refl;
-        after = refl;
-      })
-      refl
+      closed_for BadRequest (engine 1 (reader false true 0)) refl refl taken_long (no_place refl too_long refl refl refl)
 
   serves : AreWhole b → KnowsTwo dig b k → Run dig (engine 0 (reader true false 0)) serving_events (serving_calls b) (serving_answers b) (engine 1 (reader false true 100))
   serves whole knows = (
-    engine 0 (with_stream (stream interested_bytes true false) (reader true false 0)),
-    (_, refl, refl, fed_to 0 (reader true false 0) refl refl),
+    _,
+    (_, refl, refl, fed_first refl refl),
     (
-      engine 0 (reader true true 0),
+      _,
       (_, refl, next_interested),
       (
-        engine 1 (reader false true 0),
+        _,
         (_, refl, refl, unchokes),
         (
-          engine 1 (with_stream (stream request_bytes true false) (reader false true 0)),
-          (_, refl, refl, fed_to 1 (reader false true 0) refl refl),
-          (engine 1 (reader false true 100), (_, refl, next_request whole knows), refl),
+          _,
+          (_, refl, refl, fed_first refl refl),
+          (_, (_, refl, next_request whole knows), refl),
         ),
       ),
     ),
@@ -233,13 +168,13 @@ pub serving_is_run : (dig : List ℕ → List ℕ) → ServingIsRun dig
 serving_is_run dig b infohash k whole knows = record {
   serves = serves dig b infohash k whole knows;
   ignores = (
-    marked_engine dig b infohash k 0 (record (reader true true 0) { stream = stream request_bytes true false } ∷ []),
-    (_, refl, refl, fed_to dig b infohash k 0 (reader true true 0) refl refl),
-    (marked_engine dig b infohash k 0 (reader true true 0 ∷ []), (_, refl, next_ignored dig b infohash k), refl),
+    _,
+    (_, refl, refl, fed_first refl refl),
+    (_, (_, refl, next_ignored dig b infohash k), refl),
   );
   closes = (
-    marked_engine dig b infohash k 1 (record (reader false true 0) { stream = stream long_request_bytes true false } ∷ []),
-    (_, refl, refl, fed_to dig b infohash k 1 (reader false true 0) refl refl),
-    (marked_engine dig b infohash k 1 [], (_, refl, next_closed dig b infohash k), refl),
+    _,
+    (_, refl, refl, fed_first refl refl),
+    (_, (_, refl, next_closed dig b infohash k), refl),
   );
 }

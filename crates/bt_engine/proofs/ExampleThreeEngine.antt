@@ -2,7 +2,7 @@
 use Rattle.bt_engine.proofs.Base.{◌≡◌, ℕ, zero, suc, ◌+◌, ◌%◌, ◌<◌, ◌≤◌, inl, inr, ◌↔◌, true, false, List, [], ◌∷◌, ◌++◌, length, Some, None, Ok, refl, sym, ap, ◌∙◌, subst, arith, rules, slice_get, slice_index_or, Contains, option_and_then, w32, to_be_bytes, append-nil, length-append, IsDigest, File, Facts, value_at, IsKey, key_spelling, new_states, BlockState, Missing, Waiting, Marked, BlockId, Stream, stream, fed, handshake_spelling, Fits, Hello, Message as message_event, Interested, Unchoke, Bitfield, HashRequest}
 use Rattle.bt_engine.proofs.Machine.{Note, HashState, Idle, Asked, PeerState, FileState, EngineState, block_id, state_at, tree_of, Has, IsAsked, IsWholeBlock, Sent, Output, no_effect, ours, right, IsInteresting, NeedsLeaf, IsLeastNeed, IsOpen, FollowsUp, requests, rests, interest_sent, StepNext, goes_on, StepConnect, joins, greeting, StepFeed, feeds, Starts, by_root, first_key, peer_with, all_taken, their_handshake, bitfield_bytes, unchoke_bytes, to_first, ThreeBlocks, left_node, right_node, three_root, three_file, three_torrent, three_engine, leaves_key, four_leaves, leaves_message, block_request}
 use Rattle.bt_engine.proofs.Lists.{some_is, contains_none, contains_cases, here, and_then_some}
-use Rattle.bt_engine.proofs.ExamplePeer.{one_there, taken_bits, taken_unchoke, taken_hello}
+use Rattle.bt_engine.proofs.ExamplePeer.{one_there, taken_bits, taken_unchoke, taken_hello, went}
 use Rattle.bt_engine.proofs.ExampleThreeTree.{at_first, proved, first_unknown, first_known, second_known, third_known, plan, leaves_length}
 
 abbrev pub block : ℕ → BlockId
@@ -273,19 +273,7 @@ module _ (dig : List ℕ → List ℕ) (b : ThreeBlocks) (infohash : List ℕ) w
   pub next_hello : length infohash ≡ 32 → StepNext dig (engine (at_first dig b) Missing Missing Missing (peer_with (stream (handshake_spelling (their_handshake infohash)) false false) false true false Idle [] 0)) first_key []
       (Ok (Some (output_of [] []))) (engine (at_first dig b) Missing Missing Missing (peer_with all_taken false true false Idle [] 0))
   next_hello size =
-      goes_on 0 (peer_with (stream (handshake_spelling (their_handshake infohash)) false false) false true false Idle [] 0) (output_of [] []) (record { here = refl; same_key = refl })
-      (record {
-        effect = no_effect;
-        mid = engine (at_first dig b) Missing Missing Missing (peer_with all_taken false true false Idle [] 0);
-        sent = [];
-        takes = record { event = Hello (their_handshake infohash); rest = all_taken; takes = taken_hello infohash size; handles = (refl, ours refl refl, refl) };
-        stays = refl;
-        follows = after_hello;
-        send = refl;
-        close = refl;
-        notes = refl;
-      })
-      refl
+      went no_effect (engine (at_first dig b) Missing Missing Missing (peer_with all_taken false true false Idle [] 0)) refl refl refl (taken_hello infohash size) (refl, ours refl refl, refl) after_hello refl refl
 
   abbrev pub bits_sent : List Sent
   bits_sent = to_first Interested ∷ to_first (HashRequest (leaves_key dig b)) ∷ []
@@ -293,37 +281,13 @@ module _ (dig : List ℕ → List ℕ) (b : ThreeBlocks) (infohash : List ℕ) w
   pub next_bits : StepNext dig (engine (at_first dig b) Missing Missing Missing (peer_with (stream bitfield_bytes true false) false true false Idle [] 0)) first_key [] (Ok (Some (output_of bits_sent [])))
       (engine (at_first dig b) Missing Missing Missing (peer_with all_taken true true true (Asked (leaves_key dig b)) [] 0))
   next_bits =
-      goes_on 0 (peer_with (stream bitfield_bytes true false) false true false Idle [] 0) (output_of bits_sent []) (record { here = refl; same_key = refl })
-      (record {
-        effect = no_effect;
-        mid = engine (at_first dig b) Missing Missing Missing (peer_with all_taken false true true Idle [] 0);
-        sent = bits_sent;
-        takes = record { event = message_event (Bitfield (128 ∷ [])); rest = all_taken; takes = taken_bits; handles = (refl, right refl refl refl) };
-        stays = refl;
-        follows = after_bits;
-        send = refl;
-        close = refl;
-        notes = refl;
-      })
-      refl
+      went no_effect (engine (at_first dig b) Missing Missing Missing (peer_with all_taken false true true Idle [] 0)) refl refl refl taken_bits (refl, right refl refl refl) after_bits refl refl
 
   pub next_unchoke : (k : Facts) (hash : HashState) → (hash ≡ Idle → (c : BlockId) → ¬ NeedsLeaf dig (engine k Missing Missing Missing (asked_peer hash [] 0)) (asked_peer hash [] 0) c)
       → StepNext dig (engine k Missing Missing Missing (peer_with (stream unchoke_bytes true false) true true true hash [] 0)) first_key [] (Ok (Some (output_of three_asks [])))
       (engine k Missing Missing Missing (asked_peer hash all_three 0))
   next_unchoke k hash known =
-      goes_on 0 (peer_with (stream unchoke_bytes true false) true true true hash [] 0) (output_of three_asks []) (record { here = refl; same_key = refl })
-      (record {
-        effect = no_effect;
-        mid = engine k Missing Missing Missing (asked_peer hash [] 0);
-        sent = three_asks;
-        takes = record { event = message_event Unchoke; rest = all_taken; takes = taken_unchoke; handles = (refl, refl, refl) };
-        stays = refl;
-        follows = after_unchoke k hash known;
-        send = refl;
-        close = refl;
-        notes = refl;
-      })
-      refl
+      went no_effect (engine k Missing Missing Missing (asked_peer hash [] 0)) refl refl refl taken_unchoke (refl, refl, refl) (after_unchoke k hash known) refl refl
 
   -- the key's root is a digest
   pub key_fits : IsDigest dig → IsKey (leaves_key dig b)

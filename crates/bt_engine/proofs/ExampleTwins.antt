@@ -3,7 +3,7 @@ use Rattle.bt_engine.proofs.Base.{◌≡◌, ℕ, zero, suc, true, false, List, 
 use Rattle.bt_engine.proofs.Machine.{Note, NowMarked, Complete, Idle, Asked, PeerState, FileState, EngineState, DeviceCalls, block_id, state_at, Output, no_effect, judged_file, due_blocks, settling_notes, learns, resolved, new_proofs, NeedsLeaf, FollowsUp, rests, StepNext, goes_on, feeds, first_key, all_taken, to_first, ThreeBlocks, AreWhole, leaves_key, four_leaves, leaves_message, twin_files, twin_engine, twin_peer, TwinFilesAreRun}
 use Rattle.bt_engine.proofs.Lists.{some_is, contains_none}
 use Rattle.bt_engine.proofs.AnswerMarks.{right_true}
-use Rattle.bt_engine.proofs.ExamplePeer.{taken_message}
+use Rattle.bt_engine.proofs.ExamplePeer.{taken_message, went}
 use Rattle.bt_engine.proofs.ExampleThreeTree.{at_first, proved, leaves_claim, accepts, first_known, second_known, third_known, claims}
 use Rattle.bt_engine.proofs.ExampleThreeEngine.{key_fits, leaves_fit}
 
@@ -107,49 +107,7 @@ module _ (dig : List ℕ → List ℕ) (b : ThreeBlocks) (infohash : List ℕ) w
   next_leaves : IsDigest dig → AreWhole b
       → StepNext dig (twin_engine dig b infohash (at_first dig b) Waiting asked) first_key calls (Ok (Some output)) (settled (twin_peer all_taken Idle))
   next_leaves sizes whole =
-      goes_on 0 asked output (record { here = refl; same_key = refl })
-      (record {
-        effect = record no_effect { notes = marks; proofs = new_proofs (leaves_key dig b) (four_leaves dig b) (at_first dig b) (proved dig b) };
-        mid = settled (twin_peer all_taken Idle);
-        sent = [];
-        takes = record {
-          event = message_event (leaves_message dig b);
-          rest = all_taken;
-          takes = taken_message (key_fits dig b infohash sizes) (leaves_fit dig b infohash sizes);
-          handles = learns (record {
-            tree = 0;
-            old = at_first dig b;
-            new = proved dig b;
-            claim = leaves_claim dig b;
-            notes = marks;
-            settled = settled (twin_peer all_taken (Asked (leaves_key dig b)));
-            hash = Idle;
-            here = record { here = refl; same_root = refl };
-            claims = claims dig sizes b;
-            accepts = accepts dig b;
-            settles = record {
-              facts = proved dig b;
-              reads = reads;
-              here = refl;
-              due = due;
-              made = refl;
-              noted = sym (ap (λ l. l ++ settling_notes dig (proved dig b) 1 read_back ++ []) (noted whole 0)
-                  ∙ ap (λ l. (NowMarked (block_id 0 0) ∷ NowMarked (block_id 0 1) ∷ NowMarked (block_id 0 2) ∷ []) ++ l ++ []) (noted whole 1));
-              files = files;
-              others = refl;
-            };
-            resolves = resolved refl refl;
-            has_effect = refl;
-            after = refl;
-          });
-        };
-        stays = refl;
-        follows = after_leaves;
-        send = refl;
-        close = refl;
-        notes = refl;
-      })
-      refl
+      went (record no_effect { notes = marks; proofs = new_proofs (leaves_key dig b) (four_leaves dig b) (at_first dig b) (proved dig b) }) (settled (twin_peer all_taken Idle)) refl refl refl (taken_message (key_fits dig b infohash sizes) (leaves_fit dig b infohash sizes)) (learns (record { tree = 0; old = at_first dig b; new = proved dig b; claim = leaves_claim dig b; notes = marks; settled = settled (twin_peer all_taken (Asked (leaves_key dig b))); hash = Idle; here = record { here = refl; same_root = refl }; claims = claims dig sizes b; accepts = accepts dig b; settles = record { facts = proved dig b; reads = reads; here = refl; due = due; made = refl; noted = sym (ap (λ l. l ++ settling_notes dig (proved dig b) 1 read_back ++ []) (noted whole 0) ∙ ap (λ l. (NowMarked (block_id 0 0) ∷ NowMarked (block_id 0 1) ∷ NowMarked (block_id 0 2) ∷ []) ++ l ++ []) (noted whole 1)); files = files; others = refl; }; resolves = resolved refl refl; has_effect = refl; after = refl; })) after_leaves refl refl
     where
       due : (file : ℕ) (f : FileState) → slice_get (twin_files Waiting) file ≡ Some f → map block_of (reads file) ≡ due_blocks dig (proved dig b) 0 0 4 f
       due zero f at = sym all_due ∙ ap (λ (g : FileState). due_blocks dig (proved dig b) 0 0 4 g) (some_is at)
@@ -165,9 +123,9 @@ pub twins_are_run : (dig : List ℕ → List ℕ) → IsDigest dig → TwinFiles
 twins_are_run dig sizes b infohash whole = record {
   last = settled dig b infohash (twin_peer all_taken Idle);
   runs = (
-    twin_engine dig b infohash (at_first dig b) Waiting (asked dig b infohash),
+    _,
     (_, refl, refl, feeds 0 (twin_peer all_taken (Asked (leaves_key dig b))) (record { here = refl; same_key = refl }) refl refl),
-    (settled dig b infohash (twin_peer all_taken Idle), (_, refl, next_leaves dig b infohash sizes whole), refl),
+    (_, (_, refl, next_leaves dig b infohash sizes whole), refl),
   );
   marked = refl;
   first_complete = refl;

@@ -5,7 +5,7 @@ use Rattle.bt_engine.proofs.Lists.{contains_none, contains_cases, contains_filte
 use Rattle.bt_engine.proofs.Marks.{right_then}
 use Rattle.bt_engine.proofs.AnswerMarks.{right_true}
 use Rattle.bt_engine.proofs.Runs.{run_join}
-use Rattle.bt_engine.proofs.ExamplePeer.{one_there, taken_message, piece_fits}
+use Rattle.bt_engine.proofs.ExamplePeer.{one_there, taken_message, piece_fits, went, comes, fed_first}
 use Rattle.bt_engine.proofs.ExampleThreeTree.{at_first, proved, leaves_claim, accepts, first_unknown, second_unknown, third_unknown, first_known, second_known, third_known, claims}
 use Rattle.bt_engine.proofs.ExampleThreeEngine.{block, all_three, asked_peer, output_of, IsOne, first, second, third, engine, is_one, whole_first, whole_second, whole_third, needs_none, quietly, interesting, not_open, next_hello, next_bits, next_unchoke, key_fits, leaves_fit, fed_to, start, connects, starts}
 
@@ -135,117 +135,17 @@ module _ (dig : List ℕ → List ℕ) (b : ThreeBlocks) (wrong : List ℕ) (inf
     next_first : length b.first ≡ 16384 → StepNext dig (engine dig b infohash (at_first dig b) Missing Missing Missing (peer_with (stream (message_spelling (Piece 0 0 b.first)) true false) true false true asked_key asked 0)) first_key ((0, bytes_written 0 b.first) ∷ [])
         (Ok (Some (output_of [] (NowWaiting (block 0) ∷ [])))) (engine dig b infohash (at_first dig b) Waiting Missing Missing (asked_peer asked_key (left_one asked) 16384))
     next_first size =
-        goes_on 0 (peer_with (stream (message_spelling (Piece 0 0 b.first)) true false) true false true asked_key asked 0) (output_of [] (NowWaiting (block 0) ∷ [])) (record { here = refl; same_key = refl })
-        (record {
-          effect = noting (NowWaiting (block 0));
-          mid = engine dig b infohash (at_first dig b) Waiting Missing Missing (asked_peer asked_key (left_one asked) 16384);
-          sent = [];
-          takes = record {
-            event = message_event (Piece 0 0 b.first);
-            rest = all_taken;
-            takes = taken_message (omega arith, omega arith) (piece_fits 0 size);
-            handles = arrives (record {
-              block = block 0;
-              stored = engine dig b infohash (at_first dig b) Waiting Missing Missing (asked_peer asked_key asked 0);
-              whole = rw size (whole_first dig b infohash);
-              asked = all.each (block 0) (0, omega arith, refl);
-              puts = record {
-                file = record { tree = 0; states = Missing ∷ Missing ∷ Missing ∷ [] };
-                tree = at_first dig b;
-                result = Ok PutWaiting;
-                is_file = record { here = refl; hung = refl };
-                due = (record { inside = omega arith; whole = size }, refl, first_unknown dig b);
-                made = refl;
-                has_effect = refl;
-                after = refl;
-              };
-              after = cc;
-            });
-          };
-          stays = refl;
-          follows = after_first;
-          send = refl;
-          close = refl;
-          notes = refl;
-        })
-        refl
+        went (noting (NowWaiting (block 0))) (engine dig b infohash (at_first dig b) Waiting Missing Missing (asked_peer asked_key (left_one asked) 16384)) refl refl refl (taken_message (omega arith, omega arith) (piece_fits 0 size)) (comes (block 0) (Ok PutWaiting) (whole_first dig b infohash) size (all.each (block 0) (0, omega arith, refl)) refl refl (record { inside = omega arith; whole = size }, refl, first_unknown dig b) refl refl refl) after_first refl refl
 
     next_second : length b.second ≡ 16384 → StepNext dig (engine dig b infohash (at_first dig b) Waiting Missing Missing (peer_with (stream (message_spelling (Piece 0 16384 b.second)) true false) true false true asked_key (left_one asked) 16384)) first_key ((0, bytes_written 16384 b.second) ∷ [])
         (Ok (Some (output_of [] (NowWaiting (block 1) ∷ [])))) (engine dig b infohash (at_first dig b) Waiting Waiting Missing (asked_peer asked_key (left_two asked) 32768))
     next_second size =
-        goes_on 0 (peer_with (stream (message_spelling (Piece 0 16384 b.second)) true false) true false true asked_key (left_one asked) 16384) (output_of [] (NowWaiting (block 1) ∷ [])) (record { here = refl; same_key = refl })
-        (record {
-          effect = noting (NowWaiting (block 1));
-          mid = engine dig b infohash (at_first dig b) Waiting Waiting Missing (asked_peer asked_key (left_two asked) 32768);
-          sent = [];
-          takes = record {
-            event = message_event (Piece 0 16384 b.second);
-            rest = all_taken;
-            takes = taken_message (omega arith, omega arith) (piece_fits 16384 size);
-            handles = arrives (record {
-              block = block 1;
-              stored = engine dig b infohash (at_first dig b) Waiting Waiting Missing (asked_peer asked_key (left_one asked) 16384);
-              whole = rw size (whole_second dig b infohash);
-              asked = second_left;
-              puts = record {
-                file = record { tree = 0; states = Waiting ∷ Missing ∷ Missing ∷ [] };
-                tree = at_first dig b;
-                result = Ok PutWaiting;
-                is_file = record { here = refl; hung = refl };
-                due = (record { inside = omega arith; whole = size }, refl, second_unknown dig b);
-                made = refl;
-                has_effect = refl;
-                after = refl;
-              };
-              after = cc;
-            });
-          };
-          stays = refl;
-          follows = after_second;
-          send = refl;
-          close = refl;
-          notes = refl;
-        })
-        refl
+        went (noting (NowWaiting (block 1))) (engine dig b infohash (at_first dig b) Waiting Waiting Missing (asked_peer asked_key (left_two asked) 32768)) refl refl refl (taken_message (omega arith, omega arith) (piece_fits 16384 size)) (comes (block 1) (Ok PutWaiting) (whole_second dig b infohash) size second_left refl refl (record { inside = omega arith; whole = size }, refl, second_unknown dig b) refl refl refl) after_second refl refl
 
     next_third : length wrong ≡ 16384 → StepNext dig (engine dig b infohash (at_first dig b) Waiting Waiting Missing (peer_with (stream (message_spelling (Piece 0 32768 wrong)) true false) true false true asked_key (left_two asked) 32768)) first_key ((0, bytes_written 32768 wrong) ∷ [])
         (Ok (Some (output_of (to_first NotInterested ∷ []) (NowWaiting (block 2) ∷ [])))) (engine dig b infohash (at_first dig b) Waiting Waiting Waiting (idle_peer all_taken asked_key))
     next_third size =
-        goes_on 0 (peer_with (stream (message_spelling (Piece 0 32768 wrong)) true false) true false true asked_key (left_two asked) 32768) (output_of (to_first NotInterested ∷ []) (NowWaiting (block 2) ∷ [])) (record { here = refl; same_key = refl })
-        (record {
-          effect = noting (NowWaiting (block 2));
-          mid = engine dig b infohash (at_first dig b) Waiting Waiting Waiting (asked_peer asked_key [] 49152);
-          sent = (to_first NotInterested ∷ []);
-          takes = record {
-            event = message_event (Piece 0 32768 wrong);
-            rest = all_taken;
-            takes = taken_message (omega arith, omega arith) (piece_fits 32768 size);
-            handles = arrives (record {
-              block = block 2;
-              stored = engine dig b infohash (at_first dig b) Waiting Waiting Waiting (asked_peer asked_key (left_two asked) 32768);
-              whole = rw size (whole_third dig b infohash);
-              asked = third_last;
-              puts = record {
-                file = record { tree = 0; states = Waiting ∷ Waiting ∷ Missing ∷ [] };
-                tree = at_first dig b;
-                result = Ok PutWaiting;
-                is_file = record { here = refl; hung = refl };
-                due = (record { inside = omega arith; whole = size }, refl, third_unknown dig b);
-                made = refl;
-                has_effect = refl;
-                after = refl;
-              };
-              after = ap (λ l. engine dig b infohash (at_first dig b) Waiting Waiting Waiting (asked_peer asked_key l 49152)) (sym none_left)
-                  ∙ ap (λ n. engine dig b infohash (at_first dig b) Waiting Waiting Waiting (with_payload n (asked_peer asked_key (without_block (block 2) (left_two asked)) 32768))) (sym size);
-            });
-          };
-          stays = refl;
-          follows = after_third;
-          send = refl;
-          close = refl;
-          notes = refl;
-        })
-        refl
+        went (noting (NowWaiting (block 2))) (engine dig b infohash (at_first dig b) Waiting Waiting Waiting (asked_peer asked_key [] 49152)) refl refl refl (taken_message (omega arith, omega arith) (piece_fits 32768 size)) (comes (block 2) (Ok PutWaiting) (whole_third dig b infohash) size third_last refl refl (record { inside = omega arith; whole = size }, refl, third_unknown dig b) refl refl (ap (λ l. engine dig b infohash (at_first dig b) Waiting Waiting Waiting (asked_peer asked_key l 49152)) (sym none_left))) after_third refl refl
 
   -- ---- they are read back
 
@@ -338,48 +238,7 @@ module _ (dig : List ℕ → List ℕ) (b : ThreeBlocks) (wrong : List ℕ) (inf
   next_leaves : IsDigest dig → AreWhole b → IsWrongThird dig b wrong → StepNext dig (engine dig b infohash (at_first dig b) Waiting Waiting Waiting (idle_peer (stream (message_spelling (leaves_message dig b)) true false) asked_key)) first_key
       ((0, bytes_given 0 16384 b.first) ∷ (0, bytes_given 16384 16384 b.second) ∷ (0, bytes_given 32768 16384 wrong) ∷ []) (Ok (Some (output_of asks_third settling_notes_are))) (settled (asked_peer Idle (block 2 ∷ []) 49152))
   next_leaves sizes whole other =
-      goes_on 0 (idle_peer (stream (message_spelling (leaves_message dig b)) true false) asked_key) (output_of asks_third settling_notes_are) (record { here = refl; same_key = refl })
-      (record {
-        effect = record no_effect { notes = settling_notes_are; proofs = new_proofs (leaves_key dig b) (four_leaves dig b) (at_first dig b) (proved dig b) };
-        mid = settled (idle_peer all_taken Idle);
-        sent = asks_third;
-        takes = record {
-          event = message_event (leaves_message dig b);
-          rest = all_taken;
-          takes = taken_message (key_fits dig b infohash sizes) (leaves_fit dig b infohash sizes);
-          handles = learns (record {
-            tree = 0;
-            old = at_first dig b;
-            new = proved dig b;
-            claim = leaves_claim dig b;
-            notes = settling_notes_are;
-            settled = settled (idle_peer all_taken asked_key);
-            hash = Idle;
-            here = record { here = refl; same_root = refl };
-            claims = claims dig sizes b;
-            accepts = accepts dig b;
-            settles = record {
-              facts = proved dig b;
-              reads = reads;
-              here = refl;
-              due = due;
-              made = refl;
-              noted = sym (ap (λ l. l ++ []) (noted whole other));
-              files = files;
-              others = refl;
-            };
-            resolves = resolved refl refl;
-            has_effect = refl;
-            after = refl;
-          });
-        };
-        stays = refl;
-        follows = after_leaves;
-        send = refl;
-        close = refl;
-        notes = refl;
-      })
-      refl
+      went (record no_effect { notes = settling_notes_are; proofs = new_proofs (leaves_key dig b) (four_leaves dig b) (at_first dig b) (proved dig b) }) (settled (idle_peer all_taken Idle)) refl refl refl (taken_message (key_fits dig b infohash sizes) (leaves_fit dig b infohash sizes)) (learns (record { tree = 0; old = at_first dig b; new = proved dig b; claim = leaves_claim dig b; notes = settling_notes_are; settled = settled (idle_peer all_taken asked_key); hash = Idle; here = record { here = refl; same_root = refl }; claims = claims dig sizes b; accepts = accepts dig b; settles = record { facts = proved dig b; reads = reads; here = refl; due = due; made = refl; noted = sym (ap (λ l. l ++ []) (noted whole other)); files = files; others = refl; }; resolves = resolved refl refl; has_effect = refl; after = refl; })) after_leaves refl refl
     where
       due : (file : ℕ) (f : FileState) → slice_get (waiting_file ∷ []) file ≡ Some f → map block_of (reads file) ≡ due_blocks dig (proved dig b) 0 0 4 f
       due zero f at = sym all_due ∙ ap (λ (g : FileState). due_blocks dig (proved dig b) 0 0 4 g) (one_there 0 at).1
@@ -406,23 +265,23 @@ module _ (dig : List ℕ → List ℕ) (b : ThreeBlocks) (wrong : List ℕ) (inf
 
   pub begins : length infohash ≡ 32 → Run dig (start dig b infohash) begin_events ([] ∷ [] ∷ [] ∷ [] ∷ [] ∷ [] ∷ []) begin_answers before_unchoke
   begins size = (
-    first_state Missing Missing Missing (peer_with (stream [] false false) false true false Idle [] 0),
+    _,
     (_, refl, refl, connects dig b infohash),
     (
-      first_state Missing Missing Missing (peer_with (stream (handshake_spelling (their_handshake infohash)) false false) false true false Idle [] 0),
-      (_, refl, refl, fed_to dig b infohash (at_first dig b) Missing Missing Missing (peer_with (stream [] false false) false true false Idle [] 0) refl refl),
+      _,
+      (_, refl, refl, fed_first refl refl),
       (
-        first_state Missing Missing Missing (peer_with all_taken false true false Idle [] 0),
+        _,
         (_, refl, next_hello dig b infohash size),
         (
-          first_state Missing Missing Missing (peer_with (stream bitfield_bytes true false) false true false Idle [] 0),
-          (_, refl, refl, fed_to dig b infohash (at_first dig b) Missing Missing Missing (peer_with all_taken false true false Idle [] 0) refl refl),
+          _,
+          (_, refl, refl, fed_first refl refl),
           (
-            first_state Missing Missing Missing (peer_with all_taken true true true asked_key [] 0),
+            _,
             (_, refl, next_bits dig b infohash),
             (
               before_unchoke,
-              (_, refl, refl, fed_to dig b infohash (at_first dig b) Missing Missing Missing (peer_with all_taken true true true asked_key [] 0) refl refl),
+              (_, refl, refl, fed_first refl refl),
               refl,
             ),
           ),
@@ -447,20 +306,20 @@ module _ (dig : List ℕ → List ℕ) (b : ThreeBlocks) (wrong : List ℕ) (inf
 
   pub pieces_wait : {asked : _} → AreAsked asked → AreWhole b → IsWrongThird dig b wrong → Run dig (first_state Missing Missing Missing (asked_peer asked_key asked 0)) piece_events piece_calls piece_answers all_wait
   pieces_wait {asked} all whole other = (
-    first_state Missing Missing Missing (peer_with (stream (message_spelling (Piece 0 0 b.first)) true false) true false true asked_key asked 0),
-    (_, refl, refl, fed_to dig b infohash (at_first dig b) Missing Missing Missing (asked_peer asked_key asked 0) refl refl),
+    _,
+    (_, refl, refl, fed_first refl refl),
     (
-      first_state Waiting Missing Missing (asked_peer asked_key (left_one asked) 16384),
+      _,
       (_, refl, next_first all whole.first),
       (
-        first_state Waiting Missing Missing (peer_with (stream (message_spelling (Piece 0 16384 b.second)) true false) true false true asked_key (left_one asked) 16384),
-        (_, refl, refl, fed_to dig b infohash (at_first dig b) Waiting Missing Missing (asked_peer asked_key (left_one asked) 16384) refl refl),
+        _,
+        (_, refl, refl, fed_first refl refl),
         (
-          first_state Waiting Waiting Missing (asked_peer asked_key (left_two asked) 32768),
+          _,
           (_, refl, next_second all whole.second),
           (
-            first_state Waiting Waiting Missing (peer_with (stream (message_spelling (Piece 0 32768 wrong)) true false) true false true asked_key (left_two asked) 32768),
-            (_, refl, refl, fed_to dig b infohash (at_first dig b) Waiting Waiting Missing (asked_peer asked_key (left_two asked) 32768) refl refl),
+            _,
+            (_, refl, refl, fed_first refl refl),
             (all_wait, (_, refl, next_third all other.whole), refl),
           ),
         ),
@@ -477,15 +336,15 @@ module _ (dig : List ℕ → List ℕ) (b : ThreeBlocks) (wrong : List ℕ) (inf
   waits : AreWhole b → IsWrongThird dig b wrong → length infohash ≡ 32 → Run dig (start dig b infohash) (waiting_events b wrong infohash) (waiting_calls b wrong) (waiting_answers dig b infohash) all_wait
   waits whole other size =
       let goes_on : Run dig before_unchoke (Next first_key ∷ piece_events) ([] ∷ piece_calls) (unchoke_answer ∷ piece_answers) all_wait
-      = (first_state Missing Missing Missing (asked_peer asked_key all_three 0), (_, refl, next_unchoke dig b infohash (at_first dig b) asked_key (λ idle. asked_already idle)), pieces_wait in_turn whole other) in
+      = (_, (_, refl, next_unchoke dig b infohash (at_first dig b) asked_key (λ idle. asked_already idle)), pieces_wait in_turn whole other) in
       run_join dig begin_events (Next first_key ∷ piece_events) ([] ∷ [] ∷ [] ∷ [] ∷ [] ∷ [] ∷ []) ([] ∷ piece_calls) begin_answers (unchoke_answer ∷ piece_answers) (start dig b infohash) before_unchoke all_wait (begins size) goes_on
 
   pub settles : IsDigest dig → AreWhole b → IsWrongThird dig b wrong
       → Run dig (first_state Waiting Waiting Waiting (idle_peer all_taken asked_key)) (told (message_spelling (leaves_message dig b)) []) (settling_calls b wrong) settling_answers (settled (asked_peer Idle (block 2 ∷ []) 49152))
   settles sizes whole other = (
-    first_state Waiting Waiting Waiting (idle_peer (stream (message_spelling (leaves_message dig b)) true false) asked_key),
-    (_, refl, refl, fed_to dig b infohash (at_first dig b) Waiting Waiting Waiting (idle_peer all_taken asked_key) refl refl),
-    (settled (asked_peer Idle (block 2 ∷ []) 49152), (_, refl, next_leaves sizes whole other), refl),
+    _,
+    (_, refl, refl, fed_first refl refl),
+    (_, (_, refl, next_leaves sizes whole other), refl),
   )
 
 pub waiting_is_run : (dig : List ℕ → List ℕ) → IsDigest dig → WaitingFetchIsRun dig
