@@ -1,10 +1,10 @@
 -- How what a file's device has already is taken in: what it marks, and what becomes of trees.
-use Rattle.bt_engine.proofs.Base.{◌≡◌, ◌≢◌, ℕ, ◌⊎◌, inl, inr, Bool, true, false, not, List, [], ◌∷◌, ◌++◌, Some, refl, sym, ap, ◌∙◌, subst, slice_get, option_map, Contains, flat_map, ◌==◌, option_and_then, eq-eqb, Contains-append_left, Contains-append_right, block_length, Call, Facts, given, call_of, IsRight, Marked, Adopted, Extends, store_marks, adopt_extends, BlockId}
-use Rattle.bt_engine.proofs.Machine.{Adopt, FileState, EngineState, DeviceCalls, reads_at, state_at, tree_of, IsFile, judged_file, SettlesIn, AdoptsGroup, AdoptsGroups, is_other, AdoptsFile, StopsAdopting, StepAdopt, no_file, busy, empty, adopts, not_adopted as no_memory, IsFound, IsMarkedBy, read_back, found}
-use Rattle.bt_engine.proofs.Lists.{same_some, set_same, set_other, map_contains, and_then_some}
+use Rattle.bt_engine.proofs.Base.{◌≡◌, ◌≢◌, ℕ, ◌⊎◌, inl, inr, Bool, true, false, not, List, [], ◌∷◌, Some, refl, sym, ap, ◌∙◌, subst, slice_get, option_map, Contains, flat_map, option_and_then, eq-eqb, Contains-append_left, Contains-append_right, Call, Facts, given, call_of, IsRight, Marked, Adopted, Extends, store_marks, adopt_extends, BlockId}
+use Rattle.bt_engine.proofs.Machine.{Digest, Adopt, FileState, EngineState, DeviceCalls, reads_at, state_at, IsFile, judged_file, SettlesIn, AdoptsGroup, AdoptsGroups, is_other, AdoptsFile, StopsAdopting, StepAdopt, no_file, busy, empty, adopts, not_adopted as no_memory, IsFound, IsMarkedBy, read_back, found}
+use Rattle.bt_engine.proofs.Lists.{set_same, set_other, map_contains, and_then_some}
 use Rattle.bt_engine.proofs.Marks.{state_is, file_marked, settle_marks}
 
-module _ (dig : List ℕ → List ℕ) where
+module _ (dig : Digest) where
   -- the file has a tree that extends this one
   pub record HasExtended (s : EngineState) (file : ℕ) (k : Facts) : Type 0 where
     pub state : FileState
@@ -84,7 +84,7 @@ module _ (dig : List ℕ → List ℕ) where
     found_later : {file calls more mid new : _} → ((c : ℕ × Call) → Contains calls c → Contains more c)
         → ((f : FileState) (k : Facts) → IsFile mid b.file f k → HasExtended new b.file k) → IsFound dig (Adopt file) calls mid b → IsFound dig (Adopt file) more new b
     found_later {more} {mid} {new} among forward x =
-        let f = and_then_some (λ (q : FileState). slice_get mid.trees q.tree) (slice_get mid.files b.file) x.hung in
+        let f = and_then_some (λ (q : FileState). slice_get mid.trees q.tree) _ x.hung in
         let h = forward f.0 x.tree (record { here = f.1; hung = f.2 }) in
         let one : call_of x.tree.file_length (given b.block x.bytes) ≡ call_of h.tree.file_length (given b.block x.bytes) = cc in
         record {
@@ -98,13 +98,13 @@ module _ (dig : List ℕ → List ℕ) where
 
     group_marks : {s new file from calls adopted : _} → AdoptsGroup dig s file from calls adopted new
         → state_at new b ≡ Some Marked → (state_at s b ≡ Some Marked) ⊎ IsFound dig (Adopt file) calls new b
-    group_marks {s} {new} {file} {from} {calls} {adopted} g m = elim (file_marked s (record g.state { states = g.states }) b (subst (λ x. state_at x b ≡ Some Marked) g.after m)) [
+    group_marks {s} {new} {file} {from} {calls} {adopted} g m = elim (file_marked s _ b (subst (λ x. state_at x b ≡ Some Marked) g.after m)) [
       | inl now ↦ elim (store_marks dig g.tree g.grown from g.state.states g.states g.reads adopted g.adopts b.block now.1) [
         | inl before ↦ inl (state_is s b (ap (slice_get s.files) now.0 ∙ g.is_file.here) before)
         | inr r ↦
             let is = group_file g in
             let read : Contains calls (file, call_of g.tree.file_length (given b.block r.bytes)) =
-            subst (λ cs. Contains cs (file, call_of g.tree.file_length (given b.block r.bytes))) (sym g.made) (map_contains (λ read. (file, call_of g.tree.file_length read)) g.reads r.gives) in
+            subst (λ cs. Contains cs (file, call_of g.tree.file_length (given b.block r.bytes))) (sym g.made) (map_contains (λ read. (file, call_of g.tree.file_length read)) _ r.gives) in
             inr (record {
               tree = g.grown;
               bytes = r.bytes;
@@ -144,7 +144,7 @@ module _ (dig : List ℕ → List ℕ) where
         ∙ set_other s.files file b.file (record one.state { states = one.states }) apart
 
     other_file : (file other : ℕ) → is_other file other ≡ true → other ≢ file
-    other_file file other e same = by (other == file) (eq-eqb other file same) e
+    other_file file other e same = by _ (eq-eqb other file same) e
       where
         by : (t : Bool) → t ≡ true → not t ≡ true → ⊥
         by true x y = absurd cc
@@ -155,14 +155,14 @@ module _ (dig : List ℕ → List ℕ) where
     file_marks {s} {new} {file} {total} a m =
         let own = flat_map (λ c. c) a.groups in
         elim (settle_marks a.settles (subst (λ x. state_at x b ≡ Some Marked) a.after m)) [
-          | inl mid ↦ elim (groups_marks s 0 a.groups total a.adopts mid) [
+          | inl mid ↦ elim (groups_marks s 0 _ total a.adopts mid) [
             | inl old ↦ inl old
             | inr x ↦ inr (found (found_later (λ c among. rw a.made (Contains-append_left own a.settling c among))
                 (λ f k is. in_new (settle_forward a.settles is)) x))
           ]
           | inr r ↦
-              let apart : b.file ≢ file = other_file file b.file r.meant in
-              let same : slice_get a.mid.files b.file ≡ slice_get s.files b.file = groups_others s a.mid file 0 a.groups total a.adopts apart in
+              let apart : b.file ≢ file = other_file file _ r.meant in
+              let same : slice_get a.mid.files b.file ≡ slice_get s.files b.file = groups_others s a.mid file 0 _ total a.adopts apart in
               inr (read_back (record {
                 tree = r.facts;
                 bytes = r.bytes;
@@ -196,7 +196,7 @@ module _ (dig : List ℕ → List ℕ) where
     stop_marks {s} {file} a m =
         let own = flat_map (λ c. c) a.groups in
         let last = reads_at file a.tree.file_length a.reads in
-        elim (groups_marks s 0 a.groups a.done a.adopts m) [
+        elim (groups_marks s 0 _ _ a.adopts m) [
           | inl old ↦ inl old
           | inr x ↦ inr (found (found_later (λ c among. rw a.made (Contains-append_left own last c among))
               (λ f k is. record { state = f; tree = k; is_file = is; extends = same_tree }) x))

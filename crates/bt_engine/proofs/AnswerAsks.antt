@@ -1,6 +1,6 @@
 -- Nothing that a peer may be asked for is left.
 use Rattle.bt_engine.proofs.Base.{◌≡◌, ℕ, ◌⊎◌, inl, inr, List, [], ◌∷◌, ◌++◌, Option, Some, None, Result, Ok, refl, sym, ap, ◌∙◌, subst, slice_get, slice_set, Contains, length-append, Contains-append_left, Contains-append_right, Missing, PeerKey, BlockId}
-use Rattle.bt_engine.proofs.Machine.{EngineError, Idle, Asked, PeerState, EngineState, DeviceCalls, state_at, Has, IsAsked, with_peer, Sent, Output, NeedsLeaf, IsOpen, FollowsUp, RequestsHashes, requests, rests, IsPeer, GoesOn, StepNext, no_peer, waits, goes_on, closes, faulty, no_memory, of_next, IsOnlyPeer, IsAskedForAll, NextAsksForAll}
+use Rattle.bt_engine.proofs.Machine.{Digest, EngineError, Idle, PeerState, EngineState, DeviceCalls, state_at, Has, IsAsked, Sent, Output, NeedsLeaf, IsOpen, FollowsUp, RequestsHashes, requests, rests, IsPeer, GoesOn, StepNext, no_peer, waits, goes_on, closes, faulty, no_memory, of_next, IsOnlyPeer, IsAskedForAll, NextAsksForAll}
 use Rattle.bt_engine.proofs.Lists.{same_some, set_same, contains_none, contains_cases, here, later}
 use Rattle.bt_engine.proofs.AnswerParts.{event_leaves}
 use Rattle.bt_engine.proofs.Pairs.{contains_some, some_at}
@@ -10,8 +10,8 @@ use Rattle.bt_engine.proofs.AnswerSends.{nat_cases, set_other}
 -- ---- whether somebody is asked for a block
 
 same_or_not : {b : _} (c : BlockId) → (b ≡ c) ⊎ (b ≡ c → ⊥)
-same_or_not {b} c = elim (nat_cases b.file c.file) [
-  | inl file ↦ elim (nat_cases b.block c.block) [
+same_or_not {b} c = elim (nat_cases _ _) [
+  | inl file ↦ elim (nat_cases _ _) [
     | inl block ↦ inl (ap (λ n. record b { file = n }) file ∙ ap (λ n. record c { block = n }) block)
     | inr apart ↦ inr (λ e. apart (ap (λ (d : BlockId). d.block) e))
   ]
@@ -33,7 +33,7 @@ AskedOf peers b = (p : PeerState) × Contains peers p × Contains p.asked b
 
 asked_or_not : (peers : List PeerState) (b : BlockId) → AskedOf peers b ⊎ (AskedOf peers b → ⊥)
 asked_or_not [] b = inr (λ a. contains_none a.1)
-asked_or_not (p ∷ peers) b = elim (in_or_not p.asked) [
+asked_or_not (p ∷ peers) b = elim (in_or_not _) [
   | inl asked ↦ inl (p, here peers refl, asked)
   | inr apart ↦ elim (asked_or_not peers b) [
     | inl more ↦ inl (more.0, later p peers more.1, more.2)
@@ -46,7 +46,7 @@ asked_or_not (p ∷ peers) b = elim (in_or_not p.asked) [
 
 -- ---- what follows for a peer
 
-module _ {dig : List ℕ → List ℕ} {s : EngineState} {i : ℕ} {sent : List Sent} {new : EngineState} (f : FollowsUp dig s i sent new) where
+module _ {dig : Digest} {s : EngineState} {i : ℕ} {sent : List Sent} {new : EngineState} (f : FollowsUp dig s i sent new) where
   abbrev after : PeerState
   after = record f.planned { asked = f.planned.asked ++ f.blocks }
 
@@ -91,20 +91,20 @@ module _ {dig : List ℕ → List ℕ} {s : EngineState} {i : ℕ} {sent : List 
   -- who is asked for a block is asked for it afterwards
   asked_still : (b : BlockId) → IsAsked s b → f.planned.asked ≡ f.peer.asked → IsAsked then b
   asked_still b asked same =
-      let at = some_at s.peers asked.1 in
+      let at = some_at _ asked.1 in
       elim (nat_cases i at.0) [
         | inl e ↦
             let is : f.peer ≡ asked.0 = cc in
-            (after, contains_some then.peers i (set_same s.peers i f.here), Contains-append_left f.planned.asked f.blocks b (rw (same ∙ ap (λ (q : PeerState). q.asked) is) asked.2))
-        | inr apart ↦ (asked.0, contains_some then.peers at.0 (set_other s.peers i at.0 after apart ∙ at.1), asked.2)
+            (after, contains_some _ i (set_same _ i f.here), Contains-append_left f.planned.asked f.blocks b (rw (same ∙ ap (λ (q : PeerState). q.asked) is) asked.2))
+        | inr apart ↦ (asked.0, contains_some _ at.0 (set_other _ i at.0 after apart ∙ at.1), asked.2)
       ]
 
   asked_now : {b : _} → Contains f.blocks b → IsAsked then b
-  asked_now {b} c = (after, contains_some then.peers i (set_same s.peers i f.here), Contains-append_right f.planned.asked f.blocks b c)
+  asked_now {b} c = (after, contains_some _ i (set_same _ i f.here), Contains-append_right f.planned.asked f.blocks b c)
 
   -- each open block is asked for, and so each missing one that the peer has
   all_asked : ((b : BlockId) → IsOpen s f.planned b → Contains f.blocks b) → (b : BlockId) → Has then after b → state_at then b ≡ Some Missing → IsAsked then b
-  all_asked each b has missing = elim (asked_or_not s.peers b) [
+  all_asked each b has missing = elim (asked_or_not _ b) [
     | inl asked ↦ asked_still b asked same_flags.asked
     | inr none ↦ asked_now (each b (record { has = has; missing = missing; free = none }))
   ]
@@ -123,11 +123,11 @@ module _ {dig : List ℕ → List ℕ} {s : EngineState} {i : ℕ} {sent : List 
   }
 
   peer_then : slice_get then.peers i ≡ Some after
-  peer_then = set_same s.peers i f.here
+  peer_then = set_same _ i f.here
 
 -- ---- the law
 
-module _ (dig : List ℕ → List ℕ) {s : EngineState} (new : EngineState) {key : PeerKey} {i : ℕ} {p : PeerState} (calls : DeviceCalls) (out : Output) (one : IsOnlyPeer s key i p) (stays : out.close ≡ None) where
+module _ (dig : Digest) {s : EngineState} (new : EngineState) {key : PeerKey} {i : ℕ} {p : PeerState} (calls : DeviceCalls) (out : Output) (one : IsOnlyPeer s key i p) (stays : out.close ≡ None) where
   abbrev Asked_then : Type 0
   Asked_then = (q : PeerState) × IsPeer new key i q × IsAskedForAll dig new q
 
@@ -143,10 +143,10 @@ module _ (dig : List ℕ → List ℕ) {s : EngineState} (new : EngineState) {ke
   goes_asking : (g : GoesOn dig s i p calls out new) → Asked_then
   goes_asking g =
       let rest = record p { stream = g.takes.rest } in
-      let set = set_same s.peers i one.is_peer.here in
-      let left = event_leaves dig (with_peer s i rest) i set g.takes.event calls g.takes.handles in
+      let set = set_same _ i one.is_peer.here in
+      let left = event_leaves dig _ i set _ calls g.takes.handles in
       let f = g.follows in
-      let same : f.peer ≡ left.peer = same_some f.here (ap (λ l. slice_get l i) left.peers ∙ set_same (with_peer s i rest).peers i set) in
+      let same : f.peer ≡ left.peer = same_some f.here (ap (λ l. slice_get l i) left.peers ∙ set_same _ i set) in
       let planned = same_key f in
       let key_is : f.planned.key ≡ key = cc in
       rw f.after (after f, record { here = peer_then f; same_key = key_is }, asked_for_all f)
@@ -163,7 +163,7 @@ module _ (dig : List ℕ → List ℕ) {s : EngineState} (new : EngineState) {ke
   next_asks_all e (faulty j q o x g y) = let same = some_out (cc) ∙ g.is in let wrong = sym stays ∙ ap (λ (x : Output). x.close) same in absurd cc
   next_asks_all e (no_memory j q x g y) = let wrong = e ∙ y in absurd cc
 
-pub next_asks : (dig : List ℕ → List ℕ) → NextAsksForAll dig
+pub next_asks : (dig : Digest) → NextAsksForAll dig
 next_asks dig s new key i p calls out one stays t =
     let r = next_asks_all dig new calls out one stays (result_is t.1) t.2 in
     (r.0, r.1, r.2, next_changes dig calls one r.1 t)

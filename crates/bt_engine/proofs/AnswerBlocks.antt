@@ -1,6 +1,6 @@
 -- What becomes of blocks that come and of requests.
-use Rattle.bt_engine.proofs.Base.{◌≡◌, ℕ, zero, suc, ◌*◌, ◌⊎◌, inl, inr, Bool, true, false, List, [], ◌∷◌, ◌++◌, length, map, Some, None, Result, Ok, Err, refl, sym, ap, ◌∙◌, subst, slice_get, slice_set, Contains, ◌&&◌, option_and_then, option_map_or, list_all, Contains-append_left, Contains-append_right, full_block_length, write_fault, IsLawful, IsPlace, Span, Facts, value_at, PutIsDue, calls_of_put, states_after_put, BlockRead, given, failed, call_of, IsRight, is_marked, BlockState, Missing, Waiting, Marked, StoreError, Range, DeviceFault, Put, Already, Wrong, PutMarked, PutWaiting, PeerKey, BlockId, Stream, Message, Ask, Request, Piece}
-use Rattle.bt_engine.proofs.Machine.{Note, NowMarked, Damaged, Device, Complete, PeerState, FileState, EngineState, DeviceCalls, calls_at, block_id, state_at, tree_of, with_file, with_peer, new_complete_files, IsWholeBlock, spanned_blocks, cut_from, Output, Effect, noting, sending, AreMarked, IsFile, Serves, StopsAtFault, FindsFault, damaged as found_damaged, fault, HandlesRequest, ignored, no_place, not_marked, served, stopped, HasPutEffect, Arrives, HandlesPiece, stale, arrives, GoesOn, Closes, Answer, of_next, NotedBy, output_of, MarksBlock, marked, not_written, NextMarksRightBlock, ServesRange, sent, not_read, NextServesMarkedRange, WaitingIsNotComplete}
+use Rattle.bt_engine.proofs.Base.{◌≡◌, ℕ, zero, suc, ◌⊎◌, inl, inr, Bool, true, false, List, [], ◌∷◌, ◌++◌, length, map, Some, None, Result, Ok, Err, refl, ap, ◌∙◌, subst, slice_get, slice_set, Contains, ◌&&◌, option_map_or, list_all, Contains-append_left, Contains-append_right, IsLawful, IsPlace, Span, Facts, value_at, PutIsDue, states_after_put, BlockRead, given, failed, call_of, IsRight, is_marked, BlockState, Missing, Waiting, Marked, StoreError, DeviceFault, Put, Wrong, PutMarked, PutWaiting, PeerKey, BlockId, Stream, Message, Ask, Request, Piece}
+use Rattle.bt_engine.proofs.Machine.{Digest, Note, NowMarked, Damaged, Device, Complete, PeerState, FileState, EngineState, DeviceCalls, block_id, state_at, tree_of, with_file, with_peer, new_complete_files, IsWholeBlock, spanned_blocks, cut_from, Effect, noting, sending, AreMarked, IsFile, Serves, StopsAtFault, FindsFault, damaged as found_damaged, fault, HandlesRequest, ignored, no_place, not_marked, served, stopped, HasPutEffect, Arrives, HandlesPiece, stale, arrives, GoesOn, Closes, Answer, of_next, NotedBy, output_of, MarksBlock, marked, not_written, NextMarksRightBlock, ServesRange, sent, not_read, NextServesMarkedRange, WaitingIsNotComplete}
 use Rattle.bt_engine.specs.AnswerDue.{IsOutOfMemory, damaged}
 use Rattle.bt_engine.proofs.Lists.{and_then_some, same_some, here, set_same, map_contains}
 use Rattle.bt_engine.proofs.AnswerSends.{frame_to, follows_of}
@@ -48,16 +48,15 @@ data PutRight (b : BlockId) (effect : Effect) (r : Result Put StoreError) : Type
   is_marked_now : r ≡ Ok PutMarked → effect ≡ noting (NowMarked b) → PutRight b effect r
   is_not_written : r ≡ Err DeviceFault → effect ≡ noting (Device b.file) → PutRight b effect r
 
-put_right : (dig : List ℕ → List ℕ) (k : Facts) {b : BlockId} (bytes : List ℕ) (states : List BlockState) {effect : _} (r : Result Put StoreError) → value_at dig k 0 b.block ≡ Some (dig bytes)
+put_right : (dig : Digest) (k : Facts) {b : BlockId} (bytes : List ℕ) (states : List BlockState) {effect : _} (r : Result Put StoreError) → value_at dig k 0 b.block ≡ Some (dig bytes)
     → PutIsDue dig k b.block bytes states r → HasPutEffect b r effect → PutRight b effect r
 put_right dig k bytes states (Ok PutMarked) leaf due e = is_marked_now refl e
 put_right dig k bytes states (Ok PutWaiting) leaf due e = absurd cc
 put_right dig k bytes states (Ok Wrong) leaf due e = absurd (due.2.2 (same_some due.2.1 leaf))
-put_right dig k bytes states (Ok Already) leaf due e = absurd e
 put_right dig k bytes states (Err DeviceFault) leaf due e = is_not_written refl e
-put_right dig k bytes states (Err Range) leaf due e = absurd e
+put_right dig k bytes states _ leaf due e = absurd e
 
-module _ (dig : List ℕ → List ℕ) (s new : EngineState) (key : PeerKey) (i : ℕ) (p : PeerState) (calls : DeviceCalls) (a : Answer) (piece begin : ℕ) (bytes : List ℕ) (rest : Stream) (b : BlockId) (tree : Facts) where
+module _ (dig : Digest) (s new : EngineState) (key : PeerKey) (i : ℕ) (p : PeerState) (calls : DeviceCalls) (a : Answer) (piece begin : ℕ) (bytes : List ℕ) (rest : Stream) (b : BlockId) (tree : Facts) where
   abbrev q : PeerState
   q = record p { stream = rest }
 
@@ -70,7 +69,7 @@ module _ (dig : List ℕ → List ℕ) (s new : EngineState) (key : PeerKey) (i 
       let there : tree_of s r.block.file ≡ Some r.puts.tree = cc in
       let one : r.puts.tree ≡ tree = cc in
       let leaf : value_at dig r.puts.tree 0 r.block.block ≡ Some (dig bytes) = cc in
-      put_right dig r.puts.tree bytes r.puts.file.states r.puts.result leaf r.puts.due r.puts.has_effect
+      put_right dig _ bytes _ _ leaf r.puts.due r.puts.has_effect
 
   -- its state then
   now_marked : {effect mid : _} (r : Arrives dig t i q piece begin bytes calls effect mid) → r.block ≡ b → r.puts.result ≡ Ok PutMarked → state_at mid b ≡ Some Marked
@@ -108,13 +107,13 @@ module _ (dig : List ℕ → List ℕ) (s new : EngineState) (key : PeerKey) (i 
       let same = same_block s.torrent lawful.laid_out piece begin (length bytes) r.whole whole in
       elim (right_put hung exact r same) [ is_marked_now x e ↦ not_closed e refl g.closed | is_not_written x e ↦ not_closed e refl g.closed ]
 
-pub next_marks_right : (dig : List ℕ → List ℕ) → NextMarksRightBlock dig
+pub next_marks_right : (dig : Digest) → NextMarksRightBlock dig
 next_marks_right dig s new key i p calls a piece begin bytes rest b tree lawful one takes whole asked hung exact step =
     block_taken dig s new key i p calls a piece begin bytes rest b tree lawful whole asked hung exact (step_taken dig new calls one takes step)
 
 -- ---- requests
 
-module _ (dig : List ℕ → List ℕ) (s new : EngineState) (key : PeerKey) (i : ℕ) (p : PeerState) (calls : DeviceCalls) (a : Answer) (ask : Ask) (rest : Stream) (span : Span) (tree : Facts) where
+module _ (dig : Digest) (s new : EngineState) (key : PeerKey) (i : ℕ) (p : PeerState) (calls : DeviceCalls) (a : Answer) (ask : Ask) (rest : Stream) (span : Span) (tree : Facts) where
   abbrev asker : PeerState
   asker = record p { stream = rest }
 
@@ -143,10 +142,10 @@ module _ (dig : List ℕ → List ℕ) (s new : EngineState) (key : PeerKey) (i 
   stops : {effect mid : _} → tree_of s span.file ≡ Some tree → StopsAtFault dig at_request span calls effect mid → Serving effect
   stops {effect} {mid} hung f =
       let same = same_tree hung f.is_file in
-      let c : Contains (spanned_blocks span) f.block = rw f.blocks (Contains-append_right f.before (f.block ∷ f.after) f.block (here f.after refl)) in
+      let c : Contains (spanned_blocks span) f.block = rw f.blocks (Contains-append_right f.before (f.block ∷ f.after) f.block (here _ refl)) in
       let last : Contains (f.reads ++ f.read ∷ []) f.read = Contains-append_right f.reads (f.read ∷ []) f.read (here [] refl) in
       let called : Contains calls (span.file, call_of f.tree.file_length f.read) =
-      rw f.made (map_contains (λ r. (span.file, call_of f.tree.file_length r)) (f.reads ++ f.read ∷ []) last) in
+      rw f.made (map_contains (λ r. (span.file, call_of f.tree.file_length r)) _ last) in
       finds c (subst (λ k. Contains calls (span.file, call_of k.file_length f.read)) same called)
       (subst (λ k. FindsFault dig k at_request span.file f.block f.file f.read effect mid) same f.finds)
 
@@ -155,11 +154,11 @@ module _ (dig : List ℕ → List ℕ) (s new : EngineState) (key : PeerKey) (i 
   serving lawful open_to place are hung (ignored choked x y z) = absurd cc
   serving lawful open_to place are hung (no_place x none y z w) = absurd (none span place)
   serving lawful open_to place are hung (not_marked other x there none y z w) =
-      absurd (none (rw (← (same_place s.torrent lawful.laid_out ask.piece ask.begin ask.length place there)) are))
+      absurd (none (rw (← (same_place _ lawful.laid_out _ _ _ place there)) are))
   serving {effect} {mid} lawful open_to place are hung (served other x there y f) =
-      serves hung (subst (λ (l : Span). Serves dig at_request i asker ask l calls effect mid) (same_place s.torrent lawful.laid_out ask.piece ask.begin ask.length there place) f)
+      serves hung (subst (λ (l : Span). Serves dig at_request i asker ask l calls effect mid) (same_place _ lawful.laid_out _ _ _ there place) f)
   serving {effect} {mid} lawful open_to place are hung (stopped other x there y f) =
-      stops hung (subst (λ (l : Span). StopsAtFault dig at_request l calls effect mid) (same_place s.torrent lawful.laid_out ask.piece ask.begin ask.length there place) f)
+      stops hung (subst (λ (l : Span). StopsAtFault dig at_request l calls effect mid) (same_place _ lawful.laid_out _ _ _ there place) f)
 
   serves_by : {out : _} (g : GoesOn dig s i p calls out new) → a ≡ of_next (Ok (Some out)) → p.key ≡ key → Serving g.effect → ServesRange dig tree key ask span calls a
   serves_by g is same (gives bytes right e) = sent bytes right (sent_with g is
@@ -178,6 +177,6 @@ module _ (dig : List ℕ → List ℕ) (s new : EngineState) (key : PeerKey) (i 
   request_taken lawful open_to place are hung same (goes out g h is) = inr (serves_by g is same (serving lawful open_to place are hung h))
   request_taken lawful open_to place are hung same (shuts out g h is) = not_shut g (serving lawful open_to place are hung h)
 
-pub next_serves : (dig : List ℕ → List ℕ) → NextServesMarkedRange dig
+pub next_serves : (dig : Digest) → NextServesMarkedRange dig
 next_serves dig s new key i p calls a ask rest span tree lawful one takes open_to place are hung step =
     request_taken dig s new key i p calls a ask rest span tree lawful open_to place are hung one.is_peer.same_key (step_taken dig new calls one takes step)

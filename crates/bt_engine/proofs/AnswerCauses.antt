@@ -1,6 +1,6 @@
 -- A peer is closed only for what it sent.
-use Rattle.bt_engine.proofs.Base.{◌≡◌, ℕ, List, Some, None, Result, Ok, Err, refl, sym, ap, ◌∙◌, subst, slice_get, option_and_then, Facts, HashKey, PutIsDue, BlockRead, StoreError, Range, DeviceFault, Put, Already, Wrong, PutMarked, PutWaiting, PeerKey, Stream, Takes, Handshake, Ask, PeerMessage, KeepAlive, Choke, Unchoke, Interested, NotInterested, Have, Bitfield, Request, Piece, Cancel, HashRequest, Hashes, HashReject, WireEvent, Hello, Message, Skipped}
-use Rattle.bt_engine.proofs.Machine.{Why, Event, Connect, Next, Rechoke, PeerState, FileState, EngineState, DeviceCalls, with_peer, Output, Effect, FindsFault, damaged, fault, HandlesRequest, ignored, no_place, not_marked, served, stopped, HasPutEffect, HandlesPiece, stale, arrives, HandlesHashRequest, answered, rejected, HandlesHashes, unknown_root, no_claim, refused, learns, HandlesHello, ours, other, HandlesHave, in_range, out_of_range, HandlesBitfield, right, wrong, HandlesMessage, Handles, IsPeer, StepNext, no_peer, waits, goes_on, closes, faulty, no_memory, StepConnect, joins, full, spent, no_room, StepRechoke, rechokes, not_rechoked, Answer, of_connect, of_next, of_rechoke, Step, output_of, IsCause, wire, other_torrent, past_last_piece, other_length, is_no_place, wrong_block, is_unknown_root, makes_no_claim, is_refused, StepClosesForCause}
+use Rattle.bt_engine.proofs.Base.{◌≡◌, ℕ, Some, None, Result, Ok, Err, refl, sym, ap, ◌∙◌, PutIsDue, StoreError, Range, Put, Already, Wrong, PeerKey, Stream, Takes, PeerMessage, Have, Bitfield, Request, Piece, HashRequest, Hashes, WireEvent, Hello, Message, Skipped}
+use Rattle.bt_engine.proofs.Machine.{Digest, Why, Event, Connect, Next, Rechoke, PeerState, EngineState, DeviceCalls, with_peer, Output, Effect, FindsFault, damaged, fault, HandlesRequest, ignored, no_place, not_marked, served, stopped, HasPutEffect, HandlesPiece, stale, arrives, HandlesHashRequest, answered, rejected, HandlesHashes, unknown_root, no_claim, refused, learns, HandlesHello, ours, other, HandlesHave, in_range, out_of_range, HandlesBitfield, right, wrong, HandlesMessage, Handles, IsPeer, StepNext, no_peer, waits, goes_on, closes, faulty, no_memory, StepConnect, joins, full, spent, no_room, StepRechoke, rechokes, not_rechoked, Answer, of_connect, of_next, of_rechoke, Step, output_of, IsCause, wire, other_torrent, past_last_piece, other_length, is_no_place, wrong_block, is_unknown_root, makes_no_claim, is_refused, StepClosesForCause}
 use Rattle.bt_engine.specs.AnswerLaw.{Closes}
 
 -- nothing closes where an effect does not
@@ -14,7 +14,7 @@ same_why {why} {cause} e closed c = cc
     some_is e = cc
 
 -- The event was taken from the peer's stream in engine s; it is handled in one with the peer's rest.
-module _ (dig : List ℕ → List ℕ) (s : EngineState) (i : ℕ) (p : PeerState) (rest : Stream) where
+module _ (dig : Digest) (s : EngineState) (i : ℕ) (p : PeerState) (rest : Stream) where
   abbrev q : PeerState
   q = record p { stream = rest }
 
@@ -55,17 +55,15 @@ module _ (dig : List ℕ → List ℕ) (s : EngineState) (i : ℕ) (p : PeerStat
 
   piece_causes : {mid piece begin bytes calls effect : _} → Takes p.stream (Message (Piece piece begin bytes)) rest → HandlesPiece dig t i q piece begin bytes calls effect mid → Causes effect
   piece_causes takes (stale x y e z) = open_still e refl
-  piece_causes {piece} {begin} {bytes} {effect} takes (arrives a) = by a.puts.result a.puts.due a.puts.has_effect
+  piece_causes {piece} {begin} {bytes} {effect} takes (arrives a) = by _ a.puts.due a.puts.has_effect
     where
       by : (r : Result Put StoreError) → PutIsDue dig a.puts.tree a.block.block bytes a.puts.file.states r → HasPutEffect a.block r effect → Causes effect
-      by (Ok PutMarked) due e = open_still e refl
-      by (Ok PutWaiting) due e = open_still e refl
       by (Ok Wrong) due e =
           closes_for e refl
           (wrong_block piece begin bytes rest a.block a.puts.tree takes a.whole a.asked (cc) due.2)
       by (Ok Already) due e = absurd e
-      by (Err DeviceFault) due e = open_still e refl
       by (Err Range) due e = absurd e
+      by _ due e = open_still e refl
 
   hashes_causes : {mid key digests calls effect : _} → Takes p.stream (Message (Hashes key digests)) rest → HandlesHashes dig t i q key digests calls effect mid → Causes effect
   hashes_causes {key} {digests} takes (unknown_root x y e z) =
@@ -81,26 +79,20 @@ module _ (dig : List ℕ → List ℕ) (s : EngineState) (i : ℕ) (p : PeerStat
   answer_causes (rejected x e) = open_still e refl
 
   message_causes : (mid : EngineState) (m : PeerMessage) (calls : DeviceCalls) (effect : Effect) → Takes p.stream (Message m) rest → HandlesMessage dig t i q m calls effect mid → Causes effect
-  message_causes mid KeepAlive calls effect takes h = open_still h.1 refl
-  message_causes mid Choke calls effect takes h = open_still h.1 refl
-  message_causes mid Unchoke calls effect takes h = open_still h.1 refl
-  message_causes mid Interested calls effect takes h = open_still h.1 refl
-  message_causes mid NotInterested calls effect takes h = open_still h.1 refl
   message_causes mid (Have piece) calls effect takes h = have_causes takes h.1
   message_causes mid (Bitfield bytes) calls effect takes h = bits_causes takes h.1
   message_causes mid (Request ask) calls effect takes h = request_causes takes h
   message_causes mid (Piece piece begin bytes) calls effect takes h = piece_causes takes h
-  message_causes mid (Cancel ask) calls effect takes h = open_still h.1 refl
   message_causes mid (HashRequest key) calls effect takes h = answer_causes h.1
   message_causes mid (Hashes key digests) calls effect takes h = hashes_causes takes h
-  message_causes mid (HashReject key) calls effect takes h = open_still h.1 refl
+  message_causes mid _ calls effect takes h = open_still h.1 refl
 
   pub event_causes : (mid : EngineState) (e : WireEvent) (calls : DeviceCalls) (effect : Effect) → Takes p.stream e rest → Handles dig t i q e calls effect mid → Causes effect
   event_causes mid (Hello h) calls effect takes x = hello_causes takes x.1
-  event_causes mid (Message m) calls effect takes x = message_causes mid m calls effect takes x
+  event_causes mid (Message m) calls effect takes x = message_causes mid m calls _ takes x
   event_causes mid (Skipped kind) calls effect takes x = open_still x.1 refl
 
-module _ (dig : List ℕ → List ℕ) where
+module _ (dig : Digest) where
   record IsClosedFor (s : EngineState) (event : Event) (why : Why) : Type 0 where
     key : PeerKey
     place : ℕ
@@ -135,7 +127,7 @@ module _ (dig : List ℕ → List ℕ) where
         peer = p;
         is_next = refl;
         is_peer = x;
-        cause = event_causes dig s i p g.takes.rest g.mid g.takes.event calls g.effect g.takes.takes g.takes.handles why (cc);
+        cause = event_causes dig s i p _ g.mid _ calls _ g.takes.takes g.takes.handles why (cc);
       }
   next_closes {s} {key} (faulty i p out x g e) {why} c =
       let same : c.0 ≡ out = output_is (ap (λ x. of_next x) e) c.1 refl in

@@ -1,6 +1,6 @@
 -- What changed of a peer is sent to it.
-use Rattle.bt_engine.proofs.Base.{◌≡◌, ◌≢◌, ℕ, zero, suc, ◌+◌, ◌<◌, inl, inr, true, false, List, [], ◌∷◌, ◌++◌, length, map, Some, refl, sym, ap, ◌∙◌, subst, arith, slice_get, slice_set, Contains, range_with_len, Contains-append_left, Contains-append_right, Contains-append_cases, HashKey, PeerKey, BlockId, Ask, Interested, NotInterested, Request, HashRequest}
-use Rattle.bt_engine.proofs.Machine.{Event, Connect, Feed, Next, Lost, Rechoke, Adopt, Flush, Asked, PeerState, EngineState, DeviceCalls, with_peer, IsWholeBlock, Sent, Output, haves, FollowsUp, RequestsHashes, requests, rests, RequestsBlock, RequestsEach, interest_sent, IsPeer, without_peer, TakesEvent, GoesOn, StepNext, no_peer, waits, goes_on, closes, faulty, no_memory, StepConnect, joins, full, spent, no_room, StepFeed, feeds, not_fed, no_room as no_room_to_feed, StepLost, goes, not_fed as not_lost, FollowsEach, StepRechoke, rechokes, not_rechoked, chokes_sent, rechoked, rechoked_peer, StepAdopt, no_file, busy, empty, adopts, not_adopted, StepFlush, syncs, fails, Answer, of_next, of_rechoke, Step, sent_by, ChangesInterest, IsOnlyPeer, IsSentChanges, StepSendsChanges}
+use Rattle.bt_engine.proofs.Base.{◌≡◌, ◌≢◌, ℕ, zero, suc, ◌<◌, inl, inr, true, false, List, [], ◌∷◌, ◌++◌, length, map, Some, refl, sym, ap, ◌∙◌, subst, arith, slice_get, slice_set, Contains, range_with_len, Contains-append_left, Contains-append_right, Contains-append_cases, HashKey, PeerKey, BlockId, Ask, Interested, NotInterested, Request, HashRequest}
+use Rattle.bt_engine.proofs.Machine.{Digest, Event, Connect, Feed, Next, Lost, Rechoke, Adopt, Flush, Asked, PeerState, EngineState, DeviceCalls, IsWholeBlock, Sent, haves, FollowsUp, RequestsHashes, requests, rests, RequestsBlock, RequestsEach, interest_sent, IsPeer, without_peer, TakesEvent, GoesOn, StepNext, no_peer, waits, goes_on, closes, faulty, no_memory, StepConnect, joins, full, spent, no_room, StepFeed, feeds, not_fed, no_room as no_room_to_feed, StepLost, goes, not_fed as not_lost, FollowsEach, StepRechoke, rechokes, not_rechoked, chokes_sent, rechoked, StepAdopt, no_file, busy, empty, adopts, not_adopted, StepFlush, syncs, fails, Answer, of_next, of_rechoke, Step, sent_by, ChangesInterest, IsOnlyPeer, IsSentChanges, StepSendsChanges}
 use Rattle.bt_engine.proofs.Lists.{same_some, contains_none, contains_cases, here, later, set_cases, set_same}
 use Rattle.bt_engine.proofs.Pairs.{other_without}
 use Rattle.bt_engine.proofs.AnswerParts.{AsksLess, asks_same, event_leaves}
@@ -62,7 +62,7 @@ each_block {s} {p} (d ∷ blocks) sent r c = elim (contains_cases blocks c) [
 asked_is : {j k : _} → Asked j ≡ Asked k → j ≡ k
 asked_is e = cc
 
-module _ {dig : List ℕ → List ℕ} {s : EngineState} {i : ℕ} {sent : List Sent} {new : EngineState} (f : FollowsUp dig s i sent new) where
+module _ {dig : Digest} {s : EngineState} {i : ℕ} {sent : List Sent} {new : EngineState} (f : FollowsUp dig s i sent new) where
   abbrev pub then : PeerState
   then = record f.planned { asked = f.planned.asked ++ f.blocks }
 
@@ -118,7 +118,7 @@ module _ {dig : List ℕ → List ℕ} {s : EngineState} {i : ℕ} {sent : List 
   asked_blocks b c none = elim (Contains-append_cases f.planned.asked f.blocks b c) [
     | inl old ↦ absurd (none (rw (← ((same_plan f.hashes).same_asked ∙ ap (λ (q : PeerState). q.asked) f.interest.others)) old))
     | inr fresh ↦
-        let r = each_block f.blocks f.block_frames f.requests fresh in
+        let r = each_block _ _ f.requests fresh in
         let frame : r.0 ≡ frame_to f.peer.key (Request r.2.ask) = r.2.is ∙ to_peer _ key_then in
         (r.2.ask, rw torrent_then r.2.whole, in_blocks (rw (← frame) r.1))
   ]
@@ -155,7 +155,7 @@ left_so : (s mid : EngineState) {new : _} (sent : List Sent) (i j : ℕ) {p : _}
     → new ≡ without_peer i mid → slice_get new.peers j ≡ Some p
     → Old s new sent p
 left_so s mid sent i j others after at =
-    let r = other_without mid.peers i j (ap (λ (x : EngineState). slice_get x.peers j) (sym after) ∙ at) in
+    let r = other_without _ i j (ap (λ (x : EngineState). slice_get x.peers j) (sym after) ∙ at) in
     (r.0, stays_so (sym (others r.0 r.2) ∙ r.1))
 
 -- told in more frames
@@ -187,14 +187,14 @@ none_there j {p} e at = by j (cc)
     by zero f = cc
     by (suc n) f = cc
 
-module _ (dig : List ℕ → List ℕ) where
+module _ (dig : Digest) where
   -- what follows for other peers changes none of this one
   each_keeps : (n a : ℕ) (s new : EngineState) (sent : List Sent) → FollowsEach dig (range_with_len a n) s sent new → (j : ℕ) → j < a
       → slice_get new.peers j ≡ slice_get s.peers j
   each_keeps zero a s new sent f j below = cc
   each_keeps (suc n) a s new sent f j below =
-      each_keeps n (a + 1) f.0 new f.2 f.4 j (omega arith) ∙ ap (λ l. slice_get l j) (peers_then f.3)
-      ∙ set_other s.peers a j (then f.3) (λ e. absurd (omega arith))
+      each_keeps n _ f.0 new f.2 f.4 j (omega arith) ∙ ap (λ l. slice_get l j) (peers_then f.3)
+      ∙ set_other _ a j _ (λ e. absurd (omega arith))
 
   each_torrent : (places : List ℕ) (s new : EngineState) (sent : List Sent) → FollowsEach dig places s sent new → new.torrent ≡ s.torrent
   each_torrent [] s new sent f = cc
@@ -207,23 +207,23 @@ module _ (dig : List ℕ → List ℕ) where
       let front : (x : Sent) → Contains f.1 x → Contains sent x = λ x c. rw f.5 (Contains-append_left f.1 f.2 x c) in
       let back : (x : Sent) → Contains f.2 x → Contains sent x = λ x c. rw f.5 (Contains-append_right f.1 f.2 x c) in
       let first = then f.3 in
-      let set : slice_get f.0.peers a ≡ Some first = ap (λ l. slice_get l a) (peers_then f.3) ∙ set_same s.peers a f.3.here in
+      let set : slice_get f.0.peers a ≡ Some first = ap (λ l. slice_get l a) (peers_then f.3) ∙ set_same _ a f.3.here in
       elim (nat_cases a j) [
         | inl e ↦
             let same : p ≡ first =
-            same_some (ap (slice_get new.peers) e ∙ at) (each_keeps n (a + 1) f.0 new f.2 f.4 a (omega arith) ∙ set) in
+            same_some (ap (slice_get new.peers) e ∙ at) (each_keeps n _ f.0 new f.2 f.4 a (omega arith) ∙ set) in
             rw (← e) (rw same (record {
               before = f.3.peer;
               at_place = f.3.here;
               same_key = sym (key_then f.3);
-              tells = told_with (each_torrent (range_with_len (a + 1) n) f.0 new f.2 f.4) front
+              tells = told_with (each_torrent _ f.0 new f.2 f.4) front
                   (follow_tells f.3);
             }))
         | inr apart ↦
-            let r = each_told n (a + 1) f.4 at in
+            let r = each_told n _ f.4 at in
             record {
               before = r.before;
-              at_place = sym (set_other s.peers a j first apart) ∙ sym (ap (λ l. slice_get l j) (peers_then f.3)) ∙ r.at_place;
+              at_place = sym (set_other _ a j first apart) ∙ sym (ap (λ l. slice_get l j) (peers_then f.3)) ∙ r.at_place;
               same_key = r.same_key;
               tells = told_with refl back r.tells;
             }
@@ -232,8 +232,8 @@ module _ (dig : List ℕ → List ℕ) where
   rechoke_told : {s : EngineState} {new sent : _} → FollowsEach dig (range_with_len 0 (length s.peers)) (rechoked s) sent new → {j p : _}
       → slice_get new.peers j ≡ Some p → IsTold s new sent j p
   rechoke_told {s} {new} {sent} f {j} {p} at =
-      let r = each_told (length s.peers) 0 f at in
-      let m = mapped_at (rechoked_peer s) s.peers j r.at_place in
+      let r = each_told _ 0 f at in
+      let m = mapped_at _ _ j r.at_place in
       record {
         before = m.0;
         at_place = m.1;
@@ -248,23 +248,23 @@ module _ (dig : List ℕ → List ℕ) where
       → (n : ℕ) → n ≢ i → slice_get mid.peers n ≡ slice_get s.peers n
   others_stay {s} {i} {p} {calls} is t n apart =
       let rest = record p { stream = t.rest } in
-      let left = event_leaves dig (with_peer s i rest) i (set_same s.peers i is.here) t.event calls t.handles in
-      ap (λ l. slice_get l n) left.peers ∙ set_other (slice_set s.peers i rest) i n left.peer (λ e. apart (sym e))
-      ∙ set_other s.peers i n rest (λ e. apart (sym e))
+      let left = event_leaves dig _ i (set_same _ i is.here) _ calls t.handles in
+      ap (λ l. slice_get l n) left.peers ∙ set_other _ i n _ (λ e. apart (sym e))
+      ∙ set_other _ i n rest (λ e. apart (sym e))
 
   goes_told : {s new key i p calls out : _} → IsPeer s key i p
       → GoesOn dig s i p calls out new → {j q : _} → slice_get new.peers j ≡ Some q
       → IsTold s new out.send j q
   goes_told {s} {new} {i} {p} {calls} {out} is g {j} {q} at =
       let rest = record p { stream = g.takes.rest } in
-      let set = set_same s.peers i is.here in
-      let left = event_leaves dig (with_peer s i rest) i set g.takes.event calls g.takes.handles in
+      let set = set_same _ i is.here in
+      let left = event_leaves dig _ i set _ calls g.takes.handles in
       let f = g.follows in
       let t = then f in
       let peers : new.peers ≡ slice_set g.mid.peers i t = peers_then f in
       let same : f.peer ≡ left.peer =
       same_some f.here
-      (ap (λ l. slice_get l i) left.peers ∙ set_same (with_peer s i rest).peers i set) in
+      (ap (λ l. slice_get l i) left.peers ∙ set_same _ i set) in
       let key_is : f.peer.key ≡ p.key = cc in
       let less : AsksLess p f.peer = rw same (record { blocks = left.asks_less.blocks; hashes = left.asks_less.hashes }) in
       let more : (x : Sent) → Contains g.sent x → Contains out.send x =
@@ -272,7 +272,7 @@ module _ (dig : List ℕ → List ℕ) where
       elim (nat_cases i j) [
         | inl e ↦
             let now : q ≡ t =
-            same_some (ap (slice_get new.peers) e ∙ at) (ap (λ l. slice_get l i) peers ∙ set_same g.mid.peers i f.here) in
+            same_some (ap (slice_get new.peers) e ∙ at) (ap (λ l. slice_get l i) peers ∙ set_same _ i f.here) in
             let told : Tells new g.sent p.key f.peer t = rw (← key_is) (follow_tells f) in
             rw (← e) (rw now (record {
               before = p;
@@ -283,7 +283,7 @@ module _ (dig : List ℕ → List ℕ) where
             }))
         | inr apart ↦ stays_so
             (sym (others_stay is g.takes j (λ e. apart (sym e)))
-            ∙ sym (set_other g.mid.peers i j t apart) ∙ sym (ap (λ l. slice_get l j) peers) ∙ at)
+            ∙ sym (set_other _ i j t apart) ∙ sym (ap (λ l. slice_get l j) peers) ∙ at)
       ]
 
   next_told : {s new key calls r : _} → StepNext dig s key calls r new → (j : ℕ) {q : _}
@@ -301,7 +301,7 @@ module _ (dig : List ℕ → List ℕ) where
   feed_told {s} {new} sent (feeds i p is y e) j {q} at =
       let then : slice_get (slice_set s.peers i _) j ≡ Some q = ap (λ (x : EngineState). slice_get x.peers j) (sym e) ∙ at in (
         j,
-        elim (set_cases s.peers i j then) [
+        elim (set_cases _ i j then) [
           | inl one ↦ rw one.1 (record {
             before = p;
             at_place = cc;
@@ -334,7 +334,7 @@ module _ (dig : List ℕ → List ℕ) where
 
 -- ---- the law
 
-module _ (dig : List ℕ → List ℕ) {s : EngineState} (new : EngineState) {key : PeerKey} {place : ℕ} {before : PeerState} (after : PeerState) (one : IsOnlyPeer s key place before) where
+module _ (dig : Digest) {s : EngineState} (new : EngineState) {key : PeerKey} {place : ℕ} {before : PeerState} (after : PeerState) (one : IsOnlyPeer s key place before) where
   -- the peer before is the one of its key
   told_of : {sent : _} → after.key ≡ key → Old s new sent after → Tells new sent key before after
   told_of {sent} k r =
@@ -368,7 +368,7 @@ module _ (dig : List ℕ → List ℕ) {s : EngineState} (new : EngineState) {ke
         blocks = tells.blocks;
       }
 
-module _ (dig : List ℕ → List ℕ) where
+module _ (dig : Digest) where
   pub next_changes : {s new key place before after : _} (calls : DeviceCalls) {a : _}
       → IsOnlyPeer s key place before → IsPeer new key place after → Step dig s (Next key) calls a new
       → IsSentChanges new a key before after
@@ -389,11 +389,11 @@ module _ (dig : List ℕ → List ℕ) where
     alone c is = same_some (ap (slice_get new.peers) (sym (now.only place c is)) ∙ is.here) at
 
     still : {sent : _} → slice_get new.peers place ≡ Some before → Tells new sent key before after
-    still e = unchanged dig new after one (sym (alone before (record { here = e; same_key = one.is_peer.same_key })))
+    still e = unchanged dig new after one (sym (alone _ (record { here = e; same_key = one.is_peer.same_key })))
 
     connect_tells : {r sent : _} → StepConnect s r new → Tells new sent key before after
     connect_tells (joins k bytes x y z w e f) =
-        still (ap (λ (n : EngineState). slice_get n.peers place) f ∙ put_behind s.peers _ place one.is_peer.here)
+        still (ap (λ (n : EngineState). slice_get n.peers place) f ∙ put_behind _ _ place one.is_peer.here)
     connect_tells {sent} (full x y e) = of_old (same_so sent there e at)
     connect_tells {sent} (spent x y z e) = of_old (same_so sent there e at)
     connect_tells {sent} (no_room x y z e) = of_old (same_so sent there e at)
@@ -408,12 +408,12 @@ module _ (dig : List ℕ → List ℕ) where
 
     all_told : (e : Event) (calls : DeviceCalls) (a : Answer) → Step dig s e calls a new → Tells new (sent_by a) key before after
     all_told Connect calls a t = connect_tells t.3
-    all_told (Feed k bytes) calls a t = of_old (feed_told dig (sent_by a) t.3 there at)
+    all_told (Feed k bytes) calls a t = of_old (feed_told dig _ t.3 there at)
     all_told (Next k) calls a t = of_old (rw t.1 (next_told dig t.2 there at))
-    all_told (Lost k) calls a t = of_old (lost_told dig (sent_by a) t.3 there at)
+    all_told (Lost k) calls a t = of_old (lost_told dig _ t.3 there at)
     all_told Rechoke calls a t = of_old (rw t.1 (rechokes_told dig t.3 there at))
     all_told (Adopt file) calls a t = adopt_tells t.2
-    all_told Flush calls a t = of_old (flush_told dig (sent_by a) t.2 there at)
+    all_told Flush calls a t = of_old (flush_told dig _ t.2 there at)
 
   pub step_changes : StepSendsChanges dig
   step_changes s new e calls a key place before there after one now t =

@@ -1,8 +1,8 @@
 -- What a message must lead to: the event that stands first is the one that is taken.
-use Rattle.bt_engine.proofs.Base.{◌≡◌, ℕ, ◌⊎◌, inl, inr, List, [], ◌++◌, Some, None, Ok, sym, ap, ◌∙◌, subst, slice_get, Contains, concat, Contains-append_left, PeerKey, HashKey, Stream, Takes, Waits, WireEvent, Message, HashRequest, Hashes, HashReject, same_event, fault_alone}
-use Rattle.bt_engine.proofs.Machine.{Next, PeerState, EngineState, DeviceCalls, with_peer, Sent, Output, Effect, haves, IsAnswered, HandlesHashRequest, answered, rejected, Handles, IsPeer, GoesOn, Closes, ShowsFault, StepNext, no_peer, waits, goes_on, closes, faulty, no_memory, Answer, of_next, Step, sent_by, IsOnlyPeer, AnswersHashes, unknown, NextAnswersHashRequest}
+use Rattle.bt_engine.proofs.Base.{◌≡◌, ℕ, ◌⊎◌, inl, inr, List, [], ◌++◌, Some, Ok, ap, ◌∙◌, Contains, concat, Contains-append_left, PeerKey, HashKey, Stream, Takes, Waits, WireEvent, Message, HashRequest, Hashes, HashReject, same_event, fault_alone}
+use Rattle.bt_engine.proofs.Machine.{Digest, Next, PeerState, EngineState, DeviceCalls, with_peer, Output, Effect, haves, IsAnswered, HandlesHashRequest, answered, rejected, Handles, IsPeer, GoesOn, Closes, ShowsFault, StepNext, no_peer, waits, goes_on, closes, faulty, no_memory, Answer, of_next, Step, sent_by, IsOnlyPeer, AnswersHashes, unknown, NextAnswersHashRequest}
 use Rattle.bt_engine.specs.AnswerDue.{IsOutOfMemory, known}
-use Rattle.bt_engine.proofs.Lists.{same_some, here}
+use Rattle.bt_engine.proofs.Lists.{here}
 use Rattle.bt_engine.proofs.AnswerSends.{frame_to}
 
 -- ---- a stream determines its event
@@ -24,12 +24,12 @@ same_taking {old} {r} {s} {e} {f} t u =
 abbrev HandlesAt : (List ℕ → List ℕ) → EngineState → ℕ → PeerState → Stream → WireEvent → DeviceCalls → Effect → EngineState → Type 0
 HandlesAt dig s i p rest e calls effect mid = Handles dig (with_peer s i (record p { stream = rest })) i (record p { stream = rest }) e calls effect mid
 
-pub data Taken (dig : List ℕ → List ℕ) (s : EngineState) (i : ℕ) (p : PeerState) (e : WireEvent) (rest : Stream) (calls : DeviceCalls) (answer : Answer) (new : EngineState) : Type 0 where
+pub data Taken (dig : Digest) (s : EngineState) (i : ℕ) (p : PeerState) (e : WireEvent) (rest : Stream) (calls : DeviceCalls) (answer : Answer) (new : EngineState) : Type 0 where
   no_room : IsOutOfMemory answer → Taken dig s i p e rest calls answer new
   goes : (out : Output) (g : GoesOn dig s i p calls out new) → HandlesAt dig s i p rest e calls g.effect g.mid → answer ≡ of_next (Ok (Some out)) → Taken dig s i p e rest calls answer new
   shuts : (out : Output) (g : Closes dig s i p calls out new) → HandlesAt dig s i p rest e calls g.effect g.mid → answer ≡ of_next (Ok (Some out)) → Taken dig s i p e rest calls answer new
 
-module _ (dig : List ℕ → List ℕ) {s : EngineState} (new : EngineState) {key : PeerKey} {i : ℕ} {p : PeerState} (calls : DeviceCalls) {e : WireEvent} {rest : Stream} (one : IsOnlyPeer s key i p) (takes : Takes p.stream e rest) where
+module _ (dig : Digest) {s : EngineState} (new : EngineState) {key : PeerKey} {i : ℕ} {p : PeerState} (calls : DeviceCalls) {e : WireEvent} {rest : Stream} (one : IsOnlyPeer s key i p) (takes : Takes p.stream e rest) where
   handled_as : {f r : _} (effect : Effect) (mid : EngineState) → Takes p.stream f r → HandlesAt dig s i p r f calls effect mid → HandlesAt dig s i p rest e calls effect mid
   handled_as {r} effect mid took handles =
       let same = same_taking took takes in
@@ -46,10 +46,10 @@ module _ (dig : List ℕ → List ℕ) {s : EngineState} (new : EngineState) {ke
   next_taken (waits j q is w x y z) = absurd ((by_peer (λ n x. Waits x.stream) is w).no_event e takes.bytes rest.unread takes.event takes.front)
   next_taken (goes_on j q out is g y) =
       let h = by_peer (λ n x. GoesOn dig s n x calls out new) is g in
-      goes out h (handled_as h.effect h.mid h.takes.takes h.takes.handles) (ap (λ x. of_next x) y)
+      goes out h (handled_as _ h.mid h.takes.takes h.takes.handles) (ap (λ x. of_next x) y)
   next_taken (closes j q out is g y) =
       let h = by_peer (λ n x. Closes dig s n x calls out new) is g in
-      shuts out h (handled_as h.effect h.mid h.takes.takes h.takes.handles) (ap (λ x. of_next x) y)
+      shuts out h (handled_as _ h.mid h.takes.takes h.takes.handles) (ap (λ x. of_next x) y)
   next_taken (faulty j q out is g y) =
       let h = by_peer (λ n x. ShowsFault s n x calls out new) is g in
       absurd (fault_alone p.stream.greeted p.stream.unread h.fault h.fails.shown e takes.bytes rest.unread takes.event takes.front)
@@ -65,7 +65,7 @@ sent_with {s} g is {x} c = rw is (rw g.send (Contains-append_left (g.effect.send
 
 -- ---- hash requests
 
-module _ (dig : List ℕ → List ℕ) {s : EngineState} (new : EngineState) {key : PeerKey} {i : ℕ} {p : PeerState} (calls : DeviceCalls) (asked : HashKey) (rest : Stream) (one : IsOnlyPeer s key i p) (a : Answer) where
+module _ (dig : Digest) {s : EngineState} (new : EngineState) {key : PeerKey} {i : ℕ} {p : PeerState} (calls : DeviceCalls) (asked : HashKey) (rest : Stream) (one : IsOnlyPeer s key i p) (a : Answer) where
   same_answers : {digests : _} → IsAnswered dig (with_peer s i (record p { stream = rest })) asked digests → IsAnswered dig s asked digests
   same_answers k = record { tree = k.tree; facts = k.facts; here = record { here = k.here.here; same_root = k.here.same_root }; request = k.request; answer = k.answer }
 
@@ -88,5 +88,5 @@ module _ (dig : List ℕ → List ℕ) {s : EngineState} (new : EngineState) {ke
   hashes_answered (goes out g h is) = inr (by_hashes g is h.1)
   hashes_answered (shuts out g h is) = not_shut g h.1
 
-pub next_answers : (dig : List ℕ → List ℕ) → NextAnswersHashRequest dig
+pub next_answers : (dig : Digest) → NextAnswersHashRequest dig
 next_answers dig s new key i p calls a asked rest one takes t = hashes_answered dig new calls asked rest one a (step_taken dig new calls one takes t)

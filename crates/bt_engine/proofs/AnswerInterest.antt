@@ -1,8 +1,8 @@
 -- Interest is told only where it changed.
 use Rattle.bt_engine.proofs.Base.{◌≡◌, ℕ, zero, suc, ◌+◌, ◌<◌, ◌≤◌, ◌⊎◌, inl, inr, Bool, true, false, List, length, Some, refl, sym, ap, ◌∙◌, subst, arith, slice_get, Contains, range_with_len, Contains-append_cases, PeerKey, Interested, NotInterested}
-use Rattle.bt_engine.proofs.Machine.{PeerState, EngineState, DeviceCalls, with_peer, Sent, Output, IsInteresting, IsPeer, GoesOn, FollowsEach, rechoked, rechoked_peer, ChangesInterest, StepTellsChangedInterest}
+use Rattle.bt_engine.proofs.Machine.{Digest, PeerState, EngineState, with_peer, Sent, IsInteresting, IsPeer, GoesOn, FollowsEach, rechoked, ChangesInterest, StepTellsChangedInterest}
 use Rattle.bt_engine.proofs.Lists.{contains_none, same_some, set_same, get_map}
-use Rattle.bt_engine.proofs.AnswerParts.{Part, greets, replies, interests, chokes, all_haves, event_leaves}
+use Rattle.bt_engine.proofs.AnswerParts.{greets, replies, interests, chokes, all_haves, event_leaves}
 use Rattle.bt_engine.proofs.AnswerSends.{set_other, frame_to, Follows, follows_of, IsSentBy, alike, announced, followed, rechoked_then, step_sent}
 use Rattle.bt_engine.proofs.AnswerRequests.{has_in, missing_in}
 
@@ -69,12 +69,12 @@ record Tells (old new : EngineState) (sent : List Sent) : Type 0 where
   interested : (key : PeerKey) → Contains sent (frame_to key Interested) → ChangesInterest old new key false true
   uninterested : (key : PeerKey) → Contains sent (frame_to key NotInterested) → ChangesInterest old new key true false
 
-module _ (dig : List ℕ → List ℕ) where
+module _ (dig : Digest) where
   each_stays : (n a : ℕ) {old s new : _} (sent : List Sent) → FollowsEach dig (range_with_len a n) s sent new → {key was now place : _} → place < a → ChangesAt old s key was now place
       → ChangesAt old new key was now place
   each_stays zero a {old} sent f {key} {was} {now} {place} below c = rw f.1 c
   each_stays (suc n) a sent f below c =
-      each_stays n (a + 1) f.2 f.4 (omega arith)
+      each_stays n _ f.2 f.4 (omega arith)
       (stays_changed (follows_of f.3) (λ e. absurd (omega arith)) c)
 
   each_tells : (n a : ℕ) {old : _} (s : EngineState) {new sent : _} → FollowsEach dig (range_with_len a n) s sent new → ((j : ℕ) (q : PeerState) → a ≤ j → slice_get s.peers j ≡ Some q → WasSo old j q) → Tells old new sent
@@ -85,11 +85,11 @@ module _ (dig : List ℕ → List ℕ) where
   each_tells (suc n) a {old} s {new} f was_so =
       let first = follows_of f.3 in
       let later : (j : ℕ) (q : PeerState) → a + 1 ≤ j → slice_get f.0.peers j ≡ Some q → WasSo old j q = λ j q above at.
-      was_so j q (omega arith) (sym (ap (λ l. slice_get l j) first.peers ∙ set_other s.peers a j first.after (λ e. absurd (omega arith))) ∙ at) in
-      let rest = each_tells n (a + 1) f.0 f.4 later in
+      was_so j q (omega arith) (sym (ap (λ l. slice_get l j) first.peers ∙ set_other _ a j _ (λ e. absurd (omega arith))) ∙ at) in
+      let rest = each_tells n _ f.0 f.4 later in
       let was = was_so a first.peer (omega arith) first.was in
       let stays : (key : PeerKey) (was now : Bool) → ChangesAt old f.0 key was now a → ChangesInterest old new key was now = λ key was now c.
-      (each_stays n (a + 1) f.2 f.4 (omega arith) c).changes in
+      (each_stays n _ f.2 f.4 (omega arith) c).changes in
       record {
         interested = λ key c. elim (Contains-append_cases f.1 f.2 (frame_to key Interested) (rw (← f.5) c)) [
           | inl one ↦ let r = first.interested key one in stays key false true (changes_by first was r.0 r.1 r.2)
@@ -102,8 +102,8 @@ module _ (dig : List ℕ → List ℕ) where
       }
 
   rechoke_tells : {s : EngineState} {new sent : _} → FollowsEach dig (range_with_len 0 (length s.peers)) (rechoked s) sent new → Tells s new sent
-  rechoke_tells {s} f = each_tells (length s.peers) 0 (rechoked s) f (λ j q above at.
-      let r = get_map (rechoked_peer s) s.peers j at in
+  rechoke_tells {s} f = each_tells _ 0 _ f (λ j q above at.
+      let r = get_map _ _ j at in
       record { peer = r.0; here = r.1; same_key = cc; same_interest = cc })
 
   next_tells : {s new key i p calls out : _} → IsPeer s key i p → (g : GoesOn dig s i p calls out new) → Tells s new g.sent

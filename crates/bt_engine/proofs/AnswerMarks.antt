@@ -1,6 +1,6 @@
 -- A block that becomes marked is noted.
-use Rattle.bt_engine.proofs.Base.{◌≡◌, ℕ, ◌⊎◌, inl, inr, true, false, List, [], ◌∷◌, length, map, Some, Result, Ok, Err, refl, sym, ap, ◌∙◌, subst, slice_get, Contains, nat_eq, if◌then◌else◌, pointwise, eq-eqb, Contains-append_left, block_length, Facts, HashKey, states_after_put, BlockRead, given, is_leaf, is_right, IsRight, judged, BlockState, Waiting, Marked, StoreError, Put, Already, Wrong, PutMarked, PutWaiting, PeerKey, BlockId, WireEvent, Hello, Message, Skipped, Ask, PeerMessage, KeepAlive, Choke, Unchoke, Interested, NotInterested, Have, Bitfield, Request, Piece, Cancel, HashRequest, Hashes, HashReject}
-use Rattle.bt_engine.proofs.Machine.{Note, NowMarked, Freed, PeerState, FileState, EngineState, DeviceCalls, state_at, with_file, with_peer, with_tree, file_numbers, Effect, noting, FindsFault, damaged as found_damaged, fault, HandlesRequest, ignored, no_place, not_marked, served, stopped, HasPutEffect, HandlesPiece, stale, arrives, Settles, judged_file, read_note, settling_notes, HandlesHashes, unknown_root, no_claim, refused, learns, HandlesHave, in_range, out_of_range, HandlesBitfield, right, wrong, HandlesMessage, Handles, StepNext, no_peer as none_such, waits, goes_on, closes, faulty, no_memory, of_next, NotedBy, NextNotesMarkedBlocks}
+use Rattle.bt_engine.proofs.Base.{◌≡◌, ℕ, ◌⊎◌, inl, inr, true, false, List, [], ◌∷◌, length, map, Some, Result, Ok, refl, sym, ap, ◌∙◌, subst, slice_get, Contains, nat_eq, if◌then◌else◌, pointwise, eq-eqb, Contains-append_left, block_length, states_after_put, given, is_leaf, is_right, IsRight, judged, BlockState, Marked, StoreError, Put, PutMarked, PutWaiting, PeerKey, BlockId, WireEvent, Hello, Message, Skipped, PeerMessage, KeepAlive, Choke, Unchoke, Interested, NotInterested, Have, Bitfield, Request, Piece, Cancel, HashRequest, Hashes, HashReject}
+use Rattle.bt_engine.proofs.Machine.{Digest, Note, NowMarked, Freed, PeerState, FileState, EngineState, DeviceCalls, state_at, with_file, with_peer, Effect, noting, FindsFault, damaged as found_damaged, fault, HandlesRequest, ignored, no_place, not_marked, served, stopped, HasPutEffect, HandlesPiece, stale, arrives, Settles, read_note, settling_notes, HandlesHashes, unknown_root, no_claim, refused, learns, HandlesHave, in_range, out_of_range, HandlesBitfield, right, wrong, HandlesMessage, Handles, StepNext, no_peer as none_such, waits, goes_on, closes, faulty, no_memory, of_next, NotedBy, NextNotesMarkedBlocks}
 use Rattle.bt_engine.proofs.Lists.{and_then_some, map_some, set_cases, set_same, map_contains, flat_map_contains, range_contains, some_below}
 use Rattle.bt_engine.proofs.Marks.{state_is, file_marked, missing_marks, judged_marks}
 use Rattle.bt_engine.proofs.AnswerParts.{event_leaves}
@@ -19,13 +19,13 @@ right_true {dig} {k} {i} {bytes} r = rw (eq-eqb (length bytes) (block_length k.f
 abbrev NotesMark : EngineState → Effect → EngineState → BlockId → Type 0
 NotesMark t effect mid b = (state_at t b ≡ Some Marked) ⊎ Contains effect.notes (NowMarked b)
 
-module _ (dig : List ℕ → List ℕ) (t mid : EngineState) (i : ℕ) (p : PeerState) (b : BlockId) (effect : Effect) where
+module _ (dig : Digest) (t mid : EngineState) (i : ℕ) (p : PeerState) (b : BlockId) (effect : Effect) where
   as_before : {m : _} → mid ≡ m → (state_at m b ≡ Some Marked → state_at t b ≡ Some Marked) → state_at mid b ≡ Some Marked → NotesMark t effect mid b
   as_before e kept now = inl (kept (rw (← e) now))
 
   fault_notes : {k file j f read : _} → slice_get t.files file ≡ Some f → FindsFault dig k t file j f read effect mid → state_at mid b ≡ Some Marked → NotesMark t effect mid b
   fault_notes {j} {f} at (found_damaged bytes x y z e) m = as_before e (λ now. elim (file_marked t _ b now) [
-    | inl one ↦ state_is t b (ap (slice_get t.files) one.0 ∙ at) (missing_marks f.states j b.block one.1)
+    | inl one ↦ state_is t b (ap (slice_get t.files) one.0 ∙ at) (missing_marks _ j _ one.1)
     | inr old ↦ old
   ]) m
   fault_notes at (fault x y e) m = as_before e (λ now. now) m
@@ -41,7 +41,7 @@ module _ (dig : List ℕ → List ℕ) (t mid : EngineState) (i : ℕ) (p : Peer
   put_notes : (c : BlockId) {f : _} (states : List BlockState) {stored : _} (q : PeerState) → slice_get t.files c.file ≡ Some f → stored ≡ with_file t c.file (record f { states = states }) → mid ≡ with_peer stored i q
       → (slice_get states b.block ≡ Some Marked → b.file ≡ c.file → (slice_get f.states b.block ≡ Some Marked) ⊎ Contains effect.notes (NowMarked b)) → state_at mid b ≡ Some Marked → NotesMark t effect mid b
   put_notes c {f} states q at is after changes m =
-      elim (file_marked t (record f { states = states }) b (subst (λ x. state_at x b ≡ Some Marked) is (subst (λ x. state_at x b ≡ Some Marked) after m))) [
+      elim (file_marked t _ b (subst (λ x. state_at x b ≡ Some Marked) is (subst (λ x. state_at x b ≡ Some Marked) after m))) [
         | inl one ↦ elim (changes one.1 one.0) [ inl before ↦ inl (state_is t b (ap (slice_get t.files) one.0 ∙ at) before) | inr noted ↦ inr noted ]
         | inr old ↦ inl old
       ]
@@ -53,9 +53,7 @@ module _ (dig : List ℕ → List ℕ) (t mid : EngineState) (i : ℕ) (p : Peer
     | inr old ↦ inl old
   ]
   put_changes c states (Ok PutWaiting) e now file = elim (set_cases states c.block b.block now) [ inl one ↦ absurd cc | inr old ↦ inl old ]
-  put_changes c states (Ok Wrong) e now file = inl now
-  put_changes c states (Ok Already) e now file = inl now
-  put_changes c states (Err x) e now file = inl now
+  put_changes c states _ e now file = inl now
 
   piece_notes : {piece begin bytes calls : _} → HandlesPiece dig t i p piece begin bytes calls effect mid → state_at mid b ≡ Some Marked → NotesMark t effect mid b
   piece_notes (stale x y z e) m = as_before e (λ now. now) m
@@ -66,16 +64,16 @@ module _ (dig : List ℕ → List ℕ) (t mid : EngineState) (i : ℕ) (p : Peer
   settle_notes : (tree from count : ℕ) (calls : DeviceCalls) (notes : List Note) (old settled : EngineState) → Settles dig tree from count old calls notes settled → state_at settled b ≡ Some Marked
       → (state_at old b ≡ Some Marked) ⊎ Contains notes (NowMarked b)
   settle_notes tree from count calls notes old settled s now =
-      let m = and_then_some (λ (q : FileState). slice_get q.states b.block) (slice_get settled.files b.file) now in
-      let f = map_some (judged_file dig s.facts (s.reads b.file)) (slice_get old.files b.file) (sym (s.files b.file) ∙ m.1) in
+      let m = and_then_some (λ (q : FileState). slice_get q.states b.block) _ now in
+      let f = map_some _ _ (sym (s.files b.file) ∙ m.1) in
       let there : slice_get (judged dig s.facts false (s.reads b.file) f.0.states) b.block ≡ Some Marked = cc in
-      elim (judged_marks (s.reads b.file) f.0.states there) [
+      elim (judged_marks _ _ there) [
         | inl before ↦ inl (state_is old b f.1 before)
         | inr r ↦
             let note : read_note dig s.facts b.file (given b.block r.bytes) ≡ NowMarked b = ap (λ x. if x then NowMarked b else Freed b) (right_true r.right) in
             let one : Contains (map (read_note dig s.facts b.file) (s.reads b.file)) (NowMarked b) =
-            rw (← note) (map_contains (read_note dig s.facts b.file) (s.reads b.file) r.gives) in
-            inr (rw s.noted (flat_map_contains (λ file. settling_notes dig s.facts file (s.reads file)) (file_numbers old) (range_contains (length old.files) (some_below old.files b.file f.1))
+            rw (← note) (map_contains _ _ r.gives) in
+            inr (rw s.noted (flat_map_contains (λ file. settling_notes dig s.facts file (s.reads file)) _ (range_contains _ (some_below _ _ f.1))
             (Contains-append_left (map (read_note dig s.facts b.file) (s.reads b.file)) _ (NowMarked b) one)))
       ]
 
@@ -84,7 +82,7 @@ module _ (dig : List ℕ → List ℕ) (t mid : EngineState) (i : ℕ) (p : Peer
   hashes_notes (no_claim f x y c) m = as_before c.after (λ now. now) m
   hashes_notes (refused f n k c x y z g) m = as_before g.after (λ now. now) m
   hashes_notes {key} {calls} (learns l) m =
-      elim (settle_notes l.tree key.index _ calls l.notes (with_tree t l.tree l.new) l.settled l.settles (subst (λ x. state_at x b ≡ Some Marked) l.after m)) [
+      elim (settle_notes _ _ _ calls _ _ _ l.settles (subst (λ x. state_at x b ≡ Some Marked) l.after m)) [
         | inl old ↦ inl old
         | inr noted ↦ inr (rw (ap (λ (x : Effect). x.notes) l.has_effect) noted)
       ]
@@ -117,7 +115,7 @@ module _ (dig : List ℕ → List ℕ) (t mid : EngineState) (i : ℕ) (p : Peer
   event_notes (Message msg) calls x m = message_notes msg calls x m
   event_notes (Skipped kind) calls x m = as_before x.2 (λ now. now) m
 
-module _ (dig : List ℕ → List ℕ) (s new : EngineState) (key : PeerKey) (calls : DeviceCalls) (b : BlockId) (before : ¬ (state_at s b ≡ Some Marked)) (now : state_at new b ≡ Some Marked) where
+module _ (dig : Digest) (s new : EngineState) (key : PeerKey) (calls : DeviceCalls) (b : BlockId) (before : ¬ (state_at s b ≡ Some Marked)) (now : state_at new b ≡ Some Marked) where
   unchanged : {X : Type 0} {like : EngineState} → like.files ≡ s.files → new ≡ like → X
   unchanged files e = absurd (before (rw (← files) (rw (← e) now)))
 
@@ -137,5 +135,5 @@ module _ (dig : List ℕ → List ℕ) (s new : EngineState) (key : PeerKey) (ca
   mark_noted (faulty i p out is g e) = unchanged refl g.after
   mark_noted (no_memory i p is g e) = unchanged refl g.after
 
-pub next_notes_marked : (dig : List ℕ → List ℕ) → NextNotesMarkedBlocks dig
+pub next_notes_marked : (dig : Digest) → NextNotesMarkedBlocks dig
 next_notes_marked dig s new key calls a b t before now = rw t.1 (mark_noted dig s new key calls b before now t.2)

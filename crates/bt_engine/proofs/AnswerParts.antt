@@ -1,6 +1,6 @@
 -- The parts of what is sent, and what a wire event leaves of the engine and its peer.
-use Rattle.bt_engine.proofs.Base.{◌≡◌, ℕ, inl, inr, Bool, true, false, not, List, [], ◌∷◌, ◌++◌, map, Some, Result, Ok, Err, refl, sym, ap, ◌∙◌, subst, slice_get, slice_set, Contains, nat_lt, if◌then◌else◌, Contains-append_cases, Facts, HashKey, BlockRead, given, failed, is_right, fault_count, states_after_put, StoreError, Range, DeviceFault, Put, Already, Wrong, PutMarked, PutWaiting, BlockId, is_block, Handshake, Ask, PeerMessage, KeepAlive, Choke, Unchoke, Interested, NotInterested, Have, Bitfield, Request, Piece, Cancel, HashRequest, Hashes, HashReject, WireEvent, Hello, Message, Skipped}
-use Rattle.bt_engine.proofs.Machine.{Frame, hello_frame, message_frame, Note, Device, Complete, Why, HashState, Idle, Asked, Refused, PeerState, FileState, EngineState, DeviceCalls, with_file, with_peer, with_tree, file_numbers, Sent, Effect, sent_to, haves, no_effect, noting, closing, sending, FindsFault, damaged, fault, HandlesRequest, ignored, no_place, not_marked, served, stopped, HasPutEffect, Arrives, HandlesPiece, stale, arrives, settling_notes, read_note, HandlesHashRequest, answered, rejected, HandlesHashes, unknown_root, no_claim, refused, learns, new_proofs, Resolves, resolved as ours_asked, other_asked, HandlesHello, ours, other, HandlesHave, in_range, out_of_range, HandlesBitfield, right, wrong, HandlesMessage, Handles, interest_sent, RequestsHashes, requests, rests, RequestsEach}
+use Rattle.bt_engine.proofs.Base.{◌≡◌, ℕ, inl, inr, Bool, true, false, not, List, [], ◌∷◌, ◌++◌, map, Some, Result, Ok, Err, refl, sym, ap, ◌∙◌, slice_get, slice_set, Contains, if◌then◌else◌, Contains-append_cases, Facts, HashKey, BlockRead, given, failed, is_right, states_after_put, StoreError, DeviceFault, Put, Wrong, PutMarked, PutWaiting, BlockId, is_block, PeerMessage, KeepAlive, Choke, Unchoke, Interested, NotInterested, Have, Bitfield, Request, Piece, Cancel, HashRequest, Hashes, HashReject, WireEvent, Hello, Message, Skipped}
+use Rattle.bt_engine.proofs.Machine.{Digest, Frame, hello_frame, message_frame, Note, Device, Complete, Why, Idle, Asked, Refused, PeerState, FileState, EngineState, DeviceCalls, with_file, with_peer, with_tree, file_numbers, Sent, Effect, sent_to, haves, no_effect, noting, closing, sending, FindsFault, damaged, fault, HandlesRequest, ignored, no_place, not_marked, served, stopped, HasPutEffect, Arrives, HandlesPiece, stale, arrives, settling_notes, read_note, HandlesHashRequest, answered, rejected, HandlesHashes, unknown_root, no_claim, refused, learns, new_proofs, Resolves, resolved as ours_asked, other_asked, HandlesHello, ours, other, HandlesHave, in_range, out_of_range, HandlesBitfield, right, wrong, HandlesMessage, Handles, interest_sent, RequestsHashes, requests, rests, RequestsEach}
 use Rattle.bt_engine.proofs.Lists.{contains_none, contains_cases, contains_filter, contains_map, contains_flat_map, set_id}
 
 -- ---- parts of what is sent
@@ -48,18 +48,17 @@ all_is part e f = rw e f
 pub all_haves : (old new : EngineState) → AllOf announces (haves old new)
 all_haves old new x c =
     let p = contains_flat_map (λ piece. map (λ p. sent_to p (Have piece)) new.peers) _ c in
-    let q = contains_map (λ q. sent_to q (Have p.0)) new.peers p.2 in
+    let q = contains_map (λ q. sent_to q (Have p.0)) _ p.2 in
     ap (λ (s : Sent). part_of s.frame) (sym q.2)
 
 pub all_interest : (p : PeerState) (was now : Bool) → AllOf interests (interest_sent p was now)
 all_interest p true true = all_none interests
-all_interest p true false = all_one _ [] refl (all_none interests)
-all_interest p false true = all_one _ [] refl (all_none interests)
 all_interest p false false = all_none interests
+all_interest p _ _ = all_one _ [] refl (all_none interests)
 
 pub all_hashes : {dig s p q sent : _} → RequestsHashes dig s p sent q → AllOf hashes sent
-all_hashes (requests b k key x y z w e f) = all_is hashes e (all_one _ [] refl (all_none hashes))
-all_hashes (rests x e y) = all_is hashes e (all_none hashes)
+all_hashes (requests b k key x y z w e f) = all_is _ e (all_one _ [] refl (all_none _))
+all_hashes (rests x e y) = all_is _ e (all_none _)
 
 pub all_asks : (s : EngineState) (p : PeerState) (blocks : List BlockId) (sent : List Sent) → RequestsEach s p blocks sent → AllOf asks sent
 all_asks s p [] sent r = all_is asks r (all_none asks)
@@ -132,7 +131,7 @@ pub record Leaves (s : EngineState) (i : ℕ) (p : PeerState) (effect : Effect) 
   pub noted : NoComplete effect.notes
   pub closed : (why : Why) → effect.close ≡ Some why → mid.files ≡ s.files
 
-module _ (dig : List ℕ → List ℕ) (s : EngineState) (i : ℕ) {p : PeerState} (at : slice_get s.peers i ≡ Some p) where
+module _ (dig : Digest) (s : EngineState) (i : ℕ) {p : PeerState} (at : slice_get s.peers i ≡ Some p) where
   -- the peer is another
   sets : {q : PeerState} {e effect mid : _} → q.key ≡ p.key → q.am_interested ≡ p.am_interested → IsQuiet e → effect ≡ e
       → mid ≡ with_peer s i q → AsksLess p q → Leaves s i p effect mid
@@ -155,7 +154,7 @@ module _ (dig : List ℕ → List ℕ) (s : EngineState) (i : ℕ) {p : PeerStat
     same_key = refl;
     same_interest = refl;
     asks_less = asks_same refl refl;
-    peers = sym (set_id s.peers i at);
+    peers = sym (set_id _ i at);
     torrent = refl;
     replied = quiet.replied;
     noted = quiet.noted;
@@ -169,7 +168,7 @@ module _ (dig : List ℕ → List ℕ) (s : EngineState) (i : ℕ) {p : PeerStat
     same_key = refl;
     same_interest = refl;
     asks_less = asks_same refl refl;
-    peers = sym (set_id s.peers i at);
+    peers = sym (set_id _ i at);
     torrent = refl;
     replied = quiet.replied;
     noted = quiet.noted;
@@ -177,16 +176,16 @@ module _ (dig : List ℕ → List ℕ) (s : EngineState) (i : ℕ) {p : PeerStat
   }))
 
   silent : IsQuiet no_effect
-  silent = record { replied = all_none replies; noted = none_noted }
+  silent = record { replied = all_none _; noted = none_noted }
 
   closes_quietly : (why : Why) → IsQuiet (closing why)
-  closes_quietly why = record { replied = all_none replies; noted = none_noted }
+  closes_quietly why = record { replied = all_none _; noted = none_noted }
 
   notes_quietly : (note : Note) → is_complete_note note ≡ false → IsQuiet (noting note)
-  notes_quietly note e = record { replied = all_none replies; noted = one_noted note e }
+  notes_quietly note e = record { replied = all_none _; noted = one_noted note e }
 
   replies_quietly : (m : PeerMessage) → part_of_message m ≡ replies → IsQuiet (sending p m)
-  replies_quietly m e = record { replied = all_one (sent_to p m) [] e (all_none replies); noted = none_noted }
+  replies_quietly m e = record { replied = all_one _ [] e (all_none _); noted = none_noted }
 
   have_leaves : {mid piece effect : _} → HandlesHave s i p piece effect mid → Leaves s i p effect mid
   have_leaves (in_range x e y) = sets refl refl silent e y (asks_same refl refl)
@@ -226,22 +225,21 @@ module _ (dig : List ℕ → List ℕ) (s : EngineState) (i : ℕ) {p : PeerStat
         torrent = refl;
         replied = quiet.replied;
         noted = quiet.noted;
-        closed = λ why c. ap (λ l. slice_set s.files b.file (record file { states = l })) (kept why c) ∙ set_id s.files b.file there;
+        closed = λ why c. ap (λ l. slice_set s.files b.file (record file { states = l })) (kept why c) ∙ set_id _ _ there;
       })
 
       of_effect : (r : Result Put StoreError) → HasPutEffect b r effect → (r ≡ Ok Wrong → states ≡ file.states) → Leaves s i p effect (with_peer (with_file s b.file (record file { states = states })) i q)
       of_effect (Ok PutMarked) e same = leaves (notes_quietly _ refl) (λ why c. absurd cc) e
       of_effect (Ok PutWaiting) e same = leaves (notes_quietly _ refl) (λ why c. absurd cc) e
       of_effect (Ok Wrong) e same = leaves (closes_quietly _) (λ why c. same refl) e
-      of_effect (Ok Already) e same = absurd e
       of_effect (Err DeviceFault) e same = leaves (notes_quietly _ refl) (λ why c. absurd cc) e
-      of_effect (Err Range) e same = absurd e
+      of_effect _ e same = absurd e
 
   arrives_leaves : {mid piece begin bytes calls effect : _} → Arrives dig s i p piece begin bytes calls effect mid → Leaves s i p effect mid
   arrives_leaves a =
-      put_leaves a.block a.puts.result
-      (states_after_put a.block.block a.puts.result a.puts.file.states) a.puts.is_file.here refl refl
-      (record { blocks = λ b c. (contains_filter (λ d. not (is_block a.block d)) p.asked c).0; hashes = λ k e. e }) a.puts.has_effect
+      put_leaves _ _
+      _ a.puts.is_file.here refl refl
+      (record { blocks = λ b c. (contains_filter (λ d. not (is_block a.block d)) _ c).0; hashes = λ k e. e }) a.puts.has_effect
       (λ e. ap (λ r. states_after_put a.block.block r a.puts.file.states) e) a.puts.after a.after
 
   piece_leaves : {mid piece begin bytes calls effect : _} → HandlesPiece dig s i p piece begin bytes calls effect mid → Leaves s i p effect mid
@@ -249,7 +247,7 @@ module _ (dig : List ℕ → List ℕ) (s : EngineState) (i : ℕ) {p : PeerStat
   piece_leaves (arrives a) = arrives_leaves a
 
   read_noted : (k : Facts) (file : ℕ) (read : BlockRead) → is_complete_note (read_note dig k file read) ≡ false
-  read_noted k file (given j bytes) = by (is_right dig k j bytes) refl
+  read_noted k file (given j bytes) = by _ refl
     where
       by : (b : Bool) → is_right dig k j bytes ≡ b → is_complete_note (read_note dig k file (given j bytes)) ≡ false
       by true e = rw e refl
@@ -259,12 +257,12 @@ module _ (dig : List ℕ → List ℕ) (s : EngineState) (i : ℕ) {p : PeerStat
   settling_noted : (k : Facts) (file : ℕ) (reads : List BlockRead) → NoComplete (settling_notes dig k file reads)
   settling_noted k file reads note c =
       elim (Contains-append_cases (map (read_note dig k file) reads) _ note c) [
-        | inl one ↦ let r = contains_map (read_note dig k file) reads one in ap is_complete_note (sym r.2) ∙ read_noted k file r.0
-        | inr more ↦ by_fault (nat_lt 0 (fault_count reads)) more
+        | inl one ↦ let r = contains_map _ reads one in ap is_complete_note (sym r.2) ∙ read_noted k file r.0
+        | inr more ↦ by_fault _ more
       ]
     where
       by_fault : (b : Bool) → Contains (if b then Device file ∷ [] else []) note → is_complete_note note ≡ false
-      by_fault true c = one_noted (Device file) refl note c
+      by_fault true c = one_noted _ refl note c
       by_fault false c = absurd (contains_none c)
 
   hashes_leaves : {mid key digests calls effect : _} → HandlesHashes dig s i p key digests calls effect mid → Leaves s i p effect mid
@@ -297,9 +295,6 @@ module _ (dig : List ℕ → List ℕ) (s : EngineState) (i : ℕ) {p : PeerStat
   message_leaves KeepAlive calls h = stays silent h.1 h.2
   message_leaves Choke calls h =
       sets refl refl silent h.1 h.2 (record { blocks = λ b c. absurd (contains_none c); hashes = λ k e. e })
-  message_leaves Unchoke calls h = sets refl refl silent h.1 h.2 (asks_same refl refl)
-  message_leaves Interested calls h = sets refl refl silent h.1 h.2 (asks_same refl refl)
-  message_leaves NotInterested calls h = sets refl refl silent h.1 h.2 (asks_same refl refl)
   message_leaves (Have piece) calls h = have_leaves h.1
   message_leaves (Bitfield bytes) calls h = bits_leaves h.1
   message_leaves (Request ask) calls h = request_leaves h
@@ -310,6 +305,7 @@ module _ (dig : List ℕ → List ℕ) (s : EngineState) (i : ℕ) {p : PeerStat
   message_leaves (HashReject key) calls h =
       sets refl refl silent h.1 h.2.after
       (record { blocks = λ b c. c; hashes = resolved never_refused h.2.resolves })
+  message_leaves _ calls h = sets refl refl silent h.1 h.2 (asks_same refl refl)
 
   hello_leaves : {mid h effect : _} → HandlesHello s h effect → mid ≡ s → Leaves s i p effect mid
   hello_leaves (ours x e) after = stays silent e after

@@ -1,8 +1,8 @@
 -- Haves and completed files are told exactly where pieces became whole and files complete.
 use Rattle.bt_engine.proofs.Base.{◌≡◌, ℕ, zero, suc, ◌+◌, ◌<◌, ◌⊎◌, inl, inr, ◌↔◌, Bool, true, false, List, [], ◌∷◌, ◌++◌, length, map, Some, None, Ok, refl, sym, ap, ◌∙◌, subst, arith, slice_get, Contains, not, filter, ◌&&◌, cond, range_with_len, Contains-append_left, Contains-append_right, Contains-append_cases, total_pieces, Adopted, PeerKey, Have}
-use Rattle.bt_engine.proofs.Machine.{Frame, message_frame, Note, Complete, Event, Connect, Feed, Next, Lost, Rechoke, Adopt, Flush, PeerState, EngineState, DeviceCalls, with_peer, is_whole, is_complete, has_become, new_whole_pieces, new_complete_files, piece_numbers, file_numbers, Sent, Output, sent_to, haves, IsPeer, GoesOn, StepNext, no_peer, waits, goes_on, closes, faulty, no_memory, StepConnect, joins, full, spent, no_room, StepFeed, feeds, not_fed, no_room as no_room_to_feed, StepLost, goes, not_fed as not_lost, FollowsEach, StepRechoke, rechokes, not_rechoked, rechoked, AdoptsGroups, AdoptsFile, StepAdopt, no_file, busy, empty, adopts, not_adopted as adopt_memory, StepFlush, syncs, fails, Answer, of_connect, of_feed, of_next, of_lost, of_rechoke, of_adopt, of_flush, Step, sent_by, output_of, IsConnected, BecomesSo, NotedBy, StepAnnouncesWholePieces, NextNotesCompleteFiles}
-use Rattle.bt_engine.proofs.Lists.{contains_none, contains_cases, contains_map, contains_flat_map, contains_filter, map_contains, flat_map_contains, range_contains, and_true, same_some, set_cases, set_same, here, later}
-use Rattle.bt_engine.proofs.AnswerParts.{Part, greets, replies, announces, chokes, NoComplete, Leaves, event_leaves}
+use Rattle.bt_engine.proofs.Machine.{Digest, Frame, message_frame, Note, Complete, Event, Connect, Feed, Next, Lost, Rechoke, Adopt, Flush, PeerState, EngineState, DeviceCalls, with_peer, is_whole, is_complete, has_become, new_whole_pieces, new_complete_files, piece_numbers, file_numbers, Sent, Output, sent_to, haves, IsPeer, GoesOn, StepNext, no_peer, waits, goes_on, closes, faulty, no_memory, StepConnect, joins, full, spent, no_room, StepFeed, feeds, not_fed, no_room as no_room_to_feed, StepLost, goes, not_fed as not_lost, FollowsEach, StepRechoke, rechokes, not_rechoked, rechoked, AdoptsGroups, AdoptsFile, StepAdopt, no_file, busy, empty, adopts, not_adopted as adopt_memory, StepFlush, syncs, fails, Answer, of_connect, of_feed, of_next, of_lost, of_rechoke, of_adopt, of_flush, Step, sent_by, output_of, IsConnected, BecomesSo, NotedBy, StepAnnouncesWholePieces, NextNotesCompleteFiles}
+use Rattle.bt_engine.proofs.Lists.{contains_none, contains_cases, contains_map, contains_flat_map, contains_filter, map_contains, flat_map_contains, range_contains, and_true, set_cases, set_same, here, later}
+use Rattle.bt_engine.proofs.AnswerParts.{greets, replies, announces, chokes, NoComplete, Leaves, event_leaves}
 use Rattle.bt_engine.proofs.Pairs.{contains_some, some_at}
 use Rattle.bt_engine.proofs.AnswerSends.{nat_cases, set_other, frame_to, follows_of, IsSentBy, alike, announced, followed, rechoked_then, step_sent}
 
@@ -10,11 +10,11 @@ use Rattle.bt_engine.proofs.AnswerSends.{nat_cases, set_other, frame_to, follows
 
 pub filter_contains : {X : Type 0} (test : X → Bool) (xs : List X) {x : X} → Contains xs x → test x ≡ true → Contains (filter test xs) x
 filter_contains test [] c e = absurd (contains_none c)
-filter_contains test (y ∷ xs) {x} c e = by (test y) refl (contains_cases xs c) (λ more. filter_contains test xs more e)
+filter_contains test (y ∷ xs) {x} c e = by _ refl (contains_cases xs c) (λ more. filter_contains test xs more e)
   where
     by : (b : Bool) → test y ≡ b → (y ≡ x) ⊎ Contains xs x → (Contains xs x → Contains (filter test xs) x) → Contains (cond b (y ∷ filter test xs) (filter test xs)) x
-    by true is (inl same) rest = here (filter test xs) same
-    by true is (inr more) rest = later y (filter test xs) (rest more)
+    by true is (inl same) rest = here _ same
+    by true is (inr more) rest = later y _ (rest more)
     by false is (inl same) rest = absurd cc
     by false is (inr more) rest = rest more
 
@@ -38,12 +38,12 @@ complete_same : (s new : EngineState) (file : ℕ) → new.files ≡ s.files →
 complete_same s new file f = cc
 
 -- what a step does to pieces and files
-data Keeps (dig : List ℕ → List ℕ) (s : EngineState) (answer : Answer) (new : EngineState) : Type 0 where
+data Keeps (dig : Digest) (s : EngineState) (answer : Answer) (new : EngineState) : Type 0 where
   keeps : new.files ≡ s.files → new.torrent ≡ s.torrent → ((file : ℕ) → NotedBy answer (Complete file) → ⊥) → Keeps dig s answer new
   goes_further : (key : PeerKey) (i : ℕ) (p : PeerState) (calls : DeviceCalls) (out : Output) → IsPeer s key i p → GoesOn dig s i p calls out new
       → answer ≡ of_next (Ok (Some out)) → Keeps dig s answer new
 
-module _ (dig : List ℕ → List ℕ) (s new : EngineState) where
+module _ (dig : Digest) (s new : EngineState) where
   -- an answer without an output, or with one without notes
   no_output : {a b : _} → a ≡ b → output_of b ≡ None → (file : ℕ) → NotedBy a (Complete file) → ⊥
   no_output e none file c = absurd cc
@@ -69,7 +69,7 @@ module _ (dig : List ℕ → List ℕ) (s new : EngineState) where
   next_keeps {key} {calls} (goes_on i p out x g e) = goes_further key i p calls out x g (ap (λ x. of_next x) e)
   next_keeps {calls} (closes i p out x g e) =
       let rest = record p { stream = g.takes.rest } in
-      let left = event_leaves dig (with_peer s i rest) i (set_same s.peers i x.here) g.takes.event calls g.takes.handles in
+      let left = event_leaves dig _ i (set_same _ i x.here) _ calls g.takes.handles in
       keeps (ap (λ (x : EngineState). x.files) g.after ∙ left.closed g.why g.closed) (cc)
       (no_note (ap (λ x. of_next x) (e ∙ ap (λ o. Ok (Some o)) g.is)) refl left.noted)
   next_keeps (faulty i p out x g e) =
@@ -95,7 +95,7 @@ module _ (dig : List ℕ → List ℕ) (s new : EngineState) where
   flush_keeps (syncs x y e z) = same_state (ap (λ x. of_flush x) e) refl z
   flush_keeps (fails before file after x y e z) = same_state (ap (λ x. of_flush x) e) refl z
 
-each_keeps : (dig : List ℕ → List ℕ) (places : List ℕ) (s new : EngineState) (sent : List Sent) → FollowsEach dig places s sent new → (new.files ≡ s.files) × (new.torrent ≡ s.torrent)
+each_keeps : (dig : Digest) (places : List ℕ) (s new : EngineState) (sent : List Sent) → FollowsEach dig places s sent new → (new.files ≡ s.files) × (new.torrent ≡ s.torrent)
 each_keeps dig [] s new sent f = (ap (λ (x : EngineState). x.files) f.1, ap (λ (x : EngineState). x.torrent) f.1)
 each_keeps dig (i ∷ places) s new sent f =
     let first = follows_of f.3 in
@@ -104,7 +104,7 @@ each_keeps dig (i ∷ places) s new sent f =
 
 rechoke_keeps : {dig s new r : _} → StepRechoke dig s r new → Keeps dig s (of_rechoke r) new
 rechoke_keeps {dig} {s} {new} (rechokes out x e) =
-    let kept = each_keeps dig _ (rechoked s) new x.sent x.follows in
+    let kept = each_keeps dig _ _ new _ x.follows in
     keeps kept.0 kept.1 (no_note dig s new (ap (λ x. of_rechoke x) (e ∙ ap (λ o. Some o) x.is)) refl (no_notes dig s new))
 rechoke_keeps {dig} {s} {new} (not_rechoked e x) = same_state dig s new (ap (λ x. of_rechoke x) e) refl x
 
@@ -113,20 +113,20 @@ keeps_as {dig} {s} {new} e k = rw e k
 
 -- ---- taking in a file leaves no peer to tell
 
-groups_peers : (dig : List ℕ → List ℕ) (s new : EngineState) (file from : ℕ) (groups : List DeviceCalls) (total : Adopted) → AdoptsGroups dig s file from groups total new → new.peers ≡ s.peers
+groups_peers : (dig : Digest) (s new : EngineState) (file from : ℕ) (groups : List DeviceCalls) (total : Adopted) → AdoptsGroups dig s file from groups total new → new.peers ≡ s.peers
 groups_peers dig s new file from [] total f = cc
-groups_peers dig s new file from (calls ∷ more) total f = groups_peers dig f.1 new file f.0.next more f.2 f.4 ∙ ap (λ (x : EngineState). x.peers) f.3.after
+groups_peers dig s new file from (calls ∷ more) total f = groups_peers dig f.1 new file _ more f.2 f.4 ∙ ap (λ (x : EngineState). x.peers) f.3.after
 
 file_peers : {dig s new file calls total : _} → AdoptsFile dig s file calls total new → new.peers ≡ s.peers
 file_peers {dig} {s} {file} f =
-    ap (λ (x : EngineState). x.peers) f.after ∙ ap (λ (x : EngineState). x.peers) f.settles.others ∙ groups_peers dig s f.mid file 0 f.groups _ f.adopts
+    ap (λ (x : EngineState). x.peers) f.after ∙ ap (λ (x : EngineState). x.peers) f.settles.others ∙ groups_peers dig s f.mid file 0 _ _ f.adopts
 
 adopt_keeps : {dig s new file calls r : _} → StepAdopt dig s file calls r new → Keeps dig s (of_adopt r) new ⊎ (new.peers ≡ [])
 adopt_keeps {dig} {s} {new} (no_file x y e z) = inl (same_state dig s new (ap (λ x. of_adopt x) e) refl z)
 adopt_keeps {dig} {s} {new} (busy x y z e w) = inl (same_state dig s new (ap (λ x. of_adopt x) e) refl w)
 adopt_keeps {dig} {s} {new} (empty f x y z w e v) = inl (same_state dig s new (ap (λ x. of_adopt x) e) refl v)
 adopt_keeps (adopts total alone f e) = inr (file_peers f ∙ alone)
-adopt_keeps {dig} {s} {new} {file} (adopt_memory alone f e) = inr (groups_peers dig s new file 0 f.groups f.done f.adopts ∙ alone)
+adopt_keeps {dig} {s} {new} {file} (adopt_memory alone f e) = inr (groups_peers dig s new file 0 _ _ f.adopts ∙ alone)
 
 step_keeps : {dig s new : _} (e : Event) (calls : DeviceCalls) {a : _} → Step dig s e calls a new → Keeps dig s a new ⊎ (new.peers ≡ [])
 step_keeps {dig} {s} {new} Connect calls t = inl (keeps_as t.1 (connect_keeps dig s new t.3))
@@ -139,9 +139,9 @@ step_keeps {dig} {s} {new} Flush calls t = inl (keeps_as t.1 (flush_keeps dig s 
 
 -- ---- where a peer goes on
 
-module _ {dig : List ℕ → List ℕ} {s new : EngineState} {key : PeerKey} {i : ℕ} {p : PeerState} {calls : DeviceCalls} {out : Output} (peer : IsPeer s key i p) (g : GoesOn dig s i p calls out new) where
+module _ {dig : Digest} {s new : EngineState} {key : PeerKey} {i : ℕ} {p : PeerState} {calls : DeviceCalls} {out : Output} (peer : IsPeer s key i p) (g : GoesOn dig s i p calls out new) where
   left : Leaves (with_peer s i (record p { stream = g.takes.rest })) i (record p { stream = g.takes.rest }) g.effect g.mid
-  left = event_leaves dig (with_peer s i (record p { stream = g.takes.rest })) i (set_same s.peers i peer.here) g.takes.event calls g.takes.handles
+  left = event_leaves dig _ i (set_same _ i peer.here) _ calls g.takes.handles
 
   files_are : new.files ≡ g.mid.files
   files_are = (follows_of g.follows).files
@@ -189,12 +189,12 @@ module _ {dig : List ℕ → List ℕ} {s new : EngineState} {key : PeerKey} {i 
   tells_have : (k : PeerKey) {piece : ℕ} → IsConnected new k → piece < total_pieces new.torrent → BecomesSo is_whole s new piece → Contains out.send (frame_to k (Have piece))
   tells_have k {piece} c below b =
       let q = was_connected c in
-      let in_range : Contains (piece_numbers g.mid) piece = range_contains (total_pieces g.mid.torrent) (rw (← torrent_is) below) in
+      let in_range : Contains (piece_numbers g.mid) piece = range_contains _ (rw (← torrent_is) below) in
       let whole : is_whole g.mid piece ≡ true = cc in
-      let listed : Contains (new_whole_pieces s g.mid) piece = filter_contains (has_become is_whole s g.mid) (piece_numbers g.mid) in_range (becomes whole b.before) in
-      let told : Contains (map (λ q. sent_to q (Have piece)) g.mid.peers) (sent_to q.0 (Have piece)) = map_contains (λ q. sent_to q (Have piece)) g.mid.peers q.1 in
+      let listed : Contains (new_whole_pieces s g.mid) piece = filter_contains _ _ in_range (becomes whole b.before) in
+      let told : Contains (map (λ q. sent_to q (Have piece)) g.mid.peers) (sent_to q.0 (Have piece)) = map_contains (λ q. sent_to q (Have piece)) _ q.1 in
       let among : Contains (haves s g.mid) (frame_to k (Have piece)) =
-      flat_map_contains (λ n. map (λ q. sent_to q (Have n)) g.mid.peers) (new_whole_pieces s g.mid) listed (rw (← q.2) told) in
+      flat_map_contains (λ n. map (λ q. sent_to q (Have n)) g.mid.peers) _ listed (rw (← q.2) told) in
       rw g.send (Contains-append_left (g.effect.send ++ haves s g.mid) g.sent (frame_to k (Have piece)) (Contains-append_right g.effect.send (haves s g.mid) (frame_to k (Have piece)) among))
 
   abbrev file_in : Note → ℕ
@@ -216,10 +216,10 @@ module _ {dig : List ℕ → List ℕ} {s new : EngineState} {key : PeerKey} {i 
 
   notes_complete : {file : ℕ} → file < length new.files → BecomesSo is_complete s new file → Contains out.notes (Complete file)
   notes_complete {file} below b =
-      let in_range : Contains (file_numbers g.mid) file = range_contains (length g.mid.files) (rw (← files_are) below) in
+      let in_range : Contains (file_numbers g.mid) file = range_contains _ (rw (← files_are) below) in
       let complete : is_complete g.mid file ≡ true = cc in
-      let listed : Contains (new_complete_files s g.mid) file = filter_contains (has_become is_complete s g.mid) (file_numbers g.mid) in_range (becomes complete b.before) in
-      rw g.notes (Contains-append_right g.effect.notes (map (λ n. Complete n) (new_complete_files s g.mid)) (Complete file) (map_contains (λ n. Complete n) (new_complete_files s g.mid) listed))
+      let listed : Contains (new_complete_files s g.mid) file = filter_contains _ _ in_range (becomes complete b.before) in
+      rw g.notes (Contains-append_right g.effect.notes (map (λ n. Complete n) (new_complete_files s g.mid)) (Complete file) (map_contains (λ n. Complete n) _ listed))
 
 -- ---- the laws
 
@@ -227,7 +227,7 @@ module _ {dig : List ℕ → List ℕ} {s new : EngineState} {key : PeerKey} {i 
 becomes_nothing : {X : Type 0} {holds : EngineState → ℕ → Bool} {s new : EngineState} {x : ℕ} → holds new x ≡ holds s x → BecomesSo holds s new x → X
 becomes_nothing same b = absurd cc
 
-module _ (dig : List ℕ → List ℕ) where
+module _ (dig : Digest) where
   have_sent : {s new : _} (key : PeerKey) {piece : ℕ} → IsSentBy dig s new (frame_to key (Have piece)) → IsConnected new key × (piece < total_pieces new.torrent) × BecomesSo is_whole s new piece
   have_sent key (alike part like e) = absurd (unlike like e)
     where

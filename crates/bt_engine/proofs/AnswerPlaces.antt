@@ -1,5 +1,5 @@
 -- A range of a piece lies in one place.
-use Rattle.bt_engine.proofs.Base.{◌≡◌, ℕ, ◌+◌, ◌-◌, ◌*◌, ◌<◌, ◌≤◌, inl, inr, List, length, sym, ap, ◌∙◌, arith, take, get_or, sum_by, cases_lt, length-take-le, take-take, get_or-take, sum_by_more_le, File, piece_count, Metainfo, IsLaidOut, IsPlace, Span, BlockId}
+use Rattle.bt_engine.proofs.Base.{◌≡◌, ℕ, ◌+◌, ◌<◌, ◌≤◌, inl, inr, List, length, sym, ap, ◌∙◌, arith, take, get_or, sum_by, cases_lt, length-take-le, take-take, get_or-take, sum_by_more_le, File, piece_count, Metainfo, IsLaidOut, IsPlace, Span}
 use Rattle.bt_engine.proofs.Machine.{IsWholeBlock}
 
 -- the file at j ends no later than that at k begins

@@ -1,8 +1,8 @@
 -- Of whom blocks are requested.
 use Rattle.bt_engine.proofs.Base.{◌≡◌, ℕ, ◌⊎◌, inl, inr, List, [], ◌∷◌, ◌++◌, Some, refl, sym, ap, ◌∙◌, subst, slice_get, Contains, Contains-append_left, Contains-append_right, Contains-append_cases, Missing, PeerKey, BlockId, Ask, Request}
-use Rattle.bt_engine.proofs.Machine.{PeerState, EngineState, state_at, Has, IsWholeBlock, Sent, IsPeer, FollowsEach, rechoked, IsRequestedOf, StepRequestsMissing}
+use Rattle.bt_engine.proofs.Machine.{Digest, PeerState, EngineState, state_at, Has, IsWholeBlock, Sent, IsPeer, FollowsEach, rechoked, IsRequestedOf, StepRequestsMissing}
 use Rattle.bt_engine.proofs.Lists.{contains_none, same_some, set_cases}
-use Rattle.bt_engine.proofs.AnswerParts.{Part, greets, replies, chokes, asks, all_haves}
+use Rattle.bt_engine.proofs.AnswerParts.{greets, replies, chokes, asks, all_haves}
 use Rattle.bt_engine.proofs.Pairs.{contains_some}
 use Rattle.bt_engine.proofs.AnswerSends.{nat_cases, set_other, frame_to, Follows, follows_of, IsSentBy, alike, announced, followed, rechoked_then, step_sent}
 
@@ -13,7 +13,7 @@ has_in s new p q b e f has = rw e (rw f has)
 pub missing_in : (s new : EngineState) (b : BlockId) → new.files ≡ s.files → state_at s b ≡ Some Missing → state_at new b ≡ Some Missing
 missing_in s new b e m = rw e m
 
-module _ (dig : List ℕ → List ℕ) where
+module _ (dig : Digest) where
   record IsRequested (new : EngineState) (key : PeerKey) (ask : Ask) : Type 0 where
     place : ℕ
     peer : PeerState

@@ -1,6 +1,6 @@
 -- What each frame of an answer follows from.
 use Rattle.bt_engine.proofs.Base.{◌≡◌, ℕ, zero, suc, ◌⊎◌, inl, inr, ◌↔◌, Bool, true, false, List, [], ◌∷◌, ◌++◌, length, Some, Ok, refl, sym, ap, ◌∙◌, subst, arith, slice_get, slice_set, Contains, range_with_len, Contains-append_cases, PeerKey, BlockId, Ask, PeerMessage, Interested, NotInterested, Have, Bitfield, Request}
-use Rattle.bt_engine.proofs.Machine.{Frame, hello_frame, message_frame, Event, Connect, Next, Rechoke, PeerState, EngineState, DeviceCalls, Has, with_peer, IsWholeBlock, Sent, Output, sent_to, haves, FollowsUp, RequestsHashes, requests, rests, IsOpen, IsInteresting, RequestsBlock, RequestsEach, interest_sent, IsPeer, GoesOn, StepNext, no_peer, waits, goes_on, closes, faulty, no_memory, StepConnect, joins, full, spent, no_room, new_peer, our_handshake, greeting, FollowsEach, Rechokes, StepRechoke, rechokes, not_rechoked, choking_sent, chokes_sent, is_served, rechoked, Answer, of_connect, of_next, of_rechoke, Step, sent_by}
+use Rattle.bt_engine.proofs.Machine.{Digest, Frame, hello_frame, message_frame, Event, Connect, Next, Rechoke, PeerState, EngineState, DeviceCalls, IsWholeBlock, Sent, Output, sent_to, haves, FollowsUp, RequestsHashes, requests, rests, IsOpen, IsInteresting, RequestsBlock, RequestsEach, interest_sent, IsPeer, GoesOn, StepNext, no_peer, waits, goes_on, closes, faulty, no_memory, StepConnect, joins, full, spent, no_room, new_peer, our_handshake, greeting, FollowsEach, Rechokes, StepRechoke, rechokes, not_rechoked, choking_sent, chokes_sent, is_served, rechoked, Answer, of_connect, of_next, of_rechoke, Step, sent_by}
 use Rattle.bt_engine.proofs.Lists.{contains_none, contains_cases, contains_flat_map, here, later, set_same, set_other as stays_there}
 use Rattle.bt_engine.proofs.AnswerParts.{Part, greets, replies, interests, chokes, hashes, asks, part_of, AllOf, all_none, all_one, all_is, all_interest, all_hashes, all_asks, IsFollowing, in_interest, in_hash, in_block, following, event_leaves}
 
@@ -91,8 +91,6 @@ ask_in (message_frame (Request ask)) = ask
 ask_in _ = record { piece = 0; begin = 0; length = 0 }
 
 told_interest : (p : PeerState) (was now : Bool) {key : _} → Contains (interest_sent p was now) (frame_to key Interested) → (was ≡ false) × (now ≡ true) × (p.key ≡ key)
-told_interest p true true c = absurd (contains_none c)
-told_interest p false false c = absurd (contains_none c)
 told_interest p false true c = elim (contains_cases [] c) [ inl same ↦ (refl, refl, ap (λ (x : Sent). x.peer) same) | inr none ↦ absurd (contains_none none) ]
 told_interest p true false {key} c = elim (contains_cases [] c) [ inl same ↦ absurd (not_told same) | inr none ↦ absurd (contains_none none) ]
   where
@@ -102,10 +100,9 @@ told_interest p true false {key} c = elim (contains_cases [] c) [ inl same ↦ a
 
     not_told : frame_to p.key NotInterested ≡ frame_to key Interested → ⊥
     not_told same = let wrong : false ≡ true = ap (λ (x : Sent). is_told x.frame) same in absurd cc
+told_interest p _ _ c = absurd (contains_none c)
 
 told_no_interest : (p : PeerState) (was now : Bool) {key : _} → Contains (interest_sent p was now) (frame_to key NotInterested) → (was ≡ true) × (now ≡ false) × (p.key ≡ key)
-told_no_interest p true true c = absurd (contains_none c)
-told_no_interest p false false c = absurd (contains_none c)
 told_no_interest p true false c = elim (contains_cases [] c) [ inl same ↦ (refl, refl, ap (λ (x : Sent). x.peer) same) | inr none ↦ absurd (contains_none none) ]
 told_no_interest p false true {key} c = elim (contains_cases [] c) [ inl same ↦ absurd (not_told same) | inr none ↦ absurd (contains_none none) ]
   where
@@ -115,8 +112,9 @@ told_no_interest p false true {key} c = elim (contains_cases [] c) [ inl same �
 
     not_told : frame_to p.key Interested ≡ frame_to key NotInterested → ⊥
     not_told same = let wrong : true ≡ false = ap (λ (x : Sent). is_told x.frame) same in absurd cc
+told_no_interest p _ _ c = absurd (contains_none c)
 
-module _ {dig : List ℕ → List ℕ} {s : EngineState} {i : ℕ} {sent : List Sent} {new : EngineState} (f : FollowsUp dig s i sent new) where
+module _ {dig : Digest} {s : EngineState} {i : ℕ} {sent : List Sent} {new : EngineState} (f : FollowsUp dig s i sent new) where
   abbrev stands : Sent → Type 0
   stands x = IsFollowing f.interest_frames f.hash_frames f.block_frames x
 
@@ -130,13 +128,13 @@ module _ {dig : List ℕ → List ℕ} {s : EngineState} {i : ℕ} {sent : List 
   of_hash {x} c = all_hashes f.hashes x c
 
   of_block : {x : _} → Contains f.block_frames x → part_of x.frame ≡ asks
-  of_block {x} c = all_asks s f.planned f.blocks f.block_frames f.requests x c
+  of_block {x} c = all_asks s _ _ _ f.requests x c
 
   ask_sent : {key : _} (ask : Ask) → stands (frame_to key (Request ask)) → (b : BlockId) × Contains f.blocks b × IsWholeBlock s.torrent ask.piece ask.begin ask.length b × (f.planned.key ≡ key)
   ask_sent ask (in_interest c) = let e = of_interest c in absurd cc
   ask_sent ask (in_hash c) = let e = of_hash c in absurd cc
   ask_sent ask (in_block c) =
-      let r = each_ask f.blocks f.block_frames f.requests c in
+      let r = each_ask _ _ f.requests c in
       let same : ask ≡ r.2.ask = ap (λ (x : Sent). ask_in x.frame) r.2.is in
       (r.0, r.1, subst (λ (a : Ask). IsWholeBlock s.torrent a.piece a.begin a.length r.0) (sym same) r.2.whole, ap (λ (x : Sent). x.peer) (sym r.2.is))
 
@@ -169,14 +167,14 @@ module _ {dig : List ℕ → List ℕ} {s : EngineState} {i : ℕ} {sent : List 
         after = after;
         blocks = f.blocks;
         was = f.here;
-        now = ap (λ (x : EngineState). slice_get x.peers i) f.after ∙ set_same s.peers i f.here;
+        now = ap (λ (x : EngineState). slice_get x.peers i) f.after ∙ set_same _ i f.here;
         same_key = cc;
         same_choking = cc;
         same_has = cc;
         due = (λ e. f.interest.interest.0 (cc), λ e. plan.same_interest ∙ f.interest.interest.1 e);
         asked = cc;
         open_blocks = λ b c. open_with (cc) (f.asks.are_open b c);
-        may_ask = λ b c. (not_true f.planned.peer_choking (λ e. some_block b c (f.asks.shut (inl e))), not_false f.planned.am_interested (λ e. some_block b c (f.asks.shut (inr e))));
+        may_ask = λ b c. (not_true _ (λ e. some_block b c (f.asks.shut (inl e))), not_false _ (λ e. some_block b c (f.asks.shut (inr e))));
         peers = cc;
         files = cc;
         torrent = cc;
@@ -188,7 +186,7 @@ module _ {dig : List ℕ → List ℕ} {s : EngineState} {i : ℕ} {sent : List 
 
 -- ---- what a step sends
 
-pub data IsSentBy (dig : List ℕ → List ℕ) (s new : EngineState) (x : Sent) : Type 0 where
+pub data IsSentBy (dig : Digest) (s new : EngineState) (x : Sent) : Type 0 where
   alike : (part : Part) → (part ≡ greets) ⊎ (part ≡ replies) ⊎ (part ≡ chokes) → part_of x.frame ≡ part → IsSentBy dig s new x
   announced : (key : PeerKey) (i : ℕ) (p : PeerState) (calls : DeviceCalls) (out : Output) → IsPeer s key i p → (g : GoesOn dig s i p calls out new)
       → Contains (haves s g.mid) x → IsSentBy dig s new x
@@ -196,7 +194,7 @@ pub data IsSentBy (dig : List ℕ → List ℕ) (s new : EngineState) (x : Sent)
       → Contains g.sent x → IsSentBy dig s new x
   rechoked_then : (sent : List Sent) → FollowsEach dig (range_with_len 0 (length s.peers)) (rechoked s) sent new → Contains sent x → IsSentBy dig s new x
 
-module _ (dig : List ℕ → List ℕ) where
+module _ (dig : Digest) where
   abbrev Sent_by : EngineState → EngineState → List Sent → Type 0
   Sent_by s new xs = (x : Sent) → Contains xs x → IsSentBy dig s new x
 
@@ -212,7 +210,7 @@ module _ (dig : List ℕ → List ℕ) where
   goes_on_sent : {s new key i p calls out : _} → IsPeer s key i p → GoesOn dig s i p calls out new → Sent_by s new out.send
   goes_on_sent {s} {key} {i} {p} {calls} {out} peer g x c =
       let rest = record p { stream = g.takes.rest } in
-      let left = event_leaves dig (with_peer s i rest) i (set_same s.peers i peer.here) g.takes.event calls g.takes.handles in
+      let left = event_leaves dig _ i (set_same _ i peer.here) _ calls g.takes.handles in
       elim (Contains-append_cases (g.effect.send ++ haves s g.mid) g.sent x (rw (← g.send) c)) [
         | inl front ↦ elim (Contains-append_cases g.effect.send (haves s g.mid) x front) [
           | inl one ↦ alike replies (inr (inl refl)) (left.replied x one)
@@ -238,10 +236,9 @@ module _ (dig : List ℕ → List ℕ) where
   connect_sent {s} {new} (no_room x y e z) = nothing_sent s new (ap (λ x. of_connect x) e) refl
 
   choking_part : (p : PeerState) (choked served : Bool) → AllOf chokes (choking_sent p choked served)
-  choking_part p true true = all_one _ [] refl (all_none chokes)
   choking_part p true false = all_none chokes
   choking_part p false true = all_none chokes
-  choking_part p false false = all_one _ [] refl (all_none chokes)
+  choking_part p _ _ = all_one _ [] refl (all_none chokes)
 
   rechokes_sent : {s new out : _} → Rechokes dig s out new → Sent_by s new out.send
   rechokes_sent {s} r x c =

@@ -1,6 +1,6 @@
 -- A peer that sent what it is to be closed for is closed for it.
-use Rattle.bt_engine.proofs.Base.{◌≡◌, ◌≢◌, ℕ, zero, suc, ◌+◌, ◌*◌, ◌<◌, ◌⊎◌, inl, inr, true, false, List, [], ◌∷◌, length, Some, None, Result, Ok, Err, refl, sym, ap, ◌∙◌, subst, arith, slice_get, slice_set, slice_index_or, Contains, option_and_then, AllPairs, cases_lt, padding_digest, IsLawful, Facts, blocks_of, value_at, Claims, IsAcceptable, IsRefused, shape, padding, no_anchor, top_differs, clash, refused_memory, DiffersBelow, Claim, ProofError, OutOfMemory, value_covers, value_padding, value_inside, cases_node, IsClaimBy, IsNoClaim, no_shape, no_count, claim_memory, HashKey, PutIsDue, IsWrong, StoreError, Range, DeviceFault, Put, Already, Wrong, PutMarked, PutWaiting, PeerKey, BlockId, Stream, Takes, Waits, Fails, WireEvent, Hello, Message, Have, Bitfield, Request, Piece, Hashes, WireError, fault_alone, one_fault}
-use Rattle.bt_engine.proofs.Machine.{Why, Wire, WrongTorrent, BadPiece, BadBitfield, BadRequest, WrongBlock, UnknownRoot, Proof, Next, PeerState, FileState, EngineState, DeviceCalls, tree_of, with_peer, IsWholeBlock, Output, Effect, closing, HandlesRequest, ignored, no_place, not_marked, served, stopped, HasPutEffect, HandlesPiece, stale, arrives, IsTreeOf, IsUnknownRoot, HandlesHashes, unknown_root, no_claim, refused, learns, HandlesHello, ours, other, HandlesHave, in_range, out_of_range, HandlesBitfield, right, wrong, Handles, IsPeer, without_peer, StepNext, no_peer, waits, goes_on, closes, faulty, no_memory, Answer, of_next, Step, IsOrderly, output_of, IsConnected, IsCause, wire, other_torrent, past_last_piece, other_length, is_no_place as has_no_place, wrong_block, is_unknown_root as of_unknown_root, makes_no_claim, is_refused, IsOnlyPeer, OrderlyPeersAreOnly, NextClosesForCause}
+use Rattle.bt_engine.proofs.Base.{◌≡◌, ◌≢◌, ℕ, zero, suc, ◌<◌, ◌⊎◌, inl, inr, List, [], ◌∷◌, length, Some, None, Result, Ok, Err, refl, sym, ap, ◌∙◌, subst, arith, slice_get, slice_index_or, Contains, AllPairs, cases_lt, IsLawful, Facts, blocks_of, value_at, Claims, IsAcceptable, IsRefused, shape, padding, no_anchor, top_differs, clash, refused_memory, DiffersBelow, Claim, ProofError, OutOfMemory, value_covers, value_padding, value_inside, cases_node, IsClaimBy, IsNoClaim, no_shape, no_count, claim_memory, HashKey, PutIsDue, IsWrong, StoreError, DeviceFault, Put, Wrong, PutMarked, PutWaiting, PeerKey, BlockId, Stream, Takes, Waits, Fails, Hello, fault_alone, one_fault}
+use Rattle.bt_engine.proofs.Machine.{Digest, Why, Wire, WrongTorrent, BadPiece, BadBitfield, BadRequest, WrongBlock, UnknownRoot, Proof, Next, PeerState, EngineState, DeviceCalls, tree_of, with_peer, IsWholeBlock, Output, Effect, closing, HandlesRequest, ignored, no_place, not_marked, served, stopped, HasPutEffect, HandlesPiece, stale, arrives, IsTreeOf, IsUnknownRoot, HandlesHashes, unknown_root, no_claim, refused, learns, HandlesHello, ours, other, HandlesHave, in_range, out_of_range, HandlesBitfield, right, wrong, Handles, IsPeer, without_peer, StepNext, no_peer, waits, goes_on, closes, faulty, no_memory, Answer, of_next, Step, IsOrderly, output_of, IsConnected, IsCause, wire, other_torrent, past_last_piece, other_length, is_no_place as has_no_place, wrong_block, is_unknown_root as of_unknown_root, makes_no_claim, is_refused, IsOnlyPeer, OrderlyPeersAreOnly, NextClosesForCause}
 use Rattle.bt_engine.specs.AnswerLaw.{Closes}
 use Rattle.bt_engine.specs.AnswerDue.{IsOutOfMemory}
 use Rattle.bt_engine.proofs.Lists.{same_some, some_below, set_same, set_other}
@@ -49,8 +49,8 @@ get_index (y ∷ xs) (suc i) d e = get_index xs i d e
 
 module _ (s : EngineState) (apart : AllPairs (λ (j k : Facts). j.root ≢ k.root) s.trees) (root : List ℕ) where
   not_both : {i j k l : _} → IsTreeOf s root i k → IsTreeOf s root j l → i < j → ⊥
-  not_both {i} {j} {k} x y lt = apart i j k lt (some_below s.trees j y.here)
-      (ap (λ (f : Facts). f.root) (get_index s.trees i k x.here) ∙ x.same_root ∙ sym y.same_root ∙ ap (λ (f : Facts). f.root) (sym (get_index s.trees j k y.here)))
+  not_both {i} {j} {k} x y lt = apart i j k lt (some_below _ j y.here)
+      (ap (λ (f : Facts). f.root) (get_index _ i k x.here) ∙ x.same_root ∙ sym y.same_root ∙ ap (λ (f : Facts). f.root) (sym (get_index _ j k y.here)))
 
   one_tree : {i j k l : _} → IsTreeOf s root i k → IsTreeOf s root j l → k ≡ l
   one_tree {i} {j} x y = elim (cases_lt i j) [
@@ -65,9 +65,9 @@ module _ (s : EngineState) (apart : AllPairs (λ (j k : Facts). j.root ≢ k.roo
 
 not_both_peers : {s : _} → IsOrderly s → {key i j p q : _} → IsPeer s key i p → IsPeer s key j q → i < j → ⊥
 not_both_peers {s} o {key} {i} {j} {p} x y lt =
-    let before = o.in_order i j p lt (some_below s.peers j y.here) in
-    let first : (slice_index_or s.peers i p).key.0 ≡ key.0 = ap (λ (r : PeerState). r.key.0) (get_index s.peers i p x.here) ∙ ap (λ (k : PeerKey). k.0) x.same_key in
-    let second : (slice_index_or s.peers j p).key.0 ≡ key.0 = ap (λ (r : PeerState). r.key.0) (get_index s.peers j p y.here) ∙ ap (λ (k : PeerKey). k.0) y.same_key in
+    let before = o.in_order i j p lt (some_below _ j y.here) in
+    let first : (slice_index_or s.peers i p).key.0 ≡ key.0 = ap (λ (r : PeerState). r.key.0) (get_index _ i p x.here) ∙ ap (λ (k : PeerKey). k.0) x.same_key in
+    let second : (slice_index_or s.peers j p).key.0 ≡ key.0 = ap (λ (r : PeerState). r.key.0) (get_index _ j p y.here) ∙ ap (λ (k : PeerKey). k.0) y.same_key in
     absurd (omega arith)
 
 pub orderly_only : OrderlyPeersAreOnly
@@ -86,7 +86,7 @@ gone : {s : _} (mid : EngineState) {new key i p : _} → IsOnlyPeer s key i p
     → ((n : ℕ) → n ≢ i → slice_get mid.peers n ≡ slice_get s.peers n) → new ≡ without_peer i mid
     → IsConnected new key → ⊥
 gone mid {i} one others after (j, q, is) =
-    let r = other_without mid.peers i j (ap (λ (x : EngineState). slice_get x.peers j) (sym after) ∙ is.here) in
+    let r = other_without _ i j (ap (λ (x : EngineState). slice_get x.peers j) (sym after) ∙ is.here) in
     r.2 (one.only r.0 q (record { here = sym (others r.0 r.2) ∙ r.1; same_key = is.same_key }))
 
 -- ---- an event that is a cause closes, for that cause
@@ -98,14 +98,14 @@ by_effect : {effect : _} (why : Why) → effect ≡ closing why → Shuts effect
 by_effect why e = cc
 
 -- hashes for which a peer is to be closed are accepted by no tree, and no other reason fits them
-record AreFor (dig : List ℕ → List ℕ) (s : EngineState) (key : HashKey) (digests : List ℕ) (why : Why) : Type 0 where
+record AreFor (dig : Digest) (s : EngineState) (key : HashKey) (digests : List ℕ) (why : Why) : Type 0 where
   of_unknown : IsUnknownRoot s key.root → UnknownRoot ≡ why
   of_no_claim : (fault : ProofError) → ¬ IsUnknownRoot s key.root → IsNoClaim key digests fault → fault ≢ OutOfMemory → Proof fault ≡ why
   of_refusal : (fault : ProofError) (tree : ℕ) (k : Facts) (claim : Claim) → IsTreeOf s key.root tree k → IsClaimBy key digests claim
       → IsRefused dig k claim fault → fault ≢ OutOfMemory → Proof fault ≡ why
   never : (tree : ℕ) (k : Facts) (claim : Claim) → IsTreeOf s key.root tree k → IsClaimBy key digests claim → IsAcceptable dig k claim → ⊥
 
-module _ (dig : List ℕ → List ℕ) (s : EngineState) (key : HashKey) (digests : List ℕ) where
+module _ (dig : Digest) (s : EngineState) (key : HashKey) (digests : List ℕ) where
   unknown_alone : IsUnknownRoot s key.root → AreFor dig s key digests UnknownRoot
   unknown_alone unknown = record {
     of_unknown = λ u. refl;
@@ -136,9 +136,9 @@ module _ (dig : List ℕ → List ℕ) (s : EngineState) (key : HashKey) (digest
   }
     where
       same : {t l : _} → IsTreeOf s key.root t l → l ≡ k
-      same there = one_tree s apart key.root there is
+      same there = one_tree s apart _ there is
 
-module _ (dig : List ℕ → List ℕ) (s : EngineState) (i : ℕ) (p : PeerState) (rest : Stream) (calls : DeviceCalls) where
+module _ (dig : Digest) (s : EngineState) (i : ℕ) (p : PeerState) (rest : Stream) (calls : DeviceCalls) where
   abbrev q : PeerState
   q = record p { stream = rest }
 
@@ -151,19 +151,18 @@ module _ (dig : List ℕ → List ℕ) (s : EngineState) (i : ℕ) (p : PeerStat
   put_shuts k b bytes states effect (Ok PutMarked) w due e = absurd (w.2 (same_some w.1 due.2))
   put_shuts k b bytes states effect (Ok PutWaiting) w due e = absurd cc
   put_shuts k b bytes states effect (Ok Wrong) w due e = by_effect WrongBlock e
-  put_shuts k b bytes states effect (Ok Already) w due e = absurd e
   put_shuts k b bytes states effect (Err DeviceFault) w due e = absurd (w.2 (due.2 w.0 w.1))
-  put_shuts k b bytes states effect (Err Range) w due e = absurd e
+  put_shuts k b bytes states effect _ w due e = absurd e
 
   piece_shuts : {piece begin bytes b tree effect mid : _} → IsLawful s.torrent.piece_length s.torrent.files → IsWholeBlock s.torrent piece begin (length bytes) b
       → Contains p.asked b → tree_of s b.file ≡ Some tree → IsWrong dig (value_at dig tree 0 b.block) bytes
       → HandlesPiece dig t i q piece begin bytes calls effect mid → Shuts effect WrongBlock
   piece_shuts {b} lawful whole asked hung w (stale none x y z) = absurd (none b whole asked)
   piece_shuts {piece} {begin} {bytes} {b} {tree} {effect} lawful whole asked hung w (arrives r) =
-      let same = same_block s.torrent lawful.laid_out piece begin (length bytes) r.whole whole in
+      let same = same_block _ lawful.laid_out piece begin _ r.whole whole in
       let there : tree_of s r.block.file ≡ Some r.puts.tree = cc in
       let one : tree ≡ r.puts.tree = cc in
-      put_shuts r.puts.tree r.block bytes r.puts.file.states effect r.puts.result
+      put_shuts _ _ bytes _ _ _
       (rw same (rw (← one) w)) r.puts.due r.puts.has_effect
 
   -- the same trees are there when the event is handled
@@ -181,15 +180,15 @@ module _ (dig : List ℕ → List ℕ) (s : EngineState) (i : ℕ) (p : PeerStat
 
   hashes_shut : {key digests why effect mid : _} → AreFor dig s key digests why
       → HandlesHashes dig t i q key digests calls effect mid → Shuts effect why
-  hashes_shut {key} {why} a (unknown_root x y e z) = by_effect why (e ∙ ap closing (a.of_unknown (unknown_before key.root x)))
+  hashes_shut {key} {why} a (unknown_root x y e z) = by_effect why (e ∙ ap closing (a.of_unknown (unknown_before _ x)))
   hashes_shut {key} {why} a (no_claim f x y c) =
-      by_effect why (c.has_effect ∙ ap closing (a.of_no_claim f (known_before key.root x) y c.not_memory))
+      by_effect why (c.has_effect ∙ ap closing (a.of_no_claim f (known_before _ x) y c.not_memory))
   hashes_shut {why} a (refused f tree k c x y z g) =
       by_effect why (g.has_effect ∙ ap closing (a.of_refusal f tree k c (here_before x) y z g.not_memory))
   hashes_shut a (learns l) =
       absurd (a.never l.tree l.old l.claim (here_before l.here) l.claims l.accepts.conditions)
 
-module _ (dig : List ℕ → List ℕ) {s : EngineState} (new : EngineState) {key : PeerKey} {i : ℕ} {p : PeerState} (calls : DeviceCalls) (a : Answer) (one : IsOnlyPeer s key i p) (step : Step dig s (Next key) calls a new) where
+module _ (dig : Digest) {s : EngineState} (new : EngineState) {key : PeerKey} {i : ℕ} {p : PeerState} (calls : DeviceCalls) (a : Answer) (one : IsOnlyPeer s key i p) (step : Step dig s (Next key) calls a new) where
   abbrev IsShut : Why → Type 0
   IsShut why = IsOutOfMemory a ⊎ (Closes a why × (¬ IsConnected new key))
 
@@ -208,15 +207,15 @@ module _ (dig : List ℕ → List ℕ) {s : EngineState} (new : EngineState) {ke
           → (n : ℕ) → n ≢ i → slice_get mid.peers n ≡ slice_get s.peers n
       others effect mid h n apart =
           let q = record p { stream = rest } in
-          let left = event_leaves dig (with_peer s i q) i (set_same s.peers i one.is_peer.here) e calls h in
-          ap (λ l. slice_get l n) left.peers ∙ set_other (slice_set s.peers i q) i n left.peer apart ∙ set_other s.peers i n q apart
+          let left = event_leaves dig _ i (set_same _ i one.is_peer.here) e calls h in
+          ap (λ l. slice_get l n) left.peers ∙ set_other _ i n _ apart ∙ set_other _ i n q apart
 
       by : Taken dig s i p e rest calls a new → IsShut why
       by (no_room x) = inl x
       by (goes out g h is) = stays_open g.effect (shut g.effect g.mid h) g.stays
       by (shuts out g h is) =
           let cause : Some g.why ≡ Some why = sym g.closed ∙ shut g.effect g.mid h in
-          inr ((out, ap output_of is, ap (λ (o : Output). o.close) g.is ∙ cause), gone g.mid one (others g.effect g.mid h) g.after)
+          inr ((out, ap output_of is, ap (λ (o : Output). o.close) g.is ∙ cause), gone g.mid one (others _ g.mid h) g.after)
 
   shut_for : {why : _} → IsLawful s.torrent.piece_length s.torrent.files → AllPairs (λ (j k : Facts). j.root ≢ k.root) s.trees → IsCause dig s p why
       → IsShut why
@@ -245,7 +244,7 @@ module _ (dig : List ℕ → List ℕ) {s : EngineState} (new : EngineState) {ke
         gone s one (λ n apart. refl) (g.after ∙ ap (λ n. without_peer n s) (one.only j q x)),
       )
       by_fault is (no_memory j q x g e) = no_event (at x) g.takes
-  shut_for lawful apart (other_torrent h rest takes differs) = shut_by WrongTorrent takes hello
+  shut_for lawful apart (other_torrent h rest takes differs) = shut_by _ takes hello
     where
       hello : (effect : Effect) (mid : EngineState)
           → Handles dig (with_peer s i (record p { stream = rest })) i (record p { stream = rest }) (Hello h) calls effect mid → Shuts effect WrongTorrent
@@ -254,20 +253,20 @@ module _ (dig : List ℕ → List ℕ) {s : EngineState} (new : EngineState) {ke
           by : HandlesHello (with_peer s i (record p { stream = rest })) h effect → Shuts effect WrongTorrent
           by (ours same e) = absurd (differs same)
           by (other differs_too e) = by_effect _ e
-  shut_for lawful apart (past_last_piece piece rest takes past) = shut_by BadPiece takes (λ effect mid x. have x.1)
+  shut_for lawful apart (past_last_piece piece rest takes past) = shut_by _ takes (λ effect mid x. have x.1)
     where
       have : {effect mid : _} → HandlesHave (with_peer s i (record p { stream = rest })) i (record p { stream = rest }) piece effect mid
           → Shuts effect BadPiece
       have (in_range below e y) = absurd (omega (arith, past))
       have (out_of_range x e y) = by_effect _ e
   shut_for lawful apart (other_length bytes rest takes differs) =
-      shut_by BadBitfield takes (λ effect mid x. bits x.1)
+      shut_by _ takes (λ effect mid x. bits x.1)
     where
       bits : {effect mid : _}
           → HandlesBitfield (with_peer s i (record p { stream = rest })) i (record p { stream = rest }) bytes effect mid → Shuts effect BadBitfield
       bits (right same e y) = absurd (differs same)
       bits (wrong x e y) = by_effect _ e
-  shut_for lawful apart (has_no_place ask rest takes open_to none) = shut_by BadRequest takes request
+  shut_for lawful apart (has_no_place ask rest takes open_to none) = shut_by _ takes request
     where
       request : (effect : Effect) (mid : EngineState)
           → HandlesRequest dig (with_peer s i (record p { stream = rest })) i (record p { stream = rest }) ask calls effect mid → Shuts effect BadRequest
@@ -277,17 +276,17 @@ module _ (dig : List ℕ → List ℕ) {s : EngineState} (new : EngineState) {ke
       request effect mid (served span x there y z) = absurd (none span there)
       request effect mid (stopped span x there y z) = absurd (none span there)
   shut_for lawful apart (wrong_block piece begin bytes rest b tree takes whole asked hung w) =
-      shut_by WrongBlock takes
+      shut_by _ takes
       (λ effect mid x. piece_shuts dig s i p rest calls lawful whole asked hung w x)
   shut_for lawful apart (of_unknown_root k digests rest takes unknown) =
-      shut_by UnknownRoot takes
-      (λ effect mid x. hashes_shut dig s i p rest calls (unknown_alone dig s k digests unknown) x)
+      shut_by _ takes
+      (λ effect mid x. hashes_shut dig s i p rest calls (unknown_alone dig s k _ unknown) x)
   shut_for lawful apart (makes_no_claim k digests rest fault takes known none not) =
-      shut_by (Proof fault) takes
-      (λ effect mid x. hashes_shut dig s i p rest calls (no_claim_alone dig s k digests known none not) x)
+      shut_by _ takes
+      (λ effect mid x. hashes_shut dig s i p rest calls (no_claim_alone dig s k _ known none not) x)
   shut_for lawful apart (is_refused k digests rest fault tree facts claim takes is c ref not) =
-      shut_by (Proof fault) takes
-      (λ effect mid x. hashes_shut dig s i p rest calls (refused_alone dig s k digests apart is c ref not) x)
+      shut_by _ takes
+      (λ effect mid x. hashes_shut dig s i p rest calls (refused_alone dig s k _ apart is c ref not) x)
 
-pub next_closes : (dig : List ℕ → List ℕ) → NextClosesForCause dig
+pub next_closes : (dig : Digest) → NextClosesForCause dig
 next_closes dig s new key i p calls a why lawful apart one cause step = shut_for dig new calls a one step lawful apart cause

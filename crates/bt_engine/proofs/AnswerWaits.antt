@@ -1,6 +1,6 @@
 -- A block waits only for a leaf that is unknown.
-use Rattle.bt_engine.proofs.Base.{◌≡◌, ℕ, zero, suc, ◌+◌, ◌*◌, ◌/◌, ◌%◌, ◌^◌, ◌<◌, ◌≤◌, ◌⊎◌, inl, inr, Bool, true, false, List, [], ◌∷◌, length, map, Option, Some, None, Result, Ok, Err, refl, sym, ap, ◌∙◌, subst, arith, slice_get, slice_set, Contains, ◌&&◌, ◌==◌, is_some, option_map, if◌then◌else◌, option_and_then, range_with_len, eq-eqb, cases_lt, length-take-le, div-add-mod, mod-lt, block_count, CoversBlock, IsPadding, padding_digest, Facts, blocks_of, height, value_at, Claims, in_run, on_path, uncle, HasShape, run_height, Claim, value_covers, value_padding, value_inside, cases_node, digests_in, HashKey, PutIsDue, states_after_put, BlockRead, given, failed, block_of, is_right, judged, is_waiting_at, BlockState, Missing, Waiting, Marked, StoreError, Put, Already, Wrong, PutMarked, PutWaiting, without_block, PeerKey, BlockId, Stream, WireEvent, Hello, Message, Skipped, Ask, PeerMessage, KeepAlive, Choke, Unchoke, Interested, NotInterested, Have, Bitfield, Request, Piece, Cancel, HashRequest, Hashes, HashReject}
-use Rattle.bt_engine.proofs.Machine.{PeerState, FileState, EngineState, DeviceCalls, state_at, tree_of, leaf_at, with_file, with_peer, Effect, with_payload, FindsFault, damaged as found_damaged, fault, HandlesRequest, ignored, no_place, not_marked, served, stopped, HandlesPiece, stale, arrives, judged_file, due_blocks, HandlesHashes, Learns, settled_count, unknown_root, no_claim, refused, learns, HandlesHave, in_range, out_of_range, HandlesBitfield, right, wrong, HandlesMessage, Handles, StepNext, no_peer as none_such, waits, goes_on, closes, faulty, no_memory, NextSettlesWaitingBlocks}
+use Rattle.bt_engine.proofs.Base.{◌≡◌, ℕ, zero, suc, ◌+◌, ◌*◌, ◌/◌, ◌%◌, ◌^◌, ◌<◌, ◌≤◌, ◌⊎◌, inl, inr, Bool, true, false, List, [], ◌∷◌, length, map, Option, Some, None, Result, Ok, refl, sym, ap, ◌∙◌, subst, arith, slice_get, slice_set, Contains, ◌&&◌, is_some, if◌then◌else◌, option_and_then, range_with_len, eq-eqb, cases_lt, length-take-le, div-add-mod, mod-lt, padding_digest, Facts, blocks_of, value_at, Claims, in_run, on_path, uncle, HasShape, run_height, Claim, value_covers, value_padding, value_inside, cases_node, digests_in, HashKey, PutIsDue, states_after_put, BlockRead, given, failed, block_of, judged, is_waiting_at, BlockState, Missing, Waiting, Marked, StoreError, Put, PutMarked, PutWaiting, without_block, PeerKey, BlockId, Stream, WireEvent, Hello, Message, Skipped, PeerMessage, KeepAlive, Choke, Unchoke, Interested, NotInterested, Have, Bitfield, Request, Piece, Cancel, HashRequest, Hashes, HashReject}
+use Rattle.bt_engine.proofs.Machine.{Digest, PeerState, FileState, EngineState, DeviceCalls, state_at, tree_of, leaf_at, with_file, with_peer, Effect, with_payload, FindsFault, damaged as found_damaged, fault, HandlesRequest, ignored, no_place, not_marked, served, stopped, HandlesPiece, stale, arrives, judged_file, due_blocks, HandlesHashes, Learns, settled_count, unknown_root, no_claim, refused, learns, HandlesHave, in_range, out_of_range, HandlesBitfield, right, wrong, HandlesMessage, Handles, StepNext, no_peer as none_such, waits, goes_on, closes, faulty, no_memory, NextSettlesWaitingBlocks}
 use Rattle.bt_engine.proofs.Lists.{and_then_some, map_some, same_some, set_cases, set_same, contains_none, here, later, contains_cases}
 use Rattle.bt_engine.proofs.Start.{chunk_count}
 use Rattle.bt_engine.proofs.Marks.{state_is}
@@ -12,8 +12,8 @@ use Rattle.bt_engine.proofs.AnswerPieces.{filter_contains}
 -- a block's state after a file was replaced: it stands in the new file, or it was so
 file_state : (s : EngineState) {file : ℕ} (new : FileState) (b : BlockId) {x : _} → state_at (with_file s file new) b ≡ Some x → ((b.file ≡ file) × (slice_get new.states b.block ≡ Some x)) ⊎ (state_at s b ≡ Some x)
 file_state s {file} new b {x} e =
-    let m = and_then_some (λ (q : FileState). slice_get q.states b.block) (slice_get (slice_set s.files file new) b.file) e in
-    elim (set_cases s.files file b.file m.1) [
+    let m = and_then_some (λ (q : FileState). slice_get q.states b.block) _ e in
+    elim (set_cases _ file _ m.1) [
       | inl same ↦ inl (same.0, rw (← same.1) m.2)
       | inr old ↦ inr (state_is s b old m.2)
     ]
@@ -23,9 +23,9 @@ same_tree : (s : EngineState) (file : ℕ) {f : _} (states : List BlockState) (n
 same_tree s file {f} states n at = elim (nat_cases file n) [
   | inl e ↦
       ap (λ m. option_and_then (λ (q : FileState). slice_get s.trees q.tree) (slice_get (slice_set s.files file (record f { states = states })) m)) (sym e)
-      ∙ ap (option_and_then (λ (q : FileState). slice_get s.trees q.tree)) (set_same s.files file at)
+      ∙ ap (option_and_then (λ (q : FileState). slice_get s.trees q.tree)) (set_same _ file at)
       ∙ ap (option_and_then (λ (q : FileState). slice_get s.trees q.tree)) (sym at) ∙ ap (tree_of s) e
-  | inr apart ↦ ap (option_and_then (λ (q : FileState). slice_get s.trees q.tree)) (set_other s.files file n (record f { states = states }) apart)
+  | inr apart ↦ ap (option_and_then (λ (q : FileState). slice_get s.trees q.tree)) (set_other _ file n _ apart)
 ]
 
 -- a block that waits after reads waited before them, and was not read
@@ -46,20 +46,20 @@ set_value (z ∷ xs) (suc i) e = set_value xs i e
 -- one read more
 more_unread : {b i : ℕ} (v : BlockState) {reads states : _} → (Waiting ≡ v → ⊥) → WaitedUnread reads (slice_set states b v) i → WaitedUnread (given b [] ∷ reads) states i
 more_unread {b} {i} v {reads} {states} never rest = elim (nat_cases b i) [
-  | inl same ↦ absurd (never (set_value states b (subst (λ n. slice_get (slice_set states b v) n ≡ Some Waiting) (sym same) rest.waited)))
+  | inl same ↦ absurd (never (set_value _ b (subst (λ n. slice_get (slice_set states b v) n ≡ Some Waiting) (sym same) rest.waited)))
   | inr apart ↦ record {
-    waited = sym (set_other states b i v apart) ∙ rest.waited;
-    unread = λ c. elim (contains_cases (map block_of reads) c) [ inl same ↦ apart same | inr more ↦ rest.unread more ];
+    waited = sym (set_other _ b i v apart) ∙ rest.waited;
+    unread = λ c. elim (contains_cases _ c) [ inl same ↦ apart same | inr more ↦ rest.unread more ];
   }
 ]
 
-judged_waits : (dig : List ℕ → List ℕ) (k : Facts) (reads : List BlockRead) {states i : _} → slice_get (judged dig k false reads states) i ≡ Some Waiting → WaitedUnread reads states i
+judged_waits : (dig : Digest) (k : Facts) (reads : List BlockRead) {states i : _} → slice_get (judged dig k false reads states) i ≡ Some Waiting → WaitedUnread reads states i
 judged_waits dig k [] e = record { waited = e; unread = λ c. contains_none c }
 judged_waits dig k (given b bytes ∷ reads) e =
-    let r = more_unread (if is_right dig k b bytes then Marked else Missing) (verdict_waits (is_right dig k b bytes)) (judged_waits dig k reads e) in
+    let r = more_unread _ (verdict_waits _) (judged_waits dig k reads e) in
     record { waited = r.waited; unread = r.unread }
 judged_waits dig k (failed b ∷ reads) e =
-    let r = more_unread Missing (λ w. absurd cc) (judged_waits dig k reads e) in
+    let r = more_unread _ (λ w. absurd cc) (judged_waits dig k reads e) in
     record { waited = r.waited; unread = r.unread }
 
 -- ---- a leaf that a claim tells is one of its run
@@ -88,8 +88,8 @@ leaf_in_run {c} {i} s (in_run r) =
         let first = div-add-mod c.index p in
         let below = mod-lt i some in
         record { base = omega arith; from = omega arith; to = omega arith }
-leaf_in_run {c} s (on_path r) = absurd (omega (arith, power_some (run_height c) s.some s.power))
-leaf_in_run {c} s (uncle r) = absurd (omega (arith, power_some (run_height c) s.some s.power))
+leaf_in_run {c} s (on_path r) = absurd (omega (arith, power_some _ s.some s.power))
+leaf_in_run {c} s (uncle r) = absurd (omega (arith, power_some _ s.some s.power))
 
 -- ---- what an event leaves waiting
 
@@ -97,20 +97,20 @@ leaf_in_run {c} s (uncle r) = absurd (omega (arith, power_some (run_height c) s.
 abbrev Unknown : (List ℕ → List ℕ) → EngineState → EngineState → BlockId → Type 0
 Unknown dig t mid b = (state_at t b ≡ Some Waiting → leaf_at dig t b ≡ None) → state_at mid b ≡ Some Waiting → leaf_at dig mid b ≡ None
 
-module _ (dig : List ℕ → List ℕ) (t mid : EngineState) (i : ℕ) (p : PeerState) (b : BlockId) (effect : Effect) where
+module _ (dig : Digest) (t mid : EngineState) (i : ℕ) (p : PeerState) (b : BlockId) (effect : Effect) where
   -- an engine in which the block's state and tree are the same
   as_before : {m : _} → mid ≡ m → (state_at m b ≡ Some Waiting → state_at t b ≡ Some Waiting) → tree_of m b.file ≡ tree_of t b.file → Unknown dig t mid b
   as_before e states trees before now =
       rw e (ap (option_and_then (λ (k : Facts). value_at dig k 0 b.block)) trees ∙ before (states (rw (← e) now)))
 
   fault_waits : {k file j f read : _} → slice_get t.files file ≡ Some f → FindsFault dig k t file j f read effect mid → Unknown dig t mid b
-  fault_waits {file} {j} {f} at (found_damaged bytes x y z e) = as_before e (λ now. elim (file_state t (record f { states = slice_set f.states j Missing }) b now) [
-    | inl one ↦ elim (set_cases f.states j b.block one.1) [
+  fault_waits {file} {j} {f} at (found_damaged bytes x y z e) = as_before e (λ now. elim (file_state t _ b now) [
+    | inl one ↦ elim (set_cases _ j _ one.1) [
       | inl here_now ↦ absurd cc
       | inr old ↦ state_is t b (ap (slice_get t.files) one.0 ∙ at) old
     ]
     | inr old ↦ old
-  ]) (same_tree t file (slice_set f.states j Missing) b.file at)
+  ]) (same_tree t file _ _ at)
   fault_waits at (fault x e y) = as_before y (λ now. now) refl
 
   request_waits : {ask calls : _} → HandlesRequest dig t i p ask calls effect mid → Unknown dig t mid b
@@ -125,9 +125,7 @@ module _ (dig : List ℕ → List ℕ) (t mid : EngineState) (i : ℕ) (p : Peer
       → ((b.block ≡ c.block) × (value_at dig k 0 c.block ≡ None)) ⊎ (slice_get states b.block ≡ Some Waiting)
   put_waits k c bytes states (Ok PutMarked) due now = elim (set_cases states c.block b.block now) [ inl one ↦ absurd cc | inr old ↦ inr old ]
   put_waits k c bytes states (Ok PutWaiting) due now = elim (set_cases states c.block b.block now) [ inl one ↦ inl (one.0, due.2) | inr old ↦ inr old ]
-  put_waits k c bytes states (Ok Wrong) due now = inr now
-  put_waits k c bytes states (Ok Already) due now = inr now
-  put_waits k c bytes states (Err x) due now = inr now
+  put_waits k c bytes states _ due now = inr now
 
   piece_waits : {piece begin bytes calls : _} → HandlesPiece dig t i p piece begin bytes calls effect mid → Unknown dig t mid b
   piece_waits (stale x y z e) before now = as_before e (λ still. still) refl before now
@@ -174,7 +172,7 @@ range_has a (suc n) {i} from to = elim (nat_cases a i) [
     below : (a i : ℕ) → a ≤ i → (a ≡ i → ⊥) → a + 1 ≤ i
     below a i le apart = elim (cases_lt a i) [ inl lt ↦ omega arith | inr ge ↦ absurd (apart (omega arith)) ]
 
-module _ {dig : List ℕ → List ℕ} {t mid : EngineState} {i : ℕ} {p : PeerState} (b : BlockId) {key : HashKey} {digests : List ℕ} {calls : DeviceCalls} {effect : Effect} (l : Learns dig t i p key digests calls effect mid) where
+module _ {dig : Digest} {t mid : EngineState} {i : ℕ} {p : PeerState} (b : BlockId) {key : HashKey} {digests : List ℕ} {calls : DeviceCalls} {effect : Effect} (l : Learns dig t i p key digests calls effect mid) where
   run_length : length l.claim.run ≡ key.length
   run_length =
       let count = chunk_count (length digests / 32) digests in
@@ -199,9 +197,9 @@ module _ {dig : List ℕ → List ℕ} {t mid : EngineState} {i : ℕ} {p : Peer
       let base : key.base ≡ 0 = cc in
       let index : l.claim.index ≡ key.index = cc in
       let in_range : Contains (range_with_len key.index (settled_count key)) b.block =
-      rw (count_is key base) (range_has key.index key.length (omega arith) (omega (arith, run_length))) in
+      rw (count_is key base) (range_has _ _ (omega arith) (omega (arith, run_length))) in
       let test : (is_waiting_at f.states b.block && is_some (value_at dig l.settles.facts 0 b.block)) ≡ true = rw (waiting, known) refl in
-      rw (eq-eqb f.tree l.tree tree) (filter_contains (λ j. is_waiting_at f.states j && is_some (value_at dig l.settles.facts 0 j)) (range_with_len key.index (settled_count key)) in_range test)
+      rw (eq-eqb f.tree l.tree tree) (filter_contains (λ j. is_waiting_at f.states j && is_some (value_at dig l.settles.facts 0 j)) _ in_range test)
 
   -- the leaf of a block that waits still
   leaf_still : {f : _} → slice_get t.files b.file ≡ Some f → (state_at t b ≡ Some Waiting → leaf_at dig t b ≡ None) → slice_get f.states b.block ≡ Some Waiting → (Contains (map block_of (l.settles.reads b.file)) b.block → ⊥)
@@ -231,9 +229,9 @@ module _ {dig : List ℕ → List ℕ} {t mid : EngineState} {i : ℕ} {p : Peer
   learns_waits : Unknown dig t mid b
   learns_waits before now =
       let there : state_at l.settled b ≡ Some Waiting = subst (λ x. state_at x b ≡ Some Waiting) l.after now in
-      let m = and_then_some (λ (q : FileState). slice_get q.states b.block) (slice_get l.settled.files b.file) there in
-      let f = map_some (judged_file dig l.settles.facts (l.settles.reads b.file)) (slice_get t.files b.file) (sym (l.settles.files b.file) ∙ m.1) in
-      let u = judged_waits dig l.settles.facts (l.settles.reads b.file) (ap (λ (q : FileState). slice_get q.states b.block) f.2 ∙ m.2) in
+      let m = and_then_some (λ (q : FileState). slice_get q.states b.block) _ there in
+      let f = map_some _ _ (sym (l.settles.files b.file) ∙ m.1) in
+      let u = judged_waits dig _ _ (ap (λ (q : FileState). slice_get q.states b.block) f.2 ∙ m.2) in
       let file : slice_get l.settled.files b.file ≡ Some (judged_file dig l.settles.facts (l.settles.reads b.file) f.0) = cc in
       let trees : l.settled.trees ≡ slice_set t.trees l.tree l.new = cc in
       rw l.after (ap (λ o. option_and_then (λ (k : Facts). value_at dig k 0 b.block) (option_and_then (λ (q : FileState). slice_get l.settled.trees q.tree) o)) file
@@ -242,7 +240,7 @@ module _ {dig : List ℕ → List ℕ} {t mid : EngineState} {i : ℕ} {p : Peer
 
 -- ---- every message
 
-module _ (dig : List ℕ → List ℕ) (t mid : EngineState) (i : ℕ) (p : PeerState) (b : BlockId) (effect : Effect) where
+module _ (dig : Digest) (t mid : EngineState) (i : ℕ) (p : PeerState) (b : BlockId) (effect : Effect) where
   unchanged : {m : _} → mid ≡ m → (state_at m b ≡ Some Waiting → state_at t b ≡ Some Waiting) → tree_of m b.file ≡ tree_of t b.file → Unknown dig t mid b
   unchanged e states trees = as_before dig t mid i p b effect e states trees
 
@@ -258,10 +256,10 @@ module _ (dig : List ℕ → List ℕ) (t mid : EngineState) (i : ℕ) (p : Peer
   message_waits Unchoke calls h = unchanged h.2 (λ now. now) refl
   message_waits Interested calls h = unchanged h.2 (λ now. now) refl
   message_waits NotInterested calls h = unchanged h.2 (λ now. now) refl
-  message_waits (Have piece) calls h = have_waits dig t mid i p b effect h.1
-  message_waits (Bitfield bytes) calls h = bits_waits dig t mid i p b effect h.1
-  message_waits (Request ask) calls h = request_waits dig t mid i p b effect h
-  message_waits (Piece piece begin bytes) calls h = piece_waits dig t mid i p b effect h
+  message_waits (Have piece) calls h = have_waits dig t mid i p b _ h.1
+  message_waits (Bitfield bytes) calls h = bits_waits dig t mid i p b _ h.1
+  message_waits (Request ask) calls h = request_waits dig t mid i p b _ h
+  message_waits (Piece piece begin bytes) calls h = piece_waits dig t mid i p b _ h
   message_waits (Cancel ask) calls h = unchanged h.2 (λ now. now) refl
   message_waits (HashRequest key) calls h = unchanged h.2 (λ now. now) refl
   message_waits (Hashes key digests) calls h = hashes_waits h
@@ -272,7 +270,7 @@ module _ (dig : List ℕ → List ℕ) (t mid : EngineState) (i : ℕ) (p : Peer
   event_waits (Message msg) calls x = message_waits msg calls x
   event_waits (Skipped kind) calls x = unchanged x.2 (λ now. now) refl
 
-module _ (dig : List ℕ → List ℕ) (s new : EngineState) (key : PeerKey) (calls : DeviceCalls) (b : BlockId) where
+module _ (dig : Digest) (s new : EngineState) (key : PeerKey) (calls : DeviceCalls) (b : BlockId) where
   like_old : {m : _} → new ≡ m → m.files ≡ s.files → m.trees ≡ s.trees → Unknown dig s new b
   like_old {m} e files trees before now =
       let still : state_at m b ≡ Some Waiting = rw (← e) now in
@@ -283,15 +281,15 @@ module _ (dig : List ℕ → List ℕ) (s new : EngineState) (key : PeerKey) (ca
       → new.files ≡ mid.files → new.trees ≡ mid.trees → Unknown dig s new b
   after_event i p effect mid e rest handles files trees before now =
       ap (λ ts. leaf_at dig (record new { trees = ts }) b) trees ∙ ap (λ fs. leaf_at dig (record mid { files = fs }) b) files
-      ∙ event_waits dig (with_peer s i (record p { stream = rest })) mid i (record p { stream = rest }) b effect e calls handles before (rw (← files) now)
+      ∙ event_waits dig _ mid i _ b _ e calls handles before (rw (← files) now)
 
   next_waits : {r : _} → StepNext dig s key calls r new → Unknown dig s new b
   next_waits (none_such x y z e) = like_old e refl refl
   next_waits (waits i p x y z w e) = like_old e refl refl
-  next_waits (goes_on i p out x g e) = after_event i p g.effect g.mid g.takes.event g.takes.rest g.takes.handles (ap (λ (x : EngineState). x.files) g.follows.after) (ap (λ (x : EngineState). x.trees) g.follows.after)
-  next_waits (closes i p out x g e) = after_event i p g.effect g.mid g.takes.event g.takes.rest g.takes.handles (ap (λ (x : EngineState). x.files) g.after) (ap (λ (x : EngineState). x.trees) g.after)
+  next_waits (goes_on i p out x g e) = after_event i p _ g.mid _ _ g.takes.handles (ap (λ (x : EngineState). x.files) g.follows.after) (ap (λ (x : EngineState). x.trees) g.follows.after)
+  next_waits (closes i p out x g e) = after_event i p _ g.mid _ _ g.takes.handles (ap (λ (x : EngineState). x.files) g.after) (ap (λ (x : EngineState). x.trees) g.after)
   next_waits (faulty i p out x g e) = like_old g.after refl refl
   next_waits (no_memory i p x g e) = like_old g.after refl refl
 
-pub next_settles : (dig : List ℕ → List ℕ) → NextSettlesWaitingBlocks dig
+pub next_settles : (dig : Digest) → NextSettlesWaitingBlocks dig
 next_settles dig s new key calls a b t before now = next_waits dig s new key calls b t.2 before now

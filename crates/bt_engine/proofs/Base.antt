@@ -3,7 +3,7 @@ pub use Rattle.std.specs.Cmp.Lexicographic.{pointwise}
 pub use Rattle.std.specs.Int.{w32, to_be_bytes}
 pub use Rattle.std.specs.List.{range_with_len, AllPairs, concat, list_all, AllZip, count_by}
 pub use Rattle.std.specs.Option.{option_and_then, option_map_or}
-pub use Rattle.std.specs.Prelude.{slice_get, Contains, slice_set, option_map, ◌==◌, if◌then◌else◌, ◌&&◌, flat_map, filter, ⊤, cond, slice_index_or, is_some, All, IsSome, nat_eq, nat_lt, sum_by, slice_index}
+pub use Rattle.std.specs.Prelude.{slice_get, Contains, slice_set, option_map, ◌==◌, if◌then◌else◌, ◌&&◌, flat_map, filter, ⊤, cond, slice_index_or, is_some, All, IsSome, nat_eq, sum_by, slice_index}
 pub use Rattle.std.specs.Simd.{first_chunks}
 pub use Rattle.std.proofs.Common.{◌≡◌, ℕ, List, sym, ap, ◌∙◌, [], Some, subst, refl, ◌∷◌, inl, inr, length, arith, false, true, ◌++◌, suc, zero, Ok, ◌⊎◌, ◌<◌, ◌+◌, map, ◌≢◌, Bool, None, ◌*◌, ◌≤◌, Result, Err, Option, ◌-◌, get_or, drop, take, ◌/◌, ◌^◌, not, ◌%◌, ◌↔◌, replicate, min, length-drop, append_assoc, rules, pow-suc}
 pub use Rattle.std.proofs.Math.Nat.{div-add-mod, mod-lt, add_left_cancel, mul_assoc, add-mul, div-div-eq-div-mul, mul-mod_left, lt_of_mul-lt-mul_right, mul-le-mul_right}
@@ -60,18 +60,16 @@ pub use Rattle.bt_wire.specs.Cutter.{Stream, stream, Takes, Waits, fed, Fails}
 pub use Rattle.bt_wire.specs.Event.{HasNoEvent, ShowsNoFault}
 pub use Rattle.bt_wire.specs.Handshake.{handshake_spelling}
 pub use Rattle.bt_wire.specs.Message.{message_spelling, Fits, IsMessage, Body, frame_spelling}
-pub use Rattle.bt_wire.specs.declared.event.WireError.{WireError}
-pub use Rattle.bt_wire.specs.declared.event.WireError.TheVariants.{TooLong, BadProtocol, BadLength, Failed}
+pub use Rattle.bt_wire.specs.declared.event.WireError.TheVariants.{TooLong, BadLength}
 pub use Rattle.bt_wire.specs.declared.event.WireEvent.{WireEvent}
 pub use Rattle.bt_wire.specs.declared.event.WireEvent.TheVariants.{Message, Hello, Skipped}
-pub use Rattle.bt_wire.specs.declared.handshake.Handshake.{Handshake}
 pub use Rattle.bt_wire.specs.declared.message.Ask.{Ask}
 pub use Rattle.bt_wire.specs.declared.message.Message.{Message as PeerMessage}
 pub use Rattle.bt_wire.specs.declared.message.Message.TheVariants.{Request, Piece, Interested, Have, NotInterested, Bitfield, HashRequest, Unchoke, Hashes, HashReject, KeepAlive, Choke, Cancel}
 pub use Rattle.bt_disk.proofs.Histories.{calls_keep_bytes}
-pub use Rattle.bt_disk.specs.Calls.{bytes_written, Call, write_fault, bytes_given, sync_made, sync_fault, length_given, length_fault, read_fault, length_set, resize_fault, AreAnswered, Spares, AfterWriteFault}
+pub use Rattle.bt_disk.specs.Calls.{bytes_written, Call, write_fault, bytes_given, sync_made, sync_fault, length_set, resize_fault, AreAnswered, Spares, AfterWriteFault}
 pub use Rattle.bt_disk.specs.History.{History, after_write}
-pub use Rattle.bt_disk.specs.State.{IsImage, State, written, IsTornWrite}
+pub use Rattle.bt_disk.specs.State.{IsImage, written, IsTornWrite}
 pub use Rattle.bt_store.proofs.AdoptionMarks.{adopt_marks as store_marks, adopt_extends}
 pub use Rattle.bt_store.specs.Adoption.{none, known, accepted, refused as not_accepted, short, unread, Adopts, IsUnknownGroup, claim_of_reads, IsKnownGroup, marked_run, claimed_digest}
 pub use Rattle.bt_store.specs.Arrival.{states_after_put, PutIsDue, calls_of_put, IsWrong}

@@ -1,6 +1,6 @@
 -- What is left to an engine.
-use Rattle.bt_engine.proofs.Base.{◌≡◌, ◌≢◌, ℕ, suc, inl, inr, List, [], ◌∷◌, length, refl, sym, ap, ◌∙◌, subst, arith, slice_get, map, ⊤, cases_lt, block_count, Metainfo, IsLaidOut, Facts, blocks_of}
-use Rattle.bt_engine.proofs.Machine.{Event, Connect, Feed, Next, Lost, Rechoke, Adopt, Flush, FileState, EngineState, DeviceCalls, IsFile, Answer, of_connect, of_feed, of_next, of_rechoke, of_adopt, Step, Run, IsOrderly, IsShaped, sent_by, IsOutOfMemory, IsReached, StepIsDetermined, block_requests, StepIsForced, HaveMemory, RunsAreDetermined}
+use Rattle.bt_engine.proofs.Base.{◌≡◌, ◌≢◌, ℕ, suc, inl, inr, List, [], ◌∷◌, length, refl, sym, ap, ◌∙◌, arith, map, ⊤, cases_lt, block_count, Metainfo, IsLaidOut, Facts, blocks_of}
+use Rattle.bt_engine.proofs.Machine.{Digest, Event, Connect, Feed, Next, Lost, Rechoke, Adopt, Flush, FileState, EngineState, DeviceCalls, IsFile, Answer, of_connect, of_feed, of_next, of_rechoke, of_adopt, Step, Run, IsOrderly, IsShaped, sent_by, IsOutOfMemory, IsReached, StepIsDetermined, block_requests, StepIsForced, HaveMemory, RunsAreDetermined}
 use Rattle.bt_engine.proofs.Lists.{heads, tails, get_some, same_some, some_below}
 use Rattle.bt_engine.proofs.Orderly.{order_kept, order_of_runs}
 use Rattle.bt_engine.proofs.Shape.{step_shape, shape_kept}
@@ -33,7 +33,7 @@ abbrev pub EachPair : (Answer → Answer → Type 0) → List Answer → List An
 EachPair P (a ∷ answers) (b ∷ others) = P a b × EachPair P answers others
 EachPair P _ _ = ⊤
 
-module _ (dig : List ℕ → List ℕ) where
+module _ (dig : Digest) where
   -- what two results come to, in their answers
   answers : {a b c d m n : _} → a ≡ c → b ≡ d → AreOne c m d n → AreOne a m b n
   answers {b} {c} {m} {n} e f same = rw e (rw f same)

@@ -1,9 +1,9 @@
 -- What is left to an engine where a file is taken in.
-use Rattle.bt_engine.proofs.Base.{◌≡◌, ◌≢◌, ℕ, ◌+◌, ◌-◌, ◌*◌, ◌/◌, ◌^◌, ◌<◌, ◌≤◌, inl, inr, min, Bool, true, false, cond, List, [], ◌∷◌, ◌++◌, length, map, None, refl, sym, ap, ◌∙◌, subst, arith, append_assoc, slice_get, flat_map, IsSome, Result, Ok, Err, AllZip, count_by, range_with_len, cases_lt, length-map, length-range_with_len, sum_by-cons, CoversBlock, real_width, block_count, real_limit, Facts, blocks_of, held_at, value_at, Accepts, IsRefused, value_covers, HashKey, BlockRead, given, failed, block_of, is_fault, right_count, fault_count, IsKnownGroup, IsUnknownGroup, claim_of_reads, marked_run, Adopts, none, known, accepted, not_accepted as refused, short, unread, BlockState, Adopted}
-use Rattle.bt_engine.proofs.Machine.{AdoptError, FileState, EngineState, Hint, proof_of, DeviceCalls, reads_at, with_file, with_tree, IsFile, SettlesIn, with_pending, taught_keys, IsProof, AdoptsGroup, adopted_together, AdoptsGroups, is_other, AdoptsFile, StepAdopt, no_file, busy, empty, adopts, not_adopted as no_memory, of_adopt}
+use Rattle.bt_engine.proofs.Base.{◌≡◌, ◌≢◌, ℕ, ◌+◌, ◌-◌, ◌/◌, ◌^◌, ◌<◌, ◌≤◌, inl, inr, min, Bool, true, false, cond, List, [], ◌∷◌, ◌++◌, length, map, None, refl, sym, ap, ◌∙◌, subst, arith, append_assoc, flat_map, IsSome, Err, AllZip, count_by, range_with_len, cases_lt, length-map, length-range_with_len, sum_by-cons, CoversBlock, real_width, block_count, real_limit, Facts, blocks_of, held_at, value_at, value_covers, HashKey, BlockRead, given, failed, block_of, is_fault, right_count, fault_count, IsKnownGroup, IsUnknownGroup, claim_of_reads, marked_run, Adopts, none, known, accepted, not_accepted as refused, short, unread, BlockState, Adopted}
+use Rattle.bt_engine.proofs.Machine.{Digest, FileState, EngineState, Hint, DeviceCalls, reads_at, with_file, with_tree, IsFile, SettlesIn, with_pending, IsProof, AdoptsGroup, adopted_together, AdoptsGroups, is_other, AdoptsFile, StepAdopt, no_file, busy, empty, adopts, not_adopted as no_memory, of_adopt}
 use Rattle.bt_store.specs.Adoption.{is_whole, AreWhole}
 use Rattle.bt_engine.specs.declared.error.AdoptError.TheVariants.{OutOfMemory}
-use Rattle.bt_engine.proofs.Lists.{same_some, some_not_none, some_below}
+use Rattle.bt_engine.proofs.Lists.{some_not_none, some_below}
 use Rattle.bt_engine.proofs.Adopting.{group_extends, group_file}
 use Rattle.bt_engine.proofs.DeterminedParts.{anchor_one, accepts_one, answer_one, accepts_refused}
 use Rattle.bt_engine.proofs.DeterminedAsks.{AreOne, are_equal}
@@ -44,7 +44,7 @@ unknown_one {k} {from} {f} {b} {g} x y =
     (anchor, first, x.counts ∙ ap (λ n. min (2 ^ n) (blocks_of k - f)) anchor ∙ ap (λ n. min (2 ^ b) (blocks_of k - n)) first ∙ sym y.counts)
 
 -- how many blocks a group has
-data IsSize (dig : List ℕ → List ℕ) (k : Facts) (from n : ℕ) : Type 0 where
+data IsSize (dig : Digest) (k : Facts) (from n : ℕ) : Type 0 where
   of_known : (count : ℕ) → IsKnownGroup dig k from count → n ≡ count → IsSize dig k from n
   of_unknown : (anchor first count : ℕ) → IsUnknownGroup k from anchor first count → n ≡ count → IsSize dig k from n
 
@@ -84,7 +84,7 @@ counts_le n (failed i ∷ reads) =
 whole_or_failed : {n first count reads : _} → AreWhole n first count reads → 0 < fault_count reads → ⊥
 whole_or_failed {n} {first} {reads} whole some = absurd (omega (arith, counts_le n reads, reads_size reads first whole.blocks))
 
-same_claim : (dig : List ℕ → List ℕ) (k : Facts) {a b f g : ℕ} (reads : List BlockRead) → a ≡ b → f ≡ g → claim_of_reads dig k.file_length a f reads ≡ claim_of_reads dig k.file_length b g reads
+same_claim : (dig : Digest) (k : Facts) {a b f g : ℕ} (reads : List BlockRead) → a ≡ b → f ≡ g → claim_of_reads dig k.file_length a f reads ≡ claim_of_reads dig k.file_length b g reads
 same_claim dig k {b} {f} reads anchor first = cc
 
 abbrev adopted_as : (next anchor marked faults : ℕ) → Adopted
@@ -137,17 +137,16 @@ result_one left (unread a1 f1 c1 rs1 g1 w1 z1) (none end) = absurd (omega arith)
 
 -- ---- what a log keeps
 
-pub proofs_one : (dig : List ℕ → List ℕ) (k : Facts) (keys : List HashKey) (xs ys : List Hint) → AllZip (IsProof dig k) keys xs → AllZip (IsProof dig k) keys ys → xs ≡ ys
+pub proofs_one : (dig : Digest) (k : Facts) (keys : List HashKey) (xs ys : List Hint) → AllZip (IsProof dig k) keys xs → AllZip (IsProof dig k) keys ys → xs ≡ ys
 proofs_one dig k [] [] [] x y = refl
-proofs_one dig k [] [] (h ∷ ys) x y = absurd y
 proofs_one dig k [] (h ∷ xs) ys x y = absurd x
 proofs_one dig k (key ∷ keys) [] ys x y = absurd x
-proofs_one dig k (key ∷ keys) (h ∷ xs) [] x y = absurd y
 proofs_one dig k (key ∷ keys) (h ∷ xs) (i ∷ ys) x y =
     let same = answer_one dig x.0.1 y.0.1 in
     ap (λ z. z ∷ xs) (cc) ∙ ap (λ zs. i ∷ zs) (proofs_one dig k keys xs ys x.1 y.1)
+proofs_one dig k _ _ _ x y = absurd y
 
-module _ (dig : List ℕ → List ℕ) where
+module _ (dig : Digest) where
   group_one : {s file from c d more rest x y m n : _} → AdoptsGroup dig s file from c x m → AdoptsGroup dig s file from d y n → c ++ more ≡ d ++ rest
       → (more ≡ rest) × (x ≡ y) × (m ≡ n)
   group_one {s} {file} {from} {c} {d} {more} {rest} {x} {y} {m} {n} g h e = (parts.1, result.0, after)
@@ -166,13 +165,13 @@ module _ (dig : List ℕ → List ℕ) where
       parts = split_one c d (ap length g.made ∙ length-map g.reads _ ∙ sizes ∙ sym (length-map h.reads _) ∙ sym (ap length h.made)) e
 
       reads : g.reads ≡ h.reads
-      reads = reads_one file g.tree.file_length g.reads h.reads (sym g.made ∙ parts.0 ∙ h.made ∙ ap (λ (k : Facts). reads_at file k.file_length h.reads) (sym same.1))
+      reads = reads_one file _ _ _ (sym g.made ∙ parts.0 ∙ h.made ∙ ap (λ (k : Facts). reads_at file k.file_length h.reads) (sym same.1))
 
       result : (x ≡ y) × (g.grown ≡ h.grown) × (g.states ≡ h.states)
       result = result_one g.left g.adopts (rw reads adopts_there)
 
       proofs : g.proofs ≡ h.proofs
-      proofs = proofs_one dig h.grown (taught_keys h.grown from y) g.proofs h.proofs (rw (← result.1) (rw (← result.0) g.taught)) h.taught
+      proofs = proofs_one dig _ _ _ _ (rw (← result.1) (rw (← result.0) g.taught)) h.taught
 
       placed : FileState → List BlockState → Facts → List Hint → EngineState
       placed f states k ps = with_pending s (with_tree (with_file s file (record f { states = states })) f.tree k) ps
@@ -204,7 +203,7 @@ module _ (dig : List ℕ → List ℕ) where
       let first = group_one x.3 y.3
       (sym (append_assoc c (flat_map (λ c. c) xs) more) ∙ e ∙ append_assoc d (flat_map (λ c. c) ys) rest) in
       let there : AdoptsGroups dig x.1 file x.0.next ys y.2 b = rw first.2 (rw first.1 y.4) in
-      let tail = groups_one x.1 file x.0.next xs ys (blocks_stay n x.3 sized) x.4 there
+      let tail = groups_one x.1 file _ xs ys (blocks_stay n x.3 sized) x.4 there
       (cc) (cc) first.0 in
       (tail.0, x.5 ∙ ap (λ z. adopted_together z x.2) first.1 ∙ ap (adopted_together y.0) tail.1 ∙ sym y.5, tail.2)
 
@@ -216,7 +215,7 @@ module _ (dig : List ℕ → List ℕ) where
       let own : x.state ≡ f = cc in
       sized f k is (λ gone. x.some (cc)) ∙ ap (λ (g : FileState). length g.states) (sym own)
       ) in
-      let groups = groups_one s file 0 x.groups y.groups blocks x.adopts y.adopts x.all (cc) (sym x.made ∙ y.made) in
+      let groups = groups_one s file 0 _ _ blocks x.adopts y.adopts x.all (cc) (sym x.made ∙ y.made) in
       let settles : SettlesIn dig (is_other file) x.state.tree 0 (length x.state.states) x.mid x.settling y.notes y.settled
       = rw state (rw groups.2 (rw groups.0 y.settles)) in
       let settled = settles_one x.settles settles in
@@ -228,18 +227,18 @@ module _ (dig : List ℕ → List ℕ) where
   adopt_one sized q (no_memory x y z) r t = absurd (t z)
   adopt_one sized (no_file x y z w) (no_file u v o q) r t = are_equal (ap of_adopt (cc)) (cc)
   adopt_one sized (no_file x y z w) (busy u v o q i) r t = absurd (omega arith)
-  adopt_one {s} {file} sized (no_file x y z w) (empty f u v o q i j) r t = absurd (omega (arith, some_below s.files file v))
-  adopt_one {s} {file} sized (no_file x y z w) (adopts u v o q) r t = absurd (omega (arith, some_below s.files file o.here))
+  adopt_one {s} {file} sized (no_file x y z w) (empty f u v o q i j) r t = absurd (omega (arith, some_below _ file v))
+  adopt_one {s} {file} sized (no_file x y z w) (adopts u v o q) r t = absurd (omega (arith, some_below _ file o.here))
   adopt_one sized (busy u v o q i) (no_file x y z w) r t = absurd (omega arith)
   adopt_one sized (busy x y z w l) (busy u v o q i) r t = are_equal (ap of_adopt (cc)) (cc)
   adopt_one sized (busy x y z w l) (empty f u v o q i j) r t = absurd (y u)
   adopt_one sized (busy x y z w l) (adopts u v o q) r t = absurd (y v)
-  adopt_one {s} {file} sized (empty f u v o q i j) (no_file x y z w) r t = absurd (omega (arith, some_below s.files file v))
+  adopt_one {s} {file} sized (empty f u v o q i j) (no_file x y z w) r t = absurd (omega (arith, some_below _ file v))
   adopt_one sized (empty f u v o q i j) (busy x y z w l) r t = absurd (y u)
   adopt_one sized (empty f u v o q i j) (empty g x y z w l k) r t = are_equal (ap of_adopt (cc)) (cc)
   adopt_one sized (empty f u v o q i j) (adopts x y z w) r t =
       absurd (z.some (cc))
-  adopt_one {s} {file} sized (adopts u v o q) (no_file x y z w) r t = absurd (omega (arith, some_below s.files file o.here))
+  adopt_one {s} {file} sized (adopts u v o q) (no_file x y z w) r t = absurd (omega (arith, some_below _ file o.here))
   adopt_one sized (adopts u v o q) (busy x y z w l) r t = absurd (y v)
   adopt_one sized (adopts x y z w) (empty f u v o q i j) r t =
       absurd (z.some (cc))

@@ -1,7 +1,7 @@
 -- Where two answers request the same blocks, what follows for peers is the same.
-use Rattle.bt_engine.proofs.Base.{◌≡◌, ◌≢◌, ℕ, zero, suc, ◌+◌, ◌-◌, ◌*◌, ◌/◌, inl, inr, Bool, true, false, List, [], ◌∷◌, ◌++◌, get_or, Some, refl, sym, ap, ◌∙◌, subst, arith, slice_get, slice_set, Contains, filter, range_with_len, add_left_cancel, div-mul-add, append_cancel_left, filter-append, Contains-append_cases, block_length, File, Metainfo, IsLaidOut, BlockId, Ask, Request}
-use Rattle.bt_engine.proofs.Machine.{PeerState, EngineState, IsWholeBlock, Sent, sent_to, interest_sent, RequestsHashes, requests, rests, AsksBlocks, RequestsEach, FollowsUp, FollowsEach, Answer, sent_by, is_block_request, plain_answer, asked_nothing, without_asked, LacksOneAtMost}
-use Rattle.bt_engine.proofs.Lists.{heads, tails, same_some, here, later, contains_none, contains_cases, set_cases, range_limits}
+use Rattle.bt_engine.proofs.Base.{◌≡◌, ◌≢◌, ℕ, zero, suc, ◌+◌, ◌-◌, ◌*◌, ◌/◌, inl, inr, Bool, true, false, List, [], ◌∷◌, ◌++◌, get_or, Some, refl, sym, ap, ◌∙◌, subst, arith, slice_get, slice_set, Contains, filter, range_with_len, add_left_cancel, div-mul-add, append_cancel_left, filter-append, Contains-append_cases, File, Metainfo, IsLaidOut, BlockId, Ask, Request}
+use Rattle.bt_engine.proofs.Machine.{Digest, PeerState, EngineState, IsWholeBlock, Sent, sent_to, interest_sent, RequestsHashes, requests, rests, AsksBlocks, RequestsEach, FollowsUp, FollowsEach, Answer, sent_by, is_block_request, plain_answer, asked_nothing, without_asked, LacksOneAtMost}
+use Rattle.bt_engine.proofs.Lists.{heads, tails, here, later, contains_none, contains_cases, set_cases, range_limits}
 use Rattle.bt_engine.proofs.Pairs.{Pairs}
 use Rattle.bt_engine.proofs.AnswerSends.{Follows, same_plan, follows_of}
 use Rattle.bt_engine.proofs.AnswerRequests.{missing_in}
@@ -44,7 +44,7 @@ lacks_there s m e one b c x y = one b c (missing_in s m b e x) (missing_in s m c
 -- behind what both send
 pub asks_behind : {s m : EngineState} (xs : List Sent) {f g : _} → m.files ≡ s.files → SameAsks m (xs ++ f) (xs ++ g) → SameAsks s f g
 asks_behind xs {f} {g} e (by_requests same) = by_requests (append_cancel_left (requests_in xs) (requests_in f) (requests_in g) (sym (requests_append xs f) ∙ same ∙ requests_append xs g))
-asks_behind xs {f} e (by_none none) = by_none (nil_of_append (requests_in xs) (sym (requests_append xs f) ∙ none)).1
+asks_behind xs {f} e (by_none none) = by_none (nil_of_append _ (sym (requests_append xs f) ∙ none)).1
 asks_behind {s} {m} xs e (by_one one) = by_one (lacks_there s m e one)
 
 -- ---- a block and its request
@@ -78,7 +78,7 @@ blocks_one s p (b ∷ bs) [] f lay x y = let no = sym y ∙ x.4 in absurd cc
 blocks_one s p (b ∷ bs) (c ∷ cs) f lay x y =
     let same = sym x.4 ∙ y.4 in
     let ask : x.2.ask ≡ y.2.ask = ask_sent p (cc) in
-    let block : b ≡ c = same_block s.torrent lay x.2.ask.piece x.2.ask.begin x.2.ask.length x.2.whole (rw ask y.2.whole) in
+    let block : b ≡ c = same_block _ lay _ _ _ x.2.whole (rw ask y.2.whole) in
     ap (λ z. z ∷ bs) block ∙ ap (λ zs. c ∷ zs) (blocks_one s p bs cs x.1 lay x.3 (rw (tails same) y.3))
 
 no_block : (s : EngineState) (p : PeerState) (bs : List BlockId) → RequestsEach s p bs [] → bs ≡ []
@@ -90,7 +90,7 @@ no_block s p (b ∷ bs) x = let no = x.4 in absurd cc
 -- where none is asked, none may be
 asks_none : {s p : _} (bs : List BlockId) → AsksBlocks s p [] → AsksBlocks s p bs → bs ≡ []
 asks_none [] x y = refl
-asks_none {p} (b ∷ bs) x y = absurd (never p.peer_choking p.am_interested refl refl)
+asks_none {p} (b ∷ bs) x y = absurd (never _ _ refl refl)
   where
     never : (chokes interested : Bool) → p.peer_choking ≡ chokes → p.am_interested ≡ interested → ⊥
     never true interested e f = let no = y.shut (inl e) in absurd cc
@@ -100,7 +100,7 @@ asks_none {p} (b ∷ bs) x y = absurd (never p.peer_choking p.am_interested refl
 -- where at most one block is missing, there is no choice
 asks_one : {s p : _} (bs cs : List BlockId) → LacksOneAtMost s → AsksBlocks s p bs → AsksBlocks s p cs → bs ≡ cs
 asks_one [] cs one x y = sym (asks_none cs x y)
-asks_one (b ∷ bs) [] one x y = asks_none (b ∷ bs) y x
+asks_one (b ∷ bs) [] one x y = asks_none _ y x
 asks_one {s} {p} (b ∷ bs) (c ∷ cs) one x y =
     ap (λ zs. b ∷ zs) (alone bs x) ∙ ap (λ z. z ∷ []) (one b c (x.are_open b (here bs refl)).missing (y.are_open c (here cs refl)).missing) ∙ ap (λ zs. c ∷ zs) (sym (alone cs y))
   where
@@ -137,7 +137,7 @@ hash_no_request (rests x e f) = cc
 abbrev pub KeysApart : EngineState → Type 0
 KeysApart s = (i j : ℕ) (p q : PeerState) → slice_get s.peers i ≡ Some p → slice_get s.peers j ≡ Some q → p.key ≡ q.key → i ≡ j
 
-module _ (dig : List ℕ → List ℕ) where
+module _ (dig : Digest) where
   requests_of : {s i f a : _} → (x : FollowsUp dig s i f a) → requests_in f ≡ x.block_frames
   requests_of {s} x =
       let interest : requests_in x.interest_frames ≡ [] = ap requests_in x.interest.told ∙ interest_no_request x.peer x.peer.am_interested x.interested.am_interested in
@@ -170,7 +170,7 @@ module _ (dig : List ℕ → List ℕ) where
     their_requests = rw planned y.requests
 
     by_blocks : x.blocks ≡ y.blocks → x.block_frames ≡ y.block_frames
-    by_blocks e = frames_one s x.planned x.blocks x.requests (rw e their_requests)
+    by_blocks e = frames_one s _ _ x.requests (rw e their_requests)
 
     blocks : SameAsks s f g → (x.blocks ≡ y.blocks) × (x.block_frames ≡ y.block_frames)
     blocks (by_requests same) =
@@ -195,7 +195,7 @@ module _ (dig : List ℕ → List ℕ) where
   -- each peer afterwards was there, under its key
   before : {s new i : _} (j : ℕ) {sent q : _} → Follows s i sent new → slice_get new.peers j ≡ Some q
       → (p : PeerState) × (slice_get s.peers j ≡ Some p) × (q.key ≡ p.key)
-  before {s} {i} j {q} f at = elim (set_cases s.peers i j (subst (λ l. slice_get l j ≡ Some q) f.peers at)) [
+  before {s} {i} j {q} f at = elim (set_cases _ i j (subst (λ l. slice_get l j ≡ Some q) f.peers at)) [
     | inl one ↦ (f.peer, ap (slice_get s.peers) one.0 ∙ f.was, ap (λ (x : PeerState). x.key) one.1 ∙ f.same_key)
     | inr old ↦ (q, old, refl)
   ]
@@ -209,7 +209,7 @@ module _ (dig : List ℕ → List ℕ) where
   own_key : {s i sent new z : _} → (x : FollowsUp dig s i sent new) → Contains (requests_in sent) z
       → z.peer ≡ x.peer.key
   own_key {s} {z} x c =
-      all_to s x.planned x.blocks x.block_frames x.requests (subst (λ l. Contains l z) (requests_of x) c) ∙ (same_plan x.hashes).same_key ∙ ap (λ (p : PeerState). p.key) x.interest.others
+      all_to s _ _ _ x.requests (subst (λ l. Contains l z) (requests_of x) c) ∙ (same_plan x.hashes).same_key ∙ ap (λ (p : PeerState). p.key) x.interest.others
 
   each_key : (is : List ℕ) (s : EngineState) (sent : List Sent) (new : EngineState) {z : _} → FollowsEach dig is s sent new → Contains (requests_in sent) z
       → (j : ℕ) × Contains is j × (p : PeerState) × (slice_get s.peers j ≡ Some p) × (z.peer ≡ p.key)
@@ -226,8 +226,8 @@ module _ (dig : List ℕ → List ℕ) where
       → ((z : Sent) → Contains us z → ¬ P z) → ((z : Sent) → Contains vs z → ¬ P z) → xs ++ us ≡ ys ++ vs
       → (xs ≡ ys) × (us ≡ vs)
   split_by P [] [] p q r t e = (refl, e)
-  split_by P [] (y ∷ ys) {vs} p q r t e = absurd (r y (rw e (here (ys ++ vs) refl)) (q y (here ys refl)))
-  split_by P (x ∷ xs) [] {us} p q r t e = absurd (t x (rw (← e) (here (xs ++ us) refl)) (p x (here xs refl)))
+  split_by P [] (y ∷ ys) {vs} p q r t e = absurd (r y (rw e (here _ refl)) (q y (here ys refl)))
+  split_by P (x ∷ xs) [] {us} p q r t e = absurd (t x (rw (← e) (here _ refl)) (p x (here xs refl)))
   split_by P (x ∷ xs) (y ∷ ys) p q r t e =
       let tail = split_by P xs ys (λ z c. p z (later x xs c)) (λ z c. q z (later y ys c)) r t (tails e) in
       (ap (λ z. z ∷ xs) (heads e) ∙ ap (λ zs. y ∷ zs) tail.0, tail.1)
@@ -266,10 +266,10 @@ module _ (dig : List ℕ → List ℕ) where
 
       split : SameAsks a f g → SameAsks s x.1 y.1 × SameAsks a x.2 y.2
       split (by_requests e) =
-          let both = split_by (λ z. z.peer ≡ x.3.peer.key) (requests_in x.1) (requests_in y.1) (λ z c. own_key x.3 c) (λ z c. own_key y.3 c ∙ ap (λ (p : PeerState). p.key) peer_is)
+          let both = split_by (λ z. z.peer ≡ x.3.peer.key) _ _ (λ z c. own_key x.3 c) (λ z c. own_key y.3 c ∙ ap (λ (p : PeerState). p.key) peer_is)
           (λ z c. others x.2 a own x.4 c) (λ z c. others y.2 b (follows_of y.3) y.4 c) (sym parts_of ∙ e ∙ ap requests_in y.5 ∙ requests_append y.1 y.2) in
           (by_requests both.0, by_requests both.1)
-      split (by_none e) = let none = nil_of_append (requests_in x.1) (sym parts_of ∙ e) in (by_none none.0, by_none none.1)
+      split (by_none e) = let none = nil_of_append _ (sym parts_of ∙ e) in (by_none none.0, by_none none.1)
       split (by_one one) = (by_one (lacks_there s a (each_files (i ∷ is) s f a x) one), by_one one)
 
 -- places are no two the same

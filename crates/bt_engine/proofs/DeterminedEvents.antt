@@ -1,6 +1,6 @@
 -- What one wire event does by itself is one and no other, with the same answers of devices.
-use Rattle.bt_engine.proofs.Base.{◌≡◌, ◌≢◌, ℕ, suc, ◌*◌, ◌<◌, inl, inr, Bool, true, false, List, [], ◌∷◌, ◌++◌, length, map, take, drop, ◌-◌, Option, Some, None, refl, sym, ap, ◌∙◌, subst, arith, length-append, slice_get, option_map, Contains, flat_map, if◌then◌else◌, Result, Ok, Err, AllPairs, concat, length-map, Contains-append_right, Call, bytes_written, write_fault, IsLaidOut, Span, Facts, IsAnswer, Accepts, IsRefused, Claim, ProofError, OutOfMemory, IsClaimBy, HashKey, BlockRead, given, failed, block_of, call_of, IsRight, IsWrong, PutIsDue, calls_of_put, states_after_put, BlockState, StoreError, Range, DeviceFault, Put, Already, Wrong, PutMarked, PutWaiting, BlockId, without_block, Ask, PeerMessage as Sent, KeepAlive, Choke, Unchoke, Interested, NotInterested, Have, Bitfield, Request, Piece, Cancel, HashRequest, Hashes, HashReject, Handshake, WireEvent, Hello, Message, Skipped}
-use Rattle.bt_engine.proofs.Machine.{Proof, Note, HashState, PeerState, FileState, EngineState, DeviceCalls, calls_at, reads_at, block_id, with_file, with_tree, with_peer, file_numbers, Effect, no_effect, closing, sending, first_block, spanned_blocks, cut_from, with_payload, AreMarked, IsFile, Serves, FindsFault, damaged, fault, StopsAtFault, HandlesRequest, ignored, no_place, not_marked, served, stopped, HasPutEffect, Puts, Arrives, HandlesPiece, stale, arrives, judged_file, settling_notes, due_blocks, SettlesIn, OnlyCloses, IsTreeOf, IsAnswered, HandlesHashRequest, answered, rejected, Resolves, resolved as ours, other_asked as other, new_proofs, settled_count, Learns, HandlesHashes, unknown_root, no_claim, refused, learns, HandlesHello, ours as our_torrent, other as other_torrent, HandlesHave, in_range, out_of_range, HandlesBitfield, right, wrong, HandlesMessage, Handles}
+use Rattle.bt_engine.proofs.Base.{◌≡◌, ◌≢◌, ℕ, suc, ◌*◌, ◌<◌, inl, inr, true, false, List, [], ◌∷◌, ◌++◌, length, map, Option, Some, None, refl, sym, ap, ◌∙◌, subst, arith, length-append, slice_get, option_map, Contains, flat_map, if◌then◌else◌, Result, Ok, Err, AllPairs, concat, length-map, Contains-append_right, Call, bytes_written, write_fault, IsLaidOut, Facts, Accepts, IsRefused, OutOfMemory, IsClaimBy, HashKey, BlockRead, given, failed, block_of, call_of, IsRight, IsWrong, PutIsDue, calls_of_put, states_after_put, BlockState, StoreError, Range, DeviceFault, Put, Already, Wrong, PutMarked, PutWaiting, BlockId, without_block, PeerMessage as Sent, KeepAlive, Choke, Unchoke, Interested, NotInterested, Have, Bitfield, Request, Piece, Cancel, HashRequest, Hashes, HashReject, WireEvent, Hello, Message, Skipped}
+use Rattle.bt_engine.proofs.Machine.{Digest, Proof, PeerState, FileState, EngineState, DeviceCalls, calls_at, reads_at, block_id, with_file, with_tree, with_peer, file_numbers, Effect, no_effect, closing, sending, spanned_blocks, cut_from, with_payload, IsFile, Serves, FindsFault, damaged, fault, StopsAtFault, HandlesRequest, ignored, no_place, not_marked, served, stopped, HasPutEffect, Puts, Arrives, HandlesPiece, stale, arrives, judged_file, settling_notes, due_blocks, SettlesIn, OnlyCloses, IsTreeOf, IsAnswered, HandlesHashRequest, answered, rejected, Resolves, resolved as ours, other_asked as other, new_proofs, settled_count, Learns, HandlesHashes, unknown_root, no_claim, refused, learns, HandlesHello, ours as our_torrent, other as other_torrent, HandlesHave, in_range, out_of_range, HandlesBitfield, right, wrong, HandlesMessage, Handles}
 use Rattle.bt_engine.proofs.Lists.{heads, tails, get_some, some_is, same_some, here, later, contains_none, contains_cases, some_below, range_contains, range_limits}
 use Rattle.bt_engine.proofs.AnswerPlaces.{same_place, same_block}
 use Rattle.bt_engine.proofs.DeterminedParts.{tree_one, accepts_one, answer_one, accepts_refused, refused_one, no_claim_one, claim_or_not}
@@ -29,11 +29,10 @@ read_one n (given i xs) (given j ys) e =
     let place : 16384 * i ≡ 16384 * j = cc in
     let bytes : xs ≡ ys = cc in
     ap (λ m. given m xs) (omega arith) ∙ ap (λ zs. given j zs) bytes
-read_one n (given i xs) (failed j) e = absurd cc
-read_one n (failed i) (given j ys) e = absurd cc
 read_one n (failed i) (failed j) e =
     let place : 16384 * i ≡ 16384 * j = cc in
     ap (λ m. failed m) (omega arith)
+read_one n _ _ e = absurd cc
 
 first_call : {file : ℕ} {c d : Call} {xs ys : DeviceCalls} → (file, c) ∷ xs ≡ (file, d) ∷ ys → (c ≡ d) × (xs ≡ ys)
 first_call e = (ap (λ (p : ℕ × Call). p.1) (heads e), tails e)
@@ -41,11 +40,10 @@ first_call e = (ap (λ (p : ℕ × Call). p.1) (heads e), tails e)
 -- reads are told from their calls
 pub reads_one : (file n : ℕ) (xs ys : List BlockRead) → reads_at file n xs ≡ reads_at file n ys → xs ≡ ys
 reads_one file n [] [] e = refl
-reads_one file n [] (y ∷ ys) e = absurd cc
-reads_one file n (x ∷ xs) [] e = absurd cc
 reads_one file n (x ∷ xs) (y ∷ ys) e =
     let parts = first_call e in
     ap (λ z. z ∷ xs) (read_one n x y parts.0) ∙ ap (λ zs. y ∷ zs) (reads_one file n xs ys parts.1)
+reads_one file n _ _ e = absurd cc
 
 flat_one : {X Y : Type 0} (f g : X → List Y) (xs : List X) → ((x : X) → Contains xs x → length (f x) ≡ length (g x)) → flat_map f xs ≡ flat_map g xs → {x : X} → Contains xs x → f x ≡ g x
 flat_one f g [] size e c = absurd (contains_none c)
@@ -62,13 +60,12 @@ flat_same f g (x ∷ xs) same = ap (λ ys. ys ++ flat_map f xs) (same x (here xs
 
 list_one : {X : Type 0} (xs ys : List X) → ((i : ℕ) → slice_get xs i ≡ slice_get ys i) → xs ≡ ys
 list_one [] [] same = refl
-list_one [] (y ∷ ys) same = let no = same 0 in absurd cc
-list_one (x ∷ xs) [] same = let no = same 0 in absurd cc
 list_one (x ∷ xs) (y ∷ ys) same = ap (λ z. z ∷ xs) (some_is (same 0)) ∙ ap (λ zs. y ∷ zs) (list_one xs ys (λ i. same (suc i)))
+list_one _ _ same = let no = same 0 in absurd cc
 
 -- ---- settling
 
-settled_files : (dig : List ℕ → List ℕ) (k : Facts) (o : Option FileState) (xs ys : List BlockRead) → ((f : FileState) → o ≡ Some f → xs ≡ ys) → option_map (judged_file dig k xs) o ≡ option_map (judged_file dig k ys) o
+settled_files : (dig : Digest) (k : Facts) (o : Option FileState) (xs ys : List BlockRead) → ((f : FileState) → o ≡ Some f → xs ≡ ys) → option_map (judged_file dig k xs) o ≡ option_map (judged_file dig k ys) o
 settled_files dig k None xs ys same = refl
 settled_files dig k (Some f) xs ys same = ap (λ zs. Some (judged_file dig k zs f)) (same f refl)
 
@@ -124,7 +121,7 @@ file_one {s} {f} {g} x y =
     let same : f ≡ g = cc in
     (same, same_some (cc) y.hung)
 
-module _ (dig : List ℕ → List ℕ) (s : EngineState) where
+module _ (dig : Digest) (s : EngineState) where
   serves_one : {i p ask span calls e f m n : _} → Serves dig s i p ask span calls e m → Serves dig s i p ask span calls f n → (e ≡ f) × (m ≡ n)
   serves_one {p} {ask} {span} x y =
       let tree : x.tree ≡ y.tree = (file_one x.is_file y.is_file).1 in
@@ -211,32 +208,22 @@ module _ (dig : List ℕ → List ℕ) (s : EngineState) where
   put_one file i bytes k states e f (Err DeviceFault) (Ok PutWaiting) x y ex fy x_made y_made = absurd (wrote_or_failed file _ bytes (sym y_made ∙ x_made))
   put_one file i bytes k states e f (Err DeviceFault) (Ok Wrong) x y ex fy x_made y_made = absurd (some_or_none file _ (sym x_made ∙ y_made))
   put_one file i bytes k states e f (Err DeviceFault) (Err DeviceFault) x y ex fy x_made y_made = refl
-  put_one file i bytes k states e f (Ok PutMarked) (Ok Already) x y ex fy x_made y_made = absurd fy
-  put_one file i bytes k states e f (Ok PutMarked) (Err Range) x y ex fy x_made y_made = absurd fy
-  put_one file i bytes k states e f (Ok PutWaiting) (Ok Already) x y ex fy x_made y_made = absurd fy
-  put_one file i bytes k states e f (Ok PutWaiting) (Err Range) x y ex fy x_made y_made = absurd fy
-  put_one file i bytes k states e f (Ok Wrong) (Ok Already) x y ex fy x_made y_made = absurd fy
-  put_one file i bytes k states e f (Ok Wrong) (Err Range) x y ex fy x_made y_made = absurd fy
-  put_one file i bytes k states e f (Err DeviceFault) (Ok Already) x y ex fy x_made y_made = absurd fy
-  put_one file i bytes k states e f (Err DeviceFault) (Err Range) x y ex fy x_made y_made = absurd fy
   put_one file i bytes k states e f (Ok Already) r x y ex fy x_made y_made = absurd ex
   put_one file i bytes k states e f (Err Range) r x y ex fy x_made y_made = absurd ex
+  put_one file i bytes k states e f _ _ x y ex fy x_made y_made = absurd fy
 
   put_effect : (b : BlockId) (r : Result Put StoreError) {e f : _} → HasPutEffect b r e → HasPutEffect b r f → e ≡ f
-  put_effect b (Ok PutMarked) x y = cc
-  put_effect b (Ok PutWaiting) x y = cc
-  put_effect b (Ok Wrong) x y = cc
-  put_effect b (Err DeviceFault) x y = cc
   put_effect b (Ok Already) x y = absurd x
   put_effect b (Err Range) x y = absurd x
+  put_effect b _ x y = cc
 
   puts_one : {b bytes calls e f m n : _} → Puts dig s b bytes calls e m → Puts dig s b bytes calls f n → (e ≡ f) × (m ≡ n)
   puts_one {b} {bytes} {e} {f} x y =
       let same = file_one x.is_file y.is_file in
       let due : PutIsDue dig x.tree b.block bytes x.file.states y.result
       = rw same.1 (rw same.0 y.due) in
-      let result : x.result ≡ y.result = put_one b.file b.block bytes x.tree x.file.states e f x.result y.result x.due due x.has_effect y.has_effect x.made y.made in (
-        put_effect b x.result x.has_effect (rw result y.has_effect),
+      let result : x.result ≡ y.result = put_one _ _ bytes _ _ e f _ _ x.due due x.has_effect y.has_effect x.made y.made in (
+        put_effect b _ x.has_effect (rw result y.has_effect),
         x.after ∙ ap (λ (g : FileState). with_file s b.file (record g { states = states_after_put b.block x.result g.states })) same.0
             ∙ ap (λ r. with_file s b.file (record y.file { states = states_after_put b.block r y.file.states })) result ∙ sym y.after,
       )
@@ -259,22 +246,22 @@ module _ (dig : List ℕ → List ℕ) (s : EngineState) where
     request_one (not_marked xs xa xf xg xb xc xe) (ignored ya yb yc ye) = absurd (choked ya xa)
     request_one (not_marked xs xa xf xg xb xc xe) (no_place ya yf yb yc ye) = absurd (yf xs xf)
     request_one (not_marked xs xa xf xg xb xc xe) (not_marked ys ya yf yg yb yc ye) = (xc ∙ sym yc, xe ∙ sym ye)
-    request_one {ask} (not_marked xs xa xf xg xb xc xe) (served ys ya yf yg yx) = absurd (xg (rw (← (same_place s.torrent lay ask.piece ask.begin ask.length yf xf)) yg))
-    request_one {ask} (not_marked xs xa xf xg xb xc xe) (stopped ys ya yf yg yx) = absurd (xg (rw (← (same_place s.torrent lay ask.piece ask.begin ask.length yf xf)) yg))
+    request_one {ask} (not_marked xs xa xf xg xb xc xe) (served ys ya yf yg yx) = absurd (xg (rw (← (same_place _ lay _ _ _ yf xf)) yg))
+    request_one {ask} (not_marked xs xa xf xg xb xc xe) (stopped ys ya yf yg yx) = absurd (xg (rw (← (same_place _ lay _ _ _ yf xf)) yg))
     request_one (served xs xa xf xg xx) (ignored ya yb yc ye) = absurd (choked ya xa)
     request_one (served xs xa xf xg xx) (no_place ya yf yb yc ye) = absurd (yf xs xf)
-    request_one {ask} (served xs xa xf xg xx) (not_marked ys ya yf yg yb yc ye) = absurd (yg (rw (← (same_place s.torrent lay ask.piece ask.begin ask.length xf yf)) xg))
-    request_one {i} {p} {ask} {calls} {f} {n} (served xs xa xf xg xx) (served ys ya yf yg yx) = serves_one xx (rw (← (same_place s.torrent lay ask.piece ask.begin ask.length yf xf)) yx)
-    request_one {ask} {calls} {f} {n} (served xs xa xf xg xx) (stopped ys ya yf yg yx) = absurd (serve_or_stop xx (subst (λ t. StopsAtFault dig s t calls f n) (same_place s.torrent lay ask.piece ask.begin ask.length yf xf) yx))
+    request_one {ask} (served xs xa xf xg xx) (not_marked ys ya yf yg yb yc ye) = absurd (yg (rw (← (same_place _ lay _ _ _ xf yf)) xg))
+    request_one {i} {p} {ask} {calls} {f} {n} (served xs xa xf xg xx) (served ys ya yf yg yx) = serves_one xx (rw (← (same_place _ lay _ _ _ yf xf)) yx)
+    request_one {ask} {calls} {f} {n} (served xs xa xf xg xx) (stopped ys ya yf yg yx) = absurd (serve_or_stop xx (subst (λ t. StopsAtFault dig s t calls f n) (same_place _ lay _ _ _ yf xf) yx))
     request_one (stopped xs xa xf xg xx) (ignored ya yb yc ye) = absurd (choked ya xa)
     request_one (stopped xs xa xf xg xx) (no_place ya yf yb yc ye) = absurd (yf xs xf)
-    request_one {ask} (stopped xs xa xf xg xx) (not_marked ys ya yf yg yb yc ye) = absurd (yg (rw (← (same_place s.torrent lay ask.piece ask.begin ask.length xf yf)) xg))
-    request_one {ask} {calls} {e} {m} (stopped xs xa xf xg xx) (served ys ya yf yg yx) = absurd (serve_or_stop yx (subst (λ t. StopsAtFault dig s t calls e m) (same_place s.torrent lay ask.piece ask.begin ask.length xf yf) xx))
-    request_one {ask} {calls} {f} {n} (stopped xs xa xf xg xx) (stopped ys ya yf yg yx) = stops_one xx (rw (← (same_place s.torrent lay ask.piece ask.begin ask.length yf xf)) yx)
+    request_one {ask} (stopped xs xa xf xg xx) (not_marked ys ya yf yg yb yc ye) = absurd (yg (rw (← (same_place _ lay _ _ _ xf yf)) xg))
+    request_one {ask} {calls} {e} {m} (stopped xs xa xf xg xx) (served ys ya yf yg yx) = absurd (serve_or_stop yx (subst (λ t. StopsAtFault dig s t calls e m) (same_place _ lay _ _ _ xf yf) xx))
+    request_one {ask} {calls} {f} {n} (stopped xs xa xf xg xx) (stopped ys ya yf yg yx) = stops_one xx (rw (← (same_place _ lay _ _ _ yf xf)) yx)
 
     arrives_one : {i p piece begin bytes calls e f m n : _} → Arrives dig s i p piece begin bytes calls e m → Arrives dig s i p piece begin bytes calls f n → (e ≡ f) × (m ≡ n)
     arrives_one {i} {p} {piece} {begin} {bytes} {calls} {f} x y =
-        let block : x.block ≡ y.block = same_block s.torrent lay piece begin (length bytes) x.whole y.whole in
+        let block : x.block ≡ y.block = same_block _ lay piece begin _ x.whole y.whole in
         let puts = puts_one x.puts (rw block y.puts) in (
           puts.0,
           x.after ∙ ap (λ st. with_peer st i (with_payload (length bytes) (record p { asked = without_block x.block p.asked }))) puts.1

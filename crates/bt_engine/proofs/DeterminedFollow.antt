@@ -1,6 +1,6 @@
 -- What follows for a peer is one and no other, but for the blocks that are requested.
-use Rattle.bt_engine.proofs.Base.{◌≡◌, ℕ, zero, suc, inl, inr, Bool, true, false, not, List, [], ◌∷◌, ◌++◌, map, Some, refl, sym, ap, ◌∙◌, subst, arith, slice_get, slice_set, ◌↔◌, option_and_then, cases_lt, filter-append, Facts, IsPlan, planned_key, HashKey, BlockId, HashRequest}
-use Rattle.bt_engine.proofs.Machine.{Asked, PeerState, EngineState, state_at, tree_of, piece_of, Has, Sent, sent_to, IsInteresting, interest_sent, TellsInterest, NeedsLeaf, IsLeastNeed, RequestsHashes, requests, rests, RequestsEach, FollowsUp, FollowsEach, is_block_request, other_frames, asked_nothing, without_asked}
+use Rattle.bt_engine.proofs.Base.{◌≡◌, ℕ, zero, suc, inl, inr, Bool, true, false, not, List, [], ◌∷◌, ◌++◌, map, Some, refl, sym, ap, ◌∙◌, arith, slice_get, slice_set, ◌↔◌, option_and_then, cases_lt, filter-append, IsPlan, planned_key, BlockId, HashRequest}
+use Rattle.bt_engine.proofs.Machine.{Digest, Asked, PeerState, EngineState, state_at, tree_of, piece_of, Has, Sent, sent_to, IsInteresting, interest_sent, TellsInterest, NeedsLeaf, IsLeastNeed, RequestsHashes, requests, rests, RequestsEach, FollowsUp, FollowsEach, is_block_request, other_frames, asked_nothing, without_asked}
 use Rattle.bt_engine.proofs.Lists.{same_some}
 use Rattle.bt_engine.proofs.DeterminedParts.{anchor_one}
 
@@ -32,22 +32,20 @@ bool_one P Q false false f g x y = refl
 
 interest_plain : (p : PeerState) (was now : Bool) → interest_sent p was now ≡ interest_sent (asked_nothing p) was now
 interest_plain p true true = refl
-interest_plain p true false = refl
-interest_plain p false true = refl
-interest_plain p false false = refl
+interest_plain p _ _ = refl
 
 pub interest_one : {s t p q f g a b : _} → Alike s t → AlikePeers p q → TellsInterest s p f a → TellsInterest t q g b → (f ≡ g) × AlikePeers a b
 interest_one {s} {t} {p} {q} {a} {b} same peers x y =
     let now : a.am_interested ≡ b.am_interested
-    = bool_one _ _ a.am_interested b.am_interested (interesting_in s t p q same peers) (interesting_in t s q p (sym same) (sym peers)) x.interest y.interest in (
-      x.told ∙ interest_plain p p.am_interested a.am_interested ∙ ap (λ (z : PeerState). interest_sent z z.am_interested a.am_interested) peers
-          ∙ ap (λ n. interest_sent (asked_nothing q) q.am_interested n) now ∙ sym (interest_plain q q.am_interested b.am_interested) ∙ sym y.told,
+    = bool_one _ _ _ _ (interesting_in s t p q same peers) (interesting_in t s q p (sym same) (sym peers)) x.interest y.interest in (
+      x.told ∙ interest_plain p _ _ ∙ ap (λ (z : PeerState). interest_sent z z.am_interested a.am_interested) peers
+          ∙ ap (λ n. interest_sent (asked_nothing q) q.am_interested n) now ∙ sym (interest_plain q _ _) ∙ sym y.told,
       ap asked_nothing x.others ∙ ap (λ n. record (asked_nothing p) { am_interested = n }) now ∙ ap (λ (z : PeerState). record z { am_interested = b.am_interested }) peers ∙ sym (ap asked_nothing y.others),
     )
 
 -- ---- the hash request
 
-module _ (dig : List ℕ → List ℕ) where
+module _ (dig : Digest) where
   needs_in : {s t p q b : _} → Alike s t → AlikePeers p q → NeedsLeaf dig s p b → NeedsLeaf dig t q b
   needs_in {s} {t} {p} {q} {b} same peers x = record {
     has = has_in s t p q b same peers x.has;
@@ -112,7 +110,7 @@ other_append xs ys = filter-append (λ (x : Sent). not (is_block_request x.frame
 
 -- ---- all three
 
-module _ (dig : List ℕ → List ℕ) where
+module _ (dig : Digest) where
   pub follows_one : {s t i f g a b : _} → Alike s t → FollowsUp dig s i f a → FollowsUp dig t i g b → (other_frames f ≡ other_frames g) × Alike a b
   follows_one {s} {t} {i} same x y =
       let peer : AlikePeers x.peer y.peer = same_some

@@ -1,6 +1,6 @@
 -- What is left to an engine where the next wire event of a peer is taken.
-use Rattle.bt_engine.proofs.Base.{◌≡◌, ◌≢◌, ℕ, List, [], ◌++◌, map, Option, Some, None, refl, sym, ap, ◌∙◌, subst, Result, Ok, Err, slice_get, AllPairs, IsLaidOut, Facts, PeerKey, Takes, Waits}
-use Rattle.bt_engine.proofs.Machine.{Wire, Complete, EngineError, PeerState, EngineState, DeviceCalls, with_peer, new_complete_files, Sent, Output, Effect, haves, Handles, FollowsUp, IsPeer, without_peer, with_pending, TakesEvent, GoesOn, Closes, ShowsFault, StepNext, no_peer, waits, goes_on, closes, faulty, no_memory, IsOrderly, Answer, of_next, sent_by, other_frames, plain_answer, without_asked}
+use Rattle.bt_engine.proofs.Base.{◌≡◌, ◌≢◌, ℕ, List, [], ◌++◌, map, Option, Some, None, refl, sym, ap, ◌∙◌, subst, Result, Ok, Err, slice_get, AllPairs, IsLaidOut, Facts, PeerKey, Takes}
+use Rattle.bt_engine.proofs.Machine.{Digest, Wire, Complete, EngineError, PeerState, EngineState, DeviceCalls, with_peer, new_complete_files, Sent, Output, Effect, haves, Handles, FollowsUp, IsPeer, without_peer, with_pending, TakesEvent, GoesOn, Closes, ShowsFault, StepNext, no_peer, waits, goes_on, closes, faulty, no_memory, IsOrderly, Answer, of_next, sent_by, other_frames, plain_answer, without_asked}
 use Rattle.bt_engine.specs.declared.error.EngineError.TheVariants.{OutOfMemory}
 use Rattle.bt_engine.proofs.Lists.{set_same}
 use Rattle.bt_engine.proofs.AnswerParts.{event_leaves}
@@ -12,7 +12,7 @@ use Rattle.bt_engine.proofs.DeterminedAsks.{AreOne, are_equal, asks_to, asks_beh
 out_is : {a b : Output} → a.send ≡ b.send → a.close ≡ b.close → a.notes ≡ b.notes → a ≡ b
 out_is {a} {b} e f g = ap (λ l. record a { send = l }) e ∙ ap (λ c. record { send = b.send; close = c; notes = a.notes }) f ∙ ap (λ n. record { send = b.send; close = b.close; notes = n }) g
 
-module _ (dig : List ℕ → List ℕ) where
+module _ (dig : Digest) where
   module _ {s : EngineState} (key : PeerKey) (calls : DeviceCalls) (lay : IsLaidOut s.torrent.piece_length s.torrent.files) (roots : AllPairs (λ (j k : Facts). j.root ≢ k.root) s.trees) (o : IsOrderly s) where
     taken_one : {i p e f m n : _} → TakesEvent dig s i p calls e m → TakesEvent dig s i p calls f n → (e ≡ f) × (m ≡ n)
     taken_one {i} {p} {f} {n} x y =

@@ -1,6 +1,6 @@
 -- What is one and no other: events, peers, places, trees, refusals, and what is known after a claim.
-use Rattle.bt_engine.proofs.Base.{◌≡◌, ◌≢◌, ℕ, ◌+◌, ◌*◌, ◌<◌, inl, inr, List, [], ◌++◌, get_or, Option, Some, None, refl, sym, ap, ◌∙◌, subst, arith, slice_get, AllPairs, cases_lt, ext_get_or, Facts, blocks_of, held_at, value_at, IsAnchor, IsAnswer, Claims, top_digest, IsAcceptable, Accepts, DiffersBelow, IsHighestClash, IsRefused, shape, padding, no_anchor, top_differs, clash, refused_memory as no_memory, Claim, ProofError, Clash, OutOfMemory, claims_one, same_map, value_inside, value_covers, value_padding, cases_node, IsClaimBy, IsNoClaim, no_shape, no_count, claim_memory as no_room, HashKey, PeerKey, Stream, Takes, Waits, Fails, WireEvent, WireError, fault_alone, one_fault}
-use Rattle.bt_engine.proofs.Machine.{PeerState, EngineState, IsTreeOf, IsPeer, IsOrderly}
+use Rattle.bt_engine.proofs.Base.{◌≡◌, ◌≢◌, ℕ, ◌+◌, ◌*◌, ◌<◌, inl, inr, List, [], ◌++◌, Option, Some, None, refl, sym, ap, ◌∙◌, arith, AllPairs, cases_lt, ext_get_or, Facts, blocks_of, held_at, value_at, IsAnchor, IsAnswer, Claims, IsAcceptable, Accepts, DiffersBelow, IsHighestClash, IsRefused, shape, padding, no_anchor, top_differs, clash, refused_memory as no_memory, Clash, OutOfMemory, claims_one, same_map, value_inside, value_covers, value_padding, cases_node, IsClaimBy, IsNoClaim, no_shape, no_count, claim_memory as no_room, Takes, Waits, Fails, fault_alone, one_fault}
+use Rattle.bt_engine.proofs.Machine.{Digest, PeerState, EngineState, IsTreeOf, IsPeer, IsOrderly}
 use Rattle.bt_engine.proofs.Lists.{same_some, some_not_none}
 use Rattle.bt_engine.proofs.Pairs.{to_pairs, pairs_at}
 use Rattle.bt_engine.proofs.AnswerDue.{same_taking}
@@ -27,11 +27,11 @@ fails_one {s} {fault} {other} a b = one_fault s.greeted s.unread fault other a.s
 pub peer_one : {s key i j p q : _} → IsOrderly s → IsPeer s key i p → IsPeer s key j q → (i ≡ j) × (p ≡ q)
 peer_one {s} {i} {j} {p} {q} o a b =
     let keys : p.key.0 ≡ q.key.0 = cc in
-    let pairs = to_pairs (λ (x y : PeerState). x.key.0 < y.key.0) s.peers o.in_order in
+    let pairs = to_pairs (λ (x y : PeerState). x.key.0 < y.key.0) _ o.in_order in
     let place : i ≡ j = elim (cases_lt i j) [
-      | inl lt ↦ (let before = pairs_at (λ (x y : PeerState). x.key.0 < y.key.0) s.peers i j pairs a.here b.here lt in absurd (omega arith))
+      | inl lt ↦ (let before = pairs_at (λ (x y : PeerState). x.key.0 < y.key.0) _ i j pairs a.here b.here lt in absurd (omega arith))
       | inr le ↦ elim (cases_lt j i) [
-        | inl lt ↦ (let before = pairs_at (λ (x y : PeerState). x.key.0 < y.key.0) s.peers j i pairs b.here a.here lt in absurd (omega arith))
+        | inl lt ↦ (let before = pairs_at (λ (x y : PeerState). x.key.0 < y.key.0) _ j i pairs b.here a.here lt in absurd (omega arith))
         | inr ge ↦ omega arith
       ]
     ] in
@@ -39,11 +39,11 @@ peer_one {s} {i} {j} {p} {q} o a b =
 
 pub tree_one : {s : EngineState} {root t u k l : _} → AllPairs (λ j k. j.root ≢ k.root) s.trees → IsTreeOf s root t k → IsTreeOf s root u l → (t ≡ u) × (k ≡ l)
 tree_one {s} {t} {u} apart a b =
-    let pairs = to_pairs (λ (x y : Facts). x.root ≢ y.root) s.trees apart in
+    let pairs = to_pairs (λ (x y : Facts). x.root ≢ y.root) _ apart in
     let place : t ≡ u = elim (cases_lt t u) [
-      | inl lt ↦ absurd (pairs_at (λ (x y : Facts). x.root ≢ y.root) s.trees t u pairs a.here b.here lt (cc))
+      | inl lt ↦ absurd (pairs_at (λ (x y : Facts). x.root ≢ y.root) _ t u pairs a.here b.here lt (cc))
       | inr le ↦ elim (cases_lt u t) [
-        | inl lt ↦ absurd (pairs_at (λ (x y : Facts). x.root ≢ y.root) s.trees u t pairs b.here a.here lt (cc))
+        | inl lt ↦ absurd (pairs_at (λ (x y : Facts). x.root ≢ y.root) _ u t pairs b.here a.here lt (cc))
         | inr ge ↦ omega arith
       ]
     ] in
@@ -68,13 +68,13 @@ facts_is : {a b : Facts} → a.file_length ≡ b.file_length → a.root ≡ b.ro
 facts_is {a} {b} size root nodes =
     ap (λ x. record a { file_length = x }) size ∙ ap (λ x. record a { file_length = b.file_length; root = x }) root ∙ ap (λ x. record b { nodes = x }) nodes
 
-module _ (dig : List ℕ → List ℕ) where
+module _ (dig : Digest) where
   accepted_in : {k c a b : _} → Accepts dig k c a → Accepts dig k c b → (layer i : ℕ) (d : List ℕ) → held_at a layer i ≡ Some d → held_at b layer i ≡ Some d
   accepted_in x y layer i d e = elim (x.joins.only layer i d e) [ inl old ↦ y.joins.kept layer i d old | inr new ↦ y.joins.added layer i d new.0 new.1 ]
 
   pub accepts_one : {k c a b : _} → Accepts dig k c a → Accepts dig k c b → a ≡ b
   accepts_one {a} {b} x y = facts_is (cc) (cc)
-      (same_map a.nodes b.nodes (λ q. both_ways (held_at a q.0 q.1) (held_at b q.0 q.1) (accepted_in x y q.0 q.1) (accepted_in y x q.0 q.1)))
+      (same_map a.nodes b.nodes (λ q. both_ways _ _ (accepted_in x y q.0 q.1) (accepted_in y x q.0 q.1)))
 
   -- an answer's digests are one list
   pub answer_one : {k base index count layers ds es : _} → IsAnswer dig k base index count layers ds → IsAnswer dig k base index count layers es → ds ≡ es
@@ -134,39 +134,35 @@ module _ (dig : List ℕ → List ℕ) where
   pub refused_one : {k c f g : _} → IsRefused dig k c f → IsRefused dig k c g → f ≢ OutOfMemory → g ≢ OutOfMemory → f ≡ g
   refused_one (no_memory x) b m n = absurd (m refl)
   refused_one a (no_memory x) m n = absurd (n refl)
-  refused_one (shape x) (shape y) m n = refl
   refused_one (shape x) (padding y z) m n = absurd (x y)
   refused_one (shape x) (no_anchor y z w) m n = absurd (x y)
   refused_one (shape x) (top_differs d y z w v) m n = absurd (x y)
   refused_one (shape x) (clash l i o t y z w v) m n = absurd (x y)
   refused_one (padding x p) (shape y) m n = absurd (y x)
-  refused_one (padding x p) (padding y q) m n = refl
   refused_one (padding x p) (no_anchor y q w) m n = absurd (p q)
   refused_one (padding x p) (top_differs d y q w v) m n = absurd (p q)
   refused_one (padding x p) (clash l i o t y q w v) m n = absurd (p q)
   refused_one (no_anchor x p e) (shape y) m n = absurd (y x)
   refused_one (no_anchor x p e) (padding y q) m n = absurd (q p)
-  refused_one (no_anchor x p e) (no_anchor y q h) m n = refl
   refused_one (no_anchor x p e) (top_differs d y q h v) m n = absurd (none_some e h)
   refused_one (no_anchor x p e) (clash l i o t y q h v) m n = absurd (none_some e h)
   refused_one (top_differs d x p e v) (shape y) m n = absurd (y x)
   refused_one (top_differs d x p e v) (padding y q) m n = absurd (q p)
   refused_one (top_differs d x p e v) (no_anchor y q h) m n = absurd (none_some h e)
-  refused_one (top_differs d x p e v) (top_differs d2 y q h w) m n = refl
   refused_one (top_differs d x p e v) (clash l i o t y q h w) m n = absurd (v (same_some e h))
   refused_one (clash l i o t x p e v) (shape y) m n = absurd (y x)
   refused_one (clash l i o t x p e v) (padding y q) m n = absurd (q p)
   refused_one (clash l i o t x p e v) (no_anchor y q h) m n = absurd (none_some h e)
   refused_one (clash l i o t x p e v) (top_differs d y q h w) m n = absurd (w (same_some h e))
   refused_one (clash l i o t x p e v) (clash l2 i2 o2 t2 y q h w) m n = clash_one v w
+  refused_one _ _ m n = refl
 
 pub no_claim_one : {key digests f g : _} → IsNoClaim key digests f → IsNoClaim key digests g → f ≢ OutOfMemory → g ≢ OutOfMemory → f ≡ g
 no_claim_one (no_room x y) b m n = absurd (m refl)
 no_claim_one a (no_room x y) m n = absurd (n refl)
-no_claim_one (no_shape x) (no_shape y) m n = refl
 no_claim_one (no_shape x) (no_count y z) m n = absurd (x y)
 no_claim_one (no_count x z) (no_shape y) m n = absurd (y x)
-no_claim_one (no_count x z) (no_count y w) m n = refl
+no_claim_one _ _ m n = refl
 
 pub claim_or_not : {key digests f c : _} → IsNoClaim key digests f → IsClaimBy key digests c → f ≢ OutOfMemory → ⊥
 claim_or_not (no_shape x) y m = x y.shape

@@ -1,9 +1,8 @@
 -- What is left to an engine where peers come and go, bytes come, peers are chosen, and devices are synced.
-use Rattle.bt_engine.proofs.Base.{◌≡◌, ◌≢◌, ℕ, zero, suc, ◌+◌, ◌-◌, ◌*◌, ◌/◌, ◌%◌, ◌<◌, false, List, [], ◌∷◌, ◌++◌, length, map, get_or, replicate, Option, Some, None, refl, sym, ap, ◌∙◌, subst, arith, ◌==◌, All, Contains, Result, Ok, Err, range_with_len, Contains-append_right, Call, sync_made, sync_fault, total_pieces, IsLaidOut, PeerKey, same_peer, fed}
-use Rattle.bt_engine.proofs.Machine.{ConnectError, no_room_to_connect, EngineError, FlushError, PeerState, EngineState, DeviceCalls, piece_numbers, is_whole, with_peer, Sent, Output, bits_of, bits_in, without_peer, new_peer, IsOurBitfield, greeting, StepConnect, joins, full, spent, no_room as no_memory, StepFeed, feeds, not_fed, no_room as no_room_to_feed, StepLost, goes, not_fed as not_lost, chokes_sent, rechoked_peer, rechoked, StepRechoke, rechokes, not_rechoked, data_files, syncs_of, StepFlush, syncs, fails, IsOrderly, Answer, of_connect, of_feed, of_lost, of_rechoke, of_flush, sent_by, other_frames, plain_answer}
+use Rattle.bt_engine.proofs.Base.{◌≡◌, ◌≢◌, ℕ, zero, suc, ◌+◌, ◌*◌, ◌/◌, ◌%◌, ◌<◌, false, List, [], ◌∷◌, ◌++◌, length, get_or, Option, Some, None, refl, sym, ap, ◌∙◌, subst, arith, ◌==◌, All, Contains, Err, range_with_len, Contains-append_right, sync_made, sync_fault, IsLaidOut, same_peer}
+use Rattle.bt_engine.proofs.Machine.{Digest, no_room_to_connect, EngineState, Sent, Output, bits_of, bits_in, without_peer, IsOurBitfield, StepConnect, joins, full, spent, no_room as no_memory, StepFeed, feeds, not_fed, no_room as no_room_to_feed, StepLost, goes, not_fed as not_lost, chokes_sent, rechoked, StepRechoke, rechokes, not_rechoked, data_files, syncs_of, StepFlush, syncs, fails, IsOrderly, Answer, of_connect, of_feed, of_lost, of_rechoke, of_flush, sent_by, other_frames}
 use Rattle.bt_engine.specs.declared.error.EngineError.TheVariants.{OutOfMemory}
 use Rattle.bt_engine.proofs.Lists.{contains_map, here, get_map}
-use Rattle.bt_engine.proofs.Orderly.{length-bits_of}
 use Rattle.bt_engine.proofs.DeterminedParts.{peer_one}
 use Rattle.bt_engine.proofs.DeterminedEvents.{split_one}
 use Rattle.bt_engine.proofs.DeterminedFollow.{other_append, each_one}
@@ -12,12 +11,11 @@ use Rattle.bt_engine.proofs.DeterminedAsks.{AreOne, are_equal, asks_to, asks_beh
 -- ---- bitfields
 
 bit_one : (a b : ℕ) → a < 2 → b < 2 → (a == 1) ≡ (b == 1) → a ≡ b
-bit_one zero zero p q e = refl
 bit_one zero (suc zero) p q e = absurd cc
 bit_one (suc zero) zero p q e = absurd cc
-bit_one (suc zero) (suc zero) p q e = refl
 bit_one (suc (suc a)) b p q e = absurd (omega arith)
 bit_one a (suc (suc b)) p q e = absurd (omega arith)
+bit_one _ _ p q e = refl
 
 -- a byte is the sum of its bits
 byte_sum : {x : ℕ} → x < 256
@@ -26,14 +24,14 @@ byte_sum lt = omega arith
 
 byte_one : {x y : ℕ} → x < 256 → y < 256 → bits_of x ≡ bits_of y → x ≡ y
 byte_one {x} {y} p q e =
-    let b0 : x / 128 % 2 ≡ y / 128 % 2 = bit_one (x / 128 % 2) (y / 128 % 2) (omega arith) (omega arith) (ap (λ bs. get_or bs 0 false) e) in
-    let b1 : x / 64 % 2 ≡ y / 64 % 2 = bit_one (x / 64 % 2) (y / 64 % 2) (omega arith) (omega arith) (ap (λ bs. get_or bs 1 false) e) in
-    let b2 : x / 32 % 2 ≡ y / 32 % 2 = bit_one (x / 32 % 2) (y / 32 % 2) (omega arith) (omega arith) (ap (λ bs. get_or bs 2 false) e) in
-    let b3 : x / 16 % 2 ≡ y / 16 % 2 = bit_one (x / 16 % 2) (y / 16 % 2) (omega arith) (omega arith) (ap (λ bs. get_or bs 3 false) e) in
-    let b4 : x / 8 % 2 ≡ y / 8 % 2 = bit_one (x / 8 % 2) (y / 8 % 2) (omega arith) (omega arith) (ap (λ bs. get_or bs 4 false) e) in
-    let b5 : x / 4 % 2 ≡ y / 4 % 2 = bit_one (x / 4 % 2) (y / 4 % 2) (omega arith) (omega arith) (ap (λ bs. get_or bs 5 false) e) in
-    let b6 : x / 2 % 2 ≡ y / 2 % 2 = bit_one (x / 2 % 2) (y / 2 % 2) (omega arith) (omega arith) (ap (λ bs. get_or bs 6 false) e) in
-    let b7 : x / 1 % 2 ≡ y / 1 % 2 = bit_one (x / 1 % 2) (y / 1 % 2) (omega arith) (omega arith) (ap (λ bs. get_or bs 7 false) e) in
+    let b0 : x / 128 % 2 ≡ y / 128 % 2 = bit_one _ _ (omega arith) (omega arith) (ap (λ bs. get_or bs 0 false) e) in
+    let b1 : x / 64 % 2 ≡ y / 64 % 2 = bit_one _ _ (omega arith) (omega arith) (ap (λ bs. get_or bs 1 false) e) in
+    let b2 : x / 32 % 2 ≡ y / 32 % 2 = bit_one _ _ (omega arith) (omega arith) (ap (λ bs. get_or bs 2 false) e) in
+    let b3 : x / 16 % 2 ≡ y / 16 % 2 = bit_one _ _ (omega arith) (omega arith) (ap (λ bs. get_or bs 3 false) e) in
+    let b4 : x / 8 % 2 ≡ y / 8 % 2 = bit_one _ _ (omega arith) (omega arith) (ap (λ bs. get_or bs 4 false) e) in
+    let b5 : x / 4 % 2 ≡ y / 4 % 2 = bit_one _ _ (omega arith) (omega arith) (ap (λ bs. get_or bs 5 false) e) in
+    let b6 : x / 2 % 2 ≡ y / 2 % 2 = bit_one _ _ (omega arith) (omega arith) (ap (λ bs. get_or bs 6 false) e) in
+    let b7 : x / 1 % 2 ≡ y / 1 % 2 = bit_one _ _ (omega arith) (omega arith) (ap (λ bs. get_or bs 7 false) e) in
     omega (arith, byte_sum p, byte_sum q)
 
 pub bytes_one : (xs ys : List ℕ) → All (λ byte. byte < 256) xs → All (λ byte. byte < 256) ys → length xs ≡ length ys → bits_in xs ≡ bits_in ys → xs ≡ ys
@@ -41,7 +39,7 @@ bytes_one [] [] p q size e = refl
 bytes_one [] (y ∷ ys) p q size e = absurd (omega arith)
 bytes_one (x ∷ xs) [] p q size e = absurd (omega arith)
 bytes_one (x ∷ xs) (y ∷ ys) p q size e =
-    let parts = split_one (bits_of x) (bits_of y) (cc) e in
+    let parts = split_one _ _ (cc) e in
     ap (λ z. z ∷ xs) (byte_one (p 0 x (omega arith)) (q 0 y (omega arith)) parts.0)
     ∙ ap (λ zs. y ∷ zs) (bytes_one xs ys (λ k d lt. p (suc k) d (omega arith)) (λ k d lt. q (suc k) d (omega arith)) (omega arith) parts.1)
 
@@ -94,13 +92,13 @@ sends s sent = of_rechoke (Some (record { send = chokes_sent s ++ sent; close = 
 -- no two peers of an engine that events lead to have one key
 apart_at_first : {s : _} → IsOrderly s → KeysApart (rechoked s)
 apart_at_first {s} o i j p q x y e =
-    let u = get_map (rechoked_peer s) s.peers i x in
-    let v = get_map (rechoked_peer s) s.peers j y in
+    let u = get_map _ _ i x in
+    let v = get_map _ _ j y in
     (peer_one o
     (record { here = u.1; same_key = cc })
     (record { here = v.1; same_key = refl })).0
 
-pub rechoke_one : {dig : List ℕ → List ℕ} {s m n : EngineState} {a b : Option Output} → IsLaidOut s.torrent.piece_length s.torrent.files → IsOrderly s → StepRechoke dig s a m → StepRechoke dig s b n → a ≢ None → b ≢ None → AreOne (of_rechoke a) m (of_rechoke b) n
+pub rechoke_one : {dig : Digest} {s m n : EngineState} {a b : Option Output} → IsLaidOut s.torrent.piece_length s.torrent.files → IsOrderly s → StepRechoke dig s a m → StepRechoke dig s b n → a ≢ None → b ≢ None → AreOne (of_rechoke a) m (of_rechoke b) n
 rechoke_one lay o (not_rechoked x y) q r t = absurd (r x)
 rechoke_one lay o q (not_rechoked x y) r t = absurd (t x)
 rechoke_one {dig} {s} {m} {n} {a} {b} lay o (rechokes out x e) (rechokes other y f) r t =

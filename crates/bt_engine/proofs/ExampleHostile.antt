@@ -1,11 +1,11 @@
 -- What closes a peer, and what does not.
-use Rattle.bt_engine.proofs.Base.{◌≡◌, ◌∙◌, ◌≢◌, ℕ, ◌+◌, ◌%◌, ◌^◌, ◌-◌, ◌<◌, ◌≤◌, true, false, List, [], ◌∷◌, ◌++◌, length, drop, Some, None, Ok, refl, sym, ap, subst, arith, w32, to_be_bytes, append-nil, length-append, block_count, block_length, IsDigest, Facts, height, held_at, top_layer, top_node, IsRequest, IsRefused, top_differs, TopDiffers, IsKey, IsClaimBy, Missing, Wrong, stream, handshake_spelling, IsMessage, Fits, message_spelling, TooLong, Message as message_event, PeerMessage as Message, Have, Bitfield, Piece, HashRequest, Hashes, HashReject}
-use Rattle.bt_engine.proofs.Machine.{Why, Wire, BadPiece, BadBitfield, WrongBlock, UnknownRoot, Proof, Note, Stale, PeerState, EngineState, IsWholeBlock, with_payload, Sent, closing, stale, arrives, IsTreeOf, IsAnswered, rejected, unknown_root, refused, out_of_range, wrong as wrong_length, HandlesMessage, FollowsUp, goes_on, closes, faulty, StepFeed, first_key, all_taken, their_handshake, to_first, ThreeBlocks, zero_leaf, three_root, three_torrent, leaves_key, four_leaves, empty_engine, root_alone, leaves_peer, blocks_peer, ClosesOn, StaysOn, zero_root_key, far_key, HostileMessagesAreRuns, WrongBlockIsRun}
+use Rattle.bt_engine.proofs.Base.{◌≡◌, ◌∙◌, ◌≢◌, ℕ, ◌+◌, ◌^◌, ◌-◌, ◌≤◌, true, false, List, [], ◌∷◌, ◌++◌, length, drop, Some, None, Ok, refl, sym, ap, subst, arith, w32, to_be_bytes, append-nil, length-append, IsDigest, Facts, height, held_at, top_layer, top_node, IsRequest, IsRefused, top_differs, TopDiffers, IsKey, IsClaimBy, Missing, Wrong, stream, handshake_spelling, IsMessage, Fits, message_spelling, TooLong, Have, Bitfield, Piece, HashRequest, Hashes, HashReject}
+use Rattle.bt_engine.proofs.Machine.{Digest, Why, Wire, BadPiece, BadBitfield, WrongBlock, UnknownRoot, Proof, Note, Stale, PeerState, EngineState, with_payload, Sent, closing, stale, IsTreeOf, IsAnswered, rejected, unknown_root, refused, out_of_range, wrong as wrong_length, HandlesMessage, FollowsUp, faulty, StepFeed, first_key, their_handshake, to_first, ThreeBlocks, zero_leaf, three_root, leaves_key, four_leaves, empty_engine, root_alone, leaves_peer, blocks_peer, ClosesOn, StaysOn, far_key, HostileMessagesAreRuns, WrongBlockIsRun}
 use Rattle.bt_tree.specs.TreeShape.{height_up_to}
 use Rattle.bt_engine.proofs.Lists.{contains_none}
 use Rattle.bt_engine.proofs.ExamplePeer.{one_there, taken_message, piece_fits, went, closed_for, comes, fed_first}
 use Rattle.bt_engine.proofs.ExampleThreeTree.{at_first, leaves_claim, acceptable, root_held, top_is, leaves_length, claims}
-use Rattle.bt_engine.proofs.ExampleThreeEngine.{block, output_of, engine, whole_second, quietly, interesting, fed_to}
+use Rattle.bt_engine.proofs.ExampleThreeEngine.{block, engine, whole_second, quietly, interesting, fed_to}
 
 -- how long a key is
 key_size : (root p q r s : List ℕ) → length root ≡ 32 → length p ≡ 4 → length q ≡ 4 → length r ≡ 4 → length s ≡ 4 → length (root ++ p ++ q ++ r ++ s) ≡ 48
@@ -23,7 +23,7 @@ far_fits {root} root_size = record {
   whole = tt;
 }
 
-module _ (dig : List ℕ → List ℕ) (b : ThreeBlocks) (infohash : List ℕ) where
+module _ (dig : Digest) (b : ThreeBlocks) (infohash : List ℕ) where
   abbrev before_leaves : PeerState → EngineState
   before_leaves p = empty_engine dig b infohash (root_alone dig b) (p ∷ [])
 
@@ -34,7 +34,7 @@ module _ (dig : List ℕ → List ℕ) (b : ThreeBlocks) (infohash : List ℕ) w
   fed_peer bytes = record peer { stream = stream bytes true false }
 
   fed_leaves_peer : {bytes : _} → StepFeed (before_leaves peer) first_key bytes (Ok tt) (before_leaves (fed_peer bytes))
-  fed_leaves_peer = fed_to dig b infohash (at_first dig b) Missing Missing Missing peer refl refl
+  fed_leaves_peer = fed_to dig b _ _ _ _ _ peer refl refl
 
   -- a message that closes the peer, however it is taken
   closes_on : {m : _} (why : Why) → IsMessage m → Fits m → HandlesMessage dig (before_leaves peer) 0 peer m [] (closing why) (before_leaves peer) → ClosesOn dig (empty_engine dig b infohash (root_alone dig b)) peer (message_spelling m) why
@@ -46,7 +46,7 @@ module _ (dig : List ℕ → List ℕ) (b : ThreeBlocks) (infohash : List ℕ) w
       (
         _,
         refl,
-        closed_for why (before_leaves peer) refl refl (taken_message is fits) handles,
+        closed_for why _ refl refl (taken_message is fits) handles,
       ),
       refl,
     ),
@@ -69,7 +69,7 @@ module _ (dig : List ℕ → List ℕ) (b : ThreeBlocks) (infohash : List ℕ) w
       (
         _,
         refl,
-        went (record { send = sent; close = None; notes = notes; proofs = [] }) (before_leaves peer) refl refl refl (taken_message is fits) handles nothing_follows (sym (append-nil (sent ++ []) ∙ append-nil sent)) (sym (append-nil notes)),
+        went _ _ refl refl refl (taken_message is fits) handles nothing_follows (sym (append-nil (sent ++ []) ∙ append-nil sent)) (sym (append-nil notes)),
       ),
       refl,
     ),
@@ -137,7 +137,7 @@ module _ (dig : List ℕ → List ℕ) (b : ThreeBlocks) (infohash : List ℕ) w
   key_is : {root : _} → length root ≡ 32 → IsKey (record { root = root; base = 0; index = 0; length = 4; layers = 1 })
   key_is {root} size = record { root = size; base = omega arith; index = omega arith; length = omega arith; layers = omega arith }
 
-pub hostile_are_runs : (dig : List ℕ → List ℕ) → IsDigest dig → HostileMessagesAreRuns dig
+pub hostile_are_runs : (dig : Digest) → IsDigest dig → HostileMessagesAreRuns dig
 hostile_are_runs dig sizes b other infohash whole not_zeros differs = record {
   past_last = closes_on dig b infohash {m = Have 1} BadPiece (omega arith) (record { limit = omega arith; whole = tt }) (refl, out_of_range (omega arith) refl refl);
   long_bitfield = closes_on dig b infohash {m = Bitfield (128 ∷ 0 ∷ [])} BadBitfield tt (record { limit = omega arith; whole = tt }) (refl, wrong_length (λ e. absurd (omega arith)) refl refl);
@@ -154,7 +154,7 @@ hostile_are_runs dig sizes b other infohash whole not_zeros differs = record {
 
 -- ---- a block with the wrong digest
 
-pub wrong_is_run : (dig : List ℕ → List ℕ) → WrongBlockIsRun dig
+pub wrong_is_run : (dig : Digest) → WrongBlockIsRun dig
 wrong_is_run dig b wrong infohash k other size known =
     let p = record blocks_peer { stream = stream (message_spelling (Piece 0 16384 wrong)) true false } in (
       _,
@@ -164,7 +164,7 @@ wrong_is_run dig b wrong infohash k other size known =
         (
           _,
           refl,
-          closed_for WrongBlock (engine dig b infohash k Missing Missing Missing (with_payload 16384 (record blocks_peer { asked = block 0 ∷ block 2 ∷ [] }))) refl refl (taken_message (omega arith, omega arith) (piece_fits 16384 other.whole)) (comes (block 1) (Ok Wrong) (whole_second dig b infohash) other.whole (1, omega arith, refl) refl refl (record { inside = rw size (omega arith); whole = cc }, refl, (dig b.second, known, other.differs)) refl refl refl),
+          closed_for WrongBlock (engine dig b _ k Missing Missing Missing (with_payload 16384 (record blocks_peer { asked = block 0 ∷ block 2 ∷ [] }))) refl refl (taken_message (omega arith, omega arith) (piece_fits 16384 other.whole)) (comes (block 1) (Ok Wrong) (whole_second dig b infohash) other.whole (1, omega arith, refl) refl refl (record { inside = rw size (omega arith); whole = cc }, refl, (dig b.second, known, other.differs)) refl refl refl),
         ),
         refl,
       ),

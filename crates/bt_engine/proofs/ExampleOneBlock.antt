@@ -1,10 +1,10 @@
 -- The fetch of the file `abc` is a run.
-use Rattle.bt_engine.proofs.Base.{◌≡◌, ℕ, zero, suc, ◌+◌, ◌≤◌, ◌⊎◌, inl, inr, ◌↔◌, true, false, List, [], ◌∷◌, ◌++◌, length, Some, None, Ok, refl, sym, ap, ◌∙◌, subst, arith, rules, slice_get, Contains, option_and_then, append-nil, File, root_facts, digest_at_new, new_states, BlockState, Missing, Waiting, Marked, PutMarked, bytes_written, BlockId, Stream, stream, fed, Takes, handshake_spelling, Hello, Message as message_event, Ask, PeerMessage as Message, Interested, NotInterested, Unchoke, Have, Bitfield, Request, Piece}
-use Rattle.bt_engine.proofs.Machine.{NowMarked, Complete, Idle, PeerState, FileState, EngineState, block_id, state_at, tree_of, Has, IsAsked, IsWholeBlock, Sent, Output, no_effect, noting, arrives, ours, right, IsInteresting, NeedsLeaf, IsOpen, FollowsUp, rests, interest_sent, StepNext, goes_on, waits, StepConnect, joins, greeting, StepFeed, feeds, Starts, by_root, Run, abc, abc_file, abc_torrent, abc_engine, served_peer, piece_bytes, abc_events, abc_calls, abc_answers, FetchOfAbcIsRun, first_key, peer_with, all_taken, their_handshake, bitfield_bytes, unchoke_bytes, to_first}
+use Rattle.bt_engine.proofs.Base.{◌≡◌, ℕ, zero, suc, ◌+◌, ◌≤◌, ◌⊎◌, inl, inr, ◌↔◌, true, false, List, [], ◌∷◌, ◌++◌, length, Some, None, Ok, refl, sym, ap, ◌∙◌, subst, arith, rules, slice_get, Contains, option_and_then, append-nil, File, root_facts, digest_at_new, BlockState, Missing, Waiting, Marked, PutMarked, bytes_written, BlockId, Stream, stream, fed, Takes, handshake_spelling, Message as message_event, Ask, PeerMessage as Message, Interested, NotInterested, Have, Request, Piece}
+use Rattle.bt_engine.proofs.Machine.{Digest, NowMarked, Complete, Idle, PeerState, FileState, EngineState, block_id, state_at, tree_of, Has, IsAsked, IsWholeBlock, Output, noting, ours, right, IsInteresting, NeedsLeaf, FollowsUp, rests, interest_sent, StepNext, waits, StepConnect, joins, greeting, StepFeed, feeds, Starts, by_root, Run, abc, abc_file, abc_torrent, abc_engine, served_peer, piece_bytes, abc_events, abc_calls, abc_answers, FetchOfAbcIsRun, first_key, peer_with, all_taken, their_handshake, bitfield_bytes, unchoke_bytes, to_first}
 use Rattle.bt_tree.specs.TreeShape.{height_up_to}
 use Rattle.bt_sparse.specs.SparseTree.{value_at}
 use Rattle.bt_engine.proofs.ExamplePeer.{one_there, taken_bits, taken_unchoke, taken_hello, waits_empty, went, comes, fed_first}
-use Rattle.bt_engine.proofs.Lists.{some_is, contains_none, contains_cases, here, and_then_some, same_some}
+use Rattle.bt_engine.proofs.Lists.{some_is, contains_none, contains_cases, here, and_then_some}
 use Rattle.std.specs.FinMap as finite
 
 -- ---- the piece
@@ -14,7 +14,7 @@ taken_piece = record { bytes = piece_bytes; event = record { is_message = (omega
 
 -- ---- the engine
 
-value_here : (dig : List ℕ → List ℕ) → value_at dig (root_facts 3 (dig abc)) 0 0 ≡ Some (dig abc)
+value_here : (dig : Digest) → value_at dig (root_facts 3 (dig abc)) 0 0 ≡ Some (dig abc)
 unfolding value_at height_up_to
 value_here dig = digest_at_new finite.empty 0 0 (dig abc)
 
@@ -27,7 +27,7 @@ one_block (suc f) i e = absurd cc
 abbrev the_block : BlockId
 the_block = block_id 0 0
 
-module _ (dig : List ℕ → List ℕ) (infohash : List ℕ) where
+module _ (dig : Digest) (infohash : List ℕ) where
   abbrev engine : BlockState → PeerState → EngineState
   engine x p = abc_engine dig infohash x (p ∷ []) 2
 
@@ -35,7 +35,7 @@ module _ (dig : List ℕ → List ℕ) (infohash : List ℕ) where
   no_needs : (x : BlockState) (p q : PeerState) (b : BlockId) → ¬ NeedsLeaf dig (engine x p) q b
   no_needs x p q b needs =
       let y : (y : BlockState) × (state_at (engine x p) b ≡ Some y) = elim needs.not_marked [ inl m ↦ (Missing, m) | inr w ↦ (Waiting, w) ] in
-      let one = one_block b.file b.block y.1 in
+      let one = one_block _ _ y.1 in
       let at_file : tree_of (engine x p) b.file ≡ Some (root_facts 3 (dig abc)) = cc in
       let same : needs.tree ≡ root_facts 3 (dig abc) = cc in
       let known : value_at dig needs.tree 0 b.block ≡ Some (dig abc) = ap (λ k. value_at dig k 0 b.block) same ∙ ap (value_at dig (root_facts 3 (dig abc)) 0) one.1 ∙ value_here dig in
@@ -59,7 +59,7 @@ module _ (dig : List ℕ → List ℕ) (infohash : List ℕ) where
   interesting p has = (the_block, ap (λ h. slice_get h 0) has, refl)
 
   none_missing : (p : PeerState) (b : BlockId) → ¬ (state_at (engine Marked p) b ≡ Some Missing)
-  none_missing p b e = let one = one_block b.file b.block e in absurd cc
+  none_missing p b e = let one = one_block _ _ e in absurd cc
 
   -- what follows where nothing is requested
   quietly : (x : BlockState) (p : PeerState) {q sent : _} → q ≡ record p { am_interested = q.am_interested } → ((q.am_interested ≡ true) ↔ IsInteresting (engine x p) p) → sent ≡ interest_sent p p.am_interested q.am_interested
@@ -98,12 +98,12 @@ module _ (dig : List ℕ → List ℕ) (infohash : List ℕ) where
   after_bits : FollowsUp dig (engine Missing (peer_with all_taken false true true Idle [] 0)) 0 (to_first Interested ∷ []) (engine Missing (peer_with all_taken true true true Idle [] 0))
   after_bits =
       let p = peer_with all_taken false true true Idle [] 0 in
-      quietly Missing p refl (λ e. interesting p refl, λ i. refl) refl (inl refl) (omega arith)
+      quietly _ p refl (λ e. interesting p refl, λ i. refl) refl (inl refl) (omega arith)
 
   after_piece : FollowsUp dig (engine Marked (peer_with all_taken true false true Idle [] 3)) 0 (to_first NotInterested ∷ []) (engine Marked served_peer)
   after_piece =
       let p = peer_with all_taken true false true Idle [] 3 in
-      quietly Marked p refl (λ e. absurd cc, λ i. absurd (none_missing p i.0 i.2)) refl (inr refl) (omega arith)
+      quietly _ p refl (λ e. absurd cc, λ i. absurd (none_missing p i.0 i.2)) refl (inr refl) (omega arith)
 
   unasked : (p : PeerState) (b : BlockId) → p.asked ≡ [] → ¬ IsAsked (engine Missing p) b
   unasked p b none asked = elim (contains_cases [] asked.1) [
@@ -112,7 +112,7 @@ module _ (dig : List ℕ → List ℕ) (infohash : List ℕ) where
   ]
 
   the_one : (p : PeerState) {b : _} → state_at (engine Missing p) b ≡ Some Missing → the_block ≡ b
-  the_one p {b} e = let one = one_block b.file b.block e in ap (λ i. block_id 0 i) (sym one.1) ∙ ap (λ f. record b { file = f }) (sym one.0)
+  the_one p {b} e = let one = one_block _ _ e in ap (λ i. block_id 0 i) (sym one.1) ∙ ap (λ f. record b { file = f }) (sym one.0)
 
   abbrev first_ask : Ask
   first_ask = record { piece = 0; begin = 0; length = 3 }
@@ -130,11 +130,11 @@ module _ (dig : List ℕ → List ℕ) (infohash : List ℕ) where
         blocks = the_block ∷ [];
         here = refl;
         interest = record { interest = (λ e. interesting p refl, λ i. refl); others = refl; told = refl };
-        hashes = rests (λ idle b. no_needs Missing p p b) refl refl;
+        hashes = rests (λ idle b. no_needs _ p p b) refl refl;
         asks = record {
           shut = λ x. elim x [ inl e ↦ absurd cc | inr e ↦ absurd cc ];
           are_open = λ b c. elim (contains_cases [] c) [
-            | inl same ↦ rw (← same) (record { has = refl; missing = refl; free = unasked p the_block refl })
+            | inl same ↦ rw (← same) (record { has = refl; missing = refl; free = unasked p _ refl })
             | inr more ↦ absurd (contains_none more)
           ];
           distinct = λ i j d lt below. absurd (omega arith);
@@ -158,16 +158,16 @@ module _ (dig : List ℕ → List ℕ) (infohash : List ℕ) where
       (engine Missing (peer_with all_taken false true false Idle [] 0))
   next_hello size =
       let p = peer_with (stream (handshake_spelling (their_handshake infohash)) false false) false true false Idle [] 0 in
-      went no_effect (engine Missing (peer_with all_taken false true false Idle [] 0)) refl refl refl (taken_hello infohash size) (refl, ours refl refl, refl) after_hello refl refl
+      went _ _ refl refl refl (taken_hello _ size) (refl, ours refl refl, refl) after_hello refl refl
 
   next_bits : StepNext dig (engine Missing (peer_with (stream bitfield_bytes true false) false true false Idle [] 0)) first_key [] (Ok (Some (only_sends Interested))) (engine Missing (peer_with all_taken true true true Idle [] 0))
   next_bits =
-      went no_effect (engine Missing (peer_with all_taken false true true Idle [] 0)) refl refl refl taken_bits (refl, right refl refl refl) after_bits refl refl
+      went _ _ refl refl refl taken_bits (refl, right refl refl refl) after_bits refl refl
 
   next_unchoke : StepNext dig (engine Missing (peer_with (stream unchoke_bytes true false) true true true Idle [] 0)) first_key [] (Ok (Some (only_sends (Request first_ask))))
       (engine Missing (peer_with all_taken true false true Idle (the_block ∷ []) 0))
   next_unchoke =
-      went no_effect (engine Missing (peer_with all_taken true false true Idle [] 0)) refl refl refl taken_unchoke (refl, refl, refl) after_unchoke refl refl
+      went _ _ refl refl refl taken_unchoke (refl, refl, refl) after_unchoke refl refl
 
   abbrev last_output : Output
   last_output = record { send = to_first (Have 0) ∷ to_first NotInterested ∷ []; close = None; notes = NowMarked the_block ∷ Complete 0 ∷ [] }
@@ -245,5 +245,5 @@ module _ (dig : List ℕ → List ℕ) (infohash : List ℕ) where
     ),
   )
 
-pub fetch_is_run : (dig : List ℕ → List ℕ) → FetchOfAbcIsRun dig
-fetch_is_run dig infohash size = record { starts = starts dig infohash; runs = runs dig infohash size; complete = refl }
+pub fetch_is_run : (dig : Digest) → FetchOfAbcIsRun dig
+fetch_is_run dig infohash size = record { starts = starts dig _; runs = runs dig _ size; complete = refl }

@@ -1,7 +1,6 @@
 -- The messages of the peer of the worked examples, and lists of one.
-use Rattle.bt_engine.proofs.Base.{◌≡◌, ℕ, zero, suc, true, false, List, [], ◌∷◌, ◌++◌, length, replicate, Option, Some, None, refl, sym, ap, ◌∙◌, arith, slice_get, w32, to_be_bytes, append-nil, length-append, length-take, stream, Takes, Waits, HasNoEvent, ShowsNoFault, handshake_spelling, Body, IsMessage, Fits, frame_spelling, message_spelling, BadProtocol, TooLong, BadLength, Failed, Hello, Message as message_event, PeerMessage, Unchoke, Bitfield, Piece, event_frame, BlockId, Contains, Facts, Ok, Put, PutIsDue, Result, StoreError, WireEvent, calls_of_put, fed, map, states_after_put, without_block}
-use Rattle.bt_engine.proofs.Machine.{all_taken, their_handshake, bitfield_bytes, unchoke_bytes, Complete, DeviceCalls, Effect, EngineState, FileState, FollowsUp, Handles, HandlesPiece, HasPutEffect, IsWholeBlock, Note, PeerState, Sent, StepFeed, StepNext, Why, arrives, calls_at, closes, closing, feeds, first_key, goes_on, haves, new_complete_files, with_file, with_payload, with_peer, with_pending, without_peer}
-use Rattle.bt_wire.specs.declared.event.WireError.TheVariants.{OutOfMemory}
+use Rattle.bt_engine.proofs.Base.{◌≡◌, ℕ, zero, suc, true, false, List, [], ◌∷◌, ◌++◌, length, replicate, Option, Some, None, refl, sym, ap, ◌∙◌, arith, slice_get, w32, to_be_bytes, append-nil, length-append, length-take, stream, Takes, Waits, HasNoEvent, ShowsNoFault, handshake_spelling, Body, IsMessage, Fits, frame_spelling, message_spelling, TooLong, BadLength, Hello, Message as message_event, Unchoke, Bitfield, Piece, event_frame, BlockId, Contains, Facts, Ok, Put, PutIsDue, Result, StoreError, WireEvent, calls_of_put, fed, map, states_after_put, without_block}
+use Rattle.bt_engine.proofs.Machine.{Digest, all_taken, their_handshake, bitfield_bytes, unchoke_bytes, Complete, DeviceCalls, Effect, EngineState, FileState, FollowsUp, Handles, HandlesPiece, HasPutEffect, IsWholeBlock, Note, PeerState, Sent, StepFeed, StepNext, Why, arrives, calls_at, closes, closing, feeds, first_key, goes_on, haves, new_complete_files, with_file, with_payload, with_peer, with_pending, without_peer}
 use Rattle.bt_engine.proofs.Lists.{some_is}
 
 pub one_there : {X : Type 0} {x y : X} (i : ℕ) → slice_get (x ∷ []) i ≡ Some y → (i ≡ 0) × (x ≡ y)
@@ -34,14 +33,12 @@ pub waits_empty : Waits all_taken
 waits_empty = record { running = refl; no_event = nothing; no_fault = faultless }
   where
     nothing : HasNoEvent true []
-    nothing e bytes rest event same = let f = event_frame e bytes event in front_none f.body rest f.spelled same
+    nothing e bytes rest event same = let f = event_frame e bytes event in front_none _ rest f.spelled same
 
     faultless : ShowsNoFault true []
-    faultless BadProtocol shown = shown
     faultless TooLong shown = let long = shown.front in absurd cc
     faultless BadLength shown = let long = shown.front in absurd cc
-    faultless OutOfMemory shown = shown
-    faultless Failed shown = shown
+    faultless _ shown = shown
 
 -- a message that was fed alone is taken, and nothing is left
 pub taken_message : {m : _} → IsMessage m → Fits m → Takes (stream (message_spelling m) true false) (message_event m) all_taken
@@ -68,7 +65,7 @@ pub fed_first : {s : EngineState} {p : PeerState} {bytes : List ℕ} → slice_g
 fed_first here key = feeds 0 _ (record { here = here; same_key = key }) refl refl
 
 -- a message is taken, and the peer stays: what the message does by itself, the engine then, and what follows
-pub went : {dig : List ℕ → List ℕ} {s new : EngineState} {p : PeerState} {calls : DeviceCalls} {send sent : List Sent} {notes : List Note} {event : WireEvent} (effect : Effect) (mid : EngineState)
+pub went : {dig : Digest} {s new : EngineState} {p : PeerState} {calls : DeviceCalls} {send sent : List Sent} {notes : List Note} {event : WireEvent} (effect : Effect) (mid : EngineState)
     → slice_get s.peers 0 ≡ Some p → p.key ≡ first_key → effect.close ≡ None → Takes p.stream event all_taken
     → Handles dig (with_peer s 0 (record p { stream = all_taken })) 0 (record p { stream = all_taken }) event calls effect mid
     → FollowsUp dig (with_pending s mid effect.proofs) 0 sent new → send ≡ effect.send ++ haves s mid ++ sent
@@ -80,7 +77,7 @@ went effect mid here key stays takes handles follows send notes =
     refl
 
 -- a message is taken, and closes the peer
-pub closed_for : {dig : List ℕ → List ℕ} {s : EngineState} {p : PeerState} {calls : DeviceCalls} {event : WireEvent} (why : Why) (mid : EngineState)
+pub closed_for : {dig : Digest} {s : EngineState} {p : PeerState} {calls : DeviceCalls} {event : WireEvent} (why : Why) (mid : EngineState)
     → slice_get s.peers 0 ≡ Some p → p.key ≡ first_key → Takes p.stream event all_taken
     → Handles dig (with_peer s 0 (record p { stream = all_taken })) 0 (record p { stream = all_taken }) event calls (closing why) mid
     → StepNext dig s first_key calls (Ok (Some (record { send = []; close = Some why; notes = [] }))) (without_peer 0 mid)
@@ -90,7 +87,7 @@ closed_for why mid here key takes handles =
     refl
 
 -- a block that was asked for comes, and is put into its file
-pub comes : {dig : List ℕ → List ℕ} {s mid : EngineState} {p : PeerState} {begin n : ℕ} {bytes : List ℕ} {calls : DeviceCalls} {effect : Effect} {file : FileState} {k : Facts} (b : BlockId) (r : Result Put StoreError)
+pub comes : {dig : Digest} {s mid : EngineState} {p : PeerState} {begin n : ℕ} {bytes : List ℕ} {calls : DeviceCalls} {effect : Effect} {file : FileState} {k : Facts} (b : BlockId) (r : Result Put StoreError)
     → IsWholeBlock s.torrent 0 begin n b → length bytes ≡ n → Contains p.asked b → slice_get s.files b.file ≡ Some file → slice_get s.trees file.tree ≡ Some k
     → PutIsDue dig k b.block bytes file.states r → calls ≡ calls_at b.file (calls_of_put b.block bytes r) → HasPutEffect b r effect
     → mid ≡ with_peer (with_file s b.file (record file { states = states_after_put b.block r file.states })) 0 (with_payload n (record p { asked = without_block b p.asked }))

@@ -1,6 +1,6 @@
 -- Requests are served, ignored, or close their peer.
-use Rattle.bt_engine.proofs.Base.{◌≡◌, ◌∙◌, ℕ, zero, suc, ◌+◌, ◌≤◌, inl, inr, true, false, List, [], ◌∷◌, ◌++◌, length, take, drop, Some, Ok, refl, sym, ap, subst, arith, Contains, append-nil, length-drop, drop-append-le, take-append-add, block_length, bytes_given, IsPlace, Span, Facts, given, IsRight, BlockState, Missing, Waiting, Marked, BlockId, Stream, stream, fed, Takes, Message as message_event, Ask, Interested, Unchoke, Request, Piece}
-use Rattle.bt_engine.proofs.Machine.{BadRequest, PeerState, EngineState, DeviceCalls, reads_at, block_id, state_at, spanned_blocks, cut_from, Sent, no_effect, closing, sending, ignored, no_place, served, NeedsLeaf, FollowsUp, rests, interest_sent, StepNext, goes_on, closes, StepFeed, feeds, StepRechoke, rechokes, Run, first_key, all_taken, to_first, ThreeBlocks, AreWhole, three_file, three_torrent, KnowsTwo, marked_engine, reader, interested_bytes, request_bytes, long_request_bytes, serving_events, serving_calls, serving_answers, ServingIsRun}
+use Rattle.bt_engine.proofs.Base.{◌≡◌, ◌∙◌, ℕ, zero, suc, ◌+◌, ◌≤◌, inl, inr, true, false, List, [], ◌∷◌, ◌++◌, length, take, drop, Some, Ok, refl, sym, ap, subst, arith, Contains, append-nil, length-drop, drop-append-le, take-append-add, bytes_given, IsPlace, Span, Facts, given, IsRight, Missing, Marked, BlockId, Stream, stream, fed, Takes, Message as message_event, Ask, Interested, Unchoke, Request, Piece}
+use Rattle.bt_engine.proofs.Machine.{Digest, BadRequest, PeerState, EngineState, DeviceCalls, block_id, state_at, spanned_blocks, cut_from, Sent, sending, ignored, no_place, served, NeedsLeaf, FollowsUp, rests, StepNext, closes, StepFeed, feeds, StepRechoke, rechokes, Run, first_key, all_taken, to_first, ThreeBlocks, AreWhole, three_file, three_torrent, KnowsTwo, marked_engine, reader, interested_bytes, request_bytes, long_request_bytes, serving_events, serving_calls, serving_answers, ServingIsRun}
 use Rattle.bt_engine.proofs.Lists.{contains_none, contains_cases}
 use Rattle.bt_engine.proofs.ExampleThreeEngine.{output_of, IsOne, first, second, third, one_of}
 use Rattle.bt_engine.proofs.ExamplePeer.{went, closed_for, fed_first}
@@ -34,7 +34,7 @@ taken_long = record {
   not_failed = refl;
 }
 
-module _ (dig : List ℕ → List ℕ) (b : ThreeBlocks) (infohash : List ℕ) (k : Facts) where
+module _ (dig : Digest) (b : ThreeBlocks) (infohash : List ℕ) (k : Facts) where
   abbrev engine : ℕ → PeerState → EngineState
   engine turn p = marked_engine dig b infohash k turn (p ∷ [])
 
@@ -44,7 +44,7 @@ module _ (dig : List ℕ → List ℕ) (b : ThreeBlocks) (infohash : List ℕ) (
   -- ---- nothing follows: each block is marked
 
   all_marked : (turn : ℕ) (p : PeerState) (c : BlockId) {state : _} → state_at (engine turn p) c ≡ Some state → state ≡ Marked
-  all_marked turn p c {state} e = by (one_of c.file c.block e)
+  all_marked turn p c {state} e = by (one_of _ _ e)
     where
       by : IsOne Marked Marked Marked c state → state ≡ Marked
       by (first x y) = sym y
@@ -93,10 +93,10 @@ module _ (dig : List ℕ → List ℕ) (b : ThreeBlocks) (infohash : List ℕ) (
 
   next_interested : StepNext dig (engine 0 (with_stream (stream interested_bytes true false) (reader true false 0))) first_key [] (Ok (Some (output_of [] []))) (engine 0 (reader true true 0))
   next_interested =
-      went no_effect (engine 0 (reader true true 0)) refl refl refl taken_interested (refl, refl, refl) (nothing_follows 0 (reader true true 0) refl (omega arith)) refl refl
+      went _ _ refl refl refl taken_interested (refl, refl, refl) (nothing_follows 0 _ refl (omega arith)) refl refl
 
   unchokes : StepRechoke dig (engine 0 (reader true true 0)) (Some (output_of (to_first Unchoke ∷ []) [])) (engine 1 (reader false true 0))
-  unchokes = rechokes (output_of (to_first Unchoke ∷ []) []) (record { sent = []; follows = (engine 1 (reader false true 0), [], [], nothing_follows 1 (reader false true 0) refl (omega arith), (refl, refl), refl); is = refl }) refl
+  unchokes = rechokes (output_of (to_first Unchoke ∷ []) []) (record { sent = []; follows = (engine 1 (reader false true 0), [], [], nothing_follows 1 _ refl (omega arith), (refl, refl), refl); is = refl }) refl
 
   abbrev range_span : Span
   range_span = record { file = 0; start = 16334; length = 100 }
@@ -131,11 +131,11 @@ module _ (dig : List ℕ → List ℕ) (b : ThreeBlocks) (infohash : List ℕ) (
 
   next_request : AreWhole b → KnowsTwo dig b k → StepNext dig (engine 1 (with_stream (stream request_bytes true false) (reader false true 0))) first_key two_reads (Ok (Some (output_of piece_sent []))) (engine 1 (reader false true 100))
   next_request whole knows =
-      went (sending (reader false true 0) (Piece 0 16334 (drop 16334 b.first ++ take 50 b.second))) (engine 1 (reader false true 100)) refl refl refl taken_request (served range_span refl range_place (of_two (λ i. state_at (engine 1 (reader false true 0)) (block_id 0 i) ≡ Some Marked) refl refl) (record { file = record { tree = 0; states = Marked ∷ Marked ∷ Marked ∷ [] }; tree = k; bytes = two_blocks; reads = given 0 b.first ∷ given 1 b.second ∷ []; is_file = record { here = refl; hung = refl }; right = record { made = refl; right = of_two (λ i. IsRight dig k i (two_blocks i)) (record { whole = cc; leaf = knows.first }) (record { whole = cc; leaf = knows.second }); }; made = cc; sent = ap (λ l. sending (reader false true 0) (Piece 0 16334 l)) (sym (cut whole)); after = refl; })) (nothing_follows 1 (reader false true 100) refl (omega arith)) refl refl
+      went _ _ refl refl refl taken_request (served range_span refl range_place (of_two (λ i. state_at (engine 1 (reader false true 0)) (block_id 0 i) ≡ Some Marked) refl refl) (record { file = record { tree = 0; states = Marked ∷ Marked ∷ Marked ∷ [] }; tree = k; bytes = two_blocks; reads = given 0 b.first ∷ given 1 b.second ∷ []; is_file = record { here = refl; hung = refl }; right = record { made = refl; right = of_two (λ i. IsRight dig k i (two_blocks i)) (record { whole = cc; leaf = knows.first }) (record { whole = cc; leaf = knows.second }); }; made = cc; sent = ap (λ l. sending (reader false true 0) (Piece 0 16334 l)) (sym (cut whole)); after = refl; })) (nothing_follows 1 _ refl (omega arith)) refl refl
 
   next_ignored : StepNext dig (engine 0 (with_stream (stream request_bytes true false) (reader true true 0))) first_key [] (Ok (Some (output_of [] []))) (engine 0 (reader true true 0))
   next_ignored =
-      went no_effect (engine 0 (reader true true 0)) refl refl refl taken_request (ignored refl refl refl refl) (nothing_follows 0 (reader true true 0) refl (omega arith)) refl refl
+      went _ _ refl refl refl taken_request (ignored refl refl refl refl) (nothing_follows 0 _ refl (omega arith)) refl refl
 
   -- no range is longer than a block
   too_long : (span : Span) → ¬ IsPlace (three_torrent dig b infohash) 0 0 16385 span
@@ -143,7 +143,7 @@ module _ (dig : List ℕ → List ℕ) (b : ThreeBlocks) (infohash : List ℕ) (
 
   next_closed : StepNext dig (engine 1 (with_stream (stream long_request_bytes true false) (reader false true 0))) first_key [] (Ok (Some (record { send = []; close = Some BadRequest; notes = [] }))) (marked_engine dig b infohash k 1 [])
   next_closed =
-      closed_for BadRequest (engine 1 (reader false true 0)) refl refl taken_long (no_place refl too_long refl refl refl)
+      closed_for _ _ refl refl taken_long (no_place refl too_long refl refl refl)
 
   serves : AreWhole b → KnowsTwo dig b k → Run dig (engine 0 (reader true false 0)) serving_events (serving_calls b) (serving_answers b) (engine 1 (reader false true 100))
   serves whole knows = (
@@ -164,17 +164,17 @@ module _ (dig : List ℕ → List ℕ) (b : ThreeBlocks) (infohash : List ℕ) (
     ),
   )
 
-pub serving_is_run : (dig : List ℕ → List ℕ) → ServingIsRun dig
+pub serving_is_run : (dig : Digest) → ServingIsRun dig
 serving_is_run dig b infohash k whole knows = record {
-  serves = serves dig b infohash k whole knows;
+  serves = serves dig b _ k whole knows;
   ignores = (
     _,
     (_, refl, refl, fed_first refl refl),
-    (_, (_, refl, next_ignored dig b infohash k), refl),
+    (_, (_, refl, next_ignored dig b _ k), refl),
   );
   closes = (
     _,
     (_, refl, refl, fed_first refl refl),
-    (_, (_, refl, next_closed dig b infohash k), refl),
+    (_, (_, refl, next_closed dig b _ k), refl),
   );
 }

@@ -1,11 +1,11 @@
 -- The fetch of three blocks is a run.
-use Rattle.bt_engine.proofs.Base.{◌≡◌, ℕ, zero, suc, true, false, List, [], ◌∷◌, length, Some, Ok, refl, sym, ap, subst, arith, slice_get, option_map, IsDigest, bytes_written, BlockState, Missing, Marked, PutMarked, BlockId, stream, handshake_spelling, message_spelling, Message as message_event, NotInterested, Have, Piece}
-use Rattle.bt_engine.proofs.Machine.{Note, NowMarked, Complete, HashState, Idle, Asked, PeerState, FileState, EngineState, IsWholeBlock, Sent, no_effect, noting, judged_file, due_blocks, with_payload, arrives, learns, resolved, new_proofs, IsOpen, FollowsUp, StepNext, goes_on, Run, first_key, peer_with, all_taken, their_handshake, bitfield_bytes, unchoke_bytes, to_first, ThreeBlocks, AreWhole, three_torrent, leaves_key, four_leaves, leaves_message, three_events, three_calls, three_answers, FetchOfThreeIsRun}
+use Rattle.bt_engine.proofs.Base.{◌≡◌, ℕ, zero, suc, true, false, List, [], ◌∷◌, length, Some, Ok, refl, sym, ap, arith, slice_get, option_map, IsDigest, bytes_written, BlockState, Missing, Marked, PutMarked, stream, message_spelling, NotInterested, Have, Piece}
+use Rattle.bt_engine.proofs.Machine.{Digest, Note, NowMarked, Complete, HashState, Idle, Asked, PeerState, FileState, EngineState, Sent, no_effect, noting, judged_file, due_blocks, learns, resolved, new_proofs, IsOpen, FollowsUp, StepNext, Run, first_key, peer_with, all_taken, to_first, ThreeBlocks, AreWhole, leaves_key, four_leaves, leaves_message, three_events, three_calls, three_answers, FetchOfThreeIsRun}
 use Rattle.bt_engine.proofs.ExamplePeer.{one_there, taken_message, piece_fits, went, comes, fed_first}
 use Rattle.bt_engine.proofs.ExampleThreeTree.{at_first, proved, leaves_claim, accepts, first_known, second_known, third_known, claims}
-use Rattle.bt_engine.proofs.ExampleThreeEngine.{block, all_three, asked_peer, output_of, IsOne, first, second, third, engine, is_one, whole_first, whole_second, whole_third, needs_none, quietly, interesting, none_missing, not_open, next_hello, next_bits, next_unchoke, key_fits, leaves_fit, fed_to, start, connects, starts}
+use Rattle.bt_engine.proofs.ExampleThreeEngine.{block, all_three, asked_peer, output_of, IsOne, first, second, third, engine, is_one, whole_first, whole_second, whole_third, needs_none, quietly, interesting, none_missing, not_open, next_hello, next_bits, next_unchoke, key_fits, leaves_fit, start, connects, starts}
 
-module _ (dig : List ℕ → List ℕ) (b : ThreeBlocks) (infohash : List ℕ) where
+module _ (dig : Digest) (b : ThreeBlocks) (infohash : List ℕ) where
   after_leaves : FollowsUp dig (engine dig b infohash (proved dig b) Missing Missing Missing (peer_with all_taken true true true Idle [] 0)) 0 [] (engine dig b infohash (proved dig b) Missing Missing Missing (peer_with all_taken true true true Idle [] 0))
   after_leaves =
       let p = peer_with all_taken true true true Idle [] 0 in
@@ -147,7 +147,7 @@ module _ (dig : List ℕ → List ℕ) (b : ThreeBlocks) (infohash : List ℕ) w
     ),
   )
 
-pub fetch_is_run : (dig : List ℕ → List ℕ) → IsDigest dig → FetchOfThreeIsRun dig
+pub fetch_is_run : (dig : Digest) → IsDigest dig → FetchOfThreeIsRun dig
 fetch_is_run dig sizes b infohash whole size = record {
   first = start dig b infohash;
   last = proved_state dig b infohash Marked Marked Marked (served dig b infohash);

@@ -1,6 +1,6 @@
 -- The engine that fetches three blocks, and what the messages before the pieces lead to.
-use Rattle.bt_engine.proofs.Base.{◌≡◌, ℕ, zero, suc, ◌+◌, ◌%◌, ◌<◌, ◌≤◌, inl, inr, ◌↔◌, true, false, List, [], ◌∷◌, ◌++◌, length, Some, None, Ok, refl, sym, ap, ◌∙◌, subst, arith, rules, slice_get, slice_index_or, Contains, option_and_then, w32, to_be_bytes, append-nil, length-append, IsDigest, File, Facts, value_at, IsKey, key_spelling, new_states, BlockState, Missing, Waiting, Marked, BlockId, Stream, stream, fed, handshake_spelling, Fits, Hello, Message as message_event, Interested, Unchoke, Bitfield, HashRequest}
-use Rattle.bt_engine.proofs.Machine.{Note, HashState, Idle, Asked, PeerState, FileState, EngineState, block_id, state_at, tree_of, Has, IsAsked, IsWholeBlock, Sent, Output, no_effect, ours, right, IsInteresting, NeedsLeaf, IsLeastNeed, IsOpen, FollowsUp, requests, rests, interest_sent, StepNext, goes_on, StepConnect, joins, greeting, StepFeed, feeds, Starts, by_root, first_key, peer_with, all_taken, their_handshake, bitfield_bytes, unchoke_bytes, to_first, ThreeBlocks, left_node, right_node, three_root, three_file, three_torrent, three_engine, leaves_key, four_leaves, leaves_message, block_request}
+use Rattle.bt_engine.proofs.Base.{◌≡◌, ℕ, zero, suc, ◌+◌, ◌%◌, ◌<◌, ◌≤◌, inl, inr, ◌↔◌, true, false, List, [], ◌∷◌, ◌++◌, length, Some, None, Ok, refl, sym, ap, ◌∙◌, subst, arith, rules, slice_get, slice_index_or, Contains, option_and_then, w32, to_be_bytes, append-nil, length-append, IsDigest, File, Facts, value_at, IsKey, key_spelling, BlockState, Missing, Waiting, Marked, BlockId, Stream, stream, fed, handshake_spelling, Fits, Interested, HashRequest}
+use Rattle.bt_engine.proofs.Machine.{Digest, Note, HashState, Idle, Asked, PeerState, FileState, EngineState, block_id, state_at, tree_of, Has, IsAsked, IsWholeBlock, Sent, Output, ours, right, IsInteresting, NeedsLeaf, IsLeastNeed, IsOpen, FollowsUp, requests, rests, interest_sent, StepNext, StepConnect, joins, greeting, StepFeed, feeds, Starts, by_root, first_key, peer_with, all_taken, their_handshake, bitfield_bytes, unchoke_bytes, to_first, ThreeBlocks, left_node, right_node, three_root, three_file, three_torrent, three_engine, leaves_key, four_leaves, leaves_message, block_request}
 use Rattle.bt_engine.proofs.Lists.{some_is, contains_none, contains_cases, here, and_then_some}
 use Rattle.bt_engine.proofs.ExamplePeer.{one_there, taken_bits, taken_unchoke, taken_hello, went}
 use Rattle.bt_engine.proofs.ExampleThreeTree.{at_first, proved, first_unknown, first_known, second_known, third_known, plan, leaves_length}
@@ -40,17 +40,15 @@ among_three (second e f) = (1, omega arith, sym e)
 among_three (third e f) = (2, omega arith, sym e)
 
 number_at : (i : ℕ) (d : BlockId) → i < 3 → (slice_index_or all_three i d).block ≡ i
-number_at zero d lt = refl
-number_at (suc zero) d lt = refl
-number_at (suc (suc zero)) d lt = refl
 number_at (suc (suc (suc i))) d lt = absurd (omega arith)
+number_at _ d lt = refl
 
-module _ (dig : List ℕ → List ℕ) (b : ThreeBlocks) (infohash : List ℕ) where
+module _ (dig : Digest) (b : ThreeBlocks) (infohash : List ℕ) where
   abbrev pub engine : Facts → BlockState → BlockState → BlockState → PeerState → EngineState
   engine k x y z p = three_engine dig b infohash k (x ∷ y ∷ z ∷ []) (p ∷ []) 2
 
   pub is_one : (k : Facts) {x y z state : _} (p : PeerState) {c : _} → state_at (engine k x y z p) c ≡ Some state → IsOne x y z c state
-  is_one k p {c} e = one_of c.file c.block e
+  is_one k p {c} e = one_of _ _ e
 
   pub whole_first : IsWholeBlock (three_torrent dig b infohash) 0 0 16384 (block 0)
   whole_first = record {
@@ -273,7 +271,7 @@ module _ (dig : List ℕ → List ℕ) (b : ThreeBlocks) (infohash : List ℕ) w
   pub next_hello : length infohash ≡ 32 → StepNext dig (engine (at_first dig b) Missing Missing Missing (peer_with (stream (handshake_spelling (their_handshake infohash)) false false) false true false Idle [] 0)) first_key []
       (Ok (Some (output_of [] []))) (engine (at_first dig b) Missing Missing Missing (peer_with all_taken false true false Idle [] 0))
   next_hello size =
-      went no_effect (engine (at_first dig b) Missing Missing Missing (peer_with all_taken false true false Idle [] 0)) refl refl refl (taken_hello infohash size) (refl, ours refl refl, refl) after_hello refl refl
+      went _ _ refl refl refl (taken_hello _ size) (refl, ours refl refl, refl) after_hello refl refl
 
   abbrev pub bits_sent : List Sent
   bits_sent = to_first Interested ∷ to_first (HashRequest (leaves_key dig b)) ∷ []
@@ -281,13 +279,13 @@ module _ (dig : List ℕ → List ℕ) (b : ThreeBlocks) (infohash : List ℕ) w
   pub next_bits : StepNext dig (engine (at_first dig b) Missing Missing Missing (peer_with (stream bitfield_bytes true false) false true false Idle [] 0)) first_key [] (Ok (Some (output_of bits_sent [])))
       (engine (at_first dig b) Missing Missing Missing (peer_with all_taken true true true (Asked (leaves_key dig b)) [] 0))
   next_bits =
-      went no_effect (engine (at_first dig b) Missing Missing Missing (peer_with all_taken false true true Idle [] 0)) refl refl refl taken_bits (refl, right refl refl refl) after_bits refl refl
+      went _ _ refl refl refl taken_bits (refl, right refl refl refl) after_bits refl refl
 
   pub next_unchoke : (k : Facts) (hash : HashState) → (hash ≡ Idle → (c : BlockId) → ¬ NeedsLeaf dig (engine k Missing Missing Missing (asked_peer hash [] 0)) (asked_peer hash [] 0) c)
       → StepNext dig (engine k Missing Missing Missing (peer_with (stream unchoke_bytes true false) true true true hash [] 0)) first_key [] (Ok (Some (output_of three_asks [])))
       (engine k Missing Missing Missing (asked_peer hash all_three 0))
   next_unchoke k hash known =
-      went no_effect (engine k Missing Missing Missing (asked_peer hash [] 0)) refl refl refl taken_unchoke (refl, refl, refl) (after_unchoke k hash known) refl refl
+      went _ _ refl refl refl taken_unchoke (refl, refl, refl) (after_unchoke k hash known) refl refl
 
   -- the key's root is a digest
   pub key_fits : IsDigest dig → IsKey (leaves_key dig b)

@@ -1,6 +1,6 @@
 -- The tree of the three blocks: what is known of it at first, and after the proof of its leaves.
 use Rattle.bt_engine.proofs.Base.{◌≡◌, ℕ, zero, suc, ◌+◌, ◌-◌, ◌/◌, ◌^◌, ◌<◌, ◌≤◌, ◌⊎◌, inl, inr, List, [], ◌∷◌, ◌++◌, length, drop, Some, None, refl, sym, ap, ◌∙◌, subst, arith, first_chunks, IsSome, take_at, drop_at, append_assoc, length-append, IsPadding, CoversBlock, IsDigest, Nodes, digest_at, Facts, root_facts, held_at, Claims, in_run, on_path, uncle, IsInRun, IsOnPath, run_digest, top_digest, claim_of, IsAcceptable, IsJoined, Accepts, Claim, digest_at_new, digest_at_cases, digest_at_empty, digest_at_other, IsClaimBy, digests_in, IsPlan}
-use Rattle.bt_engine.proofs.Machine.{ThreeBlocks, zero_leaf, left_node, right_node, three_root, leaves_key, four_leaves}
+use Rattle.bt_engine.proofs.Machine.{Digest, ThreeBlocks, zero_leaf, left_node, right_node, three_root, leaves_key, four_leaves}
 use Rattle.bt_tree.specs.TreeShape.{height_up_to}
 use Rattle.bt_tree.specs.Tree.{padding_digest}
 use Rattle.bt_tree.specs.Peaks.{row_node}
@@ -8,7 +8,7 @@ use Rattle.bt_sparse.specs.SparseTree.{value_at}
 use Rattle.bt_sparse.specs.Claim.{path_digest}
 use Rattle.std.specs.FinMap as finite
 
-module _ (dig : List ℕ → List ℕ) (b : ThreeBlocks) where
+module _ (dig : Digest) (b : ThreeBlocks) where
   -- the root alone
   abbrev pub at_first : Facts
   at_first = root_facts 49152 (three_root dig b)
@@ -54,11 +54,11 @@ module _ (dig : List ℕ → List ℕ) (b : ThreeBlocks) where
 
   run_claims : {layer i d : _} → IsInRun dig leaves_claim layer i d → IsClaimed layer i d
   unfolding height_up_to
-  run_claims {layer} {i} {d} r = let same : r.above ≡ layer = omega arith in rw (← same) (rw r.digest (in_row r.above i r.low r.under))
+  run_claims {layer} {i} {d} r = let same : r.above ≡ layer = omega arith in rw (← same) (rw r.digest (in_row _ i r.low r.under))
 
   path_claims : {layer i d : _} → IsOnPath dig leaves_claim layer i d → IsClaimed layer i d
   unfolding height_up_to path_digest row_node
-  path_claims {layer} {i} {d} r = at_above r.above r.here r.within r.node r.digest
+  path_claims {layer} {i} {d} r = at_above _ r.here r.within r.node r.digest
     where
       at_above : (above : ℕ) → layer ≡ 2 + above → above ≤ 0 → i ≡ 0 / 2 ^ above → d ≡ path_digest dig leaves_claim above → IsClaimed layer i d
       at_above zero here within node digest = rw here (rw node (rw digest top))
@@ -170,33 +170,18 @@ module _ (dig : List ℕ → List ℕ) (b : ThreeBlocks) where
   claim_is : {layer i d : _} → IsClaimed layer i d → Claims dig leaves_claim layer i d
   unfolding row_node
   claim_is first_leaf = run_node_claims (omega arith) refl
-  claim_is second_leaf = run_node_claims (omega arith) refl
-  claim_is third_leaf = run_node_claims (omega arith) refl
-  claim_is padding_leaf = run_node_claims (omega arith) refl
-  claim_is left = run_node_claims (omega arith) refl
-  claim_is right = run_node_claims (omega arith) refl
-  claim_is top = run_node_claims (omega arith) refl
+  claim_is _ = run_node_claims (omega arith) refl
 
   -- ---- the proof of the leaves
 
   pads : {layer i d : _} → IsClaimed layer i d → IsPadding 3 layer i → d ≡ padding_digest dig layer
   unfolding padding_digest
-  pads first_leaf past = absurd (omega arith)
-  pads second_leaf past = absurd (omega arith)
-  pads third_leaf past = absurd (omega arith)
   pads padding_leaf past = refl
-  pads left past = absurd (omega arith)
-  pads right past = absurd (omega arith)
-  pads top past = absurd (omega arith)
+  pads _ past = absurd (omega arith)
 
   same_root : {layer i d : _} → IsClaimed layer i d → layer ≡ 2 → d ≡ three_root dig b
-  same_root first_leaf high = absurd (omega arith)
-  same_root second_leaf high = absurd (omega arith)
-  same_root third_leaf high = absurd (omega arith)
-  same_root padding_leaf high = absurd (omega arith)
-  same_root left high = absurd (omega arith)
-  same_root right high = absurd (omega arith)
   same_root top high = refl
+  same_root _ high = absurd (omega arith)
 
   pub acceptable : IsAcceptable dig at_first leaves_claim
   unfolding height_up_to path_digest row_node
@@ -257,13 +242,13 @@ module _ (dig : List ℕ → List ℕ) (b : ThreeBlocks) where
   unfolding height_up_to
   plan = record {
     anchor = 2;
-    nearest = record { inside = omega arith; held = subst IsSome (sym root_held) refl; nearest = λ layer low. none_below layer (0 / 2 ^ layer) low };
+    nearest = record { inside = omega arith; held = subst IsSome (sym root_held) refl; nearest = λ layer low. none_below layer _ low };
     key_is = refl;
   }
 
 -- ---- the digests that come
 
-module _ (dig : List ℕ → List ℕ) (sizes : IsDigest dig) (b : ThreeBlocks) where
+module _ (dig : Digest) (sizes : IsDigest dig) (b : ThreeBlocks) where
   pub leaves_length : length (four_leaves dig b) ≡ 128
   leaves_length = omega (
     arith,
@@ -286,9 +271,9 @@ module _ (dig : List ℕ → List ℕ) (sizes : IsDigest dig) (b : ThreeBlocks) 
   digests_are =
       let in_turn : four_leaves dig b ≡ dig b.first ++ (dig b.second ++ (dig b.third ++ zero_leaf)) = simp append_assoc in
       ap (λ n. first_chunks 32 (n / 32) (four_leaves dig b)) leaves_length
-      ∙ next_chunks 3 (dig b.second ++ (dig b.third ++ zero_leaf)) in_turn (sizes b.first)
-      ∙ ap (λ xs. dig b.first ∷ xs) (next_chunks 2 (dig b.third ++ zero_leaf) refl (sizes b.second)
-      ∙ ap (λ xs. dig b.second ∷ xs) (next_chunks 1 zero_leaf refl (sizes b.third)))
+      ∙ next_chunks 3 _ in_turn (sizes b.first)
+      ∙ ap (λ xs. dig b.first ∷ xs) (next_chunks 2 _ refl (sizes b.second)
+      ∙ ap (λ xs. dig b.second ∷ xs) (next_chunks 1 _ refl (sizes b.third)))
 
   pub claims : IsClaimBy (leaves_key dig b) (four_leaves dig b) (leaves_claim dig b)
   unfolding height_up_to

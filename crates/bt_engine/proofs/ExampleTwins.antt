@@ -1,6 +1,6 @@
 -- One proof settles the waiting blocks of two files.
-use Rattle.bt_engine.proofs.Base.{◌≡◌, ℕ, zero, suc, true, false, List, [], ◌∷◌, ◌++◌, Some, None, Ok, inl, inr, refl, sym, ap, ◌∙◌, arith, slice_get, map, option_map, option_and_then, IsDigest, bytes_given, BlockRead, given, block_of, is_right, BlockState, Missing, Waiting, Marked, BlockId, stream, message_spelling, Message as message_event, Have}
-use Rattle.bt_engine.proofs.Machine.{Note, NowMarked, Complete, Idle, Asked, PeerState, FileState, EngineState, DeviceCalls, block_id, state_at, Output, no_effect, judged_file, due_blocks, settling_notes, learns, resolved, new_proofs, NeedsLeaf, FollowsUp, rests, StepNext, goes_on, feeds, first_key, all_taken, to_first, ThreeBlocks, AreWhole, leaves_key, four_leaves, leaves_message, twin_files, twin_engine, twin_peer, TwinFilesAreRun}
+use Rattle.bt_engine.proofs.Base.{◌≡◌, ℕ, zero, suc, true, false, List, [], ◌∷◌, ◌++◌, Some, None, Ok, inl, inr, refl, sym, ap, ◌∙◌, arith, slice_get, map, option_map, option_and_then, IsDigest, bytes_given, BlockRead, given, block_of, is_right, BlockState, Missing, Waiting, Marked, BlockId, stream, message_spelling, Have}
+use Rattle.bt_engine.proofs.Machine.{Digest, Note, NowMarked, Complete, Idle, Asked, PeerState, FileState, EngineState, DeviceCalls, block_id, state_at, Output, no_effect, judged_file, due_blocks, settling_notes, learns, resolved, new_proofs, NeedsLeaf, FollowsUp, rests, StepNext, feeds, first_key, all_taken, to_first, ThreeBlocks, AreWhole, leaves_key, four_leaves, leaves_message, twin_files, twin_engine, twin_peer, TwinFilesAreRun}
 use Rattle.bt_engine.proofs.Lists.{some_is, contains_none}
 use Rattle.bt_engine.proofs.AnswerMarks.{right_true}
 use Rattle.bt_engine.proofs.ExamplePeer.{taken_message, went}
@@ -9,17 +9,12 @@ use Rattle.bt_engine.proofs.ExampleThreeEngine.{key_fits, leaves_fit}
 
 -- each block that is there has the state of all
 same_state : {x y : _} (file i : ℕ) → option_and_then (λ (f : FileState). slice_get f.states i) (slice_get (twin_files x) file) ≡ Some y → x ≡ y
-same_state zero zero e = some_is e
-same_state zero (suc zero) e = some_is e
-same_state zero (suc (suc zero)) e = some_is e
 same_state zero (suc (suc (suc i))) e = absurd cc
-same_state (suc zero) zero e = some_is e
-same_state (suc zero) (suc zero) e = some_is e
-same_state (suc zero) (suc (suc zero)) e = some_is e
 same_state (suc zero) (suc (suc (suc i))) e = absurd cc
 same_state (suc (suc file)) i e = absurd cc
+same_state _ _ e = some_is e
 
-module _ (dig : List ℕ → List ℕ) (b : ThreeBlocks) (infohash : List ℕ) where
+module _ (dig : Digest) (b : ThreeBlocks) (infohash : List ℕ) where
   abbrev settled : PeerState → EngineState
   settled p = twin_engine dig b infohash (proved dig b) Marked p
 
@@ -119,13 +114,13 @@ module _ (dig : List ℕ → List ℕ) (b : ThreeBlocks) (infohash : List ℕ) w
       files (suc zero) = ap (λ (g : FileState). Some g) (sym (judged_so whole))
       files (suc (suc file)) = refl
 
-pub twins_are_run : (dig : List ℕ → List ℕ) → IsDigest dig → TwinFilesAreRun dig
+pub twins_are_run : (dig : Digest) → IsDigest dig → TwinFilesAreRun dig
 twins_are_run dig sizes b infohash whole = record {
-  last = settled dig b infohash (twin_peer all_taken Idle);
+  last = settled dig b _ (twin_peer all_taken Idle);
   runs = (
     _,
     (_, refl, refl, feeds 0 (twin_peer all_taken (Asked (leaves_key dig b))) (record { here = refl; same_key = refl }) refl refl),
-    (_, (_, refl, next_leaves dig b infohash sizes whole), refl),
+    (_, (_, refl, next_leaves dig b _ sizes whole), refl),
   );
   marked = refl;
   first_complete = refl;

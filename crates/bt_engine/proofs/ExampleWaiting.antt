@@ -1,13 +1,13 @@
 -- Blocks that come before the proof of their leaves wait, and are read back when it comes.
-use Rattle.bt_engine.proofs.Base.{◌≡◌, ◌∙◌, zero, suc, ◌≤◌, ◌⊎◌, not, true, false, List, [], ◌∷◌, ◌++◌, inl, inr, ℕ, Bool, length, Some, Ok, refl, sym, ap, subst, arith, slice_get, Contains, map, option_map, length-filter, count_by-le-length, IsDigest, value_at, bytes_given, bytes_written, BlockRead, given, block_of, is_right, BlockState, Missing, Waiting, Marked, PutWaiting, BlockId, is_block, without_block, Stream, stream, handshake_spelling, message_spelling, Message as message_event, Interested, NotInterested, Piece, HashRequest}
-use Rattle.bt_engine.proofs.Machine.{Note, NowMarked, NowWaiting, Freed, Event, Connect, Feed, Next, HashState, Idle, Asked, PeerState, FileState, EngineState, IsWholeBlock, Sent, no_effect, noting, judged_file, due_blocks, settling_notes, with_payload, arrives, learns, resolved, new_proofs, IsInteresting, IsOpen, FollowsUp, rests, StepNext, goes_on, DeviceCalls, Answer, Run, IsWrongThird, waiting_events, waiting_calls, waiting_answers, settling_calls, settling_answers, WaitingFetchIsRun, first_key, peer_with, all_taken, their_handshake, bitfield_bytes, unchoke_bytes, to_first, joined_answer, fed_answer, taken_answer, ThreeBlocks, AreWhole, three_torrent, leaves_key, four_leaves, leaves_message, told, block_request}
+use Rattle.bt_engine.proofs.Base.{◌≡◌, ◌∙◌, zero, suc, ◌≤◌, ◌⊎◌, not, true, false, List, [], ◌∷◌, ◌++◌, inl, inr, ℕ, Bool, length, Some, Ok, refl, sym, ap, subst, arith, slice_get, Contains, map, option_map, length-filter, count_by-le-length, IsDigest, bytes_given, bytes_written, BlockRead, given, block_of, is_right, BlockState, Missing, Waiting, Marked, PutWaiting, BlockId, is_block, without_block, Stream, stream, handshake_spelling, message_spelling, Interested, NotInterested, Piece, HashRequest}
+use Rattle.bt_engine.proofs.Machine.{Digest, Note, NowMarked, NowWaiting, Freed, Event, Connect, Feed, Next, HashState, Idle, Asked, PeerState, FileState, EngineState, Sent, no_effect, noting, judged_file, due_blocks, settling_notes, learns, resolved, new_proofs, IsInteresting, IsOpen, FollowsUp, rests, StepNext, goes_on, DeviceCalls, Answer, Run, IsWrongThird, waiting_events, waiting_calls, waiting_answers, settling_calls, settling_answers, WaitingFetchIsRun, first_key, peer_with, all_taken, their_handshake, bitfield_bytes, unchoke_bytes, to_first, joined_answer, fed_answer, taken_answer, ThreeBlocks, AreWhole, leaves_key, four_leaves, leaves_message, told, block_request}
 use Rattle.bt_engine.proofs.Lists.{contains_none, contains_cases, contains_filter, here, later, same_some}
 use Rattle.bt_engine.proofs.Marks.{right_then}
 use Rattle.bt_engine.proofs.AnswerMarks.{right_true}
 use Rattle.bt_engine.proofs.Runs.{run_join}
 use Rattle.bt_engine.proofs.ExamplePeer.{one_there, taken_message, piece_fits, went, comes, fed_first}
 use Rattle.bt_engine.proofs.ExampleThreeTree.{at_first, proved, leaves_claim, accepts, first_unknown, second_unknown, third_unknown, first_known, second_known, third_known, claims}
-use Rattle.bt_engine.proofs.ExampleThreeEngine.{block, all_three, asked_peer, output_of, IsOne, first, second, third, engine, is_one, whole_first, whole_second, whole_third, needs_none, quietly, interesting, not_open, next_hello, next_bits, next_unchoke, key_fits, leaves_fit, fed_to, start, connects, starts}
+use Rattle.bt_engine.proofs.ExampleThreeEngine.{block, all_three, asked_peer, output_of, IsOne, first, second, third, engine, is_one, whole_first, whole_second, whole_third, needs_none, quietly, interesting, not_open, next_hello, next_bits, next_unchoke, key_fits, leaves_fit, start, connects, starts}
 
 abbrev pub left_one : List BlockId → List BlockId
 left_one asked = without_block (block 0) asked
@@ -23,14 +23,14 @@ pub record AreAsked (asked : List BlockId) : Type 0 where
 
 stays_asked : (c : BlockId) {d : _} (xs : List BlockId) → is_block c d ≡ false → Contains xs d → Contains (without_block c xs) d
 stays_asked c [] e among = among
-stays_asked c {d} (x ∷ xs) e among = by (is_block c x) refl (stays_asked c xs e)
+stays_asked c {d} (x ∷ xs) e among = by _ refl (stays_asked c xs e)
   where
     by : (t : Bool) → is_block c x ≡ t → (Contains xs d → Contains (without_block c xs) d) → Contains (without_block c (x ∷ xs)) d
     by true f tail = elim (contains_cases xs among) [
       | inl same ↦ absurd cc
       | inr more ↦ rw f (tail more)
     ]
-    by false f tail = elim (contains_cases xs among) [ inl same ↦ rw f (here (without_block c xs) same) | inr more ↦ rw f (later x (without_block c xs) (tail more)) ]
+    by false f tail = elim (contains_cases xs among) [ inl same ↦ rw f (here _ same) | inr more ↦ rw f (later x _ (tail more)) ]
 
 fewer : (c : BlockId) (xs : List BlockId) → length (without_block c xs) ≤ length xs
 fewer c xs = omega (arith, length-filter (λ d. not (is_block c d)) xs, count_by-le-length (λ d. not (is_block c d)) xs)
@@ -56,7 +56,7 @@ no_other {c} among x y z = by (three_cases among)
     by (inr (inl e)) = let no = ap (λ d. not (is_block (block 1) d)) (sym e) ∙ y in absurd cc
     by (inr (inr e)) = let no = ap (λ d. not (is_block (block 2) d)) (sym e) ∙ z in absurd cc
 
-module _ (dig : List ℕ → List ℕ) (b : ThreeBlocks) (wrong : List ℕ) (infohash : List ℕ) where
+module _ (dig : Digest) (b : ThreeBlocks) (wrong : List ℕ) (infohash : List ℕ) where
   abbrev pub asked_key : HashState
   asked_key = Asked (leaves_key dig b)
 
@@ -81,31 +81,31 @@ module _ (dig : List ℕ → List ℕ) (b : ThreeBlocks) (wrong : List ℕ) (inf
   after_third : FollowsUp dig (engine dig b infohash (at_first dig b) Waiting Waiting Waiting (asked_peer asked_key [] 49152)) 0 (to_first NotInterested ∷ []) (engine dig b infohash (at_first dig b) Waiting Waiting Waiting (idle_peer all_taken asked_key))
   after_third =
       let p = asked_peer asked_key [] 49152 in
-      quietly dig b infohash (at_first dig b) Waiting Waiting Waiting p refl (λ e. absurd cc, λ i. absurd (none_missing p i)) refl
+      quietly dig b _ _ _ _ _ p refl (λ e. absurd cc, λ i. absurd (none_missing p i)) refl
       (λ idle. asked_already idle) (λ e f. absurd cc) (omega arith)
 
   -- ---- whichever way the three are asked
 
   module _ {asked : List BlockId} (all : AreAsked asked) where
     few_one : length (left_one asked) ≤ length asked
-    few_one = fewer (block 0) asked
+    few_one = fewer _ asked
 
     few_two : length (left_two asked) ≤ length (left_one asked)
-    few_two = fewer (block 1) (left_one asked)
+    few_two = fewer _ _
 
     second_left : Contains (left_one asked) (block 1)
-    second_left = stays_asked (block 0) asked refl (all.each (block 1) (1, omega arith, refl))
+    second_left = stays_asked _ asked refl (all.each (block 1) (1, omega arith, refl))
 
     third_left : Contains (left_one asked) (block 2)
-    third_left = stays_asked (block 0) asked refl (all.each (block 2) (2, omega arith, refl))
+    third_left = stays_asked _ asked refl (all.each (block 2) (2, omega arith, refl))
 
     third_last : Contains (left_two asked) (block 2)
-    third_last = stays_asked (block 1) (left_one asked) refl third_left
+    third_last = stays_asked _ _ refl third_left
 
     none_left : without_block (block 2) (left_two asked) ≡ []
-    none_left = none_within (without_block (block 2) (left_two asked)) (λ c among. (
-        let x = contains_filter (λ d. not (is_block (block 2) d)) (left_two asked) among in
-        let y = contains_filter (λ d. not (is_block (block 1) d)) (left_one asked) x.0 in
+    none_left = none_within _ (λ c among. (
+        let x = contains_filter (λ d. not (is_block (block 2) d)) _ among in
+        let y = contains_filter (λ d. not (is_block (block 1) d)) _ x.0 in
         let z = contains_filter (λ d. not (is_block (block 0) d)) asked y.0 in
         no_other (all.among c z.0) z.1 y.1 x.1
         ))
@@ -135,17 +135,17 @@ module _ (dig : List ℕ → List ℕ) (b : ThreeBlocks) (wrong : List ℕ) (inf
     next_first : length b.first ≡ 16384 → StepNext dig (engine dig b infohash (at_first dig b) Missing Missing Missing (peer_with (stream (message_spelling (Piece 0 0 b.first)) true false) true false true asked_key asked 0)) first_key ((0, bytes_written 0 b.first) ∷ [])
         (Ok (Some (output_of [] (NowWaiting (block 0) ∷ [])))) (engine dig b infohash (at_first dig b) Waiting Missing Missing (asked_peer asked_key (left_one asked) 16384))
     next_first size =
-        went (noting (NowWaiting (block 0))) (engine dig b infohash (at_first dig b) Waiting Missing Missing (asked_peer asked_key (left_one asked) 16384)) refl refl refl (taken_message (omega arith, omega arith) (piece_fits 0 size)) (comes (block 0) (Ok PutWaiting) (whole_first dig b infohash) size (all.each (block 0) (0, omega arith, refl)) refl refl (record { inside = omega arith; whole = size }, refl, first_unknown dig b) refl refl refl) after_first refl refl
+        went (noting (NowWaiting (block 0))) (engine dig b _ (at_first dig b) Waiting Missing Missing (asked_peer asked_key (left_one asked) 16384)) refl refl refl (taken_message (omega arith, omega arith) (piece_fits 0 size)) (comes (block 0) (Ok PutWaiting) (whole_first dig b infohash) size (all.each (block 0) (0, omega arith, refl)) refl refl (record { inside = omega arith; whole = size }, refl, first_unknown dig b) refl refl refl) after_first refl refl
 
     next_second : length b.second ≡ 16384 → StepNext dig (engine dig b infohash (at_first dig b) Waiting Missing Missing (peer_with (stream (message_spelling (Piece 0 16384 b.second)) true false) true false true asked_key (left_one asked) 16384)) first_key ((0, bytes_written 16384 b.second) ∷ [])
         (Ok (Some (output_of [] (NowWaiting (block 1) ∷ [])))) (engine dig b infohash (at_first dig b) Waiting Waiting Missing (asked_peer asked_key (left_two asked) 32768))
     next_second size =
-        went (noting (NowWaiting (block 1))) (engine dig b infohash (at_first dig b) Waiting Waiting Missing (asked_peer asked_key (left_two asked) 32768)) refl refl refl (taken_message (omega arith, omega arith) (piece_fits 16384 size)) (comes (block 1) (Ok PutWaiting) (whole_second dig b infohash) size second_left refl refl (record { inside = omega arith; whole = size }, refl, second_unknown dig b) refl refl refl) after_second refl refl
+        went (noting (NowWaiting (block 1))) (engine dig b _ (at_first dig b) Waiting Waiting Missing (asked_peer asked_key (left_two asked) 32768)) refl refl refl (taken_message (omega arith, omega arith) (piece_fits 16384 size)) (comes (block 1) (Ok PutWaiting) (whole_second dig b infohash) size second_left refl refl (record { inside = omega arith; whole = size }, refl, second_unknown dig b) refl refl refl) after_second refl refl
 
     next_third : length wrong ≡ 16384 → StepNext dig (engine dig b infohash (at_first dig b) Waiting Waiting Missing (peer_with (stream (message_spelling (Piece 0 32768 wrong)) true false) true false true asked_key (left_two asked) 32768)) first_key ((0, bytes_written 32768 wrong) ∷ [])
         (Ok (Some (output_of (to_first NotInterested ∷ []) (NowWaiting (block 2) ∷ [])))) (engine dig b infohash (at_first dig b) Waiting Waiting Waiting (idle_peer all_taken asked_key))
     next_third size =
-        went (noting (NowWaiting (block 2))) (engine dig b infohash (at_first dig b) Waiting Waiting Waiting (asked_peer asked_key [] 49152)) refl refl refl (taken_message (omega arith, omega arith) (piece_fits 32768 size)) (comes (block 2) (Ok PutWaiting) (whole_third dig b infohash) size third_last refl refl (record { inside = omega arith; whole = size }, refl, third_unknown dig b) refl refl (ap (λ l. engine dig b infohash (at_first dig b) Waiting Waiting Waiting (asked_peer asked_key l 49152)) (sym none_left))) after_third refl refl
+        went (noting (NowWaiting (block 2))) (engine dig b _ (at_first dig b) Waiting Waiting Waiting (asked_peer asked_key [] 49152)) refl refl refl (taken_message (omega arith, omega arith) (piece_fits 32768 size)) (comes (block 2) (Ok PutWaiting) (whole_third dig b infohash) size third_last refl refl (record { inside = omega arith; whole = size }, refl, third_unknown dig b) refl refl (ap (λ l. engine dig b infohash (at_first dig b) Waiting Waiting Waiting (asked_peer asked_key l 49152)) (sym none_left))) after_third refl refl
 
   -- ---- they are read back
 
@@ -166,7 +166,7 @@ module _ (dig : List ℕ → List ℕ) (b : ThreeBlocks) (wrong : List ℕ) (inf
   second_right whole = right_true (record { whole = whole.second; leaf = second_known dig b })
 
   third_wrong : IsWrongThird dig b wrong → is_right dig (proved dig b) 2 wrong ≡ false
-  third_wrong other = by (is_right dig (proved dig b) 2 wrong) refl
+  third_wrong other = by _ refl
     where
       by : (x : Bool) → is_right dig (proved dig b) 2 wrong ≡ x → x ≡ false
       by true e = absurd (other.differs (same_some (right_then e).leaf (third_known dig b)))
@@ -266,19 +266,19 @@ module _ (dig : List ℕ → List ℕ) (b : ThreeBlocks) (wrong : List ℕ) (inf
   pub begins : length infohash ≡ 32 → Run dig (start dig b infohash) begin_events ([] ∷ [] ∷ [] ∷ [] ∷ [] ∷ [] ∷ []) begin_answers before_unchoke
   begins size = (
     _,
-    (_, refl, refl, connects dig b infohash),
+    (_, refl, refl, connects dig b _),
     (
       _,
       (_, refl, refl, fed_first refl refl),
       (
         _,
-        (_, refl, next_hello dig b infohash size),
+        (_, refl, next_hello dig b _ size),
         (
           _,
           (_, refl, refl, fed_first refl refl),
           (
             _,
-            (_, refl, next_bits dig b infohash),
+            (_, refl, next_bits dig b _),
             (
               before_unchoke,
               (_, refl, refl, fed_first refl refl),
@@ -337,7 +337,7 @@ module _ (dig : List ℕ → List ℕ) (b : ThreeBlocks) (wrong : List ℕ) (inf
   waits whole other size =
       let goes_on : Run dig before_unchoke (Next first_key ∷ piece_events) ([] ∷ piece_calls) (unchoke_answer ∷ piece_answers) all_wait
       = (_, (_, refl, next_unchoke dig b infohash (at_first dig b) asked_key (λ idle. asked_already idle)), pieces_wait in_turn whole other) in
-      run_join dig begin_events (Next first_key ∷ piece_events) ([] ∷ [] ∷ [] ∷ [] ∷ [] ∷ [] ∷ []) ([] ∷ piece_calls) begin_answers (unchoke_answer ∷ piece_answers) (start dig b infohash) before_unchoke all_wait (begins size) goes_on
+      run_join dig begin_events (Next first_key ∷ piece_events) ([] ∷ [] ∷ [] ∷ [] ∷ [] ∷ [] ∷ []) ([] ∷ piece_calls) begin_answers (unchoke_answer ∷ piece_answers) (start dig b _) before_unchoke all_wait (begins size) goes_on
 
   pub settles : IsDigest dig → AreWhole b → IsWrongThird dig b wrong
       → Run dig (first_state Waiting Waiting Waiting (idle_peer all_taken asked_key)) (told (message_spelling (leaves_message dig b)) []) (settling_calls b wrong) settling_answers (settled (asked_peer Idle (block 2 ∷ []) 49152))
@@ -347,14 +347,14 @@ module _ (dig : List ℕ → List ℕ) (b : ThreeBlocks) (wrong : List ℕ) (inf
     (_, (_, refl, next_leaves sizes whole other), refl),
   )
 
-pub waiting_is_run : (dig : List ℕ → List ℕ) → IsDigest dig → WaitingFetchIsRun dig
+pub waiting_is_run : (dig : Digest) → IsDigest dig → WaitingFetchIsRun dig
 waiting_is_run dig sizes b wrong infohash whole other size = record {
-  first = start dig b infohash;
-  mid = all_wait dig b wrong infohash;
-  last = settled dig b wrong infohash (asked_peer Idle (block 2 ∷ []) 49152);
-  starts = starts dig b infohash;
-  waits = waits dig b wrong infohash whole other size;
+  first = start dig b _;
+  mid = all_wait dig b wrong _;
+  last = settled dig b wrong _ (asked_peer Idle (block 2 ∷ []) 49152);
+  starts = starts dig b _;
+  waits = waits dig b wrong _ whole other size;
   waiting = refl;
-  settles = settles dig b wrong infohash sizes whole other;
+  settles = settles dig b wrong _ sizes whole other;
   settled = refl;
 }

@@ -1,6 +1,6 @@
 -- The answers of the fetch of `abc` are the only ones.
-use Rattle.bt_engine.proofs.Base.{◌≡◌, ℕ, List, [], ◌∷◌, length, refl, sym, ap, ◌∙◌, subst, arith, slice_get, Some, ⊤, IsLaidOut, Missing, Marked, BlockId}
-use Rattle.bt_engine.proofs.Machine.{FileState, EngineState, block_id, state_at, IsShaped, Answer, Run, IsOutOfMemory, LacksOneAtMost, HaveMemory, abc_file, abc_torrent, abc_engine, served_peer, abc_events, abc_calls, abc_answers, AbcAnswersAreForced}
+use Rattle.bt_engine.proofs.Base.{◌≡◌, ℕ, List, [], ◌∷◌, length, refl, sym, ap, ◌∙◌, subst, arith, slice_get, Some, ⊤, IsLaidOut, Missing, Marked}
+use Rattle.bt_engine.proofs.Machine.{Digest, FileState, block_id, state_at, IsShaped, Run, IsOutOfMemory, LacksOneAtMost, HaveMemory, abc_file, abc_torrent, abc_engine, served_peer, abc_events, abc_calls, abc_answers, AbcAnswersAreForced}
 use Rattle.bt_engine.proofs.Lists.{and_then_some, some_below}
 use Rattle.bt_engine.proofs.Orderly.{order_of_runs}
 use Rattle.bt_engine.proofs.Shape.{shape_at_first}
@@ -9,7 +9,7 @@ use Rattle.bt_engine.proofs.Determined.{run_one}
 use Rattle.bt_engine.proofs.ExampleOneBlock.{fetch_is_run}
 use Rattle.bt_engine.proofs.Runs.{all_of, pairs_of, start_is}
 
-module _ (dig : List ℕ → List ℕ) (infohash : List ℕ) where
+module _ (dig : Digest) (infohash : List ℕ) where
   laid_out : IsLaidOut 16384 (abc_file dig ∷ [])
   laid_out = record { few = omega arith; in_turn = λ k d lt. (let first : k ≡ 0 = omega (arith, lt) in rw first refl) }
 
@@ -39,6 +39,6 @@ module _ (dig : List ℕ → List ℕ) (infohash : List ℕ) where
       known.runs x memory room (pairs_of (λ a. ⊤) (abc_answers infohash) answers (tt, (tt, (tt, (tt, (tt, (tt, (tt, (tt, (tt, (tt, tt))))))))))) in
       (sym both.0, sym both.1)
 
-pub answers_forced : (dig : List ℕ → List ℕ) → AbcAnswersAreForced dig
+pub answers_forced : (dig : Digest) → AbcAnswersAreForced dig
 answers_forced dig infohash first last answers size starts x room =
     forced dig infohash size (subst (λ s. Run dig s (abc_events infohash) abc_calls answers last) (start_is dig refl refl (omega arith) starts) x) room

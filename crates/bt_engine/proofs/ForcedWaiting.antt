@@ -1,6 +1,6 @@
 -- The answers of the waiting fetch are the only ones, but for the order of three requests.
-use Rattle.bt_engine.proofs.Base.{◌≡◌, ◌≢◌, ℕ, ◌*◌, ◌<◌, ◌⊎◌, inl, inr, true, false, List, [], ◌∷◌, ◌++◌, length, map, get_or, Some, refl, sym, ap, ◌∙◌, subst, arith, slice_get, slice_set, slice_index_or, Contains, AllPairs, IsDigest, IsLaidOut, Missing, Marked, BlockId, stream, message_spelling, Message as message_event, Unchoke, Request}
-use Rattle.bt_engine.proofs.Machine.{Event, Feed, Next, Idle, PeerState, EngineState, DeviceCalls, state_at, IsWholeBlock, Sent, no_effect, sent_to, TellsInterest, interest_sent, RequestsHashes, requests, rests, IsOpen, AsksBlocks, RequestsEach, FollowsUp, IsOrderly, IsShaped, Answer, of_next, Run, IsOutOfMemory, block_requests, LacksOneAtMost, HaveMemory, first_key, peer_with, all_taken, unchoke_bytes, to_first, fed_answer, taken_answer, ThreeBlocks, AreWhole, three_file, three_torrent, leaves_message, told, block_request, IsWrongThird, file_with, waiting_events, waiting_calls, settling_calls, settling_answers, IsOrder, waiting_answers_in, WaitingAnswersAreForced}
+use Rattle.bt_engine.proofs.Base.{◌≡◌, ◌≢◌, ℕ, ◌*◌, ◌<◌, ◌⊎◌, inl, inr, true, List, [], ◌∷◌, ◌++◌, length, map, get_or, Some, refl, sym, ap, ◌∙◌, subst, arith, slice_set, slice_index_or, Contains, AllPairs, IsDigest, IsLaidOut, Missing, Marked, BlockId, message_spelling, Message as message_event, Unchoke, Request}
+use Rattle.bt_engine.proofs.Machine.{Digest, Event, Feed, Next, Idle, PeerState, EngineState, DeviceCalls, state_at, IsWholeBlock, Sent, sent_to, TellsInterest, interest_sent, RequestsHashes, requests, rests, IsOpen, AsksBlocks, RequestsEach, FollowsUp, IsOrderly, IsShaped, Answer, of_next, Run, IsOutOfMemory, block_requests, LacksOneAtMost, HaveMemory, first_key, all_taken, to_first, fed_answer, taken_answer, ThreeBlocks, AreWhole, three_file, three_torrent, leaves_message, told, block_request, IsWrongThird, file_with, waiting_events, waiting_calls, settling_calls, settling_answers, IsOrder, waiting_answers_in, WaitingAnswersAreForced}
 use Rattle.bt_engine.proofs.Lists.{same_some, here, later, contains_cases, contains_none}
 use Rattle.bt_engine.proofs.Pairs.{contains_at}
 use Rattle.bt_engine.proofs.Orderly.{order_kept, order_of_runs}
@@ -47,7 +47,7 @@ four_among blocks once among size =
     differ : (i j : ℕ) → i < j → j < length blocks → (at i).block ≢ (at j).block
     differ i j lt within e = once i j (block 0) lt within (is i (omega (arith, lt, within)) ∙ ap block e ∙ sym (is j within))
 
-module _ (dig : List ℕ → List ℕ) (b : ThreeBlocks) (wrong : List ℕ) (infohash : List ℕ) where
+module _ (dig : Digest) (b : ThreeBlocks) (wrong : List ℕ) (infohash : List ℕ) where
   laid_out : IsLaidOut 131072 (three_file dig b ∷ [])
   laid_out = record { few = omega arith; in_turn = λ k d lt. (let first : k ≡ 0 = omega (arith, lt) in rw first refl) }
 
@@ -225,7 +225,7 @@ module _ (dig : List ℕ → List ℕ) (b : ThreeBlocks) (wrong : List ℕ) (inf
         ap (λ (m : EngineState). m.files) (sym (known.2.2 ∙ same.1)),
       )
 
-pub answers_forced : (dig : List ℕ → List ℕ) → IsDigest dig → WaitingAnswersAreForced dig
+pub answers_forced : (dig : Digest) → IsDigest dig → WaitingAnswersAreForced dig
 answers_forced dig sizes b wrong infohash first mid last answers settling whole other size begins x y memory room =
     let first_is = start_is dig refl refl (omega arith) begins in
     let begin : Run dig (start dig b infohash) (waiting_events b wrong infohash) (waiting_calls b wrong) answers mid

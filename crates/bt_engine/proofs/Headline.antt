@@ -1,7 +1,7 @@
 -- A complete file on an honest device is the published one.
-use Rattle.bt_engine.proofs.Base.{◌≡◌, ℕ, zero, suc, ◌<◌, List, [], ◌∷◌, length, take, replicate, Option, Some, sym, ap, ◌∙◌, subst, slice_get, History, block_count, file_root, IsDigest, same_or_clash, File, Metainfo, Facts, Missing, Marked}
-use Rattle.bt_engine.proofs.Machine.{Event, FileState, EngineState, DeviceCalls, Starts, Answer, Step, Run, HasFile, IsSound, RunOn, IsPublished, CompleteFilesArePublished}
-use Rattle.bt_engine.proofs.Lists.{get_some, same_some, some_below}
+use Rattle.bt_engine.proofs.Base.{◌≡◌, ℕ, suc, ◌<◌, List, [], ◌∷◌, length, take, replicate, Option, Some, sym, ap, ◌∙◌, slice_get, History, block_count, file_root, IsDigest, same_or_clash, File, Metainfo, Facts, Missing, Marked}
+use Rattle.bt_engine.proofs.Machine.{Digest, Event, FileState, EngineState, DeviceCalls, Starts, Answer, Step, Run, HasFile, IsSound, RunOn, IsPublished, CompleteFilesArePublished}
+use Rattle.bt_engine.proofs.Lists.{get_some, some_below}
 use Rattle.bt_engine.proofs.Rooted.{run_rooted}
 use Rattle.bt_engine.proofs.Start.{start_rooted}
 use Rattle.bt_engine.proofs.Tame.{step_tame}
@@ -13,12 +13,10 @@ IsOf torrent s = (i : ℕ) (file : File) (f : FileState) (k : Facts) → slice_g
     → (k.file_length ≡ file.length) × (k.root ≡ file.root)
 
 none_marked : (n i : ℕ) → slice_get (replicate n Missing) i ≡ Some Marked → ⊥
-none_marked zero zero e = absurd cc
-none_marked zero (suc i) e = absurd cc
-none_marked (suc n) zero e = absurd cc
 none_marked (suc n) (suc i) e = none_marked n i e
+none_marked _ _ e = absurd cc
 
-module _ {D : Type 0} (history : D → History) (honest : D → Type 0) (faults : D → ℕ) (dig : List ℕ → List ℕ) where
+module _ {D : Type 0} (history : D → History) (honest : D → Type 0) (faults : D → ℕ) (dig : Digest) where
   start_sound : {torrent s : _} (disks : List (Option D)) → Starts dig torrent s → IsSound history honest dig s disks
   start_sound {torrent} {s} disks starts i f k d is_file there honest_now j marked =
       let lt : i < length torrent.files = rw (← starts.is_new.count) (some_below s.files i is_file.here) in
@@ -41,20 +39,14 @@ module _ {D : Type 0} (history : D → History) (honest : D → Type 0) (faults 
   run_of : (torrent : Metainfo) (old new : EngineState) (es : List Event) (calls : List DeviceCalls) (answers : List Answer) → Run dig old es calls answers new → IsOf torrent old → IsOf torrent new
   run_of torrent old new [] [] [] run of = rw run of
   run_of torrent old new (e ∷ es) (c ∷ calls) (a ∷ answers) run of = run_of torrent run.0 new es calls answers run.2 (step_of torrent old run.0 e c a run.1 of)
-  run_of torrent old new [] (c ∷ calls) answers run of = absurd run
-  run_of torrent old new [] [] (a ∷ answers) run of = absurd run
-  run_of torrent old new (e ∷ es) [] answers run of = absurd run
-  run_of torrent old new (e ∷ es) (c ∷ calls) [] run of = absurd run
+  run_of torrent old new _ _ _ run of = absurd run
 
   -- a run on devices is a run
   without_devices : (old new : EngineState) (es : List Event) (calls : List DeviceCalls) (answers : List Answer) (disks after : List (Option D)) → RunOn history honest faults dig old disks es calls answers new after
       → Run dig old es calls answers new
   without_devices old new [] [] [] disks after run = run.0
   without_devices old new (e ∷ es) (c ∷ calls) (a ∷ answers) disks after run = (run.0, run.2, without_devices run.0 new es calls answers run.1 after run.4)
-  without_devices old new [] (c ∷ calls) answers disks after run = absurd run
-  without_devices old new [] [] (a ∷ answers) disks after run = absurd run
-  without_devices old new (e ∷ es) [] answers disks after run = absurd run
-  without_devices old new (e ∷ es) (c ∷ calls) [] disks after run = absurd run
+  without_devices old new _ _ _ disks after run = absurd run
 
   published : IsDigest dig → {file : File} {k : Facts} {bytes : _} → k.file_length ≡ file.length → k.root ≡ file.root → HasFile dig k bytes → IsPublished dig file bytes
   published sizes {file} {bytes} size root has =

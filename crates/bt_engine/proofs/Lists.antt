@@ -1,5 +1,5 @@
 -- Lists of which one element is set, and what lists contain.
-use Rattle.bt_engine.proofs.Base.{◌≡◌, ◌≢◌, ℕ, zero, suc, ◌+◌, ◌<◌, ◌≤◌, ◌⊎◌, inl, inr, Bool, true, false, List, [], ◌∷◌, length, map, Option, Some, None, refl, sym, ap, ◌∙◌, subst, arith, is_some, IsSome, slice_get, slice_set, option_map, Contains, filter, flat_map, ◌&&◌, cond, option_and_then, range_with_len, length-range_with_len, get_or-range_with_len, Contains-append_left, Contains-append_right, Contains-append_cases}
+use Rattle.bt_engine.proofs.Base.{◌≡◌, ◌≢◌, ℕ, zero, suc, ◌+◌, ◌<◌, ◌≤◌, ◌⊎◌, inl, inr, Bool, true, false, List, [], ◌∷◌, length, map, Option, Some, None, refl, sym, ap, ◌∙◌, subst, arith, IsSome, slice_get, slice_set, option_map, Contains, filter, flat_map, ◌&&◌, cond, option_and_then, range_with_len, length-range_with_len, get_or-range_with_len, Contains-append_left, Contains-append_right, Contains-append_cases}
 
 pub heads : {X : Type 0} {x y : X} {xs ys : List X} → x ∷ xs ≡ y ∷ ys → x ≡ y
 heads e = cc
@@ -15,11 +15,9 @@ same_some e f = cc
 
 -- what stands there is the one that was set, or stood there before
 pub set_cases : {X : Type 0} (xs : List X) (i j : ℕ) {x y : X} → slice_get (slice_set xs i x) j ≡ Some y → ((j ≡ i) × (y ≡ x)) ⊎ (slice_get xs j ≡ Some y)
-set_cases [] i j e = inr e
 set_cases (z ∷ xs) zero zero e = inl (refl, same_some e refl)
-set_cases (z ∷ xs) zero (suc j) e = inr e
-set_cases (z ∷ xs) (suc i) zero e = inr e
 set_cases (z ∷ xs) (suc i) (suc j) e = elim (set_cases xs i j e) [ inl s ↦ inl (ap (λ n. suc n) s.0, s.1) | inr s ↦ inr s ]
+set_cases _ _ _ e = inr e
 
 pub and_then_some : {X Y : Type 0} (f : X → Option Y) (o : Option X) {y : Y} → option_and_then f o ≡ Some y → (x : X) × (o ≡ Some x) × (f x ≡ Some y)
 and_then_some f None e = absurd cc
@@ -48,7 +46,7 @@ contains_cases xs (suc k, lt, e) = inr (k, omega arith, e)
 
 filter_by : {X : Type 0} (test : X → Bool) (x : X) (xs : List X) {y : X} (b : Bool) → test x ≡ b → (Contains (filter test xs) y → Contains xs y × (test y ≡ true))
     → Contains (cond b (x ∷ filter test xs) (filter test xs)) y → Contains (x ∷ xs) y × (test y ≡ true)
-filter_by test x xs true e rest c = elim (contains_cases (filter test xs) c) [
+filter_by test x xs true e rest c = elim (contains_cases _ c) [
   | inl same ↦ (here xs same, ap test (sym same) ∙ e)
   | inr more ↦ let r = rest more in (later x xs r.0, r.1)
 ]
@@ -56,11 +54,11 @@ filter_by test x xs false e rest c = let r = rest c in (later x xs r.0, r.1)
 
 pub contains_filter : {X : Type 0} (test : X → Bool) (xs : List X) {y : X} → Contains (filter test xs) y → Contains xs y × (test y ≡ true)
 contains_filter test [] c = absurd (contains_none c)
-contains_filter test (x ∷ xs) c = filter_by test x xs (test x) refl (contains_filter test xs) c
+contains_filter test (x ∷ xs) c = filter_by test x xs _ refl (contains_filter test xs) c
 
 pub map_contains : {X Y : Type 0} (f : X → Y) (xs : List X) {x : X} → Contains xs x → Contains (map f xs) (f x)
 map_contains f [] c = absurd (contains_none c)
-map_contains f (z ∷ xs) c = elim (contains_cases xs c) [ inl same ↦ here (map f xs) (ap f same) | inr more ↦ later (f z) (map f xs) (map_contains f xs more) ]
+map_contains f (z ∷ xs) c = elim (contains_cases xs c) [ inl same ↦ here _ (ap f same) | inr more ↦ later (f z) _ (map_contains f xs more) ]
 
 pub flat_map_contains : {X Y : Type 0} (f : X → List Y) (xs : List X) {x : X} {y : Y} → Contains xs x → Contains (f x) y → Contains (flat_map f xs) y
 flat_map_contains f [] c d = absurd (contains_none c)
@@ -91,15 +89,13 @@ set_same (z ∷ xs) zero e = refl
 set_same (z ∷ xs) (suc i) e = set_same xs i e
 
 pub set_other : {X : Type 0} (xs : List X) (i j : ℕ) (x : X) → j ≢ i → slice_get (slice_set xs i x) j ≡ slice_get xs j
-set_other [] i j x apart = refl
 set_other (z ∷ xs) zero zero x apart = absurd (apart refl)
-set_other (z ∷ xs) zero (suc j) x apart = refl
-set_other (z ∷ xs) (suc i) zero x apart = refl
 set_other (z ∷ xs) (suc i) (suc j) x apart = set_other xs i j x (λ e. apart (ap (λ n. suc n) e))
+set_other _ _ _ x apart = refl
 
 pub contains_map : {X Y : Type 0} (f : X → Y) (xs : List X) {y : Y} → Contains (map f xs) y → (x : X) × Contains xs x × (f x ≡ y)
 contains_map f [] c = absurd (contains_none c)
-contains_map f (x ∷ xs) c = elim (contains_cases (map f xs) c) [
+contains_map f (x ∷ xs) c = elim (contains_cases _ c) [
   | inl same ↦ (x, here xs refl, same)
   | inr more ↦ let r = contains_map f xs more in (r.0, later x xs r.1, r.2)
 ]

@@ -1,5 +1,6 @@
 -- The names of the machine's definitions that proofs cite, in one place.
-pub use Rattle.bt_engine.specs.Adopting.{StepAdopt, no_file, busy, empty, adopts, no_memory as not_adopted, AdoptsGroups, AdoptsGroup, is_other, AdoptsFile, StopsAdopting, taught_keys, IsProof, adopted_together, group_blocks, run_starts}
+use Rattle.bt_engine.proofs.Base.{ℕ, List}
+pub use Rattle.bt_engine.specs.Adopting.{StepAdopt, no_file, busy, empty, adopts, no_memory as not_adopted, AdoptsGroups, AdoptsGroup, is_other, AdoptsFile, StopsAdopting, IsProof, adopted_together, group_blocks, run_starts}
 pub use Rattle.bt_engine.specs.AnswerDue.{IsOnlyPeer, IsAskedForAll, NextAsksForAll, MarksBlock, marked, not_written, NextMarksRightBlock, ServesRange, sent, not_read, NextServesMarkedRange, WaitingIsNotComplete, IsSentChanges, StepSendsChanges, AnswersHashes, unknown, NextAnswersHashRequest, NextNotesMarkedBlocks, OrderlyPeersAreOnly, NextClosesForCause, NextSettlesWaitingBlocks}
 pub use Rattle.bt_engine.specs.AnswerLaw.{output_of, NotedBy, IsCause, wire, other_torrent, past_last_piece, other_length, no_place as is_no_place, wrong_block, unknown_root as is_unknown_root, no_claim as makes_no_claim, refused as is_refused, ChangesInterest, IsConnected, StepClosesForCause, StepTellsChangedInterest, BecomesSo, StepAnnouncesWholePieces, NextNotesCompleteFiles, IsRequestedOf, StepRequestsMissing}
 pub use Rattle.bt_engine.specs.Arrival.{arrives, stale, HandlesPiece, HasPutEffect, Arrives, Puts}
@@ -8,7 +9,7 @@ pub use Rattle.bt_engine.specs.Crash.{StepKeepsImages}
 pub use Rattle.bt_engine.specs.Determined.{IsOutOfMemory, HaveMemory, plain_answer, without_asked, LacksOneAtMost, other_frames, block_requests, is_block_request, asked_nothing, IsReached, StepIsDetermined, StepIsForced, RunsAreDetermined}
 pub use Rattle.bt_engine.specs.Devices.{DeviceCalls, reads_at, calls_at, calls_of}
 pub use Rattle.bt_engine.specs.ExampleForced.{AbcAnswersAreForced, IsOrder, waiting_answers_in, WaitingAnswersAreForced}
-pub use Rattle.bt_engine.specs.ExampleHostile.{empty_engine, root_alone, leaves_peer, blocks_peer, ClosesOn, StaysOn, zero_root_key, far_key, HostileMessagesAreRuns, WrongBlockIsRun}
+pub use Rattle.bt_engine.specs.ExampleHostile.{empty_engine, root_alone, leaves_peer, blocks_peer, ClosesOn, StaysOn, far_key, HostileMessagesAreRuns, WrongBlockIsRun}
 pub use Rattle.bt_engine.specs.ExampleOneBlock.{abc_file, abc_torrent, abc_engine, served_peer, abc_events, abc_calls, abc_answers, abc, piece_bytes, FetchOfAbcIsRun}
 pub use Rattle.bt_engine.specs.ExamplePeer.{all_taken, first_key, to_first, their_handshake, unchoke_bytes, peer_with, bitfield_bytes, fed_answer, taken_answer, joined_answer}
 pub use Rattle.bt_engine.specs.ExampleServing.{KnowsTwo, marked_engine, reader, interested_bytes, request_bytes, long_request_bytes, serving_events, serving_calls, serving_answers, ServingIsRun}
@@ -29,9 +30,9 @@ pub use Rattle.bt_engine.specs.Request.{ignored, no_place, served, HandlesReques
 pub use Rattle.bt_engine.specs.Settling.{judged_file, SettlesIn, due_blocks, settling_notes, read_note, Settles}
 pub use Rattle.bt_engine.specs.Shape.{IsShaped, HasShapeOf, RunsKeepShape}
 pub use Rattle.bt_engine.specs.Sound.{RunOn, IsSound, StepKeepsSound, CompleteFilesStand}
-pub use Rattle.bt_engine.specs.Spans.{IsWholeBlock, spanned_blocks, cut_from, first_block}
+pub use Rattle.bt_engine.specs.Spans.{IsWholeBlock, spanned_blocks, cut_from}
 pub use Rattle.bt_engine.specs.Start.{Starts, by_root, IsTreeFrom, by_layer}
-pub use Rattle.bt_engine.specs.State.{EngineState, PeerState, FileState, Idle, Asked, HashState, Refused, Hint, proof_of, mark_of}
+pub use Rattle.bt_engine.specs.State.{EngineState, PeerState, FileState, Idle, Asked, HashState, Refused, Hint, mark_of}
 pub use Rattle.bt_engine.specs.Step.{Answer, Step, Run, of_next, of_rechoke, of_connect, of_feed, of_adopt, of_lost, of_flush}
 pub use Rattle.bt_engine.specs.Stored.{stored_block, HasFile, AreRight}
 pub use Rattle.bt_engine.specs.Taught.{HasAnswer, TaughtKeysAreAnswered}
@@ -44,10 +45,11 @@ pub use Rattle.bt_engine.specs.declared.answer.Note.{Note}
 pub use Rattle.bt_engine.specs.declared.answer.Note.TheVariants.{Complete, Marked as NowMarked, Device, Freed, Damaged, Stale, Waiting as NowWaiting}
 pub use Rattle.bt_engine.specs.declared.answer.Why.{Why}
 pub use Rattle.bt_engine.specs.declared.answer.Why.TheVariants.{Wire, Proof, BadPiece, BadBitfield, BadRequest, WrongBlock, UnknownRoot, WrongTorrent}
-pub use Rattle.bt_engine.specs.declared.error.AdoptError.{AdoptError}
-pub use Rattle.bt_engine.specs.declared.error.ConnectError.{ConnectError}
 pub use Rattle.bt_engine.specs.declared.error.ConnectError.TheVariants.{OutOfMemory as no_room_to_connect}
 pub use Rattle.bt_engine.specs.declared.error.EngineError.{EngineError}
-pub use Rattle.bt_engine.specs.declared.error.FlushError.{FlushError}
 pub use Rattle.bt_engine.specs.declared.event.Event.{Event}
 pub use Rattle.bt_engine.specs.declared.event.Event.TheVariants.{Next, Connect, Rechoke, Feed, Adopt, Lost, Flush}
+
+-- the digest of some bytes, whichever function it is
+abbrev pub Digest : Type 0
+Digest = List ℕ → List ℕ

@@ -1,7 +1,7 @@
 -- A step marks a block by bytes of that step alone.
-use Rattle.bt_engine.proofs.Base.{◌≡◌, ◌≢◌, ℕ, ◌+◌, ◌*◌, ◌<◌, ◌≤◌, ◌⊎◌, inl, inr, Bool, true, false, List, [], ◌∷◌, length, Some, refl, sym, ap, ◌∙◌, subst, slice_get, slice_set, Contains, Result, Ok, Err, ◌==◌, if◌then◌else◌, option_and_then, range_with_len, eqb-true, full_block_length, Facts, Accepts, Claim, bytes_written, IsClaimBy, HashKey, BlockRead, IsRight, PutIsDue, calls_of_put, states_after_put, Waiting, Marked, StoreError, Put, Already, Wrong, PutMarked, PutWaiting, BlockId, Ask, PeerMessage as Sent, KeepAlive, Choke, Unchoke, Interested, NotInterested, Have, Bitfield, Request, Piece, Cancel, HashRequest, Hashes, HashReject, WireEvent, Hello, Message, Skipped}
-use Rattle.bt_engine.proofs.Machine.{Event, Connect, Feed, Next, Lost, Rechoke, Adopt, Flush, PeerState, FileState, EngineState, DeviceCalls, calls_at, state_at, tree_of, with_file, with_peer, with_tree, IsWholeBlock, Sent as SentFrame, Effect, FindsFault, damaged, fault, HandlesRequest, ignored, no_place, not_marked, served, stopped, Arrives, HandlesPiece, stale, arrives, IsTreeOf, settled_count, HandlesHashes, unknown_root, no_claim, refused, learns, HandlesHave, in_range, out_of_range, HandlesBitfield, right, wrong, HandlesMessage, Handles, IsPeer, TakesEvent, StepNext, no_peer, waits, goes_on, closes, faulty, no_memory, StepConnect, joins, full, spent, no_room, StepFeed, feeds, not_fed, no_room as no_room_to_feed, StepLost, goes, not_fed as not_lost, FollowsEach, StepRechoke, rechokes, not_rechoked, StepFlush, syncs, fails, Answer, Step, Run, IsMarkedBy, brought, read_back, IsSoAt, IsMarkedIn}
-use Rattle.bt_engine.proofs.Lists.{same_some, contains_none, range_limits, set_cases, set_same}
+use Rattle.bt_engine.proofs.Base.{◌≡◌, ◌≢◌, ℕ, ◌+◌, ◌*◌, ◌<◌, ◌≤◌, ◌⊎◌, inl, inr, Bool, true, false, List, [], ◌∷◌, length, Some, refl, sym, ap, ◌∙◌, slice_get, slice_set, Contains, Result, Ok, Err, ◌==◌, if◌then◌else◌, option_and_then, range_with_len, eqb-true, full_block_length, Facts, Accepts, Claim, bytes_written, IsClaimBy, HashKey, IsRight, PutIsDue, states_after_put, Marked, StoreError, Put, Already, Wrong, PutMarked, PutWaiting, BlockId, PeerMessage as Sent, KeepAlive, Choke, Unchoke, Interested, NotInterested, Have, Bitfield, Request, Piece, Cancel, HashRequest, Hashes, HashReject, WireEvent, Hello, Message, Skipped}
+use Rattle.bt_engine.proofs.Machine.{Digest, Event, Connect, Feed, Next, Lost, Rechoke, Adopt, Flush, PeerState, FileState, EngineState, DeviceCalls, state_at, tree_of, with_file, with_peer, with_tree, IsWholeBlock, Sent as SentFrame, Effect, FindsFault, damaged, fault, HandlesRequest, ignored, no_place, not_marked, served, stopped, Arrives, HandlesPiece, stale, arrives, IsTreeOf, settled_count, HandlesHashes, unknown_root, no_claim, refused, learns, HandlesHave, in_range, out_of_range, HandlesBitfield, right, wrong, HandlesMessage, Handles, IsPeer, TakesEvent, StepNext, no_peer, waits, goes_on, closes, faulty, no_memory, StepConnect, joins, full, spent, no_room, StepFeed, feeds, not_fed, no_room as no_room_to_feed, StepLost, goes, not_fed as not_lost, FollowsEach, StepRechoke, rechokes, not_rechoked, StepFlush, syncs, fails, Answer, Step, Run, IsMarkedBy, brought, read_back, IsSoAt, IsMarkedIn}
+use Rattle.bt_engine.proofs.Lists.{contains_none, range_limits, set_cases, set_same}
 use Rattle.bt_engine.proofs.Marks.{state_is, file_marked, missing_marks, IsSettled, settle_marks}
 use Rattle.bt_engine.proofs.Adopting.{adopt_marks}
 
@@ -11,15 +11,15 @@ block_is {b} {c} e f = ap (λ n. record b { file = n }) e ∙ ap (λ n. record c
 -- only a run of leaves has blocks to be settled
 leaves_only : (key : HashKey) {i : ℕ} → Contains (range_with_len key.index (settled_count key)) i
     → (key.base ≡ 0) × (key.index ≤ i) × (i < key.index + key.length)
-leaves_only key {i} c = by (key.base == 0) refl c
+leaves_only key {i} c = by _ refl c
   where
     by : (b : Bool) → (key.base == 0) ≡ b → Contains (range_with_len key.index (if b then key.length else 0)) i
         → (key.base ≡ 0) × (key.index ≤ i) × (i < key.index + key.length)
-    by true e c = let limits = range_limits key.index key.length c in (eqb-true key.base 0 e, limits.0, limits.1)
+    by true e c = let limits = range_limits _ _ c in (eqb-true key.base 0 e, limits.0, limits.1)
     by false e c = absurd (contains_none c)
 
 -- what marked a block in the course of a wire event
-data IsSeen (dig : List ℕ → List ℕ) (s : EngineState) (p : PeerState) (e : WireEvent) (calls : DeviceCalls) (mid : EngineState) (b : BlockId) : Type 0 where
+data IsSeen (dig : Digest) (s : EngineState) (p : PeerState) (e : WireEvent) (calls : DeviceCalls) (mid : EngineState) (b : BlockId) : Type 0 where
   came : (piece begin : ℕ) (bytes : List ℕ) (tree : Facts) → e ≡ Message (Piece piece begin bytes) → IsWholeBlock s.torrent piece begin (length bytes) b → Contains p.asked b
       → tree_of mid b.file ≡ Some tree → calls ≡ (b.file, bytes_written (full_block_length * b.block) bytes) ∷ [] → IsRight dig tree b.block bytes → IsSeen dig s p e calls mid b
   waited : (key : HashKey) (digests : List ℕ) (tree : ℕ) (old new : Facts) (claim : Claim) → e ≡ Message (Hashes key digests) → IsTreeOf s key.root tree old
@@ -30,7 +30,7 @@ data IsSeen (dig : List ℕ → List ℕ) (s : EngineState) (p : PeerState) (e :
 abbrev Marks : (List ℕ → List ℕ) → EngineState → PeerState → WireEvent → DeviceCalls → EngineState → BlockId → Type 0
 Marks dig s p e calls mid b = (state_at s b ≡ Some Marked) ⊎ IsSeen dig s p e calls mid b
 
-module _ (dig : List ℕ → List ℕ) (b : BlockId) where
+module _ (dig : Digest) (b : BlockId) where
   -- the engine is one in which the same blocks are marked
   as_before : {m mid : _} → mid ≡ m → state_at mid b ≡ Some Marked → state_at m b ≡ Some Marked
   as_before e marked = rw (← e) marked
@@ -53,7 +53,7 @@ module _ (dig : List ℕ → List ℕ) (b : BlockId) where
 
   fault_marks : {s : EngineState} {k mid file i f read effect : _} → slice_get s.files file ≡ Some f → FindsFault dig k s file i f read effect mid
       → state_at mid b ≡ Some Marked → state_at s b ≡ Some Marked
-  fault_marks {s} {file} {i} {f} at (damaged bytes x y z e) m = in_file s file _ at (as_before e m) (λ now. missing_marks f.states i b.block now)
+  fault_marks {s} {file} {i} {f} at (damaged bytes x y z e) m = in_file s file _ at (as_before e m) (λ now. missing_marks _ i _ now)
   fault_marks at (fault x y e) m = as_before e m
 
   request_marks : {s mid i p ask calls effect : _} → HandlesRequest dig s i p ask calls effect mid → state_at mid b ≡ Some Marked → state_at s b ≡ Some Marked
@@ -147,14 +147,14 @@ module _ (dig : List ℕ → List ℕ) (b : BlockId) where
 
   event_marks : (s mid : EngineState) (i : ℕ) (p : PeerState) (e : WireEvent) (calls : DeviceCalls) (effect : Effect) → Handles dig s i p e calls effect mid → state_at mid b ≡ Some Marked → Marks dig s p e calls mid b
   event_marks s mid i p (Hello h) calls effect t m = inl (as_before t.2 m)
-  event_marks s mid i p (Message msg) calls effect t m = message_marks s mid i p msg calls effect t m
+  event_marks s mid i p (Message msg) calls effect t m = message_marks s mid i p msg calls _ t m
   event_marks s mid i p (Skipped kind) calls effect t m = inl (as_before t.2 m)
 
   -- a block that a taken event marked, in an engine that has the trees after it
   taken_marks : {s mid new key i p calls effect : _} → IsPeer s key i p → TakesEvent dig s i p calls effect mid
       → tree_of new b.file ≡ tree_of mid b.file → state_at mid b ≡ Some Marked → (state_at s b ≡ Some Marked) ⊎ IsMarkedBy dig s (Next key) calls new b
   taken_marks {s} {mid} {new} {key} {i} {p} {calls} {effect} peer t trees m =
-      elim (event_marks (with_peer s i (record p { stream = t.rest })) mid i (record p { stream = t.rest }) t.event calls effect t.handles m) [
+      elim (event_marks _ mid i _ _ calls _ t.handles m) [
         | inl old ↦ inl old
         | inr seen ↦ inr (from seen)
       ]
@@ -180,7 +180,7 @@ module _ (dig : List ℕ → List ℕ) (b : BlockId) where
             right = exact;
           })
       from (waited run digests tree before after claim is here claims accepts r) =
-          let there : slice_get (slice_set s.trees tree after) tree ≡ Some after = set_same s.trees tree here.here in
+          let there : slice_get (slice_set s.trees tree after) tree ≡ Some after = set_same _ tree here.here in
           let facts : after ≡ r.facts = cc in
           let leaves = leaves_only run r.in_run in
           read_back (record {
@@ -244,7 +244,7 @@ module _ (dig : List ℕ → List ℕ) (b : BlockId) where
   each_marks (i ∷ peers) s new sent f m = as_before f.3.after (each_marks peers f.0 new f.2 f.4 m)
 
   rechoke_marks : {s new answer : _} → StepRechoke dig s answer new → state_at new b ≡ Some Marked → state_at s b ≡ Some Marked
-  rechoke_marks {new} (rechokes out r x) m = each_marks _ _ new r.sent r.follows m
+  rechoke_marks {new} (rechokes out r x) m = each_marks _ _ new _ r.follows m
   rechoke_marks (not_rechoked x e) m = as_before e m
 
   flush_marks : {s new calls answer : _} → StepFlush s calls answer new → state_at new b ≡ Some Marked → state_at s b ≡ Some Marked
@@ -285,7 +285,7 @@ after_step {mid} {e} {c} t i = record {
 }
 
 -- at the first event
-pub at_first : {dig : List ℕ → List ℕ} {P : EngineState → Event → DeviceCalls → EngineState → Type 0} {s : EngineState} (mid : EngineState) {last : EngineState} {e : Event} {es : List Event}
+pub at_first : {dig : Digest} {P : EngineState → Event → DeviceCalls → EngineState → Type 0} {s : EngineState} (mid : EngineState) {last : EngineState} {e : Event} {es : List Event}
     {c : DeviceCalls} {calls : List DeviceCalls} {a : Answer} {after : List Answer} → Step dig s e c a mid → Run dig mid es calls after last
     → P s e c mid → IsSoAt dig s (e ∷ es) (c ∷ calls) [] a after last P
 at_first {s} mid {e} {es} {c} {calls} t rest by = record {
@@ -328,11 +328,8 @@ run_cases {dig} {s} (e ∷ es) (c ∷ calls) (a ∷ answers) run {b} m = elim (r
     marked = after_step run.1 i.marked;
   })
 ]
-run_cases [] (c ∷ calls) answers run m = absurd run
-run_cases [] [] (a ∷ answers) run m = absurd run
-run_cases (e ∷ es) [] answers run m = absurd run
-run_cases (e ∷ es) (c ∷ calls) [] run m = absurd run
+run_cases _ _ _ run m = absurd run
 
 pub run_marks : {dig : _} (s new : EngineState) (es : List Event) (calls : List DeviceCalls) (answers : List Answer) → Run dig s es calls answers new
     → (b : BlockId) → state_at new b ≡ Some Marked → state_at s b ≢ Some Marked → IsMarkedIn dig s es calls answers new b
-run_marks s new es calls answers run b m before = elim (run_cases es calls answers run m) [ inl old ↦ absurd (before old) | inr now ↦ now ]
+run_marks s new es calls answers run b m before = elim (run_cases es calls _ run m) [ inl old ↦ absurd (before old) | inr now ↦ now ]

@@ -1,6 +1,6 @@
 -- How blocks become marked.
-use Rattle.bt_engine.proofs.Base.{◌≡◌, ℕ, ◌⊎◌, inl, inr, Bool, true, false, List, [], ◌∷◌, length, map, Option, Some, None, refl, sym, ap, ◌∙◌, subst, slice_get, slice_set, option_map, Contains, ◌&&◌, ◌==◌, is_some, nat_eq, if◌then◌else◌, option_and_then, option_map_or, range_with_len, pointwise, eqb-true, block_length, same_bytes, Facts, value_at, is_waiting, BlockRead, given, failed, block_of, call_of, is_leaf, is_right, IsRight, judged, waiting_blocks, is_waiting_at, BlockState, Missing, Waiting, Marked, BlockId}
-use Rattle.bt_engine.proofs.Machine.{FileState, EngineState, DeviceCalls, reads_at, state_at, tree_of, with_file, file_numbers, judged_file, due_blocks, SettlesIn}
+use Rattle.bt_engine.proofs.Base.{◌≡◌, ℕ, ◌⊎◌, inl, inr, Bool, true, false, List, [], ◌∷◌, length, map, Option, Some, None, refl, sym, ap, ◌∙◌, slice_get, slice_set, Contains, ◌&&◌, ◌==◌, is_some, nat_eq, if◌then◌else◌, option_map_or, range_with_len, pointwise, eqb-true, block_length, same_bytes, Facts, value_at, is_waiting, BlockRead, given, failed, block_of, call_of, is_leaf, is_right, IsRight, judged, waiting_blocks, is_waiting_at, BlockState, Missing, Waiting, Marked, BlockId}
+use Rattle.bt_engine.proofs.Machine.{Digest, FileState, EngineState, DeviceCalls, reads_at, state_at, tree_of, with_file, file_numbers, judged_file, due_blocks, SettlesIn}
 use Rattle.bt_engine.proofs.Lists.{set_cases, and_then_some, map_some, and_true, here, later, contains_none, contains_filter, map_contains, flat_map_contains, some_below, range_contains}
 
 pub state_is : (s : EngineState) (c : BlockId) {f x : _} → slice_get s.files c.file ≡ Some f → slice_get f.states c.block ≡ Some x → state_at s c ≡ Some x
@@ -23,15 +23,15 @@ leaf_then (Some x) {d} e = ap (λ y. Some y) (same_bytes x d (pointwise nat_eq x
 
 pub right_then : {dig k i bytes : _} → is_right dig k i bytes ≡ true → IsRight dig k i bytes
 right_then {dig} {k} {i} {bytes} e =
-    let both = and_true (length bytes == block_length k.file_length i) e in
-    record { whole = eqb-true (length bytes) (block_length k.file_length i) both.0; leaf = leaf_then (value_at dig k 0 i) both.1 }
+    let both = and_true _ e in
+    record { whole = eqb-true (length bytes) (block_length k.file_length i) both.0; leaf = leaf_then _ both.1 }
 
 verdict_true : (b : Bool) → Marked ≡ (if b then Marked else Missing) → b ≡ true
 verdict_true true e = refl
 verdict_true false e = absurd cc
 
 -- right bytes of the block were read
-pub record GaveRight (dig : List ℕ → List ℕ) (k : Facts) (reads : List BlockRead) (i : ℕ) : Type 0 where
+pub record GaveRight (dig : Digest) (k : Facts) (reads : List BlockRead) (i : ℕ) : Type 0 where
   pub bytes : List ℕ
   pub gives : Contains reads (given i bytes)
   pub right : IsRight dig k i bytes
@@ -40,15 +40,15 @@ more_given : {dig k read reads i : _} → GaveRight dig k reads i → GaveRight 
 more_given {read} {reads} g = record { bytes = g.bytes; gives = later read reads g.gives; right = g.right }
 
 pub missing_marks : (states : List BlockState) (b i : ℕ) → slice_get (slice_set states b Missing) i ≡ Some Marked → slice_get states i ≡ Some Marked
-missing_marks states b i e = elim (set_cases states b i e) [ inl wrong ↦ absurd cc | inr old ↦ old ]
+missing_marks states b i e = elim (set_cases _ b i e) [ inl wrong ↦ absurd cc | inr old ↦ old ]
 
 pub judged_marks : {dig k : _} (reads : List BlockRead) (states : List BlockState) {i : ℕ}
     → slice_get (judged dig k false reads states) i ≡ Some Marked → (slice_get states i ≡ Some Marked) ⊎ GaveRight dig k reads i
 judged_marks [] states e = inl e
 judged_marks {dig} {k} (given b bytes ∷ reads) states {i} e = elim (judged_marks reads _ e) [
-  | inl now ↦ elim (set_cases states b i now) [
+  | inl now ↦ elim (set_cases _ b i now) [
     | inl one ↦
-        let right : is_right dig k b bytes ≡ true = verdict_true (is_right dig k b bytes) one.1 in
+        let right : is_right dig k b bytes ≡ true = verdict_true _ one.1 in
         let same : b ≡ i = sym one.0 in
         inr (record { bytes = bytes; gives = here reads (ap (λ j. given j bytes) same); right = right_then (cc) })
     | inr old ↦ inl old
@@ -56,15 +56,13 @@ judged_marks {dig} {k} (given b bytes ∷ reads) states {i} e = elim (judged_mar
   | inr later_on ↦ inr (more_given later_on)
 ]
 judged_marks (failed b ∷ reads) states {i} e = elim (judged_marks reads _ e) [
-  | inl now ↦ inl (missing_marks states b i now)
+  | inl now ↦ inl (missing_marks _ b i now)
   | inr later_on ↦ inr (more_given later_on)
 ]
 
 waits_then : (o : Option BlockState) → option_map_or is_waiting o false ≡ true → o ≡ Some Waiting
-waits_then None e = absurd cc
-waits_then (Some Missing) e = absurd cc
 waits_then (Some Waiting) e = refl
-waits_then (Some Marked) e = absurd cc
+waits_then _ e = absurd cc
 
 -- a block that was due waited, in a file of the tree, and is one of the run
 pub record IsDue (tree from count : ℕ) (f : FileState) (i : ℕ) : Type 0 where
@@ -72,28 +70,28 @@ pub record IsDue (tree from count : ℕ) (f : FileState) (i : ℕ) : Type 0 wher
   pub in_run : Contains (range_with_len from count) i
   pub waited : slice_get f.states i ≡ Some Waiting
 
-due_then : (dig : List ℕ → List ℕ) (k : Facts) {tree from count f i : _} → Contains (due_blocks dig k tree from count f) i
+due_then : (dig : Digest) (k : Facts) {tree from count f i : _} → Contains (due_blocks dig k tree from count f) i
     → IsDue tree from count f i
-due_then dig k {tree} {from} {count} {f} {i} c = by (f.tree == tree) refl c
+due_then dig k {tree} {from} {count} {f} {i} c = by _ refl c
   where
     by : (b : Bool) → (f.tree == tree) ≡ b → Contains (if b then waiting_blocks dig k f.states from count else []) i → IsDue tree from count f i
     by true e c =
-        let d = contains_filter (λ j. is_waiting_at f.states j && is_some (value_at dig k 0 j)) (range_with_len from count) c in
+        let d = contains_filter (λ j. is_waiting_at f.states j && is_some (value_at dig k 0 j)) _ c in
         record {
           of_tree = eqb-true f.tree tree e;
           in_run = d.0;
-          waited = waits_then (slice_get f.states i) (and_true (is_waiting_at f.states i) d.1).0;
+          waited = waits_then _ (and_true _ d.1).0;
         }
     by false e c = absurd (contains_none c)
 
 -- with a test that a file is meant
-pub meant_then : (dig : List ℕ → List ℕ) (k : Facts) (b : Bool) {tree from count f i : _} → Contains (if b then due_blocks dig k tree from count f else []) i
+pub meant_then : (dig : Digest) (k : Facts) (b : Bool) {tree from count f i : _} → Contains (if b then due_blocks dig k tree from count f else []) i
     → (b ≡ true) × IsDue tree from count f i
 meant_then dig k true c = (refl, due_then dig k c)
 meant_then dig k false c = absurd (contains_none c)
 
 -- a block that waited was read, with the digest of its leaf, as one of the run in a file of the tree that was meant
-pub record IsSettled (dig : List ℕ → List ℕ) (is_meant : ℕ → Bool) (tree from count : ℕ) (old : EngineState) (calls : DeviceCalls) (new : EngineState)
+pub record IsSettled (dig : Digest) (is_meant : ℕ → Bool) (tree from count : ℕ) (old : EngineState) (calls : DeviceCalls) (new : EngineState)
     (b : BlockId) : Type 0 where
   pub facts : Facts
   pub file : FileState

@@ -1,7 +1,7 @@
 -- Peers and what they are asked for, over steps.
-use Rattle.bt_engine.proofs.Base.{◌≡◌, ◌≢◌, ℕ, zero, suc, ◌+◌, ◌*◌, ◌<◌, ◌≤◌, ◌⊎◌, inl, inr, Bool, true, false, not, List, [], ◌∷◌, ◌++◌, length, map, take, drop, Some, refl, sym, ap, ◌∙◌, subst, arith, length-append, slice_get, slice_set, option_map, Contains, ◌&&◌, ◌==◌, ◌-◌, ◌/◌, ◌%◌, ◌^◌, Result, Ok, Err, option_and_then, AllPairs, range_with_len, cases_lt, eqb-true, eq-eqb, length-set, length-take, length-map, length-replicate, length-range_with_len, AllPairs-filter, length-filter, count_by-le-length, div_ceil_times, Contains-append_cases, total_pieces, Facts, HashKey, BlockRead, given, failed, block_of, judged, states_after_put, BlockState, Missing, Waiting, Marked, StoreError, Put, Already, Wrong, PutMarked, PutWaiting, PeerKey, BlockId, is_block, max_peers, without_block, Ask, PeerMessage as Sent, KeepAlive, Choke, Unchoke, Interested, NotInterested, Have, Bitfield, Request, Piece, Cancel, HashRequest, Hashes, HashReject, WireEvent, Hello, Message, Skipped}
-use Rattle.bt_engine.proofs.Machine.{Event, Connect, Feed, Next, Lost, Rechoke, Adopt, Flush, PeerState, FileState, EngineState, DeviceCalls, state_at, with_file, with_peer, with_tree, Sent as SentFrame, Effect, FindsFault, damaged, fault, with_payload, HandlesRequest, ignored, no_place, not_marked, served, stopped, Arrives, HandlesPiece, stale, arrives, judged_file, SettlesIn, HandlesHashes, unknown_root, no_claim, refused, learns, bits_of, bits_in, HandlesHave, in_range, out_of_range, HandlesBitfield, right, wrong, HandlesMessage, Handles, RequestsHashes, requests, rests, FollowsUp, without_peer, with_pending, TakesEvent, StepNext, no_peer, waits, goes_on, closes, faulty, no_memory, new_peer, StepConnect, joins, full, spent, no_room, StepFeed, feeds, not_fed, no_room as no_room_to_feed, StepLost, goes, not_fed as not_lost, rechoked_peer, rechoked, FollowsEach, StepRechoke, rechokes, not_rechoked, AdoptsGroups, StepAdopt, no_file, busy, empty, adopts, not_adopted, StepFlush, syncs, fails, Answer, Run, IsOrderlyPeer, IsOrderly, AskedApart, StepKeepsOrder, RunsAreOrderly}
-use Rattle.bt_engine.proofs.Lists.{same_some, set_id, set_other, set_same, and_then_some, and_true, contains_none, contains_cases, contains_filter, contains_map, here, later}
+use Rattle.bt_engine.proofs.Base.{◌≡◌, ◌≢◌, ℕ, zero, suc, ◌+◌, ◌*◌, ◌<◌, ◌≤◌, ◌⊎◌, inl, inr, Bool, true, false, not, List, [], ◌∷◌, ◌++◌, length, map, take, drop, Some, refl, sym, ap, ◌∙◌, subst, arith, length-append, slice_get, slice_set, option_map, Contains, ◌&&◌, ◌==◌, Result, Ok, option_and_then, AllPairs, cases_lt, eqb-true, eq-eqb, length-set, length-take, length-map, length-replicate, AllPairs-filter, length-filter, count_by-le-length, div_ceil_times, Contains-append_cases, total_pieces, Facts, BlockRead, given, failed, block_of, judged, states_after_put, BlockState, Missing, Waiting, Marked, StoreError, Put, PutMarked, PutWaiting, PeerKey, BlockId, is_block, max_peers, without_block, PeerMessage as Sent, KeepAlive, Choke, Have, Bitfield, Request, Piece, Cancel, HashRequest, Hashes, HashReject, WireEvent, Message}
+use Rattle.bt_engine.proofs.Machine.{Digest, Event, Connect, Feed, Next, Lost, Rechoke, Adopt, Flush, PeerState, FileState, EngineState, DeviceCalls, state_at, with_file, with_peer, Sent as SentFrame, Effect, FindsFault, damaged, fault, with_payload, HandlesRequest, ignored, no_place, not_marked, served, stopped, Arrives, HandlesPiece, stale, arrives, judged_file, SettlesIn, HandlesHashes, unknown_root, no_claim, refused, learns, bits_of, bits_in, HandlesHave, in_range, out_of_range, HandlesBitfield, right, wrong, HandlesMessage, Handles, RequestsHashes, requests, rests, FollowsUp, without_peer, with_pending, TakesEvent, StepNext, no_peer, waits, goes_on, closes, faulty, no_memory, new_peer, StepConnect, joins, full, spent, no_room, StepFeed, feeds, not_fed, no_room as no_room_to_feed, StepLost, goes, not_fed as not_lost, rechoked_peer, rechoked, FollowsEach, StepRechoke, rechokes, not_rechoked, AdoptsGroups, StepAdopt, no_file, busy, empty, adopts, not_adopted, StepFlush, syncs, fails, Answer, Run, IsOrderlyPeer, IsOrderly, AskedApart, StepKeepsOrder, RunsAreOrderly}
+use Rattle.bt_engine.proofs.Lists.{set_id, set_other, set_same, and_then_some, and_true, contains_none, contains_cases, contains_filter, contains_map, here, later}
 use Rattle.bt_engine.proofs.Marks.{state_is, meant_then}
 use Rattle.bt_engine.proofs.Pairs.{Pairs, to_pairs, from_pairs, contains_some, pairs_at, contains_set, pairs_set, contains_without, pairs_without, length-without, pairs_append, pairs_map}
 
@@ -17,9 +17,9 @@ none_apart R i j d lt within = absurd (omega arith)
 -- what is asked of two peers is apart
 two_apart : (peers : List PeerState) (i j : ℕ) {p q b : _} → Pairs AskedApart peers → slice_get peers i ≡ Some p → slice_get peers j ≡ Some q → j ≢ i → Contains p.asked b → Contains q.asked b → ⊥
 two_apart peers i j {b} apart e f other own theirs = elim (cases_lt i j) [
-  | inl lt ↦ pairs_at AskedApart peers i j apart e f lt b own theirs
+  | inl lt ↦ pairs_at _ peers i j apart e f lt b own theirs
   | inr le ↦ elim (cases_lt j i) [
-    | inl lt ↦ pairs_at AskedApart peers j i apart f e lt b theirs own
+    | inl lt ↦ pairs_at _ peers j i apart f e lt b theirs own
     | inr ge ↦ absurd (other (omega arith))
   ]
 ]
@@ -101,7 +101,7 @@ replaced {s} q e key has asked = placed s q refl refl refl (λ b x. x) e key has
 kept : {s m : EngineState} {i p : _} → slice_get s.peers i ≡ Some p → m.peers ≡ s.peers → m.next_key ≡ s.next_key → m.torrent ≡ s.torrent → KeepsMissing s m → PeerChange s i p m
 kept {s} {i} {p} at peers next torrent states = record {
   new = p;
-  peers = peers ∙ sym (set_id s.peers i at);
+  peers = peers ∙ sym (set_id _ i at);
   next = next;
   torrent = torrent;
   key = refl;
@@ -118,39 +118,37 @@ quiet at e = kept at (ap (λ z. z.peers) e) (ap (λ z. z.next_key) e) (ap (λ z.
 -- ---- states
 
 set_missing : (states : List BlockState) (i j : ℕ) → slice_get states j ≡ Some Missing → slice_get (slice_set states i Missing) j ≡ Some Missing
-set_missing [] i j e = e
 set_missing (x ∷ states) zero zero e = refl
-set_missing (x ∷ states) zero (suc j) e = e
-set_missing (x ∷ states) (suc i) zero e = e
 set_missing (x ∷ states) (suc i) (suc j) e = set_missing states i j e
+set_missing _ _ _ e = e
 
 -- in a file that stands in the place of another
 file_missing : (s : EngineState) (file : ℕ) {f : _} (new : FileState) (b : BlockId) → slice_get s.files file ≡ Some f → (b.file ≡ file → slice_get f.states b.block ≡ Some Missing → slice_get new.states b.block ≡ Some Missing)
     → state_at s b ≡ Some Missing → state_at (with_file s file new) b ≡ Some Missing
-file_missing s file {f} new b at keep missing = by (b.file == file) refl
+file_missing s file {f} new b at keep missing = by _ refl
   where
     f_is : b.file ≡ file → slice_get f.states b.block ≡ Some Missing
     f_is same =
-        let g = and_then_some (λ (q : FileState). slice_get q.states b.block) (slice_get s.files b.file) missing in
+        let g = and_then_some (λ (q : FileState). slice_get q.states b.block) _ missing in
         let is : g.0 ≡ f = cc in
         ap (λ (q : FileState). slice_get q.states b.block) (sym is) ∙ g.2
 
     by : (t : Bool) → (b.file == file) ≡ t → state_at (with_file s file new) b ≡ Some Missing
     by true e =
         let same : b.file ≡ file = eqb-true b.file file e in
-        state_is (with_file s file new) b (ap (slice_get (slice_set s.files file new)) same ∙ set_same s.files file at) (keep same (f_is same))
+        state_is (with_file s file new) b (ap (slice_get (slice_set s.files file new)) same ∙ set_same _ file at) (keep same (f_is same))
     by false e =
         let apart : b.file ≢ file = λ same. (let yes : (b.file == file) ≡ true = eq-eqb b.file file same in absurd cc) in
-        ap (option_and_then (λ (q : FileState). slice_get q.states b.block)) (set_other s.files file b.file new apart) ∙ missing
+        ap (option_and_then (λ (q : FileState). slice_get q.states b.block)) (set_other _ file _ new apart) ∙ missing
 
-pub judged_other : (dig : List ℕ → List ℕ) (k : Facts) (forgiving : Bool) (reads : List BlockRead) (states : List BlockState) (i : ℕ) → (Contains (map block_of reads) i → ⊥)
+pub judged_other : (dig : Digest) (k : Facts) (forgiving : Bool) (reads : List BlockRead) (states : List BlockState) (i : ℕ) → (Contains (map block_of reads) i → ⊥)
     → slice_get (judged dig k forgiving reads states) i ≡ slice_get states i
 judged_other dig k forgiving [] states i none = refl
 judged_other dig k forgiving (given b bytes ∷ reads) states i none =
-    judged_other dig k forgiving reads _ i (λ c. none (later b (map block_of reads) c)) ∙ set_other states b i _ (λ e. none (here (map block_of reads) (sym e)))
-judged_other dig k true (failed b ∷ reads) states i none = judged_other dig k true reads states i (λ c. none (later b (map block_of reads) c))
+    judged_other dig k _ reads _ i (λ c. none (later b _ c)) ∙ set_other _ b i _ (λ e. none (here _ (sym e)))
+judged_other dig k true (failed b ∷ reads) states i none = judged_other dig k true reads _ i (λ c. none (later b _ c))
 judged_other dig k false (failed b ∷ reads) states i none =
-    judged_other dig k false reads _ i (λ c. none (later b (map block_of reads) c)) ∙ set_other states b i Missing (λ e. none (here (map block_of reads) (sym e)))
+    judged_other dig k false reads _ i (λ c. none (later b _ c)) ∙ set_other _ b i _ (λ e. none (here _ (sym e)))
 
 -- blocks that are settled waited
 settle_missing : {dig is_meant tree from count old new calls notes : _} → SettlesIn dig is_meant tree from count old calls notes new → KeepsMissing old new
@@ -167,11 +165,11 @@ settle_missing {dig} {is_meant} {old} {new} s b missing =
 
 block_is : {b c : _} → is_block b c ≡ true → c ≡ b
 block_is {b} {c} e =
-    let both = and_true (c.file == b.file) e in
+    let both = and_true _ e in
     ap (λ n. record c { file = n }) (eqb-true c.file b.file both.0) ∙ ap (λ n. record b { block = n }) (eqb-true c.block b.block both.1)
 
 is_itself : {b c : _} → c ≡ b → is_block b c ≡ true
-is_itself {b} e = rw e (both (b.file == b.file) (b.block == b.block) (eq-eqb b.file b.file refl) (eq-eqb b.block b.block refl))
+is_itself {b} e = rw e (both _ _ (eq-eqb b.file b.file refl) (eq-eqb b.block b.block refl))
   where
     both : (x y : Bool) → x ≡ true → y ≡ true → (x && y) ≡ true
     both true true e f = refl
@@ -185,12 +183,12 @@ length-bits_in : (bytes : List ℕ) → length (bits_in bytes) ≡ 8 * length by
 length-bits_in [] = omega arith
 length-bits_in (byte ∷ bytes) = let more = length-bits_in bytes in omega (arith, length-append (bits_of byte) (bits_in bytes), length-bits_of byte)
 
-module _ (dig : List ℕ → List ℕ) where
+module _ (dig : Digest) where
   fault_change : {s : EngineState} {k mid file i f read effect place p : _} → slice_get s.peers place ≡ Some p → slice_get s.files file ≡ Some f
       → FindsFault dig k s file i f read effect mid → PeerChange s place p mid
   fault_change {s} {file} {i} {f} at there (damaged bytes x y z e) =
       kept at (ap (λ z. z.peers) e) (ap (λ z. z.next_key) e) (ap (λ z. z.torrent) e)
-      (λ b missing. ap (λ z. state_at z b) e ∙ file_missing s file (record f { states = slice_set f.states i Missing }) b there (λ same. set_missing f.states i b.block) missing)
+      (λ b missing. ap (λ z. state_at z b) e ∙ file_missing s file _ b there (λ same. set_missing _ i _) missing)
   fault_change at there (fault x y e) = quiet at e
 
   request_change : {s : EngineState} {mid i p ask calls effect : _} → slice_get s.peers i ≡ Some p → HandlesRequest dig s i p ask calls effect mid → PeerChange s i p mid
@@ -203,9 +201,7 @@ module _ (dig : List ℕ → List ℕ) where
   put_missing : (r : Result Put StoreError) (i j : ℕ) (states : List BlockState) → j ≢ i → slice_get states j ≡ Some Missing → slice_get (states_after_put i r states) j ≡ Some Missing
   put_missing (Ok PutMarked) i j states apart e = set_other states i j Marked apart ∙ e
   put_missing (Ok PutWaiting) i j states apart e = set_other states i j Waiting apart ∙ e
-  put_missing (Ok Already) i j states apart e = e
-  put_missing (Ok Wrong) i j states apart e = e
-  put_missing (Err x) i j states apart e = e
+  put_missing _ i j states apart e = e
 
   arrives_change : {s mid i p piece begin bytes calls effect : _} → Arrives dig s i p piece begin bytes calls effect mid → PeerChange s i p mid
   arrives_change {s} {mid} {i} {p} {bytes} a = record {
@@ -216,13 +212,13 @@ module _ (dig : List ℕ → List ℕ) where
     key = refl;
     has = refl;
     few = omega (arith, length-filter (λ c. not (is_block a.block c)) p.asked, count_by-le-length (λ c. not (is_block a.block c)) p.asked);
-    among = λ b c. (contains_filter (λ c. not (is_block a.block c)) p.asked c).0;
+    among = λ b c. (contains_filter (λ c. not (is_block a.block c)) _ c).0;
     once = λ o. AllPairs-filter (λ b c. b ≢ c) (λ c. not (is_block a.block c)) p.asked o;
-    states = λ b missing. by missing (is_block a.block b) refl;
+    states = λ b missing. by missing _ refl;
   }
     where
       no_longer : {b : _} → is_block a.block b ≡ true → Contains (without_block a.block p.asked) b → ⊥
-      no_longer {b} e c = let f : not (is_block a.block b) ≡ true = (contains_filter (λ c. not (is_block a.block c)) p.asked c).1 in absurd cc
+      no_longer {b} e c = let f : not (is_block a.block b) ≡ true = (contains_filter (λ c. not (is_block a.block c)) _ c).1 in absurd cc
 
       elsewhere : (b : BlockId) → is_block a.block b ≡ false → b.file ≡ a.block.file → b.block ≢ a.block.block
       elsewhere b e same_file same =
@@ -232,8 +228,8 @@ module _ (dig : List ℕ → List ℕ) where
       by : {b : _} → state_at s b ≡ Some Missing → (t : Bool) → is_block a.block b ≡ t → (state_at mid b ≡ Some Missing) ⊎ (Contains p.asked b × (Contains (without_block a.block p.asked) b → ⊥))
       by missing true e = inr (subst (λ c. Contains p.asked c) (sym (block_is e)) a.asked, no_longer e)
       by {b} missing false e = inl (ap (λ z. state_at z b) a.after ∙ ap (λ z. state_at z b) a.puts.after
-          ∙ file_missing s a.block.file (record a.puts.file { states = states_after_put a.block.block a.puts.result a.puts.file.states }) b a.puts.is_file.here
-          (λ same_file now. put_missing a.puts.result a.block.block b.block a.puts.file.states (elsewhere b e same_file) now) missing)
+          ∙ file_missing s _ _ b a.puts.is_file.here
+          (λ same_file now. put_missing _ _ _ _ (elsewhere b e same_file) now) missing)
 
   piece_change : {s : EngineState} {mid i p piece begin bytes calls effect : _} → slice_get s.peers i ≡ Some p → HandlesPiece dig s i p piece begin bytes calls effect mid → PeerChange s i p mid
   piece_change at (stale x y z e) = quiet at e
@@ -248,7 +244,7 @@ module _ (dig : List ℕ → List ℕ) where
   hashes_change at (no_claim f x y c) = quiet at c.after
   hashes_change at (refused f t k c x y z g) = quiet at g.after
   hashes_change at (learns l) =
-      placed l.settled _ (ap (λ z. z.peers) l.settles.others) (ap (λ z. z.next_key) l.settles.others) (ap (λ z. z.torrent) l.settles.others)
+      placed _ _ (ap (λ z. z.peers) l.settles.others) (ap (λ z. z.next_key) l.settles.others) (ap (λ z. z.torrent) l.settles.others)
       (λ b missing. settle_missing l.settles b missing) l.after refl refl refl
 
   bits_change : {s : EngineState} {mid i p bytes effect : _} → slice_get s.peers i ≡ Some p → length p.has ≡ total_pieces s.torrent → HandlesBitfield s i p bytes effect mid → PeerChange s i p mid
@@ -275,9 +271,6 @@ module _ (dig : List ℕ → List ℕ) where
     once = λ o. none_apart (λ b c. b ≢ c);
     states = λ b missing. inl (cc);
   }
-  message_change Unchoke calls effect at pieces h = replaced _ h.2 refl refl refl
-  message_change Interested calls effect at pieces h = replaced _ h.2 refl refl refl
-  message_change NotInterested calls effect at pieces h = replaced _ h.2 refl refl refl
   message_change (Have piece) calls effect at pieces h = have_change at h.1
   message_change (Bitfield bytes) calls effect at pieces h = bits_change at pieces h.1
   message_change (Request ask) calls effect at pieces h = request_change at h
@@ -286,18 +279,18 @@ module _ (dig : List ℕ → List ℕ) where
   message_change (HashRequest key) calls effect at pieces h = quiet at h.2
   message_change (Hashes key digests) calls effect at pieces h = hashes_change at h
   message_change (HashReject key) calls effect at pieces h = replaced _ h.2.after refl refl refl
+  message_change _ calls effect at pieces h = replaced _ h.2 refl refl refl
 
   event_change : {s : EngineState} {mid i p : _} (e : WireEvent) (calls : DeviceCalls) (effect : Effect) → slice_get s.peers i ≡ Some p → length p.has ≡ total_pieces s.torrent → Handles dig s i p e calls effect mid → PeerChange s i p mid
-  event_change (Hello h) calls effect at pieces t = quiet at t.2
   event_change (Message m) calls effect at pieces t = message_change m calls effect at pieces t
-  event_change (Skipped kind) calls effect at pieces t = quiet at t.2
+  event_change _ calls effect at pieces t = quiet at t.2
 
   taken_order : {s : EngineState} {mid i p calls effect : _} → slice_get s.peers i ≡ Some p → TakesEvent dig s i p calls effect mid → IsOrderly s → IsOrderly mid
   taken_order {s} {i} {p} {calls} {effect} at t o =
       let fed : PeerState = record p { stream = t.rest } in
-      let there : slice_get (with_peer s i fed).peers i ≡ Some fed = set_same s.peers i at in
+      let there : slice_get (with_peer s i fed).peers i ≡ Some fed = set_same _ i at in
       let before = changed at (replaced fed refl refl refl refl) o in
-      changed there (event_change t.event calls effect there (o.each p (contains_some s.peers i at)).pieces t.handles) before
+      changed there (event_change _ calls _ there (o.each p (contains_some _ i at)).pieces t.handles) before
 
   -- ---- events
 
@@ -372,7 +365,7 @@ module _ (dig : List ℕ → List ℕ) where
   next_order (no_peer x y z e) o = order_is e o
   next_order (waits i p x y z w e) o = order_is e o
   next_order {s} (goes_on i p out peer g x) o =
-      follow_order g.follows (pending_order s g.effect.proofs (taken_order peer.here g.takes o))
+      follow_order g.follows (pending_order s _ (taken_order peer.here g.takes o))
   next_order (closes i p out peer g x) o = without_order i g.after (taken_order peer.here g.takes o)
   next_order (faulty i p out peer g x) o = without_order i g.after o
   next_order (no_memory i p peer g x) o = without_order i g.after o
@@ -429,7 +422,7 @@ module _ (dig : List ℕ → List ℕ) where
       one {p} c = let old = o.each p c in record { key = old.key; pieces = old.pieces; few = old.few; once = old.once; missing = old.missing }
 
   rechoke_order : {s new answer : _} → StepRechoke dig s answer new → IsOrderly s → IsOrderly new
-  rechoke_order (rechokes out r x) o = each_order _ r.sent r.follows (rechoked_order o)
+  rechoke_order (rechokes out r x) o = each_order _ _ r.follows (rechoked_order o)
   rechoke_order (not_rechoked x e) o = order_is e o
 
   groups_peers : (s new : EngineState) (file from : ℕ) (groups : List DeviceCalls) (total : _) → AdoptsGroups dig s file from groups total new → new.peers ≡ s.peers
@@ -450,8 +443,8 @@ module _ (dig : List ℕ → List ℕ) where
   adopt_order (busy x y z w e) o = order_is e o
   adopt_order (empty f x y z w v e) o = order_is e o
   adopt_order {s} {file} (adopts total none a y) o =
-      none_order (ap (λ z. z.peers) a.after ∙ ap (λ z. z.peers) a.settles.others ∙ groups_peers s a.mid file 0 a.groups total a.adopts ∙ none)
-  adopt_order {s} {new} {file} (not_adopted none a y) o = none_order (groups_peers s new file 0 a.groups a.done a.adopts ∙ none)
+      none_order (ap (λ z. z.peers) a.after ∙ ap (λ z. z.peers) a.settles.others ∙ groups_peers s a.mid file 0 _ total a.adopts ∙ none)
+  adopt_order {s} {new} {file} (not_adopted none a y) o = none_order (groups_peers s new file 0 _ _ a.adopts ∙ none)
 
   flush_order : {s new calls answer : _} → StepFlush s calls answer new → IsOrderly s → IsOrderly new
   flush_order (syncs x y z e) o = order_is e o
@@ -469,10 +462,7 @@ module _ (dig : List ℕ → List ℕ) where
   run_order : (s : EngineState) {new : _} (es : List Event) (calls : List DeviceCalls) (answers : List Answer) → Run dig s es calls answers new → IsOrderly s → IsOrderly new
   run_order s [] [] [] run o = order_is run o
   run_order s (e ∷ es) (c ∷ calls) (a ∷ answers) run o = run_order run.0 es calls answers run.2 (order_kept s run.0 e c a run.1 o)
-  run_order s [] (c ∷ calls) answers run o = absurd run
-  run_order s [] [] (a ∷ answers) run o = absurd run
-  run_order s (e ∷ es) [] answers run o = absurd run
-  run_order s (e ∷ es) (c ∷ calls) [] run o = absurd run
+  run_order s _ _ _ run o = absurd run
 
   pub order_of_runs : RunsAreOrderly dig
-  order_of_runs torrent first last events calls answers starts run = run_order first events calls answers run (none_order (ap (λ z. z.peers) starts.is))
+  order_of_runs torrent first last events calls answers starts run = run_order first _ calls _ run (none_order (ap (λ z. z.peers) starts.is))

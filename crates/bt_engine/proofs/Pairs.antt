@@ -1,5 +1,5 @@
 -- Lists in which a relation holds of each element and each later one.
-use Rattle.bt_engine.proofs.Base.{◌≡◌, ◌≢◌, ℕ, zero, suc, ◌+◌, ◌<◌, ◌≤◌, ◌⊎◌, inl, inr, List, [], ◌∷◌, ◌++◌, length, map, take, drop, get_or, Some, refl, sym, ap, ◌∙◌, subst, arith, slice_get, slice_set, Contains, ⊤, AllPairs, get_or_default, Contains-append_cases}
+use Rattle.bt_engine.proofs.Base.{◌≡◌, ◌≢◌, ℕ, zero, suc, ◌+◌, ◌<◌, ◌≤◌, ◌⊎◌, inl, inr, List, [], ◌∷◌, ◌++◌, length, map, take, drop, get_or, Some, refl, sym, ap, ◌∙◌, arith, slice_get, slice_set, Contains, ⊤, AllPairs, get_or_default, Contains-append_cases}
 use Rattle.bt_engine.proofs.Lists.{same_some, here, later, contains_none, contains_cases, contains_map}
 
 -- the same by recursion on the list
@@ -44,7 +44,7 @@ pairs_at R (z ∷ xs) (suc i) (suc j) p e f lt = pairs_at R xs i j p.1 e f (omeg
 pub contains_set : {X : Type 0} (xs : List X) (i : ℕ) {x y : X} → Contains (slice_set xs i x) y → (y ≡ x) ⊎ ((j : ℕ) × (j ≢ i) × (slice_get xs j ≡ Some y))
 contains_set [] i c = absurd (contains_none c)
 contains_set (z ∷ xs) zero c = elim (contains_cases xs c) [ inl e ↦ inl (sym e) | inr more ↦ inr (let m = some_at xs more in (suc m.0, (λ e. omega arith), m.1)) ]
-contains_set (z ∷ xs) (suc i) {x} c = elim (contains_cases (slice_set xs i x) c) [
+contains_set (z ∷ xs) (suc i) {x} c = elim (contains_cases _ c) [
   | inl e ↦ inr (0, (λ f. omega arith), ap (λ w. Some w) e)
   | inr more ↦ elim (contains_set xs i more) [ inl e ↦ inl e | inr m ↦ inr (suc m.0, (λ f. m.1 (omega arith)), m.2) ]
 ]
@@ -79,7 +79,7 @@ removed_is (x ∷ xs) (suc i) =
 contains_removed : {X : Type 0} (xs : List X) (i : ℕ) {y : X} → Contains (removed xs i) y → Contains xs y
 contains_removed [] i c = c
 contains_removed (x ∷ xs) zero c = later x xs c
-contains_removed (x ∷ xs) (suc i) c = elim (contains_cases (removed xs i) c) [ inl e ↦ here xs e | inr more ↦ later x xs (contains_removed xs i more) ]
+contains_removed (x ∷ xs) (suc i) c = elim (contains_cases _ c) [ inl e ↦ here xs e | inr more ↦ later x xs (contains_removed xs i more) ]
 
 pairs_removed : {X : Type 0} (R : X → X → Type 0) (xs : List X) (i : ℕ) → Pairs R xs → Pairs R (removed xs i)
 pairs_removed R [] i p = p
@@ -87,9 +87,8 @@ pairs_removed R (x ∷ xs) zero p = p.1
 pairs_removed R (x ∷ xs) (suc i) p = (λ y c. p.0 y (contains_removed xs i c), pairs_removed R xs i p.1)
 
 length-removed : {X : Type 0} (xs : List X) (i : ℕ) → length (removed xs i) ≤ length xs
-length-removed [] i = omega arith
-length-removed (x ∷ xs) zero = omega arith
 length-removed (x ∷ xs) (suc i) = let le = length-removed xs i in omega arith
+length-removed _ _ = omega arith
 
 -- what is left stood at another place
 other_removed : {X : Type 0} (xs : List X) (i j : ℕ) {x : X} → slice_get (removed xs i) j ≡ Some x → (n : ℕ) × (slice_get xs n ≡ Some x) × (n ≢ i)

@@ -1,16 +1,16 @@
 -- Trees stay rooted.
-use Rattle.bt_engine.proofs.Base.{◌≡◌, ℕ, ◌-◌, arith, inl, inr, List, [], ◌∷◌, sym, subst, ◌<◌, ◌∙◌, Facts, blocks_of, height, IsRooted, IsChecked, keeps_rooted, held_is_checked, value_covers, CoversBlock, real_width, real_limit, HashKey, BlockRead, IsRight, Ask, PeerMessage as Sent, KeepAlive, Choke, Unchoke, Interested, NotInterested, Have, Bitfield, Request, Piece, Cancel, HashRequest, Hashes, HashReject, WireEvent, Hello, Message, Skipped}
-use Rattle.bt_engine.proofs.Machine.{Event, Connect, Feed, Next, Lost, Rechoke, Adopt, Flush, PeerState, FileState, EngineState, DeviceCalls, with_tree, Sent as SentFrame, Effect, FindsFault, damaged, fault, HandlesRequest, ignored, no_place, not_marked, served, stopped, HandlesPiece, stale, arrives, HandlesHashes, unknown_root, no_claim, refused, learns, HandlesHave, in_range, out_of_range, HandlesBitfield, right, wrong, HandlesMessage, Handles, StepNext, no_peer, waits, goes_on, closes, faulty, no_memory, StepConnect, joins, full, spent, no_room, StepFeed, feeds, not_fed, no_room as no_room_to_feed, StepLost, goes, not_fed as not_lost, FollowsEach, StepRechoke, rechokes, not_rechoked, AdoptsGroup, AdoptsGroups, StepAdopt, no_file, busy, empty, adopts, not_adopted, StepFlush, syncs, fails, Answer, Step, Run, AreRooted, AreChecked}
+use Rattle.bt_engine.proofs.Base.{◌≡◌, ℕ, ◌-◌, arith, inl, inr, List, [], ◌∷◌, sym, ◌<◌, ◌∙◌, Facts, blocks_of, height, IsRooted, IsChecked, keeps_rooted, held_is_checked, value_covers, CoversBlock, real_width, real_limit, IsRight, PeerMessage as Sent, Have, Bitfield, Request, Piece, Hashes, HashReject, WireEvent, Message}
+use Rattle.bt_engine.proofs.Machine.{Digest, Event, Connect, Feed, Next, Lost, Rechoke, Adopt, Flush, PeerState, EngineState, DeviceCalls, with_tree, Sent as SentFrame, Effect, FindsFault, damaged, fault, HandlesRequest, ignored, no_place, not_marked, served, stopped, HandlesPiece, stale, arrives, HandlesHashes, unknown_root, no_claim, refused, learns, HandlesHave, in_range, out_of_range, HandlesBitfield, right, wrong, HandlesMessage, Handles, StepNext, no_peer, waits, goes_on, closes, faulty, no_memory, StepConnect, joins, full, spent, no_room, StepFeed, feeds, not_fed, no_room as no_room_to_feed, StepLost, goes, not_fed as not_lost, FollowsEach, StepRechoke, rechokes, not_rechoked, AdoptsGroup, AdoptsGroups, StepAdopt, no_file, busy, empty, adopts, not_adopted, StepFlush, syncs, fails, Answer, Step, Run, AreRooted, AreChecked}
 use Rattle.bt_engine.proofs.Lists.{set_cases}
 use Rattle.bt_engine.proofs.Adopting.{group_extends}
 
-module _ (dig : List ℕ → List ℕ) where
+module _ (dig : Digest) where
   -- the engine is one with the same trees
   as_before : {m new : _} → new ≡ m → AreRooted dig m → AreRooted dig new
   as_before e r = rw e r
 
   grown_rooted : (s : EngineState) (t : ℕ) {k : _} → AreRooted dig s → IsRooted dig k → AreRooted dig (with_tree s t k)
-  grown_rooted s t r rooted u j e = elim (set_cases s.trees t u e) [ inl new ↦ rw new.1 rooted | inr old ↦ r u j old ]
+  grown_rooted s t r rooted u j e = elim (set_cases _ t u e) [ inl new ↦ rw new.1 rooted | inr old ↦ r u j old ]
 
   have_rooted : {s mid i p piece effect : _} → HandlesHave s i p piece effect mid → AreRooted dig s → AreRooted dig mid
   have_rooted (in_range a b e) r = as_before e r
@@ -40,34 +40,27 @@ module _ (dig : List ℕ → List ℕ) where
   hashes_rooted (no_claim f a b c) r = as_before c.after r
   hashes_rooted (refused f t k c a b d g) r = as_before g.after r
   hashes_rooted {s} (learns l) r =
-      let grown : AreRooted dig (with_tree s l.tree l.new) = grown_rooted s l.tree r (keeps_rooted dig l.old l.new l.claim l.accepts (r l.tree l.old l.here.here)) in
+      let grown : AreRooted dig (with_tree s l.tree l.new) = grown_rooted s _ r (keeps_rooted dig l.old l.new l.claim l.accepts (r l.tree l.old l.here.here)) in
       as_before l.after (as_before l.settles.others grown)
 
   message_rooted : (s mid : EngineState) (i : ℕ) (p : PeerState) (m : Sent) (calls : DeviceCalls) (effect : Effect) → HandlesMessage dig s i p m calls effect mid → AreRooted dig s → AreRooted dig mid
-  message_rooted s mid i p KeepAlive calls effect h r = as_before h.2 r
-  message_rooted s mid i p Choke calls effect h r = as_before h.2 r
-  message_rooted s mid i p Unchoke calls effect h r = as_before h.2 r
-  message_rooted s mid i p Interested calls effect h r = as_before h.2 r
-  message_rooted s mid i p NotInterested calls effect h r = as_before h.2 r
   message_rooted s mid i p (Have piece) calls effect h r = have_rooted h.1 r
   message_rooted s mid i p (Bitfield bytes) calls effect h r = bits_rooted h.1 r
   message_rooted s mid i p (Request ask) calls effect h r = request_rooted h r
   message_rooted s mid i p (Piece piece begin bytes) calls effect h r = piece_rooted h r
-  message_rooted s mid i p (Cancel ask) calls effect h r = as_before h.2 r
-  message_rooted s mid i p (HashRequest key) calls effect h r = as_before h.2 r
   message_rooted s mid i p (Hashes key digests) calls effect h r = hashes_rooted h r
   message_rooted s mid i p (HashReject key) calls effect h r = as_before h.2.after r
+  message_rooted s mid i p _ calls effect h r = as_before h.2 r
 
   event_rooted : (s mid : EngineState) (i : ℕ) (p : PeerState) (e : WireEvent) (calls : DeviceCalls) (effect : Effect) → Handles dig s i p e calls effect mid → AreRooted dig s → AreRooted dig mid
-  event_rooted s mid i p (Hello h) calls effect t r = as_before t.2 r
   event_rooted s mid i p (Message m) calls effect t r = message_rooted s mid i p m calls effect t r
-  event_rooted s mid i p (Skipped kind) calls effect t r = as_before t.2 r
+  event_rooted s mid i p _ calls effect t r = as_before t.2 r
 
   next_rooted : {s new key calls answer : _} → StepNext dig s key calls answer new → AreRooted dig s → AreRooted dig new
   next_rooted (no_peer a b c e) r = as_before e r
   next_rooted (waits i p a b c d e) r = as_before e r
-  next_rooted {calls} (goes_on i p out a g b) r = as_before g.follows.after (event_rooted _ g.mid i _ g.takes.event calls g.effect g.takes.handles r)
-  next_rooted {calls} (closes i p out a g b) r = as_before g.after (event_rooted _ g.mid i _ g.takes.event calls g.effect g.takes.handles r)
+  next_rooted {calls} (goes_on i p out a g b) r = as_before g.follows.after (event_rooted _ g.mid i _ _ calls _ g.takes.handles r)
+  next_rooted {calls} (closes i p out a g b) r = as_before g.after (event_rooted _ g.mid i _ _ calls _ g.takes.handles r)
   next_rooted (faulty i p out a g b) r = as_before g.after r
   next_rooted (no_memory i p a g b) r = as_before g.after r
 
@@ -91,12 +84,12 @@ module _ (dig : List ℕ → List ℕ) where
   each_rooted (i ∷ peers) s new sent f r = each_rooted peers f.0 new f.2 f.4 (as_before f.3.after r)
 
   rechoke_rooted : {s new answer : _} → StepRechoke dig s answer new → AreRooted dig s → AreRooted dig new
-  rechoke_rooted {new} (rechokes out a b) r = each_rooted _ _ new a.sent a.follows r
+  rechoke_rooted {new} (rechokes out a b) r = each_rooted _ _ new _ a.follows r
   rechoke_rooted (not_rechoked a e) r = as_before e r
 
   group_rooted : {s new file from calls adopted : _} → AdoptsGroup dig s file from calls adopted new → AreRooted dig s → AreRooted dig new
   group_rooted {s} g r =
-      as_before g.after (grown_rooted s g.state.tree r ((group_extends dig g).rooted (r g.state.tree g.tree g.is_file.hung)))
+      as_before g.after (grown_rooted s _ r ((group_extends dig g).rooted (r g.state.tree g.tree g.is_file.hung)))
 
   groups_rooted : (s new : EngineState) (file from : ℕ) (groups : List DeviceCalls) (total : _) → AdoptsGroups dig s file from groups total new → AreRooted dig s → AreRooted dig new
   groups_rooted s new file from [] total g r = as_before g.1 r
@@ -106,8 +99,8 @@ module _ (dig : List ℕ → List ℕ) where
   adopt_rooted (no_file a b c e) r = as_before e r
   adopt_rooted (busy a b c d e) r = as_before e r
   adopt_rooted (empty f a b c d g e) r = as_before e r
-  adopt_rooted {s} {file} (adopts total a x b) r = as_before x.after (as_before x.settles.others (groups_rooted s x.mid file 0 x.groups total x.adopts r))
-  adopt_rooted {s} {new} {file} (not_adopted a x b) r = groups_rooted s new file 0 x.groups x.done x.adopts r
+  adopt_rooted {s} {file} (adopts total a x b) r = as_before x.after (as_before x.settles.others (groups_rooted s x.mid file 0 _ total x.adopts r))
+  adopt_rooted {s} {new} {file} (not_adopted a x b) r = groups_rooted s new file 0 _ _ x.adopts r
 
   flush_rooted : {s new calls answer : _} → StepFlush s calls answer new → AreRooted dig s → AreRooted dig new
   flush_rooted (syncs a b c e) r = as_before e r
@@ -125,12 +118,9 @@ module _ (dig : List ℕ → List ℕ) where
   pub run_rooted : (s new : EngineState) (es : List Event) (calls : List DeviceCalls) (answers : List Answer) → Run dig s es calls answers new → AreRooted dig s → AreRooted dig new
   run_rooted s new [] [] [] run r = as_before run r
   run_rooted s new (e ∷ es) (c ∷ calls) (a ∷ answers) run r = run_rooted run.0 new es calls answers run.2 (step_rooted s run.0 e c a run.1 r)
-  run_rooted s new [] (c ∷ calls) answers run r = absurd run
-  run_rooted s new [] [] (a ∷ answers) run r = absurd run
-  run_rooted s new (e ∷ es) [] answers run r = absurd run
-  run_rooted s new (e ∷ es) (c ∷ calls) [] run r = absurd run
+  run_rooted s new _ _ _ run r = absurd run
 
-pub rooted_checked : (dig : List ℕ → List ℕ) (s : EngineState) → AreRooted dig s → AreChecked dig s
+pub rooted_checked : (dig : Digest) (s : EngineState) → AreRooted dig s → AreChecked dig s
 rooted_checked dig s rooted t k at layer i d held =
     let hung = rooted t k at in
     held_is_checked dig k hung (height k - layer) layer i d (omega (arith, (hung.covers layer i d held).inside.in_height)) held

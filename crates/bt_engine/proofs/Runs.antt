@@ -1,6 +1,6 @@
 -- Runs that are joined and split, and what is forced on a run by one that is known.
 use Rattle.bt_engine.proofs.Base.{◌≡◌, ◌≢◌, ℕ, zero, suc, ◌<◌, false, List, [], ◌∷◌, ◌++◌, length, refl, sym, ap, ◌∙◌, subst, arith, slice_get, Some, Contains, All, ⊤, AllPairs, Contains-append_left, Contains-append_right, File, Metainfo, Facts, root_facts, new_states}
-use Rattle.bt_engine.proofs.Machine.{Event, FileState, EngineState, DeviceCalls, IsTreeFrom, by_layer, by_root, Starts, Answer, Step, Run, IsOutOfMemory, HaveMemory}
+use Rattle.bt_engine.proofs.Machine.{Digest, Event, FileState, EngineState, DeviceCalls, IsTreeFrom, by_layer, by_root, Starts, Answer, Step, Run, IsOutOfMemory, HaveMemory}
 use Rattle.bt_engine.proofs.Pairs.{contains_at}
 use Rattle.bt_engine.proofs.ExamplePeer.{one_there}
 use Rattle.bt_engine.proofs.Determined.{EachPair}
@@ -53,7 +53,7 @@ root_alone : {file : File} {dig torrent k : _} → file.layer ≡ [] → IsTreeF
 root_alone none (by_layer layer some x y) = absurd (some none)
 root_alone none (by_root x e) = e
 
-module _ (dig : List ℕ → List ℕ) where
+module _ (dig : Digest) where
   pub start_is : {torrent : Metainfo} {file first : _} → torrent.files ≡ file ∷ [] → file.layer ≡ [] → 0 < file.length
       → Starts dig torrent first
       → first ≡ record {

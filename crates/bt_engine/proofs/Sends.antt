@@ -1,6 +1,6 @@
 -- What is sent of blocks.
-use Rattle.bt_engine.proofs.Base.{◌≡◌, ℕ, inl, inr, Bool, true, false, List, [], ◌∷◌, ◌++◌, map, Some, Result, Ok, Err, refl, sym, ap, ◌∙◌, subst, slice_get, Contains, option_and_then, Contains-append_cases, IsPlace, Span, Facts, HashKey, BlockRead, given, call_of, IsRight, StoreError, Range, DeviceFault, Put, Already, Wrong, PutMarked, PutWaiting, PeerKey, BlockId, Handshake, Ask, PeerMessage, KeepAlive, Choke, Unchoke, Interested, NotInterested, Have, Bitfield, Request, Piece, Cancel, HashRequest, Hashes, HashReject, WireEvent, Hello, Message, Skipped}
-use Rattle.bt_engine.proofs.Machine.{Frame, hello_frame, message_frame, Event, Connect, Feed, Next, Lost, Rechoke, Adopt, Flush, PeerState, FileState, EngineState, DeviceCalls, tree_of, with_peer, spanned_blocks, cut_from, Sent, Effect, sent_to, haves, Serves, FindsFault, damaged, fault, HandlesRequest, ignored, no_place, not_marked, served, stopped, HasPutEffect, HandlesPiece, stale, arrives, HandlesHashRequest, answered, rejected, HandlesHashes, unknown_root, no_claim, refused, learns, HandlesHello, ours, other, HandlesHave, in_range, out_of_range, HandlesBitfield, right, wrong, HandlesMessage, Handles, FollowsUp, interest_sent, RequestsHashes, requests, rests, RequestsEach, IsPeer, TakesEvent, StepNext, no_peer, waits, goes_on, closes, faulty, no_memory, new_peer, StepConnect, joins, full, spent, no_room, FollowsEach, StepRechoke, rechokes, not_rechoked, choking_sent, is_served, Answer, of_connect, of_next, of_rechoke, Step, Run, sent_by, IsServed, IsSoAt}
+use Rattle.bt_engine.proofs.Base.{◌≡◌, ℕ, inl, inr, Bool, true, false, List, [], ◌∷◌, ◌++◌, map, Some, Result, Ok, Err, refl, sym, ap, ◌∙◌, subst, Contains, Contains-append_cases, IsPlace, Span, Facts, given, call_of, IsRight, StoreError, DeviceFault, Put, Wrong, PutMarked, PutWaiting, PeerKey, BlockId, Ask, PeerMessage, Have, Bitfield, Request, Piece, HashRequest, Hashes, WireEvent, Hello, Message, Skipped}
+use Rattle.bt_engine.proofs.Machine.{Digest, Frame, hello_frame, message_frame, Event, Connect, Next, Rechoke, PeerState, EngineState, DeviceCalls, tree_of, spanned_blocks, cut_from, Sent, Effect, sent_to, haves, Serves, FindsFault, damaged, fault, HandlesRequest, ignored, no_place, not_marked, served, stopped, HasPutEffect, HandlesPiece, stale, arrives, HandlesHashRequest, answered, rejected, HandlesHashes, unknown_root, no_claim, refused, learns, HandlesHello, ours, other, HandlesHave, in_range, out_of_range, HandlesBitfield, right, wrong, HandlesMessage, Handles, FollowsUp, interest_sent, RequestsHashes, requests, rests, RequestsEach, IsPeer, TakesEvent, StepNext, no_peer, waits, goes_on, closes, faulty, no_memory, new_peer, StepConnect, joins, full, spent, no_room, FollowsEach, StepRechoke, rechokes, not_rechoked, choking_sent, is_served, Answer, of_connect, of_next, of_rechoke, Step, Run, sent_by, IsServed, IsSoAt}
 use Rattle.bt_engine.proofs.Marking.{after_step, at_first}
 use Rattle.bt_engine.proofs.Lists.{contains_none, contains_cases, contains_map, contains_flat_map, map_contains}
 
@@ -31,20 +31,18 @@ plain_is e f = rw e f
 plain_haves : (old new : EngineState) → Plain (haves old new)
 plain_haves old new x c =
     let p = contains_flat_map (λ piece. map (λ p. sent_to p (Have piece)) new.peers) _ c in
-    let q = contains_map (λ q. sent_to q (Have p.0)) new.peers p.2 in
+    let q = contains_map (λ q. sent_to q (Have p.0)) _ p.2 in
     ap (λ (s : Sent). data_frame s.frame) (sym q.2)
 
 plain_interest : (p : PeerState) (was now : Bool) → Plain (interest_sent p was now)
 plain_interest p true true = plain_none
-plain_interest p true false = plain_one _ [] refl plain_none
-plain_interest p false true = plain_one _ [] refl plain_none
 plain_interest p false false = plain_none
+plain_interest p _ _ = plain_one _ [] refl plain_none
 
 plain_choking : (p : PeerState) (choked served : Bool) → Plain (choking_sent p choked served)
-plain_choking p true true = plain_one _ [] refl plain_none
 plain_choking p true false = plain_none
 plain_choking p false true = plain_none
-plain_choking p false false = plain_one _ [] refl plain_none
+plain_choking p _ _ = plain_one _ [] refl plain_none
 
 plain_each_block : (s : EngineState) (p : PeerState) (blocks : List BlockId) (sent : List Sent) → RequestsEach s p blocks sent → Plain sent
 plain_each_block s p [] sent r = plain_is r plain_none
@@ -61,7 +59,7 @@ plain_follows {s} f =
     let third : Plain f.block_frames = plain_each_block s f.planned f.blocks f.block_frames f.requests in
     plain_is f.all (plain_append (f.interest_frames ++ f.hash_frames) f.block_frames (plain_append f.interest_frames f.hash_frames first second) third)
 
-plain_each : (dig : List ℕ → List ℕ) (peers : List ℕ) (s : EngineState) (sent : List Sent) (new : EngineState) → FollowsEach dig peers s sent new → Plain sent
+plain_each : (dig : Digest) (peers : List ℕ) (s : EngineState) (sent : List Sent) (new : EngineState) → FollowsEach dig peers s sent new → Plain sent
 plain_each dig [] s sent new f = plain_is f.0 plain_none
 plain_each dig (i ∷ peers) s sent new f = plain_is f.5 (plain_append f.1 f.2 (plain_follows f.3) (plain_each dig peers f.0 f.2 new f.4))
 
@@ -91,7 +89,7 @@ said_in (hello_frame h) = (0, (0, []))
 said_in (message_frame m) = said_in_message m
 
 -- the data that a wire event sends
-record IsCut (dig : List ℕ → List ℕ) (s : EngineState) (p : PeerState) (e : WireEvent) (calls : DeviceCalls) (key : PeerKey) (piece begin : ℕ) (bytes : List ℕ) : Type 0 where
+record IsCut (dig : Digest) (s : EngineState) (p : PeerState) (e : WireEvent) (calls : DeviceCalls) (key : PeerKey) (piece begin : ℕ) (bytes : List ℕ) : Type 0 where
   ask : Ask
   span : Span
   tree : Facts
@@ -107,9 +105,9 @@ record IsCut (dig : List ℕ → List ℕ) (s : EngineState) (p : PeerState) (e 
   exact : (i : ℕ) → Contains (spanned_blocks span) i → IsRight dig tree i (blocks i)
   cut : bytes ≡ cut_from span blocks
 
-module _ (dig : List ℕ → List ℕ) where
+module _ (dig : Digest) where
   effect_is : (P : PeerKey → ℕ → ℕ → List ℕ → Type 0) {effect like : Effect} → effect ≡ like → Plain like.send → Sends P effect.send
-  effect_is P {effect} e f = sends_plain P effect.send (plain_is (ap (λ x. x.send) e) f)
+  effect_is P {effect} e f = sends_plain P _ (plain_is (ap (λ x. x.send) e) f)
 
   serves_sends : {s mid : EngineState} {i : ℕ} {p : PeerState} {ask : Ask} {span : Span} {calls : DeviceCalls} {effect : Effect} → p.am_choking ≡ false → IsPlace s.torrent ask.piece ask.begin ask.length span
       → Serves dig s i p ask span calls effect mid → Sends (IsCut dig s p (Message (Request ask)) calls) effect.send
@@ -130,8 +128,8 @@ module _ (dig : List ℕ → List ℕ) where
               unchoked = open_to;
               spans = place;
               hung = cc;
-              read = λ j among. rw f.made (map_contains (λ r. (span.file, call_of f.tree.file_length r)) f.reads
-                  (subst (λ rs. Contains rs (given j (f.bytes j))) (sym f.right.made) (map_contains (λ i. given i (f.bytes i)) (spanned_blocks span) among)));
+              read = λ j among. rw f.made (map_contains (λ r. (span.file, call_of f.tree.file_length r)) _
+                  (subst (λ rs. Contains rs (given j (f.bytes j))) (sym f.right.made) (map_contains (λ i. given i (f.bytes i)) _ among)));
               exact = f.right.right;
               cut = cc;
             }
@@ -154,13 +152,12 @@ module _ (dig : List ℕ → List ℕ) where
   put_sends P b (Ok PutMarked) effect e = effect_is P e plain_none
   put_sends P b (Ok PutWaiting) effect e = effect_is P e plain_none
   put_sends P b (Ok Wrong) effect e = effect_is P e plain_none
-  put_sends P b (Ok Already) effect e = absurd e
   put_sends P b (Err DeviceFault) effect e = effect_is P e plain_none
-  put_sends P b (Err Range) effect e = absurd e
+  put_sends _ b _ effect e = absurd e
 
   piece_sends : (P : PeerKey → ℕ → ℕ → List ℕ → Type 0) {s mid i p piece begin bytes calls effect : _} → HandlesPiece dig s i p piece begin bytes calls effect mid → Sends P effect.send
   piece_sends P (stale x y e z) = effect_is P e plain_none
-  piece_sends P {effect} (arrives a) = put_sends P a.block a.puts.result effect a.puts.has_effect
+  piece_sends P {effect} (arrives a) = put_sends P _ _ _ a.puts.has_effect
 
   hashes_sends : (P : PeerKey → ℕ → ℕ → List ℕ → Type 0) {s mid i p key digests calls effect : _} → HandlesHashes dig s i p key digests calls effect mid → Sends P effect.send
   hashes_sends P (unknown_root x y e z) = effect_is P e plain_none
@@ -185,28 +182,22 @@ module _ (dig : List ℕ → List ℕ) where
   hello_sends P (other x e) = effect_is P e plain_none
 
   message_sends : (s mid : EngineState) (i : ℕ) (p : PeerState) (m : PeerMessage) (calls : DeviceCalls) (effect : Effect) → HandlesMessage dig s i p m calls effect mid → Sends (IsCut dig s p (Message m) calls) effect.send
-  message_sends s mid i p KeepAlive calls effect h = effect_is _ h.1 plain_none
-  message_sends s mid i p Choke calls effect h = effect_is _ h.1 plain_none
-  message_sends s mid i p Unchoke calls effect h = effect_is _ h.1 plain_none
-  message_sends s mid i p Interested calls effect h = effect_is _ h.1 plain_none
-  message_sends s mid i p NotInterested calls effect h = effect_is _ h.1 plain_none
   message_sends s mid i p (Have piece) calls effect h = have_sends _ h.1
   message_sends s mid i p (Bitfield bytes) calls effect h = bits_sends _ h.1
   message_sends s mid i p (Request ask) calls effect h = request_sends h
   message_sends s mid i p (Piece piece begin bytes) calls effect h = piece_sends _ h
-  message_sends s mid i p (Cancel ask) calls effect h = effect_is _ h.1 plain_none
   message_sends s mid i p (HashRequest key) calls effect h = answer_sends _ h.1
   message_sends s mid i p (Hashes key digests) calls effect h = hashes_sends _ h
-  message_sends s mid i p (HashReject key) calls effect h = effect_is _ h.1 plain_none
+  message_sends s mid i p _ calls effect h = effect_is _ h.1 plain_none
 
   event_sends : (s mid : EngineState) (i : ℕ) (p : PeerState) (e : WireEvent) (calls : DeviceCalls) (effect : Effect) → Handles dig s i p e calls effect mid → Sends (IsCut dig s p e calls) effect.send
   event_sends s mid i p (Hello h) calls effect t = hello_sends _ t.1
-  event_sends s mid i p (Message m) calls effect t = message_sends s mid i p m calls effect t
+  event_sends s mid i p (Message m) calls effect t = message_sends s mid i p m calls _ t
   event_sends s mid i p (Skipped kind) calls effect t = effect_is _ t.1 plain_none
 
   taken_sends : {s mid key i p calls effect : _} → IsPeer s key i p → TakesEvent dig s i p calls effect mid → Sends (IsServed dig s (Next key) calls) effect.send
   taken_sends {s} {mid} {key} {i} {p} {calls} {effect} peer t asker piece begin bytes c =
-      let f = event_sends (with_peer s i (record p { stream = t.rest })) mid i (record p { stream = t.rest }) t.event calls effect t.handles asker piece begin bytes c in
+      let f = event_sends _ mid i _ _ calls _ t.handles asker piece begin bytes c in
       let same : key ≡ asker = cc in
       record {
         place = i;
@@ -230,7 +221,7 @@ module _ (dig : List ℕ → List ℕ) where
       }
 
   nothing : (P : PeerKey → ℕ → ℕ → List ℕ → Type 0) {a b : _} → a ≡ b → Plain (sent_by b) → Sends P (sent_by a)
-  nothing P {a} e f = sends_plain P (sent_by a) (plain_is (ap sent_by e) f)
+  nothing P {a} e f = sends_plain P _ (plain_is (ap sent_by e) f)
 
   next_sends : {s new key calls r : _} → StepNext dig s key calls r new → Sends (IsServed dig s (Next key) calls) (sent_by (of_next r))
   next_sends (no_peer x y e z) = nothing _ (ap (λ x. of_next x) e) plain_none
@@ -238,8 +229,8 @@ module _ (dig : List ℕ → List ℕ) where
   next_sends {s} (goes_on i p out x g e) =
       sends_is _ (ap (λ x. sent_by (of_next x)) e)
       (sends_is _ g.send
-      (sends_append _ (g.effect.send ++ haves s g.mid) g.sent
-      (sends_append _ g.effect.send (haves s g.mid) (taken_sends x g.takes) (sends_plain _ _ (plain_haves s g.mid)))
+      (sends_append _ _ _
+      (sends_append _ _ _ (taken_sends x g.takes) (sends_plain _ _ (plain_haves s g.mid)))
       (sends_plain _ _ (plain_follows g.follows))))
   next_sends (closes i p out x g e) = nothing _ (ap (λ x. of_next x) (e ∙ ap (λ o. Ok (Some o)) g.is)) plain_none
   next_sends (faulty i p out x g e) = nothing _ (ap (λ x. of_next x) (e ∙ ap (λ o. Ok (Some o)) g.is)) plain_none
@@ -259,12 +250,9 @@ module _ (dig : List ℕ → List ℕ) where
 
   pub step_sends : (s new : EngineState) (e : Event) (calls : DeviceCalls) (a : Answer) → Step dig s e calls a new → Sends (IsServed dig s e calls) (sent_by a)
   step_sends s new Connect calls a t = sends_is _ (ap sent_by t.1) (connect_sends _ t.3)
-  step_sends s new (Feed key bytes) calls a t = nothing _ t.1 plain_none
   step_sends s new (Next key) calls a t = sends_is _ (ap sent_by t.1) (next_sends t.2)
-  step_sends s new (Lost key) calls a t = nothing _ t.1 plain_none
   step_sends s new Rechoke calls a t = sends_is _ (ap sent_by t.1) (rechoke_sends _ t.3)
-  step_sends s new (Adopt file) calls a t = nothing _ t.1 plain_none
-  step_sends s new Flush calls a t = nothing _ t.1 plain_none
+  step_sends s new _ calls a t = nothing _ t.1 plain_none
 
   pub run_sends : (s new : EngineState) (es : List Event) (calls : List DeviceCalls) (before : List Answer) (answer : Answer) (after : List Answer)
       → Run dig s es calls (before ++ answer ∷ after) new
@@ -272,10 +260,10 @@ module _ (dig : List ℕ → List ℕ) where
       → IsSoAt dig s es calls before answer after new (λ old event calls_then new. IsServed dig old event calls_then key piece begin bytes)
   run_sends s new (e ∷ es) (c ∷ calls) [] answer after run key piece begin bytes sent =
       at_first run.0 run.1 run.2
-      (step_sends s run.0 e c answer run.1 key piece begin bytes sent)
+      (step_sends s run.0 e c _ run.1 key piece begin bytes sent)
   run_sends s new (e ∷ es) (c ∷ calls) (a ∷ before) answer after run key piece begin bytes sent =
       after_step run.1
-      (run_sends run.0 new es calls before answer after run.2 key piece begin bytes sent)
+      (run_sends run.0 new es calls _ _ after run.2 key piece begin bytes sent)
   run_sends s new [] [] [] answer after run key piece begin bytes sent = absurd run
   run_sends s new [] [] (a ∷ before) answer after run key piece begin bytes sent = absurd run
   run_sends s new [] (c ∷ calls) before answer after run key piece begin bytes sent = absurd run

@@ -1,8 +1,8 @@
 -- What stays over all events.
-use Rattle.bt_engine.proofs.Base.{◌≡◌, ◌≢◌, ℕ, zero, suc, ◌+◌, ◌<◌, inl, inr, Bool, true, false, List, [], ◌∷◌, ◌++◌, length, map, get_or, Some, refl, sym, ap, ◌∙◌, arith, slice_get, slice_set, option_map, if◌then◌else◌, Result, Ok, Err, AllPairs, length-set, length-map, length-replicate, append-nil, get_or-map, block_count, File, Metainfo, Facts, HashKey, BlockRead, given, failed, judged, Adopts, none, known, accepted, not_accepted, short, unread, states_after_put, BlockState, Missing, Waiting, Marked, StoreError, Put, Already, Wrong, PutMarked, PutWaiting, Ask, PeerMessage as Sent, KeepAlive, Choke, Unchoke, Interested, NotInterested, Have, Bitfield, Request, Piece, Cancel, HashRequest, Hashes, HashReject, WireEvent, Hello, Message, Skipped}
-use Rattle.bt_engine.proofs.Machine.{Event, Connect, Feed, Next, Lost, Rechoke, Adopt, Flush, PeerState, FileState, EngineState, mark_of, DeviceCalls, with_file, with_tree, with_peer, new_marked_blocks, Sent as SentFrame, Effect, FindsFault, damaged, fault, HandlesRequest, ignored, no_place, not_marked, served, stopped, HandlesPiece, stale, arrives, judged_file, SettlesIn, HandlesHashes, unknown_root, no_claim, refused, learns, HandlesHave, in_range, out_of_range, HandlesBitfield, right, wrong, HandlesMessage, Handles, FollowsUp, without_peer, with_pending, TakesEvent, StepNext, no_peer, waits, goes_on, closes, faulty, no_memory, StepConnect, joins, full, spent, no_room, StepFeed, feeds, not_fed, no_room as no_room_to_feed, StepLost, goes, not_fed as not_lost, rechoked, FollowsEach, StepRechoke, rechokes, not_rechoked, AdoptsGroup, AdoptsGroups, is_other, StepAdopt, no_file, busy, empty, adopts, not_adopted, StepFlush, syncs, fails, Starts, Answer, Step, Run, IsShaped, HasShapeOf, RunsKeepShape}
+use Rattle.bt_engine.proofs.Base.{◌≡◌, ◌≢◌, ℕ, zero, suc, ◌+◌, ◌<◌, inl, inr, Bool, true, false, List, [], ◌∷◌, ◌++◌, length, map, get_or, Some, refl, sym, ap, ◌∙◌, arith, slice_get, slice_set, option_map, if◌then◌else◌, Result, Ok, AllPairs, length-set, length-map, length-replicate, append-nil, get_or-map, block_count, Facts, BlockRead, given, failed, judged, Adopts, none, known, accepted, states_after_put, BlockState, Missing, Waiting, Marked, StoreError, Put, PutMarked, PutWaiting, PeerMessage as Sent, KeepAlive, Have, Bitfield, Request, Piece, Cancel, HashRequest, Hashes, HashReject, WireEvent, Message}
+use Rattle.bt_engine.proofs.Machine.{Digest, Event, Connect, Feed, Next, Lost, Rechoke, Adopt, Flush, PeerState, FileState, EngineState, mark_of, DeviceCalls, with_file, with_tree, with_peer, new_marked_blocks, Sent as SentFrame, Effect, FindsFault, damaged, fault, HandlesRequest, ignored, no_place, not_marked, served, stopped, HandlesPiece, stale, arrives, judged_file, SettlesIn, HandlesHashes, unknown_root, no_claim, refused, learns, HandlesHave, in_range, out_of_range, HandlesBitfield, right, wrong, HandlesMessage, Handles, FollowsUp, without_peer, with_pending, TakesEvent, StepNext, no_peer, waits, goes_on, closes, faulty, no_memory, StepConnect, joins, full, spent, no_room, StepFeed, feeds, not_fed, no_room as no_room_to_feed, StepLost, goes, not_fed as not_lost, FollowsEach, StepRechoke, rechokes, not_rechoked, AdoptsGroup, AdoptsGroups, StepAdopt, no_file, busy, empty, adopts, not_adopted, StepFlush, syncs, fails, Starts, Answer, Step, Run, IsShaped, HasShapeOf, RunsKeepShape}
 use Rattle.bt_store.specs.Adoption.{marked_run}
-use Rattle.bt_engine.proofs.Lists.{same_some, set_get, set_cases, map_some}
+use Rattle.bt_engine.proofs.Lists.{set_get, set_cases, map_some}
 use Rattle.bt_engine.proofs.Adopting.{group_extends}
 
 -- a file of the new engine has the tree and the count of blocks that it had
@@ -69,7 +69,7 @@ file_keeps : {s : EngineState} (file : ℕ) {f : _} (new : FileState) → slice_
 file_keeps {s} file {f} new at tree blocks = record {
   torrent = refl;
   count = length-set s.files file new;
-  files = λ i g there. elim (set_cases s.files file i there) [
+  files = λ i g there. elim (set_cases _ file i there) [
     | inl now ↦ record { before = f; here = cc; tree = cc; blocks = cc }
     | inr old ↦ record { before = g; here = old; tree = refl; blocks = refl }
   ];
@@ -90,8 +90,8 @@ tree_keeps {s} t {old} new at root size = record {
   torrent = refl;
   count = refl;
   files = λ i f there. record { before = f; here = there; tree = refl; blocks = refl };
-  roots = map_set (λ k. k.root) s.trees t new at root;
-  trees = λ u k there. elim (set_get s.trees t u {y = new} there) [
+  roots = map_set (λ k. k.root) _ t new at root;
+  trees = λ u k there. elim (set_get _ t u {y = new} there) [
     | inl now ↦ (
         let is : old ≡ k = cc in
         record { after = new; here = now.1; root = cc; length = cc }
@@ -103,31 +103,28 @@ tree_keeps {s} t {old} new at root size = record {
   pending = λ none. refl;
 }
 
-length-judged : (dig : List ℕ → List ℕ) (k : Facts) (forgiving : Bool) (reads : List BlockRead) (states : List BlockState) → length (judged dig k forgiving reads states) ≡ length states
+length-judged : (dig : Digest) (k : Facts) (forgiving : Bool) (reads : List BlockRead) (states : List BlockState) → length (judged dig k forgiving reads states) ≡ length states
 length-judged dig k forgiving [] states = refl
-length-judged dig k forgiving (given i bytes ∷ reads) states = length-judged dig k forgiving reads _ ∙ length-set states i _
-length-judged dig k true (failed i ∷ reads) states = length-judged dig k true reads states
+length-judged dig k forgiving (given i bytes ∷ reads) states = length-judged dig k _ reads _ ∙ length-set states i _
+length-judged dig k true (failed i ∷ reads) states = length-judged dig k true reads _
 length-judged dig k false (failed i ∷ reads) states = length-judged dig k false reads _ ∙ length-set states i Missing
 
 length-marked : (first count : ℕ) (states : List BlockState) → length (marked_run first count states) ≡ length states
 unfolding marked_run
 length-marked first zero states = refl
-length-marked first (suc count) states = length-set (marked_run first count states) (first + count) Marked ∙ length-marked first count states
+length-marked first (suc count) states = length-set (marked_run first count states) (first + count) Marked ∙ length-marked first count _
 
 length-put : (i : ℕ) (r : Result Put StoreError) (states : List BlockState) → length (states_after_put i r states) ≡ length states
 length-put i (Ok PutMarked) states = length-set states i Marked
 length-put i (Ok PutWaiting) states = length-set states i Waiting
-length-put i (Ok Already) states = refl
-length-put i (Ok Wrong) states = refl
-length-put i (Err x) states = refl
+length-put i _ states = refl
 
 as_long : {X Y : Type 0} (f : ℕ → X → Y) (xs : List X) (ys : List Y) → ((i : ℕ) → slice_get ys i ≡ option_map (f i) (slice_get xs i)) → length ys ≡ length xs
 as_long f [] [] same = refl
-as_long f [] (y ∷ ys) same = let no = same 0 in absurd cc
-as_long f (x ∷ xs) [] same = let no = same 0 in absurd cc
 as_long f (x ∷ xs) (y ∷ ys) same = ap (λ n. suc n) (as_long (λ i. f (suc i)) xs ys (λ i. same (suc i)))
+as_long f _ _ same = let no = same 0 in absurd cc
 
-module _ (dig : List ℕ → List ℕ) where
+module _ (dig : Digest) where
   settle_keeps : {is_meant tree from count old new calls notes : _} → SettlesIn dig is_meant tree from count old calls notes new → Keeps old new
   settle_keeps {tree} {count} {old} {new} s = record {
     torrent = cc;
@@ -164,7 +161,7 @@ module _ (dig : List ℕ → List ℕ) where
 
   fault_keeps : {s : EngineState} {k mid file i f read effect : _} → slice_get s.files file ≡ Some f → FindsFault dig k s file i f read effect mid → Keeps s mid
   fault_keeps {file} {i} {f} at (damaged bytes x y z e) =
-      keeps_then (file_keeps file (record f { states = slice_set f.states i Missing }) at refl (length-set f.states i Missing)) (is_same e)
+      keeps_then (file_keeps file _ at refl (length-set f.states i Missing)) (is_same e)
   fault_keeps at (fault x y e) = is_same e
 
   request_keeps : {s mid i p ask calls effect : _} → HandlesRequest dig s i p ask calls effect mid → Keeps s mid
@@ -178,7 +175,7 @@ module _ (dig : List ℕ → List ℕ) where
   piece_keeps (stale x y z e) = is_same e
   piece_keeps {i} (arrives a) =
       let new : FileState = record a.puts.file { states = states_after_put a.block.block a.puts.result a.puts.file.states } in
-      let put = file_keeps a.block.file new a.puts.is_file.here refl (length-put a.block.block a.puts.result a.puts.file.states) in
+      let put = file_keeps _ new a.puts.is_file.here refl (length-put _ _ _) in
       keeps_then (keeps_then put (is_same a.puts.after)) (with_peer_keeps i _ a.after)
 
   have_keeps : {s mid i p piece effect : _} → HandlesHave s i p piece effect mid → Keeps s mid
@@ -194,15 +191,11 @@ module _ (dig : List ℕ → List ℕ) where
   hashes_keeps (no_claim f x y c) = is_same c.after
   hashes_keeps (refused f t k c x y z g) = is_same g.after
   hashes_keeps {i} (learns l) =
-      let grown = tree_keeps l.tree l.new l.here.here l.accepts.joins.root l.accepts.joins.file_length in
+      let grown = tree_keeps _ l.new l.here.here l.accepts.joins.root l.accepts.joins.file_length in
       keeps_then (keeps_then grown (settle_keeps l.settles)) (with_peer_keeps i _ l.after)
 
   message_keeps : {s mid : _} (i : ℕ) (p : PeerState) (m : Sent) (calls : DeviceCalls) (effect : Effect) → HandlesMessage dig s i p m calls effect mid → Keeps s mid
   message_keeps i p KeepAlive calls effect h = is_same h.2
-  message_keeps i p Choke calls effect h = with_peer_keeps i _ h.2
-  message_keeps i p Unchoke calls effect h = with_peer_keeps i _ h.2
-  message_keeps i p Interested calls effect h = with_peer_keeps i _ h.2
-  message_keeps i p NotInterested calls effect h = with_peer_keeps i _ h.2
   message_keeps i p (Have piece) calls effect h = have_keeps h.1
   message_keeps i p (Bitfield bytes) calls effect h = bits_keeps h.1
   message_keeps i p (Request ask) calls effect h = request_keeps h
@@ -211,18 +204,18 @@ module _ (dig : List ℕ → List ℕ) where
   message_keeps i p (HashRequest key) calls effect h = is_same h.2
   message_keeps i p (Hashes key digests) calls effect h = hashes_keeps h
   message_keeps i p (HashReject key) calls effect h = with_peer_keeps i _ h.2.after
+  message_keeps i p _ calls effect h = with_peer_keeps i _ h.2
 
   event_keeps : {s mid : _} (i : ℕ) (p : PeerState) (e : WireEvent) (calls : DeviceCalls) (effect : Effect) → Handles dig s i p e calls effect mid → Keeps s mid
-  event_keeps i p (Hello h) calls effect t = is_same t.2
   event_keeps i p (Message m) calls effect t = message_keeps i p m calls effect t
-  event_keeps i p (Skipped kind) calls effect t = is_same t.2
+  event_keeps i p _ calls effect t = is_same t.2
 
   -- ---- events
 
   taken_keeps : {s mid i p calls effect : _} → TakesEvent dig s i p calls effect mid → Keeps s mid
   taken_keeps {s} {i} {p} {calls} {effect} t =
       let taken : EngineState = with_peer s i (record p { stream = t.rest }) in
-      keeps_then (with_peer_keeps i _ refl) (event_keeps i _ t.event calls effect t.handles)
+      keeps_then (with_peer_keeps i _ refl) (event_keeps i _ _ calls _ t.handles)
 
   follow_keeps : {s new i sent : _} → FollowsUp dig s i sent new → Keeps s new
   follow_keeps {i} f = with_peer_keeps i _ f.after
@@ -239,7 +232,7 @@ module _ (dig : List ℕ → List ℕ) where
   next_keeps (waits i p x y z w e) = is_same e
   next_keeps {s} (goes_on i p out peer g x) =
       let pending : EngineState = with_pending s g.mid g.effect.proofs in
-      keeps_then (keeps_then (taken_keeps g.takes) (pending_keeps s g.effect.proofs)) (follow_keeps g.follows)
+      keeps_then (keeps_then (taken_keeps g.takes) (pending_keeps s _)) (follow_keeps g.follows)
   next_keeps (closes i p out peer g x) = keeps_then (taken_keeps g.takes) (gone_keeps i g.after)
   next_keeps (faulty i p out peer g x) = gone_keeps i g.after
   next_keeps (no_memory i p peer g x) = gone_keeps i g.after
@@ -260,16 +253,13 @@ module _ (dig : List ℕ → List ℕ) where
   lost_keeps (not_lost x y e) = is_same e
 
   rechoke_keeps : {s new answer : _} → StepRechoke dig s answer new → Keeps s new
-  rechoke_keeps (rechokes out r x) = keeps_then (peers_change refl refl refl refl refl refl refl) (each_keeps _ r.sent r.follows)
+  rechoke_keeps (rechokes out r x) = keeps_then (peers_change refl refl refl refl refl refl refl) (each_keeps _ _ r.follows)
   rechoke_keeps (not_rechoked x e) = is_same e
 
   length-adopted : {k grown from old new reads adopted : _} → Adopts dig k from old reads adopted grown new → length new ≡ length old
-  length-adopted (none end) = refl
   length-adopted {k} {old} (known count rs group order) = length-judged dig k true rs old
   length-adopted {old} (accepted anchor first count rs g group whole accepts) = length-marked first count old
-  length-adopted (not_accepted anchor first count rs error group whole why other) = refl
-  length-adopted (short anchor first count rs group order faults few) = refl
-  length-adopted (unread anchor first count rs group order some) = refl
+  length-adopted _ = refl
 
   group_keeps : {s new file from calls adopted : _} → AdoptsGroup dig s file from calls adopted new → Keeps s new
   group_keeps {s} {file} g =
@@ -278,8 +268,8 @@ module _ (dig : List ℕ → List ℕ) where
       let grown : EngineState = with_tree placed g.state.tree g.grown in
       let extends = group_extends dig g in
       let one = file_keeps file state g.is_file.here refl (length-adopted g.adopts) in
-      let two = tree_keeps g.state.tree g.grown g.is_file.hung extends.root extends.file_length in
-      keeps_then (keeps_then (keeps_then one two) (pending_keeps s g.proofs)) (is_same g.after)
+      let two = tree_keeps _ _ g.is_file.hung extends.root extends.file_length in
+      keeps_then (keeps_then (keeps_then one two) (pending_keeps s _)) (is_same g.after)
 
   groups_keep : (s : EngineState) {new : _} (file from : ℕ) (groups : List DeviceCalls) (total : _) → AdoptsGroups dig s file from groups total new → Keeps s new
   groups_keep s file from [] total g = is_same g.1
@@ -290,10 +280,10 @@ module _ (dig : List ℕ → List ℕ) where
   adopt_keeps (busy x y z w e) = is_same e
   adopt_keeps (empty f x y z w v e) = is_same e
   adopt_keeps {s} {file} (adopts total x a y) =
-      let own = groups_keep s file 0 a.groups total a.adopts in
+      let own = groups_keep s file 0 _ total a.adopts in
       let others = settle_keeps a.settles in
       keeps_then (keeps_then (keeps_then own others) (pending_keeps a.mid [])) (is_same a.after)
-  adopt_keeps {s} {file} (not_adopted x a y) = groups_keep s file 0 a.groups a.done a.adopts
+  adopt_keeps {s} {file} (not_adopted x a y) = groups_keep s file 0 _ _ a.adopts
 
   flush_keeps : {s new calls answer : _} → StepFlush s calls answer new → Keeps s new
   flush_keeps (syncs x y z e) = is_same e
@@ -311,10 +301,7 @@ module _ (dig : List ℕ → List ℕ) where
   run_keeps : (s : EngineState) {new : _} (es : List Event) (calls : List DeviceCalls) (answers : List Answer) → Run dig s es calls answers new → Keeps s new
   run_keeps s [] [] [] run = is_same run
   run_keeps s (e ∷ es) (c ∷ calls) (a ∷ answers) run = keeps_then (step_keeps e c a run.1) (run_keeps run.0 es calls answers run.2)
-  run_keeps s [] (c ∷ calls) answers run = absurd run
-  run_keeps s [] [] (a ∷ answers) run = absurd run
-  run_keeps s (e ∷ es) [] answers run = absurd run
-  run_keeps s (e ∷ es) (c ∷ calls) [] run = absurd run
+  run_keeps s _ _ _ run = absurd run
 
   -- ---- from the start
 
@@ -341,7 +328,7 @@ module _ (dig : List ℕ → List ℕ) where
   shape_after : {torrent s new : _} → IsShaped torrent s → Keeps s new → IsShaped torrent new
   shape_after {s} {new} shaped k = record {
     same = cc;
-    roots = roots_apart s.trees new.trees k.roots shaped.roots;
+    roots = roots_apart _ _ k.roots shaped.roots;
     count = cc;
     each = λ i file f listed at. (let g = k.files i f at in file_shape new (shaped.each i file g.before listed g.here) g.tree g.blocks k.trees);
   }
@@ -362,7 +349,7 @@ module _ (dig : List ℕ → List ℕ) where
 
   pub shape_kept : RunsKeepShape dig
   shape_kept torrent first last events calls answers starts run =
-      let k = run_keeps first events calls answers run in (
+      let k = run_keeps first _ calls _ run in (
         shape_after (shape_at_first starts) k,
         record {
           none = cc;

@@ -1,7 +1,6 @@
 -- Marked blocks on a device, and a complete file.
-use Rattle.bt_engine.proofs.Base.{◌≡◌, ◌≢◌, ℕ, zero, suc, ◌+◌, ◌-◌, ◌*◌, ◌^◌, ◌<◌, ◌≤◌, ◌⊎◌, inl, inr, min, List, ◌++◌, length, take, drop, replicate, get_or, Some, sym, ap, ◌∙◌, subst, arith, length-append, length-drop, pow-suc, slice_get, slice_index, ◌/◌, cases_lt, get_or-take, get_or-drop, get_or_append_left, get_or-append_right, length-take, length-replicate, same_number_lists, State, written, IsTornWrite, block_count, block_length, block_at, height_of, IsInside, real_width, node_digest, leaf_is, leaf_past, node_parent, Facts, blocks_of, height, value_at, IsRooted, value_covers, value_padding, value_above, IsRight, BlockState, Marked}
-use Rattle.bt_engine.proofs.Machine.{stored_block, AreRight, HasFile}
-use Rattle.bt_engine.proofs.Lists.{same_some}
+use Rattle.bt_engine.proofs.Base.{◌≡◌, ◌≢◌, ℕ, zero, suc, ◌+◌, ◌-◌, ◌*◌, ◌^◌, ◌<◌, ◌≤◌, ◌⊎◌, inl, inr, min, List, ◌++◌, length, take, drop, replicate, get_or, Some, sym, ap, ◌∙◌, arith, length-append, length-drop, pow-suc, slice_get, slice_index, ◌/◌, cases_lt, get_or-take, get_or-drop, get_or_append_left, get_or-append_right, length-take, length-replicate, same_number_lists, written, IsTornWrite, block_count, block_length, block_at, IsInside, real_width, node_digest, leaf_is, leaf_past, node_parent, Facts, blocks_of, height, value_at, IsRooted, value_covers, value_padding, value_above, IsRight, BlockState, Marked}
+use Rattle.bt_engine.proofs.Machine.{Digest, stored_block, AreRight, HasFile}
 
 length-front : (xs : List ℕ) {at : ℕ} → length (take at xs ++ replicate (at - length xs) 0) ≡ at
 length-front xs {at} = omega (arith, length-append (take at xs) (replicate (at - length xs) 0), length-take at xs, length-replicate {A = ℕ} (at - length xs) 0)
@@ -61,7 +60,7 @@ other_bytes n xs more i j apart size whole =
 
 pub torn_bytes : (n : ℕ) {s t : _} (i j : ℕ) {m : ℕ} → i ≢ j → m ≡ block_length n j → IsTornWrite (16384 * j) m s t → length (stored_block n s.bytes i) ≡ block_length n i → stored_block n t.bytes i ≡ stored_block n s.bytes i
 torn_bytes n {s} {t} i j {m} apart size torn whole =
-    same_at n s.bytes t.bytes i whole torn.no_shorter
+    same_at n _ _ i whole torn.no_shorter
     (λ x from to within. elim (away n i j x m apart (omega arith) from to) [
       | inl before ↦
           let low : x < min (16384 * j) (length s.bytes) = omega arith in
@@ -77,7 +76,7 @@ torn_bytes n {s} {t} i j {m} apart size torn whole =
 real_leaves : {n : ℕ} → real_width n 0 ≡ n
 real_leaves = omega arith
 
-whole_file : (dig : List ℕ → List ℕ) (k : Facts) (bytes : List ℕ) → 0 < k.file_length → ((i : ℕ) → i < blocks_of k → IsRight dig k i (stored_block k.file_length bytes i)) → length (take k.file_length bytes) ≡ k.file_length
+whole_file : (dig : Digest) (k : Facts) (bytes : List ℕ) → 0 < k.file_length → ((i : ℕ) → i < blocks_of k → IsRight dig k i (stored_block k.file_length bytes i)) → length (take k.file_length bytes) ≡ k.file_length
 whole_file dig k bytes some right =
     let n = k.file_length in
     let last = right ((n + 16383) / 16384 - 1) (omega arith) in
@@ -121,7 +120,7 @@ complete_root {dig} k bytes states rooted some marked right =
     let each : (i : ℕ) → i < blocks_of k → IsRight dig k i (stored_block k.file_length bytes i) = λ i lt. right i (marked i lt) in
     let whole = whole_file dig k bytes some each in
     let covers = rooted.covers (height k) 0 k.root rooted.top in
-    let top = node_is bytes rooted whole each (height k) covers.inside in
+    let top = node_is bytes rooted whole each _ covers.inside in
     let held = value_covers dig k (height k) 0 covers ∙ rooted.top in
     record {
       all = whole;

@@ -1,11 +1,11 @@
 -- What a step does to trees, files and devices: trees grow, and it reads blocks, or syncs, or writes one missing block.
-use Rattle.bt_engine.proofs.Base.{◌≡◌, ℕ, ◌*◌, ◌⊎◌, inl, inr, Bool, true, List, [], ◌∷◌, ◌++◌, length, Some, Result, Ok, Err, refl, sym, ap, ◌∙◌, subst, slice_get, slice_set, flat_map, option_and_then, Contains-append_cases, full_block_length, block_count, block_length, CoversBlock, IsPadding, Call, bytes_written, write_fault, sync_made, sync_fault, HashKey, Facts, blocks_of, held_at, value_at, value_inside, value_covers, value_padding, cases_node, BlockRead, given, failed, call_of, PutIsDue, calls_of_put, states_after_put, Missing, StoreError, Range, DeviceFault, Put, Already, Wrong, PutMarked, PutWaiting, BlockId, Ask, PeerMessage as Sent, KeepAlive, Choke, Unchoke, Interested, NotInterested, Have, Bitfield, Request, Piece, Cancel, HashRequest, Hashes, HashReject, WireEvent, Hello, Message, Skipped}
-use Rattle.bt_engine.proofs.Machine.{Event, Connect, Feed, Next, Lost, Rechoke, Adopt, Flush, PeerState, FileState, EngineState, DeviceCalls, calls_at, reads_at, with_file, with_tree, file_numbers, judged_file, SettlesIn, Sent as SentFrame, Effect, FindsFault, damaged, fault, HandlesRequest, ignored, no_place, not_marked, served, stopped, Arrives, HandlesPiece, stale, arrives, HandlesHashes, unknown_root, no_claim, refused, learns, HandlesHave, in_range, out_of_range, HandlesBitfield, right, wrong, HandlesMessage, Handles, StepNext, no_peer, waits, goes_on, closes, faulty, no_memory, StepConnect, joins, full, spent, no_room, StepFeed, feeds, not_fed, no_room as no_room_to_feed, StepLost, goes, not_fed as not_lost, FollowsEach, StepRechoke, rechokes, not_rechoked, AdoptsGroup, AdoptsGroups, is_other, StepAdopt, no_file, busy, empty, adopts, not_adopted, StepFlush, syncs_of, syncs, fails, Answer, Step, KeepsBytes, AllKeepBytes, IsWriteOfMissing, StepWritesMissing}
+use Rattle.bt_engine.proofs.Base.{◌≡◌, ℕ, ◌*◌, ◌⊎◌, inl, inr, List, [], ◌∷◌, ◌++◌, length, Some, Result, Ok, Err, refl, sym, ap, ◌∙◌, slice_get, slice_set, flat_map, Contains-append_cases, full_block_length, block_length, Call, bytes_written, write_fault, sync_made, sync_fault, Facts, blocks_of, held_at, value_at, value_inside, value_covers, value_padding, cases_node, BlockRead, given, failed, call_of, PutIsDue, calls_of_put, states_after_put, Missing, StoreError, Range, DeviceFault, Put, Already, Wrong, PutMarked, PutWaiting, BlockId, PeerMessage as Sent, KeepAlive, Choke, Unchoke, Interested, NotInterested, Have, Bitfield, Request, Piece, Cancel, HashRequest, Hashes, HashReject, WireEvent, Hello, Message, Skipped}
+use Rattle.bt_engine.proofs.Machine.{Digest, Event, Connect, Feed, Next, Lost, Rechoke, Adopt, Flush, PeerState, FileState, EngineState, DeviceCalls, calls_at, reads_at, with_file, with_tree, SettlesIn, Sent as SentFrame, Effect, FindsFault, damaged, fault, HandlesRequest, ignored, no_place, not_marked, served, stopped, Arrives, HandlesPiece, stale, arrives, HandlesHashes, unknown_root, no_claim, refused, learns, HandlesHave, in_range, out_of_range, HandlesBitfield, right, wrong, HandlesMessage, Handles, StepNext, no_peer, waits, goes_on, closes, faulty, no_memory, StepConnect, joins, full, spent, no_room, StepFeed, feeds, not_fed, no_room as no_room_to_feed, StepLost, goes, not_fed as not_lost, FollowsEach, StepRechoke, rechokes, not_rechoked, AdoptsGroup, AdoptsGroups, StepAdopt, no_file, busy, empty, adopts, not_adopted, StepFlush, syncs_of, syncs, fails, Answer, Step, KeepsBytes, AllKeepBytes, IsWriteOfMissing, StepWritesMissing}
 use Rattle.bt_engine.proofs.Lists.{set_cases, map_some, contains_none, contains_cases, contains_map, contains_flat_map}
 use Rattle.bt_engine.proofs.Adopting.{group_extends}
 
 -- where a file's tree comes from
-pub record GrownFrom (dig : List ℕ → List ℕ) (files : List FileState) (trees : List Facts) (file : ℕ) (new : Facts) : Type 0 where
+pub record GrownFrom (dig : Digest) (files : List FileState) (trees : List Facts) (file : ℕ) (new : Facts) : Type 0 where
   pub old_file : FileState
   pub old_tree : Facts
   pub here : slice_get files file ≡ Some old_file
@@ -27,7 +27,7 @@ pub data Touches (files : List FileState) (trees : List Facts) (calls : DeviceCa
 abbrev pub Tame : (List ℕ → List ℕ) → List FileState → List Facts → DeviceCalls → EngineState → Type 0
 Tame dig files trees calls mid = Grows dig files trees mid × Touches files trees calls
 
-value_kept : (dig : List ℕ → List ℕ) (old new : Facts) → new.file_length ≡ old.file_length → ((l i : ℕ) (d : List ℕ) → held_at old l i ≡ Some d → held_at new l i ≡ Some d)
+value_kept : (dig : Digest) (old new : Facts) → new.file_length ≡ old.file_length → ((l i : ℕ) (d : List ℕ) → held_at old l i ≡ Some d → held_at new l i ≡ Some d)
     → (l i : ℕ) (d : List ℕ) → value_at dig old l i ≡ Some d → value_at dig new l i ≡ Some d
 value_kept dig old new size kept l i d e =
     let blocks : blocks_of new ≡ blocks_of old = cc in
@@ -59,7 +59,7 @@ syncs_keep files c among =
 append_keeps : (xs ys : DeviceCalls) → AllKeepBytes xs → AllKeepBytes ys → AllKeepBytes (xs ++ ys)
 append_keeps xs ys f g c among = elim (Contains-append_cases xs ys c among) [ inl one ↦ f c one | inr more ↦ g c more ]
 
-module _ (dig : List ℕ → List ℕ) where
+module _ (dig : Digest) where
   same_tree : {files : List FileState} {trees : List Facts} {file : ℕ} {f : FileState} {k : Facts} → slice_get files file ≡ Some f → slice_get trees f.tree ≡ Some k → GrownFrom dig files trees file k
   same_tree {f} {k} at hung = record { old_file = f; old_tree = k; here = at; hung = hung; same_length = refl; same_root = refl; kept = λ i d e. e }
 
@@ -76,7 +76,7 @@ module _ (dig : List ℕ → List ℕ) where
 
   -- a file stands in the place of one with the same tree
   file_grows : (s : EngineState) (file : ℕ) {f : _} (new : FileState) → slice_get s.files file ≡ Some f → new.tree ≡ f.tree → Grows dig s.files s.trees (with_file s file new)
-  file_grows s file new at same other g k there hung = elim (set_cases s.files file other there) [
+  file_grows s file new at same other g k there hung = elim (set_cases _ file other there) [
     | inl now ↦ same_tree (ap (slice_get s.files) now.0 ∙ at) (cc)
     | inr old ↦ same_tree old hung
   ]
@@ -99,10 +99,10 @@ module _ (dig : List ℕ → List ℕ) where
   request_tame {s} {mid} (ignored a c d e) = quiet s mid (ap (λ z. z.files) e) (ap (λ z. z.trees) e) c
   request_tame {s} {mid} (no_place a c d f e) = quiet s mid (ap (λ z. z.files) e) (ap (λ z. z.trees) e) d
   request_tame {s} {mid} (not_marked span a c d f g e) = quiet s mid (ap (λ z. z.files) e) (ap (λ z. z.trees) e) f
-  request_tame {s} {mid} (served span a c d f) = (stays s mid (ap (λ z. z.files) f.after) (ap (λ z. z.trees) f.after), keeping (keep_is f.made (reads_keep span.file f.tree.file_length f.reads)))
+  request_tame {s} {mid} (served span a c d f) = (stays s mid (ap (λ z. z.files) f.after) (ap (λ z. z.trees) f.after), keeping (keep_is f.made (reads_keep _ _ _)))
   request_tame (stopped span a c d f) = (
     fault_grows f.is_file.here f.finds,
-    keeping (keep_is f.made (reads_keep span.file f.tree.file_length (f.reads ++ f.read ∷ []))),
+    keeping (keep_is f.made (reads_keep _ _ _)),
   )
 
   put_touches : {files : List FileState} {trees : List Facts} (c : BlockId) (bytes : List ℕ) {f : FileState} {k : Facts} {calls : DeviceCalls} → slice_get files c.file ≡ Some f → slice_get trees f.tree ≡ Some k
@@ -130,7 +130,7 @@ module _ (dig : List ℕ → List ℕ) where
   -- a grown tree stands in the place of the one that it grew from
   tree_grows : (s : EngineState) (t : ℕ) {old : _} (new : Facts) → slice_get s.trees t ≡ Some old → new.file_length ≡ old.file_length → new.root ≡ old.root
       → ((i : ℕ) (d : List ℕ) → value_at dig old 0 i ≡ Some d → value_at dig new 0 i ≡ Some d) → Grows dig s.files s.trees (with_tree s t new)
-  tree_grows s t {old} new at size root kept file f k there hung = elim (set_cases s.trees t f.tree hung) [
+  tree_grows s t {old} new at size root kept file f k there hung = elim (set_cases _ t _ hung) [
     | inl now ↦ rw now.1 (record {
       old_file = f;
       old_tree = old;
@@ -146,14 +146,14 @@ module _ (dig : List ℕ → List ℕ) where
   settled_grows : (files : List FileState) (trees : List Facts) {is_meant t from count old new calls notes : _} → SettlesIn dig is_meant t from count old calls notes new → Grows dig files trees old
       → Grows dig files trees new
   settled_grows files trees {old} s g file f k at hung =
-      let m = map_some (judged_file dig s.facts (s.reads file)) (slice_get old.files file) (sym (s.files file) ∙ at) in
+      let m = map_some _ _ (sym (s.files file) ∙ at) in
       let tree : m.0.tree ≡ f.tree = cc in
       g file m.0 k m.1 (cc)
 
   settled_keeps : {is_meant t from count old new calls notes : _} → SettlesIn dig is_meant t from count old calls notes new → AllKeepBytes calls
   settled_keeps {old} s = keep_is s.made (λ c among.
-      let m = contains_flat_map (λ file. reads_at file s.facts.file_length (s.reads file)) (file_numbers old) among in
-      reads_keep m.0 s.facts.file_length (s.reads m.0) c m.2)
+      let m = contains_flat_map (λ file. reads_at file s.facts.file_length (s.reads file)) _ among in
+      reads_keep m.0 _ _ c m.2)
 
   hashes_tame : {s mid i p key digests calls effect : _} → HandlesHashes dig s i p key digests calls effect mid → Tame dig s.files s.trees calls mid
   hashes_tame {s} {mid} (unknown_root x y z e) = quiet s mid (ap (λ z. z.files) e) (ap (λ z. z.trees) e) y
@@ -182,18 +182,18 @@ module _ (dig : List ℕ → List ℕ) where
 
   event_tame : (s mid : EngineState) (i : ℕ) (p : PeerState) (e : WireEvent) (calls : DeviceCalls) (effect : Effect) → Handles dig s i p e calls effect mid → Tame dig s.files s.trees calls mid
   event_tame s mid i p (Hello h) calls effect t = quiet s mid (ap (λ z. z.files) t.2) (ap (λ z. z.trees) t.2) t.0
-  event_tame s mid i p (Message m) calls effect t = message_tame s mid i p m calls effect t
+  event_tame s mid i p (Message m) calls effect t = message_tame s mid i p m calls _ t
   event_tame s mid i p (Skipped kind) calls effect t = quiet s mid (ap (λ z. z.files) t.2) (ap (λ z. z.trees) t.2) t.0
 
   next_tame : {s new key calls answer : _} → StepNext dig s key calls answer new → Tame dig s.files s.trees calls new
   next_tame {s} {new} (no_peer x y z e) = quiet s new (ap (λ z. z.files) e) (ap (λ z. z.trees) e) y
   next_tame {s} {new} (waits i p x y z w e) = quiet s new (ap (λ z. z.files) e) (ap (λ z. z.trees) e) z
   next_tame {s} {new} {calls} (goes_on i p out x g y) =
-      let t = event_tame _ g.mid i _ g.takes.event calls g.effect g.takes.handles in
-      (like s.files s.trees g.mid new (ap (λ z. z.files) g.follows.after) (ap (λ z. z.trees) g.follows.after) t.0, t.1)
+      let t = event_tame _ g.mid i _ _ calls _ g.takes.handles in
+      (like _ _ g.mid new (ap (λ z. z.files) g.follows.after) (ap (λ z. z.trees) g.follows.after) t.0, t.1)
   next_tame {s} {new} {calls} (closes i p out x g y) =
-      let t = event_tame _ g.mid i _ g.takes.event calls g.effect g.takes.handles in
-      (like s.files s.trees g.mid new (ap (λ z. z.files) g.after) (ap (λ z. z.trees) g.after) t.0, t.1)
+      let t = event_tame _ g.mid i _ _ calls _ g.takes.handles in
+      (like _ _ g.mid new (ap (λ z. z.files) g.after) (ap (λ z. z.trees) g.after) t.0, t.1)
   next_tame {s} {new} (faulty i p out x g y) = quiet s new (ap (λ z. z.files) g.after) (ap (λ z. z.trees) g.after) g.made
   next_tame {s} {new} (no_memory i p x g y) = quiet s new (ap (λ z. z.files) g.after) (ap (λ z. z.trees) g.after) g.made
 
@@ -219,7 +219,7 @@ module _ (dig : List ℕ → List ℕ) where
   lost_tame {s} {new} none (not_lost x y e) = quiet s new (ap (λ z. z.files) e) (ap (λ z. z.trees) e) none
 
   rechoke_tame : {s new calls answer : _} → calls ≡ [] → StepRechoke dig s answer new → Tame dig s.files s.trees calls new
-  rechoke_tame {s} {new} none (rechokes out r x) = let same = each_same _ _ new r.sent r.follows in quiet s new same.0 same.1 none
+  rechoke_tame {s} {new} none (rechokes out r x) = let same = each_same _ _ new _ r.follows in quiet s new same.0 same.1 none
   rechoke_tame {s} {new} none (not_rechoked x e) = quiet s new (ap (λ z. z.files) e) (ap (λ z. z.trees) e) none
 
   -- a tree that comes from one that has grown

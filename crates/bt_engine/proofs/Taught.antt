@@ -1,6 +1,6 @@
 -- The tree after a group answers the keys that ask for what the group taught.
-use Rattle.bt_engine.proofs.Base.{◌≡◌, ℕ, zero, suc, ◌+◌, ◌-◌, ◌*◌, ◌/◌, ◌%◌, ◌^◌, ◌<◌, ◌≤◌, inl, inr, min, Bool, true, false, List, [], ◌∷◌, length, map, replicate, get_or, Option, Some, refl, sym, ap, ◌∙◌, subst, arith, length-append, Contains, nat_lt, ◌&&◌, ◌==◌, if◌then◌else◌, div-add-mod, mul_assoc, add-mul, div-div-eq-div-mul, mul-mod_left, lt_of_mul-lt-mul_right, mul-le-mul_right, cases_lt, lt-ltb, le-ltb, eqb-true, div-mul-add, pow-add, pow_pos, length-map, length-replicate, length-range_with_len, block_count, padding_digest, height_of, IsInside, row_node, pow_le, Facts, blocks_of, height, value_at, Claims, in_run, run_height, run_digest, sibling_of, Claim, IsRequest, answer_size, answer_layer, answer_index, Accepts, value_covers, value_padding, cases_node, claimed_inside, double_div, half_sibling, max_run_height, planned_key, HashKey, height_of-pow, BlockRead, block_of, IsUnknownGroup, claimed_digest, claim_of_reads, none, known, accepted, not_accepted as refused, short, unread}
-use Rattle.bt_engine.proofs.Machine.{group_blocks, run_starts, HasAnswer, TaughtKeysAreAnswered}
+use Rattle.bt_engine.proofs.Base.{◌≡◌, ℕ, zero, suc, ◌+◌, ◌-◌, ◌*◌, ◌/◌, ◌%◌, ◌^◌, ◌<◌, ◌≤◌, inl, inr, min, Bool, true, false, List, [], ◌∷◌, length, map, replicate, get_or, Option, Some, refl, sym, ap, ◌∙◌, arith, length-append, Contains, ◌&&◌, ◌==◌, if◌then◌else◌, div-add-mod, mul_assoc, add-mul, div-div-eq-div-mul, mul-mod_left, lt_of_mul-lt-mul_right, mul-le-mul_right, cases_lt, lt-ltb, le-ltb, eqb-true, div-mul-add, pow-add, pow_pos, length-map, length-replicate, length-range_with_len, padding_digest, height_of, IsInside, row_node, pow_le, Facts, blocks_of, height, value_at, Claims, in_run, run_height, run_digest, sibling_of, Claim, IsRequest, answer_size, answer_layer, answer_index, Accepts, value_covers, value_padding, cases_node, claimed_inside, double_div, half_sibling, max_run_height, planned_key, HashKey, height_of-pow, BlockRead, block_of, IsUnknownGroup, claimed_digest, claim_of_reads, none, known, accepted, not_accepted as refused, short, unread}
+use Rattle.bt_engine.proofs.Machine.{Digest, group_blocks, run_starts, HasAnswer, TaughtKeysAreAnswered}
 use Rattle.bt_store.specs.Adoption.{AreWhole}
 use Rattle.bt_engine.proofs.Lists.{range_limits, contains_none, contains_map, contains_filter}
 
@@ -12,7 +12,7 @@ far_div i a b = div-div-eq-div-mul i (2 ^ a) (2 ^ b) ∙ ap (λ p. i / p) (sym (
 
 -- ---- what was claimed of a group is known
 
-module _ (dig : List ℕ → List ℕ) (k grown : Facts) (anchor first count : ℕ) (reads : List BlockRead) where
+module _ (dig : Digest) (k grown : Facts) (anchor first count : ℕ) (reads : List BlockRead) where
   abbrev group_claim : Claim
   group_claim = claim_of_reads dig k.file_length anchor first reads
 
@@ -52,7 +52,7 @@ listed zero f each = ([], refl, λ t lt. absurd (omega arith))
 listed (suc n) f each =
     let first = each 0 (omega arith) in
     let more = listed n (λ t. f (suc t)) (λ t lt. each (suc t) (omega arith)) in
-    (first.0 ∷ more.0, omega arith, by more.0 first.1 more.2)
+    (first.0 ∷ more.0, omega arith, by _ first.1 more.2)
   where
     by : {d : _} (ds : List (List ℕ)) → f 0 ≡ Some d → ((t : ℕ) → t < n → f (suc t) ≡ Some (get_or ds t [])) → (t : ℕ) → t < suc n → f t ≡ Some (get_or (d ∷ ds) t [])
     by ds e more zero lt = e
@@ -82,7 +82,7 @@ index_uncle index count t =
 
 -- ---- the key of a run below the group's node
 
-module _ (dig : List ℕ → List ℕ) (k grown : Facts) (from anchor first count : ℕ) (reads : List BlockRead) where
+module _ (dig : Digest) (k grown : Facts) (from anchor first count : ℕ) (reads : List BlockRead) where
   few_blocks : IsUnknownGroup k from anchor first count → count ≤ 2 ^ anchor
   few_blocks group = omega arith
 
@@ -144,7 +144,7 @@ module _ (dig : List ℕ → List ℕ) (k grown : Facts) (from anchor first coun
         limit = pow_le m 9 most;
         aligned = mul-mod_left (i / 2 ^ m) (2 ^ m);
         low = omega (arith, top, under, heights);
-        in_width = rw heights (omega (arith, run_size dig k grown anchor first count reads whole (few_blocks group), index, ends, start, add-mul (from / 2 ^ anchor) 1 (2 ^ anchor)));
+        in_width = rw heights (omega (arith, run_size dig k grown _ first count reads whole (few_blocks group), index, ends, start, add-mul (from / 2 ^ anchor) 1 (2 ^ anchor)));
         proof = omega (arith, heights);
       }
 
@@ -155,7 +155,7 @@ module _ (dig : List ℕ → List ℕ) (k grown : Facts) (from anchor first coun
       leaf_over j le lt = leaf_under j (omega (arith, start, low)) (omega (arith, ends)) ∙ sym over
 
       known_at : (layer j : ℕ) → layer ≤ anchor → j / 2 ^ (anchor - layer) ≡ first / 2 ^ anchor → (d : List ℕ) × (value_at dig grown layer j ≡ Some d)
-      known_at = known_below dig k grown anchor first count reads whole (few_blocks group) accepts
+      known_at = known_below dig k grown _ first count reads whole (few_blocks group) accepts
 
       at_node : (t : ℕ) {layer j : ℕ} → answer_layer 0 (2 ^ m) t ≡ layer → answer_index (i / 2 ^ m * 2 ^ m) (2 ^ m) t ≡ j → (d : List ℕ) × (value_at dig grown layer j ≡ Some d)
           → (d : List ℕ) × (value_at dig grown (answer_layer 0 (2 ^ m) t) (answer_index (i / 2 ^ m * 2 ^ m) (2 ^ m) t) ≡ Some d)
@@ -170,43 +170,43 @@ module _ (dig : List ℕ → List ℕ) (k grown : Facts) (from anchor first coun
           let all : m + u + (anchor - (m + u)) ≡ anchor = omega arith in
           let some : i < i + 2 ^ m = (let w = pow_pos m in omega arith) in
           ap (λ h. sibling_of y / 2 ^ h) up ∙ double_div (sibling_of y) (y / 2) n (half_sibling y) ∙ sym (double_div y (y / 2) n refl) ∙ ap (λ h. y / 2 ^ h) (sym up)
-          ∙ ap (λ h. h / 2 ^ (anchor - (m + u))) (far_div i m u) ∙ far_div i (m + u) (anchor - (m + u)) ∙ ap (λ h. i / 2 ^ h) all ∙ leaf_over i (omega arith) some
+          ∙ ap (λ h. h / 2 ^ (anchor - (m + u))) (far_div i m u) ∙ far_div i _ _ ∙ ap (λ h. i / 2 ^ h) all ∙ leaf_over i (omega arith) some
 
       each : (t : ℕ) → t < answer_size (2 ^ m) (anchor - 1) → (d : List ℕ) × (value_at dig grown (answer_layer 0 (2 ^ m) t) (answer_index (i / 2 ^ m * 2 ^ m) (2 ^ m) t) ≡ Some d)
       each t within = elim (cases_lt t (2 ^ m)) [
         | inl lt ↦
             let whole_path : anchor - 0 ≡ anchor = omega arith in
-            at_node t (layer_run (2 ^ m) t lt) (index_run (i / 2 ^ m * 2 ^ m) (2 ^ m) t lt)
-            (known_at 0 (i / 2 ^ m * 2 ^ m + t) (omega arith) (ap (λ h. (i / 2 ^ m * 2 ^ m + t) / 2 ^ h) whole_path ∙ leaf_over (i / 2 ^ m * 2 ^ m + t) (omega (arith, index)) (omega (arith, index))))
+            at_node t (layer_run _ t lt) (index_run _ _ t lt)
+            (known_at 0 _ (omega arith) (ap (λ h. (i / 2 ^ m * 2 ^ m + t) / 2 ^ h) whole_path ∙ leaf_over _ (omega (arith, index)) (omega (arith, index))))
         | inr le ↦
             let u : ℕ = t - 2 ^ m in
             let split : t ≡ 2 ^ m + (t - 2 ^ m) = omega arith in
             let high_node : m + (t - 2 ^ m) < anchor = omega (arith, top, least) in
-            let layer : answer_layer 0 (2 ^ m) t ≡ m + u = ap (answer_layer 0 (2 ^ m)) split ∙ layer_uncle (2 ^ m) u ∙ ap (λ h. h + u) top in
+            let layer : answer_layer 0 (2 ^ m) t ≡ m + u = ap (answer_layer 0 (2 ^ m)) split ∙ layer_uncle _ u ∙ ap (λ h. h + u) top in
             let node : answer_index (i / 2 ^ m * 2 ^ m) (2 ^ m) t ≡ sibling_of (i / 2 ^ m / 2 ^ u) =
-            ap (answer_index (i / 2 ^ m * 2 ^ m) (2 ^ m)) split ∙ index_uncle (i / 2 ^ m * 2 ^ m) (2 ^ m) u ∙ ap (λ h. sibling_of (i / 2 ^ m * 2 ^ m / 2 ^ h / 2 ^ u)) top
+            ap (answer_index (i / 2 ^ m * 2 ^ m) (2 ^ m)) split ∙ index_uncle _ _ u ∙ ap (λ h. sibling_of (i / 2 ^ m * 2 ^ m / 2 ^ h / 2 ^ u)) top
             ∙ ap (λ x. sibling_of (x / 2 ^ m / 2 ^ u)) index in
-            at_node t layer node (known_at (m + u) (sibling_of (i / 2 ^ m / 2 ^ u)) (omega arith) (beside u high_node))
+            at_node t layer node (known_at _ _ (omega arith) (beside u high_node))
       ]
 
       answers : (ds : List (List ℕ)) × (length ds ≡ answer_size (2 ^ m) (anchor - 1)) × ((t : ℕ) → t < answer_size (2 ^ m) (anchor - 1)
           → value_at dig grown (answer_layer 0 (2 ^ m) t) (answer_index (i / 2 ^ m * 2 ^ m) (2 ^ m) t) ≡ Some (get_or ds t []))
-      answers = listed (answer_size (2 ^ m) (anchor - 1)) (λ t. value_at dig grown (answer_layer 0 (2 ^ m) t) (answer_index (i / 2 ^ m * 2 ^ m) (2 ^ m) t)) each
+      answers = listed _ (λ t. value_at dig grown (answer_layer 0 (2 ^ m) t) (answer_index (i / 2 ^ m * 2 ^ m) (2 ^ m) t)) each
 
-pub taught_answered : (dig : List ℕ → List ℕ) → TaughtKeysAreAnswered dig
+pub taught_answered : (dig : Digest) → TaughtKeysAreAnswered dig
 taught_answered dig k grown from old new reads adopted key (none end) c = absurd (contains_none c)
 taught_answered dig k grown from old new reads adopted key (known count rs group order) c = absurd (contains_none c)
-taught_answered dig k grown from old new reads adopted key (accepted anchor first count rs g group whole accepts) c = by (nat_lt 0 anchor && nat_lt 0 count) c
+taught_answered dig k grown from old new reads adopted key (accepted anchor first count rs g group whole accepts) c = by _ c
   where
     by : (b : Bool) → Contains (if b then map (λ i. planned_key g i anchor) (run_starts anchor (group_blocks from (record { next = first + count; anchor = anchor; marked = count; faults = 0 }))) else []) key → HasAnswer dig g key
     by false c = absurd (contains_none c)
     by true c =
-        let m = contains_map (λ i. planned_key g i anchor) (run_starts anchor (group_blocks from (record { next = first + count; anchor = anchor; marked = count; faults = 0 }))) c in
-        let run = contains_filter (λ i. i % 2 ^ min anchor max_run_height == 0) (group_blocks from (record { next = first + count; anchor = anchor; marked = count; faults = 0 })) m.1 in
+        let m = contains_map (λ i. planned_key g i anchor) _ c in
+        let run = contains_filter (λ i. i % 2 ^ min anchor max_run_height == 0) _ m.1 in
         let start : first ≡ from / 2 ^ anchor * 2 ^ anchor = group.starts in
-        let inside = range_limits (from / 2 ^ anchor * 2 ^ anchor) (first + count - from / 2 ^ anchor * 2 ^ anchor) run.0 in
-        rw (← m.2) (key_answer dig k g from anchor first count rs m.0 group whole accepts refl (eqb-true (m.0 % 2 ^ min anchor max_run_height) 0 run.1)
+        let inside = range_limits _ _ run.0 in
+        rw (← m.2) (key_answer dig k g from _ first count rs m.0 group whole accepts refl (eqb-true (m.0 % 2 ^ min anchor max_run_height) 0 run.1)
         (omega arith) (omega arith))
-taught_answered dig k grown from old new reads adopted key (refused anchor first count rs error group whole why other) c = absurd (none_taught (nat_lt 0 anchor) _ c)
-taught_answered dig k grown from old new reads adopted key (short anchor first count rs group order faults few) c = absurd (none_taught (nat_lt 0 anchor) _ c)
+taught_answered dig k grown from old new reads adopted key (refused anchor first count rs error group whole why other) c = absurd (none_taught _ _ c)
+taught_answered dig k grown from old new reads adopted key (short anchor first count rs group order faults few) c = absurd (none_taught _ _ c)
 taught_answered dig k grown from old new reads adopted key (unread anchor first count rs group order some) c = absurd (contains_none c)

@@ -1,6 +1,6 @@
 -- How a block ceases to be marked.
-use Rattle.bt_engine.proofs.Base.{◌≡◌, ◌≢◌, ℕ, zero, suc, ◌+◌, ◌⊎◌, inl, inr, Bool, true, false, List, [], ◌∷◌, ◌++◌, map, Option, Some, refl, sym, ap, ◌∙◌, subst, slice_get, slice_set, option_map, Contains, flat_map, ◌==◌, if◌then◌else◌, Result, Ok, Err, option_and_then, eqb-true, eq-eqb, Contains-append_left, Contains-append_right, History, Call, AreAnswered, Facts, HashKey, BlockRead, given, failed, block_of, call_of, is_right, judged, IsRight, Adopts, none, known, accepted, not_accepted, short, unread, PutIsDue, states_after_put, BlockState, Missing, Waiting, Marked, StoreError, Put, Already, Wrong, PutMarked, PutWaiting, Adopted, BlockId, Ask, PeerMessage as Sent, KeepAlive, Choke, Unchoke, Interested, NotInterested, Have, Bitfield, Request, Piece, Cancel, HashRequest, Hashes, HashReject, WireEvent, Hello, Message, Skipped}
-use Rattle.bt_engine.proofs.Machine.{Event, Connect, Feed, Next, Lost, Rechoke, Adopt, Flush, PeerState, FileState, EngineState, DeviceCalls, calls_of, state_at, tree_of, with_file, with_peer, with_tree, Sent as SentFrame, Effect, IsFile, FindsFault, damaged, fault, StopsAtFault, HandlesRequest, ignored, no_place, not_marked, served, stopped, HandlesPiece, stale, arrives, judged_file, SettlesIn, HandlesHashes, unknown_root, no_claim, refused, learns, HandlesHave, in_range, out_of_range, HandlesBitfield, right, wrong, HandlesMessage, Handles, TakesEvent, StepNext, no_peer, waits, goes_on, closes, faulty, no_memory, StepConnect, joins, full, spent, no_room, StepFeed, feeds, not_fed, no_room as no_room_to_feed, StepLost, goes, not_fed as not_lost, FollowsEach, StepRechoke, rechokes, not_rechoked, AdoptsGroup, AdoptsGroups, is_other, StepAdopt, no_file, busy, empty, adopts, not_adopted, StepFlush, syncs, fails, Answer, Step, stored_block, RunOn, IsFoundWrong, StepUnmarksByBytes, StepKeepsMarks, RunKeepsMarks}
+use Rattle.bt_engine.proofs.Base.{◌≡◌, ◌≢◌, ℕ, zero, suc, ◌+◌, ◌⊎◌, inl, inr, Bool, true, false, List, [], ◌∷◌, ◌++◌, map, Option, Some, refl, sym, ap, ◌∙◌, subst, slice_get, slice_set, option_map, Contains, flat_map, ◌==◌, if◌then◌else◌, Result, Ok, option_and_then, eqb-true, eq-eqb, Contains-append_left, Contains-append_right, History, Call, AreAnswered, Facts, BlockRead, given, failed, block_of, call_of, is_right, judged, IsRight, Adopts, known, accepted, unread, PutIsDue, states_after_put, BlockState, Missing, Waiting, Marked, StoreError, Put, PutMarked, PutWaiting, Adopted, BlockId, PeerMessage as Sent, KeepAlive, Choke, Unchoke, Interested, NotInterested, Have, Bitfield, Request, Piece, Cancel, HashRequest, Hashes, HashReject, WireEvent, Hello, Message, Skipped}
+use Rattle.bt_engine.proofs.Machine.{Digest, Event, Connect, Feed, Next, Lost, Rechoke, Adopt, Flush, PeerState, FileState, EngineState, DeviceCalls, calls_of, state_at, tree_of, with_file, Sent as SentFrame, Effect, IsFile, FindsFault, damaged, fault, StopsAtFault, HandlesRequest, ignored, no_place, not_marked, served, stopped, HandlesPiece, stale, arrives, judged_file, SettlesIn, HandlesHashes, unknown_root, no_claim, refused, learns, HandlesHave, in_range, out_of_range, HandlesBitfield, right, wrong, HandlesMessage, Handles, TakesEvent, StepNext, no_peer, waits, goes_on, closes, faulty, no_memory, StepConnect, joins, full, spent, no_room, StepFeed, feeds, not_fed, no_room as no_room_to_feed, StepLost, goes, not_fed as not_lost, FollowsEach, StepRechoke, rechokes, not_rechoked, AdoptsGroup, AdoptsGroups, StepAdopt, no_file, busy, empty, adopts, not_adopted, StepFlush, syncs, fails, Answer, Step, stored_block, RunOn, IsFoundWrong, StepUnmarksByBytes, StepKeepsMarks, RunKeepsMarks}
 use Rattle.bt_store.specs.Adoption.{marked_run}
 use Rattle.bt_engine.proofs.Lists.{same_some, set_get, set_other, set_same, and_then_some, contains_none, contains_cases, here, later, map_contains}
 use Rattle.bt_engine.proofs.Marks.{state_is, meant_then}
@@ -16,25 +16,25 @@ use Rattle.bt_engine.proofs.Sound.{no_write, no_fault, calls_keep, of_all, among
 abbrev GaveWrong : (List ℕ → List ℕ) → Facts → List BlockRead → ℕ → Type 0
 GaveWrong dig k reads i = (bytes : List ℕ) × Contains reads (given i bytes) × (IsRight dig k i bytes → ⊥)
 
-more_wrong : (dig : List ℕ → List ℕ) (k : Facts) (read : BlockRead) (reads : List BlockRead) (i : ℕ) → GaveWrong dig k reads i → GaveWrong dig k (read ∷ reads) i
+more_wrong : (dig : Digest) (k : Facts) (read : BlockRead) (reads : List BlockRead) (i : ℕ) → GaveWrong dig k reads i → GaveWrong dig k (read ∷ reads) i
 more_wrong dig k read reads i g = (g.0, later read reads g.1, g.2)
 
-judged_keeps : (dig : List ℕ → List ℕ) (k : Facts) (reads : List BlockRead) (states : List BlockState) (i : ℕ) → slice_get states i ≡ Some Marked → (slice_get (judged dig k true reads states) i ≡ Some Marked) ⊎ GaveWrong dig k reads i
+judged_keeps : (dig : Digest) (k : Facts) (reads : List BlockRead) (states : List BlockState) (i : ℕ) → slice_get states i ≡ Some Marked → (slice_get (judged dig k true reads states) i ≡ Some Marked) ⊎ GaveWrong dig k reads i
 judged_keeps dig k [] states i e = inl e
-judged_keeps dig k (failed b ∷ reads) states i e = elim (judged_keeps dig k reads states i e) [ inl kept ↦ inl kept | inr w ↦ inr (more_wrong dig k (failed b) reads i w) ]
-judged_keeps dig k (given b bytes ∷ reads) states i e = elim (set_get states b i {y = if is_right dig k b bytes then Marked else Missing} e) [
-  | inl now ↦ by (is_right dig k b bytes) refl now.0 now.1 (judged_keeps dig k reads (slice_set states b (if is_right dig k b bytes then Marked else Missing)) i)
+judged_keeps dig k (failed b ∷ reads) states i e = elim (judged_keeps dig k reads _ i e) [ inl kept ↦ inl kept | inr w ↦ inr (more_wrong dig k _ reads i w) ]
+judged_keeps dig k (given b bytes ∷ reads) states i e = elim (set_get _ b i {y = if is_right dig k b bytes then Marked else Missing} e) [
+  | inl now ↦ by _ refl now.0 now.1 (judged_keeps dig k reads _ i)
   | inr still ↦ on (judged_keeps dig k reads _ i still)
 ]
   where
     on : (slice_get (judged dig k true (given b bytes ∷ reads) states) i ≡ Some Marked) ⊎ GaveWrong dig k reads i → (slice_get (judged dig k true (given b bytes ∷ reads) states) i ≡ Some Marked) ⊎ GaveWrong dig k (given b bytes ∷ reads) i
     on (inl kept) = inl kept
-    on (inr w) = inr (more_wrong dig k (given b bytes) reads i w)
+    on (inr w) = inr (more_wrong dig k _ reads i w)
 
     by : (t : Bool) → is_right dig k b bytes ≡ t → i ≡ b → slice_get (slice_set states b (if is_right dig k b bytes then Marked else Missing)) i ≡ Some (if is_right dig k b bytes then Marked else Missing)
         → (slice_get (slice_set states b (if is_right dig k b bytes then Marked else Missing)) i ≡ Some Marked → (slice_get (judged dig k true (given b bytes ∷ reads) states) i ≡ Some Marked) ⊎ GaveWrong dig k reads i)
         → (slice_get (judged dig k true (given b bytes ∷ reads) states) i ≡ Some Marked) ⊎ GaveWrong dig k (given b bytes ∷ reads) i
-    by true t same at rest = elim (rest (cc)) [ inl kept ↦ inl kept | inr w ↦ inr (more_wrong dig k (given b bytes) reads i w) ]
+    by true t same at rest = elim (rest (cc)) [ inl kept ↦ inl kept | inr w ↦ inr (more_wrong dig k _ reads i w) ]
     by false t same at rest = inr (
       bytes,
       here reads (ap (λ n. given n bytes) (sym same)),
@@ -46,7 +46,7 @@ unfolding marked_run
 marked_keeps first zero states i e = e
 marked_keeps first (suc count) states i e = elim (set_get (marked_run first count states) (first + count) i {y = Marked} (marked_keeps first count states i e)) [ inl now ↦ now.1 | inr still ↦ still ]
 
-module _ (dig : List ℕ → List ℕ) (b : BlockId) where
+module _ (dig : Digest) (b : BlockId) where
   abbrev Stays : EngineState → DeviceCalls → EngineState → Type 0
   Stays s calls mid = (state_at mid b ≡ Some Marked) ⊎ IsFoundWrong dig s calls b
 
@@ -59,20 +59,20 @@ module _ (dig : List ℕ → List ℕ) (b : BlockId) where
   -- in a file that stands in the place of another
   file_stays : (R : Type 0) (s : EngineState) (file : ℕ) {f : _} (new : FileState) → slice_get s.files file ≡ Some f → state_at s b ≡ Some Marked
       → (b.file ≡ file → slice_get f.states b.block ≡ Some Marked → (slice_get new.states b.block ≡ Some Marked) ⊎ R) → (state_at (with_file s file new) b ≡ Some Marked) ⊎ R
-  file_stays R s file {f} new at m keep = by (b.file == file) refl
+  file_stays R s file {f} new at m keep = by _ refl
     where
       by : (t : Bool) → (b.file == file) ≡ t → (state_at (with_file s file new) b ≡ Some Marked) ⊎ R
       by true e =
           let same : b.file ≡ file = eqb-true b.file file e in
-          let g = and_then_some (λ (q : FileState). slice_get q.states b.block) (slice_get s.files b.file) m in
+          let g = and_then_some (λ (q : FileState). slice_get q.states b.block) _ m in
           let is : g.0 ≡ f = cc in
           elim (keep same (cc)) [
-            | inl kept ↦ inl (state_is (with_file s file new) b (ap (slice_get (slice_set s.files file new)) same ∙ set_same s.files file at) kept)
+            | inl kept ↦ inl (state_is (with_file s file new) b (ap (slice_get (slice_set s.files file new)) same ∙ set_same _ file at) kept)
             | inr r ↦ inr r
           ]
       by false e =
           let apart : b.file ≢ file = λ same. (let yes : (b.file == file) ≡ true = eq-eqb b.file file same in absurd cc) in
-          inl (ap (option_and_then (λ (q : FileState). slice_get q.states b.block)) (set_other s.files file b.file new apart) ∙ m)
+          inl (ap (option_and_then (λ (q : FileState). slice_get q.states b.block)) (set_other _ file _ new apart) ∙ m)
 
   hung_in : {s file f k : _} → IsFile s file f k → b.file ≡ file → tree_of s b.file ≡ Some k
   hung_in {s} is same = cc
@@ -112,9 +112,7 @@ module _ (dig : List ℕ → List ℕ) (b : BlockId) where
     | inl now ↦ absurd cc
     | inr still ↦ still
   ]
-  put_stays k i bytes states j (Ok Already) due e = e
-  put_stays k i bytes states j (Ok Wrong) due e = e
-  put_stays k i bytes states j (Err x) due e = e
+  put_stays k i bytes states j _ due e = e
 
   piece_stays : {s mid i p piece begin bytes calls effect : _} → HandlesPiece dig s i p piece begin bytes calls effect mid → state_at s b ≡ Some Marked → Stays s calls mid
   piece_stays {calls} (stale x y z e) m = same_stays calls e m
@@ -169,13 +167,13 @@ module _ (dig : List ℕ → List ℕ) (b : BlockId) where
 
   event_stays : (s mid : EngineState) (i : ℕ) (p : PeerState) (e : WireEvent) (calls : DeviceCalls) (effect : Effect) → Handles dig s i p e calls effect mid → state_at s b ≡ Some Marked → Stays s calls mid
   event_stays s mid i p (Hello h) calls effect t m = inl (cc)
-  event_stays s mid i p (Message msg) calls effect t m = message_stays s mid i p msg calls effect t m
+  event_stays s mid i p (Message msg) calls effect t m = message_stays s mid i p msg calls _ t m
   event_stays s mid i p (Skipped kind) calls effect t m = inl (cc)
 
   -- ---- events
 
   taken_stays : {s mid : _} (new : EngineState) {i p calls effect : _} → TakesEvent dig s i p calls effect mid → state_at new b ≡ state_at mid b → state_at s b ≡ Some Marked → Stays s calls new
-  taken_stays {s} {mid} new {i} {p} {calls} {effect} t same m = elim (event_stays (with_peer s i (record p { stream = t.rest })) mid i _ t.event calls effect t.handles m) [
+  taken_stays {s} {mid} new {i} {p} {calls} {effect} t same m = elim (event_stays _ mid i _ _ calls _ t.handles m) [
     | inl kept ↦ inl (cc)
     | inr w ↦ inr (found_in refl (λ c among. among) w)
   ]
@@ -208,7 +206,7 @@ module _ (dig : List ℕ → List ℕ) (b : BlockId) where
   each_stays (i ∷ peers) s new sent f = each_stays peers f.0 new f.2 f.4 ∙ ap (λ z. state_at z b) f.3.after
 
   rechoke_stays : {s new answer : _} → StepRechoke dig s answer new → state_at new b ≡ state_at s b
-  rechoke_stays {new} (rechokes out r x) = each_stays _ _ new r.sent r.follows
+  rechoke_stays {new} (rechokes out r x) = each_stays _ _ new _ r.follows
   rechoke_stays (not_rechoked x e) = cc
 
   flush_stays : {s new calls answer : _} → StepFlush s calls answer new → state_at new b ≡ state_at s b
@@ -219,12 +217,9 @@ module _ (dig : List ℕ → List ℕ) (b : BlockId) where
 
   adopts_keep : {k grown from old new reads adopted : _} (i : ℕ) → Adopts dig k from old reads adopted grown new → slice_get old i ≡ Some Marked
       → (slice_get new i ≡ Some Marked) ⊎ GaveWrong dig k reads i
-  adopts_keep i (none end) e = inl e
   adopts_keep {k} {old} i (known count rs group order) e = judged_keeps dig k rs old i e
   adopts_keep {old} i (accepted anchor first count rs g group whole accepts) e = inl (marked_keeps first count old i e)
-  adopts_keep i (not_accepted anchor first count rs error group whole why other) e = inl e
-  adopts_keep i (short anchor first count rs group order faults few) e = inl e
-  adopts_keep i (unread anchor first count rs group order some) e = inl e
+  adopts_keep i _ e = inl e
 
   -- of a block of the file
   abbrev StaysIn : ℕ → EngineState → DeviceCalls → EngineState → Type 0
@@ -278,11 +273,11 @@ module _ (dig : List ℕ → List ℕ) (b : BlockId) where
   adopt_stays {calls} (no_file x y z e) m = same_stays calls e m
   adopt_stays {calls} (busy x y z w e) m = same_stays calls e m
   adopt_stays {calls} (empty f x y z w v e) m = same_stays calls e m
-  adopt_stays {s} {file} (adopts total x a y) m = elim (groups_stays s a.mid file 0 a.groups total a.adopts m) [
+  adopt_stays {s} {file} (adopts total x a y) m = elim (groups_stays s a.mid file 0 _ total a.adopts m) [
     | inl mid ↦ inl (ap (λ z. state_at z b) a.after ∙ settle_stays a.settles mid)
     | inr w ↦ inr (found_in refl (λ c among. rw a.made (Contains-append_left (flat_map (λ c. c) a.groups) a.settling c among)) w.1)
   ]
-  adopt_stays {s} {new} {file} (not_adopted x a y) m = elim (groups_stays s new file 0 a.groups a.done a.adopts m) [
+  adopt_stays {s} {new} {file} (not_adopted x a y) m = elim (groups_stays s new file 0 _ _ a.adopts m) [
     | inl kept ↦ inl kept
     | inr w ↦ inr (found_in refl (λ c among. rw a.made (Contains-append_left (flat_map (λ c. c) a.groups) _ c among)) w.1)
   ]
@@ -296,17 +291,17 @@ module _ (dig : List ℕ → List ℕ) (b : BlockId) where
   step_stays s new (Adopt file) calls a t m = adopt_stays t.2 m
   step_stays s new Flush calls a t m = inl (flush_stays t.2 ∙ m)
 
-pub step_unmarks : (dig : List ℕ → List ℕ) → StepUnmarksByBytes dig
+pub step_unmarks : (dig : Digest) → StepUnmarksByBytes dig
 step_unmarks dig s new e calls a step b before after = elim (step_stays dig b s new e calls a step before) [ inl kept ↦ absurd (after kept) | inr w ↦ w ]
 
 -- ---- on an honest device
 
-module _ {D : Type 0} (history : D → History) (honest : D → Type 0) (faults : D → ℕ) (dig : List ℕ → List ℕ) where
+module _ {D : Type 0} (history : D → History) (honest : D → Type 0) (faults : D → ℕ) (dig : Digest) where
   -- what an honest device gave stands there
   given_stands : (s : EngineState) {calls file : _} (i n : ℕ) {bytes : _} (before after : History) → Touches s.files s.trees calls → AreAnswered before (calls_of file calls) after
       → Contains calls (file, call_of n (given i bytes)) → bytes ≡ stored_block n before.now.bytes i
   given_stands s {calls} {file} i n {bytes} before after (keeping keep) answered among =
-      (calls_keep before (calls_of file calls) (λ c m. keep (file, c) (of_all calls m)) answered).read _ _ bytes (among_file calls among)
+      (calls_keep _ _ (λ c m. keep (file, c) (of_all calls m)) answered).read _ _ bytes (among_file calls among)
   given_stands s {file} i n {bytes} before after (putting b more g k call here hung missing whole only writes) answered among =
       elim (contains_cases [] (subst (λ cs. Contains cs (file, call_of n (given i bytes))) only among)) [
         | inl same ↦ (
@@ -317,15 +312,15 @@ module _ {D : Type 0} (history : D → History) (honest : D → Type 0) (faults 
       ]
 
   pub marks_kept : StepKeepsMarks history honest faults dig
-  marks_kept old new event calls answer disks after b e step have sound there honest_now before = elim (step_stays dig b old new event calls answer step before) [
+  marks_kept old new event calls answer disks after b e step have sound there honest_now before = elim (step_stays dig b old new event calls _ step before) [
     | inl kept ↦ kept
     | inr w ↦
         let d = have.each b.file e there in
         let honest_before : honest d.0 = d.2.as_honest.1 honest_now in
-        let f = and_then_some (λ (q : FileState). slice_get q.states b.block) (slice_get old.files b.file) before in
+        let f = and_then_some (λ (q : FileState). slice_get q.states b.block) _ before in
         let hung : slice_get old.trees f.0.tree ≡ Some w.tree = cc in
         let there_before = sound b.file f.0 w.tree d.0 (record { here = f.1; hung = hung }) d.1 honest_before b.block f.2 in
-        let stands = given_stands old b.block w.tree.file_length (history d.0) (history e) (step_tame dig old new event calls answer step).1 (d.2.answered honest_before) w.read in
+        let stands = given_stands old _ _ _ _ (step_tame dig old new event calls _ step).1 (d.2.answered honest_before) w.read in
         absurd (w.wrong (rw stands there_before))
   ]
 
@@ -337,10 +332,7 @@ module _ {D : Type 0} (history : D → History) (honest : D → Type 0) (faults 
       let mid = device_before run.0 new xs calls answers run.1 after file run.4 there honest_now in
       let d = run.3.each file mid.0 mid.1 in
       (d.0, d.1, d.2.as_honest.1 mid.2)
-  device_before old new [] (c ∷ calls) answers disks after file run there honest_now = absurd run
-  device_before old new [] [] (a ∷ answers) disks after file run there honest_now = absurd run
-  device_before old new (x ∷ xs) [] answers disks after file run there honest_now = absurd run
-  device_before old new (x ∷ xs) (c ∷ calls) [] disks after file run there honest_now = absurd run
+  device_before old new _ _ _ disks after file run there honest_now = absurd run
 
   pub run_marks_kept : RunKeepsMarks history honest faults dig
   run_marks_kept old new [] [] [] disks after b e run sound there honest_now before = cc
@@ -348,7 +340,4 @@ module _ {D : Type 0} (history : D → History) (honest : D → Type 0) (faults 
       let mid = device_before run.0 new xs calls answers run.1 after b.file run.4 there honest_now in
       let kept = marks_kept old run.0 x c a disks run.1 b mid.0 run.2 run.3 sound mid.1 mid.2 before in
       run_marks_kept run.0 new xs calls answers run.1 after b e run.4 (step_sound history honest faults dig old run.0 x c a disks run.1 run.2 run.3 sound) there honest_now kept
-  run_marks_kept old new [] (c ∷ calls) answers disks after b e run sound there honest_now before = absurd run
-  run_marks_kept old new [] [] (a ∷ answers) disks after b e run sound there honest_now before = absurd run
-  run_marks_kept old new (x ∷ xs) [] answers disks after b e run sound there honest_now before = absurd run
-  run_marks_kept old new (x ∷ xs) (c ∷ calls) [] disks after b e run sound there honest_now before = absurd run
+  run_marks_kept old new _ _ _ disks after b e run sound there honest_now before = absurd run
