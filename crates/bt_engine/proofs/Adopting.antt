@@ -31,8 +31,8 @@ module _ (dig : Digest) where
   pub group_file : {s new file from calls adopted : _} (g : AdoptsGroup dig s file from calls adopted new)
       → IsFile new file (record g.state { states = g.states }) g.grown
   group_file {s} {file} g = record {
-    here = ap (λ (x : EngineState). slice_get x.files file) g.after ∙ set_same s.files file g.is_file.here;
-    hung = ap (λ (x : EngineState). slice_get x.trees g.state.tree) g.after ∙ set_same s.trees g.state.tree g.is_file.hung;
+    here = ap (λ x. slice_get x.files file) g.after ∙ set_same s.files file g.is_file.here;
+    hung = ap (λ x. slice_get x.trees g.state.tree) g.after ∙ set_same s.trees g.state.tree g.is_file.hung;
   }
 
   pub group_forward : {s new file from calls adopted : _} → AdoptsGroup dig s file from calls adopted new
@@ -84,7 +84,7 @@ module _ (dig : Digest) where
     found_later : {file calls more mid new : _} → ((c : ℕ × Call) → Contains calls c → Contains more c)
         → ((f : FileState) (k : Facts) → IsFile mid b.file f k → HasExtended new b.file k) → IsFound dig (Adopt file) calls mid b → IsFound dig (Adopt file) more new b
     found_later {more} {mid} {new} among forward x =
-        let f = and_then_some (λ (q : FileState). slice_get mid.trees q.tree) _ x.hung in
+        let f = and_then_some (λ q. slice_get mid.trees q.tree) _ x.hung in
         let h = forward f.0 x.tree (record { here = f.1; hung = f.2 }) in
         let one : call_of x.tree.file_length (given b.block x.bytes) ≡ call_of h.tree.file_length (given b.block x.bytes) = cc in
         record {
@@ -103,13 +103,13 @@ module _ (dig : Digest) where
         | inl before ↦ inl (state_is s b (ap (slice_get s.files) now.0 ∙ g.is_file.here) before)
         | inr r ↦
             let is = group_file g in
-            let read : Contains calls (file, call_of g.tree.file_length (given b.block r.bytes)) =
+            let read =
             subst (λ cs. Contains cs (file, call_of g.tree.file_length (given b.block r.bytes))) (sym g.made) (map_contains (λ read. (file, call_of g.tree.file_length read)) _ r.gives) in
             inr (record {
               tree = g.grown;
               bytes = r.bytes;
               is_adopt = ap (λ n. Adopt n) (sym now.0);
-              hung = ap (option_and_then (λ (q : FileState). slice_get new.trees q.tree)) (ap (slice_get new.files) now.0 ∙ is.here) ∙ is.hung;
+              hung = ap (option_and_then (λ q. slice_get new.trees q.tree)) (ap (slice_get new.files) now.0 ∙ is.here) ∙ is.hung;
               read = subst (λ n. Contains calls (n, call_of g.grown.file_length (given b.block r.bytes))) (sym now.0)
                   (subst (λ n. Contains calls (file, call_of n (given b.block r.bytes))) (sym (group_extends g).file_length) read);
               right = r.right;
@@ -140,7 +140,7 @@ module _ (dig : Digest) where
     groups_others s new file from [] total g apart = cc
     groups_others s new file from (calls ∷ groups) total g apart =
         let one = g.3 in
-        groups_others g.1 new file g.0.next groups g.2 g.4 apart ∙ ap (λ (x : EngineState). slice_get x.files b.file) one.after
+        groups_others g.1 new file g.0.next groups g.2 g.4 apart ∙ ap (λ x. slice_get x.files b.file) one.after
         ∙ set_other s.files file b.file (record one.state { states = one.states }) apart
 
     other_file : (file other : ℕ) → is_other file other ≡ true → other ≢ file
@@ -161,8 +161,8 @@ module _ (dig : Digest) where
                 (λ f k is. in_new (settle_forward a.settles is)) x))
           ]
           | inr r ↦
-              let apart : b.file ≢ file = other_file file _ r.meant in
-              let same : slice_get a.mid.files b.file ≡ slice_get s.files b.file = groups_others s a.mid file 0 _ total a.adopts apart in
+              let apart = other_file file _ r.meant in
+              let same = groups_others s a.mid file 0 _ total a.adopts apart in
               inr (read_back (record {
                 tree = r.facts;
                 bytes = r.bytes;

@@ -13,9 +13,9 @@ same_or_not : {b : _} (c : BlockId) → (b ≡ c) ⊎ (b ≡ c → ⊥)
 same_or_not {b} c = elim (nat_cases _ _) [
   | inl file ↦ elim (nat_cases _ _) [
     | inl block ↦ inl (ap (λ n. record b { file = n }) file ∙ ap (λ n. record c { block = n }) block)
-    | inr apart ↦ inr (λ e. apart (ap (λ (d : BlockId). d.block) e))
+    | inr apart ↦ inr (λ e. apart (ap (λ d. d.block) e))
   ]
-  | inr apart ↦ inr (λ e. apart (ap (λ (d : BlockId). d.file) e))
+  | inr apart ↦ inr (λ e. apart (ap (λ d. d.file) e))
 ]
 
 in_or_not : (xs : List BlockId) {b : _} → Contains xs b ⊎ (Contains xs b → ⊥)
@@ -82,7 +82,7 @@ module _ {dig : Digest} {s : EngineState} {i : ℕ} {sent : List Sent} {new : En
       }
 
   same_key : f.planned.key ≡ f.peer.key
-  same_key = by f.hashes ∙ ap (λ (q : PeerState). q.key) f.interest.others
+  same_key = by f.hashes ∙ ap (λ q. q.key) f.interest.others
     where
       by : RequestsHashes dig s f.interested f.hash_frames f.planned → f.planned.key ≡ f.interested.key
       by (requests b k key idle need hung plan e is) = cc
@@ -95,7 +95,7 @@ module _ {dig : Digest} {s : EngineState} {i : ℕ} {sent : List Sent} {new : En
       elim (nat_cases i at.0) [
         | inl e ↦
             let is : f.peer ≡ asked.0 = cc in
-            (after, contains_some _ i (set_same _ i f.here), Contains-append_left f.planned.asked f.blocks b (rw (same ∙ ap (λ (q : PeerState). q.asked) is) asked.2))
+            (after, contains_some _ i (set_same _ i f.here), Contains-append_left f.planned.asked f.blocks b (rw (same ∙ ap (λ q. q.asked) is) asked.2))
         | inr apart ↦ (asked.0, contains_some _ at.0 (set_other _ i at.0 after apart ∙ at.1), asked.2)
       ]
 
@@ -146,7 +146,7 @@ module _ (dig : Digest) {s : EngineState} (new : EngineState) {key : PeerKey} {i
       let set = set_same _ i one.is_peer.here in
       let left = event_leaves dig _ i set _ calls g.takes.handles in
       let f = g.follows in
-      let same : f.peer ≡ left.peer = same_some f.here (ap (λ l. slice_get l i) left.peers ∙ set_same _ i set) in
+      let same = same_some f.here (ap (λ l. slice_get l i) left.peers ∙ set_same _ i set) in
       let planned = same_key f in
       let key_is : f.planned.key ≡ key = cc in
       rw f.after (after f, record { here = peer_then f; same_key = key_is }, asked_for_all f)
@@ -160,7 +160,7 @@ module _ (dig : Digest) {s : EngineState} (new : EngineState) {key : PeerKey} {i
       let is : q ≡ p = cc in
       goes_asking (rw same (rw (← is) (rw (← place) g)))
   next_asks_all e (closes j q o x g y) = let same = some_out (cc) ∙ g.is in absurd cc
-  next_asks_all e (faulty j q o x g y) = let same = some_out (cc) ∙ g.is in let wrong = sym stays ∙ ap (λ (x : Output). x.close) same in absurd cc
+  next_asks_all e (faulty j q o x g y) = let same = some_out (cc) ∙ g.is in let wrong = sym stays ∙ ap (λ x. x.close) same in absurd cc
   next_asks_all e (no_memory j q x g y) = let wrong = e ∙ y in absurd cc
 
 pub next_asks : (dig : Digest) → NextAsksForAll dig

@@ -24,8 +24,8 @@ not_all (x ∷ states) (suc i) e = ap (λ b. is_marked x && b) (not_all states i
 
 pub waiting_is_not_complete : WaitingIsNotComplete
 waiting_is_not_complete s b e =
-    let f = and_then_some (λ (f : FileState). slice_get f.states b.block) (slice_get s.files b.file) e in
-    ap (λ o. list_all is_marked (option_map_or (λ (f : FileState). f.states) o [])) f.1 ∙ not_all f.0.states b.block f.2
+    let f = and_then_some (λ f. slice_get f.states b.block) (slice_get s.files b.file) e in
+    ap (λ o. list_all is_marked (option_map_or (λ f. f.states) o [])) f.1 ∙ not_all f.0.states b.block f.2
 
 -- ---- what an event notes is noted
 
@@ -35,7 +35,7 @@ noted_with {s} {out} g is note c =
     (out, ap output_of is, rw g.notes (Contains-append_left g.effect.notes (map (λ file. Complete file) (new_complete_files s g.mid)) note c))
 
 pub one_note : {effect note : _} → effect ≡ noting note → Contains effect.notes note
-one_note {note} e = rw (ap (λ (x : Effect). x.notes) e) (here [] refl)
+one_note {note} e = rw (ap (λ x. x.notes) e) (here [] refl)
 
 -- an event that closes nobody
 not_closed : {X : Type 0} {effect like : Effect} {why : _} → effect ≡ like → like.close ≡ None → effect.close ≡ Some why → X
@@ -88,7 +88,7 @@ module _ (dig : Digest) (s new : EngineState) (key : PeerKey) (i : ℕ) (p : Pee
       marked (later_on (now_marked r same is)) (noted (NowMarked b) (one_note (e ∙ ap (λ c. noting (NowMarked c)) same)))
   marks_by later_on noted r same (is_not_written is e) =
       not_written (cc)
-      (noted (Device b.file) (one_note (e ∙ ap (λ (c : BlockId). noting (Device c.file)) same)))
+      (noted (Device b.file) (one_note (e ∙ ap (λ c. noting (Device c.file)) same)))
 
   piece_arrives : {effect mid : _} → IsWholeBlock s.torrent piece begin (length bytes) b → Contains p.asked b → HandlesPiece dig t i q piece begin bytes calls effect mid → Arrives dig t i q piece begin bytes calls effect mid
   piece_arrives whole asked (stale none x y z) = absurd (none b whole asked)
@@ -143,7 +143,7 @@ module _ (dig : Digest) (s new : EngineState) (key : PeerKey) (i : ℕ) (p : Pee
   stops {effect} {mid} hung f =
       let same = same_tree hung f.is_file in
       let c : Contains (spanned_blocks span) f.block = rw f.blocks (Contains-append_right f.before (f.block ∷ f.after) f.block (here _ refl)) in
-      let last : Contains (f.reads ++ f.read ∷ []) f.read = Contains-append_right f.reads (f.read ∷ []) f.read (here [] refl) in
+      let last = Contains-append_right f.reads (f.read ∷ []) f.read (here [] refl) in
       let called : Contains calls (span.file, call_of f.tree.file_length f.read) =
       rw f.made (map_contains (λ r. (span.file, call_of f.tree.file_length r)) _ last) in
       finds c (subst (λ k. Contains calls (span.file, call_of k.file_length f.read)) same called)
@@ -156,13 +156,13 @@ module _ (dig : Digest) (s new : EngineState) (key : PeerKey) (i : ℕ) (p : Pee
   serving lawful open_to place are hung (not_marked other x there none y z w) =
       absurd (none (rw (← (same_place _ lawful.laid_out _ _ _ place there)) are))
   serving {effect} {mid} lawful open_to place are hung (served other x there y f) =
-      serves hung (subst (λ (l : Span). Serves dig at_request i asker ask l calls effect mid) (same_place _ lawful.laid_out _ _ _ there place) f)
+      serves hung (subst (λ l. Serves dig at_request i asker ask l calls effect mid) (same_place _ lawful.laid_out _ _ _ there place) f)
   serving {effect} {mid} lawful open_to place are hung (stopped other x there y f) =
-      stops hung (subst (λ (l : Span). StopsAtFault dig at_request l calls effect mid) (same_place _ lawful.laid_out _ _ _ there place) f)
+      stops hung (subst (λ l. StopsAtFault dig at_request l calls effect mid) (same_place _ lawful.laid_out _ _ _ there place) f)
 
   serves_by : {out : _} (g : GoesOn dig s i p calls out new) → a ≡ of_next (Ok (Some out)) → p.key ≡ key → Serving g.effect → ServesRange dig tree key ask span calls a
   serves_by g is same (gives bytes right e) = sent bytes right (sent_with g is
-      (rw (ap (λ (x : Effect). x.send) e) (here [] (ap (λ n. frame_to n (Piece ask.piece ask.begin (cut_from span bytes))) same))))
+      (rw (ap (λ x. x.send) e) (here [] (ap (λ n. frame_to n (Piece ask.piece ask.begin (cut_from span bytes))) same))))
   serves_by g is same (finds_damage j bytes c wrong called e) = damaged j bytes c wrong called (noted_with g is _ (one_note e))
   serves_by g is same (cannot_read j c called e) = not_read j c called (noted_with g is _ (one_note e))
 

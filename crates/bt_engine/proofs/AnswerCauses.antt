@@ -119,7 +119,7 @@ module _ (dig : Digest) where
   next_closes (waits i p x y z e f) c = no_output (ap (λ x. of_next x) e) refl c
   next_closes (goes_on i p out x g e) c = open_output (ap (λ x. of_next x) e) refl g.close c
   next_closes {s} {key} {calls} (closes i p out x g e) {why} c =
-      let same : c.0 ≡ out = output_is (ap (λ x. of_next x) e) c.1 refl in
+      let same = output_is (ap (λ x. of_next x) e) c.1 refl in
       let is : Some g.why ≡ Some why = cc in
       record {
         key = key;
@@ -130,14 +130,14 @@ module _ (dig : Digest) where
         cause = event_causes dig s i p _ g.mid _ calls _ g.takes.takes g.takes.handles why (cc);
       }
   next_closes {s} {key} (faulty i p out x g e) {why} c =
-      let same : c.0 ≡ out = output_is (ap (λ x. of_next x) e) c.1 refl in
+      let same = output_is (ap (λ x. of_next x) e) c.1 refl in
       record {
         key = key;
         place = i;
         peer = p;
         is_next = refl;
         is_peer = x;
-        cause = rw (← (some_is (ap (λ (o : Output). o.close) (sym (same ∙ g.is)) ∙ c.2))) (wire g.fault g.failed g.fails);
+        cause = rw (← (some_is (ap (λ o. o.close) (sym (same ∙ g.is)) ∙ c.2))) (wire g.fault g.failed g.fails);
       }
     where
       some_is : {cause : _} → Some cause ≡ Some why → cause ≡ why

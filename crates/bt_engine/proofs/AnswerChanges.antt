@@ -116,10 +116,10 @@ module _ {dig : Digest} {s : EngineState} {i : ℕ} {sent : List Sent} {new : En
   asked_blocks : (b : BlockId) → Contains (f.planned.asked ++ f.blocks) b → ¬ Contains f.peer.asked b
       → (ask : Ask) × IsWholeBlock new.torrent ask.piece ask.begin ask.length b × Contains sent (frame_to f.peer.key (Request ask))
   asked_blocks b c none = elim (Contains-append_cases f.planned.asked f.blocks b c) [
-    | inl old ↦ absurd (none (rw (← ((same_plan f.hashes).same_asked ∙ ap (λ (q : PeerState). q.asked) f.interest.others)) old))
+    | inl old ↦ absurd (none (rw (← ((same_plan f.hashes).same_asked ∙ ap (λ q. q.asked) f.interest.others)) old))
     | inr fresh ↦
         let r = each_block _ _ f.requests fresh in
-        let frame : r.0 ≡ frame_to f.peer.key (Request r.2.ask) = r.2.is ∙ to_peer _ key_then in
+        let frame = r.2.is ∙ to_peer _ key_then in
         (r.2.ask, rw torrent_then r.2.whole, in_blocks (rw (← frame) r.1))
   ]
 
@@ -155,7 +155,7 @@ left_so : (s mid : EngineState) {new : _} (sent : List Sent) (i j : ℕ) {p : _}
     → new ≡ without_peer i mid → slice_get new.peers j ≡ Some p
     → Old s new sent p
 left_so s mid sent i j others after at =
-    let r = other_without _ i j (ap (λ (x : EngineState). slice_get x.peers j) (sym after) ∙ at) in
+    let r = other_without _ i j (ap (λ x. slice_get x.peers j) (sym after) ∙ at) in
     (r.0, stays_so (sym (others r.0 r.2) ∙ r.1))
 
 -- told in more frames
@@ -207,10 +207,10 @@ module _ (dig : Digest) where
       let front : (x : Sent) → Contains f.1 x → Contains sent x = λ x c. rw f.5 (Contains-append_left f.1 f.2 x c) in
       let back : (x : Sent) → Contains f.2 x → Contains sent x = λ x c. rw f.5 (Contains-append_right f.1 f.2 x c) in
       let first = then f.3 in
-      let set : slice_get f.0.peers a ≡ Some first = ap (λ l. slice_get l a) (peers_then f.3) ∙ set_same _ a f.3.here in
+      let set = ap (λ l. slice_get l a) (peers_then f.3) ∙ set_same _ a f.3.here in
       elim (nat_cases a j) [
         | inl e ↦
-            let same : p ≡ first =
+            let same =
             same_some (ap (slice_get new.peers) e ∙ at) (each_keeps n _ f.0 new f.2 f.4 a (omega arith) ∙ set) in
             rw (← e) (rw same (record {
               before = f.3.peer;
@@ -239,7 +239,7 @@ module _ (dig : Digest) where
         at_place = m.1;
         same_key = cc;
         tells = told_since refl (asks_same refl refl)
-            (subst (λ (q : PeerState). Tells new sent q.key q p) (sym m.2) r.tells);
+            (subst (λ q. Tells new sent q.key q p) (sym m.2) r.tells);
       }
 
   -- the wire event changes no other peer
@@ -261,8 +261,8 @@ module _ (dig : Digest) where
       let left = event_leaves dig _ i set _ calls g.takes.handles in
       let f = g.follows in
       let t = then f in
-      let peers : new.peers ≡ slice_set g.mid.peers i t = peers_then f in
-      let same : f.peer ≡ left.peer =
+      let peers = peers_then f in
+      let same =
       same_some f.here
       (ap (λ l. slice_get l i) left.peers ∙ set_same _ i set) in
       let key_is : f.peer.key ≡ p.key = cc in
@@ -271,7 +271,7 @@ module _ (dig : Digest) where
       λ x c. rw g.send (Contains-append_right (g.effect.send ++ haves s g.mid) g.sent x c) in
       elim (nat_cases i j) [
         | inl e ↦
-            let now : q ≡ t =
+            let now =
             same_some (ap (slice_get new.peers) e ∙ at) (ap (λ l. slice_get l i) peers ∙ set_same _ i f.here) in
             let told : Tells new g.sent p.key f.peer t = rw (← key_is) (follow_tells f) in
             rw (← e) (rw now (record {
@@ -299,7 +299,7 @@ module _ (dig : Digest) where
   feed_told : {s new key bytes r : _} (sent : List Sent) → StepFeed s key bytes r new → (j : ℕ) {q : _}
       → slice_get new.peers j ≡ Some q → Old s new sent q
   feed_told {s} {new} sent (feeds i p is y e) j {q} at =
-      let then : slice_get (slice_set s.peers i _) j ≡ Some q = ap (λ (x : EngineState). slice_get x.peers j) (sym e) ∙ at in (
+      let then = ap (λ x. slice_get x.peers j) (sym e) ∙ at in (
         j,
         elim (set_cases _ i j then) [
           | inl one ↦ rw one.1 (record {
@@ -338,7 +338,7 @@ module _ (dig : Digest) {s : EngineState} (new : EngineState) {key : PeerKey} {p
   -- the peer before is the one of its key
   told_of : {sent : _} → after.key ≡ key → Old s new sent after → Tells new sent key before after
   told_of {sent} k r =
-      let at : r.0 ≡ place = one.only r.0 r.1.before (record { here = r.1.at_place; same_key = cc }) in
+      let at = one.only r.0 r.1.before (record { here = r.1.at_place; same_key = cc }) in
       let same : r.1.before ≡ before =
       cc in
       rw (← one.is_peer.same_key) (rw (← same) r.1.tells)
@@ -350,11 +350,11 @@ module _ (dig : Digest) {s : EngineState} (new : EngineState) {key : PeerKey} {p
   changed_to : {was now : _} → ((c : PeerState) → IsPeer new key place c → c ≡ after) → ChangesInterest s new key was now
       → (before.am_interested ≡ was) × (after.am_interested ≡ now)
   changed_to alone c =
-      let at : c.place ≡ place = one.only c.place c.before c.is_before in
+      let at = one.only c.place c.before c.is_before in
       let same : before ≡ c.before =
       cc in
-      let then : c.after ≡ after = alone c.after (rw (← at) c.is_after) in
-      (ap (λ (q : PeerState). q.am_interested) same ∙ c.was_interested, ap (λ (q : PeerState). q.am_interested) (sym then) ∙ c.now_interested)
+      let then = alone c.after (rw (← at) c.is_after) in
+      (ap (λ q. q.am_interested) same ∙ c.was_interested, ap (λ q. q.am_interested) (sym then) ∙ c.now_interested)
 
   sent_changes : (e : Event) (calls : DeviceCalls) {a : _} → Step dig s e calls a new → ((c : PeerState) → IsPeer new key place c → c ≡ after)
       → Tells new (sent_by a) key before after
@@ -393,7 +393,7 @@ module _ (dig : Digest) where
 
     connect_tells : {r sent : _} → StepConnect s r new → Tells new sent key before after
     connect_tells (joins k bytes x y z w e f) =
-        still (ap (λ (n : EngineState). slice_get n.peers place) f ∙ put_behind _ _ place one.is_peer.here)
+        still (ap (λ n. slice_get n.peers place) f ∙ put_behind _ _ place one.is_peer.here)
     connect_tells {sent} (full x y e) = of_old (same_so sent there e at)
     connect_tells {sent} (spent x y z e) = of_old (same_so sent there e at)
     connect_tells {sent} (no_room x y z e) = of_old (same_so sent there e at)

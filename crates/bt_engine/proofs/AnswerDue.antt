@@ -74,9 +74,9 @@ module _ (dig : Digest) {s : EngineState} (new : EngineState) {key : PeerKey} {i
 
   by_hashes : {out : _} (g : GoesOn dig s i p calls out new) → a ≡ of_next (Ok (Some out)) → HandlesHashRequest dig (with_peer s i (record p { stream = rest })) (record p { stream = rest }) asked g.effect → AnswersHashes dig s a key asked
   by_hashes g is (answered digests k e) = known digests (same_answers k) (sent_with g is
-      (rw (ap (λ (x : Effect). x.send) e) (here [] (ap (λ n. frame_to n (Hashes asked (concat digests))) one.is_peer.same_key))))
+      (rw (ap (λ x. x.send) e) (here [] (ap (λ n. frame_to n (Hashes asked (concat digests))) one.is_peer.same_key))))
   by_hashes g is (rejected none e) = unknown (λ digests k. none digests (same_unknown k)) (sent_with g is
-      (rw (ap (λ (x : Effect). x.send) e) (here [] (ap (λ n. frame_to n (HashReject asked)) one.is_peer.same_key))))
+      (rw (ap (λ x. x.send) e) (here [] (ap (λ n. frame_to n (HashReject asked)) one.is_peer.same_key))))
 
   -- such an event closes nobody
   not_shut : {X : Type 0} {out : _} (g : Closes dig s i p calls out new) → HandlesHashRequest dig (with_peer s i (record p { stream = rest })) (record p { stream = rest }) asked g.effect → X

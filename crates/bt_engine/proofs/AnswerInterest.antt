@@ -112,7 +112,7 @@ module _ (dig : Digest) where
       let set = set_same s.peers i peer.here in
       let left = event_leaves dig (with_peer s i rest) i set g.takes.event calls g.takes.handles in
       let f = follows_of g.follows in
-      let same : f.peer ≡ left.peer = same_some f.was (ap (λ l. slice_get l i) left.peers ∙ set_same (with_peer s i rest).peers i set) in
+      let same = same_some f.was (ap (λ l. slice_get l i) left.peers ∙ set_same (with_peer s i rest).peers i set) in
       let was : WasSo s i f.peer = record {
         peer = p;
         here = peer.here;

@@ -84,7 +84,7 @@ module _ (dig : Digest) (t mid : EngineState) (i : ℕ) (p : PeerState) (b : Blo
   hashes_notes {key} {calls} (learns l) m =
       elim (settle_notes _ _ _ calls _ _ _ l.settles (subst (λ x. state_at x b ≡ Some Marked) l.after m)) [
         | inl old ↦ inl old
-        | inr noted ↦ inr (rw (ap (λ (x : Effect). x.notes) l.has_effect) noted)
+        | inr noted ↦ inr (rw (ap (λ x. x.notes) l.has_effect) noted)
       ]
 
   have_notes : {piece : ℕ} → HandlesHave t i p piece effect mid → state_at mid b ≡ Some Marked → NotesMark t effect mid b

@@ -40,7 +40,7 @@ pub all_none : (part : Part) → AllOf part []
 all_none part x c = absurd (contains_none c)
 
 pub all_one : {part : _} (x : Sent) (xs : List Sent) → part_of x.frame ≡ part → AllOf part xs → AllOf part (x ∷ xs)
-all_one x xs e rest y c = elim (contains_cases xs c) [ inl same ↦ ap (λ (s : Sent). part_of s.frame) (sym same) ∙ e | inr more ↦ rest y more ]
+all_one x xs e rest y c = elim (contains_cases xs c) [ inl same ↦ ap (λ s. part_of s.frame) (sym same) ∙ e | inr more ↦ rest y more ]
 
 pub all_is : (part : Part) {xs ys : _} → xs ≡ ys → AllOf part ys → AllOf part xs
 all_is part e f = rw e f
@@ -49,7 +49,7 @@ pub all_haves : (old new : EngineState) → AllOf announces (haves old new)
 all_haves old new x c =
     let p = contains_flat_map (λ piece. map (λ p. sent_to p (Have piece)) new.peers) _ c in
     let q = contains_map (λ q. sent_to q (Have p.0)) _ p.2 in
-    ap (λ (s : Sent). part_of s.frame) (sym q.2)
+    ap (λ s. part_of s.frame) (sym q.2)
 
 pub all_interest : (p : PeerState) (was now : Bool) → AllOf interests (interest_sent p was now)
 all_interest p true true = all_none interests
@@ -63,7 +63,7 @@ all_hashes (rests x e y) = all_is _ e (all_none _)
 pub all_asks : (s : EngineState) (p : PeerState) (blocks : List BlockId) (sent : List Sent) → RequestsEach s p blocks sent → AllOf asks sent
 all_asks s p [] sent r = all_is asks r (all_none asks)
 all_asks s p (b ∷ blocks) sent r =
-    all_is asks r.4 (all_one r.0 r.1 (ap (λ (s : Sent). part_of s.frame) r.2.is) (all_asks s p blocks r.1 r.3))
+    all_is asks r.4 (all_one r.0 r.1 (ap (λ s. part_of s.frame) r.2.is) (all_asks s p blocks r.1 r.3))
 
 -- where a frame that follows from an event stands
 pub data IsFollowing (interest hash block : List Sent) (x : Sent) : Type 0 where
@@ -274,7 +274,7 @@ module _ (dig : Digest) (s : EngineState) (i : ℕ) {p : PeerState} (at : slice_
       let noted : NoComplete l.notes = λ note c.
       let r = contains_flat_map (λ file. settling_notes dig l.settles.facts file (l.settles.reads file)) (file_numbers (with_tree s l.tree l.new)) (rw (← l.settles.noted) c) in
       settling_noted l.settles.facts r.0 (l.settles.reads r.0) note r.2 in
-      let settled : l.settled ≡ record (with_tree s l.tree l.new) { files = l.settled.files } = l.settles.others in
+      let settled = l.settles.others in
       rw l.has_effect (rw (l.after ∙ ap (λ x. with_peer x i (record p { hash = l.hash })) settled) (record {
         peer = record p { hash = l.hash };
         same_key = refl;

@@ -51,11 +51,11 @@ module _ (dig : Digest) (s new : EngineState) where
   no_note : {a b like : _} → a ≡ b → output_of b ≡ Some like → NoComplete like.notes → (file : ℕ) → NotedBy a (Complete file) → ⊥
   no_note {like} e is none file c =
       let same : c.0 ≡ like = cc in
-      let wrong : true ≡ false = none (Complete file) (rw (← same) c.2) in
+      let wrong = none (Complete file) (rw (← same) c.2) in
       absurd cc
 
   same_state : {a b : _} → a ≡ b → output_of b ≡ None → new ≡ s → Keeps dig s a new
-  same_state e none is = keeps (ap (λ (x : EngineState). x.files) is) (ap (λ (x : EngineState). x.torrent) is) (no_output e none)
+  same_state e none is = keeps (ap (λ x. x.files) is) (ap (λ x. x.torrent) is) (no_output e none)
 
   like_state : {like : EngineState} {a b : _} → a ≡ b → output_of b ≡ None → like.files ≡ s.files → like.torrent ≡ s.torrent → new ≡ like → Keeps dig s a new
   like_state e none f t is = keeps (cc) (cc) (no_output e none)
@@ -70,14 +70,14 @@ module _ (dig : Digest) (s new : EngineState) where
   next_keeps {calls} (closes i p out x g e) =
       let rest = record p { stream = g.takes.rest } in
       let left = event_leaves dig _ i (set_same _ i x.here) _ calls g.takes.handles in
-      keeps (ap (λ (x : EngineState). x.files) g.after ∙ left.closed g.why g.closed) (cc)
+      keeps (ap (λ x. x.files) g.after ∙ left.closed g.why g.closed) (cc)
       (no_note (ap (λ x. of_next x) (e ∙ ap (λ o. Ok (Some o)) g.is)) refl left.noted)
   next_keeps (faulty i p out x g e) =
-      keeps (ap (λ (x : EngineState). x.files) g.after) (ap (λ (x : EngineState). x.torrent) g.after) (no_note (ap (λ x. of_next x) (e ∙ ap (λ o. Ok (Some o)) g.is)) refl no_notes)
+      keeps (ap (λ x. x.files) g.after) (ap (λ x. x.torrent) g.after) (no_note (ap (λ x. of_next x) (e ∙ ap (λ o. Ok (Some o)) g.is)) refl no_notes)
   next_keeps (no_memory i p x g e) = like_state (ap (λ x. of_next x) e) refl refl refl g.after
 
   connect_keeps : {r : _} → StepConnect s r new → Keeps dig s (of_connect r) new
-  connect_keeps (joins key bytes x y z w e f) = keeps (ap (λ (x : EngineState). x.files) f) (ap (λ (x : EngineState). x.torrent) f) (no_note (ap (λ x. of_connect x) e) refl no_notes)
+  connect_keeps (joins key bytes x y z w e f) = keeps (ap (λ x. x.files) f) (ap (λ x. x.torrent) f) (no_note (ap (λ x. of_connect x) e) refl no_notes)
   connect_keeps (full x e y) = same_state (ap (λ x. of_connect x) e) refl y
   connect_keeps (spent x y e z) = same_state (ap (λ x. of_connect x) e) refl z
   connect_keeps (no_room x y e z) = same_state (ap (λ x. of_connect x) e) refl z
@@ -96,7 +96,7 @@ module _ (dig : Digest) (s new : EngineState) where
   flush_keeps (fails before file after x y e z) = same_state (ap (λ x. of_flush x) e) refl z
 
 each_keeps : (dig : Digest) (places : List ℕ) (s new : EngineState) (sent : List Sent) → FollowsEach dig places s sent new → (new.files ≡ s.files) × (new.torrent ≡ s.torrent)
-each_keeps dig [] s new sent f = (ap (λ (x : EngineState). x.files) f.1, ap (λ (x : EngineState). x.torrent) f.1)
+each_keeps dig [] s new sent f = (ap (λ x. x.files) f.1, ap (λ x. x.torrent) f.1)
 each_keeps dig (i ∷ places) s new sent f =
     let first = follows_of f.3 in
     let rest = each_keeps dig places f.0 new f.2 f.4 in
@@ -115,11 +115,11 @@ keeps_as {dig} {s} {new} e k = rw e k
 
 groups_peers : (dig : Digest) (s new : EngineState) (file from : ℕ) (groups : List DeviceCalls) (total : Adopted) → AdoptsGroups dig s file from groups total new → new.peers ≡ s.peers
 groups_peers dig s new file from [] total f = cc
-groups_peers dig s new file from (calls ∷ more) total f = groups_peers dig f.1 new file _ more f.2 f.4 ∙ ap (λ (x : EngineState). x.peers) f.3.after
+groups_peers dig s new file from (calls ∷ more) total f = groups_peers dig f.1 new file _ more f.2 f.4 ∙ ap (λ x. x.peers) f.3.after
 
 file_peers : {dig s new file calls total : _} → AdoptsFile dig s file calls total new → new.peers ≡ s.peers
 file_peers {dig} {s} {file} f =
-    ap (λ (x : EngineState). x.peers) f.after ∙ ap (λ (x : EngineState). x.peers) f.settles.others ∙ groups_peers dig s f.mid file 0 _ _ f.adopts
+    ap (λ x. x.peers) f.after ∙ ap (λ x. x.peers) f.settles.others ∙ groups_peers dig s f.mid file 0 _ _ f.adopts
 
 adopt_keeps : {dig s new file calls r : _} → StepAdopt dig s file calls r new → Keeps dig s (of_adopt r) new ⊎ (new.peers ≡ [])
 adopt_keeps {dig} {s} {new} (no_file x y e z) = inl (same_state dig s new (ap (λ x. of_adopt x) e) refl z)
@@ -164,7 +164,7 @@ module _ {dig : Digest} {s new : EngineState} {key : PeerKey} {i : ℕ} {p : Pee
   was_connected c =
       let f = follows_of g.follows in
       elim (set_cases g.mid.peers i c.0 (subst (λ l. slice_get l c.0 ≡ Some c.1) f.peers c.2.here)) [
-        | inl one ↦ (f.peer, contains_some g.mid.peers i f.was, sym f.same_key ∙ ap (λ (x : PeerState). x.key) (sym one.1) ∙ c.2.same_key)
+        | inl one ↦ (f.peer, contains_some g.mid.peers i f.was, sym f.same_key ∙ ap (λ x. x.key) (sym one.1) ∙ c.2.same_key)
         | inr old ↦ (c.1, contains_some g.mid.peers c.0 old, c.2.same_key)
       ]
 
@@ -177,11 +177,11 @@ module _ {dig : Digest} {s new : EngineState} {key : PeerKey} {i : ℕ} {p : Pee
       let r = contains_flat_map (λ n. map (λ q. sent_to q (Have n)) g.mid.peers) (new_whole_pieces s g.mid) c in
       let q = contains_map (λ q. sent_to q (Have r.0)) g.mid.peers r.2 in
       let place = some_at g.mid.peers q.1 in
-      let same : r.0 ≡ piece = ap (λ (x : Sent). piece_in x.frame) q.2 in
+      let same = ap (λ x. piece_in x.frame) q.2 in
       let listed = contains_filter (has_become is_whole s g.mid) (piece_numbers g.mid) (rw (← same) r.1) in
       let both = and_true (is_whole g.mid piece) listed.1 in
       let below : piece < total_pieces g.mid.torrent = (let lt = range_below 0 (total_pieces g.mid.torrent) listed.0 in omega arith) in (
-        rw (← (ap (λ (x : Sent). x.peer) q.2)) (connected place.0 place.1),
+        rw (← (ap (λ x. x.peer) q.2)) (connected place.0 place.1),
         rw torrent_is below,
         record { before = not_so (is_whole s piece) both.1; after = whole_same g.mid new piece files_are torrent_is ∙ both.0 },
       )
@@ -191,9 +191,9 @@ module _ {dig : Digest} {s new : EngineState} {key : PeerKey} {i : ℕ} {p : Pee
       let q = was_connected c in
       let in_range : Contains (piece_numbers g.mid) piece = range_contains _ (rw (← torrent_is) below) in
       let whole : is_whole g.mid piece ≡ true = cc in
-      let listed : Contains (new_whole_pieces s g.mid) piece = filter_contains _ _ in_range (becomes whole b.before) in
-      let told : Contains (map (λ q. sent_to q (Have piece)) g.mid.peers) (sent_to q.0 (Have piece)) = map_contains (λ q. sent_to q (Have piece)) _ q.1 in
-      let among : Contains (haves s g.mid) (frame_to k (Have piece)) =
+      let listed = filter_contains _ _ in_range (becomes whole b.before) in
+      let told = map_contains (λ q. sent_to q (Have piece)) _ q.1 in
+      let among =
       flat_map_contains (λ n. map (λ q. sent_to q (Have n)) g.mid.peers) _ listed (rw (← q.2) told) in
       rw g.send (Contains-append_left (g.effect.send ++ haves s g.mid) g.sent (frame_to k (Have piece)) (Contains-append_right g.effect.send (haves s g.mid) (frame_to k (Have piece)) among))
 
@@ -204,7 +204,7 @@ module _ {dig : Digest} {s new : EngineState} {key : PeerKey} {i : ℕ} {p : Pee
   complete_noted : {file : ℕ} → Contains out.notes (Complete file) → (file < length new.files) × BecomesSo is_complete s new file
   complete_noted {file} c =
       elim (Contains-append_cases g.effect.notes (map (λ n. Complete n) (new_complete_files s g.mid)) (Complete file) (rw (← g.notes) c)) [
-        | inl one ↦ let wrong : true ≡ false = left.noted (Complete file) one in absurd cc
+        | inl one ↦ let wrong = left.noted (Complete file) one in absurd cc
         | inr more ↦
             let r = contains_map (λ n. Complete n) (new_complete_files s g.mid) more in
             let same : r.0 ≡ file = cc in
@@ -218,7 +218,7 @@ module _ {dig : Digest} {s new : EngineState} {key : PeerKey} {i : ℕ} {p : Pee
   notes_complete {file} below b =
       let in_range : Contains (file_numbers g.mid) file = range_contains _ (rw (← files_are) below) in
       let complete : is_complete g.mid file ≡ true = cc in
-      let listed : Contains (new_complete_files s g.mid) file = filter_contains _ _ in_range (becomes complete b.before) in
+      let listed = filter_contains _ _ in_range (becomes complete b.before) in
       rw g.notes (Contains-append_right g.effect.notes (map (λ n. Complete n) (new_complete_files s g.mid)) (Complete file) (map_contains (λ n. Complete n) _ listed))
 
 -- ---- the laws

@@ -14,7 +14,7 @@ module _ (torrent : Metainfo) (lay : IsLaidOut torrent.piece_length torrent.file
       let ends = ends_before (λ g. piece_count torrent.piece_length g.length) torrent.files s.file t.file p.file lt (omega arith) in
       let first = lay.in_turn s.file p.file p.listed in
       let second = lay.in_turn t.file p.file q.listed in
-      absurd (omega (arith, ap (λ (g : File). g.first_piece) (p.found p.file), ap (λ (g : File). piece_count torrent.piece_length g.length) (p.found p.file), ap (λ (g : File). g.first_piece) (q.found p.file), ))
+      absurd (omega (arith, ap (λ g. g.first_piece) (p.found p.file), ap (λ g. piece_count torrent.piece_length g.length) (p.found p.file), ap (λ g. g.first_piece) (q.found p.file), ))
 
   same_file : {s t : _} → IsPlace torrent piece begin count s → IsPlace torrent piece begin count t → s.file ≡ t.file
   same_file {s} {t} p q = elim (cases_lt s.file t.file) [
@@ -25,7 +25,7 @@ module _ (torrent : Metainfo) (lay : IsLaidOut torrent.piece_length torrent.file
   pub same_place : {s t : _} → IsPlace torrent piece begin count s → IsPlace torrent piece begin count t → s ≡ t
   same_place {s} {t} p q =
       let at = same_file p q in
-      let file : p.file ≡ q.file = sym (p.found p.file) ∙ ap (λ n. get_or torrent.files n p.file) at ∙ q.found p.file in
+      let file = sym (p.found p.file) ∙ ap (λ n. get_or torrent.files n p.file) at ∙ q.found p.file in
       let start : s.start ≡ t.start = cc in
       ap (λ n. record s { file = n }) at ∙ ap (λ n. record s { file = t.file; start = n }) start ∙ ap (λ n. record t { length = n }) (cc)
 
@@ -33,6 +33,6 @@ module _ (torrent : Metainfo) (lay : IsLaidOut torrent.piece_length torrent.file
   same_block {b} {c} v w =
       let same = same_place v.place w.place in
       let file : b.file ≡ c.file = cc in
-      let start = ap (λ (s : Span). s.start) same in
+      let start = ap (λ s. s.start) same in
       let block : b.block ≡ c.block = omega arith in
       ap (λ n. record b { file = n }) file ∙ ap (λ n. record c { block = n }) block

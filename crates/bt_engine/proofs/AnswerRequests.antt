@@ -73,14 +73,14 @@ module _ (dig : Digest) where
             place = r.place;
             peer = f.after;
             block = r.block;
-            is_peer = record { here = subst (λ n. slice_get new.peers n ≡ Some f.after) e f.now; same_key = f.same_key ∙ ap (λ (x : PeerState). x.key) same ∙ r.is_peer.same_key };
+            is_peer = record { here = subst (λ n. slice_get new.peers n ≡ Some f.after) e f.now; same_key = f.same_key ∙ ap (λ x. x.key) same ∙ r.is_peer.same_key };
             so = record {
-              not_choking = f.same_choking ∙ ap (λ (x : PeerState). x.peer_choking) same ∙ r.so.not_choking;
+              not_choking = f.same_choking ∙ ap (λ x. x.peer_choking) same ∙ r.so.not_choking;
               interested = f.due.1 (r.block, subst (λ q. Has s q r.block) (sym same) r.so.has, r.so.missing);
               whole = whole;
               missing = missing_in s new r.block f.files r.so.missing;
-              has = has_in s new r.peer f.after r.block f.torrent (f.same_has ∙ ap (λ (x : PeerState). x.has) same) r.so.has;
-              asked = subst (λ l. Contains l r.block) (sym f.asked) (Contains-append_left f.peer.asked f.blocks r.block (subst (λ (q : PeerState). Contains q.asked r.block) (sym same) r.so.asked));
+              has = has_in s new r.peer f.after r.block f.torrent (f.same_has ∙ ap (λ x. x.has) same) r.so.has;
+              asked = subst (λ l. Contains l r.block) (sym f.asked) (Contains-append_left f.peer.asked f.blocks r.block (subst (λ q. Contains q.asked r.block) (sym same) r.so.asked));
               alone = alone;
             };
           }

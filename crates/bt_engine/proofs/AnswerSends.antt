@@ -91,7 +91,7 @@ ask_in (message_frame (Request ask)) = ask
 ask_in _ = record { piece = 0; begin = 0; length = 0 }
 
 told_interest : (p : PeerState) (was now : Bool) {key : _} → Contains (interest_sent p was now) (frame_to key Interested) → (was ≡ false) × (now ≡ true) × (p.key ≡ key)
-told_interest p false true c = elim (contains_cases [] c) [ inl same ↦ (refl, refl, ap (λ (x : Sent). x.peer) same) | inr none ↦ absurd (contains_none none) ]
+told_interest p false true c = elim (contains_cases [] c) [ inl same ↦ (refl, refl, ap (λ x. x.peer) same) | inr none ↦ absurd (contains_none none) ]
 told_interest p true false {key} c = elim (contains_cases [] c) [ inl same ↦ absurd (not_told same) | inr none ↦ absurd (contains_none none) ]
   where
     is_told : Frame → Bool
@@ -99,11 +99,11 @@ told_interest p true false {key} c = elim (contains_cases [] c) [ inl same ↦ a
     is_told _ = false
 
     not_told : frame_to p.key NotInterested ≡ frame_to key Interested → ⊥
-    not_told same = let wrong : false ≡ true = ap (λ (x : Sent). is_told x.frame) same in absurd cc
+    not_told same = let wrong = ap (λ x. is_told x.frame) same in absurd cc
 told_interest p _ _ c = absurd (contains_none c)
 
 told_no_interest : (p : PeerState) (was now : Bool) {key : _} → Contains (interest_sent p was now) (frame_to key NotInterested) → (was ≡ true) × (now ≡ false) × (p.key ≡ key)
-told_no_interest p true false c = elim (contains_cases [] c) [ inl same ↦ (refl, refl, ap (λ (x : Sent). x.peer) same) | inr none ↦ absurd (contains_none none) ]
+told_no_interest p true false c = elim (contains_cases [] c) [ inl same ↦ (refl, refl, ap (λ x. x.peer) same) | inr none ↦ absurd (contains_none none) ]
 told_no_interest p false true {key} c = elim (contains_cases [] c) [ inl same ↦ absurd (not_told same) | inr none ↦ absurd (contains_none none) ]
   where
     is_told : Frame → Bool
@@ -111,7 +111,7 @@ told_no_interest p false true {key} c = elim (contains_cases [] c) [ inl same �
     is_told _ = false
 
     not_told : frame_to p.key Interested ≡ frame_to key NotInterested → ⊥
-    not_told same = let wrong : true ≡ false = ap (λ (x : Sent). is_told x.frame) same in absurd cc
+    not_told same = let wrong = ap (λ x. is_told x.frame) same in absurd cc
 told_no_interest p _ _ c = absurd (contains_none c)
 
 module _ {dig : Digest} {s : EngineState} {i : ℕ} {sent : List Sent} {new : EngineState} (f : FollowsUp dig s i sent new) where
@@ -135,8 +135,8 @@ module _ {dig : Digest} {s : EngineState} {i : ℕ} {sent : List Sent} {new : En
   ask_sent ask (in_hash c) = let e = of_hash c in absurd cc
   ask_sent ask (in_block c) =
       let r = each_ask _ _ f.requests c in
-      let same : ask ≡ r.2.ask = ap (λ (x : Sent). ask_in x.frame) r.2.is in
-      (r.0, r.1, subst (λ (a : Ask). IsWholeBlock s.torrent a.piece a.begin a.length r.0) (sym same) r.2.whole, ap (λ (x : Sent). x.peer) (sym r.2.is))
+      let same = ap (λ x. ask_in x.frame) r.2.is in
+      (r.0, r.1, subst (λ a. IsWholeBlock s.torrent a.piece a.begin a.length r.0) (sym same) r.2.whole, ap (λ x. x.peer) (sym r.2.is))
 
   interest_told : {key : _} → stands (frame_to key Interested) → (f.peer.am_interested ≡ false) × (f.interested.am_interested ≡ true) × (f.peer.key ≡ key)
   interest_told {key} (in_interest c) = told_interest f.peer _ _ (rw (← f.interest.told) c)
@@ -167,7 +167,7 @@ module _ {dig : Digest} {s : EngineState} {i : ℕ} {sent : List Sent} {new : En
         after = after;
         blocks = f.blocks;
         was = f.here;
-        now = ap (λ (x : EngineState). slice_get x.peers i) f.after ∙ set_same _ i f.here;
+        now = ap (λ x. slice_get x.peers i) f.after ∙ set_same _ i f.here;
         same_key = cc;
         same_choking = cc;
         same_has = cc;
@@ -242,7 +242,7 @@ module _ (dig : Digest) where
 
   rechokes_sent : {s new out : _} → Rechokes dig s out new → Sent_by s new out.send
   rechokes_sent {s} r x c =
-      elim (Contains-append_cases (chokes_sent s) r.sent x (subst (λ (o : Output). Contains o.send x) r.is c)) [
+      elim (Contains-append_cases (chokes_sent s) r.sent x (subst (λ o. Contains o.send x) r.is c)) [
         | inl front ↦
             let q = contains_flat_map (λ p. choking_sent p p.am_choking (is_served s p)) s.peers front in
             alike chokes (inr (inr refl)) (choking_part q.0 _ _ x q.2)

@@ -50,7 +50,7 @@ get_index (y ∷ xs) (suc i) d e = get_index xs i d e
 module _ (s : EngineState) (apart : AllPairs (λ (j k : Facts). j.root ≢ k.root) s.trees) (root : List ℕ) where
   not_both : {i j k l : _} → IsTreeOf s root i k → IsTreeOf s root j l → i < j → ⊥
   not_both {i} {j} {k} x y lt = apart i j k lt (some_below _ j y.here)
-      (ap (λ (f : Facts). f.root) (get_index _ i k x.here) ∙ x.same_root ∙ sym y.same_root ∙ ap (λ (f : Facts). f.root) (sym (get_index _ j k y.here)))
+      (ap (λ f. f.root) (get_index _ i k x.here) ∙ x.same_root ∙ sym y.same_root ∙ ap (λ f. f.root) (sym (get_index _ j k y.here)))
 
   one_tree : {i j k l : _} → IsTreeOf s root i k → IsTreeOf s root j l → k ≡ l
   one_tree {i} {j} x y = elim (cases_lt i j) [
@@ -66,8 +66,8 @@ module _ (s : EngineState) (apart : AllPairs (λ (j k : Facts). j.root ≢ k.roo
 not_both_peers : {s : _} → IsOrderly s → {key i j p q : _} → IsPeer s key i p → IsPeer s key j q → i < j → ⊥
 not_both_peers {s} o {key} {i} {j} {p} x y lt =
     let before = o.in_order i j p lt (some_below _ j y.here) in
-    let first : (slice_index_or s.peers i p).key.0 ≡ key.0 = ap (λ (r : PeerState). r.key.0) (get_index _ i p x.here) ∙ ap (λ (k : PeerKey). k.0) x.same_key in
-    let second : (slice_index_or s.peers j p).key.0 ≡ key.0 = ap (λ (r : PeerState). r.key.0) (get_index _ j p y.here) ∙ ap (λ (k : PeerKey). k.0) y.same_key in
+    let first = ap (λ r. r.key.0) (get_index _ i p x.here) ∙ ap (λ k. k.0) x.same_key in
+    let second = ap (λ r. r.key.0) (get_index _ j p y.here) ∙ ap (λ k. k.0) y.same_key in
     absurd (omega arith)
 
 pub orderly_only : OrderlyPeersAreOnly
@@ -86,7 +86,7 @@ gone : {s : _} (mid : EngineState) {new key i p : _} → IsOnlyPeer s key i p
     → ((n : ℕ) → n ≢ i → slice_get mid.peers n ≡ slice_get s.peers n) → new ≡ without_peer i mid
     → IsConnected new key → ⊥
 gone mid {i} one others after (j, q, is) =
-    let r = other_without _ i j (ap (λ (x : EngineState). slice_get x.peers j) (sym after) ∙ is.here) in
+    let r = other_without _ i j (ap (λ x. slice_get x.peers j) (sym after) ∙ is.here) in
     r.2 (one.only r.0 q (record { here = sym (others r.0 r.2) ∙ r.1; same_key = is.same_key }))
 
 -- ---- an event that is a cause closes, for that cause
@@ -214,8 +214,8 @@ module _ (dig : Digest) {s : EngineState} (new : EngineState) {key : PeerKey} {i
       by (no_room x) = inl x
       by (goes out g h is) = stays_open g.effect (shut g.effect g.mid h) g.stays
       by (shuts out g h is) =
-          let cause : Some g.why ≡ Some why = sym g.closed ∙ shut g.effect g.mid h in
-          inr ((out, ap output_of is, ap (λ (o : Output). o.close) g.is ∙ cause), gone g.mid one (others _ g.mid h) g.after)
+          let cause = sym g.closed ∙ shut g.effect g.mid h in
+          inr ((out, ap output_of is, ap (λ o. o.close) g.is ∙ cause), gone g.mid one (others _ g.mid h) g.after)
 
   shut_for : {why : _} → IsLawful s.torrent.piece_length s.torrent.files → AllPairs (λ (j k : Facts). j.root ≢ k.root) s.trees → IsCause dig s p why
       → IsShut why
@@ -226,21 +226,21 @@ module _ (dig : Digest) {s : EngineState} (new : EngineState) {key : PeerKey} {i
 
       no_event : {X : Type 0} {e rest q : _} → q ≡ p → Takes q.stream e rest → X
       no_event {e} {rest} same takes =
-          let took = subst (λ (x : PeerState). Takes x.stream e rest) same takes in
+          let took = subst (λ x. Takes x.stream e rest) same takes in
           absurd (fault_alone p.stream.greeted p.stream.unread fault f.shown e took.bytes rest.unread took.event took.front)
 
       one_wire : {error then q : _} → q ≡ p → Fails q.stream error then → Wire error ≡ Wire fault
       one_wire {error} {then} same x =
-          let shown = subst (λ (n : PeerState). Fails n.stream error then) same x in
+          let shown = subst (λ n. Fails n.stream error then) same x in
           ap (λ n. Wire n) (one_fault p.stream.greeted p.stream.unread error fault shown.shown f.shown)
 
       by_fault : {r : _} → a ≡ of_next r → StepNext dig s key calls r new → IsShut (Wire fault)
       by_fault is (no_peer none x y z) = absurd (none i p one.is_peer)
-      by_fault is (waits j q x w y z v) = absurd ((subst (λ (n : PeerState). Waits n.stream) (at x) w).no_fault fault f.shown)
+      by_fault is (waits j q x w y z v) = absurd ((subst (λ n. Waits n.stream) (at x) w).no_fault fault f.shown)
       by_fault is (goes_on j q out x g e) = no_event (at x) g.takes.takes
       by_fault is (closes j q out x g e) = no_event (at x) g.takes.takes
       by_fault is (faulty j q out x g e) = inr (
-        (out, ap output_of (is ∙ ap (λ x. of_next x) e), ap (λ (o : Output). o.close) g.is ∙ ap (λ n. Some n) (one_wire (at x) g.fails)),
+        (out, ap output_of (is ∙ ap (λ x. of_next x) e), ap (λ o. o.close) g.is ∙ ap (λ n. Some n) (one_wire (at x) g.fails)),
         gone s one (λ n apart. refl) (g.after ∙ ap (λ n. without_peer n s) (one.only j q x)),
       )
       by_fault is (no_memory j q x g e) = no_event (at x) g.takes

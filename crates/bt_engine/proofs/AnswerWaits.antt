@@ -22,10 +22,10 @@ file_state s {file} new b {x} e =
 same_tree : (s : EngineState) (file : ℕ) {f : _} (states : List BlockState) (n : ℕ) → slice_get s.files file ≡ Some f → tree_of (with_file s file (record f { states = states })) n ≡ tree_of s n
 same_tree s file {f} states n at = elim (nat_cases file n) [
   | inl e ↦
-      ap (λ m. option_and_then (λ (q : FileState). slice_get s.trees q.tree) (slice_get (slice_set s.files file (record f { states = states })) m)) (sym e)
-      ∙ ap (option_and_then (λ (q : FileState). slice_get s.trees q.tree)) (set_same _ file at)
-      ∙ ap (option_and_then (λ (q : FileState). slice_get s.trees q.tree)) (sym at) ∙ ap (tree_of s) e
-  | inr apart ↦ ap (option_and_then (λ (q : FileState). slice_get s.trees q.tree)) (set_other _ file n _ apart)
+      ap (λ m. option_and_then (λ q. slice_get s.trees q.tree) (slice_get (slice_set s.files file (record f { states = states })) m)) (sym e)
+      ∙ ap (option_and_then (λ q. slice_get s.trees q.tree)) (set_same _ file at)
+      ∙ ap (option_and_then (λ q. slice_get s.trees q.tree)) (sym at) ∙ ap (tree_of s) e
+  | inr apart ↦ ap (option_and_then (λ q. slice_get s.trees q.tree)) (set_other _ file n _ apart)
 ]
 
 -- a block that waits after reads waited before them, and was not read
@@ -76,7 +76,7 @@ record IsInRunOf (c : Claim) (i : ℕ) : Type 0 where
 leaf_in_run : {dig h c i d : _} → HasShape h c → Claims dig c 0 i d → IsInRunOf c i
 leaf_in_run {c} {i} s (in_run r) =
     let above : r.above ≡ 0 = omega arith in
-    let same : i / 2 ^ run_height c ≡ c.index / 2 ^ run_height c = ap (λ n. i / 2 ^ n) (omega arith) ∙ r.under in
+    let same = ap (λ n. i / 2 ^ n) (omega arith) ∙ r.under in
     within s.power same
   where
     within : {p : ℕ} → length c.run ≡ p → i / p ≡ c.index / p → IsInRunOf c i
@@ -101,7 +101,7 @@ module _ (dig : Digest) (t mid : EngineState) (i : ℕ) (p : PeerState) (b : Blo
   -- an engine in which the block's state and tree are the same
   as_before : {m : _} → mid ≡ m → (state_at m b ≡ Some Waiting → state_at t b ≡ Some Waiting) → tree_of m b.file ≡ tree_of t b.file → Unknown dig t mid b
   as_before e states trees before now =
-      rw e (ap (option_and_then (λ (k : Facts). value_at dig k 0 b.block)) trees ∙ before (states (rw (← e) now)))
+      rw e (ap (option_and_then (λ k. value_at dig k 0 b.block)) trees ∙ before (states (rw (← e) now)))
 
   fault_waits : {k file j f read : _} → slice_get t.files file ≡ Some f → FindsFault dig k t file j f read effect mid → Unknown dig t mid b
   fault_waits {file} {j} {f} at (found_damaged bytes x y z e) = as_before e (λ now. elim (file_state t _ b now) [
@@ -130,13 +130,13 @@ module _ (dig : Digest) (t mid : EngineState) (i : ℕ) (p : PeerState) (b : Blo
   piece_waits : {piece begin bytes calls : _} → HandlesPiece dig t i p piece begin bytes calls effect mid → Unknown dig t mid b
   piece_waits (stale x y z e) before now = as_before e (λ still. still) refl before now
   piece_waits {bytes} (arrives r) before now =
-      let f : FileState = r.puts.file in
-      let states : List BlockState = states_after_put r.block.block r.puts.result f.states in
-      let stored : EngineState = with_file t r.block.file (record f { states = states }) in
-      let q : PeerState = with_payload (length bytes) (record p { asked = without_block r.block p.asked }) in
+      let f = r.puts.file in
+      let states = states_after_put r.block.block r.puts.result f.states in
+      let stored = with_file t r.block.file (record f { states = states }) in
+      let q = with_payload (length bytes) (record p { asked = without_block r.block p.asked }) in
       let is : mid ≡ with_peer stored i q = cc in
-      let there : state_at stored b ≡ Some Waiting = subst (λ x. state_at x b ≡ Some Waiting) is now in
-      let tree : tree_of stored b.file ≡ tree_of t b.file = same_tree t r.block.file states b.file r.puts.is_file.here in
+      let there = subst (λ x. state_at x b ≡ Some Waiting) is now in
+      let tree = same_tree t r.block.file states b.file r.puts.is_file.here in
       let leaf : leaf_at dig t b ≡ None → leaf_at dig mid b ≡ None = λ e. rw is (cc) in
       elim (file_state t (record f { states = states }) b there) [
         | inl one ↦ elim (put_waits r.puts.tree r.block bytes f.states r.puts.result r.puts.due one.1) [
@@ -176,17 +176,17 @@ module _ {dig : Digest} {t mid : EngineState} {i : ℕ} {p : PeerState} (b : Blo
   run_length : length l.claim.run ≡ key.length
   run_length =
       let count = chunk_count (length digests / 32) digests in
-      ap (λ (c : Claim). length c.run) l.claims.claim_is ∙ length-take-le key.length (digests_in digests) (omega arith)
+      ap (λ c. length c.run) l.claims.claim_is ∙ length-take-le key.length (digests_in digests) (omega arith)
 
   -- a leaf that the proof told is one of the run
   told_in_run : {d : _} → value_at dig l.old 0 b.block ≡ None → value_at dig l.new 0 b.block ≡ Some d → IsInRunOf l.claim b.block
   told_in_run {d} unknown known = elim (cases_node (blocks_of l.new) 0 b.block (value_inside dig l.new 0 b.block d known)) [
     | inl covers ↦ elim (l.accepts.joins.only 0 b.block d (sym (value_covers dig l.new 0 b.block covers) ∙ known)) [
-      | inl held ↦ (let no : None ≡ Some d = sym unknown ∙ value_covers dig l.old 0 b.block (rw (← l.accepts.joins.file_length) covers) ∙ held in absurd cc)
+      | inl held ↦ (let no = sym unknown ∙ value_covers dig l.old 0 b.block (rw (← l.accepts.joins.file_length) covers) ∙ held in absurd cc)
       | inr told ↦ leaf_in_run l.accepts.conditions.shape told.0
     ]
     | inr past ↦
-        let no : None ≡ Some (padding_digest dig 0) = sym unknown ∙ value_padding dig l.old 0 b.block (rw (← l.accepts.joins.file_length) past) in
+        let no = sym unknown ∙ value_padding dig l.old 0 b.block (rw (← l.accepts.joins.file_length) past) in
         absurd cc
   ]
 
@@ -206,9 +206,9 @@ module _ {dig : Digest} {t mid : EngineState} {i : ℕ} {p : PeerState} (b : Blo
       → option_and_then (λ (k : Facts). value_at dig k 0 b.block) (slice_get (slice_set t.trees l.tree l.new) f.tree) ≡ None
   leaf_still {f} at before waiting unread = elim (nat_cases l.tree f.tree) [
     | inl same ↦
-        ap (option_and_then (λ (k : Facts). value_at dig k 0 b.block)) (ap (slice_get (slice_set t.trees l.tree l.new)) (sym same) ∙ set_same t.trees l.tree l.here.here)
-        ∙ still_unknown (value_at dig l.new 0 b.block) refl (sym same) (ap (option_and_then (λ (k : Facts). value_at dig k 0 b.block)) (sym (hung ∙ ap (slice_get t.trees) (sym same) ∙ l.here.here)) ∙ unknown)
-    | inr apart ↦ ap (option_and_then (λ (k : Facts). value_at dig k 0 b.block)) (set_other t.trees l.tree f.tree l.new apart ∙ sym hung) ∙ unknown
+        ap (option_and_then (λ k. value_at dig k 0 b.block)) (ap (slice_get (slice_set t.trees l.tree l.new)) (sym same) ∙ set_same t.trees l.tree l.here.here)
+        ∙ still_unknown (value_at dig l.new 0 b.block) refl (sym same) (ap (option_and_then (λ k. value_at dig k 0 b.block)) (sym (hung ∙ ap (slice_get t.trees) (sym same) ∙ l.here.here)) ∙ unknown)
+    | inr apart ↦ ap (option_and_then (λ k. value_at dig k 0 b.block)) (set_other t.trees l.tree f.tree l.new apart ∙ sym hung) ∙ unknown
   ]
     where
       unknown : leaf_at dig t b ≡ None
@@ -228,14 +228,14 @@ module _ {dig : Digest} {t mid : EngineState} {i : ℕ} {p : PeerState} (b : Blo
 
   learns_waits : Unknown dig t mid b
   learns_waits before now =
-      let there : state_at l.settled b ≡ Some Waiting = subst (λ x. state_at x b ≡ Some Waiting) l.after now in
-      let m = and_then_some (λ (q : FileState). slice_get q.states b.block) _ there in
+      let there = subst (λ x. state_at x b ≡ Some Waiting) l.after now in
+      let m = and_then_some (λ q. slice_get q.states b.block) _ there in
       let f = map_some _ _ (sym (l.settles.files b.file) ∙ m.1) in
-      let u = judged_waits dig _ _ (ap (λ (q : FileState). slice_get q.states b.block) f.2 ∙ m.2) in
+      let u = judged_waits dig _ _ (ap (λ q. slice_get q.states b.block) f.2 ∙ m.2) in
       let file : slice_get l.settled.files b.file ≡ Some (judged_file dig l.settles.facts (l.settles.reads b.file) f.0) = cc in
       let trees : l.settled.trees ≡ slice_set t.trees l.tree l.new = cc in
-      rw l.after (ap (λ o. option_and_then (λ (k : Facts). value_at dig k 0 b.block) (option_and_then (λ (q : FileState). slice_get l.settled.trees q.tree) o)) file
-      ∙ ap (λ ts. option_and_then (λ (k : Facts). value_at dig k 0 b.block) (slice_get ts f.0.tree)) trees
+      rw l.after (ap (λ o. option_and_then (λ k. value_at dig k 0 b.block) (option_and_then (λ q. slice_get l.settled.trees q.tree) o)) file
+      ∙ ap (λ ts. option_and_then (λ k. value_at dig k 0 b.block) (slice_get ts f.0.tree)) trees
       ∙ leaf_still f.1 before u.waited u.unread)
 
 -- ---- every message
@@ -286,8 +286,8 @@ module _ (dig : Digest) (s new : EngineState) (key : PeerKey) (calls : DeviceCal
   next_waits : {r : _} → StepNext dig s key calls r new → Unknown dig s new b
   next_waits (none_such x y z e) = like_old e refl refl
   next_waits (waits i p x y z w e) = like_old e refl refl
-  next_waits (goes_on i p out x g e) = after_event i p _ g.mid _ _ g.takes.handles (ap (λ (x : EngineState). x.files) g.follows.after) (ap (λ (x : EngineState). x.trees) g.follows.after)
-  next_waits (closes i p out x g e) = after_event i p _ g.mid _ _ g.takes.handles (ap (λ (x : EngineState). x.files) g.after) (ap (λ (x : EngineState). x.trees) g.after)
+  next_waits (goes_on i p out x g e) = after_event i p _ g.mid _ _ g.takes.handles (ap (λ x. x.files) g.follows.after) (ap (λ x. x.trees) g.follows.after)
+  next_waits (closes i p out x g e) = after_event i p _ g.mid _ _ g.takes.handles (ap (λ x. x.files) g.after) (ap (λ x. x.trees) g.after)
   next_waits (faulty i p out x g e) = like_old g.after refl refl
   next_waits (no_memory i p x g e) = like_old g.after refl refl
 

@@ -31,8 +31,8 @@ step_spares {file} i j (keeping keep) is present lt {c} among = keeps_spare _ c 
 step_spares {s} {file} i j {f} {k} (putting b bytes g l call here hung missing whole only writes) is present lt {c} among =
     elim (contains_cases [] (subst (λ cs. Contains cs (file, c)) only among)) [
       | inl same ↦
-          let at : b.file ≡ file = ap (λ (x : ℕ × Call). x.0) same in
-          let call_is : call ≡ c = ap (λ (x : ℕ × Call). x.1) same in
+          let at = ap (λ x. x.0) same in
+          let call_is = ap (λ x. x.1) same in
           let g_is : g ≡ f = cc in
           let apart : i ≢ b.block = λ e. present (cc) in
           rw (← call_is) (write_spares _ _ i _ j apart lt whole writes)
@@ -46,7 +46,7 @@ module _ {D : Type 0} (history : D → History) (honest : D → Type 0) (faults 
   pub images_kept : ((d : D) → honest d → IsImage (history d).now (history d).now.bytes) → StepKeepsImages history honest faults dig
   images_kept reads old new event calls answer disks after file i t f k bytes e step have is present size there honest_now kept j byte at =
       let d = have.each file e there in
-      let honest_before : honest d.0 = d.2.as_honest.1 honest_now in
+      let honest_before = d.2.as_honest.1 honest_now in
       let inside : j < block_length k.file_length i = (let lt = some_below bytes j at in omega arith) in
       let spares = all_of _ _ (λ c among. step_spares i j (step_tame dig old new event calls _ step).1 is present inside (of_all calls among)) in
       calls_keep_bytes (history d.0) (history e) (calls_of file calls) t (16384 * i + j) byte (reads d.0 honest_before) (d.2.answered honest_before) spares (kept d.0 d.1 j byte at)

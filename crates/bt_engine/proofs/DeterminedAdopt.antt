@@ -13,7 +13,7 @@ use Rattle.bt_engine.proofs.DeterminedEvents.{split_one, reads_one, file_one, se
 
 known_or_unknown : {dig k from count anchor first other : _} → from < blocks_of k → IsKnownGroup dig k from count → IsUnknownGroup k from anchor first other → ⊥
 known_or_unknown {dig} {k} {from} left x y =
-    let n : ℕ = blocks_of k in
+    let n = blocks_of k in
     let real : real_width (blocks_of k) 0 ≡ blocks_of k = omega arith in
     let wide = real_limit (blocks_of k) 0 (omega arith) in
     let covers : CoversBlock (blocks_of k) 0 from = record { inside = record { in_height = omega arith; in_width = omega arith }; real = omega arith } in
@@ -165,7 +165,7 @@ module _ (dig : Digest) where
       parts = split_one c d (ap length g.made ∙ length-map g.reads _ ∙ sizes ∙ sym (length-map h.reads _) ∙ sym (ap length h.made)) e
 
       reads : g.reads ≡ h.reads
-      reads = reads_one file _ _ _ (sym g.made ∙ parts.0 ∙ h.made ∙ ap (λ (k : Facts). reads_at file k.file_length h.reads) (sym same.1))
+      reads = reads_one file _ _ _ (sym g.made ∙ parts.0 ∙ h.made ∙ ap (λ k. reads_at file k.file_length h.reads) (sym same.1))
 
       result : (x ≡ y) × (g.grown ≡ h.grown) × (g.states ≡ h.states)
       result = result_one g.left g.adopts (rw reads adopts_there)
@@ -177,7 +177,7 @@ module _ (dig : Digest) where
       placed f states k ps = with_pending s (with_tree (with_file s file (record f { states = states })) f.tree k) ps
 
       after : m ≡ n
-      after = g.after ∙ ap (λ (f : FileState). with_pending s (with_tree (with_file s file (record f { states = g.states })) f.tree g.grown) g.proofs) same.0
+      after = g.after ∙ ap (λ f. with_pending s (with_tree (with_file s file (record f { states = g.states })) f.tree g.grown) g.proofs) same.0
           ∙ ap (λ states. with_pending s (with_tree (with_file s file (record h.state { states = states })) h.state.tree g.grown) g.proofs) result.2
           ∙ ap (λ k. with_pending s (with_tree (with_file s file (record h.state { states = h.states })) h.state.tree k) g.proofs) result.1
           ∙ ap (λ ps. with_pending s (with_tree (with_file s file (record h.state { states = h.states })) h.state.tree h.grown) ps) proofs ∙ sym h.after
@@ -196,9 +196,9 @@ module _ (dig : Digest) where
       → t.next ≡ n → u.next ≡ n → flat_map (λ c. c) xs ++ more ≡ flat_map (λ c. c) ys ++ rest → (more ≡ rest) × (t ≡ u) × (a ≡ b)
   groups_one s file from [] [] sized x y p q e = (e, x.0 ∙ sym y.0, x.1 ∙ sym y.1)
   groups_one s file from [] (d ∷ ys) sized x y p q e =
-      let g = y.3 in absurd (omega (arith, sized g.state g.tree g.is_file, ap (λ (z : Adopted). z.next) x.0))
+      let g = y.3 in absurd (omega (arith, sized g.state g.tree g.is_file, ap (λ z. z.next) x.0))
   groups_one s file from (c ∷ xs) [] sized x y p q e =
-      let g = x.3 in absurd (omega (arith, sized g.state g.tree g.is_file, ap (λ (z : Adopted). z.next) y.0))
+      let g = x.3 in absurd (omega (arith, sized g.state g.tree g.is_file, ap (λ z. z.next) y.0))
   groups_one s file from {n} (c ∷ xs) (d ∷ ys) {more} {rest} {b} sized x y p q e =
       let first = group_one x.3 y.3
       (sym (append_assoc c (flat_map (λ c. c) xs) more) ∙ e ∙ append_assoc d (flat_map (λ c. c) ys) rest) in
@@ -213,7 +213,7 @@ module _ (dig : Digest) where
       let state : x.state ≡ y.state = cc in
       let blocks : HasBlocks s file (length x.state.states) = λ f k is. (
       let own : x.state ≡ f = cc in
-      sized f k is (λ gone. x.some (cc)) ∙ ap (λ (g : FileState). length g.states) (sym own)
+      sized f k is (λ gone. x.some (cc)) ∙ ap (λ g. length g.states) (sym own)
       ) in
       let groups = groups_one s file 0 _ _ blocks x.adopts y.adopts x.all (cc) (sym x.made ∙ y.made) in
       let settles : SettlesIn dig (is_other file) x.state.tree 0 (length x.state.states) x.mid x.settling y.notes y.settled

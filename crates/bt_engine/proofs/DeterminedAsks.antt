@@ -32,7 +32,7 @@ pub asks_to : {m f g h k : _} → f ≡ h → g ≡ k → SameAsks m f g → Sam
 asks_to {m} {g} {h} e i same = rw (← i) (rw (← e) same)
 
 requests_append : (xs ys : List Sent) → requests_in (xs ++ ys) ≡ requests_in xs ++ requests_in ys
-requests_append xs ys = filter-append (λ (x : Sent). is_block_request x.frame) xs ys
+requests_append xs ys = filter-append (λ x. is_block_request x.frame) xs ys
 
 nil_of_append : {X : Type 0} (xs : List X) {ys : List X} → xs ++ ys ≡ [] → (xs ≡ []) × (ys ≡ [])
 nil_of_append [] e = (refl, e)
@@ -52,13 +52,12 @@ asks_behind {s} {m} xs e (by_one one) = by_one (lacks_there s m e one)
 pub range_one : {torrent : Metainfo} {a c : Ask} {b : BlockId} → IsWholeBlock torrent a.piece a.begin a.length b
     → IsWholeBlock torrent c.piece c.begin c.length b → a ≡ c
 range_one {torrent} {a} {c} {b} x y =
-    let file : x.place.file ≡ y.place.file = sym (x.place.found x.place.file) ∙ ap (λ i. get_or torrent.files i x.place.file) (cc) ∙ y.place.found x.place.file in
+    let file = sym (x.place.found x.place.file) ∙ ap (λ i. get_or torrent.files i x.place.file) (cc) ∙ y.place.found x.place.file in
     let start : (a.piece - x.place.file.first_piece) * torrent.piece_length + a.begin ≡ (c.piece - y.place.file.first_piece) * torrent.piece_length + c.begin = cc in
-    let turn : a.piece - x.place.file.first_piece ≡ c.piece - y.place.file.first_piece
-    = sym (div-mul-add (a.piece - x.place.file.first_piece) torrent.piece_length a.begin (omega arith)) ∙ ap (λ n. n / torrent.piece_length) start
+    let turn = sym (div-mul-add (a.piece - x.place.file.first_piece) torrent.piece_length a.begin (omega arith)) ∙ ap (λ n. n / torrent.piece_length) start
     ∙ div-mul-add (c.piece - y.place.file.first_piece) torrent.piece_length c.begin (omega arith) in
-    let piece : a.piece ≡ c.piece = omega (arith, ap (λ (f : File). f.first_piece) file) in
-    let begin : a.begin ≡ c.begin = add_left_cancel ((c.piece - y.place.file.first_piece) * torrent.piece_length) (cc) in
+    let piece : a.piece ≡ c.piece = omega (arith, ap (λ f. f.first_piece) file) in
+    let begin = add_left_cancel ((c.piece - y.place.file.first_piece) * torrent.piece_length) (cc) in
     let count : a.length ≡ c.length = cc in
     ap (λ n. record a { piece = n }) piece ∙ ap (λ n. record a { piece = c.piece; begin = n }) begin ∙ ap (λ n. record c { length = n }) count
 
@@ -68,7 +67,7 @@ frames_one s p (b ∷ blocks) x y =
     x.4 ∙ ap (λ z. z ∷ x.1) (x.2.is ∙ ap (λ a. sent_to p (Request a)) (range_one x.2.whole y.2.whole) ∙ sym y.2.is) ∙ ap (λ zs. y.0 ∷ zs) (frames_one s p blocks x.3 y.3) ∙ sym y.4
 
 ask_sent : (p : PeerState) {a c : _} → sent_to p (Request a) ≡ sent_to p (Request c) → a ≡ c
-ask_sent p e = let frames = ap (λ (x : Sent). x.frame) e in cc
+ask_sent p e = let frames = ap (λ x. x.frame) e in cc
 
 blocks_one : (s : EngineState) (p : PeerState) (bs cs : List BlockId) (f : List Sent) → IsLaidOut s.torrent.piece_length s.torrent.files
     → RequestsEach s p bs f → RequestsEach s p cs f → bs ≡ cs
@@ -78,7 +77,7 @@ blocks_one s p (b ∷ bs) [] f lay x y = let no = sym y ∙ x.4 in absurd cc
 blocks_one s p (b ∷ bs) (c ∷ cs) f lay x y =
     let same = sym x.4 ∙ y.4 in
     let ask : x.2.ask ≡ y.2.ask = ask_sent p (cc) in
-    let block : b ≡ c = same_block _ lay _ _ _ x.2.whole (rw ask y.2.whole) in
+    let block = same_block _ lay _ _ _ x.2.whole (rw ask y.2.whole) in
     ap (λ z. z ∷ bs) block ∙ ap (λ zs. c ∷ zs) (blocks_one s p bs cs x.1 lay x.3 (rw (tails same) y.3))
 
 no_block : (s : EngineState) (p : PeerState) (bs : List BlockId) → RequestsEach s p bs [] → bs ≡ []
@@ -125,7 +124,7 @@ all_to : (s : EngineState) (p : PeerState) (blocks : List BlockId) (sent : List 
     → z.peer ≡ p.key
 all_to s p [] sent {z} r c = absurd (contains_none (subst (λ l. Contains l z) r c))
 all_to s p (b ∷ blocks) sent {z} r c = elim (contains_cases r.1 (subst (λ l. Contains l z) r.4 c)) [
-  | inl one ↦ ap (λ (x : Sent). x.peer) (sym one ∙ r.2.is)
+  | inl one ↦ ap (λ x. x.peer) (sym one ∙ r.2.is)
   | inr more ↦ all_to s p blocks r.1 r.3 more
 ]
 
@@ -140,8 +139,8 @@ KeysApart s = (i j : ℕ) (p q : PeerState) → slice_get s.peers i ≡ Some p �
 module _ (dig : Digest) where
   requests_of : {s i f a : _} → (x : FollowsUp dig s i f a) → requests_in f ≡ x.block_frames
   requests_of {s} x =
-      let interest : requests_in x.interest_frames ≡ [] = ap requests_in x.interest.told ∙ interest_no_request x.peer x.peer.am_interested x.interested.am_interested in
-      let hash : requests_in x.hash_frames ≡ [] = hash_no_request x.hashes in
+      let interest = ap requests_in x.interest.told ∙ interest_no_request x.peer x.peer.am_interested x.interested.am_interested in
+      let hash = hash_no_request x.hashes in
       ap requests_in x.all ∙ requests_append (x.interest_frames ++ x.hash_frames) x.block_frames
       ∙ ap (λ zs. zs ++ requests_in x.block_frames) (requests_append x.interest_frames x.hash_frames ∙ ap (λ zs. zs ++ requests_in x.hash_frames) interest ∙ hash) ∙ only_requests s x.planned x.blocks x.requests
 
@@ -174,11 +173,11 @@ module _ (dig : Digest) where
 
     blocks : SameAsks s f g → (x.blocks ≡ y.blocks) × (x.block_frames ≡ y.block_frames)
     blocks (by_requests same) =
-        let frames : x.block_frames ≡ y.block_frames = sym (requests_of x) ∙ same ∙ requests_of y in
+        let frames = sym (requests_of x) ∙ same ∙ requests_of y in
         (blocks_one s x.planned x.blocks y.blocks x.block_frames lay x.requests (rw frames their_requests), frames)
     blocks (by_none none) =
-        let own : x.blocks ≡ [] = no_block s x.planned x.blocks (rw (← (sym (requests_of x) ∙ none)) x.requests) in
-        let e : x.blocks ≡ y.blocks = own ∙ sym (asks_none y.blocks (rw (← own) x.asks) theirs) in
+        let own = no_block s x.planned x.blocks (rw (← (sym (requests_of x) ∙ none)) x.requests) in
+        let e = own ∙ sym (asks_none y.blocks (rw (← own) x.asks) theirs) in
         (e, by_blocks e)
     blocks (by_one one) = let e = asks_one x.blocks y.blocks one x.asks theirs in (e, by_blocks e)
 
@@ -186,7 +185,7 @@ module _ (dig : Digest) where
     follows_same same =
         let e = blocks same in (
           x.all ∙ ap (λ zs. zs ++ x.hash_frames ++ x.block_frames) interest.0 ∙ ap (λ zs. y.interest_frames ++ zs ++ x.block_frames) hash.0 ∙ ap (λ zs. y.interest_frames ++ y.hash_frames ++ zs) e.1 ∙ sym y.all,
-          x.after ∙ ap (λ (p : PeerState). record s { peers = slice_set s.peers i (record p { asked = p.asked ++ x.blocks }) }) planned
+          x.after ∙ ap (λ p. record s { peers = slice_set s.peers i (record p { asked = p.asked ++ x.blocks }) }) planned
               ∙ ap (λ bs. record s { peers = slice_set s.peers i (record y.planned { asked = y.planned.asked ++ bs }) }) e.0 ∙ sym y.after,
         )
 
@@ -196,7 +195,7 @@ module _ (dig : Digest) where
   before : {s new i : _} (j : ℕ) {sent q : _} → Follows s i sent new → slice_get new.peers j ≡ Some q
       → (p : PeerState) × (slice_get s.peers j ≡ Some p) × (q.key ≡ p.key)
   before {s} {i} j {q} f at = elim (set_cases _ i j (subst (λ l. slice_get l j ≡ Some q) f.peers at)) [
-    | inl one ↦ (f.peer, ap (slice_get s.peers) one.0 ∙ f.was, ap (λ (x : PeerState). x.key) one.1 ∙ f.same_key)
+    | inl one ↦ (f.peer, ap (slice_get s.peers) one.0 ∙ f.was, ap (λ x. x.key) one.1 ∙ f.same_key)
     | inr old ↦ (q, old, refl)
   ]
 
@@ -209,7 +208,7 @@ module _ (dig : Digest) where
   own_key : {s i sent new z : _} → (x : FollowsUp dig s i sent new) → Contains (requests_in sent) z
       → z.peer ≡ x.peer.key
   own_key {s} {z} x c =
-      all_to s _ _ _ x.requests (subst (λ l. Contains l z) (requests_of x) c) ∙ (same_plan x.hashes).same_key ∙ ap (λ (p : PeerState). p.key) x.interest.others
+      all_to s _ _ _ x.requests (subst (λ l. Contains l z) (requests_of x) c) ∙ (same_plan x.hashes).same_key ∙ ap (λ p. p.key) x.interest.others
 
   each_key : (is : List ℕ) (s : EngineState) (sent : List Sent) (new : EngineState) {z : _} → FollowsEach dig is s sent new → Contains (requests_in sent) z
       → (j : ℕ) × Contains is j × (p : PeerState) × (slice_get s.peers j ≡ Some p) × (z.peer ≡ p.key)
@@ -266,7 +265,7 @@ module _ (dig : Digest) where
 
       split : SameAsks a f g → SameAsks s x.1 y.1 × SameAsks a x.2 y.2
       split (by_requests e) =
-          let both = split_by (λ z. z.peer ≡ x.3.peer.key) _ _ (λ z c. own_key x.3 c) (λ z c. own_key y.3 c ∙ ap (λ (p : PeerState). p.key) peer_is)
+          let both = split_by (λ z. z.peer ≡ x.3.peer.key) _ _ (λ z c. own_key x.3 c) (λ z c. own_key y.3 c ∙ ap (λ p. p.key) peer_is)
           (λ z c. others x.2 a own x.4 c) (λ z c. others y.2 b (follows_of y.3) y.4 c) (sym parts_of ∙ e ∙ ap requests_in y.5 ∙ requests_append y.1 y.2) in
           (by_requests both.0, by_requests both.1)
       split (by_none e) = let none = nil_of_append _ (sym parts_of ∙ e) in (by_none none.0, by_none none.1)

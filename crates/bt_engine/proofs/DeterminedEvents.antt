@@ -35,7 +35,7 @@ read_one n (failed i) (failed j) e =
 read_one n _ _ e = absurd cc
 
 first_call : {file : ℕ} {c d : Call} {xs ys : DeviceCalls} → (file, c) ∷ xs ≡ (file, d) ∷ ys → (c ≡ d) × (xs ≡ ys)
-first_call e = (ap (λ (p : ℕ × Call). p.1) (heads e), tails e)
+first_call e = (ap (λ p. p.1) (heads e), tails e)
 
 -- reads are told from their calls
 pub reads_one : (file n : ℕ) (xs ys : List BlockRead) → reads_at file n xs ≡ reads_at file n ys → xs ≡ ys
@@ -86,8 +86,7 @@ settles_one {dig} {is_meant} {tree} {from} {count} {old} {a} {b} x y = (
     size : (file : ℕ) → Contains (file_numbers old) file → length (reads_at file x.facts.file_length (x.reads file)) ≡ length (reads_at file y.facts.file_length (y.reads file))
     size file c =
         let f = get_some old.files file (inside c) in
-        let blocks : map block_of (x.reads file) ≡ map block_of (y.reads file)
-        = x.due file f.0 f.1 ∙ ap (λ k. if is_meant file then due_blocks dig k tree from count f.0 else []) facts ∙ sym (y.due file f.0 f.1) in
+        let blocks = x.due file f.0 f.1 ∙ ap (λ k. if is_meant file then due_blocks dig k tree from count f.0 else []) facts ∙ sym (y.due file f.0 f.1) in
         length-map (x.reads file) _ ∙ sym (length-map (x.reads file) block_of) ∙ ap length blocks ∙ length-map (y.reads file) block_of ∙ sym (length-map (y.reads file) _)
 
     reads_same : (file : ℕ) → file < length old.files → x.reads file ≡ y.reads file
@@ -113,7 +112,7 @@ same_cut (i ∷ blocks) f g e =
 last_given : (f g : ℕ → List ℕ) (before : List ℕ) {block : ℕ} (after : List ℕ) {read : _} → map (λ i. given i (f i)) (before ++ block ∷ after) ≡ map (λ i. given i (g i)) before ++ read ∷ [] → given block (f block) ≡ read
 last_given f g [] after e = heads e
 last_given f g (i ∷ before) {block} after {read} e =
-    let rest : map (λ i. given i (f i)) (before ++ block ∷ after) ≡ map (λ i. given i (g i)) before ++ read ∷ [] = tails e in
+    let rest = tails e in
     last_given f g before after rest
 
 pub file_one : {s file f g k l : _} → IsFile s file f k → IsFile s file g l → (f ≡ g) × (k ≡ l)
@@ -125,7 +124,7 @@ module _ (dig : Digest) (s : EngineState) where
   serves_one : {i p ask span calls e f m n : _} → Serves dig s i p ask span calls e m → Serves dig s i p ask span calls f n → (e ≡ f) × (m ≡ n)
   serves_one {p} {ask} {span} x y =
       let tree : x.tree ≡ y.tree = (file_one x.is_file y.is_file).1 in
-      let reads : x.reads ≡ y.reads = reads_one span.file x.tree.file_length x.reads y.reads (cc) in
+      let reads = reads_one span.file x.tree.file_length x.reads y.reads (cc) in
       let bytes = same_cut (spanned_blocks span) x.bytes y.bytes (cc) in
       let cut : cut_from span x.bytes ≡ cut_from span y.bytes = cc in
       (x.sent ∙ ap (λ bs. sending p (Piece ask.piece ask.begin bs)) cut ∙ sym y.sent, x.after ∙ sym y.after)
@@ -165,13 +164,11 @@ module _ (dig : Digest) (s : EngineState) where
   stops_one : {span calls e f m n : _} → StopsAtFault dig s span calls e m → StopsAtFault dig s span calls f n → (e ≡ f) × (m ≡ n)
   stops_one {span} {f} {n} x y =
       let same = file_one x.is_file y.is_file in
-      let all : x.reads ++ x.read ∷ [] ≡ y.reads ++ y.read ∷ []
-      = reads_one span.file x.tree.file_length (x.reads ++ x.read ∷ []) (y.reads ++ y.read ∷ []) (cc) in
+      let all = reads_one span.file x.tree.file_length (x.reads ++ x.read ∷ []) (y.reads ++ y.read ∷ []) (cc) in
       let reads = last_one all in
-      let size : length x.before ≡ length y.before
-      = sym (length-map x.before (λ i. given i (x.bytes i))) ∙ ap length (cc) ∙ length-map y.before (λ i. given i (y.bytes i)) in
+      let size = sym (length-map x.before (λ i. given i (x.bytes i))) ∙ ap length (cc) ∙ length-map y.before (λ i. given i (y.bytes i)) in
       let parts = split_one x.before y.before size (sym x.blocks ∙ y.blocks) in
-      let block : x.block ≡ y.block = heads parts.1 in
+      let block = heads parts.1 in
       let finds : FindsFault dig x.tree s span.file x.block x.file x.read f n
       = rw same.1 (rw same.0 (rw reads.1 (rw block y.finds))) in
       finds_one x.finds finds
@@ -222,9 +219,9 @@ module _ (dig : Digest) (s : EngineState) where
       let same = file_one x.is_file y.is_file in
       let due : PutIsDue dig x.tree b.block bytes x.file.states y.result
       = rw same.1 (rw same.0 y.due) in
-      let result : x.result ≡ y.result = put_one _ _ bytes _ _ e f _ _ x.due due x.has_effect y.has_effect x.made y.made in (
+      let result = put_one _ _ bytes _ _ e f _ _ x.due due x.has_effect y.has_effect x.made y.made in (
         put_effect b _ x.has_effect (rw result y.has_effect),
-        x.after ∙ ap (λ (g : FileState). with_file s b.file (record g { states = states_after_put b.block x.result g.states })) same.0
+        x.after ∙ ap (λ g. with_file s b.file (record g { states = states_after_put b.block x.result g.states })) same.0
             ∙ ap (λ r. with_file s b.file (record y.file { states = states_after_put b.block r y.file.states })) result ∙ sym y.after,
       )
 
@@ -261,7 +258,7 @@ module _ (dig : Digest) (s : EngineState) where
 
     arrives_one : {i p piece begin bytes calls e f m n : _} → Arrives dig s i p piece begin bytes calls e m → Arrives dig s i p piece begin bytes calls f n → (e ≡ f) × (m ≡ n)
     arrives_one {i} {p} {piece} {begin} {bytes} {calls} {f} x y =
-        let block : x.block ≡ y.block = same_block _ lay piece begin _ x.whole y.whole in
+        let block = same_block _ lay piece begin _ x.whole y.whole in
         let puts = puts_one x.puts (rw block y.puts) in (
           puts.0,
           x.after ∙ ap (λ st. with_peer st i (with_payload (length bytes) (record p { asked = without_block x.block p.asked }))) puts.1
@@ -301,7 +298,7 @@ module _ (dig : Digest) (s : EngineState) where
         let settles : SettlesIn dig (λ file. true) x.tree key.index (settled_count key) (with_tree s x.tree x.new) calls y.notes y.settled
         = rw new (rw tree.0 y.settles) in
         let settled = settles_one x.settles settles in
-        let hash : x.hash ≡ y.hash = resolves_one x.resolves y.resolves in (
+        let hash = resolves_one x.resolves y.resolves in (
           x.has_effect ∙ ap (λ ns. record no_effect { notes = ns; proofs = new_proofs key digests x.old x.new }) settled.0
               ∙ ap (λ k. record no_effect { notes = y.notes; proofs = new_proofs key digests k x.new }) tree.1
               ∙ ap (λ k. record no_effect { notes = y.notes; proofs = new_proofs key digests y.old k }) new ∙ sym y.has_effect,

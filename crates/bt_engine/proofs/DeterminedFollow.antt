@@ -13,11 +13,11 @@ AlikePeers p q = asked_nothing p ≡ asked_nothing q
 
 has_in : (s t : EngineState) (p q : PeerState) (b : BlockId) → Alike s t → AlikePeers p q → Has s p b → Has t q b
 has_in s t p q b same peers has =
-    ap (λ (x : PeerState). option_and_then (λ piece. slice_get x.has piece) (piece_of t.torrent b)) (sym peers)
-    ∙ ap (λ (x : EngineState). option_and_then (λ piece. slice_get p.has piece) (piece_of x.torrent b)) (sym same) ∙ has
+    ap (λ x. option_and_then (λ piece. slice_get x.has piece) (piece_of t.torrent b)) (sym peers)
+    ∙ ap (λ x. option_and_then (λ piece. slice_get p.has piece) (piece_of x.torrent b)) (sym same) ∙ has
 
 state_in : (s t : EngineState) (b : BlockId) → Alike s t → state_at t b ≡ state_at s b
-state_in s t b same = ap (λ (x : EngineState). state_at x b) (sym same)
+state_in s t b same = ap (λ x. state_at x b) (sym same)
 
 -- ---- interest
 
@@ -51,7 +51,7 @@ module _ (dig : Digest) where
     has = has_in s t p q b same peers x.has;
     not_marked = elim x.not_marked [ inl e ↦ inl (state_in s t b same ∙ e) | inr e ↦ inr (state_in s t b same ∙ e) ];
     tree = x.tree;
-    hung = ap (λ (z : EngineState). tree_of z b.file) (sym same) ∙ x.hung;
+    hung = ap (λ z. tree_of z b.file) (sym same) ∙ x.hung;
     unknown = x.unknown;
   }
 
@@ -71,7 +71,7 @@ module _ (dig : Digest) where
 
   plan_one : {k leaf a b : _} → IsPlan k leaf a → IsPlan k leaf b → a ≡ b
   plan_one {k} {leaf} x y =
-      let anchor : x.anchor ≡ y.anchor = anchor_one x.nearest y.nearest in
+      let anchor = anchor_one x.nearest y.nearest in
       x.key_is ∙ ap (planned_key k leaf) anchor ∙ sym y.key_is
 
   pub hash_one : {s t p q f g a b : _} → Alike s t → AlikePeers p q → RequestsHashes dig s p f a → RequestsHashes dig t q g b → (f ≡ g) × AlikePeers a b
@@ -106,7 +106,7 @@ map_get f (y ∷ xs) zero e = cc
 map_get f (y ∷ xs) (suc i) e = map_get f xs i e
 
 pub other_append : (xs ys : List Sent) → other_frames (xs ++ ys) ≡ other_frames xs ++ other_frames ys
-other_append xs ys = filter-append (λ (x : Sent). not (is_block_request x.frame)) xs ys
+other_append xs ys = filter-append (λ x. not (is_block_request x.frame)) xs ys
 
 -- ---- all three
 

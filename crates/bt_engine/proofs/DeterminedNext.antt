@@ -34,7 +34,7 @@ module _ (dig : Digest) where
     close_one {i} x y =
         let same = taken_one x.takes y.takes in
         let why : Some x.why ≡ Some y.why = cc in (
-          x.is ∙ ap (λ w. record { send = []; close = w; notes = x.effect.notes }) why ∙ ap (λ (e : Effect). record { send = []; close = Some y.why; notes = e.notes }) same.0 ∙ sym y.is,
+          x.is ∙ ap (λ w. record { send = []; close = w; notes = x.effect.notes }) why ∙ ap (λ e. record { send = []; close = Some y.why; notes = e.notes }) same.0 ∙ sym y.is,
           x.after ∙ ap (without_peer i) same.1 ∙ sym y.after,
         )
 

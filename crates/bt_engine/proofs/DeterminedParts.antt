@@ -113,8 +113,8 @@ module _ (dig : Digest) where
       let below : a.below ≡ b.below = omega arith in
       let ol : a.our_left ≡ b.our_left = cc in
       let or : a.our_right ≡ b.our_right = cc in
-      let tl : a.their_left ≡ b.their_left = claims_one dig c b.below (2 * i) a.their_left b.their_left (rw (← below) a.claims_left) b.claims_left in
-      let tr : a.their_right ≡ b.their_right = claims_one dig c b.below (2 * i + 1) a.their_right b.their_right (rw (← below) a.claims_right) b.claims_right in (
+      let tl = claims_one dig c b.below (2 * i) a.their_left b.their_left (rw (← below) a.claims_left) b.claims_left in
+      let tr = claims_one dig c b.below (2 * i + 1) a.their_right b.their_right (rw (← below) a.claims_right) b.claims_right in (
         a.is_ours ∙ ap (λ x. x ++ a.our_right) ol ∙ ap (λ x. b.our_left ++ x) or ∙ sym b.is_ours,
         a.is_theirs ∙ ap (λ x. x ++ a.their_right) tl ∙ ap (λ x. b.their_left ++ x) tr ∙ sym b.is_theirs,
       )

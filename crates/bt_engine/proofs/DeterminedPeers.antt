@@ -24,14 +24,14 @@ byte_sum lt = omega arith
 
 byte_one : {x y : ℕ} → x < 256 → y < 256 → bits_of x ≡ bits_of y → x ≡ y
 byte_one {x} {y} p q e =
-    let b0 : x / 128 % 2 ≡ y / 128 % 2 = bit_one _ _ (omega arith) (omega arith) (ap (λ bs. get_or bs 0 false) e) in
-    let b1 : x / 64 % 2 ≡ y / 64 % 2 = bit_one _ _ (omega arith) (omega arith) (ap (λ bs. get_or bs 1 false) e) in
-    let b2 : x / 32 % 2 ≡ y / 32 % 2 = bit_one _ _ (omega arith) (omega arith) (ap (λ bs. get_or bs 2 false) e) in
-    let b3 : x / 16 % 2 ≡ y / 16 % 2 = bit_one _ _ (omega arith) (omega arith) (ap (λ bs. get_or bs 3 false) e) in
-    let b4 : x / 8 % 2 ≡ y / 8 % 2 = bit_one _ _ (omega arith) (omega arith) (ap (λ bs. get_or bs 4 false) e) in
-    let b5 : x / 4 % 2 ≡ y / 4 % 2 = bit_one _ _ (omega arith) (omega arith) (ap (λ bs. get_or bs 5 false) e) in
-    let b6 : x / 2 % 2 ≡ y / 2 % 2 = bit_one _ _ (omega arith) (omega arith) (ap (λ bs. get_or bs 6 false) e) in
-    let b7 : x / 1 % 2 ≡ y / 1 % 2 = bit_one _ _ (omega arith) (omega arith) (ap (λ bs. get_or bs 7 false) e) in
+    let b0 = bit_one _ _ (omega arith) (omega arith) (ap (λ bs. get_or bs 0 false) e) in
+    let b1 = bit_one _ _ (omega arith) (omega arith) (ap (λ bs. get_or bs 1 false) e) in
+    let b2 = bit_one _ _ (omega arith) (omega arith) (ap (λ bs. get_or bs 2 false) e) in
+    let b3 = bit_one _ _ (omega arith) (omega arith) (ap (λ bs. get_or bs 3 false) e) in
+    let b4 = bit_one _ _ (omega arith) (omega arith) (ap (λ bs. get_or bs 4 false) e) in
+    let b5 = bit_one _ _ (omega arith) (omega arith) (ap (λ bs. get_or bs 5 false) e) in
+    let b6 = bit_one _ _ (omega arith) (omega arith) (ap (λ bs. get_or bs 6 false) e) in
+    let b7 = bit_one _ _ (omega arith) (omega arith) (ap (λ bs. get_or bs 7 false) e) in
     omega (arith, byte_sum p, byte_sum q)
 
 pub bytes_one : (xs ys : List ℕ) → All (λ byte. byte < 256) xs → All (λ byte. byte < 256) ys → length xs ≡ length ys → bits_in xs ≡ bits_in ys → xs ≡ ys
@@ -54,8 +54,8 @@ pub connect_one : {s m n a b : _} → StepConnect s a m → StepConnect s b n �
 connect_one (no_memory x y z w) q r t = absurd (r z)
 connect_one q (no_memory x y z w) r t = absurd (t z)
 connect_one {s} (joins key bytes lt below is bits e f) (joins other more lt2 below2 is2 bits2 e2 f2) r t =
-    let keys : key ≡ other = same_peer key other (cc) in
-    let fields : bytes ≡ more = bitfield_one bits bits2 in
+    let keys = same_peer key other (cc) in
+    let fields = bitfield_one bits bits2 in
     are_equal (ap of_connect (cc))
     (cc)
 connect_one (joins key bytes lt below is bits e f) (full x y z) r t = absurd (omega arith)
@@ -103,8 +103,7 @@ rechoke_one lay o (not_rechoked x y) q r t = absurd (r x)
 rechoke_one lay o q (not_rechoked x y) r t = absurd (t x)
 rechoke_one {dig} {s} {m} {n} {a} {b} lay o (rechokes out x e) (rechokes other y f) r t =
     let each = each_one dig _ (rechoked s) (rechoked s) x.sent y.sent m n refl x.follows y.follows in
-    let send : other_frames (chokes_sent s ++ x.sent) ≡ other_frames (chokes_sent s ++ y.sent)
-    = other_append (chokes_sent s) x.sent ∙ ap (λ zs. other_frames (chokes_sent s) ++ zs) each.0 ∙ sym (other_append (chokes_sent s) y.sent) in
+    let send = other_append (chokes_sent s) x.sent ∙ ap (λ zs. other_frames (chokes_sent s) ++ zs) each.0 ∙ sym (other_append (chokes_sent s) y.sent) in
     let own : of_rechoke a ≡ sends s x.sent = cc in
     let their : of_rechoke b ≡ sends s y.sent = cc in
     record {

@@ -103,7 +103,7 @@ module _ (dig : Digest) (b : ThreeBlocks) (infohash : List ℕ) where
 
   -- no tree has a root of zeros
   zeros_unknown : three_root dig b ≢ zero_leaf → (tree : ℕ) (k : Facts) → ¬ IsTreeOf (before_leaves peer) zero_leaf tree k
-  zeros_unknown differs tree k is = differs (ap (λ (f : Facts). f.root) (one_there tree is.here).1 ∙ is.same_root)
+  zeros_unknown differs tree k is = differs (ap (λ f. f.root) (one_there tree is.here).1 ∙ is.same_root)
 
   -- no run of two leaves is so far to the right
   not_answered : (digests : List (List ℕ)) → ¬ IsAnswered dig (before_leaves peer) (far_key dig b) digests

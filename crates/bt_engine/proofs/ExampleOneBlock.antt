@@ -38,7 +38,7 @@ module _ (dig : Digest) (infohash : List ℕ) where
       let one = one_block _ _ y.1 in
       let at_file : tree_of (engine x p) b.file ≡ Some (root_facts 3 (dig abc)) = cc in
       let same : needs.tree ≡ root_facts 3 (dig abc) = cc in
-      let known : value_at dig needs.tree 0 b.block ≡ Some (dig abc) = ap (λ k. value_at dig k 0 b.block) same ∙ ap (value_at dig (root_facts 3 (dig abc)) 0) one.1 ∙ value_here dig in
+      let known = ap (λ k. value_at dig k 0 b.block) same ∙ ap (value_at dig (root_facts 3 (dig abc)) 0) one.1 ∙ value_here dig in
       absurd cc
 
   whole_block : IsWholeBlock (abc_torrent dig infohash) 0 0 3 the_block
@@ -107,7 +107,7 @@ module _ (dig : Digest) (infohash : List ℕ) where
 
   unasked : (p : PeerState) (b : BlockId) → p.asked ≡ [] → ¬ IsAsked (engine Missing p) b
   unasked p b none asked = elim (contains_cases [] asked.1) [
-    | inl same ↦ contains_none (subst (λ l. Contains l b) (ap (λ (q : PeerState). q.asked) (sym same) ∙ none) asked.2)
+    | inl same ↦ contains_none (subst (λ l. Contains l b) (ap (λ q. q.asked) (sym same) ∙ none) asked.2)
     | inr more ↦ contains_none more
   ]
 
@@ -183,7 +183,7 @@ module _ (dig : Digest) (infohash : List ℕ) where
 
   fed_to : (x : BlockState) (p : PeerState) {bytes : _} → p.key ≡ first_key → p.stream ≡ stream [] p.stream.greeted p.stream.failed
       → StepFeed (engine x p) first_key bytes (Ok tt) (engine x (record p { stream = stream bytes p.stream.greeted p.stream.failed }))
-  fed_to x p {bytes} key empty = feeds 0 p (record { here = refl; same_key = key }) refl (ap (λ (t : Stream). engine x (record p { stream = fed t bytes })) (sym empty))
+  fed_to x p {bytes} key empty = feeds 0 p (record { here = refl; same_key = key }) refl (ap (λ t. engine x (record p { stream = fed t bytes })) (sym empty))
 
   connects : StepConnect (abc_engine dig infohash Missing [] 1) (Ok (first_key, greeting (abc_engine dig infohash Missing [] 1) first_key (0 ∷ []))) (engine Missing (peer_with (stream [] false false) false true false Idle [] 0))
   connects = joins first_key (0 ∷ []) (omega arith) (omega arith) refl (record { are_bytes = search rules; size = refl; bits = refl }) refl refl
@@ -200,7 +200,7 @@ module _ (dig : Digest) (infohash : List ℕ) where
               let same : abc_file dig ≡ file = (one_there i listed).1 in
               record {
                 missing = cc;
-                hung = λ some. (root_facts 3 (dig abc), ap (λ (q : FileState). slice_get (root_facts 3 (dig abc) ∷ []) q.tree) (sym one.1), ap (λ (g : File). g.root) same, ap (λ (g : File). g.length) same);
+                hung = λ some. (root_facts 3 (dig abc), ap (λ q. slice_get (root_facts 3 (dig abc) ∷ []) q.tree) (sym one.1), ap (λ g. g.root) same, ap (λ g. g.length) same);
               };
         };
         is = refl;

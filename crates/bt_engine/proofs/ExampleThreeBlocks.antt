@@ -47,7 +47,7 @@ module _ (dig : Digest) (b : ThreeBlocks) (infohash : List ℕ) where
       (Ok (Some (output_of [] []))) (engine dig b infohash (proved dig b) Missing Missing Missing (peer_with all_taken true true true Idle [] 0))
   next_leaves sizes =
       let p = peer_with all_taken true true true (Asked (leaves_key dig b)) [] 0 in
-      went (record no_effect { proofs = new_proofs (leaves_key dig b) (four_leaves dig b) (at_first dig b) (proved dig b) }) (engine dig b infohash (proved dig b) Missing Missing Missing (peer_with all_taken true true true Idle [] 0)) refl refl refl (taken_message (key_fits dig b infohash sizes) (leaves_fit dig b infohash sizes)) (learns (record { tree = 0; old = at_first dig b; new = proved dig b; claim = leaves_claim dig b; notes = []; settled = engine dig b infohash (proved dig b) Missing Missing Missing p; hash = Idle; here = record { here = refl; same_root = refl }; claims = claims dig sizes b; accepts = accepts dig b; settles = record { facts = proved dig b; reads = λ _. []; here = refl; due = λ file f at. ap (λ (g : FileState). due_blocks dig (proved dig b) 0 0 4 g) (one_there file at).1; made = refl; noted = refl; files = unchanged; others = refl; }; resolves = resolved refl refl; has_effect = refl; after = refl; })) after_leaves refl refl
+      went (record no_effect { proofs = new_proofs (leaves_key dig b) (four_leaves dig b) (at_first dig b) (proved dig b) }) (engine dig b infohash (proved dig b) Missing Missing Missing (peer_with all_taken true true true Idle [] 0)) refl refl refl (taken_message (key_fits dig b infohash sizes) (leaves_fit dig b infohash sizes)) (learns (record { tree = 0; old = at_first dig b; new = proved dig b; claim = leaves_claim dig b; notes = []; settled = engine dig b infohash (proved dig b) Missing Missing Missing p; hash = Idle; here = record { here = refl; same_root = refl }; claims = claims dig sizes b; accepts = accepts dig b; settles = record { facts = proved dig b; reads = λ _. []; here = refl; due = λ file f at. ap (λ g. due_blocks dig (proved dig b) 0 0 4 g) (one_there file at).1; made = refl; noted = refl; files = unchanged; others = refl; }; resolves = resolved refl refl; has_effect = refl; after = refl; })) after_leaves refl refl
     where
       -- no block waits, and the files stay as they are
       unchanged : (file : ℕ) → slice_get ((record { tree = 0; states = Missing ∷ Missing ∷ Missing ∷ [] }) ∷ []) file ≡ option_map (judged_file dig (proved dig b) []) (slice_get ((record { tree = 0; states = Missing ∷ Missing ∷ Missing ∷ [] }) ∷ []) file)

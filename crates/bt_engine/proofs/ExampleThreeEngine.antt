@@ -92,9 +92,9 @@ module _ (dig : Digest) (b : ThreeBlocks) (infohash : List ℕ) where
 
   -- after the proof each leaf is known
   pub all_known : {x y z state c : _} → IsOne x y z c state → value_at dig (proved dig b) 0 c.block ≡ None → ⊥
-  all_known (first e f) none = let both = sym none ∙ ap (λ (d : BlockId). value_at dig (proved dig b) 0 d.block) e ∙ first_known dig b in absurd cc
-  all_known (second e f) none = let both = sym none ∙ ap (λ (d : BlockId). value_at dig (proved dig b) 0 d.block) e ∙ second_known dig b in absurd cc
-  all_known (third e f) none = let both = sym none ∙ ap (λ (d : BlockId). value_at dig (proved dig b) 0 d.block) e ∙ third_known dig b in absurd cc
+  all_known (first e f) none = let both = sym none ∙ ap (λ d. value_at dig (proved dig b) 0 d.block) e ∙ first_known dig b in absurd cc
+  all_known (second e f) none = let both = sym none ∙ ap (λ d. value_at dig (proved dig b) 0 d.block) e ∙ second_known dig b in absurd cc
+  all_known (third e f) none = let both = sym none ∙ ap (λ d. value_at dig (proved dig b) 0 d.block) e ∙ third_known dig b in absurd cc
 
   pub needs_none : (x y z : BlockState) (p q : PeerState) (c : BlockId) → ¬ NeedsLeaf dig (engine (proved dig b) x y z p) q c
   needs_none x y z p q c needs =
@@ -199,7 +199,7 @@ module _ (dig : Digest) (b : ThreeBlocks) (infohash : List ℕ) where
 
   unasked : (k : Facts) (p : PeerState) (c : BlockId) → p.asked ≡ [] → ¬ IsAsked (engine k Missing Missing Missing p) c
   unasked k p c none asked = elim (contains_cases [] asked.1) [
-    | inl same ↦ contains_none (subst (λ l. Contains l c) (ap (λ (q : PeerState). q.asked) (sym same) ∙ none) asked.2)
+    | inl same ↦ contains_none (subst (λ l. Contains l c) (ap (λ q. q.asked) (sym same) ∙ none) asked.2)
     | inr more ↦ contains_none more
   ]
 
@@ -235,7 +235,7 @@ module _ (dig : Digest) (b : ThreeBlocks) (infohash : List ℕ) where
               ]
             ]
           ];
-          distinct = λ i j d lt below same. absurd (omega (arith, number_at i d (omega (arith, lt, below)), number_at j d below, ap (λ (c : BlockId). c.block) same));
+          distinct = λ i j d lt below same. absurd (omega (arith, number_at i d (omega (arith, lt, below)), number_at j d below, ap (λ c. c.block) same));
           few = omega arith;
           all = λ e f. inr (λ c may. among_three (is_one k p may.missing));
         };
@@ -311,7 +311,7 @@ module _ (dig : Digest) (b : ThreeBlocks) (infohash : List ℕ) where
 
   pub fed_to : (k : Facts) (x y z : BlockState) (p : PeerState) {bytes : _} → p.key ≡ first_key → p.stream ≡ stream [] p.stream.greeted p.stream.failed
       → StepFeed (engine k x y z p) first_key bytes (Ok tt) (engine k x y z (record p { stream = stream bytes p.stream.greeted p.stream.failed }))
-  fed_to k x y z p {bytes} key empty = feeds 0 p (record { here = refl; same_key = key }) refl (ap (λ (t : Stream). engine k x y z (record p { stream = fed t bytes })) (sym empty))
+  fed_to k x y z p {bytes} key empty = feeds 0 p (record { here = refl; same_key = key }) refl (ap (λ t. engine k x y z (record p { stream = fed t bytes })) (sym empty))
 
   abbrev pub start : EngineState
   start = three_engine dig b infohash (at_first dig b) (Missing ∷ Missing ∷ Missing ∷ []) [] 1
@@ -331,7 +331,7 @@ module _ (dig : Digest) (b : ThreeBlocks) (infohash : List ℕ) where
               let same : three_file dig b ≡ file = (one_there i listed).1 in
               record {
                 missing = cc;
-                hung = λ some. (at_first dig b, ap (λ (q : FileState). slice_get (at_first dig b ∷ []) q.tree) (sym one.1), ap (λ (g : File). g.root) same, ap (λ (g : File). g.length) same);
+                hung = λ some. (at_first dig b, ap (λ q. slice_get (at_first dig b ∷ []) q.tree) (sym one.1), ap (λ g. g.root) same, ap (λ g. g.length) same);
               };
         };
         is = refl;

@@ -155,7 +155,7 @@ module _ (dig : Digest) (b : ThreeBlocks) where
   unfolding height_up_to
   only_root {layer} {i} {d} held = elim (digest_at_cases finite.empty 2 0 layer i (three_root dig b) d held) [
     | inl e ↦ e
-    | inr none ↦ let wrong : None ≡ Some d = sym (digest_at_empty layer i) ∙ none in absurd cc
+    | inr none ↦ let wrong = sym (digest_at_empty layer i) ∙ none in absurd cc
   ]
 
   pub root_held : held_at at_first 2 0 ≡ Some (three_root dig b)

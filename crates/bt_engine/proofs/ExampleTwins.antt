@@ -105,13 +105,13 @@ module _ (dig : Digest) (b : ThreeBlocks) (infohash : List ℕ) where
       went (record no_effect { notes = marks; proofs = new_proofs (leaves_key dig b) (four_leaves dig b) (at_first dig b) (proved dig b) }) (settled (twin_peer all_taken Idle)) refl refl refl (taken_message (key_fits dig b infohash sizes) (leaves_fit dig b infohash sizes)) (learns (record { tree = 0; old = at_first dig b; new = proved dig b; claim = leaves_claim dig b; notes = marks; settled = settled (twin_peer all_taken (Asked (leaves_key dig b))); hash = Idle; here = record { here = refl; same_root = refl }; claims = claims dig sizes b; accepts = accepts dig b; settles = record { facts = proved dig b; reads = reads; here = refl; due = due; made = refl; noted = sym (ap (λ l. l ++ settling_notes dig (proved dig b) 1 read_back ++ []) (noted whole 0) ∙ ap (λ l. (NowMarked (block_id 0 0) ∷ NowMarked (block_id 0 1) ∷ NowMarked (block_id 0 2) ∷ []) ++ l ++ []) (noted whole 1)); files = files; others = refl; }; resolves = resolved refl refl; has_effect = refl; after = refl; })) after_leaves refl refl
     where
       due : (file : ℕ) (f : FileState) → slice_get (twin_files Waiting) file ≡ Some f → map block_of (reads file) ≡ due_blocks dig (proved dig b) 0 0 4 f
-      due zero f at = sym all_due ∙ ap (λ (g : FileState). due_blocks dig (proved dig b) 0 0 4 g) (some_is at)
-      due (suc zero) f at = sym all_due ∙ ap (λ (g : FileState). due_blocks dig (proved dig b) 0 0 4 g) (some_is at)
+      due zero f at = sym all_due ∙ ap (λ g. due_blocks dig (proved dig b) 0 0 4 g) (some_is at)
+      due (suc zero) f at = sym all_due ∙ ap (λ g. due_blocks dig (proved dig b) 0 0 4 g) (some_is at)
       due (suc (suc file)) f at = absurd cc
 
       files : (file : ℕ) → slice_get (twin_files Marked) file ≡ option_map (judged_file dig (proved dig b) (reads file)) (slice_get (twin_files Waiting) file)
-      files zero = ap (λ (g : FileState). Some g) (sym (judged_so whole))
-      files (suc zero) = ap (λ (g : FileState). Some g) (sym (judged_so whole))
+      files zero = ap (λ g. Some g) (sym (judged_so whole))
+      files (suc zero) = ap (λ g. Some g) (sym (judged_so whole))
       files (suc (suc file)) = refl
 
 pub twins_are_run : (dig : Digest) → IsDigest dig → TwinFilesAreRun dig

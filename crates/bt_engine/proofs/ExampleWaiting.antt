@@ -194,7 +194,7 @@ module _ (dig : Digest) (b : ThreeBlocks) (wrong : List ℕ) (infohash : List �
     has = refl;
     missing = refl;
     free = λ asked. elim (contains_cases [] asked.1) [
-      | inl same ↦ contains_none (subst (λ (q : PeerState). Contains q.asked (block 2)) (sym same) asked.2)
+      | inl same ↦ contains_none (subst (λ q. Contains q.asked (block 2)) (sym same) asked.2)
       | inr more ↦ contains_none more
     ];
   }
@@ -241,11 +241,11 @@ module _ (dig : Digest) (b : ThreeBlocks) (wrong : List ℕ) (infohash : List �
       went (record no_effect { notes = settling_notes_are; proofs = new_proofs (leaves_key dig b) (four_leaves dig b) (at_first dig b) (proved dig b) }) (settled (idle_peer all_taken Idle)) refl refl refl (taken_message (key_fits dig b infohash sizes) (leaves_fit dig b infohash sizes)) (learns (record { tree = 0; old = at_first dig b; new = proved dig b; claim = leaves_claim dig b; notes = settling_notes_are; settled = settled (idle_peer all_taken asked_key); hash = Idle; here = record { here = refl; same_root = refl }; claims = claims dig sizes b; accepts = accepts dig b; settles = record { facts = proved dig b; reads = reads; here = refl; due = due; made = refl; noted = sym (ap (λ l. l ++ []) (noted whole other)); files = files; others = refl; }; resolves = resolved refl refl; has_effect = refl; after = refl; })) after_leaves refl refl
     where
       due : (file : ℕ) (f : FileState) → slice_get (waiting_file ∷ []) file ≡ Some f → map block_of (reads file) ≡ due_blocks dig (proved dig b) 0 0 4 f
-      due zero f at = sym all_due ∙ ap (λ (g : FileState). due_blocks dig (proved dig b) 0 0 4 g) (one_there 0 at).1
+      due zero f at = sym all_due ∙ ap (λ g. due_blocks dig (proved dig b) 0 0 4 g) (one_there 0 at).1
       due (suc file) f at = absurd cc
 
       files : (file : ℕ) → slice_get ((record { tree = 0; states = Marked ∷ Marked ∷ Missing ∷ [] }) ∷ []) file ≡ option_map (judged_file dig (proved dig b) (reads file)) (slice_get (waiting_file ∷ []) file)
-      files zero = ap (λ (g : FileState). Some g) (sym (judged_so whole other))
+      files zero = ap (λ g. Some g) (sym (judged_so whole other))
       files (suc file) = refl
 
   -- ---- the runs

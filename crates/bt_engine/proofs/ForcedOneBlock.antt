@@ -16,7 +16,7 @@ module _ (dig : Digest) (infohash : List ℕ) where
   -- there is one block
   the_block : {m b : _} → IsShaped (abc_torrent dig infohash) m → state_at m b ≡ Some Missing → b ≡ block_id 0 0
   the_block {m} {b} shaped e =
-      let f = and_then_some (λ (q : FileState). slice_get q.states b.block) (slice_get m.files b.file) e in
+      let f = and_then_some (λ q. slice_get q.states b.block) (slice_get m.files b.file) e in
       let file : b.file ≡ 0 = omega (arith, some_below m.files b.file f.1, shaped.count) in
       let shape = shaped.each 0 (abc_file dig) f.0 refl (subst (λ n. slice_get m.files n ≡ Some f.0) file f.1) in
       let block : b.block ≡ 0 = omega (arith, some_below f.0.states b.block f.2, shape.blocks) in

@@ -32,17 +32,17 @@ four_among blocks once among size =
     is i lt = by (three_cases (among (at i) (contains_at blocks i (block 0) lt)))
       where
         by : (at i ≡ block 0) ⊎ (at i ≡ block 1) ⊎ (at i ≡ block 2) → at i ≡ block (at i).block
-        by (inl e) = e ∙ ap (λ (c : BlockId). block c.block) (sym e)
-        by (inr (inl e)) = e ∙ ap (λ (c : BlockId). block c.block) (sym e)
-        by (inr (inr e)) = e ∙ ap (λ (c : BlockId). block c.block) (sym e)
+        by (inl e) = e ∙ ap (λ c. block c.block) (sym e)
+        by (inr (inl e)) = e ∙ ap (λ c. block c.block) (sym e)
+        by (inr (inr e)) = e ∙ ap (λ c. block c.block) (sym e)
 
     below : (i : ℕ) → i < length blocks → (at i).block < 3
     below i lt = by (three_cases (among (at i) (contains_at blocks i (block 0) lt)))
       where
         by : (at i ≡ block 0) ⊎ (at i ≡ block 1) ⊎ (at i ≡ block 2) → (at i).block < 3
-        by (inl e) = omega (arith, ap (λ (c : BlockId). c.block) e)
-        by (inr (inl e)) = omega (arith, ap (λ (c : BlockId). c.block) e)
-        by (inr (inr e)) = omega (arith, ap (λ (c : BlockId). c.block) e)
+        by (inl e) = omega (arith, ap (λ c. c.block) e)
+        by (inr (inl e)) = omega (arith, ap (λ c. c.block) e)
+        by (inr (inr e)) = omega (arith, ap (λ c. c.block) e)
 
     differ : (i j : ℕ) → i < j → j < length blocks → (at i).block ≢ (at j).block
     differ i j lt within e = once i j (block 0) lt within (is i (omega (arith, lt, within)) ∙ ap block e ∙ sym (is j within))
@@ -104,7 +104,7 @@ module _ (dig : Digest) (b : ThreeBlocks) (wrong : List ℕ) (infohash : List �
         is_order = record { once = asks.distinct; all = λ c. (among c, every c) };
         asked = record { few = omega (arith, asks.few); each = every; among = among };
         sends = x.all ∙ ap (λ zs. zs ++ x.hash_frames ++ x.block_frames) told ∙ ap (λ zs. zs ++ x.block_frames) planned.0 ∙ requests_are x.blocks among asked_for;
-        after = x.after ∙ ap (λ (p : PeerState). record unchoked { peers = slice_set unchoked.peers 0 (record p { asked = p.asked ++ x.blocks }) }) planned.1;
+        after = x.after ∙ ap (λ p. record unchoked { peers = slice_set unchoked.peers 0 (record p { asked = p.asked ++ x.blocks }) }) planned.1;
       }
     where
       interest : TellsInterest unchoked peer x.interest_frames x.interested
@@ -176,11 +176,10 @@ module _ (dig : Digest) (b : ThreeBlocks) (wrong : List ℕ) (infohash : List �
       (record { here = refl; same_key = refl }) (record { event = message_event Unchoke; rest = all_taken; takes = taken_unchoke; handles = (refl, refl, refl) }) refl step.step.2
       (λ e. remembers (subst (λ a. IsOutOfMemory a) (sym (step.step.1 ∙ ap of_next e)) tt)) in
       let free = order_free goes.follows in
-      let answer : step.answer ≡ taken_answer (map request_of free.order) [] = step.step.1 ∙ ap of_next goes.is ∙ ap (λ zs. taken_answer zs []) free.sends in
+      let answer = step.step.1 ∙ ap of_next goes.is ∙ ap (λ zs. taken_answer zs []) free.sends in
       let shape = step_shape dig (Next first_key) [] step.answer shaped step.step in
       let ordered = order_kept dig (before_unchoke dig b wrong infohash) two.mid (Next first_key) [] step.answer step.step o in
-      let then_known : Run dig two.mid (piece_events dig b wrong infohash) (piece_calls dig b wrong infohash) (piece_answers dig b wrong infohash) (all_wait dig b wrong infohash)
-      = subst (λ s. Run dig s (piece_events dig b wrong infohash) (piece_calls dig b wrong infohash) (piece_answers dig b wrong infohash) (all_wait dig b wrong infohash)) (sym free.after) (pieces_wait dig b wrong infohash free.asked whole other) in
+      let then_known = subst (λ s. Run dig s (piece_events dig b wrong infohash) (piece_calls dig b wrong infohash) (piece_answers dig b wrong infohash) (all_wait dig b wrong infohash)) (sym free.after) (pieces_wait dig b wrong infohash free.asked whole other) in
       let pieces = quiet (piece_events dig b wrong infohash) (piece_calls dig b wrong infohash) shape ordered then_known two.goes_on piece_memory
       (memory_after two.begin two.rest rest_room) (refl, (refl, (refl, (refl, (refl, (refl, tt)))))) in (
         free.order,
@@ -222,17 +221,15 @@ module _ (dig : Digest) (b : ThreeBlocks) (wrong : List ℕ) (infohash : List �
       let same = (step_one dig (Next first_key) reads laid_out (step_shape dig fed [] fed_answer shaped known.1) (order_kept dig state known.0 fed [] fed_answer known.1 o)
       known.2.1 step.step (λ o. o) remembers).whole (by_one (third_missing known.2.2)) in (
         one.is ∙ ap (λ l. l ++ one.rest) (sym begin.0) ∙ ap (λ l. fed_answer ∷ l) (step.is ∙ ap (λ a. a ∷ []) (sym same.0)),
-        ap (λ (m : EngineState). m.files) (sym (known.2.2 ∙ same.1)),
+        ap (λ m. m.files) (sym (known.2.2 ∙ same.1)),
       )
 
 pub answers_forced : (dig : Digest) → IsDigest dig → WaitingAnswersAreForced dig
 answers_forced dig sizes b wrong infohash first mid last answers settling whole other size begins x y memory room =
     let first_is = start_is dig refl refl (omega arith) begins in
-    let begin : Run dig (start dig b infohash) (waiting_events b wrong infohash) (waiting_calls b wrong) answers mid
-    = subst (λ s. Run dig s (waiting_events b wrong infohash) (waiting_calls b wrong) answers mid) first_is x in
+    let begin = subst (λ s. Run dig s (waiting_events b wrong infohash) (waiting_calls b wrong) answers mid) first_is x in
     let w = waits_forced dig b wrong infohash whole other size begin memory in
     let shaped = subst (λ s. IsShaped (three_torrent dig b infohash) s) (sym w.3) w.4 in
-    let rest : Run dig (all_wait dig b wrong infohash) (told (message_spelling (leaves_message dig b)) []) (settling_calls b wrong) settling last
-    = subst (λ s. Run dig s (told (message_spelling (leaves_message dig b)) []) (settling_calls b wrong) settling last) (sym w.3) y in
+    let rest = subst (λ s. Run dig s (told (message_spelling (leaves_message dig b)) []) (settling_calls b wrong) settling last) (sym w.3) y in
     let z = settling_forced dig b wrong infohash sizes last whole other shaped (subst IsOrderly (sym w.3) w.5) rest room in
-    ((w.0, w.1, w.2), ap (λ (m : EngineState). m.files) (sym w.3), z.0, z.1)
+    ((w.0, w.1, w.2), ap (λ m. m.files) (sym w.3), z.0, z.1)

@@ -28,7 +28,7 @@ module _ {D : Type 0} (history : D → History) (honest : D → Type 0) (faults 
   start_of starts i file f k listed some here hung =
       let tree = (starts.is_new.each_file i file f listed here).hung some in
       let same : tree.0 ≡ k = cc in
-      (ap (λ (l : Facts). l.file_length) (sym same) ∙ tree.3, ap (λ (l : Facts). l.root) (sym same) ∙ tree.2)
+      (ap (λ l. l.file_length) (sym same) ∙ tree.3, ap (λ l. l.root) (sym same) ∙ tree.2)
 
   step_of : (torrent : Metainfo) (old new : EngineState) (e : Event) (calls : DeviceCalls) (a : Answer) → Step dig old e calls a new → IsOf torrent old → IsOf torrent new
   step_of torrent old new e calls a step of i file f k listed some here hung =

@@ -110,7 +110,7 @@ contains_flat_map f (x ∷ xs) {y} c = elim (Contains-append_cases (f x) (flat_m
 pub range_limits : (a n : ℕ) {i : ℕ} → Contains (range_with_len a n) i → (a ≤ i) × (i < a + n)
 range_limits a n {i} c =
     let size = length-range_with_len a n in
-    let at : a + c.0 ≡ i = sym (get_or-range_with_len a n c.0 i (omega arith)) ∙ c.2 in
+    let at = sym (get_or-range_with_len a n c.0 i (omega arith)) ∙ c.2 in
     (omega arith, omega arith)
 
 pub get_some : {X : Type 0} (xs : List X) (i : ℕ) → i < length xs → (x : X) × (slice_get xs i ≡ Some x)

@@ -82,12 +82,12 @@ module _ (dig : Digest) (b : BlockId) where
   arrives_marks : {s mid i p piece begin bytes calls effect : _} → Arrives dig s i p piece begin bytes calls effect mid
       → state_at mid b ≡ Some Marked → Marks dig s p (Message (Piece piece begin bytes)) calls mid b
   arrives_marks {s} {mid} {p} {piece} {begin} {bytes} {calls} a m =
-      let at : slice_get s.files a.block.file ≡ Some a.puts.file = a.puts.is_file.here in
+      let at = a.puts.is_file.here in
       let new : FileState = record a.puts.file { states = states_after_put a.block.block a.puts.result a.puts.file.states } in
       elim (put_marks s at a.puts.result a.puts.due (as_before a.puts.after (as_before a.after m))) [
         | inl old ↦ inl old
         | inr now ↦
-            let hung : tree_of (with_file s a.block.file new) a.block.file ≡ Some a.puts.tree =
+            let hung =
             ap (option_and_then (λ q. slice_get s.trees q.tree)) (set_same s.files a.block.file at) ∙ a.puts.is_file.hung in
             let stored : tree_of a.stored a.block.file ≡ Some a.puts.tree = rw a.puts.after hung in
             let known : tree_of mid a.block.file ≡ Some a.puts.tree = rw a.after stored in

@@ -48,8 +48,8 @@ judged_marks [] states e = inl e
 judged_marks {dig} {k} (given b bytes ∷ reads) states {i} e = elim (judged_marks reads _ e) [
   | inl now ↦ elim (set_cases _ b i now) [
     | inl one ↦
-        let right : is_right dig k b bytes ≡ true = verdict_true _ one.1 in
-        let same : b ≡ i = sym one.0 in
+        let right = verdict_true _ one.1 in
+        let same = sym one.0 in
         inr (record { bytes = bytes; gives = here reads (ap (λ j. given j bytes) same); right = right_then (cc) })
     | inr old ↦ inl old
   ]
@@ -116,12 +116,12 @@ settle_marks {dig} {is_meant} {old} {new} s {b} e =
     elim (judged_marks (s.reads b.file) p.0.states there) [
       | inl before ↦ inl (state_is old b p.1 before)
       | inr g ↦
-          let read : Contains (map block_of (s.reads b.file)) b.block = map_contains block_of (s.reads b.file) g.gives in
+          let read = map_contains block_of (s.reads b.file) g.gives in
           let due = meant_then dig s.facts (is_meant b.file) (rw (← (s.due b.file p.0 p.1)) read) in
           let trees : new.trees ≡ old.trees = cc in
-          let hung : slice_get new.trees p.0.tree ≡ Some s.facts = ap (λ ts. slice_get ts p.0.tree) trees ∙ ap (slice_get old.trees) due.1.of_tree ∙ s.here in
+          let hung = ap (λ ts. slice_get ts p.0.tree) trees ∙ ap (slice_get old.trees) due.1.of_tree ∙ s.here in
           let file : slice_get new.files b.file ≡ Some (judged_file dig s.facts (s.reads b.file) p.0) = cc in
-          let one : Contains (reads_at b.file s.facts.file_length (s.reads b.file)) (b.file, call_of s.facts.file_length (given b.block g.bytes)) =
+          let one =
           map_contains (λ read. (b.file, call_of s.facts.file_length read)) (s.reads b.file) g.gives in
           inr (record {
             facts = s.facts;

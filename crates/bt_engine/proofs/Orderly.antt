@@ -153,10 +153,10 @@ judged_other dig k false (failed b ∷ reads) states i none =
 -- blocks that are settled waited
 settle_missing : {dig is_meant tree from count old new calls notes : _} → SettlesIn dig is_meant tree from count old calls notes new → KeepsMissing old new
 settle_missing {dig} {is_meant} {old} {new} s b missing =
-    let f = and_then_some (λ (q : FileState). slice_get q.states b.block) (slice_get old.files b.file) missing in
+    let f = and_then_some (λ q. slice_get q.states b.block) (slice_get old.files b.file) missing in
     let unread : Contains (map block_of (s.reads b.file)) b.block → ⊥ = λ c. (
     let due = meant_then dig s.facts (is_meant b.file) (subst (λ xs. Contains xs b.block) (s.due b.file f.0 f.1) c) in
-    let no : Some Waiting ≡ Some Missing = sym due.1.waited ∙ f.2 in absurd cc
+    let no = sym due.1.waited ∙ f.2 in absurd cc
     ) in
     state_is new b (s.files b.file ∙ ap (option_map (judged_file dig s.facts (s.reads b.file))) f.1)
     (judged_other dig s.facts false (s.reads b.file) f.0.states b.block unread ∙ f.2)
@@ -222,8 +222,8 @@ module _ (dig : Digest) where
 
       elsewhere : (b : BlockId) → is_block a.block b ≡ false → b.file ≡ a.block.file → b.block ≢ a.block.block
       elsewhere b e same_file same =
-          let is : b ≡ a.block = ap (λ n. record b { file = n }) same_file ∙ ap (λ n. record a.block { block = n }) same in
-          let no : true ≡ false = sym (is_itself is) ∙ e in absurd cc
+          let is = ap (λ n. record b { file = n }) same_file ∙ ap (λ n. record a.block { block = n }) same in
+          let no = sym (is_itself is) ∙ e in absurd cc
 
       by : {b : _} → state_at s b ≡ Some Missing → (t : Bool) → is_block a.block b ≡ t → (state_at mid b ≡ Some Missing) ⊎ (Contains p.asked b × (Contains (without_block a.block p.asked) b → ⊥))
       by missing true e = inr (subst (λ c. Contains p.asked c) (sym (block_is e)) a.asked, no_longer e)
@@ -288,7 +288,7 @@ module _ (dig : Digest) where
   taken_order : {s : EngineState} {mid i p calls effect : _} → slice_get s.peers i ≡ Some p → TakesEvent dig s i p calls effect mid → IsOrderly s → IsOrderly mid
   taken_order {s} {i} {p} {calls} {effect} at t o =
       let fed : PeerState = record p { stream = t.rest } in
-      let there : slice_get (with_peer s i fed).peers i ≡ Some fed = set_same _ i at in
+      let there = set_same _ i at in
       let before = changed at (replaced fed refl refl refl refl) o in
       changed there (event_change _ calls _ there (o.each p (contains_some _ i at)).pieces t.handles) before
 
@@ -314,8 +314,8 @@ module _ (dig : Digest) where
   }
 
   planned_same : {s old new sent : _} → RequestsHashes dig s old sent new → (new.key ≡ old.key) × (new.has ≡ old.has) × (new.asked ≡ old.asked)
-  planned_same (requests b k key x y z w v e) = (ap (λ (q : PeerState). q.key) e, ap (λ (q : PeerState). q.has) e, ap (λ (q : PeerState). q.asked) e)
-  planned_same (rests x y e) = (ap (λ (q : PeerState). q.key) e, ap (λ (q : PeerState). q.has) e, ap (λ (q : PeerState). q.asked) e)
+  planned_same (requests b k key x y z w v e) = (ap (λ q. q.key) e, ap (λ q. q.has) e, ap (λ q. q.asked) e)
+  planned_same (rests x y e) = (ap (λ q. q.key) e, ap (λ q. q.has) e, ap (λ q. q.asked) e)
 
   follow_order : {s new i sent : _} → FollowsUp dig s i sent new → IsOrderly s → IsOrderly new
   follow_order {s} {i} f o = order_is f.after (record {
@@ -338,7 +338,7 @@ module _ (dig : Digest) where
       same : (f.planned.key ≡ f.peer.key) × (f.planned.has ≡ f.peer.has) × (f.planned.asked ≡ f.peer.asked)
       same =
           let r = planned_same f.hashes in
-          (r.0 ∙ ap (λ (q : PeerState). q.key) f.interest.others, r.1 ∙ ap (λ (q : PeerState). q.has) f.interest.others, r.2 ∙ ap (λ (q : PeerState). q.asked) f.interest.others)
+          (r.0 ∙ ap (λ q. q.key) f.interest.others, r.1 ∙ ap (λ q. q.has) f.interest.others, r.2 ∙ ap (λ q. q.asked) f.interest.others)
 
       before : IsOrderlyPeer s f.peer
       before = o.each f.peer (contains_some s.peers i f.here)
@@ -376,7 +376,7 @@ module _ (dig : Digest) where
     in_order = from_pairs KeyBefore (s.peers ++ new_peer s key ∷ []) (pairs_append KeyBefore s.peers (new_peer s key ∷ []) (to_pairs KeyBefore s.peers o.in_order) (λ y c. absurd (contains_none c), tt)
         (λ p q own theirs. rw (← (last theirs)) (rw is (o.each p own).key)));
     apart = from_pairs AskedApart (s.peers ++ new_peer s key ∷ []) (pairs_append AskedApart s.peers (new_peer s key ∷ []) (to_pairs AskedApart s.peers o.apart) (λ y c. absurd (contains_none c), tt)
-        (λ p q own theirs b mine yours. contains_none (subst (λ (x : PeerState). Contains x.asked b) (sym (last theirs)) yours)));
+        (λ p q own theirs b mine yours. contains_none (subst (λ x. Contains x.asked b) (sym (last theirs)) yours)));
     each = λ q among. elim (Contains-append_cases s.peers (new_peer s key ∷ []) q among) [
       | inl own ↦ (
           let old = o.each q own in

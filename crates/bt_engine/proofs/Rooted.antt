@@ -40,7 +40,7 @@ module _ (dig : Digest) where
   hashes_rooted (no_claim f a b c) r = as_before c.after r
   hashes_rooted (refused f t k c a b d g) r = as_before g.after r
   hashes_rooted {s} (learns l) r =
-      let grown : AreRooted dig (with_tree s l.tree l.new) = grown_rooted s _ r (keeps_rooted dig l.old l.new l.claim l.accepts (r l.tree l.old l.here.here)) in
+      let grown = grown_rooted s _ r (keeps_rooted dig l.old l.new l.claim l.accepts (r l.tree l.old l.here.here)) in
       as_before l.after (as_before l.settles.others grown)
 
   message_rooted : (s mid : EngineState) (i : ℕ) (p : PeerState) (m : Sent) (calls : DeviceCalls) (effect : Effect) → HandlesMessage dig s i p m calls effect mid → AreRooted dig s → AreRooted dig mid

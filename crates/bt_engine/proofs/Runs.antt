@@ -41,7 +41,7 @@ trees_one : {root : _} (trees : List Facts) (t : ℕ) {k : _} → ((i : ℕ) (j 
 trees_one [] t each apart at = absurd cc
 trees_one (j ∷ []) zero each apart at = (ap (λ z. z ∷ []) (each 0 j refl), refl)
 trees_one (j ∷ []) (suc t) each apart at = absurd cc
-trees_one (i ∷ j ∷ more) t each apart at = absurd (apart 0 1 i (omega arith) (omega arith) (ap (λ (z : Facts). z.root) (each 0 i refl ∙ sym (each 1 j refl))))
+trees_one (i ∷ j ∷ more) t each apart at = absurd (apart 0 1 i (omega arith) (omega arith) (ap (λ z. z.root) (each 0 i refl ∙ sym (each 1 j refl))))
 
 only_file : (files : List FileState) → length files ≡ 1 → (f : FileState) × (files ≡ f ∷ [])
 only_file [] e = absurd (omega arith)
@@ -73,7 +73,7 @@ module _ (dig : Digest) where
       let f = new.each_file 0 file only.0 (ap (λ l. slice_get l 0) files) (ap (λ l. slice_get l 0) only.1) in
       let k = f.hung some in
       let trees = trees_one first.trees only.0.tree each new.roots k.1 in
-      let file_is : only.0 ≡ record { tree = 0; states = new_states file.length } = ap (λ n. record only.0 { tree = n }) trees.1 ∙ ap (λ l. record { tree = 0; states = l }) f.missing in
+      let file_is = ap (λ n. record only.0 { tree = n }) trees.1 ∙ ap (λ l. record { tree = 0; states = l }) f.missing in
       starts.is ∙ ap (λ ts. record (empty first.files) { trees = ts }) trees.0 ∙ ap empty (cc)
     where
       empty : List FileState → EngineState

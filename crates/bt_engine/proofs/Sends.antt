@@ -20,7 +20,7 @@ plain_none : Plain []
 plain_none x c = absurd (contains_none c)
 
 plain_one : (x : Sent) (xs : List Sent) → data_frame x.frame ≡ false → Plain xs → Plain (x ∷ xs)
-plain_one x xs e rest y c = elim (contains_cases xs c) [ inl same ↦ ap (λ (s : Sent). data_frame s.frame) (sym same) ∙ e | inr more ↦ rest y more ]
+plain_one x xs e rest y c = elim (contains_cases xs c) [ inl same ↦ ap (λ s. data_frame s.frame) (sym same) ∙ e | inr more ↦ rest y more ]
 
 plain_append : (xs ys : List Sent) → Plain xs → Plain ys → Plain (xs ++ ys)
 plain_append xs ys f g x c = elim (Contains-append_cases xs ys x c) [ inl one ↦ f x one | inr more ↦ g x more ]
@@ -32,7 +32,7 @@ plain_haves : (old new : EngineState) → Plain (haves old new)
 plain_haves old new x c =
     let p = contains_flat_map (λ piece. map (λ p. sent_to p (Have piece)) new.peers) _ c in
     let q = contains_map (λ q. sent_to q (Have p.0)) _ p.2 in
-    ap (λ (s : Sent). data_frame s.frame) (sym q.2)
+    ap (λ s. data_frame s.frame) (sym q.2)
 
 plain_interest : (p : PeerState) (was now : Bool) → Plain (interest_sent p was now)
 plain_interest p true true = plain_none
@@ -46,7 +46,7 @@ plain_choking p _ _ = plain_one _ [] refl plain_none
 
 plain_each_block : (s : EngineState) (p : PeerState) (blocks : List BlockId) (sent : List Sent) → RequestsEach s p blocks sent → Plain sent
 plain_each_block s p [] sent r = plain_is r plain_none
-plain_each_block s p (b ∷ blocks) sent r = plain_is r.4 (plain_one r.0 r.1 (ap (λ (s : Sent). data_frame s.frame) r.2.is) (plain_each_block s p blocks r.1 r.3))
+plain_each_block s p (b ∷ blocks) sent r = plain_is r.4 (plain_one r.0 r.1 (ap (λ s. data_frame s.frame) r.2.is) (plain_each_block s p blocks r.1 r.3))
 
 plain_hashes : {dig s p q sent : _} → RequestsHashes dig s p sent q → Plain sent
 plain_hashes (requests b k key x y z w e f) = plain_is e (plain_one _ [] refl plain_none)
@@ -54,9 +54,9 @@ plain_hashes (rests x e y) = plain_is e plain_none
 
 plain_follows : {dig s i sent new : _} → FollowsUp dig s i sent new → Plain sent
 plain_follows {s} f =
-    let first : Plain f.interest_frames = plain_is f.interest.told (plain_interest f.peer f.peer.am_interested f.interested.am_interested) in
-    let second : Plain f.hash_frames = plain_hashes f.hashes in
-    let third : Plain f.block_frames = plain_each_block s f.planned f.blocks f.block_frames f.requests in
+    let first = plain_is f.interest.told (plain_interest f.peer f.peer.am_interested f.interested.am_interested) in
+    let second = plain_hashes f.hashes in
+    let third = plain_each_block s f.planned f.blocks f.block_frames f.requests in
     plain_is f.all (plain_append (f.interest_frames ++ f.hash_frames) f.block_frames (plain_append f.interest_frames f.hash_frames first second) third)
 
 plain_each : (dig : Digest) (peers : List ℕ) (s : EngineState) (sent : List Sent) (new : EngineState) → FollowsEach dig peers s sent new → Plain sent
@@ -115,14 +115,14 @@ module _ (dig : Digest) where
       let sent = subst (λ l. Contains l (piece_frame key piece begin bytes)) (ap (λ x. x.send) f.sent) c in
       elim (contains_cases [] sent) [
         | inl same ↦
-            let says = ap (λ (x : Sent). said_in x.frame) same in
+            let says = ap (λ x. said_in x.frame) same in
             record {
               ask = ask;
               span = span;
               tree = f.tree;
               blocks = f.bytes;
               is_request = refl;
-              same_key = ap (λ (x : Sent). x.peer) same;
+              same_key = ap (λ x. x.peer) same;
               same_piece = cc;
               same_begin = cc;
               unchoked = open_to;

@@ -135,7 +135,7 @@ module _ (dig : Digest) where
           before = m.0;
           here = m.1;
           tree = cc;
-          blocks = ap (λ (q : FileState). length q.states) (sym m.2) ∙ length-judged dig s.facts false (s.reads i) m.0.states;
+          blocks = ap (λ q. length q.states) (sym m.2) ∙ length-judged dig s.facts false (s.reads i) m.0.states;
         }
         );
     roots = cc;
@@ -214,7 +214,7 @@ module _ (dig : Digest) where
 
   taken_keeps : {s mid i p calls effect : _} → TakesEvent dig s i p calls effect mid → Keeps s mid
   taken_keeps {s} {i} {p} {calls} {effect} t =
-      let taken : EngineState = with_peer s i (record p { stream = t.rest }) in
+      let taken = with_peer s i (record p { stream = t.rest }) in
       keeps_then (with_peer_keeps i _ refl) (event_keeps i _ _ calls _ t.handles)
 
   follow_keeps : {s new i sent : _} → FollowsUp dig s i sent new → Keeps s new
@@ -231,7 +231,7 @@ module _ (dig : Digest) where
   next_keeps (no_peer x y z e) = is_same e
   next_keeps (waits i p x y z w e) = is_same e
   next_keeps {s} (goes_on i p out peer g x) =
-      let pending : EngineState = with_pending s g.mid g.effect.proofs in
+      let pending = with_pending s g.mid g.effect.proofs in
       keeps_then (keeps_then (taken_keeps g.takes) (pending_keeps s _)) (follow_keeps g.follows)
   next_keeps (closes i p out peer g x) = keeps_then (taken_keeps g.takes) (gone_keeps i g.after)
   next_keeps (faulty i p out peer g x) = gone_keeps i g.after
@@ -264,8 +264,8 @@ module _ (dig : Digest) where
   group_keeps : {s new file from calls adopted : _} → AdoptsGroup dig s file from calls adopted new → Keeps s new
   group_keeps {s} {file} g =
       let state : FileState = record g.state { states = g.states } in
-      let placed : EngineState = with_file s file state in
-      let grown : EngineState = with_tree placed g.state.tree g.grown in
+      let placed = with_file s file state in
+      let grown = with_tree placed g.state.tree g.grown in
       let extends = group_extends dig g in
       let one = file_keeps file state g.is_file.here refl (length-adopted g.adopts) in
       let two = tree_keeps _ _ g.is_file.hung extends.root extends.file_length in
@@ -306,11 +306,11 @@ module _ (dig : Digest) where
   -- ---- from the start
 
   root_at : (trees : List Facts) (i : ℕ) (d : Facts) → i < length trees → get_or (map (λ (k : Facts). k.root) trees) i d.root ≡ (get_or trees i d).root
-  root_at trees i d lt = get_or-map (λ (k : Facts). k.root) trees i d d.root lt
+  root_at trees i d lt = get_or-map (λ k. k.root) trees i d d.root lt
 
   roots_apart : (xs ys : List Facts) → map (λ (k : Facts). k.root) ys ≡ map (λ (k : Facts). k.root) xs → AllPairs (λ (j k : Facts). j.root ≢ k.root) xs → AllPairs (λ (j k : Facts). j.root ≢ k.root) ys
   roots_apart xs ys same apart i j d lt within e =
-      let size : length ys ≡ length xs = sym (length-map ys (λ (k : Facts). k.root)) ∙ ap length same ∙ length-map xs (λ (k : Facts). k.root) in
+      let size = sym (length-map ys (λ k. k.root)) ∙ ap length same ∙ length-map xs (λ k. k.root) in
       let at : (n : ℕ) → n < length ys → (get_or xs n d).root ≡ (get_or ys n d).root = λ n below. sym (root_at xs n d (omega arith)) ∙ ap (λ rs. get_or rs n d.root) (sym same) ∙ root_at ys n d below in
       apart i j d lt (omega arith) (at i (omega arith) ∙ e ∙ sym (at j within))
 

@@ -25,12 +25,12 @@ pub record Reads (old new : History) (calls : List Call) : Type 0 where
 pub calls_keep : (old : History) {new : _} (calls : List Call) → ((c : Call) → Contains calls c → KeepsBytes c) → AreAnswered old calls new → Reads old new calls
 calls_keep old [] keep a = record { same = cc; read = λ at wanted bytes c. absurd (contains_none c) }
 calls_keep old (call ∷ calls) keep a =
-    let one : a.0.now.bytes ≡ old.now.bytes = call_keeps old a.0 call (keep call (here calls refl)) a.1 in
+    let one = call_keeps old a.0 call (keep call (here calls refl)) a.1 in
     let more = calls_keep a.0 calls (λ c among. keep c (later call calls among)) a.2 in
     record {
       same = cc;
       read = λ at wanted bytes c. elim (contains_cases calls c) [
-        | inl is ↦ (let answered : IsAnswered old (bytes_given at wanted bytes) a.0 = subst (λ x. IsAnswered old x a.0) is a.1 in answered.0)
+        | inl is ↦ (let answered = subst (λ x. IsAnswered old x a.0) is a.1 in answered.0)
         | inr among ↦ more.read at wanted bytes among ∙ ap (λ xs. take wanted (drop at xs)) one
       ];
     }
@@ -58,7 +58,7 @@ among_file {file} (x ∷ calls) {c} among = by _ refl (contains_cases calls amon
     by : (b : Bool) → (x.0 == file) ≡ b → (x ≡ (file, c)) ⊎ Contains calls (file, c) → (Contains calls (file, c) → Contains (calls_of file calls) c) → Contains (calls_of file (x ∷ calls)) c
     by true e (inl is) rest = rw e (here _ (ap (λ a. a.1) is))
     by true e (inr more) rest = rw e (later x.1 _ (rest more))
-    by false e (inl is) rest = let no : true ≡ false = sym (eq-eqb x.0 file (ap (λ a. a.0) is)) ∙ e in absurd cc
+    by false e (inl is) rest = let no = sym (eq-eqb x.0 file (ap (λ a. a.0) is)) ∙ e in absurd cc
     by false e (inr more) rest = rw e (rest more)
 
 -- ---- a block of one file
@@ -107,12 +107,12 @@ kept_block dig {files} {trees} file i {f} {k} {calls} old new at hung marked (pu
     by : (t : Bool) → (b.file == file) ≡ t → stored_block k.file_length new.now.bytes i ≡ stored_block k.file_length old.now.bytes i
     by false e =
         let none : calls_of file calls ≡ [] = cc in
-        let still : AreAnswered old [] new = subst (λ cs. AreAnswered old cs new) none answered in
+        let still = subst (λ cs. AreAnswered old cs new) none answered in
         ap (λ h. stored_block k.file_length h.now.bytes i) still
     by true e =
         let one : calls_of file calls ≡ call ∷ [] = cc in
-        let a : AreAnswered old (call ∷ []) new = subst (λ cs. AreAnswered old cs new) one answered in
-        let same_file : b.file ≡ file = eqb-true b.file file e in
+        let a = subst (λ cs. AreAnswered old cs new) one answered in
+        let same_file = eqb-true b.file file e in
         let g_is : g ≡ f = cc in
         let l_is : l ≡ k = cc in
         let gone : slice_get f.states b.block ≡ Some Missing = cc in
@@ -120,8 +120,8 @@ kept_block dig {files} {trees} file i {f} {k} {calls} old new at hung marked (pu
         let long : length bytes ≡ block_length k.file_length b.block = cc in
         let answer : IsAnswered old call new = rw a.2 a.1 in
         elim is [
-          | inl wrote ↦ others _ i _ old bytes apart long whole (let x : IsAnswered old (bytes_written (full_block_length * b.block) bytes) new = subst (λ c. IsAnswered old c new) wrote answer in x)
-          | inr failed ↦ torn _ i _ old new bytes apart long whole (let x : IsAnswered old (write_fault (full_block_length * b.block) bytes) new = subst (λ c. IsAnswered old c new) failed answer in x)
+          | inl wrote ↦ others _ i _ old bytes apart long whole (let x = subst (λ c. IsAnswered old c new) wrote answer in x)
+          | inr failed ↦ torn _ i _ old new bytes apart long whole (let x = subst (λ c. IsAnswered old c new) failed answer in x)
         ]
 
 module _ {D : Type 0} (history : D → History) (honest : D → Type 0) (faults : D → ℕ) (dig : Digest) where
@@ -132,7 +132,7 @@ module _ {D : Type 0} (history : D → History) (honest : D → Type 0) (faults 
   block_right old new event calls answer file {i} {f} {k} before after step at hung answered sound marked =
       let tame = step_tame dig old new event calls _ step in
       let grown = tame.0 file f k at hung in
-      let b : BlockId = block_id file i in
+      let b = block_id file i in
       let now : state_at new b ≡ Some Marked = cc in
       let tree : tree_of new file ≡ Some k = cc in
       elim (step_cases dig b old new event calls _ step now) [
@@ -144,9 +144,9 @@ module _ {D : Type 0} (history : D → History) (honest : D → Type 0) (faults 
         | inr (brought x) ↦
             let same : x.tree ≡ k = cc in
             let r : IsRight dig k i x.bytes = rw (← same) x.right in
-            let one : calls_of file calls ≡ bytes_written (full_block_length * i) x.bytes ∷ [] = ap (calls_of file) x.written ∙ one_true _ file (eq-eqb file file refl) in
-            let a : AreAnswered before (bytes_written (full_block_length * i) x.bytes ∷ []) after = subst (λ cs. AreAnswered before cs after) one answered in
-            let is : stored_block k.file_length after.now.bytes i ≡ x.bytes = stands _ i _ _ r.whole (a.2 ∙ a.1) in
+            let one = ap (calls_of file) x.written ∙ one_true _ file (eq-eqb file file refl) in
+            let a = subst (λ cs. AreAnswered before cs after) one answered in
+            let is = stands _ i _ _ r.whole (a.2 ∙ a.1) in
             rw is r
         | inr (read_back x) ↦ read_right x.hung x.read x.right tree tame.1
         | inr (found x) ↦ read_right x.hung x.read x.right tree tame.1
@@ -156,14 +156,14 @@ module _ {D : Type 0} (history : D → History) (honest : D → Type 0) (faults 
       read_right {l} {bytes} l_hung l_read l_right tree (keeping keep) =
           let same : l ≡ k = cc in
           let reads = calls_keep _ _ (λ c among. keep (file, c) (of_all calls among)) answered in
-          let there : bytes ≡ stored_block l.file_length before.now.bytes i = reads.read _ _ bytes (among_file calls l_read) in
+          let there = reads.read _ _ bytes (among_file calls l_read) in
           let is : bytes ≡ stored_block k.file_length after.now.bytes i = cc in
           rw (← is) (rw (← same) l_right)
       read_right {l} {bytes} l_hung l_read l_right tree (putting c more g m call there rooted missing size made is) =
-          let one : Contains ((c.file, call) ∷ []) (file, call_of l.file_length (given i bytes)) = subst (λ cs. Contains cs (file, call_of l.file_length (given i bytes))) made l_read in
+          let one = subst (λ cs. Contains cs (file, call_of l.file_length (given i bytes))) made l_read in
           elim (contains_cases {x = (c.file, call)} {y = (file, call_of l.file_length (given i bytes))} [] one) [
             | inl same ↦
-                let call_is : call ≡ bytes_given (full_block_length * i) (block_length l.file_length i) bytes = ap (λ (a : ℕ × Call). a.1) same in
+                let call_is = ap (λ a. a.1) same in
                 absurd (elim is [ inl wrote ↦ no_write (sym call_is ∙ wrote) | inr failed ↦ no_fault (sym call_is ∙ failed) ])
             | inr none ↦ absurd (contains_none none)
           ]
@@ -171,7 +171,7 @@ module _ {D : Type 0} (history : D → History) (honest : D → Type 0) (faults 
   pub step_sound : StepKeepsSound history honest faults dig
   step_sound old new event calls answer disks after step have sound file f k e is_file there honest_now i marked =
       let d = have.each file e there in
-      let was_honest : honest d.0 = d.2.as_honest.1 honest_now in
+      let was_honest = d.2.as_honest.1 honest_now in
       block_right old new event calls _ file _ _ step is_file.here is_file.hung (d.2.answered was_honest)
       (λ g l at hung. sound file g l d.0 (record { here = at; hung = hung }) d.1 was_honest) marked
 

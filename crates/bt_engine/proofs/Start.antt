@@ -49,10 +49,10 @@ layer_whole {dig} sizes {n} {layer} {bytes} h = record {
 
 pub layer_rooted : {dig : _} → IsDigest dig → {n root layer bytes k : _} → IsFileLength n → HoldsLayer dig n root layer bytes k → IsRooted dig k
 layer_rooted {dig} sizes {n} {root} {layer} {bytes} {k} lawful h =
-    let row : ℕ → List ℕ = layer_digest dig (block_count n) layer bytes in
+    let row = layer_digest dig (block_count n) layer bytes in
     let sound = filled_sound dig n row layer root k.nodes (layer_whole sizes h) lawful
     (layer_folds dig (block_count n) layer root bytes (chunk_count _ bytes) h.is_layer) in
-    let is : record { file_length = n; root = root; nodes = k.nodes } ≡ k = ap (λ m. record k { root = root; file_length = m }) (sym h.length_is) ∙ ap (λ r. record k { root = r }) (sym h.root_is) in
+    let is = ap (λ m. record k { root = root; file_length = m }) (sym h.length_is) ∙ ap (λ r. record k { root = r }) (sym h.root_is) in
     rw (← is) sound.rooted
 
 get_is : {X : Type 0} (xs : List X) (i : ℕ) {x : X} → slice_get xs i ≡ Some x → (i < length xs) × (get_or xs i x ≡ x)

@@ -118,7 +118,7 @@ module _ (dig : Digest) where
   arrives_tame {s} {mid} {bytes} a =
       let q = a.puts in
       let new : FileState = record q.file { states = states_after_put a.block.block q.result q.file.states } in
-      let stored : Grows dig s.files s.trees a.stored = like s.files s.trees (with_file s a.block.file new) a.stored (ap (λ z. z.files) q.after) (ap (λ z. z.trees) q.after) (file_grows s a.block.file new q.is_file.here refl) in (
+      let stored = like s.files s.trees (with_file s a.block.file new) a.stored (ap (λ z. z.files) q.after) (ap (λ z. z.trees) q.after) (file_grows s a.block.file new q.is_file.here refl) in (
         like s.files s.trees a.stored mid (ap (λ z. z.files) a.after) (ap (λ z. z.trees) a.after) stored,
         put_touches a.block bytes q.is_file.here q.is_file.hung q.result q.due q.made,
       )
@@ -160,7 +160,7 @@ module _ (dig : Digest) where
   hashes_tame {s} {mid} (no_claim f x y c) = quiet s mid (ap (λ z. z.files) c.after) (ap (λ z. z.trees) c.after) c.made
   hashes_tame {s} {mid} (refused f t k c x y z g) = quiet s mid (ap (λ z. z.files) g.after) (ap (λ z. z.trees) g.after) g.made
   hashes_tame {s} {mid} (learns l) =
-      let settled : Grows dig s.files s.trees l.settled = settled_grows s.files s.trees l.settles (tree_grows s l.tree l.new l.here.here l.accepts.joins.file_length l.accepts.joins.root (value_kept dig l.old l.new l.accepts.joins.file_length l.accepts.joins.kept 0)) in (
+      let settled = settled_grows s.files s.trees l.settles (tree_grows s l.tree l.new l.here.here l.accepts.joins.file_length l.accepts.joins.root (value_kept dig l.old l.new l.accepts.joins.file_length l.accepts.joins.kept 0)) in (
         like s.files s.trees l.settled mid (ap (λ z. z.files) l.after) (ap (λ z. z.trees) l.after) settled,
         keeping (settled_keeps l.settles),
       )
@@ -241,7 +241,7 @@ module _ (dig : Digest) where
   group_tame {s} {new} {file} g =
       let state : FileState = record g.state { states = g.states } in
       let extends = group_extends dig g in
-      let placed : EngineState = with_file s file state in (
+      let placed = with_file s file state in (
         like s.files s.trees (with_tree placed g.state.tree g.grown) new (ap (λ z. z.files) g.after) (ap (λ z. z.trees) g.after)
             (grows_then s placed (with_tree placed g.state.tree g.grown) (file_grows s file state g.is_file.here refl)
             (tree_grows placed g.state.tree g.grown g.is_file.hung extends.file_length extends.root (extends.values 0))),
@@ -262,7 +262,7 @@ module _ (dig : Digest) where
   adopt_tame {s} {new} (empty f x y z w v e) = quiet s new (ap (λ z. z.files) e) (ap (λ z. z.trees) e) w
   adopt_tame {s} {new} {file} (adopts total x a y) =
       let groups = groups_tame s a.mid file 0 a.groups total a.adopts in
-      let settled : Grows dig s.files s.trees a.settled = settled_grows s.files s.trees a.settles groups.0 in (
+      let settled = settled_grows s.files s.trees a.settles groups.0 in (
         like s.files s.trees a.settled new (ap (λ z. z.files) a.after) (ap (λ z. z.trees) a.after) settled,
         keeping (keep_is a.made (append_keeps (flat_map (λ c. c) a.groups) a.settling groups.1 (settled_keeps a.settles))),
       )

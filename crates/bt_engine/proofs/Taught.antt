@@ -20,16 +20,16 @@ module _ (dig : Digest) (k grown : Facts) (anchor first count : ℕ) (reads : Li
   run_size whole few =
       let digests = map (claimed_digest dig k.file_length) reads in
       let rest = replicate (2 ^ anchor - length reads) (padding_digest dig 0) in
-      let size : length reads ≡ count = sym (length-map reads block_of) ∙ ap length whole.blocks ∙ length-range_with_len first count in
+      let size = sym (length-map reads block_of) ∙ ap length whole.blocks ∙ length-range_with_len first count in
       omega (arith, length-append digests rest, length-map reads (claimed_digest dig k.file_length), length-replicate (2 ^ anchor - length reads) (padding_digest dig 0))
 
   -- a node below the one that the group hangs from
   known_below : AreWhole k.file_length first count reads → count ≤ 2 ^ anchor → Accepts dig k group_claim grown
       → (layer i : ℕ) → layer ≤ anchor → i / 2 ^ (anchor - layer) ≡ first / 2 ^ anchor → (d : List ℕ) × (value_at dig grown layer i ≡ Some d)
   known_below whole few accepts layer i low under =
-      let height_is : run_height group_claim ≡ anchor = height_of-pow (length group_claim.run) anchor (run_size whole few) in
-      let d : List ℕ = row_node dig (run_digest group_claim) layer i in
-      let claim : Claims dig group_claim layer i d = in_run record {
+      let height_is = height_of-pow (length group_claim.run) anchor (run_size whole few) in
+      let d = row_node dig (run_digest group_claim) layer i in
+      let claim = in_run record {
         above = layer;
         here = omega arith;
         low = omega arith;
@@ -164,8 +164,8 @@ module _ (dig : Digest) (k grown : Facts) (from anchor first count : ℕ) (reads
       -- a sibling on the path lies below the node too
       beside : (u : ℕ) → m + u < anchor → sibling_of (i / 2 ^ m / 2 ^ u) / 2 ^ (anchor - (m + u)) ≡ first / 2 ^ anchor
       beside u lt =
-          let n : ℕ = anchor - (m + u) - 1 in
-          let y : ℕ = i / 2 ^ m / 2 ^ u in
+          let n = anchor - (m + u) - 1 in
+          let y = i / 2 ^ m / 2 ^ u in
           let up : anchor - (m + u) ≡ suc (anchor - (m + u) - 1) = omega arith in
           let all : m + u + (anchor - (m + u)) ≡ anchor = omega arith in
           let some : i < i + 2 ^ m = (let w = pow_pos m in omega arith) in
@@ -179,11 +179,11 @@ module _ (dig : Digest) (k grown : Facts) (from anchor first count : ℕ) (reads
             at_node t (layer_run _ t lt) (index_run _ _ t lt)
             (known_at 0 _ (omega arith) (ap (λ h. (i / 2 ^ m * 2 ^ m + t) / 2 ^ h) whole_path ∙ leaf_over _ (omega (arith, index)) (omega (arith, index))))
         | inr le ↦
-            let u : ℕ = t - 2 ^ m in
+            let u = t - 2 ^ m in
             let split : t ≡ 2 ^ m + (t - 2 ^ m) = omega arith in
             let high_node : m + (t - 2 ^ m) < anchor = omega (arith, top, least) in
-            let layer : answer_layer 0 (2 ^ m) t ≡ m + u = ap (answer_layer 0 (2 ^ m)) split ∙ layer_uncle _ u ∙ ap (λ h. h + u) top in
-            let node : answer_index (i / 2 ^ m * 2 ^ m) (2 ^ m) t ≡ sibling_of (i / 2 ^ m / 2 ^ u) =
+            let layer = ap (answer_layer 0 (2 ^ m)) split ∙ layer_uncle _ u ∙ ap (λ h. h + u) top in
+            let node =
             ap (answer_index (i / 2 ^ m * 2 ^ m) (2 ^ m)) split ∙ index_uncle _ _ u ∙ ap (λ h. sibling_of (i / 2 ^ m * 2 ^ m / 2 ^ h / 2 ^ u)) top
             ∙ ap (λ x. sibling_of (x / 2 ^ m / 2 ^ u)) index in
             at_node t layer node (known_at _ _ (omega arith) (beside u high_node))
@@ -203,7 +203,7 @@ taught_answered dig k grown from old new reads adopted key (accepted anchor firs
     by true c =
         let m = contains_map (λ i. planned_key g i anchor) _ c in
         let run = contains_filter (λ i. i % 2 ^ min anchor max_run_height == 0) _ m.1 in
-        let start : first ≡ from / 2 ^ anchor * 2 ^ anchor = group.starts in
+        let start = group.starts in
         let inside = range_limits _ _ run.0 in
         rw (← m.2) (key_answer dig k g from _ first count rs m.0 group whole accepts refl (eqb-true (m.0 % 2 ^ min anchor max_run_height) 0 run.1)
         (omega arith) (omega arith))

@@ -127,10 +127,10 @@ module _ (dig : Digest) (b : BlockId) where
   -- a marked block is not due
   settle_stays : {is_meant tree from count old new calls notes : _} → SettlesIn dig is_meant tree from count old calls notes new → state_at old b ≡ Some Marked → state_at new b ≡ Some Marked
   settle_stays {is_meant} {old} {new} s m =
-      let f = and_then_some (λ (q : FileState). slice_get q.states b.block) (slice_get old.files b.file) m in
+      let f = and_then_some (λ q. slice_get q.states b.block) (slice_get old.files b.file) m in
       let unread : Contains (map block_of (s.reads b.file)) b.block → ⊥ = λ c. (
       let due = meant_then dig s.facts (is_meant b.file) (subst (λ xs. Contains xs b.block) (s.due b.file f.0 f.1) c) in
-      let no : Some Waiting ≡ Some Marked = sym due.1.waited ∙ f.2 in absurd cc
+      let no = sym due.1.waited ∙ f.2 in absurd cc
       ) in
       state_is new b (s.files b.file ∙ ap (option_map (judged_file dig s.facts (s.reads b.file))) f.1)
       (judged_other dig s.facts false (s.reads b.file) f.0.states b.block unread ∙ f.2)
@@ -246,12 +246,12 @@ module _ (dig : Digest) (b : BlockId) where
   wrong_before : {s mid file from calls more adopted : _} → AdoptsGroup dig s file from calls adopted mid → b.file ≡ file → IsFoundWrong dig mid more b → IsFoundWrong dig s more b
   wrong_before {more} g same w =
       let h = group_forward dig g g.is_file in
-      let tree : w.tree ≡ h.tree = same_some w.hung (hung_in h.is_file same) in
+      let tree = same_some w.hung (hung_in h.is_file same) in
       record {
         tree = g.tree;
         bytes = w.bytes;
         hung = hung_in g.is_file same;
-        read = rw (← (ap (λ (k : Facts). k.file_length) tree ∙ h.extends.file_length)) w.read;
+        read = rw (← (ap (λ k. k.file_length) tree ∙ h.extends.file_length)) w.read;
         wrong = λ r. w.wrong (rw tree (right_in dig h.extends r));
       }
 
@@ -305,7 +305,7 @@ module _ {D : Type 0} (history : D → History) (honest : D → Type 0) (faults 
   given_stands s {file} i n {bytes} before after (putting b more g k call here hung missing whole only writes) answered among =
       elim (contains_cases [] (subst (λ cs. Contains cs (file, call_of n (given i bytes))) only among)) [
         | inl same ↦ (
-            let call_is : call ≡ call_of n (given i bytes) = ap (λ (x : ℕ × Call). x.1) same in
+            let call_is = ap (λ x. x.1) same in
             absurd (elim writes [ inl wrote ↦ no_write (sym call_is ∙ wrote) | inr torn ↦ no_fault (sym call_is ∙ torn) ])
             )
         | inr none_left ↦ absurd (contains_none none_left)
@@ -316,8 +316,8 @@ module _ {D : Type 0} (history : D → History) (honest : D → Type 0) (faults 
     | inl kept ↦ kept
     | inr w ↦
         let d = have.each b.file e there in
-        let honest_before : honest d.0 = d.2.as_honest.1 honest_now in
-        let f = and_then_some (λ (q : FileState). slice_get q.states b.block) _ before in
+        let honest_before = d.2.as_honest.1 honest_now in
+        let f = and_then_some (λ q. slice_get q.states b.block) _ before in
         let hung : slice_get old.trees f.0.tree ≡ Some w.tree = cc in
         let there_before = sound b.file f.0 w.tree d.0 (record { here = f.1; hung = hung }) d.1 honest_before b.block f.2 in
         let stands = given_stands old _ _ _ _ (step_tame dig old new event calls _ step).1 (d.2.answered honest_before) w.read in
