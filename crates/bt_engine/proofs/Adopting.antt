@@ -53,7 +53,7 @@ module _ (dig : Digest) where
   same_tree : {k : _} → Extends dig k k
   same_tree = record { file_length = refl; root = refl; values = λ layer i d v. v; rooted = λ r. r }
 
-  groups_forward : (s : EngineState) {new file : _} (from : ℕ) (groups : List DeviceCalls) (total : Adopted) → AdoptsGroups dig s file from groups total new
+  groups_forward : (s : _) {new file : _} (from groups : _) (total : Adopted) → AdoptsGroups dig s file from groups total new
       → {f k : _} → IsFile s file f k → HasExtended new file k
   groups_forward s from [] total g {f} {k} is = record { state = f; tree = k; is_file = file_in g.1 is; extends = same_tree }
   groups_forward s from (calls ∷ groups) total g is =
@@ -118,7 +118,7 @@ module _ (dig : Digest) where
       | inr old ↦ inl old
     ]
 
-    pub groups_marks : (s : EngineState) {new file : _} (from : ℕ) (groups : List DeviceCalls) (total : Adopted) → AdoptsGroups dig s file from groups total new
+    pub groups_marks : (s : _) {new file : _} (from groups : _) (total : Adopted) → AdoptsGroups dig s file from groups total new
         → state_at new b ≡ Some Marked → (state_at s b ≡ Some Marked) ⊎ IsFound dig (Adopt file) (flat_map (λ c. c) groups) new b
     groups_marks s from [] total g m = inl (rw (← g.1) m)
     groups_marks s {new} {file} from (calls ∷ groups) total g m =
@@ -135,7 +135,7 @@ module _ (dig : Digest) where
         ]
 
     -- other files stay as they are
-    groups_others : (s new : EngineState) (file from : ℕ) (groups : List DeviceCalls) (total : Adopted) → AdoptsGroups dig s file from groups total new
+    groups_others : (s new file from groups : _) (total : Adopted) → AdoptsGroups dig s file from groups total new
         → b.file ≢ file → slice_get new.files b.file ≡ slice_get s.files b.file
     groups_others s new file from [] total g apart = cc
     groups_others s new file from (calls ∷ groups) total g apart =

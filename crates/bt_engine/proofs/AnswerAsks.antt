@@ -31,7 +31,7 @@ in_or_not (x ∷ xs) {b} = elim (same_or_not b) [
 abbrev AskedOf : List PeerState → BlockId → Type 0
 AskedOf peers b = (p : PeerState) × Contains peers p × Contains p.asked b
 
-asked_or_not : (peers : List PeerState) (b : BlockId) → AskedOf peers b ⊎ (AskedOf peers b → ⊥)
+asked_or_not : (peers b : _) → AskedOf peers b ⊎ (AskedOf peers b → ⊥)
 asked_or_not [] b = inr (λ a. contains_none a.1)
 asked_or_not (p ∷ peers) b = elim (in_or_not _) [
   | inl asked ↦ inl (p, here peers refl, asked)
@@ -89,7 +89,7 @@ module _ {dig : Digest} {s : EngineState} {i : ℕ} {sent : List Sent} {new : En
       by (rests none e is) = cc
 
   -- who is asked for a block is asked for it afterwards
-  asked_still : (b : BlockId) → IsAsked s b → f.planned.asked ≡ f.peer.asked → IsAsked then b
+  asked_still : (b : _) → IsAsked s b → f.planned.asked ≡ f.peer.asked → IsAsked then b
   asked_still b asked same =
       let at = some_at _ asked.1 in
       elim (nat_cases i at.0) [
@@ -103,7 +103,7 @@ module _ {dig : Digest} {s : EngineState} {i : ℕ} {sent : List Sent} {new : En
   asked_now {b} c = (after, contains_some _ i (set_same _ i f.here), Contains-append_right f.planned.asked f.blocks b c)
 
   -- each open block is asked for, and so each missing one that the peer has
-  all_asked : ((b : BlockId) → IsOpen s f.planned b → Contains f.blocks b) → (b : BlockId) → Has then after b → state_at then b ≡ Some Missing → IsAsked then b
+  all_asked : ((b : BlockId) → IsOpen s f.planned b → Contains f.blocks b) → (b : _) → Has then after b → state_at then b ≡ Some Missing → IsAsked then b
   all_asked each b has missing = elim (asked_or_not _ b) [
     | inl asked ↦ asked_still b asked same_flags.asked
     | inr none ↦ asked_now (each b (record { has = has; missing = missing; free = none }))

@@ -9,7 +9,7 @@ use Rattle.bt_engine.proofs.AnswerDue.{Taken, no_room, goes, shuts, step_taken, 
 
 -- ---- blocks that wait
 
-not_all : (states : List BlockState) (i : ℕ) → slice_get states i ≡ Some Waiting → list_all is_marked states ≡ false
+not_all : (states i : _) → slice_get states i ≡ Some Waiting → list_all is_marked states ≡ false
 not_all [] zero e = absurd cc
 not_all [] (suc i) e = absurd cc
 not_all (x ∷ states) zero e = cc
@@ -48,7 +48,7 @@ data PutRight (b : BlockId) (effect : Effect) (r : Result Put StoreError) : Type
   is_marked_now : r ≡ Ok PutMarked → effect ≡ noting (NowMarked b) → PutRight b effect r
   is_not_written : r ≡ Err DeviceFault → effect ≡ noting (Device b.file) → PutRight b effect r
 
-put_right : (dig : Digest) (k : Facts) {b : BlockId} (bytes : List ℕ) (states : List BlockState) {effect : _} (r : Result Put StoreError) → value_at dig k 0 b.block ≡ Some (dig bytes)
+put_right : (dig : Digest) (k : _) {b : BlockId} (bytes states : _) {effect : _} (r : Result Put StoreError) → value_at dig k 0 b.block ≡ Some (dig bytes)
     → PutIsDue dig k b.block bytes states r → HasPutEffect b r effect → PutRight b effect r
 put_right dig k bytes states (Ok PutMarked) leaf due e = is_marked_now refl e
 put_right dig k bytes states (Ok PutWaiting) leaf due e = absurd cc

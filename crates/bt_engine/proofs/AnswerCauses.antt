@@ -78,7 +78,7 @@ module _ (dig : Digest) (s : EngineState) (i : ℕ) (p : PeerState) (rest : Stre
   answer_causes (answered digests x e) = open_still e refl
   answer_causes (rejected x e) = open_still e refl
 
-  message_causes : (mid : EngineState) (m : PeerMessage) (calls : DeviceCalls) (effect : Effect) → Takes p.stream (Message m) rest → HandlesMessage dig t i q m calls effect mid → Causes effect
+  message_causes : (mid : _) (m : PeerMessage) (calls effect : _) → Takes p.stream (Message m) rest → HandlesMessage dig t i q m calls effect mid → Causes effect
   message_causes mid (Have piece) calls effect takes h = have_causes takes h.1
   message_causes mid (Bitfield bytes) calls effect takes h = bits_causes takes h.1
   message_causes mid (Request ask) calls effect takes h = request_causes takes h
@@ -87,7 +87,7 @@ module _ (dig : Digest) (s : EngineState) (i : ℕ) (p : PeerState) (rest : Stre
   message_causes mid (Hashes key digests) calls effect takes h = hashes_causes takes h
   message_causes mid _ calls effect takes h = open_still h.1 refl
 
-  pub event_causes : (mid : EngineState) (e : WireEvent) (calls : DeviceCalls) (effect : Effect) → Takes p.stream e rest → Handles dig t i q e calls effect mid → Causes effect
+  pub event_causes : (mid e calls effect : _) → Takes p.stream e rest → Handles dig t i q e calls effect mid → Causes effect
   event_causes mid (Hello h) calls effect takes x = hello_causes takes x.1
   event_causes mid (Message m) calls effect takes x = message_causes mid m calls _ takes x
   event_causes mid (Skipped kind) calls effect takes x = open_still x.1 refl
@@ -157,7 +157,7 @@ module _ (dig : Digest) where
   closes_as : {a b why : _} → a ≡ b → Closes a why → Closes b why
   closes_as {why} e c = rw (← e) c
 
-  step_cases : {s : _} (new : EngineState) (e : Event) (calls : DeviceCalls) (a : Answer) → Step dig s e calls a new → {why : _} → Closes a why → IsClosedFor s e why
+  step_cases : {s : _} (new e calls a : _) → Step dig s e calls a new → {why : _} → Closes a why → IsClosedFor s e why
   step_cases new Connect calls a t c = connect_closes t.3 (closes_as t.1 c)
   step_cases new (Next key) calls a t c = next_closes t.2 (closes_as t.1 c)
   step_cases new Rechoke calls a t c = rechoke_closes t.3 (closes_as t.1 c)

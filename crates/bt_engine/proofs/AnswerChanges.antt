@@ -51,7 +51,7 @@ told_with torrent more t = record {
 
 -- ---- what follows for a peer
 
-each_block : {s p : _} (blocks : List BlockId) (sent : List Sent) → RequestsEach s p blocks sent → {b : _} → Contains blocks b →
+each_block : {s p : _} (blocks sent : _) → RequestsEach s p blocks sent → {b : _} → Contains blocks b →
     (x : Sent) × Contains sent x × RequestsBlock s p b x
 each_block [] sent r c = absurd (contains_none c)
 each_block {s} {p} (d ∷ blocks) sent r c = elim (contains_cases blocks c) [
@@ -102,7 +102,7 @@ module _ {dig : Digest} {s : EngineState} {i : ℕ} {sent : List Sent} {new : En
   to_peer : {x y : _} (m : _) → x ≡ y → frame_to x m ≡ frame_to y m
   to_peer m e = cc
 
-  asked_hashes : (k : HashKey) → f.planned.hash ≡ Asked k → f.peer.hash ≢ Asked k → Contains sent (frame_to f.peer.key (HashRequest k))
+  asked_hashes : (k : _) → f.planned.hash ≡ Asked k → f.peer.hash ≢ Asked k → Contains sent (frame_to f.peer.key (HashRequest k))
   asked_hashes k y none = by f.hashes
     where
       by : RequestsHashes dig s f.interested f.hash_frames f.planned → Contains sent (frame_to f.peer.key (HashRequest k))
@@ -113,7 +113,7 @@ module _ {dig : Digest} {s : EngineState} {i : ℕ} {sent : List Sent} {new : En
           in_hashes (rw e (here [] frame))
       by (rests x e is) = absurd (none (cc))
 
-  asked_blocks : (b : BlockId) → Contains (f.planned.asked ++ f.blocks) b → ¬ Contains f.peer.asked b
+  asked_blocks : (b : _) → Contains (f.planned.asked ++ f.blocks) b → ¬ Contains f.peer.asked b
       → (ask : Ask) × IsWholeBlock new.torrent ask.piece ask.begin ask.length b × Contains sent (frame_to f.peer.key (Request ask))
   asked_blocks b c none = elim (Contains-append_cases f.planned.asked f.blocks b c) [
     | inl old ↦ absurd (none (rw (← ((same_plan f.hashes).same_asked ∙ ap (λ q. q.asked) f.interest.others)) old))
@@ -147,11 +147,11 @@ stays_so : {s : EngineState} {new sent j p : _} → slice_get s.peers j ≡ Some
 stays_so {p} at = record { before = p; at_place = at; same_key = refl; tells = nothing_new refl (asks_same refl refl) }
 
 -- the engine is the old one
-same_so : {s new : EngineState} (sent : List Sent) (j : ℕ) {p : PeerState} → new ≡ s → slice_get new.peers j ≡ Some p → Old s new sent p
+same_so : {s new : EngineState} (sent j : _) {p : PeerState} → new ≡ s → slice_get new.peers j ≡ Some p → Old s new sent p
 same_so sent j e at = (j, stays_so (cc))
 
 -- the peers are those of the old engine, but for one
-left_so : (s mid : EngineState) {new : _} (sent : List Sent) (i j : ℕ) {p : _} → ((n : ℕ) → n ≢ i → slice_get mid.peers n ≡ slice_get s.peers n)
+left_so : (s mid : EngineState) {new : _} (sent i j : _) {p : _} → ((n : ℕ) → n ≢ i → slice_get mid.peers n ≡ slice_get s.peers n)
     → new ≡ without_peer i mid → slice_get new.peers j ≡ Some p
     → Old s new sent p
 left_so s mid sent i j others after at =
@@ -189,14 +189,14 @@ none_there j {p} e at = by j (cc)
 
 module _ (dig : Digest) where
   -- what follows for other peers changes none of this one
-  each_keeps : (n a : ℕ) (s new : EngineState) (sent : List Sent) → FollowsEach dig (range_with_len a n) s sent new → (j : ℕ) → j < a
+  each_keeps : (n a s new sent : _) → FollowsEach dig (range_with_len a n) s sent new → (j : ℕ) → j < a
       → slice_get new.peers j ≡ slice_get s.peers j
   each_keeps zero a s new sent f j below = cc
   each_keeps (suc n) a s new sent f j below =
       each_keeps n _ f.0 new f.2 f.4 j (omega arith) ∙ ap (λ l. slice_get l j) (peers_then f.3)
       ∙ set_other _ a j _ (λ e. absurd (omega arith))
 
-  each_torrent : (places : List ℕ) (s new : EngineState) (sent : List Sent) → FollowsEach dig places s sent new → new.torrent ≡ s.torrent
+  each_torrent : (places s new sent : _) → FollowsEach dig places s sent new → new.torrent ≡ s.torrent
   each_torrent [] s new sent f = cc
   each_torrent (i ∷ places) s new sent f = each_torrent places f.0 new f.2 f.4 ∙ torrent_then f.3
 
@@ -296,7 +296,7 @@ module _ (dig : Digest) where
   next_told {s} (faulty i p out is g e) j at = left_so s s _ i j (λ n apart. refl) g.after at
   next_told {s} (no_memory i p is g e) j at = left_so s s _ i j (λ n apart. refl) g.after at
 
-  feed_told : {s new key bytes r : _} (sent : List Sent) → StepFeed s key bytes r new → (j : ℕ) {q : _}
+  feed_told : {s new key bytes r : _} (sent : _) → StepFeed s key bytes r new → (j : ℕ) {q : _}
       → slice_get new.peers j ≡ Some q → Old s new sent q
   feed_told {s} {new} sent (feeds i p is y e) j {q} at =
       let then = ap (λ x. slice_get x.peers j) (sym e) ∙ at in (
@@ -314,7 +314,7 @@ module _ (dig : Digest) where
   feed_told sent (not_fed x y e) j at = same_so sent j e at
   feed_told sent (no_room_to_feed i p x y e) j at = same_so sent j e at
 
-  lost_told : {s new key r : _} (sent : List Sent) → StepLost s key r new → (j : ℕ) {q : _} → slice_get new.peers j ≡ Some q
+  lost_told : {s new key r : _} (sent : _) → StepLost s key r new → (j : ℕ) {q : _} → slice_get new.peers j ≡ Some q
       → Old s new sent q
   lost_told {s} sent (goes i p x y e) j at = left_so s s sent i j (λ n apart. refl) e at
   lost_told sent (not_lost x y e) j at = same_so sent j e at
@@ -327,7 +327,7 @@ module _ (dig : Digest) where
       (j, told_more more (rechoke_told x.follows at))
   rechokes_told (not_rechoked x e) j at = same_so _ j e at
 
-  flush_told : {s new calls r : _} (sent : List Sent) → StepFlush s calls r new → (j : ℕ) {q : _}
+  flush_told : {s new calls r : _} (sent : _) → StepFlush s calls r new → (j : ℕ) {q : _}
       → slice_get new.peers j ≡ Some q → Old s new sent q
   flush_told sent (syncs x y z e) j at = same_so sent j e at
   flush_told sent (fails before file after x y z e) j at = same_so sent j e at
@@ -356,7 +356,7 @@ module _ (dig : Digest) {s : EngineState} (new : EngineState) {key : PeerKey} {p
       let then = alone c.after (rw (← at) c.is_after) in
       (ap (λ q. q.am_interested) same ∙ c.was_interested, ap (λ q. q.am_interested) (sym then) ∙ c.now_interested)
 
-  sent_changes : (e : Event) (calls : DeviceCalls) {a : _} → Step dig s e calls a new → ((c : PeerState) → IsPeer new key place c → c ≡ after)
+  sent_changes : (e calls : _) {a : _} → Step dig s e calls a new → ((c : PeerState) → IsPeer new key place c → c ≡ after)
       → Tells new (sent_by a) key before after
       → IsSentChanges new a key before after
   sent_changes e calls {a} t alone tells =
@@ -369,7 +369,7 @@ module _ (dig : Digest) {s : EngineState} (new : EngineState) {key : PeerKey} {p
       }
 
 module _ (dig : Digest) where
-  pub next_changes : {s new key place before after : _} (calls : DeviceCalls) {a : _}
+  pub next_changes : {s new key place before after : _} (calls : _) {a : _}
       → IsOnlyPeer s key place before → IsPeer new key place after → Step dig s (Next key) calls a new
       → IsSentChanges new a key before after
   next_changes {s} {new} {key} {place} {after} calls {a} one is t =
@@ -385,7 +385,7 @@ module _ (dig : Digest) where
     at : slice_get new.peers there ≡ Some after
     at = now.is_peer.here
 
-    alone : (c : PeerState) → IsPeer new key place c → c ≡ after
+    alone : (c : _) → IsPeer new key place c → c ≡ after
     alone c is = same_some (ap (slice_get new.peers) (sym (now.only place c is)) ∙ is.here) at
 
     still : {sent : _} → slice_get new.peers place ≡ Some before → Tells new sent key before after
@@ -406,7 +406,7 @@ module _ (dig : Digest) where
     adopt_tells (adopts total none x e) = absurd (none_there place none one.is_peer.here)
     adopt_tells (not_adopted none x e) = absurd (none_there place none one.is_peer.here)
 
-    all_told : (e : Event) (calls : DeviceCalls) (a : Answer) → Step dig s e calls a new → Tells new (sent_by a) key before after
+    all_told : (e calls a : _) → Step dig s e calls a new → Tells new (sent_by a) key before after
     all_told Connect calls a t = connect_tells t.3
     all_told (Feed k bytes) calls a t = of_old (feed_told dig _ t.3 there at)
     all_told (Next k) calls a t = of_old (rw t.1 (next_told dig t.2 there at))

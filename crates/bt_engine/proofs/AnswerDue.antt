@@ -30,7 +30,7 @@ pub data Taken (dig : Digest) (s : EngineState) (i : ℕ) (p : PeerState) (e : W
   shuts : (out : Output) (g : Closes dig s i p calls out new) → HandlesAt dig s i p rest e calls g.effect g.mid → answer ≡ of_next (Ok (Some out)) → Taken dig s i p e rest calls answer new
 
 module _ (dig : Digest) {s : EngineState} (new : EngineState) {key : PeerKey} {i : ℕ} {p : PeerState} (calls : DeviceCalls) {e : WireEvent} {rest : Stream} (one : IsOnlyPeer s key i p) (takes : Takes p.stream e rest) where
-  handled_as : {f r : _} (effect : Effect) (mid : EngineState) → Takes p.stream f r → HandlesAt dig s i p r f calls effect mid → HandlesAt dig s i p rest e calls effect mid
+  handled_as : {f r : _} (effect mid : _) → Takes p.stream f r → HandlesAt dig s i p r f calls effect mid → HandlesAt dig s i p rest e calls effect mid
   handled_as {r} effect mid took handles =
       let same = same_taking took takes in
       rw (← same.rest_is) (rw (← same.event_is) handles)

@@ -70,14 +70,14 @@ record Tells (old new : EngineState) (sent : List Sent) : Type 0 where
   uninterested : (key : PeerKey) → Contains sent (frame_to key NotInterested) → ChangesInterest old new key true false
 
 module _ (dig : Digest) where
-  each_stays : (n a : ℕ) {old s new : _} (sent : List Sent) → FollowsEach dig (range_with_len a n) s sent new → {key was now place : _} → place < a → ChangesAt old s key was now place
+  each_stays : (n a : ℕ) {old s new : _} (sent : _) → FollowsEach dig (range_with_len a n) s sent new → {key was now place : _} → place < a → ChangesAt old s key was now place
       → ChangesAt old new key was now place
   each_stays zero a {old} sent f {key} {was} {now} {place} below c = rw f.1 c
   each_stays (suc n) a sent f below c =
       each_stays n _ f.2 f.4 (omega arith)
       (stays_changed (follows_of f.3) (λ e. absurd (omega arith)) c)
 
-  each_tells : (n a : ℕ) {old : _} (s : EngineState) {new sent : _} → FollowsEach dig (range_with_len a n) s sent new → ((j : ℕ) (q : PeerState) → a ≤ j → slice_get s.peers j ≡ Some q → WasSo old j q) → Tells old new sent
+  each_tells : (n a : ℕ) {old : _} (s : _) {new sent : _} → FollowsEach dig (range_with_len a n) s sent new → ((j : ℕ) (q : PeerState) → a ≤ j → slice_get s.peers j ≡ Some q → WasSo old j q) → Tells old new sent
   each_tells zero a s f was_so = record {
     interested = λ key c. absurd (contains_none (subst (λ l. Contains l (frame_to key Interested)) f.0 c));
     uninterested = λ key c. absurd (contains_none (subst (λ l. Contains l (frame_to key NotInterested)) f.0 c));

@@ -7,7 +7,7 @@ use Rattle.bt_engine.proofs.AnswerParts.{event_leaves}
 use Rattle.bt_engine.proofs.AnswerSends.{follows_of}
 use Rattle.bt_engine.proofs.AnswerBlocks.{noted_with, one_note}
 
-same_leaf : (d : List ℕ) → pointwise nat_eq d d ≡ true
+same_leaf : (d : _) → pointwise nat_eq d d ≡ true
 same_leaf [] = refl
 same_leaf (x ∷ d) = rw (eq-eqb x x refl) (same_leaf d)
 
@@ -38,7 +38,7 @@ module _ (dig : Digest) (t mid : EngineState) (i : ℕ) (p : PeerState) (b : Blo
   request_notes (stopped span x c d f) m = fault_notes f.is_file.here f.finds m
 
   -- a block was put: it alone can be marked by that
-  put_notes : (c : BlockId) {f : _} (states : List BlockState) {stored : _} (q : PeerState) → slice_get t.files c.file ≡ Some f → stored ≡ with_file t c.file (record f { states = states }) → mid ≡ with_peer stored i q
+  put_notes : (c : BlockId) {f : _} (states : _) {stored : _} (q : _) → slice_get t.files c.file ≡ Some f → stored ≡ with_file t c.file (record f { states = states }) → mid ≡ with_peer stored i q
       → (slice_get states b.block ≡ Some Marked → b.file ≡ c.file → (slice_get f.states b.block ≡ Some Marked) ⊎ Contains effect.notes (NowMarked b)) → state_at mid b ≡ Some Marked → NotesMark t effect mid b
   put_notes c {f} states q at is after changes m =
       elim (file_marked t _ b (subst (λ x. state_at x b ≡ Some Marked) is (subst (λ x. state_at x b ≡ Some Marked) after m))) [
@@ -46,7 +46,7 @@ module _ (dig : Digest) (t mid : EngineState) (i : ℕ) (p : PeerState) (b : Blo
         | inr old ↦ inl old
       ]
 
-  put_changes : (c : BlockId) (states : List BlockState) (r : Result Put StoreError) → HasPutEffect c r effect → slice_get (states_after_put c.block r states) b.block ≡ Some Marked → b.file ≡ c.file
+  put_changes : (c states : _) (r : Result Put StoreError) → HasPutEffect c r effect → slice_get (states_after_put c.block r states) b.block ≡ Some Marked → b.file ≡ c.file
       → (slice_get states b.block ≡ Some Marked) ⊎ Contains effect.notes (NowMarked b)
   put_changes c states (Ok PutMarked) e now file = elim (set_cases states c.block b.block now) [
     | inl one ↦ inr (one_note (e ∙ ap (λ n. noting (NowMarked (record c { file = n }))) (sym file) ∙ ap (λ n. noting (NowMarked (record b { block = n }))) (sym one.0)))
@@ -61,7 +61,7 @@ module _ (dig : Digest) (t mid : EngineState) (i : ℕ) (p : PeerState) (b : Blo
       put_notes r.block (states_after_put r.block.block r.puts.result r.puts.file.states) _ r.puts.is_file.here r.puts.after r.after (put_changes r.block r.puts.file.states r.puts.result r.puts.has_effect) m
 
   -- a block that was read back and marked is noted
-  settle_notes : (tree from count : ℕ) (calls : DeviceCalls) (notes : List Note) (old settled : EngineState) → Settles dig tree from count old calls notes settled → state_at settled b ≡ Some Marked
+  settle_notes : (tree from count calls notes old settled : _) → Settles dig tree from count old calls notes settled → state_at settled b ≡ Some Marked
       → (state_at old b ≡ Some Marked) ⊎ Contains notes (NowMarked b)
   settle_notes tree from count calls notes old settled s now =
       let m = and_then_some (λ (q : FileState). slice_get q.states b.block) _ now in
@@ -95,7 +95,7 @@ module _ (dig : Digest) (t mid : EngineState) (i : ℕ) (p : PeerState) (b : Blo
   bits_notes (right x y e) m = as_before e (λ now. now) m
   bits_notes (wrong x y e) m = as_before e (λ now. now) m
 
-  message_notes : (msg : PeerMessage) (calls : DeviceCalls) → HandlesMessage dig t i p msg calls effect mid → state_at mid b ≡ Some Marked → NotesMark t effect mid b
+  message_notes : (msg : PeerMessage) (calls : _) → HandlesMessage dig t i p msg calls effect mid → state_at mid b ≡ Some Marked → NotesMark t effect mid b
   message_notes KeepAlive calls h m = as_before h.2 (λ now. now) m
   message_notes Choke calls h m = as_before h.2 (λ now. now) m
   message_notes Unchoke calls h m = as_before h.2 (λ now. now) m
@@ -110,7 +110,7 @@ module _ (dig : Digest) (t mid : EngineState) (i : ℕ) (p : PeerState) (b : Blo
   message_notes (Hashes key digests) calls h m = hashes_notes h m
   message_notes (HashReject key) calls h m = as_before h.2.after (λ now. now) m
 
-  event_notes : (e : WireEvent) (calls : DeviceCalls) → Handles dig t i p e calls effect mid → state_at mid b ≡ Some Marked → NotesMark t effect mid b
+  event_notes : (e calls : _) → Handles dig t i p e calls effect mid → state_at mid b ≡ Some Marked → NotesMark t effect mid b
   event_notes (Hello h) calls x m = as_before x.2 (λ now. now) m
   event_notes (Message msg) calls x m = message_notes msg calls x m
   event_notes (Skipped kind) calls x m = as_before x.2 (λ now. now) m

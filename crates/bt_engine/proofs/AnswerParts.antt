@@ -39,19 +39,19 @@ AllOf part xs = (x : Sent) → Contains xs x → part_of x.frame ≡ part
 pub all_none : (part : Part) → AllOf part []
 all_none part x c = absurd (contains_none c)
 
-pub all_one : {part : _} (x : Sent) (xs : List Sent) → part_of x.frame ≡ part → AllOf part xs → AllOf part (x ∷ xs)
+pub all_one : {part : _} (x : Sent) (xs : _) → part_of x.frame ≡ part → AllOf part xs → AllOf part (x ∷ xs)
 all_one x xs e rest y c = elim (contains_cases xs c) [ inl same ↦ ap (λ s. part_of s.frame) (sym same) ∙ e | inr more ↦ rest y more ]
 
 pub all_is : (part : Part) {xs ys : _} → xs ≡ ys → AllOf part ys → AllOf part xs
 all_is part e f = rw e f
 
-pub all_haves : (old new : EngineState) → AllOf announces (haves old new)
+pub all_haves : (old new : _) → AllOf announces (haves old new)
 all_haves old new x c =
     let p = contains_flat_map (λ piece. map (λ p. sent_to p (Have piece)) new.peers) _ c in
     let q = contains_map (λ q. sent_to q (Have p.0)) _ p.2 in
     ap (λ s. part_of s.frame) (sym q.2)
 
-pub all_interest : (p : PeerState) (was now : Bool) → AllOf interests (interest_sent p was now)
+pub all_interest : (p : _) (was now : Bool) → AllOf interests (interest_sent p was now)
 all_interest p true true = all_none interests
 all_interest p false false = all_none interests
 all_interest p _ _ = all_one _ [] refl (all_none interests)
@@ -60,7 +60,7 @@ pub all_hashes : {dig s p q sent : _} → RequestsHashes dig s p sent q → AllO
 all_hashes (requests b k key x y z w e f) = all_is _ e (all_one _ [] refl (all_none _))
 all_hashes (rests x e y) = all_is _ e (all_none _)
 
-pub all_asks : (s : EngineState) (p : PeerState) (blocks : List BlockId) (sent : List Sent) → RequestsEach s p blocks sent → AllOf asks sent
+pub all_asks : (s p blocks sent : _) → RequestsEach s p blocks sent → AllOf asks sent
 all_asks s p [] sent r = all_is asks r (all_none asks)
 all_asks s p (b ∷ blocks) sent r =
     all_is asks r.4 (all_one r.0 r.1 (ap (λ s. part_of s.frame) r.2.is) (all_asks s p blocks r.1 r.3))
@@ -108,15 +108,15 @@ pub asks_same : {p q : PeerState} → q.asked ≡ p.asked → q.hash ≡ p.hash 
 asks_same asked hash = record { blocks = λ b c. rw (← asked) c; hashes = λ k e. sym hash ∙ e }
 
 -- an answer to a hash request asks for none
-resolved : {key next old new : _} → ((k : HashKey) → next ≡ Asked k → ⊥) → Resolves key next old new → (k : HashKey) → new ≡ Asked k
+resolved : {key next old new : _} → ((k : HashKey) → next ≡ Asked k → ⊥) → Resolves key next old new → (k : _) → new ≡ Asked k
     → old ≡ Asked k
 resolved never (ours_asked x e) k f = absurd (never k (cc))
 resolved never (other_asked x e) k f = cc
 
-never_idle : (k : HashKey) → Idle ≡ Asked k → ⊥
+never_idle : (k : _) → Idle ≡ Asked k → ⊥
 never_idle k e = cc
 
-never_refused : (k : HashKey) → Refused ≡ Asked k → ⊥
+never_refused : (k : _) → Refused ≡ Asked k → ⊥
 never_refused k e = cc
 
 -- Only its peer is changed, and that keeps its key and our side's flags. The files change only where it stays.
@@ -162,7 +162,7 @@ module _ (dig : Digest) (s : EngineState) (i : ℕ) {p : PeerState} (at : slice_
   }))
 
   -- a file is another, and the peer stays connected
-  changes_file : (file : ℕ) (f : FileState) {e effect mid : _} → IsQuiet e → ((why : Why) → e.close ≡ Some why → ⊥) → effect ≡ e → mid ≡ with_file s file f → Leaves s i p effect mid
+  changes_file : (file f : _) {e effect mid : _} → IsQuiet e → ((why : Why) → e.close ≡ Some why → ⊥) → effect ≡ e → mid ≡ with_file s file f → Leaves s i p effect mid
   changes_file file f {e} {mid} quiet open_still same after = rw same (rw after (record {
     peer = p;
     same_key = refl;
@@ -208,7 +208,7 @@ module _ (dig : Digest) (s : EngineState) (i : ℕ) {p : PeerState} (at : slice_
   request_leaves (stopped span a c d f) = fault_leaves f.finds
 
   -- a block was put: its file may change, where the peer stays connected
-  put_leaves : (b : BlockId) {file : FileState} {q : PeerState} (r : Result Put StoreError) (states : List _) {effect : Effect} {stored mid : EngineState}
+  put_leaves : (b : BlockId) {file : FileState} {q : PeerState} (r : Result Put StoreError) (states : _) {effect : Effect} {stored mid : EngineState}
       → slice_get s.files b.file ≡ Some file → q.key ≡ p.key → q.am_interested ≡ p.am_interested → AsksLess p q → HasPutEffect b r effect
       → (r ≡ Ok Wrong → states ≡ file.states)
       → stored ≡ with_file s b.file (record file { states = states }) → mid ≡ with_peer stored i q → Leaves s i p effect mid
@@ -246,7 +246,7 @@ module _ (dig : Digest) (s : EngineState) (i : ℕ) {p : PeerState} (at : slice_
   piece_leaves (stale x y e z) = stays (notes_quietly _ refl) e z
   piece_leaves (arrives a) = arrives_leaves a
 
-  read_noted : (k : Facts) (file : ℕ) (read : BlockRead) → is_complete_note (read_note dig k file read) ≡ false
+  read_noted : (k file : _) (read : BlockRead) → is_complete_note (read_note dig k file read) ≡ false
   read_noted k file (given j bytes) = by _ refl
     where
       by : (b : Bool) → is_right dig k j bytes ≡ b → is_complete_note (read_note dig k file (given j bytes)) ≡ false
@@ -254,7 +254,7 @@ module _ (dig : Digest) (s : EngineState) (i : ℕ) {p : PeerState} (at : slice_
       by false e = rw e refl
   read_noted k file (failed j) = refl
 
-  settling_noted : (k : Facts) (file : ℕ) (reads : List BlockRead) → NoComplete (settling_notes dig k file reads)
+  settling_noted : (k file reads : _) → NoComplete (settling_notes dig k file reads)
   settling_noted k file reads note c =
       elim (Contains-append_cases (map (read_note dig k file) reads) _ note c) [
         | inl one ↦ let r = contains_map _ reads one in ap is_complete_note (sym r.2) ∙ read_noted k file r.0
@@ -291,7 +291,7 @@ module _ (dig : Digest) (s : EngineState) (i : ℕ) {p : PeerState} (at : slice_
   answer_leaves (answered digests x e) after = stays (replies_quietly _ refl) e after
   answer_leaves (rejected x e) after = stays (replies_quietly _ refl) e after
 
-  message_leaves : {mid : _} (m : PeerMessage) (calls : DeviceCalls) {effect : _} → HandlesMessage dig s i p m calls effect mid → Leaves s i p effect mid
+  message_leaves : {mid : _} (m : PeerMessage) (calls : _) {effect : _} → HandlesMessage dig s i p m calls effect mid → Leaves s i p effect mid
   message_leaves KeepAlive calls h = stays silent h.1 h.2
   message_leaves Choke calls h =
       sets refl refl silent h.1 h.2 (record { blocks = λ b c. absurd (contains_none c); hashes = λ k e. e })
@@ -311,7 +311,7 @@ module _ (dig : Digest) (s : EngineState) (i : ℕ) {p : PeerState} (at : slice_
   hello_leaves (ours x e) after = stays silent e after
   hello_leaves (other x e) after = stays (closes_quietly _) e after
 
-  pub event_leaves : {mid : _} (e : WireEvent) (calls : DeviceCalls) {effect : _} → Handles dig s i p e calls effect mid → Leaves s i p effect mid
+  pub event_leaves : {mid : _} (e calls : _) {effect : _} → Handles dig s i p e calls effect mid → Leaves s i p effect mid
   event_leaves (Hello h) calls t = hello_leaves t.1 t.2
   event_leaves (Message m) calls t = message_leaves m calls t
   event_leaves (Skipped kind) calls t = stays silent t.1 t.2

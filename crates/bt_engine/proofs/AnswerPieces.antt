@@ -95,7 +95,7 @@ module _ (dig : Digest) (s new : EngineState) where
   flush_keeps (syncs x y e z) = same_state (ap (λ x. of_flush x) e) refl z
   flush_keeps (fails before file after x y e z) = same_state (ap (λ x. of_flush x) e) refl z
 
-each_keeps : (dig : Digest) (places : List ℕ) (s new : EngineState) (sent : List Sent) → FollowsEach dig places s sent new → (new.files ≡ s.files) × (new.torrent ≡ s.torrent)
+each_keeps : (dig : Digest) (places s new sent : _) → FollowsEach dig places s sent new → (new.files ≡ s.files) × (new.torrent ≡ s.torrent)
 each_keeps dig [] s new sent f = (ap (λ x. x.files) f.1, ap (λ x. x.torrent) f.1)
 each_keeps dig (i ∷ places) s new sent f =
     let first = follows_of f.3 in
@@ -113,7 +113,7 @@ keeps_as {dig} {s} {new} e k = rw e k
 
 -- ---- taking in a file leaves no peer to tell
 
-groups_peers : (dig : Digest) (s new : EngineState) (file from : ℕ) (groups : List DeviceCalls) (total : Adopted) → AdoptsGroups dig s file from groups total new → new.peers ≡ s.peers
+groups_peers : (dig : Digest) (s new file from groups : _) (total : Adopted) → AdoptsGroups dig s file from groups total new → new.peers ≡ s.peers
 groups_peers dig s new file from [] total f = cc
 groups_peers dig s new file from (calls ∷ more) total f = groups_peers dig f.1 new file _ more f.2 f.4 ∙ ap (λ x. x.peers) f.3.after
 
@@ -128,7 +128,7 @@ adopt_keeps {dig} {s} {new} (empty f x y z w e v) = inl (same_state dig s new (a
 adopt_keeps (adopts total alone f e) = inr (file_peers f ∙ alone)
 adopt_keeps {dig} {s} {new} {file} (adopt_memory alone f e) = inr (groups_peers dig s new file 0 _ _ f.adopts ∙ alone)
 
-step_keeps : {dig s new : _} (e : Event) (calls : DeviceCalls) {a : _} → Step dig s e calls a new → Keeps dig s a new ⊎ (new.peers ≡ [])
+step_keeps : {dig s new : _} (e calls : _) {a : _} → Step dig s e calls a new → Keeps dig s a new ⊎ (new.peers ≡ [])
 step_keeps {dig} {s} {new} Connect calls t = inl (keeps_as t.1 (connect_keeps dig s new t.3))
 step_keeps {dig} {s} {new} (Feed key bytes) calls t = inl (keeps_as t.1 (feed_keeps dig s new t.3))
 step_keeps {dig} {s} {new} (Next key) calls t = inl (keeps_as t.1 (next_keeps dig s new t.2))
@@ -172,7 +172,7 @@ module _ {dig : Digest} {s new : EngineState} {key : PeerKey} {i : ℕ} {p : Pee
   piece_in (message_frame (Have piece)) = piece
   piece_in _ = 0
 
-  have_told : (k : PeerKey) {piece : ℕ} → Contains (haves s g.mid) (frame_to k (Have piece)) → IsConnected new k × (piece < total_pieces new.torrent) × BecomesSo is_whole s new piece
+  have_told : (k : _) {piece : ℕ} → Contains (haves s g.mid) (frame_to k (Have piece)) → IsConnected new k × (piece < total_pieces new.torrent) × BecomesSo is_whole s new piece
   have_told k {piece} c =
       let r = contains_flat_map (λ n. map (λ q. sent_to q (Have n)) g.mid.peers) (new_whole_pieces s g.mid) c in
       let q = contains_map (λ q. sent_to q (Have r.0)) g.mid.peers r.2 in
@@ -186,7 +186,7 @@ module _ {dig : Digest} {s new : EngineState} {key : PeerKey} {i : ℕ} {p : Pee
         record { before = not_so (is_whole s piece) both.1; after = whole_same g.mid new piece files_are torrent_is ∙ both.0 },
       )
 
-  tells_have : (k : PeerKey) {piece : ℕ} → IsConnected new k → piece < total_pieces new.torrent → BecomesSo is_whole s new piece → Contains out.send (frame_to k (Have piece))
+  tells_have : (k : _) {piece : ℕ} → IsConnected new k → piece < total_pieces new.torrent → BecomesSo is_whole s new piece → Contains out.send (frame_to k (Have piece))
   tells_have k {piece} c below b =
       let q = was_connected c in
       let in_range : Contains (piece_numbers g.mid) piece = range_contains _ (rw (← torrent_is) below) in
@@ -228,7 +228,7 @@ becomes_nothing : {X : Type 0} {holds : EngineState → ℕ → Bool} {s new : E
 becomes_nothing same b = absurd cc
 
 module _ (dig : Digest) where
-  have_sent : {s new : _} (key : PeerKey) {piece : ℕ} → IsSentBy dig s new (frame_to key (Have piece)) → IsConnected new key × (piece < total_pieces new.torrent) × BecomesSo is_whole s new piece
+  have_sent : {s new : _} (key : _) {piece : ℕ} → IsSentBy dig s new (frame_to key (Have piece)) → IsConnected new key × (piece < total_pieces new.torrent) × BecomesSo is_whole s new piece
   have_sent key (alike part like e) = absurd (unlike like e)
     where
       unlike : {part : _} → (part ≡ greets) ⊎ (part ≡ replies) ⊎ (part ≡ chokes) → announces ≡ part → ⊥
@@ -239,17 +239,17 @@ module _ (dig : Digest) where
   have_sent key {piece} (followed other i p calls out peer g c) = absurd ((follows_of g.follows).no_have key piece c)
   have_sent {s} {new} key {piece} (rechoked_then sent f c) = absurd (no_have_in _ (rechoked s) sent f c)
     where
-      no_have_in : (places : List ℕ) (t : EngineState) (sent : List Sent) → FollowsEach dig places t sent new → Contains sent (frame_to key (Have piece)) → ⊥
+      no_have_in : (places t sent : _) → FollowsEach dig places t sent new → Contains sent (frame_to key (Have piece)) → ⊥
       no_have_in [] t sent f c = contains_none (subst (λ l. Contains l (frame_to key (Have piece))) f.0 c)
       no_have_in (i ∷ places) t sent f c = elim (Contains-append_cases f.1 f.2 (frame_to key (Have piece)) (rw (← f.5) c)) [
         | inl one ↦ (follows_of f.3).no_have key piece one
         | inr more ↦ no_have_in places f.0 f.2 f.4 more
       ]
 
-  none_connected : {X : Type 0} (new : EngineState) (key : PeerKey) → new.peers ≡ [] → IsConnected new key → X
+  none_connected : {X : Type 0} (new : EngineState) (key : _) → new.peers ≡ [] → IsConnected new key → X
   none_connected new key none c = absurd (contains_none (contains_some [] c.0 (ap (λ l. slice_get l c.0) (sym none) ∙ c.2.here)))
 
-  sends_have : {s new a : _} (key : PeerKey) {piece : ℕ} → Keeps dig s a new → IsConnected new key → piece < total_pieces new.torrent → BecomesSo is_whole s new piece
+  sends_have : {s new a : _} (key : _) {piece : ℕ} → Keeps dig s a new → IsConnected new key → piece < total_pieces new.torrent → BecomesSo is_whole s new piece
       → Contains (sent_by a) (frame_to key (Have piece))
   sends_have {s} {new} key {piece} (keeps f t x) c below b = becomes_nothing (whole_same s new piece f t) b
   sends_have key {piece} (goes_further other i p calls out peer g e) c below b =

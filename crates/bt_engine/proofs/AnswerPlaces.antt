@@ -3,7 +3,7 @@ use Rattle.bt_engine.proofs.Base.{◌≡◌, ℕ, ◌+◌, ◌<◌, ◌≤◌, i
 use Rattle.bt_engine.proofs.Machine.{IsWholeBlock}
 
 -- the file at j ends no later than that at k begins
-ends_before : (f : File → ℕ) (files : List File) (j k : ℕ) (d : File) → j < k → k ≤ length files → sum_by f (take j files) + f (get_or files j d) ≤ sum_by f (take k files)
+ends_before : (f : File → ℕ) (files j k : _) (d : File) → j < k → k ≤ length files → sum_by f (take j files) + f (get_or files j d) ≤ sum_by f (take k files)
 ends_before f files j k d lt le =
     let shorter : j < length (take k files) = rw (length-take-le k files le) lt in
     rw (take-take j k files (omega arith), get_or-take k files j d lt) at (sum_by_more_le f (take k files) j d shorter)

@@ -7,10 +7,10 @@ use Rattle.bt_engine.proofs.Pairs.{contains_some}
 use Rattle.bt_engine.proofs.AnswerSends.{nat_cases, set_other, frame_to, Follows, follows_of, IsSentBy, alike, announced, followed, rechoked_then, step_sent}
 
 -- another engine in which the peer has the same pieces
-pub has_in : (s new : EngineState) (p q : PeerState) (b : BlockId) → new.torrent ≡ s.torrent → q.has ≡ p.has → Has s p b → Has new q b
+pub has_in : (s new : EngineState) (p q : PeerState) (b : _) → new.torrent ≡ s.torrent → q.has ≡ p.has → Has s p b → Has new q b
 has_in s new p q b e f has = rw e (rw f has)
 
-pub missing_in : (s new : EngineState) (b : BlockId) → new.files ≡ s.files → state_at s b ≡ Some Missing → state_at new b ≡ Some Missing
+pub missing_in : (s new : EngineState) (b : _) → new.files ≡ s.files → state_at s b ≡ Some Missing → state_at new b ≡ Some Missing
 missing_in s new b e m = rw e m
 
 module _ (dig : Digest) where
@@ -54,7 +54,7 @@ module _ (dig : Digest) where
       whole = subst (λ t. IsWholeBlock t ask.piece ask.begin ask.length r.block) (sym f.torrent) r.so.whole
 
       -- no other peer is asked for it afterwards
-      alone : (j : ℕ) (q : PeerState) → slice_get new.peers j ≡ Some q → Contains q.asked r.block → j ≡ r.place
+      alone : (j q : _) → slice_get new.peers j ≡ Some q → Contains q.asked r.block → j ≡ r.place
       alone j q at asked = elim (set_cases s.peers i j (subst (λ l. slice_get l j ≡ Some q) f.peers at)) [
         | inl one ↦ one.0 ∙ at_place (subst (λ l. Contains l r.block) (cc) asked)
         | inr old ↦ r.so.alone j q old asked
@@ -100,11 +100,11 @@ module _ (dig : Digest) where
         };
       }
 
-  each_stays : (places : List ℕ) {s new : _} (sent : List Sent) → FollowsEach dig places s sent new → {key ask : _} → IsRequested s key ask → IsRequested new key ask
+  each_stays : (places : _) {s new : _} (sent : _) → FollowsEach dig places s sent new → {key ask : _} → IsRequested s key ask → IsRequested new key ask
   each_stays [] sent f {key} {ask} r = rw f.1 r
   each_stays (i ∷ places) sent f r = each_stays places f.2 f.4 (stays_right (follows_of f.3) r)
 
-  each_asks : (places : List ℕ) (s : EngineState) {new : _} (sent : List Sent) → FollowsEach dig places s sent new → {key ask : _} → Contains sent (frame_to key (Request ask)) → IsRequested new key ask
+  each_asks : (places s : _) {new : _} (sent : _) → FollowsEach dig places s sent new → {key ask : _} → Contains sent (frame_to key (Request ask)) → IsRequested new key ask
   each_asks [] s sent f {key} {ask} c = absurd (contains_none (subst (λ l. Contains l (frame_to key (Request ask))) f.0 c))
   each_asks (i ∷ places) s sent f {key} {ask} c = elim (Contains-append_cases f.1 f.2 (frame_to key (Request ask)) (rw (← f.5) c)) [
     | inl one ↦ each_stays places f.2 f.4 (asks_rightly (follows_of f.3) one)

@@ -79,7 +79,7 @@ not_false : (b : Bool) → (b ≡ false → ⊥) → b ≡ true
 not_false true never = refl
 not_false false never = absurd (never refl)
 
-each_ask : {s p : _} (blocks : List BlockId) (sent : List Sent) → RequestsEach s p blocks sent → {x : _} → Contains sent x → (b : BlockId) × Contains blocks b × RequestsBlock s p b x
+each_ask : {s p : _} (blocks sent : _) → RequestsEach s p blocks sent → {x : _} → Contains sent x → (b : BlockId) × Contains blocks b × RequestsBlock s p b x
 each_ask [] sent r {x} c = absurd (contains_none (subst (λ l. Contains l x) r c))
 each_ask {s} {p} (b ∷ blocks) sent r {x} c = elim (contains_cases r.1 (subst (λ l. Contains l x) r.4 c)) [
   | inl same ↦ (b, here blocks refl, subst (λ y. RequestsBlock s p b y) same r.2)
@@ -90,7 +90,7 @@ abbrev ask_in : Frame → Ask
 ask_in (message_frame (Request ask)) = ask
 ask_in _ = record { piece = 0; begin = 0; length = 0 }
 
-told_interest : (p : PeerState) (was now : Bool) {key : _} → Contains (interest_sent p was now) (frame_to key Interested) → (was ≡ false) × (now ≡ true) × (p.key ≡ key)
+told_interest : (p : _) (was now : Bool) {key : _} → Contains (interest_sent p was now) (frame_to key Interested) → (was ≡ false) × (now ≡ true) × (p.key ≡ key)
 told_interest p false true c = elim (contains_cases [] c) [ inl same ↦ (refl, refl, ap (λ x. x.peer) same) | inr none ↦ absurd (contains_none none) ]
 told_interest p true false {key} c = elim (contains_cases [] c) [ inl same ↦ absurd (not_told same) | inr none ↦ absurd (contains_none none) ]
   where
@@ -102,7 +102,7 @@ told_interest p true false {key} c = elim (contains_cases [] c) [ inl same ↦ a
     not_told same = let wrong = ap (λ x. is_told x.frame) same in absurd cc
 told_interest p _ _ c = absurd (contains_none c)
 
-told_no_interest : (p : PeerState) (was now : Bool) {key : _} → Contains (interest_sent p was now) (frame_to key NotInterested) → (was ≡ true) × (now ≡ false) × (p.key ≡ key)
+told_no_interest : (p : _) (was now : Bool) {key : _} → Contains (interest_sent p was now) (frame_to key NotInterested) → (was ≡ true) × (now ≡ false) × (p.key ≡ key)
 told_no_interest p true false c = elim (contains_cases [] c) [ inl same ↦ (refl, refl, ap (λ x. x.peer) same) | inr none ↦ absurd (contains_none none) ]
 told_no_interest p false true {key} c = elim (contains_cases [] c) [ inl same ↦ absurd (not_told same) | inr none ↦ absurd (contains_none none) ]
   where
@@ -148,7 +148,7 @@ module _ {dig : Digest} {s : EngineState} {i : ℕ} {sent : List Sent} {new : En
   no_interest_told (in_hash c) = let e = of_hash c in absurd cc
   no_interest_told (in_block c) = let e = of_block c in absurd cc
 
-  have_not_told : (key : PeerKey) (piece : ℕ) → stands (frame_to key (Have piece)) → ⊥
+  have_not_told : (key piece : _) → stands (frame_to key (Have piece)) → ⊥
   have_not_told key piece (in_interest c) = let e = of_interest c in absurd cc
   have_not_told key piece (in_hash c) = let e = of_hash c in absurd cc
   have_not_told key piece (in_block c) = let e = of_block c in absurd cc
@@ -198,13 +198,13 @@ module _ (dig : Digest) where
   abbrev Sent_by : EngineState → EngineState → List Sent → Type 0
   Sent_by s new xs = (x : Sent) → Contains xs x → IsSentBy dig s new x
 
-  nothing_sent : (s new : EngineState) {a b : _} → a ≡ b → sent_by b ≡ [] → Sent_by s new (sent_by a)
+  nothing_sent : (s new : _) {a b : _} → a ≡ b → sent_by b ≡ [] → Sent_by s new (sent_by a)
   nothing_sent s new e none x c = absurd (contains_none (subst (λ l. Contains l x) (ap sent_by e ∙ none) c))
 
-  sent_is : (s new : EngineState) {xs ys : _} → xs ≡ ys → Sent_by s new ys → Sent_by s new xs
+  sent_is : (s new : _) {xs ys : _} → xs ≡ ys → Sent_by s new ys → Sent_by s new xs
   sent_is s new e f = rw e f
 
-  greeting_sent : (s new : EngineState) (xs : List Sent) → AllOf greets xs → Sent_by s new xs
+  greeting_sent : (s new xs : _) → AllOf greets xs → Sent_by s new xs
   greeting_sent s new xs all x c = alike greets (inl refl) (all x c)
 
   goes_on_sent : {s new key i p calls out : _} → IsPeer s key i p → GoesOn dig s i p calls out new → Sent_by s new out.send
@@ -235,7 +235,7 @@ module _ (dig : Digest) where
   connect_sent {s} {new} (spent x y e z) = nothing_sent s new (ap (λ x. of_connect x) e) refl
   connect_sent {s} {new} (no_room x y e z) = nothing_sent s new (ap (λ x. of_connect x) e) refl
 
-  choking_part : (p : PeerState) (choked served : Bool) → AllOf chokes (choking_sent p choked served)
+  choking_part : (p : _) (choked served : Bool) → AllOf chokes (choking_sent p choked served)
   choking_part p true false = all_none chokes
   choking_part p false true = all_none chokes
   choking_part p _ _ = all_one _ [] refl (all_none chokes)
@@ -253,7 +253,7 @@ module _ (dig : Digest) where
   rechoke_sent {s} {new} (rechokes out x e) = sent_is s new (ap (λ x. sent_by (of_rechoke x)) e) (rechokes_sent x)
   rechoke_sent {s} {new} (not_rechoked e x) = nothing_sent s new (ap (λ x. of_rechoke x) e) refl
 
-  pub step_sent : (s new : EngineState) (e : Event) (calls : DeviceCalls) (a : Answer) → Step dig s e calls a new → Sent_by s new (sent_by a)
+  pub step_sent : (s new e calls a : _) → Step dig s e calls a new → Sent_by s new (sent_by a)
   step_sent s new Connect calls a t = sent_is s new (ap sent_by t.1) (connect_sent t.3)
   step_sent s new (Next key) calls a t = sent_is s new (ap sent_by t.1) (next_sent t.2)
   step_sent s new Rechoke calls a t = sent_is s new (ap sent_by t.1) (rechoke_sent t.3)

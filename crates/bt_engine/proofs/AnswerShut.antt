@@ -145,7 +145,7 @@ module _ (dig : Digest) (s : EngineState) (i : ℕ) (p : PeerState) (rest : Stre
   abbrev t : EngineState
   t = with_peer s i q
 
-  put_shuts : (k : Facts) (b : BlockId) (bytes : List ℕ) (states : _) (effect : Effect) (r : Result Put StoreError)
+  put_shuts : (k : _) (b : BlockId) (bytes states effect : _) (r : Result Put StoreError)
       → IsWrong dig (value_at dig k 0 b.block) bytes → PutIsDue dig k b.block bytes states r → HasPutEffect b r effect
       → Shuts effect WrongBlock
   put_shuts k b bytes states effect (Ok PutMarked) w due e = absurd (w.2 (same_some w.1 due.2))
@@ -172,10 +172,10 @@ module _ (dig : Digest) (s : EngineState) (i : ℕ) (p : PeerState) (rest : Stre
   here_then : {root tree k : _} → IsTreeOf s root tree k → IsTreeOf t root tree k
   here_then x = record { here = x.here; same_root = x.same_root }
 
-  unknown_before : (root : List ℕ) → IsUnknownRoot t root → IsUnknownRoot s root
+  unknown_before : (root : _) → IsUnknownRoot t root → IsUnknownRoot s root
   unknown_before root u tree k is = u tree k (here_then is)
 
-  known_before : (root : List ℕ) → ¬ IsUnknownRoot t root → ¬ IsUnknownRoot s root
+  known_before : (root : _) → ¬ IsUnknownRoot t root → ¬ IsUnknownRoot s root
   known_before root known u = known (λ tree k is. u tree k (here_before is))
 
   hashes_shut : {key digests why effect mid : _} → AreFor dig s key digests why
@@ -198,11 +198,11 @@ module _ (dig : Digest) {s : EngineState} (new : EngineState) {key : PeerKey} {i
       → Handles dig (with_peer s i (record p { stream = rest })) i (record p { stream = rest }) e calls effect mid → Shuts effect why) → IsShut why
   shut_by why {e} {rest} takes shut = by (step_taken dig new calls one takes step)
     where
-      stays_open : {X : Type 0} (effect : Effect) → Shuts effect why → effect.close ≡ None → X
+      stays_open : {X : Type 0} (effect : _) → Shuts effect why → effect.close ≡ None → X
       stays_open effect e none = absurd cc
 
       -- the event changes no other peer
-      others : (effect : Effect) (mid : EngineState)
+      others : (effect mid : _)
           → Handles dig (with_peer s i (record p { stream = rest })) i (record p { stream = rest }) e calls effect mid
           → (n : ℕ) → n ≢ i → slice_get mid.peers n ≡ slice_get s.peers n
       others effect mid h n apart =
@@ -246,7 +246,7 @@ module _ (dig : Digest) {s : EngineState} (new : EngineState) {key : PeerKey} {i
       by_fault is (no_memory j q x g e) = no_event (at x) g.takes
   shut_for lawful apart (other_torrent h rest takes differs) = shut_by _ takes hello
     where
-      hello : (effect : Effect) (mid : EngineState)
+      hello : (effect mid : _)
           → Handles dig (with_peer s i (record p { stream = rest })) i (record p { stream = rest }) (Hello h) calls effect mid → Shuts effect WrongTorrent
       hello effect mid x = by x.1
         where
@@ -268,7 +268,7 @@ module _ (dig : Digest) {s : EngineState} (new : EngineState) {key : PeerKey} {i
       bits (wrong x e y) = by_effect _ e
   shut_for lawful apart (has_no_place ask rest takes open_to none) = shut_by _ takes request
     where
-      request : (effect : Effect) (mid : EngineState)
+      request : (effect mid : _)
           → HandlesRequest dig (with_peer s i (record p { stream = rest })) i (record p { stream = rest }) ask calls effect mid → Shuts effect BadRequest
       request effect mid (ignored choked x y z) = absurd cc
       request effect mid (no_place x y z e w) = by_effect _ e

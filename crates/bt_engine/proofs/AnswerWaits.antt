@@ -10,7 +10,7 @@ use Rattle.bt_engine.proofs.AnswerPieces.{filter_contains}
 -- ---- states
 
 -- a block's state after a file was replaced: it stands in the new file, or it was so
-file_state : (s : EngineState) {file : ℕ} (new : FileState) (b : BlockId) {x : _} → state_at (with_file s file new) b ≡ Some x → ((b.file ≡ file) × (slice_get new.states b.block ≡ Some x)) ⊎ (state_at s b ≡ Some x)
+file_state : (s : _) {file : ℕ} (new b : _) {x : _} → state_at (with_file s file new) b ≡ Some x → ((b.file ≡ file) × (slice_get new.states b.block ≡ Some x)) ⊎ (state_at s b ≡ Some x)
 file_state s {file} new b {x} e =
     let m = and_then_some (λ (q : FileState). slice_get q.states b.block) _ e in
     elim (set_cases _ file _ m.1) [
@@ -19,7 +19,7 @@ file_state s {file} new b {x} e =
     ]
 
 -- its tree is the same where the file keeps its tree
-same_tree : (s : EngineState) (file : ℕ) {f : _} (states : List BlockState) (n : ℕ) → slice_get s.files file ≡ Some f → tree_of (with_file s file (record f { states = states })) n ≡ tree_of s n
+same_tree : (s : EngineState) (file : ℕ) {f : _} (states n : _) → slice_get s.files file ≡ Some f → tree_of (with_file s file (record f { states = states })) n ≡ tree_of s n
 same_tree s file {f} states n at = elim (nat_cases file n) [
   | inl e ↦
       ap (λ m. option_and_then (λ q. slice_get s.trees q.tree) (slice_get (slice_set s.files file (record f { states = states })) m)) (sym e)
@@ -53,7 +53,7 @@ more_unread {b} {i} v {reads} {states} never rest = elim (nat_cases b i) [
   }
 ]
 
-judged_waits : (dig : Digest) (k : Facts) (reads : List BlockRead) {states i : _} → slice_get (judged dig k false reads states) i ≡ Some Waiting → WaitedUnread reads states i
+judged_waits : (dig : Digest) (k reads : _) {states i : _} → slice_get (judged dig k false reads states) i ≡ Some Waiting → WaitedUnread reads states i
 judged_waits dig k [] e = record { waited = e; unread = λ c. contains_none c }
 judged_waits dig k (given b bytes ∷ reads) e =
     let r = more_unread _ (verdict_waits _) (judged_waits dig k reads e) in
@@ -121,7 +121,7 @@ module _ (dig : Digest) (t mid : EngineState) (i : ℕ) (p : PeerState) (b : Blo
   request_waits (stopped span x c d f) = fault_waits f.is_file.here f.finds
 
   -- a block that was put waits only where its leaf is unknown
-  put_waits : (k : Facts) (c : BlockId) (bytes : List ℕ) (states : List BlockState) (r : Result Put StoreError) → PutIsDue dig k c.block bytes states r → slice_get (states_after_put c.block r states) b.block ≡ Some Waiting
+  put_waits : (k : _) (c : BlockId) (bytes states : _) (r : Result Put StoreError) → PutIsDue dig k c.block bytes states r → slice_get (states_after_put c.block r states) b.block ≡ Some Waiting
       → ((b.block ≡ c.block) × (value_at dig k 0 c.block ≡ None)) ⊎ (slice_get states b.block ≡ Some Waiting)
   put_waits k c bytes states (Ok PutMarked) due now = elim (set_cases states c.block b.block now) [ inl one ↦ absurd cc | inr old ↦ inr old ]
   put_waits k c bytes states (Ok PutWaiting) due now = elim (set_cases states c.block b.block now) [ inl one ↦ inl (one.0, due.2) | inr old ↦ inr old ]
@@ -250,7 +250,7 @@ module _ (dig : Digest) (t mid : EngineState) (i : ℕ) (p : PeerState) (b : Blo
   hashes_waits (refused f n k c x y z g) = unchanged g.after (λ now. now) refl
   hashes_waits (learns l) = learns_waits b l
 
-  message_waits : (msg : PeerMessage) (calls : DeviceCalls) → HandlesMessage dig t i p msg calls effect mid → Unknown dig t mid b
+  message_waits : (msg : PeerMessage) (calls : _) → HandlesMessage dig t i p msg calls effect mid → Unknown dig t mid b
   message_waits KeepAlive calls h = unchanged h.2 (λ now. now) refl
   message_waits Choke calls h = unchanged h.2 (λ now. now) refl
   message_waits Unchoke calls h = unchanged h.2 (λ now. now) refl
@@ -265,7 +265,7 @@ module _ (dig : Digest) (t mid : EngineState) (i : ℕ) (p : PeerState) (b : Blo
   message_waits (Hashes key digests) calls h = hashes_waits h
   message_waits (HashReject key) calls h = unchanged h.2.after (λ now. now) refl
 
-  event_waits : (e : WireEvent) (calls : DeviceCalls) → Handles dig t i p e calls effect mid → Unknown dig t mid b
+  event_waits : (e calls : _) → Handles dig t i p e calls effect mid → Unknown dig t mid b
   event_waits (Hello h) calls x = unchanged x.2 (λ now. now) refl
   event_waits (Message msg) calls x = message_waits msg calls x
   event_waits (Skipped kind) calls x = unchanged x.2 (λ now. now) refl
@@ -277,7 +277,7 @@ module _ (dig : Digest) (s new : EngineState) (key : PeerKey) (calls : DeviceCal
       rw e (ap (λ ts. leaf_at dig (record m { trees = ts }) b) trees ∙ ap (λ fs. leaf_at dig (record s { files = fs }) b) files ∙ before (rw (← files) still))
 
   -- what follows, and a peer that goes, change no block and no tree
-  after_event : (i : ℕ) (p : PeerState) (effect : Effect) (mid : EngineState) (e : WireEvent) (rest : Stream) → Handles dig (with_peer s i (record p { stream = rest })) i (record p { stream = rest }) e calls effect mid
+  after_event : (i p effect mid e rest : _) → Handles dig (with_peer s i (record p { stream = rest })) i (record p { stream = rest }) e calls effect mid
       → new.files ≡ mid.files → new.trees ≡ mid.trees → Unknown dig s new b
   after_event i p effect mid e rest handles files trees before now =
       ap (λ ts. leaf_at dig (record new { trees = ts }) b) trees ∙ ap (λ fs. leaf_at dig (record mid { files = fs }) b) files

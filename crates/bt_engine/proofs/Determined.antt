@@ -14,7 +14,7 @@ nil_of [] e = refl
 nil_of (x ∷ xs) e = absurd (omega arith)
 
 -- a file with a block has as many states as its tree has blocks
-sized : {torrent s : _} → IsShaped torrent s → {file : ℕ} (f : FileState) (k : Facts) → IsFile s file f k → f.states ≢ [] → blocks_of k ≡ length f.states
+sized : {torrent s : _} → IsShaped torrent s → {file : ℕ} (f k : _) → IsFile s file f k → f.states ≢ [] → blocks_of k ≡ length f.states
 sized {torrent} {s} shaped {file} f k is some =
     let entry = get_some torrent.files file (omega (arith, some_below s.files file is.here)) in
     let shape = shaped.each file entry.0 f entry.1 is.here in
@@ -41,7 +41,7 @@ module _ (dig : Digest) where
   remembers : {a b : _} → a ≡ b → IsOutOfMemory b → ¬ IsOutOfMemory a → ⊥
   remembers e out memory = memory (rw e out)
 
-  pub step_one : {torrent : Metainfo} {s new other : _} (event : Event) (calls : DeviceCalls) {answer another : _} → IsLaidOut torrent.piece_length torrent.files → IsShaped torrent s → IsOrderly s
+  pub step_one : {torrent : Metainfo} {s new other : _} (event calls : _) {answer another : _} → IsLaidOut torrent.piece_length torrent.files → IsShaped torrent s → IsOrderly s
       → Step dig s event calls answer new → Step dig s event calls another other → ¬ IsOutOfMemory answer → ¬ IsOutOfMemory another → AreOne answer new another other
   step_one Connect calls lay shaped o x y memory room =
       answers x.1 y.1 (connect_one x.3 y.3 (λ e. remembers (x.1 ∙ ap of_connect e) tt memory) (λ e. remembers (y.1 ∙ ap of_connect e) tt room))
@@ -62,7 +62,7 @@ module _ (dig : Digest) where
 
   module _ (torrent : Metainfo) (lay : IsLaidOut torrent.piece_length torrent.files) (P : Answer → Answer → Type 0) (force : (m : EngineState) (a b : Answer) → IsShaped torrent m → P a b → SameAsks m (sent_by a) (sent_by b)) where
     -- where each two answers request the same, for this reason
-    pub run_one : (s : EngineState) {new other : _} (events : List Event) (calls : List DeviceCalls) (answers others : List Answer) → IsShaped torrent s → IsOrderly s
+    pub run_one : (s : _) {new other : _} (events calls answers others : _) → IsShaped torrent s → IsOrderly s
         → Run dig s events calls answers new → Run dig s events calls others other → HaveMemory answers → HaveMemory others → EachPair P answers others → (answers ≡ others) × (new ≡ other)
     run_one s [] [] [] [] shaped o x y memory room each = (refl, x ∙ sym y)
     run_one s {other} (e ∷ es) (c ∷ cs) (a ∷ answers) (b ∷ others) shaped o x y memory room each =
@@ -94,7 +94,7 @@ module _ (dig : Digest) where
   step_forced s new other event calls answer another r x y memory room few =
       (step_one event calls r.lawful.laid_out (shape_of r) (order_of r) x y memory room).whole (elim few [ inl none ↦ by_none none | inr one ↦ by_one one ])
 
-  pairs_of : (answers others : List Answer) → map block_requests answers ≡ map block_requests others → EachPair (λ a b. block_requests a ≡ block_requests b) answers others
+  pairs_of : (answers others : _) → map block_requests answers ≡ map block_requests others → EachPair (λ a b. block_requests a ≡ block_requests b) answers others
   pairs_of [] others e = tt
   pairs_of (a ∷ answers) [] e = tt
   pairs_of (a ∷ answers) (b ∷ others) e =

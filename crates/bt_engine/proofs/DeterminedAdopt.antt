@@ -48,7 +48,7 @@ data IsSize (dig : Digest) (k : Facts) (from n : ℕ) : Type 0 where
   of_known : (count : ℕ) → IsKnownGroup dig k from count → n ≡ count → IsSize dig k from n
   of_unknown : (anchor first count : ℕ) → IsUnknownGroup k from anchor first count → n ≡ count → IsSize dig k from n
 
-reads_size : (reads : List BlockRead) (first : ℕ) {count : ℕ} → map block_of reads ≡ range_with_len first count → length reads ≡ count
+reads_size : (reads first : _) {count : ℕ} → map block_of reads ≡ range_with_len first count → length reads ≡ count
 reads_size reads first {count} e = sym (length-map reads block_of) ∙ ap length e ∙ length-range_with_len first count
 
 adopts_size : {dig k from states reads adopted grown after : _} → from < blocks_of k
@@ -71,7 +71,7 @@ one_if_le true = omega arith
 one_if_le false = omega arith
 
 -- a read that failed gave no whole block
-counts_le : (n : ℕ) (reads : List BlockRead) → count_by (is_whole n) reads + fault_count reads ≤ length reads
+counts_le : (n reads : _) → count_by (is_whole n) reads + fault_count reads ≤ length reads
 counts_le n [] = omega arith
 counts_le n (given i bytes ∷ reads) =
     let more = counts_le n reads in
@@ -84,7 +84,7 @@ counts_le n (failed i ∷ reads) =
 whole_or_failed : {n first count reads : _} → AreWhole n first count reads → 0 < fault_count reads → ⊥
 whole_or_failed {n} {first} {reads} whole some = absurd (omega (arith, counts_le n reads, reads_size reads first whole.blocks))
 
-same_claim : (dig : Digest) (k : Facts) {a b f g : ℕ} (reads : List BlockRead) → a ≡ b → f ≡ g → claim_of_reads dig k.file_length a f reads ≡ claim_of_reads dig k.file_length b g reads
+same_claim : (dig : Digest) (k : Facts) {a b f g : ℕ} (reads : _) → a ≡ b → f ≡ g → claim_of_reads dig k.file_length a f reads ≡ claim_of_reads dig k.file_length b g reads
 same_claim dig k {b} {f} reads anchor first = cc
 
 abbrev adopted_as : (next anchor marked faults : ℕ) → Adopted
@@ -137,7 +137,7 @@ result_one left (unread a1 f1 c1 rs1 g1 w1 z1) (none end) = absurd (omega arith)
 
 -- ---- what a log keeps
 
-pub proofs_one : (dig : Digest) (k : Facts) (keys : List HashKey) (xs ys : List Hint) → AllZip (IsProof dig k) keys xs → AllZip (IsProof dig k) keys ys → xs ≡ ys
+pub proofs_one : (dig : Digest) (k keys xs ys : _) → AllZip (IsProof dig k) keys xs → AllZip (IsProof dig k) keys ys → xs ≡ ys
 proofs_one dig k [] [] [] x y = refl
 proofs_one dig k [] (h ∷ xs) ys x y = absurd x
 proofs_one dig k (key ∷ keys) [] ys x y = absurd x
@@ -192,7 +192,7 @@ module _ (dig : Digest) where
       let tree : g.grown ≡ k = (file_one own is).1 in
       ap blocks_of (sym tree) ∙ ap block_count (group_extends dig g).file_length ∙ sized g.state g.tree g.is_file
 
-  groups_one : (s : EngineState) (file from : ℕ) {n : ℕ} (xs ys : List DeviceCalls) {more rest t u a b : _} → HasBlocks s file n → AdoptsGroups dig s file from xs t a → AdoptsGroups dig s file from ys u b
+  groups_one : (s file from : _) {n : ℕ} (xs ys : _) {more rest t u a b : _} → HasBlocks s file n → AdoptsGroups dig s file from xs t a → AdoptsGroups dig s file from ys u b
       → t.next ≡ n → u.next ≡ n → flat_map (λ c. c) xs ++ more ≡ flat_map (λ c. c) ys ++ rest → (more ≡ rest) × (t ≡ u) × (a ≡ b)
   groups_one s file from [] [] sized x y p q e = (e, x.0 ∙ sym y.0, x.1 ∙ sym y.1)
   groups_one s file from [] (d ∷ ys) sized x y p q e =

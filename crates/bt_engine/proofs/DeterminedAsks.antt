@@ -31,7 +31,7 @@ are_equal e f = record { plain = cc; rest = cc; whole = λ same. (e, f) }
 pub asks_to : {m f g h k : _} → f ≡ h → g ≡ k → SameAsks m f g → SameAsks m h k
 asks_to {m} {g} {h} e i same = rw (← i) (rw (← e) same)
 
-requests_append : (xs ys : List Sent) → requests_in (xs ++ ys) ≡ requests_in xs ++ requests_in ys
+requests_append : (xs ys : _) → requests_in (xs ++ ys) ≡ requests_in xs ++ requests_in ys
 requests_append xs ys = filter-append (λ x. is_block_request x.frame) xs ys
 
 nil_of_append : {X : Type 0} (xs : List X) {ys : List X} → xs ++ ys ≡ [] → (xs ≡ []) × (ys ≡ [])
@@ -42,7 +42,7 @@ lacks_there : (s m : EngineState) → m.files ≡ s.files → LacksOneAtMost m �
 lacks_there s m e one b c x y = one b c (missing_in s m b e x) (missing_in s m c e y)
 
 -- behind what both send
-pub asks_behind : {s m : EngineState} (xs : List Sent) {f g : _} → m.files ≡ s.files → SameAsks m (xs ++ f) (xs ++ g) → SameAsks s f g
+pub asks_behind : {s m : EngineState} (xs : _) {f g : _} → m.files ≡ s.files → SameAsks m (xs ++ f) (xs ++ g) → SameAsks s f g
 asks_behind xs {f} {g} e (by_requests same) = by_requests (append_cancel_left (requests_in xs) (requests_in f) (requests_in g) (sym (requests_append xs f) ∙ same ∙ requests_append xs g))
 asks_behind xs {f} e (by_none none) = by_none (nil_of_append _ (sym (requests_append xs f) ∙ none)).1
 asks_behind {s} {m} xs e (by_one one) = by_one (lacks_there s m e one)
@@ -61,15 +61,15 @@ range_one {torrent} {a} {c} {b} x y =
     let count : a.length ≡ c.length = cc in
     ap (λ n. record a { piece = n }) piece ∙ ap (λ n. record a { piece = c.piece; begin = n }) begin ∙ ap (λ n. record c { length = n }) count
 
-frames_one : (s : EngineState) (p : PeerState) (blocks : List BlockId) {f g : _} → RequestsEach s p blocks f → RequestsEach s p blocks g → f ≡ g
+frames_one : (s p blocks : _) {f g : _} → RequestsEach s p blocks f → RequestsEach s p blocks g → f ≡ g
 frames_one s p [] x y = cc
 frames_one s p (b ∷ blocks) x y =
     x.4 ∙ ap (λ z. z ∷ x.1) (x.2.is ∙ ap (λ a. sent_to p (Request a)) (range_one x.2.whole y.2.whole) ∙ sym y.2.is) ∙ ap (λ zs. y.0 ∷ zs) (frames_one s p blocks x.3 y.3) ∙ sym y.4
 
-ask_sent : (p : PeerState) {a c : _} → sent_to p (Request a) ≡ sent_to p (Request c) → a ≡ c
+ask_sent : (p : _) {a c : _} → sent_to p (Request a) ≡ sent_to p (Request c) → a ≡ c
 ask_sent p e = let frames = ap (λ x. x.frame) e in cc
 
-blocks_one : (s : EngineState) (p : PeerState) (bs cs : List BlockId) (f : List Sent) → IsLaidOut s.torrent.piece_length s.torrent.files
+blocks_one : (s : EngineState) (p bs cs f : _) → IsLaidOut s.torrent.piece_length s.torrent.files
     → RequestsEach s p bs f → RequestsEach s p cs f → bs ≡ cs
 blocks_one s p [] [] f lay x y = refl
 blocks_one s p [] (c ∷ cs) f lay x y = let no = sym x ∙ y.4 in absurd cc
@@ -80,14 +80,14 @@ blocks_one s p (b ∷ bs) (c ∷ cs) f lay x y =
     let block = same_block _ lay _ _ _ x.2.whole (rw ask y.2.whole) in
     ap (λ z. z ∷ bs) block ∙ ap (λ zs. c ∷ zs) (blocks_one s p bs cs x.1 lay x.3 (rw (tails same) y.3))
 
-no_block : (s : EngineState) (p : PeerState) (bs : List BlockId) → RequestsEach s p bs [] → bs ≡ []
+no_block : (s p bs : _) → RequestsEach s p bs [] → bs ≡ []
 no_block s p [] x = refl
 no_block s p (b ∷ bs) x = let no = x.4 in absurd cc
 
 -- ---- which blocks are asked
 
 -- where none is asked, none may be
-asks_none : {s p : _} (bs : List BlockId) → AsksBlocks s p [] → AsksBlocks s p bs → bs ≡ []
+asks_none : {s p : _} (bs : _) → AsksBlocks s p [] → AsksBlocks s p bs → bs ≡ []
 asks_none [] x y = refl
 asks_none {p} (b ∷ bs) x y = absurd (never _ _ refl refl)
   where
@@ -97,30 +97,30 @@ asks_none {p} (b ∷ bs) x y = absurd (never _ _ refl refl)
     never false true e f = elim (x.all e f) [ inl full ↦ (let few = y.few in absurd (omega arith)) | inr every ↦ contains_none (every b (y.are_open b (here bs refl))) ]
 
 -- where at most one block is missing, there is no choice
-asks_one : {s p : _} (bs cs : List BlockId) → LacksOneAtMost s → AsksBlocks s p bs → AsksBlocks s p cs → bs ≡ cs
+asks_one : {s p : _} (bs cs : _) → LacksOneAtMost s → AsksBlocks s p bs → AsksBlocks s p cs → bs ≡ cs
 asks_one [] cs one x y = sym (asks_none cs x y)
 asks_one (b ∷ bs) [] one x y = asks_none _ y x
 asks_one {s} {p} (b ∷ bs) (c ∷ cs) one x y =
     ap (λ zs. b ∷ zs) (alone bs x) ∙ ap (λ z. z ∷ []) (one b c (x.are_open b (here bs refl)).missing (y.are_open c (here cs refl)).missing) ∙ ap (λ zs. c ∷ zs) (sym (alone cs y))
   where
-    alone : {d : _} (ds : List BlockId) → AsksBlocks s p (d ∷ ds) → ds ≡ []
+    alone : {d : _} (ds : _) → AsksBlocks s p (d ∷ ds) → ds ≡ []
     alone [] x = refl
     alone {d} (e ∷ ds) x = absurd (x.distinct 0 1 d (omega arith) (omega arith) (one d e (x.are_open d (here (e ∷ ds) refl)).missing (x.are_open e (later d (e ∷ ds) (here ds refl))).missing))
 
 -- ---- what is sent, by its parts
 
-interest_no_request : (p : PeerState) (was now : Bool) → requests_in (interest_sent p was now) ≡ []
+interest_no_request : (p : _) (was now : Bool) → requests_in (interest_sent p was now) ≡ []
 interest_no_request p true true = refl
 interest_no_request p true false = refl
 interest_no_request p false true = refl
 interest_no_request p false false = refl
 
-only_requests : (s : EngineState) (p : PeerState) (blocks : List BlockId) {sent : _} → RequestsEach s p blocks sent → requests_in sent ≡ sent
+only_requests : (s p blocks : _) {sent : _} → RequestsEach s p blocks sent → requests_in sent ≡ sent
 only_requests s p [] r = cc
 only_requests s p (b ∷ blocks) r =
     ap requests_in r.4 ∙ ap (λ x. requests_in (x ∷ r.1)) r.2.is ∙ ap (λ zs. sent_to p (Request r.2.ask) ∷ zs) (only_requests s p blocks r.3) ∙ ap (λ x. x ∷ r.1) (sym r.2.is) ∙ sym r.4
 
-all_to : (s : EngineState) (p : PeerState) (blocks : List BlockId) (sent : List Sent) {z : _} → RequestsEach s p blocks sent → Contains sent z
+all_to : (s p blocks sent : _) {z : _} → RequestsEach s p blocks sent → Contains sent z
     → z.peer ≡ p.key
 all_to s p [] sent {z} r c = absurd (contains_none (subst (λ l. Contains l z) r c))
 all_to s p (b ∷ blocks) sent {z} r c = elim (contains_cases r.1 (subst (λ l. Contains l z) r.4 c)) [
@@ -210,7 +210,7 @@ module _ (dig : Digest) where
   own_key {s} {z} x c =
       all_to s _ _ _ x.requests (subst (λ l. Contains l z) (requests_of x) c) ∙ (same_plan x.hashes).same_key ∙ ap (λ p. p.key) x.interest.others
 
-  each_key : (is : List ℕ) (s : EngineState) (sent : List Sent) (new : EngineState) {z : _} → FollowsEach dig is s sent new → Contains (requests_in sent) z
+  each_key : (is s sent new : _) {z : _} → FollowsEach dig is s sent new → Contains (requests_in sent) z
       → (j : ℕ) × Contains is j × (p : PeerState) × (slice_get s.peers j ≡ Some p) × (z.peer ≡ p.key)
   each_key [] s sent new {z} x c = absurd (contains_none (subst (λ l. Contains (requests_in l) z) x.0 c))
   each_key (i ∷ is) s sent new {z} x c = elim (Contains-append_cases (requests_in x.1) (requests_in x.2) z (rw (← (ap requests_in x.5 ∙ requests_append x.1 x.2)) c)) [
@@ -221,7 +221,7 @@ module _ (dig : Digest) where
         (r.0, later i is r.1, p.0, p.1, r.4 ∙ p.2)
   ]
 
-  split_by : (P : Sent → Type 0) (xs ys : List Sent) {us vs : _} → ((z : Sent) → Contains xs z → P z) → ((z : Sent) → Contains ys z → P z)
+  split_by : (P : Sent → Type 0) (xs ys : _) {us vs : _} → ((z : Sent) → Contains xs z → P z) → ((z : Sent) → Contains ys z → P z)
       → ((z : Sent) → Contains us z → ¬ P z) → ((z : Sent) → Contains vs z → ¬ P z) → xs ++ us ≡ ys ++ vs
       → (xs ≡ ys) × (us ≡ vs)
   split_by P [] [] p q r t e = (refl, e)
@@ -231,11 +231,11 @@ module _ (dig : Digest) where
       let tail = split_by P xs ys (λ z c. p z (later x xs c)) (λ z c. q z (later y ys c)) r t (tails e) in
       (ap (λ z. z ∷ xs) (heads e) ∙ ap (λ zs. y ∷ zs) tail.0, tail.1)
 
-  each_files : (is : List ℕ) (s : EngineState) (sent : List Sent) (new : EngineState) → FollowsEach dig is s sent new → new.files ≡ s.files
+  each_files : (is s sent new : _) → FollowsEach dig is s sent new → new.files ≡ s.files
   each_files [] s sent new x = cc
   each_files (i ∷ is) s sent new x = each_files is x.0 x.2 new x.4 ∙ ap (λ z. z.files) x.3.after
 
-  pub each_same : (is : List ℕ) (s : EngineState) {f g a b : _} → IsLaidOut s.torrent.piece_length s.torrent.files → KeysApart s
+  pub each_same : (is : _) (s : EngineState) {f g a b : _} → IsLaidOut s.torrent.piece_length s.torrent.files → KeysApart s
       → Pairs (λ i j. i ≢ j) is → FollowsEach dig is s f a → FollowsEach dig is s g b → SameAsks a f g
       → (f ≡ g) × (a ≡ b)
   each_same [] s lay apart once x y same = (x.0 ∙ sym y.0, x.1 ∙ sym y.1)
@@ -253,7 +253,7 @@ module _ (dig : Digest) where
       peer_is = cc
 
       -- what is asked of later peers goes to other keys
-      others : {mid h : _} (k : List Sent) (new : EngineState) {z : _} → Follows s i h mid → FollowsEach dig is mid k new
+      others : {mid h : _} (k new : _) {z : _} → Follows s i h mid → FollowsEach dig is mid k new
           → Contains (requests_in k) z → z.peer ≡ x.3.peer.key → ⊥
       others {mid} k new fol each c e =
           let r = each_key is mid k new each c in

@@ -38,7 +38,7 @@ first_call : {file : ℕ} {c d : Call} {xs ys : DeviceCalls} → (file, c) ∷ x
 first_call e = (ap (λ p. p.1) (heads e), tails e)
 
 -- reads are told from their calls
-pub reads_one : (file n : ℕ) (xs ys : List BlockRead) → reads_at file n xs ≡ reads_at file n ys → xs ≡ ys
+pub reads_one : (file n xs ys : _) → reads_at file n xs ≡ reads_at file n ys → xs ≡ ys
 reads_one file n [] [] e = refl
 reads_one file n (x ∷ xs) (y ∷ ys) e =
     let parts = first_call e in
@@ -65,7 +65,7 @@ list_one _ _ same = let no = same 0 in absurd cc
 
 -- ---- settling
 
-settled_files : (dig : Digest) (k : Facts) (o : Option FileState) (xs ys : List BlockRead) → ((f : FileState) → o ≡ Some f → xs ≡ ys) → option_map (judged_file dig k xs) o ≡ option_map (judged_file dig k ys) o
+settled_files : (dig : Digest) (k : _) (o : Option FileState) (xs ys : _) → ((f : FileState) → o ≡ Some f → xs ≡ ys) → option_map (judged_file dig k xs) o ≡ option_map (judged_file dig k ys) o
 settled_files dig k None xs ys same = refl
 settled_files dig k (Some f) xs ys same = ap (λ zs. Some (judged_file dig k zs f)) (same f refl)
 
@@ -101,7 +101,7 @@ settles_one {dig} {is_meant} {tree} {from} {count} {old} {a} {b} x y = (
 
 -- ---- a request
 
-same_cut : (blocks : List ℕ) (f g : ℕ → List ℕ) → map (λ i. given i (f i)) blocks ≡ map (λ i. given i (g i)) blocks → flat_map f blocks ≡ flat_map g blocks
+same_cut : (blocks : _) (f g : ℕ → List ℕ) → map (λ i. given i (f i)) blocks ≡ map (λ i. given i (g i)) blocks → flat_map f blocks ≡ flat_map g blocks
 same_cut [] f g e = refl
 same_cut (i ∷ blocks) f g e =
     let first : f i ≡ g i = cc in
@@ -109,7 +109,7 @@ same_cut (i ∷ blocks) f g e =
     ap (λ xs. xs ++ flat_map f blocks) first ∙ ap (λ xs. g i ++ xs) (same_cut blocks f g rest)
 
 -- a list of reads that is longer than another by one, which begins as it does
-last_given : (f g : ℕ → List ℕ) (before : List ℕ) {block : ℕ} (after : List ℕ) {read : _} → map (λ i. given i (f i)) (before ++ block ∷ after) ≡ map (λ i. given i (g i)) before ++ read ∷ [] → given block (f block) ≡ read
+last_given : (f g : ℕ → List ℕ) (before : _) {block : ℕ} (after : _) {read : _} → map (λ i. given i (f i)) (before ++ block ∷ after) ≡ map (λ i. given i (g i)) before ++ read ∷ [] → given block (f block) ≡ read
 last_given f g [] after e = heads e
 last_given f g (i ∷ before) {block} after {read} e =
     let rest = tails e in
@@ -178,16 +178,16 @@ module _ (dig : Digest) (s : EngineState) where
   some_none : {X : Type 0} {o : Option X} {x : X} → o ≡ Some x → o ≡ None → ⊥
   some_none e f = let no = sym e ∙ f in absurd cc
 
-  wrong_right : {leaf : _} (bytes : List ℕ) → IsWrong dig leaf bytes → leaf ≡ Some (dig bytes) → ⊥
+  wrong_right : {leaf : _} (bytes : _) → IsWrong dig leaf bytes → leaf ≡ Some (dig bytes) → ⊥
   wrong_right bytes w e = w.2 (same_some w.1 e)
 
-  wrote_or_failed : (file at : ℕ) (bytes : List ℕ) → calls_at file (bytes_written at bytes ∷ []) ≡ calls_at file (write_fault at bytes ∷ []) → ⊥
+  wrote_or_failed : (file at bytes : _) → calls_at file (bytes_written at bytes ∷ []) ≡ calls_at file (write_fault at bytes ∷ []) → ⊥
   wrote_or_failed file at bytes e = let no : bytes_written at bytes ≡ write_fault at bytes = (first_call e).0 in absurd cc
 
   some_or_none : (file : ℕ) (c : Call) → calls_at file (c ∷ []) ≡ [] → ⊥
   some_or_none file c e = absurd cc
 
-  put_one : (file i : ℕ) (bytes : List ℕ) (k : Facts) (states : List BlockState) {calls : _} (e f : Effect) (r q : Result Put StoreError) → PutIsDue dig k i bytes states r → PutIsDue dig k i bytes states q
+  put_one : (file i bytes k states : _) {calls : _} (e f : _) (r q : Result Put StoreError) → PutIsDue dig k i bytes states r → PutIsDue dig k i bytes states q
       → HasPutEffect (block_id file i) r e → HasPutEffect (block_id file i) q f → calls ≡ calls_at file (calls_of_put i bytes r) → calls ≡ calls_at file (calls_of_put i bytes q) → r ≡ q
   put_one file i bytes k states e f (Ok PutMarked) (Ok PutMarked) x y ex fy x_made y_made = refl
   put_one file i bytes k states e f (Ok PutMarked) (Ok PutWaiting) x y ex fy x_made y_made = absurd (some_none x.2 y.2)
@@ -209,7 +209,7 @@ module _ (dig : Digest) (s : EngineState) where
   put_one file i bytes k states e f (Err Range) r x y ex fy x_made y_made = absurd ex
   put_one file i bytes k states e f _ _ x y ex fy x_made y_made = absurd fy
 
-  put_effect : (b : BlockId) (r : Result Put StoreError) {e f : _} → HasPutEffect b r e → HasPutEffect b r f → e ≡ f
+  put_effect : (b : _) (r : Result Put StoreError) {e f : _} → HasPutEffect b r e → HasPutEffect b r f → e ≡ f
   put_effect b (Ok Already) x y = absurd x
   put_effect b (Err Range) x y = absurd x
   put_effect b _ x y = cc
@@ -358,7 +358,7 @@ module _ (dig : Digest) (s : EngineState) where
     hello_one (other_torrent a b) (our_torrent x y) = absurd (a x)
     hello_one (other_torrent a b) (other_torrent x y) = cc
 
-    message_one : (i : ℕ) (p : PeerState) (msg : Sent) (calls : DeviceCalls) {e f m n : _} → HandlesMessage dig s i p msg calls e m → HandlesMessage dig s i p msg calls f n → (e ≡ f) × (m ≡ n)
+    message_one : (i p : _) (msg : Sent) (calls : _) {e f m n : _} → HandlesMessage dig s i p msg calls e m → HandlesMessage dig s i p msg calls f n → (e ≡ f) × (m ≡ n)
     message_one i p KeepAlive calls x y = (x.1 ∙ sym y.1, x.2 ∙ sym y.2)
     message_one i p Choke calls x y = (x.1 ∙ sym y.1, x.2 ∙ sym y.2)
     message_one i p Unchoke calls x y = (x.1 ∙ sym y.1, x.2 ∙ sym y.2)
@@ -374,7 +374,7 @@ module _ (dig : Digest) (s : EngineState) where
     message_one i p (HashReject key) calls x y =
         (x.1 ∙ sym y.1, x.2.after ∙ ap (λ h. with_peer s i (record p { hash = h })) (resolves_one x.2.resolves y.2.resolves) ∙ sym y.2.after)
 
-    pub event_one : (i : ℕ) (p : PeerState) (event : WireEvent) (calls : DeviceCalls) {e f m n : _} → Handles dig s i p event calls e m → Handles dig s i p event calls f n → (e ≡ f) × (m ≡ n)
+    pub event_one : (i p event calls : _) {e f m n : _} → Handles dig s i p event calls e m → Handles dig s i p event calls f n → (e ≡ f) × (m ≡ n)
     event_one i p (Hello h) calls x y = (hello_one x.1 y.1, x.2 ∙ sym y.2)
     event_one i p (Message msg) calls x y = message_one i p msg calls x y
     event_one i p (Skipped kind) calls x y = (x.1 ∙ sym y.1, x.2 ∙ sym y.2)

@@ -11,17 +11,17 @@ Alike s t = without_asked s ≡ without_asked t
 abbrev pub AlikePeers : PeerState → PeerState → Type 0
 AlikePeers p q = asked_nothing p ≡ asked_nothing q
 
-has_in : (s t : EngineState) (p q : PeerState) (b : BlockId) → Alike s t → AlikePeers p q → Has s p b → Has t q b
+has_in : (s t p q b : _) → Alike s t → AlikePeers p q → Has s p b → Has t q b
 has_in s t p q b same peers has =
     ap (λ x. option_and_then (λ piece. slice_get x.has piece) (piece_of t.torrent b)) (sym peers)
     ∙ ap (λ x. option_and_then (λ piece. slice_get p.has piece) (piece_of x.torrent b)) (sym same) ∙ has
 
-state_in : (s t : EngineState) (b : BlockId) → Alike s t → state_at t b ≡ state_at s b
+state_in : (s t b : _) → Alike s t → state_at t b ≡ state_at s b
 state_in s t b same = ap (λ x. state_at x b) (sym same)
 
 -- ---- interest
 
-interesting_in : (s t : EngineState) (p q : PeerState) → Alike s t → AlikePeers p q → IsInteresting s p → IsInteresting t q
+interesting_in : (s t p q : _) → Alike s t → AlikePeers p q → IsInteresting s p → IsInteresting t q
 interesting_in s t p q same peers i = (i.0, has_in s t p q i.0 same peers i.1, state_in s t i.0 same ∙ i.2)
 
 bool_one : (P Q : Type 0) (a b : Bool) → (P → Q) → (Q → P) → (a ≡ true) ↔ P → (b ≡ true) ↔ Q → a ≡ b
@@ -30,7 +30,7 @@ bool_one P Q true false f g x y = sym (y.1 (f (x.0 refl)))
 bool_one P Q false true f g x y = x.1 (g (y.0 refl))
 bool_one P Q false false f g x y = refl
 
-interest_plain : (p : PeerState) (was now : Bool) → interest_sent p was now ≡ interest_sent (asked_nothing p) was now
+interest_plain : (p : _) (was now : Bool) → interest_sent p was now ≡ interest_sent (asked_nothing p) was now
 interest_plain p true true = refl
 interest_plain p _ _ = refl
 
@@ -91,7 +91,7 @@ module _ (dig : Digest) where
 
 -- ---- requests of blocks
 
-no_others : (s : EngineState) (p : PeerState) (blocks : List BlockId) (sent : List Sent) → RequestsEach s p blocks sent → other_frames sent ≡ []
+no_others : (s p blocks sent : _) → RequestsEach s p blocks sent → other_frames sent ≡ []
 no_others s p [] sent r = cc
 no_others s p (b ∷ blocks) sent r = ap other_frames r.4 ∙ ap (λ x. other_frames (x ∷ r.1)) r.2.is ∙ no_others s p blocks r.1 r.3
 
@@ -105,7 +105,7 @@ map_get f [] i e = absurd cc
 map_get f (y ∷ xs) zero e = cc
 map_get f (y ∷ xs) (suc i) e = map_get f xs i e
 
-pub other_append : (xs ys : List Sent) → other_frames (xs ++ ys) ≡ other_frames xs ++ other_frames ys
+pub other_append : (xs ys : _) → other_frames (xs ++ ys) ≡ other_frames xs ++ other_frames ys
 other_append xs ys = filter-append (λ x. not (is_block_request x.frame)) xs ys
 
 -- ---- all three
@@ -129,7 +129,7 @@ module _ (dig : Digest) where
           → without_asked m ≡ record (without_asked r) { peers = slice_set (map asked_nothing r.peers) i (asked_nothing p) }
       plain r p blocks e = ap without_asked e ∙ ap (λ ps. record r { peers = ps }) (map_slice_set asked_nothing r.peers i (record p { asked = p.asked ++ blocks }))
 
-  pub each_one : (peers : List ℕ) (s t : EngineState) (f g : List Sent) (a b : EngineState) → Alike s t → FollowsEach dig peers s f a → FollowsEach dig peers t g b → (other_frames f ≡ other_frames g) × Alike a b
+  pub each_one : (peers s t f g a b : _) → Alike s t → FollowsEach dig peers s f a → FollowsEach dig peers t g b → (other_frames f ≡ other_frames g) × Alike a b
   each_one [] s t f g a b same x y = (ap other_frames (x.0 ∙ sym y.0), ap without_asked x.1 ∙ same ∙ sym (ap without_asked y.1))
   each_one (i ∷ peers) s t f g a b same x y =
       let one = follows_one same x.3 y.3 in

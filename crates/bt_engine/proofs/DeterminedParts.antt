@@ -69,7 +69,7 @@ facts_is {a} {b} size root nodes =
     ap (λ x. record a { file_length = x }) size ∙ ap (λ x. record a { file_length = b.file_length; root = x }) root ∙ ap (λ x. record b { nodes = x }) nodes
 
 module _ (dig : Digest) where
-  accepted_in : {k c a b : _} → Accepts dig k c a → Accepts dig k c b → (layer i : ℕ) (d : List ℕ) → held_at a layer i ≡ Some d → held_at b layer i ≡ Some d
+  accepted_in : {k c a b : _} → Accepts dig k c a → Accepts dig k c b → (layer i d : _) → held_at a layer i ≡ Some d → held_at b layer i ≡ Some d
   accepted_in x y layer i d e = elim (x.joins.only layer i d e) [ inl old ↦ y.joins.kept layer i d old | inr new ↦ y.joins.added layer i d new.0 new.1 ]
 
   pub accepts_one : {k c a b : _} → Accepts dig k c a → Accepts dig k c b → a ≡ b

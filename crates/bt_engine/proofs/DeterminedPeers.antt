@@ -34,7 +34,7 @@ byte_one {x} {y} p q e =
     let b7 = bit_one _ _ (omega arith) (omega arith) (ap (λ bs. get_or bs 7 false) e) in
     omega (arith, byte_sum p, byte_sum q)
 
-pub bytes_one : (xs ys : List ℕ) → All (λ byte. byte < 256) xs → All (λ byte. byte < 256) ys → length xs ≡ length ys → bits_in xs ≡ bits_in ys → xs ≡ ys
+pub bytes_one : (xs ys : _) → All (λ byte. byte < 256) xs → All (λ byte. byte < 256) ys → length xs ≡ length ys → bits_in xs ≡ bits_in ys → xs ≡ ys
 bytes_one [] [] p q size e = refl
 bytes_one [] (y ∷ ys) p q size e = absurd (omega arith)
 bytes_one (x ∷ xs) [] p q size e = absurd (omega arith)
@@ -118,12 +118,12 @@ rechoke_one {dig} {s} {m} {n} {a} {b} lay o (rechokes out x e) (rechokes other y
 
 -- ---- devices
 
-no_fault_among : (files : List ℕ) {c : _} → Contains (syncs_of files) c → c.1 ≡ sync_fault → ⊥
+no_fault_among : (files : _) {c : _} → Contains (syncs_of files) c → c.1 ≡ sync_fault → ⊥
 no_fault_among files among e =
     let m = contains_map (λ file. (file, sync_made)) files among in
     absurd cc
 
-synced_or_not : (files before : List ℕ) (file : ℕ) → syncs_of files ≡ syncs_of before ++ (file, sync_fault) ∷ [] → ⊥
+synced_or_not : (files before file : _) → syncs_of files ≡ syncs_of before ++ (file, sync_fault) ∷ [] → ⊥
 synced_or_not files before file e =
     no_fault_among files (subst (λ cs. Contains cs (file, sync_fault)) (sym e) (Contains-append_right (syncs_of before) ((file, sync_fault) ∷ []) (file, sync_fault) (here [] refl))) refl
 

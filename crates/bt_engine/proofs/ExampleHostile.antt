@@ -59,7 +59,7 @@ module _ (dig : Digest) (b : ThreeBlocks) (infohash : List ℕ) where
       (λ idle. absurd cc) (λ open_to. absurd cc) (omega arith)
 
   -- a message that changes nothing, but may be answered and noted
-  stays_on : {m : _} (sent : List Sent) (notes : List Note) → IsMessage m → Fits m → HandlesMessage dig (before_leaves peer) 0 peer m [] (record { send = sent; close = None; notes = notes; proofs = [] }) (before_leaves peer)
+  stays_on : {m : _} (sent notes : _) → IsMessage m → Fits m → HandlesMessage dig (before_leaves peer) 0 peer m [] (record { send = sent; close = None; notes = notes; proofs = [] }) (before_leaves peer)
       → StaysOn dig (empty_engine dig b infohash (root_alone dig b)) peer (message_spelling m) sent notes
   stays_on {m} sent notes is fits handles = (
     _,
@@ -102,11 +102,11 @@ module _ (dig : Digest) (b : ThreeBlocks) (infohash : List ℕ) where
       )
 
   -- no tree has a root of zeros
-  zeros_unknown : three_root dig b ≢ zero_leaf → (tree : ℕ) (k : Facts) → ¬ IsTreeOf (before_leaves peer) zero_leaf tree k
+  zeros_unknown : three_root dig b ≢ zero_leaf → (tree k : _) → ¬ IsTreeOf (before_leaves peer) zero_leaf tree k
   zeros_unknown differs tree k is = differs (ap (λ f. f.root) (one_there tree is.here).1 ∙ is.same_root)
 
   -- no run of two leaves is so far to the right
-  not_answered : (digests : List (List ℕ)) → ¬ IsAnswered dig (before_leaves peer) (far_key dig b) digests
+  not_answered : (digests : _) → ¬ IsAnswered dig (before_leaves peer) (far_key dig b) digests
   unfolding height_up_to
   not_answered digests a = absurd (far (small a.here) a.request)
     where

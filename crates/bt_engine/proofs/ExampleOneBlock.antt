@@ -32,7 +32,7 @@ module _ (dig : Digest) (infohash : List ℕ) where
   engine x p = abc_engine dig infohash x (p ∷ []) 2
 
   -- the leaf is known from the start
-  no_needs : (x : BlockState) (p q : PeerState) (b : BlockId) → ¬ NeedsLeaf dig (engine x p) q b
+  no_needs : (x : BlockState) (p q b : _) → ¬ NeedsLeaf dig (engine x p) q b
   no_needs x p q b needs =
       let y : (y : BlockState) × (state_at (engine x p) b ≡ Some y) = elim needs.not_marked [ inl m ↦ (Missing, m) | inr w ↦ (Waiting, w) ] in
       let one = one_block _ _ y.1 in
@@ -52,13 +52,13 @@ module _ (dig : Digest) (infohash : List ℕ) where
       }
 
   -- a peer without a piece is of no interest, and one with the piece is as long as the block is missing
-  dull : (unread : Stream) (b : BlockId) → ¬ Has (engine Missing (peer_with unread false true false Idle [] 0)) (peer_with unread false true false Idle [] 0) b
+  dull : (unread b : _) → ¬ Has (engine Missing (peer_with unread false true false Idle [] 0)) (peer_with unread false true false Idle [] 0) b
   dull unread b has = let p = and_then_some (λ piece. slice_get (false ∷ []) piece) _ has in let one = one_there p.0 p.2 in absurd cc
 
   interesting : (p : PeerState) → p.has ≡ true ∷ [] → IsInteresting (engine Missing p) p
   interesting p has = (the_block, ap (λ h. slice_get h 0) has, refl)
 
-  none_missing : (p : PeerState) (b : BlockId) → ¬ (state_at (engine Marked p) b ≡ Some Missing)
+  none_missing : (p b : _) → ¬ (state_at (engine Marked p) b ≡ Some Missing)
   none_missing p b e = let one = one_block _ _ e in absurd cc
 
   -- what follows where nothing is requested
@@ -105,13 +105,13 @@ module _ (dig : Digest) (infohash : List ℕ) where
       let p = peer_with all_taken true false true Idle [] 3 in
       quietly _ p refl (λ e. absurd cc, λ i. absurd (none_missing p i.0 i.2)) refl (inr refl) (omega arith)
 
-  unasked : (p : PeerState) (b : BlockId) → p.asked ≡ [] → ¬ IsAsked (engine Missing p) b
+  unasked : (p : PeerState) (b : _) → p.asked ≡ [] → ¬ IsAsked (engine Missing p) b
   unasked p b none asked = elim (contains_cases [] asked.1) [
     | inl same ↦ contains_none (subst (λ l. Contains l b) (ap (λ q. q.asked) (sym same) ∙ none) asked.2)
     | inr more ↦ contains_none more
   ]
 
-  the_one : (p : PeerState) {b : _} → state_at (engine Missing p) b ≡ Some Missing → the_block ≡ b
+  the_one : (p : _) {b : _} → state_at (engine Missing p) b ≡ Some Missing → the_block ≡ b
   the_one p {b} e = let one = one_block _ _ e in ap (λ i. block_id 0 i) (sym one.1) ∙ ap (λ f. record b { file = f }) (sym one.0)
 
   abbrev first_ask : Ask

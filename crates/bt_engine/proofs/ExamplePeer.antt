@@ -15,7 +15,7 @@ taken_bits = record { bytes = bitfield_bytes; event = record { is_message = tt; 
 pub taken_unchoke : Takes (stream unchoke_bytes true false) (message_event Unchoke) all_taken
 taken_unchoke = record { bytes = unchoke_bytes; event = record { is_message = tt; fits = record { limit = omega arith; whole = tt }; spelled = refl }; front = refl; running = refl; greeted = refl; not_failed = refl }
 
-pub taken_hello : (infohash : List ℕ) → length infohash ≡ 32 → Takes (stream (handshake_spelling (their_handshake infohash)) false false) (Hello (their_handshake infohash)) all_taken
+pub taken_hello : (infohash : _) → length infohash ≡ 32 → Takes (stream (handshake_spelling (their_handshake infohash)) false false) (Hello (their_handshake infohash)) all_taken
 taken_hello infohash size = record {
   bytes = handshake_spelling (their_handshake infohash);
   event = record { reserved = replicate 8 0; is_handshake = record { infohash = omega (arith, length-take 20 infohash); peer_id = refl }; eight = refl; spelled = refl };
@@ -25,7 +25,7 @@ taken_hello infohash size = record {
   not_failed = refl;
 }
 
-front_none : (body : Option Body) {bytes : _} (rest : List ℕ) → bytes ≡ frame_spelling body → [] ≡ bytes ++ rest → ⊥
+front_none : (body : Option Body) {bytes : _} (rest : _) → bytes ≡ frame_spelling body → [] ≡ bytes ++ rest → ⊥
 front_none None rest spelled same = let long = same ∙ ap (λ xs. xs ++ rest) spelled in absurd cc
 front_none (Some b) rest spelled same = let long = same ∙ ap (λ xs. xs ++ rest) spelled in absurd cc
 
@@ -65,7 +65,7 @@ pub fed_first : {s : EngineState} {p : PeerState} {bytes : List ℕ} → slice_g
 fed_first here key = feeds 0 _ (record { here = here; same_key = key }) refl refl
 
 -- a message is taken, and the peer stays: what the message does by itself, the engine then, and what follows
-pub went : {dig : Digest} {s new : EngineState} {p : PeerState} {calls : DeviceCalls} {send sent : List Sent} {notes : List Note} {event : WireEvent} (effect : Effect) (mid : EngineState)
+pub went : {dig : Digest} {s new : EngineState} {p : PeerState} {calls : DeviceCalls} {send sent : List Sent} {notes : List Note} {event : WireEvent} (effect : Effect) (mid : _)
     → slice_get s.peers 0 ≡ Some p → p.key ≡ first_key → effect.close ≡ None → Takes p.stream event all_taken
     → Handles dig (with_peer s 0 (record p { stream = all_taken })) 0 (record p { stream = all_taken }) event calls effect mid
     → FollowsUp dig (with_pending s mid effect.proofs) 0 sent new → send ≡ effect.send ++ haves s mid ++ sent
@@ -77,7 +77,7 @@ went effect mid here key stays takes handles follows send notes =
     refl
 
 -- a message is taken, and closes the peer
-pub closed_for : {dig : Digest} {s : EngineState} {p : PeerState} {calls : DeviceCalls} {event : WireEvent} (why : Why) (mid : EngineState)
+pub closed_for : {dig : Digest} {s : EngineState} {p : PeerState} {calls : DeviceCalls} {event : WireEvent} (why : Why) (mid : _)
     → slice_get s.peers 0 ≡ Some p → p.key ≡ first_key → Takes p.stream event all_taken
     → Handles dig (with_peer s 0 (record p { stream = all_taken })) 0 (record p { stream = all_taken }) event calls (closing why) mid
     → StepNext dig s first_key calls (Ok (Some (record { send = []; close = Some why; notes = [] }))) (without_peer 0 mid)
@@ -87,7 +87,7 @@ closed_for why mid here key takes handles =
     refl
 
 -- a block that was asked for comes, and is put into its file
-pub comes : {dig : Digest} {s mid : EngineState} {p : PeerState} {begin n : ℕ} {bytes : List ℕ} {calls : DeviceCalls} {effect : Effect} {file : FileState} {k : Facts} (b : BlockId) (r : Result Put StoreError)
+pub comes : {dig : Digest} {s mid : EngineState} {p : PeerState} {begin n : ℕ} {bytes : List ℕ} {calls : DeviceCalls} {effect : Effect} {file : FileState} {k : Facts} (b : _) (r : Result Put StoreError)
     → IsWholeBlock s.torrent 0 begin n b → length bytes ≡ n → Contains p.asked b → slice_get s.files b.file ≡ Some file → slice_get s.trees file.tree ≡ Some k
     → PutIsDue dig k b.block bytes file.states r → calls ≡ calls_at b.file (calls_of_put b.block bytes r) → HasPutEffect b r effect
     → mid ≡ with_peer (with_file s b.file (record file { states = states_after_put b.block r file.states })) 0 (with_payload n (record p { asked = without_block b p.asked }))

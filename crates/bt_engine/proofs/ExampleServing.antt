@@ -43,7 +43,7 @@ module _ (dig : Digest) (b : ThreeBlocks) (infohash : List ℕ) (k : Facts) wher
 
   -- ---- nothing follows: each block is marked
 
-  all_marked : (turn : ℕ) (p : PeerState) (c : BlockId) {state : _} → state_at (engine turn p) c ≡ Some state → state ≡ Marked
+  all_marked : (turn p c : _) {state : _} → state_at (engine turn p) c ≡ Some state → state ≡ Marked
   all_marked turn p c {state} e = by (one_of _ _ e)
     where
       by : IsOne Marked Marked Marked c state → state ≡ Marked
@@ -51,10 +51,10 @@ module _ (dig : Digest) (b : ThreeBlocks) (infohash : List ℕ) (k : Facts) wher
       by (second x y) = sym y
       by (third x y) = sym y
 
-  not_missing : (turn : ℕ) (p : PeerState) (c : BlockId) → ¬ (state_at (engine turn p) c ≡ Some Missing)
+  not_missing : (turn p c : _) → ¬ (state_at (engine turn p) c ≡ Some Missing)
   not_missing turn p c e = let wrong = all_marked turn p c e in absurd cc
 
-  no_needs : (turn : ℕ) (p q : PeerState) (c : BlockId) → ¬ NeedsLeaf dig (engine turn p) q c
+  no_needs : (turn p q c : _) → ¬ NeedsLeaf dig (engine turn p) q c
   no_needs turn p q c needs = elim needs.not_marked [ inl m ↦ absurd (not_missing turn p c m) | inr w ↦ (let wrong = all_marked turn p c w in absurd cc) ]
 
   nothing_follows : (turn : ℕ) (p : PeerState) → p.am_interested ≡ false → length p.asked + 0 ≤ 16 → FollowsUp dig (engine turn p) 0 [] (engine turn p)

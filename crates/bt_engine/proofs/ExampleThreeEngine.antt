@@ -39,7 +39,7 @@ among_three (first e f) = (0, omega arith, sym e)
 among_three (second e f) = (1, omega arith, sym e)
 among_three (third e f) = (2, omega arith, sym e)
 
-number_at : (i : ℕ) (d : BlockId) → i < 3 → (slice_index_or all_three i d).block ≡ i
+number_at : (i d : _) → i < 3 → (slice_index_or all_three i d).block ≡ i
 number_at (suc (suc (suc i))) d lt = absurd (omega arith)
 number_at _ d lt = refl
 
@@ -47,7 +47,7 @@ module _ (dig : Digest) (b : ThreeBlocks) (infohash : List ℕ) where
   abbrev pub engine : Facts → BlockState → BlockState → BlockState → PeerState → EngineState
   engine k x y z p = three_engine dig b infohash k (x ∷ y ∷ z ∷ []) (p ∷ []) 2
 
-  pub is_one : (k : Facts) {x y z state : _} (p : PeerState) {c : _} → state_at (engine k x y z p) c ≡ Some state → IsOne x y z c state
+  pub is_one : (k : _) {x y z state : _} (p : _) {c : _} → state_at (engine k x y z p) c ≡ Some state → IsOne x y z c state
   is_one k p {c} e = one_of _ _ e
 
   pub whole_first : IsWholeBlock (three_torrent dig b infohash) 0 0 16384 (block 0)
@@ -80,14 +80,14 @@ module _ (dig : Digest) (b : ThreeBlocks) (infohash : List ℕ) where
   -- ---- what needs a leaf, and what is of interest
 
   -- a peer without the piece has none of the blocks
-  has_none : (k : Facts) (x y z : BlockState) (p q : PeerState) (c : BlockId) → q.has ≡ false ∷ [] → ¬ Has (engine k x y z p) q c
+  has_none : (k : _) (x y z : BlockState) (p : _) (q : PeerState) (c : _) → q.has ≡ false ∷ [] → ¬ Has (engine k x y z p) q c
   has_none k x y z p q c none has =
       let r = and_then_some (λ n. slice_get q.has n) _ has in
       let one = one_there r.0 (cc) in
       let wrong : false ≡ true = one.1 in
       absurd cc
 
-  needs_none_of : (k : Facts) (x y z : BlockState) (p q : PeerState) (c : BlockId) → q.has ≡ false ∷ [] → ¬ NeedsLeaf dig (engine k x y z p) q c
+  needs_none_of : (k : _) (x y z : BlockState) (p : _) (q : PeerState) (c : _) → q.has ≡ false ∷ [] → ¬ NeedsLeaf dig (engine k x y z p) q c
   needs_none_of k x y z p q c none needs = has_none k x y z p q c none needs.has
 
   -- after the proof each leaf is known
@@ -96,7 +96,7 @@ module _ (dig : Digest) (b : ThreeBlocks) (infohash : List ℕ) where
   all_known (second e f) none = let both = sym none ∙ ap (λ d. value_at dig (proved dig b) 0 d.block) e ∙ second_known dig b in absurd cc
   all_known (third e f) none = let both = sym none ∙ ap (λ d. value_at dig (proved dig b) 0 d.block) e ∙ third_known dig b in absurd cc
 
-  pub needs_none : (x y z : BlockState) (p q : PeerState) (c : BlockId) → ¬ NeedsLeaf dig (engine (proved dig b) x y z p) q c
+  pub needs_none : (x y z : BlockState) (p q c : _) → ¬ NeedsLeaf dig (engine (proved dig b) x y z p) q c
   needs_none x y z p q c needs =
       let is : (state : BlockState) × (state_at (engine (proved dig b) x y z p) c ≡ Some state) = elim needs.not_marked [ inl m ↦ (Missing, m) | inr w ↦ (Waiting, w) ] in
       let one = is_one (proved dig b) p is.1 in
@@ -137,10 +137,10 @@ module _ (dig : Digest) (b : ThreeBlocks) (infohash : List ℕ) where
       }
 
   -- a missing block in the piece that the peer has
-  pub interesting : (k : Facts) (x y z : BlockState) (p : PeerState) (c : BlockId) → p.has ≡ true ∷ [] → Has (engine k x y z p) (record p { has = true ∷ [] }) c → state_at (engine k x y z p) c ≡ Some Missing → IsInteresting (engine k x y z p) p
+  pub interesting : (k : _) (x y z : BlockState) (p : PeerState) (c : _) → p.has ≡ true ∷ [] → Has (engine k x y z p) (record p { has = true ∷ [] }) c → state_at (engine k x y z p) c ≡ Some Missing → IsInteresting (engine k x y z p) p
   interesting k x y z p c has is missing = (c, rw has is, missing)
 
-  pub none_missing : (k : Facts) (p : PeerState) → ¬ IsInteresting (engine k Marked Marked Marked p) p
+  pub none_missing : (k p : _) → ¬ IsInteresting (engine k Marked Marked Marked p) p
   none_missing k p i = never (is_one k p i.2)
     where
       never : IsOne Marked Marked Marked i.0 Missing → ⊥
@@ -156,7 +156,7 @@ module _ (dig : Digest) (b : ThreeBlocks) (infohash : List ℕ) where
       quietly (at_first dig b) Missing Missing Missing p refl (λ e. absurd cc, λ i. absurd (has_none (at_first dig b) Missing Missing Missing p p i.0 refl i.1)) refl
       (λ idle c. needs_none_of (at_first dig b) Missing Missing Missing p p c refl) (λ e. absurd cc) (omega arith)
 
-  least_need : (p : PeerState) {q : PeerState} → q.has ≡ true ∷ [] → IsLeastNeed dig (engine (at_first dig b) Missing Missing Missing p) q (block 0)
+  least_need : (p : _) {q : PeerState} → q.has ≡ true ∷ [] → IsLeastNeed dig (engine (at_first dig b) Missing Missing Missing p) q (block 0)
   least_need p {q} has = record {
     needs = record {
       has = rw has refl;
@@ -197,17 +197,17 @@ module _ (dig : Digest) (b : ThreeBlocks) (infohash : List ℕ) where
         after = refl;
       }
 
-  unasked : (k : Facts) (p : PeerState) (c : BlockId) → p.asked ≡ [] → ¬ IsAsked (engine k Missing Missing Missing p) c
+  unasked : (k : _) (p : PeerState) (c : _) → p.asked ≡ [] → ¬ IsAsked (engine k Missing Missing Missing p) c
   unasked k p c none asked = elim (contains_cases [] asked.1) [
     | inl same ↦ contains_none (subst (λ l. Contains l c) (ap (λ q. q.asked) (sym same) ∙ none) asked.2)
     | inr more ↦ contains_none more
   ]
 
-  pub is_open : (k : Facts) {p : PeerState} {c : _} → p.asked ≡ [] → Has (engine k Missing Missing Missing p) p c → state_at (engine k Missing Missing Missing p) c ≡ Some Missing
+  pub is_open : (k : _) {p : PeerState} {c : _} → p.asked ≡ [] → Has (engine k Missing Missing Missing p) p c → state_at (engine k Missing Missing Missing p) c ≡ Some Missing
       → IsOpen (engine k Missing Missing Missing p) p c
   is_open k {p} {c} none has missing = record { has = has; missing = missing; free = unasked k p c none }
 
-  after_unchoke : (k : Facts) (hash : HashState) → (hash ≡ Idle → (c : BlockId) → ¬ NeedsLeaf dig (engine k Missing Missing Missing (asked_peer hash [] 0)) (asked_peer hash [] 0) c) → FollowsUp dig (engine k Missing Missing Missing (asked_peer hash [] 0)) 0 (to_first (block_request 0) ∷ to_first (block_request 16384) ∷ to_first (block_request 32768) ∷ [])
+  after_unchoke : (k : _) (hash : HashState) → (hash ≡ Idle → (c : BlockId) → ¬ NeedsLeaf dig (engine k Missing Missing Missing (asked_peer hash [] 0)) (asked_peer hash [] 0) c) → FollowsUp dig (engine k Missing Missing Missing (asked_peer hash [] 0)) 0 (to_first (block_request 0) ∷ to_first (block_request 16384) ∷ to_first (block_request 32768) ∷ [])
       (engine k Missing Missing Missing (asked_peer hash all_three 0))
   after_unchoke k hash known =
       let p = asked_peer hash [] 0 in
@@ -263,7 +263,7 @@ module _ (dig : Digest) (b : ThreeBlocks) (infohash : List ℕ) where
       }
 
   -- a block that this peer is asked for is not open
-  pub not_open : (k : Facts) (x y z : BlockState) (p : PeerState) {c : _} → Contains p.asked c → ¬ IsOpen (engine k x y z p) p c
+  pub not_open : (k : _) (x y z : BlockState) (p : PeerState) {c : _} → Contains p.asked c → ¬ IsOpen (engine k x y z p) p c
   not_open k x y z p asked may = may.free (p, here [] refl, asked)
 
   -- ---- the steps
@@ -281,7 +281,7 @@ module _ (dig : Digest) (b : ThreeBlocks) (infohash : List ℕ) where
   next_bits =
       went _ _ refl refl refl taken_bits (refl, right refl refl refl) after_bits refl refl
 
-  pub next_unchoke : (k : Facts) (hash : HashState) → (hash ≡ Idle → (c : BlockId) → ¬ NeedsLeaf dig (engine k Missing Missing Missing (asked_peer hash [] 0)) (asked_peer hash [] 0) c)
+  pub next_unchoke : (k : _) (hash : HashState) → (hash ≡ Idle → (c : BlockId) → ¬ NeedsLeaf dig (engine k Missing Missing Missing (asked_peer hash [] 0)) (asked_peer hash [] 0) c)
       → StepNext dig (engine k Missing Missing Missing (peer_with (stream unchoke_bytes true false) true true true hash [] 0)) first_key [] (Ok (Some (output_of three_asks [])))
       (engine k Missing Missing Missing (asked_peer hash all_three 0))
   next_unchoke k hash known =
@@ -309,7 +309,7 @@ module _ (dig : Digest) (b : ThreeBlocks) (infohash : List ℕ) where
 
   -- ---- the start, and bytes that come
 
-  pub fed_to : (k : Facts) (x y z : BlockState) (p : PeerState) {bytes : _} → p.key ≡ first_key → p.stream ≡ stream [] p.stream.greeted p.stream.failed
+  pub fed_to : (k : _) (x y z : BlockState) (p : PeerState) {bytes : _} → p.key ≡ first_key → p.stream ≡ stream [] p.stream.greeted p.stream.failed
       → StepFeed (engine k x y z p) first_key bytes (Ok tt) (engine k x y z (record p { stream = stream bytes p.stream.greeted p.stream.failed }))
   fed_to k x y z p {bytes} key empty = feeds 0 p (record { here = refl; same_key = key }) refl (ap (λ t. engine k x y z (record p { stream = fed t bytes })) (sym empty))
 

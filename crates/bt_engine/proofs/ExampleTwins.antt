@@ -18,13 +18,13 @@ module _ (dig : Digest) (b : ThreeBlocks) (infohash : List ℕ) where
   abbrev settled : PeerState → EngineState
   settled p = twin_engine dig b infohash (proved dig b) Marked p
 
-  none_missing : (p : PeerState) (c : BlockId) → ¬ (state_at (settled p) c ≡ Some Missing)
+  none_missing : (p c : _) → ¬ (state_at (settled p) c ≡ Some Missing)
   none_missing p c e = let wrong = same_state c.file c.block e in absurd cc
 
-  none_waiting : (p : PeerState) (c : BlockId) → ¬ (state_at (settled p) c ≡ Some Waiting)
+  none_waiting : (p c : _) → ¬ (state_at (settled p) c ≡ Some Waiting)
   none_waiting p c e = let wrong = same_state c.file c.block e in absurd cc
 
-  no_need : (p q : PeerState) (c : BlockId) → ¬ NeedsLeaf dig (settled p) q c
+  no_need : (p q c : _) → ¬ NeedsLeaf dig (settled p) q c
   no_need p q c needs = elim needs.not_marked [ inl m ↦ none_missing p c m | inr w ↦ none_waiting p c w ]
 
   -- nothing more follows
@@ -104,7 +104,7 @@ module _ (dig : Digest) (b : ThreeBlocks) (infohash : List ℕ) where
   next_leaves sizes whole =
       went (record no_effect { notes = marks; proofs = new_proofs (leaves_key dig b) (four_leaves dig b) (at_first dig b) (proved dig b) }) (settled (twin_peer all_taken Idle)) refl refl refl (taken_message (key_fits dig b infohash sizes) (leaves_fit dig b infohash sizes)) (learns (record { tree = 0; old = at_first dig b; new = proved dig b; claim = leaves_claim dig b; notes = marks; settled = settled (twin_peer all_taken (Asked (leaves_key dig b))); hash = Idle; here = record { here = refl; same_root = refl }; claims = claims dig sizes b; accepts = accepts dig b; settles = record { facts = proved dig b; reads = reads; here = refl; due = due; made = refl; noted = sym (ap (λ l. l ++ settling_notes dig (proved dig b) 1 read_back ++ []) (noted whole 0) ∙ ap (λ l. (NowMarked (block_id 0 0) ∷ NowMarked (block_id 0 1) ∷ NowMarked (block_id 0 2) ∷ []) ++ l ++ []) (noted whole 1)); files = files; others = refl; }; resolves = resolved refl refl; has_effect = refl; after = refl; })) after_leaves refl refl
     where
-      due : (file : ℕ) (f : FileState) → slice_get (twin_files Waiting) file ≡ Some f → map block_of (reads file) ≡ due_blocks dig (proved dig b) 0 0 4 f
+      due : (file f : _) → slice_get (twin_files Waiting) file ≡ Some f → map block_of (reads file) ≡ due_blocks dig (proved dig b) 0 0 4 f
       due zero f at = sym all_due ∙ ap (λ g. due_blocks dig (proved dig b) 0 0 4 g) (some_is at)
       due (suc zero) f at = sym all_due ∙ ap (λ g. due_blocks dig (proved dig b) 0 0 4 g) (some_is at)
       due (suc (suc file)) f at = absurd cc

@@ -21,7 +21,7 @@ pub record AreAsked (asked : List BlockId) : Type 0 where
   pub each : (c : BlockId) → Contains all_three c → Contains asked c
   pub among : (c : BlockId) → Contains asked c → Contains all_three c
 
-stays_asked : (c : BlockId) {d : _} (xs : List BlockId) → is_block c d ≡ false → Contains xs d → Contains (without_block c xs) d
+stays_asked : (c : _) {d : _} (xs : _) → is_block c d ≡ false → Contains xs d → Contains (without_block c xs) d
 stays_asked c [] e among = among
 stays_asked c {d} (x ∷ xs) e among = by _ refl (stays_asked c xs e)
   where
@@ -32,10 +32,10 @@ stays_asked c {d} (x ∷ xs) e among = by _ refl (stays_asked c xs e)
     ]
     by false f tail = elim (contains_cases xs among) [ inl same ↦ rw f (here _ same) | inr more ↦ rw f (later x _ (tail more)) ]
 
-fewer : (c : BlockId) (xs : List BlockId) → length (without_block c xs) ≤ length xs
+fewer : (c xs : _) → length (without_block c xs) ≤ length xs
 fewer c xs = omega (arith, length-filter (λ d. not (is_block c d)) xs, count_by-le-length (λ d. not (is_block c d)) xs)
 
-none_within : (xs : List BlockId) → ((c : BlockId) → Contains xs c → ⊥) → xs ≡ []
+none_within : (xs : _) → ((c : BlockId) → Contains xs c → ⊥) → xs ≡ []
 none_within [] none = refl
 none_within (x ∷ xs) none = absurd (none x (here xs refl))
 
@@ -67,7 +67,7 @@ module _ (dig : Digest) (b : ThreeBlocks) (wrong : List ℕ) (infohash : List �
   -- ---- the blocks wait
 
   -- nothing is missing, so nothing is of interest
-  none_missing : (p : PeerState) → ¬ IsInteresting (engine dig b infohash (at_first dig b) Waiting Waiting Waiting p) p
+  none_missing : (p : _) → ¬ IsInteresting (engine dig b infohash (at_first dig b) Waiting Waiting Waiting p) p
   none_missing p i = never (is_one dig b infohash (at_first dig b) p i.2)
     where
       never : IsOne Waiting Waiting Waiting i.0 Missing → ⊥
@@ -240,7 +240,7 @@ module _ (dig : Digest) (b : ThreeBlocks) (wrong : List ℕ) (infohash : List �
   next_leaves sizes whole other =
       went (record no_effect { notes = settling_notes_are; proofs = new_proofs (leaves_key dig b) (four_leaves dig b) (at_first dig b) (proved dig b) }) (settled (idle_peer all_taken Idle)) refl refl refl (taken_message (key_fits dig b infohash sizes) (leaves_fit dig b infohash sizes)) (learns (record { tree = 0; old = at_first dig b; new = proved dig b; claim = leaves_claim dig b; notes = settling_notes_are; settled = settled (idle_peer all_taken asked_key); hash = Idle; here = record { here = refl; same_root = refl }; claims = claims dig sizes b; accepts = accepts dig b; settles = record { facts = proved dig b; reads = reads; here = refl; due = due; made = refl; noted = sym (ap (λ l. l ++ []) (noted whole other)); files = files; others = refl; }; resolves = resolved refl refl; has_effect = refl; after = refl; })) after_leaves refl refl
     where
-      due : (file : ℕ) (f : FileState) → slice_get (waiting_file ∷ []) file ≡ Some f → map block_of (reads file) ≡ due_blocks dig (proved dig b) 0 0 4 f
+      due : (file f : _) → slice_get (waiting_file ∷ []) file ≡ Some f → map block_of (reads file) ≡ due_blocks dig (proved dig b) 0 0 4 f
       due zero f at = sym all_due ∙ ap (λ g. due_blocks dig (proved dig b) 0 0 4 g) (one_there 0 at).1
       due (suc file) f at = absurd cc
 

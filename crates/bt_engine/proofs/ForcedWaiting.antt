@@ -18,7 +18,7 @@ three_differ : (i j k l : ℕ) → i < 3 → j < 3 → k < 3 → l < 3 → i ≢
 three_differ i j k l a b c d ij ik il jk jl kl = absurd (omega (arith, a, b, c, d, ij, ik, il, jk, jl, kl))
 
 -- of four blocks among three, two are one
-four_among : (blocks : List BlockId) → AllPairs (λ c d. c ≢ d) blocks → ((c : BlockId) → Contains blocks c → Contains all_three c) → length blocks ≡ 16 → ⊥
+four_among : (blocks : _) → AllPairs (λ c d. c ≢ d) blocks → ((c : BlockId) → Contains blocks c → Contains all_three c) → length blocks ≡ 16 → ⊥
 four_among blocks once among size =
     let in_three : ((at 0).block < 3) × ((at 1).block < 3) × ((at 2).block < 3) × ((at 3).block < 3) = (below 0 (omega (arith, size)), below 1 (omega (arith, size)), below 2 (omega (arith, size)), below 3 (omega (arith, size))) in
     let first : ((at 0).block ≢ (at 1).block) × ((at 0).block ≢ (at 2).block) × ((at 0).block ≢ (at 3).block) = (differ 0 1 (omega arith) (omega (arith, size)), differ 0 2 (omega arith) (omega (arith, size)), differ 0 3 (omega arith) (omega (arith, size))) in
@@ -71,7 +71,7 @@ module _ (dig : Digest) (b : ThreeBlocks) (wrong : List ℕ) (infohash : List �
   abbrev request_of : BlockId → Sent
   request_of c = to_first (block_request (16384 * c.block))
 
-  requests_are : (blocks : List BlockId) {sent : _} → ((c : BlockId) → Contains blocks c → Contains all_three c)
+  requests_are : (blocks : _) {sent : _} → ((c : BlockId) → Contains blocks c → Contains all_three c)
       → RequestsEach unchoked peer blocks sent → sent ≡ map request_of blocks
   requests_are [] among r = r
   requests_are (c ∷ blocks) among r =
@@ -125,10 +125,10 @@ module _ (dig : Digest) (b : ThreeBlocks) (wrong : List ℕ) (infohash : List �
       asked_for : RequestsEach unchoked peer x.blocks x.block_frames
       asked_for = subst (λ p. RequestsEach unchoked p x.blocks x.block_frames) planned.1 x.requests
 
-      among : (c : BlockId) → Contains x.blocks c → Contains all_three c
+      among : (c : _) → Contains x.blocks c → Contains all_three c
       among c is = among_three {c = c} (is_one dig b infohash (at_first dig b) peer (asks.are_open c is).missing)
 
-      every : (c : BlockId) → Contains all_three c → Contains x.blocks c
+      every : (c : _) → Contains all_three c → Contains x.blocks c
       every c is = elim (asks.all refl refl) [ inl full ↦ absurd (four_among x.blocks asks.distinct among (omega (arith, full))) | inr all ↦ all c (three_open is) ]
 
   -- ---- the runs
@@ -146,7 +146,7 @@ module _ (dig : Digest) (b : ThreeBlocks) (wrong : List ℕ) (infohash : List �
   piece_memory = all_of (λ a. ¬ IsOutOfMemory a) (piece_answers dig b wrong infohash) (λ o. o, (λ o. o, (λ o. o, (λ o. o, (λ o. o, (λ o. o, tt))))))
 
   -- where no answer of a known run requests a block, it is the only one
-  quiet : {s new other : _} (events : List Event) (calls : List DeviceCalls) {answers others : _}
+  quiet : {s new other : _} (events calls : _) {answers others : _}
       → IsShaped (three_torrent dig b infohash) s → IsOrderly s → Run dig s events calls answers new → Run dig s events calls others other
       → HaveMemory answers → HaveMemory others → Each AsksNone answers → (answers ≡ others) × (new ≡ other)
   quiet {s} events calls {answers} {others} shaped o x y memory room none =
@@ -203,7 +203,7 @@ module _ (dig : Digest) (b : ThreeBlocks) (wrong : List ℕ) (infohash : List �
         | inr none ↦ absurd (contains_none none)
       ]
 
-  settling_forced : IsDigest dig → (last : EngineState) {settling : _} → AreWhole b → IsWrongThird dig b wrong
+  settling_forced : IsDigest dig → (last : _) {settling : _} → AreWhole b → IsWrongThird dig b wrong
       → IsShaped (three_torrent dig b infohash) (all_wait dig b wrong infohash) → IsOrderly (all_wait dig b wrong infohash)
       → Run dig (all_wait dig b wrong infohash) (told (message_spelling (leaves_message dig b)) []) (settling_calls b wrong) settling last
       → HaveMemory settling → (settling ≡ settling_answers) × (last.files ≡ file_with Marked Marked Missing)

@@ -30,19 +30,19 @@ module _ {D : Type 0} (history : D → History) (honest : D → Type 0) (faults 
       let same : tree.0 ≡ k = cc in
       (ap (λ l. l.file_length) (sym same) ∙ tree.3, ap (λ l. l.root) (sym same) ∙ tree.2)
 
-  step_of : (torrent : Metainfo) (old new : EngineState) (e : Event) (calls : DeviceCalls) (a : Answer) → Step dig old e calls a new → IsOf torrent old → IsOf torrent new
+  step_of : (torrent : Metainfo) (old new e calls a : _) → Step dig old e calls a new → IsOf torrent old → IsOf torrent new
   step_of torrent old new e calls a step of i file f k listed some here hung =
       let g = (step_tame dig old new e calls a step).0 i f k here hung in
       let before = of i file g.old_file g.old_tree listed some g.here g.hung in
       (g.same_length ∙ before.0, g.same_root ∙ before.1)
 
-  run_of : (torrent : Metainfo) (old new : EngineState) (es : List Event) (calls : List DeviceCalls) (answers : List Answer) → Run dig old es calls answers new → IsOf torrent old → IsOf torrent new
+  run_of : (torrent : Metainfo) (old new es calls answers : _) → Run dig old es calls answers new → IsOf torrent old → IsOf torrent new
   run_of torrent old new [] [] [] run of = rw run of
   run_of torrent old new (e ∷ es) (c ∷ calls) (a ∷ answers) run of = run_of torrent run.0 new es calls answers run.2 (step_of torrent old run.0 e c a run.1 of)
   run_of torrent old new _ _ _ run of = absurd run
 
   -- a run on devices is a run
-  without_devices : (old new : EngineState) (es : List Event) (calls : List DeviceCalls) (answers : List Answer) (disks after : List (Option D)) → RunOn history honest faults dig old disks es calls answers new after
+  without_devices : (old new es calls answers : _) (disks after : List (Option D)) → RunOn history honest faults dig old disks es calls answers new after
       → Run dig old es calls answers new
   without_devices old new [] [] [] disks after run = run.0
   without_devices old new (e ∷ es) (c ∷ calls) (a ∷ answers) disks after run = (run.0, run.2, without_devices run.0 new es calls answers run.1 after run.4)

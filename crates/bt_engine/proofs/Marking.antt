@@ -44,7 +44,7 @@ module _ (dig : Digest) (b : BlockId) where
   bits_marks (wrong x y e) m = as_before e m
 
   -- in a file that stands in the place of another
-  in_file : (s : EngineState) (file : ℕ) {f : _} (new : FileState) → slice_get s.files file ≡ Some f → state_at (with_file s file new) b ≡ Some Marked
+  in_file : (s : EngineState) (file : ℕ) {f : _} (new : _) → slice_get s.files file ≡ Some f → state_at (with_file s file new) b ≡ Some Marked
       → (slice_get new.states b.block ≡ Some Marked → slice_get f.states b.block ≡ Some Marked) → state_at s b ≡ Some Marked
   in_file s file new at marked kept = elim (file_marked s new b marked) [
     | inl now ↦ state_is s b (ap (slice_get s.files) now.0 ∙ at) (kept now.1)
@@ -129,7 +129,7 @@ module _ (dig : Digest) (b : BlockId) where
         | inr r ↦ inr (waited key digests l.tree l.old l.new l.claim is l.here l.claims l.accepts (settled_in (ap (λ x. tree_of x b.file) l.after) r))
       ]
 
-  message_marks : (s mid : EngineState) (i : ℕ) (p : PeerState) (msg : Sent) (calls : DeviceCalls) (effect : Effect) → HandlesMessage dig s i p msg calls effect mid → state_at mid b ≡ Some Marked
+  message_marks : (s mid i p : _) (msg : Sent) (calls effect : _) → HandlesMessage dig s i p msg calls effect mid → state_at mid b ≡ Some Marked
       → Marks dig s p (Message msg) calls mid b
   message_marks s mid i p KeepAlive calls effect h m = inl (as_before h.2 m)
   message_marks s mid i p Choke calls effect h m = inl (as_before h.2 m)
@@ -145,7 +145,7 @@ module _ (dig : Digest) (b : BlockId) where
   message_marks s mid i p (Hashes key digests) calls effect h m = hashes_marks h refl m
   message_marks s mid i p (HashReject key) calls effect h m = inl (as_before h.2.after m)
 
-  event_marks : (s mid : EngineState) (i : ℕ) (p : PeerState) (e : WireEvent) (calls : DeviceCalls) (effect : Effect) → Handles dig s i p e calls effect mid → state_at mid b ≡ Some Marked → Marks dig s p e calls mid b
+  event_marks : (s mid i p e calls effect : _) → Handles dig s i p e calls effect mid → state_at mid b ≡ Some Marked → Marks dig s p e calls mid b
   event_marks s mid i p (Hello h) calls effect t m = inl (as_before t.2 m)
   event_marks s mid i p (Message msg) calls effect t m = message_marks s mid i p msg calls _ t m
   event_marks s mid i p (Skipped kind) calls effect t m = inl (as_before t.2 m)
@@ -239,7 +239,7 @@ module _ (dig : Digest) (b : BlockId) where
   lost_marks (goes i p x y e) m = as_before e m
   lost_marks (not_lost x y e) m = as_before e m
 
-  each_marks : (peers : List ℕ) (s new : EngineState) (sent : List SentFrame) → FollowsEach dig peers s sent new → state_at new b ≡ Some Marked → state_at s b ≡ Some Marked
+  each_marks : (peers s new sent : _) → FollowsEach dig peers s sent new → state_at new b ≡ Some Marked → state_at s b ≡ Some Marked
   each_marks [] s new sent f m = as_before f.1 m
   each_marks (i ∷ peers) s new sent f m = as_before f.3.after (each_marks peers f.0 new f.2 f.4 m)
 
@@ -251,7 +251,7 @@ module _ (dig : Digest) (b : BlockId) where
   flush_marks (syncs x y z e) m = as_before e m
   flush_marks (fails before file after x y z e) m = as_before e m
 
-  pub step_cases : (s new : EngineState) (e : Event) (calls : DeviceCalls) (a : Answer) → Step dig s e calls a new → state_at new b ≡ Some Marked → Now s e calls new
+  pub step_cases : (s new e calls a : _) → Step dig s e calls a new → state_at new b ≡ Some Marked → Now s e calls new
   step_cases s new Connect calls a t m = inl (connect_marks t.3 m)
   step_cases s new (Feed key bytes) calls a t m = inl (feed_marks t.3 m)
   step_cases s new (Next key) calls a t m = next_marks t.2 m
@@ -260,8 +260,8 @@ module _ (dig : Digest) (b : BlockId) where
   step_cases s new (Adopt file) calls a t m = adopt_marks dig b t.2 m
   step_cases s new Flush calls a t m = inl (flush_marks t.2 m)
 
-pub step_marks : {dig : _} (s new : EngineState) (e : Event) (calls : DeviceCalls) (a : Answer) → Step dig s e calls a new
-    → (b : BlockId) → state_at new b ≡ Some Marked → state_at s b ≢ Some Marked → IsMarkedBy dig s e calls new b
+pub step_marks : {dig : _} (s new e calls a : _) → Step dig s e calls a new
+    → (b : _) → state_at new b ≡ Some Marked → state_at s b ≢ Some Marked → IsMarkedBy dig s e calls new b
 step_marks {dig} s new e calls a t b m before = elim (step_cases dig b s new e calls a t m) [ inl old ↦ absurd (before old) | inr now ↦ now ]
 
 -- one event further on
@@ -285,7 +285,7 @@ after_step {mid} {e} {c} t i = record {
 }
 
 -- at the first event
-pub at_first : {dig : Digest} {P : EngineState → Event → DeviceCalls → EngineState → Type 0} {s : EngineState} (mid : EngineState) {last : EngineState} {e : Event} {es : List Event}
+pub at_first : {dig : Digest} {P : EngineState → Event → DeviceCalls → EngineState → Type 0} {s : EngineState} (mid : _) {last : EngineState} {e : Event} {es : List Event}
     {c : DeviceCalls} {calls : List DeviceCalls} {a : Answer} {after : List Answer} → Step dig s e c a mid → Run dig mid es calls after last
     → P s e c mid → IsSoAt dig s (e ∷ es) (c ∷ calls) [] a after last P
 at_first {s} mid {e} {es} {c} {calls} t rest by = record {
@@ -306,7 +306,7 @@ at_first {s} mid {e} {es} {c} {calls} t rest by = record {
 }
 
 -- a block that is marked after a run was so before it, or became so within it
-run_cases : {dig s new : _} (es : List Event) (calls : List DeviceCalls) (answers : List Answer) → Run dig s es calls answers new → {b : _} → state_at new b ≡ Some Marked
+run_cases : {dig s new : _} (es calls answers : _) → Run dig s es calls answers new → {b : _} → state_at new b ≡ Some Marked
     → (state_at s b ≡ Some Marked) ⊎ IsMarkedIn dig s es calls answers new b
 run_cases [] [] [] run {b} m = inl (rw (← run) m)
 run_cases {dig} {s} (e ∷ es) (c ∷ calls) (a ∷ answers) run {b} m = elim (run_cases es calls answers run.2 m) [
@@ -330,6 +330,6 @@ run_cases {dig} {s} (e ∷ es) (c ∷ calls) (a ∷ answers) run {b} m = elim (r
 ]
 run_cases _ _ _ run m = absurd run
 
-pub run_marks : {dig : _} (s new : EngineState) (es : List Event) (calls : List DeviceCalls) (answers : List Answer) → Run dig s es calls answers new
-    → (b : BlockId) → state_at new b ≡ Some Marked → state_at s b ≢ Some Marked → IsMarkedIn dig s es calls answers new b
+pub run_marks : {dig : _} (s new es calls answers : _) → Run dig s es calls answers new
+    → (b : _) → state_at new b ≡ Some Marked → state_at s b ≢ Some Marked → IsMarkedIn dig s es calls answers new b
 run_marks s new es calls answers run b m before = elim (run_cases es calls _ run m) [ inl old ↦ absurd (before old) | inr now ↦ now ]

@@ -7,7 +7,7 @@ pub state_is : (s : EngineState) (c : BlockId) {f x : _} → slice_get s.files c
 state_is s c e g = cc
 
 -- a block that is marked after a file was replaced: it stands in the new file, or it was marked
-pub file_marked : (s : EngineState) {file : ℕ} (new : FileState) (b : BlockId) → state_at (with_file s file new) b ≡ Some Marked
+pub file_marked : (s : _) {file : ℕ} (new b : _) → state_at (with_file s file new) b ≡ Some Marked
     → ((b.file ≡ file) × (slice_get new.states b.block ≡ Some Marked)) ⊎ (state_at s b ≡ Some Marked)
 file_marked s {file} new b e =
     let m = and_then_some (λ q. slice_get q.states b.block) (slice_get (slice_set s.files file new) b.file) e in
@@ -39,10 +39,10 @@ pub record GaveRight (dig : Digest) (k : Facts) (reads : List BlockRead) (i : �
 more_given : {dig k read reads i : _} → GaveRight dig k reads i → GaveRight dig k (read ∷ reads) i
 more_given {read} {reads} g = record { bytes = g.bytes; gives = later read reads g.gives; right = g.right }
 
-pub missing_marks : (states : List BlockState) (b i : ℕ) → slice_get (slice_set states b Missing) i ≡ Some Marked → slice_get states i ≡ Some Marked
+pub missing_marks : (states b i : _) → slice_get (slice_set states b Missing) i ≡ Some Marked → slice_get states i ≡ Some Marked
 missing_marks states b i e = elim (set_cases _ b i e) [ inl wrong ↦ absurd cc | inr old ↦ old ]
 
-pub judged_marks : {dig k : _} (reads : List BlockRead) (states : List BlockState) {i : ℕ}
+pub judged_marks : {dig k : _} (reads states : _) {i : ℕ}
     → slice_get (judged dig k false reads states) i ≡ Some Marked → (slice_get states i ≡ Some Marked) ⊎ GaveRight dig k reads i
 judged_marks [] states e = inl e
 judged_marks {dig} {k} (given b bytes ∷ reads) states {i} e = elim (judged_marks reads _ e) [
@@ -70,7 +70,7 @@ pub record IsDue (tree from count : ℕ) (f : FileState) (i : ℕ) : Type 0 wher
   pub in_run : Contains (range_with_len from count) i
   pub waited : slice_get f.states i ≡ Some Waiting
 
-due_then : (dig : Digest) (k : Facts) {tree from count f i : _} → Contains (due_blocks dig k tree from count f) i
+due_then : (dig : Digest) (k : _) {tree from count f i : _} → Contains (due_blocks dig k tree from count f) i
     → IsDue tree from count f i
 due_then dig k {tree} {from} {count} {f} {i} c = by _ refl c
   where
@@ -85,7 +85,7 @@ due_then dig k {tree} {from} {count} {f} {i} c = by _ refl c
     by false e c = absurd (contains_none c)
 
 -- with a test that a file is meant
-pub meant_then : (dig : Digest) (k : Facts) (b : Bool) {tree from count f i : _} → Contains (if b then due_blocks dig k tree from count f else []) i
+pub meant_then : (dig : Digest) (k : _) (b : Bool) {tree from count f i : _} → Contains (if b then due_blocks dig k tree from count f else []) i
     → (b ≡ true) × IsDue tree from count f i
 meant_then dig k true c = (refl, due_then dig k c)
 meant_then dig k false c = absurd (contains_none c)

@@ -15,7 +15,7 @@ none_apart : (R : BlockId → BlockId → Type 0) → AllPairs R []
 none_apart R i j d lt within = absurd (omega arith)
 
 -- what is asked of two peers is apart
-two_apart : (peers : List PeerState) (i j : ℕ) {p q b : _} → Pairs AskedApart peers → slice_get peers i ≡ Some p → slice_get peers j ≡ Some q → j ≢ i → Contains p.asked b → Contains q.asked b → ⊥
+two_apart : (peers i j : _) {p q b : _} → Pairs AskedApart peers → slice_get peers i ≡ Some p → slice_get peers j ≡ Some q → j ≢ i → Contains p.asked b → Contains q.asked b → ⊥
 two_apart peers i j {b} apart e f other own theirs = elim (cases_lt i j) [
   | inl lt ↦ pairs_at _ peers i j apart e f lt b own theirs
   | inr le ↦ elim (cases_lt j i) [
@@ -78,7 +78,7 @@ changed {s} {m} {i} {p} at c o = record {
     }
 
 -- one that stands in the place of an engine with the same peers
-placed : {s : EngineState} (x : EngineState) {m : EngineState} {i : ℕ} {p : PeerState} (q : PeerState) → x.peers ≡ s.peers → x.next_key ≡ s.next_key → x.torrent ≡ s.torrent → KeepsMissing s x → m ≡ with_peer x i q
+placed : {s : EngineState} (x : EngineState) {m : EngineState} {i : ℕ} {p : PeerState} (q : _) → x.peers ≡ s.peers → x.next_key ≡ s.next_key → x.torrent ≡ s.torrent → KeepsMissing s x → m ≡ with_peer x i q
     → q.key ≡ p.key → length q.has ≡ length p.has → q.asked ≡ p.asked → PeerChange s i p m
 placed x {i} {p} q peers next torrent states e key has asked = record {
   new = q;
@@ -94,7 +94,7 @@ placed x {i} {p} q peers next torrent states e key has asked = record {
 }
 
 -- a peer of which other things are changed
-replaced : {p : PeerState} {s m i : _} (q : PeerState) → m ≡ with_peer s i q → q.key ≡ p.key → length q.has ≡ length p.has → q.asked ≡ p.asked → PeerChange s i p m
+replaced : {p : PeerState} {s m i : _} (q : _) → m ≡ with_peer s i q → q.key ≡ p.key → length q.has ≡ length p.has → q.asked ≡ p.asked → PeerChange s i p m
 replaced {s} q e key has asked = placed s q refl refl refl (λ b x. x) e key has asked
 
 -- the peers stay
@@ -117,7 +117,7 @@ quiet at e = kept at (ap (λ z. z.peers) e) (ap (λ z. z.next_key) e) (ap (λ z.
 
 -- ---- states
 
-set_missing : (states : List BlockState) (i j : ℕ) → slice_get states j ≡ Some Missing → slice_get (slice_set states i Missing) j ≡ Some Missing
+set_missing : (states i j : _) → slice_get states j ≡ Some Missing → slice_get (slice_set states i Missing) j ≡ Some Missing
 set_missing (x ∷ states) zero zero e = refl
 set_missing (x ∷ states) (suc i) (suc j) e = set_missing states i j e
 set_missing _ _ _ e = e
@@ -141,7 +141,7 @@ file_missing s file {f} new b at keep missing = by _ refl
         let apart : b.file ≢ file = λ same. (let yes : (b.file == file) ≡ true = eq-eqb b.file file same in absurd cc) in
         ap (option_and_then (λ (q : FileState). slice_get q.states b.block)) (set_other _ file _ new apart) ∙ missing
 
-pub judged_other : (dig : Digest) (k : Facts) (forgiving : Bool) (reads : List BlockRead) (states : List BlockState) (i : ℕ) → (Contains (map block_of reads) i → ⊥)
+pub judged_other : (dig : Digest) (k : _) (forgiving : Bool) (reads states i : _) → (Contains (map block_of reads) i → ⊥)
     → slice_get (judged dig k forgiving reads states) i ≡ slice_get states i
 judged_other dig k forgiving [] states i none = refl
 judged_other dig k forgiving (given b bytes ∷ reads) states i none =
@@ -179,7 +179,7 @@ is_itself {b} e = rw e (both _ _ (eq-eqb b.file b.file refl) (eq-eqb b.block b.b
 pub length-bits_of : (byte : ℕ) → length (bits_of byte) ≡ 8
 length-bits_of byte = cc
 
-length-bits_in : (bytes : List ℕ) → length (bits_in bytes) ≡ 8 * length bytes
+length-bits_in : (bytes : _) → length (bits_in bytes) ≡ 8 * length bytes
 length-bits_in [] = omega arith
 length-bits_in (byte ∷ bytes) = let more = length-bits_in bytes in omega (arith, length-append (bits_of byte) (bits_in bytes), length-bits_of byte)
 
@@ -198,7 +198,7 @@ module _ (dig : Digest) where
   request_change at (served span a c d f) = replaced _ f.after refl refl refl
   request_change at (stopped span a c d f) = fault_change at f.is_file.here f.finds
 
-  put_missing : (r : Result Put StoreError) (i j : ℕ) (states : List BlockState) → j ≢ i → slice_get states j ≡ Some Missing → slice_get (states_after_put i r states) j ≡ Some Missing
+  put_missing : (r : Result Put StoreError) (i j states : _) → j ≢ i → slice_get states j ≡ Some Missing → slice_get (states_after_put i r states) j ≡ Some Missing
   put_missing (Ok PutMarked) i j states apart e = set_other states i j Marked apart ∙ e
   put_missing (Ok PutWaiting) i j states apart e = set_other states i j Waiting apart ∙ e
   put_missing _ i j states apart e = e
@@ -220,7 +220,7 @@ module _ (dig : Digest) where
       no_longer : {b : _} → is_block a.block b ≡ true → Contains (without_block a.block p.asked) b → ⊥
       no_longer {b} e c = let f : not (is_block a.block b) ≡ true = (contains_filter (λ c. not (is_block a.block c)) _ c).1 in absurd cc
 
-      elsewhere : (b : BlockId) → is_block a.block b ≡ false → b.file ≡ a.block.file → b.block ≢ a.block.block
+      elsewhere : (b : _) → is_block a.block b ≡ false → b.file ≡ a.block.file → b.block ≢ a.block.block
       elsewhere b e same_file same =
           let is = ap (λ n. record b { file = n }) same_file ∙ ap (λ n. record a.block { block = n }) same in
           let no = sym (is_itself is) ∙ e in absurd cc
@@ -257,7 +257,7 @@ module _ (dig : Digest) where
           omega (arith, length-take (total_pieces s.torrent) (bits_in bytes), size)
   bits_change at pieces (wrong x y e) = quiet at e
 
-  message_change : {s : EngineState} {mid i p : _} (m : Sent) (calls : DeviceCalls) (effect : Effect) → slice_get s.peers i ≡ Some p → length p.has ≡ total_pieces s.torrent → HandlesMessage dig s i p m calls effect mid → PeerChange s i p mid
+  message_change : {s : EngineState} {mid i p : _} (m : Sent) (calls effect : _) → slice_get s.peers i ≡ Some p → length p.has ≡ total_pieces s.torrent → HandlesMessage dig s i p m calls effect mid → PeerChange s i p mid
   message_change KeepAlive calls effect at pieces h = quiet at h.2
   message_change {p} Choke calls effect at pieces h = record {
     new = record p { peer_choking = true; asked = [] };
@@ -281,7 +281,7 @@ module _ (dig : Digest) where
   message_change (HashReject key) calls effect at pieces h = replaced _ h.2.after refl refl refl
   message_change _ calls effect at pieces h = replaced _ h.2 refl refl refl
 
-  event_change : {s : EngineState} {mid i p : _} (e : WireEvent) (calls : DeviceCalls) (effect : Effect) → slice_get s.peers i ≡ Some p → length p.has ≡ total_pieces s.torrent → Handles dig s i p e calls effect mid → PeerChange s i p mid
+  event_change : {s : EngineState} {mid i p : _} (e calls effect : _) → slice_get s.peers i ≡ Some p → length p.has ≡ total_pieces s.torrent → Handles dig s i p e calls effect mid → PeerChange s i p mid
   event_change (Message m) calls effect at pieces t = message_change m calls effect at pieces t
   event_change _ calls effect at pieces t = quiet at t.2
 
@@ -305,7 +305,7 @@ module _ (dig : Digest) where
     each = λ p c. (let q = o.each p (contains_without s.peers i c) in peer_in refl refl q q.missing);
   })
 
-  pending_order : (old : EngineState) {s : _} (proofs : _) → IsOrderly s → IsOrderly (with_pending old s proofs)
+  pending_order : (old : _) {s : _} (proofs : _) → IsOrderly s → IsOrderly (with_pending old s proofs)
   pending_order old proofs o = record {
     few = o.few;
     in_order = o.in_order;
@@ -357,7 +357,7 @@ module _ (dig : Digest) where
         ];
       }
 
-  each_order : (peers : List ℕ) {s new : _} (sent : List SentFrame) → FollowsEach dig peers s sent new → IsOrderly s → IsOrderly new
+  each_order : (peers : _) {s new : _} (sent : _) → FollowsEach dig peers s sent new → IsOrderly s → IsOrderly new
   each_order [] sent f o = order_is f.1 o
   each_order (i ∷ peers) sent f o = each_order peers f.2 f.4 (follow_order f.3 o)
 
@@ -425,7 +425,7 @@ module _ (dig : Digest) where
   rechoke_order (rechokes out r x) o = each_order _ _ r.follows (rechoked_order o)
   rechoke_order (not_rechoked x e) o = order_is e o
 
-  groups_peers : (s new : EngineState) (file from : ℕ) (groups : List DeviceCalls) (total : _) → AdoptsGroups dig s file from groups total new → new.peers ≡ s.peers
+  groups_peers : (s new file from groups total : _) → AdoptsGroups dig s file from groups total new → new.peers ≡ s.peers
   groups_peers s new file from [] total g = cc
   groups_peers s new file from (calls ∷ groups) total g = groups_peers g.1 new file g.0.next groups g.2 g.4 ∙ ap (λ z. z.peers) g.3.after
 
@@ -459,7 +459,7 @@ module _ (dig : Digest) where
   order_kept s new (Adopt file) calls a t o = adopt_order t.2 o
   order_kept s new Flush calls a t o = flush_order t.2 o
 
-  run_order : (s : EngineState) {new : _} (es : List Event) (calls : List DeviceCalls) (answers : List Answer) → Run dig s es calls answers new → IsOrderly s → IsOrderly new
+  run_order : (s : _) {new : _} (es calls answers : _) → Run dig s es calls answers new → IsOrderly s → IsOrderly new
   run_order s [] [] [] run o = order_is run o
   run_order s (e ∷ es) (c ∷ calls) (a ∷ answers) run o = run_order run.0 es calls answers run.2 (order_kept s run.0 e c a run.1 o)
   run_order s _ _ _ run o = absurd run

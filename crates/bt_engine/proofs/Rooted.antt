@@ -9,7 +9,7 @@ module _ (dig : Digest) where
   as_before : {m new : _} → new ≡ m → AreRooted dig m → AreRooted dig new
   as_before e r = rw e r
 
-  grown_rooted : (s : EngineState) (t : ℕ) {k : _} → AreRooted dig s → IsRooted dig k → AreRooted dig (with_tree s t k)
+  grown_rooted : (s t : _) {k : _} → AreRooted dig s → IsRooted dig k → AreRooted dig (with_tree s t k)
   grown_rooted s t r rooted u j e = elim (set_cases _ t u e) [ inl new ↦ rw new.1 rooted | inr old ↦ r u j old ]
 
   have_rooted : {s mid i p piece effect : _} → HandlesHave s i p piece effect mid → AreRooted dig s → AreRooted dig mid
@@ -43,7 +43,7 @@ module _ (dig : Digest) where
       let grown = grown_rooted s _ r (keeps_rooted dig l.old l.new l.claim l.accepts (r l.tree l.old l.here.here)) in
       as_before l.after (as_before l.settles.others grown)
 
-  message_rooted : (s mid : EngineState) (i : ℕ) (p : PeerState) (m : Sent) (calls : DeviceCalls) (effect : Effect) → HandlesMessage dig s i p m calls effect mid → AreRooted dig s → AreRooted dig mid
+  message_rooted : (s mid i p : _) (m : Sent) (calls effect : _) → HandlesMessage dig s i p m calls effect mid → AreRooted dig s → AreRooted dig mid
   message_rooted s mid i p (Have piece) calls effect h r = have_rooted h.1 r
   message_rooted s mid i p (Bitfield bytes) calls effect h r = bits_rooted h.1 r
   message_rooted s mid i p (Request ask) calls effect h r = request_rooted h r
@@ -52,7 +52,7 @@ module _ (dig : Digest) where
   message_rooted s mid i p (HashReject key) calls effect h r = as_before h.2.after r
   message_rooted s mid i p _ calls effect h r = as_before h.2 r
 
-  event_rooted : (s mid : EngineState) (i : ℕ) (p : PeerState) (e : WireEvent) (calls : DeviceCalls) (effect : Effect) → Handles dig s i p e calls effect mid → AreRooted dig s → AreRooted dig mid
+  event_rooted : (s mid i p e calls effect : _) → Handles dig s i p e calls effect mid → AreRooted dig s → AreRooted dig mid
   event_rooted s mid i p (Message m) calls effect t r = message_rooted s mid i p m calls effect t r
   event_rooted s mid i p _ calls effect t r = as_before t.2 r
 
@@ -79,7 +79,7 @@ module _ (dig : Digest) where
   lost_rooted (goes i p a b e) r = as_before e r
   lost_rooted (not_lost a b e) r = as_before e r
 
-  each_rooted : (peers : List ℕ) (s new : EngineState) (sent : List SentFrame) → FollowsEach dig peers s sent new → AreRooted dig s → AreRooted dig new
+  each_rooted : (peers s new sent : _) → FollowsEach dig peers s sent new → AreRooted dig s → AreRooted dig new
   each_rooted [] s new sent f r = as_before f.1 r
   each_rooted (i ∷ peers) s new sent f r = each_rooted peers f.0 new f.2 f.4 (as_before f.3.after r)
 
@@ -91,7 +91,7 @@ module _ (dig : Digest) where
   group_rooted {s} g r =
       as_before g.after (grown_rooted s _ r ((group_extends dig g).rooted (r g.state.tree g.tree g.is_file.hung)))
 
-  groups_rooted : (s new : EngineState) (file from : ℕ) (groups : List DeviceCalls) (total : _) → AdoptsGroups dig s file from groups total new → AreRooted dig s → AreRooted dig new
+  groups_rooted : (s new file from groups total : _) → AdoptsGroups dig s file from groups total new → AreRooted dig s → AreRooted dig new
   groups_rooted s new file from [] total g r = as_before g.1 r
   groups_rooted s new file from (calls ∷ groups) total g r = groups_rooted g.1 new file g.0.next groups g.2 g.4 (group_rooted g.3 r)
 
@@ -106,7 +106,7 @@ module _ (dig : Digest) where
   flush_rooted (syncs a b c e) r = as_before e r
   flush_rooted (fails before file after a b c e) r = as_before e r
 
-  pub step_rooted : (s new : EngineState) (e : Event) (calls : DeviceCalls) (a : Answer) → Step dig s e calls a new → AreRooted dig s → AreRooted dig new
+  pub step_rooted : (s new e calls a : _) → Step dig s e calls a new → AreRooted dig s → AreRooted dig new
   step_rooted s new Connect calls a t r = connect_rooted t.3 r
   step_rooted s new (Feed key bytes) calls a t r = feed_rooted t.3 r
   step_rooted s new (Next key) calls a t r = next_rooted t.2 r
@@ -115,17 +115,17 @@ module _ (dig : Digest) where
   step_rooted s new (Adopt file) calls a t r = adopt_rooted t.2 r
   step_rooted s new Flush calls a t r = flush_rooted t.2 r
 
-  pub run_rooted : (s new : EngineState) (es : List Event) (calls : List DeviceCalls) (answers : List Answer) → Run dig s es calls answers new → AreRooted dig s → AreRooted dig new
+  pub run_rooted : (s new es calls answers : _) → Run dig s es calls answers new → AreRooted dig s → AreRooted dig new
   run_rooted s new [] [] [] run r = as_before run r
   run_rooted s new (e ∷ es) (c ∷ calls) (a ∷ answers) run r = run_rooted run.0 new es calls answers run.2 (step_rooted s run.0 e c a run.1 r)
   run_rooted s new _ _ _ run r = absurd run
 
-pub rooted_checked : (dig : Digest) (s : EngineState) → AreRooted dig s → AreChecked dig s
+pub rooted_checked : (dig : Digest) (s : _) → AreRooted dig s → AreChecked dig s
 rooted_checked dig s rooted t k at layer i d held =
     let hung = rooted t k at in
     held_is_checked dig k hung (height k - layer) layer i d (omega (arith, (hung.covers layer i d held).inside.in_height)) held
 
-pub right_checked : {dig : _} (k : Facts) (i : ℕ) (bytes : List ℕ) → IsRooted dig k → i < blocks_of k → IsRight dig k i bytes → IsChecked dig k 0 i (dig bytes)
+pub right_checked : {dig : _} (k i bytes : _) → IsRooted dig k → i < blocks_of k → IsRight dig k i bytes → IsChecked dig k 0 i (dig bytes)
 right_checked {dig} k i bytes rooted lt exact =
     let real : real_width (blocks_of k) 0 ≡ blocks_of k = omega arith in
     let wide = real_limit (blocks_of k) 0 (omega arith) in

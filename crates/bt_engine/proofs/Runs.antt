@@ -7,16 +7,16 @@ use Rattle.bt_engine.proofs.Determined.{EachPair}
 
 -- ---- memory
 
-remembers : (answers : List Answer) {a : _} → HaveMemory answers → Contains answers a → ¬ IsOutOfMemory a
+remembers : (answers : _) {a : _} → HaveMemory answers → Contains answers a → ¬ IsOutOfMemory a
 remembers answers {a} memory c = rw (← c.2) (memory c.0 a c.1)
 
-memory_of : (answers : List Answer) → ((a : Answer) → Contains answers a → ¬ IsOutOfMemory a) → HaveMemory answers
+memory_of : (answers : _) → ((a : Answer) → Contains answers a → ¬ IsOutOfMemory a) → HaveMemory answers
 memory_of answers each k d lt = each _ (contains_at answers k d lt)
 
-pub memory_before : (answers others : List Answer) → HaveMemory (answers ++ others) → HaveMemory answers
+pub memory_before : (answers others : _) → HaveMemory (answers ++ others) → HaveMemory answers
 memory_before answers others memory = memory_of answers (λ a c. remembers (answers ++ others) memory (Contains-append_left answers others a c))
 
-pub memory_after : (answers others : List Answer) → HaveMemory (answers ++ others) → HaveMemory others
+pub memory_after : (answers others : _) → HaveMemory (answers ++ others) → HaveMemory others
 memory_after answers others memory = memory_of others (λ a c. remembers (answers ++ others) memory (Contains-append_right answers others a c))
 
 -- a fact of each answer, one by one
@@ -24,26 +24,26 @@ abbrev pub Each : (Answer → Type 0) → List Answer → Type 0
 Each P [] = ⊤
 Each P (a ∷ answers) = P a × Each P answers
 
-pub all_of : (P : Answer → Type 0) (answers : List Answer) → Each P answers → All P answers
+pub all_of : (P : Answer → Type 0) (answers : _) → Each P answers → All P answers
 all_of P [] each k d lt = absurd (omega arith)
 all_of P (a ∷ answers) each zero d lt = each.0
 all_of P (a ∷ answers) each (suc k) d lt = all_of P answers each.1 k d (omega arith)
 
-pub pairs_of : (P : Answer → Type 0) (answers others : List Answer) → Each P answers → EachPair (λ a b. P a) answers others
+pub pairs_of : (P : Answer → Type 0) (answers others : _) → Each P answers → EachPair (λ a b. P a) answers others
 pairs_of P [] others each = tt
 pairs_of P (a ∷ answers) [] each = tt
 pairs_of P (a ∷ answers) (b ∷ others) each = (each.0, pairs_of P answers others each.1)
 
 -- ---- the engine with which a torrent of one file begins
 
-trees_one : {root : _} (trees : List Facts) (t : ℕ) {k : _} → ((i : ℕ) (j : Facts) → slice_get trees i ≡ Some j → j ≡ root)
+trees_one : {root : _} (trees t : _) {k : _} → ((i : ℕ) (j : Facts) → slice_get trees i ≡ Some j → j ≡ root)
     → AllPairs (λ (i j : Facts). i.root ≢ j.root) trees → slice_get trees t ≡ Some k → (trees ≡ root ∷ []) × (t ≡ 0)
 trees_one [] t each apart at = absurd cc
 trees_one (j ∷ []) zero each apart at = (ap (λ z. z ∷ []) (each 0 j refl), refl)
 trees_one (j ∷ []) (suc t) each apart at = absurd cc
 trees_one (i ∷ j ∷ more) t each apart at = absurd (apart 0 1 i (omega arith) (omega arith) (ap (λ z. z.root) (each 0 i refl ∙ sym (each 1 j refl))))
 
-only_file : (files : List FileState) → length files ≡ 1 → (f : FileState) × (files ≡ f ∷ [])
+only_file : (files : _) → length files ≡ 1 → (f : FileState) × (files ≡ f ∷ [])
 only_file [] e = absurd (omega arith)
 only_file (f ∷ []) e = (f, refl)
 only_file (f ∷ g ∷ files) e = absurd (omega arith)
@@ -79,7 +79,7 @@ module _ (dig : Digest) where
       empty : List FileState → EngineState
       empty files = record { torrent = torrent; trees = root_facts file.length file.root ∷ []; files = files; peers = []; next_key = 1; turn = 0; logged = false; pending = []; hints = [] }
 
-      each : (i : ℕ) (j : Facts) → slice_get first.trees i ≡ Some j → j ≡ root_facts file.length file.root
+      each : (i j : _) → slice_get first.trees i ≡ Some j → j ≡ root_facts file.length file.root
       each i j at =
           let t = starts.is_new.each_tree i j at in
           let one = one_there t.number (ap (λ l. slice_get l t.number) (sym files) ∙ t.listed) in
@@ -87,7 +87,7 @@ module _ (dig : Digest) where
 
   -- ---- runs
 
-  pub run_join : (es fs : List Event) (cs gs : List DeviceCalls) (answers others : List Answer) (s m n : EngineState) → Run dig s es cs answers m
+  pub run_join : (es fs cs gs answers others s m n : _) → Run dig s es cs answers m
       → Run dig m fs gs others n → Run dig s (es ++ fs) (cs ++ gs) (answers ++ others) n
   run_join [] fs [] gs [] others s m n x y = rw (← x) y
   run_join (e ∷ es) fs (c ∷ cs) gs (a ∷ answers) others s m n x y = (x.0, x.1, run_join es fs cs gs answers others x.0 m n x.2 y)
@@ -104,7 +104,7 @@ module _ (dig : Digest) where
     pub begins : Run dig s es cs begin mid
     pub goes_on : Run dig mid fs gs rest n
 
-  pub run_split : (es fs : List Event) (cs gs : List DeviceCalls) (answers : List Answer) {s n : _} → length es ≡ length cs
+  pub run_split : (es fs cs gs answers : _) {s n : _} → length es ≡ length cs
       → Run dig s (es ++ fs) (cs ++ gs) answers n → IsSplit s es fs cs gs answers n
   run_split [] fs [] gs answers {s} size x = record { begin = []; rest = answers; mid = s; is = refl; begins = refl; goes_on = x }
   run_split [] fs (c ∷ cs) gs answers size x = absurd (omega arith)
@@ -119,7 +119,7 @@ module _ (dig : Digest) where
     pub is : answers ≡ answer ∷ []
     pub step : Step dig s e c answer n
 
-  pub one_step : (e : Event) (c : DeviceCalls) (answers : List Answer) (s n : EngineState) → Run dig s (e ∷ []) (c ∷ []) answers n → IsOneStep s e c answers n
+  pub one_step : (e c answers s n : _) → Run dig s (e ∷ []) (c ∷ []) answers n → IsOneStep s e c answers n
   one_step e c [] s n x = absurd x
   one_step e c (a ∷ []) s n x = record { answer = a; is = refl; step = rw x.2 x.1 }
   one_step e c (a ∷ b ∷ answers) s n x = absurd x.2

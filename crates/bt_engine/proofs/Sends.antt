@@ -19,32 +19,32 @@ Plain xs = (x : Sent) → Contains xs x → data_frame x.frame ≡ false
 plain_none : Plain []
 plain_none x c = absurd (contains_none c)
 
-plain_one : (x : Sent) (xs : List Sent) → data_frame x.frame ≡ false → Plain xs → Plain (x ∷ xs)
+plain_one : (x : Sent) (xs : _) → data_frame x.frame ≡ false → Plain xs → Plain (x ∷ xs)
 plain_one x xs e rest y c = elim (contains_cases xs c) [ inl same ↦ ap (λ s. data_frame s.frame) (sym same) ∙ e | inr more ↦ rest y more ]
 
-plain_append : (xs ys : List Sent) → Plain xs → Plain ys → Plain (xs ++ ys)
+plain_append : (xs ys : _) → Plain xs → Plain ys → Plain (xs ++ ys)
 plain_append xs ys f g x c = elim (Contains-append_cases xs ys x c) [ inl one ↦ f x one | inr more ↦ g x more ]
 
 plain_is : {xs ys : _} → xs ≡ ys → Plain ys → Plain xs
 plain_is e f = rw e f
 
-plain_haves : (old new : EngineState) → Plain (haves old new)
+plain_haves : (old new : _) → Plain (haves old new)
 plain_haves old new x c =
     let p = contains_flat_map (λ piece. map (λ p. sent_to p (Have piece)) new.peers) _ c in
     let q = contains_map (λ q. sent_to q (Have p.0)) _ p.2 in
     ap (λ s. data_frame s.frame) (sym q.2)
 
-plain_interest : (p : PeerState) (was now : Bool) → Plain (interest_sent p was now)
+plain_interest : (p : _) (was now : Bool) → Plain (interest_sent p was now)
 plain_interest p true true = plain_none
 plain_interest p false false = plain_none
 plain_interest p _ _ = plain_one _ [] refl plain_none
 
-plain_choking : (p : PeerState) (choked served : Bool) → Plain (choking_sent p choked served)
+plain_choking : (p : _) (choked served : Bool) → Plain (choking_sent p choked served)
 plain_choking p true false = plain_none
 plain_choking p false true = plain_none
 plain_choking p _ _ = plain_one _ [] refl plain_none
 
-plain_each_block : (s : EngineState) (p : PeerState) (blocks : List BlockId) (sent : List Sent) → RequestsEach s p blocks sent → Plain sent
+plain_each_block : (s p blocks sent : _) → RequestsEach s p blocks sent → Plain sent
 plain_each_block s p [] sent r = plain_is r plain_none
 plain_each_block s p (b ∷ blocks) sent r = plain_is r.4 (plain_one r.0 r.1 (ap (λ s. data_frame s.frame) r.2.is) (plain_each_block s p blocks r.1 r.3))
 
@@ -59,7 +59,7 @@ plain_follows {s} f =
     let third = plain_each_block s f.planned f.blocks f.block_frames f.requests in
     plain_is f.all (plain_append (f.interest_frames ++ f.hash_frames) f.block_frames (plain_append f.interest_frames f.hash_frames first second) third)
 
-plain_each : (dig : Digest) (peers : List ℕ) (s : EngineState) (sent : List Sent) (new : EngineState) → FollowsEach dig peers s sent new → Plain sent
+plain_each : (dig : Digest) (peers s sent new : _) → FollowsEach dig peers s sent new → Plain sent
 plain_each dig [] s sent new f = plain_is f.0 plain_none
 plain_each dig (i ∷ peers) s sent new f = plain_is f.5 (plain_append f.1 f.2 (plain_follows f.3) (plain_each dig peers f.0 f.2 new f.4))
 
@@ -70,13 +70,13 @@ piece_frame key piece begin bytes = record { peer = key; frame = message_frame (
 abbrev Sends : (PeerKey → ℕ → ℕ → List ℕ → Type 0) → List Sent → Type 0
 Sends P sends = (key : PeerKey) (piece begin : ℕ) (bytes : List ℕ) → Contains sends (piece_frame key piece begin bytes) → P key piece begin bytes
 
-sends_plain : (P : PeerKey → ℕ → ℕ → List ℕ → Type 0) (xs : List Sent) → Plain xs → Sends P xs
+sends_plain : (P : PeerKey → ℕ → ℕ → List ℕ → Type 0) (xs : _) → Plain xs → Sends P xs
 sends_plain P xs f key piece begin bytes c = let no_data = f (piece_frame key piece begin bytes) c in absurd cc
 
 sends_is : (P : PeerKey → ℕ → ℕ → List ℕ → Type 0) {xs ys : _} → xs ≡ ys → Sends P ys → Sends P xs
 sends_is P e f = rw e f
 
-sends_append : (P : PeerKey → ℕ → ℕ → List ℕ → Type 0) (xs ys : List Sent) → Sends P xs → Sends P ys → Sends P (xs ++ ys)
+sends_append : (P : PeerKey → ℕ → ℕ → List ℕ → Type 0) (xs ys : _) → Sends P xs → Sends P ys → Sends P (xs ++ ys)
 sends_append P xs ys f g key piece begin bytes c = elim (Contains-append_cases xs ys (piece_frame key piece begin bytes) c) [ inl one ↦ f key piece begin bytes one | inr more ↦ g key piece begin bytes more ]
 
 -- what a message with data says
@@ -148,7 +148,7 @@ module _ (dig : Digest) where
       fault_sends (damaged bytes x y e z) = effect_is _ e plain_none
       fault_sends (fault x e y) = effect_is _ e plain_none
 
-  put_sends : (P : PeerKey → ℕ → ℕ → List ℕ → Type 0) (b : BlockId) (r : Result Put StoreError) (effect : Effect) → HasPutEffect b r effect → Sends P effect.send
+  put_sends : (P : PeerKey → ℕ → ℕ → List ℕ → Type 0) (b : _) (r : Result Put StoreError) (effect : _) → HasPutEffect b r effect → Sends P effect.send
   put_sends P b (Ok PutMarked) effect e = effect_is P e plain_none
   put_sends P b (Ok PutWaiting) effect e = effect_is P e plain_none
   put_sends P b (Ok Wrong) effect e = effect_is P e plain_none
@@ -181,7 +181,7 @@ module _ (dig : Digest) where
   hello_sends P (ours x e) = effect_is P e plain_none
   hello_sends P (other x e) = effect_is P e plain_none
 
-  message_sends : (s mid : EngineState) (i : ℕ) (p : PeerState) (m : PeerMessage) (calls : DeviceCalls) (effect : Effect) → HandlesMessage dig s i p m calls effect mid → Sends (IsCut dig s p (Message m) calls) effect.send
+  message_sends : (s mid i p : _) (m : PeerMessage) (calls effect : _) → HandlesMessage dig s i p m calls effect mid → Sends (IsCut dig s p (Message m) calls) effect.send
   message_sends s mid i p (Have piece) calls effect h = have_sends _ h.1
   message_sends s mid i p (Bitfield bytes) calls effect h = bits_sends _ h.1
   message_sends s mid i p (Request ask) calls effect h = request_sends h
@@ -190,7 +190,7 @@ module _ (dig : Digest) where
   message_sends s mid i p (Hashes key digests) calls effect h = hashes_sends _ h
   message_sends s mid i p _ calls effect h = effect_is _ h.1 plain_none
 
-  event_sends : (s mid : EngineState) (i : ℕ) (p : PeerState) (e : WireEvent) (calls : DeviceCalls) (effect : Effect) → Handles dig s i p e calls effect mid → Sends (IsCut dig s p e calls) effect.send
+  event_sends : (s mid i p e calls effect : _) → Handles dig s i p e calls effect mid → Sends (IsCut dig s p e calls) effect.send
   event_sends s mid i p (Hello h) calls effect t = hello_sends _ t.1
   event_sends s mid i p (Message m) calls effect t = message_sends s mid i p m calls _ t
   event_sends s mid i p (Skipped kind) calls effect t = effect_is _ t.1 plain_none
@@ -248,15 +248,15 @@ module _ (dig : Digest) where
       (plain_append _ x.sent (λ y c. let p = contains_flat_map (λ p. choking_sent p p.am_choking (is_served s p)) s.peers c in plain_choking p.0 _ _ y p.2) (plain_each dig _ _ x.sent new x.follows))
   rechoke_sends P (not_rechoked e x) = nothing P (ap (λ x. of_rechoke x) e) plain_none
 
-  pub step_sends : (s new : EngineState) (e : Event) (calls : DeviceCalls) (a : Answer) → Step dig s e calls a new → Sends (IsServed dig s e calls) (sent_by a)
+  pub step_sends : (s new e calls a : _) → Step dig s e calls a new → Sends (IsServed dig s e calls) (sent_by a)
   step_sends s new Connect calls a t = sends_is _ (ap sent_by t.1) (connect_sends _ t.3)
   step_sends s new (Next key) calls a t = sends_is _ (ap sent_by t.1) (next_sends t.2)
   step_sends s new Rechoke calls a t = sends_is _ (ap sent_by t.1) (rechoke_sends _ t.3)
   step_sends s new _ calls a t = nothing _ t.1 plain_none
 
-  pub run_sends : (s new : EngineState) (es : List Event) (calls : List DeviceCalls) (before : List Answer) (answer : Answer) (after : List Answer)
+  pub run_sends : (s new es calls before answer after : _)
       → Run dig s es calls (before ++ answer ∷ after) new
-      → (key : PeerKey) (piece begin : ℕ) (bytes : List ℕ) → Contains (sent_by answer) (piece_frame key piece begin bytes)
+      → (key piece begin bytes : _) → Contains (sent_by answer) (piece_frame key piece begin bytes)
       → IsSoAt dig s es calls before answer after new (λ old event calls_then new. IsServed dig old event calls_then key piece begin bytes)
   run_sends s new (e ∷ es) (c ∷ calls) [] answer after run key piece begin bytes sent =
       at_first run.0 run.1 run.2

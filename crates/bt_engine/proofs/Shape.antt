@@ -60,7 +60,7 @@ is_same e = same_all (ap (λ z. z.torrent) e) (ap (λ z. z.files) e) (ap (λ z. 
 peers_change : {s m x : EngineState} → x.torrent ≡ s.torrent → x.files ≡ s.files → x.trees ≡ s.trees → x.logged ≡ s.logged → x.hints ≡ s.hints → x.pending ≡ s.pending → m ≡ x → Keeps s m
 peers_change torrent files trees logged hints pending e = keeps_then (same_all torrent files trees logged hints pending) (is_same e)
 
-with_peer_keeps : {s m : _} (i : ℕ) (q : PeerState) → m ≡ with_peer s i q → Keeps s m
+with_peer_keeps : {s m : _} (i q : _) → m ≡ with_peer s i q → Keeps s m
 with_peer_keeps i q e = peers_change refl refl refl refl refl refl e
 
 -- ---- files and trees
@@ -103,18 +103,18 @@ tree_keeps {s} t {old} new at root size = record {
   pending = λ none. refl;
 }
 
-length-judged : (dig : Digest) (k : Facts) (forgiving : Bool) (reads : List BlockRead) (states : List BlockState) → length (judged dig k forgiving reads states) ≡ length states
+length-judged : (dig : Digest) (k : _) (forgiving : Bool) (reads states : _) → length (judged dig k forgiving reads states) ≡ length states
 length-judged dig k forgiving [] states = refl
 length-judged dig k forgiving (given i bytes ∷ reads) states = length-judged dig k _ reads _ ∙ length-set states i _
 length-judged dig k true (failed i ∷ reads) states = length-judged dig k true reads _
 length-judged dig k false (failed i ∷ reads) states = length-judged dig k false reads _ ∙ length-set states i Missing
 
-length-marked : (first count : ℕ) (states : List BlockState) → length (marked_run first count states) ≡ length states
+length-marked : (first count states : _) → length (marked_run first count states) ≡ length states
 unfolding marked_run
 length-marked first zero states = refl
 length-marked first (suc count) states = length-set (marked_run first count states) (first + count) Marked ∙ length-marked first count _
 
-length-put : (i : ℕ) (r : Result Put StoreError) (states : List BlockState) → length (states_after_put i r states) ≡ length states
+length-put : (i : _) (r : Result Put StoreError) (states : _) → length (states_after_put i r states) ≡ length states
 length-put i (Ok PutMarked) states = length-set states i Marked
 length-put i (Ok PutWaiting) states = length-set states i Waiting
 length-put i _ states = refl
@@ -145,7 +145,7 @@ module _ (dig : Digest) where
     pending = λ none. ap (λ z. z.pending) s.others;
   }
 
-  pending_keeps : (old : EngineState) {s : _} (proofs : _) → Keeps s (with_pending old s proofs)
+  pending_keeps : (old : _) {s : _} (proofs : _) → Keeps s (with_pending old s proofs)
   pending_keeps old {s} proofs = record {
     torrent = refl;
     count = refl;
@@ -194,7 +194,7 @@ module _ (dig : Digest) where
       let grown = tree_keeps _ l.new l.here.here l.accepts.joins.root l.accepts.joins.file_length in
       keeps_then (keeps_then grown (settle_keeps l.settles)) (with_peer_keeps i _ l.after)
 
-  message_keeps : {s mid : _} (i : ℕ) (p : PeerState) (m : Sent) (calls : DeviceCalls) (effect : Effect) → HandlesMessage dig s i p m calls effect mid → Keeps s mid
+  message_keeps : {s mid : _} (i p : _) (m : Sent) (calls effect : _) → HandlesMessage dig s i p m calls effect mid → Keeps s mid
   message_keeps i p KeepAlive calls effect h = is_same h.2
   message_keeps i p (Have piece) calls effect h = have_keeps h.1
   message_keeps i p (Bitfield bytes) calls effect h = bits_keeps h.1
@@ -206,7 +206,7 @@ module _ (dig : Digest) where
   message_keeps i p (HashReject key) calls effect h = with_peer_keeps i _ h.2.after
   message_keeps i p _ calls effect h = with_peer_keeps i _ h.2
 
-  event_keeps : {s mid : _} (i : ℕ) (p : PeerState) (e : WireEvent) (calls : DeviceCalls) (effect : Effect) → Handles dig s i p e calls effect mid → Keeps s mid
+  event_keeps : {s mid : _} (i p e calls effect : _) → Handles dig s i p e calls effect mid → Keeps s mid
   event_keeps i p (Message m) calls effect t = message_keeps i p m calls effect t
   event_keeps i p _ calls effect t = is_same t.2
 
@@ -223,7 +223,7 @@ module _ (dig : Digest) where
   gone_keeps : {s new : _} (i : ℕ) → new ≡ without_peer i s → Keeps s new
   gone_keeps i e = peers_change refl refl refl refl refl refl e
 
-  each_keeps : (peers : List ℕ) {s new : _} (sent : List SentFrame) → FollowsEach dig peers s sent new → Keeps s new
+  each_keeps : (peers : _) {s new : _} (sent : _) → FollowsEach dig peers s sent new → Keeps s new
   each_keeps [] sent f = is_same f.1
   each_keeps (i ∷ peers) sent f = keeps_then (follow_keeps f.3) (each_keeps peers f.2 f.4)
 
@@ -271,7 +271,7 @@ module _ (dig : Digest) where
       let two = tree_keeps _ _ g.is_file.hung extends.root extends.file_length in
       keeps_then (keeps_then (keeps_then one two) (pending_keeps s _)) (is_same g.after)
 
-  groups_keep : (s : EngineState) {new : _} (file from : ℕ) (groups : List DeviceCalls) (total : _) → AdoptsGroups dig s file from groups total new → Keeps s new
+  groups_keep : (s : _) {new : _} (file from groups total : _) → AdoptsGroups dig s file from groups total new → Keeps s new
   groups_keep s file from [] total g = is_same g.1
   groups_keep s file from (calls ∷ groups) total g = keeps_then (group_keeps g.3) (groups_keep g.1 file g.0.next groups g.2 g.4)
 
@@ -289,7 +289,7 @@ module _ (dig : Digest) where
   flush_keeps (syncs x y z e) = is_same e
   flush_keeps (fails before file after x y z e) = is_same e
 
-  step_keeps : {s new : _} (e : Event) (calls : DeviceCalls) (a : Answer) → Step dig s e calls a new → Keeps s new
+  step_keeps : {s new : _} (e calls a : _) → Step dig s e calls a new → Keeps s new
   step_keeps Connect calls a t = connect_keeps t.3
   step_keeps (Feed key bytes) calls a t = feed_keeps t.3
   step_keeps (Next key) calls a t = next_keeps t.2
@@ -298,17 +298,17 @@ module _ (dig : Digest) where
   step_keeps (Adopt file) calls a t = adopt_keeps t.2
   step_keeps Flush calls a t = flush_keeps t.2
 
-  run_keeps : (s : EngineState) {new : _} (es : List Event) (calls : List DeviceCalls) (answers : List Answer) → Run dig s es calls answers new → Keeps s new
+  run_keeps : (s : _) {new : _} (es calls answers : _) → Run dig s es calls answers new → Keeps s new
   run_keeps s [] [] [] run = is_same run
   run_keeps s (e ∷ es) (c ∷ calls) (a ∷ answers) run = keeps_then (step_keeps e c a run.1) (run_keeps run.0 es calls answers run.2)
   run_keeps s _ _ _ run = absurd run
 
   -- ---- from the start
 
-  root_at : (trees : List Facts) (i : ℕ) (d : Facts) → i < length trees → get_or (map (λ (k : Facts). k.root) trees) i d.root ≡ (get_or trees i d).root
+  root_at : (trees i : _) (d : Facts) → i < length trees → get_or (map (λ (k : Facts). k.root) trees) i d.root ≡ (get_or trees i d).root
   root_at trees i d lt = get_or-map (λ k. k.root) trees i d d.root lt
 
-  roots_apart : (xs ys : List Facts) → map (λ (k : Facts). k.root) ys ≡ map (λ (k : Facts). k.root) xs → AllPairs (λ (j k : Facts). j.root ≢ k.root) xs → AllPairs (λ (j k : Facts). j.root ≢ k.root) ys
+  roots_apart : (xs ys : _) → map (λ (k : Facts). k.root) ys ≡ map (λ (k : Facts). k.root) xs → AllPairs (λ (j k : Facts). j.root ≢ k.root) xs → AllPairs (λ (j k : Facts). j.root ≢ k.root) ys
   roots_apart xs ys same apart i j d lt within e =
       let size = sym (length-map ys (λ k. k.root)) ∙ ap length same ∙ length-map xs (λ k. k.root) in
       let at : (n : ℕ) → n < length ys → (get_or xs n d).root ≡ (get_or ys n d).root = λ n below. sym (root_at xs n d (omega arith)) ∙ ap (λ rs. get_or rs n d.root) (sym same) ∙ root_at ys n d below in
@@ -344,7 +344,7 @@ module _ (dig : Digest) where
         );
   }
 
-  pub step_shape : {torrent s new : _} (e : Event) (calls : DeviceCalls) (a : Answer) → IsShaped torrent s → Step dig s e calls a new → IsShaped torrent new
+  pub step_shape : {torrent s new : _} (e calls a : _) → IsShaped torrent s → Step dig s e calls a new → IsShaped torrent new
   step_shape e calls a shaped t = shape_after shaped (step_keeps e calls a t)
 
   pub shape_kept : RunsKeepShape dig

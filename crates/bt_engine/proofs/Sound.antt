@@ -22,7 +22,7 @@ pub record Reads (old new : History) (calls : List Call) : Type 0 where
   pub same : new.now.bytes ≡ old.now.bytes
   pub read : (at wanted : ℕ) (bytes : List ℕ) → Contains calls (bytes_given at wanted bytes) → bytes ≡ take wanted (drop at old.now.bytes)
 
-pub calls_keep : (old : History) {new : _} (calls : List Call) → ((c : Call) → Contains calls c → KeepsBytes c) → AreAnswered old calls new → Reads old new calls
+pub calls_keep : (old : History) {new : _} (calls : _) → ((c : Call) → Contains calls c → KeepsBytes c) → AreAnswered old calls new → Reads old new calls
 calls_keep old [] keep a = record { same = cc; read = λ at wanted bytes c. absurd (contains_none c) }
 calls_keep old (call ∷ calls) keep a =
     let one = call_keeps old a.0 call (keep call (here calls refl)) a.1 in
@@ -36,7 +36,7 @@ calls_keep old (call ∷ calls) keep a =
     }
 
 -- a device's calls are among all calls
-pub of_all : {file : ℕ} (calls : DeviceCalls) {c : _} → Contains (calls_of file calls) c → Contains calls (file, c)
+pub of_all : {file : ℕ} (calls : _) {c : _} → Contains (calls_of file calls) c → Contains calls (file, c)
 of_all {file} calls {c} among =
     let m = contains_map (λ a. a.1) _ among in
     let t = contains_filter (λ a. a.0 == file) calls m.1 in
@@ -63,25 +63,25 @@ among_file {file} (x ∷ calls) {c} among = by _ refl (contains_cases calls amon
 
 -- ---- a block of one file
 
-moved : {dig : Digest} {old new : Facts} (xs ys : List ℕ) {i : ℕ} → new.file_length ≡ old.file_length → ((d : List ℕ) → value_at dig old 0 i ≡ Some d → value_at dig new 0 i ≡ Some d)
+moved : {dig : Digest} {old new : Facts} (xs ys : _) {i : ℕ} → new.file_length ≡ old.file_length → ((d : List ℕ) → value_at dig old 0 i ≡ Some d → value_at dig new 0 i ≡ Some d)
     → stored_block old.file_length ys i ≡ stored_block old.file_length xs i → IsRight dig old i (stored_block old.file_length xs i) → IsRight dig new i (stored_block new.file_length ys i)
 moved {dig} {old} {new} xs ys {i} size kept same r =
     let is : stored_block new.file_length ys i ≡ stored_block old.file_length xs i = cc in
     record { whole = cc; leaf = kept _ r.leaf ∙ ap (λ x. Some (dig x)) (sym is) }
 
 -- a block that was written stands there
-stands : (n i : ℕ) (old : History) {new : _} (bytes : List ℕ) → length bytes ≡ block_length n i → new ≡ after_write old (full_block_length * i) bytes → stored_block n new.now.bytes i ≡ bytes
+stands : (n i : ℕ) (old : History) {new : _} (bytes : _) → length bytes ≡ block_length n i → new ≡ after_write old (full_block_length * i) bytes → stored_block n new.now.bytes i ≡ bytes
 stands n i old {new} [] size e = cc
 stands n i old (x ∷ bytes) size e = ap (λ h. stored_block n h.now.bytes i) e ∙ own_bytes n _ i size
 
 -- another block stays
-others : (n i j : ℕ) (old : History) {new : _} (bytes : List ℕ) → i ≢ j → length bytes ≡ block_length n j → length (stored_block n old.now.bytes i) ≡ block_length n i
+others : (n i j : ℕ) (old : History) {new : _} (bytes : _) → i ≢ j → length bytes ≡ block_length n j → length (stored_block n old.now.bytes i) ≡ block_length n i
     → new ≡ after_write old (full_block_length * j) bytes → stored_block n new.now.bytes i ≡ stored_block n old.now.bytes i
 others n i j old [] apart size whole e = cc
 others n i j old (x ∷ bytes) apart size whole e = ap (λ h. stored_block n h.now.bytes i) e ∙ other_bytes n _ _ i j apart size whole
 
 -- also where the write failed
-torn : (n i j : ℕ) (old new : History) (bytes : List ℕ) → i ≢ j → length bytes ≡ block_length n j → length (stored_block n old.now.bytes i) ≡ block_length n i
+torn : (n i j : _) (old new : History) (bytes : _) → i ≢ j → length bytes ≡ block_length n j → length (stored_block n old.now.bytes i) ≡ block_length n i
     → AfterWriteFault (full_block_length * j) bytes old new → stored_block n new.now.bytes i ≡ stored_block n old.now.bytes i
 torn n i j old new [] apart size whole e = cc
 torn n i j old new (x ∷ bytes) apart size whole (inl e) = cc
@@ -125,7 +125,7 @@ kept_block dig {files} {trees} file i {f} {k} {calls} old new at hung marked (pu
         ]
 
 module _ {D : Type 0} (history : D → History) (honest : D → Type 0) (faults : D → ℕ) (dig : Digest) where
-  block_right : (old new : EngineState) (event : Event) (calls : DeviceCalls) (answer : Answer) (file : ℕ) {i f k : _} (before after : History) → Step dig old event calls answer new
+  block_right : (old new event calls answer file : _) {i f k : _} (before after : History) → Step dig old event calls answer new
       → slice_get new.files file ≡ Some f → slice_get new.trees f.tree ≡ Some k → AreAnswered before (calls_of file calls) after
       → ((g : FileState) (l : Facts) → slice_get old.files file ≡ Some g → slice_get old.trees g.tree ≡ Some l → AreRight dig l before.now.bytes g.states)
       → slice_get f.states i ≡ Some Marked → IsRight dig k i (stored_block k.file_length after.now.bytes i)
@@ -175,7 +175,7 @@ module _ {D : Type 0} (history : D → History) (honest : D → Type 0) (faults 
       block_right old new event calls _ file _ _ step is_file.here is_file.hung (d.2.answered was_honest)
       (λ g l at hung. sound file g l d.0 (record { here = at; hung = hung }) d.1 was_honest) marked
 
-  pub run_sound : (old new : EngineState) (events : List Event) (calls : List DeviceCalls) (answers : List Answer) (disks after : List (Option D)) → RunOn history honest faults dig old disks events calls answers new after
+  pub run_sound : (old new events calls answers : _) (disks after : List (Option D)) → RunOn history honest faults dig old disks events calls answers new after
       → IsSound history honest dig old disks → IsSound history honest dig new after
   run_sound old new [] [] [] disks after run sound = λ file f k e is_file there honest_now.
       sound file f k e (record { here = cc; hung = cc })

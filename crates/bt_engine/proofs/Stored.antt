@@ -5,11 +5,11 @@ use Rattle.bt_engine.proofs.Machine.{Digest, stored_block, AreRight, HasFile}
 length-front : (xs : List ℕ) {at : ℕ} → length (take at xs ++ replicate (at - length xs) 0) ≡ at
 length-front xs {at} = omega (arith, length-append (take at xs) (replicate (at - length xs) 0), length-take at xs, length-replicate {A = ℕ} (at - length xs) 0)
 
-length-written : (xs more : List ℕ) (at : ℕ) → length (written xs at more) ≡ at + length more + (length xs - (at + length more))
+length-written : (xs more at : _) → length (written xs at more) ≡ at + length more + (length xs - (at + length more))
 length-written xs more at =
     omega (arith, length-append ((take at xs ++ replicate (at - length xs) 0) ++ more) (drop (at + length more) xs), length-append (take at xs ++ replicate (at - length xs) 0) more, length-front xs {at = at}, length-drop (at + length more) xs)
 
-written_outside : (xs more : List ℕ) (at i : ℕ) → i < length xs → (i < at) ⊎ (at + length more ≤ i) → slice_index (written xs at more) i ≡ slice_index xs i
+written_outside : (xs more at i : _) → i < length xs → (i < at) ⊎ (at + length more ≤ i) → slice_index (written xs at more) i ≡ slice_index xs i
 written_outside xs more at i lt (inl before) =
     let front = take at xs ++ replicate (at - length xs) 0 in
     get_or_append_left (front ++ more) (drop (at + length more) xs) 0 i (omega (arith, length-append front more, length-front xs {at = at}))
@@ -21,20 +21,20 @@ written_outside xs more at i lt (inr after) =
     get_or-append_right (front ++ more) (drop (at + length more) xs) (at + length more) i 0 (omega (arith, length-append front more, length-front xs {at = at})) after
     ∙ get_or-drop (at + length more) xs (i - (at + length more)) 0 ∙ ap (λ k. get_or xs k 0) (let e : at + length more + (i - (at + length more)) ≡ i = omega arith in e)
 
-written_inside : (xs more : List ℕ) (at i : ℕ) → i < length more → slice_index (written xs at more) (at + i) ≡ slice_index more i
+written_inside : (xs more at i : _) → i < length more → slice_index (written xs at more) (at + i) ≡ slice_index more i
 written_inside xs more at i lt =
     let front = take at xs ++ replicate (at - length xs) 0 in
     get_or_append_left (front ++ more) (drop (at + length more) xs) 0 (at + i) (omega (arith, length-append front more, length-front xs {at = at}))
     ∙ get_or-append_right front more at (at + i) 0 (length-front xs) (omega arith) ∙ ap (λ k. get_or more k 0) (let e : at + i - at ≡ i = omega arith in e)
 
-length_at : (n : ℕ) (bytes : List ℕ) (i : ℕ) → length (stored_block n bytes i) ≡ min (block_length n i) (length bytes - 16384 * i)
+length_at : (n bytes i : _) → length (stored_block n bytes i) ≡ min (block_length n i) (length bytes - 16384 * i)
 length_at n bytes i = length-take (block_length n i) (drop (16384 * i) bytes) ∙ ap (λ m. min (block_length n i) m) (length-drop (16384 * i) bytes)
 
-index_at : (n : ℕ) (bytes : List ℕ) (i j : ℕ) → j < block_length n i → get_or (stored_block n bytes i) j 0 ≡ get_or bytes (16384 * i + j) 0
+index_at : (n bytes i j : _) → j < block_length n i → get_or (stored_block n bytes i) j 0 ≡ get_or bytes (16384 * i + j) 0
 index_at n bytes i j lt = get_or-take (block_length n i) (drop (16384 * i) bytes) j 0 lt ∙ get_or-drop (16384 * i) bytes j 0
 
 -- the same bytes stand where a whole block did
-same_at : (n : ℕ) (xs ys : List ℕ) (i : ℕ) → length (stored_block n xs i) ≡ block_length n i → length xs ≤ length ys
+same_at : (n xs ys i : _) → length (stored_block n xs i) ≡ block_length n i → length xs ≤ length ys
     → ((j : ℕ) → 16384 * i ≤ j → j < 16384 * i + block_length n i → j < length xs → get_or ys j 0 ≡ get_or xs j 0) → stored_block n ys i ≡ stored_block n xs i
 same_at n xs ys i whole longer same =
     same_number_lists (stored_block n ys i) (stored_block n xs i) (omega (arith, length_at n xs i, length_at n ys i))
@@ -42,7 +42,7 @@ same_at n xs ys i whole longer same =
     let low : k < block_length n i = omega (arith, length_at n ys i) in
     index_at n ys i k low ∙ same (16384 * i + k) (omega arith) (omega arith) (omega (arith, length_at n xs i)) ∙ sym (index_at n xs i k low))
 
-pub own_bytes : (n : ℕ) (xs : List ℕ) {more : _} (i : ℕ) → length more ≡ block_length n i → stored_block n (written xs (16384 * i) more) i ≡ more
+pub own_bytes : (n xs : _) {more : _} (i : ℕ) → length more ≡ block_length n i → stored_block n (written xs (16384 * i) more) i ≡ more
 own_bytes n xs {more} i size =
     let all = length_at n (written xs (16384 * i) more) i in
     same_number_lists (stored_block n (written xs (16384 * i) more) i) more (omega (arith, length-written xs more (16384 * i)))
@@ -50,10 +50,10 @@ own_bytes n xs {more} i size =
     let low : k < block_length n i = omega arith in
     index_at n (written xs (16384 * i) more) i k low ∙ written_inside xs more (16384 * i) k (omega arith))
 
-away : (n i j : ℕ) (x m : ℕ) → i ≢ j → m ≤ 16384 → 16384 * i ≤ x → x < 16384 * i + block_length n i → (x < 16384 * j) ⊎ (16384 * j + m ≤ x)
+away : (n i j x m : _) → i ≢ j → m ≤ 16384 → 16384 * i ≤ x → x < 16384 * i + block_length n i → (x < 16384 * j) ⊎ (16384 * j + m ≤ x)
 away n i j x m apart few from to = elim (cases_lt x (16384 * j)) [ inl lt ↦ inl lt | inr le ↦ inr (omega arith) ]
 
-pub other_bytes : (n : ℕ) (xs more : List ℕ) (i j : ℕ) → i ≢ j → length more ≡ block_length n j → length (stored_block n xs i) ≡ block_length n i → stored_block n (written xs (16384 * j) more) i ≡ stored_block n xs i
+pub other_bytes : (n xs more i j : _) → i ≢ j → length more ≡ block_length n j → length (stored_block n xs i) ≡ block_length n i → stored_block n (written xs (16384 * j) more) i ≡ stored_block n xs i
 other_bytes n xs more i j apart size whole =
     same_at n xs (written xs (16384 * j) more) i whole (omega (arith, length-written xs more (16384 * j)))
     (λ x from to within. written_outside xs more (16384 * j) x within (away n i j x (length more) apart (omega arith) from to))
@@ -76,13 +76,13 @@ torn_bytes n {s} {t} i j {m} apart size torn whole =
 real_leaves : {n : ℕ} → real_width n 0 ≡ n
 real_leaves = omega arith
 
-whole_file : (dig : Digest) (k : Facts) (bytes : List ℕ) → 0 < k.file_length → ((i : ℕ) → i < blocks_of k → IsRight dig k i (stored_block k.file_length bytes i)) → length (take k.file_length bytes) ≡ k.file_length
+whole_file : (dig : Digest) (k : Facts) (bytes : _) → 0 < k.file_length → ((i : ℕ) → i < blocks_of k → IsRight dig k i (stored_block k.file_length bytes i)) → length (take k.file_length bytes) ≡ k.file_length
 whole_file dig k bytes some right =
     let n = k.file_length in
     let last = right ((n + 16383) / 16384 - 1) (omega arith) in
     omega (arith, length-take n bytes, length_at n bytes ((n + 16383) / 16384 - 1))
 
-block_is : {n : ℕ} (bytes : List ℕ) (i : ℕ) → length (take n bytes) ≡ n → block_at (take n bytes) i ≡ stored_block n bytes i
+block_is : {n : ℕ} (bytes i : _) → length (take n bytes) ≡ n → block_at (take n bytes) i ≡ stored_block n bytes i
 block_is {n} bytes i whole =
     let front = length-take 16384 (drop (16384 * i) (take n bytes)) in
     let back = length-drop (16384 * i) (take n bytes) in
@@ -91,7 +91,7 @@ block_is {n} bytes i whole =
     let low : j < block_length n i = omega arith in
     get_or-take 16384 (drop (16384 * i) (take n bytes)) j 0 (omega arith) ∙ get_or-drop (16384 * i) (take n bytes) j 0 ∙ get_or-take n bytes (16384 * i + j) 0 (omega arith) ∙ sym (index_at n bytes i j low))
 
-node_is : {dig k : _} (bytes : List ℕ) → IsRooted dig k → length (take k.file_length bytes) ≡ k.file_length → ((i : ℕ) → i < blocks_of k → IsRight dig k i (stored_block k.file_length bytes i))
+node_is : {dig k : _} (bytes : _) → IsRooted dig k → length (take k.file_length bytes) ≡ k.file_length → ((i : ℕ) → i < blocks_of k → IsRight dig k i (stored_block k.file_length bytes i))
     → (layer : ℕ) {i : ℕ} → IsInside (blocks_of k) layer i → value_at dig k layer i ≡ Some (node_digest dig (take k.file_length bytes) layer i)
 node_is {dig} {k} bytes rooted whole right zero {i} inside =
     let file = take k.file_length bytes in
@@ -113,7 +113,7 @@ node_is {dig} {k} bytes rooted whole right (suc layer) {i} inside =
     ∙ value_above dig k layer i _ _ rooted low (node_is bytes rooted whole right layer left) (node_is bytes rooted whole right layer right_one)
     ∙ ap (λ x. Some x) (sym (node_parent dig file layer i))
 
-pub complete_root : {dig : _} (k : Facts) (bytes : List ℕ) (states : List BlockState) → IsRooted dig k → 0 < k.file_length
+pub complete_root : {dig : _} (k bytes states : _) → IsRooted dig k → 0 < k.file_length
     → ((i : ℕ) → i < blocks_of k → slice_get states i ≡ Some Marked) → AreRight dig k bytes states
     → HasFile dig k bytes
 complete_root {dig} k bytes states rooted some marked right =

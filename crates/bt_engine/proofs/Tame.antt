@@ -28,7 +28,7 @@ abbrev pub Tame : (List ℕ → List ℕ) → List FileState → List Facts → 
 Tame dig files trees calls mid = Grows dig files trees mid × Touches files trees calls
 
 value_kept : (dig : Digest) (old new : Facts) → new.file_length ≡ old.file_length → ((l i : ℕ) (d : List ℕ) → held_at old l i ≡ Some d → held_at new l i ≡ Some d)
-    → (l i : ℕ) (d : List ℕ) → value_at dig old l i ≡ Some d → value_at dig new l i ≡ Some d
+    → (l i d : _) → value_at dig old l i ≡ Some d → value_at dig new l i ≡ Some d
 value_kept dig old new size kept l i d e =
     let blocks : blocks_of new ≡ blocks_of old = cc in
     elim (cases_node (blocks_of old) l i (value_inside dig old l i d e)) [
@@ -46,17 +46,17 @@ read_keeps : (n : ℕ) (r : BlockRead) → KeepsBytes (call_of n r)
 read_keeps n (given i bytes) = tt
 read_keeps n (failed i) = tt
 
-reads_keep : (file n : ℕ) (reads : List BlockRead) → AllKeepBytes (reads_at file n reads)
+reads_keep : (file n reads : _) → AllKeepBytes (reads_at file n reads)
 reads_keep file n reads c among =
     let m = contains_map (λ read. (file, call_of n read)) reads among in
     rw (← m.2) (read_keeps n m.0)
 
-syncs_keep : (files : List ℕ) → AllKeepBytes (syncs_of files)
+syncs_keep : (files : _) → AllKeepBytes (syncs_of files)
 syncs_keep files c among =
     let m = contains_map (λ file. (file, sync_made)) files among in
     rw (← m.2) tt
 
-append_keeps : (xs ys : DeviceCalls) → AllKeepBytes xs → AllKeepBytes ys → AllKeepBytes (xs ++ ys)
+append_keeps : (xs ys : _) → AllKeepBytes xs → AllKeepBytes ys → AllKeepBytes (xs ++ ys)
 append_keeps xs ys f g c among = elim (Contains-append_cases xs ys c among) [ inl one ↦ f c one | inr more ↦ g c more ]
 
 module _ (dig : Digest) where
@@ -68,7 +68,7 @@ module _ (dig : Digest) where
   stays s mid files trees file f k at hung = same_tree (sym (ap (λ fs. slice_get fs file) files) ∙ at) (cc)
 
   -- one like another
-  like : (files : List FileState) (trees : List Facts) (m mid : EngineState) → mid.files ≡ m.files → mid.trees ≡ m.trees → Grows dig files trees m → Grows dig files trees mid
+  like : (files trees : _) (m mid : EngineState) → mid.files ≡ m.files → mid.trees ≡ m.trees → Grows dig files trees m → Grows dig files trees mid
   like files trees m mid sames sametrees g file f k at hung = g file f k (cc) (cc)
 
   quiet : (s mid : EngineState) {calls : _} → mid.files ≡ s.files → mid.trees ≡ s.trees → calls ≡ [] → Tame dig s.files s.trees calls mid
@@ -105,7 +105,7 @@ module _ (dig : Digest) where
     keeping (keep_is f.made (reads_keep _ _ _)),
   )
 
-  put_touches : {files : List FileState} {trees : List Facts} (c : BlockId) (bytes : List ℕ) {f : FileState} {k : Facts} {calls : DeviceCalls} → slice_get files c.file ≡ Some f → slice_get trees f.tree ≡ Some k
+  put_touches : {files : List FileState} {trees : List Facts} (c : BlockId) (bytes : _) {f : FileState} {k : Facts} {calls : DeviceCalls} → slice_get files c.file ≡ Some f → slice_get trees f.tree ≡ Some k
       → (r : Result Put StoreError) → PutIsDue dig k c.block bytes f.states r → calls ≡ calls_at c.file (calls_of_put c.block bytes r) → Touches files trees calls
   put_touches c bytes {f} {k} at hung (Ok PutMarked) due made = putting c bytes f k _ at hung due.1 due.0.whole made (inl refl)
   put_touches c bytes {f} {k} at hung (Ok PutWaiting) due made = putting c bytes f k _ at hung due.1 due.0.whole made (inl refl)
@@ -143,7 +143,7 @@ module _ (dig : Digest) where
     | inr before ↦ same_tree there before
   ]
 
-  settled_grows : (files : List FileState) (trees : List Facts) {is_meant t from count old new calls notes : _} → SettlesIn dig is_meant t from count old calls notes new → Grows dig files trees old
+  settled_grows : (files trees : _) {is_meant t from count old new calls notes : _} → SettlesIn dig is_meant t from count old calls notes new → Grows dig files trees old
       → Grows dig files trees new
   settled_grows files trees {old} s g file f k at hung =
       let m = map_some _ _ (sym (s.files file) ∙ at) in
@@ -165,7 +165,7 @@ module _ (dig : Digest) where
         keeping (settled_keeps l.settles),
       )
 
-  message_tame : (s mid : EngineState) (i : ℕ) (p : PeerState) (m : Sent) (calls : DeviceCalls) (effect : Effect) → HandlesMessage dig s i p m calls effect mid → Tame dig s.files s.trees calls mid
+  message_tame : (s mid i p : _) (m : Sent) (calls effect : _) → HandlesMessage dig s i p m calls effect mid → Tame dig s.files s.trees calls mid
   message_tame s mid i p KeepAlive calls effect h = quiet s mid (ap (λ z. z.files) h.2) (ap (λ z. z.trees) h.2) h.0
   message_tame s mid i p Choke calls effect h = quiet s mid (ap (λ z. z.files) h.2) (ap (λ z. z.trees) h.2) h.0
   message_tame s mid i p Unchoke calls effect h = quiet s mid (ap (λ z. z.files) h.2) (ap (λ z. z.trees) h.2) h.0
@@ -180,7 +180,7 @@ module _ (dig : Digest) where
   message_tame s mid i p (Hashes key digests) calls effect h = hashes_tame h
   message_tame s mid i p (HashReject key) calls effect h = quiet s mid (ap (λ z. z.files) h.2.after) (ap (λ z. z.trees) h.2.after) h.0
 
-  event_tame : (s mid : EngineState) (i : ℕ) (p : PeerState) (e : WireEvent) (calls : DeviceCalls) (effect : Effect) → Handles dig s i p e calls effect mid → Tame dig s.files s.trees calls mid
+  event_tame : (s mid i p e calls effect : _) → Handles dig s i p e calls effect mid → Tame dig s.files s.trees calls mid
   event_tame s mid i p (Hello h) calls effect t = quiet s mid (ap (λ z. z.files) t.2) (ap (λ z. z.trees) t.2) t.0
   event_tame s mid i p (Message m) calls effect t = message_tame s mid i p m calls _ t
   event_tame s mid i p (Skipped kind) calls effect t = quiet s mid (ap (λ z. z.files) t.2) (ap (λ z. z.trees) t.2) t.0
@@ -197,7 +197,7 @@ module _ (dig : Digest) where
   next_tame {s} {new} (faulty i p out x g y) = quiet s new (ap (λ z. z.files) g.after) (ap (λ z. z.trees) g.after) g.made
   next_tame {s} {new} (no_memory i p x g y) = quiet s new (ap (λ z. z.files) g.after) (ap (λ z. z.trees) g.after) g.made
 
-  each_same : (peers : List ℕ) (s new : EngineState) (sent : List SentFrame) → FollowsEach dig peers s sent new → (new.files ≡ s.files) × (new.trees ≡ s.trees)
+  each_same : (peers s new sent : _) → FollowsEach dig peers s sent new → (new.files ≡ s.files) × (new.trees ≡ s.trees)
   each_same [] s new sent f = (ap (λ z. z.files) f.1, ap (λ z. z.trees) f.1)
   each_same (i ∷ peers) s new sent f =
       let r = each_same peers f.0 new f.2 f.4 in
@@ -248,7 +248,7 @@ module _ (dig : Digest) where
         keep_is g.made (reads_keep file g.tree.file_length g.reads),
       )
 
-  groups_tame : (s new : EngineState) (file from : ℕ) (groups : List DeviceCalls) (total : _) → AdoptsGroups dig s file from groups total new
+  groups_tame : (s new file from groups total : _) → AdoptsGroups dig s file from groups total new
       → Grows dig s.files s.trees new × AllKeepBytes (flat_map (λ c. c) groups)
   groups_tame s new file from [] total g = (stays s new (ap (λ z. z.files) g.1) (ap (λ z. z.trees) g.1), no_calls)
   groups_tame s new file from (calls ∷ groups) total g =
@@ -280,7 +280,7 @@ module _ (dig : Digest) where
     ]))),
   )
 
-  pub step_tame : (s new : EngineState) (e : Event) (calls : DeviceCalls) (a : Answer) → Step dig s e calls a new → Tame dig s.files s.trees calls new
+  pub step_tame : (s new e calls a : _) → Step dig s e calls a new → Tame dig s.files s.trees calls new
   step_tame s new Connect calls a t = connect_tame t.2 t.3
   step_tame s new (Feed key bytes) calls a t = feed_tame t.2 t.3
   step_tame s new (Next key) calls a t = next_tame t.2

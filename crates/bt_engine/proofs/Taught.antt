@@ -54,7 +54,7 @@ listed (suc n) f each =
     let more = listed n (λ t. f (suc t)) (λ t lt. each (suc t) (omega arith)) in
     (first.0 ∷ more.0, omega arith, by _ first.1 more.2)
   where
-    by : {d : _} (ds : List (List ℕ)) → f 0 ≡ Some d → ((t : ℕ) → t < n → f (suc t) ≡ Some (get_or ds t [])) → (t : ℕ) → t < suc n → f t ≡ Some (get_or (d ∷ ds) t [])
+    by : {d : _} (ds : _) → f 0 ≡ Some d → ((t : ℕ) → t < n → f (suc t) ≡ Some (get_or ds t [])) → (t : ℕ) → t < suc n → f t ≡ Some (get_or (d ∷ ds) t [])
     by ds e more zero lt = e
     by ds e more (suc t) lt = more t (omega arith)
 

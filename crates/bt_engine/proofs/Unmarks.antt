@@ -16,10 +16,10 @@ use Rattle.bt_engine.proofs.Sound.{no_write, no_fault, calls_keep, of_all, among
 abbrev GaveWrong : (List ℕ → List ℕ) → Facts → List BlockRead → ℕ → Type 0
 GaveWrong dig k reads i = (bytes : List ℕ) × Contains reads (given i bytes) × (IsRight dig k i bytes → ⊥)
 
-more_wrong : (dig : Digest) (k : Facts) (read : BlockRead) (reads : List BlockRead) (i : ℕ) → GaveWrong dig k reads i → GaveWrong dig k (read ∷ reads) i
+more_wrong : (dig : Digest) (k : _) (read : BlockRead) (reads i : _) → GaveWrong dig k reads i → GaveWrong dig k (read ∷ reads) i
 more_wrong dig k read reads i g = (g.0, later read reads g.1, g.2)
 
-judged_keeps : (dig : Digest) (k : Facts) (reads : List BlockRead) (states : List BlockState) (i : ℕ) → slice_get states i ≡ Some Marked → (slice_get (judged dig k true reads states) i ≡ Some Marked) ⊎ GaveWrong dig k reads i
+judged_keeps : (dig : Digest) (k reads states i : _) → slice_get states i ≡ Some Marked → (slice_get (judged dig k true reads states) i ≡ Some Marked) ⊎ GaveWrong dig k reads i
 judged_keeps dig k [] states i e = inl e
 judged_keeps dig k (failed b ∷ reads) states i e = elim (judged_keeps dig k reads _ i e) [ inl kept ↦ inl kept | inr w ↦ inr (more_wrong dig k _ reads i w) ]
 judged_keeps dig k (given b bytes ∷ reads) states i e = elim (set_get _ b i {y = if is_right dig k b bytes then Marked else Missing} e) [
@@ -41,7 +41,7 @@ judged_keeps dig k (given b bytes ∷ reads) states i e = elim (set_get _ b i {y
       λ r. (let yes = right_true r in absurd cc),
     )
 
-marked_keeps : (first count : ℕ) (states : List BlockState) (i : ℕ) → slice_get states i ≡ Some Marked → slice_get (marked_run first count states) i ≡ Some Marked
+marked_keeps : (first count states i : _) → slice_get states i ≡ Some Marked → slice_get (marked_run first count states) i ≡ Some Marked
 unfolding marked_run
 marked_keeps first zero states i e = e
 marked_keeps first (suc count) states i e = elim (set_get (marked_run first count states) (first + count) i {y = Marked} (marked_keeps first count states i e)) [ inl now ↦ now.1 | inr still ↦ still ]
@@ -50,7 +50,7 @@ module _ (dig : Digest) (b : BlockId) where
   abbrev Stays : EngineState → DeviceCalls → EngineState → Type 0
   Stays s calls mid = (state_at mid b ≡ Some Marked) ⊎ IsFoundWrong dig s calls b
 
-  same_stays : {s mid : _} (calls : DeviceCalls) → mid ≡ s → state_at s b ≡ Some Marked → Stays s calls mid
+  same_stays : {s mid : _} (calls : _) → mid ≡ s → state_at s b ≡ Some Marked → Stays s calls mid
   same_stays calls e m = inl (cc)
 
   found_in : {s t calls more : _} → tree_of t b.file ≡ tree_of s b.file → ((c : ℕ × Call) → Contains calls c → Contains more c) → IsFoundWrong dig s calls b → IsFoundWrong dig t more b
@@ -106,7 +106,7 @@ module _ (dig : Digest) (b : BlockId) where
   request_stays (served span a c d f) m = inl (cc)
   request_stays (stopped span a c d f) m = stop_stays f m
 
-  put_stays : (k : Facts) (i : ℕ) (bytes : List ℕ) (states : List BlockState) (j : ℕ) (r : Result Put StoreError) → PutIsDue dig k i bytes states r → slice_get states j ≡ Some Marked → slice_get (states_after_put i r states) j ≡ Some Marked
+  put_stays : (k i bytes states j : _) (r : Result Put StoreError) → PutIsDue dig k i bytes states r → slice_get states j ≡ Some Marked → slice_get (states_after_put i r states) j ≡ Some Marked
   put_stays k i bytes states j (Ok PutMarked) due e = elim (set_get states i j {y = Marked} e) [ inl now ↦ now.1 | inr still ↦ still ]
   put_stays k i bytes states j (Ok PutWaiting) due e = elim (set_get states i j {y = Waiting} e) [
     | inl now ↦ absurd cc
@@ -142,15 +142,15 @@ module _ (dig : Digest) (b : BlockId) where
   hashes_stays (learns l) m =
       inl (ap (λ z. state_at z b) l.after ∙ settle_stays l.settles m)
 
-  have_stays : {s mid i p piece : _} (calls : DeviceCalls) {effect : _} → HandlesHave s i p piece effect mid → state_at s b ≡ Some Marked → Stays s calls mid
+  have_stays : {s mid i p piece : _} (calls : _) {effect : _} → HandlesHave s i p piece effect mid → state_at s b ≡ Some Marked → Stays s calls mid
   have_stays calls (in_range x y e) m = inl (cc)
   have_stays calls (out_of_range x y e) m = same_stays calls e m
 
-  bits_stays : {s mid i p bytes : _} (calls : DeviceCalls) {effect : _} → HandlesBitfield s i p bytes effect mid → state_at s b ≡ Some Marked → Stays s calls mid
+  bits_stays : {s mid i p bytes : _} (calls : _) {effect : _} → HandlesBitfield s i p bytes effect mid → state_at s b ≡ Some Marked → Stays s calls mid
   bits_stays calls (right x y e) m = inl (cc)
   bits_stays calls (wrong x y e) m = same_stays calls e m
 
-  message_stays : (s mid : EngineState) (i : ℕ) (p : PeerState) (msg : Sent) (calls : DeviceCalls) (effect : Effect) → HandlesMessage dig s i p msg calls effect mid → state_at s b ≡ Some Marked → Stays s calls mid
+  message_stays : (s mid i p : _) (msg : Sent) (calls effect : _) → HandlesMessage dig s i p msg calls effect mid → state_at s b ≡ Some Marked → Stays s calls mid
   message_stays s mid i p KeepAlive calls effect h m = inl (cc)
   message_stays s mid i p Choke calls effect h m = inl (cc)
   message_stays s mid i p Unchoke calls effect h m = inl (cc)
@@ -165,14 +165,14 @@ module _ (dig : Digest) (b : BlockId) where
   message_stays s mid i p (Hashes key digests) calls effect h m = hashes_stays h m
   message_stays s mid i p (HashReject key) calls effect h m = inl (cc)
 
-  event_stays : (s mid : EngineState) (i : ℕ) (p : PeerState) (e : WireEvent) (calls : DeviceCalls) (effect : Effect) → Handles dig s i p e calls effect mid → state_at s b ≡ Some Marked → Stays s calls mid
+  event_stays : (s mid i p e calls effect : _) → Handles dig s i p e calls effect mid → state_at s b ≡ Some Marked → Stays s calls mid
   event_stays s mid i p (Hello h) calls effect t m = inl (cc)
   event_stays s mid i p (Message msg) calls effect t m = message_stays s mid i p msg calls _ t m
   event_stays s mid i p (Skipped kind) calls effect t m = inl (cc)
 
   -- ---- events
 
-  taken_stays : {s mid : _} (new : EngineState) {i p calls effect : _} → TakesEvent dig s i p calls effect mid → state_at new b ≡ state_at mid b → state_at s b ≡ Some Marked → Stays s calls new
+  taken_stays : {s mid : _} (new : _) {i p calls effect : _} → TakesEvent dig s i p calls effect mid → state_at new b ≡ state_at mid b → state_at s b ≡ Some Marked → Stays s calls new
   taken_stays {s} {mid} new {i} {p} {calls} {effect} t same m = elim (event_stays _ mid i _ _ calls _ t.handles m) [
     | inl kept ↦ inl (cc)
     | inr w ↦ inr (found_in refl (λ c among. among) w)
@@ -201,7 +201,7 @@ module _ (dig : Digest) (b : BlockId) where
   lost_stays (goes i p x y e) = cc
   lost_stays (not_lost x y e) = cc
 
-  each_stays : (peers : List ℕ) (s new : EngineState) (sent : List SentFrame) → FollowsEach dig peers s sent new → state_at new b ≡ state_at s b
+  each_stays : (peers s new sent : _) → FollowsEach dig peers s sent new → state_at new b ≡ state_at s b
   each_stays [] s new sent f = cc
   each_stays (i ∷ peers) s new sent f = each_stays peers f.0 new f.2 f.4 ∙ ap (λ z. state_at z b) f.3.after
 
@@ -255,7 +255,7 @@ module _ (dig : Digest) (b : BlockId) where
         wrong = λ r. w.wrong (rw tree (right_in dig h.extends r));
       }
 
-  groups_stays : (s new : EngineState) (file from : ℕ) (groups : List DeviceCalls) (total : Adopted) → AdoptsGroups dig s file from groups total new → state_at s b ≡ Some Marked → StaysIn file s (flat_map (λ c. c) groups) new
+  groups_stays : (s new file from groups : _) (total : Adopted) → AdoptsGroups dig s file from groups total new → state_at s b ≡ Some Marked → StaysIn file s (flat_map (λ c. c) groups) new
   groups_stays s new file from [] total g m = inl (cc)
   groups_stays s new file from (calls ∷ groups) total g m = elim (group_stays g.3 m) [
     | inl mid ↦ elim (groups_stays g.1 new file g.0.next groups g.2 g.4 mid) [
@@ -282,7 +282,7 @@ module _ (dig : Digest) (b : BlockId) where
     | inr w ↦ inr (found_in refl (λ c among. rw a.made (Contains-append_left (flat_map (λ c. c) a.groups) _ c among)) w.1)
   ]
 
-  step_stays : (s new : EngineState) (e : Event) (calls : DeviceCalls) (a : Answer) → Step dig s e calls a new → state_at s b ≡ Some Marked → Stays s calls new
+  step_stays : (s new e calls a : _) → Step dig s e calls a new → state_at s b ≡ Some Marked → Stays s calls new
   step_stays s new Connect calls a t m = inl (connect_stays t.3 ∙ m)
   step_stays s new (Feed key bytes) calls a t m = inl (feed_stays t.3 ∙ m)
   step_stays s new (Next key) calls a t m = next_stays t.2 m
@@ -325,7 +325,7 @@ module _ {D : Type 0} (history : D → History) (honest : D → Type 0) (faults 
   ]
 
   -- the device was there before, and honest
-  device_before : (old new : EngineState) (events : List Event) (calls : List DeviceCalls) (answers : List Answer) (disks after : List (Option D)) (file : ℕ) {e : D} → RunOn history honest faults dig old disks events calls answers new after
+  device_before : (old new events calls answers : _) (disks after : List (Option D)) (file : _) {e : D} → RunOn history honest faults dig old disks events calls answers new after
       → slice_get after file ≡ Some (Some e) → honest e → (d : D) × (slice_get disks file ≡ Some (Some d)) × honest d
   device_before old new [] [] [] disks after file {e} run there honest_now = (e, sym (ap (λ ds. slice_get ds file) run.1) ∙ there, honest_now)
   device_before old new (x ∷ xs) (c ∷ calls) (a ∷ answers) disks after file run there honest_now =
