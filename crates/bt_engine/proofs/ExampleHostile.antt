@@ -34,7 +34,7 @@ module _ (dig : Digest) (b : ThreeBlocks) (infohash : List ℕ) where
   fed_peer bytes = record peer { stream = stream bytes true false }
 
   fed_leaves_peer : {bytes : _} → StepFeed (before_leaves peer) first_key bytes (Ok tt) (before_leaves (fed_peer bytes))
-  fed_leaves_peer = fed_to dig b _ _ _ _ _ peer refl refl
+  fed_leaves_peer = fed_to dig b _ refl refl
 
   -- a message that closes the peer, however it is taken
   closes_on : {m : _} (why : Why) → IsMessage m → Fits m → HandlesMessage dig (before_leaves peer) 0 peer m [] (closing why) (before_leaves peer) → ClosesOn dig (empty_engine dig b infohash (root_alone dig b)) peer (message_spelling m) why
@@ -46,7 +46,7 @@ module _ (dig : Digest) (b : ThreeBlocks) (infohash : List ℕ) where
       (
         _,
         refl,
-        closed_for why _ refl refl (taken_message is fits) handles,
+        closed_for _ refl refl (taken_message is fits) handles,
       ),
       refl,
     ),
@@ -55,7 +55,7 @@ module _ (dig : Digest) (b : ThreeBlocks) (infohash : List ℕ) where
   -- nothing follows: the peer chokes us, is asked for the leaves, and is of interest
   nothing_follows : FollowsUp dig (before_leaves peer) 0 [] (before_leaves peer)
   nothing_follows =
-      quietly dig b infohash (at_first dig b) Missing Missing Missing peer refl (λ e. interesting dig b infohash (at_first dig b) Missing Missing Missing peer (block 0) refl refl refl, λ i. refl) refl
+      quietly dig b infohash refl (λ e. interesting dig b infohash (at_first dig b) Missing Missing Missing peer (block 0) refl refl refl, λ i. refl) refl
       (λ idle. absurd cc) (λ open_to. absurd cc) (omega arith)
 
   -- a message that changes nothing, but may be answered and noted
@@ -164,7 +164,7 @@ wrong_is_run dig b wrong infohash k other size known =
         (
           _,
           refl,
-          closed_for WrongBlock (engine dig b _ k Missing Missing Missing (with_payload 16384 (record blocks_peer { asked = block 0 ∷ block 2 ∷ [] }))) refl refl (taken_message (omega arith, omega arith) (piece_fits 16384 other.whole)) (comes (block 1) (Ok Wrong) (whole_second dig b infohash) other.whole (1, omega arith, refl) refl refl (record { inside = rw size (omega arith); whole = cc }, refl, (dig b.second, known, other.differs)) refl refl refl),
+          closed_for (engine dig b _ k Missing Missing Missing (with_payload 16384 (record blocks_peer { asked = block 0 ∷ block 2 ∷ [] }))) refl refl (taken_message (omega arith, omega arith) (piece_fits 16384 other.whole)) (comes (Ok Wrong) (whole_second dig b infohash) other.whole (1, omega arith, refl) refl refl (record { inside = rw size (omega arith); whole = cc }, refl, (dig b.second, known, other.differs)) refl refl refl),
         ),
         refl,
       ),

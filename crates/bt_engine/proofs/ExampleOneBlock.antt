@@ -62,9 +62,9 @@ module _ (dig : Digest) (infohash : List ℕ) where
   none_missing p b e = let one = one_block _ _ e in absurd cc
 
   -- what follows where nothing is requested
-  quietly : (x : BlockState) (p : PeerState) {q sent : _} → q ≡ record p { am_interested = q.am_interested } → ((q.am_interested ≡ true) ↔ IsInteresting (engine x p) p) → sent ≡ interest_sent p p.am_interested q.am_interested
+  quietly : {x : BlockState} {p : PeerState} {q sent : _} → q ≡ record p { am_interested = q.am_interested } → ((q.am_interested ≡ true) ↔ IsInteresting (engine x p) p) → sent ≡ interest_sent p p.am_interested q.am_interested
       → (q.peer_choking ≡ true) ⊎ (q.am_interested ≡ false) → length q.asked + 0 ≤ 16 → FollowsUp dig (engine x p) 0 sent (engine x q)
-  quietly x p {q} {sent} same due told shut few =
+  quietly {x} {p} {q} {sent} same due told shut few =
       record {
         peer = p;
         interested = q;
@@ -93,17 +93,17 @@ module _ (dig : Digest) (infohash : List ℕ) where
       never (inr dull) open_to interested = absurd cc
 
   after_hello : FollowsUp dig (engine Missing (peer_with all_taken false true false Idle [] 0)) 0 [] (engine Missing (peer_with all_taken false true false Idle [] 0))
-  after_hello = quietly Missing _ refl (λ e. absurd cc, λ i. absurd (dull all_taken i.0 i.1)) refl (inl refl) (omega arith)
+  after_hello = quietly refl (λ e. absurd cc, λ i. absurd (dull all_taken i.0 i.1)) refl (inl refl) (omega arith)
 
   after_bits : FollowsUp dig (engine Missing (peer_with all_taken false true true Idle [] 0)) 0 (to_first Interested ∷ []) (engine Missing (peer_with all_taken true true true Idle [] 0))
   after_bits =
       let p = peer_with all_taken false true true Idle [] 0 in
-      quietly _ p refl (λ e. interesting p refl, λ i. refl) refl (inl refl) (omega arith)
+      quietly refl (λ e. interesting p refl, λ i. refl) refl (inl refl) (omega arith)
 
   after_piece : FollowsUp dig (engine Marked (peer_with all_taken true false true Idle [] 3)) 0 (to_first NotInterested ∷ []) (engine Marked served_peer)
   after_piece =
       let p = peer_with all_taken true false true Idle [] 3 in
-      quietly _ p refl (λ e. absurd cc, λ i. absurd (none_missing p i.0 i.2)) refl (inr refl) (omega arith)
+      quietly refl (λ e. absurd cc, λ i. absurd (none_missing p i.0 i.2)) refl (inr refl) (omega arith)
 
   unasked : (p : PeerState) (b : _) → p.asked ≡ [] → ¬ IsAsked (engine Missing p) b
   unasked p b none asked = elim (contains_cases [] asked.1) [
@@ -174,16 +174,16 @@ module _ (dig : Digest) (infohash : List ℕ) where
 
   next_piece : StepNext dig (engine Missing (peer_with (stream piece_bytes true false) true false true Idle (the_block ∷ []) 0)) first_key ((0, bytes_written 0 abc) ∷ []) (Ok (Some last_output)) (engine Marked served_peer)
   next_piece =
-      went (noting (NowMarked the_block)) (engine Marked (peer_with all_taken true false true Idle [] 3)) refl refl refl taken_piece (comes the_block (Ok PutMarked) whole_block refl (here [] refl) refl refl (record { inside = omega arith; whole = refl }, refl, value_here dig) refl refl refl) after_piece refl refl
+      went (noting (NowMarked the_block)) (engine Marked (peer_with all_taken true false true Idle [] 3)) refl refl refl taken_piece (comes (Ok PutMarked) whole_block refl (here [] refl) refl refl (record { inside = omega arith; whole = refl }, refl, value_here dig) refl refl refl) after_piece refl refl
 
   -- ---- the run
 
   next_none : StepNext dig (engine Marked served_peer) first_key [] (Ok None) (engine Marked served_peer)
   next_none = waits 0 served_peer (record { here = refl; same_key = refl }) waits_empty refl refl refl
 
-  fed_to : (x : BlockState) (p : PeerState) {bytes : _} → p.key ≡ first_key → p.stream ≡ stream [] p.stream.greeted p.stream.failed
+  fed_to : {x : BlockState} {p : PeerState} {bytes : _} → p.key ≡ first_key → p.stream ≡ stream [] p.stream.greeted p.stream.failed
       → StepFeed (engine x p) first_key bytes (Ok tt) (engine x (record p { stream = stream bytes p.stream.greeted p.stream.failed }))
-  fed_to x p {bytes} key empty = feeds 0 p (record { here = refl; same_key = key }) refl (ap (λ t. engine x (record p { stream = fed t bytes })) (sym empty))
+  fed_to {x} {p} {bytes} key empty = feeds 0 p (record { here = refl; same_key = key }) refl (ap (λ t. engine x (record p { stream = fed t bytes })) (sym empty))
 
   connects : StepConnect (abc_engine dig infohash Missing [] 1) (Ok (first_key, greeting (abc_engine dig infohash Missing [] 1) first_key (0 ∷ []))) (engine Missing (peer_with (stream [] false false) false true false Idle [] 0))
   connects = joins first_key (0 ∷ []) (omega arith) (omega arith) refl (record { are_bytes = search rules; size = refl; bits = refl }) refl refl

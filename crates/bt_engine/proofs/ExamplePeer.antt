@@ -77,22 +77,22 @@ went effect mid here key stays takes handles follows send notes =
     refl
 
 -- a message is taken, and closes the peer
-pub closed_for : {dig : Digest} {s : EngineState} {p : PeerState} {calls : DeviceCalls} {event : WireEvent} (why : Why) (mid : _)
+pub closed_for : {dig : Digest} {s : EngineState} {p : PeerState} {calls : DeviceCalls} {event : WireEvent} {why : Why} (mid : _)
     → slice_get s.peers 0 ≡ Some p → p.key ≡ first_key → Takes p.stream event all_taken
     → Handles dig (with_peer s 0 (record p { stream = all_taken })) 0 (record p { stream = all_taken }) event calls (closing why) mid
     → StepNext dig s first_key calls (Ok (Some (record { send = []; close = Some why; notes = [] }))) (without_peer 0 mid)
-closed_for why mid here key takes handles =
+closed_for {why} mid here key takes handles =
     closes 0 _ _ (record { here = here; same_key = key })
     (record { effect = closing why; mid = mid; why = why; takes = record { event = _; rest = all_taken; takes = takes; handles = handles }; closed = refl; is = refl; after = refl })
     refl
 
 -- a block that was asked for comes, and is put into its file
-pub comes : {dig : Digest} {s mid : EngineState} {p : PeerState} {begin n : ℕ} {bytes : List ℕ} {calls : DeviceCalls} {effect : Effect} {file : FileState} {k : Facts} (b : _) (r : Result Put StoreError)
+pub comes : {dig : Digest} {s mid : EngineState} {p : PeerState} {begin n : ℕ} {bytes : List ℕ} {calls : DeviceCalls} {effect : Effect} {file : FileState} {k : Facts} {b : _} (r : Result Put StoreError)
     → IsWholeBlock s.torrent 0 begin n b → length bytes ≡ n → Contains p.asked b → slice_get s.files b.file ≡ Some file → slice_get s.trees file.tree ≡ Some k
     → PutIsDue dig k b.block bytes file.states r → calls ≡ calls_at b.file (calls_of_put b.block bytes r) → HasPutEffect b r effect
     → mid ≡ with_peer (with_file s b.file (record file { states = states_after_put b.block r file.states })) 0 (with_payload n (record p { asked = without_block b p.asked }))
     → HandlesPiece dig s 0 p 0 begin bytes calls effect mid
-comes b r whole size asked here hung due made has_effect after = arrives (record {
+comes {b} r whole size asked here hung due made has_effect after = arrives (record {
   block = b;
   stored = _;
   whole = rw size whole;

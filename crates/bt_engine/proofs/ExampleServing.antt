@@ -57,8 +57,8 @@ module _ (dig : Digest) (b : ThreeBlocks) (infohash : List ℕ) (k : Facts) wher
   no_needs : (turn p q c : _) → ¬ NeedsLeaf dig (engine turn p) q c
   no_needs turn p q c needs = elim needs.not_marked [ inl m ↦ absurd (not_missing turn p c m) | inr w ↦ (let wrong = all_marked turn p c w in absurd cc) ]
 
-  nothing_follows : (turn : ℕ) (p : PeerState) → p.am_interested ≡ false → length p.asked + 0 ≤ 16 → FollowsUp dig (engine turn p) 0 [] (engine turn p)
-  nothing_follows turn p dull few =
+  nothing_follows : {turn : ℕ} {p : PeerState} → p.am_interested ≡ false → length p.asked + 0 ≤ 16 → FollowsUp dig (engine turn p) 0 [] (engine turn p)
+  nothing_follows {turn} {p} dull few =
       record {
         peer = p;
         interested = p;
@@ -88,15 +88,15 @@ module _ (dig : Digest) (b : ThreeBlocks) (infohash : List ℕ) (k : Facts) wher
 
   -- ---- the steps
 
-  fed_to : (turn : ℕ) (p : PeerState) {bytes : _} → p.key ≡ first_key → p.stream ≡ all_taken → StepFeed (engine turn p) first_key bytes (Ok tt) (engine turn (with_stream (stream bytes true false) p))
-  fed_to turn p {bytes} key empty = feeds 0 p (record { here = refl; same_key = key }) refl (ap (λ t. engine turn (with_stream (fed t bytes) p)) (sym empty))
+  fed_to : {turn : ℕ} {p : PeerState} {bytes : _} → p.key ≡ first_key → p.stream ≡ all_taken → StepFeed (engine turn p) first_key bytes (Ok tt) (engine turn (with_stream (stream bytes true false) p))
+  fed_to {turn} {p} {bytes} key empty = feeds 0 p (record { here = refl; same_key = key }) refl (ap (λ t. engine turn (with_stream (fed t bytes) p)) (sym empty))
 
   next_interested : StepNext dig (engine 0 (with_stream (stream interested_bytes true false) (reader true false 0))) first_key [] (Ok (Some (output_of [] []))) (engine 0 (reader true true 0))
   next_interested =
-      went _ _ refl refl refl taken_interested (refl, refl, refl) (nothing_follows 0 _ refl (omega arith)) refl refl
+      went _ _ refl refl refl taken_interested (refl, refl, refl) (nothing_follows refl (omega arith)) refl refl
 
   unchokes : StepRechoke dig (engine 0 (reader true true 0)) (Some (output_of (to_first Unchoke ∷ []) [])) (engine 1 (reader false true 0))
-  unchokes = rechokes (output_of (to_first Unchoke ∷ []) []) (record { sent = []; follows = (engine 1 (reader false true 0), [], [], nothing_follows 1 _ refl (omega arith), (refl, refl), refl); is = refl }) refl
+  unchokes = rechokes (output_of (to_first Unchoke ∷ []) []) (record { sent = []; follows = (engine 1 (reader false true 0), [], [], nothing_follows refl (omega arith), (refl, refl), refl); is = refl }) refl
 
   abbrev range_span : Span
   range_span = record { file = 0; start = 16334; length = 100 }
@@ -131,11 +131,11 @@ module _ (dig : Digest) (b : ThreeBlocks) (infohash : List ℕ) (k : Facts) wher
 
   next_request : AreWhole b → KnowsTwo dig b k → StepNext dig (engine 1 (with_stream (stream request_bytes true false) (reader false true 0))) first_key two_reads (Ok (Some (output_of piece_sent []))) (engine 1 (reader false true 100))
   next_request whole knows =
-      went _ _ refl refl refl taken_request (served range_span refl range_place (of_two (λ i. state_at (engine 1 (reader false true 0)) (block_id 0 i) ≡ Some Marked) refl refl) (record { file = record { tree = 0; states = Marked ∷ Marked ∷ Marked ∷ [] }; tree = k; bytes = two_blocks; reads = given 0 b.first ∷ given 1 b.second ∷ []; is_file = record { here = refl; hung = refl }; right = record { made = refl; right = of_two (λ i. IsRight dig k i (two_blocks i)) (record { whole = cc; leaf = knows.first }) (record { whole = cc; leaf = knows.second }); }; made = cc; sent = ap (λ l. sending (reader false true 0) (Piece 0 16334 l)) (sym (cut whole)); after = refl; })) (nothing_follows 1 _ refl (omega arith)) refl refl
+      went _ _ refl refl refl taken_request (served range_span refl range_place (of_two (λ i. state_at (engine 1 (reader false true 0)) (block_id 0 i) ≡ Some Marked) refl refl) (record { file = record { tree = 0; states = Marked ∷ Marked ∷ Marked ∷ [] }; tree = k; bytes = two_blocks; reads = given 0 b.first ∷ given 1 b.second ∷ []; is_file = record { here = refl; hung = refl }; right = record { made = refl; right = of_two (λ i. IsRight dig k i (two_blocks i)) (record { whole = cc; leaf = knows.first }) (record { whole = cc; leaf = knows.second }); }; made = cc; sent = ap (λ l. sending (reader false true 0) (Piece 0 16334 l)) (sym (cut whole)); after = refl; })) (nothing_follows refl (omega arith)) refl refl
 
   next_ignored : StepNext dig (engine 0 (with_stream (stream request_bytes true false) (reader true true 0))) first_key [] (Ok (Some (output_of [] []))) (engine 0 (reader true true 0))
   next_ignored =
-      went _ _ refl refl refl taken_request (ignored refl refl refl refl) (nothing_follows 0 _ refl (omega arith)) refl refl
+      went _ _ refl refl refl taken_request (ignored refl refl refl refl) (nothing_follows refl (omega arith)) refl refl
 
   -- no range is longer than a block
   too_long : (span : Span) → ¬ IsPlace (three_torrent dig b infohash) 0 0 16385 span
@@ -143,7 +143,7 @@ module _ (dig : Digest) (b : ThreeBlocks) (infohash : List ℕ) (k : Facts) wher
 
   next_closed : StepNext dig (engine 1 (with_stream (stream long_request_bytes true false) (reader false true 0))) first_key [] (Ok (Some (record { send = []; close = Some BadRequest; notes = [] }))) (marked_engine dig b infohash k 1 [])
   next_closed =
-      closed_for _ _ refl refl taken_long (no_place refl too_long refl refl refl)
+      closed_for _ refl refl taken_long (no_place refl too_long refl refl refl)
 
   serves : AreWhole b → KnowsTwo dig b k → Run dig (engine 0 (reader true false 0)) serving_events (serving_calls b) (serving_answers b) (engine 1 (reader false true 100))
   serves whole knows = (

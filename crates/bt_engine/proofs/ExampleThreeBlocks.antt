@@ -9,13 +9,13 @@ module _ (dig : Digest) (b : ThreeBlocks) (infohash : List ℕ) where
   after_leaves : FollowsUp dig (engine dig b infohash (proved dig b) Missing Missing Missing (peer_with all_taken true true true Idle [] 0)) 0 [] (engine dig b infohash (proved dig b) Missing Missing Missing (peer_with all_taken true true true Idle [] 0))
   after_leaves =
       let p = peer_with all_taken true true true Idle [] 0 in
-      quietly dig b infohash (proved dig b) Missing Missing Missing p refl (λ e. interesting dig b infohash (proved dig b) Missing Missing Missing p (block 0) refl refl refl, λ i. refl) refl
+      quietly dig b infohash refl (λ e. interesting dig b infohash (proved dig b) Missing Missing Missing p (block 0) refl refl refl, λ i. refl) refl
       (λ idle c. needs_none dig b infohash Missing Missing Missing p p c) (λ e. absurd cc) (omega arith)
 
   after_first : FollowsUp dig (engine dig b infohash (proved dig b) Marked Missing Missing (asked_peer Idle (block 1 ∷ block 2 ∷ []) 16384)) 0 [] (engine dig b infohash (proved dig b) Marked Missing Missing (asked_peer Idle (block 1 ∷ block 2 ∷ []) 16384))
   after_first =
       let p = asked_peer Idle (block 1 ∷ block 2 ∷ []) 16384 in
-      quietly dig b infohash (proved dig b) Marked Missing Missing p refl (λ e. interesting dig b infohash (proved dig b) Marked Missing Missing p (block 1) refl refl refl, λ i. refl) refl
+      quietly dig b infohash refl (λ e. interesting dig b infohash (proved dig b) Marked Missing Missing p (block 1) refl refl refl, λ i. refl) refl
       (λ idle c. needs_none dig b infohash Marked Missing Missing p p c) (λ e f c may. none (is_one dig b infohash (proved dig b) p may.missing) may) (omega arith)
     where
       none : {c : _} → IsOne Marked Missing Missing c Missing → ¬ IsOpen (engine dig b infohash (proved dig b) Marked Missing Missing (asked_peer Idle (block 1 ∷ block 2 ∷ []) 16384)) (asked_peer Idle (block 1 ∷ block 2 ∷ []) 16384) c
@@ -26,7 +26,7 @@ module _ (dig : Digest) (b : ThreeBlocks) (infohash : List ℕ) where
   after_second : FollowsUp dig (engine dig b infohash (proved dig b) Marked Marked Missing (asked_peer Idle (block 2 ∷ []) 32768)) 0 [] (engine dig b infohash (proved dig b) Marked Marked Missing (asked_peer Idle (block 2 ∷ []) 32768))
   after_second =
       let p = asked_peer Idle (block 2 ∷ []) 32768 in
-      quietly dig b infohash (proved dig b) Marked Marked Missing p refl (λ e. interesting dig b infohash (proved dig b) Marked Marked Missing p (block 2) refl refl refl, λ i. refl) refl
+      quietly dig b infohash refl (λ e. interesting dig b infohash (proved dig b) Marked Marked Missing p (block 2) refl refl refl, λ i. refl) refl
       (λ idle c. needs_none dig b infohash Marked Marked Missing p p c) (λ e f c may. none (is_one dig b infohash (proved dig b) p may.missing) may) (omega arith)
     where
       none : {c : _} → IsOne Marked Marked Missing c Missing → ¬ IsOpen (engine dig b infohash (proved dig b) Marked Marked Missing (asked_peer Idle (block 2 ∷ []) 32768)) (asked_peer Idle (block 2 ∷ []) 32768) c
@@ -40,7 +40,7 @@ module _ (dig : Digest) (b : ThreeBlocks) (infohash : List ℕ) where
   after_third : FollowsUp dig (engine dig b infohash (proved dig b) Marked Marked Marked (asked_peer Idle [] 49152)) 0 (to_first NotInterested ∷ []) (engine dig b infohash (proved dig b) Marked Marked Marked served)
   after_third =
       let p = asked_peer Idle [] 49152 in
-      quietly dig b infohash (proved dig b) Marked Marked Marked p refl (λ e. absurd cc, λ i. absurd (none_missing dig b infohash (proved dig b) p i)) refl
+      quietly dig b infohash refl (λ e. absurd cc, λ i. absurd (none_missing dig b infohash (proved dig b) p i)) refl
       (λ idle c. needs_none dig b infohash Marked Marked Marked p served c) (λ e f. absurd cc) (omega arith)
 
   next_leaves : IsDigest dig → StepNext dig (engine dig b infohash (at_first dig b) Missing Missing Missing (peer_with (stream (message_spelling (leaves_message dig b)) true false) true true true (Asked (leaves_key dig b)) [] 0)) first_key []
@@ -57,12 +57,12 @@ module _ (dig : Digest) (b : ThreeBlocks) (infohash : List ℕ) where
   next_first : AreWhole b → StepNext dig (engine dig b infohash (proved dig b) Missing Missing Missing (peer_with (stream (message_spelling (Piece 0 0 b.first)) true false) true false true Idle all_three 0)) first_key ((0, bytes_written 0 b.first) ∷ [])
       (Ok (Some (output_of [] (NowMarked (block 0) ∷ [])))) (engine dig b infohash (proved dig b) Marked Missing Missing (asked_peer Idle (block 1 ∷ block 2 ∷ []) 16384))
   next_first whole =
-      went (noting (NowMarked (block 0))) (engine dig b infohash (proved dig b) Marked Missing Missing (asked_peer Idle (block 1 ∷ block 2 ∷ []) 16384)) refl refl refl (taken_message (omega arith, omega arith) (piece_fits 0 whole.first)) (comes (block 0) (Ok PutMarked) (whole_first dig b infohash) whole.first (0, omega arith, refl) refl refl (record { inside = omega arith; whole = whole.first }, refl, first_known dig b) refl refl refl) after_first refl refl
+      went (noting (NowMarked (block 0))) (engine dig b infohash (proved dig b) Marked Missing Missing (asked_peer Idle (block 1 ∷ block 2 ∷ []) 16384)) refl refl refl (taken_message (omega arith, omega arith) (piece_fits 0 whole.first)) (comes (Ok PutMarked) (whole_first dig b infohash) whole.first (0, omega arith, refl) refl refl (record { inside = omega arith; whole = whole.first }, refl, first_known dig b) refl refl refl) after_first refl refl
 
   next_second : AreWhole b → StepNext dig (engine dig b infohash (proved dig b) Marked Missing Missing (peer_with (stream (message_spelling (Piece 0 16384 b.second)) true false) true false true Idle (block 1 ∷ block 2 ∷ []) 16384)) first_key ((0, bytes_written 16384 b.second) ∷ [])
       (Ok (Some (output_of [] (NowMarked (block 1) ∷ [])))) (engine dig b infohash (proved dig b) Marked Marked Missing (asked_peer Idle (block 2 ∷ []) 32768))
   next_second whole =
-      went (noting (NowMarked (block 1))) (engine dig b infohash (proved dig b) Marked Marked Missing (asked_peer Idle (block 2 ∷ []) 32768)) refl refl refl (taken_message (omega arith, omega arith) (piece_fits 16384 whole.second)) (comes (block 1) (Ok PutMarked) (whole_second dig b infohash) whole.second (0, omega arith, refl) refl refl (record { inside = omega arith; whole = whole.second }, refl, second_known dig b) refl refl refl) after_second refl refl
+      went (noting (NowMarked (block 1))) (engine dig b infohash (proved dig b) Marked Marked Missing (asked_peer Idle (block 2 ∷ []) 32768)) refl refl refl (taken_message (omega arith, omega arith) (piece_fits 16384 whole.second)) (comes (Ok PutMarked) (whole_second dig b infohash) whole.second (0, omega arith, refl) refl refl (record { inside = omega arith; whole = whole.second }, refl, second_known dig b) refl refl refl) after_second refl refl
 
   abbrev last_sent : List Sent
   last_sent = to_first (Have 0) ∷ to_first NotInterested ∷ []
@@ -73,7 +73,7 @@ module _ (dig : Digest) (b : ThreeBlocks) (infohash : List ℕ) where
   next_third : AreWhole b → StepNext dig (engine dig b infohash (proved dig b) Marked Marked Missing (peer_with (stream (message_spelling (Piece 0 32768 b.third)) true false) true false true Idle (block 2 ∷ []) 32768)) first_key ((0, bytes_written 32768 b.third) ∷ [])
       (Ok (Some (output_of last_sent last_notes))) (engine dig b infohash (proved dig b) Marked Marked Marked served)
   next_third whole =
-      went (noting (NowMarked (block 2))) (engine dig b infohash (proved dig b) Marked Marked Marked (asked_peer Idle [] 49152)) refl refl refl (taken_message (omega arith, omega arith) (piece_fits 32768 whole.third)) (comes (block 2) (Ok PutMarked) (whole_third dig b infohash) whole.third (0, omega arith, refl) refl refl (record { inside = omega arith; whole = whole.third }, refl, third_known dig b) refl refl refl) after_third refl refl
+      went (noting (NowMarked (block 2))) (engine dig b infohash (proved dig b) Marked Marked Marked (asked_peer Idle [] 49152)) refl refl refl (taken_message (omega arith, omega arith) (piece_fits 32768 whole.third)) (comes (Ok PutMarked) (whole_third dig b infohash) whole.third (0, omega arith, refl) refl refl (record { inside = omega arith; whole = whole.third }, refl, third_known dig b) refl refl refl) after_third refl refl
 
   abbrev first_state : PeerState → EngineState
   first_state p = engine dig b infohash (at_first dig b) Missing Missing Missing p
@@ -111,7 +111,7 @@ module _ (dig : Digest) (b : ThreeBlocks) (infohash : List ℕ) where
                   (_, refl, refl, fed_first refl refl),
                   (
                     _,
-                    (_, refl, next_unchoke dig b infohash (proved dig b) Idle (λ idle c. needs_none dig b infohash Missing Missing Missing (asked_peer Idle [] 0) (asked_peer Idle [] 0) c)),
+                    (_, refl, next_unchoke dig b infohash (λ idle c. needs_none dig b infohash Missing Missing Missing (asked_peer Idle [] 0) (asked_peer Idle [] 0) c)),
                     (
                       _,
                       (_, refl, refl, fed_first refl refl),

@@ -109,10 +109,10 @@ module _ (dig : Digest) (b : ThreeBlocks) (infohash : List ℕ) where
 
   -- ---- what follows where nothing is requested
 
-  pub quietly : (k : Facts) (x y z : BlockState) (p : PeerState) {q sent : _} → q ≡ record p { am_interested = q.am_interested } → ((q.am_interested ≡ true) ↔ IsInteresting (engine k x y z p) p)
+  pub quietly : {k : Facts} {x y z : BlockState} {p : PeerState} {q sent : _} → q ≡ record p { am_interested = q.am_interested } → ((q.am_interested ≡ true) ↔ IsInteresting (engine k x y z p) p)
       → sent ≡ interest_sent p p.am_interested q.am_interested → (q.hash ≡ Idle → (c : BlockId) → ¬ NeedsLeaf dig (engine k x y z p) q c)
       → (q.peer_choking ≡ false → q.am_interested ≡ true → (c : BlockId) → ¬ IsOpen (engine k x y z p) q c) → length q.asked + 0 ≤ 16 → FollowsUp dig (engine k x y z p) 0 sent (engine k x y z q)
-  quietly k x y z p {q} {sent} same due told known none few =
+  quietly {k} {x} {y} {z} {p} {q} {sent} same due told known none few =
       record {
         peer = p;
         interested = q;
@@ -153,11 +153,11 @@ module _ (dig : Digest) (b : ThreeBlocks) (infohash : List ℕ) where
   after_hello : FollowsUp dig (engine (at_first dig b) Missing Missing Missing (peer_with all_taken false true false Idle [] 0)) 0 [] (engine (at_first dig b) Missing Missing Missing (peer_with all_taken false true false Idle [] 0))
   after_hello =
       let p = peer_with all_taken false true false Idle [] 0 in
-      quietly (at_first dig b) Missing Missing Missing p refl (λ e. absurd cc, λ i. absurd (has_none (at_first dig b) Missing Missing Missing p p i.0 refl i.1)) refl
+      quietly refl (λ e. absurd cc, λ i. absurd (has_none (at_first dig b) Missing Missing Missing p p i.0 refl i.1)) refl
       (λ idle c. needs_none_of (at_first dig b) Missing Missing Missing p p c refl) (λ e. absurd cc) (omega arith)
 
-  least_need : (p : _) {q : PeerState} → q.has ≡ true ∷ [] → IsLeastNeed dig (engine (at_first dig b) Missing Missing Missing p) q (block 0)
-  least_need p {q} has = record {
+  least_need : {p : _} {q : PeerState} → q.has ≡ true ∷ [] → IsLeastNeed dig (engine (at_first dig b) Missing Missing Missing p) q (block 0)
+  least_need {q} has = record {
     needs = record {
       has = rw has refl;
       not_marked = inl refl;
@@ -184,7 +184,7 @@ module _ (dig : Digest) (b : ThreeBlocks) (infohash : List ℕ) where
         blocks = [];
         here = refl;
         interest = record { interest = (λ e. interesting (at_first dig b) Missing Missing Missing p (block 0) refl refl refl, λ i. refl); others = refl; told = refl };
-        hashes = requests (block 0) (at_first dig b) (leaves_key dig b) refl (least_need p refl) refl (plan dig b) refl refl;
+        hashes = requests (block 0) (at_first dig b) (leaves_key dig b) refl (least_need refl) refl (plan dig b) refl refl;
         asks = record {
           shut = λ _. refl;
           are_open = λ c among. absurd (contains_none among);
@@ -203,13 +203,13 @@ module _ (dig : Digest) (b : ThreeBlocks) (infohash : List ℕ) where
     | inr more ↦ contains_none more
   ]
 
-  pub is_open : (k : _) {p : PeerState} {c : _} → p.asked ≡ [] → Has (engine k Missing Missing Missing p) p c → state_at (engine k Missing Missing Missing p) c ≡ Some Missing
+  pub is_open : {k : _} {p : PeerState} {c : _} → p.asked ≡ [] → Has (engine k Missing Missing Missing p) p c → state_at (engine k Missing Missing Missing p) c ≡ Some Missing
       → IsOpen (engine k Missing Missing Missing p) p c
-  is_open k {p} {c} none has missing = record { has = has; missing = missing; free = unasked k p c none }
+  is_open {k} {p} {c} none has missing = record { has = has; missing = missing; free = unasked k p c none }
 
-  after_unchoke : (k : _) (hash : HashState) → (hash ≡ Idle → (c : BlockId) → ¬ NeedsLeaf dig (engine k Missing Missing Missing (asked_peer hash [] 0)) (asked_peer hash [] 0) c) → FollowsUp dig (engine k Missing Missing Missing (asked_peer hash [] 0)) 0 (to_first (block_request 0) ∷ to_first (block_request 16384) ∷ to_first (block_request 32768) ∷ [])
+  after_unchoke : {k : _} {hash : HashState} → (hash ≡ Idle → (c : BlockId) → ¬ NeedsLeaf dig (engine k Missing Missing Missing (asked_peer hash [] 0)) (asked_peer hash [] 0) c) → FollowsUp dig (engine k Missing Missing Missing (asked_peer hash [] 0)) 0 (to_first (block_request 0) ∷ to_first (block_request 16384) ∷ to_first (block_request 32768) ∷ [])
       (engine k Missing Missing Missing (asked_peer hash all_three 0))
-  after_unchoke k hash known =
+  after_unchoke {k} {hash} known =
       let p = asked_peer hash [] 0 in
       let s = engine k Missing Missing Missing p in
       record {
@@ -226,11 +226,11 @@ module _ (dig : Digest) (b : ThreeBlocks) (infohash : List ℕ) where
         asks = record {
           shut = λ x. elim x [ inl e ↦ absurd cc | inr e ↦ absurd cc ];
           are_open = λ c among. elim (contains_cases (block 1 ∷ block 2 ∷ []) among) [
-            | inl same ↦ rw (← same) (is_open k refl refl refl)
+            | inl same ↦ rw (← same) (is_open refl refl refl)
             | inr more ↦ elim (contains_cases (block 2 ∷ []) more) [
-              | inl same ↦ rw (← same) (is_open k refl refl refl)
+              | inl same ↦ rw (← same) (is_open refl refl refl)
               | inr rest ↦ elim (contains_cases [] rest) [
-                | inl same ↦ rw (← same) (is_open k refl refl refl)
+                | inl same ↦ rw (← same) (is_open refl refl refl)
                 | inr none ↦ absurd (contains_none none)
               ]
             ]
@@ -281,11 +281,11 @@ module _ (dig : Digest) (b : ThreeBlocks) (infohash : List ℕ) where
   next_bits =
       went _ _ refl refl refl taken_bits (refl, right refl refl refl) after_bits refl refl
 
-  pub next_unchoke : (k : _) (hash : HashState) → (hash ≡ Idle → (c : BlockId) → ¬ NeedsLeaf dig (engine k Missing Missing Missing (asked_peer hash [] 0)) (asked_peer hash [] 0) c)
+  pub next_unchoke : {k : _} {hash : HashState} → (hash ≡ Idle → (c : BlockId) → ¬ NeedsLeaf dig (engine k Missing Missing Missing (asked_peer hash [] 0)) (asked_peer hash [] 0) c)
       → StepNext dig (engine k Missing Missing Missing (peer_with (stream unchoke_bytes true false) true true true hash [] 0)) first_key [] (Ok (Some (output_of three_asks [])))
       (engine k Missing Missing Missing (asked_peer hash all_three 0))
-  next_unchoke k hash known =
-      went _ _ refl refl refl taken_unchoke (refl, refl, refl) (after_unchoke k hash known) refl refl
+  next_unchoke known =
+      went _ _ refl refl refl taken_unchoke (refl, refl, refl) (after_unchoke known) refl refl
 
   -- the key's root is a digest
   pub key_fits : IsDigest dig → IsKey (leaves_key dig b)
@@ -309,9 +309,9 @@ module _ (dig : Digest) (b : ThreeBlocks) (infohash : List ℕ) where
 
   -- ---- the start, and bytes that come
 
-  pub fed_to : (k : _) (x y z : BlockState) (p : PeerState) {bytes : _} → p.key ≡ first_key → p.stream ≡ stream [] p.stream.greeted p.stream.failed
+  pub fed_to : {k : _} {x y z : BlockState} {p : PeerState} {bytes : _} → p.key ≡ first_key → p.stream ≡ stream [] p.stream.greeted p.stream.failed
       → StepFeed (engine k x y z p) first_key bytes (Ok tt) (engine k x y z (record p { stream = stream bytes p.stream.greeted p.stream.failed }))
-  fed_to k x y z p {bytes} key empty = feeds 0 p (record { here = refl; same_key = key }) refl (ap (λ t. engine k x y z (record p { stream = fed t bytes })) (sym empty))
+  fed_to {k} {x} {y} {z} {p} {bytes} key empty = feeds 0 p (record { here = refl; same_key = key }) refl (ap (λ t. engine k x y z (record p { stream = fed t bytes })) (sym empty))
 
   abbrev pub start : EngineState
   start = three_engine dig b infohash (at_first dig b) (Missing ∷ Missing ∷ Missing ∷ []) [] 1

@@ -81,7 +81,7 @@ module _ (dig : Digest) (b : ThreeBlocks) (wrong : List ℕ) (infohash : List �
   after_third : FollowsUp dig (engine dig b infohash (at_first dig b) Waiting Waiting Waiting (asked_peer asked_key [] 49152)) 0 (to_first NotInterested ∷ []) (engine dig b infohash (at_first dig b) Waiting Waiting Waiting (idle_peer all_taken asked_key))
   after_third =
       let p = asked_peer asked_key [] 49152 in
-      quietly dig b _ _ _ _ _ p refl (λ e. absurd cc, λ i. absurd (none_missing p i)) refl
+      quietly dig b _ refl (λ e. absurd cc, λ i. absurd (none_missing p i)) refl
       (λ idle. asked_already idle) (λ e f. absurd cc) (omega arith)
 
   -- ---- whichever way the three are asked
@@ -113,7 +113,7 @@ module _ (dig : Digest) (b : ThreeBlocks) (wrong : List ℕ) (infohash : List �
     after_first : FollowsUp dig (engine dig b infohash (at_first dig b) Waiting Missing Missing (asked_peer asked_key (left_one asked) 16384)) 0 [] (engine dig b infohash (at_first dig b) Waiting Missing Missing (asked_peer asked_key (left_one asked) 16384))
     after_first =
         let p = asked_peer asked_key (left_one asked) 16384 in
-        quietly dig b infohash (at_first dig b) Waiting Missing Missing p refl (λ e. interesting dig b infohash (at_first dig b) Waiting Missing Missing p (block 1) refl refl refl, λ i. refl) refl
+        quietly dig b infohash refl (λ e. interesting dig b infohash (at_first dig b) Waiting Missing Missing p (block 1) refl refl refl, λ i. refl) refl
         (λ idle. asked_already idle) (λ e f c may. none (is_one dig b infohash (at_first dig b) p may.missing) may) (omega (arith, few_one))
       where
         none : {c : _} → IsOne Waiting Missing Missing c Missing → ¬ IsOpen (engine dig b infohash (at_first dig b) Waiting Missing Missing (asked_peer asked_key (left_one asked) 16384)) (asked_peer asked_key (left_one asked) 16384) c
@@ -124,7 +124,7 @@ module _ (dig : Digest) (b : ThreeBlocks) (wrong : List ℕ) (infohash : List �
     after_second : FollowsUp dig (engine dig b infohash (at_first dig b) Waiting Waiting Missing (asked_peer asked_key (left_two asked) 32768)) 0 [] (engine dig b infohash (at_first dig b) Waiting Waiting Missing (asked_peer asked_key (left_two asked) 32768))
     after_second =
         let p = asked_peer asked_key (left_two asked) 32768 in
-        quietly dig b infohash (at_first dig b) Waiting Waiting Missing p refl (λ e. interesting dig b infohash (at_first dig b) Waiting Waiting Missing p (block 2) refl refl refl, λ i. refl) refl
+        quietly dig b infohash refl (λ e. interesting dig b infohash (at_first dig b) Waiting Waiting Missing p (block 2) refl refl refl, λ i. refl) refl
         (λ idle. asked_already idle) (λ e f c may. none (is_one dig b infohash (at_first dig b) p may.missing) may) (omega (arith, few_one, few_two))
       where
         none : {c : _} → IsOne Waiting Waiting Missing c Missing → ¬ IsOpen (engine dig b infohash (at_first dig b) Waiting Waiting Missing (asked_peer asked_key (left_two asked) 32768)) (asked_peer asked_key (left_two asked) 32768) c
@@ -135,17 +135,17 @@ module _ (dig : Digest) (b : ThreeBlocks) (wrong : List ℕ) (infohash : List �
     next_first : length b.first ≡ 16384 → StepNext dig (engine dig b infohash (at_first dig b) Missing Missing Missing (peer_with (stream (message_spelling (Piece 0 0 b.first)) true false) true false true asked_key asked 0)) first_key ((0, bytes_written 0 b.first) ∷ [])
         (Ok (Some (output_of [] (NowWaiting (block 0) ∷ [])))) (engine dig b infohash (at_first dig b) Waiting Missing Missing (asked_peer asked_key (left_one asked) 16384))
     next_first size =
-        went (noting (NowWaiting (block 0))) (engine dig b _ (at_first dig b) Waiting Missing Missing (asked_peer asked_key (left_one asked) 16384)) refl refl refl (taken_message (omega arith, omega arith) (piece_fits 0 size)) (comes (block 0) (Ok PutWaiting) (whole_first dig b infohash) size (all.each (block 0) (0, omega arith, refl)) refl refl (record { inside = omega arith; whole = size }, refl, first_unknown dig b) refl refl refl) after_first refl refl
+        went (noting (NowWaiting (block 0))) (engine dig b _ (at_first dig b) Waiting Missing Missing (asked_peer asked_key (left_one asked) 16384)) refl refl refl (taken_message (omega arith, omega arith) (piece_fits 0 size)) (comes (Ok PutWaiting) (whole_first dig b infohash) size (all.each (block 0) (0, omega arith, refl)) refl refl (record { inside = omega arith; whole = size }, refl, first_unknown dig b) refl refl refl) after_first refl refl
 
     next_second : length b.second ≡ 16384 → StepNext dig (engine dig b infohash (at_first dig b) Waiting Missing Missing (peer_with (stream (message_spelling (Piece 0 16384 b.second)) true false) true false true asked_key (left_one asked) 16384)) first_key ((0, bytes_written 16384 b.second) ∷ [])
         (Ok (Some (output_of [] (NowWaiting (block 1) ∷ [])))) (engine dig b infohash (at_first dig b) Waiting Waiting Missing (asked_peer asked_key (left_two asked) 32768))
     next_second size =
-        went (noting (NowWaiting (block 1))) (engine dig b _ (at_first dig b) Waiting Waiting Missing (asked_peer asked_key (left_two asked) 32768)) refl refl refl (taken_message (omega arith, omega arith) (piece_fits 16384 size)) (comes (block 1) (Ok PutWaiting) (whole_second dig b infohash) size second_left refl refl (record { inside = omega arith; whole = size }, refl, second_unknown dig b) refl refl refl) after_second refl refl
+        went (noting (NowWaiting (block 1))) (engine dig b _ (at_first dig b) Waiting Waiting Missing (asked_peer asked_key (left_two asked) 32768)) refl refl refl (taken_message (omega arith, omega arith) (piece_fits 16384 size)) (comes (Ok PutWaiting) (whole_second dig b infohash) size second_left refl refl (record { inside = omega arith; whole = size }, refl, second_unknown dig b) refl refl refl) after_second refl refl
 
     next_third : length wrong ≡ 16384 → StepNext dig (engine dig b infohash (at_first dig b) Waiting Waiting Missing (peer_with (stream (message_spelling (Piece 0 32768 wrong)) true false) true false true asked_key (left_two asked) 32768)) first_key ((0, bytes_written 32768 wrong) ∷ [])
         (Ok (Some (output_of (to_first NotInterested ∷ []) (NowWaiting (block 2) ∷ [])))) (engine dig b infohash (at_first dig b) Waiting Waiting Waiting (idle_peer all_taken asked_key))
     next_third size =
-        went (noting (NowWaiting (block 2))) (engine dig b _ (at_first dig b) Waiting Waiting Waiting (asked_peer asked_key [] 49152)) refl refl refl (taken_message (omega arith, omega arith) (piece_fits 32768 size)) (comes (block 2) (Ok PutWaiting) (whole_third dig b infohash) size third_last refl refl (record { inside = omega arith; whole = size }, refl, third_unknown dig b) refl refl (ap (λ l. engine dig b infohash (at_first dig b) Waiting Waiting Waiting (asked_peer asked_key l 49152)) (sym none_left))) after_third refl refl
+        went (noting (NowWaiting (block 2))) (engine dig b _ (at_first dig b) Waiting Waiting Waiting (asked_peer asked_key [] 49152)) refl refl refl (taken_message (omega arith, omega arith) (piece_fits 32768 size)) (comes (Ok PutWaiting) (whole_third dig b infohash) size third_last refl refl (record { inside = omega arith; whole = size }, refl, third_unknown dig b) refl refl (ap (λ l. engine dig b infohash (at_first dig b) Waiting Waiting Waiting (asked_peer asked_key l 49152)) (sym none_left))) after_third refl refl
 
   -- ---- they are read back
 
@@ -336,7 +336,7 @@ module _ (dig : Digest) (b : ThreeBlocks) (wrong : List ℕ) (infohash : List �
   waits : AreWhole b → IsWrongThird dig b wrong → length infohash ≡ 32 → Run dig (start dig b infohash) (waiting_events b wrong infohash) (waiting_calls b wrong) (waiting_answers dig b infohash) all_wait
   waits whole other size =
       let goes_on : Run dig before_unchoke (Next first_key ∷ piece_events) ([] ∷ piece_calls) (unchoke_answer ∷ piece_answers) all_wait
-      = (_, (_, refl, next_unchoke dig b infohash (at_first dig b) asked_key (λ idle. asked_already idle)), pieces_wait in_turn whole other) in
+      = (_, (_, refl, next_unchoke dig b infohash (λ idle. asked_already idle)), pieces_wait in_turn whole other) in
       run_join dig begin_events (Next first_key ∷ piece_events) ([] ∷ [] ∷ [] ∷ [] ∷ [] ∷ [] ∷ []) ([] ∷ piece_calls) begin_answers (unchoke_answer ∷ piece_answers) (start dig b _) before_unchoke all_wait (begins size) goes_on
 
   pub settles : IsDigest dig → AreWhole b → IsWrongThird dig b wrong

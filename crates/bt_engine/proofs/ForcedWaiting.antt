@@ -82,9 +82,9 @@ module _ (dig : Digest) (b : ThreeBlocks) (wrong : List ℕ) (infohash : List �
   three_open {c} among = by (three_cases among)
     where
       by : (c ≡ block 0) ⊎ (c ≡ block 1) ⊎ (c ≡ block 2) → IsOpen unchoked peer c
-      by (inl e) = subst (λ d. IsOpen unchoked peer d) (sym e) (is_open dig b infohash (at_first dig b) refl refl refl)
-      by (inr (inl e)) = subst (λ d. IsOpen unchoked peer d) (sym e) (is_open dig b infohash (at_first dig b) refl refl refl)
-      by (inr (inr e)) = subst (λ d. IsOpen unchoked peer d) (sym e) (is_open dig b infohash (at_first dig b) refl refl refl)
+      by (inl e) = subst (λ d. IsOpen unchoked peer d) (sym e) (is_open dig b infohash refl refl refl)
+      by (inr (inl e)) = subst (λ d. IsOpen unchoked peer d) (sym e) (is_open dig b infohash refl refl refl)
+      by (inr (inr e)) = subst (λ d. IsOpen unchoked peer d) (sym e) (is_open dig b infohash refl refl refl)
 
   record IsAskedInOrder (sent : List Sent) (other : EngineState) : Type 0 where
     order : List BlockId
