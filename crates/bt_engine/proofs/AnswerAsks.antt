@@ -13,9 +13,9 @@ same_or_not : {b : _} (c : BlockId) → (b ≡ c) ⊎ (b ≡ c → ⊥)
 same_or_not {b} c = elim (nat_cases _ _) [
   | inl file ↦ elim (nat_cases _ _) [
     | inl block ↦ inl (ap (λ n. record b { file = n }) file ∙ ap (λ n. record c { block = n }) block)
-    | inr apart ↦ inr (λ e. apart (ap (λ d. d.block) e))
+    | inr apart ↦ inr (λ e. apart (cc))
   ]
-  | inr apart ↦ inr (λ e. apart (ap (λ d. d.file) e))
+  | inr apart ↦ inr (λ e. apart (cc))
 ]
 
 in_or_not : (xs : List BlockId) {b : _} → Contains xs b ⊎ (Contains xs b → ⊥)

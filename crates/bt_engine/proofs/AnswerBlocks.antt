@@ -162,7 +162,7 @@ module _ (dig : Digest) (s new : EngineState) (key : PeerKey) (i : ℕ) (p : Pee
 
   serves_by : {out : _} (g : GoesOn dig s i p calls out new) → a ≡ of_next (Ok (Some out)) → p.key ≡ key → Serving g.effect → ServesRange dig tree key ask span calls a
   serves_by g is same (gives bytes right e) = sent bytes right (sent_with g is
-      (rw (ap (λ x. x.send) e) (here [] (ap (λ n. frame_to n (Piece ask.piece ask.begin (cut_from span bytes))) same))))
+      (rw (ap (λ x. x.send) e) (here [] (cc))))
   serves_by g is same (finds_damage j bytes c wrong called e) = damaged j bytes c wrong called (noted_with g is _ (one_note e))
   serves_by g is same (cannot_read j c called e) = not_read j c called (noted_with g is _ (one_note e))
 

@@ -223,7 +223,7 @@ module _ (dig : Digest) where
             let r = each_told n _ f.4 at in
             record {
               before = r.before;
-              at_place = sym (set_other _ a j first apart) ∙ sym (ap (λ l. slice_get l j) (peers_then f.3)) ∙ r.at_place;
+              at_place = sym (set_other _ a j first apart) ∙ sym (cc) ∙ r.at_place;
               same_key = r.same_key;
               tells = told_with refl back r.tells;
             }
@@ -283,7 +283,7 @@ module _ (dig : Digest) where
             }))
         | inr apart ↦ stays_so
             (sym (others_stay is g.takes j (λ e. apart (sym e)))
-            ∙ sym (set_other _ i j t apart) ∙ sym (ap (λ l. slice_get l j) peers) ∙ at)
+            ∙ sym (set_other _ i j t apart) ∙ sym (cc) ∙ at)
       ]
 
   next_told : {s new key calls r : _} → StepNext dig s key calls r new → (j : ℕ) {q : _}

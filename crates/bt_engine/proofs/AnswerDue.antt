@@ -46,14 +46,14 @@ module _ (dig : Digest) {s : EngineState} (new : EngineState) {key : PeerKey} {i
   next_taken (waits j q is w x y z) = absurd ((by_peer (λ n x. Waits x.stream) is w).no_event e takes.bytes rest.unread takes.event takes.front)
   next_taken (goes_on j q out is g y) =
       let h = by_peer (λ n x. GoesOn dig s n x calls out new) is g in
-      goes out h (handled_as _ h.mid h.takes.takes h.takes.handles) (ap (λ x. of_next x) y)
+      goes out h (handled_as _ h.mid h.takes.takes h.takes.handles) (cc)
   next_taken (closes j q out is g y) =
       let h = by_peer (λ n x. Closes dig s n x calls out new) is g in
-      shuts out h (handled_as _ h.mid h.takes.takes h.takes.handles) (ap (λ x. of_next x) y)
+      shuts out h (handled_as _ h.mid h.takes.takes h.takes.handles) (cc)
   next_taken (faulty j q out is g y) =
       let h = by_peer (λ n x. ShowsFault s n x calls out new) is g in
       absurd (fault_alone p.stream.greeted p.stream.unread h.fault h.fails.shown e takes.bytes rest.unread takes.event takes.front)
-  next_taken (no_memory j q is g y) = no_room (ap (λ x. of_next x) y)
+  next_taken (no_memory j q is g y) = no_room (cc)
 
   pub step_taken : {a : _} → Step dig s (Next key) calls a new → Taken dig s i p e rest calls a new
   step_taken t = rw t.1 (next_taken t.2)
@@ -74,9 +74,9 @@ module _ (dig : Digest) {s : EngineState} (new : EngineState) {key : PeerKey} {i
 
   by_hashes : {out : _} (g : GoesOn dig s i p calls out new) → a ≡ of_next (Ok (Some out)) → HandlesHashRequest dig (with_peer s i (record p { stream = rest })) (record p { stream = rest }) asked g.effect → AnswersHashes dig s a key asked
   by_hashes g is (answered digests k e) = known digests (same_answers k) (sent_with g is
-      (rw (ap (λ x. x.send) e) (here [] (ap (λ n. frame_to n (Hashes asked (concat digests))) one.is_peer.same_key))))
+      (rw (ap (λ x. x.send) e) (here [] (cc))))
   by_hashes g is (rejected none e) = unknown (λ digests k. none digests (same_unknown k)) (sent_with g is
-      (rw (ap (λ x. x.send) e) (here [] (ap (λ n. frame_to n (HashReject asked)) one.is_peer.same_key))))
+      (rw (ap (λ x. x.send) e) (here [] (cc))))
 
   -- such an event closes nobody
   not_shut : {X : Type 0} {out : _} (g : Closes dig s i p calls out new) → HandlesHashRequest dig (with_peer s i (record p { stream = rest })) (record p { stream = rest }) asked g.effect → X

@@ -63,7 +63,7 @@ all_hashes (rests x e y) = all_is _ e (all_none _)
 pub all_asks : (s p blocks sent : _) → RequestsEach s p blocks sent → AllOf asks sent
 all_asks s p [] sent r = all_is asks r (all_none asks)
 all_asks s p (b ∷ blocks) sent r =
-    all_is asks r.4 (all_one r.0 r.1 (ap (λ s. part_of s.frame) r.2.is) (all_asks s p blocks r.1 r.3))
+    all_is asks r.4 (all_one r.0 r.1 (cc) (all_asks s p blocks r.1 r.3))
 
 -- where a frame that follows from an event stands
 pub data IsFollowing (interest hash block : List Sent) (x : Sent) : Type 0 where

@@ -55,7 +55,7 @@ module _ (dig : Digest) (s new : EngineState) where
       absurd cc
 
   same_state : {a b : _} → a ≡ b → output_of b ≡ None → new ≡ s → Keeps dig s a new
-  same_state e none is = keeps (ap (λ x. x.files) is) (ap (λ x. x.torrent) is) (no_output e none)
+  same_state e none is = keeps (cc) (cc) (no_output e none)
 
   like_state : {like : EngineState} {a b : _} → a ≡ b → output_of b ≡ None → like.files ≡ s.files → like.torrent ≡ s.torrent → new ≡ like → Keeps dig s a new
   like_state e none f t is = keeps (cc) (cc) (no_output e none)
@@ -66,18 +66,18 @@ module _ (dig : Digest) (s new : EngineState) where
   next_keeps : {key calls r : _} → StepNext dig s key calls r new → Keeps dig s (of_next r) new
   next_keeps (no_peer x y e z) = same_state (ap (λ x. of_next x) e) refl z
   next_keeps (waits i p x y z e f) = same_state (ap (λ x. of_next x) e) refl f
-  next_keeps {key} {calls} (goes_on i p out x g e) = goes_further key i p calls out x g (ap (λ x. of_next x) e)
+  next_keeps {key} {calls} (goes_on i p out x g e) = goes_further key i p calls out x g (cc)
   next_keeps {calls} (closes i p out x g e) =
       let rest = record p { stream = g.takes.rest } in
       let left = event_leaves dig _ i (set_same _ i x.here) _ calls g.takes.handles in
       keeps (ap (λ x. x.files) g.after ∙ left.closed g.why g.closed) (cc)
       (no_note (ap (λ x. of_next x) (e ∙ ap (λ o. Ok (Some o)) g.is)) refl left.noted)
   next_keeps (faulty i p out x g e) =
-      keeps (ap (λ x. x.files) g.after) (ap (λ x. x.torrent) g.after) (no_note (ap (λ x. of_next x) (e ∙ ap (λ o. Ok (Some o)) g.is)) refl no_notes)
+      keeps (cc) (cc) (no_note (ap (λ x. of_next x) (e ∙ ap (λ o. Ok (Some o)) g.is)) refl no_notes)
   next_keeps (no_memory i p x g e) = like_state (ap (λ x. of_next x) e) refl refl refl g.after
 
   connect_keeps : {r : _} → StepConnect s r new → Keeps dig s (of_connect r) new
-  connect_keeps (joins key bytes x y z w e f) = keeps (ap (λ x. x.files) f) (ap (λ x. x.torrent) f) (no_note (ap (λ x. of_connect x) e) refl no_notes)
+  connect_keeps (joins key bytes x y z w e f) = keeps (cc) (cc) (no_note (ap (λ x. of_connect x) e) refl no_notes)
   connect_keeps (full x e y) = same_state (ap (λ x. of_connect x) e) refl y
   connect_keeps (spent x y e z) = same_state (ap (λ x. of_connect x) e) refl z
   connect_keeps (no_room x y e z) = same_state (ap (λ x. of_connect x) e) refl z

@@ -68,7 +68,7 @@ module _ (dig : Digest) where
 
       by : (i ≡ r.place) ⊎ (i ≡ r.place → ⊥) → IsRequested new key ask
       by (inl e) =
-          let same : f.peer ≡ r.peer = same_some f.was (cc) in
+          let same : f.peer ≡ r.peer = cc in
           record {
             place = r.place;
             peer = f.after;

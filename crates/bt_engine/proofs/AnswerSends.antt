@@ -8,7 +8,7 @@ pub nat_cases : (i j : ℕ) → (i ≡ j) ⊎ (i ≡ j → ⊥)
 nat_cases zero zero = inl refl
 nat_cases zero (suc j) = inr (λ e. absurd (omega arith))
 nat_cases (suc i) zero = inr (λ e. absurd (omega arith))
-nat_cases (suc i) (suc j) = elim (nat_cases i j) [ inl e ↦ inl (ap (λ n. suc n) e) | inr apart ↦ inr (λ e. apart (omega arith)) ]
+nat_cases (suc i) (suc j) = elim (nat_cases i j) [ inl e ↦ inl (cc) | inr apart ↦ inr (λ e. apart (omega arith)) ]
 
 -- what stands elsewhere is not changed
 pub set_other : {X : Type 0} (xs : List X) (i j : ℕ) (x : X) → (i ≡ j → ⊥) → slice_get (slice_set xs i x) j ≡ slice_get xs j
@@ -222,7 +222,7 @@ module _ (dig : Digest) where
   next_sent : {s new key calls r : _} → StepNext dig s key calls r new → Sent_by s new (sent_by (of_next r))
   next_sent {s} {new} (no_peer x y e z) = nothing_sent s new (ap (λ x. of_next x) e) refl
   next_sent {s} {new} (waits i p x y z e f) = nothing_sent s new (ap (λ x. of_next x) e) refl
-  next_sent {s} {new} (goes_on i p out peer g e) = sent_is s new (ap (λ x. sent_by (of_next x)) e) (goes_on_sent peer g)
+  next_sent {s} {new} (goes_on i p out peer g e) = sent_is s new (cc) (goes_on_sent peer g)
   next_sent {s} {new} (closes i p out x g e) = nothing_sent s new (ap (λ x. of_next x) (e ∙ ap (λ o. Ok (Some o)) g.is)) refl
   next_sent {s} {new} (faulty i p out x g e) = nothing_sent s new (ap (λ x. of_next x) (e ∙ ap (λ o. Ok (Some o)) g.is)) refl
   next_sent {s} {new} (no_memory i p x g e) = nothing_sent s new (ap (λ x. of_next x) e) refl
@@ -250,7 +250,7 @@ module _ (dig : Digest) where
       ]
 
   rechoke_sent : {s new r : _} → StepRechoke dig s r new → Sent_by s new (sent_by (of_rechoke r))
-  rechoke_sent {s} {new} (rechokes out x e) = sent_is s new (ap (λ x. sent_by (of_rechoke x)) e) (rechokes_sent x)
+  rechoke_sent {s} {new} (rechokes out x e) = sent_is s new (cc) (rechokes_sent x)
   rechoke_sent {s} {new} (not_rechoked e x) = nothing_sent s new (ap (λ x. of_rechoke x) e) refl
 
   pub step_sent : (s new e calls a : _) → Step dig s e calls a new → Sent_by s new (sent_by a)

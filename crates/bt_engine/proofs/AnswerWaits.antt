@@ -170,7 +170,7 @@ range_has a (suc n) {i} from to = elim (nat_cases a i) [
 ]
   where
     below : (a i : ℕ) → a ≤ i → (a ≡ i → ⊥) → a + 1 ≤ i
-    below a i le apart = elim (cases_lt a i) [ inl lt ↦ omega arith | inr ge ↦ absurd (apart (omega arith)) ]
+    below a i le apart = omega arith
 
 module _ {dig : Digest} {t mid : EngineState} {i : ℕ} {p : PeerState} (b : BlockId) {key : HashKey} {digests : List ℕ} {calls : DeviceCalls} {effect : Effect} (l : Learns dig t i p key digests calls effect mid) where
   run_length : length l.claim.run ≡ key.length
@@ -198,7 +198,7 @@ module _ {dig : Digest} {t mid : EngineState} {i : ℕ} {p : PeerState} (b : Blo
       let index : l.claim.index ≡ key.index = cc in
       let in_range : Contains (range_with_len key.index (settled_count key)) b.block =
       rw (count_is key base) (range_has _ _ (omega arith) (omega (arith, run_length))) in
-      let test : (is_waiting_at f.states b.block && is_some (value_at dig l.settles.facts 0 b.block)) ≡ true = rw (waiting, known) refl in
+      let test : (is_waiting_at f.states b.block && is_some (value_at dig l.settles.facts 0 b.block)) ≡ true = cc in
       rw (eq-eqb f.tree l.tree tree) (filter_contains (λ j. is_waiting_at f.states j && is_some (value_at dig l.settles.facts 0 j)) _ in_range test)
 
   -- the leaf of a block that waits still
@@ -286,8 +286,8 @@ module _ (dig : Digest) (s new : EngineState) (key : PeerKey) (calls : DeviceCal
   next_waits : {r : _} → StepNext dig s key calls r new → Unknown dig s new b
   next_waits (none_such x y z e) = like_old e refl refl
   next_waits (waits i p x y z w e) = like_old e refl refl
-  next_waits (goes_on i p out x g e) = after_event i p _ g.mid _ _ g.takes.handles (ap (λ x. x.files) g.follows.after) (ap (λ x. x.trees) g.follows.after)
-  next_waits (closes i p out x g e) = after_event i p _ g.mid _ _ g.takes.handles (ap (λ x. x.files) g.after) (ap (λ x. x.trees) g.after)
+  next_waits (goes_on i p out x g e) = after_event i p _ g.mid _ _ g.takes.handles (cc) (cc)
+  next_waits (closes i p out x g e) = after_event i p _ g.mid _ _ g.takes.handles (cc) (cc)
   next_waits (faulty i p out x g e) = like_old g.after refl refl
   next_waits (no_memory i p x g e) = like_old g.after refl refl
 

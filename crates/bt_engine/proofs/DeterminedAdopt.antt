@@ -189,7 +189,7 @@ module _ (dig : Digest) where
   blocks_stay : {s m file from : _} (n : ℕ) {c x : _} → AdoptsGroup dig s file from c x m → HasBlocks s file n → HasBlocks m file n
   blocks_stay n g sized f k is =
       let own = group_file dig g in
-      let tree : g.grown ≡ k = (file_one own is).1 in
+      let tree : g.grown ≡ k = cc in
       ap blocks_of (sym tree) ∙ ap block_count (group_extends dig g).file_length ∙ sized g.state g.tree g.is_file
 
   groups_one : (s file from : _) {n : ℕ} (xs ys : _) {more rest t u a b : _} → HasBlocks s file n → AdoptsGroups dig s file from xs t a → AdoptsGroups dig s file from ys u b

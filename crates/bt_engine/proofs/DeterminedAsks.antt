@@ -159,7 +159,7 @@ module _ (dig : Digest) where
     planned : x.planned ≡ y.planned
     planned =
         let asked : x.planned.asked ≡ y.planned.asked = (same_plan x.hashes).same_asked ∙ ap (λ (p : PeerState). p.asked) x.interest.others ∙ ap (λ (p : PeerState). p.asked) peers
-        ∙ sym (ap (λ (p : PeerState). p.asked) y.interest.others) ∙ sym (same_plan y.hashes).same_asked in
+        ∙ sym (cc) ∙ sym (same_plan y.hashes).same_asked in
         ap (λ l. record (asked_nothing x.planned) { asked = l }) asked ∙ ap (λ (p : PeerState). record p { asked = y.planned.asked }) hash.1
 
     theirs : AsksBlocks s x.planned y.blocks

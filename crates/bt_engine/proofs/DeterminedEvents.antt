@@ -123,7 +123,7 @@ file_one {s} {f} {g} x y =
 module _ (dig : Digest) (s : EngineState) where
   serves_one : {i p ask span calls e f m n : _} → Serves dig s i p ask span calls e m → Serves dig s i p ask span calls f n → (e ≡ f) × (m ≡ n)
   serves_one {p} {ask} {span} x y =
-      let tree : x.tree ≡ y.tree = (file_one x.is_file y.is_file).1 in
+      let tree : x.tree ≡ y.tree = cc in
       let reads = reads_one span.file x.tree.file_length x.reads y.reads (cc) in
       let bytes = same_cut (spanned_blocks span) x.bytes y.bytes (cc) in
       let cut : cut_from span x.bytes ≡ cut_from span y.bytes = cc in
@@ -200,10 +200,10 @@ module _ (dig : Digest) (s : EngineState) where
   put_one file i bytes k states e f (Ok Wrong) (Ok PutMarked) x y ex fy x_made y_made = absurd (wrong_right bytes x.2 y.2)
   put_one file i bytes k states e f (Ok Wrong) (Ok PutWaiting) x y ex fy x_made y_made = absurd (some_none x.2.1 y.2)
   put_one file i bytes k states e f (Ok Wrong) (Ok Wrong) x y ex fy x_made y_made = refl
-  put_one file i bytes k states e f (Ok Wrong) (Err DeviceFault) x y ex fy x_made y_made = absurd (some_or_none file _ (sym y_made ∙ x_made))
+  put_one file i bytes k states e f (Ok Wrong) (Err DeviceFault) x y ex fy x_made y_made = cc
   put_one file i bytes k states e f (Err DeviceFault) (Ok PutMarked) x y ex fy x_made y_made = absurd (wrote_or_failed file _ bytes (sym y_made ∙ x_made))
   put_one file i bytes k states e f (Err DeviceFault) (Ok PutWaiting) x y ex fy x_made y_made = absurd (wrote_or_failed file _ bytes (sym y_made ∙ x_made))
-  put_one file i bytes k states e f (Err DeviceFault) (Ok Wrong) x y ex fy x_made y_made = absurd (some_or_none file _ (sym x_made ∙ y_made))
+  put_one file i bytes k states e f (Err DeviceFault) (Ok Wrong) x y ex fy x_made y_made = cc
   put_one file i bytes k states e f (Err DeviceFault) (Err DeviceFault) x y ex fy x_made y_made = refl
   put_one file i bytes k states e f (Ok Already) r x y ex fy x_made y_made = absurd ex
   put_one file i bytes k states e f (Err Range) r x y ex fy x_made y_made = absurd ex

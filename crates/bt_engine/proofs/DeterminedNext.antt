@@ -94,11 +94,11 @@ module _ (dig : Digest) where
 
       on_one : AreOne (of_next a) m (of_next b) n
       on_one = record {
-        plain = ap (λ r. plain_answer (of_next r)) x.is ∙ ap output (other_append first x.sent ∙ ap (λ zs. other_frames first ++ zs) rest.0 ∙ sym (other_append first y.sent)) ∙ sym (ap (λ r. plain_answer (of_next r)) y.is);
+        plain = ap (λ r. plain_answer (of_next r)) x.is ∙ ap output (other_append first x.sent ∙ ap (λ zs. other_frames first ++ zs) rest.0 ∙ sym (other_append first y.sent)) ∙ sym (cc);
         rest = rest.1;
         whole = λ same. (
-            let asks = asks_to (ap (λ r. sent_by (of_next r)) x.is) (ap (λ r. sent_by (of_next r)) y.is) same in
-            let both = follows_same dig laid x.follows y.follows (asks_behind first (ap (λ z. z.files) x.follows.after) asks) in
+            let asks = asks_to (cc) (cc) same in
+            let both = follows_same dig laid x.follows y.follows (asks_behind first (cc) asks) in
             (ap of_next x.is ∙ ap (λ zs. output (first ++ zs)) both.0 ∙ sym (ap of_next y.is), both.1)
             );
       }

@@ -183,7 +183,7 @@ module _ (dig : Digest) (infohash : List ℕ) where
 
   fed_to : {x : BlockState} {p : PeerState} {bytes : _} → p.key ≡ first_key → p.stream ≡ stream [] p.stream.greeted p.stream.failed
       → StepFeed (engine x p) first_key bytes (Ok tt) (engine x (record p { stream = stream bytes p.stream.greeted p.stream.failed }))
-  fed_to {x} {p} {bytes} key empty = feeds 0 p (record { here = refl; same_key = key }) refl (ap (λ t. engine x (record p { stream = fed t bytes })) (sym empty))
+  fed_to {x} {p} {bytes} key empty = feeds 0 p (record { here = refl; same_key = key }) refl (cc)
 
   connects : StepConnect (abc_engine dig infohash Missing [] 1) (Ok (first_key, greeting (abc_engine dig infohash Missing [] 1) first_key (0 ∷ []))) (engine Missing (peer_with (stream [] false false) false true false Idle [] 0))
   connects = joins first_key (0 ∷ []) (omega arith) (omega arith) refl (record { are_bytes = search rules; size = refl; bits = refl }) refl refl
@@ -197,7 +197,7 @@ module _ (dig : Digest) (infohash : List ℕ) where
           count = refl;
           each_file = λ i file f listed at.
               let one = one_there i at in
-              let same : abc_file dig ≡ file = (one_there i listed).1 in
+              let same : abc_file dig ≡ file = cc in
               record {
                 missing = cc;
                 hung = λ some. (root_facts 3 (dig abc), ap (λ q. slice_get (root_facts 3 (dig abc) ∷ []) q.tree) (sym one.1), ap (λ g. g.root) same, ap (λ g. g.length) same);

@@ -89,7 +89,7 @@ module _ (dig : Digest) (b : ThreeBlocks) (infohash : List ℕ) (k : Facts) wher
   -- ---- the steps
 
   fed_to : {turn : ℕ} {p : PeerState} {bytes : _} → p.key ≡ first_key → p.stream ≡ all_taken → StepFeed (engine turn p) first_key bytes (Ok tt) (engine turn (with_stream (stream bytes true false) p))
-  fed_to {turn} {p} {bytes} key empty = feeds 0 p (record { here = refl; same_key = key }) refl (ap (λ t. engine turn (with_stream (fed t bytes) p)) (sym empty))
+  fed_to {turn} {p} {bytes} key empty = feeds 0 p (record { here = refl; same_key = key }) refl (cc)
 
   next_interested : StepNext dig (engine 0 (with_stream (stream interested_bytes true false) (reader true false 0))) first_key [] (Ok (Some (output_of [] []))) (engine 0 (reader true true 0))
   next_interested =

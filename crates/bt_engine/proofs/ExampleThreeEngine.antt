@@ -311,7 +311,7 @@ module _ (dig : Digest) (b : ThreeBlocks) (infohash : List ℕ) where
 
   pub fed_to : {k : _} {x y z : BlockState} {p : PeerState} {bytes : _} → p.key ≡ first_key → p.stream ≡ stream [] p.stream.greeted p.stream.failed
       → StepFeed (engine k x y z p) first_key bytes (Ok tt) (engine k x y z (record p { stream = stream bytes p.stream.greeted p.stream.failed }))
-  fed_to {k} {x} {y} {z} {p} {bytes} key empty = feeds 0 p (record { here = refl; same_key = key }) refl (ap (λ t. engine k x y z (record p { stream = fed t bytes })) (sym empty))
+  fed_to {k} {x} {y} {z} {p} {bytes} key empty = feeds 0 p (record { here = refl; same_key = key }) refl (cc)
 
   abbrev pub start : EngineState
   start = three_engine dig b infohash (at_first dig b) (Missing ∷ Missing ∷ Missing ∷ []) [] 1
@@ -328,7 +328,7 @@ module _ (dig : Digest) (b : ThreeBlocks) (infohash : List ℕ) where
           count = refl;
           each_file = λ i file f listed at.
               let one = one_there i at in
-              let same : three_file dig b ≡ file = (one_there i listed).1 in
+              let same : three_file dig b ≡ file = cc in
               record {
                 missing = cc;
                 hung = λ some. (at_first dig b, ap (λ q. slice_get (at_first dig b ∷ []) q.tree) (sym one.1), ap (λ g. g.root) same, ap (λ g. g.length) same);

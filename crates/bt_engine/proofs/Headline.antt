@@ -50,7 +50,7 @@ module _ {D : Type 0} (history : D → History) (honest : D → Type 0) (faults 
 
   published : IsDigest dig → {file : File} {k : Facts} {bytes : _} → k.file_length ≡ file.length → k.root ≡ file.root → HasFile dig k bytes → IsPublished dig file bytes
   published sizes {file} {bytes} size root has =
-      let all : length (take file.length bytes) ≡ file.length = rw (← size) has.all in
+      let all : length (take file.length bytes) ≡ file.length = cc in
       let own : file_root dig (take file.length bytes) ≡ file.root = cc in
       record {
         all = all;

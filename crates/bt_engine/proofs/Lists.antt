@@ -90,7 +90,7 @@ set_same (z ∷ xs) (suc i) e = set_same xs i e
 
 pub set_other : {X : Type 0} (xs : List X) (i j : ℕ) (x : X) → j ≢ i → slice_get (slice_set xs i x) j ≡ slice_get xs j
 set_other (z ∷ xs) zero zero x apart = absurd (apart refl)
-set_other (z ∷ xs) (suc i) (suc j) x apart = set_other xs i j x (λ e. apart (ap (λ n. suc n) e))
+set_other (z ∷ xs) (suc i) (suc j) x apart = set_other xs i j x (λ e. apart (cc))
 set_other _ _ _ x apart = refl
 
 pub contains_map : {X Y : Type 0} (f : X → Y) (xs : List X) {y : Y} → Contains (map f xs) y → (x : X) × Contains xs x × (f x ≡ y)

@@ -90,7 +90,7 @@ module _ (dig : Digest) (b : BlockId) where
             let hung =
             ap (option_and_then (λ q. slice_get s.trees q.tree)) (set_same s.files a.block.file at) ∙ a.puts.is_file.hung in
             let stored : tree_of a.stored a.block.file ≡ Some a.puts.tree = rw a.puts.after hung in
-            let known : tree_of mid a.block.file ≡ Some a.puts.tree = rw a.after stored in
+            let known : tree_of mid a.block.file ≡ Some a.puts.tree = cc in
             let made : calls ≡ (a.block.file, bytes_written (full_block_length * a.block.block) bytes) ∷ [] = cc in
             inr (rw (← now.0) (came piece begin bytes a.puts.tree refl a.whole a.asked known made now.2))
       ]
@@ -126,7 +126,7 @@ module _ (dig : Digest) (b : BlockId) where
   hashes_marks {key} {digests} (learns l) is m =
       elim (settle_marks l.settles (as_before l.after m)) [
         | inl old ↦ inl old
-        | inr r ↦ inr (waited key digests l.tree l.old l.new l.claim is l.here l.claims l.accepts (settled_in (ap (λ x. tree_of x b.file) l.after) r))
+        | inr r ↦ inr (waited key digests l.tree l.old l.new l.claim is l.here l.claims l.accepts (settled_in (cc) r))
       ]
 
   message_marks : (s mid i p : _) (msg : Sent) (calls effect : _) → HandlesMessage dig s i p msg calls effect mid → state_at mid b ≡ Some Marked
@@ -219,8 +219,8 @@ module _ (dig : Digest) (b : BlockId) where
   next_marks : {s new key calls answer : _} → StepNext dig s key calls answer new → state_at new b ≡ Some Marked → Now s (Next key) calls new
   next_marks (no_peer x y z e) m = inl (as_before e m)
   next_marks (waits i p x y z w e) m = inl (as_before e m)
-  next_marks (goes_on i p out peer g x) m = taken_marks peer g.takes (ap (λ x. tree_of x b.file) g.follows.after) (as_before g.follows.after m)
-  next_marks (closes i p out peer g x) m = taken_marks peer g.takes (ap (λ x. tree_of x b.file) g.after) (as_before g.after m)
+  next_marks (goes_on i p out peer g x) m = taken_marks peer g.takes (cc) (as_before g.follows.after m)
+  next_marks (closes i p out peer g x) m = taken_marks peer g.takes (cc) (as_before g.after m)
   next_marks (faulty i p out peer g x) m = inl (as_before g.after m)
   next_marks (no_memory i p peer g x) m = inl (as_before g.after m)
 

@@ -50,7 +50,7 @@ judged_marks {dig} {k} (given b bytes ∷ reads) states {i} e = elim (judged_mar
     | inl one ↦
         let right = verdict_true _ one.1 in
         let same = sym one.0 in
-        inr (record { bytes = bytes; gives = here reads (ap (λ j. given j bytes) same); right = right_then (cc) })
+        inr (record { bytes = bytes; gives = here reads (cc); right = right_then (cc) })
     | inr old ↦ inl old
   ]
   | inr later_on ↦ inr (more_given later_on)

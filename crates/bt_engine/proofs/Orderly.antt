@@ -113,7 +113,7 @@ kept {s} {i} {p} at peers next torrent states = record {
 }
 
 quiet : {s : EngineState} {m i p : _} → slice_get s.peers i ≡ Some p → m ≡ s → PeerChange s i p m
-quiet at e = kept at (ap (λ z. z.peers) e) (ap (λ z. z.next_key) e) (ap (λ z. z.torrent) e) (λ b x. ap (λ z. state_at z b) e ∙ x)
+quiet at e = kept at (cc) (cc) (cc) (λ b x. ap (λ z. state_at z b) e ∙ x)
 
 -- ---- states
 
@@ -129,9 +129,7 @@ file_missing s file {f} new b at keep missing = by _ refl
   where
     f_is : b.file ≡ file → slice_get f.states b.block ≡ Some Missing
     f_is same =
-        let g = and_then_some (λ (q : FileState). slice_get q.states b.block) _ missing in
-        let is : g.0 ≡ f = cc in
-        ap (λ (q : FileState). slice_get q.states b.block) (sym is) ∙ g.2
+        cc
 
     by : (t : Bool) → (b.file == file) ≡ t → state_at (with_file s file new) b ≡ Some Missing
     by true e =
@@ -187,7 +185,7 @@ module _ (dig : Digest) where
   fault_change : {s : EngineState} {k mid file i f read effect place p : _} → slice_get s.peers place ≡ Some p → slice_get s.files file ≡ Some f
       → FindsFault dig k s file i f read effect mid → PeerChange s place p mid
   fault_change {s} {file} {i} {f} at there (damaged bytes x y z e) =
-      kept at (ap (λ z. z.peers) e) (ap (λ z. z.next_key) e) (ap (λ z. z.torrent) e)
+      kept at (cc) (cc) (cc)
       (λ b missing. ap (λ z. state_at z b) e ∙ file_missing s file _ b there (λ same. set_missing _ i _) missing)
   fault_change at there (fault x y e) = quiet at e
 
@@ -244,7 +242,7 @@ module _ (dig : Digest) where
   hashes_change at (no_claim f x y c) = quiet at c.after
   hashes_change at (refused f t k c x y z g) = quiet at g.after
   hashes_change at (learns l) =
-      placed _ _ (ap (λ z. z.peers) l.settles.others) (ap (λ z. z.next_key) l.settles.others) (ap (λ z. z.torrent) l.settles.others)
+      placed _ _ (cc) (cc) (cc)
       (λ b missing. settle_missing l.settles b missing) l.after refl refl refl
 
   bits_change : {s : EngineState} {mid i p bytes effect : _} → slice_get s.peers i ≡ Some p → length p.has ≡ total_pieces s.torrent → HandlesBitfield s i p bytes effect mid → PeerChange s i p mid
@@ -465,4 +463,4 @@ module _ (dig : Digest) where
   run_order s _ _ _ run o = absurd run
 
   pub order_of_runs : RunsAreOrderly dig
-  order_of_runs torrent first last events calls answers starts run = run_order first _ calls _ run (none_order (ap (λ z. z.peers) starts.is))
+  order_of_runs torrent first last events calls answers starts run = run_order first _ calls _ run (none_order (cc))

@@ -70,7 +70,7 @@ module _ (dig : Digest) where
   start_is {torrent} {file} {first} files none some starts =
       let new = starts.is_new in
       let only = only_file first.files (cc) in
-      let f = new.each_file 0 file only.0 (ap (λ l. slice_get l 0) files) (ap (λ l. slice_get l 0) only.1) in
+      let f = new.each_file 0 file only.0 (cc) (ap (λ l. slice_get l 0) only.1) in
       let k = f.hung some in
       let trees = trees_one first.trees only.0.tree each new.roots k.1 in
       let file_is = ap (λ n. record only.0 { tree = n }) trees.1 ∙ ap (λ l. record { tree = 0; states = l }) f.missing in

@@ -46,7 +46,7 @@ plain_choking p _ _ = plain_one _ [] refl plain_none
 
 plain_each_block : (s p blocks sent : _) → RequestsEach s p blocks sent → Plain sent
 plain_each_block s p [] sent r = plain_is r plain_none
-plain_each_block s p (b ∷ blocks) sent r = plain_is r.4 (plain_one r.0 r.1 (ap (λ s. data_frame s.frame) r.2.is) (plain_each_block s p blocks r.1 r.3))
+plain_each_block s p (b ∷ blocks) sent r = plain_is r.4 (plain_one r.0 r.1 (cc) (plain_each_block s p blocks r.1 r.3))
 
 plain_hashes : {dig s p q sent : _} → RequestsHashes dig s p sent q → Plain sent
 plain_hashes (requests b k key x y z w e f) = plain_is e (plain_one _ [] refl plain_none)
@@ -107,7 +107,7 @@ record IsCut (dig : Digest) (s : EngineState) (p : PeerState) (e : WireEvent) (c
 
 module _ (dig : Digest) where
   effect_is : (P : PeerKey → ℕ → ℕ → List ℕ → Type 0) {effect like : Effect} → effect ≡ like → Plain like.send → Sends P effect.send
-  effect_is P {effect} e f = sends_plain P _ (plain_is (ap (λ x. x.send) e) f)
+  effect_is P {effect} e f = sends_plain P _ (plain_is (cc) f)
 
   serves_sends : {s mid : EngineState} {i : ℕ} {p : PeerState} {ask : Ask} {span : Span} {calls : DeviceCalls} {effect : Effect} → p.am_choking ≡ false → IsPlace s.torrent ask.piece ask.begin ask.length span
       → Serves dig s i p ask span calls effect mid → Sends (IsCut dig s p (Message (Request ask)) calls) effect.send
@@ -227,7 +227,7 @@ module _ (dig : Digest) where
   next_sends (no_peer x y e z) = nothing _ (ap (λ x. of_next x) e) plain_none
   next_sends (waits i p x y z e f) = nothing _ (ap (λ x. of_next x) e) plain_none
   next_sends {s} (goes_on i p out x g e) =
-      sends_is _ (ap (λ x. sent_by (of_next x)) e)
+      sends_is _ (cc)
       (sends_is _ g.send
       (sends_append _ _ _
       (sends_append _ _ _ (taken_sends x g.takes) (sends_plain _ _ (plain_haves s g.mid)))

@@ -54,7 +54,7 @@ same_all torrent files trees logged hints pending = record {
 }
 
 is_same : {s m : _} → m ≡ s → Keeps s m
-is_same e = same_all (ap (λ z. z.torrent) e) (ap (λ z. z.files) e) (ap (λ z. z.trees) e) (ap (λ z. z.logged) e) (ap (λ z. z.hints) e) (ap (λ z. z.pending) e)
+is_same e = same_all (cc) (cc) (cc) (cc) (cc) (cc)
 
 -- only peers, the next key and the turn are others
 peers_change : {s m x : EngineState} → x.torrent ≡ s.torrent → x.files ≡ s.files → x.trees ≡ s.trees → x.logged ≡ s.logged → x.hints ≡ s.hints → x.pending ≡ s.pending → m ≡ x → Keeps s m
@@ -354,6 +354,6 @@ module _ (dig : Digest) where
         record {
           none = cc;
           read = cc;
-          written = k.pending (ap (λ z. z.logged) starts.is) ∙ ap (λ z. z.pending) starts.is;
+          written = k.pending (cc) ∙ ap (λ z. z.pending) starts.is;
         },
       )

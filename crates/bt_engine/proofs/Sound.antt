@@ -56,9 +56,9 @@ among_file [] among = absurd (contains_none among)
 among_file {file} (x ∷ calls) {c} among = by _ refl (contains_cases calls among) (λ more. among_file calls more)
   where
     by : (b : Bool) → (x.0 == file) ≡ b → (x ≡ (file, c)) ⊎ Contains calls (file, c) → (Contains calls (file, c) → Contains (calls_of file calls) c) → Contains (calls_of file (x ∷ calls)) c
-    by true e (inl is) rest = rw e (here _ (ap (λ a. a.1) is))
+    by true e (inl is) rest = rw e (here _ (cc))
     by true e (inr more) rest = rw e (later x.1 _ (rest more))
-    by false e (inl is) rest = let no = sym (eq-eqb x.0 file (ap (λ a. a.0) is)) ∙ e in absurd cc
+    by false e (inl is) rest = let no = sym (eq-eqb x.0 file (cc)) ∙ e in absurd cc
     by false e (inr more) rest = rw e (rest more)
 
 -- ---- a block of one file

@@ -65,7 +65,7 @@ module _ (dig : Digest) where
 
   -- the engine has the same files and trees
   stays : (s mid : EngineState) → mid.files ≡ s.files → mid.trees ≡ s.trees → Grows dig s.files s.trees mid
-  stays s mid files trees file f k at hung = same_tree (sym (ap (λ fs. slice_get fs file) files) ∙ at) (cc)
+  stays s mid files trees file f k at hung = same_tree (sym (cc) ∙ at) (cc)
 
   -- one like another
   like : (files trees : _) (m mid : EngineState) → mid.files ≡ m.files → mid.trees ≡ m.trees → Grows dig files trees m → Grows dig files trees mid
@@ -82,24 +82,24 @@ module _ (dig : Digest) where
   ]
 
   have_tame : {s mid i p piece calls effect : _} → calls ≡ [] → HandlesHave s i p piece effect mid → Tame dig s.files s.trees calls mid
-  have_tame {s} {mid} none (in_range x y e) = quiet s mid (ap (λ z. z.files) e) (ap (λ z. z.trees) e) none
-  have_tame {s} {mid} none (out_of_range x y e) = quiet s mid (ap (λ z. z.files) e) (ap (λ z. z.trees) e) none
+  have_tame {s} {mid} none (in_range x y e) = quiet s mid (cc) (cc) none
+  have_tame {s} {mid} none (out_of_range x y e) = quiet s mid (cc) (cc) none
 
   bits_tame : {s mid i p bytes calls effect : _} → calls ≡ [] → HandlesBitfield s i p bytes effect mid → Tame dig s.files s.trees calls mid
-  bits_tame {s} {mid} none (right x y e) = quiet s mid (ap (λ z. z.files) e) (ap (λ z. z.trees) e) none
-  bits_tame {s} {mid} none (wrong x y e) = quiet s mid (ap (λ z. z.files) e) (ap (λ z. z.trees) e) none
+  bits_tame {s} {mid} none (right x y e) = quiet s mid (cc) (cc) none
+  bits_tame {s} {mid} none (wrong x y e) = quiet s mid (cc) (cc) none
 
   fault_grows : {s : EngineState} {k mid file i f read effect : _} → slice_get s.files file ≡ Some f → FindsFault dig k s file i f read effect mid → Grows dig s.files s.trees mid
   fault_grows {s} {mid} {file} {i} {f} at (damaged bytes x y z e) =
       let new : FileState = record f { states = slice_set f.states i Missing } in
-      like s.files s.trees (with_file s file new) mid (ap (λ z. z.files) e) (ap (λ z. z.trees) e) (file_grows s file new at refl)
-  fault_grows {s} {mid} at (fault x y e) = stays s mid (ap (λ z. z.files) e) (ap (λ z. z.trees) e)
+      like s.files s.trees (with_file s file new) mid (cc) (cc) (file_grows s file new at refl)
+  fault_grows {s} {mid} at (fault x y e) = stays s mid (cc) (cc)
 
   request_tame : {s mid i p ask calls effect : _} → HandlesRequest dig s i p ask calls effect mid → Tame dig s.files s.trees calls mid
-  request_tame {s} {mid} (ignored a c d e) = quiet s mid (ap (λ z. z.files) e) (ap (λ z. z.trees) e) c
-  request_tame {s} {mid} (no_place a c d f e) = quiet s mid (ap (λ z. z.files) e) (ap (λ z. z.trees) e) d
-  request_tame {s} {mid} (not_marked span a c d f g e) = quiet s mid (ap (λ z. z.files) e) (ap (λ z. z.trees) e) f
-  request_tame {s} {mid} (served span a c d f) = (stays s mid (ap (λ z. z.files) f.after) (ap (λ z. z.trees) f.after), keeping (keep_is f.made (reads_keep _ _ _)))
+  request_tame {s} {mid} (ignored a c d e) = quiet s mid (cc) (cc) c
+  request_tame {s} {mid} (no_place a c d f e) = quiet s mid (cc) (cc) d
+  request_tame {s} {mid} (not_marked span a c d f g e) = quiet s mid (cc) (cc) f
+  request_tame {s} {mid} (served span a c d f) = (stays s mid (cc) (cc), keeping (keep_is f.made (reads_keep _ _ _)))
   request_tame (stopped span a c d f) = (
     fault_grows f.is_file.here f.finds,
     keeping (keep_is f.made (reads_keep _ _ _)),
@@ -118,13 +118,13 @@ module _ (dig : Digest) where
   arrives_tame {s} {mid} {bytes} a =
       let q = a.puts in
       let new : FileState = record q.file { states = states_after_put a.block.block q.result q.file.states } in
-      let stored = like s.files s.trees (with_file s a.block.file new) a.stored (ap (λ z. z.files) q.after) (ap (λ z. z.trees) q.after) (file_grows s a.block.file new q.is_file.here refl) in (
-        like s.files s.trees a.stored mid (ap (λ z. z.files) a.after) (ap (λ z. z.trees) a.after) stored,
+      let stored = like s.files s.trees (with_file s a.block.file new) a.stored (cc) (cc) (file_grows s a.block.file new q.is_file.here refl) in (
+        like s.files s.trees a.stored mid (cc) (cc) stored,
         put_touches a.block bytes q.is_file.here q.is_file.hung q.result q.due q.made,
       )
 
   piece_tame : {s mid i p piece begin bytes calls effect : _} → HandlesPiece dig s i p piece begin bytes calls effect mid → Tame dig s.files s.trees calls mid
-  piece_tame {s} {mid} (stale x y z e) = quiet s mid (ap (λ z. z.files) e) (ap (λ z. z.trees) e) y
+  piece_tame {s} {mid} (stale x y z e) = quiet s mid (cc) (cc) y
   piece_tame (arrives a) = arrives_tame a
 
   -- a grown tree stands in the place of the one that it grew from
@@ -156,46 +156,46 @@ module _ (dig : Digest) where
       reads_keep m.0 _ _ c m.2)
 
   hashes_tame : {s mid i p key digests calls effect : _} → HandlesHashes dig s i p key digests calls effect mid → Tame dig s.files s.trees calls mid
-  hashes_tame {s} {mid} (unknown_root x y z e) = quiet s mid (ap (λ z. z.files) e) (ap (λ z. z.trees) e) y
-  hashes_tame {s} {mid} (no_claim f x y c) = quiet s mid (ap (λ z. z.files) c.after) (ap (λ z. z.trees) c.after) c.made
-  hashes_tame {s} {mid} (refused f t k c x y z g) = quiet s mid (ap (λ z. z.files) g.after) (ap (λ z. z.trees) g.after) g.made
+  hashes_tame {s} {mid} (unknown_root x y z e) = quiet s mid (cc) (cc) y
+  hashes_tame {s} {mid} (no_claim f x y c) = quiet s mid (cc) (cc) c.made
+  hashes_tame {s} {mid} (refused f t k c x y z g) = quiet s mid (cc) (cc) g.made
   hashes_tame {s} {mid} (learns l) =
       let settled = settled_grows s.files s.trees l.settles (tree_grows s l.tree l.new l.here.here l.accepts.joins.file_length l.accepts.joins.root (value_kept dig l.old l.new l.accepts.joins.file_length l.accepts.joins.kept 0)) in (
-        like s.files s.trees l.settled mid (ap (λ z. z.files) l.after) (ap (λ z. z.trees) l.after) settled,
+        like s.files s.trees l.settled mid (cc) (cc) settled,
         keeping (settled_keeps l.settles),
       )
 
   message_tame : (s mid i p : _) (m : Sent) (calls effect : _) → HandlesMessage dig s i p m calls effect mid → Tame dig s.files s.trees calls mid
-  message_tame s mid i p KeepAlive calls effect h = quiet s mid (ap (λ z. z.files) h.2) (ap (λ z. z.trees) h.2) h.0
-  message_tame s mid i p Choke calls effect h = quiet s mid (ap (λ z. z.files) h.2) (ap (λ z. z.trees) h.2) h.0
-  message_tame s mid i p Unchoke calls effect h = quiet s mid (ap (λ z. z.files) h.2) (ap (λ z. z.trees) h.2) h.0
-  message_tame s mid i p Interested calls effect h = quiet s mid (ap (λ z. z.files) h.2) (ap (λ z. z.trees) h.2) h.0
-  message_tame s mid i p NotInterested calls effect h = quiet s mid (ap (λ z. z.files) h.2) (ap (λ z. z.trees) h.2) h.0
+  message_tame s mid i p KeepAlive calls effect h = quiet s mid (cc) (cc) h.0
+  message_tame s mid i p Choke calls effect h = quiet s mid (cc) (cc) h.0
+  message_tame s mid i p Unchoke calls effect h = quiet s mid (cc) (cc) h.0
+  message_tame s mid i p Interested calls effect h = quiet s mid (cc) (cc) h.0
+  message_tame s mid i p NotInterested calls effect h = quiet s mid (cc) (cc) h.0
   message_tame s mid i p (Have piece) calls effect h = have_tame h.0 h.1
   message_tame s mid i p (Bitfield bytes) calls effect h = bits_tame h.0 h.1
   message_tame s mid i p (Request ask) calls effect h = request_tame h
   message_tame s mid i p (Piece piece begin bytes) calls effect h = piece_tame h
-  message_tame s mid i p (Cancel ask) calls effect h = quiet s mid (ap (λ z. z.files) h.2) (ap (λ z. z.trees) h.2) h.0
-  message_tame s mid i p (HashRequest key) calls effect h = quiet s mid (ap (λ z. z.files) h.2) (ap (λ z. z.trees) h.2) h.0
+  message_tame s mid i p (Cancel ask) calls effect h = quiet s mid (cc) (cc) h.0
+  message_tame s mid i p (HashRequest key) calls effect h = quiet s mid (cc) (cc) h.0
   message_tame s mid i p (Hashes key digests) calls effect h = hashes_tame h
-  message_tame s mid i p (HashReject key) calls effect h = quiet s mid (ap (λ z. z.files) h.2.after) (ap (λ z. z.trees) h.2.after) h.0
+  message_tame s mid i p (HashReject key) calls effect h = quiet s mid (cc) (cc) h.0
 
   event_tame : (s mid i p e calls effect : _) → Handles dig s i p e calls effect mid → Tame dig s.files s.trees calls mid
-  event_tame s mid i p (Hello h) calls effect t = quiet s mid (ap (λ z. z.files) t.2) (ap (λ z. z.trees) t.2) t.0
+  event_tame s mid i p (Hello h) calls effect t = quiet s mid (cc) (cc) t.0
   event_tame s mid i p (Message m) calls effect t = message_tame s mid i p m calls _ t
-  event_tame s mid i p (Skipped kind) calls effect t = quiet s mid (ap (λ z. z.files) t.2) (ap (λ z. z.trees) t.2) t.0
+  event_tame s mid i p (Skipped kind) calls effect t = quiet s mid (cc) (cc) t.0
 
   next_tame : {s new key calls answer : _} → StepNext dig s key calls answer new → Tame dig s.files s.trees calls new
-  next_tame {s} {new} (no_peer x y z e) = quiet s new (ap (λ z. z.files) e) (ap (λ z. z.trees) e) y
-  next_tame {s} {new} (waits i p x y z w e) = quiet s new (ap (λ z. z.files) e) (ap (λ z. z.trees) e) z
+  next_tame {s} {new} (no_peer x y z e) = quiet s new (cc) (cc) y
+  next_tame {s} {new} (waits i p x y z w e) = quiet s new (cc) (cc) z
   next_tame {s} {new} {calls} (goes_on i p out x g y) =
       let t = event_tame _ g.mid i _ _ calls _ g.takes.handles in
-      (like _ _ g.mid new (ap (λ z. z.files) g.follows.after) (ap (λ z. z.trees) g.follows.after) t.0, t.1)
+      (like _ _ g.mid new (cc) (cc) t.0, t.1)
   next_tame {s} {new} {calls} (closes i p out x g y) =
       let t = event_tame _ g.mid i _ _ calls _ g.takes.handles in
-      (like _ _ g.mid new (ap (λ z. z.files) g.after) (ap (λ z. z.trees) g.after) t.0, t.1)
-  next_tame {s} {new} (faulty i p out x g y) = quiet s new (ap (λ z. z.files) g.after) (ap (λ z. z.trees) g.after) g.made
-  next_tame {s} {new} (no_memory i p x g y) = quiet s new (ap (λ z. z.files) g.after) (ap (λ z. z.trees) g.after) g.made
+      (like _ _ g.mid new (cc) (cc) t.0, t.1)
+  next_tame {s} {new} (faulty i p out x g y) = quiet s new (cc) (cc) g.made
+  next_tame {s} {new} (no_memory i p x g y) = quiet s new (cc) (cc) g.made
 
   each_same : (peers s new sent : _) → FollowsEach dig peers s sent new → (new.files ≡ s.files) × (new.trees ≡ s.trees)
   each_same [] s new sent f = (ap (λ z. z.files) f.1, ap (λ z. z.trees) f.1)
@@ -204,23 +204,23 @@ module _ (dig : Digest) where
       (r.0 ∙ ap (λ z. z.files) f.3.after, r.1 ∙ ap (λ z. z.trees) f.3.after)
 
   connect_tame : {s new calls answer : _} → calls ≡ [] → StepConnect s answer new → Tame dig s.files s.trees calls new
-  connect_tame {s} {new} none (joins key bytes x y z w v e) = quiet s new (ap (λ z. z.files) e) (ap (λ z. z.trees) e) none
-  connect_tame {s} {new} none (full x y e) = quiet s new (ap (λ z. z.files) e) (ap (λ z. z.trees) e) none
-  connect_tame {s} {new} none (spent x y z e) = quiet s new (ap (λ z. z.files) e) (ap (λ z. z.trees) e) none
-  connect_tame {s} {new} none (no_room x y z e) = quiet s new (ap (λ z. z.files) e) (ap (λ z. z.trees) e) none
+  connect_tame {s} {new} none (joins key bytes x y z w v e) = quiet s new (cc) (cc) none
+  connect_tame {s} {new} none (full x y e) = quiet s new (cc) (cc) none
+  connect_tame {s} {new} none (spent x y z e) = quiet s new (cc) (cc) none
+  connect_tame {s} {new} none (no_room x y z e) = quiet s new (cc) (cc) none
 
   feed_tame : {s new key bytes calls answer : _} → calls ≡ [] → StepFeed s key bytes answer new → Tame dig s.files s.trees calls new
-  feed_tame {s} {new} none (feeds i p x y e) = quiet s new (ap (λ z. z.files) e) (ap (λ z. z.trees) e) none
-  feed_tame {s} {new} none (not_fed x y e) = quiet s new (ap (λ z. z.files) e) (ap (λ z. z.trees) e) none
-  feed_tame {s} {new} none (no_room_to_feed i p x y e) = quiet s new (ap (λ z. z.files) e) (ap (λ z. z.trees) e) none
+  feed_tame {s} {new} none (feeds i p x y e) = quiet s new (cc) (cc) none
+  feed_tame {s} {new} none (not_fed x y e) = quiet s new (cc) (cc) none
+  feed_tame {s} {new} none (no_room_to_feed i p x y e) = quiet s new (cc) (cc) none
 
   lost_tame : {s new key calls answer : _} → calls ≡ [] → StepLost s key answer new → Tame dig s.files s.trees calls new
-  lost_tame {s} {new} none (goes i p x y e) = quiet s new (ap (λ z. z.files) e) (ap (λ z. z.trees) e) none
-  lost_tame {s} {new} none (not_lost x y e) = quiet s new (ap (λ z. z.files) e) (ap (λ z. z.trees) e) none
+  lost_tame {s} {new} none (goes i p x y e) = quiet s new (cc) (cc) none
+  lost_tame {s} {new} none (not_lost x y e) = quiet s new (cc) (cc) none
 
   rechoke_tame : {s new calls answer : _} → calls ≡ [] → StepRechoke dig s answer new → Tame dig s.files s.trees calls new
   rechoke_tame {s} {new} none (rechokes out r x) = let same = each_same _ _ new _ r.follows in quiet s new same.0 same.1 none
-  rechoke_tame {s} {new} none (not_rechoked x e) = quiet s new (ap (λ z. z.files) e) (ap (λ z. z.trees) e) none
+  rechoke_tame {s} {new} none (not_rechoked x e) = quiet s new (cc) (cc) none
 
   -- a tree that comes from one that has grown
   grows_then : (s mid new : EngineState) → Grows dig s.files s.trees mid → Grows dig mid.files mid.trees new → Grows dig s.files s.trees new
@@ -242,7 +242,7 @@ module _ (dig : Digest) where
       let state : FileState = record g.state { states = g.states } in
       let extends = group_extends dig g in
       let placed = with_file s file state in (
-        like s.files s.trees (with_tree placed g.state.tree g.grown) new (ap (λ z. z.files) g.after) (ap (λ z. z.trees) g.after)
+        like s.files s.trees (with_tree placed g.state.tree g.grown) new (cc) (cc)
             (grows_then s placed (with_tree placed g.state.tree g.grown) (file_grows s file state g.is_file.here refl)
             (tree_grows placed g.state.tree g.grown g.is_file.hung extends.file_length extends.root (extends.values 0))),
         keep_is g.made (reads_keep file g.tree.file_length g.reads),
@@ -250,20 +250,20 @@ module _ (dig : Digest) where
 
   groups_tame : (s new file from groups total : _) → AdoptsGroups dig s file from groups total new
       → Grows dig s.files s.trees new × AllKeepBytes (flat_map (λ c. c) groups)
-  groups_tame s new file from [] total g = (stays s new (ap (λ z. z.files) g.1) (ap (λ z. z.trees) g.1), no_calls)
+  groups_tame s new file from [] total g = (stays s new (cc) (cc), no_calls)
   groups_tame s new file from (calls ∷ groups) total g =
       let one = group_tame g.3 in
       let more = groups_tame g.1 new file g.0.next groups g.2 g.4 in
       (grows_then s g.1 new one.0 more.0, append_keeps calls (flat_map (λ c. c) groups) one.1 more.1)
 
   adopt_tame : {s new file calls answer : _} → StepAdopt dig s file calls answer new → Tame dig s.files s.trees calls new
-  adopt_tame {s} {new} (no_file x y z e) = quiet s new (ap (λ z. z.files) e) (ap (λ z. z.trees) e) y
-  adopt_tame {s} {new} (busy x y z w e) = quiet s new (ap (λ z. z.files) e) (ap (λ z. z.trees) e) z
-  adopt_tame {s} {new} (empty f x y z w v e) = quiet s new (ap (λ z. z.files) e) (ap (λ z. z.trees) e) w
+  adopt_tame {s} {new} (no_file x y z e) = quiet s new (cc) (cc) y
+  adopt_tame {s} {new} (busy x y z w e) = quiet s new (cc) (cc) z
+  adopt_tame {s} {new} (empty f x y z w v e) = quiet s new (cc) (cc) w
   adopt_tame {s} {new} {file} (adopts total x a y) =
       let groups = groups_tame s a.mid file 0 a.groups total a.adopts in
       let settled = settled_grows s.files s.trees a.settles groups.0 in (
-        like s.files s.trees a.settled new (ap (λ z. z.files) a.after) (ap (λ z. z.trees) a.after) settled,
+        like s.files s.trees a.settled new (cc) (cc) settled,
         keeping (keep_is a.made (append_keeps (flat_map (λ c. c) a.groups) a.settling groups.1 (settled_keeps a.settles))),
       )
   adopt_tame {s} {new} {file} (not_adopted x a y) =
@@ -271,9 +271,9 @@ module _ (dig : Digest) where
       (groups.0, keeping (keep_is a.made (append_keeps (flat_map (λ c. c) a.groups) _ groups.1 (reads_keep file a.tree.file_length a.reads))))
 
   flush_tame : {s new calls answer : _} → StepFlush s calls answer new → Tame dig s.files s.trees calls new
-  flush_tame {s} {new} (syncs x y z e) = (stays s new (ap (λ z. z.files) e) (ap (λ z. z.trees) e), keeping (keep_is y (syncs_keep _)))
+  flush_tame {s} {new} (syncs x y z e) = (stays s new (cc) (cc), keeping (keep_is y (syncs_keep _)))
   flush_tame {s} {new} (fails before file after x y z e) = (
-    stays s new (ap (λ z. z.files) e) (ap (λ z. z.trees) e),
+    stays s new (cc) (cc),
     keeping (keep_is y (append_keeps (syncs_of before) ((file, sync_fault) ∷ []) (syncs_keep before) (λ c among. elim (contains_cases [] among) [
       | inl one ↦ rw (← one) tt
       | inr none ↦ absurd (contains_none none)

@@ -111,7 +111,7 @@ module _ (dig : Digest) (k grown : Facts) (from anchor first count : ℕ) (reads
   key_answer {m} i group whole accepts m_is aligned low high = record { request = request; digests = answers.0; answer = record { size = answers.1; values = λ t lt. answers.2 t (omega (arith, lt, answers.1)) } }
     where
       least : 1 ≤ m
-      least = let some = group.above in omega (arith, m_is)
+      least = omega arith
 
       under : m ≤ anchor
       under = omega (arith, m_is)
@@ -132,7 +132,7 @@ module _ (dig : Digest) (k grown : Facts) (from anchor first count : ℕ) (reads
       heights = cc
 
       below : i < (from / 2 ^ anchor + 1) * 2 ^ anchor
-      below = let few = few_blocks group in omega (arith, high, start)
+      below = omega arith
 
       ends : i + 2 ^ m ≤ (from / 2 ^ anchor + 1) * 2 ^ anchor
       ends = run_end m i under aligned below

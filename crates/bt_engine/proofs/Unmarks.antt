@@ -37,7 +37,7 @@ judged_keeps dig k (given b bytes ∷ reads) states i e = elim (set_get _ b i {y
     by true t same at rest = elim (rest (cc)) [ inl kept ↦ inl kept | inr w ↦ inr (more_wrong dig k _ reads i w) ]
     by false t same at rest = inr (
       bytes,
-      here reads (ap (λ n. given n bytes) (sym same)),
+      here reads (cc),
       λ r. (let yes = right_true r in absurd cc),
     )
 
@@ -181,8 +181,8 @@ module _ (dig : Digest) (b : BlockId) where
   next_stays : {s new key calls answer : _} → StepNext dig s key calls answer new → state_at s b ≡ Some Marked → Stays s calls new
   next_stays {calls} (no_peer x y z e) m = same_stays calls e m
   next_stays {calls} (waits i p x y z w e) m = same_stays calls e m
-  next_stays {new} (goes_on i p out peer g x) m = taken_stays new g.takes (ap (λ z. state_at z b) g.follows.after) m
-  next_stays {new} (closes i p out peer g x) m = taken_stays new g.takes (ap (λ z. state_at z b) g.after) m
+  next_stays {new} (goes_on i p out peer g x) m = taken_stays new g.takes (cc) m
+  next_stays {new} (closes i p out peer g x) m = taken_stays new g.takes (cc) m
   next_stays (faulty i p out peer g x) m = inl (cc)
   next_stays (no_memory i p peer g x) m = inl (cc)
 
@@ -327,7 +327,7 @@ module _ {D : Type 0} (history : D → History) (honest : D → Type 0) (faults 
   -- the device was there before, and honest
   device_before : (old new events calls answers : _) (disks after : List (Option D)) (file : _) {e : D} → RunOn history honest faults dig old disks events calls answers new after
       → slice_get after file ≡ Some (Some e) → honest e → (d : D) × (slice_get disks file ≡ Some (Some d)) × honest d
-  device_before old new [] [] [] disks after file {e} run there honest_now = (e, sym (ap (λ ds. slice_get ds file) run.1) ∙ there, honest_now)
+  device_before old new [] [] [] disks after file {e} run there honest_now = (e, sym (cc) ∙ there, honest_now)
   device_before old new (x ∷ xs) (c ∷ calls) (a ∷ answers) disks after file run there honest_now =
       let mid = device_before run.0 new xs calls answers run.1 after file run.4 there honest_now in
       let d = run.3.each file mid.0 mid.1 in
