@@ -1,6 +1,6 @@
 -- How what a file's device has already is taken in: what it marks, and what becomes of trees.
-use Rattle.bt_engine.proofs.Base.{◌≡◌, ◌≢◌, ℕ, ◌⊎◌, inl, inr, Bool, true, false, not, List, [], ◌∷◌, Some, refl, sym, ap, ◌∙◌, subst, slice_get, option_map, Contains, flat_map, option_and_then, eq-eqb, Contains-append_left, Contains-append_right, Call, Facts, given, call_of, IsRight, Marked, Adopted, Extends, store_marks, adopt_extends, BlockId}
-use Rattle.bt_engine.proofs.Machine.{Digest, Adopt, FileState, EngineState, DeviceCalls, reads_at, state_at, IsFile, judged_file, SettlesIn, AdoptsGroup, AdoptsGroups, is_other, AdoptsFile, StopsAdopting, StepAdopt, no_file, busy, empty, adopts, not_adopted as no_memory, IsFound, IsMarkedBy, read_back, found}
+use Rattle.bt_engine.proofs.Base.{◌≡◌, ◌≢◌, ℕ, ◌⊎◌, inl, inr, Bool, true, false, not, [], ◌∷◌, Some, refl, sym, ap, ◌∙◌, subst, slice_get, option_map, Contains, flat_map, option_and_then, eq-eqb, Contains-append_left, Contains-append_right, Call, Facts, given, call_of, IsRight, Marked, Adopted, Extends, store_marks, adopt_extends, BlockId}
+use Rattle.bt_engine.proofs.Machine.{Digest, Adopt, FileState, EngineState, reads_at, state_at, IsFile, judged_file, SettlesIn, AdoptsGroup, AdoptsGroups, is_other, AdoptsFile, StopsAdopting, StepAdopt, no_file, busy, empty, adopts, not_adopted as no_memory, IsFound, IsMarkedBy, read_back, found}
 use Rattle.bt_engine.proofs.Lists.{set_same, set_other, map_contains, and_then_some}
 use Rattle.bt_engine.proofs.Marks.{state_is, file_marked, settle_marks}
 
@@ -82,7 +82,8 @@ module _ (dig : Digest) where
 
     -- a block that was found in some calls is found in more of them, and in a later engine
     found_later : {file calls more mid new : _} → ((c : ℕ × Call) → Contains calls c → Contains more c)
-        → ((f : FileState) (k : Facts) → IsFile mid b.file f k → HasExtended new b.file k) → IsFound dig (Adopt file) calls mid b → IsFound dig (Adopt file) more new b
+        → ((f : FileState) (k : Facts) → IsFile mid b.file f k → HasExtended new b.file k) → IsFound dig (Adopt file) calls mid b
+        → IsFound dig (Adopt file) more new b
     found_later {more} {mid} {new} among forward x =
         let f = and_then_some (λ q. slice_get mid.trees q.tree) _ x.hung in
         let h = forward f.0 x.tree (record { here = f.1; hung = f.2 }) in

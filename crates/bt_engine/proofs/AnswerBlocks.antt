@@ -1,9 +1,9 @@
 -- What becomes of blocks that come and of requests.
-use Rattle.bt_engine.proofs.Base.{◌≡◌, ℕ, zero, suc, ◌⊎◌, inl, inr, Bool, true, false, List, [], ◌∷◌, ◌++◌, length, map, Some, None, Result, Ok, Err, refl, ap, ◌∙◌, subst, slice_get, slice_set, Contains, ◌&&◌, option_map_or, list_all, Contains-append_left, Contains-append_right, IsLawful, IsPlace, Span, Facts, value_at, PutIsDue, states_after_put, BlockRead, given, failed, call_of, IsRight, is_marked, BlockState, Missing, Waiting, Marked, StoreError, DeviceFault, Put, Wrong, PutMarked, PutWaiting, PeerKey, BlockId, Stream, Message, Ask, Request, Piece}
+use Rattle.bt_engine.proofs.Base.{◌≡◌, ℕ, zero, suc, ◌⊎◌, inl, inr, Bool, true, false, List, [], ◌∷◌, length, map, Some, None, Result, Ok, Err, refl, ap, ◌∙◌, subst, slice_get, slice_set, Contains, ◌&&◌, option_map_or, list_all, Contains-append_left, Contains-append_right, IsLawful, IsPlace, Span, Facts, value_at, PutIsDue, states_after_put, BlockRead, given, failed, call_of, IsRight, is_marked, Missing, Waiting, Marked, StoreError, DeviceFault, Put, Wrong, PutMarked, PutWaiting, PeerKey, BlockId, Stream, Message, Ask, Request, Piece}
 use Rattle.bt_engine.proofs.Machine.{Digest, Note, NowMarked, Damaged, Device, Complete, PeerState, FileState, EngineState, DeviceCalls, block_id, state_at, tree_of, with_file, with_peer, new_complete_files, IsWholeBlock, spanned_blocks, cut_from, Effect, noting, sending, AreMarked, IsFile, Serves, StopsAtFault, FindsFault, damaged as found_damaged, fault, HandlesRequest, ignored, no_place, not_marked, served, stopped, HasPutEffect, Arrives, HandlesPiece, stale, arrives, GoesOn, Closes, Answer, of_next, NotedBy, output_of, MarksBlock, marked, not_written, NextMarksRightBlock, ServesRange, sent, not_read, NextServesMarkedRange, WaitingIsNotComplete}
 use Rattle.bt_engine.specs.AnswerDue.{IsOutOfMemory, damaged}
 use Rattle.bt_engine.proofs.Lists.{and_then_some, same_some, here, set_same, map_contains}
-use Rattle.bt_engine.proofs.AnswerSends.{frame_to, follows_of}
+use Rattle.bt_engine.proofs.AnswerSends.{follows_of}
 use Rattle.bt_engine.proofs.AnswerPlaces.{same_place, same_block}
 use Rattle.bt_engine.proofs.AnswerDue.{Taken, no_room, goes, shuts, step_taken, sent_with}
 
@@ -64,7 +64,8 @@ module _ (dig : Digest) (s new : EngineState) (key : PeerKey) (i : ℕ) (p : Pee
   t = with_peer s i q
 
   -- it is the block that came, in the tree of its file
-  right_put : {effect mid : _} → tree_of s b.file ≡ Some tree → IsRight dig tree b.block bytes → (r : Arrives dig t i q piece begin bytes calls effect mid) → r.block ≡ b → PutRight r.block effect r.puts.result
+  right_put : {effect mid : _} → tree_of s b.file ≡ Some tree → IsRight dig tree b.block bytes
+      → (r : Arrives dig t i q piece begin bytes calls effect mid) → r.block ≡ b → PutRight r.block effect r.puts.result
   right_put hung exact r same =
       let there : tree_of s r.block.file ≡ Some r.puts.tree = cc in
       let one : r.puts.tree ≡ tree = cc in
@@ -72,7 +73,8 @@ module _ (dig : Digest) (s new : EngineState) (key : PeerKey) (i : ℕ) (p : Pee
       put_right dig _ bytes _ _ leaf r.puts.due r.puts.has_effect
 
   -- its state then
-  now_marked : {effect mid : _} (r : Arrives dig t i q piece begin bytes calls effect mid) → r.block ≡ b → r.puts.result ≡ Ok PutMarked → state_at mid b ≡ Some Marked
+  now_marked : {effect mid : _} (r : Arrives dig t i q piece begin bytes calls effect mid) → r.block ≡ b → r.puts.result ≡ Ok PutMarked
+      → state_at mid b ≡ Some Marked
   now_marked {mid} r same is =
       let after : FileState = record r.puts.file { states = states_after_put r.block.block r.puts.result r.puts.file.states } in
       let missing : slice_get r.puts.file.states r.block.block ≡ Some Missing = (subst (λ x. PutIsDue dig r.puts.tree r.block.block bytes r.puts.file.states x) is r.puts.due).1 in
@@ -82,20 +84,23 @@ module _ (dig : Digest) (s new : EngineState) (key : PeerKey) (i : ℕ) (p : Pee
       let stored : state_at (with_file t r.block.file after) r.block ≡ Some Marked = cc in
       rw (← same) (rw r.after (rw r.puts.after stored))
 
-  marks_by : {effect : Effect} {mid : _} → (state_at mid b ≡ Some Marked → state_at new b ≡ Some Marked) → ((note : Note) → Contains effect.notes note → NotedBy a note)
-      → (r : Arrives dig t i q piece begin bytes calls effect mid) → r.block ≡ b → PutRight r.block effect r.puts.result → MarksBlock b bytes calls a new
+  marks_by : {effect : Effect} {mid : _} → (state_at mid b ≡ Some Marked → state_at new b ≡ Some Marked)
+      → ((note : Note) → Contains effect.notes note → NotedBy a note) → (r : Arrives dig t i q piece begin bytes calls effect mid) → r.block ≡ b
+      → PutRight r.block effect r.puts.result → MarksBlock b bytes calls a new
   marks_by later_on noted r same (is_marked_now is e) =
       marked (later_on (now_marked r same is)) (noted (NowMarked b) (one_note (e ∙ ap (λ c. noting (NowMarked c)) same)))
   marks_by later_on noted r same (is_not_written is e) =
       not_written (cc)
       (noted (Device b.file) (one_note (e ∙ ap (λ c. noting (Device c.file)) same)))
 
-  piece_arrives : {effect mid : _} → IsWholeBlock s.torrent piece begin (length bytes) b → Contains p.asked b → HandlesPiece dig t i q piece begin bytes calls effect mid → Arrives dig t i q piece begin bytes calls effect mid
+  piece_arrives : {effect mid : _} → IsWholeBlock s.torrent piece begin (length bytes) b → Contains p.asked b
+      → HandlesPiece dig t i q piece begin bytes calls effect mid → Arrives dig t i q piece begin bytes calls effect mid
   piece_arrives whole asked (stale none x y z) = absurd (none b whole asked)
   piece_arrives whole asked (arrives r) = r
 
-  block_taken : IsLawful s.torrent.piece_length s.torrent.files → IsWholeBlock s.torrent piece begin (length bytes) b → Contains p.asked b → tree_of s b.file ≡ Some tree → IsRight dig tree b.block bytes
-      → Taken dig s i p (Message (Piece piece begin bytes)) rest calls a new → IsOutOfMemory a ⊎ MarksBlock b bytes calls a new
+  block_taken : IsLawful s.torrent.piece_length s.torrent.files → IsWholeBlock s.torrent piece begin (length bytes) b → Contains p.asked b
+      → tree_of s b.file ≡ Some tree → IsRight dig tree b.block bytes → Taken dig s i p (Message (Piece piece begin bytes)) rest calls a new
+      → IsOutOfMemory a ⊎ MarksBlock b bytes calls a new
   block_taken lawful whole asked hung exact (no_room e) = inl e
   block_taken lawful whole asked hung exact (goes out g h is) =
       let r = piece_arrives whole asked h in
@@ -129,7 +134,8 @@ module _ (dig : Digest) (s new : EngineState) (key : PeerKey) (i : ℕ) (p : Pee
     finds_damage : (j : ℕ) (bytes : List ℕ) → Contains (spanned_blocks span) j → ¬ IsRight dig tree j bytes → Called (given j bytes) → effect ≡ noting (Damaged (block_id span.file j)) → Serving effect
     cannot_read : (j : ℕ) → Contains (spanned_blocks span) j → Called (failed j) → effect ≡ noting (Device span.file) → Serving effect
 
-  finds : {mid j f read effect : _} → Contains (spanned_blocks span) j → Called read → FindsFault dig tree at_request span.file j f read effect mid → Serving effect
+  finds : {mid j f read effect : _} → Contains (spanned_blocks span) j → Called read → FindsFault dig tree at_request span.file j f read effect mid
+      → Serving effect
   finds {j} c called (found_damaged bytes x y e z) = finds_damage j bytes c y (subst Called x called) e
   finds {j} c called (fault x e y) = cannot_read j c (subst Called x called) e
 
@@ -149,7 +155,8 @@ module _ (dig : Digest) (s new : EngineState) (key : PeerKey) (i : ℕ) (p : Pee
       finds c (subst (λ k. Contains calls (span.file, call_of k.file_length f.read)) same called)
       (subst (λ k. FindsFault dig k at_request span.file f.block f.file f.read effect mid) same f.finds)
 
-  serving : {effect mid : _} → IsLawful s.torrent.piece_length s.torrent.files → p.am_choking ≡ false → IsPlace s.torrent ask.piece ask.begin ask.length span → AreMarked s span → tree_of s span.file ≡ Some tree
+  serving : {effect mid : _} → IsLawful s.torrent.piece_length s.torrent.files → p.am_choking ≡ false
+      → IsPlace s.torrent ask.piece ask.begin ask.length span → AreMarked s span → tree_of s span.file ≡ Some tree
       → HandlesRequest dig at_request i asker ask calls effect mid → Serving effect
   serving lawful open_to place are hung (ignored choked x y z) = absurd cc
   serving lawful open_to place are hung (no_place x none y z w) = absurd (none span place)
@@ -160,7 +167,8 @@ module _ (dig : Digest) (s new : EngineState) (key : PeerKey) (i : ℕ) (p : Pee
   serving {effect} {mid} lawful open_to place are hung (stopped other x there y f) =
       stops hung (subst (λ l. StopsAtFault dig at_request l calls effect mid) (same_place _ lawful.laid_out _ _ _ there place) f)
 
-  serves_by : {out : _} (g : GoesOn dig s i p calls out new) → a ≡ of_next (Ok (Some out)) → p.key ≡ key → Serving g.effect → ServesRange dig tree key ask span calls a
+  serves_by : {out : _} (g : GoesOn dig s i p calls out new) → a ≡ of_next (Ok (Some out)) → p.key ≡ key → Serving g.effect
+      → ServesRange dig tree key ask span calls a
   serves_by g is same (gives bytes right e) = sent bytes right (sent_with g is
       (rw (ap (λ x. x.send) e) (here [] (cc))))
   serves_by g is same (finds_damage j bytes c wrong called e) = damaged j bytes c wrong called (noted_with g is _ (one_note e))
@@ -171,8 +179,9 @@ module _ (dig : Digest) (s new : EngineState) (key : PeerKey) (i : ℕ) (p : Pee
   not_shut g (finds_damage j bytes c wrong called e) = not_closed e refl g.closed
   not_shut g (cannot_read j c called e) = not_closed e refl g.closed
 
-  request_taken : IsLawful s.torrent.piece_length s.torrent.files → p.am_choking ≡ false → IsPlace s.torrent ask.piece ask.begin ask.length span → AreMarked s span → tree_of s span.file ≡ Some tree → p.key ≡ key
-      → Taken dig s i p (Message (Request ask)) rest calls a new → IsOutOfMemory a ⊎ ServesRange dig tree key ask span calls a
+  request_taken : IsLawful s.torrent.piece_length s.torrent.files → p.am_choking ≡ false → IsPlace s.torrent ask.piece ask.begin ask.length span
+      → AreMarked s span → tree_of s span.file ≡ Some tree → p.key ≡ key → Taken dig s i p (Message (Request ask)) rest calls a new
+      → IsOutOfMemory a ⊎ ServesRange dig tree key ask span calls a
   request_taken lawful open_to place are hung same (no_room e) = inl e
   request_taken lawful open_to place are hung same (goes out g h is) = inr (serves_by g is same (serving lawful open_to place are hung h))
   request_taken lawful open_to place are hung same (shuts out g h is) = not_shut g (serving lawful open_to place are hung h)

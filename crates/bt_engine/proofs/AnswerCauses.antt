@@ -1,6 +1,6 @@
 -- A peer is closed only for what it sent.
-use Rattle.bt_engine.proofs.Base.{◌≡◌, ℕ, Some, None, Result, Ok, Err, refl, sym, ap, ◌∙◌, PutIsDue, StoreError, Range, Put, Already, Wrong, PeerKey, Stream, Takes, PeerMessage, Have, Bitfield, Request, Piece, HashRequest, Hashes, WireEvent, Hello, Message, Skipped}
-use Rattle.bt_engine.proofs.Machine.{Digest, Why, Event, Connect, Next, Rechoke, PeerState, EngineState, DeviceCalls, with_peer, Output, Effect, FindsFault, damaged, fault, HandlesRequest, ignored, no_place, not_marked, served, stopped, HasPutEffect, HandlesPiece, stale, arrives, HandlesHashRequest, answered, rejected, HandlesHashes, unknown_root, no_claim, refused, learns, HandlesHello, ours, other, HandlesHave, in_range, out_of_range, HandlesBitfield, right, wrong, HandlesMessage, Handles, IsPeer, StepNext, no_peer, waits, goes_on, closes, faulty, no_memory, StepConnect, joins, full, spent, no_room, StepRechoke, rechokes, not_rechoked, Answer, of_connect, of_next, of_rechoke, Step, output_of, IsCause, wire, other_torrent, past_last_piece, other_length, is_no_place, wrong_block, is_unknown_root, makes_no_claim, is_refused, StepClosesForCause}
+use Rattle.bt_engine.proofs.Base.{◌≡◌, ℕ, Some, None, Result, Ok, Err, refl, sym, ap, ◌∙◌, PutIsDue, StoreError, Range, Put, Already, Wrong, PeerKey, Stream, Takes, PeerMessage, Have, Bitfield, Request, Piece, HashRequest, Hashes, Hello, Message, Skipped}
+use Rattle.bt_engine.proofs.Machine.{Digest, Why, Event, Connect, Next, Rechoke, PeerState, EngineState, with_peer, Effect, FindsFault, damaged, fault, HandlesRequest, ignored, no_place, not_marked, served, stopped, HasPutEffect, HandlesPiece, stale, arrives, HandlesHashRequest, answered, rejected, HandlesHashes, unknown_root, no_claim, refused, learns, HandlesHello, ours, other, HandlesHave, in_range, out_of_range, HandlesBitfield, right, wrong, HandlesMessage, Handles, IsPeer, StepNext, no_peer, waits, goes_on, closes, faulty, no_memory, StepConnect, joins, full, spent, no_room, StepRechoke, rechokes, not_rechoked, of_connect, of_next, of_rechoke, Step, output_of, IsCause, wire, other_torrent, past_last_piece, other_length, is_no_place, wrong_block, is_unknown_root, makes_no_claim, is_refused, StepClosesForCause}
 use Rattle.bt_engine.specs.AnswerLaw.{Closes}
 
 -- nothing closes where an effect does not
@@ -53,7 +53,8 @@ module _ (dig : Digest) (s : EngineState) (i : ℕ) (p : PeerState) (rest : Stre
   request_causes takes (served span a place c f) = open_still f.sent refl
   request_causes takes (stopped span a c d f) = fault_causes f.finds
 
-  piece_causes : {mid piece begin bytes calls effect : _} → Takes p.stream (Message (Piece piece begin bytes)) rest → HandlesPiece dig t i q piece begin bytes calls effect mid → Causes effect
+  piece_causes : {mid piece begin bytes calls effect : _} → Takes p.stream (Message (Piece piece begin bytes)) rest
+      → HandlesPiece dig t i q piece begin bytes calls effect mid → Causes effect
   piece_causes takes (stale x y e z) = open_still e refl
   piece_causes {piece} {begin} {bytes} {effect} takes (arrives a) = by _ a.puts.due a.puts.has_effect
     where
@@ -65,11 +66,13 @@ module _ (dig : Digest) (s : EngineState) (i : ℕ) (p : PeerState) (rest : Stre
       by (Err Range) due e = absurd e
       by _ due e = open_still e refl
 
-  hashes_causes : {mid key digests calls effect : _} → Takes p.stream (Message (Hashes key digests)) rest → HandlesHashes dig t i q key digests calls effect mid → Causes effect
+  hashes_causes : {mid key digests calls effect : _} → Takes p.stream (Message (Hashes key digests)) rest
+      → HandlesHashes dig t i q key digests calls effect mid → Causes effect
   hashes_causes {key} {digests} takes (unknown_root x y e z) =
       closes_for e refl (is_unknown_root key digests rest takes (λ tree k is. x tree k (record { here = is.here; same_root = is.same_root })))
   hashes_causes {key} {digests} takes (no_claim f x y c) =
-      closes_for c.has_effect refl (makes_no_claim key digests rest f takes (λ all. x (λ tree k is. all tree k (record { here = is.here; same_root = is.same_root }))) y c.not_memory)
+      closes_for c.has_effect refl
+      (makes_no_claim key digests rest f takes (λ all. x (λ tree k is. all tree k (record { here = is.here; same_root = is.same_root }))) y c.not_memory)
   hashes_causes {key} {digests} takes (refused f tree k c x y z g) =
       closes_for g.has_effect refl (is_refused key digests rest f tree k c takes (record { here = x.here; same_root = x.same_root }) y z g.not_memory)
   hashes_causes takes (learns l) = open_still l.has_effect refl
@@ -78,7 +81,8 @@ module _ (dig : Digest) (s : EngineState) (i : ℕ) (p : PeerState) (rest : Stre
   answer_causes (answered digests x e) = open_still e refl
   answer_causes (rejected x e) = open_still e refl
 
-  message_causes : (mid : _) (m : PeerMessage) (calls effect : _) → Takes p.stream (Message m) rest → HandlesMessage dig t i q m calls effect mid → Causes effect
+  message_causes : (mid : _) (m : PeerMessage) (calls effect : _) → Takes p.stream (Message m) rest → HandlesMessage dig t i q m calls effect mid
+      → Causes effect
   message_causes mid (Have piece) calls effect takes h = have_causes takes h.1
   message_causes mid (Bitfield bytes) calls effect takes h = bits_causes takes h.1
   message_causes mid (Request ask) calls effect takes h = request_causes takes h

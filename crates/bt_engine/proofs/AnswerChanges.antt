@@ -1,6 +1,6 @@
 -- What changed of a peer is sent to it.
 use Rattle.bt_engine.proofs.Base.{◌≡◌, ◌≢◌, ℕ, zero, suc, ◌<◌, inl, inr, true, false, List, [], ◌∷◌, ◌++◌, length, map, Some, refl, sym, ap, ◌∙◌, subst, arith, slice_get, slice_set, Contains, range_with_len, Contains-append_left, Contains-append_right, Contains-append_cases, HashKey, PeerKey, BlockId, Ask, Interested, NotInterested, Request, HashRequest}
-use Rattle.bt_engine.proofs.Machine.{Digest, Event, Connect, Feed, Next, Lost, Rechoke, Adopt, Flush, Asked, PeerState, EngineState, DeviceCalls, IsWholeBlock, Sent, haves, FollowsUp, RequestsHashes, requests, rests, RequestsBlock, RequestsEach, interest_sent, IsPeer, without_peer, TakesEvent, GoesOn, StepNext, no_peer, waits, goes_on, closes, faulty, no_memory, StepConnect, joins, full, spent, no_room, StepFeed, feeds, not_fed, no_room as no_room_to_feed, StepLost, goes, not_fed as not_lost, FollowsEach, StepRechoke, rechokes, not_rechoked, chokes_sent, rechoked, StepAdopt, no_file, busy, empty, adopts, not_adopted, StepFlush, syncs, fails, Answer, of_next, of_rechoke, Step, sent_by, ChangesInterest, IsOnlyPeer, IsSentChanges, StepSendsChanges}
+use Rattle.bt_engine.proofs.Machine.{Digest, Connect, Feed, Next, Lost, Rechoke, Adopt, Flush, Asked, PeerState, EngineState, IsWholeBlock, Sent, haves, FollowsUp, RequestsHashes, requests, rests, RequestsBlock, RequestsEach, interest_sent, IsPeer, without_peer, TakesEvent, GoesOn, StepNext, no_peer, waits, goes_on, closes, faulty, no_memory, StepConnect, joins, full, spent, no_room, StepFeed, feeds, not_fed, no_room as no_room_to_feed, StepLost, goes, not_fed as not_lost, FollowsEach, StepRechoke, rechokes, not_rechoked, chokes_sent, rechoked, StepAdopt, no_file, busy, empty, adopts, not_adopted, StepFlush, syncs, fails, of_next, of_rechoke, Step, sent_by, ChangesInterest, IsOnlyPeer, IsSentChanges, StepSendsChanges}
 use Rattle.bt_engine.proofs.Lists.{same_some, contains_none, contains_cases, here, later, set_cases, set_same}
 use Rattle.bt_engine.proofs.Pairs.{other_without}
 use Rattle.bt_engine.proofs.AnswerParts.{AsksLess, asks_same, event_leaves}

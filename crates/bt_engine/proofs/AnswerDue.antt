@@ -1,9 +1,8 @@
 -- What a message must lead to: the event that stands first is the one that is taken.
-use Rattle.bt_engine.proofs.Base.{◌≡◌, ℕ, ◌⊎◌, inl, inr, List, [], ◌++◌, Some, Ok, ap, ◌∙◌, Contains, concat, Contains-append_left, PeerKey, HashKey, Stream, Takes, Waits, WireEvent, Message, HashRequest, Hashes, HashReject, same_event, fault_alone}
+use Rattle.bt_engine.proofs.Base.{◌≡◌, ℕ, ◌⊎◌, inl, inr, List, [], ◌++◌, Some, Ok, ap, ◌∙◌, Contains, Contains-append_left, PeerKey, HashKey, Stream, Takes, Waits, WireEvent, Message, HashRequest, same_event, fault_alone}
 use Rattle.bt_engine.proofs.Machine.{Digest, Next, PeerState, EngineState, DeviceCalls, with_peer, Output, Effect, haves, IsAnswered, HandlesHashRequest, answered, rejected, Handles, IsPeer, GoesOn, Closes, ShowsFault, StepNext, no_peer, waits, goes_on, closes, faulty, no_memory, Answer, of_next, Step, sent_by, IsOnlyPeer, AnswersHashes, unknown, NextAnswersHashRequest}
 use Rattle.bt_engine.specs.AnswerDue.{IsOutOfMemory, known}
 use Rattle.bt_engine.proofs.Lists.{here}
-use Rattle.bt_engine.proofs.AnswerSends.{frame_to}
 
 -- ---- a stream determines its event
 
@@ -61,7 +60,8 @@ module _ (dig : Digest) {s : EngineState} (new : EngineState) {key : PeerKey} {i
 -- what the event itself sends is sent
 pub sent_with : {dig s new i p calls out a : _} (g : GoesOn dig s i p calls out new) → a ≡ of_next (Ok (Some out))
     → {x : _} → Contains g.effect.send x → Contains (sent_by a) x
-sent_with {s} g is {x} c = rw is (rw g.send (Contains-append_left (g.effect.send ++ haves s g.mid) g.sent x (Contains-append_left g.effect.send (haves s g.mid) x c)))
+sent_with {s} g is {x} c =
+    rw is (rw g.send (Contains-append_left (g.effect.send ++ haves s g.mid) g.sent x (Contains-append_left g.effect.send (haves s g.mid) x c)))
 
 -- ---- hash requests
 
@@ -72,14 +72,17 @@ module _ (dig : Digest) {s : EngineState} (new : EngineState) {key : PeerKey} {i
   same_unknown : {digests : _} → IsAnswered dig s asked digests → IsAnswered dig (with_peer s i (record p { stream = rest })) asked digests
   same_unknown k = record { tree = k.tree; facts = k.facts; here = record { here = k.here.here; same_root = k.here.same_root }; request = k.request; answer = k.answer }
 
-  by_hashes : {out : _} (g : GoesOn dig s i p calls out new) → a ≡ of_next (Ok (Some out)) → HandlesHashRequest dig (with_peer s i (record p { stream = rest })) (record p { stream = rest }) asked g.effect → AnswersHashes dig s a key asked
+  by_hashes : {out : _} (g : GoesOn dig s i p calls out new) → a ≡ of_next (Ok (Some out))
+      → HandlesHashRequest dig (with_peer s i (record p { stream = rest })) (record p { stream = rest }) asked g.effect
+      → AnswersHashes dig s a key asked
   by_hashes g is (answered digests k e) = known digests (same_answers k) (sent_with g is
       (rw (ap (λ x. x.send) e) (here [] (cc))))
   by_hashes g is (rejected none e) = unknown (λ digests k. none digests (same_unknown k)) (sent_with g is
       (rw (ap (λ x. x.send) e) (here [] (cc))))
 
   -- such an event closes nobody
-  not_shut : {X : Type 0} {out : _} (g : Closes dig s i p calls out new) → HandlesHashRequest dig (with_peer s i (record p { stream = rest })) (record p { stream = rest }) asked g.effect → X
+  not_shut : {X : Type 0} {out : _} (g : Closes dig s i p calls out new)
+      → HandlesHashRequest dig (with_peer s i (record p { stream = rest })) (record p { stream = rest }) asked g.effect → X
   not_shut g (answered digests k e) = absurd cc
   not_shut g (rejected none e) = absurd cc
 

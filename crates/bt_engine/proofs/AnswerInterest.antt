@@ -7,7 +7,8 @@ use Rattle.bt_engine.proofs.AnswerSends.{set_other, frame_to, Follows, follows_o
 use Rattle.bt_engine.proofs.AnswerRequests.{has_in, missing_in}
 
 -- what follows changes no block and no piece of the peer
-interesting_in : (s new : EngineState) (p q : PeerState) → new.torrent ≡ s.torrent → new.files ≡ s.files → q.has ≡ p.has → IsInteresting s p → IsInteresting new q
+interesting_in : (s new : EngineState) (p q : PeerState) → new.torrent ≡ s.torrent → new.files ≡ s.files → q.has ≡ p.has → IsInteresting s p
+    → IsInteresting new q
 interesting_in s new p q t f h i = (i.0, has_in s new p q i.0 t h i.1, missing_in s new i.0 f i.2)
 
 -- the peer that stands there in the old engine has the same key, and the same flag
@@ -23,8 +24,8 @@ record ChangesAt (old new : EngineState) (key : PeerKey) (was now : Bool) (place
   at_place : changes.place ≡ place
 
 -- a peer whose interest changed by what follows for it
-changes_by : {old s new i sent : _} (f : Follows s i sent new) → WasSo old i f.peer → {key was now : _} → f.peer.am_interested ≡ was → f.after.am_interested ≡ now
-    → f.peer.key ≡ key → ChangesAt old new key was now i
+changes_by : {old s new i sent : _} (f : Follows s i sent new) → WasSo old i f.peer → {key was now : _} → f.peer.am_interested ≡ was
+    → f.after.am_interested ≡ now → f.peer.key ≡ key → ChangesAt old new key was now i
 changes_by {s} {new} {i} f w x y k = record {
   changes = record {
     place = i;
@@ -43,7 +44,8 @@ changes_by {s} {new} {i} f w x y k = record {
 }
 
 -- and it stays so while others follow
-stays_changed : {old s new i sent : _} → Follows s i sent new → {key was now place : _} → (i ≡ place → ⊥) → ChangesAt old s key was now place → ChangesAt old new key was now place
+stays_changed : {old s new i sent : _} → Follows s i sent new → {key was now place : _} → (i ≡ place → ⊥) → ChangesAt old s key was now place
+    → ChangesAt old new key was now place
 stays_changed {s} {new} {i} f {place} apart c = record {
   changes = record {
     place = c.changes.place;
@@ -70,14 +72,15 @@ record Tells (old new : EngineState) (sent : List Sent) : Type 0 where
   uninterested : (key : PeerKey) → Contains sent (frame_to key NotInterested) → ChangesInterest old new key true false
 
 module _ (dig : Digest) where
-  each_stays : (n a : ℕ) {old s new : _} (sent : _) → FollowsEach dig (range_with_len a n) s sent new → {key was now place : _} → place < a → ChangesAt old s key was now place
-      → ChangesAt old new key was now place
+  each_stays : (n a : ℕ) {old s new : _} (sent : _) → FollowsEach dig (range_with_len a n) s sent new → {key was now place : _} → place < a
+      → ChangesAt old s key was now place → ChangesAt old new key was now place
   each_stays zero a {old} sent f {key} {was} {now} {place} below c = rw f.1 c
   each_stays (suc n) a sent f below c =
       each_stays n _ f.2 f.4 (omega arith)
       (stays_changed (follows_of f.3) (λ e. absurd (omega arith)) c)
 
-  each_tells : (n a : ℕ) {old : _} (s : _) {new sent : _} → FollowsEach dig (range_with_len a n) s sent new → ((j : ℕ) (q : PeerState) → a ≤ j → slice_get s.peers j ≡ Some q → WasSo old j q) → Tells old new sent
+  each_tells : (n a : ℕ) {old : _} (s : _) {new sent : _} → FollowsEach dig (range_with_len a n) s sent new
+      → ((j : ℕ) (q : PeerState) → a ≤ j → slice_get s.peers j ≡ Some q → WasSo old j q) → Tells old new sent
   each_tells zero a s f was_so = record {
     interested = λ key c. absurd (contains_none (subst (λ l. Contains l (frame_to key Interested)) f.0 c));
     uninterested = λ key c. absurd (contains_none (subst (λ l. Contains l (frame_to key NotInterested)) f.0 c));

@@ -1,6 +1,6 @@
 -- A block that becomes marked is noted.
-use Rattle.bt_engine.proofs.Base.{◌≡◌, ℕ, ◌⊎◌, inl, inr, true, false, List, [], ◌∷◌, length, map, Some, Result, Ok, refl, sym, ap, ◌∙◌, subst, slice_get, Contains, nat_eq, if◌then◌else◌, pointwise, eq-eqb, Contains-append_left, block_length, states_after_put, given, is_leaf, is_right, IsRight, judged, BlockState, Marked, StoreError, Put, PutMarked, PutWaiting, PeerKey, BlockId, WireEvent, Hello, Message, Skipped, PeerMessage, KeepAlive, Choke, Unchoke, Interested, NotInterested, Have, Bitfield, Request, Piece, Cancel, HashRequest, Hashes, HashReject}
-use Rattle.bt_engine.proofs.Machine.{Digest, Note, NowMarked, Freed, PeerState, FileState, EngineState, DeviceCalls, state_at, with_file, with_peer, Effect, noting, FindsFault, damaged as found_damaged, fault, HandlesRequest, ignored, no_place, not_marked, served, stopped, HasPutEffect, HandlesPiece, stale, arrives, Settles, read_note, settling_notes, HandlesHashes, unknown_root, no_claim, refused, learns, HandlesHave, in_range, out_of_range, HandlesBitfield, right, wrong, HandlesMessage, Handles, StepNext, no_peer as none_such, waits, goes_on, closes, faulty, no_memory, of_next, NotedBy, NextNotesMarkedBlocks}
+use Rattle.bt_engine.proofs.Base.{◌≡◌, ℕ, ◌⊎◌, inl, inr, true, false, [], ◌∷◌, length, map, Some, Result, Ok, refl, sym, ap, ◌∙◌, subst, slice_get, Contains, nat_eq, if◌then◌else◌, pointwise, eq-eqb, Contains-append_left, block_length, states_after_put, given, is_leaf, is_right, IsRight, judged, Marked, StoreError, Put, PutMarked, PutWaiting, PeerKey, BlockId, Hello, Message, Skipped, PeerMessage, KeepAlive, Choke, Unchoke, Interested, NotInterested, Have, Bitfield, Request, Piece, Cancel, HashRequest, Hashes, HashReject}
+use Rattle.bt_engine.proofs.Machine.{Digest, NowMarked, Freed, PeerState, FileState, EngineState, DeviceCalls, state_at, with_file, with_peer, Effect, noting, FindsFault, damaged as found_damaged, fault, HandlesRequest, ignored, no_place, not_marked, served, stopped, HasPutEffect, HandlesPiece, stale, arrives, Settles, read_note, settling_notes, HandlesHashes, unknown_root, no_claim, refused, learns, HandlesHave, in_range, out_of_range, HandlesBitfield, right, wrong, HandlesMessage, Handles, StepNext, no_peer as none_such, waits, goes_on, closes, faulty, no_memory, of_next, NotedBy, NextNotesMarkedBlocks}
 use Rattle.bt_engine.proofs.Lists.{and_then_some, map_some, set_cases, set_same, map_contains, flat_map_contains, range_contains, some_below}
 use Rattle.bt_engine.proofs.Marks.{state_is, file_marked, missing_marks, judged_marks}
 use Rattle.bt_engine.proofs.AnswerParts.{event_leaves}
@@ -13,7 +13,8 @@ same_leaf (x ∷ d) = rw (eq-eqb x x refl) (same_leaf d)
 
 -- right bytes are told to be right
 pub right_true : {dig k i bytes : _} → IsRight dig k i bytes → is_right dig k i bytes ≡ true
-right_true {dig} {k} {i} {bytes} r = rw (eq-eqb (length bytes) (block_length k.file_length i) r.whole) (ap (λ o. is_leaf o (dig bytes)) r.leaf ∙ same_leaf (dig bytes))
+right_true {dig} {k} {i} {bytes} r =
+    rw (eq-eqb (length bytes) (block_length k.file_length i) r.whole) (ap (λ o. is_leaf o (dig bytes)) r.leaf ∙ same_leaf (dig bytes))
 
 -- what was marked in the course of an event is noted by it
 abbrev NotesMark : EngineState → Effect → EngineState → BlockId → Type 0
@@ -23,7 +24,8 @@ module _ (dig : Digest) (t mid : EngineState) (i : ℕ) (p : PeerState) (b : Blo
   as_before : {m : _} → mid ≡ m → (state_at m b ≡ Some Marked → state_at t b ≡ Some Marked) → state_at mid b ≡ Some Marked → NotesMark t effect mid b
   as_before e kept now = inl (kept (rw (← e) now))
 
-  fault_notes : {k file j f read : _} → slice_get t.files file ≡ Some f → FindsFault dig k t file j f read effect mid → state_at mid b ≡ Some Marked → NotesMark t effect mid b
+  fault_notes : {k file j f read : _} → slice_get t.files file ≡ Some f → FindsFault dig k t file j f read effect mid → state_at mid b ≡ Some Marked
+      → NotesMark t effect mid b
   fault_notes {j} {f} at (found_damaged bytes x y z e) m = as_before e (λ now. elim (file_marked t _ b now) [
     | inl one ↦ state_is t b (ap (slice_get t.files) one.0 ∙ at) (missing_marks _ j _ one.1)
     | inr old ↦ old
@@ -38,15 +40,18 @@ module _ (dig : Digest) (t mid : EngineState) (i : ℕ) (p : PeerState) (b : Blo
   request_notes (stopped span x c d f) m = fault_notes f.is_file.here f.finds m
 
   -- a block was put: it alone can be marked by that
-  put_notes : (c : BlockId) {f : _} (states : _) {stored : _} (q : _) → slice_get t.files c.file ≡ Some f → stored ≡ with_file t c.file (record f { states = states }) → mid ≡ with_peer stored i q
-      → (slice_get states b.block ≡ Some Marked → b.file ≡ c.file → (slice_get f.states b.block ≡ Some Marked) ⊎ Contains effect.notes (NowMarked b)) → state_at mid b ≡ Some Marked → NotesMark t effect mid b
+  put_notes : (c : BlockId) {f : _} (states : _) {stored : _} (q : _) → slice_get t.files c.file ≡ Some f
+      → stored ≡ with_file t c.file (record f { states = states }) → mid ≡ with_peer stored i q
+      → (slice_get states b.block ≡ Some Marked → b.file ≡ c.file → (slice_get f.states b.block ≡ Some Marked) ⊎ Contains effect.notes (NowMarked b))
+      → state_at mid b ≡ Some Marked → NotesMark t effect mid b
   put_notes c {f} states q at is after changes m =
       elim (file_marked t _ b (subst (λ x. state_at x b ≡ Some Marked) is (subst (λ x. state_at x b ≡ Some Marked) after m))) [
         | inl one ↦ elim (changes one.1 one.0) [ inl before ↦ inl (state_is t b (ap (slice_get t.files) one.0 ∙ at) before) | inr noted ↦ inr noted ]
         | inr old ↦ inl old
       ]
 
-  put_changes : (c states : _) (r : Result Put StoreError) → HasPutEffect c r effect → slice_get (states_after_put c.block r states) b.block ≡ Some Marked → b.file ≡ c.file
+  put_changes : (c states : _) (r : Result Put StoreError) → HasPutEffect c r effect
+      → slice_get (states_after_put c.block r states) b.block ≡ Some Marked → b.file ≡ c.file
       → (slice_get states b.block ≡ Some Marked) ⊎ Contains effect.notes (NowMarked b)
   put_changes c states (Ok PutMarked) e now file = elim (set_cases states c.block b.block now) [
     | inl one ↦ inr (one_note (e ∙ ap (λ n. noting (NowMarked (record c { file = n }))) (sym file) ∙ ap (λ n. noting (NowMarked (record b { block = n }))) (sym one.0)))
@@ -55,10 +60,12 @@ module _ (dig : Digest) (t mid : EngineState) (i : ℕ) (p : PeerState) (b : Blo
   put_changes c states (Ok PutWaiting) e now file = elim (set_cases states c.block b.block now) [ inl one ↦ absurd cc | inr old ↦ inl old ]
   put_changes c states _ e now file = inl now
 
-  piece_notes : {piece begin bytes calls : _} → HandlesPiece dig t i p piece begin bytes calls effect mid → state_at mid b ≡ Some Marked → NotesMark t effect mid b
+  piece_notes : {piece begin bytes calls : _} → HandlesPiece dig t i p piece begin bytes calls effect mid → state_at mid b ≡ Some Marked
+      → NotesMark t effect mid b
   piece_notes (stale x y z e) m = as_before e (λ now. now) m
   piece_notes (arrives r) m =
-      put_notes r.block (states_after_put r.block.block r.puts.result r.puts.file.states) _ r.puts.is_file.here r.puts.after r.after (put_changes r.block r.puts.file.states r.puts.result r.puts.has_effect) m
+      put_notes r.block (states_after_put r.block.block r.puts.result r.puts.file.states) _ r.puts.is_file.here r.puts.after r.after
+      (put_changes r.block r.puts.file.states r.puts.result r.puts.has_effect) m
 
   -- a block that was read back and marked is noted
   settle_notes : (tree from count calls notes old settled : _) → Settles dig tree from count old calls notes settled → state_at settled b ≡ Some Marked

@@ -1,6 +1,6 @@
 -- The parts of what is sent, and what a wire event leaves of the engine and its peer.
-use Rattle.bt_engine.proofs.Base.{◌≡◌, ℕ, inl, inr, Bool, true, false, not, List, [], ◌∷◌, ◌++◌, map, Some, Result, Ok, Err, refl, sym, ap, ◌∙◌, slice_get, slice_set, Contains, if◌then◌else◌, Contains-append_cases, Facts, HashKey, BlockRead, given, failed, is_right, states_after_put, StoreError, DeviceFault, Put, Wrong, PutMarked, PutWaiting, BlockId, is_block, PeerMessage, KeepAlive, Choke, Unchoke, Interested, NotInterested, Have, Bitfield, Request, Piece, Cancel, HashRequest, Hashes, HashReject, WireEvent, Hello, Message, Skipped}
-use Rattle.bt_engine.proofs.Machine.{Digest, Frame, hello_frame, message_frame, Note, Device, Complete, Why, Idle, Asked, Refused, PeerState, FileState, EngineState, DeviceCalls, with_file, with_peer, with_tree, file_numbers, Sent, Effect, sent_to, haves, no_effect, noting, closing, sending, FindsFault, damaged, fault, HandlesRequest, ignored, no_place, not_marked, served, stopped, HasPutEffect, Arrives, HandlesPiece, stale, arrives, settling_notes, read_note, HandlesHashRequest, answered, rejected, HandlesHashes, unknown_root, no_claim, refused, learns, new_proofs, Resolves, resolved as ours_asked, other_asked, HandlesHello, ours, other, HandlesHave, in_range, out_of_range, HandlesBitfield, right, wrong, HandlesMessage, Handles, interest_sent, RequestsHashes, requests, rests, RequestsEach}
+use Rattle.bt_engine.proofs.Base.{◌≡◌, ℕ, inl, inr, Bool, true, false, not, List, [], ◌∷◌, ◌++◌, map, Some, Result, Ok, Err, refl, sym, ap, ◌∙◌, slice_get, slice_set, Contains, if◌then◌else◌, Contains-append_cases, HashKey, BlockRead, given, failed, is_right, states_after_put, StoreError, DeviceFault, Put, Wrong, PutMarked, PutWaiting, BlockId, is_block, PeerMessage, KeepAlive, Choke, Unchoke, Interested, NotInterested, Have, Bitfield, Request, Piece, Cancel, HashRequest, Hashes, HashReject, Hello, Message, Skipped}
+use Rattle.bt_engine.proofs.Machine.{Digest, Frame, hello_frame, message_frame, Note, Device, Complete, Why, Idle, Asked, Refused, PeerState, FileState, EngineState, with_file, with_peer, with_tree, file_numbers, Sent, Effect, sent_to, haves, no_effect, noting, closing, sending, FindsFault, damaged, fault, HandlesRequest, ignored, no_place, not_marked, served, stopped, HasPutEffect, Arrives, HandlesPiece, stale, arrives, settling_notes, read_note, HandlesHashRequest, answered, rejected, HandlesHashes, unknown_root, no_claim, refused, learns, new_proofs, Resolves, resolved as ours_asked, other_asked, HandlesHello, ours, other, HandlesHave, in_range, out_of_range, HandlesBitfield, right, wrong, HandlesMessage, Handles, interest_sent, RequestsHashes, requests, rests, RequestsEach}
 use Rattle.bt_engine.proofs.Lists.{contains_none, contains_cases, contains_filter, contains_map, contains_flat_map, set_id}
 
 -- ---- parts of what is sent
@@ -162,7 +162,8 @@ module _ (dig : Digest) (s : EngineState) (i : ℕ) {p : PeerState} (at : slice_
   }))
 
   -- a file is another, and the peer stays connected
-  changes_file : (file f : _) {e effect mid : _} → IsQuiet e → ((why : Why) → e.close ≡ Some why → ⊥) → effect ≡ e → mid ≡ with_file s file f → Leaves s i p effect mid
+  changes_file : (file f : _) {e effect mid : _} → IsQuiet e → ((why : Why) → e.close ≡ Some why → ⊥) → effect ≡ e → mid ≡ with_file s file f
+      → Leaves s i p effect mid
   changes_file file f {e} {mid} quiet open_still same after = rw same (rw after (record {
     peer = p;
     same_key = refl;
@@ -215,7 +216,8 @@ module _ (dig : Digest) (s : EngineState) (i : ℕ) {p : PeerState} (at : slice_
   put_leaves b {file} {q} r states {effect} there k f less has same is after =
       rw (after ∙ ap (λ x. with_peer x i q) is) (of_effect r has same)
     where
-      leaves : {e : _} → IsQuiet e → ((why : Why) → e.close ≡ Some why → states ≡ file.states) → effect ≡ e → Leaves s i p effect (with_peer (with_file s b.file (record file { states = states })) i q)
+      leaves : {e : _} → IsQuiet e → ((why : Why) → e.close ≡ Some why → states ≡ file.states) → effect ≡ e
+          → Leaves s i p effect (with_peer (with_file s b.file (record file { states = states })) i q)
       leaves quiet kept same_effect = rw same_effect (record {
         peer = q;
         same_key = k;
@@ -228,7 +230,8 @@ module _ (dig : Digest) (s : EngineState) (i : ℕ) {p : PeerState} (at : slice_
         closed = λ why c. ap (λ l. slice_set s.files b.file (record file { states = l })) (kept why c) ∙ set_id _ _ there;
       })
 
-      of_effect : (r : Result Put StoreError) → HasPutEffect b r effect → (r ≡ Ok Wrong → states ≡ file.states) → Leaves s i p effect (with_peer (with_file s b.file (record file { states = states })) i q)
+      of_effect : (r : Result Put StoreError) → HasPutEffect b r effect → (r ≡ Ok Wrong → states ≡ file.states)
+          → Leaves s i p effect (with_peer (with_file s b.file (record file { states = states })) i q)
       of_effect (Ok PutMarked) e same = leaves (notes_quietly _ refl) (λ why c. absurd cc) e
       of_effect (Ok PutWaiting) e same = leaves (notes_quietly _ refl) (λ why c. absurd cc) e
       of_effect (Ok Wrong) e same = leaves (closes_quietly _) (λ why c. same refl) e

@@ -1,6 +1,6 @@
 -- Haves and completed files are told exactly where pieces became whole and files complete.
 use Rattle.bt_engine.proofs.Base.{◌≡◌, ℕ, zero, suc, ◌+◌, ◌<◌, ◌⊎◌, inl, inr, ◌↔◌, Bool, true, false, List, [], ◌∷◌, ◌++◌, length, map, Some, None, Ok, refl, sym, ap, ◌∙◌, subst, arith, slice_get, Contains, not, filter, ◌&&◌, cond, range_with_len, Contains-append_left, Contains-append_right, Contains-append_cases, total_pieces, Adopted, PeerKey, Have}
-use Rattle.bt_engine.proofs.Machine.{Digest, Frame, message_frame, Note, Complete, Event, Connect, Feed, Next, Lost, Rechoke, Adopt, Flush, PeerState, EngineState, DeviceCalls, with_peer, is_whole, is_complete, has_become, new_whole_pieces, new_complete_files, piece_numbers, file_numbers, Sent, Output, sent_to, haves, IsPeer, GoesOn, StepNext, no_peer, waits, goes_on, closes, faulty, no_memory, StepConnect, joins, full, spent, no_room, StepFeed, feeds, not_fed, no_room as no_room_to_feed, StepLost, goes, not_fed as not_lost, FollowsEach, StepRechoke, rechokes, not_rechoked, rechoked, AdoptsGroups, AdoptsFile, StepAdopt, no_file, busy, empty, adopts, not_adopted as adopt_memory, StepFlush, syncs, fails, Answer, of_connect, of_feed, of_next, of_lost, of_rechoke, of_adopt, of_flush, Step, sent_by, output_of, IsConnected, BecomesSo, NotedBy, StepAnnouncesWholePieces, NextNotesCompleteFiles}
+use Rattle.bt_engine.proofs.Machine.{Digest, Frame, message_frame, Note, Complete, Connect, Feed, Next, Lost, Rechoke, Adopt, Flush, PeerState, EngineState, DeviceCalls, with_peer, is_whole, is_complete, has_become, new_whole_pieces, new_complete_files, piece_numbers, file_numbers, Output, sent_to, haves, IsPeer, GoesOn, StepNext, no_peer, waits, goes_on, closes, faulty, no_memory, StepConnect, joins, full, spent, no_room, StepFeed, feeds, not_fed, no_room as no_room_to_feed, StepLost, goes, not_fed as not_lost, FollowsEach, StepRechoke, rechokes, not_rechoked, rechoked, AdoptsGroups, AdoptsFile, StepAdopt, no_file, busy, empty, adopts, not_adopted as adopt_memory, StepFlush, syncs, fails, Answer, of_connect, of_feed, of_next, of_lost, of_rechoke, of_adopt, of_flush, Step, sent_by, output_of, IsConnected, BecomesSo, NotedBy, StepAnnouncesWholePieces, NextNotesCompleteFiles}
 use Rattle.bt_engine.proofs.Lists.{contains_none, contains_cases, contains_map, contains_flat_map, contains_filter, map_contains, flat_map_contains, range_contains, and_true, set_cases, set_same, here, later}
 use Rattle.bt_engine.proofs.AnswerParts.{greets, replies, announces, chokes, NoComplete, Leaves, event_leaves}
 use Rattle.bt_engine.proofs.Pairs.{contains_some, some_at}
@@ -12,7 +12,8 @@ pub filter_contains : {X : Type 0} (test : X → Bool) (xs : List X) {x : X} →
 filter_contains test [] c e = absurd (contains_none c)
 filter_contains test (y ∷ xs) {x} c e = by _ refl (contains_cases xs c) (λ more. filter_contains test xs more e)
   where
-    by : (b : Bool) → test y ≡ b → (y ≡ x) ⊎ Contains xs x → (Contains xs x → Contains (filter test xs) x) → Contains (cond b (y ∷ filter test xs) (filter test xs)) x
+    by : (b : Bool) → test y ≡ b → (y ≡ x) ⊎ Contains xs x → (Contains xs x → Contains (filter test xs) x)
+        → Contains (cond b (y ∷ filter test xs) (filter test xs)) x
     by true is (inl same) rest = here _ same
     by true is (inr more) rest = later y _ (rest more)
     by false is (inl same) rest = absurd cc
@@ -172,7 +173,8 @@ module _ {dig : Digest} {s new : EngineState} {key : PeerKey} {i : ℕ} {p : Pee
   piece_in (message_frame (Have piece)) = piece
   piece_in _ = 0
 
-  have_told : (k : _) {piece : ℕ} → Contains (haves s g.mid) (frame_to k (Have piece)) → IsConnected new k × (piece < total_pieces new.torrent) × BecomesSo is_whole s new piece
+  have_told : (k : _) {piece : ℕ} → Contains (haves s g.mid) (frame_to k (Have piece))
+      → IsConnected new k × (piece < total_pieces new.torrent) × BecomesSo is_whole s new piece
   have_told k {piece} c =
       let r = contains_flat_map (λ n. map (λ q. sent_to q (Have n)) g.mid.peers) (new_whole_pieces s g.mid) c in
       let q = contains_map (λ q. sent_to q (Have r.0)) g.mid.peers r.2 in
@@ -186,7 +188,8 @@ module _ {dig : Digest} {s new : EngineState} {key : PeerKey} {i : ℕ} {p : Pee
         record { before = not_so (is_whole s piece) both.1; after = whole_same g.mid new piece files_are torrent_is ∙ both.0 },
       )
 
-  tells_have : (k : _) {piece : ℕ} → IsConnected new k → piece < total_pieces new.torrent → BecomesSo is_whole s new piece → Contains out.send (frame_to k (Have piece))
+  tells_have : (k : _) {piece : ℕ} → IsConnected new k → piece < total_pieces new.torrent → BecomesSo is_whole s new piece
+      → Contains out.send (frame_to k (Have piece))
   tells_have k {piece} c below b =
       let q = was_connected c in
       let in_range : Contains (piece_numbers g.mid) piece = range_contains _ (rw (← torrent_is) below) in
@@ -228,7 +231,8 @@ becomes_nothing : {X : Type 0} {holds : EngineState → ℕ → Bool} {s new : E
 becomes_nothing same b = absurd cc
 
 module _ (dig : Digest) where
-  have_sent : {s new : _} (key : _) {piece : ℕ} → IsSentBy dig s new (frame_to key (Have piece)) → IsConnected new key × (piece < total_pieces new.torrent) × BecomesSo is_whole s new piece
+  have_sent : {s new : _} (key : _) {piece : ℕ} → IsSentBy dig s new (frame_to key (Have piece))
+      → IsConnected new key × (piece < total_pieces new.torrent) × BecomesSo is_whole s new piece
   have_sent key (alike part like e) = absurd (unlike like e)
     where
       unlike : {part : _} → (part ≡ greets) ⊎ (part ≡ replies) ⊎ (part ≡ chokes) → announces ≡ part → ⊥

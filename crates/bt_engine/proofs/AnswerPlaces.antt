@@ -1,5 +1,5 @@
 -- A range of a piece lies in one place.
-use Rattle.bt_engine.proofs.Base.{◌≡◌, ℕ, ◌+◌, ◌<◌, ◌≤◌, inl, inr, List, length, sym, ap, ◌∙◌, arith, take, get_or, sum_by, cases_lt, length-take-le, take-take, get_or-take, sum_by_more_le, File, piece_count, Metainfo, IsLaidOut, IsPlace, Span}
+use Rattle.bt_engine.proofs.Base.{◌≡◌, ℕ, ◌+◌, ◌<◌, ◌≤◌, inl, inr, length, sym, ap, ◌∙◌, arith, take, get_or, sum_by, cases_lt, length-take-le, take-take, get_or-take, sum_by_more_le, File, piece_count, Metainfo, IsLaidOut, IsPlace}
 use Rattle.bt_engine.proofs.Machine.{IsWholeBlock}
 
 -- the file at j ends no later than that at k begins
@@ -14,7 +14,7 @@ module _ (torrent : Metainfo) (lay : IsLaidOut torrent.piece_length torrent.file
       let ends = ends_before (λ g. piece_count torrent.piece_length g.length) torrent.files s.file t.file p.file lt (omega arith) in
       let first = lay.in_turn s.file p.file p.listed in
       let second = lay.in_turn t.file p.file q.listed in
-      absurd (omega (arith, ap (λ g. g.first_piece) (p.found p.file), ap (λ g. piece_count torrent.piece_length g.length) (p.found p.file), ap (λ g. g.first_piece) (q.found p.file), ))
+      absurd (omega (arith, ap (λ g. g.first_piece) (p.found p.file), ap (λ g. piece_count torrent.piece_length g.length) (p.found p.file), ap (λ g. g.first_piece) (q.found p.file)))
 
   same_file : {s t : _} → IsPlace torrent piece begin count s → IsPlace torrent piece begin count t → s.file ≡ t.file
   same_file {s} {t} p q = elim (cases_lt s.file t.file) [

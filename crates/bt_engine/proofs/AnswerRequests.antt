@@ -1,7 +1,7 @@
 -- Of whom blocks are requested.
-use Rattle.bt_engine.proofs.Base.{◌≡◌, ℕ, ◌⊎◌, inl, inr, List, [], ◌∷◌, ◌++◌, Some, refl, sym, ap, ◌∙◌, subst, slice_get, Contains, Contains-append_left, Contains-append_right, Contains-append_cases, Missing, PeerKey, BlockId, Ask, Request}
-use Rattle.bt_engine.proofs.Machine.{Digest, PeerState, EngineState, state_at, Has, IsWholeBlock, Sent, IsPeer, FollowsEach, rechoked, IsRequestedOf, StepRequestsMissing}
-use Rattle.bt_engine.proofs.Lists.{contains_none, same_some, set_cases}
+use Rattle.bt_engine.proofs.Base.{◌≡◌, ℕ, ◌⊎◌, inl, inr, [], ◌∷◌, ◌++◌, Some, refl, sym, ap, ◌∙◌, subst, slice_get, Contains, Contains-append_left, Contains-append_right, Contains-append_cases, Missing, PeerKey, BlockId, Ask, Request}
+use Rattle.bt_engine.proofs.Machine.{Digest, PeerState, EngineState, state_at, Has, IsWholeBlock, IsPeer, FollowsEach, rechoked, IsRequestedOf, StepRequestsMissing}
+use Rattle.bt_engine.proofs.Lists.{contains_none, set_cases}
 use Rattle.bt_engine.proofs.AnswerParts.{greets, replies, chokes, asks, all_haves}
 use Rattle.bt_engine.proofs.Pairs.{contains_some}
 use Rattle.bt_engine.proofs.AnswerSends.{nat_cases, set_other, frame_to, Follows, follows_of, IsSentBy, alike, announced, followed, rechoked_then, step_sent}
@@ -104,7 +104,8 @@ module _ (dig : Digest) where
   each_stays [] sent f {key} {ask} r = rw f.1 r
   each_stays (i ∷ places) sent f r = each_stays places f.2 f.4 (stays_right (follows_of f.3) r)
 
-  each_asks : (places s : _) {new : _} (sent : _) → FollowsEach dig places s sent new → {key ask : _} → Contains sent (frame_to key (Request ask)) → IsRequested new key ask
+  each_asks : (places s : _) {new : _} (sent : _) → FollowsEach dig places s sent new → {key ask : _} → Contains sent (frame_to key (Request ask))
+      → IsRequested new key ask
   each_asks [] s sent f {key} {ask} c = absurd (contains_none (subst (λ l. Contains l (frame_to key (Request ask))) f.0 c))
   each_asks (i ∷ places) s sent f {key} {ask} c = elim (Contains-append_cases f.1 f.2 (frame_to key (Request ask)) (rw (← f.5) c)) [
     | inl one ↦ each_stays places f.2 f.4 (asks_rightly (follows_of f.3) one)

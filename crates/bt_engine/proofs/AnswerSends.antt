@@ -1,6 +1,6 @@
 -- What each frame of an answer follows from.
 use Rattle.bt_engine.proofs.Base.{◌≡◌, ℕ, zero, suc, ◌⊎◌, inl, inr, ◌↔◌, Bool, true, false, List, [], ◌∷◌, ◌++◌, length, Some, Ok, refl, sym, ap, ◌∙◌, subst, arith, slice_get, slice_set, Contains, range_with_len, Contains-append_cases, PeerKey, BlockId, Ask, PeerMessage, Interested, NotInterested, Have, Bitfield, Request}
-use Rattle.bt_engine.proofs.Machine.{Digest, Frame, hello_frame, message_frame, Event, Connect, Next, Rechoke, PeerState, EngineState, DeviceCalls, IsWholeBlock, Sent, Output, sent_to, haves, FollowsUp, RequestsHashes, requests, rests, IsOpen, IsInteresting, RequestsBlock, RequestsEach, interest_sent, IsPeer, GoesOn, StepNext, no_peer, waits, goes_on, closes, faulty, no_memory, StepConnect, joins, full, spent, no_room, new_peer, our_handshake, greeting, FollowsEach, Rechokes, StepRechoke, rechokes, not_rechoked, choking_sent, chokes_sent, is_served, rechoked, Answer, of_connect, of_next, of_rechoke, Step, sent_by}
+use Rattle.bt_engine.proofs.Machine.{Digest, Frame, hello_frame, message_frame, Connect, Next, Rechoke, PeerState, EngineState, DeviceCalls, IsWholeBlock, Sent, Output, sent_to, haves, FollowsUp, RequestsHashes, requests, rests, IsOpen, IsInteresting, RequestsBlock, RequestsEach, interest_sent, IsPeer, GoesOn, StepNext, no_peer, waits, goes_on, closes, faulty, no_memory, StepConnect, joins, full, spent, no_room, new_peer, our_handshake, greeting, FollowsEach, Rechokes, StepRechoke, rechokes, not_rechoked, choking_sent, chokes_sent, is_served, rechoked, of_connect, of_next, of_rechoke, Step, sent_by}
 use Rattle.bt_engine.proofs.Lists.{contains_none, contains_cases, contains_flat_map, here, later, set_same, set_other as stays_there}
 use Rattle.bt_engine.proofs.AnswerParts.{Part, greets, replies, interests, chokes, hashes, asks, part_of, AllOf, all_none, all_one, all_is, all_interest, all_hashes, all_asks, IsFollowing, in_interest, in_hash, in_block, following, event_leaves}
 
@@ -102,7 +102,8 @@ told_interest p true false {key} c = elim (contains_cases [] c) [ inl same ↦ a
     not_told same = let wrong = ap (λ x. is_told x.frame) same in absurd cc
 told_interest p _ _ c = absurd (contains_none c)
 
-told_no_interest : (p : _) (was now : Bool) {key : _} → Contains (interest_sent p was now) (frame_to key NotInterested) → (was ≡ true) × (now ≡ false) × (p.key ≡ key)
+told_no_interest : (p : _) (was now : Bool) {key : _} → Contains (interest_sent p was now) (frame_to key NotInterested)
+    → (was ≡ true) × (now ≡ false) × (p.key ≡ key)
 told_no_interest p true false c = elim (contains_cases [] c) [ inl same ↦ (refl, refl, ap (λ x. x.peer) same) | inr none ↦ absurd (contains_none none) ]
 told_no_interest p false true {key} c = elim (contains_cases [] c) [ inl same ↦ absurd (not_told same) | inr none ↦ absurd (contains_none none) ]
   where
@@ -130,7 +131,8 @@ module _ {dig : Digest} {s : EngineState} {i : ℕ} {sent : List Sent} {new : En
   of_block : {x : _} → Contains f.block_frames x → part_of x.frame ≡ asks
   of_block {x} c = all_asks s _ _ _ f.requests x c
 
-  ask_sent : {key : _} (ask : Ask) → stands (frame_to key (Request ask)) → (b : BlockId) × Contains f.blocks b × IsWholeBlock s.torrent ask.piece ask.begin ask.length b × (f.planned.key ≡ key)
+  ask_sent : {key : _} (ask : Ask) → stands (frame_to key (Request ask))
+      → (b : BlockId) × Contains f.blocks b × IsWholeBlock s.torrent ask.piece ask.begin ask.length b × (f.planned.key ≡ key)
   ask_sent ask (in_interest c) = let e = of_interest c in absurd cc
   ask_sent ask (in_hash c) = let e = of_hash c in absurd cc
   ask_sent ask (in_block c) =

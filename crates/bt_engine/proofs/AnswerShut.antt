@@ -1,6 +1,6 @@
 -- A peer that sent what it is to be closed for is closed for it.
 use Rattle.bt_engine.proofs.Base.{◌≡◌, ◌≢◌, ℕ, zero, suc, ◌<◌, ◌⊎◌, inl, inr, List, [], ◌∷◌, length, Some, None, Result, Ok, Err, refl, sym, ap, ◌∙◌, subst, arith, slice_get, slice_index_or, Contains, AllPairs, cases_lt, IsLawful, Facts, blocks_of, value_at, Claims, IsAcceptable, IsRefused, shape, padding, no_anchor, top_differs, clash, refused_memory, DiffersBelow, Claim, ProofError, OutOfMemory, value_covers, value_padding, value_inside, cases_node, IsClaimBy, IsNoClaim, no_shape, no_count, claim_memory, HashKey, PutIsDue, IsWrong, StoreError, DeviceFault, Put, Wrong, PutMarked, PutWaiting, PeerKey, BlockId, Stream, Takes, Waits, Fails, Hello, fault_alone, one_fault}
-use Rattle.bt_engine.proofs.Machine.{Digest, Why, Wire, WrongTorrent, BadPiece, BadBitfield, BadRequest, WrongBlock, UnknownRoot, Proof, Next, PeerState, EngineState, DeviceCalls, tree_of, with_peer, IsWholeBlock, Output, Effect, closing, HandlesRequest, ignored, no_place, not_marked, served, stopped, HasPutEffect, HandlesPiece, stale, arrives, IsTreeOf, IsUnknownRoot, HandlesHashes, unknown_root, no_claim, refused, learns, HandlesHello, ours, other, HandlesHave, in_range, out_of_range, HandlesBitfield, right, wrong, Handles, IsPeer, without_peer, StepNext, no_peer, waits, goes_on, closes, faulty, no_memory, Answer, of_next, Step, IsOrderly, output_of, IsConnected, IsCause, wire, other_torrent, past_last_piece, other_length, is_no_place as has_no_place, wrong_block, is_unknown_root as of_unknown_root, makes_no_claim, is_refused, IsOnlyPeer, OrderlyPeersAreOnly, NextClosesForCause}
+use Rattle.bt_engine.proofs.Machine.{Digest, Why, Wire, WrongTorrent, BadPiece, BadBitfield, BadRequest, WrongBlock, UnknownRoot, Proof, Next, PeerState, EngineState, DeviceCalls, tree_of, with_peer, IsWholeBlock, Effect, closing, HandlesRequest, ignored, no_place, not_marked, served, stopped, HasPutEffect, HandlesPiece, stale, arrives, IsTreeOf, IsUnknownRoot, HandlesHashes, unknown_root, no_claim, refused, learns, HandlesHello, ours, other, HandlesHave, in_range, out_of_range, HandlesBitfield, right, wrong, Handles, IsPeer, without_peer, StepNext, no_peer, waits, goes_on, closes, faulty, no_memory, Answer, of_next, Step, IsOrderly, output_of, IsConnected, IsCause, wire, other_torrent, past_last_piece, other_length, is_no_place as has_no_place, wrong_block, is_unknown_root as of_unknown_root, makes_no_claim, is_refused, IsOnlyPeer, OrderlyPeersAreOnly, NextClosesForCause}
 use Rattle.bt_engine.specs.AnswerLaw.{Closes}
 use Rattle.bt_engine.specs.AnswerDue.{IsOutOfMemory}
 use Rattle.bt_engine.proofs.Lists.{same_some, some_below, set_same, set_other}
@@ -154,9 +154,9 @@ module _ (dig : Digest) (s : EngineState) (i : ℕ) (p : PeerState) (rest : Stre
   put_shuts k b bytes states effect (Err DeviceFault) w due e = absurd (w.2 (due.2 w.0 w.1))
   put_shuts k b bytes states effect _ w due e = absurd e
 
-  piece_shuts : {piece begin bytes b tree effect mid : _} → IsLawful s.torrent.piece_length s.torrent.files → IsWholeBlock s.torrent piece begin (length bytes) b
-      → Contains p.asked b → tree_of s b.file ≡ Some tree → IsWrong dig (value_at dig tree 0 b.block) bytes
-      → HandlesPiece dig t i q piece begin bytes calls effect mid → Shuts effect WrongBlock
+  piece_shuts : {piece begin bytes b tree effect mid : _} → IsLawful s.torrent.piece_length s.torrent.files
+      → IsWholeBlock s.torrent piece begin (length bytes) b → Contains p.asked b → tree_of s b.file ≡ Some tree
+      → IsWrong dig (value_at dig tree 0 b.block) bytes → HandlesPiece dig t i q piece begin bytes calls effect mid → Shuts effect WrongBlock
   piece_shuts {b} lawful whole asked hung w (stale none x y z) = absurd (none b whole asked)
   piece_shuts {piece} {begin} {bytes} {b} {tree} {effect} lawful whole asked hung w (arrives r) =
       let same = same_block _ lawful.laid_out piece begin _ r.whole whole in

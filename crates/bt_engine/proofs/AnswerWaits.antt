@@ -1,5 +1,5 @@
 -- A block waits only for a leaf that is unknown.
-use Rattle.bt_engine.proofs.Base.{◌≡◌, ℕ, zero, suc, ◌+◌, ◌*◌, ◌/◌, ◌%◌, ◌^◌, ◌<◌, ◌≤◌, ◌⊎◌, inl, inr, Bool, true, false, List, [], ◌∷◌, length, map, Option, Some, None, Result, Ok, refl, sym, ap, ◌∙◌, subst, arith, slice_get, slice_set, Contains, ◌&&◌, is_some, if◌then◌else◌, option_and_then, range_with_len, eq-eqb, cases_lt, length-take-le, div-add-mod, mod-lt, padding_digest, Facts, blocks_of, value_at, Claims, in_run, on_path, uncle, HasShape, run_height, Claim, value_covers, value_padding, value_inside, cases_node, digests_in, HashKey, PutIsDue, states_after_put, BlockRead, given, failed, block_of, judged, is_waiting_at, BlockState, Missing, Waiting, Marked, StoreError, Put, PutMarked, PutWaiting, without_block, PeerKey, BlockId, Stream, WireEvent, Hello, Message, Skipped, PeerMessage, KeepAlive, Choke, Unchoke, Interested, NotInterested, Have, Bitfield, Request, Piece, Cancel, HashRequest, Hashes, HashReject}
+use Rattle.bt_engine.proofs.Base.{◌≡◌, ℕ, zero, suc, ◌+◌, ◌*◌, ◌/◌, ◌%◌, ◌^◌, ◌<◌, ◌≤◌, ◌⊎◌, inl, inr, Bool, true, false, List, [], ◌∷◌, length, map, Option, Some, None, Result, Ok, refl, sym, ap, ◌∙◌, subst, arith, slice_get, slice_set, Contains, ◌&&◌, is_some, if◌then◌else◌, option_and_then, range_with_len, eq-eqb, length-take-le, div-add-mod, mod-lt, Facts, blocks_of, value_at, Claims, in_run, on_path, uncle, HasShape, Claim, value_covers, value_padding, value_inside, cases_node, digests_in, HashKey, PutIsDue, states_after_put, BlockRead, given, failed, block_of, judged, is_waiting_at, BlockState, Missing, Waiting, Marked, StoreError, Put, PutMarked, PutWaiting, without_block, PeerKey, BlockId, Hello, Message, Skipped, PeerMessage, KeepAlive, Choke, Unchoke, Interested, NotInterested, Have, Bitfield, Request, Piece, Cancel, HashRequest, Hashes, HashReject}
 use Rattle.bt_engine.proofs.Machine.{Digest, PeerState, FileState, EngineState, DeviceCalls, state_at, tree_of, leaf_at, with_file, with_peer, Effect, with_payload, FindsFault, damaged as found_damaged, fault, HandlesRequest, ignored, no_place, not_marked, served, stopped, HandlesPiece, stale, arrives, judged_file, due_blocks, HandlesHashes, Learns, settled_count, unknown_root, no_claim, refused, learns, HandlesHave, in_range, out_of_range, HandlesBitfield, right, wrong, HandlesMessage, Handles, StepNext, no_peer as none_such, waits, goes_on, closes, faulty, no_memory, NextSettlesWaitingBlocks}
 use Rattle.bt_engine.proofs.Lists.{and_then_some, map_some, same_some, set_cases, set_same, contains_none, here, later, contains_cases}
 use Rattle.bt_engine.proofs.Start.{chunk_count}
@@ -10,7 +10,8 @@ use Rattle.bt_engine.proofs.AnswerPieces.{filter_contains}
 -- ---- states
 
 -- a block's state after a file was replaced: it stands in the new file, or it was so
-file_state : (s : _) {file : ℕ} (new b : _) {x : _} → state_at (with_file s file new) b ≡ Some x → ((b.file ≡ file) × (slice_get new.states b.block ≡ Some x)) ⊎ (state_at s b ≡ Some x)
+file_state : (s : _) {file : ℕ} (new b : _) {x : _} → state_at (with_file s file new) b ≡ Some x
+    → ((b.file ≡ file) × (slice_get new.states b.block ≡ Some x)) ⊎ (state_at s b ≡ Some x)
 file_state s {file} new b {x} e =
     let m = and_then_some (λ (q : FileState). slice_get q.states b.block) _ e in
     elim (set_cases _ file _ m.1) [
@@ -19,7 +20,8 @@ file_state s {file} new b {x} e =
     ]
 
 -- its tree is the same where the file keeps its tree
-same_tree : (s : EngineState) (file : ℕ) {f : _} (states n : _) → slice_get s.files file ≡ Some f → tree_of (with_file s file (record f { states = states })) n ≡ tree_of s n
+same_tree : (s : EngineState) (file : ℕ) {f : _} (states n : _) → slice_get s.files file ≡ Some f
+    → tree_of (with_file s file (record f { states = states })) n ≡ tree_of s n
 same_tree s file {f} states n at = elim (nat_cases file n) [
   | inl e ↦
       ap (λ m. option_and_then (λ q. slice_get s.trees q.tree) (slice_get (slice_set s.files file (record f { states = states })) m)) (sym e)
@@ -44,7 +46,8 @@ set_value (z ∷ xs) zero e = cc
 set_value (z ∷ xs) (suc i) e = set_value xs i e
 
 -- one read more
-more_unread : {b i : ℕ} (v : BlockState) {reads states : _} → (Waiting ≡ v → ⊥) → WaitedUnread reads (slice_set states b v) i → WaitedUnread (given b [] ∷ reads) states i
+more_unread : {b i : ℕ} (v : BlockState) {reads states : _} → (Waiting ≡ v → ⊥) → WaitedUnread reads (slice_set states b v) i
+    → WaitedUnread (given b [] ∷ reads) states i
 more_unread {b} {i} v {reads} {states} never rest = elim (nat_cases b i) [
   | inl same ↦ absurd (never (set_value _ b (subst (λ n. slice_get (slice_set states b v) n ≡ Some Waiting) (sym same) rest.waited)))
   | inr apart ↦ record {
@@ -121,7 +124,8 @@ module _ (dig : Digest) (t mid : EngineState) (i : ℕ) (p : PeerState) (b : Blo
   request_waits (stopped span x c d f) = fault_waits f.is_file.here f.finds
 
   -- a block that was put waits only where its leaf is unknown
-  put_waits : (k : _) (c : BlockId) (bytes states : _) (r : Result Put StoreError) → PutIsDue dig k c.block bytes states r → slice_get (states_after_put c.block r states) b.block ≡ Some Waiting
+  put_waits : (k : _) (c : BlockId) (bytes states : _) (r : Result Put StoreError) → PutIsDue dig k c.block bytes states r
+      → slice_get (states_after_put c.block r states) b.block ≡ Some Waiting
       → ((b.block ≡ c.block) × (value_at dig k 0 c.block ≡ None)) ⊎ (slice_get states b.block ≡ Some Waiting)
   put_waits k c bytes states (Ok PutMarked) due now = elim (set_cases states c.block b.block now) [ inl one ↦ absurd cc | inr old ↦ inr old ]
   put_waits k c bytes states (Ok PutWaiting) due now = elim (set_cases states c.block b.block now) [ inl one ↦ inl (one.0, due.2) | inr old ↦ inr old ]
@@ -191,8 +195,8 @@ module _ {dig : Digest} {t mid : EngineState} {i : ℕ} {p : PeerState} (b : Blo
   ]
 
   -- such a block is looked at, if it waits in a file of the tree
-  is_due : (f : FileState) {d : _} → f.tree ≡ l.tree → slice_get f.states b.block ≡ Some Waiting → value_at dig l.settles.facts 0 b.block ≡ Some d → IsInRunOf l.claim b.block
-      → Contains (due_blocks dig l.settles.facts l.tree key.index (settled_count key) f) b.block
+  is_due : (f : FileState) {d : _} → f.tree ≡ l.tree → slice_get f.states b.block ≡ Some Waiting → value_at dig l.settles.facts 0 b.block ≡ Some d
+      → IsInRunOf l.claim b.block → Contains (due_blocks dig l.settles.facts l.tree key.index (settled_count key) f) b.block
   is_due f tree waiting known run =
       let base : key.base ≡ 0 = cc in
       let index : l.claim.index ≡ key.index = cc in
@@ -202,7 +206,8 @@ module _ {dig : Digest} {t mid : EngineState} {i : ℕ} {p : PeerState} (b : Blo
       rw (eq-eqb f.tree l.tree tree) (filter_contains (λ j. is_waiting_at f.states j && is_some (value_at dig l.settles.facts 0 j)) _ in_range test)
 
   -- the leaf of a block that waits still
-  leaf_still : {f : _} → slice_get t.files b.file ≡ Some f → (state_at t b ≡ Some Waiting → leaf_at dig t b ≡ None) → slice_get f.states b.block ≡ Some Waiting → (Contains (map block_of (l.settles.reads b.file)) b.block → ⊥)
+  leaf_still : {f : _} → slice_get t.files b.file ≡ Some f → (state_at t b ≡ Some Waiting → leaf_at dig t b ≡ None)
+      → slice_get f.states b.block ≡ Some Waiting → (Contains (map block_of (l.settles.reads b.file)) b.block → ⊥)
       → option_and_then (λ (k : Facts). value_at dig k 0 b.block) (slice_get (slice_set t.trees l.tree l.new) f.tree) ≡ None
   leaf_still {f} at before waiting unread = elim (nat_cases l.tree f.tree) [
     | inl same ↦
@@ -220,7 +225,8 @@ module _ {dig : Digest} {t mid : EngineState} {i : ℕ} {p : PeerState} (b : Blo
       facts_are : l.settles.facts ≡ l.new
       facts_are = same_some l.settles.here (set_same t.trees l.tree l.here.here)
 
-      still_unknown : (o : Option (List ℕ)) → value_at dig l.new 0 b.block ≡ o → f.tree ≡ l.tree → value_at dig l.old 0 b.block ≡ None → value_at dig l.new 0 b.block ≡ None
+      still_unknown : (o : Option (List ℕ)) → value_at dig l.new 0 b.block ≡ o → f.tree ≡ l.tree → value_at dig l.old 0 b.block ≡ None
+          → value_at dig l.new 0 b.block ≡ None
       still_unknown None e tree old = e
       still_unknown (Some d) e tree old =
           let due = is_due f tree waiting (ap (λ k. value_at dig k 0 b.block) facts_are ∙ e) (told_in_run old e) in

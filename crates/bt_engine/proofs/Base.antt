@@ -41,7 +41,7 @@ pub use Rattle.bt_sparse.proofs.Values.{value_covers, value_padding, cases_node,
 pub use Rattle.bt_sparse.specs.Acceptance.{Accepts, IsRefused, IsAcceptable, top_differs, shape, padding, no_anchor, clash, no_memory as refused_memory, DiffersBelow, IsHighestClash, IsJoined}
 pub use Rattle.bt_sparse.specs.Anchor.{IsAnchor}
 pub use Rattle.bt_sparse.specs.Answer.{IsAnswer, IsRequest, claim_of, answer_size, answer_layer, answer_index}
-pub use Rattle.bt_sparse.specs.Claim.{Claims, in_run, on_path, uncle, run_height, top_digest, run_digest, HasShape, top_layer, top_node, IsInRun, IsOnPath, sibling_of}
+pub use Rattle.bt_sparse.specs.Claim.{Claims, in_run, on_path, uncle, top_digest, run_digest, HasShape, top_layer, top_node, IsInRun, IsOnPath, sibling_of}
 pub use Rattle.bt_sparse.specs.Layer.{layer_digest, HoldsLayer}
 pub use Rattle.bt_sparse.specs.LayerSteps.{IsWhole}
 pub use Rattle.bt_sparse.specs.NodeMap.{Nodes, digest_at}

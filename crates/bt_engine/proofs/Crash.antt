@@ -14,19 +14,21 @@ keeps_spare n (resize_fault len) k = absurd k
 keeps_spare n _ k = tt
 
 -- a write of another block is beside the block
-beside : (n m i b j : ℕ) (bytes : List ℕ) → i ≢ b → j < block_length n i → length bytes ≡ block_length m b → (16384 * i + j < 16384 * b) ⊎ (16384 * b + length bytes ≤ 16384 * i + j)
+beside : (n m i b j : ℕ) (bytes : List ℕ) → i ≢ b → j < block_length n i → length bytes ≡ block_length m b
+    → (16384 * i + j < 16384 * b) ⊎ (16384 * b + length bytes ≤ 16384 * i + j)
 beside n m i b j bytes apart lt size = elim (cases_lt i b) [
   | inl below ↦ inl (omega arith)
   | inr le ↦ elim (cases_lt b i) [ inl above ↦ inr (omega arith) | inr ge ↦ absurd (apart (omega arith)) ]
 ]
 
-write_spares : (n m i b j : ℕ) {bytes c : _} → i ≢ b → j < block_length n i → length bytes ≡ block_length m b → (c ≡ bytes_written (16384 * b) bytes) ⊎ (c ≡ write_fault (16384 * b) bytes) → Spares (16384 * i + j) c
+write_spares : (n m i b j : ℕ) {bytes c : _} → i ≢ b → j < block_length n i → length bytes ≡ block_length m b
+    → (c ≡ bytes_written (16384 * b) bytes) ⊎ (c ≡ write_fault (16384 * b) bytes) → Spares (16384 * i + j) c
 write_spares n m i b j {bytes} apart lt size (inl e) = rw e (beside n m i b j bytes apart lt size)
 write_spares n m i b j {bytes} apart lt size (inr e) = rw e (beside n m i b j bytes apart lt size)
 
 -- no call of a step reaches a block of the file that is not missing
-step_spares : {s : EngineState} {calls file : _} (i j : ℕ) {f k : _} → Touches s.files s.trees calls → IsFile s file f k → slice_get f.states i ≢ Some Missing → j < block_length k.file_length i
-    → {c : _} → Contains calls (file, c) → Spares (16384 * i + j) c
+step_spares : {s : EngineState} {calls file : _} (i j : ℕ) {f k : _} → Touches s.files s.trees calls → IsFile s file f k
+    → slice_get f.states i ≢ Some Missing → j < block_length k.file_length i → {c : _} → Contains calls (file, c) → Spares (16384 * i + j) c
 step_spares {file} i j (keeping keep) is present lt {c} among = keeps_spare _ c (keep (file, c) among)
 step_spares {s} {file} i j {f} {k} (putting b bytes g l call here hung missing whole only writes) is present lt {c} among =
     elim (contains_cases [] (subst (λ cs. Contains cs (file, c)) only among)) [

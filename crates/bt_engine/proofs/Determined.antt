@@ -1,6 +1,6 @@
 -- What is left to an engine.
-use Rattle.bt_engine.proofs.Base.{◌≡◌, ◌≢◌, ℕ, suc, inl, inr, List, [], ◌∷◌, length, refl, sym, ap, ◌∙◌, arith, map, ⊤, cases_lt, block_count, Metainfo, IsLaidOut, Facts, blocks_of}
-use Rattle.bt_engine.proofs.Machine.{Digest, Event, Connect, Feed, Next, Lost, Rechoke, Adopt, Flush, FileState, EngineState, DeviceCalls, IsFile, Answer, of_connect, of_feed, of_next, of_rechoke, of_adopt, Step, Run, IsOrderly, IsShaped, sent_by, IsOutOfMemory, IsReached, StepIsDetermined, block_requests, StepIsForced, HaveMemory, RunsAreDetermined}
+use Rattle.bt_engine.proofs.Base.{◌≡◌, ◌≢◌, ℕ, suc, inl, inr, List, [], ◌∷◌, length, refl, sym, ap, ◌∙◌, arith, map, ⊤, cases_lt, block_count, Metainfo, IsLaidOut, blocks_of}
+use Rattle.bt_engine.proofs.Machine.{Digest, Connect, Feed, Next, Lost, Rechoke, Adopt, Flush, EngineState, IsFile, Answer, of_connect, of_feed, of_next, of_rechoke, of_adopt, Step, Run, IsOrderly, IsShaped, sent_by, IsOutOfMemory, IsReached, StepIsDetermined, block_requests, StepIsForced, HaveMemory, RunsAreDetermined}
 use Rattle.bt_engine.proofs.Lists.{heads, tails, get_some, same_some, some_below}
 use Rattle.bt_engine.proofs.Orderly.{order_kept, order_of_runs}
 use Rattle.bt_engine.proofs.Shape.{step_shape, shape_kept}
@@ -41,8 +41,9 @@ module _ (dig : Digest) where
   remembers : {a b : _} → a ≡ b → IsOutOfMemory b → ¬ IsOutOfMemory a → ⊥
   remembers e out memory = memory (rw e out)
 
-  pub step_one : {torrent : Metainfo} {s new other : _} (event calls : _) {answer another : _} → IsLaidOut torrent.piece_length torrent.files → IsShaped torrent s → IsOrderly s
-      → Step dig s event calls answer new → Step dig s event calls another other → ¬ IsOutOfMemory answer → ¬ IsOutOfMemory another → AreOne answer new another other
+  pub step_one : {torrent : Metainfo} {s new other : _} (event calls : _) {answer another : _} → IsLaidOut torrent.piece_length torrent.files
+      → IsShaped torrent s → IsOrderly s → Step dig s event calls answer new → Step dig s event calls another other → ¬ IsOutOfMemory answer
+      → ¬ IsOutOfMemory another → AreOne answer new another other
   step_one Connect calls lay shaped o x y memory room =
       answers x.1 y.1 (connect_one x.3 y.3 (λ e. remembers (x.1 ∙ ap of_connect e) tt memory) (λ e. remembers (y.1 ∙ ap of_connect e) tt room))
   step_one (Feed key bytes) calls lay shaped o x y memory room =
@@ -52,7 +53,8 @@ module _ (dig : Digest) where
       (λ e. remembers (x.1 ∙ ap of_next e) tt memory) (λ e. remembers (y.1 ∙ ap of_next e) tt room))
   step_one (Lost key) calls lay shaped o x y memory room = answers x.1 y.1 (lost_one o x.3 y.3)
   step_one Rechoke calls lay shaped o x y memory room =
-      answers x.1 y.1 (rechoke_one (laid shaped lay) o x.3 y.3 (λ e. remembers (x.1 ∙ ap of_rechoke e) tt memory) (λ e. remembers (y.1 ∙ ap of_rechoke e) tt room))
+      answers x.1 y.1
+      (rechoke_one (laid shaped lay) o x.3 y.3 (λ e. remembers (x.1 ∙ ap of_rechoke e) tt memory) (λ e. remembers (y.1 ∙ ap of_rechoke e) tt room))
   step_one (Adopt file) calls lay shaped o x y memory room =
       answers x.1 y.1 (adopt_one dig (sized shaped) x.2 y.2
       (λ e. remembers (x.1 ∙ ap of_adopt e) tt memory) (λ e. remembers (y.1 ∙ ap of_adopt e) tt room))
@@ -62,8 +64,9 @@ module _ (dig : Digest) where
 
   module _ (torrent : Metainfo) (lay : IsLaidOut torrent.piece_length torrent.files) (P : Answer → Answer → Type 0) (force : (m : EngineState) (a b : Answer) → IsShaped torrent m → P a b → SameAsks m (sent_by a) (sent_by b)) where
     -- where each two answers request the same, for this reason
-    pub run_one : (s : _) {new other : _} (events calls answers others : _) → IsShaped torrent s → IsOrderly s
-        → Run dig s events calls answers new → Run dig s events calls others other → HaveMemory answers → HaveMemory others → EachPair P answers others → (answers ≡ others) × (new ≡ other)
+    pub run_one : (s : _) {new other : _} (events calls answers others : _) → IsShaped torrent s → IsOrderly s → Run dig s events calls answers new
+        → Run dig s events calls others other → HaveMemory answers → HaveMemory others → EachPair P answers others
+        → (answers ≡ others) × (new ≡ other)
     run_one s [] [] [] [] shaped o x y memory room each = (refl, x ∙ sym y)
     run_one s {other} (e ∷ es) (c ∷ cs) (a ∷ answers) (b ∷ others) shaped o x y memory room each =
         let one = step_one e c lay shaped o x.1 y.1 (memory 0 a (omega arith)) (room 0 b (omega arith)) in
@@ -94,7 +97,8 @@ module _ (dig : Digest) where
   step_forced s new other event calls answer another r x y memory room few =
       (step_one event calls r.lawful.laid_out (shape_of r) (order_of r) x y memory room).whole (elim few [ inl none ↦ by_none none | inr one ↦ by_one one ])
 
-  pairs_of : (answers others : _) → map block_requests answers ≡ map block_requests others → EachPair (λ a b. block_requests a ≡ block_requests b) answers others
+  pairs_of : (answers others : _) → map block_requests answers ≡ map block_requests others
+      → EachPair (λ a b. block_requests a ≡ block_requests b) answers others
   pairs_of [] others e = tt
   pairs_of (a ∷ answers) [] e = tt
   pairs_of (a ∷ answers) (b ∷ others) e =
@@ -102,4 +106,5 @@ module _ (dig : Digest) where
 
   pub runs_determined : RunsAreDetermined dig
   runs_determined s new other events calls answers others r x y memory room same =
-      run_one r.torrent r.lawful.laid_out (λ a b. block_requests a ≡ block_requests b) (λ m a b shaped e. by_requests e) s events calls answers others (shape_of r) (order_of r) x y memory room (pairs_of answers others same)
+      run_one r.torrent r.lawful.laid_out (λ a b. block_requests a ≡ block_requests b) (λ m a b shaped e. by_requests e) s events calls answers others
+      (shape_of r) (order_of r) x y memory room (pairs_of answers others same)

@@ -1,6 +1,6 @@
 -- What is left to an engine where a file is taken in.
-use Rattle.bt_engine.proofs.Base.{◌≡◌, ◌≢◌, ℕ, ◌+◌, ◌-◌, ◌/◌, ◌^◌, ◌<◌, ◌≤◌, inl, inr, min, Bool, true, false, cond, List, [], ◌∷◌, ◌++◌, length, map, None, refl, sym, ap, ◌∙◌, subst, arith, append_assoc, flat_map, IsSome, Err, AllZip, count_by, range_with_len, cases_lt, length-map, length-range_with_len, sum_by-cons, CoversBlock, real_width, block_count, real_limit, Facts, blocks_of, held_at, value_at, value_covers, HashKey, BlockRead, given, failed, block_of, is_fault, right_count, fault_count, IsKnownGroup, IsUnknownGroup, claim_of_reads, marked_run, Adopts, none, known, accepted, not_accepted as refused, short, unread, BlockState, Adopted}
-use Rattle.bt_engine.proofs.Machine.{Digest, FileState, EngineState, Hint, DeviceCalls, reads_at, with_file, with_tree, IsFile, SettlesIn, with_pending, IsProof, AdoptsGroup, adopted_together, AdoptsGroups, is_other, AdoptsFile, StepAdopt, no_file, busy, empty, adopts, not_adopted as no_memory, of_adopt}
+use Rattle.bt_engine.proofs.Base.{◌≡◌, ◌≢◌, ℕ, ◌+◌, ◌-◌, ◌/◌, ◌^◌, ◌<◌, ◌≤◌, inl, inr, min, Bool, true, false, cond, List, [], ◌∷◌, ◌++◌, length, map, None, refl, sym, ap, ◌∙◌, subst, arith, append_assoc, flat_map, IsSome, Err, AllZip, count_by, range_with_len, cases_lt, length-map, length-range_with_len, sum_by-cons, CoversBlock, real_width, block_count, real_limit, Facts, blocks_of, held_at, value_at, value_covers, given, failed, block_of, is_fault, right_count, fault_count, IsKnownGroup, IsUnknownGroup, claim_of_reads, marked_run, Adopts, none, known, accepted, not_accepted as refused, short, unread, BlockState, Adopted}
+use Rattle.bt_engine.proofs.Machine.{Digest, FileState, EngineState, Hint, reads_at, with_file, with_tree, IsFile, SettlesIn, with_pending, IsProof, AdoptsGroup, adopted_together, AdoptsGroups, is_other, AdoptsFile, StepAdopt, no_file, busy, empty, adopts, not_adopted as no_memory, of_adopt}
 use Rattle.bt_store.specs.Adoption.{is_whole, AreWhole}
 use Rattle.bt_engine.specs.declared.error.AdoptError.TheVariants.{OutOfMemory}
 use Rattle.bt_engine.proofs.Lists.{some_not_none, some_below}
@@ -84,7 +84,8 @@ counts_le n (failed i ∷ reads) =
 whole_or_failed : {n first count reads : _} → AreWhole n first count reads → 0 < fault_count reads → ⊥
 whole_or_failed {n} {first} {reads} whole some = absurd (omega (arith, counts_le n reads, reads_size reads first whole.blocks))
 
-same_claim : (dig : Digest) (k : Facts) {a b f g : ℕ} (reads : _) → a ≡ b → f ≡ g → claim_of_reads dig k.file_length a f reads ≡ claim_of_reads dig k.file_length b g reads
+same_claim : (dig : Digest) (k : Facts) {a b f g : ℕ} (reads : _) → a ≡ b → f ≡ g
+    → claim_of_reads dig k.file_length a f reads ≡ claim_of_reads dig k.file_length b g reads
 same_claim dig k {b} {f} reads anchor first = cc
 
 abbrev adopted_as : (next anchor marked faults : ℕ) → Adopted
@@ -192,8 +193,9 @@ module _ (dig : Digest) where
       let tree : g.grown ≡ k = cc in
       ap blocks_of (sym tree) ∙ ap block_count (group_extends dig g).file_length ∙ sized g.state g.tree g.is_file
 
-  groups_one : (s file from : _) {n : ℕ} (xs ys : _) {more rest t u a b : _} → HasBlocks s file n → AdoptsGroups dig s file from xs t a → AdoptsGroups dig s file from ys u b
-      → t.next ≡ n → u.next ≡ n → flat_map (λ c. c) xs ++ more ≡ flat_map (λ c. c) ys ++ rest → (more ≡ rest) × (t ≡ u) × (a ≡ b)
+  groups_one : (s file from : _) {n : ℕ} (xs ys : _) {more rest t u a b : _} → HasBlocks s file n → AdoptsGroups dig s file from xs t a
+      → AdoptsGroups dig s file from ys u b → t.next ≡ n → u.next ≡ n → flat_map (λ c. c) xs ++ more ≡ flat_map (λ c. c) ys ++ rest
+      → (more ≡ rest) × (t ≡ u) × (a ≡ b)
   groups_one s file from [] [] sized x y p q e = (e, x.0 ∙ sym y.0, x.1 ∙ sym y.1)
   groups_one s file from [] (d ∷ ys) sized x y p q e =
       let g = y.3 in absurd (omega (arith, sized g.state g.tree g.is_file, ap (λ z. z.next) x.0))
@@ -207,8 +209,8 @@ module _ (dig : Digest) where
       (cc) (cc) first.0 in
       (tail.0, x.5 ∙ ap (λ z. adopted_together z x.2) first.1 ∙ ap (adopted_together y.0) tail.1 ∙ sym y.5, tail.2)
 
-  adopts_one : {s m n file calls t u : _} → ((f : FileState) (k : Facts) → IsFile s file f k → f.states ≢ [] → blocks_of k ≡ length f.states) → AdoptsFile dig s file calls t m → AdoptsFile dig s file calls u n
-      → (t ≡ u) × (m ≡ n)
+  adopts_one : {s m n file calls t u : _} → ((f : FileState) (k : Facts) → IsFile s file f k → f.states ≢ [] → blocks_of k ≡ length f.states)
+      → AdoptsFile dig s file calls t m → AdoptsFile dig s file calls u n → (t ≡ u) × (m ≡ n)
   adopts_one {s} {file} sized x y =
       let state : x.state ≡ y.state = cc in
       let blocks : HasBlocks s file (length x.state.states) = λ f k is. (

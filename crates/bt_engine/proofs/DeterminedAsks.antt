@@ -1,5 +1,5 @@
 -- Where two answers request the same blocks, what follows for peers is the same.
-use Rattle.bt_engine.proofs.Base.{◌≡◌, ◌≢◌, ℕ, zero, suc, ◌+◌, ◌-◌, ◌*◌, ◌/◌, inl, inr, Bool, true, false, List, [], ◌∷◌, ◌++◌, get_or, Some, refl, sym, ap, ◌∙◌, subst, arith, slice_get, slice_set, Contains, filter, range_with_len, add_left_cancel, div-mul-add, append_cancel_left, filter-append, Contains-append_cases, File, Metainfo, IsLaidOut, BlockId, Ask, Request}
+use Rattle.bt_engine.proofs.Base.{◌≡◌, ◌≢◌, ℕ, zero, suc, ◌+◌, ◌-◌, ◌*◌, ◌/◌, inl, inr, Bool, true, false, List, [], ◌∷◌, ◌++◌, get_or, Some, refl, sym, ap, ◌∙◌, subst, arith, slice_get, slice_set, Contains, filter, range_with_len, add_left_cancel, div-mul-add, append_cancel_left, filter-append, Contains-append_cases, Metainfo, IsLaidOut, BlockId, Ask, Request}
 use Rattle.bt_engine.proofs.Machine.{Digest, PeerState, EngineState, IsWholeBlock, Sent, sent_to, interest_sent, RequestsHashes, requests, rests, AsksBlocks, RequestsEach, FollowsUp, FollowsEach, Answer, sent_by, is_block_request, plain_answer, asked_nothing, without_asked, LacksOneAtMost}
 use Rattle.bt_engine.proofs.Lists.{heads, tails, here, later, contains_none, contains_cases, set_cases, range_limits}
 use Rattle.bt_engine.proofs.Pairs.{Pairs}
@@ -43,7 +43,8 @@ lacks_there s m e one b c x y = one b c (missing_in s m b e x) (missing_in s m c
 
 -- behind what both send
 pub asks_behind : {s m : EngineState} (xs : _) {f g : _} → m.files ≡ s.files → SameAsks m (xs ++ f) (xs ++ g) → SameAsks s f g
-asks_behind xs {f} {g} e (by_requests same) = by_requests (append_cancel_left (requests_in xs) (requests_in f) (requests_in g) (sym (requests_append xs f) ∙ same ∙ requests_append xs g))
+asks_behind xs {f} {g} e (by_requests same) =
+    by_requests (append_cancel_left (requests_in xs) (requests_in f) (requests_in g) (sym (requests_append xs f) ∙ same ∙ requests_append xs g))
 asks_behind xs {f} e (by_none none) = by_none (nil_of_append _ (sym (requests_append xs f) ∙ none)).1
 asks_behind {s} {m} xs e (by_one one) = by_one (lacks_there s m e one)
 
@@ -64,7 +65,8 @@ range_one {torrent} {a} {c} {b} x y =
 frames_one : (s p blocks : _) {f g : _} → RequestsEach s p blocks f → RequestsEach s p blocks g → f ≡ g
 frames_one s p [] x y = cc
 frames_one s p (b ∷ blocks) x y =
-    x.4 ∙ ap (λ z. z ∷ x.1) (x.2.is ∙ ap (λ a. sent_to p (Request a)) (range_one x.2.whole y.2.whole) ∙ sym y.2.is) ∙ ap (λ zs. y.0 ∷ zs) (frames_one s p blocks x.3 y.3) ∙ sym y.4
+    x.4 ∙ ap (λ z. z ∷ x.1) (x.2.is ∙ ap (λ a. sent_to p (Request a)) (range_one x.2.whole y.2.whole) ∙ sym y.2.is)
+    ∙ ap (λ zs. y.0 ∷ zs) (frames_one s p blocks x.3 y.3) ∙ sym y.4
 
 ask_sent : (p : _) {a c : _} → sent_to p (Request a) ≡ sent_to p (Request c) → a ≡ c
 ask_sent p e = let frames = ap (λ x. x.frame) e in cc
@@ -105,7 +107,9 @@ asks_one {s} {p} (b ∷ bs) (c ∷ cs) one x y =
   where
     alone : {d : _} (ds : _) → AsksBlocks s p (d ∷ ds) → ds ≡ []
     alone [] x = refl
-    alone {d} (e ∷ ds) x = absurd (x.distinct 0 1 d (omega arith) (omega arith) (one d e (x.are_open d (here (e ∷ ds) refl)).missing (x.are_open e (later d (e ∷ ds) (here ds refl))).missing))
+    alone {d} (e ∷ ds) x =
+        absurd
+        (x.distinct 0 1 d (omega arith) (omega arith) (one d e (x.are_open d (here (e ∷ ds) refl)).missing (x.are_open e (later d (e ∷ ds) (here ds refl))).missing))
 
 -- ---- what is sent, by its parts
 
@@ -118,7 +122,8 @@ interest_no_request p false false = refl
 only_requests : (s p blocks : _) {sent : _} → RequestsEach s p blocks sent → requests_in sent ≡ sent
 only_requests s p [] r = cc
 only_requests s p (b ∷ blocks) r =
-    ap requests_in r.4 ∙ ap (λ x. requests_in (x ∷ r.1)) r.2.is ∙ ap (λ zs. sent_to p (Request r.2.ask) ∷ zs) (only_requests s p blocks r.3) ∙ ap (λ x. x ∷ r.1) (sym r.2.is) ∙ sym r.4
+    ap requests_in r.4 ∙ ap (λ x. requests_in (x ∷ r.1)) r.2.is ∙ ap (λ zs. sent_to p (Request r.2.ask) ∷ zs) (only_requests s p blocks r.3)
+    ∙ ap (λ x. x ∷ r.1) (sym r.2.is) ∙ sym r.4
 
 all_to : (s p blocks sent : _) {z : _} → RequestsEach s p blocks sent → Contains sent z
     → z.peer ≡ p.key

@@ -1,6 +1,6 @@
 -- What one wire event does by itself is one and no other, with the same answers of devices.
-use Rattle.bt_engine.proofs.Base.{◌≡◌, ◌≢◌, ℕ, suc, ◌*◌, ◌<◌, inl, inr, true, false, List, [], ◌∷◌, ◌++◌, length, map, Option, Some, None, refl, sym, ap, ◌∙◌, subst, arith, length-append, slice_get, option_map, Contains, flat_map, if◌then◌else◌, Result, Ok, Err, AllPairs, concat, length-map, Contains-append_right, Call, bytes_written, write_fault, IsLaidOut, Facts, Accepts, IsRefused, OutOfMemory, IsClaimBy, HashKey, BlockRead, given, failed, block_of, call_of, IsRight, IsWrong, PutIsDue, calls_of_put, states_after_put, BlockState, StoreError, Range, DeviceFault, Put, Already, Wrong, PutMarked, PutWaiting, BlockId, without_block, PeerMessage as Sent, KeepAlive, Choke, Unchoke, Interested, NotInterested, Have, Bitfield, Request, Piece, Cancel, HashRequest, Hashes, HashReject, WireEvent, Hello, Message, Skipped}
-use Rattle.bt_engine.proofs.Machine.{Digest, Proof, PeerState, FileState, EngineState, DeviceCalls, calls_at, reads_at, block_id, with_file, with_tree, with_peer, file_numbers, Effect, no_effect, closing, sending, spanned_blocks, cut_from, with_payload, IsFile, Serves, FindsFault, damaged, fault, StopsAtFault, HandlesRequest, ignored, no_place, not_marked, served, stopped, HasPutEffect, Puts, Arrives, HandlesPiece, stale, arrives, judged_file, settling_notes, due_blocks, SettlesIn, OnlyCloses, IsTreeOf, IsAnswered, HandlesHashRequest, answered, rejected, Resolves, resolved as ours, other_asked as other, new_proofs, settled_count, Learns, HandlesHashes, unknown_root, no_claim, refused, learns, HandlesHello, ours as our_torrent, other as other_torrent, HandlesHave, in_range, out_of_range, HandlesBitfield, right, wrong, HandlesMessage, Handles}
+use Rattle.bt_engine.proofs.Base.{◌≡◌, ◌≢◌, ℕ, suc, ◌*◌, ◌<◌, inl, inr, true, false, List, [], ◌∷◌, ◌++◌, length, map, Option, Some, None, refl, sym, ap, ◌∙◌, subst, arith, length-append, slice_get, option_map, Contains, flat_map, if◌then◌else◌, Result, Ok, Err, AllPairs, concat, length-map, Contains-append_right, Call, bytes_written, write_fault, IsLaidOut, Facts, Accepts, IsRefused, OutOfMemory, IsClaimBy, HashKey, BlockRead, given, failed, block_of, call_of, IsRight, IsWrong, PutIsDue, calls_of_put, states_after_put, StoreError, Range, DeviceFault, Put, Already, Wrong, PutMarked, PutWaiting, without_block, PeerMessage as Sent, KeepAlive, Choke, Unchoke, Interested, NotInterested, Have, Bitfield, Request, Piece, Cancel, HashRequest, Hashes, HashReject, Hello, Message, Skipped}
+use Rattle.bt_engine.proofs.Machine.{Digest, Proof, FileState, EngineState, DeviceCalls, calls_at, reads_at, block_id, with_file, with_tree, with_peer, file_numbers, no_effect, closing, sending, spanned_blocks, cut_from, with_payload, IsFile, Serves, FindsFault, damaged, fault, StopsAtFault, HandlesRequest, ignored, no_place, not_marked, served, stopped, HasPutEffect, Puts, Arrives, HandlesPiece, stale, arrives, judged_file, settling_notes, due_blocks, SettlesIn, OnlyCloses, IsTreeOf, IsAnswered, HandlesHashRequest, answered, rejected, Resolves, resolved as ours, other_asked as other, new_proofs, settled_count, Learns, HandlesHashes, unknown_root, no_claim, refused, learns, HandlesHello, ours as our_torrent, other as other_torrent, HandlesHave, in_range, out_of_range, HandlesBitfield, right, wrong, HandlesMessage, Handles}
 use Rattle.bt_engine.proofs.Lists.{heads, tails, get_some, some_is, same_some, here, later, contains_none, contains_cases, some_below, range_contains, range_limits}
 use Rattle.bt_engine.proofs.AnswerPlaces.{same_place, same_block}
 use Rattle.bt_engine.proofs.DeterminedParts.{tree_one, accepts_one, answer_one, accepts_refused, refused_one, no_claim_one, claim_or_not}
@@ -45,7 +45,8 @@ reads_one file n (x ∷ xs) (y ∷ ys) e =
     ap (λ z. z ∷ xs) (read_one n x y parts.0) ∙ ap (λ zs. y ∷ zs) (reads_one file n xs ys parts.1)
 reads_one file n _ _ e = absurd cc
 
-flat_one : {X Y : Type 0} (f g : X → List Y) (xs : List X) → ((x : X) → Contains xs x → length (f x) ≡ length (g x)) → flat_map f xs ≡ flat_map g xs → {x : X} → Contains xs x → f x ≡ g x
+flat_one : {X Y : Type 0} (f g : X → List Y) (xs : List X) → ((x : X) → Contains xs x → length (f x) ≡ length (g x)) → flat_map f xs ≡ flat_map g xs
+    → {x : X} → Contains xs x → f x ≡ g x
 flat_one f g [] size e c = absurd (contains_none c)
 flat_one f g (z ∷ xs) size e c =
     let parts = split_one (f z) (g z) (size z (here xs refl)) e in
@@ -65,7 +66,8 @@ list_one _ _ same = let no = same 0 in absurd cc
 
 -- ---- settling
 
-settled_files : (dig : Digest) (k : _) (o : Option FileState) (xs ys : _) → ((f : FileState) → o ≡ Some f → xs ≡ ys) → option_map (judged_file dig k xs) o ≡ option_map (judged_file dig k ys) o
+settled_files : (dig : Digest) (k : _) (o : Option FileState) (xs ys : _) → ((f : FileState) → o ≡ Some f → xs ≡ ys)
+    → option_map (judged_file dig k xs) o ≡ option_map (judged_file dig k ys) o
 settled_files dig k None xs ys same = refl
 settled_files dig k (Some f) xs ys same = ap (λ zs. Some (judged_file dig k zs f)) (same f refl)
 
@@ -83,7 +85,8 @@ settles_one {dig} {is_meant} {tree} {from} {count} {old} {a} {b} x y = (
     inside : {file : ℕ} → Contains (file_numbers old) file → file < length old.files
     inside c = let l = range_limits 0 (length old.files) c in omega arith
 
-    size : (file : ℕ) → Contains (file_numbers old) file → length (reads_at file x.facts.file_length (x.reads file)) ≡ length (reads_at file y.facts.file_length (y.reads file))
+    size : (file : ℕ) → Contains (file_numbers old) file
+        → length (reads_at file x.facts.file_length (x.reads file)) ≡ length (reads_at file y.facts.file_length (y.reads file))
     size file c =
         let f = get_some old.files file (inside c) in
         let blocks = x.due file f.0 f.1 ∙ ap (λ k. if is_meant file then due_blocks dig k tree from count f.0 else []) facts ∙ sym (y.due file f.0 f.1) in
@@ -96,8 +99,9 @@ settles_one {dig} {is_meant} {tree} {from} {count} {old} {a} {b} x y = (
         reads_one file x.facts.file_length (x.reads file) (y.reads file) (cc)
 
     files : a.files ≡ b.files
-    files = list_one a.files b.files (λ i. x.files i ∙ settled_files dig x.facts (slice_get old.files i) (x.reads i) (y.reads i) (λ f at. reads_same i (some_below old.files i at))
-        ∙ ap (λ k. option_map (judged_file dig k (y.reads i)) (slice_get old.files i)) facts ∙ sym (y.files i))
+    files =
+        list_one a.files b.files
+        (λ i. x.files i ∙ settled_files dig x.facts (slice_get old.files i) (x.reads i) (y.reads i) (λ f at. reads_same i (some_below old.files i at)) ∙ ap (λ k. option_map (judged_file dig k (y.reads i)) (slice_get old.files i)) facts ∙ sym (y.files i))
 
 -- ---- a request
 
@@ -109,7 +113,8 @@ same_cut (i ∷ blocks) f g e =
     ap (λ xs. xs ++ flat_map f blocks) first ∙ ap (λ xs. g i ++ xs) (same_cut blocks f g rest)
 
 -- a list of reads that is longer than another by one, which begins as it does
-last_given : (f g : ℕ → List ℕ) (before : _) {block : ℕ} (after : _) {read : _} → map (λ i. given i (f i)) (before ++ block ∷ after) ≡ map (λ i. given i (g i)) before ++ read ∷ [] → given block (f block) ≡ read
+last_given : (f g : ℕ → List ℕ) (before : _) {block : ℕ} (after : _) {read : _}
+    → map (λ i. given i (f i)) (before ++ block ∷ after) ≡ map (λ i. given i (g i)) before ++ read ∷ [] → given block (f block) ≡ read
 last_given f g [] after e = heads e
 last_given f g (i ∷ before) {block} after {read} e =
     let rest = tails e in
@@ -187,8 +192,9 @@ module _ (dig : Digest) (s : EngineState) where
   some_or_none : (file : ℕ) (c : Call) → calls_at file (c ∷ []) ≡ [] → ⊥
   some_or_none file c e = absurd cc
 
-  put_one : (file i bytes k states : _) {calls : _} (e f : _) (r q : Result Put StoreError) → PutIsDue dig k i bytes states r → PutIsDue dig k i bytes states q
-      → HasPutEffect (block_id file i) r e → HasPutEffect (block_id file i) q f → calls ≡ calls_at file (calls_of_put i bytes r) → calls ≡ calls_at file (calls_of_put i bytes q) → r ≡ q
+  put_one : (file i bytes k states : _) {calls : _} (e f : _) (r q : Result Put StoreError) → PutIsDue dig k i bytes states r
+      → PutIsDue dig k i bytes states q → HasPutEffect (block_id file i) r e → HasPutEffect (block_id file i) q f
+      → calls ≡ calls_at file (calls_of_put i bytes r) → calls ≡ calls_at file (calls_of_put i bytes q) → r ≡ q
   put_one file i bytes k states e f (Ok PutMarked) (Ok PutMarked) x y ex fy x_made y_made = refl
   put_one file i bytes k states e f (Ok PutMarked) (Ok PutWaiting) x y ex fy x_made y_made = absurd (some_none x.2 y.2)
   put_one file i bytes k states e f (Ok PutMarked) (Ok Wrong) x y ex fy x_made y_made = absurd (wrong_right bytes y.2 x.2)
@@ -249,14 +255,17 @@ module _ (dig : Digest) (s : EngineState) where
     request_one (served xs xa xf xg xx) (no_place ya yf yb yc ye) = absurd (yf xs xf)
     request_one {ask} (served xs xa xf xg xx) (not_marked ys ya yf yg yb yc ye) = absurd (yg (rw (← (same_place _ lay _ _ _ xf yf)) xg))
     request_one {i} {p} {ask} {calls} {f} {n} (served xs xa xf xg xx) (served ys ya yf yg yx) = serves_one xx (rw (← (same_place _ lay _ _ _ yf xf)) yx)
-    request_one {ask} {calls} {f} {n} (served xs xa xf xg xx) (stopped ys ya yf yg yx) = absurd (serve_or_stop xx (subst (λ t. StopsAtFault dig s t calls f n) (same_place _ lay _ _ _ yf xf) yx))
+    request_one {ask} {calls} {f} {n} (served xs xa xf xg xx) (stopped ys ya yf yg yx) =
+        absurd (serve_or_stop xx (subst (λ t. StopsAtFault dig s t calls f n) (same_place _ lay _ _ _ yf xf) yx))
     request_one (stopped xs xa xf xg xx) (ignored ya yb yc ye) = absurd (choked ya xa)
     request_one (stopped xs xa xf xg xx) (no_place ya yf yb yc ye) = absurd (yf xs xf)
     request_one {ask} (stopped xs xa xf xg xx) (not_marked ys ya yf yg yb yc ye) = absurd (yg (rw (← (same_place _ lay _ _ _ xf yf)) xg))
-    request_one {ask} {calls} {e} {m} (stopped xs xa xf xg xx) (served ys ya yf yg yx) = absurd (serve_or_stop yx (subst (λ t. StopsAtFault dig s t calls e m) (same_place _ lay _ _ _ xf yf) xx))
+    request_one {ask} {calls} {e} {m} (stopped xs xa xf xg xx) (served ys ya yf yg yx) =
+        absurd (serve_or_stop yx (subst (λ t. StopsAtFault dig s t calls e m) (same_place _ lay _ _ _ xf yf) xx))
     request_one {ask} {calls} {f} {n} (stopped xs xa xf xg xx) (stopped ys ya yf yg yx) = stops_one xx (rw (← (same_place _ lay _ _ _ yf xf)) yx)
 
-    arrives_one : {i p piece begin bytes calls e f m n : _} → Arrives dig s i p piece begin bytes calls e m → Arrives dig s i p piece begin bytes calls f n → (e ≡ f) × (m ≡ n)
+    arrives_one : {i p piece begin bytes calls e f m n : _} → Arrives dig s i p piece begin bytes calls e m
+        → Arrives dig s i p piece begin bytes calls f n → (e ≡ f) × (m ≡ n)
     arrives_one {i} {p} {piece} {begin} {bytes} {calls} {f} x y =
         let block = same_block _ lay piece begin _ x.whole y.whole in
         let puts = puts_one x.puts (rw block y.puts) in (
@@ -265,7 +274,8 @@ module _ (dig : Digest) (s : EngineState) where
               ∙ ap (λ b. with_peer y.stored i (with_payload (length bytes) (record p { asked = without_block b p.asked }))) block ∙ sym y.after,
         )
 
-    piece_one : {i p piece begin bytes calls e f m n : _} → HandlesPiece dig s i p piece begin bytes calls e m → HandlesPiece dig s i p piece begin bytes calls f n → (e ≡ f) × (m ≡ n)
+    piece_one : {i p piece begin bytes calls e f m n : _} → HandlesPiece dig s i p piece begin bytes calls e m
+        → HandlesPiece dig s i p piece begin bytes calls f n → (e ≡ f) × (m ≡ n)
     piece_one (stale a b c d) (stale w x y z) = (c ∙ sym y, d ∙ sym z)
     piece_one (stale a b c d) (arrives y) = absurd (a y.block y.whole y.asked)
     piece_one (arrives x) (stale a b c d) = absurd (a x.block x.whole x.asked)
@@ -308,8 +318,8 @@ module _ (dig : Digest) (s : EngineState) where
     closes_one : {a b calls e f m n : _} → a ≡ b → OnlyCloses s a calls e m → OnlyCloses s b calls f n → (e ≡ f) × (m ≡ n)
     closes_one same x y = (x.has_effect ∙ ap (λ c. closing (Proof c)) same ∙ sym y.has_effect, x.after ∙ sym y.after)
 
-    refusals_one : {key : HashKey} {digests a b t u k l c d : _} → IsTreeOf s key.root t k → IsTreeOf s key.root u l → IsClaimBy key digests c → IsClaimBy key digests d
-        → IsRefused dig k c a → IsRefused dig l d b → a ≢ OutOfMemory → b ≢ OutOfMemory → a ≡ b
+    refusals_one : {key : HashKey} {digests a b t u k l c d : _} → IsTreeOf s key.root t k → IsTreeOf s key.root u l → IsClaimBy key digests c
+        → IsClaimBy key digests d → IsRefused dig k c a → IsRefused dig l d b → a ≢ OutOfMemory → b ≢ OutOfMemory → a ≡ b
     refusals_one {a} {k} {l} {c} x y v w r q m n =
         let tree = tree_one roots x y in
         refused_one dig (rw (← (v.claim_is ∙ sym w.claim_is)) (rw (← tree.1) r)) q m n
@@ -320,7 +330,8 @@ module _ (dig : Digest) (s : EngineState) where
         let tree = tree_one roots x.here at in
         accepts_refused dig (subst (λ d. Accepts dig k d x.new) (x.claims.claim_is ∙ sym by.claim_is) (rw (← tree.1) x.accepts)) r not_memory
 
-    hashes_one : {i p key digests calls e f m n : _} → HandlesHashes dig s i p key digests calls e m → HandlesHashes dig s i p key digests calls f n → (e ≡ f) × (m ≡ n)
+    hashes_one : {i p key digests calls e f m n : _} → HandlesHashes dig s i p key digests calls e m → HandlesHashes dig s i p key digests calls f n
+        → (e ≡ f) × (m ≡ n)
     hashes_one (unknown_root a b c d) (unknown_root w x y z) = (c ∙ sym y, d ∙ sym z)
     hashes_one (unknown_root a b c d) (no_claim g x y z) = absurd (x a)
     hashes_one (unknown_root a b c d) (refused g t k h x y z o) = absurd (a t k x)
@@ -358,7 +369,8 @@ module _ (dig : Digest) (s : EngineState) where
     hello_one (other_torrent a b) (our_torrent x y) = absurd (a x)
     hello_one (other_torrent a b) (other_torrent x y) = cc
 
-    message_one : (i p : _) (msg : Sent) (calls : _) {e f m n : _} → HandlesMessage dig s i p msg calls e m → HandlesMessage dig s i p msg calls f n → (e ≡ f) × (m ≡ n)
+    message_one : (i p : _) (msg : Sent) (calls : _) {e f m n : _} → HandlesMessage dig s i p msg calls e m → HandlesMessage dig s i p msg calls f n
+        → (e ≡ f) × (m ≡ n)
     message_one i p KeepAlive calls x y = (x.1 ∙ sym y.1, x.2 ∙ sym y.2)
     message_one i p Choke calls x y = (x.1 ∙ sym y.1, x.2 ∙ sym y.2)
     message_one i p Unchoke calls x y = (x.1 ∙ sym y.1, x.2 ∙ sym y.2)

@@ -1,6 +1,6 @@
 -- What follows for a peer is one and no other, but for the blocks that are requested.
 use Rattle.bt_engine.proofs.Base.{◌≡◌, ℕ, zero, suc, inl, inr, Bool, true, false, not, List, [], ◌∷◌, ◌++◌, map, Some, refl, sym, ap, ◌∙◌, arith, slice_get, slice_set, ◌↔◌, option_and_then, cases_lt, filter-append, IsPlan, planned_key, BlockId, HashRequest}
-use Rattle.bt_engine.proofs.Machine.{Digest, Asked, PeerState, EngineState, state_at, tree_of, piece_of, Has, Sent, sent_to, IsInteresting, interest_sent, TellsInterest, NeedsLeaf, IsLeastNeed, RequestsHashes, requests, rests, RequestsEach, FollowsUp, FollowsEach, is_block_request, other_frames, asked_nothing, without_asked}
+use Rattle.bt_engine.proofs.Machine.{Digest, Asked, PeerState, EngineState, state_at, tree_of, piece_of, Has, sent_to, IsInteresting, interest_sent, TellsInterest, NeedsLeaf, IsLeastNeed, RequestsHashes, requests, rests, RequestsEach, FollowsUp, FollowsEach, is_block_request, other_frames, asked_nothing, without_asked}
 use Rattle.bt_engine.proofs.Lists.{same_some}
 use Rattle.bt_engine.proofs.DeterminedParts.{anchor_one}
 
@@ -125,9 +125,11 @@ module _ (dig : Digest) where
             ∙ ap (λ (z : EngineState). record z { peers = slice_set z.peers i (asked_nothing y.planned) }) same ∙ sym (plain t y.planned y.blocks y.after),
       )
     where
-      plain : (r : EngineState) {m : _} (p : PeerState) (blocks : List BlockId) → m ≡ record r { peers = slice_set r.peers i (record p { asked = p.asked ++ blocks }) }
+      plain : (r : EngineState) {m : _} (p : PeerState) (blocks : List BlockId)
+          → m ≡ record r { peers = slice_set r.peers i (record p { asked = p.asked ++ blocks }) }
           → without_asked m ≡ record (without_asked r) { peers = slice_set (map asked_nothing r.peers) i (asked_nothing p) }
-      plain r p blocks e = ap without_asked e ∙ ap (λ ps. record r { peers = ps }) (map_slice_set asked_nothing r.peers i (record p { asked = p.asked ++ blocks }))
+      plain r p blocks e =
+          ap without_asked e ∙ ap (λ ps. record r { peers = ps }) (map_slice_set asked_nothing r.peers i (record p { asked = p.asked ++ blocks }))
 
   pub each_one : (peers s t f g a b : _) → Alike s t → FollowsEach dig peers s f a → FollowsEach dig peers t g b → (other_frames f ≡ other_frames g) × Alike a b
   each_one [] s t f g a b same x y = (ap other_frames (x.0 ∙ sym y.0), ap without_asked x.1 ∙ same ∙ sym (ap without_asked y.1))

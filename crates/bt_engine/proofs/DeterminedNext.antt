@@ -1,6 +1,6 @@
 -- What is left to an engine where the next wire event of a peer is taken.
 use Rattle.bt_engine.proofs.Base.{◌≡◌, ◌≢◌, ℕ, List, [], ◌++◌, map, Option, Some, None, refl, sym, ap, ◌∙◌, subst, Result, Ok, Err, slice_get, AllPairs, IsLaidOut, Facts, PeerKey, Takes}
-use Rattle.bt_engine.proofs.Machine.{Digest, Wire, Complete, EngineError, PeerState, EngineState, DeviceCalls, with_peer, new_complete_files, Sent, Output, Effect, haves, Handles, FollowsUp, IsPeer, without_peer, with_pending, TakesEvent, GoesOn, Closes, ShowsFault, StepNext, no_peer, waits, goes_on, closes, faulty, no_memory, IsOrderly, Answer, of_next, sent_by, other_frames, plain_answer, without_asked}
+use Rattle.bt_engine.proofs.Machine.{Digest, Wire, Complete, EngineError, PeerState, EngineState, DeviceCalls, with_peer, new_complete_files, Sent, Output, Effect, haves, Handles, FollowsUp, IsPeer, without_peer, with_pending, TakesEvent, GoesOn, Closes, ShowsFault, StepNext, no_peer, waits, goes_on, closes, faulty, no_memory, IsOrderly, Answer, of_next, other_frames, plain_answer, without_asked}
 use Rattle.bt_engine.specs.declared.error.EngineError.TheVariants.{OutOfMemory}
 use Rattle.bt_engine.proofs.Lists.{set_same}
 use Rattle.bt_engine.proofs.AnswerParts.{event_leaves}
@@ -10,7 +10,9 @@ use Rattle.bt_engine.proofs.DeterminedFollow.{other_append, follows_one}
 use Rattle.bt_engine.proofs.DeterminedAsks.{AreOne, are_equal, asks_to, asks_behind, follows_same}
 
 out_is : {a b : Output} → a.send ≡ b.send → a.close ≡ b.close → a.notes ≡ b.notes → a ≡ b
-out_is {a} {b} e f g = ap (λ l. record a { send = l }) e ∙ ap (λ c. record { send = b.send; close = c; notes = a.notes }) f ∙ ap (λ n. record { send = b.send; close = b.close; notes = n }) g
+out_is {a} {b} e f g =
+    ap (λ l. record a { send = l }) e ∙ ap (λ c. record { send = b.send; close = c; notes = a.notes }) f
+    ∙ ap (λ n. record { send = b.send; close = b.close; notes = n }) g
 
 module _ (dig : Digest) where
   module _ {s : EngineState} (key : PeerKey) (calls : DeviceCalls) (lay : IsLaidOut s.torrent.piece_length s.torrent.files) (roots : AllPairs (λ (j k : Facts). j.root ≢ k.root) s.trees) (o : IsOrderly s) where
@@ -103,8 +105,8 @@ module _ (dig : Digest) where
             );
       }
 
-    pub next_one : {answer another new other : _} → StepNext dig s key calls answer new → StepNext dig s key calls another other → answer ≢ Err OutOfMemory → another ≢ Err OutOfMemory
-        → AreOne (of_next answer) new (of_next another) other
+    pub next_one : {answer another new other : _} → StepNext dig s key calls answer new → StepNext dig s key calls another other
+        → answer ≢ Err OutOfMemory → another ≢ Err OutOfMemory → AreOne (of_next answer) new (of_next another) other
     next_one (no_memory i p is g a) y memory room = absurd (memory a)
     next_one x (no_memory i p is g a) memory room = absurd (room a)
     next_one (goes_on i p out is g a) y memory room =
@@ -124,8 +126,10 @@ module _ (dig : Digest) where
     next_one (closes xi xp xo xq xg xa) (no_peer yh yc ya ye) memory room = absurd (yh xi xp xq)
     next_one (closes xi xp xo xq xg xa) (waits yi yp yq yw yc ya ye) memory room = absurd (takes_waits xg.takes.takes (rw (← (peer_one o yq xq).1) yw))
     next_one (closes xi xp xo xq xg xa) (closes yi yp yo yq yg ya) memory room = (let r = close_one xg (move_close (peer_one o yq xq) yg) in are_equal (ap of_next (cc)) r.1)
-    next_one (closes xi xp xo xq xg xa) (faulty yi yp yo yq yg ya) memory room = absurd (takes_fails (subst (λ p. Takes p.stream xg.takes.event xg.takes.rest) (peer_one o xq yq).1 xg.takes.takes) yg.fails)
+    next_one (closes xi xp xo xq xg xa) (faulty yi yp yo yq yg ya) memory room =
+        absurd (takes_fails (subst (λ p. Takes p.stream xg.takes.event xg.takes.rest) (peer_one o xq yq).1 xg.takes.takes) yg.fails)
     next_one (faulty xi xp xo xq xg xa) (no_peer yh yc ya ye) memory room = absurd (yh xi xp xq)
     next_one (faulty xi xp xo xq xg xa) (waits yi yp yq yw yc ya ye) memory room = absurd (waits_fails (rw (← (peer_one o yq xq).1) yw) xg.fails)
-    next_one (faulty xi xp xo xq xg xa) (closes yi yp yo yq yg ya) memory room = absurd (takes_fails (subst (λ p. Takes p.stream yg.takes.event yg.takes.rest) (peer_one o yq xq).1 yg.takes.takes) xg.fails)
+    next_one (faulty xi xp xo xq xg xa) (closes yi yp yo yq yg ya) memory room =
+        absurd (takes_fails (subst (λ p. Takes p.stream yg.takes.event yg.takes.rest) (peer_one o yq xq).1 yg.takes.takes) xg.fails)
     next_one (faulty xi xp xo xq xg xa) (faulty yi yp yo yq yg ya) memory room = (let r = fault_one xg (move_fault (peer_one o yq xq) yg) in are_equal (ap of_next (cc)) r.1)

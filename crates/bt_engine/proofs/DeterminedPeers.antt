@@ -50,7 +50,8 @@ bitfield_one {s} {xs} {ys} x y =
 
 -- ---- peers that come and go
 
-pub connect_one : {s m n a b : _} → StepConnect s a m → StepConnect s b n → a ≢ Err no_room_to_connect → b ≢ Err no_room_to_connect → AreOne (of_connect a) m (of_connect b) n
+pub connect_one : {s m n a b : _} → StepConnect s a m → StepConnect s b n → a ≢ Err no_room_to_connect → b ≢ Err no_room_to_connect
+    → AreOne (of_connect a) m (of_connect b) n
 connect_one (no_memory x y z w) q r t = absurd (r z)
 connect_one q (no_memory x y z w) r t = absurd (t z)
 connect_one {s} (joins key bytes lt below is bits e f) (joins other more lt2 below2 is2 bits2 e2 f2) r t =
@@ -98,7 +99,8 @@ apart_at_first {s} o i j p q x y e =
     (record { here = u.1; same_key = cc })
     (record { here = v.1; same_key = refl })).0
 
-pub rechoke_one : {dig : Digest} {s m n : EngineState} {a b : Option Output} → IsLaidOut s.torrent.piece_length s.torrent.files → IsOrderly s → StepRechoke dig s a m → StepRechoke dig s b n → a ≢ None → b ≢ None → AreOne (of_rechoke a) m (of_rechoke b) n
+pub rechoke_one : {dig : Digest} {s m n : EngineState} {a b : Option Output} → IsLaidOut s.torrent.piece_length s.torrent.files → IsOrderly s
+    → StepRechoke dig s a m → StepRechoke dig s b n → a ≢ None → b ≢ None → AreOne (of_rechoke a) m (of_rechoke b) n
 rechoke_one lay o (not_rechoked x y) q r t = absurd (r x)
 rechoke_one lay o q (not_rechoked x y) r t = absurd (t x)
 rechoke_one {dig} {s} {m} {n} {a} {b} lay o (rechokes out x e) (rechokes other y f) r t =
@@ -125,7 +127,9 @@ no_fault_among files among e =
 
 synced_or_not : (files before file : _) → syncs_of files ≡ syncs_of before ++ (file, sync_fault) ∷ [] → ⊥
 synced_or_not files before file e =
-    no_fault_among files (subst (λ cs. Contains cs (file, sync_fault)) (sym e) (Contains-append_right (syncs_of before) ((file, sync_fault) ∷ []) (file, sync_fault) (here [] refl))) refl
+    no_fault_among files
+    (subst (λ cs. Contains cs (file, sync_fault)) (sym e) (Contains-append_right (syncs_of before) ((file, sync_fault) ∷ []) (file, sync_fault) (here [] refl)))
+    refl
 
 pub flush_one : {s m n calls a b : _} → StepFlush s calls a m → StepFlush s calls b n → AreOne (of_flush a) m (of_flush b) n
 flush_one (syncs x y z w) (syncs u v o q) = are_equal (ap of_flush (cc)) (cc)

@@ -1,6 +1,6 @@
 -- What closes a peer, and what does not.
-use Rattle.bt_engine.proofs.Base.{◌≡◌, ◌∙◌, ◌≢◌, ℕ, ◌+◌, ◌^◌, ◌-◌, ◌≤◌, true, false, List, [], ◌∷◌, ◌++◌, length, drop, Some, None, Ok, refl, sym, ap, subst, arith, w32, to_be_bytes, append-nil, length-append, IsDigest, Facts, height, held_at, top_layer, top_node, IsRequest, IsRefused, top_differs, TopDiffers, IsKey, IsClaimBy, Missing, Wrong, stream, handshake_spelling, IsMessage, Fits, message_spelling, TooLong, Have, Bitfield, Piece, HashRequest, Hashes, HashReject}
-use Rattle.bt_engine.proofs.Machine.{Digest, Why, Wire, BadPiece, BadBitfield, WrongBlock, UnknownRoot, Proof, Note, Stale, PeerState, EngineState, with_payload, Sent, closing, stale, IsTreeOf, IsAnswered, rejected, unknown_root, refused, out_of_range, wrong as wrong_length, HandlesMessage, FollowsUp, faulty, StepFeed, first_key, their_handshake, to_first, ThreeBlocks, zero_leaf, three_root, leaves_key, four_leaves, empty_engine, root_alone, leaves_peer, blocks_peer, ClosesOn, StaysOn, far_key, HostileMessagesAreRuns, WrongBlockIsRun}
+use Rattle.bt_engine.proofs.Base.{◌≡◌, ◌∙◌, ◌≢◌, ℕ, ◌+◌, ◌^◌, ◌-◌, ◌≤◌, true, false, List, [], ◌∷◌, ◌++◌, length, drop, Some, None, Ok, refl, sym, ap, subst, arith, w32, to_be_bytes, append-nil, length-append, IsDigest, height, held_at, top_layer, top_node, IsRequest, IsRefused, top_differs, TopDiffers, IsKey, IsClaimBy, Missing, Wrong, stream, handshake_spelling, IsMessage, Fits, message_spelling, TooLong, Have, Bitfield, Piece, HashRequest, Hashes, HashReject}
+use Rattle.bt_engine.proofs.Machine.{Digest, Why, Wire, BadPiece, BadBitfield, UnknownRoot, Proof, Stale, PeerState, EngineState, with_payload, closing, stale, IsTreeOf, IsAnswered, rejected, unknown_root, refused, out_of_range, wrong as wrong_length, HandlesMessage, FollowsUp, faulty, StepFeed, first_key, their_handshake, to_first, ThreeBlocks, zero_leaf, three_root, leaves_key, four_leaves, empty_engine, root_alone, leaves_peer, blocks_peer, ClosesOn, StaysOn, far_key, HostileMessagesAreRuns, WrongBlockIsRun}
 use Rattle.bt_tree.specs.TreeShape.{height_up_to}
 use Rattle.bt_engine.proofs.Lists.{contains_none}
 use Rattle.bt_engine.proofs.ExamplePeer.{one_there, taken_message, piece_fits, went, closed_for, comes, fed_first}
@@ -9,11 +9,13 @@ use Rattle.bt_engine.proofs.ExampleThreeEngine.{block, engine, whole_second, qui
 
 -- how long a key is
 key_size : (root p q r s : List ℕ) → length root ≡ 32 → length p ≡ 4 → length q ≡ 4 → length r ≡ 4 → length s ≡ 4 → length (root ++ p ++ q ++ r ++ s) ≡ 48
-key_size root p q r s a b c d e = omega (arith, length-append (root ++ p ++ q ++ r) s, length-append (root ++ p ++ q) r, length-append (root ++ p) q, length-append root p)
+key_size root p q r s a b c d e =
+    omega (arith, length-append (root ++ p ++ q ++ r) s, length-append (root ++ p ++ q) r, length-append (root ++ p) q, length-append root p)
 
-hashes_fit : {root digests : _} → length root ≡ 32 → length digests ≡ 128 → Fits (Hashes (record { root = root; base = 0; index = 0; length = 4; layers = 1 }) digests)
+hashes_fit : {root digests : _} → length root ≡ 32 → length digests ≡ 128
+    → Fits (Hashes (record { root = root; base = 0; index = 0; length = 4; layers = 1 }) digests)
 hashes_fit {root} {digests} root_size size = record {
-  limit = omega (arith, length-append (root ++ to_be_bytes w32 0 ++ to_be_bytes w32 0 ++ to_be_bytes w32 4 ++ to_be_bytes w32 1) digests, key_size root (to_be_bytes w32 0) (to_be_bytes w32 0) (to_be_bytes w32 4) (to_be_bytes w32 1) root_size refl refl refl refl, );
+  limit = omega (arith, length-append (root ++ to_be_bytes w32 0 ++ to_be_bytes w32 0 ++ to_be_bytes w32 4 ++ to_be_bytes w32 1) digests, key_size root (to_be_bytes w32 0) (to_be_bytes w32 0) (to_be_bytes w32 4) (to_be_bytes w32 1) root_size refl refl refl refl);
   whole = cc;
 }
 
@@ -37,7 +39,8 @@ module _ (dig : Digest) (b : ThreeBlocks) (infohash : List ℕ) where
   fed_leaves_peer = fed_to dig b _ refl refl
 
   -- a message that closes the peer, however it is taken
-  closes_on : {m : _} (why : Why) → IsMessage m → Fits m → HandlesMessage dig (before_leaves peer) 0 peer m [] (closing why) (before_leaves peer) → ClosesOn dig (empty_engine dig b infohash (root_alone dig b)) peer (message_spelling m) why
+  closes_on : {m : _} (why : Why) → IsMessage m → Fits m → HandlesMessage dig (before_leaves peer) 0 peer m [] (closing why) (before_leaves peer)
+      → ClosesOn dig (empty_engine dig b infohash (root_alone dig b)) peer (message_spelling m) why
   closes_on {m} why is fits handles = (
     _,
     (_, refl, refl, fed_leaves_peer),
@@ -59,7 +62,8 @@ module _ (dig : Digest) (b : ThreeBlocks) (infohash : List ℕ) where
       (λ idle. absurd cc) (λ open_to. absurd cc) (omega arith)
 
   -- a message that changes nothing, but may be answered and noted
-  stays_on : {m : _} (sent notes : _) → IsMessage m → Fits m → HandlesMessage dig (before_leaves peer) 0 peer m [] (record { send = sent; close = None; notes = notes; proofs = [] }) (before_leaves peer)
+  stays_on : {m : _} (sent notes : _) → IsMessage m → Fits m
+      → HandlesMessage dig (before_leaves peer) 0 peer m [] (record { send = sent; close = None; notes = notes; proofs = [] }) (before_leaves peer)
       → StaysOn dig (empty_engine dig b infohash (root_alone dig b)) peer (message_spelling m) sent notes
   stays_on {m} sent notes is fits handles = (
     _,

@@ -1,5 +1,5 @@
 -- The fetch of the file `abc` is a run.
-use Rattle.bt_engine.proofs.Base.{◌≡◌, ℕ, zero, suc, ◌+◌, ◌≤◌, ◌⊎◌, inl, inr, ◌↔◌, true, false, List, [], ◌∷◌, ◌++◌, length, Some, None, Ok, refl, sym, ap, ◌∙◌, subst, arith, rules, slice_get, Contains, option_and_then, append-nil, File, root_facts, digest_at_new, BlockState, Missing, Waiting, Marked, PutMarked, bytes_written, BlockId, Stream, stream, fed, Takes, handshake_spelling, Message as message_event, Ask, PeerMessage as Message, Interested, NotInterested, Have, Request, Piece}
+use Rattle.bt_engine.proofs.Base.{◌≡◌, ℕ, zero, suc, ◌+◌, ◌≤◌, ◌⊎◌, inl, inr, ◌↔◌, true, false, List, [], ◌∷◌, ◌++◌, length, Some, None, Ok, refl, sym, ap, ◌∙◌, subst, arith, rules, slice_get, Contains, option_and_then, append-nil, root_facts, digest_at_new, BlockState, Missing, Waiting, Marked, PutMarked, bytes_written, BlockId, stream, Takes, handshake_spelling, Message as message_event, Ask, PeerMessage as Message, Interested, NotInterested, Have, Request, Piece}
 use Rattle.bt_engine.proofs.Machine.{Digest, NowMarked, Complete, Idle, PeerState, FileState, EngineState, block_id, state_at, tree_of, Has, IsAsked, IsWholeBlock, Output, noting, ours, right, IsInteresting, NeedsLeaf, FollowsUp, rests, interest_sent, StepNext, waits, StepConnect, joins, greeting, StepFeed, feeds, Starts, by_root, Run, abc, abc_file, abc_torrent, abc_engine, served_peer, piece_bytes, abc_events, abc_calls, abc_answers, FetchOfAbcIsRun, first_key, peer_with, all_taken, their_handshake, bitfield_bytes, unchoke_bytes, to_first}
 use Rattle.bt_tree.specs.TreeShape.{height_up_to}
 use Rattle.bt_sparse.specs.SparseTree.{value_at}
@@ -19,7 +19,9 @@ unfolding value_at height_up_to
 value_here dig = digest_at_new finite.empty 0 0 (dig abc)
 
 -- there is one block
-one_block : {x y : _} (f i : ℕ) → option_and_then (λ (q : FileState). slice_get q.states i) (slice_get ((record { tree = 0; states = x ∷ [] }) ∷ []) f) ≡ Some y → (f ≡ 0) × (i ≡ 0) × (x ≡ y)
+one_block : {x y : _} (f i : ℕ)
+    → option_and_then (λ (q : FileState). slice_get q.states i) (slice_get ((record { tree = 0; states = x ∷ [] }) ∷ []) f) ≡ Some y
+    → (f ≡ 0) × (i ≡ 0) × (x ≡ y)
 one_block zero zero e = (refl, refl, some_is e)
 one_block zero (suc i) e = absurd cc
 one_block (suc f) i e = absurd cc
@@ -62,7 +64,8 @@ module _ (dig : Digest) (infohash : List ℕ) where
   none_missing p b e = let one = one_block _ _ e in absurd cc
 
   -- what follows where nothing is requested
-  quietly : {x : BlockState} {p : PeerState} {q sent : _} → q ≡ record p { am_interested = q.am_interested } → ((q.am_interested ≡ true) ↔ IsInteresting (engine x p) p) → sent ≡ interest_sent p p.am_interested q.am_interested
+  quietly : {x : BlockState} {p : PeerState} {q sent : _} → q ≡ record p { am_interested = q.am_interested }
+      → ((q.am_interested ≡ true) ↔ IsInteresting (engine x p) p) → sent ≡ interest_sent p p.am_interested q.am_interested
       → (q.peer_choking ≡ true) ⊎ (q.am_interested ≡ false) → length q.asked + 0 ≤ 16 → FollowsUp dig (engine x p) 0 sent (engine x q)
   quietly {x} {p} {q} {sent} same due told shut few =
       record {
@@ -154,8 +157,8 @@ module _ (dig : Digest) (infohash : List ℕ) where
   abbrev only_sends : Message → Output
   only_sends m = record { send = to_first m ∷ []; close = None; notes = [] }
 
-  next_hello : length infohash ≡ 32 → StepNext dig (engine Missing (peer_with (stream (handshake_spelling (their_handshake infohash)) false false) false true false Idle [] 0)) first_key [] (Ok (Some nothing_sent))
-      (engine Missing (peer_with all_taken false true false Idle [] 0))
+  next_hello : length infohash ≡ 32
+      → StepNext dig (engine Missing (peer_with (stream (handshake_spelling (their_handshake infohash)) false false) false true false Idle [] 0)) first_key [] (Ok (Some nothing_sent)) (engine Missing (peer_with all_taken false true false Idle [] 0))
   next_hello size =
       let p = peer_with (stream (handshake_spelling (their_handshake infohash)) false false) false true false Idle [] 0 in
       went _ _ refl refl refl (taken_hello _ size) (refl, ours refl refl, refl) after_hello refl refl
@@ -164,8 +167,7 @@ module _ (dig : Digest) (infohash : List ℕ) where
   next_bits =
       went _ _ refl refl refl taken_bits (refl, right refl refl refl) after_bits refl refl
 
-  next_unchoke : StepNext dig (engine Missing (peer_with (stream unchoke_bytes true false) true true true Idle [] 0)) first_key [] (Ok (Some (only_sends (Request first_ask))))
-      (engine Missing (peer_with all_taken true false true Idle (the_block ∷ []) 0))
+  next_unchoke : StepNext dig (engine Missing (peer_with (stream unchoke_bytes true false) true true true Idle [] 0)) first_key [] (Ok (Some (only_sends (Request first_ask)))) (engine Missing (peer_with all_taken true false true Idle (the_block ∷ []) 0))
   next_unchoke =
       went _ _ refl refl refl taken_unchoke (refl, refl, refl) after_unchoke refl refl
 
@@ -174,7 +176,9 @@ module _ (dig : Digest) (infohash : List ℕ) where
 
   next_piece : StepNext dig (engine Missing (peer_with (stream piece_bytes true false) true false true Idle (the_block ∷ []) 0)) first_key ((0, bytes_written 0 abc) ∷ []) (Ok (Some last_output)) (engine Marked served_peer)
   next_piece =
-      went (noting (NowMarked the_block)) (engine Marked (peer_with all_taken true false true Idle [] 3)) refl refl refl taken_piece (comes (Ok PutMarked) whole_block refl (here [] refl) refl refl (record { inside = omega arith; whole = refl }, refl, value_here dig) refl refl refl) after_piece refl refl
+      went (noting (NowMarked the_block)) (engine Marked (peer_with all_taken true false true Idle [] 3)) refl refl refl taken_piece
+      (comes (Ok PutMarked) whole_block refl (here [] refl) refl refl (record { inside = omega arith; whole = refl }, refl, value_here dig) refl refl refl)
+      after_piece refl refl
 
   -- ---- the run
 
@@ -206,7 +210,8 @@ module _ (dig : Digest) (infohash : List ℕ) where
         is = refl;
       }
 
-  runs : length infohash ≡ 32 → Run dig (abc_engine dig infohash Missing [] 1) (abc_events infohash) abc_calls (abc_answers infohash) (engine Marked served_peer)
+  runs : length infohash ≡ 32
+      → Run dig (abc_engine dig infohash Missing [] 1) (abc_events infohash) abc_calls (abc_answers infohash) (engine Marked served_peer)
   runs size = (
     _,
     (_, refl, refl, connects),

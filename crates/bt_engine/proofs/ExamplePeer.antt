@@ -1,5 +1,5 @@
 -- The messages of the peer of the worked examples, and lists of one.
-use Rattle.bt_engine.proofs.Base.{◌≡◌, ℕ, zero, suc, true, false, List, [], ◌∷◌, ◌++◌, length, replicate, Option, Some, None, refl, sym, ap, ◌∙◌, arith, slice_get, w32, to_be_bytes, append-nil, length-append, length-take, stream, Takes, Waits, HasNoEvent, ShowsNoFault, handshake_spelling, Body, IsMessage, Fits, frame_spelling, message_spelling, TooLong, BadLength, Hello, Message as message_event, Unchoke, Bitfield, Piece, event_frame, BlockId, Contains, Facts, Ok, Put, PutIsDue, Result, StoreError, WireEvent, calls_of_put, fed, map, states_after_put, without_block}
+use Rattle.bt_engine.proofs.Base.{◌≡◌, ℕ, zero, suc, true, false, List, [], ◌∷◌, ◌++◌, length, replicate, Option, Some, None, refl, sym, ap, ◌∙◌, arith, slice_get, w32, to_be_bytes, append-nil, length-append, length-take, stream, Takes, Waits, HasNoEvent, ShowsNoFault, handshake_spelling, Body, IsMessage, Fits, frame_spelling, message_spelling, TooLong, BadLength, Hello, Message as message_event, Unchoke, Bitfield, Piece, event_frame, Contains, Facts, Ok, Put, PutIsDue, Result, StoreError, WireEvent, calls_of_put, fed, map, states_after_put, without_block}
 use Rattle.bt_engine.proofs.Machine.{Digest, all_taken, their_handshake, bitfield_bytes, unchoke_bytes, Complete, DeviceCalls, Effect, EngineState, FileState, FollowsUp, Handles, HandlesPiece, HasPutEffect, IsWholeBlock, Note, PeerState, Sent, StepFeed, StepNext, Why, arrives, calls_at, closes, closing, feeds, first_key, goes_on, haves, new_complete_files, with_file, with_payload, with_peer, with_pending, without_peer}
 use Rattle.bt_engine.proofs.Lists.{some_is}
 
@@ -15,7 +15,8 @@ taken_bits = record { bytes = bitfield_bytes; event = record { is_message = tt; 
 pub taken_unchoke : Takes (stream unchoke_bytes true false) (message_event Unchoke) all_taken
 taken_unchoke = record { bytes = unchoke_bytes; event = record { is_message = tt; fits = record { limit = omega arith; whole = tt }; spelled = refl }; front = refl; running = refl; greeted = refl; not_failed = refl }
 
-pub taken_hello : (infohash : _) → length infohash ≡ 32 → Takes (stream (handshake_spelling (their_handshake infohash)) false false) (Hello (their_handshake infohash)) all_taken
+pub taken_hello : (infohash : _) → length infohash ≡ 32
+    → Takes (stream (handshake_spelling (their_handshake infohash)) false false) (Hello (their_handshake infohash)) all_taken
 taken_hello infohash size = record {
   bytes = handshake_spelling (their_handshake infohash);
   event = record { reserved = replicate 8 0; is_handshake = record { infohash = omega (arith, length-take 20 infohash); peer_id = refl }; eight = refl; spelled = refl };
@@ -88,8 +89,9 @@ closed_for {why} mid here key takes handles =
 
 -- a block that was asked for comes, and is put into its file
 pub comes : {dig : Digest} {s mid : EngineState} {p : PeerState} {begin n : ℕ} {bytes : List ℕ} {calls : DeviceCalls} {effect : Effect} {file : FileState} {k : Facts} {b : _} (r : Result Put StoreError)
-    → IsWholeBlock s.torrent 0 begin n b → length bytes ≡ n → Contains p.asked b → slice_get s.files b.file ≡ Some file → slice_get s.trees file.tree ≡ Some k
-    → PutIsDue dig k b.block bytes file.states r → calls ≡ calls_at b.file (calls_of_put b.block bytes r) → HasPutEffect b r effect
+    → IsWholeBlock s.torrent 0 begin n b → length bytes ≡ n → Contains p.asked b → slice_get s.files b.file ≡ Some file
+    → slice_get s.trees file.tree ≡ Some k → PutIsDue dig k b.block bytes file.states r → calls ≡ calls_at b.file (calls_of_put b.block bytes r)
+    → HasPutEffect b r effect
     → mid ≡ with_peer (with_file s b.file (record file { states = states_after_put b.block r file.states })) 0 (with_payload n (record p { asked = without_block b p.asked }))
     → HandlesPiece dig s 0 p 0 begin bytes calls effect mid
 comes {b} r whole size asked here hung due made has_effect after = arrives (record {

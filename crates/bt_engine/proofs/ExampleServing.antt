@@ -1,5 +1,5 @@
 -- Requests are served, ignored, or close their peer.
-use Rattle.bt_engine.proofs.Base.{◌≡◌, ◌∙◌, ℕ, zero, suc, ◌+◌, ◌≤◌, inl, inr, true, false, List, [], ◌∷◌, ◌++◌, length, take, drop, Some, Ok, refl, sym, ap, subst, arith, Contains, append-nil, length-drop, drop-append-le, take-append-add, bytes_given, IsPlace, Span, Facts, given, IsRight, Missing, Marked, BlockId, Stream, stream, fed, Takes, Message as message_event, Ask, Interested, Unchoke, Request, Piece}
+use Rattle.bt_engine.proofs.Base.{◌≡◌, ◌∙◌, ℕ, zero, suc, ◌+◌, ◌≤◌, inl, inr, true, false, List, [], ◌∷◌, ◌++◌, length, take, drop, Some, Ok, refl, sym, ap, subst, arith, Contains, append-nil, length-drop, drop-append-le, take-append-add, bytes_given, IsPlace, Span, Facts, given, IsRight, Missing, Marked, Stream, stream, Takes, Message as message_event, Ask, Interested, Unchoke, Request, Piece}
 use Rattle.bt_engine.proofs.Machine.{Digest, BadRequest, PeerState, EngineState, DeviceCalls, block_id, state_at, spanned_blocks, cut_from, Sent, sending, ignored, no_place, served, NeedsLeaf, FollowsUp, rests, StepNext, closes, StepFeed, feeds, StepRechoke, rechokes, Run, first_key, all_taken, to_first, ThreeBlocks, AreWhole, three_file, three_torrent, KnowsTwo, marked_engine, reader, interested_bytes, request_bytes, long_request_bytes, serving_events, serving_calls, serving_answers, ServingIsRun}
 use Rattle.bt_engine.proofs.Lists.{contains_none, contains_cases}
 use Rattle.bt_engine.proofs.ExampleThreeEngine.{output_of, IsOne, first, second, third, one_of}
@@ -88,7 +88,8 @@ module _ (dig : Digest) (b : ThreeBlocks) (infohash : List ℕ) (k : Facts) wher
 
   -- ---- the steps
 
-  fed_to : {turn : ℕ} {p : PeerState} {bytes : _} → p.key ≡ first_key → p.stream ≡ all_taken → StepFeed (engine turn p) first_key bytes (Ok tt) (engine turn (with_stream (stream bytes true false) p))
+  fed_to : {turn : ℕ} {p : PeerState} {bytes : _} → p.key ≡ first_key → p.stream ≡ all_taken
+      → StepFeed (engine turn p) first_key bytes (Ok tt) (engine turn (with_stream (stream bytes true false) p))
   fed_to {turn} {p} {bytes} key empty = feeds 0 p (record { here = refl; same_key = key }) refl (cc)
 
   next_interested : StepNext dig (engine 0 (with_stream (stream interested_bytes true false) (reader true false 0))) first_key [] (Ok (Some (output_of [] []))) (engine 0 (reader true true 0))
@@ -96,7 +97,10 @@ module _ (dig : Digest) (b : ThreeBlocks) (infohash : List ℕ) (k : Facts) wher
       went _ _ refl refl refl taken_interested (refl, refl, refl) (nothing_follows refl (omega arith)) refl refl
 
   unchokes : StepRechoke dig (engine 0 (reader true true 0)) (Some (output_of (to_first Unchoke ∷ []) [])) (engine 1 (reader false true 0))
-  unchokes = rechokes (output_of (to_first Unchoke ∷ []) []) (record { sent = []; follows = (engine 1 (reader false true 0), [], [], nothing_follows refl (omega arith), (refl, refl), refl); is = refl }) refl
+  unchokes =
+      rechokes (output_of (to_first Unchoke ∷ []) [])
+      (record { sent = []; follows = (engine 1 (reader false true 0), [], [], nothing_follows refl (omega arith), (refl, refl), refl); is = refl })
+      refl
 
   abbrev range_span : Span
   range_span = record { file = 0; start = 16334; length = 100 }
@@ -129,9 +133,12 @@ module _ (dig : Digest) (b : ThreeBlocks) (infohash : List ℕ) (k : Facts) wher
   abbrev two_reads : DeviceCalls
   two_reads = (0, bytes_given 0 16384 b.first) ∷ (0, bytes_given 16384 16384 b.second) ∷ []
 
-  next_request : AreWhole b → KnowsTwo dig b k → StepNext dig (engine 1 (with_stream (stream request_bytes true false) (reader false true 0))) first_key two_reads (Ok (Some (output_of piece_sent []))) (engine 1 (reader false true 100))
+  next_request : AreWhole b → KnowsTwo dig b k
+      → StepNext dig (engine 1 (with_stream (stream request_bytes true false) (reader false true 0))) first_key two_reads (Ok (Some (output_of piece_sent []))) (engine 1 (reader false true 100))
   next_request whole knows =
-      went _ _ refl refl refl taken_request (served range_span refl range_place (of_two (λ i. state_at (engine 1 (reader false true 0)) (block_id 0 i) ≡ Some Marked) refl refl) (record { file = record { tree = 0; states = Marked ∷ Marked ∷ Marked ∷ [] }; tree = k; bytes = two_blocks; reads = given 0 b.first ∷ given 1 b.second ∷ []; is_file = record { here = refl; hung = refl }; right = record { made = refl; right = of_two (λ i. IsRight dig k i (two_blocks i)) (record { whole = cc; leaf = knows.first }) (record { whole = cc; leaf = knows.second }); }; made = cc; sent = ap (λ l. sending (reader false true 0) (Piece 0 16334 l)) (sym (cut whole)); after = refl; })) (nothing_follows refl (omega arith)) refl refl
+      went _ _ refl refl refl taken_request
+      (served range_span refl range_place (of_two (λ i. state_at (engine 1 (reader false true 0)) (block_id 0 i) ≡ Some Marked) refl refl) (record { file = record { tree = 0; states = Marked ∷ Marked ∷ Marked ∷ [] }; tree = k; bytes = two_blocks; reads = given 0 b.first ∷ given 1 b.second ∷ []; is_file = record { here = refl; hung = refl }; right = record { made = refl; right = of_two (λ i. IsRight dig k i (two_blocks i)) (record { whole = cc; leaf = knows.first }) (record { whole = cc; leaf = knows.second }) }; made = cc; sent = ap (λ l. sending (reader false true 0) (Piece 0 16334 l)) (sym (cut whole)); after = refl }))
+      (nothing_follows refl (omega arith)) refl refl
 
   next_ignored : StepNext dig (engine 0 (with_stream (stream request_bytes true false) (reader true true 0))) first_key [] (Ok (Some (output_of [] []))) (engine 0 (reader true true 0))
   next_ignored =
@@ -145,7 +152,8 @@ module _ (dig : Digest) (b : ThreeBlocks) (infohash : List ℕ) (k : Facts) wher
   next_closed =
       closed_for _ refl refl taken_long (no_place refl too_long refl refl refl)
 
-  serves : AreWhole b → KnowsTwo dig b k → Run dig (engine 0 (reader true false 0)) serving_events (serving_calls b) (serving_answers b) (engine 1 (reader false true 100))
+  serves : AreWhole b → KnowsTwo dig b k
+      → Run dig (engine 0 (reader true false 0)) serving_events (serving_calls b) (serving_answers b) (engine 1 (reader false true 100))
   serves whole knows = (
     _,
     (_, refl, refl, fed_first refl refl),

@@ -1,5 +1,5 @@
 -- The engine that fetches three blocks, and what the messages before the pieces lead to.
-use Rattle.bt_engine.proofs.Base.{◌≡◌, ℕ, zero, suc, ◌+◌, ◌%◌, ◌<◌, ◌≤◌, inl, inr, ◌↔◌, true, false, List, [], ◌∷◌, ◌++◌, length, Some, None, Ok, refl, sym, ap, ◌∙◌, subst, arith, rules, slice_get, slice_index_or, Contains, option_and_then, w32, to_be_bytes, append-nil, length-append, IsDigest, File, Facts, value_at, IsKey, key_spelling, BlockState, Missing, Waiting, Marked, BlockId, Stream, stream, fed, handshake_spelling, Fits, Interested, HashRequest}
+use Rattle.bt_engine.proofs.Base.{◌≡◌, ℕ, zero, suc, ◌+◌, ◌%◌, ◌<◌, ◌≤◌, inl, inr, ◌↔◌, true, false, List, [], ◌∷◌, ◌++◌, length, Some, None, Ok, refl, sym, ap, ◌∙◌, subst, arith, rules, slice_get, slice_index_or, Contains, option_and_then, w32, to_be_bytes, append-nil, length-append, IsDigest, Facts, value_at, IsKey, key_spelling, BlockState, Missing, Waiting, Marked, BlockId, stream, handshake_spelling, Fits, Interested, HashRequest}
 use Rattle.bt_engine.proofs.Machine.{Digest, Note, HashState, Idle, Asked, PeerState, FileState, EngineState, block_id, state_at, tree_of, Has, IsAsked, IsWholeBlock, Sent, Output, ours, right, IsInteresting, NeedsLeaf, IsLeastNeed, IsOpen, FollowsUp, requests, rests, interest_sent, StepNext, StepConnect, joins, greeting, StepFeed, feeds, Starts, by_root, first_key, peer_with, all_taken, their_handshake, bitfield_bytes, unchoke_bytes, to_first, ThreeBlocks, left_node, right_node, three_root, three_file, three_torrent, three_engine, leaves_key, four_leaves, leaves_message, block_request}
 use Rattle.bt_engine.proofs.Lists.{some_is, contains_none, contains_cases, here, and_then_some}
 use Rattle.bt_engine.proofs.ExamplePeer.{one_there, taken_bits, taken_unchoke, taken_hello, went}
@@ -27,7 +27,9 @@ pub data IsOne (x y z : BlockState) (c : BlockId) (state : BlockState) : Type 0 
   second : c ≡ block 1 → y ≡ state → IsOne x y z c state
   third : c ≡ block 2 → z ≡ state → IsOne x y z c state
 
-pub one_of : {x y z state : _} (file i : ℕ) → option_and_then (λ (f : FileState). slice_get f.states i) (slice_get ((record { tree = 0; states = x ∷ y ∷ z ∷ [] }) ∷ []) file) ≡ Some state → IsOne x y z (block_id file i) state
+pub one_of : {x y z state : _} (file i : ℕ)
+    → option_and_then (λ (f : FileState). slice_get f.states i) (slice_get ((record { tree = 0; states = x ∷ y ∷ z ∷ [] }) ∷ []) file) ≡ Some state
+    → IsOne x y z (block_id file i) state
 one_of zero zero e = first refl (some_is e)
 one_of zero (suc zero) e = second refl (some_is e)
 one_of zero (suc (suc zero)) e = third refl (some_is e)
@@ -109,9 +111,11 @@ module _ (dig : Digest) (b : ThreeBlocks) (infohash : List ℕ) where
 
   -- ---- what follows where nothing is requested
 
-  pub quietly : {k : Facts} {x y z : BlockState} {p : PeerState} {q sent : _} → q ≡ record p { am_interested = q.am_interested } → ((q.am_interested ≡ true) ↔ IsInteresting (engine k x y z p) p)
-      → sent ≡ interest_sent p p.am_interested q.am_interested → (q.hash ≡ Idle → (c : BlockId) → ¬ NeedsLeaf dig (engine k x y z p) q c)
-      → (q.peer_choking ≡ false → q.am_interested ≡ true → (c : BlockId) → ¬ IsOpen (engine k x y z p) q c) → length q.asked + 0 ≤ 16 → FollowsUp dig (engine k x y z p) 0 sent (engine k x y z q)
+  pub quietly : {k : Facts} {x y z : BlockState} {p : PeerState} {q sent : _} → q ≡ record p { am_interested = q.am_interested }
+      → ((q.am_interested ≡ true) ↔ IsInteresting (engine k x y z p) p) → sent ≡ interest_sent p p.am_interested q.am_interested
+      → (q.hash ≡ Idle → (c : BlockId) → ¬ NeedsLeaf dig (engine k x y z p) q c)
+      → (q.peer_choking ≡ false → q.am_interested ≡ true → (c : BlockId) → ¬ IsOpen (engine k x y z p) q c) → length q.asked + 0 ≤ 16
+      → FollowsUp dig (engine k x y z p) 0 sent (engine k x y z q)
   quietly {k} {x} {y} {z} {p} {q} {sent} same due told known none few =
       record {
         peer = p;
@@ -137,7 +141,8 @@ module _ (dig : Digest) (b : ThreeBlocks) (infohash : List ℕ) where
       }
 
   -- a missing block in the piece that the peer has
-  pub interesting : (k : _) (x y z : BlockState) (p : PeerState) (c : _) → p.has ≡ true ∷ [] → Has (engine k x y z p) (record p { has = true ∷ [] }) c → state_at (engine k x y z p) c ≡ Some Missing → IsInteresting (engine k x y z p) p
+  pub interesting : (k : _) (x y z : BlockState) (p : PeerState) (c : _) → p.has ≡ true ∷ [] → Has (engine k x y z p) (record p { has = true ∷ [] }) c
+      → state_at (engine k x y z p) c ≡ Some Missing → IsInteresting (engine k x y z p) p
   interesting k x y z p c has is missing = (c, rw has is, missing)
 
   pub none_missing : (k p : _) → ¬ IsInteresting (engine k Marked Marked Marked p) p
@@ -168,8 +173,7 @@ module _ (dig : Digest) (b : ThreeBlocks) (infohash : List ℕ) where
     least = λ c needs before. elim before [ inl lower ↦ absurd (omega arith) | inr lower ↦ absurd (omega arith) ];
   }
 
-  after_bits : FollowsUp dig (engine (at_first dig b) Missing Missing Missing (peer_with all_taken false true true Idle [] 0)) 0 (to_first Interested ∷ to_first (HashRequest (leaves_key dig b)) ∷ [])
-      (engine (at_first dig b) Missing Missing Missing (peer_with all_taken true true true (Asked (leaves_key dig b)) [] 0))
+  after_bits : FollowsUp dig (engine (at_first dig b) Missing Missing Missing (peer_with all_taken false true true Idle [] 0)) 0 (to_first Interested ∷ to_first (HashRequest (leaves_key dig b)) ∷ []) (engine (at_first dig b) Missing Missing Missing (peer_with all_taken true true true (Asked (leaves_key dig b)) [] 0))
   after_bits =
       let p = peer_with all_taken false true true Idle [] 0 in
       let q = peer_with all_taken true true true Idle [] 0 in
@@ -203,12 +207,13 @@ module _ (dig : Digest) (b : ThreeBlocks) (infohash : List ℕ) where
     | inr more ↦ contains_none more
   ]
 
-  pub is_open : {k : _} {p : PeerState} {c : _} → p.asked ≡ [] → Has (engine k Missing Missing Missing p) p c → state_at (engine k Missing Missing Missing p) c ≡ Some Missing
-      → IsOpen (engine k Missing Missing Missing p) p c
+  pub is_open : {k : _} {p : PeerState} {c : _} → p.asked ≡ [] → Has (engine k Missing Missing Missing p) p c
+      → state_at (engine k Missing Missing Missing p) c ≡ Some Missing → IsOpen (engine k Missing Missing Missing p) p c
   is_open {k} {p} {c} none has missing = record { has = has; missing = missing; free = unasked k p c none }
 
-  after_unchoke : {k : _} {hash : HashState} → (hash ≡ Idle → (c : BlockId) → ¬ NeedsLeaf dig (engine k Missing Missing Missing (asked_peer hash [] 0)) (asked_peer hash [] 0) c) → FollowsUp dig (engine k Missing Missing Missing (asked_peer hash [] 0)) 0 (to_first (block_request 0) ∷ to_first (block_request 16384) ∷ to_first (block_request 32768) ∷ [])
-      (engine k Missing Missing Missing (asked_peer hash all_three 0))
+  after_unchoke : {k : _} {hash : HashState}
+      → (hash ≡ Idle → (c : BlockId) → ¬ NeedsLeaf dig (engine k Missing Missing Missing (asked_peer hash [] 0)) (asked_peer hash [] 0) c)
+      → FollowsUp dig (engine k Missing Missing Missing (asked_peer hash [] 0)) 0 (to_first (block_request 0) ∷ to_first (block_request 16384) ∷ to_first (block_request 32768) ∷ []) (engine k Missing Missing Missing (asked_peer hash all_three 0))
   after_unchoke {k} {hash} known =
       let p = asked_peer hash [] 0 in
       let s = engine k Missing Missing Missing p in
@@ -268,22 +273,21 @@ module _ (dig : Digest) (b : ThreeBlocks) (infohash : List ℕ) where
 
   -- ---- the steps
 
-  pub next_hello : length infohash ≡ 32 → StepNext dig (engine (at_first dig b) Missing Missing Missing (peer_with (stream (handshake_spelling (their_handshake infohash)) false false) false true false Idle [] 0)) first_key []
-      (Ok (Some (output_of [] []))) (engine (at_first dig b) Missing Missing Missing (peer_with all_taken false true false Idle [] 0))
+  pub next_hello : length infohash ≡ 32
+      → StepNext dig (engine (at_first dig b) Missing Missing Missing (peer_with (stream (handshake_spelling (their_handshake infohash)) false false) false true false Idle [] 0)) first_key [] (Ok (Some (output_of [] []))) (engine (at_first dig b) Missing Missing Missing (peer_with all_taken false true false Idle [] 0))
   next_hello size =
       went _ _ refl refl refl (taken_hello _ size) (refl, ours refl refl, refl) after_hello refl refl
 
   abbrev pub bits_sent : List Sent
   bits_sent = to_first Interested ∷ to_first (HashRequest (leaves_key dig b)) ∷ []
 
-  pub next_bits : StepNext dig (engine (at_first dig b) Missing Missing Missing (peer_with (stream bitfield_bytes true false) false true false Idle [] 0)) first_key [] (Ok (Some (output_of bits_sent [])))
-      (engine (at_first dig b) Missing Missing Missing (peer_with all_taken true true true (Asked (leaves_key dig b)) [] 0))
+  pub next_bits : StepNext dig (engine (at_first dig b) Missing Missing Missing (peer_with (stream bitfield_bytes true false) false true false Idle [] 0)) first_key [] (Ok (Some (output_of bits_sent []))) (engine (at_first dig b) Missing Missing Missing (peer_with all_taken true true true (Asked (leaves_key dig b)) [] 0))
   next_bits =
       went _ _ refl refl refl taken_bits (refl, right refl refl refl) after_bits refl refl
 
-  pub next_unchoke : {k : _} {hash : HashState} → (hash ≡ Idle → (c : BlockId) → ¬ NeedsLeaf dig (engine k Missing Missing Missing (asked_peer hash [] 0)) (asked_peer hash [] 0) c)
-      → StepNext dig (engine k Missing Missing Missing (peer_with (stream unchoke_bytes true false) true true true hash [] 0)) first_key [] (Ok (Some (output_of three_asks [])))
-      (engine k Missing Missing Missing (asked_peer hash all_three 0))
+  pub next_unchoke : {k : _} {hash : HashState}
+      → (hash ≡ Idle → (c : BlockId) → ¬ NeedsLeaf dig (engine k Missing Missing Missing (asked_peer hash [] 0)) (asked_peer hash [] 0) c)
+      → StepNext dig (engine k Missing Missing Missing (peer_with (stream unchoke_bytes true false) true true true hash [] 0)) first_key [] (Ok (Some (output_of three_asks []))) (engine k Missing Missing Missing (asked_peer hash all_three 0))
   next_unchoke known =
       went _ _ refl refl refl taken_unchoke (refl, refl, refl) (after_unchoke known) refl refl
 

@@ -123,25 +123,30 @@ module _ (dig : Digest) (b : ThreeBlocks) where
   unfolding height_up_to
   held_cases {layer} {i} {d} held = third (digest_at_cases _ 0 2 layer i (dig b.third) d held)
     where
-      node : {l j x : _} → IsClaimed l j x → CoversBlock 3 l j → (layer ≡ l) × (i ≡ j) × (d ≡ x) → (held_at at_first layer i ≡ Some d) ⊎ (IsClaimed layer i d × CoversBlock 3 layer i)
+      node : {l j x : _} → IsClaimed l j x → CoversBlock 3 l j → (layer ≡ l) × (i ≡ j) × (d ≡ x)
+          → (held_at at_first layer i ≡ Some d) ⊎ (IsClaimed layer i d × CoversBlock 3 layer i)
       node {l} {j} is covers e = inr (
         rw e.0 (rw e.1 (rw e.2 is)),
         rw e.0 (rw e.1 covers),
       )
 
-      at_left : ((layer ≡ 1) × (i ≡ 0) × (d ≡ left_node dig b)) ⊎ (held_at at_first layer i ≡ Some d) → (held_at at_first layer i ≡ Some d) ⊎ (IsClaimed layer i d × CoversBlock 3 layer i)
+      at_left : ((layer ≡ 1) × (i ≡ 0) × (d ≡ left_node dig b)) ⊎ (held_at at_first layer i ≡ Some d)
+          → (held_at at_first layer i ≡ Some d) ⊎ (IsClaimed layer i d × CoversBlock 3 layer i)
       at_left (inl e) = node left (record { inside = record { in_height = omega arith; in_width = omega arith }; real = omega arith }) e
       at_left (inr rest) = inl rest
 
-      at_right : ((layer ≡ 1) × (i ≡ 1) × (d ≡ right_node dig b)) ⊎ (digest_at (finite.insert at_first.nodes (1, 0) (left_node dig b)) layer i ≡ Some d) → (held_at at_first layer i ≡ Some d) ⊎ (IsClaimed layer i d × CoversBlock 3 layer i)
+      at_right : ((layer ≡ 1) × (i ≡ 1) × (d ≡ right_node dig b)) ⊎ (digest_at (finite.insert at_first.nodes (1, 0) (left_node dig b)) layer i ≡ Some d)
+          → (held_at at_first layer i ≡ Some d) ⊎ (IsClaimed layer i d × CoversBlock 3 layer i)
       at_right (inl e) = node right (record { inside = record { in_height = omega arith; in_width = omega arith }; real = omega arith }) e
       at_right (inr rest) = at_left (digest_at_cases at_first.nodes 1 0 layer i (left_node dig b) d rest)
 
-      first : ((layer ≡ 0) × (i ≡ 0) × (d ≡ dig b.first)) ⊎ (digest_at nodes_above layer i ≡ Some d) → (held_at at_first layer i ≡ Some d) ⊎ (IsClaimed layer i d × CoversBlock 3 layer i)
+      first : ((layer ≡ 0) × (i ≡ 0) × (d ≡ dig b.first)) ⊎ (digest_at nodes_above layer i ≡ Some d)
+          → (held_at at_first layer i ≡ Some d) ⊎ (IsClaimed layer i d × CoversBlock 3 layer i)
       first (inl e) = node first_leaf (record { inside = record { in_height = omega arith; in_width = omega arith }; real = omega arith }) e
       first (inr rest) = at_right (digest_at_cases _ 1 1 layer i (right_node dig b) d rest)
 
-      second : ((layer ≡ 0) × (i ≡ 1) × (d ≡ dig b.second)) ⊎ (digest_at (finite.insert nodes_above (0, 0) (dig b.first)) layer i ≡ Some d) → (held_at at_first layer i ≡ Some d) ⊎ (IsClaimed layer i d × CoversBlock 3 layer i)
+      second : ((layer ≡ 0) × (i ≡ 1) × (d ≡ dig b.second)) ⊎ (digest_at (finite.insert nodes_above (0, 0) (dig b.first)) layer i ≡ Some d)
+          → (held_at at_first layer i ≡ Some d) ⊎ (IsClaimed layer i d × CoversBlock 3 layer i)
       second (inl e) = node second_leaf (record { inside = record { in_height = omega arith; in_width = omega arith }; real = omega arith }) e
       second (inr rest) = first (digest_at_cases nodes_above 0 0 layer i (dig b.first) d rest)
 

@@ -116,7 +116,8 @@ module _ (dig : Digest) (b : ThreeBlocks) (wrong : List ℕ) (infohash : List �
         quietly dig b infohash refl (λ e. interesting dig b infohash (at_first dig b) Waiting Missing Missing p (block 1) refl refl refl, λ i. refl) refl
         (λ idle. asked_already idle) (λ e f c may. none (is_one dig b infohash (at_first dig b) p may.missing) may) (omega (arith, few_one))
       where
-        none : {c : _} → IsOne Waiting Missing Missing c Missing → ¬ IsOpen (engine dig b infohash (at_first dig b) Waiting Missing Missing (asked_peer asked_key (left_one asked) 16384)) (asked_peer asked_key (left_one asked) 16384) c
+        none : {c : _} → IsOne Waiting Missing Missing c Missing
+            → ¬ IsOpen (engine dig b infohash (at_first dig b) Waiting Missing Missing (asked_peer asked_key (left_one asked) 16384)) (asked_peer asked_key (left_one asked) 16384) c
         none (first e f) may = absurd cc
         none (second e f) may = not_open dig b infohash _ _ _ _ (asked_peer asked_key (left_one asked) 16384) (rw e second_left) may
         none (third e f) may = not_open dig b infohash _ _ _ _ (asked_peer asked_key (left_one asked) 16384) (rw e third_left) may
@@ -127,25 +128,35 @@ module _ (dig : Digest) (b : ThreeBlocks) (wrong : List ℕ) (infohash : List �
         quietly dig b infohash refl (λ e. interesting dig b infohash (at_first dig b) Waiting Waiting Missing p (block 2) refl refl refl, λ i. refl) refl
         (λ idle. asked_already idle) (λ e f c may. none (is_one dig b infohash (at_first dig b) p may.missing) may) (omega (arith, few_one, few_two))
       where
-        none : {c : _} → IsOne Waiting Waiting Missing c Missing → ¬ IsOpen (engine dig b infohash (at_first dig b) Waiting Waiting Missing (asked_peer asked_key (left_two asked) 32768)) (asked_peer asked_key (left_two asked) 32768) c
+        none : {c : _} → IsOne Waiting Waiting Missing c Missing
+            → ¬ IsOpen (engine dig b infohash (at_first dig b) Waiting Waiting Missing (asked_peer asked_key (left_two asked) 32768)) (asked_peer asked_key (left_two asked) 32768) c
         none (first e f) may = absurd cc
         none (second e f) may = absurd cc
         none (third e f) may = not_open dig b infohash _ _ _ _ (asked_peer asked_key (left_two asked) 32768) (rw e third_last) may
 
-    next_first : length b.first ≡ 16384 → StepNext dig (engine dig b infohash (at_first dig b) Missing Missing Missing (peer_with (stream (message_spelling (Piece 0 0 b.first)) true false) true false true asked_key asked 0)) first_key ((0, bytes_written 0 b.first) ∷ [])
-        (Ok (Some (output_of [] (NowWaiting (block 0) ∷ [])))) (engine dig b infohash (at_first dig b) Waiting Missing Missing (asked_peer asked_key (left_one asked) 16384))
+    next_first : length b.first ≡ 16384
+        → StepNext dig (engine dig b infohash (at_first dig b) Missing Missing Missing (peer_with (stream (message_spelling (Piece 0 0 b.first)) true false) true false true asked_key asked 0)) first_key ((0, bytes_written 0 b.first) ∷ []) (Ok (Some (output_of [] (NowWaiting (block 0) ∷ [])))) (engine dig b infohash (at_first dig b) Waiting Missing Missing (asked_peer asked_key (left_one asked) 16384))
     next_first size =
-        went (noting (NowWaiting (block 0))) (engine dig b _ (at_first dig b) Waiting Missing Missing (asked_peer asked_key (left_one asked) 16384)) refl refl refl (taken_message (omega arith, omega arith) (piece_fits 0 size)) (comes (Ok PutWaiting) (whole_first dig b infohash) size (all.each (block 0) (0, omega arith, refl)) refl refl (record { inside = omega arith; whole = size }, refl, first_unknown dig b) refl refl refl) after_first refl refl
+        went (noting (NowWaiting (block 0))) (engine dig b _ (at_first dig b) Waiting Missing Missing (asked_peer asked_key (left_one asked) 16384))
+        refl refl refl (taken_message (omega arith, omega arith) (piece_fits 0 size))
+        (comes (Ok PutWaiting) (whole_first dig b infohash) size (all.each (block 0) (0, omega arith, refl)) refl refl (record { inside = omega arith; whole = size }, refl, first_unknown dig b) refl refl refl)
+        after_first refl refl
 
-    next_second : length b.second ≡ 16384 → StepNext dig (engine dig b infohash (at_first dig b) Waiting Missing Missing (peer_with (stream (message_spelling (Piece 0 16384 b.second)) true false) true false true asked_key (left_one asked) 16384)) first_key ((0, bytes_written 16384 b.second) ∷ [])
-        (Ok (Some (output_of [] (NowWaiting (block 1) ∷ [])))) (engine dig b infohash (at_first dig b) Waiting Waiting Missing (asked_peer asked_key (left_two asked) 32768))
+    next_second : length b.second ≡ 16384
+        → StepNext dig (engine dig b infohash (at_first dig b) Waiting Missing Missing (peer_with (stream (message_spelling (Piece 0 16384 b.second)) true false) true false true asked_key (left_one asked) 16384)) first_key ((0, bytes_written 16384 b.second) ∷ []) (Ok (Some (output_of [] (NowWaiting (block 1) ∷ [])))) (engine dig b infohash (at_first dig b) Waiting Waiting Missing (asked_peer asked_key (left_two asked) 32768))
     next_second size =
-        went (noting (NowWaiting (block 1))) (engine dig b _ (at_first dig b) Waiting Waiting Missing (asked_peer asked_key (left_two asked) 32768)) refl refl refl (taken_message (omega arith, omega arith) (piece_fits 16384 size)) (comes (Ok PutWaiting) (whole_second dig b infohash) size second_left refl refl (record { inside = omega arith; whole = size }, refl, second_unknown dig b) refl refl refl) after_second refl refl
+        went (noting (NowWaiting (block 1))) (engine dig b _ (at_first dig b) Waiting Waiting Missing (asked_peer asked_key (left_two asked) 32768))
+        refl refl refl (taken_message (omega arith, omega arith) (piece_fits 16384 size))
+        (comes (Ok PutWaiting) (whole_second dig b infohash) size second_left refl refl (record { inside = omega arith; whole = size }, refl, second_unknown dig b) refl refl refl)
+        after_second refl refl
 
-    next_third : length wrong ≡ 16384 → StepNext dig (engine dig b infohash (at_first dig b) Waiting Waiting Missing (peer_with (stream (message_spelling (Piece 0 32768 wrong)) true false) true false true asked_key (left_two asked) 32768)) first_key ((0, bytes_written 32768 wrong) ∷ [])
-        (Ok (Some (output_of (to_first NotInterested ∷ []) (NowWaiting (block 2) ∷ [])))) (engine dig b infohash (at_first dig b) Waiting Waiting Waiting (idle_peer all_taken asked_key))
+    next_third : length wrong ≡ 16384
+        → StepNext dig (engine dig b infohash (at_first dig b) Waiting Waiting Missing (peer_with (stream (message_spelling (Piece 0 32768 wrong)) true false) true false true asked_key (left_two asked) 32768)) first_key ((0, bytes_written 32768 wrong) ∷ []) (Ok (Some (output_of (to_first NotInterested ∷ []) (NowWaiting (block 2) ∷ [])))) (engine dig b infohash (at_first dig b) Waiting Waiting Waiting (idle_peer all_taken asked_key))
     next_third size =
-        went (noting (NowWaiting (block 2))) (engine dig b _ (at_first dig b) Waiting Waiting Waiting (asked_peer asked_key [] 49152)) refl refl refl (taken_message (omega arith, omega arith) (piece_fits 32768 size)) (comes (Ok PutWaiting) (whole_third dig b infohash) size third_last refl refl (record { inside = omega arith; whole = size }, refl, third_unknown dig b) refl refl (ap (λ l. engine dig b infohash (at_first dig b) Waiting Waiting Waiting (asked_peer asked_key l 49152)) (sym none_left))) after_third refl refl
+        went (noting (NowWaiting (block 2))) (engine dig b _ (at_first dig b) Waiting Waiting Waiting (asked_peer asked_key [] 49152)) refl refl refl
+        (taken_message (omega arith, omega arith) (piece_fits 32768 size))
+        (comes (Ok PutWaiting) (whole_third dig b infohash) size third_last refl refl (record { inside = omega arith; whole = size }, refl, third_unknown dig b) refl refl (ap (λ l. engine dig b infohash (at_first dig b) Waiting Waiting Waiting (asked_peer asked_key l 49152)) (sym none_left)))
+        after_third refl refl
 
   -- ---- they are read back
 
@@ -175,10 +186,12 @@ module _ (dig : Digest) (b : ThreeBlocks) (wrong : List ℕ) (infohash : List �
   all_due : due_blocks dig (proved dig b) 0 0 4 waiting_file ≡ 0 ∷ 1 ∷ 2 ∷ []
   all_due = rw (first_known dig b, second_known dig b, third_known dig b) refl
 
-  noted : AreWhole b → IsWrongThird dig b wrong → settling_notes dig (proved dig b) 0 read_back ≡ NowMarked (block 0) ∷ NowMarked (block 1) ∷ Freed (block 2) ∷ []
+  noted : AreWhole b → IsWrongThird dig b wrong
+      → settling_notes dig (proved dig b) 0 read_back ≡ NowMarked (block 0) ∷ NowMarked (block 1) ∷ Freed (block 2) ∷ []
   noted whole other = rw (first_right whole, second_right whole, third_wrong other) refl
 
-  judged_so : AreWhole b → IsWrongThird dig b wrong → judged_file dig (proved dig b) read_back waiting_file ≡ record { tree = 0; states = Marked ∷ Marked ∷ Missing ∷ [] }
+  judged_so : AreWhole b → IsWrongThird dig b wrong
+      → judged_file dig (proved dig b) read_back waiting_file ≡ record { tree = 0; states = Marked ∷ Marked ∷ Missing ∷ [] }
   judged_so whole other = rw (first_right whole, second_right whole, third_wrong other) refl
 
   abbrev pub settled : PeerState → EngineState
@@ -235,16 +248,17 @@ module _ (dig : Digest) (b : ThreeBlocks) (wrong : List ℕ) (infohash : List �
   abbrev settling_notes_are : List Note
   settling_notes_are = NowMarked (block 0) ∷ NowMarked (block 1) ∷ Freed (block 2) ∷ []
 
-  next_leaves : IsDigest dig → AreWhole b → IsWrongThird dig b wrong → StepNext dig (engine dig b infohash (at_first dig b) Waiting Waiting Waiting (idle_peer (stream (message_spelling (leaves_message dig b)) true false) asked_key)) first_key
-      ((0, bytes_given 0 16384 b.first) ∷ (0, bytes_given 16384 16384 b.second) ∷ (0, bytes_given 32768 16384 wrong) ∷ []) (Ok (Some (output_of asks_third settling_notes_are))) (settled (asked_peer Idle (block 2 ∷ []) 49152))
+  next_leaves : IsDigest dig → AreWhole b → IsWrongThird dig b wrong
+      → StepNext dig (engine dig b infohash (at_first dig b) Waiting Waiting Waiting (idle_peer (stream (message_spelling (leaves_message dig b)) true false) asked_key)) first_key ((0, bytes_given 0 16384 b.first) ∷ (0, bytes_given 16384 16384 b.second) ∷ (0, bytes_given 32768 16384 wrong) ∷ []) (Ok (Some (output_of asks_third settling_notes_are))) (settled (asked_peer Idle (block 2 ∷ []) 49152))
   next_leaves sizes whole other =
-      went (record no_effect { notes = settling_notes_are; proofs = new_proofs (leaves_key dig b) (four_leaves dig b) (at_first dig b) (proved dig b) }) (settled (idle_peer all_taken Idle)) refl refl refl (taken_message (key_fits dig b infohash sizes) (leaves_fit dig b infohash sizes)) (learns (record { tree = 0; old = at_first dig b; new = proved dig b; claim = leaves_claim dig b; notes = settling_notes_are; settled = settled (idle_peer all_taken asked_key); hash = Idle; here = record { here = refl; same_root = refl }; claims = claims dig sizes b; accepts = accepts dig b; settles = record { facts = proved dig b; reads = reads; here = refl; due = due; made = refl; noted = sym (ap (λ l. l ++ []) (noted whole other)); files = files; others = refl; }; resolves = resolved refl refl; has_effect = refl; after = refl; })) after_leaves refl refl
+      went (record no_effect { notes = settling_notes_are; proofs = new_proofs (leaves_key dig b) (four_leaves dig b) (at_first dig b) (proved dig b) }) (settled (idle_peer all_taken Idle)) refl refl refl (taken_message (key_fits dig b infohash sizes) (leaves_fit dig b infohash sizes)) (learns (record { tree = 0; old = at_first dig b; new = proved dig b; claim = leaves_claim dig b; notes = settling_notes_are; settled = settled (idle_peer all_taken asked_key); hash = Idle; here = record { here = refl; same_root = refl }; claims = claims dig sizes b; accepts = accepts dig b; settles = record { facts = proved dig b; reads = reads; here = refl; due = due; made = refl; noted = sym (ap (λ l. l ++ []) (noted whole other)); files = files; others = refl }; resolves = resolved refl refl; has_effect = refl; after = refl })) after_leaves refl refl
     where
       due : (file f : _) → slice_get (waiting_file ∷ []) file ≡ Some f → map block_of (reads file) ≡ due_blocks dig (proved dig b) 0 0 4 f
       due zero f at = sym all_due ∙ ap (λ g. due_blocks dig (proved dig b) 0 0 4 g) (one_there 0 at).1
       due (suc file) f at = absurd cc
 
-      files : (file : ℕ) → slice_get ((record { tree = 0; states = Marked ∷ Marked ∷ Missing ∷ [] }) ∷ []) file ≡ option_map (judged_file dig (proved dig b) (reads file)) (slice_get (waiting_file ∷ []) file)
+      files : (file : ℕ)
+          → slice_get ((record { tree = 0; states = Marked ∷ Marked ∷ Missing ∷ [] }) ∷ []) file ≡ option_map (judged_file dig (proved dig b) (reads file)) (slice_get (waiting_file ∷ []) file)
       files zero = ap (λ g. Some g) (sym (judged_so whole other))
       files (suc file) = refl
 
@@ -292,7 +306,9 @@ module _ (dig : Digest) (b : ThreeBlocks) (wrong : List ℕ) (infohash : List �
 
   -- the three pieces
   abbrev pub piece_events : List Event
-  piece_events = told (message_spelling (Piece 0 0 b.first)) (told (message_spelling (Piece 0 16384 b.second)) (told (message_spelling (Piece 0 32768 wrong)) []))
+  piece_events =
+      told (message_spelling (Piece 0 0 b.first))
+      (told (message_spelling (Piece 0 16384 b.second)) (told (message_spelling (Piece 0 32768 wrong)) []))
 
   abbrev pub piece_calls : List DeviceCalls
   piece_calls = [] ∷ ((0, bytes_written 0 b.first) ∷ []) ∷ [] ∷ ((0, bytes_written 16384 b.second) ∷ []) ∷ [] ∷ ((0, bytes_written 32768 wrong) ∷ []) ∷ []
@@ -304,7 +320,8 @@ module _ (dig : Digest) (b : ThreeBlocks) (wrong : List ℕ) (infohash : List �
   abbrev pub all_wait : EngineState
   all_wait = first_state Waiting Waiting Waiting (idle_peer all_taken asked_key)
 
-  pub pieces_wait : {asked : _} → AreAsked asked → AreWhole b → IsWrongThird dig b wrong → Run dig (first_state Missing Missing Missing (asked_peer asked_key asked 0)) piece_events piece_calls piece_answers all_wait
+  pub pieces_wait : {asked : _} → AreAsked asked → AreWhole b → IsWrongThird dig b wrong
+      → Run dig (first_state Missing Missing Missing (asked_peer asked_key asked 0)) piece_events piece_calls piece_answers all_wait
   pieces_wait {asked} all whole other = (
     _,
     (_, refl, refl, fed_first refl refl),
@@ -333,7 +350,8 @@ module _ (dig : Digest) (b : ThreeBlocks) (wrong : List ℕ) (infohash : List �
   in_turn : AreAsked all_three
   in_turn = record { few = omega arith; each = λ c among. among; among = λ c among. among }
 
-  waits : AreWhole b → IsWrongThird dig b wrong → length infohash ≡ 32 → Run dig (start dig b infohash) (waiting_events b wrong infohash) (waiting_calls b wrong) (waiting_answers dig b infohash) all_wait
+  waits : AreWhole b → IsWrongThird dig b wrong → length infohash ≡ 32
+      → Run dig (start dig b infohash) (waiting_events b wrong infohash) (waiting_calls b wrong) (waiting_answers dig b infohash) all_wait
   waits whole other size =
       let goes_on : Run dig before_unchoke (Next first_key ∷ piece_events) ([] ∷ piece_calls) (unchoke_answer ∷ piece_answers) all_wait
       = (_, (_, refl, next_unchoke dig b infohash (λ idle. asked_already idle)), pieces_wait in_turn whole other) in

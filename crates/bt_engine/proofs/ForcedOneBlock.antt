@@ -1,6 +1,6 @@
 -- The answers of the fetch of `abc` are the only ones.
 use Rattle.bt_engine.proofs.Base.{◌≡◌, ℕ, List, [], ◌∷◌, length, refl, sym, ap, ◌∙◌, subst, arith, slice_get, Some, ⊤, IsLaidOut, Missing, Marked}
-use Rattle.bt_engine.proofs.Machine.{Digest, FileState, block_id, state_at, IsShaped, Run, IsOutOfMemory, LacksOneAtMost, HaveMemory, abc_file, abc_torrent, abc_engine, served_peer, abc_events, abc_calls, abc_answers, AbcAnswersAreForced}
+use Rattle.bt_engine.proofs.Machine.{Digest, block_id, state_at, IsShaped, Run, IsOutOfMemory, LacksOneAtMost, HaveMemory, abc_file, abc_torrent, abc_engine, served_peer, abc_events, abc_calls, abc_answers, AbcAnswersAreForced}
 use Rattle.bt_engine.proofs.Lists.{and_then_some, some_below}
 use Rattle.bt_engine.proofs.Orderly.{order_of_runs}
 use Rattle.bt_engine.proofs.Shape.{shape_at_first}
@@ -26,7 +26,9 @@ module _ (dig : Digest) (infohash : List ℕ) where
   one_missing shaped b c x y = the_block shaped x ∙ sym (the_block shaped y)
 
   pub memory : HaveMemory (abc_answers infohash)
-  memory = all_of (λ a. ¬ IsOutOfMemory a) (abc_answers infohash) (λ o. o, (λ o. o, (λ o. o, (λ o. o, (λ o. o, (λ o. o, (λ o. o, (λ o. o, (λ o. o, (λ o. o, tt))))))))))
+  memory =
+      all_of (λ a. ¬ IsOutOfMemory a) (abc_answers infohash)
+      (λ o. o, (λ o. o, (λ o. o, (λ o. o, (λ o. o, (λ o. o, (λ o. o, (λ o. o, (λ o. o, (λ o. o, tt))))))))))
 
   forced : {last answers : _} → length infohash ≡ 32
       → Run dig (abc_engine dig infohash Missing [] 1) (abc_events infohash) abc_calls answers last → HaveMemory answers

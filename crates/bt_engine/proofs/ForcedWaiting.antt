@@ -1,6 +1,6 @@
 -- The answers of the waiting fetch are the only ones, but for the order of three requests.
 use Rattle.bt_engine.proofs.Base.{◌≡◌, ◌≢◌, ℕ, ◌*◌, ◌<◌, ◌⊎◌, inl, inr, true, List, [], ◌∷◌, ◌++◌, length, map, get_or, Some, refl, sym, ap, ◌∙◌, subst, arith, slice_set, slice_index_or, Contains, AllPairs, IsDigest, IsLaidOut, Missing, Marked, BlockId, message_spelling, Message as message_event, Unchoke, Request}
-use Rattle.bt_engine.proofs.Machine.{Digest, Event, Feed, Next, Idle, PeerState, EngineState, DeviceCalls, state_at, IsWholeBlock, Sent, sent_to, TellsInterest, interest_sent, RequestsHashes, requests, rests, IsOpen, AsksBlocks, RequestsEach, FollowsUp, IsOrderly, IsShaped, Answer, of_next, Run, IsOutOfMemory, block_requests, LacksOneAtMost, HaveMemory, first_key, all_taken, to_first, fed_answer, taken_answer, ThreeBlocks, AreWhole, three_file, three_torrent, leaves_message, told, block_request, IsWrongThird, file_with, waiting_events, waiting_calls, settling_calls, settling_answers, IsOrder, waiting_answers_in, WaitingAnswersAreForced}
+use Rattle.bt_engine.proofs.Machine.{Digest, Feed, Next, Idle, PeerState, EngineState, DeviceCalls, state_at, IsWholeBlock, Sent, sent_to, TellsInterest, interest_sent, RequestsHashes, requests, rests, IsOpen, AsksBlocks, RequestsEach, FollowsUp, IsOrderly, IsShaped, Answer, of_next, Run, IsOutOfMemory, block_requests, LacksOneAtMost, HaveMemory, first_key, all_taken, to_first, fed_answer, taken_answer, ThreeBlocks, AreWhole, three_file, three_torrent, leaves_message, told, block_request, IsWrongThird, file_with, waiting_events, waiting_calls, settling_calls, settling_answers, IsOrder, waiting_answers_in, WaitingAnswersAreForced}
 use Rattle.bt_engine.proofs.Lists.{same_some, here, later, contains_cases, contains_none}
 use Rattle.bt_engine.proofs.Pairs.{contains_at}
 use Rattle.bt_engine.proofs.Orderly.{order_kept, order_of_runs}
@@ -117,7 +117,9 @@ module _ (dig : Digest) (b : ThreeBlocks) (wrong : List ℕ) (infohash : List �
       told = interest.told ∙ ap (λ t. interest_sent peer true t) cares
 
       planned : (x.hash_frames ≡ []) × (x.planned ≡ peer)
-      planned = hash_rests (subst (λ p. RequestsHashes dig unchoked p x.hash_frames x.planned) (interest.others ∙ ap (λ t. record peer { am_interested = t }) cares) x.hashes)
+      planned =
+          hash_rests
+          (subst (λ p. RequestsHashes dig unchoked p x.hash_frames x.planned) (interest.others ∙ ap (λ t. record peer { am_interested = t }) cares) x.hashes)
 
       asks : AsksBlocks unchoked peer x.blocks
       asks = subst (λ p. AsksBlocks unchoked p x.blocks) planned.1 x.asks
@@ -150,7 +152,8 @@ module _ (dig : Digest) (b : ThreeBlocks) (wrong : List ℕ) (infohash : List �
       → IsShaped (three_torrent dig b infohash) s → IsOrderly s → Run dig s events calls answers new → Run dig s events calls others other
       → HaveMemory answers → HaveMemory others → Each AsksNone answers → (answers ≡ others) × (new ≡ other)
   quiet {s} events calls {answers} {others} shaped o x y memory room none =
-      run_one dig (three_torrent dig b infohash) laid_out (λ a c. AsksNone a) (λ m a c shape e. by_none e) s events calls answers others shaped o x y memory room (pairs_of AsksNone answers others none)
+      run_one dig (three_torrent dig b infohash) laid_out (λ a c. AsksNone a) (λ m a c shape e. by_none e) s events calls answers others shaped o x y
+      memory room (pairs_of AsksNone answers others none)
 
   -- until the pieces, the answers are these, and after them all three wait
   waits_forced : {mid answers : _} → AreWhole b → IsWrongThird dig b wrong → length infohash ≡ 32

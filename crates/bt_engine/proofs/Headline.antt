@@ -1,6 +1,6 @@
 -- A complete file on an honest device is the published one.
 use Rattle.bt_engine.proofs.Base.{◌≡◌, ℕ, suc, ◌<◌, List, [], ◌∷◌, length, take, replicate, Option, Some, sym, ap, ◌∙◌, slice_get, History, block_count, file_root, IsDigest, same_or_clash, File, Metainfo, Facts, Missing, Marked}
-use Rattle.bt_engine.proofs.Machine.{Digest, Event, FileState, EngineState, DeviceCalls, Starts, Answer, Step, Run, HasFile, IsSound, RunOn, IsPublished, CompleteFilesArePublished}
+use Rattle.bt_engine.proofs.Machine.{Digest, FileState, EngineState, Starts, Step, Run, HasFile, IsSound, RunOn, IsPublished, CompleteFilesArePublished}
 use Rattle.bt_engine.proofs.Lists.{get_some, some_below}
 use Rattle.bt_engine.proofs.Rooted.{run_rooted}
 use Rattle.bt_engine.proofs.Start.{start_rooted}
@@ -48,7 +48,8 @@ module _ {D : Type 0} (history : D → History) (honest : D → Type 0) (faults 
   without_devices old new (e ∷ es) (c ∷ calls) (a ∷ answers) disks after run = (run.0, run.2, without_devices run.0 new es calls answers run.1 after run.4)
   without_devices old new _ _ _ disks after run = absurd run
 
-  published : IsDigest dig → {file : File} {k : Facts} {bytes : _} → k.file_length ≡ file.length → k.root ≡ file.root → HasFile dig k bytes → IsPublished dig file bytes
+  published : IsDigest dig → {file : File} {k : Facts} {bytes : _} → k.file_length ≡ file.length → k.root ≡ file.root → HasFile dig k bytes
+      → IsPublished dig file bytes
   published sizes {file} {bytes} size root has =
       let all : length (take file.length bytes) ≡ file.length = cc in
       let own : file_root dig (take file.length bytes) ≡ file.root = cc in

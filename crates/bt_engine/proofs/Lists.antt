@@ -44,8 +44,9 @@ pub contains_cases : {X : Type 0} {x y : X} (xs : List X) → Contains (x ∷ xs
 contains_cases xs (zero, lt, e) = inl e
 contains_cases xs (suc k, lt, e) = inr (k, omega arith, e)
 
-filter_by : {X : Type 0} (test : X → Bool) (x : X) (xs : List X) {y : X} (b : Bool) → test x ≡ b → (Contains (filter test xs) y → Contains xs y × (test y ≡ true))
-    → Contains (cond b (x ∷ filter test xs) (filter test xs)) y → Contains (x ∷ xs) y × (test y ≡ true)
+filter_by : {X : Type 0} (test : X → Bool) (x : X) (xs : List X) {y : X} (b : Bool) → test x ≡ b
+    → (Contains (filter test xs) y → Contains xs y × (test y ≡ true)) → Contains (cond b (x ∷ filter test xs) (filter test xs)) y
+    → Contains (x ∷ xs) y × (test y ≡ true)
 filter_by test x xs true e rest c = elim (contains_cases _ c) [
   | inl same ↦ (here xs same, ap test (sym same) ∙ e)
   | inr more ↦ let r = rest more in (later x xs r.0, r.1)
@@ -121,7 +122,8 @@ get_some (x ∷ xs) (suc i) lt = get_some xs i (omega arith)
 pub some_not_none : {X : Type 0} {o : Option X} → IsSome o → o ≡ None → ⊥
 some_not_none some gone = absurd cc
 
-pub set_get : {X : Type 0} (xs : List X) (i j : ℕ) {y x : X} → slice_get xs j ≡ Some x → ((j ≡ i) × (slice_get (slice_set xs i y) j ≡ Some y)) ⊎ (slice_get (slice_set xs i y) j ≡ Some x)
+pub set_get : {X : Type 0} (xs : List X) (i j : ℕ) {y x : X} → slice_get xs j ≡ Some x
+    → ((j ≡ i) × (slice_get (slice_set xs i y) j ≡ Some y)) ⊎ (slice_get (slice_set xs i y) j ≡ Some x)
 set_get [] i j e = absurd cc
 set_get (z ∷ xs) zero zero e = inl (refl, refl)
 set_get (z ∷ xs) zero (suc j) e = inr e

@@ -1,6 +1,6 @@
 -- A step marks a block by bytes of that step alone.
 use Rattle.bt_engine.proofs.Base.{◌≡◌, ◌≢◌, ℕ, ◌+◌, ◌*◌, ◌<◌, ◌≤◌, ◌⊎◌, inl, inr, Bool, true, false, List, [], ◌∷◌, length, Some, refl, sym, ap, ◌∙◌, slice_get, slice_set, Contains, Result, Ok, Err, ◌==◌, if◌then◌else◌, option_and_then, range_with_len, eqb-true, full_block_length, Facts, Accepts, Claim, bytes_written, IsClaimBy, HashKey, IsRight, PutIsDue, states_after_put, Marked, StoreError, Put, Already, Wrong, PutMarked, PutWaiting, BlockId, PeerMessage as Sent, KeepAlive, Choke, Unchoke, Interested, NotInterested, Have, Bitfield, Request, Piece, Cancel, HashRequest, Hashes, HashReject, WireEvent, Hello, Message, Skipped}
-use Rattle.bt_engine.proofs.Machine.{Digest, Event, Connect, Feed, Next, Lost, Rechoke, Adopt, Flush, PeerState, FileState, EngineState, DeviceCalls, state_at, tree_of, with_file, with_peer, with_tree, IsWholeBlock, Sent as SentFrame, Effect, FindsFault, damaged, fault, HandlesRequest, ignored, no_place, not_marked, served, stopped, Arrives, HandlesPiece, stale, arrives, IsTreeOf, settled_count, HandlesHashes, unknown_root, no_claim, refused, learns, HandlesHave, in_range, out_of_range, HandlesBitfield, right, wrong, HandlesMessage, Handles, IsPeer, TakesEvent, StepNext, no_peer, waits, goes_on, closes, faulty, no_memory, StepConnect, joins, full, spent, no_room, StepFeed, feeds, not_fed, no_room as no_room_to_feed, StepLost, goes, not_fed as not_lost, FollowsEach, StepRechoke, rechokes, not_rechoked, StepFlush, syncs, fails, Answer, Step, Run, IsMarkedBy, brought, read_back, IsSoAt, IsMarkedIn}
+use Rattle.bt_engine.proofs.Machine.{Digest, Event, Connect, Feed, Next, Lost, Rechoke, Adopt, Flush, PeerState, FileState, EngineState, DeviceCalls, state_at, tree_of, with_file, with_peer, with_tree, IsWholeBlock, FindsFault, damaged, fault, HandlesRequest, ignored, no_place, not_marked, served, stopped, Arrives, HandlesPiece, stale, arrives, IsTreeOf, settled_count, HandlesHashes, unknown_root, no_claim, refused, learns, HandlesHave, in_range, out_of_range, HandlesBitfield, right, wrong, HandlesMessage, Handles, IsPeer, TakesEvent, StepNext, no_peer, waits, goes_on, closes, faulty, no_memory, StepConnect, joins, full, spent, no_room, StepFeed, feeds, not_fed, no_room as no_room_to_feed, StepLost, goes, not_fed as not_lost, FollowsEach, StepRechoke, rechokes, not_rechoked, StepFlush, syncs, fails, Answer, Step, Run, IsMarkedBy, brought, read_back, IsSoAt, IsMarkedIn}
 use Rattle.bt_engine.proofs.Lists.{contains_none, range_limits, set_cases, set_same}
 use Rattle.bt_engine.proofs.Marks.{state_is, file_marked, missing_marks, IsSettled, settle_marks}
 use Rattle.bt_engine.proofs.Adopting.{adopt_marks}
@@ -64,7 +64,8 @@ module _ (dig : Digest) (b : BlockId) where
   request_marks (stopped span a c d f) m = fault_marks f.is_file.here f.finds m
 
   -- a block that is marked after one was put was marked, or is that one
-  put_marks : (s : EngineState) {c : BlockId} {bytes f tree : _} → slice_get s.files c.file ≡ Some f → (r : Result Put StoreError) → PutIsDue dig tree c.block bytes f.states r
+  put_marks : (s : EngineState) {c : BlockId} {bytes f tree : _} → slice_get s.files c.file ≡ Some f → (r : Result Put StoreError)
+      → PutIsDue dig tree c.block bytes f.states r
       → state_at (with_file s c.file (record f { states = states_after_put c.block r f.states })) b ≡ Some Marked
       → (state_at s b ≡ Some Marked) ⊎ ((c ≡ b) × (r ≡ Ok PutMarked) × IsRight dig tree c.block bytes)
   put_marks s {c} {f} at (Ok PutMarked) due m = elim (file_marked s (record f { states = slice_set f.states c.block Marked }) b m) [
@@ -74,7 +75,8 @@ module _ (dig : Digest) (b : BlockId) where
     ]
     | inr old ↦ inl old
   ]
-  put_marks s {c} {f} at (Ok PutWaiting) due m = inl (in_file s c.file _ at m (λ now. elim (set_cases f.states c.block b.block now) [ inl one ↦ absurd cc | inr old ↦ old ]))
+  put_marks s {c} {f} at (Ok PutWaiting) due m =
+      inl (in_file s c.file _ at m (λ now. elim (set_cases f.states c.block b.block now) [ inl one ↦ absurd cc | inr old ↦ old ]))
   put_marks s {c} at (Ok Already) due m = inl (in_file s c.file _ at m (λ now. now))
   put_marks s {c} at (Ok Wrong) due m = inl (in_file s c.file _ at m (λ now. now))
   put_marks s {c} at (Err e) due m = inl (in_file s c.file _ at m (λ now. now))
@@ -159,7 +161,8 @@ module _ (dig : Digest) (b : BlockId) where
         | inr seen ↦ inr (from seen)
       ]
     where
-      from : IsSeen dig (with_peer s i (record p { stream = t.rest })) (record p { stream = t.rest }) t.event calls mid b → IsMarkedBy dig s (Next key) calls new b
+      from : IsSeen dig (with_peer s i (record p { stream = t.rest })) (record p { stream = t.rest }) t.event calls mid b
+          → IsMarkedBy dig s (Next key) calls new b
       from (came piece begin bytes tree is whole asked hung written exact) =
           brought (record {
             key = key;
@@ -285,9 +288,8 @@ after_step {mid} {e} {c} t i = record {
 }
 
 -- at the first event
-pub at_first : {dig : Digest} {P : EngineState → Event → DeviceCalls → EngineState → Type 0} {s : EngineState} (mid : _) {last : EngineState} {e : Event} {es : List Event}
-    {c : DeviceCalls} {calls : List DeviceCalls} {a : Answer} {after : List Answer} → Step dig s e c a mid → Run dig mid es calls after last
-    → P s e c mid → IsSoAt dig s (e ∷ es) (c ∷ calls) [] a after last P
+pub at_first : {dig : Digest} {P : EngineState → Event → DeviceCalls → EngineState → Type 0} {s : EngineState} (mid : _) {last : EngineState} {e : Event} {es : List Event} {c : DeviceCalls} {calls : List DeviceCalls} {a : Answer} {after : List Answer}
+    → Step dig s e c a mid → Run dig mid es calls after last → P s e c mid → IsSoAt dig s (e ∷ es) (c ∷ calls) [] a after last P
 at_first {s} mid {e} {es} {c} {calls} t rest by = record {
   events_before = [];
   calls_before = [];

@@ -1,6 +1,6 @@
 -- Peers and what they are asked for, over steps.
-use Rattle.bt_engine.proofs.Base.{◌≡◌, ◌≢◌, ℕ, zero, suc, ◌+◌, ◌*◌, ◌<◌, ◌≤◌, ◌⊎◌, inl, inr, Bool, true, false, not, List, [], ◌∷◌, ◌++◌, length, map, take, drop, Some, refl, sym, ap, ◌∙◌, subst, arith, length-append, slice_get, slice_set, option_map, Contains, ◌&&◌, ◌==◌, Result, Ok, option_and_then, AllPairs, cases_lt, eqb-true, eq-eqb, length-set, length-take, length-map, length-replicate, AllPairs-filter, length-filter, count_by-le-length, div_ceil_times, Contains-append_cases, total_pieces, Facts, BlockRead, given, failed, block_of, judged, states_after_put, BlockState, Missing, Waiting, Marked, StoreError, Put, PutMarked, PutWaiting, PeerKey, BlockId, is_block, max_peers, without_block, PeerMessage as Sent, KeepAlive, Choke, Have, Bitfield, Request, Piece, Cancel, HashRequest, Hashes, HashReject, WireEvent, Message}
-use Rattle.bt_engine.proofs.Machine.{Digest, Event, Connect, Feed, Next, Lost, Rechoke, Adopt, Flush, PeerState, FileState, EngineState, DeviceCalls, state_at, with_file, with_peer, Sent as SentFrame, Effect, FindsFault, damaged, fault, with_payload, HandlesRequest, ignored, no_place, not_marked, served, stopped, Arrives, HandlesPiece, stale, arrives, judged_file, SettlesIn, HandlesHashes, unknown_root, no_claim, refused, learns, bits_of, bits_in, HandlesHave, in_range, out_of_range, HandlesBitfield, right, wrong, HandlesMessage, Handles, RequestsHashes, requests, rests, FollowsUp, without_peer, with_pending, TakesEvent, StepNext, no_peer, waits, goes_on, closes, faulty, no_memory, new_peer, StepConnect, joins, full, spent, no_room, StepFeed, feeds, not_fed, no_room as no_room_to_feed, StepLost, goes, not_fed as not_lost, rechoked_peer, rechoked, FollowsEach, StepRechoke, rechokes, not_rechoked, AdoptsGroups, StepAdopt, no_file, busy, empty, adopts, not_adopted, StepFlush, syncs, fails, Answer, Run, IsOrderlyPeer, IsOrderly, AskedApart, StepKeepsOrder, RunsAreOrderly}
+use Rattle.bt_engine.proofs.Base.{◌≡◌, ◌≢◌, ℕ, zero, suc, ◌+◌, ◌*◌, ◌<◌, ◌≤◌, ◌⊎◌, inl, inr, Bool, true, false, not, [], ◌∷◌, ◌++◌, length, map, take, drop, Some, refl, sym, ap, ◌∙◌, subst, arith, length-append, slice_get, slice_set, option_map, Contains, ◌&&◌, ◌==◌, Result, Ok, option_and_then, AllPairs, cases_lt, eqb-true, eq-eqb, length-set, length-take, length-map, length-replicate, AllPairs-filter, length-filter, count_by-le-length, div_ceil_times, Contains-append_cases, total_pieces, given, failed, block_of, judged, states_after_put, Missing, Waiting, Marked, StoreError, Put, PutMarked, PutWaiting, PeerKey, BlockId, is_block, max_peers, without_block, PeerMessage as Sent, KeepAlive, Choke, Have, Bitfield, Request, Piece, Cancel, HashRequest, Hashes, HashReject, Message}
+use Rattle.bt_engine.proofs.Machine.{Digest, Connect, Feed, Next, Lost, Rechoke, Adopt, Flush, PeerState, FileState, EngineState, state_at, with_file, with_peer, FindsFault, damaged, fault, with_payload, HandlesRequest, ignored, no_place, not_marked, served, stopped, Arrives, HandlesPiece, stale, arrives, judged_file, SettlesIn, HandlesHashes, unknown_root, no_claim, refused, learns, bits_of, bits_in, HandlesHave, in_range, out_of_range, HandlesBitfield, right, wrong, HandlesMessage, Handles, RequestsHashes, requests, rests, FollowsUp, without_peer, with_pending, TakesEvent, StepNext, no_peer, waits, goes_on, closes, faulty, no_memory, new_peer, StepConnect, joins, full, spent, no_room, StepFeed, feeds, not_fed, no_room as no_room_to_feed, StepLost, goes, not_fed as not_lost, rechoked_peer, rechoked, FollowsEach, StepRechoke, rechokes, not_rechoked, AdoptsGroups, StepAdopt, no_file, busy, empty, adopts, not_adopted, StepFlush, syncs, fails, Run, IsOrderlyPeer, IsOrderly, AskedApart, StepKeepsOrder, RunsAreOrderly}
 use Rattle.bt_engine.proofs.Lists.{set_id, set_other, set_same, and_then_some, and_true, contains_none, contains_cases, contains_filter, contains_map, here, later}
 use Rattle.bt_engine.proofs.Marks.{state_is, meant_then}
 use Rattle.bt_engine.proofs.Pairs.{Pairs, to_pairs, from_pairs, contains_some, pairs_at, contains_set, pairs_set, contains_without, pairs_without, length-without, pairs_append, pairs_map}
@@ -15,7 +15,8 @@ none_apart : (R : BlockId → BlockId → Type 0) → AllPairs R []
 none_apart R i j d lt within = absurd (omega arith)
 
 -- what is asked of two peers is apart
-two_apart : (peers i j : _) {p q b : _} → Pairs AskedApart peers → slice_get peers i ≡ Some p → slice_get peers j ≡ Some q → j ≢ i → Contains p.asked b → Contains q.asked b → ⊥
+two_apart : (peers i j : _) {p q b : _} → Pairs AskedApart peers → slice_get peers i ≡ Some p → slice_get peers j ≡ Some q → j ≢ i
+    → Contains p.asked b → Contains q.asked b → ⊥
 two_apart peers i j {b} apart e f other own theirs = elim (cases_lt i j) [
   | inl lt ↦ pairs_at _ peers i j apart e f lt b own theirs
   | inr le ↦ elim (cases_lt j i) [
@@ -38,7 +39,8 @@ record PeerChange (s : EngineState) (i : ℕ) (p : PeerState) (m : EngineState) 
   pub once : AllPairs (λ b c. b ≢ c) p.asked → AllPairs (λ b c. b ≢ c) new.asked
   pub states : (b : BlockId) → state_at s b ≡ Some Missing → (state_at m b ≡ Some Missing) ⊎ (Contains p.asked b × (Contains new.asked b → ⊥))
 
-peer_in : {s m : EngineState} {q : _} → m.next_key ≡ s.next_key → m.torrent ≡ s.torrent → IsOrderlyPeer s q → ((b : BlockId) → Contains q.asked b → state_at m b ≡ Some Missing) → IsOrderlyPeer m q
+peer_in : {s m : EngineState} {q : _} → m.next_key ≡ s.next_key → m.torrent ≡ s.torrent → IsOrderlyPeer s q
+    → ((b : BlockId) → Contains q.asked b → state_at m b ≡ Some Missing) → IsOrderlyPeer m q
 peer_in {q} next torrent o missing = record {
   key = rw next o.key;
   pieces = cc;
@@ -78,8 +80,9 @@ changed {s} {m} {i} {p} at c o = record {
     }
 
 -- one that stands in the place of an engine with the same peers
-placed : {s : EngineState} (x : EngineState) {m : EngineState} {i : ℕ} {p : PeerState} (q : _) → x.peers ≡ s.peers → x.next_key ≡ s.next_key → x.torrent ≡ s.torrent → KeepsMissing s x → m ≡ with_peer x i q
-    → q.key ≡ p.key → length q.has ≡ length p.has → q.asked ≡ p.asked → PeerChange s i p m
+placed : {s : EngineState} (x : EngineState) {m : EngineState} {i : ℕ} {p : PeerState} (q : _) → x.peers ≡ s.peers → x.next_key ≡ s.next_key
+    → x.torrent ≡ s.torrent → KeepsMissing s x → m ≡ with_peer x i q → q.key ≡ p.key → length q.has ≡ length p.has → q.asked ≡ p.asked
+    → PeerChange s i p m
 placed x {i} {p} q peers next torrent states e key has asked = record {
   new = q;
   peers = cc;
@@ -98,7 +101,8 @@ replaced : {p : PeerState} {s m i : _} (q : _) → m ≡ with_peer s i q → q.k
 replaced {s} q e key has asked = placed s q refl refl refl (λ b x. x) e key has asked
 
 -- the peers stay
-kept : {s m : EngineState} {i p : _} → slice_get s.peers i ≡ Some p → m.peers ≡ s.peers → m.next_key ≡ s.next_key → m.torrent ≡ s.torrent → KeepsMissing s m → PeerChange s i p m
+kept : {s m : EngineState} {i p : _} → slice_get s.peers i ≡ Some p → m.peers ≡ s.peers → m.next_key ≡ s.next_key → m.torrent ≡ s.torrent
+    → KeepsMissing s m → PeerChange s i p m
 kept {s} {i} {p} at peers next torrent states = record {
   new = p;
   peers = peers ∙ sym (set_id _ i at);
@@ -123,8 +127,9 @@ set_missing (x ∷ states) (suc i) (suc j) e = set_missing states i j e
 set_missing _ _ _ e = e
 
 -- in a file that stands in the place of another
-file_missing : (s : EngineState) (file : ℕ) {f : _} (new : FileState) (b : BlockId) → slice_get s.files file ≡ Some f → (b.file ≡ file → slice_get f.states b.block ≡ Some Missing → slice_get new.states b.block ≡ Some Missing)
-    → state_at s b ≡ Some Missing → state_at (with_file s file new) b ≡ Some Missing
+file_missing : (s : EngineState) (file : ℕ) {f : _} (new : FileState) (b : BlockId) → slice_get s.files file ≡ Some f
+    → (b.file ≡ file → slice_get f.states b.block ≡ Some Missing → slice_get new.states b.block ≡ Some Missing) → state_at s b ≡ Some Missing
+    → state_at (with_file s file new) b ≡ Some Missing
 file_missing s file {f} new b at keep missing = by _ refl
   where
     f_is : b.file ≡ file → slice_get f.states b.block ≡ Some Missing
@@ -189,14 +194,16 @@ module _ (dig : Digest) where
       (λ b missing. ap (λ z. state_at z b) e ∙ file_missing s file _ b there (λ same. set_missing _ i _) missing)
   fault_change at there (fault x y e) = quiet at e
 
-  request_change : {s : EngineState} {mid i p ask calls effect : _} → slice_get s.peers i ≡ Some p → HandlesRequest dig s i p ask calls effect mid → PeerChange s i p mid
+  request_change : {s : EngineState} {mid i p ask calls effect : _} → slice_get s.peers i ≡ Some p → HandlesRequest dig s i p ask calls effect mid
+      → PeerChange s i p mid
   request_change at (ignored a c d e) = quiet at e
   request_change at (no_place a c d f e) = quiet at e
   request_change at (not_marked span a c d f g e) = quiet at e
   request_change at (served span a c d f) = replaced _ f.after refl refl refl
   request_change at (stopped span a c d f) = fault_change at f.is_file.here f.finds
 
-  put_missing : (r : Result Put StoreError) (i j states : _) → j ≢ i → slice_get states j ≡ Some Missing → slice_get (states_after_put i r states) j ≡ Some Missing
+  put_missing : (r : Result Put StoreError) (i j states : _) → j ≢ i → slice_get states j ≡ Some Missing
+      → slice_get (states_after_put i r states) j ≡ Some Missing
   put_missing (Ok PutMarked) i j states apart e = set_other states i j Marked apart ∙ e
   put_missing (Ok PutWaiting) i j states apart e = set_other states i j Waiting apart ∙ e
   put_missing _ i j states apart e = e
@@ -223,13 +230,15 @@ module _ (dig : Digest) where
           let is = ap (λ n. record b { file = n }) same_file ∙ ap (λ n. record a.block { block = n }) same in
           let no = sym (is_itself is) ∙ e in absurd cc
 
-      by : {b : _} → state_at s b ≡ Some Missing → (t : Bool) → is_block a.block b ≡ t → (state_at mid b ≡ Some Missing) ⊎ (Contains p.asked b × (Contains (without_block a.block p.asked) b → ⊥))
+      by : {b : _} → state_at s b ≡ Some Missing → (t : Bool) → is_block a.block b ≡ t
+          → (state_at mid b ≡ Some Missing) ⊎ (Contains p.asked b × (Contains (without_block a.block p.asked) b → ⊥))
       by missing true e = inr (subst (λ c. Contains p.asked c) (sym (block_is e)) a.asked, no_longer e)
       by {b} missing false e = inl (ap (λ z. state_at z b) a.after ∙ ap (λ z. state_at z b) a.puts.after
           ∙ file_missing s _ _ b a.puts.is_file.here
           (λ same_file now. put_missing _ _ _ _ (elsewhere b e same_file) now) missing)
 
-  piece_change : {s : EngineState} {mid i p piece begin bytes calls effect : _} → slice_get s.peers i ≡ Some p → HandlesPiece dig s i p piece begin bytes calls effect mid → PeerChange s i p mid
+  piece_change : {s : EngineState} {mid i p piece begin bytes calls effect : _} → slice_get s.peers i ≡ Some p
+      → HandlesPiece dig s i p piece begin bytes calls effect mid → PeerChange s i p mid
   piece_change at (stale x y z e) = quiet at e
   piece_change at (arrives a) = arrives_change a
 
@@ -237,7 +246,8 @@ module _ (dig : Digest) where
   have_change {p} {piece} at (in_range x y e) = replaced _ e refl (length-set p.has piece true) refl
   have_change at (out_of_range x y e) = quiet at e
 
-  hashes_change : {s : EngineState} {mid i p key digests calls effect : _} → slice_get s.peers i ≡ Some p → HandlesHashes dig s i p key digests calls effect mid → PeerChange s i p mid
+  hashes_change : {s : EngineState} {mid i p key digests calls effect : _} → slice_get s.peers i ≡ Some p
+      → HandlesHashes dig s i p key digests calls effect mid → PeerChange s i p mid
   hashes_change at (unknown_root x y z e) = quiet at e
   hashes_change at (no_claim f x y c) = quiet at c.after
   hashes_change at (refused f t k c x y z g) = quiet at g.after
@@ -245,7 +255,8 @@ module _ (dig : Digest) where
       placed _ _ (cc) (cc) (cc)
       (λ b missing. settle_missing l.settles b missing) l.after refl refl refl
 
-  bits_change : {s : EngineState} {mid i p bytes effect : _} → slice_get s.peers i ≡ Some p → length p.has ≡ total_pieces s.torrent → HandlesBitfield s i p bytes effect mid → PeerChange s i p mid
+  bits_change : {s : EngineState} {mid i p bytes effect : _} → slice_get s.peers i ≡ Some p → length p.has ≡ total_pieces s.torrent
+      → HandlesBitfield s i p bytes effect mid → PeerChange s i p mid
   bits_change {s} {bytes} at pieces (right size y e) = replaced _ e refl (long ∙ sym pieces) refl
     where
       long : length (take (total_pieces s.torrent) (bits_in bytes)) ≡ total_pieces s.torrent
@@ -255,7 +266,8 @@ module _ (dig : Digest) where
           omega (arith, length-take (total_pieces s.torrent) (bits_in bytes), size)
   bits_change at pieces (wrong x y e) = quiet at e
 
-  message_change : {s : EngineState} {mid i p : _} (m : Sent) (calls effect : _) → slice_get s.peers i ≡ Some p → length p.has ≡ total_pieces s.torrent → HandlesMessage dig s i p m calls effect mid → PeerChange s i p mid
+  message_change : {s : EngineState} {mid i p : _} (m : Sent) (calls effect : _) → slice_get s.peers i ≡ Some p
+      → length p.has ≡ total_pieces s.torrent → HandlesMessage dig s i p m calls effect mid → PeerChange s i p mid
   message_change KeepAlive calls effect at pieces h = quiet at h.2
   message_change {p} Choke calls effect at pieces h = record {
     new = record p { peer_choking = true; asked = [] };
@@ -279,11 +291,13 @@ module _ (dig : Digest) where
   message_change (HashReject key) calls effect at pieces h = replaced _ h.2.after refl refl refl
   message_change _ calls effect at pieces h = replaced _ h.2 refl refl refl
 
-  event_change : {s : EngineState} {mid i p : _} (e calls effect : _) → slice_get s.peers i ≡ Some p → length p.has ≡ total_pieces s.torrent → Handles dig s i p e calls effect mid → PeerChange s i p mid
+  event_change : {s : EngineState} {mid i p : _} (e calls effect : _) → slice_get s.peers i ≡ Some p → length p.has ≡ total_pieces s.torrent
+      → Handles dig s i p e calls effect mid → PeerChange s i p mid
   event_change (Message m) calls effect at pieces t = message_change m calls effect at pieces t
   event_change _ calls effect at pieces t = quiet at t.2
 
-  taken_order : {s : EngineState} {mid i p calls effect : _} → slice_get s.peers i ≡ Some p → TakesEvent dig s i p calls effect mid → IsOrderly s → IsOrderly mid
+  taken_order : {s : EngineState} {mid i p calls effect : _} → slice_get s.peers i ≡ Some p → TakesEvent dig s i p calls effect mid → IsOrderly s
+      → IsOrderly mid
   taken_order {s} {i} {p} {calls} {effect} at t o =
       let fed : PeerState = record p { stream = t.rest } in
       let there = set_same _ i at in
@@ -368,7 +382,8 @@ module _ (dig : Digest) where
   next_order (faulty i p out peer g x) o = without_order i g.after o
   next_order (no_memory i p peer g x) o = without_order i g.after o
 
-  joins_order : {s : EngineState} (key : PeerKey) → length s.peers < max_peers → key.0 ≡ s.next_key → IsOrderly s → IsOrderly (record s { peers = s.peers ++ new_peer s key ∷ []; next_key = s.next_key + 1 })
+  joins_order : {s : EngineState} (key : PeerKey) → length s.peers < max_peers → key.0 ≡ s.next_key → IsOrderly s
+      → IsOrderly (record s { peers = s.peers ++ new_peer s key ∷ []; next_key = s.next_key + 1 })
   joins_order {s} key few is o = record {
     few = omega (arith, length-append s.peers (new_peer s key ∷ []));
     in_order = from_pairs KeyBefore (s.peers ++ new_peer s key ∷ []) (pairs_append KeyBefore s.peers (new_peer s key ∷ []) (to_pairs KeyBefore s.peers o.in_order) (λ y c. absurd (contains_none c), tt)

@@ -32,7 +32,8 @@ pub some_at : {X : Type 0} (xs : List X) {y : X} → Contains xs y → (j : ℕ)
 some_at [] c = absurd (contains_none c)
 some_at (x ∷ xs) c = elim (contains_cases xs c) [ inl e ↦ (0, ap (λ z. Some z) e) | inr more ↦ (let m = some_at xs more in (suc m.0, m.1)) ]
 
-pub pairs_at : {X : Type 0} (R : X → X → Type 0) (xs : List X) (i j : ℕ) {x y : X} → Pairs R xs → slice_get xs i ≡ Some x → slice_get xs j ≡ Some y → i < j → R x y
+pub pairs_at : {X : Type 0} (R : X → X → Type 0) (xs : List X) (i j : ℕ) {x y : X} → Pairs R xs → slice_get xs i ≡ Some x → slice_get xs j ≡ Some y
+    → i < j → R x y
 pairs_at R [] i j p e f lt = absurd cc
 pairs_at R (z ∷ xs) i zero p e f lt = absurd (omega arith)
 pairs_at R (z ∷ xs) zero (suc j) {y} p e f lt = rw (← (same_some refl e)) (p.0 y (contains_some xs j f))
@@ -49,8 +50,8 @@ contains_set (z ∷ xs) (suc i) {x} c = elim (contains_cases _ c) [
   | inr more ↦ elim (contains_set xs i more) [ inl e ↦ inl e | inr m ↦ inr (suc m.0, (λ f. m.1 (omega arith)), m.2) ]
 ]
 
-pub pairs_set : {X : Type 0} (R : X → X → Type 0) (xs : List X) (i : ℕ) {old : X} (new : X) → slice_get xs i ≡ Some old → ((y : X) → Contains xs y → R old y → R new y) → ((y : X) → Contains xs y → R y old → R y new)
-    → Pairs R xs → Pairs R (slice_set xs i new)
+pub pairs_set : {X : Type 0} (R : X → X → Type 0) (xs : List X) (i : ℕ) {old : X} (new : X) → slice_get xs i ≡ Some old
+    → ((y : X) → Contains xs y → R old y → R new y) → ((y : X) → Contains xs y → R y old → R y new) → Pairs R xs → Pairs R (slice_set xs i new)
 pairs_set R [] i new e right left p = absurd cc
 pairs_set R (z ∷ xs) zero new e right left p = (λ y c. right y (later z xs c) (rw (← (same_some refl e)) (p.0 y c)), p.1)
 pairs_set R (z ∷ xs) (suc i) {old} new e right left p = (
@@ -113,14 +114,16 @@ length-without xs i = rw (removed_is xs i) (length-removed xs i)
 
 -- ---- lists that are put together, filtered and mapped
 
-pub pairs_append : {X : Type 0} (R : X → X → Type 0) (xs ys : List X) → Pairs R xs → Pairs R ys → ((x y : X) → Contains xs x → Contains ys y → R x y) → Pairs R (xs ++ ys)
+pub pairs_append : {X : Type 0} (R : X → X → Type 0) (xs ys : List X) → Pairs R xs → Pairs R ys → ((x y : X) → Contains xs x → Contains ys y → R x y)
+    → Pairs R (xs ++ ys)
 pairs_append R [] ys p q across = q
 pairs_append R (x ∷ xs) ys p q across = (
   λ y c. elim (Contains-append_cases xs ys y c) [ inl own ↦ p.0 y own | inr other ↦ across x y (here xs refl) other ],
   pairs_append R xs ys p.1 q (λ a b c d. across a b (later x xs c) d),
 )
 
-pub pairs_map : {X Y : Type 0} (R : X → X → Type 0) (S : Y → Y → Type 0) (f : X → Y) (xs : List X) → ((x y : X) → R x y → S (f x) (f y)) → Pairs R xs → Pairs S (map f xs)
+pub pairs_map : {X Y : Type 0} (R : X → X → Type 0) (S : Y → Y → Type 0) (f : X → Y) (xs : List X) → ((x y : X) → R x y → S (f x) (f y)) → Pairs R xs
+    → Pairs S (map f xs)
 pairs_map R S f [] keep p = tt
 pairs_map R S f (x ∷ xs) keep p = (
   λ y c. (let m = contains_map f xs c in rw (← m.2) (keep x m.0 (p.0 m.0 m.1))),

@@ -1,6 +1,6 @@
 -- Trees stay rooted.
-use Rattle.bt_engine.proofs.Base.{◌≡◌, ℕ, ◌-◌, arith, inl, inr, List, [], ◌∷◌, sym, ◌<◌, ◌∙◌, Facts, blocks_of, height, IsRooted, IsChecked, keeps_rooted, held_is_checked, value_covers, CoversBlock, real_width, real_limit, IsRight, PeerMessage as Sent, Have, Bitfield, Request, Piece, Hashes, HashReject, WireEvent, Message}
-use Rattle.bt_engine.proofs.Machine.{Digest, Event, Connect, Feed, Next, Lost, Rechoke, Adopt, Flush, PeerState, EngineState, DeviceCalls, with_tree, Sent as SentFrame, Effect, FindsFault, damaged, fault, HandlesRequest, ignored, no_place, not_marked, served, stopped, HandlesPiece, stale, arrives, HandlesHashes, unknown_root, no_claim, refused, learns, HandlesHave, in_range, out_of_range, HandlesBitfield, right, wrong, HandlesMessage, Handles, StepNext, no_peer, waits, goes_on, closes, faulty, no_memory, StepConnect, joins, full, spent, no_room, StepFeed, feeds, not_fed, no_room as no_room_to_feed, StepLost, goes, not_fed as not_lost, FollowsEach, StepRechoke, rechokes, not_rechoked, AdoptsGroup, AdoptsGroups, StepAdopt, no_file, busy, empty, adopts, not_adopted, StepFlush, syncs, fails, Answer, Step, Run, AreRooted, AreChecked}
+use Rattle.bt_engine.proofs.Base.{◌≡◌, ◌-◌, arith, inl, inr, [], ◌∷◌, sym, ◌<◌, ◌∙◌, blocks_of, height, IsRooted, IsChecked, keeps_rooted, held_is_checked, value_covers, CoversBlock, real_width, real_limit, IsRight, PeerMessage as Sent, Have, Bitfield, Request, Piece, Hashes, HashReject, Message}
+use Rattle.bt_engine.proofs.Machine.{Digest, Connect, Feed, Next, Lost, Rechoke, Adopt, Flush, with_tree, FindsFault, damaged, fault, HandlesRequest, ignored, no_place, not_marked, served, stopped, HandlesPiece, stale, arrives, HandlesHashes, unknown_root, no_claim, refused, learns, HandlesHave, in_range, out_of_range, HandlesBitfield, right, wrong, HandlesMessage, Handles, StepNext, no_peer, waits, goes_on, closes, faulty, no_memory, StepConnect, joins, full, spent, no_room, StepFeed, feeds, not_fed, no_room as no_room_to_feed, StepLost, goes, not_fed as not_lost, FollowsEach, StepRechoke, rechokes, not_rechoked, AdoptsGroup, AdoptsGroups, StepAdopt, no_file, busy, empty, adopts, not_adopted, StepFlush, syncs, fails, Step, Run, AreRooted, AreChecked}
 use Rattle.bt_engine.proofs.Lists.{set_cases}
 use Rattle.bt_engine.proofs.Adopting.{group_extends}
 
@@ -31,7 +31,8 @@ module _ (dig : Digest) where
   request_rooted (served span a b c d) r = as_before d.after r
   request_rooted (stopped span a b c d) r = fault_rooted d.finds r
 
-  piece_rooted : {s mid i p piece begin bytes calls effect : _} → HandlesPiece dig s i p piece begin bytes calls effect mid → AreRooted dig s → AreRooted dig mid
+  piece_rooted : {s mid i p piece begin bytes calls effect : _} → HandlesPiece dig s i p piece begin bytes calls effect mid → AreRooted dig s
+      → AreRooted dig mid
   piece_rooted (stale a b c e) r = as_before e r
   piece_rooted (arrives a) r = as_before a.after (as_before a.puts.after r)
 

@@ -1,6 +1,6 @@
 -- What is sent of blocks.
-use Rattle.bt_engine.proofs.Base.{◌≡◌, ℕ, inl, inr, Bool, true, false, List, [], ◌∷◌, ◌++◌, map, Some, Result, Ok, Err, refl, sym, ap, ◌∙◌, subst, Contains, Contains-append_cases, IsPlace, Span, Facts, given, call_of, IsRight, StoreError, DeviceFault, Put, Wrong, PutMarked, PutWaiting, PeerKey, BlockId, Ask, PeerMessage, Have, Bitfield, Request, Piece, HashRequest, Hashes, WireEvent, Hello, Message, Skipped}
-use Rattle.bt_engine.proofs.Machine.{Digest, Frame, hello_frame, message_frame, Event, Connect, Next, Rechoke, PeerState, EngineState, DeviceCalls, tree_of, spanned_blocks, cut_from, Sent, Effect, sent_to, haves, Serves, FindsFault, damaged, fault, HandlesRequest, ignored, no_place, not_marked, served, stopped, HasPutEffect, HandlesPiece, stale, arrives, HandlesHashRequest, answered, rejected, HandlesHashes, unknown_root, no_claim, refused, learns, HandlesHello, ours, other, HandlesHave, in_range, out_of_range, HandlesBitfield, right, wrong, HandlesMessage, Handles, FollowsUp, interest_sent, RequestsHashes, requests, rests, RequestsEach, IsPeer, TakesEvent, StepNext, no_peer, waits, goes_on, closes, faulty, no_memory, new_peer, StepConnect, joins, full, spent, no_room, FollowsEach, StepRechoke, rechokes, not_rechoked, choking_sent, is_served, Answer, of_connect, of_next, of_rechoke, Step, Run, sent_by, IsServed, IsSoAt}
+use Rattle.bt_engine.proofs.Base.{◌≡◌, ℕ, inl, inr, Bool, true, false, List, [], ◌∷◌, ◌++◌, map, Some, Result, Ok, Err, refl, sym, ap, ◌∙◌, subst, Contains, Contains-append_cases, IsPlace, Span, Facts, given, call_of, IsRight, StoreError, DeviceFault, Put, Wrong, PutMarked, PutWaiting, PeerKey, Ask, PeerMessage, Have, Bitfield, Request, Piece, HashRequest, Hashes, WireEvent, Hello, Message, Skipped}
+use Rattle.bt_engine.proofs.Machine.{Digest, Frame, hello_frame, message_frame, Connect, Next, Rechoke, PeerState, EngineState, DeviceCalls, tree_of, spanned_blocks, cut_from, Sent, Effect, sent_to, haves, Serves, FindsFault, damaged, fault, HandlesRequest, ignored, no_place, not_marked, served, stopped, HasPutEffect, HandlesPiece, stale, arrives, HandlesHashRequest, answered, rejected, HandlesHashes, unknown_root, no_claim, refused, learns, HandlesHello, ours, other, HandlesHave, in_range, out_of_range, HandlesBitfield, right, wrong, HandlesMessage, Handles, FollowsUp, interest_sent, RequestsHashes, requests, rests, RequestsEach, IsPeer, TakesEvent, StepNext, no_peer, waits, goes_on, closes, faulty, no_memory, new_peer, StepConnect, joins, full, spent, no_room, FollowsEach, StepRechoke, rechokes, not_rechoked, choking_sent, is_served, of_connect, of_next, of_rechoke, Step, Run, sent_by, IsServed, IsSoAt}
 use Rattle.bt_engine.proofs.Marking.{after_step, at_first}
 use Rattle.bt_engine.proofs.Lists.{contains_none, contains_cases, contains_map, contains_flat_map, map_contains}
 
@@ -109,8 +109,9 @@ module _ (dig : Digest) where
   effect_is : (P : PeerKey → ℕ → ℕ → List ℕ → Type 0) {effect like : Effect} → effect ≡ like → Plain like.send → Sends P effect.send
   effect_is P {effect} e f = sends_plain P _ (plain_is (cc) f)
 
-  serves_sends : {s mid : EngineState} {i : ℕ} {p : PeerState} {ask : Ask} {span : Span} {calls : DeviceCalls} {effect : Effect} → p.am_choking ≡ false → IsPlace s.torrent ask.piece ask.begin ask.length span
-      → Serves dig s i p ask span calls effect mid → Sends (IsCut dig s p (Message (Request ask)) calls) effect.send
+  serves_sends : {s mid : EngineState} {i : ℕ} {p : PeerState} {ask : Ask} {span : Span} {calls : DeviceCalls} {effect : Effect}
+      → p.am_choking ≡ false → IsPlace s.torrent ask.piece ask.begin ask.length span → Serves dig s i p ask span calls effect mid
+      → Sends (IsCut dig s p (Message (Request ask)) calls) effect.send
   serves_sends {s} {i} {ask} {span} open_to place f key piece begin bytes c =
       let sent = subst (λ l. Contains l (piece_frame key piece begin bytes)) (ap (λ x. x.send) f.sent) c in
       elim (contains_cases [] sent) [
@@ -155,11 +156,13 @@ module _ (dig : Digest) where
   put_sends P b (Err DeviceFault) effect e = effect_is P e plain_none
   put_sends _ b _ effect e = absurd e
 
-  piece_sends : (P : PeerKey → ℕ → ℕ → List ℕ → Type 0) {s mid i p piece begin bytes calls effect : _} → HandlesPiece dig s i p piece begin bytes calls effect mid → Sends P effect.send
+  piece_sends : (P : PeerKey → ℕ → ℕ → List ℕ → Type 0) {s mid i p piece begin bytes calls effect : _}
+      → HandlesPiece dig s i p piece begin bytes calls effect mid → Sends P effect.send
   piece_sends P (stale x y e z) = effect_is P e plain_none
   piece_sends P {effect} (arrives a) = put_sends P _ _ _ a.puts.has_effect
 
-  hashes_sends : (P : PeerKey → ℕ → ℕ → List ℕ → Type 0) {s mid i p key digests calls effect : _} → HandlesHashes dig s i p key digests calls effect mid → Sends P effect.send
+  hashes_sends : (P : PeerKey → ℕ → ℕ → List ℕ → Type 0) {s mid i p key digests calls effect : _}
+      → HandlesHashes dig s i p key digests calls effect mid → Sends P effect.send
   hashes_sends P (unknown_root x y e z) = effect_is P e plain_none
   hashes_sends P (no_claim f x y c) = effect_is P c.has_effect plain_none
   hashes_sends P (refused f t k c x y z g) = effect_is P g.has_effect plain_none
@@ -181,7 +184,8 @@ module _ (dig : Digest) where
   hello_sends P (ours x e) = effect_is P e plain_none
   hello_sends P (other x e) = effect_is P e plain_none
 
-  message_sends : (s mid i p : _) (m : PeerMessage) (calls effect : _) → HandlesMessage dig s i p m calls effect mid → Sends (IsCut dig s p (Message m) calls) effect.send
+  message_sends : (s mid i p : _) (m : PeerMessage) (calls effect : _) → HandlesMessage dig s i p m calls effect mid
+      → Sends (IsCut dig s p (Message m) calls) effect.send
   message_sends s mid i p (Have piece) calls effect h = have_sends _ h.1
   message_sends s mid i p (Bitfield bytes) calls effect h = bits_sends _ h.1
   message_sends s mid i p (Request ask) calls effect h = request_sends h
@@ -195,7 +199,8 @@ module _ (dig : Digest) where
   event_sends s mid i p (Message m) calls effect t = message_sends s mid i p m calls _ t
   event_sends s mid i p (Skipped kind) calls effect t = effect_is _ t.1 plain_none
 
-  taken_sends : {s mid key i p calls effect : _} → IsPeer s key i p → TakesEvent dig s i p calls effect mid → Sends (IsServed dig s (Next key) calls) effect.send
+  taken_sends : {s mid key i p calls effect : _} → IsPeer s key i p → TakesEvent dig s i p calls effect mid
+      → Sends (IsServed dig s (Next key) calls) effect.send
   taken_sends {s} {mid} {key} {i} {p} {calls} {effect} peer t asker piece begin bytes c =
       let f = event_sends _ mid i _ _ calls _ t.handles asker piece begin bytes c in
       let same : key ≡ asker = cc in
@@ -237,7 +242,9 @@ module _ (dig : Digest) where
   next_sends (no_memory i p x g e) = nothing _ (ap (λ x. of_next x) e) plain_none
 
   connect_sends : (P : PeerKey → ℕ → ℕ → List ℕ → Type 0) {s new r : _} → StepConnect s r new → Sends P (sent_by (of_connect r))
-  connect_sends P {s} (joins key bytes x y z w e f) = nothing P (ap (λ x. of_connect x) e) (plain_one _ (sent_to (new_peer s key) (Bitfield bytes) ∷ []) refl (plain_one (sent_to (new_peer s key) (Bitfield bytes)) [] refl plain_none))
+  connect_sends P {s} (joins key bytes x y z w e f) =
+      nothing P (ap (λ x. of_connect x) e)
+      (plain_one _ (sent_to (new_peer s key) (Bitfield bytes) ∷ []) refl (plain_one (sent_to (new_peer s key) (Bitfield bytes)) [] refl plain_none))
   connect_sends P (full x e y) = nothing P (ap (λ x. of_connect x) e) plain_none
   connect_sends P (spent x y e z) = nothing P (ap (λ x. of_connect x) e) plain_none
   connect_sends P (no_room x y e z) = nothing P (ap (λ x. of_connect x) e) plain_none

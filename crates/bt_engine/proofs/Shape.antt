@@ -1,6 +1,6 @@
 -- What stays over all events.
-use Rattle.bt_engine.proofs.Base.{◌≡◌, ◌≢◌, ℕ, zero, suc, ◌+◌, ◌<◌, inl, inr, Bool, true, false, List, [], ◌∷◌, ◌++◌, length, map, get_or, Some, refl, sym, ap, ◌∙◌, arith, slice_get, slice_set, option_map, if◌then◌else◌, Result, Ok, AllPairs, length-set, length-map, length-replicate, append-nil, get_or-map, block_count, Facts, BlockRead, given, failed, judged, Adopts, none, known, accepted, states_after_put, BlockState, Missing, Waiting, Marked, StoreError, Put, PutMarked, PutWaiting, PeerMessage as Sent, KeepAlive, Have, Bitfield, Request, Piece, Cancel, HashRequest, Hashes, HashReject, WireEvent, Message}
-use Rattle.bt_engine.proofs.Machine.{Digest, Event, Connect, Feed, Next, Lost, Rechoke, Adopt, Flush, PeerState, FileState, EngineState, mark_of, DeviceCalls, with_file, with_tree, with_peer, new_marked_blocks, Sent as SentFrame, Effect, FindsFault, damaged, fault, HandlesRequest, ignored, no_place, not_marked, served, stopped, HandlesPiece, stale, arrives, judged_file, SettlesIn, HandlesHashes, unknown_root, no_claim, refused, learns, HandlesHave, in_range, out_of_range, HandlesBitfield, right, wrong, HandlesMessage, Handles, FollowsUp, without_peer, with_pending, TakesEvent, StepNext, no_peer, waits, goes_on, closes, faulty, no_memory, StepConnect, joins, full, spent, no_room, StepFeed, feeds, not_fed, no_room as no_room_to_feed, StepLost, goes, not_fed as not_lost, FollowsEach, StepRechoke, rechokes, not_rechoked, AdoptsGroup, AdoptsGroups, StepAdopt, no_file, busy, empty, adopts, not_adopted, StepFlush, syncs, fails, Starts, Answer, Step, Run, IsShaped, HasShapeOf, RunsKeepShape}
+use Rattle.bt_engine.proofs.Base.{◌≡◌, ◌≢◌, ℕ, zero, suc, ◌+◌, ◌<◌, inl, inr, Bool, true, false, List, [], ◌∷◌, ◌++◌, length, map, get_or, Some, refl, sym, ap, ◌∙◌, arith, slice_get, slice_set, option_map, if◌then◌else◌, Result, Ok, AllPairs, length-set, length-map, length-replicate, append-nil, get_or-map, block_count, Facts, given, failed, judged, Adopts, none, known, accepted, states_after_put, Missing, Waiting, Marked, StoreError, Put, PutMarked, PutWaiting, PeerMessage as Sent, KeepAlive, Have, Bitfield, Request, Piece, Cancel, HashRequest, Hashes, HashReject, Message}
+use Rattle.bt_engine.proofs.Machine.{Digest, Connect, Feed, Next, Lost, Rechoke, Adopt, Flush, FileState, EngineState, mark_of, with_file, with_tree, with_peer, new_marked_blocks, FindsFault, damaged, fault, HandlesRequest, ignored, no_place, not_marked, served, stopped, HandlesPiece, stale, arrives, judged_file, SettlesIn, HandlesHashes, unknown_root, no_claim, refused, learns, HandlesHave, in_range, out_of_range, HandlesBitfield, right, wrong, HandlesMessage, Handles, FollowsUp, without_peer, with_pending, TakesEvent, StepNext, no_peer, waits, goes_on, closes, faulty, no_memory, StepConnect, joins, full, spent, no_room, StepFeed, feeds, not_fed, no_room as no_room_to_feed, StepLost, goes, not_fed as not_lost, FollowsEach, StepRechoke, rechokes, not_rechoked, AdoptsGroup, AdoptsGroups, StepAdopt, no_file, busy, empty, adopts, not_adopted, StepFlush, syncs, fails, Starts, Step, Run, IsShaped, HasShapeOf, RunsKeepShape}
 use Rattle.bt_store.specs.Adoption.{marked_run}
 use Rattle.bt_engine.proofs.Lists.{set_get, set_cases, map_some}
 use Rattle.bt_engine.proofs.Adopting.{group_extends}
@@ -41,7 +41,8 @@ keeps_then a b = record {
 }
 
 -- the engine has all of this as before
-same_all : {s m : EngineState} → m.torrent ≡ s.torrent → m.files ≡ s.files → m.trees ≡ s.trees → m.logged ≡ s.logged → m.hints ≡ s.hints → m.pending ≡ s.pending → Keeps s m
+same_all : {s m : EngineState} → m.torrent ≡ s.torrent → m.files ≡ s.files → m.trees ≡ s.trees → m.logged ≡ s.logged → m.hints ≡ s.hints
+    → m.pending ≡ s.pending → Keeps s m
 same_all torrent files trees logged hints pending = record {
   torrent = torrent;
   count = cc;
@@ -57,7 +58,8 @@ is_same : {s m : _} → m ≡ s → Keeps s m
 is_same e = same_all (cc) (cc) (cc) (cc) (cc) (cc)
 
 -- only peers, the next key and the turn are others
-peers_change : {s m x : EngineState} → x.torrent ≡ s.torrent → x.files ≡ s.files → x.trees ≡ s.trees → x.logged ≡ s.logged → x.hints ≡ s.hints → x.pending ≡ s.pending → m ≡ x → Keeps s m
+peers_change : {s m x : EngineState} → x.torrent ≡ s.torrent → x.files ≡ s.files → x.trees ≡ s.trees → x.logged ≡ s.logged → x.hints ≡ s.hints
+    → x.pending ≡ s.pending → m ≡ x → Keeps s m
 peers_change torrent files trees logged hints pending e = keeps_then (same_all torrent files trees logged hints pending) (is_same e)
 
 with_peer_keeps : {s m : _} (i q : _) → m ≡ with_peer s i q → Keeps s m
@@ -65,7 +67,8 @@ with_peer_keeps i q e = peers_change refl refl refl refl refl refl e
 
 -- ---- files and trees
 
-file_keeps : {s : EngineState} (file : ℕ) {f : _} (new : FileState) → slice_get s.files file ≡ Some f → new.tree ≡ f.tree → length new.states ≡ length f.states → Keeps s (with_file s file new)
+file_keeps : {s : EngineState} (file : ℕ) {f : _} (new : FileState) → slice_get s.files file ≡ Some f → new.tree ≡ f.tree
+    → length new.states ≡ length f.states → Keeps s (with_file s file new)
 file_keeps {s} file {f} new at tree blocks = record {
   torrent = refl;
   count = length-set s.files file new;
@@ -85,7 +88,8 @@ map_set f [] i y e same = refl
 map_set f (z ∷ xs) zero y e same = cc
 map_set f (z ∷ xs) (suc i) y e same = ap (λ ws. f z ∷ ws) (map_set f xs i y e same)
 
-tree_keeps : {s : EngineState} (t : ℕ) {old : _} (new : Facts) → slice_get s.trees t ≡ Some old → new.root ≡ old.root → new.file_length ≡ old.file_length → Keeps s (with_tree s t new)
+tree_keeps : {s : EngineState} (t : ℕ) {old : _} (new : Facts) → slice_get s.trees t ≡ Some old → new.root ≡ old.root
+    → new.file_length ≡ old.file_length → Keeps s (with_tree s t new)
 tree_keeps {s} t {old} new at root size = record {
   torrent = refl;
   count = refl;
@@ -308,14 +312,15 @@ module _ (dig : Digest) where
   root_at : (trees i : _) (d : Facts) → i < length trees → get_or (map (λ (k : Facts). k.root) trees) i d.root ≡ (get_or trees i d).root
   root_at trees i d lt = get_or-map (λ k. k.root) trees i d d.root lt
 
-  roots_apart : (xs ys : _) → map (λ (k : Facts). k.root) ys ≡ map (λ (k : Facts). k.root) xs → AllPairs (λ (j k : Facts). j.root ≢ k.root) xs → AllPairs (λ (j k : Facts). j.root ≢ k.root) ys
+  roots_apart : (xs ys : _) → map (λ (k : Facts). k.root) ys ≡ map (λ (k : Facts). k.root) xs → AllPairs (λ (j k : Facts). j.root ≢ k.root) xs
+      → AllPairs (λ (j k : Facts). j.root ≢ k.root) ys
   roots_apart xs ys same apart i j d lt within e =
       let size = sym (length-map ys (λ k. k.root)) ∙ ap length same ∙ length-map xs (λ k. k.root) in
       let at : (n : ℕ) → n < length ys → (get_or xs n d).root ≡ (get_or ys n d).root = λ n below. sym (root_at xs n d (omega arith)) ∙ ap (λ rs. get_or rs n d.root) (sym same) ∙ root_at ys n d below in
       apart i j d lt (omega arith) (at i (omega arith) ∙ e ∙ sym (at j within))
 
-  file_shape : {file trees : _} (m : EngineState) {f : FileState} {before : _} → HasShapeOf file trees before → f.tree ≡ before.tree → length f.states ≡ length before.states
-      → ((t : ℕ) (k : Facts) → slice_get trees t ≡ Some k → SameTree m.trees t k) → HasShapeOf file m.trees f
+  file_shape : {file trees : _} (m : EngineState) {f : FileState} {before : _} → HasShapeOf file trees before → f.tree ≡ before.tree
+      → length f.states ≡ length before.states → ((t : ℕ) (k : Facts) → slice_get trees t ≡ Some k → SameTree m.trees t k) → HasShapeOf file m.trees f
   file_shape m {before} old tree blocks keep = record {
     blocks = cc;
     hung = λ some. (

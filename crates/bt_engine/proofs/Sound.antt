@@ -1,6 +1,6 @@
 -- Marked blocks stay right on honest devices.
-use Rattle.bt_engine.proofs.Base.{◌≡◌, ◌≢◌, ℕ, ◌*◌, ◌⊎◌, inl, inr, Bool, true, false, List, [], ◌∷◌, length, take, drop, Option, Some, refl, sym, ap, ◌∙◌, subst, slice_get, Contains, ◌==◌, eqb-true, eq-eqb, full_block_length, block_length, History, after_write, Call, bytes_given, bytes_written, write_fault, length_set, resize_fault, sync_made, AreAnswered, AfterWriteFault, Facts, value_at, given, call_of, IsRight, Missing, Marked, BlockId}
-use Rattle.bt_engine.proofs.Machine.{Digest, Event, FileState, EngineState, DeviceCalls, calls_of, block_id, state_at, tree_of, stored_block, AreRight, Answer, Step, brought, read_back, found, IsSound, StepKeepsSound, RunOn, CompleteFilesStand, KeepsBytes}
+use Rattle.bt_engine.proofs.Base.{◌≡◌, ◌≢◌, ℕ, ◌*◌, ◌⊎◌, inl, inr, Bool, true, false, List, [], ◌∷◌, length, take, drop, Option, Some, refl, sym, ap, ◌∙◌, subst, slice_get, Contains, ◌==◌, eqb-true, eq-eqb, full_block_length, block_length, History, after_write, Call, bytes_given, bytes_written, write_fault, length_set, resize_fault, sync_made, AreAnswered, AfterWriteFault, Facts, value_at, given, call_of, IsRight, Missing, Marked}
+use Rattle.bt_engine.proofs.Machine.{Digest, FileState, DeviceCalls, calls_of, block_id, state_at, tree_of, stored_block, AreRight, Step, brought, read_back, found, IsSound, StepKeepsSound, RunOn, CompleteFilesStand, KeepsBytes}
 use Rattle.bt_disk.specs.Calls.{IsAnswered}
 use Rattle.bt_engine.proofs.Lists.{here, later, contains_none, contains_cases, contains_filter, contains_map}
 use Rattle.bt_engine.proofs.Marking.{step_cases}
@@ -55,7 +55,8 @@ pub among_file : {file : ℕ} (calls : DeviceCalls) {c : _} → Contains calls (
 among_file [] among = absurd (contains_none among)
 among_file {file} (x ∷ calls) {c} among = by _ refl (contains_cases calls among) (λ more. among_file calls more)
   where
-    by : (b : Bool) → (x.0 == file) ≡ b → (x ≡ (file, c)) ⊎ Contains calls (file, c) → (Contains calls (file, c) → Contains (calls_of file calls) c) → Contains (calls_of file (x ∷ calls)) c
+    by : (b : Bool) → (x.0 == file) ≡ b → (x ≡ (file, c)) ⊎ Contains calls (file, c) → (Contains calls (file, c) → Contains (calls_of file calls) c)
+        → Contains (calls_of file (x ∷ calls)) c
     by true e (inl is) rest = rw e (here _ (cc))
     by true e (inr more) rest = rw e (later x.1 _ (rest more))
     by false e (inl is) rest = let no = sym (eq-eqb x.0 file (cc)) ∙ e in absurd cc
@@ -63,20 +64,24 @@ among_file {file} (x ∷ calls) {c} among = by _ refl (contains_cases calls amon
 
 -- ---- a block of one file
 
-moved : {dig : Digest} {old new : Facts} (xs ys : _) {i : ℕ} → new.file_length ≡ old.file_length → ((d : List ℕ) → value_at dig old 0 i ≡ Some d → value_at dig new 0 i ≡ Some d)
-    → stored_block old.file_length ys i ≡ stored_block old.file_length xs i → IsRight dig old i (stored_block old.file_length xs i) → IsRight dig new i (stored_block new.file_length ys i)
+moved : {dig : Digest} {old new : Facts} (xs ys : _) {i : ℕ} → new.file_length ≡ old.file_length
+    → ((d : List ℕ) → value_at dig old 0 i ≡ Some d → value_at dig new 0 i ≡ Some d)
+    → stored_block old.file_length ys i ≡ stored_block old.file_length xs i → IsRight dig old i (stored_block old.file_length xs i)
+    → IsRight dig new i (stored_block new.file_length ys i)
 moved {dig} {old} {new} xs ys {i} size kept same r =
     let is : stored_block new.file_length ys i ≡ stored_block old.file_length xs i = cc in
     record { whole = cc; leaf = kept _ r.leaf ∙ ap (λ x. Some (dig x)) (sym is) }
 
 -- a block that was written stands there
-stands : (n i : ℕ) (old : History) {new : _} (bytes : _) → length bytes ≡ block_length n i → new ≡ after_write old (full_block_length * i) bytes → stored_block n new.now.bytes i ≡ bytes
+stands : (n i : ℕ) (old : History) {new : _} (bytes : _) → length bytes ≡ block_length n i → new ≡ after_write old (full_block_length * i) bytes
+    → stored_block n new.now.bytes i ≡ bytes
 stands n i old {new} [] size e = cc
 stands n i old (x ∷ bytes) size e = ap (λ h. stored_block n h.now.bytes i) e ∙ own_bytes n _ i size
 
 -- another block stays
-others : (n i j : ℕ) (old : History) {new : _} (bytes : _) → i ≢ j → length bytes ≡ block_length n j → length (stored_block n old.now.bytes i) ≡ block_length n i
-    → new ≡ after_write old (full_block_length * j) bytes → stored_block n new.now.bytes i ≡ stored_block n old.now.bytes i
+others : (n i j : ℕ) (old : History) {new : _} (bytes : _) → i ≢ j → length bytes ≡ block_length n j
+    → length (stored_block n old.now.bytes i) ≡ block_length n i → new ≡ after_write old (full_block_length * j) bytes
+    → stored_block n new.now.bytes i ≡ stored_block n old.now.bytes i
 others n i j old [] apart size whole e = cc
 others n i j old (x ∷ bytes) apart size whole e = ap (λ h. stored_block n h.now.bytes i) e ∙ other_bytes n _ _ i j apart size whole
 
@@ -97,12 +102,14 @@ pub no_fault : {at n to xs ys : _} → bytes_given at n xs ≡ write_fault to ys
 no_fault e = absurd cc
 
 -- the calls of a step leave a marked block of a file as it is
-kept_block : (dig : Digest) {files : List FileState} {trees : List Facts} (file i : ℕ) {f : FileState} {k : Facts} {calls : DeviceCalls} (old new : History) → slice_get files file ≡ Some f → slice_get trees f.tree ≡ Some k
-    → slice_get f.states i ≡ Some Marked → Touches files trees calls → AreAnswered old (calls_of file calls) new → length (stored_block k.file_length old.now.bytes i) ≡ block_length k.file_length i
+kept_block : (dig : Digest) {files : List FileState} {trees : List Facts} (file i : ℕ) {f : FileState} {k : Facts} {calls : DeviceCalls} (old new : History)
+    → slice_get files file ≡ Some f → slice_get trees f.tree ≡ Some k → slice_get f.states i ≡ Some Marked → Touches files trees calls
+    → AreAnswered old (calls_of file calls) new → length (stored_block k.file_length old.now.bytes i) ≡ block_length k.file_length i
     → stored_block k.file_length new.now.bytes i ≡ stored_block k.file_length old.now.bytes i
 kept_block dig file i {k} {calls} old new at hung marked (keeping keep) answered whole =
     ap (λ xs. stored_block k.file_length xs i) (calls_keep old _ (λ c among. keep (file, c) (of_all calls among)) answered).same
-kept_block dig {files} {trees} file i {f} {k} {calls} old new at hung marked (putting b bytes g l call there rooted missing size made is) answered whole = by _ refl
+kept_block dig {files} {trees} file i {f} {k} {calls} old new at hung marked (putting b bytes g l call there rooted missing size made is) answered whole =
+    by _ refl
   where
     by : (t : Bool) → (b.file == file) ≡ t → stored_block k.file_length new.now.bytes i ≡ stored_block k.file_length old.now.bytes i
     by false e =
@@ -152,7 +159,8 @@ module _ {D : Type 0} (history : D → History) (honest : D → Type 0) (faults 
         | inr (found x) ↦ read_right x.hung x.read x.right tree tame.1
       ]
     where
-      read_right : {l bytes : _} → tree_of new file ≡ Some l → Contains calls (file, call_of l.file_length (given i bytes)) → IsRight dig l i bytes → tree_of new file ≡ Some k → Touches old.files old.trees calls → IsRight dig k i (stored_block k.file_length after.now.bytes i)
+      read_right : {l bytes : _} → tree_of new file ≡ Some l → Contains calls (file, call_of l.file_length (given i bytes)) → IsRight dig l i bytes
+          → tree_of new file ≡ Some k → Touches old.files old.trees calls → IsRight dig k i (stored_block k.file_length after.now.bytes i)
       read_right {l} {bytes} l_hung l_read l_right tree (keeping keep) =
           let same : l ≡ k = cc in
           let reads = calls_keep _ _ (λ c among. keep (file, c) (of_all calls among)) answered in
@@ -180,7 +188,8 @@ module _ {D : Type 0} (history : D → History) (honest : D → Type 0) (faults 
   run_sound old new [] [] [] disks after run sound = λ file f k e is_file there honest_now.
       sound file f k e (record { here = cc; hung = cc })
       (cc) honest_now
-  run_sound old new (e ∷ es) (c ∷ calls) (a ∷ answers) disks after run sound = run_sound run.0 new es calls answers run.1 after run.4 (step_sound old run.0 e c a disks run.1 run.2 run.3 sound)
+  run_sound old new (e ∷ es) (c ∷ calls) (a ∷ answers) disks after run sound =
+      run_sound run.0 new es calls answers run.1 after run.4 (step_sound old run.0 e c a disks run.1 run.2 run.3 sound)
   run_sound old new _ _ _ disks after run sound = absurd run
 
   pub complete_stands : CompleteFilesStand history honest dig

@@ -12,7 +12,8 @@ pub chunk_count : (count : ℕ) (bytes : List ℕ) → length (first_chunks 32 c
 chunk_count zero bytes = refl
 chunk_count (suc count) bytes = ap (λ n. suc n) (chunk_count count _)
 
-row_length : (dig : Digest) → IsDigest dig → (row : ℕ → List ℕ) (up i : ℕ) → ((j : ℕ) → up ≡ 0 → j ≡ i → length (row j) ≡ 32) → length (row_node dig row up i) ≡ 32
+row_length : (dig : Digest) → IsDigest dig → (row : ℕ → List ℕ) (up i : ℕ) → ((j : ℕ) → up ≡ 0 → j ≡ i → length (row j) ≡ 32)
+    → length (row_node dig row up i) ≡ 32
 unfolding row_node
 row_length dig sizes row zero i first = first i refl refl
 row_length dig sizes row (suc up) i first = sizes _
@@ -64,11 +65,13 @@ get_is (y ∷ xs) zero {x} e = (omega arith, same e)
     same e = cc
 get_is (y ∷ xs) (suc i) e = let r = get_is xs i e in (omega arith, r.1)
 
-tree_rooted : {dig : _} → IsDigest dig → {file : File} {torrent k : _} → IsFileLength file.length → length file.root ≡ 32 → IsTreeFrom dig torrent file k → IsRooted dig k
+tree_rooted : {dig : _} → IsDigest dig → {file : File} {torrent k : _} → IsFileLength file.length → length file.root ≡ 32
+    → IsTreeFrom dig torrent file k → IsRooted dig k
 tree_rooted sizes lawful size (by_layer layer some piece h) = layer_rooted sizes lawful h
 tree_rooted {dig} sizes {file} lawful size (by_root none is) = rw is (root_sound dig file.length file.root lawful size).rooted
 
-pub start_rooted : {dig : _} → IsDigest dig → {torrent : Metainfo} {s : _} → IsLawful torrent.piece_length torrent.files → Starts dig torrent s → AreRooted dig s
+pub start_rooted : {dig : _} → IsDigest dig → {torrent : Metainfo} {s : _} → IsLawful torrent.piece_length torrent.files → Starts dig torrent s
+    → AreRooted dig s
 start_rooted sizes {torrent} lawful starts t k at =
     let tree = starts.is_new.each_tree t k at in
     let found = get_is _ _ tree.listed in

@@ -1,5 +1,5 @@
 -- Marked blocks on a device, and a complete file.
-use Rattle.bt_engine.proofs.Base.{◌≡◌, ◌≢◌, ℕ, zero, suc, ◌+◌, ◌-◌, ◌*◌, ◌^◌, ◌<◌, ◌≤◌, ◌⊎◌, inl, inr, min, List, ◌++◌, length, take, drop, replicate, get_or, Some, sym, ap, ◌∙◌, arith, length-append, length-drop, pow-suc, slice_get, slice_index, ◌/◌, cases_lt, get_or-take, get_or-drop, get_or_append_left, get_or-append_right, length-take, length-replicate, same_number_lists, written, IsTornWrite, block_count, block_length, block_at, IsInside, real_width, node_digest, leaf_is, leaf_past, node_parent, Facts, blocks_of, height, value_at, IsRooted, value_covers, value_padding, value_above, IsRight, BlockState, Marked}
+use Rattle.bt_engine.proofs.Base.{◌≡◌, ◌≢◌, ℕ, zero, suc, ◌+◌, ◌-◌, ◌*◌, ◌^◌, ◌<◌, ◌≤◌, ◌⊎◌, inl, inr, min, List, ◌++◌, length, take, drop, replicate, get_or, Some, sym, ap, ◌∙◌, arith, length-append, length-drop, pow-suc, slice_get, slice_index, ◌/◌, cases_lt, get_or-take, get_or-drop, get_or_append_left, get_or-append_right, length-take, length-replicate, same_number_lists, written, IsTornWrite, block_count, block_length, block_at, IsInside, real_width, node_digest, leaf_is, leaf_past, node_parent, Facts, blocks_of, height, value_at, IsRooted, value_covers, value_padding, value_above, IsRight, Marked}
 use Rattle.bt_engine.proofs.Machine.{Digest, stored_block, AreRight, HasFile}
 
 length-front : (xs : List ℕ) {at : ℕ} → length (take at xs ++ replicate (at - length xs) 0) ≡ at
@@ -7,7 +7,8 @@ length-front xs {at} = omega (arith, length-append (take at xs) (replicate (at -
 
 length-written : (xs more at : _) → length (written xs at more) ≡ at + length more + (length xs - (at + length more))
 length-written xs more at =
-    omega (arith, length-append ((take at xs ++ replicate (at - length xs) 0) ++ more) (drop (at + length more) xs), length-append (take at xs ++ replicate (at - length xs) 0) more, length-front xs {at = at}, length-drop (at + length more) xs)
+    omega
+    (arith, length-append ((take at xs ++ replicate (at - length xs) 0) ++ more) (drop (at + length more) xs), length-append (take at xs ++ replicate (at - length xs) 0) more, length-front xs {at = at}, length-drop (at + length more) xs)
 
 written_outside : (xs more at i : _) → i < length xs → (i < at) ⊎ (at + length more ≤ i) → slice_index (written xs at more) i ≡ slice_index xs i
 written_outside xs more at i lt (inl before) =
@@ -53,12 +54,14 @@ own_bytes n xs {more} i size =
 away : (n i j x m : _) → i ≢ j → m ≤ 16384 → 16384 * i ≤ x → x < 16384 * i + block_length n i → (x < 16384 * j) ⊎ (16384 * j + m ≤ x)
 away n i j x m apart few from to = elim (cases_lt x (16384 * j)) [ inl lt ↦ inl lt | inr le ↦ inr (omega arith) ]
 
-pub other_bytes : (n xs more i j : _) → i ≢ j → length more ≡ block_length n j → length (stored_block n xs i) ≡ block_length n i → stored_block n (written xs (16384 * j) more) i ≡ stored_block n xs i
+pub other_bytes : (n xs more i j : _) → i ≢ j → length more ≡ block_length n j → length (stored_block n xs i) ≡ block_length n i
+    → stored_block n (written xs (16384 * j) more) i ≡ stored_block n xs i
 other_bytes n xs more i j apart size whole =
     same_at n xs (written xs (16384 * j) more) i whole (omega (arith, length-written xs more (16384 * j)))
     (λ x from to within. written_outside xs more (16384 * j) x within (away n i j x (length more) apart (omega arith) from to))
 
-pub torn_bytes : (n : ℕ) {s t : _} (i j : ℕ) {m : ℕ} → i ≢ j → m ≡ block_length n j → IsTornWrite (16384 * j) m s t → length (stored_block n s.bytes i) ≡ block_length n i → stored_block n t.bytes i ≡ stored_block n s.bytes i
+pub torn_bytes : (n : ℕ) {s t : _} (i j : ℕ) {m : ℕ} → i ≢ j → m ≡ block_length n j → IsTornWrite (16384 * j) m s t
+    → length (stored_block n s.bytes i) ≡ block_length n i → stored_block n t.bytes i ≡ stored_block n s.bytes i
 torn_bytes n {s} {t} i j {m} apart size torn whole =
     same_at n _ _ i whole torn.no_shorter
     (λ x from to within. elim (away n i j x m apart (omega arith) from to) [
@@ -76,7 +79,8 @@ torn_bytes n {s} {t} i j {m} apart size torn whole =
 real_leaves : {n : ℕ} → real_width n 0 ≡ n
 real_leaves = omega arith
 
-whole_file : (dig : Digest) (k : Facts) (bytes : _) → 0 < k.file_length → ((i : ℕ) → i < blocks_of k → IsRight dig k i (stored_block k.file_length bytes i)) → length (take k.file_length bytes) ≡ k.file_length
+whole_file : (dig : Digest) (k : Facts) (bytes : _) → 0 < k.file_length
+    → ((i : ℕ) → i < blocks_of k → IsRight dig k i (stored_block k.file_length bytes i)) → length (take k.file_length bytes) ≡ k.file_length
 whole_file dig k bytes some right =
     let n = k.file_length in
     let last = right ((n + 16383) / 16384 - 1) (omega arith) in
@@ -91,8 +95,9 @@ block_is {n} bytes i whole =
     let low : j < block_length n i = omega arith in
     get_or-take 16384 (drop (16384 * i) (take n bytes)) j 0 (omega arith) ∙ get_or-drop (16384 * i) (take n bytes) j 0 ∙ get_or-take n bytes (16384 * i + j) 0 (omega arith) ∙ sym (index_at n bytes i j low))
 
-node_is : {dig k : _} (bytes : _) → IsRooted dig k → length (take k.file_length bytes) ≡ k.file_length → ((i : ℕ) → i < blocks_of k → IsRight dig k i (stored_block k.file_length bytes i))
-    → (layer : ℕ) {i : ℕ} → IsInside (blocks_of k) layer i → value_at dig k layer i ≡ Some (node_digest dig (take k.file_length bytes) layer i)
+node_is : {dig k : _} (bytes : _) → IsRooted dig k → length (take k.file_length bytes) ≡ k.file_length
+    → ((i : ℕ) → i < blocks_of k → IsRight dig k i (stored_block k.file_length bytes i)) → (layer : ℕ) {i : ℕ} → IsInside (blocks_of k) layer i
+    → value_at dig k layer i ≡ Some (node_digest dig (take k.file_length bytes) layer i)
 node_is {dig} {k} bytes rooted whole right zero {i} inside =
     let file = take k.file_length bytes in
     let count : block_count (length file) ≡ blocks_of k = cc in

@@ -1,6 +1,6 @@
 -- What a step does to trees, files and devices: trees grow, and it reads blocks, or syncs, or writes one missing block.
-use Rattle.bt_engine.proofs.Base.{◌≡◌, ℕ, ◌*◌, ◌⊎◌, inl, inr, List, [], ◌∷◌, ◌++◌, length, Some, Result, Ok, Err, refl, sym, ap, ◌∙◌, slice_get, slice_set, flat_map, Contains-append_cases, full_block_length, block_length, Call, bytes_written, write_fault, sync_made, sync_fault, Facts, blocks_of, held_at, value_at, value_inside, value_covers, value_padding, cases_node, BlockRead, given, failed, call_of, PutIsDue, calls_of_put, states_after_put, Missing, StoreError, Range, DeviceFault, Put, Already, Wrong, PutMarked, PutWaiting, BlockId, PeerMessage as Sent, KeepAlive, Choke, Unchoke, Interested, NotInterested, Have, Bitfield, Request, Piece, Cancel, HashRequest, Hashes, HashReject, WireEvent, Hello, Message, Skipped}
-use Rattle.bt_engine.proofs.Machine.{Digest, Event, Connect, Feed, Next, Lost, Rechoke, Adopt, Flush, PeerState, FileState, EngineState, DeviceCalls, calls_at, reads_at, with_file, with_tree, SettlesIn, Sent as SentFrame, Effect, FindsFault, damaged, fault, HandlesRequest, ignored, no_place, not_marked, served, stopped, Arrives, HandlesPiece, stale, arrives, HandlesHashes, unknown_root, no_claim, refused, learns, HandlesHave, in_range, out_of_range, HandlesBitfield, right, wrong, HandlesMessage, Handles, StepNext, no_peer, waits, goes_on, closes, faulty, no_memory, StepConnect, joins, full, spent, no_room, StepFeed, feeds, not_fed, no_room as no_room_to_feed, StepLost, goes, not_fed as not_lost, FollowsEach, StepRechoke, rechokes, not_rechoked, AdoptsGroup, AdoptsGroups, StepAdopt, no_file, busy, empty, adopts, not_adopted, StepFlush, syncs_of, syncs, fails, Answer, Step, KeepsBytes, AllKeepBytes, IsWriteOfMissing, StepWritesMissing}
+use Rattle.bt_engine.proofs.Base.{◌≡◌, ℕ, ◌*◌, ◌⊎◌, inl, inr, List, [], ◌∷◌, ◌++◌, length, Some, Result, Ok, Err, refl, sym, ap, ◌∙◌, slice_get, slice_set, flat_map, Contains-append_cases, full_block_length, block_length, Call, bytes_written, write_fault, sync_made, sync_fault, Facts, blocks_of, held_at, value_at, value_inside, value_covers, value_padding, cases_node, BlockRead, given, failed, call_of, PutIsDue, calls_of_put, states_after_put, Missing, StoreError, Range, DeviceFault, Put, Already, Wrong, PutMarked, PutWaiting, BlockId, PeerMessage as Sent, KeepAlive, Choke, Unchoke, Interested, NotInterested, Have, Bitfield, Request, Piece, Cancel, HashRequest, Hashes, HashReject, Hello, Message, Skipped}
+use Rattle.bt_engine.proofs.Machine.{Digest, Connect, Feed, Next, Lost, Rechoke, Adopt, Flush, FileState, EngineState, DeviceCalls, calls_at, reads_at, with_file, with_tree, SettlesIn, FindsFault, damaged, fault, HandlesRequest, ignored, no_place, not_marked, served, stopped, Arrives, HandlesPiece, stale, arrives, HandlesHashes, unknown_root, no_claim, refused, learns, HandlesHave, in_range, out_of_range, HandlesBitfield, right, wrong, HandlesMessage, Handles, StepNext, no_peer, waits, goes_on, closes, faulty, no_memory, StepConnect, joins, full, spent, no_room, StepFeed, feeds, not_fed, no_room as no_room_to_feed, StepLost, goes, not_fed as not_lost, FollowsEach, StepRechoke, rechokes, not_rechoked, AdoptsGroup, AdoptsGroups, StepAdopt, no_file, busy, empty, adopts, not_adopted, StepFlush, syncs_of, syncs, fails, Step, KeepsBytes, AllKeepBytes, IsWriteOfMissing, StepWritesMissing}
 use Rattle.bt_engine.proofs.Lists.{set_cases, map_some, contains_none, contains_cases, contains_map, contains_flat_map}
 use Rattle.bt_engine.proofs.Adopting.{group_extends}
 
@@ -27,8 +27,9 @@ pub data Touches (files : List FileState) (trees : List Facts) (calls : DeviceCa
 abbrev pub Tame : (List ℕ → List ℕ) → List FileState → List Facts → DeviceCalls → EngineState → Type 0
 Tame dig files trees calls mid = Grows dig files trees mid × Touches files trees calls
 
-value_kept : (dig : Digest) (old new : Facts) → new.file_length ≡ old.file_length → ((l i : ℕ) (d : List ℕ) → held_at old l i ≡ Some d → held_at new l i ≡ Some d)
-    → (l i d : _) → value_at dig old l i ≡ Some d → value_at dig new l i ≡ Some d
+value_kept : (dig : Digest) (old new : Facts) → new.file_length ≡ old.file_length
+    → ((l i : ℕ) (d : List ℕ) → held_at old l i ≡ Some d → held_at new l i ≡ Some d) → (l i d : _) → value_at dig old l i ≡ Some d
+    → value_at dig new l i ≡ Some d
 value_kept dig old new size kept l i d e =
     let blocks : blocks_of new ≡ blocks_of old = cc in
     elim (cases_node (blocks_of old) l i (value_inside dig old l i d e)) [
@@ -60,7 +61,8 @@ append_keeps : (xs ys : _) → AllKeepBytes xs → AllKeepBytes ys → AllKeepBy
 append_keeps xs ys f g c among = elim (Contains-append_cases xs ys c among) [ inl one ↦ f c one | inr more ↦ g c more ]
 
 module _ (dig : Digest) where
-  same_tree : {files : List FileState} {trees : List Facts} {file : ℕ} {f : FileState} {k : Facts} → slice_get files file ≡ Some f → slice_get trees f.tree ≡ Some k → GrownFrom dig files trees file k
+  same_tree : {files : List FileState} {trees : List Facts} {file : ℕ} {f : FileState} {k : Facts} → slice_get files file ≡ Some f
+      → slice_get trees f.tree ≡ Some k → GrownFrom dig files trees file k
   same_tree {f} {k} at hung = record { old_file = f; old_tree = k; here = at; hung = hung; same_length = refl; same_root = refl; kept = λ i d e. e }
 
   -- the engine has the same files and trees
@@ -75,7 +77,8 @@ module _ (dig : Digest) where
   quiet s mid files trees none = (stays s mid files trees, keeping (keep_is none no_calls))
 
   -- a file stands in the place of one with the same tree
-  file_grows : (s : EngineState) (file : ℕ) {f : _} (new : FileState) → slice_get s.files file ≡ Some f → new.tree ≡ f.tree → Grows dig s.files s.trees (with_file s file new)
+  file_grows : (s : EngineState) (file : ℕ) {f : _} (new : FileState) → slice_get s.files file ≡ Some f → new.tree ≡ f.tree
+      → Grows dig s.files s.trees (with_file s file new)
   file_grows s file new at same other g k there hung = elim (set_cases _ file other there) [
     | inl now ↦ same_tree (ap (slice_get s.files) now.0 ∙ at) (cc)
     | inr old ↦ same_tree old hung
@@ -89,7 +92,8 @@ module _ (dig : Digest) where
   bits_tame {s} {mid} none (right x y e) = quiet s mid (cc) (cc) none
   bits_tame {s} {mid} none (wrong x y e) = quiet s mid (cc) (cc) none
 
-  fault_grows : {s : EngineState} {k mid file i f read effect : _} → slice_get s.files file ≡ Some f → FindsFault dig k s file i f read effect mid → Grows dig s.files s.trees mid
+  fault_grows : {s : EngineState} {k mid file i f read effect : _} → slice_get s.files file ≡ Some f → FindsFault dig k s file i f read effect mid
+      → Grows dig s.files s.trees mid
   fault_grows {s} {mid} {file} {i} {f} at (damaged bytes x y z e) =
       let new : FileState = record f { states = slice_set f.states i Missing } in
       like s.files s.trees (with_file s file new) mid (cc) (cc) (file_grows s file new at refl)
@@ -105,8 +109,9 @@ module _ (dig : Digest) where
     keeping (keep_is f.made (reads_keep _ _ _)),
   )
 
-  put_touches : {files : List FileState} {trees : List Facts} (c : BlockId) (bytes : _) {f : FileState} {k : Facts} {calls : DeviceCalls} → slice_get files c.file ≡ Some f → slice_get trees f.tree ≡ Some k
-      → (r : Result Put StoreError) → PutIsDue dig k c.block bytes f.states r → calls ≡ calls_at c.file (calls_of_put c.block bytes r) → Touches files trees calls
+  put_touches : {files : List FileState} {trees : List Facts} (c : BlockId) (bytes : _) {f : FileState} {k : Facts} {calls : DeviceCalls}
+      → slice_get files c.file ≡ Some f → slice_get trees f.tree ≡ Some k → (r : Result Put StoreError) → PutIsDue dig k c.block bytes f.states r
+      → calls ≡ calls_at c.file (calls_of_put c.block bytes r) → Touches files trees calls
   put_touches c bytes {f} {k} at hung (Ok PutMarked) due made = putting c bytes f k _ at hung due.1 due.0.whole made (inl refl)
   put_touches c bytes {f} {k} at hung (Ok PutWaiting) due made = putting c bytes f k _ at hung due.1 due.0.whole made (inl refl)
   put_touches c bytes {f} {k} at hung (Err DeviceFault) due made = putting c bytes f k _ at hung due.1 due.0.whole made (inr refl)
@@ -143,8 +148,8 @@ module _ (dig : Digest) where
     | inr before ↦ same_tree there before
   ]
 
-  settled_grows : (files trees : _) {is_meant t from count old new calls notes : _} → SettlesIn dig is_meant t from count old calls notes new → Grows dig files trees old
-      → Grows dig files trees new
+  settled_grows : (files trees : _) {is_meant t from count old new calls notes : _} → SettlesIn dig is_meant t from count old calls notes new
+      → Grows dig files trees old → Grows dig files trees new
   settled_grows files trees {old} s g file f k at hung =
       let m = map_some _ _ (sym (s.files file) ∙ at) in
       let tree : m.0.tree ≡ f.tree = cc in

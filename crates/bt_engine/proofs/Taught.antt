@@ -1,5 +1,5 @@
 -- The tree after a group answers the keys that ask for what the group taught.
-use Rattle.bt_engine.proofs.Base.{◌≡◌, ℕ, zero, suc, ◌+◌, ◌-◌, ◌*◌, ◌/◌, ◌%◌, ◌^◌, ◌<◌, ◌≤◌, inl, inr, min, Bool, true, false, List, [], ◌∷◌, length, map, replicate, get_or, Option, Some, refl, sym, ap, ◌∙◌, arith, length-append, Contains, ◌&&◌, ◌==◌, if◌then◌else◌, div-add-mod, mul_assoc, add-mul, div-div-eq-div-mul, mul-mod_left, lt_of_mul-lt-mul_right, mul-le-mul_right, cases_lt, lt-ltb, le-ltb, eqb-true, div-mul-add, pow-add, pow_pos, length-map, length-replicate, length-range_with_len, padding_digest, height_of, IsInside, row_node, pow_le, Facts, blocks_of, height, value_at, Claims, in_run, run_height, run_digest, sibling_of, Claim, IsRequest, answer_size, answer_layer, answer_index, Accepts, value_covers, value_padding, cases_node, claimed_inside, double_div, half_sibling, max_run_height, planned_key, HashKey, height_of-pow, BlockRead, block_of, IsUnknownGroup, claimed_digest, claim_of_reads, none, known, accepted, not_accepted as refused, short, unread}
+use Rattle.bt_engine.proofs.Base.{◌≡◌, ℕ, zero, suc, ◌+◌, ◌-◌, ◌*◌, ◌/◌, ◌%◌, ◌^◌, ◌<◌, ◌≤◌, inl, inr, min, Bool, true, false, List, [], ◌∷◌, length, map, replicate, get_or, Option, Some, refl, sym, ap, ◌∙◌, arith, length-append, Contains, ◌&&◌, ◌==◌, if◌then◌else◌, div-add-mod, mul_assoc, add-mul, div-div-eq-div-mul, mul-mod_left, lt_of_mul-lt-mul_right, mul-le-mul_right, cases_lt, lt-ltb, le-ltb, eqb-true, div-mul-add, pow-add, pow_pos, length-map, length-replicate, length-range_with_len, padding_digest, height_of, IsInside, row_node, pow_le, Facts, blocks_of, height, value_at, in_run, run_digest, sibling_of, Claim, IsRequest, answer_size, answer_layer, answer_index, Accepts, value_covers, value_padding, cases_node, claimed_inside, double_div, half_sibling, max_run_height, planned_key, HashKey, height_of-pow, BlockRead, block_of, IsUnknownGroup, claimed_digest, claim_of_reads, none, known, accepted, not_accepted as refused, short, unread}
 use Rattle.bt_engine.proofs.Machine.{Digest, group_blocks, run_starts, HasAnswer, TaughtKeysAreAnswered}
 use Rattle.bt_store.specs.Adoption.{AreWhole}
 use Rattle.bt_engine.proofs.Lists.{range_limits, contains_none, contains_map, contains_filter}
@@ -47,7 +47,8 @@ module _ (dig : Digest) (k grown : Facts) (anchor first count : ℕ) (reads : Li
 -- ---- answers
 
 -- a list of what is known of each node
-listed : (n : ℕ) (f : ℕ → Option (List ℕ)) → ((t : ℕ) → t < n → (d : List ℕ) × (f t ≡ Some d)) → (ds : List (List ℕ)) × (length ds ≡ n) × ((t : ℕ) → t < n → f t ≡ Some (get_or ds t []))
+listed : (n : ℕ) (f : ℕ → Option (List ℕ)) → ((t : ℕ) → t < n → (d : List ℕ) × (f t ≡ Some d))
+    → (ds : List (List ℕ)) × (length ds ≡ n) × ((t : ℕ) → t < n → f t ≡ Some (get_or ds t []))
 listed zero f each = ([], refl, λ t lt. absurd (omega arith))
 listed (suc n) f each =
     let first = each 0 (omega arith) in
@@ -105,8 +106,9 @@ module _ (dig : Digest) (k grown : Facts) (from anchor first count : ℕ) (reads
       let place : i ≡ from / 2 ^ anchor * 2 ^ anchor + (i - from / 2 ^ anchor * 2 ^ anchor) = omega arith in
       ap (λ n. n / 2 ^ anchor) place ∙ div-mul-add (from / 2 ^ anchor) (2 ^ anchor) (i - from / 2 ^ anchor * 2 ^ anchor) (omega arith)
 
-  key_answer : {m : ℕ} (i : ℕ) → IsUnknownGroup k from anchor first count → AreWhole k.file_length first count reads → Accepts dig k (claim_of_reads dig k.file_length anchor first reads) grown
-      → m ≡ min anchor max_run_height → i % 2 ^ m ≡ 0 → first ≤ i → i < first + count
+  key_answer : {m : ℕ} (i : ℕ) → IsUnknownGroup k from anchor first count → AreWhole k.file_length first count reads
+      → Accepts dig k (claim_of_reads dig k.file_length anchor first reads) grown → m ≡ min anchor max_run_height → i % 2 ^ m ≡ 0 → first ≤ i
+      → i < first + count
       → HasAnswer dig grown (record { root = grown.root; base = 0; index = i / 2 ^ m * 2 ^ m; length = 2 ^ m; layers = anchor - 1 })
   key_answer {m} i group whole accepts m_is aligned low high = record { request = request; digests = answers.0; answer = record { size = answers.1; values = λ t lt. answers.2 t (omega (arith, lt, answers.1)) } }
     where
@@ -157,7 +159,8 @@ module _ (dig : Digest) (k grown : Facts) (from anchor first count : ℕ) (reads
       known_at : (layer j : ℕ) → layer ≤ anchor → j / 2 ^ (anchor - layer) ≡ first / 2 ^ anchor → (d : List ℕ) × (value_at dig grown layer j ≡ Some d)
       known_at = known_below dig k grown _ first count reads whole (few_blocks group) accepts
 
-      at_node : (t : ℕ) {layer j : ℕ} → answer_layer 0 (2 ^ m) t ≡ layer → answer_index (i / 2 ^ m * 2 ^ m) (2 ^ m) t ≡ j → (d : List ℕ) × (value_at dig grown layer j ≡ Some d)
+      at_node : (t : ℕ) {layer j : ℕ} → answer_layer 0 (2 ^ m) t ≡ layer → answer_index (i / 2 ^ m * 2 ^ m) (2 ^ m) t ≡ j
+          → (d : List ℕ) × (value_at dig grown layer j ≡ Some d)
           → (d : List ℕ) × (value_at dig grown (answer_layer 0 (2 ^ m) t) (answer_index (i / 2 ^ m * 2 ^ m) (2 ^ m) t) ≡ Some d)
       at_node t {layer} e f v = (v.0, ap (λ l. value_at dig grown l (answer_index (i / 2 ^ m * 2 ^ m) (2 ^ m) t)) e ∙ ap (value_at dig grown layer) f ∙ v.1)
 
@@ -172,7 +175,8 @@ module _ (dig : Digest) (k grown : Facts) (from anchor first count : ℕ) (reads
           ap (λ h. sibling_of y / 2 ^ h) up ∙ double_div (sibling_of y) (y / 2) n (half_sibling y) ∙ sym (double_div y (y / 2) n refl) ∙ ap (λ h. y / 2 ^ h) (sym up)
           ∙ ap (λ h. h / 2 ^ (anchor - (m + u))) (far_div i m u) ∙ far_div i _ _ ∙ ap (λ h. i / 2 ^ h) all ∙ leaf_over i (omega arith) some
 
-      each : (t : ℕ) → t < answer_size (2 ^ m) (anchor - 1) → (d : List ℕ) × (value_at dig grown (answer_layer 0 (2 ^ m) t) (answer_index (i / 2 ^ m * 2 ^ m) (2 ^ m) t) ≡ Some d)
+      each : (t : ℕ) → t < answer_size (2 ^ m) (anchor - 1)
+          → (d : List ℕ) × (value_at dig grown (answer_layer 0 (2 ^ m) t) (answer_index (i / 2 ^ m * 2 ^ m) (2 ^ m) t) ≡ Some d)
       each t within = elim (cases_lt t (2 ^ m)) [
         | inl lt ↦
             let whole_path : anchor - 0 ≡ anchor = omega arith in
@@ -198,7 +202,9 @@ taught_answered dig k grown from old new reads adopted key (none end) c = absurd
 taught_answered dig k grown from old new reads adopted key (known count rs group order) c = absurd (contains_none c)
 taught_answered dig k grown from old new reads adopted key (accepted anchor first count rs g group whole accepts) c = by _ c
   where
-    by : (b : Bool) → Contains (if b then map (λ i. planned_key g i anchor) (run_starts anchor (group_blocks from (record { next = first + count; anchor = anchor; marked = count; faults = 0 }))) else []) key → HasAnswer dig g key
+    by : (b : Bool)
+        → Contains (if b then map (λ i. planned_key g i anchor) (run_starts anchor (group_blocks from (record { next = first + count; anchor = anchor; marked = count; faults = 0 }))) else []) key
+        → HasAnswer dig g key
     by false c = absurd (contains_none c)
     by true c =
         let m = contains_map (λ i. planned_key g i anchor) _ c in

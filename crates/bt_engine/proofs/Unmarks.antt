@@ -1,6 +1,6 @@
 -- How a block ceases to be marked.
-use Rattle.bt_engine.proofs.Base.{◌≡◌, ◌≢◌, ℕ, zero, suc, ◌+◌, ◌⊎◌, inl, inr, Bool, true, false, List, [], ◌∷◌, ◌++◌, map, Option, Some, refl, sym, ap, ◌∙◌, subst, slice_get, slice_set, option_map, Contains, flat_map, ◌==◌, if◌then◌else◌, Result, Ok, option_and_then, eqb-true, eq-eqb, Contains-append_left, Contains-append_right, History, Call, AreAnswered, Facts, BlockRead, given, failed, block_of, call_of, is_right, judged, IsRight, Adopts, known, accepted, unread, PutIsDue, states_after_put, BlockState, Missing, Waiting, Marked, StoreError, Put, PutMarked, PutWaiting, Adopted, BlockId, PeerMessage as Sent, KeepAlive, Choke, Unchoke, Interested, NotInterested, Have, Bitfield, Request, Piece, Cancel, HashRequest, Hashes, HashReject, WireEvent, Hello, Message, Skipped}
-use Rattle.bt_engine.proofs.Machine.{Digest, Event, Connect, Feed, Next, Lost, Rechoke, Adopt, Flush, PeerState, FileState, EngineState, DeviceCalls, calls_of, state_at, tree_of, with_file, Sent as SentFrame, Effect, IsFile, FindsFault, damaged, fault, StopsAtFault, HandlesRequest, ignored, no_place, not_marked, served, stopped, HandlesPiece, stale, arrives, judged_file, SettlesIn, HandlesHashes, unknown_root, no_claim, refused, learns, HandlesHave, in_range, out_of_range, HandlesBitfield, right, wrong, HandlesMessage, Handles, TakesEvent, StepNext, no_peer, waits, goes_on, closes, faulty, no_memory, StepConnect, joins, full, spent, no_room, StepFeed, feeds, not_fed, no_room as no_room_to_feed, StepLost, goes, not_fed as not_lost, FollowsEach, StepRechoke, rechokes, not_rechoked, AdoptsGroup, AdoptsGroups, StepAdopt, no_file, busy, empty, adopts, not_adopted, StepFlush, syncs, fails, Answer, Step, stored_block, RunOn, IsFoundWrong, StepUnmarksByBytes, StepKeepsMarks, RunKeepsMarks}
+use Rattle.bt_engine.proofs.Base.{◌≡◌, ◌≢◌, ℕ, zero, suc, ◌+◌, ◌⊎◌, inl, inr, Bool, true, false, List, [], ◌∷◌, ◌++◌, map, Option, Some, refl, sym, ap, ◌∙◌, subst, slice_get, slice_set, option_map, Contains, flat_map, ◌==◌, if◌then◌else◌, Result, Ok, option_and_then, eqb-true, eq-eqb, Contains-append_left, Contains-append_right, History, Call, AreAnswered, Facts, BlockRead, given, failed, block_of, call_of, is_right, judged, IsRight, Adopts, known, accepted, unread, PutIsDue, states_after_put, Missing, Waiting, Marked, StoreError, Put, PutMarked, PutWaiting, Adopted, BlockId, PeerMessage as Sent, KeepAlive, Choke, Unchoke, Interested, NotInterested, Have, Bitfield, Request, Piece, Cancel, HashRequest, Hashes, HashReject, Hello, Message, Skipped}
+use Rattle.bt_engine.proofs.Machine.{Digest, Connect, Feed, Next, Lost, Rechoke, Adopt, Flush, FileState, EngineState, DeviceCalls, calls_of, state_at, tree_of, with_file, IsFile, FindsFault, damaged, fault, StopsAtFault, HandlesRequest, ignored, no_place, not_marked, served, stopped, HandlesPiece, stale, arrives, judged_file, SettlesIn, HandlesHashes, unknown_root, no_claim, refused, learns, HandlesHave, in_range, out_of_range, HandlesBitfield, right, wrong, HandlesMessage, Handles, TakesEvent, StepNext, no_peer, waits, goes_on, closes, faulty, no_memory, StepConnect, joins, full, spent, no_room, StepFeed, feeds, not_fed, no_room as no_room_to_feed, StepLost, goes, not_fed as not_lost, FollowsEach, StepRechoke, rechokes, not_rechoked, AdoptsGroup, AdoptsGroups, StepAdopt, no_file, busy, empty, adopts, not_adopted, StepFlush, syncs, fails, Step, stored_block, RunOn, IsFoundWrong, StepUnmarksByBytes, StepKeepsMarks, RunKeepsMarks}
 use Rattle.bt_store.specs.Adoption.{marked_run}
 use Rattle.bt_engine.proofs.Lists.{same_some, set_get, set_other, set_same, and_then_some, contains_none, contains_cases, here, later, map_contains}
 use Rattle.bt_engine.proofs.Marks.{state_is, meant_then}
@@ -19,7 +19,8 @@ GaveWrong dig k reads i = (bytes : List ℕ) × Contains reads (given i bytes) �
 more_wrong : (dig : Digest) (k : _) (read : BlockRead) (reads i : _) → GaveWrong dig k reads i → GaveWrong dig k (read ∷ reads) i
 more_wrong dig k read reads i g = (g.0, later read reads g.1, g.2)
 
-judged_keeps : (dig : Digest) (k reads states i : _) → slice_get states i ≡ Some Marked → (slice_get (judged dig k true reads states) i ≡ Some Marked) ⊎ GaveWrong dig k reads i
+judged_keeps : (dig : Digest) (k reads states i : _) → slice_get states i ≡ Some Marked
+    → (slice_get (judged dig k true reads states) i ≡ Some Marked) ⊎ GaveWrong dig k reads i
 judged_keeps dig k [] states i e = inl e
 judged_keeps dig k (failed b ∷ reads) states i e = elim (judged_keeps dig k reads _ i e) [ inl kept ↦ inl kept | inr w ↦ inr (more_wrong dig k _ reads i w) ]
 judged_keeps dig k (given b bytes ∷ reads) states i e = elim (set_get _ b i {y = if is_right dig k b bytes then Marked else Missing} e) [
@@ -27,11 +28,13 @@ judged_keeps dig k (given b bytes ∷ reads) states i e = elim (set_get _ b i {y
   | inr still ↦ on (judged_keeps dig k reads _ i still)
 ]
   where
-    on : (slice_get (judged dig k true (given b bytes ∷ reads) states) i ≡ Some Marked) ⊎ GaveWrong dig k reads i → (slice_get (judged dig k true (given b bytes ∷ reads) states) i ≡ Some Marked) ⊎ GaveWrong dig k (given b bytes ∷ reads) i
+    on : (slice_get (judged dig k true (given b bytes ∷ reads) states) i ≡ Some Marked) ⊎ GaveWrong dig k reads i
+        → (slice_get (judged dig k true (given b bytes ∷ reads) states) i ≡ Some Marked) ⊎ GaveWrong dig k (given b bytes ∷ reads) i
     on (inl kept) = inl kept
     on (inr w) = inr (more_wrong dig k _ reads i w)
 
-    by : (t : Bool) → is_right dig k b bytes ≡ t → i ≡ b → slice_get (slice_set states b (if is_right dig k b bytes then Marked else Missing)) i ≡ Some (if is_right dig k b bytes then Marked else Missing)
+    by : (t : Bool) → is_right dig k b bytes ≡ t → i ≡ b
+        → slice_get (slice_set states b (if is_right dig k b bytes then Marked else Missing)) i ≡ Some (if is_right dig k b bytes then Marked else Missing)
         → (slice_get (slice_set states b (if is_right dig k b bytes then Marked else Missing)) i ≡ Some Marked → (slice_get (judged dig k true (given b bytes ∷ reads) states) i ≡ Some Marked) ⊎ GaveWrong dig k reads i)
         → (slice_get (judged dig k true (given b bytes ∷ reads) states) i ≡ Some Marked) ⊎ GaveWrong dig k (given b bytes ∷ reads) i
     by true t same at rest = elim (rest (cc)) [ inl kept ↦ inl kept | inr w ↦ inr (more_wrong dig k _ reads i w) ]
@@ -53,12 +56,14 @@ module _ (dig : Digest) (b : BlockId) where
   same_stays : {s mid : _} (calls : _) → mid ≡ s → state_at s b ≡ Some Marked → Stays s calls mid
   same_stays calls e m = inl (cc)
 
-  found_in : {s t calls more : _} → tree_of t b.file ≡ tree_of s b.file → ((c : ℕ × Call) → Contains calls c → Contains more c) → IsFoundWrong dig s calls b → IsFoundWrong dig t more b
+  found_in : {s t calls more : _} → tree_of t b.file ≡ tree_of s b.file → ((c : ℕ × Call) → Contains calls c → Contains more c)
+      → IsFoundWrong dig s calls b → IsFoundWrong dig t more b
   found_in trees among w = record { tree = w.tree; bytes = w.bytes; hung = cc; read = among _ w.read; wrong = w.wrong }
 
   -- in a file that stands in the place of another
   file_stays : (R : Type 0) (s : EngineState) (file : ℕ) {f : _} (new : FileState) → slice_get s.files file ≡ Some f → state_at s b ≡ Some Marked
-      → (b.file ≡ file → slice_get f.states b.block ≡ Some Marked → (slice_get new.states b.block ≡ Some Marked) ⊎ R) → (state_at (with_file s file new) b ≡ Some Marked) ⊎ R
+      → (b.file ≡ file → slice_get f.states b.block ≡ Some Marked → (slice_get new.states b.block ≡ Some Marked) ⊎ R)
+      → (state_at (with_file s file new) b ≡ Some Marked) ⊎ R
   file_stays R s file {f} new at m keep = by _ refl
     where
       by : (t : Bool) → (b.file == file) ≡ t → (state_at (with_file s file new) b ≡ Some Marked) ⊎ R
@@ -83,7 +88,9 @@ module _ (dig : Digest) (b : BlockId) where
   stop_stays {s} {mid} {span} {calls} {effect} x m = by x.finds
     where
       read_at_end : Contains calls (span.file, call_of x.tree.file_length x.read)
-      read_at_end = rw x.made (map_contains (λ read. (span.file, call_of x.tree.file_length read)) (x.reads ++ x.read ∷ []) (Contains-append_right x.reads (x.read ∷ []) x.read (here [] refl)))
+      read_at_end =
+          rw x.made
+          (map_contains (λ read. (span.file, call_of x.tree.file_length read)) (x.reads ++ x.read ∷ []) (Contains-append_right x.reads (x.read ∷ []) x.read (here [] refl)))
 
       by : FindsFault dig x.tree s span.file x.block x.file x.read effect mid → Stays s calls mid
       by (damaged bytes is wrong_bytes z e) = elim (file_stays (IsFoundWrong dig s calls b) s span.file (record x.file { states = slice_set x.file.states x.block Missing }) x.is_file.here m
@@ -106,7 +113,8 @@ module _ (dig : Digest) (b : BlockId) where
   request_stays (served span a c d f) m = inl (cc)
   request_stays (stopped span a c d f) m = stop_stays f m
 
-  put_stays : (k i bytes states j : _) (r : Result Put StoreError) → PutIsDue dig k i bytes states r → slice_get states j ≡ Some Marked → slice_get (states_after_put i r states) j ≡ Some Marked
+  put_stays : (k i bytes states j : _) (r : Result Put StoreError) → PutIsDue dig k i bytes states r → slice_get states j ≡ Some Marked
+      → slice_get (states_after_put i r states) j ≡ Some Marked
   put_stays k i bytes states j (Ok PutMarked) due e = elim (set_get states i j {y = Marked} e) [ inl now ↦ now.1 | inr still ↦ still ]
   put_stays k i bytes states j (Ok PutWaiting) due e = elim (set_get states i j {y = Waiting} e) [
     | inl now ↦ absurd cc
@@ -114,7 +122,8 @@ module _ (dig : Digest) (b : BlockId) where
   ]
   put_stays k i bytes states j _ due e = e
 
-  piece_stays : {s mid i p piece begin bytes calls effect : _} → HandlesPiece dig s i p piece begin bytes calls effect mid → state_at s b ≡ Some Marked → Stays s calls mid
+  piece_stays : {s mid i p piece begin bytes calls effect : _} → HandlesPiece dig s i p piece begin bytes calls effect mid
+      → state_at s b ≡ Some Marked → Stays s calls mid
   piece_stays {calls} (stale x y z e) m = same_stays calls e m
   piece_stays {s} {bytes} {calls} (arrives a) m =
       let q = a.puts in
@@ -125,7 +134,8 @@ module _ (dig : Digest) (b : BlockId) where
       ]
 
   -- a marked block is not due
-  settle_stays : {is_meant tree from count old new calls notes : _} → SettlesIn dig is_meant tree from count old calls notes new → state_at old b ≡ Some Marked → state_at new b ≡ Some Marked
+  settle_stays : {is_meant tree from count old new calls notes : _} → SettlesIn dig is_meant tree from count old calls notes new
+      → state_at old b ≡ Some Marked → state_at new b ≡ Some Marked
   settle_stays {is_meant} {old} {new} s m =
       let f = and_then_some (λ q. slice_get q.states b.block) (slice_get old.files b.file) m in
       let unread : Contains (map block_of (s.reads b.file)) b.block → ⊥ = λ c. (
@@ -135,7 +145,8 @@ module _ (dig : Digest) (b : BlockId) where
       state_is new b (s.files b.file ∙ ap (option_map (judged_file dig s.facts (s.reads b.file))) f.1)
       (judged_other dig s.facts false (s.reads b.file) f.0.states b.block unread ∙ f.2)
 
-  hashes_stays : {s mid i p key digests calls effect : _} → HandlesHashes dig s i p key digests calls effect mid → state_at s b ≡ Some Marked → Stays s calls mid
+  hashes_stays : {s mid i p key digests calls effect : _} → HandlesHashes dig s i p key digests calls effect mid → state_at s b ≡ Some Marked
+      → Stays s calls mid
   hashes_stays {calls} (unknown_root x y z e) m = same_stays calls e m
   hashes_stays {calls} (no_claim f x y c) m = same_stays calls c.after m
   hashes_stays {calls} (refused f t k c x y z g) m = same_stays calls g.after m
@@ -150,7 +161,8 @@ module _ (dig : Digest) (b : BlockId) where
   bits_stays calls (right x y e) m = inl (cc)
   bits_stays calls (wrong x y e) m = same_stays calls e m
 
-  message_stays : (s mid i p : _) (msg : Sent) (calls effect : _) → HandlesMessage dig s i p msg calls effect mid → state_at s b ≡ Some Marked → Stays s calls mid
+  message_stays : (s mid i p : _) (msg : Sent) (calls effect : _) → HandlesMessage dig s i p msg calls effect mid → state_at s b ≡ Some Marked
+      → Stays s calls mid
   message_stays s mid i p KeepAlive calls effect h m = inl (cc)
   message_stays s mid i p Choke calls effect h m = inl (cc)
   message_stays s mid i p Unchoke calls effect h m = inl (cc)
@@ -172,7 +184,8 @@ module _ (dig : Digest) (b : BlockId) where
 
   -- ---- events
 
-  taken_stays : {s mid : _} (new : _) {i p calls effect : _} → TakesEvent dig s i p calls effect mid → state_at new b ≡ state_at mid b → state_at s b ≡ Some Marked → Stays s calls new
+  taken_stays : {s mid : _} (new : _) {i p calls effect : _} → TakesEvent dig s i p calls effect mid → state_at new b ≡ state_at mid b
+      → state_at s b ≡ Some Marked → Stays s calls new
   taken_stays {s} {mid} new {i} {p} {calls} {effect} t same m = elim (event_stays _ mid i _ _ calls _ t.handles m) [
     | inl kept ↦ inl (cc)
     | inr w ↦ inr (found_in refl (λ c among. among) w)
@@ -243,7 +256,8 @@ module _ (dig : Digest) (b : BlockId) where
       ])) [ inl kept ↦ inl (cc) | inr w ↦ inr w ]
 
   -- what is wrong by a tree that has grown was so before
-  wrong_before : {s mid file from calls more adopted : _} → AdoptsGroup dig s file from calls adopted mid → b.file ≡ file → IsFoundWrong dig mid more b → IsFoundWrong dig s more b
+  wrong_before : {s mid file from calls more adopted : _} → AdoptsGroup dig s file from calls adopted mid → b.file ≡ file
+      → IsFoundWrong dig mid more b → IsFoundWrong dig s more b
   wrong_before {more} g same w =
       let h = group_forward dig g g.is_file in
       let tree = same_some w.hung (hung_in h.is_file same) in
@@ -255,7 +269,8 @@ module _ (dig : Digest) (b : BlockId) where
         wrong = λ r. w.wrong (rw tree (right_in dig h.extends r));
       }
 
-  groups_stays : (s new file from groups : _) (total : Adopted) → AdoptsGroups dig s file from groups total new → state_at s b ≡ Some Marked → StaysIn file s (flat_map (λ c. c) groups) new
+  groups_stays : (s new file from groups : _) (total : Adopted) → AdoptsGroups dig s file from groups total new → state_at s b ≡ Some Marked
+      → StaysIn file s (flat_map (λ c. c) groups) new
   groups_stays s new file from [] total g m = inl (cc)
   groups_stays s new file from (calls ∷ groups) total g m = elim (group_stays g.3 m) [
     | inl mid ↦ elim (groups_stays g.1 new file g.0.next groups g.2 g.4 mid) [
@@ -298,8 +313,8 @@ step_unmarks dig s new e calls a step b before after = elim (step_stays dig b s 
 
 module _ {D : Type 0} (history : D → History) (honest : D → Type 0) (faults : D → ℕ) (dig : Digest) where
   -- what an honest device gave stands there
-  given_stands : (s : EngineState) {calls file : _} (i n : ℕ) {bytes : _} (before after : History) → Touches s.files s.trees calls → AreAnswered before (calls_of file calls) after
-      → Contains calls (file, call_of n (given i bytes)) → bytes ≡ stored_block n before.now.bytes i
+  given_stands : (s : EngineState) {calls file : _} (i n : ℕ) {bytes : _} (before after : History) → Touches s.files s.trees calls
+      → AreAnswered before (calls_of file calls) after → Contains calls (file, call_of n (given i bytes)) → bytes ≡ stored_block n before.now.bytes i
   given_stands s {calls} {file} i n {bytes} before after (keeping keep) answered among =
       (calls_keep _ _ (λ c m. keep (file, c) (of_all calls m)) answered).read _ _ bytes (among_file calls among)
   given_stands s {file} i n {bytes} before after (putting b more g k call here hung missing whole only writes) answered among =
@@ -325,8 +340,9 @@ module _ {D : Type 0} (history : D → History) (honest : D → Type 0) (faults 
   ]
 
   -- the device was there before, and honest
-  device_before : (old new events calls answers : _) (disks after : List (Option D)) (file : _) {e : D} → RunOn history honest faults dig old disks events calls answers new after
-      → slice_get after file ≡ Some (Some e) → honest e → (d : D) × (slice_get disks file ≡ Some (Some d)) × honest d
+  device_before : (old new events calls answers : _) (disks after : List (Option D)) (file : _) {e : D}
+      → RunOn history honest faults dig old disks events calls answers new after → slice_get after file ≡ Some (Some e) → honest e
+      → (d : D) × (slice_get disks file ≡ Some (Some d)) × honest d
   device_before old new [] [] [] disks after file {e} run there honest_now = (e, sym (cc) ∙ there, honest_now)
   device_before old new (x ∷ xs) (c ∷ calls) (a ∷ answers) disks after file run there honest_now =
       let mid = device_before run.0 new xs calls answers run.1 after file run.4 there honest_now in
