@@ -1,20 +1,6 @@
 -- Nothing that a peer may be asked for is left.
-use Rattle.std.proofs.Common.{◌≡◌, ℕ, ◌⊎◌, inl, inr, List, [], ◌∷◌, ◌++◌, Option, Some, None, Result, Ok, refl, sym, ap, ◌∙◌, subst}
-use Rattle.std.specs.Prelude.{slice_get, slice_set, Contains}
-use Rattle.std.proofs.lemmas.List.{length-append}
-use Rattle.std.proofs.lemmas.List.Elements.{Contains-append_left, Contains-append_right}
-use Rattle.bt_store.specs.declared.block_states.BlockState.TheVariants.{Missing}
-use Rattle.bt_book.specs.declared.names.PeerKey.{PeerKey}
-use Rattle.bt_book.specs.declared.names.BlockId.{BlockId}
-use Rattle.bt_engine.specs.declared.error.EngineError.{EngineError}
-use Rattle.bt_engine.specs.State.{Idle, Asked, PeerState, EngineState}
-use Rattle.bt_engine.specs.Devices.{DeviceCalls}
-use Rattle.bt_engine.specs.Blocks.{state_at, Has, IsAsked, with_peer}
-use Rattle.bt_engine.specs.Output.{Sent, Output}
-use Rattle.bt_engine.specs.FollowUp.{NeedsLeaf, IsOpen, FollowsUp, RequestsHashes, requests, rests}
-use Rattle.bt_engine.specs.Next.{IsPeer, GoesOn, StepNext, no_peer, waits, goes_on, closes, faulty, no_memory}
-use Rattle.bt_engine.specs.Step.{of_next}
-use Rattle.bt_engine.specs.AnswerDue.{IsOnlyPeer, IsAskedForAll, NextAsksForAll}
+use Rattle.bt_engine.proofs.Base.{◌≡◌, ℕ, ◌⊎◌, inl, inr, List, [], ◌∷◌, ◌++◌, Option, Some, None, Result, Ok, refl, sym, ap, ◌∙◌, subst, slice_get, slice_set, Contains, length-append, Contains-append_left, Contains-append_right, Missing, PeerKey, BlockId}
+use Rattle.bt_engine.proofs.Machine.{Digest, EngineError, Idle, PeerState, EngineState, DeviceCalls, state_at, Has, IsAsked, Sent, Output, NeedsLeaf, IsOpen, FollowsUp, RequestsHashes, requests, rests, IsPeer, GoesOn, StepNext, no_peer, waits, goes_on, closes, faulty, no_memory, of_next, IsOnlyPeer, IsAskedForAll, NextAsksForAll}
 use Rattle.bt_engine.proofs.Lists.{same_some, set_same, contains_none, contains_cases, here, later}
 use Rattle.bt_engine.proofs.AnswerParts.{event_leaves}
 use Rattle.bt_engine.proofs.Pairs.{contains_some, some_at}
@@ -23,36 +9,36 @@ use Rattle.bt_engine.proofs.AnswerSends.{nat_cases, set_other}
 
 -- ---- whether somebody is asked for a block
 
-same_or_not : (b c : BlockId) → (b ≡ c) ⊎ (b ≡ c → ⊥)
-same_or_not b c = elim (nat_cases b.file c.file) [
-  | inl file ↦ elim (nat_cases b.block c.block) [
+same_or_not : {b : _} (c : BlockId) → (b ≡ c) ⊎ (b ≡ c → ⊥)
+same_or_not {b} c = elim (nat_cases _ _) [
+  | inl file ↦ elim (nat_cases _ _) [
     | inl block ↦ inl (ap (λ n. record b { file = n }) file ∙ ap (λ n. record c { block = n }) block)
-    | inr apart ↦ inr (λ e. apart (ap (λ (d : BlockId). d.block) e))
+    | inr apart ↦ inr (λ e. apart (cc))
   ]
-  | inr apart ↦ inr (λ e. apart (ap (λ (d : BlockId). d.file) e))
+  | inr apart ↦ inr (λ e. apart (cc))
 ]
 
-in_or_not : (xs : List BlockId) (b : BlockId) → Contains xs b ⊎ (Contains xs b → ⊥)
-in_or_not [] b = inr (λ c. contains_none b c)
-in_or_not (x ∷ xs) b = elim (same_or_not x b) [
-  | inl same ↦ inl (here x b xs same)
-  | inr apart ↦ elim (in_or_not xs b) [
-    | inl more ↦ inl (later x b xs more)
-    | inr none ↦ inr (λ c. elim (contains_cases x b xs c) [ inl same ↦ apart same | inr more ↦ none more ])
+in_or_not : (xs : List BlockId) {b : _} → Contains xs b ⊎ (Contains xs b → ⊥)
+in_or_not [] = inr (λ c. contains_none c)
+in_or_not (x ∷ xs) {b} = elim (same_or_not b) [
+  | inl same ↦ inl (here xs same)
+  | inr apart ↦ elim (in_or_not xs) [
+    | inl more ↦ inl (later x xs more)
+    | inr none ↦ inr (λ c. elim (contains_cases xs c) [ inl same ↦ apart same | inr more ↦ none more ])
   ]
 ]
 
 abbrev AskedOf : List PeerState → BlockId → Type 0
 AskedOf peers b = (p : PeerState) × Contains peers p × Contains p.asked b
 
-asked_or_not : (peers : List PeerState) (b : BlockId) → AskedOf peers b ⊎ (AskedOf peers b → ⊥)
-asked_or_not [] b = inr (λ a. contains_none a.0 a.1)
-asked_or_not (p ∷ peers) b = elim (in_or_not p.asked b) [
-  | inl asked ↦ inl (p, here p p peers refl, asked)
+asked_or_not : (peers b : _) → AskedOf peers b ⊎ (AskedOf peers b → ⊥)
+asked_or_not [] b = inr (λ a. contains_none a.1)
+asked_or_not (p ∷ peers) b = elim (in_or_not _) [
+  | inl asked ↦ inl (p, here peers refl, asked)
   | inr apart ↦ elim (asked_or_not peers b) [
-    | inl more ↦ inl (more.0, later p more.0 peers more.1, more.2)
-    | inr none ↦ inr (λ a. elim (contains_cases p a.0 peers a.1) [
-      | inl same ↦ apart (subst (λ (q : PeerState). Contains q.asked b) (sym same) a.2)
+    | inl more ↦ inl (more.0, later p peers more.1, more.2)
+    | inr none ↦ inr (λ a. elim (contains_cases peers a.1) [
+      | inl same ↦ apart (rw same a.2)
       | inr rest ↦ none (a.0, rest, a.2)
     ])
   ]
@@ -60,7 +46,7 @@ asked_or_not (p ∷ peers) b = elim (in_or_not p.asked b) [
 
 -- ---- what follows for a peer
 
-module _ (dig : List ℕ → List ℕ) (s : EngineState) (i : ℕ) (sent : List Sent) (new : EngineState) (f : FollowsUp dig s i sent new) where
+module _ {dig : Digest} {s : EngineState} {i : ℕ} {sent : List Sent} {new : EngineState} (f : FollowsUp dig s i sent new) where
   abbrev after : PeerState
   after = record f.planned { asked = f.planned.asked ++ f.blocks }
 
@@ -79,55 +65,55 @@ module _ (dig : List ℕ → List ℕ) (s : EngineState) (i : ℕ) (sent : List 
   same_flags = by f.hashes
     where
       has : f.interested.has ≡ f.peer.has
-      has = ap (λ (q : PeerState). q.has) f.interest.others
+      has = cc
 
       by : RequestsHashes dig s f.interested f.hash_frames f.planned → SameFlags
       by (requests b k key idle need hung plan e is) = record {
-        has = ap (λ (q : PeerState). q.has) is ∙ has;
-        asked = ap (λ (q : PeerState). q.asked) is ∙ ap (λ (q : PeerState). q.asked) f.interest.others;
-        interest = ap (λ (q : PeerState). q.am_interested) is;
-        leaves = λ still. (let wrong : Asked key ≡ Idle = sym (ap (λ (q : PeerState). q.hash) is) ∙ still in absurd cc);
+        has = cc;
+        asked = cc;
+        interest = cc;
+        leaves = λ still. absurd cc;
       }
       by (rests none e is) = record {
-        has = ap (λ (q : PeerState). q.has) is ∙ has;
-        asked = ap (λ (q : PeerState). q.asked) is ∙ ap (λ (q : PeerState). q.asked) f.interest.others;
-        interest = ap (λ (q : PeerState). q.am_interested) is;
-        leaves = λ idle b. subst (λ q. ¬ NeedsLeaf dig s q b) (sym is) (none (ap (λ (q : PeerState). q.hash) (sym is) ∙ idle) b);
+        has = cc;
+        asked = cc;
+        interest = cc;
+        leaves = λ idle b. rw is (none (cc) b);
       }
 
   same_key : f.planned.key ≡ f.peer.key
-  same_key = by f.hashes ∙ ap (λ (q : PeerState). q.key) f.interest.others
+  same_key = by f.hashes ∙ ap (λ q. q.key) f.interest.others
     where
       by : RequestsHashes dig s f.interested f.hash_frames f.planned → f.planned.key ≡ f.interested.key
-      by (requests b k key idle need hung plan e is) = ap (λ (q : PeerState). q.key) is
-      by (rests none e is) = ap (λ (q : PeerState). q.key) is
+      by (requests b k key idle need hung plan e is) = cc
+      by (rests none e is) = cc
 
   -- who is asked for a block is asked for it afterwards
-  asked_still : (b : BlockId) → IsAsked s b → f.planned.asked ≡ f.peer.asked → IsAsked then b
+  asked_still : (b : _) → IsAsked s b → f.planned.asked ≡ f.peer.asked → IsAsked then b
   asked_still b asked same =
-      let at = some_at s.peers asked.0 asked.1 in
+      let at = some_at _ asked.1 in
       elim (nat_cases i at.0) [
         | inl e ↦
-            let is : f.peer ≡ asked.0 = same_some (slice_get s.peers i) f.peer asked.0 f.here (ap (slice_get s.peers) e ∙ at.1) in
-            (after, contains_some then.peers i after (set_same s.peers i after f.peer f.here), Contains-append_left f.planned.asked f.blocks b (subst (λ l. Contains l b) (sym (same ∙ ap (λ (q : PeerState). q.asked) is)) asked.2))
-        | inr apart ↦ (asked.0, contains_some then.peers at.0 asked.0 (set_other s.peers i at.0 after apart ∙ at.1), asked.2)
+            let is : f.peer ≡ asked.0 = cc in
+            (after, contains_some _ i (set_same _ i f.here), Contains-append_left f.planned.asked f.blocks b (rw (same ∙ ap (λ q. q.asked) is) asked.2))
+        | inr apart ↦ (asked.0, contains_some _ at.0 (set_other _ i at.0 after apart ∙ at.1), asked.2)
       ]
 
-  asked_now : (b : BlockId) → Contains f.blocks b → IsAsked then b
-  asked_now b c = (after, contains_some then.peers i after (set_same s.peers i after f.peer f.here), Contains-append_right f.planned.asked f.blocks b c)
+  asked_now : {b : _} → Contains f.blocks b → IsAsked then b
+  asked_now {b} c = (after, contains_some _ i (set_same _ i f.here), Contains-append_right f.planned.asked f.blocks b c)
 
   -- each open block is asked for, and so each missing one that the peer has
-  all_asked : ((b : BlockId) → IsOpen s f.planned b → Contains f.blocks b) → (b : BlockId) → Has then after b → state_at then b ≡ Some Missing → IsAsked then b
-  all_asked each b has missing = elim (asked_or_not s.peers b) [
+  all_asked : ((b : BlockId) → IsOpen s f.planned b → Contains f.blocks b) → (b : _) → Has then after b → state_at then b ≡ Some Missing → IsAsked then b
+  all_asked each b has missing = elim (asked_or_not _ b) [
     | inl asked ↦ asked_still b asked same_flags.asked
-    | inr none ↦ asked_now b (each b (record { has = has; missing = missing; free = none }))
+    | inr none ↦ asked_now (each b (record { has = has; missing = missing; free = none }))
   ]
 
   pub asked_for_all : IsAskedForAll dig then after
   asked_for_all = record {
     interest = (
       λ e. (let i = f.interest.interest.0 (sym same_flags.interest ∙ e) in (i.0, subst (λ h. Has then (record after { has = h }) i.0) (sym same_flags.has) i.1, i.2)),
-      λ i. same_flags.interest ∙ f.interest.interest.1 (i.0, subst (λ h. Has s (record f.peer { has = h }) i.0) same_flags.has i.1, i.2),
+      λ i. same_flags.interest ∙ f.interest.interest.1 (i.0, rw (← same_flags.has) i.1, i.2),
     );
     leaves = λ idle b needs. same_flags.leaves idle b (record { has = needs.has; not_marked = needs.not_marked; tree = needs.tree; hung = needs.hung; unknown = needs.unknown });
     blocks = λ open_to interested. elim (f.asks.all open_to interested) [
@@ -137,11 +123,11 @@ module _ (dig : List ℕ → List ℕ) (s : EngineState) (i : ℕ) (sent : List 
   }
 
   peer_then : slice_get then.peers i ≡ Some after
-  peer_then = set_same s.peers i after f.peer f.here
+  peer_then = set_same _ i f.here
 
 -- ---- the law
 
-module _ (dig : List ℕ → List ℕ) (s new : EngineState) (key : PeerKey) (i : ℕ) (p : PeerState) (calls : DeviceCalls) (out : Output) (one : IsOnlyPeer s key i p) (stays : out.close ≡ None) where
+module _ (dig : Digest) {s : EngineState} (new : EngineState) {key : PeerKey} {i : ℕ} {p : PeerState} (calls : DeviceCalls) (out : Output) (one : IsOnlyPeer s key i p) (stays : out.close ≡ None) where
   abbrev Asked_then : Type 0
   Asked_then = (q : PeerState) × IsPeer new key i q × IsAskedForAll dig new q
 
@@ -151,37 +137,36 @@ module _ (dig : List ℕ → List ℕ) (s new : EngineState) (key : PeerKey) (i 
   abbrev answer : Output → NextAnswer
   answer a = Ok (Some a)
 
-  some_out : (a : Output) → answer out ≡ answer a → out ≡ a
-  some_out a e = cc
+  some_out : {a : _} → answer out ≡ answer a → out ≡ a
+  some_out e = cc
 
   goes_asking : (g : GoesOn dig s i p calls out new) → Asked_then
   goes_asking g =
       let rest = record p { stream = g.takes.rest } in
-      let set = set_same s.peers i rest p one.is_peer.here in
-      let left = event_leaves dig (with_peer s i rest) i rest set g.mid g.takes.event calls g.effect g.takes.handles in
+      let set = set_same _ i one.is_peer.here in
+      let left = event_leaves dig _ i set _ calls g.takes.handles in
       let f = g.follows in
-      let same : f.peer ≡ left.peer = same_some (slice_get g.mid.peers i) f.peer left.peer f.here (ap (λ l. slice_get l i) left.peers ∙ set_same (with_peer s i rest).peers i left.peer rest set) in
-      let planned = same_key dig _ i g.sent new f in
-      let key_is : f.planned.key ≡ key = planned ∙ ap (λ (q : PeerState). q.key) same ∙ left.same_key ∙ one.is_peer.same_key in
-      subst (λ x. (q : PeerState) × IsPeer x key i q × IsAskedForAll dig x q) (sym f.after)
-      (after dig _ i g.sent new f, record { here = peer_then dig _ i g.sent new f; same_key = key_is }, asked_for_all dig _ i g.sent new f)
+      let same = same_some f.here (ap (λ l. slice_get l i) left.peers ∙ set_same _ i set) in
+      let planned = same_key f in
+      let key_is : f.planned.key ≡ key = cc in
+      rw f.after (after f, record { here = peer_then f; same_key = key_is }, asked_for_all f)
 
-  next_asks_all : (r : NextAnswer) → answer out ≡ r → StepNext dig s key calls r new → Asked_then
-  next_asks_all r e (no_peer x y z w) = let wrong = e ∙ z in absurd cc
-  next_asks_all r e (waits j q x y z w v) = let wrong = e ∙ w in absurd cc
-  next_asks_all r e (goes_on j q o x g y) =
-      let same = some_out o (e ∙ y) in
+  next_asks_all : {r : _} → answer out ≡ r → StepNext dig s key calls r new → Asked_then
+  next_asks_all e (no_peer x y z w) = let wrong = e ∙ z in absurd cc
+  next_asks_all e (waits j q x y z w v) = let wrong = e ∙ w in absurd cc
+  next_asks_all e (goes_on j q o x g y) =
+      let same = some_out (e ∙ y) in
       let place = one.only j q x in
-      let is : q ≡ p = same_some (slice_get s.peers i) q p (ap (slice_get s.peers) (sym place) ∙ x.here) one.is_peer.here in
-      goes_asking (subst (λ n. GoesOn dig s i p calls n new) (sym same) (subst (λ n. GoesOn dig s i n calls o new) is (subst (λ n. GoesOn dig s n q calls o new) place g)))
-  next_asks_all r e (closes j q o x g y) = let same = some_out o (e ∙ y) ∙ g.is in let wrong : None ≡ Some g.why = sym stays ∙ ap (λ (x : Output). x.close) same in absurd cc
-  next_asks_all r e (faulty j q o x g y) = let same = some_out o (e ∙ y) ∙ g.is in let wrong = sym stays ∙ ap (λ (x : Output). x.close) same in absurd cc
-  next_asks_all r e (no_memory j q x g y) = let wrong = e ∙ y in absurd cc
+      let is : q ≡ p = cc in
+      goes_asking (rw same (rw (← is) (rw (← place) g)))
+  next_asks_all e (closes j q o x g y) = let same = some_out (cc) ∙ g.is in absurd cc
+  next_asks_all e (faulty j q o x g y) = let same = some_out (cc) ∙ g.is in let wrong = sym stays ∙ ap (λ x. x.close) same in absurd cc
+  next_asks_all e (no_memory j q x g y) = let wrong = e ∙ y in absurd cc
 
-pub next_asks : (dig : List ℕ → List ℕ) → NextAsksForAll dig
+pub next_asks : (dig : Digest) → NextAsksForAll dig
 next_asks dig s new key i p calls out one stays t =
-    let r = next_asks_all dig s new key i p calls out one stays t.0 (result_is t.0 t.1) t.2 in
-    (r.0, r.1, r.2, next_changes dig s new key i p r.0 calls (of_next (Ok (Some out))) one r.1 t)
+    let r = next_asks_all dig new calls out one stays (result_is t.1) t.2 in
+    (r.0, r.1, r.2, next_changes dig calls one r.1 t)
   where
-    result_is : (r : Result (Option Output) EngineError) → of_next (Ok (Some out)) ≡ of_next r → Ok (Some out) ≡ r
-    result_is r e = cc
+    result_is : {r : _} → of_next (Ok (Some out)) ≡ of_next r → Ok (Some out) ≡ r
+    result_is e = cc

@@ -1,25 +1,14 @@
 -- Interest is told only where it changed.
-use Rattle.std.proofs.Common.{◌≡◌, ℕ, zero, suc, ◌+◌, ◌<◌, ◌≤◌, ◌⊎◌, inl, inr, Bool, true, false, List, length, Some, refl, sym, ap, ◌∙◌, subst, arith}
-use Rattle.std.specs.Prelude.{slice_get, Contains}
-use Rattle.std.specs.List.{range_with_len}
-use Rattle.std.proofs.lemmas.List.Elements.{Contains-append_cases}
-use Rattle.bt_book.specs.declared.names.PeerKey.{PeerKey}
-use Rattle.bt_wire.specs.declared.message.Message.TheVariants.{Interested, NotInterested}
-use Rattle.bt_engine.specs.State.{PeerState, EngineState}
-use Rattle.bt_engine.specs.Devices.{DeviceCalls}
-use Rattle.bt_engine.specs.Blocks.{with_peer}
-use Rattle.bt_engine.specs.Output.{Sent, Output}
-use Rattle.bt_engine.specs.FollowUp.{IsInteresting}
-use Rattle.bt_engine.specs.Next.{IsPeer, GoesOn}
-use Rattle.bt_engine.specs.Rechoke.{FollowsEach, rechoked, rechoked_peer}
-use Rattle.bt_engine.specs.AnswerLaw.{ChangesInterest, StepTellsChangedInterest}
+use Rattle.bt_engine.proofs.Base.{◌≡◌, ℕ, zero, suc, ◌+◌, ◌<◌, ◌≤◌, ◌⊎◌, inl, inr, Bool, true, false, List, length, Some, refl, sym, ap, ◌∙◌, subst, arith, slice_get, Contains, range_with_len, Contains-append_cases, PeerKey, Interested, NotInterested}
+use Rattle.bt_engine.proofs.Machine.{Digest, PeerState, EngineState, with_peer, Sent, IsInteresting, IsPeer, GoesOn, FollowsEach, rechoked, ChangesInterest, StepTellsChangedInterest}
 use Rattle.bt_engine.proofs.Lists.{contains_none, same_some, set_same, get_map}
-use Rattle.bt_engine.proofs.AnswerParts.{Part, greets, replies, interests, chokes, all_haves, event_leaves}
+use Rattle.bt_engine.proofs.AnswerParts.{greets, replies, interests, chokes, all_haves, event_leaves}
 use Rattle.bt_engine.proofs.AnswerSends.{set_other, frame_to, Follows, follows_of, IsSentBy, alike, announced, followed, rechoked_then, step_sent}
 use Rattle.bt_engine.proofs.AnswerRequests.{has_in, missing_in}
 
 -- what follows changes no block and no piece of the peer
-interesting_in : (s new : EngineState) (p q : PeerState) → new.torrent ≡ s.torrent → new.files ≡ s.files → q.has ≡ p.has → IsInteresting s p → IsInteresting new q
+interesting_in : (s new : EngineState) (p q : PeerState) → new.torrent ≡ s.torrent → new.files ≡ s.files → q.has ≡ p.has → IsInteresting s p
+    → IsInteresting new q
 interesting_in s new p q t f h i = (i.0, has_in s new p q i.0 t h i.1, missing_in s new i.0 f i.2)
 
 -- the peer that stands there in the old engine has the same key, and the same flag
@@ -35,19 +24,19 @@ record ChangesAt (old new : EngineState) (key : PeerKey) (was now : Bool) (place
   at_place : changes.place ≡ place
 
 -- a peer whose interest changed by what follows for it
-changes_by : (old s new : EngineState) (i : ℕ) (sent : List Sent) (f : Follows s i sent new) → WasSo old i f.peer → (key : PeerKey) (was now : Bool) → f.peer.am_interested ≡ was → f.after.am_interested ≡ now
-    → f.peer.key ≡ key → ChangesAt old new key was now i
-changes_by old s new i sent f w key was now x y k = record {
+changes_by : {old s new i sent : _} (f : Follows s i sent new) → WasSo old i f.peer → {key was now : _} → f.peer.am_interested ≡ was
+    → f.after.am_interested ≡ now → f.peer.key ≡ key → ChangesAt old new key was now i
+changes_by {s} {new} {i} f w x y k = record {
   changes = record {
     place = i;
     before = w.peer;
     after = f.after;
-    is_before = record { here = w.here; same_key = w.same_key ∙ k };
-    is_after = record { here = f.now; same_key = f.same_key ∙ k };
-    was_interested = w.same_interest ∙ x;
+    is_before = record { here = w.here; same_key = cc };
+    is_after = record { here = f.now; same_key = cc };
+    was_interested = cc;
     now_interested = y;
     due = (
-      λ e. interesting_in s new f.peer f.after f.torrent f.files f.same_has (f.due.0 (y ∙ e)),
+      λ e. interesting_in s new f.peer f.after f.torrent f.files f.same_has (f.due.0 (cc)),
       λ e. sym y ∙ f.due.1 (interesting_in new s f.after f.peer (sym f.torrent) (sym f.files) (sym f.same_has) e),
     );
   };
@@ -55,15 +44,16 @@ changes_by old s new i sent f w key was now x y k = record {
 }
 
 -- and it stays so while others follow
-stays_changed : (old s new : EngineState) (i : ℕ) (sent : List Sent) → Follows s i sent new → (key : PeerKey) (was now : Bool) (place : ℕ) → (i ≡ place → ⊥) → ChangesAt old s key was now place → ChangesAt old new key was now place
-stays_changed old s new i sent f key was now place apart c = record {
+stays_changed : {old s new i sent : _} → Follows s i sent new → {key was now place : _} → (i ≡ place → ⊥) → ChangesAt old s key was now place
+    → ChangesAt old new key was now place
+stays_changed {s} {new} {i} f {place} apart c = record {
   changes = record {
     place = c.changes.place;
     before = c.changes.before;
     after = c.changes.after;
     is_before = c.changes.is_before;
     is_after = record {
-      here = ap (λ l. slice_get l c.changes.place) f.peers ∙ set_other s.peers i c.changes.place f.after (λ e. apart (e ∙ c.at_place)) ∙ c.changes.is_after.here;
+      here = ap (λ l. slice_get l c.changes.place) f.peers ∙ set_other s.peers i c.changes.place f.after (λ e. apart (cc)) ∙ c.changes.is_after.here;
       same_key = c.changes.is_after.same_key;
     };
     was_interested = c.changes.was_interested;
@@ -81,77 +71,78 @@ record Tells (old new : EngineState) (sent : List Sent) : Type 0 where
   interested : (key : PeerKey) → Contains sent (frame_to key Interested) → ChangesInterest old new key false true
   uninterested : (key : PeerKey) → Contains sent (frame_to key NotInterested) → ChangesInterest old new key true false
 
-module _ (dig : List ℕ → List ℕ) where
-  each_stays : (n a : ℕ) (old s new : EngineState) (sent : List Sent) → FollowsEach dig (range_with_len a n) s sent new → (key : PeerKey) (was now : Bool) (place : ℕ) → place < a → ChangesAt old s key was now place
-      → ChangesAt old new key was now place
-  each_stays zero a old s new sent f key was now place below c = subst (λ x. ChangesAt old x key was now place) (sym f.1) c
-  each_stays (suc n) a old s new sent f key was now place below c =
-      each_stays n (a + 1) old f.0 new f.2 f.4 key was now place (omega (arith, below))
-      (stays_changed old s f.0 a f.1 (follows_of dig s a f.1 f.0 f.3) key was now place (λ e. absurd (omega (arith, below, e))) c)
+module _ (dig : Digest) where
+  each_stays : (n a : ℕ) {old s new : _} (sent : _) → FollowsEach dig (range_with_len a n) s sent new → {key was now place : _} → place < a
+      → ChangesAt old s key was now place → ChangesAt old new key was now place
+  each_stays zero a {old} sent f {key} {was} {now} {place} below c = rw f.1 c
+  each_stays (suc n) a sent f below c =
+      each_stays n _ f.2 f.4 (omega arith)
+      (stays_changed (follows_of f.3) (λ e. absurd (omega arith)) c)
 
-  each_tells : (n a : ℕ) (old s new : EngineState) (sent : List Sent) → FollowsEach dig (range_with_len a n) s sent new → ((j : ℕ) (q : PeerState) → a ≤ j → slice_get s.peers j ≡ Some q → WasSo old j q) → Tells old new sent
-  each_tells zero a old s new sent f was_so = record {
-    interested = λ key c. absurd (contains_none _ (subst (λ l. Contains l (frame_to key Interested)) f.0 c));
-    uninterested = λ key c. absurd (contains_none _ (subst (λ l. Contains l (frame_to key NotInterested)) f.0 c));
+  each_tells : (n a : ℕ) {old : _} (s : _) {new sent : _} → FollowsEach dig (range_with_len a n) s sent new
+      → ((j : ℕ) (q : PeerState) → a ≤ j → slice_get s.peers j ≡ Some q → WasSo old j q) → Tells old new sent
+  each_tells zero a s f was_so = record {
+    interested = λ key c. absurd (contains_none (subst (λ l. Contains l (frame_to key Interested)) f.0 c));
+    uninterested = λ key c. absurd (contains_none (subst (λ l. Contains l (frame_to key NotInterested)) f.0 c));
   }
-  each_tells (suc n) a old s new sent f was_so =
-      let first = follows_of dig s a f.1 f.0 f.3 in
+  each_tells (suc n) a {old} s {new} f was_so =
+      let first = follows_of f.3 in
       let later : (j : ℕ) (q : PeerState) → a + 1 ≤ j → slice_get f.0.peers j ≡ Some q → WasSo old j q = λ j q above at.
-      was_so j q (omega (arith, above)) (sym (ap (λ l. slice_get l j) first.peers ∙ set_other s.peers a j first.after (λ e. absurd (omega (arith, above, e)))) ∙ at) in
-      let rest = each_tells n (a + 1) old f.0 new f.2 f.4 later in
+      was_so j q (omega arith) (sym (ap (λ l. slice_get l j) first.peers ∙ set_other _ a j _ (λ e. absurd (omega arith))) ∙ at) in
+      let rest = each_tells n _ f.0 f.4 later in
       let was = was_so a first.peer (omega arith) first.was in
       let stays : (key : PeerKey) (was now : Bool) → ChangesAt old f.0 key was now a → ChangesInterest old new key was now = λ key was now c.
-      (each_stays n (a + 1) old f.0 new f.2 f.4 key was now a (omega arith) c).changes in
+      (each_stays n _ f.2 f.4 (omega arith) c).changes in
       record {
-        interested = λ key c. elim (Contains-append_cases f.1 f.2 (frame_to key Interested) (subst (λ l. Contains l (frame_to key Interested)) f.5 c)) [
-          | inl one ↦ let r = first.interested key one in stays key false true (changes_by old s f.0 a f.1 first was key false true r.0 r.1 r.2)
+        interested = λ key c. elim (Contains-append_cases f.1 f.2 (frame_to key Interested) (rw (← f.5) c)) [
+          | inl one ↦ let r = first.interested key one in stays key false true (changes_by first was r.0 r.1 r.2)
           | inr more ↦ rest.interested key more
         ];
-        uninterested = λ key c. elim (Contains-append_cases f.1 f.2 (frame_to key NotInterested) (subst (λ l. Contains l (frame_to key NotInterested)) f.5 c)) [
-          | inl one ↦ let r = first.uninterested key one in stays key true false (changes_by old s f.0 a f.1 first was key true false r.0 r.1 r.2)
+        uninterested = λ key c. elim (Contains-append_cases f.1 f.2 (frame_to key NotInterested) (rw (← f.5) c)) [
+          | inl one ↦ let r = first.uninterested key one in stays key true false (changes_by first was r.0 r.1 r.2)
           | inr more ↦ rest.uninterested key more
         ];
       }
 
-  rechoke_tells : (s new : EngineState) (sent : List Sent) → FollowsEach dig (range_with_len 0 (length s.peers)) (rechoked s) sent new → Tells s new sent
-  rechoke_tells s new sent f = each_tells (length s.peers) 0 s (rechoked s) new sent f (λ j q above at.
-      let r = get_map (rechoked_peer s) s.peers j q at in
-      record { peer = r.0; here = r.1; same_key = ap (λ (x : PeerState). x.key) r.2; same_interest = ap (λ (x : PeerState). x.am_interested) r.2 })
+  rechoke_tells : {s : EngineState} {new sent : _} → FollowsEach dig (range_with_len 0 (length s.peers)) (rechoked s) sent new → Tells s new sent
+  rechoke_tells {s} f = each_tells _ 0 _ f (λ j q above at.
+      let r = get_map _ _ j at in
+      record { peer = r.0; here = r.1; same_key = cc; same_interest = cc })
 
-  next_tells : (s new : EngineState) (key : PeerKey) (i : ℕ) (p : PeerState) (calls : DeviceCalls) (out : Output) → IsPeer s key i p → (g : GoesOn dig s i p calls out new) → Tells s new g.sent
-  next_tells s new key i p calls out peer g =
+  next_tells : {s new key i p calls out : _} → IsPeer s key i p → (g : GoesOn dig s i p calls out new) → Tells s new g.sent
+  next_tells {s} {i} {p} {calls} peer g =
       let rest = record p { stream = g.takes.rest } in
-      let set = set_same s.peers i rest p peer.here in
-      let left = event_leaves dig (with_peer s i rest) i rest set g.mid g.takes.event calls g.effect g.takes.handles in
-      let f = follows_of dig _ i g.sent new g.follows in
-      let same : f.peer ≡ left.peer = same_some (slice_get g.mid.peers i) f.peer left.peer f.was (ap (λ l. slice_get l i) left.peers ∙ set_same (with_peer s i rest).peers i left.peer rest set) in
+      let set = set_same s.peers i peer.here in
+      let left = event_leaves dig (with_peer s i rest) i set g.takes.event calls g.takes.handles in
+      let f = follows_of g.follows in
+      let same = same_some f.was (ap (λ l. slice_get l i) left.peers ∙ set_same (with_peer s i rest).peers i set) in
       let was : WasSo s i f.peer = record {
         peer = p;
         here = peer.here;
-        same_key = sym (ap (λ (x : PeerState). x.key) same ∙ left.same_key);
-        same_interest = sym (ap (λ (x : PeerState). x.am_interested) same ∙ left.same_interest);
+        same_key = cc;
+        same_interest = cc;
       } in
       record {
-        interested = λ k c. let r = f.interested k c in (changes_by s _ new i g.sent f was k false true r.0 r.1 r.2).changes;
-        uninterested = λ k c. let r = f.uninterested k c in (changes_by s _ new i g.sent f was k true false r.0 r.1 r.2).changes;
+        interested = λ k c. let r = f.interested k c in (changes_by f was r.0 r.1 r.2).changes;
+        uninterested = λ k c. let r = f.uninterested k c in (changes_by f was r.0 r.1 r.2).changes;
       }
 
-  unlike : (part : Part) → (part ≡ greets) ⊎ (part ≡ replies) ⊎ (part ≡ chokes) → interests ≡ part → ⊥
-  unlike part (inl x) e = absurd cc
-  unlike part (inr (inl x)) e = absurd cc
-  unlike part (inr (inr x)) e = absurd cc
+  unlike : {part : _} → (part ≡ greets) ⊎ (part ≡ replies) ⊎ (part ≡ chokes) → interests ≡ part → ⊥
+  unlike (inl x) e = absurd cc
+  unlike (inr (inl x)) e = absurd cc
+  unlike (inr (inr x)) e = absurd cc
 
-  interest_sent : (s new : EngineState) (key : PeerKey) → IsSentBy dig s new (frame_to key Interested) → ChangesInterest s new key false true
-  interest_sent s new key (alike part like e) = absurd (unlike part like e)
-  interest_sent s new key (announced other i p calls out peer g c) = let e = all_haves s g.mid _ c in absurd cc
-  interest_sent s new key (followed other i p calls out peer g c) = (next_tells s new other i p calls out peer g).interested key c
-  interest_sent s new key (rechoked_then sent f c) = (rechoke_tells s new sent f).interested key c
+  interest_sent : {s new key : _} → IsSentBy dig s new (frame_to key Interested) → ChangesInterest s new key false true
+  interest_sent (alike part like e) = absurd (unlike like e)
+  interest_sent {s} (announced other i p calls out peer g c) = let e = all_haves s g.mid _ c in absurd cc
+  interest_sent {key} (followed other i p calls out peer g c) = (next_tells peer g).interested key c
+  interest_sent {key} (rechoked_then sent f c) = (rechoke_tells f).interested key c
 
-  no_interest_sent : (s new : EngineState) (key : PeerKey) → IsSentBy dig s new (frame_to key NotInterested) → ChangesInterest s new key true false
-  no_interest_sent s new key (alike part like e) = absurd (unlike part like e)
-  no_interest_sent s new key (announced other i p calls out peer g c) = let e = all_haves s g.mid _ c in absurd cc
-  no_interest_sent s new key (followed other i p calls out peer g c) = (next_tells s new other i p calls out peer g).uninterested key c
-  no_interest_sent s new key (rechoked_then sent f c) = (rechoke_tells s new sent f).uninterested key c
+  no_interest_sent : {s new key : _} → IsSentBy dig s new (frame_to key NotInterested) → ChangesInterest s new key true false
+  no_interest_sent (alike part like e) = absurd (unlike like e)
+  no_interest_sent {s} (announced other i p calls out peer g c) = let e = all_haves s g.mid _ c in absurd cc
+  no_interest_sent {key} (followed other i p calls out peer g c) = (next_tells peer g).uninterested key c
+  no_interest_sent {key} (rechoked_then sent f c) = (rechoke_tells f).uninterested key c
 
   pub step_tells : StepTellsChangedInterest dig
-  step_tells s new e calls a t key = (λ c. interest_sent s new key (step_sent dig s new e calls a t _ c), λ c. no_interest_sent s new key (step_sent dig s new e calls a t _ c))
+  step_tells s new e calls a t key = (λ c. interest_sent (step_sent dig s new e calls a t _ c), λ c. no_interest_sent (step_sent dig s new e calls a t _ c))

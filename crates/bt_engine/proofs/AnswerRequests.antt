@@ -1,32 +1,19 @@
 -- Of whom blocks are requested.
-use Rattle.std.proofs.Common.{◌≡◌, ℕ, ◌⊎◌, inl, inr, List, [], ◌∷◌, ◌++◌, Some, refl, sym, ap, ◌∙◌, subst}
-use Rattle.std.specs.Prelude.{slice_get, Contains}
-use Rattle.std.proofs.lemmas.List.Elements.{Contains-append_left, Contains-append_right, Contains-append_cases}
-use Rattle.bt_store.specs.declared.block_states.BlockState.TheVariants.{Missing}
-use Rattle.bt_book.specs.declared.names.PeerKey.{PeerKey}
-use Rattle.bt_book.specs.declared.names.BlockId.{BlockId}
-use Rattle.bt_wire.specs.declared.message.Ask.{Ask}
-use Rattle.bt_wire.specs.declared.message.Message.TheVariants.{Request}
-use Rattle.bt_engine.specs.State.{PeerState, EngineState}
-use Rattle.bt_engine.specs.Blocks.{state_at, Has}
-use Rattle.bt_engine.specs.Spans.{IsWholeBlock}
-use Rattle.bt_engine.specs.Output.{Sent}
-use Rattle.bt_engine.specs.Next.{IsPeer}
-use Rattle.bt_engine.specs.Rechoke.{FollowsEach, rechoked}
-use Rattle.bt_engine.specs.AnswerLaw.{IsRequestedOf, StepRequestsMissing}
-use Rattle.bt_engine.proofs.Lists.{contains_none, same_some, set_cases}
-use Rattle.bt_engine.proofs.AnswerParts.{Part, greets, replies, chokes, asks, all_haves}
+use Rattle.bt_engine.proofs.Base.{◌≡◌, ℕ, ◌⊎◌, inl, inr, [], ◌∷◌, ◌++◌, Some, refl, sym, ap, ◌∙◌, subst, slice_get, Contains, Contains-append_left, Contains-append_right, Contains-append_cases, Missing, PeerKey, BlockId, Ask, Request}
+use Rattle.bt_engine.proofs.Machine.{Digest, PeerState, EngineState, state_at, Has, IsWholeBlock, IsPeer, FollowsEach, rechoked, IsRequestedOf, StepRequestsMissing}
+use Rattle.bt_engine.proofs.Lists.{contains_none, set_cases}
+use Rattle.bt_engine.proofs.AnswerParts.{greets, replies, chokes, asks, all_haves}
 use Rattle.bt_engine.proofs.Pairs.{contains_some}
 use Rattle.bt_engine.proofs.AnswerSends.{nat_cases, set_other, frame_to, Follows, follows_of, IsSentBy, alike, announced, followed, rechoked_then, step_sent}
 
 -- another engine in which the peer has the same pieces
-pub has_in : (s new : EngineState) (p q : PeerState) (b : BlockId) → new.torrent ≡ s.torrent → q.has ≡ p.has → Has s p b → Has new q b
-has_in s new p q b e f has = subst (λ t. Has (record new { torrent = t }) q b) (sym e) (subst (λ h. Has (record new { torrent = s.torrent }) (record q { has = h }) b) (sym f) has)
+pub has_in : (s new : EngineState) (p q : PeerState) (b : _) → new.torrent ≡ s.torrent → q.has ≡ p.has → Has s p b → Has new q b
+has_in s new p q b e f has = rw e (rw f has)
 
-pub missing_in : (s new : EngineState) (b : BlockId) → new.files ≡ s.files → state_at s b ≡ Some Missing → state_at new b ≡ Some Missing
-missing_in s new b e m = subst (λ f. state_at (record new { files = f }) b ≡ Some Missing) (sym e) m
+pub missing_in : (s new : EngineState) (b : _) → new.files ≡ s.files → state_at s b ≡ Some Missing → state_at new b ≡ Some Missing
+missing_in s new b e m = rw e m
 
-module _ (dig : List ℕ → List ℕ) where
+module _ (dig : Digest) where
   record IsRequested (new : EngineState) (key : PeerKey) (ask : Ask) : Type 0 where
     place : ℕ
     peer : PeerState
@@ -35,8 +22,8 @@ module _ (dig : List ℕ → List ℕ) where
     so : IsRequestedOf new place peer ask block
 
   -- a request that follows for a peer
-  asks_rightly : (s new : EngineState) (i : ℕ) (sent : List Sent) → Follows s i sent new → (key : PeerKey) (ask : Ask) → Contains sent (frame_to key (Request ask)) → IsRequested new key ask
-  asks_rightly s new i sent f key ask c =
+  asks_rightly : {s new i sent : _} → Follows s i sent new → {key ask : _} → Contains sent (frame_to key (Request ask)) → IsRequested new key ask
+  asks_rightly {s} {new} {i} f {key} {ask} c =
       let r = f.requested key ask c in
       let o = f.open_blocks r.0 r.1 in
       let may = f.may_ask r.0 r.1 in
@@ -52,48 +39,48 @@ module _ (dig : List ℕ → List ℕ) where
           missing = missing_in s new r.0 f.files o.missing;
           has = has_in s new f.peer f.after r.0 f.torrent f.same_has o.has;
           asked = subst (λ l. Contains l r.0) (sym f.asked) (Contains-append_right f.peer.asked f.blocks r.0 r.1);
-          alone = λ j q at asked. elim (set_cases s.peers i j f.after q (subst (λ l. slice_get l j ≡ Some q) f.peers at)) [
+          alone = λ j q at asked. elim (set_cases s.peers i j (subst (λ l. slice_get l j ≡ Some q) f.peers at)) [
             | inl one ↦ one.0
-            | inr old ↦ absurd (o.free (q, contains_some s.peers j q old, asked))
+            | inr old ↦ absurd (o.free (q, contains_some s.peers j old, asked))
           ];
         };
       }
 
   -- it stays so while others follow
-  stays_right : (s new : EngineState) (i : ℕ) (sent : List Sent) → Follows s i sent new → (key : PeerKey) (ask : Ask) → IsRequested s key ask → IsRequested new key ask
-  stays_right s new i sent f key ask r = by (nat_cases i r.place)
+  stays_right : {s new i sent : _} → Follows s i sent new → {key ask : _} → IsRequested s key ask → IsRequested new key ask
+  stays_right {s} {new} {i} f {key} {ask} r = by (nat_cases i r.place)
     where
       whole : IsWholeBlock new.torrent ask.piece ask.begin ask.length r.block
       whole = subst (λ t. IsWholeBlock t ask.piece ask.begin ask.length r.block) (sym f.torrent) r.so.whole
 
       -- no other peer is asked for it afterwards
-      alone : (j : ℕ) (q : PeerState) → slice_get new.peers j ≡ Some q → Contains q.asked r.block → j ≡ r.place
-      alone j q at asked = elim (set_cases s.peers i j f.after q (subst (λ l. slice_get l j ≡ Some q) f.peers at)) [
-        | inl one ↦ one.0 ∙ at_place (subst (λ l. Contains l r.block) (ap (λ (x : PeerState). x.asked) one.1 ∙ f.asked) asked)
+      alone : (j q : _) → slice_get new.peers j ≡ Some q → Contains q.asked r.block → j ≡ r.place
+      alone j q at asked = elim (set_cases s.peers i j (subst (λ l. slice_get l j ≡ Some q) f.peers at)) [
+        | inl one ↦ one.0 ∙ at_place (subst (λ l. Contains l r.block) (cc) asked)
         | inr old ↦ r.so.alone j q old asked
       ]
         where
           at_place : Contains (f.peer.asked ++ f.blocks) r.block → i ≡ r.place
           at_place c = elim (Contains-append_cases f.peer.asked f.blocks r.block c) [
             | inl before ↦ r.so.alone i f.peer f.was before
-            | inr fresh ↦ absurd ((f.open_blocks r.block fresh).free (r.peer, contains_some s.peers r.place r.peer r.is_peer.here, r.so.asked))
+            | inr fresh ↦ absurd ((f.open_blocks r.block fresh).free (r.peer, contains_some s.peers r.place r.is_peer.here, r.so.asked))
           ]
 
       by : (i ≡ r.place) ⊎ (i ≡ r.place → ⊥) → IsRequested new key ask
       by (inl e) =
-          let same : f.peer ≡ r.peer = same_some (slice_get s.peers i) f.peer r.peer f.was (ap (slice_get s.peers) e ∙ r.is_peer.here) in
+          let same : f.peer ≡ r.peer = cc in
           record {
             place = r.place;
             peer = f.after;
             block = r.block;
-            is_peer = record { here = subst (λ n. slice_get new.peers n ≡ Some f.after) e f.now; same_key = f.same_key ∙ ap (λ (x : PeerState). x.key) same ∙ r.is_peer.same_key };
+            is_peer = record { here = subst (λ n. slice_get new.peers n ≡ Some f.after) e f.now; same_key = f.same_key ∙ ap (λ x. x.key) same ∙ r.is_peer.same_key };
             so = record {
-              not_choking = f.same_choking ∙ ap (λ (x : PeerState). x.peer_choking) same ∙ r.so.not_choking;
+              not_choking = f.same_choking ∙ ap (λ x. x.peer_choking) same ∙ r.so.not_choking;
               interested = f.due.1 (r.block, subst (λ q. Has s q r.block) (sym same) r.so.has, r.so.missing);
               whole = whole;
               missing = missing_in s new r.block f.files r.so.missing;
-              has = has_in s new r.peer f.after r.block f.torrent (f.same_has ∙ ap (λ (x : PeerState). x.has) same) r.so.has;
-              asked = subst (λ l. Contains l r.block) (sym f.asked) (Contains-append_left f.peer.asked f.blocks r.block (subst (λ (q : PeerState). Contains q.asked r.block) (sym same) r.so.asked));
+              has = has_in s new r.peer f.after r.block f.torrent (f.same_has ∙ ap (λ x. x.has) same) r.so.has;
+              asked = subst (λ l. Contains l r.block) (sym f.asked) (Contains-append_left f.peer.asked f.blocks r.block (subst (λ q. Contains q.asked r.block) (sym same) r.so.asked));
               alone = alone;
             };
           }
@@ -113,27 +100,28 @@ module _ (dig : List ℕ → List ℕ) where
         };
       }
 
-  each_stays : (places : List ℕ) (s new : EngineState) (sent : List Sent) → FollowsEach dig places s sent new → (key : PeerKey) (ask : Ask) → IsRequested s key ask → IsRequested new key ask
-  each_stays [] s new sent f key ask r = subst (λ x. IsRequested x key ask) (sym f.1) r
-  each_stays (i ∷ places) s new sent f key ask r = each_stays places f.0 new f.2 f.4 key ask (stays_right s f.0 i f.1 (follows_of dig s i f.1 f.0 f.3) key ask r)
+  each_stays : (places : _) {s new : _} (sent : _) → FollowsEach dig places s sent new → {key ask : _} → IsRequested s key ask → IsRequested new key ask
+  each_stays [] sent f {key} {ask} r = rw f.1 r
+  each_stays (i ∷ places) sent f r = each_stays places f.2 f.4 (stays_right (follows_of f.3) r)
 
-  each_asks : (places : List ℕ) (s new : EngineState) (sent : List Sent) → FollowsEach dig places s sent new → (key : PeerKey) (ask : Ask) → Contains sent (frame_to key (Request ask)) → IsRequested new key ask
-  each_asks [] s new sent f key ask c = absurd (contains_none _ (subst (λ l. Contains l (frame_to key (Request ask))) f.0 c))
-  each_asks (i ∷ places) s new sent f key ask c = elim (Contains-append_cases f.1 f.2 (frame_to key (Request ask)) (subst (λ l. Contains l (frame_to key (Request ask))) f.5 c)) [
-    | inl one ↦ each_stays places f.0 new f.2 f.4 key ask (asks_rightly s f.0 i f.1 (follows_of dig s i f.1 f.0 f.3) key ask one)
-    | inr more ↦ each_asks places f.0 new f.2 f.4 key ask more
+  each_asks : (places s : _) {new : _} (sent : _) → FollowsEach dig places s sent new → {key ask : _} → Contains sent (frame_to key (Request ask))
+      → IsRequested new key ask
+  each_asks [] s sent f {key} {ask} c = absurd (contains_none (subst (λ l. Contains l (frame_to key (Request ask))) f.0 c))
+  each_asks (i ∷ places) s sent f {key} {ask} c = elim (Contains-append_cases f.1 f.2 (frame_to key (Request ask)) (rw (← f.5) c)) [
+    | inl one ↦ each_stays places f.2 f.4 (asks_rightly (follows_of f.3) one)
+    | inr more ↦ each_asks places f.0 f.2 f.4 more
   ]
 
-  request_sent : (s new : EngineState) (key : PeerKey) (ask : Ask) → IsSentBy dig s new (frame_to key (Request ask)) → IsRequested new key ask
-  request_sent s new key ask (alike part like e) = absurd (unlike part like e)
+  request_sent : {s new key ask : _} → IsSentBy dig s new (frame_to key (Request ask)) → IsRequested new key ask
+  request_sent (alike part like e) = absurd (unlike like e)
     where
-      unlike : (part : Part) → (part ≡ greets) ⊎ (part ≡ replies) ⊎ (part ≡ chokes) → asks ≡ part → ⊥
-      unlike part (inl x) e = absurd cc
-      unlike part (inr (inl x)) e = absurd cc
-      unlike part (inr (inr x)) e = absurd cc
-  request_sent s new key ask (announced other i p calls out peer g c) = let e = all_haves s g.mid _ c in absurd cc
-  request_sent s new key ask (followed other i p calls out peer g c) = asks_rightly _ new i g.sent (follows_of dig _ i g.sent new g.follows) key ask c
-  request_sent s new key ask (rechoked_then sent f c) = each_asks _ (rechoked s) new sent f key ask c
+      unlike : {part : _} → (part ≡ greets) ⊎ (part ≡ replies) ⊎ (part ≡ chokes) → asks ≡ part → ⊥
+      unlike (inl x) e = absurd cc
+      unlike (inr (inl x)) e = absurd cc
+      unlike (inr (inr x)) e = absurd cc
+  request_sent {s} (announced other i p calls out peer g c) = let e = all_haves s g.mid _ c in absurd cc
+  request_sent (followed other i p calls out peer g c) = asks_rightly (follows_of g.follows) c
+  request_sent {s} (rechoked_then sent f c) = each_asks _ (rechoked s) sent f c
 
   pub step_requests : StepRequestsMissing dig
-  step_requests s new e calls a t key ask c = let r = request_sent s new key ask (step_sent dig s new e calls a t _ c) in (r.place, r.peer, r.block, r.is_peer, r.so)
+  step_requests s new e calls a t key ask c = let r = request_sent (step_sent dig s new e calls a t _ c) in (r.place, r.peer, r.block, r.is_peer, r.so)

@@ -1,70 +1,54 @@
 -- What a crash leaves of blocks that are not missing.
-use Rattle.std.proofs.Common.{◌≡◌, ◌≢◌, ℕ, ◌+◌, ◌*◌, ◌<◌, ◌≤◌, ◌⊎◌, inl, inr, List, [], length, Some, sym, ap, ◌∙◌, subst, arith}
-use Rattle.std.specs.Prelude.{slice_get, Contains, All}
-use Rattle.std.proofs.lemmas.Bool.{cases_lt}
-use Rattle.bt_tree.specs.Blocks.{block_length}
-use Rattle.bt_disk.specs.State.{IsImage}
-use Rattle.bt_disk.specs.History.{History}
-use Rattle.bt_disk.specs.Calls.{Call, length_given, length_fault, bytes_given, read_fault, bytes_written, write_fault, length_set, resize_fault, sync_made, sync_fault, Spares}
-use Rattle.bt_disk.proofs.Histories.{calls_keep_bytes}
-use Rattle.bt_sparse.specs.SparseTree.{Facts}
-use Rattle.bt_store.specs.declared.block_states.BlockState.TheVariants.{Missing}
-use Rattle.bt_engine.specs.State.{FileState, EngineState}
-use Rattle.bt_engine.specs.Devices.{DeviceCalls, calls_of}
-use Rattle.bt_engine.specs.Request.{IsFile}
-use Rattle.bt_engine.specs.Writes.{KeepsBytes}
-use Rattle.bt_engine.specs.Crash.{StepKeepsImages}
-use Rattle.bt_engine.proofs.Lists.{same_some, some_below, contains_none, contains_cases}
+use Rattle.bt_engine.proofs.Base.{◌≡◌, ◌≢◌, ℕ, ◌+◌, ◌*◌, ◌<◌, ◌≤◌, ◌⊎◌, inl, inr, List, [], length, Some, ap, subst, arith, slice_get, Contains, All, cases_lt, block_length, IsImage, History, Call, bytes_written, write_fault, length_set, resize_fault, Spares, calls_keep_bytes, Missing}
+use Rattle.bt_engine.proofs.Machine.{Digest, EngineState, calls_of, IsFile, KeepsBytes, StepKeepsImages}
+use Rattle.bt_engine.proofs.Lists.{some_below, contains_none, contains_cases}
 use Rattle.bt_engine.proofs.Pairs.{contains_at}
 use Rattle.bt_engine.proofs.Tame.{Touches, keeping, putting, step_tame}
 use Rattle.bt_engine.proofs.Sound.{of_all}
 
 keeps_spare : (n : ℕ) (c : Call) → KeepsBytes c → Spares n c
-keeps_spare n (length_given len) k = tt
-keeps_spare n length_fault k = tt
-keeps_spare n (bytes_given at wanted bytes) k = tt
-keeps_spare n (read_fault at wanted) k = tt
 keeps_spare n (bytes_written at bytes) k = absurd k
 keeps_spare n (write_fault at bytes) k = absurd k
 keeps_spare n (length_set len) k = absurd k
 keeps_spare n (resize_fault len) k = absurd k
-keeps_spare n sync_made k = tt
-keeps_spare n sync_fault k = tt
+keeps_spare n _ k = tt
 
 -- a write of another block is beside the block
-beside : (n m i b j : ℕ) (bytes : List ℕ) → i ≢ b → j < block_length n i → length bytes ≡ block_length m b → (16384 * i + j < 16384 * b) ⊎ (16384 * b + length bytes ≤ 16384 * i + j)
+beside : (n m i b j : ℕ) (bytes : List ℕ) → i ≢ b → j < block_length n i → length bytes ≡ block_length m b
+    → (16384 * i + j < 16384 * b) ⊎ (16384 * b + length bytes ≤ 16384 * i + j)
 beside n m i b j bytes apart lt size = elim (cases_lt i b) [
-  | inl below ↦ inl (omega (arith, below, lt))
-  | inr le ↦ elim (cases_lt b i) [ inl above ↦ inr (omega (arith, above, size)) | inr ge ↦ absurd (apart (omega (arith, le, ge))) ]
+  | inl below ↦ inl (omega arith)
+  | inr le ↦ elim (cases_lt b i) [ inl above ↦ inr (omega arith) | inr ge ↦ absurd (apart (omega arith)) ]
 ]
 
-write_spares : (n m i b j : ℕ) (bytes : List ℕ) (c : Call) → i ≢ b → j < block_length n i → length bytes ≡ block_length m b → (c ≡ bytes_written (16384 * b) bytes) ⊎ (c ≡ write_fault (16384 * b) bytes) → Spares (16384 * i + j) c
-write_spares n m i b j bytes c apart lt size (inl e) = subst (λ d. Spares (16384 * i + j) d) (sym e) (beside n m i b j bytes apart lt size)
-write_spares n m i b j bytes c apart lt size (inr e) = subst (λ d. Spares (16384 * i + j) d) (sym e) (beside n m i b j bytes apart lt size)
+write_spares : (n m i b j : ℕ) {bytes c : _} → i ≢ b → j < block_length n i → length bytes ≡ block_length m b
+    → (c ≡ bytes_written (16384 * b) bytes) ⊎ (c ≡ write_fault (16384 * b) bytes) → Spares (16384 * i + j) c
+write_spares n m i b j {bytes} apart lt size (inl e) = rw e (beside n m i b j bytes apart lt size)
+write_spares n m i b j {bytes} apart lt size (inr e) = rw e (beside n m i b j bytes apart lt size)
 
 -- no call of a step reaches a block of the file that is not missing
-step_spares : (s : EngineState) (calls : DeviceCalls) (file i j : ℕ) (f : FileState) (k : Facts) → Touches s.files s.trees calls → IsFile s file f k → slice_get f.states i ≢ Some Missing → j < block_length k.file_length i
-    → (c : Call) → Contains calls (file, c) → Spares (16384 * i + j) c
-step_spares s calls file i j f k (keeping keep) is present lt c among = keeps_spare (16384 * i + j) c (keep (file, c) among)
-step_spares s calls file i j f k (putting b bytes g l call here hung missing whole only writes) is present lt c among =
-    elim (contains_cases (b.file, call) (file, c) [] (subst (λ cs. Contains cs (file, c)) only among)) [
+step_spares : {s : EngineState} {calls file : _} (i j : ℕ) {f k : _} → Touches s.files s.trees calls → IsFile s file f k
+    → slice_get f.states i ≢ Some Missing → j < block_length k.file_length i → {c : _} → Contains calls (file, c) → Spares (16384 * i + j) c
+step_spares {file} i j (keeping keep) is present lt {c} among = keeps_spare _ c (keep (file, c) among)
+step_spares {s} {file} i j {f} {k} (putting b bytes g l call here hung missing whole only writes) is present lt {c} among =
+    elim (contains_cases [] (subst (λ cs. Contains cs (file, c)) only among)) [
       | inl same ↦
-          let at : b.file ≡ file = ap (λ (x : ℕ × Call). x.0) same in
-          let call_is : call ≡ c = ap (λ (x : ℕ × Call). x.1) same in
-          let g_is : g ≡ f = same_some (slice_get s.files file) g f (sym (ap (slice_get s.files) at) ∙ here) is.here in
-          let apart : i ≢ b.block = λ e. present (ap (slice_get f.states) e ∙ ap (λ (q : FileState). slice_get q.states b.block) (sym g_is) ∙ missing) in
-          subst (λ d. Spares (16384 * i + j) d) call_is (write_spares k.file_length l.file_length i b.block j bytes call apart lt whole writes)
-      | inr none ↦ absurd (contains_none _ none)
+          let at = ap (λ x. x.0) same in
+          let call_is = ap (λ x. x.1) same in
+          let g_is : g ≡ f = cc in
+          let apart : i ≢ b.block = λ e. present (cc) in
+          rw (← call_is) (write_spares _ _ i _ j apart lt whole writes)
+      | inr none ↦ absurd (contains_none none)
     ]
 
 all_of : {X : Type 0} (P : X → Type 0) (xs : List X) → ((x : X) → Contains xs x → P x) → All P xs
 all_of P xs h k d lt = h _ (contains_at xs k d lt)
 
-module _ {D : Type 0} (history : D → History) (honest : D → Type 0) (faults : D → ℕ) (dig : List ℕ → List ℕ) where
+module _ {D : Type 0} (history : D → History) (honest : D → Type 0) (faults : D → ℕ) (dig : Digest) where
   pub images_kept : ((d : D) → honest d → IsImage (history d).now (history d).now.bytes) → StepKeepsImages history honest faults dig
   images_kept reads old new event calls answer disks after file i t f k bytes e step have is present size there honest_now kept j byte at =
       let d = have.each file e there in
-      let honest_before : honest d.0 = d.2.as_honest.1 honest_now in
-      let inside : j < block_length k.file_length i = (let lt = some_below bytes j byte at in omega (arith, lt, size)) in
-      let spares = all_of (Spares (16384 * i + j)) (calls_of file calls) (λ c among. step_spares old calls file i j f k (step_tame dig old new event calls answer step).1 is present inside c (of_all file calls c among)) in
+      let honest_before = d.2.as_honest.1 honest_now in
+      let inside : j < block_length k.file_length i = (let lt = some_below bytes j at in omega arith) in
+      let spares = all_of _ _ (λ c among. step_spares i j (step_tame dig old new event calls _ step).1 is present inside (of_all calls among)) in
       calls_keep_bytes (history d.0) (history e) (calls_of file calls) t (16384 * i + j) byte (reads d.0 honest_before) (d.2.answered honest_before) spares (kept d.0 d.1 j byte at)

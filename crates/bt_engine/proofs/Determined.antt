@@ -1,20 +1,6 @@
 -- What is left to an engine.
-use Rattle.std.proofs.Common.{◌≡◌, ◌≢◌, ℕ, suc, inl, inr, List, [], ◌∷◌, length, refl, sym, ap, ◌∙◌, subst, arith}
-use Rattle.std.specs.Prelude.{slice_get, map, ⊤}
-use Rattle.std.proofs.lemmas.Bool.{cases_lt}
-use Rattle.bt_tree.specs.Blocks.{block_count}
-use Rattle.bt_meta.specs.Torrent.{Metainfo, IsLaidOut}
-use Rattle.bt_sparse.specs.SparseTree.{Facts, blocks_of}
-use Rattle.bt_engine.specs.declared.event.Event.{Event}
-use Rattle.bt_engine.specs.declared.event.Event.TheVariants.{Connect, Feed, Next, Lost, Rechoke, Adopt, Flush}
-use Rattle.bt_engine.specs.State.{FileState, EngineState}
-use Rattle.bt_engine.specs.Devices.{DeviceCalls}
-use Rattle.bt_engine.specs.Request.{IsFile}
-use Rattle.bt_engine.specs.Step.{Answer, of_connect, of_feed, of_next, of_rechoke, of_adopt, Step, Run}
-use Rattle.bt_engine.specs.Orderly.{IsOrderly}
-use Rattle.bt_engine.specs.Shape.{IsShaped}
-use Rattle.bt_engine.specs.Law.{sent_by}
-use Rattle.bt_engine.specs.Determined.{IsOutOfMemory, IsReached, StepIsDetermined, block_requests, StepIsForced, HaveMemory, RunsAreDetermined}
+use Rattle.bt_engine.proofs.Base.{◌≡◌, ◌≢◌, ℕ, suc, inl, inr, List, [], ◌∷◌, length, refl, sym, ap, ◌∙◌, arith, map, ⊤, cases_lt, block_count, Metainfo, IsLaidOut, blocks_of}
+use Rattle.bt_engine.proofs.Machine.{Digest, Connect, Feed, Next, Lost, Rechoke, Adopt, Flush, EngineState, IsFile, Answer, of_connect, of_feed, of_next, of_rechoke, of_adopt, Step, Run, IsOrderly, IsShaped, sent_by, IsOutOfMemory, IsReached, StepIsDetermined, block_requests, StepIsForced, HaveMemory, RunsAreDetermined}
 use Rattle.bt_engine.proofs.Lists.{heads, tails, get_some, same_some, some_below}
 use Rattle.bt_engine.proofs.Orderly.{order_kept, order_of_runs}
 use Rattle.bt_engine.proofs.Shape.{step_shape, shape_kept}
@@ -25,90 +11,94 @@ use Rattle.bt_engine.proofs.DeterminedAdopt.{adopt_one}
 
 nil_of : {X : Type 0} (xs : List X) → length xs ≡ 0 → xs ≡ []
 nil_of [] e = refl
-nil_of (x ∷ xs) e = absurd (omega (arith, e))
+nil_of (x ∷ xs) e = absurd (omega arith)
 
 -- a file with a block has as many states as its tree has blocks
-sized : (torrent : Metainfo) (s : EngineState) → IsShaped torrent s → (file : ℕ) (f : FileState) (k : Facts) → IsFile s file f k → f.states ≢ [] → blocks_of k ≡ length f.states
-sized torrent s shaped file f k is some =
-    let entry = get_some torrent.files file (omega (arith, some_below s.files file f is.here, shaped.count)) in
+sized : {torrent s : _} → IsShaped torrent s → {file : ℕ} (f k : _) → IsFile s file f k → f.states ≢ [] → blocks_of k ≡ length f.states
+sized {torrent} {s} shaped {file} f k is some =
+    let entry = get_some torrent.files file (omega (arith, some_below s.files file is.here)) in
     let shape = shaped.each file entry.0 f entry.1 is.here in
     elim (cases_lt 0 entry.0.length) [
       | inl long ↦
           let tree = shape.hung long in
-          ap blocks_of (same_some (slice_get s.trees f.tree) k tree.0 is.hung tree.1) ∙ ap block_count tree.3 ∙ sym shape.blocks
-      | inr short ↦ absurd (some (nil_of f.states (omega (arith, short, shape.blocks))))
+          ap blocks_of (same_some is.hung tree.1) ∙ ap block_count tree.3 ∙ sym shape.blocks
+      | inr short ↦ absurd (some (nil_of f.states (omega arith)))
     ]
 
-laid : (torrent : Metainfo) (s : EngineState) → IsShaped torrent s → IsLaidOut torrent.piece_length torrent.files → IsLaidOut s.torrent.piece_length s.torrent.files
-laid torrent s shaped lay = subst (λ t. IsLaidOut t.piece_length t.files) (sym shaped.same) lay
+laid : {torrent s : _} → IsShaped torrent s → IsLaidOut torrent.piece_length torrent.files → IsLaidOut s.torrent.piece_length s.torrent.files
+laid shaped lay = rw shaped.same lay
 
 -- what holds between the answers of two runs, one by one
 abbrev pub EachPair : (Answer → Answer → Type 0) → List Answer → List Answer → Type 0
 EachPair P (a ∷ answers) (b ∷ others) = P a b × EachPair P answers others
 EachPair P _ _ = ⊤
 
-module _ (dig : List ℕ → List ℕ) where
+module _ (dig : Digest) where
   -- what two results come to, in their answers
-  answers : (a b c d : Answer) (m n : EngineState) → a ≡ c → b ≡ d → AreOne c m d n → AreOne a m b n
-  answers a b c d m n e f same = subst (λ z. AreOne z m b n) (sym e) (subst (λ z. AreOne c m z n) (sym f) same)
+  answers : {a b c d m n : _} → a ≡ c → b ≡ d → AreOne c m d n → AreOne a m b n
+  answers {b} {c} {m} {n} e f same = rw e (rw f same)
 
-  remembers : (a b : Answer) → a ≡ b → IsOutOfMemory b → ¬ IsOutOfMemory a → ⊥
-  remembers a b e out memory = memory (subst (λ x. IsOutOfMemory x) (sym e) out)
+  remembers : {a b : _} → a ≡ b → IsOutOfMemory b → ¬ IsOutOfMemory a → ⊥
+  remembers e out memory = memory (rw e out)
 
-  pub step_one : (torrent : Metainfo) (s new other : EngineState) (event : Event) (calls : DeviceCalls) (answer another : Answer) → IsLaidOut torrent.piece_length torrent.files → IsShaped torrent s → IsOrderly s
-      → Step dig s event calls answer new → Step dig s event calls another other → ¬ IsOutOfMemory answer → ¬ IsOutOfMemory another → AreOne answer new another other
-  step_one torrent s new other Connect calls answer another lay shaped o x y memory room =
-      answers answer another _ _ new other x.1 y.1 (connect_one s new other x.0 y.0 x.3 y.3 (λ e. remembers answer _ (x.1 ∙ ap of_connect e) tt memory) (λ e. remembers another _ (y.1 ∙ ap of_connect e) tt room))
-  step_one torrent s new other (Feed key bytes) calls answer another lay shaped o x y memory room =
-      answers answer another _ _ new other x.1 y.1 (feed_one s new other key bytes x.0 y.0 o x.3 y.3 (λ e. remembers answer _ (x.1 ∙ ap of_feed e) tt memory) (λ e. remembers another _ (y.1 ∙ ap of_feed e) tt room))
-  step_one torrent s new other (Next key) calls answer another lay shaped o x y memory room =
-      answers answer another _ _ new other x.1 y.1 (next_one dig s key calls (laid torrent s shaped lay) shaped.roots o x.0 y.0 new other x.2 y.2
-      (λ e. remembers answer _ (x.1 ∙ ap of_next e) tt memory) (λ e. remembers another _ (y.1 ∙ ap of_next e) tt room))
-  step_one torrent s new other (Lost key) calls answer another lay shaped o x y memory room = answers answer another _ _ new other x.1 y.1 (lost_one s new other key x.0 y.0 o x.3 y.3)
-  step_one torrent s new other Rechoke calls answer another lay shaped o x y memory room =
-      answers answer another _ _ new other x.1 y.1 (rechoke_one dig s new other x.0 y.0 (laid torrent s shaped lay) o x.3 y.3 (λ e. remembers answer _ (x.1 ∙ ap of_rechoke e) tt memory) (λ e. remembers another _ (y.1 ∙ ap of_rechoke e) tt room))
-  step_one torrent s new other (Adopt file) calls answer another lay shaped o x y memory room =
-      answers answer another _ _ new other x.1 y.1 (adopt_one dig s new other file calls x.0 y.0 (sized torrent s shaped file) x.2 y.2
-      (λ e. remembers answer _ (x.1 ∙ ap of_adopt e) tt memory) (λ e. remembers another _ (y.1 ∙ ap of_adopt e) tt room))
-  step_one torrent s new other Flush calls answer another lay shaped o x y memory room = answers answer another _ _ new other x.1 y.1 (flush_one s new other calls x.0 y.0 x.2 y.2)
+  pub step_one : {torrent : Metainfo} {s new other : _} (event calls : _) {answer another : _} → IsLaidOut torrent.piece_length torrent.files
+      → IsShaped torrent s → IsOrderly s → Step dig s event calls answer new → Step dig s event calls another other → ¬ IsOutOfMemory answer
+      → ¬ IsOutOfMemory another → AreOne answer new another other
+  step_one Connect calls lay shaped o x y memory room =
+      answers x.1 y.1 (connect_one x.3 y.3 (λ e. remembers (x.1 ∙ ap of_connect e) tt memory) (λ e. remembers (y.1 ∙ ap of_connect e) tt room))
+  step_one (Feed key bytes) calls lay shaped o x y memory room =
+      answers x.1 y.1 (feed_one o x.3 y.3 (λ e. remembers (x.1 ∙ ap of_feed e) tt memory) (λ e. remembers (y.1 ∙ ap of_feed e) tt room))
+  step_one (Next key) calls lay shaped o x y memory room =
+      answers x.1 y.1 (next_one dig key calls (laid shaped lay) shaped.roots o x.2 y.2
+      (λ e. remembers (x.1 ∙ ap of_next e) tt memory) (λ e. remembers (y.1 ∙ ap of_next e) tt room))
+  step_one (Lost key) calls lay shaped o x y memory room = answers x.1 y.1 (lost_one o x.3 y.3)
+  step_one Rechoke calls lay shaped o x y memory room =
+      answers x.1 y.1
+      (rechoke_one (laid shaped lay) o x.3 y.3 (λ e. remembers (x.1 ∙ ap of_rechoke e) tt memory) (λ e. remembers (y.1 ∙ ap of_rechoke e) tt room))
+  step_one (Adopt file) calls lay shaped o x y memory room =
+      answers x.1 y.1 (adopt_one dig (sized shaped) x.2 y.2
+      (λ e. remembers (x.1 ∙ ap of_adopt e) tt memory) (λ e. remembers (y.1 ∙ ap of_adopt e) tt room))
+  step_one Flush calls lay shaped o x y memory room = answers x.1 y.1 (flush_one x.2 y.2)
 
   -- ---- lists of events
 
   module _ (torrent : Metainfo) (lay : IsLaidOut torrent.piece_length torrent.files) (P : Answer → Answer → Type 0) (force : (m : EngineState) (a b : Answer) → IsShaped torrent m → P a b → SameAsks m (sent_by a) (sent_by b)) where
     -- where each two answers request the same, for this reason
-    pub run_one : (s new other : EngineState) (events : List Event) (calls : List DeviceCalls) (answers others : List Answer) → IsShaped torrent s → IsOrderly s
-        → Run dig s events calls answers new → Run dig s events calls others other → HaveMemory answers → HaveMemory others → EachPair P answers others → (answers ≡ others) × (new ≡ other)
-    run_one s new other [] [] [] [] shaped o x y memory room each = (refl, x ∙ sym y)
-    run_one s new other (e ∷ es) (c ∷ cs) (a ∷ answers) (b ∷ others) shaped o x y memory room each =
-        let one = step_one torrent s x.0 y.0 e c a b lay shaped o x.1 y.1 (memory 0 a (omega arith)) (room 0 b (omega arith)) in
-        let after = step_shape dig torrent s x.0 e c a shaped x.1 in
+    pub run_one : (s : _) {new other : _} (events calls answers others : _) → IsShaped torrent s → IsOrderly s → Run dig s events calls answers new
+        → Run dig s events calls others other → HaveMemory answers → HaveMemory others → EachPair P answers others
+        → (answers ≡ others) × (new ≡ other)
+    run_one s [] [] [] [] shaped o x y memory room each = (refl, x ∙ sym y)
+    run_one s {other} (e ∷ es) (c ∷ cs) (a ∷ answers) (b ∷ others) shaped o x y memory room each =
+        let one = step_one e c lay shaped o x.1 y.1 (memory 0 a (omega arith)) (room 0 b (omega arith)) in
+        let after = step_shape dig e c a shaped x.1 in
         let same = one.whole (force x.0 a b after each.0) in
-        let more = run_one x.0 new other es cs answers others after (order_kept dig s x.0 e c a x.1 o) x.2 (subst (λ m. Run dig m es cs others other) (sym same.1) y.2)
-        (λ k d lt. memory (suc k) d (omega (arith, lt))) (λ k d lt. room (suc k) d (omega (arith, lt))) each.1 in
+        let more = run_one x.0 es cs answers others after (order_kept dig s x.0 e c a x.1 o) x.2 (rw same.1 y.2)
+        (λ k d lt. memory (suc k) d (omega arith)) (λ k d lt. room (suc k) d (omega arith)) each.1 in
         (ap (λ z. z ∷ answers) same.0 ∙ ap (λ zs. b ∷ zs) more.0, more.1)
-    run_one s new other [] [] [] (b ∷ others) shaped o x y memory room each = absurd y
-    run_one s new other [] [] (a ∷ answers) others shaped o x y memory room each = absurd x
-    run_one s new other [] (c ∷ cs) answers others shaped o x y memory room each = absurd x
-    run_one s new other (e ∷ es) [] answers others shaped o x y memory room each = absurd x
-    run_one s new other (e ∷ es) (c ∷ cs) [] others shaped o x y memory room each = absurd x
-    run_one s new other (e ∷ es) (c ∷ cs) (a ∷ answers) [] shaped o x y memory room each = absurd y
+    run_one s [] [] [] (b ∷ others) shaped o x y memory room each = absurd y
+    run_one s [] [] (a ∷ answers) others shaped o x y memory room each = absurd x
+    run_one s [] (c ∷ cs) answers others shaped o x y memory room each = absurd x
+    run_one s (e ∷ es) [] answers others shaped o x y memory room each = absurd x
+    run_one s (e ∷ es) (c ∷ cs) [] others shaped o x y memory room each = absurd x
+    run_one s (e ∷ es) (c ∷ cs) (a ∷ answers) [] shaped o x y memory room each = absurd y
 
-  shape_of : (s : EngineState) → (r : IsReached dig s) → IsShaped r.torrent s
-  shape_of s r = (shape_kept dig r.torrent r.first s r.events r.calls r.answers r.starts r.run).0
+  shape_of : {s : _} → (r : IsReached dig s) → IsShaped r.torrent s
+  shape_of {s} r = (shape_kept dig r.torrent r.first s r.events r.calls r.answers r.starts r.run).0
 
-  order_of : (s : EngineState) → IsReached dig s → IsOrderly s
-  order_of s r = order_of_runs dig r.torrent r.first s r.events r.calls r.answers r.starts r.run
+  order_of : {s : _} → IsReached dig s → IsOrderly s
+  order_of {s} r = order_of_runs dig r.torrent r.first s r.events r.calls r.answers r.starts r.run
 
   pub step_determined : StepIsDetermined dig
   step_determined s new other event calls answer another r x y memory room =
-      let one = step_one r.torrent s new other event calls answer another r.lawful.laid_out (shape_of s r) (order_of s r) x y memory room in
+      let one = step_one event calls r.lawful.laid_out (shape_of r) (order_of r) x y memory room in
       (one.plain, one.rest)
 
   pub step_forced : StepIsForced dig
   step_forced s new other event calls answer another r x y memory room few =
-      (step_one r.torrent s new other event calls answer another r.lawful.laid_out (shape_of s r) (order_of s r) x y memory room).whole (elim few [ inl none ↦ by_none none | inr one ↦ by_one one ])
+      (step_one event calls r.lawful.laid_out (shape_of r) (order_of r) x y memory room).whole (elim few [ inl none ↦ by_none none | inr one ↦ by_one one ])
 
-  pairs_of : (answers others : List Answer) → map block_requests answers ≡ map block_requests others → EachPair (λ a b. block_requests a ≡ block_requests b) answers others
+  pairs_of : (answers others : _) → map block_requests answers ≡ map block_requests others
+      → EachPair (λ a b. block_requests a ≡ block_requests b) answers others
   pairs_of [] others e = tt
   pairs_of (a ∷ answers) [] e = tt
   pairs_of (a ∷ answers) (b ∷ others) e =
@@ -116,4 +106,5 @@ module _ (dig : List ℕ → List ℕ) where
 
   pub runs_determined : RunsAreDetermined dig
   runs_determined s new other events calls answers others r x y memory room same =
-      run_one r.torrent r.lawful.laid_out (λ a b. block_requests a ≡ block_requests b) (λ m a b shaped e. by_requests e) s new other events calls answers others (shape_of s r) (order_of s r) x y memory room (pairs_of answers others same)
+      run_one r.torrent r.lawful.laid_out (λ a b. block_requests a ≡ block_requests b) (λ m a b shaped e. by_requests e) s events calls answers others
+      (shape_of r) (order_of r) x y memory room (pairs_of answers others same)

@@ -1,26 +1,7 @@
 -- What is left to an engine where the next wire event of a peer is taken.
-use Rattle.std.proofs.Common.{◌≡◌, ◌≢◌, ℕ, List, [], ◌++◌, map, Option, Some, None, refl, sym, ap, ◌∙◌, subst}
-use Rattle.std.specs.Prelude.{Result, Ok, Err, slice_get}
-use Rattle.std.specs.List.{AllPairs}
-use Rattle.bt_meta.specs.Torrent.{IsLaidOut}
-use Rattle.bt_sparse.specs.SparseTree.{Facts}
-use Rattle.bt_book.specs.declared.names.PeerKey.{PeerKey}
-use Rattle.bt_wire.specs.Cutter.{Takes, Waits}
-use Rattle.bt_engine.specs.declared.answer.Why.TheVariants.{Wire}
-use Rattle.bt_engine.specs.declared.answer.Note.TheVariants.{Complete}
-use Rattle.bt_engine.specs.declared.error.EngineError.{EngineError}
+use Rattle.bt_engine.proofs.Base.{◌≡◌, ◌≢◌, ℕ, List, [], ◌++◌, map, Option, Some, None, refl, sym, ap, ◌∙◌, subst, Result, Ok, Err, slice_get, AllPairs, IsLaidOut, Facts, PeerKey, Takes}
+use Rattle.bt_engine.proofs.Machine.{Digest, Wire, Complete, EngineError, PeerState, EngineState, DeviceCalls, with_peer, new_complete_files, Sent, Output, Effect, haves, Handles, FollowsUp, IsPeer, without_peer, with_pending, TakesEvent, GoesOn, Closes, ShowsFault, StepNext, no_peer, waits, goes_on, closes, faulty, no_memory, IsOrderly, Answer, of_next, other_frames, plain_answer, without_asked}
 use Rattle.bt_engine.specs.declared.error.EngineError.TheVariants.{OutOfMemory}
-use Rattle.bt_engine.specs.State.{PeerState, EngineState}
-use Rattle.bt_engine.specs.Devices.{DeviceCalls}
-use Rattle.bt_engine.specs.Blocks.{with_peer, new_complete_files}
-use Rattle.bt_engine.specs.Output.{Sent, Output, Effect, haves}
-use Rattle.bt_engine.specs.WireEvents.{Handles}
-use Rattle.bt_engine.specs.FollowUp.{FollowsUp}
-use Rattle.bt_engine.specs.Next.{IsPeer, without_peer, with_pending, TakesEvent, GoesOn, Closes, ShowsFault, StepNext, no_peer, waits, goes_on, closes, faulty, no_memory}
-use Rattle.bt_engine.specs.Orderly.{IsOrderly}
-use Rattle.bt_engine.specs.Step.{Answer, of_next}
-use Rattle.bt_engine.specs.Law.{sent_by}
-use Rattle.bt_engine.specs.Determined.{other_frames, plain_answer, without_asked}
 use Rattle.bt_engine.proofs.Lists.{set_same}
 use Rattle.bt_engine.proofs.AnswerParts.{event_leaves}
 use Rattle.bt_engine.proofs.DeterminedParts.{takes_one, takes_waits, takes_fails, waits_fails, fails_one, peer_one}
@@ -28,39 +9,40 @@ use Rattle.bt_engine.proofs.DeterminedEvents.{event_one}
 use Rattle.bt_engine.proofs.DeterminedFollow.{other_append, follows_one}
 use Rattle.bt_engine.proofs.DeterminedAsks.{AreOne, are_equal, asks_to, asks_behind, follows_same}
 
-out_is : (a b : Output) → a.send ≡ b.send → a.close ≡ b.close → a.notes ≡ b.notes → a ≡ b
-out_is a b e f g = ap (λ l. record a { send = l }) e ∙ ap (λ c. record { send = b.send; close = c; notes = a.notes }) f ∙ ap (λ n. record { send = b.send; close = b.close; notes = n }) g
+out_is : {a b : Output} → a.send ≡ b.send → a.close ≡ b.close → a.notes ≡ b.notes → a ≡ b
+out_is {a} {b} e f g =
+    ap (λ l. record a { send = l }) e ∙ ap (λ c. record { send = b.send; close = c; notes = a.notes }) f
+    ∙ ap (λ n. record { send = b.send; close = b.close; notes = n }) g
 
-module _ (dig : List ℕ → List ℕ) where
-  module _ (s : EngineState) (key : PeerKey) (calls : DeviceCalls) (lay : IsLaidOut s.torrent.piece_length s.torrent.files) (roots : AllPairs (λ (j k : Facts). j.root ≢ k.root) s.trees) (o : IsOrderly s) where
-    taken_one : (i : ℕ) (p : PeerState) (e f : Effect) (m n : EngineState) → TakesEvent dig s i p calls e m → TakesEvent dig s i p calls f n → (e ≡ f) × (m ≡ n)
-    taken_one i p e f m n x y =
-        let same = takes_one p.stream x.event y.event x.rest y.rest x.takes y.takes in
+module _ (dig : Digest) where
+  module _ {s : EngineState} (key : PeerKey) (calls : DeviceCalls) (lay : IsLaidOut s.torrent.piece_length s.torrent.files) (roots : AllPairs (λ (j k : Facts). j.root ≢ k.root) s.trees) (o : IsOrderly s) where
+    taken_one : {i p e f m n : _} → TakesEvent dig s i p calls e m → TakesEvent dig s i p calls f n → (e ≡ f) × (m ≡ n)
+    taken_one {i} {p} {f} {n} x y =
+        let same = takes_one x.takes y.takes in
         let handles : Handles dig (with_peer s i (record p { stream = x.rest })) i (record p { stream = x.rest }) x.event calls f n
-        = subst (λ r. Handles dig (with_peer s i (record p { stream = r })) i (record p { stream = r }) x.event calls f n) (sym same.1)
-        (subst (λ w. Handles dig (with_peer s i (record p { stream = y.rest })) i (record p { stream = y.rest }) w calls f n) (sym same.0) y.handles) in
-        event_one dig (with_peer s i (record p { stream = x.rest })) lay roots i (record p { stream = x.rest }) x.event calls e f m n x.handles handles
+        = rw same.1 (rw same.0 y.handles) in
+        event_one dig (with_peer s i (record p { stream = x.rest })) lay roots i (record p { stream = x.rest }) x.event calls x.handles handles
 
-    move_on : (i j : ℕ) (p q : PeerState) (out : Output) (new : EngineState) → (i ≡ j) × (p ≡ q) → GoesOn dig s i p calls out new → GoesOn dig s j q calls out new
-    move_on i j p q out new same g = subst (λ r. GoesOn dig s j r calls out new) same.1 (subst (λ n. GoesOn dig s n p calls out new) same.0 g)
+    move_on : {i j p q out new : _} → (i ≡ j) × (p ≡ q) → GoesOn dig s i p calls out new → GoesOn dig s j q calls out new
+    move_on {j} {p} {out} {new} same g = rw (← same.1) (rw (← same.0) g)
 
-    move_close : (i j : ℕ) (p q : PeerState) (out : Output) (new : EngineState) → (i ≡ j) × (p ≡ q) → Closes dig s i p calls out new → Closes dig s j q calls out new
-    move_close i j p q out new same g = subst (λ r. Closes dig s j r calls out new) same.1 (subst (λ n. Closes dig s n p calls out new) same.0 g)
+    move_close : {i j p q out new : _} → (i ≡ j) × (p ≡ q) → Closes dig s i p calls out new → Closes dig s j q calls out new
+    move_close {j} {p} {out} {new} same g = rw (← same.1) (rw (← same.0) g)
 
-    move_fault : (i j : ℕ) (p q : PeerState) (out : Output) (new : EngineState) → (i ≡ j) × (p ≡ q) → ShowsFault s i p calls out new → ShowsFault s j q calls out new
-    move_fault i j p q out new same g = subst (λ r. ShowsFault s j r calls out new) same.1 (subst (λ n. ShowsFault s n p calls out new) same.0 g)
+    move_fault : {i j p q out new : _} → (i ≡ j) × (p ≡ q) → ShowsFault s i p calls out new → ShowsFault s j q calls out new
+    move_fault {j} {p} {out} {new} same g = rw (← same.1) (rw (← same.0) g)
 
-    close_one : (i : ℕ) (p : PeerState) (out other : Output) (new old : EngineState) → Closes dig s i p calls out new → Closes dig s i p calls other old → (out ≡ other) × (new ≡ old)
-    close_one i p out other new old x y =
-        let same = taken_one i p x.effect y.effect x.mid y.mid x.takes y.takes in
-        let why : Some x.why ≡ Some y.why = sym x.closed ∙ ap (λ (e : Effect). e.close) same.0 ∙ y.closed in (
-          x.is ∙ ap (λ w. record { send = []; close = w; notes = x.effect.notes }) why ∙ ap (λ (e : Effect). record { send = []; close = Some y.why; notes = e.notes }) same.0 ∙ sym y.is,
+    close_one : {i p out other new old : _} → Closes dig s i p calls out new → Closes dig s i p calls other old → (out ≡ other) × (new ≡ old)
+    close_one {i} x y =
+        let same = taken_one x.takes y.takes in
+        let why : Some x.why ≡ Some y.why = cc in (
+          x.is ∙ ap (λ w. record { send = []; close = w; notes = x.effect.notes }) why ∙ ap (λ e. record { send = []; close = Some y.why; notes = e.notes }) same.0 ∙ sym y.is,
           x.after ∙ ap (without_peer i) same.1 ∙ sym y.after,
         )
 
-    fault_one : (i : ℕ) (p : PeerState) (out other : Output) (new old : EngineState) → ShowsFault s i p calls out new → ShowsFault s i p calls other old → (out ≡ other) × (new ≡ old)
-    fault_one i p out other new old x y =
-        (x.is ∙ ap (λ f. record { send = []; close = Some (Wire f); notes = [] }) (fails_one p.stream x.fault y.fault x.failed y.failed x.fails y.fails) ∙ sym y.is, x.after ∙ sym y.after)
+    fault_one : {i p out other new old : _} → ShowsFault s i p calls out new → ShowsFault s i p calls other old → (out ≡ other) × (new ≡ old)
+    fault_one x y =
+        (x.is ∙ ap (λ f. record { send = []; close = Some (Wire f); notes = [] }) (fails_one x.fails y.fails) ∙ sym y.is, x.after ∙ sym y.after)
 
     -- an event stands there that keeps its peer, and it is taken
     pub record GoesWith (i : ℕ) (effect : Effect) (mid : EngineState) (another : Result (Option Output) EngineError) (other : EngineState) : Type 0 where
@@ -68,33 +50,32 @@ module _ (dig : List ℕ → List ℕ) where
       pub follows : FollowsUp dig (with_pending s mid effect.proofs) i sent other
       pub is : another ≡ Ok (Some (record { send = effect.send ++ haves s mid ++ sent; close = None; notes = effect.notes ++ map (λ file. Complete file) (new_complete_files s mid) }))
 
-    pub next_goes : (i : ℕ) (p : PeerState) (effect : Effect) (mid : EngineState) (another : Result (Option Output) EngineError) (other : EngineState) → IsPeer s key i p → TakesEvent dig s i p calls effect mid → effect.close ≡ None
+    pub next_goes : {i p effect mid another other : _} → IsPeer s key i p → TakesEvent dig s i p calls effect mid → effect.close ≡ None
         → StepNext dig s key calls another other → another ≢ Err OutOfMemory → GoesWith i effect mid another other
-    next_goes i p effect mid another other is takes stays (no_peer h c a e) room = absurd (h i p is)
-    next_goes i p effect mid another other is takes stays (waits j q q_is w c a e) room = absurd (takes_waits p.stream takes.event takes.rest takes.takes (subst (λ r. Waits r.stream) (peer_one s key j i q p o q_is is).1 w))
-    next_goes i p effect mid another other is takes stays (goes_on j q out q_is g a) room =
-        let h = move_on j i q p out other (peer_one s key j i q p o q_is is) g in
-        let same = taken_one i p effect h.effect mid h.mid takes h.takes in
+    next_goes {i} {p} is takes stays (no_peer h c a e) room = absurd (h i p is)
+    next_goes is takes stays (waits j q q_is w c a e) room = absurd (takes_waits takes.takes (rw (← (peer_one o q_is is).1) w))
+    next_goes {i} {effect} {other} is takes stays (goes_on j q out q_is g a) room =
+        let h = move_on (peer_one o q_is is) g in
+        let same = taken_one takes h.takes in
         record {
           sent = h.sent;
-          follows = subst (λ m. FollowsUp dig (with_pending s m effect.proofs) i h.sent other) (sym same.1) (subst (λ (e : Effect). FollowsUp dig (with_pending s h.mid e.proofs) i h.sent other) (sym same.0) h.follows);
-          is = a ∙ ap (λ z. Ok (Some z)) (out_is out (record { send = effect.send ++ haves s mid ++ h.sent; close = None; notes = effect.notes ++ map (λ file. Complete file) (new_complete_files s mid) })
-              (h.send ∙ ap (λ (e : Effect). e.send ++ haves s h.mid ++ h.sent) (sym same.0) ∙ ap (λ m. effect.send ++ haves s m ++ h.sent) (sym same.1)) h.close
-              (h.notes ∙ ap (λ (e : Effect). e.notes ++ map (λ file. Complete file) (new_complete_files s h.mid)) (sym same.0) ∙ ap (λ m. effect.notes ++ map (λ file. Complete file) (new_complete_files s m)) (sym same.1)));
+          follows = rw same.1 (rw same.0 h.follows);
+          is = a ∙ ap (λ z. Ok (Some z)) (out_is
+              (cc) h.close
+              (cc));
         }
-    next_goes i p effect mid another other is takes stays (closes j q out q_is g a) room =
-        let h = move_close j i q p out other (peer_one s key j i q p o q_is is) g in
-        let same = taken_one i p effect h.effect mid h.mid takes h.takes in
-        let no : None ≡ Some h.why = sym stays ∙ ap (λ (e : Effect). e.close) same.0 ∙ h.closed in
+    next_goes is takes stays (closes j q out q_is g a) room =
+        let h = move_close (peer_one o q_is is) g in
+        let same = taken_one takes h.takes in
         absurd cc
-    next_goes i p effect mid another other is takes stays (faulty j q out q_is g a) room =
-        let h = move_fault j i q p out other (peer_one s key j i q p o q_is is) g in
-        absurd (takes_fails p.stream takes.event h.fault takes.rest h.failed takes.takes h.fails)
-    next_goes i p effect mid another other is takes stays (no_memory j q q_is g a) room = absurd (room a)
+    next_goes is takes stays (faulty j q out q_is g a) room =
+        let h = move_fault (peer_one o q_is is) g in
+        absurd (takes_fails takes.takes h.fails)
+    next_goes is takes stays (no_memory j q q_is g a) room = absurd (room a)
 
     -- two that go on from it
-    module _ (i : ℕ) (p : PeerState) (effect : Effect) (mid : EngineState) (there : slice_get s.peers i ≡ Some p) (takes : TakesEvent dig s i p calls effect mid)
-        (a b : Result (Option Output) EngineError) (m n : EngineState) (x : GoesWith i effect mid a m) (y : GoesWith i effect mid b n) where
+    module _ {i : ℕ} {p : PeerState} {effect : Effect} {mid : EngineState} (there : slice_get s.peers i ≡ Some p) (takes : TakesEvent dig s i p calls effect mid)
+        {a b : Result (Option Output) EngineError} {m n : EngineState} (x : GoesWith i effect mid a m) (y : GoesWith i effect mid b n) where
       abbrev first : List Sent
       first = effect.send ++ haves s mid
 
@@ -107,46 +88,48 @@ module _ (dig : List ℕ → List ℕ) where
       laid : IsLaidOut state.torrent.piece_length state.torrent.files
       laid =
           let peer = record p { stream = takes.rest } in
-          let left = event_leaves dig (with_peer s i peer) i peer (set_same s.peers i peer p there) mid takes.event calls effect takes.handles in
-          subst (λ t. IsLaidOut t.piece_length t.files) (sym left.torrent) lay
+          let left = event_leaves dig (with_peer s i peer) i (set_same s.peers i there) takes.event calls takes.handles in
+          rw left.torrent lay
 
       rest : (other_frames x.sent ≡ other_frames y.sent) × (without_asked m ≡ without_asked n)
-      rest = follows_one dig state state i x.sent y.sent m n refl x.follows y.follows
+      rest = follows_one dig refl x.follows y.follows
 
       on_one : AreOne (of_next a) m (of_next b) n
       on_one = record {
-        plain = ap (λ r. plain_answer (of_next r)) x.is ∙ ap output (other_append first x.sent ∙ ap (λ zs. other_frames first ++ zs) rest.0 ∙ sym (other_append first y.sent)) ∙ sym (ap (λ r. plain_answer (of_next r)) y.is);
+        plain = ap (λ r. plain_answer (of_next r)) x.is ∙ ap output (other_append first x.sent ∙ ap (λ zs. other_frames first ++ zs) rest.0 ∙ sym (other_append first y.sent)) ∙ sym (cc);
         rest = rest.1;
         whole = λ same. (
-            let asks = asks_to m _ _ (first ++ x.sent) (first ++ y.sent) (ap (λ r. sent_by (of_next r)) x.is) (ap (λ r. sent_by (of_next r)) y.is) same in
-            let both = follows_same dig state i x.sent y.sent m n laid x.follows y.follows (asks_behind state m first x.sent y.sent (ap (λ z. z.files) x.follows.after) asks) in
+            let asks = asks_to (cc) (cc) same in
+            let both = follows_same dig laid x.follows y.follows (asks_behind first (cc) asks) in
             (ap of_next x.is ∙ ap (λ zs. output (first ++ zs)) both.0 ∙ sym (ap of_next y.is), both.1)
             );
       }
 
-    pub next_one : (answer another : Result (Option Output) EngineError) (new other : EngineState) → StepNext dig s key calls answer new → StepNext dig s key calls another other → answer ≢ Err OutOfMemory → another ≢ Err OutOfMemory
-        → AreOne (of_next answer) new (of_next another) other
-    next_one answer another new other (no_memory i p is g a) y memory room = absurd (memory a)
-    next_one answer another new other x (no_memory i p is g a) memory room = absurd (room a)
-    next_one answer another new other (goes_on i p out is g a) y memory room =
-        on_one i p g.effect g.mid is.here g.takes answer another new other
-        (next_goes i p g.effect g.mid answer new is g.takes g.stays (goes_on i p out is g a) memory) (next_goes i p g.effect g.mid another other is g.takes g.stays y room)
-    next_one answer another new other x (goes_on i p out is g a) memory room =
-        on_one i p g.effect g.mid is.here g.takes answer another new other
-        (next_goes i p g.effect g.mid answer new is g.takes g.stays x memory) (next_goes i p g.effect g.mid another other is g.takes g.stays (goes_on i p out is g a) room)
-    next_one answer another new other (no_peer xh xc xa xe) (no_peer yh yc ya ye) memory room = are_equal (ap of_next (xa ∙ sym ya)) (xe ∙ sym ye)
-    next_one answer another new other (no_peer xh xc xa xe) (waits yi yp yq yw yc ya ye) memory room = absurd (xh yi yp yq)
-    next_one answer another new other (no_peer xh xc xa xe) (closes yi yp yo yq yg ya) memory room = absurd (xh yi yp yq)
-    next_one answer another new other (no_peer xh xc xa xe) (faulty yi yp yo yq yg ya) memory room = absurd (xh yi yp yq)
-    next_one answer another new other (waits xi xp xq xw xc xa xe) (no_peer yh yc ya ye) memory room = absurd (yh xi xp xq)
-    next_one answer another new other (waits xi xp xq xw xc xa xe) (waits yi yp yq yw yc ya ye) memory room = are_equal (ap of_next (xa ∙ sym ya)) (xe ∙ sym ye)
-    next_one answer another new other (waits xi xp xq xw xc xa xe) (closes yi yp yo yq yg ya) memory room = absurd (takes_waits yp.stream yg.takes.event yg.takes.rest yg.takes.takes (subst (λ p. Waits p.stream) (peer_one s key xi yi xp yp o xq yq).1 xw))
-    next_one answer another new other (waits xi xp xq xw xc xa xe) (faulty yi yp yo yq yg ya) memory room = absurd (waits_fails yp.stream yg.fault yg.failed (subst (λ p. Waits p.stream) (peer_one s key xi yi xp yp o xq yq).1 xw) yg.fails)
-    next_one answer another new other (closes xi xp xo xq xg xa) (no_peer yh yc ya ye) memory room = absurd (yh xi xp xq)
-    next_one answer another new other (closes xi xp xo xq xg xa) (waits yi yp yq yw yc ya ye) memory room = absurd (takes_waits xp.stream xg.takes.event xg.takes.rest xg.takes.takes (subst (λ p. Waits p.stream) (peer_one s key yi xi yp xp o yq xq).1 yw))
-    next_one answer another new other (closes xi xp xo xq xg xa) (closes yi yp yo yq yg ya) memory room = (let r = close_one xi xp xo yo new other xg (move_close yi xi yp xp yo other (peer_one s key yi xi yp xp o yq xq) yg) in are_equal (ap of_next (xa ∙ ap (λ w. Ok (Some w)) r.0 ∙ sym ya)) r.1)
-    next_one answer another new other (closes xi xp xo xq xg xa) (faulty yi yp yo yq yg ya) memory room = absurd (takes_fails yp.stream xg.takes.event yg.fault xg.takes.rest yg.failed (subst (λ p. Takes p.stream xg.takes.event xg.takes.rest) (peer_one s key xi yi xp yp o xq yq).1 xg.takes.takes) yg.fails)
-    next_one answer another new other (faulty xi xp xo xq xg xa) (no_peer yh yc ya ye) memory room = absurd (yh xi xp xq)
-    next_one answer another new other (faulty xi xp xo xq xg xa) (waits yi yp yq yw yc ya ye) memory room = absurd (waits_fails xp.stream xg.fault xg.failed (subst (λ p. Waits p.stream) (peer_one s key yi xi yp xp o yq xq).1 yw) xg.fails)
-    next_one answer another new other (faulty xi xp xo xq xg xa) (closes yi yp yo yq yg ya) memory room = absurd (takes_fails xp.stream yg.takes.event xg.fault yg.takes.rest xg.failed (subst (λ p. Takes p.stream yg.takes.event yg.takes.rest) (peer_one s key yi xi yp xp o yq xq).1 yg.takes.takes) xg.fails)
-    next_one answer another new other (faulty xi xp xo xq xg xa) (faulty yi yp yo yq yg ya) memory room = (let r = fault_one xi xp xo yo new other xg (move_fault yi xi yp xp yo other (peer_one s key yi xi yp xp o yq xq) yg) in are_equal (ap of_next (xa ∙ ap (λ w. Ok (Some w)) r.0 ∙ sym ya)) r.1)
+    pub next_one : {answer another new other : _} → StepNext dig s key calls answer new → StepNext dig s key calls another other
+        → answer ≢ Err OutOfMemory → another ≢ Err OutOfMemory → AreOne (of_next answer) new (of_next another) other
+    next_one (no_memory i p is g a) y memory room = absurd (memory a)
+    next_one x (no_memory i p is g a) memory room = absurd (room a)
+    next_one (goes_on i p out is g a) y memory room =
+        on_one is.here g.takes
+        (next_goes is g.takes g.stays (goes_on i p out is g a) memory) (next_goes is g.takes g.stays y room)
+    next_one x (goes_on i p out is g a) memory room =
+        on_one is.here g.takes
+        (next_goes is g.takes g.stays x memory) (next_goes is g.takes g.stays (goes_on i p out is g a) room)
+    next_one (no_peer xh xc xa xe) (no_peer yh yc ya ye) memory room = are_equal (ap of_next (cc)) (cc)
+    next_one (no_peer xh xc xa xe) (waits yi yp yq yw yc ya ye) memory room = absurd (xh yi yp yq)
+    next_one (no_peer xh xc xa xe) (closes yi yp yo yq yg ya) memory room = absurd (xh yi yp yq)
+    next_one (no_peer xh xc xa xe) (faulty yi yp yo yq yg ya) memory room = absurd (xh yi yp yq)
+    next_one (waits xi xp xq xw xc xa xe) (no_peer yh yc ya ye) memory room = absurd (yh xi xp xq)
+    next_one (waits xi xp xq xw xc xa xe) (waits yi yp yq yw yc ya ye) memory room = are_equal (ap of_next (cc)) (cc)
+    next_one (waits xi xp xq xw xc xa xe) (closes yi yp yo yq yg ya) memory room = absurd (takes_waits yg.takes.takes (rw (← (peer_one o xq yq).1) xw))
+    next_one (waits xi xp xq xw xc xa xe) (faulty yi yp yo yq yg ya) memory room = absurd (waits_fails (rw (← (peer_one o xq yq).1) xw) yg.fails)
+    next_one (closes xi xp xo xq xg xa) (no_peer yh yc ya ye) memory room = absurd (yh xi xp xq)
+    next_one (closes xi xp xo xq xg xa) (waits yi yp yq yw yc ya ye) memory room = absurd (takes_waits xg.takes.takes (rw (← (peer_one o yq xq).1) yw))
+    next_one (closes xi xp xo xq xg xa) (closes yi yp yo yq yg ya) memory room = (let r = close_one xg (move_close (peer_one o yq xq) yg) in are_equal (ap of_next (cc)) r.1)
+    next_one (closes xi xp xo xq xg xa) (faulty yi yp yo yq yg ya) memory room =
+        absurd (takes_fails (subst (λ p. Takes p.stream xg.takes.event xg.takes.rest) (peer_one o xq yq).1 xg.takes.takes) yg.fails)
+    next_one (faulty xi xp xo xq xg xa) (no_peer yh yc ya ye) memory room = absurd (yh xi xp xq)
+    next_one (faulty xi xp xo xq xg xa) (waits yi yp yq yw yc ya ye) memory room = absurd (waits_fails (rw (← (peer_one o yq xq).1) yw) xg.fails)
+    next_one (faulty xi xp xo xq xg xa) (closes yi yp yo yq yg ya) memory room =
+        absurd (takes_fails (subst (λ p. Takes p.stream yg.takes.event yg.takes.rest) (peer_one o yq xq).1 yg.takes.takes) xg.fails)
+    next_one (faulty xi xp xo xq xg xa) (faulty yi yp yo yq yg ya) memory room = (let r = fault_one xg (move_fault (peer_one o yq xq) yg) in are_equal (ap of_next (cc)) r.1)

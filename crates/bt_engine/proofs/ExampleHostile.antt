@@ -1,70 +1,31 @@
 -- What closes a peer, and what does not.
-use Rattle.std.proofs.Common.{◌≡◌, ◌∙◌, ◌≢◌, ℕ, ◌+◌, ◌%◌, ◌^◌, ◌-◌, ◌<◌, ◌≤◌, true, false, List, [], ◌∷◌, ◌++◌, length, drop, Some, None, Ok, refl, sym, ap, subst, arith}
-use Rattle.std.specs.Int.{w32, to_be_bytes}
-use Rattle.std.proofs.lemmas.List.{append-nil, length-append}
-use Rattle.bt_tree.specs.Blocks.{block_count, block_length}
+use Rattle.bt_engine.proofs.Base.{◌≡◌, ◌∙◌, ◌≢◌, ℕ, ◌+◌, ◌^◌, ◌-◌, ◌≤◌, true, false, List, [], ◌∷◌, ◌++◌, length, drop, Some, None, Ok, refl, sym, ap, subst, arith, w32, to_be_bytes, append-nil, length-append, IsDigest, height, held_at, top_layer, top_node, IsRequest, IsRefused, top_differs, TopDiffers, IsKey, IsClaimBy, Missing, Wrong, stream, handshake_spelling, IsMessage, Fits, message_spelling, TooLong, Have, Bitfield, Piece, HashRequest, Hashes, HashReject}
+use Rattle.bt_engine.proofs.Machine.{Digest, Why, Wire, BadPiece, BadBitfield, UnknownRoot, Proof, Stale, PeerState, EngineState, with_payload, closing, stale, IsTreeOf, IsAnswered, rejected, unknown_root, refused, out_of_range, wrong as wrong_length, HandlesMessage, FollowsUp, faulty, StepFeed, first_key, their_handshake, to_first, ThreeBlocks, zero_leaf, three_root, leaves_key, four_leaves, empty_engine, root_alone, leaves_peer, blocks_peer, ClosesOn, StaysOn, far_key, HostileMessagesAreRuns, WrongBlockIsRun}
 use Rattle.bt_tree.specs.TreeShape.{height_up_to}
-use Rattle.bt_tree.specs.NodeHash.{IsDigest}
-use Rattle.bt_sparse.specs.SparseTree.{Facts, height, held_at}
-use Rattle.bt_sparse.specs.Claim.{top_layer, top_node}
-use Rattle.bt_sparse.specs.Answer.{IsRequest}
-use Rattle.bt_sparse.specs.Acceptance.{IsRefused, top_differs}
-use Rattle.bt_sparse.specs.declared.claim.ProofError.TheVariants.{TopDiffers}
-use Rattle.bt_hashreq.specs.Key.{IsKey}
-use Rattle.bt_hashreq.specs.Claim.{IsClaimBy}
-use Rattle.bt_store.specs.declared.block_states.BlockState.TheVariants.{Missing}
-use Rattle.bt_store.specs.declared.arrival.Put.TheVariants.{Wrong}
-use Rattle.bt_wire.specs.Cutter.{stream}
-use Rattle.bt_wire.specs.Handshake.{handshake_spelling}
-use Rattle.bt_wire.specs.Message.{IsMessage, Fits, message_spelling}
-use Rattle.bt_wire.specs.declared.event.WireError.TheVariants.{TooLong}
-use Rattle.bt_wire.specs.declared.event.WireEvent.TheVariants.{Message as message_event}
-use Rattle.bt_wire.specs.declared.message.Message.{Message}
-use Rattle.bt_wire.specs.declared.message.Message.TheVariants.{Have, Bitfield, Piece, HashRequest, Hashes, HashReject}
-use Rattle.bt_engine.specs.declared.answer.Why.{Why}
-use Rattle.bt_engine.specs.declared.answer.Why.TheVariants.{Wire, BadPiece, BadBitfield, WrongBlock, UnknownRoot, Proof}
-use Rattle.bt_engine.specs.declared.answer.Note.{Note}
-use Rattle.bt_engine.specs.declared.answer.Note.TheVariants.{Stale}
-use Rattle.bt_engine.specs.State.{PeerState, EngineState}
-use Rattle.bt_engine.specs.Spans.{IsWholeBlock}
-use Rattle.bt_engine.specs.Request.{with_payload}
-use Rattle.bt_engine.specs.Output.{Sent, closing}
-use Rattle.bt_engine.specs.Arrival.{stale, arrives}
-use Rattle.bt_engine.specs.HashMessages.{IsTreeOf, IsAnswered, rejected, unknown_root, refused}
-use Rattle.bt_engine.specs.WireEvents.{out_of_range, wrong as wrong_length, HandlesMessage}
-use Rattle.bt_engine.specs.FollowUp.{FollowsUp}
-use Rattle.bt_engine.specs.Next.{goes_on, closes, faulty}
-use Rattle.bt_engine.specs.Peers.{StepFeed}
-use Rattle.bt_engine.specs.ExamplePeer.{first_key, all_taken, their_handshake, to_first}
-use Rattle.bt_engine.specs.ExampleThreeBlocks.{ThreeBlocks, zero_leaf, three_root, three_torrent, leaves_key, four_leaves}
-use Rattle.bt_engine.specs.ExampleHostile.{empty_engine, root_alone, leaves_peer, blocks_peer, ClosesOn, StaysOn, zero_root_key, far_key, HostileMessagesAreRuns, WrongBlockIsRun}
 use Rattle.bt_engine.proofs.Lists.{contains_none}
-use Rattle.bt_engine.proofs.ExamplePeer.{one_there, taken_message, piece_fits}
+use Rattle.bt_engine.proofs.ExamplePeer.{one_there, taken_message, piece_fits, went, closed_for, comes, fed_first}
 use Rattle.bt_engine.proofs.ExampleThreeTree.{at_first, leaves_claim, acceptable, root_held, top_is, leaves_length, claims}
-use Rattle.bt_engine.proofs.ExampleThreeEngine.{block, output_of, engine, whole_second, quietly, interesting, fed_to}
+use Rattle.bt_engine.proofs.ExampleThreeEngine.{block, engine, whole_second, quietly, interesting, fed_to}
 
 -- how long a key is
 key_size : (root p q r s : List ℕ) → length root ≡ 32 → length p ≡ 4 → length q ≡ 4 → length r ≡ 4 → length s ≡ 4 → length (root ++ p ++ q ++ r ++ s) ≡ 48
-key_size root p q r s a b c d e = omega (arith, length-append (root ++ p ++ q ++ r) s, length-append (root ++ p ++ q) r, length-append (root ++ p) q, length-append root p, a, b, c, d, e)
+key_size root p q r s a b c d e =
+    omega (arith, length-append (root ++ p ++ q ++ r) s, length-append (root ++ p ++ q) r, length-append (root ++ p) q, length-append root p)
 
-hashes_fit : (root digests : List ℕ) → length root ≡ 32 → length digests ≡ 128 → Fits (Hashes (record { root = root; base = 0; index = 0; length = 4; layers = 1 }) digests)
-hashes_fit root digests root_size size = record {
-  limit = omega (
-    arith,
-    length-append (root ++ to_be_bytes w32 0 ++ to_be_bytes w32 0 ++ to_be_bytes w32 4 ++ to_be_bytes w32 1) digests,
-    key_size root (to_be_bytes w32 0) (to_be_bytes w32 0) (to_be_bytes w32 4) (to_be_bytes w32 1) root_size refl refl refl refl,
-    size,
-  );
-  whole = ap (λ n. n % 32) size;
+hashes_fit : {root digests : _} → length root ≡ 32 → length digests ≡ 128
+    → Fits (Hashes (record { root = root; base = 0; index = 0; length = 4; layers = 1 }) digests)
+hashes_fit {root} {digests} root_size size = record {
+  limit = omega (arith, length-append (root ++ to_be_bytes w32 0 ++ to_be_bytes w32 0 ++ to_be_bytes w32 4 ++ to_be_bytes w32 1) digests, key_size root (to_be_bytes w32 0) (to_be_bytes w32 0) (to_be_bytes w32 4) (to_be_bytes w32 1) root_size refl refl refl refl);
+  whole = cc;
 }
 
-far_fits : (root : List ℕ) → length root ≡ 32 → Fits (HashRequest (record { root = root; base = 0; index = 4294967294; length = 2; layers = 0 }))
-far_fits root root_size = record {
+far_fits : {root : _} → length root ≡ 32 → Fits (HashRequest (record { root = root; base = 0; index = 4294967294; length = 2; layers = 0 }))
+far_fits {root} root_size = record {
   limit = omega (arith, key_size root (to_be_bytes w32 0) (to_be_bytes w32 4294967294) (to_be_bytes w32 2) (to_be_bytes w32 0) root_size refl refl refl refl);
   whole = tt;
 }
 
-module _ (dig : List ℕ → List ℕ) (b : ThreeBlocks) (infohash : List ℕ) where
+module _ (dig : Digest) (b : ThreeBlocks) (infohash : List ℕ) where
   abbrev before_leaves : PeerState → EngineState
   before_leaves p = empty_engine dig b infohash (root_alone dig b) (p ∷ [])
 
@@ -74,30 +35,21 @@ module _ (dig : List ℕ → List ℕ) (b : ThreeBlocks) (infohash : List ℕ) w
   abbrev fed_peer : List ℕ → PeerState
   fed_peer bytes = record peer { stream = stream bytes true false }
 
-  fed_leaves_peer : (bytes : List ℕ) → StepFeed (before_leaves peer) first_key bytes (Ok tt) (before_leaves (fed_peer bytes))
-  fed_leaves_peer bytes = fed_to dig b infohash (at_first dig b) Missing Missing Missing peer bytes refl refl
+  fed_leaves_peer : {bytes : _} → StepFeed (before_leaves peer) first_key bytes (Ok tt) (before_leaves (fed_peer bytes))
+  fed_leaves_peer = fed_to dig b _ refl refl
 
   -- a message that closes the peer, however it is taken
-  closes_on : (m : Message) (why : Why) → IsMessage m → Fits m → HandlesMessage dig (before_leaves peer) 0 peer m [] (closing why) (before_leaves peer) → ClosesOn dig (empty_engine dig b infohash (root_alone dig b)) peer (message_spelling m) why
-  closes_on m why is fits handles = (
-    before_leaves (fed_peer (message_spelling m)),
-    (_, refl, refl, fed_leaves_peer (message_spelling m)),
+  closes_on : {m : _} (why : Why) → IsMessage m → Fits m → HandlesMessage dig (before_leaves peer) 0 peer m [] (closing why) (before_leaves peer)
+      → ClosesOn dig (empty_engine dig b infohash (root_alone dig b)) peer (message_spelling m) why
+  closes_on {m} why is fits handles = (
+    _,
+    (_, refl, refl, fed_leaves_peer),
     (
-      empty_engine dig b infohash (root_alone dig b) [],
+      _,
       (
         _,
         refl,
-        closes 0 (fed_peer (message_spelling m)) (record { send = []; close = Some why; notes = [] }) (record { here = refl; same_key = refl })
-            (record {
-              effect = closing why;
-              mid = before_leaves peer;
-              why = why;
-              takes = record { event = message_event m; rest = all_taken; takes = taken_message m is fits; handles = handles };
-              closed = refl;
-              is = refl;
-              after = refl;
-            })
-            refl,
+        closed_for _ refl refl (taken_message is fits) handles,
       ),
       refl,
     ),
@@ -106,33 +58,22 @@ module _ (dig : List ℕ → List ℕ) (b : ThreeBlocks) (infohash : List ℕ) w
   -- nothing follows: the peer chokes us, is asked for the leaves, and is of interest
   nothing_follows : FollowsUp dig (before_leaves peer) 0 [] (before_leaves peer)
   nothing_follows =
-      quietly dig b infohash (at_first dig b) Missing Missing Missing peer peer [] refl (λ e. interesting dig b infohash (at_first dig b) Missing Missing Missing peer (block 0) refl refl refl, λ i. refl) refl
+      quietly dig b infohash refl (λ e. interesting dig b infohash (at_first dig b) Missing Missing Missing peer (block 0) refl refl refl, λ i. refl) refl
       (λ idle. absurd cc) (λ open_to. absurd cc) (omega arith)
 
   -- a message that changes nothing, but may be answered and noted
-  stays_on : (m : Message) (sent : List Sent) (notes : List Note) → IsMessage m → Fits m → HandlesMessage dig (before_leaves peer) 0 peer m [] (record { send = sent; close = None; notes = notes; proofs = [] }) (before_leaves peer)
+  stays_on : {m : _} (sent notes : _) → IsMessage m → Fits m
+      → HandlesMessage dig (before_leaves peer) 0 peer m [] (record { send = sent; close = None; notes = notes; proofs = [] }) (before_leaves peer)
       → StaysOn dig (empty_engine dig b infohash (root_alone dig b)) peer (message_spelling m) sent notes
-  stays_on m sent notes is fits handles = (
-    before_leaves (fed_peer (message_spelling m)),
-    (_, refl, refl, fed_leaves_peer (message_spelling m)),
+  stays_on {m} sent notes is fits handles = (
+    _,
+    (_, refl, refl, fed_leaves_peer),
     (
-      before_leaves peer,
+      _,
       (
         _,
         refl,
-        goes_on 0 (fed_peer (message_spelling m)) (output_of sent notes) (record { here = refl; same_key = refl })
-            (record {
-              effect = record { send = sent; close = None; notes = notes; proofs = [] };
-              mid = before_leaves peer;
-              sent = [];
-              takes = record { event = message_event m; rest = all_taken; takes = taken_message m is fits; handles = handles };
-              stays = refl;
-              follows = nothing_follows;
-              send = sym (append-nil (sent ++ []) ∙ append-nil sent);
-              close = refl;
-              notes = sym (append-nil notes);
-            })
-            refl,
+        went _ _ refl refl refl (taken_message is fits) handles nothing_follows (sym (append-nil (sent ++ []) ∙ append-nil sent)) (sym (append-nil notes)),
       ),
       refl,
     ),
@@ -142,10 +83,10 @@ module _ (dig : List ℕ → List ℕ) (b : ThreeBlocks) (infohash : List ℕ) w
   second_handshake : ClosesOn dig (empty_engine dig b infohash (root_alone dig b)) peer (handshake_spelling (their_handshake infohash)) (Wire TooLong)
   second_handshake =
       let bytes = handshake_spelling (their_handshake infohash) in (
-        before_leaves (fed_peer bytes),
-        (_, refl, refl, fed_leaves_peer bytes),
+        _,
+        (_, refl, refl, fed_leaves_peer),
         (
-          empty_engine dig b infohash (root_alone dig b) [],
+          _,
           (
             _,
             refl,
@@ -165,19 +106,19 @@ module _ (dig : List ℕ → List ℕ) (b : ThreeBlocks) (infohash : List ℕ) w
       )
 
   -- no tree has a root of zeros
-  zeros_unknown : three_root dig b ≢ zero_leaf → (tree : ℕ) (k : Facts) → ¬ IsTreeOf (before_leaves peer) zero_leaf tree k
-  zeros_unknown differs tree k is = differs (ap (λ (f : Facts). f.root) (one_there (at_first dig b) k tree is.here).1 ∙ is.same_root)
+  zeros_unknown : three_root dig b ≢ zero_leaf → (tree k : _) → ¬ IsTreeOf (before_leaves peer) zero_leaf tree k
+  zeros_unknown differs tree k is = differs (ap (λ f. f.root) (one_there tree is.here).1 ∙ is.same_root)
 
   -- no run of two leaves is so far to the right
-  not_answered : (digests : List (List ℕ)) → ¬ IsAnswered dig (before_leaves peer) (far_key dig b) digests
+  not_answered : (digests : _) → ¬ IsAnswered dig (before_leaves peer) (far_key dig b) digests
   unfolding height_up_to
-  not_answered digests a = absurd (far (height a.facts) (small a.tree a.facts a.here) a.request)
+  not_answered digests a = absurd (far (small a.here) a.request)
     where
-      small : (tree : ℕ) (k : Facts) → IsTreeOf (before_leaves peer) (three_root dig b) tree k → height k ≡ 2
-      small tree k is = ap height (sym (one_there (at_first dig b) k tree is.here).1)
+      small : {tree k : _} → IsTreeOf (before_leaves peer) (three_root dig b) tree k → height k ≡ 2
+      small {tree} is = ap height (sym (one_there tree is.here).1)
 
-      far : (h : ℕ) → h ≡ 2 → IsRequest h 0 4294967294 2 0 → ⊥
-      far h e r = absurd (omega (arith, subst (λ n. 4294967294 + 2 ≤ 2 ^ (n - 0)) e r.in_width))
+      far : {h : ℕ} → h ≡ 2 → IsRequest h 0 4294967294 2 0 → ⊥
+      far e r = absurd (omega (arith, subst (λ n. 4294967294 + 2 ≤ 2 ^ (n - 0)) e r.in_width))
 
   -- the claim of other blocks has a shape and its padding, and reaches another digest at the root
   other_refused : (other : ThreeBlocks) → three_root dig b ≢ three_root dig other → IsRefused dig (at_first dig b) (leaves_claim dig other) TopDiffers
@@ -197,68 +138,37 @@ module _ (dig : List ℕ → List ℕ) (b : ThreeBlocks) (infohash : List ℕ) w
         claim_is = c.claim_is;
       }
 
-  key_is : (root : List ℕ) → length root ≡ 32 → IsKey (record { root = root; base = 0; index = 0; length = 4; layers = 1 })
-  key_is root size = record { root = size; base = omega arith; index = omega arith; length = omega arith; layers = omega arith }
+  key_is : {root : _} → length root ≡ 32 → IsKey (record { root = root; base = 0; index = 0; length = 4; layers = 1 })
+  key_is {root} size = record { root = size; base = omega arith; index = omega arith; length = omega arith; layers = omega arith }
 
-pub hostile_are_runs : (dig : List ℕ → List ℕ) → IsDigest dig → HostileMessagesAreRuns dig
+pub hostile_are_runs : (dig : Digest) → IsDigest dig → HostileMessagesAreRuns dig
 hostile_are_runs dig sizes b other infohash whole not_zeros differs = record {
-  past_last = closes_on dig b infohash (Have 1) BadPiece (omega arith) (record { limit = omega arith; whole = tt }) (refl, out_of_range (omega arith) refl refl);
-  long_bitfield = closes_on dig b infohash (Bitfield (128 ∷ 0 ∷ [])) BadBitfield tt (record { limit = omega arith; whole = tt }) (refl, wrong_length (λ e. absurd (omega (arith, e))) refl refl);
+  past_last = closes_on dig b infohash {m = Have 1} BadPiece (omega arith) (record { limit = omega arith; whole = tt }) (refl, out_of_range (omega arith) refl refl);
+  long_bitfield = closes_on dig b infohash {m = Bitfield (128 ∷ 0 ∷ [])} BadBitfield tt (record { limit = omega arith; whole = tt }) (refl, wrong_length (λ e. absurd (omega arith)) refl refl);
   second_handshake = second_handshake dig b infohash;
-  zero_root = closes_on dig b infohash (Hashes (zero_root_key dig b) (four_leaves dig b)) UnknownRoot (key_is dig b infohash zero_leaf refl) (hashes_fit zero_leaf (four_leaves dig b) refl (leaves_length dig sizes b))
+  zero_root = closes_on dig b infohash UnknownRoot (key_is dig b infohash refl) (hashes_fit refl (leaves_length dig sizes b))
       (unknown_root (zeros_unknown dig b infohash not_zeros) refl refl refl);
-  other_leaves = closes_on dig b infohash (Hashes (leaves_key dig b) (four_leaves dig other)) (Proof TopDiffers) (key_is dig b infohash (three_root dig b) (sizes _)) (hashes_fit (three_root dig b) (four_leaves dig other) (sizes _) (leaves_length dig sizes other))
+  other_leaves = closes_on dig b infohash (Proof TopDiffers) (key_is dig b infohash (sizes _)) (hashes_fit (sizes _) (leaves_length dig sizes other))
       (refused TopDiffers 0 (at_first dig b) (leaves_claim dig other) (record { here = refl; same_root = refl }) (claims_other dig b infohash sizes other) (other_refused dig b infohash other differs)
       (record { not_memory = λ e. absurd cc; made = refl; has_effect = refl; after = refl }));
-  not_asked = stays_on dig b infohash (Piece 0 0 b.first) [] (Stale ∷ []) (omega arith, omega arith) (piece_fits 0 b.first whole.first) (stale (λ c is asked. contains_none c asked) refl refl refl);
-  far = stays_on dig b infohash (HashRequest (far_key dig b)) (to_first (HashReject (far_key dig b)) ∷ []) [] (record { root = sizes _; base = omega arith; index = omega arith; length = omega arith; layers = omega arith }) (far_fits (three_root dig b) (sizes _))
+  not_asked = stays_on dig b infohash [] (Stale ∷ []) (omega arith, omega arith) (piece_fits 0 whole.first) (stale (λ c is asked. contains_none asked) refl refl refl);
+  far = stays_on dig b infohash (to_first (HashReject (far_key dig b)) ∷ []) [] (record { root = sizes _; base = omega arith; index = omega arith; length = omega arith; layers = omega arith }) (far_fits (sizes _))
       (refl, rejected (not_answered dig b infohash) refl, refl);
 }
 
 -- ---- a block with the wrong digest
 
-pub wrong_is_run : (dig : List ℕ → List ℕ) → WrongBlockIsRun dig
+pub wrong_is_run : (dig : Digest) → WrongBlockIsRun dig
 wrong_is_run dig b wrong infohash k other size known =
     let p = record blocks_peer { stream = stream (message_spelling (Piece 0 16384 wrong)) true false } in (
-      engine dig b infohash k Missing Missing Missing p,
-      (_, refl, refl, fed_to dig b infohash k Missing Missing Missing blocks_peer (message_spelling (Piece 0 16384 wrong)) refl refl),
+      _,
+      (_, refl, refl, fed_first refl refl),
       (
-        empty_engine dig b infohash k [],
+        _,
         (
           _,
           refl,
-          closes 0 p (record { send = []; close = Some WrongBlock; notes = [] }) (record { here = refl; same_key = refl })
-              (record {
-                effect = closing WrongBlock;
-                mid = engine dig b infohash k Missing Missing Missing (with_payload (length wrong) (record blocks_peer { asked = block 0 ∷ block 2 ∷ [] }));
-                why = WrongBlock;
-                takes = record {
-                  event = message_event (Piece 0 16384 wrong);
-                  rest = all_taken;
-                  takes = taken_message (Piece 0 16384 wrong) (omega arith, omega arith) (piece_fits 16384 wrong other.whole);
-                  handles = arrives (record {
-                    block = block 1;
-                    stored = engine dig b infohash k Missing Missing Missing blocks_peer;
-                    whole = subst (λ n. IsWholeBlock (three_torrent dig b infohash) 0 16384 n (block 1)) (sym other.whole) (whole_second dig b infohash);
-                    asked = (1, omega arith, refl);
-                    puts = record {
-                      file = record { tree = 0; states = Missing ∷ Missing ∷ Missing ∷ [] };
-                      tree = k;
-                      result = Ok Wrong;
-                      is_file = record { here = refl; hung = refl };
-                      due = (record { inside = subst (λ n. 1 < block_count n) (sym size) (omega arith); whole = other.whole ∙ sym (ap (λ n. block_length n 1) size) }, refl, (dig b.second, known, other.differs));
-                      made = refl;
-                      has_effect = refl;
-                      after = refl;
-                    };
-                    after = refl;
-                  });
-                };
-                closed = refl;
-                is = refl;
-                after = refl;
-              })
-              refl,
+          closed_for (engine dig b _ k Missing Missing Missing (with_payload 16384 (record blocks_peer { asked = block 0 ∷ block 2 ∷ [] }))) refl refl (taken_message (omega arith, omega arith) (piece_fits 16384 other.whole)) (comes (Ok Wrong) (whole_second dig b infohash) other.whole (1, omega arith, refl) refl refl (record { inside = rw size (omega arith); whole = cc }, refl, (dig b.second, known, other.differs)) refl refl refl),
         ),
         refl,
       ),

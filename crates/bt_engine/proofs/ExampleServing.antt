@@ -1,38 +1,9 @@
 -- Requests are served, ignored, or close their peer.
-use Rattle.std.proofs.Common.{◌≡◌, ◌∙◌, ℕ, zero, suc, ◌+◌, ◌≤◌, inl, inr, true, false, List, [], ◌∷◌, ◌++◌, length, take, drop, Some, Ok, refl, sym, ap, subst, arith}
-use Rattle.std.specs.Prelude.{Contains}
-use Rattle.std.proofs.lemmas.List.{append-nil, length-drop, drop-append-le}
-use Rattle.std.proofs.Math.Seq.{take-append-add}
-use Rattle.bt_tree.specs.Blocks.{block_length}
-use Rattle.bt_disk.specs.Calls.{bytes_given}
-use Rattle.bt_meta.specs.Place.{IsPlace}
-use Rattle.bt_meta.specs.declared.torrent.Span.{Span}
-use Rattle.bt_sparse.specs.SparseTree.{Facts}
-use Rattle.bt_store.specs.BlockReads.{given, IsRight}
-use Rattle.bt_store.specs.declared.block_states.BlockState.{BlockState}
-use Rattle.bt_store.specs.declared.block_states.BlockState.TheVariants.{Missing, Waiting, Marked}
-use Rattle.bt_book.specs.declared.names.BlockId.{BlockId}
-use Rattle.bt_wire.specs.Cutter.{Stream, stream, fed, Takes}
-use Rattle.bt_wire.specs.declared.event.WireEvent.TheVariants.{Message as message_event}
-use Rattle.bt_wire.specs.declared.message.Ask.{Ask}
-use Rattle.bt_wire.specs.declared.message.Message.TheVariants.{Interested, Unchoke, Request, Piece}
-use Rattle.bt_engine.specs.declared.answer.Why.TheVariants.{BadRequest}
-use Rattle.bt_engine.specs.State.{PeerState, EngineState}
-use Rattle.bt_engine.specs.Devices.{DeviceCalls, reads_at}
-use Rattle.bt_engine.specs.Blocks.{block_id, state_at}
-use Rattle.bt_engine.specs.Spans.{spanned_blocks, cut_from}
-use Rattle.bt_engine.specs.Output.{Sent, no_effect, closing, sending}
-use Rattle.bt_engine.specs.Request.{ignored, no_place, served}
-use Rattle.bt_engine.specs.FollowUp.{NeedsLeaf, FollowsUp, rests, interest_sent}
-use Rattle.bt_engine.specs.Next.{StepNext, goes_on, closes}
-use Rattle.bt_engine.specs.Peers.{StepFeed, feeds}
-use Rattle.bt_engine.specs.Rechoke.{StepRechoke, rechokes}
-use Rattle.bt_engine.specs.Step.{Run}
-use Rattle.bt_engine.specs.ExamplePeer.{first_key, all_taken, to_first}
-use Rattle.bt_engine.specs.ExampleThreeBlocks.{ThreeBlocks, AreWhole, three_file, three_torrent}
-use Rattle.bt_engine.specs.ExampleServing.{KnowsTwo, marked_engine, reader, interested_bytes, request_bytes, long_request_bytes, serving_events, serving_calls, serving_answers, ServingIsRun}
+use Rattle.bt_engine.proofs.Base.{◌≡◌, ◌∙◌, ℕ, zero, suc, ◌+◌, ◌≤◌, inl, inr, true, false, List, [], ◌∷◌, ◌++◌, length, take, drop, Some, Ok, refl, sym, ap, subst, arith, Contains, append-nil, length-drop, drop-append-le, take-append-add, bytes_given, IsPlace, Span, Facts, given, IsRight, Missing, Marked, Stream, stream, Takes, Message as message_event, Ask, Interested, Unchoke, Request, Piece}
+use Rattle.bt_engine.proofs.Machine.{Digest, BadRequest, PeerState, EngineState, DeviceCalls, block_id, state_at, spanned_blocks, cut_from, Sent, sending, ignored, no_place, served, NeedsLeaf, FollowsUp, rests, StepNext, closes, StepFeed, feeds, StepRechoke, rechokes, Run, first_key, all_taken, to_first, ThreeBlocks, AreWhole, three_file, three_torrent, KnowsTwo, marked_engine, reader, interested_bytes, request_bytes, long_request_bytes, serving_events, serving_calls, serving_answers, ServingIsRun}
 use Rattle.bt_engine.proofs.Lists.{contains_none, contains_cases}
 use Rattle.bt_engine.proofs.ExampleThreeEngine.{output_of, IsOne, first, second, third, one_of}
+use Rattle.bt_engine.proofs.ExamplePeer.{went, closed_for, fed_first}
 
 abbrev range_ask : Ask
 range_ask = record { piece = 0; begin = 16334; length = 100 }
@@ -63,7 +34,7 @@ taken_long = record {
   not_failed = refl;
 }
 
-module _ (dig : List ℕ → List ℕ) (b : ThreeBlocks) (infohash : List ℕ) (k : Facts) where
+module _ (dig : Digest) (b : ThreeBlocks) (infohash : List ℕ) (k : Facts) where
   abbrev engine : ℕ → PeerState → EngineState
   engine turn p = marked_engine dig b infohash k turn (p ∷ [])
 
@@ -72,22 +43,22 @@ module _ (dig : List ℕ → List ℕ) (b : ThreeBlocks) (infohash : List ℕ) (
 
   -- ---- nothing follows: each block is marked
 
-  all_marked : (turn : ℕ) (p : PeerState) (c : BlockId) (state : BlockState) → state_at (engine turn p) c ≡ Some state → state ≡ Marked
-  all_marked turn p c state e = by (one_of Marked Marked Marked state c.file c.block e)
+  all_marked : (turn p c : _) {state : _} → state_at (engine turn p) c ≡ Some state → state ≡ Marked
+  all_marked turn p c {state} e = by (one_of _ _ e)
     where
       by : IsOne Marked Marked Marked c state → state ≡ Marked
       by (first x y) = sym y
       by (second x y) = sym y
       by (third x y) = sym y
 
-  not_missing : (turn : ℕ) (p : PeerState) (c : BlockId) → ¬ (state_at (engine turn p) c ≡ Some Missing)
-  not_missing turn p c e = let wrong = all_marked turn p c Missing e in absurd cc
+  not_missing : (turn p c : _) → ¬ (state_at (engine turn p) c ≡ Some Missing)
+  not_missing turn p c e = let wrong = all_marked turn p c e in absurd cc
 
-  no_needs : (turn : ℕ) (p q : PeerState) (c : BlockId) → ¬ NeedsLeaf dig (engine turn p) q c
-  no_needs turn p q c needs = elim needs.not_marked [ inl m ↦ absurd (not_missing turn p c m) | inr w ↦ (let wrong = all_marked turn p c Waiting w in absurd cc) ]
+  no_needs : (turn p q c : _) → ¬ NeedsLeaf dig (engine turn p) q c
+  no_needs turn p q c needs = elim needs.not_marked [ inl m ↦ absurd (not_missing turn p c m) | inr w ↦ (let wrong = all_marked turn p c w in absurd cc) ]
 
-  nothing_follows : (turn : ℕ) (p : PeerState) → p.am_interested ≡ false → length p.asked + 0 ≤ 16 → FollowsUp dig (engine turn p) 0 [] (engine turn p)
-  nothing_follows turn p dull few =
+  nothing_follows : {turn : ℕ} {p : PeerState} → p.am_interested ≡ false → length p.asked + 0 ≤ 16 → FollowsUp dig (engine turn p) 0 [] (engine turn p)
+  nothing_follows {turn} {p} dull few =
       record {
         peer = p;
         interested = p;
@@ -98,17 +69,17 @@ module _ (dig : List ℕ → List ℕ) (b : ThreeBlocks) (infohash : List ℕ) (
         blocks = [];
         here = refl;
         interest = record {
-          interest = (λ e. (let wrong : false ≡ true = sym dull ∙ e in absurd cc), λ i. absurd (not_missing turn p i.0 i.2));
+          interest = (λ e. absurd cc, λ i. absurd (not_missing turn p i.0 i.2));
           others = refl;
-          told = sym (ap (λ x. interest_sent p x x) dull);
+          told = cc;
         };
         hashes = rests (λ idle c. no_needs turn p p c) refl refl;
         asks = record {
           shut = λ _. refl;
-          are_open = λ c among. absurd (contains_none c among);
-          distinct = λ i j d lt below. absurd (omega (arith, lt, below));
+          are_open = λ c among. absurd (contains_none among);
+          distinct = λ i j d lt below. absurd (omega arith);
           few = few;
-          all = λ open_to interested. (let wrong : false ≡ true = sym dull ∙ interested in absurd cc);
+          all = λ open_to interested. absurd cc;
         };
         requests = refl;
         all = refl;
@@ -117,27 +88,19 @@ module _ (dig : List ℕ → List ℕ) (b : ThreeBlocks) (infohash : List ℕ) (
 
   -- ---- the steps
 
-  fed_to : (turn : ℕ) (p : PeerState) (bytes : List ℕ) → p.key ≡ first_key → p.stream ≡ all_taken → StepFeed (engine turn p) first_key bytes (Ok tt) (engine turn (with_stream (stream bytes true false) p))
-  fed_to turn p bytes key empty = feeds 0 p (record { here = refl; same_key = key }) refl (ap (λ (t : Stream). engine turn (with_stream (fed t bytes) p)) (sym empty))
+  fed_to : {turn : ℕ} {p : PeerState} {bytes : _} → p.key ≡ first_key → p.stream ≡ all_taken
+      → StepFeed (engine turn p) first_key bytes (Ok tt) (engine turn (with_stream (stream bytes true false) p))
+  fed_to {turn} {p} {bytes} key empty = feeds 0 p (record { here = refl; same_key = key }) refl (cc)
 
   next_interested : StepNext dig (engine 0 (with_stream (stream interested_bytes true false) (reader true false 0))) first_key [] (Ok (Some (output_of [] []))) (engine 0 (reader true true 0))
   next_interested =
-      goes_on 0 (with_stream (stream interested_bytes true false) (reader true false 0)) (output_of [] []) (record { here = refl; same_key = refl })
-      (record {
-        effect = no_effect;
-        mid = engine 0 (reader true true 0);
-        sent = [];
-        takes = record { event = message_event Interested; rest = all_taken; takes = taken_interested; handles = (refl, refl, refl) };
-        stays = refl;
-        follows = nothing_follows 0 (reader true true 0) refl (omega arith);
-        send = refl;
-        close = refl;
-        notes = refl;
-      })
-      refl
+      went _ _ refl refl refl taken_interested (refl, refl, refl) (nothing_follows refl (omega arith)) refl refl
 
   unchokes : StepRechoke dig (engine 0 (reader true true 0)) (Some (output_of (to_first Unchoke ∷ []) [])) (engine 1 (reader false true 0))
-  unchokes = rechokes (output_of (to_first Unchoke ∷ []) []) (record { sent = []; follows = (engine 1 (reader false true 0), [], [], nothing_follows 1 (reader false true 0) refl (omega arith), (refl, refl), refl); is = refl }) refl
+  unchokes =
+      rechokes (output_of (to_first Unchoke ∷ []) [])
+      (record { sent = []; follows = (engine 1 (reader false true 0), [], [], nothing_follows refl (omega arith), (refl, refl), refl); is = refl })
+      refl
 
   abbrev range_span : Span
   range_span = record { file = 0; start = 16334; length = 100 }
@@ -151,15 +114,15 @@ module _ (dig : List ℕ → List ℕ) (b : ThreeBlocks) (infohash : List ℕ) (
   two_blocks (suc i) = b.second
 
   of_two : (P : ℕ → Type 0) → P 0 → P 1 → (i : ℕ) → Contains (spanned_blocks range_span) i → P i
-  of_two P x y i c = elim (contains_cases 0 i (1 ∷ []) c) [
+  of_two P x y i c = elim (contains_cases (1 ∷ []) c) [
     | inl same ↦ subst P same x
-    | inr more ↦ elim (contains_cases 1 i [] more) [ inl same ↦ subst P same y | inr none ↦ absurd (contains_none i none) ]
+    | inr more ↦ elim (contains_cases [] more) [ inl same ↦ subst P same y | inr none ↦ absurd (contains_none none) ]
   ]
 
   cut : AreWhole b → cut_from range_span two_blocks ≡ drop 16334 b.first ++ take 50 b.second
   cut whole =
-      let front : 100 ≡ length (drop 16334 b.first) + 50 = omega (arith, length-drop 16334 b.first, whole.first) in
-      ap (λ l. take 100 l) (drop-append-le 16334 b.first (b.second ++ []) (omega (arith, whole.first)))
+      let front : 100 ≡ length (drop 16334 b.first) + 50 = omega (arith, length-drop 16334 b.first) in
+      ap (λ l. take 100 l) (drop-append-le 16334 b.first (b.second ++ []) (omega arith))
       ∙ ap (λ n. take n (drop 16334 b.first ++ (b.second ++ []))) front
       ∙ take-append-add (drop 16334 b.first) (b.second ++ []) 50
       ∙ ap (λ l. drop 16334 b.first ++ take 50 l) (append-nil b.second)
@@ -170,106 +133,56 @@ module _ (dig : List ℕ → List ℕ) (b : ThreeBlocks) (infohash : List ℕ) (
   abbrev two_reads : DeviceCalls
   two_reads = (0, bytes_given 0 16384 b.first) ∷ (0, bytes_given 16384 16384 b.second) ∷ []
 
-  next_request : AreWhole b → KnowsTwo dig b k → StepNext dig (engine 1 (with_stream (stream request_bytes true false) (reader false true 0))) first_key two_reads (Ok (Some (output_of piece_sent []))) (engine 1 (reader false true 100))
+  next_request : AreWhole b → KnowsTwo dig b k
+      → StepNext dig (engine 1 (with_stream (stream request_bytes true false) (reader false true 0))) first_key two_reads (Ok (Some (output_of piece_sent []))) (engine 1 (reader false true 100))
   next_request whole knows =
-      goes_on 0 (with_stream (stream request_bytes true false) (reader false true 0)) (output_of piece_sent []) (record { here = refl; same_key = refl })
-      (record {
-        effect = sending (reader false true 0) (Piece 0 16334 (drop 16334 b.first ++ take 50 b.second));
-        mid = engine 1 (reader false true 100);
-        sent = [];
-        takes = record {
-          event = message_event (Request range_ask);
-          rest = all_taken;
-          takes = taken_request;
-          handles = served range_span refl range_place (of_two (λ i. state_at (engine 1 (reader false true 0)) (block_id 0 i) ≡ Some Marked) refl refl) (record {
-            file = record { tree = 0; states = Marked ∷ Marked ∷ Marked ∷ [] };
-            tree = k;
-            bytes = two_blocks;
-            reads = given 0 b.first ∷ given 1 b.second ∷ [];
-            is_file = record { here = refl; hung = refl };
-            right = record {
-              made = refl;
-              right = of_two (λ i. IsRight dig k i (two_blocks i))
-                  (record { whole = whole.first ∙ sym (ap (λ n. block_length n 0) knows.file_length); leaf = knows.first })
-                  (record { whole = whole.second ∙ sym (ap (λ n. block_length n 1) knows.file_length); leaf = knows.second });
-            };
-            made = sym (ap (λ n. reads_at 0 n (given 0 b.first ∷ given 1 b.second ∷ [])) knows.file_length);
-            sent = ap (λ l. sending (reader false true 0) (Piece 0 16334 l)) (sym (cut whole));
-            after = refl;
-          });
-        };
-        stays = refl;
-        follows = nothing_follows 1 (reader false true 100) refl (omega arith);
-        send = refl;
-        close = refl;
-        notes = refl;
-      })
-      refl
+      went _ _ refl refl refl taken_request
+      (served range_span refl range_place (of_two (λ i. state_at (engine 1 (reader false true 0)) (block_id 0 i) ≡ Some Marked) refl refl) (record { file = record { tree = 0; states = Marked ∷ Marked ∷ Marked ∷ [] }; tree = k; bytes = two_blocks; reads = given 0 b.first ∷ given 1 b.second ∷ []; is_file = record { here = refl; hung = refl }; right = record { made = refl; right = of_two (λ i. IsRight dig k i (two_blocks i)) (record { whole = cc; leaf = knows.first }) (record { whole = cc; leaf = knows.second }) }; made = cc; sent = ap (λ l. sending (reader false true 0) (Piece 0 16334 l)) (sym (cut whole)); after = refl }))
+      (nothing_follows refl (omega arith)) refl refl
 
   next_ignored : StepNext dig (engine 0 (with_stream (stream request_bytes true false) (reader true true 0))) first_key [] (Ok (Some (output_of [] []))) (engine 0 (reader true true 0))
   next_ignored =
-      goes_on 0 (with_stream (stream request_bytes true false) (reader true true 0)) (output_of [] []) (record { here = refl; same_key = refl })
-      (record {
-        effect = no_effect;
-        mid = engine 0 (reader true true 0);
-        sent = [];
-        takes = record { event = message_event (Request range_ask); rest = all_taken; takes = taken_request; handles = ignored refl refl refl refl };
-        stays = refl;
-        follows = nothing_follows 0 (reader true true 0) refl (omega arith);
-        send = refl;
-        close = refl;
-        notes = refl;
-      })
-      refl
+      went _ _ refl refl refl taken_request (ignored refl refl refl refl) (nothing_follows refl (omega arith)) refl refl
 
   -- no range is longer than a block
   too_long : (span : Span) → ¬ IsPlace (three_torrent dig b infohash) 0 0 16385 span
-  too_long span place = absurd (omega (arith, place.block))
+  too_long span place = absurd (omega arith)
 
   next_closed : StepNext dig (engine 1 (with_stream (stream long_request_bytes true false) (reader false true 0))) first_key [] (Ok (Some (record { send = []; close = Some BadRequest; notes = [] }))) (marked_engine dig b infohash k 1 [])
   next_closed =
-      closes 0 (with_stream (stream long_request_bytes true false) (reader false true 0)) (record { send = []; close = Some BadRequest; notes = [] }) (record { here = refl; same_key = refl })
-      (record {
-        effect = closing BadRequest;
-        mid = engine 1 (reader false true 0);
-        why = BadRequest;
-        takes = record { event = message_event (Request long_ask); rest = all_taken; takes = taken_long; handles = no_place refl too_long refl refl refl };
-        closed = refl;
-        is = refl;
-        after = refl;
-      })
-      refl
+      closed_for _ refl refl taken_long (no_place refl too_long refl refl refl)
 
-  serves : AreWhole b → KnowsTwo dig b k → Run dig (engine 0 (reader true false 0)) serving_events (serving_calls b) (serving_answers b) (engine 1 (reader false true 100))
+  serves : AreWhole b → KnowsTwo dig b k
+      → Run dig (engine 0 (reader true false 0)) serving_events (serving_calls b) (serving_answers b) (engine 1 (reader false true 100))
   serves whole knows = (
-    engine 0 (with_stream (stream interested_bytes true false) (reader true false 0)),
-    (_, refl, refl, fed_to 0 (reader true false 0) interested_bytes refl refl),
+    _,
+    (_, refl, refl, fed_first refl refl),
     (
-      engine 0 (reader true true 0),
+      _,
       (_, refl, next_interested),
       (
-        engine 1 (reader false true 0),
+        _,
         (_, refl, refl, unchokes),
         (
-          engine 1 (with_stream (stream request_bytes true false) (reader false true 0)),
-          (_, refl, refl, fed_to 1 (reader false true 0) request_bytes refl refl),
-          (engine 1 (reader false true 100), (_, refl, next_request whole knows), refl),
+          _,
+          (_, refl, refl, fed_first refl refl),
+          (_, (_, refl, next_request whole knows), refl),
         ),
       ),
     ),
   )
 
-pub serving_is_run : (dig : List ℕ → List ℕ) → ServingIsRun dig
+pub serving_is_run : (dig : Digest) → ServingIsRun dig
 serving_is_run dig b infohash k whole knows = record {
-  serves = serves dig b infohash k whole knows;
+  serves = serves dig b _ k whole knows;
   ignores = (
-    marked_engine dig b infohash k 0 (record (reader true true 0) { stream = stream request_bytes true false } ∷ []),
-    (_, refl, refl, fed_to dig b infohash k 0 (reader true true 0) request_bytes refl refl),
-    (marked_engine dig b infohash k 0 (reader true true 0 ∷ []), (_, refl, next_ignored dig b infohash k), refl),
+    _,
+    (_, refl, refl, fed_first refl refl),
+    (_, (_, refl, next_ignored dig b _ k), refl),
   );
   closes = (
-    marked_engine dig b infohash k 1 (record (reader false true 0) { stream = stream long_request_bytes true false } ∷ []),
-    (_, refl, refl, fed_to dig b infohash k 1 (reader false true 0) long_request_bytes refl refl),
-    (marked_engine dig b infohash k 1 [], (_, refl, next_closed dig b infohash k), refl),
+    _,
+    (_, refl, refl, fed_first refl refl),
+    (_, (_, refl, next_closed dig b _ k), refl),
   );
 }

@@ -1,63 +1,40 @@
 -- The fetch of three blocks is a run.
-use Rattle.std.proofs.Common.{◌≡◌, ℕ, zero, suc, true, false, List, [], ◌∷◌, length, Some, Ok, refl, sym, ap, subst, arith}
-use Rattle.std.specs.Prelude.{slice_get, option_map}
-use Rattle.bt_tree.specs.NodeHash.{IsDigest}
-use Rattle.bt_disk.specs.Calls.{bytes_written}
-use Rattle.bt_store.specs.declared.block_states.BlockState.{BlockState}
-use Rattle.bt_store.specs.declared.block_states.BlockState.TheVariants.{Missing, Marked}
-use Rattle.bt_store.specs.declared.arrival.Put.TheVariants.{Marked as PutMarked}
-use Rattle.bt_book.specs.declared.names.BlockId.{BlockId}
-use Rattle.bt_wire.specs.Cutter.{stream}
-use Rattle.bt_wire.specs.Handshake.{handshake_spelling}
-use Rattle.bt_wire.specs.Message.{message_spelling}
-use Rattle.bt_wire.specs.declared.event.WireEvent.TheVariants.{Message as message_event}
-use Rattle.bt_wire.specs.declared.message.Message.TheVariants.{NotInterested, Have, Piece}
-use Rattle.bt_engine.specs.declared.answer.Note.{Note}
-use Rattle.bt_engine.specs.declared.answer.Note.TheVariants.{Marked as NowMarked, Complete}
-use Rattle.bt_engine.specs.State.{HashState, Idle, Asked, PeerState, FileState, EngineState}
-use Rattle.bt_engine.specs.Spans.{IsWholeBlock}
-use Rattle.bt_engine.specs.Output.{Sent, no_effect, noting}
-use Rattle.bt_engine.specs.Settling.{judged_file, due_blocks}
-use Rattle.bt_engine.specs.Request.{with_payload}
-use Rattle.bt_engine.specs.Arrival.{arrives}
-use Rattle.bt_engine.specs.HashMessages.{learns, ours as resolved, new_proofs}
-use Rattle.bt_engine.specs.FollowUp.{IsOpen, FollowsUp}
-use Rattle.bt_engine.specs.Next.{StepNext, goes_on}
-use Rattle.bt_engine.specs.Step.{Run}
-use Rattle.bt_engine.specs.ExamplePeer.{first_key, peer_with, all_taken, their_handshake, bitfield_bytes, unchoke_bytes, to_first}
-use Rattle.bt_engine.specs.ExampleThreeBlocks.{ThreeBlocks, AreWhole, three_torrent, leaves_key, four_leaves, leaves_message, three_events, three_calls, three_answers, FetchOfThreeIsRun}
-use Rattle.bt_engine.proofs.ExamplePeer.{one_there, taken_message, piece_fits}
+use Rattle.bt_engine.proofs.Base.{◌≡◌, ℕ, zero, suc, true, false, List, [], ◌∷◌, length, Some, Ok, refl, sym, ap, arith, slice_get, option_map, IsDigest, bytes_written, BlockState, Missing, Marked, PutMarked, stream, message_spelling, NotInterested, Have, Piece}
+use Rattle.bt_engine.proofs.Machine.{Digest, Note, NowMarked, Complete, HashState, Idle, Asked, PeerState, EngineState, Sent, no_effect, noting, judged_file, due_blocks, learns, resolved, new_proofs, IsOpen, FollowsUp, StepNext, Run, first_key, peer_with, all_taken, to_first, ThreeBlocks, AreWhole, leaves_key, four_leaves, leaves_message, three_events, three_calls, three_answers, FetchOfThreeIsRun}
+use Rattle.bt_engine.proofs.ExamplePeer.{one_there, taken_message, piece_fits, went, comes, fed_first}
 use Rattle.bt_engine.proofs.ExampleThreeTree.{at_first, proved, leaves_claim, accepts, first_known, second_known, third_known, claims}
-use Rattle.bt_engine.proofs.ExampleThreeEngine.{block, all_three, asked_peer, output_of, IsOne, first, second, third, engine, is_one, whole_first, whole_second, whole_third, needs_none, quietly, interesting, none_missing, not_open, next_hello, next_bits, next_unchoke, key_fits, leaves_fit, fed_to, start, connects, starts}
+use Rattle.bt_engine.proofs.ExampleThreeEngine.{block, all_three, asked_peer, output_of, IsOne, first, second, third, engine, is_one, whole_first, whole_second, whole_third, needs_none, quietly, interesting, none_missing, not_open, next_hello, next_bits, next_unchoke, key_fits, leaves_fit, start, connects, starts}
 
-module _ (dig : List ℕ → List ℕ) (b : ThreeBlocks) (infohash : List ℕ) where
+module _ (dig : Digest) (b : ThreeBlocks) (infohash : List ℕ) where
   after_leaves : FollowsUp dig (engine dig b infohash (proved dig b) Missing Missing Missing (peer_with all_taken true true true Idle [] 0)) 0 [] (engine dig b infohash (proved dig b) Missing Missing Missing (peer_with all_taken true true true Idle [] 0))
   after_leaves =
       let p = peer_with all_taken true true true Idle [] 0 in
-      quietly dig b infohash (proved dig b) Missing Missing Missing p p [] refl (λ e. interesting dig b infohash (proved dig b) Missing Missing Missing p (block 0) refl refl refl, λ i. refl) refl
+      quietly dig b infohash refl (λ e. interesting dig b infohash (proved dig b) Missing Missing Missing p (block 0) refl refl refl, λ i. refl) refl
       (λ idle c. needs_none dig b infohash Missing Missing Missing p p c) (λ e. absurd cc) (omega arith)
 
   after_first : FollowsUp dig (engine dig b infohash (proved dig b) Marked Missing Missing (asked_peer Idle (block 1 ∷ block 2 ∷ []) 16384)) 0 [] (engine dig b infohash (proved dig b) Marked Missing Missing (asked_peer Idle (block 1 ∷ block 2 ∷ []) 16384))
   after_first =
       let p = asked_peer Idle (block 1 ∷ block 2 ∷ []) 16384 in
-      quietly dig b infohash (proved dig b) Marked Missing Missing p p [] refl (λ e. interesting dig b infohash (proved dig b) Marked Missing Missing p (block 1) refl refl refl, λ i. refl) refl
-      (λ idle c. needs_none dig b infohash Marked Missing Missing p p c) (λ e f c may. none c (is_one dig b infohash (proved dig b) Marked Missing Missing Missing p c may.missing) may) (omega arith)
+      quietly dig b infohash refl (λ e. interesting dig b infohash (proved dig b) Marked Missing Missing p (block 1) refl refl refl, λ i. refl) refl
+      (λ idle c. needs_none dig b infohash Marked Missing Missing p p c) (λ e f c may. none (is_one dig b infohash (proved dig b) p may.missing) may) (omega arith)
     where
-      none : (c : BlockId) → IsOne Marked Missing Missing c Missing → ¬ IsOpen (engine dig b infohash (proved dig b) Marked Missing Missing (asked_peer Idle (block 1 ∷ block 2 ∷ []) 16384)) (asked_peer Idle (block 1 ∷ block 2 ∷ []) 16384) c
-      none c (first e f) may = absurd cc
-      none c (second e f) may = not_open dig b infohash _ _ _ _ (asked_peer Idle (block 1 ∷ block 2 ∷ []) 16384) c (0, omega arith, sym e) may
-      none c (third e f) may = not_open dig b infohash _ _ _ _ (asked_peer Idle (block 1 ∷ block 2 ∷ []) 16384) c (1, omega arith, sym e) may
+      none : {c : _} → IsOne Marked Missing Missing c Missing
+          → ¬ IsOpen (engine dig b infohash (proved dig b) Marked Missing Missing (asked_peer Idle (block 1 ∷ block 2 ∷ []) 16384)) (asked_peer Idle (block 1 ∷ block 2 ∷ []) 16384) c
+      none (first e f) may = absurd cc
+      none (second e f) may = not_open dig b infohash _ _ _ _ (asked_peer Idle (block 1 ∷ block 2 ∷ []) 16384) (0, omega arith, sym e) may
+      none (third e f) may = not_open dig b infohash _ _ _ _ (asked_peer Idle (block 1 ∷ block 2 ∷ []) 16384) (1, omega arith, sym e) may
 
   after_second : FollowsUp dig (engine dig b infohash (proved dig b) Marked Marked Missing (asked_peer Idle (block 2 ∷ []) 32768)) 0 [] (engine dig b infohash (proved dig b) Marked Marked Missing (asked_peer Idle (block 2 ∷ []) 32768))
   after_second =
       let p = asked_peer Idle (block 2 ∷ []) 32768 in
-      quietly dig b infohash (proved dig b) Marked Marked Missing p p [] refl (λ e. interesting dig b infohash (proved dig b) Marked Marked Missing p (block 2) refl refl refl, λ i. refl) refl
-      (λ idle c. needs_none dig b infohash Marked Marked Missing p p c) (λ e f c may. none c (is_one dig b infohash (proved dig b) Marked Marked Missing Missing p c may.missing) may) (omega arith)
+      quietly dig b infohash refl (λ e. interesting dig b infohash (proved dig b) Marked Marked Missing p (block 2) refl refl refl, λ i. refl) refl
+      (λ idle c. needs_none dig b infohash Marked Marked Missing p p c) (λ e f c may. none (is_one dig b infohash (proved dig b) p may.missing) may) (omega arith)
     where
-      none : (c : BlockId) → IsOne Marked Marked Missing c Missing → ¬ IsOpen (engine dig b infohash (proved dig b) Marked Marked Missing (asked_peer Idle (block 2 ∷ []) 32768)) (asked_peer Idle (block 2 ∷ []) 32768) c
-      none c (first e f) may = absurd cc
-      none c (second e f) may = absurd cc
-      none c (third e f) may = not_open dig b infohash _ _ _ _ (asked_peer Idle (block 2 ∷ []) 32768) c (0, omega arith, sym e) may
+      none : {c : _} → IsOne Marked Marked Missing c Missing
+          → ¬ IsOpen (engine dig b infohash (proved dig b) Marked Marked Missing (asked_peer Idle (block 2 ∷ []) 32768)) (asked_peer Idle (block 2 ∷ []) 32768) c
+      none (first e f) may = absurd cc
+      none (second e f) may = absurd cc
+      none (third e f) may = not_open dig b infohash _ _ _ _ (asked_peer Idle (block 2 ∷ []) 32768) (0, omega arith, sym e) may
 
   abbrev served : PeerState
   served = peer_with all_taken false false true Idle [] 49152
@@ -65,136 +42,37 @@ module _ (dig : List ℕ → List ℕ) (b : ThreeBlocks) (infohash : List ℕ) w
   after_third : FollowsUp dig (engine dig b infohash (proved dig b) Marked Marked Marked (asked_peer Idle [] 49152)) 0 (to_first NotInterested ∷ []) (engine dig b infohash (proved dig b) Marked Marked Marked served)
   after_third =
       let p = asked_peer Idle [] 49152 in
-      quietly dig b infohash (proved dig b) Marked Marked Marked p served (to_first NotInterested ∷ []) refl (λ e. absurd cc, λ i. absurd (none_missing dig b infohash (proved dig b) p i)) refl
+      quietly dig b infohash refl (λ e. absurd cc, λ i. absurd (none_missing dig b infohash (proved dig b) p i)) refl
       (λ idle c. needs_none dig b infohash Marked Marked Marked p served c) (λ e f. absurd cc) (omega arith)
 
-  next_leaves : IsDigest dig → StepNext dig (engine dig b infohash (at_first dig b) Missing Missing Missing (peer_with (stream (message_spelling (leaves_message dig b)) true false) true true true (Asked (leaves_key dig b)) [] 0)) first_key []
-      (Ok (Some (output_of [] []))) (engine dig b infohash (proved dig b) Missing Missing Missing (peer_with all_taken true true true Idle [] 0))
+  next_leaves : IsDigest dig
+      → StepNext dig (engine dig b infohash (at_first dig b) Missing Missing Missing (peer_with (stream (message_spelling (leaves_message dig b)) true false) true true true (Asked (leaves_key dig b)) [] 0)) first_key [] (Ok (Some (output_of [] []))) (engine dig b infohash (proved dig b) Missing Missing Missing (peer_with all_taken true true true Idle [] 0))
   next_leaves sizes =
       let p = peer_with all_taken true true true (Asked (leaves_key dig b)) [] 0 in
-      goes_on 0 (peer_with (stream (message_spelling (leaves_message dig b)) true false) true true true (Asked (leaves_key dig b)) [] 0) (output_of [] []) (record { here = refl; same_key = refl })
-      (record {
-        effect = record no_effect { proofs = new_proofs (leaves_key dig b) (four_leaves dig b) (at_first dig b) (proved dig b) };
-        mid = engine dig b infohash (proved dig b) Missing Missing Missing (peer_with all_taken true true true Idle [] 0);
-        sent = [];
-        takes = record {
-          event = message_event (leaves_message dig b);
-          rest = all_taken;
-          takes = taken_message (leaves_message dig b) (key_fits dig b infohash sizes) (leaves_fit dig b infohash sizes);
-          handles = learns (record {
-            tree = 0;
-            old = at_first dig b;
-            new = proved dig b;
-            claim = leaves_claim dig b;
-            notes = [];
-            settled = engine dig b infohash (proved dig b) Missing Missing Missing p;
-            hash = Idle;
-            here = record { here = refl; same_root = refl };
-            claims = claims dig sizes b;
-            accepts = accepts dig b;
-            settles = record {
-              facts = proved dig b;
-              reads = λ _. [];
-              here = refl;
-              due = λ file f at. ap (λ (g : FileState). due_blocks dig (proved dig b) 0 0 4 g) (one_there (record { tree = 0; states = Missing ∷ Missing ∷ Missing ∷ [] }) f file at).1;
-              made = refl;
-              noted = refl;
-              files = unchanged;
-              others = refl;
-            };
-            resolves = resolved refl refl;
-            has_effect = refl;
-            after = refl;
-          });
-        };
-        stays = refl;
-        follows = after_leaves;
-        send = refl;
-        close = refl;
-        notes = refl;
-      })
-      refl
+      went (record no_effect { proofs = new_proofs (leaves_key dig b) (four_leaves dig b) (at_first dig b) (proved dig b) }) (engine dig b infohash (proved dig b) Missing Missing Missing (peer_with all_taken true true true Idle [] 0)) refl refl refl (taken_message (key_fits dig b infohash sizes) (leaves_fit dig b infohash sizes)) (learns (record { tree = 0; old = at_first dig b; new = proved dig b; claim = leaves_claim dig b; notes = []; settled = engine dig b infohash (proved dig b) Missing Missing Missing p; hash = Idle; here = record { here = refl; same_root = refl }; claims = claims dig sizes b; accepts = accepts dig b; settles = record { facts = proved dig b; reads = λ _. []; here = refl; due = λ file f at. ap (λ g. due_blocks dig (proved dig b) 0 0 4 g) (one_there file at).1; made = refl; noted = refl; files = unchanged; others = refl }; resolves = resolved refl refl; has_effect = refl; after = refl })) after_leaves refl refl
     where
       -- no block waits, and the files stay as they are
-      unchanged : (file : ℕ) → slice_get ((record { tree = 0; states = Missing ∷ Missing ∷ Missing ∷ [] }) ∷ []) file ≡ option_map (judged_file dig (proved dig b) []) (slice_get ((record { tree = 0; states = Missing ∷ Missing ∷ Missing ∷ [] }) ∷ []) file)
+      unchanged : (file : ℕ)
+          → slice_get ((record { tree = 0; states = Missing ∷ Missing ∷ Missing ∷ [] }) ∷ []) file ≡ option_map (judged_file dig (proved dig b) []) (slice_get ((record { tree = 0; states = Missing ∷ Missing ∷ Missing ∷ [] }) ∷ []) file)
       unchanged zero = refl
       unchanged (suc file) = refl
 
-  next_first : AreWhole b → StepNext dig (engine dig b infohash (proved dig b) Missing Missing Missing (peer_with (stream (message_spelling (Piece 0 0 b.first)) true false) true false true Idle all_three 0)) first_key ((0, bytes_written 0 b.first) ∷ [])
-      (Ok (Some (output_of [] (NowMarked (block 0) ∷ [])))) (engine dig b infohash (proved dig b) Marked Missing Missing (asked_peer Idle (block 1 ∷ block 2 ∷ []) 16384))
+  next_first : AreWhole b
+      → StepNext dig (engine dig b infohash (proved dig b) Missing Missing Missing (peer_with (stream (message_spelling (Piece 0 0 b.first)) true false) true false true Idle all_three 0)) first_key ((0, bytes_written 0 b.first) ∷ []) (Ok (Some (output_of [] (NowMarked (block 0) ∷ [])))) (engine dig b infohash (proved dig b) Marked Missing Missing (asked_peer Idle (block 1 ∷ block 2 ∷ []) 16384))
   next_first whole =
-      goes_on 0 (peer_with (stream (message_spelling (Piece 0 0 b.first)) true false) true false true Idle all_three 0) (output_of [] (NowMarked (block 0) ∷ [])) (record { here = refl; same_key = refl })
-      (record {
-        effect = noting (NowMarked (block 0));
-        mid = engine dig b infohash (proved dig b) Marked Missing Missing (asked_peer Idle (block 1 ∷ block 2 ∷ []) 16384);
-        sent = [];
-        takes = record {
-          event = message_event (Piece 0 0 b.first);
-          rest = all_taken;
-          takes = taken_message (Piece 0 0 b.first) (omega arith, omega arith) (piece_fits 0 b.first whole.first);
-          handles = arrives (record {
-            block = block 0;
-            stored = engine dig b infohash (proved dig b) Marked Missing Missing (asked_peer Idle all_three 0);
-            whole = subst (λ n. IsWholeBlock (three_torrent dig b infohash) 0 0 n (block 0)) (sym whole.first) (whole_first dig b infohash);
-            asked = (0, omega arith, refl);
-            puts = record {
-              file = record { tree = 0; states = Missing ∷ Missing ∷ Missing ∷ [] };
-              tree = proved dig b;
-              result = Ok PutMarked;
-              is_file = record { here = refl; hung = refl };
-              due = (record { inside = omega arith; whole = whole.first }, refl, first_known dig b);
-              made = refl;
-              has_effect = refl;
-              after = refl;
-            };
-            after = ap (λ n. engine dig b infohash (proved dig b) Marked Missing Missing (with_payload n (asked_peer Idle (block 1 ∷ block 2 ∷ []) 0))) (sym whole.first);
-          });
-        };
-        stays = refl;
-        follows = after_first;
-        send = refl;
-        close = refl;
-        notes = refl;
-      })
-      refl
+      went (noting (NowMarked (block 0)))
+      (engine dig b infohash (proved dig b) Marked Missing Missing (asked_peer Idle (block 1 ∷ block 2 ∷ []) 16384)) refl refl refl
+      (taken_message (omega arith, omega arith) (piece_fits 0 whole.first))
+      (comes (Ok PutMarked) (whole_first dig b infohash) whole.first (0, omega arith, refl) refl refl (record { inside = omega arith; whole = whole.first }, refl, first_known dig b) refl refl refl)
+      after_first refl refl
 
-  next_second : AreWhole b → StepNext dig (engine dig b infohash (proved dig b) Marked Missing Missing (peer_with (stream (message_spelling (Piece 0 16384 b.second)) true false) true false true Idle (block 1 ∷ block 2 ∷ []) 16384)) first_key ((0, bytes_written 16384 b.second) ∷ [])
-      (Ok (Some (output_of [] (NowMarked (block 1) ∷ [])))) (engine dig b infohash (proved dig b) Marked Marked Missing (asked_peer Idle (block 2 ∷ []) 32768))
+  next_second : AreWhole b
+      → StepNext dig (engine dig b infohash (proved dig b) Marked Missing Missing (peer_with (stream (message_spelling (Piece 0 16384 b.second)) true false) true false true Idle (block 1 ∷ block 2 ∷ []) 16384)) first_key ((0, bytes_written 16384 b.second) ∷ []) (Ok (Some (output_of [] (NowMarked (block 1) ∷ [])))) (engine dig b infohash (proved dig b) Marked Marked Missing (asked_peer Idle (block 2 ∷ []) 32768))
   next_second whole =
-      goes_on 0 (peer_with (stream (message_spelling (Piece 0 16384 b.second)) true false) true false true Idle (block 1 ∷ block 2 ∷ []) 16384) (output_of [] (NowMarked (block 1) ∷ [])) (record { here = refl; same_key = refl })
-      (record {
-        effect = noting (NowMarked (block 1));
-        mid = engine dig b infohash (proved dig b) Marked Marked Missing (asked_peer Idle (block 2 ∷ []) 32768);
-        sent = [];
-        takes = record {
-          event = message_event (Piece 0 16384 b.second);
-          rest = all_taken;
-          takes = taken_message (Piece 0 16384 b.second) (omega arith, omega arith) (piece_fits 16384 b.second whole.second);
-          handles = arrives (record {
-            block = block 1;
-            stored = engine dig b infohash (proved dig b) Marked Marked Missing (asked_peer Idle (block 1 ∷ block 2 ∷ []) 16384);
-            whole = subst (λ n. IsWholeBlock (three_torrent dig b infohash) 0 16384 n (block 1)) (sym whole.second) (whole_second dig b infohash);
-            asked = (0, omega arith, refl);
-            puts = record {
-              file = record { tree = 0; states = Marked ∷ Missing ∷ Missing ∷ [] };
-              tree = proved dig b;
-              result = Ok PutMarked;
-              is_file = record { here = refl; hung = refl };
-              due = (record { inside = omega arith; whole = whole.second }, refl, second_known dig b);
-              made = refl;
-              has_effect = refl;
-              after = refl;
-            };
-            after = ap (λ n. engine dig b infohash (proved dig b) Marked Marked Missing (with_payload n (asked_peer Idle (block 2 ∷ []) 16384))) (sym whole.second);
-          });
-        };
-        stays = refl;
-        follows = after_second;
-        send = refl;
-        close = refl;
-        notes = refl;
-      })
-      refl
+      went (noting (NowMarked (block 1))) (engine dig b infohash (proved dig b) Marked Marked Missing (asked_peer Idle (block 2 ∷ []) 32768)) refl
+      refl refl (taken_message (omega arith, omega arith) (piece_fits 16384 whole.second))
+      (comes (Ok PutMarked) (whole_second dig b infohash) whole.second (0, omega arith, refl) refl refl (record { inside = omega arith; whole = whole.second }, refl, second_known dig b) refl refl refl)
+      after_second refl refl
 
   abbrev last_sent : List Sent
   last_sent = to_first (Have 0) ∷ to_first NotInterested ∷ []
@@ -202,43 +80,13 @@ module _ (dig : List ℕ → List ℕ) (b : ThreeBlocks) (infohash : List ℕ) w
   abbrev last_notes : List Note
   last_notes = NowMarked (block 2) ∷ Complete 0 ∷ []
 
-  next_third : AreWhole b → StepNext dig (engine dig b infohash (proved dig b) Marked Marked Missing (peer_with (stream (message_spelling (Piece 0 32768 b.third)) true false) true false true Idle (block 2 ∷ []) 32768)) first_key ((0, bytes_written 32768 b.third) ∷ [])
-      (Ok (Some (output_of last_sent last_notes))) (engine dig b infohash (proved dig b) Marked Marked Marked served)
+  next_third : AreWhole b
+      → StepNext dig (engine dig b infohash (proved dig b) Marked Marked Missing (peer_with (stream (message_spelling (Piece 0 32768 b.third)) true false) true false true Idle (block 2 ∷ []) 32768)) first_key ((0, bytes_written 32768 b.third) ∷ []) (Ok (Some (output_of last_sent last_notes))) (engine dig b infohash (proved dig b) Marked Marked Marked served)
   next_third whole =
-      goes_on 0 (peer_with (stream (message_spelling (Piece 0 32768 b.third)) true false) true false true Idle (block 2 ∷ []) 32768) (output_of last_sent last_notes) (record { here = refl; same_key = refl })
-      (record {
-        effect = noting (NowMarked (block 2));
-        mid = engine dig b infohash (proved dig b) Marked Marked Marked (asked_peer Idle [] 49152);
-        sent = to_first NotInterested ∷ [];
-        takes = record {
-          event = message_event (Piece 0 32768 b.third);
-          rest = all_taken;
-          takes = taken_message (Piece 0 32768 b.third) (omega arith, omega arith) (piece_fits 32768 b.third whole.third);
-          handles = arrives (record {
-            block = block 2;
-            stored = engine dig b infohash (proved dig b) Marked Marked Marked (asked_peer Idle (block 2 ∷ []) 32768);
-            whole = subst (λ n. IsWholeBlock (three_torrent dig b infohash) 0 32768 n (block 2)) (sym whole.third) (whole_third dig b infohash);
-            asked = (0, omega arith, refl);
-            puts = record {
-              file = record { tree = 0; states = Marked ∷ Marked ∷ Missing ∷ [] };
-              tree = proved dig b;
-              result = Ok PutMarked;
-              is_file = record { here = refl; hung = refl };
-              due = (record { inside = omega arith; whole = whole.third }, refl, third_known dig b);
-              made = refl;
-              has_effect = refl;
-              after = refl;
-            };
-            after = ap (λ n. engine dig b infohash (proved dig b) Marked Marked Marked (with_payload n (asked_peer Idle [] 32768))) (sym whole.third);
-          });
-        };
-        stays = refl;
-        follows = after_third;
-        send = refl;
-        close = refl;
-        notes = refl;
-      })
-      refl
+      went (noting (NowMarked (block 2))) (engine dig b infohash (proved dig b) Marked Marked Marked (asked_peer Idle [] 49152)) refl refl refl
+      (taken_message (omega arith, omega arith) (piece_fits 32768 whole.third))
+      (comes (Ok PutMarked) (whole_third dig b infohash) whole.third (0, omega arith, refl) refl refl (record { inside = omega arith; whole = whole.third }, refl, third_known dig b) refl refl refl)
+      after_third refl refl
 
   abbrev first_state : PeerState → EngineState
   first_state p = engine dig b infohash (at_first dig b) Missing Missing Missing p
@@ -249,51 +97,52 @@ module _ (dig : List ℕ → List ℕ) (b : ThreeBlocks) (infohash : List ℕ) w
   abbrev asked_key : HashState
   asked_key = Asked (leaves_key dig b)
 
-  runs : IsDigest dig → AreWhole b → length infohash ≡ 32 → Run dig (start dig b infohash) (three_events dig b infohash) (three_calls b) (three_answers dig b infohash) (proved_state Marked Marked Marked served)
+  runs : IsDigest dig → AreWhole b → length infohash ≡ 32
+      → Run dig (start dig b infohash) (three_events dig b infohash) (three_calls b) (three_answers dig b infohash) (proved_state Marked Marked Marked served)
   runs sizes whole size = (
-    first_state (peer_with (stream [] false false) false true false Idle [] 0),
+    _,
     (_, refl, refl, connects dig b infohash),
     (
-      first_state (peer_with (stream (handshake_spelling (their_handshake infohash)) false false) false true false Idle [] 0),
-      (_, refl, refl, fed_to dig b infohash (at_first dig b) Missing Missing Missing (peer_with (stream [] false false) false true false Idle [] 0) (handshake_spelling (their_handshake infohash)) refl refl),
+      _,
+      (_, refl, refl, fed_first refl refl),
       (
-        first_state (peer_with all_taken false true false Idle [] 0),
+        _,
         (_, refl, next_hello dig b infohash size),
         (
-          first_state (peer_with (stream bitfield_bytes true false) false true false Idle [] 0),
-          (_, refl, refl, fed_to dig b infohash (at_first dig b) Missing Missing Missing (peer_with all_taken false true false Idle [] 0) bitfield_bytes refl refl),
+          _,
+          (_, refl, refl, fed_first refl refl),
           (
-            first_state (peer_with all_taken true true true asked_key [] 0),
+            _,
             (_, refl, next_bits dig b infohash),
             (
-              first_state (peer_with (stream (message_spelling (leaves_message dig b)) true false) true true true asked_key [] 0),
-              (_, refl, refl, fed_to dig b infohash (at_first dig b) Missing Missing Missing (peer_with all_taken true true true asked_key [] 0) (message_spelling (leaves_message dig b)) refl refl),
+              _,
+              (_, refl, refl, fed_first refl refl),
               (
-                proved_state Missing Missing Missing (peer_with all_taken true true true Idle [] 0),
+                _,
                 (_, refl, next_leaves sizes),
                 (
-                  proved_state Missing Missing Missing (peer_with (stream unchoke_bytes true false) true true true Idle [] 0),
-                  (_, refl, refl, fed_to dig b infohash (proved dig b) Missing Missing Missing (peer_with all_taken true true true Idle [] 0) unchoke_bytes refl refl),
+                  _,
+                  (_, refl, refl, fed_first refl refl),
                   (
-                    proved_state Missing Missing Missing (asked_peer Idle all_three 0),
-                    (_, refl, next_unchoke dig b infohash (proved dig b) Idle (λ idle c. needs_none dig b infohash Missing Missing Missing (asked_peer Idle [] 0) (asked_peer Idle [] 0) c)),
+                    _,
+                    (_, refl, next_unchoke dig b infohash (λ idle c. needs_none dig b infohash Missing Missing Missing (asked_peer Idle [] 0) (asked_peer Idle [] 0) c)),
                     (
-                      proved_state Missing Missing Missing (peer_with (stream (message_spelling (Piece 0 0 b.first)) true false) true false true Idle all_three 0),
-                      (_, refl, refl, fed_to dig b infohash (proved dig b) Missing Missing Missing (asked_peer Idle all_three 0) (message_spelling (Piece 0 0 b.first)) refl refl),
+                      _,
+                      (_, refl, refl, fed_first refl refl),
                       (
-                        proved_state Marked Missing Missing (asked_peer Idle (block 1 ∷ block 2 ∷ []) 16384),
+                        _,
                         (_, refl, next_first whole),
                         (
-                          proved_state Marked Missing Missing (peer_with (stream (message_spelling (Piece 0 16384 b.second)) true false) true false true Idle (block 1 ∷ block 2 ∷ []) 16384),
-                          (_, refl, refl, fed_to dig b infohash (proved dig b) Marked Missing Missing (asked_peer Idle (block 1 ∷ block 2 ∷ []) 16384) (message_spelling (Piece 0 16384 b.second)) refl refl),
+                          _,
+                          (_, refl, refl, fed_first refl refl),
                           (
-                            proved_state Marked Marked Missing (asked_peer Idle (block 2 ∷ []) 32768),
+                            _,
                             (_, refl, next_second whole),
                             (
-                              proved_state Marked Marked Missing (peer_with (stream (message_spelling (Piece 0 32768 b.third)) true false) true false true Idle (block 2 ∷ []) 32768),
-                              (_, refl, refl, fed_to dig b infohash (proved dig b) Marked Marked Missing (asked_peer Idle (block 2 ∷ []) 32768) (message_spelling (Piece 0 32768 b.third)) refl refl),
+                              _,
+                              (_, refl, refl, fed_first refl refl),
                               (
-                                proved_state Marked Marked Marked served,
+                                _,
                                 (_, refl, next_third whole),
                                 refl,
                               ),
@@ -312,7 +161,7 @@ module _ (dig : List ℕ → List ℕ) (b : ThreeBlocks) (infohash : List ℕ) w
     ),
   )
 
-pub fetch_is_run : (dig : List ℕ → List ℕ) → IsDigest dig → FetchOfThreeIsRun dig
+pub fetch_is_run : (dig : Digest) → IsDigest dig → FetchOfThreeIsRun dig
 fetch_is_run dig sizes b infohash whole size = record {
   first = start dig b infohash;
   last = proved_state dig b infohash Marked Marked Marked (served dig b infohash);

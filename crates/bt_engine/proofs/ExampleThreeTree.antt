@@ -1,25 +1,14 @@
 -- The tree of the three blocks: what is known of it at first, and after the proof of its leaves.
-use Rattle.std.proofs.Common.{◌≡◌, ℕ, zero, suc, ◌+◌, ◌-◌, ◌/◌, ◌^◌, ◌<◌, ◌≤◌, ◌⊎◌, inl, inr, List, [], ◌∷◌, ◌++◌, length, drop, Some, None, refl, sym, ap, ◌∙◌, subst, arith}
-use Rattle.std.specs.FinMap as finite
-use Rattle.std.specs.Simd.{first_chunks}
-use Rattle.std.specs.Option.{IsSome}
-use Rattle.std.proofs.lemmas.List.{take_at, drop_at, append_assoc, length-append}
-use Rattle.bt_tree.specs.TreeShape.{height_up_to, IsPadding, CoversBlock}
-use Rattle.bt_tree.specs.NodeHash.{IsDigest}
+use Rattle.bt_engine.proofs.Base.{◌≡◌, ℕ, zero, suc, ◌+◌, ◌-◌, ◌/◌, ◌^◌, ◌<◌, ◌≤◌, ◌⊎◌, inl, inr, List, [], ◌∷◌, ◌++◌, length, drop, Some, None, refl, sym, ap, ◌∙◌, subst, arith, first_chunks, IsSome, take_at, drop_at, append_assoc, length-append, IsPadding, CoversBlock, IsDigest, Nodes, digest_at, Facts, root_facts, held_at, Claims, in_run, on_path, uncle, IsInRun, IsOnPath, run_digest, top_digest, claim_of, IsAcceptable, IsJoined, Accepts, Claim, digest_at_new, digest_at_cases, digest_at_empty, digest_at_other, IsClaimBy, digests_in, IsPlan}
+use Rattle.bt_engine.proofs.Machine.{Digest, ThreeBlocks, zero_leaf, left_node, right_node, three_root, leaves_key, four_leaves}
+use Rattle.bt_tree.specs.TreeShape.{height_up_to}
 use Rattle.bt_tree.specs.Tree.{padding_digest}
 use Rattle.bt_tree.specs.Peaks.{row_node}
-use Rattle.bt_sparse.specs.NodeMap.{Nodes, digest_at}
-use Rattle.bt_sparse.specs.SparseTree.{Facts, root_facts, value_at, held_at}
-use Rattle.bt_sparse.specs.Claim.{Claims, in_run, on_path, uncle, IsInRun, IsOnPath, run_digest, path_digest, top_digest}
-use Rattle.bt_sparse.specs.Answer.{claim_of}
-use Rattle.bt_sparse.specs.Acceptance.{IsAcceptable, IsJoined, Accepts}
-use Rattle.bt_sparse.specs.declared.claim.Claim.{Claim}
-use Rattle.bt_sparse.proofs.NodeMaps.{digest_at_new, digest_at_cases, digest_at_empty, digest_at_other}
-use Rattle.bt_hashreq.specs.Claim.{IsClaimBy, digests_in}
-use Rattle.bt_hashreq.specs.Request.{IsPlan}
-use Rattle.bt_engine.specs.ExampleThreeBlocks.{ThreeBlocks, zero_leaf, left_node, right_node, three_root, leaves_key, four_leaves}
+use Rattle.bt_sparse.specs.SparseTree.{value_at}
+use Rattle.bt_sparse.specs.Claim.{path_digest}
+use Rattle.std.specs.FinMap as finite
 
-module _ (dig : List ℕ → List ℕ) (b : ThreeBlocks) where
+module _ (dig : Digest) (b : ThreeBlocks) where
   -- the root alone
   abbrev pub at_first : Facts
   at_first = root_facts 49152 (three_root dig b)
@@ -55,45 +44,45 @@ module _ (dig : List ℕ → List ℕ) (b : ThreeBlocks) where
   in_row zero (suc zero) low under = second_leaf
   in_row zero (suc (suc zero)) low under = third_leaf
   in_row zero (suc (suc (suc zero))) low under = padding_leaf
-  in_row zero (suc (suc (suc (suc i)))) low under = absurd (omega (arith, under))
+  in_row zero (suc (suc (suc (suc i)))) low under = absurd (omega arith)
   in_row (suc zero) zero low under = left
   in_row (suc zero) (suc zero) low under = right
-  in_row (suc zero) (suc (suc i)) low under = absurd (omega (arith, under))
+  in_row (suc zero) (suc (suc i)) low under = absurd (omega arith)
   in_row (suc (suc zero)) zero low under = top
-  in_row (suc (suc zero)) (suc i) low under = absurd (omega (arith, under))
-  in_row (suc (suc (suc above))) i low under = absurd (omega (arith, low))
+  in_row (suc (suc zero)) (suc i) low under = absurd (omega arith)
+  in_row (suc (suc (suc above))) i low under = absurd (omega arith)
 
-  run_claims : (layer i : ℕ) (d : List ℕ) → IsInRun dig leaves_claim layer i d → IsClaimed layer i d
+  run_claims : {layer i d : _} → IsInRun dig leaves_claim layer i d → IsClaimed layer i d
   unfolding height_up_to
-  run_claims layer i d r = let same : r.above ≡ layer = omega (arith, r.here) in subst (λ l. IsClaimed l i d) same (subst (λ x. IsClaimed r.above i x) (sym r.digest) (in_row r.above i r.low r.under))
+  run_claims {layer} {i} {d} r = let same : r.above ≡ layer = omega arith in rw (← same) (rw r.digest (in_row _ i r.low r.under))
 
-  path_claims : (layer i : ℕ) (d : List ℕ) → IsOnPath dig leaves_claim layer i d → IsClaimed layer i d
+  path_claims : {layer i d : _} → IsOnPath dig leaves_claim layer i d → IsClaimed layer i d
   unfolding height_up_to path_digest row_node
-  path_claims layer i d r = at_above r.above r.here r.within r.node r.digest
+  path_claims {layer} {i} {d} r = at_above _ r.here r.within r.node r.digest
     where
       at_above : (above : ℕ) → layer ≡ 2 + above → above ≤ 0 → i ≡ 0 / 2 ^ above → d ≡ path_digest dig leaves_claim above → IsClaimed layer i d
-      at_above zero here within node digest = subst (λ l. IsClaimed l i d) (sym here) (subst (λ n. IsClaimed 2 n d) (sym node) (subst (λ x. IsClaimed 2 0 x) (sym digest) top))
-      at_above (suc above) here within node digest = absurd (omega (arith, within))
+      at_above zero here within node digest = rw here (rw node (rw digest top))
+      at_above (suc above) here within node digest = absurd (omega arith)
 
-  claimed : (layer i : ℕ) (d : List ℕ) → Claims dig leaves_claim layer i d → IsClaimed layer i d
-  claimed layer i d (in_run r) = run_claims layer i d r
-  claimed layer i d (on_path r) = path_claims layer i d r
-  claimed layer i d (uncle r) = absurd (omega (arith, r.within))
+  claimed : {layer i d : _} → Claims dig leaves_claim layer i d → IsClaimed layer i d
+  claimed (in_run r) = run_claims r
+  claimed (on_path r) = path_claims r
+  claimed (uncle r) = absurd (omega arith)
 
-  run_node_claims : (layer i : ℕ) → layer ≤ 2 → i / 2 ^ (2 - layer) ≡ 0 → Claims dig leaves_claim layer i (row_node dig (run_digest leaves_claim) layer i)
+  run_node_claims : {layer i : ℕ} → layer ≤ 2 → i / 2 ^ (2 - layer) ≡ 0 → Claims dig leaves_claim layer i (row_node dig (run_digest leaves_claim) layer i)
   unfolding height_up_to
-  run_node_claims layer i low under = in_run (record { above = layer; here = omega arith; low = low; under = under; digest = refl })
+  run_node_claims {layer} low under = in_run (record { above = layer; here = omega arith; low = low; under = under; digest = refl })
 
   -- ---- what is held after the proof
 
   held_first : held_at proved 0 0 ≡ Some (dig b.first)
   held_first =
-      digest_at_other _ 0 2 0 0 (dig b.third) (λ e f. absurd (omega (arith, f)))
-      ∙ digest_at_other _ 0 1 0 0 (dig b.second) (λ e f. absurd (omega (arith, f)))
+      digest_at_other _ 0 2 0 0 (dig b.third) (λ e f. absurd (omega arith))
+      ∙ digest_at_other _ 0 1 0 0 (dig b.second) (λ e f. absurd (omega arith))
       ∙ digest_at_new nodes_above 0 0 (dig b.first)
 
   held_second : held_at proved 0 1 ≡ Some (dig b.second)
-  held_second = digest_at_other _ 0 2 0 1 (dig b.third) (λ e f. absurd (omega (arith, f))) ∙ digest_at_new _ 0 1 (dig b.second)
+  held_second = digest_at_other _ 0 2 0 1 (dig b.third) (λ e f. absurd (omega arith)) ∙ digest_at_new _ 0 1 (dig b.second)
 
   held_third : held_at proved 0 2 ≡ Some (dig b.third)
   held_third = digest_at_new _ 0 2 (dig b.third)
@@ -101,72 +90,77 @@ module _ (dig : List ℕ → List ℕ) (b : ThreeBlocks) where
   -- the leaves are below the other nodes
   held_high : (layer i : ℕ) → held_at proved (suc layer) i ≡ digest_at nodes_above (suc layer) i
   held_high layer i =
-      digest_at_other _ 0 2 (suc layer) i (dig b.third) (λ e f. absurd (omega (arith, e)))
-      ∙ digest_at_other _ 0 1 (suc layer) i (dig b.second) (λ e f. absurd (omega (arith, e)))
-      ∙ digest_at_other nodes_above 0 0 (suc layer) i (dig b.first) (λ e f. absurd (omega (arith, e)))
+      digest_at_other _ 0 2 (suc layer) i (dig b.third) (λ e f. absurd (omega arith))
+      ∙ digest_at_other _ 0 1 (suc layer) i (dig b.second) (λ e f. absurd (omega arith))
+      ∙ digest_at_other nodes_above 0 0 (suc layer) i (dig b.first) (λ e f. absurd (omega arith))
 
   held_right : held_at proved 1 1 ≡ Some (right_node dig b)
   held_right = held_high 0 1 ∙ digest_at_new _ 1 1 (right_node dig b)
 
   held_left : held_at proved 1 0 ≡ Some (left_node dig b)
-  held_left = held_high 0 0 ∙ digest_at_other _ 1 1 1 0 (right_node dig b) (λ e f. absurd (omega (arith, f))) ∙ digest_at_new _ 1 0 (left_node dig b)
+  held_left = held_high 0 0 ∙ digest_at_other _ 1 1 1 0 (right_node dig b) (λ e f. absurd (omega arith)) ∙ digest_at_new _ 1 0 (left_node dig b)
 
   held_top : held_at proved 2 0 ≡ Some (three_root dig b)
   unfolding height_up_to
   held_top =
       held_high 1 0
-      ∙ digest_at_other _ 1 1 2 0 (right_node dig b) (λ e f. absurd (omega (arith, e)))
-      ∙ digest_at_other at_first.nodes 1 0 2 0 (left_node dig b) (λ e f. absurd (omega (arith, e)))
+      ∙ digest_at_other _ 1 1 2 0 (right_node dig b) (λ e f. absurd (omega arith))
+      ∙ digest_at_other at_first.nodes 1 0 2 0 (left_node dig b) (λ e f. absurd (omega arith))
       ∙ digest_at_new finite.empty 2 0 (three_root dig b)
 
   -- every node of the claim that covers a block is held
-  held_claimed : (layer i : ℕ) (d : List ℕ) → IsClaimed layer i d → CoversBlock 3 layer i → held_at proved layer i ≡ Some d
-  held_claimed layer i d first_leaf covers = held_first
-  held_claimed layer i d second_leaf covers = held_second
-  held_claimed layer i d third_leaf covers = held_third
-  held_claimed layer i d padding_leaf covers = absurd (omega (arith, covers.real))
-  held_claimed layer i d left covers = held_left
-  held_claimed layer i d right covers = held_right
-  held_claimed layer i d top covers = held_top
+  held_claimed : {layer i d : _} → IsClaimed layer i d → CoversBlock 3 layer i → held_at proved layer i ≡ Some d
+  held_claimed first_leaf covers = held_first
+  held_claimed second_leaf covers = held_second
+  held_claimed third_leaf covers = held_third
+  held_claimed padding_leaf covers = absurd (omega arith)
+  held_claimed left covers = held_left
+  held_claimed right covers = held_right
+  held_claimed top covers = held_top
 
   -- and no other is
-  held_cases : (layer i : ℕ) (d : List ℕ) → held_at proved layer i ≡ Some d → (held_at at_first layer i ≡ Some d) ⊎ (IsClaimed layer i d × CoversBlock 3 layer i)
+  held_cases : {layer i d : _} → held_at proved layer i ≡ Some d → (held_at at_first layer i ≡ Some d) ⊎ (IsClaimed layer i d × CoversBlock 3 layer i)
   unfolding height_up_to
-  held_cases layer i d held = third (digest_at_cases _ 0 2 layer i (dig b.third) d held)
+  held_cases {layer} {i} {d} held = third (digest_at_cases _ 0 2 layer i (dig b.third) d held)
     where
-      node : (l j : ℕ) (x : List ℕ) → IsClaimed l j x → CoversBlock 3 l j → (layer ≡ l) × (i ≡ j) × (d ≡ x) → (held_at at_first layer i ≡ Some d) ⊎ (IsClaimed layer i d × CoversBlock 3 layer i)
-      node l j x is covers e = inr (
-        subst (λ n. IsClaimed n i d) (sym e.0) (subst (λ n. IsClaimed l n d) (sym e.1) (subst (λ y. IsClaimed l j y) (sym e.2) is)),
-        subst (λ n. CoversBlock 3 n i) (sym e.0) (subst (λ n. CoversBlock 3 l n) (sym e.1) covers),
+      node : {l j x : _} → IsClaimed l j x → CoversBlock 3 l j → (layer ≡ l) × (i ≡ j) × (d ≡ x)
+          → (held_at at_first layer i ≡ Some d) ⊎ (IsClaimed layer i d × CoversBlock 3 layer i)
+      node {l} {j} is covers e = inr (
+        rw e.0 (rw e.1 (rw e.2 is)),
+        rw e.0 (rw e.1 covers),
       )
 
-      at_left : ((layer ≡ 1) × (i ≡ 0) × (d ≡ left_node dig b)) ⊎ (held_at at_first layer i ≡ Some d) → (held_at at_first layer i ≡ Some d) ⊎ (IsClaimed layer i d × CoversBlock 3 layer i)
-      at_left (inl e) = node 1 0 _ left (record { inside = record { in_height = omega arith; in_width = omega arith }; real = omega arith }) e
+      at_left : ((layer ≡ 1) × (i ≡ 0) × (d ≡ left_node dig b)) ⊎ (held_at at_first layer i ≡ Some d)
+          → (held_at at_first layer i ≡ Some d) ⊎ (IsClaimed layer i d × CoversBlock 3 layer i)
+      at_left (inl e) = node left (record { inside = record { in_height = omega arith; in_width = omega arith }; real = omega arith }) e
       at_left (inr rest) = inl rest
 
-      at_right : ((layer ≡ 1) × (i ≡ 1) × (d ≡ right_node dig b)) ⊎ (digest_at (finite.insert at_first.nodes (1, 0) (left_node dig b)) layer i ≡ Some d) → (held_at at_first layer i ≡ Some d) ⊎ (IsClaimed layer i d × CoversBlock 3 layer i)
-      at_right (inl e) = node 1 1 _ right (record { inside = record { in_height = omega arith; in_width = omega arith }; real = omega arith }) e
+      at_right : ((layer ≡ 1) × (i ≡ 1) × (d ≡ right_node dig b)) ⊎ (digest_at (finite.insert at_first.nodes (1, 0) (left_node dig b)) layer i ≡ Some d)
+          → (held_at at_first layer i ≡ Some d) ⊎ (IsClaimed layer i d × CoversBlock 3 layer i)
+      at_right (inl e) = node right (record { inside = record { in_height = omega arith; in_width = omega arith }; real = omega arith }) e
       at_right (inr rest) = at_left (digest_at_cases at_first.nodes 1 0 layer i (left_node dig b) d rest)
 
-      first : ((layer ≡ 0) × (i ≡ 0) × (d ≡ dig b.first)) ⊎ (digest_at nodes_above layer i ≡ Some d) → (held_at at_first layer i ≡ Some d) ⊎ (IsClaimed layer i d × CoversBlock 3 layer i)
-      first (inl e) = node 0 0 _ first_leaf (record { inside = record { in_height = omega arith; in_width = omega arith }; real = omega arith }) e
+      first : ((layer ≡ 0) × (i ≡ 0) × (d ≡ dig b.first)) ⊎ (digest_at nodes_above layer i ≡ Some d)
+          → (held_at at_first layer i ≡ Some d) ⊎ (IsClaimed layer i d × CoversBlock 3 layer i)
+      first (inl e) = node first_leaf (record { inside = record { in_height = omega arith; in_width = omega arith }; real = omega arith }) e
       first (inr rest) = at_right (digest_at_cases _ 1 1 layer i (right_node dig b) d rest)
 
-      second : ((layer ≡ 0) × (i ≡ 1) × (d ≡ dig b.second)) ⊎ (digest_at (finite.insert nodes_above (0, 0) (dig b.first)) layer i ≡ Some d) → (held_at at_first layer i ≡ Some d) ⊎ (IsClaimed layer i d × CoversBlock 3 layer i)
-      second (inl e) = node 0 1 _ second_leaf (record { inside = record { in_height = omega arith; in_width = omega arith }; real = omega arith }) e
+      second : ((layer ≡ 0) × (i ≡ 1) × (d ≡ dig b.second)) ⊎ (digest_at (finite.insert nodes_above (0, 0) (dig b.first)) layer i ≡ Some d)
+          → (held_at at_first layer i ≡ Some d) ⊎ (IsClaimed layer i d × CoversBlock 3 layer i)
+      second (inl e) = node second_leaf (record { inside = record { in_height = omega arith; in_width = omega arith }; real = omega arith }) e
       second (inr rest) = first (digest_at_cases nodes_above 0 0 layer i (dig b.first) d rest)
 
       third : ((layer ≡ 0) × (i ≡ 2) × (d ≡ dig b.third)) ⊎ (digest_at (finite.insert (finite.insert nodes_above (0, 0) (dig b.first)) (0, 1) (dig b.second)) layer i ≡ Some d)
           → (held_at at_first layer i ≡ Some d) ⊎ (IsClaimed layer i d × CoversBlock 3 layer i)
-      third (inl e) = node 0 2 _ third_leaf (record { inside = record { in_height = omega arith; in_width = omega arith }; real = omega arith }) e
+      third (inl e) = node third_leaf (record { inside = record { in_height = omega arith; in_width = omega arith }; real = omega arith }) e
       third (inr rest) = second (digest_at_cases _ 0 1 layer i (dig b.second) d rest)
 
   -- at first the root is held, and nothing else
-  only_root : (layer i : ℕ) (d : List ℕ) → held_at at_first layer i ≡ Some d → (layer ≡ 2) × (i ≡ 0) × (d ≡ three_root dig b)
+  only_root : {layer i d : _} → held_at at_first layer i ≡ Some d → (layer ≡ 2) × (i ≡ 0) × (d ≡ three_root dig b)
   unfolding height_up_to
-  only_root layer i d held = elim (digest_at_cases finite.empty 2 0 layer i (three_root dig b) d held) [
+  only_root {layer} {i} {d} held = elim (digest_at_cases finite.empty 2 0 layer i (three_root dig b) d held) [
     | inl e ↦ e
-    | inr none ↦ let wrong : None ≡ Some d = sym (digest_at_empty layer i) ∙ none in absurd cc
+    | inr none ↦ let wrong = sym (digest_at_empty layer i) ∙ none in absurd cc
   ]
 
   pub root_held : held_at at_first 2 0 ≡ Some (three_root dig b)
@@ -175,47 +169,32 @@ module _ (dig : List ℕ → List ℕ) (b : ThreeBlocks) where
 
   none_below : (layer i : ℕ) → layer < 2 → held_at at_first layer i ≡ None
   unfolding height_up_to
-  none_below layer i low = digest_at_other finite.empty 2 0 layer i (three_root dig b) (λ e f. absurd (omega (arith, low, e))) ∙ digest_at_empty layer i
+  none_below layer i low = digest_at_other finite.empty 2 0 layer i (three_root dig b) (λ e f. absurd (omega arith)) ∙ digest_at_empty layer i
 
   -- a claimed node is one of the claim
-  claim_is : (layer i : ℕ) (d : List ℕ) → IsClaimed layer i d → Claims dig leaves_claim layer i d
+  claim_is : {layer i d : _} → IsClaimed layer i d → Claims dig leaves_claim layer i d
   unfolding row_node
-  claim_is layer i d first_leaf = run_node_claims 0 0 (omega arith) refl
-  claim_is layer i d second_leaf = run_node_claims 0 1 (omega arith) refl
-  claim_is layer i d third_leaf = run_node_claims 0 2 (omega arith) refl
-  claim_is layer i d padding_leaf = run_node_claims 0 3 (omega arith) refl
-  claim_is layer i d left = run_node_claims 1 0 (omega arith) refl
-  claim_is layer i d right = run_node_claims 1 1 (omega arith) refl
-  claim_is layer i d top = run_node_claims 2 0 (omega arith) refl
+  claim_is first_leaf = run_node_claims (omega arith) refl
+  claim_is _ = run_node_claims (omega arith) refl
 
   -- ---- the proof of the leaves
 
-  pads : (layer i : ℕ) (d : List ℕ) → IsClaimed layer i d → IsPadding 3 layer i → d ≡ padding_digest dig layer
+  pads : {layer i d : _} → IsClaimed layer i d → IsPadding 3 layer i → d ≡ padding_digest dig layer
   unfolding padding_digest
-  pads layer i d first_leaf past = absurd (omega (arith, past.past))
-  pads layer i d second_leaf past = absurd (omega (arith, past.past))
-  pads layer i d third_leaf past = absurd (omega (arith, past.past))
-  pads layer i d padding_leaf past = refl
-  pads layer i d left past = absurd (omega (arith, past.past))
-  pads layer i d right past = absurd (omega (arith, past.past))
-  pads layer i d top past = absurd (omega (arith, past.past))
+  pads padding_leaf past = refl
+  pads _ past = absurd (omega arith)
 
-  same_root : (layer i : ℕ) (d : List ℕ) → IsClaimed layer i d → layer ≡ 2 → d ≡ three_root dig b
-  same_root layer i d first_leaf high = absurd (omega (arith, high))
-  same_root layer i d second_leaf high = absurd (omega (arith, high))
-  same_root layer i d third_leaf high = absurd (omega (arith, high))
-  same_root layer i d padding_leaf high = absurd (omega (arith, high))
-  same_root layer i d left high = absurd (omega (arith, high))
-  same_root layer i d right high = absurd (omega (arith, high))
-  same_root layer i d top high = refl
+  same_root : {layer i d : _} → IsClaimed layer i d → layer ≡ 2 → d ≡ three_root dig b
+  same_root top high = refl
+  same_root _ high = absurd (omega arith)
 
   pub acceptable : IsAcceptable dig at_first leaves_claim
   unfolding height_up_to path_digest row_node
   acceptable = record {
     shape = record { some = omega arith; power = refl; aligned = refl; in_width = omega arith; in_height = omega arith };
-    padding = λ layer i d claim past. pads layer i d (claimed layer i d claim) past;
+    padding = λ layer i d claim past. pads (claimed claim) past;
     top = root_held;
-    agrees = λ layer i d e claim held. let is = only_root layer i e held in is.2 ∙ sym (same_root layer i d (claimed layer i d claim) is.0);
+    agrees = λ layer i d e claim held. let is = only_root held in is.2 ∙ sym (same_root (claimed claim) is.0);
   }
 
   -- the claim reaches the root
@@ -229,10 +208,10 @@ module _ (dig : List ℕ → List ℕ) (b : ThreeBlocks) where
     file_length = refl;
     root = refl;
     kept = λ layer i d held.
-        let is = only_root layer i d held in
+        let is = only_root held in
         ap (λ l. held_at proved l i) is.0 ∙ ap (held_at proved 2) is.1 ∙ held_top ∙ ap (λ x. Some x) (sym is.2);
-    added = λ layer i d claim covers. held_claimed layer i d (claimed layer i d claim) covers;
-    only = λ layer i d held. elim (held_cases layer i d held) [ inl before ↦ inl before | inr now ↦ inr (claim_is layer i d now.0, now.1) ];
+    added = λ layer i d claim covers. held_claimed (claimed claim) covers;
+    only = λ layer i d held. elim (held_cases held) [ inl before ↦ inl before | inr now ↦ inr (claim_is now.0, now.1) ];
   }
 
   pub accepts : Accepts dig at_first leaves_claim proved
@@ -268,13 +247,13 @@ module _ (dig : List ℕ → List ℕ) (b : ThreeBlocks) where
   unfolding height_up_to
   plan = record {
     anchor = 2;
-    nearest = record { inside = omega arith; held = subst IsSome (sym root_held) refl; nearest = λ layer low. none_below layer (0 / 2 ^ layer) low };
+    nearest = record { inside = omega arith; held = subst IsSome (sym root_held) refl; nearest = λ layer low. none_below layer _ low };
     key_is = refl;
   }
 
 -- ---- the digests that come
 
-module _ (dig : List ℕ → List ℕ) (sizes : IsDigest dig) (b : ThreeBlocks) where
+module _ (dig : Digest) (sizes : IsDigest dig) (b : ThreeBlocks) where
   pub leaves_length : length (four_leaves dig b) ≡ 128
   leaves_length = omega (
     arith,
@@ -287,8 +266,8 @@ module _ (dig : List ℕ → List ℕ) (sizes : IsDigest dig) (b : ThreeBlocks) 
   )
 
   -- digests of 32 bytes, one after the other
-  next_chunks : (n : ℕ) (bytes d rest : List ℕ) → bytes ≡ d ++ rest → length d ≡ 32 → first_chunks 32 (suc n) bytes ≡ d ∷ first_chunks 32 n rest
-  next_chunks n bytes d rest is size =
+  next_chunks : (n : ℕ) {bytes d : _} (rest : List ℕ) → bytes ≡ d ++ rest → length d ≡ 32 → first_chunks 32 (suc n) bytes ≡ d ∷ first_chunks 32 n rest
+  next_chunks n {d} rest is size =
       ap (λ xs. first_chunks 32 (suc n) xs) is
       ∙ ap (λ x. x ∷ first_chunks 32 n (drop 32 (d ++ rest))) (take_at d rest 32 size)
       ∙ ap (λ xs. d ∷ first_chunks 32 n xs) (drop_at d rest 32 size)
@@ -297,9 +276,9 @@ module _ (dig : List ℕ → List ℕ) (sizes : IsDigest dig) (b : ThreeBlocks) 
   digests_are =
       let in_turn : four_leaves dig b ≡ dig b.first ++ (dig b.second ++ (dig b.third ++ zero_leaf)) = simp append_assoc in
       ap (λ n. first_chunks 32 (n / 32) (four_leaves dig b)) leaves_length
-      ∙ next_chunks 3 (four_leaves dig b) (dig b.first) (dig b.second ++ (dig b.third ++ zero_leaf)) in_turn (sizes b.first)
-      ∙ ap (λ xs. dig b.first ∷ xs) (next_chunks 2 _ (dig b.second) (dig b.third ++ zero_leaf) refl (sizes b.second)
-      ∙ ap (λ xs. dig b.second ∷ xs) (next_chunks 1 _ (dig b.third) zero_leaf refl (sizes b.third)))
+      ∙ next_chunks 3 _ in_turn (sizes b.first)
+      ∙ ap (λ xs. dig b.first ∷ xs) (next_chunks 2 _ refl (sizes b.second)
+      ∙ ap (λ xs. dig b.second ∷ xs) (next_chunks 1 _ refl (sizes b.third)))
 
   pub claims : IsClaimBy (leaves_key dig b) (four_leaves dig b) (leaves_claim dig b)
   unfolding height_up_to

@@ -1,59 +1,30 @@
 -- One proof settles the waiting blocks of two files.
-use Rattle.std.proofs.Common.{◌≡◌, ℕ, zero, suc, true, false, List, [], ◌∷◌, ◌++◌, Some, None, Ok, inl, inr, refl, sym, ap, ◌∙◌, arith}
-use Rattle.std.specs.Prelude.{slice_get, map, option_map, option_and_then}
-use Rattle.bt_tree.specs.NodeHash.{IsDigest}
-use Rattle.bt_disk.specs.Calls.{bytes_given}
-use Rattle.bt_store.specs.BlockReads.{BlockRead, given, block_of, is_right}
-use Rattle.bt_store.specs.declared.block_states.BlockState.{BlockState}
-use Rattle.bt_store.specs.declared.block_states.BlockState.TheVariants.{Missing, Waiting, Marked}
-use Rattle.bt_book.specs.declared.names.BlockId.{BlockId}
-use Rattle.bt_wire.specs.Cutter.{stream}
-use Rattle.bt_wire.specs.Message.{message_spelling}
-use Rattle.bt_wire.specs.declared.event.WireEvent.TheVariants.{Message as message_event}
-use Rattle.bt_wire.specs.declared.message.Message.TheVariants.{Have}
-use Rattle.bt_engine.specs.declared.answer.Note.{Note}
-use Rattle.bt_engine.specs.declared.answer.Note.TheVariants.{Marked as NowMarked, Complete}
-use Rattle.bt_engine.specs.State.{Idle, Asked, PeerState, FileState, EngineState}
-use Rattle.bt_engine.specs.Devices.{DeviceCalls}
-use Rattle.bt_engine.specs.Blocks.{block_id, state_at}
-use Rattle.bt_engine.specs.Output.{Output, no_effect}
-use Rattle.bt_engine.specs.Settling.{judged_file, due_blocks, settling_notes}
-use Rattle.bt_engine.specs.HashMessages.{learns, ours as resolved, new_proofs}
-use Rattle.bt_engine.specs.FollowUp.{NeedsLeaf, FollowsUp, rests}
-use Rattle.bt_engine.specs.Next.{StepNext, goes_on}
-use Rattle.bt_engine.specs.Peers.{feeds}
-use Rattle.bt_engine.specs.ExamplePeer.{first_key, all_taken, to_first}
-use Rattle.bt_engine.specs.ExampleThreeBlocks.{ThreeBlocks, AreWhole, leaves_key, four_leaves, leaves_message}
-use Rattle.bt_engine.specs.ExampleTwins.{twin_files, twin_engine, twin_peer, TwinFilesAreRun}
+use Rattle.bt_engine.proofs.Base.{◌≡◌, ℕ, zero, suc, true, false, List, [], ◌∷◌, ◌++◌, Some, None, Ok, inl, inr, refl, sym, ap, ◌∙◌, arith, slice_get, map, option_map, option_and_then, IsDigest, bytes_given, BlockRead, given, block_of, is_right, BlockState, Missing, Waiting, Marked, stream, message_spelling, Have}
+use Rattle.bt_engine.proofs.Machine.{Digest, Note, NowMarked, Complete, Idle, Asked, PeerState, FileState, EngineState, DeviceCalls, block_id, state_at, Output, no_effect, judged_file, due_blocks, settling_notes, learns, resolved, new_proofs, NeedsLeaf, FollowsUp, rests, StepNext, feeds, first_key, all_taken, to_first, ThreeBlocks, AreWhole, leaves_key, four_leaves, leaves_message, twin_files, twin_engine, twin_peer, TwinFilesAreRun}
 use Rattle.bt_engine.proofs.Lists.{some_is, contains_none}
 use Rattle.bt_engine.proofs.AnswerMarks.{right_true}
-use Rattle.bt_engine.proofs.ExamplePeer.{taken_message}
+use Rattle.bt_engine.proofs.ExamplePeer.{taken_message, went}
 use Rattle.bt_engine.proofs.ExampleThreeTree.{at_first, proved, leaves_claim, accepts, first_known, second_known, third_known, claims}
 use Rattle.bt_engine.proofs.ExampleThreeEngine.{key_fits, leaves_fit}
 
 -- each block that is there has the state of all
-same_state : (x y : BlockState) (file i : ℕ) → option_and_then (λ (f : FileState). slice_get f.states i) (slice_get (twin_files x) file) ≡ Some y → x ≡ y
-same_state x y zero zero e = some_is x y e
-same_state x y zero (suc zero) e = some_is x y e
-same_state x y zero (suc (suc zero)) e = some_is x y e
-same_state x y zero (suc (suc (suc i))) e = absurd cc
-same_state x y (suc zero) zero e = some_is x y e
-same_state x y (suc zero) (suc zero) e = some_is x y e
-same_state x y (suc zero) (suc (suc zero)) e = some_is x y e
-same_state x y (suc zero) (suc (suc (suc i))) e = absurd cc
-same_state x y (suc (suc file)) i e = absurd cc
+same_state : {x y : _} (file i : ℕ) → option_and_then (λ (f : FileState). slice_get f.states i) (slice_get (twin_files x) file) ≡ Some y → x ≡ y
+same_state zero (suc (suc (suc i))) e = absurd cc
+same_state (suc zero) (suc (suc (suc i))) e = absurd cc
+same_state (suc (suc file)) i e = absurd cc
+same_state _ _ e = some_is e
 
-module _ (dig : List ℕ → List ℕ) (b : ThreeBlocks) (infohash : List ℕ) where
+module _ (dig : Digest) (b : ThreeBlocks) (infohash : List ℕ) where
   abbrev settled : PeerState → EngineState
   settled p = twin_engine dig b infohash (proved dig b) Marked p
 
-  none_missing : (p : PeerState) (c : BlockId) → ¬ (state_at (settled p) c ≡ Some Missing)
-  none_missing p c e = let wrong = same_state Marked Missing c.file c.block e in absurd cc
+  none_missing : (p c : _) → ¬ (state_at (settled p) c ≡ Some Missing)
+  none_missing p c e = let wrong = same_state c.file c.block e in absurd cc
 
-  none_waiting : (p : PeerState) (c : BlockId) → ¬ (state_at (settled p) c ≡ Some Waiting)
-  none_waiting p c e = let wrong = same_state Marked Waiting c.file c.block e in absurd cc
+  none_waiting : (p c : _) → ¬ (state_at (settled p) c ≡ Some Waiting)
+  none_waiting p c e = let wrong = same_state c.file c.block e in absurd cc
 
-  no_need : (p q : PeerState) (c : BlockId) → ¬ NeedsLeaf dig (settled p) q c
+  no_need : (p q c : _) → ¬ NeedsLeaf dig (settled p) q c
   no_need p q c needs = elim needs.not_marked [ inl m ↦ none_missing p c m | inr w ↦ none_waiting p c w ]
 
   -- nothing more follows
@@ -73,8 +44,8 @@ module _ (dig : List ℕ → List ℕ) (b : ThreeBlocks) (infohash : List ℕ) w
         hashes = rests (λ idle c. no_need p p c) refl refl;
         asks = record {
           shut = λ _. refl;
-          are_open = λ c among. absurd (contains_none c among);
-          distinct = λ i j d lt below. absurd (omega (arith, lt, below));
+          are_open = λ c among. absurd (contains_none among);
+          distinct = λ i j d lt below. absurd (omega arith);
           few = omega arith;
           all = λ e f. absurd cc;
         };
@@ -97,13 +68,13 @@ module _ (dig : List ℕ → List ℕ) (b : ThreeBlocks) (infohash : List ℕ) w
   file_in x = record { tree = 0; states = x ∷ x ∷ x ∷ [] }
 
   first_right : AreWhole b → is_right dig (proved dig b) 0 b.first ≡ true
-  first_right whole = right_true dig (proved dig b) 0 b.first (record { whole = whole.first; leaf = first_known dig b })
+  first_right whole = right_true (record { whole = whole.first; leaf = first_known dig b })
 
   second_right : AreWhole b → is_right dig (proved dig b) 1 b.second ≡ true
-  second_right whole = right_true dig (proved dig b) 1 b.second (record { whole = whole.second; leaf = second_known dig b })
+  second_right whole = right_true (record { whole = whole.second; leaf = second_known dig b })
 
   third_right : AreWhole b → is_right dig (proved dig b) 2 b.third ≡ true
-  third_right whole = right_true dig (proved dig b) 2 b.third (record { whole = whole.third; leaf = third_known dig b })
+  third_right whole = right_true (record { whole = whole.third; leaf = third_known dig b })
 
   all_due : due_blocks dig (proved dig b) 0 0 4 (file_in Waiting) ≡ 0 ∷ 1 ∷ 2 ∷ []
   all_due = rw (first_known dig b, second_known dig b, third_known dig b) refl
@@ -131,67 +102,25 @@ module _ (dig : List ℕ → List ℕ) (b : ThreeBlocks) (infohash : List ℕ) w
   next_leaves : IsDigest dig → AreWhole b
       → StepNext dig (twin_engine dig b infohash (at_first dig b) Waiting asked) first_key calls (Ok (Some output)) (settled (twin_peer all_taken Idle))
   next_leaves sizes whole =
-      goes_on 0 asked output (record { here = refl; same_key = refl })
-      (record {
-        effect = record no_effect { notes = marks; proofs = new_proofs (leaves_key dig b) (four_leaves dig b) (at_first dig b) (proved dig b) };
-        mid = settled (twin_peer all_taken Idle);
-        sent = [];
-        takes = record {
-          event = message_event (leaves_message dig b);
-          rest = all_taken;
-          takes = taken_message (leaves_message dig b) (key_fits dig b infohash sizes) (leaves_fit dig b infohash sizes);
-          handles = learns (record {
-            tree = 0;
-            old = at_first dig b;
-            new = proved dig b;
-            claim = leaves_claim dig b;
-            notes = marks;
-            settled = settled (twin_peer all_taken (Asked (leaves_key dig b)));
-            hash = Idle;
-            here = record { here = refl; same_root = refl };
-            claims = claims dig sizes b;
-            accepts = accepts dig b;
-            settles = record {
-              facts = proved dig b;
-              reads = reads;
-              here = refl;
-              due = due;
-              made = refl;
-              noted = sym (ap (λ l. l ++ settling_notes dig (proved dig b) 1 read_back ++ []) (noted whole 0)
-                  ∙ ap (λ l. (NowMarked (block_id 0 0) ∷ NowMarked (block_id 0 1) ∷ NowMarked (block_id 0 2) ∷ []) ++ l ++ []) (noted whole 1));
-              files = files;
-              others = refl;
-            };
-            resolves = resolved refl refl;
-            has_effect = refl;
-            after = refl;
-          });
-        };
-        stays = refl;
-        follows = after_leaves;
-        send = refl;
-        close = refl;
-        notes = refl;
-      })
-      refl
+      went (record no_effect { notes = marks; proofs = new_proofs (leaves_key dig b) (four_leaves dig b) (at_first dig b) (proved dig b) }) (settled (twin_peer all_taken Idle)) refl refl refl (taken_message (key_fits dig b infohash sizes) (leaves_fit dig b infohash sizes)) (learns (record { tree = 0; old = at_first dig b; new = proved dig b; claim = leaves_claim dig b; notes = marks; settled = settled (twin_peer all_taken (Asked (leaves_key dig b))); hash = Idle; here = record { here = refl; same_root = refl }; claims = claims dig sizes b; accepts = accepts dig b; settles = record { facts = proved dig b; reads = reads; here = refl; due = due; made = refl; noted = sym (ap (λ l. l ++ settling_notes dig (proved dig b) 1 read_back ++ []) (noted whole 0) ∙ ap (λ l. (NowMarked (block_id 0 0) ∷ NowMarked (block_id 0 1) ∷ NowMarked (block_id 0 2) ∷ []) ++ l ++ []) (noted whole 1)); files = files; others = refl }; resolves = resolved refl refl; has_effect = refl; after = refl })) after_leaves refl refl
     where
-      due : (file : ℕ) (f : FileState) → slice_get (twin_files Waiting) file ≡ Some f → map block_of (reads file) ≡ due_blocks dig (proved dig b) 0 0 4 f
-      due zero f at = sym all_due ∙ ap (λ (g : FileState). due_blocks dig (proved dig b) 0 0 4 g) (some_is (file_in Waiting) f at)
-      due (suc zero) f at = sym all_due ∙ ap (λ (g : FileState). due_blocks dig (proved dig b) 0 0 4 g) (some_is (file_in Waiting) f at)
+      due : (file f : _) → slice_get (twin_files Waiting) file ≡ Some f → map block_of (reads file) ≡ due_blocks dig (proved dig b) 0 0 4 f
+      due zero f at = sym all_due ∙ ap (λ g. due_blocks dig (proved dig b) 0 0 4 g) (some_is at)
+      due (suc zero) f at = sym all_due ∙ ap (λ g. due_blocks dig (proved dig b) 0 0 4 g) (some_is at)
       due (suc (suc file)) f at = absurd cc
 
       files : (file : ℕ) → slice_get (twin_files Marked) file ≡ option_map (judged_file dig (proved dig b) (reads file)) (slice_get (twin_files Waiting) file)
-      files zero = ap (λ (g : FileState). Some g) (sym (judged_so whole))
-      files (suc zero) = ap (λ (g : FileState). Some g) (sym (judged_so whole))
+      files zero = ap (λ g. Some g) (sym (judged_so whole))
+      files (suc zero) = ap (λ g. Some g) (sym (judged_so whole))
       files (suc (suc file)) = refl
 
-pub twins_are_run : (dig : List ℕ → List ℕ) → IsDigest dig → TwinFilesAreRun dig
+pub twins_are_run : (dig : Digest) → IsDigest dig → TwinFilesAreRun dig
 twins_are_run dig sizes b infohash whole = record {
-  last = settled dig b infohash (twin_peer all_taken Idle);
+  last = settled dig b _ (twin_peer all_taken Idle);
   runs = (
-    twin_engine dig b infohash (at_first dig b) Waiting (asked dig b infohash),
+    _,
     (_, refl, refl, feeds 0 (twin_peer all_taken (Asked (leaves_key dig b))) (record { here = refl; same_key = refl }) refl refl),
-    (settled dig b infohash (twin_peer all_taken Idle), (_, refl, next_leaves dig b infohash sizes whole), refl),
+    (_, (_, refl, next_leaves dig b _ sizes whole), refl),
   );
   marked = refl;
   first_complete = refl;

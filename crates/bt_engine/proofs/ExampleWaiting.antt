@@ -1,47 +1,13 @@
 -- Blocks that come before the proof of their leaves wait, and are read back when it comes.
-use Rattle.std.proofs.Common.{◌≡◌, ◌∙◌, zero, suc, ◌≤◌, ◌⊎◌, not, true, false, List, [], ◌∷◌, ◌++◌, inl, inr, ℕ, Bool, length, Some, Ok, refl, sym, ap, subst, arith}
-use Rattle.std.specs.Prelude.{slice_get, Contains, map, option_map}
-use Rattle.std.proofs.lemmas.List.Sums.{length-filter, count_by-le-length}
-use Rattle.bt_tree.specs.NodeHash.{IsDigest}
-use Rattle.bt_sparse.specs.SparseTree.{value_at}
-use Rattle.bt_disk.specs.Calls.{bytes_given, bytes_written}
-use Rattle.bt_store.specs.BlockReads.{BlockRead, given, block_of, is_right}
-use Rattle.bt_store.specs.declared.block_states.BlockState.{BlockState}
-use Rattle.bt_store.specs.declared.block_states.BlockState.TheVariants.{Missing, Waiting, Marked}
-use Rattle.bt_store.specs.declared.arrival.Put.TheVariants.{Waiting as PutWaiting}
-use Rattle.bt_book.specs.declared.names.BlockId.{BlockId}
-use Rattle.bt_book.specs.Blocks.{is_block}
-use Rattle.bt_book.specs.Book.{without_block}
-use Rattle.bt_wire.specs.Cutter.{Stream, stream}
-use Rattle.bt_wire.specs.Handshake.{handshake_spelling}
-use Rattle.bt_wire.specs.Message.{message_spelling}
-use Rattle.bt_wire.specs.declared.event.WireEvent.TheVariants.{Message as message_event}
-use Rattle.bt_wire.specs.declared.message.Message.TheVariants.{Interested, NotInterested, Piece, HashRequest}
-use Rattle.bt_engine.specs.declared.answer.Note.{Note}
-use Rattle.bt_engine.specs.declared.answer.Note.TheVariants.{Marked as NowMarked, Waiting as NowWaiting, Freed}
-use Rattle.bt_engine.specs.declared.event.Event.{Event}
-use Rattle.bt_engine.specs.declared.event.Event.TheVariants.{Connect, Feed, Next}
-use Rattle.bt_engine.specs.State.{HashState, Idle, Asked, PeerState, FileState, EngineState}
-use Rattle.bt_engine.specs.Spans.{IsWholeBlock}
-use Rattle.bt_engine.specs.Output.{Sent, no_effect, noting}
-use Rattle.bt_engine.specs.Settling.{judged_file, due_blocks, settling_notes}
-use Rattle.bt_engine.specs.Request.{with_payload}
-use Rattle.bt_engine.specs.Arrival.{arrives}
-use Rattle.bt_engine.specs.HashMessages.{learns, ours as resolved, new_proofs}
-use Rattle.bt_engine.specs.FollowUp.{IsInteresting, IsOpen, FollowsUp, rests}
-use Rattle.bt_engine.specs.Next.{StepNext, goes_on}
-use Rattle.bt_engine.specs.Devices.{DeviceCalls}
-use Rattle.bt_engine.specs.Step.{Answer, Run}
-use Rattle.bt_engine.specs.ExampleWaiting.{IsWrongThird, waiting_events, waiting_calls, waiting_answers, settling_calls, settling_answers, WaitingFetchIsRun}
-use Rattle.bt_engine.specs.ExamplePeer.{first_key, peer_with, all_taken, their_handshake, bitfield_bytes, unchoke_bytes, to_first, joined_answer, fed_answer, taken_answer}
-use Rattle.bt_engine.specs.ExampleThreeBlocks.{ThreeBlocks, AreWhole, three_torrent, leaves_key, four_leaves, leaves_message, told, block_request}
+use Rattle.bt_engine.proofs.Base.{◌≡◌, ◌∙◌, zero, suc, ◌≤◌, ◌⊎◌, not, true, false, List, [], ◌∷◌, ◌++◌, inl, inr, ℕ, Bool, length, Some, Ok, refl, sym, ap, subst, arith, slice_get, Contains, map, option_map, length-filter, count_by-le-length, IsDigest, bytes_given, bytes_written, BlockRead, given, block_of, is_right, BlockState, Missing, Waiting, Marked, PutWaiting, BlockId, is_block, without_block, Stream, stream, handshake_spelling, message_spelling, Interested, NotInterested, Piece, HashRequest}
+use Rattle.bt_engine.proofs.Machine.{Digest, Note, NowMarked, NowWaiting, Freed, Event, Connect, Feed, Next, HashState, Idle, Asked, PeerState, FileState, EngineState, Sent, no_effect, noting, judged_file, due_blocks, settling_notes, learns, resolved, new_proofs, IsInteresting, IsOpen, FollowsUp, rests, StepNext, goes_on, DeviceCalls, Answer, Run, IsWrongThird, waiting_events, waiting_calls, waiting_answers, settling_calls, settling_answers, WaitingFetchIsRun, first_key, peer_with, all_taken, their_handshake, bitfield_bytes, unchoke_bytes, to_first, joined_answer, fed_answer, taken_answer, ThreeBlocks, AreWhole, leaves_key, four_leaves, leaves_message, told, block_request}
 use Rattle.bt_engine.proofs.Lists.{contains_none, contains_cases, contains_filter, here, later, same_some}
 use Rattle.bt_engine.proofs.Marks.{right_then}
 use Rattle.bt_engine.proofs.AnswerMarks.{right_true}
 use Rattle.bt_engine.proofs.Runs.{run_join}
-use Rattle.bt_engine.proofs.ExamplePeer.{one_there, taken_message, piece_fits}
+use Rattle.bt_engine.proofs.ExamplePeer.{one_there, taken_message, piece_fits, went, comes, fed_first}
 use Rattle.bt_engine.proofs.ExampleThreeTree.{at_first, proved, leaves_claim, accepts, first_unknown, second_unknown, third_unknown, first_known, second_known, third_known, claims}
-use Rattle.bt_engine.proofs.ExampleThreeEngine.{block, all_three, asked_peer, output_of, IsOne, first, second, third, engine, is_one, whole_first, whole_second, whole_third, needs_none, quietly, interesting, not_open, next_hello, next_bits, next_unchoke, key_fits, leaves_fit, fed_to, start, connects, starts}
+use Rattle.bt_engine.proofs.ExampleThreeEngine.{block, all_three, asked_peer, output_of, IsOne, first, second, third, engine, is_one, whole_first, whole_second, whole_third, needs_none, quietly, interesting, not_open, next_hello, next_bits, next_unchoke, key_fits, leaves_fit, start, connects, starts}
 
 abbrev pub left_one : List BlockId → List BlockId
 left_one asked = without_block (block 0) asked
@@ -55,42 +21,42 @@ pub record AreAsked (asked : List BlockId) : Type 0 where
   pub each : (c : BlockId) → Contains all_three c → Contains asked c
   pub among : (c : BlockId) → Contains asked c → Contains all_three c
 
-stays_asked : (c d : BlockId) (xs : List BlockId) → is_block c d ≡ false → Contains xs d → Contains (without_block c xs) d
-stays_asked c d [] e among = among
-stays_asked c d (x ∷ xs) e among = by (is_block c x) refl (stays_asked c d xs e)
+stays_asked : (c : _) {d : _} (xs : _) → is_block c d ≡ false → Contains xs d → Contains (without_block c xs) d
+stays_asked c [] e among = among
+stays_asked c {d} (x ∷ xs) e among = by _ refl (stays_asked c xs e)
   where
     by : (t : Bool) → is_block c x ≡ t → (Contains xs d → Contains (without_block c xs) d) → Contains (without_block c (x ∷ xs)) d
-    by true f tail = elim (contains_cases x d xs among) [
-      | inl same ↦ (let both : true ≡ false = sym f ∙ ap (is_block c) same ∙ e in absurd cc)
+    by true f tail = elim (contains_cases xs among) [
+      | inl same ↦ absurd cc
       | inr more ↦ rw f (tail more)
     ]
-    by false f tail = elim (contains_cases x d xs among) [ inl same ↦ rw f (here x d (without_block c xs) same) | inr more ↦ rw f (later x d (without_block c xs) (tail more)) ]
+    by false f tail = elim (contains_cases xs among) [ inl same ↦ rw f (here _ same) | inr more ↦ rw f (later x _ (tail more)) ]
 
-fewer : (c : BlockId) (xs : List BlockId) → length (without_block c xs) ≤ length xs
+fewer : (c xs : _) → length (without_block c xs) ≤ length xs
 fewer c xs = omega (arith, length-filter (λ d. not (is_block c d)) xs, count_by-le-length (λ d. not (is_block c d)) xs)
 
-none_within : (xs : List BlockId) → ((c : BlockId) → Contains xs c → ⊥) → xs ≡ []
+none_within : (xs : _) → ((c : BlockId) → Contains xs c → ⊥) → xs ≡ []
 none_within [] none = refl
-none_within (x ∷ xs) none = absurd (none x (here x x xs refl))
+none_within (x ∷ xs) none = absurd (none x (here xs refl))
 
-pub three_cases : (c : BlockId) → Contains all_three c → (c ≡ block 0) ⊎ (c ≡ block 1) ⊎ (c ≡ block 2)
-three_cases c among = elim (contains_cases (block 0) c (block 1 ∷ block 2 ∷ []) among) [
+pub three_cases : {c : _} → Contains all_three c → (c ≡ block 0) ⊎ (c ≡ block 1) ⊎ (c ≡ block 2)
+three_cases among = elim (contains_cases (block 1 ∷ block 2 ∷ []) among) [
   | inl e ↦ inl (sym e)
-  | inr more ↦ elim (contains_cases (block 1) c (block 2 ∷ []) more) [
+  | inr more ↦ elim (contains_cases (block 2 ∷ []) more) [
     | inl e ↦ inr (inl (sym e))
-    | inr last ↦ elim (contains_cases (block 2) c [] last) [ inl e ↦ inr (inr (sym e)) | inr none ↦ absurd (contains_none c none) ]
+    | inr last ↦ elim (contains_cases [] last) [ inl e ↦ inr (inr (sym e)) | inr none ↦ absurd (contains_none none) ]
   ]
 ]
 
-no_other : (c : BlockId) → Contains all_three c → not (is_block (block 0) c) ≡ true → not (is_block (block 1) c) ≡ true → not (is_block (block 2) c) ≡ true → ⊥
-no_other c among x y z = by (three_cases c among)
+no_other : {c : _} → Contains all_three c → not (is_block (block 0) c) ≡ true → not (is_block (block 1) c) ≡ true → not (is_block (block 2) c) ≡ true → ⊥
+no_other {c} among x y z = by (three_cases among)
   where
     by : (c ≡ block 0) ⊎ (c ≡ block 1) ⊎ (c ≡ block 2) → ⊥
     by (inl e) = let no = ap (λ d. not (is_block (block 0) d)) (sym e) ∙ x in absurd cc
     by (inr (inl e)) = let no = ap (λ d. not (is_block (block 1) d)) (sym e) ∙ y in absurd cc
     by (inr (inr e)) = let no = ap (λ d. not (is_block (block 2) d)) (sym e) ∙ z in absurd cc
 
-module _ (dig : List ℕ → List ℕ) (b : ThreeBlocks) (wrong : List ℕ) (infohash : List ℕ) where
+module _ (dig : Digest) (b : ThreeBlocks) (wrong : List ℕ) (infohash : List ℕ) where
   abbrev pub asked_key : HashState
   asked_key = Asked (leaves_key dig b)
 
@@ -101,8 +67,8 @@ module _ (dig : List ℕ → List ℕ) (b : ThreeBlocks) (wrong : List ℕ) (inf
   -- ---- the blocks wait
 
   -- nothing is missing, so nothing is of interest
-  none_missing : (p : PeerState) → ¬ IsInteresting (engine dig b infohash (at_first dig b) Waiting Waiting Waiting p) p
-  none_missing p i = never (is_one dig b infohash (at_first dig b) Waiting Waiting Waiting Missing p i.0 i.2)
+  none_missing : (p : _) → ¬ IsInteresting (engine dig b infohash (at_first dig b) Waiting Waiting Waiting p) p
+  none_missing p i = never (is_one dig b infohash (at_first dig b) p i.2)
     where
       never : IsOne Waiting Waiting Waiting i.0 Missing → ⊥
       never (first e f) = absurd cc
@@ -115,171 +81,82 @@ module _ (dig : List ℕ → List ℕ) (b : ThreeBlocks) (wrong : List ℕ) (inf
   after_third : FollowsUp dig (engine dig b infohash (at_first dig b) Waiting Waiting Waiting (asked_peer asked_key [] 49152)) 0 (to_first NotInterested ∷ []) (engine dig b infohash (at_first dig b) Waiting Waiting Waiting (idle_peer all_taken asked_key))
   after_third =
       let p = asked_peer asked_key [] 49152 in
-      quietly dig b infohash (at_first dig b) Waiting Waiting Waiting p (idle_peer all_taken asked_key) (to_first NotInterested ∷ []) refl (λ e. absurd cc, λ i. absurd (none_missing p i)) refl
+      quietly dig b _ refl (λ e. absurd cc, λ i. absurd (none_missing p i)) refl
       (λ idle. asked_already idle) (λ e f. absurd cc) (omega arith)
 
   -- ---- whichever way the three are asked
 
-  module _ (asked : List BlockId) (all : AreAsked asked) where
+  module _ {asked : List BlockId} (all : AreAsked asked) where
     few_one : length (left_one asked) ≤ length asked
-    few_one = fewer (block 0) asked
+    few_one = fewer _ asked
 
     few_two : length (left_two asked) ≤ length (left_one asked)
-    few_two = fewer (block 1) (left_one asked)
+    few_two = fewer _ _
 
     second_left : Contains (left_one asked) (block 1)
-    second_left = stays_asked (block 0) (block 1) asked refl (all.each (block 1) (1, omega arith, refl))
+    second_left = stays_asked _ asked refl (all.each (block 1) (1, omega arith, refl))
 
     third_left : Contains (left_one asked) (block 2)
-    third_left = stays_asked (block 0) (block 2) asked refl (all.each (block 2) (2, omega arith, refl))
+    third_left = stays_asked _ asked refl (all.each (block 2) (2, omega arith, refl))
 
     third_last : Contains (left_two asked) (block 2)
-    third_last = stays_asked (block 1) (block 2) (left_one asked) refl third_left
+    third_last = stays_asked _ _ refl third_left
 
     none_left : without_block (block 2) (left_two asked) ≡ []
-    none_left = none_within (without_block (block 2) (left_two asked)) (λ c among. (
-        let x = contains_filter (λ d. not (is_block (block 2) d)) (left_two asked) c among in
-        let y = contains_filter (λ d. not (is_block (block 1) d)) (left_one asked) c x.0 in
-        let z = contains_filter (λ d. not (is_block (block 0) d)) asked c y.0 in
-        no_other c (all.among c z.0) z.1 y.1 x.1
+    none_left = none_within _ (λ c among. (
+        let x = contains_filter (λ d. not (is_block (block 2) d)) _ among in
+        let y = contains_filter (λ d. not (is_block (block 1) d)) _ x.0 in
+        let z = contains_filter (λ d. not (is_block (block 0) d)) asked y.0 in
+        no_other (all.among c z.0) z.1 y.1 x.1
         ))
 
     after_first : FollowsUp dig (engine dig b infohash (at_first dig b) Waiting Missing Missing (asked_peer asked_key (left_one asked) 16384)) 0 [] (engine dig b infohash (at_first dig b) Waiting Missing Missing (asked_peer asked_key (left_one asked) 16384))
     after_first =
         let p = asked_peer asked_key (left_one asked) 16384 in
-        quietly dig b infohash (at_first dig b) Waiting Missing Missing p p [] refl (λ e. interesting dig b infohash (at_first dig b) Waiting Missing Missing p (block 1) refl refl refl, λ i. refl) refl
-        (λ idle. asked_already idle) (λ e f c may. none c (is_one dig b infohash (at_first dig b) Waiting Missing Missing Missing p c may.missing) may) (omega (arith, few_one, all.few))
+        quietly dig b infohash refl (λ e. interesting dig b infohash (at_first dig b) Waiting Missing Missing p (block 1) refl refl refl, λ i. refl) refl
+        (λ idle. asked_already idle) (λ e f c may. none (is_one dig b infohash (at_first dig b) p may.missing) may) (omega (arith, few_one))
       where
-        none : (c : BlockId) → IsOne Waiting Missing Missing c Missing → ¬ IsOpen (engine dig b infohash (at_first dig b) Waiting Missing Missing (asked_peer asked_key (left_one asked) 16384)) (asked_peer asked_key (left_one asked) 16384) c
-        none c (first e f) may = absurd cc
-        none c (second e f) may = not_open dig b infohash _ _ _ _ (asked_peer asked_key (left_one asked) 16384) c (subst (λ d. Contains (left_one asked) d) (sym e) second_left) may
-        none c (third e f) may = not_open dig b infohash _ _ _ _ (asked_peer asked_key (left_one asked) 16384) c (subst (λ d. Contains (left_one asked) d) (sym e) third_left) may
+        none : {c : _} → IsOne Waiting Missing Missing c Missing
+            → ¬ IsOpen (engine dig b infohash (at_first dig b) Waiting Missing Missing (asked_peer asked_key (left_one asked) 16384)) (asked_peer asked_key (left_one asked) 16384) c
+        none (first e f) may = absurd cc
+        none (second e f) may = not_open dig b infohash _ _ _ _ (asked_peer asked_key (left_one asked) 16384) (rw e second_left) may
+        none (third e f) may = not_open dig b infohash _ _ _ _ (asked_peer asked_key (left_one asked) 16384) (rw e third_left) may
 
     after_second : FollowsUp dig (engine dig b infohash (at_first dig b) Waiting Waiting Missing (asked_peer asked_key (left_two asked) 32768)) 0 [] (engine dig b infohash (at_first dig b) Waiting Waiting Missing (asked_peer asked_key (left_two asked) 32768))
     after_second =
         let p = asked_peer asked_key (left_two asked) 32768 in
-        quietly dig b infohash (at_first dig b) Waiting Waiting Missing p p [] refl (λ e. interesting dig b infohash (at_first dig b) Waiting Waiting Missing p (block 2) refl refl refl, λ i. refl) refl
-        (λ idle. asked_already idle) (λ e f c may. none c (is_one dig b infohash (at_first dig b) Waiting Waiting Missing Missing p c may.missing) may) (omega (arith, few_one, few_two, all.few))
+        quietly dig b infohash refl (λ e. interesting dig b infohash (at_first dig b) Waiting Waiting Missing p (block 2) refl refl refl, λ i. refl) refl
+        (λ idle. asked_already idle) (λ e f c may. none (is_one dig b infohash (at_first dig b) p may.missing) may) (omega (arith, few_one, few_two))
       where
-        none : (c : BlockId) → IsOne Waiting Waiting Missing c Missing → ¬ IsOpen (engine dig b infohash (at_first dig b) Waiting Waiting Missing (asked_peer asked_key (left_two asked) 32768)) (asked_peer asked_key (left_two asked) 32768) c
-        none c (first e f) may = absurd cc
-        none c (second e f) may = absurd cc
-        none c (third e f) may = not_open dig b infohash _ _ _ _ (asked_peer asked_key (left_two asked) 32768) c (subst (λ d. Contains (left_two asked) d) (sym e) third_last) may
+        none : {c : _} → IsOne Waiting Waiting Missing c Missing
+            → ¬ IsOpen (engine dig b infohash (at_first dig b) Waiting Waiting Missing (asked_peer asked_key (left_two asked) 32768)) (asked_peer asked_key (left_two asked) 32768) c
+        none (first e f) may = absurd cc
+        none (second e f) may = absurd cc
+        none (third e f) may = not_open dig b infohash _ _ _ _ (asked_peer asked_key (left_two asked) 32768) (rw e third_last) may
 
-    next_first : length b.first ≡ 16384 → StepNext dig (engine dig b infohash (at_first dig b) Missing Missing Missing (peer_with (stream (message_spelling (Piece 0 0 b.first)) true false) true false true asked_key asked 0)) first_key ((0, bytes_written 0 b.first) ∷ [])
-        (Ok (Some (output_of [] (NowWaiting (block 0) ∷ [])))) (engine dig b infohash (at_first dig b) Waiting Missing Missing (asked_peer asked_key (left_one asked) 16384))
+    next_first : length b.first ≡ 16384
+        → StepNext dig (engine dig b infohash (at_first dig b) Missing Missing Missing (peer_with (stream (message_spelling (Piece 0 0 b.first)) true false) true false true asked_key asked 0)) first_key ((0, bytes_written 0 b.first) ∷ []) (Ok (Some (output_of [] (NowWaiting (block 0) ∷ [])))) (engine dig b infohash (at_first dig b) Waiting Missing Missing (asked_peer asked_key (left_one asked) 16384))
     next_first size =
-        goes_on 0 (peer_with (stream (message_spelling (Piece 0 0 b.first)) true false) true false true asked_key asked 0) (output_of [] (NowWaiting (block 0) ∷ [])) (record { here = refl; same_key = refl })
-        (record {
-          effect = noting (NowWaiting (block 0));
-          mid = engine dig b infohash (at_first dig b) Waiting Missing Missing (asked_peer asked_key (left_one asked) 16384);
-          sent = [];
-          takes = record {
-            event = message_event (Piece 0 0 b.first);
-            rest = all_taken;
-            takes = taken_message (Piece 0 0 b.first) (omega arith, omega arith) (piece_fits 0 b.first size);
-            handles = arrives (record {
-              block = block 0;
-              stored = engine dig b infohash (at_first dig b) Waiting Missing Missing (asked_peer asked_key asked 0);
-              whole = subst (λ n. IsWholeBlock (three_torrent dig b infohash) 0 0 n (block 0)) (sym size) (whole_first dig b infohash);
-              asked = all.each (block 0) (0, omega arith, refl);
-              puts = record {
-                file = record { tree = 0; states = Missing ∷ Missing ∷ Missing ∷ [] };
-                tree = at_first dig b;
-                result = Ok PutWaiting;
-                is_file = record { here = refl; hung = refl };
-                due = (record { inside = omega arith; whole = size }, refl, first_unknown dig b);
-                made = refl;
-                has_effect = refl;
-                after = refl;
-              };
-              after = ap (λ n. engine dig b infohash (at_first dig b) Waiting Missing Missing (with_payload n (asked_peer asked_key (left_one asked) 0))) (sym size);
-            });
-          };
-          stays = refl;
-          follows = after_first;
-          send = refl;
-          close = refl;
-          notes = refl;
-        })
-        refl
+        went (noting (NowWaiting (block 0))) (engine dig b _ (at_first dig b) Waiting Missing Missing (asked_peer asked_key (left_one asked) 16384))
+        refl refl refl (taken_message (omega arith, omega arith) (piece_fits 0 size))
+        (comes (Ok PutWaiting) (whole_first dig b infohash) size (all.each (block 0) (0, omega arith, refl)) refl refl (record { inside = omega arith; whole = size }, refl, first_unknown dig b) refl refl refl)
+        after_first refl refl
 
-    next_second : length b.second ≡ 16384 → StepNext dig (engine dig b infohash (at_first dig b) Waiting Missing Missing (peer_with (stream (message_spelling (Piece 0 16384 b.second)) true false) true false true asked_key (left_one asked) 16384)) first_key ((0, bytes_written 16384 b.second) ∷ [])
-        (Ok (Some (output_of [] (NowWaiting (block 1) ∷ [])))) (engine dig b infohash (at_first dig b) Waiting Waiting Missing (asked_peer asked_key (left_two asked) 32768))
+    next_second : length b.second ≡ 16384
+        → StepNext dig (engine dig b infohash (at_first dig b) Waiting Missing Missing (peer_with (stream (message_spelling (Piece 0 16384 b.second)) true false) true false true asked_key (left_one asked) 16384)) first_key ((0, bytes_written 16384 b.second) ∷ []) (Ok (Some (output_of [] (NowWaiting (block 1) ∷ [])))) (engine dig b infohash (at_first dig b) Waiting Waiting Missing (asked_peer asked_key (left_two asked) 32768))
     next_second size =
-        goes_on 0 (peer_with (stream (message_spelling (Piece 0 16384 b.second)) true false) true false true asked_key (left_one asked) 16384) (output_of [] (NowWaiting (block 1) ∷ [])) (record { here = refl; same_key = refl })
-        (record {
-          effect = noting (NowWaiting (block 1));
-          mid = engine dig b infohash (at_first dig b) Waiting Waiting Missing (asked_peer asked_key (left_two asked) 32768);
-          sent = [];
-          takes = record {
-            event = message_event (Piece 0 16384 b.second);
-            rest = all_taken;
-            takes = taken_message (Piece 0 16384 b.second) (omega arith, omega arith) (piece_fits 16384 b.second size);
-            handles = arrives (record {
-              block = block 1;
-              stored = engine dig b infohash (at_first dig b) Waiting Waiting Missing (asked_peer asked_key (left_one asked) 16384);
-              whole = subst (λ n. IsWholeBlock (three_torrent dig b infohash) 0 16384 n (block 1)) (sym size) (whole_second dig b infohash);
-              asked = second_left;
-              puts = record {
-                file = record { tree = 0; states = Waiting ∷ Missing ∷ Missing ∷ [] };
-                tree = at_first dig b;
-                result = Ok PutWaiting;
-                is_file = record { here = refl; hung = refl };
-                due = (record { inside = omega arith; whole = size }, refl, second_unknown dig b);
-                made = refl;
-                has_effect = refl;
-                after = refl;
-              };
-              after = ap (λ n. engine dig b infohash (at_first dig b) Waiting Waiting Missing (with_payload n (asked_peer asked_key (left_two asked) 16384))) (sym size);
-            });
-          };
-          stays = refl;
-          follows = after_second;
-          send = refl;
-          close = refl;
-          notes = refl;
-        })
-        refl
+        went (noting (NowWaiting (block 1))) (engine dig b _ (at_first dig b) Waiting Waiting Missing (asked_peer asked_key (left_two asked) 32768))
+        refl refl refl (taken_message (omega arith, omega arith) (piece_fits 16384 size))
+        (comes (Ok PutWaiting) (whole_second dig b infohash) size second_left refl refl (record { inside = omega arith; whole = size }, refl, second_unknown dig b) refl refl refl)
+        after_second refl refl
 
-    next_third : length wrong ≡ 16384 → StepNext dig (engine dig b infohash (at_first dig b) Waiting Waiting Missing (peer_with (stream (message_spelling (Piece 0 32768 wrong)) true false) true false true asked_key (left_two asked) 32768)) first_key ((0, bytes_written 32768 wrong) ∷ [])
-        (Ok (Some (output_of (to_first NotInterested ∷ []) (NowWaiting (block 2) ∷ [])))) (engine dig b infohash (at_first dig b) Waiting Waiting Waiting (idle_peer all_taken asked_key))
+    next_third : length wrong ≡ 16384
+        → StepNext dig (engine dig b infohash (at_first dig b) Waiting Waiting Missing (peer_with (stream (message_spelling (Piece 0 32768 wrong)) true false) true false true asked_key (left_two asked) 32768)) first_key ((0, bytes_written 32768 wrong) ∷ []) (Ok (Some (output_of (to_first NotInterested ∷ []) (NowWaiting (block 2) ∷ [])))) (engine dig b infohash (at_first dig b) Waiting Waiting Waiting (idle_peer all_taken asked_key))
     next_third size =
-        goes_on 0 (peer_with (stream (message_spelling (Piece 0 32768 wrong)) true false) true false true asked_key (left_two asked) 32768) (output_of (to_first NotInterested ∷ []) (NowWaiting (block 2) ∷ [])) (record { here = refl; same_key = refl })
-        (record {
-          effect = noting (NowWaiting (block 2));
-          mid = engine dig b infohash (at_first dig b) Waiting Waiting Waiting (asked_peer asked_key [] 49152);
-          sent = (to_first NotInterested ∷ []);
-          takes = record {
-            event = message_event (Piece 0 32768 wrong);
-            rest = all_taken;
-            takes = taken_message (Piece 0 32768 wrong) (omega arith, omega arith) (piece_fits 32768 wrong size);
-            handles = arrives (record {
-              block = block 2;
-              stored = engine dig b infohash (at_first dig b) Waiting Waiting Waiting (asked_peer asked_key (left_two asked) 32768);
-              whole = subst (λ n. IsWholeBlock (three_torrent dig b infohash) 0 32768 n (block 2)) (sym size) (whole_third dig b infohash);
-              asked = third_last;
-              puts = record {
-                file = record { tree = 0; states = Waiting ∷ Waiting ∷ Missing ∷ [] };
-                tree = at_first dig b;
-                result = Ok PutWaiting;
-                is_file = record { here = refl; hung = refl };
-                due = (record { inside = omega arith; whole = size }, refl, third_unknown dig b);
-                made = refl;
-                has_effect = refl;
-                after = refl;
-              };
-              after = ap (λ l. engine dig b infohash (at_first dig b) Waiting Waiting Waiting (asked_peer asked_key l 49152)) (sym none_left)
-                  ∙ ap (λ n. engine dig b infohash (at_first dig b) Waiting Waiting Waiting (with_payload n (asked_peer asked_key (without_block (block 2) (left_two asked)) 32768))) (sym size);
-            });
-          };
-          stays = refl;
-          follows = after_third;
-          send = refl;
-          close = refl;
-          notes = refl;
-        })
-        refl
+        went (noting (NowWaiting (block 2))) (engine dig b _ (at_first dig b) Waiting Waiting Waiting (asked_peer asked_key [] 49152)) refl refl refl
+        (taken_message (omega arith, omega arith) (piece_fits 32768 size))
+        (comes (Ok PutWaiting) (whole_third dig b infohash) size third_last refl refl (record { inside = omega arith; whole = size }, refl, third_unknown dig b) refl refl (ap (λ l. engine dig b infohash (at_first dig b) Waiting Waiting Waiting (asked_peer asked_key l 49152)) (sym none_left)))
+        after_third refl refl
 
   -- ---- they are read back
 
@@ -294,42 +171,44 @@ module _ (dig : List ℕ → List ℕ) (b : ThreeBlocks) (wrong : List ℕ) (inf
   waiting_file = record { tree = 0; states = Waiting ∷ Waiting ∷ Waiting ∷ [] }
 
   first_right : AreWhole b → is_right dig (proved dig b) 0 b.first ≡ true
-  first_right whole = right_true dig (proved dig b) 0 b.first (record { whole = whole.first; leaf = first_known dig b })
+  first_right whole = right_true (record { whole = whole.first; leaf = first_known dig b })
 
   second_right : AreWhole b → is_right dig (proved dig b) 1 b.second ≡ true
-  second_right whole = right_true dig (proved dig b) 1 b.second (record { whole = whole.second; leaf = second_known dig b })
+  second_right whole = right_true (record { whole = whole.second; leaf = second_known dig b })
 
   third_wrong : IsWrongThird dig b wrong → is_right dig (proved dig b) 2 wrong ≡ false
-  third_wrong other = by (is_right dig (proved dig b) 2 wrong) refl
+  third_wrong other = by _ refl
     where
       by : (x : Bool) → is_right dig (proved dig b) 2 wrong ≡ x → x ≡ false
-      by true e = absurd (other.differs (same_some (value_at dig (proved dig b) 0 2) (dig wrong) (dig b.third) (right_then dig (proved dig b) 2 wrong e).leaf (third_known dig b)))
+      by true e = absurd (other.differs (same_some (right_then e).leaf (third_known dig b)))
       by false e = refl
 
   all_due : due_blocks dig (proved dig b) 0 0 4 waiting_file ≡ 0 ∷ 1 ∷ 2 ∷ []
   all_due = rw (first_known dig b, second_known dig b, third_known dig b) refl
 
-  noted : AreWhole b → IsWrongThird dig b wrong → settling_notes dig (proved dig b) 0 read_back ≡ NowMarked (block 0) ∷ NowMarked (block 1) ∷ Freed (block 2) ∷ []
+  noted : AreWhole b → IsWrongThird dig b wrong
+      → settling_notes dig (proved dig b) 0 read_back ≡ NowMarked (block 0) ∷ NowMarked (block 1) ∷ Freed (block 2) ∷ []
   noted whole other = rw (first_right whole, second_right whole, third_wrong other) refl
 
-  judged_so : AreWhole b → IsWrongThird dig b wrong → judged_file dig (proved dig b) read_back waiting_file ≡ record { tree = 0; states = Marked ∷ Marked ∷ Missing ∷ [] }
+  judged_so : AreWhole b → IsWrongThird dig b wrong
+      → judged_file dig (proved dig b) read_back waiting_file ≡ record { tree = 0; states = Marked ∷ Marked ∷ Missing ∷ [] }
   judged_so whole other = rw (first_right whole, second_right whole, third_wrong other) refl
 
   abbrev pub settled : PeerState → EngineState
   settled p = engine dig b infohash (proved dig b) Marked Marked Missing p
 
-  pub only_third : (p : PeerState) (c : BlockId) → IsOne Marked Marked Missing c Missing → Contains (block 2 ∷ []) c
-  only_third p c (first e f) = absurd cc
-  only_third p c (second e f) = absurd cc
-  only_third p c (third e f) = (0, omega arith, sym e)
+  pub only_third : (p : PeerState) {c : _} → IsOne Marked Marked Missing c Missing → Contains (block 2 ∷ []) c
+  only_third p (first e f) = absurd cc
+  only_third p (second e f) = absurd cc
+  only_third p (third e f) = (0, omega arith, sym e)
 
   third_open : IsOpen (settled (idle_peer all_taken Idle)) (asked_peer Idle [] 49152) (block 2)
   third_open = record {
     has = refl;
     missing = refl;
-    free = λ asked. elim (contains_cases (idle_peer all_taken Idle) asked.0 [] asked.1) [
-      | inl same ↦ contains_none (block 2) (subst (λ (q : PeerState). Contains q.asked (block 2)) (sym same) asked.2)
-      | inr more ↦ contains_none asked.0 more
+    free = λ asked. elim (contains_cases [] asked.1) [
+      | inl same ↦ contains_none (subst (λ q. Contains q.asked (block 2)) (sym same) asked.2)
+      | inr more ↦ contains_none more
     ];
   }
 
@@ -353,13 +232,13 @@ module _ (dig : List ℕ → List ℕ) (b : ThreeBlocks) (wrong : List ℕ) (inf
         hashes = rests (λ idle c. needs_none dig b infohash Marked Marked Missing p q c) refl refl;
         asks = record {
           shut = λ x. elim x [ inl e ↦ absurd cc | inr e ↦ absurd cc ];
-          are_open = λ c among. elim (contains_cases (block 2) c [] among) [
-            | inl same ↦ subst (λ x. IsOpen (settled p) q x) same third_open
-            | inr none ↦ absurd (contains_none c none)
+          are_open = λ c among. elim (contains_cases [] among) [
+            | inl same ↦ rw (← same) third_open
+            | inr none ↦ absurd (contains_none none)
           ];
-          distinct = λ i j d lt below. absurd (omega (arith, lt, below));
+          distinct = λ i j d lt below. absurd (omega arith);
           few = omega arith;
-          all = λ e f. inr (λ c may. only_third p c (is_one dig b infohash (proved dig b) Marked Marked Missing Missing p c may.missing));
+          all = λ e f. inr (λ c may. only_third p (is_one dig b infohash (proved dig b) p may.missing));
         };
         requests = (to_first (block_request 32768), [], record { ask = record { piece = 0; begin = 32768; length = 16384 }; whole = whole_third dig b infohash; is = refl }, refl, refl);
         all = refl;
@@ -369,58 +248,18 @@ module _ (dig : List ℕ → List ℕ) (b : ThreeBlocks) (wrong : List ℕ) (inf
   abbrev settling_notes_are : List Note
   settling_notes_are = NowMarked (block 0) ∷ NowMarked (block 1) ∷ Freed (block 2) ∷ []
 
-  next_leaves : IsDigest dig → AreWhole b → IsWrongThird dig b wrong → StepNext dig (engine dig b infohash (at_first dig b) Waiting Waiting Waiting (idle_peer (stream (message_spelling (leaves_message dig b)) true false) asked_key)) first_key
-      ((0, bytes_given 0 16384 b.first) ∷ (0, bytes_given 16384 16384 b.second) ∷ (0, bytes_given 32768 16384 wrong) ∷ []) (Ok (Some (output_of asks_third settling_notes_are))) (settled (asked_peer Idle (block 2 ∷ []) 49152))
+  next_leaves : IsDigest dig → AreWhole b → IsWrongThird dig b wrong
+      → StepNext dig (engine dig b infohash (at_first dig b) Waiting Waiting Waiting (idle_peer (stream (message_spelling (leaves_message dig b)) true false) asked_key)) first_key ((0, bytes_given 0 16384 b.first) ∷ (0, bytes_given 16384 16384 b.second) ∷ (0, bytes_given 32768 16384 wrong) ∷ []) (Ok (Some (output_of asks_third settling_notes_are))) (settled (asked_peer Idle (block 2 ∷ []) 49152))
   next_leaves sizes whole other =
-      goes_on 0 (idle_peer (stream (message_spelling (leaves_message dig b)) true false) asked_key) (output_of asks_third settling_notes_are) (record { here = refl; same_key = refl })
-      (record {
-        effect = record no_effect { notes = settling_notes_are; proofs = new_proofs (leaves_key dig b) (four_leaves dig b) (at_first dig b) (proved dig b) };
-        mid = settled (idle_peer all_taken Idle);
-        sent = asks_third;
-        takes = record {
-          event = message_event (leaves_message dig b);
-          rest = all_taken;
-          takes = taken_message (leaves_message dig b) (key_fits dig b infohash sizes) (leaves_fit dig b infohash sizes);
-          handles = learns (record {
-            tree = 0;
-            old = at_first dig b;
-            new = proved dig b;
-            claim = leaves_claim dig b;
-            notes = settling_notes_are;
-            settled = settled (idle_peer all_taken asked_key);
-            hash = Idle;
-            here = record { here = refl; same_root = refl };
-            claims = claims dig sizes b;
-            accepts = accepts dig b;
-            settles = record {
-              facts = proved dig b;
-              reads = reads;
-              here = refl;
-              due = due;
-              made = refl;
-              noted = sym (ap (λ l. l ++ []) (noted whole other));
-              files = files;
-              others = refl;
-            };
-            resolves = resolved refl refl;
-            has_effect = refl;
-            after = refl;
-          });
-        };
-        stays = refl;
-        follows = after_leaves;
-        send = refl;
-        close = refl;
-        notes = refl;
-      })
-      refl
+      went (record no_effect { notes = settling_notes_are; proofs = new_proofs (leaves_key dig b) (four_leaves dig b) (at_first dig b) (proved dig b) }) (settled (idle_peer all_taken Idle)) refl refl refl (taken_message (key_fits dig b infohash sizes) (leaves_fit dig b infohash sizes)) (learns (record { tree = 0; old = at_first dig b; new = proved dig b; claim = leaves_claim dig b; notes = settling_notes_are; settled = settled (idle_peer all_taken asked_key); hash = Idle; here = record { here = refl; same_root = refl }; claims = claims dig sizes b; accepts = accepts dig b; settles = record { facts = proved dig b; reads = reads; here = refl; due = due; made = refl; noted = sym (ap (λ l. l ++ []) (noted whole other)); files = files; others = refl }; resolves = resolved refl refl; has_effect = refl; after = refl })) after_leaves refl refl
     where
-      due : (file : ℕ) (f : FileState) → slice_get (waiting_file ∷ []) file ≡ Some f → map block_of (reads file) ≡ due_blocks dig (proved dig b) 0 0 4 f
-      due zero f at = sym all_due ∙ ap (λ (g : FileState). due_blocks dig (proved dig b) 0 0 4 g) (one_there waiting_file f 0 at).1
+      due : (file f : _) → slice_get (waiting_file ∷ []) file ≡ Some f → map block_of (reads file) ≡ due_blocks dig (proved dig b) 0 0 4 f
+      due zero f at = sym all_due ∙ ap (λ g. due_blocks dig (proved dig b) 0 0 4 g) (one_there 0 at).1
       due (suc file) f at = absurd cc
 
-      files : (file : ℕ) → slice_get ((record { tree = 0; states = Marked ∷ Marked ∷ Missing ∷ [] }) ∷ []) file ≡ option_map (judged_file dig (proved dig b) (reads file)) (slice_get (waiting_file ∷ []) file)
-      files zero = ap (λ (g : FileState). Some g) (sym (judged_so whole other))
+      files : (file : ℕ)
+          → slice_get ((record { tree = 0; states = Marked ∷ Marked ∷ Missing ∷ [] }) ∷ []) file ≡ option_map (judged_file dig (proved dig b) (reads file)) (slice_get (waiting_file ∷ []) file)
+      files zero = ap (λ g. Some g) (sym (judged_so whole other))
       files (suc file) = refl
 
   -- ---- the runs
@@ -440,23 +279,23 @@ module _ (dig : List ℕ → List ℕ) (b : ThreeBlocks) (wrong : List ℕ) (inf
 
   pub begins : length infohash ≡ 32 → Run dig (start dig b infohash) begin_events ([] ∷ [] ∷ [] ∷ [] ∷ [] ∷ [] ∷ []) begin_answers before_unchoke
   begins size = (
-    first_state Missing Missing Missing (peer_with (stream [] false false) false true false Idle [] 0),
-    (_, refl, refl, connects dig b infohash),
+    _,
+    (_, refl, refl, connects dig b _),
     (
-      first_state Missing Missing Missing (peer_with (stream (handshake_spelling (their_handshake infohash)) false false) false true false Idle [] 0),
-      (_, refl, refl, fed_to dig b infohash (at_first dig b) Missing Missing Missing (peer_with (stream [] false false) false true false Idle [] 0) (handshake_spelling (their_handshake infohash)) refl refl),
+      _,
+      (_, refl, refl, fed_first refl refl),
       (
-        first_state Missing Missing Missing (peer_with all_taken false true false Idle [] 0),
-        (_, refl, next_hello dig b infohash size),
+        _,
+        (_, refl, next_hello dig b _ size),
         (
-          first_state Missing Missing Missing (peer_with (stream bitfield_bytes true false) false true false Idle [] 0),
-          (_, refl, refl, fed_to dig b infohash (at_first dig b) Missing Missing Missing (peer_with all_taken false true false Idle [] 0) bitfield_bytes refl refl),
+          _,
+          (_, refl, refl, fed_first refl refl),
           (
-            first_state Missing Missing Missing (peer_with all_taken true true true asked_key [] 0),
-            (_, refl, next_bits dig b infohash),
+            _,
+            (_, refl, next_bits dig b _),
             (
               before_unchoke,
-              (_, refl, refl, fed_to dig b infohash (at_first dig b) Missing Missing Missing (peer_with all_taken true true true asked_key [] 0) unchoke_bytes refl refl),
+              (_, refl, refl, fed_first refl refl),
               refl,
             ),
           ),
@@ -467,7 +306,9 @@ module _ (dig : List ℕ → List ℕ) (b : ThreeBlocks) (wrong : List ℕ) (inf
 
   -- the three pieces
   abbrev pub piece_events : List Event
-  piece_events = told (message_spelling (Piece 0 0 b.first)) (told (message_spelling (Piece 0 16384 b.second)) (told (message_spelling (Piece 0 32768 wrong)) []))
+  piece_events =
+      told (message_spelling (Piece 0 0 b.first))
+      (told (message_spelling (Piece 0 16384 b.second)) (told (message_spelling (Piece 0 32768 wrong)) []))
 
   abbrev pub piece_calls : List DeviceCalls
   piece_calls = [] ∷ ((0, bytes_written 0 b.first) ∷ []) ∷ [] ∷ ((0, bytes_written 16384 b.second) ∷ []) ∷ [] ∷ ((0, bytes_written 32768 wrong) ∷ []) ∷ []
@@ -479,23 +320,24 @@ module _ (dig : List ℕ → List ℕ) (b : ThreeBlocks) (wrong : List ℕ) (inf
   abbrev pub all_wait : EngineState
   all_wait = first_state Waiting Waiting Waiting (idle_peer all_taken asked_key)
 
-  pub pieces_wait : (asked : List BlockId) → AreAsked asked → AreWhole b → IsWrongThird dig b wrong → Run dig (first_state Missing Missing Missing (asked_peer asked_key asked 0)) piece_events piece_calls piece_answers all_wait
-  pieces_wait asked all whole other = (
-    first_state Missing Missing Missing (peer_with (stream (message_spelling (Piece 0 0 b.first)) true false) true false true asked_key asked 0),
-    (_, refl, refl, fed_to dig b infohash (at_first dig b) Missing Missing Missing (asked_peer asked_key asked 0) (message_spelling (Piece 0 0 b.first)) refl refl),
+  pub pieces_wait : {asked : _} → AreAsked asked → AreWhole b → IsWrongThird dig b wrong
+      → Run dig (first_state Missing Missing Missing (asked_peer asked_key asked 0)) piece_events piece_calls piece_answers all_wait
+  pieces_wait {asked} all whole other = (
+    _,
+    (_, refl, refl, fed_first refl refl),
     (
-      first_state Waiting Missing Missing (asked_peer asked_key (left_one asked) 16384),
-      (_, refl, next_first asked all whole.first),
+      _,
+      (_, refl, next_first all whole.first),
       (
-        first_state Waiting Missing Missing (peer_with (stream (message_spelling (Piece 0 16384 b.second)) true false) true false true asked_key (left_one asked) 16384),
-        (_, refl, refl, fed_to dig b infohash (at_first dig b) Waiting Missing Missing (asked_peer asked_key (left_one asked) 16384) (message_spelling (Piece 0 16384 b.second)) refl refl),
+        _,
+        (_, refl, refl, fed_first refl refl),
         (
-          first_state Waiting Waiting Missing (asked_peer asked_key (left_two asked) 32768),
-          (_, refl, next_second asked all whole.second),
+          _,
+          (_, refl, next_second all whole.second),
           (
-            first_state Waiting Waiting Missing (peer_with (stream (message_spelling (Piece 0 32768 wrong)) true false) true false true asked_key (left_two asked) 32768),
-            (_, refl, refl, fed_to dig b infohash (at_first dig b) Waiting Waiting Missing (asked_peer asked_key (left_two asked) 32768) (message_spelling (Piece 0 32768 wrong)) refl refl),
-            (all_wait, (_, refl, next_third asked all other.whole), refl),
+            _,
+            (_, refl, refl, fed_first refl refl),
+            (all_wait, (_, refl, next_third all other.whole), refl),
           ),
         ),
       ),
@@ -508,28 +350,29 @@ module _ (dig : List ℕ → List ℕ) (b : ThreeBlocks) (wrong : List ℕ) (inf
   in_turn : AreAsked all_three
   in_turn = record { few = omega arith; each = λ c among. among; among = λ c among. among }
 
-  waits : AreWhole b → IsWrongThird dig b wrong → length infohash ≡ 32 → Run dig (start dig b infohash) (waiting_events b wrong infohash) (waiting_calls b wrong) (waiting_answers dig b infohash) all_wait
+  waits : AreWhole b → IsWrongThird dig b wrong → length infohash ≡ 32
+      → Run dig (start dig b infohash) (waiting_events b wrong infohash) (waiting_calls b wrong) (waiting_answers dig b infohash) all_wait
   waits whole other size =
       let goes_on : Run dig before_unchoke (Next first_key ∷ piece_events) ([] ∷ piece_calls) (unchoke_answer ∷ piece_answers) all_wait
-      = (first_state Missing Missing Missing (asked_peer asked_key all_three 0), (_, refl, next_unchoke dig b infohash (at_first dig b) asked_key (λ idle. asked_already idle)), pieces_wait all_three in_turn whole other) in
-      run_join dig begin_events (Next first_key ∷ piece_events) ([] ∷ [] ∷ [] ∷ [] ∷ [] ∷ [] ∷ []) ([] ∷ piece_calls) begin_answers (unchoke_answer ∷ piece_answers) (start dig b infohash) before_unchoke all_wait (begins size) goes_on
+      = (_, (_, refl, next_unchoke dig b infohash (λ idle. asked_already idle)), pieces_wait in_turn whole other) in
+      run_join dig begin_events (Next first_key ∷ piece_events) ([] ∷ [] ∷ [] ∷ [] ∷ [] ∷ [] ∷ []) ([] ∷ piece_calls) begin_answers (unchoke_answer ∷ piece_answers) (start dig b _) before_unchoke all_wait (begins size) goes_on
 
   pub settles : IsDigest dig → AreWhole b → IsWrongThird dig b wrong
       → Run dig (first_state Waiting Waiting Waiting (idle_peer all_taken asked_key)) (told (message_spelling (leaves_message dig b)) []) (settling_calls b wrong) settling_answers (settled (asked_peer Idle (block 2 ∷ []) 49152))
   settles sizes whole other = (
-    first_state Waiting Waiting Waiting (idle_peer (stream (message_spelling (leaves_message dig b)) true false) asked_key),
-    (_, refl, refl, fed_to dig b infohash (at_first dig b) Waiting Waiting Waiting (idle_peer all_taken asked_key) (message_spelling (leaves_message dig b)) refl refl),
-    (settled (asked_peer Idle (block 2 ∷ []) 49152), (_, refl, next_leaves sizes whole other), refl),
+    _,
+    (_, refl, refl, fed_first refl refl),
+    (_, (_, refl, next_leaves sizes whole other), refl),
   )
 
-pub waiting_is_run : (dig : List ℕ → List ℕ) → IsDigest dig → WaitingFetchIsRun dig
+pub waiting_is_run : (dig : Digest) → IsDigest dig → WaitingFetchIsRun dig
 waiting_is_run dig sizes b wrong infohash whole other size = record {
-  first = start dig b infohash;
-  mid = all_wait dig b wrong infohash;
-  last = settled dig b wrong infohash (asked_peer Idle (block 2 ∷ []) 49152);
-  starts = starts dig b infohash;
-  waits = waits dig b wrong infohash whole other size;
+  first = start dig b _;
+  mid = all_wait dig b wrong _;
+  last = settled dig b wrong _ (asked_peer Idle (block 2 ∷ []) 49152);
+  starts = starts dig b _;
+  waits = waits dig b wrong _ whole other size;
   waiting = refl;
-  settles = settles dig b wrong infohash sizes whole other;
+  settles = settles dig b wrong _ sizes whole other;
   settled = refl;
 }

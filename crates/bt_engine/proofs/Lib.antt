@@ -1,3 +1,5 @@
+pub mod Base
+pub mod Machine
 pub mod Lists
 -- trees
 pub mod Rooted

@@ -1,172 +1,134 @@
 -- Trees stay rooted.
-use Rattle.std.proofs.Common.{◌≡◌, ℕ, ◌-◌, arith, inl, inr, List, [], ◌∷◌, sym, subst, ◌<◌, ◌∙◌}
-use Rattle.bt_sparse.specs.SparseTree.{Facts, blocks_of, height, IsRooted, IsChecked}
-use Rattle.bt_sparse.proofs.Joins.{keeps_rooted}
-use Rattle.bt_sparse.proofs.Paths.{held_is_checked}
-use Rattle.bt_sparse.proofs.Values.{value_covers}
-use Rattle.bt_tree.specs.TreeShape.{CoversBlock, real_width}
-use Rattle.bt_tree.proofs.TreeShape.{real_limit}
-use Rattle.bt_hashreq.specs.declared.key.HashKey.{HashKey}
-use Rattle.bt_store.specs.BlockReads.{BlockRead, IsRight}
-use Rattle.bt_wire.specs.declared.message.Ask.{Ask}
-use Rattle.bt_wire.specs.declared.message.Message.{Message as Sent}
-use Rattle.bt_wire.specs.declared.message.Message.TheVariants.{KeepAlive, Choke, Unchoke, Interested, NotInterested, Have, Bitfield, Request, Piece, Cancel, HashRequest, Hashes, HashReject}
-use Rattle.bt_wire.specs.declared.event.WireEvent.{WireEvent}
-use Rattle.bt_wire.specs.declared.event.WireEvent.TheVariants.{Hello, Message, Skipped}
-use Rattle.bt_engine.specs.declared.event.Event.{Event}
-use Rattle.bt_engine.specs.declared.event.Event.TheVariants.{Connect, Feed, Next, Lost, Rechoke, Adopt, Flush}
-use Rattle.bt_engine.specs.State.{PeerState, FileState, EngineState}
-use Rattle.bt_engine.specs.Devices.{DeviceCalls}
-use Rattle.bt_engine.specs.Blocks.{with_tree}
-use Rattle.bt_engine.specs.Output.{Sent as SentFrame, Effect}
-use Rattle.bt_engine.specs.Request.{FindsFault, damaged, fault, HandlesRequest, ignored, no_place, not_marked, served, stopped}
-use Rattle.bt_engine.specs.Arrival.{HandlesPiece, stale, arrives}
-use Rattle.bt_engine.specs.HashMessages.{HandlesHashes, unknown_root, no_claim, refused, learns}
-use Rattle.bt_engine.specs.WireEvents.{HandlesHave, in_range, out_of_range, HandlesBitfield, right, wrong, HandlesMessage, Handles}
-use Rattle.bt_engine.specs.Next.{StepNext, no_peer, waits, goes_on, closes, faulty, no_memory}
-use Rattle.bt_engine.specs.Peers.{StepConnect, joins, full, spent, no_memory as no_room, StepFeed, feeds, no_peer as not_fed, no_memory as no_room_to_feed, StepLost, goes, no_peer as not_lost}
-use Rattle.bt_engine.specs.Rechoke.{FollowsEach, StepRechoke, rechokes, no_memory as not_rechoked}
-use Rattle.bt_engine.specs.Adopting.{AdoptsGroup, AdoptsGroups, StepAdopt, no_file, busy, empty, adopts, no_memory as not_adopted}
-use Rattle.bt_engine.specs.Flush.{StepFlush, syncs, fails}
-use Rattle.bt_engine.specs.Step.{Answer, Step, Run}
-use Rattle.bt_engine.specs.Law.{AreRooted, AreChecked}
+use Rattle.bt_engine.proofs.Base.{◌≡◌, ◌-◌, arith, inl, inr, [], ◌∷◌, sym, ◌<◌, ◌∙◌, blocks_of, height, IsRooted, IsChecked, keeps_rooted, held_is_checked, value_covers, CoversBlock, real_width, real_limit, IsRight, PeerMessage as Sent, Have, Bitfield, Request, Piece, Hashes, HashReject, Message}
+use Rattle.bt_engine.proofs.Machine.{Digest, Connect, Feed, Next, Lost, Rechoke, Adopt, Flush, with_tree, FindsFault, damaged, fault, HandlesRequest, ignored, no_place, not_marked, served, stopped, HandlesPiece, stale, arrives, HandlesHashes, unknown_root, no_claim, refused, learns, HandlesHave, in_range, out_of_range, HandlesBitfield, right, wrong, HandlesMessage, Handles, StepNext, no_peer, waits, goes_on, closes, faulty, no_memory, StepConnect, joins, full, spent, no_room, StepFeed, feeds, not_fed, no_room as no_room_to_feed, StepLost, goes, not_fed as not_lost, FollowsEach, StepRechoke, rechokes, not_rechoked, AdoptsGroup, AdoptsGroups, StepAdopt, no_file, busy, empty, adopts, not_adopted, StepFlush, syncs, fails, Step, Run, AreRooted, AreChecked}
 use Rattle.bt_engine.proofs.Lists.{set_cases}
 use Rattle.bt_engine.proofs.Adopting.{group_extends}
 
-module _ (dig : List ℕ → List ℕ) where
+module _ (dig : Digest) where
   -- the engine is one with the same trees
-  as_before : (m new : EngineState) → new ≡ m → AreRooted dig m → AreRooted dig new
-  as_before m new e r = subst (λ x. AreRooted dig x) (sym e) r
+  as_before : {m new : _} → new ≡ m → AreRooted dig m → AreRooted dig new
+  as_before e r = rw e r
 
-  grown_rooted : (s : EngineState) (t : ℕ) (k : Facts) → AreRooted dig s → IsRooted dig k → AreRooted dig (with_tree s t k)
-  grown_rooted s t k r rooted u j e = elim (set_cases s.trees t u k j e) [ inl new ↦ subst (λ x. IsRooted dig x) (sym new.1) rooted | inr old ↦ r u j old ]
+  grown_rooted : (s t : _) {k : _} → AreRooted dig s → IsRooted dig k → AreRooted dig (with_tree s t k)
+  grown_rooted s t r rooted u j e = elim (set_cases _ t u e) [ inl new ↦ rw new.1 rooted | inr old ↦ r u j old ]
 
-  have_rooted : (s mid : EngineState) (i : ℕ) (p : PeerState) (piece : ℕ) (effect : Effect) → HandlesHave s i p piece effect mid → AreRooted dig s → AreRooted dig mid
-  have_rooted s mid i p piece effect (in_range a b e) r = as_before _ mid e r
-  have_rooted s mid i p piece effect (out_of_range a b e) r = as_before _ mid e r
+  have_rooted : {s mid i p piece effect : _} → HandlesHave s i p piece effect mid → AreRooted dig s → AreRooted dig mid
+  have_rooted (in_range a b e) r = as_before e r
+  have_rooted (out_of_range a b e) r = as_before e r
 
-  bits_rooted : (s mid : EngineState) (i : ℕ) (p : PeerState) (bytes : List ℕ) (effect : Effect) → HandlesBitfield s i p bytes effect mid → AreRooted dig s → AreRooted dig mid
-  bits_rooted s mid i p bytes effect (right a b e) r = as_before _ mid e r
-  bits_rooted s mid i p bytes effect (wrong a b e) r = as_before _ mid e r
+  bits_rooted : {s mid i p bytes effect : _} → HandlesBitfield s i p bytes effect mid → AreRooted dig s → AreRooted dig mid
+  bits_rooted (right a b e) r = as_before e r
+  bits_rooted (wrong a b e) r = as_before e r
 
-  fault_rooted : (k : Facts) (s mid : EngineState) (file i : ℕ) (f : FileState) (read : BlockRead) (effect : Effect) → FindsFault dig k s file i f read effect mid → AreRooted dig s → AreRooted dig mid
-  fault_rooted k s mid file i f read effect (damaged bytes x y z e) r = as_before _ mid e r
-  fault_rooted k s mid file i f read effect (fault x y e) r = as_before _ mid e r
+  fault_rooted : {k s mid file i f read effect : _} → FindsFault dig k s file i f read effect mid → AreRooted dig s → AreRooted dig mid
+  fault_rooted (damaged bytes x y z e) r = as_before e r
+  fault_rooted (fault x y e) r = as_before e r
 
-  request_rooted : (s mid : EngineState) (i : ℕ) (p : PeerState) (ask : Ask) (calls : DeviceCalls) (effect : Effect) → HandlesRequest dig s i p ask calls effect mid → AreRooted dig s → AreRooted dig mid
-  request_rooted s mid i p ask calls effect (ignored a b c e) r = as_before _ mid e r
-  request_rooted s mid i p ask calls effect (no_place a b c d e) r = as_before _ mid e r
-  request_rooted s mid i p ask calls effect (not_marked span a b c d f e) r = as_before _ mid e r
-  request_rooted s mid i p ask calls effect (served span a b c d) r = as_before _ mid d.after r
-  request_rooted s mid i p ask calls effect (stopped span a b c d) r = fault_rooted d.tree s mid span.file d.block d.file d.read effect d.finds r
+  request_rooted : {s mid i p ask calls effect : _} → HandlesRequest dig s i p ask calls effect mid → AreRooted dig s → AreRooted dig mid
+  request_rooted (ignored a b c e) r = as_before e r
+  request_rooted (no_place a b c d e) r = as_before e r
+  request_rooted (not_marked span a b c d f e) r = as_before e r
+  request_rooted (served span a b c d) r = as_before d.after r
+  request_rooted (stopped span a b c d) r = fault_rooted d.finds r
 
-  piece_rooted : (s mid : EngineState) (i : ℕ) (p : PeerState) (piece begin : ℕ) (bytes : List ℕ) (calls : DeviceCalls) (effect : Effect) → HandlesPiece dig s i p piece begin bytes calls effect mid → AreRooted dig s → AreRooted dig mid
-  piece_rooted s mid i p piece begin bytes calls effect (stale a b c e) r = as_before _ mid e r
-  piece_rooted s mid i p piece begin bytes calls effect (arrives a) r = as_before _ mid a.after (as_before _ a.stored a.puts.after r)
+  piece_rooted : {s mid i p piece begin bytes calls effect : _} → HandlesPiece dig s i p piece begin bytes calls effect mid → AreRooted dig s
+      → AreRooted dig mid
+  piece_rooted (stale a b c e) r = as_before e r
+  piece_rooted (arrives a) r = as_before a.after (as_before a.puts.after r)
 
-  hashes_rooted : (s mid : EngineState) (i : ℕ) (p : PeerState) (key : HashKey) (digests : List ℕ) (calls : DeviceCalls) (effect : Effect) → HandlesHashes dig s i p key digests calls effect mid → AreRooted dig s → AreRooted dig mid
-  hashes_rooted s mid i p key digests calls effect (unknown_root a b c e) r = as_before _ mid e r
-  hashes_rooted s mid i p key digests calls effect (no_claim f a b c) r = as_before _ mid c.after r
-  hashes_rooted s mid i p key digests calls effect (refused f t k c a b d g) r = as_before _ mid g.after r
-  hashes_rooted s mid i p key digests calls effect (learns l) r =
-      let grown : AreRooted dig (with_tree s l.tree l.new) = grown_rooted s l.tree l.new r (keeps_rooted dig l.old l.new l.claim l.accepts (r l.tree l.old l.here.here)) in
-      as_before _ mid l.after (as_before _ l.settled l.settles.others grown)
+  hashes_rooted : {s mid i p key digests calls effect : _} → HandlesHashes dig s i p key digests calls effect mid → AreRooted dig s → AreRooted dig mid
+  hashes_rooted (unknown_root a b c e) r = as_before e r
+  hashes_rooted (no_claim f a b c) r = as_before c.after r
+  hashes_rooted (refused f t k c a b d g) r = as_before g.after r
+  hashes_rooted {s} (learns l) r =
+      let grown = grown_rooted s _ r (keeps_rooted dig l.old l.new l.claim l.accepts (r l.tree l.old l.here.here)) in
+      as_before l.after (as_before l.settles.others grown)
 
-  message_rooted : (s mid : EngineState) (i : ℕ) (p : PeerState) (m : Sent) (calls : DeviceCalls) (effect : Effect) → HandlesMessage dig s i p m calls effect mid → AreRooted dig s → AreRooted dig mid
-  message_rooted s mid i p KeepAlive calls effect h r = as_before _ mid h.2 r
-  message_rooted s mid i p Choke calls effect h r = as_before _ mid h.2 r
-  message_rooted s mid i p Unchoke calls effect h r = as_before _ mid h.2 r
-  message_rooted s mid i p Interested calls effect h r = as_before _ mid h.2 r
-  message_rooted s mid i p NotInterested calls effect h r = as_before _ mid h.2 r
-  message_rooted s mid i p (Have piece) calls effect h r = have_rooted s mid i p piece effect h.1 r
-  message_rooted s mid i p (Bitfield bytes) calls effect h r = bits_rooted s mid i p bytes effect h.1 r
-  message_rooted s mid i p (Request ask) calls effect h r = request_rooted s mid i p ask calls effect h r
-  message_rooted s mid i p (Piece piece begin bytes) calls effect h r = piece_rooted s mid i p piece begin bytes calls effect h r
-  message_rooted s mid i p (Cancel ask) calls effect h r = as_before _ mid h.2 r
-  message_rooted s mid i p (HashRequest key) calls effect h r = as_before _ mid h.2 r
-  message_rooted s mid i p (Hashes key digests) calls effect h r = hashes_rooted s mid i p key digests calls effect h r
-  message_rooted s mid i p (HashReject key) calls effect h r = as_before _ mid h.2.after r
+  message_rooted : (s mid i p : _) (m : Sent) (calls effect : _) → HandlesMessage dig s i p m calls effect mid → AreRooted dig s → AreRooted dig mid
+  message_rooted s mid i p (Have piece) calls effect h r = have_rooted h.1 r
+  message_rooted s mid i p (Bitfield bytes) calls effect h r = bits_rooted h.1 r
+  message_rooted s mid i p (Request ask) calls effect h r = request_rooted h r
+  message_rooted s mid i p (Piece piece begin bytes) calls effect h r = piece_rooted h r
+  message_rooted s mid i p (Hashes key digests) calls effect h r = hashes_rooted h r
+  message_rooted s mid i p (HashReject key) calls effect h r = as_before h.2.after r
+  message_rooted s mid i p _ calls effect h r = as_before h.2 r
 
-  event_rooted : (s mid : EngineState) (i : ℕ) (p : PeerState) (e : WireEvent) (calls : DeviceCalls) (effect : Effect) → Handles dig s i p e calls effect mid → AreRooted dig s → AreRooted dig mid
-  event_rooted s mid i p (Hello h) calls effect t r = as_before _ mid t.2 r
+  event_rooted : (s mid i p e calls effect : _) → Handles dig s i p e calls effect mid → AreRooted dig s → AreRooted dig mid
   event_rooted s mid i p (Message m) calls effect t r = message_rooted s mid i p m calls effect t r
-  event_rooted s mid i p (Skipped kind) calls effect t r = as_before _ mid t.2 r
+  event_rooted s mid i p _ calls effect t r = as_before t.2 r
 
-  next_rooted : (s new : EngineState) (key : _) (calls : DeviceCalls) (answer : _) → StepNext dig s key calls answer new → AreRooted dig s → AreRooted dig new
-  next_rooted s new key calls answer (no_peer a b c e) r = as_before _ new e r
-  next_rooted s new key calls answer (waits i p a b c d e) r = as_before _ new e r
-  next_rooted s new key calls answer (goes_on i p out a g b) r = as_before _ new g.follows.after (event_rooted _ g.mid i _ g.takes.event calls g.effect g.takes.handles r)
-  next_rooted s new key calls answer (closes i p out a g b) r = as_before _ new g.after (event_rooted _ g.mid i _ g.takes.event calls g.effect g.takes.handles r)
-  next_rooted s new key calls answer (faulty i p out a g b) r = as_before _ new g.after r
-  next_rooted s new key calls answer (no_memory i p a g b) r = as_before _ new g.after r
+  next_rooted : {s new key calls answer : _} → StepNext dig s key calls answer new → AreRooted dig s → AreRooted dig new
+  next_rooted (no_peer a b c e) r = as_before e r
+  next_rooted (waits i p a b c d e) r = as_before e r
+  next_rooted {calls} (goes_on i p out a g b) r = as_before g.follows.after (event_rooted _ g.mid i _ _ calls _ g.takes.handles r)
+  next_rooted {calls} (closes i p out a g b) r = as_before g.after (event_rooted _ g.mid i _ _ calls _ g.takes.handles r)
+  next_rooted (faulty i p out a g b) r = as_before g.after r
+  next_rooted (no_memory i p a g b) r = as_before g.after r
 
-  connect_rooted : (s new : EngineState) (answer : _) → StepConnect s answer new → AreRooted dig s → AreRooted dig new
-  connect_rooted s new answer (joins key bytes a b c d f e) r = as_before _ new e r
-  connect_rooted s new answer (full a b e) r = as_before _ new e r
-  connect_rooted s new answer (spent a b c e) r = as_before _ new e r
-  connect_rooted s new answer (no_room a b c e) r = as_before _ new e r
+  connect_rooted : {s new answer : _} → StepConnect s answer new → AreRooted dig s → AreRooted dig new
+  connect_rooted (joins key bytes a b c d f e) r = as_before e r
+  connect_rooted (full a b e) r = as_before e r
+  connect_rooted (spent a b c e) r = as_before e r
+  connect_rooted (no_room a b c e) r = as_before e r
 
-  feed_rooted : (s new : EngineState) (key : _) (bytes : List ℕ) (answer : _) → StepFeed s key bytes answer new → AreRooted dig s → AreRooted dig new
-  feed_rooted s new key bytes answer (feeds i p a b e) r = as_before _ new e r
-  feed_rooted s new key bytes answer (not_fed a b e) r = as_before _ new e r
-  feed_rooted s new key bytes answer (no_room_to_feed i p a b e) r = as_before _ new e r
+  feed_rooted : {s new key bytes answer : _} → StepFeed s key bytes answer new → AreRooted dig s → AreRooted dig new
+  feed_rooted (feeds i p a b e) r = as_before e r
+  feed_rooted (not_fed a b e) r = as_before e r
+  feed_rooted (no_room_to_feed i p a b e) r = as_before e r
 
-  lost_rooted : (s new : EngineState) (key : _) (answer : _) → StepLost s key answer new → AreRooted dig s → AreRooted dig new
-  lost_rooted s new key answer (goes i p a b e) r = as_before _ new e r
-  lost_rooted s new key answer (not_lost a b e) r = as_before _ new e r
+  lost_rooted : {s new key answer : _} → StepLost s key answer new → AreRooted dig s → AreRooted dig new
+  lost_rooted (goes i p a b e) r = as_before e r
+  lost_rooted (not_lost a b e) r = as_before e r
 
-  each_rooted : (peers : List ℕ) (s new : EngineState) (sent : List SentFrame) → FollowsEach dig peers s sent new → AreRooted dig s → AreRooted dig new
-  each_rooted [] s new sent f r = as_before _ new f.1 r
-  each_rooted (i ∷ peers) s new sent f r = each_rooted peers f.0 new f.2 f.4 (as_before _ f.0 f.3.after r)
+  each_rooted : (peers s new sent : _) → FollowsEach dig peers s sent new → AreRooted dig s → AreRooted dig new
+  each_rooted [] s new sent f r = as_before f.1 r
+  each_rooted (i ∷ peers) s new sent f r = each_rooted peers f.0 new f.2 f.4 (as_before f.3.after r)
 
-  rechoke_rooted : (s new : EngineState) (answer : _) → StepRechoke dig s answer new → AreRooted dig s → AreRooted dig new
-  rechoke_rooted s new answer (rechokes out a b) r = each_rooted _ _ new a.sent a.follows r
-  rechoke_rooted s new answer (not_rechoked a e) r = as_before _ new e r
+  rechoke_rooted : {s new answer : _} → StepRechoke dig s answer new → AreRooted dig s → AreRooted dig new
+  rechoke_rooted {new} (rechokes out a b) r = each_rooted _ _ new _ a.follows r
+  rechoke_rooted (not_rechoked a e) r = as_before e r
 
-  group_rooted : (s new : EngineState) (file from : ℕ) (calls : DeviceCalls) (adopted : _) → AdoptsGroup dig s file from calls adopted new → AreRooted dig s → AreRooted dig new
-  group_rooted s new file from calls adopted g r =
-      as_before _ new g.after (grown_rooted s g.state.tree g.grown r ((group_extends dig s new file from calls adopted g).rooted (r g.state.tree g.tree g.is_file.hung)))
+  group_rooted : {s new file from calls adopted : _} → AdoptsGroup dig s file from calls adopted new → AreRooted dig s → AreRooted dig new
+  group_rooted {s} g r =
+      as_before g.after (grown_rooted s _ r ((group_extends dig g).rooted (r g.state.tree g.tree g.is_file.hung)))
 
-  groups_rooted : (s new : EngineState) (file from : ℕ) (groups : List DeviceCalls) (total : _) → AdoptsGroups dig s file from groups total new → AreRooted dig s → AreRooted dig new
-  groups_rooted s new file from [] total g r = as_before _ new g.1 r
-  groups_rooted s new file from (calls ∷ groups) total g r = groups_rooted g.1 new file g.0.next groups g.2 g.4 (group_rooted s g.1 file from calls g.0 g.3 r)
+  groups_rooted : (s new file from groups total : _) → AdoptsGroups dig s file from groups total new → AreRooted dig s → AreRooted dig new
+  groups_rooted s new file from [] total g r = as_before g.1 r
+  groups_rooted s new file from (calls ∷ groups) total g r = groups_rooted g.1 new file g.0.next groups g.2 g.4 (group_rooted g.3 r)
 
-  adopt_rooted : (s new : EngineState) (file : ℕ) (calls : DeviceCalls) (answer : _) → StepAdopt dig s file calls answer new → AreRooted dig s → AreRooted dig new
-  adopt_rooted s new file calls answer (no_file a b c e) r = as_before _ new e r
-  adopt_rooted s new file calls answer (busy a b c d e) r = as_before _ new e r
-  adopt_rooted s new file calls answer (empty f a b c d g e) r = as_before _ new e r
-  adopt_rooted s new file calls answer (adopts total a x b) r = as_before _ new x.after (as_before _ x.settled x.settles.others (groups_rooted s x.mid file 0 x.groups total x.adopts r))
-  adopt_rooted s new file calls answer (not_adopted a x b) r = groups_rooted s new file 0 x.groups x.done x.adopts r
+  adopt_rooted : {s new file calls answer : _} → StepAdopt dig s file calls answer new → AreRooted dig s → AreRooted dig new
+  adopt_rooted (no_file a b c e) r = as_before e r
+  adopt_rooted (busy a b c d e) r = as_before e r
+  adopt_rooted (empty f a b c d g e) r = as_before e r
+  adopt_rooted {s} {file} (adopts total a x b) r = as_before x.after (as_before x.settles.others (groups_rooted s x.mid file 0 _ total x.adopts r))
+  adopt_rooted {s} {new} {file} (not_adopted a x b) r = groups_rooted s new file 0 _ _ x.adopts r
 
-  flush_rooted : (s new : EngineState) (calls : DeviceCalls) (answer : _) → StepFlush s calls answer new → AreRooted dig s → AreRooted dig new
-  flush_rooted s new calls answer (syncs a b c e) r = as_before _ new e r
-  flush_rooted s new calls answer (fails before file after a b c e) r = as_before _ new e r
+  flush_rooted : {s new calls answer : _} → StepFlush s calls answer new → AreRooted dig s → AreRooted dig new
+  flush_rooted (syncs a b c e) r = as_before e r
+  flush_rooted (fails before file after a b c e) r = as_before e r
 
-  pub step_rooted : (s new : EngineState) (e : Event) (calls : DeviceCalls) (a : Answer) → Step dig s e calls a new → AreRooted dig s → AreRooted dig new
-  step_rooted s new Connect calls a t r = connect_rooted s new t.0 t.3 r
-  step_rooted s new (Feed key bytes) calls a t r = feed_rooted s new key bytes t.0 t.3 r
-  step_rooted s new (Next key) calls a t r = next_rooted s new key calls t.0 t.2 r
-  step_rooted s new (Lost key) calls a t r = lost_rooted s new key t.0 t.3 r
-  step_rooted s new Rechoke calls a t r = rechoke_rooted s new t.0 t.3 r
-  step_rooted s new (Adopt file) calls a t r = adopt_rooted s new file calls t.0 t.2 r
-  step_rooted s new Flush calls a t r = flush_rooted s new calls t.0 t.2 r
+  pub step_rooted : (s new e calls a : _) → Step dig s e calls a new → AreRooted dig s → AreRooted dig new
+  step_rooted s new Connect calls a t r = connect_rooted t.3 r
+  step_rooted s new (Feed key bytes) calls a t r = feed_rooted t.3 r
+  step_rooted s new (Next key) calls a t r = next_rooted t.2 r
+  step_rooted s new (Lost key) calls a t r = lost_rooted t.3 r
+  step_rooted s new Rechoke calls a t r = rechoke_rooted t.3 r
+  step_rooted s new (Adopt file) calls a t r = adopt_rooted t.2 r
+  step_rooted s new Flush calls a t r = flush_rooted t.2 r
 
-  pub run_rooted : (s new : EngineState) (es : List Event) (calls : List DeviceCalls) (answers : List Answer) → Run dig s es calls answers new → AreRooted dig s → AreRooted dig new
-  run_rooted s new [] [] [] run r = as_before _ new run r
+  pub run_rooted : (s new es calls answers : _) → Run dig s es calls answers new → AreRooted dig s → AreRooted dig new
+  run_rooted s new [] [] [] run r = as_before run r
   run_rooted s new (e ∷ es) (c ∷ calls) (a ∷ answers) run r = run_rooted run.0 new es calls answers run.2 (step_rooted s run.0 e c a run.1 r)
-  run_rooted s new [] (c ∷ calls) answers run r = absurd run
-  run_rooted s new [] [] (a ∷ answers) run r = absurd run
-  run_rooted s new (e ∷ es) [] answers run r = absurd run
-  run_rooted s new (e ∷ es) (c ∷ calls) [] run r = absurd run
+  run_rooted s new _ _ _ run r = absurd run
 
-pub rooted_checked : (dig : List ℕ → List ℕ) (s : EngineState) → AreRooted dig s → AreChecked dig s
+pub rooted_checked : (dig : Digest) (s : _) → AreRooted dig s → AreChecked dig s
 rooted_checked dig s rooted t k at layer i d held =
     let hung = rooted t k at in
     held_is_checked dig k hung (height k - layer) layer i d (omega (arith, (hung.covers layer i d held).inside.in_height)) held
 
-pub right_checked : (dig : List ℕ → List ℕ) (k : Facts) (i : ℕ) (bytes : List ℕ) → IsRooted dig k → i < blocks_of k → IsRight dig k i bytes → IsChecked dig k 0 i (dig bytes)
-right_checked dig k i bytes rooted lt exact =
+pub right_checked : {dig : _} (k i bytes : _) → IsRooted dig k → i < blocks_of k → IsRight dig k i bytes → IsChecked dig k 0 i (dig bytes)
+right_checked {dig} k i bytes rooted lt exact =
     let real : real_width (blocks_of k) 0 ≡ blocks_of k = omega arith in
     let wide = real_limit (blocks_of k) 0 (omega arith) in
-    let covers : CoversBlock (blocks_of k) 0 i = record { inside = record { in_height = omega arith; in_width = omega (arith, wide, real, lt) }; real = omega (arith, real, lt) } in
+    let covers : CoversBlock (blocks_of k) 0 i = record { inside = record { in_height = omega arith; in_width = omega arith }; real = omega arith } in
     held_is_checked dig k rooted (height k - 0) 0 i (dig bytes) (omega arith) (sym (value_covers dig k 0 i covers) ∙ exact.leaf)

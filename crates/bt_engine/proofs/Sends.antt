@@ -1,44 +1,6 @@
 -- What is sent of blocks.
-use Rattle.std.proofs.Common.{◌≡◌, ℕ, inl, inr, Bool, true, false, List, [], ◌∷◌, ◌++◌, map, Some, Result, Ok, Err, refl, sym, ap, ◌∙◌, subst}
-use Rattle.std.specs.Prelude.{slice_get, Contains}
-use Rattle.std.specs.Option.{option_and_then}
-use Rattle.std.proofs.lemmas.List.Elements.{Contains-append_cases}
-use Rattle.bt_meta.specs.Place.{IsPlace}
-use Rattle.bt_meta.specs.declared.torrent.Span.{Span}
-use Rattle.bt_sparse.specs.SparseTree.{Facts}
-use Rattle.bt_hashreq.specs.declared.key.HashKey.{HashKey}
-use Rattle.bt_store.specs.BlockReads.{BlockRead, given, call_of, IsRight}
-use Rattle.bt_store.specs.declared.error.StoreError.{StoreError}
-use Rattle.bt_store.specs.declared.error.StoreError.TheVariants.{Range, Device as DeviceFault}
-use Rattle.bt_store.specs.declared.arrival.Put.{Put}
-use Rattle.bt_store.specs.declared.arrival.Put.TheVariants.{Already, Wrong, Marked as PutMarked, Waiting as PutWaiting}
-use Rattle.bt_book.specs.declared.names.PeerKey.{PeerKey}
-use Rattle.bt_book.specs.declared.names.BlockId.{BlockId}
-use Rattle.bt_wire.specs.declared.handshake.Handshake.{Handshake}
-use Rattle.bt_wire.specs.declared.message.Ask.{Ask}
-use Rattle.bt_wire.specs.declared.message.Message.{Message as PeerMessage}
-use Rattle.bt_wire.specs.declared.message.Message.TheVariants.{KeepAlive, Choke, Unchoke, Interested, NotInterested, Have, Bitfield, Request, Piece, Cancel, HashRequest, Hashes, HashReject}
-use Rattle.bt_wire.specs.declared.event.WireEvent.{WireEvent}
-use Rattle.bt_wire.specs.declared.event.WireEvent.TheVariants.{Hello, Message, Skipped}
-use Rattle.bt_engine.specs.declared.answer.Frame.{Frame}
-use Rattle.bt_engine.specs.declared.answer.Frame.TheVariants.{Hello as hello_frame, Message as message_frame}
-use Rattle.bt_engine.specs.declared.event.Event.{Event}
-use Rattle.bt_engine.specs.declared.event.Event.TheVariants.{Connect, Feed, Next, Lost, Rechoke, Adopt, Flush}
-use Rattle.bt_engine.specs.State.{PeerState, FileState, EngineState}
-use Rattle.bt_engine.specs.Devices.{DeviceCalls}
-use Rattle.bt_engine.specs.Blocks.{tree_of, with_peer}
-use Rattle.bt_engine.specs.Spans.{spanned_blocks, cut_from}
-use Rattle.bt_engine.specs.Output.{Sent, Effect, sent_to, haves}
-use Rattle.bt_engine.specs.Request.{Serves, FindsFault, damaged, fault, HandlesRequest, ignored, no_place, not_marked, served, stopped}
-use Rattle.bt_engine.specs.Arrival.{HasPutEffect, HandlesPiece, stale, arrives}
-use Rattle.bt_engine.specs.HashMessages.{HandlesHashRequest, answered, rejected, HandlesHashes, unknown_root, no_claim, refused, learns}
-use Rattle.bt_engine.specs.WireEvents.{HandlesHello, ours, other, HandlesHave, in_range, out_of_range, HandlesBitfield, right, wrong, HandlesMessage, Handles}
-use Rattle.bt_engine.specs.FollowUp.{FollowsUp, interest_sent, RequestsHashes, requests, rests, RequestsEach}
-use Rattle.bt_engine.specs.Next.{IsPeer, TakesEvent, StepNext, no_peer, waits, goes_on, closes, faulty, no_memory}
-use Rattle.bt_engine.specs.Peers.{new_peer, StepConnect, joins, full, spent, no_memory as no_room}
-use Rattle.bt_engine.specs.Rechoke.{FollowsEach, StepRechoke, rechokes, no_memory as not_rechoked, choking_sent, is_served}
-use Rattle.bt_engine.specs.Step.{Answer, of_connect, of_next, of_rechoke, Step, Run}
-use Rattle.bt_engine.specs.Law.{sent_by, IsServed, IsSoAt}
+use Rattle.bt_engine.proofs.Base.{◌≡◌, ℕ, inl, inr, Bool, true, false, List, [], ◌∷◌, ◌++◌, map, Some, Result, Ok, Err, refl, sym, ap, ◌∙◌, subst, Contains, Contains-append_cases, IsPlace, Span, Facts, given, call_of, IsRight, StoreError, DeviceFault, Put, Wrong, PutMarked, PutWaiting, PeerKey, Ask, PeerMessage, Have, Bitfield, Request, Piece, HashRequest, Hashes, WireEvent, Hello, Message, Skipped}
+use Rattle.bt_engine.proofs.Machine.{Digest, Frame, hello_frame, message_frame, Connect, Next, Rechoke, PeerState, EngineState, DeviceCalls, tree_of, spanned_blocks, cut_from, Sent, Effect, sent_to, haves, Serves, FindsFault, damaged, fault, HandlesRequest, ignored, no_place, not_marked, served, stopped, HasPutEffect, HandlesPiece, stale, arrives, HandlesHashRequest, answered, rejected, HandlesHashes, unknown_root, no_claim, refused, learns, HandlesHello, ours, other, HandlesHave, in_range, out_of_range, HandlesBitfield, right, wrong, HandlesMessage, Handles, FollowsUp, interest_sent, RequestsHashes, requests, rests, RequestsEach, IsPeer, TakesEvent, StepNext, no_peer, waits, goes_on, closes, faulty, no_memory, new_peer, StepConnect, joins, full, spent, no_room, FollowsEach, StepRechoke, rechokes, not_rechoked, choking_sent, is_served, of_connect, of_next, of_rechoke, Step, Run, sent_by, IsServed, IsSoAt}
 use Rattle.bt_engine.proofs.Marking.{after_step, at_first}
 use Rattle.bt_engine.proofs.Lists.{contains_none, contains_cases, contains_map, contains_flat_map, map_contains}
 
@@ -55,53 +17,51 @@ abbrev Plain : List Sent → Type 0
 Plain xs = (x : Sent) → Contains xs x → data_frame x.frame ≡ false
 
 plain_none : Plain []
-plain_none x c = absurd (contains_none x c)
+plain_none x c = absurd (contains_none c)
 
-plain_one : (x : Sent) (xs : List Sent) → data_frame x.frame ≡ false → Plain xs → Plain (x ∷ xs)
-plain_one x xs e rest y c = elim (contains_cases x y xs c) [ inl same ↦ ap (λ (s : Sent). data_frame s.frame) (sym same) ∙ e | inr more ↦ rest y more ]
+plain_one : (x : Sent) (xs : _) → data_frame x.frame ≡ false → Plain xs → Plain (x ∷ xs)
+plain_one x xs e rest y c = elim (contains_cases xs c) [ inl same ↦ ap (λ s. data_frame s.frame) (sym same) ∙ e | inr more ↦ rest y more ]
 
-plain_append : (xs ys : List Sent) → Plain xs → Plain ys → Plain (xs ++ ys)
+plain_append : (xs ys : _) → Plain xs → Plain ys → Plain (xs ++ ys)
 plain_append xs ys f g x c = elim (Contains-append_cases xs ys x c) [ inl one ↦ f x one | inr more ↦ g x more ]
 
-plain_is : (xs ys : List Sent) → xs ≡ ys → Plain ys → Plain xs
-plain_is xs ys e f = subst (λ l. Plain l) (sym e) f
+plain_is : {xs ys : _} → xs ≡ ys → Plain ys → Plain xs
+plain_is e f = rw e f
 
-plain_haves : (old new : EngineState) → Plain (haves old new)
+plain_haves : (old new : _) → Plain (haves old new)
 plain_haves old new x c =
-    let p = contains_flat_map (λ piece. map (λ p. sent_to p (Have piece)) new.peers) _ x c in
-    let q = contains_map (λ q. sent_to q (Have p.0)) new.peers x p.2 in
-    ap (λ (s : Sent). data_frame s.frame) (sym q.2)
+    let p = contains_flat_map (λ piece. map (λ p. sent_to p (Have piece)) new.peers) _ c in
+    let q = contains_map (λ q. sent_to q (Have p.0)) _ p.2 in
+    ap (λ s. data_frame s.frame) (sym q.2)
 
-plain_interest : (p : PeerState) (was now : Bool) → Plain (interest_sent p was now)
+plain_interest : (p : _) (was now : Bool) → Plain (interest_sent p was now)
 plain_interest p true true = plain_none
-plain_interest p true false = plain_one _ [] refl plain_none
-plain_interest p false true = plain_one _ [] refl plain_none
 plain_interest p false false = plain_none
+plain_interest p _ _ = plain_one _ [] refl plain_none
 
-plain_choking : (p : PeerState) (choked served : Bool) → Plain (choking_sent p choked served)
-plain_choking p true true = plain_one _ [] refl plain_none
+plain_choking : (p : _) (choked served : Bool) → Plain (choking_sent p choked served)
 plain_choking p true false = plain_none
 plain_choking p false true = plain_none
-plain_choking p false false = plain_one _ [] refl plain_none
+plain_choking p _ _ = plain_one _ [] refl plain_none
 
-plain_each_block : (s : EngineState) (p : PeerState) (blocks : List BlockId) (sent : List Sent) → RequestsEach s p blocks sent → Plain sent
-plain_each_block s p [] sent r = plain_is sent [] r plain_none
-plain_each_block s p (b ∷ blocks) sent r = plain_is sent (r.0 ∷ r.1) r.4 (plain_one r.0 r.1 (ap (λ (s : Sent). data_frame s.frame) r.2.is) (plain_each_block s p blocks r.1 r.3))
+plain_each_block : (s p blocks sent : _) → RequestsEach s p blocks sent → Plain sent
+plain_each_block s p [] sent r = plain_is r plain_none
+plain_each_block s p (b ∷ blocks) sent r = plain_is r.4 (plain_one r.0 r.1 (cc) (plain_each_block s p blocks r.1 r.3))
 
-plain_hashes : (dig : List ℕ → List ℕ) (s : EngineState) (p q : PeerState) (sent : List Sent) → RequestsHashes dig s p sent q → Plain sent
-plain_hashes dig s p q sent (requests b k key x y z w e f) = plain_is sent _ e (plain_one _ [] refl plain_none)
-plain_hashes dig s p q sent (rests x e y) = plain_is sent [] e plain_none
+plain_hashes : {dig s p q sent : _} → RequestsHashes dig s p sent q → Plain sent
+plain_hashes (requests b k key x y z w e f) = plain_is e (plain_one _ [] refl plain_none)
+plain_hashes (rests x e y) = plain_is e plain_none
 
-plain_follows : (dig : List ℕ → List ℕ) (s : EngineState) (i : ℕ) (sent : List Sent) (new : EngineState) → FollowsUp dig s i sent new → Plain sent
-plain_follows dig s i sent new f =
-    let first : Plain f.interest_frames = plain_is f.interest_frames _ f.interest.told (plain_interest f.peer f.peer.am_interested f.interested.am_interested) in
-    let second : Plain f.hash_frames = plain_hashes dig s f.interested f.planned f.hash_frames f.hashes in
-    let third : Plain f.block_frames = plain_each_block s f.planned f.blocks f.block_frames f.requests in
-    plain_is sent _ f.all (plain_append (f.interest_frames ++ f.hash_frames) f.block_frames (plain_append f.interest_frames f.hash_frames first second) third)
+plain_follows : {dig s i sent new : _} → FollowsUp dig s i sent new → Plain sent
+plain_follows {s} f =
+    let first = plain_is f.interest.told (plain_interest f.peer f.peer.am_interested f.interested.am_interested) in
+    let second = plain_hashes f.hashes in
+    let third = plain_each_block s f.planned f.blocks f.block_frames f.requests in
+    plain_is f.all (plain_append (f.interest_frames ++ f.hash_frames) f.block_frames (plain_append f.interest_frames f.hash_frames first second) third)
 
-plain_each : (dig : List ℕ → List ℕ) (peers : List ℕ) (s : EngineState) (sent : List Sent) (new : EngineState) → FollowsEach dig peers s sent new → Plain sent
-plain_each dig [] s sent new f = plain_is sent [] f.0 plain_none
-plain_each dig (i ∷ peers) s sent new f = plain_is sent _ f.5 (plain_append f.1 f.2 (plain_follows dig s i f.1 f.0 f.3) (plain_each dig peers f.0 f.2 new f.4))
+plain_each : (dig : Digest) (peers s sent new : _) → FollowsEach dig peers s sent new → Plain sent
+plain_each dig [] s sent new f = plain_is f.0 plain_none
+plain_each dig (i ∷ peers) s sent new f = plain_is f.5 (plain_append f.1 f.2 (plain_follows f.3) (plain_each dig peers f.0 f.2 new f.4))
 
 abbrev piece_frame : PeerKey → ℕ → ℕ → List ℕ → Sent
 piece_frame key piece begin bytes = record { peer = key; frame = message_frame (Piece piece begin bytes) }
@@ -110,13 +70,13 @@ piece_frame key piece begin bytes = record { peer = key; frame = message_frame (
 abbrev Sends : (PeerKey → ℕ → ℕ → List ℕ → Type 0) → List Sent → Type 0
 Sends P sends = (key : PeerKey) (piece begin : ℕ) (bytes : List ℕ) → Contains sends (piece_frame key piece begin bytes) → P key piece begin bytes
 
-sends_plain : (P : PeerKey → ℕ → ℕ → List ℕ → Type 0) (xs : List Sent) → Plain xs → Sends P xs
+sends_plain : (P : PeerKey → ℕ → ℕ → List ℕ → Type 0) (xs : _) → Plain xs → Sends P xs
 sends_plain P xs f key piece begin bytes c = let no_data = f (piece_frame key piece begin bytes) c in absurd cc
 
-sends_is : (P : PeerKey → ℕ → ℕ → List ℕ → Type 0) (xs ys : List Sent) → xs ≡ ys → Sends P ys → Sends P xs
-sends_is P xs ys e f = subst (λ l. Sends P l) (sym e) f
+sends_is : (P : PeerKey → ℕ → ℕ → List ℕ → Type 0) {xs ys : _} → xs ≡ ys → Sends P ys → Sends P xs
+sends_is P e f = rw e f
 
-sends_append : (P : PeerKey → ℕ → ℕ → List ℕ → Type 0) (xs ys : List Sent) → Sends P xs → Sends P ys → Sends P (xs ++ ys)
+sends_append : (P : PeerKey → ℕ → ℕ → List ℕ → Type 0) (xs ys : _) → Sends P xs → Sends P ys → Sends P (xs ++ ys)
 sends_append P xs ys f g key piece begin bytes c = elim (Contains-append_cases xs ys (piece_frame key piece begin bytes) c) [ inl one ↦ f key piece begin bytes one | inr more ↦ g key piece begin bytes more ]
 
 -- what a message with data says
@@ -129,7 +89,7 @@ said_in (hello_frame h) = (0, (0, []))
 said_in (message_frame m) = said_in_message m
 
 -- the data that a wire event sends
-record IsCut (dig : List ℕ → List ℕ) (s : EngineState) (p : PeerState) (e : WireEvent) (calls : DeviceCalls) (key : PeerKey) (piece begin : ℕ) (bytes : List ℕ) : Type 0 where
+record IsCut (dig : Digest) (s : EngineState) (p : PeerState) (e : WireEvent) (calls : DeviceCalls) (key : PeerKey) (piece begin : ℕ) (bytes : List ℕ) : Type 0 where
   ask : Ask
   span : Span
   tree : Facts
@@ -145,108 +105,105 @@ record IsCut (dig : List ℕ → List ℕ) (s : EngineState) (p : PeerState) (e 
   exact : (i : ℕ) → Contains (spanned_blocks span) i → IsRight dig tree i (blocks i)
   cut : bytes ≡ cut_from span blocks
 
-module _ (dig : List ℕ → List ℕ) where
-  effect_is : (P : PeerKey → ℕ → ℕ → List ℕ → Type 0) (effect like : Effect) → effect ≡ like → Plain like.send → Sends P effect.send
-  effect_is P effect like e f = sends_plain P effect.send (plain_is effect.send like.send (ap (λ x. x.send) e) f)
+module _ (dig : Digest) where
+  effect_is : (P : PeerKey → ℕ → ℕ → List ℕ → Type 0) {effect like : Effect} → effect ≡ like → Plain like.send → Sends P effect.send
+  effect_is P {effect} e f = sends_plain P _ (plain_is (cc) f)
 
-  serves_sends : (s mid : EngineState) (i : ℕ) (p : PeerState) (ask : Ask) (span : Span) (calls : DeviceCalls) (effect : Effect) → p.am_choking ≡ false → IsPlace s.torrent ask.piece ask.begin ask.length span
-      → Serves dig s i p ask span calls effect mid → Sends (IsCut dig s p (Message (Request ask)) calls) effect.send
-  serves_sends s mid i p ask span calls effect open_to place f key piece begin bytes c =
+  serves_sends : {s mid : EngineState} {i : ℕ} {p : PeerState} {ask : Ask} {span : Span} {calls : DeviceCalls} {effect : Effect}
+      → p.am_choking ≡ false → IsPlace s.torrent ask.piece ask.begin ask.length span → Serves dig s i p ask span calls effect mid
+      → Sends (IsCut dig s p (Message (Request ask)) calls) effect.send
+  serves_sends {s} {i} {ask} {span} open_to place f key piece begin bytes c =
       let sent = subst (λ l. Contains l (piece_frame key piece begin bytes)) (ap (λ x. x.send) f.sent) c in
-      elim (contains_cases _ _ [] sent) [
+      elim (contains_cases [] sent) [
         | inl same ↦
-            let says = ap (λ (x : Sent). said_in x.frame) same in
+            let says = ap (λ x. said_in x.frame) same in
             record {
               ask = ask;
               span = span;
               tree = f.tree;
               blocks = f.bytes;
               is_request = refl;
-              same_key = ap (λ (x : Sent). x.peer) same;
-              same_piece = ap (λ x. x.0) says;
-              same_begin = ap (λ x. x.1.0) says;
+              same_key = ap (λ x. x.peer) same;
+              same_piece = cc;
+              same_begin = cc;
               unchoked = open_to;
               spans = place;
-              hung = ap (option_and_then (λ q. slice_get s.trees q.tree)) f.is_file.here ∙ f.is_file.hung;
-              read = λ j among. subst (λ cs. Contains cs (span.file, call_of f.tree.file_length (given j (f.bytes j)))) (sym f.made)
-                  (map_contains (λ r. (span.file, call_of f.tree.file_length r)) f.reads (given j (f.bytes j))
-                  (subst (λ rs. Contains rs (given j (f.bytes j))) (sym f.right.made) (map_contains (λ i. given i (f.bytes i)) (spanned_blocks span) j among)));
+              hung = cc;
+              read = λ j among. rw f.made (map_contains (λ r. (span.file, call_of f.tree.file_length r)) _
+                  (subst (λ rs. Contains rs (given j (f.bytes j))) (sym f.right.made) (map_contains (λ i. given i (f.bytes i)) _ among)));
               exact = f.right.right;
-              cut = sym (ap (λ x. x.1.1) says);
+              cut = cc;
             }
-        | inr none ↦ absurd (contains_none _ none)
+        | inr none ↦ absurd (contains_none none)
       ]
 
-  request_sends : (s mid : EngineState) (i : ℕ) (p : PeerState) (ask : Ask) (calls : DeviceCalls) (effect : Effect) → HandlesRequest dig s i p ask calls effect mid
+  request_sends : {s mid i p ask calls effect : _} → HandlesRequest dig s i p ask calls effect mid
       → Sends (IsCut dig s p (Message (Request ask)) calls) effect.send
-  request_sends s mid i p ask calls effect (ignored a c e d) = effect_is _ effect _ e plain_none
-  request_sends s mid i p ask calls effect (no_place a c d e f) = effect_is _ effect _ e plain_none
-  request_sends s mid i p ask calls effect (not_marked span a c d f e g) = effect_is _ effect _ e plain_none
-  request_sends s mid i p ask calls effect (served span a place c f) = serves_sends s mid i p ask span calls effect a place f
-  request_sends s mid i p ask calls effect (stopped span a c d f) = fault_sends f.tree span.file f.block f.file f.read f.finds
+  request_sends (ignored a c e d) = effect_is _ e plain_none
+  request_sends (no_place a c d e f) = effect_is _ e plain_none
+  request_sends (not_marked span a c d f e g) = effect_is _ e plain_none
+  request_sends (served span a place c f) = serves_sends a place f
+  request_sends {s} {mid} {i} {p} {ask} {calls} {effect} (stopped span a c d f) = fault_sends f.finds
     where
-      fault_sends : (k : Facts) (file i : ℕ) (f : FileState) (read : BlockRead) → FindsFault dig k s file i f read effect mid → Sends (IsCut dig s p (Message (Request ask)) calls) effect.send
-      fault_sends k file i f read (damaged bytes x y e z) = effect_is _ effect _ e plain_none
-      fault_sends k file i f read (fault x e y) = effect_is _ effect _ e plain_none
+      fault_sends : {k file i f read : _} → FindsFault dig k s file i f read effect mid → Sends (IsCut dig s p (Message (Request ask)) calls) effect.send
+      fault_sends (damaged bytes x y e z) = effect_is _ e plain_none
+      fault_sends (fault x e y) = effect_is _ e plain_none
 
-  put_sends : (P : PeerKey → ℕ → ℕ → List ℕ → Type 0) (b : BlockId) (r : Result Put StoreError) (effect : Effect) → HasPutEffect b r effect → Sends P effect.send
-  put_sends P b (Ok PutMarked) effect e = effect_is P effect _ e plain_none
-  put_sends P b (Ok PutWaiting) effect e = effect_is P effect _ e plain_none
-  put_sends P b (Ok Wrong) effect e = effect_is P effect _ e plain_none
-  put_sends P b (Ok Already) effect e = absurd e
-  put_sends P b (Err DeviceFault) effect e = effect_is P effect _ e plain_none
-  put_sends P b (Err Range) effect e = absurd e
+  put_sends : (P : PeerKey → ℕ → ℕ → List ℕ → Type 0) (b : _) (r : Result Put StoreError) (effect : _) → HasPutEffect b r effect → Sends P effect.send
+  put_sends P b (Ok PutMarked) effect e = effect_is P e plain_none
+  put_sends P b (Ok PutWaiting) effect e = effect_is P e plain_none
+  put_sends P b (Ok Wrong) effect e = effect_is P e plain_none
+  put_sends P b (Err DeviceFault) effect e = effect_is P e plain_none
+  put_sends _ b _ effect e = absurd e
 
-  piece_sends : (P : PeerKey → ℕ → ℕ → List ℕ → Type 0) (s mid : EngineState) (i : ℕ) (p : PeerState) (piece begin : ℕ) (bytes : List ℕ) (calls : DeviceCalls) (effect : Effect) → HandlesPiece dig s i p piece begin bytes calls effect mid → Sends P effect.send
-  piece_sends P s mid i p piece begin bytes calls effect (stale x y e z) = effect_is P effect _ e plain_none
-  piece_sends P s mid i p piece begin bytes calls effect (arrives a) = put_sends P a.block a.puts.result effect a.puts.has_effect
+  piece_sends : (P : PeerKey → ℕ → ℕ → List ℕ → Type 0) {s mid i p piece begin bytes calls effect : _}
+      → HandlesPiece dig s i p piece begin bytes calls effect mid → Sends P effect.send
+  piece_sends P (stale x y e z) = effect_is P e plain_none
+  piece_sends P {effect} (arrives a) = put_sends P _ _ _ a.puts.has_effect
 
-  hashes_sends : (P : PeerKey → ℕ → ℕ → List ℕ → Type 0) (s mid : EngineState) (i : ℕ) (p : PeerState) (key : HashKey) (digests : List ℕ) (calls : DeviceCalls) (effect : Effect) → HandlesHashes dig s i p key digests calls effect mid → Sends P effect.send
-  hashes_sends P s mid i p key digests calls effect (unknown_root x y e z) = effect_is P effect _ e plain_none
-  hashes_sends P s mid i p key digests calls effect (no_claim f x y c) = effect_is P effect _ c.has_effect plain_none
-  hashes_sends P s mid i p key digests calls effect (refused f t k c x y z g) = effect_is P effect _ g.has_effect plain_none
-  hashes_sends P s mid i p key digests calls effect (learns l) = effect_is P effect _ l.has_effect plain_none
+  hashes_sends : (P : PeerKey → ℕ → ℕ → List ℕ → Type 0) {s mid i p key digests calls effect : _}
+      → HandlesHashes dig s i p key digests calls effect mid → Sends P effect.send
+  hashes_sends P (unknown_root x y e z) = effect_is P e plain_none
+  hashes_sends P (no_claim f x y c) = effect_is P c.has_effect plain_none
+  hashes_sends P (refused f t k c x y z g) = effect_is P g.has_effect plain_none
+  hashes_sends P (learns l) = effect_is P l.has_effect plain_none
 
-  answer_sends : (P : PeerKey → ℕ → ℕ → List ℕ → Type 0) (s : EngineState) (p : PeerState) (key : HashKey) (effect : Effect) → HandlesHashRequest dig s p key effect → Sends P effect.send
-  answer_sends P s p key effect (answered digests x e) = effect_is P effect _ e (plain_one _ [] refl plain_none)
-  answer_sends P s p key effect (rejected x e) = effect_is P effect _ e (plain_one _ [] refl plain_none)
+  answer_sends : (P : PeerKey → ℕ → ℕ → List ℕ → Type 0) {s p key effect : _} → HandlesHashRequest dig s p key effect → Sends P effect.send
+  answer_sends P (answered digests x e) = effect_is P e (plain_one _ [] refl plain_none)
+  answer_sends P (rejected x e) = effect_is P e (plain_one _ [] refl plain_none)
 
-  have_sends : (P : PeerKey → ℕ → ℕ → List ℕ → Type 0) (s mid : EngineState) (i : ℕ) (p : PeerState) (piece : ℕ) (effect : Effect) → HandlesHave s i p piece effect mid → Sends P effect.send
-  have_sends P s mid i p piece effect (in_range x e y) = effect_is P effect _ e plain_none
-  have_sends P s mid i p piece effect (out_of_range x e y) = effect_is P effect _ e plain_none
+  have_sends : (P : PeerKey → ℕ → ℕ → List ℕ → Type 0) {s mid i p piece effect : _} → HandlesHave s i p piece effect mid → Sends P effect.send
+  have_sends P (in_range x e y) = effect_is P e plain_none
+  have_sends P (out_of_range x e y) = effect_is P e plain_none
 
-  bits_sends : (P : PeerKey → ℕ → ℕ → List ℕ → Type 0) (s mid : EngineState) (i : ℕ) (p : PeerState) (bytes : List ℕ) (effect : Effect) → HandlesBitfield s i p bytes effect mid → Sends P effect.send
-  bits_sends P s mid i p bytes effect (right x e y) = effect_is P effect _ e plain_none
-  bits_sends P s mid i p bytes effect (wrong x e y) = effect_is P effect _ e plain_none
+  bits_sends : (P : PeerKey → ℕ → ℕ → List ℕ → Type 0) {s mid i p bytes effect : _} → HandlesBitfield s i p bytes effect mid → Sends P effect.send
+  bits_sends P (right x e y) = effect_is P e plain_none
+  bits_sends P (wrong x e y) = effect_is P e plain_none
 
-  hello_sends : (P : PeerKey → ℕ → ℕ → List ℕ → Type 0) (s : EngineState) (h : Handshake) (effect : Effect) → HandlesHello s h effect → Sends P effect.send
-  hello_sends P s h effect (ours x e) = effect_is P effect _ e plain_none
-  hello_sends P s h effect (other x e) = effect_is P effect _ e plain_none
+  hello_sends : (P : PeerKey → ℕ → ℕ → List ℕ → Type 0) {s h effect : _} → HandlesHello s h effect → Sends P effect.send
+  hello_sends P (ours x e) = effect_is P e plain_none
+  hello_sends P (other x e) = effect_is P e plain_none
 
-  message_sends : (s mid : EngineState) (i : ℕ) (p : PeerState) (m : PeerMessage) (calls : DeviceCalls) (effect : Effect) → HandlesMessage dig s i p m calls effect mid → Sends (IsCut dig s p (Message m) calls) effect.send
-  message_sends s mid i p KeepAlive calls effect h = effect_is _ effect _ h.1 plain_none
-  message_sends s mid i p Choke calls effect h = effect_is _ effect _ h.1 plain_none
-  message_sends s mid i p Unchoke calls effect h = effect_is _ effect _ h.1 plain_none
-  message_sends s mid i p Interested calls effect h = effect_is _ effect _ h.1 plain_none
-  message_sends s mid i p NotInterested calls effect h = effect_is _ effect _ h.1 plain_none
-  message_sends s mid i p (Have piece) calls effect h = have_sends _ s mid i p piece effect h.1
-  message_sends s mid i p (Bitfield bytes) calls effect h = bits_sends _ s mid i p bytes effect h.1
-  message_sends s mid i p (Request ask) calls effect h = request_sends s mid i p ask calls effect h
-  message_sends s mid i p (Piece piece begin bytes) calls effect h = piece_sends _ s mid i p piece begin bytes calls effect h
-  message_sends s mid i p (Cancel ask) calls effect h = effect_is _ effect _ h.1 plain_none
-  message_sends s mid i p (HashRequest key) calls effect h = answer_sends _ s p key effect h.1
-  message_sends s mid i p (Hashes key digests) calls effect h = hashes_sends _ s mid i p key digests calls effect h
-  message_sends s mid i p (HashReject key) calls effect h = effect_is _ effect _ h.1 plain_none
+  message_sends : (s mid i p : _) (m : PeerMessage) (calls effect : _) → HandlesMessage dig s i p m calls effect mid
+      → Sends (IsCut dig s p (Message m) calls) effect.send
+  message_sends s mid i p (Have piece) calls effect h = have_sends _ h.1
+  message_sends s mid i p (Bitfield bytes) calls effect h = bits_sends _ h.1
+  message_sends s mid i p (Request ask) calls effect h = request_sends h
+  message_sends s mid i p (Piece piece begin bytes) calls effect h = piece_sends _ h
+  message_sends s mid i p (HashRequest key) calls effect h = answer_sends _ h.1
+  message_sends s mid i p (Hashes key digests) calls effect h = hashes_sends _ h
+  message_sends s mid i p _ calls effect h = effect_is _ h.1 plain_none
 
-  event_sends : (s mid : EngineState) (i : ℕ) (p : PeerState) (e : WireEvent) (calls : DeviceCalls) (effect : Effect) → Handles dig s i p e calls effect mid → Sends (IsCut dig s p e calls) effect.send
-  event_sends s mid i p (Hello h) calls effect t = hello_sends _ s h effect t.1
-  event_sends s mid i p (Message m) calls effect t = message_sends s mid i p m calls effect t
-  event_sends s mid i p (Skipped kind) calls effect t = effect_is _ effect _ t.1 plain_none
+  event_sends : (s mid i p e calls effect : _) → Handles dig s i p e calls effect mid → Sends (IsCut dig s p e calls) effect.send
+  event_sends s mid i p (Hello h) calls effect t = hello_sends _ t.1
+  event_sends s mid i p (Message m) calls effect t = message_sends s mid i p m calls _ t
+  event_sends s mid i p (Skipped kind) calls effect t = effect_is _ t.1 plain_none
 
-  taken_sends : (s mid : EngineState) (key : PeerKey) (i : ℕ) (p : PeerState) (calls : DeviceCalls) (effect : Effect) → IsPeer s key i p → TakesEvent dig s i p calls effect mid → Sends (IsServed dig s (Next key) calls) effect.send
-  taken_sends s mid key i p calls effect peer t asker piece begin bytes c =
-      let f = event_sends (with_peer s i (record p { stream = t.rest })) mid i (record p { stream = t.rest }) t.event calls effect t.handles asker piece begin bytes c in
-      let same : key ≡ asker = sym peer.same_key ∙ f.same_key in
+  taken_sends : {s mid key i p calls effect : _} → IsPeer s key i p → TakesEvent dig s i p calls effect mid
+      → Sends (IsServed dig s (Next key) calls) effect.send
+  taken_sends {s} {mid} {key} {i} {p} {calls} {effect} peer t asker piece begin bytes c =
+      let f = event_sends _ mid i _ _ calls _ t.handles asker piece begin bytes c in
+      let same : key ≡ asker = cc in
       record {
         place = i;
         peer = p;
@@ -255,7 +212,7 @@ module _ (dig : List ℕ → List ℕ) where
         span = f.span;
         tree = f.tree;
         blocks = f.blocks;
-        is_next = ap (λ k. Next k) same;
+        is_next = cc;
         is_peer = record { here = peer.here; same_key = f.same_key };
         takes = rw (sym f.is_request) t.takes;
         unchoked = f.unchoked;
@@ -268,53 +225,52 @@ module _ (dig : List ℕ → List ℕ) where
         cut = f.cut;
       }
 
-  nothing : (P : PeerKey → ℕ → ℕ → List ℕ → Type 0) (a b : Answer) → a ≡ b → Plain (sent_by b) → Sends P (sent_by a)
-  nothing P a b e f = sends_plain P (sent_by a) (plain_is (sent_by a) (sent_by b) (ap sent_by e) f)
+  nothing : (P : PeerKey → ℕ → ℕ → List ℕ → Type 0) {a b : _} → a ≡ b → Plain (sent_by b) → Sends P (sent_by a)
+  nothing P {a} e f = sends_plain P _ (plain_is (ap sent_by e) f)
 
-  next_sends : (s new : EngineState) (key : PeerKey) (calls : DeviceCalls) (r : _) → StepNext dig s key calls r new → Sends (IsServed dig s (Next key) calls) (sent_by (of_next r))
-  next_sends s new key calls r (no_peer x y e z) = nothing _ _ _ (ap (λ x. of_next x) e) plain_none
-  next_sends s new key calls r (waits i p x y z e f) = nothing _ _ _ (ap (λ x. of_next x) e) plain_none
-  next_sends s new key calls r (goes_on i p out x g e) =
-      sends_is _ (sent_by (of_next r)) out.send (ap (λ x. sent_by (of_next x)) e)
-      (sends_is _ out.send _ g.send
-      (sends_append _ (g.effect.send ++ haves s g.mid) g.sent
-      (sends_append _ g.effect.send (haves s g.mid) (taken_sends s g.mid key i p calls g.effect x g.takes) (sends_plain _ _ (plain_haves s g.mid)))
-      (sends_plain _ _ (plain_follows dig _ i g.sent new g.follows))))
-  next_sends s new key calls r (closes i p out x g e) = nothing _ _ _ (ap (λ x. of_next x) (e ∙ ap (λ o. Ok (Some o)) g.is)) plain_none
-  next_sends s new key calls r (faulty i p out x g e) = nothing _ _ _ (ap (λ x. of_next x) (e ∙ ap (λ o. Ok (Some o)) g.is)) plain_none
-  next_sends s new key calls r (no_memory i p x g e) = nothing _ _ _ (ap (λ x. of_next x) e) plain_none
+  next_sends : {s new key calls r : _} → StepNext dig s key calls r new → Sends (IsServed dig s (Next key) calls) (sent_by (of_next r))
+  next_sends (no_peer x y e z) = nothing _ (ap (λ x. of_next x) e) plain_none
+  next_sends (waits i p x y z e f) = nothing _ (ap (λ x. of_next x) e) plain_none
+  next_sends {s} (goes_on i p out x g e) =
+      sends_is _ (cc)
+      (sends_is _ g.send
+      (sends_append _ _ _
+      (sends_append _ _ _ (taken_sends x g.takes) (sends_plain _ _ (plain_haves s g.mid)))
+      (sends_plain _ _ (plain_follows g.follows))))
+  next_sends (closes i p out x g e) = nothing _ (ap (λ x. of_next x) (e ∙ ap (λ o. Ok (Some o)) g.is)) plain_none
+  next_sends (faulty i p out x g e) = nothing _ (ap (λ x. of_next x) (e ∙ ap (λ o. Ok (Some o)) g.is)) plain_none
+  next_sends (no_memory i p x g e) = nothing _ (ap (λ x. of_next x) e) plain_none
 
-  connect_sends : (P : PeerKey → ℕ → ℕ → List ℕ → Type 0) (s new : EngineState) (r : _) → StepConnect s r new → Sends P (sent_by (of_connect r))
-  connect_sends P s new r (joins key bytes x y z w e f) = nothing P _ _ (ap (λ x. of_connect x) e) (plain_one _ (sent_to (new_peer s key) (Bitfield bytes) ∷ []) refl (plain_one (sent_to (new_peer s key) (Bitfield bytes)) [] refl plain_none))
-  connect_sends P s new r (full x e y) = nothing P _ _ (ap (λ x. of_connect x) e) plain_none
-  connect_sends P s new r (spent x y e z) = nothing P _ _ (ap (λ x. of_connect x) e) plain_none
-  connect_sends P s new r (no_room x y e z) = nothing P _ _ (ap (λ x. of_connect x) e) plain_none
+  connect_sends : (P : PeerKey → ℕ → ℕ → List ℕ → Type 0) {s new r : _} → StepConnect s r new → Sends P (sent_by (of_connect r))
+  connect_sends P {s} (joins key bytes x y z w e f) =
+      nothing P (ap (λ x. of_connect x) e)
+      (plain_one _ (sent_to (new_peer s key) (Bitfield bytes) ∷ []) refl (plain_one (sent_to (new_peer s key) (Bitfield bytes)) [] refl plain_none))
+  connect_sends P (full x e y) = nothing P (ap (λ x. of_connect x) e) plain_none
+  connect_sends P (spent x y e z) = nothing P (ap (λ x. of_connect x) e) plain_none
+  connect_sends P (no_room x y e z) = nothing P (ap (λ x. of_connect x) e) plain_none
 
-  rechoke_sends : (P : PeerKey → ℕ → ℕ → List ℕ → Type 0) (s new : EngineState) (r : _) → StepRechoke dig s r new → Sends P (sent_by (of_rechoke r))
-  rechoke_sends P s new r (rechokes out x e) =
-      nothing P _ _ (ap (λ x. of_rechoke x) (e ∙ ap (λ o. Some o) x.is))
-      (plain_append _ x.sent (λ y c. let p = contains_flat_map (λ p. choking_sent p p.am_choking (is_served s p)) s.peers y c in plain_choking p.0 _ _ y p.2) (plain_each dig _ _ x.sent new x.follows))
-  rechoke_sends P s new r (not_rechoked e x) = nothing P _ _ (ap (λ x. of_rechoke x) e) plain_none
+  rechoke_sends : (P : PeerKey → ℕ → ℕ → List ℕ → Type 0) {s new r : _} → StepRechoke dig s r new → Sends P (sent_by (of_rechoke r))
+  rechoke_sends P {s} {new} (rechokes out x e) =
+      nothing P (ap (λ x. of_rechoke x) (e ∙ ap (λ o. Some o) x.is))
+      (plain_append _ x.sent (λ y c. let p = contains_flat_map (λ p. choking_sent p p.am_choking (is_served s p)) s.peers c in plain_choking p.0 _ _ y p.2) (plain_each dig _ _ x.sent new x.follows))
+  rechoke_sends P (not_rechoked e x) = nothing P (ap (λ x. of_rechoke x) e) plain_none
 
-  pub step_sends : (s new : EngineState) (e : Event) (calls : DeviceCalls) (a : Answer) → Step dig s e calls a new → Sends (IsServed dig s e calls) (sent_by a)
-  step_sends s new Connect calls a t = sends_is _ _ _ (ap sent_by t.1) (connect_sends _ s new t.0 t.3)
-  step_sends s new (Feed key bytes) calls a t = nothing _ a _ t.1 plain_none
-  step_sends s new (Next key) calls a t = sends_is _ _ _ (ap sent_by t.1) (next_sends s new key calls t.0 t.2)
-  step_sends s new (Lost key) calls a t = nothing _ a _ t.1 plain_none
-  step_sends s new Rechoke calls a t = sends_is _ _ _ (ap sent_by t.1) (rechoke_sends _ s new t.0 t.3)
-  step_sends s new (Adopt file) calls a t = nothing _ a _ t.1 plain_none
-  step_sends s new Flush calls a t = nothing _ a _ t.1 plain_none
+  pub step_sends : (s new e calls a : _) → Step dig s e calls a new → Sends (IsServed dig s e calls) (sent_by a)
+  step_sends s new Connect calls a t = sends_is _ (ap sent_by t.1) (connect_sends _ t.3)
+  step_sends s new (Next key) calls a t = sends_is _ (ap sent_by t.1) (next_sends t.2)
+  step_sends s new Rechoke calls a t = sends_is _ (ap sent_by t.1) (rechoke_sends _ t.3)
+  step_sends s new _ calls a t = nothing _ t.1 plain_none
 
-  pub run_sends : (s new : EngineState) (es : List Event) (calls : List DeviceCalls) (before : List Answer) (answer : Answer) (after : List Answer)
+  pub run_sends : (s new es calls before answer after : _)
       → Run dig s es calls (before ++ answer ∷ after) new
-      → (key : PeerKey) (piece begin : ℕ) (bytes : List ℕ) → Contains (sent_by answer) (piece_frame key piece begin bytes)
+      → (key piece begin bytes : _) → Contains (sent_by answer) (piece_frame key piece begin bytes)
       → IsSoAt dig s es calls before answer after new (λ old event calls_then new. IsServed dig old event calls_then key piece begin bytes)
   run_sends s new (e ∷ es) (c ∷ calls) [] answer after run key piece begin bytes sent =
-      at_first dig (λ old event calls_then new. IsServed dig old event calls_then key piece begin bytes) s run.0 new e es c calls answer after run.1 run.2
-      (step_sends s run.0 e c answer run.1 key piece begin bytes sent)
+      at_first run.0 run.1 run.2
+      (step_sends s run.0 e c _ run.1 key piece begin bytes sent)
   run_sends s new (e ∷ es) (c ∷ calls) (a ∷ before) answer after run key piece begin bytes sent =
-      after_step dig (λ old event calls_then new. IsServed dig old event calls_then key piece begin bytes) s run.0 new e es c calls a before answer after run.1
-      (run_sends run.0 new es calls before answer after run.2 key piece begin bytes sent)
+      after_step run.1
+      (run_sends run.0 new es calls _ _ after run.2 key piece begin bytes sent)
   run_sends s new [] [] [] answer after run key piece begin bytes sent = absurd run
   run_sends s new [] [] (a ∷ before) answer after run key piece begin bytes sent = absurd run
   run_sends s new [] (c ∷ calls) before answer after run key piece begin bytes sent = absurd run

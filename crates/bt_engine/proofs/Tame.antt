@@ -1,51 +1,11 @@
 -- What a step does to trees, files and devices: trees grow, and it reads blocks, or syncs, or writes one missing block.
-use Rattle.std.proofs.Common.{◌≡◌, ℕ, ◌*◌, ◌⊎◌, inl, inr, Bool, true, List, [], ◌∷◌, ◌++◌, length, Some, Result, Ok, Err, refl, sym, ap, ◌∙◌, subst}
-use Rattle.std.specs.Prelude.{slice_get, slice_set, flat_map}
-use Rattle.std.specs.Option.{option_and_then}
-use Rattle.std.proofs.lemmas.List.Elements.{Contains-append_cases}
-use Rattle.bt_tree.specs.Limits.{full_block_length}
-use Rattle.bt_tree.specs.Blocks.{block_count, block_length}
-use Rattle.bt_tree.specs.TreeShape.{CoversBlock, IsPadding}
-use Rattle.bt_disk.specs.Calls.{Call, bytes_written, write_fault, sync_made, sync_fault}
-use Rattle.bt_hashreq.specs.declared.key.HashKey.{HashKey}
-use Rattle.bt_sparse.specs.SparseTree.{Facts, blocks_of, held_at, value_at}
-use Rattle.bt_sparse.proofs.Values.{value_inside, value_covers, value_padding, cases_node}
-use Rattle.bt_store.specs.BlockReads.{BlockRead, given, failed, call_of}
-use Rattle.bt_store.specs.Arrival.{PutIsDue, calls_of_put, states_after_put}
-use Rattle.bt_store.specs.declared.block_states.BlockState.TheVariants.{Missing}
-use Rattle.bt_store.specs.declared.error.StoreError.{StoreError}
-use Rattle.bt_store.specs.declared.error.StoreError.TheVariants.{Range, Device as DeviceFault}
-use Rattle.bt_store.specs.declared.arrival.Put.{Put}
-use Rattle.bt_store.specs.declared.arrival.Put.TheVariants.{Already, Wrong, Marked as PutMarked, Waiting as PutWaiting}
-use Rattle.bt_book.specs.declared.names.BlockId.{BlockId}
-use Rattle.bt_wire.specs.declared.message.Ask.{Ask}
-use Rattle.bt_wire.specs.declared.message.Message.{Message as Sent}
-use Rattle.bt_wire.specs.declared.message.Message.TheVariants.{KeepAlive, Choke, Unchoke, Interested, NotInterested, Have, Bitfield, Request, Piece, Cancel, HashRequest, Hashes, HashReject}
-use Rattle.bt_wire.specs.declared.event.WireEvent.{WireEvent}
-use Rattle.bt_wire.specs.declared.event.WireEvent.TheVariants.{Hello, Message, Skipped}
-use Rattle.bt_engine.specs.declared.event.Event.{Event}
-use Rattle.bt_engine.specs.declared.event.Event.TheVariants.{Connect, Feed, Next, Lost, Rechoke, Adopt, Flush}
-use Rattle.bt_engine.specs.State.{PeerState, FileState, EngineState}
-use Rattle.bt_engine.specs.Devices.{DeviceCalls, calls_at, reads_at}
-use Rattle.bt_engine.specs.Blocks.{with_file, with_tree, file_numbers}
-use Rattle.bt_engine.specs.Settling.{judged_file, SettlesIn}
-use Rattle.bt_engine.specs.Output.{Sent as SentFrame, Effect}
-use Rattle.bt_engine.specs.Request.{FindsFault, damaged, fault, HandlesRequest, ignored, no_place, not_marked, served, stopped}
-use Rattle.bt_engine.specs.Arrival.{Arrives, HandlesPiece, stale, arrives}
-use Rattle.bt_engine.specs.HashMessages.{HandlesHashes, unknown_root, no_claim, refused, learns}
-use Rattle.bt_engine.specs.WireEvents.{HandlesHave, in_range, out_of_range, HandlesBitfield, right, wrong, HandlesMessage, Handles}
-use Rattle.bt_engine.specs.Next.{StepNext, no_peer, waits, goes_on, closes, faulty, no_memory}
-use Rattle.bt_engine.specs.Peers.{StepConnect, joins, full, spent, no_memory as no_room, StepFeed, feeds, no_peer as not_fed, no_memory as no_room_to_feed, StepLost, goes, no_peer as not_lost}
-use Rattle.bt_engine.specs.Rechoke.{FollowsEach, StepRechoke, rechokes, no_memory as not_rechoked}
-use Rattle.bt_engine.specs.Adopting.{AdoptsGroup, AdoptsGroups, is_other, StepAdopt, no_file, busy, empty, adopts, no_memory as not_adopted}
-use Rattle.bt_engine.specs.Flush.{StepFlush, syncs_of, syncs, fails}
-use Rattle.bt_engine.specs.Step.{Answer, Step}
-use Rattle.bt_engine.specs.Writes.{KeepsBytes, AllKeepBytes, IsWriteOfMissing, StepWritesMissing}
+use Rattle.bt_engine.proofs.Base.{◌≡◌, ℕ, ◌*◌, ◌⊎◌, inl, inr, List, [], ◌∷◌, ◌++◌, length, Some, Result, Ok, Err, refl, sym, ap, ◌∙◌, slice_get, slice_set, flat_map, Contains-append_cases, full_block_length, block_length, Call, bytes_written, write_fault, sync_made, sync_fault, Facts, blocks_of, held_at, value_at, value_inside, value_covers, value_padding, cases_node, BlockRead, given, failed, call_of, PutIsDue, calls_of_put, states_after_put, Missing, StoreError, Range, DeviceFault, Put, Already, Wrong, PutMarked, PutWaiting, BlockId, PeerMessage as Sent, KeepAlive, Choke, Unchoke, Interested, NotInterested, Have, Bitfield, Request, Piece, Cancel, HashRequest, Hashes, HashReject, Hello, Message, Skipped}
+use Rattle.bt_engine.proofs.Machine.{Digest, Connect, Feed, Next, Lost, Rechoke, Adopt, Flush, FileState, EngineState, DeviceCalls, calls_at, reads_at, with_file, with_tree, SettlesIn, FindsFault, damaged, fault, HandlesRequest, ignored, no_place, not_marked, served, stopped, Arrives, HandlesPiece, stale, arrives, HandlesHashes, unknown_root, no_claim, refused, learns, HandlesHave, in_range, out_of_range, HandlesBitfield, right, wrong, HandlesMessage, Handles, StepNext, no_peer, waits, goes_on, closes, faulty, no_memory, StepConnect, joins, full, spent, no_room, StepFeed, feeds, not_fed, no_room as no_room_to_feed, StepLost, goes, not_fed as not_lost, FollowsEach, StepRechoke, rechokes, not_rechoked, AdoptsGroup, AdoptsGroups, StepAdopt, no_file, busy, empty, adopts, not_adopted, StepFlush, syncs_of, syncs, fails, Step, KeepsBytes, AllKeepBytes, IsWriteOfMissing, StepWritesMissing}
 use Rattle.bt_engine.proofs.Lists.{set_cases, map_some, contains_none, contains_cases, contains_map, contains_flat_map}
 use Rattle.bt_engine.proofs.Adopting.{group_extends}
 
 -- where a file's tree comes from
-pub record GrownFrom (dig : List ℕ → List ℕ) (files : List FileState) (trees : List Facts) (file : ℕ) (new : Facts) : Type 0 where
+pub record GrownFrom (dig : Digest) (files : List FileState) (trees : List Facts) (file : ℕ) (new : Facts) : Type 0 where
   pub old_file : FileState
   pub old_tree : Facts
   pub here : slice_get files file ≡ Some old_file
@@ -67,200 +27,205 @@ pub data Touches (files : List FileState) (trees : List Facts) (calls : DeviceCa
 abbrev pub Tame : (List ℕ → List ℕ) → List FileState → List Facts → DeviceCalls → EngineState → Type 0
 Tame dig files trees calls mid = Grows dig files trees mid × Touches files trees calls
 
-value_kept : (dig : List ℕ → List ℕ) (old new : Facts) → new.file_length ≡ old.file_length → ((l i : ℕ) (d : List ℕ) → held_at old l i ≡ Some d → held_at new l i ≡ Some d)
-    → (l i : ℕ) (d : List ℕ) → value_at dig old l i ≡ Some d → value_at dig new l i ≡ Some d
+value_kept : (dig : Digest) (old new : Facts) → new.file_length ≡ old.file_length
+    → ((l i : ℕ) (d : List ℕ) → held_at old l i ≡ Some d → held_at new l i ≡ Some d) → (l i d : _) → value_at dig old l i ≡ Some d
+    → value_at dig new l i ≡ Some d
 value_kept dig old new size kept l i d e =
-    let blocks : blocks_of new ≡ blocks_of old = ap block_count size in
+    let blocks : blocks_of new ≡ blocks_of old = cc in
     elim (cases_node (blocks_of old) l i (value_inside dig old l i d e)) [
-      | inl covers ↦ value_covers dig new l i (subst (λ n. CoversBlock n l i) (sym blocks) covers) ∙ kept l i d (sym (value_covers dig old l i covers) ∙ e)
-      | inr past ↦ value_padding dig new l i (subst (λ n. IsPadding n l i) (sym blocks) past) ∙ sym (value_padding dig old l i past) ∙ e
+      | inl covers ↦ value_covers dig new l i (rw blocks covers) ∙ kept l i d (sym (value_covers dig old l i covers) ∙ e)
+      | inr past ↦ value_padding dig new l i (rw blocks past) ∙ sym (value_padding dig old l i past) ∙ e
     ]
 
 no_calls : AllKeepBytes []
-no_calls c among = absurd (contains_none c among)
+no_calls c among = absurd (contains_none among)
 
-keep_is : (xs ys : DeviceCalls) → xs ≡ ys → AllKeepBytes ys → AllKeepBytes xs
-keep_is xs ys e f = subst (λ cs. AllKeepBytes cs) (sym e) f
+keep_is : {xs ys : _} → xs ≡ ys → AllKeepBytes ys → AllKeepBytes xs
+keep_is e f = rw e f
 
 read_keeps : (n : ℕ) (r : BlockRead) → KeepsBytes (call_of n r)
 read_keeps n (given i bytes) = tt
 read_keeps n (failed i) = tt
 
-reads_keep : (file n : ℕ) (reads : List BlockRead) → AllKeepBytes (reads_at file n reads)
+reads_keep : (file n reads : _) → AllKeepBytes (reads_at file n reads)
 reads_keep file n reads c among =
-    let m = contains_map (λ read. (file, call_of n read)) reads c among in
-    subst (λ (x : ℕ × Call). KeepsBytes x.1) m.2 (read_keeps n m.0)
+    let m = contains_map (λ read. (file, call_of n read)) reads among in
+    rw (← m.2) (read_keeps n m.0)
 
-syncs_keep : (files : List ℕ) → AllKeepBytes (syncs_of files)
+syncs_keep : (files : _) → AllKeepBytes (syncs_of files)
 syncs_keep files c among =
-    let m = contains_map (λ file. (file, sync_made)) files c among in
-    subst (λ (x : ℕ × Call). KeepsBytes x.1) m.2 tt
+    let m = contains_map (λ file. (file, sync_made)) files among in
+    rw (← m.2) tt
 
-append_keeps : (xs ys : DeviceCalls) → AllKeepBytes xs → AllKeepBytes ys → AllKeepBytes (xs ++ ys)
+append_keeps : (xs ys : _) → AllKeepBytes xs → AllKeepBytes ys → AllKeepBytes (xs ++ ys)
 append_keeps xs ys f g c among = elim (Contains-append_cases xs ys c among) [ inl one ↦ f c one | inr more ↦ g c more ]
 
-module _ (dig : List ℕ → List ℕ) where
-  same_tree : (files : List FileState) (trees : List Facts) (file : ℕ) (f : FileState) (k : Facts) → slice_get files file ≡ Some f → slice_get trees f.tree ≡ Some k → GrownFrom dig files trees file k
-  same_tree files trees file f k at hung = record { old_file = f; old_tree = k; here = at; hung = hung; same_length = refl; same_root = refl; kept = λ i d e. e }
+module _ (dig : Digest) where
+  same_tree : {files : List FileState} {trees : List Facts} {file : ℕ} {f : FileState} {k : Facts} → slice_get files file ≡ Some f
+      → slice_get trees f.tree ≡ Some k → GrownFrom dig files trees file k
+  same_tree {f} {k} at hung = record { old_file = f; old_tree = k; here = at; hung = hung; same_length = refl; same_root = refl; kept = λ i d e. e }
 
   -- the engine has the same files and trees
   stays : (s mid : EngineState) → mid.files ≡ s.files → mid.trees ≡ s.trees → Grows dig s.files s.trees mid
-  stays s mid files trees file f k at hung = same_tree s.files s.trees file f k (sym (ap (λ fs. slice_get fs file) files) ∙ at) (sym (ap (λ ts. slice_get ts f.tree) trees) ∙ hung)
+  stays s mid files trees file f k at hung = same_tree (sym (cc) ∙ at) (cc)
 
   -- one like another
-  like : (files : List FileState) (trees : List Facts) (m mid : EngineState) → mid.files ≡ m.files → mid.trees ≡ m.trees → Grows dig files trees m → Grows dig files trees mid
-  like files trees m mid sames sametrees g file f k at hung = g file f k (sym (ap (λ fs. slice_get fs file) sames) ∙ at) (sym (ap (λ ts. slice_get ts f.tree) sametrees) ∙ hung)
+  like : (files trees : _) (m mid : EngineState) → mid.files ≡ m.files → mid.trees ≡ m.trees → Grows dig files trees m → Grows dig files trees mid
+  like files trees m mid sames sametrees g file f k at hung = g file f k (cc) (cc)
 
-  quiet : (s mid : EngineState) (calls : DeviceCalls) → mid.files ≡ s.files → mid.trees ≡ s.trees → calls ≡ [] → Tame dig s.files s.trees calls mid
-  quiet s mid calls files trees none = (stays s mid files trees, keeping (keep_is calls [] none no_calls))
+  quiet : (s mid : EngineState) {calls : _} → mid.files ≡ s.files → mid.trees ≡ s.trees → calls ≡ [] → Tame dig s.files s.trees calls mid
+  quiet s mid files trees none = (stays s mid files trees, keeping (keep_is none no_calls))
 
   -- a file stands in the place of one with the same tree
-  file_grows : (s : EngineState) (file : ℕ) (f new : FileState) → slice_get s.files file ≡ Some f → new.tree ≡ f.tree → Grows dig s.files s.trees (with_file s file new)
-  file_grows s file f new at same other g k there hung = elim (set_cases s.files file other new g there) [
-    | inl now ↦ same_tree s.files s.trees other f k (ap (slice_get s.files) now.0 ∙ at) (ap (slice_get s.trees) (sym same ∙ sym (ap (λ (q : FileState). q.tree) now.1)) ∙ hung)
-    | inr old ↦ same_tree s.files s.trees other g k old hung
+  file_grows : (s : EngineState) (file : ℕ) {f : _} (new : FileState) → slice_get s.files file ≡ Some f → new.tree ≡ f.tree
+      → Grows dig s.files s.trees (with_file s file new)
+  file_grows s file new at same other g k there hung = elim (set_cases _ file other there) [
+    | inl now ↦ same_tree (ap (slice_get s.files) now.0 ∙ at) (cc)
+    | inr old ↦ same_tree old hung
   ]
 
-  have_tame : (s mid : EngineState) (i : ℕ) (p : PeerState) (piece : ℕ) (calls : DeviceCalls) (effect : Effect) → calls ≡ [] → HandlesHave s i p piece effect mid → Tame dig s.files s.trees calls mid
-  have_tame s mid i p piece calls effect none (in_range x y e) = quiet s mid calls (ap (λ z. z.files) e) (ap (λ z. z.trees) e) none
-  have_tame s mid i p piece calls effect none (out_of_range x y e) = quiet s mid calls (ap (λ z. z.files) e) (ap (λ z. z.trees) e) none
+  have_tame : {s mid i p piece calls effect : _} → calls ≡ [] → HandlesHave s i p piece effect mid → Tame dig s.files s.trees calls mid
+  have_tame {s} {mid} none (in_range x y e) = quiet s mid (cc) (cc) none
+  have_tame {s} {mid} none (out_of_range x y e) = quiet s mid (cc) (cc) none
 
-  bits_tame : (s mid : EngineState) (i : ℕ) (p : PeerState) (bytes : List ℕ) (calls : DeviceCalls) (effect : Effect) → calls ≡ [] → HandlesBitfield s i p bytes effect mid → Tame dig s.files s.trees calls mid
-  bits_tame s mid i p bytes calls effect none (right x y e) = quiet s mid calls (ap (λ z. z.files) e) (ap (λ z. z.trees) e) none
-  bits_tame s mid i p bytes calls effect none (wrong x y e) = quiet s mid calls (ap (λ z. z.files) e) (ap (λ z. z.trees) e) none
+  bits_tame : {s mid i p bytes calls effect : _} → calls ≡ [] → HandlesBitfield s i p bytes effect mid → Tame dig s.files s.trees calls mid
+  bits_tame {s} {mid} none (right x y e) = quiet s mid (cc) (cc) none
+  bits_tame {s} {mid} none (wrong x y e) = quiet s mid (cc) (cc) none
 
-  fault_grows : (k : Facts) (s mid : EngineState) (file i : ℕ) (f : FileState) (read : BlockRead) (effect : Effect) → slice_get s.files file ≡ Some f → FindsFault dig k s file i f read effect mid → Grows dig s.files s.trees mid
-  fault_grows k s mid file i f read effect at (damaged bytes x y z e) =
+  fault_grows : {s : EngineState} {k mid file i f read effect : _} → slice_get s.files file ≡ Some f → FindsFault dig k s file i f read effect mid
+      → Grows dig s.files s.trees mid
+  fault_grows {s} {mid} {file} {i} {f} at (damaged bytes x y z e) =
       let new : FileState = record f { states = slice_set f.states i Missing } in
-      like s.files s.trees (with_file s file new) mid (ap (λ z. z.files) e) (ap (λ z. z.trees) e) (file_grows s file f new at refl)
-  fault_grows k s mid file i f read effect at (fault x y e) = stays s mid (ap (λ z. z.files) e) (ap (λ z. z.trees) e)
+      like s.files s.trees (with_file s file new) mid (cc) (cc) (file_grows s file new at refl)
+  fault_grows {s} {mid} at (fault x y e) = stays s mid (cc) (cc)
 
-  request_tame : (s mid : EngineState) (i : ℕ) (p : PeerState) (ask : Ask) (calls : DeviceCalls) (effect : Effect) → HandlesRequest dig s i p ask calls effect mid → Tame dig s.files s.trees calls mid
-  request_tame s mid i p ask calls effect (ignored a c d e) = quiet s mid calls (ap (λ z. z.files) e) (ap (λ z. z.trees) e) c
-  request_tame s mid i p ask calls effect (no_place a c d f e) = quiet s mid calls (ap (λ z. z.files) e) (ap (λ z. z.trees) e) d
-  request_tame s mid i p ask calls effect (not_marked span a c d f g e) = quiet s mid calls (ap (λ z. z.files) e) (ap (λ z. z.trees) e) f
-  request_tame s mid i p ask calls effect (served span a c d f) = (stays s mid (ap (λ z. z.files) f.after) (ap (λ z. z.trees) f.after), keeping (keep_is calls _ f.made (reads_keep span.file f.tree.file_length f.reads)))
-  request_tame s mid i p ask calls effect (stopped span a c d f) = (
-    fault_grows f.tree s mid span.file f.block f.file f.read effect f.is_file.here f.finds,
-    keeping (keep_is calls _ f.made (reads_keep span.file f.tree.file_length (f.reads ++ f.read ∷ []))),
+  request_tame : {s mid i p ask calls effect : _} → HandlesRequest dig s i p ask calls effect mid → Tame dig s.files s.trees calls mid
+  request_tame {s} {mid} (ignored a c d e) = quiet s mid (cc) (cc) c
+  request_tame {s} {mid} (no_place a c d f e) = quiet s mid (cc) (cc) d
+  request_tame {s} {mid} (not_marked span a c d f g e) = quiet s mid (cc) (cc) f
+  request_tame {s} {mid} (served span a c d f) = (stays s mid (cc) (cc), keeping (keep_is f.made (reads_keep _ _ _)))
+  request_tame (stopped span a c d f) = (
+    fault_grows f.is_file.here f.finds,
+    keeping (keep_is f.made (reads_keep _ _ _)),
   )
 
-  put_touches : (files : List FileState) (trees : List Facts) (c : BlockId) (bytes : List ℕ) (f : FileState) (k : Facts) (calls : DeviceCalls) → slice_get files c.file ≡ Some f → slice_get trees f.tree ≡ Some k
-      → (r : Result Put StoreError) → PutIsDue dig k c.block bytes f.states r → calls ≡ calls_at c.file (calls_of_put c.block bytes r) → Touches files trees calls
-  put_touches files trees c bytes f k calls at hung (Ok PutMarked) due made = putting c bytes f k _ at hung due.1 due.0.whole made (inl refl)
-  put_touches files trees c bytes f k calls at hung (Ok PutWaiting) due made = putting c bytes f k _ at hung due.1 due.0.whole made (inl refl)
-  put_touches files trees c bytes f k calls at hung (Err DeviceFault) due made = putting c bytes f k _ at hung due.1 due.0.whole made (inr refl)
-  put_touches files trees c bytes f k calls at hung (Ok Already) due made = keeping (keep_is calls [] made no_calls)
-  put_touches files trees c bytes f k calls at hung (Ok Wrong) due made = keeping (keep_is calls [] made no_calls)
-  put_touches files trees c bytes f k calls at hung (Err Range) due made = keeping (keep_is calls [] made no_calls)
+  put_touches : {files : List FileState} {trees : List Facts} (c : BlockId) (bytes : _) {f : FileState} {k : Facts} {calls : DeviceCalls}
+      → slice_get files c.file ≡ Some f → slice_get trees f.tree ≡ Some k → (r : Result Put StoreError) → PutIsDue dig k c.block bytes f.states r
+      → calls ≡ calls_at c.file (calls_of_put c.block bytes r) → Touches files trees calls
+  put_touches c bytes {f} {k} at hung (Ok PutMarked) due made = putting c bytes f k _ at hung due.1 due.0.whole made (inl refl)
+  put_touches c bytes {f} {k} at hung (Ok PutWaiting) due made = putting c bytes f k _ at hung due.1 due.0.whole made (inl refl)
+  put_touches c bytes {f} {k} at hung (Err DeviceFault) due made = putting c bytes f k _ at hung due.1 due.0.whole made (inr refl)
+  put_touches c bytes at hung (Ok Already) due made = keeping (keep_is made no_calls)
+  put_touches c bytes at hung (Ok Wrong) due made = keeping (keep_is made no_calls)
+  put_touches c bytes at hung (Err Range) due made = keeping (keep_is made no_calls)
 
-  arrives_tame : (s mid : EngineState) (i : ℕ) (p : PeerState) (piece begin : ℕ) (bytes : List ℕ) (calls : DeviceCalls) (effect : Effect) → Arrives dig s i p piece begin bytes calls effect mid → Tame dig s.files s.trees calls mid
-  arrives_tame s mid i p piece begin bytes calls effect a =
+  arrives_tame : {s mid i p piece begin bytes calls effect : _} → Arrives dig s i p piece begin bytes calls effect mid → Tame dig s.files s.trees calls mid
+  arrives_tame {s} {mid} {bytes} a =
       let q = a.puts in
       let new : FileState = record q.file { states = states_after_put a.block.block q.result q.file.states } in
-      let stored : Grows dig s.files s.trees a.stored = like s.files s.trees (with_file s a.block.file new) a.stored (ap (λ z. z.files) q.after) (ap (λ z. z.trees) q.after) (file_grows s a.block.file q.file new q.is_file.here refl) in (
-        like s.files s.trees a.stored mid (ap (λ z. z.files) a.after) (ap (λ z. z.trees) a.after) stored,
-        put_touches s.files s.trees a.block bytes q.file q.tree calls q.is_file.here q.is_file.hung q.result q.due q.made,
+      let stored = like s.files s.trees (with_file s a.block.file new) a.stored (cc) (cc) (file_grows s a.block.file new q.is_file.here refl) in (
+        like s.files s.trees a.stored mid (cc) (cc) stored,
+        put_touches a.block bytes q.is_file.here q.is_file.hung q.result q.due q.made,
       )
 
-  piece_tame : (s mid : EngineState) (i : ℕ) (p : PeerState) (piece begin : ℕ) (bytes : List ℕ) (calls : DeviceCalls) (effect : Effect) → HandlesPiece dig s i p piece begin bytes calls effect mid → Tame dig s.files s.trees calls mid
-  piece_tame s mid i p piece begin bytes calls effect (stale x y z e) = quiet s mid calls (ap (λ z. z.files) e) (ap (λ z. z.trees) e) y
-  piece_tame s mid i p piece begin bytes calls effect (arrives a) = arrives_tame s mid i p piece begin bytes calls effect a
+  piece_tame : {s mid i p piece begin bytes calls effect : _} → HandlesPiece dig s i p piece begin bytes calls effect mid → Tame dig s.files s.trees calls mid
+  piece_tame {s} {mid} (stale x y z e) = quiet s mid (cc) (cc) y
+  piece_tame (arrives a) = arrives_tame a
 
   -- a grown tree stands in the place of the one that it grew from
-  tree_grows : (s : EngineState) (t : ℕ) (old new : Facts) → slice_get s.trees t ≡ Some old → new.file_length ≡ old.file_length → new.root ≡ old.root
+  tree_grows : (s : EngineState) (t : ℕ) {old : _} (new : Facts) → slice_get s.trees t ≡ Some old → new.file_length ≡ old.file_length → new.root ≡ old.root
       → ((i : ℕ) (d : List ℕ) → value_at dig old 0 i ≡ Some d → value_at dig new 0 i ≡ Some d) → Grows dig s.files s.trees (with_tree s t new)
-  tree_grows s t old new at size root kept file f k there hung = elim (set_cases s.trees t f.tree new k hung) [
-    | inl now ↦ subst (λ x. GrownFrom dig s.files s.trees file x) (sym now.1) (record {
+  tree_grows s t {old} new at size root kept file f k there hung = elim (set_cases _ t _ hung) [
+    | inl now ↦ rw now.1 (record {
       old_file = f;
       old_tree = old;
       here = there;
-      hung = ap (slice_get s.trees) now.0 ∙ at;
+      hung = cc;
       same_length = size;
       same_root = root;
       kept = kept;
     })
-    | inr before ↦ same_tree s.files s.trees file f k there before
+    | inr before ↦ same_tree there before
   ]
 
-  settled_grows : (files : List FileState) (trees : List Facts) (is_meant : ℕ → Bool) (t from count : ℕ) (old new : EngineState) (calls : DeviceCalls) (notes : _) → SettlesIn dig is_meant t from count old calls notes new → Grows dig files trees old
-      → Grows dig files trees new
-  settled_grows files trees is_meant t from count old new calls notes s g file f k at hung =
-      let m = map_some (judged_file dig s.facts (s.reads file)) (slice_get old.files file) f (sym (s.files file) ∙ at) in
-      let tree : m.0.tree ≡ f.tree = ap (λ (q : FileState). q.tree) m.2 in
-      g file m.0 k m.1 (ap (slice_get old.trees) tree ∙ sym (ap (λ ts. slice_get ts f.tree) (ap (λ z. z.trees) s.others)) ∙ hung)
+  settled_grows : (files trees : _) {is_meant t from count old new calls notes : _} → SettlesIn dig is_meant t from count old calls notes new
+      → Grows dig files trees old → Grows dig files trees new
+  settled_grows files trees {old} s g file f k at hung =
+      let m = map_some _ _ (sym (s.files file) ∙ at) in
+      let tree : m.0.tree ≡ f.tree = cc in
+      g file m.0 k m.1 (cc)
 
-  settled_keeps : (is_meant : ℕ → Bool) (t from count : ℕ) (old new : EngineState) (calls : DeviceCalls) (notes : _) → SettlesIn dig is_meant t from count old calls notes new → AllKeepBytes calls
-  settled_keeps is_meant t from count old new calls notes s = keep_is calls _ s.made (λ c among.
-      let m = contains_flat_map (λ file. reads_at file s.facts.file_length (s.reads file)) (file_numbers old) c among in
-      reads_keep m.0 s.facts.file_length (s.reads m.0) c m.2)
+  settled_keeps : {is_meant t from count old new calls notes : _} → SettlesIn dig is_meant t from count old calls notes new → AllKeepBytes calls
+  settled_keeps {old} s = keep_is s.made (λ c among.
+      let m = contains_flat_map (λ file. reads_at file s.facts.file_length (s.reads file)) _ among in
+      reads_keep m.0 _ _ c m.2)
 
-  hashes_tame : (s mid : EngineState) (i : ℕ) (p : PeerState) (key : HashKey) (digests : List ℕ) (calls : DeviceCalls) (effect : Effect) → HandlesHashes dig s i p key digests calls effect mid → Tame dig s.files s.trees calls mid
-  hashes_tame s mid i p key digests calls effect (unknown_root x y z e) = quiet s mid calls (ap (λ z. z.files) e) (ap (λ z. z.trees) e) y
-  hashes_tame s mid i p key digests calls effect (no_claim f x y c) = quiet s mid calls (ap (λ z. z.files) c.after) (ap (λ z. z.trees) c.after) c.made
-  hashes_tame s mid i p key digests calls effect (refused f t k c x y z g) = quiet s mid calls (ap (λ z. z.files) g.after) (ap (λ z. z.trees) g.after) g.made
-  hashes_tame s mid i p key digests calls effect (learns l) =
-      let settled : Grows dig s.files s.trees l.settled = settled_grows s.files s.trees (λ file. true) l.tree key.index _ (with_tree s l.tree l.new) l.settled calls l.notes l.settles (tree_grows s l.tree l.old l.new l.here.here l.accepts.joins.file_length l.accepts.joins.root (value_kept dig l.old l.new l.accepts.joins.file_length l.accepts.joins.kept 0)) in (
-        like s.files s.trees l.settled mid (ap (λ z. z.files) l.after) (ap (λ z. z.trees) l.after) settled,
-        keeping (settled_keeps (λ file. true) l.tree key.index _ (with_tree s l.tree l.new) l.settled calls l.notes l.settles),
+  hashes_tame : {s mid i p key digests calls effect : _} → HandlesHashes dig s i p key digests calls effect mid → Tame dig s.files s.trees calls mid
+  hashes_tame {s} {mid} (unknown_root x y z e) = quiet s mid (cc) (cc) y
+  hashes_tame {s} {mid} (no_claim f x y c) = quiet s mid (cc) (cc) c.made
+  hashes_tame {s} {mid} (refused f t k c x y z g) = quiet s mid (cc) (cc) g.made
+  hashes_tame {s} {mid} (learns l) =
+      let settled = settled_grows s.files s.trees l.settles (tree_grows s l.tree l.new l.here.here l.accepts.joins.file_length l.accepts.joins.root (value_kept dig l.old l.new l.accepts.joins.file_length l.accepts.joins.kept 0)) in (
+        like s.files s.trees l.settled mid (cc) (cc) settled,
+        keeping (settled_keeps l.settles),
       )
 
-  message_tame : (s mid : EngineState) (i : ℕ) (p : PeerState) (m : Sent) (calls : DeviceCalls) (effect : Effect) → HandlesMessage dig s i p m calls effect mid → Tame dig s.files s.trees calls mid
-  message_tame s mid i p KeepAlive calls effect h = quiet s mid calls (ap (λ z. z.files) h.2) (ap (λ z. z.trees) h.2) h.0
-  message_tame s mid i p Choke calls effect h = quiet s mid calls (ap (λ z. z.files) h.2) (ap (λ z. z.trees) h.2) h.0
-  message_tame s mid i p Unchoke calls effect h = quiet s mid calls (ap (λ z. z.files) h.2) (ap (λ z. z.trees) h.2) h.0
-  message_tame s mid i p Interested calls effect h = quiet s mid calls (ap (λ z. z.files) h.2) (ap (λ z. z.trees) h.2) h.0
-  message_tame s mid i p NotInterested calls effect h = quiet s mid calls (ap (λ z. z.files) h.2) (ap (λ z. z.trees) h.2) h.0
-  message_tame s mid i p (Have piece) calls effect h = have_tame s mid i p piece calls effect h.0 h.1
-  message_tame s mid i p (Bitfield bytes) calls effect h = bits_tame s mid i p bytes calls effect h.0 h.1
-  message_tame s mid i p (Request ask) calls effect h = request_tame s mid i p ask calls effect h
-  message_tame s mid i p (Piece piece begin bytes) calls effect h = piece_tame s mid i p piece begin bytes calls effect h
-  message_tame s mid i p (Cancel ask) calls effect h = quiet s mid calls (ap (λ z. z.files) h.2) (ap (λ z. z.trees) h.2) h.0
-  message_tame s mid i p (HashRequest key) calls effect h = quiet s mid calls (ap (λ z. z.files) h.2) (ap (λ z. z.trees) h.2) h.0
-  message_tame s mid i p (Hashes key digests) calls effect h = hashes_tame s mid i p key digests calls effect h
-  message_tame s mid i p (HashReject key) calls effect h = quiet s mid calls (ap (λ z. z.files) h.2.after) (ap (λ z. z.trees) h.2.after) h.0
+  message_tame : (s mid i p : _) (m : Sent) (calls effect : _) → HandlesMessage dig s i p m calls effect mid → Tame dig s.files s.trees calls mid
+  message_tame s mid i p KeepAlive calls effect h = quiet s mid (cc) (cc) h.0
+  message_tame s mid i p Choke calls effect h = quiet s mid (cc) (cc) h.0
+  message_tame s mid i p Unchoke calls effect h = quiet s mid (cc) (cc) h.0
+  message_tame s mid i p Interested calls effect h = quiet s mid (cc) (cc) h.0
+  message_tame s mid i p NotInterested calls effect h = quiet s mid (cc) (cc) h.0
+  message_tame s mid i p (Have piece) calls effect h = have_tame h.0 h.1
+  message_tame s mid i p (Bitfield bytes) calls effect h = bits_tame h.0 h.1
+  message_tame s mid i p (Request ask) calls effect h = request_tame h
+  message_tame s mid i p (Piece piece begin bytes) calls effect h = piece_tame h
+  message_tame s mid i p (Cancel ask) calls effect h = quiet s mid (cc) (cc) h.0
+  message_tame s mid i p (HashRequest key) calls effect h = quiet s mid (cc) (cc) h.0
+  message_tame s mid i p (Hashes key digests) calls effect h = hashes_tame h
+  message_tame s mid i p (HashReject key) calls effect h = quiet s mid (cc) (cc) h.0
 
-  event_tame : (s mid : EngineState) (i : ℕ) (p : PeerState) (e : WireEvent) (calls : DeviceCalls) (effect : Effect) → Handles dig s i p e calls effect mid → Tame dig s.files s.trees calls mid
-  event_tame s mid i p (Hello h) calls effect t = quiet s mid calls (ap (λ z. z.files) t.2) (ap (λ z. z.trees) t.2) t.0
-  event_tame s mid i p (Message m) calls effect t = message_tame s mid i p m calls effect t
-  event_tame s mid i p (Skipped kind) calls effect t = quiet s mid calls (ap (λ z. z.files) t.2) (ap (λ z. z.trees) t.2) t.0
+  event_tame : (s mid i p e calls effect : _) → Handles dig s i p e calls effect mid → Tame dig s.files s.trees calls mid
+  event_tame s mid i p (Hello h) calls effect t = quiet s mid (cc) (cc) t.0
+  event_tame s mid i p (Message m) calls effect t = message_tame s mid i p m calls _ t
+  event_tame s mid i p (Skipped kind) calls effect t = quiet s mid (cc) (cc) t.0
 
-  next_tame : (s new : EngineState) (key : _) (calls : DeviceCalls) (answer : _) → StepNext dig s key calls answer new → Tame dig s.files s.trees calls new
-  next_tame s new key calls answer (no_peer x y z e) = quiet s new calls (ap (λ z. z.files) e) (ap (λ z. z.trees) e) y
-  next_tame s new key calls answer (waits i p x y z w e) = quiet s new calls (ap (λ z. z.files) e) (ap (λ z. z.trees) e) z
-  next_tame s new key calls answer (goes_on i p out x g y) =
-      let t = event_tame _ g.mid i _ g.takes.event calls g.effect g.takes.handles in
-      (like s.files s.trees g.mid new (ap (λ z. z.files) g.follows.after) (ap (λ z. z.trees) g.follows.after) t.0, t.1)
-  next_tame s new key calls answer (closes i p out x g y) =
-      let t = event_tame _ g.mid i _ g.takes.event calls g.effect g.takes.handles in
-      (like s.files s.trees g.mid new (ap (λ z. z.files) g.after) (ap (λ z. z.trees) g.after) t.0, t.1)
-  next_tame s new key calls answer (faulty i p out x g y) = quiet s new calls (ap (λ z. z.files) g.after) (ap (λ z. z.trees) g.after) g.made
-  next_tame s new key calls answer (no_memory i p x g y) = quiet s new calls (ap (λ z. z.files) g.after) (ap (λ z. z.trees) g.after) g.made
+  next_tame : {s new key calls answer : _} → StepNext dig s key calls answer new → Tame dig s.files s.trees calls new
+  next_tame {s} {new} (no_peer x y z e) = quiet s new (cc) (cc) y
+  next_tame {s} {new} (waits i p x y z w e) = quiet s new (cc) (cc) z
+  next_tame {s} {new} {calls} (goes_on i p out x g y) =
+      let t = event_tame _ g.mid i _ _ calls _ g.takes.handles in
+      (like _ _ g.mid new (cc) (cc) t.0, t.1)
+  next_tame {s} {new} {calls} (closes i p out x g y) =
+      let t = event_tame _ g.mid i _ _ calls _ g.takes.handles in
+      (like _ _ g.mid new (cc) (cc) t.0, t.1)
+  next_tame {s} {new} (faulty i p out x g y) = quiet s new (cc) (cc) g.made
+  next_tame {s} {new} (no_memory i p x g y) = quiet s new (cc) (cc) g.made
 
-  each_same : (peers : List ℕ) (s new : EngineState) (sent : List SentFrame) → FollowsEach dig peers s sent new → (new.files ≡ s.files) × (new.trees ≡ s.trees)
+  each_same : (peers s new sent : _) → FollowsEach dig peers s sent new → (new.files ≡ s.files) × (new.trees ≡ s.trees)
   each_same [] s new sent f = (ap (λ z. z.files) f.1, ap (λ z. z.trees) f.1)
   each_same (i ∷ peers) s new sent f =
       let r = each_same peers f.0 new f.2 f.4 in
       (r.0 ∙ ap (λ z. z.files) f.3.after, r.1 ∙ ap (λ z. z.trees) f.3.after)
 
-  connect_tame : (s new : EngineState) (calls : DeviceCalls) (answer : _) → calls ≡ [] → StepConnect s answer new → Tame dig s.files s.trees calls new
-  connect_tame s new calls answer none (joins key bytes x y z w v e) = quiet s new calls (ap (λ z. z.files) e) (ap (λ z. z.trees) e) none
-  connect_tame s new calls answer none (full x y e) = quiet s new calls (ap (λ z. z.files) e) (ap (λ z. z.trees) e) none
-  connect_tame s new calls answer none (spent x y z e) = quiet s new calls (ap (λ z. z.files) e) (ap (λ z. z.trees) e) none
-  connect_tame s new calls answer none (no_room x y z e) = quiet s new calls (ap (λ z. z.files) e) (ap (λ z. z.trees) e) none
+  connect_tame : {s new calls answer : _} → calls ≡ [] → StepConnect s answer new → Tame dig s.files s.trees calls new
+  connect_tame {s} {new} none (joins key bytes x y z w v e) = quiet s new (cc) (cc) none
+  connect_tame {s} {new} none (full x y e) = quiet s new (cc) (cc) none
+  connect_tame {s} {new} none (spent x y z e) = quiet s new (cc) (cc) none
+  connect_tame {s} {new} none (no_room x y z e) = quiet s new (cc) (cc) none
 
-  feed_tame : (s new : EngineState) (key : _) (bytes : List ℕ) (calls : DeviceCalls) (answer : _) → calls ≡ [] → StepFeed s key bytes answer new → Tame dig s.files s.trees calls new
-  feed_tame s new key bytes calls answer none (feeds i p x y e) = quiet s new calls (ap (λ z. z.files) e) (ap (λ z. z.trees) e) none
-  feed_tame s new key bytes calls answer none (not_fed x y e) = quiet s new calls (ap (λ z. z.files) e) (ap (λ z. z.trees) e) none
-  feed_tame s new key bytes calls answer none (no_room_to_feed i p x y e) = quiet s new calls (ap (λ z. z.files) e) (ap (λ z. z.trees) e) none
+  feed_tame : {s new key bytes calls answer : _} → calls ≡ [] → StepFeed s key bytes answer new → Tame dig s.files s.trees calls new
+  feed_tame {s} {new} none (feeds i p x y e) = quiet s new (cc) (cc) none
+  feed_tame {s} {new} none (not_fed x y e) = quiet s new (cc) (cc) none
+  feed_tame {s} {new} none (no_room_to_feed i p x y e) = quiet s new (cc) (cc) none
 
-  lost_tame : (s new : EngineState) (key : _) (calls : DeviceCalls) (answer : _) → calls ≡ [] → StepLost s key answer new → Tame dig s.files s.trees calls new
-  lost_tame s new key calls answer none (goes i p x y e) = quiet s new calls (ap (λ z. z.files) e) (ap (λ z. z.trees) e) none
-  lost_tame s new key calls answer none (not_lost x y e) = quiet s new calls (ap (λ z. z.files) e) (ap (λ z. z.trees) e) none
+  lost_tame : {s new key calls answer : _} → calls ≡ [] → StepLost s key answer new → Tame dig s.files s.trees calls new
+  lost_tame {s} {new} none (goes i p x y e) = quiet s new (cc) (cc) none
+  lost_tame {s} {new} none (not_lost x y e) = quiet s new (cc) (cc) none
 
-  rechoke_tame : (s new : EngineState) (calls : DeviceCalls) (answer : _) → calls ≡ [] → StepRechoke dig s answer new → Tame dig s.files s.trees calls new
-  rechoke_tame s new calls answer none (rechokes out r x) = let same = each_same _ _ new r.sent r.follows in quiet s new calls same.0 same.1 none
-  rechoke_tame s new calls answer none (not_rechoked x e) = quiet s new calls (ap (λ z. z.files) e) (ap (λ z. z.trees) e) none
+  rechoke_tame : {s new calls answer : _} → calls ≡ [] → StepRechoke dig s answer new → Tame dig s.files s.trees calls new
+  rechoke_tame {s} {new} none (rechokes out r x) = let same = each_same _ _ new _ r.follows in quiet s new same.0 same.1 none
+  rechoke_tame {s} {new} none (not_rechoked x e) = quiet s new (cc) (cc) none
 
   -- a tree that comes from one that has grown
   grows_then : (s mid new : EngineState) → Grows dig s.files s.trees mid → Grows dig mid.files mid.trees new → Grows dig s.files s.trees new
@@ -272,76 +237,76 @@ module _ (dig : List ℕ → List ℕ) where
         old_tree = before.old_tree;
         here = before.here;
         hung = before.hung;
-        same_length = later.same_length ∙ before.same_length;
-        same_root = later.same_root ∙ before.same_root;
+        same_length = cc;
+        same_root = cc;
         kept = λ i d e. later.kept i d (before.kept i d e);
       }
 
-  group_tame : (s new : EngineState) (file from : ℕ) (calls : DeviceCalls) (adopted : _) → AdoptsGroup dig s file from calls adopted new → Grows dig s.files s.trees new × AllKeepBytes calls
-  group_tame s new file from calls adopted g =
+  group_tame : {s new file from calls adopted : _} → AdoptsGroup dig s file from calls adopted new → Grows dig s.files s.trees new × AllKeepBytes calls
+  group_tame {s} {new} {file} g =
       let state : FileState = record g.state { states = g.states } in
-      let extends = group_extends dig s new file from calls adopted g in
-      let placed : EngineState = with_file s file state in (
-        like s.files s.trees (with_tree placed g.state.tree g.grown) new (ap (λ z. z.files) g.after) (ap (λ z. z.trees) g.after)
-            (grows_then s placed (with_tree placed g.state.tree g.grown) (file_grows s file g.state state g.is_file.here refl)
-            (tree_grows placed g.state.tree g.tree g.grown g.is_file.hung extends.file_length extends.root (extends.values 0))),
-        keep_is calls _ g.made (reads_keep file g.tree.file_length g.reads),
+      let extends = group_extends dig g in
+      let placed = with_file s file state in (
+        like s.files s.trees (with_tree placed g.state.tree g.grown) new (cc) (cc)
+            (grows_then s placed (with_tree placed g.state.tree g.grown) (file_grows s file state g.is_file.here refl)
+            (tree_grows placed g.state.tree g.grown g.is_file.hung extends.file_length extends.root (extends.values 0))),
+        keep_is g.made (reads_keep file g.tree.file_length g.reads),
       )
 
-  groups_tame : (s new : EngineState) (file from : ℕ) (groups : List DeviceCalls) (total : _) → AdoptsGroups dig s file from groups total new
+  groups_tame : (s new file from groups total : _) → AdoptsGroups dig s file from groups total new
       → Grows dig s.files s.trees new × AllKeepBytes (flat_map (λ c. c) groups)
-  groups_tame s new file from [] total g = (stays s new (ap (λ z. z.files) g.1) (ap (λ z. z.trees) g.1), no_calls)
+  groups_tame s new file from [] total g = (stays s new (cc) (cc), no_calls)
   groups_tame s new file from (calls ∷ groups) total g =
-      let one = group_tame s g.1 file from calls g.0 g.3 in
+      let one = group_tame g.3 in
       let more = groups_tame g.1 new file g.0.next groups g.2 g.4 in
       (grows_then s g.1 new one.0 more.0, append_keeps calls (flat_map (λ c. c) groups) one.1 more.1)
 
-  adopt_tame : (s new : EngineState) (file : ℕ) (calls : DeviceCalls) (answer : _) → StepAdopt dig s file calls answer new → Tame dig s.files s.trees calls new
-  adopt_tame s new file calls answer (no_file x y z e) = quiet s new calls (ap (λ z. z.files) e) (ap (λ z. z.trees) e) y
-  adopt_tame s new file calls answer (busy x y z w e) = quiet s new calls (ap (λ z. z.files) e) (ap (λ z. z.trees) e) z
-  adopt_tame s new file calls answer (empty f x y z w v e) = quiet s new calls (ap (λ z. z.files) e) (ap (λ z. z.trees) e) w
-  adopt_tame s new file calls answer (adopts total x a y) =
+  adopt_tame : {s new file calls answer : _} → StepAdopt dig s file calls answer new → Tame dig s.files s.trees calls new
+  adopt_tame {s} {new} (no_file x y z e) = quiet s new (cc) (cc) y
+  adopt_tame {s} {new} (busy x y z w e) = quiet s new (cc) (cc) z
+  adopt_tame {s} {new} (empty f x y z w v e) = quiet s new (cc) (cc) w
+  adopt_tame {s} {new} {file} (adopts total x a y) =
       let groups = groups_tame s a.mid file 0 a.groups total a.adopts in
-      let settled : Grows dig s.files s.trees a.settled = settled_grows s.files s.trees (is_other file) a.state.tree 0 _ a.mid a.settled a.settling a.notes a.settles groups.0 in (
-        like s.files s.trees a.settled new (ap (λ z. z.files) a.after) (ap (λ z. z.trees) a.after) settled,
-        keeping (keep_is calls _ a.made (append_keeps (flat_map (λ c. c) a.groups) a.settling groups.1 (settled_keeps (is_other file) a.state.tree 0 _ a.mid a.settled a.settling a.notes a.settles))),
+      let settled = settled_grows s.files s.trees a.settles groups.0 in (
+        like s.files s.trees a.settled new (cc) (cc) settled,
+        keeping (keep_is a.made (append_keeps (flat_map (λ c. c) a.groups) a.settling groups.1 (settled_keeps a.settles))),
       )
-  adopt_tame s new file calls answer (not_adopted x a y) =
+  adopt_tame {s} {new} {file} (not_adopted x a y) =
       let groups = groups_tame s new file 0 a.groups a.done a.adopts in
-      (groups.0, keeping (keep_is calls _ a.made (append_keeps (flat_map (λ c. c) a.groups) _ groups.1 (reads_keep file a.tree.file_length a.reads))))
+      (groups.0, keeping (keep_is a.made (append_keeps (flat_map (λ c. c) a.groups) _ groups.1 (reads_keep file a.tree.file_length a.reads))))
 
-  flush_tame : (s new : EngineState) (calls : DeviceCalls) (answer : _) → StepFlush s calls answer new → Tame dig s.files s.trees calls new
-  flush_tame s new calls answer (syncs x y z e) = (stays s new (ap (λ z. z.files) e) (ap (λ z. z.trees) e), keeping (keep_is calls _ y (syncs_keep _)))
-  flush_tame s new calls answer (fails before file after x y z e) = (
-    stays s new (ap (λ z. z.files) e) (ap (λ z. z.trees) e),
-    keeping (keep_is calls _ y (append_keeps (syncs_of before) ((file, sync_fault) ∷ []) (syncs_keep before) (λ c among. elim (contains_cases (file, sync_fault) c [] among) [
-      | inl one ↦ subst (λ (x : ℕ × Call). KeepsBytes x.1) one tt
-      | inr none ↦ absurd (contains_none c none)
+  flush_tame : {s new calls answer : _} → StepFlush s calls answer new → Tame dig s.files s.trees calls new
+  flush_tame {s} {new} (syncs x y z e) = (stays s new (cc) (cc), keeping (keep_is y (syncs_keep _)))
+  flush_tame {s} {new} (fails before file after x y z e) = (
+    stays s new (cc) (cc),
+    keeping (keep_is y (append_keeps (syncs_of before) ((file, sync_fault) ∷ []) (syncs_keep before) (λ c among. elim (contains_cases [] among) [
+      | inl one ↦ rw (← one) tt
+      | inr none ↦ absurd (contains_none none)
     ]))),
   )
 
-  pub step_tame : (s new : EngineState) (e : Event) (calls : DeviceCalls) (a : Answer) → Step dig s e calls a new → Tame dig s.files s.trees calls new
-  step_tame s new Connect calls a t = connect_tame s new calls t.0 t.2 t.3
-  step_tame s new (Feed key bytes) calls a t = feed_tame s new key bytes calls t.0 t.2 t.3
-  step_tame s new (Next key) calls a t = next_tame s new key calls t.0 t.2
-  step_tame s new (Lost key) calls a t = lost_tame s new key calls t.0 t.2 t.3
-  step_tame s new Rechoke calls a t = rechoke_tame s new calls t.0 t.2 t.3
-  step_tame s new (Adopt file) calls a t = adopt_tame s new file calls t.0 t.2
-  step_tame s new Flush calls a t = flush_tame s new calls t.0 t.2
+  pub step_tame : (s new e calls a : _) → Step dig s e calls a new → Tame dig s.files s.trees calls new
+  step_tame s new Connect calls a t = connect_tame t.2 t.3
+  step_tame s new (Feed key bytes) calls a t = feed_tame t.2 t.3
+  step_tame s new (Next key) calls a t = next_tame t.2
+  step_tame s new (Lost key) calls a t = lost_tame t.2 t.3
+  step_tame s new Rechoke calls a t = rechoke_tame t.2 t.3
+  step_tame s new (Adopt file) calls a t = adopt_tame t.2
+  step_tame s new Flush calls a t = flush_tame t.2
 
-  writes_of : (s : EngineState) (calls : DeviceCalls) → Touches s.files s.trees calls → AllKeepBytes calls ⊎ IsWriteOfMissing s calls
-  writes_of s calls (keeping keep) = inl keep
-  writes_of s calls (putting b bytes f k call here hung missing whole only writes) = inr (record {
+  writes_of : {s : EngineState} {calls : _} → Touches s.files s.trees calls → AllKeepBytes calls ⊎ IsWriteOfMissing s calls
+  writes_of (keeping keep) = inl keep
+  writes_of {s} (putting b bytes f k call here hung missing whole only writes) = inr (record {
     block = b;
     tree = k;
     bytes = bytes;
     call = call;
-    missing = ap (option_and_then (λ (q : FileState). slice_get q.states b.block)) here ∙ missing;
-    hung = ap (option_and_then (λ (q : FileState). slice_get s.trees q.tree)) here ∙ hung;
+    missing = cc;
+    hung = cc;
     whole = whole;
     only = only;
     writes = writes;
   })
 
   pub writes_missing : StepWritesMissing dig
-  writes_missing s new e calls a step = writes_of s calls (step_tame s new e calls a step).1
+  writes_missing s new e calls a step = writes_of (step_tame s new e calls a step).1

@@ -2,4 +2,4 @@ use Rattle.bt_engine.proofs.Marking.{run_marks}
 use Rattle.bt_engine.proofs.law.run_marks_by_bytes.Goals as goal
 
 pub returns : goal.returns
-returns g c = run_marks g.H.NodeHash.digest
+returns g c = run_marks

@@ -4,5 +4,5 @@ use Rattle.bt_engine.proofs.law.runs_are_checked.Goals as goal
 
 pub returns : goal.returns
 returns g c = λ torrent first last events calls answers lawful starts run.
-    let rooted = run_rooted g.H.NodeHash.digest first last events calls answers run (start_rooted g.H.NodeHash.digest g.met.H.NodeHash.has_32_bytes torrent first lawful starts) in
+    let rooted = run_rooted g.H.NodeHash.digest first last events calls answers run (start_rooted g.met.H.NodeHash.has_32_bytes lawful starts) in
     (rooted, rooted_checked g.H.NodeHash.digest last rooted)
