@@ -1,8 +1,11 @@
 //! Blocks and ranges past the end of the file, empty ranges, and a last block that is short.
 
-use super::{adopted, block, claim, leaf, rooted, three_blocks, zeros};
+use super::steps::{Step, wrong_step};
+use super::{Fixture, block, leaf, learn, rooted, three_blocks, zeros};
 use crate::{Put, ReadError, Rechecked, Settled, StoreError};
+use bt_disk::DeviceFault;
 use bt_tree::{BLOCK_LEN, NodeHash, Plain};
+use std::alloc::{AllocError, Global};
 use std::test::Fail;
 
 const NOTHING_SETTLED: Settled = Settled {
@@ -11,29 +14,54 @@ const NOTHING_SETTLED: Settled = Settled {
     faults: 0,
 };
 
+const RANGES: [Step; 11] = [
+    Step::Settle(0, 0, Ok(NOTHING_SETTLED)),
+    Step::Settle(3, 0, Ok(NOTHING_SETTLED)),
+    Step::Settle(0, 3, Ok(NOTHING_SETTLED)),
+    Step::Settle(2, 1, Ok(NOTHING_SETTLED)),
+    Step::Settle(4, 0, Err(StoreError::Range)),
+    Step::Settle(3, 1, Err(StoreError::Range)),
+    Step::Settle(0, 4, Err(StoreError::Range)),
+    Step::Settle(1, u32::MAX, Err(StoreError::Range)),
+    Step::Settle(u32::MAX, 0, Err(StoreError::Range)),
+    Step::Settle(u32::MAX, 1, Err(StoreError::Range)),
+    Step::Settle(u32::MAX, u32::MAX, Err(StoreError::Range)),
+];
+
 #[test]
 fn a_range_has_to_end_within_the_file(rt: HostRuntime) -> Result<(), Fail> {
     let alloc = rt.alloc();
     let mut f = three_blocks(alloc, zeros(alloc, 0)?)?;
-    for (from, count) in [(0, 0), (3, 0), (0, 3), (2, 1)] {
-        let answer = f.settle(from, count);
-        assert_eq!(rt; answer, Some(Ok(NOTHING_SETTLED)), "{count} from {from}");
-    }
-    let last = u32::MAX;
-    for (from, count) in [
-        (4, 0),
-        (3, 1),
-        (0, 4),
-        (1, last),
-        (last, 0),
-        (last, 1),
-        (last, last),
-    ] {
-        let answer = f.settle(from, count);
-        assert_eq!(rt; answer, Some(Err(StoreError::Range)), "{count} from {from}");
-    }
+    assert_eq!(rt; wrong_step(alloc, &mut f, &RANGES)?, None);
     Ok(())
 }
+
+/// What a store answers of a block that the file does not have.
+fn no_block(number: u32) -> [Step; 5] {
+    [
+        Step::Put(number, 0, BLOCK_LEN, Err(StoreError::Range)),
+        Step::Put(number, 0, 0, Err(StoreError::Range)),
+        Step::Restore(number, Err(StoreError::Range)),
+        Step::Read(number, Err(ReadError::NotMarked)),
+        Step::State(number, None),
+    ]
+}
+
+const NOTHING_RECHECKED: Rechecked = Rechecked {
+    kept: 0,
+    unmarked: 0,
+    faults: 0,
+};
+
+const NOTHING_TO_DO: [Step; 7] = [
+    Step::Put(0, 0, 0, Err(StoreError::Range)),
+    Step::Settle(0, 3, Ok(NOTHING_SETTLED)),
+    Step::Read(0, Err(ReadError::NotMarked)),
+    Step::Restore(0, Ok(false)),
+    Step::Recheck(NOTHING_RECHECKED),
+    Step::Adopt(3, 3, 0, 0, 0),
+    Step::Sync(Err(DeviceFault)),
+];
 
 /// What is refused, and what there is nothing to do for, makes no call of the device: the first one is that
 /// of `sync`.
@@ -41,27 +69,44 @@ fn a_range_has_to_end_within_the_file(rt: HostRuntime) -> Result<(), Fail> {
 fn refusals_reach_no_device(rt: HostRuntime) -> Result<(), Fail> {
     let alloc = rt.alloc();
     let mut f = three_blocks(alloc, zeros(alloc, 0)?.failing_once(1))?;
-    let mut out = block(alloc, 0, BLOCK_LEN)?;
-    for block in [3, u32::MAX] {
-        assert_eq!(rt; f.put(block, &out), Some(Err(StoreError::Range)));
-        assert_eq!(rt; f.put(block, &[]), Some(Err(StoreError::Range)));
-        assert_eq!(rt; f.restore(block), Some(Err(StoreError::Range)));
-        assert_eq!(rt; f.read(block, &mut out), Some(Err(ReadError::NotMarked)));
-        assert_eq!(rt; f.state(block), None);
+    for number in [3, u32::MAX] {
+        assert_eq!(rt;
+            wrong_step(alloc, &mut f, &no_block(number))?,
+            None,
+            "block {number}"
+        );
     }
-    assert_eq!(rt; f.put(0, &[]), Some(Err(StoreError::Range)));
-    assert_eq!(rt; f.settle(0, 3), Some(Ok(NOTHING_SETTLED)));
-    assert_eq!(rt; f.read(0, &mut out), Some(Err(ReadError::NotMarked)));
-    assert_eq!(rt; f.restore(0), Some(Ok(false)));
-    let none = Rechecked {
-        kept: 0,
-        unmarked: 0,
-        faults: 0,
-    };
-    assert_eq!(rt; f.recheck(), Some(none));
-    assert!(rt; f.adopt(3) == adopted(3, 0, 0));
-    assert!(rt; f.sync().is_err());
+    assert_eq!(rt; wrong_step(alloc, &mut f, &NOTHING_TO_DO)?, None);
     Ok(())
+}
+
+const BOTH_WAIT: [Step; 5] = [
+    Step::Put(1, 7, 0, Err(StoreError::Range)),
+    Step::Put(1, 7, 2, Err(StoreError::Range)),
+    Step::Put(1, 7, BLOCK_LEN, Err(StoreError::Range)),
+    Step::Put(0, 1, BLOCK_LEN, Ok(Put::Waiting)),
+    Step::Put(1, 7, 1, Ok(Put::Waiting)),
+];
+
+const BOTH_SETTLED: Settled = Settled {
+    marked: 2,
+    freed: 0,
+    faults: 0,
+};
+
+const FOUND_AGAIN: [Step; 3] = [
+    Step::Clear,
+    Step::Put(1, 8, 1, Ok(Put::Wrong)),
+    Step::Restore(1, Ok(true)),
+];
+
+/// The one byte of a block.
+fn lone_byte(alloc: Global, f: &mut Fixture, number: u32) -> Result<Option<u8>, AllocError> {
+    let mut out = block(alloc, 0, BLOCK_LEN)?;
+    if f.read(number, &mut out) != Some(Ok(1)) {
+        return Ok(None);
+    }
+    Ok(out.first().copied())
 }
 
 #[test]
@@ -70,36 +115,22 @@ fn a_last_block_may_have_one_byte(rt: HostRuntime) -> Result<(), Fail> {
     let leaves = [leaf(alloc, 1)?, Plain.block(&[7])];
     let root = Plain.pair(&leaves[0], &leaves[1]);
     let mut f = rooted(alloc, BLOCK_LEN + 1, root, zeros(alloc, 0)?)?;
-    for length in [0, 2, BLOCK_LEN] {
-        let bytes = block(alloc, 7, length)?;
-        assert_eq!(rt; f.put(1, &bytes), Some(Err(StoreError::Range)));
-    }
-    let full = block(alloc, 1, BLOCK_LEN)?;
-    assert_eq!(rt; f.put(0, &full), Some(Ok(Put::Waiting)));
-    assert_eq!(rt; f.put(1, &[7]), Some(Ok(Put::Waiting)));
+    assert_eq!(rt; wrong_step(alloc, &mut f, &BOTH_WAIT)?, None);
     assert_eq!(rt; f.bytes().len(), BLOCK_LEN + 1);
-    assert!(rt; f.accept(&claim(alloc, &leaves)?));
-    let settled = Settled {
-        marked: 2,
-        freed: 0,
-        faults: 0,
-    };
-    assert_eq!(rt; f.settle(0, 2), Some(Ok(settled)));
-    let mut out = block(alloc, 0, BLOCK_LEN)?;
-    assert_eq!(rt; f.read(1, &mut out), Some(Ok(1)));
-    assert_eq!(rt; out.first(), Some(&7));
-    f.store.clear();
-    assert_eq!(rt; f.put(1, &[8]), Some(Ok(Put::Wrong)));
-    assert_eq!(rt; f.restore(1), Some(Ok(true)));
+    assert!(rt; learn(alloc, &mut f, &leaves)?);
+    assert_eq!(rt; f.settle(0, 2), Some(Ok(BOTH_SETTLED)));
+    assert_eq!(rt; lone_byte(alloc, &mut f, 1)?, Some(7));
+    assert_eq!(rt; wrong_step(alloc, &mut f, &FOUND_AGAIN)?, None);
     Ok(())
 }
+
+const NOT_ADOPTED: [Step; 2] = [Step::Adopt(1, 2, 1, 0, 0), Step::Marked(0)];
 
 #[test]
 fn a_disk_that_ends_in_a_short_block_is_not_adopted(rt: HostRuntime) -> Result<(), Fail> {
     let alloc = rt.alloc();
     let root = Plain.pair(&leaf(alloc, 0)?, &Plain.block(&[0, 0]));
     let mut f = rooted(alloc, BLOCK_LEN + 2, root, zeros(alloc, BLOCK_LEN + 1)?)?;
-    assert!(rt; f.adopt(1) == adopted(2, 1, 0));
-    assert_eq!(rt; f.marked(), 0);
+    assert_eq!(rt; wrong_step(alloc, &mut f, &NOT_ADOPTED)?, None);
     Ok(())
 }
