@@ -13,7 +13,7 @@ use bt_sparse::{AnswerError, Claim, Digests, SparseTree};
 use bt_tree::{BLOCK_LEN, Geometry, Hash32, NodeHash, Plain, RootBuilder, pad};
 use std::alloc::{AllocError, Global};
 use std::test::Fail;
-use steps::{Step, put_filled, wrong_step};
+use steps::{Step, expect};
 
 /// A store with the tree of its file.
 #[derive(Drop)]
@@ -190,16 +190,24 @@ fn three_blocks(alloc: Global, disk: FaultDisk<MemoryDisk>) -> Result<Fixture, F
     rooted(alloc, 49152, root(&leaves(alloc)?), disk)
 }
 
-const WAITING: [Step; 6] = [
+/// The same on a disk of so many zeros.
+fn three_missing(alloc: Global, length: usize) -> Result<Fixture, Fail> {
+    three_blocks(alloc, zeros(alloc, length)?)
+}
+
+/// The same on the disk that has them.
+fn three_there(alloc: Global) -> Result<Fixture, Fail> {
+    three_blocks(alloc, filled(alloc)?)
+}
+
+const SETTLED_BY_A_PROOF: [Step; 10] = [
     Step::Put(0, 1, BLOCK_LEN, Ok(Put::Waiting)),
     Step::Put(0, 1, BLOCK_LEN, Ok(Put::Already)),
     Step::Put(3, 1, BLOCK_LEN, Err(StoreError::Range)),
     Step::Put(1, 1, 100, Err(StoreError::Range)),
     Step::Put(2, 0xff, BLOCK_LEN, Ok(Put::Waiting)),
     Step::Waiting(2),
-];
-
-const SETTLED: [Step; 3] = [
+    Step::Learn,
     Step::Settle(
         0,
         3,
@@ -215,15 +223,12 @@ const SETTLED: [Step; 3] = [
 
 #[test]
 fn blocks_that_wait_are_settled_by_a_proof(rt: HostRuntime) -> Result<(), Fail> {
-    let alloc = rt.alloc();
-    let mut f = three_blocks(alloc, zeros(alloc, 49152)?)?;
-    assert_eq!(rt; wrong_step(alloc, &mut f, &WAITING)?, None);
-    assert!(rt; learn(alloc, &mut f, &leaves(alloc)?)?);
-    assert_eq!(rt; wrong_step(alloc, &mut f, &SETTLED)?, None);
-    Ok(())
+    let f = three_missing(rt.alloc(), 49152)?;
+    expect(rt.alloc(), f, &SETTLED_BY_A_PROOF)
 }
 
-const DECIDED: [Step; 10] = [
+const DECIDED_BY_LEAVES: [Step; 11] = [
+    Step::Learn,
     Step::Put(1, 0xff, BLOCK_LEN, Ok(Put::Wrong)),
     Step::Put(1, 2, BLOCK_LEN, Ok(Put::Marked)),
     Step::Read(2, Err(ReadError::NotMarked)),
@@ -238,35 +243,26 @@ const DECIDED: [Step; 10] = [
 
 #[test]
 fn known_leaves_decide_on_blocks_that_come(rt: HostRuntime) -> Result<(), Fail> {
-    let alloc = rt.alloc();
-    let mut f = three_blocks(alloc, zeros(alloc, 49152)?)?;
-    assert!(rt; learn(alloc, &mut f, &leaves(alloc)?)?);
-    assert_eq!(rt; wrong_step(alloc, &mut f, &DECIDED)?, None);
-    Ok(())
+    let f = three_missing(rt.alloc(), 49152)?;
+    expect(rt.alloc(), f, &DECIDED_BY_LEAVES)
 }
 
-/// The first block is written and marked, by the first call of the device.
-fn first_marked(alloc: Global, disk: FaultDisk<MemoryDisk>) -> Result<Fixture, Fail> {
-    let mut f = three_blocks(alloc, disk)?;
-    let known = learn(alloc, &mut f, &leaves(alloc)?)?;
-    let put = put_filled(alloc, &mut f, 0, 1, BLOCK_LEN)?;
-    if !known || put != Some(Ok(Put::Marked)) {
-        return Err("not marked")?;
-    }
-    Ok(f)
+/// A store of the three blocks whose device changes a bit of its second call, which reads the first block.
+fn three_flipped(alloc: Global) -> Result<Fixture, Fail> {
+    three_blocks(alloc, zeros(alloc, 49152)?.flipping(2, 0))
 }
 
-const DAMAGED: [Step; 2] = [
+const DAMAGED: [Step; 4] = [
+    Step::Learn,
+    Step::Put(0, 1, BLOCK_LEN, Ok(Put::Marked)),
     Step::Read(0, Err(ReadError::Damaged)),
     Step::Read(0, Err(ReadError::NotMarked)),
 ];
 
 #[test]
 fn a_changed_bit_is_not_lent(rt: HostRuntime) -> Result<(), Fail> {
-    let alloc = rt.alloc();
-    let mut f = first_marked(alloc, zeros(alloc, 49152)?.flipping(2, 0))?;
-    assert_eq!(rt; wrong_step(alloc, &mut f, &DAMAGED)?, None);
-    Ok(())
+    let f = three_flipped(rt.alloc())?;
+    expect(rt.alloc(), f, &DAMAGED)
 }
 
 /// The digests of a file of zeros.
@@ -329,18 +325,16 @@ fn leaves_of(alloc: Global, file: &[u8]) -> Result<Vec<Hash32>, AllocError> {
     Ok(leaves)
 }
 
-const NINE_ADOPTED: [Step; 2] = [Step::Adopt(0, 8, 0, 8, 0), Step::Adopt(8, 9, 0, 1, 0)];
-
-/// Adopts nine blocks by nine calls of the device.
-fn nine_blocks(alloc: Global, disk: FaultDisk<MemoryDisk>) -> Result<Fixture, Fail> {
-    let mut f = ZeroFile::new(alloc, 131073)?.known(alloc, disk)?;
-    if wrong_step(alloc, &mut f, &NINE_ADOPTED)?.is_some() {
-        return Err("not adopted")?;
-    }
-    Ok(f)
+/// A store of the file of nine blocks whose device changes a bit of its twelfth call, which reads the third
+/// block again.
+fn nine_flipped(alloc: Global) -> Result<Fixture, Fail> {
+    let disk = zeros(alloc, 131073)?.flipping(12, 40000);
+    ZeroFile::new(alloc, 131073)?.known(alloc, disk)
 }
 
-const ONE_UNMARKED: [Step; 2] = [
+const ONE_UNMARKED: [Step; 4] = [
+    Step::Adopt(0, 8, 0, 8, 0),
+    Step::Adopt(8, 9, 0, 1, 0),
     Step::Recheck(Rechecked {
         kept: 8,
         unmarked: 1,
@@ -351,28 +345,32 @@ const ONE_UNMARKED: [Step; 2] = [
 
 #[test]
 fn a_recheck_finds_a_changed_bit(rt: HostRuntime) -> Result<(), Fail> {
-    let alloc = rt.alloc();
-    let mut f = nine_blocks(alloc, zeros(alloc, 131073)?.flipping(12, 40000))?;
-    assert_eq!(rt; wrong_step(alloc, &mut f, &ONE_UNMARKED)?, None);
-    Ok(())
+    let f = nine_flipped(rt.alloc())?;
+    expect(rt.alloc(), f, &ONE_UNMARKED)
+}
+
+/// The file of so many zeros is adopted by its leaves; its last block has the rest.
+fn adopt_zeros(alloc: Global, length: usize, last: u32, rest: usize) -> Result<(), Fail> {
+    let f = known_zeros(alloc, length)?;
+    let blocks = last.saturating_add(1);
+    let steps = [
+        Step::Adopt(0, blocks, 0, blocks, 0),
+        Step::Complete(true),
+        Step::Read(last, Ok(rest)),
+    ];
+    expect(alloc, f, &steps)
 }
 
 /// A store of the file of so many zeros, on a disk that has it.
 fn known_zeros(alloc: Global, length: usize) -> Result<Fixture, Fail> {
-    ZeroFile::new(alloc, length)?.known(alloc, zeros(alloc, length)?)
+    let disk = zeros(alloc, length)?;
+    ZeroFile::new(alloc, length)?.known(alloc, disk)
 }
 
 #[test]
 fn the_last_block_may_be_short(rt: HostRuntime) -> Result<(), Fail> {
-    let alloc = rt.alloc();
     for (length, last, rest) in [(1usize, 0u32, 1usize), (16384, 0, 16384), (16385, 1, 1)] {
-        let mut f = known_zeros(alloc, length)?;
-        let steps = [
-            Step::Adopt(0, last + 1, 0, last + 1, 0),
-            Step::Complete(true),
-            Step::Read(last, Ok(rest)),
-        ];
-        assert_eq!(rt; wrong_step(alloc, &mut f, &steps)?, None, "{length} bytes");
+        adopt_zeros(rt.alloc(), length, last, rest)?;
     }
     Ok(())
 }
@@ -385,64 +383,66 @@ fn filled(alloc: Global) -> Result<FaultDisk<MemoryDisk>, AllocError> {
     Ok(FaultDisk::new(MemoryDisk::new(alloc, bytes)))
 }
 
-const ADOPTED: [Step; 3] = [
+const ADOPTED: [Step; 4] = [
     Step::Adopt(1, 3, 2, 3, 0),
     Step::Complete(true),
     Step::Adopt(3, 3, 0, 0, 0),
+    Step::Leaf(2, 3),
 ];
 
 #[test]
 fn a_file_is_adopted_by_its_root(rt: HostRuntime) -> Result<(), Fail> {
-    let alloc = rt.alloc();
-    let mut f = three_blocks(alloc, filled(alloc)?)?;
-    assert_eq!(rt; wrong_step(alloc, &mut f, &ADOPTED)?, None);
-    assert!(rt; f.known(0, 2) == Some(leaf(alloc, 3)?));
-    Ok(())
+    let f = three_there(rt.alloc())?;
+    expect(rt.alloc(), f, &ADOPTED)
 }
 
 const NOT_ADOPTED: [Step; 2] = [Step::Adopt(0, 3, 2, 0, 0), Step::Marked(0)];
 
 #[test]
 fn other_bytes_are_not_adopted(rt: HostRuntime) -> Result<(), Fail> {
-    let alloc = rt.alloc();
-    let mut f = three_blocks(alloc, zeros(alloc, 49152)?)?;
-    assert_eq!(rt; wrong_step(alloc, &mut f, &NOT_ADOPTED)?, None);
-    Ok(())
+    let f = three_missing(rt.alloc(), 49152)?;
+    expect(rt.alloc(), f, &NOT_ADOPTED)
 }
 
 #[test]
 fn a_short_disk_is_not_adopted(rt: HostRuntime) -> Result<(), Fail> {
-    let alloc = rt.alloc();
-    let mut f = three_blocks(alloc, zeros(alloc, 100)?)?;
-    assert_eq!(rt; wrong_step(alloc, &mut f, &NOT_ADOPTED)?, None);
-    Ok(())
+    let f = three_missing(rt.alloc(), 100)?;
+    expect(rt.alloc(), f, &NOT_ADOPTED)
 }
-
-const MANY_ADOPTED: [Step; 1] = [Step::Adopt(64, 65, 7, 65, 0)];
 
 /// The store of a file of 65 blocks that was adopted by its root.
 fn many_adopted(alloc: Global) -> Result<Fixture, Fail> {
     let mut f = ZeroFile::new(alloc, 1048577)?.rooted(alloc)?;
-    if wrong_step(alloc, &mut f, &MANY_ADOPTED)?.is_some() {
+    if !adopts_many(&mut f) {
         return Err("not adopted")?;
     }
     Ok(f)
 }
 
+fn adopts_many(f: &mut Fixture) -> bool {
+    let adopted = Adopted {
+        next: 65,
+        anchor: 7,
+        marked: 65,
+        faults: 0,
+    };
+    f.adopt(64) == Some(Ok(adopted))
+}
+
+/// Whether the digests are the leaf of one zero byte and its uncles, of which all but the last are padding.
+fn are_uncles(digests: &[Hash32], last: Option<Hash32>) -> bool {
+    digests.len() == 8
+        && digests.get(0).copied() == Some(Plain.block(&[0]))
+        && digests.get(1).copied() == Some([0; 32])
+        && digests.get(2).copied() == Some(pad(Plain, 1))
+        && digests.get(6).copied() == Some(pad(Plain, 5))
+        && digests.get(7).copied() == last
+}
+
 #[test]
 fn an_adopted_file_answers_with_uncles(rt: HostRuntime) -> Result<(), Fail> {
-    let alloc = rt.alloc();
-    let f = many_adopted(alloc)?;
+    let f = many_adopted(rt.alloc())?;
     let digests = f.answer(64, 6)?;
-    assert_eq!(rt; digests.len(), 8);
-    for (place, wanted) in [
-        (0, Some(Plain.block(&[0]))),
-        (1, Some([0; 32])),
-        (2, Some(pad(Plain, 1))),
-        (6, Some(pad(Plain, 5))),
-        (7, f.known(6, 0)),
-    ] {
-        assert!(rt; digests.get(place).copied() == wanted, "digest {place}");
-    }
+    assert!(rt; are_uncles(&digests, f.known(6, 0)));
     Ok(())
 }

@@ -1,10 +1,10 @@
 //! Each call of a device fails once in turn: what is told of it, how the blocks stand then, and what the
 //! device has.
 
-use super::steps::{Step, wrong_step};
+use super::steps::{Step, all_answer};
 use super::{Fixture, ZeroFile, block, filled, leaf, learn, root, rooted, three_blocks, zeros};
 use crate::{BlockState, Put, ReadError, Rechecked, Settled, StoreError};
-use bt_disk::{DeviceFault, FaultDisk, MemoryDisk};
+use bt_disk::DeviceFault;
 use bt_tree::{BLOCK_LEN, Hash32, NodeHash, Plain};
 use std::alloc::{AllocError, Global};
 use std::test::Fail;
@@ -148,19 +148,33 @@ fn has_image(alloc: Global, f: &Fixture, k: u64) -> Result<bool, AllocError> {
     Ok(f.bytes() == image.as_slice())
 }
 
+/// A store of the file whose device fails at its k-th call.
+fn short_failing(alloc: Global, leaves: &[Hash32; 4], k: u64) -> Result<Fixture, Fail> {
+    let disk = zeros(alloc, SHORT_LEN)?.failing_once(k);
+    rooted(alloc, SHORT_LEN, root(leaves), disk)
+}
+
+/// Whether all calls have their answers.
+fn is_used(alloc: Global, f: &mut Fixture, leaves: &[Hash32], k: u64) -> Result<bool, AllocError> {
+    Ok(
+        all_answer(alloc, f, &puts(k))?
+            && learn(alloc, f, leaves)?
+            && all_answer(alloc, f, &uses(k))?,
+    )
+}
+
+/// The file's store is used, where the k-th call of the device fails.
+fn survives(alloc: Global, k: u64) -> Result<bool, Fail> {
+    let leaves = short_leaves(alloc)?;
+    let mut f = short_failing(alloc, &leaves, k)?;
+    let holds = is_used(alloc, &mut f, &leaves, k)? && has_image(alloc, &f, k)?;
+    Ok(holds && f.sync().is_err() == (k == 17))
+}
+
 #[test]
 fn each_call_of_a_device_may_fail(rt: HostRuntime) -> Result<(), Fail> {
-    let alloc = rt.alloc();
-    let leaves = short_leaves(alloc)?;
-    let root = root(&leaves);
     for k in 1..18u64 {
-        let disk = zeros(alloc, SHORT_LEN)?.failing_once(k);
-        let mut f = rooted(alloc, SHORT_LEN, root, disk)?;
-        assert_eq!(rt; wrong_step(alloc, &mut f, &puts(k))?, None, "call {k}");
-        assert!(rt; learn(alloc, &mut f, &leaves)?, "call {k}");
-        assert_eq!(rt; wrong_step(alloc, &mut f, &uses(k))?, None, "call {k}");
-        assert!(rt; has_image(alloc, &f, k)?, "call {k}");
-        assert!(rt; f.sync().is_err() == (k == 17), "call {k}");
+        assert!(rt; survives(rt.alloc(), k)?, "call {k}");
     }
     Ok(())
 }
@@ -178,13 +192,16 @@ fn is_filled(alloc: Global, f: &Fixture) -> Result<bool, AllocError> {
     Ok(f.bytes() == disk.inner().bytes())
 }
 
+/// The three blocks are adopted by their root, where the k-th read fails first.
+fn adopts_again(alloc: Global, k: u64) -> Result<bool, Fail> {
+    let mut f = three_blocks(alloc, filled(alloc)?.failing_once(k))?;
+    Ok(all_answer(alloc, &mut f, &FAILED_ONCE)? && is_filled(alloc, &f)?)
+}
+
 #[test]
 fn each_read_of_an_unknown_group_may_fail(rt: HostRuntime) -> Result<(), Fail> {
-    let alloc = rt.alloc();
     for k in 1..4u64 {
-        let mut f = three_blocks(alloc, filled(alloc)?.failing_once(k))?;
-        assert_eq!(rt; wrong_step(alloc, &mut f, &FAILED_ONCE)?, None, "call {k}");
-        assert!(rt; is_filled(alloc, &f)?, "call {k}");
+        assert!(rt; adopts_again(rt.alloc(), k)?, "call {k}");
     }
     Ok(())
 }
@@ -226,23 +243,27 @@ fn wrong_state(f: &Fixture, blocks: u32, lost: u64) -> Option<u32> {
     None
 }
 
+/// A store of the file whose device has it and fails at its k-th call.
+fn known_failing(alloc: Global, file: &ZeroFile, k: u64) -> Result<Fixture, Fail> {
+    let disk = zeros(alloc, file.length)?.failing_once(k);
+    file.known(alloc, disk)
+}
+
+/// The nine blocks are adopted, checked and adopted again, where the k-th call of the device fails.
+fn adopts_known(alloc: Global, file: &ZeroFile, k: u64) -> Result<bool, Fail> {
+    let mut f = known_failing(alloc, file, k)?;
+    Ok(
+        all_answer(alloc, &mut f, &first_round(k))?
+            && wrong_state(&f, 9, k.saturating_sub(1)).is_none()
+            && all_answer(alloc, &mut f, &second_round(k))?,
+    )
+}
+
 #[test]
 fn each_read_of_known_groups_may_fail(rt: HostRuntime) -> Result<(), Fail> {
-    let alloc = rt.alloc();
-    let file = ZeroFile::new(alloc, 131073)?;
+    let file = ZeroFile::new(rt.alloc(), 131073)?;
     for k in 1..28u64 {
-        let mut f = file.known(alloc, zeros(alloc, 131073)?.failing_once(k))?;
-        assert_eq!(rt;
-            wrong_step(alloc, &mut f, &first_round(k))?,
-            None,
-            "call {k}"
-        );
-        assert_eq!(rt; wrong_state(&f, 9, k - 1), None, "call {k}");
-        assert_eq!(rt;
-            wrong_step(alloc, &mut f, &second_round(k))?,
-            None,
-            "call {k}"
-        );
+        assert!(rt; adopts_known(rt.alloc(), &file, k)?, "call {k}");
     }
     Ok(())
 }
@@ -258,30 +279,32 @@ const EIGHT_WAIT: [Step; 8] = [
     Step::Put(7, 0, BLOCK_LEN, Ok(Put::Waiting)),
 ];
 
-/// Eight blocks that wait, by eight calls of the device, and whose leaves are known.
-fn eight_that_wait(
-    alloc: Global,
-    file: &ZeroFile,
-    disk: FaultDisk<MemoryDisk>,
-) -> Result<Fixture, Fail> {
-    let mut f = rooted(alloc, 131072, file.root, disk)?;
-    let wrong = wrong_step(alloc, &mut f, &EIGHT_WAIT)?;
-    let known = learn(alloc, &mut f, &file.leaves)?;
-    if wrong.is_some() || !known {
-        return Err("not waiting")?;
-    }
-    Ok(f)
+/// A store of the file of which the root alone is known, and whose device fails at its k-th call.
+fn rooted_failing(alloc: Global, file: &ZeroFile, k: u64) -> Result<Fixture, Fail> {
+    let disk = zeros(alloc, file.length)?.failing_once(k);
+    rooted(alloc, file.length, file.root, disk)
+}
+
+/// Eight blocks are put, by calls 1 to 8, and their leaves become known.
+fn eight_wait(alloc: Global, f: &mut Fixture, leaves: &[Hash32]) -> Result<bool, AllocError> {
+    Ok(all_answer(alloc, f, &EIGHT_WAIT)? && learn(alloc, f, leaves)?)
+}
+
+/// They are settled, where the k-th call of the device fails, which reads one of them.
+fn settles_eight(alloc: Global, file: &ZeroFile, k: u64) -> Result<bool, Fail> {
+    let mut f = rooted_failing(alloc, file, k)?;
+    Ok(
+        eight_wait(alloc, &mut f, &file.leaves)?
+            && f.settle(0, 8) == Some(Ok(settled(7, 1)))
+            && wrong_state(&f, 8, k.saturating_sub(9)).is_none(),
+    )
 }
 
 #[test]
 fn each_read_of_eight_blocks_that_wait_may_fail(rt: HostRuntime) -> Result<(), Fail> {
-    let alloc = rt.alloc();
-    let file = ZeroFile::new(alloc, 131072)?;
+    let file = ZeroFile::new(rt.alloc(), 131072)?;
     for k in 9..17u64 {
-        let disk = zeros(alloc, 131072)?.failing_once(k);
-        let mut f = eight_that_wait(alloc, &file, disk)?;
-        assert_eq!(rt; f.settle(0, 8), Some(Ok(settled(7, 1))), "call {k}");
-        assert_eq!(rt; wrong_state(&f, 8, k - 9), None, "call {k}");
+        assert!(rt; settles_eight(rt.alloc(), &file, k)?, "call {k}");
     }
     Ok(())
 }

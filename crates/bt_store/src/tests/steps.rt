@@ -1,10 +1,11 @@
 //! Calls of a store with their answers, so that an example is a table.
 
-use super::{Fixture, block};
+use super::{Fixture, block, leaf, learn, leaves};
 use crate::{Adopted, BlockState, Put, ReadError, Rechecked, Settled, StoreError};
 use bt_disk::DeviceFault;
 use bt_tree::BLOCK_LEN;
 use std::alloc::{AllocError, Global};
+use std::test::Fail;
 
 /// A call of a store, and what it answers last in each.
 #[derive(Clone, Copy)]
@@ -24,8 +25,22 @@ pub enum Step {
     Marked(u32),
     Waiting(u32),
     Complete(bool),
+    /// The claim of the three blocks' leaves is accepted.
+    Learn,
+    /// The leaf of a block is that of a whole block of one byte.
+    Leaf(u32, u8),
     /// Whether the leaf of a block is known.
     Known(u32, bool),
+}
+
+/// Makes the calls in turn, and expects each answer.
+pub fn expect(alloc: Global, f: Fixture, steps: &[Step]) -> Result<(), Fail> {
+    let mut f = f;
+    let wrong = wrong_step(alloc, &mut f, steps)?;
+    match wrong {
+        Some(place) => Err(Fail::new(format_args!("step {place}"))),
+        None => Ok(()),
+    }
 }
 
 /// Makes the calls in turn. The first whose answer is another is told by its place.
@@ -40,6 +55,11 @@ pub fn wrong_step(
         }
     }
     Ok(None)
+}
+
+/// Whether each call has its answer.
+pub fn all_answer(alloc: Global, f: &mut Fixture, steps: &[Step]) -> Result<bool, AllocError> {
+    Ok(wrong_step(alloc, f, steps)?.is_none())
 }
 
 /// Whether a call has its answer.
@@ -70,12 +90,14 @@ fn answers(alloc: Global, f: &mut Fixture, step: Step) -> Result<bool, AllocErro
         Step::Marked(count) => f.marked() == count,
         Step::Waiting(count) => f.waiting() == count,
         Step::Complete(answer) => f.is_complete() == answer,
+        Step::Learn => learn(alloc, f, &leaves(alloc)?)?,
+        Step::Leaf(number, byte) => f.known(0, number) == Some(leaf(alloc, byte)?),
         Step::Known(number, answer) => f.known(0, number).is_some() == answer,
     })
 }
 
 /// Puts a block of one byte over and over.
-pub fn put_filled(
+fn put_filled(
     alloc: Global,
     f: &mut Fixture,
     number: u32,
