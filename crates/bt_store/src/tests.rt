@@ -13,7 +13,7 @@ use bt_sparse::{AnswerError, Claim, Digests, SparseTree};
 use bt_tree::{BLOCK_LEN, Geometry, Hash32, NodeHash, Plain, RootBuilder, pad};
 use std::alloc::{AllocError, Global};
 use std::test::Fail;
-use steps::{Step, all_answer, expect};
+use steps::{Step, after, expect};
 
 /// A store with the tree of its file.
 #[derive(Drop)]
@@ -256,17 +256,16 @@ const DECIDED_AFTER_A_PROOF: [Step; 7] = [
     Step::Restore(3, Err(StoreError::Range)),
 ];
 
-/// A store whose blocks were settled by a proof, decided on, cleared and restored.
-fn restored(alloc: Global) -> Result<Fixture, Fail> {
-    let mut f = three_missing(alloc, 49152)?;
-    if !is_restored(alloc, &mut f)? {
-        return Err("another answer")?;
-    }
-    Ok(f)
+/// A store whose blocks that waited were settled by a proof.
+fn settled(alloc: Global) -> Result<Fixture, Fail> {
+    let f = three_missing(alloc, 49152)?;
+    after(alloc, f, &SETTLED_BY_A_PROOF)
 }
 
-fn is_restored(alloc: Global, f: &mut Fixture) -> Result<bool, AllocError> {
-    Ok(all_answer(alloc, f, &SETTLED_BY_A_PROOF)? && all_answer(alloc, f, &DECIDED_AFTER_A_PROOF)?)
+/// The same once other blocks came, and what is on the disk was restored.
+fn restored(alloc: Global) -> Result<Fixture, Fail> {
+    let f = settled(alloc)?;
+    after(alloc, f, &DECIDED_AFTER_A_PROOF)
 }
 
 /// The bytes of three blocks, each of one byte over and over.

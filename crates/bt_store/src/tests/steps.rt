@@ -35,11 +35,17 @@ pub enum Step {
 
 /// Makes the calls in turn, and expects each answer.
 pub fn expect(alloc: Global, f: Fixture, steps: &[Step]) -> Result<(), Fail> {
+    after(alloc, f, steps)?;
+    Ok(())
+}
+
+/// The store after the calls, made in turn, of which each answer is expected.
+pub fn after(alloc: Global, f: Fixture, steps: &[Step]) -> Result<Fixture, Fail> {
     let mut f = f;
     let wrong = wrong_step(alloc, &mut f, steps)?;
     match wrong {
         Some(place) => Err(Fail::new(format_args!("step {place}"))),
-        None => Ok(()),
+        None => Ok(f),
     }
 }
 
