@@ -5,6 +5,7 @@ ghost use Rattle.std.specs.Bool.{OnTrue};
 
 mod faults;
 mod ranges;
+mod steps;
 
 use crate::{Adopted, BlockState, FileStore, Put, ReadError, Rechecked, Settled, StoreError};
 use bt_disk::{DeviceFault, FaultDisk, MemoryDisk};
@@ -12,6 +13,7 @@ use bt_sparse::{AnswerError, Claim, Digests, SparseTree};
 use bt_tree::{BLOCK_LEN, Geometry, Hash32, NodeHash, Plain, RootBuilder, pad};
 use std::alloc::{AllocError, Global};
 use std::test::Fail;
+use steps::{Step, after, expect};
 
 /// A store with the tree of its file.
 #[derive(Drop)]
@@ -87,6 +89,22 @@ impl Fixture {
         self.store.marked()
     }
 
+    fn waiting(&self) -> u32 {
+        self.store.waiting()
+    }
+
+    fn is_complete(&self) -> bool {
+        self.store.is_complete()
+    }
+
+    fn clear(&mut self) {
+        self.store.clear();
+    }
+
+    fn known(&self, layer: u32, index: u32) -> Option<Hash32> {
+        self.tree.known(layer, index)
+    }
+
     fn sync(&mut self) -> Result<(), DeviceFault> {
         self.store.sync()
     }
@@ -94,6 +112,12 @@ impl Fixture {
     /// The bytes of the disk.
     fn bytes(&self) -> &[u8] {
         self.store.disk().inner().bytes()
+    }
+
+    /// The disk, given back.
+    fn into_disk(self) -> FaultDisk<MemoryDisk> {
+        let Fixture { store, .. } = self;
+        store.into_disk()
     }
 }
 
@@ -122,6 +146,12 @@ fn root(leaves: &[Hash32; 4]) -> Hash32 {
     Plain.pair(&left, &right)
 }
 
+/// Makes the claim of all leaves, and says whether it is accepted.
+fn learn(alloc: Global, f: &mut Fixture, leaves: &[Hash32]) -> Result<bool, AllocError> {
+    let claim = claim(alloc, leaves)?;
+    Ok(f.accept(&claim))
+}
+
 /// The claim of all leaves.
 fn claim(alloc: Global, leaves: &[Hash32]) -> Result<Claim, AllocError> {
     Ok(Claim {
@@ -137,6 +167,19 @@ fn zeros(alloc: Global, length: usize) -> Result<FaultDisk<MemoryDisk>, AllocErr
     Ok(FaultDisk::new(MemoryDisk::new(alloc, block(alloc, 0, length)?)))
 }
 
+/// The disk whose k-th call fails.
+fn failing(disk: FaultDisk<MemoryDisk>, k: u64) -> Result<FaultDisk<MemoryDisk>, Fail> {
+    if k == 0 || k == u64::MAX {
+        return Err("no such call")?;
+    }
+    Ok(disk.failing_once(k))
+}
+
+/// A disk of zeros whose k-th call fails.
+fn failing_zeros(alloc: Global, length: usize, k: u64) -> Result<FaultDisk<MemoryDisk>, Fail> {
+    failing(zeros(alloc, length)?, k)
+}
+
 /// A store of a file of which the root alone is known.
 fn rooted(
     alloc: Global,
@@ -146,7 +189,16 @@ fn rooted(
 ) -> Result<Fixture, Fail> {
     let geometry = Geometry::new(length as u64).ok_or("no geometry")?;
     let tree = SparseTree::new(alloc, Plain, geometry, root)?;
-    let store = FileStore::create(alloc, disk, Plain, geometry)
+    stored(alloc, tree, disk)
+}
+
+/// A store of the tree's file.
+fn stored(
+    alloc: Global,
+    tree: SparseTree<Plain>,
+    disk: FaultDisk<MemoryDisk>,
+) -> Result<Fixture, Fail> {
+    let store = FileStore::create(alloc, disk, Plain, tree.geometry())
         .ok()
         .ok_or("no store")?;
     Ok(Fixture { store, tree })
@@ -157,77 +209,117 @@ fn three_blocks(alloc: Global, disk: FaultDisk<MemoryDisk>) -> Result<Fixture, F
     rooted(alloc, 49152, root(&leaves(alloc)?), disk)
 }
 
+/// The same on a disk of so many zeros.
+fn three_missing(alloc: Global, length: usize) -> Result<Fixture, Fail> {
+    three_blocks(alloc, zeros(alloc, length)?)
+}
+
+/// The same on the disk that has them.
+fn three_there(alloc: Global) -> Result<Fixture, Fail> {
+    three_blocks(alloc, filled(alloc)?)
+}
+
+const SETTLED_BY_A_PROOF: [Step; 10] = [
+    Step::Put(0, 1, BLOCK_LEN, Ok(Put::Waiting)),
+    Step::Put(0, 1, BLOCK_LEN, Ok(Put::Already)),
+    Step::Put(3, 1, BLOCK_LEN, Err(StoreError::Range)),
+    Step::Put(1, 1, 100, Err(StoreError::Range)),
+    Step::Put(2, 0xff, BLOCK_LEN, Ok(Put::Waiting)),
+    Step::Waiting(2),
+    Step::Learn,
+    Step::Settle(
+        0,
+        3,
+        Ok(Settled {
+            marked: 1,
+            freed: 1,
+            faults: 0,
+        }),
+    ),
+    Step::Settle(1, 3, Err(StoreError::Range)),
+    Step::State(2, Some(BlockState::Missing)),
+];
+
 #[test]
 fn blocks_that_wait_are_settled_by_a_proof(rt: HostRuntime) -> Result<(), Fail> {
-    let alloc = rt.alloc();
-    let mut f = three_blocks(alloc, zeros(alloc, 49152)?)?;
-    let first = block(alloc, 1, BLOCK_LEN)?;
-    let wrong = block(alloc, 0xff, BLOCK_LEN)?;
-    assert_eq!(rt; f.put(0, &first), Some(Ok(Put::Waiting)));
-    assert_eq!(rt; f.put(0, &first), Some(Ok(Put::Already)));
-    assert_eq!(rt; f.put(3, &first), Some(Err(StoreError::Range)));
-    assert_eq!(rt;
-        f.put(1, &first[..100.min(first.len())]),
-        Some(Err(StoreError::Range))
-    );
-    assert_eq!(rt; f.put(2, &wrong), Some(Ok(Put::Waiting)));
-    assert_eq!(rt; f.store.waiting(), 2);
-    assert!(rt; f.accept(&claim(alloc, &leaves(alloc)?)?));
-    let settled = Settled {
-        marked: 1,
-        freed: 1,
-        faults: 0,
-    };
-    assert_eq!(rt; f.settle(0, 3), Some(Ok(settled)));
-    assert_eq!(rt; f.settle(1, 3), Some(Err(StoreError::Range)));
-    assert_eq!(rt; f.state(2), Some(BlockState::Missing));
+    let f = three_missing(rt.alloc(), 49152)?;
+    expect(rt.alloc(), f, &SETTLED_BY_A_PROOF)
+}
+
+const DECIDED_AFTER_A_PROOF: [Step; 7] = [
+    Step::Put(1, 0xff, BLOCK_LEN, Ok(Put::Wrong)),
+    Step::Put(1, 2, BLOCK_LEN, Ok(Put::Marked)),
+    Step::Read(2, Err(ReadError::NotMarked)),
+    Step::Clear,
+    Step::Restore(0, Ok(true)),
+    Step::Restore(2, Ok(false)),
+    Step::Restore(3, Err(StoreError::Range)),
+];
+
+/// A store whose blocks that waited were settled by a proof.
+fn settled(alloc: Global) -> Result<Fixture, Fail> {
+    let f = three_missing(alloc, 49152)?;
+    after(alloc, f, &SETTLED_BY_A_PROOF)
+}
+
+/// The same once other blocks came, and what is on the disk was restored.
+fn restored(alloc: Global) -> Result<Fixture, Fail> {
+    let f = settled(alloc)?;
+    after(alloc, f, &DECIDED_AFTER_A_PROOF)
+}
+
+/// The bytes of three blocks, each of one byte over and over.
+fn three_filled(alloc: Global, fillings: [u8; 3]) -> Result<Vec<u8>, AllocError> {
+    let mut bytes = block(alloc, fillings[0], BLOCK_LEN)?;
+    bytes.resize(2 * BLOCK_LEN, fillings[1])?;
+    bytes.resize(3 * BLOCK_LEN, fillings[2])?;
+    Ok(bytes)
+}
+
+#[test]
+fn a_store_gives_its_disk_back(rt: HostRuntime) -> Result<(), Fail> {
+    let disk = restored(rt.alloc())?.into_disk();
+    let bytes = three_filled(rt.alloc(), [1, 2, 0xff])?;
+    assert!(rt; disk.inner().bytes() == bytes.as_slice());
     Ok(())
 }
+
+const DECIDED_BY_LEAVES: [Step; 11] = [
+    Step::Learn,
+    Step::Put(1, 0xff, BLOCK_LEN, Ok(Put::Wrong)),
+    Step::Put(1, 2, BLOCK_LEN, Ok(Put::Marked)),
+    Step::Read(2, Err(ReadError::NotMarked)),
+    Step::Read(1, Ok(BLOCK_LEN)),
+    Step::Marked(1),
+    Step::Complete(false),
+    Step::Clear,
+    Step::Restore(1, Ok(true)),
+    Step::Restore(2, Ok(false)),
+    Step::Restore(3, Err(StoreError::Range)),
+];
 
 #[test]
 fn known_leaves_decide_on_blocks_that_come(rt: HostRuntime) -> Result<(), Fail> {
-    let alloc = rt.alloc();
-    let mut f = three_blocks(alloc, zeros(alloc, 49152)?)?;
-    assert!(rt; f.accept(&claim(alloc, &leaves(alloc)?)?));
-    assert_eq!(rt;
-        f.put(1, &block(alloc, 0xff, BLOCK_LEN)?),
-        Some(Ok(Put::Wrong))
-    );
-    assert_eq!(rt;
-        f.put(1, &block(alloc, 2, BLOCK_LEN)?),
-        Some(Ok(Put::Marked))
-    );
-    let mut out = block(alloc, 0, BLOCK_LEN)?;
-    assert_eq!(rt; f.read(2, &mut out), Some(Err(ReadError::NotMarked)));
-    assert_eq!(rt; f.read(1, &mut out), Some(Ok(BLOCK_LEN)));
-    assert_eq!(rt; f.store.marked(), 1);
-    assert!(rt; !f.store.is_complete());
-    f.store.clear();
-    assert_eq!(rt; f.restore(1), Some(Ok(true)));
-    assert_eq!(rt; f.restore(2), Some(Ok(false)));
-    assert_eq!(rt; f.restore(3), Some(Err(StoreError::Range)));
-    Ok(())
+    let f = three_missing(rt.alloc(), 49152)?;
+    expect(rt.alloc(), f, &DECIDED_BY_LEAVES)
 }
 
-/// The first block is written and marked, by the first call of the device.
-fn first_marked(alloc: Global, disk: FaultDisk<MemoryDisk>) -> Result<Fixture, Fail> {
-    let mut f = three_blocks(alloc, disk)?;
-    let known = f.accept(&claim(alloc, &leaves(alloc)?)?);
-    let put = f.put(0, &block(alloc, 1, BLOCK_LEN)?);
-    if !known || put != Some(Ok(Put::Marked)) {
-        return Err("not marked")?;
-    }
-    Ok(f)
+/// A store of the three blocks whose device changes a bit of its second call, which reads the first block.
+fn three_flipped(alloc: Global) -> Result<Fixture, Fail> {
+    three_blocks(alloc, zeros(alloc, 49152)?.flipping(2, 0))
 }
+
+const DAMAGED: [Step; 4] = [
+    Step::Learn,
+    Step::Put(0, 1, BLOCK_LEN, Ok(Put::Marked)),
+    Step::Read(0, Err(ReadError::Damaged)),
+    Step::Read(0, Err(ReadError::NotMarked)),
+];
 
 #[test]
 fn a_changed_bit_is_not_lent(rt: HostRuntime) -> Result<(), Fail> {
-    let alloc = rt.alloc();
-    let mut f = first_marked(alloc, zeros(alloc, 49152)?.flipping(2, 0))?;
-    let mut out = block(alloc, 0, BLOCK_LEN)?;
-    assert_eq!(rt; f.read(0, &mut out), Some(Err(ReadError::Damaged)));
-    assert_eq!(rt; f.read(0, &mut out), Some(Err(ReadError::NotMarked)));
-    Ok(())
+    let f = three_flipped(rt.alloc())?;
+    expect(rt.alloc(), f, &DAMAGED)
 }
 
 /// The digests of a file of zeros.
@@ -242,31 +334,28 @@ impl ZeroFile {
     fn new(alloc: Global, length: usize) -> Result<ZeroFile, Fail> {
         let geometry = Geometry::new(length as u64).ok_or("no geometry")?;
         let file = block(alloc, 0, length)?;
-        let mut builder = RootBuilder::new(Plain, geometry);
-        let mut leaves = Vec::new(alloc);
-        for bytes in file.chunks(BLOCK_LEN) {
-            leaves.push(Plain.block(bytes))?;
-            builder.push(bytes)?;
-        }
         Ok(ZeroFile {
             length,
-            root: builder.finish()?,
-            leaves,
+            root: root_of(geometry, &file)?,
+            leaves: leaves_of(alloc, &file)?,
         })
     }
 
     /// A store of the file, of which all leaves are known.
     fn known(&self, alloc: Global, disk: FaultDisk<MemoryDisk>) -> Result<Fixture, Fail> {
         let geometry = Geometry::new(self.length as u64).ok_or("no geometry")?;
+        let layer = self.layer(alloc)?;
+        let tree = SparseTree::with_layer(alloc, Plain, geometry, self.root, 0, &layer)?;
+        stored(alloc, tree, disk)
+    }
+
+    /// The leaves, one behind the other.
+    fn layer(&self, alloc: Global) -> Result<Vec<u8>, AllocError> {
         let mut layer = Vec::new(alloc);
         for leaf in &self.leaves {
             layer.extend_from_slice(leaf)?;
         }
-        let tree = SparseTree::with_layer(alloc, Plain, geometry, self.root, 0, &layer)?;
-        let store = FileStore::create(alloc, disk, Plain, geometry)
-            .ok()
-            .ok_or("no store")?;
-        Ok(Fixture { store, tree })
+        Ok(layer)
     }
 
     /// A store of the file on a disk that has it, of which the root alone is known.
@@ -275,99 +364,152 @@ impl ZeroFile {
     }
 }
 
-/// The answer of `adopt` without a fault.
-fn adopted(next: u32, anchor: u32, marked: u32) -> Option<Result<Adopted, AllocError>> {
-    Some(Ok(Adopted {
-        next,
-        anchor,
-        marked,
-        faults: 0,
-    }))
-}
-
-/// Adopts nine blocks by nine calls of the device.
-fn nine_blocks(alloc: Global, disk: FaultDisk<MemoryDisk>) -> Result<Fixture, Fail> {
-    let mut f = ZeroFile::new(alloc, 131073)?.known(alloc, disk)?;
-    if f.adopt(0) != adopted(8, 0, 8) || f.adopt(8) != adopted(9, 0, 1) {
-        return Err("not adopted")?;
+/// The root of a file's bytes.
+fn root_of(geometry: Geometry, file: &[u8]) -> Result<Hash32, Fail> {
+    let mut builder = RootBuilder::new(Plain, geometry);
+    for bytes in file.chunks(BLOCK_LEN) {
+        builder.push(bytes)?;
     }
-    Ok(f)
+    Ok(builder.finish()?)
 }
 
-#[test]
-fn a_recheck_finds_a_changed_bit(rt: HostRuntime) -> Result<(), Fail> {
-    let alloc = rt.alloc();
-    let mut f = nine_blocks(alloc, zeros(alloc, 131073)?.flipping(12, 40000))?;
-    let rechecked = Rechecked {
+/// The leaves of a file's bytes.
+fn leaves_of(alloc: Global, file: &[u8]) -> Result<Vec<Hash32>, AllocError> {
+    let mut leaves = Vec::new(alloc);
+    for bytes in file.chunks(BLOCK_LEN) {
+        leaves.push(Plain.block(bytes))?;
+    }
+    Ok(leaves)
+}
+
+/// A store of the file of nine blocks whose device changes a bit of its twelfth call, which reads the third
+/// block again.
+fn nine_flipped(alloc: Global) -> Result<Fixture, Fail> {
+    let disk = zeros(alloc, 131073)?.flipping(12, 40000);
+    ZeroFile::new(alloc, 131073)?.known(alloc, disk)
+}
+
+const ONE_UNMARKED: [Step; 4] = [
+    Step::Adopt(0, 8, 0, 8, 0),
+    Step::Adopt(8, 9, 0, 1, 0),
+    Step::Recheck(Rechecked {
         kept: 8,
         unmarked: 1,
         faults: 0,
-    };
-    assert_eq!(rt; f.recheck(), Some(rechecked));
-    assert_eq!(rt; f.state(2), Some(BlockState::Missing));
-    Ok(())
+    }),
+    Step::State(2, Some(BlockState::Missing)),
+];
+
+#[test]
+fn a_recheck_finds_a_changed_bit(rt: HostRuntime) -> Result<(), Fail> {
+    let f = nine_flipped(rt.alloc())?;
+    expect(rt.alloc(), f, &ONE_UNMARKED)
+}
+
+/// The file of so many zeros is adopted by its leaves; its last block has the rest.
+fn adopt_zeros(alloc: Global, length: usize, last: u32, rest: usize) -> Result<(), Fail> {
+    let f = known_zeros(alloc, length)?;
+    let blocks = last.saturating_add(1);
+    let steps = [
+        Step::Adopt(0, blocks, 0, blocks, 0),
+        Step::Complete(true),
+        Step::Read(last, Ok(rest)),
+    ];
+    expect(alloc, f, &steps)
+}
+
+/// A store of the file of so many zeros, on a disk that has it.
+fn known_zeros(alloc: Global, length: usize) -> Result<Fixture, Fail> {
+    let disk = zeros(alloc, length)?;
+    ZeroFile::new(alloc, length)?.known(alloc, disk)
 }
 
 #[test]
 fn the_last_block_may_be_short(rt: HostRuntime) -> Result<(), Fail> {
-    let alloc = rt.alloc();
-    let mut out = block(alloc, 0, BLOCK_LEN)?;
     for (length, last, rest) in [(1usize, 0u32, 1usize), (16384, 0, 16384), (16385, 1, 1)] {
-        let mut f = ZeroFile::new(alloc, length)?.known(alloc, zeros(alloc, length)?)?;
-        assert!(rt; f.adopt(0) == adopted(last + 1, 0, last + 1));
-        assert!(rt; f.store.is_complete());
-        assert_eq!(rt; f.read(last, &mut out), Some(Ok(rest)));
+        adopt_zeros(rt.alloc(), length, last, rest)?;
     }
     Ok(())
 }
 
 /// The disk that has the three blocks.
 fn filled(alloc: Global) -> Result<FaultDisk<MemoryDisk>, AllocError> {
-    let mut bytes = block(alloc, 1, BLOCK_LEN)?;
-    bytes.resize(2 * BLOCK_LEN, 2)?;
-    bytes.resize(3 * BLOCK_LEN, 3)?;
+    let bytes = three_filled(alloc, [1, 2, 3])?;
     Ok(FaultDisk::new(MemoryDisk::new(alloc, bytes)))
 }
 
+const ADOPTED: [Step; 4] = [
+    Step::Adopt(1, 3, 2, 3, 0),
+    Step::Complete(true),
+    Step::Adopt(3, 3, 0, 0, 0),
+    Step::Leaf(2, 3),
+];
+
 #[test]
 fn a_file_is_adopted_by_its_root(rt: HostRuntime) -> Result<(), Fail> {
-    let alloc = rt.alloc();
-    let mut f = three_blocks(alloc, filled(alloc)?)?;
-    assert!(rt; f.adopt(1) == adopted(3, 2, 3));
-    assert!(rt; f.store.is_complete());
-    assert!(rt; f.adopt(3) == adopted(3, 0, 0));
-    assert!(rt; f.tree.known(0, 2) == Some(leaf(alloc, 3)?));
-    Ok(())
+    let f = three_there(rt.alloc())?;
+    expect(rt.alloc(), f, &ADOPTED)
 }
+
+const NOT_ADOPTED: [Step; 2] = [Step::Adopt(0, 3, 2, 0, 0), Step::Marked(0)];
 
 #[test]
 fn other_bytes_are_not_adopted(rt: HostRuntime) -> Result<(), Fail> {
-    let alloc = rt.alloc();
-    let mut f = three_blocks(alloc, zeros(alloc, 49152)?)?;
-    assert!(rt; f.adopt(0) == adopted(3, 2, 0));
-    assert_eq!(rt; f.store.marked(), 0);
-    Ok(())
+    let f = three_missing(rt.alloc(), 49152)?;
+    expect(rt.alloc(), f, &NOT_ADOPTED)
+}
+
+/// A store of the three blocks whose disk has them, and changes a bit of the second from its second call on,
+/// which reads it.
+fn three_there_flipped(alloc: Global) -> Result<Fixture, Fail> {
+    three_blocks(alloc, filled(alloc)?.flipping(2, 16384))
+}
+
+#[test]
+fn right_bytes_read_with_a_changed_bit_are_not_adopted(rt: HostRuntime) -> Result<(), Fail> {
+    let f = three_there_flipped(rt.alloc())?;
+    expect(rt.alloc(), f, &NOT_ADOPTED)
 }
 
 #[test]
 fn a_short_disk_is_not_adopted(rt: HostRuntime) -> Result<(), Fail> {
-    let alloc = rt.alloc();
-    let mut f = three_blocks(alloc, zeros(alloc, 100)?)?;
-    assert!(rt; f.adopt(0) == adopted(3, 2, 0));
-    Ok(())
+    let f = three_missing(rt.alloc(), 100)?;
+    expect(rt.alloc(), f, &NOT_ADOPTED)
+}
+
+/// The store of a file of 65 blocks that was adopted by its root.
+fn many_adopted(alloc: Global) -> Result<Fixture, Fail> {
+    let mut f = ZeroFile::new(alloc, 1048577)?.rooted(alloc)?;
+    if !adopts_many(&mut f) {
+        return Err("not adopted")?;
+    }
+    Ok(f)
+}
+
+fn adopts_many(f: &mut Fixture) -> bool {
+    let adopted = Adopted {
+        next: 65,
+        anchor: 7,
+        marked: 65,
+        faults: 0,
+    };
+    f.adopt(64) == Some(Ok(adopted))
+}
+
+/// Whether the digests are the leaf of one zero byte and its uncles, of which all but the last are padding.
+fn are_uncles(digests: &[Hash32], last: Option<Hash32>) -> bool {
+    digests.len() == 8
+        && digests.get(0).copied() == Some(Plain.block(&[0]))
+        && digests.get(1).copied() == Some([0; 32])
+        && digests.get(2).copied() == Some(pad(Plain, 1))
+        && digests.get(6).copied() == Some(pad(Plain, 5))
+        && digests.get(7).copied() == last
 }
 
 #[test]
 fn an_adopted_file_answers_with_uncles(rt: HostRuntime) -> Result<(), Fail> {
-    let alloc = rt.alloc();
-    let mut f = ZeroFile::new(alloc, 1048577)?.rooted(alloc)?;
-    assert!(rt; f.adopt(64) == adopted(65, 7, 65));
+    let f = many_adopted(rt.alloc())?;
     let digests = f.answer(64, 6)?;
-    assert_eq!(rt; digests.len(), 8);
-    assert!(rt; digests[0] == Plain.block(&[0]));
-    assert!(rt; digests[1] == [0; 32]);
-    assert!(rt; digests[2] == pad(Plain, 1));
-    assert!(rt; digests[6] == pad(Plain, 5));
-    assert!(rt; f.tree.known(6, 0) == Some(digests[7]));
+    assert!(rt; are_uncles(&digests, f.known(6, 0)));
     Ok(())
 }

@@ -1,8 +1,11 @@
 //! Blocks and ranges past the end of the file, empty ranges, and a last block that is short.
 
-use super::{adopted, block, claim, leaf, rooted, three_blocks, zeros};
+use super::steps::{Step, all_answer, expect};
+use super::{Fixture, block, leaf, learn, rooted, three_blocks, three_missing, zeros};
 use crate::{Put, ReadError, Rechecked, Settled, StoreError};
-use bt_tree::{BLOCK_LEN, NodeHash, Plain};
+use bt_disk::DeviceFault;
+use bt_tree::{BLOCK_LEN, Hash32, NodeHash, Plain};
+use std::alloc::{AllocError, Global};
 use std::test::Fail;
 
 const NOTHING_SETTLED: Settled = Settled {
@@ -11,95 +14,139 @@ const NOTHING_SETTLED: Settled = Settled {
     faults: 0,
 };
 
+const RANGES: [Step; 11] = [
+    Step::Settle(0, 0, Ok(NOTHING_SETTLED)),
+    Step::Settle(3, 0, Ok(NOTHING_SETTLED)),
+    Step::Settle(0, 3, Ok(NOTHING_SETTLED)),
+    Step::Settle(2, 1, Ok(NOTHING_SETTLED)),
+    Step::Settle(4, 0, Err(StoreError::Range)),
+    Step::Settle(3, 1, Err(StoreError::Range)),
+    Step::Settle(0, 4, Err(StoreError::Range)),
+    Step::Settle(1, u32::MAX, Err(StoreError::Range)),
+    Step::Settle(u32::MAX, 0, Err(StoreError::Range)),
+    Step::Settle(u32::MAX, 1, Err(StoreError::Range)),
+    Step::Settle(u32::MAX, u32::MAX, Err(StoreError::Range)),
+];
+
 #[test]
 fn a_range_has_to_end_within_the_file(rt: HostRuntime) -> Result<(), Fail> {
-    let alloc = rt.alloc();
-    let mut f = three_blocks(alloc, zeros(alloc, 0)?)?;
-    for (from, count) in [(0, 0), (3, 0), (0, 3), (2, 1)] {
-        let answer = f.settle(from, count);
-        assert_eq!(rt; answer, Some(Ok(NOTHING_SETTLED)), "{count} from {from}");
-    }
-    let last = u32::MAX;
-    for (from, count) in [
-        (4, 0),
-        (3, 1),
-        (0, 4),
-        (1, last),
-        (last, 0),
-        (last, 1),
-        (last, last),
-    ] {
-        let answer = f.settle(from, count);
-        assert_eq!(rt; answer, Some(Err(StoreError::Range)), "{count} from {from}");
-    }
-    Ok(())
+    let f = three_missing(rt.alloc(), 0)?;
+    expect(rt.alloc(), f, &RANGES)
+}
+
+const NOTHING_RECHECKED: Rechecked = Rechecked {
+    kept: 0,
+    unmarked: 0,
+    faults: 0,
+};
+
+const REFUSED: [Step; 17] = [
+    Step::Put(3, 0, BLOCK_LEN, Err(StoreError::Range)),
+    Step::Put(3, 0, 0, Err(StoreError::Range)),
+    Step::Restore(3, Err(StoreError::Range)),
+    Step::Read(3, Err(ReadError::NotMarked)),
+    Step::State(3, None),
+    Step::Put(u32::MAX, 0, BLOCK_LEN, Err(StoreError::Range)),
+    Step::Put(u32::MAX, 0, 0, Err(StoreError::Range)),
+    Step::Restore(u32::MAX, Err(StoreError::Range)),
+    Step::Read(u32::MAX, Err(ReadError::NotMarked)),
+    Step::State(u32::MAX, None),
+    Step::Put(0, 0, 0, Err(StoreError::Range)),
+    Step::Settle(0, 3, Ok(NOTHING_SETTLED)),
+    Step::Read(0, Err(ReadError::NotMarked)),
+    Step::Restore(0, Ok(false)),
+    Step::Recheck(NOTHING_RECHECKED),
+    Step::Adopt(3, 3, 0, 0, 0),
+    Step::Sync(Err(DeviceFault)),
+];
+
+/// A store of the three blocks whose device fails at its first call.
+fn three_failing(alloc: Global) -> Result<Fixture, Fail> {
+    three_blocks(alloc, zeros(alloc, 0)?.failing_once(1))
 }
 
 /// What is refused, and what there is nothing to do for, makes no call of the device: the first one is that
 /// of `sync`.
 #[test]
 fn refusals_reach_no_device(rt: HostRuntime) -> Result<(), Fail> {
-    let alloc = rt.alloc();
-    let mut f = three_blocks(alloc, zeros(alloc, 0)?.failing_once(1))?;
-    let mut out = block(alloc, 0, BLOCK_LEN)?;
-    for block in [3, u32::MAX] {
-        assert_eq!(rt; f.put(block, &out), Some(Err(StoreError::Range)));
-        assert_eq!(rt; f.put(block, &[]), Some(Err(StoreError::Range)));
-        assert_eq!(rt; f.restore(block), Some(Err(StoreError::Range)));
-        assert_eq!(rt; f.read(block, &mut out), Some(Err(ReadError::NotMarked)));
-        assert_eq!(rt; f.state(block), None);
-    }
-    assert_eq!(rt; f.put(0, &[]), Some(Err(StoreError::Range)));
-    assert_eq!(rt; f.settle(0, 3), Some(Ok(NOTHING_SETTLED)));
-    assert_eq!(rt; f.read(0, &mut out), Some(Err(ReadError::NotMarked)));
-    assert_eq!(rt; f.restore(0), Some(Ok(false)));
-    let none = Rechecked {
-        kept: 0,
-        unmarked: 0,
+    let f = three_failing(rt.alloc())?;
+    expect(rt.alloc(), f, &REFUSED)
+}
+
+const BOTH_WAIT: [Step; 5] = [
+    Step::Put(1, 7, 0, Err(StoreError::Range)),
+    Step::Put(1, 7, 2, Err(StoreError::Range)),
+    Step::Put(1, 7, BLOCK_LEN, Err(StoreError::Range)),
+    Step::Put(0, 1, BLOCK_LEN, Ok(Put::Waiting)),
+    Step::Put(1, 7, 1, Ok(Put::Waiting)),
+];
+
+const SETTLED: [Step; 1] = [Step::Settle(
+    0,
+    2,
+    Ok(Settled {
+        marked: 2,
+        freed: 0,
         faults: 0,
-    };
-    assert_eq!(rt; f.recheck(), Some(none));
-    assert!(rt; f.adopt(3) == adopted(3, 0, 0));
-    assert!(rt; f.sync().is_err());
-    Ok(())
+    }),
+)];
+
+const FOUND_AGAIN: [Step; 3] = [
+    Step::Clear,
+    Step::Put(1, 8, 1, Ok(Put::Wrong)),
+    Step::Restore(1, Ok(true)),
+];
+
+/// The leaves of the file of a whole block of 1 and one byte, 7.
+fn long_leaves(alloc: Global) -> Result<[Hash32; 2], AllocError> {
+    Ok([leaf(alloc, 1)?, Plain.block(&[7])])
+}
+
+/// Its store, on an empty disk.
+fn long_missing(alloc: Global) -> Result<Fixture, Fail> {
+    let disk = zeros(alloc, 0)?;
+    let leaves = long_leaves(alloc)?;
+    let root = Plain.pair(&leaves[0], &leaves[1]);
+    rooted(alloc, BLOCK_LEN + 1, root, disk)
+}
+
+/// Its blocks wait on a device as long as the file, and a proof settles them.
+fn settles_long(alloc: Global, f: &mut Fixture) -> Result<bool, AllocError> {
+    if !all_answer(alloc, f, &BOTH_WAIT)? || f.bytes().len() != BLOCK_LEN + 1 {
+        return Ok(false);
+    }
+    let leaves = long_leaves(alloc)?;
+    Ok(learn(alloc, f, &leaves)? && all_answer(alloc, f, &SETTLED)?)
+}
+
+/// The one byte of a block.
+fn lone_byte(alloc: Global, f: &mut Fixture, number: u32) -> Result<Option<u8>, AllocError> {
+    let mut out = block(alloc, 0, BLOCK_LEN)?;
+    if f.read(number, &mut out) != Some(Ok(1)) {
+        return Ok(None);
+    }
+    Ok(out.first().copied())
 }
 
 #[test]
 fn a_last_block_may_have_one_byte(rt: HostRuntime) -> Result<(), Fail> {
-    let alloc = rt.alloc();
-    let leaves = [leaf(alloc, 1)?, Plain.block(&[7])];
-    let root = Plain.pair(&leaves[0], &leaves[1]);
-    let mut f = rooted(alloc, BLOCK_LEN + 1, root, zeros(alloc, 0)?)?;
-    for length in [0, 2, BLOCK_LEN] {
-        let bytes = block(alloc, 7, length)?;
-        assert_eq!(rt; f.put(1, &bytes), Some(Err(StoreError::Range)));
-    }
-    let full = block(alloc, 1, BLOCK_LEN)?;
-    assert_eq!(rt; f.put(0, &full), Some(Ok(Put::Waiting)));
-    assert_eq!(rt; f.put(1, &[7]), Some(Ok(Put::Waiting)));
-    assert_eq!(rt; f.bytes().len(), BLOCK_LEN + 1);
-    assert!(rt; f.accept(&claim(alloc, &leaves)?));
-    let settled = Settled {
-        marked: 2,
-        freed: 0,
-        faults: 0,
-    };
-    assert_eq!(rt; f.settle(0, 2), Some(Ok(settled)));
-    let mut out = block(alloc, 0, BLOCK_LEN)?;
-    assert_eq!(rt; f.read(1, &mut out), Some(Ok(1)));
-    assert_eq!(rt; out.first(), Some(&7));
-    f.store.clear();
-    assert_eq!(rt; f.put(1, &[8]), Some(Ok(Put::Wrong)));
-    assert_eq!(rt; f.restore(1), Some(Ok(true)));
-    Ok(())
+    let mut f = long_missing(rt.alloc())?;
+    assert!(rt; settles_long(rt.alloc(), &mut f)?);
+    assert!(rt; lone_byte(rt.alloc(), &mut f, 1)? == Some(7));
+    expect(rt.alloc(), f, &FOUND_AGAIN)
 }
+
+/// A store of a file of two bytes more than a block, on a disk of one byte more than a block.
+fn short_disk(alloc: Global) -> Result<Fixture, Fail> {
+    let disk = zeros(alloc, BLOCK_LEN + 1)?;
+    let root = Plain.pair(&leaf(alloc, 0)?, &Plain.block(&[0, 0]));
+    rooted(alloc, BLOCK_LEN + 2, root, disk)
+}
+
+const NOT_ADOPTED: [Step; 2] = [Step::Adopt(1, 2, 1, 0, 0), Step::Marked(0)];
 
 #[test]
 fn a_disk_that_ends_in_a_short_block_is_not_adopted(rt: HostRuntime) -> Result<(), Fail> {
-    let alloc = rt.alloc();
-    let root = Plain.pair(&leaf(alloc, 0)?, &Plain.block(&[0, 0]));
-    let mut f = rooted(alloc, BLOCK_LEN + 2, root, zeros(alloc, BLOCK_LEN + 1)?)?;
-    assert!(rt; f.adopt(1) == adopted(2, 1, 0));
-    assert_eq!(rt; f.marked(), 0);
-    Ok(())
+    let f = short_disk(rt.alloc())?;
+    expect(rt.alloc(), f, &NOT_ADOPTED)
 }
