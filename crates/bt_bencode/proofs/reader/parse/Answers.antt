@@ -26,11 +26,11 @@ returns-in_err-value-clause-none_spells c =
 
 pub returns-in_err-value-clause-truncated_at_end : goal.returns-in_err-value-clause-truncated_at_end
 returns-in_err-value-clause-truncated_at_end c =
-    in_value c.args.bytes.now _ (truncated_at_end c.args.bytes.now) _ _ c.from_residual.ensures.1 c.in_err-value.ensures.fault
+    in_value c.args.bytes.now _ (truncated_at_end) _ _ c.from_residual.ensures.1 c.in_err-value.ensures.fault
 
 pub returns-in_err-value-clause-trailing_behind_value : goal.returns-in_err-value-clause-trailing_behind_value
 returns-in_err-value-clause-trailing_behind_value c =
-    in_value c.args.bytes.now _ (trailing_behind_value c.args.bytes.now) _ _ c.from_residual.ensures.1 c.in_err-value.ensures.fault
+    in_value c.args.bytes.now _ (trailing_behind_value) _ _ c.from_residual.ensures.1 c.in_err-value.ensures.fault
 
 pub returns-then-end-length-clause-first_fault : goal.returns-then-end-length-clause-first_fault
 returns-then-end-length-clause-first_fault c =
