@@ -23,7 +23,7 @@ use Rattle.std.specs.Option.{SomeIff}
 use Rattle.std.proofs.lemmas.Bool.{ne_eqb}
 
 -- the digits are those that their value is written with
-pub decimal_again : (negative : Bool) {ds : List ℕ} (more : List ℕ) → IsNumeral 10 ds → ¬ LeadsWithZero negative (ds ++ more) → digits_value 10 ds < 2 ^ 64
+pub decimal_again : (negative : Bool) {ds : _} (more : List ℕ) → IsNumeral 10 ds → ¬ LeadsWithZero negative (ds ++ more) → digits_value 10 ds < 2 ^ 64
     → decimal (digits_value 10 ds) ≡ ds
 decimal_again negative {ds} more numeral no_zero small =
     let at_left = λ (i : ℕ) (lt : i < length ds). get_or_append_left ds more 0 i lt in
@@ -43,7 +43,7 @@ module _ {negative : Bool} {stop : ℕ} {bytes : List ℕ} {at end : ℕ} (numer
       (omega (arith, numeral.forward, length-between bytes at end (omega (arith, numeral.inside))), numeral.digits)
 
 module _ {bytes : List ℕ} {at colon : ℕ} (numeral : IsNumeralAt false 58 bytes at colon) where
-  pub string_read : {n : ℕ} {s : List ℕ} → digits_value 10 (slice_range bytes at colon) ≡ n → n < 2 ^ 64 → colon + 1 + n ≤ length bytes
+  pub string_read : {n s : _} → digits_value 10 (slice_range bytes at colon) ≡ n → n < 2 ^ 64 → colon + 1 + n ≤ length bytes
       → s ≡ take n (drop (colon + 1) bytes) → Spans bytes at (colon + 1 + n) (string_spelling s)
   string_read {n} {s} value small inside is =
       let ds = slice_range bytes at colon in
@@ -85,7 +85,7 @@ is_signed false iff = record {
 }
 
 -- the same of a slice that ends behind the sign
-slice_of_sign : (negative : Bool) {bytes : List ℕ} {at : ℕ} (end : ℕ) → IsSigned negative bytes at → at + 1 + from_bool negative < end
+slice_of_sign : (negative : Bool) {bytes at : _} (end : ℕ) → IsSigned negative bytes at → at + 1 + from_bool negative < end
     → slice_range bytes (at + 1) end ≡ sign_text negative ++ slice_range bytes (at + 1 + from_bool negative) end
 slice_of_sign false end signed lt = rw (add-zero _) refl
 slice_of_sign true {at} end signed lt =

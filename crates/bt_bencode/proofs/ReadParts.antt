@@ -70,14 +70,14 @@ module _ (n : ℕ) (bytes : List ℕ) (at : ℕ) where
   )
 
   module _ (next : ℕ) where
-    pub list_more : (vs : List Value) {ws : List Value} (v : Value) {end : ℕ} → 0 < n → ItemsTo n bytes at next vs → ReadsValue (n - 1) bytes next end (data_of v)
+    pub list_more : (vs : List Value) {ws : _} (v : Value) {end : ℕ} → 0 < n → ItemsTo n bytes at next vs → ReadsValue (n - 1) bytes next end (data_of v)
         → ws ≡ vs ++ v ∷ [] → ItemsTo n bytes at end ws
     list_more vs v some so_far read is = rw (is, items_spelling-push vs v) (record {
       spans = spans_join so_far.spans read.spans;
       canonical = list-push vs v some so_far.canonical read.canonical;
     })
 
-    pub dictionary_more : (es : List (Vec ℕ × Value)) {fs : List (Vec ℕ × Value)} (key : Vec ℕ) (v : Value) {colon end : ℕ} → 0 < n → EntriesTo n bytes at next es
+    pub dictionary_more : (es : List (Vec ℕ × Value)) {fs : _} (key : Vec ℕ) (v : Value) {colon end : ℕ} → 0 < n → EntriesTo n bytes at next es
         → ReadsString bytes next colon key.items → EndsBefore (entries_of es) key.items → ReadsValue (n - 1) bytes colon end (data_of v)
         → fs ≡ es ++ (key, v) ∷ [] → EntriesTo n bytes at end fs
     dictionary_more es key v some so_far string last read is = rw (is, entries_spelling-push es (key, v)) (record {
@@ -87,7 +87,7 @@ module _ (n : ℕ) (bytes : List ℕ) (at : ℕ) where
 
 -- what stops a reading behind the parts so far
 module _ {n : ℕ} (bytes : List ℕ) (at next : ℕ) (deep : n ≡ suc (n - 1)) where
-  parts_stop : {text : List ℕ} {d : Data} {f : Fault} {rest : List ℕ} → PartsTo n bytes at next text d
+  parts_stop : {text d f rest : _} → PartsTo n bytes at next text d
       → (IsCanonicalWithin (suc (n - 1)) d → Stops (suc (n - 1)) (text ++ drop next bytes) f rest) → Stops n (drop at bytes) f rest
   parts_stop so_far stops = rw (← so_far.spans.spelled, deep) (stops (rw deep at so_far.canonical))
 
@@ -118,7 +118,7 @@ last_key-push [] e = refl
 last_key-push (f ∷ es) e = ap (λ k. Some (unwrap_or k f.0.items)) (last_key-push es e)
 
 -- whether a key may follow, by the last of the entries
-pub last_decides : (es : List (Vec ℕ × Value)) {e : Vec ℕ × Value} (key : List ℕ) → 0 < length es → e ≡ get_or es (length es - 1) e
+pub last_decides : (es : List (Vec ℕ × Value)) {e : _} (key : List ℕ) → 0 < length es → e ≡ get_or es (length es - 1) e
     → IsTrue (is_lt (slice_cmp nat_cmp e.0.items key)) ↔ EndsBefore (entries_of es) key
 last_decides es {e} key some is =
     let whole : length es - 1 + 1 ≡ length es = omega arith in

@@ -33,7 +33,7 @@ drop_byte xs i lt is = drop_more _ i 0 lt ∙ ap (λ b. b ∷ drop (i + 1) xs) i
 pub spans_byte : {bytes : List ℕ} {at c : ℕ} → at < length bytes → get_or bytes at 0 ≡ c → Spans bytes at (at + 1) (c ∷ [])
 spans_byte {bytes} {at} lt is = record { forward = omega arith; inside = omega arith; spelled = sym (drop_byte bytes at lt is) }
 
-pub spans_join : {bytes : List ℕ} {at middle end : ℕ} {x y : List ℕ} → Spans bytes at middle x → Spans bytes middle end y → Spans bytes at end (x ++ y)
+pub spans_join : {bytes at middle end x y : _} → Spans bytes at middle x → Spans bytes middle end y → Spans bytes at end (x ++ y)
 spans_join {bytes} {at} {middle} {end} {x} {y} a b =
     let first : at < middle = a.forward in
     let second : middle < end = b.forward in

@@ -66,7 +66,7 @@ pub read_numeral : Bool → ℕ → List ℕ → Outcome (List ℕ)
 read_numeral negative stop text =
     if leads negative text then stopped leading_zero text else behind_digits stop (digits_of text).0 (digits_of text).1
 
-split_read : (negative : Bool) (stop : ℕ) (ds rest : List ℕ) {text : List ℕ} → text ≡ ds ++ rest → AllDigits 10 ds → ¬ LeadsWithZero negative text
+split_read : (negative : Bool) (stop : ℕ) (ds rest : List ℕ) {text : _} → text ≡ ds ++ rest → AllDigits 10 ds → ¬ LeadsWithZero negative text
     → ¬ IsAsciiDigit (get_or rest 0 0) → read_numeral negative stop text ≡ behind_digits stop ds rest
 unfolding read_numeral
 split_read negative stop ds rest {text} parts digits no_lead other =
@@ -79,7 +79,7 @@ other_behind stop [] (c ∷ rest) some differs = refl
 other_behind stop (d ∷ ds) (c ∷ rest) some (inl none) = cc
 other_behind stop (d ∷ ds) (c ∷ rest) some (inr other) = rw (ne_eqb c _ other) refl
 
-pub numeral_stops : {negative : Bool} {stop : ℕ} {text : List ℕ} {f : Fault} {rest : List ℕ} → NumeralStops negative stop text f rest
+pub numeral_stops : {negative stop text f rest : _} → NumeralStops negative stop text f rest
     → read_numeral negative stop text ≡ stopped f rest
 unfolding read_numeral behind_digits
 numeral_stops {text} (at_zero is) = rw ((leads_decides _ text).1 is) refl
@@ -88,7 +88,7 @@ numeral_stops {text} (at_end digits no_lead) =
 numeral_stops (at_other ds more parts digits no_lead some other differs) =
     split_read _ _ ds more parts digits no_lead other ∙ other_behind _ ds _ some differs
 
-pub numeral_read : (negative : Bool) (stop : ℕ) (ds : List ℕ) {rest : List ℕ} → 57 < stop → IsNumeral 10 ds → ¬ LeadsWithZero negative (ds ++ stop ∷ rest)
+pub numeral_read : (negative : Bool) (stop : ℕ) (ds : List ℕ) {rest : _} → 57 < stop → IsNumeral 10 ds → ¬ LeadsWithZero negative (ds ++ stop ∷ rest)
     → read_numeral negative stop (ds ++ stop ∷ rest) ≡ read ds rest
 unfolding behind_digits
 numeral_read negative stop [] high numeral no_zero = absurd (omega (arith, numeral.0))
@@ -111,7 +111,7 @@ pub read_string : List ℕ → Outcome (List ℕ)
 read_string text = after (read_numeral false 58 text) stopped (λ ds rest. let n = digits_value 10 ds in
     if ltb (length rest) n then stopped truncated [] else read (take n rest) (drop n rest))
 
-pub string_read : {s rest : List ℕ} → length s < 2 ^ 64 → read_string (string_spelling s ++ rest) ≡ read s rest
+pub string_read : {s rest : _} → length s < 2 ^ 64 → read_string (string_spelling s ++ rest) ≡ read s rest
 unfolding read_string
 string_read {s} {rest} fits =
     let numeral = decimal_is_IsNumeral (length s) fits in
@@ -125,7 +125,7 @@ string_read {s} {rest} fits =
       drop-append_seam s rest,
     ) refl
 
-pub string_stops : {text : List ℕ} {f : Fault} {rest : List ℕ} → StringStops text f rest → read_string text ≡ stopped f rest
+pub string_stops : {text f rest : _} → StringStops text f rest → read_string text ≡ stopped f rest
 unfolding read_string
 string_stops (in_length f rest stops) = rw (numeral_stops stops) refl
 string_stops (in_bytes ds more parts numeral no_lead short) =
@@ -175,7 +175,7 @@ pub range_stops : (negative : Bool) (ds more : List ℕ) → IsNumeral 10 ds →
 range_stops negative ds more numeral no_zero out =
     rw (integer_behind _ _ _ numeral no_zero, denied _ (small_decides _) out) refl
 
-integer_of_parts : (negative : Bool) (n : ℕ) {rest : List ℕ} → n < 2 ^ 64 → (IsTrue negative → 0 < n) → FitsSigned w64 (signed_number negative n)
+integer_of_parts : (negative : Bool) (n : ℕ) {rest : _} → n < 2 ^ 64 → (IsTrue negative → 0 < n) → FitsSigned w64 (signed_number negative n)
     → read_integer ((sign_text negative ++ decimal n) ++ 101 ∷ rest) ≡ read (signed_number negative n) rest
 integer_of_parts negative n fits some small =
     let numeral = decimal_is_IsNumeral n fits in
@@ -186,7 +186,7 @@ integer_of_parts negative n fits some small =
       (small_decides _).1 small,
     ) refl
 
-pub integer_read : (z : ℤ) {rest : List ℕ} → FitsSigned w64 z → read_integer (signed_decimal z ++ 101 ∷ rest) ≡ read z rest
+pub integer_read : (z : ℤ) {rest : _} → FitsSigned w64 z → read_integer (signed_decimal z ++ 101 ∷ rest) ≡ read z rest
 integer_read (pos n) fits = integer_of_parts false n (omega (arith, ints, fits)) (λ is. cc) fits
 integer_read (negsuc n) fits = integer_of_parts true _ (omega (arith, ints, fits)) (λ is. omega arith) fits
 

@@ -74,11 +74,11 @@ pub data Gives (ordered : Bool) (o : Outcome Data) : Next → Type 0 where
   there : (p : Outcome Data) → p ≡ o → Gives ordered o (ends p)
   onward : (job : Job) (text : List ℕ) → Gives ordered o (step ordered job text) → Gives ordered o (on job text)
 
-pub gives_once : {ordered : Bool} {o p : Outcome Data} {next : Next} → Gives ordered o next → Gives ordered p next → o ≡ p
+pub gives_once : {ordered o p next : _} → Gives ordered o next → Gives ordered p next → o ≡ p
 gives_once (there q is) (there q' is') = cc
 gives_once (onward job text a) (onward job' text' b) = gives_once a b
 
-pub go : {ordered : Bool} {o : Outcome Data} {job : Job} {text : List ℕ} → Gives ordered o (step ordered job text) → Gives ordered o (on job text)
+pub go : {ordered o job text : _} → Gives ordered o (step ordered job text) → Gives ordered o (on job text)
 go {job = job} {text = text} later = onward job text later
 
 pub string_begins : (ordered : Bool) (n : ℕ) (next : Data → Job) (text : List ℕ) → IsAsciiDigit (get_or text 0 0)
@@ -173,7 +173,7 @@ follow_decides no_entries key = (λ _. tt, λ _. refl)
 follow_decides (entry k d es) key = rw (last_from_some k es) (less_decides _)
 
 -- what is read behind whole entries
-dictionary_read : {n : ℕ} {next : Data → Job} {es : Entries} (more : List ℕ) {o : Outcome Data} → IsCanonicalWithin (suc n) (dictionary es)
+dictionary_read : {n next es : _} (more : List ℕ) {o : _} → IsCanonicalWithin (suc n) (dictionary es)
     → length (entries_spelling es ++ more) < 2 ^ 64
     → ((onto : Entries → Job) → Gives true o (on (entries n (last_from None es) onto) more))
     → Gives true o (on (value (suc n) next) (100 ∷ (entries_spelling es ++ more)))
@@ -190,7 +190,7 @@ key_short done key more short =
     let inner = length-append (string_spelling key) more in
     (omega (arith, outer, inner, string_is_longer key), omega (arith, outer, inner))
 
-stops_given : {n : ℕ} {next : Data → Job} {text : List ℕ} {f : Fault} {rest : List ℕ} → length text < 2 ^ 64 → Stops n text f rest
+stops_given : {n next text f rest : _} → length text < 2 ^ 64 → Stops n text f rest
     → Gives true (stopped f rest) (on (value n next) text)
 unfolding nesting_of HasAscendingKeys HasSmallIntegers
 stops_given short (at_end n) = go (there _ refl)
@@ -227,14 +227,14 @@ stops_given short (in_value n done key more f rest canonical order stops) =
     ) (stops_given fits.1 stops)))
 
 -- a canonical value of nesting at most n begins a text that fits memory
-canonical_given : {n : ℕ} {d : Data} {more text : List ℕ} → length text < 2 ^ 64 → IsCanonicalWithin n d → spelling_of d ++ more ≡ text
+canonical_given : {n d more text : _} → length text < 2 ^ 64 → IsCanonicalWithin n d → spelling_of d ++ more ≡ text
     → Gives true (read d more) (on (value n final) text)
 canonical_given {n} {d} {more} short canonical spelled =
     let fits = representable d canonical.integers (omega (arith, length-append (spelling_of d) more, ap length spelled)) in
     subst (λ t. Gives true (read d more) (on (value n final) t)) spelled
     (value_read true _ d n canonical.nesting (λ _. canonical.keys) fits (go (there _ refl)))
 
-same_spelling : {d e : Data} {x y : List ℕ} → IsRepresentable d → IsRepresentable e → spelling_of d ++ x ≡ spelling_of e ++ y → (d ≡ e) × (x ≡ y)
+same_spelling : {d e x y : _} → IsRepresentable d → IsRepresentable e → spelling_of d ++ x ≡ spelling_of e ++ y → (d ≡ e) × (x ≡ y)
 same_spelling {d} {e} {y} p q spelled =
     let n = nesting_of d + nesting_of e in
     let same = gives_once (value_read false _ d n (omega arith) (λ is. cc) p (go (there _ refl)))
@@ -254,15 +254,15 @@ EndsOrStays truncated rest = rest ≡ []
 EndsOrStays trailing rest = ⊥
 EndsOrStays _ rest = Unit {0}
 
-numeral_fault : {negative : Bool} {stop : ℕ} {text : List ℕ} {f : Fault} {rest : List ℕ} → NumeralStops negative stop text f rest → EndsOrStays f rest
+numeral_fault : {negative stop text f rest : _} → NumeralStops negative stop text f rest → EndsOrStays f rest
 numeral_fault (numeral_at_end digits no_lead) = refl
 numeral_fault _ = tt
 
-string_fault : {text : List ℕ} {f : Fault} {rest : List ℕ} → StringStops text f rest → EndsOrStays f rest
+string_fault : {text f rest : _} → StringStops text f rest → EndsOrStays f rest
 string_fault (in_length f rest stops) = numeral_fault stops
 string_fault (in_bytes ds more parts numeral no_lead short) = refl
 
-value_fault : {n : ℕ} {text : List ℕ} {f : Fault} {rest : List ℕ} → Stops n text f rest → EndsOrStays f rest
+value_fault : {n text f rest : _} → Stops n text f rest → EndsOrStays f rest
 value_fault (at_end n) = refl
 value_fault (in_integer n negative more f rest whole stops) = numeral_fault stops
 value_fault (in_string n t f rest digit stops) = string_fault stops
@@ -271,13 +271,13 @@ value_fault (in_key n done more f rest canonical going stops) = string_fault sto
 value_fault (in_value n done key more f rest canonical order stops) = value_fault stops
 value_fault _ = tt
 
-pub truncated_at_end : {bytes : List ℕ} (f : Fault) (offset : ℕ) → IsFirstFault bytes f offset → f ≡ truncated → offset ≡ length bytes
+pub truncated_at_end : {bytes : _} (f : Fault) (offset : ℕ) → IsFirstFault bytes f offset → f ≡ truncated → offset ≡ length bytes
 truncated_at_end {bytes} _ _ (in_the_value f offset inside stops) is =
     let none : drop offset bytes ≡ [] = rw is at (value_fault stops) in
     omega (arith, ap length none, length-drop offset bytes)
 truncated_at_end _ _ (behind_the_value e offset canonical lt spelled) is = cc
 
-pub trailing_behind_value : {bytes : List ℕ} (f : Fault) (offset : ℕ) → IsFirstFault bytes f offset → f ≡ trailing → IsValueEnd bytes offset
+pub trailing_behind_value : {bytes : _} (f : Fault) (offset : ℕ) → IsFirstFault bytes f offset → f ≡ trailing → IsValueEnd bytes offset
 trailing_behind_value _ _ (in_the_value f offset inside stops) is = absurd (rw is at (value_fault stops))
 trailing_behind_value {bytes} _ _ (behind_the_value e offset canonical lt spelled) is =
     let size : length (spelling_of e) ≡ offset =
@@ -295,7 +295,7 @@ fault_of (read d rest) = (trailing, rest)
 fault_of (stopped f rest) = (f, rest)
 
 -- what a reading of the bytes gives where they have this first fault
-given : {bytes : List ℕ} {f : Fault} {offset : ℕ} → length bytes < 2 ^ 64 → IsFirstFault bytes f offset
+given : {bytes f offset : _} → length bytes < 2 ^ 64 → IsFirstFault bytes f offset
     → (o : Outcome Data) × Gives true o (on (value 128 final) bytes) × (fault_of o ≡ (f, drop offset bytes)) × (offset ≤ length bytes)
 given {bytes} short (in_the_value f offset inside stops) = (stopped f (drop offset bytes), stops_given short stops, refl, inside)
 given {bytes} short (behind_the_value d offset canonical lt spelled) =

@@ -145,6 +145,7 @@ fn push_part<T: Drop>(parts: &mut Vec<T>, part: T) -> Result<(), AllocError>
 }
 
 /// Whether the key stands after the last one of the entries.
+#[tactic(auto, using(crate::proofs::Steps::may_follow_steps))]
 fn may_follow(entries: &[(Vec<u8>, Value)], key: &[u8]) -> bool
     ensures { IsTrue result ↔ EndsBefore (entries_of entries.now) key.now }
 {
