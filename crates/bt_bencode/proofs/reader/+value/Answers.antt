@@ -1,4 +1,4 @@
-use Rattle.std.proofs.Common.{refl, inl, inr, ◌≡◌, [], get_or, drop, ap, ◌∙◌, arith, rules, length-drop}
+use Rattle.std.proofs.Common.{refl, ◌≡◌, [], get_or, drop, ap, ◌∙◌, arith, rules, length-drop}
 use Rattle.std.specs.Char.{IsAsciiDigit}
 use Rattle.std.proofs.Math.Seq.{drop-length}
 use Rattle.std.proofs.lemmas.Bool.{false≢true}
@@ -9,12 +9,9 @@ use Rattle.bt_bencode.specs.Doc.{nesting_of, HasAscendingKeys, HasSmallIntegers}
 use Rattle.bt_bencode.specs.Reader.{StringStops, Stops, EndsBefore, at_end, at_other, in_string}
 use Rattle.bt_bencode.proofs.ReadRanges.{spans_byte, spans_join, drop_first, not_standing, stop_passed}
 use Rattle.bt_bencode.proofs.ValueData.{data_of-Int, data_of-Bytes, data_of-List, data_of-Dict}
-use Rattle.bt_bencode.proofs.ReadParts.{too_deep_at, begun, list_more, list_stops}
+use Rattle.bt_bencode.proofs.ReadParts.{begun, list_more, list_stops}
 use Rattle.bt_bencode.proofs.ReadParts.{dictionary_more, key_stops, order_stops, value_stops}
 use Rattle.bt_bencode.proofs.reader.+value.Goals as goal
-
-pub dictionary_at-returns-then-depth-eq0-clause-fault : goal.dictionary_at-returns-then-depth-eq0-clause-fault
-dictionary_at-returns-then-depth-eq0-clause-fault t c = too_deep_at _ _ _ c.if-depth-eq0.true c.requires.inside c.requires.first (inr refl)
 
 pub dictionary_at-loop-alloc-init : goal.dictionary_at-loop-alloc-init
 dictionary_at-loop-alloc-init t c =
@@ -54,9 +51,6 @@ dictionary_at-returns-clause-found t c =
       spans = spans_join c.loop-alloc.invariant.spans (spans_byte last.0 last.1);
       canonical = c.loop-alloc.invariant.canonical;
     })
-
-pub list_at-returns-then-depth-eq0-clause-fault : goal.list_at-returns-then-depth-eq0-clause-fault
-list_at-returns-then-depth-eq0-clause-fault t c = too_deep_at _ _ _ c.if-depth-eq0.true c.requires.inside c.requires.first (inl refl)
 
 pub list_at-loop-alloc-init : goal.list_at-loop-alloc-init
 list_at-loop-alloc-init t c = rw c.new-items.ensures.items ((begun c.args.depth c.args.bytes.now c.args.at (omega arith) c.requires.inside).0 c.requires.first)
