@@ -8,3 +8,5 @@ pub mod ReadParts
 pub mod Representable
 pub mod Reading
 pub mod ReadingLaws
+-- rulesets for the functions' own goals
+pub mod Steps

@@ -23,36 +23,36 @@ use Rattle.std.specs.Option.{SomeIff}
 use Rattle.std.proofs.lemmas.Bool.{ne_eqb}
 
 -- the digits are those that their value is written with
-pub decimal_again : (negative : Bool) (ds more : List ℕ) → IsNumeral 10 ds → ¬ LeadsWithZero negative (ds ++ more) → digits_value 10 ds < 2 ^ 64
+pub decimal_again : (negative : Bool) {ds : _} (more : List ℕ) → IsNumeral 10 ds → ¬ LeadsWithZero negative (ds ++ more) → digits_value 10 ds < 2 ^ 64
     → decimal (digits_value 10 ds) ≡ ds
-decimal_again negative ds more numeral no_zero small =
+decimal_again negative {ds} more numeral no_zero small =
     let at_left = λ (i : ℕ) (lt : i < length ds). get_or_append_left ds more 0 i lt in
     let alone : get_or ds 0 0 ≡ 48 → ¬ (1 < length ds) = λ first lt.
     no_zero (at_left 0 numeral.0 ∙ first, inr (rw (at_left 1 lt) (digit_at ds 1 numeral.1 lt))) in
     decimal-digits_value (numerals_by_value _ tells_digits) ds numeral.1 numeral.0 (λ first. omega (arith, alone first, numeral.0)) small
 
-module _ (negative : Bool) (stop : ℕ) (bytes : List ℕ) (at end : ℕ) (numeral : IsNumeralAt negative stop bytes at end) where
+module _ {negative : Bool} {stop : ℕ} {bytes : List ℕ} {at end : ℕ} (numeral : IsNumeralAt negative stop bytes at end) where
   -- the digits, the byte behind them, and the rest
   pub numeral_split : slice_range bytes at end ++ stop ∷ drop (end + 1) bytes ≡ drop at bytes
   numeral_split =
       let forward : at < end = numeral.forward in
-      rw (← drop_byte bytes end stop numeral.inside numeral.stopped) (sym (drop_split bytes at end (omega arith)))
+      rw (← drop_byte bytes end numeral.inside numeral.stopped) (sym (drop_split bytes at end (omega arith)))
 
   pub numeral_digits : IsNumeral 10 (slice_range bytes at end)
   numeral_digits =
       (omega (arith, numeral.forward, length-between bytes at end (omega (arith, numeral.inside))), numeral.digits)
 
-module _ (bytes : List ℕ) (at colon : ℕ) (numeral : IsNumeralAt false 58 bytes at colon) where
-  pub string_read : (n : ℕ) (s : List ℕ) → digits_value 10 (slice_range bytes at colon) ≡ n → n < 2 ^ 64 → colon + 1 + n ≤ length bytes
+module _ {bytes : List ℕ} {at colon : ℕ} (numeral : IsNumeralAt false 58 bytes at colon) where
+  pub string_read : {n s : _} → digits_value 10 (slice_range bytes at colon) ≡ n → n < 2 ^ 64 → colon + 1 + n ≤ length bytes
       → s ≡ take n (drop (colon + 1) bytes) → Spans bytes at (colon + 1 + n) (string_spelling s)
-  string_read n s value small inside is =
+  string_read {n} {s} value small inside is =
       let ds = slice_range bytes at colon in
       let rest = drop (colon + 1) bytes in
       let forward : at < colon = numeral.forward in
-      let parts : ds ++ 58 ∷ rest ≡ drop at bytes = numeral_split false 58 bytes at colon numeral in
+      let parts : ds ++ 58 ∷ rest ≡ drop at bytes = numeral_split numeral in
       let size : length s ≡ n = ap length is ∙ length-take-le n rest (omega (arith, length-drop (colon + 1) bytes)) in
       let digits : decimal (length s) ≡ ds = ap decimal (size ∙ sym value)
-      ∙ decimal_again false ds (58 ∷ rest) (numeral_digits _ _ _ _ _ numeral) (rw parts numeral.no_zero) (rw value small) in
+      ∙ decimal_again false (58 ∷ rest) (numeral_digits numeral) (rw parts numeral.no_zero) (rw value small) in
       record {
         forward = omega arith;
         inside = inside;
@@ -68,8 +68,8 @@ module _ (bytes : List ℕ) (at colon : ℕ) (numeral : IsNumeralAt false 58 byt
   pub string_short : length bytes - (colon + 1) < digits_value 10 (slice_range bytes at colon) → FaultFrom StringStops bytes at truncated (length bytes)
   string_short short = (
     omega arith,
-    rw drop-length (in_bytes (slice_range bytes at colon) (drop (colon + 1) bytes) (sym (numeral_split _ 58 _ at colon numeral))
-        (numeral_digits _ _ _ _ _ numeral) numeral.no_zero (omega (arith, length-drop (colon + 1) bytes))),
+    rw drop-length (in_bytes (slice_range bytes at colon) (drop (colon + 1) bytes) (sym (numeral_split numeral))
+        (numeral_digits numeral) numeral.no_zero (omega (arith, length-drop (colon + 1) bytes))),
   )
 
 -- whether a minus stands behind `i`: the text there, and that a sign which is none hides no minus
@@ -77,18 +77,18 @@ pub record IsSigned (negative : Bool) (bytes : List ℕ) (at : ℕ) : Type 0 whe
   text : drop (at + 1) bytes ≡ sign_text negative ++ drop (at + 1 + from_bool negative) bytes
   whole : IsTrue negative ⊎ (get_or (drop (at + 1 + from_bool negative) bytes) 0 0 ≢ 45)
 
-pub is_signed : (b : Bool) (bytes : List ℕ) (at : ℕ) → IsTrue b ↔ ((at + 1 < length bytes) × (get_or bytes (at + 1) 0 ≡ 45)) → IsSigned b bytes at
-is_signed true bytes at iff = record { text = drop_byte _ _ 45 (iff.0 refl).0 (iff.0 refl).1; whole = inl refl }
-is_signed false bytes at iff = record {
+pub is_signed : (b : Bool) {bytes : List ℕ} {at : ℕ} → IsTrue b ↔ ((at + 1 < length bytes) × (get_or bytes (at + 1) 0 ≡ 45)) → IsSigned b bytes at
+is_signed true iff = record { text = drop_byte _ _ (iff.0 refl).0 (iff.0 refl).1; whole = inl refl }
+is_signed false iff = record {
   text = rw (add-zero _) refl;
   whole = inr (rw (add-zero _, drop_first _ _) (not_standing _ _ 45 (omega arith) iff.1));
 }
 
 -- the same of a slice that ends behind the sign
-slice_of_sign : (negative : Bool) (bytes : List ℕ) (at end : ℕ) → IsSigned negative bytes at → at + 1 + from_bool negative < end
+slice_of_sign : (negative : Bool) {bytes at : _} (end : ℕ) → IsSigned negative bytes at → at + 1 + from_bool negative < end
     → slice_range bytes (at + 1) end ≡ sign_text negative ++ slice_range bytes (at + 1 + from_bool negative) end
-slice_of_sign false bytes at end signed lt = rw (add-zero _) refl
-slice_of_sign true bytes at end signed lt =
+slice_of_sign false end signed lt = rw (add-zero _) refl
+slice_of_sign true {at} end signed lt =
     let size : end - (at + 1) ≡ suc (end - (at + 1 + 1)) = omega arith in
     rw (size, signed.text) refl
 
@@ -114,8 +114,8 @@ signed_text true ds numeral = record { ascii = ascii; digits = refl; number = re
 -- an integer without a zero that may not stand is written as it stands
 signed_again : (negative : Bool) (ds more : List ℕ) → IsNumeral 10 ds → ¬ LeadsWithZero negative (ds ++ more)
     → FitsSigned w64 (signed_number negative (digits_value 10 ds)) → signed_decimal (signed_number negative (digits_value 10 ds)) ≡ sign_text negative ++ ds
-signed_again false ds more numeral no_zero fits = decimal_again false ds more numeral no_zero (omega (arith, ints, fits))
-signed_again true ds more numeral no_zero fits = behind_minus _ (decimal_again true ds more numeral no_zero (omega (arith, ints, fits)))
+signed_again false ds more numeral no_zero fits = decimal_again false more numeral no_zero (omega (arith, ints, fits))
+signed_again true ds more numeral no_zero fits = behind_minus _ (decimal_again true more numeral no_zero (omega (arith, ints, fits)))
   where
     behind_minus : (n : ℕ) → decimal n ≡ ds → signed_decimal (neg_ℤ (pos n)) ≡ 45 ∷ ds
     behind_minus zero same = absurd (no_zero (
@@ -125,13 +125,13 @@ signed_again true ds more numeral no_zero fits = behind_minus _ (decimal_again t
     ))
     behind_minus (suc n) same = ap (λ xs. 45 ∷ xs) same
 
-module _ (bytes : List ℕ) (at : ℕ) (negative : Bool) (signed : IsSigned negative bytes at) (lt : at < length bytes) (first : get_or bytes at 0 ≡ 105) where
+module _ {bytes : List ℕ} {at : ℕ} {negative : Bool} (signed : IsSigned negative bytes at) (lt : at < length bytes) (first : get_or bytes at 0 ≡ 105) where
   -- a numeral that stops a reading, behind `i` and the sign
-  pub integer_stops : (n : ℕ) (f : Fault) (rest : List ℕ) → NumeralStops negative 101 (drop (at + 1 + from_bool negative) bytes) f rest
+  pub integer_stops : {n : ℕ} (f : Fault) (rest : List ℕ) → NumeralStops negative 101 (drop (at + 1 + from_bool negative) bytes) f rest
       → Stops n (drop at bytes) f rest
-  integer_stops n f rest stops = rw (drop_byte _ at 105 lt first, signed.text) (in_integer n negative _ f rest signed.whole stops)
+  integer_stops {n} f rest stops = rw (drop_byte _ at lt first, signed.text) (in_integer n negative _ f rest signed.whole stops)
 
-  module _ (end : ℕ) (numeral : IsNumeralAt negative 101 bytes (at + 1 + from_bool negative) end) where
+  module _ {end : ℕ} (numeral : IsNumeralAt negative 101 bytes (at + 1 + from_bool negative) end) where
     -- what is written from behind `i` on: the sign and the digits, and what is behind the e
     record Parts (ds rest : List ℕ) : Type 0 where
       digits : IsNumeral 10 ds
@@ -141,13 +141,13 @@ module _ (bytes : List ℕ) (at : ℕ) (negative : Bool) (signed : IsSigned nega
 
     parts : Parts (slice_range bytes (at + 1 + from_bool negative) end) (drop (end + 1) bytes)
     parts =
-        let split = numeral_split _ 101 _ _ _ numeral in
-        let digits = numeral_digits _ 101 _ _ _ numeral in
+        let split = numeral_split numeral in
+        let digits = numeral_digits numeral in
         record {
           digits = digits;
           no_zero = rw split numeral.no_zero;
-          text = rw (split, ← signed.text) (drop_byte bytes at 105 lt first);
-          written = rw (slice_of_sign _ _ at end signed numeral.forward) (signed_text _ _ digits);
+          text = rw (split, ← signed.text) (drop_byte bytes at lt first);
+          written = rw (slice_of_sign _ end signed numeral.forward) (signed_text _ _ digits);
         }
 
     pub integer_is_ascii : IsAscii (slice_range bytes (at + 1) end)
@@ -158,9 +158,9 @@ module _ (bytes : List ℕ) (at : ℕ) (negative : Bool) (signed : IsSigned nega
     Says r = let text = slice_range bytes (at + 1) end in
         let z = signed_digits_value 10 text in SomeIff r (IsNumeral 10 (without_leading_sign text) × FitsSigned w64 z) z
 
-    pub integer_found : (z : ℤ) → Says (Some z) → ReadsInteger bytes at (end + 1) z
+    pub integer_found : {z : ℤ} → Says (Some z) → ReadsInteger bytes at (end + 1) z
     unfolding spelling_of
-    integer_found z says =
+    integer_found says =
         let said = rw parts.written.number at says in
         let forward : at + 1 + from_bool negative < end = numeral.forward in
         let inside : end < length bytes = numeral.inside in
@@ -180,7 +180,7 @@ module _ (bytes : List ℕ) (at : ℕ) (negative : Bool) (signed : IsSigned nega
     pub integer_out_of_range : (n : ℕ) → Says None → FaultFrom (Stops n) bytes at int_range (at + 1)
     integer_out_of_range n says =
         let behind : drop (at + 1) bytes ≡ sign_text negative ++ (slice_range bytes (at + 1 + from_bool negative) end ++ 101 ∷ drop (end + 1) bytes) =
-        ap (drop 1) (sym (drop_byte bytes at 105 lt first) ∙ parts.text) in (
+        ap (drop 1) (sym (drop_byte bytes at lt first) ∙ parts.text) in (
           omega arith,
           rw (parts.text, behind) (out_of_range n negative _ _ parts.digits parts.no_zero
               (λ fits. says (rw parts.written.digits parts.digits, rw parts.written.number fits))),

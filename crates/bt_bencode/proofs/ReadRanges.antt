@@ -27,14 +27,14 @@ pub drop_first : (i : ℕ) (xs : List ℕ) → get_or (drop i xs) 0 0 ≡ get_or
 drop_first i xs = get_or-drop i _ 0 0 ∙ ap (λ k. get_or xs k 0) (add-zero i)
 
 -- a byte, and what is behind it
-pub drop_byte : (xs : List ℕ) (i c : ℕ) → i < length xs → get_or xs i 0 ≡ c → drop i xs ≡ c ∷ drop (i + 1) xs
-drop_byte xs i c lt is = drop_more _ i 0 lt ∙ ap (λ b. b ∷ drop (i + 1) xs) is
+pub drop_byte : (xs : List ℕ) (i : ℕ) {c : ℕ} → i < length xs → get_or xs i 0 ≡ c → drop i xs ≡ c ∷ drop (i + 1) xs
+drop_byte xs i lt is = drop_more _ i 0 lt ∙ ap (λ b. b ∷ drop (i + 1) xs) is
 
-pub spans_byte : (bytes : List ℕ) (at c : ℕ) → at < length bytes → get_or bytes at 0 ≡ c → Spans bytes at (at + 1) (c ∷ [])
-spans_byte bytes at c lt is = record { forward = omega arith; inside = omega arith; spelled = sym (drop_byte bytes at c lt is) }
+pub spans_byte : {bytes : List ℕ} {at c : ℕ} → at < length bytes → get_or bytes at 0 ≡ c → Spans bytes at (at + 1) (c ∷ [])
+spans_byte {bytes} {at} lt is = record { forward = omega arith; inside = omega arith; spelled = sym (drop_byte bytes at lt is) }
 
-pub spans_join : (bytes : List ℕ) (at middle end : ℕ) (x y : List ℕ) → Spans bytes at middle x → Spans bytes middle end y → Spans bytes at end (x ++ y)
-spans_join bytes at middle end x y a b =
+pub spans_join : {bytes at middle end x y : _} → Spans bytes at middle x → Spans bytes middle end y → Spans bytes at end (x ++ y)
+spans_join {bytes} {at} {middle} {end} {x} {y} a b =
     let first : at < middle = a.forward in
     let second : middle < end = b.forward in
     record { forward = omega arith; inside = b.inside; spelled = rw (append_assoc x y (drop end bytes), b.spelled) a.spelled }
@@ -45,14 +45,14 @@ unless_some None P v iff not_some = iff
 unless_some (Some x) P v iff not_some = absurd (not_some x refl)
 
 -- a byte that is not 0 stands inside
-pub in_range : (xs : List ℕ) (i c : ℕ) → c ≢ 0 → get_or xs i 0 ≡ c → i < length xs
-in_range [] i c some e = absurd (some (sym e))
-in_range (x ∷ xs) zero c some e = omega arith
-in_range (x ∷ xs) (suc i) c some e = let lt : i < length xs = in_range xs i c some e in omega arith
+pub in_range : (xs : List ℕ) (i : ℕ) {c : ℕ} → c ≢ 0 → get_or xs i 0 ≡ c → i < length xs
+in_range [] i some e = absurd (some (sym e))
+in_range (x ∷ xs) zero some e = omega arith
+in_range (x ∷ xs) (suc i) some e = let lt : i < length xs = in_range xs i some e in omega arith
 
 -- what a test for a byte denies
 pub not_standing : (xs : List ℕ) (i c : ℕ) → c ≢ 0 → ((i < length xs) × (get_or xs i 0 ≡ c) → IsTrue false) → get_or xs i 0 ≢ c
-not_standing xs i c some denied e = false≢true (denied (in_range _ i c some e, e))
+not_standing xs i c some denied e = false≢true (denied (in_range _ i some e, e))
 
 at_fault : (P Q : Fault → ℕ → Type 0) → ((f : Fault) (offset : ℕ) → P f offset → Q f offset) → (e : BencodeError) → AtFault P e → AtFault Q e
 at_fault P Q pass OutOfMemory h = tt

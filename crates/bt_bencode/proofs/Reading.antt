@@ -66,10 +66,10 @@ pub read_numeral : Bool → ℕ → List ℕ → Outcome (List ℕ)
 read_numeral negative stop text =
     if leads negative text then stopped leading_zero text else behind_digits stop (digits_of text).0 (digits_of text).1
 
-split_read : (negative : Bool) (stop : ℕ) (ds rest text : List ℕ) → text ≡ ds ++ rest → AllDigits 10 ds → ¬ LeadsWithZero negative text
+split_read : (negative : Bool) (stop : ℕ) (ds rest : List ℕ) {text : _} → text ≡ ds ++ rest → AllDigits 10 ds → ¬ LeadsWithZero negative text
     → ¬ IsAsciiDigit (get_or rest 0 0) → read_numeral negative stop text ≡ behind_digits stop ds rest
 unfolding read_numeral
-split_read negative stop ds rest text parts digits no_lead other =
+split_read negative stop ds rest {text} parts digits no_lead other =
     rw (denied _ (leads_decides negative text) no_lead, parts, digits_split ds rest digits other) refl
 
 other_behind : (stop : ℕ) (ds more : List ℕ) → 0 < length more → (ds ≡ []) ⊎ (get_or more 0 0 ≢ stop) → behind_digits stop ds more ≡ stopped bad_byte more
@@ -79,21 +79,21 @@ other_behind stop [] (c ∷ rest) some differs = refl
 other_behind stop (d ∷ ds) (c ∷ rest) some (inl none) = cc
 other_behind stop (d ∷ ds) (c ∷ rest) some (inr other) = rw (ne_eqb c _ other) refl
 
-pub numeral_stops : (negative : Bool) (stop : ℕ) (text : List ℕ) (f : Fault) (rest : List ℕ) → NumeralStops negative stop text f rest
+pub numeral_stops : {negative stop text f rest : _} → NumeralStops negative stop text f rest
     → read_numeral negative stop text ≡ stopped f rest
 unfolding read_numeral behind_digits
-numeral_stops _ _ text _ _ (at_zero is) = rw ((leads_decides _ text).1 is) refl
-numeral_stops _ _ text _ _ (at_end digits no_lead) =
-    split_read _ _ text [] _ (sym (append-nil _)) digits no_lead (λ digit. absurd (omega (arith, digit.0)))
-numeral_stops _ _ text _ _ (at_other ds more parts digits no_lead some other differs) =
-    split_read _ _ ds more _ parts digits no_lead other ∙ other_behind _ ds _ some differs
+numeral_stops {text} (at_zero is) = rw ((leads_decides _ text).1 is) refl
+numeral_stops {text} (at_end digits no_lead) =
+    split_read _ _ text [] (sym (append-nil _)) digits no_lead (λ digit. absurd (omega (arith, digit.0)))
+numeral_stops (at_other ds more parts digits no_lead some other differs) =
+    split_read _ _ ds more parts digits no_lead other ∙ other_behind _ ds _ some differs
 
-pub numeral_read : (negative : Bool) (stop : ℕ) (ds rest : List ℕ) → 57 < stop → IsNumeral 10 ds → ¬ LeadsWithZero negative (ds ++ stop ∷ rest)
+pub numeral_read : (negative : Bool) (stop : ℕ) (ds : List ℕ) {rest : _} → 57 < stop → IsNumeral 10 ds → ¬ LeadsWithZero negative (ds ++ stop ∷ rest)
     → read_numeral negative stop (ds ++ stop ∷ rest) ≡ read ds rest
 unfolding behind_digits
-numeral_read negative stop [] rest high numeral no_zero = absurd (omega (arith, numeral.0))
-numeral_read negative stop (d ∷ ds) rest high numeral no_zero =
-    split_read _ stop (d ∷ ds) (stop ∷ rest) _ refl numeral.1 no_zero (λ digit. omega (arith, digit.1)) ∙ rw (eq-eqb _ _ refl) refl
+numeral_read negative stop [] high numeral no_zero = absurd (omega (arith, numeral.0))
+numeral_read negative stop (d ∷ ds) {rest} high numeral no_zero =
+    split_read _ stop (d ∷ ds) (stop ∷ rest) refl numeral.1 no_zero (λ digit. omega (arith, digit.1)) ∙ rw (eq-eqb _ _ refl) refl
 
 -- a number's digits have no zero that may not stand, and behind a minus none but 0 itself begins with one
 decimal_no_zero : (negative : Bool) (n stop : ℕ) (rest : List ℕ) → (IsTrue negative → 0 < n) → n < 2 ^ 64 → 57 < stop
@@ -111,36 +111,36 @@ pub read_string : List ℕ → Outcome (List ℕ)
 read_string text = after (read_numeral false 58 text) stopped (λ ds rest. let n = digits_value 10 ds in
     if ltb (length rest) n then stopped truncated [] else read (take n rest) (drop n rest))
 
-pub string_read : (s rest : List ℕ) → length s < 2 ^ 64 → read_string (string_spelling s ++ rest) ≡ read s rest
+pub string_read : {s rest : _} → length s < 2 ^ 64 → read_string (string_spelling s ++ rest) ≡ read s rest
 unfolding read_string
-string_read s rest fits =
+string_read {s} {rest} fits =
     let numeral = decimal_is_IsNumeral (length s) fits in
     let whole : ltb (length (s ++ rest)) (length s) ≡ false = grind (arith, nat_tests, length-append s rest) in
     rw (
       append_assoc _ (58 ∷ s) rest,
-      numeral_read false 58 _ _ (omega arith) numeral.0 (decimal_no_zero _ (length s) _ _ (λ is. cc) fits (omega arith)),
+      numeral_read false 58 _ (omega arith) numeral.0 (decimal_no_zero _ (length s) _ _ (λ is. cc) fits (omega arith)),
       numeral.1,
       whole,
       take-append_seam s rest,
       drop-append_seam s rest,
     ) refl
 
-pub string_stops : (text : List ℕ) (f : Fault) (rest : List ℕ) → StringStops text f rest → read_string text ≡ stopped f rest
+pub string_stops : {text f rest : _} → StringStops text f rest → read_string text ≡ stopped f rest
 unfolding read_string
-string_stops _ _ _ (in_length f rest stops) = rw (numeral_stops _ 58 _ f _ stops) refl
-string_stops _ _ _ (in_bytes ds more parts numeral no_lead short) =
+string_stops (in_length f rest stops) = rw (numeral_stops stops) refl
+string_stops (in_bytes ds more parts numeral no_lead short) =
     let shorter : ltb (length more) (digits_value 10 ds) ≡ true = (Decides-ltb _ _).1 short in
-    rw (parts, numeral_read _ 58 _ _ (omega arith) numeral (rw parts at no_lead), shorter) refl
+    rw (parts, numeral_read _ 58 _ (omega arith) numeral (rw parts at no_lead), shorter) refl
 
 -- the sign in front, and what is behind it
 sign_of : List ℕ → Bool × List ℕ
 sign_of text = if eqb (get_or text 0 0) 45 then (true, drop 1 text) else (false, text)
 
-sign_split : (negative : Bool) (text : List ℕ) → IsTrue negative ⊎ (get_or text 0 0 ≢ 45) → sign_of (sign_text negative ++ text) ≡ (negative, text)
+sign_split : (negative : Bool) {text : List ℕ} → IsTrue negative ⊎ (get_or text 0 0 ≢ 45) → sign_of (sign_text negative ++ text) ≡ (negative, text)
 unfolding sign_of
-sign_split true text whole = refl
-sign_split false text (inl is) = cc
-sign_split false text (inr other) = rw (ne_eqb _ 45 other) refl
+sign_split true whole = refl
+sign_split false (inl is) = cc
+sign_split false (inr other) = rw (ne_eqb _ 45 other) refl
 
 is_small : ℤ → Bool
 is_small z = int_eq (int_wrap w64 z) z
@@ -155,10 +155,10 @@ read_integer text = after (read_numeral (sign_of text).0 101 (sign_of text).1) s
     let z = signed_number (sign_of text).0 (digits_value 10 ds) in
     if is_small z then read z rest else stopped int_range text)
 
-pub integer_stops : (negative : Bool) (more : List ℕ) (f : Fault) (rest : List ℕ) → IsTrue negative ⊎ (get_or more 0 0 ≢ 45)
+pub integer_stops : {negative : Bool} {more : List ℕ} {f : Fault} {rest : List ℕ} → IsTrue negative ⊎ (get_or more 0 0 ≢ 45)
     → NumeralStops negative 101 more f rest → read_integer (sign_text negative ++ more) ≡ stopped f rest
 unfolding read_integer
-integer_stops negative more f rest whole stops = rw (sign_split _ _ whole, numeral_stops _ 101 _ f _ stops) refl
+integer_stops whole stops = rw (sign_split _ whole, numeral_stops stops) refl
 
 integer_behind : (negative : Bool) (ds more : List ℕ) → IsNumeral 10 ds → ¬ LeadsWithZero negative (ds ++ 101 ∷ more)
     → read_integer (sign_text negative ++ (ds ++ 101 ∷ more)) ≡ (let z = signed_number negative (digits_value 10 ds) in
@@ -167,7 +167,7 @@ unfolding read_integer
 integer_behind negative ds more numeral no_zero =
     let plain : get_or (ds ++ 101 ∷ more) 0 0 ≢ 45 = λ is.
     omega (arith, (digit_at ds 0 numeral.1 numeral.0).0, get_or_append_left ds (101 ∷ more) 0 0 numeral.0) in
-    rw (sign_split _ _ (inr plain), numeral_read _ 101 _ _ (omega arith) numeral no_zero) refl
+    rw (sign_split _ (inr plain), numeral_read _ 101 _ (omega arith) numeral no_zero) refl
 
 pub range_stops : (negative : Bool) (ds more : List ℕ) → IsNumeral 10 ds → ¬ LeadsWithZero negative (ds ++ 101 ∷ more)
     → ¬ FitsSigned w64 (signed_number negative (digits_value 10 ds))
@@ -175,9 +175,9 @@ pub range_stops : (negative : Bool) (ds more : List ℕ) → IsNumeral 10 ds →
 range_stops negative ds more numeral no_zero out =
     rw (integer_behind _ _ _ numeral no_zero, denied _ (small_decides _) out) refl
 
-integer_of_parts : (negative : Bool) (n : ℕ) (rest : List ℕ) → n < 2 ^ 64 → (IsTrue negative → 0 < n) → FitsSigned w64 (signed_number negative n)
+integer_of_parts : (negative : Bool) (n : ℕ) {rest : _} → n < 2 ^ 64 → (IsTrue negative → 0 < n) → FitsSigned w64 (signed_number negative n)
     → read_integer ((sign_text negative ++ decimal n) ++ 101 ∷ rest) ≡ read (signed_number negative n) rest
-integer_of_parts negative n rest fits some small =
+integer_of_parts negative n fits some small =
     let numeral = decimal_is_IsNumeral n fits in
     rw (
       append_assoc _ _ _,
@@ -186,9 +186,9 @@ integer_of_parts negative n rest fits some small =
       (small_decides _).1 small,
     ) refl
 
-pub integer_read : (z : ℤ) (rest : List ℕ) → FitsSigned w64 z → read_integer (signed_decimal z ++ 101 ∷ rest) ≡ read z rest
-integer_read (pos n) rest fits = integer_of_parts false n rest (omega (arith, ints, fits)) (λ is. cc) fits
-integer_read (negsuc n) rest fits = integer_of_parts true _ rest (omega (arith, ints, fits)) (λ is. omega arith) fits
+pub integer_read : (z : ℤ) {rest : _} → FitsSigned w64 z → read_integer (signed_decimal z ++ 101 ∷ rest) ≡ read z rest
+integer_read (pos n) fits = integer_of_parts false n (omega (arith, ints, fits)) (λ is. cc) fits
+integer_read (negsuc n) fits = integer_of_parts true _ (omega (arith, ints, fits)) (λ is. omega arith) fits
 
 -- a string begins with a digit
 pub string_digit : (s rest : List ℕ) → length s < 2 ^ 64 → IsAsciiDigit (get_or (string_spelling s ++ rest) 0 0)

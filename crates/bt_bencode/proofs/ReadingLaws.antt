@@ -74,11 +74,11 @@ pub data Gives (ordered : Bool) (o : Outcome Data) : Next → Type 0 where
   there : (p : Outcome Data) → p ≡ o → Gives ordered o (ends p)
   onward : (job : Job) (text : List ℕ) → Gives ordered o (step ordered job text) → Gives ordered o (on job text)
 
-pub gives_once : (ordered : Bool) (o p : Outcome Data) (next : Next) → Gives ordered o next → Gives ordered p next → o ≡ p
-gives_once ordered o p next (there q is) (there q' is') = cc
-gives_once ordered o p next (onward job text a) (onward job' text' b) = gives_once ordered o p (step ordered job text) a b
+pub gives_once : {ordered o p next : _} → Gives ordered o next → Gives ordered p next → o ≡ p
+gives_once (there q is) (there q' is') = cc
+gives_once (onward job text a) (onward job' text' b) = gives_once a b
 
-pub go : {ordered : Bool} {o : Outcome Data} {job : Job} {text : List ℕ} → Gives ordered o (step ordered job text) → Gives ordered o (on job text)
+pub go : {ordered o job text : _} → Gives ordered o (step ordered job text) → Gives ordered o (on job text)
 go {job = job} {text = text} later = onward job text later
 
 pub string_begins : (ordered : Bool) (n : ℕ) (next : Data → Job) (text : List ℕ) → IsAsciiDigit (get_or text 0 0)
@@ -121,43 +121,43 @@ module _ (ordered : Bool) (o : Outcome Data) where
   mutual
     unfolding spelling_of nesting_of HasAscendingKeys IsRepresentable
 
-    pub value_read : (d : Data) (n : ℕ) (next : Data → Job) (rest : List ℕ) → nesting_of d ≤ n → (IsTrue ordered → HasAscendingKeys d)
+    pub value_read : (d : Data) (n : ℕ) {next : Data → Job} {rest : List ℕ} → nesting_of d ≤ n → (IsTrue ordered → HasAscendingKeys d)
         → IsRepresentable d → Gives ordered o (on (next d) rest) → Gives ordered o (on (value n next) (spelling_of d ++ rest))
-    value_read (integer z) n next rest deep keys fits later = go (rw (append_assoc _ _ _, integer_read z _ fits) later)
-    value_read (string s) n next rest deep keys fits later =
-        go (rw (string_begins _ _ _ _ (string_digit s _ fits), string_read s _ fits) later)
-    value_read (list ds) zero next rest deep keys fits later = absurd (omega arith)
-    value_read (list ds) (suc n) next rest deep keys fits later =
-        go (rw (append_assoc _ _ _) (items_read ds n _ _ (omega arith) keys fits (λ onto is. go (rw is later))))
-    value_read (dictionary es) zero next rest deep keys fits later = absurd (omega arith)
-    value_read (dictionary es) (suc n) next rest deep keys fits later =
-        go (rw (append_assoc _ _ _) (entries_read es n None _ _ (omega arith) keys (λ is. first_of_all es) fits
+    value_read (integer z) n deep keys fits later = go (rw (append_assoc _ _ _, integer_read z fits) later)
+    value_read (string s) n deep keys fits later =
+        go (rw (string_begins _ _ _ _ (string_digit s _ fits), string_read fits) later)
+    value_read (list ds) zero deep keys fits later = absurd (omega arith)
+    value_read (list ds) (suc n) deep keys fits later =
+        go (rw (append_assoc _ _ _) (items_read ds _ (omega arith) keys fits (λ onto is. go (rw is later))))
+    value_read (dictionary es) zero deep keys fits later = absurd (omega arith)
+    value_read (dictionary es) (suc n) deep keys fits later =
+        go (rw (append_assoc _ _ _) (entries_read es _ (omega arith) keys (λ is. first_of_all es) fits
         (λ onto is. go (rw is later))))
 
-    pub items_read : (ds : Items) (n : ℕ) (next : Items → Job) (rest : List ℕ) → items_nesting ds ≤ n
+    pub items_read : (ds : Items) {n : ℕ} {next : Items → Job} (rest : List ℕ) → items_nesting ds ≤ n
         → (IsTrue ordered → ItemsHaveAscendingKeys ds) → ItemsAreRepresentable ds
         → ((onto : Items → Job) → onto no_items ≡ next ds → Gives ordered o (on (items n onto) rest))
         → Gives ordered o (on (items n next) (items_spelling ds ++ rest))
-    items_read no_items n next rest deep keys fits later = later next refl
-    items_read (item d ds) n next rest deep keys fits later =
+    items_read no_items {next} rest deep keys fits later = later next refl
+    items_read (item d ds) {n} rest deep keys fits later =
         go (rw (append_assoc (spelling_of d) (items_spelling ds) rest, ne_eqb _ 101 (no_end d (items_spelling ds ++ rest) fits.0))
-        (value_read d n _ _ (omega arith) (λ is. (keys is).0) fits.0 (items_read ds n _ rest (omega arith) (λ is. (keys is).1) fits.1 later)))
+        (value_read d n (omega arith) (λ is. (keys is).0) fits.0 (items_read ds rest (omega arith) (λ is. (keys is).1) fits.1 later)))
 
-    pub entries_read : (es : Entries) (n : ℕ) (before : Option (List ℕ)) (next : Entries → Job) (rest : List ℕ) → entries_nesting es ≤ n
+    pub entries_read : (es : Entries) {n : ℕ} {before : Option (List ℕ)} {next : Entries → Job} (rest : List ℕ) → entries_nesting es ≤ n
         → (IsTrue ordered → EntriesAscend es) → (IsTrue ordered → IfSome (first_key_of es) (Follows before)) → EntriesAreRepresentable es
         → ((onto : Entries → Job) → onto no_entries ≡ next es → Gives ordered o (on (entries n (last_from before es) onto) rest))
         → Gives ordered o (on (entries n before next) (entries_spelling es ++ rest))
-    entries_read no_entries n before next rest deep keys follows fits later = later next refl
-    entries_read (entry key d es) n before next rest deep keys follows fits later =
+    entries_read no_entries {next} rest deep keys follows fits later = later next refl
+    entries_read (entry key d es) {n} {before} rest deep keys follows fits later =
         let more = spelling_of d ++ (entries_spelling es ++ rest) in
         go (rw (
           append_assoc (string_spelling key ++ spelling_of d) (entries_spelling es) rest,
           append_assoc (string_spelling key) (spelling_of d) (entries_spelling es ++ rest),
           ne_eqb _ 101 (no_e key more fits.0),
-          string_read key more fits.0,
+          string_read fits.0,
           follows_read ordered before key follows,
-        ) (value_read d n _ _ (omega arith) (λ is. (keys is).1) fits.1
-        (entries_read es n (Some key) _ rest (omega arith) (λ is. (keys is).2) (λ is. (keys is).0) fits.2 later)))
+        ) (value_read d n (omega arith) (λ is. (keys is).1) fits.1
+        (entries_read es rest (omega arith) (λ is. (keys is).2) (λ is. (keys is).0) fits.2 later)))
 
 pub less_decides : (o : Ordering) → Decides (is_lt o) (o ≡ Less)
 less_decides Less = (λ _. refl, λ _. refl)
@@ -173,12 +173,12 @@ follow_decides no_entries key = (λ _. tt, λ _. refl)
 follow_decides (entry k d es) key = rw (last_from_some k es) (less_decides _)
 
 -- what is read behind whole entries
-dictionary_read : (n : ℕ) (next : Data → Job) (es : Entries) (more : List ℕ) (o : Outcome Data) → IsCanonicalWithin (suc n) (dictionary es)
+dictionary_read : {n next es : _} (more : List ℕ) {o : _} → IsCanonicalWithin (suc n) (dictionary es)
     → length (entries_spelling es ++ more) < 2 ^ 64
     → ((onto : Entries → Job) → Gives true o (on (entries n (last_from None es) onto) more))
     → Gives true o (on (value (suc n) next) (100 ∷ (entries_spelling es ++ more)))
 unfolding nesting_of HasAscendingKeys HasSmallIntegers
-dictionary_read n next es more o canonical short later = go (entries_read true o es n None _ more (omega (arith, canonical.nesting))
+dictionary_read {es} more {o} canonical short later = go (entries_read true o es more (omega (arith, canonical.nesting))
     (λ _. canonical.keys) (λ _. first_of_all es)
     (entries_representable es canonical.integers (omega (arith, length-append (entries_spelling es) more))) (λ onto is. later onto))
 
@@ -190,63 +190,63 @@ key_short done key more short =
     let inner = length-append (string_spelling key) more in
     (omega (arith, outer, inner, string_is_longer key), omega (arith, outer, inner))
 
-stops_given : (n : ℕ) (next : Data → Job) (text : List ℕ) (f : Fault) (rest : List ℕ) → length text < 2 ^ 64 → Stops n text f rest
+stops_given : {n next text f rest : _} → length text < 2 ^ 64 → Stops n text f rest
     → Gives true (stopped f rest) (on (value n next) text)
 unfolding nesting_of HasAscendingKeys HasSmallIntegers
-stops_given _ next _ _ _ short (at_end n) = go (there _ refl)
-stops_given _ next _ _ _ short (at_other n t some i l d digit) =
+stops_given short (at_end n) = go (there _ refl)
+stops_given short (at_other n t some i l d digit) =
     go (rw (ne_eqb _ 105 i, ne_eqb _ 108 l, ne_eqb _ 100 d, denied _ (digit_decides _) digit, ne_eqb (length t) 0 (omega arith)) (there _ refl))
-stops_given _ next _ _ _ short (in_integer n negative more f rest whole stops) =
-    go (rw (integer_stops _ _ f _ whole stops) (there _ refl))
-stops_given _ next _ _ _ short (out_of_range n negative ds more numeral no_lead out) =
+stops_given short (in_integer n negative more f rest whole stops) =
+    go (rw (integer_stops whole stops) (there _ refl))
+stops_given short (out_of_range n negative ds more numeral no_lead out) =
     go (rw (range_stops _ _ _ numeral no_lead out) (there _ refl))
-stops_given _ next _ _ _ short (in_string n t f rest digit stops) =
-    go (rw (string_begins true n next t digit, string_stops t f _ stops) (there _ refl))
-stops_given _ next _ _ _ short (at_max_nesting opening more (inl is)) = go (rw is (there _ refl))
-stops_given _ next _ _ _ short (at_max_nesting opening more (inr is)) = go (rw is (there _ refl))
-stops_given _ next _ _ _ short (in_item n done more f rest canonical going stops) =
+stops_given {next} short (in_string n t f rest digit stops) =
+    go (rw (string_begins true n next t digit, string_stops stops) (there _ refl))
+stops_given short (at_max_nesting opening more (inl is)) = go (rw is (there _ refl))
+stops_given short (at_max_nesting opening more (inr is)) = go (rw is (there _ refl))
+stops_given short (in_item n done more f rest canonical going stops) =
     let parts = length-append (items_spelling done) more in
-    go (items_read true _ done n _ more (omega (arith, canonical.nesting)) (λ _. canonical.keys)
+    go (items_read true _ done more (omega (arith, canonical.nesting)) (λ _. canonical.keys)
     (items_representable done canonical.integers (omega (arith, parts)))
-    (λ onto is. go (rw (ne_eqb _ 101 going) (stops_given n _ more f rest (omega (arith, parts)) stops))))
-stops_given _ next _ _ _ short (in_key n done more f rest canonical going stops) =
-    dictionary_read n next done more _ canonical (omega arith) (λ onto. go (rw (ne_eqb _ 101 going, string_stops _ f _ stops) (there _ refl)))
-stops_given _ next _ _ _ short (at_key n done key more canonical order) =
+    (λ onto is. go (rw (ne_eqb _ 101 going) (stops_given (omega (arith, parts)) stops))))
+stops_given short (in_key n done more f rest canonical going stops) =
+    dictionary_read more canonical (omega arith) (λ onto. go (rw (ne_eqb _ 101 going, string_stops stops) (there _ refl)))
+stops_given short (at_key n done key more canonical order) =
     let fits = key_short done key more (omega arith) in
-    dictionary_read n next done _ _ canonical (omega arith) (λ onto. go (rw (
+    dictionary_read _ canonical (omega arith) (λ onto. go (rw (
       ne_eqb _ 101 (no_e key more fits.0),
-      string_read key more fits.0,
+      string_read fits.0,
       denied _ (follow_decides done key) order,
     ) (there _ refl)))
-stops_given _ next _ _ _ short (in_value n done key more f rest canonical order stops) =
+stops_given short (in_value n done key more f rest canonical order stops) =
     let fits = key_short done key more (omega arith) in
-    dictionary_read n next done _ _ canonical (omega arith) (λ onto. go (rw (
+    dictionary_read _ canonical (omega arith) (λ onto. go (rw (
       ne_eqb _ 101 (no_e key more fits.0),
-      string_read key more fits.0,
+      string_read fits.0,
       (follow_decides done key).1 order,
-    ) (stops_given n _ more f rest fits.1 stops)))
+    ) (stops_given fits.1 stops)))
 
 -- a canonical value of nesting at most n begins a text that fits memory
-canonical_given : (n : ℕ) (d : Data) (more text : List ℕ) → length text < 2 ^ 64 → IsCanonicalWithin n d → spelling_of d ++ more ≡ text
+canonical_given : {n d more text : _} → length text < 2 ^ 64 → IsCanonicalWithin n d → spelling_of d ++ more ≡ text
     → Gives true (read d more) (on (value n final) text)
-canonical_given n d more text short canonical spelled =
+canonical_given {n} {d} {more} short canonical spelled =
     let fits = representable d canonical.integers (omega (arith, length-append (spelling_of d) more, ap length spelled)) in
     subst (λ t. Gives true (read d more) (on (value n final) t)) spelled
-    (value_read true _ d n final more canonical.nesting (λ _. canonical.keys) fits (go (there _ refl)))
+    (value_read true _ d n canonical.nesting (λ _. canonical.keys) fits (go (there _ refl)))
 
-same_spelling : (d e : Data) (x y : List ℕ) → IsRepresentable d → IsRepresentable e → spelling_of d ++ x ≡ spelling_of e ++ y → (d ≡ e) × (x ≡ y)
-same_spelling d e x y p q spelled =
+same_spelling : {d e x y : _} → IsRepresentable d → IsRepresentable e → spelling_of d ++ x ≡ spelling_of e ++ y → (d ≡ e) × (x ≡ y)
+same_spelling {d} {e} {y} p q spelled =
     let n = nesting_of d + nesting_of e in
-    let same = gives_once false _ _ _ (value_read false _ d n final x (omega arith) (λ is. cc) p (go (there _ refl)))
+    let same = gives_once (value_read false _ d n (omega arith) (λ is. cc) p (go (there _ refl)))
     (subst (λ t. Gives false (read e y) (on (value n final) t)) (sym spelled)
-    (value_read false _ e n final y (omega arith) (λ is. cc) q (go (there _ refl)))) in
+    (value_read false _ e n (omega arith) (λ is. cc) q (go (there _ refl)))) in
     (cc, cc)
 
 pub no_proper_prefix : NoProperPrefix
-no_proper_prefix d e rest fits fits' h = (same_spelling d e _ [] fits fits' (h ∙ sym (append-nil _))).1
+no_proper_prefix d e rest fits fits' h = (same_spelling fits fits' (h ∙ sym (append-nil _))).1
 
 pub begins_once : BeginsOnce
-begins_once d e rest more fits fits' h = (same_spelling d e _ _ fits fits' h).0
+begins_once d e rest more fits fits' h = (same_spelling fits fits' h).0
 
 -- nothing is left where the input ends too early, and bytes behind the value stop no reading of the value
 abbrev EndsOrStays : Fault → List ℕ → Type 0
@@ -254,32 +254,32 @@ EndsOrStays truncated rest = rest ≡ []
 EndsOrStays trailing rest = ⊥
 EndsOrStays _ rest = Unit {0}
 
-numeral_fault : (negative : Bool) (stop : ℕ) (text : List ℕ) (f : Fault) (rest : List ℕ) → NumeralStops negative stop text f rest → EndsOrStays f rest
-numeral_fault _ _ _ _ _ (numeral_at_end digits no_lead) = refl
-numeral_fault _ _ _ _ _ _ = tt
+numeral_fault : {negative stop text f rest : _} → NumeralStops negative stop text f rest → EndsOrStays f rest
+numeral_fault (numeral_at_end digits no_lead) = refl
+numeral_fault _ = tt
 
-string_fault : (text : List ℕ) (f : Fault) (rest : List ℕ) → StringStops text f rest → EndsOrStays f rest
-string_fault _ _ _ (in_length f rest stops) = numeral_fault _ 58 _ f _ stops
-string_fault _ _ _ (in_bytes ds more parts numeral no_lead short) = refl
+string_fault : {text f rest : _} → StringStops text f rest → EndsOrStays f rest
+string_fault (in_length f rest stops) = numeral_fault stops
+string_fault (in_bytes ds more parts numeral no_lead short) = refl
 
-value_fault : (n : ℕ) (text : List ℕ) (f : Fault) (rest : List ℕ) → Stops n text f rest → EndsOrStays f rest
-value_fault _ _ _ _ (at_end n) = refl
-value_fault _ _ _ _ (in_integer n negative more f rest whole stops) = numeral_fault _ 101 _ f _ stops
-value_fault _ _ _ _ (in_string n t f rest digit stops) = string_fault t f _ stops
-value_fault _ _ _ _ (in_item n done more f rest canonical going stops) = value_fault n more f rest stops
-value_fault _ _ _ _ (in_key n done more f rest canonical going stops) = string_fault _ f _ stops
-value_fault _ _ _ _ (in_value n done key more f rest canonical order stops) = value_fault n more f rest stops
-value_fault _ _ _ _ _ = tt
+value_fault : {n text f rest : _} → Stops n text f rest → EndsOrStays f rest
+value_fault (at_end n) = refl
+value_fault (in_integer n negative more f rest whole stops) = numeral_fault stops
+value_fault (in_string n t f rest digit stops) = string_fault stops
+value_fault (in_item n done more f rest canonical going stops) = value_fault stops
+value_fault (in_key n done more f rest canonical going stops) = string_fault stops
+value_fault (in_value n done key more f rest canonical order stops) = value_fault stops
+value_fault _ = tt
 
-pub truncated_at_end : (bytes : List ℕ) (f : Fault) (offset : ℕ) → IsFirstFault bytes f offset → f ≡ truncated → offset ≡ length bytes
-truncated_at_end bytes _ _ (in_the_value f offset inside stops) is =
-    let none : drop offset bytes ≡ [] = rw is at (value_fault 128 _ f _ stops) in
+pub truncated_at_end : {bytes : _} (f : Fault) (offset : ℕ) → IsFirstFault bytes f offset → f ≡ truncated → offset ≡ length bytes
+truncated_at_end {bytes} _ _ (in_the_value f offset inside stops) is =
+    let none : drop offset bytes ≡ [] = rw is at (value_fault stops) in
     omega (arith, ap length none, length-drop offset bytes)
-truncated_at_end bytes _ _ (behind_the_value e offset canonical lt spelled) is = cc
+truncated_at_end _ _ (behind_the_value e offset canonical lt spelled) is = cc
 
-pub trailing_behind_value : (bytes : List ℕ) (f : Fault) (offset : ℕ) → IsFirstFault bytes f offset → f ≡ trailing → IsValueEnd bytes offset
-trailing_behind_value bytes _ _ (in_the_value f offset inside stops) is = absurd (rw is at (value_fault 128 _ f _ stops))
-trailing_behind_value bytes _ _ (behind_the_value e offset canonical lt spelled) is =
+pub trailing_behind_value : {bytes : _} (f : Fault) (offset : ℕ) → IsFirstFault bytes f offset → f ≡ trailing → IsValueEnd bytes offset
+trailing_behind_value _ _ (in_the_value f offset inside stops) is = absurd (rw is at (value_fault stops))
+trailing_behind_value {bytes} _ _ (behind_the_value e offset canonical lt spelled) is =
     let size : length (spelling_of e) ≡ offset =
     omega (arith, ap length spelled, length-append (spelling_of e) (drop offset bytes), length-drop offset bytes) in
     record {
@@ -295,23 +295,23 @@ fault_of (read d rest) = (trailing, rest)
 fault_of (stopped f rest) = (f, rest)
 
 -- what a reading of the bytes gives where they have this first fault
-given : (bytes : List ℕ) (f : Fault) (offset : ℕ) → length bytes < 2 ^ 64 → IsFirstFault bytes f offset
+given : {bytes f offset : _} → length bytes < 2 ^ 64 → IsFirstFault bytes f offset
     → (o : Outcome Data) × Gives true o (on (value 128 final) bytes) × (fault_of o ≡ (f, drop offset bytes)) × (offset ≤ length bytes)
-given bytes _ _ short (in_the_value f offset inside stops) = (stopped f (drop offset bytes), stops_given 128 final _ f _ short stops, refl, inside)
-given bytes _ _ short (behind_the_value d offset canonical lt spelled) =
-    (read d (drop offset bytes), canonical_given 128 d _ _ short canonical spelled, refl, omega arith)
+given {bytes} short (in_the_value f offset inside stops) = (stopped f (drop offset bytes), stops_given short stops, refl, inside)
+given {bytes} short (behind_the_value d offset canonical lt spelled) =
+    (read d (drop offset bytes), canonical_given short canonical spelled, refl, omega arith)
 
 pub first_fault_is_one : FirstFaultIsOne
 first_fault_is_one bytes f g n m short a b =
-    let one = given bytes f n short a in
-    let other = given bytes g m short b in
-    let same = sym one.2 ∙ ap fault_of (gives_once true _ _ _ one.1 other.1) ∙ other.2 in
+    let one = given short a in
+    let other = given short b in
+    let same = sym one.2 ∙ ap fault_of (gives_once one.1 other.1) ∙ other.2 in
     (ap (λ p. p.0) same, omega (arith, one.3, other.3, ap (λ p. length p.1) same, length-drop n bytes, length-drop m bytes))
 
 -- a fault refuses every canonical value
 pub none_spells : FirstFaultRefuses
 none_spells bytes f offset short fault d canonical is =
-    let one = given bytes f offset short fault in
-    let whole = canonical_given 128 d [] bytes short canonical (append-nil _ ∙ is) in
-    let same = sym one.2 ∙ ap fault_of (gives_once true _ _ _ one.1 whole) in
-    omega (arith, (trailing_behind_value bytes f offset fault (ap (λ p. p.0) same)).followed, ap (λ p. length p.1) same, length-drop offset bytes)
+    let one = given short fault in
+    let whole = canonical_given short canonical (append-nil _ ∙ is) in
+    let same = sym one.2 ∙ ap fault_of (gives_once one.1 whole) in
+    omega (arith, (trailing_behind_value f offset fault (ap (λ p. p.0) same)).followed, ap (λ p. length p.1) same, length-drop offset bytes)

@@ -7,6 +7,7 @@ use crate::value::Value;
 
 /// The value of the first entry with this key; None where there is none, or where the value is no
 /// dictionary.
+#[tactic(auto, using(crate::proofs::Steps::field_steps))]
 pub fn field<'a>(value: &'a Value, key: &[u8]) -> Option<&'a Value>
     ensures { option_map data_of (option_copied result) ≡ field_of (data_of value.now) key.now }
 {

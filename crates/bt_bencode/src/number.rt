@@ -16,6 +16,7 @@ use crate::error::BencodeError;
 use std::str;
 
 /// Where the run of decimal digits that begins at `at` ends.
+#[tactic(auto, using(crate::proofs::Steps::digits_end_steps))]
 fn digits_end(bytes: &[u8], at: usize) -> usize
     requires { at ≤ length bytes.now }
     ensures from { at ≤ result }
@@ -67,6 +68,7 @@ pub(crate) fn numeral_end(
 }
 
 /// The bytes as text.
+#[tactic(auto, using(crate::proofs::Steps::text_steps))]
 fn ascii_text(bytes: &[u8]) -> &str
     requires { IsAscii bytes.now }
     ensures { result.now ≡ bytes.now }
@@ -78,6 +80,7 @@ fn ascii_text(bytes: &[u8]) -> &str
 }
 
 /// The length that the digits write; None where it is more than any slice has.
+#[tactic(auto, using(crate::proofs::Steps::text_steps))]
 pub(crate) fn length_of(digits: &[u8]) -> Option<usize>
     requires { IsNumeral 10 digits.now }
     ensures { SomeIff result (digits_value 10 digits.now < 2 ^ 64) (digits_value 10 digits.now) }

@@ -24,6 +24,7 @@ pub const MAX_NESTING: usize = 128;
 ///
 /// An error is the first fault from the left, with its offset; the bytes are read once, and memory
 /// grows with the value alone. Errors: all of [`BencodeError`].
+#[tactic(auto, using(crate::proofs::Steps::parse_steps))]
 pub fn parse(alloc: Global, bytes: &[u8]) -> Result<Doc, BencodeError>
     ensures canonical { IfOk result (λ doc. IsCanonical (data_of doc)) }
     ensures spelled { IfOk result (λ doc. spelling_of (data_of doc) ≡ bytes.now) }
@@ -74,6 +75,7 @@ fn value_at(
 }
 
 /// The list whose `l` is at `at`, and where it ends.
+#[tactic(auto, using(crate::proofs::Steps::list_at_steps))]
 #[cycle(value)]
 fn list_at(
     alloc: Global,
@@ -101,6 +103,7 @@ fn list_at(
 }
 
 /// The dictionary whose `d` is at `at`, and where it ends.
+#[tactic(auto, using(crate::proofs::Steps::dictionary_at_steps))]
 #[cycle(value)]
 fn dictionary_at(
     alloc: Global,
@@ -145,6 +148,7 @@ fn push_part<T: Drop>(parts: &mut Vec<T>, part: T) -> Result<(), AllocError>
 }
 
 /// Whether the key stands after the last one of the entries.
+#[tactic(auto, using(crate::proofs::Steps::may_follow_steps))]
 fn may_follow(entries: &[(Vec<u8>, Value)], key: &[u8]) -> bool
     ensures { IsTrue result ↔ EndsBefore (entries_of entries.now) key.now }
 {

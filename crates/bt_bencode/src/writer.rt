@@ -16,6 +16,7 @@ pub fn write(alloc: Global, value: &Value) -> Result<Vec<u8>, AllocError>
 }
 
 /// Puts the value's spelling behind `out`.
+#[tactic(auto, using(crate::proofs::Steps::put_value_steps), unfolding(crate::specs::Spelling::spelling_of, crate::specs::Spelling::items_spelling, crate::specs::Spelling::entries_spelling))]
 fn put_value(alloc: Global, out: &mut Vec<u8>, value: &Value) -> Result<(), AllocError>
     ensures { OnOk result (out.new.items ≡ out.old.items ++ spelling_of (data_of value.now)) }
 {

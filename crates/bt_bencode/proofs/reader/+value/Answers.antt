@@ -1,4 +1,4 @@
-use Rattle.std.proofs.Common.{refl, inl, inr, ◌≡◌, [], get_or, drop, ap, ◌∙◌, arith, rules, length-drop}
+use Rattle.std.proofs.Common.{refl, ◌≡◌, [], get_or, drop, ap, ◌∙◌, arith, rules, length-drop}
 use Rattle.std.specs.Char.{IsAsciiDigit}
 use Rattle.std.proofs.Math.Seq.{drop-length}
 use Rattle.std.proofs.lemmas.Bool.{false≢true}
@@ -9,12 +9,9 @@ use Rattle.bt_bencode.specs.Doc.{nesting_of, HasAscendingKeys, HasSmallIntegers}
 use Rattle.bt_bencode.specs.Reader.{StringStops, Stops, EndsBefore, at_end, at_other, in_string}
 use Rattle.bt_bencode.proofs.ReadRanges.{spans_byte, spans_join, drop_first, not_standing, stop_passed}
 use Rattle.bt_bencode.proofs.ValueData.{data_of-Int, data_of-Bytes, data_of-List, data_of-Dict}
-use Rattle.bt_bencode.proofs.ReadParts.{too_deep_at, begun, list_more, list_stops}
+use Rattle.bt_bencode.proofs.ReadParts.{begun, list_more, list_stops}
 use Rattle.bt_bencode.proofs.ReadParts.{dictionary_more, key_stops, order_stops, value_stops}
 use Rattle.bt_bencode.proofs.reader.+value.Goals as goal
-
-pub dictionary_at-returns-then-depth-eq0-clause-fault : goal.dictionary_at-returns-then-depth-eq0-clause-fault
-dictionary_at-returns-then-depth-eq0-clause-fault t c = too_deep_at _ _ _ 100 c.if-depth-eq0.true c.requires.inside c.requires.first (inr refl)
 
 pub dictionary_at-loop-alloc-init : goal.dictionary_at-loop-alloc-init
 dictionary_at-loop-alloc-init t c =
@@ -23,12 +20,12 @@ dictionary_at-loop-alloc-init t c =
 pub dictionary_at-returns-in_err-key-clause-fault : goal.dictionary_at-returns-in_err-key-clause-fault
 dictionary_at-returns-in_err-key-clause-fault t c =
     let going = not_standing c.args.bytes.now c.loop-alloc.next 101 (omega arith) c.loop-alloc-test.ensures.1 in
-    stop_passed StringStops (Stops c.args.depth) _ _ _ (key_stops _ _ _ _ (omega arith) _ c.loop-alloc.invariant going)
+    stop_passed StringStops (Stops c.args.depth) _ _ _ (key_stops _ _ _ (omega arith) _ c.loop-alloc.invariant going)
     _ _ c.from_residual.ensures.1 c.in_err-key.ensures.fault
 
 pub dictionary_at-returns-then-not-may_follow-clause-fault : goal.dictionary_at-returns-then-not-may_follow-clause-fault
 dictionary_at-returns-then-not-may_follow-clause-fault t c =
-    order_stops _ _ _ _ (omega arith) _ c.loop-alloc.invariant _ _ c.in_ok-key.ensures.found
+    order_stops _ _ _ (omega arith) _ c.loop-alloc.invariant _ _ c.in_ok-key.ensures.found
     (λ order. false≢true (c.if-not-may_follow.ensures.1 (rw (c.deref.ensures.value, c.deref-in-loop-alloc.ensures.value) order)))
 
 pub dictionary_at-returns-in_err-value-clause-fault : goal.dictionary_at-returns-in_err-value-clause-fault
@@ -36,14 +33,14 @@ dictionary_at-returns-in_err-value-clause-fault t c =
     let order : EndsBefore (entries_of c.loop-alloc.entries.items) c.in_ok-key.key.items =
     rw (c.deref.ensures.value, c.deref-in-loop-alloc.ensures.value) at (c.if-not-may_follow.ensures.0 refl) in
     stop_passed (Stops _) (Stops c.args.depth) _ _ _
-    (value_stops _ _ _ _ (omega arith) _ c.loop-alloc.invariant _ _ c.in_ok-key.ensures.found order)
+    (value_stops _ _ _ (omega arith) _ c.loop-alloc.invariant _ _ c.in_ok-key.ensures.found order)
     _ _ c.from_residual-in_err-value.ensures.1 c.in_err-value.ensures.fault
 
 pub dictionary_at-loop-alloc-preserved : goal.dictionary_at-loop-alloc-preserved
 dictionary_at-loop-alloc-preserved t c =
     let order : EndsBefore (entries_of c.loop-alloc.entries.items) c.in_ok-key.key.items =
     rw (c.deref.ensures.value, c.deref-in-loop-alloc.ensures.value) at (c.if-not-may_follow.ensures.0 refl) in
-    dictionary_more _ _ _ _ _ _ _ _ _ _ (omega arith) c.loop-alloc.invariant c.in_ok-key.ensures.found order c.in_ok-value.ensures.found
+    dictionary_more _ _ _ _ _ _ _ (omega arith) c.loop-alloc.invariant c.in_ok-key.ensures.found order c.in_ok-value.ensures.found
     c.in_ok-push_part.ensures
 
 pub dictionary_at-returns-clause-found : goal.dictionary_at-returns-clause-found
@@ -51,12 +48,9 @@ unfolding spelling_of
 dictionary_at-returns-clause-found t c =
     let last = c.loop-alloc-test.ensures.0 refl in
     rw (data_of-Dict, c.shrink_to_fit.ensures.items) (record {
-      spans = spans_join _ _ _ _ _ _ c.loop-alloc.invariant.spans (spans_byte _ _ 101 last.0 last.1);
+      spans = spans_join c.loop-alloc.invariant.spans (spans_byte last.0 last.1);
       canonical = c.loop-alloc.invariant.canonical;
     })
-
-pub list_at-returns-then-depth-eq0-clause-fault : goal.list_at-returns-then-depth-eq0-clause-fault
-list_at-returns-then-depth-eq0-clause-fault t c = too_deep_at _ _ _ 108 c.if-depth-eq0.true c.requires.inside c.requires.first (inl refl)
 
 pub list_at-loop-alloc-init : goal.list_at-loop-alloc-init
 list_at-loop-alloc-init t c = rw c.new-items.ensures.items ((begun c.args.depth c.args.bytes.now c.args.at (omega arith) c.requires.inside).0 c.requires.first)
@@ -64,19 +58,19 @@ list_at-loop-alloc-init t c = rw c.new-items.ensures.items ((begun c.args.depth 
 pub list_at-returns-in_err-item-clause-fault : goal.list_at-returns-in_err-item-clause-fault
 list_at-returns-in_err-item-clause-fault t c =
     let going = not_standing c.args.bytes.now c.loop-alloc.next 101 (omega arith) c.loop-alloc-test.ensures.1 in
-    stop_passed (Stops _) (Stops c.args.depth) _ _ _ (list_stops _ _ _ _ (omega arith) _ c.loop-alloc.invariant going)
+    stop_passed (Stops _) (Stops c.args.depth) _ _ _ (list_stops _ _ _ (omega arith) _ c.loop-alloc.invariant going)
     _ _ c.from_residual.ensures.1 c.in_err-item.ensures.fault
 
 pub list_at-loop-alloc-preserved : goal.list_at-loop-alloc-preserved
 list_at-loop-alloc-preserved t c =
-    list_more _ _ _ _ _ _ _ _ (omega arith) c.loop-alloc.invariant c.in_ok-item.ensures.found c.in_ok-push_part.ensures
+    list_more _ _ _ _ _ _ (omega arith) c.loop-alloc.invariant c.in_ok-item.ensures.found c.in_ok-push_part.ensures
 
 pub list_at-returns-clause-found : goal.list_at-returns-clause-found
 unfolding spelling_of
 list_at-returns-clause-found t c =
     let last = c.loop-alloc-test.ensures.0 refl in
     rw (data_of-List, c.shrink_to_fit.ensures.items) (record {
-      spans = spans_join _ _ _ _ _ _ c.loop-alloc.invariant.spans (spans_byte _ _ 101 last.0 last.1);
+      spans = spans_join c.loop-alloc.invariant.spans (spans_byte last.0 last.1);
       canonical = c.loop-alloc.invariant.canonical;
     })
 

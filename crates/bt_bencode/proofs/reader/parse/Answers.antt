@@ -1,9 +1,8 @@
 use Rattle.std.proofs.Common.{ℕ, List, ◌≡◌, ◌<◌, ◌^◌, length, arith}
 use Rattle.std.specs.Prelude.{Result, IfErr}
 use Rattle.std.specs.Result.{IsErrAnd}
-use Rattle.bt_bencode.specs.Value.{data_of}
 use Rattle.bt_bencode.specs.Error.{Fault, AtFault}
-use Rattle.bt_bencode.specs.Reader.{Stops, IsFirstFault, in_the_value, behind_the_value}
+use Rattle.bt_bencode.specs.Reader.{Stops, IsFirstFault, in_the_value}
 use Rattle.bt_bencode.specs.ReaderSteps.{FaultFrom}
 use Rattle.bt_bencode.specs.declared.error.BencodeError.{BencodeError}
 use Rattle.bt_bencode.proofs.ReadRanges.{fault_passed}
@@ -26,19 +25,8 @@ returns-in_err-value-clause-none_spells c =
 
 pub returns-in_err-value-clause-truncated_at_end : goal.returns-in_err-value-clause-truncated_at_end
 returns-in_err-value-clause-truncated_at_end c =
-    in_value c.args.bytes.now _ (truncated_at_end c.args.bytes.now) _ _ c.from_residual.ensures.1 c.in_err-value.ensures.fault
+    in_value c.args.bytes.now _ (truncated_at_end) _ _ c.from_residual.ensures.1 c.in_err-value.ensures.fault
 
 pub returns-in_err-value-clause-trailing_behind_value : goal.returns-in_err-value-clause-trailing_behind_value
 returns-in_err-value-clause-trailing_behind_value c =
-    in_value c.args.bytes.now _ (trailing_behind_value c.args.bytes.now) _ _ c.from_residual.ensures.1 c.in_err-value.ensures.fault
-
-pub returns-then-end-length-clause-first_fault : goal.returns-then-end-length-clause-first_fault
-returns-then-end-length-clause-first_fault c =
-    let found = c.in_ok-value.ensures.found in
-    behind_the_value (data_of c.in_ok-value.value) c.in_ok-value.end found.canonical c.if-end-length.true found.spans.spelled
-
-pub returns-then-end-length-clause-none_spells : goal.returns-then-end-length-clause-none_spells
-returns-then-end-length-clause-none_spells c =
-    let found = c.in_ok-value.ensures.found in
-    none_spells c.args.bytes.now _ c.in_ok-value.end (omega arith)
-    (behind_the_value (data_of c.in_ok-value.value) c.in_ok-value.end found.canonical c.if-end-length.true found.spans.spelled)
+    in_value c.args.bytes.now _ (trailing_behind_value) _ _ c.from_residual.ensures.1 c.in_err-value.ensures.fault

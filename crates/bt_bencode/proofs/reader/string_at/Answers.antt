@@ -19,7 +19,7 @@ returns-in_ok-string-in-Some-clause-found c =
     let inside : colon < length bytes = c.in_ok-colon.ensures.found.inside in
     let size : colon + 1 + c.in-Some.length - (colon + 1) ≡ c.in-Some.length = omega arith in
     let value = c.in-Some.ensures.1 in
-    string_read _ _ _ c.in_ok-colon.ensures.found _ _ (sym value) (rw value c.in-Some.ensures.0)
+    string_read c.in_ok-colon.ensures.found (sym value) (rw value c.in-Some.ensures.0)
     (omega arith) (c.in_ok-string-in-Some.ensures.items ∙ ap (λ k. take k (drop (colon + 1) bytes)) size)
 
 pub returns-in_default-clause-fault : goal.returns-in_default-clause-fault
@@ -30,4 +30,4 @@ returns-in_default-clause-fault c =
       | in_default-via-in-Some+else-length-left w ↦ omega (arith, w.if-length-left.false, w.in-Some.ensures.1)
       | in_default-via-in_default w ↦ omega (arith, unless_some c.length_of.result _ _ c.length_of.ensures w.in_default.not-Some)
     ] in
-    string_short _ _ _ c.in_ok-colon.ensures.found long
+    string_short c.in_ok-colon.ensures.found long

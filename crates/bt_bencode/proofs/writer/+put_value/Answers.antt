@@ -1,10 +1,10 @@
-use Rattle.std.proofs.Common.{◌≡◌, ℕ, ◌+◌, ◌<◌, List, ◌++◌, take, get_or, length, ◌∙◌, append_assoc, sym, ap, arith, refl}
+use Rattle.std.proofs.Common.{◌≡◌, ℕ, ◌+◌, ◌<◌, List, ◌++◌, take, get_or, length, ◌∙◌, append_assoc, ap}
 use Rattle.std.specs.Global.{Vec}
-use Rattle.std.proofs.lemmas.List.{take_more, take_all, append-nil}
+use Rattle.std.proofs.lemmas.List.{take_more}
 use Rattle.bt_bencode.specs.Value.{data_of, items_of, entries_of}
 use Rattle.bt_bencode.specs.Spelling.{string_spelling, spelling_of, items_spelling, entries_spelling}
 use Rattle.bt_bencode.specs.declared.value.Value.{Value}
-use Rattle.bt_bencode.proofs.ValueData.{items_spelling-push, entries_spelling-push, data_of-Int, data_of-Bytes, data_of-List, data_of-Dict}
+use Rattle.bt_bencode.proofs.ValueData.{items_spelling-push, entries_spelling-push}
 use Rattle.bt_bencode.proofs.writer.+put_value.Goals as goal
 
 item_written : (a b c : List ℕ) (vs : List Value) (i : ℕ) (v : Value) → i < length vs → v ≡ get_or vs i v
@@ -18,43 +18,12 @@ entry_written : (a b m c : List ℕ) (es : List (Vec ℕ × Value)) (i : ℕ) (e
 entry_written a b m c es i e lt is before key value =
     rw (value, key, before, take_more es i e lt, ← is, entries_spelling-push _ e) (append_assoc (a ++ _) _ _ ∙ append_assoc a _ _)
 
-pub loop-item-init : goal.loop-item-init
-unfolding items_spelling
-loop-item-init t c = c.in_ok-push-in-List.ensures.items ∙ sym (append-nil _)
-
 pub loop-item-preserved : goal.loop-item-preserved
 loop-item-preserved t c =
     item_written _ _ _ _ _ _ c.loop-item-test.true c.item-item.is c.loop-item.invariant c.in_ok-put_value-in-List.ensures
-
-pub loop-key-init : goal.loop-key-init
-unfolding entries_spelling
-loop-key-init t c = c.in_ok-push-in-Dict.ensures.items ∙ sym (append-nil _)
 
 pub loop-key-preserved : goal.loop-key-preserved
 loop-key-preserved t c =
     entry_written _ _ _ _ _ _ _ c.loop-key-test.true c.loop-key-item.is c.loop-key.invariant
     (c.in_ok-put_string-in-Dict.ensures ∙ ap (λ xs. c.loop-key.out.items ++ string_spelling xs) c.deref-in-loop-key.ensures.value)
     c.in_ok-put_value-in-Dict.ensures
-
-pub returns-in_ok-extend_from_slice-in-Int : goal.returns-in_ok-extend_from_slice-in-Int
-unfolding spelling_of
-returns-in_ok-extend_from_slice-in-Int t c =
-    rw (c.in-Int.is, data_of-Int, c.in_ok-extend_from_slice-in-Int.ensures.items, c.as_bytes.ensures.value, c.in_ok-digits-in-Int.ensures.ok) refl
-
-pub returns-in_ok-put_string-in-Bytes : goal.returns-in_ok-put_string-in-Bytes
-unfolding spelling_of
-returns-in_ok-put_string-in-Bytes t c = rw (c.in-Bytes.is, data_of-Bytes, c.in_ok-put_string-in-Bytes.ensures, c.deref.ensures.value) refl
-
-pub returns-in_ok-push-in-List-2 : goal.returns-in_ok-push-in-List-2
-unfolding spelling_of
-returns-in_ok-push-in-List-2 t c =
-    let whole : take c.loop-item.item-index c.deref-item-items.result.now ≡ c.in-List.items.items =
-    take_all _ _ (omega arith) ∙ c.deref-item-items.ensures.value in
-    rw (c.in-List.is, data_of-List, c.in_ok-push-in-List-2.ensures.items, c.loop-item.invariant, whole) (simp append_assoc)
-
-pub returns-in_ok-push-in-Dict-2 : goal.returns-in_ok-push-in-Dict-2
-unfolding spelling_of
-returns-in_ok-push-in-Dict-2 t c =
-    let whole : take c.loop-key.key-index c.deref-key-items.result.now ≡ c.in-Dict.entries.items =
-    take_all _ _ (omega arith) ∙ c.deref-key-items.ensures.value in
-    rw (c.in-Dict.is, data_of-Dict, c.in_ok-push-in-Dict-2.ensures.items, c.loop-key.invariant, whole) (simp append_assoc)

@@ -1,0 +1,27 @@
+-- The lemmas that close the steps of each function.
+use Rattle.std.proofs.Common.{append_assoc, inl, inr}
+use Rattle.std.proofs.Math.Seq.{drop-length}
+use Rattle.std.proofs.lemmas.Fmt.{IsAscii-from_digits}
+use Rattle.std.proofs.lemmas.List.{append-nil, drop_more, take_all}
+use Rattle.std.proofs.lemmas.Str.{IsUtf8-from_ascii}
+use Rattle.bt_bencode.specs.Reader.{behind_the_value}
+use Rattle.bt_bencode.proofs.ReadParts.{last_decides, too_deep_at}
+use Rattle.bt_bencode.proofs.ReadingLaws.{none_spells}
+use Rattle.bt_bencode.proofs.ReadRanges.{digits_one_more}
+use Rattle.bt_bencode.proofs.ValueData.{data_of-Int, data_of-Bytes, data_of-List, data_of-Dict}
+
+pub ruleset text_steps = (IsAscii-from_digits, IsUtf8-from_ascii)
+
+pub ruleset digits_end_steps = (digits_one_more)
+
+pub ruleset may_follow_steps = (last_decides)
+
+pub ruleset field_steps = (data_of-Dict, drop_more, drop-length)
+
+pub ruleset put_value_steps = (data_of-Int, data_of-Bytes, data_of-List, data_of-Dict, take_all, append-nil, append_assoc)
+
+pub ruleset list_at_steps = (inl, too_deep_at)
+
+pub ruleset dictionary_at_steps = (inr, too_deep_at)
+
+pub ruleset parse_steps = (behind_the_value, none_spells)
