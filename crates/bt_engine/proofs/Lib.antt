@@ -44,6 +44,7 @@ pub mod ExampleThreeEngine
 pub mod ExampleThreeBlocks
 pub mod ExampleWaiting
 pub mod ExampleServing
+pub mod ExampleDamaged
 pub mod ExampleHostile
 pub mod ExampleTwins
 -- what is left free

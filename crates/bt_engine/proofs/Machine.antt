@@ -8,6 +8,7 @@ pub use Rattle.bt_engine.specs.Blocks.{with_peer, state_at, tree_of, with_file, 
 pub use Rattle.bt_engine.specs.Crash.{StepKeepsImages}
 pub use Rattle.bt_engine.specs.Determined.{IsOutOfMemory, HaveMemory, plain_answer, without_asked, LacksOneAtMost, other_frames, block_requests, is_block_request, asked_nothing, IsReached, StepIsDetermined, StepIsForced, RunsAreDetermined}
 pub use Rattle.bt_engine.specs.Devices.{DeviceCalls, reads_at, calls_at, calls_of}
+pub use Rattle.bt_engine.specs.ExampleDamaged.{IsWrongAbc, abc_reader, abc_request_bytes, DamagedBlockIsRun}
 pub use Rattle.bt_engine.specs.ExampleForced.{AbcAnswersAreForced, IsOrder, waiting_answers_in, WaitingAnswersAreForced}
 pub use Rattle.bt_engine.specs.ExampleHostile.{empty_engine, root_alone, leaves_peer, blocks_peer, ClosesOn, StaysOn, far_key, HostileMessagesAreRuns, WrongBlockIsRun}
 pub use Rattle.bt_engine.specs.ExampleOneBlock.{abc_file, abc_torrent, abc_engine, served_peer, abc_events, abc_calls, abc_answers, abc, piece_bytes, FetchOfAbcIsRun}

@@ -39,6 +39,7 @@ pub mod ExampleOneBlock
 pub mod ExampleThreeBlocks
 pub mod ExampleWaiting
 pub mod ExampleServing
+pub mod ExampleDamaged
 pub mod ExampleHostile
 pub mod ExampleTwins
 pub mod ExampleForced

@@ -1,3 +1,4 @@
+ghost use Rattle.bt_engine.specs.ExampleDamaged.{DamagedBlockIsRun};
 ghost use Rattle.bt_engine.specs.ExampleForced.{AbcAnswersAreForced, WaitingAnswersAreForced};
 ghost use Rattle.bt_engine.specs.ExampleHostile.{HostileMessagesAreRuns, WrongBlockIsRun};
 ghost use Rattle.bt_engine.specs.ExampleOneBlock.{FetchOfAbcIsRun};
@@ -55,4 +56,10 @@ pub fn hostile_messages_are_runs<H: NodeHash>(_hash: H)
 /// A block with the wrong digest closes the peer that was asked for it, and stays missing.
 pub fn wrong_block_is_run<H: NodeHash>(_hash: H)
     ensures { WrongBlockIsRun H.digest }
+{}
+
+/// A marked block whose device gives other bytes is missing when a peer has requested it, and one whose read
+/// fails stays marked; nothing is sent, and the peer stays.
+pub fn damaged_block_is_run<H: NodeHash>(_hash: H)
+    ensures { DamagedBlockIsRun H.digest }
 {}
