@@ -47,6 +47,7 @@ pub mod ExampleServing
 pub mod ExampleDamaged
 pub mod ExampleHostile
 pub mod ExampleTwins
+pub mod ExampleFlush
 -- what is left free
 pub mod DeterminedParts
 pub mod DeterminedEvents

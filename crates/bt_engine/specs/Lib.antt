@@ -42,4 +42,5 @@ pub mod ExampleServing
 pub mod ExampleDamaged
 pub mod ExampleHostile
 pub mod ExampleTwins
+pub mod ExampleFlush
 pub mod ExampleForced

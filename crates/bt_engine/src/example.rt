@@ -1,4 +1,5 @@
 ghost use Rattle.bt_engine.specs.ExampleDamaged.{DamagedBlockIsRun};
+ghost use Rattle.bt_engine.specs.ExampleFlush.{FlushesAreRun, LostPeerIsRun};
 ghost use Rattle.bt_engine.specs.ExampleForced.{AbcAnswersAreForced, WaitingAnswersAreForced};
 ghost use Rattle.bt_engine.specs.ExampleHostile.{HostileMessagesAreRuns, WrongBlockIsRun};
 ghost use Rattle.bt_engine.specs.ExampleOneBlock.{FetchOfAbcIsRun};
@@ -62,4 +63,14 @@ pub fn wrong_block_is_run<H: NodeHash>(_hash: H)
 /// fails stays marked; nothing is sent, and the peer stays.
 pub fn damaged_block_is_run<H: NodeHash>(_hash: H)
     ensures { DamagedBlockIsRun H.digest }
+{}
+
+/// The devices of two files are flushed, up to the first whose sync fails.
+pub fn flushes_are_run<H: NodeHash>(_hash: H)
+    ensures { FlushesAreRun H.digest }
+{}
+
+/// A block that a peer was asked for is asked of another when that peer has gone.
+pub fn lost_peer_is_run<H: NodeHash>(_hash: H)
+    ensures { LostPeerIsRun H.digest }
 {}
