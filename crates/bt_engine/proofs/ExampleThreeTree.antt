@@ -6,6 +6,7 @@ use Rattle.bt_tree.specs.Tree.{padding_digest}
 use Rattle.bt_tree.specs.Peaks.{row_node}
 use Rattle.bt_sparse.specs.SparseTree.{value_at}
 use Rattle.bt_sparse.specs.Claim.{path_digest}
+use Rattle.bt_sparse.specs.Anchor.{IsAnchor}
 use Rattle.std.specs.FinMap as finite
 
 module _ (dig : Digest) (b : ThreeBlocks) where
@@ -243,13 +244,12 @@ module _ (dig : Digest) (b : ThreeBlocks) where
   unfolding value_at height_up_to
   third_known = held_third
 
-  pub plan : IsPlan at_first 0 (leaves_key dig b)
+  pub root_nearest : IsAnchor at_first 0 2
   unfolding height_up_to
-  plan = record {
-    anchor = 2;
-    nearest = record { inside = omega arith; held = subst IsSome (sym root_held) refl; nearest = λ layer low. none_below layer _ low };
-    key_is = refl;
-  }
+  root_nearest = record { inside = omega arith; held = subst IsSome (sym root_held) refl; nearest = λ layer low. none_below layer _ low }
+
+  pub plan : IsPlan at_first 0 (leaves_key dig b)
+  plan = record { anchor = 2; nearest = root_nearest; key_is = refl }
 
 -- ---- the digests that come
 

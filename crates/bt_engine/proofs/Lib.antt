@@ -48,6 +48,8 @@ pub mod ExampleDamaged
 pub mod ExampleHostile
 pub mod ExampleTwins
 pub mod ExampleFlush
+pub mod ExampleAdopting
+pub mod ExampleRefusals
 -- what is left free
 pub mod DeterminedParts
 pub mod DeterminedEvents

@@ -8,12 +8,14 @@ pub use Rattle.bt_engine.specs.Blocks.{with_peer, state_at, tree_of, with_file, 
 pub use Rattle.bt_engine.specs.Crash.{StepKeepsImages}
 pub use Rattle.bt_engine.specs.Determined.{IsOutOfMemory, HaveMemory, plain_answer, without_asked, LacksOneAtMost, other_frames, block_requests, is_block_request, asked_nothing, IsReached, StepIsDetermined, StepIsForced, RunsAreDetermined}
 pub use Rattle.bt_engine.specs.Devices.{DeviceCalls, reads_at, calls_at, calls_of}
+pub use Rattle.bt_engine.specs.ExampleAdopting.{AdoptedBlockIsRun, AdoptedTwinsAreRun, half_engine, three_reads}
 pub use Rattle.bt_engine.specs.ExampleDamaged.{IsWrongAbc, abc_reader, abc_request_bytes, DamagedBlockIsRun}
 pub use Rattle.bt_engine.specs.ExampleFlush.{FlushesAreRun, second_key, free_peer, busy_peer, keepalive_bytes, LostPeerIsRun}
 pub use Rattle.bt_engine.specs.ExampleForced.{AbcAnswersAreForced, IsOrder, waiting_answers_in, WaitingAnswersAreForced}
 pub use Rattle.bt_engine.specs.ExampleHostile.{empty_engine, root_alone, leaves_peer, blocks_peer, ClosesOn, StaysOn, far_key, HostileMessagesAreRuns, WrongBlockIsRun}
 pub use Rattle.bt_engine.specs.ExampleOneBlock.{abc_file, abc_torrent, abc_engine, served_peer, abc_events, abc_calls, abc_answers, abc, piece_bytes, FetchOfAbcIsRun}
 pub use Rattle.bt_engine.specs.ExamplePeer.{all_taken, first_key, to_first, their_handshake, unchoke_bytes, peer_with, bitfield_bytes, fed_answer, taken_answer, joined_answer}
+pub use Rattle.bt_engine.specs.ExampleRefusals.{block_peer, choke_bytes, ChokedPeerIsRun, RejectedPeerIsRun}
 pub use Rattle.bt_engine.specs.ExampleServing.{KnowsTwo, marked_engine, reader, interested_bytes, request_bytes, long_request_bytes, serving_events, serving_calls, serving_answers, ServingIsRun}
 pub use Rattle.bt_engine.specs.ExampleThreeBlocks.{ThreeBlocks, three_torrent, leaves_key, four_leaves, AreWhole, leaves_message, three_root, three_file, block_request, zero_leaf, left_node, right_node, told, three_events, three_calls, three_answers, FetchOfThreeIsRun, three_engine}
 pub use Rattle.bt_engine.specs.ExampleTwins.{twin_files, twin_engine, twin_peer, TwinFilesAreRun}

@@ -43,4 +43,6 @@ pub mod ExampleDamaged
 pub mod ExampleHostile
 pub mod ExampleTwins
 pub mod ExampleFlush
+pub mod ExampleAdopting
+pub mod ExampleRefusals
 pub mod ExampleForced
