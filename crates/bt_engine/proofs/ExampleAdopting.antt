@@ -1,6 +1,6 @@
 -- What a file's device has is taken in.
-use Rattle.bt_engine.proofs.Base.{◌≡◌, ℕ, zero, suc, ◌+◌, inl, inr, Bool, true, false, List, [], ◌∷◌, ◌++◌, length, Some, None, Ok, refl, sym, ap, ◌∙◌, subst, arith, slice_get, if◌then◌else◌, map, option_map, count_by, eq-eqb, IsSome, Facts, root_facts, TopDiffers, IsUnknownGroup, IsKnownGroup, known, accepted, not_accepted, claim_of_reads, BlockRead, given, failed, block_of, is_right, judged, right_count, fault_count, BlockState, Missing, Waiting, Marked, Adopted, Adopts}
-use Rattle.bt_engine.proofs.Machine.{Digest, PeerState, FileState, EngineState, DeviceCalls, reads_at, judged_file, due_blocks, is_other, StepAdopt, no_file, busy, adopts, abc, abc_engine, served_peer, IsWrongAbc, ThreeBlocks, AreWhole, three_root, leaves_key, AdoptedBlockIsRun, AdoptedTwinsAreRun, half_engine, three_reads}
+use Rattle.bt_engine.proofs.Base.{◌≡◌, ℕ, zero, suc, ◌+◌, inl, inr, Bool, true, false, List, [], ◌∷◌, ◌++◌, length, Some, Ok, refl, sym, ap, ◌∙◌, subst, arith, slice_get, if◌then◌else◌, map, option_map, eq-eqb, IsSome, Facts, root_facts, TopDiffers, IsUnknownGroup, IsKnownGroup, known, accepted, not_accepted, claim_of_reads, BlockRead, given, failed, block_of, is_right, judged, right_count, fault_count, BlockState, Missing, Waiting, Marked, Adopted, Adopts}
+use Rattle.bt_engine.proofs.Machine.{Digest, FileState, EngineState, reads_at, judged_file, due_blocks, is_other, StepAdopt, no_file, busy, adopts, abc, abc_engine, IsWrongAbc, ThreeBlocks, AreWhole, three_root, leaves_key, AdoptedBlockIsRun, AdoptedTwinsAreRun, half_engine, three_reads}
 use Rattle.bt_engine.specs.State.{proof_of}
 use Rattle.bt_store.specs.Adoption.{AreWhole as AreGivenWhole, marked_run}
 use Rattle.bt_tree.specs.Tree.{padding_digest}
@@ -8,7 +8,6 @@ use Rattle.bt_engine.proofs.Lists.{some_is, same_some, here}
 use Rattle.bt_engine.proofs.Marks.{right_then}
 use Rattle.bt_engine.proofs.AnswerMarks.{right_true}
 use Rattle.bt_engine.proofs.Taught.{taught_answered}
-use Rattle.bt_engine.proofs.ExamplePeer.{one_there}
 use Rattle.bt_engine.proofs.ExampleOneBlock.{value_here}
 use Rattle.bt_engine.proofs.ExampleThreeTree.{at_first, proved, leaves_claim, accepts as accepts_leaves, root_nearest, first_unknown, second_unknown, third_unknown, first_known, second_known, third_known}
 use Rattle.bt_engine.proofs.ExampleHostile.{other_refused}

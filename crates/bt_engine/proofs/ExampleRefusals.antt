@@ -1,6 +1,6 @@
 -- A peer chokes us, and one rejects a hash request.
-use Rattle.bt_engine.proofs.Base.{◌≡◌, ℕ, inl, inr, true, false, List, [], ◌∷◌, Some, None, Ok, refl, arith, IsDigest, Missing, stream, Takes, Message as message_event, Choke, Unchoke, Request, HashReject, Fits, message_spelling, w32, to_be_bytes}
-use Rattle.bt_engine.proofs.Machine.{Digest, Idle, Asked, Refused, PeerState, EngineState, FollowsUp, StepNext, resolved, first_key, all_taken, peer_with, unchoke_bytes, to_first, block_peer, choke_bytes, ChokedPeerIsRun, RejectedPeerIsRun, ThreeBlocks, three_root, leaves_key, leaves_peer, empty_engine, root_alone}
+use Rattle.bt_engine.proofs.Base.{ℕ, inl, true, false, List, [], ◌∷◌, Some, Ok, refl, arith, IsDigest, Missing, stream, Takes, Message as message_event, Choke, Request, HashReject, Fits, message_spelling, w32, to_be_bytes}
+use Rattle.bt_engine.proofs.Machine.{Digest, Idle, Refused, PeerState, EngineState, FollowsUp, StepNext, resolved, first_key, all_taken, peer_with, unchoke_bytes, to_first, block_peer, choke_bytes, ChokedPeerIsRun, RejectedPeerIsRun, ThreeBlocks, three_root, leaves_key, leaves_peer}
 use Rattle.bt_engine.proofs.ExamplePeer.{taken_unchoke, taken_message, went, fed_first}
 use Rattle.bt_engine.proofs.ExampleOneBlock.{engine, first_ask, interesting, quietly, after_unchoke}
 use Rattle.bt_engine.proofs.ExampleThreeTree.{at_first}

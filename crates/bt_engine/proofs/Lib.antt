@@ -50,6 +50,7 @@ pub mod ExampleTwins
 pub mod ExampleFlush
 pub mod ExampleAdopting
 pub mod ExampleRefusals
+pub mod ExampleLogged
 -- what is left free
 pub mod DeterminedParts
 pub mod DeterminedEvents

@@ -13,6 +13,7 @@ pub use Rattle.bt_engine.specs.ExampleDamaged.{IsWrongAbc, abc_reader, abc_reque
 pub use Rattle.bt_engine.specs.ExampleFlush.{FlushesAreRun, second_key, free_peer, busy_peer, keepalive_bytes, LostPeerIsRun}
 pub use Rattle.bt_engine.specs.ExampleForced.{AbcAnswersAreForced, IsOrder, waiting_answers_in, WaitingAnswersAreForced}
 pub use Rattle.bt_engine.specs.ExampleHostile.{empty_engine, root_alone, leaves_peer, blocks_peer, ClosesOn, StaysOn, far_key, HostileMessagesAreRuns, WrongBlockIsRun}
+pub use Rattle.bt_engine.specs.ExampleLogged.{HintsArePending}
 pub use Rattle.bt_engine.specs.ExampleOneBlock.{abc_file, abc_torrent, abc_engine, served_peer, abc_events, abc_calls, abc_answers, abc, piece_bytes, FetchOfAbcIsRun}
 pub use Rattle.bt_engine.specs.ExamplePeer.{all_taken, first_key, to_first, their_handshake, unchoke_bytes, peer_with, bitfield_bytes, fed_answer, taken_answer, joined_answer}
 pub use Rattle.bt_engine.specs.ExampleRefusals.{block_peer, choke_bytes, ChokedPeerIsRun, RejectedPeerIsRun}

@@ -1,8 +1,7 @@
 -- Worked examples: what a file's device has is taken in.
 use Rattle.std.specs.Prelude.{◌≡◌, ◌≢◌, ℕ, false, List, [], ◌∷◌, ◌++◌, Ok, Err}
 use Rattle.bt_disk.specs.Calls.{bytes_given, read_fault}
-use Rattle.bt_sparse.specs.SparseTree.{Facts, root_facts}
-use Rattle.bt_store.specs.declared.block_states.BlockState.{BlockState}
+use Rattle.bt_sparse.specs.SparseTree.{root_facts}
 use Rattle.bt_store.specs.declared.block_states.BlockState.TheVariants.{Missing, Waiting, Marked}
 use Rattle.bt_engine.specs.declared.error.AdoptError.TheVariants.{NoFile, Busy}
 use Rattle.bt_engine.specs.declared.event.Event.TheVariants.{Adopt}

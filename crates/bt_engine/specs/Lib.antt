@@ -45,4 +45,5 @@ pub mod ExampleTwins
 pub mod ExampleFlush
 pub mod ExampleAdopting
 pub mod ExampleRefusals
+pub mod ExampleLogged
 pub mod ExampleForced

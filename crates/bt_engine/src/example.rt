@@ -3,6 +3,7 @@ ghost use Rattle.bt_engine.specs.ExampleDamaged.{DamagedBlockIsRun};
 ghost use Rattle.bt_engine.specs.ExampleFlush.{FlushesAreRun, LostPeerIsRun};
 ghost use Rattle.bt_engine.specs.ExampleForced.{AbcAnswersAreForced, WaitingAnswersAreForced};
 ghost use Rattle.bt_engine.specs.ExampleHostile.{HostileMessagesAreRuns, WrongBlockIsRun};
+ghost use Rattle.bt_engine.specs.ExampleLogged.{HintsArePending};
 ghost use Rattle.bt_engine.specs.ExampleOneBlock.{FetchOfAbcIsRun};
 ghost use Rattle.bt_engine.specs.ExampleThreeBlocks.{FetchOfThreeIsRun};
 ghost use Rattle.bt_engine.specs.ExampleRefusals.{ChokedPeerIsRun, RejectedPeerIsRun};
@@ -97,4 +98,9 @@ pub fn choked_peer_is_run<H: NodeHash>(_hash: H)
 /// A peer that rejects its hash request is sent no other, and blocks are requested from it all the same.
 pub fn rejected_peer_is_run<H: NodeHash>(_hash: H)
     ensures { RejectedPeerIsRun H.digest }
+{}
+
+/// In an engine with a log a proof that is accepted is left pending, and then a mark for each block.
+pub fn hints_are_pending<H: NodeHash>(_hash: H)
+    ensures { HintsArePending H.digest }
 {}
