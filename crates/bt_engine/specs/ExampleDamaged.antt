@@ -1,5 +1,5 @@
 -- A worked example: the one block of `abc` is marked, and a peer requests it. Where its device gives other
--- bytes, nothing is sent, and the block is missing; where the read fails, nothing is sent, and it stays marked.
+-- bytes, the block is missing then; where the read fails, it stays marked. Nothing is sent in either case.
 use Rattle.std.specs.Prelude.{◌≡◌, ◌≢◌, ℕ, true, false, List, [], ◌∷◌, length}
 use Rattle.bt_disk.specs.Calls.{bytes_given, read_fault}
 use Rattle.bt_store.specs.declared.block_states.BlockState.TheVariants.{Missing, Marked}
@@ -27,7 +27,8 @@ abc_reader = record (peer_with all_taken false true false Idle [] 0) {
 abbrev pub abc_request_bytes : List ℕ
 abc_request_bytes = 0 ∷ 0 ∷ 0 ∷ 13 ∷ 6 ∷ 0 ∷ 0 ∷ 0 ∷ 0 ∷ 0 ∷ 0 ∷ 0 ∷ 0 ∷ 0 ∷ 0 ∷ 0 ∷ 3 ∷ []
 
--- The block is found damaged, and the same request once more reads nothing; or its read fails. The peer stays.
+-- The block is found damaged, and the same request once more reads nothing; or its read fails. The peer
+-- stays.
 pub record FindsDamage (dig : List ℕ → List ℕ) (infohash wrong : List ℕ) : Type 0 where
   pub damaged : Run dig (abc_engine dig infohash Marked (abc_reader ∷ []) 2)
       (told abc_request_bytes (told abc_request_bytes []))

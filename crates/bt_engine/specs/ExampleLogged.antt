@@ -1,5 +1,5 @@
--- A worked example: an engine with a log, of two files whose blocks wait. The proof of their leaves comes, and
--- it is left pending, and then a mark for each block.
+-- A worked example: an engine with a log, of two files whose blocks wait. The proof of their leaves comes.
+-- It is left pending, and then a mark for each block.
 use Rattle.std.specs.Prelude.{◌≡◌, ℕ, true, List, [], ◌∷◌, ◌++◌}
 use Rattle.bt_sparse.specs.SparseTree.{root_facts}
 use Rattle.bt_store.specs.declared.block_states.BlockState.TheVariants.{Waiting}
