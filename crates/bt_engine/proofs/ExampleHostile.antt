@@ -8,7 +8,7 @@ use Rattle.bt_engine.proofs.ExampleThreeTree.{at_first, leaves_claim, acceptable
 use Rattle.bt_engine.proofs.ExampleThreeEngine.{block, engine, whole_second, quietly, interesting, fed_to}
 
 -- how long a key is
-key_size : (root p q r s : List ℕ) → length root ≡ 32 → length p ≡ 4 → length q ≡ 4 → length r ≡ 4 → length s ≡ 4 → length (root ++ p ++ q ++ r ++ s) ≡ 48
+pub key_size : (root p q r s : List ℕ) → length root ≡ 32 → length p ≡ 4 → length q ≡ 4 → length r ≡ 4 → length s ≡ 4 → length (root ++ p ++ q ++ r ++ s) ≡ 48
 key_size root p q r s a b c d e =
     omega (arith, length-append (root ++ p ++ q ++ r) s, length-append (root ++ p ++ q) r, length-append (root ++ p) q, length-append root p)
 
@@ -121,7 +121,7 @@ module _ (dig : Digest) (b : ThreeBlocks) (infohash : List ℕ) where
       far e r = absurd (omega (arith, subst (λ n. 4294967294 + 2 ≤ 2 ^ (n - 0)) e r.in_width))
 
   -- the claim of other blocks has a shape and its padding, and reaches another digest at the root
-  other_refused : (other : ThreeBlocks) → three_root dig b ≢ three_root dig other → IsRefused dig (at_first dig b) (leaves_claim dig other) TopDiffers
+  pub other_refused : (other : ThreeBlocks) → three_root dig b ≢ three_root dig other → IsRefused dig (at_first dig b) (leaves_claim dig other) TopDiffers
   unfolding height_up_to
   other_refused other differs =
       top_differs (three_root dig b) (acceptable dig other).shape (acceptable dig other).padding top (λ e. differs (e ∙ top_is dig other))

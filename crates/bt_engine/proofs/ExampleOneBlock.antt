@@ -14,27 +14,27 @@ taken_piece = record { bytes = piece_bytes; event = record { is_message = (omega
 
 -- ---- the engine
 
-value_here : (dig : Digest) → value_at dig (root_facts 3 (dig abc)) 0 0 ≡ Some (dig abc)
+pub value_here : (dig : Digest) → value_at dig (root_facts 3 (dig abc)) 0 0 ≡ Some (dig abc)
 unfolding value_at height_up_to
 value_here dig = digest_at_new finite.empty 0 0 (dig abc)
 
 -- there is one block
-one_block : {x y : _} (f i : ℕ)
+pub one_block : {x y : _} (f i : ℕ)
     → option_and_then (λ (q : FileState). slice_get q.states i) (slice_get ((record { tree = 0; states = x ∷ [] }) ∷ []) f) ≡ Some y
     → (f ≡ 0) × (i ≡ 0) × (x ≡ y)
 one_block zero zero e = (refl, refl, some_is e)
 one_block zero (suc i) e = absurd cc
 one_block (suc f) i e = absurd cc
 
-abbrev the_block : BlockId
+abbrev pub the_block : BlockId
 the_block = block_id 0 0
 
 module _ (dig : Digest) (infohash : List ℕ) where
-  abbrev engine : BlockState → PeerState → EngineState
+  abbrev pub engine : BlockState → PeerState → EngineState
   engine x p = abc_engine dig infohash x (p ∷ []) 2
 
   -- the leaf is known from the start
-  no_needs : (x : BlockState) (p q b : _) → ¬ NeedsLeaf dig (engine x p) q b
+  pub no_needs : (x : BlockState) (p q b : _) → ¬ NeedsLeaf dig (engine x p) q b
   no_needs x p q b needs =
       let y : (y : BlockState) × (state_at (engine x p) b ≡ Some y) = elim needs.not_marked [ inl m ↦ (Missing, m) | inr w ↦ (Waiting, w) ] in
       let one = one_block _ _ y.1 in
@@ -43,7 +43,7 @@ module _ (dig : Digest) (infohash : List ℕ) where
       let known = ap (λ k. value_at dig k 0 b.block) same ∙ ap (value_at dig (root_facts 3 (dig abc)) 0) one.1 ∙ value_here dig in
       absurd cc
 
-  whole_block : IsWholeBlock (abc_torrent dig infohash) 0 0 3 the_block
+  pub whole_block : IsWholeBlock (abc_torrent dig infohash) 0 0 3 the_block
   whole_block =
       record {
         span = record { file = 0; start = 0; length = 3 };
@@ -57,14 +57,14 @@ module _ (dig : Digest) (infohash : List ℕ) where
   dull : (unread b : _) → ¬ Has (engine Missing (peer_with unread false true false Idle [] 0)) (peer_with unread false true false Idle [] 0) b
   dull unread b has = let p = and_then_some (λ piece. slice_get (false ∷ []) piece) _ has in let one = one_there p.0 p.2 in absurd cc
 
-  interesting : (p : PeerState) → p.has ≡ true ∷ [] → IsInteresting (engine Missing p) p
+  pub interesting : (p : PeerState) → p.has ≡ true ∷ [] → IsInteresting (engine Missing p) p
   interesting p has = (the_block, ap (λ h. slice_get h 0) has, refl)
 
-  none_missing : (p b : _) → ¬ (state_at (engine Marked p) b ≡ Some Missing)
+  pub none_missing : (p b : _) → ¬ (state_at (engine Marked p) b ≡ Some Missing)
   none_missing p b e = let one = one_block _ _ e in absurd cc
 
   -- what follows where nothing is requested
-  quietly : {x : BlockState} {p : PeerState} {q sent : _} → q ≡ record p { am_interested = q.am_interested }
+  pub quietly : {x : BlockState} {p : PeerState} {q sent : _} → q ≡ record p { am_interested = q.am_interested }
       → ((q.am_interested ≡ true) ↔ IsInteresting (engine x p) p) → sent ≡ interest_sent p p.am_interested q.am_interested
       → (q.peer_choking ≡ true) ⊎ (q.am_interested ≡ false) → length q.asked + 0 ≤ 16 → FollowsUp dig (engine x p) 0 sent (engine x q)
   quietly {x} {p} {q} {sent} same due told shut few =
@@ -114,13 +114,13 @@ module _ (dig : Digest) (infohash : List ℕ) where
     | inr more ↦ contains_none more
   ]
 
-  the_one : (p : _) {b : _} → state_at (engine Missing p) b ≡ Some Missing → the_block ≡ b
+  pub the_one : (p : _) {b : _} → state_at (engine Missing p) b ≡ Some Missing → the_block ≡ b
   the_one p {b} e = let one = one_block _ _ e in ap (λ i. block_id 0 i) (sym one.1) ∙ ap (λ f. record b { file = f }) (sym one.0)
 
-  abbrev first_ask : Ask
+  abbrev pub first_ask : Ask
   first_ask = record { piece = 0; begin = 0; length = 3 }
 
-  after_unchoke : FollowsUp dig (engine Missing (peer_with all_taken true false true Idle [] 0)) 0 (to_first (Request first_ask) ∷ []) (engine Missing (peer_with all_taken true false true Idle (the_block ∷ []) 0))
+  pub after_unchoke : FollowsUp dig (engine Missing (peer_with all_taken true false true Idle [] 0)) 0 (to_first (Request first_ask) ∷ []) (engine Missing (peer_with all_taken true false true Idle (the_block ∷ []) 0))
   after_unchoke =
       let p = peer_with all_taken true false true Idle [] 0 in
       record {

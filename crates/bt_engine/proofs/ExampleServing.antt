@@ -1,6 +1,6 @@
 -- Requests are served, ignored, or close their peer.
 use Rattle.bt_engine.proofs.Base.{◌≡◌, ◌∙◌, ℕ, zero, suc, ◌+◌, ◌≤◌, inl, inr, true, false, List, [], ◌∷◌, ◌++◌, length, take, drop, Some, Ok, refl, sym, ap, subst, arith, Contains, append-nil, length-drop, drop-append-le, take-append-add, bytes_given, IsPlace, Span, Facts, given, IsRight, Missing, Marked, Stream, stream, Takes, Message as message_event, Ask, Interested, Unchoke, Request, Piece}
-use Rattle.bt_engine.proofs.Machine.{Digest, BadRequest, PeerState, EngineState, DeviceCalls, block_id, state_at, spanned_blocks, cut_from, Sent, sending, ignored, no_place, served, NeedsLeaf, FollowsUp, rests, StepNext, closes, StepFeed, feeds, StepRechoke, rechokes, Run, first_key, all_taken, to_first, ThreeBlocks, AreWhole, three_file, three_torrent, KnowsTwo, marked_engine, reader, interested_bytes, request_bytes, long_request_bytes, serving_events, serving_calls, serving_answers, ServingIsRun}
+use Rattle.bt_engine.proofs.Machine.{Digest, BadRequest, PeerState, EngineState, DeviceCalls, block_id, state_at, spanned_blocks, cut_from, Sent, sending, ignored, no_place, served, NeedsLeaf, FollowsUp, rests, StepNext, StepFeed, feeds, StepRechoke, rechokes, Run, first_key, all_taken, to_first, ThreeBlocks, AreWhole, three_file, three_torrent, KnowsTwo, marked_engine, reader, interested_bytes, request_bytes, long_request_bytes, serving_events, serving_calls, serving_answers, ServingIsRun}
 use Rattle.bt_engine.proofs.Lists.{contains_none, contains_cases}
 use Rattle.bt_engine.proofs.ExampleThreeEngine.{output_of, IsOne, first, second, third, one_of}
 use Rattle.bt_engine.proofs.ExamplePeer.{went, closed_for, fed_first}

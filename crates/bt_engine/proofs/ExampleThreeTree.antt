@@ -1,12 +1,22 @@
 -- The tree of the three blocks: what is known of it at first, and after the proof of its leaves.
-use Rattle.bt_engine.proofs.Base.{◌≡◌, ℕ, zero, suc, ◌+◌, ◌-◌, ◌/◌, ◌^◌, ◌<◌, ◌≤◌, ◌⊎◌, inl, inr, List, [], ◌∷◌, ◌++◌, length, drop, Some, None, refl, sym, ap, ◌∙◌, subst, arith, first_chunks, IsSome, take_at, drop_at, append_assoc, length-append, IsPadding, CoversBlock, IsDigest, Nodes, digest_at, Facts, root_facts, held_at, Claims, in_run, on_path, uncle, IsInRun, IsOnPath, run_digest, top_digest, claim_of, IsAcceptable, IsJoined, Accepts, Claim, digest_at_new, digest_at_cases, digest_at_empty, digest_at_other, IsClaimBy, digests_in, IsPlan}
+use Rattle.bt_engine.proofs.Base.{◌≡◌, ℕ, zero, suc, ◌+◌, ◌-◌, ◌/◌, ◌^◌, ◌<◌, ◌≤◌, ◌⊎◌, inl, inr, List, [], ◌∷◌, ◌++◌, length, drop, Option, Some, None, cond, is_some, refl, sym, ap, ◌∙◌, subst, arith, first_chunks, IsSome, take_at, drop_at, append_assoc, length-append, IsPadding, CoversBlock, IsDigest, Nodes, digest_at, Facts, root_facts, held_at, Claims, in_run, on_path, uncle, IsInRun, IsOnPath, run_digest, top_digest, claim_of, IsAcceptable, IsJoined, Accepts, Claim, digest_at_new, digest_at_cases, digest_at_empty, digest_at_other, IsClaimBy, digests_in, IsPlan}
 use Rattle.bt_engine.proofs.Machine.{Digest, ThreeBlocks, zero_leaf, left_node, right_node, three_root, leaves_key, four_leaves}
 use Rattle.bt_tree.specs.TreeShape.{height_up_to}
 use Rattle.bt_tree.specs.Tree.{padding_digest}
 use Rattle.bt_tree.specs.Peaks.{row_node}
 use Rattle.bt_sparse.specs.SparseTree.{value_at}
 use Rattle.bt_sparse.specs.Claim.{path_digest}
+use Rattle.bt_sparse.specs.Anchor.{IsAnchor}
+use Rattle.bt_sparse.proofs.NodeMaps.{node_total}
 use Rattle.std.specs.FinMap as finite
+
+-- with a node put into it a map is no smaller
+put_more : (m : Nodes) (layer i : ℕ) (d : List ℕ) → finite.len m ≤ finite.len (finite.insert m (layer, i) d)
+put_more m layer i d = by (digest_at m layer i) refl
+  where
+    by : (o : Option (List ℕ)) → digest_at m layer i ≡ o → finite.len m ≤ finite.len (finite.insert m (layer, i) d)
+    by None e = let n = finite.len-insert node_total m (layer, i) d ∙ ap (λ o. cond (is_some o) (finite.len m) (finite.len m + 1)) e in omega (arith, n)
+    by (Some v) e = let n = finite.len-insert node_total m (layer, i) d ∙ ap (λ o. cond (is_some o) (finite.len m) (finite.len m + 1)) e in omega (arith, n)
 
 module _ (dig : Digest) (b : ThreeBlocks) where
   -- the root alone
@@ -171,6 +181,20 @@ module _ (dig : Digest) (b : ThreeBlocks) where
   unfolding height_up_to
   none_below layer i low = digest_at_other finite.empty 2 0 layer i (three_root dig b) (λ e f. absurd (omega arith)) ∙ digest_at_empty layer i
 
+  -- the proof adds nodes
+  pub grows : finite.len at_first.nodes < finite.len proved.nodes
+  grows =
+      let one = finite.len-insert node_total at_first.nodes (1, 0) (left_node dig b) ∙ ap (λ o. cond (is_some o) (finite.len at_first.nodes) (finite.len at_first.nodes + 1)) (none_below 1 0 (omega arith)) in
+      let m = finite.insert nodes_above (0, 0) (dig b.first) in
+      omega (
+        arith,
+        one,
+        put_more (finite.insert at_first.nodes (1, 0) (left_node dig b)) 1 1 (right_node dig b),
+        put_more nodes_above 0 0 (dig b.first),
+        put_more m 0 1 (dig b.second),
+        put_more (finite.insert m (0, 1) (dig b.second)) 0 2 (dig b.third),
+      )
+
   -- a claimed node is one of the claim
   claim_is : {layer i d : _} → IsClaimed layer i d → Claims dig leaves_claim layer i d
   unfolding row_node
@@ -243,13 +267,12 @@ module _ (dig : Digest) (b : ThreeBlocks) where
   unfolding value_at height_up_to
   third_known = held_third
 
-  pub plan : IsPlan at_first 0 (leaves_key dig b)
+  pub root_nearest : IsAnchor at_first 0 2
   unfolding height_up_to
-  plan = record {
-    anchor = 2;
-    nearest = record { inside = omega arith; held = subst IsSome (sym root_held) refl; nearest = λ layer low. none_below layer _ low };
-    key_is = refl;
-  }
+  root_nearest = record { inside = omega arith; held = subst IsSome (sym root_held) refl; nearest = λ layer low. none_below layer _ low }
+
+  pub plan : IsPlan at_first 0 (leaves_key dig b)
+  plan = record { anchor = 2; nearest = root_nearest; key_is = refl }
 
 -- ---- the digests that come
 
@@ -272,7 +295,7 @@ module _ (dig : Digest) (sizes : IsDigest dig) (b : ThreeBlocks) where
       ∙ ap (λ x. x ∷ first_chunks 32 n (drop 32 (d ++ rest))) (take_at d rest 32 size)
       ∙ ap (λ xs. d ∷ first_chunks 32 n xs) (drop_at d rest 32 size)
 
-  digests_are : digests_in (four_leaves dig b) ≡ dig b.first ∷ dig b.second ∷ dig b.third ∷ zero_leaf ∷ []
+  pub digests_are : digests_in (four_leaves dig b) ≡ dig b.first ∷ dig b.second ∷ dig b.third ∷ zero_leaf ∷ []
   digests_are =
       let in_turn : four_leaves dig b ≡ dig b.first ++ (dig b.second ++ (dig b.third ++ zero_leaf)) = simp append_assoc in
       ap (λ n. first_chunks 32 (n / 32) (four_leaves dig b)) leaves_length

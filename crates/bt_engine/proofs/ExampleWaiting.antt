@@ -1,6 +1,6 @@
 -- Blocks that come before the proof of their leaves wait, and are read back when it comes.
 use Rattle.bt_engine.proofs.Base.{◌≡◌, ◌∙◌, zero, suc, ◌≤◌, ◌⊎◌, not, true, false, List, [], ◌∷◌, ◌++◌, inl, inr, ℕ, Bool, length, Some, Ok, refl, sym, ap, subst, arith, slice_get, Contains, map, option_map, length-filter, count_by-le-length, IsDigest, bytes_given, bytes_written, BlockRead, given, block_of, is_right, BlockState, Missing, Waiting, Marked, PutWaiting, BlockId, is_block, without_block, Stream, stream, handshake_spelling, message_spelling, Interested, NotInterested, Piece, HashRequest}
-use Rattle.bt_engine.proofs.Machine.{Digest, Note, NowMarked, NowWaiting, Freed, Event, Connect, Feed, Next, HashState, Idle, Asked, PeerState, FileState, EngineState, Sent, no_effect, noting, judged_file, due_blocks, settling_notes, learns, resolved, new_proofs, IsInteresting, IsOpen, FollowsUp, rests, StepNext, goes_on, DeviceCalls, Answer, Run, IsWrongThird, waiting_events, waiting_calls, waiting_answers, settling_calls, settling_answers, WaitingFetchIsRun, first_key, peer_with, all_taken, their_handshake, bitfield_bytes, unchoke_bytes, to_first, joined_answer, fed_answer, taken_answer, ThreeBlocks, AreWhole, leaves_key, four_leaves, leaves_message, told, block_request}
+use Rattle.bt_engine.proofs.Machine.{Digest, Note, NowMarked, NowWaiting, Freed, Event, Connect, Feed, Next, HashState, Idle, Asked, PeerState, FileState, EngineState, Sent, no_effect, noting, judged_file, due_blocks, settling_notes, learns, resolved, new_proofs, IsInteresting, IsOpen, FollowsUp, rests, StepNext, DeviceCalls, Answer, Run, IsWrongThird, waiting_events, waiting_calls, waiting_answers, settling_calls, settling_answers, WaitingFetchIsRun, first_key, peer_with, all_taken, their_handshake, bitfield_bytes, unchoke_bytes, to_first, joined_answer, fed_answer, taken_answer, ThreeBlocks, AreWhole, leaves_key, four_leaves, leaves_message, told, block_request}
 use Rattle.bt_engine.proofs.Lists.{contains_none, contains_cases, contains_filter, here, later, same_some}
 use Rattle.bt_engine.proofs.Marks.{right_then}
 use Rattle.bt_engine.proofs.AnswerMarks.{right_true}

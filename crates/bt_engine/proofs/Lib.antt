@@ -44,8 +44,13 @@ pub mod ExampleThreeEngine
 pub mod ExampleThreeBlocks
 pub mod ExampleWaiting
 pub mod ExampleServing
+pub mod ExampleDamaged
 pub mod ExampleHostile
 pub mod ExampleTwins
+pub mod ExampleFlush
+pub mod ExampleAdopting
+pub mod ExampleRefusals
+pub mod ExampleLogged
 -- what is left free
 pub mod DeterminedParts
 pub mod DeterminedEvents

@@ -8,10 +8,15 @@ pub use Rattle.bt_engine.specs.Blocks.{with_peer, state_at, tree_of, with_file, 
 pub use Rattle.bt_engine.specs.Crash.{StepKeepsImages}
 pub use Rattle.bt_engine.specs.Determined.{IsOutOfMemory, HaveMemory, plain_answer, without_asked, LacksOneAtMost, other_frames, block_requests, is_block_request, asked_nothing, IsReached, StepIsDetermined, StepIsForced, RunsAreDetermined}
 pub use Rattle.bt_engine.specs.Devices.{DeviceCalls, reads_at, calls_at, calls_of}
+pub use Rattle.bt_engine.specs.ExampleAdopting.{AdoptedBlockIsRun, AdoptedTwinsAreRun, half_engine, three_reads}
+pub use Rattle.bt_engine.specs.ExampleDamaged.{IsWrongAbc, abc_reader, abc_request_bytes, DamagedBlockIsRun}
+pub use Rattle.bt_engine.specs.ExampleFlush.{FlushesAreRun, second_key, free_peer, busy_peer, keepalive_bytes, LostPeerIsRun}
 pub use Rattle.bt_engine.specs.ExampleForced.{AbcAnswersAreForced, IsOrder, waiting_answers_in, WaitingAnswersAreForced}
 pub use Rattle.bt_engine.specs.ExampleHostile.{empty_engine, root_alone, leaves_peer, blocks_peer, ClosesOn, StaysOn, far_key, HostileMessagesAreRuns, WrongBlockIsRun}
+pub use Rattle.bt_engine.specs.ExampleLogged.{HintsArePending}
 pub use Rattle.bt_engine.specs.ExampleOneBlock.{abc_file, abc_torrent, abc_engine, served_peer, abc_events, abc_calls, abc_answers, abc, piece_bytes, FetchOfAbcIsRun}
 pub use Rattle.bt_engine.specs.ExamplePeer.{all_taken, first_key, to_first, their_handshake, unchoke_bytes, peer_with, bitfield_bytes, fed_answer, taken_answer, joined_answer}
+pub use Rattle.bt_engine.specs.ExampleRefusals.{block_peer, choke_bytes, ChokedPeerIsRun, RejectedPeerIsRun}
 pub use Rattle.bt_engine.specs.ExampleServing.{KnowsTwo, marked_engine, reader, interested_bytes, request_bytes, long_request_bytes, serving_events, serving_calls, serving_answers, ServingIsRun}
 pub use Rattle.bt_engine.specs.ExampleThreeBlocks.{ThreeBlocks, three_torrent, leaves_key, four_leaves, AreWhole, leaves_message, three_root, three_file, block_request, zero_leaf, left_node, right_node, told, three_events, three_calls, three_answers, FetchOfThreeIsRun, three_engine}
 pub use Rattle.bt_engine.specs.ExampleTwins.{twin_files, twin_engine, twin_peer, TwinFilesAreRun}
@@ -21,10 +26,10 @@ pub use Rattle.bt_engine.specs.FollowUp.{FollowsUp, rests, requests, interest_se
 pub use Rattle.bt_engine.specs.HashMessages.{learns, unknown_root, refused, HandlesHashes, no_claim, rejected, HandlesHashRequest, answered, new_proofs, ours as resolved, IsTreeOf, IsAnswered, settled_count, Resolves, other as other_asked, Learns, IsUnknownRoot, OnlyCloses}
 pub use Rattle.bt_engine.specs.Headline.{IsPublished, CompleteFilesArePublished}
 pub use Rattle.bt_engine.specs.Law.{sent_by, read_back, IsMarkedBy, found, brought, IsSoAt, AreRooted, IsFound, IsMarkedIn, AreChecked, IsServed}
-pub use Rattle.bt_engine.specs.Next.{goes_on, StepNext, closes, waits, faulty, no_peer, no_memory, IsPeer, GoesOn, TakesEvent, without_peer, with_pending, Closes, ShowsFault}
+pub use Rattle.bt_engine.specs.Next.{goes_on, StepNext, closes, waits, faulty, no_peer, no_memory, IsPeer, HasNoPeer, GoesOn, TakesEvent, without_peer, with_pending, Closes, ShowsFault}
 pub use Rattle.bt_engine.specs.Orderly.{IsOrderly, IsOrderlyPeer, AskedApart, StepKeepsOrder, RunsAreOrderly}
 pub use Rattle.bt_engine.specs.Output.{Sent, Effect, Output, no_effect, haves, sent_to, noting, closing, sending}
-pub use Rattle.bt_engine.specs.Peers.{no_memory as no_room, no_peer as not_fed, StepConnect, joins, StepFeed, feeds, full, spent, StepLost, goes, new_peer, greeting, our_handshake, IsOurBitfield}
+pub use Rattle.bt_engine.specs.Peers.{no_memory as no_room, no_peer as not_fed, StepConnect, joins, StepFeed, feeds, full, spent, StepLost, goes, no_peer as not_lost, new_peer, greeting, our_handshake, IsOurBitfield}
 pub use Rattle.bt_engine.specs.Rechoke.{FollowsEach, StepRechoke, rechokes, no_memory as not_rechoked, rechoked, rechoked_peer, chokes_sent, choking_sent, is_served, Rechokes}
 pub use Rattle.bt_engine.specs.Request.{ignored, no_place, served, HandlesRequest, not_marked, stopped, FindsFault, damaged, fault, IsFile, with_payload, Serves, StopsAtFault, AreMarked}
 pub use Rattle.bt_engine.specs.Settling.{judged_file, SettlesIn, due_blocks, settling_notes, read_note, Settles}

@@ -39,6 +39,11 @@ pub mod ExampleOneBlock
 pub mod ExampleThreeBlocks
 pub mod ExampleWaiting
 pub mod ExampleServing
+pub mod ExampleDamaged
 pub mod ExampleHostile
 pub mod ExampleTwins
+pub mod ExampleFlush
+pub mod ExampleAdopting
+pub mod ExampleRefusals
+pub mod ExampleLogged
 pub mod ExampleForced

@@ -1,7 +1,12 @@
+ghost use Rattle.bt_engine.specs.ExampleAdopting.{AdoptedBlockIsRun, AdoptedTwinsAreRun};
+ghost use Rattle.bt_engine.specs.ExampleDamaged.{DamagedBlockIsRun};
+ghost use Rattle.bt_engine.specs.ExampleFlush.{FlushesAreRun, LostPeerIsRun};
 ghost use Rattle.bt_engine.specs.ExampleForced.{AbcAnswersAreForced, WaitingAnswersAreForced};
 ghost use Rattle.bt_engine.specs.ExampleHostile.{HostileMessagesAreRuns, WrongBlockIsRun};
+ghost use Rattle.bt_engine.specs.ExampleLogged.{HintsArePending};
 ghost use Rattle.bt_engine.specs.ExampleOneBlock.{FetchOfAbcIsRun};
 ghost use Rattle.bt_engine.specs.ExampleThreeBlocks.{FetchOfThreeIsRun};
+ghost use Rattle.bt_engine.specs.ExampleRefusals.{ChokedPeerIsRun, RejectedPeerIsRun};
 ghost use Rattle.bt_engine.specs.ExampleServing.{ServingIsRun};
 ghost use Rattle.bt_engine.specs.ExampleTwins.{TwinFilesAreRun};
 ghost use Rattle.bt_engine.specs.ExampleWaiting.{WaitingFetchIsRun};
@@ -55,4 +60,47 @@ pub fn hostile_messages_are_runs<H: NodeHash>(_hash: H)
 /// A block with the wrong digest closes the peer that was asked for it, and stays missing.
 pub fn wrong_block_is_run<H: NodeHash>(_hash: H)
     ensures { WrongBlockIsRun H.digest }
+{}
+
+/// A marked block whose device gives other bytes is missing when a peer has requested it, and one whose read
+/// fails stays marked; nothing is sent, and the peer stays.
+pub fn damaged_block_is_run<H: NodeHash>(_hash: H)
+    ensures { DamagedBlockIsRun H.digest }
+{}
+
+/// The devices of two files are flushed, up to the first whose sync fails.
+pub fn flushes_are_run<H: NodeHash>(_hash: H)
+    ensures { FlushesAreRun H.digest }
+{}
+
+/// A block that a peer was asked for is asked of another when that peer has gone.
+pub fn lost_peer_is_run<H: NodeHash>(_hash: H)
+    ensures { LostPeerIsRun H.digest }
+{}
+
+/// What the device of a file of one block has is taken in: right bytes mark the block, and wrong ones make it
+/// missing. There is no second file, and nothing is taken in while a peer is connected.
+pub fn adopted_block_is_run<H: NodeHash>(_hash: H)
+    ensures { AdoptedBlockIsRun H.digest }
+{}
+
+/// Three blocks whose leaves are unknown are taken in together: other blocks change nothing, and the right
+/// ones are marked, as are those that wait in another file of the root.
+pub fn adopted_twins_are_run<H: NodeHash>(_hash: H)
+    ensures { AdoptedTwinsAreRun H.digest }
+{}
+
+/// A peer that chokes us is asked for nothing, and for its block again when it unchokes us.
+pub fn choked_peer_is_run<H: NodeHash>(_hash: H)
+    ensures { ChokedPeerIsRun H.digest }
+{}
+
+/// A peer that rejects its hash request is sent no other, and blocks are requested from it all the same.
+pub fn rejected_peer_is_run<H: NodeHash>(_hash: H)
+    ensures { RejectedPeerIsRun H.digest }
+{}
+
+/// In an engine with a log a proof that is accepted is left pending, and then a mark for each block.
+pub fn hints_are_pending<H: NodeHash>(_hash: H)
+    ensures { HintsArePending H.digest }
 {}
