@@ -1,3 +1,4 @@
+pub mod Base
 -- what a `Value` holds
 pub mod ValueData
 -- what the reader finds: ranges of bytes, numerals with the strings and integers that they begin, and each kind of value, part by part

@@ -1,26 +1,11 @@
 -- Numerals without a zero that may not stand, strings, and integers, in the bytes.
-use Rattle.std.proofs.Common.{◌≡◌, ℕ, ◌+◌, ◌-◌, ◌^◌, ◌<◌, ◌≤◌, Bool, false, inr, List, ◌∷◌, ◌++◌, length, take, drop, get_or, sym, ap, ◌∙◌, arith}
-use Rattle.std.proofs.Common.{length-drop, append_assoc, ◌≢◌, zero, suc, true, ◌⊎◌, inl, [], refl, add-zero, ℤ, pos, neg_ℤ}
-use Rattle.std.specs.Prelude.{slice_range, IsTrue, ◌↔◌, FitsSigned, Option, None, Some}
-use Rattle.std.specs.Fmt.{decimal, signed_decimal}
-use Rattle.std.specs.Str.Parse.{IsNumeral, digits_value, without_leading_sign, signed_digits_value}
+use Rattle.bt_bencode.proofs.Base.{◌≡◌, ℕ, ◌+◌, ◌-◌, ◌^◌, ◌<◌, ◌≤◌, Bool, false, inr, List, ◌∷◌, ◌++◌, length, take, drop, get_or, sym, ap, ◌∙◌, arith, length-drop, append_assoc, ◌≢◌, zero, suc, true, ◌⊎◌, inl, [], refl, add-zero, ℤ, pos, neg_ℤ, slice_range, IsTrue, ◌↔◌, FitsSigned, Option, None, Some, decimal, signed_decimal, IsNumeral, digits_value, without_leading_sign, signed_digits_value, take-append-drop, length-take-le, drop-drop, get_or_append_left, length-between, drop_split, drop-length, string_spelling, truncated, Fault, int_range, LeadsWithZero, sign_text, signed_number, NumeralStops, StringStops, in_bytes, Stops, in_integer, out_of_range, Spans, FaultFrom, IsNumeralAt, ReadsInteger, ints, SomeIff, ne_eqb}
 use Rattle.std.proofs.lemmas.Str.Parse.{numerals_by_value, tells_digits, digit_at}
 use Rattle.std.proofs.lemmas.Fmt.{decimal-digits_value, decimal_digit, IsAscii-from_digits}
-use Rattle.std.proofs.lemmas.List.{take-append-drop, length-take-le, drop-drop, get_or_append_left}
-use Rattle.std.proofs.lemmas.List.Edits.{length-between}
-use Rattle.std.proofs.lemmas.List.Folds.{drop_split}
-use Rattle.std.proofs.Math.Seq.{drop-length}
-use Rattle.bt_bencode.specs.Spelling.{string_spelling, spelling_of}
-use Rattle.bt_bencode.specs.Error.{truncated, Fault, int_range}
-use Rattle.bt_bencode.specs.Number.{LeadsWithZero, sign_text, signed_number, NumeralStops}
-use Rattle.bt_bencode.specs.Reader.{StringStops, in_bytes, Stops, in_integer, out_of_range}
-use Rattle.bt_bencode.specs.ReaderSteps.{Spans, FaultFrom, IsNumeralAt, ReadsInteger}
+use Rattle.bt_bencode.specs.Spelling.{spelling_of}
 use Rattle.bt_bencode.proofs.ReadRanges.{drop_byte, drop_first, not_standing}
-use Rattle.std.proofs.lemmas.Int.{ints}
 use Rattle.std.specs.Str.{IsAscii}
 use Rattle.std.specs.Int.{from_bool, w64}
-use Rattle.std.specs.Option.{SomeIff}
-use Rattle.std.proofs.lemmas.Bool.{ne_eqb}
 
 -- the digits are those that their value is written with
 pub decimal_again : (negative : Bool) {ds : _} (more : List ℕ) → IsNumeral 10 ds → ¬ LeadsWithZero negative (ds ++ more) → digits_value 10 ds < 2 ^ 64

@@ -1,17 +1,7 @@
 -- A list or a dictionary in the bytes, part by part.
-use Rattle.std.proofs.Common.{◌≡◌, ◌≢◌, ℕ, suc, ◌+◌, ◌-◌, ◌<◌, ◌⊎◌, List, [], ◌∷◌, ◌++◌, length, take, drop, get_or, refl, sym, ap, ◌∙◌, arith}
-use Rattle.std.specs.Prelude.{Some, unwrap_or, IsTrue, ◌↔◌}
-use Rattle.std.specs.Global.{Vec}
-use Rattle.std.specs.Ordering.{nat_cmp, is_lt}
-use Rattle.std.specs.Cmp.Lexicographic.{slice_cmp}
-use Rattle.std.proofs.lemmas.List.{take_more, take_all}
-use Rattle.bt_bencode.specs.Value.{Data, list, dictionary, data_of, items_of, entries_of}
+use Rattle.bt_bencode.proofs.Base.{◌≡◌, ◌≢◌, ℕ, suc, ◌+◌, ◌-◌, ◌<◌, ◌⊎◌, List, [], ◌∷◌, ◌++◌, length, take, drop, get_or, refl, sym, ap, ◌∙◌, arith, Some, unwrap_or, IsTrue, ◌↔◌, Vec, nat_cmp, is_lt, slice_cmp, take_more, take_all, Data, list, dictionary, data_of, items_of, entries_of, Fault, key_order, too_deep, StringStops, Stops, last_key_of, EndsBefore, at_max_nesting, in_item, in_key, at_key, in_value, Spans, FaultFrom, ReadsValue, ReadsString, Value}
 use Rattle.bt_bencode.specs.Spelling.{items_spelling, entries_spelling}
 use Rattle.bt_bencode.specs.Doc.{nesting_of, HasAscendingKeys, HasSmallIntegers, IsCanonicalWithin}
-use Rattle.bt_bencode.specs.Error.{Fault, key_order, too_deep}
-use Rattle.bt_bencode.specs.Reader.{StringStops, Stops, last_key_of, EndsBefore, at_max_nesting, in_item, in_key, at_key, in_value}
-use Rattle.bt_bencode.specs.ReaderSteps.{Spans, FaultFrom, ReadsValue, ReadsString}
-use Rattle.bt_bencode.specs.declared.value.Value.{Value}
 use Rattle.bt_bencode.proofs.ValueData.{items_spelling-push, entries_spelling-push}
 use Rattle.bt_bencode.proofs.ReadRanges.{drop_first, drop_byte, spans_byte, spans_join}
 use Rattle.bt_bencode.proofs.ReadingLaws.{less_decides}

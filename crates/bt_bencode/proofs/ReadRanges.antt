@@ -1,19 +1,7 @@
 -- Ranges of some bytes, what a byte or a run of digits there tells, and a fault that is passed on.
-use Rattle.std.proofs.Common.{◌≡◌, ◌≢◌, ℕ, zero, suc, ◌+◌, ◌<◌, ◌≤◌, List, [], ◌∷◌, ◌++◌, length, drop, get_or, refl, sym, ap, ◌∙◌, arith}
-use Rattle.std.proofs.Common.{add-zero, append_assoc}
-use Rattle.std.specs.Prelude.{slice_range, Option, None, Some, IsTrue, false, Result, Ok, Err, IfErr}
-use Rattle.std.specs.Option.{SomeIff}
-use Rattle.std.specs.Result.{IsErrAnd}
-use Rattle.std.specs.Char.{IsAsciiDigit, digit_value}
-use Rattle.std.specs.Str.Parse.{AllDigits}
-use Rattle.std.proofs.lemmas.List.{get_or-drop, drop_more}
+use Rattle.bt_bencode.proofs.Base.{◌≡◌, ◌≢◌, ℕ, zero, suc, ◌+◌, ◌<◌, ◌≤◌, List, [], ◌∷◌, ◌++◌, length, drop, get_or, refl, sym, ap, ◌∙◌, arith, add-zero, append_assoc, slice_range, Option, None, Some, IsTrue, false, Result, Ok, Err, IfErr, SomeIff, IsErrAnd, IsAsciiDigit, digit_value, AllDigits, get_or-drop, drop_more, between_more, false≢true, Fault, AtFault, Spans, FaultFrom, BencodeError}
 use Rattle.std.proofs.lemmas.Str.{digit_value_digit}
 use Rattle.std.proofs.lemmas.Int.Digits.{digits_push}
-use Rattle.std.proofs.lemmas.List.Edits.{between_more}
-use Rattle.std.proofs.lemmas.Bool.{false≢true}
-use Rattle.bt_bencode.specs.Error.{Fault, AtFault}
-use Rattle.bt_bencode.specs.ReaderSteps.{Spans, FaultFrom}
-use Rattle.bt_bencode.specs.declared.error.BencodeError.{BencodeError}
 use Rattle.bt_bencode.specs.declared.error.BencodeError.TheVariants.{OutOfMemory}
 
 -- one digit more

@@ -1,25 +1,10 @@
 -- A reading of a text from the left as a function of the text: what it says of numerals, strings and integers.
-use Rattle.std.proofs.Common.{◌≡◌, ◌≢◌, ℕ, ℤ, pos, negsuc, ◌^◌, ◌<◌, Bool, true, false, ◌⊎◌, inl, inr, List, [], ◌∷◌, ◌++◌, length, get_or}
-use Rattle.std.proofs.Common.{take, drop, refl, sym, ap, ◌∙◌, subst, arith, append_assoc, length-append}
-use Rattle.std.specs.Prelude.{FitsSigned, IsTrue, if◌then◌else◌, ◌==◌, ◌&&◌, ◌||◌}
-use Rattle.std.specs.Bool.{Decides}
+use Rattle.bt_bencode.proofs.Base.{◌≡◌, ◌≢◌, ℕ, ℤ, pos, negsuc, ◌^◌, ◌<◌, Bool, true, false, ◌⊎◌, inl, inr, List, [], ◌∷◌, ◌++◌, length, get_or, take, drop, refl, sym, ap, ◌∙◌, subst, arith, append_assoc, length-append, FitsSigned, IsTrue, if◌then◌else◌, ◌==◌, ◌&&◌, ◌||◌, Decides, int_eq, IsAsciiDigit, is_ascii_digit, decimal, signed_decimal, AllDigits, IsNumeral, digits_value, eqb, ltb, take-append_seam, drop-append_seam, eq-eqb, ne_eqb, ints, SFits-int_wrap, int_wrap_fits, append-nil, get_or_append_left, string_spelling, Fault, truncated, bad_byte, leading_zero, int_range, sign_text, signed_number, LeadsWithZero, NumeralStops, at_zero, StringStops, in_length, in_bytes}
 use Rattle.std.specs.Int.{w64, int_wrap}
-use Rattle.std.specs.Ordering.{int_eq}
-use Rattle.std.specs.Char.{IsAsciiDigit, is_ascii_digit}
-use Rattle.std.specs.Fmt.{decimal, signed_decimal}
-use Rattle.std.specs.Str.Parse.{AllDigits, IsNumeral, digits_value}
-use Rattle.std.proofs.Math.Dec.{eqb, ltb}
-use Rattle.std.proofs.Math.Seq.{take-append_seam, drop-append_seam}
-use Rattle.std.proofs.lemmas.Bool.{eq-eqb, ne_eqb}
 use Rattle.std.proofs.lemmas.Bool.Decides.{Decides-eqb, Decides-and, Decides-or, Decides-ltb, Decides-like, Decides-int_eq, nat_tests}
-use Rattle.std.proofs.lemmas.Int.{ints, SFits-int_wrap, int_wrap_fits}
 use Rattle.std.proofs.lemmas.Str.Parse.{digit_at, digit_from_value}
 use Rattle.std.proofs.lemmas.Fmt.{decimal_is_IsNumeral, decimal_nonempty, decimal_digit, first_decimal}
-use Rattle.std.proofs.lemmas.List.{append-nil, get_or_append_left}
-use Rattle.bt_bencode.specs.Spelling.{string_spelling}
-use Rattle.bt_bencode.specs.Error.{Fault, truncated, bad_byte, leading_zero, int_range}
-use Rattle.bt_bencode.specs.Number.{sign_text, signed_number, LeadsWithZero, NumeralStops, at_zero, at_end, at_other}
-use Rattle.bt_bencode.specs.Reader.{StringStops, in_length, in_bytes}
+use Rattle.bt_bencode.specs.Number.{at_end, at_other}
 
 -- what was read and what is behind it, or what stopped the reading and with which bytes left
 pub data Outcome (A : Type 0) : Type 0 where

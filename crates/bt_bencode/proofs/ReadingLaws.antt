@@ -1,32 +1,15 @@
 -- A reading of values, step by step: the text alone determines what it gives. So what stops a reading stops it once,
 -- and only where no canonical value begins, and a text begins with one value at most.
-use Rattle.std.proofs.Common.{◌≡◌, ◌≢◌, ℕ, zero, suc, ◌^◌, ◌<◌, ◌≤◌, Bool, true, false, List, [], ◌∷◌, ◌++◌, length, get_or, drop, refl, ap, arith}
-use Rattle.std.proofs.Common.{append_assoc, length-append, ◌+◌, inl, inr, take, sym, ◌∙◌, subst, length-drop}
-use Rattle.std.specs.Prelude.{IsTrue, if◌then◌else◌, Option, None, Some, IfSome, unwrap_or}
-use Rattle.std.specs.Char.{IsAsciiDigit, is_ascii_digit}
-use Rattle.std.specs.Ordering.{nat_cmp, is_lt}
-use Rattle.std.specs.Cmp.Lexicographic.{slice_cmp}
-use Rattle.std.proofs.Math.Dec.{eqb}
-use Rattle.std.proofs.lemmas.Bool.{ne_eqb}
-use Rattle.bt_bencode.specs.Value.{Data, integer, string, list, dictionary, Items, no_items, item, Entries, no_entries, entry}
-use Rattle.bt_bencode.specs.Spelling.{string_spelling, spelling_of, items_spelling, entries_spelling}
-use Rattle.bt_bencode.specs.Doc.{IsBefore, first_key_of, nesting_of, items_nesting, entries_nesting, HasAscendingKeys, ItemsHaveAscendingKeys}
-use Rattle.bt_bencode.specs.Doc.{EntriesAscend, HasSmallIntegers, IsCanonicalWithin}
-use Rattle.bt_bencode.specs.Error.{Fault, truncated, bad_byte, key_order, too_deep, trailing}
-use Rattle.bt_bencode.specs.Law.{IsRepresentable, ItemsAreRepresentable, EntriesAreRepresentable, NoProperPrefix, BeginsOnce, FirstFaultIsOne}
-use Rattle.bt_bencode.specs.Law.{FirstFaultRefuses}
+use Rattle.bt_bencode.proofs.Base.{◌≡◌, ◌≢◌, ℕ, zero, suc, ◌^◌, ◌<◌, ◌≤◌, Bool, true, false, List, [], ◌∷◌, ◌++◌, length, get_or, drop, refl, ap, arith, append_assoc, length-append, ◌+◌, inl, inr, take, sym, ◌∙◌, subst, length-drop, IsTrue, if◌then◌else◌, Option, None, Some, IfSome, unwrap_or, IsAsciiDigit, is_ascii_digit, nat_cmp, is_lt, slice_cmp, eqb, ne_eqb, Data, integer, string, list, dictionary, Items, no_items, item, Entries, no_entries, entry, string_spelling, items_spelling, entries_spelling, Fault, truncated, bad_byte, key_order, too_deep, trailing, Decides, take-append_seam, append-nil, NumeralStops, last_key_of, EndsBefore, StringStops, in_length, in_bytes, Stops, in_integer, out_of_range, in_string, at_max_nesting, in_item, in_key, at_key, in_value, IsFirstFault, in_the_value, behind_the_value, IsValueEnd}
+use Rattle.bt_bencode.specs.Spelling.{spelling_of}
+use Rattle.bt_bencode.specs.Doc.{IsBefore, first_key_of, nesting_of, items_nesting, entries_nesting, HasAscendingKeys, ItemsHaveAscendingKeys, EntriesAscend, HasSmallIntegers, IsCanonicalWithin}
+use Rattle.bt_bencode.specs.Law.{IsRepresentable, ItemsAreRepresentable, EntriesAreRepresentable, NoProperPrefix, BeginsOnce, FirstFaultIsOne, FirstFaultRefuses}
 use Rattle.bt_bencode.proofs.Representable.{string_is_longer, representable, items_representable, entries_representable}
-use Rattle.bt_bencode.proofs.Reading.{Outcome, read, stopped, after, digit_decides, read_string, string_read, read_integer, integer_read}
-use Rattle.bt_bencode.proofs.Reading.{string_digit, denied, integer_stops, range_stops, string_stops}
-use Rattle.std.specs.Bool.{Decides}
+use Rattle.bt_bencode.proofs.Reading.{Outcome, read, stopped, after, digit_decides, read_string, string_read, read_integer, integer_read, string_digit, denied, integer_stops, range_stops, string_stops}
 use Rattle.std.specs.declared.cmp.Ordering.{Ordering}
 use Rattle.std.specs.declared.cmp.Ordering.TheVariants.{Less, Equal, Greater}
-use Rattle.std.proofs.Math.Seq.{take-append_seam}
-use Rattle.std.proofs.lemmas.List.{append-nil}
-use Rattle.bt_bencode.specs.Number.{NumeralStops, at_end as numeral_at_end}
-use Rattle.bt_bencode.specs.Reader.{last_key_of, EndsBefore, StringStops, in_length, in_bytes, Stops, at_end, at_other, in_integer, out_of_range}
-use Rattle.bt_bencode.specs.Reader.{in_string, at_max_nesting, in_item, in_key, at_key, in_value, IsFirstFault, in_the_value, behind_the_value}
-use Rattle.bt_bencode.specs.Reader.{IsValueEnd}
+use Rattle.bt_bencode.specs.Number.{at_end as numeral_at_end}
+use Rattle.bt_bencode.specs.Reader.{at_end, at_other}
 
 -- what is to be read: a value of nesting at most n, or the rest of a list or a dictionary, and what is done with it
 pub data Job : Type 0 where

@@ -1,8 +1,6 @@
 -- A spelling that fits memory is that of a value that a `Value` can hold.
-use Rattle.std.proofs.Common.{ℕ, ◌^◌, ◌<◌, ◌≤◌, List, [], ◌∷◌, length, arith, length-append}
-use Rattle.std.specs.Fmt.{decimal}
-use Rattle.bt_bencode.specs.Value.{Data, integer, string, list, dictionary, Items, no_items, item, Entries, no_entries, entry}
-use Rattle.bt_bencode.specs.Spelling.{string_spelling, spelling_of, items_spelling, entries_spelling}
+use Rattle.bt_bencode.proofs.Base.{ℕ, ◌^◌, ◌<◌, ◌≤◌, List, [], ◌∷◌, length, arith, length-append, decimal, Data, integer, string, list, dictionary, Items, no_items, item, Entries, no_entries, entry, string_spelling, items_spelling, entries_spelling}
+use Rattle.bt_bencode.specs.Spelling.{spelling_of}
 use Rattle.bt_bencode.specs.Doc.{HasSmallIntegers, ItemsHaveSmallIntegers, EntriesHaveSmallIntegers}
 use Rattle.bt_bencode.specs.Law.{IsRepresentable, ItemsAreRepresentable, EntriesAreRepresentable}
 

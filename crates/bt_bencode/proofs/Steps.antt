@@ -1,10 +1,7 @@
 -- The lemmas that close the steps of each function.
-use Rattle.std.proofs.Common.{append_assoc, inl, inr}
-use Rattle.std.proofs.Math.Seq.{drop-length}
+use Rattle.bt_bencode.proofs.Base.{append_assoc, inl, inr, drop-length, append-nil, drop_more, take_all, behind_the_value}
 use Rattle.std.proofs.lemmas.Fmt.{IsAscii-from_digits}
-use Rattle.std.proofs.lemmas.List.{append-nil, drop_more, take_all}
 use Rattle.std.proofs.lemmas.Str.{IsUtf8-from_ascii}
-use Rattle.bt_bencode.specs.Reader.{behind_the_value}
 use Rattle.bt_bencode.proofs.ReadParts.{last_decides, too_deep_at}
 use Rattle.bt_bencode.proofs.ReadingLaws.{none_spells}
 use Rattle.bt_bencode.proofs.ReadRanges.{digits_one_more}

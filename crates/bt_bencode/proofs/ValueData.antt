@@ -1,10 +1,6 @@
 -- The data of a value of each kind, and the spelling of one part more.
-use Rattle.std.proofs.Common.{◌≡◌, ℕ, ℤ, List, [], ◌∷◌, ◌++◌, sym, append_assoc}
-use Rattle.std.specs.Global.{Vec}
-use Rattle.std.proofs.lemmas.List.{append-nil}
-use Rattle.bt_bencode.specs.Value.{integer, string, list, dictionary, Data, data_of, data_step, items_of, entries_of}
-use Rattle.bt_bencode.specs.Spelling.{string_spelling, spelling_of, items_spelling, entries_spelling}
-use Rattle.bt_bencode.specs.declared.value.Value.{Value, Int, Bytes}
+use Rattle.bt_bencode.proofs.Base.{◌≡◌, ℕ, ℤ, List, [], ◌∷◌, ◌++◌, sym, append_assoc, Vec, append-nil, integer, string, list, dictionary, Data, data_of, data_step, items_of, entries_of, string_spelling, spelling_of, Value, Int, Bytes}
+use Rattle.bt_bencode.specs.Spelling.{items_spelling, entries_spelling}
 use Rattle.bt_bencode.specs.declared.value.Value.TheOpen.{Value-F}
 use Rattle.bt_bencode.specs.declared.value.Value.TheFolds.{fold-roll-Value}
 use Rattle.bt_bencode.specs.declared.value.Value.TheViews as views

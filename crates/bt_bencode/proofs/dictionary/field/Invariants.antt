@@ -1,5 +1,4 @@
-use Rattle.std.proofs.Common.{◌≡◌, drop}
-use Rattle.bt_bencode.specs.Value.{data_of, entries_of}
+use Rattle.bt_bencode.proofs.Base.{◌≡◌, drop, data_of, entries_of}
 use Rattle.bt_bencode.specs.Dictionary.{field_of, first_value_of}
 use Rattle.bt_bencode.proofs.dictionary.field.Given as goal
 

@@ -1,6 +1,4 @@
-use Rattle.std.proofs.Common.{◌-◌, ◌≤◌, length}
-use Rattle.std.specs.Prelude.{slice_range}
-use Rattle.std.specs.Str.Parse.{AllDigits}
+use Rattle.bt_bencode.proofs.Base.{◌-◌, ◌≤◌, length, slice_range, AllDigits}
 use Rattle.bt_bencode.proofs.number.digits_end.Given as goal
 
 abbrev pub invariant-loop-end : goal.invariant-loop-end

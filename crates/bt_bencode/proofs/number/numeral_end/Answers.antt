@@ -1,14 +1,8 @@
-use Rattle.std.proofs.Common.{◌≡◌, ◌≢◌, ◌-◌, [], ◌⊎◌, inl, inr, length, drop, slice_index, sym, ◌∙◌, refl, arith, length-drop}
-use Rattle.std.specs.Prelude.{slice_range}
-use Rattle.std.specs.Str.Parse.{AllDigits}
-use Rattle.std.proofs.lemmas.Bool.{false≢true}
-use Rattle.std.proofs.lemmas.List.{take_rest}
-use Rattle.std.proofs.lemmas.List.Folds.{drop_split}
-use Rattle.std.proofs.Math.Seq.{drop-length}
-use Rattle.bt_bencode.specs.Number.{LeadsWithZero, at_zero, at_end, at_other}
+use Rattle.bt_bencode.proofs.Base.{◌≡◌, ◌≢◌, ◌-◌, [], ◌⊎◌, inl, inr, length, drop, slice_index, sym, ◌∙◌, refl, arith, length-drop, slice_range, AllDigits, false≢true, take_rest, drop_split, drop-length, LeadsWithZero, at_zero}
+use Rattle.bt_bencode.specs.Number.{at_end, at_other}
 use Rattle.bt_bencode.proofs.ReadRanges.{drop_first}
-use Rattle.bt_bencode.proofs.number.numeral_end.Goals as goal
 use Rattle.bt_bencode.proofs.number.numeral_end.Goals.{then-end-at-via-then-end-at, then-end-at-via-else-end-at+then-bytes-end}
+use Rattle.bt_bencode.proofs.number.numeral_end.Goals as goal
 
 pub returns-then-leads_with_zero-clause-fault : goal.returns-then-leads_with_zero-clause-fault
 returns-then-leads_with_zero-clause-fault c =

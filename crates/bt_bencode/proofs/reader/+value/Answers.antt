@@ -1,16 +1,10 @@
-use Rattle.std.proofs.Common.{refl, ◌≡◌, [], get_or, drop, ap, ◌∙◌, arith, rules, length-drop}
-use Rattle.std.specs.Char.{IsAsciiDigit}
-use Rattle.std.proofs.Math.Seq.{drop-length}
-use Rattle.std.proofs.lemmas.Bool.{false≢true}
-use Rattle.std.proofs.lemmas.Int.{to_z-of_z}
-use Rattle.bt_bencode.specs.Value.{entries_of}
+use Rattle.bt_bencode.proofs.Base.{refl, ◌≡◌, [], get_or, drop, ap, ◌∙◌, arith, rules, length-drop, IsAsciiDigit, drop-length, false≢true, to_z-of_z, entries_of, StringStops, Stops, EndsBefore, in_string}
 use Rattle.bt_bencode.specs.Spelling.{spelling_of}
 use Rattle.bt_bencode.specs.Doc.{nesting_of, HasAscendingKeys, HasSmallIntegers}
-use Rattle.bt_bencode.specs.Reader.{StringStops, Stops, EndsBefore, at_end, at_other, in_string}
+use Rattle.bt_bencode.specs.Reader.{at_end, at_other}
 use Rattle.bt_bencode.proofs.ReadRanges.{spans_byte, spans_join, drop_first, not_standing, stop_passed}
 use Rattle.bt_bencode.proofs.ValueData.{data_of-Int, data_of-Bytes, data_of-List, data_of-Dict}
-use Rattle.bt_bencode.proofs.ReadParts.{begun, list_more, list_stops}
-use Rattle.bt_bencode.proofs.ReadParts.{dictionary_more, key_stops, order_stops, value_stops}
+use Rattle.bt_bencode.proofs.ReadParts.{begun, list_more, list_stops, dictionary_more, key_stops, order_stops, value_stops}
 use Rattle.bt_bencode.proofs.reader.+value.Goals as goal
 
 pub dictionary_at-loop-alloc-init : goal.dictionary_at-loop-alloc-init

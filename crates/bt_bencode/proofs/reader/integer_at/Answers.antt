@@ -1,6 +1,4 @@
-use Rattle.std.proofs.lemmas.Int.{to_z-of_z}
-use Rattle.bt_bencode.specs.Number.{NumeralStops}
-use Rattle.bt_bencode.specs.Reader.{Stops}
+use Rattle.bt_bencode.proofs.Base.{to_z-of_z, NumeralStops, Stops}
 use Rattle.bt_bencode.proofs.ReadRanges.{stop_passed}
 use Rattle.bt_bencode.proofs.ReadNumerals.{is_signed, integer_stops, integer_is_ascii, integer_found, integer_out_of_range}
 use Rattle.bt_bencode.proofs.reader.integer_at.Goals as goal

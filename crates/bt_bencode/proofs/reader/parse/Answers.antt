@@ -1,10 +1,4 @@
-use Rattle.std.proofs.Common.{ℕ, List, ◌≡◌, ◌<◌, ◌^◌, length, arith}
-use Rattle.std.specs.Prelude.{Result, IfErr}
-use Rattle.std.specs.Result.{IsErrAnd}
-use Rattle.bt_bencode.specs.Error.{Fault, AtFault}
-use Rattle.bt_bencode.specs.Reader.{Stops, IsFirstFault, in_the_value}
-use Rattle.bt_bencode.specs.ReaderSteps.{FaultFrom}
-use Rattle.bt_bencode.specs.declared.error.BencodeError.{BencodeError}
+use Rattle.bt_bencode.proofs.Base.{ℕ, List, ◌≡◌, ◌<◌, ◌^◌, length, arith, Result, IfErr, IsErrAnd, Fault, AtFault, Stops, IsFirstFault, in_the_value, FaultFrom, BencodeError}
 use Rattle.bt_bencode.proofs.ReadRanges.{fault_passed}
 use Rattle.bt_bencode.proofs.ReadingLaws.{none_spells, truncated_at_end, trailing_behind_value}
 use Rattle.bt_bencode.proofs.reader.parse.Goals as goal

@@ -1,12 +1,8 @@
-use Rattle.std.proofs.Common.{◌≡◌, ◌+◌, ◌-◌, ◌<◌, false, length, take, drop, sym, ap, ◌∙◌, arith}
-use Rattle.std.specs.Prelude.{slice_range}
-use Rattle.std.specs.Str.Parse.{digits_value}
-use Rattle.bt_bencode.specs.Number.{NumeralStops}
-use Rattle.bt_bencode.specs.Reader.{StringStops, in_length}
+use Rattle.bt_bencode.proofs.Base.{◌≡◌, ◌+◌, ◌-◌, ◌<◌, false, length, take, drop, sym, ap, ◌∙◌, arith, slice_range, digits_value, NumeralStops, StringStops, in_length}
 use Rattle.bt_bencode.proofs.ReadRanges.{unless_some, stop_passed}
 use Rattle.bt_bencode.proofs.ReadNumerals.{string_read, string_short}
-use Rattle.bt_bencode.proofs.reader.string_at.Goals as goal
 use Rattle.bt_bencode.proofs.reader.string_at.Goals.{in_default-via-in-Some+else-length-left, in_default-via-in_default}
+use Rattle.bt_bencode.proofs.reader.string_at.Goals as goal
 
 pub returns-in_err-colon-clause-fault : goal.returns-in_err-colon-clause-fault
 returns-in_err-colon-clause-fault c =

@@ -1,9 +1,4 @@
-use Rattle.std.proofs.Common.{◌≡◌, ℕ, ◌+◌, ◌<◌, List, ◌++◌, take, get_or, length, ◌∙◌, append_assoc, ap}
-use Rattle.std.specs.Global.{Vec}
-use Rattle.std.proofs.lemmas.List.{take_more}
-use Rattle.bt_bencode.specs.Value.{data_of, items_of, entries_of}
-use Rattle.bt_bencode.specs.Spelling.{string_spelling, spelling_of, items_spelling, entries_spelling}
-use Rattle.bt_bencode.specs.declared.value.Value.{Value}
+use Rattle.bt_bencode.proofs.Base.{◌≡◌, ℕ, ◌+◌, ◌<◌, List, ◌++◌, take, get_or, length, ◌∙◌, append_assoc, ap, Vec, take_more, data_of, items_of, entries_of, string_spelling, spelling_of, items_spelling, entries_spelling, Value}
 use Rattle.bt_bencode.proofs.ValueData.{items_spelling-push, entries_spelling-push}
 use Rattle.bt_bencode.proofs.writer.+put_value.Goals as goal
 

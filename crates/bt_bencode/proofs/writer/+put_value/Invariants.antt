@@ -1,6 +1,4 @@
-use Rattle.std.proofs.Common.{◌≡◌, ◌++◌, ◌∷◌, [], take}
-use Rattle.bt_bencode.specs.Value.{items_of, entries_of}
-use Rattle.bt_bencode.specs.Spelling.{items_spelling, entries_spelling}
+use Rattle.bt_bencode.proofs.Base.{◌≡◌, ◌++◌, ◌∷◌, [], take, items_of, entries_of, items_spelling, entries_spelling}
 use Rattle.bt_bencode.proofs.writer.+put_value.Given as goal
 
 abbrev pub invariant-loop-item : goal.invariant-loop-item
