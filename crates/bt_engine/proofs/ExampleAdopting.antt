@@ -1,7 +1,9 @@
 -- What a file's device has is taken in.
-use Rattle.bt_engine.proofs.Base.{◌≡◌, ℕ, zero, suc, ◌+◌, inl, inr, Bool, true, false, List, [], ◌∷◌, ◌++◌, length, Some, Ok, refl, sym, ap, ◌∙◌, subst, arith, slice_get, if◌then◌else◌, map, option_map, eq-eqb, IsSome, Facts, root_facts, TopDiffers, IsUnknownGroup, IsKnownGroup, known, accepted, not_accepted, claim_of_reads, BlockRead, given, failed, block_of, is_right, judged, right_count, fault_count, BlockState, Missing, Waiting, Marked, Adopted, Adopts}
-use Rattle.bt_engine.proofs.Machine.{Digest, FileState, EngineState, reads_at, judged_file, due_blocks, is_other, StepAdopt, no_file, busy, adopts, abc, abc_engine, IsWrongAbc, ThreeBlocks, AreWhole, three_root, leaves_key, AdoptedBlockIsRun, AdoptedTwinsAreRun, half_engine, three_reads}
+use Rattle.bt_engine.proofs.Base.{◌≡◌, ℕ, zero, suc, ◌+◌, inl, inr, Bool, true, false, List, [], ◌∷◌, ◌++◌, length, Some, Ok, Err, refl, sym, ap, ◌∙◌, subst, arith, slice_get, if◌then◌else◌, map, option_map, eq-eqb, IsSome, Facts, root_facts, TopDiffers, IsUnknownGroup, IsKnownGroup, known, accepted, not_accepted, claim_of_reads, BlockRead, given, failed, block_of, is_right, judged, right_count, fault_count, BlockState, Missing, Waiting, Marked, Adopted, Adopts}
+use Rattle.bt_engine.proofs.Machine.{Digest, FileState, EngineState, reads_at, judged_file, due_blocks, is_other, StepAdopt, no_file, busy, adopts, not_adopted, abc, abc_engine, IsWrongAbc, ThreeBlocks, AreWhole, three_root, leaves_key, AdoptedBlockIsRun, AdoptedTwinsAreRun, half_engine, three_reads}
 use Rattle.bt_engine.specs.State.{proof_of}
+use Rattle.bt_engine.specs.Adopting.{StopsAt, unread as before_reads, read as after_reads}
+use Rattle.bt_engine.specs.declared.error.AdoptError.TheVariants.{OutOfMemory}
 use Rattle.bt_store.specs.Adoption.{AreWhole as AreGivenWhole, marked_run}
 use Rattle.bt_tree.specs.Tree.{padding_digest}
 use Rattle.bt_engine.proofs.Lists.{some_is, same_some, here}
@@ -156,6 +158,9 @@ module _ (dig : Digest) (b : ThreeBlocks) (infohash : List ℕ) where
   all_below : IsUnknownGroup (at_first dig b) 0 2 0 3
   all_below = record { inside = omega arith; nearest = root_nearest dig b; above = omega arith; starts = refl; counts = refl }
 
+  abbrev counted_from : ℕ → Adopted
+  counted_from next = record { next = next; anchor = 0; marked = 0; faults = 0 }
+
   abbrev counted : ℕ → ℕ → Adopted
   counted anchor marked = record { next = 3; anchor = anchor; marked = marked; faults = 0 }
 
@@ -296,6 +301,22 @@ module _ (dig : Digest) (b : ThreeBlocks) (infohash : List ℕ) where
       files (suc zero) = ap (λ g. Some g) (sym judged_so)
       files (suc (suc file)) = refl
 
+  -- ---- and out of memory
+
+  adopts_none : (reads : List BlockRead) → StopsAt (at_first dig b) 0 reads → StepAdopt dig (half_engine dig b infohash) 0 (reads_at 0 49152 reads) (Err OutOfMemory) (half_engine dig b infohash)
+  adopts_none reads stops = not_adopted refl (record {
+    state = file_of Missing;
+    tree = at_first dig b;
+    groups = [];
+    done = counted_from 0;
+    reads = reads;
+    some = λ e. absurd cc;
+    adopts = (refl, refl);
+    is_file = record { here = refl; hung = refl };
+    stops = stops;
+    made = refl;
+  }) refl
+
 pub twins_are_run : (dig : Digest) → AdoptedTwinsAreRun dig
 twins_are_run dig b other infohash whole other_whole differs = record {
   last = engine_with dig b infohash Marked;
@@ -305,4 +326,13 @@ twins_are_run dig b other infohash whole other_whole differs = record {
     (_, (_, refl, adopts_right dig b infohash whole), refl),
   );
   marked = refl;
+  stops = (
+    _,
+    (_, refl, adopts_none dig b infohash [] (before_reads refl)),
+    (
+      _,
+      (_, refl, adopts_none dig b infohash (reads_of b) (after_reads 2 0 3 (all_below dig b infohash) refl)),
+      refl,
+    ),
+  );
 }

@@ -3,7 +3,7 @@ use Rattle.std.specs.Prelude.{◌≡◌, ◌≢◌, ℕ, false, List, [], ◌∷
 use Rattle.bt_disk.specs.Calls.{bytes_given, read_fault}
 use Rattle.bt_sparse.specs.SparseTree.{root_facts}
 use Rattle.bt_store.specs.declared.block_states.BlockState.TheVariants.{Missing, Waiting, Marked}
-use Rattle.bt_engine.specs.declared.error.AdoptError.TheVariants.{NoFile, Busy}
+use Rattle.bt_engine.specs.declared.error.AdoptError.TheVariants.{NoFile, Busy, OutOfMemory}
 use Rattle.bt_engine.specs.declared.event.Event.TheVariants.{Adopt}
 use Rattle.bt_engine.specs.State.{EngineState}
 use Rattle.bt_engine.specs.Devices.{DeviceCalls}
@@ -68,6 +68,9 @@ pub record AdoptsTwins (dig : List ℕ → List ℕ) (b other : ThreeBlocks) (in
       (three_reads other 0 ∷ (three_reads b 0 ++ three_reads b 1) ∷ [])
       (adopted_answer 3 0 0 ∷ adopted_answer 3 3 0 ∷ []) last
   pub marked : last.files ≡ twin_files Marked
+  -- out of memory before the three blocks are read, and after that, leaves all as it is
+  pub stops : Run dig (half_engine dig b infohash) (Adopt 0 ∷ Adopt 0 ∷ []) ([] ∷ three_reads b 0 ∷ [])
+      (of_adopt (Err OutOfMemory) ∷ of_adopt (Err OutOfMemory) ∷ []) (half_engine dig b infohash)
 
 abbrev pub AdoptedTwinsAreRun : (List ℕ → List ℕ) → Type 0
 AdoptedTwinsAreRun dig = (b other : ThreeBlocks) (infohash : List ℕ) → AreWhole b → AreWhole other

@@ -85,7 +85,7 @@ pub fn adopted_block_is_run<H: NodeHash>(_hash: H)
 {}
 
 /// Three blocks whose leaves are unknown are taken in together: other blocks change nothing, and the right
-/// ones are marked, as are those that wait in another file of the root.
+/// ones are marked, as are those that wait in another file of the root. Out of memory changes nothing.
 pub fn adopted_twins_are_run<H: NodeHash>(_hash: H)
     ensures { AdoptedTwinsAreRun H.digest }
 {}
