@@ -5,4 +5,5 @@
 mod interest;
 mod table;
 
+pub use interest::tell_interest;
 pub use table::{Peer, Row};
