@@ -2,8 +2,10 @@
 //! it is that part. It is no part of the product.
 #![tactic(auto)]
 
+mod hash_rule;
 mod interest;
 mod table;
 
+pub use hash_rule::hash_request;
 pub use interest::tell_interest;
 pub use table::{Peer, Row};
