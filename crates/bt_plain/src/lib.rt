@@ -4,8 +4,13 @@
 
 mod hash_rule;
 mod interest;
+mod news;
 mod table;
 
 pub use hash_rule::hash_request;
 pub use interest::tell_interest;
+pub use news::{Announcement, announce, complete_files};
 pub use table::{Peer, Row};
+
+#[cfg(test)]
+mod tests;

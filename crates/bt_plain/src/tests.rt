@@ -1,0 +1,2 @@
+//! Each function once, with results by hand.
+mod news;
