@@ -1,2 +1,4 @@
 pub mod Table
 pub mod Interest
+pub mod Piece
+pub mod Message

@@ -3,6 +3,10 @@
 #![tactic(auto)]
 
 mod interest;
+mod message;
+mod piece;
 mod table;
 
+pub use message::take_message;
+pub use piece::{Effect, put_block};
 pub use table::{Peer, Row};
