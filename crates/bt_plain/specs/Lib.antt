@@ -3,3 +3,5 @@ pub mod Interest
 pub mod HashRule
 pub mod FollowUp
 pub mod News
+pub mod Piece
+pub mod Message

@@ -10,6 +10,11 @@ mod table;
 pub use hash_rule::hash_request;
 pub use interest::tell_interest;
 pub use news::{Announcement, announce, complete_files};
+mod message;
+mod piece;
+
+pub use message::take_message;
+pub use piece::{Effect, put_block};
 pub use table::{Peer, Row};
 
 #[cfg(test)]
