@@ -2,7 +2,11 @@
 //! it is that part. It is no part of the product.
 #![tactic(auto)]
 
+mod hashes;
 mod interest;
 mod table;
+#[cfg(test)]
+mod tests;
 
+pub use hashes::answer_hash_request;
 pub use table::{Peer, Row};
