@@ -6,7 +6,7 @@ use Rattle.bt_sparse.specs.SparseTree.{Facts}
 use Rattle.bt_hashreq.specs.declared.key.HashKey.{HashKey}
 use Rattle.bt_engine.proofs.Lists.{some_is, some_below}
 use Rattle.bt_engine.specs.State.{EngineState}
-use Rattle.bt_engine.specs.HashMessages.{IsAnswered, IsTreeOf}
+use Rattle.bt_engine.specs.HashMessages.{IsAnswered}
 use Rattle.bt_plain.specs.Hashes.{IsAnsweredBy}
 
 -- the tree that the loop stands at

@@ -1,7 +1,7 @@
 ghost use Rattle.std.specs.Prelude.{◌≡◌};
 ghost use Rattle.std.specs.List.{list_any};
 ghost use Rattle.bt_engine.specs.State.{EngineState, PeerState};
-ghost use Rattle.bt_engine.specs.FollowUp.{TellsInterest};
+ghost use Rattle.bt_engine.specs.FollowUp.{TellsInterest, interest_sent};
 ghost use Rattle.bt_plain.specs.Table.{IsTable, IsPeerOf, as_told};
 ghost use Rattle.bt_plain.specs.Interest.{sent_if_any, is_wanted};
 
@@ -17,7 +17,14 @@ pub fn tell_interest(rows: &[Row], peer: &mut Peer) -> Option<Message>
 {
     let was = peer.am_interested;
     peer.am_interested = is_interesting(rows, peer);
-    match (was, peer.am_interested) {
+    interest_message(was, peer.am_interested)
+}
+
+/// What is sent where our interest was this and is that now: nothing where it is the same.
+fn interest_message(was: bool, now: bool) -> Option<Message>
+    ensures { (p : PeerState) → sent_if_any p result ≡ interest_sent p was now }
+{
+    match (was, now) {
         (false, true) => Some(Message::Interested),
         (true, false) => Some(Message::NotInterested),
         _ => None,

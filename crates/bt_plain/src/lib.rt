@@ -2,11 +2,14 @@
 //! it is that part. It is no part of the product.
 #![tactic(auto)]
 
+mod hash_rule;
 mod hashes;
 mod interest;
 mod table;
 #[cfg(test)]
 mod tests;
 
+pub use hash_rule::hash_request;
 pub use hashes::answer_hash_request;
+pub use interest::tell_interest;
 pub use table::{Peer, Row};
