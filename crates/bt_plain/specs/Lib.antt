@@ -1,5 +1,6 @@
 pub mod Table
 pub mod Interest
+pub mod Hashes
 pub mod HashRule
 pub mod FollowUp
 pub mod News

@@ -3,11 +3,15 @@
 #![tactic(auto)]
 
 mod hash_rule;
+mod hashes;
 mod interest;
 mod news;
 mod table;
+#[cfg(test)]
+mod tests;
 
 pub use hash_rule::hash_request;
+pub use hashes::answer_hash_request;
 pub use interest::tell_interest;
 pub use news::{Announcement, announce, complete_files};
 mod message;
