@@ -1,18 +1,16 @@
 -- The three rules, put together, are what follows from an event for a peer.
-use Rattle.bt_engine.proofs.Base.{◌≡◌, ℕ, List, [], ◌∷◌, ◌++◌, map, Option, Some, None, refl, sym, ap, ◌∙◌, slice_get, slice_set}
+use Rattle.bt_engine.proofs.Base.{◌≡◌, ℕ, List, ◌++◌, Option, Some, None, refl, ap, slice_get}
 use Rattle.bt_hashreq.specs.declared.key.HashKey.{HashKey}
 use Rattle.bt_book.specs.declared.names.BlockId.{BlockId}
 use Rattle.bt_wire.specs.declared.message.Message.{Message}
-use Rattle.bt_wire.specs.declared.message.Message.TheVariants.{HashRequest}
 use Rattle.bt_engine.specs.State.{EngineState, PeerState}
 use Rattle.bt_engine.specs.Blocks.{with_peer}
-use Rattle.bt_engine.specs.Output.{Sent, sent_to}
+use Rattle.bt_engine.specs.Output.{Sent}
 use Rattle.bt_engine.specs.FollowUp.{TellsInterest, RequestsHashes, AsksBlocks, RequestsEach, FollowsUp}
 use Rattle.bt_plain.specs.declared.table.Peer.{Peer}
 use Rattle.bt_plain.specs.Table.{as_told}
 use Rattle.bt_plain.specs.Interest.{sent_if_any}
 use Rattle.bt_plain.specs.HashRule.{hash_request_sent, asked_for_hashes}
-use Rattle.bt_plain.specs.FollowUp.{messages_of}
 
 pub follows : {dig : _} {s : EngineState} {i : ℕ} {p : PeerState} (told : Peer) (m : Option Message) (key : Option HashKey)
     (blocks : List BlockId) (frames : List Sent) → slice_get s.peers i ≡ Some p

@@ -1,6 +1,5 @@
 -- What follows from an event for one peer, put together.
-use Rattle.std.specs.Prelude.{List, [], ◌∷◌, ◌++◌, Option, Some, None}
-use Rattle.bt_book.specs.declared.names.BlockId.{BlockId}
+use Rattle.std.specs.Prelude.{List, [], ◌∷◌, Option, Some, None}
 use Rattle.bt_wire.specs.declared.message.Message.{Message}
 
 -- one message, or none

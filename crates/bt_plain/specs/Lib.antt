@@ -1,8 +1,8 @@
 pub mod Table
 pub mod Interest
-pub mod Hashes
 pub mod HashRule
 pub mod FollowUp
 pub mod News
 pub mod Piece
 pub mod Message
+pub mod Hashes

@@ -5,7 +5,9 @@
 mod hash_rule;
 mod hashes;
 mod interest;
+mod message;
 mod news;
+mod piece;
 mod table;
 #[cfg(test)]
 mod tests;
@@ -13,13 +15,7 @@ mod tests;
 pub use hash_rule::hash_request;
 pub use hashes::answer_hash_request;
 pub use interest::tell_interest;
-pub use news::{Announcement, announce, complete_files};
-mod message;
-mod piece;
-
 pub use message::take_message;
+pub use news::{Announcement, announce, complete_files};
 pub use piece::{Effect, put_block};
 pub use table::{Peer, Row};
-
-#[cfg(test)]
-mod tests;

@@ -1,6 +1,5 @@
-//! Each function once, with results by hand.
-mod news;
 //! One example of each part. Parts are called through functions without a contract, so that a test's proof
 //! carries no clause of theirs.
 
 mod hashes;
+mod news;
