@@ -59,14 +59,14 @@ haves_taken f test n e =
 
 -- ---- pieces
 
-whole_row : (s : EngineState) (piece : ℕ) (row : Row) (blocks : List BlockId) (rest inside : Bool) → IsRow s row → (row.piece == piece) ≡ inside
+whole_row : (s : EngineState) (piece : ℕ) (row : Row) (blocks : List BlockId) (rest inside : Bool) → IsRow s row
     → rest ≡ list_all (is_marked_in s) (filter (is_in_piece s.torrent piece) blocks)
     → ((not inside || is_marked row.state) && rest)
     ≡ list_all (is_marked_in s) (cond inside (row.block ∷ filter (is_in_piece s.torrent piece) blocks) (filter (is_in_piece s.torrent piece) blocks))
-whole_row s piece row blocks rest true is e same =
+whole_row s piece row blocks rest true is same =
     let marked : is_marked_in s row.block ≡ is_marked row.state = ap (λ o. option_map_or is_marked o false) is.state in
     rw (marked, same) refl
-whole_row s piece row blocks rest false is e same = same
+whole_row s piece row blocks rest false is same = same
 
 whole_rows : (s : EngineState) (piece : ℕ) (rows : List Row) → ((row : Row) → Contains rows row → IsRow s row)
     → is_whole_by rows piece ≡ list_all (is_marked_in s) (filter (is_in_piece s.torrent piece) (map (λ row. row.block) rows))
@@ -75,7 +75,7 @@ whole_rows s piece (row ∷ rows) each =
     let is = each row (here rows refl) in
     let within : is_in_piece s.torrent piece row.block ≡ (row.piece == piece) = ap (λ o. option_map_or (λ p. p == piece) o false) is.piece in
     let rest = whole_rows s piece rows (λ r c. each r (later row rows c)) in
-    rw within (whole_row s piece row (map (λ row. row.block) rows) (is_whole_by rows piece) (row.piece == piece) is refl rest)
+    rw within (whole_row s piece row (map (λ row. row.block) rows) (is_whole_by rows piece) (row.piece == piece) is rest)
 
 pub whole_is : (s : EngineState) (rows : List Row) (piece : ℕ) → IsTable s rows → is_whole_by rows piece ≡ is_whole s piece
 whole_is s rows piece table =
