@@ -1,4 +1,5 @@
 pub mod Table
+pub mod Engine
 pub mod Interest
 pub mod HashRule
 pub mod FollowUp

@@ -2,6 +2,7 @@
 //! it is that part. It is no part of the product.
 #![tactic(auto)]
 
+mod engine;
 mod hash_rule;
 mod hashes;
 mod interest;
@@ -12,6 +13,7 @@ mod table;
 #[cfg(test)]
 mod tests;
 
+pub use engine::{Engine, HashState, Member};
 pub use hash_rule::hash_request;
 pub use hashes::answer_hash_request;
 pub use interest::tell_interest;
