@@ -2,10 +2,14 @@
 //! it is that part. It is no part of the product.
 #![tactic(auto)]
 
+mod asking;
 mod hash_rule;
 mod interest;
 mod table;
+#[cfg(test)]
+mod tests;
 
+pub use asking::open_blocks;
 pub use hash_rule::hash_request;
 pub use interest::tell_interest;
 pub use table::{Peer, Row};
