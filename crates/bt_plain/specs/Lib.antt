@@ -7,3 +7,4 @@ pub mod News
 pub mod Piece
 pub mod Message
 pub mod Hashes
+pub mod Asking

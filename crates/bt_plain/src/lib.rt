@@ -3,6 +3,7 @@
 #![tactic(auto)]
 
 mod engine;
+mod asking;
 mod hash_rule;
 mod hashes;
 mod interest;
@@ -14,6 +15,7 @@ mod table;
 mod tests;
 
 pub use engine::{Engine, HashState, Member};
+pub use asking::open_blocks;
 pub use hash_rule::hash_request;
 pub use hashes::answer_hash_request;
 pub use interest::tell_interest;

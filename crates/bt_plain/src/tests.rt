@@ -3,3 +3,4 @@
 
 mod hashes;
 mod news;
+mod asking;
