@@ -6,7 +6,10 @@ use Rattle.bt_meta.specs.Torrent.{Metainfo}
 use Rattle.bt_sparse.specs.SparseTree.{Facts}
 use Rattle.bt_store.specs.declared.block_states.BlockState.{BlockState}
 use Rattle.bt_engine.specs.State.{HashState as PeerHashState, Idle, Asked, Refused, PeerState, EngineState}
+use Rattle.bt_book.specs.declared.names.BlockId.{BlockId}
+use Rattle.bt_engine.specs.Blocks.{state_at}
 use Rattle.bt_plain.specs.Table.{IsPeerOf}
+use Rattle.bt_plain.specs.Requests.{IsBlockOf}
 use Rattle.bt_plain.specs.declared.engine.HashState.{HashState}
 use Rattle.bt_plain.specs.declared.engine.HashState.TheVariants.{Idle as NowIdle, Asked as NowAsked, Refused as NowRefused}
 use Rattle.bt_plain.specs.declared.engine.Member.{Member}
@@ -21,6 +24,11 @@ pub record IsMember (p : PeerState) (member : Member) : Type 0 where
   pub key : p.key ≡ member.key
   pub told : IsPeerOf p member.told
   pub hash : p.hash ≡ hash_of member.hash
+
+-- the machine's state has this torrent, and no block that is not the torrent's
+pub record HasFiles (s : EngineState) (torrent : Metainfo) : Type 0 where
+  pub same : s.torrent ≡ torrent
+  pub blocks : (b : BlockId) (x : BlockState) → state_at s b ≡ Some x → IsBlockOf torrent b
 
 -- the torrent has one file, of this tree and with so many blocks
 pub record HasOneFile (torrent : Metainfo) (k : Facts) (states : List BlockState) : Type 0 where

@@ -2,9 +2,11 @@ pub mod Table
 pub mod Engine
 pub mod Interest
 pub mod HashRule
-pub mod FollowUp
+pub mod AfterRules
 pub mod News
+pub mod Answering
 pub mod Piece
 pub mod Message
 pub mod Hashes
 pub mod Asking
+pub mod Requests

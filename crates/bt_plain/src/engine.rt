@@ -1,3 +1,7 @@
+ghost use Rattle.std.specs.Prelude.{◌≡◌, ◌↔◌, IsTrue};
+ghost use Rattle.bt_engine.specs.State.{Idle, PeerState};
+ghost use Rattle.bt_plain.specs.Engine.{hash_of};
+
 use crate::table::Peer;
 use bt_book::PeerKey;
 use bt_disk::Disk;
@@ -16,6 +20,19 @@ pub enum HashState {
     Asked(HashKey),
     /// It rejected one.
     Refused,
+}
+
+impl HashState {
+    /// Whether the peer may be sent a hash request.
+    pub fn is_idle(self) -> bool
+        ensures { (p : PeerState) → p.hash ≡ hash_of self → (IsTrue result ↔ (p.hash ≡ Idle)) }
+    {
+        match self {
+            HashState::Idle => true,
+            HashState::Asked(_) => false,
+            HashState::Refused => false,
+        }
+    }
 }
 
 /// A connected peer.

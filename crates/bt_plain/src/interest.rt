@@ -12,8 +12,9 @@ use bt_wire::Message;
 /// Tells our interest in a peer where it changed: we are interested exactly where a piece that the peer has
 /// holds a missing block.
 pub fn tell_interest(rows: &[Row], peer: &mut Peer) -> Option<Message>
-    ensures { (s : EngineState) (p : PeerState) → IsTable s rows.now → IsPeerOf p peer.old
+    ensures told { (s : EngineState) (p : PeerState) → IsTable s rows.now → IsPeerOf p peer.old
         → TellsInterest s p (sent_if_any p result) (as_told p peer.new) }
+    ensures others { peer.new ≡ record peer.old { am_interested = peer.new.am_interested } }
 {
     let was = peer.am_interested;
     peer.am_interested = is_interesting(rows, peer);
