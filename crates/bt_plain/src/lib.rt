@@ -5,6 +5,7 @@
 mod asking;
 mod hash_rule;
 mod interest;
+mod requests;
 mod table;
 #[cfg(test)]
 mod tests;
@@ -12,4 +13,5 @@ mod tests;
 pub use asking::open_blocks;
 pub use hash_rule::hash_request;
 pub use interest::tell_interest;
+pub use requests::{has_block, request_blocks, request_of};
 pub use table::{Peer, Row};
