@@ -13,8 +13,8 @@ use std::alloc::{AllocError, Global};
 /// How many blocks a peer may be asked for at a time.
 const MAX_REQUESTS: usize = 16;
 
-/// The blocks that the peer is to be asked for: none where it chokes us or we are not interested, else the open
-/// ones in their order until it is asked for 16.
+/// The blocks that the peer is to be asked for: none where it chokes us or we are not interested, else the
+/// open ones in their order until it is asked for 16.
 pub fn open_blocks(alloc: Global, rows: &[Row], peer: &Peer) -> Result<Vec<BlockId>, AllocError>
     requires { length peer.now.asked.items ≤ max_requests }
     ensures { IfOk result (λ blocks. (s : EngineState) (p : PeerState) → IsTable s rows.now

@@ -28,4 +28,5 @@ pub use message::take_message;
 pub use news::{Announcement, announce, complete_files};
 pub use piece::{Effect, put_block};
 pub use requests::{request_blocks, request_of};
+pub use requests::{has_block, request_blocks, request_of};
 pub use table::{Peer, Row};

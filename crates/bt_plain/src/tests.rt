@@ -4,3 +4,4 @@
 mod asking;
 mod hashes;
 mod news;
+mod requests;
