@@ -1,6 +1,9 @@
 -- What a block that comes does, in plain values.
-use Rattle.std.specs.Prelude.{List, ℕ}
+use Rattle.std.specs.Prelude.{◌≡◌, ℕ, ◌*◌, List}
+use Rattle.bt_tree.specs.Limits.{full_block_length}
+use Rattle.bt_tree.specs.Blocks.{block_length}
 use Rattle.bt_disk.specs.Calls.{Call}
+use Rattle.bt_meta.specs.declared.torrent.Span.{Span}
 use Rattle.bt_book.specs.declared.names.BlockId.{BlockId}
 use Rattle.bt_store.specs.declared.block_states.BlockState.{BlockState}
 use Rattle.bt_engine.specs.State.{EngineState, FileState}
@@ -23,3 +26,9 @@ abbrev pub PutsBlock : (List ℕ → List ℕ) → EngineState → BlockId → L
 PutsBlock dig s b bytes file calls said states =
     Puts dig s b bytes (calls_at b.file calls) (effect_of said)
     (with_file s b.file (record file { states = states }))
+
+-- the span is this block of its file, and all of it, where the file has n bytes
+pub record IsAllOf (n : ℕ) (span : Span) (b : BlockId) : Type 0 where
+  pub file : span.file ≡ b.file
+  pub start : span.start ≡ full_block_length * b.block
+  pub whole : span.length ≡ block_length n b.block

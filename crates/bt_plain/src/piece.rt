@@ -1,16 +1,19 @@
-ghost use Rattle.std.specs.Prelude.{◌≡◌, List, Some, slice_get};
+ghost use Rattle.std.specs.Prelude.{◌≡◌, ◌+◌, ◌≤◌, IfNone, IfSome, List, Some, slice_get};
+ghost use Rattle.bt_tree.specs.Limits.{max_file_length};
 ghost use Rattle.bt_disk.specs.Calls.{Call, HasCalls};
 ghost use Rattle.bt_store.specs.Arrival.{IsBlock};
 ghost use Rattle.bt_engine.specs.State.{EngineState, FileState};
 ghost use Rattle.bt_engine.specs.Request.{IsFile};
-ghost use Rattle.bt_plain.specs.Piece.{PutsBlock};
+ghost use Rattle.bt_engine.specs.Spans.{IsWholeBlock};
+ghost use Rattle.bt_plain.specs.Piece.{PutsBlock, IsAllOf};
 
 use bt_book::BlockId;
 use bt_disk::Disk;
 use bt_engine::{Note, Why};
+use bt_meta::{Span, Torrent};
 use bt_sparse::SparseTree;
 use bt_store::{BlockState, FileStore, Put, StoreError};
-use bt_tree::NodeHash;
+use bt_tree::{BLOCK_LEN, NodeHash};
 
 /// What is said of a message that came.
 #[derive(Clone, Copy, Debug, PartialEq, Eq)]
@@ -42,4 +45,35 @@ pub fn put_block<D: Disk + Drop, H: NodeHash>(
         Err(StoreError::Range) => unreachable!(),
         Err(StoreError::Device) => Effect::Noted(Note::Device(block.file)),
     }
+}
+
+/// The block of which so many bytes of a piece, from the byte `begin` on, are all.
+pub fn block_of(torrent: &Torrent, piece: u32, begin: u32, length: u32) -> Option<BlockId>
+    ensures some { IfSome result (IsWholeBlock torrent.now piece begin length) }
+    ensures none { IfNone result ((b : BlockId) → ¬ IsWholeBlock torrent.now piece begin length b) }
+{
+    let Some(span) = torrent.place(piece, begin, length) else {
+        return None;
+    };
+    let files = torrent.files();
+    let file = &files[span.file as usize];
+    whole_block(span, file.length)
+}
+
+/// The block that a span of a file of so many bytes is, where it is one.
+fn whole_block(span: Span, file_length: u64) -> Option<BlockId>
+    requires inside { span.start + span.length ≤ file_length }
+    requires short { file_length ≤ max_file_length }
+    ensures some { IfSome result (IsAllOf file_length span) }
+    ensures none { IfNone result ((b : BlockId) → ¬ IsAllOf file_length span b) }
+{
+    let full = BLOCK_LEN as u64;
+    let is_whole = span.length as u64 == full.min(file_length - span.start);
+    if span.start % full != 0 || !is_whole {
+        return None;
+    }
+    Some(BlockId {
+        file: span.file,
+        block: (span.start / full) as u32,
+    })
 }
