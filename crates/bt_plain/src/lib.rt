@@ -8,5 +8,5 @@ mod piece;
 mod table;
 
 pub use message::take_message;
-pub use piece::{Effect, block_of, put_block};
+pub use piece::{Effect, block_of, put_block, take_piece};
 pub use table::{Peer, Row};
