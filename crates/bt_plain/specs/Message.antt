@@ -6,7 +6,7 @@ use Rattle.bt_engine.specs.declared.answer.Why.{Why}
 use Rattle.bt_engine.specs.State.{PeerState, EngineState}
 use Rattle.bt_engine.specs.Blocks.{with_peer}
 use Rattle.bt_engine.specs.Output.{Effect, no_effect, closing}
-use Rattle.bt_engine.specs.WireEvents.{HandlesMessage, HandlesHave}
+use Rattle.bt_engine.specs.WireEvents.{HandlesMessage, HandlesHave, HandlesBitfield}
 use Rattle.bt_plain.specs.Table.{as_told}
 use Rattle.bt_plain.specs.declared.table.Peer.{Peer}
 
@@ -18,7 +18,7 @@ IsOfPeer Unchoke = ⊤
 IsOfPeer Interested = ⊤
 IsOfPeer NotInterested = ⊤
 IsOfPeer (Have piece) = ⊤
-IsOfPeer (Bitfield bytes) = ⊥
+IsOfPeer (Bitfield bytes) = ⊤
 IsOfPeer (Request ask) = ⊥
 IsOfPeer (Piece piece begin bytes) = ⊥
 IsOfPeer (Cancel ask) = ⊤
@@ -39,3 +39,7 @@ TakesMessage dig s i p message peer closed =
 abbrev pub TakesHave : EngineState → ℕ → PeerState → ℕ → Peer → Option Why → Type 0
 TakesHave s i p piece peer closed =
     HandlesHave s i p piece (closing_if_any closed) (with_peer s i (as_told p peer))
+
+abbrev pub TakesBitfield : EngineState → ℕ → PeerState → List ℕ → Peer → Option Why → Type 0
+TakesBitfield s i p bytes peer closed =
+    HandlesBitfield s i p bytes (closing_if_any closed) (with_peer s i (as_told p peer))

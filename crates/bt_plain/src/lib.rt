@@ -29,4 +29,5 @@ pub use news::{Announcement, announce, complete_files};
 pub use piece::{Effect, put_block};
 pub use requests::{request_blocks, request_of};
 pub use requests::{has_block, request_blocks, request_of};
+pub use piece::{Effect, block_of, put_block, take_piece};
 pub use table::{Peer, Row};

@@ -1,8 +1,9 @@
-ghost use Rattle.std.specs.Prelude.{◌≡◌, ℕ, List, Some, length, slice_get};
+ghost use Rattle.std.specs.Prelude.{◌≡◌, ◌*◌, ◌<◌, ◌≤◌, ℕ, List, Some, false, length, slice_get, slice_index_or, take};
 ghost use Rattle.bt_meta.specs.Torrent.{total_pieces};
 ghost use Rattle.bt_engine.specs.State.{EngineState, PeerState};
 ghost use Rattle.bt_plain.specs.Table.{IsPeerOf};
-ghost use Rattle.bt_plain.specs.Message.{IsOfPeer, TakesMessage, TakesHave};
+ghost use Rattle.bt_engine.specs.WireEvents.{bits_in};
+ghost use Rattle.bt_plain.specs.Message.{IsOfPeer, TakesMessage, TakesHave, TakesBitfield};
 
 use crate::table::Peer;
 use bt_engine::Why;
@@ -37,6 +38,7 @@ pub fn take_message(peer: &mut Peer, message: &Message, pieces: u32) -> Option<W
             None
         }
         Message::Have(piece) => take_have(peer, *piece, pieces),
+        Message::Bitfield(bits) => take_bitfield(peer, bits.as_slice(), pieces),
         Message::Cancel(_) => None,
         _ => unreachable!(),
     }
@@ -53,4 +55,37 @@ fn take_have(peer: &mut Peer, piece: u32, pieces: u32) -> Option<Why>
     }
     peer.has[piece as usize] = true;
     None
+}
+
+/// Takes a bitfield: the peer has the pieces of which its bit says so. The bits after the last piece's say
+/// nothing, but there are as many bytes as the pieces need.
+fn take_bitfield(peer: &mut Peer, bytes: &[u8], pieces: u32) -> Option<Why>
+    requires { length peer.old.has.items ≡ pieces }
+    ensures { (s : EngineState) (i : ℕ) (p : PeerState) → slice_get s.peers i ≡ Some p
+        → IsPeerOf p peer.old → total_pieces s.torrent ≡ pieces
+        → TakesBitfield s i p bytes.now peer.new result }
+{
+    if bytes.len() != pieces.div_ceil(8) as usize {
+        return Some(Why::BadBitfield);
+    }
+    set_bits(&mut peer.has, bytes);
+    None
+}
+
+/// Sets each place to its bit.
+fn set_bits(has: &mut [bool], bytes: &[u8])
+    requires { length has.old ≤ 8 * length bytes.now }
+    ensures { has.new ≡ take (length has.old) (bits_in bytes.now) }
+{
+    for (piece, has_piece) in has.iter_mut().enumerate() {
+        *has_piece = bit(bytes, piece);
+    }
+}
+
+/// A bit, of which the high one of the first byte is the first.
+fn bit(bytes: &[u8], place: usize) -> bool
+    requires { place < 8 * length bytes.now }
+    ensures { result ≡ slice_index_or (bits_in bytes.now) place false }
+{
+    (bytes[place / 8] >> (7 - place % 8)) % 2 == 1
 }
