@@ -2,3 +2,4 @@ pub mod Table
 pub mod Interest
 pub mod Hashes
 pub mod HashRule
+pub mod Settling

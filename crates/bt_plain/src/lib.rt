@@ -5,6 +5,7 @@
 mod hash_rule;
 mod hashes;
 mod interest;
+mod settling;
 mod table;
 #[cfg(test)]
 mod tests;
@@ -12,4 +13,5 @@ mod tests;
 pub use hash_rule::hash_request;
 pub use hashes::answer_hash_request;
 pub use interest::tell_interest;
+pub use settling::settle_blocks;
 pub use table::{Peer, Row};

@@ -2,3 +2,4 @@
 //! carries no clause of theirs.
 
 mod hashes;
+mod settling;
