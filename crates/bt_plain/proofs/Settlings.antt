@@ -19,7 +19,7 @@ use Rattle.bt_engine.specs.State.{FileState, EngineState}
 use Rattle.bt_engine.specs.Devices.{calls_at, reads_at}
 use Rattle.bt_engine.specs.Blocks.{block_id, with_file}
 use Rattle.bt_engine.specs.Settling.{read_note, judged_file, due_blocks, Settles}
-use Rattle.bt_plain.specs.Settling.{HasOneFile, AreSettled, note_of}
+use Rattle.bt_plain.specs.Settling.{IsOnlyFile, AreSettled, note_of}
 
 -- ---- one block
 
@@ -171,7 +171,7 @@ module _ {D : Type 0} (history : D → History) (honest : D → Type 0) (faults 
   SettlesFile f from count new calls notes s files =
       Settles dig f.tree from count (record s { files = files }) calls notes (with_file (record s { files = files }) 0 (record f { states = new.states }))
 
-  pub settles_file : (s : EngineState) (f : FileState) (from count : ℕ) (old new : StoreView D) (notes : List Note) (fault : Bool) → HasOneFile s f k old.states
+  pub settles_file : (s : EngineState) (f : FileState) (from count : ℕ) (old new : StoreView D) (notes : List Note) (fault : Bool) → IsOnlyFile s f k old.states
       → k.file_length ≡ old.file_length → AreSettled history honest faults dig k (waiting_blocks dig k old.states from count) old notes fault new
       → (calls : List Call) × HasCalls history honest faults old.disk calls new.disk
       × Settles dig f.tree from count s (calls_at 0 calls) (notes ++ cond fault (Device 0 ∷ []) []) (with_file s 0 (record f { states = new.states }))

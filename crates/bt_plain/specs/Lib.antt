@@ -1,5 +1,11 @@
 pub mod Table
+pub mod Engine
 pub mod Interest
-pub mod Hashes
 pub mod HashRule
+pub mod FollowUp
+pub mod News
+pub mod Piece
+pub mod Message
+pub mod Hashes
+pub mod Asking
 pub mod Settling

@@ -12,7 +12,7 @@ use Rattle.bt_engine.specs.State.{FileState, EngineState}
 use Rattle.bt_engine.specs.Settling.{read_note}
 
 -- The engine has one file, with this tree and these states of its blocks.
-pub record HasOneFile (s : EngineState) (f : FileState) (k : Facts) (states : List BlockState) : Type 0 where
+pub record IsOnlyFile (s : EngineState) (f : FileState) (k : Facts) (states : List BlockState) : Type 0 where
   pub files : s.files ≡ f ∷ []
   pub hung : slice_get s.trees f.tree ≡ Some k
   pub states_are : f.states ≡ states

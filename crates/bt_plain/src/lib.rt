@@ -2,16 +2,26 @@
 //! it is that part. It is no part of the product.
 #![tactic(auto)]
 
+mod asking;
+mod engine;
 mod hash_rule;
 mod hashes;
 mod interest;
+mod message;
+mod news;
+mod piece;
 mod settling;
 mod table;
 #[cfg(test)]
 mod tests;
 
+pub use asking::open_blocks;
+pub use engine::{Engine, HashState, Member};
 pub use hash_rule::hash_request;
 pub use hashes::answer_hash_request;
 pub use interest::tell_interest;
+pub use message::take_message;
+pub use news::{Announcement, announce, complete_files};
+pub use piece::{Effect, put_block};
 pub use settling::settle_blocks;
 pub use table::{Peer, Row};

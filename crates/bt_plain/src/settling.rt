@@ -7,7 +7,7 @@ ghost use Rattle.bt_engine.specs.State.{EngineState, FileState};
 ghost use Rattle.bt_engine.specs.Devices.{calls_at};
 ghost use Rattle.bt_engine.specs.Blocks.{with_file};
 ghost use Rattle.bt_engine.specs.Settling.{Settles};
-ghost use Rattle.bt_plain.specs.Settling.{HasOneFile, AreSettled, note_of};
+ghost use Rattle.bt_plain.specs.Settling.{IsOnlyFile, AreSettled, note_of};
 
 use bt_book::BlockId;
 use bt_disk::Disk;
@@ -31,7 +31,7 @@ pub fn settle_blocks<D: Disk + Drop, H: NodeHash>(
     requires geometry { tree.now.file_length ≡ store.old.file_length }
     requires inside { from + count ≤ block_count store.old.file_length }
     ensures settles { IfOk result (λ notes. (s : EngineState) (f : FileState)
-        → HasOneFile s f tree.now store.old.states → (calls : List Call)
+        → IsOnlyFile s f tree.now store.old.states → (calls : List Call)
         × HasCalls D.history D.honest D.faults store.old.disk calls store.new.disk
         × Settles H.digest f.tree from count s (calls_at 0 calls) notes.items
         (with_file s 0 (record f { states = store.new.states }))) }

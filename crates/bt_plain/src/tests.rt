@@ -1,5 +1,7 @@
 //! One example of each part. Parts are called through functions without a contract, so that a test's proof
 //! carries no clause of theirs.
 
+mod asking;
 mod hashes;
+mod news;
 mod settling;

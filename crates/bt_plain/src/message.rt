@@ -1,0 +1,56 @@
+ghost use Rattle.std.specs.Prelude.{◌≡◌, ℕ, List, Some, length, slice_get};
+ghost use Rattle.bt_meta.specs.Torrent.{total_pieces};
+ghost use Rattle.bt_engine.specs.State.{EngineState, PeerState};
+ghost use Rattle.bt_plain.specs.Table.{IsPeerOf};
+ghost use Rattle.bt_plain.specs.Message.{IsOfPeer, TakesMessage, TakesHave};
+
+use crate::table::Peer;
+use bt_engine::Why;
+use bt_wire::Message;
+
+/// Takes a message that changes its peer alone, or nothing: none of those that ask for data or hashes, or
+/// bring them. It says why the peer is closed, which is then as it was.
+pub fn take_message(peer: &mut Peer, message: &Message, pieces: u32) -> Option<Why>
+    requires few { length peer.old.has.items ≡ pieces }
+    requires own { IsOfPeer message.now }
+    ensures { (dig : List ℕ → List ℕ) (s : EngineState) (i : ℕ) (p : PeerState) → slice_get s.peers i ≡ Some p
+        → IsPeerOf p peer.old → total_pieces s.torrent ≡ pieces
+        → TakesMessage dig s i p message.now peer.new result }
+{
+    match message {
+        Message::KeepAlive => None,
+        Message::Choke => {
+            peer.peer_choking = true;
+            peer.asked.clear();
+            None
+        }
+        Message::Unchoke => {
+            peer.peer_choking = false;
+            None
+        }
+        Message::Interested => {
+            peer.peer_interested = true;
+            None
+        }
+        Message::NotInterested => {
+            peer.peer_interested = false;
+            None
+        }
+        Message::Have(piece) => take_have(peer, *piece, pieces),
+        Message::Cancel(_) => None,
+        _ => unreachable!(),
+    }
+}
+
+/// Takes a have: the peer has one more piece, or names one that is not.
+fn take_have(peer: &mut Peer, piece: u32, pieces: u32) -> Option<Why>
+    requires { length peer.old.has.items ≡ pieces }
+    ensures { (s : EngineState) (i : ℕ) (p : PeerState) → slice_get s.peers i ≡ Some p
+        → IsPeerOf p peer.old → total_pieces s.torrent ≡ pieces → TakesHave s i p piece peer.new result }
+{
+    if piece >= pieces {
+        return Some(Why::BadPiece);
+    }
+    peer.has[piece as usize] = true;
+    None
+}
