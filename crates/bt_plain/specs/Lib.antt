@@ -10,3 +10,4 @@ pub mod Message
 pub mod Hashes
 pub mod Asking
 pub mod Requests
+pub mod Settling

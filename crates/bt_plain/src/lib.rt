@@ -13,6 +13,7 @@ mod message;
 mod news;
 mod piece;
 mod requests;
+mod settling;
 mod table;
 #[cfg(test)]
 mod tests;
@@ -30,4 +31,5 @@ pub use piece::{Effect, put_block};
 pub use requests::{request_blocks, request_of};
 pub use requests::{has_block, request_blocks, request_of};
 pub use piece::{Effect, block_of, put_block, take_piece};
+pub use settling::settle_blocks;
 pub use table::{Peer, Row};

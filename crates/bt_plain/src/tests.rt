@@ -5,3 +5,4 @@ mod asking;
 mod hashes;
 mod news;
 mod requests;
+mod settling;

@@ -1,0 +1,33 @@
+-- Blocks of the one file of an engine that are read back.
+use Rattle.std.specs.Prelude.{◌≡◌, ℕ, Bool, false, ◌||◌, nat_lt, if◌then◌else◌, List, [], ◌∷◌, map, Option, Some, None, slice_get}
+use Rattle.bt_disk.specs.History.{History}
+use Rattle.bt_sparse.specs.SparseTree.{Facts}
+use Rattle.bt_store.specs.FileStore.{StoreView}
+use Rattle.bt_store.specs.BlockReads.{BlockRead, IsJudged, fault_count}
+use Rattle.bt_store.specs.declared.block_states.BlockState.{BlockState}
+use Rattle.bt_book.specs.declared.names.BlockId.{BlockId}
+use Rattle.bt_engine.specs.declared.answer.Note.{Note}
+use Rattle.bt_engine.specs.declared.answer.Note.TheVariants.{Marked, Freed}
+use Rattle.bt_engine.specs.State.{FileState, EngineState}
+use Rattle.bt_engine.specs.Settling.{read_note}
+
+-- The engine has one file, with this tree and these states of its blocks.
+pub record IsOnlyFile (s : EngineState) (f : FileState) (k : Facts) (states : List BlockState) : Type 0 where
+  pub files : s.files ≡ f ∷ []
+  pub hung : slice_get s.trees f.tree ≡ Some k
+  pub states_are : f.states ≡ states
+
+-- these blocks of file 0 were read and judged; the notes say what became of each, and whether a read failed
+pub record AreSettled {D : Type 0} (history : D → History) (honest : D → Type 0) (faults : D → ℕ)
+    (dig : List ℕ → List ℕ) (k : Facts) (blocks : List ℕ) (old : StoreView D) (notes : List Note)
+    (failed : Bool) (new : StoreView D) : Type 0 where
+  pub reads : List BlockRead
+  pub judged : IsJudged history honest faults dig k false blocks old reads new
+  pub noted : notes ≡ map (read_note dig k 0) reads
+  pub fault : failed ≡ nat_lt 0 (fault_count reads)
+
+-- what became of a block of which so many reads were right, wrong and failed
+abbrev pub note_of : (marked freed faults : ℕ) → BlockId → Option Note
+note_of marked freed faults block =
+    if nat_lt 0 marked then Some (Marked block)
+    else (if nat_lt 0 freed || nat_lt 0 faults then Some (Freed block) else None)
