@@ -1,3 +1,4 @@
 pub mod Table
 pub mod Interest
 pub mod HashRule
+pub mod Serving

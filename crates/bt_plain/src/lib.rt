@@ -4,8 +4,10 @@
 
 mod hash_rule;
 mod interest;
+mod serving;
 mod table;
 
 pub use hash_rule::hash_request;
 pub use interest::tell_interest;
+pub use serving::{Served, serve};
 pub use table::{Peer, Row};
