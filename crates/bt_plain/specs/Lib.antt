@@ -11,3 +11,4 @@ pub mod Hashes
 pub mod Asking
 pub mod Requests
 pub mod Settling
+pub mod Serving

@@ -14,6 +14,7 @@ mod news;
 mod piece;
 mod requests;
 mod settling;
+mod serving;
 mod table;
 #[cfg(test)]
 mod tests;
@@ -32,4 +33,5 @@ pub use requests::{request_blocks, request_of};
 pub use requests::{has_block, request_blocks, request_of};
 pub use piece::{Effect, block_of, put_block, take_piece};
 pub use settling::settle_blocks;
+pub use serving::{Served, serve};
 pub use table::{Peer, Row};

@@ -1,0 +1,172 @@
+-- What a request for a range comes to is what the machine makes of it.
+use Rattle.bt_engine.proofs.Base.{◌≡◌, ℕ, ◌≤◌, ◌<◌, Bool, true, false, List, [], ◌∷◌, ◌++◌, map, Option, Some, None, Result, Ok, Err, refl, sym, ap, ◌∙◌, subst, arith, slice_get, slice_set, Contains, IsPlace, Span, Facts, BlockRead, call_of, BlockState, Missing, Marked, History, Metainfo, Ask, Piece, option_and_then}
+use Rattle.std.specs.Global.{Vec}
+use Rattle.bt_disk.specs.Calls.{Call, HasCalls}
+use Rattle.bt_disk.proofs.CallLists.{has_none}
+use Rattle.bt_store.specs.FileStore.{StoreView}
+use Rattle.bt_engine.proofs.Lists.{set_id, and_then_some, some_is, some_below}
+use Rattle.bt_engine.proofs.Machine.{PeerState, FileState, EngineState, block_id, state_at, with_file, with_peer, spanned_blocks, cut_from, Effect, noting, sending, calls_at, reads_at, ignored, no_place, not_marked, served, stopped, HandlesRequest, FindsFault, IsFile, Serves, StopsAtFault, AreMarked, with_payload}
+use Rattle.bt_engine.specs.Spans.{first_block}
+use Rattle.bt_engine.specs.declared.answer.Note.{Note}
+use Rattle.bt_engine.specs.declared.answer.Note.TheVariants.{Damaged, Device}
+use Rattle.bt_engine.specs.declared.answer.Why.TheVariants.{BadRequest}
+use Rattle.bt_engine.specs.Request.{damaged as machine_damaged, fault as machine_fault}
+use Rattle.bt_plain.specs.declared.serving.Served.{Served}
+use Rattle.bt_plain.specs.declared.serving.Served.TheVariants.{Nothing, Closed, Sent, Found}
+use Rattle.bt_plain.specs.Serving.{TellsServer, effect_of, peer_after, after_serving, Finds, damaged, fault, StopAtFault, IsMarkedSpan, SendsSpan, AnswersSpan}
+use Rattle.bt_plain.proofs.SpanReads.{spans_first}
+
+-- the calls of reads of the first file are its reads
+calls_are : (n : ℕ) (reads : List BlockRead) → calls_at 0 (map (call_of n) reads) ≡ reads_at 0 n reads
+calls_are n [] = refl
+calls_are n (read ∷ reads) = ap (λ cs. (0, call_of n read) ∷ cs) (calls_are n reads)
+
+-- a request comes to this, whatever else the engine holds
+abbrev pub IsServed : {D : Type 0} → (D → History) → (D → Type 0) → (D → ℕ) → (List ℕ → List ℕ) → Metainfo → Facts → (am_choking : Bool)
+    → Ask → (old new : StoreView D) → Served → Type 0
+IsServed history honest faults dig torrent k am_choking ask old new outcome =
+    (calls : List Call) × HasCalls history honest faults old.disk calls new.disk
+    × ((s : EngineState) (i : ℕ) (p : PeerState) (f : FileState) → TellsServer torrent k old.states am_choking s i p f
+    → HandlesRequest dig s i p ask (calls_at 0 calls) (effect_of p ask outcome) (after_serving s i p f new.states ask outcome))
+
+module _ {torrent : Metainfo} {k : Facts} {states : List BlockState} {am_choking : Bool} (s : EngineState) (i : ℕ) (p : PeerState) (f : FileState)
+    (tells : TellsServer torrent k states am_choking s i p f) where
+  -- the one file
+  file_there : (file : ℕ) → file ≡ 0 → slice_get s.files file ≡ Some f
+  file_there file e = rw (e, tells.one_file) refl
+
+  file_is : (file : ℕ) {g : FileState} → slice_get s.files file ≡ Some g → file ≡ 0
+  file_is file {g} e =
+      let below = some_below (f ∷ []) file (subst (λ fs. slice_get fs file ≡ Some g) tells.one_file e) in
+      omega arith
+
+  state_is : (file block : ℕ) → file ≡ 0 → state_at s (block_id file block) ≡ slice_get states block
+  state_is file block e =
+      ap (λ o. option_and_then (λ f. slice_get f.states block) o) (file_there file e) ∙ ap (λ l. slice_get l block) tells.same_states
+
+  marked_is : (span : Span) → 1 ≤ span.length → span.length ≤ 16384 → AreMarked s span → IsMarkedSpan states span
+  marked_is span some few are =
+      let there = and_then_some (λ f. slice_get f.states (first_block span)) (slice_get s.files span.file) (are (first_block span) (spans_first span some few)) in
+      let file = file_is span.file there.1 in
+      record { file = file; marked = λ b c. sym (state_is span.file b file) ∙ are b c }
+
+  is_marked : (span : Span) → IsMarkedSpan states span → AreMarked s span
+  is_marked span m b c = state_is span.file b m.file ∙ m.marked b c
+
+  -- the engine afterwards
+  same_peers : slice_set s.peers i p ≡ s.peers
+  same_peers = set_id s.peers i tells.here
+
+  abbrev engine_with : List FileState → List PeerState → EngineState
+  engine_with files peers = record s { files = files; peers = peers }
+
+  same_files : (new : List BlockState) → new ≡ states → record f { states = new } ∷ [] ≡ s.files
+  same_files new e = ap (λ l. let g : FileState = record f { states = l } in g ∷ []) (e ∙ sym tells.same_states) ∙ sym tells.one_file
+
+  with_peer_is : (new : List BlockState) (q : PeerState) → new ≡ states
+      → engine_with (record f { states = new } ∷ []) (slice_set s.peers i q) ≡ with_peer s i q
+  with_peer_is new q e = ap (λ files. engine_with files (slice_set s.peers i q)) (same_files new e)
+
+  nothing_is : (new : List BlockState) → new ≡ states → engine_with (record f { states = new } ∷ []) (slice_set s.peers i p) ≡ s
+  nothing_is new e = with_peer_is new p e ∙ ap (λ peers. engine_with s.files peers) same_peers
+
+  with_file_is : (new : List BlockState) (file block : ℕ) → file ≡ 0 → new ≡ slice_set states block Missing
+      → engine_with (record f { states = new } ∷ []) (slice_set s.peers i p) ≡ with_file s file (record f { states = slice_set f.states block Missing })
+  with_file_is new file block first e =
+      let g : FileState = record f { states = slice_set f.states block Missing } in
+      let e2 : new ≡ slice_set f.states block Missing = e ∙ ap (λ l. slice_set l block Missing) (sym tells.same_states) in
+      let files : slice_set s.files file g ≡ g ∷ [] = rw (first, tells.one_file) refl in
+      ap (λ l. let h : FileState = record f { states = l } in engine_with (h ∷ []) (slice_set s.peers i p)) e2
+      ∙ ap (λ peers. engine_with (g ∷ []) peers) same_peers
+      ∙ ap (λ fs. engine_with fs s.peers) (sym files)
+
+  finds_fault : (dig : List ℕ → List ℕ) (file block : ℕ) (read : BlockRead) (note : Note) (new : List BlockState) → file ≡ 0
+      → Finds dig k block read note states new
+      → FindsFault dig k s file block f read (noting note) (engine_with (record f { states = new } ∷ []) (slice_set s.peers i p))
+  finds_fault dig file block read note new first (damaged bytes e wrong note_is after) =
+      machine_damaged bytes e wrong (ap (λ n. noting n) note_is ∙ ap (λ n. noting (Damaged (block_id n block))) (sym first)) (with_file_is new file block first after)
+  finds_fault dig file block read note new first (fault e note_is after) =
+      machine_fault e (ap (λ n. noting n) note_is ∙ ap (λ n. noting (Device n)) (sym first)) (nothing_is new after)
+
+module _ {D : Type 0} (history : D → History) (honest : D → Type 0) (faults : D → ℕ) (dig : List ℕ → List ℕ) (torrent : Metainfo) (k : Facts) (ask : Ask) where
+  -- a peer that we choke
+  pub chokes : (am_choking : Bool) (old : StoreView D) → am_choking ≡ true → IsServed history honest faults dig torrent k am_choking ask old old Nothing
+  chokes am_choking old choking = (
+    [],
+    has_none history honest faults old.disk,
+    λ s i p f tells. ignored (tells.choking ∙ choking) refl refl (nothing_is s i p f tells old.states refl),
+  )
+
+  -- a range that no block has
+  pub refuses : (am_choking : Bool) (old : StoreView D) → am_choking ≡ false → ((span : Span) → ¬ IsPlace torrent ask.piece ask.begin ask.length span)
+      → IsServed history honest faults dig torrent k am_choking ask old old (Closed BadRequest)
+  refuses am_choking old open_to none = (
+    [],
+    has_none history honest faults old.disk,
+    λ s i p f tells. no_place (tells.choking ∙ open_to) (λ span place. none span (subst (λ t. IsPlace t ask.piece ask.begin ask.length span) tells.same_torrent place)) refl refl (nothing_is s i p f tells old.states refl),
+  )
+
+  module _ (am_choking : Bool) (old new : StoreView D) (open_to : am_choking ≡ false) (span : Span) (place : IsPlace torrent ask.piece ask.begin ask.length span) where
+    place_in : (s : EngineState) → s.torrent ≡ torrent → IsPlace s.torrent ask.piece ask.begin ask.length span
+    place_in s e = subst (λ t. IsPlace t ask.piece ask.begin ask.length span) (sym e) place
+
+    some : 1 ≤ span.length
+    some = omega arith
+
+    few : span.length ≤ 16384
+    few = omega arith
+
+    ignores : ¬ IsMarkedSpan old.states span → new ≡ old → IsServed history honest faults dig torrent k am_choking ask old new Nothing
+    ignores un same = (
+      [],
+      subst (λ v. HasCalls history honest faults old.disk [] v.disk) (sym same) (has_none history honest faults old.disk),
+      λ s i p f tells. not_marked span (tells.choking ∙ open_to) (place_in s tells.same_torrent) (λ are. un (marked_is s i p f tells span some few are)) refl refl (nothing_is s i p f tells new.states (ap (λ (v : StoreView D). v.states) same)),
+    )
+
+    sends : (bytes : Vec ℕ) → IsMarkedSpan old.states span → SendsSpan history honest faults dig k span bytes.items old new
+        → IsServed history honest faults dig torrent k am_choking ask old new (Sent bytes)
+    sends bytes m r = (
+      map (call_of k.file_length) r.reads,
+      r.calls,
+      λ s i p f tells. served span (tells.choking ∙ open_to) (place_in s tells.same_torrent) (is_marked s i p f tells span m) (record {
+        file = f;
+        tree = k;
+        bytes = r.bytes;
+        reads = r.reads;
+        is_file = record { here = file_there s i p f tells span.file m.file; hung = tells.hung };
+        right = r.right;
+        made = calls_are k.file_length r.reads ∙ ap (λ file. reads_at file k.file_length r.reads) (sym m.file);
+        sent = ap (λ l. sending p (Piece ask.piece ask.begin l)) r.cut;
+        after = with_peer_is s i p f tells new.states (with_payload ask.length p) (ap (λ (v : StoreView D). v.states) r.others) ∙ ap (λ n. with_peer s i (with_payload n p)) (sym place.all);
+      }),
+    )
+
+    stops : (note : Note) → IsMarkedSpan old.states span → StopAtFault history honest faults dig k (spanned_blocks span) note old new
+        → IsServed history honest faults dig torrent k am_choking ask old new (Found note)
+    stops note m r = (
+      map (call_of k.file_length) (r.reads ++ r.read ∷ []),
+      r.calls,
+      λ s i p f tells. stopped span (tells.choking ∙ open_to) (place_in s tells.same_torrent) (is_marked s i p f tells span m) (record {
+        file = f;
+        tree = k;
+        before = r.before;
+        block = r.block;
+        after = r.after;
+        bytes = r.bytes;
+        reads = r.reads;
+        read = r.read;
+        is_file = record { here = file_there s i p f tells span.file m.file; hung = tells.hung };
+        blocks = r.parts;
+        right = r.right;
+        finds = finds_fault s i p f tells dig span.file r.block r.read note new.states m.file r.finds;
+        made = calls_are k.file_length (r.reads ++ r.read ∷ []) ∙ ap (λ file. reads_at file k.file_length (r.reads ++ r.read ∷ [])) (sym m.file);
+      }),
+    )
+
+    -- whatever a request for a span comes to
+    pub is_served : (outcome : Served) → AnswersSpan history honest faults dig k span old new outcome
+        → IsServed history honest faults dig torrent k am_choking ask old new outcome
+    is_served Nothing a = ignores a.0 a.1
+    is_served (Closed why) a = absurd a
+    is_served (Sent bytes) a = sends bytes a.0 a.1
+    is_served (Found note) a = stops note a.0 a.1
