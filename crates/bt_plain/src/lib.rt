@@ -2,6 +2,7 @@
 //! it is that part. It is no part of the product.
 #![tactic(auto)]
 
+mod block_rows;
 mod engine;
 mod hash_rule;
 mod hashes;
@@ -13,6 +14,7 @@ mod table;
 #[cfg(test)]
 mod tests;
 
+pub use block_rows::rows_of;
 pub use engine::{Engine, HashState, Member};
 pub use hash_rule::hash_request;
 pub use hashes::answer_hash_request;

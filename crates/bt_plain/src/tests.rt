@@ -1,5 +1,6 @@
 //! One example of each part. Parts are called through functions without a contract, so that a test's proof
 //! carries no clause of theirs.
 
+mod block_rows;
 mod hashes;
 mod news;
