@@ -1,5 +1,6 @@
 pub mod Table
 pub mod Engine
+pub mod BlockRows
 pub mod Interest
 pub mod HashRule
 pub mod AfterRules

@@ -5,6 +5,7 @@
 mod after_rules;
 mod answering;
 mod asking;
+mod block_rows;
 mod engine;
 mod hash_rule;
 mod hashes;
@@ -22,6 +23,7 @@ mod tests;
 pub use after_rules::follow_up;
 pub use answering::{Answered, answer_event};
 pub use asking::open_blocks;
+pub use block_rows::rows_of;
 pub use engine::{Engine, HashState, Member};
 pub use hash_rule::hash_request;
 pub use hashes::answer_hash_request;

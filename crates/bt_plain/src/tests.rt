@@ -2,6 +2,7 @@
 //! carries no clause of theirs.
 
 mod asking;
+mod block_rows;
 mod hashes;
 mod news;
 mod requests;
