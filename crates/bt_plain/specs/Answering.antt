@@ -25,7 +25,7 @@ pub record AreTold (before after : EngineState) (torrent : Metainfo) (k : Facts)
   pub count : length after.files ≡ file_count
   pub keys : map (λ p. p.key) after.peers ≡ peers
   pub here : slice_get after.peers i ≡ Some p
-  pub member : IsMember p member
+  pub is_member : IsMember p member
   pub no_log : after.logged ≡ false
 
 -- what the event did by itself, then the haves, then what follows for the peer; its notes, then complete files

@@ -16,13 +16,13 @@ use crate::asking::open_blocks;
 use crate::engine::{HashState, Member};
 use crate::hash_rule::hash_request;
 use crate::interest::tell_interest;
-use crate::requests::request_blocks;
+use crate::requests::{has_block, request_blocks};
 use crate::table::Row;
 use bt_book::BlockId;
 use bt_hashreq::HashKey;
 use bt_meta::Torrent;
 use bt_sparse::SparseTree;
-use bt_tree::{BLOCK_LEN, NodeHash};
+use bt_tree::NodeHash;
 use bt_wire::Message;
 use std::alloc::{AllocError, Global};
 
@@ -101,15 +101,5 @@ fn requests_of(
 fn are_blocks(torrent: &Torrent, blocks: &[BlockId]) -> bool
     ensures { IsTrue result ↔ All (IsBlockOf torrent.now) blocks.now }
 {
-    blocks.iter().all(|block| is_block(torrent, *block))
-}
-
-/// Whether the torrent has the file, and the file the block.
-fn is_block(torrent: &Torrent, block: BlockId) -> bool
-    ensures { IsTrue result ↔ IsBlockOf torrent.now block }
-{
-    match torrent.files().get(block.file as usize) {
-        Some(file) => (block.block as u64) < file.length.div_ceil(BLOCK_LEN as u64),
-        None => false,
-    }
+    blocks.iter().all(|block| has_block(torrent, *block))
 }

@@ -1,5 +1,6 @@
 //! Parts of one step of the machine of `bt_engine`, computed plainly and slowly, each with the contract that
-//! it is that part. It is no part of the product.
+//! it is that part; and what is answered to a wire event, with the contract that it is a step. It is no part
+//! of the product.
 #![tactic(auto)]
 
 mod after_rules;
@@ -14,8 +15,8 @@ mod message;
 mod news;
 mod piece;
 mod requests;
-mod settling;
 mod serving;
+mod settling;
 mod table;
 #[cfg(test)]
 mod tests;
@@ -30,10 +31,8 @@ pub use hashes::answer_hash_request;
 pub use interest::tell_interest;
 pub use message::take_message;
 pub use news::{Announcement, announce, complete_files};
-pub use piece::{Effect, put_block};
-pub use requests::{request_blocks, request_of};
-pub use requests::{has_block, request_blocks, request_of};
 pub use piece::{Effect, block_of, put_block, take_piece};
-pub use settling::settle_blocks;
+pub use requests::{has_block, request_blocks, request_of};
 pub use serving::{Served, serve};
+pub use settling::settle_blocks;
 pub use table::{Peer, Row};

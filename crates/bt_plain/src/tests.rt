@@ -6,4 +6,5 @@ mod block_rows;
 mod hashes;
 mod news;
 mod requests;
+mod serving;
 mod settling;
