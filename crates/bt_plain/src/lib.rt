@@ -11,3 +11,6 @@ pub use hash_rule::hash_request;
 pub use interest::tell_interest;
 pub use serving::{Served, serve};
 pub use table::{Peer, Row};
+
+#[cfg(test)]
+mod tests;
