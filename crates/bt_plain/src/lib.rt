@@ -6,11 +6,10 @@ mod hash_rule;
 mod interest;
 mod serving;
 mod table;
+#[cfg(test)]
+mod tests;
 
 pub use hash_rule::hash_request;
 pub use interest::tell_interest;
 pub use serving::{Served, serve};
 pub use table::{Peer, Row};
-
-#[cfg(test)]
-mod tests;

@@ -1,5 +1,5 @@
-//! Requests to an engine whose one file has two blocks, of ones and of twos, in one piece. It is called through
-//! functions without a contract, so that a test's proof carries no clause of its calls.
+//! Requests to an engine whose one file has two blocks, of ones and of twos, in one piece. It is called
+//! through functions without a contract, so that a test's proof carries no clause of its calls.
 ghost use Rattle.std.specs.Prelude.{◌≡◌};
 ghost use Rattle.std.specs.Bool.{OnTrue};
 
