@@ -11,8 +11,8 @@ use bt_sparse::SparseTree;
 use bt_store::BlockState;
 use bt_tree::NodeHash;
 
-/// The hash request that a peer is sent: while it may be sent one, for the least block that is not marked, in a
-/// piece that the peer has, and whose leaf is unknown. All files have the one tree.
+/// The hash request that a peer is sent: while it may be sent one, for the least block that is not marked, in
+/// a piece that the peer has, and whose leaf is unknown. All files have the one tree.
 pub fn hash_request<H: NodeHash>(
     rows: &[Row],
     tree: &SparseTree<H>,
