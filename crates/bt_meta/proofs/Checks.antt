@@ -1,7 +1,6 @@
 -- What a list of checks answers.
-use Rattle.std.proofs.Common.{◌≡◌, Bool, true, false, List, [], ◌∷◌, ◌++◌, Option, None, Some, refl}
-use Rattle.std.specs.Prelude.{not, ⊤}
-use Rattle.bt_meta.specs.Faults.{first_of, fault_if}
+use Rattle.bt_meta.proofs.Base.{◌≡◌, Bool, true, false, List, [], ◌∷◌, ◌++◌, Option, None, Some, refl, not, first_of, fault_if}
+use Rattle.std.specs.Prelude.{⊤}
 
 module _ {E : Type 0} where
   pub first_of-append : (xs ys : List (Option E)) → first_of xs ≡ None → first_of (xs ++ ys) ≡ first_of ys

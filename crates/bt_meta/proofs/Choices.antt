@@ -1,6 +1,5 @@
 -- What a choice by a test says.
-use Rattle.std.proofs.Common.{◌≡◌, Bool, true, false, None, Some, refl}
-use Rattle.std.specs.Prelude.{if◌then◌else◌}
+use Rattle.bt_meta.proofs.Base.{◌≡◌, Bool, true, false, None, Some, refl, if◌then◌else◌}
 
 pub test_of_some : {A : Type 0} (test : Bool) (x y : A) → Some y ≡ (if test then Some x else None) → (test ≡ true) × (y ≡ x)
 test_of_some true x y e = (refl, cc)

@@ -1,22 +1,11 @@
 -- What dictionaries have.
-use Rattle.std.proofs.Common.{◌≡◌, ◌⊎◌, inl, inr, ℕ, ℤ, Bool, true, false, List, [], ◌∷◌, ◌++◌, length, Option, None, Some, refl, sym, ap, ◌∙◌, arith}
-use Rattle.std.specs.Prelude.{codes, unwrap_or, nat_eq, not, ◌&&◌, ◌||◌, ◌==◌}
-use Rattle.std.specs.Option.{option_and_then}
-use Rattle.std.specs.Cmp.Lexicographic.{pointwise}
-use Rattle.std.specs.Global.{Vec}
-use Rattle.std.proofs.lemmas.List.{append-nil}
-use Rattle.std.proofs.lemmas.Bool.{cases_Bool}
-use Rattle.std.proofs.lemmas.Bool.Decides.{nat_tests}
-use Rattle.bt_bencode.specs.Value.{Data, integer, string, list, dictionary, Entries, no_entries, entry, data_of, entries_of}
-use Rattle.bt_bencode.specs.Dictionary.{field_of, first_value_of}
-use Rattle.bt_bencode.specs.Doc.{HasAscendingKeys, EntriesAscend}
-use Rattle.bt_bencode.proofs.ValueData.{data_of-Int, data_of-Bytes, data_of-List, data_of-Dict}
+use Rattle.bt_meta.proofs.Base.{◌≡◌, ◌⊎◌, inl, inr, ℕ, Bool, true, false, List, [], ◌∷◌, ◌++◌, length, Option, None, Some, refl, sym, ap, ◌∙◌, arith, codes, unwrap_or, nat_eq, not, ◌&&◌, ◌||◌, ◌==◌, option_and_then, pointwise, Vec, append-nil, cases_Bool, nat_tests, Data, integer, string, list, dictionary, Entries, no_entries, entry, data_of, entries_of, first_value_of, HasAscendingKeys, EntriesAscend, data_of-Bytes, data_of-Dict, Value, as_dictionary, has_key, dictionary_at, string_at, no_dictionary, tree_entries_below, tree_entries_among, is_node, layers_of, tree_entries_of}
+use Rattle.std.proofs.Common.{ℤ}
+use Rattle.bt_bencode.specs.Dictionary.{field_of}
+use Rattle.bt_bencode.proofs.ValueData.{data_of-Int, data_of-List}
+use Rattle.bt_bencode.specs.declared.value.Value.{Int, Bytes}
+use Rattle.bt_meta.specs.Fields.{entries_in, is_dictionary, is_single}
 use Rattle.bt_bencode.specs.declared.value.Value.TheViews as views
-use Rattle.bt_bencode.specs.declared.value.Value.{Value, Int, Bytes}
-use Rattle.bt_meta.specs.Fields.{as_dictionary, has_key, dictionary_at, string_at, entries_in, no_dictionary, is_dictionary, is_single}
-use Rattle.bt_meta.specs.TreeEntries.{tree_entries_below, tree_entries_among}
-use Rattle.bt_meta.specs.Faults.{is_node, layers_of}
-use Rattle.bt_meta.specs.WalkSteps.{tree_entries_of}
 
 -- ---- entries of a file tree
 

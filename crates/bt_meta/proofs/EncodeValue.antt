@@ -1,34 +1,17 @@
 -- The value of files in tree order: its tree, and its layers by their roots.
-use Rattle.std.proofs.Common.{◌≡◌, ◌⊎◌, ℕ, false, List, [], ◌∷◌, ◌++◌, length, arith, refl, sym, ap, ◌∙◌, inl, inr, Some, None, subst, zero, suc, ◌+◌, ◌<◌, ◌≤◌, Bool, true, map, add-one, Option, Result, Ok, Err, IfOk}
-use Rattle.std.specs.Prelude.{nat_eq, take, get_or, ◌&&◌, is_some, nat_lt, if◌then◌else◌, cond}
-use Rattle.std.specs.Global.{Vec}
-use Rattle.std.specs.Ordering.{nat_cmp, is_eq, ordering_reverse}
-use Rattle.std.specs.Cmp.Lexicographic.{slice_cmp, pointwise, nat_list_cmp_total}
-use Rattle.std.specs.declared.cmp.Ordering.{Ordering}
-use Rattle.std.specs.declared.cmp.Ordering.TheVariants.{Equal, Greater, Less}
-use Rattle.std.proofs.lemmas.Cmp.{tied_itself}
-use Rattle.std.proofs.lemmas.Map.Text.{is_eq-slice_cmp}
-use Rattle.std.proofs.lemmas.Bool.{true≢false, cases_Bool, and_parts, false_from_ne_true}
-use Rattle.std.proofs.lemmas.Map.Lookups.{exact_bytes}
-use Rattle.std.proofs.lemmas.Slice.Eq.{bytes_eq-Decides}
-use Rattle.std.specs.Borrow.{Bor}
-use Rattle.std.specs.List.{fold, All}
+use Rattle.bt_meta.proofs.Base.{◌≡◌, ◌⊎◌, ℕ, false, List, [], ◌∷◌, ◌++◌, length, arith, refl, sym, ap, ◌∙◌, inl, inr, Some, None, subst, zero, suc, ◌+◌, ◌<◌, ◌≤◌, Bool, true, map, add-one, Option, Result, Ok, Err, IfOk, nat_eq, take, get_or, ◌&&◌, nat_lt, if◌then◌else◌, cond, Vec, nat_cmp, is_eq, ordering_reverse, slice_cmp, pointwise, nat_list_cmp_total, Ordering, Equal, Greater, Less, tied_itself, is_eq-slice_cmp, true≢false, cases_Bool, and_parts, false_from_ne_true, exact_bytes, bytes_eq-Decides, Bor, All, take_more, take_all, get_or-map, length-map, option_map, Data, dictionary, Entries, no_entries, entry, data_of, entries_of, string, first_value_of, Value, EntriesAscend, HasAscendingKeys, with_file, properties_made, tree_made, first_layer, AreLayersOf, entries_before, AreBefore, ComesAfter, is_nonempty, AreNonEmpty, given_at, HasFirstLayers, path_order, begins, Given, HaveTreePaths, Made}
+use Rattle.std.specs.Prelude.{is_some}
+use Rattle.std.specs.List.{fold}
 use Rattle.std.proofs.lemmas.List.Elements.{All-get_or}
-use Rattle.std.proofs.lemmas.List.{take_more, take_all, get_or_default, get_or-map, length-map}
+use Rattle.std.proofs.lemmas.List.{get_or_default}
 use Rattle.std.proofs.lemmas.List.Sums.{fold_push}
-use Rattle.std.specs.Option.{option_map, option_or}
+use Rattle.std.specs.Option.{option_or}
 use Rattle.std.specs.List.Sorted.{IsStrictlySortedBy}
 use Rattle.std.specs.Map.{keys_of, lookup}
 use Rattle.std.specs.BTreeMap.{BTreeMap, get, is_at}
 use Rattle.std.proofs.lemmas.List.Folds.{find-append}
-use Rattle.bt_bencode.specs.Value.{Data, dictionary, Entries, no_entries, entry, data_of, entries_of, string}
-use Rattle.bt_bencode.specs.Dictionary.{first_value_of}
-use Rattle.bt_bencode.specs.declared.value.Value.{Value}
-use Rattle.bt_bencode.specs.Doc.{EntriesAscend, HasAscendingKeys}
-use Rattle.bt_meta.specs.Encode.{with_entry, with_file, properties_made, tree_made, first_layer, AreLayersOf}
-use Rattle.bt_meta.specs.EncodeSteps.{entries_before, AreBefore, ComesAfter, HasLastFolder, is_nonempty, AreNonEmpty, given_at, HasFirstLayers}
-use Rattle.bt_meta.specs.GivenFiles.{path_order, begins, Given, HaveTreePaths}
-use Rattle.bt_meta.specs.declared.writer.Made.{Made}
+use Rattle.bt_meta.specs.Encode.{with_entry}
+use Rattle.bt_meta.specs.EncodeSteps.{HasLastFolder}
 
 -- ==== the entries of a folder, and a file put behind them
 

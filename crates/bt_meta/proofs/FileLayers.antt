@@ -1,42 +1,21 @@
 -- The layers of the files of a torrent that is read.
-use Rattle.std.proofs.Common.{◌≡◌, ℕ, zero, suc, ◌<◌, false, List, [], ◌∷◌, length, get_or, None, Some, Err, refl, sym, ◌∙◌, arith, add-one, inl, inr, ◌+◌, ◌-◌, ◌≤◌, true, ◌++◌, take, drop, set, map, ap}
-use Rattle.std.specs.Prelude.{nat_eq, filter, sum_by}
-use Rattle.std.specs.Global.{Vec}
+use Rattle.bt_meta.proofs.Base.{◌≡◌, ℕ, zero, suc, ◌<◌, false, List, [], ◌∷◌, length, get_or, None, Some, Err, refl, sym, ◌∙◌, arith, add-one, inl, inr, ◌+◌, ◌-◌, ◌≤◌, true, ◌++◌, take, drop, map, ap, nat_eq, filter, sum_by, Vec, IsSortedBy, nat_cmp, is_lt, pointwise, slice_cmp, Ordering, Less, Equal, cases_lt, false_from_ne_true, nat_list_cmp_total, tied_itself, exact_bytes, bytes_eq-Decides, map-append, take_more, drop_more, map_push, take_all, get_or-map, length-map, sum_by-cons, sha256, Data, Entries, entry, data_of, entries_of, first_value_of, EntriesAscend, IsBefore, Value, max_file_length, file_of, File, is_file, file_at, files_of, piece_count, FileEntry, has_layer_size, has_root, first_of, layer_check, layer_checks, with_layer, layer_faults, MetaError, LayerSize, LayerDiffers, no_dictionary, TreeEntry, tree_entries_below, with_earlier}
+use Rattle.std.proofs.Common.{set}
 use Rattle.std.specs.List.{HoldsAt}
-use Rattle.std.specs.List.Sorted.{IsSortedBy, IsBinarySearchResult}
-use Rattle.std.specs.Ordering.{nat_cmp, is_lt}
-use Rattle.std.specs.Cmp.Lexicographic.{pointwise, slice_cmp}
-use Rattle.std.specs.declared.cmp.Ordering.{Ordering}
-use Rattle.std.specs.declared.cmp.Ordering.TheVariants.{Less, Equal}
-use Rattle.std.proofs.lemmas.Bool.{cases_lt, false_from_ne_true, ne_eqb, eq-eqb}
-use Rattle.std.proofs.lemmas.Cmp.{nat_list_cmp_total, tied_itself}
+use Rattle.std.specs.List.Sorted.{IsBinarySearchResult}
+use Rattle.std.proofs.lemmas.Bool.{ne_eqb, eq-eqb}
 use Rattle.std.proofs.lemmas.List.Sorted.{searchable_from_sorted}
-use Rattle.std.proofs.lemmas.Map.Lookups.{exact_bytes}
-use Rattle.std.proofs.lemmas.Slice.Eq.{bytes_eq-Decides}
-use Rattle.std.proofs.lemmas.List.{map-append, take_more, take_more_set, drop_more, drop-set-lt, map_push, take_all, get_or-map, length-map}
-use Rattle.std.proofs.lemmas.List.Sums.{sum_by-cons}
-use Rattle.sha2.specs.Sha256.{sha256}
-use Rattle.bt_bencode.specs.Value.{Data, Entries, entry, data_of, entries_of}
-use Rattle.bt_bencode.specs.Dictionary.{first_value_of}
-use Rattle.bt_bencode.specs.Doc.{EntriesAscend, IsBefore}
-use Rattle.bt_bencode.specs.declared.value.Value.{Value}
-use Rattle.bt_tree.specs.Limits.{max_file_length}
+use Rattle.std.proofs.lemmas.List.{take_more_set, drop-set-lt}
 use Rattle.bt_tree.specs.Blocks.{block_count}
 use Rattle.bt_tree.specs.TreeShape.{height_of, IsHeight}
 use Rattle.bt_tree.proofs.TreeShape.{height_is}
 use Rattle.bt_tree.specs.Layers.{fold_of, layer_digests, HasLayerSize, IsLayer}
-use Rattle.bt_meta.specs.Files.{file_of, File, is_file, file_at, files_of, piece_count}
-use Rattle.bt_meta.specs.declared.torrent.FileEntry.{FileEntry}
-use Rattle.bt_meta.specs.Layers.{piece_layer_of, has_layer_size, has_root}
-use Rattle.bt_meta.specs.Faults.{Check, first_of, layer_check, layer_checks}
+use Rattle.bt_meta.specs.Layers.{piece_layer_of}
+use Rattle.bt_meta.specs.Faults.{Check}
 use Rattle.bt_meta.specs.ReaderSteps.{Refuses, AreShort, pieces_in}
-use Rattle.bt_meta.specs.LayerSteps.{layer_bytes_fault, with_layer, layer_faults}
-use Rattle.bt_meta.specs.declared.error.MetaError.{MetaError}
-use Rattle.bt_meta.specs.declared.error.MetaError.TheVariants.{LayerSize, LayerDiffers}
+use Rattle.bt_meta.specs.LayerSteps.{layer_bytes_fault}
 use Rattle.bt_meta.proofs.Checks.{first_of-append}
 use Rattle.bt_meta.proofs.Lists.{parts_at}
-use Rattle.bt_meta.specs.Fields.{no_dictionary}
-use Rattle.bt_meta.specs.TreeEntries.{TreeEntry, tree_entries_below, with_earlier}
 
 -- ==== looking up a key among ascending ones
 

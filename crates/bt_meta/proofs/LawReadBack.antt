@@ -1,18 +1,13 @@
 -- What bytes that spell a torrent are read as.
-use Rattle.std.proofs.Common.{◌≡◌, ◌≢◌, ℕ, ◌≤◌, ◌^◌, List, [], ◌++◌, length, None, Some, refl, sym, ap, ◌∙◌, arith}
-use Rattle.bt_bencode.specs.Value.{Data}
-use Rattle.bt_bencode.specs.Spelling.{spelling_of}
-use Rattle.bt_bencode.specs.Doc.{IsCanonical}
+use Rattle.bt_meta.proofs.Base.{◌≡◌, ◌≢◌, ℕ, ◌≤◌, ◌^◌, List, [], ◌++◌, length, None, Some, refl, sym, ap, ◌∙◌, arith, Data, spelling_of, IsCanonical, first_fault, info_of, layers_of, no_spelling, faulty, metainfo_of}
 use Rattle.bt_bencode.specs.Law.{IsRepresentable}
 use Rattle.bt_bencode.specs.Error.{AtFault}
 use Rattle.bt_bencode.specs.declared.error.BencodeError.{BencodeError}
 use Rattle.bt_bencode.specs.declared.error.BencodeError.TheVariants.{Truncated, BadByte, LeadingZero, IntRange, KeyOrder, TooDeep, Trailing, OutOfMemory as no_memory_left}
 use Rattle.bt_bencode.proofs.ReadingLaws.{begins_once}
 use Rattle.bt_bencode.proofs.Representable.{representable}
-use Rattle.bt_meta.specs.Faults.{first_fault, info_of, layers_of}
 use Rattle.bt_meta.specs.Error.{refusal_of}
-use Rattle.bt_meta.specs.Reader.{no_memory, too_long, no_spelling, faulty}
-use Rattle.bt_meta.specs.Torrent.{metainfo_of}
+use Rattle.bt_meta.specs.Reader.{no_memory, too_long}
 use Rattle.bt_meta.specs.Law.{SpellsOneTorrent, IsRefusedForMemoryAlone}
 use Rattle.bt_meta.specs.declared.error.MetaError.TheVariants.{OutOfMemory}
 

@@ -1,3 +1,5 @@
+-- the names that several proofs cite
+pub mod Base
 -- lists of checks, choices by a test, dictionaries
 pub mod Checks
 pub mod Choices

@@ -1,10 +1,6 @@
 -- Facts of lists.
-use Rattle.std.proofs.Common.{◌≡◌, Bool, false, List, [], ◌∷◌, ◌++◌, suc, arith, ℕ, ◌+◌, ◌<◌, length, take, drop, get_or, sym, ap, ◌∙◌}
-use Rattle.std.specs.List.{All, AllPairs, list_any}
-use Rattle.std.proofs.lemmas.Bool.{or_parts}
-use Rattle.std.proofs.lemmas.List.{drop_more, take-append-drop}
-use Rattle.std.proofs.lemmas.List.Elements.{All-nil, All-cons, All-head, All-tail, All-append}
-use Rattle.std.proofs.lemmas.List.Kept.{AllPairs-cons}
+use Rattle.bt_meta.proofs.Base.{◌≡◌, Bool, false, List, [], ◌∷◌, ◌++◌, suc, arith, ℕ, ◌+◌, ◌<◌, length, take, drop, get_or, sym, ap, ◌∙◌, All, AllPairs, list_any, or_parts, drop_more, All-nil, All-cons, All-head, All-tail, All-append, AllPairs-cons}
+use Rattle.std.proofs.lemmas.List.{take-append-drop}
 
 module _ {A : Type 0} (P : A → Type 0) where
   pub All-front : (xs ys : List A) → All P (xs ++ ys) → All P xs

@@ -1,36 +1,16 @@
 -- What is made of lawful files is a torrent, and gives them back.
-use Rattle.std.proofs.Common.{subst, get_or, ◌≡◌, ◌≢◌, ℕ, ◌≤◌, Bool, true, false, List, [], ◌∷◌, ◌++◌, length, map, None, refl, sym, ap, ◌∙◌, arith, inl, inr, append_assoc, length-append, Option, Some}
-use Rattle.std.specs.Prelude.{filter, nat_lt, not, ◌&&◌, ◌||◌, ◌==◌, sum_by, codes, nat_eq, unwrap_or, if◌then◌else◌}
-use Rattle.std.specs.List.{All, list_any}
-use Rattle.std.proofs.lemmas.Bool.{cases_Bool, true≢false, and_parts}
-use Rattle.std.proofs.lemmas.Bool.Decides.{nat_tests}
-use Rattle.std.proofs.lemmas.List.{length-map, map_push}
-use Rattle.std.proofs.lemmas.List.Elements.{All-head, All-map, filter-append, All-tail}
+use Rattle.bt_meta.proofs.Base.{subst, get_or, ◌≡◌, ◌≢◌, ℕ, ◌≤◌, Bool, true, false, List, [], ◌∷◌, ◌++◌, length, map, None, refl, sym, ap, ◌∙◌, arith, inl, inr, append_assoc, length-append, Option, Some, filter, nat_lt, not, ◌&&◌, ◌||◌, ◌==◌, sum_by, codes, nat_eq, unwrap_or, if◌then◌else◌, All, list_any, cases_Bool, true≢false, and_parts, nat_tests, length-map, map_push, All-head, filter-append, All-tail, sum_by-append, sum_by-cons, option_map, option_and_then, pointwise, All-permutation, length_permutation, bytes_eq-Decides, dictionary, Entries, Data, string, spelling_of, max_path_length, max_file_count, max_piece_count, max_text_length, has_key, integer_at, string_at, dictionary_at, TreeEntry, tree_entries_below, tree_entries_among, with_earlier, is_file, length_of, root_of, is_conflict, pieces_of, piece_count, layer_at, file_at, files_of, first_of, fault_if, conflict, is_too_many, entry_check, tree_checks, is_piece_length, head_checks, piece_length_of, tree_of, layer_check, layer_checks, info_of, layers_of, first_fault, Given, given_of, HasRoot, IsInTreeOrder, HaveTreePaths, has_layer_size, has_root, metainfo_of, Made, file_refusal, first_layer, AreLayersOf, tree_made, info_made, value_made}
+use Rattle.std.proofs.lemmas.List.Elements.{All-map}
 use Rattle.std.proofs.lemmas.List.Folds.{list_any_none}
-use Rattle.std.proofs.lemmas.List.Sums.{sum_by-append, sum_by-cons}
-use Rattle.std.specs.Option.{option_map, option_and_then}
-use Rattle.std.specs.Cmp.Lexicographic.{pointwise}
-use Rattle.std.proofs.lemmas.List.Sorted.{All-permutation, length_permutation}
-use Rattle.std.proofs.lemmas.Slice.Eq.{bytes_eq-Decides}
-use Rattle.bt_bencode.specs.Value.{dictionary, Entries, Data, string}
-use Rattle.bt_bencode.specs.Spelling.{spelling_of}
-use Rattle.bt_meta.specs.Limits.{max_path_length, max_file_count, max_piece_count, max_text_length}
-use Rattle.bt_meta.specs.Fields.{has_key, integer_at, string_at, dictionary_at, as_string}
-use Rattle.bt_meta.specs.TreeEntries.{TreeEntry, tree_entries_below, tree_entries_among, with_earlier}
-use Rattle.bt_meta.specs.Files.{is_file, length_of, root_of, is_conflict, pieces_of, piece_count, layer_at, file_at, files_of}
-use Rattle.bt_meta.specs.Faults.{first_of, fault_if, conflict, is_too_many, entry_check, tree_checks, is_piece_length, head_checks, piece_length_of, tree_of, layer_check, layer_checks, info_of, layers_of, first_fault}
-use Rattle.bt_meta.specs.GivenFiles.{Given, given_of, HasRoot, IsInTreeOrder, HaveTreePaths}
+use Rattle.bt_meta.specs.Fields.{as_string}
 use Rattle.bt_meta.proofs.Checks.{skips, first_of-append, each_none, holds_unless}
 use Rattle.bt_meta.proofs.Lists.{All-front, All-back}
 use Rattle.bt_meta.proofs.TreeWalk.{has_conflict, file_counted, folder_counted}
 use Rattle.bt_meta.proofs.RootLengths.{conflict_free}
 use Rattle.bt_meta.proofs.MadeTree.{Agree, AreAlike, IsGood, entry_made, length_of_made, root_of_some, IsTreeOf, canonical_made, AreLawful, IsLawful, lawful_ordered, ordered_named, value_is_file, root_of_made, tree_is}
-use Rattle.bt_meta.specs.Layers.{has_layer_size, has_root}
-use Rattle.bt_meta.specs.Torrent.{metainfo_of, IsTorrent}
-use Rattle.bt_meta.specs.declared.writer.Made.{Made}
+use Rattle.bt_meta.specs.Torrent.{IsTorrent}
 use Rattle.bt_meta.specs.declared.writer.MakeError.TheVariants.{LayerSize as layer_size, LayerDiffers as layer_differs}
-use Rattle.bt_meta.specs.WriterRefusals.{Check, file_refusal}
-use Rattle.bt_meta.specs.Encode.{first_layer, AreLayersOf, tree_made, info_made, value_made}
+use Rattle.bt_meta.specs.WriterRefusals.{Check}
 use Rattle.bt_meta.specs.Writer.{file_made, torrent_made}
 
 -- ==== no check refuses the tree of files that are lawful

@@ -1,42 +1,18 @@
 -- The tree of files that are put into it in their order: it is canonical, and has an entry for each file.
-use Rattle.std.proofs.Common.{◌≡◌, ℕ, zero, suc, ◌+◌, ◌<◌, ◌≤◌, ◌^◌, true, false, List, [], ◌∷◌, length, refl, sym, ap, ◌∙◌, arith, add-one, inl, inr, None, Some, pos, ◌≢◌, ◌++◌, map, get_or, append_assoc, Bool, length-append}
-use Rattle.std.specs.Prelude.{Option, IfSome, nat_eq, nat_le, ◌==◌, FitsSigned, nat_lt, not, ◌||◌, sum_by, filter, unwrap_or, take, replicate, codes, if◌then◌else◌, cond}
+use Rattle.bt_meta.proofs.Base.{◌≡◌, ℕ, zero, suc, ◌+◌, ◌<◌, ◌≤◌, ◌^◌, true, false, List, [], ◌∷◌, length, refl, sym, ap, ◌∙◌, arith, add-one, inl, inr, None, Some, ◌≢◌, ◌++◌, map, get_or, append_assoc, Bool, length-append, Option, IfSome, nat_eq, nat_le, ◌==◌, nat_lt, not, ◌||◌, sum_by, filter, unwrap_or, take, replicate, codes, if◌then◌else◌, cond, All, list_any, list_all, last_or, option_map, nat_cmp, ordering_reverse, slice_cmp, pointwise, nat_list_cmp_total, Equal, Greater, cases_Bool, and_parts, false_from_ne_true, leb-true, nat_tests, tied_itself, bytes_eq-Decides, Bor, append-nil, get_or-map, length-map, map_push, All-nil, All-push, All-cons, All-tail, All-append, filter-append, All-permutation, length_permutation, is_utf8-from_IsUtf8, Data, integer, string, dictionary, Entries, no_entries, entry, first_value_of, IsBefore, HasAscendingKeys, EntriesAscend, IsCanonical, max_file_length, max_piece_length, max_path_length, max_file_count, max_piece_count, is_piece_length, first_of, fault_if, is_path, is_element, is_node, has_lawful_name, is_path_element, has_lawful_length, has_lawful_root, Given, HaveTreePaths, IsInTreeOrder, HasRoot, properties_made, tree_made, AreLayersOf, info_made, value_made, with_file, entries_before, AreNonEmpty, AreBefore, given_at, is_nonempty, ComesAfter, with_earlier, TreeEntry, tree_entries_among, piece_count, is_conflict, is_file, properties_of, length_in, root_in, length_of, root_of, file_refusal, Made, Count, has_key, dictionary_at, integer_at, string_at, property_checks}
+use Rattle.std.proofs.Common.{pos}
+use Rattle.std.specs.Prelude.{FitsSigned}
 use Rattle.std.specs.Int.{w64}
-use Rattle.std.specs.List.{All, list_any, list_all, last_or}
-use Rattle.std.specs.Option.{option_map}
-use Rattle.std.specs.Ordering.{nat_cmp, ordering_reverse}
-use Rattle.std.specs.Cmp.Lexicographic.{slice_cmp, pointwise, nat_list_cmp_total}
-use Rattle.std.specs.declared.cmp.Ordering.TheVariants.{Equal, Greater}
-use Rattle.std.proofs.lemmas.Bool.{cases_Bool, and_parts, false_from_ne_true, leb-true}
-use Rattle.std.proofs.lemmas.Bool.Decides.{nat_tests}
-use Rattle.std.proofs.lemmas.Cmp.{tied_itself}
 use Rattle.std.proofs.lemmas.Int.{ints}
-use Rattle.std.proofs.lemmas.Slice.Eq.{bytes_eq-Decides}
-use Rattle.std.specs.Borrow.{Bor}
-use Rattle.std.proofs.lemmas.List.{append-nil, get_or-map, length-map, map_push}
-use Rattle.std.proofs.lemmas.List.Elements.{All-nil, All-push, All-cons, All-tail, All-append, filter-append}
-use Rattle.std.proofs.lemmas.List.Sorted.{All-permutation, length_permutation, sum_by-IsPermutation}
-use Rattle.std.proofs.lemmas.Str.{IsUtf8-nil, is_utf8-from_IsUtf8}
-use Rattle.bt_bencode.specs.Value.{Data, integer, string, dictionary, Entries, no_entries, entry}
-use Rattle.bt_bencode.specs.Dictionary.{first_value_of}
-use Rattle.bt_bencode.specs.Doc.{nesting_of, entries_nesting, IsBefore, first_key_of, HasAscendingKeys, EntriesAscend, HasSmallIntegers, EntriesHaveSmallIntegers, IsCanonicalWithin, IsCanonical}
-use Rattle.bt_tree.specs.Limits.{max_file_length, max_piece_length}
-use Rattle.bt_meta.specs.Limits.{max_path_length, max_file_count, max_piece_count}
-use Rattle.bt_meta.specs.Faults.{is_piece_length, first_of, fault_if, is_path, is_element, is_node, has_lawful_name, is_path_element, has_lawful_length, has_lawful_root}
-use Rattle.bt_meta.specs.GivenFiles.{Given, HaveTreePaths, IsInTreeOrder, HasRoot}
-use Rattle.bt_meta.specs.Encode.{properties_made, tree_made, AreLayersOf, info_made, value_made, with_file}
-use Rattle.bt_meta.specs.EncodeSteps.{entries_before, AreNonEmpty, AreBefore, given_at, is_nonempty, ComesAfter}
+use Rattle.std.proofs.lemmas.List.Sorted.{sum_by-IsPermutation}
+use Rattle.std.proofs.lemmas.Str.{IsUtf8-nil}
+use Rattle.bt_bencode.specs.Doc.{nesting_of, entries_nesting, first_key_of, HasSmallIntegers, EntriesHaveSmallIntegers, IsCanonicalWithin}
 use Rattle.bt_meta.proofs.EncodeValue.{IsPut, put_there, nothing, grows}
-use Rattle.bt_meta.specs.TreeEntries.{with_earlier, TreeEntry, tree_entries_among}
-use Rattle.bt_meta.specs.Files.{piece_count, is_conflict, is_file, properties_of, length_in, root_in, length_of, root_of}
-use Rattle.bt_meta.specs.WriterRefusals.{Check, file_refusal, own_refusal, layer_refusal, conflict_with, is_beyond}
-use Rattle.bt_meta.specs.declared.writer.Made.{Made}
-use Rattle.bt_meta.specs.declared.writer.MakeError.TheVariants.{BadPath, FileLength, RootConflict, Count}
+use Rattle.bt_meta.specs.WriterRefusals.{Check, own_refusal, layer_refusal, conflict_with, is_beyond}
+use Rattle.bt_meta.specs.declared.writer.MakeError.TheVariants.{BadPath, FileLength, RootConflict}
 use Rattle.bt_meta.proofs.Lists.{none_of, All-front, All-back}
 use Rattle.bt_meta.proofs.RootLengths.{no_conflict}
 use Rattle.bt_meta.proofs.Checks.{each_none, first_none, not_faulty, holds_unless}
-use Rattle.bt_meta.specs.Fields.{has_key, dictionary_at, integer_at, string_at}
-use Rattle.bt_meta.specs.PropertySteps.{property_checks}
 use Rattle.bt_meta.proofs.TreeWalk.{last_push}
 
 -- ==== the value of a torrent that is made is canonical

@@ -1,44 +1,31 @@
 -- The files that a torrent is made of: one by one, in their order, and of which no path begins another.
-use Rattle.std.proofs.Common.{◌≡◌, ℕ, ◌+◌, ◌<◌, ◌≤◌, Bool, false, List, [], ◌∷◌, ◌++◌, length, map, None, refl, sym, ap, ◌∙◌, arith, inl, inr, suc, ◌-◌, true, ◌↔◌, subst, Some}
-use Rattle.std.specs.Prelude.{string_bytes, not, ◌&&◌, ◌||◌, ◌==◌, String, take, drop, get_or}
+use Rattle.bt_meta.proofs.Base.{◌≡◌, ℕ, ◌+◌, ◌<◌, ◌≤◌, Bool, false, List, [], ◌∷◌, ◌++◌, length, map, None, refl, sym, ap, ◌∙◌, arith, inl, inr, suc, ◌-◌, true, subst, Some, string_bytes, not, ◌&&◌, ◌||◌, ◌==◌, take, drop, get_or, list_all, All, AllPairs, list_any, All-nil, All-push, length-map, map-append, take_all, get_or-map, list_any-append, or-false, Bor, ordering_then, nat_cmp, is_lt, ordering_reverse, slice_cmp, nat_list_cmp_total, IsSortedBy, Ordering, Less, Equal, Greater, true≢false, and_parts, or_parts, false_from_ne_true, cases_lt, tied_itself, AllPairs-cons, exact_bytes, bytes_eq-Decides, first_of, is_element, is_path, is_piece_length, Lengths, length_at, is_other_length, NotesLength, with_earlier, is_conflict, Given, given_of, HasRoot, path_order, IsInTreeOrder, begins, HaveTreePaths, file_refusal, Made, given_at, unlawful, Count}
+use Rattle.std.proofs.Common.{◌↔◌}
+use Rattle.std.specs.Prelude.{String}
 use Rattle.std.specs.Global.{Global}
-use Rattle.std.specs.List.{list_all, All, AllByRecursion, AllPairs, IsDistinct, list_any, starts_with}
-use Rattle.std.proofs.lemmas.List.Elements.{All-nil, All-push, All-from_recursion, recursion_from_All}
-use Rattle.std.proofs.lemmas.List.{length-map, map-append, take_all, map_more, get_or-map}
-use Rattle.std.proofs.lemmas.List.Folds.{list_any-append, list_all-map}
-use Rattle.std.proofs.Math.Bool.{or-false, or_comm}
-use Rattle.std.specs.Borrow.{Bor}
-use Rattle.std.specs.Ordering.{ordering_then, nat_cmp, is_lt, ordering_reverse}
+use Rattle.std.specs.List.{AllByRecursion, IsDistinct, starts_with}
+use Rattle.std.proofs.lemmas.List.Elements.{All-from_recursion, recursion_from_All}
+use Rattle.std.proofs.lemmas.List.{map_more}
+use Rattle.std.proofs.lemmas.List.Folds.{list_all-map}
+use Rattle.std.proofs.Math.Bool.{or_comm}
 use Rattle.std.specs.String.{string_cmp, string_eq}
 use Rattle.std.specs.Cmp.{IsStrictWeakOrder}
-use Rattle.std.specs.Cmp.Lexicographic.{slice_cmp, lists_total, nat_list_cmp_total}
-use Rattle.std.specs.List.Sorted.{IsPermutation, IsSortedBy}
+use Rattle.std.specs.Cmp.Lexicographic.{lists_total}
+use Rattle.std.specs.List.Sorted.{IsPermutation}
 use Rattle.std.proofs.lemmas.List.Sorted.{IsPermutation-map, IsPermutation-sym, sorted_far}
 use Rattle.std.proofs.lemmas.List.MinMax.{ranks_by}
-use Rattle.std.specs.declared.cmp.Ordering.{Ordering}
-use Rattle.std.specs.declared.cmp.Ordering.TheVariants.{Less, Equal, Greater}
-use Rattle.std.proofs.lemmas.Bool.{true≢false, and_parts, or_parts, or_from, false_from_ne_true, true_from_ne_false, cases_lt}
-use Rattle.std.proofs.lemmas.Cmp.{tied_itself}
-use Rattle.std.proofs.lemmas.List.Kept.{AllPairs-cons}
+use Rattle.std.proofs.lemmas.Bool.{or_from, true_from_ne_false}
 use Rattle.std.proofs.lemmas.Map.Keys.{IsDistinct-IsPermutation}
-use Rattle.std.proofs.lemmas.Map.Lookups.{exact_bytes}
-use Rattle.std.proofs.lemmas.Slice.Eq.{bytes_eq-Decides}
-use Rattle.bt_meta.specs.Faults.{first_of, is_element, is_path, is_piece_length}
-use Rattle.bt_meta.specs.PropertySteps.{Lengths, length_at, is_other_length, NotesLength}
-use Rattle.bt_meta.specs.TreeEntries.{with_earlier}
-use Rattle.bt_meta.specs.Files.{is_conflict}
-use Rattle.bt_meta.specs.GivenFiles.{Given, given_of, HasRoot, path_order, is_before, IsInTreeOrder, begins, HaveTreePaths}
-use Rattle.bt_meta.specs.WriterRefusals.{Check, file_refusal, has_conflict, refusal_of_files}
+use Rattle.bt_meta.specs.GivenFiles.{is_before}
+use Rattle.bt_meta.specs.WriterRefusals.{Check, has_conflict, refusal_of_files}
 use Rattle.bt_meta.specs.WriterSteps.{IsTallyOf, IsWithinLimits, Refuses, RefusesFile}
-use Rattle.bt_meta.specs.declared.writer.Made.{Made}
 use Rattle.bt_meta.specs.declared.writer.MakeError.{MakeError}
 use Rattle.bt_meta.specs.declared.writer.Tally.{Tally}
 use Rattle.bt_meta.proofs.Checks.{first_of-append}
 use Rattle.bt_meta.proofs.Lists.{parts_at}
 use Rattle.bt_meta.proofs.TreeWalk.{with_earlier-append}
-use Rattle.bt_meta.specs.EncodeSteps.{given_at}
-use Rattle.bt_meta.specs.Writer.{is_overlap, have_overlap, IsNotMade, no_memory, unlawful}
-use Rattle.bt_meta.specs.declared.writer.MakeError.TheVariants.{PieceLength, Count}
+use Rattle.bt_meta.specs.Writer.{is_overlap, have_overlap, IsNotMade, no_memory}
+use Rattle.bt_meta.specs.declared.writer.MakeError.TheVariants.{PieceLength}
 
 -- ==== what was taken of the files
 

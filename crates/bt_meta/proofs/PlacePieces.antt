@@ -1,20 +1,16 @@
 -- The files of a torrent take its pieces one after the other.
-use Rattle.std.proofs.Common.{◌≡◌, ◌≤◌, ◌<◌, ◌+◌, ◌-◌, ◌*◌, ℕ, List, length, map, refl, sym, ◌∙◌, ap, arith, inl, inr, leb, leb-true, true, false, [], ◌∷◌, Option, Some, None, rules}
-use Rattle.std.specs.Prelude.{take, get_or, sum_by, SomeIff, IfSome, IfNone}
-use Rattle.std.proofs.lemmas.Bool.{cases_lt, leb-false}
-use Rattle.std.proofs.lemmas.List.{length-take-le, take-take, get_or-take, get_or-map, length-map}
+use Rattle.bt_meta.proofs.Base.{◌≡◌, ◌≤◌, ◌<◌, ◌+◌, ◌-◌, ◌*◌, ℕ, List, length, map, refl, sym, ◌∙◌, ap, arith, inl, inr, leb, leb-true, true, false, [], ◌∷◌, Option, Some, None, rules, take, get_or, sum_by, IfSome, cases_lt, get_or-map, length-map, div_ceil, File, file_of, piece_count, Metainfo, IsLaidOut, FileEntry}
+use Rattle.std.specs.Prelude.{SomeIff, IfNone}
+use Rattle.std.proofs.lemmas.Bool.{leb-false}
+use Rattle.std.proofs.lemmas.List.{length-take-le, take-take, get_or-take}
 use Rattle.std.proofs.lemmas.Grind.{div_ceil_times}
 use Rattle.std.proofs.Math.Nat.{mul-le-mul_right}
-use Rattle.std.specs.Int.{div_ceil}
 use Rattle.std.proofs.lemmas.List.Sums.{sum_by_more_le}
 use Rattle.std.specs.List.Sorted.{IsPartitionedBy, IsPartitionPoint}
 use Rattle.bt_tree.specs.Limits.{full_block_length}
 use Rattle.std.proofs.lemmas.List.Sorted.{IsPartitionedBy-leb}
-use Rattle.bt_meta.specs.Files.{File, file_of, piece_count}
-use Rattle.bt_meta.specs.Torrent.{Metainfo, IsLaidOut}
 use Rattle.bt_meta.specs.Place.{IsPlace}
 use Rattle.bt_meta.specs.PlaceSteps.{IsLastFileAt, HasNoFileAt}
-use Rattle.bt_meta.specs.declared.torrent.FileEntry.{FileEntry}
 use Rattle.bt_meta.specs.declared.torrent.Span.{Span}
 
 module _ (f : File → ℕ) (files : List File) (j k : ℕ) (d : File) where

@@ -1,42 +1,22 @@
 -- What is read keeps to what every torrent does.
-use Rattle.std.proofs.Common.{◌≡◌, ℕ, ◌≤◌, get_or, Bool, true, false, List, [], ◌∷◌, ◌++◌, length, None, refl, sym, ap, ◌∙◌, arith, inl, inr, append-nil, append_assoc, ◌<◌, ◌+◌, zero, suc, ◌≢◌, Result, Ok, Err, map}
-use Rattle.std.specs.Prelude.{not, ◌||◌, ◌==◌, nat_lt, replicate, filter, unwrap_or, codes, if◌then◌else◌, take, sum_by, ◌&&◌, Option, Some, is_none, IfOk}
-use Rattle.std.specs.List.{All, AllPairs, list_any, list_all}
-use Rattle.std.proofs.lemmas.Bool.{cases_Bool, eqb-true, and_parts, leb-true, ltb-true}
-use Rattle.std.proofs.lemmas.Bool.Decides.{nat_tests}
-use Rattle.std.proofs.lemmas.List.Elements.{All-nil, All-push, filter-append, All-cons, All-head, All-tail, All-append, All-weaker, All-filter, filter_passes}
+use Rattle.bt_meta.proofs.Base.{◌≡◌, ℕ, ◌≤◌, get_or, Bool, true, false, List, [], ◌∷◌, ◌++◌, length, None, refl, sym, ap, ◌∙◌, arith, inl, inr, append-nil, append_assoc, ◌<◌, ◌+◌, zero, suc, ◌≢◌, Result, Ok, Err, map, not, ◌||◌, ◌==◌, nat_lt, replicate, filter, unwrap_or, codes, if◌then◌else◌, take, sum_by, ◌&&◌, Option, Some, IfOk, All, AllPairs, list_any, list_all, cases_Bool, and_parts, leb-true, nat_tests, All-nil, All-push, filter-append, All-cons, All-head, All-tail, All-append, sum_by-cons, option_and_then, nat_cmp, ordering_then, Ordering, Less, slice_cmp, nat_list_cmp_total, tied_itself, AllPairs-cons, Data, integer, string, list, dictionary, Entries, no_entries, entry, data_of, IsBefore, HasAscendingKeys, EntriesAscend, max_file_length, max_piece_length, max_file_count, max_piece_count, has_key, string_at, as_dictionary, dictionary_at, no_dictionary, TreeEntry, tree_entries_below, with_earlier, tree_entries_among, is_file, properties_of, length_in, root_in, length_of, root_of, is_conflict, pieces_of, File, piece_count, file_at, files_of, layer_at, file_of, first_of, fault_if, is_node, has_lawful_name, has_lawful_root, conflict, is_too_many, file_checks, entry_check, tree_checks, is_path_element, is_element, is_path, is_piece_length, tree_of, layer_check, layer_checks, Tree, TooMany, LayerSize, LayerDiffers, Metainfo, Head, Listing, IsHead, IsListing, with_layer, layer_faults, has_layer_size, has_root}
+use Rattle.std.specs.Prelude.{is_none}
+use Rattle.std.proofs.lemmas.Bool.{eqb-true, ltb-true}
+use Rattle.std.proofs.lemmas.List.Elements.{All-weaker, All-filter, filter_passes}
 use Rattle.std.proofs.lemmas.List.Quantifiers.{all_pairs_push}
-use Rattle.std.proofs.lemmas.List.Sums.{sum_by-cons}
 use Rattle.std.proofs.lemmas.List.Folds.{list_all-append}
-use Rattle.std.specs.Option.{option_and_then}
-use Rattle.std.specs.Ordering.{nat_cmp, ordering_then}
-use Rattle.std.specs.declared.cmp.Ordering.{Ordering}
-use Rattle.std.specs.declared.cmp.Ordering.TheVariants.{Less}
-use Rattle.std.specs.Cmp.Lexicographic.{slice_cmp, nat_list_cmp_total}
-use Rattle.std.proofs.lemmas.Cmp.{tied_itself}
-use Rattle.std.proofs.lemmas.List.Kept.{AllPairs-cons, AllPairs-filter}
-use Rattle.bt_bencode.specs.Value.{Data, integer, string, list, dictionary, Entries, no_entries, entry, data_of}
-use Rattle.bt_bencode.specs.Doc.{IsBefore, HasAscendingKeys, EntriesAscend}
-use Rattle.bt_tree.specs.Limits.{max_file_length, min_piece_length, max_piece_length}
+use Rattle.std.proofs.lemmas.List.Kept.{AllPairs-filter}
+use Rattle.bt_tree.specs.Limits.{min_piece_length}
 use Rattle.bt_tree.specs.TreeShape.{IsPieceLength}
-use Rattle.bt_meta.specs.Limits.{max_file_count, max_piece_count}
-use Rattle.bt_meta.specs.Fields.{has_key, string_at, as_dictionary, dictionary_at, no_dictionary}
-use Rattle.bt_meta.specs.TreeEntries.{TreeEntry, tree_entries_below, with_earlier, tree_entries_among}
-use Rattle.bt_meta.specs.Files.{is_file, properties_of, length_in, root_in, length_of, root_of, is_conflict, pieces_of, File, piece_count, file_at, files_of, layer_at, file_of}
-use Rattle.bt_meta.specs.Faults.{Check, first_of, fault_if, is_node, has_lawful_name, has_lawful_root, conflict, is_too_many, file_checks, entry_check, tree_checks, is_path_element, is_element, is_path, is_piece_length, tree_of, layer_check, layer_checks, layer_bytes_checks}
-use Rattle.bt_meta.specs.declared.error.MetaError.TheVariants.{Tree, BadPath, BadRoot, TooMany, LayerMissing, LayerSize, LayerDiffers}
+use Rattle.bt_meta.specs.Faults.{Check, layer_bytes_checks}
+use Rattle.bt_meta.specs.declared.error.MetaError.TheVariants.{BadPath, BadRoot, LayerMissing}
 use Rattle.bt_meta.proofs.Checks.{AreNone, each_none, first_none, both_none, holds_unless, not_faulty}
 use Rattle.bt_meta.proofs.Lists.{none_of, All-front, All-back, pairs_append}
 use Rattle.bt_meta.proofs.RootLengths.{no_conflict}
 use Rattle.bt_meta.proofs.TreeWalk.{has_conflict, lawful_is_short, pieces_push, name_of, same_sum, some_of_filter, no_layer, length-with_earlier}
-use Rattle.bt_meta.specs.Torrent.{IsApart, Metainfo, HaveAscendingPaths, IsLawful, IsLawfulFile}
+use Rattle.bt_meta.specs.Torrent.{IsApart, HaveAscendingPaths, IsLawful, IsLawfulFile}
 use Rattle.bt_meta.proofs.Dictionaries.{field_ascends, file_below}
 use Rattle.bt_meta.proofs.FileLayers.{files_with_layers, layer_faults_are}
-use Rattle.bt_meta.specs.declared.reader.Head.{Head}
-use Rattle.bt_meta.specs.declared.walk.Listing.{Listing}
-use Rattle.bt_meta.specs.ReaderSteps.{IsHead, IsListing}
-use Rattle.bt_meta.specs.LayerSteps.{with_layer, layer_faults}
-use Rattle.bt_meta.specs.Layers.{has_layer_size, has_root}
 
 -- ==== the entries of a tree in which no check finds a fault
 

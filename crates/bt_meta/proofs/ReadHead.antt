@@ -1,18 +1,6 @@
 -- What the checks of an info dictionary and of a torrent come to, behind those of the head.
-use Rattle.std.proofs.Common.{◌≡◌, List, ◌++◌, map, Some, refl, ◌∙◌}
-use Rattle.std.specs.Prelude.{codes}
-use Rattle.sha2.specs.Sha256.{sha256}
-use Rattle.bt_bencode.specs.Value.{Data, data_of}
-use Rattle.bt_bencode.specs.Spelling.{spelling_of}
-use Rattle.bt_meta.specs.Fields.{dictionary_at}
-use Rattle.bt_meta.specs.Files.{File, file_of, files_of}
-use Rattle.bt_meta.specs.Faults.{first_of, head_checks, info_checks, tree_checks, layer_checks, piece_length_of, tree_of, info_of, layers_of, first_fault}
-use Rattle.bt_meta.specs.Torrent.{metainfo_of}
-use Rattle.bt_meta.specs.ReaderSteps.{IsHead, IsListing}
-use Rattle.bt_meta.specs.LayerSteps.{layer_faults}
-use Rattle.bt_meta.specs.declared.reader.Head.{Head}
-use Rattle.bt_meta.specs.declared.walk.Listing.{Listing}
-use Rattle.bt_meta.specs.declared.error.MetaError.{MetaError}
+use Rattle.bt_meta.proofs.Base.{◌≡◌, List, ◌++◌, map, Some, refl, ◌∙◌, codes, sha256, Data, data_of, spelling_of, dictionary_at, File, file_of, files_of, first_of, head_checks, tree_checks, layer_checks, piece_length_of, tree_of, info_of, layers_of, first_fault, metainfo_of, IsHead, IsListing, layer_faults, Head, Listing, MetaError}
+use Rattle.bt_meta.specs.Faults.{info_checks}
 use Rattle.bt_meta.proofs.Checks.{first_of-append, first_of-append_some}
 use Rattle.bt_meta.proofs.FileLayers.{layer_faults_are}
 

@@ -1,13 +1,9 @@
 -- How a refusal of a value is one of its bytes.
-use Rattle.std.proofs.Common.{◌≡◌, ℕ, ◌^◌, ◌≤◌, List, length, Result, Ok, Err, sym, subst, inl, inr}
+use Rattle.bt_meta.proofs.Base.{◌≡◌, ℕ, ◌^◌, ◌≤◌, List, length, Result, Ok, Err, sym, subst, inl, inr, Data, spelling_of, IsCanonical, faulty, MetaError}
 use Rattle.std.specs.Prelude.{IfErr}
-use Rattle.bt_bencode.specs.Value.{Data}
-use Rattle.bt_bencode.specs.Spelling.{spelling_of}
-use Rattle.bt_bencode.specs.Doc.{IsCanonical}
 use Rattle.bt_meta.specs.Faults.{Check}
 use Rattle.bt_meta.specs.ReaderSteps.{Refuses}
-use Rattle.bt_meta.specs.Reader.{IsRefused, no_memory, faulty}
-use Rattle.bt_meta.specs.declared.error.MetaError.{MetaError}
+use Rattle.bt_meta.specs.Reader.{IsRefused, no_memory}
 
 refused_by : (first : Data → Check) (bytes : List ℕ) (value : Data) (e : MetaError) → length bytes ≤ 2 ^ 27 → IsCanonical value
     → spelling_of value ≡ bytes → Refuses (first value) e → IsRefused first bytes e

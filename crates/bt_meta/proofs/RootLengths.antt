@@ -1,15 +1,5 @@
 -- What the lengths of roots tell once one length more is noted.
-use Rattle.std.proofs.Common.{◌≡◌, ◌≢◌, ℕ, Bool, true, false, List, Option, None, Some, refl, sym, ap, ◌∙◌, arith}
-use Rattle.std.specs.Prelude.{not, ◌&&◌, ◌||◌, ◌==◌, cond}
-use Rattle.std.specs.Ordering.{nat_cmp, is_eq}
-use Rattle.std.specs.Cmp.Lexicographic.{slice_cmp}
-use Rattle.std.proofs.Math.Bool.{or-false}
-use Rattle.std.proofs.lemmas.Bool.{and_parts, false_from_ne_true, true≢false}
-use Rattle.std.proofs.lemmas.Bool.Decides.{nat_tests}
-use Rattle.std.proofs.lemmas.Map.Text.{is_eq-slice_cmp}
-use Rattle.std.proofs.lemmas.Slice.Eq.{bytes_eq-Decides}
-use Rattle.bt_meta.specs.Files.{is_conflict}
-use Rattle.bt_meta.specs.PropertySteps.{Lengths, length_at, is_other_length, NotesLength}
+use Rattle.bt_meta.proofs.Base.{◌≡◌, ◌≢◌, ℕ, Bool, true, false, List, Option, None, Some, refl, sym, ap, ◌∙◌, arith, not, ◌&&◌, ◌||◌, ◌==◌, cond, nat_cmp, is_eq, slice_cmp, or-false, and_parts, false_from_ne_true, true≢false, nat_tests, is_eq-slice_cmp, bytes_eq-Decides, is_conflict, Lengths, length_at, is_other_length, NotesLength}
 
 module _ (length n : ℕ) where
   twice : (b : Bool) → b ≡ (b || b)

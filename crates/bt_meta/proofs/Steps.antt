@@ -1,5 +1,5 @@
 -- The lemmas that close the steps of each function.
-use Rattle.bt_bencode.proofs.ValueData.{data_of-Dict}
+use Rattle.bt_meta.proofs.Base.{data_of-Dict, no_spelling, overlap, unlawful, nat_tests, length-map, err_from_is_err_and, is_utf8-from_IsUtf8}
 use Rattle.bt_meta.proofs.Checks.{first_of-append_some}
 use Rattle.bt_meta.proofs.Choices.{test_of_none, test_of_some}
 use Rattle.bt_meta.proofs.Dictionaries.{empty_key, entries_ascend, field_ascends, key_entries, layers_absent, layers_ascend, nothing_ascends, single_entry}
@@ -11,12 +11,9 @@ use Rattle.bt_meta.proofs.ReadFiles.{ascends}
 use Rattle.bt_meta.proofs.ReadHead.{info_faults, metainfo_is, torrent_head_fault, torrent_layers, torrent_tree_fault}
 use Rattle.bt_meta.proofs.ReadRefusals.{value_refused}
 use Rattle.bt_meta.proofs.TreeWalk.{bad_name_stops, conflict_stops, entry_stops, file_entered, file_entry, file_passes, folder_entered, folder_many, folder_passes, key_at_top, no_file, no_node_stops, node_is, passes_nothing, start, tree_stops}
-use Rattle.bt_meta.specs.Reader.{no_spelling, too_long as text_too_long}
-use Rattle.bt_meta.specs.Writer.{no_memory, overlap, unlawful}
-use Rattle.std.proofs.lemmas.Bool.Decides.{nat_tests}
-use Rattle.std.proofs.lemmas.List.{length-map}
-use Rattle.std.proofs.lemmas.Result.{err_from_is_err_and}
-use Rattle.std.proofs.lemmas.Str.{IsUtf8-from_is_utf8, is_utf8-from_IsUtf8}
+use Rattle.bt_meta.specs.Reader.{too_long as text_too_long}
+use Rattle.bt_meta.specs.Writer.{no_memory}
+use Rattle.std.proofs.lemmas.Str.{IsUtf8-from_is_utf8}
 
 pub ruleset info_in_steps = (err_from_is_err_and, first_of-append_some, info_faults, metainfo_is)
 

@@ -1,38 +1,21 @@
 -- The walk over a file tree, entry by entry.
-use Rattle.std.proofs.Common.{◌≡◌, ℕ, Bool, true, false, List, [], ◌∷◌, ◌++◌, None, Some, refl, inr, ◌+◌, ◌<◌, length, take, drop, get_or, sym, ap, ◌∙◌, append_assoc, inl, ◌≤◌, map, arith, ◌⊎◌, Option}
-use Rattle.std.specs.Prelude.{not, ◌&&◌, ◌==◌, filter, sum_by, ◌||◌, unwrap_or, nat_lt, if◌then◌else◌, codes, nat_le}
-use Rattle.std.specs.List.{list_any, last_or}
-use Rattle.std.specs.Global.{Vec}
-use Rattle.std.proofs.lemmas.List.{append-nil, map-append, take_more, map_push, length-map, length_push}
-use Rattle.std.proofs.Math.Bool.{or-false}
-use Rattle.std.proofs.lemmas.Bool.{cases_Bool}
-use Rattle.std.proofs.lemmas.List.Elements.{filter-append, All-push, All-same, All-nil}
-use Rattle.std.proofs.lemmas.List.Folds.{list_any-append}
-use Rattle.std.proofs.lemmas.List.Sums.{sum_by-append, sum_by-cons}
+use Rattle.bt_meta.proofs.Base.{◌≡◌, ℕ, Bool, true, false, List, [], ◌∷◌, ◌++◌, None, Some, refl, inr, ◌+◌, ◌<◌, length, take, drop, get_or, sym, ap, ◌∙◌, append_assoc, inl, ◌≤◌, map, arith, ◌⊎◌, Option, not, ◌&&◌, ◌==◌, filter, sum_by, ◌||◌, unwrap_or, nat_lt, if◌then◌else◌, codes, nat_le, list_any, last_or, Vec, append-nil, map-append, take_more, map_push, length-map, or-false, cases_Bool, filter-append, All-push, All-nil, list_any-append, sum_by-append, sum_by-cons, div_ceil, nat_tests, Data, Entries, entry, data_of, entries_of, Value, max_file_length, TreeEntry, tree_entries_below, tree_entries_among, with_earlier, is_file, properties_of, length_of, File, root_of, is_conflict, file_of, file_at, pieces_of, piece_count, length_in, root_in, files_of, first_of, fault_if, is_node, has_lawful_name, conflict, is_too_many, entry_check, file_checks, has_lawful_length, is_path_element, tree_checks, property_checks, Lengths, length_at, is_other_length, NotesLength, Passes, tree_entries_of, MetaError, TooMany, Tree, string_at, no_dictionary, has_key, dictionary_at, FileEntry, max_path_length, max_file_count, max_piece_count, IsListing, Listing}
+use Rattle.std.proofs.lemmas.List.{length_push}
+use Rattle.std.proofs.lemmas.List.Elements.{All-same}
 use Rattle.std.specs.Option.{option_map_or}
-use Rattle.std.specs.Int.{div_ceil}
-use Rattle.std.proofs.lemmas.Bool.Decides.{nat_tests}
-use Rattle.bt_bencode.specs.Value.{Data, Entries, entry, data_of, entries_of, entries_from}
-use Rattle.bt_bencode.specs.declared.value.Value.{Value}
-use Rattle.bt_tree.specs.Limits.{max_file_length}
-use Rattle.bt_meta.specs.TreeEntries.{TreeEntry, tree_entries_below, tree_entries_among, with_earlier}
-use Rattle.bt_meta.specs.Files.{is_file, properties_of, length_of, File, root_of, is_conflict, file_of, file_at, pieces_of, piece_count, length_in, root_in, files_of}
-use Rattle.bt_meta.specs.Faults.{Check, first_of, fault_if, is_node, has_lawful_name, conflict, is_too_many, entry_check, file_checks, has_lawful_length, is_path_element, tree_checks}
-use Rattle.bt_meta.specs.PropertySteps.{property_checks, Lengths, length_at, is_other_length, NotesLength, IsFileFacts, IsLengthConflict}
-use Rattle.bt_meta.specs.WalkSteps.{IsWalkOver, Passes, Stops, tree_entries_of, has_other_length, IsFileEntry, IsNodeOf, StopsAtEntry}
+use Rattle.bt_bencode.specs.Value.{entries_from}
+use Rattle.bt_meta.specs.Faults.{Check}
+use Rattle.bt_meta.specs.PropertySteps.{IsFileFacts, IsLengthConflict}
+use Rattle.bt_meta.specs.WalkSteps.{IsWalkOver, Stops, has_other_length, IsFileEntry, IsNodeOf, StopsAtEntry}
 use Rattle.bt_meta.specs.declared.walk.Walk.{Walk}
-use Rattle.bt_meta.specs.declared.error.MetaError.{MetaError}
-use Rattle.bt_meta.specs.declared.error.MetaError.TheVariants.{RootConflict, TooMany, Tree, BadPath}
+use Rattle.bt_meta.specs.declared.error.MetaError.TheVariants.{RootConflict, BadPath}
 use Rattle.bt_meta.proofs.Checks.{first_of-append, first_of-append_some}
 use Rattle.bt_meta.proofs.Lists.{parts_at}
-use Rattle.bt_meta.specs.Fields.{string_at, no_dictionary, has_key, natural_at, dictionary_at}
-use Rattle.bt_meta.specs.declared.torrent.FileEntry.{FileEntry}
-use Rattle.bt_meta.specs.Limits.{max_path_length, max_file_count, max_piece_count}
+use Rattle.bt_meta.specs.Fields.{natural_at}
 use Rattle.bt_meta.specs.declared.walk.Node.{Node}
 use Rattle.bt_meta.specs.declared.walk.Node.TheVariants.{Folder, File as file_node}
 use Rattle.bt_meta.specs.declared.properties.FileFacts.{FileFacts}
-use Rattle.bt_meta.specs.ReaderSteps.{Refuses, IsListing}
-use Rattle.bt_meta.specs.declared.walk.Listing.{Listing}
+use Rattle.bt_meta.specs.ReaderSteps.{Refuses}
 
 -- ==== what the checks of one entry come to
 

@@ -1,4 +1,4 @@
-use Rattle.std.proofs.Common.{length}
+use Rattle.bt_meta.proofs.Base.{length}
 use Rattle.bt_meta.proofs.encode.+folder_with.Given as goal
 
 abbrev pub decreases-folder_with : goal.decreases-folder_with

@@ -1,5 +1,4 @@
-use Rattle.std.proofs.Common.{arith, sym}
-use Rattle.std.proofs.lemmas.Bool.Decides.{nat_tests}
+use Rattle.bt_meta.proofs.Base.{arith, sym, nat_tests}
 use Rattle.bt_meta.proofs.EncodeValue.{layers_of_new}
 use Rattle.bt_meta.proofs.encode.add_layer.Goals as goal
 

@@ -1,8 +1,4 @@
-use Rattle.std.proofs.Common.{ap, ◌∙◌}
-use Rattle.bt_bencode.specs.Value.{string, no_entries, entry, entries_of}
-use Rattle.bt_bencode.specs.Dictionary.{first_value_of}
-use Rattle.bt_bencode.proofs.ValueData.{data_of-Bytes}
-use Rattle.bt_meta.specs.EncodeSteps.{entries_before}
+use Rattle.bt_meta.proofs.Base.{ap, ◌∙◌, string, no_entries, entry, entries_of, first_value_of, data_of-Bytes, entries_before}
 use Rattle.bt_meta.proofs.EncodeValue.{list_more, list_found, list_ascends, list_finds}
 use Rattle.bt_meta.proofs.encode.layer_entries.Goals as goal
 

@@ -1,6 +1,4 @@
-use Rattle.std.proofs.Common.{◌≡◌}
-use Rattle.bt_bencode.specs.Value.{entries_of}
-use Rattle.bt_meta.specs.EncodeSteps.{entries_before}
+use Rattle.bt_meta.proofs.Base.{◌≡◌, entries_of, entries_before}
 use Rattle.bt_meta.proofs.EncodeValue.{layer_list}
 use Rattle.bt_meta.proofs.encode.layer_entries.Given as goal
 

@@ -1,7 +1,4 @@
-use Rattle.std.proofs.Common.{map, ap}
-use Rattle.std.proofs.lemmas.List.{take_all}
-use Rattle.bt_bencode.specs.Value.{entries_of}
-use Rattle.bt_meta.specs.EncodeSteps.{given_at}
+use Rattle.bt_meta.proofs.Base.{map, ap, take_all, entries_of, given_at}
 use Rattle.bt_meta.proofs.EncodeValue.{layers_made, both}
 use Rattle.bt_meta.proofs.encode.layers_of.Goals as goal
 

@@ -1,8 +1,5 @@
-use Rattle.std.proofs.Common.{refl, ◌≡◌, ◌-◌, ◌++◌, [], take, sym, ◌∙◌, ap}
-use Rattle.std.proofs.lemmas.Slice.Eq.{bytes_eq-Decides}
+use Rattle.bt_meta.proofs.Base.{refl, ◌≡◌, ◌-◌, ◌++◌, [], take, sym, ◌∙◌, ap, bytes_eq-Decides, entries_of, data_of-Dict}
 use Rattle.std.proofs.lemmas.Bool.{false≢true}
-use Rattle.bt_bencode.specs.Value.{entries_of}
-use Rattle.bt_bencode.proofs.ValueData.{data_of-Dict}
 use Rattle.bt_meta.proofs.EncodeValue.{entries_push, opened_nothing, opened_folder, opened_other}
 use Rattle.bt_meta.proofs.encode.open_last.Goals as goal
 

@@ -1,8 +1,4 @@
-use Rattle.std.proofs.Common.{map, length, ◌∙◌, ◌≡◌, ◌<◌, refl}
-use Rattle.std.proofs.lemmas.List.{length-map}
-use Rattle.bt_bencode.specs.Value.{entries_of}
-use Rattle.bt_meta.specs.Encode.{with_file, properties_made}
-use Rattle.bt_meta.specs.EncodeSteps.{given_at}
+use Rattle.bt_meta.proofs.Base.{map, length, ◌∙◌, ◌≡◌, ◌<◌, refl, length-map, entries_of, with_file, properties_made, given_at}
 use Rattle.bt_meta.proofs.EncodeValue.{grown_begun, grown_more, lent_at}
 use Rattle.bt_meta.proofs.encode.tree_of.Goals as goal
 

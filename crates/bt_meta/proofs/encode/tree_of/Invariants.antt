@@ -1,6 +1,4 @@
-use Rattle.std.proofs.Common.{map}
-use Rattle.bt_bencode.specs.Value.{entries_of}
-use Rattle.bt_meta.specs.EncodeSteps.{given_at}
+use Rattle.bt_meta.proofs.Base.{map, entries_of, given_at}
 use Rattle.bt_meta.proofs.EncodeValue.{IsGrown}
 use Rattle.bt_meta.proofs.encode.tree_of.Given as goal
 

@@ -1,11 +1,5 @@
-use Rattle.std.proofs.Common.{◌≡◌, ◌<◌, length, take, sym, ap, ◌∙◌, arith}
-use Rattle.std.proofs.lemmas.List.{take_all}
+use Rattle.bt_meta.proofs.Base.{◌≡◌, ◌<◌, length, take, sym, ap, ◌∙◌, arith, take_all, err_from_is_err_and, dictionary, entries_of, file_of, FileEntry, with_layer, layer_fault}
 use Rattle.std.proofs.lemmas.Simd.{map-map}
-use Rattle.std.proofs.lemmas.Result.{err_from_is_err_and}
-use Rattle.bt_bencode.specs.Value.{dictionary, entries_of}
-use Rattle.bt_meta.specs.Files.{file_of}
-use Rattle.bt_meta.specs.declared.torrent.FileEntry.{FileEntry}
-use Rattle.bt_meta.specs.LayerSteps.{with_layer, layer_fault}
 use Rattle.bt_meta.proofs.FileLayers.{unchanged_item, changed_more, faultless_more, refused_at, short_at}
 use Rattle.bt_meta.proofs.layers.add_layers_of.Goals as goal
 

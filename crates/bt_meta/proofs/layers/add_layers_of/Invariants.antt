@@ -1,8 +1,4 @@
-use Rattle.std.proofs.Common.{◌≡◌, take, map, None}
-use Rattle.bt_bencode.specs.Value.{dictionary, entries_of}
-use Rattle.bt_meta.specs.Files.{file_of}
-use Rattle.bt_meta.specs.Faults.{first_of}
-use Rattle.bt_meta.specs.LayerSteps.{with_layer, layer_fault}
+use Rattle.bt_meta.proofs.Base.{◌≡◌, take, map, None, dictionary, entries_of, file_of, first_of, with_layer, layer_fault}
 use Rattle.bt_meta.proofs.FileLayers.{ChangedBelow}
 use Rattle.bt_meta.proofs.layers.add_layers_of.Given as goal
 

@@ -1,5 +1,4 @@
-use Rattle.std.proofs.Common.{rules, ◌≡◌}
-use Rattle.std.proofs.lemmas.Fn.{always_returns_same}
+use Rattle.bt_meta.proofs.Base.{rules, ◌≡◌, always_returns_same}
 use Rattle.bt_meta.proofs.FileLayers.{entry_cmp, found_here, not_found}
 use Rattle.bt_meta.proofs.layers.find.Goals as goal
 

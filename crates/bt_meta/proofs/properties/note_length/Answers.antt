@@ -1,5 +1,4 @@
-use Rattle.std.proofs.Common.{rules, arith}
-use Rattle.std.proofs.lemmas.Bool.Decides.{nat_tests}
+use Rattle.bt_meta.proofs.Base.{rules, arith, nat_tests}
 use Rattle.bt_meta.proofs.RootLengths.{noted_now}
 use Rattle.bt_meta.proofs.properties.note_length.Goals as goal
 

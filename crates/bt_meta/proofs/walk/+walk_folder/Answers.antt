@@ -1,7 +1,4 @@
-use Rattle.std.proofs.Common.{◌≡◌, take, arith}
-use Rattle.std.proofs.lemmas.List.{take_all}
-use Rattle.std.proofs.lemmas.Result.{err_from_is_err_and}
-use Rattle.bt_meta.specs.FilePath.{folder_elements}
+use Rattle.bt_meta.proofs.Base.{◌≡◌, take, arith, take_all, err_from_is_err_and, folder_elements}
 use Rattle.bt_meta.proofs.Dictionaries.{entries_below, nothing_below, no_dictionary_is}
 use Rattle.bt_meta.proofs.TreeWalk.{passes_nothing, entries_first, folder_stops, inner_stops, inner_passes, folder_passes_more}
 use Rattle.bt_meta.proofs.walk.+walk_folder.Goals as goal

@@ -1,8 +1,4 @@
-use Rattle.std.proofs.Common.{take}
-use Rattle.bt_bencode.specs.Value.{entries_of}
-use Rattle.bt_meta.specs.TreeEntries.{tree_entries_among}
-use Rattle.bt_meta.specs.WalkSteps.{Passes}
-use Rattle.bt_meta.specs.FilePath.{folder_elements}
+use Rattle.bt_meta.proofs.Base.{take, entries_of, tree_entries_among, Passes, folder_elements}
 use Rattle.bt_meta.proofs.walk.+walk_folder.Given as goal
 
 abbrev pub invariant-loop-key : goal.invariant-loop-key

@@ -1,4 +1,4 @@
-use Rattle.std.proofs.Common.{◌+◌, ap, inl, inr, arith}
+use Rattle.bt_meta.proofs.Base.{◌+◌, ap, inl, inr, arith}
 use Rattle.bt_meta.proofs.TreeWalk.{many_stop}
 use Rattle.bt_meta.proofs.walk.add_file.Goals as goal
 

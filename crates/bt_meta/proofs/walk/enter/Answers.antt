@@ -1,5 +1,4 @@
-use Rattle.std.proofs.Common.{arith}
-use Rattle.bt_bencode.specs.Value.{data_of}
+use Rattle.bt_meta.proofs.Base.{arith, data_of}
 use Rattle.bt_meta.proofs.Choices.{test_of_some}
 use Rattle.bt_meta.proofs.Dictionaries.{key_entries}
 use Rattle.bt_meta.proofs.TreeWalk.{folder_many, entry_stops, file_entry, file_entered}

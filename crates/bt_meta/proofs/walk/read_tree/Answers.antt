@@ -1,5 +1,4 @@
-use Rattle.std.proofs.Common.{◌∙◌, length, refl, ap}
-use Rattle.std.specs.Prelude.{◌==◌}
+use Rattle.bt_meta.proofs.Base.{◌∙◌, length, refl, ap, ◌==◌}
 use Rattle.bt_meta.proofs.TreeWalk.{start, whole_tree}
 use Rattle.bt_meta.proofs.walk.read_tree.Goals as goal
 

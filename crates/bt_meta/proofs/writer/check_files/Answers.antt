@@ -1,4 +1,4 @@
-use Rattle.std.proofs.lemmas.Result.{err_from_is_err_and}
+use Rattle.bt_meta.proofs.Base.{err_from_is_err_and}
 use Rattle.bt_meta.proofs.MakeFiles.{taking_more, taking_stops}
 use Rattle.bt_meta.proofs.writer.check_files.Goals as goal
 

@@ -1,6 +1,4 @@
-use Rattle.std.proofs.Common.{rules, ◌≡◌}
-use Rattle.std.specs.Ordering.{is_lt}
-use Rattle.std.proofs.lemmas.Fn.{always_returns_same}
+use Rattle.bt_meta.proofs.Base.{rules, ◌≡◌, is_lt, always_returns_same}
 use Rattle.bt_meta.proofs.MakeFiles.{lent_before, ranks, in_order}
 use Rattle.bt_meta.proofs.writer.in_tree_order.Goals as goal
 

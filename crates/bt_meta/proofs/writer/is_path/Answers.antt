@@ -1,8 +1,7 @@
-use Rattle.std.proofs.Common.{rules, tests}
-use Rattle.std.specs.Prelude.{string_bytes}
+use Rattle.bt_meta.proofs.Base.{rules, string_bytes, is_element}
+use Rattle.std.proofs.Common.{tests}
 use Rattle.std.proofs.lemmas.Iterator.{YieldsList-from_slice}
 use Rattle.std.proofs.lemmas.Iterator.Search.{all_from_yields_List}
-use Rattle.bt_meta.specs.Faults.{is_element}
 use Rattle.bt_meta.proofs.MakeFiles.{path_test}
 use Rattle.bt_meta.proofs.writer.is_path.Goals as goal
 

@@ -1,8 +1,5 @@
-use Rattle.std.proofs.Common.{◌≤◌, length, arith, ap, ◌∙◌, sym, map}
-use Rattle.bt_bencode.specs.Spelling.{spelling_of}
-use Rattle.bt_meta.specs.Limits.{max_text_length}
-use Rattle.bt_meta.specs.EncodeSteps.{given_at}
-use Rattle.bt_meta.specs.Writer.{overlap, too_long}
+use Rattle.bt_meta.proofs.Base.{◌≤◌, length, arith, ap, ◌∙◌, sym, map, spelling_of, max_text_length, given_at, overlap}
+use Rattle.bt_meta.specs.Writer.{too_long}
 use Rattle.bt_meta.proofs.MakeFiles.{same_overlap, tree_paths, files_refused}
 use Rattle.bt_meta.proofs.MadeTorrent.{torrent_of_given}
 use Rattle.bt_meta.proofs.writer.make.Goals as goal

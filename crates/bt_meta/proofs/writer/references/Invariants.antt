@@ -1,7 +1,4 @@
-use Rattle.std.proofs.Common.{◌≡◌, map}
-use Rattle.std.specs.Prelude.{take}
-use Rattle.bt_meta.specs.GivenFiles.{given_of}
-use Rattle.bt_meta.specs.EncodeSteps.{given_at}
+use Rattle.bt_meta.proofs.Base.{◌≡◌, map, take, given_of, given_at}
 use Rattle.bt_meta.proofs.writer.references.Given as goal
 
 abbrev pub invariant-loop-file : goal.invariant-loop-file

@@ -1,6 +1,5 @@
-use Rattle.std.proofs.Common.{rules, leb, ap}
+use Rattle.bt_meta.proofs.Base.{rules, leb, ap, IsLaidOut}
 use Rattle.std.proofs.lemmas.List.Sorted.{IsPartitionPoint-from_clause}
-use Rattle.bt_meta.specs.Torrent.{IsLaidOut}
 use Rattle.bt_meta.proofs.PlacePieces.{entries_parted, last_of, none_of}
 use Rattle.bt_meta.proofs.torrent.Torrent.last_file_at.Goals as goal
 

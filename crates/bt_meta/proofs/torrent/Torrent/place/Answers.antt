@@ -1,6 +1,4 @@
-use Rattle.std.proofs.Common.{◌≤◌, ◌-◌, ◌*◌, arith, ap}
-use Rattle.bt_meta.specs.Files.{file_of}
-use Rattle.bt_meta.specs.Torrent.{IsLaidOut}
+use Rattle.bt_meta.proofs.Base.{◌≤◌, ◌-◌, ◌*◌, arith, ap, file_of, IsLaidOut}
 use Rattle.bt_meta.proofs.PlacePieces.{entry_at, fits, place_at}
 use Rattle.bt_meta.proofs.torrent.Torrent.place.Goals as goal
 
