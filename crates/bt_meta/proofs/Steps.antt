@@ -1,9 +1,9 @@
 -- The lemmas that close the steps of each function.
-use Rattle.bt_meta.proofs.Base.{data_of-Dict, no_spelling, overlap, unlawful, nat_tests, length-map, err_from_is_err_and, is_utf8-from_IsUtf8}
+use Rattle.bt_meta.proofs.Base.{data_of-Dict, no_spelling, overlap, unlawful, nat_tests, length-map, take_all, err_from_is_err_and, is_utf8-from_IsUtf8}
 use Rattle.bt_meta.proofs.Checks.{first_of-append_some}
 use Rattle.bt_meta.proofs.Choices.{test_of_none, test_of_some}
 use Rattle.bt_meta.proofs.Dictionaries.{empty_key, entries_ascend, field_ascends, key_entries, layers_absent, layers_ascend, nothing_ascends, single_entry}
-use Rattle.bt_meta.proofs.EncodeValue.{behind_here, file_alone, file_in, grown_found, layers_of_known, layers_of_short, no_path}
+use Rattle.bt_meta.proofs.EncodeValue.{lent_behind, tree_more, file_alone, file_in, layers_of_known, layers_of_short, no_path, entries_push, opened_push, before_none}
 use Rattle.bt_meta.proofs.FileLayers.{all_changed, files_with_layers, layer_differs, layer_right, layer_sized_wrong, pieces_after}
 use Rattle.bt_meta.proofs.MadeTree.{lent_short, ordered_named}
 use Rattle.bt_meta.proofs.MakeFiles.{apart_begun, apart_found, apart_more, files_refused, length_refused, none_overlap, none_refused, overlap_found, refused_as, same_overlap, taking_begun, taking_found, taking_rooted}
@@ -35,9 +35,11 @@ pub ruleset has_overlap_steps = (apart_begun, apart_more, apart_found, overlap_f
 
 pub ruleset add_layer_steps = (nat_tests, layers_of_short, layers_of_known)
 
-pub ruleset tree_of_steps = (length-map, grown_found, behind_here)
+pub ruleset tree_of_steps = (length-map, take_all, tree_more, lent_behind)
 
 pub ruleset folder_with_steps = (data_of-Dict, file_in, file_alone, no_path)
+
+pub ruleset open_last_steps = (entries_push, opened_push, before_none)
 
 pub ruleset value_of_steps = (data_of-Dict)
 

@@ -1,17 +1,19 @@
 -- The steps of making the value of a torrent. No public contract cites them.
-use Rattle.std.specs.Prelude.{◌≡◌, ℕ, ◌≤◌, ◌⊎◌, Bool, true, false, List, [], ◌∷◌}
+use Rattle.std.specs.Prelude.{◌≡◌, ℕ, ◌≤◌, if◌then◌else◌, nat_eq, Bool, true, false, List, [], ◌∷◌}
 use Rattle.std.specs.List.{All}
 use Rattle.std.specs.Option.{option_map}
 use Rattle.std.specs.Ordering.{nat_cmp}
 use Rattle.std.specs.Borrow.{Bor}
 use Rattle.std.specs.declared.cmp.Ordering.TheVariants.{Greater}
-use Rattle.std.specs.Cmp.Lexicographic.{slice_cmp}
+use Rattle.std.specs.Cmp.Lexicographic.{pointwise, slice_cmp}
 use Rattle.std.specs.BTreeMap.{BTreeMap, get}
-use Rattle.bt_bencode.specs.Value.{Data, dictionary, Entries, no_entries, entry}
+use Rattle.bt_bencode.specs.Dictionary.{first_value_of}
+use Rattle.bt_bencode.specs.Doc.{EntriesAscend}
+use Rattle.bt_bencode.specs.Value.{Data, string, dictionary, Entries, no_entries, entry}
 use Rattle.bt_tree.specs.Limits.{max_file_length}
 use Rattle.bt_meta.specs.declared.writer.Made.{Made}
 use Rattle.bt_meta.specs.GivenFiles.{Given, given_of}
-use Rattle.bt_meta.specs.Encode.{with_entry, folder_in, first_layer, AreLayersOf, value_made}
+use Rattle.bt_meta.specs.Encode.{first_layer, AreLayersOf, value_made}
 
 abbrev pub given_at : Bor Made → Given
 given_at m = given_of m.now
@@ -43,19 +45,28 @@ AreBefore name no_entries = Unit {0}
 AreBefore name (entry key d es) =
     (slice_cmp nat_cmp name key ≡ Greater) × (is_nonempty key ≡ true) × AreBefore name es
 
--- the last key is the name, that of a folder in which this holds, and the keys before stand before the name
-pub record IsInLastFolder (IsIn : Entries → Type 0) (name : List ℕ) (es : Entries) : Type 0 where
-  pub earlier : Entries
-  pub inner : Entries
-  pub last : es ≡ entries_before earlier (entry name (dictionary inner) no_entries)
-  pub before : AreBefore name earlier
-  pub behind : IsIn inner
+-- the entries before those of the folder of this name, and those in it: none before, if the entry is that folder, else
+-- none in it
+abbrev pub opened_entry : List ℕ → List ℕ → Data → Entries × Entries
+opened_entry name key (dictionary es) =
+    if pointwise nat_eq key name then (no_entries, es) else (entry key (dictionary es) no_entries, no_entries)
+opened_entry name key d = (entry key d no_entries, no_entries)
+
+-- that, of the last entry of a folder, with the entries before it
+abbrev pub opened : List ℕ → Entries → Entries × Entries
+opened name no_entries = (no_entries, no_entries)
+opened name (entry key d no_entries) = opened_entry name key d
+opened name (entry key d (entry other e es)) =
+    let rest = opened name (entry other e es) in
+    (entry key d rest.0, rest.1)
 
 -- the path stands behind those of a folder's files: its first name stands behind theirs, or is that of the
 -- last folder, and there the rest of the path does
 abbrev pub ComesAfter : List (List ℕ) → Entries → Type 0
 ComesAfter [] es = es ≡ no_entries
-ComesAfter (name ∷ path) es = AreBefore name es ⊎ IsInLastFolder (ComesAfter path) name es
+ComesAfter (name ∷ path) es =
+    let parts = opened name es in
+    AreBefore name parts.0 × ComesAfter path parts.1
 
 -- the map has the first layer of each root
 abbrev pub HasFirstLayers : ℕ → List Given → BTreeMap (List ℕ) (Bor (List ℕ)) → Type 0
@@ -63,17 +74,12 @@ HasFirstLayers piece_length files layers = (root : List ℕ) →
     option_map (λ layer. layer.now) (get (slice_cmp nat_cmp) layers root)
     ≡ first_layer piece_length files root
 
+-- the entries are the layers of the map at their roots, in ascending order
+pub record AreEntriesOf (layers : BTreeMap (List ℕ) (Bor (List ℕ))) (entries : Entries) : Type 0 where
+  pub ascending : EntriesAscend entries
+  pub first : (root : List ℕ) → first_value_of entries root
+      ≡ option_map string (option_map (λ layer. layer.now) (get (slice_cmp nat_cmp) layers root))
+
 -- no file is too long
 abbrev pub AreShortFiles : List (Bor Made) → Type 0
 AreShortFiles files = All (λ m. m.now.length ≤ max_file_length) files
-
--- the last folder was opened, if it has the name: these entries stand before it, and these in it
-pub record HasLastFolder (name : List ℕ) (path : List (List ℕ)) (es earlier inner : Entries) : Type 0 where
-  pub kept : (d : Data) → with_entry name d es ≡ entries_before earlier (entry name d no_entries)
-  pub opened : folder_in name es ≡ inner
-  pub behind : ComesAfter path inner
-
--- that, for each path behind those of the folder's files
-abbrev pub OpensLast : List ℕ → Entries → Entries → Entries → Type 0
-OpensLast name es earlier inner = (path : List (List ℕ)) → ComesAfter (name ∷ path) es
-    → HasLastFolder name path es earlier inner

@@ -12,7 +12,7 @@ ghost use Rattle.bt_bencode.specs.Value.{data_of, entries_of};
 ghost use Rattle.bt_tree.specs.Limits.{max_file_length};
 ghost use Rattle.bt_meta.specs.GivenFiles.{Given, given_of, HaveTreePaths};
 ghost use Rattle.bt_meta.specs.Encode.{AreLayersOf, with_file, properties_made, tree_made, info_made};
-ghost use Rattle.bt_meta.specs.EncodeSteps.{HasFirstLayers, AreNonEmpty, given_at, entries_before, ComesAfter, OpensLast, AreShortFiles, IsValueOf};
+ghost use Rattle.bt_meta.specs.EncodeSteps.{HasFirstLayers, AreNonEmpty, given_at, entries_before, ComesAfter, opened, opened_entry, AreEntriesOf, AreShortFiles, IsValueOf};
 
 use crate::writer::Made;
 use bt_bencode::Value;
@@ -69,7 +69,7 @@ fn info_of(
 }
 
 /// The tree of files that are in ascending order of their paths.
-#[tactic(auto, using(crate::proofs::Steps::tree_of_steps))]
+#[tactic(auto, using(crate::proofs::Steps::tree_of_steps), unfolding(crate::specs::Encode::tree_made))]
 fn tree_of(alloc: Global, files: &[&Made]) -> Result<Entries, AllocError>
     requires tree_paths { HaveTreePaths (map given_at files.now) }
     requires named { All (λ f. AreNonEmpty f.path) (map given_at files.now) }
@@ -106,41 +106,40 @@ fn folder_with(
 
 /// A folder without its last entry, and the entries of that one, where it is a folder of this name; else the
 /// folder as it is, and no entries.
+#[tactic(auto, using(crate::proofs::Steps::open_last_steps))]
 fn open_last(alloc: Global, folder: Entries, name: &[u8]) -> Result<(Entries, Entries), AllocError>
-    ensures { IfOk result (λ opened.
-        let es = entries_of folder.items in
-        OpensLast name.now es (entries_of opened.0.items) (entries_of opened.1.items)) }
+    ensures { IfOk result (λ parts.
+        (entries_of parts.0.items, entries_of parts.1.items)
+        ≡ opened name.now (entries_of folder.items)) }
 {
     let mut folder = folder;
-    let Some((key, value)) = folder.pop() else {
+    let Some(last) = folder.pop() else {
         return Ok((folder, Vec::new(alloc)));
     };
-    match entries_in(value) {
-        Ok(inner) => {
-            if key.as_slice() == name {
-                return Ok((folder, inner));
-            }
-            folder.push((key, Value::Dict(inner)))?;
-            Ok((folder, Vec::new(alloc)))
-        }
+    match entries_at(last, name) {
+        Ok(inner) => Ok((folder, inner)),
         Err(other) => {
-            folder.push((key, other))?;
+            folder.push(other)?;
             Ok((folder, Vec::new(alloc)))
         }
     }
 }
 
-/// The entries of a dictionary. Any other value is handed back.
-fn entries_in(value: Value) -> Result<Entries, Value>
-    ensures entries { IfOk result (λ entries. data_of value ≡ dictionary (entries_of entries.items)) }
-    ensures back { IfErr result (λ other. data_of other ≡ data_of value) }
-    ensures other { OnErr result ((es : Entries) → data_of value ≢ dictionary es) }
+/// The entries of a folder of this name. Any other entry is handed back.
+fn entries_at(last: (Vec<u8>, Value), name: &[u8]) -> Result<Entries, (Vec<u8>, Value)>
+    ensures entries { IfOk result (λ inner.
+        opened_entry name.now last.0.items (data_of last.1) ≡ (no_entries, entries_of inner.items)) }
+    ensures back { IfErr result (λ other.
+        opened_entry name.now last.0.items (data_of last.1)
+        ≡ (entry other.0.items (data_of other.1) no_entries, no_entries)) }
 {
+    let (key, value) = last;
+    if key.as_slice() != name {
+        return Err((key, value));
+    }
     match value {
-        Value::Dict(entries) => Ok(entries),
-        Value::Int(integer) => Err(Value::Int(integer)),
-        Value::Bytes(string) => Err(Value::Bytes(string)),
-        Value::List(items) => Err(Value::List(items)),
+        Value::Dict(inner) => Ok(inner),
+        other => Err((key, other)),
     }
 }
 
@@ -190,10 +189,7 @@ fn add_layer<'a>(
 
 /// The layers as strings at their roots, in ascending order.
 fn layer_entries(alloc: Global, layers: &BTreeMap<Hash32, &[u8]>) -> Result<Entries, AllocError>
-    ensures ascending { IfOk result (λ entries. EntriesAscend (entries_of entries.items)) }
-    ensures layers { IfOk result (λ entries. (root : List ℕ) →
-        first_value_of (entries_of entries.items) root
-        ≡ option_map (λ layer. string layer.now) (get (slice_cmp nat_cmp) layers.now root)) }
+    ensures { IfOk result (λ entries. AreEntriesOf layers.now (entries_of entries.items)) }
 {
     let mut entries = Vec::new(alloc);
     for (root, layer) in layers {
