@@ -1,5 +1,5 @@
 -- The value of files in tree order: its tree, and its layers by their roots.
-use Rattle.bt_meta.proofs.Base.{◌≡◌, ◌⊎◌, ℕ, false, List, [], ◌∷◌, ◌++◌, length, arith, refl, sym, ap, ◌∙◌, inl, inr, Some, None, zero, suc, ◌+◌, ◌<◌, ◌≤◌, Bool, true, map, add-one, Option, nat_eq, take, get_or, ◌&&◌, nat_lt, if◌then◌else◌, cond, Vec, nat_cmp, is_eq, slice_cmp, pointwise, nat_list_cmp_total, Ordering, Equal, Greater, Less, tied_itself, is_eq-slice_cmp, true≢false, cases_Bool, and_parts, exact_bytes, bytes_eq-Decides, Bor, All, take_more, take_all, get_or-map, length-map, option_map, Data, dictionary, Entries, no_entries, entry, data_of, entries_of, string, first_value_of, Value, EntriesAscend, HasAscendingKeys, with_file, properties_made, tree_made, first_layer, entries_before, AreBefore, ComesAfter, is_nonempty, AreNonEmpty, given_at, HasFirstLayers, path_order, begins, Given, HaveTreePaths, Made}
+use Rattle.bt_meta.proofs.Base.{◌≡◌, ◌⊎◌, ℕ, false, List, [], ◌∷◌, ◌++◌, length, arith, refl, sym, ap, ◌∙◌, inl, inr, Some, None, zero, suc, ◌+◌, ◌<◌, ◌≤◌, Bool, true, map, add-one, Option, nat_eq, take, get_or, ◌&&◌, nat_lt, cond, Vec, nat_cmp, is_eq, slice_cmp, pointwise, nat_list_cmp_total, Equal, Greater, Less, tied_itself, is_eq-slice_cmp, true≢false, cases_Bool, and_parts, exact_bytes, bytes_eq-Decides, Bor, All, take_more, take_all, get_or-map, length-map, option_map, Data, dictionary, Entries, no_entries, entry, data_of, entries_of, string, first_value_of, Value, EntriesAscend, HasAscendingKeys, with_file, properties_made, tree_made, first_layer, entries_before, AreBefore, ComesAfter, is_nonempty, AreNonEmpty, given_at, HasFirstLayers, path_order, begins, Given, HaveTreePaths, Made}
 use Rattle.std.specs.Prelude.{is_some}
 use Rattle.std.proofs.lemmas.List.Sums.{fold_more}
 use Rattle.std.proofs.lemmas.Cmp.{nat_list_eq_equiv}
@@ -8,7 +8,6 @@ use Rattle.std.specs.Option.{option_or}
 use Rattle.std.specs.List.Sorted.{IsStrictlySortedBy}
 use Rattle.std.specs.Map.{keys_of, lookup}
 use Rattle.std.specs.BTreeMap.{BTreeMap, get, is_at}
-use Rattle.std.proofs.lemmas.List.Folds.{find-append}
 use Rattle.bt_meta.specs.Encode.{with_entry}
 use Rattle.bt_meta.specs.EncodeSteps.{opened, opened_entry}
 
@@ -28,16 +27,13 @@ pub before_none : (es : Entries) → entries_before es no_entries ≡ es
 before_none no_entries = refl
 before_none (entry key d es) = ap (entry key d) (before_none es)
 
-module _ (name : List ℕ) where
-  value_ahead : (rest es : Entries) → AreBefore name es → first_value_of (entries_before es rest) name ≡ first_value_of rest name
-  value_ahead rest no_entries h = refl
-  value_ahead rest (entry key d es) h = rw (other_name _ _ h.0) (value_ahead rest es h.2)
-
-  entry_ahead : (f : Data) (rest es : Entries) → AreBefore name es
-      → with_entry name f (entries_before es rest) ≡ entries_before es (with_entry name f rest)
-  unfolding with_entry
-  entry_ahead f rest no_entries h = refl
-  entry_ahead f rest (entry key d es) h = rw (h.0, entry_ahead f rest es h.2) refl
+-- they are passed over
+ahead : (name : List ℕ) (f : Data) (rest es : Entries) → AreBefore name es
+    → (first_value_of (entries_before es rest) name ≡ first_value_of rest name)
+    × (with_entry name f (entries_before es rest) ≡ entries_before es (with_entry name f rest))
+unfolding with_entry
+ahead name f rest no_entries h = (refl, refl)
+ahead name f rest (entry key d es) h = let later = ahead name f rest es h.2 in (rw (other_name _ _ h.0) later.0, rw (h.0, later.1) refl)
 
 -- ---- opening the last folder
 
@@ -48,7 +44,7 @@ opened_push name (entry k e no_entries) key d = refl
 opened_push name (entry k e (entry l f es)) key d = rw (opened_push name (entry l f es) key d) refl
 
 -- these entries stand before those of the folder of this name, and these in it; none, if there is no such folder
-abbrev IsOpened : List ℕ → Entries → Entries × Entries → Type 0
+abbrev pub IsOpened : List ℕ → Entries → Entries × Entries → Type 0
 IsOpened name es parts =
     ((es ≡ parts.0) × (parts.1 ≡ no_entries)) ⊎ (es ≡ entries_before parts.0 (entry name (dictionary parts.1) no_entries))
 
@@ -75,18 +71,13 @@ pub file_in : (name : List ℕ) (path : List (List ℕ)) (d : Data) (es earlier 
     → entries_before earlier (entry name (dictionary (with_file path d inner)) no_entries) ≡ with_file (name ∷ path) d es
 unfolding with_file with_entry
 file_in name path d es earlier inner is behind =
-    let before = rw (← is) at behind.0 in
+    let passed = λ (i rest : Entries). ahead name (dictionary (with_file path d i)) rest earlier (rw (← is) at behind.0) in
     elim (rw (← is) at (is_opened name es)) [
-      | inl whole ↦
-          let value = rw before_none at (value_ahead name no_entries earlier before) in
-          let added = rw before_none at (entry_ahead name (dictionary (with_file path d no_entries)) no_entries earlier before) in
-          rw (whole.0, whole.1, value, added) refl
-      | inr split ↦ rw (split, value_ahead name _ earlier before, nat_list_eq_equiv.refl name, entry_ahead name _ _ earlier before, tied_itself nat_list_cmp_total name) refl
+      | inl whole ↦ let p = rw before_none at (passed no_entries no_entries) in rw (whole.0, whole.1, p.0, p.1) refl
+      | inr split ↦
+          let p = passed inner (entry name (dictionary inner) no_entries) in
+          rw (split, p.0, nat_list_eq_equiv.refl name, p.1, tied_itself nat_list_cmp_total name) refl
     ]
-
-pub file_alone : (d : Data) (es : Entries) → es ≡ no_entries → entries_before es (entry [] d no_entries) ≡ with_file [] d es
-unfolding with_file with_entry
-file_alone d es e = rw e refl
 
 -- the folder before and after the file: the entries before the last one, which is a folder of this name
 pub record IsInFolder (Below : Entries → Entries → Type 0) (name : List ℕ) (old new : Entries) : Type 0 where
@@ -94,7 +85,7 @@ pub record IsInFolder (Below : Entries → Entries → Type 0) (name : List ℕ)
   pub inner : Entries
   pub more : Entries
   pub before : AreBefore name earlier
-  pub split : ((old ≡ earlier) × (inner ≡ no_entries)) ⊎ (old ≡ entries_before earlier (entry name (dictionary inner) no_entries))
+  pub split : IsOpened name old (earlier, inner)
   pub new_is : new ≡ entries_before earlier (entry name (dictionary more) no_entries)
   pub below : Below inner more
 
@@ -118,10 +109,6 @@ put_there (name ∷ path) d es behind =
       below = put_there path d _ behind.1;
     }
 
-pub no_path : {X : Type 0} (path : List X) → length path ≡ 0 → path ≡ []
-no_path [] e = refl
-no_path (x ∷ xs) e = absurd (omega (arith, e))
-
 -- ==== files of which no path begins the next go into a tree one behind the other
 
 module _ (m n : List ℕ) (less : slice_cmp nat_cmp n m ≡ Less) where
@@ -139,16 +126,14 @@ pub next_behind : (p q : List (List ℕ)) (d : Data) (es new : Entries) → AreN
 next_behind [] q d es new named put less apart = absurd (true≢false apart)
 next_behind (n ∷ p) [] d es new named put less apart = cc
 next_behind (n ∷ p) (m ∷ q) d es new named put less apart =
-    rw (put.new_is, opened_push m, ← is_eq-slice_cmp n m) (by_order _ refl (next_behind p q d put.inner put.more named.1 put.below))
-  where
-    by_order : (o : Ordering) → o ≡ slice_cmp nat_cmp n m → (path_order p q ≡ Less → begins p q ≡ false → ComesAfter q put.more)
-        → let parts : Entries × Entries = if is_eq o then (no_entries, put.more) else (entry n (dictionary put.more) no_entries, no_entries) in
-        AreBefore m (entries_before put.earlier parts.0) × ComesAfter q parts.1
-    by_order Less e later = (all_above m n (sym e) _ _ named.0 put.before, behind_none q)
-    by_order Equal e later =
-        let same = exact_bytes n m (sym e) in
-        (rw (before_none, ← same) put.before, later (rw (← e) at less) (rw (← is_eq-slice_cmp n m, ← e) at apart))
-    by_order Greater e later = let greater : Greater ≡ Less = rw (← e) at less in cc
+    (elim (slice_cmp nat_cmp n m) as (λ o. o ≡ slice_cmp nat_cmp n m → ComesAfter (m ∷ q) new) [
+      | Less ↦ λ e. rw (put.new_is, opened_push m, ← is_eq-slice_cmp n m, ← e) (all_above m n (sym e) _ _ named.0 put.before, behind_none q)
+      | Equal ↦ λ e.
+          let same = exact_bytes n m (sym e) in
+          let below = next_behind p q d put.inner put.more named.1 put.below (rw (← e) at less) (rw (← is_eq-slice_cmp n m, ← e) at apart) in
+          rw (put.new_is, opened_push m, ← is_eq-slice_cmp n m, ← e) (rw (before_none, ← same) put.before, below)
+      | Greater ↦ λ e. let greater : Greater ≡ Less = rw (← e) at less in cc
+    ]) refl
 
 -- ---- the loop over the files
 
@@ -230,25 +215,26 @@ list_finds (e ∷ es) root =
 
 -- ---- one file more
 
-or_first : (o p : Option Given) → option_map (λ g. g.layer) (option_or o p) ≡ option_or (option_map (λ g. g.layer) o) (option_map (λ g. g.layer) p)
-or_first None p = refl
-or_first (Some g) p = refl
+abbrev has : ℕ → List ℕ → Given → Bool
+has n root g = nat_lt n g.length && pointwise nat_eq g.root root
+
+-- the first layer is that of the files before, or else that of the file
+behind : (n : ℕ) (files : List Given) (f : Given) (root : List ℕ)
+    → first_layer n (files ++ f ∷ []) root ≡ option_or (first_layer n files root) (first_layer n (f ∷ []) root)
+behind n [] f root = refl
+behind n (g ∷ gs) f root = elim (cases_Bool (has n root g)) [
+  | inl first ↦ rw first refl
+  | inr other ↦ rw other (behind n gs f root)
+]
 
 module _ (n : ℕ) (files : List Given) (f : Given) (old : BTreeMap (List ℕ) (Bor (List ℕ))) (h : HasFirstLayers n files old) where
-  abbrev has : List ℕ → Given → Bool
-  has root g = nat_lt n g.length && pointwise nat_eq g.root root
-
   abbrev layer_there : List ℕ → Option (Bor (List ℕ))
   layer_there = get (slice_cmp nat_cmp) old
-
-  -- the first layer is that of the files before, or else that of the file
-  behind : (root : List ℕ) → first_layer n (files ++ f ∷ []) root ≡ option_or (now_of (layer_there root)) (first_layer n (f ∷ []) root)
-  behind root = rw (h root) (ap (option_map (λ (g : Given). g.layer)) (find-append (has root) files (f ∷ [])) ∙ or_first _ _)
 
   -- a root where the file has no layer, or another has one
   stays : (root : List ℕ) → (nat_lt n f.length ≡ true → pointwise nat_eq f.root root ≡ true → is_some (layer_there root) ≡ true)
       → now_of (layer_there root) ≡ first_layer n (files ++ f ∷ []) root
-  stays root there = rw (behind root) (by (layer_there root) (has root f) (λ t. let both = and_parts _ _ t in there both.0 both.1))
+  stays root there = rw (behind n files f root, ← h root) (by (layer_there root) (has n root f) (λ t. let both = and_parts _ _ t in there both.0 both.1))
     where
       by : (o : Option (Bor (List ℕ))) (t : Bool) → (t ≡ true → is_some o ≡ true)
           → now_of o ≡ option_or (now_of o) (option_map (λ (g : Given). g.layer) (cond t (Some f) None))
@@ -272,6 +258,6 @@ module _ (n : ℕ) (files : List Given) (f : Given) (old : BTreeMap (List ℕ) (
   layers_of_new new layer long absent is updates root = rw (updates root, is_eq-slice_cmp f.root root) (elim (cases_Bool (pointwise nat_eq f.root root)) [
     | inl same ↦
         let none : layer_there root ≡ None = None-if_not_some _ (rw ((bytes_eq-Decides f.root root).0 same) at absent) in
-        rw (same, is, behind root, none, long, same) refl
+        rw (same, is, behind n files f root, ← h root, none, long, same) refl
     | inr other ↦ rw other (stays root (λ long same. cc))
   ])

@@ -3,7 +3,7 @@ use Rattle.bt_meta.proofs.Base.{data_of-Dict, no_spelling, overlap, unlawful, na
 use Rattle.bt_meta.proofs.Checks.{first_of-append_some}
 use Rattle.bt_meta.proofs.Choices.{test_of_none, test_of_some}
 use Rattle.bt_meta.proofs.Dictionaries.{empty_key, entries_ascend, field_ascends, key_entries, layers_absent, layers_ascend, nothing_ascends, single_entry}
-use Rattle.bt_meta.proofs.EncodeValue.{lent_behind, tree_more, file_alone, file_in, layers_of_known, layers_of_short, no_path, entries_push, opened_push, before_none}
+use Rattle.bt_meta.proofs.EncodeValue.{lent_behind, tree_more, file_in, layers_of_known, layers_of_short, entries_push, opened_push, before_none}
 use Rattle.bt_meta.proofs.FileLayers.{all_changed, files_with_layers, layer_differs, layer_right, layer_sized_wrong, pieces_after}
 use Rattle.bt_meta.proofs.MadeTree.{lent_short, ordered_named}
 use Rattle.bt_meta.proofs.MakeFiles.{apart_begun, apart_found, apart_more, files_refused, length_refused, none_overlap, none_refused, overlap_found, refused_as, same_overlap, taking_begun, taking_found, taking_rooted}
@@ -13,6 +13,7 @@ use Rattle.bt_meta.proofs.ReadRefusals.{value_refused}
 use Rattle.bt_meta.proofs.TreeWalk.{bad_name_stops, conflict_stops, entry_stops, file_entered, file_entry, file_passes, folder_entered, folder_many, folder_passes, key_at_top, no_file, no_node_stops, node_is, passes_nothing, start, tree_stops}
 use Rattle.bt_meta.specs.Reader.{too_long as text_too_long}
 use Rattle.bt_meta.specs.Writer.{no_memory}
+use Rattle.std.proofs.lemmas.List.{nil_from_length}
 use Rattle.std.proofs.lemmas.Str.{IsUtf8-from_is_utf8}
 
 pub ruleset info_in_steps = (err_from_is_err_and, first_of-append_some, info_faults, metainfo_is)
@@ -37,7 +38,7 @@ pub ruleset add_layer_steps = (nat_tests, layers_of_short, layers_of_known)
 
 pub ruleset tree_of_steps = (length-map, take_all, tree_more, lent_behind)
 
-pub ruleset folder_with_steps = (data_of-Dict, file_in, file_alone, no_path)
+pub ruleset folder_with_steps = (data_of-Dict, file_in, nil_from_length)
 
 pub ruleset open_last_steps = (entries_push, opened_push, before_none)
 

@@ -84,7 +84,7 @@ fn tree_of(alloc: Global, files: &[&Made]) -> Result<Entries, AllocError>
 }
 
 /// The folder with a file behind the others, at a path that stands behind theirs.
-#[tactic(auto, using(crate::proofs::Steps::folder_with_steps))]
+#[tactic(auto, using(crate::proofs::Steps::folder_with_steps), unfolding(crate::specs::Encode::with_file, crate::specs::Encode::with_entry))]
 fn folder_with(
     alloc: Global,
     folder: Entries,
