@@ -20,9 +20,6 @@ entries_push (e ∷ es) key v = ap (entry e.0.items (data_of e.1)) (entries_push
 
 -- ---- entries that stand before the name
 
-other_name : (name key : List ℕ) → slice_cmp nat_cmp name key ≡ Greater → pointwise nat_eq key name ≡ false
-other_name name key h = rw (← is_eq-slice_cmp, nat_list_cmp_total.antisymm key name, h) refl
-
 pub before_none : (es : Entries) → entries_before es no_entries ≡ es
 before_none no_entries = refl
 before_none (entry key d es) = ap (entry key d) (before_none es)
@@ -33,7 +30,9 @@ ahead : (name : List ℕ) (f : Data) (rest es : Entries) → AreBefore name es
     × (with_entry name f (entries_before es rest) ≡ entries_before es (with_entry name f rest))
 unfolding with_entry
 ahead name f rest no_entries h = (refl, refl)
-ahead name f rest (entry key d es) h = let later = ahead name f rest es h.2 in (rw (other_name _ _ h.0) later.0, rw (h.0, later.1) refl)
+ahead name f rest (entry key d es) h =
+    let later = ahead name f rest es h.2 in
+    (rw (← is_eq-slice_cmp key name, nat_list_cmp_total.antisymm key name, h.0) later.0, rw (h.0, later.1) refl)
 
 -- ---- opening the last folder
 
@@ -215,49 +214,49 @@ list_finds (e ∷ es) root =
 
 -- ---- one file more
 
-abbrev has : ℕ → List ℕ → Given → Bool
-has n root g = nat_lt n g.length && pointwise nat_eq g.root root
+module _ (n : ℕ) (f : Given) where
+  abbrev has : List ℕ → Given → Bool
+  has root g = nat_lt n g.length && pointwise nat_eq g.root root
 
--- the first layer is that of the files before, or else that of the file
-behind : (n : ℕ) (files : List Given) (f : Given) (root : List ℕ)
-    → first_layer n (files ++ f ∷ []) root ≡ option_or (first_layer n files root) (first_layer n (f ∷ []) root)
-behind n [] f root = refl
-behind n (g ∷ gs) f root = elim (cases_Bool (has n root g)) [
-  | inl first ↦ rw first refl
-  | inr other ↦ rw other (behind n gs f root)
-]
+  -- the first layer is that of the files before, or else that of the file
+  behind : (files : List Given) (root : List ℕ) → first_layer n (files ++ f ∷ []) root ≡ option_or (first_layer n files root) (first_layer n (f ∷ []) root)
+  behind [] root = refl
+  behind (g ∷ gs) root = elim (cases_Bool (has root g)) [
+    | inl first ↦ rw first refl
+    | inr other ↦ rw other (behind gs root)
+  ]
 
-module _ (n : ℕ) (files : List Given) (f : Given) (old : BTreeMap (List ℕ) (Bor (List ℕ))) (h : HasFirstLayers n files old) where
-  abbrev layer_there : List ℕ → Option (Bor (List ℕ))
-  layer_there = get (slice_cmp nat_cmp) old
+  module _ (files : List Given) (old : BTreeMap (List ℕ) (Bor (List ℕ))) (h : HasFirstLayers n files old) where
+    abbrev layer_there : List ℕ → Option (Bor (List ℕ))
+    layer_there = get (slice_cmp nat_cmp) old
 
-  -- a root where the file has no layer, or another has one
-  stays : (root : List ℕ) → (nat_lt n f.length ≡ true → pointwise nat_eq f.root root ≡ true → is_some (layer_there root) ≡ true)
-      → now_of (layer_there root) ≡ first_layer n (files ++ f ∷ []) root
-  stays root there = rw (behind n files f root, ← h root) (by (layer_there root) (has n root f) (λ t. let both = and_parts _ _ t in there both.0 both.1))
-    where
-      by : (o : Option (Bor (List ℕ))) (t : Bool) → (t ≡ true → is_some o ≡ true)
-          → now_of o ≡ option_or (now_of o) (option_map (λ (g : Given). g.layer) (cond t (Some f) None))
-      by None true there = absurd (true≢false (sym (there refl)))
-      by None false there = refl
-      by (Some layer) t there = refl
+    -- a root where the file has no layer, or another has one
+    stays : (root : List ℕ) → (nat_lt n f.length ≡ true → pointwise nat_eq f.root root ≡ true → is_some (layer_there root) ≡ true)
+        → now_of (layer_there root) ≡ first_layer n (files ++ f ∷ []) root
+    stays root there = rw (behind files root, ← h root) (by (layer_there root) (has root f) (λ t. let both = and_parts _ _ t in there both.0 both.1))
+      where
+        by : (o : Option (Bor (List ℕ))) (t : Bool) → (t ≡ true → is_some o ≡ true)
+            → now_of o ≡ option_or (now_of o) (option_map (λ (g : Given). g.layer) (cond t (Some f) None))
+        by None true there = absurd (true≢false (sym (there refl)))
+        by None false there = refl
+        by (Some layer) t there = refl
 
-  -- a file of one piece
-  pub layers_of_short : nat_lt n f.length ≡ false → HasFirstLayers n (files ++ f ∷ []) old
-  layers_of_short short root = stays root (λ long same. cc)
+    -- a file of one piece
+    pub layers_of_short : nat_lt n f.length ≡ false → HasFirstLayers n (files ++ f ∷ []) old
+    layers_of_short short root = stays root (λ long same. cc)
 
-  -- one whose root has a layer
-  pub layers_of_known : is_some (layer_there f.root) ≡ true → HasFirstLayers n (files ++ f ∷ []) old
-  layers_of_known known root = stays root (λ long same. rw (← (bytes_eq-Decides f.root root).0 same) known)
+    -- one whose root has a layer
+    pub layers_of_known : is_some (layer_there f.root) ≡ true → HasFirstLayers n (files ++ f ∷ []) old
+    layers_of_known known root = stays root (λ long same. rw (← (bytes_eq-Decides f.root root).0 same) known)
 
-  -- one whose root has none yet
-  pub layers_of_new : (new : BTreeMap (List ℕ) (Bor (List ℕ))) (layer : Bor (List ℕ)) → nat_lt n f.length ≡ true
-      → is_some (layer_there f.root) ≡ false → layer.now ≡ f.layer
-      → ((root : List ℕ) → get (slice_cmp nat_cmp) new root ≡ cond (is_at (slice_cmp nat_cmp f.root) root) (Some layer) (layer_there root))
-      → HasFirstLayers n (files ++ f ∷ []) new
-  layers_of_new new layer long absent is updates root = rw (updates root, is_eq-slice_cmp f.root root) (elim (cases_Bool (pointwise nat_eq f.root root)) [
-    | inl same ↦
-        let none : layer_there root ≡ None = None-if_not_some _ (rw ((bytes_eq-Decides f.root root).0 same) at absent) in
-        rw (same, is, behind n files f root, ← h root, none, long, same) refl
-    | inr other ↦ rw other (stays root (λ long same. cc))
-  ])
+    -- one whose root has none yet
+    pub layers_of_new : (new : BTreeMap (List ℕ) (Bor (List ℕ))) (layer : Bor (List ℕ)) → nat_lt n f.length ≡ true
+        → is_some (layer_there f.root) ≡ false → layer.now ≡ f.layer
+        → ((root : List ℕ) → get (slice_cmp nat_cmp) new root ≡ cond (is_at (slice_cmp nat_cmp f.root) root) (Some layer) (layer_there root))
+        → HasFirstLayers n (files ++ f ∷ []) new
+    layers_of_new new layer long absent is updates root = rw (updates root, is_eq-slice_cmp f.root root) (elim (cases_Bool (pointwise nat_eq f.root root)) [
+      | inl same ↦
+          let none : layer_there root ≡ None = None-if_not_some _ (rw ((bytes_eq-Decides f.root root).0 same) at absent) in
+          rw (same, is, behind files root, ← h root, none, long, same) refl
+      | inr other ↦ rw other (stays root (λ long same. cc))
+    ])

@@ -1,9 +1,9 @@
 -- The lemmas that close the steps of each function.
-use Rattle.bt_meta.proofs.Base.{data_of-Dict, no_spelling, overlap, unlawful, nat_tests, length-map, take_all, err_from_is_err_and, is_utf8-from_IsUtf8}
+use Rattle.bt_meta.proofs.Base.{data_of-Dict, data_of-Bytes, no_spelling, overlap, unlawful, nat_tests, length-map, take_all, err_from_is_err_and, is_utf8-from_IsUtf8}
 use Rattle.bt_meta.proofs.Checks.{first_of-append_some}
 use Rattle.bt_meta.proofs.Choices.{test_of_none, test_of_some}
 use Rattle.bt_meta.proofs.Dictionaries.{empty_key, entries_ascend, field_ascends, key_entries, layers_absent, layers_ascend, nothing_ascends, single_entry}
-use Rattle.bt_meta.proofs.EncodeValue.{lent_behind, tree_more, file_in, layers_of_known, layers_of_short, entries_push, opened_push, before_none}
+use Rattle.bt_meta.proofs.EncodeValue.{lent_behind, tree_more, file_in, layers_of_known, layers_of_short, entries_push, opened_push, before_none, before_more}
 use Rattle.bt_meta.proofs.FileLayers.{all_changed, files_with_layers, layer_differs, layer_right, layer_sized_wrong, pieces_after}
 use Rattle.bt_meta.proofs.MadeTree.{lent_short, ordered_named}
 use Rattle.bt_meta.proofs.MakeFiles.{apart_begun, apart_found, apart_more, files_refused, length_refused, none_overlap, none_refused, overlap_found, refused_as, same_overlap, taking_begun, taking_found, taking_rooted}
@@ -41,6 +41,8 @@ pub ruleset tree_of_steps = (length-map, take_all, tree_more, lent_behind)
 pub ruleset folder_with_steps = (data_of-Dict, file_in, nil_from_length)
 
 pub ruleset open_last_steps = (entries_push, opened_push, before_none)
+
+pub ruleset layer_entries_steps = (data_of-Bytes, before_more)
 
 pub ruleset value_of_steps = (data_of-Dict)
 

@@ -45,14 +45,13 @@ AreBefore name no_entries = Unit {0}
 AreBefore name (entry key d es) =
     (slice_cmp nat_cmp name key ≡ Greater) × (is_nonempty key ≡ true) × AreBefore name es
 
--- the entries before those of the folder of this name, and those in it: none before, if the entry is that folder, else
--- none in it
+-- an entry opened as the folder of this name: what stays, and what was in it. Any other entry stays as it is
 abbrev pub opened_entry : List ℕ → List ℕ → Data → Entries × Entries
 opened_entry name key (dictionary es) =
     if pointwise nat_eq key name then (no_entries, es) else (entry key (dictionary es) no_entries, no_entries)
 opened_entry name key d = (entry key d no_entries, no_entries)
 
--- that, of the last entry of a folder, with the entries before it
+-- a folder's entries, with the last one opened so
 abbrev pub opened : List ℕ → Entries → Entries × Entries
 opened name no_entries = (no_entries, no_entries)
 opened name (entry key d no_entries) = opened_entry name key d

@@ -188,6 +188,7 @@ fn add_layer<'a>(
 }
 
 /// The layers as strings at their roots, in ascending order.
+#[tactic(auto, using(crate::proofs::Steps::layer_entries_steps))]
 fn layer_entries(alloc: Global, layers: &BTreeMap<Hash32, &[u8]>) -> Result<Entries, AllocError>
     ensures { IfOk result (λ entries. AreEntriesOf layers.now (entries_of entries.items)) }
 {

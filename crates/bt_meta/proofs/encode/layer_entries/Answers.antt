@@ -1,10 +1,5 @@
-use Rattle.bt_meta.proofs.Base.{data_of-Bytes}
-use Rattle.bt_meta.proofs.EncodeValue.{before_none, before_more, list_ascends, list_finds}
+use Rattle.bt_meta.proofs.EncodeValue.{before_none, list_ascends, list_finds}
 use Rattle.bt_meta.proofs.encode.layer_entries.Goals as goal
-
-pub loop-root-preserved : goal.loop-root-preserved
-loop-root-preserved c =
-    rw (c.in_ok-entries.ensures, data_of-Bytes _, c.in_ok-layer.ensures.items, before_more) (rw c.in-Some.ensures.steps at c.loop-root.invariant)
 
 pub returns : goal.returns
 returns c =
