@@ -1,5 +1,6 @@
 -- The lemmas that close the steps of each function.
-use Rattle.bt_meta.proofs.Base.{data_of-Dict, no_spelling, overlap, unlawful, nat_tests, length-map, err_from_is_err_and, is_utf8-from_IsUtf8}
+use Rattle.bt_bencode.proofs.ValueData.{data_of-Int, data_of-List}
+use Rattle.bt_meta.proofs.Base.{data_of-Dict, data_of-Bytes, no_spelling, overlap, unlawful, nat_tests, length-map, err_from_is_err_and, is_utf8-from_IsUtf8}
 use Rattle.bt_meta.proofs.Checks.{first_of-append_some}
 use Rattle.bt_meta.proofs.Choices.{test_of_none, test_of_some}
 use Rattle.bt_meta.proofs.Dictionaries.{empty_key, entries_ascend, field_ascends, key_entries, layers_absent, layers_ascend, nothing_ascends, single_entry}
@@ -10,7 +11,7 @@ use Rattle.bt_meta.proofs.MakeFiles.{apart_begun, apart_found, apart_more, files
 use Rattle.bt_meta.proofs.ReadFiles.{ascends}
 use Rattle.bt_meta.proofs.ReadHead.{info_faults, metainfo_is, torrent_head_fault, torrent_layers, torrent_tree_fault}
 use Rattle.bt_meta.proofs.ReadRefusals.{value_refused}
-use Rattle.bt_meta.proofs.TreeWalk.{bad_name_stops, conflict_stops, entry_stops, file_entered, file_entry, file_passes, folder_entered, folder_many, folder_passes, key_at_top, no_file, no_node_stops, node_is, passes_nothing, start, tree_stops}
+use Rattle.bt_meta.proofs.TreeWalk.{bad_name_stops, conflict_stops, entry_stops, file_entered, file_entry, file_passes, folder_entered, folder_many, folder_passes, key_at_top, no_file, no_folder, no_node_stops, node_is, none_yet, passes_nothing, start, tree_stops}
 use Rattle.bt_meta.specs.Reader.{too_long as text_too_long}
 use Rattle.bt_meta.specs.Writer.{no_memory}
 use Rattle.std.proofs.lemmas.Str.{IsUtf8-from_is_utf8}
@@ -22,6 +23,8 @@ pub ruleset torrent_in_steps = (err_from_is_err_and, torrent_head_fault, torrent
 pub ruleset enter_steps = (err_from_is_err_and, test_of_some, test_of_none, empty_key, key_entries, passes_nothing, no_node_stops, bad_name_stops, folder_many, folder_passes, entry_stops, file_entry, node_is, file_entered, folder_entered)
 
 pub ruleset add_file_steps = (err_from_is_err_and, conflict_stops, file_passes)
+
+pub ruleset walk_folder_steps = (data_of-Int, data_of-Bytes, data_of-List, no_folder, none_yet)
 
 pub ruleset read_tree_steps = (err_from_is_err_and, start, key_at_top, tree_stops, no_file)
 

@@ -1,18 +1,19 @@
 -- The walk over a file tree, entry by entry.
-use Rattle.bt_meta.proofs.Base.{◌≡◌, ℕ, Bool, true, false, List, [], ◌∷◌, ◌++◌, None, Some, refl, inr, ◌+◌, ◌<◌, length, take, drop, get_or, sym, ap, ◌∙◌, append_assoc, inl, ◌≤◌, map, arith, ◌⊎◌, Option, not, ◌&&◌, ◌==◌, filter, sum_by, ◌||◌, unwrap_or, nat_lt, if◌then◌else◌, codes, nat_le, list_any, last_or, Vec, append-nil, map-append, take_more, map_push, length-map, or-false, cases_Bool, filter-append, All-push, All-nil, list_any-append, sum_by-append, sum_by-cons, div_ceil, nat_tests, Data, Entries, entry, data_of, entries_of, Value, max_file_length, TreeEntry, tree_entries_below, tree_entries_among, with_earlier, is_file, properties_of, length_of, File, root_of, is_conflict, file_of, file_at, pieces_of, piece_count, length_in, root_in, files_of, first_of, fault_if, is_node, has_lawful_name, conflict, is_too_many, entry_check, file_checks, has_lawful_length, is_path_element, tree_checks, property_checks, Lengths, length_at, is_other_length, NotesLength, Passes, tree_entries_of, MetaError, TooMany, Tree, string_at, no_dictionary, has_key, dictionary_at, FileEntry, max_path_length, max_file_count, max_piece_count, IsListing, Listing}
+use Rattle.bt_meta.proofs.Base.{◌≡◌, ℕ, Bool, true, false, List, [], ◌∷◌, ◌++◌, None, Some, refl, inr, ◌+◌, ◌<◌, length, take, get_or, sym, ap, ◌∙◌, append_assoc, inl, ◌≤◌, map, arith, Option, not, ◌&&◌, ◌==◌, filter, sum_by, ◌||◌, unwrap_or, nat_lt, if◌then◌else◌, codes, nat_le, list_any, last_or, Vec, append-nil, map-append, take_more, map_push, length-map, or-false, cases_Bool, filter-append, All-push, All-nil, list_any-append, sum_by-append, sum_by-cons, div_ceil, nat_tests, Data, Entries, entry, data_of, entries_of, Value, max_file_length, TreeEntry, tree_entries_below, tree_entries_among, with_earlier, is_file, properties_of, length_of, File, root_of, is_conflict, file_of, file_at, pieces_of, piece_count, length_in, files_of, first_of, fault_if, is_node, has_lawful_name, conflict, is_too_many, entry_check, has_lawful_length, is_path_element, tree_checks, property_checks, Lengths, length_at, is_other_length, NotesLength, Passes, tree_entries_of, MetaError, TooMany, Tree, string_at, no_dictionary, has_key, dictionary_at, FileEntry, max_path_length, max_file_count, max_piece_count, IsListing, Listing}
 use Rattle.std.proofs.lemmas.List.{length_push, take-append-drop}
 use Rattle.std.proofs.lemmas.List.Elements.{All-same}
 use Rattle.std.specs.Option.{option_map_or}
 use Rattle.bt_bencode.specs.Value.{entries_from}
 use Rattle.bt_meta.specs.Faults.{Check}
 use Rattle.bt_meta.specs.PropertySteps.{IsFileFacts, IsLengthConflict}
-use Rattle.bt_meta.specs.WalkSteps.{IsWalkOver, Walks, Stops, has_other_length, IsFileEntry, IsNodeOf, StopsAtEntry}
+use Rattle.bt_meta.specs.WalkSteps.{IsWalkOver, Walks, Stops, has_other_length, IsFileEntry, IsNodeOf, Enters, StopsAtEntry}
 use Rattle.bt_meta.specs.declared.walk.Walk.{Walk}
 use Rattle.bt_meta.specs.declared.error.MetaError.TheVariants.{RootConflict, BadPath}
 use Rattle.bt_meta.proofs.Checks.{first_of-append, first_of-append_some}
-use Rattle.bt_meta.specs.Fields.{natural_at}
+use Rattle.bt_meta.specs.Fields.{is_dictionary, natural_at}
+use Rattle.bt_meta.proofs.Base.{no_entries}
+use Rattle.bt_meta.proofs.Dictionaries.{nothing_below}
 use Rattle.bt_meta.specs.Limits.{are_too_many}
-use Rattle.bt_meta.proofs.Base.{subst}
 use Rattle.bt_meta.specs.declared.walk.Node.{Node}
 use Rattle.bt_meta.specs.declared.walk.Node.TheVariants.{Folder, File as file_node}
 use Rattle.bt_meta.specs.declared.properties.FileFacts.{FileFacts}
@@ -48,6 +49,9 @@ module _ {n : ℕ} {old : Walk} where
   pub passes_nothing : Passes n [] old old
   passes_nothing = record { told = λ before h. (rw (append-nil _) h, refl) }
 
+  pub no_folder : (path : List (List ℕ)) (d : Data) → is_dictionary d ≡ false → Passes n (tree_entries_below path d) old old
+  no_folder path d none = rw (nothing_below path d none) passes_nothing
+
   pub stops_sooner : (xs ys : List TreeEntry) {e : MetaError} → Stops n xs old e → Stops n (xs ++ ys) old e
   stops_sooner xs ys {e} s = record {
     told = λ before h. elim (s.told before h) [
@@ -72,10 +76,10 @@ module _ {n : ℕ} {old : Walk} where
           rw (← append_assoc _ _ _, with_earlier-append (entry_check n) before _ _, first_of-append _ _ none) (more.told _ first.0);
     }
 
-    -- what is of an entry itself and below it is of its key
-    pub walks_inner : {p : TreeEntry} {below entries : List TreeEntry} {mid : Walk} → entries ≡ p ∷ below → Passes n (p ∷ []) old mid
-        → Walks n below mid P → Walks n entries old P
-    walks_inner is passed more = rw is (walks_on passed more)
+    -- what is of a folder itself and below it is of its key
+    pub walks_folder : (path : List (List ℕ)) (key : List ℕ) (d : Data) {inner : List (List ℕ)} {o : Option (List (List ℕ))} {mid : Walk} → o ≡ Some inner
+        → Enters n path key d old mid o → Walks n (tree_entries_below inner d) mid P → Walks n (tree_entries_of path key d) old P
+    walks_folder path key d is entered more = let e = rw is at entered in rw e.1 (walks_on e.0 more)
 
 -- ---- the tree entries of a folder
 
@@ -92,11 +96,12 @@ module _ (path : List (List ℕ)) where
   among-append (e ∷ xs) ys =
       rw (among_key e.0.items e.1 _, among_key e.0.items e.1 (entries_from xs), among-append xs ys, append_assoc) refl
 
-  module _ {n : ℕ} {old : Walk} (es : List (Vec ℕ × Value)) where
-    pub none_yet : Passes n (tree_entries_among path (entries_of (take 0 es))) old old
+  module _ {n : ℕ} {old : Walk} where
+    pub none_yet : Passes n (tree_entries_among path no_entries) old old
     unfolding tree_entries_among
     none_yet = passes_nothing
 
+  module _ {n : ℕ} {old : Walk} (es : List (Vec ℕ × Value)) where
     pub walks_key : {P : List TreeEntry → Check → Type 0} {i : ℕ} {mid : Walk} (e : Vec ℕ × Value) → i < length es → e ≡ get_or es i e
         → Passes n (tree_entries_among path (entries_of (take i es))) old mid → Walks n (tree_entries_of path e.0.items (data_of e.1)) mid P
         → Walks n (tree_entries_among path (entries_of (take (i + 1) es))) old P
