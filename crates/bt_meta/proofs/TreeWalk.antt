@@ -1,7 +1,7 @@
 -- The walk over a file tree, entry by entry.
 use Rattle.bt_meta.proofs.Base.{◌≡◌, ℕ, Bool, true, false, List, [], ◌∷◌, ◌++◌, None, Some, refl, inr, ◌+◌, ◌<◌, length, take, get_or, sym, ap, ◌∙◌, append_assoc, inl, ◌≤◌, map, arith, Option, not, ◌&&◌, ◌==◌, filter, sum_by, ◌||◌, unwrap_or, nat_lt, if◌then◌else◌, codes, nat_le, list_any, last_or, Vec, append-nil, map-append, take_more, map_push, length-map, or-false, cases_Bool, filter-append, All-push, All-nil, list_any-append, sum_by-append, sum_by-cons, div_ceil, nat_tests, Data, Entries, entry, data_of, entries_of, Value, max_file_length, TreeEntry, tree_entries_below, tree_entries_among, with_earlier, is_file, properties_of, length_of, File, root_of, is_conflict, file_of, file_at, pieces_of, piece_count, length_in, files_of, first_of, fault_if, is_node, has_lawful_name, conflict, is_too_many, entry_check, has_lawful_length, is_path_element, tree_checks, property_checks, Lengths, length_at, is_other_length, NotesLength, Passes, tree_entries_of, MetaError, TooMany, Tree, string_at, no_dictionary, has_key, dictionary_at, FileEntry, max_path_length, max_file_count, max_piece_count, IsListing, Listing}
 use Rattle.std.proofs.lemmas.List.{length_push, take-append-drop}
-use Rattle.std.proofs.lemmas.List.Elements.{All-same}
+use Rattle.std.proofs.lemmas.List.Sums.{sum_by_push}
 use Rattle.std.specs.Option.{option_map_or}
 use Rattle.bt_bencode.specs.Value.{entries_from}
 use Rattle.bt_meta.specs.Faults.{Check}
@@ -29,14 +29,8 @@ module _ (n : ℕ) (before : List TreeEntry) (p : TreeEntry) (node : is_node p.v
   folder_counted folder m = rw (m, node, name, folder) refl
 
   pub file_counted : is_file p ≡ true → first_of (property_checks (properties_of p)) ≡ None → {other many : Bool} → has_conflict before p ≡ other
-      → is_too_many n before p ≡ many → entry_check n before p ≡ first_of (fault_if other RootConflict ∷ fault_if many TooMany ∷ [])
-  file_counted file none {other} c m =
-      let conflicts = first_of-append (property_checks (properties_of p)) (fault_if other RootConflict ∷ []) none in
-      rw (m, node, name, file, c, conflicts) (one_more other _)
-    where
-      one_more : (other : Bool) (rest : List Check) → first_of (first_of (fault_if other RootConflict ∷ []) ∷ rest) ≡ first_of (fault_if other RootConflict ∷ rest)
-      one_more true rest = refl
-      one_more false rest = refl
+      → is_too_many n before p ≡ many → entry_check n before p ≡ first_of (first_of (fault_if other RootConflict ∷ []) ∷ fault_if many TooMany ∷ [])
+  file_counted file none c m = rw (m, node, name, file, c, first_of-append (property_checks (properties_of p)) _ none) refl
 
 -- ==== how the steps of a walk join
 
@@ -119,10 +113,7 @@ length-with_earlier f before (x ∷ xs) = let n = length-with_earlier f (before 
 
 pub filter_twice : {A : Type 0} (test : A → Bool) (xs : List A) → filter test (filter test xs) ≡ filter test xs
 filter_twice test [] = refl
-filter_twice test (x ∷ xs) = elim (cases_Bool (test x)) [
-  | inl e ↦ rw (e, e, filter_twice test xs) refl
-  | inr e ↦ rw (e, filter_twice test xs) refl
-]
+filter_twice test (x ∷ xs) = let rest = filter_twice test xs in grind arith
 
 pub no_layer : (b : Bool) (key : List ℕ) → (if b then unwrap_or (string_at no_dictionary key) [] else []) ≡ []
 unfolding string_at
@@ -132,28 +123,20 @@ no_layer false key = refl
 -- ---- an entry more
 
 module _ (n : ℕ) (before : List TreeEntry) where
-  abbrev files : List File
-  files = with_earlier (file_at n no_dictionary) [] (filter is_file before)
-
-  pub count_of_files : (entries : List FileEntry) → map file_of entries ≡ files → length entries ≡ length (filter is_file before)
-  count_of_files entries h = sym (length-map entries file_of) ∙ ap length h ∙ length-with_earlier (file_at n no_dictionary) [] (filter is_file before)
+  count_of_files : {w : Walk} → IsWalkOver n before w → length w.files.items ≡ length (filter is_file before)
+  count_of_files h = sym (length-map _ file_of) ∙ ap length h.files ∙ length-with_earlier (file_at n no_dictionary) [] (filter is_file before)
 
   module _ (p : TreeEntry) where
     others_push : (root : List ℕ) (m : ℕ)
         → has_other_length (before ++ p ∷ []) root m ≡ (has_other_length before root m || (is_file p && is_conflict root m (root_of p) (length_of p)))
-    others_push root m =
-        let test = λ (q : TreeEntry). is_file q && is_conflict root m (root_of q) (length_of q) in
-        list_any-append test before (p ∷ []) ∙ ap (λ b. has_other_length before root m || b) (or-false _)
+    others_push root m = list_any-append _ before (p ∷ []) ∙ ap (λ b. has_other_length before root m || b) (or-false _)
 
     module _ (file : is_file p ≡ true) where
       filter_file : filter is_file (before ++ p ∷ []) ≡ filter is_file before ++ p ∷ []
       filter_file = filter-append _ before _ ∙ rw file refl
 
       pub pieces_push : pieces_of n (before ++ p ∷ []) ≡ pieces_of n before + piece_count n (length_of p)
-      pieces_push =
-          let g = λ (q : TreeEntry). piece_count n (length_of q) in
-          let one : sum_by g (p ∷ []) ≡ g p = omega arith in
-          ap (sum_by g) filter_file ∙ sum_by-append g (filter is_file before) (p ∷ []) ∙ ap (λ k. pieces_of n before + k) one
+      pieces_push = ap (sum_by (λ q. piece_count n (length_of q))) filter_file ∙ sum_by_push _ (filter is_file before) p
 
     folder_walked : {w : Walk} → IsWalkOver n before w → is_file p ≡ false → IsWalkOver n (before ++ p ∷ []) w
     folder_walked h folder =
@@ -170,13 +153,9 @@ module _ (n : ℕ) (before : List TreeEntry) where
 
 -- ---- properties
 
-short_length : (o : Option ℕ) → option_map_or (λ n. nat_le n max_file_length) o false ≡ true → unwrap_or o 0 ≤ max_file_length
-short_length None e = cc
-short_length (Some n) e = grind (arith, nat_tests)
-
 pub lawful_is_short : (properties : Data) → has_lawful_length properties ≡ true → length_in properties ≤ max_file_length
 unfolding has_lawful_length length_in
-lawful_is_short properties e = short_length (natural_at properties (codes "length")) e
+lawful_is_short properties e = grind (arith, nat_tests)
 
 -- ---- a file
 
@@ -190,12 +169,12 @@ are_many n path old facts =
 module _ {path : List (List ℕ)} {name : List ℕ} {properties : Data} {p : TreeEntry} (at : IsFileEntry path name properties p)
     {facts : FileFacts} (given : IsFileFacts properties facts) {n : ℕ} {old : Walk} where
   file_told : {before : List TreeEntry} → IsWalkOver n before old → {other many : Bool} → has_other old facts ≡ other → are_many n path old facts ≡ many
-      → entry_check n before p ≡ first_of (fault_if other RootConflict ∷ fault_if many TooMany ∷ [])
+      → entry_check n before p ≡ first_of (first_of (fault_if other RootConflict ∷ []) ∷ fault_if many TooMany ∷ [])
   file_told {before} h other many =
       let own : IsFileFacts (properties_of p) facts = rw at.properties_are given in
       let deep : length p.path ≡ length path + 1 = ap length at.path_is ∙ length_push path name in
       let count : length (filter is_file (before ++ p ∷ [])) ≡ length old.files.items + 1 =
-      ap length (filter_file n before p at.file) ∙ length_push _ p ∙ ap (λ k. k + 1) (sym (count_of_files n before _ h.files)) in
+      ap length (filter_file n before p at.file) ∙ length_push _ p ∙ ap (λ k. k + 1) (sym (count_of_files n before h)) in
       file_counted n before p at.node at.named at.file own.faultless
       (rw (← h.lengths (root_of p) (length_of p), ← own.root, ← own.length) other)
       (rw (at.file, deep, count, pieces_push n before p at.file, ← h.pieces, ← own.length) many)
@@ -219,13 +198,12 @@ module _ {path : List (List ℕ)} {name : List ℕ} {properties : Data} {p : Tre
         let f = file_at n no_dictionary in
         let same : file_of added ≡ f (filter is_file before) p = is
         ∙ rw (at.path_is, own.length, own.root, h.pieces, filter_twice is_file before, no_layer (nat_lt n (length_of p)) (root_of p)) refl in
-        let pushed = ap (map file_of) files ∙ map_push file_of old.files.items added in
-        let short : added.length ≤ max_file_length = rw (ap (λ g. g.length) is) given.short in (
+        let pushed : map file_of new.files.items ≡ map file_of old.files.items ++ file_of added ∷ [] =
+        ap (map file_of) files ∙ map_push file_of old.files.items added in (
           record {
             files = pushed ∙ rw (h.files, same, filter_file n before p at.file, with_earlier-append f [] (filter is_file before) (p ∷ [])) refl;
             pieces = pieces ∙ rw (h.pieces, pieces_push n before p at.file, own.length) refl;
-            short = All-same (λ (g : File). g.length ≤ max_file_length) _ _ pushed
-                (All-push (λ (g : File). g.length ≤ max_file_length) (map file_of old.files.items) (file_of added) h.short short);
+            short = rw pushed (All-push (λ (g : File). g.length ≤ max_file_length) _ (file_of added) h.short (rw (ap (λ g. g.length) is) given.short));
             lengths = λ r m. rw lengths_are
                 (noted.noted r m ∙ sym (others_push n before p r m ∙ rw (at.file, ← h.lengths r m, ← own.length, ← own.root) refl));
           },
@@ -304,18 +282,13 @@ start n walk files pieces lengths = record {
 
 pub some_of_filter : {A : Type 0} (test : A → Bool) (xs : List A) → list_any test xs ≡ not (length (filter test xs) == 0)
 some_of_filter test [] = refl
-some_of_filter test (x ∷ xs) = elim (cases_Bool (test x)) [
-  | inl e ↦ let more : (length (x ∷ filter test xs) == 0) ≡ false = grind (arith, nat_tests) in rw (e, more) refl
-  | inr e ↦ rw (e, some_of_filter test xs) refl
-]
+some_of_filter test (x ∷ xs) = let rest = some_of_filter test xs in grind (arith, nat_tests)
 
 module _ (n : ℕ) (layers : Data) where
   sums : (before es : List TreeEntry)
       → sum_by (λ f. piece_count n f.length) (with_earlier (file_at n layers) before es) ≡ sum_by (λ p. piece_count n (length_of p)) es
   sums before [] = refl
-  sums before (p ∷ es) =
-      sum_by-cons (λ (f : File). piece_count n f.length) (file_at n layers before p) (with_earlier (file_at n layers) (before ++ p ∷ []) es)
-      ∙ rw (sums (before ++ p ∷ []) es) (sym (sum_by-cons (λ (q : TreeEntry). piece_count n (length_of q)) p es))
+  sums before (p ∷ es) = rw (sum_by-cons, sums (before ++ p ∷ []) es, sum_by-cons) refl
 
   pub same_sum : (tree : Data) → sum_by (λ f. piece_count n f.length) (files_of n layers tree) ≡ pieces_of n (tree_entries_below [] tree)
   unfolding files_of
@@ -350,7 +323,7 @@ module _ (n : ℕ) (tree : Data) where
         to_last e =
             let walked = s.told [] h in
             top_passed ∙ first_of-append (with_earlier (entry_check n) [] es) (any_file ∷ []) walked.1
-            ∙ rw (some_of_filter is_file es, ← count_of_files n es new.files.items walked.0.files, ← e) refl
+            ∙ rw (some_of_filter is_file es, ← count_of_files n es walked.0, ← e) refl
 
         pub no_file : true ≡ (length new.files.items == 0) → first_of (tree_checks n tree) ≡ Some Tree
         no_file e = to_last e
