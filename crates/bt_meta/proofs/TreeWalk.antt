@@ -1,21 +1,18 @@
 -- The walk over a file tree, entry by entry.
-use Rattle.bt_meta.proofs.Base.{◌≡◌, ℕ, Bool, true, false, List, [], ◌∷◌, ◌++◌, None, Some, refl, inr, ◌+◌, ◌<◌, length, take, get_or, sym, ap, ◌∙◌, append_assoc, inl, ◌≤◌, map, arith, Option, not, ◌&&◌, ◌==◌, filter, sum_by, ◌||◌, unwrap_or, nat_lt, if◌then◌else◌, codes, nat_le, list_any, last_or, Vec, append-nil, map-append, take_more, map_push, length-map, or-false, cases_Bool, filter-append, All-push, All-nil, list_any-append, sum_by-append, sum_by-cons, div_ceil, nat_tests, Data, Entries, entry, data_of, entries_of, Value, max_file_length, TreeEntry, tree_entries_below, tree_entries_among, with_earlier, is_file, properties_of, length_of, File, root_of, is_conflict, file_of, file_at, pieces_of, piece_count, length_in, files_of, first_of, fault_if, is_node, has_lawful_name, conflict, is_too_many, entry_check, has_lawful_length, is_path_element, tree_checks, property_checks, Lengths, length_at, is_other_length, NotesLength, Passes, tree_entries_of, MetaError, TooMany, Tree, string_at, no_dictionary, has_key, dictionary_at, FileEntry, max_path_length, max_file_count, max_piece_count, IsListing, Listing}
+use Rattle.bt_meta.proofs.Base.{no_entries, ◌≡◌, ℕ, Bool, true, false, List, [], ◌∷◌, ◌++◌, None, Some, refl, inr, ◌+◌, ◌<◌, length, take, get_or, sym, ap, ◌∙◌, append_assoc, inl, ◌≤◌, map, arith, Option, not, ◌&&◌, ◌==◌, filter, sum_by, ◌||◌, unwrap_or, nat_lt, if◌then◌else◌, codes, nat_le, list_any, last_or, Vec, append-nil, map-append, take_more, map_push, length-map, or-false, cases_Bool, filter-append, All-push, All-nil, list_any-append, sum_by-append, sum_by-cons, div_ceil, nat_tests, Data, Entries, entry, data_of, entries_of, Value, max_file_length, TreeEntry, tree_entries_below, tree_entries_among, with_earlier, is_file, properties_of, length_of, File, root_of, is_conflict, file_of, file_at, pieces_of, piece_count, length_in, files_of, first_of, fault_if, is_node, has_lawful_name, conflict, is_too_many, entry_check, has_lawful_length, is_path_element, tree_checks, property_checks, Lengths, length_at, is_other_length, NotesLength, Passes, tree_entries_of, MetaError, TooMany, Tree, string_at, no_dictionary, has_key, dictionary_at, FileEntry, max_path_length, max_file_count, max_piece_count, IsListing, Listing}
 use Rattle.std.proofs.lemmas.List.{length_push, take-append-drop}
 use Rattle.std.proofs.lemmas.List.Sums.{sum_by_push}
 use Rattle.std.specs.Option.{option_map_or}
 use Rattle.bt_bencode.specs.Value.{entries_from}
 use Rattle.bt_meta.specs.Faults.{Check}
 use Rattle.bt_meta.specs.PropertySteps.{IsFileFacts, IsLengthConflict}
-use Rattle.bt_meta.specs.WalkSteps.{IsWalkOver, Walks, Stops, has_other_length, IsFileEntry, IsNodeOf, Enters, StopsAtEntry}
+use Rattle.bt_meta.specs.WalkSteps.{IsWalkOver, Walks, Stops, has_other_length, IsFileEntry, Enters, StopsAtEntry}
 use Rattle.bt_meta.specs.declared.walk.Walk.{Walk}
 use Rattle.bt_meta.specs.declared.error.MetaError.TheVariants.{RootConflict, BadPath}
 use Rattle.bt_meta.proofs.Checks.{first_of-append, first_of-append_some}
 use Rattle.bt_meta.specs.Fields.{is_dictionary, natural_at}
-use Rattle.bt_meta.proofs.Base.{no_entries}
 use Rattle.bt_meta.proofs.Dictionaries.{nothing_below}
 use Rattle.bt_meta.specs.Limits.{are_too_many}
-use Rattle.bt_meta.specs.declared.walk.Node.{Node}
-use Rattle.bt_meta.specs.declared.walk.Node.TheVariants.{Folder, File as file_node}
 use Rattle.bt_meta.specs.declared.properties.FileFacts.{FileFacts}
 use Rattle.bt_meta.specs.ReaderSteps.{Refuses}
 
@@ -47,11 +44,11 @@ module _ {n : ℕ} {old : Walk} where
   no_folder path d none = rw (nothing_below path d none) passes_nothing
 
   pub stops_sooner : (xs ys : List TreeEntry) {e : MetaError} → Stops n xs old e → Stops n (xs ++ ys) old e
-  stops_sooner xs ys {e} s = record {
-    told = λ before h. elim (s.told before h) [
-      | inl m ↦ inl m
-      | inr k ↦ inr (rw (with_earlier-append _ _ xs ys) (first_of-append_some (with_earlier (entry_check n) before xs) _ e k))
-    ];
+  stops_sooner xs ys s = record {
+    told = λ before h.
+        let first = s.told before h in
+        let joined = with_earlier-append (entry_check n) before xs ys in
+        grind (arith, first_of-append_some);
   }
 
   module _ {P : List TreeEntry → Check → Type 0} where
@@ -73,7 +70,7 @@ module _ {n : ℕ} {old : Walk} where
     -- what is of a folder itself and below it is of its key
     pub walks_folder : (path : List (List ℕ)) (key : List ℕ) (d : Data) {inner : List (List ℕ)} {o : Option (List (List ℕ))} {mid : Walk} → o ≡ Some inner
         → Enters n path key d old mid o → Walks n (tree_entries_below inner d) mid P → Walks n (tree_entries_of path key d) old P
-    walks_folder path key d is entered more = let e = rw is at entered in rw e.1 (walks_on e.0 more)
+    walks_folder path key d is entered more = let e = rw is at entered in rw e.2 (walks_on e.1 (rw e.0 at more))
 
 -- ---- the tree entries of a folder
 
@@ -220,10 +217,6 @@ pub name_of : (path : List (List ℕ)) (key : List ℕ) (d : Data) (b : Bool) �
     → has_lawful_name (record { path = path ++ key ∷ []; value = d }) ≡ b
 name_of path key d b e = rw (last_push _ _ _) e
 
-pub node_is : (d : Data) (node : Node) → IsNodeOf d node → is_node d ≡ true
-node_is d Folder h = h.0
-node_is d (file_node properties) h = h.0
-
 module _ (path : List (List ℕ)) (key : List ℕ) (d : Data) where
   abbrev here : TreeEntry
   here = record { path = path ++ key ∷ []; value = d }
@@ -264,11 +257,6 @@ module _ (path : List (List ℕ)) (key : List ℕ) (d : Data) where
 
       pub file_entered : {new : Walk} → tree_entries_below (path ++ key ∷ []) d ≡ [] → Passes n (here ∷ []) w new → Passes n (tree_entries_of path key d) w new
       file_entered none h = rw (is, none) h
-
-      pub folder_entered : {inner : List (List ℕ)} → inner ≡ path ++ key ∷ [] → Passes n (here ∷ []) w w
-          → Passes n ((record { path = inner; value = d }) ∷ []) w w ×
-          (tree_entries_of path key d ≡ (record { path = inner; value = d }) ∷ tree_entries_below inner d)
-      folder_entered same h = rw same (h, is)
 
 -- ==== what the walk over a whole tree tells
 
@@ -312,11 +300,7 @@ module _ (n : ℕ) (tree : Data) where
 
     module _ {old : Walk} (h : IsWalkOver n [] old) where
       pub tree_stops : {e : MetaError} → Stops n es old e → Refuses (first_of (tree_checks n tree)) e
-      tree_stops s = elim (s.told [] h) [
-        | inl m ↦ inl m
-        | inr k ↦ inr
-            (top_passed ∙ first_of-append_some (with_earlier (entry_check n) [] es) (any_file ∷ []) _ k)
-      ]
+      tree_stops s = let first = s.told [] h in let checks = top_passed in grind (arith, first_of-append_some)
 
       module _ {new : Walk} (s : Passes n es old new) where
         to_last : {b : Bool} → b ≡ (length new.files.items == 0) → first_of (tree_checks n tree) ≡ first_of (fault_if (not (not b)) Tree ∷ [])

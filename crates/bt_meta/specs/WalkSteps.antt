@@ -49,12 +49,16 @@ Stops piece_length entries old e = Walks piece_length entries old (λ all fault.
 abbrev pub tree_entries_of : List (List ℕ) → List ℕ → Data → List TreeEntry
 tree_entries_of path key d = tree_entries_among path (entry key d no_entries)
 
+-- a folder has no properties; a file has these, and nothing lies below it
+abbrev pub HasKind : Data → Node → Type 0
+HasKind d Folder = has_key d [] ≡ false
+HasKind d (file_node properties) =
+    (has_key d [] ≡ true) × (dictionary_at d [] ≡ Some (data_of properties.now))
+    × ((path : List (List ℕ)) → tree_entries_below path d ≡ [])
+
 -- this is what the value is as an entry
 abbrev pub IsNodeOf : Data → Node → Type 0
-IsNodeOf d Folder = (is_node d ≡ true) × (has_key d [] ≡ false)
-IsNodeOf d (file_node properties) =
-    (is_node d ≡ true) × (has_key d [] ≡ true) × (dictionary_at d [] ≡ Some (data_of properties.now))
-    × ((path : List (List ℕ)) → tree_entries_below path d ≡ [])
+IsNodeOf d node = (is_node d ≡ true) × HasKind d node
 
 -- an entry with this path is a file with these properties
 pub record IsFileEntry (path : List (List ℕ)) (name : List ℕ) (d : Data) (p : TreeEntry) : Type 0 where
@@ -72,8 +76,8 @@ AtFile path name properties P = (p : TreeEntry) → IsFileEntry path name proper
 abbrev pub Enters : ℕ → List (List ℕ) → List ℕ → Data → Walk → Walk → Option (List (List ℕ)) → Type 0
 Enters piece_length path key d old new None = Passes piece_length (tree_entries_of path key d) old new
 Enters piece_length path key d old new (Some inner) =
-    let p : TreeEntry = record { path = inner; value = d } in
-    Passes piece_length (p ∷ []) old new × (tree_entries_of path key d ≡ p ∷ tree_entries_below inner d)
+    let p : TreeEntry = record { path = path ++ key ∷ []; value = d } in
+    (inner ≡ p.path) × Passes piece_length (p ∷ []) old new × (tree_entries_of path key d ≡ p ∷ tree_entries_below p.path d)
 
 -- it is refused at the first fault of the entry
 abbrev pub StopsAtEntry : ℕ → List (List ℕ) → List ℕ → Data → Walk → MetaError → Type 0

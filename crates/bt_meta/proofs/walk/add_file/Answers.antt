@@ -4,8 +4,4 @@ use Rattle.bt_meta.proofs.walk.add_file.Goals as goal
 
 pub returns-then-depth-ge-MAX_PATH_LENGTH-clause-stopped : goal.returns-then-depth-ge-MAX_PATH_LENGTH-clause-stopped
 returns-then-depth-ge-MAX_PATH_LENGTH-clause-stopped c =
-    λ p at. many_stop at c.in_ok-length.ensures c.in_ok-note_length.ensures.noted (elim c.then-depth-ge-MAX_PATH_LENGTH.branch [
-      | goal.then-depth-ge-MAX_PATH_LENGTH-via-then-depth-ge-MAX_PATH_LENGTH w ↦ grind (arith, nat_tests)
-      | goal.then-depth-ge-MAX_PATH_LENGTH-via-else-depth-ge-MAX_PATH_LENGTH+then-len-ge-MAX_FILES w ↦ grind (arith, nat_tests)
-      | goal.then-depth-ge-MAX_PATH_LENGTH-via-else-depth-ge-MAX_PATH_LENGTH+else-len-ge-MAX_FILES+then-pieces-gt-MAX_PIECES w ↦ grind (arith, nat_tests)
-    ])
+    λ p at. many_stop at c.in_ok-length.ensures c.in_ok-note_length.ensures.noted (grind (arith, nat_tests, c.then-depth-ge-MAX_PATH_LENGTH.branch))
