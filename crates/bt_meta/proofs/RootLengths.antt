@@ -1,5 +1,5 @@
 -- What the lengths of roots tell once one length more is noted.
-use Rattle.bt_meta.proofs.Base.{◌≡◌, ◌≢◌, ℕ, Bool, true, false, List, Option, None, Some, refl, sym, ap, ◌∙◌, arith, not, ◌&&◌, ◌||◌, ◌==◌, cond, nat_cmp, is_eq, slice_cmp, or-false, and_parts, false_from_ne_true, true≢false, nat_tests, is_eq-slice_cmp, bytes_eq-Decides, is_conflict, Lengths, length_at, is_other_length, NotesLength}
+use Rattle.bt_meta.proofs.Base.{◌≡◌, ◌≢◌, ℕ, Bool, true, false, List, Option, None, Some, refl, sym, ap, ◌∙◌, arith, not, ◌&&◌, ◌||◌, ◌==◌, cond, nat_cmp, is_eq, slice_cmp, or-false, and_parts, false_from_ne_true, nat_tests, is_eq-slice_cmp, bytes_eq-Decides, is_conflict, Lengths, length_at, is_other_length, NotesLength}
 
 module _ (length n : ℕ) where
   other_than : (o : Option ℕ) → is_other_length o length ≡ false → is_other_length (Some length) n ≡ (is_other_length o n || is_other_length (Some length) n)

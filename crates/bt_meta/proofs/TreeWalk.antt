@@ -1,8 +1,7 @@
 -- The walk over a file tree, entry by entry.
-use Rattle.bt_meta.proofs.Base.{no_entries, ◌≡◌, ℕ, Bool, true, false, List, [], ◌∷◌, ◌++◌, None, Some, refl, inr, ◌+◌, ◌<◌, length, take, get_or, sym, ap, ◌∙◌, append_assoc, inl, ◌≤◌, map, arith, Option, not, ◌&&◌, ◌==◌, filter, sum_by, ◌||◌, unwrap_or, nat_lt, if◌then◌else◌, codes, nat_le, list_any, last_or, Vec, append-nil, map-append, take_more, map_push, length-map, or-false, cases_Bool, filter-append, All-push, All-nil, list_any-append, sum_by-append, sum_by-cons, div_ceil, nat_tests, Data, Entries, entry, data_of, entries_of, Value, max_file_length, TreeEntry, tree_entries_below, tree_entries_among, with_earlier, is_file, properties_of, length_of, File, root_of, is_conflict, file_of, file_at, pieces_of, piece_count, length_in, files_of, first_of, fault_if, is_node, has_lawful_name, conflict, is_too_many, entry_check, has_lawful_length, is_path_element, tree_checks, property_checks, Lengths, length_at, is_other_length, NotesLength, Passes, tree_entries_of, MetaError, TooMany, Tree, string_at, no_dictionary, has_key, dictionary_at, FileEntry, max_path_length, max_file_count, max_piece_count, IsListing, Listing}
+use Rattle.bt_meta.proofs.Base.{no_entries, ◌≡◌, ℕ, Bool, true, false, List, [], ◌∷◌, ◌++◌, None, Some, refl, inr, ◌+◌, ◌<◌, length, take, get_or, sym, ap, ◌∙◌, append_assoc, inl, ◌≤◌, map, arith, Option, not, ◌&&◌, ◌==◌, filter, sum_by, ◌||◌, unwrap_or, nat_lt, if◌then◌else◌, list_any, last_or, Vec, append-nil, map-append, take_more, map_push, length-map, or-false, filter-append, All-push, All-nil, list_any-append, sum_by-cons, div_ceil, nat_tests, Data, Entries, entry, data_of, entries_of, Value, max_file_length, TreeEntry, tree_entries_below, tree_entries_among, with_earlier, is_file, properties_of, length_of, File, root_of, is_conflict, file_of, file_at, pieces_of, piece_count, length_in, files_of, first_of, fault_if, is_node, has_lawful_name, conflict, is_too_many, entry_check, has_lawful_length, is_path_element, tree_checks, property_checks, Lengths, length_at, is_other_length, NotesLength, Passes, tree_entries_of, MetaError, TooMany, Tree, string_at, no_dictionary, has_key, dictionary_at, FileEntry, max_path_length, max_file_count, max_piece_count, IsListing, Listing}
 use Rattle.std.proofs.lemmas.List.{length_push, take-append-drop}
 use Rattle.std.proofs.lemmas.List.Sums.{sum_by_push}
-use Rattle.std.specs.Option.{option_map_or}
 use Rattle.bt_bencode.specs.Value.{entries_from}
 use Rattle.bt_meta.specs.Faults.{Check}
 use Rattle.bt_meta.specs.PropertySteps.{IsFileFacts, IsLengthConflict}
@@ -10,7 +9,7 @@ use Rattle.bt_meta.specs.WalkSteps.{IsWalkOver, Walks, Stops, has_other_length, 
 use Rattle.bt_meta.specs.declared.walk.Walk.{Walk}
 use Rattle.bt_meta.specs.declared.error.MetaError.TheVariants.{RootConflict, BadPath}
 use Rattle.bt_meta.proofs.Checks.{first_of-append, first_of-append_some}
-use Rattle.bt_meta.specs.Fields.{is_dictionary, natural_at}
+use Rattle.bt_meta.specs.Fields.{is_dictionary}
 use Rattle.bt_meta.proofs.Dictionaries.{nothing_below}
 use Rattle.bt_meta.specs.Limits.{are_too_many}
 use Rattle.bt_meta.specs.declared.properties.FileFacts.{FileFacts}
@@ -52,7 +51,8 @@ module _ {n : ℕ} {old : Walk} where
   }
 
   module _ {P : List TreeEntry → Check → Type 0} where
-    pub walks_one : {p : TreeEntry} → ((before : List TreeEntry) → IsWalkOver n before old → P (before ++ p ∷ []) (entry_check n before p)) → Walks n (p ∷ []) old P
+    pub walks_one : {p : TreeEntry} → ((before : List TreeEntry) → IsWalkOver n before old → P (before ++ p ∷ []) (entry_check n before p))
+        → Walks n (p ∷ []) old P
     walks_one h = record { told = λ before walked. rw (alone _) (h before walked) }
       where
         alone : (check : Check) → first_of (check ∷ []) ≡ check
@@ -108,7 +108,7 @@ pub length-with_earlier : {A B : Type 0} (f : List A → A → B) (before xs : L
 length-with_earlier f before [] = refl
 length-with_earlier f before (x ∷ xs) = let n = length-with_earlier f (before ++ x ∷ []) xs in grind arith
 
-pub filter_twice : {A : Type 0} (test : A → Bool) (xs : List A) → filter test (filter test xs) ≡ filter test xs
+filter_twice : {A : Type 0} (test : A → Bool) (xs : List A) → filter test (filter test xs) ≡ filter test xs
 filter_twice test [] = refl
 filter_twice test (x ∷ xs) = let rest = filter_twice test xs in grind arith
 
@@ -187,7 +187,8 @@ module _ {path : List (List ℕ)} {name : List ℕ} {properties : Data} {p : Tre
     many_stop many = walks_one (λ before h. inr (file_told h noted.alike many))
 
     pub file_passes : {new : Walk} (added : FileEntry) → length path < max_path_length → length old.files.items < max_file_count
-        → new.pieces ≤ max_piece_count → new.files.items ≡ old.files.items ++ added ∷ [] → new.pieces ≡ old.pieces + div_ceil facts.length n → new.lengths ≡ lengths
+        → new.pieces ≤ max_piece_count → new.files.items ≡ old.files.items ++ added ∷ []
+        → new.pieces ≡ old.pieces + div_ceil facts.length n → new.lengths ≡ lengths
         → file_of added ≡ record { path = path ++ name ∷ []; length = facts.length; root = facts.root; first_piece = old.pieces; layer = [] }
         → Passes n (p ∷ []) old new
     file_passes {new} added near few_files few_pieces files pieces lengths_are is = walks_one (λ before h.
@@ -196,9 +197,9 @@ module _ {path : List (List ℕ)} {name : List ℕ} {properties : Data} {p : Tre
         let same : file_of added ≡ f (filter is_file before) p = is
         ∙ rw (at.path_is, own.length, own.root, h.pieces, filter_twice is_file before, no_layer (nat_lt n (length_of p)) (root_of p)) refl in
         let pushed : map file_of new.files.items ≡ map file_of old.files.items ++ file_of added ∷ [] =
-        ap (map file_of) files ∙ map_push file_of old.files.items added in (
+        ap (map file_of) files ∙ map_push file_of _ added in (
           record {
-            files = pushed ∙ rw (h.files, same, filter_file n before p at.file, with_earlier-append f [] (filter is_file before) (p ∷ [])) refl;
+            files = pushed ∙ rw (h.files, same, filter_file n before p at.file, with_earlier-append f [] _ _) refl;
             pieces = pieces ∙ rw (h.pieces, pieces_push n before p at.file, own.length) refl;
             short = rw pushed (All-push (λ (g : File). g.length ≤ max_file_length) _ (file_of added) h.short (rw (ap (λ g. g.length) is) given.short));
             lengths = λ r m. rw lengths_are
@@ -224,11 +225,11 @@ module _ (path : List (List ℕ)) (key : List ℕ) (d : Data) where
   pub file_entry : {name : List ℕ} {properties : Data} → name ≡ key → is_node d ≡ true → is_path_element key ≡ true → has_key d [] ≡ true
       → dictionary_at d [] ≡ Some properties → IsFileEntry path name properties here
   file_entry same node named file at = record {
-    path_is = ap (λ x. path ++ x ∷ []) (sym same);
+    path_is = rw same refl;
     node = node;
     named = name_of path key d _ named;
     file = file;
-    properties_are = ap (λ o. unwrap_or o no_dictionary) at;
+    properties_are = rw at refl;
   }
 
   module _ (node : is_node d ≡ true) (name : is_path_element key ≡ true) (folder : has_key d [] ≡ false) where
@@ -250,13 +251,14 @@ module _ (path : List (List ℕ)) (key : List ℕ) (d : Data) where
     pub bad_name_stops : is_node d ≡ true → is_path_element key ≡ false → Stops n (here ∷ []) w BadPath
     bad_name_stops node name = walks_one (λ before h. inr (rw (node, name_of _ _ d _ name) refl))
 
-    module _ (is : tree_entries_of path key d ≡ here ∷ tree_entries_below (path ++ key ∷ []) d) where
+    module _ (is : tree_entries_of path key d ≡ here ∷ tree_entries_below here.path d) where
       -- a key is refused where its own entry is
       pub entry_stops : {e : MetaError} → Stops n (here ∷ []) w e → StopsAtEntry n path key d w e
       entry_stops h = rw is (stops_sooner _ _ h)
 
-      pub file_entered : {new : Walk} → tree_entries_below (path ++ key ∷ []) d ≡ [] → Passes n (here ∷ []) w new → Passes n (tree_entries_of path key d) w new
-      file_entered none h = rw (is, none) h
+      pub file_entered : {new : Walk} → ((inner : List (List ℕ)) → tree_entries_below inner d ≡ []) → Passes n (here ∷ []) w new
+          → Passes n (tree_entries_of path key d) w new
+      file_entered none h = rw (is, none _) h
 
 -- ==== what the walk over a whole tree tells
 
@@ -286,15 +288,12 @@ module _ (n : ℕ) (tree : Data) where
   abbrev es : List TreeEntry
   es = tree_entries_below [] tree
 
-  abbrev any_file : Check
-  any_file = fault_if (not (list_any is_file es)) Tree
-
   pub key_at_top : true ≡ has_key tree [] → first_of (tree_checks n tree) ≡ Some Tree
   unfolding tree_checks
   key_at_top e = rw (← e) refl
 
   module _ (top : false ≡ has_key tree []) where
-    top_passed : first_of (tree_checks n tree) ≡ first_of (with_earlier (entry_check n) [] es ++ any_file ∷ [])
+    top_passed : first_of (tree_checks n tree) ≡ first_of (with_earlier (entry_check n) [] es ++ fault_if (not (list_any is_file es)) Tree ∷ [])
     unfolding tree_checks
     top_passed = rw (← top) refl
 
@@ -306,7 +305,7 @@ module _ (n : ℕ) (tree : Data) where
         to_last : {b : Bool} → b ≡ (length new.files.items == 0) → first_of (tree_checks n tree) ≡ first_of (fault_if (not (not b)) Tree ∷ [])
         to_last e =
             let walked = s.told [] h in
-            top_passed ∙ first_of-append (with_earlier (entry_check n) [] es) (any_file ∷ []) walked.1
+            top_passed ∙ first_of-append (with_earlier (entry_check n) [] es) _ walked.1
             ∙ rw (some_of_filter is_file es, ← count_of_files n es walked.0, ← e) refl
 
         pub no_file : true ≡ (length new.files.items == 0) → first_of (tree_checks n tree) ≡ Some Tree

@@ -13,5 +13,5 @@ pub returns-in_ok-add_file-in-File : goal.returns-in_ok-add_file-in-File
 returns-in_ok-add_file-in-File c =
     let node = rw c.in-File.is at c.in-Some.ensures in
     let named = test_of_some _ _ _ c.in-Some-path_element.ensures in
-    file_entered _ _ _ (key_entries _ _ _ c.if-is_empty.ensures) (node.1.2 _)
+    file_entered _ _ _ (key_entries _ _ _ c.if-is_empty.ensures) node.1.2
     (c.in_ok-add_file-in-File.ensures.passed _ (file_entry _ _ _ named.1 node.0 named.0 node.1.0 node.1.1))

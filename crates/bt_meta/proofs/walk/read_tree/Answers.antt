@@ -1,4 +1,4 @@
-use Rattle.bt_meta.proofs.Base.{length, refl, ◌==◌}
+use Rattle.bt_meta.proofs.Base.{refl}
 use Rattle.bt_meta.proofs.TreeWalk.{start, whole_tree}
 use Rattle.bt_meta.proofs.walk.read_tree.Goals as goal
 
