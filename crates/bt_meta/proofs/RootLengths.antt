@@ -2,13 +2,10 @@
 use Rattle.bt_meta.proofs.Base.{◌≡◌, ◌≢◌, ℕ, Bool, true, false, List, Option, None, Some, refl, sym, ap, ◌∙◌, arith, not, ◌&&◌, ◌||◌, ◌==◌, cond, nat_cmp, is_eq, slice_cmp, or-false, and_parts, false_from_ne_true, nat_tests, is_eq-slice_cmp, bytes_eq-Decides, is_conflict, Lengths, length_at, is_other_length, NotesLength}
 
 module _ (length n : ℕ) where
-  other_than : (o : Option ℕ) → is_other_length o length ≡ false → is_other_length (Some length) n ≡ (is_other_length o n || is_other_length (Some length) n)
-  other_than None e = refl
-  other_than (Some m) e = grind (arith, nat_tests)
-
   at : (b : Bool) (o p : Option ℕ) → is_other_length o length ≡ false → (b ≡ true → o ≡ p)
       → is_other_length (cond b (Some length) p) n ≡ (is_other_length p n || (b && not (length == n)))
-  at true o p alike same = rw (← same refl) (other_than o alike)
+  at true None p alike same = rw (← same refl) refl
+  at true (Some m) p alike same = rw (← same refl) (grind (arith, nat_tests))
   at false o p alike same = sym (or-false _)
 
 pub noted_now : {old new : Lengths} {root : List ℕ} {length : ℕ} → (length == 0) ≡ false → is_other_length (length_at old root) length ≡ false

@@ -126,19 +126,18 @@ module _ (n : ℕ) (before : List TreeEntry) where
   module _ (p : TreeEntry) where
     others_push : (root : List ℕ) (m : ℕ)
         → has_other_length (before ++ p ∷ []) root m ≡ (has_other_length before root m || (is_file p && is_conflict root m (root_of p) (length_of p)))
-    others_push root m = list_any-append _ before (p ∷ []) ∙ ap (λ b. has_other_length before root m || b) (or-false _)
+    others_push root m = rw (list_any-append, or-false) refl
 
     module _ (file : is_file p ≡ true) where
       filter_file : filter is_file (before ++ p ∷ []) ≡ filter is_file before ++ p ∷ []
-      filter_file = filter-append _ before _ ∙ rw file refl
+      filter_file = rw (filter-append, file) refl
 
       pub pieces_push : pieces_of n (before ++ p ∷ []) ≡ pieces_of n before + piece_count n (length_of p)
       pieces_push = ap (sum_by (λ q. piece_count n (length_of q))) filter_file ∙ sum_by_push _ (filter is_file before) p
 
     folder_walked : {w : Walk} → IsWalkOver n before w → is_file p ≡ false → IsWalkOver n (before ++ p ∷ []) w
     folder_walked h folder =
-        let same : filter is_file (before ++ p ∷ []) ≡ filter is_file before = filter-append _ before _
-        ∙ rw (folder, append-nil (filter is_file before)) refl in
+        let same : filter is_file (before ++ p ∷ []) ≡ filter is_file before = rw (filter-append, folder, append-nil) refl in
         record {
           files = rw same h.files;
           pieces = rw same h.pieces;
@@ -169,12 +168,10 @@ module _ {path : List (List ℕ)} {name : List ℕ} {properties : Data} {p : Tre
       → entry_check n before p ≡ first_of (first_of (fault_if other RootConflict ∷ []) ∷ fault_if many TooMany ∷ [])
   file_told {before} h other many =
       let own : IsFileFacts (properties_of p) facts = rw at.properties_are given in
-      let deep : length p.path ≡ length path + 1 = ap length at.path_is ∙ length_push path name in
-      let count : length (filter is_file (before ++ p ∷ [])) ≡ length old.files.items + 1 =
-      ap length (filter_file n before p at.file) ∙ length_push _ p ∙ ap (λ k. k + 1) (sym (count_of_files n before h)) in
       file_counted n before p at.node at.named at.file own.faultless
       (rw (← h.lengths (root_of p) (length_of p), ← own.root, ← own.length) other)
-      (rw (at.file, deep, count, pieces_push n before p at.file, ← h.pieces, ← own.length) many)
+      (rw (at.file, ap length at.path_is ∙ length_push path name, pieces_push n before p at.file, filter_file n before p at.file, length_push _ p,
+          ← count_of_files n before h, ← h.pieces, ← own.length) many)
 
   pub conflict_stops : {e : MetaError} → IsLengthConflict old.lengths facts.root facts.length e → Stops n (p ∷ []) old e
   conflict_stops conflict = walks_one (λ before h. elim conflict.1 [
