@@ -42,6 +42,10 @@ module _ {n : ℕ} {old : Walk} where
   pub no_folder : (path : List (List ℕ)) (d : Data) → is_dictionary d ≡ false → Passes n (tree_entries_below path d) old old
   no_folder path d none = rw (nothing_below path d none) passes_nothing
 
+  pub none_yet : (path : List (List ℕ)) → Passes n (tree_entries_among path no_entries) old old
+  unfolding tree_entries_among
+  none_yet path = passes_nothing
+
   pub stops_sooner : (xs ys : List TreeEntry) {e : MetaError} → Stops n xs old e → Stops n (xs ++ ys) old e
   stops_sooner xs ys s = record {
     told = λ before h.
@@ -86,11 +90,6 @@ module _ (path : List (List ℕ)) where
   among-append [] ys = refl
   among-append (e ∷ xs) ys =
       rw (among_key e.0.items e.1 _, among_key e.0.items e.1 (entries_from xs), among-append xs ys, append_assoc) refl
-
-  module _ {n : ℕ} {old : Walk} where
-    pub none_yet : Passes n (tree_entries_among path no_entries) old old
-    unfolding tree_entries_among
-    none_yet = passes_nothing
 
   module _ {n : ℕ} {old : Walk} (es : List (Vec ℕ × Value)) where
     pub walks_key : {P : List TreeEntry → Check → Type 0} {i : ℕ} {mid : Walk} (e : Vec ℕ × Value) → i < length es → e ≡ get_or es i e
@@ -155,16 +154,14 @@ lawful_is_short properties e = grind (arith, nat_tests)
 
 -- ---- a file
 
-abbrev has_other : Walk → FileFacts → Bool
-has_other old facts = not (facts.length == 0) && is_other_length (length_at old.lengths facts.root) facts.length
-
 abbrev are_many : ℕ → List (List ℕ) → Walk → FileFacts → Bool
 are_many n path old facts =
     nat_lt max_path_length (length path + 1) || are_too_many (length old.files.items + 1) (old.pieces + div_ceil facts.length n)
 
 module _ {path : List (List ℕ)} {name : List ℕ} {properties : Data} {p : TreeEntry} (at : IsFileEntry path name properties p)
     {facts : FileFacts} (given : IsFileFacts properties facts) {n : ℕ} {old : Walk} where
-  file_told : {before : List TreeEntry} → IsWalkOver n before old → {other many : Bool} → has_other old facts ≡ other → are_many n path old facts ≡ many
+  file_told : {before : List TreeEntry} → IsWalkOver n before old → {other many : Bool}
+      → (not (facts.length == 0) && is_other_length (length_at old.lengths facts.root) facts.length) ≡ other → are_many n path old facts ≡ many
       → entry_check n before p ≡ first_of (first_of (fault_if other RootConflict ∷ []) ∷ fault_if many TooMany ∷ [])
   file_told {before} h other many =
       let own : IsFileFacts (properties_of p) facts = rw at.properties_are given in

@@ -1,4 +1,4 @@
-use Rattle.bt_meta.proofs.Base.{◌≡◌, take, arith, take_all, err_from_is_err_and, folder_elements}
+use Rattle.bt_meta.proofs.Base.{◌≡◌, take, arith, take_all, err_from_is_err_and}
 use Rattle.bt_meta.proofs.Dictionaries.{entries_below}
 use Rattle.bt_meta.proofs.TreeWalk.{walks_key, walks_folder, stops_among}
 use Rattle.bt_meta.proofs.walk.+walk_folder.Goals as goal
@@ -6,13 +6,13 @@ use Rattle.bt_meta.proofs.walk.+walk_folder.Goals as goal
 pub returns-in_err-inner-clause-stopped : goal.returns-in_err-inner-clause-stopped
 returns-in_err-inner-clause-stopped t c =
     let q = err_from_is_err_and c.from_residual.result c.from_residual.ensures.1 in
-    rw (q.1, q.2, entries_below (folder_elements c.args.path.now) _ _ _ c.in-Dict.is c.deref-key-items.ensures.value)
+    rw (q.1, q.2, entries_below _ _ _ _ c.in-Dict.is c.deref-key-items.ensures.value)
     (stops_among _ _ _ (walks_key _ _ _ c.loop-key-test.true c.loop-key-item.is c.loop-key.invariant (rw (← c.deref.ensures.value) c.in_err-inner.ensures)))
 
 pub returns-in_err-walk_folder-clause-stopped : goal.returns-in_err-walk_folder-clause-stopped
 returns-in_err-walk_folder-clause-stopped t c =
     let q = err_from_is_err_and c.from_residual-in_err-walk_folder.result c.from_residual-in_err-walk_folder.ensures.1 in
-    rw (q.1, q.2, entries_below (folder_elements c.args.path.now) _ _ _ c.in-Dict.is c.deref-key-items.ensures.value)
+    rw (q.1, q.2, entries_below _ _ _ _ c.in-Dict.is c.deref-key-items.ensures.value)
     (stops_among _ _ _ (walks_key _ _ _ c.loop-key-test.true c.loop-key-item.is c.loop-key.invariant
     (walks_folder _ _ _ c.in-Some.is (rw c.deref.ensures.value at c.in_ok-inner.ensures) (rw c.in_ok-new.ensures.ok at c.in_err-walk_folder.ensures.stopped))))
 
