@@ -92,11 +92,13 @@ module _ (path : List (List ℕ)) where
       rw (among_key e.0.items e.1 _, among_key e.0.items e.1 (entries_from xs), among-append xs ys, append_assoc) refl
 
   module _ {n : ℕ} {old : Walk} (es : List (Vec ℕ × Value)) where
+    -- from the tree entries of the first i keys to those of one key more
     pub walks_key : {P : List TreeEntry → Check → Type 0} {i : ℕ} {mid : Walk} (e : Vec ℕ × Value) → i < length es → e ≡ get_or es i e
         → Passes n (tree_entries_among path (entries_of (take i es))) old mid → Walks n (tree_entries_of path e.0.items (data_of e.1)) mid P
         → Walks n (tree_entries_among path (entries_of (take (i + 1) es))) old P
     walks_key {i = i} e lt is passed more = rw (take_more _ i e lt, ← is, map-append _ _ _, among-append _ _) (walks_on passed more)
 
+    -- what stops at one of the first i keys stops in the folder
     pub stops_among : (i : ℕ) {e : MetaError} → Stops n (tree_entries_among path (entries_of (take i es))) old e
         → Stops n (tree_entries_among path (entries_of es)) old e
     stops_among i stopped = rw (← take-append-drop i es, map-append _ _ _, among-append _ _) (stops_sooner _ _ stopped)
@@ -154,6 +156,7 @@ lawful_is_short properties e = grind (arith, nat_tests)
 
 -- ---- a file
 
+-- with this file there are too many elements, files or pieces
 abbrev are_many : ℕ → List (List ℕ) → Walk → FileFacts → Bool
 are_many n path old facts =
     nat_lt max_path_length (length path + 1) || are_too_many (length old.files.items + 1) (old.pieces + div_ceil facts.length n)
@@ -167,8 +170,16 @@ module _ {path : List (List ℕ)} {name : List ℕ} {properties : Data} {p : Tre
       let own : IsFileFacts (properties_of p) facts = rw at.properties_are given in
       file_counted n before p at.node at.named at.file own.faultless
       (rw (← h.lengths (root_of p) (length_of p), ← own.root, ← own.length) other)
-      (rw (at.file, ap length at.path_is ∙ length_push path name, pieces_push n before p at.file, filter_file n before p at.file, length_push _ p,
-          ← count_of_files n before h, ← h.pieces, ← own.length) many)
+      (rw (
+        at.file,
+        ap length at.path_is ∙ length_push path name,
+        pieces_push n before p at.file,
+        filter_file n before p at.file,
+        length_push _ p,
+        ← count_of_files n before h,
+        ← h.pieces,
+        ← own.length,
+      ) many)
 
   pub conflict_stops : {e : MetaError} → IsLengthConflict old.lengths facts.root facts.length e → Stops n (p ∷ []) old e
   conflict_stops conflict = walks_one (λ before h. elim conflict.1 [
