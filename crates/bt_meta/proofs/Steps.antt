@@ -10,17 +10,18 @@ use Rattle.bt_meta.proofs.MakeFiles.{apart_begun, apart_found, apart_more, files
 use Rattle.bt_meta.proofs.ReadFiles.{ascends}
 use Rattle.bt_meta.proofs.ReadHead.{info_faults, metainfo_is, torrent_head_fault, torrent_layers, torrent_tree_fault}
 use Rattle.bt_meta.proofs.ReadRefusals.{value_refused}
-use Rattle.bt_meta.proofs.TreeWalk.{bad_name_stops, conflict_stops, entry_stops, file_entered, file_entry, file_passes, folder_entered, folder_many, folder_passes, key_at_top, no_file, no_node_stops, node_is, passes_nothing, start, tree_stops}
+use Rattle.bt_meta.proofs.TreeWalk.{bad_name_stops, conflict_stops, entry_stops, file_entered, file_entry, file_passes, folder_many, folder_passes, key_at_top, no_file, no_node_stops, passes_nothing, start, tree_stops, no_folder, none_yet}
 use Rattle.bt_meta.specs.Reader.{too_long as text_too_long}
 use Rattle.bt_meta.specs.Writer.{no_memory}
 use Rattle.std.proofs.lemmas.List.{nil_from_length}
 use Rattle.std.proofs.lemmas.Str.{IsUtf8-from_is_utf8}
+use Rattle.bt_bencode.proofs.ValueData.{data_of-Int, data_of-List}
 
 pub ruleset info_in_steps = (err_from_is_err_and, first_of-append_some, info_faults, metainfo_is)
 
 pub ruleset torrent_in_steps = (err_from_is_err_and, torrent_head_fault, torrent_tree_fault, torrent_layers, metainfo_is, files_with_layers, pieces_after)
 
-pub ruleset enter_steps = (err_from_is_err_and, test_of_some, test_of_none, empty_key, key_entries, passes_nothing, no_node_stops, bad_name_stops, folder_many, folder_passes, entry_stops, file_entry, node_is, file_entered, folder_entered)
+pub ruleset enter_steps = (err_from_is_err_and, test_of_some, test_of_none, empty_key, key_entries, passes_nothing, no_node_stops, bad_name_stops, folder_many, folder_passes, entry_stops, file_entry, file_entered)
 
 pub ruleset add_file_steps = (err_from_is_err_and, conflict_stops, file_passes)
 
@@ -55,3 +56,5 @@ pub ruleset make_steps = (err_from_is_err_and, no_memory, unlawful, overlap, sam
 pub ruleset check_steps = (layer_right, layer_sized_wrong, layer_differs)
 
 pub ruleset add_layers_of_steps = (all_changed)
+
+pub ruleset walk_folder_steps = (data_of-Int, data_of-Bytes, data_of-List, no_folder, none_yet)

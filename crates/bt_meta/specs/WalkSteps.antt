@@ -6,7 +6,7 @@ use Rattle.bt_bencode.specs.Value.{data_of}
 use Rattle.bt_meta.specs.Fields.{has_key, dictionary_at, no_dictionary}
 use Rattle.bt_meta.specs.TreeEntries.{TreeEntry, tree_entries_below, tree_entries_among, with_earlier}
 use Rattle.bt_meta.specs.Files.{is_file, properties_of, length_of, root_of, is_conflict, file_of, file_at, pieces_of}
-use Rattle.bt_meta.specs.Faults.{first_of, is_node, has_lawful_name, entry_check}
+use Rattle.bt_meta.specs.Faults.{Check, first_of, is_node, has_lawful_name, entry_check}
 use Rattle.bt_meta.specs.ReaderSteps.{Refuses, AreShort}
 use Rattle.bt_meta.specs.declared.error.MetaError.{MetaError}
 use Rattle.bt_meta.specs.declared.walk.Walk.{Walk}
@@ -30,16 +30,18 @@ pub record IsWalkOver (piece_length : ℕ) (entries : List TreeEntry) (walk : Wa
   pub lengths : (root : List ℕ) (n : ℕ) →
       is_other_length (length_at walk.lengths root) n ≡ has_other_length entries root n
 
--- behind whichever entries, the walk comes past these too, and they have no fault
-pub record Passes (piece_length : ℕ) (entries : List TreeEntry) (old new : Walk) : Type 0 where
-  pub over : (before : List TreeEntry) → IsWalkOver piece_length before old
-      → IsWalkOver piece_length (before ++ entries) new
-      × (first_of (with_earlier (entry_check piece_length) before entries) ≡ None)
+-- behind whichever entries, the walk tells this of all of them and of the first fault of these
+pub record Walks (piece_length : ℕ) (entries : List TreeEntry) (old : Walk) (P : List TreeEntry → Check → Type 0) : Type 0 where
+  pub told : (before : List TreeEntry) → IsWalkOver piece_length before old
+      → P (before ++ entries) (first_of (with_earlier (entry_check piece_length) before entries))
 
--- behind whichever entries, it is refused at the first fault of these
-pub record Stops (piece_length : ℕ) (entries : List TreeEntry) (old : Walk) (e : MetaError) : Type 0 where
-  pub refused : (before : List TreeEntry) → IsWalkOver piece_length before old
-      → Refuses (first_of (with_earlier (entry_check piece_length) before entries)) e
+-- it comes past these too, and they have no fault
+abbrev pub Passes : ℕ → List TreeEntry → Walk → Walk → Type 0
+Passes piece_length entries old new = Walks piece_length entries old (λ all fault. IsWalkOver piece_length all new × (fault ≡ None))
+
+-- it is refused at the first fault of these
+abbrev pub Stops : ℕ → List TreeEntry → Walk → MetaError → Type 0
+Stops piece_length entries old e = Walks piece_length entries old (λ all fault. Refuses fault e)
 
 -- ---- one entry
 
@@ -47,12 +49,16 @@ pub record Stops (piece_length : ℕ) (entries : List TreeEntry) (old : Walk) (e
 abbrev pub tree_entries_of : List (List ℕ) → List ℕ → Data → List TreeEntry
 tree_entries_of path key d = tree_entries_among path (entry key d no_entries)
 
+-- a folder has no properties; a file has these, and nothing lies below it
+abbrev pub HasKind : Data → Node → Type 0
+HasKind d Folder = has_key d [] ≡ false
+HasKind d (file_node properties) =
+    (has_key d [] ≡ true) × (dictionary_at d [] ≡ Some (data_of properties.now))
+    × ((path : List (List ℕ)) → tree_entries_below path d ≡ [])
+
 -- this is what the value is as an entry
 abbrev pub IsNodeOf : Data → Node → Type 0
-IsNodeOf d Folder = (is_node d ≡ true) × (has_key d [] ≡ false)
-IsNodeOf d (file_node properties) =
-    (is_node d ≡ true) × (has_key d [] ≡ true) × (dictionary_at d [] ≡ Some (data_of properties.now))
-    × ((path : List (List ℕ)) → tree_entries_below path d ≡ [])
+IsNodeOf d node = (is_node d ≡ true) × HasKind d node
 
 -- an entry with this path is a file with these properties
 pub record IsFileEntry (path : List (List ℕ)) (name : List ℕ) (d : Data) (p : TreeEntry) : Type 0 where
@@ -70,8 +76,8 @@ AtFile path name properties P = (p : TreeEntry) → IsFileEntry path name proper
 abbrev pub Enters : ℕ → List (List ℕ) → List ℕ → Data → Walk → Walk → Option (List (List ℕ)) → Type 0
 Enters piece_length path key d old new None = Passes piece_length (tree_entries_of path key d) old new
 Enters piece_length path key d old new (Some inner) =
-    let p : TreeEntry = record { path = inner; value = d } in
-    Passes piece_length (p ∷ []) old new × (tree_entries_of path key d ≡ p ∷ tree_entries_below inner d)
+    let p : TreeEntry = record { path = path ++ key ∷ []; value = d } in
+    (inner ≡ p.path) × Passes piece_length (p ∷ []) old new × (tree_entries_of path key d ≡ p ∷ tree_entries_below p.path d)
 
 -- it is refused at the first fault of the entry
 abbrev pub StopsAtEntry : ℕ → List (List ℕ) → List ℕ → Data → Walk → MetaError → Type 0

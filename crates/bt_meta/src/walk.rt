@@ -79,6 +79,7 @@ pub(crate) fn read_tree(
 }
 
 /// Walks over what lies in a folder with this path.
+#[tactic(auto, using(crate::proofs::Steps::walk_folder_steps))]
 fn walk_folder(
     alloc: Global,
     walk: &mut Walk,

@@ -1,33 +1,20 @@
-use Rattle.bt_meta.proofs.Base.{◌≡◌, take, arith, take_all, err_from_is_err_and, folder_elements}
-use Rattle.bt_meta.proofs.Dictionaries.{entries_below, nothing_below, no_dictionary_is}
-use Rattle.bt_meta.proofs.TreeWalk.{passes_nothing, entries_first, folder_stops, inner_stops, inner_passes, folder_passes_more}
+use Rattle.bt_meta.proofs.Base.{◌≡◌, take, arith, take_all, err_from_is_err_and}
+use Rattle.bt_meta.proofs.Dictionaries.{entries_below}
+use Rattle.bt_meta.proofs.TreeWalk.{walks_key, walks_folder, stops_among}
 use Rattle.bt_meta.proofs.walk.+walk_folder.Goals as goal
-
-pub returns-in-Int-clause-passed : goal.returns-in-Int-clause-passed
-returns-in-Int-clause-passed t c = rw (nothing_below _ _ (no_dictionary_is _ c.in-Int.is)) passes_nothing
-
-pub returns-in-Int-2-clause-passed : goal.returns-in-Int-2-clause-passed
-returns-in-Int-2-clause-passed t c = rw (nothing_below _ _ (no_dictionary_is _ c.in-Int.is)) passes_nothing
-
-pub returns-in-Int-3-clause-passed : goal.returns-in-Int-3-clause-passed
-returns-in-Int-3-clause-passed t c = rw (nothing_below _ _ (no_dictionary_is _ c.in-Int.is)) passes_nothing
-
-pub loop-key-init : goal.loop-key-init
-loop-key-init t c = rw (entries_first _ _) passes_nothing
 
 pub returns-in_err-inner-clause-stopped : goal.returns-in_err-inner-clause-stopped
 returns-in_err-inner-clause-stopped t c =
     let q = err_from_is_err_and c.from_residual.result c.from_residual.ensures.1 in
-    rw (q.1, q.2, entries_below (folder_elements c.args.path.now) _ _ _ c.in-Dict.is c.deref-key-items.ensures.value)
-    (folder_stops _ _ _ _ c.loop-key-test.true c.loop-key-item.is c.loop-key.invariant (rw (← c.deref.ensures.value) c.in_err-inner.ensures))
+    rw (q.1, q.2, entries_below _ _ _ _ c.in-Dict.is c.deref-key-items.ensures.value)
+    (stops_among _ _ _ (walks_key _ _ _ c.loop-key-test.true c.loop-key-item.is c.loop-key.invariant (rw (← c.deref.ensures.value) c.in_err-inner.ensures)))
 
 pub returns-in_err-walk_folder-clause-stopped : goal.returns-in_err-walk_folder-clause-stopped
 returns-in_err-walk_folder-clause-stopped t c =
     let q = err_from_is_err_and c.from_residual-in_err-walk_folder.result c.from_residual-in_err-walk_folder.ensures.1 in
-    let entered = rw (c.deref.ensures.value, c.in-Some.is) at c.in_ok-inner.ensures in
-    rw (q.1, q.2, entries_below (folder_elements c.args.path.now) _ _ _ c.in-Dict.is c.deref-key-items.ensures.value)
-    (folder_stops _ _ _ c.loop-key-item.result c.loop-key-test.true c.loop-key-item.is c.loop-key.invariant
-    (inner_stops entered.1 entered.0 (rw c.in_ok-new.ensures.ok at c.in_err-walk_folder.ensures.stopped)))
+    rw (q.1, q.2, entries_below _ _ _ _ c.in-Dict.is c.deref-key-items.ensures.value)
+    (stops_among _ _ _ (walks_key _ _ _ c.loop-key-test.true c.loop-key-item.is c.loop-key.invariant
+    (walks_folder _ _ _ c.in-Some.is (rw c.deref.ensures.value at c.in_ok-inner.ensures) (rw c.in_ok-new.ensures.ok at c.in_err-walk_folder.ensures.stopped))))
 
 pub returns-clause-passed : goal.returns-clause-passed
 returns-clause-passed t c =
@@ -37,13 +24,11 @@ returns-clause-passed t c =
 
 pub loop-key-preserved : goal.loop-key-preserved
 loop-key-preserved t c =
-    let more = folder_passes_more _ _ _ _ c.loop-key-test.true c.loop-key-item.is c.loop-key.invariant in
-    elim c.match-branch-2.branch [
+    let entered = rw c.deref.ensures.value at c.in_ok-inner.ensures in
+    walks_key _ _ _ c.loop-key-test.true c.loop-key-item.is c.loop-key.invariant (elim c.match-branch-2.branch [
       | goal.in-Some+in_ok-new+in_ok-walk_folder+in-Some-1 w ↦
-          let entered = rw (c.deref.ensures.value, w.in-Some.is) at c.in_ok-inner.ensures in
-          rw w.walk-is (more _ (inner_passes entered.1 entered.0 (rw w.in_ok-new.ensures.ok at w.in_ok-walk_folder.ensures.passed)))
+          rw w.walk-is (walks_folder _ _ _ w.in-Some.is entered (rw w.in_ok-new.ensures.ok at w.in_ok-walk_folder.ensures.passed))
       | goal.in-Some+in_ok-new+in_ok-walk_folder+in-None-1 w ↦
-          let entered = rw (c.deref.ensures.value, w.in-Some.is) at c.in_ok-inner.ensures in
-          rw w.walk-is (more _ (inner_passes entered.1 entered.0 (rw w.in_ok-new.ensures.ok at w.in_ok-walk_folder.ensures.passed)))
-      | goal.in_default w ↦ rw w.walk-is (more _ (rw (c.deref.ensures.value, w.in_default.is) at c.in_ok-inner.ensures))
-    ]
+          rw w.walk-is (walks_folder _ _ _ w.in-Some.is entered (rw w.in_ok-new.ensures.ok at w.in_ok-walk_folder.ensures.passed))
+      | goal.in_default w ↦ rw (w.walk-is) (rw w.in_default.is at entered)
+    ])

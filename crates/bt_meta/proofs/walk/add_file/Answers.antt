@@ -1,12 +1,7 @@
-use Rattle.bt_meta.proofs.Base.{◌+◌, ap, inl, inr, arith}
+use Rattle.bt_meta.proofs.Base.{arith, nat_tests}
 use Rattle.bt_meta.proofs.TreeWalk.{many_stop}
 use Rattle.bt_meta.proofs.walk.add_file.Goals as goal
 
 pub returns-then-depth-ge-MAX_PATH_LENGTH-clause-stopped : goal.returns-then-depth-ge-MAX_PATH_LENGTH-clause-stopped
 returns-then-depth-ge-MAX_PATH_LENGTH-clause-stopped c =
-    λ p at. many_stop at c.in_ok-length.ensures c.in_ok-note_length.ensures.noted _ (ap (λ n. c.args.walk.now.pieces + n) c.div_ceil.ensures)
-    (elim c.then-depth-ge-MAX_PATH_LENGTH.branch [
-      | goal.then-depth-ge-MAX_PATH_LENGTH-via-then-depth-ge-MAX_PATH_LENGTH w ↦ inl (omega (arith, c.folder_length-depth.ensures))
-      | goal.then-depth-ge-MAX_PATH_LENGTH-via-else-depth-ge-MAX_PATH_LENGTH+then-len-ge-MAX_FILES w ↦ inr (inl (omega arith))
-      | goal.then-depth-ge-MAX_PATH_LENGTH-via-else-depth-ge-MAX_PATH_LENGTH+else-len-ge-MAX_FILES+then-pieces-gt-MAX_PIECES w ↦ inr (inr (omega arith))
-    ])
+    λ p at. many_stop at c.in_ok-length.ensures c.in_ok-note_length.ensures.noted (grind (arith, nat_tests, c.then-depth-ge-MAX_PATH_LENGTH.branch))
