@@ -1,5 +1,5 @@
 -- What is read keeps to what every torrent does.
-use Rattle.bt_meta.proofs.Base.{◌≡◌, ℕ, ◌≤◌, get_or, Bool, true, false, List, [], ◌∷◌, ◌++◌, length, None, refl, sym, ap, ◌∙◌, arith, inl, inr, append-nil, append_assoc, ◌<◌, ◌+◌, zero, suc, ◌≢◌, Result, Ok, Err, map, not, ◌==◌, ◌⊎◌, replicate, filter, unwrap_or, codes, if◌then◌else◌, take, sum_by, Option, Some, IfOk, All, AllPairs, list_all, list_any, has_key, cases_Bool, and_parts, or_parts, leb-true, nat_tests, nat_lt, All-nil, All-push, filter-append, All-cons, All-head, All-tail, All-append, sum_by-cons, option_and_then, nat_cmp, Ordering, Less, slice_cmp, nat_list_cmp_total, tied_itself, AllPairs-cons, Data, dictionary, Entries, no_entries, entry, data_of, IsBefore, HasAscendingKeys, EntriesAscend, max_file_length, max_piece_length, max_file_count, max_piece_count, as_dictionary, dictionary_at, no_dictionary, TreeEntry, tree_entries_below, with_earlier, tree_entries_among, is_file, length_in, root_in, length_of, root_of, pieces_of, File, piece_count, file_at, files_of, layer_at, file_of, first_of, fault_if, is_node, has_lawful_name, has_lawful_root, conflict, is_too_many, file_checks, entry_check, tree_checks, is_path_element, is_element, is_path, is_piece_length, tree_of, layer_check, layer_checks, Tree, Metainfo, Head, Listing, IsHead, IsListing, with_layer, layer_faults, has_layer_size, has_root}
+use Rattle.bt_meta.proofs.Base.{◌≡◌, ℕ, ◌≤◌, get_or, Bool, true, false, List, [], ◌∷◌, ◌++◌, length, None, refl, sym, ap, ◌∙◌, arith, inl, inr, append-nil, append_assoc, ◌<◌, ◌+◌, zero, suc, ◌≢◌, Result, Ok, Err, map, not, ◌==◌, ◌⊎◌, replicate, filter, codes, if◌then◌else◌, take, sum_by, Some, IfOk, All, AllPairs, list_all, list_any, has_key, cases_Bool, and_parts, or_parts, leb-true, nat_tests, nat_lt, All-nil, All-push, filter-append, All-cons, All-head, All-tail, All-append, sum_by-cons, nat_cmp, Ordering, Less, slice_cmp, nat_list_cmp_total, tied_itself, AllPairs-cons, Data, dictionary, Entries, no_entries, entry, data_of, IsBefore, HasAscendingKeys, EntriesAscend, max_file_length, max_piece_length, max_file_count, max_piece_count, dictionary_at, no_dictionary, TreeEntry, tree_entries_below, with_earlier, tree_entries_among, is_file, length_in, root_in, length_of, root_of, pieces_of, File, piece_count, file_at, files_of, layer_at, file_of, first_of, fault_if, is_node, has_lawful_name, has_lawful_root, conflict, is_too_many, file_checks, entry_check, tree_checks, is_path_element, is_element, is_path, is_piece_length, tree_of, layer_check, layer_checks, Tree, Metainfo, Head, Listing, IsHead, IsListing, with_layer, layer_faults, has_layer_size, has_root}
 use Rattle.std.proofs.lemmas.Bool.{eqb-true, ltb-true}
 use Rattle.std.proofs.lemmas.List.Elements.{All-weaker, filter_passes}
 use Rattle.std.proofs.lemmas.List.Quantifiers.{all_pairs_push}
@@ -15,7 +15,7 @@ use Rattle.bt_meta.proofs.Lists.{none_of, All-front, All-back, pairs_append}
 use Rattle.bt_meta.proofs.RootLengths.{no_conflict}
 use Rattle.bt_meta.proofs.TreeWalk.{lawful_is_short, pieces_push, name_of, same_sum, some_of_filter, no_layer, length-with_earlier}
 use Rattle.bt_meta.specs.Torrent.{IsApart, HaveAscendingPaths, IsLawful, IsLawfulFile}
-use Rattle.bt_meta.proofs.Dictionaries.{field_ascends, file_below}
+use Rattle.bt_meta.proofs.Dictionaries.{at_key, file_below}
 use Rattle.bt_meta.proofs.FileLayers.{files_with_layers, layer_faults_are}
 
 -- ==== the entries of a tree in which no check finds a fault
@@ -220,16 +220,6 @@ apart p q ahead rest = (
   (λ e. not_before (p ++ rest) [] (rw (append-nil _) (rw e at (ahead rest)))),
   λ e. not_before q rest (rw (← e) (rw append-nil at (ahead []))),
 )
-
--- ---- the value at a key
-
-pub at_key : (d : Data) (key : List ℕ) → HasAscendingKeys d → HasAscendingKeys (unwrap_or (dictionary_at d key) no_dictionary)
-unfolding dictionary_at HasAscendingKeys EntriesAscend
-at_key d key h = by_field _ (λ v e. field_ascends d _ v h e)
-  where
-    by_field : (o : Option Data) → ((v : Data) → o ≡ Some v → HasAscendingKeys v) → HasAscendingKeys (unwrap_or (option_and_then as_dictionary o) no_dictionary)
-    by_field (Some (dictionary es)) k = k (dictionary es) refl
-    by_field _ k = tt
 
 -- ==== the files, and the torrent
 

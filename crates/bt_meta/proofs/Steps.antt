@@ -2,7 +2,7 @@
 use Rattle.bt_meta.proofs.Base.{data_of-Dict, no_spelling, overlap, unlawful, nat_tests, length-map, err_from_is_err_and, is_utf8-from_IsUtf8}
 use Rattle.bt_meta.proofs.Checks.{first_of-append_some}
 use Rattle.bt_meta.proofs.Choices.{test_of_none, test_of_some}
-use Rattle.bt_meta.proofs.Dictionaries.{empty_key, entries_ascend, field_ascends, key_entries, layers_absent, layers_ascend, nothing_ascends, single_entry}
+use Rattle.bt_meta.proofs.Dictionaries.{empty_key, entries_ascend, field_ascends, key_entries, nothing_ascends, single_entry}
 use Rattle.bt_meta.proofs.EncodeValue.{behind_here, file_alone, file_in, grown_found, layers_of_known, layers_of_short, no_path}
 use Rattle.bt_meta.proofs.FileLayers.{all_changed, files_with_layers, layer_differs, layer_right, layer_sized_wrong, pieces_after}
 use Rattle.bt_meta.proofs.MadeTree.{lent_short, ordered_named}
@@ -41,7 +41,7 @@ pub ruleset folder_with_steps = (data_of-Dict, file_in, file_alone, no_path)
 
 pub ruleset value_of_steps = (data_of-Dict)
 
-pub ruleset layers_there = (field_ascends, entries_ascend, layers_absent, layers_ascend, nothing_ascends)
+pub ruleset layers_there = (field_ascends, entries_ascend, nothing_ascends)
 
 pub ruleset read_steps = (err_from_is_err_and, text_too_long, no_spelling, value_refused, ascends)
 
