@@ -1,5 +1,5 @@
 -- What is read keeps to what every torrent does.
-use Rattle.bt_meta.proofs.Base.{◌≡◌, ℕ, ◌≤◌, get_or, Bool, true, false, List, [], ◌∷◌, ◌++◌, length, None, refl, sym, ap, ◌∙◌, arith, inl, inr, append-nil, append_assoc, ◌<◌, ◌+◌, zero, suc, ◌≢◌, Result, Ok, Err, map, not, ◌==◌, ◌⊎◌, replicate, filter, codes, if◌then◌else◌, take, sum_by, Some, IfOk, All, AllPairs, list_all, list_any, has_key, cases_Bool, and_parts, or_parts, leb-true, nat_tests, nat_lt, All-nil, All-push, filter-append, All-cons, All-head, All-tail, All-append, sum_by-cons, nat_cmp, Ordering, Less, slice_cmp, nat_list_cmp_total, tied_itself, AllPairs-cons, Data, dictionary, Entries, no_entries, entry, data_of, IsBefore, HasAscendingKeys, EntriesAscend, max_file_length, max_piece_length, max_file_count, max_piece_count, dictionary_at, no_dictionary, TreeEntry, tree_entries_below, with_earlier, tree_entries_among, is_file, length_in, root_in, length_of, root_of, pieces_of, File, piece_count, file_at, files_of, layer_at, file_of, first_of, fault_if, is_node, has_lawful_name, has_lawful_root, conflict, is_too_many, file_checks, entry_check, tree_checks, is_path_element, is_element, is_path, is_piece_length, tree_of, layer_check, layer_checks, Tree, Metainfo, Head, Listing, IsHead, IsListing, with_layer, layer_faults, has_layer_size, has_root}
+use Rattle.bt_meta.proofs.Base.{◌≡◌, ℕ, ◌≤◌, get_or, true, false, List, [], ◌∷◌, ◌++◌, length, None, refl, sym, ap, ◌∙◌, arith, inl, inr, append-nil, append_assoc, ◌<◌, ◌+◌, zero, suc, ◌≢◌, Result, Ok, Err, map, not, ◌==◌, ◌⊎◌, replicate, filter, codes, take, sum_by, Some, IfOk, All, AllPairs, list_all, list_any, has_key, cases_Bool, and_parts, or_parts, leb-true, nat_tests, nat_lt, All-nil, All-push, filter-append, All-cons, All-head, All-tail, All-append, sum_by-cons, nat_cmp, Ordering, Less, slice_cmp, nat_list_cmp_total, tied_itself, AllPairs-cons, Data, dictionary, Entries, no_entries, entry, data_of, IsBefore, HasAscendingKeys, EntriesAscend, max_file_length, max_piece_length, max_file_count, max_piece_count, dictionary_at, no_dictionary, TreeEntry, tree_entries_below, with_earlier, tree_entries_among, is_file, length_in, root_in, length_of, root_of, pieces_of, File, piece_count, file_at, files_of, layer_at, file_of, first_of, fault_if, is_node, has_lawful_name, has_lawful_root, conflict, is_too_many, file_checks, entry_check, tree_checks, is_path_element, is_element, is_path, is_piece_length, tree_of, layer_check, layer_checks, Tree, Metainfo, Head, Listing, IsHead, IsListing, with_layer, layer_faults, has_layer_size, has_root}
 use Rattle.std.proofs.lemmas.Bool.{eqb-true, ltb-true}
 use Rattle.std.proofs.lemmas.List.Elements.{All-weaker, filter_passes}
 use Rattle.std.proofs.lemmas.List.Quantifiers.{all_pairs_push}
@@ -14,7 +14,7 @@ use Rattle.bt_meta.proofs.Checks.{each_none, first_none, both_none, holds_unless
 use Rattle.bt_meta.proofs.Lists.{none_of, All-front, All-back, pairs_append}
 use Rattle.bt_meta.proofs.RootLengths.{no_conflict}
 use Rattle.bt_meta.proofs.TreeWalk.{lawful_is_short, pieces_push, name_of, same_sum, some_of_filter, no_layer, length-with_earlier}
-use Rattle.bt_meta.specs.Torrent.{IsApart, HaveAscendingPaths, IsLawful, IsLawfulFile}
+use Rattle.bt_meta.specs.Torrent.{IsApart, HaveAscendingPaths, IsLawful}
 use Rattle.bt_meta.proofs.Dictionaries.{at_key, file_below}
 use Rattle.bt_meta.proofs.FileLayers.{files_with_layers, layer_faults_are}
 
@@ -22,16 +22,19 @@ use Rattle.bt_meta.proofs.FileLayers.{files_with_layers, layer_faults_are}
 
 -- ---- one entry
 
+abbrev IsFile : TreeEntry → Type 0
+IsFile p = is_file p ≡ true
+
 -- what is known of an entry alone
 record IsSound (p : TreeEntry) : Type 0 where
   node : is_node p.value ≡ true
   named : has_lawful_name p ≡ true
-  short : is_file p ≡ true → length_of p ≤ max_file_length
-  rooted : is_file p ≡ true → length (root_of p) ≡ 32
+  short : IsFile p → length_of p ≤ max_file_length
+  rooted : IsFile p → length (root_of p) ≡ 32
 
 -- two entries that are files, not empty, and of one root have one length
 abbrev Agrees : TreeEntry → TreeEntry → Type 0
-Agrees q p = is_file q ≡ true → is_file p ≡ true → length_of q ≢ 0 → length_of p ≢ 0 → root_of q ≡ root_of p → length_of q ≡ length_of p
+Agrees q p = IsFile q → IsFile p → length_of q ≢ 0 → length_of p ≢ 0 → root_of q ≡ root_of p → length_of q ≡ length_of p
 
 lawful_root : (properties : Data) → has_lawful_root properties ≡ true → length (root_in properties) ≡ 32
 unfolding has_lawful_root root_in
@@ -50,7 +53,7 @@ module _ (n : ℕ) where
       → IsSound p × All (λ q. Agrees q p) before × (is_too_many n before p ≡ false)
   checked_entry before p h =
       let own = each_none (_ ∷ _ ∷ _ ∷ _ ∷ []) h in
-      let of_file = λ (file : is_file p ≡ true). each_none (file_checks before p) (rw file at own.1.1.0) in (
+      let of_file = λ (file : IsFile p). each_none (file_checks before p) (rw file at own.1.1.0) in (
         record {
           node = holds_unless _ _ own.0;
           named = holds_unless _ _ own.1.0;
@@ -149,7 +152,7 @@ record IsUnder (path : Path) (key : List ℕ) (p : TreeEntry) : Type 0 where
 
 -- the first stands before the second, and where it is a file, so does whatever begins with its path
 abbrev IsAhead : TreeEntry → TreeEntry → Type 0
-IsAhead p q = is_file p ≡ true → (rest : Path) → path_cmp (p.path ++ rest) q.path ≡ Less
+IsAhead p q = IsFile p → (rest : Path) → path_cmp (p.path ++ rest) q.path ≡ Less
 
 abbrev IsAmong : Path → Entries → TreeEntry → Type 0
 IsAmong path es p = (key : List ℕ) × IsKeyOf es key × IsUnder path key p
@@ -236,9 +239,9 @@ get_or-with_earlier f before [] k d e lt = absurd (omega arith)
 get_or-with_earlier f before (x ∷ xs) zero d e lt = rw (append-nil _) refl
 get_or-with_earlier f before (x ∷ xs) (suc k) d e lt = get_or-with_earlier f (before ++ x ∷ []) xs k d e (omega arith) ∙ rw (append_assoc before _ _) refl
 
-then_long : (b : Bool) (layer : List ℕ) → (if b then layer else []) ≢ [] → b ≡ true
-then_long true layer h = refl
-then_long false layer h = absurd (h refl)
+-- an entry that stands for none
+abbrev none : TreeEntry
+none = record { path = []; value = no_dictionary }
 
 module _ (n : ℕ) (layers : Data) where
   -- ---- the layers of files
@@ -252,19 +255,18 @@ module _ (n : ℕ) (layers : Data) where
   layered_files [] h = All-nil IsLayered
   layered_files (p ∷ files) h =
       let parts = first_none (layer_check n layers p) _ h in
-      All-cons IsLayered p files (λ some.
-      let long : nat_lt n (length_of p) ≡ true = then_long _ _ some in
-      let own = each_none (_ ∷ _ ∷ _ ∷ []) (rw long at parts.0) in
-      rw long (ltb-true n _ long, holds_unless _ _ own.1.0, holds_unless _ _ own.1.1.0)) (layered_files files parts.1)
+      All-cons IsLayered p files (λ some. elim (cases_Bool (nat_lt n (length_of p))) [
+        | inl long ↦
+            let own = each_none (_ ∷ _ ∷ _ ∷ []) (rw long at parts.0) in
+            rw long (ltb-true n _ long, holds_unless _ _ own.1.0, holds_unless _ _ own.1.1.0)
+        | inr short ↦ absurd (some (rw short refl))
+      ]) (layered_files files parts.1)
 
   layered_tree : (tree : Data) → first_of (layer_checks n layers tree) ≡ None → All IsLayered (filter is_file (tree_entries_below [] tree))
   unfolding layer_checks
   layered_tree tree h = layered_files _ h
 
   -- ---- files, from their entries
-
-  abbrev IsFile : TreeEntry → Type 0
-  IsFile p = is_file p ≡ true
 
   abbrev count : File → ℕ
   count f = piece_count n f.length
@@ -283,65 +285,17 @@ module _ (n : ℕ) (layers : Data) where
       sum_by-cons count (file_at n layers before p) (take k (files_behind (before ++ p ∷ []) ps)))
 
   module _ (ps : List TreeEntry) where
-    -- entries that stand for none
-    abbrev none : TreeEntry
-    none = record { path = []; value = no_dictionary }
-
-    each_file : (Q : File → Type 0) → All (λ p. (before : List TreeEntry) → Q (file_at n layers before p)) ps → All Q (files_behind [] ps)
-    each_file Q h k d within =
-        let lt : k < length ps = omega (arith, length-with_earlier (file_at n layers) [] ps) in
-        rw (get_or-with_earlier (file_at n layers) [] ps k d none lt) (h k none lt _)
+    -- the file at a place is made of the entry there
+    at_place : (k : ℕ) (d : File) → k < length (files_behind [] ps)
+        → (k < length ps) × (get_or (files_behind [] ps) k d ≡ file_at n layers (take k ps) (get_or ps k none))
+    at_place k d within =
+        let lt : k < length ps = omega (arith, length-with_earlier (file_at n layers) [] ps) in (lt, get_or-with_earlier _ [] ps k d none lt)
 
     all_pairs : (S : File → File → Type 0) → AllPairs (λ p q. (b c : List TreeEntry) → S (file_at n layers b p) (file_at n layers c q)) ps
         → AllPairs S (files_behind [] ps)
     all_pairs S h i j d lt within =
-        let last : j < length ps = omega (arith, length-with_earlier (file_at n layers) [] ps) in
-        rw (get_or-with_earlier (file_at n layers) [] ps i d none (omega arith), get_or-with_earlier (file_at n layers) [] ps j d none last)
-        (h i j none lt last _ _)
-
-  lawful_tree : (tree : Data) → HasAscendingKeys tree → is_piece_length n ≡ true → first_of (tree_checks n tree) ≡ None
-      → All IsLayered (filter is_file (tree_entries_below [] tree)) → IsLawful n (files_of n layers tree)
-  unfolding files_of
-  lawful_tree tree keys lawful faultless layered =
-      let es = tree_entries_below [] tree in
-      let ps = filter is_file es in
-      let files = filter_passes is_file es in
-      let checked = tree_checked n tree faultless in
-      let few = few_parts _ _ checked.0.few in
-      let sound = All-filter is_file IsSound es checked.0.sound in
-      let ordered = ordered_below [] tree refl keys checked.0.sound in
-      let under = All-filter is_file (IsAmong [] (entries_in tree)) es ordered.0 in
-      let ahead = AllPairs-filter IsAhead is_file es ordered.1 in
-      let agree = AllPairs-filter Agrees is_file es checked.0.agree in
-      record {
-        piece = piece_lawful n lawful;
-        some = rw (length-with_earlier _ [] ps) checked.1;
-        each = each_file ps (IsLawfulFile n) (λ k e lt before.
-            let own = sound k e lt in
-            let path = under k e lt in
-            record {
-              path = path_of _ _ _ path.2.is path.2.lawful;
-              short = own.short (files k e lt);
-              rooted = own.rooted (files k e lt);
-              zeros = root_of_none _;
-              long = λ some. (layered k e lt some).0;
-              sized = λ some. (layered k e lt some).1;
-              folds = λ some. (layered k e lt some).2;
-            });
-        few_pieces = rw (same_sum n layers tree) few.1;
-        laid_out = record {
-          few = rw (length-with_earlier _ [] ps) few.0;
-          in_turn = λ k d lt. turn [] ps files k d lt ∙ omega arith;
-        };
-        ascending = all_pairs ps (λ f g. path_cmp f.path g.path ≡ Less) (λ i j e lt within b c. rw append-nil at (ahead i j e lt within (files i e (omega arith)) []));
-        apart = all_pairs ps (λ f g. IsApart f.path g.path) (λ i j e lt within b c. apart _ _ (ahead i j e lt within (files i e (omega arith))));
-        one_length = all_pairs ps (λ f g. f.length ≢ 0 → g.length ≢ 0 → f.root ≡ g.root → f.length ≡ g.length)
-            (λ i j e lt within b c. agree i j e lt within (files i e (omega arith)) (files j e within));
-      }
-
--- an info dictionary has no layers
-none_layered : (n : ℕ) (ps : List TreeEntry) → All (IsLayered n no_dictionary) ps
-none_layered n ps k d lt some = absurd (some (no_layer _ _))
+        let last = at_place j d within in
+        rw ((at_place i d (omega arith)).1, last.1) (h i j none lt last.0 _ _)
 
 -- ---- the whole
 
@@ -353,18 +307,64 @@ ascends (Err e) lawful = lawful
 
 module _ {info : Data} {head : Head} {listing : Listing} (keys : HasAscendingKeys info) (h : IsHead info head)
     (l : IsListing head.piece_length (data_of head.tree.now) listing) where
-  lawful_with : (layers : Data) → All (IsLayered head.piece_length layers) (filter is_file (tree_entries_below [] (data_of head.tree.now)))
-      → IsLawful head.piece_length (files_of head.piece_length layers (data_of head.tree.now))
-  unfolding tree_of
-  lawful_with layers = lawful_tree _ layers _ (rw h.tree at (at_key info (codes "file tree") keys)) h.lawful l.faultless
+  abbrev n : ℕ
+  n = head.piece_length
 
-  pub info_lawful : IsLawful head.piece_length (map file_of listing.files.items)
-  info_lawful = rw l.files (lawful_with no_dictionary (none_layered _ _))
+  abbrev tree : Data
+  tree = data_of head.tree.now
 
-  pub layers_lawful : (layers : Data) → first_of (layer_faults head.piece_length layers (map file_of listing.files.items)) ≡ None
-      → IsLawful head.piece_length (map (with_layer head.piece_length layers) (map file_of listing.files.items))
-  layers_lawful layers none = rw (l.files, files_with_layers head.piece_length layers (data_of head.tree.now))
-      (lawful_with layers (layered_tree _ _ _ (rw (l.files, layer_faults_are head.piece_length layers (data_of head.tree.now)) at none)))
+  abbrev files : List File
+  files = map file_of listing.files.items
+
+  lawful_with : (layers : Data) → All (IsLayered n layers) (filter is_file (tree_entries_below [] tree)) → IsLawful n (files_of n layers tree)
+  unfolding files_of tree_of
+  lawful_with layers layered =
+      let es = tree_entries_below [] tree in
+      let ps = filter is_file es in
+      let are_files = filter_passes is_file es in
+      let checked = tree_checked n tree l.faultless in
+      let few = few_parts _ _ checked.0.few in
+      let ordered = ordered_below [] tree refl (rw h.tree at (at_key info (codes "file tree") keys)) checked.0.sound in
+      let sound = All-filter is_file IsSound es checked.0.sound in
+      let among = All-filter is_file (IsAmong [] (entries_in tree)) es ordered.0 in
+      let ahead = AllPairs-filter IsAhead is_file es ordered.1 in
+      let agree = AllPairs-filter Agrees is_file es checked.0.agree in
+      record {
+        piece = piece_lawful n h.lawful;
+        some = rw (length-with_earlier _ [] ps) checked.1;
+        each = λ k d lt.
+            let at = at_place n layers ps k d lt in
+            let own = sound k none at.0 in
+            let path = among k none at.0 in
+            let right = layered k none at.0 in
+            rw at.1 (record {
+              path = path_of _ _ _ path.2.is path.2.lawful;
+              short = own.short (are_files k none at.0);
+              rooted = own.rooted (are_files k none at.0);
+              zeros = root_of_none _;
+              long = λ some. (right some).0;
+              sized = λ some. (right some).1;
+              folds = λ some. (right some).2;
+            });
+        few_pieces = rw (same_sum n layers tree) few.1;
+        laid_out = record {
+          few = rw (length-with_earlier _ [] ps) few.0;
+          in_turn = λ k d lt. turn n layers [] ps are_files k d lt ∙ omega arith;
+        };
+        ascending = all_pairs n layers ps (λ f g. path_cmp f.path g.path ≡ Less)
+            (λ i j e lt within b c. rw append-nil at (ahead i j e lt within (are_files i e (omega arith)) []));
+        apart = all_pairs n layers ps (λ f g. IsApart f.path g.path) (λ i j e lt within b c. apart _ _ (ahead i j e lt within (are_files i e (omega arith))));
+        one_length = all_pairs n layers ps (λ f g. f.length ≢ 0 → g.length ≢ 0 → f.root ≡ g.root → f.length ≡ g.length)
+            (λ i j e lt within b c. agree i j e lt within (are_files i e (omega arith)) (are_files j e within));
+      }
+
+  -- an info dictionary has no layers
+  pub info_lawful : IsLawful n files
+  info_lawful = rw l.files (lawful_with no_dictionary (λ k e lt some. absurd (some (no_layer _ _))))
+
+  pub layers_lawful : (layers : Data) → first_of (layer_faults n layers files) ≡ None → IsLawful n (map (with_layer n layers) files)
+  layers_lawful layers none = rw (l.files, files_with_layers n layers tree)
+      (lawful_with layers (layered_tree _ _ _ (rw (l.files, layer_faults_are n layers tree) at none)))
 
 -- `info` has ascending keys where the whole has
 pub info_ascends : (torrent : Data) {info : Data} → HasAscendingKeys torrent → Some info ≡ dictionary_at torrent (codes "info") → HasAscendingKeys info
