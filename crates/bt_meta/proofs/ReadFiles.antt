@@ -1,11 +1,10 @@
 -- What is read keeps to what every torrent does.
 use Rattle.bt_meta.proofs.Base.{◌≡◌, ℕ, ◌≤◌, get_or, true, false, List, [], ◌∷◌, ◌++◌, length, None, refl, sym, ap, ◌∙◌, arith, inl, inr, append-nil, append_assoc, ◌<◌, ◌+◌, zero, suc, ◌≢◌, Result, Ok, Err, map, not, ◌==◌, ◌⊎◌, replicate, filter, codes, take, sum_by, Some, IfOk, All, AllPairs, list_all, list_any, has_key, cases_Bool, and_parts, or_parts, leb-true, nat_tests, nat_lt, All-nil, All-push, filter-append, All-cons, All-head, All-tail, All-append, sum_by-cons, nat_cmp, Ordering, Less, slice_cmp, nat_list_cmp_total, tied_itself, AllPairs-cons, Data, dictionary, Entries, no_entries, entry, data_of, IsBefore, HasAscendingKeys, EntriesAscend, max_file_length, max_piece_length, max_file_count, max_piece_count, dictionary_at, no_dictionary, TreeEntry, tree_entries_below, with_earlier, tree_entries_among, is_file, length_in, root_in, length_of, root_of, pieces_of, File, piece_count, file_at, files_of, layer_at, file_of, first_of, fault_if, is_node, has_lawful_name, has_lawful_root, conflict, is_too_many, file_checks, entry_check, tree_checks, is_path_element, is_element, is_path, is_piece_length, tree_of, layer_check, layer_checks, Tree, Metainfo, Head, Listing, IsHead, IsListing, with_layer, layer_faults, has_layer_size, has_root}
 use Rattle.std.proofs.lemmas.Bool.{eqb-true, ltb-true}
-use Rattle.std.proofs.lemmas.List.Elements.{All-weaker, filter_passes}
+use Rattle.std.proofs.lemmas.List.Elements.{All-filter, All-weaker, filter_passes}
 use Rattle.std.proofs.lemmas.List.Quantifiers.{all_pairs_push}
 use Rattle.std.proofs.lemmas.List.Folds.{list_all-append}
 use Rattle.std.proofs.lemmas.List.Kept.{AllPairs-filter}
-use Rattle.std.proofs.lemmas.List.Elements.{All-filter}
 use Rattle.bt_tree.specs.Limits.{min_piece_length}
 use Rattle.bt_tree.specs.TreeShape.{IsPieceLength}
 use Rattle.bt_meta.specs.Fields.{entries_in}
@@ -74,23 +73,19 @@ module _ (n : ℕ) where
     agree : AllPairs Agrees es
     few : are_too_many (length (filter is_file es)) (pieces_of n es) ≡ false
 
-  checked_more : (before : List TreeEntry) (p : TreeEntry) → AreChecked before → entry_check n before p ≡ None → AreChecked (before ++ p ∷ [])
-  checked_more before p h none =
-      let here = checked_entry before p none in
-      record {
+  checked_behind : (before es : List TreeEntry) → AreChecked before → first_of (with_earlier (entry_check n) before es) ≡ None → AreChecked (before ++ es)
+  checked_behind before [] h none = rw (append-nil _) h
+  checked_behind before (p ∷ es) h none =
+      let parts = first_none (entry_check n before p) _ none in
+      let here = checked_entry before p parts.0 in
+      rw (← append_assoc before (p ∷ []) es) (checked_behind (before ++ p ∷ []) es (record {
         sound = All-push IsSound before p h.sound here.0;
         agree = all_pairs_push Agrees before p h.agree here.1;
         few = elim (cases_Bool (is_file p)) [
           | inl file ↦ (or_parts _ _ (rw file at here.2)).1
           | inr folder ↦ rw (filter-append is_file before (p ∷ []), folder, append-nil) h.few
         ];
-      }
-
-  checked_behind : (before es : List TreeEntry) → AreChecked before → first_of (with_earlier (entry_check n) before es) ≡ None → AreChecked (before ++ es)
-  checked_behind before [] h none = rw (append-nil _) h
-  checked_behind before (p ∷ es) h none =
-      let parts = first_none _ _ none in
-      rw (← append_assoc before (p ∷ []) es) (checked_behind (before ++ p ∷ []) es (checked_more before p h parts.0) parts.1)
+      }) parts.1)
 
   tree_checked : (tree : Data) → first_of (tree_checks n tree) ≡ None
       → AreChecked (tree_entries_below [] tree) × (0 < length (filter is_file (tree_entries_below [] tree)))
@@ -102,10 +97,8 @@ module _ (n : ℕ) where
       let last = fault_if (not (list_any is_file es)) Tree in
       let parts = both_none (top ∷ checks) (last ∷ []) h in
       let begun : AreChecked [] = record { sound = All-nil _; agree = λ i j d lt within. absurd (omega arith); few = refl } in
-      (checked_behind [] es begun (first_none top checks parts.0).1, not_none _ (sym (some_of_filter is_file es) ∙ holds_unless _ _ (each_none (last ∷ []) parts.1).0))
-    where
-      not_none : (k : ℕ) → not (k == 0) ≡ true → 0 < k
-      not_none k e = grind (arith, nat_tests)
+      let some : not (length (filter is_file es) == 0) ≡ true = sym (some_of_filter is_file es) ∙ holds_unless _ _ (each_none (last ∷ []) parts.1).0 in
+      (checked_behind [] es begun (first_none top checks parts.0).1, grind (arith, nat_tests))
 
 few_parts : (files pieces : ℕ) → are_too_many files pieces ≡ false → (files ≤ max_file_count) × (pieces ≤ max_piece_count)
 few_parts files pieces e = (grind (arith, nat_tests), grind (arith, nat_tests))
@@ -129,8 +122,8 @@ inside path byte bytes folder e =
     let own : is_element (byte ∷ bytes) ≡ true = rw e (grind (arith, nat_tests)) in
     list_all-append is_element path _ ∙ rw (folder, own) refl
 
-path_of : (path : Path) (name : List ℕ) (rest : Path) → path ≡ name ∷ rest → IsFolderPath path → is_path path ≡ true
-path_of path name rest is folder = rw (folder, is) (grind (arith, nat_tests))
+path_of : {path : Path} {name : List ℕ} {rest : Path} → path ≡ name ∷ rest → IsFolderPath path → is_path path ≡ true
+path_of is folder = rw (folder, is) (grind (arith, nat_tests))
 
 -- ---- the entries of one folder
 
@@ -150,10 +143,11 @@ record IsUnder (path : Path) (key : List ℕ) (p : TreeEntry) : Type 0 where
   is : p.path ≡ path ++ key ∷ rest
   lawful : IsFolderPath p.path
 
--- the first stands before the second, and where it is a file, so does whatever begins with its path
+-- where the first is a file, whatever begins with its path stands before the second
 abbrev IsAhead : TreeEntry → TreeEntry → Type 0
 IsAhead p q = IsFile p → (rest : Path) → path_cmp (p.path ++ rest) q.path ≡ Less
 
+-- the same for one of the keys of the folder
 abbrev IsAmong : Path → Entries → TreeEntry → Type 0
 IsAmong path es p = (key : List ℕ) × IsKeyOf es key × IsUnder path key p
 
@@ -338,7 +332,7 @@ module _ {info : Data} {head : Head} {listing : Listing} (keys : HasAscendingKey
             let path = among k none at.0 in
             let right = layered k none at.0 in
             rw at.1 (record {
-              path = path_of _ _ _ path.2.is path.2.lawful;
+              path = path_of path.2.is path.2.lawful;
               short = own.short (are_files k none at.0);
               rooted = own.rooted (are_files k none at.0);
               zeros = root_of_none _;
