@@ -1,5 +1,5 @@
 -- What is read keeps to what every torrent does.
-use Rattle.bt_meta.proofs.Base.{◌≡◌, ℕ, ◌≤◌, get_or, true, false, List, [], ◌∷◌, ◌++◌, length, None, refl, sym, ap, ◌∙◌, arith, inl, inr, append-nil, append_assoc, ◌<◌, ◌+◌, zero, suc, ◌≢◌, Result, Ok, Err, map, not, ◌==◌, ◌⊎◌, replicate, filter, codes, take, sum_by, Some, IfOk, All, AllPairs, list_all, list_any, has_key, cases_Bool, and_parts, or_parts, leb-true, nat_tests, nat_lt, All-nil, All-push, filter-append, All-cons, All-head, All-tail, All-append, sum_by-cons, nat_cmp, Ordering, Less, slice_cmp, nat_list_cmp_total, tied_itself, AllPairs-cons, Data, dictionary, Entries, no_entries, entry, data_of, IsBefore, HasAscendingKeys, EntriesAscend, max_file_length, max_piece_length, max_file_count, max_piece_count, dictionary_at, no_dictionary, TreeEntry, tree_entries_below, with_earlier, tree_entries_among, is_file, length_in, root_in, length_of, root_of, pieces_of, File, piece_count, file_at, files_of, layer_at, file_of, first_of, fault_if, is_node, has_lawful_name, has_lawful_root, conflict, is_too_many, file_checks, entry_check, tree_checks, is_path_element, is_element, is_path, is_piece_length, tree_of, layer_check, layer_checks, Tree, Metainfo, Head, Listing, IsHead, IsListing, with_layer, layer_faults, has_layer_size, has_root}
+use Rattle.bt_meta.proofs.Base.{◌≡◌, ℕ, ◌≤◌, get_or, true, false, List, [], ◌∷◌, ◌++◌, length, None, refl, sym, ap, ◌∙◌, arith, inl, inr, append-nil, append_assoc, ◌<◌, ◌+◌, zero, suc, ◌≢◌, Result, Ok, Err, map, not, ◌==◌, ◌⊎◌, replicate, filter, codes, take, sum_by, IfOk, All, AllPairs, list_all, list_any, has_key, cases_Bool, and_parts, or_parts, leb-true, nat_tests, nat_lt, All-nil, All-push, filter-append, All-cons, All-head, All-tail, All-append, sum_by-cons, nat_cmp, Ordering, Less, slice_cmp, nat_list_cmp_total, tied_itself, AllPairs-cons, Data, dictionary, Entries, no_entries, entry, data_of, IsBefore, HasAscendingKeys, EntriesAscend, max_file_length, max_piece_length, max_file_count, max_piece_count, no_dictionary, TreeEntry, tree_entries_below, with_earlier, tree_entries_among, is_file, length_in, root_in, length_of, root_of, pieces_of, File, piece_count, file_at, files_of, layer_at, file_of, first_of, fault_if, is_node, has_lawful_name, has_lawful_root, conflict, is_too_many, file_checks, entry_check, tree_checks, is_path_element, is_element, is_path, is_piece_length, tree_of, layer_check, layer_checks, Tree, Metainfo, Head, Listing, IsHead, IsListing, with_layer, layer_faults, has_layer_size, has_root}
 use Rattle.std.proofs.lemmas.Bool.{eqb-true, ltb-true}
 use Rattle.std.proofs.lemmas.List.Elements.{All-filter, All-weaker, filter_passes}
 use Rattle.std.proofs.lemmas.List.Quantifiers.{all_pairs_push}
@@ -190,13 +190,13 @@ mutual
       let lower = ordered_below inner d whole keys.1 (All-tail IsSound here below sounds) in
       let later = ordered_among path es folder keys.2 (All-back IsSound (here ∷ below) others sound) in
       let under : All (IsUnder path name) (here ∷ below) = All-cons (IsUnder path name) here below (record { rest = []; is = refl; lawful = whole })
-          (All-weaker (IsAmong inner (entries_in d)) (IsUnder path name) (λ q u. record {
-            rest = u.0 ∷ u.2.rest;
-            is = u.2.is ∙ append_assoc path (name ∷ []) (u.0 ∷ u.2.rest);
-            lawful = u.2.lawful;
-          }) below lower.0) in (
-        All-append (IsAmong path (entry name d es)) (here ∷ below) others (All-weaker (IsUnder path name) (IsAmong path (entry name d es)) (λ q u. (name, inl refl, u)) (here ∷ below) under)
-            (among_more path name d es others later.0),
+      (All-weaker (IsAmong inner (entries_in d)) (IsUnder path name) (λ q u. record {
+        rest = u.0 ∷ u.2.rest;
+        is = u.2.is ∙ append_assoc path (name ∷ []) (u.0 ∷ u.2.rest);
+        lawful = u.2.lawful;
+      }) below lower.0) in
+      let among = All-weaker (IsUnder path name) (IsAmong path (entry name d es)) (λ q u. (name, inl refl, u)) (here ∷ below) under in (
+        All-append (IsAmong path (entry name d es)) (here ∷ below) others among (among_more path name d es others later.0),
         pairs_append IsAhead (here ∷ below) others
             (AllPairs-cons IsAhead here below (λ k e lt file. let none = ap length (file_below d inner own.node file) in absurd (omega arith)) lower.1)
             later.1
@@ -275,8 +275,11 @@ module _ (n : ℕ) (layers : Data) where
   turn before (p ∷ ps) files zero d lt = omega arith
   turn before (p ∷ ps) files (suc k) d lt =
       turn (before ++ p ∷ []) ps (All-tail IsFile p ps files) k d (omega arith)
-      ∙ omega (arith, pieces_push n before p (All-head IsFile p ps files),
-      sum_by-cons count (file_at n layers before p) (take k (files_behind (before ++ p ∷ []) ps)))
+      ∙ omega (
+        arith,
+        pieces_push n before p (All-head IsFile p ps files),
+        sum_by-cons count (file_at n layers before p) (take k (files_behind (before ++ p ∷ []) ps)),
+      )
 
   module _ (ps : List TreeEntry) where
     -- the file at a place is made of the entry there
@@ -359,7 +362,3 @@ module _ {info : Data} {head : Head} {listing : Listing} (keys : HasAscendingKey
   pub layers_lawful : (layers : Data) → first_of (layer_faults n layers files) ≡ None → IsLawful n (map (with_layer n layers) files)
   layers_lawful layers none = rw (l.files, files_with_layers n layers tree)
       (lawful_with layers (layered_tree _ _ _ (rw (l.files, layer_faults_are n layers tree) at none)))
-
--- `info` has ascending keys where the whole has
-pub info_ascends : (torrent : Data) {info : Data} → HasAscendingKeys torrent → Some info ≡ dictionary_at torrent (codes "info") → HasAscendingKeys info
-info_ascends torrent keys there = rw (← there) at (at_key torrent (codes "info") keys)
