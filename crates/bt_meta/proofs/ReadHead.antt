@@ -19,29 +19,23 @@ metainfo_is layers files h f = rw (h.name, h.piece_length, h.tree, f) refl
 
 -- ---- the whole of a torrent
 
-module _ (torrent : Data) where
-  module _ {info : Data} (there : Some info ≡ dictionary_at torrent (codes "info")) where
-    pub info_is : info_of torrent ≡ info
-    unfolding info_of
-    info_is = rw (← there) refl
+module _ (torrent : Data) {info : Data} (there : Some info ≡ dictionary_at torrent (codes "info")) where
+  first_fault_in : first_fault torrent ≡ first_of (info_checks info ++ layer_checks (piece_length_of info) (layers_of torrent) (tree_of info))
+  unfolding first_fault info_of
+  first_fault_in = rw (← there) refl
 
-    first_fault_in : first_fault torrent ≡ first_of (info_checks info ++ layer_checks (piece_length_of info) (layers_of torrent) (tree_of info))
-    unfolding first_fault info_of
-    first_fault_in = rw (← there) refl
+  info_fault : {e : MetaError} → first_of (info_checks info) ≡ Some e → first_fault torrent ≡ Some e
+  info_fault f = first_fault_in ∙ first_of-append_some (info_checks info) _ _ f
 
-    pub torrent_info_fault : {e : MetaError} → first_of (info_checks info) ≡ Some e → first_fault torrent ≡ Some e
-    torrent_info_fault f = first_fault_in ∙ first_of-append_some (info_checks info) (layer_checks (piece_length_of info) (layers_of torrent) (tree_of info)) _ f
+  pub torrent_head_fault : {e : MetaError} → first_of (head_checks info) ≡ Some e → first_fault torrent ≡ Some e
+  torrent_head_fault f = info_fault (first_of-append_some (head_checks info) _ _ f)
 
-    pub torrent_head_fault : {e : MetaError} → first_of (head_checks info) ≡ Some e → first_fault torrent ≡ Some e
-    torrent_head_fault f = torrent_info_fault (first_of-append_some (head_checks info) (tree_checks (piece_length_of info) (tree_of info)) _ f)
+  module _ {head : Head} (h : IsHead info head) where
+    pub torrent_tree_fault : {e : MetaError} → first_of (tree_checks head.piece_length (data_of head.tree.now)) ≡ Some e → first_fault torrent ≡ Some e
+    torrent_tree_fault f = info_fault (info_faults h ∙ f)
 
-    pub torrent_tree_fault : {head : Head} {e : MetaError} → IsHead info head
-        → first_of (tree_checks head.piece_length (data_of head.tree.now)) ≡ Some e → first_fault torrent ≡ Some e
-    torrent_tree_fault h f = torrent_info_fault (info_faults h ∙ f)
-
-    module _ {head : Head} {listing : Listing} (h : IsHead info head) (l : IsListing head.piece_length (data_of head.tree.now) listing) where
-      pub torrent_layers : first_fault torrent ≡ first_of (layer_faults head.piece_length (layers_of torrent) (map file_of listing.files.items))
-      torrent_layers =
-          first_fault_in ∙ first_of-append (info_checks info) _
-          (info_faults h ∙ l.faultless)
-          ∙ rw (h.piece_length, h.tree, l.files, layer_faults_are head.piece_length (layers_of torrent) (data_of head.tree.now)) refl
+    pub torrent_layers : {listing : Listing} → IsListing head.piece_length (data_of head.tree.now) listing
+        → first_fault torrent ≡ first_of (layer_faults head.piece_length (layers_of torrent) (map file_of listing.files.items))
+    torrent_layers l =
+        first_fault_in ∙ first_of-append (info_checks info) _ (info_faults h ∙ l.faultless)
+        ∙ rw (h.piece_length, h.tree, l.files, layer_faults_are head.piece_length (layers_of torrent) (data_of head.tree.now)) refl

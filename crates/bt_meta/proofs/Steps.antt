@@ -2,7 +2,7 @@
 use Rattle.bt_meta.proofs.Base.{data_of-Dict, data_of-Bytes, no_spelling, overlap, unlawful, nat_tests, length-map, take_all, err_from_is_err_and, is_utf8-from_IsUtf8}
 use Rattle.bt_meta.proofs.Checks.{first_of-append_some}
 use Rattle.bt_meta.proofs.Choices.{test_of_none, test_of_some}
-use Rattle.bt_meta.proofs.Dictionaries.{empty_key, entries_ascend, field_ascends, key_entries, layers_absent, layers_ascend, nothing_ascends, single_entry}
+use Rattle.bt_meta.proofs.Dictionaries.{empty_key, entries_ascend, field_ascends, key_entries, nothing_ascends, single_entry}
 use Rattle.bt_meta.proofs.EncodeValue.{lent_behind, tree_more, file_in, layers_of_known, layers_of_short, entries_push, opened_push, before_none, before_more}
 use Rattle.bt_meta.proofs.FileLayers.{all_changed, files_with_layers, layer_differs, layer_right, layer_sized_wrong, pieces_after}
 use Rattle.bt_meta.proofs.MadeTree.{lent_short, ordered_named}
@@ -47,7 +47,7 @@ pub ruleset layer_entries_steps = (data_of-Bytes, before_more)
 
 pub ruleset value_of_steps = (data_of-Dict)
 
-pub ruleset layers_there = (field_ascends, entries_ascend, layers_absent, layers_ascend, nothing_ascends)
+pub ruleset layers_there = (field_ascends, entries_ascend, nothing_ascends)
 
 pub ruleset read_steps = (err_from_is_err_and, text_too_long, no_spelling, value_refused, ascends)
 
