@@ -4,6 +4,7 @@
 mod asking;
 mod block_rows;
 mod hashes;
+mod message;
 mod news;
 mod requests;
 mod serving;
