@@ -1,24 +1,21 @@
 -- What is answered to a wire event is a step: the tables tell the engine also where its hints are pending.
-use Rattle.bt_engine.proofs.Base.{◌≡◌, ◌∙◌, ℕ, List, ◌++◌, map, Option, Some, None, Ok, refl, sym, ap, slice_get}
-use Rattle.bt_meta.specs.Torrent.{Metainfo, total_pieces}
+use Rattle.bt_engine.proofs.Base.{◌≡◌, ◌∙◌, ℕ, List, ◌++◌, map, Some, None, Ok, refl, sym, ap}
+use Rattle.bt_meta.specs.Torrent.{Metainfo}
 use Rattle.bt_sparse.specs.SparseTree.{Facts}
-use Rattle.bt_book.specs.declared.names.PeerKey.{PeerKey}
 use Rattle.bt_engine.specs.State.{PeerState, EngineState, Hint}
 use Rattle.bt_engine.specs.Devices.{DeviceCalls}
-use Rattle.bt_engine.specs.Blocks.{with_peer}
 use Rattle.bt_engine.specs.Output.{Sent, Effect, haves, sent_to}
 use Rattle.bt_engine.specs.declared.answer.Note.TheVariants.{Complete}
 use Rattle.bt_engine.specs.Blocks.{new_complete_files}
 use Rattle.bt_engine.specs.FollowUp.{FollowsUp}
 use Rattle.bt_engine.specs.Next.{IsPeer, TakesEvent, StepNext, goes_on, with_pending}
 use Rattle.bt_plain.specs.declared.table.Row.{Row}
-use Rattle.bt_plain.specs.declared.engine.Member.{Member}
 use Rattle.bt_plain.specs.declared.answering.Answered.{Answered}
-use Rattle.bt_plain.specs.Table.{IsRow, IsTable}
-use Rattle.bt_plain.specs.Engine.{HasFiles, IsMember}
+use Rattle.bt_plain.specs.Table.{IsTable}
+use Rattle.bt_plain.specs.Engine.{HasFiles}
 use Rattle.bt_plain.specs.HashRule.{HasOneTree}
 use Rattle.bt_plain.specs.News.{have_sent}
-use Rattle.bt_plain.specs.Answering.{AreTold, output_of}
+use Rattle.bt_plain.specs.Answering.{output_of}
 
 -- pending hints change nothing that a table tells
 pub table_stays : (s : EngineState) {mid : EngineState} {rows : List Row} (proofs : List Hint) → IsTable mid rows → IsTable (with_pending s mid proofs) rows

@@ -28,7 +28,8 @@ pub record AreTold (before after : EngineState) (torrent : Metainfo) (k : Facts)
   pub is_member : IsMember p member
   pub no_log : after.logged ≡ false
 
--- what the event did by itself, then the haves, then what follows for the peer; its notes, then complete files
+-- what the event did by itself, then the haves, then what follows for the peer; its notes, then the
+-- complete files
 abbrev pub output_of : PeerState → Effect → Answered → Output
 output_of p effect answered = record {
   send = effect.send ++ map have_sent answered.announcements.items ++ map (sent_to p) answered.messages.items;

@@ -39,7 +39,8 @@ pub record IsAllOf (n : ℕ) (span : Span) (b : BlockId) : Type 0 where
   pub whole : span.length ≡ block_length n b.block
 
 -- so many bytes of a piece, from the byte `begin` on, are this block, and the peer is asked for it
-pub record IsAskedBlock (torrent : Metainfo) (piece begin count : ℕ) (peer : Peer) (b : BlockId) : Type 0 where
+pub record IsAskedBlock (torrent : Metainfo) (piece begin count : ℕ) (peer : Peer) (b : BlockId)
+    : Type 0 where
   pub whole : IsWholeBlock torrent piece begin count b
   pub asked : Contains peer.asked.items b
 
@@ -54,4 +55,5 @@ abbrev pub TakesPiece : (List ℕ → List ℕ) → EngineState → ℕ → Peer
     → (piece begin : ℕ) → List ℕ → List Call → Said → List BlockState → Peer → (payload : ℕ) → Type 0
 TakesPiece dig s i p file f piece begin bytes calls said states peer payload =
     HandlesPiece dig s i p piece begin bytes (calls_at file calls) (effect_of said)
-    (with_peer (with_file s file (record f { states = states })) i (record (as_told p peer) { payload = payload }))
+    (with_peer (with_file s file (record f { states = states })) i
+    (record (as_told p peer) { payload = payload }))

@@ -1,5 +1,5 @@
 -- What a request for a range comes to in an engine of one file, and how its blocks are read.
-use Rattle.std.specs.Prelude.{◌≡◌, ◌≢◌, ℕ, ◌==◌, Bool, if◌then◌else◌, List, [], ◌∷◌, ◌++◌, map, flat_map, Some, slice_get, slice_set, Contains}
+use Rattle.std.specs.Prelude.{◌≡◌, ℕ, ◌==◌, Bool, if◌then◌else◌, List, [], ◌∷◌, ◌++◌, map, flat_map, Some, slice_get, slice_set, Contains}
 use Rattle.bt_disk.specs.History.{History}
 use Rattle.bt_disk.specs.Calls.{HasCalls}
 use Rattle.bt_meta.specs.Torrent.{Metainfo}
@@ -15,7 +15,7 @@ use Rattle.bt_engine.specs.declared.answer.Note.{Note}
 use Rattle.bt_engine.specs.declared.answer.Note.TheVariants.{Damaged, Device}
 use Rattle.bt_engine.specs.State.{PeerState, FileState, EngineState}
 use Rattle.bt_engine.specs.Blocks.{block_id}
-use Rattle.bt_engine.specs.Spans.{spanned_blocks, cut_from, first_block, last_block}
+use Rattle.bt_engine.specs.Spans.{spanned_blocks, cut_from}
 use Rattle.bt_engine.specs.Output.{Effect, no_effect, noting, closing, sending}
 use Rattle.bt_engine.specs.Request.{with_payload, ReadsRight}
 use Rattle.bt_plain.specs.declared.serving.Served.{Served}

@@ -4,12 +4,7 @@ ghost use Rattle.bt_plain.specs.Engine.{hash_of};
 
 use crate::table::Peer;
 use bt_book::PeerKey;
-use bt_disk::Disk;
 use bt_hashreq::HashKey;
-use bt_meta::Torrent;
-use bt_sparse::SparseTree;
-use bt_store::FileStore;
-use bt_tree::NodeHash;
 
 /// Whether a peer may be sent a hash request.
 #[derive(Clone, Copy, Debug, PartialEq, Eq)]
@@ -41,13 +36,4 @@ pub struct Member {
     pub key: PeerKey,
     pub told: Peer,
     pub hash: HashState,
-}
-
-/// A small engine, without a log: its torrent has one file, which has at least one block.
-#[derive(Drop)]
-pub struct Engine<D: Disk + Drop, H: NodeHash> {
-    pub torrent: Torrent,
-    pub tree: SparseTree<H>,
-    pub store: FileStore<D, H>,
-    pub members: Vec<Member>,
 }

@@ -25,7 +25,7 @@ pub use after_rules::follow_up;
 pub use answering::{Answered, answer_event};
 pub use asking::open_blocks;
 pub use block_rows::rows_of;
-pub use engine::{Engine, HashState, Member};
+pub use engine::{HashState, Member};
 pub use hash_rule::hash_request;
 pub use hashes::answer_hash_request;
 pub use interest::tell_interest;
