@@ -31,13 +31,15 @@ pub record IsWalkOver (piece_length : ℕ) (entries : List TreeEntry) (walk : Wa
       is_other_length (length_at walk.lengths root) n ≡ has_other_length entries root n
 
 -- behind whichever entries, the walk tells this of all of them and of the first fault of these
-pub record Walks (piece_length : ℕ) (entries : List TreeEntry) (old : Walk) (P : List TreeEntry → Check → Type 0) : Type 0 where
+pub record Walks (piece_length : ℕ) (entries : List TreeEntry) (old : Walk)
+    (P : List TreeEntry → Check → Type 0) : Type 0 where
   pub told : (before : List TreeEntry) → IsWalkOver piece_length before old
       → P (before ++ entries) (first_of (with_earlier (entry_check piece_length) before entries))
 
 -- it comes past these too, and they have no fault
 abbrev pub Passes : ℕ → List TreeEntry → Walk → Walk → Type 0
-Passes piece_length entries old new = Walks piece_length entries old (λ all fault. IsWalkOver piece_length all new × (fault ≡ None))
+Passes piece_length entries old new =
+    Walks piece_length entries old (λ all fault. IsWalkOver piece_length all new × (fault ≡ None))
 
 -- it is refused at the first fault of these
 abbrev pub Stops : ℕ → List TreeEntry → Walk → MetaError → Type 0
@@ -77,7 +79,8 @@ abbrev pub Enters : ℕ → List (List ℕ) → List ℕ → Data → Walk → W
 Enters piece_length path key d old new None = Passes piece_length (tree_entries_of path key d) old new
 Enters piece_length path key d old new (Some inner) =
     let p : TreeEntry = record { path = path ++ key ∷ []; value = d } in
-    (inner ≡ p.path) × Passes piece_length (p ∷ []) old new × (tree_entries_of path key d ≡ p ∷ tree_entries_below p.path d)
+    (inner ≡ p.path) × Passes piece_length (p ∷ []) old new
+    × (tree_entries_of path key d ≡ p ∷ tree_entries_below p.path d)
 
 -- it is refused at the first fault of the entry
 abbrev pub StopsAtEntry : ℕ → List (List ℕ) → List ℕ → Data → Walk → MetaError → Type 0
