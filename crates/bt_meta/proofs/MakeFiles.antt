@@ -1,11 +1,11 @@
 -- The files that a torrent is made of: one by one, in their order, and of which no path begins another.
-use Rattle.bt_meta.proofs.Base.{◌≡◌, ℕ, ◌+◌, ◌<◌, ◌≤◌, Bool, false, List, [], ◌∷◌, ◌++◌, length, map, None, refl, sym, ap, ◌∙◌, arith, inl, inr, ◌-◌, true, subst, Some, string_bytes, not, ◌&&◌, ◌||◌, ◌==◌, take, drop, get_or, list_all, All, All-nil, All-push, length-map, map-append, take_all, get_or-map, list_any-append, or-false, Bor, ordering_then, nat_cmp, is_lt, ordering_reverse, slice_cmp, nat_list_cmp_total, IsSortedBy, Ordering, Less, Equal, Greater, true≢false, or_parts, false_from_ne_true, bytes_eq-Decides, pointwise, nat_eq, is_eq-slice_cmp, cases_Bool, first_of, is_element, is_path, is_piece_length, Lengths, length_at, is_other_length, NotesLength, with_earlier, is_conflict, Given, given_of, HasRoot, path_order, IsInTreeOrder, begins, HaveTreePaths, file_refusal, Made, given_at, unlawful, Count}
+use Rattle.bt_meta.proofs.Base.{◌≡◌, ℕ, ◌+◌, ◌<◌, ◌≤◌, Bool, false, List, [], ◌∷◌, ◌++◌, length, map, None, refl, sym, ap, ◌∙◌, arith, inl, inr, ◌-◌, true, subst, Some, string_bytes, not, ◌&&◌, ◌||◌, ◌==◌, take, drop, get_or, list_all, All, All-nil, All-push, length-map, map-append, take_all, drop_more, get_or-map, list_any-append, or-false, Bor, ordering_then, nat_cmp, is_lt, ordering_reverse, slice_cmp, nat_list_cmp_total, IsSortedBy, Ordering, Less, Equal, Greater, true≢false, or_parts, false_from_ne_true, bytes_eq-Decides, pointwise, nat_eq, is_eq-slice_cmp, cases_Bool, first_of, is_element, is_path, is_piece_length, Lengths, length_at, is_other_length, NotesLength, with_earlier, is_conflict, Given, given_of, HasRoot, path_order, IsInTreeOrder, begins, HaveTreePaths, file_refusal, Made, given_at, unlawful, Count}
 use Rattle.std.proofs.Common.{◌↔◌}
 use Rattle.std.specs.Prelude.{String}
 use Rattle.std.specs.Global.{Global}
 use Rattle.std.specs.List.{AllAdjacentBelow, IsDistinct, starts_with}
 use Rattle.std.proofs.lemmas.List.Elements.{All-from_recursion, recursion_from_All}
-use Rattle.std.proofs.lemmas.List.{map_more}
+use Rattle.std.proofs.lemmas.List.{drop_all, map_more}
 use Rattle.std.proofs.lemmas.List.Folds.{list_all-map, list_any_none}
 use Rattle.std.proofs.lemmas.Cmp.{nat_list_eq_equiv}
 use Rattle.std.proofs.Math.Bool.{or_comm}
@@ -22,7 +22,7 @@ use Rattle.bt_meta.specs.WriterRefusals.{Check, has_conflict, refusal_of_files}
 use Rattle.bt_meta.specs.WriterSteps.{IsTallyOf, IsWithinLimits, Refuses, RefusesFile}
 use Rattle.bt_meta.specs.declared.writer.MakeError.{MakeError}
 use Rattle.bt_meta.specs.declared.writer.Tally.{Tally}
-use Rattle.bt_meta.proofs.Checks.{first_of-append}
+use Rattle.bt_meta.proofs.Checks.{skips}
 use Rattle.bt_meta.proofs.Lists.{none_of, parts_at}
 use Rattle.bt_meta.proofs.TreeWalk.{with_earlier-append}
 use Rattle.bt_meta.specs.Writer.{is_overlap, have_overlap, IsNotMade, no_memory}
@@ -30,29 +30,23 @@ use Rattle.bt_meta.specs.declared.writer.MakeError.TheVariants.{PieceLength}
 
 -- ==== what was taken of the files
 
-pub path_test : (path : List (String Global)) (all : Bool) → false ≡ (length path == 0) → all ≡ list_all (λ e. is_element (string_bytes e)) path
-    → all ≡ is_path (map string_bytes path)
-path_test path all some is =
-    let more : false ≡ (length (map string_bytes path) == 0) = some ∙ ap (λ n. n == 0) (sym (length-map path _)) in
-    is ∙ sym (list_all-map is_element string_bytes path) ∙ ap (λ b. not b && list_all is_element (map string_bytes path)) more
-
 pub lengths_noted : (files : List Given) (f : Given) (old new : Lengths) (other : List ℕ) (n : ℕ)
     → is_other_length (length_at old other) n ≡ has_conflict files other n → NotesLength old new f.root f.length
     → is_other_length (length_at new other) n ≡ has_conflict (files ++ f ∷ []) other n
 lengths_noted files f old new other n h noted =
-    let test = λ (g : Given). is_conflict other n g.root g.length in
-    noted.noted other n ∙ sym (list_any-append test files _ ∙ ap (λ b. has_conflict files other n || b) (or-false _) ∙ rw (← h) refl)
+    rw (list_any-append (λ (g : Given). is_conflict other n g.root g.length) files _, or-false, ← h) (noted.noted other n)
 
 -- ---- the loop
 
-abbrev checks_of : ℕ → List Given → List Check
-checks_of piece_length files = with_earlier (file_refusal piece_length) [] files
+-- the checks of the files behind the first i
+abbrev checks_from : ℕ → List Made → ℕ → List Check
+checks_from piece_length files i = with_earlier (file_refusal piece_length) (map given_of (take i files)) (map given_of (drop i files))
 
--- the first i files were taken
+-- the first i files were taken, and none of them is refused
 pub record Taking (piece_length : ℕ) (files : List Made) (i : ℕ) (tally : Tally) : Type 0 where
   pub within : IsWithinLimits tally
   pub taken : IsTallyOf piece_length (map given_of (take i files)) tally
-  pub faultless : first_of (checks_of piece_length (map given_of (take i files))) ≡ None
+  pub faultless : first_of (checks_from piece_length files 0) ≡ first_of (checks_from piece_length files i)
   pub rooted : All HasRoot (map given_of (take i files))
 
 pub taking_begun : (piece_length : ℕ) (files : List Made) (tally : Tally) → tally.files ≡ 0 → tally.pieces ≡ 0 → tally.lengths.entries ≡ []
@@ -65,40 +59,29 @@ taking_begun piece_length files tally none no_pieces no_lengths = record {
 }
 
 module _ {n : ℕ} (files : List Made) (i : ℕ) {old : Tally} (h : Taking n files i old) where
-  checks_behind : (f : Given) (rest : List Given) → first_of (checks_of n (map given_of (take i files) ++ f ∷ rest))
-      ≡ first_of (file_refusal n (map given_of (take i files)) f ∷ with_earlier (file_refusal n) (map given_of (take i files) ++ f ∷ []) rest)
-  checks_behind f rest =
-      let before = map given_of (take i files) in
-      ap first_of (with_earlier-append (file_refusal n) [] before (f ∷ rest))
-      ∙ first_of-append (checks_of n before) (with_earlier (file_refusal n) before (f ∷ rest)) h.faultless
-
   module _ (m : Made) (lt : i < length files) (is : m ≡ get_or files i m) where
+    next_check : first_of (checks_from n files 0) ≡ first_of (file_refusal n (map given_of (take i files)) (given_of m) ∷ checks_from n files (i + 1))
+    next_check = h.faultless ∙ rw (drop_more files i m lt, map_more given_of files i m lt, ← is) refl
+
     pub taking_more : {new : Tally} → IsWithinLimits new → ((fs : List Given) → IsTallyOf n fs old → IsTallyOf n (fs ++ given_of m ∷ []) new)
         → ((fs : List Given) → IsTallyOf n fs old → file_refusal n fs (given_of m) ≡ None) → HasRoot (given_of m) → Taking n files (i + 1) new
-    taking_more within taken faultless rooted =
-        let before = map given_of (take i files) in
-        let more : map given_of (take (i + 1) files) ≡ before ++ given_of m ∷ [] = map_more _ files i m lt
-        ∙ ap (λ x. before ++ given_of x ∷ []) (sym is) in
-        record {
-          within = within;
-          taken = rw more (taken before h.taken);
-          faultless = ap (λ fs. first_of (checks_of n fs)) more ∙ checks_behind _ [] ∙ rw (faultless before h.taken) refl;
-          rooted = rw more (All-push HasRoot before _ h.rooted rooted);
-        }
+    taking_more within taken faultless rooted = record {
+      within = within;
+      taken = rw (map_more given_of files i m lt, ← is) (taken _ h.taken);
+      faultless = next_check ∙ skips _ _ (faultless _ h.taken);
+      rooted = rw (map_more given_of files i m lt, ← is) (All-push HasRoot _ _ h.rooted rooted);
+    }
 
     pub taking_stops : {e : MakeError} → ((fs : List Given) → IsTallyOf n fs old → RefusesFile n fs (given_of m) e)
-        → Refuses (first_of (checks_of n (map given_of files))) e
-    taking_stops refused = elim (refused (map given_of (take i files)) h.taken) [
+        → Refuses (first_of (checks_from n files 0)) e
+    taking_stops refused = elim (refused _ h.taken) [
       | inl memory ↦ inl memory.0
-      | inr found ↦
-          inr (ap (λ fs. first_of (checks_of n (map given_of fs))) (parts_at files i m lt is)
-          ∙ ap (λ fs. first_of (checks_of n fs)) (map-append given_of (take i files) (m ∷ drop (i + 1) files))
-          ∙ checks_behind (given_of m) (map given_of (drop (i + 1) files)) ∙ rw found refl)
+      | inr found ↦ inr (next_check ∙ rw found refl)
     ]
 
   module _ (all : length files ≤ i) where
-    pub taking_found : first_of (checks_of n (map given_of files)) ≡ None
-    taking_found = rw (take_all i _ all) at h.faultless
+    pub taking_found : first_of (checks_from n files 0) ≡ None
+    taking_found = h.faultless ∙ rw (drop_all i files all) refl
 
     pub taking_rooted : All HasRoot (map given_of files)
     taking_rooted = rw (take_all i _ all) at h.rooted
