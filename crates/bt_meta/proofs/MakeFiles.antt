@@ -36,56 +36,6 @@ pub lengths_noted : (files : List Given) (f : Given) (old new : Lengths) (other 
 lengths_noted files f old new other n h noted =
     rw (list_any-append (λ (g : Given). is_conflict other n g.root g.length) files _, or-false, ← h) (noted.noted other n)
 
--- ---- the loop
-
--- the checks of the files behind the first i
-abbrev checks_from : ℕ → List Made → ℕ → List Check
-checks_from piece_length files i = with_earlier (file_refusal piece_length) (map given_of (take i files)) (map given_of (drop i files))
-
--- the first i files were taken, and none of them is refused
-pub record Taking (piece_length : ℕ) (files : List Made) (i : ℕ) (tally : Tally) : Type 0 where
-  pub within : IsWithinLimits tally
-  pub taken : IsTallyOf piece_length (map given_of (take i files)) tally
-  pub faultless : first_of (checks_from piece_length files 0) ≡ first_of (checks_from piece_length files i)
-  pub rooted : All HasRoot (map given_of (take i files))
-
-pub taking_begun : (piece_length : ℕ) (files : List Made) (tally : Tally) → tally.files ≡ 0 → tally.pieces ≡ 0 → tally.lengths.entries ≡ []
-    → Taking piece_length files 0 tally
-taking_begun piece_length files tally none no_pieces no_lengths = record {
-  within = record { files = omega arith; pieces = omega arith };
-  taken = record { count = none; pieces = no_pieces; lengths = λ root n. rw no_lengths refl };
-  faultless = refl;
-  rooted = All-nil _;
-}
-
-module _ {n : ℕ} (files : List Made) (i : ℕ) {old : Tally} (h : Taking n files i old) where
-  module _ (m : Made) (lt : i < length files) (is : m ≡ get_or files i m) where
-    next_check : first_of (checks_from n files 0) ≡ first_of (file_refusal n (map given_of (take i files)) (given_of m) ∷ checks_from n files (i + 1))
-    next_check = h.faultless ∙ rw (drop_more files i m lt, map_more given_of files i m lt, ← is) refl
-
-    pub taking_more : {new : Tally} → IsWithinLimits new → ((fs : List Given) → IsTallyOf n fs old → IsTallyOf n (fs ++ given_of m ∷ []) new)
-        → ((fs : List Given) → IsTallyOf n fs old → file_refusal n fs (given_of m) ≡ None) → HasRoot (given_of m) → Taking n files (i + 1) new
-    taking_more within taken faultless rooted = record {
-      within = within;
-      taken = rw (map_more given_of files i m lt, ← is) (taken _ h.taken);
-      faultless = next_check ∙ skips _ _ (faultless _ h.taken);
-      rooted = rw (map_more given_of files i m lt, ← is) (All-push HasRoot _ _ h.rooted rooted);
-    }
-
-    pub taking_stops : {e : MakeError} → ((fs : List Given) → IsTallyOf n fs old → RefusesFile n fs (given_of m) e)
-        → Refuses (first_of (checks_from n files 0)) e
-    taking_stops refused = elim (refused _ h.taken) [
-      | inl memory ↦ inl memory.0
-      | inr found ↦ inr (next_check ∙ rw found refl)
-    ]
-
-  module _ (all : length files ≤ i) where
-    pub taking_found : first_of (checks_from n files 0) ≡ None
-    taking_found = h.faultless ∙ rw (drop_all i files all) refl
-
-    pub taking_rooted : All HasRoot (map given_of files)
-    taking_rooted = rw (take_all i _ all) at h.rooted
-
 -- ==== the files in tree order
 
 pub order_by_bytes : (path other : List (String Global)) → slice_cmp string_cmp path other ≡ path_order (map string_bytes path) (map string_bytes other)

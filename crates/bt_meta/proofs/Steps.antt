@@ -6,7 +6,8 @@ use Rattle.bt_meta.proofs.Dictionaries.{empty_key, entries_ascend, field_ascends
 use Rattle.bt_meta.proofs.EncodeValue.{behind_here, file_alone, file_in, grown_found, layers_of_known, layers_of_short, no_path}
 use Rattle.bt_meta.proofs.FileLayers.{all_changed, files_with_layers, layer_differs, layer_right, layer_sized_wrong, pieces_after}
 use Rattle.bt_meta.proofs.MadeTree.{lent_short, ordered_named}
-use Rattle.bt_meta.proofs.MakeFiles.{apart_begun, apart_found, apart_more, files_refused, length_refused, none_overlap, none_refused, overlap_found, refused_as, same_overlap, taking_begun, taking_found, taking_rooted}
+use Rattle.std.proofs.lemmas.List.{take_all, drop_all}
+use Rattle.bt_meta.proofs.MakeFiles.{apart_begun, apart_found, apart_more, files_refused, length_refused, none_overlap, none_refused, overlap_found, refused_as, same_overlap}
 use Rattle.bt_meta.proofs.ReadFiles.{ascends}
 use Rattle.bt_meta.proofs.ReadHead.{info_faults, metainfo_is, torrent_head_fault, torrent_layers, torrent_tree_fault}
 use Rattle.bt_meta.proofs.ReadRefusals.{value_refused}
@@ -29,7 +30,7 @@ pub ruleset is_single_steps = (data_of-Dict, single_entry)
 
 pub ruleset path_element_steps = (IsUtf8-from_is_utf8, is_utf8-from_IsUtf8)
 
-pub ruleset check_files_steps = (taking_begun, taking_found, taking_rooted)
+pub ruleset check_files_steps = (take_all, drop_all)
 
 pub ruleset has_overlap_steps = (apart_begun, apart_more, apart_found, overlap_found, none_overlap)
 
