@@ -1,12 +1,11 @@
 -- The files that a torrent is made of: one by one, in their order, and of which no path begins another.
-use Rattle.bt_meta.proofs.Base.{◌≡◌, ℕ, ◌+◌, ◌<◌, ◌≤◌, Bool, false, List, [], ◌∷◌, ◌++◌, length, map, None, refl, sym, ap, ◌∙◌, arith, inl, inr, ◌-◌, true, subst, Some, string_bytes, not, ◌&&◌, ◌||◌, ◌==◌, take, drop, get_or, list_all, All, All-nil, All-push, length-map, map-append, take_all, drop_more, get_or-map, list_any-append, or-false, Bor, ordering_then, nat_cmp, is_lt, ordering_reverse, slice_cmp, nat_list_cmp_total, IsSortedBy, Ordering, Less, Equal, Greater, true≢false, or_parts, false_from_ne_true, bytes_eq-Decides, pointwise, nat_eq, is_eq-slice_cmp, cases_Bool, first_of, is_element, is_path, is_piece_length, Lengths, length_at, is_other_length, NotesLength, with_earlier, is_conflict, Given, given_of, HasRoot, path_order, IsInTreeOrder, begins, HaveTreePaths, file_refusal, Made, given_at, unlawful, Count}
+use Rattle.bt_meta.proofs.Base.{◌≡◌, ℕ, ◌+◌, ◌<◌, ◌≤◌, Bool, false, List, [], ◌∷◌, ◌++◌, length, map, refl, sym, ap, ◌∙◌, arith, inl, inr, ◌-◌, true, subst, Some, string_bytes, ◌&&◌, ◌||◌, ◌==◌, get_or, length-map, get_or-map, list_any-append, or-false, Bor, ordering_then, nat_cmp, is_lt, ordering_reverse, slice_cmp, nat_list_cmp_total, IsSortedBy, Ordering, Less, Equal, Greater, true≢false, or_parts, false_from_ne_true, bytes_eq-Decides, pointwise, nat_eq, is_eq-slice_cmp, cases_Bool, first_of, is_piece_length, Lengths, length_at, is_other_length, NotesLength, with_earlier, is_conflict, Given, given_of, path_order, IsInTreeOrder, begins, HaveTreePaths, file_refusal, Made, given_at, unlawful, Count}
 use Rattle.std.proofs.Common.{◌↔◌}
 use Rattle.std.specs.Prelude.{String}
 use Rattle.std.specs.Global.{Global}
 use Rattle.std.specs.List.{AllAdjacentBelow, IsDistinct, starts_with}
 use Rattle.std.proofs.lemmas.List.Elements.{All-from_recursion, recursion_from_All}
-use Rattle.std.proofs.lemmas.List.{drop_all, map_more}
-use Rattle.std.proofs.lemmas.List.Folds.{list_all-map, list_any_none}
+use Rattle.std.proofs.lemmas.List.Folds.{list_any_none}
 use Rattle.std.proofs.lemmas.Cmp.{nat_list_eq_equiv}
 use Rattle.std.proofs.Math.Bool.{or_comm}
 use Rattle.std.specs.String.{string_cmp, string_eq}
@@ -18,13 +17,10 @@ use Rattle.std.proofs.lemmas.List.MinMax.{ranks_by}
 use Rattle.std.proofs.lemmas.Bool.{or_from, or_left, true_from_ne_false}
 use Rattle.std.proofs.lemmas.Map.Keys.{IsDistinct-IsPermutation, IsDistinct-from_apart, apart_from_distinct}
 use Rattle.bt_meta.specs.GivenFiles.{is_before}
-use Rattle.bt_meta.specs.WriterRefusals.{Check, has_conflict, refusal_of_files}
-use Rattle.bt_meta.specs.WriterSteps.{IsTallyOf, IsWithinLimits, Refuses, RefusesFile}
+use Rattle.bt_meta.specs.WriterRefusals.{has_conflict, refusal_of_files}
+use Rattle.bt_meta.specs.WriterSteps.{Refuses}
 use Rattle.bt_meta.specs.declared.writer.MakeError.{MakeError}
-use Rattle.bt_meta.specs.declared.writer.Tally.{Tally}
-use Rattle.bt_meta.proofs.Checks.{skips}
-use Rattle.bt_meta.proofs.Lists.{none_of, parts_at}
-use Rattle.bt_meta.proofs.TreeWalk.{with_earlier-append}
+use Rattle.bt_meta.proofs.Lists.{none_of}
 use Rattle.bt_meta.specs.Writer.{is_overlap, have_overlap, IsNotMade, no_memory}
 use Rattle.bt_meta.specs.declared.writer.MakeError.TheVariants.{PieceLength}
 

@@ -1,4 +1,4 @@
-use Rattle.bt_meta.proofs.Base.{◌≡◌, ℕ, List, Option, All, drop, file_refusal, first_of, given_of, HasRoot, Made, map, take, with_earlier}
+use Rattle.bt_meta.proofs.Base.{◌≡◌, ℕ, List, All, drop, file_refusal, first_of, given_of, HasRoot, Made, map, take, with_earlier}
 use Rattle.bt_meta.specs.WriterRefusals.{Check}
 use Rattle.bt_meta.specs.WriterSteps.{IsTallyOf, IsWithinLimits}
 use Rattle.bt_meta.proofs.writer.check_files.Given as goal
