@@ -10,10 +10,11 @@ use Rattle.bt_meta.proofs.Lists.{All-front, All-back}
 use Rattle.bt_meta.proofs.TreeWalk.{has_conflict, file_counted, folder_counted, some_of_filter}
 use Rattle.bt_meta.proofs.RootLengths.{conflict_free}
 use Rattle.bt_meta.proofs.MadeTree.{Agree, AreAlike, IsGood, entry_made, length_of_made, root_of_some, IsTreeOf, canonical_made, AreLawful, IsLawful, lawful_ordered, ordered_named, value_is_file, root_of_made, tree_is}
-use Rattle.bt_meta.specs.Torrent.{IsTorrent}
+use Rattle.bt_meta.specs.EncodeSteps.{IsValueOf}
+use Rattle.bt_meta.proofs.MakeFiles.{files_refused, same_overlap, tree_paths}
 use Rattle.bt_meta.specs.declared.writer.MakeError.TheVariants.{LayerSize as layer_size, LayerDiffers as layer_differs}
 use Rattle.bt_meta.specs.WriterRefusals.{Check}
-use Rattle.bt_meta.specs.Writer.{file_made, torrent_made}
+use Rattle.bt_meta.specs.Writer.{IsMade, file_made, have_overlap, torrent_made}
 
 -- ==== no check refuses the tree of files that are lawful
 
@@ -228,24 +229,35 @@ module _ (name : List ℕ) (n : ℕ) (files : List Given) (layers : Entries) whe
 
 -- ---- the torrent
 
-pub torrent_of_given : (name : List ℕ) (n : ℕ) (files : List Made) (ordered : List Given) (layers : Entries) (bytes : List ℕ)
-    → is_piece_length n ≡ true → false ≡ (length files == 0)
+pub made_of_given : (files : List Made) {name : List ℕ} {n : ℕ} {ordered : List Given} {value : Data} {bytes : List ℕ}
+    → true ≡ is_piece_length n → false ≡ (length files == 0)
     → first_of (with_earlier (file_refusal n) [] (map given_of files)) ≡ None → All HasRoot (map given_of files)
-    → IsInTreeOrder (map given_of files) ordered → HaveTreePaths ordered
-    → AreLayersOf n ordered layers → length bytes ≤ max_text_length → bytes ≡ spelling_of (value_made name n ordered layers)
-    → IsTorrent bytes (torrent_made name n ordered)
-torrent_of_given name n files ordered layers bytes lawful some none rooted order tree_paths layered small spelled =
+    → IsInTreeOrder (map given_of files) ordered → false ≡ have_overlap ordered → IsValueOf name n ordered value
+    → bytes ≡ spelling_of value → length bytes ≤ max_text_length → IsMade name n (map given_of files) bytes
+made_of_given files {name} {n} {ordered} lawful some none rooted order apart made spelled small =
     let given = map given_of files in
-    let h = lawful_ordered n given _ none order in
-    let named = ordered_named n given _ none order in
-    let tree = tree_is n _ tree_paths named h.each (All-permutation HasRoot given _ order.same rooted) in
-    let more : length files ≢ 0 = grind (arith, nat_tests) in
-    let as_many : length ordered ≡ length files = length_permutation _ _ order.same ∙ length-map _ _ in
+    let h = lawful_ordered n given ordered none order in
+    let named = ordered_named n given ordered none order in
+    let paths = tree_paths order apart in
+    let tree = tree_is n ordered paths named h.each (All-permutation HasRoot given ordered order.same rooted) in
+    let as_many : length ordered ≡ length files = length_permutation given ordered order.same ∙ length-map _ _ in
+    let whole = spelled ∙ ap spelling_of made.made in
     record {
-      value = value_made name n ordered layers;
+      faultless = files_refused n files lawful some ∙ none;
+      ordered = ordered;
+      in_order = order;
+      tree_paths = paths;
+      layers = made.layers;
+      layered = made.layered;
+      spelled = whole;
+      torrent = record {
+        value = value_made name n ordered made.layers;
+        small = small;
+        canonical = canonical_made name n ordered made.layers (sym lawful) paths named (λ i d lt. (h.each i d lt).shallow)
+            (λ i d lt. (h.each i d lt).short) made.layered;
+        spelled = sym whole;
+        faultless = made_passes name n ordered made.layers made.layered tree (sym lawful) h (grind (arith, nat_tests));
+        described = said name n ordered made.layers made.layered tree;
+      };
       small = small;
-      canonical = canonical_made name n _ _ lawful tree_paths named (λ i d lt. (h.each i d lt).shallow) (λ i d lt. (h.each i d lt).short) layered;
-      spelled = sym spelled;
-      faultless = made_passes name n _ _ layered tree lawful h (rw as_many more);
-      described = said name n _ _ layered tree;
     }

@@ -114,10 +114,11 @@ none_in : (files ordered : List Given) → IsPermutation files ordered → have_
 none_in files ordered same h = (none_apart ordered).1
     (IsDistinct-IsPermutation _ (λ f g. or_comm (begins f.path g.path) (begins g.path f.path)) files _ same ((none_apart files).0 h))
 
-pub same_overlap : (files ordered : List Given) → IsInTreeOrder files ordered → have_overlap files ≡ have_overlap ordered
-same_overlap files ordered order = grind (arith, none_in _ _ order.same, none_in _ _ (IsPermutation-sym _ _ order.same), cases_Bool (have_overlap files), cases_Bool (have_overlap ordered))
+pub same_overlap : {files ordered : List Given} {b : Bool} → IsInTreeOrder files ordered → b ≡ have_overlap ordered → have_overlap files ≡ b
+same_overlap {files} {ordered} order is = grind (arith, none_in _ _ order.same, none_in _ _ (IsPermutation-sym _ _ order.same),
+    cases_Bool (have_overlap files), cases_Bool (have_overlap ordered))
 
-pub earlier_apart : (files : List Given) (i j : ℕ) (d : Given) → have_overlap files ≡ false → i < j → j < length files
+earlier_apart : (files : List Given) (i j : ℕ) (d : Given) → have_overlap files ≡ false → i < j → j < length files
     → begins (get_or files i d).path (get_or files j d).path ≡ false
 earlier_apart files i j d none lt within = (or_parts _ _ (apart_from_distinct is_overlap files i j d ((none_apart files).0 none) lt within)).0
 
@@ -140,9 +141,9 @@ module _ (files : List Given) (up : IsSortedBy is_before files) where
       false_from_ne_true _ (λ overlap. true≢false (sym (begins_between (path i) (path (i + 1)) (path j)
       (far i (i + 1) d (omega arith) (omega arith)) (far (i + 1) j d (omega arith) within) overlap) ∙ apart i d (omega arith))))))
 
-pub tree_paths : (files ordered : List Given) → IsInTreeOrder files ordered → have_overlap ordered ≡ false → HaveTreePaths ordered
-tree_paths files ordered h none k d lt =
-    let apart = earlier_apart ordered k (k + 1) d none (omega arith) lt in
+pub tree_paths : {files ordered : List Given} → IsInTreeOrder files ordered → false ≡ have_overlap ordered → HaveTreePaths ordered
+tree_paths {files} {ordered} h none k d lt =
+    let apart = earlier_apart ordered k (k + 1) d (sym none) (omega arith) lt in
     let p = (get_or ordered k d).path in
     (less_unless _ (λ level. true≢false
     (sym (begins_between p _ p (h.ascending k d (omega arith) lt) level (or_left _ _ (begins_itself p))) ∙ apart)), apart)
@@ -176,26 +177,7 @@ module _ (files : List (Bor Made)) (i : ℕ) where
 
 -- ---- the first refusal
 
-count_of : (files : List Made) (b : Bool) → b ≡ (length files == 0) → (length (map given_of files) == 0) ≡ b
-count_of files b is = ap (λ n. n == 0) (length-map _ _) ∙ sym is
-
-pub length_refused : (piece_length : ℕ) (files : List Given) → false ≡ is_piece_length piece_length → refusal_of_files piece_length files ≡ Some PieceLength
-unfolding refusal_of_files
-length_refused piece_length files is = rw (← is) refl
-
-pub none_refused : (piece_length : ℕ) (files : List Made) → true ≡ is_piece_length piece_length → true ≡ (length files == 0)
-    → refusal_of_files piece_length (map given_of files) ≡ Some Count
-unfolding refusal_of_files
-none_refused piece_length files is none = rw (← is, count_of _ _ none) refl
-
 pub files_refused : (piece_length : ℕ) (files : List Made) → true ≡ is_piece_length piece_length → false ≡ (length files == 0)
     → refusal_of_files piece_length (map given_of files) ≡ first_of (with_earlier (file_refusal piece_length) [] (map given_of files))
 unfolding refusal_of_files
-files_refused piece_length files is some = rw (← is, count_of _ _ some) refl
-
-pub refused_as : (name : List ℕ) (piece_length : ℕ) (files : List Made) (e : MakeError) → true ≡ is_piece_length piece_length → false ≡ (length files == 0)
-    → Refuses (first_of (with_earlier (file_refusal piece_length) [] (map given_of files))) e → IsNotMade name piece_length (map given_of files) e
-refused_as name piece_length files e is some h = elim h [
-  | inl memory ↦ subst (λ x. IsNotMade name piece_length (map given_of files) x) (sym memory) no_memory
-  | inr found ↦ unlawful e (files_refused _ _ is some ∙ found)
-]
+files_refused piece_length files is some = rw (← is, length-map, ← some) refl

@@ -7,7 +7,7 @@ use Rattle.bt_meta.proofs.EncodeValue.{behind_here, file_alone, file_in, grown_f
 use Rattle.bt_meta.proofs.FileLayers.{all_changed, files_with_layers, layer_differs, layer_right, layer_sized_wrong, pieces_after}
 use Rattle.bt_meta.proofs.MadeTree.{lent_short, ordered_named}
 use Rattle.std.proofs.lemmas.List.{take_all, drop_all}
-use Rattle.bt_meta.proofs.MakeFiles.{apart_begun, apart_found, apart_more, files_refused, length_refused, none_overlap, none_refused, overlap_found, refused_as, same_overlap}
+use Rattle.bt_meta.proofs.MakeFiles.{apart_begun, apart_found, apart_more, none_overlap, overlap_found}
 use Rattle.bt_meta.proofs.ReadFiles.{ascends}
 use Rattle.bt_meta.proofs.ReadHead.{info_faults, metainfo_is, torrent_head_fault, torrent_layers, torrent_tree_fault}
 use Rattle.bt_meta.proofs.ReadRefusals.{value_refused}
@@ -46,7 +46,7 @@ pub ruleset layers_there = (field_ascends, entries_ascend, layers_absent, layers
 
 pub ruleset read_steps = (err_from_is_err_and, text_too_long, no_spelling, value_refused, ascends)
 
-pub ruleset make_steps = (err_from_is_err_and, no_memory, unlawful, overlap, same_overlap, length_refused, none_refused, files_refused, refused_as, ordered_named, lent_short)
+pub ruleset make_steps = (err_from_is_err_and, no_memory, unlawful, length-map, ordered_named, lent_short)
 
 pub ruleset check_steps = (layer_right, layer_sized_wrong, layer_differs)
 

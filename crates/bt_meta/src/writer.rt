@@ -82,7 +82,7 @@ impl From<AllocError> for MakeError {
 
 /// The torrent of these files, with this name: the canonical bencoding of its keys, with the files in the
 /// order of their paths.
-#[tactic(auto, using(crate::proofs::Steps::make_steps))]
+#[tactic(auto, using(crate::proofs::Steps::make_steps), unfolding(crate::specs::WriterRefusals::refusal_of_files))]
 pub fn make(
     alloc: Global,
     name: &[u8],
