@@ -4,6 +4,8 @@ use Rattle.std.proofs.lemmas.List.Elements.{All-map}
 use Rattle.std.proofs.lemmas.List.Folds.{list_any_at, list_any_none}
 use Rattle.std.proofs.lemmas.List.Recursion.{is_sum_by}
 use Rattle.std.specs.List.{find}
+use Rattle.std.proofs.lemmas.Bool.{and_right, le-ltb, or_from}
+use Rattle.std.proofs.lemmas.Map.Views.{any-filter_same}
 use Rattle.bt_meta.specs.Fields.{as_string}
 use Rattle.bt_meta.proofs.Checks.{skips, first_of-append, each_none, holds_unless}
 use Rattle.bt_meta.proofs.Lists.{All-front, All-back}
@@ -18,81 +20,46 @@ use Rattle.bt_meta.specs.Writer.{IsMade, file_made, have_overlap, torrent_made}
 
 -- ==== no check refuses the tree of files that are lawful
 
--- what holds of the elements that pass holds of each element, if it passes
-from_filter : {A : Type 0} (test : A → Bool) (P : A → Type 0) (xs : List A) → All P (filter test xs) → All (λ x. test x ≡ true → P x) xs
-from_filter test P [] h = All-nil (λ x. test x ≡ true → P x)
-from_filter test P (x ∷ xs) h = elim (cases_Bool (test x)) [
-  | inl e ↦
-      let kept = rw e at h in
-      All-cons (λ y. test y ≡ true → P y) x xs (λ _. All-head P x _ kept) (from_filter test P xs (All-tail P x _ kept))
-  | inr e ↦ All-cons (λ y. test y ≡ true → P y) x xs (λ t. absurd (true≢false (sym t ∙ e))) (from_filter test P xs (rw e at h))
-]
-
-at_middle : {A : Type 0} (P : A → Type 0) (xs : List A) (x : A) (ys : List A) → All P (xs ++ x ∷ ys) → P x
-at_middle P xs x ys h = All-head P x ys (All-back P xs (x ∷ ys) h)
+-- what holds of each holds of one element, and of those before it
+at_one : {A : Type 0} (P : A → Type 0) (xs : List A) (x : A) (ys all : List A) → xs ++ x ∷ ys ≡ all → All P all → P x × All P xs
+at_one P xs x ys all e h = let split = rw (← e) at h in (All-head P x ys (All-back P xs (x ∷ ys) split), All-front P xs (x ∷ ys) split)
 
 -- ---- entries of one root
 
--- the first is empty, or has no other length than the second for one root
-abbrev IsFree : TreeEntry → TreeEntry → Type 0
-IsFree p q = (not (length_of p == 0) && is_conflict (root_of p) (length_of p) (root_of q) (length_of q)) ≡ false
+-- where both have bytes and one root, they have one length
+abbrev AgreeAt : TreeEntry → TreeEntry → Type 0
+AgreeAt p q = length_of p ≢ 0 → length_of q ≢ 0 → root_of p ≡ root_of q → length_of p ≡ length_of q
 
-free_of : (root : List ℕ) (n : ℕ) (other : List ℕ) (m : ℕ) → (n ≢ 0 → m ≢ 0 → other ≡ root → m ≡ n)
-    → (not (n == 0) && is_conflict root n other m) ≡ false
-free_of root n other m agree = elim (cases_Bool (n == 0)) [
+agree_behind : (p : TreeEntry) (before : List TreeEntry) → All (λ q. AgreeAt q p) (filter is_file before) → has_conflict before p ≡ false
+agree_behind p before h = elim (cases_Bool (length_of p == 0)) [
   | inl none ↦ rw none refl
-  | inr some ↦ rw some (conflict_free root n other m (agree (grind (arith, nat_tests))))
+  | inr some ↦
+      let filled : length_of p ≢ 0 = grind (arith, nat_tests) in
+      and_right _ _ (sym (any-filter_same (conflict p) is_file true (λ q t. (and_parts _ _ t).0) before)
+      ∙ list_any_none (conflict p) _ (λ k d lt. and_right _ _ (conflict_free (root_of p) _ _ _ (λ other same. h k d lt other filled same))))
 ]
-
-free_made : (f g : Given) → Agree g f → IsFree (entry_made f) (entry_made g)
-free_made f g agree = rw (length_of_made f, length_of_made g) (free_of _ f.length _ g.length (λ some other same.
-    agree other some (sym (root_of_some g other) ∙ same ∙ root_of_some f some)))
-
--- so it is with each of the files among these
-abbrev IsFreeIn : List TreeEntry → TreeEntry → Type 0
-IsFreeIn es p = All (λ q. is_file q ≡ true → IsFree p q) es
-
-free_entries : (files : List Given) (es : List TreeEntry) → filter is_file es ≡ map entry_made files → AreAlike files
-    → All (λ p. is_file p ≡ true → IsFreeIn es p) es
-free_entries files es same alike = from_filter is_file (IsFreeIn es) es (rw same (All-map (IsFreeIn es) entry_made files (λ i f lt.
-    let p = entry_made (get_or files i f) in
-    from_filter is_file (IsFree p) es (rw same (All-map (IsFree p) entry_made files (λ j g lt'.
-    free_made (get_or files i f) (get_or files j g) (alike j g lt' i f lt)))))))
-
-free_behind : (p : TreeEntry) (before : List TreeEntry) → IsFreeIn before p → has_conflict before p ≡ false
-free_behind p before h = elim (cases_Bool (length_of p == 0)) [
-  | inl none ↦ rw none refl
-  | inr some ↦ rw some (list_any_none (conflict p) before (λ k d lt. elim (cases_Bool (is_file (get_or before k d))) [
-      | inl file ↦ rw file (rw some at (h k d lt file))
-      | inr folder ↦ rw folder refl
-    ]))
-]
-
-not_too_many : (file : Bool) (path files pieces : ℕ) → path ≤ max_path_length → files ≤ max_file_count → pieces ≤ max_piece_count
-    → (nat_lt max_path_length path || (file && (nat_lt max_file_count files || nat_lt max_piece_count pieces))) ≡ false
-not_too_many true path files pieces a b c = grind (arith, nat_tests)
-not_too_many false path files pieces a b c = grind (arith, nat_tests)
 
 -- ---- the entries of a tree
 
-module _ (n : ℕ) (all : List TreeEntry) (good : All IsGood all)
-    (free : All (λ p. is_file p ≡ true → IsFreeIn all p) all)
+module _ (n : ℕ) (all : List TreeEntry) (good : All IsGood all) (alike : All (λ p. All (λ q. AgreeAt q p) (filter is_file all)) (filter is_file all))
     (few : length (filter is_file all) ≤ max_file_count) (few_pieces : pieces_of n all ≤ max_piece_count) where
   one_passes : (before : List TreeEntry) (p : TreeEntry) (rest : List TreeEntry) → before ++ p ∷ rest ≡ all → entry_check n before p ≡ None
   one_passes before p rest e =
-      let here = at_middle IsGood before p rest (rw e good) in
+      let here = (at_one IsGood before p rest all e good).0 in
       let upto = filter is_file (before ++ p ∷ []) in
       let count = λ (q : TreeEntry). piece_count n (length_of q) in
       let whole : filter is_file all ≡ upto ++ filter is_file rest =
       rw (← e, ← append_assoc before (p ∷ []) rest) (filter-append is_file (before ++ p ∷ []) rest) in
       let files = ap length whole ∙ length-append upto (filter is_file rest) in
       let pieces = ap (sum_by count) whole ∙ sum_by-append count upto (filter is_file rest) in
-      let many : is_too_many n before p ≡ false = not_too_many (is_file p) (length p.path) _ (sum_by count upto) here.shallow (omega arith) (omega arith) in
+      let many : is_too_many n before p ≡ false = or_from _ _ (le-ltb max_path_length _ here.shallow)
+      (and_right _ _ (or_from _ _ (le-ltb max_file_count (length upto) (omega arith)) (le-ltb max_piece_count (sum_by count upto) (omega arith)))) in
       elim (cases_Bool (is_file p)) [
         | inl file ↦
-            let others = at_middle (λ x. is_file x ≡ true → IsFreeIn all x) before p rest (rw e free) file in
+            let among = λ (P : TreeEntry → Type 0). at_one P (filter is_file before) p (filter is_file rest) (filter is_file all)
+            (rw (← e, filter-append is_file before (p ∷ rest), file) refl) in
             file_counted n before p here.node here.named file (here.faultless file) {many = false}
-            (free_behind p before (All-front (λ q. is_file q ≡ true → IsFree p q) before (p ∷ rest) (rw e others))) many
+            (agree_behind p before (among (λ q. AgreeAt q p) (among (λ x. All (λ q. AgreeAt q x) (filter is_file all)) alike).0).1) many
         | inr folder ↦ folder_counted n before p here.node here.named {many = false} folder many
       ]
 
@@ -104,6 +71,15 @@ module _ (n : ℕ) (all : List TreeEntry) (good : All IsGood all)
 
 -- ---- the tree
 
+agree_made : (f g : Given) → Agree g f → AgreeAt (entry_made g) (entry_made f)
+agree_made f g agree = rw (length_of_made f, length_of_made g) (λ other some same.
+    agree other some (sym (root_of_some g other) ∙ same ∙ root_of_some f some))
+
+alike_entries : (files : List Given) → AreAlike files → All (λ p. All (λ q. AgreeAt q p) (map entry_made files)) (map entry_made files)
+alike_entries files h = All-map (λ p. All (λ q. AgreeAt q p) (map entry_made files)) entry_made files
+    (λ i f lt. All-map (λ q. AgreeAt q (entry_made (get_or files i f))) entry_made files
+    (λ j g lt'. agree_made (get_or files i f) (get_or files j g) (h j g lt' i f lt)))
+
 count_made : (n : ℕ) (files : List Given) → sum_by (λ p. piece_count n (length_of p)) (map entry_made files) ≡ sum_by (λ g. piece_count n g.length) files
 count_made n = is_sum_by (λ files. sum_by (λ p. piece_count n (length_of p)) (map entry_made files)) (λ g. piece_count n g.length) refl
     (λ f files. sum_by-cons (λ p. piece_count n (length_of p)) (entry_made f) (map entry_made files) ∙ rw (length_of_made f) refl)
@@ -113,7 +89,7 @@ tree_passes : (n : ℕ) (files : List Given) (tree : Entries) → IsTreeOf files
 unfolding tree_checks tree_entries_below has_key
 tree_passes n files tree h lawful some =
     let es = tree_entries_among [] tree in
-    let pass = entries_pass n es h.good (free_entries files es h.tree_entries lawful.alike)
+    let pass = entries_pass n es h.good (rw h.tree_entries (alike_entries files lawful.alike))
     (rw (h.tree_entries, length-map _ _) lawful.few) (rw (h.tree_entries, count_made n files) lawful.pieces) [] es refl in
     let there : list_any is_file es ≡ true = some_of_filter is_file es ∙ rw (h.tree_entries, length-map) (grind (arith, nat_tests)) in
     rw (h.nameless) (first_of-append (with_earlier (entry_check n) [] es) _ pass ∙ rw there refl)
@@ -163,7 +139,10 @@ module _ (n : ℕ) (all : List Given) (layers : Entries) (layered : AreLayersOf 
           let own = each_none checks (rw parts.0 at lawful.layer) in
           rw (sized, ← rooted) (holds_unless _ layer_size own.0, holds_unless _ layer_differs own.1.0)
 
-  layer_passes : AreLawful n all → All (λ f. layer_check n (dictionary layers) (entry_made f) ≡ None) all
+  abbrev Passes : Given → Type 0
+  Passes f = layer_check n (dictionary layers) (entry_made f) ≡ None
+
+  layer_passes : AreLawful n all → All Passes all
   layer_passes h k d lt =
       let f = get_or all k d in
       elim (cases_Bool (nat_lt n f.length)) [
@@ -174,12 +153,9 @@ module _ (n : ℕ) (all : List Given) (layers : Entries) (layered : AreLayersOf 
         | inr short ↦ rw (length_of_made f, short) refl
       ]
 
-  layers_pass : (files : List Given) → All (λ f. layer_check n (dictionary layers) (entry_made f) ≡ None) files
-      → first_of (map (layer_check n (dictionary layers)) (map entry_made files)) ≡ None
+  layers_pass : (files : List Given) → All Passes files → first_of (map (layer_check n (dictionary layers)) (map entry_made files)) ≡ None
   layers_pass [] h = refl
-  layers_pass (f ∷ files) h =
-      skips _ _ (All-head (λ f. layer_check n (dictionary layers) (entry_made f) ≡ None) f files h)
-      ∙ layers_pass files (All-tail (λ f. layer_check n (dictionary layers) (entry_made f) ≡ None) f files h)
+  layers_pass (f ∷ files) h = skips _ _ (All-head Passes f files h) ∙ layers_pass files (All-tail Passes f files h)
 
   -- ---- what is said of the files
 
