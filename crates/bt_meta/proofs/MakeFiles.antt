@@ -1,5 +1,5 @@
--- The files that a torrent is made of: one by one, in their order, and of which no path begins another.
-use Rattle.bt_meta.proofs.Base.{◌≡◌, ℕ, ◌+◌, ◌<◌, ◌≤◌, Bool, false, List, [], ◌∷◌, ◌++◌, length, map, refl, sym, ap, ◌∙◌, arith, inl, inr, ◌-◌, true, subst, Some, string_bytes, ◌&&◌, ◌||◌, ◌==◌, get_or, length-map, get_or-map, list_any-append, or-false, Bor, ordering_then, nat_cmp, is_lt, ordering_reverse, slice_cmp, nat_list_cmp_total, IsSortedBy, Ordering, Less, Equal, Greater, true≢false, or_parts, false_from_ne_true, bytes_eq-Decides, pointwise, nat_eq, is_eq-slice_cmp, cases_Bool, first_of, is_piece_length, Lengths, length_at, is_other_length, NotesLength, with_earlier, is_conflict, Given, given_of, path_order, IsInTreeOrder, begins, HaveTreePaths, file_refusal, Made, given_at, unlawful, Count}
+-- The files that a torrent is made of: their order, of which no path begins another, and their first refusal.
+use Rattle.bt_meta.proofs.Base.{◌≡◌, ℕ, ◌+◌, ◌<◌, ◌≤◌, Bool, false, List, [], ◌∷◌, length, map, refl, sym, ap, ◌∙◌, arith, ◌-◌, true, string_bytes, ◌&&◌, ◌||◌, ◌==◌, get_or, length-map, get_or-map, Bor, ordering_then, nat_cmp, is_lt, ordering_reverse, slice_cmp, nat_list_cmp_total, IsSortedBy, Ordering, Less, Equal, Greater, true≢false, or_parts, false_from_ne_true, bytes_eq-Decides, pointwise, nat_eq, is_eq-slice_cmp, cases_Bool, first_of, is_piece_length, with_earlier, Given, given_of, path_order, IsInTreeOrder, begins, HaveTreePaths, file_refusal, Made, given_at}
 use Rattle.std.proofs.Common.{◌↔◌}
 use Rattle.std.specs.Prelude.{String}
 use Rattle.std.specs.Global.{Global}
@@ -9,28 +9,16 @@ use Rattle.std.proofs.lemmas.List.Folds.{list_any_none}
 use Rattle.std.proofs.lemmas.Cmp.{nat_list_eq_equiv}
 use Rattle.std.proofs.Math.Bool.{or_comm}
 use Rattle.std.specs.String.{string_cmp, string_eq}
-use Rattle.std.specs.Cmp.{IsStrictWeakOrder}
 use Rattle.std.specs.Cmp.Lexicographic.{lists_total}
 use Rattle.std.specs.List.Sorted.{IsPermutation}
-use Rattle.std.proofs.lemmas.List.Sorted.{IsPermutation-map, IsPermutation-sym, all_adjacent_more, sorted_far}
+use Rattle.std.proofs.lemmas.List.Sorted.{IsPermutation-sym, all_adjacent_more, sorted_far}
 use Rattle.std.proofs.lemmas.List.MinMax.{ranks_by}
 use Rattle.std.proofs.lemmas.Bool.{or_from, or_left, true_from_ne_false}
 use Rattle.std.proofs.lemmas.Map.Keys.{IsDistinct-IsPermutation, IsDistinct-from_apart, apart_from_distinct}
 use Rattle.bt_meta.specs.GivenFiles.{is_before}
-use Rattle.bt_meta.specs.WriterRefusals.{has_conflict, refusal_of_files}
-use Rattle.bt_meta.specs.WriterSteps.{Refuses}
-use Rattle.bt_meta.specs.declared.writer.MakeError.{MakeError}
+use Rattle.bt_meta.specs.WriterRefusals.{refusal_of_files}
 use Rattle.bt_meta.proofs.Lists.{none_of}
-use Rattle.bt_meta.specs.Writer.{is_overlap, have_overlap, IsNotMade, no_memory}
-use Rattle.bt_meta.specs.declared.writer.MakeError.TheVariants.{PieceLength}
-
--- ==== what was taken of the files
-
-pub lengths_noted : (files : List Given) (f : Given) (old new : Lengths) (other : List ℕ) (n : ℕ)
-    → is_other_length (length_at old other) n ≡ has_conflict files other n → NotesLength old new f.root f.length
-    → is_other_length (length_at new other) n ≡ has_conflict (files ++ f ∷ []) other n
-lengths_noted files f old new other n h noted =
-    rw (list_any-append (λ (g : Given). is_conflict other n g.root g.length) files _, or-false, ← h) (noted.noted other n)
+use Rattle.bt_meta.specs.Writer.{is_overlap, have_overlap}
 
 -- ==== the files in tree order
 
@@ -40,27 +28,11 @@ order_by_bytes [] (y ∷ ys) = refl
 order_by_bytes (x ∷ xs) [] = refl
 order_by_bytes (x ∷ xs) (y ∷ ys) = ap (ordering_then (string_cmp x y)) (order_by_bytes xs ys)
 
--- a test of two references, by the paths behind them
-abbrev pub lent_before : Bor Made → Bor Made → Bool
-lent_before m n = is_before (given_at m) (given_at n)
-
-pub ranks : IsStrictWeakOrder lent_before
-ranks = ranks_by (lists_total nat_list_cmp_total) (λ (m : Bor Made). (given_at m).path)
-
--- what holds of the keys of neighbours
-adjacent_map : {A B : Type 0} (key : A → B) (R : B → B → Type 0) (xs : List A) → AllAdjacentBelow (λ x y. R (key x) (key y)) xs (length xs)
-    → AllAdjacentBelow R (map key xs) (length (map key xs))
-adjacent_map key R [] h k d next = absurd (omega arith)
-adjacent_map key R (x ∷ xs) h k d next =
+pub sorted_map : {A B : Type 0} (key : A → B) (lt : B → B → Bool) (xs : List A) → IsSortedBy (λ x y. lt (key x) (key y)) xs → IsSortedBy lt (map key xs)
+sorted_map key lt [] h k d low next = absurd (omega arith)
+sorted_map key lt (x ∷ xs) h k d low next =
     let within : k + 1 < length (x ∷ xs) = rw (← length-map _ key) next in
-    rw (get_or-map key (x ∷ xs) (k + 1) x d within, get_or-map key (x ∷ xs) k x d (omega arith)) (h k x within)
-
-pub in_order : (files : List Given) (before after : List (Bor Made)) → map given_at before ≡ files → IsPermutation before after → IsSortedBy lent_before after
-    → IsInTreeOrder files (map given_at after)
-in_order files before after same permuted sorted = record {
-  same = rw (← same) (IsPermutation-map _ _ after permuted);
-  ascending = λ k d low. adjacent_map _ (λ f g. is_before g f ≡ false) after (λ i m. sorted i m (omega arith)) k d;
-}
+    rw (get_or-map key (x ∷ xs) (k + 1) x d within, get_or-map key (x ∷ xs) k x d (omega arith)) (h k x low within)
 
 -- ==== of files in tree order two overlap just where a path begins the next one
 
@@ -155,25 +127,18 @@ begins_by_bytes [] other = refl
 begins_by_bytes (x ∷ xs) [] = refl
 begins_by_bytes (x ∷ xs) (y ∷ ys) = ap (λ b. string_eq x y && b) (begins_by_bytes xs ys)
 
-module _ (files : List (Bor Made)) (i : ℕ) where
-  pub apart_begun : AreApartTo (map given_at files) 1
-  apart_begun k d lt = absurd (omega arith)
+module _ (files : List (Bor Made)) (i : ℕ) (m n : Bor Made) (some : 1 ≤ i) (lt : i < length files)
+    (first : m ≡ get_or files (i - 1) m) (second : n ≡ get_or files i n) where
+  -- what is said of the two references is said of the files at their places
+  two : (R : Given → Given → Type 0) → R (given_at m) (given_at n) → (d : Given) → R (get_or (map given_at files) (i - 1) d) (get_or (map given_at files) i d)
+  two R h d = rw (get_or-map given_at files (i - 1) m d (omega arith), get_or-map given_at files i n d lt, ← first, ← second) h
 
-  module _ (m n : Bor Made) (some : 1 ≤ i) (lt : i < length files) (first : m ≡ get_or files (i - 1) m) (second : n ≡ get_or files i n) where
-    -- what is said of the two references is said of the files at their places
-    two : (R : Given → Given → Type 0) → R (given_at m) (given_at n) → (d : Given)
-        → R (get_or (map given_at files) (i - 1) d) (get_or (map given_at files) i d)
-    two R h d = rw (get_or-map given_at files (i - 1) m d (omega arith), get_or-map given_at files i n d lt, ← first, ← second) h
+  pub overlap_found : begins (given_at m).path (given_at n).path ≡ true → true ≡ have_overlap (map given_at files)
+  overlap_found h = sym (true_from_ne_false _ (λ none. true≢false (sym (two (λ f g. begins f.path g.path ≡ true) h (given_at m))
+      ∙ earlier_apart (map given_at files) (i - 1) i (given_at m) none (omega arith) (rw length-map lt))))
 
-    pub overlap_found : begins (given_at m).path (given_at n).path ≡ true → true ≡ have_overlap (map given_at files)
-    overlap_found h = sym (true_from_ne_false _ (λ none. true≢false (sym (two (λ f g. begins f.path g.path ≡ true) h (given_at m))
-        ∙ earlier_apart (map given_at files) (i - 1) i (given_at m) none (omega arith) (rw length-map lt))))
-
-    pub apart_more : begins (given_at m).path (given_at n).path ≡ false → AreApartTo (map given_at files) i → AreApartTo (map given_at files) (i + 1)
-    apart_more apart h = all_adjacent_more (map given_at files) DoesNotBegin i some h (two DoesNotBegin apart)
-
-  pub apart_found : AreApartTo (map given_at files) i → length files ≤ i → AreApartTo (map given_at files) (length (map given_at files))
-  apart_found h all k d lt = let n : length (map given_at files) ≡ length files = length-map _ _ in h k d (omega arith)
+  pub apart_more : begins (given_at m).path (given_at n).path ≡ false → AreApartTo (map given_at files) i → AreApartTo (map given_at files) (i + 1)
+  apart_more apart h = all_adjacent_more (map given_at files) DoesNotBegin i some h (two DoesNotBegin apart)
 
 -- ---- the first refusal
 

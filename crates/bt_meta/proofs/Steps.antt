@@ -1,5 +1,5 @@
 -- The lemmas that close the steps of each function.
-use Rattle.bt_meta.proofs.Base.{data_of-Dict, no_spelling, overlap, unlawful, nat_tests, length-map, err_from_is_err_and, is_utf8-from_IsUtf8}
+use Rattle.bt_meta.proofs.Base.{list_any-append, or-false, data_of-Dict, no_spelling, overlap, unlawful, nat_tests, length-map, err_from_is_err_and, is_utf8-from_IsUtf8}
 use Rattle.bt_meta.proofs.Checks.{first_of-append_some}
 use Rattle.bt_meta.proofs.Choices.{test_of_none, test_of_some}
 use Rattle.bt_meta.proofs.Dictionaries.{empty_key, entries_ascend, field_ascends, key_entries, layers_absent, layers_ascend, nothing_ascends, single_entry}
@@ -7,7 +7,7 @@ use Rattle.bt_meta.proofs.EncodeValue.{behind_here, file_alone, file_in, grown_f
 use Rattle.bt_meta.proofs.FileLayers.{all_changed, files_with_layers, layer_differs, layer_right, layer_sized_wrong, pieces_after}
 use Rattle.bt_meta.proofs.MadeTree.{lent_short, ordered_named}
 use Rattle.std.proofs.lemmas.List.{take_all, drop_all}
-use Rattle.bt_meta.proofs.MakeFiles.{apart_begun, apart_found, apart_more, none_overlap, overlap_found}
+use Rattle.bt_meta.proofs.MakeFiles.{apart_more, none_overlap, overlap_found}
 use Rattle.bt_meta.proofs.ReadFiles.{ascends}
 use Rattle.bt_meta.proofs.ReadHead.{info_faults, metainfo_is, torrent_head_fault, torrent_layers, torrent_tree_fault}
 use Rattle.bt_meta.proofs.ReadRefusals.{value_refused}
@@ -32,7 +32,7 @@ pub ruleset path_element_steps = (IsUtf8-from_is_utf8, is_utf8-from_IsUtf8)
 
 pub ruleset check_files_steps = (take_all, drop_all)
 
-pub ruleset has_overlap_steps = (apart_begun, apart_more, apart_found, overlap_found, none_overlap)
+pub ruleset has_overlap_steps = (length-map, apart_more, overlap_found, none_overlap)
 
 pub ruleset add_layer_steps = (nat_tests, layers_of_short, layers_of_known)
 
@@ -51,3 +51,5 @@ pub ruleset make_steps = (err_from_is_err_and, no_memory, unlawful, length-map, 
 pub ruleset check_steps = (layer_right, layer_sized_wrong, layer_differs)
 
 pub ruleset add_layers_of_steps = (all_changed)
+
+pub ruleset check_root_steps = (list_any-append, or-false)

@@ -216,7 +216,7 @@ fn check_layer(piece_length: u32, file: &Made) -> Result<(), MakeError>
 }
 
 /// Refuses a file whose root is that of an earlier file of another length.
-#[tactic(auto, using(crate::proofs::MakeFiles::lengths_noted))]
+#[tactic(auto, using(crate::proofs::Steps::check_root_steps))]
 fn check_root(lengths: &mut BTreeMap<Hash32, u64>, file: &Made) -> Result<(), MakeError>
     ensures rooted { HasRoot (given_of file.now) }
     ensures noted { OnOk result ((files : List Given) → HasLengths lengths.old files
