@@ -28,9 +28,9 @@ at_one P xs x ys all e h = let split = rw (← e) at h in (All-head P x ys (All-
 
 -- where both have bytes and one root, they have one length
 abbrev AgreeAt : TreeEntry → TreeEntry → Type 0
-AgreeAt p q = length_of p ≢ 0 → length_of q ≢ 0 → root_of p ≡ root_of q → length_of p ≡ length_of q
+AgreeAt p q = length_of q ≢ 0 → length_of p ≢ 0 → root_of q ≡ root_of p → length_of q ≡ length_of p
 
-agree_behind : (p : TreeEntry) (before : List TreeEntry) → All (λ q. AgreeAt q p) (filter is_file before) → has_conflict before p ≡ false
+agree_behind : (p : TreeEntry) (before : List TreeEntry) → All (AgreeAt p) (filter is_file before) → has_conflict before p ≡ false
 agree_behind p before h = elim (cases_Bool (length_of p == 0)) [
   | inl none ↦ rw none refl
   | inr some ↦
@@ -41,7 +41,7 @@ agree_behind p before h = elim (cases_Bool (length_of p == 0)) [
 
 -- ---- the entries of a tree
 
-module _ (n : ℕ) (all : List TreeEntry) (good : All IsGood all) (alike : All (λ p. All (λ q. AgreeAt q p) (filter is_file all)) (filter is_file all))
+module _ (n : ℕ) (all : List TreeEntry) (good : All IsGood all) (alike : All (λ p. All (AgreeAt p) (filter is_file all)) (filter is_file all))
     (few : length (filter is_file all) ≤ max_file_count) (few_pieces : pieces_of n all ≤ max_piece_count) where
   one_passes : (before : List TreeEntry) (p : TreeEntry) (rest : List TreeEntry) → before ++ p ∷ rest ≡ all → entry_check n before p ≡ None
   one_passes before p rest e =
@@ -58,9 +58,9 @@ module _ (n : ℕ) (all : List TreeEntry) (good : All IsGood all) (alike : All (
         | inl file ↦
             let among = λ (P : TreeEntry → Type 0). at_one P (filter is_file before) p (filter is_file rest) (filter is_file all)
             (rw (← e, filter-append is_file before (p ∷ rest), file) refl) in
-            file_counted n before p here.node here.named file (here.faultless file) {many = false}
-            (agree_behind p before (among (λ q. AgreeAt q p) (among (λ x. All (λ q. AgreeAt q x) (filter is_file all)) alike).0).1) many
-        | inr folder ↦ folder_counted n before p here.node here.named {many = false} folder many
+            file_counted n before p here.node here.named file (here.faultless file)
+            (agree_behind p before (among (AgreeAt p) (among (λ x. All (AgreeAt x) (filter is_file all)) alike).0).1) many
+        | inr folder ↦ folder_counted n before p here.node here.named folder many
       ]
 
   entries_pass : (before es : List TreeEntry) → before ++ es ≡ all → first_of (with_earlier (entry_check n) before es) ≡ None
@@ -71,13 +71,13 @@ module _ (n : ℕ) (all : List TreeEntry) (good : All IsGood all) (alike : All (
 
 -- ---- the tree
 
-agree_made : (f g : Given) → Agree g f → AgreeAt (entry_made g) (entry_made f)
+agree_made : (f g : Given) → Agree g f → AgreeAt (entry_made f) (entry_made g)
 agree_made f g agree = rw (length_of_made f, length_of_made g) (λ other some same.
     agree other some (sym (root_of_some g other) ∙ same ∙ root_of_some f some))
 
-alike_entries : (files : List Given) → AreAlike files → All (λ p. All (λ q. AgreeAt q p) (map entry_made files)) (map entry_made files)
-alike_entries files h = All-map (λ p. All (λ q. AgreeAt q p) (map entry_made files)) entry_made files
-    (λ i f lt. All-map (λ q. AgreeAt q (entry_made (get_or files i f))) entry_made files
+alike_entries : (files : List Given) → AreAlike files → All (λ p. All (AgreeAt p) (map entry_made files)) (map entry_made files)
+alike_entries files h = All-map (λ p. All (AgreeAt p) (map entry_made files)) entry_made files
+    (λ i f lt. All-map (AgreeAt (entry_made (get_or files i f))) entry_made files
     (λ j g lt'. agree_made (get_or files i f) (get_or files j g) (h j g lt' i f lt)))
 
 count_made : (n : ℕ) (files : List Given) → sum_by (λ p. piece_count n (length_of p)) (map entry_made files) ≡ sum_by (λ g. piece_count n g.length) files
@@ -186,18 +186,13 @@ module _ (name : List ℕ) (n : ℕ) (files : List Given) (layers : Entries) whe
   abbrev info : Data
   info = info_made name n files
 
-  head_passes : is_piece_length n ≡ true → first_of (head_checks info) ≡ None
-  unfolding head_checks piece_length_of integer_at string_at dictionary_at has_key
-  head_passes lawful = rw lawful refl
-
   module _ (layered : AreLayersOf n files layers) (tree : IsTreeOf files (tree_made files)) where
     made_passes : is_piece_length n ≡ true → AreLawful n files → length files ≢ 0 → first_fault value ≡ None
-    unfolding first_fault info_of dictionary_at layers_of piece_length_of integer_at tree_of layer_checks tree_entries_below
+    unfolding first_fault head_checks info_of dictionary_at integer_at string_at has_key layers_of piece_length_of tree_of layer_checks tree_entries_below
     made_passes lawful h some =
         let body = tree_checks n (dictionary (tree_made files)) in
-        first_of-append (head_checks info ++ body) (layer_checks n (dictionary layers) (dictionary (tree_made files)))
-        (first_of-append (head_checks info) body (head_passes lawful) ∙ tree_passes n files _ tree h some)
-        ∙ rw tree.tree_entries (layers_pass n files layers layered files (layer_passes n files layers layered h))
+        rw lawful (first_of-append body (layer_checks n (dictionary layers) (dictionary (tree_made files))) (tree_passes n files _ tree h some)
+        ∙ rw tree.tree_entries (layers_pass n files layers layered files (layer_passes n files layers layered h)))
 
     said : torrent_made name n files ≡ metainfo_of (info_of value) (layers_of value)
     unfolding torrent_made metainfo_of info_of dictionary_at layers_of piece_length_of integer_at tree_of string_at files_of tree_entries_below
