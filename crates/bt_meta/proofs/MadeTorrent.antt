@@ -11,7 +11,7 @@ use Rattle.bt_meta.proofs.Checks.{skips, first_of-append, each_none, holds_unles
 use Rattle.bt_meta.proofs.Lists.{All-front, All-back}
 use Rattle.bt_meta.proofs.TreeWalk.{has_conflict, file_counted, folder_counted, some_of_filter}
 use Rattle.bt_meta.proofs.RootLengths.{conflict_free}
-use Rattle.bt_meta.proofs.MadeTree.{Agree, AreAlike, IsGood, entry_made, length_of_made, root_of_some, IsTreeOf, canonical_made, AreLawful, IsLawful, lawful_ordered, ordered_named, value_is_file, root_of_made, tree_is}
+use Rattle.bt_meta.proofs.MadeTree.{count_in, Agree, AreAlike, IsGood, entry_made, length_of_made, root_of_some, IsTreeOf, canonical_made, AreLawful, IsLawful, lawful_ordered, ordered_named, value_is_file, root_of_made, tree_is}
 use Rattle.bt_meta.specs.EncodeSteps.{IsValueOf}
 use Rattle.bt_meta.proofs.MakeFiles.{files_refused, tree_paths}
 use Rattle.bt_meta.specs.declared.writer.MakeError.TheVariants.{LayerSize as layer_size, LayerDiffers as layer_differs}
@@ -80,14 +80,14 @@ alike_entries files h = All-map (λ p. All (AgreeAt p) (map entry_made files)) e
     (λ i f lt. All-map (AgreeAt (entry_made (get_or files i f))) entry_made files
     (λ j g lt'. agree_made (get_or files i f) (get_or files j g) (h j g lt' i f lt)))
 
-count_made : (n : ℕ) (files : List Given) → sum_by (λ p. piece_count n (length_of p)) (map entry_made files) ≡ sum_by (λ g. piece_count n g.length) files
+count_made : (n : ℕ) (files : List Given) → sum_by (λ p. piece_count n (length_of p)) (map entry_made files) ≡ count_in n files
 count_made n = is_sum_by (λ files. sum_by (λ p. piece_count n (length_of p)) (map entry_made files)) (λ g. piece_count n g.length) refl
     (λ f files. sum_by-cons (λ p. piece_count n (length_of p)) (entry_made f) (map entry_made files) ∙ rw (length_of_made f) refl)
 
-tree_passes : (n : ℕ) (files : List Given) (tree : Entries) → IsTreeOf files tree → AreLawful n files → length files ≢ 0
+tree_passes : {n : ℕ} {files : List Given} {tree : Entries} → IsTreeOf files tree → AreLawful n files → length files ≢ 0
     → first_of (tree_checks n (dictionary tree)) ≡ None
 unfolding tree_checks tree_entries_below has_key
-tree_passes n files tree h lawful some =
+tree_passes {n} {files} {tree} h lawful some =
     let es = tree_entries_among [] tree in
     let pass = entries_pass n es h.good (rw h.tree_entries (alike_entries files lawful.alike))
     (rw (h.tree_entries, length-map _ _) lawful.few) (rw (h.tree_entries, count_made n files) lawful.pieces) [] es refl in
@@ -114,30 +114,28 @@ found test P (x ∷ xs) h some = elim (cases_Bool (test x)) [
   | inr e ↦ rw e (found test P xs (All-tail (λ y. test y ≡ true → P y) x xs h) (rw e at some))
 ]
 
-module _ (n : ℕ) (all : List Given) (layers : Entries) (layered : AreLayersOf n all layers) where
+module _ {n : ℕ} {all : List Given} {layers : Entries} (layered : AreLayersOf n all layers) where
   strings_are : (root : List ℕ) → string_at (dictionary layers) root ≡ first_layer n all root
   unfolding string_at
   strings_are root = ap (option_and_then as_string) (layered.first root) ∙ back (first_layer n all root)
 
-  module _ (f : Given) where
-    -- the bytes pass as the layer of the file
-    abbrev IsLayer : Given → Type 0
-    IsLayer g = (has_layer_size n f.length g.layer ≡ true) × (has_root n f.length f.root g.layer ≡ true)
+  -- the bytes of g pass as the layer of f
+  abbrev IsLayer : Given → Given → Type 0
+  IsLayer f g = (has_layer_size n f.length g.layer ≡ true) × (has_root n f.length f.root g.layer ≡ true)
 
-    abbrev has : Given → Bool
-    has g = nat_lt n g.length && pointwise nat_eq g.root f.root
+  abbrev has : Given → Given → Bool
+  has f g = nat_lt n g.length && pointwise nat_eq g.root f.root
 
-    module _ (long : nat_lt n f.length ≡ true) where
-      -- those of a file of the same root do
-      layer_of : (g : Given) → IsLawful n g → Agree f g → has g ≡ true → IsLayer g
-      layer_of g lawful agree h =
-          let parts = and_parts _ _ h in
-          let rooted = (bytes_eq-Decides g.root f.root).0 parts.1 in
-          let sized = agree (more_bytes n _ long) (more_bytes n _ parts.0) (sym rooted) in
-          let checks : List Check = fault_if (not (has_layer_size n g.length g.layer)) layer_size
-          ∷ fault_if (not (has_root n g.length g.root g.layer)) layer_differs ∷ [] in
-          let own = each_none checks (rw parts.0 at lawful.layer) in
-          rw (sized, ← rooted) (holds_unless _ layer_size own.0, holds_unless _ layer_differs own.1.0)
+  -- those of a file of the same root do
+  layer_of : (f g : Given) → nat_lt n f.length ≡ true → IsLawful n g → Agree f g → has f g ≡ true → IsLayer f g
+  layer_of f g long lawful agree h =
+      let parts = and_parts _ _ h in
+      let rooted = (bytes_eq-Decides g.root f.root).0 parts.1 in
+      let sized = agree (more_bytes n _ long) (more_bytes n _ parts.0) (sym rooted) in
+      let checks : List Check = fault_if (not (has_layer_size n g.length g.layer)) layer_size
+      ∷ fault_if (not (has_root n g.length g.root g.layer)) layer_differs ∷ [] in
+      let own = each_none checks (rw parts.0 at lawful.layer) in
+      rw (sized, ← rooted) (holds_unless _ layer_size own.0, holds_unless _ layer_differs own.1.0)
 
   abbrev Passes : Given → Type 0
   Passes f = layer_check n (dictionary layers) (entry_made f) ≡ None
@@ -147,7 +145,7 @@ module _ (n : ℕ) (all : List Given) (layers : Entries) (layered : AreLayersOf 
       let f = get_or all k d in
       elim (cases_Bool (nat_lt n f.length)) [
         | inl long ↦
-            let one = found (has f) (IsLayer f) all (λ j e lt'. layer_of f long _ (h.each j e lt') (h.alike k d lt j e lt'))
+            let one = found (has f) (IsLayer f) all (λ j e lt'. layer_of f _ long (h.each j e lt') (h.alike k d lt j e lt'))
             (list_any_at (has f) all k d lt (rw (long, (bytes_eq-Decides f.root f.root).1 refl) refl)) in
             rw (length_of_made f, root_of_some f (more_bytes n _ long), long, strings_are f.root, one.1, one.2.0, one.2.1) refl
         | inr short ↦ rw (length_of_made f, short) refl
@@ -179,24 +177,17 @@ module _ (n : ℕ) (all : List Given) (layers : Entries) (layered : AreLayersOf 
 
 -- ---- the value
 
-module _ (name : List ℕ) (n : ℕ) (files : List Given) (layers : Entries) where
-  abbrev value : Data
-  value = value_made name n files layers
+module _ (name : List ℕ) {n : ℕ} {files : List Given} {layers : Entries} (layered : AreLayersOf n files layers) (tree : IsTreeOf files (tree_made files)) where
+  made_passes : is_piece_length n ≡ true → AreLawful n files → length files ≢ 0 → first_fault (value_made name n files layers) ≡ None
+  unfolding first_fault head_checks info_of dictionary_at integer_at string_at has_key layers_of piece_length_of tree_of layer_checks tree_entries_below
+  made_passes lawful h some =
+      let body = tree_checks n (dictionary (tree_made files)) in
+      rw lawful (first_of-append body (layer_checks n (dictionary layers) (dictionary (tree_made files))) (tree_passes tree h some)
+      ∙ rw tree.tree_entries (layers_pass layered files (layer_passes layered h)))
 
-  abbrev info : Data
-  info = info_made name n files
-
-  module _ (layered : AreLayersOf n files layers) (tree : IsTreeOf files (tree_made files)) where
-    made_passes : is_piece_length n ≡ true → AreLawful n files → length files ≢ 0 → first_fault value ≡ None
-    unfolding first_fault head_checks info_of dictionary_at integer_at string_at has_key layers_of piece_length_of tree_of layer_checks tree_entries_below
-    made_passes lawful h some =
-        let body = tree_checks n (dictionary (tree_made files)) in
-        rw lawful (first_of-append body (layer_checks n (dictionary layers) (dictionary (tree_made files))) (tree_passes n files _ tree h some)
-        ∙ rw tree.tree_entries (layers_pass n files layers layered files (layer_passes n files layers layered h)))
-
-    said : torrent_made name n files ≡ metainfo_of (info_of value) (layers_of value)
-    unfolding torrent_made metainfo_of info_of dictionary_at layers_of piece_length_of integer_at tree_of string_at files_of tree_entries_below
-    said = rw (tree.tree_entries, files_said n files layers layered [] files) refl
+  said : torrent_made name n files ≡ metainfo_of (info_of (value_made name n files layers)) (layers_of (value_made name n files layers))
+  unfolding torrent_made metainfo_of info_of dictionary_at layers_of piece_length_of integer_at tree_of string_at files_of tree_entries_below
+  said = rw (tree.tree_entries, files_said layered [] files) refl
 
 -- ---- the torrent
 
@@ -227,8 +218,8 @@ made_of_given files {name} {n} {ordered} lawful some none rooted order apart mad
         canonical = canonical_made name n ordered made.layers (sym lawful) paths named (λ i d lt. (h.each i d lt).shallow)
             (λ i d lt. (h.each i d lt).short) made.layered;
         spelled = sym whole;
-        faultless = made_passes name n ordered made.layers made.layered tree (sym lawful) h (grind (arith, nat_tests));
-        described = said name n ordered made.layers made.layered tree;
+        faultless = made_passes name made.layered tree (sym lawful) h (grind (arith, nat_tests));
+        described = said name made.layered tree;
       };
       small = small;
     }
