@@ -1,5 +1,5 @@
 -- What is made of lawful files is a torrent, and gives them back.
-use Rattle.bt_meta.proofs.Base.{get_or, ◌≡◌, ◌≢◌, ℕ, ◌≤◌, Bool, true, false, List, [], ◌∷◌, ◌++◌, length, map, None, refl, sym, ap, ◌∙◌, arith, inl, inr, append_assoc, length-append, Option, Some, filter, nat_lt, not, ◌&&◌, ◌==◌, sum_by, nat_eq, unwrap_or, if◌then◌else◌, All, list_any, cases_Bool, and_parts, nat_tests, length-map, map_push, All-head, filter-append, All-tail, sum_by-append, sum_by-cons, option_map, option_and_then, pointwise, All-permutation, length_permutation, bytes_eq-Decides, dictionary, Entries, Data, string, spelling_of, max_path_length, max_file_count, max_piece_count, max_text_length, has_key, integer_at, string_at, dictionary_at, TreeEntry, tree_entries_below, tree_entries_among, with_earlier, is_file, length_of, root_of, pieces_of, piece_count, layer_at, file_at, files_of, first_of, fault_if, conflict, is_too_many, entry_check, tree_checks, is_piece_length, head_checks, piece_length_of, tree_of, layer_check, layer_checks, info_of, layers_of, first_fault, Given, given_of, HasRoot, IsInTreeOrder, has_layer_size, has_root, metainfo_of, Made, file_refusal, first_layer, AreLayersOf, tree_made, info_made, value_made}
+use Rattle.bt_meta.proofs.Base.{get_or, ◌≡◌, ◌≢◌, ℕ, ◌≤◌, Bool, true, false, List, [], ◌∷◌, ◌++◌, length, map, None, refl, sym, ap, ◌∙◌, arith, inl, inr, append_assoc, length-append, Option, Some, filter, nat_lt, not, ◌&&◌, ◌==◌, sum_by, nat_eq, unwrap_or, if◌then◌else◌, All, list_any, cases_Bool, and_parts, nat_tests, length-map, map_push, All-head, filter-append, All-tail, sum_by-append, sum_by-cons, option_map, option_and_then, pointwise, All-permutation, length_permutation, bytes_eq-Decides, dictionary, Entries, Data, string, spelling_of, max_path_length, max_file_count, max_piece_count, max_text_length, has_key, integer_at, string_at, dictionary_at, TreeEntry, tree_entries_below, tree_entries_among, with_earlier, is_file, length_of, root_of, pieces_of, piece_count, layer_at, file_at, files_of, first_of, fault_if, conflict, is_too_many, entry_check, tree_checks, is_piece_length, head_checks, piece_length_of, tree_of, layer_check, layer_checks, info_of, layers_of, first_fault, Given, given_of, HasRoot, IsInTreeOrder, has_layer_size, has_root, metainfo_of, Made, file_refusal, first_layer, AreLayersOf, tree_made, value_made}
 use Rattle.std.proofs.lemmas.List.Elements.{All-map}
 use Rattle.std.proofs.lemmas.List.Folds.{list_any_at, list_any_none}
 use Rattle.std.proofs.lemmas.List.Recursion.{is_sum_by}
