@@ -82,7 +82,7 @@ impl From<AllocError> for MakeError {
 
 /// The torrent of these files, with this name: the canonical bencoding of its keys, with the files in the
 /// order of their paths.
-#[tactic(auto, using(crate::proofs::Steps::make_steps))]
+#[tactic(auto, using(crate::proofs::Steps::make_steps), unfolding(crate::specs::WriterRefusals::refusal_of_files))]
 pub fn make(
     alloc: Global,
     name: &[u8],
@@ -216,7 +216,7 @@ fn check_layer(piece_length: u32, file: &Made) -> Result<(), MakeError>
 }
 
 /// Refuses a file whose root is that of an earlier file of another length.
-#[tactic(auto, using(crate::proofs::MakeFiles::lengths_noted))]
+#[tactic(auto, using(crate::proofs::Steps::check_root_steps))]
 fn check_root(lengths: &mut BTreeMap<Hash32, u64>, file: &Made) -> Result<(), MakeError>
     ensures rooted { HasRoot (given_of file.now) }
     ensures noted { OnOk result ((files : List Given) → HasLengths lengths.old files

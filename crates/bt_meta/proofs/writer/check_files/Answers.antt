@@ -1,14 +1,16 @@
-use Rattle.bt_meta.proofs.Base.{err_from_is_err_and}
-use Rattle.bt_meta.proofs.MakeFiles.{taking_more, taking_stops}
+use Rattle.bt_meta.proofs.Base.{◌∙◌, refl, drop_more, given_of, HasRoot, All-push}
+use Rattle.std.proofs.lemmas.List.{map_more}
 use Rattle.bt_meta.proofs.writer.check_files.Goals as goal
-
-pub returns-in_err-take-clause-checked : goal.returns-in_err-take-clause-checked
-returns-in_err-take-clause-checked c =
-    let p = err_from_is_err_and c.from_residual.result c.from_residual.ensures.1 in
-    rw (p.1, p.2) (taking_stops c.args.files.now c.loop-file.file-index c.loop-file.invariant c.file-item.result c.loop-file-test.true c.file-item.is
-    c.in_err-take.ensures.refused)
 
 pub loop-file-preserved : goal.loop-file-preserved
 loop-file-preserved c =
+    let old = c.loop-file.invariant in
     let e = c.in_ok-take.ensures in
-    taking_more c.args.files.now _ c.loop-file.invariant c.file-item.result c.loop-file-test.true c.file-item.is e.within e.taken e.faultless e.rooted
+    let more = map_more given_of c.args.files.now c.loop-file.file-index c.file-item.result c.loop-file-test.true in
+    let rest = drop_more c.args.files.now c.loop-file.file-index c.file-item.result c.loop-file-test.true in
+    record {
+      within = e.within;
+      taken = rw (more, ← c.file-item.is) (e.taken _ old.taken);
+      faultless = old.faultless ∙ rw (more, rest, ← c.file-item.is, e.faultless _ old.taken) refl;
+      rooted = rw (more, ← c.file-item.is) (All-push HasRoot _ _ old.rooted e.rooted);
+    }
