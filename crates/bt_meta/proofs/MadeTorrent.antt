@@ -290,7 +290,7 @@ torrent_of_given name n files ordered layers bytes lawful some none rooted order
     record {
       value = value_made name n ordered layers;
       small = small;
-      canonical = canonical_made name n _ _ lawful tree_paths named (λ i d lt. (h.each i d lt).shallow) (λ i d lt. (h.each i d lt).short) layered;
+      canonical = canonical_made name n _ _ lawful tree layered;
       spelled = sym spelled;
       faultless = made_passes name n _ _ layered tree lawful h (rw as_many more);
       described = said name n _ _ layered tree;
