@@ -40,17 +40,12 @@ pub record AreLawful (piece_length : ℕ) (files : List Given) : Type 0 where
 
 -- ---- one file more
 
-within_limits : (path count pieces : ℕ) → (nat_lt max_path_length path || (nat_lt max_file_count count || nat_lt max_piece_count pieces)) ≡ false
-    → (path ≤ max_path_length) × (count ≤ max_file_count) × (pieces ≤ max_piece_count)
-within_limits path count pieces e = grind (arith, nat_tests)
-
-all_agree : (before : List Given) (f : Given) → conflict_with before f ≡ false → All (Agree f) before
-all_agree before f e k d lt some other same =
-    let filled : (f.length == 0) ≡ false = grind (arith, nat_tests) in
-    sym (no_conflict _ _ _ _ (none_of (λ (g : Given). is_conflict f.root f.length g.root g.length) _ (rw filled at e) k d lt) other (sym same))
-
-alike_more : (before : List Given) (f : Given) → AreAlike before → All (Agree f) before → AreAlike (before ++ f ∷ [])
-alike_more before f h own =
+alike_more : (before : List Given) (f : Given) → AreAlike before → conflict_with before f ≡ false → AreAlike (before ++ f ∷ [])
+alike_more before f h apart =
+    let own : All (Agree f) before = λ k d lt some other same.
+        let filled : (f.length == 0) ≡ false = grind (arith, nat_tests) in
+        sym (no_conflict _ _ _ _ (none_of (λ (g : Given). is_conflict f.root f.length g.root g.length) _ (rw filled at apart) k d lt) other (sym same))
+    in
     All-push (λ g. All (Agree g) (before ++ f ∷ [])) _ f
     (λ k d lt. All-push (Agree (get_or before k d)) before f (h k d lt) (λ some other same. sym (own k d lt other some (sym same))))
     (All-push (Agree f) before f own (λ some other same. refl))
@@ -64,17 +59,17 @@ module _ (piece_length : ℕ) where
   one_more before f h none =
       let all = three_none _ _ _ none in
       let own = three_none _ _ _ all.0 in
-      let limits = within_limits _ _ _ (not_faulty _ Count all.1.1.0) in
+      let limits = not_faulty _ Count all.1.1.0 in
       record {
         each = All-push (IsLawful piece_length) before f h.each (record {
           path = holds_unless _ BadPath own.0;
           short = leb-true f.length _ (holds_unless _ FileLength own.1.0);
           layer = own.1.1.0;
-          shallow = limits.0;
+          shallow = grind (arith, nat_tests);
         });
-        alike = alike_more _ f h.alike (all_agree _ f (not_faulty _ RootConflict all.1.0));
-        few = limits.1;
-        pieces = limits.2;
+        alike = alike_more _ f h.alike (not_faulty _ RootConflict all.1.0);
+        few = grind (arith, nat_tests);
+        pieces = grind (arith, nat_tests);
       }
 
   lawful_behind : (before files : List Given) → AreLawful piece_length before
@@ -120,12 +115,12 @@ AreCanonicalWithin n es = IsCanonicalWithin (suc n) (dictionary es)
 
 module _ {n : ℕ} where
   none_canonical : AreCanonicalWithin n no_entries
-  unfolding nesting_of HasAscendingKeys HasSmallIntegers entries_nesting EntriesAscend EntriesHaveSmallIntegers
+  unfolding nesting_of HasAscendingKeys HasSmallIntegers
   none_canonical = record { nesting = omega arith; keys = tt; integers = tt }
 
   first_canonical : {key : List ℕ} {d : Data} {es : Entries} → IfSome (first_key_of es) (IsBefore key) → IsCanonicalWithin n d
       → AreCanonicalWithin n es → AreCanonicalWithin n (entry key d es)
-  unfolding nesting_of HasAscendingKeys HasSmallIntegers entries_nesting EntriesAscend EntriesHaveSmallIntegers
+  unfolding nesting_of HasAscendingKeys HasSmallIntegers
   first_canonical before here rest =
       let a = here.nesting in
       let b = rest.nesting in
@@ -133,7 +128,7 @@ module _ {n : ℕ} where
 
   first_parts : {key : List ℕ} {d : Data} {es : Entries} → AreCanonicalWithin n (entry key d es)
       → IfSome (first_key_of es) (IsBefore key) × IsCanonicalWithin n d × AreCanonicalWithin n es
-  unfolding nesting_of HasAscendingKeys HasSmallIntegers entries_nesting EntriesAscend EntriesHaveSmallIntegers
+  unfolding nesting_of HasAscendingKeys HasSmallIntegers
   first_parts h = let a = h.nesting in (
     h.keys.0,
     record { nesting = omega arith; keys = h.keys.1; integers = h.integers.0 },
@@ -146,10 +141,7 @@ module _ {n : ℕ} where
 
   integer_canonical : {m : ℕ} → m < 2 ^ 63 → IsCanonicalWithin n (integer (pos m))
   unfolding nesting_of HasAscendingKeys HasSmallIntegers
-  integer_canonical {m} small = record { nesting = omega arith; keys = tt; integers = fits m small }
-    where
-      fits : (m : ℕ) → m < 2 ^ 63 → FitsSigned w64 (pos m)
-      fits m small = omega (arith, ints)
+  integer_canonical {m} small = record { nesting = omega arith; keys = tt; integers = omega (arith, ints) }
 
   -- ---- an entry behind the others
 
@@ -250,36 +242,26 @@ module _ (path : List (List ℕ)) where
 
     good_folder : (es : Entries) → first_value_of es [] ≡ None → IsGood (record { path = path; value = dictionary es })
     unfolding is_node has_key
-    good_folder es none = record {
-      node = rw none refl;
-      named = named;
-      shallow = shallow;
-      faultless = λ file. let never : false ≡ true = rw none at file in cc;
-    }
+    good_folder es none = record { node = rw none refl; named = named; shallow = shallow; faultless = λ file. cc }
 
 -- ---- a folder behind the others
 
 nameless : (name : List ℕ) (es others : Entries) → AreBefore name es → first_value_of (entries_before es others) [] ≡ first_value_of others []
 nameless name no_entries others h = refl
-nameless name (entry [] d es) others h = let never : false ≡ true = h.1 in cc
+nameless name (entry [] d es) others h = cc
 nameless name (entry (byte ∷ bytes) d es) others h = nameless name es others h.2
 
 abbrev pub has_names : List (List ℕ) → Bool
 has_names path = list_all is_element path
 
-old_nameless : (path : List (List ℕ)) (d : Data) (old new : Entries) → has_names path ≡ true → IsPut d path old new → first_value_of old [] ≡ None
-old_nameless [] d old new lawful put = rw put.0 refl
-old_nameless ([] ∷ path) d old new lawful put = cc
-old_nameless ((byte ∷ bytes) ∷ path) d old new lawful put = elim put.split [
+put_nameless : (path : List (List ℕ)) (d : Data) (old new : Entries) → has_names path ≡ true → IsPut d path old new
+    → (first_value_of old [] ≡ None) × (length path ≢ 0 → first_value_of new [] ≡ None)
+put_nameless [] d old new lawful put = (rw put.0 refl, λ some. absurd (some refl))
+put_nameless ([] ∷ path) d old new lawful put = cc
+put_nameless ((byte ∷ bytes) ∷ path) d old new lawful put = (elim put.split [
   | inl s ↦ rw s.0 (rw (before_none _) at (nameless (byte ∷ bytes) put.earlier no_entries put.before))
   | inr e ↦ rw e (nameless (byte ∷ bytes) put.earlier _ put.before)
-]
-
-new_nameless : (path : List (List ℕ)) (d : Data) (old new : Entries) → length path ≢ 0 → has_names path ≡ true → IsPut d path old new
-    → first_value_of new [] ≡ None
-new_nameless [] d old new some lawful put = absurd (some refl)
-new_nameless ([] ∷ path) d old new some lawful put = cc
-new_nameless ((byte ∷ bytes) ∷ path) d old new some lawful put = rw put.new_is (nameless (byte ∷ bytes) put.earlier _ put.before)
+], λ some. rw put.new_is (nameless (byte ∷ bytes) put.earlier _ put.before))
 
 entries_ahead : (prefix : List (List ℕ)) (byte : ℕ) (bytes : List ℕ) (inner es : Entries)
     → tree_entries_among prefix (entries_before es (entry (byte ∷ bytes) (dictionary inner) no_entries))
@@ -306,6 +288,9 @@ module _ {file : TreeEntry} {old new : List TreeEntry} (h : HasFileMore file old
   more_in_folder : (folder : TreeEntry) → is_file folder ≡ false → HasFileMore file (folder ∷ old) new
   more_in_folder folder other = record { good = λ all. h.good (All-tail IsGood folder old all); files = rw other h.files }
 
+  in_good_folder : (folder : TreeEntry) → IsGood folder → is_file folder ≡ false → HasFileMore file old (folder ∷ new)
+  in_good_folder folder good other = record { good = λ all. All-cons IsGood folder new good (h.good all); files = rw other h.files }
+
 module _ (properties : Entries) (faultless : first_of (property_checks (dictionary properties)) ≡ None) where
   put_in : (prefix path : List (List ℕ)) (old new : Entries) → is_path_element (unwrap_or (last_or None prefix) []) ≡ true → has_names path ≡ true
       → length (prefix ++ path) ≤ max_path_length → IsPut (dictionary properties) path old new
@@ -323,21 +308,16 @@ module _ (properties : Entries) (faultless : first_of (property_checks (dictiona
       let names = and_parts (is_element name) (has_names path) lawful in
       let inner = prefix ++ name ∷ [] in
       let same = append_assoc prefix (name ∷ []) path in
-      let own : is_path_element (unwrap_or (last_or None inner) []) ≡ true = rw (last_push None prefix name) (and_parts _ _ names.0).1 in
-      let below = rw same at (put_in inner path put.inner put.more own names.1 (rw same shallow) put.below) in
+      let below = rw same at (put_in inner path put.inner put.more (rw (last_push None prefix name) (and_parts _ _ names.0).1) names.1
+      (rw same shallow) put.below) in
       let ahead = tree_entries_among prefix put.earlier in
-      let folder = folder_is_none inner put.inner (old_nameless path (dictionary properties) put.inner put.more names.1 put.below) in
-      let more : HasFileMore (record { path = prefix ++ name ∷ path; value = file_value properties }) (tree_entries_among prefix old)
-      (tree_entries_among prefix new) = rw (put.new_is, entries_ahead prefix byte bytes put.more put.earlier) (elim put.split [
+      let folder = folder_is_none inner put.inner (put_nameless path (dictionary properties) put.inner put.more names.1 put.below).0 in
+      let none = (put_nameless (name ∷ path) (dictionary properties) old new lawful put).1 (omega arith) in
+      let short : length prefix ≤ max_path_length = omega (arith, length-append prefix (name ∷ path)) in
+      in_good_folder (rw (put.new_is, entries_ahead prefix byte bytes put.more put.earlier) (elim put.split [
         | inl s ↦ rw s.0 (rw (append-nil ahead) at (more_behind (rw s.1 at below) ahead))
         | inr e ↦ rw (e, entries_ahead prefix byte bytes put.inner put.earlier) (more_behind (more_in_folder below _ folder) ahead)
-      ]) in
-      let none = new_nameless (name ∷ path) (dictionary properties) old new (omega arith) lawful put in
-      let short : length prefix ≤ max_path_length = omega (arith, length-append prefix (name ∷ path)) in
-      record {
-        good = λ h. All-cons IsGood _ _ (good_folder prefix last short new none) (more.good h);
-        files = rw (folder_is_none prefix new none) more.files;
-      }
+      ])) _ (good_folder prefix last short new none) (folder_is_none prefix new none)
 
 -- ==== the tree of all files
 
@@ -384,15 +364,15 @@ unfolding tree_entries_among
 tree_begun = record { good = All-nil _; tree_entries = refl; nameless = refl; canonical = none_canonical }
 
 module _ (piece_length : ℕ) where
-  file_more : (before : List Given) (f : Given) (tree : Entries) → IsLawful piece_length f → HasRoot f → ComesAfter f.path tree → IsTreeOf before tree
+  file_more : {before : List Given} {f : Given} {tree : Entries} → IsLawful piece_length f → HasRoot f → ComesAfter f.path tree → IsTreeOf before tree
       → IsTreeOf (before ++ f ∷ []) (with_file f.path (properties_made f) tree)
   unfolding is_path_element
-  file_more before f tree lawful rooted behind h =
+  file_more {before} {f} {tree} lawful rooted behind h =
       let names = and_parts (not (length f.path == 0)) _ lawful.path in
       let put = put_there f.path (properties_made f) tree behind in
       let more = put_in _ (properties_pass f lawful.short rooted) [] f.path tree _ (is_utf8-from_IsUtf8 [] IsUtf8-nil) names.1
       lawful.shallow put in
-      let none = new_nameless f.path _ tree _ (grind (arith, nat_tests, names.0)) names.1 put in
+      let none = (put_nameless f.path _ tree _ names.1 put).1 (grind (arith, nat_tests, names.0)) in
       let deep = lawful.shallow in
       record {
         good = All-tail IsGood _ _ (more.good h.good);
@@ -405,14 +385,13 @@ module _ (piece_length : ℕ) where
       → All HasRoot files → IsTreeOf files (tree_made files)
   tree_is files tree_paths named lawful rooted =
       grows files tree_paths named IsTreeOf tree_begun
-      (λ i tree lt behind h. file_more (take i files) _ tree (lawful i nothing lt) (rooted i nothing lt) behind h)
+      (λ i tree lt. file_more (lawful i nothing lt) (rooted i nothing lt))
 
 -- ---- the whole
 
 pub canonical_made : (name : List ℕ) (piece_length : ℕ) (files : List Given) (layers : Entries) → is_piece_length piece_length ≡ true
     → IsTreeOf files (tree_made files) → AreLayersOf piece_length files layers → IsCanonical (value_made name piece_length files layers)
 canonical_made name piece_length files layers lawful tree layered =
-    let test : nat_le piece_length max_piece_length ≡ true = (and_parts _ _ lawful).1 in
     let small : piece_length < 2 ^ 63 = grind (arith, nat_tests) in
     first_canonical refl (first_canonical refl tree.canonical
     (first_canonical refl (integer_canonical (omega arith))
