@@ -215,8 +215,7 @@ made_of_given files {name} {n} {ordered} lawful some none rooted order apart mad
       torrent = record {
         value = value_made name n ordered made.layers;
         small = small;
-        canonical = canonical_made name n ordered made.layers (sym lawful) paths named (λ i d lt. (h.each i d lt).shallow)
-            (λ i d lt. (h.each i d lt).short) made.layered;
+        canonical = canonical_made name n _ _ (sym lawful) tree made.layered;
         spelled = sym whole;
         faultless = made_passes name made.layered tree (sym lawful) h (grind (arith, nat_tests));
         described = said name made.layered tree;
