@@ -4,7 +4,7 @@ use Rattle.bt_meta.proofs.Checks.{first_of-append_some}
 use Rattle.bt_meta.proofs.Choices.{test_of_none, test_of_some}
 use Rattle.bt_meta.proofs.Dictionaries.{empty_key, entries_ascend, field_ascends, key_entries, layers_absent, layers_ascend, nothing_ascends, single_entry}
 use Rattle.bt_meta.proofs.EncodeValue.{behind_here, file_alone, file_in, grown_found, layers_of_known, layers_of_short, no_path}
-use Rattle.bt_meta.proofs.FileLayers.{all_changed, files_with_layers, layer_differs, layer_right, layer_sized_wrong, pieces_after}
+use Rattle.bt_meta.proofs.FileLayers.{faultless_at_end, files_with_layers, layer_differs, layer_right, layer_sized_wrong, next_refused, next_short, pieces_after, whole_at_end}
 use Rattle.bt_meta.proofs.MadeTree.{lent_short, ordered_named}
 use Rattle.bt_meta.proofs.MakeFiles.{apart_begun, apart_found, apart_more, files_refused, length_refused, none_overlap, none_refused, overlap_found, refused_as, same_overlap, taking_begun, taking_found, taking_rooted}
 use Rattle.bt_meta.proofs.ReadFiles.{ascends}
@@ -49,4 +49,4 @@ pub ruleset make_steps = (err_from_is_err_and, no_memory, unlawful, overlap, sam
 
 pub ruleset check_steps = (layer_right, layer_sized_wrong, layer_differs)
 
-pub ruleset add_layers_of_steps = (all_changed)
+pub ruleset add_layers_of_steps = (err_from_is_err_and, whole_at_end, faultless_at_end, next_short, next_refused)
