@@ -1,5 +1,5 @@
 -- The layers of the files of a torrent that is read.
-use Rattle.bt_meta.proofs.Base.{◌≡◌, ◌≢◌, All-tail, ℕ, zero, suc, ◌<◌, false, List, [], ◌∷◌, length, get_or, None, Some, Err, refl, sym, ◌∙◌, arith, add-one, append_assoc, append-nil, inl, inr, ◌+◌, ◌-◌, ◌≤◌, true, ◌++◌, take, drop, map, ap, nat_eq, filter, sum_by, Vec, IsSortedBy, nat_cmp, is_lt, pointwise, slice_cmp, Ordering, Less, Equal, cases_lt, false_from_ne_true, nat_list_cmp_total, tied_itself, exact_bytes, bytes_eq-Decides, map-append, take_more, drop_more, map_push, take_all, get_or-map, length-map, sum_by-cons, sha256, Data, Entries, entry, data_of, entries_of, first_value_of, EntriesAscend, IsBefore, Value, max_file_length, file_of, File, is_file, file_at, files_of, piece_count, FileEntry, has_layer_size, has_root, first_of, layer_check, layer_checks, with_layer, layer_fault, layer_faults, MetaError, LayerSize, LayerDiffers, no_dictionary, TreeEntry, tree_entries_below, with_earlier}
+use Rattle.bt_meta.proofs.Base.{◌≡◌, ◌≢◌, All-tail, ℕ, zero, suc, ◌<◌, false, List, [], ◌∷◌, length, get_or, None, Some, Err, refl, sym, ◌∙◌, arith, add-one, append_assoc, append-nil, inl, inr, ◌+◌, ◌≤◌, ◌++◌, take, drop, map, nat_eq, Vec, nat_cmp, pointwise, slice_cmp, Ordering, Equal, cases_lt, false_from_ne_true, nat_list_cmp_total, tied_itself, exact_bytes, bytes_eq-Decides, drop_more, map_push, take_all, sha256, Data, data_of, entries_of, first_value_of, EntriesAscend, IsBefore, Value, max_file_length, file_of, File, file_at, files_of, piece_count, FileEntry, has_layer_size, has_root, first_of, layer_check, layer_checks, with_layer, layer_fault, layer_faults, MetaError, LayerSize, LayerDiffers, no_dictionary, TreeEntry, with_earlier}
 use Rattle.std.proofs.Common.{set}
 use Rattle.std.specs.List.{HoldsAt}
 use Rattle.std.specs.List.Sorted.{IsBinarySearchResult}
@@ -7,17 +7,16 @@ use Rattle.std.proofs.lemmas.Bool.{ne_eqb, eq-eqb}
 use Rattle.std.proofs.lemmas.List.Sorted.{searchable_from_sorted}
 use Rattle.std.proofs.lemmas.Cmp.{on_total}
 use Rattle.std.proofs.lemmas.List.{take_more_set, drop-set-lt, drop_all}
+use Rattle.std.proofs.lemmas.List.Sums.{sum-map}
+use Rattle.std.proofs.lemmas.Simd.{map-map}
 use Rattle.std.proofs.lemmas.Map.Keys.{sorted_from_all_adjacent, Less-from_sorted}
 use Rattle.bt_tree.specs.Blocks.{block_count}
-use Rattle.bt_tree.specs.TreeShape.{height_of, IsHeight}
+use Rattle.bt_tree.specs.TreeShape.{height_of}
 use Rattle.bt_tree.proofs.TreeShape.{height_is}
-use Rattle.bt_tree.specs.Layers.{fold_of, layer_digests, HasLayerSize, IsLayer}
+use Rattle.bt_tree.specs.Layers.{HasLayerSize, IsLayer}
 use Rattle.bt_meta.specs.Layers.{piece_layer_of}
-use Rattle.bt_meta.specs.Faults.{Check}
 use Rattle.bt_meta.specs.ReaderSteps.{Refuses, AreShort, pieces_in}
 use Rattle.bt_meta.specs.LayerSteps.{layer_bytes_fault}
-use Rattle.bt_meta.proofs.Checks.{first_of-append}
-use Rattle.bt_meta.proofs.Lists.{parts_at}
 
 -- ==== looking up a key among ascending ones
 
@@ -68,44 +67,24 @@ module _ (key : List ℕ) where
 
 -- ---- one layer
 
--- a layer of a longer file's tree lies below its root
-layer_inside : (n bytes h k : ℕ) → n < bytes → IsHeight (block_count n) k → IsHeight (block_count bytes) h → k ≤ h
-layer_inside n bytes h k long low high =
-    let enough = high.enough in
-    let fewer : block_count n ≤ block_count bytes = omega arith in
-    low.least h (omega arith)
+module _ (n bytes : ℕ) (root layer : List ℕ) {k : ℕ} (is : k ≡ piece_layer_of n) where
+  pub layer_right : IsLayer sha256 (block_count bytes) root k layer → None ≡ layer_bytes_fault n bytes root layer
+  unfolding has_layer_size has_root
+  layer_right h = let at = rw is at h in rw (eq-eqb _ _ at.size.size, (bytes_eq-Decides _ _).1 at.folds) refl
 
-module _ (n bytes : ℕ) (root layer : List ℕ) where
-  folded : List ℕ
-  folded = fold_of sha256 (height_of (block_count bytes) - piece_layer_of n) (layer_digests sha256 (block_count bytes) (piece_layer_of n) layer)
-
-  size_right : HasLayerSize (block_count bytes) (piece_layer_of n) layer → has_layer_size n bytes layer ≡ true
+  -- a layer of a longer file's tree lies below its root
+  pub layer_sized_wrong : n < bytes → ¬ HasLayerSize (block_count bytes) k layer → Some LayerSize ≡ layer_bytes_fault n bytes root layer
   unfolding has_layer_size
-  size_right h = eq-eqb _ _ h.size
+  layer_sized_wrong long h =
+      let inside = (height_is (block_count n)).least (height_of (block_count bytes)) (omega (arith, (height_is (block_count bytes)).enough)) in
+      rw (ne_eqb _ _ (λ e. rw is at h (record { inside = inside; size = e }))) refl
 
-  module _ {k : ℕ} (is : k ≡ piece_layer_of n) where
-    pub layer_right : IsLayer sha256 (block_count bytes) root k layer → None ≡ layer_bytes_fault n bytes root layer
-    unfolding has_root folded
-    layer_right h =
-        let at = rw is at h in
-        let right : has_root n bytes root layer ≡ true = (bytes_eq-Decides _ _).1 at.folds in
-        rw (size_right at.size, right) refl
-
-    pub layer_sized_wrong : n < bytes → ¬ HasLayerSize (block_count bytes) k layer → Some LayerSize ≡ layer_bytes_fault n bytes root layer
-    unfolding has_layer_size
-    layer_sized_wrong long h =
-        let inside = layer_inside n bytes _ _ long (height_is _) (height_is _) in
-        let wrong : has_layer_size n bytes layer ≡ false = ne_eqb _ _ (λ e. rw is at h (record { inside = inside; size = e })) in
-        rw wrong refl
-
-    pub layer_differs : HasLayerSize (block_count bytes) k layer → ¬ IsLayer sha256 (block_count bytes) root k layer
-        → Some LayerDiffers ≡ layer_bytes_fault n bytes root layer
-    unfolding has_root folded
-    layer_differs size h =
-        let sized = rw is at size in
-        let wrong : has_root n bytes root layer ≡ false =
-        false_from_ne_true _ (λ t. rw is at h (record { size = sized; folds = (bytes_eq-Decides _ _).0 t })) in
-        rw (size_right sized, wrong) refl
+  pub layer_differs : HasLayerSize (block_count bytes) k layer → ¬ IsLayer sha256 (block_count bytes) root k layer
+      → Some LayerDiffers ≡ layer_bytes_fault n bytes root layer
+  unfolding has_layer_size has_root
+  layer_differs size h =
+      let sized = rw is at size in
+      rw (eq-eqb _ _ sized.size, false_from_ne_true _ (λ t. rw is at h (record { size = sized; folds = (bytes_eq-Decides _ _).0 t }))) refl
 
 -- ---- all files
 
@@ -151,7 +130,7 @@ module _ (n : ℕ) (layers : Data) where
 
   pub files_with_layers : (tree : Data) → map (with_layer n layers) (files_of n no_dictionary tree) ≡ files_of n layers tree
   unfolding files_of
-  files_with_layers tree = with_layers [] (filter is_file (tree_entries_below [] tree))
+  files_with_layers tree = with_layers [] _
 
   faults_of_entries : (before es : List TreeEntry) → layer_faults n layers (with_earlier (file_at n no_dictionary) before es) ≡ map (layer_check n layers) es
   faults_of_entries before [] = refl
@@ -159,14 +138,10 @@ module _ (n : ℕ) (layers : Data) where
 
   pub layer_faults_are : (tree : Data) → layer_faults n layers (files_of n no_dictionary tree) ≡ layer_checks n layers tree
   unfolding files_of layer_checks
-  layer_faults_are tree = faults_of_entries [] (filter is_file (tree_entries_below [] tree))
-
-  pieces_with_layers : (files : List File) → sum_by (λ f. piece_count n f.length) (map (with_layer n layers) files) ≡ sum_by (λ f. piece_count n f.length) files
-  pieces_with_layers [] = refl
-  pieces_with_layers (f ∷ files) =
-      let count = λ (g : File). piece_count n g.length in
-      sum_by-cons count (with_layer n layers f) (map (with_layer n layers) files) ∙ rw (pieces_with_layers files) (sym (sum_by-cons count f files))
+  layer_faults_are tree = faults_of_entries [] _
 
   pub pieces_after : (pieces : ℕ) (old new : List FileEntry) → pieces ≡ pieces_in n old
       → map file_of new ≡ map (with_layer n layers) (map file_of old) → pieces ≡ pieces_in n new
-  pieces_after pieces old new e h = e ∙ rw h (sym (pieces_with_layers (map file_of old)))
+  pieces_after pieces old new e h =
+      let count = λ (f : File). piece_count n f.length in
+      e ∙ rw (h, ← sum-map count (map (with_layer n layers) (map file_of old)), map-map, sum-map) refl
