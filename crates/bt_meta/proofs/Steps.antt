@@ -4,7 +4,7 @@ use Rattle.bt_meta.proofs.Checks.{first_of-append_some}
 use Rattle.bt_meta.proofs.Choices.{test_of_none, test_of_some}
 use Rattle.bt_meta.proofs.Dictionaries.{empty_key, entries_ascend, field_ascends, key_entries, nothing_ascends, single_entry}
 use Rattle.bt_meta.proofs.EncodeValue.{lent_behind, tree_more, file_in, layers_of_known, layers_of_short, entries_push, opened_push, before_none, before_more}
-use Rattle.bt_meta.proofs.FileLayers.{all_changed, files_with_layers, layer_differs, layer_right, layer_sized_wrong, pieces_after}
+use Rattle.bt_meta.proofs.FileLayers.{files_with_layers, layer_differs, layer_right, layer_sized_wrong, pieces_after, faultless_at_end, next_refused, next_short, whole_at_end}
 use Rattle.bt_meta.proofs.MadeTree.{lent_short, ordered_named}
 use Rattle.bt_meta.proofs.MakeFiles.{apart_more, none_overlap, overlap_found}
 use Rattle.bt_meta.proofs.ReadFiles.{ascends}
@@ -55,7 +55,7 @@ pub ruleset make_steps = (err_from_is_err_and, no_memory, unlawful, ordered_name
 
 pub ruleset check_steps = (layer_right, layer_sized_wrong, layer_differs)
 
-pub ruleset add_layers_of_steps = (all_changed)
+pub ruleset add_layers_of_steps = (err_from_is_err_and, whole_at_end, faultless_at_end, next_short, next_refused)
 
 pub ruleset walk_folder_steps = (data_of-Int, data_of-Bytes, data_of-List, no_folder, none_yet)
 
