@@ -11,7 +11,7 @@ use Rattle.bt_meta.proofs.Checks.{skips, first_of-append, each_none, holds_unles
 use Rattle.bt_meta.proofs.Lists.{All-front, All-back}
 use Rattle.bt_meta.proofs.TreeWalk.{has_conflict, file_counted, folder_counted, some_of_filter}
 use Rattle.bt_meta.proofs.RootLengths.{conflict_free}
-use Rattle.bt_meta.proofs.MadeTree.{count_in, Agree, AreAlike, IsGood, entry_made, length_of_made, root_of_some, IsTreeOf, canonical_made, AreLawful, IsLawful, lawful_ordered, ordered_named, value_is_file, root_of_made, tree_is}
+use Rattle.bt_meta.proofs.MadeTree.{Agree, AreAlike, IsGood, entry_made, length_of_made, root_of_some, IsTreeOf, canonical_made, AreLawful, IsLawful, lawful_ordered, ordered_named, value_is_file, root_of_made, tree_is}
 use Rattle.bt_meta.specs.EncodeSteps.{IsValueOf}
 use Rattle.bt_meta.proofs.MakeFiles.{files_refused, tree_paths}
 use Rattle.bt_meta.specs.declared.writer.MakeError.TheVariants.{LayerSize as layer_size, LayerDiffers as layer_differs}
@@ -80,7 +80,7 @@ alike_entries files h = All-map (λ p. All (AgreeAt p) (map entry_made files)) e
     (λ i f lt. All-map (AgreeAt (entry_made (get_or files i f))) entry_made files
     (λ j g lt'. agree_made (get_or files i f) (get_or files j g) (h j g lt' i f lt)))
 
-count_made : (n : ℕ) (files : List Given) → sum_by (λ p. piece_count n (length_of p)) (map entry_made files) ≡ count_in n files
+count_made : (n : ℕ) (files : List Given) → sum_by (λ p. piece_count n (length_of p)) (map entry_made files) ≡ sum_by (λ g. piece_count n g.length) files
 count_made n = is_sum_by (λ files. sum_by (λ p. piece_count n (length_of p)) (map entry_made files)) (λ g. piece_count n g.length) refl
     (λ f files. sum_by-cons (λ p. piece_count n (length_of p)) (entry_made f) (map entry_made files) ∙ rw (length_of_made f) refl)
 
