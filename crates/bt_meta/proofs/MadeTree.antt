@@ -1,12 +1,10 @@
 -- The tree of files that are put into it in their order: it is canonical, and has an entry for each file.
-use Rattle.bt_meta.proofs.Base.{◌≡◌, ℕ, zero, suc, ◌<◌, ◌≤◌, ◌^◌, true, false, List, [], ◌∷◌, length, refl, sym, ap, ◌∙◌, arith, inl, inr, None, Some, ◌≢◌, ◌++◌, map, get_or, append_assoc, Bool, length-append, Option, IfSome, nat_eq, nat_le, ◌==◌, nat_lt, not, ◌||◌, sum_by, filter, unwrap_or, take, replicate, if◌then◌else◌, All, list_all, last_or, option_map, is_eq, is_eq-slice_cmp, ordering_reverse, pointwise, nat_list_cmp_total, cases_Bool, and_parts, leb-true, nat_tests, bytes_eq-Decides, Bor, append-nil, get_or-map, length-map, map_push, All-nil, All-push, All-cons, All-tail, All-append, filter-append, All-permutation, length_permutation, is_utf8-from_IsUtf8, Data, integer, string, dictionary, Entries, no_entries, entry, first_value_of, IsBefore, HasAscendingKeys, EntriesAscend, IsCanonical, max_file_length, max_piece_length, max_path_length, max_file_count, max_piece_count, is_piece_length, first_of, is_path, is_element, is_node, has_lawful_name, is_path_element, has_lawful_length, has_lawful_root, Given, HaveTreePaths, IsInTreeOrder, HasRoot, properties_made, tree_made, AreLayersOf, value_made, with_file, entries_before, AreNonEmpty, AreBefore, given_at, ComesAfter, with_earlier, TreeEntry, tree_entries_among, piece_count, is_conflict, is_file, properties_of, length_in, root_in, length_of, root_of, file_refusal, Made, Count, has_key, dictionary_at, integer_at, string_at, property_checks}
+use Rattle.bt_meta.proofs.Base.{◌≡◌, ℕ, zero, suc, ◌<◌, ◌≤◌, ◌^◌, true, false, List, [], ◌∷◌, length, refl, sym, ap, ◌∙◌, arith, inl, inr, None, Some, ◌≢◌, ◌++◌, map, get_or, append_assoc, Bool, length-append, Option, IfSome, nat_eq, nat_le, ◌==◌, not, sum_by, filter, unwrap_or, replicate, if◌then◌else◌, All, list_all, last_or, option_map, is_eq, is_eq-slice_cmp, ordering_reverse, pointwise, nat_list_cmp_total, cases_Bool, and_parts, leb-true, nat_tests, bytes_eq-Decides, Bor, append-nil, get_or-map, length-map, map_push, All-nil, All-push, All-cons, All-tail, All-append, filter-append, All-permutation, length_permutation, is_utf8-from_IsUtf8, Data, integer, string, dictionary, Entries, no_entries, entry, first_value_of, IsBefore, HasAscendingKeys, EntriesAscend, IsCanonical, max_file_length, max_path_length, max_file_count, max_piece_count, is_piece_length, first_of, is_path, is_element, is_node, has_lawful_name, is_path_element, has_lawful_length, has_lawful_root, Given, HaveTreePaths, IsInTreeOrder, HasRoot, properties_made, tree_made, AreLayersOf, value_made, with_file, entries_before, AreNonEmpty, AreBefore, given_at, ComesAfter, with_earlier, TreeEntry, tree_entries_among, piece_count, is_conflict, is_file, properties_of, length_in, root_in, length_of, root_of, file_refusal, Made, Count, has_key, dictionary_at, integer_at, string_at, property_checks}
 use Rattle.std.proofs.Common.{pos}
-use Rattle.std.specs.Prelude.{FitsSigned}
-use Rattle.std.specs.Int.{w64}
 use Rattle.std.proofs.lemmas.Int.{ints}
 use Rattle.std.proofs.lemmas.List.Sorted.{sum_by-IsPermutation}
 use Rattle.std.proofs.lemmas.Str.{IsUtf8-nil}
-use Rattle.bt_bencode.specs.Doc.{nesting_of, entries_nesting, first_key_of, HasSmallIntegers, EntriesHaveSmallIntegers, IsCanonicalWithin}
+use Rattle.bt_bencode.specs.Doc.{nesting_of, first_key_of, HasSmallIntegers, IsCanonicalWithin}
 use Rattle.bt_meta.proofs.EncodeValue.{IsPut, before_none, put_there, nothing, grows}
 use Rattle.bt_meta.specs.WriterRefusals.{Check, layer_refusal, conflict_with}
 use Rattle.bt_meta.specs.declared.writer.MakeError.TheVariants.{BadPath, FileLength, RootConflict}
@@ -122,14 +120,12 @@ module _ {n : ℕ} where
       → AreCanonicalWithin n es → AreCanonicalWithin n (entry key d es)
   unfolding nesting_of HasAscendingKeys HasSmallIntegers
   first_canonical before here rest =
-      let a = here.nesting in
-      let b = rest.nesting in
       record { nesting = omega arith; keys = (before, here.keys, rest.keys); integers = (here.integers, rest.integers) }
 
   first_parts : {key : List ℕ} {d : Data} {es : Entries} → AreCanonicalWithin n (entry key d es)
       → IfSome (first_key_of es) (IsBefore key) × IsCanonicalWithin n d × AreCanonicalWithin n es
   unfolding nesting_of HasAscendingKeys HasSmallIntegers
-  first_parts h = let a = h.nesting in (
+  first_parts h = (
     h.keys.0,
     record { nesting = omega arith; keys = h.keys.1; integers = h.integers.0 },
     record { nesting = omega arith; keys = h.keys.2; integers = h.integers.1 },
@@ -141,7 +137,7 @@ module _ {n : ℕ} where
 
   integer_canonical : {m : ℕ} → m < 2 ^ 63 → IsCanonicalWithin n (integer (pos m))
   unfolding nesting_of HasAscendingKeys HasSmallIntegers
-  integer_canonical {m} small = record { nesting = omega arith; keys = tt; integers = omega (arith, ints) }
+  integer_canonical small = record { nesting = omega arith; keys = tt; integers = omega (arith, ints) }
 
   -- ---- an entry behind the others
 
@@ -155,11 +151,13 @@ module _ {n : ℕ} where
     last_canonical (entry key e (entry other f es)) before some here =
         let p = first_parts some in first_canonical p.0 p.1 (last_canonical (entry other f es) before.2 p.2 here)
 
-    parts_canonical : (es : Entries) → AreCanonicalWithin n (entries_before es (entry name d no_entries)) → AreCanonicalWithin n es × IsCanonicalWithin n d
-    parts_canonical no_entries h = (none_canonical, (first_parts h).1)
-    parts_canonical (entry key e no_entries) h = let p = first_parts h in (first_canonical tt p.1 none_canonical, (first_parts p.2).1)
-    parts_canonical (entry key e (entry other f es)) h =
-        let p = first_parts h in let q = parts_canonical (entry other f es) p.2 in (first_canonical p.0 p.1 q.0, q.1)
+    -- with another value under the last name
+    changed_canonical : {e : Data} (es : Entries) → (IsCanonicalWithin n d → IsCanonicalWithin n e)
+        → AreCanonicalWithin n (entries_before es (entry name d no_entries)) → AreCanonicalWithin n (entries_before es (entry name e no_entries))
+    changed_canonical no_entries change h = first_canonical tt (change (first_parts h).1) none_canonical
+    changed_canonical (entry key f no_entries) change h = let p = first_parts h in first_canonical p.0 p.1 (changed_canonical no_entries change p.2)
+    changed_canonical (entry key f (entry other g es)) change h =
+        let p = first_parts h in first_canonical p.0 p.1 (changed_canonical (entry other g es) change p.2)
 
 -- ---- a file put into a tree
 
@@ -168,11 +166,11 @@ canonical_put : {d : Data} (path : List (List ℕ)) (n : ℕ) (old new : Entries
 canonical_put path zero old new here put deep some = absurd (omega arith)
 canonical_put [] (suc n) old new here put deep some = rw put.1 (first_canonical tt (here n) none_canonical)
 canonical_put (name ∷ path) (suc n) old new here put deep some =
-    let parts : AreCanonicalWithin (suc n) put.earlier × AreCanonicalWithin n put.inner = elim put.split [
-      | inl s ↦ (rw s.0 at some, rw s.1 none_canonical)
-      | inr e ↦ parts_canonical name put.earlier (rw e at some)
-    ] in
-    rw put.new_is (last_canonical name put.earlier put.before parts.0 (canonical_put path n _ _ here put.below (omega arith) parts.1))
+    let below = canonical_put path n put.inner put.more here put.below (omega arith) in
+    rw put.new_is (elim put.split [
+      | inl s ↦ last_canonical name put.earlier put.before (rw s.0 at some) (below (rw s.1 none_canonical))
+      | inr e ↦ changed_canonical name put.earlier below (rw e at some)
+    ])
 
 properties_canonical : {n : ℕ} (f : Given) → f.length ≤ max_file_length → IsCanonicalWithin (suc n) (properties_made f)
 properties_canonical f short = elim (cases_Bool (f.length == 0)) [
@@ -363,29 +361,25 @@ tree_begun : IsTreeOf [] no_entries
 unfolding tree_entries_among
 tree_begun = record { good = All-nil _; tree_entries = refl; nameless = refl; canonical = none_canonical }
 
-module _ (piece_length : ℕ) where
-  file_more : {before : List Given} {f : Given} {tree : Entries} → IsLawful piece_length f → HasRoot f → ComesAfter f.path tree → IsTreeOf before tree
-      → IsTreeOf (before ++ f ∷ []) (with_file f.path (properties_made f) tree)
-  unfolding is_path_element
-  file_more {before} {f} {tree} lawful rooted behind h =
-      let names = and_parts (not (length f.path == 0)) _ lawful.path in
-      let put = put_there f.path (properties_made f) tree behind in
-      let more = put_in _ (properties_pass f lawful.short rooted) [] f.path tree _ (is_utf8-from_IsUtf8 [] IsUtf8-nil) names.1
-      lawful.shallow put in
-      let none = (put_nameless f.path _ tree _ names.1 put).1 (grind (arith, nat_tests, names.0)) in
-      let deep = lawful.shallow in
-      record {
-        good = All-tail IsGood _ _ (more.good h.good);
-        tree_entries = rw (folder_is_none [] _ none) at more.files ∙ rw (h.tree_entries, map_push _ _ f) refl;
-        nameless = none;
-        canonical = canonical_put f.path 125 tree _ (λ m. properties_canonical f lawful.short) put (omega arith) h.canonical;
-      }
+file_more : {piece_length : ℕ} {before : List Given} {f : Given} {tree : Entries} → IsLawful piece_length f → HasRoot f → ComesAfter f.path tree
+    → IsTreeOf before tree → IsTreeOf (before ++ f ∷ []) (with_file f.path (properties_made f) tree)
+unfolding is_path_element
+file_more {f = f} {tree} lawful rooted behind h =
+    let names = and_parts (not (length f.path == 0)) _ lawful.path in
+    let put = put_there f.path (properties_made f) tree behind in
+    let more = put_in _ (properties_pass f lawful.short rooted) [] f.path tree _ (is_utf8-from_IsUtf8 [] IsUtf8-nil) names.1 lawful.shallow put in
+    let none = (put_nameless f.path _ tree _ names.1 put).1 (grind (arith, nat_tests, names.0)) in
+    record {
+      good = All-tail IsGood _ _ (more.good h.good);
+      tree_entries = rw (folder_is_none [] _ none) at more.files ∙ rw (h.tree_entries, map_push _ _ f) refl;
+      nameless = none;
+      canonical = canonical_put f.path 125 tree _ (λ m. properties_canonical f lawful.short) put (omega arith) h.canonical;
+    }
 
-  pub tree_is : (files : List Given) → HaveTreePaths files → All (λ f. AreNonEmpty f.path) files → All (IsLawful piece_length) files
-      → All HasRoot files → IsTreeOf files (tree_made files)
-  tree_is files tree_paths named lawful rooted =
-      grows files tree_paths named IsTreeOf tree_begun
-      (λ i tree lt. file_more (lawful i nothing lt) (rooted i nothing lt))
+pub tree_is : (piece_length : ℕ) (files : List Given) → HaveTreePaths files → All (λ f. AreNonEmpty f.path) files → All (IsLawful piece_length) files
+    → All HasRoot files → IsTreeOf files (tree_made files)
+tree_is piece_length files tree_paths named lawful rooted =
+    grows files tree_paths named IsTreeOf tree_begun (λ i tree lt. file_more (lawful i nothing lt) (rooted i nothing lt))
 
 -- ---- the whole
 
