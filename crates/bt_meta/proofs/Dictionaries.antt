@@ -1,9 +1,6 @@
 -- What dictionaries have.
-use Rattle.bt_meta.proofs.Base.{◌≡◌, ◌⊎◌, inl, inr, ℕ, false, true, List, [], ◌∷◌, ◌++◌, length, Option, Some, refl, arith, unwrap_or, nat_eq, ◌==◌, option_and_then, pointwise, Vec, append-nil, and_parts, cases_Bool, nat_tests, Data, dictionary, Entries, no_entries, entry, data_of, entries_of, first_value_of, HasAscendingKeys, EntriesAscend, data_of-Bytes, data_of-Dict, Value, as_dictionary, has_key, dictionary_at, no_dictionary, tree_entries_below, tree_entries_among, is_node, tree_entries_of}
-use Rattle.std.proofs.Common.{ℤ}
+use Rattle.bt_meta.proofs.Base.{◌≡◌, inl, inr, ℕ, false, true, List, [], ◌∷◌, ◌++◌, length, Option, Some, refl, arith, unwrap_or, nat_eq, ◌==◌, option_and_then, pointwise, Vec, append-nil, and_parts, cases_Bool, nat_tests, Data, dictionary, Entries, no_entries, entry, data_of, entries_of, first_value_of, HasAscendingKeys, EntriesAscend, data_of-Dict, Value, as_dictionary, has_key, dictionary_at, no_dictionary, tree_entries_below, tree_entries_among, is_node, tree_entries_of}
 use Rattle.bt_bencode.specs.Dictionary.{field_of}
-use Rattle.bt_bencode.proofs.ValueData.{data_of-Int, data_of-List}
-use Rattle.bt_bencode.specs.declared.value.Value.{Int, Bytes}
 use Rattle.bt_meta.specs.Fields.{entries_in, is_dictionary, is_single}
 use Rattle.bt_bencode.specs.declared.value.Value.TheViews as views
 
@@ -77,9 +74,3 @@ at_key d key h = of_field _ (λ v e. field_ascends d _ v h e)
 pub nothing_ascends : EntriesAscend no_entries
 unfolding EntriesAscend
 nothing_ascends = tt
-
-pub no_dictionary_is : (v : Value) → ((x : ℤ) × (v ≡ Int x)) ⊎ (((x : Vec ℕ) × (v ≡ Bytes x)) ⊎ ((x : Vec Value) × (v ≡ views.List x)))
-    → is_dictionary (data_of v) ≡ false
-no_dictionary_is v (inl h) = rw (h.1, data_of-Int) refl
-no_dictionary_is v (inr (inl h)) = rw (h.1, data_of-Bytes) refl
-no_dictionary_is v (inr (inr h)) = rw (h.1, data_of-List) refl

@@ -40,7 +40,7 @@ module _ (key : List ℕ) where
   passed [] (suc i) h = refl
   passed (x ∷ es) (suc i) h =
       let other : pointwise nat_eq x.0.items key ≡ false = false_from_ne_true _ (λ same.
-          h 0 x (omega arith) (omega arith) (rw ((bytes_eq-Decides x.0.items key).0 same) (tied_itself nat_list_cmp_total key))) in
+      h 0 x (omega arith) (omega arith) (rw ((bytes_eq-Decides x.0.items key).0 same) (tied_itself nat_list_cmp_total key))) in
       rw other (passed es i (λ k d lt within. h (suc k) d (omega arith) (omega arith)))
 
   module _ (es : List (Vec ℕ × Value)) (ascend : EntriesAscend (entries_of es)) (i : ℕ) where
@@ -49,15 +49,15 @@ module _ (key : List ℕ) where
     found_here d lt equal =
         let here = λ (e : Vec ℕ × Value). exact_bytes (get_or es i e).0.items key (equal e) in
         let sorted = sorted_from_all_adjacent (on_total (λ (e : Vec ℕ × Value). e.0.items) nat_list_cmp_total) es d
-            (λ k next. rw add-one (next_before es k d ascend (rw add-one at next))) in
+        (λ k next. rw add-one (next_before es k d ascend (rw add-one at next))) in
         rw (drop_more es i d lt, (bytes_eq-Decides _ _).1 (here d)) at (passed es i (λ k e below within tied.
-            let less : IsBefore (get_or es k e).0.items key = rw (← here e) (Less-from_sorted _ es k i e sorted below lt) in
-            cc))
+        let less : IsBefore (get_or es k e).0.items key = rw (← here e) (Less-from_sorted _ es k i e sorted below lt) in
+        cc))
 
     pub not_found : IsBinarySearchResult (entry_cmp key) es (Err i) → None ≡ first_value_of (entries_of es) key
     not_found parted =
         let point = parted (searchable_from_sorted nat_list_cmp_total (λ e. e.0.items) _ _ (λ k d from lt.
-            rw (nat_list_cmp_total.antisymm _ (get_or es k d).0.items, add-one, next_before _ k d ascend (rw add-one at lt)) refl)) in
+        rw (nat_list_cmp_total.antisymm _ (get_or es k d).0.items, add-one, next_before _ k d ascend (rw add-one at lt)) refl)) in
         rw (drop_all (length es) es (omega arith)) at (passed es (length es) (λ k d lt within equal. elim (cases_lt k i) [
           | inl below ↦ let less = point.0 k d (omega arith) below in cc
           | inr above ↦ let greater = point.1 k d above within in cc

@@ -41,8 +41,8 @@ pub record AreLawful (piece_length : ℕ) (files : List Given) : Type 0 where
 alike_more : (before : List Given) (f : Given) → AreAlike before → conflict_with before f ≡ false → AreAlike (before ++ f ∷ [])
 alike_more before f h apart =
     let own : All (Agree f) before = λ k d lt some other same.
-        let filled : (f.length == 0) ≡ false = grind (arith, nat_tests) in
-        sym (no_conflict _ _ _ _ (none_of (λ (g : Given). is_conflict f.root f.length g.root g.length) _ (rw filled at apart) k d lt) other (sym same))
+    let filled : (f.length == 0) ≡ false = grind (arith, nat_tests) in
+    sym (no_conflict _ _ _ _ (none_of (λ (g : Given). is_conflict f.root f.length g.root g.length) _ (rw filled at apart) k d lt) other (sym same))
     in
     All-push (λ g. All (Agree g) (before ++ f ∷ [])) _ f
     (λ k d lt. All-push (Agree (get_or before k d)) before f (h k d lt) (λ some other same. sym (own k d lt other some (sym same))))
@@ -256,10 +256,13 @@ put_nameless : (path : List (List ℕ)) (d : Data) (old new : Entries) → has_n
     → (first_value_of old [] ≡ None) × (length path ≢ 0 → first_value_of new [] ≡ None)
 put_nameless [] d old new lawful put = (rw put.0 refl, λ some. absurd (some refl))
 put_nameless ([] ∷ path) d old new lawful put = cc
-put_nameless ((byte ∷ bytes) ∷ path) d old new lawful put = (elim put.split [
-  | inl s ↦ rw s.0 (rw (before_none _) at (nameless (byte ∷ bytes) put.earlier no_entries put.before))
-  | inr e ↦ rw e (nameless (byte ∷ bytes) put.earlier _ put.before)
-], λ some. rw put.new_is (nameless (byte ∷ bytes) put.earlier _ put.before))
+put_nameless ((byte ∷ bytes) ∷ path) d old new lawful put = (
+  elim put.split [
+    | inl s ↦ rw s.0 (rw (before_none _) at (nameless (byte ∷ bytes) put.earlier no_entries put.before))
+    | inr e ↦ rw e (nameless (byte ∷ bytes) put.earlier _ put.before)
+  ],
+  λ some. rw put.new_is (nameless (byte ∷ bytes) put.earlier _ put.before),
+)
 
 entries_ahead : (prefix : List (List ℕ)) (byte : ℕ) (bytes : List ℕ) (inner es : Entries)
     → tree_entries_among prefix (entries_before es (entry (byte ∷ bytes) (dictionary inner) no_entries))

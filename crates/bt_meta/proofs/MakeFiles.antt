@@ -87,8 +87,13 @@ none_in files ordered same h = (none_apart ordered).1
     (IsDistinct-IsPermutation _ (λ f g. or_comm (begins f.path g.path) (begins g.path f.path)) files _ same ((none_apart files).0 h))
 
 pub same_overlap : {files ordered : List Given} {b : Bool} → IsInTreeOrder files ordered → b ≡ have_overlap ordered → have_overlap files ≡ b
-same_overlap {files} {ordered} order is = grind (arith, none_in _ _ order.same, none_in _ _ (IsPermutation-sym _ _ order.same),
-    cases_Bool (have_overlap files), cases_Bool (have_overlap ordered))
+same_overlap {files} {ordered} order is = grind (
+  arith,
+  none_in _ _ order.same,
+  none_in _ _ (IsPermutation-sym _ _ order.same),
+  cases_Bool (have_overlap files),
+  cases_Bool (have_overlap ordered),
+)
 
 earlier_apart : (files : List Given) (i j : ℕ) (d : Given) → have_overlap files ≡ false → i < j → j < length files
     → begins (get_or files i d).path (get_or files j d).path ≡ false
@@ -116,9 +121,11 @@ module _ (files : List Given) (up : IsSortedBy is_before files) where
 pub tree_paths : {files ordered : List Given} → IsInTreeOrder files ordered → false ≡ have_overlap ordered → HaveTreePaths ordered
 tree_paths {files} {ordered} h none k d lt =
     let apart = earlier_apart ordered k (k + 1) d (sym none) (omega arith) lt in
-    let p = (get_or ordered k d).path in
-    (less_unless _ (λ level. true≢false
-    (sym (begins_between p _ p (h.ascending k d (omega arith) lt) level (or_left _ _ (begins_itself p))) ∙ apart)), apart)
+    let p = (get_or ordered k d).path in (
+      less_unless _ (λ level. true≢false
+          (sym (begins_between p _ p (h.ascending k d (omega arith) lt) level (or_left _ _ (begins_itself p))) ∙ apart)),
+      apart,
+    )
 
 -- ---- of references: whether a path begins the next one
 

@@ -1,5 +1,5 @@
 -- The files of a torrent take its pieces one after the other.
-use Rattle.bt_meta.proofs.Base.{◌≡◌, ◌≤◌, ◌<◌, ◌+◌, ◌-◌, ◌*◌, ℕ, List, length, map, refl, sym, ◌∙◌, ap, arith, inl, inr, leb, leb-true, true, false, [], ◌∷◌, Option, Some, None, rules, take, get_or, sum_by, IfSome, cases_lt, get_or-map, length-map, div_ceil, File, file_of, piece_count, Metainfo, IsLaidOut, FileEntry}
+use Rattle.bt_meta.proofs.Base.{◌≡◌, ◌≤◌, ◌<◌, ◌+◌, ◌-◌, ◌*◌, ℕ, List, length, map, refl, sym, ◌∙◌, ap, arith, leb, leb-true, true, false, [], ◌∷◌, Option, Some, None, rules, take, get_or, sum_by, IfSome, get_or-map, length-map, File, file_of, piece_count, Metainfo, IsLaidOut, FileEntry}
 use Rattle.std.specs.Prelude.{SomeIff, IfNone}
 use Rattle.std.proofs.lemmas.Bool.{leb-false}
 use Rattle.std.proofs.lemmas.List.{take-take}
@@ -39,7 +39,7 @@ entry_at files items same k e at listed d = rw (← same) (get_or-map file_of it
 pub entries_parted : (items : List FileEntry) (n piece : ℕ) → IsLaidOut n (map file_of items) → IsPartitionedBy (λ e. leb e.first_piece piece) items
 entries_parted items n piece lay = IsPartitionedBy-leb (λ e. e.first_piece) items piece (λ i j d le within.
     rw (get_or-map file_of items i d (file_of d) (omega arith), get_or-map file_of items j d (file_of d) within) at
-        (begins n (map file_of items) lay i j (file_of d) (rw length-map within) le))
+    (begins n (map file_of items) lay i j (file_of d) (rw length-map within) le))
 
 file_there : (P : File → Type 0) (items : List FileEntry) (k : ℕ) (d : File) → k < length items → ((e : FileEntry) → P (file_of (get_or items k e)))
     → P (get_or (map file_of items) k d)
@@ -58,11 +58,14 @@ module _ (items : List FileEntry) (piece point : ℕ) (h : IsPoint items piece p
   below_point (Some index) one =
       let some : 1 ≤ point = search rules in
       let p : index ≡ point - 1 = search rules in
-      rw p (record {
-        listed = omega (arith, length-map items file_of);
-        begun = λ d. file_there (λ f. f.first_piece ≤ piece) items _ d (omega arith) (λ e. leb-true _ _ (h.0 (point - 1) e (omega arith) (omega arith)));
-        last = λ k d after. behind k d (omega arith);
-      }, tt)
+      rw p (
+        record {
+          listed = omega (arith, length-map items file_of);
+          begun = λ d. file_there (λ f. f.first_piece ≤ piece) items _ d (omega arith) (λ e. leb-true _ _ (h.0 (point - 1) e (omega arith) (omega arith)));
+          last = λ k d after. behind k d (omega arith);
+        },
+        tt,
+      )
   below_point None one = (tt, λ k d. behind k d (omega (arith, one)))
 
 -- ---- the place of a range
