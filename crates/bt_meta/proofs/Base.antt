@@ -4,9 +4,9 @@ pub use Rattle.bt_bencode.specs.Dictionary.{first_value_of}
 pub use Rattle.bt_bencode.specs.Doc.{IsCanonical, IsBefore}
 unfoldable pub use Rattle.bt_bencode.specs.Doc.{EntriesAscend, HasAscendingKeys}
 unfoldable pub use Rattle.bt_bencode.specs.Spelling.{spelling_of}
-pub use Rattle.bt_bencode.specs.Value.{Entries, Data, entries_of, entry, data_of, string, dictionary, integer, no_entries, list}
+pub use Rattle.bt_bencode.specs.Value.{Entries, Data, entries_of, entry, data_of, string, dictionary, integer, no_entries}
 pub use Rattle.bt_bencode.specs.declared.value.Value.{Value}
-pub use Rattle.bt_meta.specs.Encode.{first_layer, info_made, AreLayersOf, value_made, properties_made}
+pub use Rattle.bt_meta.specs.Encode.{first_layer, AreLayersOf, value_made, properties_made}
 unfoldable pub use Rattle.bt_meta.specs.Encode.{tree_made, with_file}
 pub use Rattle.bt_meta.specs.EncodeSteps.{given_at, entries_before, is_nonempty, AreNonEmpty, AreBefore, ComesAfter, HasFirstLayers}
 pub use Rattle.bt_meta.specs.Faults.{first_of, entry_check, is_too_many, file_checks, has_lawful_name, conflict, fault_if, layer_check, is_piece_length, is_element, is_path}
@@ -39,7 +39,7 @@ pub use Rattle.bt_meta.specs.declared.writer.Made.{Made}
 pub use Rattle.bt_meta.specs.declared.writer.MakeError.TheVariants.{Count}
 pub use Rattle.bt_tree.specs.Limits.{max_file_length, max_piece_length}
 pub use Rattle.sha2.specs.Sha256.{sha256}
-pub use Rattle.std.proofs.Common.{ap, inr, ◌⊎◌, refl, List, get_or, sym, Bool, Option, ℕ, ◌+◌, ◌∷◌, false, inl, map, append_assoc, drop, ◌<◌, ◌≤◌, true, ◌≡◌, length, ◌∙◌, arith, take, None, Some, ◌++◌, [], ◌≢◌, length-append, subst, Err, Ok, Result, ◌^◌, rules, leb, ◌-◌, ◌*◌, suc, add-one, zero}
+pub use Rattle.std.proofs.Common.{ap, inr, ◌⊎◌, refl, List, get_or, sym, Bool, Option, ℕ, ◌+◌, ◌∷◌, false, inl, map, append_assoc, drop, ◌<◌, ◌≤◌, true, ◌≡◌, length, ◌∙◌, arith, take, None, Some, ◌++◌, [], ◌≢◌, length-append, Err, Ok, Result, ◌^◌, rules, leb, ◌-◌, ◌*◌, suc, add-one, zero}
 pub use Rattle.std.proofs.Math.Bool.{or-false}
 pub use Rattle.std.proofs.lemmas.Bool.{cases_Bool, and_parts, false_from_ne_true, true≢false, leb-true, cases_lt, or_parts}
 pub use Rattle.std.proofs.lemmas.Bool.Decides.{nat_tests}
