@@ -56,14 +56,11 @@ covered_limit n c above = least (2 ^ (run_height c - above)) (real_width n (c.ba
     least p r = omega arith
 
 -- a node that covers a block is one of these
-pub covered_here : (n : ℕ) (c : Claim) (above i : ℕ) → i < 2 ^ (run_height c - above)
-    → run_node c * 2 ^ (run_height c - above) + i < real_width n (c.base + above) → i < covered_count n c above
+pub covered_here : (n : ℕ) (c : Claim) (above i : ℕ) → run_node c * 2 ^ (run_height c - above) ≤ i
+    → i < run_node c * 2 ^ (run_height c - above) + 2 ^ (run_height c - above) → i < real_width n (c.base + above)
+    → i < run_node c * 2 ^ (run_height c - above) + covered_count n c above
 unfolding covered_count
-covered_here n c above i inside real =
-    least (2 ^ (run_height c - above)) (real_width n (c.base + above)) (run_node c * 2 ^ (run_height c - above)) i inside real
-  where
-    least : (p r f i : ℕ) → i < p → f + i < r → i < min p (r - f)
-    least p r f i a b = omega arith
+covered_here n c above i from to real = omega arith
 
 -- and behind them there is none
 pub covered_past : (n : ℕ) (c : Claim) (above : ℕ) → covered_count n c above < 2 ^ (run_height c - above)

@@ -1,10 +1,10 @@
-use Rattle.std.proofs.Common.{◌≡◌, ◌/◌, ◌++◌, ℕ, length, sym, ap, ◌∙◌, append-nil, append_assoc, subst, arith}
+use Rattle.std.proofs.Common.{◌≡◌, ◌/◌, ◌++◌, ℕ, length, append_assoc, subst, arith}
 use Rattle.bt_sparse.specs.ExpansionSteps.{level_pairs}
 use Rattle.bt_sparse.proofs.Expansions.{level_pairs_none, level_pairs_more, level_pair}
 use Rattle.bt_sparse.proofs.expansion.add_level.Goals as goal
 
 pub loop-i-init : goal.loop-i-init
-loop-i-init c = λ dig k above e nodes. sym (ap (λ ps. c.args.pairs.now.items ++ ps) (level_pairs_none dig k above c.args.first) ∙ append-nil c.args.pairs.now.items)
+loop-i-init c = λ dig k above e nodes. level_pairs_none dig k above c.args.first c.args.pairs.now.items
 
 pub loop-i-preserved : goal.loop-i-preserved
 loop-i-preserved c = λ dig k above e nodes.

@@ -1,10 +1,10 @@
-use Rattle.std.proofs.Common.{◌≡◌, ◌+◌, ◌-◌, ◌*◌, ◌/◌, ◌^◌, ◌<◌, ◌++◌, [], ℕ, List, length, take, refl, sym, ap, ◌∙◌, subst, append_assoc, arith}
+use Rattle.std.proofs.Common.{◌≡◌, ◌+◌, ◌-◌, ◌*◌, ◌/◌, ◌^◌, ◌<◌, ◌++◌, [], length, refl, sym, ap, ◌∙◌, arith}
 use Rattle.std.proofs.lemmas.List.{get_or_read, length-take-le}
 use Rattle.std.proofs.lemmas.Bool.Decides.{nat_tests}
 use Rattle.bt_tree.specs.Blocks.{block_count}
 use Rattle.bt_tree.specs.Peaks.{row_node}
 use Rattle.bt_sparse.specs.Claim.{run_height, run_node, run_digest}
-use Rattle.bt_sparse.specs.ExpansionSteps.{covered_count, run_pairs, level_pairs, AreRunNodes, AreParents}
+use Rattle.bt_sparse.specs.ExpansionSteps.{covered_count, run_pairs}
 use Rattle.bt_sparse.proofs.Expansions.{level_above, short_level, run_pairs_none}
 use Rattle.bt_sparse.proofs.Levels.{run_room, run_level, whole_level, padded_top}
 use Rattle.bt_sparse.proofs.expansion.add_run.Goals as goal
@@ -18,26 +18,13 @@ slice_bounds-run-end g c =
 pub loop-above-init : goal.loop-above-init
 loop-above-init g c =
     let half : c.div_ceil-count.result ≡ (covered_count (block_count c.args.geometry) c.args.claim.now 0 + 1) / 2 = omega (arith, c.covered_count.ensures.value, c.div_ceil-count.ensures) in
-    let run : take (2 * c.div_ceil-count.result) c.as_slice.result.now ≡ take (2 * c.div_ceil-count.result) c.args.claim.now.run = ap (λ (l : List (List ℕ)). take (2 * c.div_ceil-count.result) l) c.as_slice.ensures in
     let level = run_level g.H.NodeHash.digest (block_count c.args.geometry) c.args.claim.now c.div_ceil-count.result c.requires.shape half in
     let flat : run_height c.args.claim.now ≡ run_height c.args.claim.now - 0 = omega arith in
-    let start = c.requires.shape.start ∙ ap (λ h. run_node c.args.claim.now * 2 ^ h) flat in
-    let parents = subst (λ (l : List (List ℕ)). AreParents g.H.NodeHash.digest l c.in_ok-level.level.items (length l / 2)) run c.in_ok-level.ensures in
-    let step = level_above g.H.NodeHash.digest (block_count c.args.geometry) c.args.claim.now 0 (c.args.claim.now.index / 2) c.args.claim.now.index (take (2 * c.div_ceil-count.result) c.args.claim.now.run) c.in_ok-level.level.items
-    c.requires.shape.some start refl level.pairs level.nodes parents in
-    let nodes = subst (λ (n : ℕ). AreRunNodes g.H.NodeHash.digest c.args.claim.now 0 n (take (2 * c.div_ceil-count.result) c.args.claim.now.run)) step.doubled level.nodes in
-    let added = c.in_ok-add_level.ensures g.H.NodeHash.digest c.args.claim.now 0 (omega arith)
-    (subst (AreRunNodes g.H.NodeHash.digest c.args.claim.now 0 (2 * (c.args.claim.now.index / 2))) (sym run) nodes) in
-    record {
-      first = step.first_is;
-      size = step.size;
-      nodes = step.nodes;
-      pairs = added ∙ ap (λ (l : List (List ℕ)). c.args.pairs.now.items ++ level_pairs g.H.NodeHash.digest c.args.claim.now 0 (c.args.claim.now.index / 2) (length l / 2)) run
-          ∙ ap (λ ps. c.args.pairs.now.items ++ (ps ++ level_pairs g.H.NodeHash.digest c.args.claim.now 0 (c.args.claim.now.index / 2) (length (take (2 * c.div_ceil-count.result) c.args.claim.now.run) / 2)))
-          (sym (run_pairs_none g.H.NodeHash.digest (block_count c.args.geometry) c.args.claim.now))
-          ∙ ap (λ ps. c.args.pairs.now.items ++ ps) (sym step.pairs);
-      low = omega (arith, c.new-padding.ensures);
-    }
+    let step = level_above g.H.NodeHash.digest (block_count c.args.geometry) c.args.claim.now 0 c.args.claim.now.index _ c.in_ok-level.level.items c.args.pairs.now.items _ _
+    c.requires.shape.some (c.requires.shape.start ∙ ap (λ h. run_node c.args.claim.now * 2 ^ h) flat) level.pairs level.nodes (rw c.as_slice.ensures at c.in_ok-level.ensures)
+    (run_pairs_none g.H.NodeHash.digest (block_count c.args.geometry) c.args.claim.now c.args.pairs.now.items)
+    (λ nodes. rw c.as_slice.ensures at (c.in_ok-add_level.ensures g.H.NodeHash.digest c.args.claim.now 0 (omega arith) (rw c.as_slice.ensures nodes))) in
+    record { first = step.first_is; size = step.size; nodes = step.nodes; pairs = step.pairs; low = omega (arith, c.new-padding.ensures) }
 
 pub complete-requires : goal.complete-requires
 complete-requires g c = c.loop-above.invariant.low
@@ -60,22 +47,10 @@ loop-above-preserved g c =
     let under : c.loop-above.above < run_height c.args.claim.now = omega (arith, c.requires.layers, c.loop-above-test.true) in
     let level = whole_level g.H.NodeHash.digest (block_count c.args.geometry) c.args.claim.now c.loop-above.above c.loop-above.first (c.args.claim.now.base + c.loop-above.above) c.loop-above.level.items c.complete.new.level.items
     c.requires.shape c.requires.padded under refl w.first w.size w.nodes c.in_ok-complete.ensures.level in
-    let parents = subst (λ (l : List (List ℕ)). AreParents g.H.NodeHash.digest l c.in_ok-level-2.level.items (length l / 2)) c.deref-in-loop-above.ensures.value c.in_ok-level-2.ensures in
-    let step = level_above g.H.NodeHash.digest (block_count c.args.geometry) c.args.claim.now c.loop-above.above (c.loop-above.first / 2) c.loop-above.first c.complete.new.level.items c.in_ok-level-2.level.items
-    under w.first refl level.pairs level.nodes parents in
-    let nodes = subst (λ (n : ℕ). AreRunNodes g.H.NodeHash.digest c.args.claim.now c.loop-above.above n c.complete.new.level.items) step.doubled level.nodes in
-    let added = c.in_ok-add_level-2.ensures g.H.NodeHash.digest c.args.claim.now c.loop-above.above (omega arith)
-    (subst (AreRunNodes g.H.NodeHash.digest c.args.claim.now c.loop-above.above (2 * (c.loop-above.first / 2))) (sym c.deref.ensures.value) nodes) in
-    record {
-      first = step.first_is;
-      size = step.size;
-      nodes = step.nodes;
-      pairs = added ∙ ap (λ (l : List (List ℕ)). c.loop-above.pairs.items ++ level_pairs g.H.NodeHash.digest c.args.claim.now c.loop-above.above (c.loop-above.first / 2) (length l / 2)) c.deref.ensures.value
-          ∙ ap (λ ps. ps ++ level_pairs g.H.NodeHash.digest c.args.claim.now c.loop-above.above (c.loop-above.first / 2) (length c.complete.new.level.items / 2)) w.pairs
-          ∙ append_assoc c.args.pairs.now.items (run_pairs g.H.NodeHash.digest (block_count c.args.geometry) c.args.claim.now c.loop-above.above) _
-          ∙ ap (λ ps. c.args.pairs.now.items ++ ps) (sym step.pairs);
-      low = omega (arith, c.in_ok-complete.ensures.low);
-    }
+    let step = level_above g.H.NodeHash.digest (block_count c.args.geometry) c.args.claim.now c.loop-above.above c.loop-above.first c.complete.new.level.items c.in_ok-level-2.level.items
+    c.args.pairs.now.items _ _ under w.first level.pairs level.nodes (rw c.deref-in-loop-above.ensures.value at c.in_ok-level-2.ensures) w.pairs
+    (λ nodes. rw c.deref.ensures.value at (c.in_ok-add_level-2.ensures g.H.NodeHash.digest c.args.claim.now c.loop-above.above (omega arith) (rw c.deref.ensures.value nodes))) in
+    record { first = step.first_is; size = step.size; nodes = step.nodes; pairs = step.pairs; low = omega (arith, c.in_ok-complete.ensures.low) }
 
 pub rise-requires : goal.rise-requires
 rise-requires g c =
