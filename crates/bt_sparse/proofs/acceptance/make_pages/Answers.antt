@@ -29,5 +29,4 @@ loop-pair-preserved c =
     ]
 
 pub returns-clause-ready : goal.returns-clause-ready
-returns-clause-ready c =
-    subst (All (HasPlaces (block_count c.args.geometry) c.loop-pair.nodes)) (take_all c.loop-pair.pair-index c.args.pairs.now c.loop-pair-test.false) c.loop-pair.invariant.ready
+returns-clause-ready c = rw (take_all c.loop-pair.pair-index c.args.pairs.now c.loop-pair-test.false) at c.loop-pair.invariant.ready

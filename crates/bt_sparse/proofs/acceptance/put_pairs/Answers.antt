@@ -28,20 +28,15 @@ loop-pair-preserved c =
       limit = omega (arith, w.limit, c.put-count.ensures.put.one, c.put-count-in-loop-pair.ensures.put.one);
       places = λ l t k. omega (arith, w.places l t k, c.put-count.ensures.longer l t k, c.put-count-in-loop-pair.ensures.longer l t k);
       grown = λ dig k all agrees.
-          pair_more dig k (block_count c.args.geometry) (nodes_in c.args.nodes.now) (nodes_in c.loop-pair.nodes) (nodes_in c.put-count.new.nodes)
-          (nodes_in c.put-count-in-loop-pair.new.nodes) c.loop-pair.count c.put-count.result c.put-count-in-loop-pair.result c.loop-pair.pair-index c.args.pairs.now
-          (get_or c.args.pairs.now c.loop-pair.pair-index no_pair) no_pair c.loop-pair-test.true refl all agrees (w.grown dig k all agrees)
-          c.put-count.ensures.put c.put-count-in-loop-pair.ensures.put;
+          pair_more c.args.pairs.now c.loop-pair.pair-index no_pair c.loop-pair-test.true all agrees (w.grown dig k all agrees) c.put-count.ensures.put c.put-count-in-loop-pair.ensures.put;
     }
 
 pub loop-pair-init : goal.loop-pair-init
 loop-pair-init c = record {
   limit = omega arith;
   places = λ l t k. omega arith;
-  grown = λ dig k all agrees. none_more dig k (block_count c.args.geometry) (nodes_in c.args.nodes.now) (nodes_in c.args.nodes.now) c.args.pairs.now refl;
+  grown = λ dig k all agrees. none_more;
 }
 
 pub returns : goal.returns
-returns c = λ dig k all agrees.
-    subst (IsGrownBy dig k (block_count c.args.geometry) (nodes_in c.args.nodes.now) (nodes_in c.loop-pair.nodes) c.loop-pair.count)
-    (take_all c.loop-pair.pair-index c.args.pairs.now c.loop-pair-test.false) (c.loop-pair.invariant.grown dig k all agrees)
+returns c = λ dig k all agrees. rw (take_all c.loop-pair.pair-index c.args.pairs.now c.loop-pair-test.false) at (c.loop-pair.invariant.grown dig k all agrees)
