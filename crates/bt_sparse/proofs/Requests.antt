@@ -20,9 +20,9 @@ uncles_length : (count layers : ℕ) (ds : List (List ℕ)) → length ds ≡ an
 uncles_length count layers ds size = length-drop count ds ∙ omega (arith, size)
 
 -- a claim of an answer's size has the right shape
-pub request_shape : (h base index count layers : ℕ) (ds : List (List ℕ)) → IsRequest h base index count layers → length ds ≡ answer_size count layers
+pub request_shape : {h base index count layers : ℕ} → IsRequest h base index count layers → (ds : List (List ℕ)) → length ds ≡ answer_size count layers
     → HasShape h (claim_of base index count ds)
-request_shape h base index count layers ds r size =
+request_shape {h} {base} {index} {count} {layers} r ds size =
     let run = run_length count layers ds size in
     let uncles = uncles_length count layers ds size in
     record {
@@ -74,7 +74,7 @@ answer_inside h base index count layers t r within = elim (cases_lt t count) [
     beside ds size up lt =
         let level : height_of (length (take count ds)) ≡ height_of count = ap height_of (run_length count layers ds size) in
         let at = claimed_inside (λ x. x) h (claim_of base index count ds) (base + height_of count + up) (sibling_of (index / 2 ^ height_of count / 2 ^ up))
-        (get_or (drop count ds) up []) (request_shape h base index count layers ds r size)
+        (get_or (drop count ds) up []) (request_shape r ds size)
         (uncle record { above = up; here = rw level refl; within = omega (arith, uncles_length count layers ds size); node = rw level refl; digest = refl }) in
         record { in_height = at.0; in_width = at.1 }
 

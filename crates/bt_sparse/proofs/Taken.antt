@@ -51,19 +51,18 @@ module _ (dig : List ℕ → List ℕ) (k : Facts) (c : Claim) (rooted : IsRoote
         | inr was ↦ absurd (none_some e (sym (digest_at_empty layer i) ∙ was))
       ]
 
-module _ (dig : List ℕ → List ℕ) (k : Facts) (base index count layers : ℕ) (ds : List (List ℕ)) (rooted : IsRooted dig k)
-    (request : IsRequest (height k) base index count layers) (answer : IsAnswer dig k base index count layers ds) where
-  shape : HasShape (height k) (claim_of base index count ds)
-  shape = request_shape (height k) base index count layers ds request answer.size
+-- the claim's digest of each node is the answering tree's
+pub agree : (dig : List ℕ → List ℕ) (k : Facts) (base index count layers : ℕ) (ds : List (List ℕ)) → IsRooted dig k → IsRequest (height k) base index count layers
+    → IsAnswer dig k base index count layers ds → (layer i : ℕ) (d : List ℕ) → Claims dig (claim_of base index count ds) layer i d → value_at dig k layer i ≡ Some d
+agree dig k base index count layers ds rooted request answer = answers_agree dig k _ rooted (request_shape request ds answer.size) (made_of answer)
 
-  -- the claim's digest of each node is the answering tree's
-  pub agree : (layer i : ℕ) (d : List ℕ) → Claims dig (claim_of base index count ds) layer i d → value_at dig k layer i ≡ Some d
-  agree = answers_agree dig k _ rooted shape (made_of answer)
+pub answers_are_taken : (dig : List ℕ → List ℕ) (k other : Facts) (base index count layers : ℕ) (ds : List (List ℕ)) → IsRooted dig k
+    → IsRequest (height k) base index count layers → IsAnswer dig k base index count layers ds → other.file_length ≡ k.file_length
+    → IsSome (held_at other (top_layer (claim_of base index count ds)) (top_node (claim_of base index count ds)))
+    → Agrees dig other (claim_of base index count ds) → IsAcceptable dig other (claim_of base index count ds)
+answers_are_taken dig k other base index count layers ds rooted request answer = taken dig k _ rooted (request_shape request ds answer.size) (made_of answer) other
 
-  pub answers_are_taken : (other : Facts) → other.file_length ≡ k.file_length
-      → IsSome (held_at other (top_layer (claim_of base index count ds)) (top_node (claim_of base index count ds)))
-      → Agrees dig other (claim_of base index count ds) → IsAcceptable dig other (claim_of base index count ds)
-  answers_are_taken = taken dig k _ rooted shape (made_of answer)
-
-  pub answers_reach_roots : top_layer (claim_of base index count ds) ≡ height k → IsAcceptable dig (root_facts k.file_length k.root) (claim_of base index count ds)
-  answers_reach_roots = reaches_root dig k _ rooted shape (made_of answer)
+pub answers_reach_roots : (dig : List ℕ → List ℕ) (k : Facts) (base index count layers : ℕ) (ds : List (List ℕ)) → IsRooted dig k
+    → IsRequest (height k) base index count layers → IsAnswer dig k base index count layers ds → top_layer (claim_of base index count ds) ≡ height k
+    → IsAcceptable dig (root_facts k.file_length k.root) (claim_of base index count ds)
+answers_reach_roots dig k base index count layers ds rooted request answer = reaches_root dig k _ rooted (request_shape request ds answer.size) (made_of answer)
