@@ -2,7 +2,6 @@
 use Rattle.std.proofs.Common.{◌≡◌, ◌≢◌, ℕ, zero, suc, ◌+◌, ◌-◌, ◌*◌, ◌/◌, ◌^◌, ◌<◌, ◌≤◌, ◌⊎◌, inl, inr, Bool, true, false, not, eqb, List, ◌++◌, length, Some, Result, Ok, Err, IfErr, IsErrAnd, refl, sym, ap, ◌∙◌, length-append, arith}
 use Rattle.std.specs.List.{All}
 use lib.Pointwise.{pointwise}
-use Rattle.std.proofs.Math.Nat.{pow-suc}
 use Rattle.std.proofs.lemmas.Bool.{cases_lt}
 use Rattle.std.proofs.lemmas.List.Elements.{All-contains, All-weaker}
 use Rattle.bt_tree.specs.Limits.{max_height}
@@ -23,6 +22,7 @@ use Rattle.bt_sparse.specs.Claim.{Claims, HasShape, run_height, run_node, top_la
 use Rattle.bt_sparse.specs.Acceptance.{HasPadding, Agrees, IsAcceptable, Accepts, DiffersBelow, IsHighestClash, IsRefused, no_memory}
 use Rattle.bt_sparse.specs.ExpansionSteps.{level_pairs, covered_count, run_pairs, path_pairs, claimed_pairs, IsPairOf}
 use Rattle.bt_sparse.specs.AcceptanceSteps.{IsPairIn, IsPadded, HasNoDifference, IsNotHigher, IsHighestIn, IsAdded, AgreesAt, IsGrownBy, IsExpandedClaim}
+use Rattle.bt_sparse.proofs.Halves.{power_split}
 use Rattle.bt_sparse.proofs.Values.{value_covers, value_padding, value_inside, cases_node}
 use Rattle.bt_sparse.proofs.Claims.{one_digest, pair_of, last_of, which_child, claimed_inside, claim_inside}
 use Rattle.bt_sparse.proofs.Covered.{covered_limit, real_next}
@@ -44,39 +44,32 @@ pairs_in dig n h c shape high = All-weaker (IsPairOf dig c) (IsPairIn h) one (cl
           few = omega (arith, at.1, pow_le (h - (p.layer + 1)) 26 (omega (arith, at.0)));
         }
 
-level_pairs_length : (dig : List ℕ → List ℕ) (c : Claim) (above first n : ℕ) → length (level_pairs dig c above first n) ≡ n
-unfolding level_pairs
-level_pairs_length dig c above first zero = refl
-level_pairs_length dig c above first (suc n) = simp length-append (omega (arith, level_pairs_length dig c above first n))
+module _ (dig : List ℕ → List ℕ) (n : ℕ) (c : Claim) where
+  level_pairs_length : (above first count : ℕ) → length (level_pairs dig c above first count) ≡ count
+  unfolding level_pairs
+  level_pairs_length above first zero = refl
+  level_pairs_length above first (suc count) = simp length-append (omega (arith, level_pairs_length above first count))
 
-run_pairs_length : (dig : List ℕ → List ℕ) (n : ℕ) (c : Claim) (k : ℕ) → k ≤ run_height c → length (run_pairs dig n c k) + 2 ^ (run_height c - k) ≤ 2 ^ run_height c
-unfolding run_pairs
-run_pairs_length dig n c zero low =
-    let e : run_height c - 0 ≡ run_height c = omega arith in
-    let p : 2 ^ (run_height c - 0) ≡ 2 ^ run_height c = ap (λ k. 2 ^ k) e in
-    omega (arith, p)
-run_pairs_length dig n c (suc k) low =
-    let up : run_height c - k ≡ suc (run_height c - suc k) = omega arith in
-    let wide : 2 ^ (run_height c - k) ≡ 2 ^ (run_height c - suc k) * 2 = ap (λ k. 2 ^ k) up ∙ pow-suc 2 (run_height c - suc k) in
-    simp length-append
-    (omega (
-      arith,
-      wide,
-      run_pairs_length dig n c k (omega arith),
-      level_pairs_length dig c k (run_node c * 2 ^ (run_height c - suc k)) (covered_count n c (suc k)),
-      covered_limit n c (suc k),
-    ))
+  run_pairs_length : (k : ℕ) → k ≤ run_height c → length (run_pairs dig n c k) + 2 ^ (run_height c - k) ≤ 2 ^ run_height c
+  unfolding run_pairs
+  run_pairs_length zero low = let flat : run_height c - 0 ≡ run_height c = omega arith in omega (arith, ap (λ k. 2 ^ k) flat)
+  run_pairs_length (suc k) low =
+      let wide = power_split (run_height c - k) (run_height c - suc k) 1 (omega arith) in
+      simp length-append (omega (arith, run_pairs_length k (omega arith), level_pairs_length k (run_node c * 2 ^ (run_height c - suc k)) (covered_count n c (suc k)), covered_limit n c (suc k)))
 
-path_pairs_length : (dig : List ℕ → List ℕ) (c : Claim) (t : ℕ) → length (path_pairs dig c t) ≡ t
-unfolding path_pairs
-path_pairs_length dig c zero = refl
-path_pairs_length dig c (suc t) = simp length-append (omega (arith, path_pairs_length dig c t))
+  path_pairs_length : (t : ℕ) → length (path_pairs dig c t) ≡ t
+  unfolding path_pairs
+  path_pairs_length zero = refl
+  path_pairs_length (suc t) = simp length-append (omega (arith, path_pairs_length t))
 
 pub pairs_few : (dig : List ℕ → List ℕ) (n h : ℕ) (c : Claim) → HasShape h c → h ≤ max_height → length (claimed_pairs dig n c) < 2 ^ 28
-pairs_few dig n h c shape high =
-    let low : run_height c ≤ 26 = omega (arith, shape.in_height) in
-    simp length-append
-    (omega (arith, run_pairs_length dig n c (run_height c) (omega arith), path_pairs_length dig c (length c.uncles), pow_le (run_height c) 26 low, shape.in_height))
+pairs_few dig n h c shape high = simp length-append (omega (
+  arith,
+  run_pairs_length dig n c (run_height c) (omega arith),
+  path_pairs_length dig n c (length c.uncles),
+  pow_le (run_height c) 26 (omega (arith, shape.in_height)),
+  shape.in_height,
+))
 
 -- ---- padding
 -- below padding there is padding
@@ -216,9 +209,16 @@ module _ (dig : List ℕ → List ℕ) (k : Facts) (c : Claim) (f : Difference) 
   }
 
 -- ---- what is known after it
-pub grown_accepts : (dig : List ℕ → List ℕ) (k : Facts) (c : Claim) (nodes : Nodes) (count : ℕ) → IsAcceptable dig k c
-    → IsGrownBy dig c (blocks_of k) k.nodes nodes count (claimed_pairs dig (blocks_of k) c)
-    → Accepts dig k c record { file_length = k.file_length; root = k.root; nodes = nodes }
+-- to the held nodes, the pairs of the claim were added
+abbrev Grows : (List ℕ → List ℕ) → Facts → Claim → Nodes → ℕ → Type 0
+Grows dig k c nodes count = IsGrownBy dig c (blocks_of k) k.nodes nodes count (claimed_pairs dig (blocks_of k) c)
+
+-- the same tree with these nodes
+abbrev with_nodes : Facts → Nodes → Facts
+with_nodes k nodes = record { file_length = k.file_length; root = k.root; nodes = nodes }
+
+pub grown_accepts : (dig : List ℕ → List ℕ) (k : Facts) (c : Claim) (nodes : Nodes) (count : ℕ) → IsAcceptable dig k c → Grows dig k c nodes count
+    → Accepts dig k c (with_nodes k nodes)
 grown_accepts dig k c nodes count accepts h = record {
   conditions = accepts;
   joins = record {
@@ -260,17 +260,16 @@ equal_bytes xs ys r e fails = same_bytes xs ys _ refl (not_is false _ (sym e ∙
 pub grown_all : (dig : List ℕ → List ℕ) (k : Facts) (c : Claim) (e : Expansion) (blocks : ℕ) (mid old new : Nodes) (count : ℕ) (pairs : List ClaimedPair)
     → IsExpandedClaim dig k c e → blocks ≡ blocks_of k → mid ≡ old → old ≡ k.nodes → pairs ≡ e.pairs.items
     → ((a : Claim) → All (IsPairOf dig a) pairs → AgreesAt dig mid a → IsGrownBy dig a blocks mid new count pairs)
-    → IsGrownBy dig c (blocks_of k) k.nodes new count (claimed_pairs dig (blocks_of k) c)
+    → Grows dig k c new count
 grown_all dig k c e blocks mid old new count pairs h same kept start list put =
     let all : pairs ≡ claimed_pairs dig (blocks_of k) c = list ∙ h.expansion.pairs in
     rw (← all, ← same, ← start, ← kept) (put c (rw all (pairs_claimed dig (blocks_of k) c)) (rw (kept, start) h.conditions.agrees))
 
-pub grown_sound : (dig : List ℕ → List ℕ) (k : Facts) (c : Claim) (nodes : Nodes) (count : ℕ) → IsSound dig k → IsAcceptable dig k c
-    → IsGrownBy dig c (blocks_of k) k.nodes nodes count (claimed_pairs dig (blocks_of k) c)
-    → IsSound dig record { file_length = k.file_length; root = k.root; nodes = nodes }
+pub grown_sound : (dig : List ℕ → List ℕ) (k : Facts) (c : Claim) (nodes : Nodes) (count : ℕ) → IsSound dig k → IsAcceptable dig k c → Grows dig k c nodes count
+    → IsSound dig (with_nodes k nodes)
 grown_sound dig k c nodes count sound h grown = record {
   lawful = sound.lawful;
-  rooted = keeps_rooted dig k record { file_length = k.file_length; root = k.root; nodes = nodes } c (grown_accepts dig k c nodes count h grown) sound.rooted;
+  rooted = keeps_rooted dig k _ c (grown_accepts dig k c nodes count h grown) sound.rooted;
   digests = grown.grown.sizes sound.digests;
 }
 

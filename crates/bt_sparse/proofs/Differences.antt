@@ -1,14 +1,12 @@
 -- What the pairs of a claim show of a tree: whether their padding is right, and the highest difference.
-use Rattle.std.proofs.Common.{◌≡◌, ℕ, suc, ◌+◌, ◌-◌, ◌*◌, ◌/◌, ◌^◌, ◌<◌, ◌≤◌, ◌⊎◌, inl, inr, List, [], ◌∷◌, ◌++◌, length, take, get_or, Option, Some, None, refl, sym, ap, ◌∙◌, subst, append-nil, drop, replicate, arith}
+use Rattle.std.proofs.Common.{◌≡◌, ℕ, ◌+◌, ◌-◌, ◌*◌, ◌/◌, ◌<◌, ◌≤◌, ◌⊎◌, inl, inr, List, [], ◌∷◌, ◌++◌, length, take, get_or, Option, Some, None, refl, sym, ◌∙◌, subst, append-nil, replicate, arith}
 use borrow.Rule.Slice.PartMut.{put_mid}
-use Rattle.std.specs.List.{All, Contains}
+use Rattle.std.specs.List.{All}
 use Rattle.std.specs.Option.{unwrap_or, MatchOption, IfSome}
-use Rattle.std.proofs.Math.Nat.{pow-suc}
 use Rattle.std.proofs.lemmas.Bool.{cases_lt, cases_eq, lt-ltb, le-ltb, eq-eqb, ne_eqb}
 use Rattle.std.proofs.lemmas.List.Elements.{All-more, All-weaker, Contains-append_left, Contains-push}
 use Rattle.std.proofs.lemmas.List.{take_at, take_more, drop_at, drop_all}
-use Rattle.bt_tree.specs.TreeShape.{real_width, IsInside, IsPadding}
-use Rattle.bt_tree.specs.Tree.{padding_digest}
+use Rattle.bt_tree.specs.TreeShape.{real_width, IsPadding}
 use Rattle.bt_sparse.specs.declared.expansion.ClaimedPair.{ClaimedPair}
 use Rattle.bt_sparse.specs.declared.acceptance.Difference.{Difference}
 use Rattle.bt_sparse.specs.SparseTree.{Facts, blocks_of, height, held_at, value_at, IsRooted}

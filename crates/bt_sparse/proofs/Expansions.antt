@@ -19,10 +19,6 @@ use Rattle.bt_sparse.proofs.Claims.{half_below, at_top, half_sibling, path_suc, 
 use Rattle.bt_sparse.proofs.Covered.{real_next, half_first, covered_limit, covered_here}
 
 module _ (dig : List ℕ → List ℕ) (c : Claim) where
-  pub level_pairs_none : (above first : ℕ) (ps : List ClaimedPair) → ps ≡ ps ++ level_pairs dig c above first 0
-  unfolding level_pairs
-  level_pairs_none above first ps = sym (append-nil ps)
-
   pub level_pairs_more : (above first n : ℕ) → level_pairs dig c above first (n + 1) ≡ level_pairs dig c above first n ++ run_pair dig c above (first + n) ∷ []
   unfolding level_pairs
   level_pairs_more above first n = rw (add-one n) refl
@@ -58,10 +54,6 @@ module _ (dig : List ℕ → List ℕ) (c : Claim) where
   pub path_pairs_more : (t : ℕ) → path_pairs dig c (t + 1) ≡ path_pairs dig c t ++ path_pair dig c t ∷ []
   unfolding path_pairs
   path_pairs_more t = rw (add-one t) refl
-
-  pub path_pairs_none : (ps : List ClaimedPair) → ps ≡ ps ++ path_pairs dig c 0
-  unfolding path_pairs
-  path_pairs_none ps = sym (append-nil ps)
 
   pub path_first : path_digest dig c 0 ≡ row_node dig (run_digest c) (run_height c) (run_node c)
   unfolding path_digest

@@ -1,5 +1,5 @@
 -- Claimed nodes are put into a tree.
-use Rattle.std.proofs.Common.{◌≡◌, ◌≢◌, ℕ, ◌+◌, ◌*◌, ◌/◌, ◌%◌, ◌<◌, ◌≤◌, ◌↔◌, inl, inr, IsTrue, Bool, true, false, cond, List, [], length, take, get_or, Option, Some, None, refl, sym, ap, ◌∙◌, subst, arith}
+use Rattle.std.proofs.Common.{◌≡◌, ◌≢◌, ℕ, ◌+◌, ◌*◌, ◌/◌, ◌%◌, ◌<◌, ◌≤◌, ◌↔◌, inl, inr, IsTrue, Bool, true, false, cond, List, [], length, take, get_or, Option, Some, None, refl, sym, ap, ◌∙◌, arith}
 use mir.Val.{bool_byte}
 use Rattle.std.specs.FinMap as finite
 use Rattle.std.specs.List.{All}

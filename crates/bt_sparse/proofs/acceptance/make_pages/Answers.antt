@@ -1,9 +1,6 @@
-use Rattle.std.proofs.Common.{get_or, subst, ap, ◌∙◌, arith}
-use Rattle.std.specs.List.{All}
-use Rattle.std.proofs.lemmas.List.{take_all}
+use Rattle.std.proofs.Common.{get_or, ap, ◌∙◌, arith}
 use Rattle.bt_tree.specs.Blocks.{block_count}
 use Rattle.bt_sparse.specs.NodeMap.{nodes_in}
-use Rattle.bt_sparse.specs.AcceptanceSteps.{HasPlaces}
 use Rattle.bt_sparse.specs.declared.expansion.ClaimedPair.{ClaimedPair}
 use Rattle.bt_sparse.proofs.Differences.{no_pair}
 use Rattle.bt_sparse.proofs.Growths.{pair_places, places_more}
@@ -27,6 +24,3 @@ loop-pair-preserved c =
             (pair_places (block_count c.args.geometry) c.loop-pair.nodes p (λ real. absurd (omega (arith, c.real-width.ensures.value, w.if-pair-width.false, real)))));
       }
     ]
-
-pub returns-clause-ready : goal.returns-clause-ready
-returns-clause-ready c = rw (take_all c.loop-pair.pair-index c.args.pairs.now c.loop-pair-test.false) at c.loop-pair.invariant.ready

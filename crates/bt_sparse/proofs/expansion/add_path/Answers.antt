@@ -1,14 +1,6 @@
 use Rattle.std.proofs.Common.{◌/◌, [], get_or, ap, ◌∙◌, append_assoc, arith}
-use Rattle.bt_sparse.proofs.Expansions.{path_step, path_pairs_more, path_pairs_none, path_up}
+use Rattle.bt_sparse.proofs.Expansions.{path_step, path_pairs_more, path_up}
 use Rattle.bt_sparse.proofs.expansion.add_path.Goals as goal
-
-pub loop-uncle-init : goal.loop-uncle-init
-loop-uncle-init g c = record {
-  pairs = path_pairs_none g.H.NodeHash.digest c.args.claim.now c.args.pairs.now.items;
-  own = c.requires.digest;
-  node = rw c.requires.layers (omega arith);
-  layer = omega (arith, c.requires.layers);
-}
 
 pub loop-uncle-preserved : goal.loop-uncle-preserved
 loop-uncle-preserved g c =

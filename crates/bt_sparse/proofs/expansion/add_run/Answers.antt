@@ -1,10 +1,9 @@
-use Rattle.std.proofs.Common.{◌≡◌, ◌+◌, ◌-◌, ◌*◌, ◌/◌, ◌^◌, ◌<◌, ◌++◌, [], length, refl, sym, ap, ◌∙◌, arith}
+use Rattle.std.proofs.Common.{◌≡◌, ◌+◌, ◌-◌, ◌*◌, ◌/◌, ◌^◌, ◌<◌, [], length, refl, sym, ap, ◌∙◌, arith}
 use Rattle.std.proofs.lemmas.List.{get_or_read, length-take-le}
 use Rattle.std.proofs.lemmas.Bool.Decides.{nat_tests}
 use Rattle.bt_tree.specs.Blocks.{block_count}
-use Rattle.bt_tree.specs.Peaks.{row_node}
-use Rattle.bt_sparse.specs.Claim.{run_height, run_node, run_digest}
-use Rattle.bt_sparse.specs.ExpansionSteps.{covered_count, run_pairs}
+use Rattle.bt_sparse.specs.Claim.{run_height, run_node}
+use Rattle.bt_sparse.specs.ExpansionSteps.{covered_count}
 use Rattle.bt_sparse.proofs.Expansions.{level_above, short_level, run_pairs_none}
 use Rattle.bt_sparse.proofs.Levels.{run_room, run_level, whole_level, padded_top}
 use Rattle.bt_sparse.proofs.expansion.add_run.Goals as goal
@@ -27,9 +26,6 @@ loop-above-init g c =
     level.pairs level.nodes (rw c.as_slice.ensures at c.in_ok-level.ensures) (run_pairs_none dig n k c.args.pairs.now.items)
     (λ nodes. rw c.as_slice.ensures at (c.in_ok-add_level.ensures dig k 0 (omega arith) (rw c.as_slice.ensures nodes))) in
     record { first = step.first_is; size = step.size; nodes = step.nodes; pairs = step.pairs; low = omega (arith, c.new-padding.ensures) }
-
-pub complete-requires : goal.complete-requires
-complete-requires g c = c.loop-above.invariant.low
 
 pub add_level-requires-in-loop-above : goal.add_level-requires-in-loop-above
 add_level-requires-in-loop-above g c =
@@ -58,9 +54,6 @@ loop-above-preserved g c =
     (λ nodes. rw c.deref.ensures.value at (c.in_ok-add_level-2.ensures dig k c.loop-above.above (omega arith) (rw c.deref.ensures.value nodes))) in
     record { first = step.first_is; size = step.size; nodes = step.nodes; pairs = step.pairs; low = omega (arith, c.in_ok-complete.ensures.low) }
 
-pub rise-requires : goal.rise-requires
-rise-requires g c = omega (arith, c.loop-above.invariant.low, c.requires.layers, c.requires.shape.some)
-
 pub returns-then-is_empty-clause-digest : goal.returns-then-is_empty-clause-digest
 returns-then-is_empty-clause-digest g c =
     let all : c.loop-above.above ≡ c.args.layers = omega (arith, c.requires.layers, c.requires.shape.some) in
@@ -68,11 +61,6 @@ returns-then-is_empty-clause-digest g c =
     c.rise.ensures.digest
     ∙ padded_top g.H.NodeHash.digest (block_count c.args.geometry) c.args.claim.now c.args.layers (c.args.claim.now.base + c.args.layers) c.requires.shape c.requires.padded c.requires.layers refl
     (cc (c.loop-above.invariant.size))
-
-pub returns-then-is_empty-clause-pairs : goal.returns-then-is_empty-clause-pairs
-returns-then-is_empty-clause-pairs g c =
-    let all : c.loop-above.above ≡ c.args.layers = omega (arith, c.requires.layers, c.requires.shape.some) in
-    cc (c.loop-above.invariant.pairs)
 
 pub returns-clause-digest : goal.returns-clause-digest
 returns-clause-digest g c =
@@ -83,8 +71,3 @@ returns-clause-digest g c =
     let first : c.loop-above.first + 0 ≡ run_node k = omega (arith, w.first ∙ ap (λ m. run_node k * 2 ^ m) none) in
     let inside : 0 < length c.loop-above.level.items = let h = c.if-is_empty.ensures in grind (arith, nat_tests, c.loop-above.level.ok.0) in
     get_or_read c.loop-above.level.items 0 c.index.result.now inside c.index.ensures [] ∙ cc (w.nodes 0 inside)
-
-pub returns-clause-pairs : goal.returns-clause-pairs
-returns-clause-pairs g c =
-    let all : c.loop-above.above ≡ c.args.layers = omega (arith, c.requires.layers, c.requires.shape.some) in
-    cc (c.loop-above.invariant.pairs)
