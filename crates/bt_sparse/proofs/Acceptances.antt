@@ -19,7 +19,7 @@ use Rattle.bt_sparse.specs.declared.acceptance.Difference.{Difference}
 use Rattle.bt_sparse.specs.NodeMap.{Nodes, digest_at}
 use Rattle.bt_sparse.specs.SparseTree.{Facts, blocks_of, height, held_at, value_at, IsRooted, IsSound}
 use Rattle.bt_sparse.specs.Claim.{Claims, HasShape, run_height, run_node, top_layer, top_node, top_digest}
-use Rattle.bt_sparse.specs.Acceptance.{HasPadding, Agrees, IsAcceptable, Accepts, DiffersBelow, IsHighestClash, IsRefused, no_memory}
+use Rattle.bt_sparse.specs.Acceptance.{HasPadding, Agrees, IsAcceptable, Accepts, IsHighestClash, IsRefused, no_memory}
 use Rattle.bt_sparse.specs.ExpansionSteps.{level_pairs, covered_count, run_pairs, path_pairs, claimed_pairs, IsPairOf}
 use Rattle.bt_sparse.specs.AcceptanceSteps.{IsPairIn, IsPadded, HasNoDifference, IsNotHigher, IsHighestIn, IsAdded, AgreesAt, IsGrownBy, IsExpandedClaim}
 use Rattle.bt_sparse.proofs.Halves.{power_split}
@@ -109,25 +109,6 @@ list_cases xs ys = go (pointwise eqb xs ys) refl
 
 module _ (dig : List ℕ → List ℕ) (k : Facts) (c : Claim) (f : Difference) (shape : HasShape (height k) c) (rooted : IsRooted dig k) (padding : HasPadding dig k c)
     (top : held_at k (top_layer c) (top_node c) ≡ Some (top_digest dig c)) (h : IsHighestIn dig k (claimed_pairs dig (blocks_of k) c) f) where
-  -- below this node the tree and the claim differ, by these two digests each
-  differs_below : (layer i : ℕ) (l r left right : List ℕ) → value_at dig k layer (2 * i) ≡ Some l → value_at dig k layer (2 * i + 1) ≡ Some r
-      → IsPairOf dig c record { layer = layer; index = i; left = left; right = right } → (l ≢ left) ⊎ (r ≢ right) → DiffersBelow dig k c (layer + 1) i (l ++ r) (left ++ right)
-  differs_below layer i l r left right knows_left knows_right claimed differ = record {
-    below = layer;
-    above = refl;
-    our_left = l;
-    our_right = r;
-    their_left = left;
-    their_right = right;
-    knows_left = knows_left;
-    knows_right = knows_right;
-    claims_left = claimed.left;
-    claims_right = claimed.right;
-    is_ours = refl;
-    is_theirs = refl;
-    differ = differ;
-  }
-
   -- of a node that covers no block the tree and the claim say the padding's digest
   both_padded : (layer i : ℕ) (ours theirs : List ℕ) → Claims dig c layer i theirs → value_at dig k layer i ≡ Some ours → real_width (blocks_of k) layer ≤ i → ours ≡ theirs
   both_padded layer i ours theirs claim value past =
@@ -135,23 +116,25 @@ module _ (dig : List ℕ → List ℕ) (k : Facts) (c : Claim) (f : Difference) 
       cc (value_padding dig k layer i node, padding layer i theirs claim node)
 
   -- nothing differs above the highest difference
-  highest : (l j : ℕ) (o t : List ℕ) → DiffersBelow dig k c l j o t → (l < f.pair.layer + 1) ⊎ ((l ≡ f.pair.layer + 1) × (f.pair.index ≤ j))
-  highest l j o t d = elim (cases_lt d.below (top_layer c)) [
-    | inl low ↦ elim (cases_lt (2 * j) (real_width (blocks_of k) d.below)) [
+  highest : (layer i : ℕ) (l r left right : List ℕ) → value_at dig k layer (2 * i) ≡ Some l → value_at dig k layer (2 * i + 1) ≡ Some r
+      → Claims dig c layer (2 * i) left → Claims dig c layer (2 * i + 1) right → (l ≢ left) ⊎ (r ≢ right)
+      → (layer < f.pair.layer) ⊎ ((layer ≡ f.pair.layer) × (f.pair.index ≤ i))
+  highest layer i l r left right knows_left knows_right claims_left claims_right differ = elim (cases_lt layer (top_layer c)) [
+    | inl low ↦ elim (cases_lt (2 * i) (real_width (blocks_of k) layer)) [
       | inl covers ↦
-          let node = pairs_have (blocks_of k) j d.claims_left low covers (omega arith) in
+          let node = pairs_have (blocks_of k) i claims_left low covers (omega arith) in
           elim (All-contains (λ p. HasNoDifference dig k p ⊎ IsNotHigher p f.pair) _ _ h.highest node.among) [
             | inl none ↦
-                let same = none d.our_left d.our_right d.knows_left d.knows_right in
-                absurd (elim d.differ [ inl a ↦ a (same.0 ∙ one_digest node.is.left d.claims_left) | inr b ↦ b (same.1 ∙ one_digest node.is.right d.claims_right) ])
-            | inr lower ↦ elim lower [ inl less ↦ inl (omega (arith, d.above, less)) | inr level ↦ inr (omega (arith, d.above, level.0), level.1) ]
+                let same = none l r knows_left knows_right in
+                absurd (elim differ [ inl a ↦ a (same.0 ∙ one_digest node.is.left claims_left) | inr b ↦ b (same.1 ∙ one_digest node.is.right claims_right) ])
+            | inr lower ↦ lower
           ]
-      | inr past ↦ absurd (elim d.differ [
-        | inl a ↦ a (both_padded _ _ _ _ d.claims_left d.knows_left past)
-        | inr b ↦ b (both_padded _ _ _ _ d.claims_right d.knows_right (omega (arith, past)))
+      | inr past ↦ absurd (elim differ [
+        | inl a ↦ a (both_padded _ _ _ _ claims_left knows_left past)
+        | inr b ↦ b (both_padded _ _ _ _ claims_right knows_right (omega arith))
       ])
     ]
-    | inr le ↦ absurd (omega (arith, (last_of d.claims_left le).node, (last_of d.claims_right le).node))
+    | inr le ↦ absurd (omega (arith, (last_of claims_left le).node, (last_of claims_right le).node))
   ]
 
   claimed : IsPairOf dig c f.pair
@@ -190,7 +173,7 @@ module _ (dig : List ℕ → List ℕ) (k : Facts) (c : Claim) (f : Difference) 
               | inl at ↦ inl (λ same. apart (cc (at.0, at.1, ours.left_value)))
               | inr at ↦ inr (λ same. apart (cc (at.0, at.1, ours.right_value)))
             ] in
-            elim (highest _ _ _ _ (differs_below _ _ _ _ _ _ ours.left_value ours.right_value theirs.is differ)) [ inl less ↦ omega (arith, less) | inr level ↦ omega (arith, level.0) ]
+            elim (highest _ _ _ _ _ _ ours.left_value ours.right_value theirs.is.left theirs.is.right differ) [ inl less ↦ omega (arith, less) | inr level ↦ omega (arith, level.0) ]
         | inr le ↦
             let last = last_of claimed.above le in
             let there : held_at k (f.pair.layer + 1) f.pair.index ≡ Some (top_digest dig c) = rw (last.here, last.node) top in
@@ -200,12 +183,29 @@ module _ (dig : List ℕ → List ℕ) (k : Facts) (c : Claim) (f : Difference) 
   pub is_clash : length f.left ≡ 32 → length f.pair.left ≡ 32
       → IsHighestClash dig k c (f.pair.layer + 1) f.pair.index (f.left ++ f.right) (f.pair.left ++ f.pair.right)
   is_clash ours theirs = record {
-    differs = differs_below _ _ _ _ _ _ h.differs.knows_left h.differs.knows_right claimed h.differs.differ;
+    differs = record {
+      below = f.pair.layer;
+      above = refl;
+      our_left = f.left;
+      our_right = f.right;
+      their_left = f.pair.left;
+      their_right = f.pair.right;
+      knows_left = h.differs.knows_left;
+      knows_right = h.differs.knows_right;
+      claims_left = claimed.left;
+      claims_right = claimed.right;
+      is_ours = refl;
+      is_theirs = refl;
+      differ = h.differs.differ;
+    };
     inputs = λ same.
         let parts = same_parts f.left f.pair.left f.right f.pair.right (ours ∙ sym theirs) same in
         elim h.differs.differ [ inl a ↦ a parts.0 | inr b ↦ b parts.1 ];
     digests = same_digests;
-    highest = highest;
+    highest = λ l j o t d. elim (highest _ _ _ _ _ _ d.knows_left d.knows_right d.claims_left d.claims_right d.differ) [
+      | inl less ↦ inl (omega (arith, d.above, less))
+      | inr level ↦ inr (omega (arith, d.above, level.0), level.1)
+    ];
   }
 
 -- ---- what is known after it

@@ -103,21 +103,14 @@ pair_more {n = n} {old = old} {new = new} pairs i d lt all agrees h left right =
     }
 
 -- ---- the pages of a claim's nodes
--- a page with places for the left node and all others of its layer has them for the pair
-pub pair_places : (n : ℕ) (layers : Layers) (p : ClaimedPair)
-    → (2 * p.index < real_width n p.layer → (i : ℕ) → i / page_length ≡ 2 * p.index / page_length → i < real_width n p.layer → HasPlace layers p.layer i)
-    → HasPlaces n layers p
-pair_places n layers p h = record {
-  left = λ real. h real (2 * p.index) refl real;
-  right = λ real. h (omega arith) (2 * p.index + 1) (omega arith) real;
-}
-
 pub place_stays : (old new : Layers) (layer i : ℕ) → KeepsPlaces old new → HasPlace old layer i → HasPlace new layer i
 place_stays old new layer i kept h = omega (arith, kept layer (i / table_length) (i % table_length / page_length), h)
 
+-- a page with places for the left node of one more pair and all others of its layer has them for the pair
 pub places_more : (n : ℕ) (old new : Layers) (pairs : List ClaimedPair) (i : ℕ) (d : ClaimedPair) → i < length pairs → KeepsPlaces old new
-    → All (HasPlaces n old) (take i pairs) → HasPlaces n new (get_or pairs i d) → All (HasPlaces n new) (take (i + 1) pairs)
+    → All (HasPlaces n old) (take i pairs) → (let p = get_or pairs i d in 2 * p.index < real_width n p.layer
+        → (j : ℕ) → j / page_length ≡ 2 * p.index / page_length → j < real_width n p.layer → HasPlace new p.layer j) → All (HasPlaces n new) (take (i + 1) pairs)
 places_more n old new pairs i d lt kept all here = All-more (HasPlaces n new) pairs i d lt (All-weaker (HasPlaces n old) (HasPlaces n new) (λ p was. record {
   left = λ real. place_stays old new p.layer (2 * p.index) kept (was.left real);
   right = λ real. place_stays old new p.layer (2 * p.index + 1) kept (was.right real);
-}) (take i pairs) all) here
+}) (take i pairs) all) record { left = λ real. here real _ refl real; right = λ real. here (omega arith) _ (omega arith) real }
