@@ -55,7 +55,8 @@ module _ (dig : List ℕ → List ℕ) (n : ℕ) (c : Claim) where
   run_pairs_length zero low = let flat : run_height c - 0 ≡ run_height c = omega arith in omega (arith, ap (λ k. 2 ^ k) flat)
   run_pairs_length (suc k) low =
       let wide = power_split (run_height c - k) (run_height c - suc k) 1 (omega arith) in
-      simp length-append (omega (arith, run_pairs_length k (omega arith), level_pairs_length k (run_node c * 2 ^ (run_height c - suc k)) (covered_count n c (suc k)), covered_limit n c (suc k)))
+      let level = level_pairs_length k (run_node c * 2 ^ (run_height c - suc k)) (covered_count n c (suc k)) in
+      simp length-append (omega (arith, run_pairs_length k (omega arith), covered_limit n c (suc k)))
 
   path_pairs_length : (t : ℕ) → length (path_pairs dig c t) ≡ t
   unfolding path_pairs
@@ -107,10 +108,11 @@ list_cases xs ys = go (pointwise eqb xs ys) refl
     go true e = inl (same_bytes xs ys (pointwise eqb xs ys) refl e)
     go false e = inr (other_bytes xs ys (pointwise eqb xs ys) refl e)
 
-module _ (dig : List ℕ → List ℕ) (k : Facts) (c : Claim) (f : Difference) (shape : HasShape (height k) c) (rooted : IsRooted dig k) (padding : HasPadding dig k c)
-    (top : held_at k (top_layer c) (top_node c) ≡ Some (top_digest dig c)) (h : IsHighestIn dig k (claimed_pairs dig (blocks_of k) c) f) where
+module _ (dig : List ℕ → List ℕ) (k : Facts) (c : Claim) (f : Difference) (shape : HasShape (height k) c) (rooted : IsRooted dig k)
+    (padding : HasPadding dig k c) (top : held_at k (top_layer c) (top_node c) ≡ Some (top_digest dig c)) (h : IsHighestIn dig k (claimed_pairs dig (blocks_of k) c) f) where
   -- of a node that covers no block the tree and the claim say the padding's digest
-  both_padded : (layer i : ℕ) (ours theirs : List ℕ) → Claims dig c layer i theirs → value_at dig k layer i ≡ Some ours → real_width (blocks_of k) layer ≤ i → ours ≡ theirs
+  both_padded : (layer i : ℕ) (ours theirs : List ℕ) → Claims dig c layer i theirs → value_at dig k layer i ≡ Some ours
+      → real_width (blocks_of k) layer ≤ i → ours ≡ theirs
   both_padded layer i ours theirs claim value past =
       let node : IsPadding (blocks_of k) layer i = record { inside = value_inside _ _ _ _ _ value; past = past } in
       cc (value_padding dig k layer i node, padding layer i theirs claim node)
@@ -155,7 +157,8 @@ module _ (dig : List ℕ → List ℕ) (k : Facts) (c : Claim) (f : Difference) 
     | inr b ↦ above (2 * f.pair.index + 1) f.right (omega arith) (differing_held _ _ _ claimed.right h.differs.knows_right b)
   ]
     where
-      above : (j : ℕ) (d : List ℕ) → j / 2 ≡ f.pair.index → held_at k f.pair.layer j ≡ Some d → held_at k (f.pair.layer + 1) f.pair.index ≡ Some (dig (f.left ++ f.right))
+      above : (j : ℕ) (d : List ℕ) → j / 2 ≡ f.pair.index → held_at k f.pair.layer j ≡ Some d
+          → held_at k (f.pair.layer + 1) f.pair.index ≡ Some (dig (f.left ++ f.right))
       above j d half at =
           let p = rooted.below f.pair.layer j d at (omega (arith, claimed.low, shape.in_height)) in
           cc (h.differs.knows_left, h.differs.knows_right)
@@ -173,7 +176,10 @@ module _ (dig : List ℕ → List ℕ) (k : Facts) (c : Claim) (f : Difference) 
               | inl at ↦ inl (λ same. apart (cc (at.0, at.1, ours.left_value)))
               | inr at ↦ inr (λ same. apart (cc (at.0, at.1, ours.right_value)))
             ] in
-            elim (highest _ _ _ _ _ _ ours.left_value ours.right_value theirs.is.left theirs.is.right differ) [ inl less ↦ omega (arith, less) | inr level ↦ omega (arith, level.0) ]
+            elim (highest _ _ _ _ _ _ ours.left_value ours.right_value theirs.is.left theirs.is.right differ) [
+              | inl less ↦ omega (arith, less)
+              | inr level ↦ omega (arith, level.0)
+            ]
         | inr le ↦
             let last = last_of claimed.above le in
             let there : held_at k (f.pair.layer + 1) f.pair.index ≡ Some (top_digest dig c) = rw (last.here, last.node) top in

@@ -1,11 +1,11 @@
 -- A claim that is made of what is known agrees with it.
-use Rattle.std.proofs.Common.{◌≡◌, ℕ, zero, suc, ◌+◌, ◌-◌, ◌*◌, ◌/◌, ◌^◌, ◌<◌, ◌≤◌, inl, inr, List, [], ◌++◌, length, get_or, Some, sym, ap, ◌∙◌, arith}
+use Rattle.std.proofs.Common.{◌≡◌, ℕ, zero, suc, ◌+◌, ◌-◌, ◌*◌, ◌/◌, ◌^◌, ◌<◌, ◌≤◌, inl, inr, List, ◌++◌, length, Some, sym, ap, ◌∙◌, arith}
 use Rattle.std.proofs.lemmas.Nat.{pow_pos, div-add-mod', mod_below}
 use Rattle.bt_tree.specs.Tree.{padding_digest}
 use Rattle.bt_tree.specs.Peaks.{row_node}
 use Rattle.bt_sparse.specs.SparseTree.{Facts, blocks_of, height, held_at, value_at, IsRooted}
 use Rattle.bt_sparse.specs.declared.claim.Claim.{Claim}
-use Rattle.bt_sparse.specs.Claim.{Claims, in_run, on_path, uncle, run_height, run_top, run_node, run_digest, path_node, path_digest, sibling_of, HasShape}
+use Rattle.bt_sparse.specs.Claim.{Claims, in_run, on_path, uncle, run_height, run_top, run_node, run_digest, path_node, path_digest, parent_digest, sibling_of, HasShape}
 use Rattle.bt_sparse.specs.Answer.{IsMadeOf}
 use Rattle.bt_sparse.proofs.Halves.{parity, power_split}
 use Rattle.bt_sparse.proofs.Values.{value_covers, value_padding, value_inside, cases_node, widths_halve}
@@ -27,8 +27,9 @@ value_above dig k layer i left right rooted low l r =
       | inr past ↦
           let here = value_padding dig k layer (2 * i) past in
           let beside = value_padding dig k layer (2 * i + 1) record { inside = value_inside _ _ _ _ _ r; past = omega (arith, past.past) } in
+          let room = power_split (height k - layer) (height k - (layer + 1)) 1 (omega arith) in
           let above = value_padding dig k (layer + 1) i record {
-            inside = record { in_height = omega arith; in_width = omega (arith, at.in_width, power_split (height k - layer) (height k - (layer + 1)) 1 (omega arith)) };
+            inside = record { in_height = omega arith; in_width = omega (arith, at.in_width) };
             past = widths_halve (blocks_of k) layer i past.past;
           } in
           let next : layer + 1 ≡ suc layer = omega arith in
@@ -37,11 +38,12 @@ value_above dig k layer i left right rooted low l r =
     ]
 
 module _ (dig : List ℕ → List ℕ) (k : Facts) (c : Claim) (rooted : IsRooted dig k) (shape : HasShape (height k) c) (answer : IsMadeOf dig k c) where
-  run_value : (above i : ℕ) → above ≤ run_height c → i / 2 ^ (run_height c - above) ≡ run_node c → value_at dig k (c.base + above) i ≡ Some (row_node dig (run_digest c) above i)
+  run_value : (above i : ℕ) → above ≤ run_height c → i / 2 ^ (run_height c - above) ≡ run_node c
+      → value_at dig k (c.base + above) i ≡ Some (row_node dig (run_digest c) above i)
   unfolding row_node
   run_value zero i low under =
       let flat : run_height c - 0 ≡ run_height c = omega arith in
-      let same : i / 2 ^ run_height c * 2 ^ run_height c ≡ c.index = ap (λ n. n * 2 ^ run_height c) (ap (λ m. i / 2 ^ m) (sym flat) ∙ under) ∙ sym (shape_start shape) in
+      let same : i / 2 ^ run_height c * 2 ^ run_height c ≡ c.index = cc (shape_start shape) in
       let whole = div-add-mod' i (2 ^ run_height c) in
       let rest = mod_below i (2 ^ run_height c) (pow_pos (run_height c)) in
       let here : c.index + (i - c.index) ≡ i = omega arith in
@@ -53,6 +55,19 @@ module _ (dig : List ℕ → List ℕ) (k : Facts) (c : Claim) (rooted : IsRoote
       λ j half. run_value above j (omega arith) (half_below (run_height c) above i j low half ∙ under) in
       cc (value_above dig k (c.base + above) i _ _ rooted (omega (arith, shape.in_height)) (below (2 * i) (omega arith)) (below (2 * i + 1) (omega arith)))
 
+  parent_value : (layer i : ℕ) (own other : List ℕ) → value_at dig k layer i ≡ Some own → value_at dig k layer (sibling_of i) ≡ Some other → layer < height k
+      → value_at dig k (layer + 1) (i / 2) ≡ Some (parent_digest dig i own other)
+  parent_value layer i own other here beside low = elim (parity i) [
+    | inl p ↦
+        let left : 2 * (i / 2) ≡ i = omega (arith, p.0) in
+        let right : 2 * (i / 2) + 1 ≡ sibling_of i = rw p.1 (omega (arith, p.0)) in
+        rw p.1 (value_above dig k layer (i / 2) own other rooted low (cc) (cc))
+    | inr p ↦
+        let left : 2 * (i / 2) ≡ sibling_of i = rw p.1 (omega (arith, p.0)) in
+        let right : 2 * (i / 2) + 1 ≡ i = omega (arith, p.0) in
+        rw p.1 (value_above dig k layer (i / 2) other own rooted low (cc) (cc))
+  ]
+
   path_value : (t : ℕ) → t ≤ length c.uncles → value_at dig k (run_top c + t) (path_node c t) ≡ Some (path_digest dig c t)
   unfolding path_digest
   path_value zero within =
@@ -63,21 +78,7 @@ module _ (dig : List ℕ → List ℕ) (k : Facts) (c : Claim) (rooted : IsRoote
   path_value (suc t) within =
       let half = path_suc c t in
       let next : run_top c + suc t ≡ run_top c + t + 1 = omega arith in
-      let here = path_value t (omega arith) in
-      let beside = answer.uncles t (omega arith) in
-      let above : (left right : List ℕ) → value_at dig k (run_top c + t) (2 * (path_node c t / 2)) ≡ Some left
-          → value_at dig k (run_top c + t) (2 * (path_node c t / 2) + 1) ≡ Some right → value_at dig k (run_top c + t + 1) (path_node c t / 2) ≡ Some (dig (left ++ right)) =
-      λ left right. value_above dig k (run_top c + t) (path_node c t / 2) left right rooted (omega (arith, shape.in_height)) in
-      elim (parity (path_node c t)) [
-        | inl p ↦
-            let left : 2 * (path_node c t / 2) ≡ path_node c t = omega (arith, p.0) in
-            let right : 2 * (path_node c t / 2) + 1 ≡ sibling_of (path_node c t) = rw p.1 (omega (arith, p.0)) in
-            rw p.1 (cc (above (path_digest dig c t) (get_or c.uncles t []) (cc) (cc)))
-        | inr p ↦
-            let left : 2 * (path_node c t / 2) ≡ sibling_of (path_node c t) = rw p.1 (omega (arith, p.0)) in
-            let right : 2 * (path_node c t / 2) + 1 ≡ path_node c t = omega (arith, p.0) in
-            rw p.1 (cc (above (get_or c.uncles t []) (path_digest dig c t) (cc) (cc)))
-      ]
+      cc (parent_value (run_top c + t) (path_node c t) _ _ (path_value t (omega arith)) (answer.uncles t (omega arith)) (omega (arith, shape.in_height)))
 
   pub answers_agree : (layer i : ℕ) (d : List ℕ) → Claims dig c layer i d → value_at dig k layer i ≡ Some d
   answers_agree layer i d (in_run h) = rw (h.here, h.digest) (run_value h.above i h.low h.under)

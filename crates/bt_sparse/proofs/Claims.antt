@@ -41,12 +41,13 @@ module _ (dig : List ℕ → List ℕ) (c : Claim) where
   run_pair_claimed above i low under = record {
     left = child (2 * i) (omega arith);
     right = child (2 * i + 1) (omega arith);
-    above = in_run record { above = suc above; here = omega arith; low = low; under = under; digest = row_parent dig (run_digest c) above i (2 * i) (2 * i + 1) refl refl };
+    above = in_run record { above = suc above; here = omega arith; low = low; under = under; digest = row_parent dig (run_digest c) above i _ _ refl refl };
     low = omega arith;
   }
     where
       child : (j : ℕ) → j / 2 ≡ i → Claims dig c (c.base + above) j (row_node dig (run_digest c) above j)
-      child j half = in_run record { above = above; here = refl; low = omega arith; under = half_below (run_height c) above i j low half ∙ under; digest = refl }
+      child j half =
+          in_run record { above = above; here = refl; low = omega arith; under = half_below (run_height c) above i j low half ∙ under; digest = refl }
 
   pub path_pair_claimed : (t : ℕ) → t < length c.uncles → IsPairOf dig c (path_pair dig c t)
   unfolding path_digest
@@ -94,7 +95,9 @@ pair_of {dig} {c} {layer} {i} claim low = go claim
 
     go : {d : List ℕ} → Claims dig c layer i d → IsClaimedPair dig c layer (i / 2)
     go (in_run h) = elim (cases_lt h.above (run_height c)) [
-      | inl lt ↦ rw h.here record { left = _; right = _; is = run_pair_claimed dig c h.above (i / 2) lt (sym (half_below (run_height c) h.above (i / 2) i lt refl) ∙ h.under) }
+      | inl lt ↦
+          let under = sym (half_below (run_height c) h.above (i / 2) i lt refl) ∙ h.under in
+          rw h.here record { left = _; right = _; is = run_pair_claimed dig c h.above (i / 2) lt under }
       | inr le ↦ path 0 (omega (arith, h.here, h.low)) (ap (λ j. j / 2) (at_top c h.above i le h.low h.under))
     ]
     go (on_path h) = path h.above h.here (ap (λ j. j / 2) h.node)
@@ -107,7 +110,9 @@ pub record IsTop (dig : List ℕ → List ℕ) (c : Claim) (layer i : ℕ) (d : 
   pub digest : d ≡ top_digest dig c
 
 pub last_of : {dig : List ℕ → List ℕ} {c : Claim} {layer i : ℕ} {d : List ℕ} → Claims dig c layer i d → top_layer c ≤ layer → IsTop dig c layer i d
-last_of {dig} {c} {layer} {i} {d} claim high = let at = go claim in record { here = at.0; node = at.1; digest = one_digest (rw (at.0, at.1) at claim) (top_claim dig c) }
+last_of {dig} {c} {layer} {i} {d} claim high =
+    let at = go claim in
+    record { here = at.0; node = at.1; digest = one_digest (rw (at.0, at.1) at claim) (top_claim dig c) }
   where
     go : Claims dig c layer i d → (layer ≡ top_layer c) × (i ≡ top_node c)
     go (in_run h) =
@@ -119,26 +124,26 @@ last_of {dig} {c} {layer} {i} {d} claim high = let at = go claim in record { her
 -- ---- the claimed nodes lie in the tree
 node_in : (h : ℕ) (c : Claim) → HasShape h c → run_node c < 2 ^ (h - run_top c)
 node_in h c shape =
-    let room : 2 ^ (h - c.base) ≡ 2 ^ (h - run_top c) * 2 ^ run_height c = power_split (h - c.base) (h - run_top c) (run_height c) (omega (arith, shape.in_height)) in
+    let room = power_split (h - c.base) (h - run_top c) (run_height c) (omega (arith, shape.in_height)) in
     div_below c.index (2 ^ run_height c) (2 ^ (h - run_top c)) (pow_pos (run_height c)) (omega (arith, shape.in_width, shape.some, room))
 
 path_in : (h : ℕ) (c : Claim) (t : ℕ) → HasShape h c → t ≤ length c.uncles → path_node c t < 2 ^ (h - (run_top c + t))
 path_in h c t shape within =
-    let room : 2 ^ (h - run_top c) ≡ 2 ^ (h - (run_top c + t)) * 2 ^ t = power_split (h - run_top c) (h - (run_top c + t)) t (omega (arith, shape.in_height)) in
+    let room = power_split (h - run_top c) (h - (run_top c + t)) t (omega (arith, shape.in_height)) in
     div_below (run_node c) (2 ^ t) (2 ^ (h - (run_top c + t))) (pow_pos t) (omega (arith, node_in h c shape, room))
 
-pub claimed_inside : (dig : List ℕ → List ℕ) (h : ℕ) (c : Claim) (layer i : ℕ) (d : List ℕ) → HasShape h c → Claims dig c layer i d → (layer ≤ h) × (i < 2 ^ (h - layer))
+pub claimed_inside : (dig : List ℕ → List ℕ) (h : ℕ) (c : Claim) (layer i : ℕ) (d : List ℕ) → HasShape h c → Claims dig c layer i d
+    → (layer ≤ h) × (i < 2 ^ (h - layer))
 claimed_inside dig h c layer i d shape (in_run r) =
     let power : 2 ^ (h - layer) ≡ 2 ^ (h - run_top c) * 2 ^ (run_height c - r.above) =
     power_split (h - layer) (h - run_top c) (run_height c - r.above) (omega (arith, shape.in_height, r.here, r.low)) in
     let below : i / 2 ^ (run_height c - r.above) < 2 ^ (h - run_top c) = rw r.under (node_in h c shape) in
-    (omega (arith, shape.in_height, r.here, r.low), rw power (below_times i (2 ^ (run_height c - r.above)) (2 ^ (h - run_top c)) (pow_pos (run_height c - r.above)) below))
+    (omega (arith, shape.in_height, r.here, r.low), rw power (below_times i _ _ (pow_pos (run_height c - r.above)) below))
 claimed_inside dig h c layer i d shape (on_path r) =
     (omega (arith, shape.in_height, r.here, r.within), rw (r.here, r.node) (path_in h c r.above shape r.within))
 claimed_inside dig h c layer i d shape (uncle r) =
-    let up : h - (run_top c + r.above) ≡ suc (h - (run_top c + r.above) - 1) = omega (arith, shape.in_height, r.within) in
-    let even : 2 ^ (h - (run_top c + r.above)) ≡ 2 ^ (h - (run_top c + r.above) - 1) * 2 = ap (λ n. 2 ^ n) up ∙ pow-suc 2 (h - (run_top c + r.above) - 1) in
-    let beside : run_node c / 2 ^ r.above < 2 ^ (h - (run_top c + r.above)) = path_in h c r.above shape (omega (arith, r.within)) in (
+    let even = power_split (h - (run_top c + r.above)) (h - (run_top c + r.above) - 1) 1 (omega (arith, shape.in_height, r.within)) in
+    let beside = path_in h c r.above shape (omega (arith, r.within)) in (
       omega (arith, shape.in_height, r.here, r.within),
       rw (r.here, r.node) (elim (parity (path_node c r.above)) [
         | inl p ↦ rw p.1 (omega (arith, p.0, even, beside))
@@ -146,7 +151,8 @@ claimed_inside dig h c layer i d shape (uncle r) =
       ]),
     )
 
-pub claim_inside : {dig : List ℕ → List ℕ} {n : ℕ} {c : Claim} {layer i : ℕ} {d : List ℕ} → HasShape (height_of n) c → Claims dig c layer i d → IsInside n layer i
+pub claim_inside : {dig : List ℕ → List ℕ} {n : ℕ} {c : Claim} {layer i : ℕ} {d : List ℕ} → HasShape (height_of n) c → Claims dig c layer i d
+    → IsInside n layer i
 claim_inside shape claim = let at = claimed_inside _ _ _ _ _ _ shape claim in record { in_height = at.0; in_width = at.1 }
 
 -- a claimed node is the left one or the right one of its pair

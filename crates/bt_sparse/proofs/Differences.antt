@@ -75,7 +75,8 @@ next_is dig k p (Some d) same h = (h, same)
 
 module _ (dig : List ℕ → List ℕ) (k : Facts) (ps : List ClaimedPair) (i : ℕ) (d : ClaimedPair) (lt : i < length ps) where
   -- the highest so far is as high as one more pair
-  stays : (f : Difference) → IsHighestIn dig k (take i ps) f → HasNoDifference dig k (get_or ps i d) ⊎ IsNotHigher (get_or ps i d) f.pair → IsHighestIn dig k (take (i + 1) ps) f
+  stays : (f : Difference) → IsHighestIn dig k (take i ps) f → HasNoDifference dig k (get_or ps i d) ⊎ IsNotHigher (get_or ps i d) f.pair
+      → IsHighestIn dig k (take (i + 1) ps) f
   stays f h here = record {
     among = rw (take_more ps i d lt) (Contains-append_left (take i ps) (get_or ps i d ∷ []) f.pair h.among);
     differs = h.differs;
@@ -88,7 +89,8 @@ module _ (dig : List ℕ → List ℕ) (k : Facts) (ps : List ClaimedPair) (i : 
   comes P e all below here = record {
     among = rw (take_more ps i d lt, here.1) (Contains-push (take i ps) (get_or ps i d));
     differs = here.0;
-    highest = All-more (λ p. HasNoDifference dig k p ⊎ IsNotHigher p e.pair) ps i d lt (All-weaker P _ below (take i ps) all) (inr (rw here.1 (inr (refl, omega arith))));
+    highest = All-more (λ p. HasNoDifference dig k p ⊎ IsNotHigher p e.pair) ps i d lt (All-weaker P _ below (take i ps) all)
+        (inr (rw here.1 (inr (refl, omega arith))));
   }
 
 pub highest_more : (dig : List ℕ → List ℕ) (k : Facts) (ps : List ClaimedPair) (i : ℕ) (d : ClaimedPair) (found next : Option Difference) → i < length ps
@@ -101,8 +103,10 @@ highest_more dig k ps i d (Some f) (Some e) lt h n =
       | inl above ↦ rw lt-ltb (new (inl above))
       | inr le ↦ elim (cases_eq e.pair.layer f.pair.layer) [
         | inl same ↦ elim (cases_lt e.pair.index f.pair.index) [
-          | inl left ↦ rw (le-ltb f.pair.layer e.pair.layer le, eq-eqb e.pair.layer f.pair.layer same, lt-ltb e.pair.index f.pair.index left) (new (inr (same, left)))
-          | inr right ↦ rw (le-ltb f.pair.layer e.pair.layer le, eq-eqb e.pair.layer f.pair.layer same, le-ltb e.pair.index f.pair.index right) (old (inr (same, right)))
+          | inl left ↦ rw (le-ltb f.pair.layer e.pair.layer le, eq-eqb e.pair.layer f.pair.layer same, lt-ltb e.pair.index f.pair.index left)
+              (new (inr (same, left)))
+          | inr right ↦ rw (le-ltb f.pair.layer e.pair.layer le, eq-eqb e.pair.layer f.pair.layer same, le-ltb e.pair.index f.pair.index right)
+              (old (inr (same, right)))
         ]
         | inr apart ↦ rw (le-ltb f.pair.layer e.pair.layer le, ne_eqb e.pair.layer f.pair.layer apart) (old (inl (omega arith)))
       ]
@@ -112,7 +116,8 @@ highest_more dig k ps i d (Some f) (Some e) lt h n =
     old lower = stays dig k ps i d lt f h (inr (subst (λ p. IsNotHigher p f.pair) n.1 lower))
 
     new : (f.pair.layer < e.pair.layer) ⊎ ((e.pair.layer ≡ f.pair.layer) × (e.pair.index < f.pair.index)) → IsHighestIn dig k (take (i + 1) ps) e
-    new higher = comes dig k ps i d lt (λ p. HasNoDifference dig k p ⊎ IsNotHigher p f.pair) e h.highest (λ p x. elim x [ inl none ↦ inl none | inr lower ↦ inr (lower_still p lower higher) ]) n
+    new higher = comes dig k ps i d lt (λ p. HasNoDifference dig k p ⊎ IsNotHigher p f.pair) e h.highest
+        (λ p x. elim x [ inl none ↦ inl none | inr lower ↦ inr (lower_still p lower higher) ]) n
       where
         lower_still : (p : ClaimedPair) → IsNotHigher p f.pair → (f.pair.layer < e.pair.layer) ⊎ ((e.pair.layer ≡ f.pair.layer) × (e.pair.index < f.pair.index))
             → IsNotHigher p e.pair

@@ -113,7 +113,10 @@ short_level c above first level short low from size =
 -- a claim of the right shape has a short run
 pub short_run : (h : ℕ) (c : Claim) → HasShape h c → h ≤ max_height → IsShort c
 short_run h c shape high = record {
-  some = elim (cases_lt 0 (run_height c)) [ inl lt ↦ lt | inr le ↦ (let none : run_height c ≡ 0 = omega arith in absurd (omega (arith, shape.some, shape.power, ap (λ k. 2 ^ k) none))) ];
+  some = elim (cases_lt 0 (run_height c)) [
+    | inl lt ↦ lt
+    | inr le ↦ let none : run_height c ≡ 0 = omega arith in absurd (omega (arith, shape.some, shape.power, ap (λ k. 2 ^ k) none))
+  ];
   power = shape.power;
   start = shape_start shape;
   narrow = omega (arith, shape.in_width, pow_le (h - c.base) 26 (omega arith));
@@ -172,7 +175,7 @@ module _ (dig : List ℕ → List ℕ) (n : ℕ) (c : Claim) where
   level_pairs_has above first zero i from to = absurd (omega arith)
   level_pairs_has above first (suc count) i from to = elim (cases_lt i (first + count)) [
     | inl lt ↦ Contains-append_left (level_pairs dig c above first count) _ _ (level_pairs_has above first count i from lt)
-    | inr le ↦ let last : i ≡ first + count = omega arith in rw last (Contains-push (level_pairs dig c above first count) (run_pair dig c above (first + count)))
+    | inr le ↦ let last : i ≡ first + count = omega arith in rw last (Contains-push (level_pairs dig c above first count) _)
   ]
 
   run_pairs_has : (top k i : ℕ) → k < top → top ≤ run_height c → i / 2 ^ (run_height c - k) ≡ run_node c → i < real_width n (c.base + k)
@@ -183,7 +186,7 @@ module _ (dig : List ℕ → List ℕ) (n : ℕ) (c : Claim) where
     | inl lt ↦ in_left (run_pairs dig n c top) _ (c.base + k) (i / 2) (run_pairs_has top k i lt (omega arith) under real)
     | inr le ↦
         let last : k ≡ top = omega arith in
-        let node : i / 2 / 2 ^ (run_height c - suc top) ≡ run_node c = sym (half_below (run_height c) top (i / 2) i (omega arith) refl) ∙ ap (λ m. i / 2 ^ (run_height c - m)) (sym last) ∙ under in
+        let node : i / 2 / 2 ^ (run_height c - suc top) ≡ run_node c = cc (half_below (run_height c) top (i / 2) i (omega arith) refl) in
         let times = ap (λ q. q * 2 ^ (run_height c - suc top)) node in
         let floor = div-mul-le_self (i / 2) (2 ^ (run_height c - suc top)) in
         let next = lt-div-mul-add {a = i / 2} {b = 2 ^ (run_height c - suc top)} (pow_pos (run_height c - suc top)) in
@@ -225,8 +228,8 @@ pub record IsNamedPair (dig : List ℕ → List ℕ) (n : ℕ) (c : Claim) (laye
   pub among : Contains (claimed_pairs dig n c) record { layer = layer; index = i; left = left; right = right }
   pub is : IsPairOf dig c record { layer = layer; index = i; left = left; right = right }
 
-pub pairs_have : {dig : List ℕ → List ℕ} {c : Claim} {layer i : ℕ} {d : List ℕ} (n j : ℕ) → Claims dig c layer i d → layer < top_layer c → i < real_width n layer
-    → i / 2 ≡ j → IsNamedPair dig n c layer j
+pub pairs_have : {dig : List ℕ → List ℕ} {c : Claim} {layer i : ℕ} {d : List ℕ} (n j : ℕ) → Claims dig c layer i d → layer < top_layer c
+    → i < real_width n layer → i / 2 ≡ j → IsNamedPair dig n c layer j
 pairs_have {dig} {c} {layer} {i} {d} n j claim low real half =
     let h = rw half at (has_pair dig n c layer i d claim low real) in
     record { left = h.left; right = h.right; among = h.among; is = All-contains (IsPairOf dig c) _ _ (pairs_claimed dig n c) h.among }

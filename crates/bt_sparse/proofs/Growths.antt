@@ -61,7 +61,10 @@ one_more {n = n} {layer = layer} {i = i} {d = d} {old = old} agrees h claim put 
       rw (put.covers real) record {
         grown = record {
           kept = λ l j f was. stays l j f (h.kept l j f was);
-          only = λ l j f at. elim (digest_at_cases old layer i l j d f at) [ inl is ↦ inr (rw (is.0, is.1, is.2) claim, rw (is.0, is.1) real) | inr was ↦ h.only l j f was ];
+          only = λ l j f at. elim (digest_at_cases old layer i l j d f at) [
+            | inl is ↦ inr (rw (is.0, is.1, is.2) claim, rw (is.0, is.1) real)
+            | inr was ↦ h.only l j f was
+          ];
           sizes = λ all l j f at. elim (digest_at_cases old layer i l j d f at) [ inl is ↦ ap length is.2 ∙ put.length_is | inr was ↦ h.sizes all l j f was ];
           size_is = omega (arith, h.size_is, size, ap finite.len (put.covers real));
         };
@@ -109,7 +112,8 @@ place_stays old new layer i kept h = omega (arith, kept layer (i / table_length)
 -- a page with places for the left node of one more pair and all others of its layer has them for the pair
 pub places_more : (n : ℕ) (old new : Layers) (pairs : List ClaimedPair) (i : ℕ) (d : ClaimedPair) → i < length pairs → KeepsPlaces old new
     → All (HasPlaces n old) (take i pairs) → (let p = get_or pairs i d in 2 * p.index < real_width n p.layer
-        → (j : ℕ) → j / page_length ≡ 2 * p.index / page_length → j < real_width n p.layer → HasPlace new p.layer j) → All (HasPlaces n new) (take (i + 1) pairs)
+    → (j : ℕ) → j / page_length ≡ 2 * p.index / page_length → j < real_width n p.layer → HasPlace new p.layer j)
+    → All (HasPlaces n new) (take (i + 1) pairs)
 places_more n old new pairs i d lt kept all here = All-more (HasPlaces n new) pairs i d lt (All-weaker (HasPlaces n old) (HasPlaces n new) (λ p was. record {
   left = λ real. place_stays old new p.layer (2 * p.index) kept (was.left real);
   right = λ real. place_stays old new p.layer (2 * p.index + 1) kept (was.right real);

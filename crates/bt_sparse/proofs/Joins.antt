@@ -43,7 +43,8 @@ keeps_rooted dig old new c h rooted =
       right_value = value_kept _ _ _ _ _ _ _ joins p.right_value;
       parent = joins.kept _ _ _ p.parent;
     } in
-    let came_below : (layer i : ℕ) (d : List ℕ) → Claims dig c layer i d → CoversBlock (blocks_of old) layer i → layer < height old → HasParent dig new layer (i / 2) =
+    let came_below : (layer i : ℕ) (d : List ℕ) → Claims dig c layer i d → CoversBlock (blocks_of old) layer i → layer < height old
+    → HasParent dig new layer (i / 2) =
     λ layer i d claim covers low. elim (cases_lt layer (top_layer c)) [
       | inl lt ↦ let p = pair_of claim lt in record {
         left = p.left;

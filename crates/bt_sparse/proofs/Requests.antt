@@ -82,7 +82,8 @@ answer_inside h base index count layers t r within = elim (cases_lt t count) [
 pub known_padding : (dig : List ℕ → List ℕ) (k : Facts) (layer i : ℕ) → IsPadding (blocks_of k) layer i → value_at dig k layer i ≢ None
 known_padding dig k layer i past e = cc (value_padding dig k layer i past)
 
-pub known_held : (dig : List ℕ → List ℕ) (k : Facts) (layer i : ℕ) → CoversBlock (blocks_of k) layer i → IsSome (held_at k layer i) → value_at dig k layer i ≢ None
+pub known_held : (dig : List ℕ → List ℕ) (k : Facts) (layer i : ℕ) → CoversBlock (blocks_of k) layer i → IsSome (held_at k layer i)
+    → value_at dig k layer i ≢ None
 known_held dig k layer i covers some e = go (held_at k layer i) (sym (value_covers dig k layer i covers) ∙ e) some
   where
     go : (o : Option (List ℕ)) → o ≡ None → IsSome o → ⊥
@@ -101,7 +102,8 @@ known_value dig k layer i pad rooted inside e known = go (held_at k layer i) ref
     ]
     go (Some d) h = rw h (cc (left_value _ _ _ _ _ rooted h))
 
-pub held_known : (dig : List ℕ → List ℕ) (k : Facts) (layer i : ℕ) → CoversBlock (blocks_of k) layer i → value_at dig k layer i ≢ None → IsSome (held_at k layer i)
+pub held_known : (dig : List ℕ → List ℕ) (k : Facts) (layer i : ℕ) → CoversBlock (blocks_of k) layer i → value_at dig k layer i ≢ None
+    → IsSome (held_at k layer i)
 held_known dig k layer i covers known = go (held_at k layer i) (λ h. known (value_covers dig k layer i covers ∙ h))
   where
     go : (o : Option (List ℕ)) → o ≢ None → IsSome o

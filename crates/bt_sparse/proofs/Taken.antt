@@ -6,7 +6,7 @@ use Rattle.std.proofs.lemmas.Bool.{false≢true}
 use Rattle.bt_tree.specs.Blocks.{block_count}
 use Rattle.bt_tree.specs.TreeShape.{height_of, IsPadding}
 use Rattle.bt_sparse.specs.declared.claim.Claim.{Claim}
-use Rattle.bt_sparse.specs.SparseTree.{Facts, height, held_at, value_at, root_facts, IsRooted}
+use Rattle.bt_sparse.specs.SparseTree.{Facts, blocks_of, height, held_at, value_at, root_facts, IsRooted}
 use Rattle.bt_sparse.specs.Claim.{Claims, HasShape, top_layer, top_node, top_digest}
 use Rattle.bt_sparse.specs.Acceptance.{Agrees, IsAcceptable}
 use Rattle.bt_sparse.specs.Answer.{IsRequest, IsAnswer, IsMadeOf, claim_of}
@@ -18,11 +18,13 @@ use Rattle.bt_sparse.proofs.Requests.{request_shape, made_of}
 use Rattle.bt_sparse.proofs.Answers.{answers_agree}
 
 module _ (dig : List ℕ → List ℕ) (k : Facts) (c : Claim) (rooted : IsRooted dig k) (shape : HasShape (height k) c) (made : IsMadeOf dig k c) where
-  taken : (other : Facts) → other.file_length ≡ k.file_length → IsSome (held_at other (top_layer c) (top_node c)) → Agrees dig other c → IsAcceptable dig other c
+  taken : (other : Facts) → other.file_length ≡ k.file_length → IsSome (held_at other (top_layer c) (top_node c))
+      → Agrees dig other c → IsAcceptable dig other c
   taken other same some agrees = record {
     shape = subst (λ h. HasShape h c) (ap (λ n. height_of (block_count n)) (sym same)) shape;
     padding = λ layer i d claim past.
-        same_value _ _ _ (answers_agree dig k c rooted shape made layer i d claim) (value_padding dig k layer i (subst (λ n. IsPadding (block_count n) layer i) same past));
+        let here : IsPadding (blocks_of k) layer i = subst (λ n. IsPadding (block_count n) layer i) same past in
+        same_value _ _ _ (answers_agree dig k c rooted shape made layer i d claim) (value_padding dig k layer i here);
     top = go (held_at other (top_layer c) (top_node c)) refl some;
     agrees = agrees;
   }
@@ -52,15 +54,17 @@ module _ (dig : List ℕ → List ℕ) (k : Facts) (c : Claim) (rooted : IsRoote
       ]
 
 -- the claim's digest of each node is the answering tree's
-pub agree : (dig : List ℕ → List ℕ) (k : Facts) (base index count layers : ℕ) (ds : List (List ℕ)) → IsRooted dig k → IsRequest (height k) base index count layers
-    → IsAnswer dig k base index count layers ds → (layer i : ℕ) (d : List ℕ) → Claims dig (claim_of base index count ds) layer i d → value_at dig k layer i ≡ Some d
+pub agree : (dig : List ℕ → List ℕ) (k : Facts) (base index count layers : ℕ) (ds : List (List ℕ)) → IsRooted dig k
+    → IsRequest (height k) base index count layers → IsAnswer dig k base index count layers ds
+    → (layer i : ℕ) (d : List ℕ) → Claims dig (claim_of base index count ds) layer i d → value_at dig k layer i ≡ Some d
 agree dig k base index count layers ds rooted request answer = answers_agree dig k _ rooted (request_shape request ds answer.size) (made_of answer)
 
 pub answers_are_taken : (dig : List ℕ → List ℕ) (k other : Facts) (base index count layers : ℕ) (ds : List (List ℕ)) → IsRooted dig k
     → IsRequest (height k) base index count layers → IsAnswer dig k base index count layers ds → other.file_length ≡ k.file_length
     → IsSome (held_at other (top_layer (claim_of base index count ds)) (top_node (claim_of base index count ds)))
     → Agrees dig other (claim_of base index count ds) → IsAcceptable dig other (claim_of base index count ds)
-answers_are_taken dig k other base index count layers ds rooted request answer = taken dig k _ rooted (request_shape request ds answer.size) (made_of answer) other
+answers_are_taken dig k other base index count layers ds rooted request answer =
+    taken dig k _ rooted (request_shape request ds answer.size) (made_of answer) other
 
 pub answers_reach_roots : (dig : List ℕ → List ℕ) (k : Facts) (base index count layers : ℕ) (ds : List (List ℕ)) → IsRooted dig k
     → IsRequest (height k) base index count layers → IsAnswer dig k base index count layers ds → top_layer (claim_of base index count ds) ≡ height k

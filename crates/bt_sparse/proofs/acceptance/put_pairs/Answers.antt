@@ -10,5 +10,6 @@ loop-pair-preserved c =
       limit = omega (arith, w.limit, c.put-count.ensures.put.one, c.put-count-in-loop-pair.ensures.put.one);
       places = λ l t k. omega (arith, w.places l t k, c.put-count.ensures.longer l t k, c.put-count-in-loop-pair.ensures.longer l t k);
       grown = λ dig k all agrees.
-          pair_more c.args.pairs.now c.loop-pair.pair-index no_pair c.loop-pair-test.true all agrees (w.grown dig k all agrees) c.put-count.ensures.put c.put-count-in-loop-pair.ensures.put;
+          pair_more c.args.pairs.now c.loop-pair.pair-index no_pair c.loop-pair-test.true all agrees (w.grown dig k all agrees)
+          c.put-count.ensures.put c.put-count-in-loop-pair.ensures.put;
     }

@@ -10,7 +10,8 @@ use Rattle.bt_sparse.proofs.expansion.add_run.Goals as goal
 
 pub slice_bounds-run-end : goal.slice_bounds-run-end
 slice_bounds-run-end g c =
-    let half : c.div_ceil-count.result ≡ (covered_count (block_count c.args.geometry) c.args.claim.now 0 + 1) / 2 = omega (arith, c.covered_count.ensures.value, c.div_ceil-count.ensures) in
+    let half : c.div_ceil-count.result ≡ (covered_count (block_count c.args.geometry) c.args.claim.now 0 + 1) / 2 =
+    omega (arith, c.covered_count.ensures.value, c.div_ceil-count.ensures) in
     let room = run_room (block_count c.args.geometry) c.args.claim.now c.div_ceil-count.result c.requires.shape half in
     sym (length-take-le (2 * c.div_ceil-count.result) c.as_slice.result.now (omega (arith, ap length c.as_slice.ensures)))
 
@@ -22,8 +23,8 @@ loop-above-init g c =
     let half : c.div_ceil-count.result ≡ (covered_count n k 0 + 1) / 2 = omega (arith, c.covered_count.ensures.value, c.div_ceil-count.ensures) in
     let level = run_level dig n k c.div_ceil-count.result c.requires.shape half in
     let flat : run_height k ≡ run_height k - 0 = omega arith in
-    let step = level_above dig n k 0 k.index _ c.in_ok-level.level.items c.args.pairs.now.items _ _ c.requires.shape.some (c.requires.shape.start ∙ ap (λ h. run_node k * 2 ^ h) flat)
-    level.pairs level.nodes (rw c.as_slice.ensures at c.in_ok-level.ensures) (run_pairs_none dig n k c.args.pairs.now.items)
+    let step = level_above dig n k 0 k.index _ c.in_ok-level.level.items c.args.pairs.now.items _ _ c.requires.shape.some
+    (c.requires.shape.start ∙ ap (λ h. run_node k * 2 ^ h) flat) level.pairs level.nodes (rw c.as_slice.ensures at c.in_ok-level.ensures) (run_pairs_none dig n k c.args.pairs.now.items)
     (λ nodes. rw c.as_slice.ensures at (c.in_ok-add_level.ensures dig k 0 (omega arith) (rw c.as_slice.ensures nodes))) in
     record { first = step.first_is; size = step.size; nodes = step.nodes; pairs = step.pairs; low = omega (arith, c.new-padding.ensures) }
 
@@ -32,7 +33,7 @@ add_level-requires-in-loop-above g c =
     let k = c.args.claim.now in
     let w = c.loop-above.invariant in
     let under : c.loop-above.above < run_height k = omega (arith, c.requires.layers, c.loop-above-test.true) in
-    let level = whole_level g.H.NodeHash.digest (block_count c.args.geometry) k c.loop-above.above c.loop-above.first (k.base + c.loop-above.above) c.loop-above.level.items c.complete.new.level.items
+    let level = whole_level g.H.NodeHash.digest (block_count c.args.geometry) k c.loop-above.above c.loop-above.first _ c.loop-above.level.items _
     c.requires.shape c.requires.padded under refl w.first w.size w.nodes c.in_ok-complete.ensures.level in
     omega (
       arith,
@@ -47,7 +48,7 @@ loop-above-preserved g c =
     let k = c.args.claim.now in
     let w = c.loop-above.invariant in
     let under : c.loop-above.above < run_height k = omega (arith, c.requires.layers, c.loop-above-test.true) in
-    let level = whole_level dig n k c.loop-above.above c.loop-above.first (k.base + c.loop-above.above) c.loop-above.level.items c.complete.new.level.items
+    let level = whole_level dig n k c.loop-above.above c.loop-above.first _ c.loop-above.level.items _
     c.requires.shape c.requires.padded under refl w.first w.size w.nodes c.in_ok-complete.ensures.level in
     let step = level_above dig n k c.loop-above.above c.loop-above.first c.complete.new.level.items c.in_ok-level-2.level.items c.args.pairs.now.items _ _
     under w.first level.pairs level.nodes (rw c.deref-in-loop-above.ensures.value at c.in_ok-level-2.ensures) w.pairs
@@ -59,7 +60,7 @@ returns-then-is_empty-clause-digest g c =
     let all : c.loop-above.above ≡ c.args.layers = omega (arith, c.requires.layers, c.requires.shape.some) in
     let empty : length c.loop-above.level.items ≡ 0 = let h = c.if-is_empty.ensures in grind (arith, nat_tests, c.loop-above.level.ok.0) in
     c.rise.ensures.digest
-    ∙ padded_top g.H.NodeHash.digest (block_count c.args.geometry) c.args.claim.now c.args.layers (c.args.claim.now.base + c.args.layers) c.requires.shape c.requires.padded c.requires.layers refl
+    ∙ padded_top g.H.NodeHash.digest (block_count c.args.geometry) c.args.claim.now c.args.layers _ c.requires.shape c.requires.padded c.requires.layers refl
     (cc (c.loop-above.invariant.size))
 
 pub returns-clause-digest : goal.returns-clause-digest

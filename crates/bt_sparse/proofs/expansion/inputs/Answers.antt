@@ -6,7 +6,7 @@ pub loop-j-preserved : goal.loop-j-preserved
 loop-j-preserved c = record {
   size = length-set c.loop-j.inputs c.loop-j.j c.input.result ∙ c.loop-j.invariant.size;
   done = λ k lt. elim (cases_eq k c.loop-j.j) [
-    | inl here ↦ rw here (get_or-set_same c.loop-j.inputs c.loop-j.j c.input.result [] (omega (arith, c.loop-j.invariant.size, c.loop-j-test.true)) ∙ c.input.ensures.value)
+    | inl here ↦ rw here (get_or-set_same c.loop-j.inputs c.loop-j.j c.input.result [] (omega (arith, c.loop-j.invariant.size)) ∙ c.input.ensures.value)
     | inr apart ↦ get_or-set_other c.loop-j.inputs c.loop-j.j k c.input.result [] apart ∙ c.loop-j.invariant.done k (omega arith)
   ];
 }
