@@ -121,7 +121,4 @@ highest_more dig k ps i d (Some f) (Some e) lt h n =
       where
         lower_still : (p : ClaimedPair) → IsNotHigher p f.pair → (f.pair.layer < e.pair.layer) ⊎ ((e.pair.layer ≡ f.pair.layer) × (e.pair.index < f.pair.index))
             → IsNotHigher p e.pair
-        lower_still p (inl a) (inl b) = inl (omega arith)
-        lower_still p (inl a) (inr b) = inl (omega (arith, b.0))
-        lower_still p (inr a) (inl b) = inl (omega (arith, a.0))
-        lower_still p (inr a) (inr b) = inr (a.0 ∙ sym b.0, omega (arith, a.1, b.1))
+        lower_still p lower higher = grind arith

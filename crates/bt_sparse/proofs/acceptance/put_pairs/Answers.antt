@@ -1,4 +1,5 @@
 use Rattle.std.proofs.Common.{arith}
+use Rattle.std.proofs.lemmas.List.{take_all}
 use Rattle.bt_sparse.proofs.Differences.{no_pair}
 use Rattle.bt_sparse.proofs.Growths.{pair_more}
 use Rattle.bt_sparse.proofs.acceptance.put_pairs.Goals as goal
@@ -13,3 +14,6 @@ loop-pair-preserved c =
           pair_more c.args.pairs.now c.loop-pair.pair-index no_pair c.loop-pair-test.true all agrees (w.grown dig k all agrees)
           c.put-count.ensures.put c.put-count-in-loop-pair.ensures.put;
     }
+
+pub returns : goal.returns
+returns c = λ dig k all agrees. rw (take_all c.loop-pair.pair-index c.args.pairs.now c.loop-pair-test.false) at (c.loop-pair.invariant.grown dig k all agrees)
