@@ -1,9 +1,9 @@
 -- What the pairs of a claim show of a tree: whether their padding is right, and the highest difference.
-use Rattle.std.proofs.Common.{◌≡◌, ℕ, ◌+◌, ◌-◌, ◌*◌, ◌/◌, ◌<◌, ◌≤◌, ◌⊎◌, inl, inr, List, [], ◌∷◌, ◌++◌, length, take, get_or, Option, Some, None, refl, sym, ◌∙◌, subst, append-nil, replicate, arith}
+use Rattle.std.proofs.Common.{◌≡◌, ℕ, ◌+◌, ◌-◌, ◌*◌, ◌/◌, ◌<◌, ◌≤◌, ◌⊎◌, inl, inr, Bool, true, false, eqb, ltb, cond, ◌||◌, ◌&&◌, List, [], ◌∷◌, ◌++◌, length, take, get_or, Option, Some, None, refl, sym, ◌∙◌, subst, append-nil, replicate, arith}
 use borrow.Rule.Slice.PartMut.{put_mid}
 use Rattle.std.specs.List.{All}
 use Rattle.std.specs.Option.{unwrap_or, MatchOption, IfSome}
-use Rattle.std.proofs.lemmas.Bool.{cases_lt, cases_eq, lt-ltb, le-ltb, eq-eqb, ne_eqb}
+use Rattle.std.proofs.lemmas.Bool.Decides.{nat_tests}
 use Rattle.std.proofs.lemmas.List.Elements.{All-more, All-weaker, Contains-append_left, Contains-push}
 use Rattle.std.proofs.lemmas.List.{take_at, take_more, drop_at, drop_all}
 use Rattle.bt_tree.specs.TreeShape.{real_width, IsPadding}
@@ -93,32 +93,24 @@ module _ (dig : List ℕ → List ℕ) (k : Facts) (ps : List ClaimedPair) (i : 
         (inr (rw here.1 (inr (refl, omega arith))));
   }
 
+-- the second pair lies in a higher layer, or in the same one to the left
+abbrev is_higher : ClaimedPair → ClaimedPair → Bool
+is_higher p q = ltb p.layer q.layer || (eqb q.layer p.layer && ltb q.index p.index)
+
 pub highest_more : (dig : List ℕ → List ℕ) (k : Facts) (ps : List ClaimedPair) (i : ℕ) (d : ClaimedPair) (found next : Option Difference) → i < length ps
     → IsHighestOf dig k (take i ps) found → IsNext dig k (get_or ps i d) next → IsHighestOf dig k (take (i + 1) ps) (higher_of found next)
 highest_more dig k ps i d None None lt h n = All-more (HasNoDifference dig k) ps i d lt h n
 highest_more dig k ps i d None (Some e) lt h n = comes dig k ps i d lt (HasNoDifference dig k) e h (λ p x. inl x) n
 highest_more dig k ps i d (Some f) None lt h n = stays dig k ps i d lt f h (inl n)
-highest_more dig k ps i d (Some f) (Some e) lt h n =
-    elim (cases_lt f.pair.layer e.pair.layer) [
-      | inl above ↦ rw lt-ltb (new (inl above))
-      | inr le ↦ elim (cases_eq e.pair.layer f.pair.layer) [
-        | inl same ↦ elim (cases_lt e.pair.index f.pair.index) [
-          | inl left ↦ rw (le-ltb f.pair.layer e.pair.layer le, eq-eqb e.pair.layer f.pair.layer same, lt-ltb e.pair.index f.pair.index left)
-              (new (inr (same, left)))
-          | inr right ↦ rw (le-ltb f.pair.layer e.pair.layer le, eq-eqb e.pair.layer f.pair.layer same, le-ltb e.pair.index f.pair.index right)
-              (old (inr (same, right)))
-        ]
-        | inr apart ↦ rw (le-ltb f.pair.layer e.pair.layer le, ne_eqb e.pair.layer f.pair.layer apart) (old (inl (omega arith)))
-      ]
-    ]
+highest_more dig k ps i d (Some f) (Some e) lt h n = go (is_higher f.pair e.pair) refl
   where
-    old : (e.pair.layer < f.pair.layer) ⊎ ((e.pair.layer ≡ f.pair.layer) × (f.pair.index ≤ e.pair.index)) → IsHighestIn dig k (take (i + 1) ps) f
-    old lower = stays dig k ps i d lt f h (inr (subst (λ p. IsNotHigher p f.pair) n.1 lower))
+    above : (p : ClaimedPair) → is_higher f.pair e.pair ≡ true → IsNotHigher p f.pair → IsNotHigher p e.pair
+    above p is lower = grind (arith, nat_tests)
 
-    new : (f.pair.layer < e.pair.layer) ⊎ ((e.pair.layer ≡ f.pair.layer) × (e.pair.index < f.pair.index)) → IsHighestIn dig k (take (i + 1) ps) e
-    new higher = comes dig k ps i d lt (λ p. HasNoDifference dig k p ⊎ IsNotHigher p f.pair) e h.highest
-        (λ p x. elim x [ inl none ↦ inl none | inr lower ↦ inr (lower_still p lower higher) ]) n
-      where
-        lower_still : (p : ClaimedPair) → IsNotHigher p f.pair → (f.pair.layer < e.pair.layer) ⊎ ((e.pair.layer ≡ f.pair.layer) × (e.pair.index < f.pair.index))
-            → IsNotHigher p e.pair
-        lower_still p lower higher = grind arith
+    below : is_higher f.pair e.pair ≡ false → IsNotHigher e.pair f.pair
+    below is = grind (arith, nat_tests)
+
+    go : (b : Bool) → is_higher f.pair e.pair ≡ b → IsHighestOf dig k (take (i + 1) ps) (cond b (Some e) (Some f))
+    go true is = comes dig k ps i d lt (λ p. HasNoDifference dig k p ⊎ IsNotHigher p f.pair) e h.highest
+        (λ p x. elim x [ inl none ↦ inl none | inr lower ↦ inr (above p is lower) ]) n
+    go false is = stays dig k ps i d lt f h (inr (subst (λ p. IsNotHigher p f.pair) n.1 (below is)))
