@@ -67,10 +67,10 @@ pub path_step : (dig : List ℕ → List ℕ) (c : Claim) (t layer node : ℕ) (
     → node ≡ path_node c t → own ≡ path_digest dig c t → other ≡ get_or c.uncles t [] → both ≡ cond (eqb (node % 2) 0) (own, other) (other, own)
     → IsPathStep dig c t record { layer = layer; index = node / 2; left = both.0; right = both.1 } (dig (both.0 ++ both.1))
 path_step dig c t layer node own other both l n o u b =
-    elim (parity (path_node c t)) [
-      | inl p ↦ rw (b, l, n, o, u) record { pair_is = rw p.1 refl; digest_is = rw (path_digest_more dig c t, p.1) refl }
-      | inr p ↦ rw (b, l, n, o, u) record { pair_is = rw p.1 refl; digest_is = rw (path_digest_more dig c t, p.1) refl }
-    ]
+    rw (b, l, n, o, u) (elim (parity (path_node c t)) [
+      | inl p ↦ record { pair_is = rw p.1 refl; digest_is = rw (path_digest_more dig c t, p.1) refl }
+      | inr p ↦ record { pair_is = rw p.1 refl; digest_is = rw (path_digest_more dig c t, p.1) refl }
+    ])
 
 pub path_up : (c : Claim) (t : ℕ) → path_node c t / 2 ≡ path_node c (t + 1)
 path_up c t = path_suc c t ∙ ap (path_node c) (sym (add-one t))

@@ -30,11 +30,8 @@ request_shape {h} {base} {index} {count} {layers} r ds size =
       power = rw run r.power;
       aligned = rw run r.aligned;
       in_width = rw run r.in_width;
-      in_height = rw (uncles, run) (top (height_of count) r.low r.proof);
+      in_height = rw (uncles, run) (omega (arith, r.low, r.proof));
     }
-  where
-    top : (m : ℕ) → base + m ≤ h → layers + base + 1 ≤ h → base + m + (layers - (m - 1)) ≤ h
-    top m low proof = elim (cases_lt layers (m - 1)) [ inl lt ↦ omega arith | inr le ↦ omega arith ]
 
 -- the layers of an answer's nodes go up
 pub layers_rise : (base count t : ℕ) → answer_layer base count t ≤ answer_layer base count (t + 1)
