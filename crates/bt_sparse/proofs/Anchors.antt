@@ -1,9 +1,8 @@
 -- The nodes above a leaf, and the nearest of them that is held.
-use Rattle.std.proofs.Common.{◌≡◌, ℕ, ◌+◌, ◌-◌, ◌*◌, ◌/◌, ◌^◌, ◌<◌, ◌≤◌, List, None, is_some, inl, inr, ap, ◌∙◌, arith}
+use Rattle.std.proofs.Common.{◌≡◌, ℕ, ◌+◌, ◌-◌, ◌*◌, ◌/◌, ◌^◌, ◌<◌, ◌≤◌, List, None, is_some, ap, ◌∙◌, arith}
 use Rattle.std.specs.Int.{div_ceil}
-use Rattle.std.proofs.Math.Nat.{div-lt_iff_lt-mul, div-mul-le_self, mul-le-mul_right}
+use Rattle.std.proofs.Math.Nat.{div-lt_iff_lt-mul}
 use Rattle.std.proofs.lemmas.Nat.{pow_pos, pow-add}
-use Rattle.std.proofs.lemmas.Bool.{cases_lt}
 use Rattle.std.proofs.lemmas.Grind.{div_ceil_times}
 use Rattle.bt_tree.specs.TreeShape.{height_of, CoversBlock}
 use Rattle.bt_tree.proofs.TreeShape.{height_is}
@@ -13,14 +12,7 @@ use Rattle.bt_sparse.specs.Anchor.{IsAnchor}
 
 -- among n things in groups of p, each lies in one of the groups
 in_group : (n p i : ℕ) → 0 < p → i < n → i / p < div_ceil n p
-in_group n p i some h = elim (cases_lt (i / p) (div_ceil n p)) [
-  | inl lt ↦ lt
-  | inr le ↦
-      let all : n ≤ div_ceil n p * p = (div_ceil_times n p some).0 in
-      let front : div_ceil n p * p ≤ i / p * p = mul-le-mul_right {m = div_ceil n p} {n = i / p} p le in
-      let back : i / p * p ≤ i = div-mul-le_self i p in
-      absurd (omega (arith, all, front, back))
-]
+in_group n p i some h = (div-lt_iff_lt-mul {k = p} {x = i} {y = div_ceil n p} some).1 (omega (arith, (div_ceil_times n p some).0))
 
 -- each node above a leaf covers its block
 pub covers_above : (n leaf layer : ℕ) → leaf < n → layer ≤ height_of n → CoversBlock n layer (leaf / 2 ^ layer)

@@ -1,5 +1,5 @@
 -- Claimed nodes are put into a tree.
-use Rattle.std.proofs.Common.{◌≡◌, ℕ, ◌+◌, ◌*◌, ◌/◌, ◌%◌, ◌<◌, ◌≤◌, ◌↔◌, inl, inr, IsTrue, Bool, true, false, cond, List, length, take, get_or, Option, Some, None, refl, sym, ap, ◌∙◌, subst, arith}
+use Rattle.std.proofs.Common.{◌≡◌, ◌≢◌, ℕ, ◌+◌, ◌*◌, ◌/◌, ◌%◌, ◌<◌, ◌≤◌, ◌↔◌, inl, inr, IsTrue, Bool, true, false, cond, List, [], length, take, get_or, Option, Some, None, refl, sym, ap, ◌∙◌, arith}
 use mir.Val.{bool_byte}
 use Rattle.std.specs.FinMap as finite
 use Rattle.std.specs.List.{All}
@@ -16,24 +16,18 @@ use Rattle.bt_sparse.specs.Claim.{Claims}
 use Rattle.bt_sparse.specs.ExpansionSteps.{IsPairOf}
 use Rattle.bt_sparse.specs.AcceptanceSteps.{IsPut, IsAdded, AgreesAt, IsGrown, IsGrownBy, HasPlaces}
 use Rattle.bt_sparse.proofs.NodeMaps.{node_total, digest_at_new, digest_at_cases, digest_at_kept}
-use Rattle.bt_sparse.proofs.Single.{claims_one}
+use Rattle.bt_sparse.proofs.Claims.{one_digest}
 
 put_size : (old : Nodes) (layer i : ℕ) (d : List ℕ) (is_new : Bool) → (IsTrue is_new ↔ (digest_at old layer i ≡ None))
-    → finite.len (finite.insert old (layer, i) d) ≡ finite.len old + cond is_new 1 0
-put_size old layer i d true h =
-    finite.len-insert node_total old (layer, i) d ∙ ap (λ o. cond (is_some o) (finite.len old) (finite.len old + 1)) (h.0 refl)
-put_size old layer i d false h = go (digest_at old layer i) refl
+    → finite.len (finite.insert old (layer, i) d) ≡ finite.len old + bool_byte is_new
+put_size old layer i d true h = finite.len-insert node_total old (layer, i) d ∙ rw (h.0 refl) refl
+put_size old layer i d false h = finite.len-insert node_total old (layer, i) d ∙ go (digest_at old layer i) (λ e. false≢true (h.1 e))
   where
-    go : (o : Option (List ℕ)) → digest_at old layer i ≡ o → finite.len (finite.insert old (layer, i) d) ≡ finite.len old + 0
-    go None e = absurd (false≢true (h.1 e))
-    go (Some v) e =
-        finite.len-insert node_total old (layer, i) d ∙ ap (λ o. cond (is_some o) (finite.len old) (finite.len old + 1)) e ∙ omega arith
+    go : (o : Option (List ℕ)) → o ≢ None → cond (is_some o) (finite.len old) (finite.len old + 1) ≡ finite.len old + 0
+    go None e = absurd (e refl)
+    go (Some v) e = omega arith
 
-bit : (b : Bool) → bool_byte b ≡ cond b 1 0
-bit true = refl
-bit false = refl
-
-one_bit : (b : Bool) → cond b 1 0 ≤ 1
+one_bit : (b : Bool) → bool_byte b ≤ 1
 one_bit true = omega arith
 one_bit false = omega arith
 
@@ -43,8 +37,8 @@ put_real n layer i d old new is_new count real size h e k = record {
   length_is = size;
   covers = λ _. e;
   past = λ le. absurd (omega arith);
-  size_is = ap finite.len e ∙ put_size old layer i d is_new h ∙ ap (λ m. finite.len old + m) (sym (k ∙ bit is_new));
-  one = omega (arith, one_bit is_new, k ∙ bit is_new);
+  size_is = rw (e, k) (put_size old layer i d is_new h);
+  one = rw k (one_bit is_new);
 }
 
 -- what one digest adds
@@ -53,99 +47,74 @@ pub record IsOneMore (dig : List ℕ → List ℕ) (c : Claim) (n layer i : ℕ)
   pub here : i < real_width n layer → digest_at new layer i ≡ Some d
   pub kept : (l j : ℕ) (e : List ℕ) → digest_at old l j ≡ Some e → digest_at new l j ≡ Some e
 
-pub one_more : (dig : List ℕ → List ℕ) (c : Claim) (n layer i : ℕ) (d : List ℕ) (start old new : Nodes) (count more : ℕ) → AgreesAt dig start c
+one_more : {dig : List ℕ → List ℕ} {c : Claim} {n layer i : ℕ} {d : List ℕ} {start old new : Nodes} {count more : ℕ} → AgreesAt dig start c
     → IsGrown dig c n start old count → Claims dig c layer i d → IsPut n layer i d old new more → IsOneMore dig c n layer i d start old new count more
-one_more dig c n layer i d start old new count more agrees h claim put = elim (cases_lt i (real_width n layer)) [
+one_more {n = n} {layer = layer} {i = i} {d = d} {old = old} agrees h claim put = elim (cases_lt i (real_width n layer)) [
   | inl real ↦
-      let e : new ≡ finite.insert old (layer, i) d = put.covers real in
       let one : (f : List ℕ) → digest_at old layer i ≡ Some f → f ≡ d = λ f at. elim (h.only layer i f at) [
         | inl was ↦ agrees layer i d f claim was
-        | inr came ↦ claims_one dig c layer i f d came.0 claim
+        | inr came ↦ one_digest came.0 claim
       ] in
-      let stays : (l j : ℕ) (f : List ℕ) → digest_at old l j ≡ Some f → digest_at new l j ≡ Some f = λ l j f at.
-      ap (λ m. digest_at m l j) e ∙ digest_at_kept old layer i l j d f (λ p q. one f (rw (sym p, sym q) at)) at in
-      record {
+      let stays : (l j : ℕ) (f : List ℕ) → digest_at old l j ≡ Some f → digest_at (finite.insert old (layer, i) d) l j ≡ Some f =
+      λ l j f at. digest_at_kept old layer i l j d f (λ p q. one f (rw (sym p, sym q) at)) at in
+      let size = put.size_is in
+      rw (put.covers real) record {
         grown = record {
           kept = λ l j f was. stays l j f (h.kept l j f was);
-          only = λ l j f at. elim (digest_at_cases old layer i l j d f (sym (ap (λ m. digest_at m l j) e) ∙ at)) [
+          only = λ l j f at. elim (digest_at_cases old layer i l j d f at) [
             | inl is ↦ inr (rw (is.0, is.1, is.2) claim, rw (is.0, is.1) real)
             | inr was ↦ h.only l j f was
           ];
-          sizes = λ all l j f at. elim (digest_at_cases old layer i l j d f (sym (ap (λ m. digest_at m l j) e) ∙ at)) [
-            | inl is ↦ ap length is.2 ∙ put.length_is
-            | inr was ↦ h.sizes all l j f was
-          ];
-          size_is = omega (arith, h.size_is, put.size_is);
+          sizes = λ all l j f at. elim (digest_at_cases old layer i l j d f at) [ inl is ↦ ap length is.2 ∙ put.length_is | inr was ↦ h.sizes all l j f was ];
+          size_is = omega (arith, h.size_is, size, ap finite.len (put.covers real));
         };
-        here = λ _. ap (λ m. digest_at m layer i) e ∙ digest_at_new old layer i d;
+        here = λ _. digest_at_new old layer i d;
         kept = stays;
       }
-  | inr past ↦
-      let e : new ≡ old = put.past past in
-      record {
-        grown = record {
-          kept = λ l j f was. rw e (h.kept l j f was);
-          only = λ l j f at. h.only l j f (rw e at at);
-          sizes = λ all l j f at. h.sizes all l j f (rw e at at);
-          size_is = omega (arith, h.size_is, put.size_is);
-        };
-        here = λ real. absurd (omega arith);
-        kept = λ l j f at. rw e at;
-      }
+  | inr past ↦ rw (put.past past) record {
+    grown = record { kept = h.kept; only = h.only; sizes = h.sizes; size_is = omega (arith, h.size_is, put.size_is, ap finite.len (put.past past)) };
+    here = λ real. absurd (omega arith);
+    kept = λ l j f at. at;
+  }
 ]
 
 -- nothing is added yet
-pub none_more : (dig : List ℕ → List ℕ) (c : Claim) (n : ℕ) (start copy : Nodes) (pairs : List ClaimedPair) → copy ≡ start
-    → IsGrownBy dig c n start copy 0 (take 0 pairs)
-none_more dig c n start copy pairs e = rw e record {
+pub none_more : {dig : List ℕ → List ℕ} {c : Claim} {n : ℕ} {start : Nodes} → IsGrownBy dig c n start start 0 []
+none_more {n = n} {start = start} = record {
   grown = record { kept = λ l j f was. was; only = λ l j f at. inl at; sizes = λ all. all; size_is = omega arith };
   added = All-nil (IsAdded n start);
 }
 
-added_kept : (n : ℕ) (old new : Nodes) (p : ClaimedPair) → ((l j : ℕ) (e : List ℕ) → digest_at old l j ≡ Some e → digest_at new l j ≡ Some e)
-    → IsAdded n old p → IsAdded n new p
-added_kept n old new p kept h = record {
-  left = λ real. kept p.layer (2 * p.index) p.left (h.left real);
-  right = λ real. kept p.layer (2 * p.index + 1) p.right (h.right real);
-}
-
 -- a pair is added
-pub pair_more : (dig : List ℕ → List ℕ) (c : Claim) (n : ℕ) (start old mid new : Nodes) (count a b i : ℕ) (pairs : List ClaimedPair) (p d : ClaimedPair)
-    → i < length pairs → p ≡ get_or pairs i d → All (IsPairOf dig c) pairs → AgreesAt dig start c → IsGrownBy dig c n start old count (take i pairs)
-    → IsPut n p.layer (2 * p.index) p.left old mid a → IsPut n p.layer (2 * p.index + 1) p.right mid new b
+pub pair_more : {dig : List ℕ → List ℕ} {c : Claim} {n : ℕ} {start old mid new : Nodes} {count a b : ℕ} (pairs : List ClaimedPair) (i : ℕ) (d : ClaimedPair)
+    → i < length pairs → All (IsPairOf dig c) pairs → AgreesAt dig start c → IsGrownBy dig c n start old count (take i pairs)
+    → IsPut n (get_or pairs i d).layer (2 * (get_or pairs i d).index) (get_or pairs i d).left old mid a
+    → IsPut n (get_or pairs i d).layer (2 * (get_or pairs i d).index + 1) (get_or pairs i d).right mid new b
     → IsGrownBy dig c n start new (count + a + b) (take (i + 1) pairs)
-pair_more dig c n start old mid new count a b i pairs p d lt at all agrees h left right =
-    let claimed : IsPairOf dig c p = rw at (all i d lt) in
-    let first = one_more dig c n p.layer (2 * p.index) p.left start old mid count a agrees h.grown claimed.left left in
-    let second = one_more dig c n p.layer (2 * p.index + 1) p.right start mid new (count + a) b agrees first.grown claimed.right right in
-    let here : IsAdded n new p = record { left = λ real. second.kept p.layer (2 * p.index) p.left (first.here real); right = second.here } in
+pair_more {n = n} {old = old} {new = new} pairs i d lt all agrees h left right =
+    let claimed = all i d lt in
+    let first = one_more agrees h.grown claimed.left left in
+    let second = one_more agrees first.grown claimed.right right in
     record {
       grown = second.grown;
       added = All-more (IsAdded n new) pairs i d lt
-          (All-weaker (IsAdded n old) (IsAdded n new) (λ q was. added_kept n old new q (λ l j e x. second.kept l j e (first.kept l j e x)) was) (take i pairs) h.added)
-          (subst (IsAdded n new) at here);
+          (All-weaker (IsAdded n old) (IsAdded n new) (λ q was. record {
+            left = λ real. second.kept _ _ _ (first.kept _ _ _ (was.left real));
+            right = λ real. second.kept _ _ _ (first.kept _ _ _ (was.right real));
+          }) (take i pairs) h.added)
+          record { left = λ real. second.kept _ _ _ (first.here real); right = second.here };
     }
 
 -- ---- the pages of a claim's nodes
--- a page with places for the left node and all others of its layer has them for the pair
-pub pair_places : (n : ℕ) (layers : Layers) (p : ClaimedPair)
-    → (2 * p.index < real_width n p.layer → (i : ℕ) → i / page_length ≡ 2 * p.index / page_length → i < real_width n p.layer → HasPlace layers p.layer i)
-    → HasPlaces n layers p
-pair_places n layers p h = record {
-  left = λ real. h real (2 * p.index) refl real;
-  right = λ real. h (omega arith) (2 * p.index + 1) (omega arith) real;
-}
-
-pub places_stay : (n : ℕ) (old new : Layers) (p : ClaimedPair) → KeepsPlaces old new → HasPlaces n old p → HasPlaces n new p
-places_stay n old new p kept h = record {
-  left = λ real. omega (arith, kept p.layer (2 * p.index / table_length) (2 * p.index % table_length / page_length), h.left real);
-  right = λ real. omega (arith, kept p.layer ((2 * p.index + 1) / table_length) ((2 * p.index + 1) % table_length / page_length), h.right real);
-}
-
 pub place_stays : (old new : Layers) (layer i : ℕ) → KeepsPlaces old new → HasPlace old layer i → HasPlace new layer i
 place_stays old new layer i kept h = omega (arith, kept layer (i / table_length) (i % table_length / page_length), h)
 
+-- a page with places for the left node of one more pair and all others of its layer has them for the pair
 pub places_more : (n : ℕ) (old new : Layers) (pairs : List ClaimedPair) (i : ℕ) (d : ClaimedPair) → i < length pairs → KeepsPlaces old new
-    → All (HasPlaces n old) (take i pairs) → HasPlaces n new (get_or pairs i d) → All (HasPlaces n new) (take (i + 1) pairs)
-places_more n old new pairs i d lt kept all here =
-    All-more (HasPlaces n new) pairs i d lt (All-weaker (HasPlaces n old) (HasPlaces n new) (λ q was. places_stay n old new q kept was) (take i pairs) all) here
+    → All (HasPlaces n old) (take i pairs) → (let p = get_or pairs i d in 2 * p.index < real_width n p.layer
+    → (j : ℕ) → j / page_length ≡ 2 * p.index / page_length → j < real_width n p.layer → HasPlace new p.layer j)
+    → All (HasPlaces n new) (take (i + 1) pairs)
+places_more n old new pairs i d lt kept all here = All-more (HasPlaces n new) pairs i d lt (All-weaker (HasPlaces n old) (HasPlaces n new) (λ p was. record {
+  left = λ real. place_stays old new p.layer (2 * p.index) kept (was.left real);
+  right = λ real. place_stays old new p.layer (2 * p.index + 1) kept (was.right real);
+}) (take i pairs) all) record { left = λ real. here real _ refl real; right = λ real. here (omega arith) _ (omega arith) real }

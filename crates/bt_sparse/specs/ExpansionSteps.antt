@@ -85,8 +85,10 @@ pub record IsExpansion (dig : List ℕ → List ℕ) (n : ℕ) (c : Claim) (e : 
   pub pairs : e.pairs.items ≡ claimed_pairs dig n c
   pub digest : e.top_digest ≡ top_digest dig c
 
--- the claim says these digests of the pair's nodes, which lie below the top's layer
+-- the claim says these digests of the pair's nodes, which lie below the top's layer, and their digest of
+-- the node above
 pub record IsPairOf (dig : List ℕ → List ℕ) (c : Claim) (p : ClaimedPair) : Type 0 where
   pub left : Claims dig c p.layer (2 * p.index) p.left
   pub right : Claims dig c p.layer (2 * p.index + 1) p.right
+  pub above : Claims dig c (p.layer + 1) p.index (dig (p.left ++ p.right))
   pub low : p.layer < top_layer c

@@ -164,6 +164,7 @@ fn make_pages(
 
 /// Puts the digests of these pairs' nodes that cover a block, and returns how many of these nodes are new.
 /// Their pages are made.
+#[tactic(auto, using(crate::proofs::Growths::place_stays, crate::proofs::Growths::none_more))]
 fn put_pairs(geometry: Geometry, nodes: &mut NodeMap, pairs: &[ClaimedPair]) -> u32
     requires inside { All (IsPairIn (height_of (block_count geometry))) pairs.now }
     requires narrow { length pairs.now < 2 ^ 28 }

@@ -81,6 +81,7 @@ pub(crate) fn top_of(claim: &Claim) -> (u32, u32)
 
 /// The pairs of siblings that a claim of the right shape and padding names, and its top's digest. Pairs of
 /// the run's layers that cover no block are left out. Each pair is digested once.
+#[tactic(auto, using(crate::proofs::Expansions::short_run, crate::proofs::Expansions::path_first))]
 pub(crate) fn expand_covered<H: NodeHash>(
     hash: H,
     alloc: Global,
@@ -104,6 +105,7 @@ pub(crate) fn expand_covered<H: NodeHash>(
 }
 
 /// How many nodes of a claim's run cover a block: the first of them.
+#[tactic(auto, using(crate::proofs::Covered::covered_run))]
 fn covered_count(geometry: Geometry, claim: &Claim) -> usize
     requires shape { IsShort claim.now }
     requires inside { claim.now.base ≤ height_of (block_count geometry) }
@@ -171,6 +173,7 @@ fn complete<H: NodeHash>(
 }
 
 /// Adds the pairs that these nodes of a layer make, below the nodes from index `first` on of the next one.
+#[tactic(auto, unfolding(crate::specs::ExpansionSteps::level_pairs))]
 fn add_level(
     pairs: &mut Vec<ClaimedPair>,
     layer: u32,
@@ -194,6 +197,7 @@ fn add_level(
 }
 
 /// The digests of pairs of digests, eight at a time where eight remain.
+#[tactic(auto, using(crate::proofs::Parents::parent_more))]
 pub(crate) fn parents<H: NodeHash>(
     hash: H,
     alloc: Global,
@@ -212,6 +216,7 @@ pub(crate) fn parents<H: NodeHash>(
 }
 
 /// Adds the digests of the pairs in whole eights.
+#[tactic(auto, using(crate::proofs::Parents::no_parents, crate::proofs::Parents::eight_more))]
 fn add_eights<H: NodeHash>(
     hash: H,
     above: &mut Vec<Hash32>,
@@ -241,6 +246,7 @@ fn inputs(nodes: &[Hash32], first: usize) -> [[u8; 64]; 8]
 }
 
 /// The 64 bytes of two digests.
+#[tactic(auto, using(crate::proofs::Differences::second_half))]
 pub(crate) fn input(left: &Hash32, right: &Hash32) -> [u8; 64]
     ensures value { result ≡ left.now ++ right.now }
     ensures left { length left.now ≡ 32 }
@@ -254,6 +260,7 @@ pub(crate) fn input(left: &Hash32, right: &Hash32) -> [u8; 64]
 
 /// Adds the pairs on the path from the run's top up, whose digest this is, and returns the digest of the
 /// path's end.
+#[tactic(auto, unfolding(crate::specs::ExpansionSteps::path_pairs))]
 fn add_path<H: NodeHash>(
     hash: H,
     pairs: &mut Vec<ClaimedPair>,

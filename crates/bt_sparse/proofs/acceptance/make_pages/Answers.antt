@@ -1,33 +1,23 @@
-use Rattle.std.proofs.Common.{get_or, subst, ap, ◌∙◌, arith}
-use Rattle.std.specs.List.{All}
-use Rattle.std.proofs.lemmas.List.{take_all}
+use Rattle.std.proofs.Common.{ap, ◌∙◌, arith}
 use Rattle.bt_tree.specs.Blocks.{block_count}
 use Rattle.bt_sparse.specs.NodeMap.{nodes_in}
-use Rattle.bt_sparse.specs.AcceptanceSteps.{HasPlaces}
-use Rattle.bt_sparse.specs.declared.expansion.ClaimedPair.{ClaimedPair}
 use Rattle.bt_sparse.proofs.Differences.{no_pair}
-use Rattle.bt_sparse.proofs.Growths.{pair_places, places_more}
+use Rattle.bt_sparse.proofs.Growths.{places_more}
 use Rattle.bt_sparse.proofs.acceptance.make_pages.Goals as goal
 use Rattle.bt_sparse.proofs.acceptance.make_pages.Goals.{then-pair-width+in_ok-reach, else-pair-width}
 
 pub loop-pair-preserved : goal.loop-pair-preserved
-loop-pair-preserved c =
-    let p : ClaimedPair = get_or c.args.pairs.now c.loop-pair.pair-index no_pair in
-    elim c.if-pair-width.branch [
-      | then-pair-width+in_ok-reach w ↦ record {
-        same = ap nodes_in w.nodes-is ∙ w.reach.ensures.nodes ∙ c.loop-pair.invariant.same;
-        ready = rw w.nodes-is (places_more (block_count c.args.geometry) c.loop-pair.nodes w.reach.new.self c.args.pairs.now c.loop-pair.pair-index no_pair c.loop-pair-test.true
-            w.reach.ensures.longer c.loop-pair.invariant.ready
-            (pair_places (block_count c.args.geometry) w.reach.new.self p (λ real i e lt. w.in_ok-reach.ensures.ready i e (omega (arith, c.real-width.ensures.value, lt)))));
-      }
-      | else-pair-width w ↦ record {
-        same = ap nodes_in w.nodes-is ∙ c.loop-pair.invariant.same;
-        ready = rw w.nodes-is (places_more (block_count c.args.geometry) c.loop-pair.nodes c.loop-pair.nodes c.args.pairs.now c.loop-pair.pair-index no_pair c.loop-pair-test.true
-            (λ l t k. omega arith) c.loop-pair.invariant.ready
-            (pair_places (block_count c.args.geometry) c.loop-pair.nodes p (λ real. absurd (omega (arith, c.real-width.ensures.value, w.if-pair-width.false, real)))));
-      }
-    ]
-
-pub returns-clause-ready : goal.returns-clause-ready
-returns-clause-ready c =
-    subst (All (HasPlaces (block_count c.args.geometry) c.loop-pair.nodes)) (take_all c.loop-pair.pair-index c.args.pairs.now c.loop-pair-test.false) c.loop-pair.invariant.ready
+loop-pair-preserved c = elim c.if-pair-width.branch [
+  | then-pair-width+in_ok-reach w ↦ record {
+    same = ap nodes_in w.nodes-is ∙ w.reach.ensures.nodes ∙ c.loop-pair.invariant.same;
+    ready = rw w.nodes-is (places_more (block_count c.args.geometry) c.loop-pair.nodes w.reach.new.self c.args.pairs.now c.loop-pair.pair-index no_pair
+        c.loop-pair-test.true w.reach.ensures.longer c.loop-pair.invariant.ready
+        (λ real i e lt. w.in_ok-reach.ensures.ready i e (omega (arith, c.real-width.ensures.value, lt))));
+  }
+  | else-pair-width w ↦ record {
+    same = ap nodes_in w.nodes-is ∙ c.loop-pair.invariant.same;
+    ready = rw w.nodes-is (places_more (block_count c.args.geometry) c.loop-pair.nodes c.loop-pair.nodes c.args.pairs.now c.loop-pair.pair-index no_pair
+        c.loop-pair-test.true (λ l t k. omega arith) c.loop-pair.invariant.ready
+        (λ real. absurd (omega (arith, c.real-width.ensures.value, w.if-pair-width.false, real))));
+  }
+]
