@@ -22,3 +22,4 @@ pub mod LayerNodes
 pub mod Taken
 pub mod Leaves
 pub mod Anchors
+pub mod Steps

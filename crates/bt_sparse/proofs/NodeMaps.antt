@@ -1,11 +1,12 @@
 -- Digests at nodes: what a look-up finds after a write.
-use Rattle.std.proofs.Common.{◌≡◌, ℕ, zero, suc, ◌<◌, ◌≤◌, Option, subst, arith, Bool, true, false, cond, List, [], Some, None, refl, sym, ap, ◌∙◌, ◌⊎◌, inl, inr}
+use Rattle.std.proofs.Common.{◌≡◌, ℕ, zero, suc, ◌<◌, Option, arith, Bool, true, cond, eqb, ltb, ◌&&◌, List, [], Some, None, refl, sym, ap, ◌∙◌, ◌⊎◌, inl, inr}
 use Rattle.std.specs.Ordering.{nat_cmp, eq_by_cmp, is_eq}
 use Rattle.std.specs.declared.cmp.Ordering.{Ordering}
 use Rattle.std.specs.declared.cmp.Ordering.TheVariants.{Less, Equal, Greater}
 use Rattle.std.specs.Cmp.{IsTotalOrder, nat_cmp_total, eq_by_cmp_equiv}
 use Rattle.std.specs.FinMap as finite
-use Rattle.std.proofs.lemmas.Bool.{cases_lt, cases_eq}
+use Rattle.std.proofs.lemmas.Bool.{cases_Bool, cases_eq, lt-ltb}
+use Rattle.std.proofs.lemmas.Bool.Decides.{nat_tests}
 use Rattle.std.proofs.lemmas.Cmp.{then_total, on_total}
 use Rattle.std.proofs.lemmas.Map.Lookups.{CmpEqualImpliesEq, exact_pairs, exact_unsigned}
 use Rattle.bt_sparse.specs.NodeMap.{NodeIndex, node_cmp, Nodes, digest_at, Layers, slot_of, with_some, with_row, map_of, number_limit, nodes_in}
@@ -25,157 +26,93 @@ alike Less e = absurd cc
 alike Equal e = refl
 alike Greater e = absurd cc
 
--- two nodes are one or not
-cases_node_index : (p q : NodeIndex) → ((p ≡ q) × (eq_by_cmp node_cmp p q ≡ true)) ⊎ (eq_by_cmp node_cmp p q ≡ false)
-cases_node_index p q = go (eq_by_cmp node_cmp p q) refl
-  where
-    go : (b : Bool) → eq_by_cmp node_cmp p q ≡ b → ((p ≡ q) × (eq_by_cmp node_cmp p q ≡ true)) ⊎ (eq_by_cmp node_cmp p q ≡ false)
-    go true e = inl (node_exact p q (alike (node_cmp p q) e), e)
-    go false e = inr e
+-- ---- a write
+pub digest_at_empty : (layer i : ℕ) → digest_at finite.empty layer i ≡ None
+digest_at_empty layer i = finite.get-empty node_cmp (layer, i)
 
 pub digest_at_new : (m : Nodes) (layer i : ℕ) (d : List ℕ) → digest_at (finite.insert m (layer, i) d) layer i ≡ Some d
-digest_at_new m layer i d =
-    finite.get-insert node_total m (layer, i) d (layer, i)
-    ∙ ap (λ b. cond b (Some d) (digest_at m layer i)) ((eq_by_cmp_equiv node_total).refl (layer, i))
+digest_at_new m layer i d = rw (finite.get-insert node_total m (layer, i) d (layer, i), (eq_by_cmp_equiv node_total).refl (layer, i))
+
+-- another node keeps what it has
+pub digest_at_other : (m : Nodes) (layer i l j : ℕ) (d : List ℕ) → (l ≡ layer → j ≡ i → ⊥) → digest_at (finite.insert m (layer, i) d) l j ≡ digest_at m l j
+digest_at_other m layer i l j d apart = finite.get-insert node_total m (layer, i) d (l, j) ∙ elim (cases_Bool (eq_by_cmp node_cmp (l, j) (layer, i))) [
+  | inl same ↦
+      let is = node_exact (l, j) (layer, i) (alike (node_cmp (l, j) (layer, i)) same) in
+      absurd (apart (ap (λ p. p.0) is) (ap (λ p. p.1) is))
+  | inr other ↦ rw other
+]
+
+cases_same : (l j layer i : ℕ) → ((l ≡ layer) × (j ≡ i)) ⊎ (l ≡ layer → j ≡ i → ⊥)
+cases_same l j layer i = elim (cases_eq l layer) [
+  | inl p ↦ elim (cases_eq j i) [ inl q ↦ inl (p, q) | inr q ↦ inr (λ _. q) ]
+  | inr p ↦ inr (λ e. absurd (p e))
+]
 
 -- what is found after a write is what was written, or was there
 pub digest_at_cases : (m : Nodes) (layer i l j : ℕ) (d e : List ℕ) → digest_at (finite.insert m (layer, i) d) l j ≡ Some e
     → ((l ≡ layer) × (j ≡ i) × (e ≡ d)) ⊎ (digest_at m l j ≡ Some e)
-digest_at_cases m layer i l j d e h =
-    let step = finite.get-insert node_total m (layer, i) d (l, j) in
-    elim (cases_node_index (l, j) (layer, i)) [
-      | inl is ↦
-          let same : Some d ≡ Some e = sym (ap (λ b. cond b (Some d) (digest_at m l j)) is.1) ∙ sym step ∙ h in
-          inl (ap (λ p. p.0) is.0, ap (λ p. p.1) is.0, cc)
-      | inr is ↦ inr (sym (ap (λ b. cond b (Some d) (digest_at m l j)) is) ∙ sym step ∙ h)
-    ]
+digest_at_cases m layer i l j d e h = elim (cases_same l j layer i) [
+  | inl at ↦
+      let found = sym (digest_at_new m layer i d) ∙ (rw (at.0, at.1) at h) in
+      inl (at.0, at.1, cc)
+  | inr apart ↦ inr (sym (digest_at_other m layer i l j d apart) ∙ h)
+]
 
 -- what was there stays, where no other digest is written there
 pub digest_at_kept : (m : Nodes) (layer i l j : ℕ) (d e : List ℕ) → (l ≡ layer → j ≡ i → e ≡ d) → digest_at m l j ≡ Some e
     → digest_at (finite.insert m (layer, i) d) l j ≡ Some e
-digest_at_kept m layer i l j d e same h =
-    let step = finite.get-insert node_total m (layer, i) d (l, j) in
-    elim (cases_node_index (l, j) (layer, i)) [
-      | inl is ↦ step ∙ ap (λ b. cond b (Some d) (digest_at m l j)) is.1 ∙ ap (λ x. Some x) (sym (same (ap (λ p. p.0) is.0) (ap (λ p. p.1) is.0)))
-      | inr is ↦ step ∙ ap (λ b. cond b (Some d) (digest_at m l j)) is ∙ h
-    ]
-
-pub digest_at_empty : (layer i : ℕ) → digest_at finite.empty layer i ≡ None
-digest_at_empty layer i = finite.get-empty node_cmp (layer, i)
-
--- another node keeps what it has
-pub digest_at_other : (m : Nodes) (layer i l j : ℕ) (d : List ℕ) → (l ≡ layer → j ≡ i → ⊥) → digest_at (finite.insert m (layer, i) d) l j ≡ digest_at m l j
-digest_at_other m layer i l j d apart =
-    let step = finite.get-insert node_total m (layer, i) d (l, j) in
-    elim (cases_node_index (l, j) (layer, i)) [
-      | inl is ↦ absurd (apart (ap (λ p. p.0) is.0) (ap (λ p. p.1) is.0))
-      | inr is ↦ step ∙ ap (λ b. cond b (Some d) (digest_at m l j)) is
-    ]
+digest_at_kept m layer i l j d e same h = elim (cases_same l j layer i) [
+  | inl at ↦ rw (at.0, at.1, same at.0 at.1) (digest_at_new m layer i d)
+  | inr apart ↦ digest_at_other m layer i l j d apart ∙ h
+]
 
 -- ---- the map of what a function gives at the first indices of the first layers
-some_here : (o : Option (List ℕ)) (layer i : ℕ) (m : Nodes) → digest_at m layer i ≡ None → digest_at (with_some o layer i m) layer i ≡ o
-some_here None layer i m none = none
-some_here (Some d) layer i m none = digest_at_new m layer i d
+one_more : {X : Type 0} (f : ℕ → X) (b : Bool) (i n : ℕ) (o : X) → cond (b && eqb i n) (f n) (cond (b && ltb i n) (f i) o) ≡ cond (b && ltb i (suc n)) (f i) o
+one_more f b i n o = grind (arith, nat_tests)
 
-some_other : (o : Option (List ℕ)) (layer i l j : ℕ) (m : Nodes) → (l ≡ layer → j ≡ i → ⊥) → digest_at (with_some o layer i m) l j ≡ digest_at m l j
-some_other None layer i l j m apart = refl
-some_other (Some d) layer i l j m apart = digest_at_other m layer i l j d apart
+one_more_row : {X : Type 0} (f : ℕ → X) (b : Bool) (i n : ℕ) (o : X) → cond (eqb i n && b) (f n) (cond (ltb i n && b) (f i) o) ≡ cond (ltb i (suc n) && b) (f i) o
+one_more_row f b i n o = grind (arith, nat_tests)
 
-row_other : (f : ℕ → Option (List ℕ)) (layer width l j : ℕ) (m : Nodes) → (l ≡ layer → j < width → ⊥) → digest_at (with_row f layer width m) l j ≡ digest_at m l j
-unfolding with_row
-row_other f layer zero l j m apart = refl
-row_other f layer (suc width) l j m apart =
-    some_other (f width) layer width l j (with_row f layer width m) (λ p q. apart p (omega arith))
-    ∙ row_other f layer width l j m (λ p q. apart p (omega arith))
-
-row_here : (f : ℕ → Option (List ℕ)) (layer width j : ℕ) (m : Nodes) → ((i : ℕ) → digest_at m layer i ≡ None) → j < width
-    → digest_at (with_row f layer width m) layer j ≡ f j
-unfolding with_row
-row_here f layer zero j m none lt = absurd (omega arith)
-row_here f layer (suc width) j m none lt = elim (cases_eq j width) [
-  | inl here ↦
-      subst (λ (k : ℕ). digest_at (with_some (f width) layer width (with_row f layer width m)) layer k ≡ f k) (sym here)
-      (some_here (f width) layer width (with_row f layer width m) (row_other f layer width layer width m (λ p q. omega arith) ∙ none width))
-  | inr apart ↦
-      some_other (f width) layer width layer j (with_row f layer width m) (λ p q. apart q) ∙ row_here f layer width j m none (omega arith)
+some_at : (o : Option (List ℕ)) (m : Nodes) (layer i l j : ℕ) → digest_at m layer i ≡ None
+    → digest_at (with_some o layer i m) l j ≡ cond (eqb l layer && eqb j i) o (digest_at m l j)
+some_at None m layer i l j none = elim (cases_same l j layer i) [ inl at ↦ rw (at.0, at.1) (grind (arith, nat_tests)) | inr apart ↦ grind (arith, nat_tests) ]
+some_at (Some d) m layer i l j none = elim (cases_same l j layer i) [
+  | inl at ↦ rw (at.0, at.1) (grind (arith, nat_tests, digest_at_new m layer i d))
+  | inr apart ↦ grind (arith, nat_tests, digest_at_other m layer i l j d apart)
 ]
 
-map_above : (f : ℕ → ℕ → Option (List ℕ)) (layers width l j : ℕ) → layers ≤ l → digest_at (map_of f layers width) l j ≡ None
-unfolding map_of
-map_above f zero width l j le = digest_at_empty l j
-map_above f (suc layer) width l j le =
-    row_other (f layer) layer width l j (map_of f layer width) (λ p q. omega arith) ∙ map_above f layer width l j (omega arith)
+row_at : (f : ℕ → Option (List ℕ)) (layer width l j : ℕ) (m : Nodes) → ((i : ℕ) → digest_at m layer i ≡ None)
+    → digest_at (with_row f layer width m) l j ≡ cond (eqb l layer && ltb j width) (f j) (digest_at m l j)
+unfolding with_row
+row_at f layer zero l j m none = grind (arith, nat_tests)
+row_at f layer (suc width) l j m none =
+    some_at (f width) (with_row f layer width m) layer width l j (row_at f layer width layer width m none ∙ grind (arith, nat_tests, none width))
+    ∙ rw (row_at f layer width l j m none) (one_more f (eqb l layer) j width (digest_at m l j))
 
-map_past : (f : ℕ → ℕ → Option (List ℕ)) (layers width l j : ℕ) → width ≤ j → digest_at (map_of f layers width) l j ≡ None
+map_at : (f : ℕ → ℕ → Option (List ℕ)) (layers width l j : ℕ) → digest_at (map_of f layers width) l j ≡ cond (ltb l layers && ltb j width) (f l j) None
 unfolding map_of
-map_past f zero width l j le = digest_at_empty l j
-map_past f (suc layer) width l j le =
-    row_other (f layer) layer width l j (map_of f layer width) (λ p q. omega arith) ∙ map_past f layer width l j le
+map_at f zero width l j = grind (arith, nat_tests, digest_at_empty)
+map_at f (suc layer) width l j =
+    row_at (f layer) layer width l j (map_of f layer width) (λ i. map_at f layer width layer i ∙ grind (arith, nat_tests))
+    ∙ rw (map_at f layer width l j) (one_more_row (λ k. f k j) (ltb j width) l layer None)
 
-map_here : (f : ℕ → ℕ → Option (List ℕ)) (layers width l j : ℕ) → l < layers → j < width → digest_at (map_of f layers width) l j ≡ f l j
-unfolding map_of
-map_here f zero width l j low lt = absurd (omega arith)
-map_here f (suc layer) width l j low lt = elim (cases_eq l layer) [
-  | inl here ↦
-      subst (λ (k : ℕ). digest_at (with_row (f layer) layer width (map_of f layer width)) k j ≡ f k j) (sym here)
-      (row_here (f layer) layer width j (map_of f layer width) (λ i. map_above f layer width layer i (omega arith)) lt)
-  | inr apart ↦ row_other (f layer) layer width l j (map_of f layer width) (λ p q. apart p) ∙ map_here f layer width l j (omega arith) lt
-]
+-- ---- what the pages have
+nodes_are : (layers : Layers) (m : Nodes) → ((l j : ℕ) → digest_at m l j ≡ cond (ltb l number_limit && ltb j number_limit) (slot_of layers l j) None) → nodes_in layers ≡ m
+nodes_are layers m are = same_map (nodes_in layers) m (λ q. map_at (slot_of layers) number_limit number_limit q.0 q.1 ∙ sym (are q.0 q.1))
 
 -- a look-up in the pages is the map's
 pub node_at : (layers : Layers) (layer i : ℕ) → layer < number_limit → i < number_limit → digest_at (nodes_in layers) layer i ≡ slot_of layers layer i
-node_at layers layer i low lt = map_here (slot_of layers) number_limit number_limit layer i low lt
+node_at layers layer i low lt = map_at (slot_of layers) number_limit number_limit layer i ∙ rw (lt-ltb layer number_limit low, lt-ltb i number_limit lt)
 
-same_nodes : (m n : Nodes) → ((l j : ℕ) → digest_at m l j ≡ digest_at n l j) → m ≡ n
-same_nodes m n same = same_map m n (λ q. same q.0 q.1)
-
-map_same : (f g : ℕ → ℕ → Option (List ℕ)) (layers width : ℕ) → ((l j : ℕ) → g l j ≡ f l j) → map_of g layers width ≡ map_of f layers width
-map_same f g layers width same = same_nodes (map_of g layers width) (map_of f layers width) (λ l j. elim (cases_lt l layers) [
-  | inl low ↦ elim (cases_lt j width) [
-    | inl lt ↦ map_here g layers width l j low lt ∙ same l j ∙ sym (map_here f layers width l j low lt)
-    | inr past ↦ map_past g layers width l j past ∙ sym (map_past f layers width l j past)
-  ]
-  | inr above ↦ map_above g layers width l j above ∙ sym (map_above f layers width l j above)
-])
-
-map_put : (f g : ℕ → ℕ → Option (List ℕ)) (layers width layer i : ℕ) (d : List ℕ) → layer < layers → i < width → g layer i ≡ Some d
-    → ((l j : ℕ) → (l ≡ layer → j ≡ i → ⊥) → g l j ≡ f l j) → map_of g layers width ≡ finite.insert (map_of f layers width) (layer, i) d
-map_put f g layers width layer i d low lt here others = same_nodes (map_of g layers width) (finite.insert (map_of f layers width) (layer, i) d) at
-  where
-    other : (l j : ℕ) → (l ≡ layer → j ≡ i → ⊥) → digest_at (map_of g layers width) l j ≡ digest_at (map_of f layers width) l j
-    other l j apart = elim (cases_lt l layers) [
-      | inl inside ↦ elim (cases_lt j width) [
-        | inl within ↦ map_here g layers width l j inside within ∙ others l j apart ∙ sym (map_here f layers width l j inside within)
-        | inr past ↦ map_past g layers width l j past ∙ sym (map_past f layers width l j past)
-      ]
-      | inr above ↦ map_above g layers width l j above ∙ sym (map_above f layers width l j above)
-    ]
-
-    at : (l j : ℕ) → digest_at (map_of g layers width) l j ≡ digest_at (finite.insert (map_of f layers width) (layer, i) d) l j
-    at l j = elim (cases_eq l layer) [
-      | inl p ↦ elim (cases_eq j i) [
-        | inl q ↦ rw (p, q) (map_here g layers width layer i low lt ∙ here ∙ sym (digest_at_new (map_of f layers width) layer i d))
-        | inr q ↦ other l j (λ a b. q b) ∙ sym (digest_at_other (map_of f layers width) layer i l j d (λ a b. q b))
-      ]
-      | inr p ↦ other l j (λ a b. p a) ∙ sym (digest_at_other (map_of f layers width) layer i l j d (λ a b. p a))
-    ]
-
-map_none : (f : ℕ → ℕ → Option (List ℕ)) (layers width : ℕ) → ((l j : ℕ) → f l j ≡ None) → map_of f layers width ≡ finite.empty
-map_none f layers width none = same_nodes (map_of f layers width) finite.empty (λ l j. elim (cases_lt l layers) [
-  | inl low ↦ elim (cases_lt j width) [
-    | inl lt ↦ map_here f layers width l j low lt ∙ none l j ∙ sym (digest_at_empty l j)
-    | inr past ↦ map_past f layers width l j past ∙ sym (digest_at_empty l j)
-  ]
-  | inr above ↦ map_above f layers width l j above ∙ sym (digest_at_empty l j)
-])
-
--- ---- pages that have changed
 pub no_nodes : (layers : Layers) → layers ≡ [] → nodes_in layers ≡ finite.empty
-no_nodes layers e = rw e (map_none (slot_of []) number_limit number_limit (λ l j. refl))
+no_nodes layers e = rw e (nodes_are [] finite.empty (λ l j. digest_at_empty l j ∙ elim (cases_Bool (ltb l number_limit && ltb j number_limit)) [ inl is ↦ rw is | inr is ↦ rw is ]))
 
 pub nodes_kept : (old new : Layers) → ((l j : ℕ) → slot_of new l j ≡ slot_of old l j) → nodes_in new ≡ nodes_in old
-nodes_kept old new same = map_same (slot_of old) (slot_of new) number_limit number_limit same
+nodes_kept old new same = nodes_are new (nodes_in old) (λ l j. map_at (slot_of old) number_limit number_limit l j ∙ rw (same l j))
 
 pub nodes_put : (old new : Layers) (layer i : ℕ) (d : List ℕ) → layer < number_limit → i < number_limit → slot_of new layer i ≡ Some d
     → ((l j : ℕ) → (l ≡ layer → j ≡ i → ⊥) → slot_of new l j ≡ slot_of old l j) → nodes_in new ≡ finite.insert (nodes_in old) (layer, i) d
-nodes_put old new layer i d low lt here others = map_put (slot_of old) (slot_of new) number_limit number_limit layer i d low lt here others
+nodes_put old new layer i d low lt here others = nodes_are new (finite.insert (nodes_in old) (layer, i) d) (λ l j. elim (cases_same l j layer i) [
+  | inl at ↦ rw (at.0, at.1, lt-ltb layer number_limit low, lt-ltb i number_limit lt, here) (digest_at_new (nodes_in old) layer i d)
+  | inr apart ↦ digest_at_other (nodes_in old) layer i l j d apart ∙ map_at (slot_of old) number_limit number_limit l j ∙ rw (others l j apart)
+])

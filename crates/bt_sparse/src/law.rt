@@ -3,6 +3,7 @@ ghost use Rattle.bt_sparse.specs.Law.{KeepsRooted, HeldIsChecked, ClaimsOne, Mad
 use bt_tree::NodeHash;
 
 /// A tree that is rooted stays so when a claim is accepted.
+#[tactic(auto, using(crate::proofs::Joins::keeps_rooted))]
 pub fn keeps_rooted<H: NodeHash>(_hash: H)
     ensures { KeepsRooted H.digest }
 {}

@@ -59,6 +59,7 @@ impl LayerPages {
     }
 
     /// Lengthens the list to this many tables. New ones have no pages.
+    #[tactic(auto, using(crate::proofs::PageTables::pushed_default))]
     fn lengthen(&mut self, alloc: Global, count: usize) -> Result<(), AllocError>
         ensures same { (t : ℕ) → slice_index_or self.new t [] ≡ slice_index_or self.old t [] }
         ensures ready { OnOk result (count ≤ length self.new) }

@@ -25,6 +25,7 @@ impl Model for NodeMap {
 }
 
 impl NodeMap {
+    #[tactic(auto, using(crate::proofs::NodeMaps::no_nodes))]
     pub(crate) fn new(alloc: Global) -> NodeMap
         ensures { nodes_in result ≡ finite.empty }
     {
@@ -35,6 +36,7 @@ impl NodeMap {
     }
 
     /// The digest at a node.
+    #[tactic(auto, using(crate::proofs::NodeMaps::node_at))]
     pub(crate) fn get(&self, layer: u32, index: u32) -> Option<Hash32>
         ensures { result ≡ digest_at (nodes_in self.now) layer index }
     {
@@ -57,6 +59,7 @@ impl NodeMap {
     }
 
     /// Lengthens the table to this many layers. New ones have no pages.
+    #[tactic(auto, using(crate::proofs::PageTables::pushed_default))]
     fn lengthen(&mut self, count: usize) -> Result<(), AllocError>
         ensures same { (layer : ℕ) → slice_index_or self.new layer [] ≡ slice_index_or self.old layer [] }
         ensures ready { OnOk result (count ≤ length self.new) }

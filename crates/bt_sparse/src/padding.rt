@@ -34,6 +34,7 @@ impl<H: NodeHash> Model for Padding<H> {
 
 impl<H: NodeHash> Padding<H> {
     /// The padding at the leaves, which takes no digest.
+    #[tactic(auto, unfolding(bt_tree::specs::Tree::padding_digest))]
     pub(crate) fn new(hash: H) -> Padding<H>
         ensures { result ≡ 0 }
     {
@@ -45,6 +46,7 @@ impl<H: NodeHash> Padding<H> {
     }
 
     /// The digest at a layer, which is no lower than the last one.
+    #[tactic(auto, using(bt_tree::proofs::TreeNodes::padding_suc))]
     pub(crate) fn rise(&mut self, layer: u8) -> Hash32
         requires { self.old ≤ layer }
         ensures digest { result ≡ padding_digest H.digest layer }

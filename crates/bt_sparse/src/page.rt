@@ -24,6 +24,7 @@ impl Model for Page {
 
 impl Page {
     /// A page without places, which takes no memory.
+    #[tactic(auto, using(crate::proofs::Pages::new_slots))]
     pub(crate) fn new(alloc: Global) -> Page
         ensures { result ≡ [] }
     {
@@ -34,6 +35,7 @@ impl Page {
     }
 
     /// The digest at a place, where there is one.
+    #[tactic(auto, using(crate::proofs::Pages::slot_is))]
     pub(crate) fn get(&self, place: usize) -> Option<Hash32>
         ensures { result ≡ slice_index_or self.now place None }
     {
@@ -47,6 +49,7 @@ impl Page {
     }
 
     /// Makes places up to this number.
+    #[tactic(auto, using(crate::proofs::Steps::page_steps))]
     pub(crate) fn reach(&mut self, len: usize) -> Result<(), AllocError>
         ensures longer { IsLonger self.old self.new }
         ensures ready { OnOk result (len ≤ length self.new) }
@@ -60,6 +63,7 @@ impl Page {
     }
 
     /// Puts a digest at a place, and returns whether there was none.
+    #[tactic(auto, using(crate::proofs::Steps::page_steps))]
     pub(crate) fn put(&mut self, place: usize, digest: Hash32) -> bool
         requires { place < length self.old }
         ensures is_new { IsTrue result ↔ (slice_index_or self.old place None ≡ None) }

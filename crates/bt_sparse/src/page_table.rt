@@ -57,6 +57,7 @@ impl PageTable {
     }
 
     /// Lengthens the table to this many pages. New ones have no places.
+    #[tactic(auto, using(crate::proofs::PageTables::pushed_default))]
     fn lengthen(&mut self, alloc: Global, count: usize) -> Result<(), AllocError>
         ensures same { (p : ℕ) → slice_index_or self.new p [] ≡ slice_index_or self.old p [] }
         ensures ready { OnOk result (count ≤ length self.new) }
