@@ -7,9 +7,9 @@ use Rattle.bt_book.specs.declared.names.PeerKey.{PeerKey}
 use Rattle.bt_book.specs.declared.names.BlockId.{BlockId}
 use Rattle.bt_book.specs.Blocks.{Blocks, with_block, of_file, is_block, member}
 use Rattle.bt_book.specs.Book.{PeerRequests, BookState, IsJoined, is_of, asked_of, with_change, without_peer, with_done, without_block, without_block_of}
-use Rattle.bt_book.specs.BookSteps.{one_if, IsKept, IsIndexOf, AreAdded}
+use Rattle.bt_book.specs.BookSteps.{one_if, IsKept, IsIndexOf}
 use Rattle.bt_book.proofs.Once.{counted, filter_none, map_none, filter_one, map_one}
-use Rattle.bt_book.proofs.Pairs.{kept_lost, forgotten_none, one_if_le}
+use Rattle.bt_book.proofs.Pairs.{forgotten_none, one_if_le}
 use Rattle.bt_book.proofs.Asked.{asked_none, asked_at}
 
 abbrev pub state : Blocks → List PeerRequests → BookState
@@ -40,14 +40,6 @@ rest_at f peers i d lt =
     let size : length (map f (take i peers)) ≡ i = length-map (take i peers) f ∙ length-take-le i peers (omega arith) in
     let here : i + (i - i) ≡ i = omega arith in
     get_or-append_right (map f (take i peers)) (drop i peers) i i d size (omega arith) ∙ get_or-drop i peers (i - i) d ∙ ap (λ n. get_or peers n d) here
-
--- ---- a peer leaves
-pub lost_kept : (wanted unasked new : Blocks) (peers ys : List PeerRequests) (key : PeerKey) (i : ℕ) (e : PeerRequests) → IsKept wanted unasked peers
-    → IsIndexOf key peers i → e ≡ get_or peers i e
-    → AreAdded unasked e.blocks new → ys ≡ remove peers i → IsKept wanted new ys
-lost_kept wanted unasked new peers ys key i e kept found read added is =
-    subst (λ (l : List PeerRequests). IsKept wanted new l) (filter_one (is_of key) peers i e found.inside (found.here e) (kept.once key) ∙ sym is)
-    (kept_lost wanted unasked peers kept new key i e found.inside (found.here e) (subst (λ (r : PeerRequests). AreAdded unasked r.blocks new) read added))
 
 -- ---- a book by its blocks and its peers
 module _ (s : BookState) (wanted : Blocks) (peers : List PeerRequests) (view : state wanted peers ≡ s) where

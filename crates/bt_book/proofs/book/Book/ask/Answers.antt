@@ -24,7 +24,7 @@ invariant_of-self g c =
     let open' : length c.index.result.now.blocks ≢ 16 = λ h. true≢false (sym (c.is_full.ensures.full.1 h) ∙ c.if-is_full.false) in
     let room : length e.blocks < 16 = let short = c.is_full.ensures.short in omega (arith, size, short, open') in
     rw (c.remove.ensures, c.push.ensures) (
-      kept_ask _ _ _ c.self.invariant.0 i e found.inside c.index_mut.ensures.value _ room
+      kept_ask c.self.invariant.0 i e found.inside c.index_mut.ensures.value _ room
           c.in-Some-least.ensures.some.among,
       c.self.invariant.1,
     )

@@ -67,7 +67,7 @@ invariant_of-self-2 c =
     let found = rw c.deref.ensures.value at c.in-Some.ensures.some in
     let on : c.forget.result ≡ true = grind arith in
     rw (c.insert.ensures, c.forget.ensures.now) (
-      kept_came _ _ _ c.self.invariant.0 _ _ found.inside c.index_mut.ensures.value _
+      kept_came c.self.invariant.0 _ _ found.inside c.index_mut.ensures.value _
           (c.forget.ensures.was.0 on),
       c.self.invariant.1,
     )

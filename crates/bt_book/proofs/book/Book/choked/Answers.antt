@@ -15,7 +15,7 @@ invariant_of-self c =
     let same : c.index.result.now ≡ e = get_or_read peers i c.index.result.now found.inside c.index.ensures e ∙ sym c.index_mut.ensures.value in
     let added = rw (c.blocks-in-Some.ensures, same) at c.add_all.ensures in
     rw c.clear.ensures (
-      kept_choked _ _ _ c.self.invariant.0 i e found.inside c.index_mut.ensures.value _ added,
+      kept_choked c.self.invariant.0 i e found.inside c.index_mut.ensures.value _ added,
       c.self.invariant.1,
     )
 

@@ -18,7 +18,7 @@ invariant_of-self c =
     let inside : IsInRange c.self.inside.wanted b = subst (λ (s : BookState). IsInRange s.wanted b) (sym c.self.view_is) c.requires in
     let is : member c.self.inside.unasked b ≡ true = sym c.contains-2.ensures ∙ c.if-contains.true in
     rw (c.remove.ensures, c.remove-then-contains.ensures) (
-      kept_done_unasked _ _ _ c.self.invariant.0 b inside is,
+      kept_done_unasked c.self.invariant.0 b inside is,
       c.self.invariant.1,
     )
 
@@ -32,8 +32,7 @@ invariant_of-self-else-contains c =
     (map (without_block_of b)) c.deref_mut.ensures.value in
     let items = with_items_is c.self.inside.peers c.forget_block.new.peers (c.forget_block.auto.peers ∙ c.deref_mut.ensures.len) in
     rw (c.remove.ensures, items) (
-      kept_done_asked _ _ _ c.self.invariant.0 _ b inside
-          isnt forgotten,
+      rw forgotten (kept_done_asked c.self.invariant.0 b inside isnt),
       c.self.invariant.1,
     )
 

@@ -28,7 +28,7 @@ invariant_of-self c =
     let peers = c.self.inside.peers.items in
     let none = unfound c.args.peer peers _ (rw c.deref.ensures.value at c.index_of.ensures.none) (sym c.is_some.ensures ∙ c.if-is_some.false) in
     let room : length peers < 64 = omega (arith, c.if-len-ge-MAX_PEERS.false, c.len.ensures, c.self.inside.peers.ok.0) in
-    let joined = kept_join w u _ c.self.invariant.0 _ none room in (
+    let joined = kept_join c.self.invariant.0 _ none room in (
       subst (λ (l : List PeerRequests). IsKept w u l) (sym {A = List PeerRequests} c.push.ensures.items)
           (cond_both (is_ok c.push.result) (peers ++ c.new.result ∷ []) peers (λ (l : List PeerRequests). IsKept w u l)
           (λ yes'. subst (λ (r : PeerRequests). IsKept w u (peers ++ r ∷ [])) (sym {A = PeerRequests} c.new.ensures) joined) (λ no'. c.self.invariant.0)),

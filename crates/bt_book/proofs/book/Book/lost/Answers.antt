@@ -1,16 +1,15 @@
 use Rattle.std.proofs.Common.{ap, ◌∙◌, arith}
 use Rattle.bt_book.specs.Book.{BookState, asked_of}
 use Rattle.bt_book.proofs.Asked.{asked_lost, asked_lost_other}
-use Rattle.bt_book.proofs.Calls.{asked_nowhere, lost_kept, lost_is, lost_none}
+use Rattle.bt_book.proofs.Pairs.{kept_lost}
+use Rattle.bt_book.proofs.Calls.{asked_nowhere, lost_is, lost_none}
 use Rattle.bt_book.proofs.book.Book.lost.Goals as goal
 
 pub invariant_of-self : goal.invariant_of-self
 invariant_of-self c =
     let found = rw c.deref.ensures.value at c.in-Some.ensures.some in
-    let added = rw c.blocks-in-Some.ensures at c.add_all.ensures in (
-      lost_kept _ _ _ _ _ _ _
-          _ c.self.invariant.0
-          found c.index.ensures added c.remove.ensures.items,
+    let added = rw (c.blocks-in-Some.ensures, c.index.ensures) at c.add_all.ensures in (
+      rw c.remove.ensures.items (kept_lost c.self.invariant.0 c.index.result.now found added),
       omega (arith, c.self.invariant.1, c.remove.ensures.capacity),
     )
 

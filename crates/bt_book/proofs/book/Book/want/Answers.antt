@@ -8,10 +8,9 @@ pub invariant_of-self : goal.invariant_of-self
 invariant_of-self c =
     let b = c.args.block in
     let inside : IsInRange c.self.inside.wanted b = subst (λ (s : BookState). IsInRange s.wanted b) (sym c.self.view_is) c.requires in
-    let also : IsInRange c.self.inside.unasked b = omega (arith, inside, c.self.invariant.0.shape b.file) in
     let off : c.contains.result ≡ false = grind arith in
     rw (c.insert.ensures, c.insert-then-not-contains.ensures) (
-      kept_want _ _ _ c.self.invariant.0 b inside also
+      kept_want c.self.invariant.0 b inside
           (sym c.contains.ensures ∙ off),
       c.self.invariant.1,
     )
