@@ -1,15 +1,12 @@
 -- What a peer of a book is asked for.
-use Rattle.std.proofs.Common.{◌≡◌, ◌≢◌, ℕ, zero, suc, ◌<◌, ◌≤◌, true, not, List, [], ◌∷◌, length, get_or, map, filter, count_by, refl, arith}
+use Rattle.std.proofs.Common.{◌≡◌, ◌≢◌, ℕ, zero, suc, ◌<◌, ◌≤◌, true, not, List, [], ◌∷◌, length, get_or, set, map, filter, count_by, refl, arith}
 use Rattle.std.specs.List.{All}
 use Rattle.std.proofs.lemmas.List.Elements.{All-head, All-tail}
 use Rattle.std.proofs.lemmas.Bool.Decides.{nat_tests}
 use Rattle.bt_book.specs.declared.names.PeerKey.{PeerKey}
 use Rattle.bt_book.specs.declared.names.BlockId.{BlockId}
-use Rattle.bt_book.specs.Blocks.{Blocks, member}
-use Rattle.bt_book.specs.Book.{PeerRequests, is_of, asked_in, change_of, IsBook}
-use Rattle.bt_book.specs.BookSteps.{IsKept}
-use Rattle.bt_book.proofs.Once.{counted, count_cons}
-use Rattle.bt_book.proofs.Pairs.{is_member, one_if_le}
+use Rattle.bt_book.specs.Book.{PeerRequests, is_of, asked_in, change_of}
+use Rattle.bt_book.proofs.Once.{counted, count_cons, filter_none}
 
 module _ (key : PeerKey) where
   pub asked_none : (peers : List PeerRequests) → count_by (is_of key) peers ≡ 0 → asked_in key peers ≡ []
@@ -24,6 +21,9 @@ module _ (key : PeerKey) where
       grind (arith, count_cons (is_of key) r rs, counted (is_of key) rs i d, asked_at rs i d)
 
   -- ---- a peer is lost
+  pub lost_none : (peers : List PeerRequests) → count_by (is_of key) peers ≡ 0 → filter (λ r. not (is_of key r)) peers ≡ peers
+  lost_none peers none = filter_none (is_of key) peers none
+
   pub asked_lost : (peers : List PeerRequests) → asked_in key (filter (λ r. not (is_of key r)) peers) ≡ []
   asked_lost [] = refl
   asked_lost (r ∷ rs) = grind (arith, asked_lost rs)
@@ -34,6 +34,19 @@ module _ (key : PeerKey) where
   asked_lost_other other (r ∷ rs) ne = grind (arith, nat_tests, asked_lost_other other rs ne)
 
   -- ---- a peer's blocks are changed
+  pub changed_none : (change : List BlockId → List BlockId) (peers : List PeerRequests) → count_by (is_of key) peers ≡ 0
+      → map (change_of key change) peers ≡ peers
+  changed_none change [] none = refl
+  changed_none change (r ∷ rs) none = grind (arith, count_cons (is_of key) r rs, changed_none change rs)
+
+  pub changed_at : (change : List BlockId → List BlockId) (peers : List PeerRequests) (i : ℕ) (e : PeerRequests) → i < length peers
+      → is_of key (get_or peers i e) ≡ true → count_by (is_of key) peers ≤ 1 → e ≡ get_or peers i e
+      → map (change_of key change) peers ≡ set peers i (record e { blocks = change e.blocks })
+  changed_at change [] i e inside named once read = absurd (omega arith)
+  changed_at change (r ∷ rs) zero e inside named once read = grind (arith, count_cons (is_of key) r rs, changed_none change rs)
+  changed_at change (r ∷ rs) (suc i) e inside named once read =
+      grind (arith, count_cons (is_of key) r rs, counted (is_of key) rs i e, changed_at change rs i e)
+
   pub asked_cleared : (peers : List PeerRequests) → asked_in key (map (change_of key (λ _. [])) peers) ≡ []
   asked_cleared [] = refl
   asked_cleared (r ∷ rs) = grind (arith, asked_cleared rs)
@@ -44,17 +57,8 @@ module _ (key : PeerKey) where
   asked_changed_other other change (r ∷ rs) ne = grind (arith, nat_tests, asked_changed_other other change rs ne)
 
   -- ---- the laws
-  asked_short : (peers : List PeerRequests) → All (λ r. length r.blocks ≤ 16) peers → length (asked_in key peers) ≤ 16
+  pub asked_short : (peers : List PeerRequests) → All (λ r. length r.blocks ≤ 16) peers → length (asked_in key peers) ≤ 16
   asked_short [] short = omega arith
   asked_short (r ∷ rs) short =
       let rest = All-tail (λ q. length q.blocks ≤ 16) r rs short in
       grind (arith, All-head (λ q. length q.blocks ≤ 16) r rs short, asked_short rs rest)
-
-pub book_is : (wanted unasked : Blocks) (peers : List PeerRequests) → IsKept wanted unasked peers → IsBook (record { wanted = wanted; peers = peers })
-book_is wanted unasked peers kept = record {
-  few = kept.few;
-  once = kept.once;
-  short = λ key. asked_short key peers kept.short;
-  single = λ b. omega (arith, kept.counts b, one_if_le (member wanted b));
-  wanted = λ b some. is_member wanted b (omega (arith, some, kept.counts b));
-}

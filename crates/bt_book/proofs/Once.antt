@@ -16,10 +16,6 @@ module _ {X : Type 0} (p : X → Bool) where
   filter_none [] none = refl
   filter_none (x ∷ xs) none = grind (arith, count_cons x xs, filter_none xs)
 
-  pub map_none : (g : X → X) (xs : List X) → count_by p xs ≡ 0 → map (λ x. cond (p x) (g x) x) xs ≡ xs
-  map_none g [] none = refl
-  map_none g (x ∷ xs) none = grind (arith, count_cons x xs, map_none g xs)
-
   -- ---- where one passes
   pub filter_one : (xs : List X) (i : ℕ) (d : X) → i < length xs → p (get_or xs i d) ≡ true → count_by p xs ≤ 1
       → filter (λ x. not (p x)) xs ≡ remove xs i
@@ -27,8 +23,3 @@ module _ {X : Type 0} (p : X → Bool) where
   filter_one (x ∷ xs) zero d inside passes once = grind (arith, count_cons x xs, filter_none xs)
   filter_one (x ∷ xs) (suc i) d inside passes once = grind (arith, count_cons x xs, counted xs i d, filter_one xs i d)
 
-  pub map_one : (g : X → X) (xs : List X) (i : ℕ) (d : X) → i < length xs → p (get_or xs i d) ≡ true → count_by p xs ≤ 1
-      → map (λ x. cond (p x) (g x) x) xs ≡ set xs i (g (get_or xs i d))
-  map_one g [] i d inside passes once = absurd (omega arith)
-  map_one g (x ∷ xs) zero d inside passes once = grind (arith, count_cons x xs, map_none g xs)
-  map_one g (x ∷ xs) (suc i) d inside passes once = grind (arith, count_cons x xs, counted xs i d, map_one g xs i d)

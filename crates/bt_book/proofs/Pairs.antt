@@ -1,7 +1,7 @@
 -- The pairs of a book, as its calls change them.
-use Rattle.std.proofs.Common.{◌≡◌, ℕ, ◌+◌, ◌<◌, ◌≤◌, Bool, true, false, not, cond, List, [], ◌∷◌, ◌++◌, length, get_or, set, map, count_by, refl, sym, ◌∙◌, arith}
+use Rattle.std.proofs.Common.{◌≡◌, ℕ, ◌+◌, ◌<◌, ◌≤◌, Bool, true, false, not, cond, List, [], ◌∷◌, ◌++◌, length, get_or, set, map, count_by, refl, Option, Some, None, IfSome, is_some, sym, ap, filter, ◌∙◌, arith}
 use Rattle.std.specs.List.{remove}
-use Rattle.std.proofs.lemmas.List.{length-set, length_push, length-map}
+use Rattle.std.proofs.lemmas.List.{set-get_or, length-set, length_push, length-map}
 use Rattle.std.proofs.lemmas.List.Elements.{All-set, All-push, All-filter, All-map, All-weaker}
 use Rattle.std.proofs.lemmas.List.Edits.{length-remove}
 use Rattle.std.proofs.lemmas.List.Sums.{sum_by-cons, sum_by_push, sum_by-set, sum_by-remove, get_or-le-sum_by, length-filter, count_by-le-length}
@@ -9,17 +9,15 @@ use Rattle.std.proofs.lemmas.Bool.Decides.{nat_tests}
 use Rattle.bt_book.specs.declared.names.PeerKey.{PeerKey}
 use Rattle.bt_book.specs.declared.names.BlockId.{BlockId}
 use Rattle.bt_book.specs.Blocks.{Blocks, of_file, IsInRange, member, is_block, with_block}
-use Rattle.bt_book.specs.Book.{PeerRequests, is_of, pairs_in, without_block, without_block_of}
+use Rattle.bt_book.specs.Book.{PeerRequests, is_of, asked_in, change_of, pairs_in, without_block, without_block_of, IsBook}
+use Rattle.bt_book.proofs.Asked.{asked_at, changed_at, asked_short}
 use Rattle.bt_book.specs.BookSteps.{one_if, IsKept, IsIndexOf, AreAdded}
 use Rattle.bt_book.proofs.BlockSets.{member_with, shape_with, member_in_range}
-use Rattle.bt_book.proofs.Once.{count_cons, filter_none, filter_one}
+use Rattle.bt_book.proofs.Once.{counted, count_cons, filter_none, filter_one}
 
 -- ---- one block among others
 same_block : (b c : BlockId) → is_block b c ≡ true → c ≡ b
 same_block b c same = grind (arith, nat_tests)
-
-is_block_itself : (b : BlockId) → is_block b b ≡ true
-is_block_itself b = grind (arith, nat_tests)
 
 is_block_turned : (b c : BlockId) → is_block b c ≡ is_block c b
 is_block_turned b c = grind (arith, nat_tests)
@@ -84,22 +82,6 @@ module _ {wanted unasked : Blocks} {peers : List PeerRequests} (kept : IsKept wa
       r : PeerRequests
       r = record { peer = key; blocks = [] }
 
-  pub kept_lost : {new : Blocks} {key : PeerKey} {i : ℕ} (d : PeerRequests) → IsIndexOf key peers i
-      → AreAdded unasked (get_or peers i d).blocks new → IsKept wanted new (remove peers i)
-  kept_lost {key = key} {i = i} d found added = record {
-    shape = λ file. added.shape file ∙ kept.shape file;
-    few = omega (arith, length-remove peers i found.inside, kept.few);
-    once = λ other. omega (arith, sum_by-remove (λ q. cond (is_of other q) 1 0) peers i d found.inside, kept.once other);
-    short = rw (← filter_one (is_of key) peers i d found.inside (found.here d) (kept.once key))
-        (All-filter (λ r. not (is_of key r)) IsShort peers kept.short);
-    counts = λ b. omega (
-      arith,
-      sum_by-remove (λ q. count_by (is_block b) q.blocks) peers i d found.inside,
-      added.counts b,
-      kept.counts b,
-    );
-  }
-
   pub kept_want : (b : BlockId) → IsInRange wanted b → member wanted b ≡ false
       → IsKept (with_block wanted b true) (with_block unasked b true) peers
   kept_want b inside off = record {
@@ -127,61 +109,120 @@ module _ {wanted unasked : Blocks} {peers : List PeerRequests} (kept : IsKept wa
     counts = λ c. grind (arith, member_with wanted b c false inside, members c, pairs_without b c peers, kept.counts c);
   }
 
-  -- done, where it was unasked, and where a peer was asked for it
+  -- done, where it was not wanted, where it was unasked, and where a peer was asked for it
+  pub done_unwanted : (b : BlockId) → member wanted b ≡ false → (with_block wanted b false ≡ wanted) × (map (without_block_of b) peers ≡ peers)
+  done_unwanted b off = (
+    rw (← off) (ap (set wanted b.file) (set-get_or (of_file wanted b.file) b.block false) ∙ set-get_or wanted b.file []),
+    forgotten_none b peers (grind (arith, kept.counts b)),
+  )
+
+  pub done_unasked : (b : BlockId) → member unasked b ≡ true → map (without_block_of b) peers ≡ peers
+  done_unasked b is = forgotten_none b peers (grind (arith, kept.counts b))
+
   pub kept_done_unasked : (b : BlockId) → IsInRange wanted b → member unasked b ≡ true
       → IsKept (with_block wanted b false) (with_block unasked b false) peers
   kept_done_unasked b inside is =
       let also = member_in_range unasked b is in
-      rw (← forgotten_none b peers (grind (arith, kept.counts b)))
+      rw (← done_unasked b is)
       (kept_done (with_block unasked b false) b inside (λ file. shape_with unasked b false file also) (λ c. member_with unasked b c false also))
 
   pub kept_done_asked : (b : BlockId) → IsInRange wanted b → member unasked b ≡ false
       → IsKept (with_block wanted b false) unasked (map (without_block_of b) peers)
   kept_done_asked b inside isnt = kept_done unasked b inside (λ file. refl) (λ c. grind (arith, same_block b c))
 
-  -- ---- what one peer is asked for
-  module _ (i : ℕ) (e : PeerRequests) (inside : i < length peers) (read : e ≡ get_or peers i e) where
-    -- it is changed, and the unasked blocks with it
-    kept_set : (new : Blocks) (r : PeerRequests) → r.peer ≡ e.peer → IsShort r
+  -- ---- a peer that was found, and what it is asked for
+  module _ {key : PeerKey} {given : List PeerRequests} {i : ℕ} {e : PeerRequests} (same : given ≡ peers) (found : IsIndexOf key given i)
+      (read : e ≡ get_or peers i e) where
+    inside : i < length peers
+    inside = rw same at found.inside
+
+    named : is_of key (get_or peers i e) ≡ true
+    named = rw same at (found.here e)
+
+    pub asked_is : asked_in key peers ≡ e.blocks
+    asked_is = asked_at key peers i e inside named (kept.once key) ∙ ap (λ r. r.blocks) (sym read)
+
+    pub changed_is : (change : List BlockId → List BlockId) → map (change_of key change) peers ≡ set peers i (record e { blocks = change e.blocks })
+    changed_is change = changed_at key change peers i e inside named (kept.once key) read
+
+    pub forgotten_is : (b : BlockId) → count_by (is_block b) e.blocks ≡ 0 → set peers i (record e { blocks = without_block b e.blocks }) ≡ peers
+    forgotten_is b none = rw (filter_none (is_block b) e.blocks none, read) (set-get_or peers i e)
+
+    pub lost_is : filter (λ r. not (is_of key r)) peers ≡ remove peers i
+    lost_is = filter_one (is_of key) peers i e inside named (kept.once key)
+
+    pub kept_lost : (new : Blocks) → AreAdded unasked e.blocks new → IsKept wanted new (remove peers i)
+    kept_lost new added = record {
+      shape = λ file. added.shape file ∙ kept.shape file;
+      few = omega (arith, length-remove peers i inside, kept.few);
+      once = λ other. omega (arith, sum_by-remove (λ q. cond (is_of other q) 1 0) peers i e inside, kept.once other);
+      short = rw (← lost_is) (All-filter (λ r. not (is_of key r)) IsShort peers kept.short);
+      counts = λ b.
+          grind (arith, sum_by-remove (λ q. count_by (is_block b) q.blocks) peers i e inside, added.counts b, kept.counts b);
+    }
+
+    -- it is asked for other blocks, and the unasked ones change with it
+    kept_set : (new : Blocks) (blocks : List BlockId) → length blocks ≤ 16
         → ((file : ℕ) → length (of_file new file) ≡ length (of_file unasked file))
-        → ((b : BlockId) → one_if (member new b) + count_by (is_block b) r.blocks ≡ one_if (member unasked b) + count_by (is_block b) e.blocks)
-        → IsKept wanted new (set peers i r)
-    kept_set new r same short shape counts = record {
+        → ((b : BlockId) → one_if (member new b) + count_by (is_block b) blocks ≡ one_if (member unasked b) + count_by (is_block b) e.blocks)
+        → IsKept wanted new (set peers i (record e { blocks = blocks }))
+    kept_set new blocks short shape counts = record {
       shape = λ file. shape file ∙ kept.shape file;
       few = omega (arith, length-set peers i r, kept.few);
-      once = λ key. grind (arith, sum_by-set (λ q. cond (is_of key q) 1 0) peers i r e inside, kept.once key);
+      once = λ other. grind (arith, sum_by-set (λ q. cond (is_of other q) 1 0) peers i r e inside, kept.once other);
       short = All-set IsShort peers i r short kept.short;
       counts = λ b. grind (arith, sum_by-set (λ q. count_by (is_block b) q.blocks) peers i r e inside, counts b, kept.counts b);
     }
-
-    asked_in_range : (b : BlockId) → 0 < count_by (is_block b) e.blocks → IsInRange unasked b
-    asked_in_range b some =
-        let is = is_member wanted b (omega (arith, some, count_le_pairs b peers i e inside read, kept.counts b)) in
-        omega (arith, member_in_range wanted b is, kept.shape b.file)
-
+      where
+        r : PeerRequests
+        r = record e { blocks = blocks }
 
     -- a pair is made, or dropped
     pub kept_ask : (b : BlockId) → length e.blocks < 16 → member unasked b ≡ true
         → IsKept wanted (with_block unasked b false) (set peers i (record e { blocks = e.blocks ++ b ∷ [] }))
     kept_ask b room is =
-        let in_range = member_in_range unasked b is in
-        kept_set (with_block unasked b false) (record e { blocks = e.blocks ++ b ∷ [] }) refl (omega (arith, length_push e.blocks b))
+        kept_set (with_block unasked b false) (e.blocks ++ b ∷ []) (omega (arith, length_push e.blocks b))
         (λ file. shape_with unasked b false file in_range)
         (λ c.
         let pushed = sum_by_push (λ x. cond (is_block c x) 1 0) e.blocks b in
         grind (arith, pushed, member_with unasked b c false in_range, same_block b c, is_block_turned c b))
+      where
+        in_range : IsInRange unasked b
+        in_range = member_in_range unasked b is
+
+    pub asked_once : (b : BlockId) → count_by (is_block b) e.blocks ≤ 1
+    asked_once b = grind (arith, count_le_pairs b peers i e inside read, kept.counts b)
 
     pub kept_came : (b : BlockId) → 0 < count_by (is_block b) e.blocks
         → IsKept wanted (with_block unasked b true) (set peers i (record e { blocks = without_block b e.blocks }))
     kept_came b some =
-        let in_range = asked_in_range b some in
-        let short = kept.short i e inside in
-        kept_set (with_block unasked b true) (record e { blocks = without_block b e.blocks }) refl (grind (arith, length_without b e.blocks))
+        kept_set (with_block unasked b true) (without_block b e.blocks) (let short = kept.short i e inside in grind (arith, length_without b e.blocks))
         (λ file. shape_with unasked b true file in_range)
         (λ c.
         let most = count_le_pairs c peers i e inside read in
-        let now = member_with unasked b c true in_range in
-        grind (arith, now, count_without b c e.blocks, same_block b c, some, most, kept.counts c))
+        grind (arith, member_with unasked b c true in_range, count_without b c e.blocks, same_block b c, some, most, kept.counts c))
+      where
+        in_range : IsInRange unasked b
+        in_range =
+            let is = is_member wanted b (omega (arith, some, count_le_pairs b peers i e inside read, kept.counts b)) in
+            omega (arith, member_in_range wanted b is, kept.shape b.file)
 
     pub kept_choked : (new : Blocks) → AreAdded unasked e.blocks new → IsKept wanted new (set peers i (record e { blocks = [] }))
-    kept_choked new added = kept_set new (record e { blocks = [] }) refl (omega arith) added.shape (λ b. omega (arith, added.counts b))
+    kept_choked new added = kept_set new [] (omega arith) added.shape (λ b. omega (arith, added.counts b))
+
+pub found_joined : (key : PeerKey) {given peers : List PeerRequests} (o : Option ℕ) → given ≡ peers → IfSome o (IsIndexOf key given)
+    → is_some o ≡ true → 0 < count_by (is_of key) peers
+found_joined key {given = given} (Some i) same found some =
+    let d : PeerRequests = record { peer = key; blocks = [] } in
+    rw (← same) (counted (is_of key) given i d found.inside (found.here d))
+found_joined key None same found some = cc
+
+-- ---- the laws
+pub book_is : {wanted unasked : Blocks} {peers : List PeerRequests} → IsKept wanted unasked peers → IsBook (record { wanted = wanted; peers = peers })
+book_is {wanted = wanted} {peers = peers} kept = record {
+  few = kept.few;
+  once = kept.once;
+  short = λ key. asked_short key peers kept.short;
+  single = λ b. omega (arith, kept.counts b, one_if_le (member wanted b));
+  wanted = λ b some. is_member wanted b (omega (arith, some, kept.counts b));
+}
