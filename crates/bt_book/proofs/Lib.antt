@@ -12,4 +12,4 @@ pub mod BlockSets
 pub mod Once
 pub mod Pairs
 pub mod Asked
-pub mod Calls
+pub mod Steps

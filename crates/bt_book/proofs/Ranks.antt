@@ -116,13 +116,6 @@ top_fresh xs rank keys one own tops (s, has, named, passes) k among same =
     let alike : count_before xs t ≡ count_before xs s = ap (count_before xs) one_standing in
     omega arith
 
-pub top_none : (xs : List Standing) → AreTopKeys xs 0 []
-top_none xs = record {
-  ascending = λ i j d lt in'. absurd (omega arith);
-  all = λ s has passes. absurd (let less = (below_parts s.interested (count_before xs s) 0 passes).1 in omega arith);
-  only = λ k among. absurd (omega (arith, among.1));
-}
-
 more_below : (xs : List Standing) (rank : ℕ) (s : Standing) → ranks_below xs rank s ≡ true → ranks_below xs (rank + 1) s ≡ true
 more_below xs rank s h =
     let both = below_parts s.interested (count_before xs s) rank h in

@@ -43,15 +43,6 @@ on_turn_is xs keys turn s own tops has =
     (λ k d lt. ap (λ b. b && ltb (get_or xs k d).peer.0 s.peer.0) (other_is_rest xs keys (get_or xs k d) own tops (Contains-get_or xs k d lt))))
     (count_by_agree (is_other keys) (is_rest xs) xs (λ k d lt. other_is_rest xs keys (get_or xs k d) own tops (Contains-get_or xs k d lt)))
 
--- the peer in turn is none of the top ones
-pub turn_fresh : (xs : List Standing) (keys : List PeerKey) (turn : ℕ) (one : PeerKey) → IsKeyOf xs (is_other_on_turn xs keys turn) one → (k : PeerKey)
-    → Contains keys k → k.0 ≢ one.0
-turn_fresh xs keys turn one (s, has, named, passes) k held same =
-    let other = (and_parts (is_other keys s) (eqb (others_below xs keys s) (turn % count_by (is_other keys) xs)) passes).0 in
-    let apart = (and_parts s.interested (not (list_any (λ u. eqb u.0 s.peer.0) keys)) other).1 in
-    let found = among keys k s.peer.0 held (same ∙ ap (λ u. u.0) (sym named)) in
-    true≢false (sym apart ∙ ap not found)
-
 pub choice_none : (xs : List Standing) (keys : List PeerKey) (turn : ℕ) → HaveOwnKeys xs → AreTopKeys xs 3 keys → HasNone xs
     (is_other_on_turn xs keys turn) → IsChoice xs turn keys
 choice_none xs keys turn own tops free = record {

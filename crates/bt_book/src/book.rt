@@ -65,6 +65,7 @@ impl Book {
     }
 
     /// Drops a peer, and the pairs that it is in.
+    #[tactic(auto, using(crate::proofs::Steps::peer_steps))]
     pub fn lost(&mut self, peer: PeerKey)
         ensures now { self.new ≡ without_peer self.old peer }
         ensures nothing_asked { asked_of self.new peer ≡ [] }
@@ -77,6 +78,7 @@ impl Book {
     }
 
     /// Drops the pairs that a peer is in.
+    #[tactic(auto, using(crate::proofs::Steps::peer_steps))]
     pub fn choked(&mut self, peer: PeerKey)
         ensures now { self.new ≡ without_pairs_of self.old peer }
         ensures nothing_asked { asked_of self.new peer ≡ [] }
@@ -89,6 +91,7 @@ impl Book {
     }
 
     /// Drops the pair of a peer and a block. False where there is none; nothing changes then.
+    #[tactic(auto, using(crate::proofs::Steps::peer_steps))]
     pub fn came(&mut self, peer: PeerKey, block: BlockId) -> bool
         ensures was { IsTrue result ↔ IsPair self.old peer block }
         ensures now { self.new ≡ without_pair self.old peer block }
