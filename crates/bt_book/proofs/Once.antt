@@ -22,4 +22,3 @@ module _ {X : Type 0} (p : X → Bool) where
   filter_one [] i d inside passes once = absurd (omega arith)
   filter_one (x ∷ xs) zero d inside passes once = grind (arith, count_cons x xs, filter_none xs)
   filter_one (x ∷ xs) (suc i) d inside passes once = grind (arith, count_cons x xs, counted xs i d, filter_one xs i d)
-

@@ -68,8 +68,12 @@ module _ {ds : List (List ℕ)} {ws : List ℕ} (p w : ℕ) (d : List ℕ) (h : 
 
   mark_others : (i : ℕ) → i ≢ p → is_present marked i ≡ is_present ws i
   mark_others i other = elim (cases_eq (i / 64) (p / 64)) [
-    | inl same ↦ rw (same, get_or-set_same ws (p / 64) (bit_or w (1 * 2 ^ (p % 64) % 18446744073709551616)) 0 (omega (arith, h.room, place)),
-        bit_at_set_other w64 w (p % 64) (mod_below p 64 (omega arith)) (i % 64) (omega arith), get_or_read ws (p / 64) w (omega (arith, h.room, place)) word 0)
+    | inl same ↦ rw (
+      same,
+      get_or-set_same ws (p / 64) (bit_or w (1 * 2 ^ (p % 64) % 18446744073709551616)) 0 (omega (arith, h.room, place)),
+      bit_at_set_other w64 w (p % 64) (mod_below p 64 (omega arith)) (i % 64) (omega arith),
+      get_or_read ws (p / 64) w (omega (arith, h.room, place)) word 0,
+    )
     | inr apart ↦ rw (get_or-set_other ws (p / 64) (i / 64) (bit_or w (1 * 2 ^ (p % 64) % 18446744073709551616)) 0 apart)
   ]
 

@@ -10,7 +10,6 @@ returns-in_err-resize-2-clause-longer c =
     rw (← c.self.view_is) (grown_longer _ c.div_ceil.result c.self.invariant (rw c.self.inside.present.ok.0 at c.in_ok-resize.ensures.items)
     (omega arith) (omega (arith, c.len.ensures)) (λ i lt. ap (λ ds. get_or ds i []) c.in_err-resize-2.ensures.items))
 
-
 first_same : (c : goal.In_ok-resize-2) (i : ℕ) → i < length c.self.inside.digests.items → get_or c.resize-2.new.self.items i [] ≡ get_or c.self.inside.digests.items i []
 first_same c i lt =
     rw (rw c.self.inside.digests.ok.0 at c.in_ok-resize-2.ensures.items) (resized_before _ c.args.len i _ [] lt (omega (arith, c.len.ensures)))
