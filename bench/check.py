@@ -10,7 +10,6 @@ work on the machine disturbs less than the time on the clock, the median, and th
 where the system puts its stack, by a tenth and more, so few runs say little.
 """
 
-import os
 import pathlib
 import shutil
 import statistics

@@ -48,7 +48,7 @@ def files():
 
 
 def short_names():
-    """Files with names of one to three letters."""
+    """Files with names of three letters."""
     names = sorted([a + b + c for a in LETTERS for b in LETTERS for c in LETTERS][:FILES])
     return torrent(b"d" + b"".join(spelled(name) + EMPTY_FILE for name in names[:FILES]) + b"e")
 
