@@ -1,4 +1,4 @@
--- The value of a dictionary's key.
+-- The value of a dictionary's key (BEP 3, "bencoding").
 use Rattle.std.specs.Prelude.{ℕ, List, nat_eq, Option, None, Some, if◌then◌else◌}
 use Rattle.std.specs.Cmp.Lexicographic.{pointwise}
 use Rattle.bt_bencode.specs.Value.{Data, integer, string, list, dictionary, Entries, no_entries, entry}

@@ -1,4 +1,5 @@
--- Which values are canonical: ascending keys are of BEP 3 ("bencoding"), the limits are of this project.
+-- Which values are canonical: ascending keys are of BEP 3 ("bencoding"); that no two are equal, and the limits,
+-- are of this project.
 use Rattle.std.specs.Prelude.{◌≡◌, ℕ, ◌+◌, ◌≤◌, List, max, Option, None, Some, IfSome, FitsSigned}
 use Rattle.std.specs.Int.{w64}
 use Rattle.std.specs.Ordering.{nat_cmp}

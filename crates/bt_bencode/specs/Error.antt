@@ -1,4 +1,4 @@
--- The faults of bytes that are no canonical spelling, and what an error says of one.
+-- The faults of bytes that are no canonical spelling (BEP 3, "bencoding"), and what an error says of one.
 use Rattle.std.specs.Prelude.{ℕ}
 use Rattle.bt_bencode.specs.declared.error.BencodeError.{BencodeError}
 use Rattle.bt_bencode.specs.declared.error.BencodeError.TheVariants.{Truncated, BadByte, LeadingZero}

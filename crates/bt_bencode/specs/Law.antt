@@ -1,4 +1,4 @@
--- The laws of spellings, and of which fault of some bytes is the first.
+-- The laws of spellings (BEP 3, "bencoding"), and of which fault of some bytes is the first.
 use Rattle.std.specs.Prelude.{◌≡◌, ◌≢◌, ℕ, ◌^◌, ◌<◌, List, [], ◌++◌, length, FitsSigned}
 use Rattle.std.specs.Int.{w64}
 use Rattle.bt_bencode.specs.Value.{Data, integer, string, list, dictionary}

@@ -9,18 +9,18 @@ pub use Rattle.bt_bencode.specs.declared.value.Value.{Value}
 pub use Rattle.bt_meta.specs.Encode.{first_layer, AreLayersOf, value_made, properties_made}
 unfoldable pub use Rattle.bt_meta.specs.Encode.{tree_made, with_file}
 pub use Rattle.bt_meta.specs.EncodeSteps.{given_at, entries_before, is_nonempty, AreNonEmpty, AreBefore, ComesAfter, HasFirstLayers}
-pub use Rattle.bt_meta.specs.Faults.{first_of, entry_check, is_too_many, file_checks, has_lawful_name, conflict, fault_if, layer_check, is_piece_length, is_element, is_path}
+pub use Rattle.bt_meta.specs.Faults.{first_of, entry_check, is_too_many, property_checks, file_checks, has_lawful_name, fault_if, layer_check, is_piece_length, is_element, is_path}
 unfoldable pub use Rattle.bt_meta.specs.Faults.{tree_checks, has_lawful_length, is_path_element, is_node, layers_of, piece_length_of, info_of, tree_of, layer_checks, first_fault, head_checks, has_lawful_root}
 pub use Rattle.bt_meta.specs.Fields.{no_dictionary, as_dictionary}
 unfoldable pub use Rattle.bt_meta.specs.Fields.{string_at, has_key, dictionary_at, integer_at}
 pub use Rattle.bt_meta.specs.FilePath.{folder_elements}
-pub use Rattle.bt_meta.specs.Files.{is_conflict, root_of, properties_of, is_file, File, file_of, pieces_of, piece_count, length_of, file_at, layer_at}
+pub use Rattle.bt_meta.specs.Files.{Content, content_of, contents_of, is_conflict, has_root_conflict, root_of, properties_of, is_file, File, file_of, pieces_of, piece_count, length_of, file_at, layer_at}
 unfoldable pub use Rattle.bt_meta.specs.Files.{length_in, root_in, files_of}
 pub use Rattle.bt_meta.specs.GivenFiles.{HaveTreePaths, given_of, Given, HasRoot, IsInTreeOrder, path_order, begins}
 pub use Rattle.bt_meta.specs.LayerSteps.{layer_faults, with_layer, layer_fault}
 unfoldable pub use Rattle.bt_meta.specs.Layers.{has_root, has_layer_size}
 pub use Rattle.bt_meta.specs.Limits.{max_file_count, max_piece_count, max_path_length, max_text_length}
-pub use Rattle.bt_meta.specs.PropertySteps.{length_at, NotesLength, property_checks, Lengths, is_other_length}
+pub use Rattle.bt_meta.specs.PropertySteps.{length_at, NotesLength, Lengths, is_other_length}
 pub use Rattle.bt_meta.specs.Reader.{faulty, no_spelling}
 pub use Rattle.bt_meta.specs.ReaderSteps.{IsListing, IsHead}
 pub use Rattle.bt_meta.specs.Torrent.{IsLaidOut, Metainfo}

@@ -35,7 +35,7 @@ for_memory d bytes (Trailing at) canonical spelled none = absurd (none d canonic
 for_memory d bytes no_memory_left canonical spelled none = refl
 
 pub refused_for_memory : IsRefusedForMemoryAlone
-refused_for_memory bytes torrent e h (no_memory) = refl
+refused_for_memory bytes torrent e h (no_memory small) = refl
 refused_for_memory bytes torrent e h (too_long long) = let small = h.small in absurd (omega arith)
 refused_for_memory bytes torrent e h (no_spelling fault small none) = for_memory _ bytes fault h.canonical h.spelled none.spells_none
 refused_for_memory bytes torrent e h (faulty fault small found) =

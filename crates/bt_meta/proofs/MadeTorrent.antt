@@ -1,15 +1,14 @@
 -- What is made of lawful files is a torrent, and gives them back.
-use Rattle.bt_meta.proofs.Base.{get_or, ◌≡◌, ◌≢◌, ℕ, ◌≤◌, Bool, true, false, List, [], ◌∷◌, ◌++◌, length, map, None, refl, sym, ap, ◌∙◌, arith, inl, inr, append_assoc, length-append, Option, Some, filter, nat_lt, not, ◌&&◌, ◌==◌, sum_by, nat_eq, unwrap_or, if◌then◌else◌, All, list_any, cases_Bool, and_parts, nat_tests, length-map, map_push, All-head, filter-append, All-tail, sum_by-append, sum_by-cons, option_map, option_and_then, pointwise, All-permutation, length_permutation, bytes_eq-Decides, dictionary, Entries, Data, string, spelling_of, max_path_length, max_file_count, max_piece_count, max_text_length, has_key, integer_at, string_at, dictionary_at, TreeEntry, tree_entries_below, tree_entries_among, with_earlier, is_file, length_of, root_of, pieces_of, piece_count, layer_at, file_at, files_of, first_of, fault_if, conflict, is_too_many, entry_check, tree_checks, is_piece_length, head_checks, piece_length_of, tree_of, layer_check, layer_checks, info_of, layers_of, first_fault, Given, given_of, HasRoot, IsInTreeOrder, has_layer_size, has_root, metainfo_of, Made, file_refusal, first_layer, AreLayersOf, tree_made, value_made}
+use Rattle.bt_meta.proofs.Base.{get_or, ◌≡◌, ◌≢◌, ℕ, ◌≤◌, Bool, true, false, List, [], ◌∷◌, ◌++◌, length, map, None, refl, sym, ap, ◌∙◌, arith, inl, inr, append_assoc, length-append, Option, Some, filter, nat_lt, not, ◌&&◌, ◌==◌, sum_by, nat_eq, unwrap_or, if◌then◌else◌, All, list_any, cases_Bool, and_parts, nat_tests, length-map, map_push, All-head, filter-append, All-tail, sum_by-append, sum_by-cons, option_map, option_and_then, pointwise, All-permutation, length_permutation, bytes_eq-Decides, dictionary, Entries, Data, string, spelling_of, max_path_length, max_file_count, max_piece_count, max_text_length, has_key, integer_at, string_at, dictionary_at, TreeEntry, tree_entries_below, tree_entries_among, with_earlier, is_file, length_of, root_of, pieces_of, piece_count, layer_at, file_at, files_of, first_of, fault_if, Content, content_of, contents_of, is_conflict, has_root_conflict, is_too_many, entry_check, tree_checks, is_piece_length, head_checks, piece_length_of, tree_of, layer_check, layer_checks, info_of, layers_of, first_fault, Given, given_of, HasRoot, IsInTreeOrder, has_layer_size, has_root, metainfo_of, Made, file_refusal, first_layer, AreLayersOf, tree_made, value_made}
 use Rattle.std.proofs.lemmas.List.Elements.{All-map}
 use Rattle.std.proofs.lemmas.List.Folds.{list_any_at, list_any_none}
 use Rattle.std.proofs.lemmas.List.Recursion.{is_sum_by}
 use Rattle.std.specs.List.{find}
 use Rattle.std.proofs.lemmas.Bool.{and_right, le-ltb, or_from}
-use Rattle.std.proofs.lemmas.Map.Views.{any-filter_same}
 use Rattle.bt_meta.specs.Fields.{as_string}
 use Rattle.bt_meta.proofs.Checks.{skips, first_of-append, each_none, holds_unless}
 use Rattle.bt_meta.proofs.Lists.{All-front, All-back}
-use Rattle.bt_meta.proofs.TreeWalk.{has_conflict, file_counted, folder_counted, some_of_filter}
+use Rattle.bt_meta.proofs.TreeWalk.{file_counted, folder_counted, some_of_filter}
 use Rattle.bt_meta.proofs.RootLengths.{conflict_free}
 use Rattle.bt_meta.proofs.MadeTree.{Agree, AreAlike, IsGood, entry_made, length_of_made, root_of_some, IsTreeOf, canonical_made, AreLawful, IsLawful, lawful_ordered, ordered_named, value_is_file, root_of_made, tree_is}
 use Rattle.bt_meta.specs.EncodeSteps.{IsValueOf}
@@ -30,13 +29,13 @@ at_one P xs x ys all e h = let split = rw (← e) at h in (All-head P x ys (All-
 abbrev AgreeAt : TreeEntry → TreeEntry → Type 0
 AgreeAt p q = length_of q ≢ 0 → length_of p ≢ 0 → root_of q ≡ root_of p → length_of q ≡ length_of p
 
-agree_behind : (p : TreeEntry) (before : List TreeEntry) → All (AgreeAt p) (filter is_file before) → has_conflict before p ≡ false
+agree_behind : (p : TreeEntry) (before : List TreeEntry) → All (AgreeAt p) (filter is_file before) → has_root_conflict (contents_of before) (content_of p) ≡ false
 agree_behind p before h = elim (cases_Bool (length_of p == 0)) [
   | inl none ↦ rw none refl
   | inr some ↦
       let filled : length_of p ≢ 0 = grind (arith, nat_tests) in
-      and_right _ _ (sym (any-filter_same (conflict p) is_file true (λ q t. (and_parts _ _ t).0) before)
-      ∙ list_any_none (conflict p) _ (λ k d lt. and_right _ _ (conflict_free (root_of p) _ _ _ (λ other same. h k d lt other filled same))))
+      and_right _ _ (list_any_none _ _ (All-map (λ (f : Content). is_conflict (root_of p) (length_of p) f.root f.length ≡ false) content_of (filter is_file before)
+      (λ k d lt. conflict_free (root_of p) _ _ _ (λ other same. h k d lt other filled same))))
 ]
 
 -- ---- the entries of a tree

@@ -1,14 +1,15 @@
 -- The tree of files that are put into it in their order: it is canonical, and has an entry for each file.
-use Rattle.bt_meta.proofs.Base.{◌≡◌, ℕ, zero, suc, ◌<◌, ◌≤◌, ◌^◌, true, false, List, [], ◌∷◌, length, refl, sym, ap, ◌∙◌, arith, inl, inr, None, Some, ◌≢◌, ◌++◌, map, get_or, append_assoc, Bool, length-append, Option, IfSome, nat_eq, nat_le, ◌==◌, not, sum_by, filter, unwrap_or, replicate, if◌then◌else◌, All, list_all, last_or, option_map, is_eq, is_eq-slice_cmp, ordering_reverse, pointwise, nat_list_cmp_total, cases_Bool, and_parts, leb-true, nat_tests, bytes_eq-Decides, Bor, append-nil, get_or-map, length-map, map_push, All-nil, All-push, All-cons, All-tail, All-append, filter-append, All-permutation, length_permutation, is_utf8-from_IsUtf8, Data, integer, string, dictionary, Entries, no_entries, entry, first_value_of, IsBefore, HasAscendingKeys, EntriesAscend, IsCanonical, max_file_length, max_path_length, max_file_count, max_piece_count, is_piece_length, first_of, is_path, is_element, is_node, has_lawful_name, is_path_element, has_lawful_length, has_lawful_root, Given, HaveTreePaths, IsInTreeOrder, HasRoot, properties_made, tree_made, AreLayersOf, value_made, with_file, entries_before, AreNonEmpty, AreBefore, given_at, ComesAfter, with_earlier, TreeEntry, tree_entries_among, piece_count, is_conflict, is_file, properties_of, length_in, root_in, length_of, root_of, file_refusal, Made, Count, has_key, dictionary_at, integer_at, string_at, property_checks}
+use Rattle.bt_meta.proofs.Base.{◌≡◌, ℕ, zero, suc, ◌<◌, ◌≤◌, ◌^◌, true, false, List, [], ◌∷◌, length, refl, sym, ap, ◌∙◌, arith, inl, inr, None, Some, ◌≢◌, ◌++◌, map, get_or, append_assoc, Bool, length-append, Option, IfSome, nat_eq, nat_le, ◌==◌, not, sum_by, filter, unwrap_or, replicate, if◌then◌else◌, All, list_all, last_or, option_map, is_eq, is_eq-slice_cmp, ordering_reverse, pointwise, nat_list_cmp_total, cases_Bool, and_parts, leb-true, nat_tests, bytes_eq-Decides, Bor, append-nil, get_or-map, length-map, map_push, All-nil, All-push, All-cons, All-tail, All-append, filter-append, All-permutation, length_permutation, is_utf8-from_IsUtf8, Data, integer, string, dictionary, Entries, no_entries, entry, first_value_of, IsBefore, HasAscendingKeys, EntriesAscend, IsCanonical, max_file_length, max_path_length, max_file_count, max_piece_count, is_piece_length, first_of, is_path, is_element, is_node, has_lawful_name, is_path_element, has_lawful_length, has_lawful_root, Given, HaveTreePaths, IsInTreeOrder, HasRoot, properties_made, tree_made, AreLayersOf, value_made, with_file, entries_before, AreNonEmpty, AreBefore, given_at, ComesAfter, with_earlier, TreeEntry, tree_entries_among, piece_count, Content, is_conflict, is_file, properties_of, length_in, root_in, length_of, root_of, file_refusal, Made, Count, has_key, dictionary_at, integer_at, string_at, property_checks}
 use Rattle.std.proofs.Common.{pos}
 use Rattle.std.proofs.lemmas.Int.{ints}
 use Rattle.std.proofs.lemmas.List.Sorted.{sum_by-IsPermutation}
 use Rattle.std.proofs.lemmas.Str.{IsUtf8-nil}
 use Rattle.bt_bencode.specs.Doc.{nesting_of, first_key_of, HasSmallIntegers, IsCanonicalWithin}
 use Rattle.bt_meta.proofs.EncodeValue.{IsPut, before_none, put_there, nothing, grows}
+use Rattle.bt_meta.specs.GivenFiles.{content_given}
 use Rattle.bt_meta.specs.WriterRefusals.{Check, layer_refusal, conflict_with}
 use Rattle.bt_meta.specs.declared.writer.MakeError.TheVariants.{BadPath, FileLength, RootConflict}
-use Rattle.bt_meta.proofs.Lists.{none_of, All-front, All-back}
+use Rattle.bt_meta.proofs.Lists.{none_mapped, All-front, All-back}
 use Rattle.bt_meta.proofs.RootLengths.{no_conflict}
 use Rattle.bt_meta.proofs.Checks.{AreNone, each_none, first_none, not_faulty, holds_unless}
 use Rattle.bt_meta.proofs.TreeWalk.{last_push}
@@ -42,7 +43,7 @@ alike_more : (before : List Given) (f : Given) → AreAlike before → conflict_
 alike_more before f h apart =
     let own : All (Agree f) before = λ k d lt some other same.
     let filled : (f.length == 0) ≡ false = grind (arith, nat_tests) in
-    sym (no_conflict _ _ _ _ (none_of (λ (g : Given). is_conflict f.root f.length g.root g.length) _ (rw filled at apart) k d lt) other (sym same))
+    sym (no_conflict _ _ _ _ (none_mapped (λ (g : Content). is_conflict f.root f.length g.root g.length) content_given before (rw filled at apart) k d lt) other (sym same))
     in
     All-push (λ g. All (Agree g) (before ++ f ∷ [])) _ f
     (λ k d lt. All-push (Agree (get_or before k d)) before f (h k d lt) (λ some other same. sym (own k d lt other some (sym same))))

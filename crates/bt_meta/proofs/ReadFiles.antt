@@ -1,5 +1,5 @@
 -- What is read keeps to what every torrent does.
-use Rattle.bt_meta.proofs.Base.{◌≡◌, ℕ, ◌≤◌, get_or, true, false, List, [], ◌∷◌, ◌++◌, length, None, refl, sym, ap, ◌∙◌, arith, inl, inr, append-nil, append_assoc, ◌<◌, ◌+◌, zero, suc, ◌≢◌, Result, Ok, Err, map, not, ◌==◌, ◌⊎◌, replicate, filter, codes, take, sum_by, IfOk, All, AllPairs, list_all, list_any, has_key, cases_Bool, and_parts, or_parts, leb-true, nat_tests, nat_lt, All-nil, All-push, filter-append, All-cons, All-head, All-tail, All-append, sum_by-cons, nat_cmp, Ordering, Less, slice_cmp, nat_list_cmp_total, tied_itself, AllPairs-cons, Data, dictionary, Entries, no_entries, entry, data_of, IsBefore, HasAscendingKeys, EntriesAscend, max_file_length, max_piece_length, max_file_count, max_piece_count, no_dictionary, TreeEntry, tree_entries_below, with_earlier, tree_entries_among, is_file, length_in, root_in, length_of, root_of, pieces_of, File, piece_count, file_at, files_of, layer_at, file_of, first_of, fault_if, is_node, has_lawful_name, has_lawful_root, conflict, is_too_many, file_checks, entry_check, tree_checks, is_path_element, is_element, is_path, is_piece_length, tree_of, layer_check, layer_checks, Tree, Metainfo, Head, Listing, IsHead, IsListing, with_layer, layer_faults, has_layer_size, has_root}
+use Rattle.bt_meta.proofs.Base.{◌≡◌, ℕ, ◌≤◌, get_or, true, false, List, [], ◌∷◌, ◌++◌, length, None, refl, sym, ap, ◌∙◌, arith, inl, inr, append-nil, append_assoc, ◌<◌, ◌+◌, zero, suc, ◌≢◌, Result, Ok, Err, map, not, ◌==◌, ◌⊎◌, replicate, filter, codes, take, sum_by, IfOk, All, AllPairs, list_all, list_any, has_key, cases_Bool, and_parts, or_parts, leb-true, nat_tests, nat_lt, All-nil, All-push, filter-append, All-cons, All-head, All-tail, All-append, sum_by-cons, nat_cmp, Ordering, Less, slice_cmp, nat_list_cmp_total, tied_itself, AllPairs-cons, Data, dictionary, Entries, no_entries, entry, data_of, IsBefore, HasAscendingKeys, EntriesAscend, max_file_length, max_piece_length, max_file_count, max_piece_count, no_dictionary, TreeEntry, tree_entries_below, with_earlier, tree_entries_among, is_file, length_in, root_in, length_of, root_of, pieces_of, File, piece_count, file_at, files_of, layer_at, file_of, first_of, fault_if, is_node, has_lawful_name, has_lawful_root, content_of, is_too_many, file_checks, entry_check, tree_checks, is_path_element, is_element, is_path, is_piece_length, tree_of, layer_check, layer_checks, Tree, Metainfo, Head, Listing, IsHead, IsListing, with_layer, layer_faults, has_layer_size, has_root}
 use Rattle.std.proofs.lemmas.Bool.{eqb-true, ltb-true}
 use Rattle.std.proofs.lemmas.List.Elements.{All-filter, All-weaker, filter_passes}
 use Rattle.std.proofs.lemmas.List.Quantifiers.{all_pairs_push}
@@ -10,7 +10,7 @@ use Rattle.bt_tree.specs.TreeShape.{IsPieceLength}
 use Rattle.bt_meta.specs.Fields.{entries_in}
 use Rattle.bt_meta.specs.Limits.{are_too_many}
 use Rattle.bt_meta.proofs.Checks.{each_none, first_none, both_none, holds_unless, not_faulty}
-use Rattle.bt_meta.proofs.Lists.{none_of, All-front, All-back, pairs_append}
+use Rattle.bt_meta.proofs.Lists.{none_kept, All-front, All-back, pairs_append}
 use Rattle.bt_meta.proofs.RootLengths.{no_conflict}
 use Rattle.bt_meta.proofs.TreeWalk.{lawful_is_short, pieces_push, name_of, same_sum, some_of_filter, no_layer, length-with_earlier}
 use Rattle.bt_meta.specs.Torrent.{IsApart, HaveAscendingPaths, IsLawful}
@@ -62,7 +62,7 @@ module _ (n : ℕ) where
         λ k d within file_q file some_q some same.
             let filled : (length_of p == 0) ≡ false = grind (arith, nat_tests) in
             let none = rw filled at (not_faulty _ _ (of_file file).1.1.1.0) in
-            no_conflict _ _ _ _ (rw file_q at (none_of (conflict p) before none k d within)) some_q same,
+            no_conflict _ _ _ _ (none_kept _ content_of is_file before none k d within file_q) some_q same,
         not_faulty _ _ own.1.1.1.0,
       )
 

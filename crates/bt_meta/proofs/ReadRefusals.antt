@@ -9,6 +9,6 @@ pub value_refused : {T : Type 0} (first : Data → Check) (bytes : List ℕ) (va
     → IsCanonical value → spelling_of value ≡ bytes
     → IfErr r (Refuses (first value)) → IfErr r (IsRefused first bytes)
 value_refused first bytes value (Ok x) small canonical spelled h = h
-value_refused first bytes value (Err e) small canonical spelled (inl m) = rw m no_memory
+value_refused first bytes value (Err e) small canonical spelled (inl m) = rw m (no_memory small)
 value_refused first bytes value (Err e) small canonical spelled (inr k) =
     faulty e small (record { value = value; canonical = canonical; spelled = spelled; first = k })

@@ -1,5 +1,6 @@
 -- What the lengths of roots tell once one length more is noted.
-use Rattle.bt_meta.proofs.Base.{◌≡◌, ◌≢◌, ℕ, Bool, true, false, List, Option, None, Some, refl, sym, ap, ◌∙◌, arith, not, ◌&&◌, ◌||◌, ◌==◌, cond, nat_cmp, is_eq, slice_cmp, or-false, and_parts, false_from_ne_true, nat_tests, is_eq-slice_cmp, bytes_eq-Decides, is_conflict, Lengths, length_at, is_other_length, NotesLength}
+use Rattle.bt_meta.proofs.Base.{◌≡◌, ◌≢◌, ℕ, Bool, true, false, List, Option, None, Some, refl, sym, ap, ◌∙◌, arith, not, ◌&&◌, ◌||◌, ◌==◌, cond, nat_cmp, is_eq, slice_cmp, or-false, list_any-append, ◌++◌, ◌∷◌, [], and_parts, false_from_ne_true, nat_tests, is_eq-slice_cmp, bytes_eq-Decides, Content, is_conflict, Lengths, length_at, is_other_length, NotesLength}
+use Rattle.bt_meta.specs.PropertySteps.{HasLengths}
 
 module _ (length n : ℕ) where
   at : (b : Bool) (o p : Option ℕ) → is_other_length o length ≡ false → (b ≡ true → o ≡ p)
@@ -19,6 +20,11 @@ noted_now {old} {new} {root} {length} some alike noted = record {
       ∙ at length n _ _ _ alike (λ e. ap (length_at old) ((bytes_eq-Decides root other).0 (sym test ∙ e)))
       ∙ rw (test, some) refl;
 }
+
+-- the lengths of one file more
+pub lengths_push : {old new : Lengths} (files : List Content) (f : Content) → HasLengths old files → NotesLength old new f.root f.length
+    → HasLengths new (files ++ f ∷ [])
+lengths_push files f h noted root n = noted.noted root n ∙ rw (h root n, list_any-append, or-false) refl
 
 -- ---- what a root conflict is
 

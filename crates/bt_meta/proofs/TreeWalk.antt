@@ -1,30 +1,29 @@
 -- The walk over a file tree, entry by entry.
-use Rattle.bt_meta.proofs.Base.{no_entries, ◌≡◌, ℕ, Bool, true, false, List, [], ◌∷◌, ◌++◌, None, Some, refl, inr, ◌+◌, ◌<◌, length, take, get_or, sym, ap, ◌∙◌, append_assoc, inl, ◌≤◌, map, arith, Option, not, ◌&&◌, ◌==◌, filter, sum_by, ◌||◌, unwrap_or, nat_lt, if◌then◌else◌, list_any, last_or, Vec, append-nil, map-append, take_more, map_push, length-map, or-false, filter-append, All-push, All-nil, list_any-append, sum_by-cons, div_ceil, nat_tests, Data, Entries, entry, data_of, entries_of, Value, max_file_length, TreeEntry, tree_entries_below, tree_entries_among, with_earlier, is_file, properties_of, length_of, File, root_of, is_conflict, file_of, file_at, pieces_of, piece_count, length_in, files_of, first_of, fault_if, is_node, has_lawful_name, conflict, is_too_many, entry_check, has_lawful_length, is_path_element, tree_checks, property_checks, Lengths, length_at, is_other_length, NotesLength, Passes, tree_entries_of, MetaError, TooMany, Tree, string_at, no_dictionary, has_key, dictionary_at, FileEntry, max_path_length, max_file_count, max_piece_count, IsListing, Listing}
+use Rattle.bt_meta.proofs.Base.{no_entries, ◌≡◌, ℕ, Bool, true, false, List, [], ◌∷◌, ◌++◌, None, Some, refl, inr, ◌+◌, ◌<◌, length, take, get_or, sym, ap, ◌∙◌, append_assoc, inl, ◌≤◌, map, arith, Option, not, ◌&&◌, ◌==◌, filter, sum_by, ◌||◌, unwrap_or, nat_lt, if◌then◌else◌, list_any, last_or, Vec, append-nil, map-append, take_more, map_push, length-map, or-false, filter-append, All-push, All-nil, sum_by-cons, div_ceil, nat_tests, Data, Entries, entry, data_of, entries_of, Value, max_file_length, TreeEntry, tree_entries_below, tree_entries_among, with_earlier, is_file, properties_of, length_of, File, root_of, content_of, contents_of, has_root_conflict, file_of, file_at, pieces_of, piece_count, length_in, files_of, first_of, fault_if, is_node, has_lawful_name, is_too_many, entry_check, has_lawful_length, is_path_element, tree_checks, property_checks, Lengths, length_at, is_other_length, NotesLength, Passes, tree_entries_of, MetaError, TooMany, Tree, string_at, no_dictionary, has_key, dictionary_at, FileEntry, max_path_length, max_file_count, max_piece_count, IsListing, Listing}
 use Rattle.std.proofs.lemmas.List.{length_push, take-append-drop}
 use Rattle.std.proofs.lemmas.List.Sums.{sum_by_push}
 use Rattle.bt_bencode.specs.Value.{entries_from}
 use Rattle.bt_meta.specs.Faults.{Check}
 use Rattle.bt_meta.specs.PropertySteps.{IsFileFacts, IsLengthConflict}
-use Rattle.bt_meta.specs.WalkSteps.{IsWalkOver, Walks, Stops, has_other_length, IsFileEntry, Enters, StopsAtEntry}
+use Rattle.bt_meta.specs.WalkSteps.{IsWalkOver, Walks, Stops, IsFileEntry, Enters, StopsAtEntry}
 use Rattle.bt_meta.specs.declared.walk.Walk.{Walk}
 use Rattle.bt_meta.specs.declared.error.MetaError.TheVariants.{RootConflict, BadPath}
 use Rattle.bt_meta.proofs.Checks.{first_of-append, first_of-append_some}
 use Rattle.bt_meta.specs.Fields.{is_dictionary}
 use Rattle.bt_meta.proofs.Dictionaries.{nothing_below}
+use Rattle.bt_meta.proofs.RootLengths.{lengths_push}
 use Rattle.bt_meta.specs.Limits.{are_too_many}
 use Rattle.bt_meta.specs.declared.properties.FileFacts.{FileFacts}
 use Rattle.bt_meta.specs.ReaderSteps.{Refuses}
 
 -- ==== what the checks of one entry come to
 
-abbrev pub has_conflict : List TreeEntry → TreeEntry → Bool
-has_conflict before p = not (length_of p == 0) && list_any (conflict p) before
-
 module _ (n : ℕ) (before : List TreeEntry) (p : TreeEntry) (node : is_node p.value ≡ true) (name : has_lawful_name p ≡ true) where
   pub folder_counted : {many : Bool} → is_file p ≡ false → is_too_many n before p ≡ many → entry_check n before p ≡ first_of (fault_if many TooMany ∷ [])
   folder_counted folder m = rw (m, node, name, folder) refl
 
-  pub file_counted : is_file p ≡ true → first_of (property_checks (properties_of p)) ≡ None → {other many : Bool} → has_conflict before p ≡ other
+  pub file_counted : is_file p ≡ true → first_of (property_checks (properties_of p)) ≡ None → {other many : Bool}
+      → has_root_conflict (contents_of before) (content_of p) ≡ other
       → is_too_many n before p ≡ many → entry_check n before p ≡ first_of (first_of (fault_if other RootConflict ∷ []) ∷ fault_if many TooMany ∷ [])
   file_counted file none c m = rw (m, node, name, file, c, first_of-append (property_checks (properties_of p)) _ none) refl
 
@@ -125,13 +124,12 @@ module _ (n : ℕ) (before : List TreeEntry) where
   count_of_files h = sym (length-map _ file_of) ∙ ap length h.files ∙ length-with_earlier (file_at n no_dictionary) [] (filter is_file before)
 
   module _ (p : TreeEntry) where
-    others_push : (root : List ℕ) (m : ℕ)
-        → has_other_length (before ++ p ∷ []) root m ≡ (has_other_length before root m || (is_file p && is_conflict root m (root_of p) (length_of p)))
-    others_push root m = rw (list_any-append, or-false) refl
-
     module _ (file : is_file p ≡ true) where
       filter_file : filter is_file (before ++ p ∷ []) ≡ filter is_file before ++ p ∷ []
       filter_file = rw (filter-append, file) refl
+
+      contents_push : contents_of (before ++ p ∷ []) ≡ contents_of before ++ content_of p ∷ []
+      contents_push = ap (map content_of) filter_file ∙ map_push content_of (filter is_file before) p
 
       pub pieces_push : pieces_of n (before ++ p ∷ []) ≡ pieces_of n before + piece_count n (length_of p)
       pieces_push = ap (sum_by (λ q. piece_count n (length_of q))) filter_file ∙ sum_by_push _ (filter is_file before) p
@@ -143,7 +141,7 @@ module _ (n : ℕ) (before : List TreeEntry) where
           files = rw same h.files;
           pieces = rw same h.pieces;
           short = h.short;
-          lengths = λ root m. h.lengths root m ∙ sym (others_push root m ∙ rw folder (or-false _));
+          lengths = rw same h.lengths;
         }
 
 -- ==== adding a file, and entering a folder
@@ -207,8 +205,8 @@ module _ {path : List (List ℕ)} {name : List ℕ} {properties : Data} {p : Tre
             files = pushed ∙ rw (h.files, same, filter_file n before p at.file, with_earlier-append f [] _ _) refl;
             pieces = pieces ∙ rw (h.pieces, pieces_push n before p at.file, own.length) refl;
             short = rw pushed (All-push (λ (g : File). g.length ≤ max_file_length) _ (file_of added) h.short (rw (ap (λ g. g.length) is) given.short));
-            lengths = λ r m. rw lengths_are
-                (noted.noted r m ∙ sym (others_push n before p r m ∙ rw (at.file, ← h.lengths r m, ← own.length, ← own.root) refl));
+            lengths = rw (lengths_are, contents_push n before p at.file)
+                (lengths_push {old = old.lengths} {new = lengths} (contents_of before) (content_of p) h.lengths (rw (← own.length, ← own.root) noted));
           },
           file_told h {many = false} noted.alike (grind (arith, nat_tests)),
         ))

@@ -1,4 +1,5 @@
--- Which faults a torrent has, in the order in which they are looked for.
+-- Which faults a torrent has, in the order in which they are looked for: those of BEP 52 ("metainfo files"), and
+-- those of this project, which are marked ours.
 use Rattle.std.specs.Prelude.{ℕ, ℤ, Bool, false, not, ◌&&◌, ◌||◌, ◌==◌, List, [], ◌∷◌, ◌++◌, length, map, filter, codes, Option, None, Some, is_some, is_none, unwrap_or, nat_eq, nat_lt, nat_le, if◌then◌else◌}
 use Rattle.std.specs.Option.{option_map_or}
 use Rattle.std.specs.List.{list_any, last_or, list_all}
@@ -10,7 +11,7 @@ use Rattle.bt_bencode.specs.Dictionary.{field_of}
 use Rattle.bt_tree.specs.Limits.{max_file_length, min_piece_length, max_piece_length}
 use Rattle.bt_meta.specs.Fields.{integer_at, natural_at, string_at, dictionary_at, has_key, as_natural, no_dictionary, is_dictionary, is_single}
 use Rattle.bt_meta.specs.TreeEntries.{TreeEntry, tree_entries_below, with_earlier}
-use Rattle.bt_meta.specs.Files.{is_file, properties_of, length_in, root_in, length_of, root_of, is_conflict, pieces_of, layer_for}
+use Rattle.bt_meta.specs.Files.{is_file, properties_of, length_in, root_in, length_of, root_of, content_of, contents_of, has_root_conflict, pieces_of, layer_for}
 use Rattle.bt_meta.specs.Layers.{has_layer_size, has_root}
 use Rattle.bt_meta.specs.declared.error.MetaError.{MetaError}
 use Rattle.bt_meta.specs.declared.error.MetaError.TheVariants.{NoInfo, NotV2, Version, Hybrid, NoName, PieceLength, Tree, BadPath, Symlink, FileLength, BadRoot, RootConflict, TooMany, LayerMissing, LayerSize, LayerDiffers}
@@ -31,7 +32,7 @@ first_of (Some fault ∷ checks) = Some fault
 
 -- ---- the entries of the file tree
 
--- a folder, which has no empty key, or a file, which has nothing but the empty key, with a dictionary
+-- a folder, which has no empty key, or a file, which has nothing but the empty key (ours), with a dictionary
 unfoldable pub is_node : Data → Bool
 is_node d = is_dictionary d && (not (has_key d []) || (is_single d && is_some (dictionary_at d [])))
 
@@ -43,7 +44,7 @@ is_dots element = pointwise nat_eq element (codes ".") || pointwise nat_eq eleme
 abbrev pub slash : ℕ
 slash = 47
 
--- neither `.` nor `..`, with no `/` and no zero byte, and UTF-8
+-- neither `.` nor `..`, with no `/` and no zero byte (ours: BEP 52 has such names made harmless), and UTF-8
 unfoldable pub is_path_element : List ℕ → Bool
 is_path_element element =
     not (is_dots element || list_any (λ b. b == slash) element || list_any (λ b. b == 0) element)
@@ -60,7 +61,7 @@ is_path path = not (length path == 0) && list_all is_element path
 abbrev pub has_lawful_name : TreeEntry → Bool
 has_lawful_name p = is_path_element (unwrap_or (last_or None p.path) [])
 
--- a file has a length, and is not too long
+-- a file has a length, and is not too long (ours)
 unfoldable pub has_lawful_length : Data → Bool
 has_lawful_length properties =
     option_map_or (λ n. nat_le n max_file_length) (natural_at properties (codes "length")) false
@@ -69,24 +70,26 @@ has_lawful_length properties =
 unfoldable pub has_lawful_root : Data → Bool
 has_lawful_root properties = length_in properties == 0 || length (root_in properties) == 32
 
--- both are files that are not empty, with one root and two lengths
-abbrev pub conflict : TreeEntry → TreeEntry → Bool
-conflict p q = is_file q && is_conflict (root_of p) (length_of p) (root_of q) (length_of q)
-
--- too many elements in the path; or too many files or pieces with this file
+-- too many elements in the path; or too many files or pieces with this file (ours)
 abbrev pub is_too_many : ℕ → List TreeEntry → TreeEntry → Bool
 is_too_many piece_length before p =
     let entries = before ++ p ∷ [] in
     nat_lt max_path_length (length p.path)
     || (is_file p && are_too_many (length (filter is_file entries)) (pieces_of piece_length entries))
 
+-- the checks of a file's properties alone; that links are refused is ours
+abbrev pub property_checks : Data → List Check
+property_checks properties =
+    fault_if (has_key properties (codes "symlink path")) Symlink
+    ∷ fault_if (not (has_lawful_length properties)) FileLength
+    ∷ fault_if (not (has_lawful_root properties)) BadRoot
+    ∷ []
+
+-- those of a file behind earlier entries; the root conflict is ours
 abbrev pub file_checks : List TreeEntry → TreeEntry → List Check
 file_checks before p =
-    fault_if (has_key (properties_of p) (codes "symlink path")) Symlink
-    ∷ fault_if (not (has_lawful_length (properties_of p))) FileLength
-    ∷ fault_if (not (has_lawful_root (properties_of p))) BadRoot
-    ∷ fault_if (not (length_of p == 0) && list_any (conflict p) before) RootConflict
-    ∷ []
+    property_checks (properties_of p)
+    ++ fault_if (has_root_conflict (contents_of before) (content_of p)) RootConflict ∷ []
 
 abbrev pub entry_check : ℕ → List TreeEntry → TreeEntry → Check
 entry_check piece_length before p = first_of (
@@ -96,7 +99,7 @@ entry_check piece_length before p = first_of (
     ∷ fault_if (is_too_many piece_length before p) TooMany
     ∷ [])
 
--- the tree, each of its entries, and then whether there is a file
+-- the tree, each of its entries, and then whether there is a file (ours)
 unfoldable pub tree_checks : ℕ → Data → List Check
 tree_checks piece_length tree =
     fault_if (has_key tree []) Tree
@@ -110,12 +113,12 @@ version_check None = Some NotV2
 version_check (Some version) =
     if option_map_or (λ n. n == 2) (as_natural version) false then None else Some (Version version)
 
--- what stands in the `info` of a v1 torrent (BEP 3)
+-- what stands in the `info` of a v1 torrent (BEP 3); that one of both versions is refused is ours
 abbrev pub is_hybrid : Data → Bool
 is_hybrid info =
     has_key info (codes "pieces") || has_key info (codes "length") || has_key info (codes "files")
 
--- a power of two (BEP 52) between the limits
+-- a power of two of 16 KiB at least (BEP 52), and of the greatest at most (ours)
 abbrev pub is_piece_length : ℕ → Bool
 is_piece_length n = is_power_of_two n && nat_le min_piece_length n && nat_le n max_piece_length
 

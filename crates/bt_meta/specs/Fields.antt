@@ -1,4 +1,4 @@
--- What a dictionary holds at a key, by kind.
+-- What a dictionary holds at a key, by kind (BEP 3, "bencoding").
 use Rattle.std.specs.Prelude.{ℕ, ℤ, pos, negsuc, Bool, true, false, List, Option, None, Some, is_some}
 use Rattle.std.specs.Option.{option_and_then}
 use Rattle.bt_bencode.specs.Value.{Data, integer, string, list, dictionary, Entries, no_entries, entry}

@@ -1,5 +1,6 @@
 -- The files of a file tree (BEP 52).
-use Rattle.std.specs.Prelude.{ℕ, Bool, not, ◌&&◌, ◌==◌, List, [], filter, sum_by, replicate, codes, unwrap_or, nat_eq, nat_lt, if◌then◌else◌}
+use Rattle.std.specs.Prelude.{ℕ, Bool, not, ◌&&◌, ◌==◌, List, [], filter, map, sum_by, replicate, codes, unwrap_or, nat_eq, nat_lt, if◌then◌else◌}
+use Rattle.std.specs.List.{list_any}
 use Rattle.std.specs.Int.{div_ceil}
 use Rattle.std.specs.Cmp.Lexicographic.{pointwise}
 use Rattle.bt_bencode.specs.Value.{Data}
@@ -34,9 +35,33 @@ root_of p = root_in (properties_of p)
 abbrev pub piece_count : ℕ → ℕ → ℕ
 piece_count piece_length length = div_ceil length piece_length
 
--- a file of m bytes with the other root is not empty, and has this root and not n bytes
+-- ---- root conflict: files that are not empty have one root and two lengths
+
+-- what files are compared by
+pub record Content : Type 0 where
+  pub length : ℕ
+  pub root : List ℕ
+
+-- a file of m bytes with the other root has bytes, and it has this root and another length than n
 abbrev pub is_conflict : List ℕ → ℕ → List ℕ → ℕ → Bool
 is_conflict root n other m = not (m == 0) && pointwise nat_eq other root && not (m == n)
+
+-- one of these files that is not empty has this root and another length
+abbrev pub has_other_length : List Content → List ℕ → ℕ → Bool
+has_other_length files root n = list_any (λ f. is_conflict root n f.root f.length) files
+
+-- the file is not empty, and one of the earlier files that is not empty has its root and another length
+abbrev pub has_root_conflict : List Content → Content → Bool
+has_root_conflict before f = not (f.length == 0) && has_other_length before f.root f.length
+
+abbrev pub content_of : TreeEntry → Content
+content_of p = record { length = length_of p; root = root_of p }
+
+-- what the entries that are files are compared by
+abbrev pub contents_of : List TreeEntry → List Content
+contents_of entries = map content_of (filter is_file entries)
+
+-- ---- the files of a tree
 
 -- how many pieces the entries that are files have together
 abbrev pub pieces_of : ℕ → List TreeEntry → ℕ

@@ -1,4 +1,4 @@
--- The files that a torrent is made of, and the order of a file tree.
+-- The files that a torrent is made of, and the order of a file tree (BEP 52, "file tree").
 use Rattle.std.specs.Prelude.{◌≡◌, ℕ, ◌+◌, ◌<◌, Bool, false, List, length, map, get_or, string_bytes, nat_eq}
 use Rattle.std.specs.List.{starts_with}
 use Rattle.std.specs.Ordering.{nat_cmp, is_lt}
@@ -6,6 +6,7 @@ use Rattle.std.specs.declared.cmp.Ordering.{Ordering}
 use Rattle.std.specs.declared.cmp.Ordering.TheVariants.{Less}
 use Rattle.std.specs.List.Sorted.{IsPermutation, IsSortedBy}
 use Rattle.std.specs.Cmp.Lexicographic.{pointwise, slice_cmp}
+use Rattle.bt_meta.specs.Files.{Content}
 use Rattle.bt_meta.specs.declared.writer.Made.{Made}
 
 -- a file that a torrent is made of
@@ -22,6 +23,10 @@ given_of m = record {
   root = m.root;
   layer = m.layer.items;
 }
+
+-- what it is compared by
+abbrev pub content_given : Given → Content
+content_given f = record { length = f.length; root = f.root }
 
 -- its root is a digest of 32 bytes, as any is in memory
 abbrev pub HasRoot : Given → Type 0

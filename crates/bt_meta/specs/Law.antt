@@ -1,4 +1,4 @@
--- Bytes that spell a torrent are read as that torrent, and as no other.
+-- Bytes that spell a torrent (BEP 52, "metainfo files") are read as that torrent, and as no other.
 use Rattle.std.specs.Prelude.{◌≡◌, ℕ, List}
 use Rattle.bt_meta.specs.Faults.{first_fault}
 use Rattle.bt_meta.specs.Torrent.{Metainfo, IsTorrent}

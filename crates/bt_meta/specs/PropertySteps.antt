@@ -1,24 +1,15 @@
 -- The steps of reading a file's properties. No public contract cites them.
-use Rattle.std.specs.Prelude.{◌≡◌, ℕ, ◌≤◌, ◌==◌, ◌⊎◌, Bool, true, false, not, List, [], ◌∷◌, codes, Option, None, Some, ◌&&◌, ◌||◌}
+use Rattle.std.specs.Prelude.{◌≡◌, ℕ, ◌≤◌, ◌==◌, ◌⊎◌, Bool, true, false, not, List, Option, None, Some, ◌&&◌, ◌||◌}
 use Rattle.std.specs.Ordering.{nat_cmp}
 use Rattle.std.specs.Cmp.Lexicographic.{slice_cmp}
 use Rattle.std.specs.BTreeMap.{BTreeMap, get}
 use Rattle.bt_bencode.specs.Value.{Data}
 use Rattle.bt_tree.specs.Limits.{max_file_length}
-use Rattle.bt_meta.specs.Fields.{has_key}
-use Rattle.bt_meta.specs.Files.{length_in, root_in, is_conflict}
-use Rattle.bt_meta.specs.Faults.{Check, first_of, fault_if, has_lawful_length, has_lawful_root}
+use Rattle.bt_meta.specs.Files.{length_in, root_in, Content, is_conflict, has_other_length}
+use Rattle.bt_meta.specs.Faults.{first_of, property_checks}
 use Rattle.bt_meta.specs.declared.error.MetaError.{MetaError}
-use Rattle.bt_meta.specs.declared.error.MetaError.TheVariants.{Symlink, FileLength, BadRoot, RootConflict, OutOfMemory}
+use Rattle.bt_meta.specs.declared.error.MetaError.TheVariants.{RootConflict, OutOfMemory}
 use Rattle.bt_meta.specs.declared.properties.FileFacts.{FileFacts}
-
--- the checks of a file's properties alone
-abbrev pub property_checks : Data → List Check
-property_checks properties =
-    fault_if (has_key properties (codes "symlink path")) Symlink
-    ∷ fault_if (not (has_lawful_length properties)) FileLength
-    ∷ fault_if (not (has_lawful_root properties)) BadRoot
-    ∷ []
 
 -- properties without a fault say this
 pub record IsFileFacts (properties : Data) (facts : FileFacts) : Type 0 where
@@ -37,6 +28,11 @@ length_at lengths root = get (slice_cmp nat_cmp) lengths root
 abbrev pub is_other_length : Option ℕ → ℕ → Bool
 is_other_length None n = false
 is_other_length (Some m) n = not (m == n)
+
+-- the map has the lengths of the roots of these files
+abbrev pub HasLengths : Lengths → List Content → Type 0
+HasLengths lengths files = (root : List ℕ) (n : ℕ) →
+    is_other_length (length_at lengths root) n ≡ has_other_length files root n
 
 -- the root had no other length, and has this one now, where the file is not empty; all others have what they had
 pub record NotesLength (old new : Lengths) (root : List ℕ) (n : ℕ) : Type 0 where

@@ -1,25 +1,17 @@
 -- The steps of the walk over a file tree. No public contract cites them.
-use Rattle.std.specs.Prelude.{◌≡◌, ℕ, ◌&&◌, Bool, true, false, List, [], ◌∷◌, ◌++◌, map, filter, Option, None, Some}
-use Rattle.std.specs.List.{list_any}
+use Rattle.std.specs.Prelude.{◌≡◌, ℕ, true, false, List, [], ◌∷◌, ◌++◌, map, filter, Option, None, Some}
 use Rattle.bt_bencode.specs.Value.{Data, no_entries, entry}
 use Rattle.bt_bencode.specs.Value.{data_of}
 use Rattle.bt_meta.specs.Fields.{has_key, dictionary_at, no_dictionary}
 use Rattle.bt_meta.specs.TreeEntries.{TreeEntry, tree_entries_below, tree_entries_among, with_earlier}
-use Rattle.bt_meta.specs.Files.{is_file, properties_of, length_of, root_of, is_conflict, file_of, file_at, pieces_of}
+use Rattle.bt_meta.specs.Files.{is_file, properties_of, contents_of, file_of, file_at, pieces_of}
 use Rattle.bt_meta.specs.Faults.{Check, first_of, is_node, has_lawful_name, entry_check}
 use Rattle.bt_meta.specs.ReaderSteps.{Refuses, AreShort}
 use Rattle.bt_meta.specs.declared.error.MetaError.{MetaError}
 use Rattle.bt_meta.specs.declared.walk.Walk.{Walk}
 use Rattle.bt_meta.specs.declared.walk.Node.{Node}
 use Rattle.bt_meta.specs.declared.walk.Node.TheVariants.{Folder, File as file_node}
-use Rattle.bt_meta.specs.PropertySteps.{length_at, is_other_length}
-
--- a file that is not empty has this root and another length
-abbrev pub has_other_length : List TreeEntry → List ℕ → ℕ → Bool
-has_other_length entries root n =
-    list_any (λ q. is_file q && is_conflict root n (root_of q) (length_of q)) entries
-
--- ---- the walk
+use Rattle.bt_meta.specs.PropertySteps.{HasLengths}
 
 -- the walk has come past these entries
 pub record IsWalkOver (piece_length : ℕ) (entries : List TreeEntry) (walk : Walk) : Type 0 where
@@ -27,8 +19,7 @@ pub record IsWalkOver (piece_length : ℕ) (entries : List TreeEntry) (walk : Wa
       ≡ with_earlier (file_at piece_length no_dictionary) [] (filter is_file entries)
   pub pieces : walk.pieces ≡ pieces_of piece_length entries
   pub short : AreShort (map file_of walk.files.items)
-  pub lengths : (root : List ℕ) (n : ℕ) →
-      is_other_length (length_at walk.lengths root) n ≡ has_other_length entries root n
+  pub lengths : HasLengths walk.lengths (contents_of entries)
 
 -- behind whichever entries, the walk tells this of all of them and of the first fault of these
 pub record Walks (piece_length : ℕ) (entries : List TreeEntry) (old : Walk)

@@ -1,4 +1,4 @@
--- The torrent that is made of files, and why none is made.
+-- The torrent that is made of files (BEP 52, "metainfo files"), and why none is made.
 use Rattle.std.specs.Prelude.{◌≡◌, ℕ, ◌≤◌, ◌==◌, List, [], ◌∷◌, length, sum_by, replicate, None, nat_lt, unwrap_or, if◌then◌else◌, ◌<◌, Bool, true, false, ◌||◌, Some}
 use Rattle.std.specs.List.{list_any}
 use Rattle.bt_bencode.specs.Value.{Entries}
@@ -8,6 +8,7 @@ use Rattle.bt_meta.specs.Files.{File, piece_count}
 use Rattle.bt_meta.specs.Torrent.{Metainfo, IsTorrent}
 use Rattle.sha2.specs.Sha256.{sha256}
 use Rattle.bt_meta.specs.GivenFiles.{Given, IsInTreeOrder, HaveTreePaths, begins}
+use Rattle.bt_meta.specs.Faults.{is_piece_length}
 use Rattle.bt_meta.specs.WriterRefusals.{refusal_of_files}
 use Rattle.bt_meta.specs.declared.writer.MakeError.{MakeError}
 use Rattle.bt_meta.specs.declared.writer.MakeError.TheVariants.{BadPath, Count, OutOfMemory}
@@ -67,9 +68,11 @@ pub record IsTooLong (name : List ℕ) (piece_length : ℕ) (files : List Given)
   pub layered : AreLayersOf piece_length ordered layers
   pub long : max_text_length < length (spelling_of (value_made name piece_length ordered layers))
 
--- the first cause for which no torrent is made, or out of memory
+-- the first cause for which no torrent is made; or out of memory, where the piece length is lawful and there
+-- is a file
 pub data IsNotMade (name : List ℕ) (piece_length : ℕ) (files : List Given) : MakeError → Type 0 where
-  no_memory : IsNotMade name piece_length files OutOfMemory
+  no_memory : is_piece_length piece_length ≡ true → 0 < length files
+      → IsNotMade name piece_length files OutOfMemory
   unlawful : (e : MakeError)
       → refusal_of_files piece_length files ≡ Some e → IsNotMade name piece_length files e
   overlap : refusal_of_files piece_length files ≡ None → have_overlap files ≡ true

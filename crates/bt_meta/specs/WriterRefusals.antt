@@ -1,14 +1,14 @@
--- Why files make no torrent: the refusals of each, in their order.
-use Rattle.std.specs.Prelude.{ℕ, Bool, not, ◌&&◌, ◌||◌, ◌==◌, List, [], ◌∷◌, ◌++◌, length, sum_by, Option, nat_lt, nat_le, if◌then◌else◌}
-use Rattle.std.specs.List.{list_any}
+-- Why files make no torrent: the refusals of each, in their order. The rules are those of reading; that no layer
+-- may stand where none belongs is one of this project.
+use Rattle.std.specs.Prelude.{ℕ, Bool, not, ◌||◌, ◌==◌, List, [], ◌∷◌, ◌++◌, length, map, sum_by, Option, nat_lt, nat_le, if◌then◌else◌}
 use Rattle.bt_tree.specs.Limits.{max_file_length}
 use Rattle.bt_meta.specs.TreeEntries.{with_earlier}
-use Rattle.bt_meta.specs.Files.{piece_count, is_conflict}
+use Rattle.bt_meta.specs.Files.{piece_count, has_root_conflict}
 use Rattle.bt_meta.specs.Layers.{has_layer_size, has_root}
 use Rattle.bt_meta.specs.Faults.{first_of, fault_if, is_path, is_piece_length}
 use Rattle.bt_meta.specs.declared.writer.MakeError.{MakeError}
 use Rattle.bt_meta.specs.declared.writer.MakeError.TheVariants.{PieceLength, BadPath, FileLength, LayerSize, LayerDiffers, RootConflict, Count}
-use Rattle.bt_meta.specs.GivenFiles.{Given}
+use Rattle.bt_meta.specs.GivenFiles.{Given, content_given}
 use Rattle.bt_meta.specs.Limits.{max_path_length, are_too_many}
 
 -- A check answers a refusal, or nothing.
@@ -23,13 +23,9 @@ layer_refusal piece_length f =
     ∷ fault_if (not (has_root piece_length f.length f.root f.layer)) LayerDiffers
     ∷ []) else fault_if (not (length f.layer == 0)) LayerSize
 
--- a file that is not empty has this root and another length
-abbrev pub has_conflict : List Given → List ℕ → ℕ → Bool
-has_conflict files root n =
-    list_any (λ g. is_conflict root n g.root g.length) files
-
+-- the root conflict of a file with those before it
 abbrev pub conflict_with : List Given → Given → Bool
-conflict_with before f = not (f.length == 0) && has_conflict before f.root f.length
+conflict_with before f = has_root_conflict (map content_given before) (content_given f)
 
 -- too many elements in the path; or too many files or pieces with this file
 abbrev pub is_beyond : ℕ → List Given → Given → Bool

@@ -1,24 +1,19 @@
 -- The steps of checking the files that a torrent is made of. No public contract cites them.
-use Rattle.std.specs.Prelude.{◌≡◌, ℕ, ◌≤◌, ◌⊎◌, List, length, sum_by, Some, None, false}
-use Rattle.bt_meta.specs.PropertySteps.{Lengths, is_other_length, length_at}
+use Rattle.std.specs.Prelude.{◌≡◌, ℕ, ◌≤◌, ◌⊎◌, List, length, map, sum_by, Some, None, false}
+use Rattle.bt_meta.specs.PropertySteps.{HasLengths}
 use Rattle.bt_meta.specs.declared.writer.Tally.{Tally}
 use Rattle.bt_meta.specs.Files.{piece_count}
 use Rattle.bt_meta.specs.declared.writer.MakeError.{MakeError}
 use Rattle.bt_meta.specs.declared.writer.MakeError.TheVariants.{OutOfMemory}
-use Rattle.bt_meta.specs.GivenFiles.{Given}
-use Rattle.bt_meta.specs.WriterRefusals.{Check, has_conflict, own_refusal, conflict_with, file_refusal}
+use Rattle.bt_meta.specs.GivenFiles.{Given, content_given}
+use Rattle.bt_meta.specs.WriterRefusals.{Check, own_refusal, conflict_with, file_refusal}
 use Rattle.bt_meta.specs.Limits.{max_file_count, max_piece_count}
-
--- the map has the lengths of the roots of these files
-abbrev pub HasLengths : Lengths → List Given → Type 0
-HasLengths lengths files = (root : List ℕ) (n : ℕ) →
-    is_other_length (length_at lengths root) n ≡ has_conflict files root n
 
 -- these files were taken
 pub record IsTallyOf (piece_length : ℕ) (files : List Given) (tally : Tally) : Type 0 where
   pub count : tally.files ≡ length files
   pub pieces : tally.pieces ≡ sum_by (λ g. piece_count piece_length g.length) files
-  pub lengths : HasLengths tally.lengths files
+  pub lengths : HasLengths tally.lengths (map content_given files)
 
 -- there is room for these, and no more
 pub record IsWithinLimits (tally : Tally) : Type 0 where

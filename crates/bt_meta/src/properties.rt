@@ -2,8 +2,8 @@
 ghost use Rattle.std.specs.Prelude.{◌≡◌, ℕ, IfOk, IfErr, OnOk, MatchResult, option_copied, None, Some, if◌then◌else◌};
 ghost use Rattle.bt_bencode.specs.Value.{data_of};
 ghost use Rattle.bt_meta.specs.Files.{length_in, root_in};
-ghost use Rattle.bt_meta.specs.Faults.{first_of, is_path_element, is_dots as is_dots_element, has_lawful_length, has_lawful_root};
-ghost use Rattle.bt_meta.specs.PropertySteps.{IsFileFacts, property_checks, NotesLength, IsLengthConflict};
+ghost use Rattle.bt_meta.specs.Faults.{first_of, property_checks, is_path_element, is_dots as is_dots_element, has_lawful_length, has_lawful_root};
+ghost use Rattle.bt_meta.specs.PropertySteps.{IsFileFacts, NotesLength, IsLengthConflict};
 
 use crate::error::MetaError;
 use crate::fields::{has, natural, string};

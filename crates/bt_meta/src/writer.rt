@@ -6,11 +6,12 @@ ghost use Rattle.std.specs.Result.{result_err};
 ghost use Rattle.bt_tree.specs.Limits.{max_file_length};
 ghost use Rattle.bt_meta.specs.TreeEntries.{with_earlier};
 ghost use Rattle.bt_meta.specs.Faults.{first_of, is_piece_length as is_lawful_piece_length};
-ghost use Rattle.bt_meta.specs.GivenFiles.{Given, given_of, HasRoot, IsInTreeOrder, path_order, is_before, begins as begins_path};
+ghost use Rattle.bt_meta.specs.GivenFiles.{Given, given_of, content_given, HasRoot, IsInTreeOrder, path_order, is_before, begins as begins_path};
 ghost use Rattle.bt_meta.specs.WriterRefusals.{file_refusal, own_refusal, layer_refusal, conflict_with};
 ghost use Rattle.bt_meta.specs.Faults.{is_path as is_lawful_path, is_element as is_lawful_element};
 ghost use Rattle.bt_meta.specs.Writer.{IsMade, have_overlap, IsNotMade};
-ghost use Rattle.bt_meta.specs.WriterSteps.{HasLengths, IsTallyOf, IsWithinLimits, Refuses, RefusesFile};
+ghost use Rattle.bt_meta.specs.PropertySteps.{HasLengths};
+ghost use Rattle.bt_meta.specs.WriterSteps.{IsTallyOf, IsWithinLimits, Refuses, RefusesFile};
 ghost use Rattle.bt_meta.specs.EncodeSteps.{given_at};
 ghost use Rattle.bt_meta.specs.declared.writer.MakeError.TheVariants.{OutOfMemory as out_of_memory, RootConflict as root_conflict};
 
@@ -219,11 +220,11 @@ fn check_layer(piece_length: u32, file: &Made) -> Result<(), MakeError>
 #[tactic(auto, using(crate::proofs::Steps::check_root_steps))]
 fn check_root(lengths: &mut BTreeMap<Hash32, u64>, file: &Made) -> Result<(), MakeError>
     ensures rooted { HasRoot (given_of file.now) }
-    ensures noted { OnOk result ((files : List Given) → HasLengths lengths.old files
-        → HasLengths lengths.new (files ++ given_of file.now ∷ [])) }
-    ensures alike { OnOk result ((files : List Given) → HasLengths lengths.old files
+    ensures noted { OnOk result ((files : List Given) → HasLengths lengths.old (map content_given files)
+        → HasLengths lengths.new (map content_given (files ++ given_of file.now ∷ []))) }
+    ensures alike { OnOk result ((files : List Given) → HasLengths lengths.old (map content_given files)
         → conflict_with files (given_of file.now) ≡ false) }
-    ensures refused { IfErr result (λ e. (files : List Given) → HasLengths lengths.old files
+    ensures refused { IfErr result (λ e. (files : List Given) → HasLengths lengths.old (map content_given files)
         → ((e ≡ out_of_memory) × (conflict_with files (given_of file.now) ≡ false))
         ⊎ ((e ≡ root_conflict) × (conflict_with files (given_of file.now) ≡ true))) }
 {
