@@ -224,7 +224,8 @@ fn check_root(lengths: &mut BTreeMap<Hash32, u64>, file: &Made) -> Result<(), Ma
         → HasLengths lengths.new (map content_given (files ++ given_of file.now ∷ []))) }
     ensures alike { OnOk result ((files : List Given) → HasLengths lengths.old (map content_given files)
         → conflict_with files (given_of file.now) ≡ false) }
-    ensures refused { IfErr result (λ e. (files : List Given) → HasLengths lengths.old (map content_given files)
+    ensures refused { IfErr result (λ e. (files : List Given)
+        → HasLengths lengths.old (map content_given files)
         → ((e ≡ out_of_memory) × (conflict_with files (given_of file.now) ≡ false))
         ⊎ ((e ≡ root_conflict) × (conflict_with files (given_of file.now) ≡ true))) }
 {
