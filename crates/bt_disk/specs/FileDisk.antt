@@ -1,5 +1,5 @@
--- What is known of a device that is a file of the system: whether it may be written, and the count of failed
--- calls. What a file holds, no contract can say: such a device is not honest.
+-- What is known of a device that is a file: whether it may be written, and the count of failed calls. What a
+-- file of the system holds, no contract can say: such a device is not honest.
 use Rattle.std.specs.Prelude.{ℕ}
 use Rattle.bt_disk.specs.declared.handle.Handle.{Handle}
 use Rattle.bt_disk.specs.declared.handle.Handle.TheVariants.{Absent, Reading, Writing}

@@ -7,6 +7,7 @@ pub mod RecordSteps
 pub mod ReadsImage
 pub mod FaultDisk
 pub mod FileDisk
+pub mod Handle
 pub mod OpenHandles
 pub mod Pool
 pub mod Law

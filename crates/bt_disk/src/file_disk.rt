@@ -10,9 +10,11 @@ use std::marker::Model;
 
 /// A device that is a file of the system, with an open handle of its own.
 ///
-/// No contract says what a file holds, so it is not honest, and only its count of failed calls and whether it
-/// may be written are known. A call takes no memory and makes one call of the system, or a seek and a read or
-/// write; it makes more where a read finds the file's end, and where the system answers in parts.
+/// No contract says what a file of the system holds, so it is not honest. Known are its count of failed
+/// calls, whether it may be written, and what is read and written of the open file, as far as the file's type
+/// says where it stands and what it holds. A call takes no memory and makes one call of the system, or a seek
+/// and a read or write; it makes more where a read finds the file's end or can't be placed, and where the
+/// system answers in parts.
 #[derive(Drop)]
 pub struct FileDisk<F: Read + Write + Seek + OpenFile + Drop> {
     handle: Handle<F>,
@@ -60,10 +62,11 @@ impl<F: Read + Write + Seek + OpenFile + Drop> FileDisk<F> {
 }
 
 impl<F: Read + Write + Seek + OpenFile + Drop> Disk for FileDisk<F> {
-    ghost use Rattle.std.specs.Prelude.{◌≡◌, ◌≢◌, ◌↔◌, ◌≤◌, [], IsErr, IfOk, length};
+    ghost use Rattle.std.specs.Prelude.{◌≡◌, ◌≢◌, ◌↔◌, ◌≤◌, [], IsErr, IfOk, OnOk, length, take};
     ghost use Rattle.bt_disk.specs.Limits.{count_after};
     ghost use Rattle.bt_disk.specs.Calls.{IsAnswered, len_call, read_call, write_call, set_len_call, sync_call};
     ghost use Rattle.bt_disk.specs.FileDisk.{absent, writing};
+    ghost use Rattle.bt_disk.specs.Handle.{IsReadOfFile, IsWrittenToFile};
     ghost use Rattle.bt_disk.specs.History.{new_history};
 
     ghost history = { λ _. new_history [] };
@@ -95,6 +98,9 @@ impl<F: Read + Write + Seek + OpenFile + Drop> Disk for FileDisk<F> {
         ensures absent { self.old.access ≡ absent → result ≡ Ok 0 }
         ensures access { self.new.access ≡ self.old.access }
         ensures within { IfOk result (λ count. count ≤ length out.new) }
+        ensures gives { self.old.access ≢ absent → IfOk result (λ count.
+            IsReadOfFile F.stream_position F.stream_bytes F.remaining
+            at (length out.new) (take count out.new)) }
         ensures counted { self.new.failed ≡ count_after self.old.failed result }
         ensures as_honest { ⊥ ↔ ⊥ }
         ensures answered { ⊥ → IsAnswered (new_history []) (read_call at out.new result) (new_history []) }
@@ -107,6 +113,7 @@ impl<F: Read + Write + Seek + OpenFile + Drop> Disk for FileDisk<F> {
 
     fn write_at(&mut self, at: u64, bytes: &[u8]) -> Result<(), DeviceFault>
         ensures refused { self.old.access ≢ writing → IsErr result }
+        ensures written { OnOk result (IsWrittenToFile F.stream_position F.contents at bytes.now) }
         ensures access { self.new.access ≡ self.old.access }
         ensures counted { self.new.failed ≡ count_after self.old.failed result }
         ensures as_honest { ⊥ ↔ ⊥ }

@@ -1,7 +1,8 @@
 //! An open file, and what calls of a device make of it.
-ghost use Rattle.std.specs.Prelude.{◌≡◌, ◌+◌, ◌<◌, ◌≤◌, IfOk, OnErr, length, take, drop};
+ghost use Rattle.std.specs.Prelude.{◌≡◌, ◌≢◌, ◌+◌, ◌<◌, ◌≤◌, ◌⊎◌, [], IfOk, OnOk, OnErr, length, take, drop};
 ghost use Rattle.std.specs.Io.KnownBytes.{Consumes, IsAtEnd, Keeps};
 ghost use Rattle.bt_disk.specs.FileDisk.{absent, access_of};
+ghost use Rattle.bt_disk.specs.Handle.{EndsBy, IsReadAt, IsReadOfFile, IsWrittenAt};
 
 use crate::disk::DeviceFault;
 use std::fs::{Files, OpenFile, OpenOptions};
@@ -87,7 +88,7 @@ pub(crate) fn file_len<F: OpenFile>(file: &F) -> Result<u64, DeviceFault> {
 }
 
 /// Reads bytes from byte `at` on, as [`read_file`]: none, where there is no file.
-pub(crate) fn read_handle<F: Read + Seek + OpenFile>(
+pub(crate) fn read_handle<F: Read + Seek>(
     handle: &mut Handle<F>,
     at: u64,
     out: &mut [u8],
@@ -95,6 +96,8 @@ pub(crate) fn read_handle<F: Read + Seek + OpenFile>(
     ensures access { access_of handle.new ≡ access_of handle.old }
     ensures absent { access_of handle.old ≡ absent → result ≡ Ok 0 }
     ensures within { IfOk result (λ count. count ≤ length out.new) }
+    ensures gives { access_of handle.old ≢ absent → IfOk result (λ count.
+        IsReadOfFile F.stream_position F.stream_bytes F.remaining at (length out.new) (take count out.new)) }
 {
     match handle {
         Handle::Absent => Ok(0),
@@ -105,22 +108,32 @@ pub(crate) fn read_handle<F: Read + Seek + OpenFile>(
 
 /// Reads bytes from byte `at` on until `out` is full or the file ends, and says how many came: none from the
 /// end on, also where the system can't place such a read.
-pub(crate) fn read_file<F: Read + Seek + OpenFile>(
+pub(crate) fn read_file<F: Read + Seek>(
     file: &mut F,
     at: u64,
     out: &mut [u8],
 ) -> Result<usize, DeviceFault>
-    ensures { IfOk result (λ count. count ≤ length out.new) }
+    ensures within { IfOk result (λ count. count ≤ length out.new) }
+    ensures gives { IfOk result (λ count.
+        IsReadAt F.stream_position F.stream_bytes F.remaining
+        file.old at (length out.new) (take count out.new) file.new) }
 {
-    if file.seek(SeekFrom::Start(at)).is_err() {
-        // A file system may place no read past the longest file that it takes.
-        return if at < file_len(file)? {
-            Err(DeviceFault)
-        } else {
-            Ok(0)
-        };
+    match file.seek(SeekFrom::Start(at)) {
+        Ok(_) => fill(file, out),
+        Err(_) => read_past(file, at),
     }
-    fill(file, out)
+}
+
+/// What a read from byte `at` on gives that the system doesn't place: none, where the file ends there or
+/// before. A file system may place no read past the longest file that it takes.
+fn read_past<F: Seek>(file: &mut F, at: u64) -> Result<usize, DeviceFault>
+    ensures none { IfOk result (λ count. count ≡ 0) }
+    ensures past { OnOk result (EndsBy (F.stream_position file.old) (F.stream_bytes file.old) at) }
+{
+    match file.seek(SeekFrom::End(0)) {
+        Ok(len) if len <= at => Ok(0),
+        _ => Err(DeviceFault),
+    }
 }
 
 /// Reads the next bytes until `out` is full or the file ends, and says how many came: short reads and
@@ -164,12 +177,15 @@ pub(crate) fn write_file<F: Write + Seek>(
     file: &mut F,
     at: u64,
     bytes: &[u8],
-) -> Result<(), DeviceFault> {
+) -> Result<(), DeviceFault>
+    ensures written { OnOk result ((bytes.now ≡ [])
+        ⊎ IsWrittenAt F.stream_position F.contents file.old at bytes.now file.new) }
+{
     if bytes.is_empty() {
         return Ok(());
     }
-    if file.seek(SeekFrom::Start(at)).is_err() || file.write_all(bytes).is_err() {
-        return Err(DeviceFault);
+    match file.seek(SeekFrom::Start(at)) {
+        Ok(_) if file.write_all(bytes).is_ok() => Ok(()),
+        _ => Err(DeviceFault),
     }
-    Ok(())
 }

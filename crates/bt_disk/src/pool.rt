@@ -1,6 +1,7 @@
 //! Files of the system that share a few open handles.
-ghost use Rattle.std.specs.Prelude.{◌≡◌, ◌≢◌, ◌+◌, ◌<◌, ◌≤◌, IfOk, IfErr, length, string_bytes};
+ghost use Rattle.std.specs.Prelude.{◌≡◌, ◌≢◌, ◌+◌, ◌<◌, ◌≤◌, IfOk, IfErr, OnOk, length, take, string_bytes};
 ghost use Rattle.bt_disk.specs.FileDisk.{writing};
+ghost use Rattle.bt_disk.specs.Handle.{IsReadOfFile, IsWrittenToFile};
 ghost use Rattle.bt_disk.specs.Pool.{access_of_use, new_pool};
 
 use crate::disk::{DeviceFault, Disk, counted_fault};
@@ -129,7 +130,7 @@ enum Use {
 /// A device that is a file of the system, whose handle is shared with the other devices of its pool.
 ///
 /// It is as [`FileDisk`](crate::FileDisk) is, but a call may have to open the file, which then has to be
-/// there.
+/// there, or the call fails.
 #[derive(Drop)]
 pub struct PooledDisk<R: Files + Drop> {
     shared: Rc<Shared<R>>,
@@ -175,7 +176,10 @@ impl<R: Files + Drop> PooledDisk<R> {
     }
 
     fn read_file(&self, at: u64, out: &mut [u8]) -> Result<usize, DeviceFault>
-        ensures { IfOk result (λ count. count ≤ length out.new) }
+        ensures within { IfOk result (λ count. count ≤ length out.new) }
+        ensures gives { IfOk result (λ count.
+            IsReadOfFile R.File.stream_position R.File.stream_bytes R.File.remaining
+            at (length out.new) (take count out.new)) }
     {
         let mut file = self.file()?;
         let answer = read_file(&mut file, at, out);
@@ -183,7 +187,9 @@ impl<R: Files + Drop> PooledDisk<R> {
         answer
     }
 
-    fn write_file(&self, at: u64, bytes: &[u8]) -> Result<(), DeviceFault> {
+    fn write_file(&self, at: u64, bytes: &[u8]) -> Result<(), DeviceFault>
+        ensures { OnOk result (IsWrittenToFile R.File.stream_position R.File.contents at bytes.now) }
+    {
         let mut file = self.file()?;
         let answer = write_file(&mut file, at, bytes);
         put_back(&self.shared, self.number, file);
@@ -214,11 +220,12 @@ impl<R: Files + Drop> PooledDisk<R> {
 }
 
 impl<R: Files + Drop> Disk for PooledDisk<R> {
-    ghost use Rattle.std.specs.Prelude.{◌≡◌, ◌≢◌, ◌↔◌, ◌≤◌, [], IsErr, IfOk, length};
+    ghost use Rattle.std.specs.Prelude.{◌≡◌, ◌≢◌, ◌↔◌, ◌≤◌, [], IsErr, IfOk, OnOk, length, take};
     ghost use Rattle.bt_disk.specs.Limits.{count_after};
     ghost use Rattle.bt_disk.specs.History.{new_history};
     ghost use Rattle.bt_disk.specs.Calls.{IsAnswered, len_call, read_call, write_call, set_len_call, sync_call};
     ghost use Rattle.bt_disk.specs.FileDisk.{absent, writing};
+    ghost use Rattle.bt_disk.specs.Handle.{IsReadOfFile, IsWrittenToFile};
 
     ghost history = { λ _. new_history [] };
 
@@ -252,6 +259,9 @@ impl<R: Files + Drop> Disk for PooledDisk<R> {
         ensures path { self.new.path ≡ self.old.path }
         ensures access { self.new.access ≡ self.old.access }
         ensures within { IfOk result (λ count. count ≤ length out.new) }
+        ensures gives { self.old.access ≢ absent → IfOk result (λ count.
+            IsReadOfFile R.File.stream_position R.File.stream_bytes R.File.remaining
+            at (length out.new) (take count out.new)) }
         ensures counted { self.new.failed ≡ count_after self.old.failed result }
         ensures as_honest { ⊥ ↔ ⊥ }
         ensures answered { ⊥ → IsAnswered (new_history []) (read_call at out.new result) (new_history []) }
@@ -267,6 +277,7 @@ impl<R: Files + Drop> Disk for PooledDisk<R> {
 
     fn write_at(&mut self, at: u64, bytes: &[u8]) -> Result<(), DeviceFault>
         ensures refused { self.old.access ≢ writing → IsErr result }
+        ensures written { OnOk result (IsWrittenToFile R.File.stream_position R.File.contents at bytes.now) }
         ensures number { self.new.number ≡ self.old.number }
         ensures path { self.new.path ≡ self.old.path }
         ensures access { self.new.access ≡ self.old.access }

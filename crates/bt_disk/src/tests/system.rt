@@ -21,7 +21,7 @@ pub enum Manner {
     Full,
     /// It opens no file, for want of rights.
     NoRights,
-    /// It places no read or write, and changes and syncs no file.
+    /// It goes to no byte of a file, but to its end, and changes and syncs no file.
     Broken,
 }
 
@@ -208,7 +208,10 @@ impl Write for SystemFile<'_> {
 
 impl Seek for SystemFile<'_> {
     fn seek(&mut self, to: SeekFrom) -> io::Result<u64> {
-        self.other_call()?;
+        match to {
+            SeekFrom::End(_) => count(&self.counts.other),
+            _ => self.other_call()?,
+        }
         self.file.seek(to)
     }
 }
