@@ -1,5 +1,5 @@
 //! An open file, and what calls of a device make of it.
-ghost use Rattle.std.specs.Prelude.{◌≡◌, ◌≢◌, ◌+◌, ◌<◌, ◌≤◌, ◌⊎◌, [], IfOk, OnOk, OnErr, length, take, drop};
+ghost use Rattle.std.specs.Prelude.{◌≡◌, ◌≢◌, ◌+◌, ◌<◌, ◌≤◌, ◌⊎◌, ◌↔◌, [], IsTrue, IfOk, OnOk, OnErr, length, take, drop};
 ghost use Rattle.std.specs.Io.KnownBytes.{Consumes, IsAtEnd, Keeps};
 ghost use Rattle.bt_disk.specs.FileDisk.{absent, access_of};
 ghost use Rattle.bt_disk.specs.Handle.{EndsBy, IsReadAt, IsReadOfFile, IsWrittenAt};
@@ -63,8 +63,12 @@ fn is_present<R: Files>(rt: &R, path: &str) -> Result<bool, DeviceFault> {
     }
 }
 
-/// Whether the system says that no file can be there.
-fn is_absence(kind: ErrorKind) -> bool {
+/// Whether an error of the system says that no file can be at a path: there is nothing, one of its folders is
+/// missing or is no folder, or a name, or the path, is longer than the system takes.
+pub fn is_absence(kind: ErrorKind) -> bool
+    ensures { IsTrue result ↔ ((kind ≡ ErrorKind.NotFound)
+        ⊎ (kind ≡ ErrorKind.NotADirectory) ⊎ (kind ≡ ErrorKind.InvalidFilename)) }
+{
     matches!(
         kind,
         ErrorKind::NotFound | ErrorKind::NotADirectory | ErrorKind::InvalidFilename
