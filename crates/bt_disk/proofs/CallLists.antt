@@ -2,7 +2,7 @@
 use Rattle.std.proofs.Common.{◌≡◌, ℕ, ◌↔◌, List, [], ◌∷◌, ◌++◌, Result, Ok, Err, refl, sym, ap, ◌∙◌, subst}
 use Rattle.bt_disk.specs.Limits.{count_after}
 use Rattle.bt_disk.specs.History.{History}
-use Rattle.bt_disk.specs.Calls.{Call, IsAnswered, AreAnswered, count_after_call, count_after_calls, HasCalls, len_call, read_call, write_call, set_len_call, sync_call}
+use Rattle.bt_disk.specs.Calls.{Call, IsAnswered, AreAnswered, count_after_call, count_after_calls, HasCalls, read_call}
 
 pub answered_then : (a b c : History) (xs ys : List Call) → AreAnswered a xs b → AreAnswered b ys c → AreAnswered a (xs ++ ys) c
 answered_then a b c [] ys first second = subst (λ h. AreAnswered h ys c) first second
@@ -33,24 +33,7 @@ has_then history honest faults a b c xs ys first second =
       answered = λ h. answered_then (history a) (history b) (history c) xs ys (first.answered h) (second.answered (first.as_honest.0 h));
     }
 
--- a count after a result is that after its call
-
-pub count_len : {E : Type 0} (count : ℕ) (r : Result ℕ E) → count_after count r ≡ count_after_call count (len_call r)
-count_len count (Ok len) = refl
-count_len count (Err e) = refl
-
+-- a count after a read is that after its call
 pub count_read : {E : Type 0} (count at : ℕ) (out : List ℕ) (r : Result ℕ E) → count_after count r ≡ count_after_call count (read_call at out r)
 count_read count at out (Ok n) = refl
 count_read count at out (Err e) = refl
-
-pub count_write : {T E : Type 0} (count at : ℕ) (bytes : List ℕ) (r : Result T E) → count_after count r ≡ count_after_call count (write_call at bytes r)
-count_write count at bytes (Ok x) = refl
-count_write count at bytes (Err e) = refl
-
-pub count_set_len : {T E : Type 0} (count len : ℕ) (r : Result T E) → count_after count r ≡ count_after_call count (set_len_call len r)
-count_set_len count len (Ok x) = refl
-count_set_len count len (Err e) = refl
-
-pub count_sync : {T E : Type 0} (count : ℕ) (r : Result T E) → count_after count r ≡ count_after_call count (sync_call r)
-count_sync count (Ok x) = refl
-count_sync count (Err e) = refl

@@ -53,7 +53,7 @@ impl<D: Disk + Drop> FaultDisk<D> {
         }
     }
 
-    /// Lets the k-th call fail; it does nothing, where that call was made before.
+    /// Lets the k-th call fail, k from 1 to 2^64 - 2; it does nothing, where that call was made before.
     pub fn failing_once(mut self, k: u64) -> Self
         requires some { 0 < k }
         requires within { k < 2 ^ 64 - 1 }
@@ -65,7 +65,8 @@ impl<D: Disk + Drop> FaultDisk<D> {
         self
     }
 
-    /// Lets every call from the k-th on fail; it does nothing, where the k-th was made before.
+    /// Lets every call from the k-th on fail, k from 1 to 2^64 - 2; it does nothing, where the k-th was made
+    /// before.
     pub fn failing_from(mut self, k: u64) -> Self
         requires some { 0 < k }
         requires within { k < 2 ^ 64 - 1 }
@@ -77,7 +78,7 @@ impl<D: Disk + Drop> FaultDisk<D> {
         self
     }
 
-    /// From the k-th call on, lets the byte at `at` be read with its low bit changed.
+    /// From the k-th call on, k from 1 to 2^64 - 2, lets the byte at `at` be read with its low bit changed.
     pub fn flipping(mut self, k: u64, at: u64) -> Self
         requires some { 0 < k }
         requires within { k < 2 ^ 64 - 1 }

@@ -42,8 +42,10 @@ impl<R: Files + Drop> Model for HandlePool<R> {
 }
 
 impl<R: Files + Drop> HandlePool<R> {
-    /// A pool of at most so many open handles, for which it takes memory here alone. It has made no device
-    /// yet.
+    /// A pool of at most `limit` open handles, which is above 0, for which it takes memory here alone. It has
+    /// made no device yet.
+    ///
+    /// Errors: memory is refused.
     pub fn new(alloc: Global, rt: R, limit: usize) -> Result<Self, AllocError>
         requires { 0 < limit }
         ensures { IfOk result (λ pool. pool ≡ new_pool) }
