@@ -2,20 +2,21 @@
 use Rattle.std.proofs.Common.{◌≡◌, ◌≢◌, ℕ, zero, suc, ◌+◌, ◌-◌, ◌<◌, ◌≤◌, Bool, true, false, cond, List, [], ◌∷◌, ◌++◌, map, refl, sym, ap, ◌∙◌, subst, arith, append-nil, zero-add}
 use Rattle.std.specs.Prelude.{slice_get, slice_set, filter, is_some, ◌&&◌}
 use Rattle.std.specs.Option.{option_map_or}
-use Rattle.std.specs.List.{range_with_len}
+use Rattle.std.specs.List.{count_by, range_with_len}
 use Rattle.std.proofs.lemmas.List.{map-append}
-use Rattle.std.proofs.lemmas.List.Sums.{sum_by-append}
+use Rattle.std.proofs.lemmas.List.Sums.{sum_by-append, sum_by-cons}
 use Rattle.bt_disk.specs.History.{History}
 use Rattle.bt_disk.specs.Calls.{HasCalls}
 use Rattle.bt_disk.proofs.CallLists.{has_none, has_then}
 use Rattle.bt_sparse.specs.SparseTree.{Facts, value_at}
 use Rattle.bt_store.specs.BlockStates.{is_marked, is_waiting}
 use Rattle.bt_store.specs.FileStore.{StoreView}
+use Rattle.bt_store.specs.Review.{is_waiting_at, waiting_blocks}
 use Rattle.bt_store.specs.BlockReads.{BlockRead, given, failed, block_of, call_of, is_right, is_right_read, is_wrong_read, is_fault, after_read, judged, IsJudged}
 use Rattle.bt_store.specs.ReviewSteps.{is_chosen, chosen_blocks, forgives, no_reads, tally_sum, IsTallyOf}
 use Rattle.bt_store.proofs.Judgements.{judged-append}
 use Rattle.bt_store.specs.declared.block_states.BlockState.{BlockState}
-use Rattle.bt_store.specs.declared.block_states.BlockState.TheVariants.{Missing, Marked}
+use Rattle.bt_store.specs.declared.block_states.BlockState.TheVariants.{Missing, Waiting, Marked}
 use Rattle.bt_store.specs.declared.review.Review.{Review}
 use Rattle.bt_store.specs.declared.review.Review.TheVariants.{Waiting as OfWaiting, Marked as OfMarked}
 use Rattle.bt_store.specs.declared.review.Tally.{Tally}
@@ -52,6 +53,26 @@ same_choice : (dig : List ℕ → List ℕ) (k : Facts) (review : Review) (xs ys
     → is_chosen dig k review xs i ≡ is_chosen dig k review ys i
 same_choice dig k OfWaiting xs ys i e = ap (λ s. option_map_or is_waiting s false && is_some (value_at dig k 0 i)) e
 same_choice dig k OfMarked xs ys i e = ap (λ s. option_map_or is_marked s false) e
+
+-- ---- where no block waits
+
+none_waits : (states : List BlockState) → count_by is_waiting states ≡ 0 → (i : ℕ) → is_waiting_at states i ≡ false
+none_waits [] none i = refl
+none_waits (Missing ∷ states) none zero = refl
+none_waits (Missing ∷ states) none (suc i) = none_waits states (omega (arith, none, sum_by-cons (λ x. cond (is_waiting x) 1 0) Missing states)) i
+none_waits (Waiting ∷ states) none i = absurd (omega (arith, none, sum_by-cons (λ x. cond (is_waiting x) 1 0) Waiting states))
+none_waits (Marked ∷ states) none zero = refl
+none_waits (Marked ∷ states) none (suc i) = none_waits states (omega (arith, none, sum_by-cons (λ x. cond (is_waiting x) 1 0) Marked states)) i
+
+filter_none : (p : ℕ → Bool) (a n : ℕ) → ((i : ℕ) → p i ≡ false) → filter p (range_with_len a n) ≡ []
+filter_none p a zero none = refl
+filter_none p a (suc n) none = ap (λ b. cond b (a ∷ filter p (range_with_len (a + 1) n)) (filter p (range_with_len (a + 1) n))) (none a) ∙ filter_none p (a + 1) n none
+
+pub nothing_waits : (dig : List ℕ → List ℕ) (k : Facts) (states : List BlockState) (from count : ℕ) → count_by is_waiting states ≡ 0
+    → waiting_blocks dig k states from count ≡ []
+nothing_waits dig k states from count none =
+    filter_none (λ i. is_waiting_at states i && is_some (value_at dig k 0 i)) from count
+    (λ i. ap (λ b. b && is_some (value_at dig k 0 i)) (none_waits states none i))
 
 -- ---- states of other blocks
 

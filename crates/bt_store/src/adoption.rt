@@ -1,13 +1,11 @@
 ghost use Rattle.std.specs.Prelude.{◌≡◌, ℕ, ◌+◌, ◌-◌, ◌*◌, ◌/◌, ◌^◌, ◌<◌, ◌≤◌, ◌⊎◌, List, [], true, IfOk, IfErr, IsSome, None, map, length, replicate, slice_get};
-ghost use Rattle.std.specs.List.{count_by, range_with_len};
 ghost use Rattle.bt_tree.specs.Limits.{full_block_length, max_block_count, max_height};
 ghost use Rattle.bt_tree.specs.Blocks.{block_count};
 ghost use Rattle.bt_tree.specs.Tree.{padding_digest};
 ghost use Rattle.bt_disk.specs.Calls.{HasCalls};
 ghost use Rattle.bt_sparse.specs.SparseTree.{Facts, blocks_of, held_at, value_at};
 ghost use Rattle.bt_sparse.specs.Anchor.{IsAnchor};
-ghost use Rattle.bt_store.specs.BlockReads.{BlockRead, IsJudged};
-ghost use Rattle.bt_store.specs.ReviewSteps.{IsTallyOf};
+ghost use Rattle.bt_store.specs.BlockReads.{BlockRead};
 ghost use Rattle.bt_store.specs.Adoption.{IsKnownGroup, IsUnknownGroup, marked_run, IsAdopted, StopsAdopting};
 ghost use Rattle.bt_store.specs.GroupsSteps.{IsGroupRead};
 
@@ -15,11 +13,10 @@ use crate::file_store::FileStore;
 use crate::groups::{
     Census, Group, claim_leaves, group_below, known_run, mark_run, padding, read_group,
 };
-use crate::review::Tally;
 use crate::runs::RUN_LEN;
 use bt_disk::Disk;
 use bt_sparse::SparseTree;
-use bt_tree::{BLOCK_LEN, Hash32, NodeHash};
+use bt_tree::{Hash32, NodeHash};
 use std::alloc::AllocError;
 
 /// What `adopt` did.
@@ -82,30 +79,13 @@ impl<D: Disk + Drop, H: NodeHash> FileStore<D, H> {
     {
         let _ = self.geometry.blocks();
         let count = known_run(tree, from);
-        let tally = self.judge_known(tree, from, count as usize);
+        let tally = self.judge_blocks(tree, from, count as usize, true);
         Adopted {
             next: from + count,
             anchor: 0,
             marked: tally.right,
             faults: tally.faults,
         }
-    }
-
-    /// Reads blocks that lie next to each other, at most eight, and judges each. One block alone needs a
-    /// smaller buffer.
-    fn judge_known(&mut self, tree: &SparseTree<H>, first: u32, count: usize) -> Tally
-        requires geometry { tree.now.file_length ≡ self.old.file_length }
-        requires few { count ≤ 8 }
-        requires inside { first + count ≤ block_count self.old.file_length }
-        ensures { (reads : List BlockRead)
-            × IsJudged D.history D.honest D.faults H.digest tree.now true
-            (range_with_len first count) self.old reads self.new
-            × IsTallyOf H.digest tree.now reads result }
-    {
-        if count == 1 {
-            return self.judge_run(tree, first, 1, true, &mut [0; BLOCK_LEN]);
-        }
-        self.judge_run(tree, first, count, true, &mut [0; RUN_LEN])
     }
 
     /// Takes in the blocks below the nearest node that is held.

@@ -13,7 +13,7 @@ use crate::file_store::FileStore;
 use crate::runs::{Finding, RUN_BLOCKS, RUN_LEN, digest_run, read_run};
 use bt_disk::Disk;
 use bt_sparse::SparseTree;
-use bt_tree::{Hash32, NodeHash};
+use bt_tree::{BLOCK_LEN, Hash32, NodeHash};
 
 /// What `settle` did, in blocks.
 #[derive(Clone, Copy, Debug, PartialEq, Eq)]
@@ -180,7 +180,7 @@ fn judge_findings<H: NodeHash>(
 impl<D: Disk + Drop, H: NodeHash> FileStore<D, H> {
     /// Reads each Waiting block whose leaf is known, of `count` blocks from `from` on, by one call of the
     /// device each and upwards: it becomes marked where its digest is the leaf, else missing, also where
-    /// its read failed.
+    /// its read failed. Where the file has no Waiting block, that takes constant time.
     ///
     /// The one refusal is Range, where the file has fewer blocks; nothing is read then.
     pub fn settle(
@@ -205,8 +205,14 @@ impl<D: Disk + Drop, H: NodeHash> FileStore<D, H> {
         if from > blocks || count > blocks - from {
             return Err(StoreError::Range);
         }
-        let mut buffer = [0; RUN_LEN];
-        let tally = self.judge_chosen(tree, Review::Waiting, from, from + count, &mut buffer);
+        if self.waiting() == 0 {
+            return Ok(Settled {
+                marked: 0,
+                freed: 0,
+                faults: 0,
+            });
+        }
+        let tally = self.judge_chosen(tree, Review::Waiting, from, from + count);
         Ok(Settled {
             marked: tally.right,
             freed: tally.wrong,
@@ -225,9 +231,8 @@ impl<D: Disk + Drop, H: NodeHash> FileStore<D, H> {
             × (result.unmarked ≡ wrong_count H.digest tree.now reads)
             × (result.faults ≡ fault_count reads) }
     {
-        let mut buffer = [0; RUN_LEN];
         let blocks = self.geometry.blocks();
-        let tally = self.judge_chosen(tree, Review::Marked, 0, blocks, &mut buffer);
+        let tally = self.judge_chosen(tree, Review::Marked, 0, blocks);
         Rechecked {
             kept: tally.right,
             unmarked: tally.wrong,
@@ -242,12 +247,10 @@ impl<D: Disk + Drop, H: NodeHash> FileStore<D, H> {
         review: Review,
         from: u32,
         end: u32,
-        buffer: &mut [u8],
     ) -> Tally
         requires geometry { tree.now.file_length ≡ self.old.file_length }
         requires upwards { from ≤ end }
         requires inside { end ≤ block_count self.old.file_length }
-        requires room { length buffer.old ≡ 8 * full_block_length }
         ensures { (reads : List BlockRead)
             × IsJudged D.history D.honest D.faults H.digest tree.now (forgives review)
             (chosen_blocks H.digest tree.now review self.old.states from (end - from)) self.old reads self.new
@@ -260,7 +263,7 @@ impl<D: Disk + Drop, H: NodeHash> FileStore<D, H> {
             if count == 0 {
                 at += 1;
             } else {
-                let run = self.judge_run(tree, at, count as usize, review.forgives(), buffer);
+                let run = self.judge_blocks(tree, at, count as usize, review.forgives());
                 tally = tally.plus(run);
                 at += count;
             }
@@ -300,7 +303,33 @@ impl<D: Disk + Drop, H: NodeHash> FileStore<D, H> {
     }
 
     /// Reads blocks that lie next to each other, at most eight, and judges each.
-    pub(crate) fn judge_run(
+    ///
+    /// The buffer is laid out here, so that a call that reads nothing doesn't pay for it. One block alone
+    /// needs a smaller one.
+    pub(crate) fn judge_blocks(
+        &mut self,
+        tree: &SparseTree<H>,
+        first: u32,
+        count: usize,
+        forgiving: bool,
+    ) -> Tally
+        requires geometry { tree.now.file_length ≡ self.old.file_length }
+        requires few { count ≤ 8 }
+        requires inside { first + count ≤ block_count self.old.file_length }
+        ensures judged { (reads : List BlockRead)
+            × IsJudged D.history D.honest D.faults H.digest tree.now forgiving
+            (range_with_len first count) self.old reads self.new
+            × IsTallyOf H.digest tree.now reads result }
+        ensures sum { tally_sum result ≡ count }
+    {
+        if count == 1 {
+            return self.judge_run(tree, first, 1, forgiving, &mut [0; BLOCK_LEN]);
+        }
+        self.judge_run(tree, first, count, forgiving, &mut [0; RUN_LEN])
+    }
+
+    /// Reads blocks that lie next to each other, at most eight, into a buffer, and judges each.
+    fn judge_run(
         &mut self,
         tree: &SparseTree<H>,
         first: u32,

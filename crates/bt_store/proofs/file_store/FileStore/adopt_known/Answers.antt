@@ -3,7 +3,7 @@ use Rattle.bt_store.proofs.file_store.FileStore.adopt_known.Goals as goal
 
 pub returns : goal.returns
 returns g c =
-    let run = c.judge_known-tally.ensures in
+    let run = c.judge_blocks-tally.ensures.judged in
     let dig = g.H.NodeHash.digest in
     let k = c.args.tree.now in
     let states = c.args.self.now.states in

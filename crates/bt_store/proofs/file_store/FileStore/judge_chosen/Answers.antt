@@ -1,4 +1,4 @@
-use Rattle.std.proofs.Common.{◌∙◌, subst, arith}
+use Rattle.std.proofs.Common.{subst, arith}
 use Rattle.std.specs.List.{range_with_len}
 use Rattle.bt_store.specs.BlockReads.{IsJudged}
 use Rattle.bt_store.proofs.Reviews.{reviewed_start, reviewed_past, reviewed_run}
@@ -9,12 +9,11 @@ loop-at-init g c =
     let d = g.D.Disk in record {
       reviewed = rw c.new-tally.ensures (reviewed_start d.history d.honest d.faults g.H.NodeHash.digest c.args.tree.now c.args.review c.args.from c.args.self.now);
       high = c.requires.upwards;
-      room = c.requires.room;
     }
 
 pub plus-tally-requires : goal.plus-tally-requires
 plus-tally-requires g c =
-    omega (arith, c.loop-at.invariant.reviewed.few, c.judge_run-run.ensures.sum, c.chosen_run-count.ensures.inside, c.loop-at.invariant.reviewed.low)
+    omega (arith, c.loop-at.invariant.reviewed.few, c.judge_blocks-run.ensures.sum, c.chosen_run-count.ensures.inside, c.loop-at.invariant.reviewed.low)
 
 pub loop-at-preserved-then-count-eq0 : goal.loop-at-preserved-then-count-eq0
 loop-at-preserved-then-count-eq0 g c =
@@ -24,7 +23,6 @@ loop-at-preserved-then-count-eq0 g c =
       reviewed = reviewed_past d.history d.honest d.faults g.H.NodeHash.digest c.args.tree.now c.args.review c.args.from c.loop-at.at c.args.self.now c.loop-at.self
           c.loop-at.tally before.reviewed (c.chosen_run-count.ensures.none c.if-count-eq0.true);
       high = omega arith;
-      room = before.room;
     }
 
 pub loop-at-preserved : goal.loop-at-preserved
@@ -35,12 +33,11 @@ loop-at-preserved g c =
     let before = c.loop-at.invariant in
     let n = c.chosen_run-count.result in
     let total = c.plus-tally.ensures in
-    let run = c.judge_run-run.ensures in
-    let judged = subst (λ f. IsJudged d.history d.honest d.faults dig k f (range_with_len c.loop-at.at n) c.loop-at.self run.judged.0 c.judge_run-run.new.self) c.forgives.ensures run.judged.1 in
+    let run = c.judge_blocks-run.ensures in
+    let judged = subst (λ f. IsJudged d.history d.honest d.faults dig k f (range_with_len c.loop-at.at n) c.loop-at.self run.judged.0 c.judge_blocks-run.new.self) c.forgives.ensures run.judged.1 in
     record {
-      reviewed = reviewed_run d.history d.honest d.faults dig k c.args.review c.args.from c.loop-at.at n c.args.self.now c.loop-at.self c.judge_run-run.new.self
-          c.loop-at.tally c.judge_run-run.result c.plus-tally.result run.judged.0 before.reviewed c.chosen_run-count.ensures.chosen
+      reviewed = reviewed_run d.history d.honest d.faults dig k c.args.review c.args.from c.loop-at.at n c.args.self.now c.loop-at.self c.judge_blocks-run.new.self
+          c.loop-at.tally c.judge_blocks-run.result c.plus-tally.result run.judged.0 before.reviewed c.chosen_run-count.ensures.chosen
           judged run.judged.2 run.sum total.right total.wrong total.faults;
       high = c.chosen_run-count.ensures.inside;
-      room = c.judge_run-run.auto.buffer ∙ before.room;
     }

@@ -1,4 +1,4 @@
-use Rattle.std.proofs.Common.{◌≡◌, ◌*◌, ◌-◌, ◌≤◌, length}
+use Rattle.std.proofs.Common.{◌-◌, ◌≤◌}
 use Rattle.bt_store.proofs.Reviews.{IsReviewedTo}
 use Rattle.bt_store.proofs.file_store.FileStore.judge_chosen.Given as goal
 
@@ -6,7 +6,6 @@ abbrev pub invariant-loop-at : goal.invariant-loop-at
 invariant-loop-at g l = record {
   reviewed : IsReviewedTo g.D.Disk.history g.D.Disk.honest g.D.Disk.faults g.H.NodeHash.digest l.tree l.review l.from l.at l.fn.self l.self l.tally;
   high : l.at ≤ l.end;
-  room : length l.buffer ≡ 8 * 16384;
 }
 
 abbrev pub decreases-loop-at : goal.decreases-loop-at
