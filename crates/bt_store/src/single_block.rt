@@ -1,4 +1,4 @@
-ghost use Rattle.std.specs.Prelude.{◌≡◌, ◌≢◌, ◌<◌, ◌≤◌, List, Some, length, slice_get};
+ghost use Rattle.std.specs.Prelude.{◌≡◌, ◌≢◌, ◌<◌, ◌≤◌, List, Some, IfErr, length, drop, slice_get};
 ghost use Rattle.std.specs.Bool.{OnTrue, OnFalse};
 ghost use Rattle.bt_tree.specs.Limits.{full_block_length};
 ghost use Rattle.bt_tree.specs.Blocks.{block_count, block_length};
@@ -20,7 +20,8 @@ impl<D: Disk + Drop, H: NodeHash> FileStore<D, H> {
     ///
     /// The refusals are NotMarked, also where there is no such block; Device, after which the block stays
     /// marked; and Damaged, where the bytes are fewer or their digest is not the leaf, after which the
-    /// block is missing. After a refusal nothing is said of `out`.
+    /// block is missing. Behind the block's length `out` stays as it was, and after NotMarked all of it
+    /// does; after the other two nothing is said of its front.
     pub fn read(
         &mut self,
         tree: &SparseTree<H>,
@@ -29,8 +30,11 @@ impl<D: Disk + Drop, H: NodeHash> FileStore<D, H> {
     ) -> Result<usize, ReadError>
         requires geometry { tree.now.file_length ≡ self.old.file_length }
         requires room { block_length self.old.file_length block ≤ length out.old }
-        ensures { (reads : List BlockRead) × IsLent D.history D.honest D.faults H.digest tree.now
+        ensures lent { (reads : List BlockRead) × IsLent D.history D.honest D.faults H.digest tree.now
             block out.new self.old reads result self.new }
+        ensures rest { drop (block_length self.old.file_length block) out.new
+            ≡ drop (block_length self.old.file_length block) out.old }
+        ensures unread { IfErr result (λ error. error ≡ ReadError.NotMarked → out.new ≡ out.old) }
     {
         if !self.is_marked(block) {
             return Err(ReadError::NotMarked);

@@ -1,6 +1,7 @@
-use Rattle.std.proofs.Common.{◌≡◌, ap, ◌∙◌, List, [], ◌∷◌, ◌++◌, length, take, drop, Some, Ok, Err, refl, sym, subst, rules}
+use Rattle.std.proofs.Common.{◌≡◌, ℕ, ap, ◌∙◌, List, [], ◌∷◌, ◌++◌, length, take, drop, Some, Ok, Err, refl, sym, subst, rules, arith}
 use Rattle.std.specs.Prelude.{slice_get}
 use Rattle.std.proofs.lemmas.List.{length-take-le, take-append-le}
+use Rattle.std.proofs.lemmas.Slice.{drop-append-drop}
 use Rattle.bt_tree.specs.Blocks.{block_length}
 use Rattle.bt_disk.specs.Calls.{HasCalls, IsAnswered, bytes_given, read_fault}
 use Rattle.bt_disk.proofs.CallLists.{has_none}
@@ -12,13 +13,20 @@ use Rattle.bt_store.specs.declared.error.ReadError.TheVariants.{Damaged, Device}
 use Rattle.bt_store.proofs.RunReads.{one_given, one_failed}
 use Rattle.bt_store.proofs.file_store.FileStore.read.Goals as goal
 
-pub returns-then-not-is_marked : goal.returns-then-not-is_marked
-returns-then-not-is_marked g c =
+-- what lies behind a block is as it was
+behind : (bytes n m i : ℕ) (out front : List ℕ) → n ≡ bytes → m ≡ block_length n i → length front ≡ block_length n i
+    → drop (block_length bytes i) (front ++ drop m out) ≡ drop (block_length bytes i) out
+behind bytes n m i out front same place size =
+    let whole : m ≡ block_length bytes i = place ∙ ap (λ b. block_length b i) same in
+    drop-append-drop m out front (block_length bytes i) (omega arith) (size ∙ sym place)
+
+pub returns-then-not-is_marked-clause-lent : goal.returns-then-not-is_marked-clause-lent
+returns-then-not-is_marked-clause-lent g c =
     let d = g.D.Disk in
     ([], record { calls = has_none d.history d.honest d.faults c.args.self.now.disk; answer = not_marked c.if-not-is_marked.ensures.no; same_file = refl })
 
-pub returns-in_default : goal.returns-in_default
-returns-in_default g c =
+pub returns-in_default-clause-lent : goal.returns-in_default-clause-lent
+returns-in_default-clause-lent g c =
     let d = g.D.Disk in
     let w = c.in_default.ensures in
     let a = c.self.inside in
@@ -37,8 +45,17 @@ returns-in_default g c =
       },
     )
 
-pub returns-then-not-is_right : goal.returns-then-not-is_right
-returns-then-not-is_right g c =
+pub returns-in_default-clause-rest : goal.returns-in_default-clause-rest
+returns-in_default-clause-rest g c =
+    let size : length c.read_at.new.out ≡ block_length c.self.inside.geometry c.args.block = search rules in
+    behind c.args.self.now.file_length c.self.inside.geometry c.block_len-length.result c.args.block c.args.out.now c.read_at.new.out
+    (ap (λ s. s.file_length) c.self.view_is) c.block_len-length.ensures.value size
+
+pub returns-in_default-clause-unread : goal.returns-in_default-clause-unread
+returns-in_default-clause-unread g c = λ e. absurd cc
+
+pub returns-then-not-is_right-clause-lent : goal.returns-then-not-is_right-clause-lent
+returns-then-not-is_right-clause-lent g c =
     let d = g.D.Disk in
     let w = c.in-Ok.ensures in
     let a = c.self.inside in
@@ -60,8 +77,17 @@ returns-then-not-is_right g c =
       },
     )
 
-pub returns : goal.returns
-returns g c =
+pub returns-then-not-is_right-clause-rest : goal.returns-then-not-is_right-clause-rest
+returns-then-not-is_right-clause-rest g c =
+    let size : length c.read_at.new.out ≡ block_length c.self.inside.geometry c.args.block = search rules in
+    behind c.args.self.now.file_length c.self.inside.geometry c.block_len-length.result c.args.block c.args.out.now c.read_at.new.out
+    (ap (λ s. s.file_length) c.self.view_is) c.block_len-length.ensures.value size
+
+pub returns-then-not-is_right-clause-unread : goal.returns-then-not-is_right-clause-unread
+returns-then-not-is_right-clause-unread g c = λ e. absurd cc
+
+pub returns-clause-lent : goal.returns-clause-lent
+returns-clause-lent g c =
     let d = g.D.Disk in
     let w = c.in-Ok.ensures in
     let a = c.self.inside in
@@ -84,3 +110,9 @@ returns g c =
         same_file = refl;
       },
     )
+
+pub returns-clause-rest : goal.returns-clause-rest
+returns-clause-rest g c =
+    let size : length c.read_at.new.out ≡ block_length c.self.inside.geometry c.args.block = search rules in
+    behind c.args.self.now.file_length c.self.inside.geometry c.block_len-length.result c.args.block c.args.out.now c.read_at.new.out
+    (ap (λ s. s.file_length) c.self.view_is) c.block_len-length.ensures.value size
