@@ -102,7 +102,7 @@ pub data Adopts (dig : List ℕ → List ℕ) (k : Facts) (from : ℕ) (states :
       → Adopts dig k from states reads
       (record { next = first + count; anchor = 0; marked = 0; faults = fault_count reads }) k states
 
--- these reads were made, no other call changed the device or failed, and the rest is what `Adopts` says
+-- these reads were made, no other call failed or changed an honest device, and the rest is what `Adopts` says
 pub record IsAdopted {D : Type 0} (history : D → History) (honest : D → Type 0) (faults : D → ℕ)
     (dig : List ℕ → List ℕ) (k : Facts) (from : ℕ) (old : StoreView D) (reads : List BlockRead)
     (adopted : Adopted) (grown : Facts) (new : StoreView D) : Type 0 where
@@ -111,7 +111,7 @@ pub record IsAdopted {D : Type 0} (history : D → History) (honest : D → Type
   pub same_file : new.file_length ≡ old.file_length
 
 -- memory was refused, which only blocks below a held node take: they were read or they were not, no other
--- call changed the device or failed, and nothing else changed
+-- call failed or changed an honest device, and nothing else changed
 pub record StopsAdopting {D : Type 0} (history : D → History) (honest : D → Type 0) (faults : D → ℕ)
     (dig : List ℕ → List ℕ) (k : Facts) (from : ℕ) (old : StoreView D) (reads : List BlockRead)
     (new : StoreView D) : Type 0 where

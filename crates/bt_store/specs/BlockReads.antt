@@ -25,8 +25,8 @@ abbrev pub call_of : ℕ → BlockRead → Call
 call_of n (given i bytes) = bytes_given (full_block_length * i) (block_length n i) bytes
 call_of n (failed i) = read_fault (full_block_length * i) (block_length n i)
 
--- Between old and new these blocks were read, and no other call changed the device or failed. A read that
--- succeeds leaves no trace, so how many there were, and in which order, is not said.
+-- Between old and new these blocks were read, and no other call failed or changed an honest device. A read
+-- that succeeds leaves no trace, so how many there were, and in which order, is not said.
 pub record AreReads {D : Type 0} (history : D → History) (honest : D → Type 0) (faults : D → ℕ) (n : ℕ)
     (blocks : List ℕ) (old : D) (reads : List BlockRead) (new : D) : Type 0 where
   pub in_order : map block_of reads ≡ blocks
@@ -62,7 +62,7 @@ judged dig k forgiving [] states = states
 judged dig k forgiving (read ∷ reads) states =
     judged dig k forgiving reads (after_read dig k forgiving read states)
 
--- These blocks were read and judged, and nothing else changed.
+-- These blocks were read and judged; the file's length stays.
 pub record IsJudged {D : Type 0} (history : D → History) (honest : D → Type 0) (faults : D → ℕ)
     (dig : List ℕ → List ℕ) (k : Facts) (forgiving : Bool) (blocks : List ℕ)
     (old : StoreView D) (reads : List BlockRead) (new : StoreView D) : Type 0 where

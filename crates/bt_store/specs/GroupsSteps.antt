@@ -32,8 +32,8 @@ counted_findings findings zero census = census
 counted_findings findings (suc j) census =
     counted (slice_index_or findings j Failed) (counted_findings findings j census)
 
--- so many blocks from the first on were read, no other call changed the device or failed; the list has their
--- digests, and padding behind them; and so many were given whole, and failed
+-- so many blocks from the first on were read, no other call failed or changed an honest device; the list has
+-- their digests, and padding behind them; and so many were given whole, and failed
 pub record IsGroupRead {D : Type 0} (history : D → History) (honest : D → Type 0) (faults : D → ℕ)
     (dig : List ℕ → List ℕ) (n first count width : ℕ) (old : D) (reads : List BlockRead) (census : Census)
     (new : D) (digests : List (List ℕ)) : Type 0 where

@@ -44,8 +44,8 @@ pub data Restores (dig : List ℕ → List ℕ) (k : Facts) (i : ℕ) (states : 
       → Restores dig k i states (given i bytes ∷ []) (Ok false) states
   fault : IsLost dig k i states → Restores dig k i states (failed i ∷ []) (Err Device) states
 
--- these reads were made, no other call changed the device or failed, and the answer and the states are those
--- that `Lends` says
+-- these reads were made, no other call failed or changed an honest device, and the answer and the states are
+-- those that `Lends` says
 pub record IsLent {D : Type 0} (history : D → History) (honest : D → Type 0) (faults : D → ℕ)
     (dig : List ℕ → List ℕ) (k : Facts) (i : ℕ) (out : List ℕ) (old : StoreView D) (reads : List BlockRead)
     (result : Result ℕ ReadError) (new : StoreView D) : Type 0 where
@@ -53,8 +53,8 @@ pub record IsLent {D : Type 0} (history : D → History) (honest : D → Type 0)
   pub answer : Lends dig k i out old.states reads result new.states
   pub same_file : new.file_length ≡ old.file_length
 
--- these reads were made, no other call changed the device or failed, and the answer and the states are those
--- that `Restores` says
+-- these reads were made, no other call failed or changed an honest device, and the answer and the states are
+-- those that `Restores` says
 pub record IsRestored {D : Type 0} (history : D → History) (honest : D → Type 0) (faults : D → ℕ)
     (dig : List ℕ → List ℕ) (k : Facts) (i : ℕ) (old : StoreView D) (reads : List BlockRead)
     (result : Result Bool StoreError) (new : StoreView D) : Type 0 where
