@@ -77,6 +77,7 @@ impl<D: Disk + Drop, H: NodeHash> FileStore<D, H> {
         ensures { (reads : List BlockRead) × IsAdopted D.history D.honest D.faults
             H.digest tree.now from self.old reads result tree.now self.new }
     {
+        // The clause of this number says that a file has few blocks, so no sum overflows.
         let _ = self.geometry.blocks();
         let count = known_run(tree, from);
         let tally = self.judge_blocks(tree, from, count as usize, true);

@@ -72,12 +72,7 @@ impl<D: Disk + Drop, H: NodeHash> FileStore<D, H> {
         ensures yes { OnTrue result (slice_get self.now.states block ≡ Some BlockState.Missing) }
         ensures no { OnFalse result (slice_get self.now.states block ≢ Some BlockState.Missing) }
     {
-        match self.states.get(block) {
-            Some(BlockState::Missing) => true,
-            Some(BlockState::Waiting) => false,
-            Some(BlockState::Marked) => false,
-            None => false,
-        }
+        self.states.get(block) == Some(BlockState::Missing)
     }
 }
 

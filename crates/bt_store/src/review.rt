@@ -241,13 +241,7 @@ impl<D: Disk + Drop, H: NodeHash> FileStore<D, H> {
     }
 
     /// Reads the blocks of a review, from one to before another, and judges each.
-    fn judge_chosen(
-        &mut self,
-        tree: &SparseTree<H>,
-        review: Review,
-        from: u32,
-        end: u32,
-    ) -> Tally
+    fn judge_chosen(&mut self, tree: &SparseTree<H>, review: Review, from: u32, end: u32) -> Tally
         requires geometry { tree.now.file_length ≡ self.old.file_length }
         requires upwards { from ≤ end }
         requires inside { end ≤ block_count self.old.file_length }

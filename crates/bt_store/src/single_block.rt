@@ -102,12 +102,7 @@ impl<D: Disk + Drop, H: NodeHash> FileStore<D, H> {
         ensures no { OnFalse result (slice_get self.now.states block ≢ Some BlockState.Marked) }
         ensures inside { OnTrue result (block < block_count self.now.file_length) }
     {
-        match self.states.get(block) {
-            Some(BlockState::Marked) => true,
-            Some(BlockState::Missing) => false,
-            Some(BlockState::Waiting) => false,
-            None => false,
-        }
+        self.states.get(block) == Some(BlockState::Marked)
     }
 }
 
