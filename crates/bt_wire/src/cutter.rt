@@ -6,7 +6,10 @@ use crate::front::first_event;
 use std::alloc::Global;
 use std::marker::Model;
 
-/// How many bytes an empty buffer has room for at most.
+#[cfg(test)]
+mod tests;
+
+/// The most bytes that a buffer has room for whatever is unread.
 const KEPT_ROOM: usize = 1 << 17;
 
 /// A peer's stream, cut into its events: bytes are fed in parts of any size, and an event is taken once it is
@@ -62,7 +65,6 @@ impl Cutter {
         if self.start >= self.bytes.len() - self.start {
             drop_front(&mut self.bytes, self.start);
             self.start = 0;
-            fit_room(self.alloc, &mut self.bytes);
         }
         self.bytes.extend_from_slice(bytes)?;
         Ok(())
@@ -107,28 +109,22 @@ fn drop_front(bytes: &mut Vec<u8>, count: usize)
     bytes.truncate(rest);
 }
 
-/// Moves bytes that have four times the room they need, and more than is kept, to a buffer of their size;
-/// where memory for that is refused they stay.
-fn fit_room(alloc: Global, bytes: &mut Vec<u8>)
-    ensures { bytes.new.items ≡ bytes.old.items }
-{
-    if bytes.capacity() <= KEPT_ROOM || bytes.capacity() / 4 < bytes.len() {
-        return;
-    }
-    if let Ok(copy) = Vec::from_slice(alloc, bytes.as_slice()) {
-        *bytes = copy;
-    }
-}
-
-/// Gives a large buffer back where all its bytes are taken; returns where the others begin.
+/// Leaves out the first bytes where the buffer has more room than is kept and at least four times what the
+/// others need: these go to a buffer of their size. Where memory for it is refused all stay. Returns where the
+/// others begin.
 fn start_of_rest(alloc: Global, bytes: &mut Vec<u8>, start: usize) -> usize
     requires { start ≤ length bytes.old.items }
     ensures within { result ≤ length bytes.new.items }
     ensures same { drop result bytes.new.items ≡ drop start bytes.old.items }
 {
-    if start < bytes.len() || bytes.capacity() <= KEPT_ROOM {
+    if bytes.capacity() <= KEPT_ROOM || bytes.capacity() / 4 < bytes.len() - start {
         return start;
     }
-    *bytes = Vec::new(alloc);
-    0
+    match Vec::from_slice(alloc, &bytes[start..]) {
+        Ok(rest) => {
+            *bytes = rest;
+            0
+        }
+        Err(_) => start,
+    }
 }
