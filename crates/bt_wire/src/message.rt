@@ -11,6 +11,7 @@ pub(crate) const MAX_LENGTH_FIELD: usize = 1 << 20;
 /// A range of a piece's bytes, as a request or a cancel names it (BEP 3).
 #[derive(Clone, Copy, Debug, PartialEq, Eq)]
 pub struct Ask {
+    /// The index of the piece.
     pub piece: u32,
     /// The offset of the first byte in the piece.
     pub begin: u32,
@@ -69,7 +70,8 @@ pub fn fits(message: &Message) -> bool
     }
 }
 
-/// How many bytes a key takes in a message.
+/// How many bytes a key takes in a message, `KEY_LEN`. They are counted, since a proof knows that a root has 32
+/// bytes only where it is read.
 fn key_len(key: &HashKey) -> usize
     ensures spelled { result ≡ length (key_spelling key.now) }
     ensures value { result ≡ key_length }
