@@ -2,6 +2,7 @@ ghost use Rattle.std.specs.Prelude.{◌≡◌, ◌+◌, ◌≤◌, ◌↔◌, �
 ghost use Rattle.std.specs.Int.{w32, to_be_bytes};
 ghost use Rattle.bt_hashreq.specs.Key.{key_length, key_spelling};
 
+use crate::fields::{number_at, put};
 use bt_tree::Hash32;
 
 /// How many bytes a key has in a message (BEP 52).
@@ -54,20 +55,4 @@ pub fn write_key(key: &HashKey) -> [u8; KEY_LEN]
     put(&mut bytes, 40, &key.length.to_be_bytes());
     put(&mut bytes, 44, &key.layers.to_be_bytes());
     bytes
-}
-
-/// Writes a run behind the first `at` bytes.
-fn put(bytes: &mut [u8; KEY_LEN], at: usize, run: &[u8])
-    requires { at + length run.now ≤ key_length }
-    ensures { take (at + length run.now) bytes.new ≡ take at bytes.old ++ run.now }
-{
-    bytes[at..at + run.len()].copy_from_slice(run);
-}
-
-/// The number that the four bytes from `at` on spell, the high byte first.
-fn number_at(bytes: &[u8], at: usize) -> u32
-    requires { at + 4 ≤ length bytes.now }
-    ensures { to_be_bytes w32 result ≡ take 4 (drop at bytes.now) }
-{
-    u32::from_be_bytes([bytes[at], bytes[at + 1], bytes[at + 2], bytes[at + 3]])
 }

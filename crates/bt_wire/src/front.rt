@@ -7,7 +7,8 @@ ghost use Rattle.bt_wire.specs.FrontSteps.{FitsKind, IsMisfit, IsLawfulFrame, Be
 use crate::event::{WireError, WireEvent};
 use crate::handshake::{HANDSHAKE_LEN, Handshake, PROTOCOL};
 use crate::message::{MAX_LENGTH_FIELD, Message};
-use crate::reader::{number_at, payload_fits, read_message};
+use crate::reader::{payload_fits, read_message};
+use bt_hashreq::number_at;
 use std::alloc::{AllocError, Global};
 
 /// The event with which the bytes begin, and how many bytes it has; None where neither an event nor a fault

@@ -2,6 +2,8 @@ ghost use Rattle.std.specs.Prelude.{◌≡◌, ◌+◌, ◌≤◌, ◌++◌, len
 ghost use Rattle.bt_wire.specs.Limits.{handshake_length};
 ghost use Rattle.bt_wire.specs.Handshake.{handshake_spelling};
 
+use bt_hashreq::put;
+
 /// How many bytes a handshake has (BEP 3).
 pub const HANDSHAKE_LEN: usize = 68;
 
@@ -28,12 +30,4 @@ pub fn write_handshake(handshake: &Handshake) -> [u8; HANDSHAKE_LEN]
     put(&mut bytes, 28, &handshake.infohash);
     put(&mut bytes, 48, &handshake.peer_id);
     bytes
-}
-
-/// Writes a run behind the first `at` bytes.
-fn put(bytes: &mut [u8; HANDSHAKE_LEN], at: usize, run: &[u8])
-    requires { at + length run.now ≤ handshake_length }
-    ensures { take (at + length run.now) bytes.new ≡ take at bytes.old ++ run.now }
-{
-    bytes[at..at + run.len()].copy_from_slice(run);
 }

@@ -7,7 +7,7 @@ ghost use Rattle.bt_wire.specs.ReaderSteps.{HasSize, IsListed, IsMessageOf};
 use crate::bytes::Bytes;
 use crate::kind;
 use crate::message::{Ask, Message};
-use bt_hashreq::{HashKey, KEY_LEN, read_key};
+use bt_hashreq::{HashKey, KEY_LEN, number_at, read_key};
 use std::alloc::{AllocError, Global};
 
 /// Whether a payload of so many bytes fits the kind; None for an unknown kind.
@@ -92,12 +92,4 @@ fn whole_key(bytes: &[u8]) -> HashKey
         Some(key) => key,
         None => unreachable!(),
     }
-}
-
-/// The number that the four bytes from `at` on spell, the high byte first.
-pub(crate) fn number_at(bytes: &[u8], at: usize) -> u32
-    requires { at + 4 ≤ length bytes.now }
-    ensures { to_be_bytes w32 result ≡ take 4 (drop at bytes.now) }
-{
-    u32::from_be_bytes([bytes[at], bytes[at + 1], bytes[at + 2], bytes[at + 3]])
 }
