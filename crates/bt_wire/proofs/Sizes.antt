@@ -75,25 +75,6 @@ pub has_size : (kind n : ℕ) → HasPayloadLength kind n → HasSize kind n
 has_size kind n has =
     subst (λ (n : ℕ). HasSize kind n) has.size (size_of has.message kind has.payload has.is_message has.whole has.body_is)
 
--- the number of a message's kind
-listed : (m : Message) (kind : ℕ) (payload : List ℕ) → body_of m ≡ body kind payload → IsListed kind
-listed KeepAlive kind payload e = cc
-listed Choke kind payload e = inl (omega (arith, same_kind 0 kind _ payload e))
-listed Unchoke kind payload e = inl (omega (arith, same_kind 1 kind _ payload e))
-listed Interested kind payload e = inl (omega (arith, same_kind 2 kind _ payload e))
-listed NotInterested kind payload e = inl (omega (arith, same_kind 3 kind _ payload e))
-listed (Have piece) kind payload e = inl (omega (arith, same_kind 4 kind _ payload e))
-listed (Bitfield bits) kind payload e = inl (omega (arith, same_kind 5 kind _ payload e))
-listed (Request ask) kind payload e = inl (omega (arith, same_kind 6 kind _ payload e))
-listed (Piece piece begin bytes) kind payload e = inl (omega (arith, same_kind 7 kind _ payload e))
-listed (Cancel ask) kind payload e = inl (omega (arith, same_kind 8 kind _ payload e))
-listed (HashRequest key) kind payload e = let k : 21 ≡ kind = same_kind 21 kind _ payload e in inr (omega arith, omega arith)
-listed (Hashes key digests) kind payload e = let k : 22 ≡ kind = same_kind 22 kind _ payload e in inr (omega arith, omega arith)
-listed (HashReject key) kind payload e = let k : 23 ≡ kind = same_kind 23 kind _ payload e in inr (omega arith, omega arith)
-
-pub is_listed : (kind : ℕ) → IsKnownKind kind → IsListed kind
-is_listed kind known = listed known.0 kind known.1 known.2
-
 -- a message of each kind
 zero_ask : Ask
 zero_ask = record { piece = 0; begin = 0; length = 0 }

@@ -11,6 +11,7 @@ use thiserror::Error;
 pub enum WireEvent {
     /// The handshake, with which a stream begins.
     Hello(Handshake),
+    /// A message of a known kind, whose length field fits it.
     Message(Message),
     /// A message of an unknown kind, which is this number.
     Skipped(u8),

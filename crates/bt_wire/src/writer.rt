@@ -12,7 +12,7 @@ use std::alloc::{AllocError, Global};
 const ASK_LEN: usize = 12;
 
 /// The bytes that spell a message: its length field, its kind and its payload. A keepalive is a length field
-/// of 0. The message has to fit, which `fits` checks.
+/// of 0. The message has to fit, which `fits` checks. Errors: out of memory.
 pub fn write_message(alloc: Global, message: &Message) -> Result<Vec<u8>, AllocError>
     requires { Fits message.now }
     ensures { IfOk result (λ bytes. bytes.items ≡ message_spelling message.now) }
