@@ -1,5 +1,4 @@
-ghost use Rattle.std.specs.Prelude.{◌≡◌, ◌+◌, ◌≤◌, ◌<◌, ◌↔◌, length, take, drop, IsSome, IsNone, IsTrue, IfSome, IfNone, IfOk, IfErr};
-ghost use Rattle.std.specs.Int.{w32, to_be_bytes};
+ghost use Rattle.std.specs.Prelude.{◌≡◌, ◌↔◌, length, IsSome, IsTrue, IfSome, IfNone, IfOk, IfErr};
 ghost use Rattle.bt_hashreq.specs.Key.{key_length, key_spelling, IsKey};
 ghost use Rattle.bt_wire.specs.Message.{ask_spelling, IsAsk, IsKnownKind};
 ghost use Rattle.bt_wire.specs.ReaderSteps.{HasSize, IsListed, IsMessageOf};
