@@ -17,7 +17,7 @@ none_marked (suc n) (suc i) e = none_marked n i e
 none_marked _ _ e = absurd cc
 
 module _ {D : Type 0} (history : D → History) (honest : D → Type 0) (faults : D → ℕ) (dig : Digest) where
-  start_sound : {torrent s : _} (disks : List (Option D)) → Starts dig torrent s → IsSound history honest dig s disks
+  pub start_sound : {torrent s : _} (disks : List (Option D)) → Starts dig torrent s → IsSound history honest dig s disks
   start_sound {torrent} {s} disks starts i f k d is_file there honest_now j marked =
       let lt : i < length torrent.files = rw (← starts.is_new.count) (some_below s.files i is_file.here) in
       let file = get_some torrent.files i lt in

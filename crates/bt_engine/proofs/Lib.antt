@@ -21,6 +21,7 @@ pub mod Tame
 pub mod Sound
 pub mod Headline
 pub mod Crash
+pub mod Survival
 -- answers
 pub mod AnswerParts
 pub mod AnswerSends

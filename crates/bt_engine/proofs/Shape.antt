@@ -6,19 +6,19 @@ use Rattle.bt_engine.proofs.Lists.{set_get, set_cases, map_some}
 use Rattle.bt_engine.proofs.Adopting.{group_extends}
 
 -- a file of the new engine has the tree and the count of blocks that it had
-record SameFile (files : List FileState) (i : ℕ) (f : FileState) : Type 0 where
+pub record SameFile (files : List FileState) (i : ℕ) (f : FileState) : Type 0 where
   pub before : FileState
   pub here : slice_get files i ≡ Some before
   pub tree : f.tree ≡ before.tree
   pub blocks : length f.states ≡ length before.states
 
-record SameTree (trees : List Facts) (t : ℕ) (k : Facts) : Type 0 where
+pub record SameTree (trees : List Facts) (t : ℕ) (k : Facts) : Type 0 where
   pub after : Facts
   pub here : slice_get trees t ≡ Some after
   pub root : after.root ≡ k.root
   pub length : after.file_length ≡ k.file_length
 
-record Keeps (s m : EngineState) : Type 0 where
+pub record Keeps (s m : EngineState) : Type 0 where
   pub torrent : m.torrent ≡ s.torrent
   pub count : length m.files ≡ length s.files
   pub files : (i : ℕ) (f : FileState) → slice_get m.files i ≡ Some f → SameFile s.files i f
@@ -293,7 +293,7 @@ module _ (dig : Digest) where
   flush_keeps (syncs x y z e) = is_same e
   flush_keeps (fails before file after x y z e) = is_same e
 
-  step_keeps : {s new : _} (e calls a : _) → Step dig s e calls a new → Keeps s new
+  pub step_keeps : {s new : _} (e calls a : _) → Step dig s e calls a new → Keeps s new
   step_keeps Connect calls a t = connect_keeps t.3
   step_keeps (Feed key bytes) calls a t = feed_keeps t.3
   step_keeps (Next key) calls a t = next_keeps t.2

@@ -28,10 +28,10 @@ written_inside xs more at i lt =
     get_or_append_left (front ++ more) (drop (at + length more) xs) 0 (at + i) (omega (arith, length-append front more, length-front xs {at = at}))
     ∙ get_or-append_right front more at (at + i) 0 (length-front xs) (omega arith) ∙ ap (λ k. get_or more k 0) (let e : at + i - at ≡ i = omega arith in e)
 
-length_at : (n bytes i : _) → length (stored_block n bytes i) ≡ min (block_length n i) (length bytes - 16384 * i)
+pub length_at : (n bytes i : _) → length (stored_block n bytes i) ≡ min (block_length n i) (length bytes - 16384 * i)
 length_at n bytes i = length-take (block_length n i) (drop (16384 * i) bytes) ∙ ap (λ m. min (block_length n i) m) (length-drop (16384 * i) bytes)
 
-index_at : (n bytes i j : _) → j < block_length n i → get_or (stored_block n bytes i) j 0 ≡ get_or bytes (16384 * i + j) 0
+pub index_at : (n bytes i j : _) → j < block_length n i → get_or (stored_block n bytes i) j 0 ≡ get_or bytes (16384 * i + j) 0
 index_at n bytes i j lt = get_or-take (block_length n i) (drop (16384 * i) bytes) j 0 lt ∙ get_or-drop (16384 * i) bytes j 0
 
 -- the same bytes stand where a whole block did

@@ -340,7 +340,7 @@ module _ {D : Type 0} (history : D → History) (honest : D → Type 0) (faults 
   ]
 
   -- the device was there before, and honest
-  device_before : (old new events calls answers : _) (disks after : List (Option D)) (file : _) {e : D}
+  pub device_before : (old new events calls answers : _) (disks after : List (Option D)) (file : _) {e : D}
       → RunOn history honest faults dig old disks events calls answers new after → slice_get after file ≡ Some (Some e) → honest e
       → (d : D) × (slice_get disks file ≡ Some (Some d)) × honest d
   device_before old new [] [] [] disks after file {e} run there honest_now = (e, sym (cc) ∙ there, honest_now)

@@ -30,6 +30,7 @@ pub mod Determined
 pub mod Sound
 pub mod Unmarks
 pub mod Crash
+pub mod Survival
 pub mod Headline
 pub mod AnswerLaw
 pub mod AnswerDue

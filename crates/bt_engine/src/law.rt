@@ -6,6 +6,7 @@ ghost use Rattle.bt_engine.specs.Determined.{RunsAreDetermined, StepIsDetermined
 ghost use Rattle.bt_engine.specs.Shape.{RunsKeepShape};
 ghost use Rattle.bt_engine.specs.Orderly.{StepKeepsOrder, RunsAreOrderly};
 ghost use Rattle.bt_engine.specs.Crash.{StepKeepsImages};
+ghost use Rattle.bt_engine.specs.Survival.{RunKeepsImages, FlushKeepsBlocks, FlushedBlocksSurvive, RunsKeepFlushedBlocks};
 ghost use Rattle.bt_engine.specs.Unmarks.{StepUnmarksByBytes, StepKeepsMarks, RunKeepsMarks};
 ghost use Rattle.bt_engine.specs.Sound.{StepKeepsSound, RunKeepsSound, CompleteFilesStand};
 ghost use Rattle.bt_engine.specs.Law.{StepKeepsRooted, RunKeepsRooted, RootedIsChecked, RunsAreChecked, RightIsChecked, StepMarksByBytes, RunMarksByBytes, StepSendsReadBytes, RunSendsReadBytes};
@@ -143,6 +144,29 @@ pub fn run_keeps_marks<D: Disk, H: NodeHash>(_disk: &D, _hash: H)
 /// on to have, also those of a crash within an event.
 pub fn step_keeps_images<D: Disk, H: NodeHash>(_disk: &D, _hash: H)
     ensures { StepKeepsImages D.history D.honest D.faults H.digest }
+{}
+
+/// So it is over a list of events of a block that is marked at its start.
+pub fn run_keeps_images<D: Disk, H: NodeHash>(_disk: &D, _hash: H)
+    ensures { RunKeepsImages D.history D.honest D.faults H.digest }
+{}
+
+/// When a flush answers Ok, every marked block is kept as it stands on each honest device: every image from
+/// that moment on has it.
+pub fn flush_keeps_blocks<D: Disk, H: NodeHash>(_disk: &D, _hash: H)
+    ensures { FlushKeepsBlocks D.history D.honest D.faults H.digest }
+{}
+
+/// So once a flush answered Ok, whatever a crash leaves of an honest device at any later moment, each block
+/// that was marked at the flush is right in it, where marked blocks were right before.
+pub fn flushed_blocks_survive<D: Disk, H: NodeHash>(_disk: &D, _hash: H)
+    ensures { FlushedBlocksSurvive D.history D.honest D.faults H.digest }
+{}
+
+/// So it is after any list of events from the start of a torrent, whatever peers send and devices answer: a
+/// crash at any moment after a flush that answered Ok leaves each block right that was marked then.
+pub fn runs_keep_flushed_blocks<D: Disk, H: NodeHash>(_disk: &D, _hash: H)
+    ensures { RunsKeepFlushedBlocks D.history D.honest D.faults H.digest }
 {}
 
 /// Where all blocks of a file are marked, the trees are rooted and the marked blocks right on honest devices,

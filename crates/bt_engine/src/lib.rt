@@ -28,9 +28,10 @@ pub use example::{
     wrong_block_is_run,
 };
 pub use law::{
-    complete_files_are_published, complete_files_stand, complete_has_root, right_is_checked,
-    rooted_is_checked, run_keeps_marks, run_keeps_rooted, run_keeps_sound, run_marks_by_bytes,
-    run_sends_read_bytes, runs_are_checked, runs_are_determined, runs_are_orderly, runs_keep_shape,
+    complete_files_are_published, complete_files_stand, complete_has_root, flush_keeps_blocks,
+    flushed_blocks_survive, right_is_checked, rooted_is_checked, run_keeps_images, run_keeps_marks,
+    run_keeps_rooted, run_keeps_sound, run_marks_by_bytes, run_sends_read_bytes, runs_are_checked,
+    runs_are_determined, runs_are_orderly, runs_keep_flushed_blocks, runs_keep_shape,
     step_is_determined, step_is_forced, step_keeps_images, step_keeps_marks, step_keeps_order,
     step_keeps_rooted, step_keeps_sound, step_marks_by_bytes, step_sends_read_bytes,
     step_unmarks_by_bytes, step_writes_missing, taught_keys_are_answered,
