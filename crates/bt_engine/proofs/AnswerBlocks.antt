@@ -1,7 +1,7 @@
 -- What becomes of blocks that come and of requests.
 use Rattle.bt_engine.proofs.Base.{◌≡◌, ℕ, zero, suc, ◌⊎◌, inl, inr, Bool, true, false, List, [], ◌∷◌, length, map, Some, None, Result, Ok, Err, refl, ap, ◌∙◌, subst, slice_get, slice_set, Contains, ◌&&◌, option_map_or, list_all, Contains-append_left, Contains-append_right, IsLawful, IsPlace, Span, Facts, value_at, PutIsDue, states_after_put, BlockRead, given, failed, call_of, IsRight, is_marked, Missing, Waiting, Marked, StoreError, DeviceFault, Put, Wrong, PutMarked, PutWaiting, PeerKey, BlockId, Stream, Message, Ask, Request, Piece}
 use Rattle.bt_engine.proofs.Machine.{Digest, Note, NowMarked, Damaged, Device, Complete, PeerState, FileState, EngineState, DeviceCalls, block_id, state_at, tree_of, with_file, with_peer, new_complete_files, IsWholeBlock, spanned_blocks, cut_from, Effect, noting, sending, AreMarked, IsFile, Serves, StopsAtFault, FindsFault, damaged as found_damaged, fault, HandlesRequest, ignored, no_place, not_marked, served, stopped, HasPutEffect, Arrives, HandlesPiece, stale, arrives, GoesOn, Closes, Answer, of_next, NotedBy, output_of, MarksBlock, marked, not_written, NextMarksRightBlock, ServesRange, sent, not_read, NextServesMarkedRange, WaitingIsNotComplete}
-use Rattle.bt_engine.specs.AnswerDue.{IsOutOfMemory, damaged}
+use Rattle.bt_engine.specs.AnswerDue.{NextLacksMemory, damaged}
 use Rattle.bt_engine.proofs.Lists.{and_then_some, same_some, here, set_same, map_contains}
 use Rattle.bt_engine.proofs.AnswerSends.{follows_of}
 use Rattle.bt_engine.proofs.AnswerPlaces.{same_place, same_block}
@@ -100,7 +100,7 @@ module _ (dig : Digest) (s new : EngineState) (key : PeerKey) (i : ℕ) (p : Pee
 
   block_taken : IsLawful s.torrent.piece_length s.torrent.files → IsWholeBlock s.torrent piece begin (length bytes) b → Contains p.asked b
       → tree_of s b.file ≡ Some tree → IsRight dig tree b.block bytes → Taken dig s i p (Message (Piece piece begin bytes)) rest calls a new
-      → IsOutOfMemory a ⊎ MarksBlock b bytes calls a new
+      → NextLacksMemory a ⊎ MarksBlock b bytes calls a new
   block_taken lawful whole asked hung exact (no_room e) = inl e
   block_taken lawful whole asked hung exact (goes out g h is) =
       let r = piece_arrives whole asked h in
@@ -181,7 +181,7 @@ module _ (dig : Digest) (s new : EngineState) (key : PeerKey) (i : ℕ) (p : Pee
 
   request_taken : IsLawful s.torrent.piece_length s.torrent.files → p.am_choking ≡ false → IsPlace s.torrent ask.piece ask.begin ask.length span
       → AreMarked s span → tree_of s span.file ≡ Some tree → p.key ≡ key → Taken dig s i p (Message (Request ask)) rest calls a new
-      → IsOutOfMemory a ⊎ ServesRange dig tree key ask span calls a
+      → NextLacksMemory a ⊎ ServesRange dig tree key ask span calls a
   request_taken lawful open_to place are hung same (no_room e) = inl e
   request_taken lawful open_to place are hung same (goes out g h is) = inr (serves_by g is same (serving lawful open_to place are hung h))
   request_taken lawful open_to place are hung same (shuts out g h is) = not_shut g (serving lawful open_to place are hung h)

@@ -1,7 +1,7 @@
 -- A peer is closed only for what it sent.
 use Rattle.bt_engine.proofs.Base.{◌≡◌, ℕ, Some, None, Result, Ok, Err, refl, sym, ap, ◌∙◌, PutIsDue, StoreError, Range, Put, Already, Wrong, PeerKey, Stream, Takes, PeerMessage, Have, Bitfield, Request, Piece, HashRequest, Hashes, Hello, Message, Skipped}
 use Rattle.bt_engine.proofs.Machine.{Digest, Why, Event, Connect, Next, Rechoke, PeerState, EngineState, with_peer, Effect, FindsFault, damaged, fault, HandlesRequest, ignored, no_place, not_marked, served, stopped, HasPutEffect, HandlesPiece, stale, arrives, HandlesHashRequest, answered, rejected, HandlesHashes, unknown_root, no_claim, refused, learns, HandlesHello, ours, other, HandlesHave, in_range, out_of_range, HandlesBitfield, right, wrong, HandlesMessage, Handles, IsPeer, StepNext, no_peer, waits, goes_on, closes, faulty, no_memory, StepConnect, joins, full, spent, no_room, StepRechoke, rechokes, not_rechoked, of_connect, of_next, of_rechoke, Step, output_of, IsCause, wire, other_torrent, past_last_piece, other_length, is_no_place, wrong_block, is_unknown_root, makes_no_claim, is_refused, StepClosesForCause}
-use Rattle.bt_engine.specs.AnswerLaw.{Closes}
+use Rattle.bt_engine.specs.AnswerLaw.{ClosesPeer}
 
 -- nothing closes where an effect does not
 stays_open : {X : Type 0} {effect like : Effect} {why : Why} → effect ≡ like → like.close ≡ None → effect.close ≡ Some why → X
@@ -112,13 +112,13 @@ module _ (dig : Digest) where
       some_is e = cc
 
   -- an answer without an output, or with one that closes nothing
-  no_output : {X : Type 0} {a b why : _} → a ≡ b → output_of b ≡ None → Closes a why → X
+  no_output : {X : Type 0} {a b why : _} → a ≡ b → output_of b ≡ None → ClosesPeer a why → X
   no_output e none c = absurd cc
 
-  open_output : {X : Type 0} {a b like why : _} → a ≡ b → output_of b ≡ Some like → like.close ≡ None → Closes a why → X
+  open_output : {X : Type 0} {a b like why : _} → a ≡ b → output_of b ≡ Some like → like.close ≡ None → ClosesPeer a why → X
   open_output {why} e is none c = absurd cc
 
-  next_closes : {s new key calls r : _} → StepNext dig s key calls r new → {why : _} → Closes (of_next r) why → IsClosedFor s (Next key) why
+  next_closes : {s new key calls r : _} → StepNext dig s key calls r new → {why : _} → ClosesPeer (of_next r) why → IsClosedFor s (Next key) why
   next_closes (no_peer x y e z) c = no_output (ap (λ x. of_next x) e) refl c
   next_closes (waits i p x y z e f) c = no_output (ap (λ x. of_next x) e) refl c
   next_closes (goes_on i p out x g e) c = open_output (ap (λ x. of_next x) e) refl g.close c
@@ -148,20 +148,20 @@ module _ (dig : Digest) where
       some_is e = cc
   next_closes (no_memory i p x g e) c = no_output (ap (λ x. of_next x) e) refl c
 
-  connect_closes : {X : Type 0} {s new r : _} → StepConnect s r new → {why : _} → Closes (of_connect r) why → X
+  connect_closes : {X : Type 0} {s new r : _} → StepConnect s r new → {why : _} → ClosesPeer (of_connect r) why → X
   connect_closes (joins key bytes x y z w e f) c = open_output (ap (λ x. of_connect x) e) refl refl c
   connect_closes (full x e y) c = no_output (ap (λ x. of_connect x) e) refl c
   connect_closes (spent x y e z) c = no_output (ap (λ x. of_connect x) e) refl c
   connect_closes (no_room x y e z) c = no_output (ap (λ x. of_connect x) e) refl c
 
-  rechoke_closes : {X : Type 0} {s new r : _} → StepRechoke dig s r new → {why : _} → Closes (of_rechoke r) why → X
+  rechoke_closes : {X : Type 0} {s new r : _} → StepRechoke dig s r new → {why : _} → ClosesPeer (of_rechoke r) why → X
   rechoke_closes (rechokes out x e) c = open_output (ap (λ x. of_rechoke x) (e ∙ ap (λ o. Some o) x.is)) refl refl c
   rechoke_closes (not_rechoked e x) c = no_output (ap (λ x. of_rechoke x) e) refl c
 
-  closes_as : {a b why : _} → a ≡ b → Closes a why → Closes b why
+  closes_as : {a b why : _} → a ≡ b → ClosesPeer a why → ClosesPeer b why
   closes_as {why} e c = rw (← e) c
 
-  step_cases : {s : _} (new e calls a : _) → Step dig s e calls a new → {why : _} → Closes a why → IsClosedFor s e why
+  step_cases : {s : _} (new e calls a : _) → Step dig s e calls a new → {why : _} → ClosesPeer a why → IsClosedFor s e why
   step_cases new Connect calls a t c = connect_closes t.3 (closes_as t.1 c)
   step_cases new (Next key) calls a t c = next_closes t.2 (closes_as t.1 c)
   step_cases new Rechoke calls a t c = rechoke_closes t.3 (closes_as t.1 c)

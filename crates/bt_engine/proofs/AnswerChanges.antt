@@ -1,16 +1,19 @@
 -- What changed of a peer is sent to it.
-use Rattle.bt_engine.proofs.Base.{◌≡◌, ◌≢◌, ℕ, zero, suc, ◌<◌, inl, inr, true, false, List, [], ◌∷◌, ◌++◌, length, map, Some, refl, sym, ap, ◌∙◌, subst, arith, slice_get, slice_set, Contains, range_with_len, Contains-append_left, Contains-append_right, Contains-append_cases, HashKey, PeerKey, BlockId, Ask, Interested, NotInterested, Request, HashRequest}
-use Rattle.bt_engine.proofs.Machine.{Digest, Connect, Feed, Next, Lost, Rechoke, Adopt, Flush, Asked, PeerState, EngineState, IsWholeBlock, Sent, haves, FollowsUp, RequestsHashes, requests, rests, RequestsBlock, RequestsEach, interest_sent, IsPeer, without_peer, TakesEvent, GoesOn, StepNext, no_peer, waits, goes_on, closes, faulty, no_memory, StepConnect, joins, full, spent, no_room, StepFeed, feeds, not_fed, no_room as no_room_to_feed, StepLost, goes, not_fed as not_lost, FollowsEach, StepRechoke, rechokes, not_rechoked, chokes_sent, rechoked, StepAdopt, no_file, busy, empty, adopts, not_adopted, StepFlush, syncs, fails, of_next, of_rechoke, Step, sent_by, ChangesInterest, IsOnlyPeer, IsSentChanges, StepSendsChanges}
+use Rattle.bt_engine.proofs.Base.{◌≡◌, ◌≢◌, ℕ, zero, suc, ◌<◌, inl, inr, true, false, not, List, [], ◌∷◌, ◌++◌, length, map, Some, refl, sym, ap, ◌∙◌, subst, arith, slice_get, slice_set, Contains, range_with_len, Contains-append_left, Contains-append_right, Contains-append_cases, HashKey, PeerKey, BlockId, Ask, Choke, Unchoke, Interested, NotInterested, Request, HashRequest}
+use Rattle.bt_engine.proofs.Machine.{Digest, Connect, Feed, Next, Lost, Rechoke, Adopt, Flush, Asked, PeerState, EngineState, IsWholeBlock, Sent, haves, FollowsUp, RequestsHashes, requests, rests, RequestsBlock, RequestsEach, interest_sent, IsPeer, without_peer, TakesEvent, GoesOn, StepNext, no_peer, waits, goes_on, closes, faulty, no_memory, StepConnect, joins, full, spent, no_room, StepFeed, feeds, not_fed, no_room as no_room_to_feed, StepLost, goes, not_fed as not_lost, FollowsEach, StepRechoke, rechokes, not_rechoked, chokes_sent, is_served, rechoked, rechoked_peer, StepAdopt, no_file, busy, empty, adopts, not_adopted, StepFlush, syncs, fails, of_next, of_rechoke, Step, sent_by, ChangesInterest, IsOnlyPeer, IsSentChanges, StepSendsChanges}
 use Rattle.bt_engine.proofs.Lists.{same_some, contains_none, contains_cases, here, later, set_cases, set_same}
-use Rattle.bt_engine.proofs.Pairs.{other_without}
+use Rattle.bt_engine.proofs.Pairs.{contains_some, other_without}
 use Rattle.bt_engine.proofs.AnswerParts.{AsksLess, asks_same, event_leaves}
 use Rattle.bt_engine.proofs.AnswerSends.{nat_cases, set_other, frame_to, same_plan}
 use Rattle.bt_engine.proofs.AnswerInterest.{step_tells}
+use Rattle.bt_engine.proofs.AnswerChokes.{ChangesChoke, choke_told, unchoke_told, served_not, served_so, chosen_at, step_chokes}
 
 -- ---- what is among the frames
 
 -- what changed of a peer is among these frames
 pub record Tells (new : EngineState) (sent : List Sent) (key : PeerKey) (before after : PeerState) : Type 0 where
+  pub choked : before.am_choking ≡ false → after.am_choking ≡ true → Contains sent (frame_to key Choke)
+  pub unchoked : before.am_choking ≡ true → after.am_choking ≡ false → Contains sent (frame_to key Unchoke)
   pub interested : before.am_interested ≡ false → after.am_interested ≡ true → Contains sent (frame_to key Interested)
   pub uninterested : before.am_interested ≡ true → after.am_interested ≡ false → Contains sent (frame_to key NotInterested)
   pub hashes : (k : HashKey) → after.hash ≡ Asked k → before.hash ≢ Asked k → Contains sent (frame_to key (HashRequest k))
@@ -18,9 +21,11 @@ pub record Tells (new : EngineState) (sent : List Sent) (key : PeerKey) (before 
       → (ask : Ask) × IsWholeBlock new.torrent ask.piece ask.begin ask.length b × Contains sent (frame_to key (Request ask))
 
 -- of a peer of which nothing changed that is to be sent
-nothing_new : {before after : PeerState} {new sent key : _} → after.am_interested ≡ before.am_interested
-    → AsksLess before after → Tells new sent key before after
-nothing_new same less = record {
+nothing_new : {before after : PeerState} {new sent key : _} → after.am_choking ≡ before.am_choking
+    → after.am_interested ≡ before.am_interested → AsksLess before after → Tells new sent key before after
+nothing_new choke same less = record {
+  choked = λ x y. absurd cc;
+  unchoked = λ x y. absurd cc;
   interested = λ x y. absurd cc;
   uninterested = λ x y. absurd cc;
   hashes = λ k y none. absurd (none (less.hashes k y));
@@ -28,10 +33,12 @@ nothing_new same less = record {
 }
 
 -- of a peer that was changed before, and was asked for no more then
-told_since : {before mid : PeerState} {new sent key after : _} → mid.am_interested ≡ before.am_interested
-    → AsksLess before mid → Tells new sent key mid after
+told_since : {before mid : PeerState} {new sent key after : _} → mid.am_choking ≡ before.am_choking
+    → mid.am_interested ≡ before.am_interested → AsksLess before mid → Tells new sent key mid after
     → Tells new sent key before after
-told_since same less t = record {
+told_since choke same less t = record {
+  choked = λ x y. t.choked (cc) y;
+  unchoked = λ x y. t.unchoked (cc) y;
   interested = λ x y. t.interested (cc) y;
   uninterested = λ x y. t.uninterested (cc) y;
   hashes = λ k y none. t.hashes k y (λ e. none (less.hashes k e));
@@ -43,6 +50,8 @@ told_with : {s new : EngineState} {xs ys key before after : _} → new.torrent �
     ((x : Sent) → Contains xs x → Contains ys x) → Tells s xs key before after
     → Tells new ys key before after
 told_with torrent more t = record {
+  choked = λ x y. more _ (t.choked x y);
+  unchoked = λ x y. more _ (t.unchoked x y);
   interested = λ x y. more _ (t.interested x y);
   uninterested = λ x y. more _ (t.uninterested x y);
   hashes = λ k y none. more _ (t.hashes k y none);
@@ -92,6 +101,9 @@ module _ {dig : Digest} {s : EngineState} {i : ℕ} {sent : List Sent} {new : En
   in_blocks : {x : _} → Contains f.block_frames x → Contains sent x
   in_blocks {x} c = rw f.all (Contains-append_right (f.interest_frames ++ f.hash_frames) f.block_frames x c)
 
+  same_choke : f.planned.am_choking ≡ f.peer.am_choking
+  same_choke = (same_plan f.hashes).same_choke ∙ ap (λ q. q.am_choking) f.interest.others
+
   now_interested : f.planned.am_interested ≡ f.interested.am_interested
   now_interested = (same_plan f.hashes).same_interest
 
@@ -125,6 +137,8 @@ module _ {dig : Digest} {s : EngineState} {i : ℕ} {sent : List Sent} {new : En
 
   pub follow_tells : Tells new sent f.peer.key f.peer then
   follow_tells = record {
+    choked = λ x y. (let same = same_choke in absurd cc);
+    unchoked = λ x y. (let same = same_choke in absurd cc);
     interested = λ x y. in_interest (rw (told_interest x y) (here [] refl));
     uninterested = λ x y. in_interest (rw (told_interest x y) (here [] refl));
     hashes = asked_hashes;
@@ -144,7 +158,7 @@ abbrev Old : EngineState → EngineState → List Sent → PeerState → Type 0
 Old s new sent after = (place : ℕ) × IsTold s new sent place after
 
 stays_so : {s : EngineState} {new sent j p : _} → slice_get s.peers j ≡ Some p → IsTold s new sent j p
-stays_so {p} at = record { before = p; at_place = at; same_key = refl; tells = nothing_new refl (asks_same refl refl) }
+stays_so {p} at = record { before = p; at_place = at; same_key = refl; tells = nothing_new refl refl (asks_same refl refl) }
 
 -- the engine is the old one
 same_so : {s new : EngineState} (sent j : _) {p : PeerState} → new ≡ s → slice_get new.peers j ≡ Some p → Old s new sent p
@@ -229,16 +243,33 @@ module _ (dig : Digest) where
             }
       ]
 
-  rechoke_told : {s : EngineState} {new sent : _} → FollowsEach dig (range_with_len 0 (length s.peers)) (rechoked s) sent new → {j p : _}
-      → slice_get new.peers j ≡ Some p → IsTold s new sent j p
-  rechoke_told {s} {new} {sent} f {j} {p} at =
+  -- of a peer that is served from now on or not
+  chosen_tells : (s : EngineState) {before after : PeerState} {new sent : _} → Contains s.peers before → after.am_choking ≡ not (is_served s before)
+      → Tells new sent before.key (rechoked_peer s before) after → Tells new (chokes_sent s ++ sent) before.key before after
+  chosen_tells s {before} {sent} c is t =
+      let front : (x : Sent) → Contains (chokes_sent s) x → Contains (chokes_sent s ++ sent) x = Contains-append_left (chokes_sent s) sent in
+      let back : (x : Sent) → Contains sent x → Contains (chokes_sent s ++ sent) x = Contains-append_right (chokes_sent s) sent in
+      record {
+        choked = λ x y. front _ (choke_told s c x (served_not (is_served s before) (sym is ∙ y)));
+        unchoked = λ x y. front _ (unchoke_told s c x (served_so (is_served s before) (sym is ∙ y)));
+        interested = λ x y. back _ (t.interested x y);
+        uninterested = λ x y. back _ (t.uninterested x y);
+        hashes = λ k y none. back _ (t.hashes k y none);
+        blocks = λ b d none. (let r = t.blocks b d none in (r.0, r.1, back _ r.2));
+      }
+
+  rechoke_told : {s : EngineState} {new : _} (sent : _) → FollowsEach dig (range_with_len 0 (length s.peers)) (rechoked s) sent new → {j p : _}
+      → slice_get new.peers j ≡ Some p → IsTold s new (chokes_sent s ++ sent) j p
+  rechoke_told {s} {new} sent f {j} {p} at =
       let r = each_told _ 0 f at in
       let m = mapped_at _ _ j r.at_place in
+      let q = chosen_at dig s new sent f j m.1 in
+      let same : q.0 ≡ p = same_some q.1 at in
       record {
         before = m.0;
         at_place = m.1;
         same_key = cc;
-        tells = told_since refl (asks_same refl refl)
+        tells = chosen_tells s (contains_some s.peers j m.1) (ap (λ z. z.am_choking) (sym same) ∙ ap (λ z. z.1) q.2)
             (subst (λ q. Tells new sent q.key q p) (sym m.2) r.tells);
       }
 
@@ -279,7 +310,7 @@ module _ (dig : Digest) where
               at_place = is.here;
               same_key = sym (key_then f ∙ key_is);
               tells = told_with refl more
-                  (told_since (cc) less told);
+                  (told_since (cc) (cc) less told);
             }))
         | inr apart ↦ stays_so
             (sym (others_stay is g.takes j (λ e. apart (sym e)))
@@ -306,7 +337,7 @@ module _ (dig : Digest) where
             before = p;
             at_place = cc;
             same_key = refl;
-            tells = nothing_new refl (asks_same refl refl);
+            tells = nothing_new refl refl (asks_same refl refl);
           })
           | inr old ↦ stays_so old
         ],
@@ -322,15 +353,14 @@ module _ (dig : Digest) where
   rechokes_told : {s new r : _} → StepRechoke dig s r new → (j : ℕ) {q : _} → slice_get new.peers j ≡ Some q
       → Old s new (sent_by (of_rechoke r)) q
   rechokes_told {s} {r} (rechokes out x e) j at =
-      let more : (y : Sent) → Contains x.sent y → Contains (sent_by (of_rechoke r)) y = λ y c.
-      rw e (rw x.is (Contains-append_right (chokes_sent s) x.sent y c)) in
-      (j, told_more more (rechoke_told x.follows at))
+      let more : (y : Sent) → Contains (chokes_sent s ++ x.sent) y → Contains (sent_by (of_rechoke r)) y = λ y c. rw e (rw x.is c) in
+      (j, told_more more (rechoke_told x.sent x.follows at))
   rechokes_told (not_rechoked x e) j at = same_so _ j e at
 
   flush_told : {s new calls r : _} (sent : _) → StepFlush s calls r new → (j : ℕ) {q : _}
       → slice_get new.peers j ≡ Some q → Old s new sent q
   flush_told sent (syncs x y z e) j at = same_so sent j e at
-  flush_told sent (fails before file after x y z e) j at = same_so sent j e at
+  flush_told sent (fails before file after none x y z e) j at = same_so sent j e at
 
 -- ---- the law
 
@@ -345,7 +375,7 @@ module _ (dig : Digest) {s : EngineState} (new : EngineState) {key : PeerKey} {p
 
   -- a peer that stays as it is
   unchanged : {sent : _} → after ≡ before → Tells new sent key before after
-  unchanged {sent} e = rw e (nothing_new refl (asks_same refl refl))
+  unchanged {sent} e = rw e (nothing_new refl refl (asks_same refl refl))
 
   changed_to : {was now : _} → ((c : PeerState) → IsPeer new key place c → c ≡ after) → ChangesInterest s new key was now
       → (before.am_interested ≡ was) × (after.am_interested ≡ now)
@@ -356,12 +386,24 @@ module _ (dig : Digest) {s : EngineState} (new : EngineState) {key : PeerKey} {p
       let then = alone c.after (rw (← at) c.is_after) in
       (ap (λ q. q.am_interested) same ∙ c.was_interested, ap (λ q. q.am_interested) (sym then) ∙ c.now_interested)
 
+  choked_to : {was now : _} → ((c : PeerState) → IsPeer new key place c → c ≡ after) → ChangesChoke s new key was now
+      → (before.am_choking ≡ was) × (after.am_choking ≡ now)
+  choked_to alone c =
+      let at = one.only c.place c.before c.is_before in
+      let same : before ≡ c.before =
+      cc in
+      let then = alone c.after (rw (← at) c.is_after) in
+      (ap (λ q. q.am_choking) same ∙ c.was_choked, ap (λ q. q.am_choking) (sym then) ∙ c.now_choked)
+
   sent_changes : (e calls : _) {a : _} → Step dig s e calls a new → ((c : PeerState) → IsPeer new key place c → c ≡ after)
       → Tells new (sent_by a) key before after
       → IsSentChanges new a key before after
   sent_changes e calls {a} t alone tells =
       let told = step_tells dig s new e calls a t key in
+      let chokes = step_chokes dig s new e calls a t key in
       record {
+        choked = (λ c. choked_to alone (chokes.0 c), λ x. tells.choked x.0 x.1);
+        unchoked = (λ c. choked_to alone (chokes.1 c), λ x. tells.unchoked x.0 x.1);
         interested = (λ c. changed_to alone (told.0 c), λ x. tells.interested x.0 x.1);
         uninterested = (λ c. changed_to alone (told.1 c), λ x. tells.uninterested x.0 x.1);
         hashes = tells.hashes;

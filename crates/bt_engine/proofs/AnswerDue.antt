@@ -1,7 +1,7 @@
 -- What a message must lead to: the event that stands first is the one that is taken.
 use Rattle.bt_engine.proofs.Base.{◌≡◌, ℕ, ◌⊎◌, inl, inr, List, [], ◌++◌, Some, Ok, ap, ◌∙◌, Contains, Contains-append_left, PeerKey, HashKey, Stream, Takes, Waits, WireEvent, Message, HashRequest, same_event, fault_alone}
 use Rattle.bt_engine.proofs.Machine.{Digest, Next, PeerState, EngineState, DeviceCalls, with_peer, Output, Effect, haves, IsAnswered, HandlesHashRequest, answered, rejected, Handles, IsPeer, GoesOn, Closes, ShowsFault, StepNext, no_peer, waits, goes_on, closes, faulty, no_memory, Answer, of_next, Step, sent_by, IsOnlyPeer, AnswersHashes, unknown, NextAnswersHashRequest}
-use Rattle.bt_engine.specs.AnswerDue.{IsOutOfMemory, known}
+use Rattle.bt_engine.specs.AnswerDue.{NextLacksMemory, known}
 use Rattle.bt_engine.proofs.Lists.{here}
 
 -- ---- a stream determines its event
@@ -24,7 +24,7 @@ abbrev HandlesAt : (List ℕ → List ℕ) → EngineState → ℕ → PeerState
 HandlesAt dig s i p rest e calls effect mid = Handles dig (with_peer s i (record p { stream = rest })) i (record p { stream = rest }) e calls effect mid
 
 pub data Taken (dig : Digest) (s : EngineState) (i : ℕ) (p : PeerState) (e : WireEvent) (rest : Stream) (calls : DeviceCalls) (answer : Answer) (new : EngineState) : Type 0 where
-  no_room : IsOutOfMemory answer → Taken dig s i p e rest calls answer new
+  no_room : NextLacksMemory answer → Taken dig s i p e rest calls answer new
   goes : (out : Output) (g : GoesOn dig s i p calls out new) → HandlesAt dig s i p rest e calls g.effect g.mid → answer ≡ of_next (Ok (Some out)) → Taken dig s i p e rest calls answer new
   shuts : (out : Output) (g : Closes dig s i p calls out new) → HandlesAt dig s i p rest e calls g.effect g.mid → answer ≡ of_next (Ok (Some out)) → Taken dig s i p e rest calls answer new
 
@@ -86,7 +86,7 @@ module _ (dig : Digest) {s : EngineState} (new : EngineState) {key : PeerKey} {i
   not_shut g (answered digests k e) = absurd cc
   not_shut g (rejected none e) = absurd cc
 
-  hashes_answered : Taken dig s i p (Message (HashRequest asked)) rest calls a new → IsOutOfMemory a ⊎ AnswersHashes dig s a key asked
+  hashes_answered : Taken dig s i p (Message (HashRequest asked)) rest calls a new → NextLacksMemory a ⊎ AnswersHashes dig s a key asked
   hashes_answered (no_room e) = inl e
   hashes_answered (goes out g h is) = inr (by_hashes g is h.1)
   hashes_answered (shuts out g h is) = not_shut g h.1

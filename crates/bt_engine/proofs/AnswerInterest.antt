@@ -2,8 +2,8 @@
 use Rattle.bt_engine.proofs.Base.{◌≡◌, ℕ, zero, suc, ◌+◌, ◌<◌, ◌≤◌, ◌⊎◌, inl, inr, Bool, true, false, List, length, Some, refl, sym, ap, ◌∙◌, subst, arith, slice_get, Contains, range_with_len, Contains-append_cases, PeerKey, Interested, NotInterested}
 use Rattle.bt_engine.proofs.Machine.{Digest, PeerState, EngineState, with_peer, Sent, IsInteresting, IsPeer, GoesOn, FollowsEach, rechoked, ChangesInterest, StepTellsChangedInterest}
 use Rattle.bt_engine.proofs.Lists.{contains_none, same_some, set_same, get_map}
-use Rattle.bt_engine.proofs.AnswerParts.{greets, replies, interests, chokes, all_haves, event_leaves}
-use Rattle.bt_engine.proofs.AnswerSends.{set_other, frame_to, Follows, follows_of, IsSentBy, alike, announced, followed, rechoked_then, step_sent}
+use Rattle.bt_engine.proofs.AnswerParts.{greets, replies, interests, all_haves, event_leaves}
+use Rattle.bt_engine.proofs.AnswerSends.{set_other, frame_to, Follows, follows_of, IsSentBy, alike, announced, followed, chosen, rechoked_then, all_chokes, step_sent}
 use Rattle.bt_engine.proofs.AnswerRequests.{has_in, missing_in}
 
 -- what follows changes no block and no piece of the peer
@@ -127,21 +127,22 @@ module _ (dig : Digest) where
         uninterested = λ k c. let r = f.uninterested k c in (changes_by f was r.0 r.1 r.2).changes;
       }
 
-  unlike : {part : _} → (part ≡ greets) ⊎ (part ≡ replies) ⊎ (part ≡ chokes) → interests ≡ part → ⊥
+  unlike : {part : _} → (part ≡ greets) ⊎ (part ≡ replies) → interests ≡ part → ⊥
   unlike (inl x) e = absurd cc
-  unlike (inr (inl x)) e = absurd cc
-  unlike (inr (inr x)) e = absurd cc
+  unlike (inr x) e = absurd cc
 
   interest_sent : {s new key : _} → IsSentBy dig s new (frame_to key Interested) → ChangesInterest s new key false true
   interest_sent (alike part like e) = absurd (unlike like e)
   interest_sent {s} (announced other i p calls out peer g c) = let e = all_haves s g.mid _ c in absurd cc
   interest_sent {key} (followed other i p calls out peer g c) = (next_tells peer g).interested key c
+  interest_sent {s} (chosen sent f c) = let e = all_chokes s _ c in absurd cc
   interest_sent {key} (rechoked_then sent f c) = (rechoke_tells f).interested key c
 
   no_interest_sent : {s new key : _} → IsSentBy dig s new (frame_to key NotInterested) → ChangesInterest s new key true false
   no_interest_sent (alike part like e) = absurd (unlike like e)
   no_interest_sent {s} (announced other i p calls out peer g c) = let e = all_haves s g.mid _ c in absurd cc
   no_interest_sent {key} (followed other i p calls out peer g c) = (next_tells peer g).uninterested key c
+  no_interest_sent {s} (chosen sent f c) = let e = all_chokes s _ c in absurd cc
   no_interest_sent {key} (rechoked_then sent f c) = (rechoke_tells f).uninterested key c
 
   pub step_tells : StepTellsChangedInterest dig

@@ -124,6 +124,7 @@ pub record Leaves (s : EngineState) (i : ℕ) (p : PeerState) (effect : Effect) 
   pub peer : PeerState
   pub same_key : peer.key ≡ p.key
   pub same_interest : peer.am_interested ≡ p.am_interested
+  pub same_choke : peer.am_choking ≡ p.am_choking
   pub asks_less : AsksLess p peer
   pub peers : mid.peers ≡ slice_set s.peers i peer
   pub torrent : mid.torrent ≡ s.torrent
@@ -133,12 +134,13 @@ pub record Leaves (s : EngineState) (i : ℕ) (p : PeerState) (effect : Effect) 
 
 module _ (dig : Digest) (s : EngineState) (i : ℕ) {p : PeerState} (at : slice_get s.peers i ≡ Some p) where
   -- the peer is another
-  sets : {q : PeerState} {e effect mid : _} → q.key ≡ p.key → q.am_interested ≡ p.am_interested → IsQuiet e → effect ≡ e
+  sets : {q : PeerState} {e effect mid : _} → q.key ≡ p.key → q.am_interested ≡ p.am_interested → q.am_choking ≡ p.am_choking → IsQuiet e → effect ≡ e
       → mid ≡ with_peer s i q → AsksLess p q → Leaves s i p effect mid
-  sets {q} {e} {mid} k f quiet same after less = rw same (rw after (record {
+  sets {q} {e} {mid} k f g quiet same after less = rw same (rw after (record {
     peer = q;
     same_key = k;
     same_interest = f;
+    same_choke = g;
     asks_less = less;
     peers = refl;
     torrent = refl;
@@ -153,6 +155,7 @@ module _ (dig : Digest) (s : EngineState) (i : ℕ) {p : PeerState} (at : slice_
     peer = p;
     same_key = refl;
     same_interest = refl;
+    same_choke = refl;
     asks_less = asks_same refl refl;
     peers = sym (set_id _ i at);
     torrent = refl;
@@ -168,6 +171,7 @@ module _ (dig : Digest) (s : EngineState) (i : ℕ) {p : PeerState} (at : slice_
     peer = p;
     same_key = refl;
     same_interest = refl;
+    same_choke = refl;
     asks_less = asks_same refl refl;
     peers = sym (set_id _ i at);
     torrent = refl;
@@ -189,11 +193,11 @@ module _ (dig : Digest) (s : EngineState) (i : ℕ) {p : PeerState} (at : slice_
   replies_quietly m e = record { replied = all_one _ [] e (all_none _); noted = none_noted }
 
   have_leaves : {mid piece effect : _} → HandlesHave s i p piece effect mid → Leaves s i p effect mid
-  have_leaves (in_range x e y) = sets refl refl silent e y (asks_same refl refl)
+  have_leaves (in_range x e y) = sets refl refl refl silent e y (asks_same refl refl)
   have_leaves (out_of_range x e y) = stays (closes_quietly _) e y
 
   bits_leaves : {mid bytes effect : _} → HandlesBitfield s i p bytes effect mid → Leaves s i p effect mid
-  bits_leaves (right x e y) = sets refl refl silent e y (asks_same refl refl)
+  bits_leaves (right x e y) = sets refl refl refl silent e y (asks_same refl refl)
   bits_leaves (wrong x e y) = stays (closes_quietly _) e y
 
   fault_leaves : {k mid file j f read effect : _} → FindsFault dig k s file j f read effect mid → Leaves s i p effect mid
@@ -205,15 +209,15 @@ module _ (dig : Digest) (s : EngineState) (i : ℕ) {p : PeerState} (at : slice_
   request_leaves (no_place a c d e f) = stays (closes_quietly _) e f
   request_leaves (not_marked span a c d f e g) = stays silent e g
   request_leaves (served span a place c f) =
-      sets refl refl (replies_quietly _ refl) f.sent f.after (asks_same refl refl)
+      sets refl refl refl (replies_quietly _ refl) f.sent f.after (asks_same refl refl)
   request_leaves (stopped span a c d f) = fault_leaves f.finds
 
   -- a block was put: its file may change, where the peer stays connected
   put_leaves : (b : BlockId) {file : FileState} {q : PeerState} (r : Result Put StoreError) (states : _) {effect : Effect} {stored mid : EngineState}
-      → slice_get s.files b.file ≡ Some file → q.key ≡ p.key → q.am_interested ≡ p.am_interested → AsksLess p q → HasPutEffect b r effect
+      → slice_get s.files b.file ≡ Some file → q.key ≡ p.key → q.am_interested ≡ p.am_interested → q.am_choking ≡ p.am_choking → AsksLess p q → HasPutEffect b r effect
       → (r ≡ Ok Wrong → states ≡ file.states)
       → stored ≡ with_file s b.file (record file { states = states }) → mid ≡ with_peer stored i q → Leaves s i p effect mid
-  put_leaves b {file} {q} r states {effect} there k f less has same is after =
+  put_leaves b {file} {q} r states {effect} there k f g less has same is after =
       rw (after ∙ ap (λ x. with_peer x i q) is) (of_effect r has same)
     where
       leaves : {e : _} → IsQuiet e → ((why : Why) → e.close ≡ Some why → states ≡ file.states) → effect ≡ e
@@ -222,6 +226,7 @@ module _ (dig : Digest) (s : EngineState) (i : ℕ) {p : PeerState} (at : slice_
         peer = q;
         same_key = k;
         same_interest = f;
+        same_choke = g;
         asks_less = less;
         peers = refl;
         torrent = refl;
@@ -241,7 +246,7 @@ module _ (dig : Digest) (s : EngineState) (i : ℕ) {p : PeerState} (at : slice_
   arrives_leaves : {mid piece begin bytes calls effect : _} → Arrives dig s i p piece begin bytes calls effect mid → Leaves s i p effect mid
   arrives_leaves a =
       put_leaves _ _
-      _ a.puts.is_file.here refl refl
+      _ a.puts.is_file.here refl refl refl
       (record { blocks = λ b c. (contains_filter (λ d. not (is_block a.block d)) _ c).0; hashes = λ k e. e }) a.puts.has_effect
       (λ e. ap (λ r. states_after_put a.block.block r a.puts.file.states) e) a.puts.after a.after
 
@@ -282,6 +287,7 @@ module _ (dig : Digest) (s : EngineState) (i : ℕ) {p : PeerState} (at : slice_
         peer = record p { hash = l.hash };
         same_key = refl;
         same_interest = refl;
+        same_choke = refl;
         asks_less = record { blocks = λ b c. c; hashes = resolved {next = Idle} never_idle l.resolves };
         peers = refl;
         torrent = refl;
@@ -297,7 +303,7 @@ module _ (dig : Digest) (s : EngineState) (i : ℕ) {p : PeerState} (at : slice_
   message_leaves : {mid : _} (m : PeerMessage) (calls : _) {effect : _} → HandlesMessage dig s i p m calls effect mid → Leaves s i p effect mid
   message_leaves KeepAlive calls h = stays silent h.1 h.2
   message_leaves Choke calls h =
-      sets refl refl silent h.1 h.2 (record { blocks = λ b c. absurd (contains_none c); hashes = λ k e. e })
+      sets refl refl refl silent h.1 h.2 (record { blocks = λ b c. absurd (contains_none c); hashes = λ k e. e })
   message_leaves (Have piece) calls h = have_leaves h.1
   message_leaves (Bitfield bytes) calls h = bits_leaves h.1
   message_leaves (Request ask) calls h = request_leaves h
@@ -306,9 +312,9 @@ module _ (dig : Digest) (s : EngineState) (i : ℕ) {p : PeerState} (at : slice_
   message_leaves (HashRequest key) calls h = answer_leaves h.1 h.2
   message_leaves (Hashes key digests) calls h = hashes_leaves h
   message_leaves (HashReject key) calls h =
-      sets refl refl silent h.1 h.2.after
+      sets refl refl refl silent h.1 h.2.after
       (record { blocks = λ b c. c; hashes = resolved never_refused h.2.resolves })
-  message_leaves _ calls h = sets refl refl silent h.1 h.2 (asks_same refl refl)
+  message_leaves _ calls h = sets refl refl refl silent h.1 h.2 (asks_same refl refl)
 
   hello_leaves : {mid h effect : _} → HandlesHello s h effect → mid ≡ s → Leaves s i p effect mid
   hello_leaves (ours x e) after = stays silent e after

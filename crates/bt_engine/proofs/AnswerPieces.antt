@@ -2,9 +2,9 @@
 use Rattle.bt_engine.proofs.Base.{◌≡◌, ℕ, zero, suc, ◌+◌, ◌<◌, ◌⊎◌, inl, inr, ◌↔◌, Bool, true, false, List, [], ◌∷◌, ◌++◌, length, map, Some, None, Ok, refl, sym, ap, ◌∙◌, subst, arith, slice_get, Contains, not, filter, ◌&&◌, cond, range_with_len, Contains-append_left, Contains-append_right, Contains-append_cases, total_pieces, Adopted, PeerKey, Have}
 use Rattle.bt_engine.proofs.Machine.{Digest, Frame, message_frame, Note, Complete, Connect, Feed, Next, Lost, Rechoke, Adopt, Flush, PeerState, EngineState, DeviceCalls, with_peer, is_whole, is_complete, has_become, new_whole_pieces, new_complete_files, piece_numbers, file_numbers, Output, sent_to, haves, IsPeer, GoesOn, StepNext, no_peer, waits, goes_on, closes, faulty, no_memory, StepConnect, joins, full, spent, no_room, StepFeed, feeds, not_fed, no_room as no_room_to_feed, StepLost, goes, not_fed as not_lost, FollowsEach, StepRechoke, rechokes, not_rechoked, rechoked, AdoptsGroups, AdoptsFile, StepAdopt, no_file, busy, empty, adopts, not_adopted as adopt_memory, StepFlush, syncs, fails, Answer, of_connect, of_feed, of_next, of_lost, of_rechoke, of_adopt, of_flush, Step, sent_by, output_of, IsConnected, BecomesSo, NotedBy, StepAnnouncesWholePieces, NextNotesCompleteFiles}
 use Rattle.bt_engine.proofs.Lists.{contains_none, contains_cases, contains_map, contains_flat_map, contains_filter, map_contains, flat_map_contains, range_contains, and_true, set_cases, set_same, here, later}
-use Rattle.bt_engine.proofs.AnswerParts.{greets, replies, announces, chokes, NoComplete, Leaves, event_leaves}
+use Rattle.bt_engine.proofs.AnswerParts.{greets, replies, announces, NoComplete, Leaves, event_leaves}
 use Rattle.bt_engine.proofs.Pairs.{contains_some, some_at}
-use Rattle.bt_engine.proofs.AnswerSends.{nat_cases, set_other, frame_to, follows_of, IsSentBy, alike, announced, followed, rechoked_then, step_sent}
+use Rattle.bt_engine.proofs.AnswerSends.{nat_cases, set_other, frame_to, follows_of, IsSentBy, alike, announced, followed, chosen, rechoked_then, all_chokes, step_sent}
 
 -- ---- lists
 
@@ -94,7 +94,7 @@ module _ (dig : Digest) (s new : EngineState) where
 
   flush_keeps : {calls r : _} → StepFlush s calls r new → Keeps dig s (of_flush r) new
   flush_keeps (syncs x y e z) = same_state (ap (λ x. of_flush x) e) refl z
-  flush_keeps (fails before file after x y e z) = same_state (ap (λ x. of_flush x) e) refl z
+  flush_keeps (fails before file after none x y e z) = same_state (ap (λ x. of_flush x) e) refl z
 
 each_keeps : (dig : Digest) (places s new sent : _) → FollowsEach dig places s sent new → (new.files ≡ s.files) × (new.torrent ≡ s.torrent)
 each_keeps dig [] s new sent f = (ap (λ x. x.files) f.1, ap (λ x. x.torrent) f.1)
@@ -235,12 +235,12 @@ module _ (dig : Digest) where
       → IsConnected new key × (piece < total_pieces new.torrent) × BecomesSo is_whole s new piece
   have_sent key (alike part like e) = absurd (unlike like e)
     where
-      unlike : {part : _} → (part ≡ greets) ⊎ (part ≡ replies) ⊎ (part ≡ chokes) → announces ≡ part → ⊥
+      unlike : {part : _} → (part ≡ greets) ⊎ (part ≡ replies) → announces ≡ part → ⊥
       unlike (inl x) e = absurd cc
-      unlike (inr (inl x)) e = absurd cc
-      unlike (inr (inr x)) e = absurd cc
+      unlike (inr x) e = absurd cc
   have_sent key (announced other i p calls out peer g c) = have_told peer g key c
   have_sent key {piece} (followed other i p calls out peer g c) = absurd ((follows_of g.follows).no_have key piece c)
+  have_sent {s} key (chosen sent f c) = let e = all_chokes s _ c in absurd cc
   have_sent {s} {new} key {piece} (rechoked_then sent f c) = absurd (no_have_in _ (rechoked s) sent f c)
     where
       no_have_in : (places t sent : _) → FollowsEach dig places t sent new → Contains sent (frame_to key (Have piece)) → ⊥

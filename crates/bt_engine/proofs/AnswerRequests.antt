@@ -2,9 +2,9 @@
 use Rattle.bt_engine.proofs.Base.{◌≡◌, ℕ, ◌⊎◌, inl, inr, [], ◌∷◌, ◌++◌, Some, refl, sym, ap, ◌∙◌, subst, slice_get, Contains, Contains-append_left, Contains-append_right, Contains-append_cases, Missing, PeerKey, BlockId, Ask, Request}
 use Rattle.bt_engine.proofs.Machine.{Digest, PeerState, EngineState, state_at, Has, IsWholeBlock, IsPeer, FollowsEach, rechoked, IsRequestedOf, StepRequestsMissing}
 use Rattle.bt_engine.proofs.Lists.{contains_none, set_cases}
-use Rattle.bt_engine.proofs.AnswerParts.{greets, replies, chokes, asks, all_haves}
+use Rattle.bt_engine.proofs.AnswerParts.{greets, replies, asks, all_haves}
 use Rattle.bt_engine.proofs.Pairs.{contains_some}
-use Rattle.bt_engine.proofs.AnswerSends.{nat_cases, set_other, frame_to, Follows, follows_of, IsSentBy, alike, announced, followed, rechoked_then, step_sent}
+use Rattle.bt_engine.proofs.AnswerSends.{nat_cases, set_other, frame_to, Follows, follows_of, IsSentBy, alike, announced, followed, chosen, rechoked_then, all_chokes, step_sent}
 
 -- another engine in which the peer has the same pieces
 pub has_in : (s new : EngineState) (p q : PeerState) (b : _) → new.torrent ≡ s.torrent → q.has ≡ p.has → Has s p b → Has new q b
@@ -115,12 +115,12 @@ module _ (dig : Digest) where
   request_sent : {s new key ask : _} → IsSentBy dig s new (frame_to key (Request ask)) → IsRequested new key ask
   request_sent (alike part like e) = absurd (unlike like e)
     where
-      unlike : {part : _} → (part ≡ greets) ⊎ (part ≡ replies) ⊎ (part ≡ chokes) → asks ≡ part → ⊥
+      unlike : {part : _} → (part ≡ greets) ⊎ (part ≡ replies) → asks ≡ part → ⊥
       unlike (inl x) e = absurd cc
-      unlike (inr (inl x)) e = absurd cc
-      unlike (inr (inr x)) e = absurd cc
+      unlike (inr x) e = absurd cc
   request_sent {s} (announced other i p calls out peer g c) = let e = all_haves s g.mid _ c in absurd cc
   request_sent (followed other i p calls out peer g c) = asks_rightly (follows_of g.follows) c
+  request_sent {s} (chosen sent f c) = let e = all_chokes s _ c in absurd cc
   request_sent {s} (rechoked_then sent f c) = each_asks _ (rechoked s) sent f c
 
   pub step_requests : StepRequestsMissing dig

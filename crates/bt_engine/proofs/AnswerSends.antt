@@ -45,6 +45,7 @@ pub record SamePlan (p q : PeerState) : Type 0 where
   pub same_key : q.key ≡ p.key
   pub same_choking : q.peer_choking ≡ p.peer_choking
   pub same_interest : q.am_interested ≡ p.am_interested
+  pub same_choke : q.am_choking ≡ p.am_choking
   pub same_has : q.has ≡ p.has
   pub same_asked : q.asked ≡ p.asked
 
@@ -53,6 +54,7 @@ same_plan (requests b k key x y z w e f) = record {
   same_key = cc;
   same_choking = cc;
   same_interest = cc;
+  same_choke = cc;
   same_has = cc;
   same_asked = cc;
 }
@@ -60,6 +62,7 @@ same_plan (rests x e f) = record {
   same_key = cc;
   same_choking = cc;
   same_interest = cc;
+  same_choke = cc;
   same_has = cc;
   same_asked = cc;
 }
@@ -155,6 +158,15 @@ module _ {dig : Digest} {s : EngineState} {i : ℕ} {sent : List Sent} {new : En
   have_not_told key piece (in_hash c) = let e = of_hash c in absurd cc
   have_not_told key piece (in_block c) = let e = of_block c in absurd cc
 
+  not_choked : {x : _} → stands x → part_of x.frame ≡ chokes → ⊥
+  not_choked (in_interest c) e = let w = of_interest c in absurd cc
+  not_choked (in_hash c) e = let w = of_hash c in absurd cc
+  not_choked (in_block c) e = let w = of_block c in absurd cc
+
+  -- what follows chokes no peer
+  pub no_chokes : {x : _} → Contains sent x → part_of x.frame ≡ chokes → ⊥
+  no_chokes c e = not_choked (place_in c) e
+
   pub follows_of : Follows s i sent new
   follows_of =
       let plan = same_plan f.hashes in
@@ -188,12 +200,23 @@ module _ {dig : Digest} {s : EngineState} {i : ℕ} {sent : List Sent} {new : En
 
 -- ---- what a step sends
 
+choking_part : (p : _) (choked served : Bool) → AllOf chokes (choking_sent p choked served)
+choking_part p true false = all_none chokes
+choking_part p false true = all_none chokes
+choking_part p _ _ = all_one _ [] refl (all_none chokes)
+
+pub all_chokes : (s : EngineState) → AllOf chokes (chokes_sent s)
+all_chokes s x c =
+    let q = contains_flat_map (λ p. choking_sent p p.am_choking (is_served s p)) s.peers c in
+    choking_part q.0 _ _ x q.2
+
 pub data IsSentBy (dig : Digest) (s new : EngineState) (x : Sent) : Type 0 where
-  alike : (part : Part) → (part ≡ greets) ⊎ (part ≡ replies) ⊎ (part ≡ chokes) → part_of x.frame ≡ part → IsSentBy dig s new x
+  alike : (part : Part) → (part ≡ greets) ⊎ (part ≡ replies) → part_of x.frame ≡ part → IsSentBy dig s new x
   announced : (key : PeerKey) (i : ℕ) (p : PeerState) (calls : DeviceCalls) (out : Output) → IsPeer s key i p → (g : GoesOn dig s i p calls out new)
       → Contains (haves s g.mid) x → IsSentBy dig s new x
   followed : (key : PeerKey) (i : ℕ) (p : PeerState) (calls : DeviceCalls) (out : Output) → IsPeer s key i p → (g : GoesOn dig s i p calls out new)
       → Contains g.sent x → IsSentBy dig s new x
+  chosen : (sent : List Sent) → FollowsEach dig (range_with_len 0 (length s.peers)) (rechoked s) sent new → Contains (chokes_sent s) x → IsSentBy dig s new x
   rechoked_then : (sent : List Sent) → FollowsEach dig (range_with_len 0 (length s.peers)) (rechoked s) sent new → Contains sent x → IsSentBy dig s new x
 
 module _ (dig : Digest) where
@@ -215,7 +238,7 @@ module _ (dig : Digest) where
       let left = event_leaves dig _ i (set_same _ i peer.here) _ calls g.takes.handles in
       elim (Contains-append_cases (g.effect.send ++ haves s g.mid) g.sent x (rw (← g.send) c)) [
         | inl front ↦ elim (Contains-append_cases g.effect.send (haves s g.mid) x front) [
-          | inl one ↦ alike replies (inr (inl refl)) (left.replied x one)
+          | inl one ↦ alike replies (inr refl) (left.replied x one)
           | inr two ↦ announced key i p calls out peer g two
         ]
         | inr three ↦ followed key i p calls out peer g three
@@ -232,22 +255,15 @@ module _ (dig : Digest) where
   connect_sent : {s new r : _} → StepConnect s r new → Sent_by s new (sent_by (of_connect r))
   connect_sent {s} {new} (joins key bytes x y z w e f) =
       sent_is s new (ap (λ x. sent_by (of_connect x)) e)
-      (greeting_sent s new (greeting s key bytes).send (all_one (record { peer = key; frame = hello_frame (our_handshake s) }) (sent_to (new_peer s key) (Bitfield bytes) ∷ []) refl (all_one (sent_to (new_peer s key) (Bitfield bytes)) [] refl (all_none greets))))
+      (greeting_sent s new (greeting s key bytes).send (all_one (record { peer = key; frame = hello_frame (our_handshake s.torrent.infohash) }) (sent_to (new_peer s key) (Bitfield bytes) ∷ []) refl (all_one (sent_to (new_peer s key) (Bitfield bytes)) [] refl (all_none greets))))
   connect_sent {s} {new} (full x e y) = nothing_sent s new (ap (λ x. of_connect x) e) refl
   connect_sent {s} {new} (spent x y e z) = nothing_sent s new (ap (λ x. of_connect x) e) refl
   connect_sent {s} {new} (no_room x y e z) = nothing_sent s new (ap (λ x. of_connect x) e) refl
 
-  choking_part : (p : _) (choked served : Bool) → AllOf chokes (choking_sent p choked served)
-  choking_part p true false = all_none chokes
-  choking_part p false true = all_none chokes
-  choking_part p _ _ = all_one _ [] refl (all_none chokes)
-
   rechokes_sent : {s new out : _} → Rechokes dig s out new → Sent_by s new out.send
   rechokes_sent {s} r x c =
       elim (Contains-append_cases (chokes_sent s) r.sent x (subst (λ o. Contains o.send x) r.is c)) [
-        | inl front ↦
-            let q = contains_flat_map (λ p. choking_sent p p.am_choking (is_served s p)) s.peers front in
-            alike chokes (inr (inr refl)) (choking_part q.0 _ _ x q.2)
+        | inl front ↦ chosen r.sent r.follows front
         | inr more ↦ rechoked_then r.sent r.follows more
       ]
 

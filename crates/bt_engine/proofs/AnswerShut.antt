@@ -1,8 +1,8 @@
 -- A peer that sent what it is to be closed for is closed for it.
 use Rattle.bt_engine.proofs.Base.{◌≡◌, ◌≢◌, ℕ, zero, suc, ◌<◌, ◌⊎◌, inl, inr, List, [], ◌∷◌, length, Some, None, Result, Ok, Err, refl, sym, ap, ◌∙◌, subst, arith, slice_get, slice_index_or, Contains, AllPairs, cases_lt, IsLawful, Facts, blocks_of, value_at, Claims, IsAcceptable, IsRefused, shape, padding, no_anchor, top_differs, clash, refused_memory, DiffersBelow, Claim, ProofError, OutOfMemory, value_covers, value_padding, value_inside, cases_node, IsClaimBy, IsNoClaim, no_shape, no_count, claim_memory, HashKey, PutIsDue, IsWrong, StoreError, DeviceFault, Put, Wrong, PutMarked, PutWaiting, PeerKey, BlockId, Stream, Takes, Waits, Fails, Hello, fault_alone, one_fault}
 use Rattle.bt_engine.proofs.Machine.{Digest, Why, Wire, WrongTorrent, BadPiece, BadBitfield, BadRequest, WrongBlock, UnknownRoot, Proof, Next, PeerState, EngineState, DeviceCalls, tree_of, with_peer, IsWholeBlock, Effect, closing, HandlesRequest, ignored, no_place, not_marked, served, stopped, HasPutEffect, HandlesPiece, stale, arrives, IsTreeOf, IsUnknownRoot, HandlesHashes, unknown_root, no_claim, refused, learns, HandlesHello, ours, other, HandlesHave, in_range, out_of_range, HandlesBitfield, right, wrong, Handles, IsPeer, without_peer, StepNext, no_peer, waits, goes_on, closes, faulty, no_memory, Answer, of_next, Step, IsOrderly, output_of, IsConnected, IsCause, wire, other_torrent, past_last_piece, other_length, is_no_place as has_no_place, wrong_block, is_unknown_root as of_unknown_root, makes_no_claim, is_refused, IsOnlyPeer, OrderlyPeersAreOnly, NextClosesForCause}
-use Rattle.bt_engine.specs.AnswerLaw.{Closes}
-use Rattle.bt_engine.specs.AnswerDue.{IsOutOfMemory}
+use Rattle.bt_engine.specs.AnswerLaw.{ClosesPeer}
+use Rattle.bt_engine.specs.AnswerDue.{NextLacksMemory}
 use Rattle.bt_engine.proofs.Lists.{same_some, some_below, set_same, set_other}
 use Rattle.bt_engine.proofs.Pairs.{other_without}
 use Rattle.bt_engine.proofs.DeterminedParts.{refused_one, no_claim_one}
@@ -190,7 +190,7 @@ module _ (dig : Digest) (s : EngineState) (i : ℕ) (p : PeerState) (rest : Stre
 
 module _ (dig : Digest) {s : EngineState} (new : EngineState) {key : PeerKey} {i : ℕ} {p : PeerState} (calls : DeviceCalls) (a : Answer) (one : IsOnlyPeer s key i p) (step : Step dig s (Next key) calls a new) where
   abbrev IsShut : Why → Type 0
-  IsShut why = IsOutOfMemory a ⊎ (Closes a why × (¬ IsConnected new key))
+  IsShut why = NextLacksMemory a ⊎ (ClosesPeer a why × (¬ IsConnected new key))
 
   -- where each way to handle the event closes, the answer does
   shut_by : (why : Why) {e rest : _} → Takes p.stream e rest

@@ -133,6 +133,6 @@ synced_or_not files before file e =
 
 pub flush_one : {s m n calls a b : _} → StepFlush s calls a m → StepFlush s calls b n → AreOne (of_flush a) m (of_flush b) n
 flush_one (syncs x y z w) (syncs u v o q) = are_equal (ap of_flush (cc)) (cc)
-flush_one {s} (syncs x y z w) (fails before file after u v o q) = absurd (synced_or_not (data_files s) before file (cc))
-flush_one {s} (fails before file after u v o q) (syncs x y z w) = absurd (synced_or_not (data_files s) before file (cc))
-flush_one (fails before file after u v o q) (fails before2 file2 after2 x y z w) = are_equal (ap of_flush (cc)) (cc)
+flush_one {s} (syncs x y z w) (fails before file after none u v o q) = absurd (synced_or_not (data_files s) before file (cc))
+flush_one {s} (fails before file after none u v o q) (syncs x y z w) = absurd (synced_or_not (data_files s) before file (cc))
+flush_one (fails before file after none u v o q) (fails before2 file2 after2 none2 x y z w) = are_equal (ap of_flush (cc)) (cc)

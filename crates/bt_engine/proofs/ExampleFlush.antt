@@ -9,10 +9,10 @@ use Rattle.bt_engine.proofs.ExamplePeer.{one_there, went, fed_first}
 pub flushes_are_run : (dig : Digest) → FlushesAreRun dig
 flushes_are_run dig b infohash k x peer = (
   _,
-  (_, refl, fails [] 0 (1 ∷ []) refl refl refl refl),
+  (_, refl, fails [] 0 (1 ∷ []) refl refl refl refl refl),
   (
     _,
-    (_, refl, fails (0 ∷ []) 1 [] refl refl refl refl),
+    (_, refl, fails (0 ∷ []) 1 [] refl refl refl refl refl),
     (_, (_, refl, syncs refl refl refl refl), refl),
   ),
 )

@@ -27,7 +27,9 @@ pub mod AnswerParts
 pub mod AnswerSends
 pub mod AnswerRequests
 pub mod AnswerInterest
+pub mod AnswerChokes
 pub mod AnswerChanges
+pub mod AnswerOthers
 pub mod AnswerPieces
 pub mod AnswerCauses
 pub mod AnswerPlaces
@@ -45,6 +47,7 @@ pub mod ExampleThreeEngine
 pub mod ExampleThreeBlocks
 pub mod ExampleWaiting
 pub mod ExampleServing
+pub mod ExampleChoking
 pub mod ExampleDamaged
 pub mod ExampleHostile
 pub mod ExampleTwins

@@ -252,7 +252,7 @@ module _ (dig : Digest) (b : BlockId) where
 
   flush_marks : {s new calls answer : _} → StepFlush s calls answer new → state_at new b ≡ Some Marked → state_at s b ≡ Some Marked
   flush_marks (syncs x y z e) m = as_before e m
-  flush_marks (fails before file after x y z e) m = as_before e m
+  flush_marks (fails before file after none x y z e) m = as_before e m
 
   pub step_cases : (s new e calls a : _) → Step dig s e calls a new → state_at new b ≡ Some Marked → Now s e calls new
   step_cases s new Connect calls a t m = inl (connect_marks t.3 m)

@@ -461,7 +461,7 @@ module _ (dig : Digest) where
 
   flush_order : {s new calls answer : _} → StepFlush s calls answer new → IsOrderly s → IsOrderly new
   flush_order (syncs x y z e) o = order_is e o
-  flush_order (fails before file after x y z e) o = order_is e o
+  flush_order (fails before file after none x y z e) o = order_is e o
 
   pub order_kept : StepKeepsOrder dig
   order_kept s new Connect calls a t o = connect_order t.3 o

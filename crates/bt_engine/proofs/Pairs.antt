@@ -82,6 +82,15 @@ contains_removed [] i c = c
 contains_removed (x ∷ xs) zero c = later x xs c
 contains_removed (x ∷ xs) (suc i) c = elim (contains_cases _ c) [ inl e ↦ here xs e | inr more ↦ later x xs (contains_removed xs i more) ]
 
+-- what is another stays
+kept_removed : {X : Type 0} (xs : List X) (i : ℕ) {x y : X} → slice_get xs i ≡ Some x → (x ≡ y → ⊥) → Contains xs y → Contains (removed xs i) y
+kept_removed [] i at apart c = absurd (contains_none c)
+kept_removed (z ∷ xs) zero {x} {y} at apart c = elim (contains_cases xs c) [
+  | inl same ↦ (let is : x ≡ y = cc in absurd (apart is))
+  | inr more ↦ more
+]
+kept_removed (z ∷ xs) (suc i) at apart c = elim (contains_cases xs c) [ inl same ↦ here (removed xs i) same | inr more ↦ later z (removed xs i) (kept_removed xs i at apart more) ]
+
 pairs_removed : {X : Type 0} (R : X → X → Type 0) (xs : List X) (i : ℕ) → Pairs R xs → Pairs R (removed xs i)
 pairs_removed R [] i p = p
 pairs_removed R (x ∷ xs) zero p = p.1
@@ -105,6 +114,9 @@ other_without xs i j e = other_removed xs i j (ap (λ ys. slice_get ys j) (sym (
 
 pub contains_without : {X : Type 0} (xs : List X) (i : ℕ) {y : X} → Contains (take i xs ++ drop (i + 1) xs) y → Contains xs y
 contains_without xs i {y} c = contains_removed xs i (rw (← (removed_is xs i)) c)
+
+pub kept_without : {X : Type 0} (xs : List X) (i : ℕ) {x y : X} → slice_get xs i ≡ Some x → (x ≡ y → ⊥) → Contains xs y → Contains (take i xs ++ drop (i + 1) xs) y
+kept_without xs i at apart c = rw (removed_is xs i) (kept_removed xs i at apart c)
 
 pub pairs_without : {X : Type 0} (R : X → X → Type 0) (xs : List X) (i : ℕ) → Pairs R xs → Pairs R (take i xs ++ drop (i + 1) xs)
 pairs_without R xs i p = rw (removed_is xs i) (pairs_removed R xs i p)

@@ -105,7 +105,7 @@ module _ (dig : Digest) where
 
   flush_rooted : {s new calls answer : _} → StepFlush s calls answer new → AreRooted dig s → AreRooted dig new
   flush_rooted (syncs a b c e) r = as_before e r
-  flush_rooted (fails before file after a b c e) r = as_before e r
+  flush_rooted (fails before file after none a b c e) r = as_before e r
 
   pub step_rooted : (s new e calls a : _) → Step dig s e calls a new → AreRooted dig s → AreRooted dig new
   step_rooted s new Connect calls a t r = connect_rooted t.3 r

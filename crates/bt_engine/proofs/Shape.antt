@@ -83,7 +83,7 @@ file_keeps {s} file {f} new at tree blocks = record {
   pending = λ none. refl;
 }
 
-map_set : {X Y : Type 0} (f : X → Y) (xs : List X) (i : ℕ) {x : X} (y : X) → slice_get xs i ≡ Some x → f y ≡ f x → map f (slice_set xs i y) ≡ map f xs
+pub map_set : {X Y : Type 0} (f : X → Y) (xs : List X) (i : ℕ) {x : X} (y : X) → slice_get xs i ≡ Some x → f y ≡ f x → map f (slice_set xs i y) ≡ map f xs
 map_set f [] i y e same = refl
 map_set f (z ∷ xs) zero y e same = cc
 map_set f (z ∷ xs) (suc i) y e same = ap (λ ws. f z ∷ ws) (map_set f xs i y e same)
@@ -291,7 +291,7 @@ module _ (dig : Digest) where
 
   flush_keeps : {s new calls answer : _} → StepFlush s calls answer new → Keeps s new
   flush_keeps (syncs x y z e) = is_same e
-  flush_keeps (fails before file after x y z e) = is_same e
+  flush_keeps (fails before file after none x y z e) = is_same e
 
   pub step_keeps : {s new : _} (e calls a : _) → Step dig s e calls a new → Keeps s new
   step_keeps Connect calls a t = connect_keeps t.3

@@ -70,7 +70,7 @@ record IsFlushed (s : EngineState) (calls : DeviceCalls) (new : EngineState) : T
 
 flushed : {s calls answer new : _} → StepFlush s calls answer new → answer ≡ Ok tt → IsFlushed s calls new
 flushed (syncs none made is after) e = record { made = made; same = after }
-flushed (fails before file after x y is same) e = absurd cc
+flushed (fails before file after none x y is same) e = absurd cc
 
 -- a file with a block has a device
 has_device : (s : EngineState) (file i : ℕ) {f : FileState} → slice_get s.files file ≡ Some f → slice_get f.states i ≡ Some Marked

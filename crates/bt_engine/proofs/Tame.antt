@@ -277,7 +277,7 @@ module _ (dig : Digest) where
 
   flush_tame : {s new calls answer : _} → StepFlush s calls answer new → Tame dig s.files s.trees calls new
   flush_tame {s} {new} (syncs x y z e) = (stays s new (cc) (cc), keeping (keep_is y (syncs_keep _)))
-  flush_tame {s} {new} (fails before file after x y z e) = (
+  flush_tame {s} {new} (fails before file after none x y z e) = (
     stays s new (cc) (cc),
     keeping (keep_is y (append_keeps (syncs_of before) ((file, sync_fault) ∷ []) (syncs_keep before) (λ c among. elim (contains_cases [] among) [
       | inl one ↦ rw (← one) tt

@@ -224,7 +224,7 @@ module _ (dig : Digest) (b : BlockId) where
 
   flush_stays : {s new calls answer : _} → StepFlush s calls answer new → state_at new b ≡ state_at s b
   flush_stays (syncs x y z e) = cc
-  flush_stays (fails before file after x y z e) = cc
+  flush_stays (fails before file after none x y z e) = cc
 
   -- ---- a file that is taken in
 

@@ -16,7 +16,7 @@ use Rattle.bt_book.specs.declared.names.PeerKey.{PeerKey}
 use Rattle.bt_book.specs.declared.names.BlockId.{BlockId}
 use Rattle.bt_wire.specs.Cutter.{Stream, Takes}
 use Rattle.bt_wire.specs.declared.message.Ask.{Ask}
-use Rattle.bt_wire.specs.declared.message.Message.TheVariants.{Interested, NotInterested, Request, Piece, HashRequest, Hashes, HashReject}
+use Rattle.bt_wire.specs.declared.message.Message.TheVariants.{Choke, Unchoke, Interested, NotInterested, Request, Piece, HashRequest, Hashes, HashReject}
 use Rattle.bt_wire.specs.declared.event.WireEvent.TheVariants.{Message}
 use Rattle.bt_engine.specs.declared.answer.Why.{Why}
 use Rattle.bt_engine.specs.declared.answer.Note.TheVariants.{Marked as NowMarked, Damaged, Device}
@@ -34,7 +34,7 @@ use Rattle.bt_engine.specs.FollowUp.{IsInteresting, NeedsLeaf}
 use Rattle.bt_engine.specs.Next.{IsPeer}
 use Rattle.bt_engine.specs.Step.{Answer, of_next, Step}
 use Rattle.bt_engine.specs.Orderly.{IsOrderly}
-use Rattle.bt_engine.specs.AnswerLaw.{NotedBy, Sends, IsConnected, IsCause, Closes}
+use Rattle.bt_engine.specs.AnswerLaw.{NotedBy, Sends, IsConnected, IsCause, ClosesPeer}
 
 -- the peer of the key stands at this place, and no other has the key
 pub record IsOnlyPeer (s : EngineState) (key : PeerKey) (place : ℕ) (p : PeerState) : Type 0 where
@@ -46,8 +46,8 @@ abbrev pub OrderlyPeersAreOnly : Type 0
 OrderlyPeersAreOnly = (s : EngineState) (key : PeerKey) (place : ℕ) (p : PeerState) → IsOrderly s
     → IsPeer s key place p → IsOnlyPeer s key place p
 
-abbrev pub IsOutOfMemory : Answer → Type 0
-IsOutOfMemory answer = answer ≡ of_next (Err OutOfMemory)
+abbrev pub NextLacksMemory : Answer → Type 0
+NextLacksMemory answer = answer ≡ of_next (Err OutOfMemory)
 
 -- ---- hash requests
 
@@ -64,7 +64,7 @@ NextAnswersHashRequest dig = (old new : EngineState) (key : PeerKey) (place : �
     (calls : DeviceCalls) (answer : Answer) (asked : HashKey) (rest : Stream)
     → IsOnlyPeer old key place p → Takes p.stream (Message (HashRequest asked)) rest
     → Step dig old (Next key) calls answer new
-    → IsOutOfMemory answer ⊎ AnswersHashes dig old answer key asked
+    → NextLacksMemory answer ⊎ AnswersHashes dig old answer key asked
 
 -- ---- blocks that come
 
@@ -85,7 +85,7 @@ NextMarksRightBlock dig = (old new : EngineState) (key : PeerKey) (place : ℕ) 
     → IsWholeBlock old.torrent piece begin (length bytes) b → Contains p.asked b
     → tree_of old b.file ≡ Some tree → IsRight dig tree b.block bytes
     → Step dig old (Next key) calls answer new
-    → IsOutOfMemory answer ⊎ MarksBlock b bytes calls answer new
+    → NextLacksMemory answer ⊎ MarksBlock b bytes calls answer new
 
 -- ---- requests of blocks
 
@@ -110,7 +110,7 @@ NextServesMarkedRange dig = (old new : EngineState) (key : PeerKey) (place : ℕ
     → Takes p.stream (Message (Request ask)) rest → p.am_choking ≡ false
     → IsPlace old.torrent ask.piece ask.begin ask.length span → AreMarked old span
     → tree_of old span.file ≡ Some tree → Step dig old (Next key) calls answer new
-    → IsOutOfMemory answer ⊎ ServesRange dig tree key ask span calls answer
+    → NextLacksMemory answer ⊎ ServesRange dig tree key ask span calls answer
 
 -- ---- closing
 
@@ -121,7 +121,7 @@ NextClosesForCause dig = (old new : EngineState) (key : PeerKey) (place : ℕ) (
     (calls : DeviceCalls) (answer : Answer) (why : Why)
     → IsLawful old.torrent.piece_length old.torrent.files → AllPairs (λ j k. j.root ≢ k.root) old.trees
     → IsOnlyPeer old key place p → IsCause dig old p why → Step dig old (Next key) calls answer new
-    → IsOutOfMemory answer ⊎ (Closes answer why × (¬ IsConnected new key))
+    → NextLacksMemory answer ⊎ (ClosesPeer answer why × (¬ IsConnected new key))
 
 -- ---- what is asked of a peer
 
@@ -133,10 +133,13 @@ pub record IsAskedForAll (dig : List ℕ → List ℕ) (s : EngineState) (p : Pe
   pub blocks : p.peer_choking ≡ false → p.am_interested ≡ true → (length p.asked ≡ max_requests)
       ⊎ ((b : BlockId) → Has s p b → state_at s b ≡ Some Missing → IsAsked s b)
 
--- What changed of a peer is sent to it: our interest, told exactly where it changed; the hash request that it
--- is newly asked; and for each block that it is newly asked for, a request of the whole block.
+-- What changed of a peer is sent to it: whether we choke it and our interest, each told exactly where it
+-- changed; the hash request that it is newly asked; and for each block that it is newly asked for, a request
+-- of the whole block.
 pub record IsSentChanges (new : EngineState) (answer : Answer) (key : PeerKey) (before after : PeerState)
     : Type 0 where
+  pub choked : Sends answer key Choke ↔ (before.am_choking ≡ false) × (after.am_choking ≡ true)
+  pub unchoked : Sends answer key Unchoke ↔ (before.am_choking ≡ true) × (after.am_choking ≡ false)
   pub interested : Sends answer key Interested
       ↔ (before.am_interested ≡ false) × (after.am_interested ≡ true)
   pub uninterested : Sends answer key NotInterested

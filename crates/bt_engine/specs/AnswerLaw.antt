@@ -1,5 +1,6 @@
 -- What answers hold, whatever the peers send and the devices answer: of whom blocks are requested, when
--- interest is told, which pieces are announced, which files are noted as complete, and why a peer is closed.
+-- interest is told, which pieces are announced, which files are noted as complete, why a peer is closed, and
+-- what stays of the others.
 use Rattle.std.specs.Prelude.{◌≡◌, ◌≢◌, ℕ, ◌<◌, ◌≤◌, ◌↔◌, Bool, true, false, List, length, Option, Some, None, Ok, slice_get, Contains}
 use Rattle.bt_meta.specs.Place.{IsPlace}
 use Rattle.bt_meta.specs.Torrent.{total_pieces}
@@ -28,7 +29,7 @@ use Rattle.bt_engine.specs.declared.answer.Why.TheVariants.{Wire, WrongTorrent, 
 use Rattle.bt_engine.specs.declared.answer.Note.{Note}
 use Rattle.bt_engine.specs.declared.answer.Note.TheVariants.{Complete}
 use Rattle.bt_engine.specs.declared.event.Event.{Event}
-use Rattle.bt_engine.specs.declared.event.Event.TheVariants.{Next}
+use Rattle.bt_engine.specs.declared.event.Event.TheVariants.{Feed, Next, Lost}
 use Rattle.bt_engine.specs.State.{PeerState, EngineState}
 use Rattle.bt_engine.specs.Devices.{DeviceCalls}
 use Rattle.bt_engine.specs.Blocks.{state_at, tree_of, Has, is_whole, is_complete}
@@ -151,12 +152,33 @@ pub data IsCause (dig : List ℕ → List ℕ) (s : EngineState) (p : PeerState)
       → IsClaimBy key digests claim → IsRefused dig k claim fault → fault ≢ OutOfMemory
       → IsCause dig s p (Proof fault)
 
-abbrev pub Closes : Answer → Why → Type 0
-Closes answer why = (out : Output) × (output_of answer ≡ Some out) × (out.close ≡ Some why)
+abbrev pub ClosesPeer : Answer → Why → Type 0
+ClosesPeer answer why = (out : Output) × (output_of answer ≡ Some out) × (out.close ≡ Some why)
 
 -- A peer is closed only for what it sent.
 abbrev pub StepClosesForCause : (List ℕ → List ℕ) → Type 0
 StepClosesForCause dig = (old new : EngineState) (event : Event) (calls : DeviceCalls) (answer : Answer)
-    → Step dig old event calls answer new → (why : Why) → Closes answer why
+    → Step dig old event calls answer new → (why : Why) → ClosesPeer answer why
     → (key : PeerKey) × (place : ℕ) × (p : PeerState)
     × (event ≡ Next key) × IsPeer old key place p × IsCause dig old p why
+
+-- ---- other peers
+
+-- the peer that an event is of
+abbrev pub peer_of : Event → Option PeerKey
+peer_of (Feed key bytes) = Some key
+peer_of (Next key) = Some key
+peer_of (Lost key) = Some key
+peer_of _ = None
+
+-- an event of one peer leaves the others as they are, also where it closes that one
+abbrev pub StepLeavesOthers : (List ℕ → List ℕ) → Type 0
+StepLeavesOthers dig = (old new : EngineState) (event : Event) (calls : DeviceCalls) (answer : Answer)
+    (key : PeerKey) → Step dig old event calls answer new → peer_of event ≡ Some key
+    → (p : PeerState) → p.key ≢ key → Contains old.peers p ↔ Contains new.peers p
+
+-- no peer goes by an event that is not its own
+abbrev pub StepKeepsConnected : (List ℕ → List ℕ) → Type 0
+StepKeepsConnected dig = (old new : EngineState) (event : Event) (calls : DeviceCalls) (answer : Answer)
+    (key : PeerKey) → Step dig old event calls answer new → peer_of event ≢ Some key
+    → IsConnected old key → IsConnected new key

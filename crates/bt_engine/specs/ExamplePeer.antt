@@ -11,7 +11,7 @@ use Rattle.bt_engine.specs.declared.answer.Why.{Why}
 use Rattle.bt_engine.specs.declared.answer.Note.{Note}
 use Rattle.bt_engine.specs.State.{HashState, PeerState}
 use Rattle.bt_engine.specs.Output.{Sent}
-use Rattle.bt_engine.specs.Peers.{peer_name}
+use Rattle.bt_engine.specs.Peers.{our_handshake}
 use Rattle.bt_engine.specs.Step.{Answer, of_connect, of_feed, of_next}
 
 abbrev pub first_key : PeerKey
@@ -64,9 +64,6 @@ abbrev pub closed_answer : Why → Answer
 closed_answer why = of_next (Ok (Some (record { send = []; close = Some why; notes = [] })))
 
 -- our handshake and an empty bitfield
-abbrev pub our_handshake : (infohash : List ℕ) → Handshake
-our_handshake infohash = record { infohash = take 20 infohash; peer_id = peer_name }
-
 abbrev pub joined_answer : (infohash : List ℕ) → Answer
 joined_answer infohash = of_connect (Ok (
   first_key,

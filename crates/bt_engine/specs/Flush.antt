@@ -20,6 +20,6 @@ pub data StepFlush (s : EngineState) (calls : DeviceCalls) (answer : Result (Uni
     (new : EngineState) : Type 0 where
   syncs : s.logged ≡ false → calls ≡ syncs_of (data_files s) → answer ≡ Ok tt → new ≡ s
       → StepFlush s calls answer new
-  fails : (before : List ℕ) (file : ℕ) (after : List ℕ) → data_files s ≡ before ++ file ∷ after
-      → calls ≡ syncs_of before ++ (file, sync_fault) ∷ [] → answer ≡ Err Device → new ≡ s
-      → StepFlush s calls answer new
+  fails : (before : List ℕ) (file : ℕ) (after : List ℕ) → s.logged ≡ false
+      → data_files s ≡ before ++ file ∷ after → calls ≡ syncs_of before ++ (file, sync_fault) ∷ []
+      → answer ≡ Err Device → new ≡ s → StepFlush s calls answer new

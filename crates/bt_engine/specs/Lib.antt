@@ -40,6 +40,7 @@ pub mod ExampleOneBlock
 pub mod ExampleThreeBlocks
 pub mod ExampleWaiting
 pub mod ExampleServing
+pub mod ExampleChoking
 pub mod ExampleDamaged
 pub mod ExampleHostile
 pub mod ExampleTwins

@@ -1,5 +1,5 @@
 -- Peers that come and go, and bytes that come from them.
-use Rattle.std.specs.Prelude.{◌≡◌, ℕ, ◌+◌, ◌-◌, ◌*◌, ◌^◌, ◌<◌, ◌≤◌, true, false, List, [], ◌∷◌, ◌++◌, map, length, replicate, codes, All, Result, Ok, Err, None}
+use Rattle.std.specs.Prelude.{◌≡◌, ℕ, ◌+◌, ◌-◌, ◌*◌, ◌^◌, ◌<◌, ◌≤◌, true, false, List, [], ◌∷◌, ◌++◌, map, take, length, replicate, codes, All, Result, Ok, Err, None}
 use Rattle.bt_meta.specs.Torrent.{total_pieces}
 use Rattle.bt_book.specs.Book.{max_peers}
 use Rattle.bt_book.specs.declared.names.PeerKey.{PeerKey}
@@ -13,7 +13,7 @@ use Rattle.bt_engine.specs.declared.error.EngineError.{EngineError}
 use Rattle.bt_engine.specs.declared.error.EngineError.TheVariants.{NoPeer, OutOfMemory}
 use Rattle.bt_engine.specs.State.{Idle, PeerState, EngineState}
 use Rattle.bt_engine.specs.Blocks.{piece_numbers, is_whole, with_peer}
-use Rattle.bt_engine.specs.WireEvents.{short_infohash, bits_in, bitfield_length}
+use Rattle.bt_engine.specs.WireEvents.{bits_in, bitfield_length}
 use Rattle.bt_engine.specs.Output.{Output, sent_to}
 use Rattle.bt_engine.specs.Next.{IsPeer, HasNoPeer, without_peer}
 
@@ -40,8 +40,8 @@ new_peer s key = record {
 abbrev pub peer_name : List ℕ
 peer_name = codes "-BS0001-000000000000"
 
-abbrev pub our_handshake : EngineState → Handshake
-our_handshake s = record { infohash = short_infohash s; peer_id = peer_name }
+abbrev pub our_handshake : (infohash : List ℕ) → Handshake
+our_handshake infohash = record { infohash = take 20 infohash; peer_id = peer_name }
 
 -- the bits say which pieces are whole, and bits past the last piece are zero
 pub record IsOurBitfield (s : EngineState) (bytes : List ℕ) : Type 0 where
@@ -53,7 +53,7 @@ pub record IsOurBitfield (s : EngineState) (bytes : List ℕ) : Type 0 where
 -- what a new peer is sent: our handshake and our bitfield
 abbrev pub greeting : EngineState → PeerKey → List ℕ → Output
 greeting s key bytes = record {
-  send = (record { peer = key; frame = Hello (our_handshake s) })
+  send = (record { peer = key; frame = Hello (our_handshake s.torrent.infohash) })
       ∷ sent_to (new_peer s key) (Bitfield bytes) ∷ [];
   close = None;
   notes = [];

@@ -36,8 +36,8 @@ pub fn next_closes_for_cause<H: NodeHash>(_hash: H)
     ensures { NextClosesForCause H.digest }
 {}
 
-/// What changed of a peer that is connected before and after an event is sent to it: our interest, a hash
-/// request, and requests of whole blocks.
+/// What changed of a peer that is connected before and after an event is sent to it: whether we choke it, our
+/// interest, a hash request, and requests of whole blocks.
 pub fn step_sends_changes<H: NodeHash>(_hash: H)
     ensures { StepSendsChanges H.digest }
 {}

@@ -1,4 +1,4 @@
-ghost use Rattle.bt_engine.specs.AnswerLaw.{StepRequestsMissing, StepTellsChangedInterest, StepAnnouncesWholePieces, NextNotesCompleteFiles, StepClosesForCause};
+ghost use Rattle.bt_engine.specs.AnswerLaw.{StepRequestsMissing, StepTellsChangedInterest, StepAnnouncesWholePieces, NextNotesCompleteFiles, StepClosesForCause, StepLeavesOthers, StepKeepsConnected};
 
 use bt_tree::NodeHash;
 
@@ -26,4 +26,14 @@ pub fn next_notes_complete_files<H: NodeHash>(_hash: H)
 /// A peer is closed only for what it sent.
 pub fn step_closes_for_cause<H: NodeHash>(_hash: H)
     ensures { StepClosesForCause H.digest }
+{}
+
+/// An event of one peer leaves the others as they are, also where it closes that one.
+pub fn step_leaves_others<H: NodeHash>(_hash: H)
+    ensures { StepLeavesOthers H.digest }
+{}
+
+/// No peer goes by an event that is not its own.
+pub fn step_keeps_connected<H: NodeHash>(_hash: H)
+    ensures { StepKeepsConnected H.digest }
 {}

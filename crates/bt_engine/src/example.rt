@@ -1,4 +1,5 @@
 ghost use Rattle.bt_engine.specs.ExampleAdopting.{AdoptedBlockIsRun, AdoptedTwinsAreRun};
+ghost use Rattle.bt_engine.specs.ExampleChoking.{ChoicesAreRun};
 ghost use Rattle.bt_engine.specs.ExampleDamaged.{DamagedBlockIsRun};
 ghost use Rattle.bt_engine.specs.ExampleFlush.{FlushesAreRun, LostPeerIsRun};
 ghost use Rattle.bt_engine.specs.ExampleForced.{AbcAnswersAreForced, WaitingAnswersAreForced};
@@ -49,6 +50,12 @@ pub fn twin_files_are_run<H: NodeHash>(_hash: H)
 /// and one that requests too much is closed. Those are runs too.
 pub fn serving_is_run<H: NodeHash>(_hash: H)
     ensures { ServingIsRun H.digest }
+{}
+
+/// Five interested peers are served by two choices, the second of which chokes one that the first unchoked;
+/// then a sixth comes to the engine, which has a whole piece, and is told so.
+pub fn choices_are_run<H: NodeHash>(_hash: H)
+    ensures { ChoicesAreRun H.digest }
 {}
 
 /// What a peer sends that closes it, each with its reason, and what it sends that does not, while three

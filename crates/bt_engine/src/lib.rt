@@ -18,13 +18,13 @@ pub use answer_due::{
 };
 pub use answer_law::{
     next_notes_complete_files, step_announces_whole_pieces, step_closes_for_cause,
-    step_requests_missing, step_tells_changed_interest,
+    step_keeps_connected, step_leaves_others, step_requests_missing, step_tells_changed_interest,
 };
 pub use error::{AdoptError, ConnectError, EngineError, FlushError};
 pub use event::Event;
 pub use example::{
-    abc_answers_are_forced, adopted_block_is_run, adopted_twins_are_run, choked_peer_is_run,
-    damaged_block_is_run, fetch_of_abc_is_run, fetch_of_three_is_run, flushes_are_run,
+    abc_answers_are_forced, adopted_block_is_run, adopted_twins_are_run, choices_are_run,
+    choked_peer_is_run, damaged_block_is_run, fetch_of_abc_is_run, fetch_of_three_is_run, flushes_are_run,
     hints_are_pending, hostile_messages_are_runs, lost_peer_is_run, rejected_peer_is_run,
     serving_is_run, twin_files_are_run, waiting_answers_are_forced, waiting_fetch_is_run,
     wrong_block_is_run,
