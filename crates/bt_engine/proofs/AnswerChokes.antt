@@ -1,6 +1,6 @@
 -- A peer is told that we choke it, or choke it no more, exactly where that changed.
 use Rattle.std.proofs.lemmas.Option.{slice_get-map}
-use Rattle.bt_engine.proofs.Base.{◌≡◌, ℕ, ◌⊎◌, inl, inr, Bool, true, false, not, List, [], ◌∷◌, map, length, Some, refl, sym, ap, ◌∙◌, subst, slice_get, option_map, Contains, range_with_len, ◌++◌, Contains-append_cases, PeerKey, Choke, Unchoke}
+use Rattle.bt_engine.proofs.Base.{◌≡◌, ℕ, ◌⊎◌, inl, inr, Bool, true, false, not, List, [], ◌∷◌, map, length, Some, refl, ap, ◌∙◌, subst, slice_get, option_map, Contains, range_with_len, ◌++◌, Contains-append_cases, PeerKey, Choke, Unchoke}
 use Rattle.bt_engine.proofs.Machine.{Digest, PeerState, EngineState, Sent, FollowsUp, IsPeer, FollowsEach, rechoked, rechoked_peer, chokes_sent, choking_sent, is_served, Step, sent_by}
 use Rattle.bt_engine.proofs.Lists.{contains_none, contains_cases, contains_flat_map, flat_map_contains, get_map, here}
 use Rattle.bt_engine.proofs.Pairs.{some_at}

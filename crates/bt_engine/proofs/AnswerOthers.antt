@@ -1,6 +1,6 @@
 -- What an event leaves of the peers that it is not of.
-use Rattle.bt_engine.proofs.Base.{◌≡◌, ◌≢◌, ℕ, zero, suc, ◌+◌, ◌⊎◌, inl, inr, List, [], ◌∷◌, ◌++◌, take, drop, Option, Some, None, refl, sym, ap, ◌∙◌, subst, slice_get, slice_set, ◌↔◌, Contains, Contains-append_left, PeerKey, fed}
-use Rattle.bt_engine.proofs.Machine.{Digest, Event, Connect, Feed, Next, Lost, Rechoke, Adopt, Flush, PeerState, EngineState, IsPeer, TakesEvent, GoesOn, StepNext, no_peer, waits, goes_on, closes, faulty, no_memory, StepConnect, joins, full, spent, no_room, StepFeed, feeds, not_fed, no_room as no_room_to_feed, StepLost, goes, not_fed as not_lost, StepRechoke, rechokes, not_rechoked, StepAdopt, no_file, busy, empty, adopts, not_adopted, StepFlush, syncs, fails, Step, IsConnected}
+use Rattle.bt_engine.proofs.Base.{◌≡◌, ◌≢◌, ℕ, zero, suc, ◌+◌, inl, inr, List, [], ◌++◌, take, drop, Some, sym, ap, ◌∙◌, subst, slice_get, slice_set, ◌↔◌, Contains, Contains-append_left, PeerKey, fed}
+use Rattle.bt_engine.proofs.Machine.{Digest, Connect, Feed, Next, Lost, Rechoke, Adopt, Flush, PeerState, EngineState, IsPeer, TakesEvent, StepNext, no_peer, waits, goes_on, closes, faulty, no_memory, StepConnect, joins, full, spent, no_room, StepFeed, feeds, not_fed, no_room as no_room_to_feed, StepLost, goes, not_fed as not_lost, StepRechoke, rechokes, not_rechoked, StepAdopt, no_file, busy, empty, adopts, not_adopted, StepFlush, syncs, fails, IsConnected}
 use Rattle.bt_engine.specs.AnswerLaw.{StepLeavesOthers, StepKeepsConnected}
 use Rattle.bt_engine.proofs.Lists.{same_some, set_same}
 use Rattle.bt_engine.proofs.Pairs.{contains_some, some_at, contains_set, contains_without, kept_without}
@@ -28,9 +28,9 @@ set_others {key} xs i {old} new at old_key new_key = record { same = λ p apart.
     to p apart c =
         let j = some_at xs c in
         let elsewhere : i ≡ j.0 → ⊥ = λ e. (
-            let same : old ≡ p = same_some at (ap (slice_get xs) e ∙ j.1) in
-            apart (ap (λ q. q.key) (sym same) ∙ old_key)
-            ) in
+        let same : old ≡ p = same_some at (ap (slice_get xs) e ∙ j.1) in
+        apart (ap (λ q. q.key) (sym same) ∙ old_key)
+        ) in
         contains_some (slice_set xs i new) j.0 (set_other xs i j.0 new elsewhere ∙ j.1)
 
     from : (p : PeerState) → p.key ≢ key → Contains (slice_set xs i new) p → Contains xs p

@@ -3,7 +3,7 @@ use Rattle.bt_engine.proofs.Base.{◌≡◌, ℕ, inl, inr, true, false, List, [
 use Rattle.bt_engine.proofs.Machine.{Digest, PeerState, EngineState, state_at, NeedsLeaf, FollowsUp, rests, StepConnect, joins, greeting, FollowsEach, StepRechoke, rechokes}
 use Rattle.bt_engine.specs.ExampleChoking.{full_engine, choked_five, first_five, second_five, sixth_peer, key_of, numbered, sent_to_key, ChoicesAreRun}
 use Rattle.bt_wire.specs.declared.message.Message.TheVariants.{Choke, Unchoke}
-use Rattle.bt_engine.proofs.Lists.{some_is, set_id, contains_none, and_then_some}
+use Rattle.bt_engine.proofs.Lists.{set_id, contains_none, and_then_some}
 use Rattle.bt_engine.proofs.ExamplePeer.{one_there}
 use Rattle.bt_engine.proofs.ExampleThreeEngine.{output_of}
 
@@ -59,13 +59,25 @@ module _ (dig : Digest) (infohash : List ℕ) where
       → FollowsEach dig (0 ∷ 1 ∷ 2 ∷ 3 ∷ 4 ∷ []) (engine turn (a ∷ b ∷ c ∷ d ∷ e ∷ [])) [] (engine turn (a ∷ b ∷ c ∷ d ∷ e ∷ []))
   nothing_for_five turn a b c d e x y z v w =
       let peers = a ∷ b ∷ c ∷ d ∷ e ∷ [] in (
-        engine turn peers, [], [], nothing_follows turn peers 0 refl x.0 x.1,
+        engine turn peers,
+        [],
+        [],
+        nothing_follows turn peers 0 refl x.0 x.1,
         (
-          engine turn peers, [], [], nothing_follows turn peers 1 refl y.0 y.1,
+          engine turn peers,
+          [],
+          [],
+          nothing_follows turn peers 1 refl y.0 y.1,
           (
-            engine turn peers, [], [], nothing_follows turn peers 2 refl z.0 z.1,
+            engine turn peers,
+            [],
+            [],
+            nothing_follows turn peers 2 refl z.0 z.1,
             (
-              engine turn peers, [], [], nothing_follows turn peers 3 refl v.0 v.1,
+              engine turn peers,
+              [],
+              [],
+              nothing_follows turn peers 3 refl v.0 v.1,
               (engine turn peers, [], [], nothing_follows turn peers 4 refl w.0 w.1, (refl, refl), refl),
               refl,
             ),

@@ -43,7 +43,7 @@ FlushKeepsBlocks {D} history honest faults dig = (old new : EngineState) (calls 
     → IsFile new file f k → slice_get f.states i ≡ Some Marked
     → slice_get after file ≡ Some (Some e) → honest e
     → IsBlockKept (history e) (moment_of (history e)) i
-      (stored_block k.file_length (history e).now.bytes i)
+    (stored_block k.file_length (history e).now.bytes i)
 
 -- Whatever a crash at moment t or later has left, block i stands in it whole, with the digest of its leaf.
 abbrev pub IsRightSince : (List ℕ → List ℕ) → Facts → History → (t i : ℕ) → Type 0

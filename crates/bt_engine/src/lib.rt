@@ -24,10 +24,10 @@ pub use error::{AdoptError, ConnectError, EngineError, FlushError};
 pub use event::Event;
 pub use example::{
     abc_answers_are_forced, adopted_block_is_run, adopted_twins_are_run, choices_are_run,
-    choked_peer_is_run, damaged_block_is_run, fetch_of_abc_is_run, fetch_of_three_is_run, flushes_are_run,
-    hints_are_pending, hostile_messages_are_runs, lost_peer_is_run, rejected_peer_is_run,
-    serving_is_run, twin_files_are_run, waiting_answers_are_forced, waiting_fetch_is_run,
-    wrong_block_is_run,
+    choked_peer_is_run, damaged_block_is_run, fetch_of_abc_is_run, fetch_of_three_is_run,
+    flushes_are_run, hints_are_pending, hostile_messages_are_runs, lost_peer_is_run,
+    rejected_peer_is_run, serving_is_run, twin_files_are_run, waiting_answers_are_forced,
+    waiting_fetch_is_run, wrong_block_is_run,
 };
 pub use law::{
     complete_files_are_published, complete_files_stand, complete_has_root, flush_keeps_blocks,
