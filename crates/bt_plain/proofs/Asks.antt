@@ -17,7 +17,7 @@ use Rattle.bt_plain.specs.declared.table.Row.{Row}
 use Rattle.bt_plain.specs.declared.table.Peer.{Peer}
 use Rattle.bt_plain.specs.Table.{IsTable, IsPeerOf}
 use Rattle.bt_plain.specs.Interest.{is_missing, is_wanted}
-use Rattle.bt_plain.specs.Asking.{is_open, open_in}
+use Rattle.bt_plain.specs.Asking.{is_open, open_in, first_open}
 use Rattle.bt_plain.proofs.Rows.{row_of, has_row, row_has}
 use Rattle.bt_plain.proofs.Order.{ascending}
 
@@ -124,3 +124,10 @@ module _ {s : EngineState} {p : PeerState} (peer : Peer) (rows : List Row) (tabl
       → blocks ≡ take (max_requests - n) listed → length peer.asked.items ≤ max_requests
       → peer.peer_choking ≡ false → peer.am_interested ≡ true → AsksBlocks s p blocks
   asks n listed blocks size all cut few unchoked interested = rw cut (rw all (rw size (asks_of_them few unchoked interested)))
+
+-- what is left of the open blocks is the first of them
+pub in_order : (peer : Peer) (rows : List Row) (n : ℕ) (listed blocks : List BlockId) → n ≡ length peer.asked.items
+    → listed ≡ open_in peer rows → blocks ≡ take (max_requests - n) listed
+    → peer.peer_choking ≡ false → peer.am_interested ≡ true → blocks ≡ first_open peer rows
+in_order peer rows n listed blocks size all cut unchoked interested =
+    rw unchoked (rw interested (cut ∙ ap (take (max_requests - n)) all ∙ ap (λ m. take (max_requests - m) (open_in peer rows)) size))

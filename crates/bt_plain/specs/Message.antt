@@ -10,7 +10,7 @@ use Rattle.bt_engine.specs.WireEvents.{HandlesMessage, HandlesHave, HandlesBitfi
 use Rattle.bt_plain.specs.Table.{as_told}
 use Rattle.bt_plain.specs.declared.table.Peer.{Peer}
 
--- the message changes nothing but its peer
+-- the message changes nothing but its peer, and is no hash reject
 abbrev pub IsOfPeer : Sent → Type 0
 IsOfPeer KeepAlive = ⊤
 IsOfPeer Choke = ⊤

@@ -26,7 +26,10 @@ use bt_tree::NodeHash;
 use bt_wire::Message;
 use std::alloc::{AllocError, Global};
 
-/// What follows from an event for one peer: interest is told, a hash request sent, and blocks are requested.
+/// What follows from an event for one peer, in engines all of whose files have this one tree: interest is told, a
+/// hash request sent, and blocks are requested.
+///
+/// Out of memory leaves the member part changed: what it was to be told or asked may count as sent.
 pub fn follow_up<H: NodeHash>(
     alloc: Global,
     torrent: &Torrent,

@@ -31,7 +31,8 @@ pub struct Answered {
 }
 
 /// Answers a wire event of a peer that stays, by the tables before the event and after what it does by itself.
-/// With what it does by itself that is a whole step of the machine.
+/// With what it does by itself that is a whole step of the machine, where there is no log and all files have this
+/// one tree. Out of memory leaves the member part changed, as in `follow_up`.
 pub fn answer_event<H: NodeHash>(
     alloc: Global,
     torrent: &Torrent,

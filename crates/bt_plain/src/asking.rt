@@ -3,7 +3,7 @@ ghost use Rattle.bt_book.specs.Book.{max_requests};
 ghost use Rattle.bt_engine.specs.State.{EngineState, PeerState};
 ghost use Rattle.bt_engine.specs.FollowUp.{AsksBlocks};
 ghost use Rattle.bt_plain.specs.Table.{IsTable, IsPeerOf};
-ghost use Rattle.bt_plain.specs.Asking.{is_open, open_in};
+ghost use Rattle.bt_plain.specs.Asking.{is_open, open_in, first_open};
 
 use crate::table::{Peer, Row};
 use bt_book::BlockId;
@@ -17,8 +17,9 @@ const MAX_REQUESTS: usize = 16;
 /// open ones in their order until it is asked for 16.
 pub fn open_blocks(alloc: Global, rows: &[Row], peer: &Peer) -> Result<Vec<BlockId>, AllocError>
     requires { length peer.now.asked.items ≤ max_requests }
-    ensures { IfOk result (λ blocks. (s : EngineState) (p : PeerState) → IsTable s rows.now
+    ensures asks { IfOk result (λ blocks. (s : EngineState) (p : PeerState) → IsTable s rows.now
         → IsPeerOf p peer.now → AsksBlocks s p blocks.items) }
+    ensures order { IfOk result (λ blocks. blocks.items ≡ first_open peer.now rows.now) }
 {
     if peer.peer_choking || !peer.am_interested {
         return Ok(Vec::new(alloc));

@@ -17,7 +17,8 @@ use bt_store::{BlockState, FileStore};
 use bt_tree::NodeHash;
 use std::alloc::{AllocError, Global};
 
-/// The table of a small engine's blocks.
+/// The table of an engine of one file: a row for each block of the torrent's first file. Where the torrent has
+/// more files, they have no rows; a block that the store does not have is missing.
 pub fn rows_of<D: Disk + Drop, H: NodeHash>(
     alloc: Global,
     torrent: &Torrent,

@@ -10,7 +10,7 @@ use bt_engine::Why;
 use bt_wire::Message;
 
 /// Takes a message that changes its peer alone, or nothing: none of those that ask for data or hashes, or
-/// bring them. It says why the peer is closed, which is then as it was.
+/// bring them, and no hash reject. It says why the peer is closed, which is then as it was.
 pub fn take_message(peer: &mut Peer, message: &Message, pieces: u32) -> Option<Why>
     requires few { length peer.old.has.items ≡ pieces }
     requires own { IsOfPeer message.now }

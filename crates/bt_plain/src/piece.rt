@@ -35,10 +35,11 @@ pub fn put_block<D: Disk + Drop, H: NodeHash>(
     requires geometry { tree.now.file_length ≡ store.old.file_length }
     requires missing { slice_get store.old.states block.block ≡ Some BlockState.Missing }
     requires whole { IsBlock store.old.file_length block.block bytes.now }
-    ensures { (s : EngineState) (file : FileState) → IsFile s block.file file tree.now
+    ensures puts { (s : EngineState) (file : FileState) → IsFile s block.file file tree.now
         → file.states ≡ store.old.states
         → (calls : List Call) × HasCalls D.history D.honest D.faults store.old.disk calls store.new.disk
         × PutsBlock H.digest s block bytes.now file calls result store.new.states }
+    ensures same_file { store.new.file_length ≡ store.old.file_length }
 {
     match store.put(tree, block.block, bytes) {
         Ok(Put::Marked) => Effect::Noted(Note::Marked(block)),
@@ -140,12 +141,14 @@ pub fn take_piece<D: Disk + Drop, H: NodeHash>(
         ≡ Some store.old.file_length }
     requires awaited { (b : BlockId) → IsAskedBlock torrent.now piece begin (length bytes.now) peer.old b
         → IsAwaited file store.old.states b }
-    ensures { (s : EngineState) (i : ℕ) (p : PeerState) (f : FileState) → s.torrent ≡ torrent.now
+    ensures takes { (s : EngineState) (i : ℕ) (p : PeerState) (f : FileState) → s.torrent ≡ torrent.now
         → slice_get s.peers i ≡ Some p → IsPeerOf p peer.old
         → IsFile s file f tree.now → f.states ≡ store.old.states
         → (calls : List Call) × (payload : ℕ)
         × HasCalls D.history D.honest D.faults store.old.disk calls store.new.disk
-        × TakesPiece H.digest s i p file f piece begin bytes.now calls result store.new.states peer.new payload }
+        × TakesPiece H.digest s i p file f piece begin bytes.now calls result store.new.states peer.new
+        payload }
+    ensures same_file { store.new.file_length ≡ store.old.file_length }
 {
     let Some(block) = asked_block(torrent, peer, piece, begin, bytes) else {
         return Effect::Noted(Note::Stale);

@@ -36,6 +36,7 @@ pub fn settle_blocks<D: Disk + Drop, H: NodeHash>(
         × Settles H.digest f.tree from count s (calls_at 0 calls) notes.items
         (with_file s 0 (record f { states = store.new.states }))) }
     ensures refused { IfErr result (λ _. store.new ≡ store.old) }
+    ensures same_file { store.new.file_length ≡ store.old.file_length }
 {
     let mut notes = Vec::with_capacity(alloc, count as usize + 1)?;
     // The clause of this number says that a file has few blocks.

@@ -17,7 +17,7 @@ pub struct Row {
     pub is_asked: bool,
 }
 
-/// What an engine knows of a peer, but for its bytes, its hash requests and its count of bytes.
+/// What an engine knows of a peer, but for its key, its bytes, its hash requests and its count of bytes.
 #[derive(Debug, Drop)]
 pub struct Peer {
     pub am_choking: bool,
@@ -31,7 +31,7 @@ pub struct Peer {
 }
 
 impl Peer {
-    /// Whether the peer has the block's piece.
+    /// Whether the peer has this piece; it has none past the last.
     pub fn has_piece(&self, piece: u32) -> bool
         ensures { result ≡ has_piece self.now piece }
     {

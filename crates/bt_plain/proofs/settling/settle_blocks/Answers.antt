@@ -64,3 +64,6 @@ returns-clause-settles g c = λ s f one.
     rw notes
     (settles_file d.history d.honest d.faults g.H.NodeHash.digest c.args.tree.now s f c.args.from c.args.count c.args.store.now c.loop-block.store old
     c.loop-block.failed one c.requires.geometry settled)
+
+pub returns-clause-same_file : goal.returns-clause-same_file
+returns-clause-same_file g c = c.loop-block.invariant.settled.settled.judged.same_file
