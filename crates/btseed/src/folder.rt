@@ -4,6 +4,7 @@ ghost use Rattle.std.specs.List.{All};
 ghost use Rattle.std.specs.Fs.{IsDir, IsFile};
 ghost use Rattle.std.specs.String.{string_cmp};
 ghost use Rattle.std.specs.BTreeMap.{IsOrdered};
+ghost use Rattle.btseed.specs.Fault.{device};
 ghost use Rattle.btseed.specs.Folder.{HasElement, IsListingFault, listing_fault};
 ghost use Rattle.btseed.specs.FolderSteps.{PutsEntries};
 ghost use Rattle.btseed.specs.declared.folder.EntryKind.TheVariants.{File, Folder};
@@ -13,7 +14,7 @@ use crate::paths::found_path;
 use bt_meta::MakeError;
 use std::alloc::{AllocError, Global};
 use std::collections::BTreeMap;
-use std::fs::{self, FileType};
+use std::fs::{self, DirEntry, FileType};
 use std::io::ErrorKind;
 use std::rt::Files;
 
@@ -93,13 +94,20 @@ fn names_in<R: Files + AllocGlobal + Clone + Drop>(
     let folder = found_path(alloc, dir, folder)?;
     for entry in fs::read_dir(rt, folder).map_err(|e| system_fault(e.kind()))? {
         let entry = entry.map_err(|e| listing_fault(e.kind()))?;
-        let file_type = entry.file_type().map_err(|e| system_fault(e.kind()))?;
-        if let Some(kind) = kind_of(file_type) {
+        if let Some(kind) = kind_of(entry_type(&entry)?) {
             let name = String::from_str(alloc, entry.file_name())?;
             names.insert(name, kind)?;
         }
     }
     Ok(names)
+}
+
+/// The type of an entry, also of a link and not of what it leads to. To ask for it takes no memory, so that
+/// fails by the device alone.
+fn entry_type<R: Files>(entry: &DirEntry<R>) -> Result<FileType, Fault>
+    ensures { IfErr result (λ fault. fault ≡ device) }
+{
+    entry.file_type().map_err(|_| Fault::Device)
 }
 
 /// What an entry is to a torrent: none for what is left out, a symbolic link, a pipe, a socket or a device.
