@@ -61,8 +61,7 @@ fn followed_link<R: Files + AllocGlobal>(rt: &R, path: &str) -> Result<String, F
     let link = rt
         .read_link(rt.alloc(), path)
         .map_err(|e| system_fault(e.kind()))?;
-    let text = link.to_str().ok_or(Fault::Device)?;
-    Ok(link_target(rt.alloc(), path, text)?)
+    Ok(link_target(rt.alloc(), path, link.as_str())?)
 }
 
 /// Where the text of a symbolic link leads: to itself from the top, and else from the folder that the link is
