@@ -1,5 +1,5 @@
 //! The data files of a torrent, and what a check finds of one.
-ghost use Rattle.std.specs.Prelude.{◌≡◌, ◌↔◌, ◌⊎◌, map, IsTrue, IfOk, IfErr, IfSome};
+ghost use Rattle.std.specs.Prelude.{◌≡◌, ◌⊎◌, map, IfOk, IfErr, IfSome};
 ghost use Rattle.std.specs.List.{All};
 ghost use Rattle.std.specs.Path.{path_buf_bytes};
 ghost use Rattle.bt_meta.specs.Files.{file_of};
@@ -8,10 +8,9 @@ ghost use Rattle.btseed.specs.Fault.{device, out_of_memory};
 
 use crate::fault::Fault;
 use crate::paths::data_path;
-use bt_disk::{HandlePool, PooledDisk};
+use bt_disk::{HandlePool, PooledDisk, is_absence};
 use bt_meta::FileEntry;
 use std::fs;
-use std::io::ErrorKind;
 use std::path::{Path, PathBuf};
 use std::rt::Files;
 
@@ -87,16 +86,4 @@ pub fn open_data_file<R: Files + Drop>(
 /// Whether the system says that no file can be at a path.
 fn is_absent<R: Files>(rt: &R, path: Path<'_>) -> bool {
     matches!(fs::metadata(rt, path), Err(error) if is_absence(error.kind()))
-}
-
-/// Whether an error says that no file can be at a path: there is nothing, one of its folders is none, or a
-/// name, or the path, is longer than the system takes.
-fn is_absence(kind: ErrorKind) -> bool
-    ensures { IsTrue result ↔ ((kind ≡ ErrorKind.NotFound)
-        ⊎ (kind ≡ ErrorKind.NotADirectory) ⊎ (kind ≡ ErrorKind.InvalidFilename)) }
-{
-    matches!(
-        kind,
-        ErrorKind::NotFound | ErrorKind::NotADirectory | ErrorKind::InvalidFilename
-    )
 }
