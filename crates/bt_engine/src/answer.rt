@@ -20,7 +20,7 @@ pub enum Why {
     BadPiece,
     /// C4: Its bitfield has another number of bytes.
     BadBitfield,
-    /// C5: It requests a range that no block has.
+    /// C5: It requests a range that is empty, longer than a block or not within one piece.
     BadRequest,
     /// C6: It sent a block with another digest.
     WrongBlock,

@@ -1,4 +1,4 @@
-//! The program `btseed`, a seed store for the files of a BitTorrent v2 torrent (BEP 52).
+//! The program `btseed`: makes torrents of BitTorrent v2 (BEP 52), shows them and checks files against them.
 #![tactic(auto)]
 
 mod atomic_file;
