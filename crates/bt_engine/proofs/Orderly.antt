@@ -33,6 +33,7 @@ record PeerChange (s : EngineState) (i : ℕ) (p : PeerState) (m : EngineState) 
   pub next : m.next_key ≡ s.next_key
   pub torrent : m.torrent ≡ s.torrent
   pub key : new.key ≡ p.key
+  pub running : p.stream.failed ≡ false → new.stream.failed ≡ false
   pub has : length new.has ≡ length p.has
   pub few : length new.asked ≤ length p.asked
   pub among : (b : BlockId) → Contains new.asked b → Contains p.asked b
@@ -43,6 +44,7 @@ peer_in : {s m : EngineState} {q : _} → m.next_key ≡ s.next_key → m.torren
     → ((b : BlockId) → Contains q.asked b → state_at m b ≡ Some Missing) → IsOrderlyPeer m q
 peer_in {q} next torrent o missing = record {
   key = rw next o.key;
+  running = o.running;
   pieces = cc;
   few = o.few;
   once = o.once;
@@ -73,6 +75,7 @@ changed {s} {m} {i} {p} at c o = record {
     own : IsOrderlyPeer m c.new
     own = record {
       key = rw c.next (rw c.key before.key);
+      running = c.running before.running;
       pieces = c.has ∙ before.pieces ∙ ap total_pieces (sym c.torrent);
       few = omega (arith, before.few, c.few);
       once = c.once before.once;
@@ -82,13 +85,14 @@ changed {s} {m} {i} {p} at c o = record {
 -- one that stands in the place of an engine with the same peers
 placed : {s : EngineState} (x : EngineState) {m : EngineState} {i : ℕ} {p : PeerState} (q : _) → x.peers ≡ s.peers → x.next_key ≡ s.next_key
     → x.torrent ≡ s.torrent → KeepsMissing s x → m ≡ with_peer x i q → q.key ≡ p.key → length q.has ≡ length p.has → q.asked ≡ p.asked
-    → PeerChange s i p m
-placed x {i} {p} q peers next torrent states e key has asked = record {
+    → (p.stream.failed ≡ false → q.stream.failed ≡ false) → PeerChange s i p m
+placed x {i} {p} q peers next torrent states e key has asked running = record {
   new = q;
   peers = cc;
   next = cc;
   torrent = cc;
   key = key;
+  running = running;
   has = has;
   few = (let same : length q.asked ≡ length p.asked = cc in omega arith);
   among = λ b c. rw (← asked) c;
@@ -97,8 +101,9 @@ placed x {i} {p} q peers next torrent states e key has asked = record {
 }
 
 -- a peer of which other things are changed
-replaced : {p : PeerState} {s m i : _} (q : _) → m ≡ with_peer s i q → q.key ≡ p.key → length q.has ≡ length p.has → q.asked ≡ p.asked → PeerChange s i p m
-replaced {s} q e key has asked = placed s q refl refl refl (λ b x. x) e key has asked
+replaced : {p : PeerState} {s m i : _} (q : _) → m ≡ with_peer s i q → q.key ≡ p.key → length q.has ≡ length p.has → q.asked ≡ p.asked
+    → (p.stream.failed ≡ false → q.stream.failed ≡ false) → PeerChange s i p m
+replaced {s} q e key has asked running = placed s q refl refl refl (λ b x. x) e key has asked running
 
 -- the peers stay
 kept : {s m : EngineState} {i p : _} → slice_get s.peers i ≡ Some p → m.peers ≡ s.peers → m.next_key ≡ s.next_key → m.torrent ≡ s.torrent
@@ -109,6 +114,7 @@ kept {s} {i} {p} at peers next torrent states = record {
   next = next;
   torrent = torrent;
   key = refl;
+  running = λ r. r;
   has = refl;
   few = omega arith;
   among = λ b c. c;
@@ -199,7 +205,7 @@ module _ (dig : Digest) where
   request_change at (ignored a c d e) = quiet at e
   request_change at (no_place a c d f e) = quiet at e
   request_change at (not_marked span a c d f g e) = quiet at e
-  request_change at (served span a c d f) = replaced _ f.after refl refl refl
+  request_change at (served span a c d f) = replaced _ f.after refl refl refl (λ r. r)
   request_change at (stopped span a c d f) = fault_change at f.is_file.here f.finds
 
   put_missing : (r : Result Put StoreError) (i j states : _) → j ≢ i → slice_get states j ≡ Some Missing
@@ -215,6 +221,7 @@ module _ (dig : Digest) where
     next = cc;
     torrent = cc;
     key = refl;
+    running = λ r. r;
     has = refl;
     few = omega (arith, length-filter (λ c. not (is_block a.block c)) p.asked, count_by-le-length (λ c. not (is_block a.block c)) p.asked);
     among = λ b c. (contains_filter (λ c. not (is_block a.block c)) _ c).0;
@@ -243,7 +250,7 @@ module _ (dig : Digest) where
   piece_change at (arrives a) = arrives_change a
 
   have_change : {s : EngineState} {mid i p piece effect : _} → slice_get s.peers i ≡ Some p → HandlesHave s i p piece effect mid → PeerChange s i p mid
-  have_change {p} {piece} at (in_range x y e) = replaced _ e refl (length-set p.has piece true) refl
+  have_change {p} {piece} at (in_range x y e) = replaced _ e refl (length-set p.has piece true) refl (λ r. r)
   have_change at (out_of_range x y e) = quiet at e
 
   hashes_change : {s : EngineState} {mid i p key digests calls effect : _} → slice_get s.peers i ≡ Some p
@@ -253,11 +260,11 @@ module _ (dig : Digest) where
   hashes_change at (refused f t k c x y z g) = quiet at g.after
   hashes_change at (learns l) =
       placed _ _ (cc) (cc) (cc)
-      (λ b missing. settle_missing l.settles b missing) l.after refl refl refl
+      (λ b missing. settle_missing l.settles b missing) l.after refl refl refl (λ r. r)
 
   bits_change : {s : EngineState} {mid i p bytes effect : _} → slice_get s.peers i ≡ Some p → length p.has ≡ total_pieces s.torrent
       → HandlesBitfield s i p bytes effect mid → PeerChange s i p mid
-  bits_change {s} {bytes} at pieces (right size y e) = replaced _ e refl (long ∙ sym pieces) refl
+  bits_change {s} {bytes} at pieces (right size y e) = replaced _ e refl (long ∙ sym pieces) refl (λ r. r)
     where
       long : length (take (total_pieces s.torrent) (bits_in bytes)) ≡ total_pieces s.torrent
       long =
@@ -275,6 +282,7 @@ module _ (dig : Digest) where
     next = cc;
     torrent = cc;
     key = refl;
+    running = λ r. r;
     has = refl;
     few = omega arith;
     among = λ b c. absurd (contains_none c);
@@ -288,8 +296,8 @@ module _ (dig : Digest) where
   message_change (Cancel ask) calls effect at pieces h = quiet at h.2
   message_change (HashRequest key) calls effect at pieces h = quiet at h.2
   message_change (Hashes key digests) calls effect at pieces h = hashes_change at h
-  message_change (HashReject key) calls effect at pieces h = replaced _ h.2.after refl refl refl
-  message_change _ calls effect at pieces h = replaced _ h.2 refl refl refl
+  message_change (HashReject key) calls effect at pieces h = replaced _ h.2.after refl refl refl (λ r. r)
+  message_change _ calls effect at pieces h = replaced _ h.2 refl refl refl (λ r. r)
 
   event_change : {s : EngineState} {mid i p : _} (e calls effect : _) → slice_get s.peers i ≡ Some p → length p.has ≡ total_pieces s.torrent
       → Handles dig s i p e calls effect mid → PeerChange s i p mid
@@ -301,7 +309,7 @@ module _ (dig : Digest) where
   taken_order {s} {i} {p} {calls} {effect} at t o =
       let fed : PeerState = record p { stream = t.rest } in
       let there = set_same _ i at in
-      let before = changed at (replaced fed refl refl refl refl) o in
+      let before = changed at (replaced fed refl refl refl refl (λ r. t.takes.not_failed)) o in
       changed there (event_change _ calls _ there (o.each p (contains_some _ i at)).pieces t.handles) before
 
   -- ---- events
@@ -325,9 +333,9 @@ module _ (dig : Digest) where
     each = λ p c. (let q = o.each p c in peer_in refl refl q q.missing);
   }
 
-  planned_same : {s old new sent : _} → RequestsHashes dig s old sent new → (new.key ≡ old.key) × (new.has ≡ old.has) × (new.asked ≡ old.asked)
-  planned_same (requests b k key x y z w v e) = (ap (λ q. q.key) e, ap (λ q. q.has) e, ap (λ q. q.asked) e)
-  planned_same (rests x y e) = (ap (λ q. q.key) e, ap (λ q. q.has) e, ap (λ q. q.asked) e)
+  planned_same : {s old new sent : _} → RequestsHashes dig s old sent new → (new.key ≡ old.key) × (new.has ≡ old.has) × (new.asked ≡ old.asked) × (new.stream ≡ old.stream)
+  planned_same (requests b k key x y z w v e) = (ap (λ q. q.key) e, ap (λ q. q.has) e, ap (λ q. q.asked) e, ap (λ q. q.stream) e)
+  planned_same (rests x y e) = (ap (λ q. q.key) e, ap (λ q. q.has) e, ap (λ q. q.asked) e, ap (λ q. q.stream) e)
 
   follow_order : {s new i sent : _} → FollowsUp dig s i sent new → IsOrderly s → IsOrderly new
   follow_order {s} {i} f o = order_is f.after (record {
@@ -347,10 +355,14 @@ module _ (dig : Digest) where
       asking : PeerState
       asking = record f.planned { asked = f.planned.asked ++ f.blocks }
 
-      same : (f.planned.key ≡ f.peer.key) × (f.planned.has ≡ f.peer.has) × (f.planned.asked ≡ f.peer.asked)
+      same : (f.planned.key ≡ f.peer.key) × (f.planned.has ≡ f.peer.has) × (f.planned.asked ≡ f.peer.asked) × (f.planned.stream ≡ f.peer.stream)
       same =
-          let r = planned_same f.hashes in
-          (r.0 ∙ ap (λ q. q.key) f.interest.others, r.1 ∙ ap (λ q. q.has) f.interest.others, r.2 ∙ ap (λ q. q.asked) f.interest.others)
+          let r = planned_same f.hashes in (
+            r.0 ∙ ap (λ q. q.key) f.interest.others,
+            r.1 ∙ ap (λ q. q.has) f.interest.others,
+            r.2 ∙ ap (λ q. q.asked) f.interest.others,
+            r.3 ∙ ap (λ q. q.stream) f.interest.others,
+          )
 
       before : IsOrderlyPeer s f.peer
       before = o.each f.peer (contains_some s.peers i f.here)
@@ -358,6 +370,7 @@ module _ (dig : Digest) where
       own : IsOrderlyPeer (with_peer s i asking) asking
       own = record {
         key = rw same.0 before.key;
+        running = ap (λ x. x.failed) same.3 ∙ before.running;
         pieces = ap length same.1 ∙ before.pieces;
         few = (let few = f.asks.few in omega (arith, length-append f.planned.asked f.blocks));
         once = from_pairs (λ b c. b ≢ c) (f.planned.asked ++ f.blocks) (pairs_append (λ b c. b ≢ c) f.planned.asked f.blocks
@@ -393,10 +406,11 @@ module _ (dig : Digest) where
     each = λ q among. elim (Contains-append_cases s.peers (new_peer s key ∷ []) q among) [
       | inl own ↦ (
           let old = o.each q own in
-          record { key = omega arith; pieces = old.pieces; few = old.few; once = old.once; missing = old.missing }
+          record { key = omega arith; running = old.running; pieces = old.pieces; few = old.few; once = old.once; missing = old.missing }
           )
       | inr theirs ↦ rw (← (last theirs)) (record {
         key = omega arith;
+        running = refl;
         pieces = length-replicate (total_pieces s.torrent) false;
         few = omega arith;
         once = none_apart (λ b c. b ≢ c);
@@ -415,7 +429,7 @@ module _ (dig : Digest) where
   connect_order (no_room x y z e) o = order_is e o
 
   feed_order : {s new key bytes answer : _} → StepFeed s key bytes answer new → IsOrderly s → IsOrderly new
-  feed_order (feeds i p peer y e) o = changed peer.here (replaced _ e refl refl refl) o
+  feed_order (feeds i p peer y e) o = changed peer.here (replaced _ e refl refl refl (λ r. r)) o
   feed_order (not_fed x y e) o = order_is e o
   feed_order (no_room_to_feed i p x y e) o = order_is e o
 
@@ -432,7 +446,7 @@ module _ (dig : Digest) where
   }
     where
       one : {p : _} → Contains s.peers p → IsOrderlyPeer (rechoked s) (rechoked_peer s p)
-      one {p} c = let old = o.each p c in record { key = old.key; pieces = old.pieces; few = old.few; once = old.once; missing = old.missing }
+      one {p} c = let old = o.each p c in record { key = old.key; running = old.running; pieces = old.pieces; few = old.few; once = old.once; missing = old.missing }
 
   rechoke_order : {s new answer : _} → StepRechoke dig s answer new → IsOrderly s → IsOrderly new
   rechoke_order (rechokes out r x) o = each_order _ _ r.follows (rechoked_order o)

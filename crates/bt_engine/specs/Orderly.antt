@@ -1,5 +1,5 @@
 -- What holds of the peers of every engine that events lead to, and of what they are asked for.
-use Rattle.std.specs.Prelude.{◌≡◌, ◌≢◌, ℕ, ◌<◌, ◌≤◌, List, length, Some, Contains}
+use Rattle.std.specs.Prelude.{◌≡◌, ◌≢◌, ℕ, ◌<◌, ◌≤◌, false, List, length, Some, Contains}
 use Rattle.std.specs.List.{AllPairs}
 use Rattle.bt_meta.specs.Torrent.{Metainfo, total_pieces}
 use Rattle.bt_store.specs.declared.block_states.BlockState.TheVariants.{Missing}
@@ -12,9 +12,11 @@ use Rattle.bt_engine.specs.Blocks.{state_at}
 use Rattle.bt_engine.specs.Start.{Starts}
 use Rattle.bt_engine.specs.Step.{Answer, Step, Run}
 
--- Its key was given out and each piece has its bit. It is asked for at most 16 blocks, each once and missing.
+-- Its key was given out, its stream showed no fault, and each piece has its bit. It is asked for at most 16
+-- blocks, each once and missing.
 pub record IsOrderlyPeer (s : EngineState) (p : PeerState) : Type 0 where
   pub key : p.key.0 < s.next_key
+  pub running : p.stream.failed ≡ false
   pub pieces : length p.has ≡ total_pieces s.torrent
   pub few : length p.asked ≤ max_requests
   pub once : AllPairs (λ b c. b ≢ c) p.asked

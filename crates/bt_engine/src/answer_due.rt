@@ -8,20 +8,20 @@ pub fn orderly_peers_are_only()
     ensures { OrderlyPeersAreOnly }
 {}
 
-/// A hash request is answered with the digests that it asks for, and rejected only where it is not right or
-/// one of them is unknown.
+/// Out of memory aside: a hash request is answered with the digests that it asks for, and rejected only where
+/// it is not right or one of them is unknown.
 pub fn next_answers_hash_request<H: NodeHash>(_hash: H)
     ensures { NextAnswersHashRequest H.digest }
 {}
 
-/// A whole block that the peer was asked for, with the digest of its leaf, is marked, unless the device
-/// refuses to write it.
+/// Out of memory aside: a whole block that the peer was asked for, with the digest of its leaf, is marked,
+/// unless the device refuses to write it.
 pub fn next_marks_right_block<H: NodeHash>(_hash: H)
     ensures { NextMarksRightBlock H.digest }
 {}
 
-/// A request of a peer that is not choked, for a range whose blocks are marked, is served, unless a block is
-/// found damaged or cannot be read.
+/// Out of memory aside: a request of a peer that is not choked, for a range whose blocks are marked, is
+/// served, unless a block is found damaged or cannot be read.
 pub fn next_serves_marked_range<H: NodeHash>(_hash: H)
     ensures { NextServesMarkedRange H.digest }
 {}
@@ -31,7 +31,7 @@ pub fn next_notes_marked_blocks<H: NodeHash>(_hash: H)
     ensures { NextNotesMarkedBlocks H.digest }
 {}
 
-/// A peer that sent what it is to be closed for is closed for it, and is connected no more.
+/// A peer that sent what it is to be closed for is connected no more, and is closed for it, out of memory aside.
 pub fn next_closes_for_cause<H: NodeHash>(_hash: H)
     ensures { NextClosesForCause H.digest }
 {}

@@ -80,8 +80,8 @@ pub fn taught_keys_are_answered<H: NodeHash>(_hash: H)
     ensures { TaughtKeysAreAnswered H.digest }
 {}
 
-/// At most 64 peers are connected, in the order of their keys. Each is asked for at most 16 blocks, which are
-/// missing, and no block is asked twice. Each event keeps it so.
+/// At most 64 peers are connected, in the order of their keys. The stream of each showed no fault. Each is
+/// asked for at most 16 blocks, which are missing, and no block is asked twice. Each event keeps it so.
 pub fn step_keeps_order<H: NodeHash>(_hash: H)
     ensures { StepKeepsOrder H.digest }
 {}
@@ -92,7 +92,7 @@ pub fn runs_are_orderly<H: NodeHash>(_hash: H)
 {}
 
 /// After any list of events from the start of a torrent there are its files, each with a state for each block
-/// and the tree of its root, one tree for each root, and no hint for a log.
+/// and, where it has one, the tree of its root, one tree for each root, and no hint for a log.
 pub fn runs_keep_shape<H: NodeHash>(_hash: H)
     ensures { RunsKeepShape H.digest }
 {}
@@ -103,13 +103,14 @@ pub fn step_is_determined<H: NodeHash>(_hash: H)
     ensures { StepIsDetermined H.digest }
 {}
 
-/// So where its answer requests no block, or at most one block is missing after it, nothing is left free.
+/// So where its answer requests no block, or at most one block is missing after it, there is no other with
+/// the same answers of devices and with memory.
 pub fn step_is_forced<H: NodeHash>(_hash: H)
     ensures { StepIsForced H.digest }
 {}
 
-/// And two lists of answers to the same events, which request the same blocks, are one, and lead to the same
-/// engine.
+/// And two lists of answers to the same events from the start of a torrent, with the same answers of devices,
+/// with memory and with requests of the same blocks, are one, and lead to the same engine.
 pub fn runs_are_determined<H: NodeHash>(_hash: H)
     ensures { RunsAreDetermined H.digest }
 {}
