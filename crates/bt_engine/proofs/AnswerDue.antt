@@ -20,7 +20,7 @@ same_taking {old} {r} {s} {e} {f} t u =
 
 -- ---- what the step does with it
 
-abbrev HandlesAt : (List ℕ → List ℕ) → EngineState → ℕ → PeerState → Stream → WireEvent → DeviceCalls → Effect → EngineState → Type 0
+abbrev pub HandlesAt : (List ℕ → List ℕ) → EngineState → ℕ → PeerState → Stream → WireEvent → DeviceCalls → Effect → EngineState → Type 0
 HandlesAt dig s i p rest e calls effect mid = Handles dig (with_peer s i (record p { stream = rest })) i (record p { stream = rest }) e calls effect mid
 
 pub data Taken (dig : Digest) (s : EngineState) (i : ℕ) (p : PeerState) (e : WireEvent) (rest : Stream) (calls : DeviceCalls) (answer : Answer) (new : EngineState) : Type 0 where

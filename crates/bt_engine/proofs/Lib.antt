@@ -39,6 +39,7 @@ pub mod AnswerMarks
 pub mod AnswerWaits
 pub mod AnswerShut
 pub mod AnswerAsks
+pub mod AnswerHash
 -- worked examples
 pub mod ExamplePeer
 pub mod ExampleOneBlock

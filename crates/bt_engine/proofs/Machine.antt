@@ -1,7 +1,7 @@
 -- The names of the machine's definitions that proofs cite, in one place.
 use Rattle.bt_engine.proofs.Base.{ℕ, List}
 pub use Rattle.bt_engine.specs.Adopting.{StepAdopt, no_file, busy, empty, adopts, no_memory as not_adopted, AdoptsGroups, AdoptsGroup, is_other, AdoptsFile, StopsAdopting, IsProof, adopted_together, group_blocks, run_starts}
-pub use Rattle.bt_engine.specs.AnswerDue.{IsOnlyPeer, IsAskedForAll, NextAsksForAll, MarksBlock, marked, not_written, NextMarksRightBlock, ServesRange, sent, not_read, NextServesMarkedRange, WaitingIsNotComplete, IsSentChanges, StepSendsChanges, AnswersHashes, unknown, NextAnswersHashRequest, NextNotesMarkedBlocks, OrderlyPeersAreOnly, NextClosesForCause, NextSettlesWaitingBlocks}
+pub use Rattle.bt_engine.specs.AnswerDue.{IsOnlyPeer, IsAskedForAll, NextAsksForAll, RejectsAsked, AnswersKey, IsResolved, NextResolvesHashRequest, MarksBlock, marked, not_written, NextMarksRightBlock, ServesRange, sent, not_read, NextServesMarkedRange, WaitingIsNotComplete, IsSentChanges, StepSendsChanges, AnswersHashes, unknown, NextAnswersHashRequest, NextNotesMarkedBlocks, OrderlyPeersAreOnly, NextClosesForCause, NextSettlesWaitingBlocks}
 pub use Rattle.bt_engine.specs.AnswerLaw.{output_of, NotedBy, IsCause, wire, other_torrent, past_last_piece, other_length, no_place as is_no_place, wrong_block, unknown_root as is_unknown_root, no_claim as makes_no_claim, refused as is_refused, ChangesInterest, IsConnected, StepClosesForCause, StepTellsChangedInterest, BecomesSo, StepAnnouncesWholePieces, NextNotesCompleteFiles, IsRequestedOf, StepRequestsMissing}
 pub use Rattle.bt_engine.specs.Arrival.{arrives, stale, HandlesPiece, HasPutEffect, Arrives, Puts}
 pub use Rattle.bt_engine.specs.Blocks.{with_peer, state_at, tree_of, with_file, with_tree, block_id, Has, file_numbers, IsAsked, new_complete_files, is_whole, piece_numbers, is_complete, has_become, new_whole_pieces, leaf_at, piece_of, new_marked_blocks}

@@ -17,13 +17,14 @@ use Rattle.bt_book.specs.declared.names.BlockId.{BlockId}
 use Rattle.bt_wire.specs.Cutter.{Stream, Takes}
 use Rattle.bt_wire.specs.declared.message.Ask.{Ask}
 use Rattle.bt_wire.specs.declared.message.Message.TheVariants.{Choke, Unchoke, Interested, NotInterested, Request, Piece, HashRequest, Hashes, HashReject}
+use Rattle.bt_wire.specs.declared.event.WireEvent.{WireEvent}
 use Rattle.bt_wire.specs.declared.event.WireEvent.TheVariants.{Message}
 use Rattle.bt_engine.specs.declared.answer.Why.{Why}
 use Rattle.bt_engine.specs.declared.answer.Note.TheVariants.{Marked as NowMarked, Damaged, Device}
 use Rattle.bt_engine.specs.declared.error.EngineError.TheVariants.{OutOfMemory}
 use Rattle.bt_engine.specs.declared.event.Event.{Event}
 use Rattle.bt_engine.specs.declared.event.Event.TheVariants.{Next}
-use Rattle.bt_engine.specs.State.{Idle, Asked, PeerState, EngineState}
+use Rattle.bt_engine.specs.State.{HashState, Idle, Asked, Refused, PeerState, EngineState}
 use Rattle.bt_engine.specs.Devices.{DeviceCalls}
 use Rattle.bt_engine.specs.Blocks.{block_id, state_at, tree_of, leaf_at, Has, IsAsked, is_complete}
 use Rattle.bt_engine.specs.Spans.{IsWholeBlock, spanned_blocks, cut_from}
@@ -163,6 +164,32 @@ NextAsksForAll dig = (old new : EngineState) (key : PeerKey) (place : ℕ) (p : 
     → Step dig old (Next key) calls (of_next (Ok (Some out))) new
     → (q : PeerState) × IsPeer new key place q × IsAskedForAll dig new q
     × IsSentChanges new (of_next (Ok (Some out))) key p q
+
+-- ---- the hash request that a peer is asked
+
+-- the peer rejects the request that it is asked
+abbrev pub RejectsAsked : WireEvent → HashState → Type 0
+RejectsAsked event before = (k : HashKey) × (event ≡ Message (HashReject k)) × (before ≡ Asked k)
+
+-- the event answers the request of this key
+abbrev pub AnswersKey : WireEvent → HashKey → Type 0
+AnswersKey event k = ((digests : List ℕ) × (event ≡ Message (Hashes k digests))) ⊎ (event ≡ Message (HashReject k))
+
+-- After hashes of the key that it is asked, a peer is asked none, or what is sent to it. It is sent no more
+-- requests since it rejected one, in this event or before. A request that it does not answer stays out.
+pub record IsResolved (answer : Answer) (key : PeerKey) (event : WireEvent) (before after : HashState)
+    : Type 0 where
+  pub hashes : (k : HashKey) (digests : List ℕ) → event ≡ Message (Hashes k digests) → before ≡ Asked k
+      → (after ≡ Idle) ⊎ ((j : HashKey) × (after ≡ Asked j) × Sends answer key (HashRequest j))
+  pub refused : (after ≡ Refused) ↔ (before ≡ Refused) ⊎ RejectsAsked event before
+  pub out : (k : HashKey) → before ≡ Asked k → (after ≡ Asked k) ⊎ AnswersKey event k
+
+-- So it is of a peer after each of its messages that does not close it.
+abbrev pub NextResolvesHashRequest : (List ℕ → List ℕ) → Type 0
+NextResolvesHashRequest dig = (old new : EngineState) (key : PeerKey) (place : ℕ) (p : PeerState)
+    (calls : DeviceCalls) (out : Output) (event : WireEvent) (rest : Stream) → IsOnlyPeer old key place p
+    → Takes p.stream event rest → out.close ≡ None → Step dig old (Next key) calls (of_next (Ok (Some out))) new
+    → (q : PeerState) × IsPeer new key place q × IsResolved (of_next (Ok (Some out))) key event p.hash q.hash
 
 -- ---- blocks that wait
 

@@ -1,4 +1,4 @@
-ghost use Rattle.bt_engine.specs.AnswerDue.{OrderlyPeersAreOnly, NextAnswersHashRequest, NextMarksRightBlock, NextServesMarkedRange, NextNotesMarkedBlocks, NextClosesForCause, StepSendsChanges, NextAsksForAll, NextSettlesWaitingBlocks, WaitingIsNotComplete};
+ghost use Rattle.bt_engine.specs.AnswerDue.{OrderlyPeersAreOnly, NextAnswersHashRequest, NextMarksRightBlock, NextServesMarkedRange, NextNotesMarkedBlocks, NextClosesForCause, StepSendsChanges, NextAsksForAll, NextResolvesHashRequest, NextSettlesWaitingBlocks, WaitingIsNotComplete};
 
 use bt_tree::NodeHash;
 
@@ -46,6 +46,12 @@ pub fn step_sends_changes<H: NodeHash>(_hash: H)
 /// may be asked for, and what is newly asked is sent.
 pub fn next_asks_for_all<H: NodeHash>(_hash: H)
     ensures { NextAsksForAll H.digest }
+{}
+
+/// After hashes that it was asked for a peer that stays is asked none, or the next that is sent to it; it is
+/// sent no more once it rejected one; and a request that it does not answer stays out.
+pub fn next_resolves_hash_request<H: NodeHash>(_hash: H)
+    ensures { NextResolvesHashRequest H.digest }
 {}
 
 /// A block whose leaf a message of a peer tells is settled, in every file of the root: it waits no longer.
