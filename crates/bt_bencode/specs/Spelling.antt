@@ -1,4 +1,5 @@
--- The one spelling of a value (BEP 3, "bencoding").
+-- The one spelling of a value (BEP 3, "bencoding"). Numbers are spelled as the library spells them, which is
+-- of those with at most 64 digits; each number of a value that memory holds has fewer.
 use Rattle.std.specs.Prelude.{ℕ, List, [], ◌∷◌, ◌++◌, length}
 use Rattle.std.specs.Fmt.{decimal, signed_decimal}
 use Rattle.bt_bencode.specs.Letters.{letter_i, letter_l, letter_d, letter_e, colon}

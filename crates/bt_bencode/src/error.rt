@@ -28,6 +28,7 @@ pub enum BencodeError {
     /// Bytes behind the value; the offset is that of the first of them.
     #[error("B7 Trailing {0}")]
     Trailing(usize),
+    /// A growth was refused, of the value that is read or of the text that is written.
     #[error("B8 OutOfMemory")]
     OutOfMemory,
 }

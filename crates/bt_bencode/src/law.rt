@@ -10,8 +10,9 @@ pub fn spellings_are_prefix_free()
     ensures one_value { BeginsOnce }
 {}
 
-/// The law by which a refusal is settled: bytes have one first fault at most, at one offset, and
-/// bytes that have one spell no canonical value. It does nothing when it runs.
+/// The law by which a refusal is settled: bytes that memory can hold, fewer than 2^64, have one first
+/// fault at most, at one offset, and such bytes that have one spell no canonical value. It does nothing
+/// when it runs.
 #[tactic(auto, using(crate::proofs::ReadingLaws::first_fault_is_one, crate::proofs::ReadingLaws::none_spells))]
 pub fn first_fault_is_one()
     ensures one_fault { FirstFaultIsOne }

@@ -1,4 +1,4 @@
-//! Canonical bencoding.
+//! Canonical bencoding (BEP 3).
 #![tactic(auto)]
 
 mod dictionary;

@@ -17,7 +17,7 @@ use crate::number::{integer_of, length_of, numeral_end};
 use crate::value::Value;
 use std::alloc::{AllocError, Global};
 
-/// How many lists and dictionaries may lie in one another.
+/// How many lists and dictionaries may lie in one another: this project's own limit, BEP 3 sets none.
 pub const MAX_NESTING: usize = 128;
 
 /// The value that the bytes spell, all of them.

@@ -47,7 +47,8 @@ fn digest_groups(messages: &[&[u8]], out: &mut [Hash32])
 
 /// Writes the digest of each message to its place in `out`.
 ///
-/// Of the messages, each group of eight in a row whose lengths are equal is digested at once.
+/// The messages are taken by eights, from the first on: eight of one length are digested at once, any other
+/// eight and the rest plainly.
 pub fn digest_many(messages: &[&[u8]], out: &mut [Hash32])
     requires { length out.old ≡ length messages.now }
     ensures { out.new ≡ map (λ message. sha256 message.now) messages.now }

@@ -121,10 +121,12 @@ fn fold_pairs<H: NodeHash>(hash: H, digests: &[Hash32], layers: u8, padding: Has
         ≡ fold_of H.digest layers (digests.now ++ replicate (2 ^ layers - length digests.now) padding) }
 {
     let mut peaks = Peaks::new();
-    let mut count = 0;
-    for digest in digests {
-        peaks::add(hash, &mut peaks, count, *digest);
-        count += 1;
-    }
-    peaks::close(hash, peaks.as_slice(), count, layers, padding)
+    peaks::add_all(hash, &mut peaks, 0, digests);
+    peaks::close(
+        hash,
+        peaks.as_slice(),
+        digests.len() as u32,
+        layers,
+        padding,
+    )
 }
