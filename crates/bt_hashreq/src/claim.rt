@@ -12,7 +12,8 @@ const MAX_HEIGHT: u32 = 26;
 
 /// What the digests that come with a key claim of the key's tree: those of the run, from the left, and then
 /// those of the uncles, from the lowest layer up, 32 bytes each. A run of 2^m nodes has one uncle for each
-/// proof layer beyond the first m - 1.
+/// proof layer beyond the first m - 1: BEP 52 says that layers that follow from the run can be left out; that
+/// just these are, and always, is this project's own.
 ///
 /// Errors: `Shape` where the key's length is no power of two from 2 to 512, its index no multiple of it, or
 /// its base or layers above 26; `Count` where the digests are not as many as it names; `OutOfMemory`.
