@@ -72,6 +72,17 @@ module _ (count : ℕ) (words groups : List ℕ) (sound : IsSound count words gr
       let below : j < 4096 * (4096 * (k / 4096) / 4096 + 1) = rw group (omega arith) in
       has_any count words groups j sound ∙ none j (omega arith) below
 
+  -- where a bit of it is, one is
+  pub some_in_group : (k : ℕ) {found : List ℕ} (r : Option ℕ) → found ≡ words → IfSome r (IsNextBit found (4096 * (k / 4096)))
+      → IfSome r (λ i. i < 4096 * (4096 * (k / 4096) / 4096 + 1)) → is_some r ≡ true → HasNoneInGroup (bits_of count words) k → ⊥
+  some_in_group k (Some i) same next below there none =
+      let group : 4096 * (k / 4096) / 4096 ≡ k / 4096 = omega arith in
+      let inside : i < 4096 * (k / 4096 + 1) = rw (← group) below in
+      let after = next.after in
+      let set : has_bit words i ≡ true = rw (← same) next.set in
+      true≢false (sym set ∙ sym (has_any count words groups i sound) ∙ none i (omega arith))
+  some_in_group k None same next below there none = absurd (true≢false (sym there))
+
   -- ---- the next member
   pub next_is : (from i : ℕ) → IsNextBit words from i → IsNext (bits_of count words) from i
   next_is from i next =

@@ -1,7 +1,4 @@
 -- The lemmas that close the steps of the calls.
-use Rattle.std.proofs.lemmas.List.{set-get_or, get_or_default}
-use Rattle.bt_book.proofs.Once.{filter_none}
-use Rattle.bt_book.proofs.Pairs.{forgotten_none, count_le_pairs}
 use Rattle.bt_book.proofs.Asked.{asked_none, asked_lost, asked_lost_other, asked_cleared, asked_changed_other, changed_none, lost_none}
 
 -- where the peer has not joined, and what becomes of the other peers

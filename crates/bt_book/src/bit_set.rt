@@ -1,4 +1,4 @@
-ghost use Rattle.std.specs.Prelude.{◌≡◌, ℕ, ◌+◌, ◌*◌, ◌/◌, ◌^◌, ◌<◌, ◌≤◌, ◌==◌, if◌then◌else◌, true, false, length, replicate, slice_index_or, slice_set, IfSome, IfNone, IfOk};
+ghost use Rattle.std.specs.Prelude.{◌≡◌, ℕ, ◌+◌, ◌*◌, ◌/◌, ◌^◌, ◌<◌, ◌≤◌, ◌==◌, if◌then◌else◌, true, false, length, replicate, slice_index_or, slice_set, IsTrue, IfSome, IfNone, IfOk};
 ghost use Rattle.std.specs.Bool.{OnTrue};
 ghost use Rattle.bt_book.specs.BitSet.{IsNext, HasNoneFrom, HasNoneInGroup};
 ghost use Rattle.bt_book.specs.BitSetSteps.{has_bit, IsNextBit, HasNoBit, HasNoBitInGroup, IsNextInWord, HasNoBitInWord};
@@ -13,7 +13,7 @@ const GROUP: usize = 64 * WORD;
 
 /// A set of the numbers below a count, which is at most 2^32.
 ///
-/// The next member is found by a look at no more words than a group has, and one for each 2^18 numbers.
+/// The next member is found by a look at no more words than two groups have, and one for each 2^18 numbers.
 #[derive(Drop)]
 pub(crate) struct BitSet {
     count: usize,
@@ -77,6 +77,7 @@ impl BitSet {
         requires { number < length self.old }
         ensures now { self.new ≡ slice_set self.old number false }
         ensures emptied { OnTrue result (HasNoneInGroup self.new number) }
+        ensures told { HasNoneInGroup self.new number → IsTrue result }
     {
         clear_bit(&mut self.words, number);
         let group = number / GROUP;
@@ -151,6 +152,7 @@ fn next_in_word(word: u64, from: usize) -> Option<usize>
 fn next_in_group(words: &[u64], from: usize) -> Option<usize>
     requires { length words.now ≤ 2 ^ 32 }
     ensures some { IfSome result (IsNextBit words.now from) }
+    ensures inside { IfSome result (λ i. i < 4096 * (from / 4096 + 1)) }
     ensures none { IfNone result (HasNoBitInGroup words.now from) }
 {
     let end = words.len().min(WORD * (from / GROUP + 1));

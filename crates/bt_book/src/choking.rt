@@ -18,8 +18,8 @@ pub struct Standing {
 
 /// The peers to serve, in the order of their keys: the three interested ones with most payload bytes, of two
 /// with the same bytes the one with the smaller key first, and one more of the interested ones, in turn: of
-/// the others, in the order of their keys, the one at `turn` modulo their count (the optimistic unchoke of
-/// BEP 3, by turns).
+/// the others, in the order of their keys, the one at `turn` modulo their count. They stand for BEP 3's
+/// regular and optimistic unchokes, which go by rates and by time: counts and turns are this project's own.
 ///
 /// Each standing is of another peer.
 pub fn choose(standings: &[Standing], turn: u64) -> ArrayVec<PeerKey, 4>

@@ -24,6 +24,12 @@ fn done(rt: &impl Abort, book: &mut Book, block: BlockId) {
     book.done(block);
 }
 
+/// Blocks are ordered by file, then block, as `ask` goes.
+#[test]
+fn blocks_are_ordered(rt: HostRuntime) {
+    assert!(rt; block(0, 9) < block(1, 0) && block(1, 0) < block(1, 1));
+}
+
 #[test]
 fn request_book(rt: HostRuntime) -> Result<(), Fail> {
     let mut book = Book::new(rt.alloc(), &[2])?;

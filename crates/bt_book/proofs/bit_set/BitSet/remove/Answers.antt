@@ -1,8 +1,8 @@
-use Rattle.std.proofs.Common.{◌≡◌, ◌<◌, length, set, false, sym, ap, ◌∙◌, arith}
+use Rattle.std.proofs.Common.{◌≡◌, ◌<◌, length, set, false, refl, sym, ap, ◌∙◌, arith}
 use Rattle.std.proofs.lemmas.List.{with_items_is}
 use Rattle.bt_book.specs.BitSetSteps.{bits_of}
 use Rattle.bt_book.proofs.Words.{bits_length, bits_with}
-use Rattle.bt_book.proofs.BitSets.{sound_without, sound_without_group, none_in_group, no_bit_in_group}
+use Rattle.bt_book.proofs.BitSets.{sound_without, sound_without_group, none_in_group, some_in_group, no_bit_in_group}
 use Rattle.bt_book.proofs.bit_set.BitSet.remove.Goals as goal
 
 pub clear_bit-requires : goal.clear_bit-requires
@@ -36,6 +36,15 @@ returns-then-is_some-clause-now c =
     ap (bits_of c.self.inside.count) words
     ∙ bits_with _ _ _ _ _ inside written
     ∙ ap (λ s. set s c.args.number false) c.self.view_is
+
+pub returns-then-is_some-clause-told : goal.returns-then-is_some-clause-told
+returns-then-is_some-clause-told c =
+    let words = with_items_is c.self.inside.words c.clear_bit.new.words (c.clear_bit.auto.words ∙ c.deref_mut.ensures.len) in
+    let written = rw c.deref_mut.ensures.value at c.clear_bit.ensures in
+    let sound = sound_without _ _ _ c.self.invariant _ _
+    (c.clear_bit.auto.words ∙ ap length c.deref_mut.ensures.value) written in
+    (λ none. absurd (some_in_group _ _ _ sound c.args.number c.next_in_group.result
+    (c.deref.ensures.value ∙ words) c.next_in_group.ensures.some c.next_in_group.ensures.inside (sym c.is_some.ensures ∙ c.if-is_some.true) (rw words at none)))
 
 -- none is left
 pub invariant_of-self-2 : goal.invariant_of-self-2
@@ -71,3 +80,6 @@ returns-clause-emptied c =
     let none = no_bit_in_group _ _ _ _
     (c.deref.ensures.value ∙ words) c.next_in_group.ensures.none (sym c.is_some.ensures ∙ c.if-is_some.false) in
     rw words (none_in_group _ _ _ sound c.args.number none)
+
+pub returns-clause-told : goal.returns-clause-told
+returns-clause-told c = λ none. refl

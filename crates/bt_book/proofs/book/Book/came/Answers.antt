@@ -1,4 +1,4 @@
-use Rattle.std.proofs.Common.{◌≡◌, true, arith}
+use Rattle.std.proofs.Common.{arith}
 use Rattle.bt_book.proofs.Pairs.{asked_once, asked_is, changed_is, forgotten_is, kept_came}
 use Rattle.bt_book.proofs.Asked.{asked_changed_other}
 use Rattle.bt_book.proofs.book.Book.came.Goals as goal
