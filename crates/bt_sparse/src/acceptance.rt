@@ -1,4 +1,4 @@
-ghost use Rattle.std.specs.Prelude.{◌≡◌, ℕ, ◌+◌, ◌*◌, ◌<◌, ◌≤◌, List, ◌^◌, IfOk, IfErr, IfSome, OnErr, OnOk, MatchOption, length};
+ghost use Rattle.std.specs.Prelude.{◌≡◌, ◌≢◌, ℕ, ◌+◌, ◌*◌, ◌<◌, ◌≤◌, List, ◌^◌, IfOk, IfErr, IfSome, OnErr, OnOk, MatchOption, length};
 ghost use Rattle.std.specs.List.{All};
 ghost use Rattle.std.specs.FinMap as finite;
 ghost use Rattle.bt_tree.specs.Limits.{max_height};
@@ -89,8 +89,7 @@ impl<H: NodeHash> SparseTree<H> {
     fn top(&self, claim: &Claim) -> Result<Hash32, ProofError>
         ensures ok { IfOk result (HangsFrom H.digest self.now claim.now) }
         ensures refused { IfErr result (IsRefused H.digest self.now claim.now) }
-        ensures memory { IfErr result (λ error. error ≡ ProofError.OutOfMemory
-            → HasHeldTop H.digest self.now claim.now) }
+        ensures no_memory { IfErr result (λ error. error ≢ ProofError.OutOfMemory) }
     {
         if !has_shape(self.geometry.height(), claim) {
             return Err(ProofError::Shape);
