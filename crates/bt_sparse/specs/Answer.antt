@@ -22,7 +22,9 @@ pub record IsRequest (h base index count layers : ℕ) : Type 0 where
   pub proof : layers + base + 1 ≤ h
 
 -- A run of 2 ^ m nodes with p proof layers is answered with this many uncles: the m - 1 layers below the
--- run's top need none.
+-- run's top need none, and the first uncle lies in layer base + m. BEP 52 only says that proof layers below
+-- the run's top can be left out; that there are just max(0, p - (m - 1)) uncles, always, is this project's
+-- reading.
 abbrev pub uncle_count : ℕ → ℕ → ℕ
 uncle_count m p = p - (m - 1)
 

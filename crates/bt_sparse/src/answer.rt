@@ -19,7 +19,7 @@ pub const MAX_RUN_LENGTH: u32 = 512;
 /// Why a request is not answered, in this order.
 #[derive(Clone, Copy, Debug, PartialEq, Eq, Error)]
 pub enum AnswerError {
-    /// The request has another shape than one in this tree.
+    /// The request is not a right one in this tree: `answer` says which are.
     #[error("the request has another shape")]
     Shape,
     /// A node that it needs is not known.
@@ -95,7 +95,15 @@ impl Request {
 
 impl<H: NodeHash> SparseTree<H> {
     /// The digests that answer a hash request (BEP 52): a run of `length` nodes of layer `base` from `index`
-    /// on, then the uncles from the lowest layer up, one for each of the proof layers above the run's own.
+    /// on, then the uncles from the lowest layer up, one for each of the proof layers from the run's top on.
+    /// BEP 52 only says that proof layers below the run's top can be left out; that they always are is this
+    /// project's reading: a run of 2^m nodes with p proof layers has max(0, p - (m - 1)) uncles, the first in
+    /// layer `base` + m.
+    ///
+    /// A right request has a `length` of 2^m nodes, from 2 to 512, and an `index` that is a multiple of it; the
+    /// run and the node above it lie in the tree; and the proof layers end below the root: `base` + `layers` is
+    /// less than the height. Another one is refused with `Shape`, a right one with `Unknown` where a node that it
+    /// needs is not known, and else at most with `OutOfMemory`.
     pub fn answer(
         &self,
         base: u32,

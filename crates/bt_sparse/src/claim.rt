@@ -43,7 +43,8 @@ impl Digests {
 
 /// What a peer claims of a tree (BEP 52, the message "hashes"): the digests of a run of nodes of layer
 /// `base`, from `index` on, and those of the uncles, from the lowest layer up. The first uncle lies in the
-/// layer of the one node that the run lies below.
+/// layer of the one node that the run lies below: BEP 52 only says that proof layers below that node can be
+/// left out, and that they always are is this project's reading.
 #[derive(Debug, Drop)]
 pub struct Claim {
     pub base: u32,
@@ -59,7 +60,8 @@ pub enum ProofError {
     /// or the uncles lie outside the tree.
     #[error("P1 Shape")]
     Shape,
-    /// P2: The digests are not as many as their key asks for. `accept` never returns this.
+    /// P2: The digests are not as many as their key asks for, by this project's reading of BEP 52. `accept`
+    /// never returns this.
     #[error("P2 Count")]
     Count,
     /// P3: A node that covers no block has another digest than the padding.

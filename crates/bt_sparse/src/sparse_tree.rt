@@ -33,7 +33,7 @@ impl<H: NodeHash> Model for SparseTree<H> {
 }
 
 impl<H: NodeHash> SparseTree<H> {
-    /// The tree of a file of which the root alone is known.
+    /// The tree of a file of which the root alone is known. An error is out of memory.
     pub fn new(
         alloc: Global,
         hash: H,
