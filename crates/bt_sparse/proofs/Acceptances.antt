@@ -20,7 +20,7 @@ use Rattle.bt_sparse.specs.NodeMap.{Nodes, digest_at}
 use Rattle.bt_sparse.specs.SparseTree.{Facts, blocks_of, height, held_at, value_at, IsRooted, IsSound}
 use Rattle.bt_sparse.specs.Claim.{Claims, HasShape, run_height, run_node, top_layer, top_node, top_digest}
 use Rattle.bt_sparse.specs.Acceptance.{HasPadding, Agrees, IsAcceptable, Accepts, IsHighestClash, IsRefused, no_memory}
-use Rattle.bt_sparse.specs.ExpansionSteps.{level_pairs, covered_count, run_pairs, path_pairs, claimed_pairs, IsPairOf}
+use Rattle.bt_sparse.specs.ExpansionSteps.{layer_pairs, covered_count, run_pairs, path_pairs, claimed_pairs, IsPairOf}
 use Rattle.bt_sparse.specs.AcceptanceSteps.{IsPairIn, IsPadded, HasNoDifference, IsNotHigher, IsHighestIn, IsAdded, AgreesAt, IsGrownBy, IsExpandedClaim}
 use Rattle.bt_sparse.proofs.Halves.{power_split}
 use Rattle.bt_sparse.proofs.Values.{value_covers, value_padding, value_inside, cases_node}
@@ -45,17 +45,17 @@ pairs_in dig n h c shape high = All-weaker (IsPairOf dig c) (IsPairIn h) one (cl
         }
 
 module _ (dig : List ℕ → List ℕ) (n : ℕ) (c : Claim) where
-  level_pairs_length : (above first count : ℕ) → length (level_pairs dig c above first count) ≡ count
-  unfolding level_pairs
-  level_pairs_length above first zero = refl
-  level_pairs_length above first (suc count) = simp length-append (omega (arith, level_pairs_length above first count))
+  layer_pairs_length : (above first count : ℕ) → length (layer_pairs dig c above first count) ≡ count
+  unfolding layer_pairs
+  layer_pairs_length above first zero = refl
+  layer_pairs_length above first (suc count) = simp length-append (omega (arith, layer_pairs_length above first count))
 
   run_pairs_length : (k : ℕ) → k ≤ run_height c → length (run_pairs dig n c k) + 2 ^ (run_height c - k) ≤ 2 ^ run_height c
   unfolding run_pairs
   run_pairs_length zero low = let flat : run_height c - 0 ≡ run_height c = omega arith in omega (arith, ap (λ k. 2 ^ k) flat)
   run_pairs_length (suc k) low =
       let wide = power_split (run_height c - k) (run_height c - suc k) 1 (omega arith) in
-      let level = level_pairs_length k (run_node c * 2 ^ (run_height c - suc k)) (covered_count n c (suc k)) in
+      let in_layer = layer_pairs_length k (run_node c * 2 ^ (run_height c - suc k)) (covered_count n c (suc k)) in
       simp length-append (omega (arith, run_pairs_length k (omega arith), covered_limit n c (suc k)))
 
   path_pairs_length : (t : ℕ) → length (path_pairs dig c t) ≡ t

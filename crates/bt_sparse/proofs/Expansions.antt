@@ -13,31 +13,31 @@ use Rattle.bt_tree.proofs.TreeShape.{pow_le}
 use Rattle.bt_sparse.specs.declared.claim.Claim.{Claim}
 use Rattle.bt_sparse.specs.declared.expansion.ClaimedPair.{ClaimedPair}
 use Rattle.bt_sparse.specs.Claim.{Claims, in_run, on_path, uncle, run_height, run_top, run_node, run_digest, path_node, path_digest, parent_digest, top_layer, HasShape}
-use Rattle.bt_sparse.specs.ExpansionSteps.{run_pair, level_pairs, covered_count, run_pairs, path_pair, path_pairs, claimed_pairs, AreRunNodes, AreParents, IsShort, IsPairOf}
+use Rattle.bt_sparse.specs.ExpansionSteps.{run_pair, layer_pairs, covered_count, run_pairs, path_pair, path_pairs, claimed_pairs, AreRunNodes, AreParents, IsShort, IsPairOf}
 use Rattle.bt_sparse.proofs.Halves.{parity}
 use Rattle.bt_sparse.proofs.Claims.{half_below, at_top, half_sibling, path_suc, shape_start, run_pair_claimed, path_pair_claimed}
 use Rattle.bt_sparse.proofs.Covered.{real_next, half_first, covered_limit, covered_here}
 
 module _ (dig : List ℕ → List ℕ) (c : Claim) where
-  pub level_pairs_more : (above first n : ℕ) → level_pairs dig c above first (n + 1) ≡ level_pairs dig c above first n ++ run_pair dig c above (first + n) ∷ []
-  unfolding level_pairs
-  level_pairs_more above first n = rw (add-one n) refl
+  pub layer_pairs_more : (above first n : ℕ) → layer_pairs dig c above first (n + 1) ≡ layer_pairs dig c above first n ++ run_pair dig c above (first + n) ∷ []
+  unfolding layer_pairs
+  layer_pairs_more above first n = rw (add-one n) refl
 
   -- the pair that two nodes of a layer make
-  pub level_pair : (above first layer i : ℕ) (level : List (List ℕ)) → layer ≡ c.base + above → AreRunNodes dig c above (2 * first) level → i < length level / 2
-      → record { layer = layer; index = first + i; left = get_or level (2 * i) []; right = get_or level (2 * i + 1) [] } ≡ run_pair dig c above (first + i)
-  level_pair above first layer i level e nodes lt =
+  pub layer_pair : (above first layer i : ℕ) (row : List (List ℕ)) → layer ≡ c.base + above → AreRunNodes dig c above (2 * first) row → i < length row / 2
+      → record { layer = layer; index = first + i; left = get_or row (2 * i) []; right = get_or row (2 * i + 1) [] } ≡ run_pair dig c above (first + i)
+  layer_pair above first layer i row e nodes lt =
       let left : 2 * first + 2 * i ≡ 2 * (first + i) = omega arith in
       let right : 2 * first + (2 * i + 1) ≡ 2 * (first + i) + 1 = omega arith in
       rw (e, nodes (2 * i) (omega arith), nodes (2 * i + 1) (omega arith), left, right) refl
 
   -- the nodes above nodes of the run
-  nodes_above : (above first start : ℕ) (level up : List (List ℕ)) → start ≡ 2 * first
-      → AreRunNodes dig c above start level → AreParents dig level up (length level / 2) → AreRunNodes dig c (above + 1) first up
-  nodes_above above first start level up e nodes h i lt =
+  nodes_above : (above first start : ℕ) (row up : List (List ℕ)) → start ≡ 2 * first
+      → AreRunNodes dig c above start row → AreParents dig row up (length row / 2) → AreRunNodes dig c (above + 1) first up
+  nodes_above above first start row up e nodes h i lt =
       let left : start + 2 * i ≡ 2 * (first + i) = omega arith in
       let right : start + (2 * i + 1) ≡ 2 * (first + i) + 1 = omega arith in
-      let inside : i < length level / 2 = omega (arith, h.size) in
+      let inside : i < length row / 2 = omega (arith, h.size) in
       let next : above + 1 ≡ suc above = omega arith in
       cc (h.digests i inside, nodes (2 * i) (omega arith), nodes (2 * i + 1) (omega arith), row_parent dig (run_digest c) above (first + i) _ _ refl refl)
 
@@ -80,33 +80,33 @@ unfolding run_pairs
 run_pairs_none dig n c ps = sym (append-nil ps)
 
 -- from the nodes of a layer to those above
-pub record IsLevelAbove (dig : List ℕ → List ℕ) (n : ℕ) (c : Claim) (above first : ℕ) (up : List (List ℕ)) (old new : List ClaimedPair) : Type 0 where
+pub record IsLayerAbove (dig : List ℕ → List ℕ) (n : ℕ) (c : Claim) (above first : ℕ) (up : List (List ℕ)) (old new : List ClaimedPair) : Type 0 where
   pub first_is : first ≡ run_node c * 2 ^ (run_height c - (above + 1))
   pub size : length up ≡ covered_count n c (above + 1)
   pub nodes : AreRunNodes dig c (above + 1) first up
   pub pairs : new ≡ old ++ run_pairs dig n c (above + 1)
 
-pub level_above : (dig : List ℕ → List ℕ) (n : ℕ) (c : Claim) (above start : ℕ) (level up : List (List ℕ)) (old mid new : List ClaimedPair)
-    → above < run_height c → start ≡ run_node c * 2 ^ (run_height c - above) → length level / 2 ≡ covered_count n c (above + 1)
-    → AreRunNodes dig c above start level → AreParents dig level up (length level / 2) → mid ≡ old ++ run_pairs dig n c above
-    → (AreRunNodes dig c above (2 * (start / 2)) level → new ≡ mid ++ level_pairs dig c above (start / 2) (length level / 2))
-    → IsLevelAbove dig n c above (start / 2) up old new
+pub layer_above : (dig : List ℕ → List ℕ) (n : ℕ) (c : Claim) (above start : ℕ) (row up : List (List ℕ)) (old mid new : List ClaimedPair)
+    → above < run_height c → start ≡ run_node c * 2 ^ (run_height c - above) → length row / 2 ≡ covered_count n c (above + 1)
+    → AreRunNodes dig c above start row → AreParents dig row up (length row / 2) → mid ≡ old ++ run_pairs dig n c above
+    → (AreRunNodes dig c above (2 * (start / 2)) row → new ≡ mid ++ layer_pairs dig c above (start / 2) (length row / 2))
+    → IsLayerAbove dig n c above (start / 2) up old new
 unfolding run_pairs
-level_above dig n c above start level up old mid new low from count nodes parents before added =
+layer_above dig n c above start row up old mid new low from count nodes parents before added =
     let twice = from ∙ half_first c above low in
     let first : start / 2 ≡ run_node c * 2 ^ (run_height c - (above + 1)) = omega arith in
     let doubled : start ≡ 2 * (start / 2) = omega arith in
     record {
       first_is = first;
       size = parents.size ∙ count;
-      nodes = nodes_above dig c above (start / 2) start level up doubled nodes parents;
-      pairs = added (subst (λ s. AreRunNodes dig c above s level) doubled nodes) ∙ rw (before, count, first, add-one above) (append_assoc old _ _);
+      nodes = nodes_above dig c above (start / 2) start row up doubled nodes parents;
+      pairs = added (subst (λ s. AreRunNodes dig c above s row) doubled nodes) ∙ rw (before, count, first, add-one above) (append_assoc old _ _);
     }
 
 -- numbers of a run's layers are small
-pub short_level : (c : Claim) (above first : ℕ) (level : List (List ℕ)) → IsShort c → above ≤ run_height c
-    → first ≡ run_node c * 2 ^ (run_height c - above) → length level ≤ 2 ^ (run_height c - above) → first + length level ≤ max_block_count
-short_level c above first level short low from size =
+pub short_layer : (c : Claim) (above first : ℕ) (row : List (List ℕ)) → IsShort c → above ≤ run_height c
+    → first ≡ run_node c * 2 ^ (run_height c - above) → length row ≤ 2 ^ (run_height c - above) → first + length row ≤ max_block_count
+short_layer c above first row short low from size =
     let less = pow_le (run_height c - above) (run_height c) (omega arith) in
     omega (arith, short.narrow, short.power, short.start, mul-le-mul_left (run_node c) less)
 
@@ -147,19 +147,19 @@ module _ (dig : List ℕ → List ℕ) (n : ℕ) (c : Claim) where
   in_right xs ys layer i h = record { left = h.left; right = h.right; among = Contains-append_right xs ys _ h.among }
 
   -- each pair is claimed
-  level_claimed : (above first count : ℕ) → above < run_height c
-      → ((i : ℕ) → first ≤ i → i < first + count → i / 2 ^ (run_height c - suc above) ≡ run_node c) → All (IsPairOf dig c) (level_pairs dig c above first count)
-  unfolding level_pairs
-  level_claimed above first zero low under = All-nil (IsPairOf dig c)
-  level_claimed above first (suc count) low under =
-      All-push (IsPairOf dig c) _ _ (level_claimed above first count low (λ i from to. under i from (omega arith)))
+  layer_claimed : (above first count : ℕ) → above < run_height c
+      → ((i : ℕ) → first ≤ i → i < first + count → i / 2 ^ (run_height c - suc above) ≡ run_node c) → All (IsPairOf dig c) (layer_pairs dig c above first count)
+  unfolding layer_pairs
+  layer_claimed above first zero low under = All-nil (IsPairOf dig c)
+  layer_claimed above first (suc count) low under =
+      All-push (IsPairOf dig c) _ _ (layer_claimed above first count low (λ i from to. under i from (omega arith)))
       (run_pair_claimed dig c above (first + count) low (under (first + count) (omega arith) (omega arith)))
 
   run_pairs_claimed : (k : ℕ) → k ≤ run_height c → All (IsPairOf dig c) (run_pairs dig n c k)
   unfolding run_pairs
   run_pairs_claimed zero low = All-nil (IsPairOf dig c)
   run_pairs_claimed (suc k) low =
-      All-append (IsPairOf dig c) _ _ (run_pairs_claimed k (omega arith)) (level_claimed k _ _ (omega arith)
+      All-append (IsPairOf dig c) _ _ (run_pairs_claimed k (omega arith)) (layer_claimed k _ _ (omega arith)
       (λ i from to. in_row (run_node c) (2 ^ (run_height c - suc k)) i from (omega (arith, to, covered_limit n c (suc k)))))
 
   path_pairs_claimed : (t : ℕ) → t ≤ length c.uncles → All (IsPairOf dig c) (path_pairs dig c t)
@@ -170,12 +170,12 @@ module _ (dig : List ℕ → List ℕ) (n : ℕ) (c : Claim) where
   pub pairs_claimed : All (IsPairOf dig c) (claimed_pairs dig n c)
   pairs_claimed = All-append (IsPairOf dig c) _ _ (run_pairs_claimed (run_height c) (omega arith)) (path_pairs_claimed (length c.uncles) (omega arith))
 
-  level_pairs_has : (above first count i : ℕ) → first ≤ i → i < first + count → Contains (level_pairs dig c above first count) (run_pair dig c above i)
-  unfolding level_pairs
-  level_pairs_has above first zero i from to = absurd (omega arith)
-  level_pairs_has above first (suc count) i from to = elim (cases_lt i (first + count)) [
-    | inl lt ↦ Contains-append_left (level_pairs dig c above first count) _ _ (level_pairs_has above first count i from lt)
-    | inr le ↦ let last : i ≡ first + count = omega arith in rw last (Contains-push (level_pairs dig c above first count) _)
+  layer_pairs_has : (above first count i : ℕ) → first ≤ i → i < first + count → Contains (layer_pairs dig c above first count) (run_pair dig c above i)
+  unfolding layer_pairs
+  layer_pairs_has above first zero i from to = absurd (omega arith)
+  layer_pairs_has above first (suc count) i from to = elim (cases_lt i (first + count)) [
+    | inl lt ↦ Contains-append_left (layer_pairs dig c above first count) _ _ (layer_pairs_has above first count i from lt)
+    | inr le ↦ let last : i ≡ first + count = omega arith in rw last (Contains-push (layer_pairs dig c above first count) _)
   ]
 
   run_pairs_has : (top k i : ℕ) → k < top → top ≤ run_height c → i / 2 ^ (run_height c - k) ≡ run_node c → i < real_width n (c.base + k)
@@ -193,7 +193,7 @@ module _ (dig : List ℕ → List ℕ) (n : ℕ) (c : Claim) where
         let above : c.base + k + 1 ≡ c.base + suc top = omega arith in
         let from : run_node c * 2 ^ (run_height c - suc top) ≤ i / 2 = omega arith in
         let among = covered_here n c (suc top) (i / 2) from (omega arith) (rw above at (parent_covers n (c.base + k) i real)) in
-        in_right (run_pairs dig n c top) _ (c.base + k) (i / 2) (rw last record { left = _; right = _; among = level_pairs_has top _ _ (i / 2) from among })
+        in_right (run_pairs dig n c top) _ (c.base + k) (i / 2) (rw last record { left = _; right = _; among = layer_pairs_has top _ _ (i / 2) from among })
   ]
 
   path_pairs_has : (t k : ℕ) → k < t → Contains (path_pairs dig c t) (path_pair dig c k)

@@ -10,7 +10,7 @@ pub mod Differences
 pub mod Growths
 pub mod Acceptances
 pub mod Paddings
-pub mod Levels
+pub mod RunLayers
 pub mod Joins
 pub mod Answers
 pub mod Paths

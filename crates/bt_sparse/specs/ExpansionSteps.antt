@@ -18,10 +18,10 @@ run_pair dig c above i = record {
 }
 
 -- this many of them, from the left
-unfoldable pub level_pairs : (List ℕ → List ℕ) → Claim → ℕ → ℕ → ℕ → List ClaimedPair
-level_pairs dig c above first zero = []
-level_pairs dig c above first (suc n) =
-    level_pairs dig c above first n ++ run_pair dig c above (first + n) ∷ []
+unfoldable pub layer_pairs : (List ℕ → List ℕ) → Claim → ℕ → ℕ → ℕ → List ClaimedPair
+layer_pairs dig c above first zero = []
+layer_pairs dig c above first (suc n) =
+    layer_pairs dig c above first n ++ run_pair dig c above (first + n) ∷ []
 
 -- how many nodes this many layers above the run and below its top cover a block of n: the first of them
 unfoldable pub covered_count : ℕ → Claim → ℕ → ℕ
@@ -33,7 +33,7 @@ covered_count n c above = min (2 ^ (run_height c - above))
 unfoldable pub run_pairs : (List ℕ → List ℕ) → ℕ → Claim → ℕ → List ClaimedPair
 run_pairs dig n c zero = []
 run_pairs dig n c (suc above) = run_pairs dig n c above
-    ++ level_pairs dig c above (run_node c * 2 ^ (run_height c - suc above)) (covered_count n c (suc above))
+    ++ layer_pairs dig c above (run_node c * 2 ^ (run_height c - suc above)) (covered_count n c (suc above))
 
 -- a node of the path and its uncle
 abbrev pub path_pair : (List ℕ → List ℕ) → Claim → ℕ → ClaimedPair

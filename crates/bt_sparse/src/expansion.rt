@@ -5,7 +5,7 @@ ghost use Rattle.bt_tree.specs.TreeShape.{height_of};
 ghost use Rattle.bt_tree.specs.Tree.{padding_digest};
 ghost use Rattle.bt_tree.specs.Peaks.{row_node};
 ghost use Rattle.bt_sparse.specs.Claim.{run_digest, run_height, run_node, path_digest, top_layer, top_node, sibling_of, HasShape};
-ghost use Rattle.bt_sparse.specs.ExpansionSteps.{level_pairs, covered_count, run_pairs, path_pairs, AreRunNodes, AreParents, IsCompleted, IsShort, IsExpansion};
+ghost use Rattle.bt_sparse.specs.ExpansionSteps.{layer_pairs, covered_count, run_pairs, path_pairs, AreRunNodes, AreParents, IsCompleted, IsShort, IsExpansion};
 ghost use Rattle.bt_sparse.specs.PaddingSteps.{HasPaddedRun};
 
 use crate::claim::Claim;
@@ -139,58 +139,58 @@ fn add_run<H: NodeHash>(
     let run = &claim.run.as_slice()[..2 * count];
     let mut padding = Padding::new(hash);
     let mut first = claim.index / 2;
-    add_level(pairs, claim.base, first, run)?;
-    let mut level = parents(hash, alloc, run)?;
+    add_layer(pairs, claim.base, first, run)?;
+    let mut nodes = parents(hash, alloc, run)?;
     for above in 1..layers {
         let layer = claim.base as u8 + above;
-        complete(&mut padding, layer, &mut level)?;
+        complete(&mut padding, layer, &mut nodes)?;
         first /= 2;
-        add_level(pairs, layer as u32, first, &level)?;
-        level = parents(hash, alloc, &level)?;
+        add_layer(pairs, layer as u32, first, &nodes)?;
+        nodes = parents(hash, alloc, &nodes)?;
     }
-    if level.is_empty() {
+    if nodes.is_empty() {
         return Ok(padding.rise(claim.base as u8 + layers));
     }
-    Ok(level[0])
+    Ok(nodes[0])
 }
 
 /// Adds the padding behind an odd number of nodes of a layer, so that the last one has its sibling.
 fn complete<H: NodeHash>(
     padding: &mut Padding<H>,
     layer: u8,
-    level: &mut Vec<Hash32>,
+    nodes: &mut Vec<Hash32>,
 ) -> Result<(), AllocError>
     requires { padding.old ≤ layer }
     ensures low { OnOk result (padding.new ≤ layer) }
-    ensures level { OnOk result
-        (IsCompleted (padding_digest H.digest layer) level.old.items level.new.items) }
+    ensures nodes { OnOk result
+        (IsCompleted (padding_digest H.digest layer) nodes.old.items nodes.new.items) }
 {
-    if level.len() % 2 == 0 {
+    if nodes.len() % 2 == 0 {
         return Ok(());
     }
-    level.push(padding.rise(layer))?;
+    nodes.push(padding.rise(layer))?;
     Ok(())
 }
 
 /// Adds the pairs that these nodes of a layer make, below the nodes from index `first` on of the next one.
-#[tactic(auto, unfolding(crate::specs::ExpansionSteps::level_pairs))]
-fn add_level(
+#[tactic(auto, unfolding(crate::specs::ExpansionSteps::layer_pairs))]
+fn add_layer(
     pairs: &mut Vec<ClaimedPair>,
     layer: u32,
     first: u32,
-    level: &[Hash32],
+    nodes: &[Hash32],
 ) -> Result<(), AllocError>
-    requires { first + length level.now ≤ 2 * max_block_count }
+    requires { first + length nodes.now ≤ 2 * max_block_count }
     ensures { OnOk result ((dig : List ℕ → List ℕ) (c : Claim) (above : ℕ) → layer ≡ c.base + above
-        → AreRunNodes dig c above (2 * first) level.now
-        → pairs.new.items ≡ pairs.old.items ++ level_pairs dig c above first (length level.now / 2)) }
+        → AreRunNodes dig c above (2 * first) nodes.now
+        → pairs.new.items ≡ pairs.old.items ++ layer_pairs dig c above first (length nodes.now / 2)) }
 {
-    for i in 0..level.len() / 2 {
+    for i in 0..nodes.len() / 2 {
         pairs.push(ClaimedPair {
             layer,
             index: first + i as u32,
-            left: level[2 * i],
-            right: level[2 * i + 1],
+            left: nodes[2 * i],
+            right: nodes[2 * i + 1],
         })?;
     }
     Ok(())

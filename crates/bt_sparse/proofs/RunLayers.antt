@@ -28,16 +28,16 @@ odd_past n c above low odd =
     apart k p q odd even le = omega arith
 
 -- the nodes of a layer, when they are completed
-pub record IsWholeLevel (dig : List ℕ → List ℕ) (n : ℕ) (c : Claim) (above first : ℕ) (level : List (List ℕ)) : Type 0 where
-  pub nodes : AreRunNodes dig c above first level
-  pub limit : length level ≤ 2 ^ (run_height c - above)
-  pub pairs : length level / 2 ≡ covered_count n c (above + 1)
+pub record IsWholeLayer (dig : List ℕ → List ℕ) (n : ℕ) (c : Claim) (above first : ℕ) (row : List (List ℕ)) : Type 0 where
+  pub nodes : AreRunNodes dig c above first row
+  pub limit : length row ≤ 2 ^ (run_height c - above)
+  pub pairs : length row / 2 ≡ covered_count n c (above + 1)
 
-pub whole_level : (dig : List ℕ → List ℕ) (n : ℕ) (c : Claim) (above first layer : ℕ) (level new : List (List ℕ)) → IsShort c → HasPaddedRun dig n c
-    → above < run_height c → layer ≡ c.base + above → first ≡ run_node c * 2 ^ (run_height c - above) → length level ≡ covered_count n c above
-    → AreRunNodes dig c above first level → IsCompleted (padding_digest dig layer) level new → IsWholeLevel dig n c above first new
-whole_level dig n c above first layer level new short run low here from size nodes done = record {
-  nodes = λ i lt. elim (cases_lt i (length level)) [
+pub whole_layer : (dig : List ℕ → List ℕ) (n : ℕ) (c : Claim) (above first layer : ℕ) (row new : List (List ℕ)) → IsShort c → HasPaddedRun dig n c
+    → above < run_height c → layer ≡ c.base + above → first ≡ run_node c * 2 ^ (run_height c - above) → length row ≡ covered_count n c above
+    → AreRunNodes dig c above first row → IsCompleted (padding_digest dig layer) row new → IsWholeLayer dig n c above first new
+whole_layer dig n c above first layer row new short run low here from size nodes done = record {
+  nodes = λ i lt. elim (cases_lt i (length row)) [
     | inl inside ↦ done.kept i inside ∙ nodes i inside
     | inr le ↦
         let odd = odd_past n c above low (omega (arith, size, done.size, le, lt)) in
@@ -47,8 +47,8 @@ whole_level dig n c above first layer level new short run low here from size nod
         done.added i le lt ∙ ap (padding_digest dig) here
         ∙ sym (padded_run dig n c short run above (first + i) (omega arith) under (omega (arith, odd.past, from, last)))
   ];
-  limit = limit (covered_count n c above) (length level) (length new) (2 ^ (run_height c - above)) (2 ^ (run_height c - (above + 1))) size done.size (half_width c above low) (covered_limit n c above);
-  pairs = half (covered_count n c above) (length level) (length new) size done.size ∙ sym (covered_next n c above low);
+  limit = limit (covered_count n c above) (length row) (length new) (2 ^ (run_height c - above)) (2 ^ (run_height c - (above + 1))) size done.size (half_width c above low) (covered_limit n c above);
+  pairs = half (covered_count n c above) (length row) (length new) size done.size ∙ sym (covered_next n c above low);
 }
   where
     limit : (k a b p q : ℕ) → a ≡ k → b ≡ a + a % 2 → p ≡ q * 2 → k ≤ p → b ≤ p
@@ -67,9 +67,9 @@ run_room n c count short half =
     within : (k count p q : ℕ) → count ≡ (k + 1) / 2 → p ≡ q * 2 → k ≤ p → 2 * count ≤ p
     within k count p q e f le = omega arith
 
-pub run_level : (dig : List ℕ → List ℕ) (n : ℕ) (c : Claim) (count : ℕ) → IsShort c → count ≡ (covered_count n c 0 + 1) / 2
-    → IsWholeLevel dig n c 0 c.index (take (2 * count) c.run)
-run_level dig n c count short half =
+pub run_layer : (dig : List ℕ → List ℕ) (n : ℕ) (c : Claim) (count : ℕ) → IsShort c → count ≡ (covered_count n c 0 + 1) / 2
+    → IsWholeLayer dig n c 0 c.index (take (2 * count) c.run)
+run_layer dig n c count short half =
     let flat : run_height c - 0 ≡ run_height c = omega arith in
     let power : 2 ^ (run_height c - 0) ≡ length c.run = ap (λ k. 2 ^ k) flat ∙ sym short.power in
     let limit = run_room n c count short half in
