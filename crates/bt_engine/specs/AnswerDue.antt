@@ -173,7 +173,8 @@ RejectsAsked event before = (k : HashKey) × (event ≡ Message (HashReject k)) 
 
 -- the event answers the request of this key
 abbrev pub AnswersKey : WireEvent → HashKey → Type 0
-AnswersKey event k = ((digests : List ℕ) × (event ≡ Message (Hashes k digests))) ⊎ (event ≡ Message (HashReject k))
+AnswersKey event k = ((digests : List ℕ) × (event ≡ Message (Hashes k digests)))
+    ⊎ (event ≡ Message (HashReject k))
 
 -- After hashes of the key that it is asked, a peer is asked none, or what is sent to it. It is sent no more
 -- requests since it rejected one, in this event or before. A request that it does not answer stays out.
@@ -188,7 +189,8 @@ pub record IsResolved (answer : Answer) (key : PeerKey) (event : WireEvent) (bef
 abbrev pub NextResolvesHashRequest : (List ℕ → List ℕ) → Type 0
 NextResolvesHashRequest dig = (old new : EngineState) (key : PeerKey) (place : ℕ) (p : PeerState)
     (calls : DeviceCalls) (out : Output) (event : WireEvent) (rest : Stream) → IsOnlyPeer old key place p
-    → Takes p.stream event rest → out.close ≡ None → Step dig old (Next key) calls (of_next (Ok (Some out))) new
+    → Takes p.stream event rest → out.close ≡ None
+    → Step dig old (Next key) calls (of_next (Ok (Some out))) new
     → (q : PeerState) × IsPeer new key place q × IsResolved (of_next (Ok (Some out))) key event p.hash q.hash
 
 -- ---- blocks that wait
