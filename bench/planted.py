@@ -1,13 +1,13 @@
 #!/usr/bin/env python3
-"""Tries the planted bugs: wrong bodies beside those of `must-fail`, of clauses that an edit there shows already.
+"""Tries the planted bugs: wrong bodies that `rt ci` does not try, since for most an edit of `must-fail` breaks the same clause.
 
     python3 bench/planted.py [CRATE..]
 
 The last commit is copied to a temporary folder. There the edits of `planted/CRATE` take the place of those of
 `crates/CRATE/must-fail`, and `rt must-fail` tries them: of all crates that have any, or of those that are named. An edit takes 20
-to 60 seconds of a processor, and a crate that was never checked on this machine its proof besides. Printed are those that were
-refused, each with the first goal that was left, those that were not, those that were not tried, and those that are no edits any
-more, since the code that they change is not there as it was. The status is 0 where all were refused, else 1.
+to 60 seconds of a processor, all of them more than an hour, and a crate that no check on this machine has proved its proof besides.
+Printed are those that were refused, each with the first goal that was left, those that were not, those that were not tried, and
+those that are no edits any more, since the text that they change does not stand there. The status is 0 where all were refused, else 1.
 """
 
 import collections
