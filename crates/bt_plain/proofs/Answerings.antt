@@ -1,14 +1,14 @@
 -- What is answered to a wire event is a step: the tables tell the engine also where its hints are pending.
-use Rattle.bt_engine.proofs.Base.{◌≡◌, ◌∙◌, ℕ, List, ◌++◌, map, Some, None, Ok, refl, sym, ap}
+use Rattle.bt_machine.proofs.Base.{◌≡◌, ◌∙◌, ℕ, List, ◌++◌, map, Some, None, Ok, refl, sym, ap}
 use Rattle.bt_meta.specs.Torrent.{Metainfo}
 use Rattle.bt_sparse.specs.SparseTree.{Facts}
-use Rattle.bt_engine.specs.State.{PeerState, EngineState, Hint}
-use Rattle.bt_engine.specs.Devices.{DeviceCalls}
-use Rattle.bt_engine.specs.Output.{Sent, Effect, haves, sent_to}
-use Rattle.bt_engine.specs.declared.answer.Note.TheVariants.{Complete}
-use Rattle.bt_engine.specs.Blocks.{new_complete_files}
-use Rattle.bt_engine.specs.FollowUp.{FollowsUp}
-use Rattle.bt_engine.specs.Next.{IsPeer, TakesEvent, StepNext, goes_on, with_pending}
+use Rattle.bt_machine.specs.State.{PeerState, EngineState, Hint}
+use Rattle.bt_machine.specs.Devices.{DeviceCalls}
+use Rattle.bt_machine.specs.Output.{Sent, Effect, haves, sent_to}
+use Rattle.bt_machine.specs.declared.answer.Note.TheVariants.{Complete}
+use Rattle.bt_machine.specs.Blocks.{new_complete_files}
+use Rattle.bt_machine.specs.FollowUp.{FollowsUp}
+use Rattle.bt_machine.specs.Next.{IsPeer, TakesEvent, StepNext, goes_on, with_pending}
 use Rattle.bt_plain.specs.declared.table.Row.{Row}
 use Rattle.bt_plain.specs.declared.answering.Answered.{Answered}
 use Rattle.bt_plain.specs.Table.{IsTable}

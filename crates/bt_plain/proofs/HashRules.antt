@@ -1,10 +1,10 @@
 -- The hash request that rows tell is the machine's.
-use Rattle.bt_engine.proofs.Base.{◌≡◌, ℕ, ◌<◌, ◌⊎◌, inl, inr, true, false, List, take, Option, Some, None, refl, sym, ap, ◌∙◌, subst, arith, slice_get, ◌&&◌, Contains, is_some, IsSome, CoversBlock, value_covers, lt-ltb, real_limit}
+use Rattle.bt_machine.proofs.Base.{◌≡◌, ℕ, ◌<◌, ◌⊎◌, inl, inr, true, false, List, take, Option, Some, None, refl, sym, ap, ◌∙◌, subst, arith, slice_get, ◌&&◌, Contains, is_some, IsSome, CoversBlock, value_covers, lt-ltb, real_limit}
 use Rattle.std.specs.Prelude.{not, nat_lt, IsNone, IfSome, ◌↔◌}
 use Rattle.std.specs.List.{list_any}
 use Rattle.std.proofs.lemmas.List.Folds.{list_any_at}
-use Rattle.bt_engine.proofs.Lists.{and_true, some_is, some_not_none, and_then_some, some_below}
-use Rattle.bt_engine.proofs.Pairs.{Pairs, contains_some}
+use Rattle.bt_machine.proofs.Lists.{and_true, some_is, some_not_none, and_then_some, some_below}
+use Rattle.bt_machine.proofs.Pairs.{Pairs, contains_some}
 use Rattle.bt_sparse.specs.SparseTree.{Facts, blocks_of, value_at, held_at}
 use Rattle.bt_hashreq.specs.Request.{IsPlan}
 use Rattle.bt_hashreq.specs.declared.key.HashKey.{HashKey}
@@ -13,9 +13,9 @@ use Rattle.bt_store.specs.declared.block_states.BlockState.{BlockState}
 use Rattle.bt_store.specs.declared.block_states.BlockState.TheVariants.{Missing, Waiting, Marked}
 use Rattle.bt_book.specs.declared.names.BlockId.{BlockId}
 use Rattle.bt_book.specs.Blocks.{IsBefore}
-use Rattle.bt_engine.specs.State.{Idle, EngineState, PeerState}
-use Rattle.bt_engine.specs.Blocks.{state_at, tree_of, Has}
-use Rattle.bt_engine.specs.FollowUp.{NeedsLeaf, RequestsHashes, requests as requests_leaf}
+use Rattle.bt_machine.specs.State.{Idle, EngineState, PeerState}
+use Rattle.bt_machine.specs.Blocks.{state_at, tree_of, Has}
+use Rattle.bt_machine.specs.FollowUp.{NeedsLeaf, RequestsHashes, requests as requests_leaf}
 use Rattle.bt_plain.specs.declared.table.Row.{Row}
 use Rattle.bt_plain.specs.declared.table.Peer.{Peer}
 use Rattle.bt_plain.specs.Table.{IsTable, IsPeerOf, has_piece}

@@ -4,8 +4,8 @@ use Rattle.bt_sparse.specs.SparseTree.{Facts, blocks_of, value_at}
 use Rattle.bt_hashreq.specs.declared.key.HashKey.{HashKey}
 use Rattle.bt_store.specs.BlockStates.{is_marked}
 use Rattle.bt_wire.specs.declared.message.Message.TheVariants.{HashRequest}
-use Rattle.bt_engine.specs.State.{Asked, PeerState, FileState, EngineState}
-use Rattle.bt_engine.specs.Output.{Sent, sent_to}
+use Rattle.bt_machine.specs.State.{Asked, PeerState, FileState, EngineState}
+use Rattle.bt_machine.specs.Output.{Sent, sent_to}
 use Rattle.bt_plain.specs.Table.{has_piece}
 use Rattle.bt_plain.specs.declared.table.Row.{Row}
 use Rattle.bt_plain.specs.declared.table.Peer.{Peer}

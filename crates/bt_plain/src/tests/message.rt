@@ -2,7 +2,7 @@
 
 use crate::{Peer, take_message};
 use bt_book::BlockId;
-use bt_engine::Why;
+use bt_machine::Why;
 use bt_wire::{Bytes, Message};
 use std::alloc::{AllocError, Global};
 use std::test::Fail;

@@ -5,7 +5,7 @@ ghost use Rattle.std.specs.Bool.{OnTrue};
 
 use crate::{Served, serve};
 use bt_disk::{FaultDisk, MemoryDisk};
-use bt_engine::{Note, Why};
+use bt_machine::{Note, Why};
 use bt_meta::{Made, Torrent, make, read_torrent};
 use bt_sparse::{Claim, Digests, SparseTree};
 use bt_store::FileStore;

@@ -3,7 +3,7 @@
 use crate::settle_blocks;
 use bt_book::BlockId;
 use bt_disk::MemoryDisk;
-use bt_engine::Note;
+use bt_machine::Note;
 use bt_sparse::{Claim, Digests, SparseTree};
 use bt_store::{BlockState, FileStore};
 use bt_tree::{BLOCK_LEN, Geometry, Hash32, NodeHash, Plain};

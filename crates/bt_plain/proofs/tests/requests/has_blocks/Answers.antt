@@ -1,4 +1,4 @@
-use Rattle.bt_engine.proofs.Base.{ℕ, ◌+◌, ◌<◌, List, length, get_or, subst, get_or_default}
+use Rattle.bt_machine.proofs.Base.{ℕ, ◌+◌, ◌<◌, List, length, get_or, subst, get_or_default}
 use Rattle.std.specs.List.{AllWithin}
 use Rattle.std.proofs.lemmas.List.Elements.{AllWithin-more}
 use Rattle.bt_book.specs.declared.names.BlockId.{BlockId}
