@@ -1,5 +1,5 @@
 -- How what a file's device has already is taken in: what it marks, and what becomes of trees.
-use Rattle.bt_machine.proofs.Base.{◌≡◌, ◌≢◌, ℕ, ◌⊎◌, inl, inr, Bool, true, false, not, [], ◌∷◌, Some, refl, sym, ap, ◌∙◌, subst, slice_get, option_map, Contains, flat_map, option_and_then, eq-eqb, Contains-append_left, Contains-append_right, Call, Facts, given, call_of, IsRight, Marked, Adopted, Extends, store_marks, adopt_extends, BlockId}
+use Rattle.bt_machine.proofs.Base.{◌≡◌, ◌≢◌, ℕ, ◌⊎◌, inl, inr, Bool, true, false, not, ◌∷◌, Some, refl, sym, ap, ◌∙◌, subst, slice_get, option_map, Contains, flat_map, option_and_then, eq-eqb, Contains-append_left, Contains-append_right, Call, Facts, given, call_of, IsRight, Marked, Adopted, Extends, store_marks, adopt_extends, BlockId}
 use Rattle.bt_machine.proofs.Machine.{Digest, Adopt, FileState, EngineState, reads_at, state_at, IsFile, judged_file, SettlesIn, AdoptsGroup, AdoptsGroups, is_other, AdoptsFile, StopsAdopting, StepAdopt, no_file, busy, empty, adopts, not_adopted as no_memory, IsFound, IsMarkedBy, read_back, found}
 use Rattle.bt_machine.proofs.Lists.{set_same, set_other, map_contains, and_then_some}
 use Rattle.bt_machine.proofs.Marks.{state_is, file_marked, settle_marks}
@@ -77,8 +77,6 @@ module _ (dig : Digest) where
   -- ---- marks
 
   module _ (b : BlockId) where
-    found_is : {file : ℕ} → Adopt file ≡ Adopt b.file → file ≡ b.file
-    found_is e = cc
 
     -- a block that was found in some calls is found in more of them, and in a later engine
     found_later : {file calls more mid new : _} → ((c : ℕ × Call) → Contains calls c → Contains more c)

@@ -1,20 +1,19 @@
 -- The names of the library and of the crates below that proofs cite, in one place.
 pub use Rattle.std.specs.Cmp.Lexicographic.{pointwise}
-pub use Rattle.std.specs.Int.{w32, to_be_bytes}
-pub use Rattle.std.specs.List.{range_with_len, AllPairs, concat, list_all, AllZip, count_by}
+pub use Rattle.std.specs.List.{range_with_len, AllPairs, list_all}
 pub use Rattle.std.specs.Option.{option_and_then, option_map_or}
-pub use Rattle.std.specs.Prelude.{slice_get, Contains, slice_set, option_map, ◌==◌, if◌then◌else◌, ◌&&◌, flat_map, filter, ⊤, cond, slice_index_or, is_some, All, IsSome, nat_eq, sum_by, slice_index}
+pub use Rattle.std.specs.Prelude.{slice_get, Contains, slice_set, option_map, ◌==◌, if◌then◌else◌, ◌&&◌, flat_map, filter, ⊤, cond, is_some, All, IsSome, nat_eq, sum_by, slice_index}
 pub use Rattle.std.specs.Simd.{first_chunks}
-pub use Rattle.std.proofs.Common.{◌≡◌, ℕ, List, sym, ap, ◌∙◌, [], Some, subst, refl, ◌∷◌, inl, inr, length, arith, false, true, ◌++◌, suc, zero, Ok, ◌⊎◌, ◌<◌, ◌+◌, map, ◌≢◌, Bool, None, ◌*◌, ◌≤◌, Result, Err, Option, ◌-◌, get_or, drop, take, ◌/◌, ◌^◌, not, ◌%◌, ◌↔◌, replicate, min, length-drop, append_assoc, rules, pow-suc}
-pub use Rattle.std.proofs.Math.Nat.{div-add-mod, mod-lt, add_left_cancel, mul_assoc, add-mul, div-div-eq-div-mul, mul-mod_left, lt_of_mul-lt-mul_right, mul-le-mul_right}
+pub use Rattle.std.proofs.Common.{◌≡◌, ℕ, List, sym, ap, ◌∙◌, [], Some, subst, refl, ◌∷◌, inl, inr, length, arith, false, true, ◌++◌, suc, zero, Ok, ◌⊎◌, ◌<◌, ◌+◌, map, ◌≢◌, Bool, None, ◌*◌, ◌≤◌, Result, Err, Option, ◌-◌, get_or, drop, take, ◌/◌, ◌^◌, not, ◌%◌, replicate, min, length-drop, pow-suc}
+pub use Rattle.std.proofs.Math.Nat.{div-add-mod, mul_assoc, add-mul, div-div-eq-div-mul, mul-mod_left, lt_of_mul-lt-mul_right, mul-le-mul_right}
 pub use Rattle.std.proofs.Math.Seq.{take-append-add}
 pub use Rattle.std.proofs.lemmas.Bool.{cases_lt, eq-eqb, eqb-true, lt-ltb, le-ltb}
 pub use Rattle.std.proofs.lemmas.Grind.{div_ceil_times, same_number_lists}
-pub use Rattle.std.proofs.lemmas.List.{length-append, append-nil, length-map, length-take, length-replicate, length-take-le, get_or-take, length-set, take-take, append_cancel_left, ext_get_or, drop-append-le, take_at, drop_at, get_or_default, get_or-map, get_or-drop, get_or_append_left, get_or-append_right}
+pub use Rattle.std.proofs.lemmas.List.{length-append, append-nil, length-map, length-take, length-replicate, length-take-le, get_or-take, length-set, take-take, get_or_default, get_or-map, get_or-drop, get_or_append_left, get_or-append_right}
 pub use Rattle.std.proofs.lemmas.List.Elements.{Contains-append_cases, Contains-append_left, Contains-append_right, filter-append, All-get_or}
 pub use Rattle.std.proofs.lemmas.List.FromFn.{length-range_with_len, get_or-range_with_len}
 pub use Rattle.std.proofs.lemmas.List.Kept.{AllPairs-filter}
-pub use Rattle.std.proofs.lemmas.List.Sums.{length-filter, count_by-le-length, sum_by_more_le, sum_by-cons}
+pub use Rattle.std.proofs.lemmas.List.Sums.{length-filter, count_by-le-length, sum_by_more_le}
 pub use Rattle.std.proofs.lemmas.Nat.{div-mul-add, pow-add, pow_pos}
 pub use Rattle.bt_tree.proofs.ComparisonClash.{same_or_clash}
 pub use Rattle.bt_tree.proofs.ComparisonTwins.{same_bytes}
@@ -25,7 +24,7 @@ pub use Rattle.bt_tree.specs.Limits.{full_block_length}
 pub use Rattle.bt_tree.specs.NodeHash.{IsDigest}
 pub use Rattle.bt_tree.specs.Peaks.{row_node}
 pub use Rattle.bt_tree.specs.Tree.{padding_digest, file_root, node_digest}
-pub use Rattle.bt_tree.specs.TreeShape.{CoversBlock, real_width, IsPadding, height_of, IsInside}
+pub use Rattle.bt_tree.specs.TreeShape.{CoversBlock, real_width, height_of, IsInside}
 pub use Rattle.bt_meta.specs.Files.{File, piece_count}
 pub use Rattle.bt_meta.specs.Place.{IsPlace}
 pub use Rattle.bt_meta.specs.Torrent.{IsLaidOut, Metainfo, IsLawful, total_pieces, IsLawfulFile}
@@ -34,33 +33,19 @@ pub use Rattle.bt_sparse.proofs.Answers.{value_above}
 pub use Rattle.bt_sparse.proofs.Claims.{claimed_inside, double_div, half_sibling}
 pub use Rattle.bt_sparse.proofs.Joins.{keeps_rooted}
 pub use Rattle.bt_sparse.proofs.LayerNodes.{layer_real, layer_past, layer_folds, filled_sound}
-pub use Rattle.bt_sparse.proofs.NodeMaps.{digest_at_new, same_map, digest_at_cases, digest_at_empty, digest_at_other}
 pub use Rattle.bt_sparse.proofs.Paths.{held_is_checked}
-pub use Rattle.bt_sparse.proofs.Single.{claims_one}
 pub use Rattle.bt_sparse.proofs.Values.{value_covers, value_padding, cases_node, value_inside, root_sound}
-pub use Rattle.bt_sparse.specs.Acceptance.{Accepts, IsRefused, IsAcceptable, top_differs, shape, padding, no_anchor, clash, no_memory as refused_memory, DiffersBelow, IsHighestClash, IsJoined}
-pub use Rattle.bt_sparse.specs.Anchor.{IsAnchor}
-pub use Rattle.bt_sparse.specs.Answer.{IsAnswer, IsRequest, claim_of, answer_size, answer_layer, answer_index}
-pub use Rattle.bt_sparse.specs.Claim.{Claims, in_run, on_path, uncle, top_digest, run_digest, HasShape, top_layer, top_node, IsInRun, IsOnPath, sibling_of}
+pub use Rattle.bt_sparse.specs.Acceptance.{Accepts}
+pub use Rattle.bt_sparse.specs.Answer.{IsRequest, answer_size, answer_layer, answer_index}
+pub use Rattle.bt_sparse.specs.Claim.{in_run, run_digest, sibling_of}
 pub use Rattle.bt_sparse.specs.Layer.{layer_digest, HoldsLayer}
 pub use Rattle.bt_sparse.specs.LayerSteps.{IsWhole}
-pub use Rattle.bt_sparse.specs.NodeMap.{Nodes, digest_at}
-pub use Rattle.bt_sparse.specs.SparseTree.{Facts, value_at, blocks_of, height, held_at, root_facts, IsRooted, IsChecked}
+pub use Rattle.bt_sparse.specs.SparseTree.{Facts, value_at, blocks_of, height, held_at, IsRooted, IsChecked}
 pub use Rattle.bt_sparse.specs.declared.claim.Claim.{Claim}
-pub use Rattle.bt_sparse.specs.declared.claim.ProofError.{ProofError}
-pub use Rattle.bt_sparse.specs.declared.claim.ProofError.TheVariants.{OutOfMemory, Clash, TopDiffers}
 pub use Rattle.bt_hashreq.proofs.ClaimRun.{height_of-pow}
-pub use Rattle.bt_hashreq.specs.Claim.{IsClaimBy, IsNoClaim, shape as no_shape, count as no_count, no_memory as claim_memory, digests_in}
-pub use Rattle.bt_hashreq.specs.Key.{IsKey, key_spelling}
-pub use Rattle.bt_hashreq.specs.Request.{IsPlan, planned_key, max_run_height}
+pub use Rattle.bt_hashreq.specs.Claim.{IsClaimBy}
+pub use Rattle.bt_hashreq.specs.Request.{planned_key, max_run_height}
 pub use Rattle.bt_hashreq.specs.declared.key.HashKey.{HashKey}
-pub use Rattle.bt_wire.proofs.Events.{same_event, event_frame}
-pub use Rattle.bt_wire.proofs.Faults.{fault_alone, one_fault}
-pub use Rattle.bt_wire.specs.Cutter.{Stream, stream, Takes, Waits, fed, Fails}
-pub use Rattle.bt_wire.specs.Event.{HasNoEvent, ShowsNoFault}
-pub use Rattle.bt_wire.specs.Handshake.{handshake_spelling}
-pub use Rattle.bt_wire.specs.Message.{message_spelling, Fits, IsMessage, Body, frame_spelling}
-pub use Rattle.bt_wire.specs.declared.event.WireError.TheVariants.{TooLong, BadLength}
 pub use Rattle.bt_wire.specs.declared.event.WireEvent.{WireEvent}
 pub use Rattle.bt_wire.specs.declared.event.WireEvent.TheVariants.{Message, Hello, Skipped}
 pub use Rattle.bt_wire.specs.declared.message.Ask.{Ask}
@@ -71,11 +56,10 @@ pub use Rattle.bt_disk.specs.Calls.{bytes_written, Call, write_fault, bytes_give
 pub use Rattle.bt_disk.specs.History.{History, after_write}
 pub use Rattle.bt_disk.specs.State.{IsImage, written, IsTornWrite}
 pub use Rattle.bt_store.proofs.AdoptionMarks.{adopt_marks as store_marks, adopt_extends}
-pub use Rattle.bt_store.specs.Adoption.{none, known, accepted, refused as not_accepted, short, unread, Adopts, IsUnknownGroup, claim_of_reads, IsKnownGroup, marked_run, claimed_digest}
-pub use Rattle.bt_store.specs.Arrival.{states_after_put, PutIsDue, calls_of_put, IsWrong}
+pub use Rattle.bt_store.specs.Adoption.{none, known, accepted, refused as not_accepted, short, unread, Adopts, IsUnknownGroup, claim_of_reads, claimed_digest}
+pub use Rattle.bt_store.specs.Arrival.{states_after_put, PutIsDue, calls_of_put}
 pub use Rattle.bt_store.specs.BlockReads.{BlockRead, given, IsRight, failed, block_of, call_of, is_right, judged, is_leaf, fault_count, is_fault, right_count}
 pub use Rattle.bt_store.specs.BlockStates.{is_marked, is_waiting}
-pub use Rattle.bt_store.specs.FileStore.{new_states}
 pub use Rattle.bt_store.specs.Law.{Extends}
 pub use Rattle.bt_store.specs.Review.{is_waiting_at, waiting_blocks}
 pub use Rattle.bt_store.specs.declared.adoption.Adopted.{Adopted}
@@ -85,7 +69,6 @@ pub use Rattle.bt_store.specs.declared.block_states.BlockState.{BlockState}
 pub use Rattle.bt_store.specs.declared.block_states.BlockState.TheVariants.{Missing, Marked, Waiting}
 pub use Rattle.bt_store.specs.declared.error.StoreError.{StoreError}
 pub use Rattle.bt_store.specs.declared.error.StoreError.TheVariants.{Range, Device as DeviceFault}
-pub use Rattle.bt_book.proofs.Ranks.{same_peer}
 pub use Rattle.bt_book.specs.Blocks.{is_block}
 pub use Rattle.bt_book.specs.Book.{without_block, max_peers}
 pub use Rattle.bt_book.specs.declared.names.BlockId.{BlockId}

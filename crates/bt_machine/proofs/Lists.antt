@@ -1,5 +1,6 @@
 -- Lists of which one element is set, and what lists contain.
-use Rattle.bt_machine.proofs.Base.{◌≡◌, ◌≢◌, ℕ, zero, suc, ◌+◌, ◌<◌, ◌≤◌, ◌⊎◌, inl, inr, Bool, true, false, List, [], ◌∷◌, length, map, Option, Some, None, refl, sym, ap, ◌∙◌, subst, arith, IsSome, slice_get, slice_set, option_map, Contains, filter, flat_map, ◌&&◌, cond, option_and_then, range_with_len, length-range_with_len, get_or-range_with_len, Contains-append_left, Contains-append_right, Contains-append_cases}
+use Rattle.bt_machine.proofs.Base.{◌≡◌, ◌≢◌, ℕ, zero, suc, ◌+◌, ◌<◌, ◌≤◌, ◌⊎◌, inl, inr, Bool, true, false, List, ◌∷◌, length, map, Option, Some, None, refl, sym, ap, ◌∙◌, subst, arith, IsSome, slice_get, slice_set, option_map, Contains, filter, flat_map, ◌&&◌, cond, option_and_then, range_with_len, length-range_with_len, get_or-range_with_len, Contains-append_left, Contains-append_right, Contains-append_cases}
+use Rattle.bt_machine_checks.proofs.AnswerSends.{set_other}
 
 pub heads : {X : Type 0} {x y : X} {xs ys : List X} → x ∷ xs ≡ y ∷ ys → x ≡ y
 heads e = cc
@@ -140,3 +141,16 @@ pub set_id : {X : Type 0} (xs : List X) (i : ℕ) {x : X} → slice_get xs i ≡
 set_id [] i e = refl
 set_id (y ∷ xs) zero e = cc
 set_id (y ∷ xs) (suc i) e = ap (λ ys. y ∷ ys) (set_id xs i e)
+
+-- ---- lists
+
+pub filter_contains : {X : Type 0} (test : X → Bool) (xs : List X) {x : X} → Contains xs x → test x ≡ true → Contains (filter test xs) x
+filter_contains test [] c e = absurd (contains_none c)
+filter_contains test (y ∷ xs) {x} c e = by _ refl (contains_cases xs c) (λ more. filter_contains test xs more e)
+  where
+    by : (b : Bool) → test y ≡ b → (y ≡ x) ⊎ Contains xs x → (Contains xs x → Contains (filter test xs) x)
+        → Contains (cond b (y ∷ filter test xs) (filter test xs)) x
+    by true is (inl same) rest = here _ same
+    by true is (inr more) rest = later y _ (rest more)
+    by false is (inl same) rest = absurd cc
+    by false is (inr more) rest = rest more

@@ -1,6 +1,6 @@
 -- A step marks a block by bytes of that step alone.
-use Rattle.bt_machine.proofs.Base.{◌≡◌, ◌≢◌, ℕ, ◌+◌, ◌*◌, ◌<◌, ◌≤◌, ◌⊎◌, inl, inr, Bool, true, false, List, [], ◌∷◌, length, Some, refl, sym, ap, ◌∙◌, slice_get, slice_set, Contains, Result, Ok, Err, ◌==◌, if◌then◌else◌, option_and_then, range_with_len, eqb-true, full_block_length, Facts, Accepts, Claim, bytes_written, IsClaimBy, HashKey, IsRight, PutIsDue, states_after_put, Marked, StoreError, Put, Already, Wrong, PutMarked, PutWaiting, BlockId, PeerMessage as Sent, KeepAlive, Choke, Unchoke, Interested, NotInterested, Have, Bitfield, Request, Piece, Cancel, HashRequest, Hashes, HashReject, WireEvent, Hello, Message, Skipped}
-use Rattle.bt_machine.proofs.Machine.{Digest, Event, Connect, Feed, Next, Lost, Rechoke, Adopt, Flush, PeerState, FileState, EngineState, DeviceCalls, state_at, tree_of, with_file, with_peer, with_tree, IsWholeBlock, FindsFault, damaged, fault, HandlesRequest, ignored, no_place, not_marked, served, stopped, Arrives, HandlesPiece, stale, arrives, IsTreeOf, settled_count, HandlesHashes, unknown_root, no_claim, refused, learns, HandlesHave, in_range, out_of_range, HandlesBitfield, right, wrong, HandlesMessage, Handles, IsPeer, TakesEvent, StepNext, no_peer, waits, goes_on, closes, faulty, no_memory, StepConnect, joins, full, spent, no_room, StepFeed, feeds, not_fed, no_room as no_room_to_feed, StepLost, goes, not_fed as not_lost, FollowsEach, StepRechoke, rechokes, not_rechoked, StepFlush, syncs, fails, Answer, Step, Run, IsMarkedBy, brought, read_back, IsSoAt, IsMarkedIn}
+use Rattle.bt_machine.proofs.Base.{◌≡◌, ◌≢◌, ℕ, ◌+◌, ◌*◌, ◌<◌, ◌≤◌, ◌⊎◌, inl, inr, Bool, true, false, List, ◌∷◌, length, Some, refl, sym, ap, ◌∙◌, slice_get, slice_set, Contains, Result, Ok, Err, ◌==◌, if◌then◌else◌, option_and_then, range_with_len, eqb-true, full_block_length, Facts, Accepts, Claim, bytes_written, IsClaimBy, HashKey, IsRight, PutIsDue, states_after_put, Marked, StoreError, Put, Already, Wrong, PutMarked, PutWaiting, BlockId, PeerMessage as Sent, KeepAlive, Choke, Unchoke, Interested, NotInterested, Have, Bitfield, Request, Piece, Cancel, HashRequest, Hashes, HashReject, WireEvent, Hello, Message, Skipped}
+use Rattle.bt_machine.proofs.Machine.{Digest, Event, Connect, Feed, Next, Lost, Rechoke, Adopt, Flush, PeerState, FileState, EngineState, DeviceCalls, state_at, tree_of, with_file, with_peer, with_tree, IsWholeBlock, FindsFault, damaged, fault, HandlesRequest, ignored, no_place, not_marked, served, stopped, Arrives, HandlesPiece, stale, arrives, IsTreeOf, settled_count, HandlesHashes, unknown_root, no_claim, refused, learns, HandlesHave, in_range, out_of_range, HandlesBitfield, right, wrong, HandlesMessage, Handles, IsPeer, TakesEvent, StepNext, no_peer, waits, goes_on, closes, faulty, no_memory, StepConnect, joins, full, spent, no_room, StepFeed, feeds, not_fed, no_room as no_room_to_feed, StepLost, goes, not_fed as not_lost, FollowsEach, StepRechoke, rechokes, not_rechoked, StepFlush, syncs, fails, Answer, Step, Run, StepMarksByBytes, IsMarkedBy, brought, read_back, IsSoAt, IsMarkedIn}
 use Rattle.bt_machine.proofs.Lists.{contains_none, range_limits, set_cases, set_same}
 use Rattle.bt_machine.proofs.Marks.{state_is, file_marked, missing_marks, IsSettled, settle_marks}
 use Rattle.bt_machine.proofs.Adopting.{adopt_marks}
@@ -263,8 +263,7 @@ module _ (dig : Digest) (b : BlockId) where
   step_cases s new (Adopt file) calls a t m = adopt_marks dig b t.2 m
   step_cases s new Flush calls a t m = inl (flush_marks t.2 m)
 
-pub step_marks : {dig : _} (s new e calls a : _) → Step dig s e calls a new
-    → (b : _) → state_at new b ≡ Some Marked → state_at s b ≢ Some Marked → IsMarkedBy dig s e calls new b
+pub step_marks : {dig : Digest} → StepMarksByBytes dig
 step_marks {dig} s new e calls a t b m before = elim (step_cases dig b s new e calls a t m) [ inl old ↦ absurd (before old) | inr now ↦ now ]
 
 -- one event further on

@@ -1,6 +1,6 @@
 -- How blocks become marked.
-use Rattle.bt_machine.proofs.Base.{◌≡◌, ℕ, ◌⊎◌, inl, inr, Bool, true, false, List, [], ◌∷◌, length, Option, Some, None, refl, sym, ap, ◌∙◌, slice_get, slice_set, Contains, ◌&&◌, ◌==◌, is_some, nat_eq, if◌then◌else◌, option_map_or, range_with_len, pointwise, eqb-true, block_length, same_bytes, Facts, value_at, is_waiting, BlockRead, given, failed, block_of, call_of, is_leaf, is_right, IsRight, judged, waiting_blocks, is_waiting_at, BlockState, Missing, Waiting, Marked, BlockId}
-use Rattle.bt_machine.proofs.Machine.{Digest, FileState, EngineState, DeviceCalls, reads_at, state_at, tree_of, with_file, file_numbers, judged_file, due_blocks, SettlesIn}
+use Rattle.bt_machine.proofs.Base.{◌≡◌, ℕ, ◌⊎◌, inl, inr, Bool, true, false, List, ◌∷◌, length, Option, Some, None, refl, sym, ap, ◌∙◌, slice_get, slice_set, Contains, ◌&&◌, ◌==◌, is_some, nat_eq, if◌then◌else◌, option_map_or, range_with_len, pointwise, eqb-true, block_length, same_bytes, Facts, value_at, is_waiting, BlockRead, given, failed, block_of, call_of, is_leaf, is_right, IsRight, judged, waiting_blocks, is_waiting_at, BlockState, Missing, Waiting, Marked, BlockId, eq-eqb}
+use Rattle.bt_machine.proofs.Machine.{Digest, FileState, EngineState, DeviceCalls, reads_at, state_at, tree_of, with_file, file_numbers, judged_file, due_blocks, SettlesIn, right, wrong}
 use Rattle.bt_machine.proofs.Lists.{set_cases, and_then_some, map_some, and_true, here, later, contains_none, contains_filter, map_contains, flat_map_contains, some_below, range_contains}
 
 pub state_is : (s : EngineState) (c : BlockId) {f x : _} → slice_get s.files c.file ≡ Some f → slice_get f.states c.block ≡ Some x → state_at s c ≡ Some x
@@ -138,3 +138,12 @@ settle_marks {dig} {is_meant} {old} {new} s {b} e =
             right = g.right;
           })
     ]
+
+same_leaf : (d : _) → pointwise nat_eq d d ≡ true
+same_leaf [] = refl
+same_leaf (x ∷ d) = rw (eq-eqb x x refl) (same_leaf d)
+
+-- right bytes are told to be right
+pub right_true : {dig k i bytes : _} → IsRight dig k i bytes → is_right dig k i bytes ≡ true
+right_true {dig} {k} {i} {bytes} r =
+    rw (eq-eqb (length bytes) (block_length k.file_length i) r.whole) (ap (λ o. is_leaf o (dig bytes)) r.leaf ∙ same_leaf (dig bytes))

@@ -1,5 +1,5 @@
 -- Lists in which a relation holds of each element and each later one.
-use Rattle.bt_machine.proofs.Base.{◌≡◌, ◌≢◌, ℕ, zero, suc, ◌+◌, ◌<◌, ◌≤◌, ◌⊎◌, inl, inr, List, [], ◌∷◌, ◌++◌, length, map, take, drop, get_or, Some, refl, sym, ap, ◌∙◌, arith, slice_get, slice_set, Contains, ⊤, AllPairs, get_or_default, Contains-append_cases}
+use Rattle.bt_machine.proofs.Base.{◌≡◌, ◌≢◌, ℕ, zero, suc, ◌+◌, ◌<◌, ◌≤◌, ◌⊎◌, inl, inr, List, ◌∷◌, ◌++◌, length, map, take, drop, get_or, Some, refl, sym, ap, ◌∙◌, arith, slice_get, slice_set, Contains, ⊤, AllPairs, get_or_default, Contains-append_cases}
 use Rattle.bt_machine.proofs.Lists.{same_some, here, later, contains_none, contains_cases, contains_map}
 
 -- the same by recursion on the list
@@ -82,15 +82,6 @@ contains_removed [] i c = c
 contains_removed (x ∷ xs) zero c = later x xs c
 contains_removed (x ∷ xs) (suc i) c = elim (contains_cases _ c) [ inl e ↦ here xs e | inr more ↦ later x xs (contains_removed xs i more) ]
 
--- what is another stays
-kept_removed : {X : Type 0} (xs : List X) (i : ℕ) {x y : X} → slice_get xs i ≡ Some x → (x ≡ y → ⊥) → Contains xs y → Contains (removed xs i) y
-kept_removed [] i at apart c = absurd (contains_none c)
-kept_removed (z ∷ xs) zero {x} {y} at apart c = elim (contains_cases xs c) [
-  | inl same ↦ (let is : x ≡ y = cc in absurd (apart is))
-  | inr more ↦ more
-]
-kept_removed (z ∷ xs) (suc i) at apart c = elim (contains_cases xs c) [ inl same ↦ here (removed xs i) same | inr more ↦ later z (removed xs i) (kept_removed xs i at apart more) ]
-
 pairs_removed : {X : Type 0} (R : X → X → Type 0) (xs : List X) (i : ℕ) → Pairs R xs → Pairs R (removed xs i)
 pairs_removed R [] i p = p
 pairs_removed R (x ∷ xs) zero p = p.1
@@ -100,23 +91,8 @@ length-removed : {X : Type 0} (xs : List X) (i : ℕ) → length (removed xs i) 
 length-removed (x ∷ xs) (suc i) = let le = length-removed xs i in omega arith
 length-removed _ _ = omega arith
 
--- what is left stood at another place
-other_removed : {X : Type 0} (xs : List X) (i j : ℕ) {x : X} → slice_get (removed xs i) j ≡ Some x → (n : ℕ) × (slice_get xs n ≡ Some x) × (n ≢ i)
-other_removed [] i zero e = absurd cc
-other_removed [] i (suc j) e = absurd cc
-other_removed (y ∷ xs) zero j e = (suc j, e, λ f. absurd (omega arith))
-other_removed (y ∷ xs) (suc i) zero e = (0, e, λ f. absurd (omega arith))
-other_removed (y ∷ xs) (suc i) (suc j) e = let r = other_removed xs i j e in (suc r.0, r.1, λ f. r.2 (omega arith))
-
-pub other_without : {X : Type 0} (xs : List X) (i j : ℕ) {x : X} → slice_get (take i xs ++ drop (i + 1) xs) j ≡ Some x
-    → (n : ℕ) × (slice_get xs n ≡ Some x) × (n ≢ i)
-other_without xs i j e = other_removed xs i j (ap (λ ys. slice_get ys j) (sym (removed_is xs i)) ∙ e)
-
 pub contains_without : {X : Type 0} (xs : List X) (i : ℕ) {y : X} → Contains (take i xs ++ drop (i + 1) xs) y → Contains xs y
 contains_without xs i {y} c = contains_removed xs i (rw (← (removed_is xs i)) c)
-
-pub kept_without : {X : Type 0} (xs : List X) (i : ℕ) {x y : X} → slice_get xs i ≡ Some x → (x ≡ y → ⊥) → Contains xs y → Contains (take i xs ++ drop (i + 1) xs) y
-kept_without xs i at apart c = rw (removed_is xs i) (kept_removed xs i at apart c)
 
 pub pairs_without : {X : Type 0} (R : X → X → Type 0) (xs : List X) (i : ℕ) → Pairs R xs → Pairs R (take i xs ++ drop (i + 1) xs)
 pairs_without R xs i p = rw (removed_is xs i) (pairs_removed R xs i p)

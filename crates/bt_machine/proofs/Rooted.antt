@@ -1,6 +1,6 @@
 -- Trees stay rooted.
-use Rattle.bt_machine.proofs.Base.{◌≡◌, ◌-◌, arith, inl, inr, [], ◌∷◌, sym, ◌<◌, ◌∙◌, blocks_of, height, IsRooted, IsChecked, keeps_rooted, held_is_checked, value_covers, CoversBlock, real_width, real_limit, IsRight, PeerMessage as Sent, Have, Bitfield, Request, Piece, Hashes, HashReject, Message}
-use Rattle.bt_machine.proofs.Machine.{Digest, Connect, Feed, Next, Lost, Rechoke, Adopt, Flush, with_tree, FindsFault, damaged, fault, HandlesRequest, ignored, no_place, not_marked, served, stopped, HandlesPiece, stale, arrives, HandlesHashes, unknown_root, no_claim, refused, learns, HandlesHave, in_range, out_of_range, HandlesBitfield, right, wrong, HandlesMessage, Handles, StepNext, no_peer, waits, goes_on, closes, faulty, no_memory, StepConnect, joins, full, spent, no_room, StepFeed, feeds, not_fed, no_room as no_room_to_feed, StepLost, goes, not_fed as not_lost, FollowsEach, StepRechoke, rechokes, not_rechoked, AdoptsGroup, AdoptsGroups, StepAdopt, no_file, busy, empty, adopts, not_adopted, StepFlush, syncs, fails, Step, Run, AreRooted, AreChecked}
+use Rattle.bt_machine.proofs.Base.{◌≡◌, ◌-◌, arith, inl, inr, ◌∷◌, sym, ◌<◌, ◌∙◌, blocks_of, height, IsRooted, IsChecked, keeps_rooted, held_is_checked, value_covers, CoversBlock, real_width, real_limit, IsRight, PeerMessage as Sent, Have, Bitfield, Request, Piece, Hashes, HashReject, Message}
+use Rattle.bt_machine.proofs.Machine.{Digest, Connect, Feed, Next, Lost, Rechoke, Adopt, Flush, with_tree, FindsFault, damaged, fault, HandlesRequest, ignored, no_place, not_marked, served, stopped, HandlesPiece, stale, arrives, HandlesHashes, unknown_root, no_claim, refused, learns, HandlesHave, in_range, out_of_range, HandlesBitfield, right, wrong, HandlesMessage, Handles, StepNext, no_peer, waits, goes_on, closes, faulty, no_memory, StepConnect, joins, full, spent, no_room, StepFeed, feeds, not_fed, no_room as no_room_to_feed, StepLost, goes, not_fed as not_lost, FollowsEach, StepRechoke, rechokes, not_rechoked, AdoptsGroup, AdoptsGroups, StepAdopt, no_file, busy, empty, adopts, not_adopted, StepFlush, syncs, fails, Step, Run, AreRooted, StepKeepsRooted, AreChecked}
 use Rattle.bt_machine.proofs.Lists.{set_cases}
 use Rattle.bt_machine.proofs.Adopting.{group_extends}
 
@@ -107,7 +107,7 @@ module _ (dig : Digest) where
   flush_rooted (syncs a b c e) r = as_before e r
   flush_rooted (fails before file after none a b c e) r = as_before e r
 
-  pub step_rooted : (s new e calls a : _) → Step dig s e calls a new → AreRooted dig s → AreRooted dig new
+  pub step_rooted : StepKeepsRooted dig
   step_rooted s new Connect calls a t r = connect_rooted t.3 r
   step_rooted s new (Feed key bytes) calls a t r = feed_rooted t.3 r
   step_rooted s new (Next key) calls a t r = next_rooted t.2 r

@@ -1,5 +1,5 @@
 -- Marked blocks stay right on honest devices.
-use Rattle.bt_machine.proofs.Base.{◌≡◌, ◌≢◌, ℕ, ◌*◌, ◌⊎◌, inl, inr, Bool, true, false, List, [], ◌∷◌, length, take, drop, Option, Some, refl, sym, ap, ◌∙◌, subst, slice_get, Contains, ◌==◌, eqb-true, eq-eqb, full_block_length, block_length, History, after_write, Call, bytes_given, bytes_written, write_fault, length_set, resize_fault, sync_made, AreAnswered, AfterWriteFault, Facts, value_at, given, call_of, IsRight, Missing, Marked}
+use Rattle.bt_machine.proofs.Base.{◌≡◌, ◌≢◌, ℕ, ◌*◌, ◌⊎◌, inl, inr, Bool, true, false, List, ◌∷◌, length, take, drop, Option, Some, refl, sym, ap, ◌∙◌, subst, slice_get, Contains, ◌==◌, eqb-true, eq-eqb, full_block_length, block_length, History, after_write, Call, bytes_given, bytes_written, write_fault, length_set, resize_fault, sync_made, AreAnswered, AfterWriteFault, Facts, value_at, given, call_of, IsRight, Missing, Marked}
 use Rattle.bt_machine.proofs.Machine.{Digest, FileState, DeviceCalls, calls_of, block_id, state_at, tree_of, stored_block, AreRight, Step, brought, read_back, found, IsSound, StepKeepsSound, RunOn, CompleteFilesStand, KeepsBytes}
 use Rattle.bt_disk.specs.Calls.{IsAnswered}
 use Rattle.bt_machine.proofs.Lists.{here, later, contains_none, contains_cases, contains_filter, contains_map}
@@ -44,9 +44,6 @@ of_all {file} calls {c} among =
   where
     pair_is : (a : ℕ × Call) → a.0 ≡ file → a.1 ≡ c → a ≡ (file, c)
     pair_is (g, y) e same = cc
-
-none_false : (x : ℕ × Call) (file : ℕ) → (x.0 == file) ≡ false → calls_of file (x ∷ []) ≡ []
-none_false x file e = rw e refl
 
 one_true : (x : ℕ × Call) (file : ℕ) → (x.0 == file) ≡ true → calls_of file (x ∷ []) ≡ x.1 ∷ []
 one_true x file e = rw e refl

@@ -5,13 +5,12 @@ use Rattle.bt_disk.specs.History.{moment_of, after_sync}
 use Rattle.bt_disk.specs.Calls.{IsAnswered}
 use Rattle.bt_disk.proofs.Images.{synced_image}
 use Rattle.bt_disk.proofs.Histories.{kept_from_now}
-use Rattle.bt_machine.proofs.Base.{◌≡◌, ℕ, ◌+◌, ◌-◌, ◌*◌, ◌<◌, Bool, true, false, not, inl, inr, List, [], ◌∷◌, length, get_or, Some, Ok, refl, sym, ap, ◌∙◌, subst, arith, slice_get, Contains, ◌==◌, cases_lt, eqb-true, same_number_lists, block_length, IsImage, History, Call, sync_made, AreAnswered, Facts, IsRight, BlockState, Marked, option_map_or}
+use Rattle.bt_machine.proofs.Base.{◌≡◌, ℕ, ◌+◌, ◌-◌, ◌*◌, ◌<◌, Bool, true, false, not, inl, inr, List, ◌∷◌, length, get_or, Some, Ok, refl, sym, ap, ◌∙◌, subst, arith, slice_get, Contains, ◌==◌, cases_lt, eqb-true, same_number_lists, block_length, IsImage, History, Call, sync_made, AreAnswered, Facts, IsRight, BlockState, Marked, option_map_or}
 use Rattle.bt_machine.proofs.Machine.{Digest, Flush, FileState, EngineState, DeviceCalls, calls_of, state_at, block_id, file_numbers, IsFile, StepFlush, syncs, fails, syncs_of, data_files, of_flush, stored_block}
 use Rattle.bt_machine.specs.Blocks.{states_of}
 use Rattle.bt_machine.specs.Crash.{IsBlockKept}
 use Rattle.bt_machine.specs.Survival.{RunKeepsImages, FlushKeepsBlocks, FlushedBlocksSurvive, RunsKeepFlushedBlocks}
-use Rattle.bt_machine.proofs.Lists.{contains_none, contains_map, map_contains, here, later, some_below, range_contains, and_then_some}
-use Rattle.bt_machine.proofs.AnswerPieces.{filter_contains}
+use Rattle.bt_machine.proofs.Lists.{contains_none, contains_map, map_contains, here, later, some_below, range_contains, and_then_some, filter_contains}
 use Rattle.bt_machine.proofs.Marks.{state_is}
 use Rattle.bt_machine.proofs.Shape.{Keeps, step_keeps}
 use Rattle.bt_machine.proofs.Stored.{length_at, index_at}

@@ -1,6 +1,6 @@
 -- What the device of a file has already is taken in: the blocks of the file, group after group, and then the
 -- blocks that wait in the other files of its root.
-use Rattle.std.specs.Prelude.{◌≡◌, ◌≢◌, ℕ, ◌+◌, ◌-◌, ◌*◌, ◌/◌, ◌%◌, ◌^◌, ◌<◌, ◌≤◌, ◌==◌, ◌&&◌, min, nat_lt, not, Bool, List, [], ◌∷◌, ◌++◌, map, filter, flat_map, length, if◌then◌else◌, Some, slice_get, Result, Ok, Err}
+use Rattle.std.specs.Prelude.{◌≡◌, ◌≢◌, ℕ, ◌+◌, ◌-◌, ◌*◌, ◌/◌, ◌%◌, ◌^◌, ◌<◌, ◌≤◌, ◌==◌, ◌&&◌, min, nat_lt, not, Bool, List, ◌∷◌, ◌++◌, map, filter, flat_map, length, if◌then◌else◌, Some, slice_get, Result, Ok, Err}
 use Rattle.std.specs.List.{AllZip, range_with_len}
 use Rattle.bt_sparse.specs.SparseTree.{Facts, blocks_of}
 use Rattle.bt_sparse.specs.Answer.{IsAnswer}

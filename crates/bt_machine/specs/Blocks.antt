@@ -1,5 +1,5 @@
 -- Blocks, pieces and files of an engine: what is marked, whole and complete, and what has become so.
-use Rattle.std.specs.Prelude.{◌≡◌, ℕ, ◌+◌, ◌*◌, ◌/◌, ◌==◌, Bool, true, false, not, ◌&&◌, List, [], map, filter, flat_map, length, Option, Some, slice_get, slice_set, option_map, option_and_then, Contains}
+use Rattle.std.specs.Prelude.{◌≡◌, ℕ, ◌+◌, ◌*◌, ◌/◌, ◌==◌, Bool, true, false, not, ◌&&◌, List, map, filter, flat_map, length, Option, Some, slice_get, slice_set, option_map, option_and_then, Contains}
 use Rattle.std.specs.Option.{option_map_or}
 use Rattle.std.specs.List.{list_all, range_with_len}
 use Rattle.bt_tree.specs.Limits.{full_block_length}

@@ -1,5 +1,5 @@
 -- The hash messages (BEP 52, "hash request", "hashes" and "hash reject").
-use Rattle.std.specs.Prelude.{◌≡◌, ◌≢◌, ℕ, ◌==◌, nat_lt, List, [], ◌∷◌, Some, slice_get, if◌then◌else◌}
+use Rattle.std.specs.Prelude.{◌≡◌, ◌≢◌, ℕ, ◌==◌, nat_lt, List, ◌∷◌, Some, slice_get, if◌then◌else◌}
 use Rattle.std.specs.List.{concat}
 use Rattle.std.specs.FinMap as finite
 use Rattle.bt_sparse.specs.SparseTree.{Facts, height}

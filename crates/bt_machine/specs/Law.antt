@@ -1,5 +1,5 @@
 -- What follows from the steps of an engine, whatever the peers send and the devices answer.
-use Rattle.std.specs.Prelude.{◌≡◌, ◌≢◌, ℕ, ◌+◌, ◌*◌, ◌<◌, ◌≤◌, ◌⊎◌, List, ◌∷◌, ◌++◌, [], false, length, Some, None, Ok, Err, slice_get, Contains}
+use Rattle.std.specs.Prelude.{◌≡◌, ◌≢◌, ℕ, ◌+◌, ◌*◌, ◌<◌, ◌≤◌, ◌⊎◌, List, ◌∷◌, ◌++◌, false, length, Some, None, Ok, Err, slice_get, Contains}
 use Rattle.bt_tree.specs.Limits.{full_block_length}
 use Rattle.bt_disk.specs.Calls.{bytes_written}
 use Rattle.bt_sparse.specs.SparseTree.{Facts, blocks_of, held_at, IsRooted, IsChecked}
@@ -40,18 +40,10 @@ abbrev pub StepKeepsRooted : (List ℕ → List ℕ) → Type 0
 StepKeepsRooted dig = (old new : EngineState) (event : Event) (calls : DeviceCalls) (answer : Answer)
     → Step dig old event calls answer new → AreRooted dig old → AreRooted dig new
 
-abbrev pub RunKeepsRooted : (List ℕ → List ℕ) → Type 0
-RunKeepsRooted dig =
-    (old new : EngineState) (events : List Event) (calls : List DeviceCalls) (answers : List Answer)
-    → Run dig old events calls answers new → AreRooted dig old → AreRooted dig new
-
 -- every digest that a tree holds lies on a checked path to its root
 abbrev pub AreChecked : (List ℕ → List ℕ) → EngineState → Type 0
 AreChecked dig s = (t : ℕ) (k : Facts) → slice_get s.trees t ≡ Some k
     → (layer i : ℕ) (d : List ℕ) → held_at k layer i ≡ Some d → IsChecked dig k layer i d
-
-abbrev pub RootedIsChecked : (List ℕ → List ℕ) → Type 0
-RootedIsChecked dig = (s : EngineState) → AreRooted dig s → AreChecked dig s
 
 -- So it is of every engine that events lead to from the start of a torrent.
 abbrev pub RunsAreChecked : (List ℕ → List ℕ) → Type 0

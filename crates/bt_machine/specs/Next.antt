@@ -1,5 +1,5 @@
 -- The next wire event of a peer is taken.
-use Rattle.std.specs.Prelude.{◌≡◌, ℕ, ◌+◌, List, [], ◌++◌, map, take, drop, if◌then◌else◌, Option, Some, None, Result, Ok, Err, slice_get}
+use Rattle.std.specs.Prelude.{◌≡◌, ℕ, ◌+◌, List, ◌++◌, map, take, drop, if◌then◌else◌, Option, Some, None, Result, Ok, Err, slice_get}
 use Rattle.bt_book.specs.declared.names.PeerKey.{PeerKey}
 use Rattle.bt_wire.specs.Cutter.{Stream, Takes, Waits, Fails}
 use Rattle.bt_wire.specs.declared.event.WireEvent.{WireEvent}

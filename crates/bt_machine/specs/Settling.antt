@@ -1,5 +1,5 @@
 -- Blocks that waited for their leaf, which has come: they are read back, and their bytes decide.
-use Rattle.std.specs.Prelude.{◌≡◌, ℕ, ◌==◌, nat_lt, Bool, true, false, List, [], ◌∷◌, ◌++◌, map, flat_map, Some, slice_get, option_map, if◌then◌else◌}
+use Rattle.std.specs.Prelude.{◌≡◌, ℕ, ◌==◌, nat_lt, Bool, true, false, List, ◌∷◌, ◌++◌, map, flat_map, Some, slice_get, option_map, if◌then◌else◌}
 use Rattle.bt_sparse.specs.SparseTree.{Facts}
 use Rattle.bt_store.specs.BlockReads.{BlockRead, given, failed, block_of, judged, is_right, fault_count}
 use Rattle.bt_store.specs.Review.{waiting_blocks}

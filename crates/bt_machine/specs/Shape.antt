@@ -1,5 +1,5 @@
 -- What stays over all events: the torrent, which trees and files there are, and that there is no log.
-use Rattle.std.specs.Prelude.{◌≡◌, ◌≢◌, ℕ, ◌<◌, false, List, [], length, Some, slice_get}
+use Rattle.std.specs.Prelude.{◌≡◌, ◌≢◌, ℕ, ◌<◌, false, List, length, Some, slice_get}
 use Rattle.std.specs.List.{AllPairs}
 use Rattle.bt_tree.specs.Blocks.{block_count}
 use Rattle.bt_meta.specs.Files.{File}

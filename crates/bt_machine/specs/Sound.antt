@@ -1,5 +1,5 @@
 -- What honest devices have of the marked blocks of an engine, over its steps.
-use Rattle.std.specs.Prelude.{◌≡◌, ℕ, ◌<◌, List, [], ◌∷◌, Option, Some, slice_get}
+use Rattle.std.specs.Prelude.{◌≡◌, ℕ, ◌<◌, List, ◌∷◌, Option, Some, slice_get}
 use Rattle.bt_disk.specs.History.{History}
 use Rattle.bt_sparse.specs.SparseTree.{Facts, blocks_of}
 use Rattle.bt_store.specs.declared.block_states.BlockState.TheVariants.{Marked}
@@ -34,12 +34,6 @@ RunOn {D} history honest faults dig old disks (event ∷ events) (calls ∷ more
     × Step dig old event calls answer mid × HaveCalls history honest faults disks calls between
     × RunOn history honest faults dig mid between events more answers new after
 RunOn {D} history honest faults dig old disks _ _ _ new after = ⊥
-
-abbrev pub RunKeepsSound : {D : Type 0} → (D → History) → (D → Type 0) → (D → ℕ) → (List ℕ → List ℕ) → Type 0
-RunKeepsSound {D} history honest faults dig = (old new : EngineState) (events : List Event)
-    (calls : List DeviceCalls) (answers : List Answer) (disks after : List (Option D))
-    → RunOn history honest faults dig old disks events calls answers new after
-    → IsSound history honest dig old disks → IsSound history honest dig new after
 
 -- So where all blocks of a file are marked and its device is honest, the file stands there with its tree's
 -- root.

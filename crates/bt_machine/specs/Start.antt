@@ -1,5 +1,5 @@
 -- The engine with which a torrent is begun, without a log.
-use Rattle.std.specs.Prelude.{◌≡◌, ◌≢◌, ℕ, ◌*◌, ◌^◌, ◌<◌, false, List, [], length, Some, slice_get}
+use Rattle.std.specs.Prelude.{◌≡◌, ◌≢◌, ℕ, ◌*◌, ◌^◌, ◌<◌, false, List, length, Some, slice_get}
 use Rattle.std.specs.List.{AllPairs}
 use Rattle.bt_tree.specs.Limits.{full_block_length}
 use Rattle.bt_meta.specs.Files.{File}

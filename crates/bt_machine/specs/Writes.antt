@@ -1,5 +1,5 @@
 -- Which calls of an event change what a device holds.
-use Rattle.std.specs.Prelude.{◌≡◌, ℕ, ◌*◌, ◌⊎◌, ⊤, List, [], ◌∷◌, length, Some, Contains}
+use Rattle.std.specs.Prelude.{◌≡◌, ℕ, ◌*◌, ◌⊎◌, ⊤, List, ◌∷◌, length, Some, Contains}
 use Rattle.bt_tree.specs.Limits.{full_block_length}
 use Rattle.bt_tree.specs.Blocks.{block_length}
 use Rattle.bt_disk.specs.Calls.{Call, bytes_written, write_fault, length_set, resize_fault}

@@ -4,7 +4,7 @@ use Rattle.std.specs.Prelude.{not}
 use Rattle.std.proofs.lemmas.List.{take_all}
 use Rattle.bt_machine.proofs.Lists.{and_true, some_is, here, later, contains_none, contains_cases, contains_filter, contains_map, map_contains}
 use Rattle.bt_machine.proofs.Pairs.{Pairs, from_pairs}
-use Rattle.bt_machine.proofs.AnswerPieces.{filter_contains}
+use Rattle.bt_machine.proofs.Lists.{filter_contains}
 use Rattle.bt_machine.specs.State.{EngineState, PeerState}
 use Rattle.bt_machine.specs.Blocks.{state_at, Has}
 use Rattle.bt_machine.specs.FollowUp.{IsOpen, AsksBlocks}
