@@ -1,5 +1,5 @@
 -- How what a file's device has already is taken in: what it marks, and what becomes of trees.
-use Rattle.bt_machine.proofs.Base.{◌≡◌, ◌≢◌, ℕ, ◌⊎◌, inl, inr, Bool, true, false, not, ◌∷◌, Some, refl, sym, ap, ◌∙◌, subst, slice_get, option_map, Contains, flat_map, option_and_then, eq-eqb, Contains-append_left, Contains-append_right, Call, Facts, given, call_of, IsRight, Marked, Adopted, Extends, store_marks, adopt_extends, BlockId}
+use Rattle.bt_machine.proofs.Base.{[], ◌≡◌, ◌≢◌, ℕ, ◌⊎◌, inl, inr, Bool, true, false, not, ◌∷◌, Some, refl, sym, ap, ◌∙◌, subst, slice_get, option_map, Contains, flat_map, option_and_then, eq-eqb, Contains-append_left, Contains-append_right, Call, Facts, given, call_of, IsRight, Marked, Adopted, Extends, store_marks, adopt_extends, BlockId}
 use Rattle.bt_machine.proofs.Machine.{Digest, Adopt, FileState, EngineState, reads_at, state_at, IsFile, judged_file, SettlesIn, AdoptsGroup, AdoptsGroups, is_other, AdoptsFile, StopsAdopting, StepAdopt, no_file, busy, empty, adopts, not_adopted as no_memory, IsFound, IsMarkedBy, read_back, found}
 use Rattle.bt_machine.proofs.Lists.{set_same, set_other, map_contains, and_then_some}
 use Rattle.bt_machine.proofs.Marks.{state_is, file_marked, settle_marks}
@@ -32,7 +32,7 @@ module _ (dig : Digest) where
       → IsFile new file (record g.state { states = g.states }) g.grown
   group_file {s} {file} g = record {
     here = ap (λ x. slice_get x.files file) g.after ∙ set_same s.files file g.is_file.here;
-    hung = ap (λ x. slice_get x.trees g.state.tree) g.after ∙ set_same s.trees g.state.tree g.is_file.hung;
+    has_tree = ap (λ x. slice_get x.trees g.state.tree) g.after ∙ set_same s.trees g.state.tree g.is_file.has_tree;
   }
 
   pub group_forward : {s new file from calls adopted : _} → AdoptsGroup dig s file from calls adopted new
@@ -69,7 +69,7 @@ module _ (dig : Digest) where
     tree = k;
     is_file = record {
       here = s.files file ∙ ap (option_map (judged_file dig s.facts (s.reads file))) is.here;
-      hung = cc;
+      has_tree = cc;
     };
     extends = same_tree;
   }
@@ -83,14 +83,14 @@ module _ (dig : Digest) where
         → ((f : FileState) (k : Facts) → IsFile mid b.file f k → HasExtended new b.file k) → IsFound dig (Adopt file) calls mid b
         → IsFound dig (Adopt file) more new b
     found_later {more} {mid} {new} among forward x =
-        let f = and_then_some (λ q. slice_get mid.trees q.tree) _ x.hung in
-        let h = forward f.0 x.tree (record { here = f.1; hung = f.2 }) in
+        let f = and_then_some (λ q. slice_get mid.trees q.tree) _ x.has_tree in
+        let h = forward f.0 x.tree (record { here = f.1; has_tree = f.2 }) in
         let one : call_of x.tree.file_length (given b.block x.bytes) ≡ call_of h.tree.file_length (given b.block x.bytes) = cc in
         record {
           tree = h.tree;
           bytes = x.bytes;
           is_adopt = x.is_adopt;
-          hung = cc;
+          has_tree = cc;
           read = rw (← one) (among _ x.read);
           right = right_in h.extends x.right;
         }
@@ -108,7 +108,7 @@ module _ (dig : Digest) where
               tree = g.grown;
               bytes = r.bytes;
               is_adopt = ap (λ n. Adopt n) (sym now.0);
-              hung = ap (option_and_then (λ q. slice_get new.trees q.tree)) (ap (slice_get new.files) now.0 ∙ is.here) ∙ is.hung;
+              has_tree = ap (option_and_then (λ q. slice_get new.trees q.tree)) (ap (slice_get new.files) now.0 ∙ is.here) ∙ is.has_tree;
               read = subst (λ n. Contains calls (n, call_of g.grown.file_length (given b.block r.bytes))) (sym now.0)
                   (subst (λ n. Contains calls (file, call_of n (given b.block r.bytes))) (sym (group_extends g).file_length) read);
               right = r.right;
@@ -176,7 +176,7 @@ module _ (dig : Digest) where
                   own_here = cc;
                   one_tree = r.of_tree;
                 });
-                hung = cc;
+                has_tree = cc;
                 read = rw a.made (Contains-append_right own a.settling _ r.read);
                 right = r.right;
               }))
@@ -186,7 +186,7 @@ module _ (dig : Digest) where
         in_new {other} h = record {
           state = h.state;
           tree = h.tree;
-          is_file = record { here = cc; hung = cc };
+          is_file = record { here = cc; has_tree = cc };
           extends = h.extends;
         }
 

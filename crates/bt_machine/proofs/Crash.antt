@@ -1,5 +1,5 @@
 -- What a crash leaves of blocks that are not missing.
-use Rattle.bt_machine.proofs.Base.{◌≡◌, ◌≢◌, ℕ, ◌+◌, ◌*◌, ◌<◌, ◌≤◌, ◌⊎◌, inl, inr, List, length, Some, ap, subst, arith, slice_get, Contains, All, cases_lt, block_length, IsImage, History, Call, bytes_written, write_fault, length_set, resize_fault, Spares, calls_keep_bytes, Missing}
+use Rattle.bt_machine.proofs.Base.{[], ◌≡◌, ◌≢◌, ℕ, ◌+◌, ◌*◌, ◌<◌, ◌≤◌, ◌⊎◌, inl, inr, List, length, Some, ap, subst, arith, slice_get, Contains, All, cases_lt, block_length, IsImage, History, Call, bytes_written, write_fault, length_set, resize_fault, Spares, calls_keep_bytes, Missing}
 use Rattle.bt_machine.proofs.Machine.{Digest, EngineState, calls_of, IsFile, KeepsBytes, StepKeepsImages}
 use Rattle.bt_machine.proofs.Lists.{some_below, contains_none, contains_cases}
 use Rattle.bt_machine.proofs.Pairs.{contains_at}
@@ -30,7 +30,7 @@ write_spares n m i b j {bytes} apart lt size (inr e) = rw e (beside n m i b j by
 step_spares : {s : EngineState} {calls file : _} (i j : ℕ) {f k : _} → Touches s.files s.trees calls → IsFile s file f k
     → slice_get f.states i ≢ Some Missing → j < block_length k.file_length i → {c : _} → Contains calls (file, c) → Spares (16384 * i + j) c
 step_spares {file} i j (keeping keep) is present lt {c} among = keeps_spare _ c (keep (file, c) among)
-step_spares {s} {file} i j {f} {k} (putting b bytes g l call here hung missing whole only writes) is present lt {c} among =
+step_spares {s} {file} i j {f} {k} (putting b bytes g l call here has_tree missing whole only writes) is present lt {c} among =
     elim (contains_cases [] (subst (λ cs. Contains cs (file, c)) only among)) [
       | inl same ↦
           let at = ap (λ x. x.0) same in

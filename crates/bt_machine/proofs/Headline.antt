@@ -1,5 +1,5 @@
 -- A complete file on an honest device is the published one.
-use Rattle.bt_machine.proofs.Base.{◌≡◌, ℕ, suc, ◌<◌, List, ◌∷◌, length, take, replicate, Option, Some, sym, ap, ◌∙◌, slice_get, History, block_count, file_root, IsDigest, same_or_clash, File, Metainfo, Facts, Missing, Marked}
+use Rattle.bt_machine.proofs.Base.{[], ◌≡◌, ℕ, suc, ◌<◌, List, ◌∷◌, length, take, replicate, Option, Some, sym, ap, ◌∙◌, slice_get, History, block_count, file_root, IsDigest, same_or_clash, File, Metainfo, Facts, Missing, Marked}
 use Rattle.bt_machine.proofs.Machine.{Digest, FileState, EngineState, Starts, Step, Run, HasFile, IsSound, RunOn, IsPublished, CompleteFilesArePublished}
 use Rattle.bt_machine.proofs.Lists.{get_some, some_below}
 use Rattle.bt_machine.proofs.Rooted.{run_rooted}
@@ -25,15 +25,15 @@ module _ {D : Type 0} (history : D → History) (honest : D → Type 0) (faults 
       absurd (none_marked (block_count file.0.length) j (cc))
 
   start_of : {torrent s : _} → Starts dig torrent s → IsOf torrent s
-  start_of starts i file f k listed some here hung =
-      let tree = (starts.is_new.each_file i file f listed here).hung some in
+  start_of starts i file f k listed some here has_tree =
+      let tree = (starts.is_new.each_file i file f listed here).has_tree some in
       let same : tree.0 ≡ k = cc in
       (ap (λ l. l.file_length) (sym same) ∙ tree.3, ap (λ l. l.root) (sym same) ∙ tree.2)
 
   step_of : (torrent : Metainfo) (old new e calls a : _) → Step dig old e calls a new → IsOf torrent old → IsOf torrent new
-  step_of torrent old new e calls a step of i file f k listed some here hung =
-      let g = (step_tame dig old new e calls a step).0 i f k here hung in
-      let before = of i file g.old_file g.old_tree listed some g.here g.hung in
+  step_of torrent old new e calls a step of i file f k listed some here has_tree =
+      let g = (step_tame dig old new e calls a step).0 i f k here has_tree in
+      let before = of i file g.old_file g.old_tree listed some g.here g.has_tree in
       (g.same_length ∙ before.0, g.same_root ∙ before.1)
 
   run_of : (torrent : Metainfo) (old new es calls answers : _) → Run dig old es calls answers new → IsOf torrent old → IsOf torrent new
@@ -64,7 +64,7 @@ module _ {D : Type 0} (history : D → History) (honest : D → Type 0) (faults 
       let plain = without_devices first last events calls answers disks after run in
       let rooted = run_rooted dig first last events calls answers plain (start_rooted sizes lawful starts) in
       let sound = run_sound history honest faults dig first last events calls answers disks after run (start_sound disks starts) in
-      let of = run_of torrent first last events calls answers plain (start_of starts) number file complete.state complete.tree complete.listed complete.some complete.here complete.hung in
+      let of = run_of torrent first last events calls answers plain (start_of starts) number file complete.state complete.tree complete.listed complete.some complete.here complete.has_tree in
       published sizes of.0 of.1
-      (complete_stands history honest faults dig last after number complete.state complete.tree d rooted sound (record { here = complete.here; hung = complete.hung }) (rw of.0 complete.some)
+      (complete_stands history honest faults dig last after number complete.state complete.tree d rooted sound (record { here = complete.here; has_tree = complete.has_tree }) (rw of.0 complete.some)
       (λ i lt. complete.marked i (rw (← of.0) lt)) there honest_now)

@@ -12,7 +12,7 @@ pub mod Adopting
 pub mod Marking
 -- data
 pub mod Sends
-pub mod Taught
+pub mod ProofKeys
 -- peers and files
 pub mod Shape
 pub mod Orderly

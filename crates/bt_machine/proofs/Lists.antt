@@ -1,6 +1,5 @@
 -- Lists of which one element is set, and what lists contain.
-use Rattle.bt_machine.proofs.Base.{◌≡◌, ◌≢◌, ℕ, zero, suc, ◌+◌, ◌<◌, ◌≤◌, ◌⊎◌, inl, inr, Bool, true, false, List, ◌∷◌, length, map, Option, Some, None, refl, sym, ap, ◌∙◌, subst, arith, IsSome, slice_get, slice_set, option_map, Contains, filter, flat_map, ◌&&◌, cond, option_and_then, range_with_len, length-range_with_len, get_or-range_with_len, Contains-append_left, Contains-append_right, Contains-append_cases}
-use Rattle.bt_machine_checks.proofs.AnswerSends.{set_other}
+use Rattle.bt_machine.proofs.Base.{[], ◌≡◌, ◌≢◌, ℕ, zero, suc, ◌+◌, ◌<◌, ◌≤◌, ◌⊎◌, inl, inr, Bool, true, false, List, ◌∷◌, length, map, Option, Some, None, refl, sym, ap, ◌∙◌, subst, arith, IsSome, slice_get, slice_set, option_map, Contains, filter, flat_map, ◌&&◌, cond, option_and_then, range_with_len, length-range_with_len, get_or-range_with_len, Contains-append_left, Contains-append_right, Contains-append_cases}
 
 pub heads : {X : Type 0} {x y : X} {xs ys : List X} → x ∷ xs ≡ y ∷ ys → x ≡ y
 heads e = cc

@@ -7,10 +7,10 @@ pub use Rattle.bt_machine.specs.Crash.{StepKeepsImages}
 pub use Rattle.bt_machine.specs.Devices.{DeviceCalls, reads_at, calls_at, calls_of}
 pub use Rattle.bt_machine.specs.Flush.{StepFlush, syncs, fails, syncs_of, data_files}
 pub use Rattle.bt_machine.specs.FollowUp.{FollowsUp, rests, requests, interest_sent, RequestsHashes, RequestsEach}
-pub use Rattle.bt_machine.specs.HashMessages.{learns, unknown_root, refused, HandlesHashes, no_claim, rejected, HandlesHashRequest, answered, IsTreeOf, settled_count}
+pub use Rattle.bt_machine.specs.HashMessages.{accepts_hashes, unknown_root, refused, HandlesHashes, no_claim, rejected, HandlesHashRequest, answered, IsTreeOf, settled_count}
 pub use Rattle.bt_machine.specs.Headline.{IsPublished, CompleteFilesArePublished}
 pub use Rattle.bt_machine.specs.Law.{sent_by, read_back, IsMarkedBy, found, brought, IsSoAt, AreRooted, StepKeepsRooted, StepMarksByBytes, StepSendsReadBytes, IsFound, IsMarkedIn, AreChecked, IsServed}
-pub use Rattle.bt_machine.specs.Next.{goes_on, StepNext, closes, waits, faulty, no_peer, no_memory, IsPeer, TakesEvent, without_peer, with_pending}
+pub use Rattle.bt_machine.specs.Next.{keeps_peer, StepNext, closes, waits, faulty, no_peer, no_memory, IsPeer, TakesEvent, without_peer, with_pending}
 pub use Rattle.bt_machine.specs.Orderly.{IsOrderly, IsOrderlyPeer, AskedApart, StepKeepsOrder, RunsAreOrderly}
 pub use Rattle.bt_machine.specs.Output.{Sent, Effect, haves, sent_to, noting, sending}
 pub use Rattle.bt_machine.specs.Peers.{no_memory as no_room, no_peer as not_fed, StepConnect, joins, StepFeed, feeds, full, spent, StepLost, goes, new_peer}
@@ -24,7 +24,7 @@ pub use Rattle.bt_machine.specs.Start.{Starts, by_root, IsTreeFrom, by_layer}
 pub use Rattle.bt_machine.specs.State.{EngineState, PeerState, FileState, mark_of}
 pub use Rattle.bt_machine.specs.Step.{Answer, Step, Run, of_next, of_rechoke, of_connect, of_flush}
 pub use Rattle.bt_machine.specs.Stored.{stored_block, HasFile, AreRight}
-pub use Rattle.bt_machine.specs.Taught.{HasAnswer, TaughtKeysAreAnswered}
+pub use Rattle.bt_machine.specs.ProofKeys.{HasAnswer, ProofKeysAreAnswered}
 pub use Rattle.bt_machine.specs.Unmarks.{IsFoundWrong, StepUnmarksByBytes, StepKeepsMarks, RunKeepsMarks}
 pub use Rattle.bt_machine.specs.WireEvents.{right, Handles, out_of_range, wrong, HandlesHave, in_range, HandlesBitfield, HandlesMessage, ours, HandlesHello, other, bits_of, bits_in}
 pub use Rattle.bt_machine.specs.Writes.{KeepsBytes, AllKeepBytes, IsWriteOfMissing, StepWritesMissing}

@@ -1,6 +1,6 @@
 -- A step marks a block by bytes of that step alone.
-use Rattle.bt_machine.proofs.Base.{◌≡◌, ◌≢◌, ℕ, ◌+◌, ◌*◌, ◌<◌, ◌≤◌, ◌⊎◌, inl, inr, Bool, true, false, List, ◌∷◌, length, Some, refl, sym, ap, ◌∙◌, slice_get, slice_set, Contains, Result, Ok, Err, ◌==◌, if◌then◌else◌, option_and_then, range_with_len, eqb-true, full_block_length, Facts, Accepts, Claim, bytes_written, IsClaimBy, HashKey, IsRight, PutIsDue, states_after_put, Marked, StoreError, Put, Already, Wrong, PutMarked, PutWaiting, BlockId, PeerMessage as Sent, KeepAlive, Choke, Unchoke, Interested, NotInterested, Have, Bitfield, Request, Piece, Cancel, HashRequest, Hashes, HashReject, WireEvent, Hello, Message, Skipped}
-use Rattle.bt_machine.proofs.Machine.{Digest, Event, Connect, Feed, Next, Lost, Rechoke, Adopt, Flush, PeerState, FileState, EngineState, DeviceCalls, state_at, tree_of, with_file, with_peer, with_tree, IsWholeBlock, FindsFault, damaged, fault, HandlesRequest, ignored, no_place, not_marked, served, stopped, Arrives, HandlesPiece, stale, arrives, IsTreeOf, settled_count, HandlesHashes, unknown_root, no_claim, refused, learns, HandlesHave, in_range, out_of_range, HandlesBitfield, right, wrong, HandlesMessage, Handles, IsPeer, TakesEvent, StepNext, no_peer, waits, goes_on, closes, faulty, no_memory, StepConnect, joins, full, spent, no_room, StepFeed, feeds, not_fed, no_room as no_room_to_feed, StepLost, goes, not_fed as not_lost, FollowsEach, StepRechoke, rechokes, not_rechoked, StepFlush, syncs, fails, Answer, Step, Run, StepMarksByBytes, IsMarkedBy, brought, read_back, IsSoAt, IsMarkedIn}
+use Rattle.bt_machine.proofs.Base.{[], ◌≡◌, ◌≢◌, ℕ, ◌+◌, ◌*◌, ◌<◌, ◌≤◌, ◌⊎◌, inl, inr, Bool, true, false, List, ◌∷◌, length, Some, refl, sym, ap, ◌∙◌, slice_get, slice_set, Contains, Result, Ok, Err, ◌==◌, if◌then◌else◌, option_and_then, range_with_len, eqb-true, full_block_length, Facts, Accepts, Claim, bytes_written, IsClaimBy, HashKey, IsRight, PutIsDue, states_after_put, Marked, StoreError, Put, Already, Wrong, PutMarked, PutWaiting, BlockId, PeerMessage as Sent, KeepAlive, Choke, Unchoke, Interested, NotInterested, Have, Bitfield, Request, Piece, Cancel, HashRequest, Hashes, HashReject, WireEvent, Hello, Message, Skipped}
+use Rattle.bt_machine.proofs.Machine.{Digest, Event, Connect, Feed, Next, Lost, Rechoke, Adopt, Flush, PeerState, FileState, EngineState, DeviceCalls, state_at, tree_of, with_file, with_peer, with_tree, IsWholeBlock, FindsFault, damaged, fault, HandlesRequest, ignored, no_place, not_marked, served, stopped, Arrives, HandlesPiece, stale, arrives, IsTreeOf, settled_count, HandlesHashes, unknown_root, no_claim, refused, accepts_hashes, HandlesHave, in_range, out_of_range, HandlesBitfield, right, wrong, HandlesMessage, Handles, IsPeer, TakesEvent, StepNext, no_peer, waits, keeps_peer, closes, faulty, no_memory, StepConnect, joins, full, spent, no_room, StepFeed, feeds, not_fed, no_room as no_room_to_feed, StepLost, goes, not_fed as not_lost, FollowsEach, StepRechoke, rechokes, not_rechoked, StepFlush, syncs, fails, Answer, Step, Run, StepMarksByBytes, IsMarkedBy, brought, read_back, IsSoAt, IsMarkedIn}
 use Rattle.bt_machine.proofs.Lists.{contains_none, range_limits, set_cases, set_same}
 use Rattle.bt_machine.proofs.Marks.{state_is, file_marked, missing_marks, IsSettled, settle_marks}
 use Rattle.bt_machine.proofs.Adopting.{adopt_marks}
@@ -89,9 +89,9 @@ module _ (dig : Digest) (b : BlockId) where
       elim (put_marks s at a.puts.result a.puts.due (as_before a.puts.after (as_before a.after m))) [
         | inl old ↦ inl old
         | inr now ↦
-            let hung =
-            ap (option_and_then (λ q. slice_get s.trees q.tree)) (set_same s.files a.block.file at) ∙ a.puts.is_file.hung in
-            let stored : tree_of a.stored a.block.file ≡ Some a.puts.tree = rw a.puts.after hung in
+            let has_tree =
+            ap (option_and_then (λ q. slice_get s.trees q.tree)) (set_same s.files a.block.file at) ∙ a.puts.is_file.has_tree in
+            let stored : tree_of a.stored a.block.file ≡ Some a.puts.tree = rw a.puts.after has_tree in
             let known : tree_of mid a.block.file ≡ Some a.puts.tree = cc in
             let made : calls ≡ (a.block.file, bytes_written (full_block_length * a.block.block) bytes) ∷ [] = cc in
             inr (rw (← now.0) (came piece begin bytes a.puts.tree refl a.whole a.asked known made now.2))
@@ -115,7 +115,7 @@ module _ (dig : Digest) (b : BlockId) where
     known = r.known;
     in_run = r.in_run;
     waited = r.waited;
-    hung = cc;
+    has_tree = cc;
     read = r.read;
     right = r.right;
   }
@@ -125,7 +125,7 @@ module _ (dig : Digest) (b : BlockId) where
   hashes_marks (unknown_root x y z e) is m = inl (as_before e m)
   hashes_marks (no_claim f x y c) is m = inl (as_before c.after m)
   hashes_marks (refused f t k c x y z g) is m = inl (as_before g.after m)
-  hashes_marks {key} {digests} (learns l) is m =
+  hashes_marks {key} {digests} (accepts_hashes l) is m =
       elim (settle_marks l.settles (as_before l.after m)) [
         | inl old ↦ inl old
         | inr r ↦ inr (waited key digests l.tree l.old l.new l.claim is l.here l.claims l.accepts (settled_in (cc) r))
@@ -163,7 +163,7 @@ module _ (dig : Digest) (b : BlockId) where
     where
       from : IsSeen dig (with_peer s i (record p { stream = t.rest })) (record p { stream = t.rest }) t.event calls mid b
           → IsMarkedBy dig s (Next key) calls new b
-      from (came piece begin bytes tree is whole asked hung written exact) =
+      from (came piece begin bytes tree is whole asked has_tree written exact) =
           brought (record {
             key = key;
             place = i;
@@ -178,7 +178,7 @@ module _ (dig : Digest) (b : BlockId) where
             takes = rw (sym is) t.takes;
             whole = whole;
             asked = asked;
-            hung = cc;
+            has_tree = cc;
             written = written;
             right = exact;
           })
@@ -205,12 +205,12 @@ module _ (dig : Digest) (b : BlockId) where
               of_leaves = leaves.0;
               from = leaves.1;
               below = leaves.2;
-              hung = cc;
+              has_tree = cc;
               same_root = here.same_root;
               claims = claims;
               accepts = rw (← facts) accepts;
             });
-            hung = cc;
+            has_tree = cc;
             read = r.read;
             right = r.right;
           })
@@ -222,7 +222,7 @@ module _ (dig : Digest) (b : BlockId) where
   next_marks : {s new key calls answer : _} → StepNext dig s key calls answer new → state_at new b ≡ Some Marked → Now s (Next key) calls new
   next_marks (no_peer x y z e) m = inl (as_before e m)
   next_marks (waits i p x y z w e) m = inl (as_before e m)
-  next_marks (goes_on i p out peer g x) m = taken_marks peer g.takes (cc) (as_before g.follows.after m)
+  next_marks (keeps_peer i p out peer g x) m = taken_marks peer g.takes (cc) (as_before g.follows.after m)
   next_marks (closes i p out peer g x) m = taken_marks peer g.takes (cc) (as_before g.after m)
   next_marks (faulty i p out peer g x) m = inl (as_before g.after m)
   next_marks (no_memory i p peer g x) m = inl (as_before g.after m)

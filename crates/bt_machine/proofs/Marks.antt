@@ -1,6 +1,6 @@
 -- How blocks become marked.
-use Rattle.bt_machine.proofs.Base.{◌≡◌, ℕ, ◌⊎◌, inl, inr, Bool, true, false, List, ◌∷◌, length, Option, Some, None, refl, sym, ap, ◌∙◌, slice_get, slice_set, Contains, ◌&&◌, ◌==◌, is_some, nat_eq, if◌then◌else◌, option_map_or, range_with_len, pointwise, eqb-true, block_length, same_bytes, Facts, value_at, is_waiting, BlockRead, given, failed, block_of, call_of, is_leaf, is_right, IsRight, judged, waiting_blocks, is_waiting_at, BlockState, Missing, Waiting, Marked, BlockId, eq-eqb}
-use Rattle.bt_machine.proofs.Machine.{Digest, FileState, EngineState, DeviceCalls, reads_at, state_at, tree_of, with_file, file_numbers, judged_file, due_blocks, SettlesIn, right, wrong}
+use Rattle.bt_machine.proofs.Base.{[], ◌≡◌, ℕ, ◌⊎◌, inl, inr, Bool, true, false, List, ◌∷◌, length, Option, Some, None, refl, sym, ap, ◌∙◌, slice_get, slice_set, Contains, ◌&&◌, ◌==◌, is_some, nat_eq, if◌then◌else◌, option_map_or, range_with_len, pointwise, eqb-true, block_length, same_bytes, Facts, value_at, is_waiting, BlockRead, given, failed, block_of, call_of, is_leaf, is_right, IsRight, judged, waiting_blocks, is_waiting_at, BlockState, Missing, Waiting, Marked, BlockId, eq-eqb}
+use Rattle.bt_machine.proofs.Machine.{Digest, FileState, EngineState, DeviceCalls, reads_at, state_at, tree_of, with_file, file_numbers, judged_file, due_blocks, SettlesIn}
 use Rattle.bt_machine.proofs.Lists.{set_cases, and_then_some, map_some, and_true, here, later, contains_none, contains_filter, map_contains, flat_map_contains, some_below, range_contains}
 
 pub state_is : (s : EngineState) (c : BlockId) {f x : _} → slice_get s.files c.file ≡ Some f → slice_get f.states c.block ≡ Some x → state_at s c ≡ Some x
@@ -102,7 +102,7 @@ pub record IsSettled (dig : Digest) (is_meant : ℕ → Bool) (tree from count :
   pub known : slice_get old.trees tree ≡ Some facts
   pub in_run : Contains (range_with_len from count) b.block
   pub waited : state_at old b ≡ Some Waiting
-  pub hung : tree_of new b.file ≡ Some facts
+  pub has_tree : tree_of new b.file ≡ Some facts
   pub read : Contains calls (b.file, call_of facts.file_length (given b.block bytes))
   pub right : IsRight dig facts b.block bytes
 
@@ -119,7 +119,7 @@ settle_marks {dig} {is_meant} {old} {new} s {b} e =
           let read = map_contains block_of (s.reads b.file) g.gives in
           let due = meant_then dig s.facts (is_meant b.file) (rw (← (s.due b.file p.0 p.1)) read) in
           let trees : new.trees ≡ old.trees = cc in
-          let hung = ap (λ ts. slice_get ts p.0.tree) trees ∙ ap (slice_get old.trees) due.1.of_tree ∙ s.here in
+          let has_tree = ap (λ ts. slice_get ts p.0.tree) trees ∙ ap (slice_get old.trees) due.1.of_tree ∙ s.here in
           let file : slice_get new.files b.file ≡ Some (judged_file dig s.facts (s.reads b.file) p.0) = cc in
           let one =
           map_contains (λ read. (b.file, call_of s.facts.file_length read)) (s.reads b.file) g.gives in
@@ -133,7 +133,7 @@ settle_marks {dig} {is_meant} {old} {new} s {b} e =
             known = s.here;
             in_run = due.1.in_run;
             waited = state_is old b p.1 due.1.waited;
-            hung = cc;
+            has_tree = cc;
             read = rw s.made (flat_map_contains (λ file. reads_at file s.facts.file_length (s.reads file)) (file_numbers old) (range_contains (length old.files) (some_below old.files b.file p.1)) one);
             right = g.right;
           })

@@ -1,6 +1,6 @@
 -- Peers and what they are asked for, over steps.
-use Rattle.bt_machine.proofs.Base.{◌≡◌, ◌≢◌, ℕ, zero, suc, ◌+◌, ◌*◌, ◌<◌, ◌≤◌, ◌⊎◌, inl, inr, Bool, true, false, not, ◌∷◌, ◌++◌, length, map, take, drop, Some, refl, sym, ap, ◌∙◌, subst, arith, length-append, slice_get, slice_set, option_map, Contains, ◌&&◌, ◌==◌, Result, Ok, option_and_then, AllPairs, cases_lt, eqb-true, eq-eqb, length-set, length-take, length-map, length-replicate, AllPairs-filter, length-filter, count_by-le-length, div_ceil_times, Contains-append_cases, total_pieces, given, failed, block_of, judged, states_after_put, Missing, Waiting, Marked, StoreError, Put, PutMarked, PutWaiting, PeerKey, BlockId, is_block, max_peers, without_block, PeerMessage as Sent, KeepAlive, Choke, Have, Bitfield, Request, Piece, Cancel, HashRequest, Hashes, HashReject, Message}
-use Rattle.bt_machine.proofs.Machine.{Digest, Connect, Feed, Next, Lost, Rechoke, Adopt, Flush, PeerState, FileState, EngineState, state_at, with_file, with_peer, FindsFault, damaged, fault, with_payload, HandlesRequest, ignored, no_place, not_marked, served, stopped, Arrives, HandlesPiece, stale, arrives, judged_file, SettlesIn, HandlesHashes, unknown_root, no_claim, refused, learns, bits_of, bits_in, HandlesHave, in_range, out_of_range, HandlesBitfield, right, wrong, HandlesMessage, Handles, RequestsHashes, requests, rests, FollowsUp, without_peer, with_pending, TakesEvent, StepNext, no_peer, waits, goes_on, closes, faulty, no_memory, new_peer, StepConnect, joins, full, spent, no_room, StepFeed, feeds, not_fed, no_room as no_room_to_feed, StepLost, goes, not_fed as not_lost, rechoked_peer, rechoked, FollowsEach, StepRechoke, rechokes, not_rechoked, AdoptsGroups, StepAdopt, no_file, busy, empty, adopts, not_adopted, StepFlush, syncs, fails, Run, IsOrderlyPeer, IsOrderly, AskedApart, StepKeepsOrder, RunsAreOrderly}
+use Rattle.bt_machine.proofs.Base.{[], ◌≡◌, ◌≢◌, ℕ, zero, suc, ◌+◌, ◌*◌, ◌<◌, ◌≤◌, ◌⊎◌, inl, inr, Bool, true, false, not, ◌∷◌, ◌++◌, length, map, take, drop, Some, refl, sym, ap, ◌∙◌, subst, arith, length-append, slice_get, slice_set, option_map, Contains, ◌&&◌, ◌==◌, Result, Ok, option_and_then, AllPairs, cases_lt, eqb-true, eq-eqb, length-set, length-take, length-map, length-replicate, AllPairs-filter, length-filter, count_by-le-length, div_ceil_times, Contains-append_cases, total_pieces, given, failed, block_of, judged, states_after_put, Missing, Waiting, Marked, StoreError, Put, PutMarked, PutWaiting, PeerKey, BlockId, is_block, max_peers, without_block, PeerMessage as Sent, KeepAlive, Choke, Have, Bitfield, Request, Piece, Cancel, HashRequest, Hashes, HashReject, Message}
+use Rattle.bt_machine.proofs.Machine.{Digest, Connect, Feed, Next, Lost, Rechoke, Adopt, Flush, PeerState, FileState, EngineState, state_at, with_file, with_peer, FindsFault, damaged, fault, with_payload, HandlesRequest, ignored, no_place, not_marked, served, stopped, Arrives, HandlesPiece, stale, arrives, judged_file, SettlesIn, HandlesHashes, unknown_root, no_claim, refused, accepts_hashes, bits_of, bits_in, HandlesHave, in_range, out_of_range, HandlesBitfield, right, wrong, HandlesMessage, Handles, RequestsHashes, requests, rests, FollowsUp, without_peer, with_pending, TakesEvent, StepNext, no_peer, waits, keeps_peer, closes, faulty, no_memory, new_peer, StepConnect, joins, full, spent, no_room, StepFeed, feeds, not_fed, no_room as no_room_to_feed, StepLost, goes, not_fed as not_lost, rechoked_peer, rechoked, FollowsEach, StepRechoke, rechokes, not_rechoked, AdoptsGroups, StepAdopt, no_file, busy, empty, adopts, not_adopted, StepFlush, syncs, fails, Run, IsOrderlyPeer, IsOrderly, AskedApart, StepKeepsOrder, RunsAreOrderly}
 use Rattle.bt_machine.proofs.Lists.{set_id, set_other, set_same, and_then_some, and_true, contains_none, contains_cases, contains_filter, contains_map, here, later}
 use Rattle.bt_machine.proofs.Marks.{state_is, meant_then}
 use Rattle.bt_machine.proofs.Pairs.{Pairs, to_pairs, from_pairs, contains_some, pairs_at, contains_set, pairs_set, contains_without, pairs_without, length-without, pairs_append, pairs_map}
@@ -258,7 +258,7 @@ module _ (dig : Digest) where
   hashes_change at (unknown_root x y z e) = quiet at e
   hashes_change at (no_claim f x y c) = quiet at c.after
   hashes_change at (refused f t k c x y z g) = quiet at g.after
-  hashes_change at (learns l) =
+  hashes_change at (accepts_hashes l) =
       placed _ _ (cc) (cc) (cc)
       (λ b missing. settle_missing l.settles b missing) l.after refl refl refl (λ r. r)
 
@@ -389,7 +389,7 @@ module _ (dig : Digest) where
   next_order : {s new key calls answer : _} → StepNext dig s key calls answer new → IsOrderly s → IsOrderly new
   next_order (no_peer x y z e) o = order_is e o
   next_order (waits i p x y z w e) o = order_is e o
-  next_order {s} (goes_on i p out peer g x) o =
+  next_order {s} (keeps_peer i p out peer g x) o =
       follow_order g.follows (pending_order s _ (taken_order peer.here g.takes o))
   next_order (closes i p out peer g x) o = without_order i g.after (taken_order peer.here g.takes o)
   next_order (faulty i p out peer g x) o = without_order i g.after o

@@ -1,5 +1,5 @@
 -- Lists in which a relation holds of each element and each later one.
-use Rattle.bt_machine.proofs.Base.{◌≡◌, ◌≢◌, ℕ, zero, suc, ◌+◌, ◌<◌, ◌≤◌, ◌⊎◌, inl, inr, List, ◌∷◌, ◌++◌, length, map, take, drop, get_or, Some, refl, sym, ap, ◌∙◌, arith, slice_get, slice_set, Contains, ⊤, AllPairs, get_or_default, Contains-append_cases}
+use Rattle.bt_machine.proofs.Base.{[], ◌≡◌, ◌≢◌, ℕ, zero, suc, ◌+◌, ◌<◌, ◌≤◌, ◌⊎◌, inl, inr, List, ◌∷◌, ◌++◌, length, map, take, drop, get_or, Some, refl, sym, ap, ◌∙◌, arith, slice_get, slice_set, Contains, ⊤, AllPairs, get_or_default, Contains-append_cases}
 use Rattle.bt_machine.proofs.Lists.{same_some, here, later, contains_none, contains_cases, contains_map}
 
 -- the same by recursion on the list

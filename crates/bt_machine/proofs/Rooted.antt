@@ -1,6 +1,6 @@
 -- Trees stay rooted.
-use Rattle.bt_machine.proofs.Base.{◌≡◌, ◌-◌, arith, inl, inr, ◌∷◌, sym, ◌<◌, ◌∙◌, blocks_of, height, IsRooted, IsChecked, keeps_rooted, held_is_checked, value_covers, CoversBlock, real_width, real_limit, IsRight, PeerMessage as Sent, Have, Bitfield, Request, Piece, Hashes, HashReject, Message}
-use Rattle.bt_machine.proofs.Machine.{Digest, Connect, Feed, Next, Lost, Rechoke, Adopt, Flush, with_tree, FindsFault, damaged, fault, HandlesRequest, ignored, no_place, not_marked, served, stopped, HandlesPiece, stale, arrives, HandlesHashes, unknown_root, no_claim, refused, learns, HandlesHave, in_range, out_of_range, HandlesBitfield, right, wrong, HandlesMessage, Handles, StepNext, no_peer, waits, goes_on, closes, faulty, no_memory, StepConnect, joins, full, spent, no_room, StepFeed, feeds, not_fed, no_room as no_room_to_feed, StepLost, goes, not_fed as not_lost, FollowsEach, StepRechoke, rechokes, not_rechoked, AdoptsGroup, AdoptsGroups, StepAdopt, no_file, busy, empty, adopts, not_adopted, StepFlush, syncs, fails, Step, Run, AreRooted, StepKeepsRooted, AreChecked}
+use Rattle.bt_machine.proofs.Base.{[], ◌≡◌, ◌-◌, arith, inl, inr, ◌∷◌, sym, ◌<◌, ◌∙◌, blocks_of, height, IsRooted, IsChecked, keeps_rooted, held_is_checked, value_covers, CoversBlock, real_width, real_limit, IsRight, PeerMessage as Sent, Have, Bitfield, Request, Piece, Hashes, HashReject, Message}
+use Rattle.bt_machine.proofs.Machine.{Digest, Connect, Feed, Next, Lost, Rechoke, Adopt, Flush, with_tree, FindsFault, damaged, fault, HandlesRequest, ignored, no_place, not_marked, served, stopped, HandlesPiece, stale, arrives, HandlesHashes, unknown_root, no_claim, refused, accepts_hashes, HandlesHave, in_range, out_of_range, HandlesBitfield, right, wrong, HandlesMessage, Handles, StepNext, no_peer, waits, keeps_peer, closes, faulty, no_memory, StepConnect, joins, full, spent, no_room, StepFeed, feeds, not_fed, no_room as no_room_to_feed, StepLost, goes, not_fed as not_lost, FollowsEach, StepRechoke, rechokes, not_rechoked, AdoptsGroup, AdoptsGroups, StepAdopt, no_file, busy, empty, adopts, not_adopted, StepFlush, syncs, fails, Step, Run, AreRooted, StepKeepsRooted, AreChecked}
 use Rattle.bt_machine.proofs.Lists.{set_cases}
 use Rattle.bt_machine.proofs.Adopting.{group_extends}
 
@@ -40,7 +40,7 @@ module _ (dig : Digest) where
   hashes_rooted (unknown_root a b c e) r = as_before e r
   hashes_rooted (no_claim f a b c) r = as_before c.after r
   hashes_rooted (refused f t k c a b d g) r = as_before g.after r
-  hashes_rooted {s} (learns l) r =
+  hashes_rooted {s} (accepts_hashes l) r =
       let grown = grown_rooted s _ r (keeps_rooted dig l.old l.new l.claim l.accepts (r l.tree l.old l.here.here)) in
       as_before l.after (as_before l.settles.others grown)
 
@@ -60,7 +60,7 @@ module _ (dig : Digest) where
   next_rooted : {s new key calls answer : _} → StepNext dig s key calls answer new → AreRooted dig s → AreRooted dig new
   next_rooted (no_peer a b c e) r = as_before e r
   next_rooted (waits i p a b c d e) r = as_before e r
-  next_rooted {calls} (goes_on i p out a g b) r = as_before g.follows.after (event_rooted _ g.mid i _ _ calls _ g.takes.handles r)
+  next_rooted {calls} (keeps_peer i p out a g b) r = as_before g.follows.after (event_rooted _ g.mid i _ _ calls _ g.takes.handles r)
   next_rooted {calls} (closes i p out a g b) r = as_before g.after (event_rooted _ g.mid i _ _ calls _ g.takes.handles r)
   next_rooted (faulty i p out a g b) r = as_before g.after r
   next_rooted (no_memory i p a g b) r = as_before g.after r
@@ -90,7 +90,7 @@ module _ (dig : Digest) where
 
   group_rooted : {s new file from calls adopted : _} → AdoptsGroup dig s file from calls adopted new → AreRooted dig s → AreRooted dig new
   group_rooted {s} g r =
-      as_before g.after (grown_rooted s _ r ((group_extends dig g).rooted (r g.state.tree g.tree g.is_file.hung)))
+      as_before g.after (grown_rooted s _ r ((group_extends dig g).rooted (r g.state.tree g.tree g.is_file.has_tree)))
 
   groups_rooted : (s new file from groups total : _) → AdoptsGroups dig s file from groups total new → AreRooted dig s → AreRooted dig new
   groups_rooted s new file from [] total g r = as_before g.1 r
@@ -123,8 +123,8 @@ module _ (dig : Digest) where
 
 pub rooted_checked : (dig : Digest) (s : _) → AreRooted dig s → AreChecked dig s
 rooted_checked dig s rooted t k at layer i d held =
-    let hung = rooted t k at in
-    held_is_checked dig k hung (height k - layer) layer i d (omega (arith, (hung.covers layer i d held).inside.in_height)) held
+    let has_tree = rooted t k at in
+    held_is_checked dig k has_tree (height k - layer) layer i d (omega (arith, (has_tree.covers layer i d held).inside.in_height)) held
 
 pub right_checked : {dig : _} (k i bytes : _) → IsRooted dig k → i < blocks_of k → IsRight dig k i bytes → IsChecked dig k 0 i (dig bytes)
 right_checked {dig} k i bytes rooted lt exact =

@@ -1,6 +1,6 @@
 -- What is sent of blocks.
-use Rattle.bt_machine.proofs.Base.{◌≡◌, ℕ, inl, inr, Bool, true, false, List, ◌∷◌, ◌++◌, map, Some, Result, Ok, Err, refl, sym, ap, ◌∙◌, subst, Contains, Contains-append_cases, IsPlace, Span, Facts, given, call_of, IsRight, StoreError, DeviceFault, Put, Wrong, PutMarked, PutWaiting, PeerKey, Ask, PeerMessage, Have, Bitfield, Request, Piece, HashRequest, Hashes, WireEvent, Hello, Message, Skipped}
-use Rattle.bt_machine.proofs.Machine.{Digest, Frame, hello_frame, message_frame, Connect, Next, Rechoke, PeerState, EngineState, DeviceCalls, tree_of, spanned_blocks, cut_from, Sent, Effect, sent_to, haves, Serves, FindsFault, damaged, fault, HandlesRequest, ignored, no_place, not_marked, served, stopped, HasPutEffect, HandlesPiece, stale, arrives, HandlesHashRequest, answered, rejected, HandlesHashes, unknown_root, no_claim, refused, learns, HandlesHello, ours, other, HandlesHave, in_range, out_of_range, HandlesBitfield, right, wrong, HandlesMessage, Handles, FollowsUp, interest_sent, RequestsHashes, requests, rests, RequestsEach, IsPeer, TakesEvent, StepNext, no_peer, waits, goes_on, closes, faulty, no_memory, new_peer, StepConnect, joins, full, spent, no_room, FollowsEach, StepRechoke, rechokes, not_rechoked, choking_sent, is_served, of_connect, of_next, of_rechoke, Step, Run, sent_by, StepSendsReadBytes, IsServed, IsSoAt}
+use Rattle.bt_machine.proofs.Base.{[], ◌≡◌, ℕ, inl, inr, Bool, true, false, List, ◌∷◌, ◌++◌, map, Some, Result, Ok, Err, refl, sym, ap, ◌∙◌, subst, Contains, Contains-append_cases, IsPlace, Span, Facts, given, call_of, IsRight, StoreError, DeviceFault, Put, Wrong, PutMarked, PutWaiting, PeerKey, Ask, PeerMessage, Have, Bitfield, Request, Piece, HashRequest, Hashes, WireEvent, Hello, Message, Skipped}
+use Rattle.bt_machine.proofs.Machine.{Digest, Frame, hello_frame, message_frame, Connect, Next, Rechoke, PeerState, EngineState, DeviceCalls, tree_of, spanned_blocks, cut_from, Sent, Effect, sent_to, haves, Serves, FindsFault, damaged, fault, HandlesRequest, ignored, no_place, not_marked, served, stopped, HasPutEffect, HandlesPiece, stale, arrives, HandlesHashRequest, answered, rejected, HandlesHashes, unknown_root, no_claim, refused, accepts_hashes, HandlesHello, ours, other, HandlesHave, in_range, out_of_range, HandlesBitfield, right, wrong, HandlesMessage, Handles, FollowsUp, interest_sent, RequestsHashes, requests, rests, RequestsEach, IsPeer, TakesEvent, StepNext, no_peer, waits, keeps_peer, closes, faulty, no_memory, new_peer, StepConnect, joins, full, spent, no_room, FollowsEach, StepRechoke, rechokes, not_rechoked, choking_sent, is_served, of_connect, of_next, of_rechoke, Step, Run, sent_by, StepSendsReadBytes, IsServed, IsSoAt}
 use Rattle.bt_machine.proofs.Marking.{after_step, at_first}
 use Rattle.bt_machine.proofs.Lists.{contains_none, contains_cases, contains_map, contains_flat_map, map_contains}
 
@@ -100,7 +100,7 @@ record IsCut (dig : Digest) (s : EngineState) (p : PeerState) (e : WireEvent) (c
   same_begin : ask.begin ≡ begin
   unchoked : p.am_choking ≡ false
   spans : IsPlace s.torrent ask.piece ask.begin ask.length span
-  hung : tree_of s span.file ≡ Some tree
+  has_tree : tree_of s span.file ≡ Some tree
   read : (i : ℕ) → Contains (spanned_blocks span) i → Contains calls (span.file, call_of tree.file_length (given i (blocks i)))
   exact : (i : ℕ) → Contains (spanned_blocks span) i → IsRight dig tree i (blocks i)
   cut : bytes ≡ cut_from span blocks
@@ -128,7 +128,7 @@ module _ (dig : Digest) where
               same_begin = cc;
               unchoked = open_to;
               spans = place;
-              hung = cc;
+              has_tree = cc;
               read = λ j among. rw f.made (map_contains (λ r. (span.file, call_of f.tree.file_length r)) _
                   (subst (λ rs. Contains rs (given j (f.bytes j))) (sym f.right.made) (map_contains (λ i. given i (f.bytes i)) _ among)));
               exact = f.right.right;
@@ -166,7 +166,7 @@ module _ (dig : Digest) where
   hashes_sends P (unknown_root x y e z) = effect_is P e plain_none
   hashes_sends P (no_claim f x y c) = effect_is P c.has_effect plain_none
   hashes_sends P (refused f t k c x y z g) = effect_is P g.has_effect plain_none
-  hashes_sends P (learns l) = effect_is P l.has_effect plain_none
+  hashes_sends P (accepts_hashes l) = effect_is P l.has_effect plain_none
 
   answer_sends : (P : PeerKey → ℕ → ℕ → List ℕ → Type 0) {s p key effect : _} → HandlesHashRequest dig s p key effect → Sends P effect.send
   answer_sends P (answered digests x e) = effect_is P e (plain_one _ [] refl plain_none)
@@ -219,7 +219,7 @@ module _ (dig : Digest) where
         same_piece = f.same_piece;
         same_begin = f.same_begin;
         spans = f.spans;
-        hung = f.hung;
+        has_tree = f.has_tree;
         read = f.read;
         right = f.exact;
         cut = f.cut;
@@ -231,7 +231,7 @@ module _ (dig : Digest) where
   next_sends : {s new key calls r : _} → StepNext dig s key calls r new → Sends (IsServed dig s (Next key) calls) (sent_by (of_next r))
   next_sends (no_peer x y e z) = nothing _ (ap (λ x. of_next x) e) plain_none
   next_sends (waits i p x y z e f) = nothing _ (ap (λ x. of_next x) e) plain_none
-  next_sends {s} (goes_on i p out x g e) =
+  next_sends {s} (keeps_peer i p out x g e) =
       sends_is _ (cc)
       (sends_is _ g.send
       (sends_append _ _ _

@@ -1,6 +1,6 @@
 -- What stays over all events.
-use Rattle.bt_machine.proofs.Base.{◌≡◌, ◌≢◌, ℕ, zero, suc, ◌+◌, ◌<◌, inl, inr, Bool, true, false, List, ◌∷◌, ◌++◌, length, map, get_or, Some, refl, sym, ap, ◌∙◌, arith, slice_get, slice_set, option_map, if◌then◌else◌, Result, Ok, AllPairs, length-set, length-map, length-replicate, append-nil, get_or-map, block_count, Facts, given, failed, judged, Adopts, known, accepted, states_after_put, Missing, Waiting, Marked, StoreError, Put, PutMarked, PutWaiting, PeerMessage as Sent, KeepAlive, Have, Bitfield, Request, Piece, Cancel, HashRequest, Hashes, HashReject, Message}
-use Rattle.bt_machine.proofs.Machine.{Digest, Connect, Feed, Next, Lost, Rechoke, Adopt, Flush, FileState, EngineState, mark_of, with_file, with_tree, with_peer, new_marked_blocks, FindsFault, damaged, fault, HandlesRequest, ignored, no_place, not_marked, served, stopped, HandlesPiece, stale, arrives, judged_file, SettlesIn, HandlesHashes, unknown_root, no_claim, refused, learns, HandlesHave, in_range, out_of_range, HandlesBitfield, right, wrong, HandlesMessage, Handles, FollowsUp, without_peer, with_pending, TakesEvent, StepNext, no_peer, waits, goes_on, closes, faulty, no_memory, StepConnect, joins, full, spent, no_room, StepFeed, feeds, not_fed, no_room as no_room_to_feed, StepLost, goes, not_fed as not_lost, FollowsEach, StepRechoke, rechokes, not_rechoked, AdoptsGroup, AdoptsGroups, StepAdopt, no_file, busy, empty, adopts, not_adopted, StepFlush, syncs, fails, Starts, Step, Run, IsShaped, HasShapeOf, RunsKeepShape}
+use Rattle.bt_machine.proofs.Base.{[], ◌≡◌, ◌≢◌, ℕ, zero, suc, ◌+◌, ◌<◌, inl, inr, Bool, true, false, List, ◌∷◌, ◌++◌, length, map, get_or, Some, refl, sym, ap, ◌∙◌, arith, slice_get, slice_set, option_map, if◌then◌else◌, Result, Ok, AllPairs, length-set, length-map, length-replicate, append-nil, get_or-map, block_count, Facts, given, failed, judged, Adopts, known, accepted, states_after_put, Missing, Waiting, Marked, StoreError, Put, PutMarked, PutWaiting, PeerMessage as Sent, KeepAlive, Have, Bitfield, Request, Piece, Cancel, HashRequest, Hashes, HashReject, Message}
+use Rattle.bt_machine.proofs.Machine.{Digest, Connect, Feed, Next, Lost, Rechoke, Adopt, Flush, FileState, EngineState, mark_of, with_file, with_tree, with_peer, new_marked_blocks, FindsFault, damaged, fault, HandlesRequest, ignored, no_place, not_marked, served, stopped, HandlesPiece, stale, arrives, judged_file, SettlesIn, HandlesHashes, unknown_root, no_claim, refused, accepts_hashes, HandlesHave, in_range, out_of_range, HandlesBitfield, right, wrong, HandlesMessage, Handles, FollowsUp, without_peer, with_pending, TakesEvent, StepNext, no_peer, waits, keeps_peer, closes, faulty, no_memory, StepConnect, joins, full, spent, no_room, StepFeed, feeds, not_fed, no_room as no_room_to_feed, StepLost, goes, not_fed as not_lost, FollowsEach, StepRechoke, rechokes, not_rechoked, AdoptsGroup, AdoptsGroups, StepAdopt, no_file, busy, empty, adopts, not_adopted, StepFlush, syncs, fails, Starts, Step, Run, IsShaped, HasShapeOf, RunsKeepShape}
 use Rattle.bt_store.specs.Adoption.{marked_run}
 use Rattle.bt_machine.proofs.Lists.{set_get, set_cases, map_some}
 use Rattle.bt_machine.proofs.Adopting.{group_extends}
@@ -194,7 +194,7 @@ module _ (dig : Digest) where
   hashes_keeps (unknown_root x y z e) = is_same e
   hashes_keeps (no_claim f x y c) = is_same c.after
   hashes_keeps (refused f t k c x y z g) = is_same g.after
-  hashes_keeps {i} (learns l) =
+  hashes_keeps {i} (accepts_hashes l) =
       let grown = tree_keeps _ l.new l.here.here l.accepts.joins.root l.accepts.joins.file_length in
       keeps_then (keeps_then grown (settle_keeps l.settles)) (with_peer_keeps i _ l.after)
 
@@ -234,7 +234,7 @@ module _ (dig : Digest) where
   next_keeps : {s new key calls answer : _} → StepNext dig s key calls answer new → Keeps s new
   next_keeps (no_peer x y z e) = is_same e
   next_keeps (waits i p x y z w e) = is_same e
-  next_keeps {s} (goes_on i p out peer g x) =
+  next_keeps {s} (keeps_peer i p out peer g x) =
       let pending = with_pending s g.mid g.effect.proofs in
       keeps_then (keeps_then (taken_keeps g.takes) (pending_keeps s _)) (follow_keeps g.follows)
   next_keeps (closes i p out peer g x) = keeps_then (taken_keeps g.takes) (gone_keeps i g.after)
@@ -272,7 +272,7 @@ module _ (dig : Digest) where
       let grown = with_tree placed g.state.tree g.grown in
       let extends = group_extends dig g in
       let one = file_keeps file state g.is_file.here refl (length-adopted g.adopts) in
-      let two = tree_keeps _ _ g.is_file.hung extends.root extends.file_length in
+      let two = tree_keeps _ _ g.is_file.has_tree extends.root extends.file_length in
       keeps_then (keeps_then (keeps_then one two) (pending_keeps s _)) (is_same g.after)
 
   groups_keep : (s : _) {new : _} (file from groups total : _) → AdoptsGroups dig s file from groups total new → Keeps s new
@@ -323,8 +323,8 @@ module _ (dig : Digest) where
       → length f.states ≡ length before.states → ((t : ℕ) (k : Facts) → slice_get trees t ≡ Some k → SameTree m.trees t k) → HasShapeOf file m.trees f
   file_shape m {before} old tree blocks keep = record {
     blocks = cc;
-    hung = λ some. (
-        let k = old.hung some in
+    has_tree = λ some. (
+        let k = old.has_tree some in
         let l = keep before.tree k.0 k.1 in
         (l.after, ap (slice_get m.trees) tree ∙ l.here, l.root ∙ k.2, l.length ∙ k.3)
         );
@@ -345,7 +345,7 @@ module _ (dig : Digest) where
     count = starts.is_new.count;
     each = λ i file f listed at. (
         let new = starts.is_new.each_file i file f listed at in
-        record { blocks = ap length new.missing ∙ length-replicate (block_count file.length) Missing; hung = new.hung }
+        record { blocks = ap length new.missing ∙ length-replicate (block_count file.length) Missing; has_tree = new.has_tree }
         );
   }
 

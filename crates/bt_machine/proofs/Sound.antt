@@ -1,5 +1,5 @@
 -- Marked blocks stay right on honest devices.
-use Rattle.bt_machine.proofs.Base.{◌≡◌, ◌≢◌, ℕ, ◌*◌, ◌⊎◌, inl, inr, Bool, true, false, List, ◌∷◌, length, take, drop, Option, Some, refl, sym, ap, ◌∙◌, subst, slice_get, Contains, ◌==◌, eqb-true, eq-eqb, full_block_length, block_length, History, after_write, Call, bytes_given, bytes_written, write_fault, length_set, resize_fault, sync_made, AreAnswered, AfterWriteFault, Facts, value_at, given, call_of, IsRight, Missing, Marked}
+use Rattle.bt_machine.proofs.Base.{[], ◌≡◌, ◌≢◌, ℕ, ◌*◌, ◌⊎◌, inl, inr, Bool, true, false, List, ◌∷◌, length, take, drop, Option, Some, refl, sym, ap, ◌∙◌, subst, slice_get, Contains, ◌==◌, eqb-true, eq-eqb, full_block_length, block_length, History, after_write, Call, bytes_given, bytes_written, write_fault, length_set, resize_fault, sync_made, AreAnswered, AfterWriteFault, Facts, value_at, given, call_of, IsRight, Missing, Marked}
 use Rattle.bt_machine.proofs.Machine.{Digest, FileState, DeviceCalls, calls_of, block_id, state_at, tree_of, stored_block, AreRight, Step, brought, read_back, found, IsSound, StepKeepsSound, RunOn, CompleteFilesStand, KeepsBytes}
 use Rattle.bt_disk.specs.Calls.{IsAnswered}
 use Rattle.bt_machine.proofs.Lists.{here, later, contains_none, contains_cases, contains_filter, contains_map}
@@ -103,9 +103,9 @@ kept_block : (dig : Digest) {files : List FileState} {trees : List Facts} (file 
     → slice_get files file ≡ Some f → slice_get trees f.tree ≡ Some k → slice_get f.states i ≡ Some Marked → Touches files trees calls
     → AreAnswered old (calls_of file calls) new → length (stored_block k.file_length old.now.bytes i) ≡ block_length k.file_length i
     → stored_block k.file_length new.now.bytes i ≡ stored_block k.file_length old.now.bytes i
-kept_block dig file i {k} {calls} old new at hung marked (keeping keep) answered whole =
+kept_block dig file i {k} {calls} old new at has_tree marked (keeping keep) answered whole =
     ap (λ xs. stored_block k.file_length xs i) (calls_keep old _ (λ c among. keep (file, c) (of_all calls among)) answered).same
-kept_block dig {files} {trees} file i {f} {k} {calls} old new at hung marked (putting b bytes g l call there rooted missing size made is) answered whole =
+kept_block dig {files} {trees} file i {f} {k} {calls} old new at has_tree marked (putting b bytes g l call there rooted missing size made is) answered whole =
     by _ refl
   where
     by : (t : Bool) → (b.file == file) ≡ t → stored_block k.file_length new.now.bytes i ≡ stored_block k.file_length old.now.bytes i
@@ -133,18 +133,18 @@ module _ {D : Type 0} (history : D → History) (honest : D → Type 0) (faults 
       → slice_get new.files file ≡ Some f → slice_get new.trees f.tree ≡ Some k → AreAnswered before (calls_of file calls) after
       → ((g : FileState) (l : Facts) → slice_get old.files file ≡ Some g → slice_get old.trees g.tree ≡ Some l → AreRight dig l before.now.bytes g.states)
       → slice_get f.states i ≡ Some Marked → IsRight dig k i (stored_block k.file_length after.now.bytes i)
-  block_right old new event calls answer file {i} {f} {k} before after step at hung answered sound marked =
+  block_right old new event calls answer file {i} {f} {k} before after step at has_tree answered sound marked =
       let tame = step_tame dig old new event calls _ step in
-      let grown = tame.0 file f k at hung in
+      let grown = tame.0 file f k at has_tree in
       let b = block_id file i in
       let now : state_at new b ≡ Some Marked = cc in
       let tree : tree_of new file ≡ Some k = cc in
       elim (step_cases dig b old new event calls _ step now) [
         | inl was ↦
             let marked_before : slice_get grown.old_file.states i ≡ Some Marked = cc in
-            let r = sound grown.old_file grown.old_tree grown.here grown.hung i marked_before in
+            let r = sound grown.old_file grown.old_tree grown.here grown.has_tree i marked_before in
             moved _ _ grown.same_length (grown.kept i)
-            (kept_block dig file i _ after grown.here grown.hung marked_before tame.1 answered r.whole) r
+            (kept_block dig file i _ after grown.here grown.has_tree marked_before tame.1 answered r.whole) r
         | inr (brought x) ↦
             let same : x.tree ≡ k = cc in
             let r : IsRight dig k i x.bytes = rw (← same) x.right in
@@ -152,8 +152,8 @@ module _ {D : Type 0} (history : D → History) (honest : D → Type 0) (faults 
             let a = subst (λ cs. AreAnswered before cs after) one answered in
             let is = stands _ i _ _ r.whole (a.2 ∙ a.1) in
             rw is r
-        | inr (read_back x) ↦ read_right x.hung x.read x.right tree tame.1
-        | inr (found x) ↦ read_right x.hung x.read x.right tree tame.1
+        | inr (read_back x) ↦ read_right x.has_tree x.read x.right tree tame.1
+        | inr (found x) ↦ read_right x.has_tree x.read x.right tree tame.1
       ]
     where
       read_right : {l bytes : _} → tree_of new file ≡ Some l → Contains calls (file, call_of l.file_length (given i bytes)) → IsRight dig l i bytes
@@ -177,13 +177,13 @@ module _ {D : Type 0} (history : D → History) (honest : D → Type 0) (faults 
   step_sound old new event calls answer disks after step have sound file f k e is_file there honest_now i marked =
       let d = have.each file e there in
       let was_honest = d.2.as_honest.1 honest_now in
-      block_right old new event calls _ file _ _ step is_file.here is_file.hung (d.2.answered was_honest)
-      (λ g l at hung. sound file g l d.0 (record { here = at; hung = hung }) d.1 was_honest) marked
+      block_right old new event calls _ file _ _ step is_file.here is_file.has_tree (d.2.answered was_honest)
+      (λ g l at has_tree. sound file g l d.0 (record { here = at; has_tree = has_tree }) d.1 was_honest) marked
 
   pub run_sound : (old new events calls answers : _) (disks after : List (Option D)) → RunOn history honest faults dig old disks events calls answers new after
       → IsSound history honest dig old disks → IsSound history honest dig new after
   run_sound old new [] [] [] disks after run sound = λ file f k e is_file there honest_now.
-      sound file f k e (record { here = cc; hung = cc })
+      sound file f k e (record { here = cc; has_tree = cc })
       (cc) honest_now
   run_sound old new (e ∷ es) (c ∷ calls) (a ∷ answers) disks after run sound =
       run_sound run.0 new es calls answers run.1 after run.4 (step_sound old run.0 e c a disks run.1 run.2 run.3 sound)
@@ -191,4 +191,4 @@ module _ {D : Type 0} (history : D → History) (honest : D → Type 0) (faults 
 
   pub complete_stands : CompleteFilesStand history honest dig
   complete_stands s disks file f k d rooted sound is_file some marked there honest_now =
-      complete_root k _ _ (rooted f.tree k is_file.hung) some marked (sound file f k d is_file there honest_now)
+      complete_root k _ _ (rooted f.tree k is_file.has_tree) some marked (sound file f k d is_file there honest_now)

@@ -5,7 +5,7 @@ use Rattle.bt_disk.specs.History.{moment_of, after_sync}
 use Rattle.bt_disk.specs.Calls.{IsAnswered}
 use Rattle.bt_disk.proofs.Images.{synced_image}
 use Rattle.bt_disk.proofs.Histories.{kept_from_now}
-use Rattle.bt_machine.proofs.Base.{◌≡◌, ℕ, ◌+◌, ◌-◌, ◌*◌, ◌<◌, Bool, true, false, not, inl, inr, List, ◌∷◌, length, get_or, Some, Ok, refl, sym, ap, ◌∙◌, subst, arith, slice_get, Contains, ◌==◌, cases_lt, eqb-true, same_number_lists, block_length, IsImage, History, Call, sync_made, AreAnswered, Facts, IsRight, BlockState, Marked, option_map_or}
+use Rattle.bt_machine.proofs.Base.{[], ◌≡◌, ℕ, ◌+◌, ◌-◌, ◌*◌, ◌<◌, Bool, true, false, not, inl, inr, List, ◌∷◌, length, get_or, Some, Ok, refl, sym, ap, ◌∙◌, subst, arith, slice_get, Contains, ◌==◌, cases_lt, eqb-true, same_number_lists, block_length, IsImage, History, Call, sync_made, AreAnswered, Facts, IsRight, BlockState, Marked, option_map_or}
 use Rattle.bt_machine.proofs.Machine.{Digest, Flush, FileState, EngineState, DeviceCalls, calls_of, state_at, block_id, file_numbers, IsFile, StepFlush, syncs, fails, syncs_of, data_files, of_flush, stored_block}
 use Rattle.bt_machine.specs.Blocks.{states_of}
 use Rattle.bt_machine.specs.Crash.{IsBlockKept}
@@ -104,7 +104,7 @@ module _ {D : Type 0} (history : D → History) (honest : D → Type 0) (faults 
 
 -- ---- lists of events
 
-record GoesOn (mid : EngineState) (file i : ℕ) (k : Facts) : Type 0 where
+record KeepsPeer (mid : EngineState) (file i : ℕ) (k : Facts) : Type 0 where
   state : FileState
   tree : Facts
   is_file : IsFile mid file state tree
@@ -112,16 +112,16 @@ record GoesOn (mid : EngineState) (file i : ℕ) (k : Facts) : Type 0 where
   same_length : tree.file_length ≡ k.file_length
 
 goes_on : {old mid : EngineState} (file i : ℕ) {f : FileState} {k : Facts} → Keeps old mid → IsFile old file f k
-    → state_at mid (block_id file i) ≡ Some Marked → GoesOn mid file i k
+    → state_at mid (block_id file i) ≡ Some Marked → KeepsPeer mid file i k
 goes_on file i {f} {k} keeps is marked =
     let g = and_then_some (λ (q : FileState). slice_get q.states i) _ marked in
     let before = keeps.files file g.0 g.1 in
     let same : before.before ≡ f = cc in
-    let tree = keeps.trees f.tree k is.hung in
+    let tree = keeps.trees f.tree k is.has_tree in
     record {
       state = g.0;
       tree = tree.after;
-      is_file = record { here = g.1; hung = cc };
+      is_file = record { here = g.1; has_tree = cc };
       marked = g.2;
       same_length = tree.length;
     }

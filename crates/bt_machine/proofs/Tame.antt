@@ -1,6 +1,6 @@
 -- What a step does to trees, files and devices: trees grow, and it reads blocks, or syncs, or writes one missing block.
-use Rattle.bt_machine.proofs.Base.{◌≡◌, ℕ, ◌*◌, ◌⊎◌, inl, inr, List, ◌∷◌, ◌++◌, length, Some, Result, Ok, Err, refl, sym, ap, ◌∙◌, slice_get, slice_set, flat_map, Contains-append_cases, full_block_length, block_length, Call, bytes_written, write_fault, sync_made, sync_fault, Facts, blocks_of, held_at, value_at, value_inside, value_covers, value_padding, cases_node, BlockRead, given, failed, call_of, PutIsDue, calls_of_put, states_after_put, Missing, StoreError, Range, DeviceFault, Put, Already, Wrong, PutMarked, PutWaiting, BlockId, PeerMessage as Sent, KeepAlive, Choke, Unchoke, Interested, NotInterested, Have, Bitfield, Request, Piece, Cancel, HashRequest, Hashes, HashReject, Hello, Message, Skipped}
-use Rattle.bt_machine.proofs.Machine.{Digest, Connect, Feed, Next, Lost, Rechoke, Adopt, Flush, FileState, EngineState, DeviceCalls, calls_at, reads_at, with_file, with_tree, SettlesIn, FindsFault, damaged, fault, HandlesRequest, ignored, no_place, not_marked, served, stopped, Arrives, HandlesPiece, stale, arrives, HandlesHashes, unknown_root, no_claim, refused, learns, HandlesHave, in_range, out_of_range, HandlesBitfield, right, wrong, HandlesMessage, Handles, StepNext, no_peer, waits, goes_on, closes, faulty, no_memory, StepConnect, joins, full, spent, no_room, StepFeed, feeds, not_fed, no_room as no_room_to_feed, StepLost, goes, not_fed as not_lost, FollowsEach, StepRechoke, rechokes, not_rechoked, AdoptsGroup, AdoptsGroups, StepAdopt, no_file, busy, empty, adopts, not_adopted, StepFlush, syncs_of, syncs, fails, Step, KeepsBytes, AllKeepBytes, IsWriteOfMissing, StepWritesMissing}
+use Rattle.bt_machine.proofs.Base.{[], ◌≡◌, ℕ, ◌*◌, ◌⊎◌, inl, inr, List, ◌∷◌, ◌++◌, length, Some, Result, Ok, Err, refl, sym, ap, ◌∙◌, slice_get, slice_set, flat_map, Contains-append_cases, full_block_length, block_length, Call, bytes_written, write_fault, sync_made, sync_fault, Facts, blocks_of, held_at, value_at, value_inside, value_covers, value_padding, cases_node, BlockRead, given, failed, call_of, PutIsDue, calls_of_put, states_after_put, Missing, StoreError, Range, DeviceFault, Put, Already, Wrong, PutMarked, PutWaiting, BlockId, PeerMessage as Sent, KeepAlive, Choke, Unchoke, Interested, NotInterested, Have, Bitfield, Request, Piece, Cancel, HashRequest, Hashes, HashReject, Hello, Message, Skipped}
+use Rattle.bt_machine.proofs.Machine.{Digest, Connect, Feed, Next, Lost, Rechoke, Adopt, Flush, FileState, EngineState, DeviceCalls, calls_at, reads_at, with_file, with_tree, SettlesIn, FindsFault, damaged, fault, HandlesRequest, ignored, no_place, not_marked, served, stopped, Arrives, HandlesPiece, stale, arrives, HandlesHashes, unknown_root, no_claim, refused, accepts_hashes, HandlesHave, in_range, out_of_range, HandlesBitfield, right, wrong, HandlesMessage, Handles, StepNext, no_peer, waits, keeps_peer, closes, faulty, no_memory, StepConnect, joins, full, spent, no_room, StepFeed, feeds, not_fed, no_room as no_room_to_feed, StepLost, goes, not_fed as not_lost, FollowsEach, StepRechoke, rechokes, not_rechoked, AdoptsGroup, AdoptsGroups, StepAdopt, no_file, busy, empty, adopts, not_adopted, StepFlush, syncs_of, syncs, fails, Step, KeepsBytes, AllKeepBytes, IsWriteOfMissing, StepWritesMissing}
 use Rattle.bt_machine.proofs.Lists.{set_cases, map_some, contains_none, contains_cases, contains_map, contains_flat_map}
 use Rattle.bt_machine.proofs.Adopting.{group_extends}
 
@@ -9,7 +9,7 @@ pub record GrownFrom (dig : Digest) (files : List FileState) (trees : List Facts
   pub old_file : FileState
   pub old_tree : Facts
   pub here : slice_get files file ≡ Some old_file
-  pub hung : slice_get trees old_file.tree ≡ Some old_tree
+  pub has_tree : slice_get trees old_file.tree ≡ Some old_tree
   pub same_length : new.file_length ≡ old_tree.file_length
   pub same_root : new.root ≡ old_tree.root
   pub kept : (i : ℕ) (d : List ℕ) → value_at dig old_tree 0 i ≡ Some d → value_at dig new 0 i ≡ Some d
@@ -63,15 +63,15 @@ append_keeps xs ys f g c among = elim (Contains-append_cases xs ys c among) [ in
 module _ (dig : Digest) where
   same_tree : {files : List FileState} {trees : List Facts} {file : ℕ} {f : FileState} {k : Facts} → slice_get files file ≡ Some f
       → slice_get trees f.tree ≡ Some k → GrownFrom dig files trees file k
-  same_tree {f} {k} at hung = record { old_file = f; old_tree = k; here = at; hung = hung; same_length = refl; same_root = refl; kept = λ i d e. e }
+  same_tree {f} {k} at has_tree = record { old_file = f; old_tree = k; here = at; has_tree = has_tree; same_length = refl; same_root = refl; kept = λ i d e. e }
 
   -- the engine has the same files and trees
   stays : (s mid : EngineState) → mid.files ≡ s.files → mid.trees ≡ s.trees → Grows dig s.files s.trees mid
-  stays s mid files trees file f k at hung = same_tree (sym (cc) ∙ at) (cc)
+  stays s mid files trees file f k at has_tree = same_tree (sym (cc) ∙ at) (cc)
 
   -- one like another
   like : (files trees : _) (m mid : EngineState) → mid.files ≡ m.files → mid.trees ≡ m.trees → Grows dig files trees m → Grows dig files trees mid
-  like files trees m mid sames sametrees g file f k at hung = g file f k (cc) (cc)
+  like files trees m mid sames sametrees g file f k at has_tree = g file f k (cc) (cc)
 
   quiet : (s mid : EngineState) {calls : _} → mid.files ≡ s.files → mid.trees ≡ s.trees → calls ≡ [] → Tame dig s.files s.trees calls mid
   quiet s mid files trees none = (stays s mid files trees, keeping (keep_is none no_calls))
@@ -79,9 +79,9 @@ module _ (dig : Digest) where
   -- a file stands in the place of one with the same tree
   file_grows : (s : EngineState) (file : ℕ) {f : _} (new : FileState) → slice_get s.files file ≡ Some f → new.tree ≡ f.tree
       → Grows dig s.files s.trees (with_file s file new)
-  file_grows s file new at same other g k there hung = elim (set_cases _ file other there) [
+  file_grows s file new at same other g k there has_tree = elim (set_cases _ file other there) [
     | inl now ↦ same_tree (ap (slice_get s.files) now.0 ∙ at) (cc)
-    | inr old ↦ same_tree old hung
+    | inr old ↦ same_tree old has_tree
   ]
 
   have_tame : {s mid i p piece calls effect : _} → calls ≡ [] → HandlesHave s i p piece effect mid → Tame dig s.files s.trees calls mid
@@ -112,12 +112,12 @@ module _ (dig : Digest) where
   put_touches : {files : List FileState} {trees : List Facts} (c : BlockId) (bytes : _) {f : FileState} {k : Facts} {calls : DeviceCalls}
       → slice_get files c.file ≡ Some f → slice_get trees f.tree ≡ Some k → (r : Result Put StoreError) → PutIsDue dig k c.block bytes f.states r
       → calls ≡ calls_at c.file (calls_of_put c.block bytes r) → Touches files trees calls
-  put_touches c bytes {f} {k} at hung (Ok PutMarked) due made = putting c bytes f k _ at hung due.1 due.0.whole made (inl refl)
-  put_touches c bytes {f} {k} at hung (Ok PutWaiting) due made = putting c bytes f k _ at hung due.1 due.0.whole made (inl refl)
-  put_touches c bytes {f} {k} at hung (Err DeviceFault) due made = putting c bytes f k _ at hung due.1 due.0.whole made (inr refl)
-  put_touches c bytes at hung (Ok Already) due made = keeping (keep_is made no_calls)
-  put_touches c bytes at hung (Ok Wrong) due made = keeping (keep_is made no_calls)
-  put_touches c bytes at hung (Err Range) due made = keeping (keep_is made no_calls)
+  put_touches c bytes {f} {k} at has_tree (Ok PutMarked) due made = putting c bytes f k _ at has_tree due.1 due.0.whole made (inl refl)
+  put_touches c bytes {f} {k} at has_tree (Ok PutWaiting) due made = putting c bytes f k _ at has_tree due.1 due.0.whole made (inl refl)
+  put_touches c bytes {f} {k} at has_tree (Err DeviceFault) due made = putting c bytes f k _ at has_tree due.1 due.0.whole made (inr refl)
+  put_touches c bytes at has_tree (Ok Already) due made = keeping (keep_is made no_calls)
+  put_touches c bytes at has_tree (Ok Wrong) due made = keeping (keep_is made no_calls)
+  put_touches c bytes at has_tree (Err Range) due made = keeping (keep_is made no_calls)
 
   arrives_tame : {s mid i p piece begin bytes calls effect : _} → Arrives dig s i p piece begin bytes calls effect mid → Tame dig s.files s.trees calls mid
   arrives_tame {s} {mid} {bytes} a =
@@ -125,7 +125,7 @@ module _ (dig : Digest) where
       let new : FileState = record q.file { states = states_after_put a.block.block q.result q.file.states } in
       let stored = like s.files s.trees (with_file s a.block.file new) a.stored (cc) (cc) (file_grows s a.block.file new q.is_file.here refl) in (
         like s.files s.trees a.stored mid (cc) (cc) stored,
-        put_touches a.block bytes q.is_file.here q.is_file.hung q.result q.due q.made,
+        put_touches a.block bytes q.is_file.here q.is_file.has_tree q.result q.due q.made,
       )
 
   piece_tame : {s mid i p piece begin bytes calls effect : _} → HandlesPiece dig s i p piece begin bytes calls effect mid → Tame dig s.files s.trees calls mid
@@ -135,12 +135,12 @@ module _ (dig : Digest) where
   -- a grown tree stands in the place of the one that it grew from
   tree_grows : (s : EngineState) (t : ℕ) {old : _} (new : Facts) → slice_get s.trees t ≡ Some old → new.file_length ≡ old.file_length → new.root ≡ old.root
       → ((i : ℕ) (d : List ℕ) → value_at dig old 0 i ≡ Some d → value_at dig new 0 i ≡ Some d) → Grows dig s.files s.trees (with_tree s t new)
-  tree_grows s t {old} new at size root kept file f k there hung = elim (set_cases _ t _ hung) [
+  tree_grows s t {old} new at size root kept file f k there has_tree = elim (set_cases _ t _ has_tree) [
     | inl now ↦ rw now.1 (record {
       old_file = f;
       old_tree = old;
       here = there;
-      hung = cc;
+      has_tree = cc;
       same_length = size;
       same_root = root;
       kept = kept;
@@ -150,7 +150,7 @@ module _ (dig : Digest) where
 
   settled_grows : (files trees : _) {is_meant t from count old new calls notes : _} → SettlesIn dig is_meant t from count old calls notes new
       → Grows dig files trees old → Grows dig files trees new
-  settled_grows files trees {old} s g file f k at hung =
+  settled_grows files trees {old} s g file f k at has_tree =
       let m = map_some _ _ (sym (s.files file) ∙ at) in
       let tree : m.0.tree ≡ f.tree = cc in
       g file m.0 k m.1 (cc)
@@ -164,7 +164,7 @@ module _ (dig : Digest) where
   hashes_tame {s} {mid} (unknown_root x y z e) = quiet s mid (cc) (cc) y
   hashes_tame {s} {mid} (no_claim f x y c) = quiet s mid (cc) (cc) c.made
   hashes_tame {s} {mid} (refused f t k c x y z g) = quiet s mid (cc) (cc) g.made
-  hashes_tame {s} {mid} (learns l) =
+  hashes_tame {s} {mid} (accepts_hashes l) =
       let settled = settled_grows s.files s.trees l.settles (tree_grows s l.tree l.new l.here.here l.accepts.joins.file_length l.accepts.joins.root (value_kept dig l.old l.new l.accepts.joins.file_length l.accepts.joins.kept 0)) in (
         like s.files s.trees l.settled mid (cc) (cc) settled,
         keeping (settled_keeps l.settles),
@@ -193,7 +193,7 @@ module _ (dig : Digest) where
   next_tame : {s new key calls answer : _} → StepNext dig s key calls answer new → Tame dig s.files s.trees calls new
   next_tame {s} {new} (no_peer x y z e) = quiet s new (cc) (cc) y
   next_tame {s} {new} (waits i p x y z w e) = quiet s new (cc) (cc) z
-  next_tame {s} {new} {calls} (goes_on i p out x g y) =
+  next_tame {s} {new} {calls} (keeps_peer i p out x g y) =
       let t = event_tame _ g.mid i _ _ calls _ g.takes.handles in
       (like _ _ g.mid new (cc) (cc) t.0, t.1)
   next_tame {s} {new} {calls} (closes i p out x g y) =
@@ -229,14 +229,14 @@ module _ (dig : Digest) where
 
   -- a tree that comes from one that has grown
   grows_then : (s mid new : EngineState) → Grows dig s.files s.trees mid → Grows dig mid.files mid.trees new → Grows dig s.files s.trees new
-  grows_then s mid new first second file f k at hung =
-      let later = second file f k at hung in
-      let before = first file later.old_file later.old_tree later.here later.hung in
+  grows_then s mid new first second file f k at has_tree =
+      let later = second file f k at has_tree in
+      let before = first file later.old_file later.old_tree later.here later.has_tree in
       record {
         old_file = before.old_file;
         old_tree = before.old_tree;
         here = before.here;
-        hung = before.hung;
+        has_tree = before.has_tree;
         same_length = cc;
         same_root = cc;
         kept = λ i d e. later.kept i d (before.kept i d e);
@@ -249,7 +249,7 @@ module _ (dig : Digest) where
       let placed = with_file s file state in (
         like s.files s.trees (with_tree placed g.state.tree g.grown) new (cc) (cc)
             (grows_then s placed (with_tree placed g.state.tree g.grown) (file_grows s file state g.is_file.here refl)
-            (tree_grows placed g.state.tree g.grown g.is_file.hung extends.file_length extends.root (extends.values 0))),
+            (tree_grows placed g.state.tree g.grown g.is_file.has_tree extends.file_length extends.root (extends.values 0))),
         keep_is g.made (reads_keep file g.tree.file_length g.reads),
       )
 
@@ -296,13 +296,13 @@ module _ (dig : Digest) where
 
   writes_of : {s : EngineState} {calls : _} → Touches s.files s.trees calls → AllKeepBytes calls ⊎ IsWriteOfMissing s calls
   writes_of (keeping keep) = inl keep
-  writes_of {s} (putting b bytes f k call here hung missing whole only writes) = inr (record {
+  writes_of {s} (putting b bytes f k call here has_tree missing whole only writes) = inr (record {
     block = b;
     tree = k;
     bytes = bytes;
     call = call;
     missing = cc;
-    hung = cc;
+    has_tree = cc;
     whole = whole;
     only = only;
     writes = writes;

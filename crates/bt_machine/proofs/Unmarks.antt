@@ -1,6 +1,6 @@
 -- How a block ceases to be marked.
-use Rattle.bt_machine.proofs.Base.{◌≡◌, ◌≢◌, ℕ, zero, suc, ◌+◌, ◌⊎◌, inl, inr, Bool, true, false, List, ◌∷◌, ◌++◌, map, Option, Some, refl, sym, ap, ◌∙◌, subst, slice_get, slice_set, option_map, Contains, flat_map, ◌==◌, if◌then◌else◌, Result, Ok, option_and_then, eqb-true, eq-eqb, Contains-append_left, Contains-append_right, History, Call, AreAnswered, Facts, BlockRead, given, failed, block_of, call_of, is_right, judged, IsRight, Adopts, known, accepted, PutIsDue, states_after_put, Missing, Waiting, Marked, StoreError, Put, PutMarked, PutWaiting, Adopted, BlockId, PeerMessage as Sent, KeepAlive, Choke, Unchoke, Interested, NotInterested, Have, Bitfield, Request, Piece, Cancel, HashRequest, Hashes, HashReject, Hello, Message, Skipped}
-use Rattle.bt_machine.proofs.Machine.{Digest, Connect, Feed, Next, Lost, Rechoke, Adopt, Flush, FileState, EngineState, DeviceCalls, calls_of, state_at, tree_of, with_file, IsFile, FindsFault, damaged, fault, StopsAtFault, HandlesRequest, ignored, no_place, not_marked, served, stopped, HandlesPiece, stale, arrives, judged_file, SettlesIn, HandlesHashes, unknown_root, no_claim, refused, learns, HandlesHave, in_range, out_of_range, HandlesBitfield, right, wrong, HandlesMessage, Handles, TakesEvent, StepNext, no_peer, waits, goes_on, closes, faulty, no_memory, StepConnect, joins, full, spent, no_room, StepFeed, feeds, not_fed, no_room as no_room_to_feed, StepLost, goes, not_fed as not_lost, FollowsEach, StepRechoke, rechokes, not_rechoked, AdoptsGroup, AdoptsGroups, StepAdopt, no_file, busy, empty, adopts, not_adopted, StepFlush, syncs, fails, Step, stored_block, RunOn, IsFoundWrong, StepUnmarksByBytes, StepKeepsMarks, RunKeepsMarks}
+use Rattle.bt_machine.proofs.Base.{[], ◌≡◌, ◌≢◌, ℕ, zero, suc, ◌+◌, ◌⊎◌, inl, inr, Bool, true, false, List, ◌∷◌, ◌++◌, map, Option, Some, refl, sym, ap, ◌∙◌, subst, slice_get, slice_set, option_map, Contains, flat_map, ◌==◌, if◌then◌else◌, Result, Ok, option_and_then, eqb-true, eq-eqb, Contains-append_left, Contains-append_right, History, Call, AreAnswered, Facts, BlockRead, given, failed, block_of, call_of, is_right, judged, IsRight, Adopts, known, accepted, PutIsDue, states_after_put, Missing, Waiting, Marked, StoreError, Put, PutMarked, PutWaiting, Adopted, BlockId, PeerMessage as Sent, KeepAlive, Choke, Unchoke, Interested, NotInterested, Have, Bitfield, Request, Piece, Cancel, HashRequest, Hashes, HashReject, Hello, Message, Skipped}
+use Rattle.bt_machine.proofs.Machine.{Digest, Connect, Feed, Next, Lost, Rechoke, Adopt, Flush, FileState, EngineState, DeviceCalls, calls_of, state_at, tree_of, with_file, IsFile, FindsFault, damaged, fault, StopsAtFault, HandlesRequest, ignored, no_place, not_marked, served, stopped, HandlesPiece, stale, arrives, judged_file, SettlesIn, HandlesHashes, unknown_root, no_claim, refused, accepts_hashes, HandlesHave, in_range, out_of_range, HandlesBitfield, right, wrong, HandlesMessage, Handles, TakesEvent, StepNext, no_peer, waits, keeps_peer, closes, faulty, no_memory, StepConnect, joins, full, spent, no_room, StepFeed, feeds, not_fed, no_room as no_room_to_feed, StepLost, goes, not_fed as not_lost, FollowsEach, StepRechoke, rechokes, not_rechoked, AdoptsGroup, AdoptsGroups, StepAdopt, no_file, busy, empty, adopts, not_adopted, StepFlush, syncs, fails, Step, stored_block, RunOn, IsFoundWrong, StepUnmarksByBytes, StepKeepsMarks, RunKeepsMarks}
 use Rattle.bt_store.specs.Adoption.{marked_run}
 use Rattle.bt_machine.proofs.Lists.{same_some, set_get, set_other, set_same, and_then_some, contains_none, contains_cases, here, later, map_contains}
 use Rattle.bt_machine.proofs.Marks.{state_is, meant_then, right_true}
@@ -57,7 +57,7 @@ module _ (dig : Digest) (b : BlockId) where
 
   found_in : {s t calls more : _} → tree_of t b.file ≡ tree_of s b.file → ((c : ℕ × Call) → Contains calls c → Contains more c)
       → IsFoundWrong dig s calls b → IsFoundWrong dig t more b
-  found_in trees among w = record { tree = w.tree; bytes = w.bytes; hung = cc; read = among _ w.read; wrong = w.wrong }
+  found_in trees among w = record { tree = w.tree; bytes = w.bytes; has_tree = cc; read = among _ w.read; wrong = w.wrong }
 
   -- in a file that stands in the place of another
   file_stays : (R : Type 0) (s : EngineState) (file : ℕ) {f : _} (new : FileState) → slice_get s.files file ≡ Some f → state_at s b ≡ Some Marked
@@ -97,7 +97,7 @@ module _ (dig : Digest) (b : BlockId) where
             | inl now ↦ inr (record {
               tree = x.tree;
               bytes = bytes;
-              hung = hung_in x.is_file same;
+              has_tree = hung_in x.is_file same;
               read = subst (λ r. Contains calls (b.file, call_of x.tree.file_length r)) (is ∙ ap (λ n. given n bytes) (sym now.0)) (rw same read_at_end);
               wrong = λ r. wrong_bytes (rw (← now.0) r);
             })
@@ -149,7 +149,7 @@ module _ (dig : Digest) (b : BlockId) where
   hashes_stays {calls} (unknown_root x y z e) m = same_stays calls e m
   hashes_stays {calls} (no_claim f x y c) m = same_stays calls c.after m
   hashes_stays {calls} (refused f t k c x y z g) m = same_stays calls g.after m
-  hashes_stays (learns l) m =
+  hashes_stays (accepts_hashes l) m =
       inl (ap (λ z. state_at z b) l.after ∙ settle_stays l.settles m)
 
   have_stays : {s mid i p piece : _} (calls : _) {effect : _} → HandlesHave s i p piece effect mid → state_at s b ≡ Some Marked → Stays s calls mid
@@ -193,7 +193,7 @@ module _ (dig : Digest) (b : BlockId) where
   next_stays : {s new key calls answer : _} → StepNext dig s key calls answer new → state_at s b ≡ Some Marked → Stays s calls new
   next_stays {calls} (no_peer x y z e) m = same_stays calls e m
   next_stays {calls} (waits i p x y z w e) m = same_stays calls e m
-  next_stays {new} (goes_on i p out peer g x) m = taken_stays new g.takes (cc) m
+  next_stays {new} (keeps_peer i p out peer g x) m = taken_stays new g.takes (cc) m
   next_stays {new} (closes i p out peer g x) m = taken_stays new g.takes (cc) m
   next_stays (faulty i p out peer g x) m = inl (cc)
   next_stays (no_memory i p peer g x) m = inl (cc)
@@ -247,7 +247,7 @@ module _ (dig : Digest) (b : BlockId) where
           record {
             tree = g.tree;
             bytes = w.0;
-            hung = hung_in g.is_file same;
+            has_tree = hung_in g.is_file same;
             read = rw same (rw g.made (map_contains (λ read. (file, call_of g.tree.file_length read)) g.reads w.1));
             wrong = w.2;
           },
@@ -259,11 +259,11 @@ module _ (dig : Digest) (b : BlockId) where
       → IsFoundWrong dig mid more b → IsFoundWrong dig s more b
   wrong_before {more} g same w =
       let h = group_forward dig g g.is_file in
-      let tree = same_some w.hung (hung_in h.is_file same) in
+      let tree = same_some w.has_tree (hung_in h.is_file same) in
       record {
         tree = g.tree;
         bytes = w.bytes;
-        hung = hung_in g.is_file same;
+        has_tree = hung_in g.is_file same;
         read = rw (← (ap (λ k. k.file_length) tree ∙ h.extends.file_length)) w.read;
         wrong = λ r. w.wrong (rw tree (right_in dig h.extends r));
       }
@@ -316,7 +316,7 @@ module _ {D : Type 0} (history : D → History) (honest : D → Type 0) (faults 
       → AreAnswered before (calls_of file calls) after → Contains calls (file, call_of n (given i bytes)) → bytes ≡ stored_block n before.now.bytes i
   given_stands s {calls} {file} i n {bytes} before after (keeping keep) answered among =
       (calls_keep _ _ (λ c m. keep (file, c) (of_all calls m)) answered).read _ _ bytes (among_file calls among)
-  given_stands s {file} i n {bytes} before after (putting b more g k call here hung missing whole only writes) answered among =
+  given_stands s {file} i n {bytes} before after (putting b more g k call here has_tree missing whole only writes) answered among =
       elim (contains_cases [] (subst (λ cs. Contains cs (file, call_of n (given i bytes))) only among)) [
         | inl same ↦ (
             let call_is = ap (λ x. x.1) same in
@@ -332,8 +332,8 @@ module _ {D : Type 0} (history : D → History) (honest : D → Type 0) (faults 
         let d = have.each b.file e there in
         let honest_before = d.2.as_honest.1 honest_now in
         let f = and_then_some (λ q. slice_get q.states b.block) _ before in
-        let hung : slice_get old.trees f.0.tree ≡ Some w.tree = cc in
-        let there_before = sound b.file f.0 w.tree d.0 (record { here = f.1; hung = hung }) d.1 honest_before b.block f.2 in
+        let has_tree : slice_get old.trees f.0.tree ≡ Some w.tree = cc in
+        let there_before = sound b.file f.0 w.tree d.0 (record { here = f.1; has_tree = has_tree }) d.1 honest_before b.block f.2 in
         let stands = given_stands old _ _ _ _ (step_tame dig old new event calls _ step).1 (d.2.answered honest_before) w.read in
         absurd (w.wrong (rw stands there_before))
   ]

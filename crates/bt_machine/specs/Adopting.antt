@@ -1,6 +1,6 @@
 -- What the device of a file has already is taken in: the blocks of the file, group after group, and then the
 -- blocks that wait in the other files of its root.
-use Rattle.std.specs.Prelude.{◌≡◌, ◌≢◌, ℕ, ◌+◌, ◌-◌, ◌*◌, ◌/◌, ◌%◌, ◌^◌, ◌<◌, ◌≤◌, ◌==◌, ◌&&◌, min, nat_lt, not, Bool, List, ◌∷◌, ◌++◌, map, filter, flat_map, length, if◌then◌else◌, Some, slice_get, Result, Ok, Err}
+use Rattle.std.specs.Prelude.{[], ◌≡◌, ◌≢◌, ℕ, ◌+◌, ◌-◌, ◌*◌, ◌/◌, ◌%◌, ◌^◌, ◌<◌, ◌≤◌, ◌==◌, ◌&&◌, min, nat_lt, not, Bool, List, ◌∷◌, ◌++◌, map, filter, flat_map, length, if◌then◌else◌, Some, slice_get, Result, Ok, Err}
 use Rattle.std.specs.List.{AllZip, range_with_len}
 use Rattle.bt_sparse.specs.SparseTree.{Facts, blocks_of}
 use Rattle.bt_sparse.specs.Answer.{IsAnswer}
@@ -33,8 +33,8 @@ run_starts anchor blocks = filter (λ i. i % 2 ^ min anchor max_run_height == 0)
 
 -- Where blocks were claimed together and found right, the leaves below their node have become known, and
 -- these keys ask for them. No other group taught any leaf.
-abbrev pub taught_keys : Facts → ℕ → Adopted → List HashKey
-taught_keys k from adopted =
+abbrev pub proof_keys : Facts → ℕ → Adopted → List HashKey
+proof_keys k from adopted =
     if nat_lt 0 adopted.anchor && nat_lt 0 adopted.marked
     then map (λ i. planned_key k i adopted.anchor) (run_starts adopted.anchor (group_blocks from adopted))
     else []
@@ -59,7 +59,7 @@ pub record AdoptsGroup (dig : List ℕ → List ℕ) (s : EngineState) (file fro
   pub left : from < blocks_of tree
   pub adopts : Adopts dig tree from state.states reads adopted grown states
   pub made : calls ≡ reads_at file tree.file_length reads
-  pub taught : AllZip (IsProof dig grown) (taught_keys grown from adopted) proofs
+  pub proves : AllZip (IsProof dig grown) (proof_keys grown from adopted) proofs
   pub after : new ≡ with_pending s
       (with_tree (with_file s file (record state { states = states })) state.tree grown) proofs
 

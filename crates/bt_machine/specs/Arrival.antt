@@ -1,5 +1,5 @@
 -- A block that comes (BEP 3, "piece").
-use Rattle.std.specs.Prelude.{◌≡◌, ℕ, List, length, Contains, Result, Ok, Err}
+use Rattle.std.specs.Prelude.{[], ◌≡◌, ℕ, List, length, Contains, Result, Ok, Err}
 use Rattle.bt_sparse.specs.SparseTree.{Facts}
 use Rattle.bt_store.specs.Arrival.{PutIsDue, calls_of_put, states_after_put}
 use Rattle.bt_store.specs.declared.error.StoreError.{StoreError}

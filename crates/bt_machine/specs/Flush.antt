@@ -1,5 +1,5 @@
 -- All data devices of an engine without a log are synced.
-use Rattle.std.specs.Prelude.{◌≡◌, ℕ, ◌==◌, not, false, List, ◌∷◌, ◌++◌, map, filter, length, Result, Ok, Err}
+use Rattle.std.specs.Prelude.{[], ◌≡◌, ℕ, ◌==◌, not, false, List, ◌∷◌, ◌++◌, map, filter, length, Result, Ok, Err}
 use Rattle.bt_disk.specs.Calls.{sync_made, sync_fault}
 use Rattle.bt_machine.specs.declared.error.FlushError.{FlushError}
 use Rattle.bt_machine.specs.declared.error.FlushError.TheVariants.{Device}

@@ -1,5 +1,5 @@
 -- What follows from an event for one peer: interest is told, a hash request sent, and blocks are requested.
-use Rattle.std.specs.Prelude.{◌≡◌, ◌≢◌, ℕ, ◌+◌, ◌≤◌, ◌⊎◌, ◌↔◌, Bool, true, false, List, ◌∷◌, ◌++◌, length, Some, None, slice_get, slice_set, Contains}
+use Rattle.std.specs.Prelude.{[], ◌≡◌, ◌≢◌, ℕ, ◌+◌, ◌≤◌, ◌⊎◌, ◌↔◌, Bool, true, false, List, ◌∷◌, ◌++◌, length, Some, None, slice_get, slice_set, Contains}
 use Rattle.std.specs.List.{AllPairs}
 use Rattle.bt_sparse.specs.SparseTree.{Facts, value_at}
 use Rattle.bt_hashreq.specs.Request.{IsPlan}
@@ -41,7 +41,7 @@ pub record NeedsLeaf (dig : List ℕ → List ℕ) (s : EngineState) (p : PeerSt
   pub has : Has s p b
   pub not_marked : (state_at s b ≡ Some Missing) ⊎ (state_at s b ≡ Some Waiting)
   pub tree : Facts
-  pub hung : tree_of s b.file ≡ Some tree
+  pub has_tree : tree_of s b.file ≡ Some tree
   pub unknown : value_at dig tree 0 b.block ≡ None
 
 -- the least of them, by file and then by block

@@ -1,5 +1,5 @@
 -- The hash messages (BEP 52, "hash request", "hashes" and "hash reject").
-use Rattle.std.specs.Prelude.{◌≡◌, ◌≢◌, ℕ, ◌==◌, nat_lt, List, ◌∷◌, Some, slice_get, if◌then◌else◌}
+use Rattle.std.specs.Prelude.{[], ◌≡◌, ◌≢◌, ℕ, ◌==◌, nat_lt, List, ◌∷◌, Some, slice_get, if◌then◌else◌}
 use Rattle.std.specs.List.{concat}
 use Rattle.std.specs.FinMap as finite
 use Rattle.bt_sparse.specs.SparseTree.{Facts, height}
@@ -60,7 +60,7 @@ abbrev pub settled_count : HashKey → ℕ
 settled_count key = if key.base == 0 then key.length else 0
 
 -- A proof is accepted: the tree grows, and then the blocks of its run are settled in every file of the root.
-pub record Learns (dig : List ℕ → List ℕ) (s : EngineState) (i : ℕ) (p : PeerState) (key : HashKey)
+pub record AcceptsHashes (dig : List ℕ → List ℕ) (s : EngineState) (i : ℕ) (p : PeerState) (key : HashKey)
     (digests : List ℕ) (calls : DeviceCalls) (effect : Effect) (mid : EngineState) : Type 0 where
   pub tree : ℕ
   pub old : Facts
@@ -95,7 +95,7 @@ pub data HandlesHashes (dig : List ℕ → List ℕ) (s : EngineState) (i : ℕ)
   refused : (fault : ProofError) (tree : ℕ) (k : Facts) (claim : Claim) → IsTreeOf s key.root tree k
       → IsClaimBy key digests claim → IsRefused dig k claim fault
       → OnlyCloses s fault calls effect mid → HandlesHashes dig s i p key digests calls effect mid
-  learns : Learns dig s i p key digests calls effect mid
+  accepts_hashes : AcceptsHashes dig s i p key digests calls effect mid
       → HandlesHashes dig s i p key digests calls effect mid
 
 -- the peer does not have what it was asked for, and is sent no more hash requests

@@ -22,7 +22,7 @@ pub record IsComplete (torrent : Metainfo) (s : EngineState) (number : ℕ) (fil
   pub state : FileState
   pub tree : Facts
   pub here : slice_get s.files number ≡ Some state
-  pub hung : slice_get s.trees state.tree ≡ Some tree
+  pub has_tree : slice_get s.trees state.tree ≡ Some tree
   pub marked : (i : ℕ) → i < block_count file.length → slice_get state.states i ≡ Some Marked
 
 -- The first bytes, as many as the file has, have its root; so they equal each file of that length and root,

@@ -1,5 +1,5 @@
 -- What follows from the steps of an engine, whatever the peers send and the devices answer.
-use Rattle.std.specs.Prelude.{◌≡◌, ◌≢◌, ℕ, ◌+◌, ◌*◌, ◌<◌, ◌≤◌, ◌⊎◌, List, ◌∷◌, ◌++◌, false, length, Some, None, Ok, Err, slice_get, Contains}
+use Rattle.std.specs.Prelude.{[], ◌≡◌, ◌≢◌, ℕ, ◌+◌, ◌*◌, ◌<◌, ◌≤◌, ◌⊎◌, List, ◌∷◌, ◌++◌, false, length, Some, None, Ok, Err, slice_get, Contains}
 use Rattle.bt_tree.specs.Limits.{full_block_length}
 use Rattle.bt_disk.specs.Calls.{bytes_written}
 use Rattle.bt_sparse.specs.SparseTree.{Facts, blocks_of, held_at, IsRooted, IsChecked}
@@ -77,7 +77,7 @@ pub record IsBrought (dig : List ℕ → List ℕ) (old : EngineState) (event : 
   pub takes : Takes peer.stream (Message (Piece piece begin bytes)) rest
   pub whole : IsWholeBlock old.torrent piece begin (length bytes) b
   pub asked : Contains peer.asked b
-  pub hung : tree_of new b.file ≡ Some tree
+  pub has_tree : tree_of new b.file ≡ Some tree
   pub written : calls ≡ (b.file, bytes_written (full_block_length * b.block) bytes) ∷ []
   pub right : IsRight dig tree b.block bytes
 
@@ -99,7 +99,7 @@ pub record TellsLeaf (dig : List ℕ → List ℕ) (old : EngineState) (event : 
   pub of_leaves : run.base ≡ 0
   pub from : run.index ≤ b.block
   pub below : b.block < run.index + run.length
-  pub hung : tree_of old b.file ≡ Some before
+  pub has_tree : tree_of old b.file ≡ Some before
   pub same_root : before.root ≡ run.root
   pub claims : IsClaimBy run digests claim
   pub accepts : Accepts dig before claim tree
@@ -123,7 +123,7 @@ pub record IsReadBack (dig : List ℕ → List ℕ) (old : EngineState) (event :
   pub bytes : List ℕ
   pub waited : state_at old b ≡ Some Waiting
   pub due : TellsLeaf dig old event b tree ⊎ AdoptsTwin old event b
-  pub hung : tree_of new b.file ≡ Some tree
+  pub has_tree : tree_of new b.file ≡ Some tree
   pub read : Contains calls (b.file, call_of tree.file_length (given b.block bytes))
   pub right : IsRight dig tree b.block bytes
 
@@ -134,7 +134,7 @@ pub record IsFound (dig : List ℕ → List ℕ) (event : Event) (calls : Device
   pub tree : Facts
   pub bytes : List ℕ
   pub is_adopt : event ≡ Adopt b.file
-  pub hung : tree_of new b.file ≡ Some tree
+  pub has_tree : tree_of new b.file ≡ Some tree
   pub read : Contains calls (b.file, call_of tree.file_length (given b.block bytes))
   pub right : IsRight dig tree b.block bytes
 
@@ -224,7 +224,7 @@ pub record IsServed (dig : List ℕ → List ℕ) (old : EngineState) (event : E
   pub same_piece : ask.piece ≡ piece
   pub same_begin : ask.begin ≡ begin
   pub spans : IsPlace old.torrent ask.piece ask.begin ask.length span
-  pub hung : tree_of old span.file ≡ Some tree
+  pub has_tree : tree_of old span.file ≡ Some tree
   pub read : (i : ℕ) → Contains (spanned_blocks span) i
       → Contains calls (span.file, call_of tree.file_length (given i (blocks i)))
   pub right : (i : ℕ) → Contains (spanned_blocks span) i → IsRight dig tree i (blocks i)

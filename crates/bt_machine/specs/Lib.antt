@@ -19,11 +19,12 @@ pub mod Adopting
 pub mod Flush
 pub mod Start
 pub mod Step
+pub mod Report
 -- laws
 pub mod Stored
 pub mod Law
 pub mod Writes
-pub mod Taught
+pub mod ProofKeys
 pub mod Orderly
 pub mod Shape
 pub mod Sound

@@ -1,5 +1,5 @@
 -- The next wire event of a peer is taken.
-use Rattle.std.specs.Prelude.{◌≡◌, ℕ, ◌+◌, List, ◌++◌, map, take, drop, if◌then◌else◌, Option, Some, None, Result, Ok, Err, slice_get}
+use Rattle.std.specs.Prelude.{[], ◌≡◌, ℕ, ◌+◌, List, ◌++◌, map, take, drop, if◌then◌else◌, Option, Some, None, Result, Ok, Err, slice_get}
 use Rattle.bt_book.specs.declared.names.PeerKey.{PeerKey}
 use Rattle.bt_wire.specs.Cutter.{Stream, Takes, Waits, Fails}
 use Rattle.bt_wire.specs.declared.event.WireEvent.{WireEvent}
@@ -45,7 +45,7 @@ pub record TakesEvent (dig : List ℕ → List ℕ) (s : EngineState) (i : ℕ) 
 
 -- The peer stays: what the event sends, then a have of each piece that has become whole, then what follows
 -- for the peer. The notes of the event come first, then the files that have become complete.
-pub record GoesOn (dig : List ℕ → List ℕ) (s : EngineState) (i : ℕ) (p : PeerState)
+pub record KeepsPeer (dig : List ℕ → List ℕ) (s : EngineState) (i : ℕ) (p : PeerState)
     (calls : DeviceCalls) (out : Output) (new : EngineState) : Type 0 where
   pub effect : Effect
   pub mid : EngineState
@@ -79,7 +79,7 @@ pub record ShowsFault (s : EngineState) (i : ℕ) (p : PeerState) (calls : Devic
   pub after : new ≡ without_peer i s
 
 -- Out of memory: the event that stands there is dropped, and its peer with it, and nothing else changes.
-pub record Drops (s : EngineState) (i : ℕ) (p : PeerState) (calls : DeviceCalls) (new : EngineState)
+pub record DropsPeer (s : EngineState) (i : ℕ) (p : PeerState) (calls : DeviceCalls) (new : EngineState)
     : Type 0 where
   pub event : WireEvent
   pub rest : Stream
@@ -92,11 +92,11 @@ pub data StepNext (dig : List ℕ → List ℕ) (s : EngineState) (key : PeerKey
   no_peer : HasNoPeer s key → calls ≡ [] → answer ≡ Err NoPeer → new ≡ s → StepNext dig s key calls answer new
   waits : (i : ℕ) (p : PeerState) → IsPeer s key i p → Waits p.stream → calls ≡ [] → answer ≡ Ok None
       → new ≡ s → StepNext dig s key calls answer new
-  goes_on : (i : ℕ) (p : PeerState) (out : Output) → IsPeer s key i p → GoesOn dig s i p calls out new
+  keeps_peer : (i : ℕ) (p : PeerState) (out : Output) → IsPeer s key i p → KeepsPeer dig s i p calls out new
       → answer ≡ Ok (Some out) → StepNext dig s key calls answer new
   closes : (i : ℕ) (p : PeerState) (out : Output) → IsPeer s key i p → Closes dig s i p calls out new
       → answer ≡ Ok (Some out) → StepNext dig s key calls answer new
   faulty : (i : ℕ) (p : PeerState) (out : Output) → IsPeer s key i p → ShowsFault s i p calls out new
       → answer ≡ Ok (Some out) → StepNext dig s key calls answer new
-  no_memory : (i : ℕ) (p : PeerState) → IsPeer s key i p → Drops s i p calls new
+  no_memory : (i : ℕ) (p : PeerState) → IsPeer s key i p → DropsPeer s i p calls new
       → answer ≡ Err OutOfMemory → StepNext dig s key calls answer new

@@ -1,5 +1,5 @@
 -- What an event sends and notes, and whether it closes its peer.
-use Rattle.std.specs.Prelude.{List, ◌∷◌, map, flat_map, Option, Some, None}
+use Rattle.std.specs.Prelude.{[], List, ◌∷◌, map, flat_map, Option, Some, None}
 use Rattle.bt_book.specs.declared.names.PeerKey.{PeerKey}
 use Rattle.bt_wire.specs.declared.message.Message.{Message}
 use Rattle.bt_wire.specs.declared.message.Message.TheVariants.{Have}

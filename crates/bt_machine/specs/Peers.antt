@@ -1,5 +1,5 @@
 -- Peers that come and go, and bytes that come from them.
-use Rattle.std.specs.Prelude.{◌≡◌, ℕ, ◌+◌, ◌-◌, ◌*◌, ◌^◌, ◌<◌, ◌≤◌, true, false, List, ◌∷◌, ◌++◌, map, take, length, replicate, codes, All, Result, Ok, Err, None}
+use Rattle.std.specs.Prelude.{[], ◌≡◌, ℕ, ◌+◌, ◌-◌, ◌*◌, ◌^◌, ◌<◌, ◌≤◌, true, false, List, ◌∷◌, ◌++◌, map, take, length, replicate, codes, All, Result, Ok, Err, None}
 use Rattle.bt_meta.specs.Torrent.{total_pieces}
 use Rattle.bt_book.specs.Book.{max_peers}
 use Rattle.bt_book.specs.declared.names.PeerKey.{PeerKey}

@@ -1,5 +1,5 @@
 -- The peers to serve are chosen anew.
-use Rattle.std.specs.Prelude.{◌≡◌, ℕ, ◌+◌, ◌%◌, ◌^◌, Bool, true, false, not, List, ◌∷◌, ◌++◌, map, flat_map, length, None, Option, Some}
+use Rattle.std.specs.Prelude.{[], ◌≡◌, ℕ, ◌+◌, ◌%◌, ◌^◌, Bool, true, false, not, List, ◌∷◌, ◌++◌, map, flat_map, length, None, Option, Some}
 use Rattle.std.specs.List.{range_with_len}
 use Rattle.bt_book.specs.Choking.{is_chosen}
 use Rattle.bt_book.specs.declared.choking.Standing.{Standing}

@@ -1,5 +1,5 @@
 -- A request for a range of a piece (BEP 3, "request").
-use Rattle.std.specs.Prelude.{◌≡◌, ℕ, ◌+◌, ◌-◌, ◌^◌, min, true, false, List, ◌∷◌, ◌++◌, map, Some, slice_get, slice_set, Contains}
+use Rattle.std.specs.Prelude.{[], ◌≡◌, ℕ, ◌+◌, ◌-◌, ◌^◌, min, true, false, List, ◌∷◌, ◌++◌, map, Some, slice_get, slice_set, Contains}
 use Rattle.bt_meta.specs.Place.{IsPlace}
 use Rattle.bt_meta.specs.declared.torrent.Span.{Span}
 use Rattle.bt_sparse.specs.SparseTree.{Facts}
@@ -26,7 +26,7 @@ AreMarked s span =
 -- a file of the engine, and its tree
 pub record IsFile (s : EngineState) (file : ℕ) (f : FileState) (k : Facts) : Type 0 where
   pub here : slice_get s.files file ≡ Some f
-  pub hung : slice_get s.trees f.tree ≡ Some k
+  pub has_tree : slice_get s.trees f.tree ≡ Some k
 
 -- these blocks were read, one by one, and each gave its right bytes
 pub record ReadsRight (dig : List ℕ → List ℕ) (k : Facts) (blocks : List ℕ) (bytes : ℕ → List ℕ)

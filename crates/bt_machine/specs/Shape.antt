@@ -1,5 +1,5 @@
 -- What stays over all events: the torrent, which trees and files there are, and that there is no log.
-use Rattle.std.specs.Prelude.{◌≡◌, ◌≢◌, ℕ, ◌<◌, false, List, length, Some, slice_get}
+use Rattle.std.specs.Prelude.{[], ◌≡◌, ◌≢◌, ℕ, ◌<◌, false, List, length, Some, slice_get}
 use Rattle.std.specs.List.{AllPairs}
 use Rattle.bt_tree.specs.Blocks.{block_count}
 use Rattle.bt_meta.specs.Files.{File}
@@ -14,7 +14,7 @@ use Rattle.bt_machine.specs.Step.{Answer, Run}
 -- it has a state for each of the file's blocks, and where there is one, the tree of its root
 pub record HasShapeOf (file : File) (trees : List Facts) (f : FileState) : Type 0 where
   pub blocks : length f.states ≡ block_count file.length
-  pub hung : 0 < file.length → (k : Facts) × (slice_get trees f.tree ≡ Some k)
+  pub has_tree : 0 < file.length → (k : Facts) × (slice_get trees f.tree ≡ Some k)
       × (k.root ≡ file.root) × (k.file_length ≡ file.length)
 
 -- the engine has this torrent's files, in their order, and no two trees of one root

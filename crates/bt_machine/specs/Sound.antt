@@ -1,5 +1,5 @@
 -- What honest devices have of the marked blocks of an engine, over its steps.
-use Rattle.std.specs.Prelude.{◌≡◌, ℕ, ◌<◌, List, ◌∷◌, Option, Some, slice_get}
+use Rattle.std.specs.Prelude.{[], ◌≡◌, ℕ, ◌<◌, List, ◌∷◌, Option, Some, slice_get}
 use Rattle.bt_disk.specs.History.{History}
 use Rattle.bt_sparse.specs.SparseTree.{Facts, blocks_of}
 use Rattle.bt_store.specs.declared.block_states.BlockState.TheVariants.{Marked}

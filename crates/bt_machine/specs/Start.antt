@@ -1,5 +1,5 @@
 -- The engine with which a torrent is begun, without a log.
-use Rattle.std.specs.Prelude.{◌≡◌, ◌≢◌, ℕ, ◌*◌, ◌^◌, ◌<◌, false, List, length, Some, slice_get}
+use Rattle.std.specs.Prelude.{[], ◌≡◌, ◌≢◌, ℕ, ◌*◌, ◌^◌, ◌<◌, false, List, length, Some, slice_get}
 use Rattle.std.specs.List.{AllPairs}
 use Rattle.bt_tree.specs.Limits.{full_block_length}
 use Rattle.bt_meta.specs.Files.{File}
@@ -26,7 +26,7 @@ pub record IsTorrentTree (dig : List ℕ → List ℕ) (torrent : Metainfo) (k :
 -- a file whose blocks are all missing; with a block it has the tree of its root
 pub record IsNewFile (file : File) (trees : List Facts) (f : FileState) : Type 0 where
   pub missing : f.states ≡ new_states file.length
-  pub hung : 0 < file.length → (k : Facts) × (slice_get trees f.tree ≡ Some k)
+  pub has_tree : 0 < file.length → (k : Facts) × (slice_get trees f.tree ≡ Some k)
       × (k.root ≡ file.root) × (k.file_length ≡ file.length)
 
 -- one tree for each root, as the torrent has it, and every block is missing

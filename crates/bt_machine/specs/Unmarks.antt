@@ -17,7 +17,7 @@ pub record IsFoundWrong (dig : List ℕ → List ℕ) (old : EngineState) (calls
     : Type 0 where
   pub tree : Facts
   pub bytes : List ℕ
-  pub hung : tree_of old b.file ≡ Some tree
+  pub has_tree : tree_of old b.file ≡ Some tree
   pub read : Contains calls (b.file, call_of tree.file_length (given b.block bytes))
   pub wrong : ¬ IsRight dig tree b.block bytes
 

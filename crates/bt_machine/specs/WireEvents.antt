@@ -1,5 +1,5 @@
 -- What each wire event does by itself (BEP 3, "peer messages"; BEP 52).
-use Rattle.std.specs.Prelude.{◌≡◌, ◌≢◌, ℕ, ◌-◌, ◌/◌, ◌%◌, ◌^◌, ◌<◌, ◌≤◌, ◌==◌, Bool, true, false, List, map, flat_map, length, take, slice_set}
+use Rattle.std.specs.Prelude.{[], ◌≡◌, ◌≢◌, ℕ, ◌-◌, ◌/◌, ◌%◌, ◌^◌, ◌<◌, ◌≤◌, ◌==◌, Bool, true, false, List, map, flat_map, length, take, slice_set}
 use Rattle.std.specs.List.{range_with_len}
 use Rattle.std.specs.Int.{div_ceil}
 use Rattle.bt_meta.specs.Torrent.{total_pieces}
@@ -55,28 +55,28 @@ pub data HandlesBitfield (s : EngineState) (i : ℕ) (p : PeerState) (bytes : Li
       → HandlesBitfield s i p bytes effect mid
 
 -- no device is called and nothing is sent
-abbrev pub OnlyChanges : EngineState → DeviceCalls → Effect → EngineState → Type 0
-OnlyChanges s calls effect mid = (calls ≡ []) × (effect ≡ no_effect) × (mid ≡ s)
+abbrev pub Becomes : EngineState → DeviceCalls → Effect → EngineState → Type 0
+Becomes s calls effect mid = (calls ≡ []) × (effect ≡ no_effect) × (mid ≡ s)
 
 -- a message of peer p, who stands at i; one who chokes us will send nothing of what it is asked for
 abbrev pub HandlesMessage : (List ℕ → List ℕ) → EngineState → ℕ → PeerState → Sent
     → DeviceCalls → Effect → EngineState → Type 0
-HandlesMessage dig s i p KeepAlive calls effect mid = OnlyChanges s calls effect mid
+HandlesMessage dig s i p KeepAlive calls effect mid = Becomes s calls effect mid
 HandlesMessage dig s i p Choke calls effect mid =
-    OnlyChanges (with_peer s i (record p { peer_choking = true; asked = [] })) calls effect mid
+    Becomes (with_peer s i (record p { peer_choking = true; asked = [] })) calls effect mid
 HandlesMessage dig s i p Unchoke calls effect mid =
-    OnlyChanges (with_peer s i (record p { peer_choking = false })) calls effect mid
+    Becomes (with_peer s i (record p { peer_choking = false })) calls effect mid
 HandlesMessage dig s i p Interested calls effect mid =
-    OnlyChanges (with_peer s i (record p { peer_interested = true })) calls effect mid
+    Becomes (with_peer s i (record p { peer_interested = true })) calls effect mid
 HandlesMessage dig s i p NotInterested calls effect mid =
-    OnlyChanges (with_peer s i (record p { peer_interested = false })) calls effect mid
+    Becomes (with_peer s i (record p { peer_interested = false })) calls effect mid
 HandlesMessage dig s i p (Have piece) calls effect mid = (calls ≡ []) × HandlesHave s i p piece effect mid
 HandlesMessage dig s i p (Bitfield bytes) calls effect mid =
     (calls ≡ []) × HandlesBitfield s i p bytes effect mid
 HandlesMessage dig s i p (Request ask) calls effect mid = HandlesRequest dig s i p ask calls effect mid
 HandlesMessage dig s i p (Piece piece begin bytes) calls effect mid =
     HandlesPiece dig s i p piece begin bytes calls effect mid
-HandlesMessage dig s i p (Cancel ask) calls effect mid = OnlyChanges s calls effect mid
+HandlesMessage dig s i p (Cancel ask) calls effect mid = Becomes s calls effect mid
 HandlesMessage dig s i p (HashRequest key) calls effect mid =
     (calls ≡ []) × HandlesHashRequest dig s p key effect × (mid ≡ s)
 HandlesMessage dig s i p (Hashes key digests) calls effect mid =
@@ -88,4 +88,4 @@ abbrev pub Handles : (List ℕ → List ℕ) → EngineState → ℕ → PeerSta
     → DeviceCalls → Effect → EngineState → Type 0
 Handles dig s i p (Hello h) calls effect mid = (calls ≡ []) × HandlesHello s h effect × (mid ≡ s)
 Handles dig s i p (Message message) calls effect mid = HandlesMessage dig s i p message calls effect mid
-Handles dig s i p (Skipped kind) calls effect mid = OnlyChanges s calls effect mid
+Handles dig s i p (Skipped kind) calls effect mid = Becomes s calls effect mid

@@ -1,5 +1,5 @@
 -- Which calls of an event change what a device holds.
-use Rattle.std.specs.Prelude.{◌≡◌, ℕ, ◌*◌, ◌⊎◌, ⊤, List, ◌∷◌, length, Some, Contains}
+use Rattle.std.specs.Prelude.{[], ◌≡◌, ℕ, ◌*◌, ◌⊎◌, ⊤, List, ◌∷◌, length, Some, Contains}
 use Rattle.bt_tree.specs.Limits.{full_block_length}
 use Rattle.bt_tree.specs.Blocks.{block_length}
 use Rattle.bt_disk.specs.Calls.{Call, bytes_written, write_fault, length_set, resize_fault}
@@ -30,7 +30,7 @@ pub record IsWriteOfMissing (s : EngineState) (calls : DeviceCalls) : Type 0 whe
   pub bytes : List ℕ
   pub call : Call
   pub missing : state_at s block ≡ Some Missing
-  pub hung : tree_of s block.file ≡ Some tree
+  pub has_tree : tree_of s block.file ≡ Some tree
   pub whole : length bytes ≡ block_length tree.file_length block.block
   pub only : calls ≡ (block.file, call) ∷ []
   pub writes : (call ≡ bytes_written (full_block_length * block.block) bytes)

@@ -5,7 +5,7 @@ ghost use Rattle.bt_machine.specs.Headline.{CompleteFilesArePublished};
 ghost use Rattle.bt_machine.specs.Survival.{RunsKeepFlushedBlocks, RunKeepsImages};
 ghost use Rattle.bt_machine.specs.Orderly.{RunsAreOrderly};
 ghost use Rattle.bt_machine.specs.Shape.{RunsKeepShape};
-ghost use Rattle.bt_machine.specs.Taught.{TaughtKeysAreAnswered};
+ghost use Rattle.bt_machine.specs.ProofKeys.{ProofKeysAreAnswered};
 
 use bt_disk::Disk;
 use bt_tree::NodeHash;
@@ -88,6 +88,6 @@ pub fn runs_keep_shape<H: NodeHash>(_hash: H)
 
 /// Where the blocks of a group were claimed together and found right, the tree answers the keys of the proofs
 /// that are left for a log, and they are of the right shape.
-pub fn taught_keys_are_answered<H: NodeHash>(_hash: H)
-    ensures { TaughtKeysAreAnswered H.digest }
+pub fn proof_keys_are_answered<H: NodeHash>(_hash: H)
+    ensures { ProofKeysAreAnswered H.digest }
 {}

@@ -1,6 +1,6 @@
 -- What becomes of blocks that come and of requests.
-use Rattle.bt_machine_checks.proofs.Base.{◌≡◌, ℕ, zero, suc, ◌⊎◌, inl, inr, Bool, true, false, List, ◌∷◌, length, map, Some, None, Result, Ok, Err, refl, ap, ◌∙◌, subst, slice_get, slice_set, Contains, ◌&&◌, option_map_or, list_all, Contains-append_left, Contains-append_right, IsLawful, IsPlace, Span, Facts, value_at, PutIsDue, states_after_put, BlockRead, given, failed, call_of, IsRight, is_marked, Missing, Waiting, Marked, StoreError, DeviceFault, Put, Wrong, PutMarked, PutWaiting, PeerKey, BlockId, Stream, Message, Ask, Request, Piece}
-use Rattle.bt_machine_checks.proofs.Machine.{Digest, Note, NowMarked, Damaged, Device, Complete, PeerState, FileState, EngineState, DeviceCalls, block_id, state_at, tree_of, with_file, with_peer, new_complete_files, IsWholeBlock, spanned_blocks, cut_from, Effect, noting, sending, AreMarked, IsFile, Serves, StopsAtFault, FindsFault, damaged as found_damaged, fault, HandlesRequest, ignored, no_place, not_marked, served, stopped, HasPutEffect, Arrives, HandlesPiece, stale, arrives, GoesOn, Closes, Answer, of_next, NotedBy, output_of, MarksBlock, marked, not_written, NextMarksRightBlock, ServesRange, sent, not_read, NextServesMarkedRange, WaitingIsNotComplete}
+use Rattle.bt_machine_checks.proofs.Base.{[], ◌≡◌, ℕ, zero, suc, ◌⊎◌, inl, inr, Bool, true, false, List, ◌∷◌, length, map, Some, None, Result, Ok, Err, refl, ap, ◌∙◌, subst, slice_get, slice_set, Contains, ◌&&◌, option_map_or, list_all, Contains-append_left, Contains-append_right, IsLawful, IsPlace, Span, Facts, value_at, PutIsDue, states_after_put, BlockRead, given, failed, call_of, IsRight, is_marked, Missing, Waiting, Marked, StoreError, DeviceFault, Put, Wrong, PutMarked, PutWaiting, PeerKey, BlockId, Stream, Message, Ask, Request, Piece}
+use Rattle.bt_machine_checks.proofs.Machine.{Digest, Note, NowMarked, Damaged, Device, Complete, PeerState, FileState, EngineState, DeviceCalls, block_id, state_at, tree_of, with_file, with_peer, new_complete_files, IsWholeBlock, spanned_blocks, cut_from, Effect, noting, sending, AreMarked, IsFile, Serves, StopsAtFault, FindsFault, damaged as found_damaged, fault, HandlesRequest, ignored, no_place, not_marked, served, stopped, HasPutEffect, Arrives, HandlesPiece, stale, arrives, KeepsPeer, Closes, Answer, of_next, NotedBy, output_of, MarksBlock, marked, not_written, NextMarksRightBlock, ServesRange, sent, not_read, NextServesMarkedRange, WaitingIsNotComplete}
 use Rattle.bt_machine_checks.specs.AnswerDue.{NextLacksMemory, damaged}
 use Rattle.bt_machine.proofs.Lists.{and_then_some, same_some, here, set_same, map_contains}
 use Rattle.bt_machine_checks.proofs.AnswerSends.{follows_of}
@@ -29,7 +29,7 @@ waiting_is_not_complete s b e =
 
 -- ---- what an event notes is noted
 
-pub noted_with : {dig s new i p calls out a : _} (g : GoesOn dig s i p calls out new) → a ≡ of_next (Ok (Some out))
+pub noted_with : {dig s new i p calls out a : _} (g : KeepsPeer dig s i p calls out new) → a ≡ of_next (Ok (Some out))
     → (note : Note) → Contains g.effect.notes note → NotedBy a note
 noted_with {s} {out} g is note c =
     (out, ap output_of is, rw g.notes (Contains-append_left g.effect.notes (map (λ file. Complete file) (new_complete_files s g.mid)) note c))
@@ -66,7 +66,7 @@ module _ (dig : Digest) (s new : EngineState) (key : PeerKey) (i : ℕ) (p : Pee
   -- it is the block that came, in the tree of its file
   right_put : {effect mid : _} → tree_of s b.file ≡ Some tree → IsRight dig tree b.block bytes
       → (r : Arrives dig t i q piece begin bytes calls effect mid) → r.block ≡ b → PutRight r.block effect r.puts.result
-  right_put hung exact r same =
+  right_put has_tree exact r same =
       let there : tree_of s r.block.file ≡ Some r.puts.tree = cc in
       let one : r.puts.tree ≡ tree = cc in
       let leaf : value_at dig r.puts.tree 0 r.block.block ≡ Some (dig bytes) = cc in
@@ -101,20 +101,20 @@ module _ (dig : Digest) (s new : EngineState) (key : PeerKey) (i : ℕ) (p : Pee
   block_taken : IsLawful s.torrent.piece_length s.torrent.files → IsWholeBlock s.torrent piece begin (length bytes) b → Contains p.asked b
       → tree_of s b.file ≡ Some tree → IsRight dig tree b.block bytes → Taken dig s i p (Message (Piece piece begin bytes)) rest calls a new
       → NextLacksMemory a ⊎ MarksBlock b bytes calls a new
-  block_taken lawful whole asked hung exact (no_room e) = inl e
-  block_taken lawful whole asked hung exact (goes out g h is) =
+  block_taken lawful whole asked has_tree exact (no_room e) = inl e
+  block_taken lawful whole asked has_tree exact (goes out g h is) =
       let r = piece_arrives whole asked h in
       let same = same_block s.torrent lawful.laid_out piece begin (length bytes) r.whole whole in
       let files = (follows_of g.follows).files in
-      inr (marks_by {effect = g.effect} (λ m. rw files m) (noted_with g is) r same (right_put hung exact r same))
-  block_taken lawful whole asked hung exact (shuts out g h is) =
+      inr (marks_by {effect = g.effect} (λ m. rw files m) (noted_with g is) r same (right_put has_tree exact r same))
+  block_taken lawful whole asked has_tree exact (shuts out g h is) =
       let r = piece_arrives whole asked h in
       let same = same_block s.torrent lawful.laid_out piece begin (length bytes) r.whole whole in
-      elim (right_put hung exact r same) [ is_marked_now x e ↦ not_closed e refl g.closed | is_not_written x e ↦ not_closed e refl g.closed ]
+      elim (right_put has_tree exact r same) [ is_marked_now x e ↦ not_closed e refl g.closed | is_not_written x e ↦ not_closed e refl g.closed ]
 
 pub next_marks_right : (dig : Digest) → NextMarksRightBlock dig
-next_marks_right dig s new key i p calls a piece begin bytes rest b tree lawful one takes whole asked hung exact step =
-    block_taken dig s new key i p calls a piece begin bytes rest b tree lawful whole asked hung exact (step_taken dig new calls one takes step)
+next_marks_right dig s new key i p calls a piece begin bytes rest b tree lawful one takes whole asked has_tree exact step =
+    block_taken dig s new key i p calls a piece begin bytes rest b tree lawful whole asked has_tree exact (step_taken dig new calls one takes step)
 
 -- ---- requests
 
@@ -140,14 +140,14 @@ module _ (dig : Digest) (s new : EngineState) (key : PeerKey) (i : ℕ) (p : Pee
   finds {j} c called (fault x e y) = cannot_read j c (subst Called x called) e
 
   same_tree : {k f : _} → tree_of s span.file ≡ Some tree → IsFile at_request span.file f k → k ≡ tree
-  same_tree hung is = cc
+  same_tree has_tree is = cc
 
   serves : {effect mid : _} → tree_of s span.file ≡ Some tree → Serves dig at_request i asker ask span calls effect mid → Serving effect
-  serves hung f = gives f.bytes (rw (← (same_tree hung f.is_file)) f.right.right) f.sent
+  serves has_tree f = gives f.bytes (rw (← (same_tree has_tree f.is_file)) f.right.right) f.sent
 
   stops : {effect mid : _} → tree_of s span.file ≡ Some tree → StopsAtFault dig at_request span calls effect mid → Serving effect
-  stops {effect} {mid} hung f =
-      let same = same_tree hung f.is_file in
+  stops {effect} {mid} has_tree f =
+      let same = same_tree has_tree f.is_file in
       let c : Contains (spanned_blocks span) f.block = rw f.blocks (Contains-append_right f.before (f.block ∷ f.after) f.block (here _ refl)) in
       let last = Contains-append_right f.reads (f.read ∷ []) f.read (here [] refl) in
       let called : Contains calls (span.file, call_of f.tree.file_length f.read) =
@@ -158,16 +158,16 @@ module _ (dig : Digest) (s new : EngineState) (key : PeerKey) (i : ℕ) (p : Pee
   serving : {effect mid : _} → IsLawful s.torrent.piece_length s.torrent.files → p.am_choking ≡ false
       → IsPlace s.torrent ask.piece ask.begin ask.length span → AreMarked s span → tree_of s span.file ≡ Some tree
       → HandlesRequest dig at_request i asker ask calls effect mid → Serving effect
-  serving lawful open_to place are hung (ignored choked x y z) = absurd cc
-  serving lawful open_to place are hung (no_place x none y z w) = absurd (none span place)
-  serving lawful open_to place are hung (not_marked other x there none y z w) =
+  serving lawful open_to place are has_tree (ignored choked x y z) = absurd cc
+  serving lawful open_to place are has_tree (no_place x none y z w) = absurd (none span place)
+  serving lawful open_to place are has_tree (not_marked other x there none y z w) =
       absurd (none (rw (← (same_place _ lawful.laid_out _ _ _ place there)) are))
-  serving {effect} {mid} lawful open_to place are hung (served other x there y f) =
-      serves hung (subst (λ l. Serves dig at_request i asker ask l calls effect mid) (same_place _ lawful.laid_out _ _ _ there place) f)
-  serving {effect} {mid} lawful open_to place are hung (stopped other x there y f) =
-      stops hung (subst (λ l. StopsAtFault dig at_request l calls effect mid) (same_place _ lawful.laid_out _ _ _ there place) f)
+  serving {effect} {mid} lawful open_to place are has_tree (served other x there y f) =
+      serves has_tree (subst (λ l. Serves dig at_request i asker ask l calls effect mid) (same_place _ lawful.laid_out _ _ _ there place) f)
+  serving {effect} {mid} lawful open_to place are has_tree (stopped other x there y f) =
+      stops has_tree (subst (λ l. StopsAtFault dig at_request l calls effect mid) (same_place _ lawful.laid_out _ _ _ there place) f)
 
-  serves_by : {out : _} (g : GoesOn dig s i p calls out new) → a ≡ of_next (Ok (Some out)) → p.key ≡ key → Serving g.effect
+  serves_by : {out : _} (g : KeepsPeer dig s i p calls out new) → a ≡ of_next (Ok (Some out)) → p.key ≡ key → Serving g.effect
       → ServesRange dig tree key ask span calls a
   serves_by g is same (gives bytes right e) = sent bytes right (sent_with g is
       (rw (ap (λ x. x.send) e) (here [] (cc))))
@@ -182,10 +182,10 @@ module _ (dig : Digest) (s new : EngineState) (key : PeerKey) (i : ℕ) (p : Pee
   request_taken : IsLawful s.torrent.piece_length s.torrent.files → p.am_choking ≡ false → IsPlace s.torrent ask.piece ask.begin ask.length span
       → AreMarked s span → tree_of s span.file ≡ Some tree → p.key ≡ key → Taken dig s i p (Message (Request ask)) rest calls a new
       → NextLacksMemory a ⊎ ServesRange dig tree key ask span calls a
-  request_taken lawful open_to place are hung same (no_room e) = inl e
-  request_taken lawful open_to place are hung same (goes out g h is) = inr (serves_by g is same (serving lawful open_to place are hung h))
-  request_taken lawful open_to place are hung same (shuts out g h is) = not_shut g (serving lawful open_to place are hung h)
+  request_taken lawful open_to place are has_tree same (no_room e) = inl e
+  request_taken lawful open_to place are has_tree same (goes out g h is) = inr (serves_by g is same (serving lawful open_to place are has_tree h))
+  request_taken lawful open_to place are has_tree same (shuts out g h is) = not_shut g (serving lawful open_to place are has_tree h)
 
 pub next_serves : (dig : Digest) → NextServesMarkedRange dig
-next_serves dig s new key i p calls a ask rest span tree lawful one takes open_to place are hung step =
-    request_taken dig s new key i p calls a ask rest span tree lawful open_to place are hung one.is_peer.same_key (step_taken dig new calls one takes step)
+next_serves dig s new key i p calls a ask rest span tree lawful one takes open_to place are has_tree step =
+    request_taken dig s new key i p calls a ask rest span tree lawful open_to place are has_tree one.is_peer.same_key (step_taken dig new calls one takes step)

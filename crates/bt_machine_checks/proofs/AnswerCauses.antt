@@ -1,6 +1,6 @@
 -- A peer is closed only for what it sent.
 use Rattle.bt_machine_checks.proofs.Base.{◌≡◌, ℕ, Some, None, Result, Ok, Err, refl, sym, ap, ◌∙◌, PutIsDue, StoreError, Range, Put, Already, Wrong, PeerKey, Stream, Takes, PeerMessage, Have, Bitfield, Request, Piece, HashRequest, Hashes, Hello, Message, Skipped}
-use Rattle.bt_machine_checks.proofs.Machine.{Digest, Why, Event, Connect, Next, Rechoke, PeerState, EngineState, with_peer, Effect, FindsFault, damaged, fault, HandlesRequest, ignored, no_place, not_marked, served, stopped, HasPutEffect, HandlesPiece, stale, arrives, HandlesHashRequest, answered, rejected, HandlesHashes, unknown_root, no_claim, refused, learns, HandlesHello, ours, other, HandlesHave, in_range, out_of_range, HandlesBitfield, right, wrong, HandlesMessage, Handles, IsPeer, StepNext, no_peer, waits, goes_on, closes, faulty, no_memory, StepConnect, joins, full, spent, no_room, StepRechoke, rechokes, not_rechoked, of_connect, of_next, of_rechoke, Step, output_of, IsCause, wire, other_torrent, past_last_piece, other_length, is_no_place, wrong_block, is_unknown_root, makes_no_claim, is_refused, StepClosesForCause}
+use Rattle.bt_machine_checks.proofs.Machine.{Digest, Why, Event, Connect, Next, Rechoke, PeerState, EngineState, with_peer, Effect, FindsFault, damaged, fault, HandlesRequest, ignored, no_place, not_marked, served, stopped, HasPutEffect, HandlesPiece, stale, arrives, HandlesHashRequest, answered, rejected, HandlesHashes, unknown_root, no_claim, refused, accepts_hashes, HandlesHello, ours, other, HandlesHave, in_range, out_of_range, HandlesBitfield, right, wrong, HandlesMessage, Handles, IsPeer, StepNext, no_peer, waits, keeps_peer, closes, faulty, no_memory, StepConnect, joins, full, spent, no_room, StepRechoke, rechokes, not_rechoked, of_connect, of_next, of_rechoke, Step, output_of, IsCause, wire, other_torrent, past_last_piece, other_length, is_no_place, wrong_block, is_unknown_root, makes_no_claim, is_refused, StepClosesForCause}
 use Rattle.bt_machine_checks.specs.AnswerLaw.{ClosesPeer}
 
 -- nothing closes where an effect does not
@@ -75,7 +75,7 @@ module _ (dig : Digest) (s : EngineState) (i : ℕ) (p : PeerState) (rest : Stre
       (makes_no_claim key digests rest f takes (λ all. x (λ tree k is. all tree k (record { here = is.here; same_root = is.same_root }))) y c.not_memory)
   hashes_causes {key} {digests} takes (refused f tree k c x y z g) =
       closes_for g.has_effect refl (is_refused key digests rest f tree k c takes (record { here = x.here; same_root = x.same_root }) y z g.not_memory)
-  hashes_causes takes (learns l) = open_still l.has_effect refl
+  hashes_causes takes (accepts_hashes l) = open_still l.has_effect refl
 
   answer_causes : {key effect : _} → HandlesHashRequest dig t q key effect → Causes effect
   answer_causes (answered digests x e) = open_still e refl
@@ -121,7 +121,7 @@ module _ (dig : Digest) where
   next_closes : {s new key calls r : _} → StepNext dig s key calls r new → {why : _} → ClosesPeer (of_next r) why → IsClosedFor s (Next key) why
   next_closes (no_peer x y e z) c = no_output (ap (λ x. of_next x) e) refl c
   next_closes (waits i p x y z e f) c = no_output (ap (λ x. of_next x) e) refl c
-  next_closes (goes_on i p out x g e) c = open_output (ap (λ x. of_next x) e) refl g.close c
+  next_closes (keeps_peer i p out x g e) c = open_output (ap (λ x. of_next x) e) refl g.close c
   next_closes {s} {key} {calls} (closes i p out x g e) {why} c =
       let same = output_is (ap (λ x. of_next x) e) c.1 refl in
       let is : Some g.why ≡ Some why = cc in

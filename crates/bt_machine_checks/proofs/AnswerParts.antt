@@ -1,6 +1,6 @@
 -- The parts of what is sent, and what a wire event leaves of the engine and its peer.
-use Rattle.bt_machine_checks.proofs.Base.{◌≡◌, ℕ, inl, inr, Bool, true, false, not, List, ◌∷◌, ◌++◌, map, Some, Result, Ok, Err, refl, sym, ap, ◌∙◌, slice_get, slice_set, Contains, if◌then◌else◌, Contains-append_cases, HashKey, BlockRead, given, failed, is_right, states_after_put, StoreError, DeviceFault, Put, Wrong, PutMarked, PutWaiting, BlockId, is_block, PeerMessage, KeepAlive, Choke, Unchoke, Interested, NotInterested, Have, Bitfield, Request, Piece, Cancel, HashRequest, Hashes, HashReject, Hello, Message, Skipped}
-use Rattle.bt_machine_checks.proofs.Machine.{Digest, Frame, hello_frame, message_frame, Note, Device, Complete, Why, Idle, Asked, Refused, PeerState, FileState, EngineState, with_file, with_peer, with_tree, file_numbers, Sent, Effect, no_effect, noting, closing, sending, FindsFault, damaged, fault, HandlesRequest, ignored, no_place, not_marked, served, stopped, HasPutEffect, Arrives, HandlesPiece, stale, arrives, settling_notes, read_note, HandlesHashRequest, answered, rejected, HandlesHashes, unknown_root, no_claim, refused, learns, new_proofs, Resolves, resolved as ours_asked, other_asked, HandlesHello, ours, other, HandlesHave, in_range, out_of_range, HandlesBitfield, right, wrong, HandlesMessage, Handles, interest_sent, RequestsHashes, requests, rests, RequestsEach}
+use Rattle.bt_machine_checks.proofs.Base.{[], ◌≡◌, ℕ, inl, inr, Bool, true, false, not, List, ◌∷◌, ◌++◌, map, Some, Result, Ok, Err, refl, sym, ap, ◌∙◌, slice_get, slice_set, Contains, if◌then◌else◌, Contains-append_cases, HashKey, BlockRead, given, failed, is_right, states_after_put, StoreError, DeviceFault, Put, Wrong, PutMarked, PutWaiting, BlockId, is_block, PeerMessage, KeepAlive, Choke, Unchoke, Interested, NotInterested, Have, Bitfield, Request, Piece, Cancel, HashRequest, Hashes, HashReject, Hello, Message, Skipped}
+use Rattle.bt_machine_checks.proofs.Machine.{Digest, Frame, hello_frame, message_frame, Note, Device, Complete, Why, Idle, Asked, Refused, PeerState, FileState, EngineState, with_file, with_peer, with_tree, file_numbers, Sent, Effect, no_effect, noting, closing, sending, FindsFault, damaged, fault, HandlesRequest, ignored, no_place, not_marked, served, stopped, HasPutEffect, Arrives, HandlesPiece, stale, arrives, settling_notes, read_note, HandlesHashRequest, answered, rejected, HandlesHashes, unknown_root, no_claim, refused, accepts_hashes, new_proofs, Resolves, resolved as ours_asked, other_asked, HandlesHello, ours, other, HandlesHave, in_range, out_of_range, HandlesBitfield, right, wrong, HandlesMessage, Handles, interest_sent, RequestsHashes, requests, rests, RequestsEach}
 use Rattle.bt_machine.proofs.Lists.{contains_none, contains_cases, contains_filter, contains_map, contains_flat_map, set_id}
 
 -- ---- parts of what is sent
@@ -271,7 +271,7 @@ module _ (dig : Digest) (s : EngineState) (i : ℕ) {p : PeerState} (at : slice_
   hashes_leaves (unknown_root x y e z) = stays (closes_quietly _) e z
   hashes_leaves (no_claim f x y c) = stays (closes_quietly _) c.has_effect c.after
   hashes_leaves (refused f t k c x y z g) = stays (closes_quietly _) g.has_effect g.after
-  hashes_leaves {mid} {key} {digests} (learns l) =
+  hashes_leaves {mid} {key} {digests} (accepts_hashes l) =
       let like : Effect = record no_effect { notes = l.notes; proofs = new_proofs key digests l.old l.new } in
       let noted : NoComplete l.notes = λ note c.
       let r = contains_flat_map (λ file. settling_notes dig l.settles.facts file (l.settles.reads file)) (file_numbers (with_tree s l.tree l.new)) (rw (← l.settles.noted) c) in

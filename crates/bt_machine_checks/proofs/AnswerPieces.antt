@@ -1,7 +1,7 @@
 -- Haves and completed files are told exactly where pieces became whole and files complete.
-use Rattle.bt_machine_checks.proofs.Base.{◌≡◌, ℕ, zero, suc, ◌+◌, ◌<◌, ◌⊎◌, inl, inr, ◌↔◌, Bool, true, false, ◌∷◌, ◌++◌, length, map, Some, None, Ok, refl, sym, ap, ◌∙◌, subst, arith, slice_get, Contains, not, ◌&&◌, range_with_len, Contains-append_left, Contains-append_right, Contains-append_cases, total_pieces, Adopted, PeerKey, Have}
-use Rattle.bt_machine_checks.proofs.Machine.{Digest, Frame, message_frame, Complete, Connect, Feed, Next, Lost, Rechoke, Adopt, Flush, PeerState, EngineState, DeviceCalls, with_peer, is_whole, is_complete, has_become, new_whole_pieces, new_complete_files, piece_numbers, file_numbers, Output, sent_to, haves, IsPeer, GoesOn, StepNext, no_peer, waits, goes_on, closes, faulty, no_memory, StepConnect, joins, full, spent, no_room, StepFeed, feeds, not_fed, no_room as no_room_to_feed, StepLost, goes, not_fed as not_lost, FollowsEach, StepRechoke, rechokes, not_rechoked, rechoked, AdoptsGroups, AdoptsFile, StepAdopt, no_file, busy, empty, adopts, not_adopted as adopt_memory, StepFlush, syncs, fails, Answer, of_connect, of_feed, of_next, of_lost, of_rechoke, of_adopt, of_flush, Step, sent_by, output_of, IsConnected, BecomesSo, NotedBy, StepAnnouncesWholePieces, NextNotesCompleteFiles}
-use Rattle.bt_machine.proofs.Lists.{contains_none, contains_cases, contains_map, contains_flat_map, contains_filter, map_contains, flat_map_contains, range_contains, and_true, set_cases, set_same, here}
+use Rattle.bt_machine_checks.proofs.Base.{[], ◌≡◌, ℕ, zero, suc, ◌+◌, ◌<◌, ◌⊎◌, inl, inr, ◌↔◌, Bool, true, false, ◌∷◌, ◌++◌, length, map, Some, None, Ok, refl, sym, ap, ◌∙◌, subst, arith, slice_get, Contains, not, ◌&&◌, range_with_len, Contains-append_left, Contains-append_right, Contains-append_cases, total_pieces, Adopted, PeerKey, Have}
+use Rattle.bt_machine_checks.proofs.Machine.{Digest, Frame, message_frame, Complete, Connect, Feed, Next, Lost, Rechoke, Adopt, Flush, PeerState, EngineState, DeviceCalls, with_peer, is_whole, is_complete, has_become, new_whole_pieces, new_complete_files, piece_numbers, file_numbers, Output, sent_to, haves, IsPeer, KeepsPeer, StepNext, no_peer, waits, keeps_peer, closes, faulty, no_memory, StepConnect, joins, full, spent, no_room, StepFeed, feeds, not_fed, no_room as no_room_to_feed, StepLost, goes, not_fed as not_lost, FollowsEach, StepRechoke, rechokes, not_rechoked, rechoked, AdoptsGroups, AdoptsFile, StepAdopt, no_file, busy, empty, adopts, not_adopted as adopt_memory, StepFlush, syncs, fails, Answer, of_connect, of_feed, of_next, of_lost, of_rechoke, of_adopt, of_flush, Step, sent_by, output_of, IsConnected, BecomesSo, NotedBy, StepAnnouncesWholePieces, NextNotesCompleteFiles}
+use Rattle.bt_machine.proofs.Lists.{filter_contains, contains_none, contains_cases, contains_map, contains_flat_map, contains_filter, map_contains, flat_map_contains, range_contains, and_true, set_cases, set_same, here}
 use Rattle.bt_machine_checks.proofs.AnswerParts.{greets, replies, announces, NoComplete, Leaves, event_leaves}
 use Rattle.bt_machine.proofs.Pairs.{contains_some, some_at}
 use Rattle.bt_machine_checks.proofs.AnswerSends.{nat_cases, set_other, frame_to, follows_of, IsSentBy, alike, announced, followed, chosen, rechoked_then, all_chokes, step_sent}
@@ -30,7 +30,7 @@ complete_same s new file f = cc
 -- what a step does to pieces and files
 data Keeps (dig : Digest) (s : EngineState) (answer : Answer) (new : EngineState) : Type 0 where
   keeps : new.files ≡ s.files → new.torrent ≡ s.torrent → ((file : ℕ) → NotedBy answer (Complete file) → ⊥) → Keeps dig s answer new
-  goes_further : (key : PeerKey) (i : ℕ) (p : PeerState) (calls : DeviceCalls) (out : Output) → IsPeer s key i p → GoesOn dig s i p calls out new
+  goes_further : (key : PeerKey) (i : ℕ) (p : PeerState) (calls : DeviceCalls) (out : Output) → IsPeer s key i p → KeepsPeer dig s i p calls out new
       → answer ≡ of_next (Ok (Some out)) → Keeps dig s answer new
 
 module _ (dig : Digest) (s new : EngineState) where
@@ -56,7 +56,7 @@ module _ (dig : Digest) (s new : EngineState) where
   next_keeps : {key calls r : _} → StepNext dig s key calls r new → Keeps dig s (of_next r) new
   next_keeps (no_peer x y e z) = same_state (ap (λ x. of_next x) e) refl z
   next_keeps (waits i p x y z e f) = same_state (ap (λ x. of_next x) e) refl f
-  next_keeps {key} {calls} (goes_on i p out x g e) = goes_further key i p calls out x g (cc)
+  next_keeps {key} {calls} (keeps_peer i p out x g e) = goes_further key i p calls out x g (cc)
   next_keeps {calls} (closes i p out x g e) =
       let rest = record p { stream = g.takes.rest } in
       let left = event_leaves dig _ i (set_same _ i x.here) _ calls g.takes.handles in
@@ -129,7 +129,7 @@ step_keeps {dig} {s} {new} Flush calls t = inl (keeps_as t.1 (flush_keeps dig s 
 
 -- ---- where a peer goes on
 
-module _ {dig : Digest} {s new : EngineState} {key : PeerKey} {i : ℕ} {p : PeerState} {calls : DeviceCalls} {out : Output} (peer : IsPeer s key i p) (g : GoesOn dig s i p calls out new) where
+module _ {dig : Digest} {s new : EngineState} {key : PeerKey} {i : ℕ} {p : PeerState} {calls : DeviceCalls} {out : Output} (peer : IsPeer s key i p) (g : KeepsPeer dig s i p calls out new) where
   left : Leaves (with_peer s i (record p { stream = g.takes.rest })) i (record p { stream = g.takes.rest }) g.effect g.mid
   left = event_leaves dig _ i (set_same _ i peer.here) _ calls g.takes.handles
 

@@ -1,6 +1,6 @@
 -- What each frame of an answer follows from.
-use Rattle.bt_machine_checks.proofs.Base.{◌≡◌, ℕ, zero, suc, ◌⊎◌, inl, inr, ◌↔◌, Bool, true, false, List, ◌∷◌, ◌++◌, length, Some, Ok, refl, sym, ap, ◌∙◌, subst, arith, slice_get, slice_set, Contains, range_with_len, Contains-append_cases, PeerKey, BlockId, Ask, PeerMessage, Interested, NotInterested, Have, Bitfield, Request, Missing}
-use Rattle.bt_machine_checks.proofs.Machine.{Digest, Frame, hello_frame, message_frame, Connect, Next, Rechoke, PeerState, EngineState, DeviceCalls, IsWholeBlock, Sent, Output, sent_to, haves, FollowsUp, RequestsHashes, requests, rests, IsOpen, IsInteresting, RequestsBlock, RequestsEach, interest_sent, IsPeer, GoesOn, StepNext, no_peer, waits, goes_on, closes, faulty, no_memory, StepConnect, joins, full, spent, no_room, new_peer, our_handshake, greeting, FollowsEach, Rechokes, StepRechoke, rechokes, not_rechoked, choking_sent, chokes_sent, is_served, rechoked, of_connect, of_next, of_rechoke, Step, sent_by, state_at}
+use Rattle.bt_machine_checks.proofs.Base.{[], ◌≡◌, ℕ, zero, suc, ◌⊎◌, inl, inr, ◌↔◌, Bool, true, false, List, ◌∷◌, ◌++◌, length, Some, Ok, refl, sym, ap, ◌∙◌, subst, arith, slice_get, slice_set, Contains, range_with_len, Contains-append_cases, PeerKey, BlockId, Ask, PeerMessage, Interested, NotInterested, Have, Bitfield, Request, Missing}
+use Rattle.bt_machine_checks.proofs.Machine.{Digest, Frame, hello_frame, message_frame, Connect, Next, Rechoke, PeerState, EngineState, DeviceCalls, IsWholeBlock, Sent, Output, sent_to, haves, FollowsUp, RequestsHashes, requests, rests, IsOpen, IsInteresting, RequestsBlock, RequestsEach, interest_sent, IsPeer, KeepsPeer, StepNext, no_peer, waits, keeps_peer, closes, faulty, no_memory, StepConnect, joins, full, spent, no_room, new_peer, our_handshake, greeting, FollowsEach, Rechokes, StepRechoke, rechokes, not_rechoked, choking_sent, chokes_sent, is_served, rechoked, of_connect, of_next, of_rechoke, Step, sent_by, state_at}
 use Rattle.bt_machine.proofs.Lists.{contains_none, contains_cases, contains_flat_map, here, later, set_same, set_other as stays_there}
 use Rattle.bt_machine_checks.proofs.AnswerParts.{Part, greets, replies, interests, chokes, hashes, asks, part_of, AllOf, all_none, all_one, all_is, all_interest, all_hashes, all_asks, IsFollowing, in_interest, in_hash, in_block, following, event_leaves}
 
@@ -203,9 +203,9 @@ all_chokes s x c =
 
 pub data IsSentBy (dig : Digest) (s new : EngineState) (x : Sent) : Type 0 where
   alike : (part : Part) → (part ≡ greets) ⊎ (part ≡ replies) → part_of x.frame ≡ part → IsSentBy dig s new x
-  announced : (key : PeerKey) (i : ℕ) (p : PeerState) (calls : DeviceCalls) (out : Output) → IsPeer s key i p → (g : GoesOn dig s i p calls out new)
+  announced : (key : PeerKey) (i : ℕ) (p : PeerState) (calls : DeviceCalls) (out : Output) → IsPeer s key i p → (g : KeepsPeer dig s i p calls out new)
       → Contains (haves s g.mid) x → IsSentBy dig s new x
-  followed : (key : PeerKey) (i : ℕ) (p : PeerState) (calls : DeviceCalls) (out : Output) → IsPeer s key i p → (g : GoesOn dig s i p calls out new)
+  followed : (key : PeerKey) (i : ℕ) (p : PeerState) (calls : DeviceCalls) (out : Output) → IsPeer s key i p → (g : KeepsPeer dig s i p calls out new)
       → Contains g.sent x → IsSentBy dig s new x
   chosen : (sent : List Sent) → FollowsEach dig (range_with_len 0 (length s.peers)) (rechoked s) sent new → Contains (chokes_sent s) x → IsSentBy dig s new x
   rechoked_then : (sent : List Sent) → FollowsEach dig (range_with_len 0 (length s.peers)) (rechoked s) sent new → Contains sent x → IsSentBy dig s new x
@@ -223,7 +223,7 @@ module _ (dig : Digest) where
   greeting_sent : (s new xs : _) → AllOf greets xs → Sent_by s new xs
   greeting_sent s new xs all x c = alike greets (inl refl) (all x c)
 
-  goes_on_sent : {s new key i p calls out : _} → IsPeer s key i p → GoesOn dig s i p calls out new → Sent_by s new out.send
+  goes_on_sent : {s new key i p calls out : _} → IsPeer s key i p → KeepsPeer dig s i p calls out new → Sent_by s new out.send
   goes_on_sent {s} {key} {i} {p} {calls} {out} peer g x c =
       let rest = record p { stream = g.takes.rest } in
       let left = event_leaves dig _ i (set_same _ i peer.here) _ calls g.takes.handles in
@@ -238,7 +238,7 @@ module _ (dig : Digest) where
   next_sent : {s new key calls r : _} → StepNext dig s key calls r new → Sent_by s new (sent_by (of_next r))
   next_sent {s} {new} (no_peer x y e z) = nothing_sent s new (ap (λ x. of_next x) e) refl
   next_sent {s} {new} (waits i p x y z e f) = nothing_sent s new (ap (λ x. of_next x) e) refl
-  next_sent {s} {new} (goes_on i p out peer g e) = sent_is s new (cc) (goes_on_sent peer g)
+  next_sent {s} {new} (keeps_peer i p out peer g e) = sent_is s new (cc) (goes_on_sent peer g)
   next_sent {s} {new} (closes i p out x g e) = nothing_sent s new (ap (λ x. of_next x) (e ∙ ap (λ o. Ok (Some o)) g.is)) refl
   next_sent {s} {new} (faulty i p out x g e) = nothing_sent s new (ap (λ x. of_next x) (e ∙ ap (λ o. Ok (Some o)) g.is)) refl
   next_sent {s} {new} (no_memory i p x g e) = nothing_sent s new (ap (λ x. of_next x) e) refl

@@ -1,6 +1,6 @@
 -- A block waits only for a leaf that is unknown.
-use Rattle.bt_machine_checks.proofs.Base.{◌≡◌, ℕ, zero, suc, ◌+◌, ◌*◌, ◌/◌, ◌%◌, ◌^◌, ◌<◌, ◌≤◌, ◌⊎◌, inl, inr, Bool, true, false, List, ◌∷◌, length, map, Option, Some, None, Result, Ok, refl, sym, ap, ◌∙◌, subst, arith, slice_get, slice_set, Contains, ◌&&◌, is_some, if◌then◌else◌, option_and_then, range_with_len, eq-eqb, length-take-le, div-add-mod, mod-lt, Facts, blocks_of, value_at, Claims, in_run, on_path, uncle, HasShape, Claim, value_covers, value_padding, value_inside, cases_node, digests_in, HashKey, PutIsDue, states_after_put, BlockRead, given, failed, block_of, judged, is_waiting_at, BlockState, Missing, Waiting, Marked, StoreError, Put, PutMarked, PutWaiting, without_block, PeerKey, BlockId, Hello, Message, Skipped, PeerMessage, KeepAlive, Choke, Unchoke, Interested, NotInterested, Have, Bitfield, Request, Piece, Cancel, HashRequest, Hashes, HashReject}
-use Rattle.bt_machine_checks.proofs.Machine.{Digest, PeerState, FileState, EngineState, DeviceCalls, state_at, tree_of, leaf_at, with_file, with_peer, Effect, with_payload, FindsFault, damaged as found_damaged, fault, HandlesRequest, ignored, no_place, not_marked, served, stopped, HandlesPiece, stale, arrives, judged_file, due_blocks, HandlesHashes, Learns, settled_count, unknown_root, no_claim, refused, learns, HandlesHave, in_range, out_of_range, HandlesBitfield, right, wrong, HandlesMessage, Handles, StepNext, no_peer as none_such, waits, goes_on, closes, faulty, no_memory, NextSettlesWaitingBlocks}
+use Rattle.bt_machine_checks.proofs.Base.{[], ◌≡◌, ℕ, zero, suc, ◌+◌, ◌*◌, ◌/◌, ◌%◌, ◌^◌, ◌<◌, ◌≤◌, ◌⊎◌, inl, inr, Bool, true, false, List, ◌∷◌, length, map, Option, Some, None, Result, Ok, refl, sym, ap, ◌∙◌, subst, arith, slice_get, slice_set, Contains, ◌&&◌, is_some, if◌then◌else◌, option_and_then, range_with_len, eq-eqb, length-take-le, div-add-mod, mod-lt, Facts, blocks_of, value_at, Claims, in_run, on_path, uncle, HasShape, Claim, value_covers, value_padding, value_inside, cases_node, digests_in, HashKey, PutIsDue, states_after_put, BlockRead, given, failed, block_of, judged, is_waiting_at, BlockState, Missing, Waiting, Marked, StoreError, Put, PutMarked, PutWaiting, without_block, PeerKey, BlockId, Hello, Message, Skipped, PeerMessage, KeepAlive, Choke, Unchoke, Interested, NotInterested, Have, Bitfield, Request, Piece, Cancel, HashRequest, Hashes, HashReject}
+use Rattle.bt_machine_checks.proofs.Machine.{Digest, PeerState, FileState, EngineState, DeviceCalls, state_at, tree_of, leaf_at, with_file, with_peer, Effect, with_payload, FindsFault, damaged as found_damaged, fault, HandlesRequest, ignored, no_place, not_marked, served, stopped, HandlesPiece, stale, arrives, judged_file, due_blocks, HandlesHashes, AcceptsHashes, settled_count, unknown_root, no_claim, refused, accepts_hashes, HandlesHave, in_range, out_of_range, HandlesBitfield, right, wrong, HandlesMessage, Handles, StepNext, no_peer as none_such, waits, keeps_peer, closes, faulty, no_memory, NextSettlesWaitingBlocks}
 use Rattle.bt_machine.proofs.Lists.{and_then_some, map_some, same_some, set_cases, set_same, contains_none, here, later, contains_cases, filter_contains}
 use Rattle.bt_machine.proofs.Start.{chunk_count}
 use Rattle.bt_machine.proofs.Marks.{state_is}
@@ -144,7 +144,7 @@ module _ (dig : Digest) (t mid : EngineState) (i : ℕ) (p : PeerState) (b : Blo
       elim (file_state t (record f { states = states }) b there) [
         | inl one ↦ elim (put_waits r.puts.tree r.block bytes f.states r.puts.result r.puts.due one.1) [
           | inl put ↦
-              let hung : tree_of t b.file ≡ Some r.puts.tree = cc in
+              let has_tree : tree_of t b.file ≡ Some r.puts.tree = cc in
               leaf (cc)
           | inr old ↦ leaf (before (state_is t b (ap (slice_get t.files) one.0 ∙ r.puts.is_file.here) old))
         ]
@@ -175,7 +175,7 @@ range_has a (suc n) {i} from to = elim (nat_cases a i) [
     below : (a i : ℕ) → a ≤ i → (a ≡ i → ⊥) → a + 1 ≤ i
     below a i le apart = omega arith
 
-module _ {dig : Digest} {t mid : EngineState} {i : ℕ} {p : PeerState} (b : BlockId) {key : HashKey} {digests : List ℕ} {calls : DeviceCalls} {effect : Effect} (l : Learns dig t i p key digests calls effect mid) where
+module _ {dig : Digest} {t mid : EngineState} {i : ℕ} {p : PeerState} (b : BlockId) {key : HashKey} {digests : List ℕ} {calls : DeviceCalls} {effect : Effect} (l : AcceptsHashes dig t i p key digests calls effect mid) where
   run_length : length l.claim.run ≡ key.length
   run_length =
       let count = chunk_count (length digests / 32) digests in
@@ -211,15 +211,15 @@ module _ {dig : Digest} {t mid : EngineState} {i : ℕ} {p : PeerState} (b : Blo
   leaf_still {f} at before waiting unread = elim (nat_cases l.tree f.tree) [
     | inl same ↦
         ap (option_and_then (λ k. value_at dig k 0 b.block)) (ap (slice_get (slice_set t.trees l.tree l.new)) (sym same) ∙ set_same t.trees l.tree l.here.here)
-        ∙ still_unknown (value_at dig l.new 0 b.block) refl (sym same) (ap (option_and_then (λ k. value_at dig k 0 b.block)) (sym (hung ∙ ap (slice_get t.trees) (sym same) ∙ l.here.here)) ∙ unknown)
-    | inr apart ↦ ap (option_and_then (λ k. value_at dig k 0 b.block)) (set_other t.trees l.tree f.tree l.new apart ∙ sym hung) ∙ unknown
+        ∙ still_unknown (value_at dig l.new 0 b.block) refl (sym same) (ap (option_and_then (λ k. value_at dig k 0 b.block)) (sym (has_tree ∙ ap (slice_get t.trees) (sym same) ∙ l.here.here)) ∙ unknown)
+    | inr apart ↦ ap (option_and_then (λ k. value_at dig k 0 b.block)) (set_other t.trees l.tree f.tree l.new apart ∙ sym has_tree) ∙ unknown
   ]
     where
       unknown : leaf_at dig t b ≡ None
       unknown = before (state_is t b at waiting)
 
-      hung : tree_of t b.file ≡ slice_get t.trees f.tree
-      hung = cc
+      has_tree : tree_of t b.file ≡ slice_get t.trees f.tree
+      has_tree = cc
 
       facts_are : l.settles.facts ≡ l.new
       facts_are = same_some l.settles.here (set_same t.trees l.tree l.here.here)
@@ -253,7 +253,7 @@ module _ (dig : Digest) (t mid : EngineState) (i : ℕ) (p : PeerState) (b : Blo
   hashes_waits (unknown_root x y z e) = unchanged e (λ now. now) refl
   hashes_waits (no_claim f x y c) = unchanged c.after (λ now. now) refl
   hashes_waits (refused f n k c x y z g) = unchanged g.after (λ now. now) refl
-  hashes_waits (learns l) = learns_waits b l
+  hashes_waits (accepts_hashes l) = learns_waits b l
 
   message_waits : (msg : PeerMessage) (calls : _) → HandlesMessage dig t i p msg calls effect mid → Unknown dig t mid b
   message_waits KeepAlive calls h = unchanged h.2 (λ now. now) refl
@@ -291,7 +291,7 @@ module _ (dig : Digest) (s new : EngineState) (key : PeerKey) (calls : DeviceCal
   next_waits : {r : _} → StepNext dig s key calls r new → Unknown dig s new b
   next_waits (none_such x y z e) = like_old e refl refl
   next_waits (waits i p x y z w e) = like_old e refl refl
-  next_waits (goes_on i p out x g e) = after_event i p _ g.mid _ _ g.takes.handles (cc) (cc)
+  next_waits (keeps_peer i p out x g e) = after_event i p _ g.mid _ _ g.takes.handles (cc) (cc)
   next_waits (closes i p out x g e) = after_event i p _ g.mid _ _ g.takes.handles (cc) (cc)
   next_waits (faulty i p out x g e) = like_old g.after refl refl
   next_waits (no_memory i p x g e) = like_old g.after refl refl

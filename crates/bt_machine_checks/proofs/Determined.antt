@@ -1,5 +1,5 @@
 -- What is left to an engine.
-use Rattle.bt_machine_checks.proofs.Base.{◌≡◌, ◌≢◌, ℕ, suc, inl, inr, List, ◌∷◌, length, refl, sym, ap, ◌∙◌, arith, map, ⊤, cases_lt, block_count, Metainfo, IsLaidOut, blocks_of}
+use Rattle.bt_machine_checks.proofs.Base.{[], ◌≡◌, ◌≢◌, ℕ, suc, inl, inr, List, ◌∷◌, length, refl, sym, ap, ◌∙◌, arith, map, ⊤, cases_lt, block_count, Metainfo, IsLaidOut, blocks_of}
 use Rattle.bt_machine_checks.proofs.Machine.{Digest, Connect, Feed, Next, Lost, Rechoke, Adopt, Flush, EngineState, IsFile, Answer, of_connect, of_feed, of_next, of_rechoke, of_adopt, Step, Run, IsOrderly, IsShaped, sent_by, IsOutOfMemory, IsReached, StepIsDetermined, block_requests, StepIsForced, HaveMemory, RunsAreDetermined}
 use Rattle.bt_machine.proofs.Lists.{heads, tails, get_some, same_some, some_below}
 use Rattle.bt_machine.proofs.Orderly.{order_kept, order_of_runs}
@@ -20,8 +20,8 @@ sized {torrent} {s} shaped {file} f k is some =
     let shape = shaped.each file entry.0 f entry.1 is.here in
     elim (cases_lt 0 entry.0.length) [
       | inl long ↦
-          let tree = shape.hung long in
-          ap blocks_of (same_some is.hung tree.1) ∙ ap block_count tree.3 ∙ sym shape.blocks
+          let tree = shape.has_tree long in
+          ap blocks_of (same_some is.has_tree tree.1) ∙ ap block_count tree.3 ∙ sym shape.blocks
       | inr short ↦ absurd (some (nil_of f.states (omega arith)))
     ]
 

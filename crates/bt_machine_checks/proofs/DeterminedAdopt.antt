@@ -1,5 +1,5 @@
 -- What is left to an engine where a file is taken in.
-use Rattle.bt_machine_checks.proofs.Base.{◌≡◌, ◌≢◌, ℕ, ◌+◌, ◌-◌, ◌/◌, ◌^◌, ◌<◌, ◌≤◌, inl, inr, min, Bool, true, false, cond, List, ◌∷◌, ◌++◌, length, map, None, refl, sym, ap, ◌∙◌, subst, arith, append_assoc, flat_map, IsSome, Err, AllZip, count_by, range_with_len, cases_lt, length-map, length-range_with_len, sum_by-cons, CoversBlock, real_width, block_count, real_limit, Facts, blocks_of, held_at, value_at, value_covers, given, failed, block_of, is_fault, right_count, fault_count, IsKnownGroup, IsUnknownGroup, claim_of_reads, marked_run, Adopts, none, known, accepted, not_accepted as refused, short, unread, BlockState, Adopted}
+use Rattle.bt_machine_checks.proofs.Base.{[], ◌≡◌, ◌≢◌, ℕ, ◌+◌, ◌-◌, ◌/◌, ◌^◌, ◌<◌, ◌≤◌, inl, inr, min, Bool, true, false, cond, List, ◌∷◌, ◌++◌, length, map, None, refl, sym, ap, ◌∙◌, subst, arith, append_assoc, flat_map, IsSome, Err, AllZip, count_by, range_with_len, cases_lt, length-map, length-range_with_len, sum_by-cons, CoversBlock, real_width, block_count, real_limit, Facts, blocks_of, held_at, value_at, value_covers, given, failed, block_of, is_fault, right_count, fault_count, IsKnownGroup, IsUnknownGroup, claim_of_reads, marked_run, Adopts, none, known, accepted, not_accepted as refused, short, unread, BlockState, Adopted}
 use Rattle.bt_machine_checks.proofs.Machine.{Digest, FileState, EngineState, Hint, reads_at, with_file, with_tree, IsFile, SettlesIn, with_pending, IsProof, AdoptsGroup, adopted_together, AdoptsGroups, is_other, AdoptsFile, StepAdopt, no_file, busy, empty, adopts, not_adopted as no_memory, of_adopt}
 use Rattle.bt_store.specs.Adoption.{is_whole, AreWhole}
 use Rattle.bt_machine.specs.declared.error.AdoptError.TheVariants.{OutOfMemory}
@@ -172,7 +172,7 @@ module _ (dig : Digest) where
       result = result_one g.left g.adopts (rw reads adopts_there)
 
       proofs : g.proofs ≡ h.proofs
-      proofs = proofs_one dig _ _ _ _ (rw (← result.1) (rw (← result.0) g.taught)) h.taught
+      proofs = proofs_one dig _ _ _ _ (rw (← result.1) (rw (← result.0) g.proves)) h.proves
 
       placed : FileState → List BlockState → Facts → List Hint → EngineState
       placed f states k ps = with_pending s (with_tree (with_file s file (record f { states = states })) f.tree k) ps

@@ -1,6 +1,6 @@
 -- What one wire event does by itself is one and no other, with the same answers of devices.
-use Rattle.bt_machine_checks.proofs.Base.{◌≡◌, ◌≢◌, ℕ, suc, ◌*◌, ◌<◌, inl, inr, true, false, List, ◌∷◌, ◌++◌, length, map, Option, Some, None, refl, sym, ap, ◌∙◌, subst, arith, length-append, slice_get, option_map, Contains, flat_map, if◌then◌else◌, Result, Ok, Err, AllPairs, concat, length-map, Contains-append_right, Call, bytes_written, write_fault, IsLaidOut, Facts, Accepts, IsRefused, OutOfMemory, IsClaimBy, HashKey, BlockRead, given, failed, block_of, call_of, IsRight, IsWrong, PutIsDue, calls_of_put, states_after_put, StoreError, Range, DeviceFault, Put, Already, Wrong, PutMarked, PutWaiting, without_block, PeerMessage as Sent, KeepAlive, Choke, Unchoke, Interested, NotInterested, Have, Bitfield, Request, Piece, Cancel, HashRequest, Hashes, HashReject, Hello, Message, Skipped}
-use Rattle.bt_machine_checks.proofs.Machine.{Digest, Proof, FileState, EngineState, DeviceCalls, calls_at, reads_at, block_id, with_file, with_tree, with_peer, file_numbers, no_effect, closing, sending, spanned_blocks, cut_from, with_payload, IsFile, Serves, FindsFault, damaged, fault, StopsAtFault, HandlesRequest, ignored, no_place, not_marked, served, stopped, HasPutEffect, Puts, Arrives, HandlesPiece, stale, arrives, judged_file, settling_notes, due_blocks, SettlesIn, OnlyCloses, IsTreeOf, IsAnswered, HandlesHashRequest, answered, rejected, Resolves, resolved as ours, other_asked as other, new_proofs, settled_count, Learns, HandlesHashes, unknown_root, no_claim, refused, learns, HandlesHello, ours as our_torrent, other as other_torrent, HandlesHave, in_range, out_of_range, HandlesBitfield, right, wrong, HandlesMessage, Handles}
+use Rattle.bt_machine_checks.proofs.Base.{[], ◌≡◌, ◌≢◌, ℕ, suc, ◌*◌, ◌<◌, inl, inr, true, false, List, ◌∷◌, ◌++◌, length, map, Option, Some, None, refl, sym, ap, ◌∙◌, subst, arith, length-append, slice_get, option_map, Contains, flat_map, if◌then◌else◌, Result, Ok, Err, AllPairs, concat, length-map, Contains-append_right, Call, bytes_written, write_fault, IsLaidOut, Facts, Accepts, IsRefused, OutOfMemory, IsClaimBy, HashKey, BlockRead, given, failed, block_of, call_of, IsRight, IsWrong, PutIsDue, calls_of_put, states_after_put, StoreError, Range, DeviceFault, Put, Already, Wrong, PutMarked, PutWaiting, without_block, PeerMessage as Sent, KeepAlive, Choke, Unchoke, Interested, NotInterested, Have, Bitfield, Request, Piece, Cancel, HashRequest, Hashes, HashReject, Hello, Message, Skipped}
+use Rattle.bt_machine_checks.proofs.Machine.{Digest, Proof, FileState, EngineState, DeviceCalls, calls_at, reads_at, block_id, with_file, with_tree, with_peer, file_numbers, no_effect, closing, sending, spanned_blocks, cut_from, with_payload, IsFile, Serves, FindsFault, damaged, fault, StopsAtFault, HandlesRequest, ignored, no_place, not_marked, served, stopped, HasPutEffect, Puts, Arrives, HandlesPiece, stale, arrives, judged_file, settling_notes, due_blocks, SettlesIn, OnlyCloses, IsTreeOf, IsAnswered, HandlesHashRequest, answered, rejected, Resolves, resolved as ours, other_asked as other, new_proofs, settled_count, AcceptsHashes, HandlesHashes, unknown_root, no_claim, refused, accepts_hashes, HandlesHello, ours as our_torrent, other as other_torrent, HandlesHave, in_range, out_of_range, HandlesBitfield, right, wrong, HandlesMessage, Handles}
 use Rattle.bt_machine.proofs.Lists.{heads, tails, get_some, some_is, same_some, here, later, contains_none, contains_cases, some_below, range_contains, range_limits}
 use Rattle.bt_machine.proofs.Places.{same_place, same_block}
 use Rattle.bt_machine_checks.proofs.DeterminedParts.{tree_one, accepts_one, answer_one, accepts_refused, refused_one, no_claim_one, claim_or_not}
@@ -123,7 +123,7 @@ last_given f g (i ∷ before) {block} after {read} e =
 pub file_one : {s file f g k l : _} → IsFile s file f k → IsFile s file g l → (f ≡ g) × (k ≡ l)
 file_one {s} {f} {g} x y =
     let same : f ≡ g = cc in
-    (same, same_some (cc) y.hung)
+    (same, same_some (cc) y.has_tree)
 
 module _ (dig : Digest) (s : EngineState) where
   serves_one : {i p ask span calls e f m n : _} → Serves dig s i p ask span calls e m → Serves dig s i p ask span calls f n → (e ≡ f) × (m ≡ n)
@@ -297,7 +297,7 @@ module _ (dig : Digest) (s : EngineState) where
     resolves_one (other x e) (ours y f) = absurd (x y)
     resolves_one (other x e) (other y f) = cc
 
-    learns_one : {i p key digests calls e f m n : _} → Learns dig s i p key digests calls e m → Learns dig s i p key digests calls f n → (e ≡ f) × (m ≡ n)
+    learns_one : {i p key digests calls e f m n : _} → AcceptsHashes dig s i p key digests calls e m → AcceptsHashes dig s i p key digests calls f n → (e ≡ f) × (m ≡ n)
     learns_one {i} {p} {key} {digests} {calls} x y =
         let tree = tree_one roots x.here y.here in
         let claim : x.claim ≡ y.claim = cc in
@@ -321,7 +321,7 @@ module _ (dig : Digest) (s : EngineState) where
         let tree = tree_one roots x y in
         refused_one dig (rw (← (v.claim_is ∙ sym w.claim_is)) (rw (← tree.1) r)) q m n
 
-    learns_or_not : {i p key digests calls e m a t k c : _} → Learns dig s i p key digests calls e m
+    learns_or_not : {i p key digests calls e m a t k c : _} → AcceptsHashes dig s i p key digests calls e m
         → IsTreeOf s key.root t k → IsClaimBy key digests c → IsRefused dig k c a → a ≢ OutOfMemory → ⊥
     learns_or_not {k} x at by r not_memory =
         let tree = tree_one roots x.here at in
@@ -332,19 +332,19 @@ module _ (dig : Digest) (s : EngineState) where
     hashes_one (unknown_root a b c d) (unknown_root w x y z) = (c ∙ sym y, d ∙ sym z)
     hashes_one (unknown_root a b c d) (no_claim g x y z) = absurd (x a)
     hashes_one (unknown_root a b c d) (refused g t k h x y z o) = absurd (a t k x)
-    hashes_one (unknown_root a b c d) (learns y) = absurd (a y.tree y.old y.here)
+    hashes_one (unknown_root a b c d) (accepts_hashes y) = absurd (a y.tree y.old y.here)
     hashes_one (no_claim g a b c) (unknown_root w x y z) = absurd (a w)
     hashes_one (no_claim g a b c) (no_claim h x y z) = closes_one (no_claim_one b y c.not_memory z.not_memory) c z
     hashes_one (no_claim g a b c) (refused h t k d x y z o) = absurd (claim_or_not b y c.not_memory)
-    hashes_one (no_claim g a b c) (learns y) = absurd (claim_or_not b y.claims c.not_memory)
+    hashes_one (no_claim g a b c) (accepts_hashes y) = absurd (claim_or_not b y.claims c.not_memory)
     hashes_one (refused g t k c x y z o) (unknown_root w a b d) = absurd (w t k x)
     hashes_one (refused g t k c x y z o) (no_claim h a b d) = absurd (claim_or_not b y d.not_memory)
     hashes_one (refused g t k c x y z o) (refused h u l d v w q r) = closes_one (refusals_one x v y w z q o.not_memory r.not_memory) o r
-    hashes_one (refused g t k c x y z o) (learns w) = absurd (learns_or_not w x y z o.not_memory)
-    hashes_one (learns w) (unknown_root a b c d) = absurd (a w.tree w.old w.here)
-    hashes_one (learns w) (no_claim h a b d) = absurd (claim_or_not b w.claims d.not_memory)
-    hashes_one (learns w) (refused g t k c x y z o) = absurd (learns_or_not w x y z o.not_memory)
-    hashes_one (learns x) (learns y) = learns_one x y
+    hashes_one (refused g t k c x y z o) (accepts_hashes w) = absurd (learns_or_not w x y z o.not_memory)
+    hashes_one (accepts_hashes w) (unknown_root a b c d) = absurd (a w.tree w.old w.here)
+    hashes_one (accepts_hashes w) (no_claim h a b d) = absurd (claim_or_not b w.claims d.not_memory)
+    hashes_one (accepts_hashes w) (refused g t k c x y z o) = absurd (learns_or_not w x y z o.not_memory)
+    hashes_one (accepts_hashes x) (accepts_hashes y) = learns_one x y
 
     -- ---- all of them
 

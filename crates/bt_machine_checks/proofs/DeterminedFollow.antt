@@ -1,5 +1,5 @@
 -- What follows for a peer is one and no other, but for the blocks that are requested.
-use Rattle.bt_machine_checks.proofs.Base.{◌≡◌, ℕ, zero, suc, inl, inr, Bool, true, false, not, List, ◌∷◌, ◌++◌, map, Some, refl, sym, ap, ◌∙◌, arith, slice_get, slice_set, ◌↔◌, option_and_then, cases_lt, filter-append, IsPlan, planned_key, BlockId, HashRequest}
+use Rattle.bt_machine_checks.proofs.Base.{[], ◌≡◌, ℕ, zero, suc, inl, inr, Bool, true, false, not, List, ◌∷◌, ◌++◌, map, Some, refl, sym, ap, ◌∙◌, arith, slice_get, slice_set, ◌↔◌, option_and_then, cases_lt, filter-append, IsPlan, planned_key, BlockId, HashRequest}
 use Rattle.bt_machine_checks.proofs.Machine.{Digest, Asked, PeerState, EngineState, state_at, tree_of, piece_of, Has, sent_to, IsInteresting, interest_sent, TellsInterest, NeedsLeaf, IsLeastNeed, RequestsHashes, requests, rests, RequestsEach, FollowsUp, FollowsEach, is_block_request, other_frames, asked_nothing, without_asked}
 use Rattle.bt_machine.proofs.Lists.{same_some}
 use Rattle.bt_machine_checks.proofs.DeterminedParts.{anchor_one}
@@ -51,7 +51,7 @@ module _ (dig : Digest) where
     has = has_in s t p q b same peers x.has;
     not_marked = elim x.not_marked [ inl e ↦ inl (state_in s t b same ∙ e) | inr e ↦ inr (state_in s t b same ∙ e) ];
     tree = x.tree;
-    hung = ap (λ z. tree_of z b.file) (sym same) ∙ x.hung;
+    has_tree = ap (λ z. tree_of z b.file) (sym same) ∙ x.has_tree;
     unknown = x.unknown;
   }
 
@@ -75,15 +75,15 @@ module _ (dig : Digest) where
       x.key_is ∙ ap (planned_key k leaf) anchor ∙ sym y.key_is
 
   pub hash_one : {s t p q f g a b : _} → Alike s t → AlikePeers p q → RequestsHashes dig s p f a → RequestsHashes dig t q g b → (f ≡ g) × AlikePeers a b
-  hash_one {t} {q} same peers (requests c k x idle least hung plan sent new) (requests d l y idle2 least2 hung2 plan2 sent2 new2) =
+  hash_one {t} {q} same peers (requests c k x idle least has_tree plan sent new) (requests d l y idle2 least2 hung2 plan2 sent2 new2) =
       let block : c ≡ d = least_one same peers least least2 in
-      let there : tree_of t c.file ≡ Some k = ap (λ (z : EngineState). tree_of z c.file) (sym same) ∙ hung in
+      let there : tree_of t c.file ≡ Some k = ap (λ (z : EngineState). tree_of z c.file) (sym same) ∙ has_tree in
       let tree : k ≡ l = cc in
       let key : x ≡ y = plan_one (rw (← block) (rw (← tree) plan)) plan2 in (
         sent ∙ ap (λ (z : PeerState). sent_to z (HashRequest x) ∷ []) peers ∙ ap (λ h. sent_to q (HashRequest h) ∷ []) key ∙ sym sent2,
         ap asked_nothing new ∙ ap (λ (z : PeerState). record z { hash = Asked x }) peers ∙ ap (λ h. record (asked_nothing q) { hash = Asked h }) key ∙ sym (ap asked_nothing new2),
       )
-  hash_one same peers (requests c k x idle least hung plan sent new) (rests none sent2 new2) =
+  hash_one same peers (requests c k x idle least has_tree plan sent new) (rests none sent2 new2) =
       absurd (none (ap (λ (z : PeerState). z.hash) (sym peers) ∙ idle) c (needs_in same peers least.needs))
   hash_one same peers (rests none sent new) (requests d l y idle2 least2 hung2 plan2 sent2 new2) =
       absurd (none (ap (λ (z : PeerState). z.hash) peers ∙ idle2) d (needs_in (sym same) (sym peers) least2.needs))

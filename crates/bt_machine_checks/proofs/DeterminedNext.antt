@@ -1,6 +1,6 @@
 -- What is left to an engine where the next wire event of a peer is taken.
-use Rattle.bt_machine_checks.proofs.Base.{◌≡◌, ◌≢◌, ℕ, List, ◌++◌, map, Option, Some, None, refl, sym, ap, ◌∙◌, subst, Result, Ok, Err, slice_get, AllPairs, IsLaidOut, Facts, PeerKey, Takes}
-use Rattle.bt_machine_checks.proofs.Machine.{Digest, Wire, Complete, EngineError, PeerState, EngineState, DeviceCalls, with_peer, new_complete_files, Sent, Output, Effect, haves, Handles, FollowsUp, IsPeer, without_peer, with_pending, TakesEvent, GoesOn, Closes, ShowsFault, StepNext, no_peer, waits, goes_on, closes, faulty, no_memory, IsOrderly, Answer, of_next, other_frames, plain_answer, without_asked}
+use Rattle.bt_machine_checks.proofs.Base.{[], ◌≡◌, ◌≢◌, ℕ, List, ◌++◌, map, Option, Some, None, refl, sym, ap, ◌∙◌, subst, Result, Ok, Err, slice_get, AllPairs, IsLaidOut, Facts, PeerKey, Takes}
+use Rattle.bt_machine_checks.proofs.Machine.{Digest, Wire, Complete, EngineError, PeerState, EngineState, DeviceCalls, with_peer, new_complete_files, Sent, Output, Effect, haves, Handles, FollowsUp, IsPeer, without_peer, with_pending, TakesEvent, KeepsPeer, Closes, ShowsFault, StepNext, no_peer, waits, keeps_peer, closes, faulty, no_memory, IsOrderly, Answer, of_next, other_frames, plain_answer, without_asked}
 use Rattle.bt_machine.specs.declared.error.EngineError.TheVariants.{OutOfMemory}
 use Rattle.bt_machine.proofs.Lists.{set_same}
 use Rattle.bt_machine_checks.proofs.AnswerParts.{event_leaves}
@@ -23,7 +23,7 @@ module _ (dig : Digest) where
         = rw same.1 (rw same.0 y.handles) in
         event_one dig (with_peer s i (record p { stream = x.rest })) lay roots i (record p { stream = x.rest }) x.event calls x.handles handles
 
-    move_on : {i j p q out new : _} → (i ≡ j) × (p ≡ q) → GoesOn dig s i p calls out new → GoesOn dig s j q calls out new
+    move_on : {i j p q out new : _} → (i ≡ j) × (p ≡ q) → KeepsPeer dig s i p calls out new → KeepsPeer dig s j q calls out new
     move_on {j} {p} {out} {new} same g = rw (← same.1) (rw (← same.0) g)
 
     move_close : {i j p q out new : _} → (i ≡ j) × (p ≡ q) → Closes dig s i p calls out new → Closes dig s j q calls out new
@@ -54,7 +54,7 @@ module _ (dig : Digest) where
         → StepNext dig s key calls another other → another ≢ Err OutOfMemory → GoesWith i effect mid another other
     next_goes {i} {p} is takes stays (no_peer h c a e) room = absurd (h i p is)
     next_goes is takes stays (waits j q q_is w c a e) room = absurd (takes_waits takes.takes (rw (← (peer_one o q_is is).1) w))
-    next_goes {i} {effect} {other} is takes stays (goes_on j q out q_is g a) room =
+    next_goes {i} {effect} {other} is takes stays (keeps_peer j q out q_is g a) room =
         let h = move_on (peer_one o q_is is) g in
         let same = taken_one takes h.takes in
         record {
@@ -109,12 +109,12 @@ module _ (dig : Digest) where
         → answer ≢ Err OutOfMemory → another ≢ Err OutOfMemory → AreOne (of_next answer) new (of_next another) other
     next_one (no_memory i p is g a) y memory room = absurd (memory a)
     next_one x (no_memory i p is g a) memory room = absurd (room a)
-    next_one (goes_on i p out is g a) y memory room =
+    next_one (keeps_peer i p out is g a) y memory room =
         on_one is.here g.takes
-        (next_goes is g.takes g.stays (goes_on i p out is g a) memory) (next_goes is g.takes g.stays y room)
-    next_one x (goes_on i p out is g a) memory room =
+        (next_goes is g.takes g.stays (keeps_peer i p out is g a) memory) (next_goes is g.takes g.stays y room)
+    next_one x (keeps_peer i p out is g a) memory room =
         on_one is.here g.takes
-        (next_goes is g.takes g.stays x memory) (next_goes is g.takes g.stays (goes_on i p out is g a) room)
+        (next_goes is g.takes g.stays x memory) (next_goes is g.takes g.stays (keeps_peer i p out is g a) room)
     next_one (no_peer xh xc xa xe) (no_peer yh yc ya ye) memory room = are_equal (ap of_next (cc)) (cc)
     next_one (no_peer xh xc xa xe) (waits yi yp yq yw yc ya ye) memory room = absurd (xh yi yp yq)
     next_one (no_peer xh xc xa xe) (closes yi yp yo yq yg ya) memory room = absurd (xh yi yp yq)

@@ -1,5 +1,5 @@
 -- What is one and no other: events, peers, places, trees, refusals, and what is known after a claim.
-use Rattle.bt_machine_checks.proofs.Base.{◌≡◌, ◌≢◌, ◌+◌, ◌*◌, ◌<◌, inl, inr, ◌++◌, Option, Some, None, refl, sym, ap, ◌∙◌, arith, AllPairs, cases_lt, ext_get_or, Facts, blocks_of, held_at, value_at, IsAnchor, IsAnswer, Claims, IsAcceptable, Accepts, DiffersBelow, IsHighestClash, IsRefused, shape, padding, no_anchor, top_differs, clash, refused_memory as no_memory, Clash, OutOfMemory, claims_one, same_map, value_inside, value_covers, value_padding, cases_node, IsClaimBy, IsNoClaim, no_shape, no_count, claim_memory as no_room, Takes, Waits, Fails, fault_alone, one_fault}
+use Rattle.bt_machine_checks.proofs.Base.{[], ◌≡◌, ◌≢◌, ◌+◌, ◌*◌, ◌<◌, inl, inr, ◌++◌, Option, Some, None, refl, sym, ap, ◌∙◌, arith, AllPairs, cases_lt, ext_get_or, Facts, blocks_of, held_at, value_at, IsAnchor, IsAnswer, Claims, IsAcceptable, Accepts, DiffersBelow, IsHighestClash, IsRefused, shape, padding, no_anchor, top_differs, clash, refused_memory as no_memory, Clash, OutOfMemory, claims_one, same_map, value_inside, value_covers, value_padding, cases_node, IsClaimBy, IsNoClaim, no_shape, no_count, claim_memory as no_room, Takes, Waits, Fails, fault_alone, one_fault}
 use Rattle.bt_machine_checks.proofs.Machine.{Digest, PeerState, EngineState, IsTreeOf, IsPeer, IsOrderly}
 use Rattle.bt_machine.proofs.Lists.{same_some, some_not_none}
 use Rattle.bt_machine.proofs.Pairs.{to_pairs, pairs_at}

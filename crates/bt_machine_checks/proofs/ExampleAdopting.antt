@@ -1,5 +1,5 @@
 -- What a file's device has is taken in.
-use Rattle.bt_machine_checks.proofs.Base.{◌≡◌, ℕ, zero, suc, ◌+◌, inl, inr, Bool, true, false, List, ◌∷◌, Some, Ok, refl, sym, ap, ◌∙◌, subst, arith, slice_get, if◌then◌else◌, option_map, IsSome, Facts, root_facts, IsKnownGroup, known, BlockRead, given, failed, block_of, is_right, judged, right_count, fault_count, BlockState, Missing, Marked, Adopted, Adopts}
+use Rattle.bt_machine_checks.proofs.Base.{[], ◌≡◌, ℕ, zero, suc, ◌+◌, inl, inr, Bool, true, false, List, ◌∷◌, Some, Ok, refl, sym, ap, ◌∙◌, subst, arith, slice_get, if◌then◌else◌, option_map, IsSome, Facts, root_facts, IsKnownGroup, known, BlockRead, given, failed, block_of, is_right, judged, right_count, fault_count, BlockState, Missing, Marked, Adopted, Adopts}
 use Rattle.bt_machine_checks.proofs.Machine.{Digest, FileState, EngineState, reads_at, judged_file, due_blocks, is_other, StepAdopt, no_file, busy, adopts, abc, abc_engine, IsWrongAbc, ThreeBlocks, AdoptedBlockIsRun}
 use Rattle.bt_machine.proofs.Lists.{same_some, here}
 use Rattle.bt_machine.proofs.Marks.{right_then, right_true}
@@ -56,11 +56,11 @@ module _ (dig : Digest) (infohash : List ℕ) where
             reads = read ∷ [];
             states = y ∷ [];
             proofs = [];
-            is_file = record { here = refl; hung = refl };
+            is_file = record { here = refl; has_tree = refl };
             left = omega arith;
             adopts = group;
             made = refl;
-            taught = tt;
+            proves = tt;
             after = refl;
           },
           (refl, refl),

@@ -1,5 +1,5 @@
 -- Devices are flushed, and a peer goes.
-use Rattle.bt_machine_checks.proofs.Base.{◌≡◌, ℕ, inl, inr, true, false, List, ◌∷◌, Some, Ok, refl, sym, ap, ◌∙◌, subst, arith, Contains, Missing, BlockId, stream, Takes, Message as message_event, Ask, Request, KeepAlive}
+use Rattle.bt_machine_checks.proofs.Base.{[], ◌≡◌, ℕ, inl, inr, true, false, List, ◌∷◌, Some, Ok, refl, sym, ap, ◌∙◌, subst, arith, Contains, Missing, BlockId, stream, Takes, Message as message_event, Ask, Request, KeepAlive}
 use Rattle.bt_machine_checks.proofs.Machine.{Digest, PeerState, EngineState, IsAsked, HasNoPeer, state_at, NeedsLeaf, FollowsUp, rests, StepNext, goes, not_lost, syncs, fails, first_key, all_taken, to_first, abc_engine, FlushesAreRun, second_key, free_peer, busy_peer, keepalive_bytes, LostPeerIsRun}
 use Rattle.bt_machine.proofs.Lists.{contains_none, contains_cases, here, later}
 use Rattle.bt_machine_checks.proofs.ExampleOneBlock.{no_needs, the_one, the_block, whole_block}
@@ -30,7 +30,7 @@ module _ (dig : Digest) (infohash : List ℕ) where
   engine peers = abc_engine dig infohash Missing peers 3
 
   no_need : (peers : List PeerState) (b : _) → ¬ NeedsLeaf dig (engine peers) free_peer b
-  no_need peers b n = no_needs dig infohash Missing free_peer free_peer b (record { has = n.has; not_marked = n.not_marked; tree = n.tree; hung = n.hung; unknown = n.unknown })
+  no_need peers b n = no_needs dig infohash Missing free_peer free_peer b (record { has = n.has; not_marked = n.not_marked; tree = n.tree; has_tree = n.has_tree; unknown = n.unknown })
 
   only : (peers : List PeerState) {b : BlockId} → state_at (engine peers) b ≡ Some Missing → the_block ≡ b
   only peers e = the_one dig infohash free_peer e

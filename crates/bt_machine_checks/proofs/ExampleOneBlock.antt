@@ -1,5 +1,5 @@
 -- The fetch of the file `abc` is a run.
-use Rattle.bt_machine_checks.proofs.Base.{◌≡◌, ℕ, zero, suc, ◌+◌, ◌≤◌, ◌⊎◌, inl, inr, ◌↔◌, true, false, List, ◌∷◌, ◌++◌, length, Some, None, Ok, refl, sym, ap, ◌∙◌, subst, arith, rules, slice_get, Contains, option_and_then, append-nil, root_facts, digest_at_new, BlockState, Missing, Waiting, Marked, PutMarked, bytes_written, BlockId, stream, Takes, handshake_spelling, Message as message_event, Ask, PeerMessage as Message, Interested, NotInterested, Have, Request, Piece}
+use Rattle.bt_machine_checks.proofs.Base.{[], ◌≡◌, ℕ, zero, suc, ◌+◌, ◌≤◌, ◌⊎◌, inl, inr, ◌↔◌, true, false, List, ◌∷◌, ◌++◌, length, Some, None, Ok, refl, sym, ap, ◌∙◌, subst, arith, rules, slice_get, Contains, option_and_then, append-nil, root_facts, digest_at_new, BlockState, Missing, Waiting, Marked, PutMarked, bytes_written, BlockId, stream, Takes, handshake_spelling, Message as message_event, Ask, PeerMessage as Message, Interested, NotInterested, Have, Request, Piece}
 use Rattle.bt_machine_checks.proofs.Machine.{Digest, NowMarked, Complete, Idle, PeerState, FileState, EngineState, block_id, state_at, tree_of, Has, IsAsked, IsWholeBlock, Output, noting, ours, right, IsInteresting, NeedsLeaf, FollowsUp, rests, interest_sent, StepNext, waits, StepConnect, joins, greeting, Starts, by_root, Run, abc, abc_file, abc_torrent, abc_engine, served_peer, piece_bytes, abc_events, abc_calls, abc_answers, FetchOfAbcIsRun, first_key, peer_with, all_taken, their_handshake, bitfield_bytes, unchoke_bytes, to_first}
 use Rattle.bt_tree.specs.TreeShape.{height_up_to}
 use Rattle.bt_sparse.specs.SparseTree.{value_at}
@@ -200,7 +200,7 @@ module _ (dig : Digest) (infohash : List ℕ) where
               let same : abc_file dig ≡ file = cc in
               record {
                 missing = cc;
-                hung = λ some. (root_facts 3 (dig abc), ap (λ q. slice_get (root_facts 3 (dig abc) ∷ []) q.tree) (sym one.1), ap (λ g. g.root) same, ap (λ g. g.length) same);
+                has_tree = λ some. (root_facts 3 (dig abc), ap (λ q. slice_get (root_facts 3 (dig abc) ∷ []) q.tree) (sym one.1), ap (λ g. g.root) same, ap (λ g. g.length) same);
               };
         };
         is = refl;

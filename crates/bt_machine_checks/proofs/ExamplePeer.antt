@@ -1,6 +1,6 @@
 -- The messages of the peer of the worked examples, and lists of one.
-use Rattle.bt_machine_checks.proofs.Base.{◌≡◌, ℕ, zero, suc, true, false, List, ◌∷◌, ◌++◌, length, replicate, Option, Some, None, refl, sym, ap, ◌∙◌, arith, slice_get, append-nil, length-take, stream, Takes, Waits, HasNoEvent, ShowsNoFault, handshake_spelling, Body, IsMessage, Fits, frame_spelling, message_spelling, TooLong, BadLength, Hello, Message as message_event, Unchoke, Bitfield, event_frame, Contains, Facts, Ok, Put, PutIsDue, Result, StoreError, WireEvent, calls_of_put, fed, map, states_after_put, without_block}
-use Rattle.bt_machine_checks.proofs.Machine.{Digest, all_taken, their_handshake, bitfield_bytes, unchoke_bytes, Complete, DeviceCalls, Effect, EngineState, FileState, FollowsUp, Handles, HandlesPiece, HasPutEffect, IsWholeBlock, Note, PeerState, Sent, StepFeed, StepNext, Why, arrives, calls_at, closes, closing, feeds, first_key, goes_on, haves, new_complete_files, with_file, with_payload, with_peer, with_pending, without_peer}
+use Rattle.bt_machine_checks.proofs.Base.{[], ◌≡◌, ℕ, zero, suc, true, false, List, ◌∷◌, ◌++◌, length, replicate, Option, Some, None, refl, sym, ap, ◌∙◌, arith, slice_get, append-nil, length-take, stream, Takes, Waits, HasNoEvent, ShowsNoFault, handshake_spelling, Body, IsMessage, Fits, frame_spelling, message_spelling, TooLong, BadLength, Hello, Message as message_event, Unchoke, Bitfield, event_frame, Contains, Facts, Ok, Put, PutIsDue, Result, StoreError, WireEvent, calls_of_put, fed, map, states_after_put, without_block}
+use Rattle.bt_machine_checks.proofs.Machine.{Digest, all_taken, their_handshake, bitfield_bytes, unchoke_bytes, Complete, DeviceCalls, Effect, EngineState, FileState, FollowsUp, Handles, HandlesPiece, HasPutEffect, IsWholeBlock, Note, PeerState, Sent, StepFeed, StepNext, Why, arrives, calls_at, closes, closing, feeds, first_key, keeps_peer, haves, new_complete_files, with_file, with_payload, with_peer, with_pending, without_peer}
 use Rattle.bt_machine.proofs.Lists.{some_is}
 
 pub one_there : {X : Type 0} {x y : X} (i : ℕ) → slice_get (x ∷ []) i ≡ Some y → (i ≡ 0) × (x ≡ y)
@@ -67,7 +67,7 @@ pub went : {dig : Digest} {s new : EngineState} {p : PeerState} {calls : DeviceC
     → notes ≡ effect.notes ++ map (λ file. Complete file) (new_complete_files s mid)
     → StepNext dig s first_key calls (Ok (Some (record { send = send; close = None; notes = notes }))) new
 went effect mid here key stays takes handles follows send notes =
-    goes_on 0 _ _ (record { here = here; same_key = key })
+    keeps_peer 0 _ _ (record { here = here; same_key = key })
     (record { effect = effect; mid = mid; sent = _; takes = record { event = _; rest = all_taken; takes = takes; handles = handles }; stays = stays; follows = follows; send = send; close = refl; notes = notes })
     refl
 
@@ -88,11 +88,11 @@ pub comes : {dig : Digest} {s mid : EngineState} {p : PeerState} {begin n : ℕ}
     → HasPutEffect b r effect
     → mid ≡ with_peer (with_file s b.file (record file { states = states_after_put b.block r file.states })) 0 (with_payload n (record p { asked = without_block b p.asked }))
     → HandlesPiece dig s 0 p 0 begin bytes calls effect mid
-comes {b} r whole size asked here hung due made has_effect after = arrives (record {
+comes {b} r whole size asked here has_tree due made has_effect after = arrives (record {
   block = b;
   stored = _;
   whole = rw size whole;
   asked = asked;
-  puts = record { file = _; tree = _; result = r; is_file = record { here = here; hung = hung }; due = due; made = made; has_effect = has_effect; after = refl };
+  puts = record { file = _; tree = _; result = r; is_file = record { here = here; has_tree = has_tree }; due = due; made = made; has_effect = has_effect; after = refl };
   after = rw size after;
 })

@@ -1,5 +1,5 @@
 -- Requests are served, ignored, or close their peer.
-use Rattle.bt_machine_checks.proofs.Base.{◌≡◌, ◌∙◌, ℕ, zero, suc, ◌+◌, ◌≤◌, inl, inr, true, false, List, ◌∷◌, ◌++◌, length, take, drop, Some, Ok, refl, sym, ap, subst, arith, Contains, append-nil, length-drop, drop-append-le, take-append-add, bytes_given, IsPlace, Span, Facts, given, IsRight, Missing, Marked, Stream, stream, Takes, Message as message_event, Ask, Interested, Unchoke, Request, Piece}
+use Rattle.bt_machine_checks.proofs.Base.{[], ◌≡◌, ◌∙◌, ℕ, zero, suc, ◌+◌, ◌≤◌, inl, inr, true, false, List, ◌∷◌, ◌++◌, length, take, drop, Some, Ok, refl, sym, ap, subst, arith, Contains, append-nil, length-drop, drop-append-le, take-append-add, bytes_given, IsPlace, Span, Facts, given, IsRight, Missing, Marked, Stream, stream, Takes, Message as message_event, Ask, Interested, Unchoke, Request, Piece}
 use Rattle.bt_machine_checks.proofs.Machine.{Digest, BadRequest, PeerState, EngineState, DeviceCalls, block_id, state_at, spanned_blocks, cut_from, Sent, sending, ignored, no_place, served, NeedsLeaf, FollowsUp, rests, StepNext, StepRechoke, rechokes, Run, first_key, all_taken, to_first, ThreeBlocks, AreWhole, three_file, three_torrent, KnowsTwo, marked_engine, reader, interested_bytes, request_bytes, long_request_bytes, serving_events, serving_calls, serving_answers, ServingIsRun}
 use Rattle.bt_machine.proofs.Lists.{contains_none, contains_cases}
 use Rattle.bt_machine_checks.proofs.ExampleThreeEngine.{output_of, IsOne, first, second, third, one_of}
@@ -133,7 +133,7 @@ module _ (dig : Digest) (b : ThreeBlocks) (infohash : List ℕ) (k : Facts) wher
       → StepNext dig (engine 1 (with_stream (stream request_bytes true false) (reader false true 0))) first_key two_reads (Ok (Some (output_of piece_sent []))) (engine 1 (reader false true 100))
   next_request whole knows =
       went _ _ refl refl refl taken_request
-      (served range_span refl range_place (of_two (λ i. state_at (engine 1 (reader false true 0)) (block_id 0 i) ≡ Some Marked) refl refl) (record { file = record { tree = 0; states = Marked ∷ Marked ∷ Marked ∷ [] }; tree = k; bytes = two_blocks; reads = given 0 b.first ∷ given 1 b.second ∷ []; is_file = record { here = refl; hung = refl }; right = record { made = refl; right = of_two (λ i. IsRight dig k i (two_blocks i)) (record { whole = cc; leaf = knows.first }) (record { whole = cc; leaf = knows.second }) }; made = cc; sent = ap (λ l. sending (reader false true 0) (Piece 0 16334 l)) (sym (cut whole)); after = refl }))
+      (served range_span refl range_place (of_two (λ i. state_at (engine 1 (reader false true 0)) (block_id 0 i) ≡ Some Marked) refl refl) (record { file = record { tree = 0; states = Marked ∷ Marked ∷ Marked ∷ [] }; tree = k; bytes = two_blocks; reads = given 0 b.first ∷ given 1 b.second ∷ []; is_file = record { here = refl; has_tree = refl }; right = record { made = refl; right = of_two (λ i. IsRight dig k i (two_blocks i)) (record { whole = cc; leaf = knows.first }) (record { whole = cc; leaf = knows.second }) }; made = cc; sent = ap (λ l. sending (reader false true 0) (Piece 0 16334 l)) (sym (cut whole)); after = refl }))
       (nothing_follows refl (omega arith)) refl refl
 
   next_ignored : StepNext dig (engine 0 (with_stream (stream request_bytes true false) (reader true true 0))) first_key [] (Ok (Some (output_of [] []))) (engine 0 (reader true true 0))

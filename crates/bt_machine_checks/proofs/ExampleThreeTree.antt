@@ -1,5 +1,5 @@
 -- The tree of the three blocks: what is known of it at first, and after the proof of its leaves.
-use Rattle.bt_machine_checks.proofs.Base.{◌≡◌, ℕ, zero, suc, ◌+◌, ◌-◌, ◌/◌, ◌^◌, ◌≤◌, ◌⊎◌, inl, inr, List, ◌∷◌, ◌++◌, length, drop, Some, refl, sym, ap, ◌∙◌, arith, first_chunks, take_at, drop_at, append_assoc, length-append, IsPadding, CoversBlock, IsDigest, Nodes, digest_at, Facts, root_facts, held_at, Claims, in_run, on_path, uncle, IsInRun, IsOnPath, run_digest, claim_of, IsAcceptable, IsJoined, Accepts, Claim, digest_at_new, digest_at_cases, digest_at_empty, digest_at_other, IsClaimBy, digests_in}
+use Rattle.bt_machine_checks.proofs.Base.{[], ◌≡◌, ℕ, zero, suc, ◌+◌, ◌-◌, ◌/◌, ◌^◌, ◌≤◌, ◌⊎◌, inl, inr, List, ◌∷◌, ◌++◌, length, drop, Some, refl, sym, ap, ◌∙◌, arith, first_chunks, take_at, drop_at, append_assoc, length-append, IsPadding, CoversBlock, IsDigest, Nodes, digest_at, Facts, root_facts, held_at, Claims, in_run, on_path, uncle, IsInRun, IsOnPath, run_digest, claim_of, IsAcceptable, IsJoined, Accepts, Claim, digest_at_new, digest_at_cases, digest_at_empty, digest_at_other, IsClaimBy, digests_in}
 use Rattle.bt_machine_checks.proofs.Machine.{Digest, ThreeBlocks, zero_leaf, left_node, right_node, three_root, leaves_key, four_leaves}
 use Rattle.bt_tree.specs.TreeShape.{height_up_to}
 use Rattle.bt_tree.specs.Tree.{padding_digest}

@@ -1,6 +1,6 @@
 -- One proof settles the waiting blocks of two files.
-use Rattle.bt_machine_checks.proofs.Base.{◌≡◌, ℕ, zero, suc, Bool, true, false, List, ◌∷◌, ◌++◌, Some, None, Ok, inl, inr, refl, sym, ap, ◌∙◌, arith, slice_get, if◌then◌else◌, map, option_map, option_and_then, IsDigest, bytes_given, BlockRead, given, block_of, is_right, BlockState, Missing, Waiting, Marked, stream, message_spelling, Have}
-use Rattle.bt_machine_checks.proofs.Machine.{Digest, Hint, mark_of, Note, NowMarked, Complete, Idle, Asked, PeerState, FileState, EngineState, DeviceCalls, block_id, state_at, Output, no_effect, judged_file, due_blocks, settling_notes, learns, resolved, new_proofs, NeedsLeaf, FollowsUp, rests, StepNext, feeds, first_key, all_taken, to_first, ThreeBlocks, AreWhole, leaves_key, four_leaves, leaves_message, twin_files, twin_engine, twin_peer, TwinFilesAreRun}
+use Rattle.bt_machine_checks.proofs.Base.{[], ◌≡◌, ℕ, zero, suc, Bool, true, false, List, ◌∷◌, ◌++◌, Some, None, Ok, inl, inr, refl, sym, ap, ◌∙◌, arith, slice_get, if◌then◌else◌, map, option_map, option_and_then, IsDigest, bytes_given, BlockRead, given, block_of, is_right, BlockState, Missing, Waiting, Marked, stream, message_spelling, Have}
+use Rattle.bt_machine_checks.proofs.Machine.{Digest, Hint, mark_of, Note, NowMarked, Complete, Idle, Asked, PeerState, FileState, EngineState, DeviceCalls, block_id, state_at, Output, no_effect, judged_file, due_blocks, settling_notes, accepts_hashes, resolved, new_proofs, NeedsLeaf, FollowsUp, rests, StepNext, feeds, first_key, all_taken, to_first, ThreeBlocks, AreWhole, leaves_key, four_leaves, leaves_message, twin_files, twin_engine, twin_peer, TwinFilesAreRun}
 use Rattle.bt_machine.proofs.Lists.{some_is, contains_none}
 use Rattle.bt_machine.proofs.Marks.{right_true}
 use Rattle.bt_machine_checks.proofs.ExamplePeer.{taken_message, went}
@@ -112,7 +112,7 @@ module _ (dig : Digest) (b : ThreeBlocks) (infohash : List ℕ) (logged : Bool) 
   pub next_leaves : IsDigest dig → AreWhole b → (h : List Hint)
       → StepNext dig (waiting h asked) first_key calls (Ok (Some output)) (settled (h ++ (if logged then proofs ++ mark_hints else [])) (twin_peer all_taken Idle))
   next_leaves sizes whole h =
-      went (record no_effect { notes = marks; proofs = proofs }) (settled h (twin_peer all_taken Idle)) refl refl refl (taken_message (key_fits dig b infohash sizes) (leaves_fit dig b infohash sizes)) (learns (record { tree = 0; old = at_first dig b; new = proved dig b; claim = leaves_claim dig b; notes = marks; settled = settled h (twin_peer all_taken (Asked (leaves_key dig b))); hash = Idle; here = record { here = refl; same_root = refl }; claims = claims dig sizes b; accepts = accepts dig b; settles = record { facts = proved dig b; reads = reads; here = refl; due = due; made = refl; noted = sym (ap (λ l. l ++ settling_notes dig (proved dig b) 1 read_back ++ []) (noted whole 0) ∙ ap (λ l. (NowMarked (block_id 0 0) ∷ NowMarked (block_id 0 1) ∷ NowMarked (block_id 0 2) ∷ []) ++ l ++ []) (noted whole 1)); files = files; others = refl }; resolves = resolved refl refl; has_effect = refl; after = refl })) (after_leaves _) refl refl
+      went (record no_effect { notes = marks; proofs = proofs }) (settled h (twin_peer all_taken Idle)) refl refl refl (taken_message (key_fits dig b infohash sizes) (leaves_fit dig b infohash sizes)) (accepts_hashes (record { tree = 0; old = at_first dig b; new = proved dig b; claim = leaves_claim dig b; notes = marks; settled = settled h (twin_peer all_taken (Asked (leaves_key dig b))); hash = Idle; here = record { here = refl; same_root = refl }; claims = claims dig sizes b; accepts = accepts dig b; settles = record { facts = proved dig b; reads = reads; here = refl; due = due; made = refl; noted = sym (ap (λ l. l ++ settling_notes dig (proved dig b) 1 read_back ++ []) (noted whole 0) ∙ ap (λ l. (NowMarked (block_id 0 0) ∷ NowMarked (block_id 0 1) ∷ NowMarked (block_id 0 2) ∷ []) ++ l ++ []) (noted whole 1)); files = files; others = refl }; resolves = resolved refl refl; has_effect = refl; after = refl })) (after_leaves _) refl refl
     where
       due : (file f : _) → slice_get (twin_files Waiting) file ≡ Some f → map block_of (reads file) ≡ due_blocks dig (proved dig b) 0 0 4 f
       due zero f at = sym all_due ∙ ap (λ g. due_blocks dig (proved dig b) 0 0 4 g) (some_is at)

@@ -5,7 +5,7 @@ pub use Rattle.bt_machine_checks.specs.AnswerDue.{IsOnlyPeer, MarksBlock, marked
 pub use Rattle.bt_machine_checks.specs.AnswerLaw.{output_of, NotedBy, IsCause, wire, other_torrent, past_last_piece, other_length, no_place as is_no_place, wrong_block, unknown_root as is_unknown_root, no_claim as makes_no_claim, refused as is_refused, IsConnected, StepClosesForCause, BecomesSo, StepAnnouncesWholePieces, NextNotesCompleteFiles}
 pub use Rattle.bt_machine.specs.Arrival.{arrives, stale, HandlesPiece, HasPutEffect, Arrives, Puts}
 pub use Rattle.bt_machine.specs.Blocks.{with_peer, state_at, tree_of, with_file, with_tree, block_id, Has, file_numbers, IsAsked, new_complete_files, is_whole, piece_numbers, is_complete, has_become, new_whole_pieces, leaf_at, piece_of}
-pub use Rattle.bt_machine_checks.specs.Determined.{IsOutOfMemory, HaveMemory, plain_answer, without_asked, LacksOneAtMost, other_frames, block_requests, is_block_request, asked_nothing, IsReached, StepIsDetermined, StepIsForced, RunsAreDetermined}
+pub use Rattle.bt_machine_checks.specs.LeftFree.{IsOutOfMemory, HaveMemory, plain_answer, without_asked, LacksOneAtMost, other_frames, block_requests, is_block_request, asked_nothing, IsReached, StepIsDetermined, StepIsForced, RunsAreDetermined}
 pub use Rattle.bt_machine.specs.Devices.{DeviceCalls, reads_at, calls_at}
 pub use Rattle.bt_machine_checks.specs.ExampleAdopting.{AdoptedBlockIsRun, IsWrongAbc}
 pub use Rattle.bt_machine_checks.specs.ExampleFlush.{FlushesAreRun, second_key, free_peer, busy_peer, keepalive_bytes, LostPeerIsRun}
@@ -16,9 +16,9 @@ pub use Rattle.bt_machine_checks.specs.ExampleThreeBlocks.{ThreeBlocks, three_to
 pub use Rattle.bt_machine_checks.specs.ExampleTwins.{twin_files, twin_engine, twin_peer, TwinFilesAreRun}
 pub use Rattle.bt_machine.specs.Flush.{StepFlush, syncs, fails, syncs_of, data_files}
 pub use Rattle.bt_machine.specs.FollowUp.{FollowsUp, rests, requests, interest_sent, RequestsHashes, IsOpen, RequestsEach, NeedsLeaf, IsInteresting, RequestsBlock, AsksBlocks, TellsInterest, IsLeastNeed}
-pub use Rattle.bt_machine.specs.HashMessages.{learns, unknown_root, refused, HandlesHashes, no_claim, rejected, HandlesHashRequest, answered, new_proofs, ours as resolved, IsTreeOf, IsAnswered, settled_count, Resolves, other as other_asked, Learns, OnlyCloses}
+pub use Rattle.bt_machine.specs.HashMessages.{accepts_hashes, unknown_root, refused, HandlesHashes, no_claim, rejected, HandlesHashRequest, answered, new_proofs, ours as resolved, IsTreeOf, IsAnswered, settled_count, Resolves, other as other_asked, AcceptsHashes, OnlyCloses}
 pub use Rattle.bt_machine.specs.Law.{sent_by}
-pub use Rattle.bt_machine.specs.Next.{goes_on, StepNext, closes, waits, faulty, no_peer, no_memory, IsPeer, HasNoPeer, GoesOn, TakesEvent, without_peer, with_pending, Closes, ShowsFault}
+pub use Rattle.bt_machine.specs.Next.{keeps_peer, StepNext, closes, waits, faulty, no_peer, no_memory, IsPeer, HasNoPeer, KeepsPeer, TakesEvent, without_peer, with_pending, Closes, ShowsFault}
 pub use Rattle.bt_machine.specs.Orderly.{IsOrderly}
 pub use Rattle.bt_machine.specs.Output.{Sent, Effect, Output, no_effect, haves, sent_to, noting, closing, sending}
 pub use Rattle.bt_machine.specs.Peers.{no_memory as no_room, no_peer as not_fed, StepConnect, joins, StepFeed, feeds, full, spent, StepLost, goes, no_peer as not_lost, new_peer, greeting, our_handshake, IsOurBitfield}

@@ -1,6 +1,6 @@
 -- What a message of a peer must lead to, unless the engine is out of memory: an engine that rejects every
 -- hash request, marks no block or serves nobody is no such machine.
-use Rattle.std.specs.Prelude.{◌≡◌, ℕ, ◌*◌, ◌⊎◌, false, List, ◌∷◌, length, Some, None, Err, Contains}
+use Rattle.std.specs.Prelude.{[], ◌≡◌, ℕ, ◌*◌, ◌⊎◌, false, List, ◌∷◌, length, Some, None, Err, Contains}
 use Rattle.std.specs.List.{concat}
 use Rattle.bt_tree.specs.Limits.{full_block_length}
 use Rattle.bt_disk.specs.Calls.{write_fault}

@@ -1,5 +1,5 @@
 -- A worked example: what the device of the file `abc`, of one block, has already is taken in.
-use Rattle.std.specs.Prelude.{◌≡◌, ◌≢◌, ℕ, List, ◌∷◌, length, Ok, Err}
+use Rattle.std.specs.Prelude.{[], ◌≡◌, ◌≢◌, ℕ, List, ◌∷◌, length, Ok, Err}
 use Rattle.bt_disk.specs.Calls.{bytes_given, read_fault}
 use Rattle.bt_store.specs.declared.block_states.BlockState.TheVariants.{Missing, Marked}
 use Rattle.bt_machine.specs.Step.{Run, Answer, of_adopt}

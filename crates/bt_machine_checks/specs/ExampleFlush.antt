@@ -1,6 +1,6 @@
 -- Worked examples: the devices of two files are flushed; and a peer goes, so that the block that it was asked
 -- for is asked of another.
-use Rattle.std.specs.Prelude.{ℕ, true, false, List, ◌∷◌, Ok, Err}
+use Rattle.std.specs.Prelude.{[], ℕ, true, false, List, ◌∷◌, Ok, Err}
 use Rattle.bt_disk.specs.Calls.{sync_made, sync_fault}
 use Rattle.bt_sparse.specs.SparseTree.{Facts}
 use Rattle.bt_store.specs.declared.block_states.BlockState.{BlockState}

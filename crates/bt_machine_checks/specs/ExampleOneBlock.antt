@@ -1,6 +1,6 @@
 -- A worked example: the file `abc`, of one block, is fetched from one peer, from the first event until it is
 -- complete.
-use Rattle.std.specs.Prelude.{◌≡◌, ℕ, true, false, List, ◌∷◌, length, codes, None, Ok}
+use Rattle.std.specs.Prelude.{[], ◌≡◌, ℕ, true, false, List, ◌∷◌, length, codes, None, Ok}
 use Rattle.bt_disk.specs.Calls.{bytes_written}
 use Rattle.bt_meta.specs.Files.{File}
 use Rattle.bt_meta.specs.Torrent.{Metainfo}

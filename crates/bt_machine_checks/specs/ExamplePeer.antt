@@ -1,5 +1,5 @@
 -- The peer of the worked examples: its key, what it sends first, and how it is answered.
-use Rattle.std.specs.Prelude.{ℕ, Bool, true, false, List, ◌∷◌, replicate, take, Some, None, Ok}
+use Rattle.std.specs.Prelude.{[], ℕ, Bool, true, false, List, ◌∷◌, replicate, take, Some, None, Ok}
 use Rattle.bt_book.specs.declared.names.PeerKey.{PeerKey}
 use Rattle.bt_book.specs.declared.names.BlockId.{BlockId}
 use Rattle.bt_wire.specs.Cutter.{Stream, stream}

@@ -1,6 +1,6 @@
 -- A worked example: three blocks are marked, and a peer that is interested is unchoked. It requests a range
 -- of the first two; one that is choked, or requests too much, gets nothing.
-use Rattle.std.specs.Prelude.{◌≡◌, ℕ, Bool, true, false, List, ◌∷◌, ◌++◌, take, drop, Some, None}
+use Rattle.std.specs.Prelude.{[], ◌≡◌, ℕ, Bool, true, false, List, ◌∷◌, ◌++◌, take, drop, Some, None}
 use Rattle.bt_disk.specs.Calls.{bytes_given}
 use Rattle.bt_sparse.specs.SparseTree.{Facts, value_at}
 use Rattle.bt_store.specs.declared.block_states.BlockState.TheVariants.{Marked}

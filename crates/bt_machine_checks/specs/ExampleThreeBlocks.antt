@@ -1,5 +1,5 @@
 -- The file of three whole blocks of worked examples: its tree, its torrent, and an engine that has it.
-use Rattle.std.specs.Prelude.{◌≡◌, ℕ, false, List, ◌∷◌, ◌++◌, length, replicate, codes}
+use Rattle.std.specs.Prelude.{[], ◌≡◌, ℕ, false, List, ◌∷◌, ◌++◌, length, replicate, codes}
 use Rattle.bt_tree.specs.Limits.{full_block_length}
 use Rattle.bt_meta.specs.Files.{File}
 use Rattle.bt_meta.specs.Torrent.{Metainfo}

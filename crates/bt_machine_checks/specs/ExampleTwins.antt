@@ -1,6 +1,6 @@
 -- A worked example: two files of the same three blocks have one root, and so one tree. All blocks of both
 -- wait; one proof of the leaves comes, and marks them all.
-use Rattle.std.specs.Prelude.{◌≡◌, ℕ, true, false, List, ◌∷◌, codes}
+use Rattle.std.specs.Prelude.{[], ◌≡◌, ℕ, true, false, List, ◌∷◌, codes}
 use Rattle.bt_disk.specs.Calls.{bytes_given}
 use Rattle.bt_meta.specs.Torrent.{Metainfo}
 use Rattle.bt_sparse.specs.SparseTree.{Facts, root_facts}

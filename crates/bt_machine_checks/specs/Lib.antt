@@ -1,4 +1,4 @@
-pub mod Determined
+pub mod LeftFree
 pub mod AnswerLaw
 pub mod AnswerDue
 -- worked examples

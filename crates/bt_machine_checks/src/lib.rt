@@ -4,8 +4,8 @@
 
 mod answer_due;
 mod answer_law;
-mod determined;
 mod example;
+mod left_free;
 
 pub use answer_due::{
     next_answers_hash_request, next_marks_right_block, next_notes_marked_blocks,
@@ -14,8 +14,8 @@ pub use answer_due::{
 pub use answer_law::{
     next_notes_complete_files, step_announces_whole_pieces, step_closes_for_cause,
 };
-pub use determined::{runs_are_determined, step_is_determined, step_is_forced};
 pub use example::{
     adopted_block_is_run, fetch_of_abc_is_run, flushes_are_run, lost_peer_is_run, serving_is_run,
     twin_files_are_run,
 };
+pub use left_free::{runs_are_determined, step_is_determined, step_is_forced};

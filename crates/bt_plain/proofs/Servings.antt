@@ -133,7 +133,7 @@ module _ {D : Type 0} (history : D → History) (honest : D → Type 0) (faults 
         tree = k;
         bytes = r.bytes;
         reads = r.reads;
-        is_file = record { here = file_there s i p f tells span.file m.file; hung = tells.hung };
+        is_file = record { here = file_there s i p f tells span.file m.file; has_tree = tells.has_tree };
         right = r.right;
         made = calls_are k.file_length r.reads ∙ ap (λ file. reads_at file k.file_length r.reads) (sym m.file);
         sent = ap (λ l. sending p (Piece ask.piece ask.begin l)) r.cut;
@@ -155,7 +155,7 @@ module _ {D : Type 0} (history : D → History) (honest : D → Type 0) (faults 
         bytes = r.bytes;
         reads = r.reads;
         read = r.read;
-        is_file = record { here = file_there s i p f tells span.file m.file; hung = tells.hung };
+        is_file = record { here = file_there s i p f tells span.file m.file; has_tree = tells.has_tree };
         blocks = r.parts;
         right = r.right;
         finds = finds_fault s i p f tells dig span.file r.block r.read note new.states m.file r.finds;

@@ -181,7 +181,7 @@ module _ {D : Type 0} (history : D → History) (honest : D → Type 0) (faults 
     subst (SettlesFile f from count new _ _ s) (sym one.files) (record {
       facts = k;
       reads = reads_of r.reads;
-      here = one.hung;
+      here = one.has_tree;
       due = due;
       made = ap (λ n. calls_at 0 (map (call_of n) r.reads)) (sym same) ∙ calls_same k.file_length r.reads ∙ sym (append-nil _);
       noted = ap (λ l. l ++ cond fault (Device 0 ∷ []) []) r.noted ∙ ap (λ b. map (read_note dig k 0) r.reads ++ cond b (Device 0 ∷ []) []) r.fault ∙ sym (append-nil _);

@@ -12,7 +12,7 @@ use Rattle.bt_plain.specs.declared.table.Peer.{Peer}
 
 -- every file of the engine has this tree, and as many blocks as it
 pub record HasOneTree (s : EngineState) (k : Facts) : Type 0 where
-  pub hung : (file : ℕ) (f : FileState) → slice_get s.files file ≡ Some f → slice_get s.trees f.tree ≡ Some k
+  pub has_tree : (file : ℕ) (f : FileState) → slice_get s.files file ≡ Some f → slice_get s.trees f.tree ≡ Some k
   pub blocks : (file : ℕ) (f : FileState) → slice_get s.files file ≡ Some f → length f.states ≡ blocks_of k
 
 -- the row's block is not marked, in a piece that the peer has, and its leaf is unknown

@@ -27,7 +27,7 @@ pub record TellsServer (torrent : Metainfo) (tree : Facts) (states : List BlockS
     (s : EngineState) (i : ℕ) (p : PeerState) (f : FileState) : Type 0 where
   pub same_torrent : s.torrent ≡ torrent
   pub one_file : s.files ≡ f ∷ []
-  pub hung : slice_get s.trees f.tree ≡ Some tree
+  pub has_tree : slice_get s.trees f.tree ≡ Some tree
   pub same_states : f.states ≡ states
   pub here : slice_get s.peers i ≡ Some p
   pub choking : p.am_choking ≡ am_choking

@@ -14,7 +14,7 @@ use Rattle.bt_machine.specs.Settling.{read_note}
 -- The engine has one file, with this tree and these states of its blocks.
 pub record IsOnlyFile (s : EngineState) (f : FileState) (k : Facts) (states : List BlockState) : Type 0 where
   pub files : s.files ≡ f ∷ []
-  pub hung : slice_get s.trees f.tree ≡ Some k
+  pub has_tree : slice_get s.trees f.tree ≡ Some k
   pub states_are : f.states ≡ states
 
 -- these blocks of file 0 were read and judged; the notes say what became of each, and whether a read failed

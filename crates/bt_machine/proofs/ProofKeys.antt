@@ -1,6 +1,6 @@
 -- The tree after a group answers the keys that ask for what the group taught.
-use Rattle.bt_machine.proofs.Base.{◌≡◌, ℕ, zero, suc, ◌+◌, ◌-◌, ◌*◌, ◌/◌, ◌%◌, ◌^◌, ◌<◌, ◌≤◌, inl, inr, min, Bool, true, false, List, ◌∷◌, length, map, replicate, get_or, Option, Some, refl, sym, ap, ◌∙◌, arith, length-append, Contains, ◌&&◌, ◌==◌, if◌then◌else◌, div-add-mod, mul_assoc, add-mul, div-div-eq-div-mul, mul-mod_left, lt_of_mul-lt-mul_right, mul-le-mul_right, cases_lt, lt-ltb, le-ltb, eqb-true, div-mul-add, pow-add, pow_pos, length-map, length-replicate, length-range_with_len, padding_digest, height_of, IsInside, row_node, pow_le, Facts, blocks_of, height, value_at, in_run, run_digest, sibling_of, Claim, IsRequest, answer_size, answer_layer, answer_index, Accepts, value_covers, value_padding, cases_node, claimed_inside, double_div, half_sibling, max_run_height, planned_key, HashKey, height_of-pow, BlockRead, block_of, IsUnknownGroup, claimed_digest, claim_of_reads, none, known, accepted, not_accepted as refused, short, unread}
-use Rattle.bt_machine.proofs.Machine.{Digest, group_blocks, run_starts, HasAnswer, TaughtKeysAreAnswered}
+use Rattle.bt_machine.proofs.Base.{[], ◌≡◌, ℕ, zero, suc, ◌+◌, ◌-◌, ◌*◌, ◌/◌, ◌%◌, ◌^◌, ◌<◌, ◌≤◌, inl, inr, min, Bool, true, false, List, ◌∷◌, length, map, replicate, get_or, Option, Some, refl, sym, ap, ◌∙◌, arith, length-append, Contains, ◌&&◌, ◌==◌, if◌then◌else◌, div-add-mod, mul_assoc, add-mul, div-div-eq-div-mul, mul-mod_left, lt_of_mul-lt-mul_right, mul-le-mul_right, cases_lt, lt-ltb, le-ltb, eqb-true, div-mul-add, pow-add, pow_pos, length-map, length-replicate, length-range_with_len, padding_digest, height_of, IsInside, row_node, pow_le, Facts, blocks_of, height, value_at, in_run, run_digest, sibling_of, Claim, IsRequest, answer_size, answer_layer, answer_index, Accepts, value_covers, value_padding, cases_node, claimed_inside, double_div, half_sibling, max_run_height, planned_key, HashKey, height_of-pow, BlockRead, block_of, IsUnknownGroup, claimed_digest, claim_of_reads, none, known, accepted, not_accepted as refused, short, unread}
+use Rattle.bt_machine.proofs.Machine.{Digest, group_blocks, run_starts, HasAnswer, ProofKeysAreAnswered}
 use Rattle.bt_store.specs.Adoption.{AreWhole}
 use Rattle.bt_machine.proofs.Lists.{range_limits, contains_none, contains_map, contains_filter}
 
@@ -197,10 +197,10 @@ module _ (dig : Digest) (k grown : Facts) (from anchor first count : ℕ) (reads
           → value_at dig grown (answer_layer 0 (2 ^ m) t) (answer_index (i / 2 ^ m * 2 ^ m) (2 ^ m) t) ≡ Some (get_or ds t []))
       answers = listed _ (λ t. value_at dig grown (answer_layer 0 (2 ^ m) t) (answer_index (i / 2 ^ m * 2 ^ m) (2 ^ m) t)) each
 
-pub taught_answered : (dig : Digest) → TaughtKeysAreAnswered dig
-taught_answered dig k grown from old new reads adopted key (none end) c = absurd (contains_none c)
-taught_answered dig k grown from old new reads adopted key (known count rs group order) c = absurd (contains_none c)
-taught_answered dig k grown from old new reads adopted key (accepted anchor first count rs g group whole accepts) c = by _ c
+pub proof_keys_answered : (dig : Digest) → ProofKeysAreAnswered dig
+proof_keys_answered dig k grown from old new reads adopted key (none end) c = absurd (contains_none c)
+proof_keys_answered dig k grown from old new reads adopted key (known count rs group order) c = absurd (contains_none c)
+proof_keys_answered dig k grown from old new reads adopted key (accepted anchor first count rs g group whole accepts) c = by _ c
   where
     by : (b : Bool)
         → Contains (if b then map (λ i. planned_key g i anchor) (run_starts anchor (group_blocks from (record { next = first + count; anchor = anchor; marked = count; faults = 0 }))) else []) key
@@ -213,6 +213,6 @@ taught_answered dig k grown from old new reads adopted key (accepted anchor firs
         let inside = range_limits _ _ run.0 in
         rw (← m.2) (key_answer dig k g from _ first count rs m.0 group whole accepts refl (eqb-true (m.0 % 2 ^ min anchor max_run_height) 0 run.1)
         (omega arith) (omega arith))
-taught_answered dig k grown from old new reads adopted key (refused anchor first count rs error group whole why other) c = absurd (none_taught _ _ c)
-taught_answered dig k grown from old new reads adopted key (short anchor first count rs group order faults few) c = absurd (none_taught _ _ c)
-taught_answered dig k grown from old new reads adopted key (unread anchor first count rs group order some) c = absurd (contains_none c)
+proof_keys_answered dig k grown from old new reads adopted key (refused anchor first count rs error group whole why other) c = absurd (none_taught _ _ c)
+proof_keys_answered dig k grown from old new reads adopted key (short anchor first count rs group order faults few) c = absurd (none_taught _ _ c)
+proof_keys_answered dig k grown from old new reads adopted key (unread anchor first count rs group order some) c = absurd (contains_none c)

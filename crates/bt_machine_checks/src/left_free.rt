@@ -1,4 +1,4 @@
-ghost use Rattle.bt_machine_checks.specs.Determined.{StepIsDetermined, StepIsForced, RunsAreDetermined};
+ghost use Rattle.bt_machine_checks.specs.LeftFree.{StepIsDetermined, StepIsForced, RunsAreDetermined};
 
 use bt_tree::NodeHash;
 
