@@ -1,14 +1,14 @@
 -- What is answered to a wire event is a step: the tables tell the engine also where its hints are pending.
-use Rattle.bt_engine.proofs.Base.{◌≡◌, ◌∙◌, ℕ, List, ◌++◌, map, Some, None, Ok, refl, sym, ap}
+use Rattle.bt_machine.proofs.Base.{◌≡◌, ◌∙◌, ℕ, List, ◌++◌, map, Some, None, Ok, refl, sym, ap}
 use Rattle.bt_meta.specs.Torrent.{Metainfo}
 use Rattle.bt_sparse.specs.SparseTree.{Facts}
-use Rattle.bt_engine.specs.State.{PeerState, EngineState, Hint}
-use Rattle.bt_engine.specs.Devices.{DeviceCalls}
-use Rattle.bt_engine.specs.Output.{Sent, Effect, haves, sent_to}
-use Rattle.bt_engine.specs.declared.answer.Note.TheVariants.{Complete}
-use Rattle.bt_engine.specs.Blocks.{new_complete_files}
-use Rattle.bt_engine.specs.FollowUp.{FollowsUp}
-use Rattle.bt_engine.specs.Next.{IsPeer, TakesEvent, StepNext, goes_on, with_pending}
+use Rattle.bt_machine.specs.State.{PeerState, EngineState, Hint}
+use Rattle.bt_machine.specs.Devices.{DeviceCalls}
+use Rattle.bt_machine.specs.Output.{Sent, Effect, haves, sent_to}
+use Rattle.bt_machine.specs.declared.answer.Note.TheVariants.{Complete}
+use Rattle.bt_machine.specs.Blocks.{new_complete_files}
+use Rattle.bt_machine.specs.FollowUp.{FollowsUp}
+use Rattle.bt_machine.specs.Next.{IsPeer, TakesEvent, StepNext, keeps_peer, with_pending}
 use Rattle.bt_plain.specs.declared.table.Row.{Row}
 use Rattle.bt_plain.specs.declared.answering.Answered.{Answered}
 use Rattle.bt_plain.specs.Table.{IsTable}
@@ -25,7 +25,7 @@ table_stays s proofs table = record {
 }
 
 pub tree_stays : (s : EngineState) {mid : EngineState} {k : Facts} (proofs : List Hint) → HasOneTree mid k → HasOneTree (with_pending s mid proofs) k
-tree_stays s proofs one = record { hung = one.hung; blocks = one.blocks }
+tree_stays s proofs one = record { has_tree = one.has_tree; blocks = one.blocks }
 
 pub files_stay : (s : EngineState) {mid : EngineState} {torrent : Metainfo} (proofs : List Hint) → HasFiles mid torrent → HasFiles (with_pending s mid proofs) torrent
 files_stay s proofs files = record { same = files.same; blocks = files.blocks }
@@ -37,7 +37,7 @@ pub is_step : {dig : _} {s mid new : EngineState} {i : ℕ} {p : PeerState} {cal
     → FollowsUp dig (with_pending s mid effect.proofs) i sent new
     → StepNext dig s p.key calls (Ok (Some (output_of q effect answered))) new
 is_step {s = s} {mid} {i = i} {p} q effect answered is takes stays haved completed {sent} same follows =
-    goes_on i p (output_of q effect answered) is (record {
+    keeps_peer i p (output_of q effect answered) is (record {
       effect = effect;
       mid = mid;
       sent = sent;

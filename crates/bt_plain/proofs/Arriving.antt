@@ -12,19 +12,19 @@ use Rattle.bt_book.specs.declared.names.BlockId.{BlockId}
 use Rattle.bt_book.specs.Book.{without_block}
 use Rattle.bt_store.specs.Arrival.{IsBlock}
 use Rattle.bt_store.specs.declared.block_states.BlockState.{BlockState}
-use Rattle.bt_engine.specs.State.{EngineState, PeerState, FileState}
-use Rattle.bt_engine.specs.Devices.{calls_at}
-use Rattle.bt_engine.specs.Blocks.{with_file, with_peer}
-use Rattle.bt_engine.specs.Request.{IsFile, with_payload}
-use Rattle.bt_engine.specs.Arrival.{HandlesPiece, stale, arrives}
-use Rattle.bt_engine.specs.Spans.{IsWholeBlock}
-use Rattle.bt_engine.proofs.Lists.{set_id, map_some}
+use Rattle.bt_machine.specs.State.{EngineState, PeerState, FileState}
+use Rattle.bt_machine.specs.Devices.{calls_at}
+use Rattle.bt_machine.specs.Blocks.{with_file, with_peer}
+use Rattle.bt_machine.specs.Request.{IsFile, with_payload}
+use Rattle.bt_machine.specs.Arrival.{HandlesPiece, stale, arrives}
+use Rattle.bt_machine.specs.Spans.{IsWholeBlock}
+use Rattle.bt_machine.proofs.Lists.{set_id, map_some}
 use Rattle.bt_plain.specs.Table.{IsPeerOf, as_told}
 use Rattle.bt_plain.specs.Piece.{PutsBlock, TakesPiece, IsAskedBlock, effect_of}
 use Rattle.bt_plain.specs.declared.table.Peer.{Peer}
 use Rattle.bt_plain.specs.declared.piece.Effect.{Effect as Said}
 use Rattle.bt_plain.specs.declared.piece.Effect.TheVariants.{Noted}
-use Rattle.bt_engine.specs.declared.answer.Note.TheVariants.{Stale}
+use Rattle.bt_machine.specs.declared.answer.Note.TheVariants.{Stale}
 use Rattle.bt_plain.proofs.Standing.{kept}
 
 pub no_calls : {D : Type 0} (history : D → History) (honest : D → Type 0) (faults : D → ℕ) (d : D) → HasCalls history honest faults d [] d

@@ -1,13 +1,13 @@
 -- The blocks of open rows are those that the machine asks a peer for.
-use Rattle.bt_engine.proofs.Base.{◌≡◌, ◌≢◌, ℕ, zero, suc, ◌-◌, ◌≤◌, inl, inr, Bool, true, false, List, [], ◌∷◌, length, map, take, Some, refl, sym, ap, ◌∙◌, subst, arith, Contains, filter, cases_lt, length-take, length-take-le}
+use Rattle.bt_machine.proofs.Base.{◌≡◌, ◌≢◌, ℕ, zero, suc, ◌-◌, ◌≤◌, inl, inr, Bool, true, false, List, [], ◌∷◌, length, map, take, Some, refl, sym, ap, ◌∙◌, subst, arith, Contains, filter, cases_lt, length-take, length-take-le}
 use Rattle.std.specs.Prelude.{not}
 use Rattle.std.proofs.lemmas.List.{take_all}
-use Rattle.bt_engine.proofs.Lists.{and_true, some_is, here, later, contains_none, contains_cases, contains_filter, contains_map, map_contains}
-use Rattle.bt_engine.proofs.Pairs.{Pairs, from_pairs}
-use Rattle.bt_engine.proofs.AnswerPieces.{filter_contains}
-use Rattle.bt_engine.specs.State.{EngineState, PeerState}
-use Rattle.bt_engine.specs.Blocks.{state_at, Has}
-use Rattle.bt_engine.specs.FollowUp.{IsOpen, AsksBlocks}
+use Rattle.bt_machine.proofs.Lists.{and_true, some_is, here, later, contains_none, contains_cases, contains_filter, contains_map, map_contains}
+use Rattle.bt_machine.proofs.Pairs.{Pairs, from_pairs}
+use Rattle.bt_machine.proofs.Lists.{filter_contains}
+use Rattle.bt_machine.specs.State.{EngineState, PeerState}
+use Rattle.bt_machine.specs.Blocks.{state_at, Has}
+use Rattle.bt_machine.specs.FollowUp.{IsOpen, AsksBlocks}
 use Rattle.bt_book.specs.Book.{max_requests}
 use Rattle.bt_book.specs.Blocks.{IsBefore}
 use Rattle.bt_book.specs.declared.names.BlockId.{BlockId}

@@ -1,16 +1,16 @@
 -- Pieces and files are whole and complete by a table exactly where they are by the machine.
-use Rattle.bt_engine.proofs.Base.{◌≡◌, ℕ, zero, suc, ◌+◌, ◌==◌, inl, inr, Bool, true, false, not, ◌&&◌, cond, List, [], ◌∷◌, ◌++◌, length, map, flat_map, filter, list_all, range_with_len, Option, Some, None, refl, sym, ap, ◌∙◌, arith, slice_get, Contains, option_and_then, option_map_or, filter-append, eqb-true, eq-eqb, is_marked, total_pieces}
+use Rattle.bt_machine.proofs.Base.{◌≡◌, ℕ, zero, suc, ◌+◌, ◌==◌, inl, inr, Bool, true, false, not, ◌&&◌, cond, List, [], ◌∷◌, ◌++◌, length, map, flat_map, filter, list_all, range_with_len, Option, Some, None, refl, sym, ap, ◌∙◌, arith, slice_get, Contains, option_and_then, option_map_or, filter-append, eqb-true, eq-eqb, is_marked, total_pieces}
 use Rattle.std.specs.Prelude.{◌||◌}
 use Rattle.std.proofs.Common.{add-one}
 use Rattle.std.proofs.lemmas.Grind.{flat_map-append}
 use Rattle.std.proofs.lemmas.List.{append-nil, map-append}
 use Rattle.std.proofs.lemmas.List.Elements.{filter_agree}
 use Rattle.bt_store.proofs.Judgements.{range_more}
-use Rattle.bt_engine.proofs.Lists.{here, later, contains_none, contains_cases, and_true, some_is}
-use Rattle.bt_engine.proofs.Pairs.{some_at, contains_some}
-use Rattle.bt_engine.specs.State.{EngineState, PeerState, FileState}
-use Rattle.bt_engine.specs.Output.{sent_to, haves}
-use Rattle.bt_engine.specs.Blocks.{state_at, states_of, block_id, is_marked_in, is_in_piece, is_whole, is_complete, has_become, new_complete_files}
+use Rattle.bt_machine.proofs.Lists.{here, later, contains_none, contains_cases, and_true, some_is}
+use Rattle.bt_machine.proofs.Pairs.{some_at, contains_some}
+use Rattle.bt_machine.specs.State.{EngineState, PeerState, FileState}
+use Rattle.bt_machine.specs.Output.{sent_to, haves}
+use Rattle.bt_machine.specs.Blocks.{state_at, states_of, block_id, is_marked_in, is_in_piece, is_whole, is_complete, has_become, new_complete_files}
 use Rattle.bt_book.specs.declared.names.PeerKey.{PeerKey}
 use Rattle.bt_book.specs.declared.names.BlockId.{BlockId}
 use Rattle.bt_wire.specs.declared.message.Message.TheVariants.{Have}

@@ -3,7 +3,7 @@ use Rattle.std.proofs.Common.{◌≡◌, ℕ, ◌+◌, ◌-◌, ◌*◌, ◌/◌
 use Rattle.std.proofs.lemmas.List.{length-append, length-take-le, get_or-take, ext_get_or}
 use Rattle.std.proofs.lemmas.List.Concat.{flat_map-cons, get_or-flat_map}
 use Rattle.std.proofs.lemmas.List.FromFn.{length-map-range_with_len, get_or-map-range_with_len}
-use Rattle.bt_engine.specs.WireEvents.{bits_of, bits_in}
+use Rattle.bt_machine.specs.WireEvents.{bits_of, bits_in}
 
 -- one bit of a byte
 abbrev pub bit_of : ℕ → ℕ → Bool

@@ -1,5 +1,5 @@
 -- The rows of a small engine's blocks are the table of each state that it tells.
-use Rattle.bt_engine.proofs.Base.{◌≡◌, ◌<◌, ◌≤◌, ℕ, ◌+◌, ◌⊎◌, inl, inr, Bool, true, false, List, [], ◌∷◌, ◌++◌, length, map, range_with_len, Some, refl, sym, ap, ◌∙◌, subst, arith, slice_get, Contains, option_map, eqb-true, eq-eqb, Contains-append_cases}
+use Rattle.bt_machine.proofs.Base.{◌≡◌, ◌<◌, ◌≤◌, ℕ, ◌+◌, ◌⊎◌, inl, inr, Bool, true, false, List, [], ◌∷◌, ◌++◌, length, map, range_with_len, Some, refl, sym, ap, ◌∙◌, subst, arith, slice_get, Contains, option_map, eqb-true, eq-eqb, Contains-append_cases}
 use Rattle.std.specs.Prelude.{◌||◌, ◌==◌, slice_index_or, unwrap_or}
 use Rattle.std.specs.List.{list_any, All}
 use Rattle.std.proofs.Common.{add-one}
@@ -15,10 +15,10 @@ use Rattle.bt_book.specs.declared.names.BlockId.{BlockId}
 use Rattle.bt_store.proofs.Judgements.{range_more}
 use Rattle.bt_store.specs.declared.block_states.BlockState.{BlockState}
 use Rattle.bt_store.specs.declared.block_states.BlockState.TheVariants.{Missing}
-use Rattle.bt_engine.proofs.Lists.{here, later, contains_none, contains_cases, and_true, some_is, some_below, get_some}
-use Rattle.bt_engine.proofs.Pairs.{some_at, contains_some}
-use Rattle.bt_engine.specs.State.{EngineState}
-use Rattle.bt_engine.specs.Blocks.{block_id, piece_of, IsAsked}
+use Rattle.bt_machine.proofs.Lists.{here, later, contains_none, contains_cases, and_true, some_is, some_below, get_some}
+use Rattle.bt_machine.proofs.Pairs.{some_at, contains_some}
+use Rattle.bt_machine.specs.State.{EngineState}
+use Rattle.bt_machine.specs.Blocks.{block_id, piece_of, IsAsked}
 use Rattle.bt_plain.specs.declared.table.Row.{Row}
 use Rattle.bt_plain.specs.declared.engine.Member.{Member}
 use Rattle.bt_plain.specs.Table.{IsRow, IsTable}

@@ -1,19 +1,19 @@
 -- The three rules, put together, are what follows from an event for a peer.
-use Rattle.bt_engine.proofs.Base.{◌≡◌, ◌∙◌, ℕ, map, List, ◌++◌, Option, Some, None, refl, sym, ap, subst, slice_get, All}
+use Rattle.bt_machine.proofs.Base.{◌≡◌, ◌∙◌, ℕ, map, List, ◌++◌, Option, Some, None, refl, sym, ap, subst, slice_get, All}
 use Rattle.std.proofs.lemmas.List.{map-append}
 use Rattle.bt_plain.specs.AfterRules.{messages_of}
 use Rattle.bt_hashreq.specs.declared.key.HashKey.{HashKey}
 use Rattle.bt_book.specs.declared.names.BlockId.{BlockId}
 use Rattle.bt_wire.specs.declared.message.Message.{Message}
-use Rattle.bt_engine.specs.State.{Asked, EngineState, PeerState}
-use Rattle.bt_engine.specs.Blocks.{with_peer}
-use Rattle.bt_engine.specs.Output.{Sent, sent_to}
-use Rattle.bt_engine.specs.FollowUp.{TellsInterest, RequestsHashes, AsksBlocks, RequestsEach, FollowsUp}
+use Rattle.bt_machine.specs.State.{Asked, EngineState, PeerState}
+use Rattle.bt_machine.specs.Blocks.{with_peer}
+use Rattle.bt_machine.specs.Output.{Sent, sent_to}
+use Rattle.bt_machine.specs.FollowUp.{TellsInterest, RequestsHashes, AsksBlocks, RequestsEach, FollowsUp}
 use Rattle.bt_plain.specs.declared.table.Peer.{Peer}
 use Rattle.bt_plain.specs.declared.engine.Member.{Member}
 use Rattle.bt_plain.specs.Engine.{IsMember, HasFiles, hash_of}
 use Rattle.bt_plain.specs.Requests.{IsBlockOf}
-use Rattle.bt_engine.proofs.Pairs.{contains_at}
+use Rattle.bt_machine.proofs.Pairs.{contains_at}
 use Rattle.bt_meta.specs.Torrent.{Metainfo}
 use Rattle.bt_store.specs.declared.block_states.BlockState.TheVariants.{Missing}
 use Rattle.bt_plain.specs.Table.{as_told, IsPeerOf}

@@ -4,9 +4,9 @@ use Rattle.std.specs.Prelude.{slice_get}
 use Rattle.std.proofs.lemmas.Option.{slice_get-get_or}
 use Rattle.bt_sparse.specs.SparseTree.{Facts}
 use Rattle.bt_hashreq.specs.declared.key.HashKey.{HashKey}
-use Rattle.bt_engine.proofs.Lists.{some_is, some_below}
-use Rattle.bt_engine.specs.State.{EngineState}
-use Rattle.bt_engine.specs.HashMessages.{IsAnswered}
+use Rattle.bt_machine.proofs.Lists.{some_is, some_below}
+use Rattle.bt_machine.specs.State.{EngineState}
+use Rattle.bt_machine.specs.HashMessages.{IsAnswered}
 use Rattle.bt_plain.specs.Hashes.{IsAnsweredBy}
 
 -- the tree that the loop stands at

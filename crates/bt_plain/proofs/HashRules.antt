@@ -1,10 +1,10 @@
 -- The hash request that rows tell is the machine's.
-use Rattle.bt_engine.proofs.Base.{◌≡◌, ℕ, ◌<◌, ◌⊎◌, inl, inr, true, false, List, take, Option, Some, None, refl, sym, ap, ◌∙◌, subst, arith, slice_get, ◌&&◌, Contains, is_some, IsSome, CoversBlock, value_covers, lt-ltb, real_limit}
+use Rattle.bt_machine.proofs.Base.{◌≡◌, ℕ, ◌<◌, ◌⊎◌, inl, inr, true, false, List, take, Option, Some, None, refl, sym, ap, ◌∙◌, subst, arith, slice_get, ◌&&◌, Contains, is_some, IsSome, CoversBlock, value_covers, lt-ltb, real_limit}
 use Rattle.std.specs.Prelude.{not, nat_lt, IsNone, IfSome, ◌↔◌}
 use Rattle.std.specs.List.{list_any}
 use Rattle.std.proofs.lemmas.List.Folds.{list_any_at}
-use Rattle.bt_engine.proofs.Lists.{and_true, some_is, some_not_none, and_then_some, some_below}
-use Rattle.bt_engine.proofs.Pairs.{Pairs, contains_some}
+use Rattle.bt_machine.proofs.Lists.{and_true, some_is, some_not_none, and_then_some, some_below}
+use Rattle.bt_machine.proofs.Pairs.{Pairs, contains_some}
 use Rattle.bt_sparse.specs.SparseTree.{Facts, blocks_of, value_at, held_at}
 use Rattle.bt_hashreq.specs.Request.{IsPlan}
 use Rattle.bt_hashreq.specs.declared.key.HashKey.{HashKey}
@@ -13,9 +13,9 @@ use Rattle.bt_store.specs.declared.block_states.BlockState.{BlockState}
 use Rattle.bt_store.specs.declared.block_states.BlockState.TheVariants.{Missing, Waiting, Marked}
 use Rattle.bt_book.specs.declared.names.BlockId.{BlockId}
 use Rattle.bt_book.specs.Blocks.{IsBefore}
-use Rattle.bt_engine.specs.State.{Idle, EngineState, PeerState}
-use Rattle.bt_engine.specs.Blocks.{state_at, tree_of, Has}
-use Rattle.bt_engine.specs.FollowUp.{NeedsLeaf, RequestsHashes, requests as requests_leaf}
+use Rattle.bt_machine.specs.State.{Idle, EngineState, PeerState}
+use Rattle.bt_machine.specs.Blocks.{state_at, tree_of, Has}
+use Rattle.bt_machine.specs.FollowUp.{NeedsLeaf, RequestsHashes, requests as requests_leaf}
 use Rattle.bt_plain.specs.declared.table.Row.{Row}
 use Rattle.bt_plain.specs.declared.table.Peer.{Peer}
 use Rattle.bt_plain.specs.Table.{IsTable, IsPeerOf, has_piece}
@@ -38,7 +38,7 @@ hung_on {s} b one e =
     let f = and_then_some (λ f. slice_get f.states b.block) (slice_get s.files b.file) e in
     let size = one.blocks b.file f.0 f.1 in
     let below = some_below f.0.states b.block f.2 in
-    (rw f.1 (one.hung b.file f.0 f.1), omega arith)
+    (rw f.1 (one.has_tree b.file f.0 f.1), omega arith)
 
 below_yes : (m n : ℕ) → m < n → nat_lt m n ≡ true
 below_yes m n lt = lt-ltb m n lt
@@ -65,7 +65,7 @@ module _ {dig : List ℕ → List ℕ} {s : EngineState} {p : PeerState} {k : Fa
         has = has_row peer is r a.0;
         not_marked = elim (not_marked row.state a.1) [ inl m ↦ inl (r.state ∙ ap (λ x. Some x) m) | inr w ↦ inr (r.state ∙ ap (λ x. Some x) w) ];
         tree = k;
-        hung = (hung_on row.block one r.state).0;
+        has_tree = (hung_on row.block one r.state).0;
         unknown = none_there (value_at dig k 0 row.block.block) u.1;
       }
 
@@ -75,11 +75,11 @@ module _ {dig : List ℕ → List ℕ} {s : EngineState} {p : PeerState} {k : Fa
       let r = row_of s rows b table st.1 in
       let row = table.each r.0 r.1 in
       let state = some_is (sym row.state ∙ ap (λ b. state_at s b) r.2 ∙ st.1) in
-      let hung = hung_on b one st.1 in
-      let tree = some_is (sym hung.0 ∙ n.hung) in
+      let has_tree = hung_on b one st.1 in
+      let tree = some_is (sym has_tree.0 ∙ n.has_tree) in
       let had = row_has peer is row (subst (λ b. Has s p b) (sym r.2) n.has) in
       let number = ap (λ b. b.block) r.2 in
-      let below = below_yes r.0.block.block (blocks_of k) (omega (arith, hung.1)) in
+      let below = below_yes r.0.block.block (blocks_of k) (omega (arith, has_tree.1)) in
       let unknown = ap (λ i. value_at dig k 0 i) number ∙ ap (λ k. value_at dig k 0 b.block) tree ∙ n.unknown in
       (r.0, r.1, r.2, rw had (rw state (rw st.2 (rw below (rw unknown refl)))))
 
@@ -97,7 +97,7 @@ module _ {dig : List ℕ → List ℕ} {s : EngineState} {p : PeerState} {k : Fa
       let n = needs_is c passed in
       let state = (table.each row c).state in
       let covers = leaf_covers (hung_on row.block one state).1 in
-      let same = some_is (sym n.hung ∙ (hung_on row.block one state).0) in
+      let same = some_is (sym n.has_tree ∙ (hung_on row.block one state).0) in
       let unknown = ap (λ k. value_at dig k 0 row.block.block) (sym same) ∙ n.unknown in
       absurd (some_not_none (none.0 refl) (sym (value_covers dig k 0 row.block.block covers) ∙ unknown))
   requests {row} at (Some key) idle here passed first none planned =

@@ -1,13 +1,13 @@
 -- The interest that rows tell is the machine's.
-use Rattle.bt_engine.proofs.Base.{◌≡◌, Bool, true, false, List, [], ◌∷◌, Some, refl, sym, ap, ◌∙◌, subst, Contains}
-use Rattle.bt_engine.proofs.Lists.{and_true, here, later, some_is}
+use Rattle.bt_machine.proofs.Base.{◌≡◌, Bool, true, false, List, [], ◌∷◌, Some, refl, sym, ap, ◌∙◌, subst, Contains}
+use Rattle.bt_machine.proofs.Lists.{and_true, here, later, some_is}
 use Rattle.std.specs.List.{list_any}
 use Rattle.std.specs.Prelude.{◌||◌}
 use Rattle.std.proofs.lemmas.List.Folds.{list_any_at}
-use Rattle.bt_engine.specs.Blocks.{state_at, Has}
-use Rattle.bt_engine.specs.State.{EngineState, PeerState}
-use Rattle.bt_engine.specs.Output.{Sent}
-use Rattle.bt_engine.specs.FollowUp.{IsInteresting, TellsInterest, interest_sent}
+use Rattle.bt_machine.specs.Blocks.{state_at, Has}
+use Rattle.bt_machine.specs.State.{EngineState, PeerState}
+use Rattle.bt_machine.specs.Output.{Sent}
+use Rattle.bt_machine.specs.FollowUp.{IsInteresting, TellsInterest, interest_sent}
 use Rattle.bt_store.specs.declared.block_states.BlockState.{BlockState}
 use Rattle.bt_store.specs.declared.block_states.BlockState.TheVariants.{Missing, Waiting, Marked}
 use Rattle.bt_plain.specs.declared.table.Row.{Row}

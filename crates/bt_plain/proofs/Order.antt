@@ -1,11 +1,11 @@
 -- All blocks of an engine stand in ascending order, so the first row that passes a test is of the least block.
-use Rattle.bt_engine.proofs.Base.{◌≡◌, ℕ, zero, suc, ◌+◌, ◌<◌, inl, inr, Bool, true, false, List, [], ◌∷◌, ◌++◌, length, map, flat_map, take, Some, refl, sym, ap, ◌∙◌, subst, arith, slice_get, Contains, range_with_len, Contains-append_cases}
-use Rattle.bt_engine.proofs.Lists.{same_some, here, later, contains_cases, contains_none, contains_map, map_contains, contains_flat_map, range_limits}
-use Rattle.bt_engine.proofs.Pairs.{Pairs}
+use Rattle.bt_machine.proofs.Base.{◌≡◌, ℕ, zero, suc, ◌+◌, ◌<◌, inl, inr, Bool, true, false, List, [], ◌∷◌, ◌++◌, length, map, flat_map, take, Some, refl, sym, ap, ◌∙◌, subst, arith, slice_get, Contains, range_with_len, Contains-append_cases}
+use Rattle.bt_machine.proofs.Lists.{same_some, here, later, contains_cases, contains_none, contains_map, map_contains, contains_flat_map, range_limits}
+use Rattle.bt_machine.proofs.Pairs.{Pairs}
 use Rattle.std.specs.List.{list_any}
 use Rattle.std.specs.Prelude.{◌||◌}
-use Rattle.bt_engine.specs.State.{EngineState}
-use Rattle.bt_engine.specs.Blocks.{states_of, all_blocks, block_id}
+use Rattle.bt_machine.specs.State.{EngineState}
+use Rattle.bt_machine.specs.Blocks.{states_of, all_blocks, block_id}
 use Rattle.bt_book.specs.declared.names.BlockId.{BlockId}
 use Rattle.bt_book.specs.Blocks.{IsBefore}
 use Rattle.bt_plain.specs.declared.table.Row.{Row}

@@ -11,8 +11,8 @@ use Rattle.bt_meta.specs.Torrent.{Metainfo, IsLaidOut, IsLawfulFile}
 use Rattle.bt_meta.specs.declared.torrent.FileEntry.{FileEntry}
 use Rattle.bt_meta.specs.declared.torrent.Span.{Span}
 use Rattle.bt_book.specs.declared.names.BlockId.{BlockId}
-use Rattle.bt_engine.specs.Spans.{IsWholeBlock}
-use Rattle.bt_engine.proofs.AnswerPlaces.{same_place}
+use Rattle.bt_machine.specs.Spans.{IsWholeBlock}
+use Rattle.bt_machine.proofs.Places.{same_place}
 use Rattle.bt_plain.specs.Piece.{IsAllOf}
 
 pub none_by : {X : Type 0} {P Q : Type 0} (o : Option X) → IfNone o P → (P → Q) → IfNone o Q

@@ -6,10 +6,10 @@ use Rattle.bt_store.specs.Arrival.{PutIsDue, calls_of_put, states_after_put}
 use Rattle.bt_store.specs.declared.arrival.Put.{Put}
 use Rattle.bt_store.specs.declared.block_states.BlockState.{BlockState}
 use Rattle.bt_store.specs.declared.error.StoreError.{StoreError}
-use Rattle.bt_engine.specs.State.{EngineState, FileState}
-use Rattle.bt_engine.specs.Arrival.{HasPutEffect}
-use Rattle.bt_engine.specs.Blocks.{with_file}
-use Rattle.bt_engine.specs.Request.{IsFile}
+use Rattle.bt_machine.specs.State.{EngineState, FileState}
+use Rattle.bt_machine.specs.Arrival.{HasPutEffect}
+use Rattle.bt_machine.specs.Blocks.{with_file}
+use Rattle.bt_machine.specs.Request.{IsFile}
 use Rattle.bt_plain.specs.Piece.{PutsBlock, effect_of}
 use Rattle.bt_plain.specs.declared.piece.Effect.{Effect as Said}
 

@@ -1,8 +1,8 @@
 -- Rows of a table: each block that has a state has one, and it says what the machine does.
-use Rattle.bt_engine.proofs.Base.{◌≡◌, ℕ, Bool, true, false, List, length, map, Option, Some, None, refl, sym, ap, ◌∙◌, subst, slice_get, Contains, option_and_then, option_map_or, range_with_len}
-use Rattle.bt_engine.proofs.Lists.{and_then_some, flat_map_contains, map_contains, contains_map, some_below, range_contains}
-use Rattle.bt_engine.specs.State.{EngineState, PeerState}
-use Rattle.bt_engine.specs.Blocks.{state_at, states_of, all_blocks, file_numbers, block_id, Has}
+use Rattle.bt_machine.proofs.Base.{◌≡◌, ℕ, Bool, true, false, List, length, map, Option, Some, None, refl, sym, ap, ◌∙◌, subst, slice_get, Contains, option_and_then, option_map_or, range_with_len}
+use Rattle.bt_machine.proofs.Lists.{and_then_some, flat_map_contains, map_contains, contains_map, some_below, range_contains}
+use Rattle.bt_machine.specs.State.{EngineState, PeerState}
+use Rattle.bt_machine.specs.Blocks.{state_at, states_of, all_blocks, file_numbers, block_id, Has}
 use Rattle.bt_book.specs.declared.names.BlockId.{BlockId}
 use Rattle.bt_store.specs.declared.block_states.BlockState.{BlockState}
 use Rattle.bt_plain.specs.declared.table.Row.{Row}

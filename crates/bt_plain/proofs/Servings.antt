@@ -1,16 +1,16 @@
 -- What a request for a range comes to is what the machine makes of it.
-use Rattle.bt_engine.proofs.Base.{◌≡◌, ℕ, ◌≤◌, Bool, true, false, List, [], ◌∷◌, ◌++◌, map, Some, refl, sym, ap, ◌∙◌, subst, arith, slice_get, slice_set, IsPlace, Span, Facts, BlockRead, call_of, BlockState, Missing, History, Metainfo, Ask, Piece, option_and_then}
+use Rattle.bt_machine.proofs.Base.{◌≡◌, ℕ, ◌≤◌, Bool, true, false, List, [], ◌∷◌, ◌++◌, map, Some, refl, sym, ap, ◌∙◌, subst, arith, slice_get, slice_set, IsPlace, Span, Facts, BlockRead, call_of, BlockState, Missing, History, Metainfo, Ask, Piece, option_and_then}
 use Rattle.std.specs.Global.{Vec}
 use Rattle.bt_disk.specs.Calls.{Call, HasCalls}
 use Rattle.bt_disk.proofs.CallLists.{has_none}
 use Rattle.bt_store.specs.FileStore.{StoreView}
-use Rattle.bt_engine.proofs.Lists.{set_id, and_then_some, some_below}
-use Rattle.bt_engine.proofs.Machine.{PeerState, FileState, EngineState, block_id, state_at, with_file, with_peer, spanned_blocks, noting, sending, calls_at, reads_at, ignored, no_place, not_marked, served, stopped, HandlesRequest, FindsFault, AreMarked, with_payload}
-use Rattle.bt_engine.specs.Spans.{first_block}
-use Rattle.bt_engine.specs.declared.answer.Note.{Note}
-use Rattle.bt_engine.specs.declared.answer.Note.TheVariants.{Damaged, Device}
-use Rattle.bt_engine.specs.declared.answer.Why.TheVariants.{BadRequest}
-use Rattle.bt_engine.specs.Request.{damaged as machine_damaged, fault as machine_fault}
+use Rattle.bt_machine.proofs.Lists.{set_id, and_then_some, some_below}
+use Rattle.bt_machine.proofs.Machine.{PeerState, FileState, EngineState, block_id, state_at, with_file, with_peer, spanned_blocks, noting, sending, calls_at, reads_at, ignored, no_place, not_marked, served, stopped, HandlesRequest, FindsFault, AreMarked, with_payload}
+use Rattle.bt_machine.specs.Spans.{first_block}
+use Rattle.bt_machine.specs.declared.answer.Note.{Note}
+use Rattle.bt_machine.specs.declared.answer.Note.TheVariants.{Damaged, Device}
+use Rattle.bt_machine.specs.declared.answer.Why.TheVariants.{BadRequest}
+use Rattle.bt_machine.specs.Request.{damaged as machine_damaged, fault as machine_fault}
 use Rattle.bt_plain.specs.declared.serving.Served.{Served}
 use Rattle.bt_plain.specs.declared.serving.Served.TheVariants.{Nothing, Closed, Sent, Found}
 use Rattle.bt_plain.specs.Serving.{TellsServer, effect_of, after_serving, Finds, damaged, fault, StopAtFault, IsMarkedSpan, SendsSpan, AnswersSpan}
@@ -133,7 +133,7 @@ module _ {D : Type 0} (history : D → History) (honest : D → Type 0) (faults 
         tree = k;
         bytes = r.bytes;
         reads = r.reads;
-        is_file = record { here = file_there s i p f tells span.file m.file; hung = tells.hung };
+        is_file = record { here = file_there s i p f tells span.file m.file; has_tree = tells.has_tree };
         right = r.right;
         made = calls_are k.file_length r.reads ∙ ap (λ file. reads_at file k.file_length r.reads) (sym m.file);
         sent = ap (λ l. sending p (Piece ask.piece ask.begin l)) r.cut;
@@ -155,7 +155,7 @@ module _ {D : Type 0} (history : D → History) (honest : D → Type 0) (faults 
         bytes = r.bytes;
         reads = r.reads;
         read = r.read;
-        is_file = record { here = file_there s i p f tells span.file m.file; hung = tells.hung };
+        is_file = record { here = file_there s i p f tells span.file m.file; has_tree = tells.has_tree };
         blocks = r.parts;
         right = r.right;
         finds = finds_fault s i p f tells dig span.file r.block r.read note new.states m.file r.finds;

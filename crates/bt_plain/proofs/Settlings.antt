@@ -1,5 +1,5 @@
 -- Blocks that are settled one after the other come to what settling them at once does.
-use Rattle.bt_engine.proofs.Base.{◌≡◌, ◌≢◌, ℕ, zero, suc, ◌+◌, ◌-◌, ◌<◌, ◌≤◌, Bool, true, false, not, cond, ◌&&◌, List, [], ◌∷◌, ◌++◌, map, filter, Option, Some, None, Result, Ok, Err, is_some, refl, sym, ap, ◌∙◌, subst, arith, slice_get, option_map, option_map_or, range_with_len, append-nil, filter-append, Facts, value_at, Call, History, BlockRead, given, failed, block_of, call_of, is_right, judged, right_count, fault_count, is_fault, waiting_blocks, is_waiting, BlockState}
+use Rattle.bt_machine.proofs.Base.{◌≡◌, ◌≢◌, ℕ, zero, suc, ◌+◌, ◌-◌, ◌<◌, ◌≤◌, Bool, true, false, not, cond, ◌&&◌, List, [], ◌∷◌, ◌++◌, map, filter, Option, Some, None, Result, Ok, Err, is_some, refl, sym, ap, ◌∙◌, subst, arith, slice_get, option_map, option_map_or, range_with_len, append-nil, filter-append, Facts, value_at, Call, History, BlockRead, given, failed, block_of, call_of, is_right, judged, right_count, fault_count, is_fault, waiting_blocks, is_waiting, BlockState}
 use Rattle.std.specs.Prelude.{◌||◌, ◌==◌, nat_lt}
 use Rattle.std.specs.Option.{option_to_list}
 use Rattle.std.specs.Result.{is_ok}
@@ -12,13 +12,13 @@ use Rattle.bt_store.specs.FileStore.{StoreView}
 use Rattle.bt_store.specs.BlockReads.{wrong_count, after_read, IsJudged}
 use Rattle.bt_store.proofs.Judgements.{judged-append}
 use Rattle.bt_store.proofs.Reviews.{range_split}
-use Rattle.bt_engine.proofs.Lists.{set_other, some_is}
-use Rattle.bt_engine.specs.declared.answer.Note.{Note}
-use Rattle.bt_engine.specs.declared.answer.Note.TheVariants.{Marked as NowMarked, Freed, Device}
-use Rattle.bt_engine.specs.State.{FileState, EngineState}
-use Rattle.bt_engine.specs.Devices.{calls_at, reads_at}
-use Rattle.bt_engine.specs.Blocks.{block_id, with_file}
-use Rattle.bt_engine.specs.Settling.{read_note, judged_file, due_blocks, Settles}
+use Rattle.bt_machine.proofs.Lists.{set_other, some_is}
+use Rattle.bt_machine.specs.declared.answer.Note.{Note}
+use Rattle.bt_machine.specs.declared.answer.Note.TheVariants.{Marked as NowMarked, Freed, Device}
+use Rattle.bt_machine.specs.State.{FileState, EngineState}
+use Rattle.bt_machine.specs.Devices.{calls_at, reads_at}
+use Rattle.bt_machine.specs.Blocks.{block_id, with_file}
+use Rattle.bt_machine.specs.Settling.{read_note, judged_file, due_blocks, Settles}
 use Rattle.bt_plain.specs.Settling.{IsOnlyFile, AreSettled, note_of}
 
 -- ---- one block
@@ -181,7 +181,7 @@ module _ {D : Type 0} (history : D → History) (honest : D → Type 0) (faults 
     subst (SettlesFile f from count new _ _ s) (sym one.files) (record {
       facts = k;
       reads = reads_of r.reads;
-      here = one.hung;
+      here = one.has_tree;
       due = due;
       made = ap (λ n. calls_at 0 (map (call_of n) r.reads)) (sym same) ∙ calls_same k.file_length r.reads ∙ sym (append-nil _);
       noted = ap (λ l. l ++ cond fault (Device 0 ∷ []) []) r.noted ∙ ap (λ b. map (read_note dig k 0) r.reads ++ cond b (Device 0 ∷ []) []) r.fault ∙ sym (append-nil _);

@@ -1,5 +1,5 @@
 -- Reads of the one block or the two that a span lies in.
-use Rattle.bt_engine.proofs.Base.{◌≡◌, ◌≢◌, ℕ, ◌+◌, ◌-◌, ◌*◌, ◌/◌, ◌%◌, ◌≤◌, ◌⊎◌, inl, inr, List, [], ◌∷◌, ◌++◌, length, take, drop, map, flat_map, Option, Some, None, Ok, Err, refl, sym, ap, ◌∙◌, subst, arith, slice_get, slice_set, Contains, cond, nat_eq, range_with_len, append-nil, All, IsPlace, Span, Facts, BlockRead, given, failed, call_of, IsRight, BlockState, Missing, Marked, block_length, History, Metainfo, IsLawfulFile, eq-eqb, take-append-add, length-take-le, take-take}
+use Rattle.bt_machine.proofs.Base.{◌≡◌, ◌≢◌, ℕ, ◌+◌, ◌-◌, ◌*◌, ◌/◌, ◌%◌, ◌≤◌, ◌⊎◌, inl, inr, List, [], ◌∷◌, ◌++◌, length, take, drop, map, flat_map, Option, Some, None, Ok, Err, refl, sym, ap, ◌∙◌, subst, arith, slice_get, slice_set, Contains, cond, nat_eq, range_with_len, append-nil, All, IsPlace, Span, Facts, BlockRead, given, failed, call_of, IsRight, BlockState, Missing, Marked, block_length, History, Metainfo, IsLawfulFile, eq-eqb, take-append-add, length-take-le, take-take}
 use Rattle.std.specs.Prelude.{IfSome}
 use Rattle.std.proofs.lemmas.Bool.{ne_eqb, cases_eq}
 use Rattle.std.proofs.lemmas.List.Elements.{All-get_or}
@@ -11,11 +11,11 @@ use Rattle.bt_disk.proofs.CallLists.{has_then}
 use Rattle.bt_store.specs.FileStore.{StoreView}
 use Rattle.bt_store.specs.SingleBlock.{Lends, right, damaged as lent_damaged, fault as lent_fault, IsLent}
 use Rattle.bt_store.specs.declared.error.ReadError.TheVariants.{Damaged as ReadDamaged, Device as ReadDevice}
-use Rattle.bt_engine.proofs.Lists.{contains_none, contains_cases, here, later}
-use Rattle.bt_engine.specs.declared.answer.Note.{Note}
-use Rattle.bt_engine.specs.declared.answer.Note.TheVariants.{Damaged, Device}
-use Rattle.bt_engine.specs.Blocks.{block_id}
-use Rattle.bt_engine.specs.Spans.{spanned_blocks, first_block, last_block}
+use Rattle.bt_machine.proofs.Lists.{contains_none, contains_cases, here, later}
+use Rattle.bt_machine.specs.declared.answer.Note.{Note}
+use Rattle.bt_machine.specs.declared.answer.Note.TheVariants.{Damaged, Device}
+use Rattle.bt_machine.specs.Blocks.{block_id}
+use Rattle.bt_machine.specs.Spans.{spanned_blocks, first_block, last_block}
 use Rattle.bt_plain.specs.Serving.{one_or_two, IsReadRight, IsReadWrong, AreReadRight, StopAtFault, Finds, damaged, fault, IsMarkedSpan, SendsSpan}
 
 -- ---- what a read of a marked block comes to

@@ -1,9 +1,9 @@
 -- A peer that stands in an engine, and is as it was.
 use Rattle.std.proofs.Common.{◌≡◌, ℕ, List, Some, ap, sym, ◌∙◌}
 use Rattle.std.specs.Prelude.{slice_get}
-use Rattle.bt_engine.specs.State.{EngineState, PeerState}
-use Rattle.bt_engine.specs.Blocks.{with_peer}
-use Rattle.bt_engine.proofs.Lists.{set_id}
+use Rattle.bt_machine.specs.State.{EngineState, PeerState}
+use Rattle.bt_machine.specs.Blocks.{with_peer}
+use Rattle.bt_machine.proofs.Lists.{set_id}
 use Rattle.bt_plain.specs.Table.{IsPeerOf, as_told}
 use Rattle.bt_plain.specs.declared.table.Peer.{Peer}
 

@@ -1,20 +1,20 @@
 -- The request of a whole block: where the block lies in its piece.
-use Rattle.bt_engine.proofs.Base.{◌≡◌, ℕ, ◌+◌, ◌-◌, ◌*◌, ◌/◌, ◌%◌, ◌^◌, ◌<◌, ◌≤◌, inl, inr, min, List, [], ◌∷◌, ◌++◌, length, map, take, get_or, length-map, Some, refl, sym, ap, ◌∙◌, subst, arith, cases_lt, div_ceil_times, mul-le-mul_right, sum_by_more_le, pow_pos, pow_le, File, piece_count, Metainfo, IsLaidOut, total_pieces, Ask, Request}
+use Rattle.bt_machine.proofs.Base.{◌≡◌, ℕ, ◌+◌, ◌-◌, ◌*◌, ◌/◌, ◌%◌, ◌^◌, ◌<◌, ◌≤◌, inl, inr, min, List, [], ◌∷◌, ◌++◌, length, map, take, get_or, length-map, Some, refl, sym, ap, ◌∙◌, subst, arith, cases_lt, div_ceil_times, mul-le-mul_right, sum_by_more_le, pow_pos, pow_le, File, piece_count, Metainfo, IsLaidOut, total_pieces, Ask, Request}
 use Rattle.std.specs.Int.{div_ceil}
 use Rattle.std.specs.Prelude.{◌↔◌, IsTrue, nat_lt}
 use Rattle.std.proofs.lemmas.Bool.{lt-ltb, ltb-true}
 use Rattle.std.proofs.lemmas.Option.{get_or_from_slice_get, slice_get-get_or}
 use Rattle.std.proofs.lemmas.List.{take_more, map-append}
-use Rattle.bt_engine.proofs.Lists.{some_below}
+use Rattle.bt_machine.proofs.Lists.{some_below}
 use Rattle.bt_meta.specs.Files.{file_of}
 use Rattle.bt_meta.specs.declared.torrent.FileEntry.{FileEntry}
 use Rattle.bt_meta.proofs.PlacePieces.{entry_at}
 use Rattle.bt_book.specs.declared.names.BlockId.{BlockId}
 use Rattle.bt_wire.specs.declared.message.Message.{Message}
-use Rattle.bt_engine.specs.State.{EngineState, PeerState}
-use Rattle.bt_engine.specs.Spans.{IsWholeBlock}
-use Rattle.bt_engine.specs.Output.{Sent, sent_to}
-use Rattle.bt_engine.specs.FollowUp.{RequestsEach}
+use Rattle.bt_machine.specs.State.{EngineState, PeerState}
+use Rattle.bt_machine.specs.Spans.{IsWholeBlock}
+use Rattle.bt_machine.specs.Output.{Sent, sent_to}
+use Rattle.bt_machine.specs.FollowUp.{RequestsEach}
 use Rattle.bt_plain.specs.Requests.{IsBlockOf}
 
 within_pieces : (n p q : ℕ) → 0 < p → q * p < n → q < div_ceil n p

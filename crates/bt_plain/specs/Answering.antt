@@ -3,9 +3,9 @@ use Rattle.std.specs.Prelude.{◌≡◌, ℕ, false, List, ◌++◌, length, map
 use Rattle.bt_meta.specs.Torrent.{Metainfo}
 use Rattle.bt_sparse.specs.SparseTree.{Facts}
 use Rattle.bt_book.specs.declared.names.PeerKey.{PeerKey}
-use Rattle.bt_engine.specs.declared.answer.Note.TheVariants.{Complete}
-use Rattle.bt_engine.specs.State.{PeerState, EngineState}
-use Rattle.bt_engine.specs.Output.{Output, Effect, sent_to}
+use Rattle.bt_machine.specs.declared.answer.Note.TheVariants.{Complete}
+use Rattle.bt_machine.specs.State.{PeerState, EngineState}
+use Rattle.bt_machine.specs.Output.{Output, Effect, sent_to}
 use Rattle.bt_plain.specs.Table.{IsTable}
 use Rattle.bt_plain.specs.Engine.{HasFiles, IsMember}
 use Rattle.bt_plain.specs.HashRule.{HasOneTree}

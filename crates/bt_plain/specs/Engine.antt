@@ -5,9 +5,9 @@ use Rattle.bt_meta.specs.Files.{File}
 use Rattle.bt_meta.specs.Torrent.{Metainfo}
 use Rattle.bt_sparse.specs.SparseTree.{Facts}
 use Rattle.bt_store.specs.declared.block_states.BlockState.{BlockState}
-use Rattle.bt_engine.specs.State.{HashState as PeerHashState, Idle, Asked, Refused, PeerState, EngineState}
+use Rattle.bt_machine.specs.State.{HashState as PeerHashState, Idle, Asked, Refused, PeerState, EngineState}
 use Rattle.bt_book.specs.declared.names.BlockId.{BlockId}
-use Rattle.bt_engine.specs.Blocks.{state_at}
+use Rattle.bt_machine.specs.Blocks.{state_at}
 use Rattle.bt_plain.specs.Table.{IsPeerOf}
 use Rattle.bt_plain.specs.Requests.{IsBlockOf}
 use Rattle.bt_plain.specs.declared.engine.HashState.{HashState}

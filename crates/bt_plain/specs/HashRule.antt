@@ -4,15 +4,15 @@ use Rattle.bt_sparse.specs.SparseTree.{Facts, blocks_of, value_at}
 use Rattle.bt_hashreq.specs.declared.key.HashKey.{HashKey}
 use Rattle.bt_store.specs.BlockStates.{is_marked}
 use Rattle.bt_wire.specs.declared.message.Message.TheVariants.{HashRequest}
-use Rattle.bt_engine.specs.State.{Asked, PeerState, FileState, EngineState}
-use Rattle.bt_engine.specs.Output.{Sent, sent_to}
+use Rattle.bt_machine.specs.State.{Asked, PeerState, FileState, EngineState}
+use Rattle.bt_machine.specs.Output.{Sent, sent_to}
 use Rattle.bt_plain.specs.Table.{has_piece}
 use Rattle.bt_plain.specs.declared.table.Row.{Row}
 use Rattle.bt_plain.specs.declared.table.Peer.{Peer}
 
 -- every file of the engine has this tree, and as many blocks as it
 pub record HasOneTree (s : EngineState) (k : Facts) : Type 0 where
-  pub hung : (file : ℕ) (f : FileState) → slice_get s.files file ≡ Some f → slice_get s.trees f.tree ≡ Some k
+  pub has_tree : (file : ℕ) (f : FileState) → slice_get s.files file ≡ Some f → slice_get s.trees f.tree ≡ Some k
   pub blocks : (file : ℕ) (f : FileState) → slice_get s.files file ≡ Some f → length f.states ≡ blocks_of k
 
 -- the row's block is not marked, in a piece that the peer has, and its leaf is unknown

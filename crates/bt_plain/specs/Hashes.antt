@@ -6,8 +6,8 @@ use Rattle.bt_sparse.specs.SparseTree.{Facts, height}
 use Rattle.bt_sparse.specs.Answer.{IsRequest, IsAnswer}
 use Rattle.bt_hashreq.specs.declared.key.HashKey.{HashKey}
 use Rattle.bt_wire.specs.declared.message.Message.TheVariants.{Hashes, HashReject}
-use Rattle.bt_engine.specs.State.{PeerState}
-use Rattle.bt_engine.specs.Output.{Effect, sending}
+use Rattle.bt_machine.specs.State.{PeerState}
+use Rattle.bt_machine.specs.Output.{Effect, sending}
 
 -- the digests are sent, or a reject where there are none
 abbrev pub effect_of : PeerState → HashKey → Option (Vec (List ℕ)) → Effect

@@ -3,8 +3,8 @@ use Rattle.std.specs.Prelude.{Bool, true, false, ◌&&◌, List, [], ◌∷◌, 
 use Rattle.bt_store.specs.declared.block_states.BlockState.{BlockState}
 use Rattle.bt_store.specs.declared.block_states.BlockState.TheVariants.{Missing, Waiting, Marked}
 use Rattle.bt_wire.specs.declared.message.Message.{Message}
-use Rattle.bt_engine.specs.State.{PeerState}
-use Rattle.bt_engine.specs.Output.{Sent, sent_to}
+use Rattle.bt_machine.specs.State.{PeerState}
+use Rattle.bt_machine.specs.Output.{Sent, sent_to}
 use Rattle.bt_plain.specs.Table.{has_piece}
 use Rattle.bt_plain.specs.declared.table.Row.{Row}
 use Rattle.bt_plain.specs.declared.table.Peer.{Peer}

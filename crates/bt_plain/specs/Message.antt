@@ -2,11 +2,11 @@
 use Rattle.std.specs.Prelude.{ℕ, List, [], Option, Some, None, ⊤}
 use Rattle.bt_wire.specs.declared.message.Message.{Message as Sent}
 use Rattle.bt_wire.specs.declared.message.Message.TheVariants.{KeepAlive, Choke, Unchoke, Interested, NotInterested, Have, Bitfield, Request, Piece, Cancel, HashRequest, Hashes, HashReject}
-use Rattle.bt_engine.specs.declared.answer.Why.{Why}
-use Rattle.bt_engine.specs.State.{PeerState, EngineState}
-use Rattle.bt_engine.specs.Blocks.{with_peer}
-use Rattle.bt_engine.specs.Output.{Effect, no_effect, closing}
-use Rattle.bt_engine.specs.WireEvents.{HandlesMessage, HandlesHave, HandlesBitfield}
+use Rattle.bt_machine.specs.declared.answer.Why.{Why}
+use Rattle.bt_machine.specs.State.{PeerState, EngineState}
+use Rattle.bt_machine.specs.Blocks.{with_peer}
+use Rattle.bt_machine.specs.Output.{Effect, no_effect, closing}
+use Rattle.bt_machine.specs.WireEvents.{HandlesMessage, HandlesHave, HandlesBitfield}
 use Rattle.bt_plain.specs.Table.{as_told}
 use Rattle.bt_plain.specs.declared.table.Peer.{Peer}
 

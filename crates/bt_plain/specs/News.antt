@@ -4,8 +4,8 @@ use Rattle.std.specs.List.{list_all}
 use Rattle.bt_store.specs.BlockStates.{is_marked}
 use Rattle.bt_book.specs.declared.names.PeerKey.{PeerKey}
 use Rattle.bt_wire.specs.declared.message.Message.TheVariants.{Have}
-use Rattle.bt_engine.specs.declared.answer.Frame.TheVariants.{Message as message_frame}
-use Rattle.bt_engine.specs.Output.{Sent}
+use Rattle.bt_machine.specs.declared.answer.Frame.TheVariants.{Message as message_frame}
+use Rattle.bt_machine.specs.Output.{Sent}
 use Rattle.bt_plain.specs.declared.table.Row.{Row}
 use Rattle.bt_plain.specs.declared.news.Announcement.{Announcement}
 

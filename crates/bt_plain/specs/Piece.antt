@@ -8,12 +8,12 @@ use Rattle.bt_meta.specs.declared.torrent.Span.{Span}
 use Rattle.bt_book.specs.declared.names.BlockId.{BlockId}
 use Rattle.bt_store.specs.declared.block_states.BlockState.{BlockState}
 use Rattle.bt_store.specs.declared.block_states.BlockState.TheVariants.{Missing}
-use Rattle.bt_engine.specs.State.{PeerState, EngineState, FileState}
-use Rattle.bt_engine.specs.Devices.{calls_at}
-use Rattle.bt_engine.specs.Blocks.{with_file, with_peer}
-use Rattle.bt_engine.specs.Spans.{IsWholeBlock}
-use Rattle.bt_engine.specs.Output.{Effect, noting, closing}
-use Rattle.bt_engine.specs.Arrival.{Puts, HandlesPiece}
+use Rattle.bt_machine.specs.State.{PeerState, EngineState, FileState}
+use Rattle.bt_machine.specs.Devices.{calls_at}
+use Rattle.bt_machine.specs.Blocks.{with_file, with_peer}
+use Rattle.bt_machine.specs.Spans.{IsWholeBlock}
+use Rattle.bt_machine.specs.Output.{Effect, noting, closing}
+use Rattle.bt_machine.specs.Arrival.{Puts, HandlesPiece}
 use Rattle.bt_plain.specs.Table.{as_told}
 use Rattle.bt_plain.specs.declared.table.Peer.{Peer}
 use Rattle.bt_plain.specs.declared.piece.Effect.{Effect as Said}

@@ -11,13 +11,13 @@ use Rattle.bt_store.specs.declared.block_states.BlockState.{BlockState}
 use Rattle.bt_store.specs.declared.block_states.BlockState.TheVariants.{Missing, Marked}
 use Rattle.bt_wire.specs.declared.message.Ask.{Ask}
 use Rattle.bt_wire.specs.declared.message.Message.TheVariants.{Piece}
-use Rattle.bt_engine.specs.declared.answer.Note.{Note}
-use Rattle.bt_engine.specs.declared.answer.Note.TheVariants.{Damaged, Device}
-use Rattle.bt_engine.specs.State.{PeerState, FileState, EngineState}
-use Rattle.bt_engine.specs.Blocks.{block_id}
-use Rattle.bt_engine.specs.Spans.{spanned_blocks, cut_from}
-use Rattle.bt_engine.specs.Output.{Effect, no_effect, noting, closing, sending}
-use Rattle.bt_engine.specs.Request.{with_payload, ReadsRight}
+use Rattle.bt_machine.specs.declared.answer.Note.{Note}
+use Rattle.bt_machine.specs.declared.answer.Note.TheVariants.{Damaged, Device}
+use Rattle.bt_machine.specs.State.{PeerState, FileState, EngineState}
+use Rattle.bt_machine.specs.Blocks.{block_id}
+use Rattle.bt_machine.specs.Spans.{spanned_blocks, cut_from}
+use Rattle.bt_machine.specs.Output.{Effect, no_effect, noting, closing, sending}
+use Rattle.bt_machine.specs.Request.{with_payload, ReadsRight}
 use Rattle.bt_plain.specs.declared.serving.Served.{Served}
 use Rattle.bt_plain.specs.declared.serving.Served.TheVariants.{Nothing, Closed, Sent, Found}
 
@@ -27,7 +27,7 @@ pub record TellsServer (torrent : Metainfo) (tree : Facts) (states : List BlockS
     (s : EngineState) (i : ℕ) (p : PeerState) (f : FileState) : Type 0 where
   pub same_torrent : s.torrent ≡ torrent
   pub one_file : s.files ≡ f ∷ []
-  pub hung : slice_get s.trees f.tree ≡ Some tree
+  pub has_tree : slice_get s.trees f.tree ≡ Some tree
   pub same_states : f.states ≡ states
   pub here : slice_get s.peers i ≡ Some p
   pub choking : p.am_choking ≡ am_choking

@@ -6,15 +6,15 @@ use Rattle.bt_store.specs.FileStore.{StoreView}
 use Rattle.bt_store.specs.BlockReads.{BlockRead, IsJudged, fault_count}
 use Rattle.bt_store.specs.declared.block_states.BlockState.{BlockState}
 use Rattle.bt_book.specs.declared.names.BlockId.{BlockId}
-use Rattle.bt_engine.specs.declared.answer.Note.{Note}
-use Rattle.bt_engine.specs.declared.answer.Note.TheVariants.{Marked, Freed}
-use Rattle.bt_engine.specs.State.{FileState, EngineState}
-use Rattle.bt_engine.specs.Settling.{read_note}
+use Rattle.bt_machine.specs.declared.answer.Note.{Note}
+use Rattle.bt_machine.specs.declared.answer.Note.TheVariants.{Marked, Freed}
+use Rattle.bt_machine.specs.State.{FileState, EngineState}
+use Rattle.bt_machine.specs.Settling.{read_note}
 
 -- The engine has one file, with this tree and these states of its blocks.
 pub record IsOnlyFile (s : EngineState) (f : FileState) (k : Facts) (states : List BlockState) : Type 0 where
   pub files : s.files ≡ f ∷ []
-  pub hung : slice_get s.trees f.tree ≡ Some k
+  pub has_tree : slice_get s.trees f.tree ≡ Some k
   pub states_are : f.states ≡ states
 
 -- these blocks of file 0 were read and judged; the notes say what became of each, and whether a read failed

@@ -1,8 +1,8 @@
 -- What plain values tell of an engine: a row for each of its blocks, and one of its peers.
 use Rattle.std.specs.Prelude.{◌≡◌, ◌↔◌, ℕ, Bool, true, false, List, map, Some, slice_get, option_map, Contains}
 use Rattle.std.specs.Option.{option_map_or}
-use Rattle.bt_engine.specs.State.{PeerState, EngineState}
-use Rattle.bt_engine.specs.Blocks.{piece_of, state_at, IsAsked, all_blocks}
+use Rattle.bt_machine.specs.State.{PeerState, EngineState}
+use Rattle.bt_machine.specs.Blocks.{piece_of, state_at, IsAsked, all_blocks}
 use Rattle.bt_plain.specs.declared.table.Row.{Row}
 use Rattle.bt_plain.specs.declared.table.Peer.{Peer}
 

@@ -1,10 +1,10 @@
 ghost use Rattle.std.specs.Prelude.{◌≡◌, ◌≤◌, ◌++◌, ◌↔◌, ℕ, IsTrue, IfOk, Some, length, map, slice_get};
 ghost use Rattle.std.specs.List.{All};
 ghost use Rattle.bt_book.specs.Book.{max_requests};
-ghost use Rattle.bt_engine.specs.State.{EngineState, PeerState};
-ghost use Rattle.bt_engine.specs.Blocks.{with_peer};
-ghost use Rattle.bt_engine.specs.Output.{sent_to};
-ghost use Rattle.bt_engine.specs.FollowUp.{FollowsUp, RequestsEach};
+ghost use Rattle.bt_machine.specs.State.{EngineState, PeerState};
+ghost use Rattle.bt_machine.specs.Blocks.{with_peer};
+ghost use Rattle.bt_machine.specs.Output.{sent_to};
+ghost use Rattle.bt_machine.specs.FollowUp.{FollowsUp, RequestsEach};
 ghost use Rattle.bt_plain.specs.Table.{IsTable};
 ghost use Rattle.bt_plain.specs.Engine.{HasFiles, IsMember, hash_of};
 ghost use Rattle.bt_plain.specs.HashRule.{HasOneTree, hash_request_sent, asked_for_hashes};

@@ -1,10 +1,10 @@
 ghost use Rattle.std.specs.Prelude.{◌≡◌, ◌≤◌, ℕ, IfOk, None, Ok, Some, length};
 ghost use Rattle.bt_book.specs.Book.{max_requests};
-ghost use Rattle.bt_engine.specs.State.{EngineState, PeerState};
-ghost use Rattle.bt_engine.specs.Devices.{DeviceCalls};
-ghost use Rattle.bt_engine.specs.Blocks.{with_peer};
-ghost use Rattle.bt_engine.specs.Output.{Effect};
-ghost use Rattle.bt_engine.specs.Next.{IsPeer, TakesEvent, StepNext, with_pending};
+ghost use Rattle.bt_machine.specs.State.{EngineState, PeerState};
+ghost use Rattle.bt_machine.specs.Devices.{DeviceCalls};
+ghost use Rattle.bt_machine.specs.Blocks.{with_peer};
+ghost use Rattle.bt_machine.specs.Output.{Effect};
+ghost use Rattle.bt_machine.specs.Next.{IsPeer, TakesEvent, StepNext, with_pending};
 ghost use Rattle.bt_plain.specs.Engine.{IsMember};
 ghost use Rattle.bt_plain.specs.Answering.{AreTold, output_of};
 

@@ -1,7 +1,7 @@
 ghost use Rattle.std.specs.Prelude.{◌≡◌, ◌≤◌, IfOk, length};
 ghost use Rattle.bt_book.specs.Book.{max_requests};
-ghost use Rattle.bt_engine.specs.State.{EngineState, PeerState};
-ghost use Rattle.bt_engine.specs.FollowUp.{AsksBlocks};
+ghost use Rattle.bt_machine.specs.State.{EngineState, PeerState};
+ghost use Rattle.bt_machine.specs.FollowUp.{AsksBlocks};
 ghost use Rattle.bt_plain.specs.Table.{IsTable, IsPeerOf};
 ghost use Rattle.bt_plain.specs.Asking.{is_open, open_in, first_open};
 

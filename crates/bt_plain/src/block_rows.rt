@@ -2,8 +2,8 @@ ghost use Rattle.std.specs.Prelude.{◌≡◌, ◌<◌, length, Some, IfOk, slic
 ghost use Rattle.std.specs.List.{list_any};
 ghost use Rattle.bt_tree.specs.Blocks.{block_count as blocks_of};
 ghost use Rattle.bt_sparse.specs.SparseTree.{Facts};
-ghost use Rattle.bt_engine.specs.State.{EngineState};
-ghost use Rattle.bt_engine.specs.Blocks.{block_id, piece_of as piece_in};
+ghost use Rattle.bt_machine.specs.State.{EngineState};
+ghost use Rattle.bt_machine.specs.Blocks.{block_id, piece_of as piece_in};
 ghost use Rattle.bt_plain.specs.Table.{IsRow, IsTable};
 ghost use Rattle.bt_plain.specs.Engine.{IsTold};
 ghost use Rattle.bt_plain.specs.BlockRows.{is_same, is_asked_by};

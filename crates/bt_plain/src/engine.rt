@@ -1,5 +1,5 @@
 ghost use Rattle.std.specs.Prelude.{◌≡◌, ◌↔◌, IsTrue};
-ghost use Rattle.bt_engine.specs.State.{Idle, PeerState};
+ghost use Rattle.bt_machine.specs.State.{Idle, PeerState};
 ghost use Rattle.bt_plain.specs.Engine.{hash_of};
 
 use crate::table::Peer;

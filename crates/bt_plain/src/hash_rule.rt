@@ -1,7 +1,7 @@
 ghost use Rattle.std.specs.Prelude.{◌≡◌, ◌↔◌, ℕ, IfSome, IfNone, IsTrue, true, false, Some, slice_get, take};
 ghost use Rattle.std.specs.List.{list_any};
-ghost use Rattle.bt_engine.specs.State.{Idle, EngineState, PeerState};
-ghost use Rattle.bt_engine.specs.FollowUp.{RequestsHashes};
+ghost use Rattle.bt_machine.specs.State.{Idle, EngineState, PeerState};
+ghost use Rattle.bt_machine.specs.FollowUp.{RequestsHashes};
 ghost use Rattle.bt_plain.specs.Table.{IsTable, IsPeerOf};
 ghost use Rattle.bt_plain.specs.HashRule.{HasOneTree, needs_leaf, hash_request_sent, asked_for_hashes};
 

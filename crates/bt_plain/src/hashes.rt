@@ -1,6 +1,6 @@
 ghost use Rattle.std.specs.Prelude.{◌≡◌, IfOk};
-ghost use Rattle.bt_engine.specs.State.{EngineState, PeerState};
-ghost use Rattle.bt_engine.specs.HashMessages.{HandlesHashRequest};
+ghost use Rattle.bt_machine.specs.State.{EngineState, PeerState};
+ghost use Rattle.bt_machine.specs.HashMessages.{HandlesHashRequest};
 ghost use Rattle.bt_plain.specs.Hashes.{effect_of, IsAnswerBy};
 
 use bt_hashreq::HashKey;

@@ -1,7 +1,7 @@
 ghost use Rattle.std.specs.Prelude.{◌≡◌};
 ghost use Rattle.std.specs.List.{list_any};
-ghost use Rattle.bt_engine.specs.State.{EngineState, PeerState};
-ghost use Rattle.bt_engine.specs.FollowUp.{TellsInterest, interest_sent};
+ghost use Rattle.bt_machine.specs.State.{EngineState, PeerState};
+ghost use Rattle.bt_machine.specs.FollowUp.{TellsInterest, interest_sent};
 ghost use Rattle.bt_plain.specs.Table.{IsTable, IsPeerOf, as_told};
 ghost use Rattle.bt_plain.specs.Interest.{sent_if_any, is_wanted};
 

@@ -1,4 +1,4 @@
-//! Parts of one step of the machine of `bt_engine`, computed plainly and slowly, each with the contract that
+//! Parts of one step of the machine of `bt_machine`, computed plainly and slowly, each with the contract that
 //! it is that part; and what is answered to a wire event, with the contract that it is a step. It is no part
 //! of the product.
 #![tactic(auto)]

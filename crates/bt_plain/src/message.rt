@@ -1,12 +1,12 @@
 ghost use Rattle.std.specs.Prelude.{◌≡◌, ◌*◌, ◌<◌, ◌≤◌, ℕ, List, Some, false, length, slice_get, slice_index_or, take};
 ghost use Rattle.bt_meta.specs.Torrent.{total_pieces};
-ghost use Rattle.bt_engine.specs.State.{EngineState, PeerState};
+ghost use Rattle.bt_machine.specs.State.{EngineState, PeerState};
 ghost use Rattle.bt_plain.specs.Table.{IsPeerOf};
-ghost use Rattle.bt_engine.specs.WireEvents.{bits_in};
+ghost use Rattle.bt_machine.specs.WireEvents.{bits_in};
 ghost use Rattle.bt_plain.specs.Message.{IsOfPeer, TakesMessage, TakesHave, TakesBitfield};
 
 use crate::table::Peer;
-use bt_engine::Why;
+use bt_machine::Why;
 use bt_wire::Message;
 
 /// Takes a message that changes its peer alone, or nothing: none of those that ask for data or hashes, or

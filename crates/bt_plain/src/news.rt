@@ -1,8 +1,8 @@
 ghost use Rattle.std.specs.Prelude.{◌≡◌, ◌++◌, map, length, IfOk};
 ghost use Rattle.bt_meta.specs.Torrent.{total_pieces};
-ghost use Rattle.bt_engine.specs.State.{EngineState};
-ghost use Rattle.bt_engine.specs.Blocks.{new_complete_files};
-ghost use Rattle.bt_engine.specs.Output.{haves};
+ghost use Rattle.bt_machine.specs.State.{EngineState};
+ghost use Rattle.bt_machine.specs.Blocks.{new_complete_files};
+ghost use Rattle.bt_machine.specs.Output.{haves};
 ghost use Rattle.bt_plain.specs.Table.{IsTable};
 ghost use Rattle.bt_plain.specs.News.{have_sent, haves_of, is_whole_by, is_complete_by, has_become_by};
 

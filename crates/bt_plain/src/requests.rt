@@ -1,9 +1,9 @@
 ghost use Rattle.std.specs.Prelude.{◌≡◌, ◌↔◌, IfOk, IsTrue, map};
 ghost use Rattle.std.specs.List.{All};
-ghost use Rattle.bt_engine.specs.State.{EngineState, PeerState};
-ghost use Rattle.bt_engine.specs.Spans.{IsWholeBlock};
-ghost use Rattle.bt_engine.specs.Output.{sent_to};
-ghost use Rattle.bt_engine.specs.FollowUp.{RequestsEach};
+ghost use Rattle.bt_machine.specs.State.{EngineState, PeerState};
+ghost use Rattle.bt_machine.specs.Spans.{IsWholeBlock};
+ghost use Rattle.bt_machine.specs.Output.{sent_to};
+ghost use Rattle.bt_machine.specs.FollowUp.{RequestsEach};
 ghost use Rattle.bt_plain.specs.Requests.{IsBlockOf};
 
 use bt_book::BlockId;

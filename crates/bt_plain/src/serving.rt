@@ -3,14 +3,14 @@ ghost use Rattle.std.specs.Bool.{OnTrue, OnFalse};
 ghost use Rattle.bt_tree.specs.Limits.{full_block_length, max_file_length};
 ghost use Rattle.bt_disk.specs.Calls.{Call, HasCalls};
 ghost use Rattle.bt_meta.specs.Place.{IsPlace};
-ghost use Rattle.bt_engine.specs.State.{EngineState, PeerState, FileState};
-ghost use Rattle.bt_engine.specs.Devices.{calls_at};
-ghost use Rattle.bt_engine.specs.Request.{HandlesRequest};
+ghost use Rattle.bt_machine.specs.State.{EngineState, PeerState, FileState};
+ghost use Rattle.bt_machine.specs.Devices.{calls_at};
+ghost use Rattle.bt_machine.specs.Request.{HandlesRequest};
 ghost use Rattle.bt_plain.specs.Serving.{TellsServer, effect_of, after_serving, one_or_two, IsReadRight, IsReadWrong, AreReadRight, StopAtFault, AnswersSpan};
 
 use bt_book::BlockId;
 use bt_disk::Disk;
-use bt_engine::{Note, Why};
+use bt_machine::{Note, Why};
 use bt_meta::{Span, Torrent};
 use bt_sparse::SparseTree;
 use bt_store::{BlockState, FileStore, ReadError};

@@ -1,7 +1,7 @@
 use Rattle.std.proofs.Common.{refl, sym, ap, subst, ◌∙◌, ◌++◌, length, ◌≤◌, map}
 use Rattle.std.specs.List.{All}
-use Rattle.bt_engine.specs.Output.{sent_to}
-use Rattle.bt_engine.specs.FollowUp.{RequestsEach}
+use Rattle.bt_machine.specs.Output.{sent_to}
+use Rattle.bt_machine.specs.FollowUp.{RequestsEach}
 use Rattle.bt_plain.specs.Table.{as_told}
 use Rattle.bt_plain.specs.Requests.{IsBlockOf}
 use Rattle.bt_plain.specs.HashRule.{asked_for_hashes}

@@ -2,8 +2,8 @@ use Rattle.std.proofs.Common.{◌≡◌}
 use Rattle.std.specs.Prelude.{map, Contains}
 use Rattle.std.specs.List.{range_with_len}
 use Rattle.bt_sparse.specs.SparseTree.{Facts}
-use Rattle.bt_engine.specs.State.{EngineState}
-use Rattle.bt_engine.specs.Blocks.{block_id}
+use Rattle.bt_machine.specs.State.{EngineState}
+use Rattle.bt_machine.specs.Blocks.{block_id}
 use Rattle.bt_plain.specs.declared.table.Row.{Row}
 use Rattle.bt_plain.specs.Table.{IsRow}
 use Rattle.bt_plain.specs.Engine.{IsTold}

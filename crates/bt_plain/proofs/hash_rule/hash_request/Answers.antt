@@ -1,5 +1,5 @@
 use Rattle.std.proofs.Common.{refl}
-use Rattle.bt_engine.specs.FollowUp.{rests as sends_none}
+use Rattle.bt_machine.specs.FollowUp.{rests as sends_none}
 use Rattle.bt_plain.proofs.HashRules.{rests, requests}
 use Rattle.bt_plain.proofs.hash_rule.hash_request.Goals as goal
 

@@ -1,5 +1,5 @@
 use Rattle.std.proofs.Common.{refl, subst}
-use Rattle.bt_engine.specs.HashMessages.{answered, rejected}
+use Rattle.bt_machine.specs.HashMessages.{answered, rejected}
 use Rattle.bt_plain.specs.Hashes.{IsAnswerBy}
 use Rattle.bt_plain.proofs.HashAnswers.{stands_at, silent_more, answered_at, all_silent}
 use Rattle.bt_plain.proofs.hashes.answer_hash_request.Goals as goal

@@ -1,5 +1,5 @@
 use Rattle.std.proofs.Common.{◌≡◌, ℕ, ◌<◌, false, get_or}
-use Rattle.bt_engine.specs.WireEvents.{bits_in}
+use Rattle.bt_machine.specs.WireEvents.{bits_in}
 use Rattle.bt_plain.proofs.message.set_bits.Given as goal
 
 abbrev pub invariant-loop-piece : goal.invariant-loop-piece

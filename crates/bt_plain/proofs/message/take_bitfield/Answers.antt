@@ -1,6 +1,6 @@
 use Rattle.std.proofs.Common.{ap, sym, refl, ◌∙◌}
 use Rattle.std.specs.Int.{div_ceil}
-use Rattle.bt_engine.specs.WireEvents.{wrong}
+use Rattle.bt_machine.specs.WireEvents.{wrong}
 use Rattle.bt_plain.proofs.Standing.{kept}
 use Rattle.bt_plain.proofs.message.take_bitfield.Goals as goal
 

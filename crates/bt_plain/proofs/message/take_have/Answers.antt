@@ -1,5 +1,5 @@
 use Rattle.std.proofs.Common.{refl, arith}
-use Rattle.bt_engine.specs.WireEvents.{out_of_range}
+use Rattle.bt_machine.specs.WireEvents.{out_of_range}
 use Rattle.bt_plain.proofs.Standing.{kept}
 use Rattle.bt_plain.proofs.message.take_have.Goals as goal
 

@@ -1,4 +1,4 @@
-use Rattle.bt_engine.proofs.Base.{◌≡◌, ◌∙◌, true, false, sym, arith, total_pieces}
+use Rattle.bt_machine.proofs.Base.{◌≡◌, ◌∙◌, true, false, sym, arith, total_pieces}
 use Rattle.bt_plain.specs.News.{haves_of, has_become_by, is_whole_by}
 use Rattle.bt_plain.proofs.Becoming.{haves_taken, filter_passed, haves_are}
 use Rattle.bt_plain.proofs.news.announce.Goals as goal

@@ -1,4 +1,4 @@
-use Rattle.bt_engine.proofs.Base.{◌≡◌, ◌∙◌, true, false, sym, arith, length}
+use Rattle.bt_machine.proofs.Base.{◌≡◌, ◌∙◌, true, false, sym, arith, length}
 use Rattle.bt_plain.specs.News.{has_become_by, is_complete_by}
 use Rattle.bt_plain.proofs.Becoming.{filter_taken, filter_passed, files_are}
 use Rattle.bt_plain.proofs.news.complete_files.Goals as goal

@@ -1,6 +1,6 @@
 use Rattle.std.proofs.Common.{◌≡◌, ℕ, length, subst, arith, Contains}
 use Rattle.bt_book.specs.declared.names.BlockId.{BlockId}
-use Rattle.bt_engine.specs.Spans.{IsWholeBlock}
+use Rattle.bt_machine.specs.Spans.{IsWholeBlock}
 use Rattle.bt_plain.proofs.piece.asked_block.Goals as goal
 
 pub returns-in_default-block_of-clause-none : goal.returns-in_default-block_of-clause-none

@@ -1,5 +1,5 @@
 use Rattle.std.proofs.lemmas.Option.{IfSome_then}
-use Rattle.bt_engine.proofs.AnswerPlaces.{same_block}
+use Rattle.bt_machine.proofs.Places.{same_block}
 use Rattle.bt_plain.proofs.Placing.{none_by, ends_inside, is_short, whole_of, all_of}
 use Rattle.bt_plain.proofs.piece.block_of.Goals as goal
 

@@ -1,6 +1,6 @@
 use Rattle.std.proofs.Common.{Ok, Err, refl}
-use Rattle.bt_engine.specs.declared.answer.Note.TheVariants.{Marked, Waiting, Device}
-use Rattle.bt_engine.specs.declared.answer.Why.TheVariants.{WrongBlock}
+use Rattle.bt_machine.specs.declared.answer.Note.TheVariants.{Marked, Waiting, Device}
+use Rattle.bt_machine.specs.declared.answer.Why.TheVariants.{WrongBlock}
 use Rattle.bt_plain.specs.declared.piece.Effect.TheVariants.{Noted, Closed}
 use Rattle.bt_plain.proofs.Putting.{puts_block}
 use Rattle.bt_plain.proofs.piece.put_block.Goals as goal

@@ -1,6 +1,6 @@
 use Rattle.std.proofs.Common.{ℕ, length, subst, sym}
 use Rattle.bt_meta.specs.Torrent.{Metainfo}
-use Rattle.bt_engine.specs.Request.{IsFile}
+use Rattle.bt_machine.specs.Request.{IsFile}
 use Rattle.bt_plain.specs.Piece.{IsAskedBlock}
 use Rattle.bt_plain.proofs.Arriving.{no_calls, takes_stale, takes_asked, is_stored}
 use Rattle.bt_plain.proofs.piece.take_piece.Goals as goal

@@ -1,7 +1,7 @@
 use Rattle.std.proofs.Common.{◌≡◌, take, map}
-use Rattle.bt_engine.specs.State.{EngineState, PeerState}
-use Rattle.bt_engine.specs.Output.{sent_to}
-use Rattle.bt_engine.specs.FollowUp.{RequestsEach}
+use Rattle.bt_machine.specs.State.{EngineState, PeerState}
+use Rattle.bt_machine.specs.Output.{sent_to}
+use Rattle.bt_machine.specs.FollowUp.{RequestsEach}
 use Rattle.bt_plain.proofs.requests.request_blocks.Given as goal
 
 abbrev pub invariant-loop-block : goal.invariant-loop-block

@@ -1,7 +1,7 @@
 use Rattle.std.proofs.Common.{◌≡◌, ◌++◌, [], ◌∷◌, Some, cond, refl, append-nil, sym, ap, ◌∙◌, arith}
 use Rattle.std.specs.Prelude.{◌||◌}
 use Rattle.std.specs.Option.{option_to_list}
-use Rattle.bt_engine.specs.declared.answer.Note.TheVariants.{Device}
+use Rattle.bt_machine.specs.declared.answer.Note.TheVariants.{Device}
 use Rattle.bt_plain.proofs.Settlings.{noted_one, noted_none, settled_none, settled_more, settled_all, settles_file}
 use Rattle.bt_plain.proofs.settling.settle_blocks.Goals as goal
 use Rattle.bt_plain.proofs.settling.settle_blocks.Goals.{in-Some, in_default, then-failed, else-failed, then-failed-2, else-failed-2}

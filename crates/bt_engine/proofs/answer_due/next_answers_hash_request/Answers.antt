@@ -1,5 +1,0 @@
-use Rattle.bt_engine.proofs.AnswerDue.{next_answers}
-use Rattle.bt_engine.proofs.answer_due.next_answers_hash_request.Goals as goal
-
-pub returns : goal.returns
-returns g c = next_answers g.H.NodeHash.digest

@@ -1,5 +1,0 @@
-use Rattle.bt_engine.proofs.AnswerShut.{next_closes}
-use Rattle.bt_engine.proofs.answer_due.next_closes_for_cause.Goals as goal
-
-pub returns : goal.returns
-returns g c = next_closes g.H.NodeHash.digest

@@ -1,5 +1,0 @@
-use Rattle.bt_engine.proofs.AnswerBlocks.{next_marks_right}
-use Rattle.bt_engine.proofs.answer_due.next_marks_right_block.Goals as goal
-
-pub returns : goal.returns
-returns g c = next_marks_right g.H.NodeHash.digest

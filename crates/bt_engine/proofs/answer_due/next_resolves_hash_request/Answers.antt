@@ -1,5 +1,0 @@
-use Rattle.bt_engine.proofs.AnswerHash.{next_resolves}
-use Rattle.bt_engine.proofs.answer_due.next_resolves_hash_request.Goals as goal
-
-pub returns : goal.returns
-returns g c = next_resolves g.H.NodeHash.digest

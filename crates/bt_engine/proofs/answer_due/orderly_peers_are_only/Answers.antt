@@ -1,5 +1,0 @@
-use Rattle.bt_engine.proofs.AnswerShut.{orderly_only}
-use Rattle.bt_engine.proofs.answer_due.orderly_peers_are_only.Goals as goal
-
-pub returns : goal.returns
-returns c = orderly_only

@@ -1,5 +1,0 @@
-use Rattle.bt_engine.proofs.AnswerBlocks.{waiting_is_not_complete}
-use Rattle.bt_engine.proofs.answer_due.waiting_is_not_complete.Goals as goal
-
-pub returns : goal.returns
-returns c = waiting_is_not_complete

@@ -1,5 +1,0 @@
-use Rattle.bt_engine.proofs.AnswerCauses.{step_closes}
-use Rattle.bt_engine.proofs.answer_law.step_closes_for_cause.Goals as goal
-
-pub returns : goal.returns
-returns g c = step_closes g.H.NodeHash.digest

@@ -1,5 +1,0 @@
-use Rattle.bt_engine.proofs.AnswerOthers.{keeps_connected}
-use Rattle.bt_engine.proofs.answer_law.step_keeps_connected.Goals as goal
-
-pub returns : goal.returns
-returns g c = keeps_connected g.H.NodeHash.digest

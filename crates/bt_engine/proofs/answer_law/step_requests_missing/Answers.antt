@@ -1,5 +1,0 @@
-use Rattle.bt_engine.proofs.AnswerRequests.{step_requests}
-use Rattle.bt_engine.proofs.answer_law.step_requests_missing.Goals as goal
-
-pub returns : goal.returns
-returns g c = step_requests g.H.NodeHash.digest

@@ -1,5 +1,0 @@
-use Rattle.bt_engine.proofs.AnswerInterest.{step_tells}
-use Rattle.bt_engine.proofs.answer_law.step_tells_changed_interest.Goals as goal
-
-pub returns : goal.returns
-returns g c = step_tells g.H.NodeHash.digest

@@ -1,5 +1,0 @@
-use Rattle.bt_engine.proofs.ExampleAdopting.{twins_are_run}
-use Rattle.bt_engine.proofs.example.adopted_twins_are_run.Goals as goal
-
-pub returns : goal.returns
-returns g c = twins_are_run g.H.NodeHash.digest

@@ -1,5 +1,0 @@
-use Rattle.bt_engine.proofs.ExampleChoking.{choices_are_run}
-use Rattle.bt_engine.proofs.example.choices_are_run.Goals as goal
-
-pub returns : goal.returns
-returns g c = choices_are_run g.H.NodeHash.digest

@@ -1,5 +1,0 @@
-use Rattle.bt_engine.proofs.ExampleHostile.{hostile_are_runs}
-use Rattle.bt_engine.proofs.example.hostile_messages_are_runs.Goals as goal
-
-pub returns : goal.returns
-returns g c = hostile_are_runs g.H.NodeHash.digest g.met.H.NodeHash.has_32_bytes

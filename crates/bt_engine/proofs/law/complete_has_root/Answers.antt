@@ -1,5 +1,0 @@
-use Rattle.bt_engine.proofs.Stored.{complete_root}
-use Rattle.bt_engine.proofs.law.complete_has_root.Goals as goal
-
-pub returns : goal.returns
-returns g c = complete_root {dig = g.H.NodeHash.digest}

@@ -1,5 +1,0 @@
-use Rattle.bt_engine.proofs.Survival.{flush_kept}
-use Rattle.bt_engine.proofs.law.flush_keeps_blocks.Goals as goal
-
-pub returns : goal.returns
-returns g c = flush_kept g.D.Disk.history g.D.Disk.honest g.D.Disk.faults g.H.NodeHash.digest

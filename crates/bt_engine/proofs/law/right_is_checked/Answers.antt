@@ -1,5 +1,0 @@
-use Rattle.bt_engine.proofs.Rooted.{right_checked}
-use Rattle.bt_engine.proofs.law.right_is_checked.Goals as goal
-
-pub returns : goal.returns
-returns g c = right_checked {dig = g.H.NodeHash.digest}

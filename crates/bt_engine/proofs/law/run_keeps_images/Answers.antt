@@ -1,5 +1,0 @@
-use Rattle.bt_engine.proofs.Survival.{images_run}
-use Rattle.bt_engine.proofs.law.run_keeps_images.Goals as goal
-
-pub returns : goal.returns
-returns g c = images_run g.D.Disk.history g.D.Disk.honest g.D.Disk.faults g.H.NodeHash.digest g.met.D.Disk.reads_image

@@ -1,5 +1,0 @@
-use Rattle.bt_engine.proofs.Marking.{run_marks}
-use Rattle.bt_engine.proofs.law.run_marks_by_bytes.Goals as goal
-
-pub returns : goal.returns
-returns g c = run_marks

@@ -1,5 +1,0 @@
-use Rattle.bt_engine.proofs.Determined.{runs_determined}
-use Rattle.bt_engine.proofs.law.runs_are_determined.Goals as goal
-
-pub returns : goal.returns
-returns g c = runs_determined g.H.NodeHash.digest

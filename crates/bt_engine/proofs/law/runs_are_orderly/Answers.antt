@@ -1,5 +1,0 @@
-use Rattle.bt_engine.proofs.Orderly.{order_of_runs}
-use Rattle.bt_engine.proofs.law.runs_are_orderly.Goals as goal
-
-pub returns : goal.returns
-returns g c = order_of_runs g.H.NodeHash.digest

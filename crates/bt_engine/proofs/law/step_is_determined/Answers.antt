@@ -1,5 +1,0 @@
-use Rattle.bt_engine.proofs.Determined.{step_determined}
-use Rattle.bt_engine.proofs.law.step_is_determined.Goals as goal
-
-pub returns : goal.returns
-returns g c = step_determined g.H.NodeHash.digest

@@ -1,5 +1,0 @@
-use Rattle.bt_engine.proofs.Unmarks.{marks_kept}
-use Rattle.bt_engine.proofs.law.step_keeps_marks.Goals as goal
-
-pub returns : goal.returns
-returns g c = marks_kept g.D.Disk.history g.D.Disk.honest g.D.Disk.faults g.H.NodeHash.digest

@@ -1,5 +1,0 @@
-use Rattle.bt_engine.proofs.Unmarks.{step_unmarks}
-use Rattle.bt_engine.proofs.law.step_unmarks_by_bytes.Goals as goal
-
-pub returns : goal.returns
-returns g c = step_unmarks g.H.NodeHash.digest

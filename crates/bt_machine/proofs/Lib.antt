@@ -1,0 +1,26 @@
+pub mod Base
+pub mod Machine
+pub mod Lists
+pub mod Pairs
+pub mod Places
+-- trees
+pub mod Rooted
+pub mod Start
+-- marks
+pub mod Marks
+pub mod Adopting
+pub mod Marking
+-- data
+pub mod Sends
+pub mod ProofKeys
+-- peers and files
+pub mod Shape
+pub mod Orderly
+-- devices
+pub mod Stored
+pub mod Tame
+pub mod Sound
+pub mod Headline
+pub mod Crash
+pub mod Unmarks
+pub mod Survival

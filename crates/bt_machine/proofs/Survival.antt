@@ -1,0 +1,165 @@
+-- What a crash leaves once a flush answered Ok.
+use Rattle.std.proofs.lemmas.Option.{slice_get_within, get_or_from_slice_get, slice_get-get_or}
+use Rattle.bt_disk.specs.State.{synced_state}
+use Rattle.bt_disk.specs.History.{moment_of, after_sync}
+use Rattle.bt_disk.specs.Calls.{IsAnswered}
+use Rattle.bt_disk.proofs.Images.{synced_image}
+use Rattle.bt_disk.proofs.Histories.{kept_from_now}
+use Rattle.bt_machine.proofs.Base.{[], ◌≡◌, ℕ, ◌+◌, ◌-◌, ◌*◌, ◌<◌, Bool, true, false, not, inl, inr, List, ◌∷◌, length, get_or, Some, Ok, refl, sym, ap, ◌∙◌, subst, arith, slice_get, Contains, ◌==◌, cases_lt, eqb-true, same_number_lists, block_length, IsImage, History, Call, sync_made, AreAnswered, Facts, IsRight, BlockState, Marked, option_map_or}
+use Rattle.bt_machine.proofs.Machine.{Digest, Flush, FileState, EngineState, DeviceCalls, calls_of, state_at, block_id, file_numbers, IsFile, StepFlush, syncs, fails, syncs_of, data_files, of_flush, stored_block}
+use Rattle.bt_machine.specs.Blocks.{states_of}
+use Rattle.bt_machine.specs.Crash.{IsBlockKept}
+use Rattle.bt_machine.specs.Survival.{RunKeepsImages, FlushKeepsBlocks, FlushedBlocksSurvive, RunsKeepFlushedBlocks}
+use Rattle.bt_machine.proofs.Lists.{contains_none, contains_map, map_contains, here, later, some_below, range_contains, and_then_some, filter_contains}
+use Rattle.bt_machine.proofs.Marks.{state_is}
+use Rattle.bt_machine.proofs.Shape.{Keeps, step_keeps}
+use Rattle.bt_machine.proofs.Stored.{length_at, index_at}
+use Rattle.bt_machine.proofs.Sound.{of_all, among_file, step_sound, run_sound}
+use Rattle.bt_machine.proofs.Unmarks.{marks_kept, device_before}
+use Rattle.bt_machine.proofs.Headline.{start_sound}
+use Rattle.bt_machine.proofs.Crash.{images_kept}
+
+-- ---- bytes of a block
+
+-- a byte of a block that stands in these bytes is the byte there
+stands_in : (n xs i j : _) {byte : ℕ} → slice_get (stored_block n xs i) j ≡ Some byte → slice_get xs (16384 * i + j) ≡ Some byte
+stands_in n xs i j {byte} at =
+    let below : j < length (stored_block n xs i) = slice_get_within _ j byte at in
+    let size = length_at n xs i in
+    slice_get-get_or xs (16384 * i + j) 0 (omega arith)
+    ∙ ap (λ x. Some x) (sym (index_at n xs i j (omega arith)) ∙ get_or_from_slice_get _ j byte 0 at)
+
+-- where each of its bytes stands there, the block does
+block_stands : (n i bytes image : _) → length bytes ≡ block_length n i
+    → ((j byte : ℕ) → slice_get bytes j ≡ Some byte → slice_get image (16384 * i + j) ≡ Some byte) → stored_block n image i ≡ bytes
+block_stands n i bytes image size each =
+    let at : (j : ℕ) → j < length bytes → slice_get image (16384 * i + j) ≡ Some (get_or bytes j 0) = λ j lt. each j _ (slice_get-get_or bytes j 0 lt) in
+    let long : length (stored_block n image i) ≡ length bytes = elim (cases_lt 0 (length bytes)) [
+      | inl some ↦
+          let last : 16384 * i + (length bytes - 1) < length image = slice_get_within image (16384 * i + (length bytes - 1)) _ (at (length bytes - 1) (omega arith)) in
+          let whole = length_at n image i in
+          omega arith
+      | inr none ↦ let whole = length_at n image i in omega arith
+    ] in
+    same_number_lists (stored_block n image i) bytes long
+    (λ j lt. index_at n image i j (omega arith) ∙ get_or_from_slice_get image (16384 * i + j) _ 0 (at j (omega arith)))
+
+-- ---- syncs
+
+-- after syncs that succeeded, all is on the medium
+synced : (old new : History) (call : Call) (calls : _) → ((c : Call) → Contains (call ∷ calls) c → c ≡ sync_made)
+    → AreAnswered old (call ∷ calls) new → new.now ≡ synced_state new.now.bytes
+synced old new call [] are a =
+    let one : a.0 ≡ after_sync old = subst (λ c. IsAnswered old c a.0) (are call (here [] refl)) a.1 in
+    let same : new ≡ after_sync old = a.2 ∙ one in
+    rw same refl
+synced old new call (next ∷ calls) are a = synced a.0 new next calls (λ c among. are c (later call (next ∷ calls) among)) a.2
+
+some_synced : (old new : History) (calls : List Call) → Contains calls sync_made → ((c : Call) → Contains calls c → c ≡ sync_made)
+    → AreAnswered old calls new → new.now ≡ synced_state new.now.bytes
+some_synced old new [] among are a = absurd (contains_none among)
+some_synced old new (call ∷ calls) among are a = synced old new call calls are a
+
+flush_ok : {r : _} → of_flush (Ok tt) ≡ of_flush r → r ≡ Ok tt
+flush_ok e = cc
+
+record IsFlushed (s : EngineState) (calls : DeviceCalls) (new : EngineState) : Type 0 where
+  made : calls ≡ syncs_of (data_files s)
+  same : new ≡ s
+
+flushed : {s calls answer new : _} → StepFlush s calls answer new → answer ≡ Ok tt → IsFlushed s calls new
+flushed (syncs none made is after) e = record { made = made; same = after }
+flushed (fails before file after none x y is same) e = absurd cc
+
+-- a file with a block has a device
+has_device : (s : EngineState) (file i : ℕ) {f : FileState} → slice_get s.files file ≡ Some f → slice_get f.states i ≡ Some Marked
+    → Contains (data_files s) file
+has_device s file i {f} at marked =
+    let below = some_below s.files file at in
+    let some = some_below f.states i marked in
+    let are : states_of s file ≡ f.states = ap (λ o. option_map_or (λ (g : FileState). g.states) o []) at in
+    filter_contains (λ n. not (length (states_of s n) == 0)) (file_numbers s) (range_contains (length s.files) below) (subst (λ (l : List BlockState). not (length l == 0) ≡ true) (sym are) (not_none (length f.states) some))
+  where
+    not_none : (n : ℕ) → i < n → not (n == 0) ≡ true
+    not_none n lt = by _ refl
+      where
+        by : (t : Bool) → (n == 0) ≡ t → not (n == 0) ≡ true
+        by false e = rw e refl
+        by true e = let none : n ≡ 0 = eqb-true n 0 e in absurd (omega arith)
+
+only_syncs : (files file : _) {c : Call} → Contains (syncs_of files) (file, c) → c ≡ sync_made
+only_syncs files file among = let m = contains_map (λ file. (file, sync_made)) files among in ap (λ x. x.1) (sym m.2)
+
+module _ {D : Type 0} (history : D → History) (honest : D → Type 0) (faults : D → ℕ) (dig : Digest) where
+  pub flush_kept : FlushKeepsBlocks history honest faults dig
+  flush_kept old new calls disks after file i f k e step have is marked there honest_now j byte at =
+      let f_is = flushed step.2 (flush_ok step.1) in
+      let old_here : slice_get old.files file ≡ Some f = ap (λ z. slice_get z.files file) (sym f_is.same) ∙ is.here in
+      let among : Contains calls (file, sync_made) = rw f_is.made (map_contains (λ n. (n, sync_made)) (data_files old) (has_device old file i old_here marked)) in
+      let d = have.each file e there in
+      let are : (c : Call) → Contains (calls_of file calls) c → c ≡ sync_made = λ c one. only_syncs (data_files old) file (subst (λ cs. Contains cs (file, c)) f_is.made (of_all calls one)) in
+      let medium = some_synced _ _ _ (among_file calls among) are (d.2.answered (d.2.as_honest.1 honest_now)) in
+      kept_from_now (history e) (16384 * i + j) byte (λ image left.
+      rw (synced_image (history e).now.bytes image (subst (λ s. IsImage s image) medium left)) (stands_in k.file_length (history e).now.bytes i j at))
+
+-- ---- lists of events
+
+record KeepsPeer (mid : EngineState) (file i : ℕ) (k : Facts) : Type 0 where
+  state : FileState
+  tree : Facts
+  is_file : IsFile mid file state tree
+  marked : slice_get state.states i ≡ Some Marked
+  same_length : tree.file_length ≡ k.file_length
+
+goes_on : {old mid : EngineState} (file i : ℕ) {f : FileState} {k : Facts} → Keeps old mid → IsFile old file f k
+    → state_at mid (block_id file i) ≡ Some Marked → KeepsPeer mid file i k
+goes_on file i {f} {k} keeps is marked =
+    let g = and_then_some (λ (q : FileState). slice_get q.states i) _ marked in
+    let before = keeps.files file g.0 g.1 in
+    let same : before.before ≡ f = cc in
+    let tree = keeps.trees f.tree k is.has_tree in
+    record {
+      state = g.0;
+      tree = tree.after;
+      is_file = record { here = g.1; has_tree = cc };
+      marked = g.2;
+      same_length = tree.length;
+    }
+
+module _ {D : Type 0} (history : D → History) (honest : D → Type 0) (faults : D → ℕ) (dig : Digest) (reads : (d : D) → honest d → IsImage (history d).now (history d).now.bytes) where
+  pub images_run : RunKeepsImages history honest faults dig
+  images_run old new [] [] [] disks after file i t f k bytes e run sound is marked size there honest_now kept =
+      kept e (ap (λ l. slice_get l file) (sym run.1) ∙ there)
+  images_run old new (x ∷ xs) (c ∷ calls) (a ∷ answers) disks after file i t f k bytes e run sound is marked size there honest_now kept =
+      let mid = device_before history honest faults dig run.0 new xs calls answers run.1 after file run.4 there honest_now in
+      let marked_now = state_is old (block_id file i) is.here marked in
+      let still = marks_kept history honest faults dig old run.0 x c a disks run.1 (block_id file i) mid.0 run.2 run.3 sound mid.1 mid.2 marked_now in
+      let then = goes_on file i (step_keeps dig x c a run.2) is still in
+      let one : (d : D) → slice_get run.1 file ≡ Some (Some d) → IsBlockKept (history d) t i bytes = λ d at.
+      (let same : d ≡ mid.0 = cc in
+      images_kept history honest faults dig reads old run.0 x c a disks run.1 file i t f k bytes d run.2 run.3 is (λ gone. absurd cc) size at (rw same mid.2) kept) in
+      images_run run.0 new xs calls answers run.1 after file i t then.state then.tree bytes e run.4
+      (step_sound history honest faults dig old run.0 x c a disks run.1 run.2 run.3 sound) then.is_file then.marked (size ∙ ap (λ n. block_length n i) (sym then.same_length)) there honest_now one
+  images_run old new _ _ _ disks after file i t f k bytes e run sound is marked size there honest_now kept = absurd run
+
+  pub flushed_survive : FlushedBlocksSurvive history honest faults dig
+  flushed_survive old mid new made events calls answers disks flushed_disks after file i f k d e sound step have run is marked there_then there honest_now image left =
+      let back = device_before history honest faults dig mid new events calls answers flushed_disks after file run there honest_now in
+      let same : d ≡ back.0 = cc in
+      let honest_then : honest d = rw same back.2 in
+      let f_is = flushed step.2 (flush_ok step.1) in
+      let is_then : IsFile mid file f k = rw f_is.same is in
+      let sound_then = step_sound history honest faults dig old mid Flush made _ disks flushed_disks step have sound in
+      let right = sound_then file f k d is_then there_then honest_then i marked in
+      let kept = flush_kept history honest faults dig old mid made disks flushed_disks file i f k d step have is_then marked there_then honest_then in
+      let each : (x : D) → slice_get flushed_disks file ≡ Some (Some x) → IsBlockKept (history x) (moment_of (history d)) i (stored_block k.file_length (history d).now.bytes i) = λ x at.
+      (let one : x ≡ d = cc in rw one kept) in
+      let last = images_run mid new events calls answers flushed_disks after file i (moment_of (history d)) f k _ e run sound_then is_then marked right.whole there honest_now each in
+      subst (IsRight dig k i)
+      (sym (block_stands k.file_length i (stored_block k.file_length (history d).now.bytes i) image right.whole (λ j byte at. last j byte at image left))) right
+
+  pub flushes_kept : RunsKeepFlushedBlocks history honest faults dig
+  flushes_kept torrent first old mid new events later calls later_calls made answers later_answers disks before flushed_disks after file i f k d e starts run step have goes is marked there_then there honest_now =
+      flushed_survive old mid new made later later_calls later_answers before flushed_disks after file i f k d e
+      (run_sound history honest faults dig first old events calls answers disks before run (start_sound history honest faults dig disks starts))
+      step have goes is marked there_then there honest_now

@@ -1,0 +1,8 @@
+use Rattle.bt_machine.proofs.Rooted.{run_rooted, rooted_checked}
+use Rattle.bt_machine.proofs.Start.{start_rooted}
+use Rattle.bt_machine.proofs.law.runs_are_checked.Goals as goal
+
+pub returns : goal.returns
+returns g c = λ torrent first last events calls answers lawful starts run.
+    let rooted = run_rooted g.H.NodeHash.digest first last events calls answers run (start_rooted g.met.H.NodeHash.has_32_bytes lawful starts) in
+    (rooted, rooted_checked g.H.NodeHash.digest last rooted)

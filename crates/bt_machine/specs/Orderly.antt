@@ -1,0 +1,43 @@
+-- What holds of the peers of every engine that events lead to, and of what they are asked for.
+use Rattle.std.specs.Prelude.{◌≡◌, ◌≢◌, ℕ, ◌<◌, ◌≤◌, false, List, length, Some, Contains}
+use Rattle.std.specs.List.{AllPairs}
+use Rattle.bt_meta.specs.Torrent.{Metainfo, total_pieces}
+use Rattle.bt_store.specs.declared.block_states.BlockState.TheVariants.{Missing}
+use Rattle.bt_book.specs.declared.names.BlockId.{BlockId}
+use Rattle.bt_book.specs.Book.{max_peers, max_requests}
+use Rattle.bt_machine.specs.declared.event.Event.{Event}
+use Rattle.bt_machine.specs.State.{PeerState, EngineState}
+use Rattle.bt_machine.specs.Devices.{DeviceCalls}
+use Rattle.bt_machine.specs.Blocks.{state_at}
+use Rattle.bt_machine.specs.Start.{Starts}
+use Rattle.bt_machine.specs.Step.{Answer, Step, Run}
+
+-- Its key was given out, its stream showed no fault, and each piece has its bit. It is asked for at most 16
+-- blocks, each once and missing.
+pub record IsOrderlyPeer (s : EngineState) (p : PeerState) : Type 0 where
+  pub key : p.key.0 < s.next_key
+  pub running : p.stream.failed ≡ false
+  pub pieces : length p.has ≡ total_pieces s.torrent
+  pub few : length p.asked ≤ max_requests
+  pub once : AllPairs (λ b c. b ≢ c) p.asked
+  pub missing : (b : BlockId) → Contains p.asked b → state_at s b ≡ Some Missing
+
+abbrev pub AskedApart : PeerState → PeerState → Type 0
+AskedApart p q = (b : BlockId) → Contains p.asked b → ¬ Contains q.asked b
+
+-- At most 64 peers are connected, in the order of their keys, and no block is asked of two of them.
+pub record IsOrderly (s : EngineState) : Type 0 where
+  pub few : length s.peers ≤ max_peers
+  pub in_order : AllPairs (λ p q. p.key.0 < q.key.0) s.peers
+  pub apart : AllPairs AskedApart s.peers
+  pub each : (p : PeerState) → Contains s.peers p → IsOrderlyPeer s p
+
+abbrev pub StepKeepsOrder : (List ℕ → List ℕ) → Type 0
+StepKeepsOrder dig = (old new : EngineState) (event : Event) (calls : DeviceCalls) (answer : Answer)
+    → Step dig old event calls answer new → IsOrderly old → IsOrderly new
+
+-- So it is of every engine that events lead to from the start of a torrent.
+abbrev pub RunsAreOrderly : (List ℕ → List ℕ) → Type 0
+RunsAreOrderly dig = (torrent : Metainfo) (first last : EngineState)
+    (events : List Event) (calls : List DeviceCalls) (answers : List Answer)
+    → Starts dig torrent first → Run dig first events calls answers last → IsOrderly last

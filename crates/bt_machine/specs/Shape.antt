@@ -1,0 +1,39 @@
+-- What stays over all events: the torrent, which trees and files there are, and that there is no log.
+use Rattle.std.specs.Prelude.{[], ◌≡◌, ◌≢◌, ℕ, ◌<◌, false, List, length, Some, slice_get}
+use Rattle.std.specs.List.{AllPairs}
+use Rattle.bt_tree.specs.Blocks.{block_count}
+use Rattle.bt_meta.specs.Files.{File}
+use Rattle.bt_meta.specs.Torrent.{Metainfo}
+use Rattle.bt_sparse.specs.SparseTree.{Facts}
+use Rattle.bt_machine.specs.declared.event.Event.{Event}
+use Rattle.bt_machine.specs.State.{FileState, EngineState}
+use Rattle.bt_machine.specs.Devices.{DeviceCalls}
+use Rattle.bt_machine.specs.Start.{Starts}
+use Rattle.bt_machine.specs.Step.{Answer, Run}
+
+-- it has a state for each of the file's blocks, and where there is one, the tree of its root
+pub record HasShapeOf (file : File) (trees : List Facts) (f : FileState) : Type 0 where
+  pub blocks : length f.states ≡ block_count file.length
+  pub has_tree : 0 < file.length → (k : Facts) × (slice_get trees f.tree ≡ Some k)
+      × (k.root ≡ file.root) × (k.file_length ≡ file.length)
+
+-- the engine has this torrent's files, in their order, and no two trees of one root
+pub record IsShaped (torrent : Metainfo) (s : EngineState) : Type 0 where
+  pub same : s.torrent ≡ torrent
+  pub roots : AllPairs (λ j k. j.root ≢ k.root) s.trees
+  pub count : length s.files ≡ length torrent.files
+  pub each : (i : ℕ) (file : File) (f : FileState) → slice_get torrent.files i ≡ Some file
+      → slice_get s.files i ≡ Some f → HasShapeOf file s.trees f
+
+-- there is no log, no hint from one, and none that is to be written
+pub record HasNoLog (s : EngineState) : Type 0 where
+  pub none : s.logged ≡ false
+  pub read : s.hints ≡ []
+  pub written : s.pending ≡ []
+
+-- After any list of events from the start of a torrent this is so.
+abbrev pub RunsKeepShape : (List ℕ → List ℕ) → Type 0
+RunsKeepShape dig = (torrent : Metainfo) (first last : EngineState)
+    (events : List Event) (calls : List DeviceCalls) (answers : List Answer)
+    → Starts dig torrent first → Run dig first events calls answers last
+    → IsShaped torrent last × HasNoLog last

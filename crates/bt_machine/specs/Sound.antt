@@ -1,0 +1,45 @@
+-- What honest devices have of the marked blocks of an engine, over its steps.
+use Rattle.std.specs.Prelude.{[], ◌≡◌, ℕ, ◌<◌, List, ◌∷◌, Option, Some, slice_get}
+use Rattle.bt_disk.specs.History.{History}
+use Rattle.bt_sparse.specs.SparseTree.{Facts, blocks_of}
+use Rattle.bt_store.specs.declared.block_states.BlockState.TheVariants.{Marked}
+use Rattle.bt_machine.specs.declared.event.Event.{Event}
+use Rattle.bt_machine.specs.State.{FileState, EngineState}
+use Rattle.bt_machine.specs.Devices.{DeviceCalls, HaveCalls}
+use Rattle.bt_machine.specs.Request.{IsFile}
+use Rattle.bt_machine.specs.Stored.{AreRight, HasFile}
+use Rattle.bt_machine.specs.Law.{AreRooted}
+use Rattle.bt_machine.specs.Step.{Answer, Step}
+
+-- on each honest device the marked blocks of its file are right
+abbrev pub IsSound : {D : Type 0} → (D → History) → (D → Type 0) → (List ℕ → List ℕ)
+    → EngineState → List (Option D) → Type 0
+IsSound {D} history honest dig s disks = (file : ℕ) (f : FileState) (k : Facts) (d : D) → IsFile s file f k
+    → slice_get disks file ≡ Some (Some d) → honest d → AreRight dig k (history d).now.bytes f.states
+
+-- Each event keeps it so, whatever the devices answer.
+abbrev pub StepKeepsSound : {D : Type 0} → (D → History) → (D → Type 0) → (D → ℕ) → (List ℕ → List ℕ) → Type 0
+StepKeepsSound {D} history honest faults dig = (old new : EngineState) (event : Event) (calls : DeviceCalls)
+    (answer : Answer) (disks after : List (Option D))
+    → Step dig old event calls answer new → HaveCalls history honest faults disks calls after
+    → IsSound history honest dig old disks → IsSound history honest dig new after
+
+-- A list of events, one step after the other, with the devices that its calls were made of.
+abbrev pub RunOn : {D : Type 0} → (D → History) → (D → Type 0) → (D → ℕ) → (List ℕ → List ℕ)
+    → EngineState → List (Option D) → List Event → List DeviceCalls → List Answer
+    → EngineState → List (Option D) → Type 0
+RunOn {D} history honest faults dig old disks [] [] [] new after = (new ≡ old) × (after ≡ disks)
+RunOn {D} history honest faults dig old disks (event ∷ events) (calls ∷ more) (answer ∷ answers) new after =
+    (mid : EngineState) × (between : List (Option D))
+    × Step dig old event calls answer mid × HaveCalls history honest faults disks calls between
+    × RunOn history honest faults dig mid between events more answers new after
+RunOn {D} history honest faults dig old disks _ _ _ new after = ⊥
+
+-- So where all blocks of a file are marked and its device is honest, the file stands there with its tree's
+-- root.
+abbrev pub CompleteFilesStand : {D : Type 0} → (D → History) → (D → Type 0) → (List ℕ → List ℕ) → Type 0
+CompleteFilesStand {D} history honest dig = (s : EngineState) (disks : List (Option D))
+    (file : ℕ) (f : FileState) (k : Facts) (d : D) → AreRooted dig s → IsSound history honest dig s disks
+    → IsFile s file f k → 0 < k.file_length
+    → ((i : ℕ) → i < blocks_of k → slice_get f.states i ≡ Some Marked)
+    → slice_get disks file ≡ Some (Some d) → honest d → HasFile dig k (history d).now.bytes

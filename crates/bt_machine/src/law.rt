@@ -1,0 +1,93 @@
+ghost use Rattle.bt_machine.specs.Law.{RunsAreChecked, RightIsChecked, RunMarksByBytes, RunSendsReadBytes};
+ghost use Rattle.bt_machine.specs.Writes.{StepWritesMissing};
+ghost use Rattle.bt_machine.specs.Unmarks.{StepUnmarksByBytes, RunKeepsMarks};
+ghost use Rattle.bt_machine.specs.Headline.{CompleteFilesArePublished};
+ghost use Rattle.bt_machine.specs.Survival.{RunsKeepFlushedBlocks, RunKeepsImages};
+ghost use Rattle.bt_machine.specs.Orderly.{RunsAreOrderly};
+ghost use Rattle.bt_machine.specs.Shape.{RunsKeepShape};
+ghost use Rattle.bt_machine.specs.ProofKeys.{ProofKeysAreAnswered};
+
+use bt_disk::Disk;
+use bt_tree::NodeHash;
+
+/// After any list of events from the start of a lawful torrent every tree is rooted, and every digest that one
+/// holds lies on a checked path to its root.
+pub fn runs_are_checked<H: NodeHash>(_hash: H)
+    ensures { RunsAreChecked H.digest }
+{}
+
+/// Where a tree is rooted, the digest of bytes that are right for a block lies on a checked path to the root.
+pub fn right_is_checked<H: NodeHash>(_hash: H)
+    ensures { RightIsChecked H.digest }
+{}
+
+/// Each block that a list of events has marked became so at one of them, in one of three ways: it came from a
+/// peer that was asked for it and was written; it waited, and was read back as its leaf was told or another
+/// file of its tree was taken in; or its file was taken in and it was read. In each its digest is its leaf, and
+/// its bytes are of that event.
+pub fn run_marks_by_bytes<H: NodeHash>(_hash: H)
+    ensures { RunMarksByBytes H.digest }
+{}
+
+/// What an answer of a list of events sends of data was asked for in that answer's own event, and is cut from
+/// blocks that were read in it with the digests of their leaves.
+pub fn run_sends_read_bytes<H: NodeHash>(_hash: H)
+    ensures { RunSendsReadBytes H.digest }
+{}
+
+/// After any list of events from the start of a torrent, whatever peers send and devices answer: where all
+/// blocks of a file are marked and its device is honest, the file that stands there has the torrent's length
+/// and root. So it equals every file of that length and root, or at one place of their trees two different
+/// inputs have one digest.
+pub fn complete_files_are_published<D: Disk, H: NodeHash>(_disk: &D, _hash: H)
+    ensures { CompleteFilesArePublished D.history D.honest D.faults H.digest }
+{}
+
+/// After any list of events from the start of a torrent, whatever peers send and devices answer: a crash at any
+/// moment after a flush that answered Ok, also within an event, leaves each block right on an honest device
+/// that was marked at the flush.
+pub fn runs_keep_flushed_blocks<D: Disk, H: NodeHash>(_disk: &D, _hash: H)
+    ensures { RunsKeepFlushedBlocks D.history D.honest D.faults H.digest }
+{}
+
+/// Where marked blocks are right on honest devices: what every image since a moment has of a marked block, every
+/// image goes on to have over a list of events, also those of a crash within one.
+pub fn run_keeps_images<D: Disk, H: NodeHash>(_disk: &D, _hash: H)
+    ensures { RunKeepsImages D.history D.honest D.faults H.digest }
+{}
+
+/// Where marked blocks are right on honest devices, a marked block on one stays marked over a list of events.
+pub fn run_keeps_marks<D: Disk, H: NodeHash>(_disk: &D, _hash: H)
+    ensures { RunKeepsMarks D.history D.honest D.faults H.digest }
+{}
+
+/// Whatever devices do, a marked block ceases to be so in one way only: it was read in this event, and its
+/// device gave other bytes than those of its leaf.
+pub fn step_unmarks_by_bytes<H: NodeHash>(_hash: H)
+    ensures { StepUnmarksByBytes H.digest }
+{}
+
+/// An event changes a device by one write at most, of a block that is missing: all of it, at its place. What
+/// waits or is marked is never written.
+pub fn step_writes_missing<H: NodeHash>(_hash: H)
+    ensures { StepWritesMissing H.digest }
+{}
+
+/// After any list of events from the start of a torrent at most 64 peers are connected, in the order of their
+/// keys, and none was closed for a fault of its stream. Each is asked for at most 16 blocks, which are missing,
+/// and no block is asked twice.
+pub fn runs_are_orderly<H: NodeHash>(_hash: H)
+    ensures { RunsAreOrderly H.digest }
+{}
+
+/// After any list of events from the start of a torrent there are its files, each with a state for each block
+/// and, where it has one, the tree of its root, one tree for each root, and no hint for a log.
+pub fn runs_keep_shape<H: NodeHash>(_hash: H)
+    ensures { RunsKeepShape H.digest }
+{}
+
+/// Where the blocks of a group were claimed together and found right, the tree answers the keys of the proofs
+/// that are left for a log, and they are of the right shape.
+pub fn proof_keys_are_answered<H: NodeHash>(_hash: H)
+    ensures { ProofKeysAreAnswered H.digest }
+{}

@@ -1,0 +1,29 @@
+pub mod Base
+pub mod Machine
+-- answers
+pub mod AnswerParts
+pub mod AnswerSends
+pub mod AnswerPieces
+pub mod AnswerCauses
+pub mod AnswerDue
+pub mod AnswerBlocks
+pub mod AnswerMarks
+pub mod AnswerWaits
+-- what is left free
+pub mod DeterminedParts
+pub mod DeterminedEvents
+pub mod DeterminedFollow
+pub mod DeterminedAsks
+pub mod DeterminedNext
+pub mod DeterminedPeers
+pub mod DeterminedAdopt
+pub mod Determined
+-- worked examples
+pub mod ExamplePeer
+pub mod ExampleOneBlock
+pub mod ExampleThreeTree
+pub mod ExampleThreeEngine
+pub mod ExampleServing
+pub mod ExampleTwins
+pub mod ExampleFlush
+pub mod ExampleAdopting

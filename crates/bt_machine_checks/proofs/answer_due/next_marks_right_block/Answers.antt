@@ -1,0 +1,5 @@
+use Rattle.bt_machine_checks.proofs.AnswerBlocks.{next_marks_right}
+use Rattle.bt_machine_checks.proofs.answer_due.next_marks_right_block.Goals as goal
+
+pub returns : goal.returns
+returns g c = next_marks_right g.H.NodeHash.digest

@@ -1,0 +1,5 @@
+use Rattle.bt_machine_checks.proofs.Determined.{runs_determined}
+use Rattle.bt_machine_checks.proofs.left_free.runs_are_determined.Goals as goal
+
+pub returns : goal.returns
+returns g c = runs_determined g.H.NodeHash.digest
