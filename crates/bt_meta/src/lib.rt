@@ -21,8 +21,3 @@ pub use reader::{MAX_TEXT_LENGTH, read_info, read_torrent};
 pub use torrent::{FileEntry, Span, Torrent};
 pub use walk::{MAX_FILES, MAX_PIECES};
 pub use writer::{Made, MakeError, make};
-
-#[cfg(test)]
-mod tests;
-#[cfg(test)]
-mod writer_tests;

@@ -1,6 +1,8 @@
-use crate::{MAX_TEXT_LENGTH, MetaError, Torrent, read_info, read_torrent};
 use bt_bencode::{BencodeError, parse, write};
+use bt_meta::{FileEntry, MAX_TEXT_LENGTH, MetaError, Torrent, read_info, read_torrent};
+use bt_tree::Hash32;
 use sha2::{Digest, Sha256};
+use std::alloc::{AllocError, Global};
 use std::process::Abort;
 use std::test::Fail;
 
@@ -26,44 +28,82 @@ fn abc_torrent(rt: &impl AllocGlobal) -> Result<Vec<u8>, Fail> {
     Ok(bytes)
 }
 
+/// A file of one element in its path, without a layer.
+struct PlainFile<'a> {
+    name: &'a str,
+    length: u64,
+    root: Hash32,
+    first_piece: u32,
+}
+
+const ABC_FILE: PlainFile<'static> = PlainFile {
+    name: "a.txt",
+    length: 3,
+    root: ABC_ROOT,
+    first_piece: 0,
+};
+
+fn expect_file(rt: &impl Abort, file: &FileEntry, wanted: &PlainFile<'_>) {
+    assert!(rt; file.path.elements().as_slice() == [wanted.name].as_slice());
+    assert!(rt; file.length == wanted.length);
+    assert!(rt; file.root == wanted.root);
+    assert!(rt; file.first_piece == wanted.first_piece);
+    assert!(rt; file.layer.is_empty());
+}
+
+/// The torrent, or the torrent of the info dictionary, of the file `a.txt`.
+fn expect_abc(rt: &impl Abort, torrent: &Torrent) {
+    assert!(rt; torrent.name() == b"a.txt".as_slice());
+    assert!(rt; torrent.piece_length() == 16384);
+    assert!(rt; torrent.pieces() == 1);
+    let files = torrent.files();
+    assert!(rt; files.len() == 1);
+    expect_file(rt, &files[0], &ABC_FILE);
+}
+
 #[test]
 fn reads_the_abc_torrent(rt: HostRuntime) -> Result<(), Fail> {
     let bytes = abc_torrent(&rt)?;
-    assert_eq!(rt; bytes.len(), 166);
+    assert!(rt; bytes.len() == 166);
     let torrent = read_torrent(rt.alloc(), &bytes)?;
-    assert_eq!(rt; torrent.name(), b"a.txt".as_slice());
-    assert_eq!(rt; torrent.piece_length(), 16384);
-    assert_eq!(rt; torrent.pieces(), 1);
-    let info = Sha256::digest(&bytes[7..148]);
-    assert_eq!(rt; torrent.infohash(), info);
-    let files = torrent.files();
-    assert_eq!(rt; files.len(), 1);
-    let file = &files[0];
-    assert_eq!(rt; file.path.len(), 1);
-    assert_eq!(rt; file.path.elements().first(), Some(&"a.txt"));
-    assert_eq!(rt; file.length, 3);
-    assert_eq!(rt; file.root, ABC_ROOT);
-    assert_eq!(rt; file.first_piece, 0);
-    assert_eq!(rt; file.layer.len(), 0);
+    assert!(rt; torrent.infohash() == Sha256::digest(&bytes[7..148]));
+    expect_abc(&rt, &torrent);
+    Ok(())
+}
+
+/// The bytes parse to a value that is written as they are.
+fn expect_written(rt: &(impl AllocGlobal + Abort), bytes: &[u8]) -> Result<(), Fail> {
+    let doc = parse(rt.alloc(), bytes)?;
+    let written = write(rt.alloc(), doc.value())?;
+    assert!(rt; written.as_slice() == bytes);
     Ok(())
 }
 
 #[test]
 fn writes_the_abc_torrent_as_it_was_read(rt: HostRuntime) -> Result<(), Fail> {
     let bytes = abc_torrent(&rt)?;
-    let doc = parse(rt.alloc(), &bytes)?;
-    let written = write(rt.alloc(), doc.value())?;
-    assert_eq!(rt; written.as_slice(), bytes.as_slice());
-    Ok(())
+    expect_written(&rt, &bytes)
+}
+
+/// How the bytes are refused as a torrent.
+fn fault(alloc: Global, bytes: &[u8]) -> Option<MetaError> {
+    read_torrent(alloc, bytes).err()
+}
+
+/// How they are refused as an info dictionary.
+fn info_fault(alloc: Global, bytes: &[u8]) -> Option<MetaError> {
+    read_info(alloc, bytes).err()
 }
 
 #[test]
 fn refuses_each_proper_prefix(rt: HostRuntime) -> Result<(), Fail> {
     let bytes = abc_torrent(&rt)?;
     for length in 0..bytes.len() {
-        let refused = read_torrent(rt.alloc(), &bytes[..length]);
         let wanted = MetaError::Bencode(BencodeError::Truncated(length));
-        assert!(rt; refused.is_err_and(|error| error == wanted), "at {length}");
+        assert!(rt;
+            fault(rt.alloc(), &bytes[..length]) == Some(wanted),
+            "at {length}"
+        );
     }
     Ok(())
 }
@@ -71,24 +111,11 @@ fn refuses_each_proper_prefix(rt: HostRuntime) -> Result<(), Fail> {
 #[test]
 fn reads_the_abc_info(rt: HostRuntime) -> Result<(), Fail> {
     let bytes = abc_torrent(&rt)?;
-    assert_eq!(rt; bytes.len(), 166);
-    let torrent = read_info(rt.alloc(), &bytes[7..148])?;
-    let whole = read_torrent(rt.alloc(), &bytes)?;
-    assert_eq!(rt; torrent.name(), b"a.txt".as_slice());
-    assert_eq!(rt; torrent.infohash(), whole.infohash());
-    assert_eq!(rt; torrent.piece_length(), 16384);
-    assert_eq!(rt; torrent.pieces(), 1);
-    let files = torrent.files();
-    assert_eq!(rt; files.len(), 1);
-    let file = &files[0];
-    assert_eq!(rt; file.path.len(), 1);
-    assert_eq!(rt; file.path.elements().first(), Some(&"a.txt"));
-    assert_eq!(rt; file.length, 3);
-    assert_eq!(rt; file.root, ABC_ROOT);
-    assert_eq!(rt; file.first_piece, 0);
-    assert_eq!(rt; file.layer.len(), 0);
-    let refused = read_info(rt.alloc(), b"le");
-    assert!(rt; refused.is_err_and(|error| error == MetaError::NoInfo));
+    let info = bytes.get(7..148).ok_or("no info")?;
+    let torrent = read_info(rt.alloc(), info)?;
+    assert!(rt; torrent.infohash() == Sha256::digest(info));
+    expect_abc(&rt, &torrent);
+    assert!(rt; info_fault(rt.alloc(), b"le") == Some(MetaError::NoInfo));
     Ok(())
 }
 
@@ -109,28 +136,30 @@ fn short_torrent(rt: &impl AllocGlobal) -> Result<Vec<u8>, Fail> {
     Ok(bytes)
 }
 
+const BLOCKS_FILE: PlainFile<'static> = PlainFile {
+    name: "blocks",
+    length: 49_152,
+    root: THREE_BLOCKS_ROOT,
+    first_piece: 0,
+};
+
+const EMPTY_FILE: PlainFile<'static> = PlainFile {
+    name: "empty",
+    length: 0,
+    root: [0; 32],
+    first_piece: 1,
+};
+
 #[test]
 fn a_file_shorter_than_a_piece_has_no_layer(rt: HostRuntime) -> Result<(), Fail> {
     let bytes = short_torrent(&rt)?;
     let torrent = read_torrent(rt.alloc(), &bytes)?;
-    assert_eq!(rt; torrent.piece_length(), 131_072);
-    assert_eq!(rt; torrent.pieces(), 1);
+    assert!(rt; torrent.piece_length() == 131_072);
+    assert!(rt; torrent.pieces() == 1);
     let files = torrent.files();
-    assert_eq!(rt; files.len(), 2);
-    let file = &files[0];
-    assert_eq!(rt; file.path.len(), 1);
-    assert_eq!(rt; file.path.elements().first(), Some(&"blocks"));
-    assert_eq!(rt; file.length, 49_152);
-    assert_eq!(rt; file.root, THREE_BLOCKS_ROOT);
-    assert_eq!(rt; file.first_piece, 0);
-    assert_eq!(rt; file.layer.len(), 0);
-    let empty = &files[1];
-    assert_eq!(rt; empty.path.len(), 1);
-    assert_eq!(rt; empty.path.elements().first(), Some(&"empty"));
-    assert_eq!(rt; empty.length, 0);
-    assert_eq!(rt; empty.root, [0; 32]);
-    assert_eq!(rt; empty.first_piece, 1);
-    assert_eq!(rt; empty.layer.len(), 0);
+    assert!(rt; files.len() == 2);
+    expect_file(&rt, &files[0], &BLOCKS_FILE);
+    expect_file(&rt, &files[1], &EMPTY_FILE);
     Ok(())
 }
 
@@ -168,28 +197,34 @@ fn names_its_refusals(rt: HostRuntime) -> Result<(), Fail> {
 }
 
 /// What is printed of a torrent's refusal.
-fn answer(rt: &(impl AllocGlobal + Abort), bytes: &[u8]) -> Result<String, Fail> {
-    match read_torrent(rt.alloc(), bytes) {
-        Ok(_) => Ok(String::from_str(rt.alloc(), "taken")?),
-        Err(error) => Ok(error.to_string(rt.alloc())?),
+fn answer(alloc: Global, bytes: &[u8]) -> Result<String, AllocError> {
+    match read_torrent(alloc, bytes) {
+        Ok(_) => String::from_str(alloc, "taken"),
+        Err(error) => error.to_string(alloc),
     }
 }
 
-/// How the torrent of this `info` is refused.
-fn refusal(rt: &(impl AllocGlobal + Abort), info: &[u8]) -> Result<String, Fail> {
-    let mut bytes = Vec::new(rt.alloc());
-    bytes.extend_from_slice(b"d4:info")?;
-    bytes.extend_from_slice(info)?;
-    bytes.push(b'e')?;
-    answer(rt, &bytes)
+/// The bytes of a torrent are answered so.
+fn expect_answer(rt: &(impl AllocGlobal + Abort), bytes: &[u8], wanted: &str) -> Result<(), Fail> {
+    let answer = answer(rt.alloc(), bytes)?;
+    assert!(rt; answer.as_str() == wanted, "not {wanted}");
+    Ok(())
 }
 
-/// How the torrent of this tree is refused, with pieces of 16,384 bytes and no layers.
-fn tree_refusal(rt: &(impl AllocGlobal + Abort), tree: &str) -> Result<String, Fail> {
+/// The torrent of this `info` is answered so.
+fn expect_info(rt: &(impl AllocGlobal + Abort), info: &[u8], wanted: &str) -> Result<(), Fail> {
+    let mut bytes = Vec::from_slice(rt.alloc(), b"d4:info")?;
+    bytes.extend_from_slice(info)?;
+    bytes.push(b'e')?;
+    expect_answer(rt, &bytes, wanted)
+}
+
+/// The torrent of this file tree is answered so, with pieces of 16,384 bytes and no layers.
+fn expect_tree(rt: &(impl AllocGlobal + Abort), tree: &str, wanted: &str) -> Result<(), Fail> {
     let mut info = String::from_str(rt.alloc(), "d9:file tree")?;
     info.push_str(tree)?;
     info.push_str("12:meta versioni2e4:name1:a12:piece lengthi16384ee")?;
-    refusal(rt, info.as_bytes())
+    expect_info(rt, info.as_bytes(), wanted)
 }
 
 /// Info dictionaries of one fault, and how each is refused.
@@ -256,12 +291,10 @@ const TREES: [(&str, &str); 16] = [
 #[test]
 fn refuses_by_name(rt: HostRuntime) -> Result<(), Fail> {
     for (info, wanted) in INFOS {
-        let answer = refusal(&rt, info.as_bytes())?;
-        assert_eq!(rt; answer.as_str(), wanted, "at {info}");
+        expect_info(&rt, info.as_bytes(), wanted)?;
     }
     for (tree, wanted) in TREES {
-        let answer = tree_refusal(&rt, tree)?;
-        assert_eq!(rt; answer.as_str(), wanted, "at {tree}");
+        expect_tree(&rt, tree, wanted)?;
     }
     Ok(())
 }
@@ -310,94 +343,125 @@ const FAULTY_TREES: [(&str, &str); 11] = [
 #[test]
 fn refuses_in_order(rt: HostRuntime) -> Result<(), Fail> {
     for (text, wanted) in FAULTY_TEXTS {
-        let answer = answer(&rt, text.as_bytes())?;
-        assert_eq!(rt; answer.as_str(), wanted, "at {text}");
+        expect_answer(&rt, text.as_bytes(), wanted)?;
     }
     for (tree, wanted) in FAULTY_TREES {
-        let answer = tree_refusal(&rt, tree)?;
-        assert_eq!(rt; answer.as_str(), wanted, "at {tree}");
+        expect_tree(&rt, tree, wanted)?;
     }
     Ok(())
 }
 
-/// How the torrent of two files of these lengths and one root is refused.
-fn twins(rt: &(impl AllocGlobal + Abort), first: u64, second: u64) -> Result<String, Fail> {
+/// The torrent of two files of these lengths and one root is answered so.
+fn expect_twins(
+    rt: &(impl AllocGlobal + Abort),
+    first: u64,
+    second: u64,
+    wanted: &str,
+) -> Result<(), Fail> {
     let root = "11:pieces root32:aaaaaaaaaaaaaaaaaaaaaaaaaaaaaaaa";
     let info = format!(in rt.alloc();
         "d9:file treed1:ad0:d6:lengthi{first}e{root}ee1:bd0:d6:lengthi{second}e{root}eee12:meta versioni2e4:name1:a12:piece lengthi65536ee"
     )?;
-    refusal(rt, info.as_bytes())
+    expect_info(rt, info.as_bytes(), wanted)
 }
+
+/// Lengths of two files of one root, and how their torrent is answered.
+const TWINS: [(u64, u64, &str); 5] = [
+    (49152, 49152, "taken"),
+    (49152, 49151, "M13 RootConflict"),
+    (49152, 1099511627776, "M13 RootConflict"),
+    (49152, 0, "taken"),
+    (0, 49152, "taken"),
+];
 
 #[test]
 fn compares_files_of_one_root(rt: HostRuntime) -> Result<(), Fail> {
-    let table = [
-        (49152, 49152, "taken"),
-        (49152, 49151, "M13 RootConflict"),
-        (49152, 1099511627776, "M13 RootConflict"),
-        (49152, 0, "taken"),
-        (0, 49152, "taken"),
-    ];
-    for (first, second, wanted) in table {
-        let answer = twins(&rt, first, second)?;
-        assert_eq!(rt; answer.as_str(), wanted, "at {first} and {second}");
+    for (first, second, wanted) in TWINS {
+        expect_twins(&rt, first, second, wanted)?;
     }
     Ok(())
 }
 
-/// Of each file its path, its first piece, its length and its layer's.
-pub(crate) fn summary(rt: &impl AllocGlobal, torrent: &Torrent) -> Result<String, Fail> {
+/// Adds of a file its path, its first piece, its length and its layer's.
+fn add_facts(alloc: Global, text: &mut String, file: &FileEntry) -> Result<(), Fail> {
+    for element in file.path.elements().iter() {
+        text.push_str(element)?;
+        text.push_str("/")?;
+    }
+    let first = file.first_piece;
+    let length = file.length;
+    let layer = file.layer.len();
+    let facts = format!(in alloc; " {first} {length} {layer};")?;
+    text.push_str(&facts)?;
+    Ok(())
+}
+
+/// These facts of each file, one after the other, are this text.
+pub(crate) fn expect_summary(
+    rt: &(impl AllocGlobal + Abort),
+    torrent: &Torrent,
+    wanted: &str,
+) -> Result<(), Fail> {
     let mut text = String::new(rt.alloc());
     for file in torrent.files() {
-        for element in file.path.elements().iter() {
-            text.push_str(element)?;
-            text.push_str("/")?;
-        }
-        let first = file.first_piece;
-        let length = file.length;
-        let layer = file.layer.len();
-        let facts = format!(in rt.alloc(); " {first} {length} {layer};")?;
-        text.push_str(&facts)?;
+        add_facts(rt.alloc(), &mut text, file)?;
+    }
+    assert!(rt; text.as_str() == wanted, "not {wanted}");
+    Ok(())
+}
+
+/// A torrent of a file of 3 bytes, an empty one and one of 16,384, of pieces of 16,384 bytes.
+const THREE_FILES: &str =
+    "d4:infod9:file treed1:ad1:bd0:d6:lengthi3e11:pieces root32:aaaaaaaaaaaaaaaaaaaaaaaaaaaaaaaaeee1:cd0:d6:lengthi0eee1:dde1:ed0:d6:lengthi16384e11:pieces root32:bbbbbbbbbbbbbbbbbbbbbbbbbbbbbbbbeee12:meta versioni2e4:name1:a12:piece lengthi16384eee";
+
+#[test]
+fn counts_pieces_and_elements(rt: HostRuntime) -> Result<(), Fail> {
+    let torrent = read_torrent(rt.alloc(), THREE_FILES.as_bytes())?;
+    assert!(rt; torrent.pieces() == 2);
+    expect_summary(&rt, &torrent, "a/b/ 0 3 0;c/ 1 0 0;e/ 1 16384 0;")
+}
+
+/// So many times one text, then another, then as many times a third.
+fn nested(
+    alloc: Global,
+    open: &str,
+    inner: &str,
+    close: &str,
+    levels: usize,
+) -> Result<String, AllocError> {
+    let mut text = String::new(alloc);
+    for _ in 0..levels {
+        text.push_str(open)?;
+    }
+    text.push_str(inner)?;
+    for _ in 0..levels {
+        text.push_str(close)?;
     }
     Ok(text)
 }
 
-#[test]
-fn counts_pieces_and_elements(rt: HostRuntime) -> Result<(), Fail> {
-    let tree =
-        "d1:ad1:bd0:d6:lengthi3e11:pieces root32:aaaaaaaaaaaaaaaaaaaaaaaaaaaaaaaaeee1:cd0:d6:lengthi0eee1:dde1:ed0:d6:lengthi16384e11:pieces root32:bbbbbbbbbbbbbbbbbbbbbbbbbbbbbbbbeee";
-    let text = format!(in rt.alloc();
-        "d4:infod9:file tree{tree}12:meta versioni2e4:name1:a12:piece lengthi16384eee"
-    )?;
-    let torrent = read_torrent(rt.alloc(), text.as_bytes())?;
-    assert_eq!(rt; torrent.pieces(), 2);
-    let summary = summary(&rt, &torrent)?;
-    assert_eq!(rt; summary.as_str(), "a/b/ 0 3 0;c/ 1 0 0;e/ 1 16384 0;");
-    Ok(())
-}
-
-/// How the torrent of an empty file with a path of so many elements is refused.
-fn deep_refusal(rt: &(impl AllocGlobal + Abort), elements: usize) -> Result<String, Fail> {
-    let mut tree = String::new(rt.alloc());
-    for _ in 0..elements {
-        tree.push_str("d1:a")?;
-    }
-    tree.push_str("d0:d6:lengthi0eee")?;
-    for _ in 0..elements {
-        tree.push_str("e")?;
-    }
-    tree_refusal(rt, &tree)
+/// The torrent of an empty file with a path of so many elements is answered so.
+fn expect_depth(
+    rt: &(impl AllocGlobal + Abort),
+    elements: usize,
+    wanted: &str,
+) -> Result<(), Fail> {
+    let tree = nested(rt.alloc(), "d1:a", "d0:d6:lengthi0eee", "e", elements)?;
+    expect_tree(rt, &tree, wanted)
 }
 
 #[test]
 fn bounds_paths_and_files(rt: HostRuntime) -> Result<(), Fail> {
-    let deepest = deep_refusal(&rt, 64)?;
-    assert_eq!(rt; deepest.as_str(), "taken");
-    let deeper = deep_refusal(&rt, 65)?;
-    assert_eq!(rt; deeper.as_str(), "M14 TooMany");
+    expect_depth(&rt, 64, "taken")?;
+    expect_depth(&rt, 65, "M14 TooMany")?;
     // Here the entry of 65 elements is a folder.
-    let deep_folder = deep_refusal(&rt, 66)?;
-    assert_eq!(rt; deep_folder.as_str(), "M14 TooMany");
+    expect_depth(&rt, 66, "M14 TooMany")
+}
+
+/// Adds the entry of an empty file, whose name is this number in five digits.
+fn add_empty(alloc: Global, tree: &mut String, number: u32) -> Result<(), Fail> {
+    let file = format!(in alloc; "5:{number:05}d0:d6:lengthi0eee")?;
+    tree.push_str(&file)?;
     Ok(())
 }
 
@@ -405,13 +469,10 @@ fn bounds_paths_and_files(rt: HostRuntime) -> Result<(), Fail> {
 fn refuses_65537_files(rt: HostRuntime) -> Result<(), Fail> {
     let mut tree = String::from_str(rt.alloc(), "d")?;
     for i in 0..65_537u32 {
-        let file = format!(in rt.alloc(); "5:{i:05}d0:d6:lengthi0eee")?;
-        tree.push_str(&file)?;
+        add_empty(rt.alloc(), &mut tree, i)?;
     }
     tree.push_str("e")?;
-    let answer = tree_refusal(&rt, &tree)?;
-    assert_eq!(rt; answer.as_str(), "M14 TooMany");
-    Ok(())
+    expect_tree(&rt, &tree, "M14 TooMany")
 }
 
 /// A text that is too long is not read: these bytes would be refused by their bencoding.
@@ -419,24 +480,20 @@ fn refuses_65537_files(rt: HostRuntime) -> Result<(), Fail> {
 fn refuses_a_long_text(rt: HostRuntime) -> Result<(), Fail> {
     let alloc = rt.alloc();
     let bytes = vec![in alloc; b'x'; MAX_TEXT_LENGTH + 1]?;
-    let torrent = read_torrent(alloc, &bytes).err();
-    assert_eq!(rt; torrent, Some(MetaError::TooMany));
-    let info = read_info(alloc, &bytes).err();
-    assert_eq!(rt; info, Some(MetaError::TooMany));
-    let longest = read_torrent(alloc, &bytes[1..]).err();
-    let fault = MetaError::Bencode(BencodeError::BadByte(0));
-    assert_eq!(rt; longest, Some(fault));
+    assert!(rt; fault(alloc, &bytes) == Some(MetaError::TooMany));
+    assert!(rt; info_fault(alloc, &bytes) == Some(MetaError::TooMany));
+    let bad_byte = MetaError::Bencode(BencodeError::BadByte(0));
+    assert!(rt; fault(alloc, &bytes[1..]) == Some(bad_byte));
     Ok(())
 }
 
 #[test]
 fn refuses_names_that_are_no_text(rt: HostRuntime) -> Result<(), Fail> {
-    let answer = refusal(
+    expect_info(
         &rt,
         b"d9:file treed1:\xffd0:d6:lengthi0eeee12:meta versioni2e4:name1:a12:piece lengthi16384ee",
-    )?;
-    assert_eq!(rt; answer.as_str(), "M9 BadPath");
-    Ok(())
+        "M9 BadPath",
+    )
 }
 
 /// The root of the tree of 1,048,577 bytes whose layer of 17 pieces of 65,536 bytes has the digests 00..,
@@ -455,50 +512,71 @@ pub(crate) fn layer(rt: &impl AllocGlobal, length: usize) -> Result<Vec<u8>, Fai
     Ok(bytes)
 }
 
+/// Adds the entry of such a file, with a name of one letter.
+fn add_layered(bytes: &mut Vec<u8>, name: &[u8]) -> Result<(), AllocError> {
+    bytes.extend_from_slice(name)?;
+    bytes.extend_from_slice(b"d0:d6:lengthi1048577e11:pieces root32:")?;
+    bytes.extend_from_slice(&LAYERED_ROOT)?;
+    bytes.extend_from_slice(b"ee")
+}
+
+/// Adds a byte string.
+fn add_string(alloc: Global, bytes: &mut Vec<u8>, string: &[u8]) -> Result<(), Fail> {
+    let head = format!(in alloc; "{}:", string.len())?;
+    bytes.extend_from_slice(head.as_bytes())?;
+    bytes.extend_from_slice(string)?;
+    Ok(())
+}
+
 /// The torrent of two such files, with these bytes at this key of `piece layers`, between two others.
 pub(crate) fn layered(rt: &impl AllocGlobal, key: &[u8], layer: &[u8]) -> Result<Vec<u8>, Fail> {
-    let mut bytes = Vec::new(rt.alloc());
-    let before = b"d4:infod9:file treed";
-    bytes.extend_from_slice(before)?;
-    for name in [b"1:f", b"1:g"] {
-        bytes.extend_from_slice(name)?;
-        bytes.extend_from_slice(b"d0:d6:lengthi1048577e11:pieces root32:")?;
-        bytes.extend_from_slice(&LAYERED_ROOT)?;
-        bytes.extend_from_slice(b"ee")?;
-    }
-    let length = layer.len();
+    let mut bytes = Vec::from_slice(rt.alloc(), b"d4:infod9:file treed")?;
+    add_layered(&mut bytes, b"1:f")?;
+    add_layered(&mut bytes, b"1:g")?;
     bytes.extend_from_slice(
-        b"e12:meta versioni2e4:name1:f12:piece lengthi65536ee12:piece layersd1:0le32:",
+        b"e12:meta versioni2e4:name1:f12:piece lengthi65536ee12:piece layersd1:0le",
     )?;
-    bytes.extend_from_slice(key)?;
-    let head = format!(in rt.alloc(); "{length}:")?;
-    bytes.extend_from_slice(head.as_bytes())?;
-    bytes.extend_from_slice(layer)?;
+    add_string(rt.alloc(), &mut bytes, key)?;
+    add_string(rt.alloc(), &mut bytes, layer)?;
     bytes.extend_from_slice(b"ee")?;
     Ok(bytes)
 }
 
+/// That torrent, with these bytes at this key, is answered so.
+fn expect_layered(
+    rt: &(impl AllocGlobal + Abort),
+    key: &[u8],
+    layer: &[u8],
+    wanted: &str,
+) -> Result<(), Fail> {
+    let bytes = layered(rt, key, layer)?;
+    expect_answer(rt, &bytes, wanted)
+}
+
+/// Both files of that torrent have the layer.
+fn expect_layers(rt: &(impl AllocGlobal + Abort), layer: &[u8]) -> Result<(), Fail> {
+    let bytes = layered(rt, &LAYERED_ROOT, layer)?;
+    let torrent = read_torrent(rt.alloc(), &bytes)?;
+    assert!(rt; torrent.pieces() == 34);
+    for file in torrent.files() {
+        assert!(rt; file.layer.as_slice() == layer);
+    }
+    expect_summary(rt, &torrent, "f/ 0 1048577 544;g/ 17 1048577 544;")
+}
+
 #[test]
 fn reads_layers(rt: HostRuntime) -> Result<(), Fail> {
-    let whole = layer(&rt, 544)?;
-    let bytes = layered(&rt, &LAYERED_ROOT, &whole)?;
-    let torrent = read_torrent(rt.alloc(), &bytes)?;
-    assert_eq!(rt; torrent.pieces(), 34);
-    for file in torrent.files() {
-        assert_eq!(rt; file.layer.as_slice(), whole.as_slice());
-    }
-    let summary = summary(&rt, &torrent)?;
-    assert_eq!(rt; summary.as_str(), "f/ 0 1048577 544;g/ 17 1048577 544;");
-    let short = layer(&rt, 543)?;
-    let sized = answer(&rt, &layered(&rt, &LAYERED_ROOT, &short)?)?;
-    assert_eq!(rt; sized.as_str(), "M16 LayerSize");
-    let mut changed = layer(&rt, 544)?;
-    if let Some(last) = changed.last_mut() {
+    let mut bytes = layer(&rt, 544)?;
+    expect_layers(&rt, &bytes)?;
+    expect_layered(
+        &rt,
+        &LAYERED_ROOT,
+        bytes.get(..543).ok_or("too short")?,
+        "M16 LayerSize",
+    )?;
+    expect_layered(&rt, &ABC_ROOT, &bytes, "M15 LayerMissing")?;
+    if let Some(last) = bytes.last_mut() {
         *last ^= 1;
     }
-    let differs = answer(&rt, &layered(&rt, &LAYERED_ROOT, &changed)?)?;
-    assert_eq!(rt; differs.as_str(), "M17 LayerDiffers");
-    let missing = answer(&rt, &layered(&rt, &ABC_ROOT, &whole)?)?;
-    assert_eq!(rt; missing.as_str(), "M15 LayerMissing");
-    Ok(())
+    expect_layered(&rt, &LAYERED_ROOT, &bytes, "M17 LayerDiffers")
 }
