@@ -1,5 +1,5 @@
-//! Worked examples. A store is called through functions without a contract, so that a test's proof carries no
-//! clause of its calls.
+//! What no clause of `bt_store` says: that calls succeed, how many reads they make, and worked examples. A
+//! store is called through functions without a contract, so that a test's proof carries no clause of its calls.
 ghost use Rattle.std.specs.Prelude.{◌≡◌};
 ghost use Rattle.std.specs.Bool.{OnTrue};
 
@@ -7,9 +7,10 @@ mod faults;
 mod ranges;
 mod steps;
 
-use crate::{Adopted, BlockState, FileStore, Put, ReadError, Rechecked, Settled, StoreError};
 use bt_disk::{DeviceFault, FaultDisk, MemoryDisk};
+use bt_lanes::Lanes;
 use bt_sparse::{AnswerError, Claim, Digests, SparseTree};
+use bt_store::{Adopted, BlockState, FileStore, Put, ReadError, Rechecked, Settled, StoreError};
 use bt_tree::{BLOCK_LEN, Geometry, Hash32, NodeHash, Plain, RootBuilder, pad};
 use std::alloc::{AllocError, Global};
 use std::test::Fail;
@@ -17,13 +18,13 @@ use steps::{Step, after, expect};
 
 /// A store with the tree of its file.
 #[derive(Drop)]
-struct Fixture {
-    store: FileStore<FaultDisk<MemoryDisk>, Plain>,
-    tree: SparseTree<Plain>,
+struct Fixture<H: NodeHash> {
+    store: FileStore<FaultDisk<MemoryDisk>, H>,
+    tree: SparseTree<H>,
 }
 
 // What the calls answer, without their clauses, which a test's proof is not to carry.
-impl Fixture {
+impl<H: NodeHash> Fixture<H> {
     /// Whether store and tree are of one length.
     fn fits(&self) -> bool
         ensures { OnTrue result (self.now.tree.file_length ≡ self.now.store.file_length) }
@@ -147,7 +148,11 @@ fn root(leaves: &[Hash32; 4]) -> Hash32 {
 }
 
 /// Makes the claim of all leaves, and says whether it is accepted.
-fn learn(alloc: Global, f: &mut Fixture, leaves: &[Hash32]) -> Result<bool, AllocError> {
+fn learn<H: NodeHash>(
+    alloc: Global,
+    f: &mut Fixture<H>,
+    leaves: &[Hash32],
+) -> Result<bool, AllocError> {
     let claim = claim(alloc, leaves)?;
     Ok(f.accept(&claim))
 }
@@ -181,41 +186,43 @@ fn failing_zeros(alloc: Global, length: usize, k: u64) -> Result<FaultDisk<Memor
 }
 
 /// A store of a file of which the root alone is known.
-fn rooted(
+fn rooted<H: NodeHash>(
     alloc: Global,
+    hash: H,
     length: usize,
     root: Hash32,
     disk: FaultDisk<MemoryDisk>,
-) -> Result<Fixture, Fail> {
+) -> Result<Fixture<H>, Fail> {
     let geometry = Geometry::new(length as u64).ok_or("no geometry")?;
-    let tree = SparseTree::new(alloc, Plain, geometry, root)?;
-    stored(alloc, tree, disk)
+    let tree = SparseTree::new(alloc, hash, geometry, root)?;
+    stored(alloc, tree, hash, disk)
 }
 
 /// A store of the tree's file.
-fn stored(
+fn stored<H: NodeHash>(
     alloc: Global,
-    tree: SparseTree<Plain>,
+    tree: SparseTree<H>,
+    hash: H,
     disk: FaultDisk<MemoryDisk>,
-) -> Result<Fixture, Fail> {
-    let store = FileStore::create(alloc, disk, Plain, tree.geometry())
+) -> Result<Fixture<H>, Fail> {
+    let store = FileStore::create(alloc, disk, hash, tree.geometry())
         .ok()
         .ok_or("no store")?;
     Ok(Fixture { store, tree })
 }
 
 /// The store of the three blocks, of which the root alone is known.
-fn three_blocks(alloc: Global, disk: FaultDisk<MemoryDisk>) -> Result<Fixture, Fail> {
-    rooted(alloc, 49152, root(&leaves(alloc)?), disk)
+fn three_blocks(alloc: Global, disk: FaultDisk<MemoryDisk>) -> Result<Fixture<Plain>, Fail> {
+    rooted(alloc, Plain, 49152, root(&leaves(alloc)?), disk)
 }
 
 /// The same on a disk of so many zeros.
-fn three_missing(alloc: Global, length: usize) -> Result<Fixture, Fail> {
+fn three_missing(alloc: Global, length: usize) -> Result<Fixture<Plain>, Fail> {
     three_blocks(alloc, zeros(alloc, length)?)
 }
 
 /// The same on the disk that has them.
-fn three_there(alloc: Global) -> Result<Fixture, Fail> {
+fn three_there(alloc: Global) -> Result<Fixture<Plain>, Fail> {
     three_blocks(alloc, filled(alloc)?)
 }
 
@@ -257,13 +264,13 @@ const DECIDED_AFTER_A_PROOF: [Step; 7] = [
 ];
 
 /// A store whose blocks that waited were settled by a proof.
-fn settled(alloc: Global) -> Result<Fixture, Fail> {
+fn settled(alloc: Global) -> Result<Fixture<Plain>, Fail> {
     let f = three_missing(alloc, 49152)?;
     after(alloc, f, &SETTLED_BY_A_PROOF)
 }
 
 /// The same once other blocks came, and what is on the disk was restored.
-fn restored(alloc: Global) -> Result<Fixture, Fail> {
+fn restored(alloc: Global) -> Result<Fixture<Plain>, Fail> {
     let f = settled(alloc)?;
     after(alloc, f, &DECIDED_AFTER_A_PROOF)
 }
@@ -304,22 +311,63 @@ fn known_leaves_decide_on_blocks_that_come(rt: HostRuntime) -> Result<(), Fail> 
     expect(rt.alloc(), f, &DECIDED_BY_LEAVES)
 }
 
-/// A store of the three blocks whose device changes a bit of its second call, which reads the first block.
-fn three_flipped(alloc: Global) -> Result<Fixture, Fail> {
-    three_blocks(alloc, zeros(alloc, 49152)?.flipping(2, 0))
+/// A store of the three blocks whose device changes a bit of its second call, which reads the first block, and
+/// fails at its third.
+fn three_flipped(alloc: Global) -> Result<Fixture<Plain>, Fail> {
+    let disk = zeros(alloc, 49152)?.flipping(2, 0).failing_once(3);
+    three_blocks(alloc, disk)
 }
 
-const DAMAGED: [Step; 4] = [
+/// The wrong block is not read a second time: the third call is that of `sync`.
+const DAMAGED: [Step; 5] = [
     Step::Learn,
     Step::Put(0, 1, BLOCK_LEN, Ok(Put::Marked)),
     Step::Read(0, Err(ReadError::Damaged)),
     Step::Read(0, Err(ReadError::NotMarked)),
+    Step::Sync(Err(DeviceFault)),
 ];
 
 #[test]
 fn a_changed_bit_is_not_lent(rt: HostRuntime) -> Result<(), Fail> {
     let f = three_flipped(rt.alloc())?;
     expect(rt.alloc(), f, &DAMAGED)
+}
+
+/// What is found of blocks most of which are wrong, by calls 1 to 8: the ninth is that of `sync`.
+const WRONG: [Step; 8] = [
+    Step::Put(0, 1, BLOCK_LEN, Ok(Put::Waiting)),
+    Step::Put(2, 0xff, BLOCK_LEN, Ok(Put::Waiting)),
+    Step::Learn,
+    Step::Settle(
+        0,
+        3,
+        Ok(Settled {
+            marked: 1,
+            freed: 1,
+            faults: 0,
+        }),
+    ),
+    Step::Restore(2, Ok(false)),
+    Step::Adopt(1, 3, 0, 0, 0),
+    Step::Recheck(Rechecked {
+        kept: 0,
+        unmarked: 1,
+        faults: 0,
+    }),
+    Step::Sync(Err(DeviceFault)),
+];
+
+/// A store of the three blocks whose device changes a bit of the first from its eighth call on, and fails at
+/// its ninth.
+fn three_wrong(alloc: Global) -> Result<Fixture<Plain>, Fail> {
+    let disk = zeros(alloc, 49152)?.flipping(8, 0).failing_once(9);
+    three_blocks(alloc, disk)
+}
+
+#[test]
+fn a_wrong_block_is_read_once(rt: HostRuntime) -> Result<(), Fail> {
+    let f = three_wrong(rt.alloc())?;
+    expect(rt.alloc(), f, &WRONG)
 }
 
 /// The digests of a file of zeros.
@@ -342,11 +390,21 @@ impl ZeroFile {
     }
 
     /// A store of the file, of which all leaves are known.
-    fn known(&self, alloc: Global, disk: FaultDisk<MemoryDisk>) -> Result<Fixture, Fail> {
+    fn known<H: NodeHash>(
+        &self,
+        alloc: Global,
+        hash: H,
+        disk: FaultDisk<MemoryDisk>,
+    ) -> Result<Fixture<H>, Fail> {
+        let tree = self.tree(alloc, hash)?;
+        stored(alloc, tree, hash, disk)
+    }
+
+    /// The tree of the file, of which all leaves are known.
+    fn tree<H: NodeHash>(&self, alloc: Global, hash: H) -> Result<SparseTree<H>, Fail> {
         let geometry = Geometry::new(self.length as u64).ok_or("no geometry")?;
         let layer = self.layer(alloc)?;
-        let tree = SparseTree::with_layer(alloc, Plain, geometry, self.root, 0, &layer)?;
-        stored(alloc, tree, disk)
+        Ok(SparseTree::with_layer(alloc, hash, geometry, self.root, 0, &layer)?)
     }
 
     /// The leaves, one behind the other.
@@ -359,8 +417,9 @@ impl ZeroFile {
     }
 
     /// A store of the file on a disk that has it, of which the root alone is known.
-    fn rooted(&self, alloc: Global) -> Result<Fixture, Fail> {
-        rooted(alloc, self.length, self.root, zeros(alloc, self.length)?)
+    fn rooted<H: NodeHash>(&self, alloc: Global, hash: H) -> Result<Fixture<H>, Fail> {
+        let disk = zeros(alloc, self.length)?;
+        rooted(alloc, hash, self.length, self.root, disk)
     }
 }
 
@@ -384,9 +443,9 @@ fn leaves_of(alloc: Global, file: &[u8]) -> Result<Vec<Hash32>, AllocError> {
 
 /// A store of the file of nine blocks whose device changes a bit of its twelfth call, which reads the third
 /// block again.
-fn nine_flipped(alloc: Global) -> Result<Fixture, Fail> {
+fn nine_flipped<H: NodeHash>(alloc: Global, hash: H) -> Result<Fixture<H>, Fail> {
     let disk = zeros(alloc, 131073)?.flipping(12, 40000);
-    ZeroFile::new(alloc, 131073)?.known(alloc, disk)
+    ZeroFile::new(alloc, 131073)?.known(alloc, hash, disk)
 }
 
 const ONE_UNMARKED: [Step; 4] = [
@@ -402,7 +461,13 @@ const ONE_UNMARKED: [Step; 4] = [
 
 #[test]
 fn a_recheck_finds_a_changed_bit(rt: HostRuntime) -> Result<(), Fail> {
-    let f = nine_flipped(rt.alloc())?;
+    let f = nine_flipped(rt.alloc(), Plain)?;
+    expect(rt.alloc(), f, &ONE_UNMARKED)
+}
+
+#[test]
+fn a_recheck_by_lanes_finds_a_changed_bit(rt: HostRuntime) -> Result<(), Fail> {
+    let f = nine_flipped(rt.alloc(), Lanes)?;
     expect(rt.alloc(), f, &ONE_UNMARKED)
 }
 
@@ -419,9 +484,9 @@ fn adopt_zeros(alloc: Global, length: usize, last: u32, rest: usize) -> Result<(
 }
 
 /// A store of the file of so many zeros, on a disk that has it.
-fn known_zeros(alloc: Global, length: usize) -> Result<Fixture, Fail> {
+fn known_zeros(alloc: Global, length: usize) -> Result<Fixture<Plain>, Fail> {
     let disk = zeros(alloc, length)?;
-    ZeroFile::new(alloc, length)?.known(alloc, disk)
+    ZeroFile::new(alloc, length)?.known(alloc, Plain, disk)
 }
 
 #[test]
@@ -451,18 +516,29 @@ fn a_file_is_adopted_by_its_root(rt: HostRuntime) -> Result<(), Fail> {
     expect(rt.alloc(), f, &ADOPTED)
 }
 
-const NOT_ADOPTED: [Step; 2] = [Step::Adopt(0, 3, 2, 0, 0), Step::Marked(0)];
+/// By calls 1 to 3: the fourth is that of `sync`.
+const NOT_ADOPTED: [Step; 3] = [
+    Step::Adopt(0, 3, 2, 0, 0),
+    Step::Marked(0),
+    Step::Sync(Err(DeviceFault)),
+];
+
+/// A store of the three blocks on a disk of so many zeros, which fails at its fourth call.
+fn three_others(alloc: Global, length: usize) -> Result<Fixture<Plain>, Fail> {
+    three_blocks(alloc, zeros(alloc, length)?.failing_once(4))
+}
 
 #[test]
 fn other_bytes_are_not_adopted(rt: HostRuntime) -> Result<(), Fail> {
-    let f = three_missing(rt.alloc(), 49152)?;
+    let f = three_others(rt.alloc(), 49152)?;
     expect(rt.alloc(), f, &NOT_ADOPTED)
 }
 
-/// A store of the three blocks whose disk has them, and changes a bit of the second from its second call on,
-/// which reads it.
-fn three_there_flipped(alloc: Global) -> Result<Fixture, Fail> {
-    three_blocks(alloc, filled(alloc)?.flipping(2, 16384))
+/// A store of the three blocks whose disk has them, changes a bit of the second from its second call on, which
+/// reads it, and fails at its fourth.
+fn three_there_flipped(alloc: Global) -> Result<Fixture<Plain>, Fail> {
+    let disk = filled(alloc)?.flipping(2, 16384).failing_once(4);
+    three_blocks(alloc, disk)
 }
 
 #[test]
@@ -473,20 +549,20 @@ fn right_bytes_read_with_a_changed_bit_are_not_adopted(rt: HostRuntime) -> Resul
 
 #[test]
 fn a_short_disk_is_not_adopted(rt: HostRuntime) -> Result<(), Fail> {
-    let f = three_missing(rt.alloc(), 100)?;
+    let f = three_others(rt.alloc(), 100)?;
     expect(rt.alloc(), f, &NOT_ADOPTED)
 }
 
 /// The store of a file of 65 blocks that was adopted by its root.
-fn many_adopted(alloc: Global) -> Result<Fixture, Fail> {
-    let mut f = ZeroFile::new(alloc, 1048577)?.rooted(alloc)?;
+fn many_adopted<H: NodeHash>(alloc: Global, hash: H) -> Result<Fixture<H>, Fail> {
+    let mut f = ZeroFile::new(alloc, 1048577)?.rooted(alloc, hash)?;
     if !adopts_many(&mut f) {
         return Err("not adopted")?;
     }
     Ok(f)
 }
 
-fn adopts_many(f: &mut Fixture) -> bool {
+fn adopts_many<H: NodeHash>(f: &mut Fixture<H>) -> bool {
     let adopted = Adopted {
         next: 65,
         anchor: 7,
@@ -498,18 +574,32 @@ fn adopts_many(f: &mut Fixture) -> bool {
 
 /// Whether the digests are the leaf of one zero byte and its uncles, of which all but the last are padding.
 fn are_uncles(digests: &[Hash32], last: Option<Hash32>) -> bool {
-    digests.len() == 8
-        && digests.get(0).copied() == Some(Plain.block(&[0]))
-        && digests.get(1).copied() == Some([0; 32])
-        && digests.get(2).copied() == Some(pad(Plain, 1))
-        && digests.get(6).copied() == Some(pad(Plain, 5))
-        && digests.get(7).copied() == last
+    let [leaf, zeros, uncles @ ..] = digests else {
+        return false;
+    };
+    *leaf == Plain.block(&[0]) && *zeros == [0; 32] && are_padding(uncles, last)
+}
+
+/// Whether these are the padding of layers 1 to 5, and then the last uncle.
+fn are_padding(uncles: &[Hash32], last: Option<Hash32>) -> bool {
+    for layer in 1..6u8 {
+        if uncles.get(layer as usize - 1).copied() != Some(pad(Plain, layer)) {
+            return false;
+        }
+    }
+    uncles.len() == 6 && uncles.get(5).copied() == last
+}
+
+/// Whether the adopted file answers with uncles.
+fn answers_with_uncles<H: NodeHash>(alloc: Global, hash: H) -> Result<bool, Fail> {
+    let f = many_adopted(alloc, hash)?;
+    let digests = f.answer(64, 6)?;
+    Ok(are_uncles(&digests, f.known(6, 0)))
 }
 
 #[test]
 fn an_adopted_file_answers_with_uncles(rt: HostRuntime) -> Result<(), Fail> {
-    let f = many_adopted(rt.alloc())?;
-    let digests = f.answer(64, 6)?;
-    assert!(rt; are_uncles(&digests, f.known(6, 0)));
+    assert!(rt; answers_with_uncles(rt.alloc(), Plain)?);
+    assert!(rt; answers_with_uncles(rt.alloc(), Lanes)?);
     Ok(())
 }

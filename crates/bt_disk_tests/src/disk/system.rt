@@ -1,12 +1,11 @@
 //! A system that stands in for the host's, of which calls may fail or do a part of what they are asked for.
 
-use super::tools::{confirm, path_in};
-use std::alloc::{Allocator, Global};
+use std::alloc::Allocator;
 use std::cell::Cell;
-use std::fs::{self, File, Metadata, OpenFile, OpenOptions};
+use std::fs::{File, Metadata, OpenFile, OpenOptions};
 use std::io::{self, ErrorKind, Read, Seek, SeekFrom, Write};
+use std::path::PathBuf;
 use std::rt::Files;
-use std::test::Fail;
 
 /// What the system makes of calls.
 #[derive(Clone, Copy, PartialEq, Eq)]
@@ -25,42 +24,96 @@ pub enum Manner {
     Broken,
 }
 
-/// How many calls were made of a system.
+/// Calls of a system.
+#[derive(Clone, Copy, PartialEq, Eq)]
+pub struct Calls {
+    /// Files that were opened, and how many of these to be written.
+    pub opened: u32,
+    pub opened_to_write: u32,
+    /// Looks at a path.
+    pub looks: u32,
+    /// Reads and writes of open files; and all other calls of them.
+    pub moves: u32,
+    pub other: u32,
+}
+
+impl Calls {
+    pub const NONE: Calls = Calls {
+        opened: 0,
+        opened_to_write: 0,
+        looks: 0,
+        moves: 0,
+        other: 0,
+    };
+}
+
+/// Counts of the calls that were made of a system.
 #[derive(Drop)]
 pub struct Counts {
-    /// Files that were opened, and the most that were open at one time.
-    pub opened: Cell<u32>,
-    pub most_open: Cell<u32>,
+    calls: Cell<Calls>,
+    /// Files that are open, and the most that were at one time.
     open: Cell<u32>,
-    /// Reads and writes; and all other calls of open files, with looks at a path.
-    pub moves: Cell<u32>,
-    pub other: Cell<u32>,
+    most_open: Cell<u32>,
 }
 
 impl Counts {
     pub fn new() -> Counts {
         Counts {
-            opened: Cell::new(0),
-            most_open: Cell::new(0),
+            calls: Cell::new(Calls::NONE),
             open: Cell::new(0),
-            moves: Cell::new(0),
-            other: Cell::new(0),
+            most_open: Cell::new(0),
         }
     }
 
-    /// How many calls were made since this was last asked: files that were opened, other calls, and reads and
-    /// writes.
-    pub fn taken(&self) -> (u32, u32, u32) {
-        (
-            self.opened.replace(0),
-            self.other.replace(0),
-            self.moves.replace(0),
-        )
+    /// The calls that were made since this was last asked.
+    pub fn taken(&self) -> Calls {
+        self.calls.replace(Calls::NONE)
     }
-}
 
-fn count(cell: &Cell<u32>) {
-    cell.set(cell.get().wrapping_add(1));
+    /// The most files that were open at one time.
+    pub fn most_open(&self) -> u32 {
+        self.most_open.get()
+    }
+
+    fn open_one(&self, to_write: bool) {
+        let calls = self.calls.get();
+        self.calls.set(Calls {
+            opened: calls.opened.wrapping_add(1),
+            opened_to_write: calls.opened_to_write.wrapping_add(to_write as u32),
+            ..calls
+        });
+        let open = self.open.get().wrapping_add(1);
+        self.open.set(open);
+        self.most_open.set(self.most_open.get().max(open));
+    }
+
+    fn close_one(&self) {
+        self.open.set(self.open.get().wrapping_sub(1));
+    }
+
+    fn look(&self) {
+        let calls = self.calls.get();
+        self.calls.set(Calls {
+            looks: calls.looks.wrapping_add(1),
+            ..calls
+        });
+    }
+
+    /// Counts a read or write, and gives its number.
+    fn move_bytes(&self) -> u32 {
+        let calls = self.calls.get();
+        let moves = calls.moves.wrapping_add(1);
+        self.calls.set(Calls { moves, ..calls });
+        moves
+    }
+
+    fn call(&self) {
+        let calls = self.calls.get();
+        self.calls.set(Calls {
+            other: calls.other.wrapping_add(1),
+            ..calls
+        });
+    }
 }
 
 /// The host's system, with a manner and counts of its own.
@@ -69,14 +122,6 @@ pub struct System<'a> {
     pub host: &'a HostRuntime,
     pub manner: Manner,
     pub counts: &'a Counts,
-}
-
-impl Alloc for System<'_> {
-    type A = Global;
-
-    fn alloc(&self) -> Global {
-        self.host.alloc()
-    }
 }
 
 impl<'a> Files for System<'a> {
@@ -90,10 +135,7 @@ impl<'a> Files for System<'a> {
         }
         let file = self.host.open_file(how, path)?;
         let full = OpenOptions::new().write(true).open(self.host, "/dev/full")?;
-        count(&self.counts.opened);
-        count(&self.counts.open);
-        let most = self.counts.most_open.get().max(self.counts.open.get());
-        self.counts.most_open.set(most);
+        self.counts.open_one(how.asks_write());
         Ok(SystemFile {
             file,
             full,
@@ -107,7 +149,7 @@ impl<'a> Files for System<'a> {
     }
 
     fn metadata(&self, path: &str) -> io::Result<Metadata> {
-        count(&self.counts.other);
+        self.counts.look();
         self.host.metadata(path)
     }
 
@@ -138,6 +180,14 @@ impl<'a> Files for System<'a> {
     fn remove_dir_all<B: Allocator>(&self, alloc: B, path: &str) -> io::Result<()> {
         self.host.remove_dir_all(alloc, path)
     }
+
+    fn canonicalize<B: Allocator>(&self, alloc: B, path: &str) -> io::Result<PathBuf<B>> {
+        self.host.canonicalize(alloc, path)
+    }
+
+    fn read_link<B: Allocator>(&self, alloc: B, path: &str) -> io::Result<PathBuf<B>> {
+        self.host.read_link(alloc, path)
+    }
 }
 
 /// An open file of the system.
@@ -151,8 +201,7 @@ pub struct SystemFile<'a> {
 
 impl Drop for SystemFile<'_> {
     fn drop(self) {
-        let open = &self.counts.open;
-        open.set(open.get().wrapping_sub(1));
+        self.counts.close_one();
         let SystemFile {
             file: _,
             full: _,
@@ -165,7 +214,7 @@ impl Drop for SystemFile<'_> {
 impl SystemFile<'_> {
     /// Counts a call, which fails where the system is broken.
     fn other_call(&self) -> io::Result<()> {
-        count(&self.counts.other);
+        self.counts.call();
         if self.manner == Manner::Broken {
             return Err(io::Error::from(ErrorKind::Other));
         }
@@ -174,8 +223,7 @@ impl SystemFile<'_> {
 
     /// Counts a read or write of so many bytes, and says how many it moves.
     fn moved(&self, wanted: usize) -> io::Result<usize> {
-        count(&self.counts.moves);
-        let number = self.counts.moves.get();
+        let number = self.counts.move_bytes();
         match self.manner {
             Manner::Parts if number % 2 == 1 => Err(io::Error::from(ErrorKind::Interrupted)),
             Manner::ReadFaults if number % 3 == 0 => Err(io::Error::from(ErrorKind::Other)),
@@ -209,7 +257,7 @@ impl Write for SystemFile<'_> {
 impl Seek for SystemFile<'_> {
     fn seek(&mut self, to: SeekFrom) -> io::Result<u64> {
         match to {
-            SeekFrom::End(_) => count(&self.counts.other),
+            SeekFrom::End(_) => self.counts.call(),
             _ => self.other_call()?,
         }
         self.file.seek(to)
@@ -219,7 +267,7 @@ impl Seek for SystemFile<'_> {
 impl OpenFile for SystemFile<'_> {
     fn metadata(&self) -> io::Result<Metadata> {
         // A broken system does it too: a file is looked at when it is opened.
-        count(&self.counts.other);
+        self.counts.call();
         self.file.metadata()
     }
 
@@ -237,18 +285,4 @@ impl OpenFile for SystemFile<'_> {
         self.other_call()?;
         self.file.sync_data()
     }
-}
-
-/// The path of a file with these bytes.
-pub fn file_with(rt: &HostRuntime, top: &str, bytes: &[u8]) -> Result<String, Fail> {
-    let path = path_in(rt, top, "file")?;
-    fs::write(rt, path.as_str(), bytes)?;
-    Ok(path)
-}
-
-/// Expects these bytes in a file.
-pub fn expect_file(rt: &HostRuntime, path: &str, bytes: &[u8]) -> Result<(), Fail> {
-    let found = fs::read(rt, path)?;
-    confirm(found.as_slice() == bytes, "other bytes in the file")?;
-    Ok(())
 }

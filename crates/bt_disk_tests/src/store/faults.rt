@@ -6,8 +6,9 @@ use super::{
     Fixture, ZeroFile, block, failing, failing_zeros, filled, leaf, learn, root, rooted,
     three_blocks,
 };
-use crate::{BlockState, Put, ReadError, Rechecked, Settled, StoreError};
 use bt_disk::DeviceFault;
+use bt_lanes::Lanes;
+use bt_store::{BlockState, Put, ReadError, Rechecked, Settled, StoreError};
 use bt_tree::{BLOCK_LEN, Hash32, NodeHash, Plain};
 use std::alloc::{AllocError, Global};
 use std::test::Fail;
@@ -146,19 +147,24 @@ fn image(alloc: Global, k: u64) -> Result<Vec<u8>, AllocError> {
 }
 
 /// Whether the device has these bytes.
-fn has_image(alloc: Global, f: &Fixture, k: u64) -> Result<bool, AllocError> {
+fn has_image(alloc: Global, f: &Fixture<Plain>, k: u64) -> Result<bool, AllocError> {
     let image = image(alloc, k)?;
     Ok(f.bytes() == image.as_slice())
 }
 
 /// A store of the file whose device fails at its k-th call.
-fn short_failing(alloc: Global, leaves: &[Hash32; 4], k: u64) -> Result<Fixture, Fail> {
+fn short_failing(alloc: Global, leaves: &[Hash32; 4], k: u64) -> Result<Fixture<Plain>, Fail> {
     let disk = failing_zeros(alloc, SHORT_LEN, k)?;
-    rooted(alloc, SHORT_LEN, root(leaves), disk)
+    rooted(alloc, Plain, SHORT_LEN, root(leaves), disk)
 }
 
 /// Whether all calls have their answers.
-fn is_used(alloc: Global, f: &mut Fixture, leaves: &[Hash32], k: u64) -> Result<bool, AllocError> {
+fn is_used(
+    alloc: Global,
+    f: &mut Fixture<Plain>,
+    leaves: &[Hash32],
+    k: u64,
+) -> Result<bool, AllocError> {
     Ok(
         all_answer(alloc, f, &puts(k))?
             && learn(alloc, f, leaves)?
@@ -190,13 +196,13 @@ const FAILED_ONCE: [Step; 4] = [
 ];
 
 /// Whether the device has the three blocks.
-fn is_filled(alloc: Global, f: &Fixture) -> Result<bool, AllocError> {
+fn is_filled(alloc: Global, f: &Fixture<Plain>) -> Result<bool, AllocError> {
     let disk = filled(alloc)?;
     Ok(f.bytes() == disk.inner().bytes())
 }
 
 /// A store of the three blocks whose device has them and fails at its k-th call.
-fn there_failing(alloc: Global, k: u64) -> Result<Fixture, Fail> {
+fn there_failing(alloc: Global, k: u64) -> Result<Fixture<Plain>, Fail> {
     let disk = failing(filled(alloc)?, k)?;
     three_blocks(alloc, disk)
 }
@@ -244,7 +250,7 @@ fn second_round(k: u64) -> [Step; 5] {
 }
 
 /// The first block that is not marked, or that is not missing where it was lost.
-fn wrong_state(f: &Fixture, blocks: u32, lost: u64) -> Option<u32> {
+fn wrong_state<H: NodeHash>(f: &Fixture<H>, blocks: u32, lost: u64) -> Option<u32> {
     for number in 0..blocks {
         if f.state(number) != Some(state_of(u64::from(number) == lost)) {
             return Some(number);
@@ -254,14 +260,24 @@ fn wrong_state(f: &Fixture, blocks: u32, lost: u64) -> Option<u32> {
 }
 
 /// A store of the file whose device has it and fails at its k-th call.
-fn known_failing(alloc: Global, file: &ZeroFile, k: u64) -> Result<Fixture, Fail> {
+fn known_failing<H: NodeHash>(
+    alloc: Global,
+    hash: H,
+    file: &ZeroFile,
+    k: u64,
+) -> Result<Fixture<H>, Fail> {
     let disk = failing_zeros(alloc, file.length, k)?;
-    file.known(alloc, disk)
+    file.known(alloc, hash, disk)
 }
 
 /// The nine blocks are adopted, checked and adopted again, where the k-th call of the device fails.
-fn adopts_known(alloc: Global, file: &ZeroFile, k: u64) -> Result<bool, Fail> {
-    let mut f = known_failing(alloc, file, k)?;
+fn adopts_known<H: NodeHash>(
+    alloc: Global,
+    hash: H,
+    file: &ZeroFile,
+    k: u64,
+) -> Result<bool, Fail> {
+    let mut f = known_failing(alloc, hash, file, k)?;
     Ok(
         all_answer(alloc, &mut f, &first_round(k))?
             && wrong_state(&f, 9, k.saturating_sub(1)).is_none()
@@ -273,8 +289,16 @@ fn adopts_known(alloc: Global, file: &ZeroFile, k: u64) -> Result<bool, Fail> {
 fn each_read_of_known_groups_may_fail(rt: HostRuntime) -> Result<(), Fail> {
     let file = ZeroFile::new(rt.alloc(), 131073)?;
     for k in 1..28u64 {
-        assert!(rt; adopts_known(rt.alloc(), &file, k)?, "call {k}");
+        assert!(rt; adopts_known(rt.alloc(), Plain, &file, k)?, "call {k}");
     }
+    Ok(())
+}
+
+/// The first group is checked again by calls 10 to 17.
+#[test]
+fn a_read_of_a_group_that_lanes_digest_may_fail(rt: HostRuntime) -> Result<(), Fail> {
+    let file = ZeroFile::new(rt.alloc(), 131073)?;
+    assert!(rt; adopts_known(rt.alloc(), Lanes, &file, 12)?);
     Ok(())
 }
 
@@ -290,13 +314,17 @@ const EIGHT_WAIT: [Step; 8] = [
 ];
 
 /// A store of the file of which the root alone is known, and whose device fails at its k-th call.
-fn rooted_failing(alloc: Global, file: &ZeroFile, k: u64) -> Result<Fixture, Fail> {
+fn rooted_failing(alloc: Global, file: &ZeroFile, k: u64) -> Result<Fixture<Plain>, Fail> {
     let disk = failing_zeros(alloc, file.length, k)?;
-    rooted(alloc, file.length, file.root, disk)
+    rooted(alloc, Plain, file.length, file.root, disk)
 }
 
 /// Eight blocks are put, by calls 1 to 8, and their leaves become known.
-fn eight_wait(alloc: Global, f: &mut Fixture, leaves: &[Hash32]) -> Result<bool, AllocError> {
+fn eight_wait(
+    alloc: Global,
+    f: &mut Fixture<Plain>,
+    leaves: &[Hash32],
+) -> Result<bool, AllocError> {
     Ok(all_answer(alloc, f, &EIGHT_WAIT)? && learn(alloc, f, leaves)?)
 }
 

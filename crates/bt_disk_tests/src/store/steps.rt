@@ -1,9 +1,9 @@
 //! Calls of a store with their answers, so that an example is a table.
 
 use super::{Fixture, block, leaf, learn, leaves};
-use crate::{Adopted, BlockState, Put, ReadError, Rechecked, Settled, StoreError};
 use bt_disk::DeviceFault;
-use bt_tree::BLOCK_LEN;
+use bt_store::{Adopted, BlockState, Put, ReadError, Rechecked, Settled, StoreError};
+use bt_tree::{BLOCK_LEN, NodeHash};
 use std::alloc::{AllocError, Global};
 use std::test::Fail;
 
@@ -34,13 +34,17 @@ pub enum Step {
 }
 
 /// Makes the calls in turn, and expects each answer.
-pub fn expect(alloc: Global, f: Fixture, steps: &[Step]) -> Result<(), Fail> {
+pub fn expect<H: NodeHash>(alloc: Global, f: Fixture<H>, steps: &[Step]) -> Result<(), Fail> {
     after(alloc, f, steps)?;
     Ok(())
 }
 
 /// The store after the calls, made in turn, of which each answer is expected.
-pub fn after(alloc: Global, f: Fixture, steps: &[Step]) -> Result<Fixture, Fail> {
+pub fn after<H: NodeHash>(
+    alloc: Global,
+    f: Fixture<H>,
+    steps: &[Step],
+) -> Result<Fixture<H>, Fail> {
     let mut f = f;
     let wrong = wrong_step(alloc, &mut f, steps)?;
     match wrong {
@@ -50,9 +54,9 @@ pub fn after(alloc: Global, f: Fixture, steps: &[Step]) -> Result<Fixture, Fail>
 }
 
 /// Makes the calls in turn. The first whose answer is another is told by its place.
-pub fn wrong_step(
+pub fn wrong_step<H: NodeHash>(
     alloc: Global,
-    f: &mut Fixture,
+    f: &mut Fixture<H>,
     steps: &[Step],
 ) -> Result<Option<usize>, AllocError> {
     for (place, step) in steps.iter().enumerate() {
@@ -64,12 +68,16 @@ pub fn wrong_step(
 }
 
 /// Whether each call has its answer.
-pub fn all_answer(alloc: Global, f: &mut Fixture, steps: &[Step]) -> Result<bool, AllocError> {
+pub fn all_answer<H: NodeHash>(
+    alloc: Global,
+    f: &mut Fixture<H>,
+    steps: &[Step],
+) -> Result<bool, AllocError> {
     Ok(wrong_step(alloc, f, steps)?.is_none())
 }
 
 /// Whether a call has its answer.
-fn answers(alloc: Global, f: &mut Fixture, step: Step) -> Result<bool, AllocError> {
+fn answers<H: NodeHash>(alloc: Global, f: &mut Fixture<H>, step: Step) -> Result<bool, AllocError> {
     Ok(match step {
         Step::Put(number, byte, length, answer) => {
             put_filled(alloc, f, number, byte, length)? == Some(answer)
@@ -103,9 +111,9 @@ fn answers(alloc: Global, f: &mut Fixture, step: Step) -> Result<bool, AllocErro
 }
 
 /// Puts a block of one byte over and over.
-fn put_filled(
+fn put_filled<H: NodeHash>(
     alloc: Global,
-    f: &mut Fixture,
+    f: &mut Fixture<H>,
     number: u32,
     byte: u8,
     length: usize,
@@ -115,9 +123,9 @@ fn put_filled(
 }
 
 /// Reads a block into a buffer of its own.
-fn read_alone(
+fn read_alone<H: NodeHash>(
     alloc: Global,
-    f: &mut Fixture,
+    f: &mut Fixture<H>,
     number: u32,
 ) -> Result<Option<Result<usize, ReadError>>, AllocError> {
     let mut out = block(alloc, 0, BLOCK_LEN)?;

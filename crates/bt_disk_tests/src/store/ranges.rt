@@ -2,8 +2,8 @@
 
 use super::steps::{Step, all_answer, expect};
 use super::{Fixture, block, leaf, learn, rooted, three_blocks, three_missing, zeros};
-use crate::{Put, ReadError, Rechecked, Settled, StoreError};
 use bt_disk::DeviceFault;
+use bt_store::{Put, ReadError, Rechecked, Settled, StoreError};
 use bt_tree::{BLOCK_LEN, Hash32, NodeHash, Plain};
 use std::alloc::{AllocError, Global};
 use std::test::Fail;
@@ -61,7 +61,7 @@ const REFUSED: [Step; 17] = [
 ];
 
 /// A store of the three blocks whose device fails at its first call.
-fn three_failing(alloc: Global) -> Result<Fixture, Fail> {
+fn three_failing(alloc: Global) -> Result<Fixture<Plain>, Fail> {
     three_blocks(alloc, zeros(alloc, 0)?.failing_once(1))
 }
 
@@ -103,15 +103,15 @@ fn long_leaves(alloc: Global) -> Result<[Hash32; 2], AllocError> {
 }
 
 /// Its store, on an empty disk.
-fn long_missing(alloc: Global) -> Result<Fixture, Fail> {
+fn long_missing(alloc: Global) -> Result<Fixture<Plain>, Fail> {
     let disk = zeros(alloc, 0)?;
     let leaves = long_leaves(alloc)?;
     let root = Plain.pair(&leaves[0], &leaves[1]);
-    rooted(alloc, BLOCK_LEN + 1, root, disk)
+    rooted(alloc, Plain, BLOCK_LEN + 1, root, disk)
 }
 
 /// Its blocks wait on a device as long as the file, and a proof settles them.
-fn settles_long(alloc: Global, f: &mut Fixture) -> Result<bool, AllocError> {
+fn settles_long(alloc: Global, f: &mut Fixture<Plain>) -> Result<bool, AllocError> {
     if !all_answer(alloc, f, &BOTH_WAIT)? || f.bytes().len() != BLOCK_LEN + 1 {
         return Ok(false);
     }
@@ -120,7 +120,7 @@ fn settles_long(alloc: Global, f: &mut Fixture) -> Result<bool, AllocError> {
 }
 
 /// The one byte of a block.
-fn lone_byte(alloc: Global, f: &mut Fixture, number: u32) -> Result<Option<u8>, AllocError> {
+fn lone_byte(alloc: Global, f: &mut Fixture<Plain>, number: u32) -> Result<Option<u8>, AllocError> {
     let mut out = block(alloc, 0, BLOCK_LEN)?;
     if f.read(number, &mut out) != Some(Ok(1)) {
         return Ok(None);
@@ -137,10 +137,10 @@ fn a_last_block_may_have_one_byte(rt: HostRuntime) -> Result<(), Fail> {
 }
 
 /// A store of a file of two bytes more than a block, on a disk of one byte more than a block.
-fn short_disk(alloc: Global) -> Result<Fixture, Fail> {
+fn short_disk(alloc: Global) -> Result<Fixture<Plain>, Fail> {
     let disk = zeros(alloc, BLOCK_LEN + 1)?;
     let root = Plain.pair(&leaf(alloc, 0)?, &Plain.block(&[0, 0]));
-    rooted(alloc, BLOCK_LEN + 2, root, disk)
+    rooted(alloc, Plain, BLOCK_LEN + 2, root, disk)
 }
 
 const NOT_ADOPTED: [Step; 2] = [Step::Adopt(1, 2, 1, 0, 0), Step::Marked(0)];
@@ -149,4 +149,28 @@ const NOT_ADOPTED: [Step; 2] = [Step::Adopt(1, 2, 1, 0, 0), Step::Marked(0)];
 fn a_disk_that_ends_in_a_short_block_is_not_adopted(rt: HostRuntime) -> Result<(), Fail> {
     let f = short_disk(rt.alloc())?;
     expect(rt.alloc(), f, &NOT_ADOPTED)
+}
+
+/// A store of a file of 2^24 blocks, none of which waits.
+fn large_missing(alloc: Global) -> Result<Fixture<Plain>, Fail> {
+    let disk = zeros(alloc, 0)?;
+    rooted(alloc, Plain, 1 << 38, [1; 32], disk)
+}
+
+/// Whether all blocks are settled many times, with nothing to do.
+fn settles_often(f: &mut Fixture<Plain>) -> bool {
+    for _ in 0..20_000 {
+        if f.settle(0, 1 << 24) != Some(Ok(NOTHING_SETTLED)) {
+            return false;
+        }
+    }
+    true
+}
+
+/// It takes constant time: with a walk over the file for each call, the test would not end within its time.
+#[test]
+fn a_settle_where_nothing_waits_walks_over_no_block(rt: HostRuntime) -> Result<(), Fail> {
+    let mut f = large_missing(rt.alloc())?;
+    assert!(rt; settles_often(&mut f));
+    Ok(())
 }
