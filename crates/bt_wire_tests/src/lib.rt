@@ -1,0 +1,7 @@
+//! Tests of the crates that make and read what goes over the wire. It exports nothing.
+#![tactic(auto)]
+
+#[cfg(test)]
+mod hashreq;
+#[cfg(test)]
+mod sparse;
