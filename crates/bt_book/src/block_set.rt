@@ -1,5 +1,6 @@
 ghost use Rattle.std.specs.Prelude.{◌≡◌, ◌≢◌, ℕ, ◌+◌, ◌^◌, ◌<◌, ◌≤◌, true, false, Bool, List, length, map, replicate, slice_index_or, IfSome, IfNone, IfOk, IsTrue, ◌↔◌};
-ghost use Rattle.bt_book.specs.Blocks.{Blocks, member, IsInRange, with_block, IsLeast, HasNone, IsLeastIn, HasNoneIn};
+ghost use Rattle.bt_book.specs.BitSet.{IsNext, HasNoneFrom};
+ghost use Rattle.bt_book.specs.Blocks.{Blocks, member, IsInRange, with_block, IsBefore, IsLeast, HasNone, IsFirst, HasNoFirst, GivesFirst};
 
 use crate::bit_set::BitSet;
 use crate::names::BlockId;
@@ -11,7 +12,7 @@ use std::marker::Model;
 pub(crate) struct BlockSet {
     /// The blocks of each file.
     files: Vec<BitSet>,
-    /// The files that may have a member: where a file is not in it, none of its blocks is.
+    /// The files that have a member.
     filled: BitSet,
 }
 
@@ -73,41 +74,66 @@ impl BlockSet {
         }
     }
 
-    /// The least member of which `has` says that it holds.
-    pub fn least<F: Fn(BlockId) -> bool>(&self, has: &F) -> Option<BlockId>
-        requires { (block : BlockId) → IsInRange self.now block → F.pre has.now block }
-        ensures some { IfSome result (IsLeast (F.post has.now) self.now) }
-        ensures none { IfNone result (HasNone (F.post has.now) self.now) }
+    /// The first member from a block on.
+    pub fn next(&self, from: BlockId) -> Option<BlockId>
+        ensures some { IfSome result (IsFirst (member self.now) from) }
+        ensures none { IfNone result (HasNoFirst (member self.now) from) }
     {
-        let mut from = 0;
-        while let Some(file) = self.filled.next(from) {
-            if let Some(block) = least_in(&self.files[file], file as u32, has) {
+        let first = from.file as usize;
+        if first >= self.files.len() {
+            return None;
+        }
+        if let Some(block) = next_in(&self.files[first], from.file, from.block as usize) {
+            return Some(block);
+        }
+        let Some(file) = self.filled.next(first + 1) else {
+            return None;
+        };
+        next_in(&self.files[file], file as u32, 0)
+    }
+
+    /// The least member at which `next` gives that very block. It leaps from a member to what `next` gives there,
+    /// and from that to the next member.
+    pub fn least<F: Fn(BlockId) -> Option<BlockId>>(&self, next: &F) -> Option<BlockId>
+        requires { (block : BlockId) → IsInRange self.now block → F.pre next.now block }
+        ensures among { IfSome result (λ b. member self.now b ≡ true) }
+        ensures some { IfSome result (λ b. (has : BlockId → Bool) → GivesFirst (F.post next.now) self.now has
+            → IsLeast has self.now b) }
+        ensures none { IfNone result ((has : BlockId → Bool) → GivesFirst (F.post next.now) self.now has
+            → HasNone has self.now) }
+    {
+        let mut from = BlockId { file: 0, block: 0 };
+        while let Some(block) = self.next(from) {
+            let Some(held) = next(block) else {
+                return None;
+            };
+            if !is_before(block, held) {
                 return Some(block);
             }
-            from = file + 1;
+            from = held;
         }
         None
     }
 }
 
-/// The least member of a file's blocks of which `has` says that it holds.
-fn least_in<F: Fn(BlockId) -> bool>(blocks: &BitSet, file: u32, has: &F) -> Option<BlockId>
-    requires short { length blocks.now < 2 ^ 32 }
-    requires callable { (block : BlockId) → block.file ≡ file → block.block < length blocks.now
-        → F.pre has.now block }
-    ensures some { IfSome result (IsLeastIn (F.post has.now) blocks.now file) }
-    ensures none { IfNone result (HasNoneIn (F.post has.now) blocks.now file) }
+/// Whether the one stands before the other.
+fn is_before(one: BlockId, other: BlockId) -> bool
+    ensures before { IsTrue result ↔ IsBefore one other }
+    ensures fits { (other.file < 2 ^ 32) × (other.block < 2 ^ 32) }
 {
-    let mut from = 0;
-    while let Some(number) = blocks.next(from) {
-        let block = BlockId {
-            file,
-            block: number as u32,
-        };
-        if has(block) {
-            return Some(block);
-        }
-        from = number + 1;
-    }
-    None
+    one.file < other.file || (one.file == other.file && one.block < other.block)
+}
+
+/// The first member of a file's blocks from a number on.
+fn next_in(blocks: &BitSet, file: u32, from: usize) -> Option<BlockId>
+    requires { length blocks.now < 2 ^ 32 }
+    ensures of { IfSome result (λ b. b.file ≡ file) }
+    ensures some { IfSome result (λ b. IsNext blocks.now from b.block) }
+    ensures none { IfNone result (HasNoneFrom blocks.now from) }
+{
+    let number = blocks.next(from)?;
+    Some(BlockId {
+        file,
+        block: number as u32,
+    })
 }

@@ -1,11 +1,12 @@
 //! Worked examples, the limits, the book beside plain sets on random calls, and the choice of the peers to
 //! serve.
-ghost use Rattle.std.specs.Prelude.{◌≢◌, All};
-ghost use Rattle.std.specs.Bool.{OnTrue};
+ghost use Rattle.std.specs.Prelude.{◌≢◌, ◌≡◌, All, Bool, nat_le, IfSome, IfNone};
+ghost use Rattle.std.specs.Bool.{OnTrue, OnFalse};
+ghost use Rattle.bt_book.specs.Blocks.{IsFirst, HasNoFirst};
+ghost use Rattle.bt_book.specs.Book.{IsLeastUnasked, HasWanted, HasNoneWanted};
 ghost use Rattle.bt_book.specs.Choking.{HaveOwnKeys};
 
-use crate::{BlockId, Book, PeerKey, Standing, choose};
-use arrayvec::ArrayVec;
+use bt_book::{BlockId, Book, PeerKey, Standing, choose};
 use std::alloc::{AllocError, Global};
 use std::process::Abort;
 use std::test::Fail;
@@ -24,10 +25,31 @@ fn done(rt: &impl Abort, book: &mut Book, block: BlockId) {
     book.done(block);
 }
 
+/// A peer that has every block is asked for this one.
+fn is_asked(rt: &impl Abort, book: &mut Book, peer: PeerKey, wanted: BlockId) {
+    let asked = book.ask(peer, |from| Some(from));
+    assert!(rt; asked == Some(wanted), "{asked:?} in place of {wanted:?}");
+}
+
+/// A peer that has every block is asked for nothing.
+fn is_not_asked(rt: &impl Abort, book: &mut Book, peer: PeerKey) {
+    let asked = book.ask(peer, |from| Some(from));
+    assert!(rt; asked == None, "{asked:?}");
+}
+
 /// Blocks are ordered by file, then block, as `ask` goes.
 #[test]
 fn blocks_are_ordered(rt: HostRuntime) {
     assert!(rt; block(0, 9) < block(1, 0) && block(1, 0) < block(1, 1));
+}
+
+/// What comes is asked for no more, and what a lost peer was asked for may be asked again.
+fn comes_and_goes(rt: &impl Abort, book: &mut Book, one: PeerKey, two: PeerKey) {
+    assert!(rt; !book.came(two, block(0, 0)));
+    assert!(rt; book.came(one, block(0, 0)));
+    book.lost(two);
+    done(rt, book, block(0, 0));
+    is_asked(rt, book, one, block(0, 1));
 }
 
 #[test]
@@ -39,42 +61,53 @@ fn request_book(rt: HostRuntime) -> Result<(), Fail> {
     let two = PeerKey(2);
     assert!(rt; book.join(one));
     assert!(rt; book.join(two));
-    assert_eq!(rt; book.ask(one, |_| true), Some(block(0, 0)));
-    assert_eq!(rt; book.ask(two, |_| true), Some(block(0, 1)));
-    assert_eq!(rt; book.ask(one, |_| true), None);
-    assert!(rt; !book.came(two, block(0, 0)));
-    assert!(rt; book.came(one, block(0, 0)));
-    book.lost(two);
-    done(&rt, &mut book, block(0, 0));
-    assert_eq!(rt; book.ask(one, |_| true), Some(block(0, 1)));
+    is_asked(&rt, &mut book, one, block(0, 0));
+    is_asked(&rt, &mut book, two, block(0, 1));
+    is_not_asked(&rt, &mut book, one);
+    comes_and_goes(&rt, &mut book, one, two);
     Ok(())
+}
+
+/// Wants the blocks of a file that stand before this one.
+fn want_all(rt: &impl Abort, book: &mut Book, file: u32, end: u32) {
+    for index in 0..end {
+        want(rt, book, block(file, index));
+    }
+}
+
+/// A peer is asked for ten blocks of file 1, then for six of file 3, and for no more.
+fn is_asked_for_sixteen(rt: &impl Abort, book: &mut Book, peer: PeerKey) {
+    for index in 0..10 {
+        is_asked(rt, book, peer, block(1, index));
+    }
+    for index in 0..6 {
+        is_asked(rt, book, peer, block(3, index));
+    }
+    is_not_asked(rt, book, peer);
+}
+
+/// The first block from one on that a peer has which has file 3 alone.
+fn next_in_file_3(from: BlockId) -> Option<BlockId> {
+    if from.file < 3 {
+        return Some(block(3, 0));
+    }
+    if from.file == 3 { Some(from) } else { None }
 }
 
 /// A peer is asked for 16 blocks at most; one that has not joined for none.
 #[test]
 fn sixteen_pairs(rt: HostRuntime) -> Result<(), Fail> {
     let mut book = Book::new(rt.alloc(), &[0, 10, 0, 10])?;
-    for file in [1, 3] {
-        for index in 0..10 {
-            want(&rt, &mut book, block(file, index));
-        }
-    }
+    want_all(&rt, &mut book, 1, 10);
+    want_all(&rt, &mut book, 3, 10);
     let peer = PeerKey(7);
-    assert_eq!(rt; book.ask(peer, |_| true), None);
+    is_not_asked(&rt, &mut book, peer);
     assert!(rt; book.join(peer));
-    for index in 0..16 {
-        let least = if index < 10 {
-            block(1, index)
-        } else {
-            block(3, index - 10)
-        };
-        assert_eq!(rt; book.ask(peer, |_| true), Some(least));
-    }
-    assert_eq!(rt; book.ask(peer, |_| true), None);
+    is_asked_for_sixteen(&rt, &mut book, peer);
     assert!(rt; book.came(peer, block(1, 3)));
-    assert_eq!(rt; book.ask(peer, |b| b.file == 3), Some(block(3, 6)));
+    assert!(rt; book.ask(peer, |from| next_in_file_3(from)) == Some(block(3, 6)));
     book.choked(peer);
-    assert_eq!(rt; book.ask(peer, |_| true), Some(block(1, 0)));
+    is_asked(&rt, &mut book, peer, block(1, 0));
     Ok(())
 }
 
@@ -104,11 +137,74 @@ fn far_blocks(rt: HostRuntime) -> Result<(), Fail> {
     let peer = PeerKey(1);
     assert!(rt; book.join(peer));
     for index in far {
-        assert_eq!(rt; book.ask(peer, |_| true), Some(block(0, index)));
+        is_asked(&rt, &mut book, peer, block(0, index));
         done(&rt, &mut book, block(0, index));
     }
-    assert_eq!(rt; book.ask(peer, |_| true), Some(block(1, 69)));
-    assert_eq!(rt; book.ask(peer, |_| true), None);
+    is_asked(&rt, &mut book, peer, block(1, 69));
+    is_not_asked(&rt, &mut book, peer);
+    Ok(())
+}
+
+/// The first block from one on that a peer has which has the blocks of each file from this number on.
+fn next_in_rest(first: u32, from: BlockId) -> Option<BlockId>
+    ensures some { IfSome result (IsFirst (λ b. nat_le first b.block) from) }
+    ensures none { IfNone result (HasNoFirst (λ b. nat_le first b.block) from) }
+{
+    if from.block < first {
+        return Some(block(from.file, first));
+    }
+    Some(from)
+}
+
+/// Asks such a peer. Its contract follows from that of `ask`: the closure gives the first block from each on.
+fn ask_for_rest(book: &mut Book, peer: PeerKey, first: u32) -> Option<BlockId>
+    ensures { IfSome result (IsLeastUnasked (λ b. nat_le first b.block) book.old) }
+{
+    book.ask(peer, |from| next_in_rest(first, from))
+}
+
+/// Whether such a peer has a block that is wanted.
+fn wants_rest(book: &Book, first: u32) -> bool
+    ensures yes { OnTrue result (HasWanted (λ b. nat_le first b.block) book.now) }
+    ensures no { OnFalse result (HasNoneWanted (λ b. nat_le first b.block) book.now) }
+{
+    book.wants(|from| next_in_rest(first, from))
+}
+
+/// Of two files whose blocks are all wanted a peer with the last half of each is asked for those of the first
+/// file, then for those of the second.
+#[test]
+fn the_last_half_of_each_file(rt: HostRuntime) -> Result<(), Fail> {
+    let mut book = Book::new(rt.alloc(), &[10, 12])?;
+    want_all(&rt, &mut book, 0, 10);
+    want_all(&rt, &mut book, 1, 12);
+    let peer = PeerKey(1);
+    assert!(rt; book.join(peer));
+    for index in 5..10 {
+        assert!(rt; ask_for_rest(&mut book, peer, 5) == Some(block(0, index)));
+    }
+    for index in 5..12 {
+        assert!(rt; ask_for_rest(&mut book, peer, 5) == Some(block(1, index)));
+    }
+    assert!(rt; ask_for_rest(&mut book, peer, 5) == None);
+    assert!(rt; wants_rest(&book, 5) && wants_rest(&book, 11) && !wants_rest(&book, 12));
+    Ok(())
+}
+
+/// A peer that has no block is asked for none, and has none that is wanted; what is asked for is wanted still.
+#[test]
+fn wanted_of_a_peer(rt: HostRuntime) -> Result<(), Fail> {
+    let mut book = Book::new(rt.alloc(), &[1])?;
+    let peer = PeerKey(1);
+    assert!(rt; book.join(peer));
+    assert!(rt; !book.wants(|from| Some(from)));
+    want(&rt, &mut book, block(0, 0));
+    assert!(rt; book.ask(peer, |_| None) == None);
+    assert!(rt; !book.wants(|_| None));
+    is_asked(&rt, &mut book, peer, block(0, 0));
+    assert!(rt; book.wants(|from| Some(from)));
+    done(&rt, &mut book, block(0, 0));
+    assert!(rt; !book.wants(|from| Some(from)));
     Ok(())
 }
 
@@ -167,13 +263,21 @@ impl Plain {
         is
     }
 
+    /// Whether a block is wanted that the peer has.
+    fn wants(&self, peer: u64) -> bool {
+        self.wanted.iter().any(|block| has(peer, *block))
+    }
+
+    fn may_be_asked(&self, block: BlockId) -> bool {
+        self.wanted.contains(&block) && !self.pairs.iter().any(|pair| pair.1 == block)
+    }
+
     /// The least wanted block that the peer has and that is in no pair.
     fn least(&self, peer: u64) -> Option<BlockId> {
         for (file, count) in [(0, 5), (1, 0), (2, 70), (3, 3)] {
             for index in 0..count {
                 let block = block(file, index);
-                let asked = self.pairs.iter().any(|pair| pair.1 == block);
-                if self.wanted.contains(&block) && !asked && has(peer, block) {
+                if self.may_be_asked(block) && has(peer, block) {
                     return Some(block);
                 }
             }
@@ -199,6 +303,19 @@ fn has(peer: u64, block: BlockId) -> bool {
     peer % 2 == 0 || u64::from(block.file ^ block.block) % 3 != peer % 3
 }
 
+/// The first block from one on that such a peer has.
+fn next_held(peer: u64, from: BlockId) -> Option<BlockId> {
+    for (file, count) in [(0, 5), (1, 0), (2, 70), (3, 3)] {
+        for index in 0..count {
+            let block = block(file, index);
+            if from <= block && has(peer, block) {
+                return Some(block);
+            }
+        }
+    }
+    None
+}
+
 /// The numbers of a linear congruential generator, by their upper bits.
 #[derive(Drop)]
 struct Random(u64);
@@ -212,6 +329,35 @@ impl Random {
         let high = (self.0 >> 33) as u32;
         if limit == 0 { 0 } else { high % limit }
     }
+
+    /// A block of the files of the test.
+    fn block(&mut self) -> BlockId {
+        let (file, count) = [(0, 5), (2, 70), (3, 3)][self.below(3) as usize % 3];
+        block(file, self.below(count))
+    }
+}
+
+fn join_both(
+    rt: &impl Abort,
+    key: u64,
+    book: &mut Book,
+    plain: &mut Plain,
+) -> Result<(), AllocError> {
+    let joins = plain.join(key)?;
+    assert!(rt; book.join(PeerKey(key)) == joins, "join {key}");
+    Ok(())
+}
+
+fn ask_both(
+    rt: &impl Abort,
+    key: u64,
+    book: &mut Book,
+    plain: &mut Plain,
+) -> Result<(), AllocError> {
+    let wanted = plain.ask(key)?;
+    let asked = book.ask(PeerKey(key), |from| next_held(key, from));
+    assert!(rt; asked == wanted, "ask {key}");
+    Ok(())
 }
 
 /// One random call of each, whose answers have to be the same.
@@ -223,10 +369,9 @@ fn step(
 ) -> Result<(), AllocError> {
     let key = u64::from(random.below(70));
     let peer = PeerKey(key);
-    let at = [(0, 5), (2, 70), (3, 3)][random.below(3) as usize % 3];
-    let target = block(at.0, random.below(at.1));
+    let target = random.block();
     match random.below(16) {
-        0..=1 => assert_eq!(rt; book.join(peer), plain.join(key)?, "join {key}"),
+        0..=1 => join_both(rt, key, book, plain)?,
         2 => {
             book.lost(peer);
             plain.lost(key);
@@ -244,16 +389,10 @@ fn step(
             plain.done(target);
         }
         9..=10 => {
-            assert_eq!(rt;
-                book.came(peer, target),
-                plain.came(key, target),
-                "came {key} {target:?}"
-            );
+            let came = plain.came(key, target);
+            assert!(rt; book.came(peer, target) == came, "came {key} {target:?}");
         }
-        _ => {
-            let asked = book.ask(peer, |block| has(key, block));
-            assert_eq!(rt; asked, plain.ask(key)?, "ask {key}");
-        }
+        _ => ask_both(rt, key, book, plain)?,
     }
     Ok(())
 }
@@ -263,8 +402,10 @@ fn as_plain_sets(rt: HostRuntime) -> Result<(), Fail> {
     let mut random = Random(1);
     let mut book = Book::new(rt.alloc(), &FILES)?;
     let mut plain = Plain::new(rt.alloc());
-    for _ in 0..6_000 {
+    for key in 0..6_000 {
         step(&rt, &mut random, &mut book, &mut plain)?;
+        let wants = book.wants(|from| next_held(key % 70, from));
+        assert!(rt; wants == plain.wants(key % 70), "wants {key}");
     }
     Ok(())
 }
@@ -292,9 +433,11 @@ fn is_new(standings: &[Standing], peer: PeerKey) -> bool
     true
 }
 
-fn choice(rt: &impl Abort, standings: &[Standing], turn: u64) -> ArrayVec<PeerKey, 4> {
+/// These peers are served.
+fn are_served(rt: &impl Abort, standings: &[Standing], turn: u64, wanted: &[PeerKey]) {
     assert!(rt; apart(standings));
-    choose(standings, turn)
+    let chosen = choose(standings, turn);
+    assert!(rt; chosen.as_slice() == wanted, "turn {turn}");
 }
 
 fn standing(peer: u64, interested: bool, bytes: u64) -> Standing {
@@ -313,36 +456,25 @@ fn five_interested(rt: HostRuntime) {
         key, true, bytes,
     ));
     for (turn, fourth) in [(0, 4), (1, 5), (2, 4), (u64::MAX, 5)] {
-        let keys = [1, 2, 3, fourth].map(PeerKey);
-        assert_eq!(rt;
-            choice(&rt, &five, turn).as_slice(),
-            keys.as_slice(),
-            "turn {turn}"
-        );
+        are_served(&rt, &five, turn, &[1, 2, 3, fourth].map(PeerKey));
     }
     let ties = [9, 8, 7, 6, 5].map(|key| standing(key, true, 1));
-    assert_eq!(rt;
-        choice(&rt, &ties, 1).as_slice(),
-        [5, 6, 7, 9].map(PeerKey).as_slice()
-    );
+    are_served(&rt, &ties, 1, &[5, 6, 7, 9].map(PeerKey));
 }
 
 /// Of none, and of peers none of whom is interested, none is served; of two interested ones both are,
 /// whatever the turn.
 #[test]
 fn few_interested(rt: HostRuntime) {
-    assert_eq!(rt; choice(&rt, &[], 3).len(), 0);
+    are_served(&rt, &[], 3, &[]);
     let none = [standing(1, false, 9), standing(2, false, 8)];
-    assert_eq!(rt; choice(&rt, &none, 1).len(), 0);
+    are_served(&rt, &none, 1, &[]);
     let two = [
         standing(8, true, 0),
         standing(2, false, 8),
         standing(3, true, 9),
     ];
-    assert_eq!(rt;
-        choice(&rt, &two, 1).as_slice(),
-        [3, 8].map(PeerKey).as_slice()
-    );
+    are_served(&rt, &two, 1, &[3, 8].map(PeerKey));
 }
 
 /// Of 64 peers those with the keys 61, 62 and 63 have most bytes; 61 are left, and 2^64 - 1 is 15 modulo 61.
@@ -353,12 +485,7 @@ fn sixty_four(rt: HostRuntime) -> Result<(), Fail> {
         all.push(standing(key, true, key))?;
     }
     for (turn, other) in [(0, 0), (60, 60), (61, 0), (u64::MAX, 15)] {
-        let keys = [other, 61, 62, 63].map(PeerKey);
-        assert_eq!(rt;
-            choice(&rt, &all, turn).as_slice(),
-            keys.as_slice(),
-            "turn {turn}"
-        );
+        are_served(&rt, &all, turn, &[other, 61, 62, 63].map(PeerKey));
     }
     Ok(())
 }
