@@ -92,8 +92,8 @@ impl BlockSet {
         next_in(&self.files[file], file as u32, 0)
     }
 
-    /// The least member at which `next` gives that very block. It leaps from a member to what `next` gives there,
-    /// and from that to the next member.
+    /// The least member at which `next` gives that very block. It leaps from a member to what `next` gives
+    /// there, and from that to the next member.
     pub fn least<F: Fn(BlockId) -> Option<BlockId>>(&self, next: &F) -> Option<BlockId>
         requires { (block : BlockId) → IsInRange self.now block → F.pre next.now block }
         ensures among { IfSome result (λ b. member self.now b ≡ true) }

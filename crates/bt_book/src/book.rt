@@ -135,7 +135,8 @@ impl Book {
     pub fn done(&mut self, block: BlockId)
         requires { IsInRange self.old.wanted block }
         ensures now { self.new ≡ with_done self.old block }
-        ensures asked { (peer : PeerKey) → asked_of self.new peer ≡ without_block block (asked_of self.old peer) }
+        ensures asked { (peer : PeerKey)
+            → asked_of self.new peer ≡ without_block block (asked_of self.old peer) }
     {
         if !self.wanted.contains(block) {
             return;
@@ -149,18 +150,19 @@ impl Book {
     }
 
     /// Asks a peer for the least wanted block that the peer has and that no peer is asked for: the two are a
-    /// pair from now on. None where there is no such block, where the peer is asked for 16, and where it has not
-    /// joined; nothing changes then.
+    /// pair from now on. None where there is no such block, where the peer is asked for 16, and where it has
+    /// not joined; nothing changes then.
     ///
-    /// What the peer has is told by `next`: at each block of the torrent it gives the first one, from there on,
-    /// that the peer has. It is called once for each time that the peer's blocks and those that may be asked
-    /// alternate.
+    /// What the peer has is told by `next`: at each block of the torrent it gives the first one, from there
+    /// on, that the peer has. It is called once for each time that the peer's blocks and those that may be
+    /// asked alternate.
     pub fn ask<F: Fn(BlockId) -> Option<BlockId>>(&mut self, peer: PeerKey, next: F) -> Option<BlockId>
         requires { (block : BlockId) → IsInRange self.old.wanted block → F.pre next block }
         ensures least { IfSome result (λ block. (has : BlockId → Bool)
             → GivesFirst (F.post next) self.old.wanted has → IsLeastUnasked has self.old block) }
         ensures now { IfSome result (λ block. self.new ≡ with_pair self.old peer block) }
-        ensures asked { IfSome result (λ block. asked_of self.new peer ≡ asked_of self.old peer ++ block ∷ []) }
+        ensures asked { IfSome result (λ block.
+            asked_of self.new peer ≡ asked_of self.old peer ++ block ∷ []) }
         ensures others { KeepsOthers self.old self.new peer }
         ensures joined { OnSome result (IsJoined self.old peer) }
         ensures room { OnSome result (length (asked_of self.old peer) < max_requests) }

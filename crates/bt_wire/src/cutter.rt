@@ -99,7 +99,7 @@ impl Cutter {
     }
 }
 
-/// Leaves out the first `start` bytes where they are no fewer than the others. Returns where these begin.
+/// Leaves out the first `start` bytes where they are no fewer than the others. Returns where the others begin.
 fn drop_taken(bytes: &mut Vec<u8>, start: usize) -> usize
     requires { start ≤ length bytes.old.items }
     ensures same { drop result bytes.new.items ≡ drop start bytes.old.items }

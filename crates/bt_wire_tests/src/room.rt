@@ -1,5 +1,5 @@
-//! How much memory a cutter keeps, by the bounds of its crate's page: room for at most 131,072 bytes, or for less
-//! than four times the unread ones, whichever is more.
+//! How much memory a cutter keeps, by the bounds of its crate's page: room for at most 131,072 bytes, or for
+//! less than four times the unread ones, whichever is more.
 
 use bt_wire::{Cutter, Handshake, WireEvent, write_handshake};
 use std::alloc::{AllocError, Global};
@@ -21,6 +21,14 @@ fn greeted(rt: &impl Abort, alloc: Global) -> Result<Cutter, Fail> {
 fn unknown(alloc: Global, field: u32) -> Result<Vec<u8>, AllocError> {
     let mut bytes = Vec::from_slice(alloc, &field.to_be_bytes())?;
     bytes.resize(4 + field as usize, 9)?;
+    Ok(bytes)
+}
+
+/// Such a frame of 1,024 bytes without its first byte, and behind it the first byte of the next one.
+fn turned(alloc: Global) -> Result<Vec<u8>, AllocError> {
+    let mut bytes = Vec::from_slice(alloc, &[0, 3, 0xfc])?;
+    bytes.resize(1_023, 9)?;
+    bytes.push(0)?;
     Ok(bytes)
 }
 
@@ -61,16 +69,15 @@ fn room_goes_with_the_unread_bytes(rt: HostRuntime) -> Result<(), Fail> {
     Ok(())
 }
 
-/// A frame comes with the first byte of the next one, again and again, so that one byte is always unread. What is
-/// held is then at most twice the unread bytes, so memory does not grow.
+/// A frame comes with the first byte of the next one, again and again, so that one byte is always unread. What
+/// is held is then at most twice the unread bytes, so memory does not grow.
 #[test]
 fn taken_bytes_are_dropped_behind_a_cut_frame(rt: HostRuntime) -> Result<(), Fail> {
     let mut cutter = greeted(&rt, rt.alloc())?;
-    let mut frame = unknown(rt.alloc(), 1_020)?;
-    frame.rotate_left(1);
+    let turned = turned(rt.alloc())?;
     cutter.feed(&[0])?;
     for _ in 0..1_000 {
-        cutter.feed(&frame)?;
+        cutter.feed(&turned)?;
         assert!(rt; cutter.room() < 4 * 1_025);
         assert!(rt; is_unknown(&mut cutter));
         assert!(rt; matches!(cutter.next(), Ok(None)));
