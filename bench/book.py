@@ -1,6 +1,6 @@
 #!/usr/bin/env python3
 """Times a request book: a file of 2^20 to 2^23 blocks, each asked once of one of 64 peers and then done; and in a file of 2^16, 2^20
-and 2^26 wanted blocks what one `ask` costs of a peer that has none of them, and 16 of a peer that has the last half.
+and 2^26 wanted blocks what one `ask_next` costs of a peer that has none of them, and 16 of a peer that has the last half.
 
     python3 bench/book.py [FOLDER]
 

@@ -3,7 +3,7 @@ use Rattle.std.proofs.Common.{◌≡◌, ◌⊎◌, ℕ, ◌+◌, ◌*◌, ◌-�
 use Rattle.std.specs.Bool.{OnFalse}
 use Rattle.std.proofs.lemmas.Bool.{cases_lt, cases_eq, true≢false}
 use Rattle.bt_book.specs.declared.names.BlockId.{BlockId}
-use Rattle.bt_book.specs.Blocks.{Blocks, member, IsBefore, IsFrom, IsFirst, HasNoFirst, GivesFirst, IsLeast, HasNone}
+use Rattle.bt_book.specs.Blocks.{Blocks, member, IsBefore, IsFrom, IsFirst, HasNoFirst, GivesFirst, IsLeast, HasNone, says}
 use Rattle.bt_book.proofs.BlockSets.{member_in_range}
 
 -- ---- the order
@@ -43,18 +43,18 @@ further from b c f h i (inr x) (inr y) = let e = x.0 in let le = x.1 in let e' =
 
 -- whether one was found
 pub none_told : (next : BlockId → Option BlockId → Type 0) (given set : Blocks) → given ≡ set → (o : Option BlockId) (found : Bool) → found ≡ is_some o
-    → IfNone o ((has : BlockId → Bool) → GivesFirst next given has → HasNone has given)
-    → OnFalse found ((has : BlockId → Bool) → GivesFirst next set has → HasNone has set)
+    → IfNone o ((has : BlockId → Bool) → GivesFirst next given has → HasNone (says has) given)
+    → OnFalse found ((has : BlockId → Bool) → GivesFirst next set has → HasNone (says has) set)
 none_told next given set same o true is h = tt
 none_told next given set same (Some x) false is h = absurd (true≢false (sym is))
 none_told next given set same None false is h =
-    subst (λ (s : Blocks). (has : BlockId → Bool) → GivesFirst next s has → HasNone has s) same h
+    subst (λ (s : Blocks). (has : BlockId → Bool) → GivesFirst next s has → HasNone (says has) s) same h
 
 -- ---- members and what `next` gives, in turn
 module _ (next : BlockId → Option BlockId → Type 0) (set : Blocks) (from : BlockId)
     (passed : (has : BlockId → Bool) → GivesFirst next set has → (b : BlockId) → IsBefore b from → member set b ≡ true → has b ≡ false)
     (has : BlockId → Bool) (gives_first : GivesFirst next set has) where
-  pub none_left : HasNoFirst (member set) from → HasNone has set
+  pub none_left : HasNoFirst (member set) from → HasNone (says has) set
   none_left none c is = elim (before_or_from from c) [
     | inl before ↦ passed has gives_first c before is
     | inr behind ↦ absurd (true≢false (sym is ∙ none c behind))
@@ -67,7 +67,7 @@ module _ (next : BlockId → Option BlockId → Type 0) (set : Blocks) (from : B
       | inr behind ↦ absurd (true≢false (sym is ∙ first.least c behind before))
     ]
 
-    pub none_held : next block None → HasNone has set
+    pub none_held : next block None → HasNone (says has) set
     none_held gives c is = elim (before_or_from block c) [
       | inl before ↦ passed_first c before is
       | inr behind ↦ (gives_first block None (member_in_range set block first.held) gives).1 c behind
@@ -83,7 +83,7 @@ module _ (next : BlockId → Option BlockId → Type 0) (set : Blocks) (from : B
         | inr behind ↦ held_first.least c behind before
       ]
 
-      pub met : (IsBefore block held → ⊥) → IsLeast has set block
+      pub met : (IsBefore block held → ⊥) → IsLeast (says has) set block
       met not_behind = record {
         among = first.held;
         held = ap has (sym (same_id block held (same_file block held held_first.after not_behind) (same_number block held held_first.after not_behind)))

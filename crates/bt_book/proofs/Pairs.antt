@@ -8,7 +8,7 @@ use Rattle.std.proofs.lemmas.List.Sums.{sum_by-cons, sum_by_push, sum_by-set, su
 use Rattle.std.proofs.lemmas.Bool.Decides.{nat_tests}
 use Rattle.bt_book.specs.declared.names.PeerKey.{PeerKey}
 use Rattle.bt_book.specs.declared.names.BlockId.{BlockId}
-use Rattle.bt_book.specs.Blocks.{Blocks, of_file, IsInRange, member, is_block, with_block, GivesFirst, IsLeast, HasNone}
+use Rattle.bt_book.specs.Blocks.{Blocks, of_file, IsInRange, member, is_block, with_block, GivesFirst, IsLeast, HasNone, says}
 use Rattle.bt_book.specs.Book.{PeerRequests, is_of, asked_in, change_of, pairs_in, without_block, without_block_of, IsBook, IsUnasked, IsLeastUnasked, HasNoneUnasked}
 use Rattle.bt_book.proofs.Asked.{asked_at, changed_at, asked_short}
 use Rattle.bt_book.specs.BookSteps.{one_if, IsKept, IsIndexOf, AreAdded}
@@ -242,8 +242,8 @@ module _ {wanted unasked : Blocks} {peers : List PeerRequests} (kept : IsKept wa
     gives_unasked : GivesFirst next unasked has
     gives_unasked b r inside gives = gives_first b r (omega (arith, inside, kept.shape b.file)) gives
 
-    pub least_asked : (b : BlockId) → (GivesFirst next unasked has → IsLeast has unasked b)
-        → IsLeastUnasked has (record { wanted = wanted; peers = peers }) b
+    pub least_asked : (b : BlockId) → (GivesFirst next unasked has → IsLeast (says has) unasked b)
+        → IsLeastUnasked (says has) (record { wanted = wanted; peers = peers }) b
     least_asked b least =
         let found = least gives_unasked in
         record {
@@ -252,8 +252,8 @@ module _ {wanted unasked : Blocks} {peers : List PeerRequests} (kept : IsKept wa
           least = λ c before free. found.least c before (is_unasked c free);
         }
 
-    pub none_asked : (GivesFirst next unasked has → HasNone has unasked)
-        → HasNoneUnasked has (record { wanted = wanted; peers = peers })
+    pub none_asked : (GivesFirst next unasked has → HasNone (says has) unasked)
+        → HasNoneUnasked (says has) (record { wanted = wanted; peers = peers })
     none_asked none c free = none gives_unasked c (is_unasked c free)
 
 -- ---- the laws

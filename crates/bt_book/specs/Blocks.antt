@@ -28,15 +28,32 @@ is_block b c = (c.file == b.file) && (c.block == b.block)
 abbrev pub IsBefore : BlockId → BlockId → Type 0
 IsBefore b c = (b.file < c.file) ⊎ ((b.file ≡ c.file) × (b.block < c.block))
 
--- the least member of which `has` is true
-pub record IsLeast (has : BlockId → Bool) (set : Blocks) (b : BlockId) : Type 0 where
+-- the least member of which `has` says true, where `has b r` is that it may say r of b
+pub record IsLeast (has : BlockId → Bool → Type 0) (set : Blocks) (b : BlockId) : Type 0 where
   pub among : member set b ≡ true
-  pub held : has b ≡ true
-  pub least : (c : BlockId) → IsBefore c b → member set c ≡ true → has c ≡ false
+  pub held : has b true
+  pub least : (c : BlockId) → IsBefore c b → member set c ≡ true → has c false
 
--- it is true of no member
-abbrev pub HasNone : (BlockId → Bool) → Blocks → Type 0
-HasNone has set = (c : BlockId) → member set c ≡ true → has c ≡ false
+-- of every member it says false
+abbrev pub HasNone : (BlockId → Bool → Type 0) → Blocks → Type 0
+HasNone has set = (c : BlockId) → member set c ≡ true → has c false
+
+-- the same, of the blocks of one file
+pub record IsLeastIn
+    (has : BlockId → Bool → Type 0) (blocks : List Bool) (file : ℕ) (b : BlockId) : Type 0 where
+  pub of : b.file ≡ file
+  pub among : slice_index_or blocks b.block false ≡ true
+  pub held : has b true
+  pub least : (c : BlockId) → c.file ≡ file → c.block < b.block → slice_index_or blocks c.block false ≡ true
+      → has c false
+
+abbrev pub HasNoneIn : (BlockId → Bool → Type 0) → List Bool → ℕ → Type 0
+HasNoneIn has blocks file =
+    (c : BlockId) → c.file ≡ file → slice_index_or blocks c.block false ≡ true → has c false
+
+-- a test says of a block just what it gives
+abbrev pub says : (BlockId → Bool) → BlockId → Bool → Type 0
+says has b r = has b ≡ r
 
 -- c is b, or stands behind it
 abbrev pub IsFrom : BlockId → BlockId → Type 0

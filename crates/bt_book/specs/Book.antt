@@ -98,17 +98,17 @@ with_done book b = record {
   peers = map (without_block_of b) book.peers;
 }
 
--- the least block that may be asked of which `has` is true
-pub record IsLeastUnasked (has : BlockId → Bool) (book : BookState) (b : BlockId) : Type 0 where
+-- the least block that may be asked of which `has` says true, where `has b r` is that it may say r of b
+pub record IsLeastUnasked (has : BlockId → Bool → Type 0) (book : BookState) (b : BlockId) : Type 0 where
   pub unasked : IsUnasked book b
-  pub held : has b ≡ true
-  pub least : (c : BlockId) → IsBefore c b → IsUnasked book c → has c ≡ false
+  pub held : has b true
+  pub least : (c : BlockId) → IsBefore c b → IsUnasked book c → has c false
 
--- it is true of no block that may be asked
-abbrev pub HasNoneUnasked : (BlockId → Bool) → BookState → Type 0
-HasNoneUnasked has book = (c : BlockId) → IsUnasked book c → has c ≡ false
+-- of every block that may be asked it says false
+abbrev pub HasNoneUnasked : (BlockId → Bool → Type 0) → BookState → Type 0
+HasNoneUnasked has book = (c : BlockId) → IsUnasked book c → has c false
 
--- it is true of a wanted block
+-- a test is true of a wanted block
 abbrev pub HasWanted : (BlockId → Bool) → BookState → Type 0
 HasWanted has book = (b : BlockId) × (member book.wanted b ≡ true) × (has b ≡ true)
 

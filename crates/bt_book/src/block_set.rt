@@ -1,6 +1,6 @@
 ghost use Rattle.std.specs.Prelude.{◌≡◌, ◌≢◌, ℕ, ◌+◌, ◌^◌, ◌<◌, ◌≤◌, true, false, Bool, List, length, map, replicate, slice_index_or, IfSome, IfNone, IfOk, IsTrue, ◌↔◌};
 ghost use Rattle.bt_book.specs.BitSet.{IsNext, HasNoneFrom};
-ghost use Rattle.bt_book.specs.Blocks.{Blocks, member, IsInRange, with_block, IsBefore, IsLeast, HasNone, IsFirst, HasNoFirst, GivesFirst};
+ghost use Rattle.bt_book.specs.Blocks.{Blocks, member, IsInRange, with_block, IsBefore, IsLeast, HasNone, IsLeastIn, HasNoneIn, says, IsFirst, HasNoFirst, GivesFirst};
 
 use crate::bit_set::BitSet;
 use crate::names::BlockId;
@@ -74,6 +74,22 @@ impl BlockSet {
         }
     }
 
+    /// The least member of which `has` says that it holds.
+    pub fn least<F: Fn(BlockId) -> bool>(&self, has: &F) -> Option<BlockId>
+        requires { (block : BlockId) → IsInRange self.now block → F.pre has.now block }
+        ensures some { IfSome result (IsLeast (F.post has.now) self.now) }
+        ensures none { IfNone result (HasNone (F.post has.now) self.now) }
+    {
+        let mut from = 0;
+        while let Some(file) = self.filled.next(from) {
+            if let Some(block) = least_in(&self.files[file], file as u32, has) {
+                return Some(block);
+            }
+            from = file + 1;
+        }
+        None
+    }
+
     /// The first member from a block on.
     pub fn next(&self, from: BlockId) -> Option<BlockId>
         ensures some { IfSome result (IsFirst (member self.now) from) }
@@ -94,13 +110,13 @@ impl BlockSet {
 
     /// The least member at which `next` gives that very block. It leaps from a member to what `next` gives
     /// there, and from that to the next member.
-    pub fn least<F: Fn(BlockId) -> Option<BlockId>>(&self, next: &F) -> Option<BlockId>
+    pub fn meet<F: Fn(BlockId) -> Option<BlockId>>(&self, next: &F) -> Option<BlockId>
         requires { (block : BlockId) → IsInRange self.now block → F.pre next.now block }
         ensures among { IfSome result (λ b. member self.now b ≡ true) }
         ensures some { IfSome result (λ b. (has : BlockId → Bool) → GivesFirst (F.post next.now) self.now has
-            → IsLeast has self.now b) }
+            → IsLeast (says has) self.now b) }
         ensures none { IfNone result ((has : BlockId → Bool) → GivesFirst (F.post next.now) self.now has
-            → HasNone has self.now) }
+            → HasNone (says has) self.now) }
     {
         let mut from = BlockId { file: 0, block: 0 };
         while let Some(block) = self.next(from) {
@@ -114,6 +130,28 @@ impl BlockSet {
         }
         None
     }
+}
+
+/// The least member of a file's blocks of which `has` says that it holds.
+fn least_in<F: Fn(BlockId) -> bool>(blocks: &BitSet, file: u32, has: &F) -> Option<BlockId>
+    requires short { length blocks.now < 2 ^ 32 }
+    requires callable { (block : BlockId) → block.file ≡ file → block.block < length blocks.now
+        → F.pre has.now block }
+    ensures some { IfSome result (IsLeastIn (F.post has.now) blocks.now file) }
+    ensures none { IfNone result (HasNoneIn (F.post has.now) blocks.now file) }
+{
+    let mut from = 0;
+    while let Some(number) = blocks.next(from) {
+        let block = BlockId {
+            file,
+            block: number as u32,
+        };
+        if has(block) {
+            return Some(block);
+        }
+        from = number + 1;
+    }
+    None
 }
 
 /// Whether the one stands before the other.

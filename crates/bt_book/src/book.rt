@@ -1,6 +1,6 @@
 ghost use Rattle.std.specs.Prelude.{◌≡◌, ◌<◌, ◌≤◌, ◌↔◌, ◌⊎◌, Bool, [], ◌∷◌, ◌++◌, length, map, All, count_by, IsTrue, IfSome, OnSome, IfNone, IfOk};
 ghost use Rattle.std.specs.Bool.{OnTrue, OnFalse};
-ghost use Rattle.bt_book.specs.Blocks.{IsInRange, is_block, GivesFirst};
+ghost use Rattle.bt_book.specs.Blocks.{IsInRange, is_block, says, GivesFirst};
 ghost use Rattle.bt_book.specs.Book.{IsJoined, empty_book, asked_of, with_peer, without_peer, with_pair, without_pair, without_pairs_of, with_wanted, with_done, without_block, without_block_of, IsLeastUnasked, HasNoneUnasked, HasWanted, HasNoneWanted, IsBook, IsPair, pair_count, KeepsOthers, max_peers, max_requests};
 ghost use Rattle.bt_book.specs.BookSteps.{AreAdded, CanAdd};
 
@@ -149,6 +149,36 @@ impl Book {
         }
     }
 
+    /// Asks a peer for the least wanted block of which `has` says that the peer has it and that no peer is
+    /// asked for: the two are a pair from now on. None where there is no such block, where the peer is asked
+    /// for 16, and where it has not joined; nothing changes then. It asks `has` of each block that may be asked
+    /// before the one that it finds: `ask_next` leaps over what the peer lacks.
+    pub fn ask<F: Fn(BlockId) -> bool>(&mut self, peer: PeerKey, has: F) -> Option<BlockId>
+        requires { (block : BlockId) → IsInRange self.old.wanted block → F.pre has block }
+        ensures least { IfSome result (IsLeastUnasked (F.post has) self.old) }
+        ensures now { IfSome result (λ block. self.new ≡ with_pair self.old peer block) }
+        ensures asked { IfSome result (λ block. asked_of self.new peer ≡ asked_of self.old peer ++ block ∷ []) }
+        ensures others { KeepsOthers self.old self.new peer }
+        ensures joined { OnSome result (IsJoined self.old peer) }
+        ensures room { OnSome result (length (asked_of self.old peer) < max_requests) }
+        ensures none { IfNone result ((¬ IsJoined self.old peer)
+            ⊎ (length (asked_of self.old peer) ≡ max_requests) ⊎ HasNoneUnasked (F.post has) self.old) }
+        ensures kept { IfNone result (self.new ≡ self.old) }
+    {
+        let Some(index) = index_of(&self.peers, peer) else {
+            return None;
+        };
+        if self.peers[index].is_full() {
+            return None;
+        }
+        let Some(block) = self.unasked.least(&has) else {
+            return None;
+        };
+        self.unasked.remove(block);
+        self.peers[index].push(block);
+        Some(block)
+    }
+
     /// Asks a peer for the least wanted block that the peer has and that no peer is asked for: the two are a
     /// pair from now on. None where there is no such block, where the peer is asked for 16, and where it has
     /// not joined; nothing changes then.
@@ -156,10 +186,14 @@ impl Book {
     /// What the peer has is told by `next`: at each block of the torrent it gives the first one, from there
     /// on, that the peer has. It is called once for each time that the peer's blocks and those that may be
     /// asked alternate.
-    pub fn ask<F: Fn(BlockId) -> Option<BlockId>>(&mut self, peer: PeerKey, next: F) -> Option<BlockId>
+    pub fn ask_next<F: Fn(BlockId) -> Option<BlockId>>(
+        &mut self,
+        peer: PeerKey,
+        next: F,
+    ) -> Option<BlockId>
         requires { (block : BlockId) → IsInRange self.old.wanted block → F.pre next block }
         ensures least { IfSome result (λ block. (has : BlockId → Bool)
-            → GivesFirst (F.post next) self.old.wanted has → IsLeastUnasked has self.old block) }
+            → GivesFirst (F.post next) self.old.wanted has → IsLeastUnasked (says has) self.old block) }
         ensures now { IfSome result (λ block. self.new ≡ with_pair self.old peer block) }
         ensures asked { IfSome result (λ block.
             asked_of self.new peer ≡ asked_of self.old peer ++ block ∷ []) }
@@ -169,7 +203,7 @@ impl Book {
         ensures none { IfNone result ((¬ IsJoined self.old peer)
             ⊎ (length (asked_of self.old peer) ≡ max_requests)
             ⊎ ((has : BlockId → Bool) → GivesFirst (F.post next) self.old.wanted has
-                → HasNoneUnasked has self.old)) }
+            → HasNoneUnasked (says has) self.old)) }
         ensures kept { IfNone result (self.new ≡ self.old) }
     {
         let Some(index) = index_of(&self.peers, peer) else {
@@ -178,7 +212,7 @@ impl Book {
         if self.peers[index].is_full() {
             return None;
         }
-        let Some(block) = self.unasked.least(&next) else {
+        let Some(block) = self.unasked.meet(&next) else {
             return None;
         };
         self.unasked.remove(block);
@@ -186,7 +220,7 @@ impl Book {
         Some(block)
     }
 
-    /// Whether a peer has a block that is wanted, also one that a peer is asked for. `next` is as for `ask`.
+    /// Whether a peer has a block that is wanted, also one that a peer is asked for. `next` is as for `ask_next`.
     pub fn wants<F: Fn(BlockId) -> Option<BlockId>>(&self, next: F) -> bool
         requires { (block : BlockId) → IsInRange self.now.wanted block → F.pre next block }
         ensures yes { OnTrue result ((has : BlockId → Bool) → GivesFirst (F.post next) self.now.wanted has
@@ -194,7 +228,7 @@ impl Book {
         ensures no { OnFalse result ((has : BlockId → Bool) → GivesFirst (F.post next) self.now.wanted has
             → HasNoneWanted has self.now) }
     {
-        self.wanted.least(&next).is_some()
+        self.wanted.meet(&next).is_some()
     }
 
     /// The laws of a book: no peer has joined twice, each block is in one pair at most, and it is wanted

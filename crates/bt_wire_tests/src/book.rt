@@ -2,7 +2,7 @@
 //! serve.
 ghost use Rattle.std.specs.Prelude.{◌≢◌, ◌≡◌, All, Bool, nat_le, IfSome, IfNone};
 ghost use Rattle.std.specs.Bool.{OnTrue, OnFalse};
-ghost use Rattle.bt_book.specs.Blocks.{IsFirst, HasNoFirst};
+ghost use Rattle.bt_book.specs.Blocks.{says, IsFirst, HasNoFirst};
 ghost use Rattle.bt_book.specs.Book.{IsLeastUnasked, HasWanted, HasNoneWanted};
 ghost use Rattle.bt_book.specs.Choking.{HaveOwnKeys};
 
@@ -27,7 +27,7 @@ fn done(rt: &impl Abort, book: &mut Book, block: BlockId) {
 
 /// Asks a peer that has every block.
 fn ask(book: &mut Book, peer: PeerKey) -> Option<BlockId> {
-    book.ask(peer, |from| Some(from))
+    book.ask(peer, |_| true)
 }
 
 /// Such a peer is asked for this block.
@@ -89,14 +89,6 @@ fn is_asked_for_sixteen(rt: &impl Abort, book: &mut Book, peer: PeerKey) {
     is_not_asked(rt, book, peer);
 }
 
-/// The first block from one on that a peer has which has file 3 alone.
-fn next_in_file_3(from: BlockId) -> Option<BlockId> {
-    if from.file < 3 {
-        return Some(block(3, 0));
-    }
-    if from.file == 3 { Some(from) } else { None }
-}
-
 /// A peer is asked for 16 blocks at most; one that has not joined for none.
 #[test]
 fn sixteen_pairs(rt: HostRuntime) -> Result<(), Fail> {
@@ -108,7 +100,7 @@ fn sixteen_pairs(rt: HostRuntime) -> Result<(), Fail> {
     assert!(rt; book.join(peer));
     is_asked_for_sixteen(&rt, &mut book, peer);
     assert!(rt; book.came(peer, block(1, 3)));
-    assert!(rt; book.ask(peer, |from| next_in_file_3(from)) == Some(block(3, 6)));
+    assert!(rt; book.ask(peer, |held| held.file == 3) == Some(block(3, 6)));
     book.choked(peer);
     is_asked(&rt, &mut book, peer, block(1, 0));
     Ok(())
@@ -159,11 +151,11 @@ fn next_in_rest(first: u32, from: BlockId) -> Option<BlockId>
     Some(from)
 }
 
-/// Asks such a peer. Its contract follows from that of `ask`: the closure gives the first block from each on.
+/// Asks such a peer. Its contract follows from that of `ask_next`: the closure gives the first block from each on.
 fn ask_for_rest(book: &mut Book, peer: PeerKey, first: u32) -> Option<BlockId>
-    ensures { IfSome result (IsLeastUnasked (λ b. nat_le first b.block) book.old) }
+    ensures { IfSome result (IsLeastUnasked (says (λ b. nat_le first b.block)) book.old) }
 {
-    book.ask(peer, |from| next_in_rest(first, from))
+    book.ask_next(peer, |from| next_in_rest(first, from))
 }
 
 /// Whether such a peer has a block that is wanted.
@@ -208,7 +200,8 @@ fn wanted_of_a_peer(rt: HostRuntime) -> Result<(), Fail> {
     assert!(rt; book.join(peer));
     assert!(rt; !wants(&book));
     want(&rt, &mut book, block(0, 0));
-    assert!(rt; book.ask(peer, |_| None) == None);
+    assert!(rt; book.ask(peer, |_| false) == None);
+    assert!(rt; book.ask_next(peer, |_| None) == None);
     assert!(rt; !book.wants(|_| None));
     is_asked(&rt, &mut book, peer, block(0, 0));
     assert!(rt; wants(&book));
@@ -364,7 +357,13 @@ fn ask_both(
     plain: &mut Plain,
 ) -> Result<(), AllocError> {
     let wanted = plain.ask(key)?;
-    let asked = book.ask(PeerKey(key), |from| next_held(key, from));
+    let peer = PeerKey(key);
+    // Which of the two is called makes no difference.
+    let asked = if key % 3 == 0 {
+        book.ask(peer, |held| next_held(key, held) == Some(held))
+    } else {
+        book.ask_next(peer, |from| next_held(key, from))
+    };
     assert!(rt; asked == wanted, "ask {key}");
     Ok(())
 }
