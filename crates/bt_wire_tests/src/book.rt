@@ -360,7 +360,7 @@ fn ask_both(
     let peer = PeerKey(key);
     // Which of the two is called makes no difference.
     let asked = if key % 3 == 0 {
-        book.ask(peer, |held| next_held(key, held) == Some(held))
+        book.ask(peer, |held| has(key, held))
     } else {
         book.ask_next(peer, |from| next_held(key, from))
     };
