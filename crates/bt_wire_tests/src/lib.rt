@@ -2,6 +2,12 @@
 #![tactic(auto)]
 
 #[cfg(test)]
+mod book;
+#[cfg(test)]
 mod hashreq;
 #[cfg(test)]
+mod room;
+#[cfg(test)]
 mod sparse;
+#[cfg(test)]
+mod wire;
