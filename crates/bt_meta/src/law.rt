@@ -24,8 +24,8 @@ pub fn blocks_and_ranges_agree()
 {}
 
 /// The laws by which `Torrent::range_of` and `Torrent::place` agree: the range of a block has its place where
-/// the block begins in its file, and a place that is a whole block is that block's range. They do nothing when
-/// they run.
+/// the block begins in its file, and a place that is a whole block is that block's range. They do nothing
+/// when they run.
 pub fn block_ranges_are_places()
     ensures place { RangeIsPlace }
     ensures range { PlaceIsRange }

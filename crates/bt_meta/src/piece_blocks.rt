@@ -50,8 +50,8 @@ impl Torrent {
         })
     }
 
-    /// The range of its piece that a block of a file is: 1 to 16,384 bytes. None where the torrent has no such
-    /// file, or the file no such block.
+    /// The range of its piece that a block of a file is, of 1 to 16,384 bytes. None where the torrent has no
+    /// such file, or the file no such block.
     pub fn range_of(&self, file: u32, block: u32) -> Option<PieceRange>
         ensures variant { IsSome result ↔ HasBlock self.now file block }
         ensures value { IfSome result (IsBlockRange self.now file block) }
