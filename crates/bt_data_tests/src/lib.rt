@@ -10,6 +10,8 @@ mod meta;
 #[cfg(test)]
 mod meta_writer;
 #[cfg(test)]
+mod pieces;
+#[cfg(test)]
 mod sample;
 #[cfg(test)]
 mod tree;

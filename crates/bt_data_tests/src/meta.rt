@@ -1,5 +1,5 @@
 use bt_bencode::{BencodeError, parse, write};
-use bt_meta::{FileEntry, MAX_TEXT_LENGTH, MetaError, Torrent, read_info, read_torrent};
+use bt_meta::{FileEntry, FilePath, MAX_TEXT_LENGTH, MetaError, Torrent, read_info, read_torrent};
 use bt_tree::Hash32;
 use sha2::{Digest, Sha256};
 use std::alloc::{AllocError, Global};
@@ -382,12 +382,24 @@ fn compares_files_of_one_root(rt: HostRuntime) -> Result<(), Fail> {
     Ok(())
 }
 
+/// Adds each element of a path, with one text before it and one behind it.
+pub(crate) fn add_elements(
+    text: &mut String,
+    path: &FilePath,
+    before: &str,
+    behind: &str,
+) -> Result<(), AllocError> {
+    for element in path.elements().iter() {
+        text.push_str(before)?;
+        text.push_str(element)?;
+        text.push_str(behind)?;
+    }
+    Ok(())
+}
+
 /// Adds of a file its path, its first piece, its length and its layer's.
 fn add_facts(alloc: Global, text: &mut String, file: &FileEntry) -> Result<(), Fail> {
-    for element in file.path.elements().iter() {
-        text.push_str(element)?;
-        text.push_str("/")?;
-    }
+    add_elements(text, &file.path, "", "/")?;
     let first = file.first_piece;
     let length = file.length;
     let layer = file.layer.len();

@@ -1,5 +1,5 @@
-use crate::meta::{LAYERED_ROOT, expect_summary, layer, layered};
-use bt_meta::{FilePath, Made, MakeError, Span, Torrent, make, read_torrent};
+use crate::meta::{LAYERED_ROOT, add_elements, expect_summary, layer, layered};
+use bt_meta::{Made, MakeError, Span, Torrent, make, read_torrent};
 use bt_tree::Hash32;
 use sha2::{Digest, Sha256};
 use std::alloc::{AllocError, Global};
@@ -80,16 +80,7 @@ fn makes_the_abc_torrent(rt: HostRuntime) -> Result<(), Fail> {
     Ok(())
 }
 
-/// Adds `/` before each element of a path, and a space behind the last.
-fn add_path(text: &mut String, path: &FilePath) -> Result<(), AllocError> {
-    for element in path.elements().iter() {
-        text.push('/')?;
-        text.push_str(element)?;
-    }
-    text.push(' ')
-}
-
-/// The paths of a torrent's files, one after the other, are this text.
+/// The paths of a torrent's files, with `/` before each element and a space behind each path, are this text.
 fn expect_paths(
     rt: &(impl AllocGlobal + Abort),
     torrent: &Torrent,
@@ -97,7 +88,8 @@ fn expect_paths(
 ) -> Result<(), Fail> {
     let mut text = String::new(rt.alloc());
     for file in torrent.files() {
-        add_path(&mut text, &file.path)?;
+        add_elements(&mut text, &file.path, "/", "")?;
+        text.push(' ')?;
     }
     assert!(rt; text.as_str() == wanted);
     Ok(())
@@ -235,7 +227,7 @@ fn expect_place(
 }
 
 /// A torrent of an empty file, one of a whole piece and one of 5 bytes.
-fn three_files(alloc: Global) -> Result<Torrent, Fail> {
+pub(crate) fn three_files(alloc: Global) -> Result<Torrent, Fail> {
     let files = [
         made(alloc, ("a", 0, &[]), [0; 32])?,
         made(alloc, ("b", 16_384, &[]), [1; 32])?,
