@@ -156,7 +156,11 @@ impl Book {
     /// What the peer has is told by `next`: at each block of the torrent it gives the first one, from there
     /// on, that the peer has. It is called once for each time that the peer's blocks and those that may be
     /// asked alternate.
-    pub fn ask<F: Fn(BlockId) -> Option<BlockId>>(&mut self, peer: PeerKey, next: F) -> Option<BlockId>
+    pub fn ask<F: Fn(BlockId) -> Option<BlockId>>(
+        &mut self,
+        peer: PeerKey,
+        next: F,
+    ) -> Option<BlockId>
         requires { (block : BlockId) → IsInRange self.old.wanted block → F.pre next block }
         ensures least { IfSome result (λ block. (has : BlockId → Bool)
             → GivesFirst (F.post next) self.old.wanted has → IsLeastUnasked has self.old block) }
@@ -169,7 +173,7 @@ impl Book {
         ensures none { IfNone result ((¬ IsJoined self.old peer)
             ⊎ (length (asked_of self.old peer) ≡ max_requests)
             ⊎ ((has : BlockId → Bool) → GivesFirst (F.post next) self.old.wanted has
-                → HasNoneUnasked has self.old)) }
+            → HasNoneUnasked has self.old)) }
         ensures kept { IfNone result (self.new ≡ self.old) }
     {
         let Some(index) = index_of(&self.peers, peer) else {

@@ -29,7 +29,7 @@ invariant_of-self-else-remove c =
     let inside = in_range c.args.block c.self.view_is c.requires in
     let written = written_is c.self.inside.files.items c.args.block false _ _ inside c.index_mut-file.ensures.value c.remove.ensures.now in
     let some : HasNoneFrom c.remove.new.self 0 → ⊥ = λ none.
-        true≢false (sym (c.remove.ensures.told (λ j same. none j (omega arith))) ∙ c.if-remove.false) in
+    true≢false (sym (c.remove.ensures.told (λ j same. none j (omega arith))) ∙ c.if-remove.false) in
     rw written (filled_without _ _ c.args.block c.self.invariant inside (subst (λ (l : List Bool). HasNoneFrom l 0 → ⊥) written some))
 
 pub returns-then-is_none : goal.returns-then-is_none
