@@ -1,6 +1,6 @@
 -- Sets of blocks.
 use Rattle.std.proofs.Common.{◌≡◌, ◌≢◌, ℕ, ◌^◌, ◌<◌, min, inl, inr, Bool, true, false, eqb, cond, List, [], length, get_or, set, map, replicate, sym, ap, ◌∙◌, subst, arith, Option, Some, None, IfSome, IfNone, is_some, get_or-set_same, get_or-set_other}
-use Rattle.std.proofs.lemmas.List.{get_or_past, get_or-map, get_or-replicate, length-set, length-map, length-replicate}
+use Rattle.std.proofs.lemmas.List.{get_or_read, get_or_past, get_or-map, get_or-replicate, length-set, length-map, length-replicate}
 use Rattle.std.proofs.lemmas.Bool.{cases_lt, cases_eq, eq-eqb, ne_eqb, and_from, and_left, and_right, true≢false}
 use Rattle.bt_book.specs.declared.names.BlockId.{BlockId}
 use Rattle.bt_book.specs.BitSet.{IsNext, HasNoneFrom}
@@ -71,45 +71,40 @@ filled_without s marks b filled inside some = record {
   ];
 }
 
-pub filled_with : (s : Blocks) (marks : List Bool) (b : BlockId) → IsFilled s marks → IsInRange s b → b.file < length marks
-    → IsFilled (with_block s b true) (set marks b.file true)
-filled_with s marks b filled inside lt = record {
-  size = length-set marks b.file true ∙ filled.size ∙ ap (λ n. min n (2 ^ 32)) (sym (length-set s b.file (set (of_file s b.file) b.block true)));
-  short = λ file. let e = shape_with s b true file inside in let short = filled.short file in omega arith;
+-- a block is written, and its file's mark, which is true exactly where the file has a member then
+pub filled_set : (s : Blocks) (marks : List Bool) (b : BlockId) (v : Bool) → IsFilled s marks → IsInRange s b
+    → ((k : ℕ) → get_or (set (of_file s b.file) b.block v) k false ≡ true → v ≡ true)
+    → (HasNoneFrom (set (of_file s b.file) b.block v) 0 → v ≡ false) → b.file < length marks
+    → IsFilled (with_block s b v) (set marks b.file v)
+filled_set s marks b v filled inside some none lt = record {
+  size = length-set marks b.file v ∙ filled.size ∙ ap (λ n. min n (2 ^ 32)) (sym (length-set s b.file (set (of_file s b.file) b.block v)));
+  short = λ file. let e = shape_with s b v file inside in let short = filled.short file in omega arith;
   marked = λ c is. elim (cases_eq c.file b.file) [
-    | inl e ↦ ap (λ f. get_or (set marks b.file true) f false) e ∙ get_or-set_same marks b.file true false lt
-    | inr ne ↦ get_or-set_other marks b.file c.file true false ne
-        ∙ filled.marked c (ap (λ l. get_or l c.block false) (sym (other_file s b true c.file ne)) ∙ is)
+    | inl e ↦ mark c.file e ∙ some c.block (ap (λ l. get_or l c.block false) (sym (there c.file e)) ∙ is)
+    | inr ne ↦ get_or-set_other marks b.file c.file v false ne
+        ∙ filled.marked c (ap (λ l. get_or l c.block false) (sym (other_file s b v c.file ne)) ∙ is)
   ];
-  exact = λ file none. elim (cases_eq file b.file) [
-    | inl e ↦
-        let there = ap (λ f. of_file (with_block s b true) f) e ∙ of_file_with s b true inside in
-        absurd (true≢false (sym (get_or-set_same (of_file s b.file) b.block true false inside)
-        ∙ ap (λ l. get_or l b.block false) (sym there) ∙ none b.block (omega arith)))
-    | inr ne ↦ get_or-set_other marks b.file file true false ne
-        ∙ filled.exact file (subst (λ (l : List Bool). HasNoneFrom l 0) (other_file s b true file ne) none)
+  exact = λ file empty. elim (cases_eq file b.file) [
+    | inl e ↦ mark file e ∙ none (subst (λ (l : List Bool). HasNoneFrom l 0) (there file e) empty)
+    | inr ne ↦ get_or-set_other marks b.file file v false ne
+        ∙ filled.exact file (subst (λ (l : List Bool). HasNoneFrom l 0) (other_file s b v file ne) empty)
   ];
 }
+  where
+    there : (file : ℕ) → file ≡ b.file → of_file (with_block s b v) file ≡ set (of_file s b.file) b.block v
+    there file e = ap (λ f. of_file (with_block s b v) f) e ∙ of_file_with s b v inside
 
--- the file's last block is taken out
-pub filled_closed : (s : Blocks) (marks : List Bool) (b : BlockId) → IsFilled s marks → IsInRange s b → b.file < length marks
-    → HasNoneFrom (set (of_file s b.file) b.block false) 0 → IsFilled (with_block s b false) (set marks b.file false)
-filled_closed s marks b filled inside lt empty = record {
-  size = length-set marks b.file false ∙ filled.size ∙ ap (λ n. min n (2 ^ 32)) (sym (length-set s b.file (set (of_file s b.file) b.block false)));
-  short = λ file. let e = shape_with s b false file inside in let short = filled.short file in omega arith;
-  marked = λ c is. elim (cases_eq c.file b.file) [
-    | inl e ↦
-        let there = ap (λ f. of_file (with_block s b false) f) e ∙ of_file_with s b false inside in
-        absurd (true≢false (sym is ∙ ap (λ l. get_or l c.block false) there ∙ empty c.block (omega arith)))
-    | inr ne ↦ get_or-set_other marks b.file c.file false false ne
-        ∙ filled.marked c (ap (λ l. get_or l c.block false) (sym (other_file s b false c.file ne)) ∙ is)
-  ];
-  exact = λ file none. elim (cases_eq file b.file) [
-    | inl e ↦ ap (λ f. get_or (set marks b.file false) f false) e ∙ get_or-set_same marks b.file false false lt
-    | inr ne ↦ get_or-set_other marks b.file file false false ne
-        ∙ filled.exact file (subst (λ (l : List Bool). HasNoneFrom l 0) (other_file s b false file ne) none)
-  ];
-}
+    mark : (file : ℕ) → file ≡ b.file → get_or (set marks b.file v) file false ≡ v
+    mark file e = ap (λ f. get_or (set marks b.file v) f false) e ∙ get_or-set_same marks b.file v false lt
+
+pub in_range : {s t : Blocks} (b : BlockId) → s ≡ t → IsInRange t b → IsInRange s b
+in_range b same inside = subst (λ (s : Blocks). IsInRange s b) (sym same) inside
+
+-- the file whose block is written
+pub written_is : (s : Blocks) (b : BlockId) (v : Bool) (given now : List Bool) → IsInRange s b → given ≡ get_or s b.file given
+    → now ≡ set given b.block v → now ≡ set (of_file s b.file) b.block v
+written_is s b v given now inside read written =
+    written ∙ ap (λ l. set l b.block v) (get_or_read s b.file given (file_inside s b.file b.block inside) read [])
 
 empty_file : (blocks : List ℕ) (file : ℕ) → file < length blocks → of_file (map (λ n. replicate n false) blocks) file ≡ replicate (get_or blocks file 0) false
 empty_file blocks file lt = get_or-map (λ n. replicate n false) blocks file 0 [] lt

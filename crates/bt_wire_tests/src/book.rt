@@ -146,7 +146,10 @@ fn next_in_rest(first: u32, from: BlockId) -> Option<BlockId>
     ensures none { IfNone result (HasNoFirst (λ b. nat_le first b.block) from) }
 {
     if from.block < first {
-        return Some(block(from.file, first));
+        return Some(BlockId {
+            file: from.file,
+            block: first,
+        });
     }
     Some(from)
 }

@@ -171,21 +171,14 @@ fn frame(alloc: Global, kind: u8, len: u16) -> Result<Vec<u8>, AllocError> {
 
 #[test]
 fn bytes_of_the_wire(rt: HostRuntime) -> Result<(), Fail> {
-    let rows: [(&[u8], &str); 6] = [
-        (&[0, 0, 0, 0], "hello;keepalive;"),
-        (&[0, 0, 0, 5, 4, 0, 0, 0, 5], "hello;have 5;"),
-        (&[0, 0, 0, 5, 4, 0], "hello;"),
-        (&[0, 0, 0, 4, 4], "hello;W3 BadLength;"),
-        (&[0, 0x10, 0, 1], "hello;W2 TooLong;"),
-        (
-            &[0, 0, 0, 0, 0, 0x10, 0, 1, 0, 0, 0, 0],
-            "hello;keepalive;W2 TooLong;",
-        ),
-    ];
-    for (bytes, wanted) in rows {
-        stream_says(&rt, rt.alloc(), bytes, wanted)?;
-    }
-    Ok(())
+    let alloc = rt.alloc();
+    stream_says(&rt, alloc, &[0, 0, 0, 0], "hello;keepalive;")?;
+    stream_says(&rt, alloc, &[0, 0, 0, 5, 4, 0, 0, 0, 5], "hello;have 5;")?;
+    stream_says(&rt, alloc, &[0, 0, 0, 5, 4, 0], "hello;")?;
+    stream_says(&rt, alloc, &[0, 0, 0, 4, 4], "hello;W3 BadLength;")?;
+    stream_says(&rt, alloc, &[0, 0x10, 0, 1], "hello;W2 TooLong;")?;
+    let both = [0, 0, 0, 0, 0, 0x10, 0, 1, 0, 0, 0, 0];
+    stream_says(&rt, alloc, &both, "hello;keepalive;W2 TooLong;")
 }
 
 /// Whether the cutter has failed, for good.
@@ -278,16 +271,21 @@ const SIZES: [(u8, u16, &str); 34] = [
     (23, 49, ""),
 ];
 
+/// A frame of a kind with a payload of so many zeros says this; an empty text stands for BadLength.
+fn frame_says(rt: &impl Abort, alloc: Global, kind: u8, len: u16, found: &str) -> Result<(), Fail> {
+    let bytes = frame(alloc, kind, len)?;
+    let wanted = if found.is_empty() {
+        "W3 BadLength;"
+    } else {
+        found
+    };
+    message_says(rt, alloc, &bytes, wanted)
+}
+
 #[test]
 fn sizes_of_each_kind(rt: HostRuntime) -> Result<(), Fail> {
-    for (kind, len, found) in SIZES {
-        let bytes = frame(rt.alloc(), kind, len)?;
-        let wanted = if found.is_empty() {
-            "W3 BadLength;"
-        } else {
-            found
-        };
-        message_says(&rt, rt.alloc(), &bytes, wanted)?;
+    for (kind, len, found) in &SIZES {
+        frame_says(&rt, rt.alloc(), *kind, *len, found)?;
     }
     Ok(())
 }
@@ -308,12 +306,20 @@ fn is_skipped(rt: &impl Abort, alloc: Global, kind: u8, len: u16) -> Result<(), 
     message_says(rt, alloc, &bytes, wanted.as_str())
 }
 
+/// So it is with each of three lengths.
+fn are_skipped(rt: &impl Abort, alloc: Global, kind: u8) -> Result<(), Fail> {
+    is_skipped(rt, alloc, kind, 0)?;
+    is_skipped(rt, alloc, kind, 1)?;
+    is_skipped(rt, alloc, kind, 300)
+}
+
+/// Kinds that no message has.
+const UNKNOWN: [u8; 14] = [9, 10, 11, 12, 13, 14, 15, 16, 17, 18, 19, 20, 24, 255];
+
 #[test]
 fn unknown_kinds_are_skipped(rt: HostRuntime) -> Result<(), Fail> {
-    for kind in [9, 10, 11, 12, 13, 14, 15, 16, 17, 18, 19, 20, 24, 255] {
-        for len in [0, 1, 300] {
-            is_skipped(&rt, rt.alloc(), kind, len)?;
-        }
+    for kind in &UNKNOWN {
+        are_skipped(&rt, rt.alloc(), *kind)?;
     }
     Ok(())
 }
@@ -409,14 +415,19 @@ const DOZEN: &str =
     "hello;keepalive;choke;unchoke;not interested;have 258;bitfield [128];request 1 16384 3;\
     piece 1 5 3 96354;cancel 1 16384 3;hash reject 4;keepalive;interested;";
 
+/// The bytes, cut into two in each way, say what the dozen says.
+fn pairs_say(rt: &impl Abort, alloc: Global, bytes: &[u8]) -> Result<(), Fail> {
+    for cut in 0..=bytes.len() {
+        let (front, back) = bytes.split_at(cut);
+        says(rt, alloc, &[front, back], DOZEN)?;
+    }
+    Ok(())
+}
+
 #[test]
 fn cuts_into_two(rt: HostRuntime) -> Result<(), Fail> {
     let bytes = dozen(&rt, rt.alloc())?;
-    for cut in 0..=bytes.len() {
-        let (front, back) = bytes.split_at(cut);
-        says(&rt, rt.alloc(), &[front, back], DOZEN)?;
-    }
-    Ok(())
+    pairs_say(&rt, rt.alloc(), &bytes)
 }
 
 /// A part and the others, cut into two in each way, say what the dozen says.
@@ -428,14 +439,19 @@ fn cuts_say(rt: &impl Abort, alloc: Global, front: &[u8], rest: &[u8]) -> Result
     Ok(())
 }
 
+/// The bytes, cut into three in each way, say what the dozen says.
+fn triples_say(rt: &impl Abort, alloc: Global, bytes: &[u8]) -> Result<(), Fail> {
+    for cut in 0..=bytes.len() {
+        let (front, rest) = bytes.split_at(cut);
+        cuts_say(rt, alloc, front, rest)?;
+    }
+    Ok(())
+}
+
 #[test]
 fn cuts_into_three(rt: HostRuntime) -> Result<(), Fail> {
     let bytes = dozen(&rt, rt.alloc())?;
-    for cut in 0..=bytes.len() {
-        let (front, rest) = bytes.split_at(cut);
-        cuts_say(&rt, rt.alloc(), front, rest)?;
-    }
-    Ok(())
+    triples_say(&rt, rt.alloc(), &bytes)
 }
 
 /// The message is spelled so.
@@ -591,16 +607,11 @@ fn is_printed(
 
 #[test]
 fn texts_of_errors(rt: HostRuntime) -> Result<(), Fail> {
-    let rows = [
-        (WireError::BadProtocol, "W1 BadProtocol"),
-        (WireError::TooLong, "W2 TooLong"),
-        (WireError::BadLength, "W3 BadLength"),
-        (WireError::OutOfMemory, "W4 OutOfMemory"),
-        (WireError::Failed, "W5 Failed"),
-    ];
-    for (error, wanted) in rows {
-        is_printed(&rt, rt.alloc(), error, wanted)?;
-    }
+    is_printed(&rt, rt.alloc(), WireError::BadProtocol, "W1 BadProtocol")?;
+    is_printed(&rt, rt.alloc(), WireError::TooLong, "W2 TooLong")?;
+    is_printed(&rt, rt.alloc(), WireError::BadLength, "W3 BadLength")?;
+    is_printed(&rt, rt.alloc(), WireError::OutOfMemory, "W4 OutOfMemory")?;
+    is_printed(&rt, rt.alloc(), WireError::Failed, "W5 Failed")?;
     Ok(())
 }
 
