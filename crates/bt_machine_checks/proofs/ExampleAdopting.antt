@@ -130,7 +130,6 @@ abbrev reads_of : ThreeBlocks → List BlockRead
 reads_of b = given 0 b.first ∷ given 1 b.second ∷ given 2 b.third ∷ []
 
 module _ (dig : Digest) (b : ThreeBlocks) (infohash : List ℕ) where
-
   -- ---- then with the right ones
 
   -- the blocks of the second file are read back
