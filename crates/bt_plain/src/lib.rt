@@ -18,8 +18,6 @@ mod requests;
 mod serving;
 mod settling;
 mod table;
-#[cfg(test)]
-mod tests;
 
 pub use after_rules::follow_up;
 pub use answering::{Answered, answer_event};
