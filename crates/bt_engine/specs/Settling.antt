@@ -19,7 +19,7 @@ pub record AreSettled {D : Type 0} (history : D → History) (honest : D → Typ
   pub noted : notes ≡ map (read_note dig k file) reads
   pub fault : failed ≡ nat_lt 0 (fault_count reads)
 
--- Those of the blocks were read back that wait and whose leaf is known, and the notes are those of the machine.
+-- Those of the blocks were read back that wait and whose leaf is known, and the notes are the machine's.
 pub record SettlesBlocks {D : Type 0} (history : D → History) (honest : D → Type 0) (faults : D → ℕ)
     (dig : List ℕ → List ℕ) (k : Facts) (file from count : ℕ) (old : StoreView D) (notes : List Note)
     (new : StoreView D) : Type 0 where

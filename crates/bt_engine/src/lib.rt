@@ -1,6 +1,6 @@
-//! The first modules of the engine that is to be a run of the machine of `bt_machine`: which block the bytes of a
-//! piece are, the request of a block, and what a message, a piece, a request and hashes do by themselves, each
-//! with the contract that it is that part of a step.
+//! The first modules of the engine that is to be a run of the machine of `bt_machine`: which block the bytes
+//! of a piece are, the request of a block, and what a message, a piece, a request and hashes do by
+//! themselves, each with the contract that it is that part of a step.
 #![tactic(auto)]
 
 mod hashes;

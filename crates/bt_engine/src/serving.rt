@@ -31,9 +31,9 @@ pub enum Served {
     Found(Note),
 }
 
-/// Serves a request for a range of a piece, which lies in this file where there is such a range: it is ignored
-/// while we choke the peer and where a block of the range is not marked. Where memory is refused, no block is
-/// read.
+/// Serves a request for a range of a piece, which lies in this file where there is such a range: it is
+/// ignored while we choke the peer and where a block of the range is not marked. Where memory is refused, no
+/// block is read.
 pub fn serve<D: Disk + Drop, H: NodeHash>(
     alloc: Global,
     torrent: &Torrent,

@@ -12,8 +12,8 @@ use bt_store::{FileStore, Settled};
 use bt_tree::NodeHash;
 use std::alloc::{AllocError, Global};
 
-/// Reads back those of `count` blocks of this file from `from` on that wait and whose leaf is known, and notes
-/// what became of each, and then whether the device failed.
+/// Reads back those of `count` blocks of this file from `from` on that wait and whose leaf is known, and
+/// notes what became of each, and then whether the device failed.
 ///
 /// Out of memory comes before the first read.
 pub fn settle_blocks<D: Disk + Drop, H: NodeHash>(

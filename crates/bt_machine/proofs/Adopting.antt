@@ -160,7 +160,7 @@ module _ (dig : Digest) where
           ]
           | inr r ↦
               let apart = other_file file _ r.meant in
-              let same = groups_others s a.mid file 0 _ total a.adopts apart in
+              let same = groups_others s a.taken_in file 0 _ total a.adopts apart in
               inr (read_back (record {
                 tree = r.facts;
                 bytes = r.bytes;

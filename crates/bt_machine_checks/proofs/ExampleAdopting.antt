@@ -39,7 +39,7 @@ module _ (dig : Digest) (infohash : List ℕ) where
       (record {
         state = file_in x;
         groups = reads_at 0 3 (read ∷ []) ∷ [];
-        mid = engine y;
+        taken_in = engine y;
         settling = [];
         notes = [];
         settled = engine y;
