@@ -74,8 +74,8 @@ pub fn step_writes_missing<H: NodeHash>(_hash: H)
 {}
 
 /// After any list of events from the start of a torrent at most 64 peers are connected, in the order of
-/// their keys, and none was closed for a fault of its stream. Each is asked for at most 16 blocks, which are
-/// missing, and no block is asked twice.
+/// their keys, and to none of them was a fault of its stream answered. Each is asked for at most 16 blocks,
+/// which are missing, and no block is asked twice.
 pub fn runs_are_orderly<H: NodeHash>(_hash: H)
     ensures { RunsAreOrderly H.digest }
 {}
