@@ -17,6 +17,3 @@ pub use law::{first_fault_is_one, spellings_are_prefix_free};
 pub use reader::{MAX_NESTING, parse};
 pub use value::Value;
 pub use writer::write;
-
-#[cfg(test)]
-mod tests;

@@ -1,11 +1,11 @@
 -- What a peer of a book is asked for.
-use Rattle.std.proofs.Common.{◌≡◌, ◌≢◌, ℕ, zero, suc, ◌<◌, ◌≤◌, true, not, List, [], ◌∷◌, length, get_or, set, map, filter, count_by, refl, arith}
+use Rattle.std.proofs.Common.{◌≡◌, ◌≢◌, ℕ, zero, suc, ◌<◌, ◌≤◌, true, not, List, [], ◌∷◌, ◌++◌, length, get_or, set, map, filter, count_by, refl, arith}
 use Rattle.std.specs.List.{All}
 use Rattle.std.proofs.lemmas.List.Elements.{All-head, All-tail}
 use Rattle.std.proofs.lemmas.Bool.Decides.{nat_tests}
 use Rattle.bt_book.specs.declared.names.PeerKey.{PeerKey}
 use Rattle.bt_book.specs.declared.names.BlockId.{BlockId}
-use Rattle.bt_book.specs.Book.{PeerRequests, is_of, asked_in, change_of}
+use Rattle.bt_book.specs.Book.{PeerRequests, is_of, asked_in, change_of, without_block, without_block_of}
 use Rattle.bt_book.proofs.Once.{counted, count_cons, filter_none}
 
 module _ (key : PeerKey) where
@@ -50,6 +50,32 @@ module _ (key : PeerKey) where
   pub asked_cleared : (peers : List PeerRequests) → asked_in key (map (change_of key (λ _. [])) peers) ≡ []
   asked_cleared [] = refl
   asked_cleared (r ∷ rs) = grind (arith, asked_cleared rs)
+
+  -- ---- a peer joins
+  pub asked_joined : (peers : List PeerRequests) → count_by (is_of key) peers ≡ 0 → asked_in key (peers ++ (record { peer = key; blocks = [] }) ∷ []) ≡ []
+  asked_joined [] none = grind (arith, nat_tests)
+  asked_joined (r ∷ rs) none = grind (arith, count_cons (is_of key) r rs, asked_joined rs)
+
+  pub asked_joined_other : (other : PeerKey) (peers : List PeerRequests) → other.0 ≢ key.0
+      → asked_in other (peers ++ (record { peer = key; blocks = [] }) ∷ []) ≡ asked_in other peers
+  asked_joined_other other [] ne = grind (arith, nat_tests)
+  asked_joined_other other (r ∷ rs) ne = grind (arith, asked_joined_other other rs ne)
+
+  -- of a peer that is there
+  pub asked_changed : (change : List BlockId → List BlockId) (peers : List PeerRequests) → 0 < count_by (is_of key) peers
+      → asked_in key (map (change_of key change) peers) ≡ change (asked_in key peers)
+  asked_changed change [] some = absurd (omega arith)
+  asked_changed change (r ∷ rs) some = grind (arith, count_cons (is_of key) r rs, asked_changed change rs)
+
+  -- what a peer that has not joined is asked for stays nothing
+  pub asked_forgotten : (b : BlockId) (peers : List PeerRequests)
+      → asked_in key (map (change_of key (without_block b)) peers) ≡ without_block b (asked_in key peers)
+  asked_forgotten b [] = refl
+  asked_forgotten b (r ∷ rs) = grind (arith, asked_forgotten b rs)
+
+  pub asked_done : (b : BlockId) (peers : List PeerRequests) → asked_in key (map (without_block_of b) peers) ≡ without_block b (asked_in key peers)
+  asked_done b [] = refl
+  asked_done b (r ∷ rs) = grind (arith, asked_done b rs)
 
   pub asked_changed_other : (other : PeerKey) (change : List BlockId → List BlockId) (peers : List PeerRequests) → other.0 ≢ key.0
       → asked_in other (map (change_of key change) peers) ≡ asked_in other peers

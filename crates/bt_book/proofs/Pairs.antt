@@ -8,8 +8,8 @@ use Rattle.std.proofs.lemmas.List.Sums.{sum_by-cons, sum_by_push, sum_by-set, su
 use Rattle.std.proofs.lemmas.Bool.Decides.{nat_tests}
 use Rattle.bt_book.specs.declared.names.PeerKey.{PeerKey}
 use Rattle.bt_book.specs.declared.names.BlockId.{BlockId}
-use Rattle.bt_book.specs.Blocks.{Blocks, of_file, IsInRange, member, is_block, with_block}
-use Rattle.bt_book.specs.Book.{PeerRequests, is_of, asked_in, change_of, pairs_in, without_block, without_block_of, IsBook}
+use Rattle.bt_book.specs.Blocks.{Blocks, of_file, IsInRange, member, is_block, with_block, GivesFirst, IsLeast, HasNone, says}
+use Rattle.bt_book.specs.Book.{PeerRequests, is_of, asked_in, change_of, pairs_in, without_block, without_block_of, IsBook, IsUnasked, IsLeastUnasked, HasNoneUnasked}
 use Rattle.bt_book.proofs.Asked.{asked_at, changed_at, asked_short}
 use Rattle.bt_book.specs.BookSteps.{one_if, IsKept, IsIndexOf, AreAdded}
 use Rattle.bt_book.proofs.BlockSets.{member_with, shape_with, member_in_range}
@@ -18,6 +18,9 @@ use Rattle.bt_book.proofs.Once.{counted, count_cons, filter_none, filter_one}
 -- ---- one block among others
 same_block : (b c : BlockId) → is_block b c ≡ true → c ≡ b
 same_block b c same = grind (arith, nat_tests)
+
+is_itself : (b : BlockId) → is_block b b ≡ true
+is_itself b = grind (arith, nat_tests)
 
 is_block_turned : (b c : BlockId) → is_block b c ≡ is_block c b
 is_block_turned b c = grind (arith, nat_tests)
@@ -207,6 +210,13 @@ module _ {wanted unasked : Blocks} {peers : List PeerRequests} (kept : IsKept wa
             let is = is_member wanted b (omega (arith, some, count_le_pairs b peers i e inside read, kept.counts b)) in
             omega (arith, member_in_range wanted b is, kept.shape b.file)
 
+    -- no pair of the block is left
+    pub free_came : (b : BlockId) → 0 < count_by (is_block b) e.blocks
+        → pairs_in (set peers i (record e { blocks = without_block b e.blocks })) b ≡ 0
+    free_came b some =
+        let r : PeerRequests = record e { blocks = without_block b e.blocks } in
+        grind (arith, sum_by-set (λ q. count_by (is_block b) q.blocks) peers i r e inside, count_without b b e.blocks, is_itself b, some, kept.counts b)
+
     pub kept_choked : (new : Blocks) → AreAdded unasked e.blocks new → IsKept wanted new (set peers i (record e { blocks = [] }))
     kept_choked new added = kept_set new [] (omega arith) added.shape (λ b. omega (arith, added.counts b))
 
@@ -216,6 +226,35 @@ found_joined key {given = given} (Some i) same found some =
     let d : PeerRequests = record { peer = key; blocks = [] } in
     rw (← same) (counted (is_of key) given i d found.inside (found.here d))
 found_joined key None same found some = cc
+
+-- ---- the blocks that may be asked
+module _ {wanted unasked : Blocks} {peers : List PeerRequests} (kept : IsKept wanted unasked peers) where
+  unasked_is : (b : BlockId) → member unasked b ≡ true → IsUnasked (record { wanted = wanted; peers = peers }) b
+  unasked_is b is = record {
+    wanted = grind (arith, kept.counts b);
+    free = grind (arith, kept.counts b);
+  }
+
+  is_unasked : (b : BlockId) → IsUnasked (record { wanted = wanted; peers = peers }) b → member unasked b ≡ true
+  is_unasked b free = grind (arith, kept.counts b, free.wanted, free.free)
+
+  module _ (next : BlockId → Option BlockId → Type 0) (has : BlockId → Bool) (gives_first : GivesFirst next wanted has) where
+    gives_unasked : GivesFirst next unasked has
+    gives_unasked b r inside gives = gives_first b r (omega (arith, inside, kept.shape b.file)) gives
+
+    pub least_asked : (b : BlockId) → (GivesFirst next unasked has → IsLeast (says has) unasked b)
+        → IsLeastUnasked (says has) (record { wanted = wanted; peers = peers }) b
+    least_asked b least =
+        let found = least gives_unasked in
+        record {
+          unasked = unasked_is b found.among;
+          held = found.held;
+          least = λ c before free. found.least c before (is_unasked c free);
+        }
+
+    pub none_asked : (GivesFirst next unasked has → HasNone (says has) unasked)
+        → HasNoneUnasked (says has) (record { wanted = wanted; peers = peers })
+    none_asked none c free = none gives_unasked c (is_unasked c free)
 
 -- ---- the laws
 pub book_is : {wanted unasked : Blocks} {peers : List PeerRequests} → IsKept wanted unasked peers → IsBook (record { wanted = wanted; peers = peers })

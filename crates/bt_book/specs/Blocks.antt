@@ -1,5 +1,6 @@
 -- A set of blocks: for each file, a list that says of each of its blocks whether it is a member.
-use Rattle.std.specs.Prelude.{◌≡◌, ℕ, ◌^◌, ◌<◌, ◌⊎◌, ◌==◌, ◌&&◌, min, Bool, true, false, List, [], length, slice_index_or, slice_set}
+use Rattle.std.specs.Prelude.{◌≡◌, ℕ, ◌^◌, ◌<◌, ◌≤◌, ◌⊎◌, ◌==◌, ◌&&◌, min, Option, IfSome, IfNone, Bool, true, false, List, [], length, slice_index_or, slice_set}
+use Rattle.bt_book.specs.BitSet.{HasNoneFrom}
 use Rattle.bt_book.specs.declared.names.BlockId.{BlockId}
 
 abbrev pub Blocks : Type 0
@@ -50,8 +51,32 @@ abbrev pub HasNoneIn : (BlockId → Bool → Type 0) → List Bool → ℕ → T
 HasNoneIn has blocks file =
     (c : BlockId) → c.file ≡ file → slice_index_or blocks c.block false ≡ true → has c false
 
--- a file with a member is marked, where a block may name it at all; no file has 2 ^ 32 blocks
+-- a test says of a block just what it gives
+abbrev pub says : (BlockId → Bool) → BlockId → Bool → Type 0
+says has b r = has b ≡ r
+
+-- c is b, or stands behind it
+abbrev pub IsFrom : BlockId → BlockId → Type 0
+IsFrom b c = (b.file < c.file) ⊎ ((b.file ≡ c.file) × (b.block ≤ c.block))
+
+-- the first block, from one on, of which `has` is true
+pub record IsFirst (has : BlockId → Bool) (from b : BlockId) : Type 0 where
+  pub after : IsFrom from b
+  pub held : has b ≡ true
+  pub least : (c : BlockId) → IsFrom from c → IsBefore c b → has c ≡ false
+
+abbrev pub HasNoFirst : (BlockId → Bool) → BlockId → Type 0
+HasNoFirst has from = (c : BlockId) → IsFrom from c → has c ≡ false
+
+-- at each block of the torrent `next` gives the first one, from there on, of which `has` is true, where
+-- `next b r` is that it may give r at b
+abbrev pub GivesFirst : (BlockId → Option BlockId → Type 0) → Blocks → (BlockId → Bool) → Type 0
+GivesFirst next set has = (b : BlockId) (r : Option BlockId) → IsInRange set b → next b r
+    → IfSome r (IsFirst has b) × IfNone r (HasNoFirst has b)
+
+-- the files with a member are marked, where a block may name them at all; no file has 2 ^ 32 blocks
 pub record IsFilled (set : Blocks) (marks : List Bool) : Type 0 where
   pub size : length marks ≡ min (length set) (2 ^ 32)
   pub short : (file : ℕ) → length (of_file set file) < 2 ^ 32
   pub marked : (b : BlockId) → member set b ≡ true → slice_index_or marks b.file false ≡ true
+  pub exact : (file : ℕ) → HasNoneFrom (of_file set file) 0 → slice_index_or marks file false ≡ false

@@ -108,6 +108,14 @@ pub record IsLeastUnasked (has : BlockId → Bool → Type 0) (book : BookState)
 abbrev pub HasNoneUnasked : (BlockId → Bool → Type 0) → BookState → Type 0
 HasNoneUnasked has book = (c : BlockId) → IsUnasked book c → has c false
 
+-- a test is true of a wanted block
+abbrev pub HasWanted : (BlockId → Bool) → BookState → Type 0
+HasWanted has book = (b : BlockId) × (member book.wanted b ≡ true) × (has b ≡ true)
+
+-- it is true of no wanted block
+abbrev pub HasNoneWanted : (BlockId → Bool) → BookState → Type 0
+HasNoneWanted has book = (b : BlockId) → member book.wanted b ≡ true → has b ≡ false
+
 -- ---- what every book keeps to
 pub record IsBook (book : BookState) : Type 0 where
   pub few : length book.peers ≤ max_peers

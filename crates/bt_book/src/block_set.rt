@@ -1,5 +1,6 @@
 ghost use Rattle.std.specs.Prelude.{◌≡◌, ◌≢◌, ℕ, ◌+◌, ◌^◌, ◌<◌, ◌≤◌, true, false, Bool, List, length, map, replicate, slice_index_or, IfSome, IfNone, IfOk, IsTrue, ◌↔◌};
-ghost use Rattle.bt_book.specs.Blocks.{Blocks, member, IsInRange, with_block, IsLeast, HasNone, IsLeastIn, HasNoneIn};
+ghost use Rattle.bt_book.specs.BitSet.{IsNext, HasNoneFrom};
+ghost use Rattle.bt_book.specs.Blocks.{Blocks, member, IsInRange, with_block, IsBefore, IsLeast, HasNone, IsLeastIn, HasNoneIn, says, IsFirst, HasNoFirst, GivesFirst};
 
 use crate::bit_set::BitSet;
 use crate::names::BlockId;
@@ -11,7 +12,7 @@ use std::marker::Model;
 pub(crate) struct BlockSet {
     /// The blocks of each file.
     files: Vec<BitSet>,
-    /// The files that may have a member: where a file is not in it, none of its blocks is.
+    /// The files that have a member.
     filled: BitSet,
 }
 
@@ -88,6 +89,47 @@ impl BlockSet {
         }
         None
     }
+
+    /// The first member from a block on.
+    pub fn next(&self, from: BlockId) -> Option<BlockId>
+        ensures some { IfSome result (IsFirst (member self.now) from) }
+        ensures none { IfNone result (HasNoFirst (member self.now) from) }
+    {
+        let first = from.file as usize;
+        if first >= self.files.len() {
+            return None;
+        }
+        if let Some(block) = next_in(&self.files[first], from.file, from.block as usize) {
+            return Some(block);
+        }
+        let Some(file) = self.filled.next(first + 1) else {
+            return None;
+        };
+        next_in(&self.files[file], file as u32, 0)
+    }
+
+    /// The least member at which `next` gives that very block. It leaps from a member to what `next` gives
+    /// there, and from that to the next member.
+    pub fn meet<F: Fn(BlockId) -> Option<BlockId>>(&self, next: &F) -> Option<BlockId>
+        requires { (block : BlockId) → IsInRange self.now block → F.pre next.now block }
+        ensures among { IfSome result (λ b. member self.now b ≡ true) }
+        ensures some { IfSome result (λ b. (has : BlockId → Bool) → GivesFirst (F.post next.now) self.now has
+            → IsLeast (says has) self.now b) }
+        ensures none { IfNone result ((has : BlockId → Bool) → GivesFirst (F.post next.now) self.now has
+            → HasNone (says has) self.now) }
+    {
+        let mut from = BlockId { file: 0, block: 0 };
+        while let Some(block) = self.next(from) {
+            let Some(held) = next(block) else {
+                return None;
+            };
+            if !is_before(block, held) {
+                return Some(block);
+            }
+            from = held;
+        }
+        None
+    }
 }
 
 /// The least member of a file's blocks of which `has` says that it holds.
@@ -110,4 +152,26 @@ fn least_in<F: Fn(BlockId) -> bool>(blocks: &BitSet, file: u32, has: &F) -> Opti
         from = number + 1;
     }
     None
+}
+
+/// Whether the one stands before the other.
+fn is_before(one: BlockId, other: BlockId) -> bool
+    ensures before { IsTrue result ↔ IsBefore one other }
+    ensures fits { (other.file < 2 ^ 32) × (other.block < 2 ^ 32) }
+{
+    one.file < other.file || (one.file == other.file && one.block < other.block)
+}
+
+/// The first member of a file's blocks from a number on.
+fn next_in(blocks: &BitSet, file: u32, from: usize) -> Option<BlockId>
+    requires { length blocks.now < 2 ^ 32 }
+    ensures of { IfSome result (λ b. b.file ≡ file) }
+    ensures some { IfSome result (λ b. IsNext blocks.now from b.block) }
+    ensures none { IfNone result (HasNoneFrom blocks.now from) }
+{
+    let number = blocks.next(from)?;
+    Some(BlockId {
+        file,
+        block: number as u32,
+    })
 }

@@ -1,7 +1,7 @@
-ghost use Rattle.std.specs.Prelude.{◌≡◌, ◌<◌, ◌≤◌, ◌↔◌, ◌⊎◌, [], length, map, All, count_by, IsTrue, IfSome, OnSome, IfNone, IfOk};
+ghost use Rattle.std.specs.Prelude.{◌≡◌, ◌<◌, ◌≤◌, ◌↔◌, ◌⊎◌, Bool, [], ◌∷◌, ◌++◌, length, map, All, count_by, IsTrue, IfSome, OnSome, IfNone, IfOk};
 ghost use Rattle.std.specs.Bool.{OnTrue, OnFalse};
-ghost use Rattle.bt_book.specs.Blocks.{IsInRange, is_block};
-ghost use Rattle.bt_book.specs.Book.{IsJoined, empty_book, asked_of, with_peer, without_peer, with_pair, without_pair, without_pairs_of, with_wanted, with_done, without_block_of, IsLeastUnasked, HasNoneUnasked, IsBook, IsPair, KeepsOthers, max_peers, max_requests};
+ghost use Rattle.bt_book.specs.Blocks.{IsInRange, is_block, says, GivesFirst};
+ghost use Rattle.bt_book.specs.Book.{IsJoined, empty_book, asked_of, with_peer, without_peer, with_pair, without_pair, without_pairs_of, with_wanted, with_done, without_block, without_block_of, IsLeastUnasked, HasNoneUnasked, HasWanted, HasNoneWanted, IsBook, IsPair, pair_count, KeepsOthers, max_peers, max_requests};
 ghost use Rattle.bt_book.specs.BookSteps.{AreAdded, CanAdd};
 
 use crate::block_set::BlockSet;
@@ -56,6 +56,8 @@ impl Book {
     pub fn join(&mut self, peer: PeerKey) -> bool
         ensures when { IsTrue result ↔ ((¬ IsJoined self.old peer) × (length self.old.peers < max_peers)) }
         ensures joined { OnTrue result (self.new ≡ with_peer self.old peer) }
+        ensures asked { OnTrue result (asked_of self.new peer ≡ []) }
+        ensures others { KeepsOthers self.old self.new peer }
         ensures kept { OnFalse result (self.new ≡ self.old) }
     {
         if index_of(&self.peers, peer).is_some() || self.peers.len() >= MAX_PEERS {
@@ -95,6 +97,8 @@ impl Book {
     pub fn came(&mut self, peer: PeerKey, block: BlockId) -> bool
         ensures was { IsTrue result ↔ IsPair self.old peer block }
         ensures now { self.new ≡ without_pair self.old peer block }
+        ensures asked { asked_of self.new peer ≡ without_block block (asked_of self.old peer) }
+        ensures free { OnTrue result (pair_count self.new block ≡ 0) }
         ensures kept { OnFalse result (self.new ≡ self.old) }
         ensures others { KeepsOthers self.old self.new peer }
     {
@@ -118,7 +122,8 @@ impl Book {
     /// A block is wanted from now on.
     pub fn want(&mut self, block: BlockId)
         requires { IsInRange self.old.wanted block }
-        ensures { self.new ≡ with_wanted self.old block }
+        ensures now { self.new ≡ with_wanted self.old block }
+        ensures asked { (peer : PeerKey) → asked_of self.new peer ≡ asked_of self.old peer }
     {
         if !self.wanted.contains(block) {
             self.wanted.insert(block);
@@ -129,7 +134,9 @@ impl Book {
     /// A block is wanted no more, and the pair that it is in is dropped.
     pub fn done(&mut self, block: BlockId)
         requires { IsInRange self.old.wanted block }
-        ensures { self.new ≡ with_done self.old block }
+        ensures now { self.new ≡ with_done self.old block }
+        ensures asked { (peer : PeerKey)
+            → asked_of self.new peer ≡ without_block block (asked_of self.old peer) }
     {
         if !self.wanted.contains(block) {
             return;
@@ -144,11 +151,14 @@ impl Book {
 
     /// Asks a peer for the least wanted block of which `has` says that the peer has it and that no peer is
     /// asked for: the two are a pair from now on. None where there is no such block, where the peer is asked
-    /// for 16, and where it has not joined; nothing changes then.
+    /// for 16, and where it has not joined; nothing changes then. It asks `has` of each block that may be asked
+    /// before the one that it finds: `ask_next` leaps over what the peer lacks.
     pub fn ask<F: Fn(BlockId) -> bool>(&mut self, peer: PeerKey, has: F) -> Option<BlockId>
         requires { (block : BlockId) → IsInRange self.old.wanted block → F.pre has block }
         ensures least { IfSome result (IsLeastUnasked (F.post has) self.old) }
         ensures now { IfSome result (λ block. self.new ≡ with_pair self.old peer block) }
+        ensures asked { IfSome result (λ block. asked_of self.new peer ≡ asked_of self.old peer ++ block ∷ []) }
+        ensures others { KeepsOthers self.old self.new peer }
         ensures joined { OnSome result (IsJoined self.old peer) }
         ensures room { OnSome result (length (asked_of self.old peer) < max_requests) }
         ensures none { IfNone result ((¬ IsJoined self.old peer)
@@ -167,6 +177,58 @@ impl Book {
         self.unasked.remove(block);
         self.peers[index].push(block);
         Some(block)
+    }
+
+    /// Asks a peer for the least wanted block that the peer has and that no peer is asked for: the two are a
+    /// pair from now on. None where there is no such block, where the peer is asked for 16, and where it has
+    /// not joined; nothing changes then.
+    ///
+    /// What the peer has is told by `next`: at each block of the torrent it gives the first one, from there
+    /// on, that the peer has. It is called once for each time that the peer's blocks and those that may be
+    /// asked alternate.
+    pub fn ask_next<F: Fn(BlockId) -> Option<BlockId>>(
+        &mut self,
+        peer: PeerKey,
+        next: F,
+    ) -> Option<BlockId>
+        requires { (block : BlockId) → IsInRange self.old.wanted block → F.pre next block }
+        ensures least { IfSome result (λ block. (has : BlockId → Bool)
+            → GivesFirst (F.post next) self.old.wanted has → IsLeastUnasked (says has) self.old block) }
+        ensures now { IfSome result (λ block. self.new ≡ with_pair self.old peer block) }
+        ensures asked { IfSome result (λ block.
+            asked_of self.new peer ≡ asked_of self.old peer ++ block ∷ []) }
+        ensures others { KeepsOthers self.old self.new peer }
+        ensures joined { OnSome result (IsJoined self.old peer) }
+        ensures room { OnSome result (length (asked_of self.old peer) < max_requests) }
+        ensures none { IfNone result ((¬ IsJoined self.old peer)
+            ⊎ (length (asked_of self.old peer) ≡ max_requests)
+            ⊎ ((has : BlockId → Bool) → GivesFirst (F.post next) self.old.wanted has
+            → HasNoneUnasked (says has) self.old)) }
+        ensures kept { IfNone result (self.new ≡ self.old) }
+    {
+        let Some(index) = index_of(&self.peers, peer) else {
+            return None;
+        };
+        if self.peers[index].is_full() {
+            return None;
+        }
+        let Some(block) = self.unasked.meet(&next) else {
+            return None;
+        };
+        self.unasked.remove(block);
+        self.peers[index].push(block);
+        Some(block)
+    }
+
+    /// Whether a peer has a block that is wanted, also one that a peer is asked for. `next` is as for `ask_next`.
+    pub fn wants<F: Fn(BlockId) -> Option<BlockId>>(&self, next: F) -> bool
+        requires { (block : BlockId) → IsInRange self.now.wanted block → F.pre next block }
+        ensures yes { OnTrue result ((has : BlockId → Bool) → GivesFirst (F.post next) self.now.wanted has
+            → HasWanted has self.now) }
+        ensures no { OnFalse result ((has : BlockId → Bool) → GivesFirst (F.post next) self.now.wanted has
+            → HasNoneWanted has self.now) }
+    {
+        self.wanted.meet(&next).is_some()
     }
 
     /// The laws of a book: no peer has joined twice, each block is in one pair at most, and it is wanted

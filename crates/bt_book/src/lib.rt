@@ -16,6 +16,3 @@ mod requests;
 pub use book::Book;
 pub use choking::{Standing, choose};
 pub use names::{BlockId, PeerKey};
-
-#[cfg(test)]
-mod tests;

@@ -23,6 +23,3 @@ pub use law::{
 pub use loss::Loss;
 pub use memory_disk::MemoryDisk;
 pub use pool::{HandlePool, PooledDisk};
-
-#[cfg(test)]
-mod tests;

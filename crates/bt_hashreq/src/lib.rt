@@ -13,6 +13,3 @@ pub use fields::{number_at, put};
 pub use key::{HashKey, KEY_LEN, read_key, write_key};
 pub use law::{keys_are_read_back, plans_are_lawful, plans_teach};
 pub use request::plan;
-
-#[cfg(test)]
-mod tests;

@@ -13,6 +13,3 @@ mod padding;
 
 pub use lanes::Lanes;
 pub use many::digest_many;
-
-#[cfg(test)]
-mod tests;

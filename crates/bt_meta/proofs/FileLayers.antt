@@ -1,9 +1,9 @@
 -- The layers of the files of a torrent that is read.
 use Rattle.bt_meta.proofs.Base.{◌≡◌, ◌≢◌, All-tail, ℕ, zero, suc, ◌<◌, false, List, [], ◌∷◌, length, get_or, None, Some, Err, refl, sym, ◌∙◌, arith, add-one, append_assoc, append-nil, inl, inr, ◌+◌, ◌≤◌, ◌++◌, take, drop, map, nat_eq, Vec, nat_cmp, pointwise, slice_cmp, Ordering, Equal, cases_lt, false_from_ne_true, nat_list_cmp_total, tied_itself, exact_bytes, bytes_eq-Decides, drop_more, map_push, take_all, sha256, Data, data_of, entries_of, first_value_of, EntriesAscend, IsBefore, Value, max_file_length, file_of, File, file_at, files_of, piece_count, FileEntry, has_layer_size, has_root, first_of, layer_check, layer_checks, with_layer, layer_fault, layer_faults, MetaError, LayerSize, LayerDiffers, no_dictionary, TreeEntry, with_earlier}
-use Rattle.std.proofs.Common.{set}
+use Rattle.std.proofs.Common.{ap, set, subst, ◌-◌, ◌*◌, ◌^◌}
 use Rattle.std.specs.List.{HoldsAt}
 use Rattle.std.specs.List.Sorted.{IsBinarySearchResult}
-use Rattle.std.proofs.lemmas.Bool.{ne_eqb, eq-eqb}
+use Rattle.std.proofs.lemmas.Bool.{ne_eqb, eq-eqb, eqb-true}
 use Rattle.std.proofs.lemmas.List.Sorted.{searchable_from_sorted}
 use Rattle.std.proofs.lemmas.Cmp.{on_total}
 use Rattle.std.proofs.lemmas.List.{take_more_set, drop-set-lt, drop_all}
@@ -11,10 +11,12 @@ use Rattle.std.proofs.lemmas.List.Sums.{sum-map}
 use Rattle.std.proofs.lemmas.Simd.{map-map}
 use Rattle.std.proofs.lemmas.Map.Keys.{sorted_from_all_adjacent, Less-from_sorted}
 use Rattle.bt_tree.specs.Blocks.{block_count}
-use Rattle.bt_tree.specs.TreeShape.{height_of}
-use Rattle.bt_tree.proofs.TreeShape.{height_is}
-use Rattle.bt_tree.specs.Layers.{HasLayerSize, IsLayer}
+use Rattle.bt_tree.specs.Limits.{full_block_length}
+use Rattle.bt_tree.specs.TreeShape.{height_of, real_width}
+use Rattle.bt_tree.proofs.TreeShape.{height_is, same_height, le_from_pow}
+use Rattle.bt_tree.specs.Layers.{HasLayerSize, IsLayer, fold_of, layer_digests}
 use Rattle.bt_meta.specs.Layers.{piece_layer_of}
+use Rattle.bt_meta.specs.Torrent.{IsLawfulFile}
 use Rattle.bt_meta.specs.ReaderSteps.{Refuses, AreShort, pieces_in}
 use Rattle.bt_meta.specs.LayerSteps.{layer_bytes_fault}
 
@@ -145,3 +147,33 @@ module _ (n : ℕ) (layers : Data) where
   pieces_after pieces old new e h =
       let count = λ (f : File). piece_count n f.length in
       e ∙ rw (h, ← sum-map count (map (with_layer n layers) (map file_of old)), map-map, sum-map) refl
+
+-- ==== the layer of a file of a torrent is a layer of its tree
+
+layer_of_pieces : (layer : ℕ) → piece_layer_of (full_block_length * 2 ^ layer) ≡ layer
+layer_of_pieces layer =
+    let blocks : block_count (full_block_length * 2 ^ layer) ≡ 2 ^ layer = omega arith in
+    let shape = height_is (2 ^ layer) in
+    ap height_of blocks ∙ same_height (2 ^ layer) (height_of (2 ^ layer)) layer shape (record { enough = omega arith; least = λ k. le_from_pow layer k })
+
+-- a file longer than a piece has the layer of pieces
+layer_inside : (bytes layer : ℕ) → full_block_length * 2 ^ layer < bytes → layer ≤ height_of (block_count bytes)
+layer_inside bytes layer long =
+    let enough = (height_is (block_count bytes)).enough in
+    le_from_pow layer (height_of (block_count bytes)) (omega (arith, enough))
+
+pub tree_layer : (n layer : ℕ) (file : File) → n ≡ full_block_length * 2 ^ layer → IsLawfulFile n file → file.layer ≢ []
+    → IsLayer sha256 (block_count file.length) file.root layer file.layer
+unfolding has_root has_layer_size
+tree_layer n layer file size h some =
+    let same : piece_layer_of n ≡ layer = ap piece_layer_of size ∙ layer_of_pieces layer in
+    let long : n < file.length = h.long some in
+    let blocks : ℕ = block_count file.length in
+    let whole : length file.layer ≡ 32 * real_width blocks layer =
+    eqb-true (length file.layer) (32 * real_width blocks (piece_layer_of n)) (h.sized some) ∙ ap (λ k. 32 * real_width blocks k) same in
+    let folds : fold_of sha256 (height_of blocks - piece_layer_of n) (layer_digests sha256 blocks (piece_layer_of n) file.layer) ≡ file.root =
+    (bytes_eq-Decides _ _).0 (h.folds some) in
+    record {
+      size = record { inside = layer_inside file.length layer (omega (arith, size, long)); size = whole };
+      folds = subst (λ k. fold_of sha256 (height_of blocks - k) (layer_digests sha256 blocks k file.layer) ≡ file.root) same folds;
+    }

@@ -16,6 +16,8 @@ pub mod ReadRefusals
 pub mod ReadFiles
 -- where a range of a piece lies
 pub mod PlacePieces
+-- the blocks of a piece, and the range of its piece that a block is
+pub mod PieceBlocks
 -- making: the files one by one, their order, and no path that begins another
 pub mod MakeFiles
 -- making: the value, its tree and its layers

@@ -22,7 +22,7 @@ module _ (n : ℕ) (files : List File) (lay : IsLaidOut n files) (j k : ℕ) (d 
   begins le = rw (lay.in_turn j d (omega arith), lay.in_turn k d within) (sums_rise j le)
 
   -- one before it ends there or before
-  ends : j < k → (get_or files j d).first_piece + piece_count n (get_or files j d).length ≤ (get_or files k d).first_piece
+  pub ends : j < k → (get_or files j d).first_piece + piece_count n (get_or files j d).length ≤ (get_or files k d).first_piece
   ends lt = rw (lay.in_turn j d (omega arith), lay.in_turn k d within)
       (rw (sum_by_more (λ f. piece_count n f.length) files j d (omega arith)) at (sums_rise (j + 1) (omega arith)))
 

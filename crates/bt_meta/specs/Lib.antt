@@ -10,6 +10,7 @@ pub mod Error
 pub mod Faults
 pub mod Torrent
 pub mod Place
+pub mod PieceBlocks
 pub mod Reader
 pub mod Law
 -- a torrent that is made

@@ -1,8 +1,32 @@
-ghost use Rattle.bt_meta.specs.Law.{SpellsOneTorrent, IsRefusedForMemoryAlone};
+ghost use Rattle.bt_meta.specs.Law.{SpellsOneTorrent, IsRefusedForMemoryAlone, IsTreeLayer, LiesInItsPiece, BeginsBehindBlocks, RunHasBlocks, RangeHasPiece, RangeIsPlace, PlaceIsRange};
 
 /// The law by which a torrent that was made is read back: no bytes spell two torrents, and bytes that spell
 /// one are refused with `OutOfMemory` alone. It does nothing when it runs.
 pub fn torrents_are_read_back()
     ensures one_torrent { SpellsOneTorrent }
     ensures refused_for_memory { IsRefusedForMemoryAlone }
+{}
+
+/// The law by which a file's layer serves as a layer of its tree: the layer that a lawful file has is the one
+/// whose nodes have the blocks of a piece, below the file's root. It does nothing when it runs.
+pub fn layers_are_of_trees()
+    ensures { IsTreeLayer }
+{}
+
+/// The laws by which `Torrent::blocks_of` and `Torrent::range_of` are each other's inverse: the range of a
+/// block lies in a piece of the torrent, and in that piece alone whose run has the block, behind the bytes of
+/// the run's blocks before it; and each block of a run is one of the torrent. They do nothing when they run.
+pub fn blocks_and_ranges_agree()
+    ensures in_piece { LiesInItsPiece }
+    ensures behind { BeginsBehindBlocks }
+    ensures has_block { RunHasBlocks }
+    ensures has_piece { RangeHasPiece }
+{}
+
+/// The laws by which `Torrent::range_of` and `Torrent::place` agree: the range of a block has its place where
+/// the block begins in its file, and a place that is a whole block is that block's range. They do nothing
+/// when they run.
+pub fn block_ranges_are_places()
+    ensures place { RangeIsPlace }
+    ensures range { PlaceIsRange }
 {}

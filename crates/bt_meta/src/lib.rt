@@ -7,6 +7,7 @@ mod fields;
 mod file_path;
 mod law;
 mod layers;
+mod piece_blocks;
 mod properties;
 mod reader;
 mod torrent;
@@ -15,14 +16,12 @@ mod writer;
 
 pub use error::MetaError;
 pub use file_path::{FilePath, MAX_PATH_LENGTH};
-pub use law::torrents_are_read_back;
+pub use law::{
+    block_ranges_are_places, blocks_and_ranges_agree, layers_are_of_trees, torrents_are_read_back,
+};
+pub use piece_blocks::{BlockRun, PieceRange};
 pub use properties::MAX_FILE_LENGTH;
 pub use reader::{MAX_TEXT_LENGTH, read_info, read_torrent};
 pub use torrent::{FileEntry, Span, Torrent};
 pub use walk::{MAX_FILES, MAX_PIECES};
 pub use writer::{Made, MakeError, make};
-
-#[cfg(test)]
-mod tests;
-#[cfg(test)]
-mod writer_tests;

@@ -160,7 +160,7 @@ impl Torrent {
     }
 
     /// The last file that begins at the piece or before it. Where a piece is a file's, it is this one's.
-    fn last_file_at(&self, piece: u32) -> Option<usize>
+    pub(crate) fn last_file_at(&self, piece: u32) -> Option<usize>
         ensures some { IfSome result (IsLastFileAt self.now.files piece) }
         ensures none { IfNone result (HasNoFileAt self.now.files piece) }
     {

@@ -16,9 +16,9 @@ pub mod Answers
 pub mod Paths
 pub mod Single
 pub mod NodeMaps
-pub mod MapBodies
 pub mod Requests
 pub mod LayerNodes
+pub mod LayerTrees
 pub mod Taken
 pub mod Leaves
 pub mod Anchors

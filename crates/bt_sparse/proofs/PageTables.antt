@@ -1,9 +1,11 @@
 -- Tables of pages and of layers: what is there after one of them has changed.
-use Rattle.std.proofs.Common.{◌≡◌, ℕ, zero, suc, ◌-◌, ◌/◌, ◌%◌, ◌<◌, inl, inr, List, [], ◌∷◌, ◌++◌, length, set, get_or, refl, sym, ap, ◌∙◌, get_or-set_same, get_or-set_other, arith}
+use Rattle.std.proofs.Common.{◌≡◌, ℕ, zero, suc, ◌+◌, ◌-◌, ◌/◌, ◌%◌, ◌<◌, ◌≤◌, inl, inr, List, [], ◌∷◌, ◌++◌, length, set, get_or, None, refl, sym, ap, ◌∙◌, get_or-set_same, get_or-set_other, arith}
 use Rattle.std.proofs.lemmas.Bool.{cases_lt, cases_eq}
 use Rattle.std.proofs.lemmas.List.{get_or_append_left, get_or-append_right, get_or_past, get_or_read}
 use Rattle.std.specs.FinMap as finite
+use Rattle.std.specs.Option.{IsSome}
 use Rattle.bt_sparse.specs.Page.{page_length}
+use Rattle.bt_sparse.specs.PageTable.{Pages, slot_at}
 use Rattle.bt_sparse.specs.LayerPages.{Tables, table_length, entry_at, KeepsTables, IsPutInto}
 use Rattle.bt_sparse.specs.NodeMap.{Layers, HasPlace, digest_at, number_limit, nodes_in}
 use Rattle.bt_sparse.proofs.NodeMaps.{node_at, nodes_kept, nodes_put}
@@ -48,3 +50,26 @@ module _ (old : Layers) (layer i : ℕ) (t : Tables) (read : t ≡ get_or old la
             (rw (get_or_read old layer t (has_layer old layer i place) read []) at (put.others j (apart here)))
         | inr other ↦ rw (get_or-set_other old layer l q [] other)
       ])
+
+-- ---- digests in a row, as far as a page goes
+-- of a page, and so of its table
+pub table_run : (pages : Pages) (i n : ℕ) → i % page_length + n ≤ page_length
+    → ((j : ℕ) → j < n → IsSome (get_or (get_or pages (i / page_length) []) (i % page_length + j) None)) → (j : ℕ) → j < n → IsSome (slot_at pages (i + j))
+table_run pages i n inside held j lt =
+    let page : (i + j) / 512 ≡ i / 512 = omega arith in
+    let place : (i + j) % 512 ≡ i % 512 + j = omega arith in
+    rw (page, place) (held j lt)
+
+-- of a table, and so of its layer
+pub layer_run : (tables : Tables) (i n : ℕ) → i % page_length + n ≤ page_length
+    → ((j : ℕ) → j < n → IsSome (slot_at (get_or tables (i / table_length) []) (i % table_length + j))) → (j : ℕ) → j < n → IsSome (entry_at tables (i + j))
+layer_run tables i n inside held j lt =
+    let flat : i % 262144 % 512 ≡ i % 512 = omega arith in
+    let table : (i + j) / 262144 ≡ i / 262144 = omega arith in
+    let place : (i + j) % 262144 ≡ i % 262144 + j = omega arith in
+    rw (table, place) (held j lt)
+
+-- of a layer, and so of the map
+pub node_run : (layers : Layers) (layer i n : ℕ) → layer < number_limit → i < number_limit → i % page_length + n ≤ page_length
+    → ((j : ℕ) → j < n → IsSome (entry_at (get_or layers layer []) (i + j))) → (j : ℕ) → j < n → IsSome (digest_at (nodes_in layers) layer (i + j))
+node_run layers layer i n low fits inside held j lt = rw (node_at layers layer (i + j) low (omega arith)) (held j lt)

@@ -1,12 +1,12 @@
 -- Pages: what is there after a page has grown, and after a digest was put.
-use Rattle.std.proofs.Common.{◌≡◌, ◌≢◌, ℕ, ◌-◌, ◌*◌, ◌/◌, ◌%◌, ◌^◌, ◌<◌, ◌≤◌, inl, inr, true, cond, eqb, List, [], ◌++◌, length, take, replicate, set, get_or, bit_or, Some, None, refl, sym, ap, ◌∙◌, w64, length-set, get_or-set_same, get_or-set_other, length-append, arith}
+use Rattle.std.proofs.Common.{◌≡◌, ◌≢◌, ℕ, ◌+◌, ◌-◌, ◌*◌, ◌/◌, ◌%◌, ◌^◌, ◌<◌, ◌≤◌, inl, inr, true, false, cond, List, [], ◌++◌, length, take, replicate, set, get_or, bit_or, Some, None, is_some, sym, ap, subst, ◌∙◌, w64, length-set, get_or-set_same, get_or-set_other, length-append, arith}
 use Rattle.std.specs.Int.{bit_at}
-use Rattle.std.proofs.lemmas.Bool.{cases_lt, cases_eq}
+use Rattle.std.proofs.lemmas.Bool.{cases_lt, cases_eq, eq-eqb}
 use Rattle.std.proofs.lemmas.Grind.{elements}
 use Rattle.std.proofs.lemmas.List.{length-replicate, get_or_past, get_or_read, length-take}
 use Rattle.std.proofs.lemmas.List.FromFn.{length-map-range_with_len, get_or-map-range_with_len}
-use Rattle.std.proofs.lemmas.Nat.{mod_below}
-use Rattle.std.proofs.lemmas.Nat.Bits.{bit_at-zero, bit_at_set_same, bit_at_set_other}
+use Rattle.std.proofs.lemmas.Nat.{mod_below, shr-shr}
+use Rattle.std.proofs.lemmas.Nat.Bits.{bit_at-zero, bit_at_above, bit_at_set_same, bit_at_set_other}
 use Rattle.bt_sparse.specs.Page.{is_present, slots_of, HasBits, IsLonger, IsPutAt}
 
 -- ---- what a page's fields show
@@ -89,3 +89,33 @@ module _ {ds : List (List ℕ)} {ws : List ℕ} (p w : ℕ) (d : List ℕ) (h : 
     others = λ i other. rw (slot_is (set ds p d) marked i put_bits, slot_is ds ws i h, mark_others i other, get_or-set_other ds p i d [] other);
     length_is = length-slots_of (set ds p d) marked ∙ length-set ds p d ∙ sym (length-slots_of ds ws);
   }
+
+-- ---- digests in a row
+-- a bit of the rest of a word is a bit of the words
+pub rest_present : (ws : List ℕ) (p w j : ℕ) → get_or ws (p / 64) 0 ≡ w → w < 2 ^ 64 → bit_at (w / 2 ^ (p % 64)) j ≡ 1 → is_present ws (p + j) ≡ true
+rest_present ws p w j read fits one =
+    let bit : bit_at w (p % 64 + j) ≡ 1 = sym (rest_bit w (p % 64) j) ∙ one in
+    let low : p % 64 + j < 64 = elim (cases_lt (p % 64 + j) 64) [
+      | inl lt ↦ lt
+      | inr ge ↦ (let none : bit_at w (p % 64 + j) ≡ 0 = bit_at_above w 64 (p % 64 + j) fits ge in absurd (omega (arith, none, bit)))
+    ] in
+    let word : (p + j) / 64 ≡ p / 64 = omega arith in
+    let place : (p + j) % 64 ≡ p % 64 + j = omega arith in
+    rw (word, place, read) (eq-eqb _ 1 bit)
+  where
+    rest_bit : (w from j : ℕ) → bit_at (w / 2 ^ from) j ≡ bit_at w (from + j)
+    rest_bit w from j = ap (λ n. n % 2) (shr-shr w from j)
+
+-- where the bit is set, there is a digest
+pub slot_some : (ds : List (List ℕ)) (ws : List ℕ) (i : ℕ) → HasBits ds ws → is_present ws i ≡ true → is_some (get_or (slots_of ds ws) i None) ≡ true
+slot_some ds ws i h set = ap is_some (slot_is ds ws i h ∙ ap (λ b. cond b (Some (get_or ds i [])) None) set)
+
+pub slot_none : (ds : List (List ℕ)) (ws : List ℕ) (i : ℕ) → HasBits ds ws → is_present ws i ≡ false → get_or (slots_of ds ws) i None ≡ None
+slot_none ds ws i h clear = slot_is ds ws i h ∙ ap (λ b. cond b (Some (get_or ds i [])) None) clear
+
+-- a row that grows by the next one
+pub row_more : (p : ℕ → Type 0) (n m : ℕ) → ((j : ℕ) → j < n → p j) → ((j : ℕ) → j < m → p (n + j)) → (j : ℕ) → j < n + m → p j
+row_more p n m first next j lt = elim (cases_lt j n) [
+  | inl below ↦ first j below
+  | inr le ↦ (let up : n + (j - n) ≡ j = omega arith in subst p up (next (j - n) (omega arith)))
+]

@@ -1,9 +1,9 @@
 -- Requests, and the claims that their answers make.
-use Rattle.std.proofs.Common.{◌≡◌, ℕ, ◌+◌, ◌-◌, ◌/◌, ◌^◌, ◌<◌, ◌≤◌, inl, inr, List, [], ◌∷◌, ◌++◌, length, take, drop, replicate, get_or, Option, Some, None, ◌≢◌, refl, sym, ap, ◌∙◌, length-drop, arith}
+use Rattle.std.proofs.Common.{◌≡◌, ℕ, ◌+◌, ◌-◌, ◌/◌, ◌^◌, ◌<◌, ◌≤◌, inl, inr, List, [], length, take, drop, replicate, get_or, set, Option, Some, None, ◌≢◌, refl, sym, ap, ◌∙◌, length-drop, get_or-set_same, get_or-set_other, arith}
 use Rattle.std.specs.Option.{unwrap_or, IsSome}
 use Rattle.std.proofs.lemmas.Bool.{cases_lt, lt-ltb, le-ltb, false≢true}
 use Rattle.std.proofs.lemmas.Bool.Decides.{nat_tests}
-use Rattle.std.proofs.lemmas.List.{length-take-le, get_or-take, get_or-drop, get_or_append_left, get_or_push, length-replicate}
+use Rattle.std.proofs.lemmas.List.{length-take-le, get_or-take, get_or-drop, length-replicate}
 use Rattle.bt_tree.specs.TreeShape.{height_of, IsInside, CoversBlock, IsPadding}
 use Rattle.bt_tree.specs.Tree.{padding_digest}
 use Rattle.bt_sparse.specs.SparseTree.{Facts, blocks_of, height, held_at, value_at, IsRooted}
@@ -108,11 +108,11 @@ held_known dig k layer i covers known = go (held_at k layer i) (λ h. known (val
     go (Some d) h = refl
 
 -- one more value
-pub one_more_value : (f : ℕ → Option (List ℕ)) (n : ℕ) (xs : List (List ℕ)) (d : List ℕ) → length xs ≡ n → ((s : ℕ) → s < n → f s ≡ Some (get_or xs s []))
-    → f n ≡ Some d → (s : ℕ) → s < n + 1 → f s ≡ Some (get_or (xs ++ d ∷ []) s [])
-one_more_value f n xs d size all here s lt = elim (cases_lt s n) [
-  | inl below ↦ cc (all s below, get_or_append_left xs (d ∷ []) [] s (omega arith))
-  | inr le ↦ let last : s ≡ n = omega arith in cc (get_or_push xs d [] n size)
+pub one_more_set : (f : ℕ → Option (List ℕ)) (t : ℕ) (xs : List (List ℕ)) (d : List ℕ) → t < length xs → ((s : ℕ) → s < t → f s ≡ Some (get_or xs s []))
+    → f t ≡ Some d → (s : ℕ) → s < t + 1 → f s ≡ Some (get_or (set xs t d) s [])
+one_more_set f t xs d inside all here s lt = elim (cases_lt s t) [
+  | inl below ↦ all s below ∙ ap (λ x. Some x) (sym (get_or-set_other xs t s d [] (omega arith)))
+  | inr le ↦ let last : s ≡ t = omega arith in ap f last ∙ here ∙ ap (λ x. Some x) (sym (ap (λ i. get_or (set xs t d) i []) last ∙ get_or-set_same xs t d [] inside))
 ]
 
 pub value_option : {X : Type 0} (o : Option X) → ((o ≢ None) → ⊥) → o ≡ None

@@ -32,6 +32,10 @@ uncle_count m p = p - (m - 1)
 abbrev pub answer_size : ℕ → ℕ → ℕ
 answer_size count layers = count + uncle_count (height_of count) layers
 
+-- as many digests as the answer has
+abbrev pub HasRoom : ℕ → ℕ → List (List ℕ) → Type 0
+HasRoom count layers digests = length digests ≡ answer_size count layers
+
 -- The node of digest t of an answer: the run comes first, from the left, then the uncles, from the lowest
 -- layer up.
 abbrev pub answer_layer : ℕ → ℕ → ℕ → ℕ

@@ -1,12 +1,19 @@
 -- What follows from the definitions.
 use Rattle.std.specs.Prelude.{◌≡◌, ◌≢◌, ℕ, ◌+◌, ◌*◌, ◌/◌, ◌^◌, ◌<◌, ◌⊎◌, List, ◌++◌, length, Some, IsSome}
+use Rattle.bt_tree.specs.Blocks.{IsFileLength}
 use Rattle.bt_tree.specs.Tree.{node_digest, file_root, input_at}
 use Rattle.bt_sparse.specs.NodeMap.{HasDigests}
-use Rattle.bt_sparse.specs.SparseTree.{Facts, height, held_at, value_at, root_facts, IsRooted, IsChecked}
+use Rattle.bt_sparse.specs.SparseTree.{Facts, height, held_at, value_at, root_facts, IsRooted, IsChecked, IsSound}
+use Rattle.bt_sparse.specs.Layer.{HoldsLayer}
 use Rattle.bt_sparse.specs.Claim.{Claims, HasShape, top_layer, top_node}
 use Rattle.bt_sparse.specs.Acceptance.{Agrees, IsAcceptable, Accepts}
 use Rattle.bt_sparse.specs.Answer.{IsRequest, IsAnswer, IsMadeOf, claim_of}
 use Rattle.bt_sparse.specs.declared.claim.Claim.{Claim}
+
+-- A tree of a layer is sound: it is rooted, and its digests have 32 bytes.
+abbrev pub LayersAreSound : (List ℕ → List ℕ) → Type 0
+LayersAreSound dig = (file_length layer : ℕ) (root bytes : List ℕ) (k : Facts) → IsFileLength file_length
+    → HoldsLayer dig file_length root layer bytes k → IsSound dig k
 
 -- a tree that is rooted stays so when a claim is accepted
 abbrev pub KeepsRooted : (List ℕ → List ℕ) → Type 0

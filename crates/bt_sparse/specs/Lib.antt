@@ -4,6 +4,7 @@ pub mod LayerPages
 pub mod NodeMap
 pub mod SparseTree
 pub mod Anchor
+pub mod Unknown
 pub mod Claim
 pub mod Acceptance
 pub mod Answer

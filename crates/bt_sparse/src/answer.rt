@@ -1,10 +1,10 @@
-ghost use Rattle.std.specs.Prelude.{◌≡◌, ◌≢◌, ◌<◌, ◌≤◌, ◌↔◌, None, IsTrue, IfOk, OnOk};
+ghost use Rattle.std.specs.Prelude.{◌≡◌, ◌≢◌, ◌<◌, ◌≤◌, ◌↔◌, None, IsTrue, IsSome, IfSome, IfOk, OnOk, OnErr};
 ghost use Rattle.std.specs.Bool.{OnTrue, OnFalse};
 ghost use Rattle.bt_tree.specs.Limits.{max_height};
 ghost use Rattle.bt_tree.specs.TreeShape.{IsInside};
 ghost use Rattle.bt_sparse.specs.SparseTree.{blocks_of, height, value_at, IsSound};
 ghost use Rattle.bt_sparse.specs.declared.answer.AnswerError.TheVariants.{OutOfMemory as out_of_memory};
-ghost use Rattle.bt_sparse.specs.Answer.{IsRequest, IsAnswer, HasUnknown, KnowsAll, answer_size, answer_layer, answer_index};
+ghost use Rattle.bt_sparse.specs.Answer.{IsRequest, IsAnswer, HasUnknown, KnowsAll, HasRoom, answer_size, answer_layer, answer_index};
 
 use crate::expansion::{run_height, sibling};
 use crate::padding::Padding;
@@ -127,17 +127,92 @@ impl<H: NodeHash> SparseTree<H> {
             length,
             layers,
         };
+        self.check_request(request)?;
+        let mut digests = vec![in self.alloc; [0; 32]; request.size() as usize]?;
+        self.fill(request, &mut digests);
+        Ok(digests)
+    }
+
+    /// How many digests answer a request; None for one that `answer` refuses with `Shape`.
+    pub fn answer_len(&self, base: u32, index: u32, length: u32, layers: u32) -> Option<u32>
+        ensures some { IsSome result ↔ IsRequest (height self.now) base index length layers }
+        ensures size { IfSome result (λ size. size ≡ answer_size length layers) }
+    {
+        let request = Request {
+            height: self.geometry.height(),
+            base,
+            index,
+            length,
+            layers,
+        };
+        if request.is_lawful() {
+            Some(request.size())
+        } else {
+            None
+        }
+    }
+
+    /// Writes the digests that `answer` gives over these, which are as many, and takes no memory. It refuses
+    /// what `answer` refuses, with `Shape` or `Unknown`, and leaves the digests as they were.
+    pub fn answer_into(
+        &self,
+        base: u32,
+        index: u32,
+        length: u32,
+        layers: u32,
+        digests: &mut [Hash32],
+    ) -> Result<(), AnswerError>
+        requires room { IsRequest (height self.now) base index length layers
+            → HasRoom length layers digests.old }
+        ensures ok { OnOk result (IsAnswer H.digest self.now base index length layers digests.new) }
+        ensures lawful { OnOk result (IsRequest (height self.now) base index length layers) }
+        ensures shape { (result ≡ Err AnswerError.Shape)
+            ↔ (¬ IsRequest (height self.now) base index length layers) }
+        ensures unknown { (result ≡ Err AnswerError.Unknown)
+            ↔ (IsRequest (height self.now) base index length layers
+            × HasUnknown H.digest self.now base index length layers) }
+        ensures no_memory { result ≢ Err AnswerError.OutOfMemory }
+        ensures unchanged { OnErr result (digests.new ≡ digests.old) }
+    {
+        let request = Request {
+            height: self.geometry.height(),
+            base,
+            index,
+            length,
+            layers,
+        };
+        self.check_request(request)?;
+        self.fill(request, digests);
+        Ok(())
+    }
+}
+
+impl<H: NodeHash> SparseTree<H> {
+    /// Whether the request has the right shape, and every node that it needs is known.
+    fn check_request(&self, request: Request) -> Result<(), AnswerError>
+        requires height { request.height ≡ height self.now }
+        requires high { request.height ≤ max_height }
+        requires sound { IsSound H.digest self.now }
+        ensures lawful { OnOk result
+            (IsRequest (height self.now) request.base request.index request.length request.layers) }
+        ensures known { OnOk result
+            (KnowsAll H.digest self.now request.base request.index request.length request.layers) }
+        ensures shape { (result ≡ Err AnswerError.Shape)
+            ↔ (¬ IsRequest (height self.now) request.base request.index request.length request.layers) }
+        ensures unknown { (result ≡ Err AnswerError.Unknown)
+            ↔ (IsRequest (height self.now) request.base request.index request.length request.layers
+            × HasUnknown H.digest self.now request.base request.index request.length request.layers) }
+        ensures no_memory { result ≢ Err AnswerError.OutOfMemory }
+    {
         if !request.is_lawful() {
             return Err(AnswerError::Shape);
         }
         if !self.knows_all(request) {
             return Err(AnswerError::Unknown);
         }
-        Ok(self.values(request)?)
+        Ok(())
     }
-}
 
-impl<H: NodeHash> SparseTree<H> {
     /// Whether every node that the request needs is known.
     fn knows_all(&self, request: Request) -> bool
         requires lawful { IsRequest request.height request.base request.index request.length request.layers }
@@ -170,29 +245,26 @@ impl<H: NodeHash> SparseTree<H> {
         self.held(layer, index).is_some()
     }
 
-    /// The digests of the nodes that the request needs, all of which are known.
-    fn values(&self, request: Request) -> Result<Vec<Hash32>, AllocError>
+    /// Writes the digests of the nodes that the request needs, all of which are known, over as many.
+    fn fill(&self, request: Request, digests: &mut [Hash32])
         requires lawful { IsRequest request.height request.base request.index request.length request.layers }
         requires height { request.height ≡ height self.now }
         requires high { request.height ≤ max_height }
         requires sound { IsSound H.digest self.now }
         requires known { KnowsAll H.digest self.now request.base request.index request.length request.layers }
-        ensures { IfOk result (λ digests.
-            IsAnswer H.digest self.now request.base request.index request.length request.layers
-            digests.items) }
+        requires room { HasRoom request.length request.layers digests.old }
+        ensures { IsAnswer H.digest self.now request.base request.index request.length request.layers
+            digests.new }
     {
-        let size = request.size();
-        let mut digests = Vec::with_capacity(self.alloc, size as usize)?;
         let mut padding = Padding::new(self.hash);
-        for t in 0..size {
+        for t in 0..request.size() {
             let (layer, index) = request.node(t);
             let digest = match self.held(layer, index) {
                 Some(digest) => digest,
                 // What is known and not held is padding.
                 None => padding.rise(layer as u8),
             };
-            digests.push(digest)?;
+            digests[t as usize] = digest;
         }
-        Ok(digests)
     }
 }

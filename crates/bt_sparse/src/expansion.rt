@@ -13,12 +13,6 @@ use crate::padding::Padding;
 use bt_tree::{Geometry, Hash32, NodeHash};
 use std::alloc::{AllocError, Global};
 
-#[cfg(test)]
-mod whole;
-
-#[cfg(test)]
-pub(crate) use whole::expand;
-
 /// Two siblings that a claim names, in layer `layer`, below node `index` of the next one.
 #[derive(Clone, Copy)]
 pub(crate) struct ClaimedPair {

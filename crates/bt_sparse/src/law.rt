@@ -1,6 +1,11 @@
-ghost use Rattle.bt_sparse.specs.Law.{KeepsRooted, HeldIsChecked, ClaimsOne, MadeClaimsAgree, AnswersAgree, AnswersAreTaken, AnswersReachRoots, LeavesAreFiles};
+ghost use Rattle.bt_sparse.specs.Law.{LayersAreSound, KeepsRooted, HeldIsChecked, ClaimsOne, MadeClaimsAgree, AnswersAgree, AnswersAreTaken, AnswersReachRoots, LeavesAreFiles};
 
 use bt_tree::NodeHash;
+
+/// The tree of a file's layer, as `with_layer` makes it, is rooted, and its digests have 32 bytes.
+pub fn layers_are_sound<H: NodeHash>(_hash: H)
+    ensures { LayersAreSound H.digest }
+{}
 
 /// A tree that is rooted stays so when a claim is accepted.
 #[tactic(auto, using(crate::proofs::Joins::keeps_rooted))]

@@ -1,4 +1,4 @@
-ghost use Rattle.std.specs.Prelude.{◌≡◌, ◌%◌, ◌/◌, ◌<◌, ◌≤◌, ◌↔◌, ℕ, [], None, IsTrue, OnOk, length, slice_index_or};
+ghost use Rattle.std.specs.Prelude.{◌≡◌, ◌+◌, ◌%◌, ◌/◌, ◌<◌, ◌≤◌, ◌↔◌, ℕ, [], None, IsTrue, IsSome, OnOk, length, slice_index_or};
 ghost use Rattle.bt_sparse.specs.Page.{page_length};
 ghost use Rattle.bt_sparse.specs.LayerPages.{table_length, entry_at, KeepsTables, IsPutInto};
 
@@ -83,5 +83,17 @@ impl LayerPages {
         ensures put { IsPutInto index digest self.old self.new }
     {
         self.tables[(index / TABLE_LEN) as usize].put(index % TABLE_LEN, digest)
+    }
+
+    /// How many indices in a row from this one on have a digest, as far as its page goes.
+    pub(crate) fn held_run(&self, index: u32) -> u32
+        ensures held { (j : ℕ) → j < result → IsSome (entry_at self.now (index + j)) }
+        ensures none { result ≡ 0 → entry_at self.now index ≡ None }
+        ensures inside { index % page_length + result ≤ page_length }
+    {
+        match self.tables.get((index / TABLE_LEN) as usize) {
+            Some(table) => table.held_run(index % TABLE_LEN),
+            None => 0,
+        }
     }
 }

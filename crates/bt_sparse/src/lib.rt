@@ -19,14 +19,12 @@ mod padding;
 mod page;
 mod page_table;
 mod sparse_tree;
+mod unknown;
 
 pub use answer::{AnswerError, MAX_RUN_LENGTH};
 pub use claim::{Claim, Digests, ProofError};
 pub use law::{
     answers_agree, answers_are_taken, answers_reach_roots, claims_one, held_is_checked,
-    keeps_rooted, leaves_are_files,
+    keeps_rooted, layers_are_sound, leaves_are_files,
 };
 pub use sparse_tree::SparseTree;
-
-#[cfg(test)]
-mod tests;

@@ -1,4 +1,4 @@
-ghost use Rattle.std.specs.Prelude.{◌≡◌, ◌/◌, ◌<◌, ◌≤◌, ◌↔◌, ℕ, [], None, IsTrue, OnOk, length, slice_index_or};
+ghost use Rattle.std.specs.Prelude.{◌≡◌, ◌+◌, ◌%◌, ◌/◌, ◌<◌, ◌≤◌, ◌↔◌, ℕ, [], None, IsTrue, IsSome, OnOk, length, slice_index_or};
 ghost use Rattle.std.specs.FinMap as finite;
 ghost use Rattle.bt_sparse.specs.Page.{page_length};
 ghost use Rattle.bt_sparse.specs.NodeMap.{nodes_in, digest_at, HasPlace, KeepsPlaces};
@@ -44,6 +44,18 @@ impl NodeMap {
             Some(pages) => pages.get(index),
             None => None,
         }
+    }
+
+    /// How many nodes of a layer in a row from this one on have a digest, as far as its page goes.
+    pub(crate) fn held_run(&self, layer: u32, index: u32) -> u32
+        ensures held { (j : ℕ) → j < result → IsSome (digest_at (nodes_in self.now) layer (index + j)) }
+        ensures none { result ≡ 0 → digest_at (nodes_in self.now) layer index ≡ None }
+        ensures inside { index % page_length + result ≤ page_length }
+    {
+        let Some(pages) = self.layers.get(layer as usize) else {
+            return 0;
+        };
+        pages.held_run(index)
     }
 
     /// Makes the page of a node, in a layer that is this wide, with places for all of its nodes.

@@ -1,9 +1,13 @@
-ghost use Rattle.std.specs.Prelude.{◌≡◌, ◌<◌, ◌≤◌, ◌↔◌, [], None, IsTrue, OnOk, length, slice_index_or};
-ghost use Rattle.bt_sparse.specs.Page.{IsLonger, IsPutAt, is_present};
+ghost use Rattle.std.specs.Prelude.{◌≡◌, ℕ, ◌+◌, ◌<◌, ◌≤◌, ◌↔◌, [], None, true, false, IsTrue, IsSome, OnOk, length, slice_index_or};
+ghost use Rattle.std.specs.Int.{bit_at};
+ghost use Rattle.bt_sparse.specs.Page.{page_length, IsLonger, IsPutAt, is_present};
 
 use bt_tree::Hash32;
 use std::alloc::{AllocError, Global};
 use std::marker::Model;
+
+/// How many words the bits of a full page have.
+const PAGE_WORDS: usize = 8;
 
 /// Places for the digests of neighbouring nodes, with a bit each that says whether the digest is there.
 #[derive(Drop)]
@@ -74,6 +78,19 @@ impl Page {
         self.present[place / 64] |= 1 << (place % 64);
         is_new
     }
+
+    /// How many places in a row from this one on have a digest, as far as a full page goes.
+    pub(crate) fn held_run(&self, place: usize) -> usize
+        requires { place < page_length }
+        ensures held { (j : ℕ) → j < result → IsSome (slice_index_or self.now (place + j) None) }
+        ensures none { result ≡ 0 → slice_index_or self.now place None ≡ None }
+    {
+        let mut run = ones_from(&self.present, place);
+        for i in 1..PAGE_WORDS {
+            run += ones_from(&self.present, place + run);
+        }
+        run
+    }
 }
 
 /// Whether a place's bit is set.
@@ -84,4 +101,28 @@ fn is_present(words: &[u64], place: usize) -> bool
         Some(word) => (*word >> (place % 64)) & 1 == 1,
         None => false,
     }
+}
+
+/// How many bits in a row from a place on are set, in the word of that place.
+fn ones_from(words: &[u64], place: usize) -> usize
+    ensures set { (j : ℕ) → j < result → is_present words.now (place + j) ≡ true }
+    ensures none { result ≡ 0 → is_present words.now place ≡ false }
+    ensures limit { result ≤ 64 }
+{
+    match words.get(place / 64) {
+        Some(word) => trailing_ones(*word >> (place % 64)),
+        None => 0,
+    }
+}
+
+/// How many of a word's lowest bits are set in a row.
+fn trailing_ones(word: u64) -> usize
+    ensures set { (j : ℕ) → j < result → bit_at word j ≡ 1 }
+    ensures none { result ≡ 0 → bit_at word 0 ≡ 0 }
+    ensures limit { result ≤ 64 }
+{
+    if word == u64::MAX {
+        return 64;
+    }
+    word.trailing_ones() as usize
 }

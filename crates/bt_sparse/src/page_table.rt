@@ -1,4 +1,4 @@
-ghost use Rattle.std.specs.Prelude.{◌≡◌, ◌%◌, ◌/◌, ◌<◌, ◌≤◌, ◌↔◌, ℕ, [], None, IsTrue, OnOk, length, slice_index_or};
+ghost use Rattle.std.specs.Prelude.{◌≡◌, ◌+◌, ◌%◌, ◌/◌, ◌<◌, ◌≤◌, ◌↔◌, ℕ, [], None, IsTrue, IsSome, OnOk, length, slice_index_or};
 ghost use Rattle.bt_sparse.specs.Page.{page_length};
 ghost use Rattle.bt_sparse.specs.PageTable.{slot_at, KeepsPages, IsPutIn};
 
@@ -79,5 +79,21 @@ impl PageTable {
         ensures put { IsPutIn index digest self.old self.new }
     {
         self.pages[(index / PAGE_LEN) as usize].put((index % PAGE_LEN) as usize, digest)
+    }
+
+    /// How many indices in a row from this one on have a digest, as far as its page goes.
+    pub(crate) fn held_run(&self, index: u32) -> u32
+        ensures held { (j : ℕ) → j < result → IsSome (slot_at self.now (index + j)) }
+        ensures none { result ≡ 0 → slot_at self.now index ≡ None }
+        ensures inside { index % page_length + result ≤ page_length }
+    {
+        match self.pages.get((index / PAGE_LEN) as usize) {
+            Some(page) => {
+                let place = index % PAGE_LEN;
+                let rest = (PAGE_LEN - place) as usize;
+                page.held_run(place as usize).min(rest) as u32
+            }
+            None => 0,
+        }
     }
 }

@@ -23,6 +23,3 @@ pub use law::{
     accepted_reads_are_right, adopt_extends, adopt_marks_by_bytes, right_blocks_are_files,
 };
 pub use review::{Rechecked, Settled};
-
-#[cfg(test)]
-mod tests;

@@ -24,6 +24,3 @@ pub use node_hash::{Hash32, NodeHash, Plain, Weak};
 pub use padding::pad;
 pub use root_builder::{RootBuilder, Shape};
 pub use tree_shape::{BLOCK_LEN, Geometry, is_piece_length, piece_layer};
-
-#[cfg(test)]
-mod tests;

@@ -4,11 +4,9 @@ use Rattle.std.specs.Int.{w32, to_be_bytes}
 use Rattle.std.proofs.lemmas.List.{length-drop, length-take-le, take-append-drop, drop_more, take_rest}
 use Rattle.bt_wire.specs.Limits.{max_length_field}
 use Rattle.bt_wire.specs.declared.message.Message.{Message as Sent}
-use Rattle.bt_wire.specs.declared.event.WireEvent.{WireEvent}
-use Rattle.bt_wire.specs.declared.event.WireEvent.TheVariants.{Message}
-use Rattle.bt_wire.specs.Message.{Body, body, length_field, frame_spelling}
-use Rattle.bt_wire.specs.Event.{IsEvent, IsSent, ShowsBadLength}
-use Rattle.bt_wire.specs.FrontSteps.{FitsKind, IsMisfit, FitsBody, IsLawfulFrame, BeginsFrame}
+use Rattle.bt_wire.specs.Message.{Body, body, length_field, frame_spelling, CarriesBytes}
+use Rattle.bt_wire.specs.Event.{IsSent, ShowsBadLength}
+use Rattle.bt_wire.specs.FrontSteps.{FitsKind, IsMisfit, FitsBody, IsLawfulFrame, BeginsFrame, HasFrame}
 use Rattle.bt_wire.specs.ReaderSteps.{HasSize, IsMessageOf}
 use Rattle.bt_wire.proofs.Sizes.{fitting_size}
 
@@ -81,12 +79,13 @@ sent_frame (Some b) limit long m is = record {
 }
 
 pub has_frame : (frame : List ℕ) → IsLawfulFrame frame → 4 < length frame
-    → (m : Sent) × IsMessageOf (slice_index frame 4) (take (length frame - 5) (drop 5 frame)) m
-    → (e : WireEvent) × IsEvent true e frame
+    → (m : Sent) × IsMessageOf (slice_index frame 4) (take (length frame - 5) (drop 5 frame)) m × CarriesBytes m
+    → HasFrame frame
 has_frame frame lawful long found =
     let at_end = subst (λ (xs : List ℕ). IsMessageOf (slice_index frame 4) xs found.0) (take_rest frame 5) found.1 in
     let spelled = subst (λ (xs : List ℕ). IsMessageOf (slice_index xs 4) (drop 5 xs) found.0) lawful.spelled at_end in (
-      Message found.0,
+      found.0,
       subst (λ (xs : List ℕ). IsSent found.0 xs) (sym lawful.spelled)
           (sent_frame lawful.body lawful.limit (subst (λ (xs : List ℕ). 4 < length xs) lawful.spelled long) found.0 spelled),
+      found.2,
     )

@@ -2,10 +2,11 @@
 use Rattle.std.proofs.Common.{◌≡◌, ℕ, ◌+◌, ◌-◌, Bool, true, false, List, ◌++◌, length, take, drop, sym, ◌∙◌, ap, refl, subst, inl, inr, Result, Ok, Err, IfErr}
 use Rattle.std.proofs.lemmas.List.{take-append-drop, drop-drop, take_rest}
 use Rattle.bt_wire.specs.declared.event.WireEvent.{WireEvent}
+use Rattle.bt_wire.specs.declared.event.WireEvent.TheVariants.{Message}
 use Rattle.bt_wire.specs.declared.event.WireError.{WireError}
 use Rattle.bt_wire.specs.declared.event.WireError.TheVariants.{OutOfMemory}
 use Rattle.bt_wire.specs.Event.{ShowsFault}
-use Rattle.bt_wire.specs.Cutter.{stream, Takes, HasEvent}
+use Rattle.bt_wire.specs.Cutter.{stream, Takes, AwaitsMemory}
 use Rattle.bt_wire.specs.FrontSteps.{BeginsEvent, HasFront, IsFrontRefusal}
 
 pub takes_front : (bytes rest : List ℕ) (start n : ℕ) (greeted failed : Bool) (e : WireEvent) → failed ≡ false
@@ -27,13 +28,14 @@ pub err_of : {T E P : Type 0} → (r : Result T E) → P → IfErr r (λ _. P)
 err_of (Ok _) p = tt
 err_of (Err _) p = p
 
--- the event that is there stays first
-pub has_event : (bytes : List ℕ) (start : ℕ) (greeted failed : Bool) → failed ≡ false
-    → HasFront greeted (take (length bytes - start) (drop start bytes)) → HasEvent (stream (drop start bytes) greeted failed)
-has_event bytes start greeted failed running front = (
+-- the message that is there stays first
+pub awaits_memory : (bytes : List ℕ) (start : ℕ) (greeted failed : Bool) → failed ≡ false
+    → HasFront greeted (take (length bytes - start) (drop start bytes)) → AwaitsMemory (stream (drop start bytes) greeted failed)
+awaits_memory bytes start greeted failed running front = (
   front.0,
   stream (drop (start + front.1) bytes) true failed,
-  takes_front bytes (drop (start + front.1) bytes) start front.1 greeted failed front.0 running refl front.2,
+  takes_front bytes (drop (start + front.1) bytes) start front.1 greeted failed (Message front.0) running refl front.2,
+  front.3,
 )
 
 -- out of memory is no fault of the stream

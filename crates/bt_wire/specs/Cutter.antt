@@ -1,7 +1,10 @@
 -- What a cutter means, and what its calls do.
 use Rattle.std.specs.Prelude.{◌≡◌, Bool, true, false, Option, Some, None, ℕ, List, [], ◌++◌}
+use Rattle.bt_wire.specs.Message.{CarriesBytes}
 use Rattle.bt_wire.specs.Event.{IsEvent, HasNoEvent, ShowsFault, ShowsNoFault}
+use Rattle.bt_wire.specs.declared.message.Message.{Message as Sent}
 use Rattle.bt_wire.specs.declared.event.WireEvent.{WireEvent}
+use Rattle.bt_wire.specs.declared.event.WireEvent.TheVariants.{Message}
 use Rattle.bt_wire.specs.declared.event.WireError.{WireError}
 use Rattle.bt_wire.specs.declared.event.WireError.TheVariants.{BadProtocol, TooLong, BadLength, OutOfMemory, Failed}
 
@@ -30,9 +33,9 @@ pub record Takes (old : Stream) (e : WireEvent) (new : Stream) : Type 0 where
   pub greeted : new.greeted ≡ true
   pub not_failed : new.failed ≡ false
 
--- an event stands first in the unread bytes
-abbrev pub HasEvent : Stream → Type 0
-HasEvent s = (e : WireEvent) × (rest : Stream) × Takes s e rest
+-- a message that carries bytes stands first in the unread ones
+abbrev pub AwaitsMemory : Stream → Type 0
+AwaitsMemory s = (m : Sent) × (rest : Stream) × Takes s (Message m) rest × CarriesBytes m
 
 -- no event is whole, and no fault shows
 pub record Waits (s : Stream) : Type 0 where
@@ -56,7 +59,7 @@ abbrev pub IsRefusal : Stream → WireError → Stream → Type 0
 IsRefusal old BadProtocol new = Fails old BadProtocol new
 IsRefusal old TooLong new = Fails old TooLong new
 IsRefusal old BadLength new = Fails old BadLength new
-IsRefusal old OutOfMemory new = HasEvent old × (new ≡ old)
+IsRefusal old OutOfMemory new = AwaitsMemory old × (new ≡ old)
 IsRefusal old Failed new = (old.failed ≡ true) × (new ≡ old)
 
 -- why `feed` returns an error

@@ -1,11 +1,12 @@
 -- What stands at the front of the unread bytes.
-use Rattle.std.specs.Prelude.{◌≡◌, ◌⊎◌, ℕ, ◌≤◌, Bool, false, Option, Some, None, List, length, take}
+use Rattle.std.specs.Prelude.{◌≡◌, ◌⊎◌, ℕ, ◌≤◌, Bool, true, false, Option, Some, None, List, length, take}
 use Rattle.bt_wire.specs.Limits.{max_length_field, handshake_length}
-use Rattle.bt_wire.specs.Message.{Body, length_field, frame_spelling, IsKnownKind, HasPayloadLength}
+use Rattle.bt_wire.specs.Message.{Body, length_field, frame_spelling, IsKnownKind, HasPayloadLength, CarriesBytes}
 use Rattle.bt_wire.specs.Event.{IsEvent, HasNoEvent, ShowsFault, ShowsNoFault}
 use Rattle.bt_wire.specs.declared.handshake.Handshake.{Handshake}
+use Rattle.bt_wire.specs.declared.message.Message.{Message as Sent}
 use Rattle.bt_wire.specs.declared.event.WireEvent.{WireEvent}
-use Rattle.bt_wire.specs.declared.event.WireEvent.TheVariants.{Hello}
+use Rattle.bt_wire.specs.declared.event.WireEvent.TheVariants.{Hello, Message}
 use Rattle.bt_wire.specs.declared.event.WireError.{WireError}
 use Rattle.bt_wire.specs.declared.event.WireError.TheVariants.{OutOfMemory}
 
@@ -51,9 +52,13 @@ pub record IsPartial (greeted : Bool) (unread : List ℕ) : Type 0 where
   pub no_event : HasNoEvent greeted unread
   pub no_fault : ShowsNoFault greeted unread
 
--- an event is there, for which memory was refused
+-- a message that carries bytes is there, for which memory was refused
 abbrev pub HasFront : Bool → List ℕ → Type 0
-HasFront greeted unread = (e : WireEvent) × (n : ℕ) × BeginsEvent greeted unread e n
+HasFront greeted unread = (m : Sent) × (n : ℕ) × BeginsEvent greeted unread (Message m) n × CarriesBytes m
+
+-- these bytes are such a message's
+abbrev pub HasFrame : List ℕ → Type 0
+HasFrame bytes = (m : Sent) × IsEvent true (Message m) bytes × CarriesBytes m
 
 -- why no event is returned
 abbrev pub IsFrontRefusal : Bool → List ℕ → WireError → Type 0

@@ -87,3 +87,10 @@ pub record HasPayloadLength (kind n : ℕ) : Type 0 where
   pub whole : HasWholeDigests message
   pub body_is : body_of message ≡ body kind payload
   pub size : length payload ≡ n
+
+-- the messages that carry a list of bytes
+abbrev pub CarriesBytes : Message → Type 0
+CarriesBytes (Bitfield bits) = Unit {0}
+CarriesBytes (Piece piece begin bytes) = Unit {0}
+CarriesBytes (Hashes key digests) = Unit {0}
+CarriesBytes _ = ⊥

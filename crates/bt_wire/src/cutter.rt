@@ -1,13 +1,10 @@
-ghost use Rattle.std.specs.Prelude.{◌≡◌, ◌-◌, ◌≤◌, length, drop, false, IfOk, IfErr, OnOk, OnErr};
+ghost use Rattle.std.specs.Prelude.{◌≡◌, ◌+◌, ◌-◌, ◌≤◌, length, drop, false, IfOk, IfErr, OnOk, OnErr};
 ghost use Rattle.bt_wire.specs.Cutter.{new_stream, fed, IsAnswer, IsRefusal, IsFeedRefusal};
 
 use crate::event::{WireError, WireEvent};
 use crate::front::first_event;
 use std::alloc::Global;
 use std::marker::Model;
-
-#[cfg(test)]
-mod tests;
 
 /// The most bytes that a buffer has room for whatever is unread.
 const KEPT_ROOM: usize = 1 << 17;
@@ -62,10 +59,7 @@ impl Cutter {
         if self.failed {
             return Err(WireError::Failed);
         }
-        if self.start >= self.bytes.len() - self.start {
-            drop_front(&mut self.bytes, self.start);
-            self.start = 0;
-        }
+        self.start = drop_taken(&mut self.bytes, self.start);
         self.bytes.extend_from_slice(bytes)?;
         Ok(())
     }
@@ -73,7 +67,8 @@ impl Cutter {
     /// Takes the first event from the unread bytes; None where no event is whole and no fault shows.
     ///
     /// Errors: `BadProtocol`, `TooLong` or `BadLength` as soon as the bytes show that fault, and `Failed`
-    /// ever after; `OutOfMemory` where an event is whole, which leaves the cutter as it was.
+    /// ever after; `OutOfMemory` where a bitfield, a piece or hashes are whole, which leaves the cutter as it
+    /// was.
     pub fn next(&mut self) -> Result<Option<WireEvent>, WireError>
         ensures answer { IfOk result (λ found. IsAnswer self.old found self.new) }
         ensures refused { IfErr result (λ error. IsRefusal self.old error self.new) }
@@ -95,6 +90,26 @@ impl Cutter {
             }
         }
     }
+
+    /// How many bytes the buffer has room for, which is all the memory that a cutter takes.
+    pub fn room(&self) -> usize
+        ensures { length self.now.unread ≤ result }
+    {
+        self.bytes.capacity()
+    }
+}
+
+/// Leaves out the first `start` bytes where they are no fewer than the others. Returns where the others begin.
+fn drop_taken(bytes: &mut Vec<u8>, start: usize) -> usize
+    requires { start ≤ length bytes.old.items }
+    ensures same { drop result bytes.new.items ≡ drop start bytes.old.items }
+    ensures few { result + result ≤ length bytes.new.items }
+{
+    if start < bytes.len() - start {
+        return start;
+    }
+    drop_front(bytes, start);
+    0
 }
 
 /// Leaves out the first bytes, which are no fewer than the others.

@@ -2,7 +2,7 @@ ghost use Rattle.std.specs.Prelude.{◌≡◌, ◌+◌, ◌≤◌, ◌<◌, ◌�
 ghost use Rattle.std.specs.Bool.{OnTrue, OnFalse};
 ghost use Rattle.std.specs.Int.{w32, to_be_bytes};
 ghost use Rattle.bt_wire.specs.Event.{IsEvent, ShowsBadProtocol, ShowsFault};
-ghost use Rattle.bt_wire.specs.FrontSteps.{FitsKind, IsMisfit, IsLawfulFrame, BeginsFrame, BeginsHandshake, BeginsWith, IsPartial, IsFrontRefusal};
+ghost use Rattle.bt_wire.specs.FrontSteps.{FitsKind, IsMisfit, IsLawfulFrame, BeginsFrame, BeginsHandshake, BeginsWith, HasFrame, IsPartial, IsFrontRefusal};
 
 use crate::event::{WireError, WireEvent};
 use crate::handshake::{HANDSHAKE_LEN, Handshake, PROTOCOL};
@@ -110,7 +110,7 @@ fn fits_kind(kind: u8, len: usize) -> bool
 fn read_frame(alloc: Global, frame: &[u8]) -> Result<WireEvent, AllocError>
     requires { IsLawfulFrame frame.now }
     ensures event { IfOk result (λ event. IsEvent true event frame.now) }
-    ensures refused { IfErr result (λ _. (event : WireEvent) × IsEvent true event frame.now) }
+    ensures refused { IfErr result (λ _. HasFrame frame.now) }
 {
     if frame.len() <= 4 {
         return Ok(WireEvent::Message(Message::KeepAlive));

@@ -23,6 +23,3 @@ pub use law::{
 };
 pub use message::{Ask, Message, fits};
 pub use writer::write_message;
-
-#[cfg(test)]
-mod tests;

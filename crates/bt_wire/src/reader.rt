@@ -1,6 +1,6 @@
 ghost use Rattle.std.specs.Prelude.{◌≡◌, ◌↔◌, length, IsSome, IsTrue, IfSome, IfNone, IfOk, IfErr};
 ghost use Rattle.bt_hashreq.specs.Key.{key_length, key_spelling, IsKey};
-ghost use Rattle.bt_wire.specs.Message.{ask_spelling, IsAsk, IsKnownKind};
+ghost use Rattle.bt_wire.specs.Message.{ask_spelling, IsAsk, IsKnownKind, CarriesBytes};
 ghost use Rattle.bt_wire.specs.ReaderSteps.{HasSize, IsListed, IsMessageOf};
 
 use crate::bytes::Bytes;
@@ -35,7 +35,7 @@ pub(crate) fn read_message(
     requires { HasSize kind (length payload.now) }
     ensures message { IfOk result (λ found. IfSome found (IsMessageOf kind payload.now)) }
     ensures unknown { IfOk result (λ found. IfNone found (¬ IsKnownKind kind)) }
-    ensures refused { IfErr result (λ _. (m : Message) × IsMessageOf kind payload.now m) }
+    ensures refused { IfErr result (λ _. (m : Message) × IsMessageOf kind payload.now m × CarriesBytes m) }
 {
     match kind {
         kind::CHOKE => Ok(Some(Message::Choke)),

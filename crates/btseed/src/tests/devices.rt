@@ -1,17 +1,17 @@
 //! Devices that fail: a runtime that stands in for the file system.
 
 use super::steps::{Step, expect_bytes, expect_entries, play_in, set_up};
-use super::tools::{confirm, expect, folder, front, path_in, remove_folder, three_blocks};
-use crate::atomic_file::replace_file;
-use crate::fault::Fault;
-use crate::folder::files_in;
-use crate::make::open_file;
-use crate::paths::found_path;
+use super::tools::{confirm, expect, folder, front, path_in, put, remove_folder, three_blocks};
+use bt_check::{Fault, found_path};
+use bt_commands::{files_in, open_file, replace_file, start};
 use bt_meta::MakeError;
 use std::alloc::{AllocError, Allocator, Global};
-use std::fs::{File, Metadata, OpenFile, OpenOptions};
+use std::env::{Env, FillError};
+use std::fs::{self, File, Metadata, OpenFile, OpenOptions, Permissions};
 use std::io::{self, ErrorKind, Read, Seek, SeekFrom, Write};
+use std::os::unix::fs::PermissionsExt;
 use std::path::PathBuf;
+use std::process::ExitCode;
 use std::rt::Files;
 use std::test::Fail;
 
@@ -19,6 +19,7 @@ use std::test::Fail;
 #[derive(Clone, Copy, PartialEq, Eq)]
 enum Failing {
     Nothing,
+    Looks,
     Opens,
     Reads,
     Writes,
@@ -38,14 +39,15 @@ impl Failing {
     }
 }
 
-/// The host's file system, of which some calls fail, in which every folder lists these names, and in which a
-/// path that ends in `pipe` is a device, which neither a read nor a write is to reach. Of opens that of a
-/// path that ends in `last` fails, and of reads the third of each file.
+/// The words of a command line, the host's file system, of which some calls fail, in which every folder lists these names, and in which a
+/// path that ends in `pipe` is a device, which neither a read nor a write is to reach. Of looks and opens those
+/// of a path that ends in `last` fail, and of reads the third of each file.
 #[derive(Clone, Copy)]
 struct Device<'a> {
     host: &'a HostRuntime,
     failing: Failing,
     names: &'a [u8],
+    words: &'a [&'a [u8]],
 }
 
 impl<'a> Device<'a> {
@@ -54,6 +56,7 @@ impl<'a> Device<'a> {
             host,
             failing,
             names: b"",
+            words: &[],
         }
     }
 }
@@ -72,6 +75,25 @@ impl Alloc for Device<'_> {
 
     fn alloc(&self) -> Global {
         self.host.alloc()
+    }
+}
+
+impl Env for Device<'_> {
+    fn arg(&self, i: usize, buf: &mut [u8]) -> Result<usize, FillError> {
+        let word = self.words.get(i).ok_or(FillError::NotPresent)?;
+        if word.len() > buf.len() {
+            return Err(FillError::TooLong);
+        }
+        buf[..word.len()].copy_from_slice(word);
+        Ok(word.len())
+    }
+
+    fn var(&self, _name: &str, _buf: &mut [u8]) -> Result<usize, FillError> {
+        Err(FillError::NotPresent)
+    }
+
+    fn var_at(&self, _i: usize, _buf: &mut [u8]) -> Result<usize, FillError> {
+        Err(FillError::NotPresent)
     }
 }
 
@@ -96,6 +118,9 @@ impl<'a> Files for Device<'a> {
     }
 
     fn metadata(&self, path: &str) -> io::Result<Metadata> {
+        if path.ends_with("last") {
+            self.failing.at(Failing::Looks)?;
+        }
         self.host.metadata(host_path(path))
     }
 
@@ -177,6 +202,10 @@ impl OpenFile for DeviceFile {
         self.file.set_len(size)
     }
 
+    fn set_permissions(&self, permissions: Permissions) -> io::Result<()> {
+        self.file.set_permissions(permissions)
+    }
+
     fn sync_all(&self) -> io::Result<()> {
         self.failing.at(Failing::Syncs)?;
         self.file.sync_all()
@@ -256,6 +285,42 @@ fn a_part_file_that_is_there_stays(rt: HostRuntime) -> Result<(), Fail> {
     play_in(&rt, top.as_str(), &stays)?;
     expect_replaced(&rt, top.as_str(), Failing::Nothing, true, b"new")?;
     play_in(&rt, top.as_str(), &stays)?;
+    remove_folder(&rt, top.as_str())
+}
+
+/// Puts down so many part files, of which each number below is one.
+fn put_parts(rt: &HostRuntime, top: &str, count: u32) -> Result<(), Fail> {
+    for number in 0..count {
+        let name = format!(in rt.alloc(); ".btseed-{number}.part")?;
+        put(rt, top, name.as_str(), b"")?;
+    }
+    Ok(())
+}
+
+#[test]
+fn a_file_is_written_beside_300_part_files(rt: HostRuntime) -> Result<(), Fail> {
+    let top = set_up(&rt, "many-parts", &[Step::File("kept", b"old")])?;
+    put_parts(&rt, top.as_str(), 300)?;
+    expect_replaced(&rt, top.as_str(), Failing::Nothing, true, b"new")?;
+    expect_entries(&rt, top.as_str(), "", 301)?;
+    remove_folder(&rt, top.as_str())
+}
+
+/// Gives the file `kept` a mode, and expects that what replaces it has the same.
+fn expect_mode_kept(rt: &HostRuntime, top: &str, mode: u32) -> Result<(), Fail> {
+    let path = path_in(rt, top, "kept")?;
+    fs::set_permissions(rt, path.as_str(), Permissions::from_mode(mode))?;
+    replace_file(rt, path.as_str(), b"new")?;
+    let found = fs::metadata(rt, path.as_str())?.permissions().mode();
+    confirm(found & 0o777 == mode, "another mode")?;
+    Ok(())
+}
+
+#[test]
+fn a_file_that_is_replaced_keeps_its_mode(rt: HostRuntime) -> Result<(), Fail> {
+    let top = set_up(&rt, "mode", &[Step::File("kept", b"old")])?;
+    expect_mode_kept(&rt, top.as_str(), 0o600)?;
+    expect_mode_kept(&rt, top.as_str(), 0o751)?;
     remove_folder(&rt, top.as_str())
 }
 
@@ -360,6 +425,7 @@ fn a_read_that_fails_is_told_after_the_report(rt: HostRuntime) -> Result<(), Fai
 fn a_file_that_cannot_be_opened_ends_a_check_unwritten(rt: HostRuntime) -> Result<(), Fail> {
     let top = checked_folder(&rt, "opens")?;
     expect_check(&rt, top.as_str(), Failing::Opens, 3, "", DEVICE_FAULT)?;
+    expect_check(&rt, top.as_str(), Failing::Looks, 3, "", DEVICE_FAULT)?;
     remove_folder(&rt, top.as_str())
 }
 
@@ -369,6 +435,7 @@ fn fault_of_names(rt: &HostRuntime, dir: &str, names: &[u8]) -> Option<Fault> {
         host: rt,
         failing: Failing::Nothing,
         names,
+        words: &[],
     };
     files_in(&device, dir).err()
 }
@@ -385,11 +452,47 @@ fn expect_refused_names(rt: &HostRuntime, dir: &str, long: &[u8]) -> Result<(), 
     Ok(())
 }
 
+/// A name that is too long, and its end.
+fn long_name(alloc: Global) -> Result<String, AllocError> {
+    let name = "n".repeat(alloc, 256)?;
+    format!(in alloc; "{name}\0")
+}
+
 #[test]
 fn a_name_that_is_no_text_is_refused(rt: HostRuntime) -> Result<(), Fail> {
     let top = folder(&rt, "names")?;
-    let long = "n".repeat(rt.alloc(), 256)?;
-    let long = format!(in rt.alloc(); "{long}\0")?;
+    let long = long_name(rt.alloc())?;
     expect_refused_names(&rt, top.as_str(), long.as_bytes())?;
     remove_folder(&rt, top.as_str())
+}
+
+/// Starts the program on these words, its own name the first, and expects this status and fault, and no output.
+fn expect_start(rt: &HostRuntime, words: &[&[u8]], status: u8, faults: &[u8]) -> Result<(), Fail> {
+    let device = Device {
+        host: rt,
+        failing: Failing::Nothing,
+        names: b"",
+        words,
+    };
+    let mut output = Vec::new(rt.alloc());
+    let mut told = Vec::new(rt.alloc());
+    let ended = start(&device, &mut output, &mut told);
+    confirm(ended == ExitCode::from(status), "another status")?;
+    confirm(output.is_empty(), "an output")?;
+    confirm(told.as_slice() == faults, "another fault")?;
+    Ok(())
+}
+
+const UNSPELLED: &[u8] = b"btseed: a word of the command line is not UTF-8\n";
+
+/// An empty word is a word, so here the path of a torrent, of which there is none.
+#[test]
+fn the_words_of_the_environment_are_taken(rt: HostRuntime) -> Result<(), Fail> {
+    expect_start(
+        &rt,
+        &[b"btseed", b"check", b"", b"d"],
+        3,
+        DEVICE_FAULT.as_bytes(),
+    )?;
+    expect_start(&rt, &[b"btseed", b"check", b"\xff", b"d"], 2, UNSPELLED)
 }

@@ -1,13 +1,18 @@
 //! What the program says on standard error.
 
 use super::tools::confirm;
-use crate::fault::Fault;
+use bt_check::Fault;
 use bt_disk::DeviceFault;
 use bt_meta::{MakeError, MetaError};
 use std::test::Fail;
 
 const TOLD: &[(Fault, &str, u8)] = &[
     (Fault::Words, "a word of the command line is not UTF-8", 2),
+    (
+        Fault::OutAmongFiles,
+        "OUT is one of the files that the torrent would be made of",
+        2,
+    ),
     (Fault::Torrent(MetaError::NoInfo), "M2 NoInfo", 2),
     (Fault::Make(MakeError::Count), "N7 Count", 2),
     (Fault::Device, "device fault", 3),

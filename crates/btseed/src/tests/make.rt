@@ -259,3 +259,45 @@ fn a_folder_is_walked_to_its_end(rt: HostRuntime) -> Result<(), Fail> {
     ];
     play(&rt, "deep", &steps)
 }
+
+#[test]
+fn a_part_file_of_an_earlier_run_is_left_out(rt: HostRuntime) -> Result<(), Fail> {
+    let make = "make @/files @/t --name a.txt --piece-length 16384";
+    let steps = [
+        Step::Folder("files"),
+        Step::File("files/a.txt", b"abc"),
+        Step::File("files/.btseed-0.part", b"one"),
+        Step::File("files/.btseed-4294967294.part", b"two"),
+        Step::Run(make, 0, ABC_HASH),
+        Step::Entries("files", 3),
+    ];
+    play(&rt, "left", &steps)
+}
+
+const OUT_FAULT: &str = "btseed: OUT is one of the files that the torrent would be made of\n";
+
+#[test]
+fn a_file_of_the_folder_is_not_replaced_by_its_torrent(rt: HostRuntime) -> Result<(), Fail> {
+    let steps = [
+        Step::Folder("files"),
+        Step::Folder("files/b"),
+        Step::File("files/a.txt", b"abc"),
+        Step::File("files/b/c", b"abd"),
+        Step::Link("files/b/c", "link"),
+        Step::Fault("make @/files @/files/a.txt --name n", 2, OUT_FAULT),
+        Step::Fault(
+            "make @/files/../files @/files/b/../b/c --name n",
+            2,
+            OUT_FAULT,
+        ),
+        Step::Fault("make @/files @/link --name n", 2, OUT_FAULT),
+        // before a file is read, or refused by its length
+        Step::Fault("make @/files @/files/a.txt --name ..", 2, OUT_FAULT),
+        Step::Has("files/a.txt", b"abc"),
+        Step::Has("files/b/c", b"abd"),
+        Step::LinkHas("link", "files/b/c"),
+        Step::Entries("files", 2),
+        Step::Entries("", 2),
+    ];
+    play(&rt, "among", &steps)
+}

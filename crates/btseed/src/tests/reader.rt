@@ -1,11 +1,7 @@
 //! The reading of files over readers that fail or give little.
 
 use super::tools::{THREE_ROOT, digest, front, three_blocks};
-use crate::digests::digest_reader;
-use crate::fault::Fault;
-use crate::pieces::PieceSize;
-use crate::reader::BUFFER_LEN;
-use crate::torrent_file::read_text;
+use bt_check::{BUFFER_LEN, Fault, PieceSize, digest_reader, read_text};
 use bt_tree::{Geometry, Hash32};
 use std::alloc::Global;
 use std::io;
@@ -58,7 +54,7 @@ fn text_of(alloc: Global, reader: &mut Slow<'_>) -> Result<Vec<u8>, Fault> {
 /// Expects that the bytes are read whole, at most so many at a time.
 fn expect_whole(rt: &(impl Abort + AllocGlobal), bytes: &[u8], most: usize) -> Result<(), Fail> {
     let text = text_of(rt.alloc(), &mut slow_reader(bytes, most, NEVER))?;
-    assert_eq!(rt; text.as_slice(), bytes);
+    assert!(rt; text.as_slice() == bytes);
     Ok(())
 }
 
@@ -98,7 +94,7 @@ fn expect_digested(
     wanted: Result<Hash32, Fault>,
 ) {
     let found = digests_of(rt.alloc(), &mut slow_reader(bytes, 12288, fails_at), length);
-    assert_eq!(rt; found, wanted, "{length} bytes, at read {fails_at}");
+    assert!(rt; found == wanted, "{length} bytes, at read {fails_at}");
 }
 
 #[test]

@@ -2,7 +2,7 @@
 
 use super::steps::{Step, play};
 use super::tools::abc_torrent;
-use crate::display::display;
+use bt_check::display_name;
 use std::test::Fail;
 
 const ABC_LINES: &str = "name a.txt
@@ -43,7 +43,7 @@ const SHOWN: &[(&[u8], &str)] = &[
 #[test]
 fn names_are_shown_as_text_or_in_hexadecimal(rt: HostRuntime) -> Result<(), Fail> {
     for (name, text) in SHOWN {
-        let shown = display(rt.alloc(), name)?;
+        let shown = display_name(rt.alloc(), name)?;
         assert_eq!(rt; shown.as_str(), *text);
     }
     Ok(())

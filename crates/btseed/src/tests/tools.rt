@@ -1,6 +1,6 @@
 //! What the tests share: folders of their own, the files in them, and runs of the program.
 
-use crate::program::run;
+use bt_commands::run;
 use bt_tree::Hash32;
 use hex::FromHex;
 use std::alloc::{AllocError, Global};
@@ -74,8 +74,7 @@ pub fn status_of<R: Files + AllocGlobal + Clone + Drop, O: Write, E: Write>(
     faults: &mut E,
 ) -> Result<u8, AllocError> {
     let words = words_of(rt.alloc(), top, line)?;
-    let mut input: &[u8] = &[];
-    Ok(run(rt, words.as_slice(), &mut input, output, faults))
+    Ok(run(rt, words.as_slice(), output, faults))
 }
 
 /// What the program answered to the words of a line: its status, and what it wrote. The error of a test whose

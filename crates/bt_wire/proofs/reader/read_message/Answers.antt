@@ -10,7 +10,7 @@ use Rattle.bt_wire.proofs.reader.read_message.Goals as goal
 pub returns-in_err-copied-in-5-clause-refused : goal.returns-in_err-copied-in-5-clause-refused
 returns-in_err-copied-in-5-clause-refused c =
     err_of c.from_residual.result
-    (Bitfield c.args.payload.now, record { is_message = tt; whole = tt; body_is = ap (λ k. body k c.args.payload.now) (sym c.in-5.is) })
+    (Bitfield c.args.payload.now, record { is_message = tt; whole = tt; body_is = ap (λ k. body k c.args.payload.now) (sym c.in-5.is) }, tt)
 
 pub returns-in_err-copied-in-7-clause-refused : goal.returns-in_err-copied-in-7-clause-refused
 returns-in_err-copied-in-7-clause-refused c =
@@ -23,6 +23,7 @@ returns-in_err-copied-in-7-clause-refused c =
             (piece_payload c.args.payload.now _ _ c.number_at-in-7.ensures c.number_at-in-7-2.ensures)
             ∙ ap (λ k. body k c.args.payload.now) (sym c.in-7.is);
       },
+      tt,
     )
 
 pub returns-in_err-copied-in-22-clause-refused : goal.returns-in_err-copied-in-22-clause-refused
@@ -37,4 +38,5 @@ returns-in_err-copied-in-22-clause-refused c =
         body_is = ap (λ xs. body 22 (xs ++ drop 48 payload)) spelled ∙ ap (λ xs. body 22 xs) (take-append-drop 48 payload)
             ∙ ap (λ k. body k payload) (sym c.in-22.is);
       },
+      tt,
     )

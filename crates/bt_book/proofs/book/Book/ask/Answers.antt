@@ -1,6 +1,7 @@
 use Rattle.std.proofs.Common.{◌<◌, inl, inr, length, arith}
 use Rattle.std.proofs.lemmas.List.{get_or_default}
-use Rattle.bt_book.proofs.Pairs.{kept_ask, asked_is, changed_is}
+use Rattle.bt_book.proofs.Pairs.{kept_ask, asked_is, changed_is, found_joined}
+use Rattle.bt_book.proofs.Asked.{asked_changed, asked_changed_other}
 use Rattle.bt_book.proofs.book.Book.ask.Goals as goal
 
 pub returns-then-is_full-clause-none : goal.returns-then-is_full-clause-none
@@ -22,3 +23,9 @@ pub returns-clause-room : goal.returns-clause-room
 returns-clause-room g c =
     let asked = asked_is c.self.invariant.0 c.deref.ensures.value c.in-Some.ensures.some c.index.ensures in
     grind (arith, asked, c.is_full.ensures.full.1, c.is_full.ensures.short)
+
+pub returns-clause-asked : goal.returns-clause-asked
+returns-clause-asked g c = grind (arith, returns-clause-now g c, asked_changed, found_joined c.args.peer c.index_of.result c.deref.ensures.value c.index_of.ensures.some)
+
+pub returns-clause-others : goal.returns-clause-others
+returns-clause-others g c = grind (arith, returns-clause-now g c, asked_changed_other)

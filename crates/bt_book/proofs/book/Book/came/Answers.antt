@@ -1,6 +1,6 @@
 use Rattle.std.proofs.Common.{arith}
-use Rattle.bt_book.proofs.Pairs.{asked_once, asked_is, changed_is, forgotten_is, kept_came}
-use Rattle.bt_book.proofs.Asked.{asked_changed_other}
+use Rattle.bt_book.proofs.Pairs.{asked_once, asked_is, changed_is, forgotten_is, kept_came, free_came}
+use Rattle.bt_book.proofs.Asked.{asked_forgotten, asked_changed_other}
 use Rattle.bt_book.proofs.book.Book.came.Goals as goal
 
 pub forget-requires : goal.forget-requires
@@ -20,6 +20,9 @@ returns-then-not-forget-clause-was c =
 pub returns-then-not-forget-clause-now : goal.returns-then-not-forget-clause-now
 returns-then-not-forget-clause-now c =
     grind (arith, changed_is c.self.invariant.0 c.deref.ensures.value c.in-Some.ensures.some c.index_mut.ensures.value)
+
+pub returns-then-not-forget-clause-asked : goal.returns-then-not-forget-clause-asked
+returns-then-not-forget-clause-asked c = grind (arith, returns-then-not-forget-clause-now c, asked_forgotten)
 
 pub returns-then-not-forget-clause-others : goal.returns-then-not-forget-clause-others
 returns-then-not-forget-clause-others c = grind (arith, returns-then-not-forget-clause-now c, asked_changed_other)
@@ -44,5 +47,13 @@ pub returns-clause-now : goal.returns-clause-now
 returns-clause-now c =
     grind (arith, changed_is c.self.invariant.0 c.deref.ensures.value c.in-Some.ensures.some c.index_mut.ensures.value)
 
+pub returns-clause-asked : goal.returns-clause-asked
+returns-clause-asked c = grind (arith, returns-clause-now c, asked_forgotten)
+
 pub returns-clause-others : goal.returns-clause-others
 returns-clause-others c = grind (arith, returns-clause-now c, asked_changed_other)
+
+pub returns-clause-free : goal.returns-clause-free
+returns-clause-free c =
+    let some = c.forget.ensures.was.0 (grind arith) in
+    grind (arith, free_came c.self.invariant.0 c.deref.ensures.value c.in-Some.ensures.some c.index_mut.ensures.value c.args.block some)

@@ -1,4 +1,4 @@
-use Rattle.std.proofs.Common.{[], get_or, length, ap, ◌∙◌, arith}
+use Rattle.std.proofs.Common.{length, ap, arith}
 use Rattle.bt_sparse.proofs.PageTables.{layer_nodes}
 use Rattle.bt_sparse.proofs.node_map.NodeMap.reach.Goals as goal
 

@@ -1,5 +1,4 @@
-use Rattle.std.proofs.Common.{length, arith}
-use Rattle.bt_sparse.proofs.Pages.{length-slots_of, put_slots, put_bits}
+use Rattle.bt_sparse.proofs.Pages.{put_slots, put_bits}
 use Rattle.bt_sparse.proofs.page.Page.put.Goals as goal
 
 pub invariant_of-self : goal.invariant_of-self

@@ -1,6 +1,6 @@
-use Rattle.std.proofs.Common.{◌≡◌, ◌<◌, ◌≤◌, ◌*◌, ℕ, [], length, get_or, ap, arith}
+use Rattle.std.proofs.Common.{◌≡◌, ◌<◌, ℕ, [], length, get_or, ap, arith}
 use Rattle.std.proofs.lemmas.Grind.{div_ceil_times}
-use Rattle.bt_sparse.proofs.Pages.{length-slots_of, resized_before, grown_longer, grown_bits}
+use Rattle.bt_sparse.proofs.Pages.{resized_before, grown_longer, grown_bits}
 use Rattle.bt_sparse.proofs.page.Page.reach.Goals as goal
 
 pub returns-in_err-resize-2-clause-longer : goal.returns-in_err-resize-2-clause-longer

@@ -1,5 +1,5 @@
 use Rattle.std.proofs.Common.{refl}
-use Rattle.bt_wire.proofs.Takings.{takes_front, has_event, front_of}
+use Rattle.bt_wire.proofs.Takings.{takes_front, awaits_memory, front_of}
 use Rattle.bt_wire.proofs.cutter.Cutter.next.Goals as goal
 
 pub returns-in-Ok-Some-clause-answer : goal.returns-in-Ok-Some-clause-answer
@@ -15,4 +15,4 @@ pub returns-in-Err-OutOfMemory-clause-refused : goal.returns-in-Err-OutOfMemory-
 returns-in-Err-OutOfMemory-clause-refused c =
     let a = c.self.inside in
     let front = front_of a.greeted _ _ c.in-Err-OutOfMemory.field-0-is c.in-Err-OutOfMemory.ensures.refused in
-    rw (← c.self.view_is) (has_event a.bytes.items a.start a.greeted a.failed c.if-self.false (rw c.deref.ensures.value at front), refl)
+    rw (← c.self.view_is) (awaits_memory a.bytes.items a.start a.greeted a.failed c.if-self.false (rw c.deref.ensures.value at front), refl)

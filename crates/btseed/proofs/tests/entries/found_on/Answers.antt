@@ -1,6 +1,6 @@
 use Rattle.std.proofs.Common.{◌≡◌, Some, map, rules}
 use Rattle.bt_meta.specs.Files.{file_of}
-use Rattle.btseed.proofs.CheckFault.{all_checkable, checkable_at}
+use Rattle.bt_check.proofs.CheckFault.{all_checkable, checkable_at}
 use Rattle.btseed.proofs.tests.entries.found_on.Goals as goal
 
 pub check_entry-requires : goal.check_entry-requires

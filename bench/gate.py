@@ -1,0 +1,126 @@
+#!/usr/bin/env python3
+"""Runs the gate, `rt ci`, and prints what each crate's proof, tests and edits took of the processors, beside what each may take.
+
+    python3 bench/gate.py [--kept] [CRATE..]
+
+With names of crates only these and those below them are tried. Everything is proved from nothing; with --kept, what earlier runs on
+this machine passed is not proved again, so that a table of what a change costs comes sooner. What the gate prints goes to standard
+error, the table to standard output, in processor minutes. `bench/gate.txt` has what each crate may take: a line each, with the minutes
+of its proof, of its tests and of its edits. A crate that takes more, or that the file does not name, ends the run with status 1; a
+gate that fails, with its own.
+
+A process is looked at every fifth of a second, so the end of each counts for less than it took, and other work on the processors
+makes each minute longer by some percent.
+"""
+
+import collections
+import os
+import pathlib
+import re
+import resource
+import subprocess
+import sys
+import time
+
+TOP = pathlib.Path(__file__).resolve().parent.parent
+LIMITS = pathlib.Path(__file__).resolve().parent / "gate.txt"
+PARTS = ("proof", "tests", "edits")
+PAUSE = 0.2
+TICKS = os.sysconf("SC_CLK_TCK")
+
+
+def status_of(pid):
+    """The parent, the start and the processor seconds of a process, or None where it has ended."""
+    try:
+        with open(f"/proc/{pid}/stat", encoding="utf-8", errors="replace") as stat:
+            words = stat.read().rpartition(")")[2].split()
+    except OSError:
+        return None
+    return int(words[1]), int(words[19]), (int(words[11]) + int(words[12])) / TICKS
+
+
+def part_of(pid):
+    """The crate and the part of the gate that a process of the checker works for, or None where it is no such process."""
+    try:
+        with open(f"/proc/{pid}/cmdline", "rb") as command:
+            words = command.read().decode(errors="replace").split("\0")
+        folder = os.readlink(f"/proc/{pid}/cwd")
+    except OSError:
+        return None
+    if "--crate-name" not in words:
+        return None
+    crate = words[words.index("--crate-name") + 1]
+    if re.match(r"rt-edits?-", os.path.basename(folder)):
+        return crate, "edits"
+    return crate, "tests" if "--test" in words else "proof"
+
+
+def look(parts, seconds, top):
+    """Notes what each process below `top` has taken so far, and for which part of which crate."""
+    found = {int(name): status_of(name) for name in os.listdir("/proc") if name.isdigit()}
+    found = {pid: status for pid, status in found.items() if status}
+
+    def part(pid):
+        whose = None
+        while pid in found and pid != top:
+            parent, start, _ = found[pid]
+            if (pid, start) not in parts:
+                parts[pid, start] = part_of(pid)
+            whose = whose or parts[pid, start]
+            pid = parent
+        return whose if pid == top else None
+
+    for pid, (_, start, taken) in found.items():
+        whose = part(pid)
+        if whose:
+            seconds[pid, start] = whose, taken
+
+
+def measured(words):
+    """Runs a command, and returns its status, the processor seconds by crate and part, and all that it took."""
+    started = subprocess.Popen(words, cwd=TOP, stdout=sys.stderr)
+    parts, seconds = {}, {}
+    while started.poll() is None:
+        look(parts, seconds, started.pid)
+        # what began before a process became the checker is looked at again
+        parts = {key: whose for key, whose in parts.items() if whose}
+        time.sleep(PAUSE)
+    taken = collections.Counter()
+    for whose, much in seconds.values():
+        taken[whose] += much
+    used = resource.getrusage(resource.RUSAGE_CHILDREN)
+    return started.returncode, taken, used.ru_utime + used.ru_stime
+
+
+def limits():
+    """What each crate may take, in minutes, by crate and part."""
+    found = {}
+    for line in LIMITS.read_text().splitlines():
+        words = line.split("#")[0].split()
+        if words:
+            found[words[0]] = dict(zip(PARTS, map(float, words[1:])))
+    return found
+
+
+def main(words):
+    names = [word for word in words if not word.startswith("--")]
+    begun = time.monotonic()
+    status, taken, whole = measured(["rt", "ci", *([] if "--kept" in words else ["--anew"]), *names])
+    minutes = (time.monotonic() - begun) / 60
+    may, over = limits(), False
+    print(f"{'':16}" + "".join(f"{part:>9}{'at most':>9}" for part in PARTS))
+    for crate in sorted({crate for crate, _ in taken}):
+        row = f"{crate:16}"
+        for part in PARTS:
+            much, most = taken[crate, part] / 60, may.get(crate, {}).get(part, 0.0)
+            over = over or much > most
+            row += f"{much:8.1f}{'!' if much > most else ' '}{most:9.1f}"
+        print(row)
+    sums = [sum(much for (_, of), much in taken.items() if of == part) / 60 for part in PARTS]
+    print(f"{'together':16}" + "".join(f"{much:8.1f}{'':10}" for much in sums).rstrip())
+    print(f"in all {whole / 60:.1f} processor minutes, in {minutes:.1f} minutes")
+    return status or int(over)
+
+
+if __name__ == "__main__":
+    sys.exit(main(sys.argv[1:]))

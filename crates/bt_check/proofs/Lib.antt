@@ -1,0 +1,20 @@
+-- readers
+pub mod ReaderFill
+pub mod ReaderNode
+pub mod PiecesNode
+-- `check`
+pub mod RightBlocks
+pub mod KnownTree
+pub mod PieceGroup
+pub mod AdoptedGroups
+pub mod BlockChecks
+pub mod DeviceBytes
+pub mod EntryChecks
+pub mod CheckFault
+pub mod ReportLines
+-- `show`
+pub mod TorrentFileText
+pub mod ShowText
+-- digests
+pub mod DigestLayer
+pub mod DigestFile

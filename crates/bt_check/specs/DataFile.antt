@@ -1,0 +1,20 @@
+-- The data files of a torrent.
+use Rattle.std.specs.Prelude.{◌≡◌, ◌⊎◌, ℕ, List, IfSome}
+use Rattle.std.specs.declared.io.ErrorKind.{ErrorKind}
+use Rattle.std.specs.declared.io.ErrorKind.TheVariants.{NotFound, NotADirectory, InvalidFilename}
+use Rattle.bt_disk.specs.Pool.{PooledView}
+use Rattle.bt_meta.specs.Files.{File, file_of}
+use Rattle.bt_check.specs.Paths.{path_below}
+use Rattle.bt_check.specs.declared.data_file.DataFile.{DataFile}
+
+-- an error of a look at a path that says that no file can be there
+abbrev pub IsAbsence : ErrorKind → Type 0
+IsAbsence kind = (kind ≡ NotFound) ⊎ (kind ≡ NotADirectory) ⊎ (kind ≡ InvalidFilename)
+
+-- the file of a torrent that a data file is for
+abbrev pub file_at : {D : Type 0} → DataFile D → File
+file_at d = file_of d.file.now
+
+-- its device, where it has one, is that of the file's path below a folder
+abbrev pub IsAtPath : List ℕ → DataFile PooledView → Type 0
+IsAtPath dir d = IfSome d.disk (λ disk. disk.path ≡ path_below dir (file_at d).path)

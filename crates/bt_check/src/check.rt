@@ -1,0 +1,68 @@
+//! The command `check`.
+ghost use Rattle.std.specs.Prelude.{◌≡◌, ◌⊎◌, List, map, IfOk, IfErr};
+ghost use Rattle.std.specs.List.{All};
+ghost use Rattle.std.specs.Io.KnownBytes.{Appends};
+ghost use Rattle.bt_check.specs.EntryCheck.{IsCheckable};
+ghost use Rattle.bt_check.specs.DataFile.{file_at};
+ghost use Rattle.bt_check.specs.Fault.{device, out_of_memory};
+ghost use Rattle.bt_check.specs.Report.{IsReportOf, IsReportOn, lines_text, report_text};
+ghost use Rattle.bt_check.specs.declared.report.FileFinding.{FileFinding};
+
+use crate::data_file::{DataFile, open_data_files};
+use crate::entry_check::check_data_file;
+use crate::fault::Fault;
+use crate::output::print;
+use crate::pieces::PieceSize;
+use crate::report::{FileFinding, Summary, last_words, write_line};
+use bt_disk::Disk;
+use bt_meta::{MetaError, Torrent};
+use std::alloc::Global;
+use std::io::Write;
+use std::rt::Files;
+
+/// Checks the files of a folder against a torrent, and writes what it finds: the line of each file as it is
+/// done, in the order of the torrent, and the last line.
+///
+/// All files are opened first, and one that can't be opened ends it before anything is written. A read that
+/// fails later does not: the summary tells it. After a fault the writer has a part of the text, or all.
+pub fn check_torrent<R: Files + AllocGlobal + Clone + Drop, W: Write>(
+    rt: &R,
+    torrent: &Torrent,
+    dir: &str,
+    writer: &mut W,
+) -> Result<Summary, Fault>
+    ensures report { IfOk result (λ summary. (found : List FileFinding) × IsReportOn torrent.now found summary
+        × Appends (W.contents writer.old) (W.contents writer.new) (report_text found)) }
+    ensures fault { IfErr result (λ fault. (fault ≡ device) ⊎ (fault ≡ out_of_memory)) }
+{
+    let size = PieceSize::new(torrent.piece_length()).ok_or(MetaError::PieceLength)?;
+    let files = open_data_files(rt, dir, torrent.files())?;
+    let summary = check_files(rt.alloc(), files, size, writer)?;
+    print(writer, last_words(summary.complete))?;
+    Ok(summary)
+}
+
+/// Checks some data files, in turn, and writes the line of each. A file's device goes with it.
+fn check_files<D: Disk + Drop, W: Write>(
+    alloc: Global,
+    files: Vec<DataFile<'_, D>>,
+    size: PieceSize,
+    writer: &mut W,
+) -> Result<Summary, Fault>
+    requires { All (IsCheckable size.layer) (map file_at files.items) }
+    ensures report { IfOk result (λ summary. (found : List FileFinding)
+        × IsReportOf size.layer (map file_at files.entry.items) found summary
+        × Appends (W.contents writer.old) (W.contents writer.new) (lines_text found)) }
+    ensures fault { IfErr result (λ fault. (fault ≡ device) ⊎ (fault ≡ out_of_memory)) }
+{
+    let mut summary = Summary {
+        complete: true,
+        faulty: false,
+    };
+    for DataFile { file, disk } in files {
+        let finding = check_data_file(alloc, disk, file, size)?;
+        write_line(alloc, &FileFinding { file, finding }, writer)?;
+        summary = summary.with(finding);
+    }
+    Ok(summary)
+}

@@ -1,0 +1,139 @@
+//! The digests that a torrent says of a file, from one reading of its bytes.
+ghost use Rattle.std.specs.Prelude.{◌≡◌, ℕ, ◌+◌, ◌^◌, ◌*◌, ◌≤◌, ◌⊎◌, List, [], length, IfOk, IfErr, IfSome};
+ghost use Rattle.bt_tree.specs.Blocks.{block_count};
+ghost use Rattle.bt_tree.specs.Tree.{node_digest};
+ghost use Rattle.bt_tree.specs.TreeShape.{height_of};
+ghost use Rattle.sha2.specs.Sha256.{sha256};
+ghost use Rattle.bt_tree.specs.Limits.{max_height};
+ghost use Rattle.bt_check.specs.Fault.{device, out_of_memory};
+ghost use Rattle.bt_check.specs.DigestSteps.{GivesLayer, GivesFile, IsRow};
+ghost use Rattle.bt_check.specs.Digests.{AreDigestsOf, GivesAll, IsDigestFault};
+
+use crate::fault::Fault;
+use crate::file_hash::FileHash;
+use crate::pieces::{PieceSize, read_piece};
+use crate::reader::{BUFFER_LEN, has_more, read_node};
+use bt_meta::MakeError;
+use bt_tree::{Geometry, Hash32, NodeHash, RootBuilder, pad};
+use std::alloc::Global;
+use std::io::Read;
+
+/// The root of a file's tree, zeros for an empty file, and the digests of its pieces where it is longer than
+/// one.
+#[derive(Debug, Drop)]
+pub struct Digests {
+    pub root: Hash32,
+    pub layer: Vec<u8>,
+}
+
+/// The digests of the bytes of a reader, which has `length` bytes. A reader that has fewer or more, as that
+/// of a file that is written to, is a device fault.
+pub fn digest_reader<R: Read>(
+    alloc: Global,
+    reader: &mut R,
+    length: u64,
+    size: PieceSize,
+    buffer: &mut [u8; BUFFER_LEN],
+) -> Result<Digests, Fault>
+    // of the reader's bytes, where it tells them
+    ensures told { IfSome (R.remaining reader.old) (λ bytes. IfOk result (AreDigestsOf bytes size.layer)) }
+
+    // of the bytes that it gave, at every reader
+    ensures given { IfOk result
+        (GivesAll (R.remaining reader.old) (R.remaining reader.new) length size.layer) }
+    ensures fault { IfErr result (IsDigestFault length) }
+{
+    let digests = match Geometry::new(length) {
+        Some(geometry) => digest_file(alloc, reader, geometry, size, buffer)?,
+        None if length == 0 => no_digests(alloc),
+        None => return Err(Fault::Make(MakeError::FileLength)),
+    };
+    if has_more(reader)? {
+        return Err(Fault::Device);
+    }
+    Ok(digests)
+}
+
+/// What is said of an empty file.
+fn no_digests(alloc: Global) -> Digests
+    ensures { (layer : ℕ) → AreDigestsOf [] layer result }
+{
+    Digests {
+        root: [0; 32],
+        layer: Vec::new(alloc),
+    }
+}
+
+/// The digests of the next bytes of a reader, as a file of this geometry.
+fn digest_file<R: Read>(
+    alloc: Global,
+    reader: &mut R,
+    geometry: Geometry,
+    size: PieceSize,
+    buffer: &mut [u8; BUFFER_LEN],
+) -> Result<Digests, Fault>
+    ensures given { IfOk result
+        (GivesFile (R.remaining reader.old) (R.remaining reader.new) geometry size.layer) }
+    ensures fault { IfErr result (λ fault. (fault ≡ device) ⊎ (fault ≡ out_of_memory)) }
+{
+    if geometry.length() <= size.bytes as u64 {
+        let builder = RootBuilder::new(FileHash, geometry);
+        let found = read_node(reader, builder, geometry.length(), buffer)?;
+        let root = found.ok_or(Fault::Device)?;
+        return Ok(Digests {
+            root,
+            layer: Vec::new(alloc),
+        });
+    }
+    let layer = read_layer(alloc, reader, geometry, size, buffer)?;
+    let above = geometry.height() - size.layer;
+    let root = node_above(layer.as_slice(), size.layer, above);
+    Ok(Digests { root, layer })
+}
+
+/// The digests of the pieces that come next from a reader, 32 bytes each.
+fn read_layer<R: Read>(
+    alloc: Global,
+    reader: &mut R,
+    geometry: Geometry,
+    size: PieceSize,
+    buffer: &mut [u8; BUFFER_LEN],
+) -> Result<Vec<u8>, Fault>
+    requires { size.layer ≤ height_of (block_count geometry) }
+    ensures given { IfOk result (λ layer. GivesLayer
+        (R.remaining reader.old) (R.remaining reader.new) geometry size.layer layer.items) }
+    ensures fault { IfErr result (λ fault. (fault ≡ device) ⊎ (fault ≡ out_of_memory)) }
+{
+    let count = geometry.real(size.layer);
+    let mut layer = Vec::new(alloc);
+    let mut rest = geometry.length();
+    for index in 0..count {
+        let length = rest.min(size.bytes as u64);
+        let Some(digest) = read_piece(reader, geometry, size.layer, index, length, buffer)? else {
+            return Err(Fault::Device);
+        };
+        layer.extend_from_slice(&digest)?;
+        rest -= length;
+    }
+    Ok(layer)
+}
+
+/// The digest of a node that lies `layers` layers above the layer `base`: of the nodes of that layer that lie
+/// below it, those that cover a block have these digests.
+fn node_above(digests: &[u8], base: u8, layers: u8) -> Hash32
+    requires high { base + layers ≤ max_height }
+    ensures { (file : List ℕ) (index count : ℕ) → IsRow file base layers index count digests.now
+        → result ≡ node_digest sha256 file (base + layers) index }
+{
+    let Some(first) = digests.first_chunk::<32>() else {
+        return pad(FileHash, base + layers);
+    };
+    if layers == 0 {
+        return *first;
+    }
+    let middle = digests.len().min(32 << (layers - 1));
+    let (left, right) = digests.split_at(middle);
+    let left = node_above(left, base, layers - 1);
+    let right = node_above(right, base, layers - 1);
+    FileHash.pair(&left, &right)
+}

@@ -1,0 +1,200 @@
+//! Checking a data file on its device, piece by piece (BEP 52).
+ghost use Rattle.std.specs.Prelude.{◌≡◌, ◌<◌, ◌≤◌, ◌↔◌, [], ◌∷◌, false, IsTrue, IsSomeAnd, IfOk};
+ghost use Rattle.bt_tree.specs.Blocks.{IsFileLength, block_count};
+ghost use Rattle.bt_tree.specs.Limits.{max_file_length};
+ghost use Rattle.bt_disk.specs.Calls.{HasCalls};
+ghost use Rattle.bt_meta.specs.Files.{file_of};
+ghost use Rattle.bt_check.specs.Check.{IsEntryFinding, IsFileFinding};
+ghost use Rattle.bt_check.specs.CheckSteps.{HoldsJust, IsBlockCheck};
+ghost use Rattle.bt_check.specs.EntryCheck.{Answers, IsCheckable, IsEntryCheck, len_call_of};
+ghost use Rattle.bt_check.specs.Finding.{known_layer};
+
+use crate::data_file::Finding;
+use crate::file_hash::FileHash;
+use crate::pieces::PieceSize;
+use bt_disk::Disk;
+use bt_meta::FileEntry;
+use bt_sparse::SparseTree;
+use bt_store::FileStore;
+use bt_tree::{Geometry, LayerError};
+use std::alloc::{AllocError, Global};
+
+/// What a check found of a data file, and its device.
+#[derive(Drop)]
+pub struct EntryCheck<D: Disk + Drop> {
+    pub disk: D,
+    pub finding: Finding,
+}
+
+/// Checks the data file of an entry. A file that is not there is not longer, and none of its blocks are
+/// marked.
+pub fn check_data_file<D: Disk + Drop>(
+    alloc: Global,
+    disk: Option<D>,
+    entry: &FileEntry,
+    size: PieceSize,
+) -> Result<Finding, AllocError>
+    requires { IsCheckable size.layer (file_of entry.now) }
+    ensures { IfOk result (IsFileFinding size.layer (file_of entry.now)) }
+{
+    match disk {
+        Some(disk) => Ok(check_entry(alloc, disk, entry, size)?.finding),
+        None => Ok(absent_finding(entry.length)),
+    }
+}
+
+/// What is found of a file of this length where there is no data file.
+fn absent_finding(length: u64) -> Finding
+    requires { length ≤ max_file_length }
+    ensures { result ≡ record { blocks = block_count length; marked = 0; longer = false; faulty = false } }
+{
+    let blocks = match Geometry::new(length) {
+        Some(geometry) => geometry.blocks(),
+        None => 0,
+    };
+    Finding {
+        blocks,
+        marked: 0,
+        longer: false,
+        faulty: false,
+    }
+}
+
+/// Checks the bytes of a device against an entry: by the pieces whose digests the entry has, else as a whole.
+///
+/// The device is asked for its length, and then each block is read, in turn, also after a call that failed.
+/// The blocks of a piece are marked where each was read whole and the piece has its digest. The one error is
+/// out of memory.
+pub fn check_entry<D: Disk + Drop>(
+    alloc: Global,
+    disk: D,
+    entry: &FileEntry,
+    size: PieceSize,
+) -> Result<EntryCheck<D>, AllocError>
+    requires { IsCheckable size.layer (file_of entry.now) }
+
+    // of what the device answered, at every device
+    ensures answered { IfOk result (λ check. (answers : Answers) × IsEntryCheck D.history D.honest D.faults
+        size.layer (file_of entry.now) disk answers check.disk check.finding) }
+
+    // of the device's bytes, where it gives what was written
+    ensures honest { D.honest disk → IfOk result (λ check. check.finding.faulty ≡ false
+        → IsEntryFinding (D.history disk).now.bytes size.layer (file_of entry.now) check.finding) }
+{
+    let mut disk = disk;
+    let length = length_of(&mut disk);
+    let longer = is_longer(length, entry.length);
+    let unknown = length.is_none();
+    let Some(geometry) = Geometry::new(entry.length) else {
+        let finding = Finding {
+            blocks: 0,
+            marked: 0,
+            longer,
+            faulty: unknown,
+        };
+        return Ok(EntryCheck { disk, finding });
+    };
+    let check = check_blocks(alloc, disk, geometry, entry, size)?;
+    let finding = Finding {
+        blocks: geometry.blocks(),
+        marked: check.marked,
+        longer,
+        faulty: unknown | check.faulty,
+    };
+    Ok(EntryCheck {
+        disk: check.disk,
+        finding,
+    })
+}
+
+/// How many bytes a device has; none where the call failed.
+fn length_of<D: Disk>(disk: &mut D) -> Option<u64>
+    ensures { HasCalls D.history D.honest D.faults disk.old (len_call_of result ∷ []) disk.new }
+{
+    match disk.len() {
+        Ok(length) => Some(length),
+        Err(_) => None,
+    }
+}
+
+/// Whether a device has more bytes than a file; not where its length is not known.
+fn is_longer(length: Option<u64>, file_length: u64) -> bool
+    ensures { IsTrue result ↔ IsSomeAnd length (λ length. file_length < length) }
+{
+    match length {
+        Some(length) => length > file_length,
+        None => false,
+    }
+}
+
+/// How many blocks of a file are right, whether a read failed, and the file's device.
+#[derive(Drop)]
+struct BlockCheck<D: Disk + Drop> {
+    disk: D,
+    marked: u32,
+    faulty: bool,
+}
+
+/// Reads the blocks of a file group by group, as a store takes them in.
+fn check_blocks<D: Disk + Drop>(
+    alloc: Global,
+    disk: D,
+    geometry: Geometry,
+    entry: &FileEntry,
+    size: PieceSize,
+) -> Result<BlockCheck<D>, AllocError>
+    requires checkable { IsCheckable size.layer (file_of entry.now) }
+    requires length { geometry ≡ entry.now.length }
+    requires lawful { IsFileLength geometry }
+    ensures { IfOk result (IsBlockCheck D.history D.honest D.faults
+        geometry (known_layer size.layer (file_of entry.now)) disk) }
+{
+    let mut tree = known_tree(alloc, geometry, entry, size)?;
+    let Ok(mut store) = FileStore::create(alloc, disk, FileHash, geometry) else {
+        return Err(AllocError);
+    };
+    let mut from = 0;
+    let mut marked = 0;
+    let mut faulty = false;
+    while from < geometry.blocks() {
+        let adopted = store.adopt(&mut tree, from)?;
+        marked += adopted.marked;
+        faulty |= adopted.faults > 0;
+        from = adopted.next;
+    }
+    Ok(BlockCheck {
+        disk: store.into_disk(),
+        marked,
+        faulty,
+    })
+}
+
+/// The tree of a file as far as a torrent tells it: down to the layer of its pieces, or the root alone.
+fn known_tree(
+    alloc: Global,
+    geometry: Geometry,
+    entry: &FileEntry,
+    size: PieceSize,
+) -> Result<SparseTree<FileHash>, AllocError>
+    requires checkable { IsCheckable size.layer (file_of entry.now) }
+    requires length { geometry ≡ entry.now.length }
+    requires lawful { IsFileLength geometry }
+    ensures { IfOk result (HoldsJust geometry (known_layer size.layer (file_of entry.now))) }
+{
+    if entry.layer.is_empty() {
+        return SparseTree::new(alloc, FileHash, geometry, entry.root);
+    }
+    match SparseTree::with_layer(
+        alloc,
+        FileHash,
+        geometry,
+        entry.root,
+        size.layer,
+        &entry.layer,
+    ) {
+        Ok(tree) => Ok(tree),
+        Err(LayerError::OutOfMemory) => Err(AllocError),
+        // the layers of a torrent that was read are those of its files
+        Err(LayerError::Size | LayerError::Differs) => unreachable!(),
+    }
+}

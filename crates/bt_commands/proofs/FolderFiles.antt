@@ -1,0 +1,158 @@
+-- Lemmas on the files of a folder, as they are found and as they are read.
+use Rattle.std.proofs.Common.{Vec, String, Global, ◌≤◌, ◌≡◌, ◌++◌, ◌+◌, ℕ, refl, ◌⊎◌, inl, inr, List, [], ◌∷◌, map, length, sym, ◌∙◌, ap, arith}
+use Rattle.std.proofs.lemmas.List.{append_assoc, append-nil, length_push, map-append}
+use Rattle.std.proofs.lemmas.List.Elements.{All-nil, All-head, All-tail, All-push, All-same}
+use Rattle.std.proofs.lemmas.List.Sums.{sum_by-append}
+use Rattle.std.specs.Prelude.{Option, None, Some}
+use Rattle.std.specs.List.{All, sum_by}
+use Rattle.bt_tree.specs.Limits.{max_file_length}
+use Rattle.bt_meta.specs.Faults.{first_of}
+use Rattle.bt_meta.specs.Files.{piece_count}
+use Rattle.bt_meta.specs.TreeEntries.{with_earlier}
+use Rattle.bt_meta.specs.declared.writer.Made.{Made}
+use Rattle.bt_meta.specs.declared.writer.MakeError.{MakeError}
+use Rattle.bt_meta.proofs.Checks.{first_of-append}
+use Rattle.bt_meta.proofs.TreeWalk.{with_earlier-append}
+use Rattle.bt_check.specs.Digests.{IsDigestFault}
+use Rattle.bt_check.specs.Fault.{device, make_fault, out_of_memory}
+use Rattle.bt_commands.specs.Limits.{count_refusal}
+use Rattle.bt_commands.specs.Make.{HasContent, IsMeasuringFault, elements_of, first_count_refusal, paths_of, refusal_behind, total_piece_count}
+use Rattle.bt_commands.specs.MakeSteps.{file_of_made, path_of}
+use Rattle.bt_check.specs.declared.fault.Fault.{Fault}
+use Rattle.bt_commands.specs.declared.make.FolderFile.{FolderFile}
+
+-- ---- files as they are found
+
+-- behind the files so far comes the next path
+split_more : {A B : Type 0} (f : A → B) (all left rest : List B) (old new : List A) (x : A) → all ≡ map f old ++ left → left ≡ f x ∷ rest
+    → new ≡ old ++ x ∷ [] → all ≡ map f new ++ rest
+split_more f all left rest old new x each first more =
+    each ∙ ap (λ l. map f old ++ l) first ∙ sym (append_assoc (map f old) (f x ∷ []) rest)
+    ∙ ap (λ l. l ++ rest) (sym (ap (map f) more ∙ map-append f old (x ∷ [])))
+
+-- when none is left
+pub split_all : {A B : Type 0} (f : A → B) (all left : List B) (files : List A) → all ≡ map f files ++ left → length left ≡ 0 → map f files ≡ all
+split_all f all [] files each none = sym (each ∙ append-nil (map f files))
+split_all f all (x ∷ left) files each none = absurd (omega (arith, none))
+
+split_elements : (files : List FolderFile) (rest : List (Vec (String Global) Global))
+    → map elements_of (map path_of files ++ rest) ≡ map (λ file. elements_of file.path) files ++ map elements_of rest
+split_elements [] rest = refl
+split_elements (file ∷ files) rest = ap (λ l. elements_of file.path ∷ l) (split_elements files rest)
+
+-- what is refused behind files of which none is
+refusal_at_last : (size : ℕ) (old : List FolderFile) (file : FolderFile) → first_count_refusal size old ≡ None
+    → first_count_refusal size (old ++ file ∷ []) ≡ first_of (refusal_behind size old file ∷ [])
+refusal_at_last size old file none =
+    ap first_of (with_earlier-append (refusal_behind size) [] old (file ∷ []))
+    ∙ first_of-append (with_earlier (refusal_behind size) [] old) (with_earlier (refusal_behind size) old (file ∷ [])) none
+
+-- the files so far are the first of those wanted, and are not refused, not too long and counted
+pub record AreMeasured (size files_count pieces_count : ℕ) (all left : List (Vec (String Global) Global)) (files : List FolderFile) : Type 0 where
+  pub each : all ≡ map path_of files ++ left
+  pub faultless : first_count_refusal size files ≡ None
+  pub short : All (λ file. file.length ≤ max_file_length) files
+  pub count : length files ≡ files_count
+  pub pieces : total_piece_count size files ≡ pieces_count
+
+pub measured_none : (size files_count pieces_count : ℕ) (all left : List (Vec (String Global) Global)) (files : List FolderFile) → files ≡ [] → files_count ≡ 0
+    → pieces_count ≡ 0 → left ≡ all → AreMeasured size files_count pieces_count all left files
+measured_none size files_count pieces_count all left files empty no_file no_piece same = rw empty (record {
+  each = sym same;
+  faultless = refl;
+  short = All-nil (λ file. file.length ≤ max_file_length);
+  count = sym no_file;
+  pieces = sym no_piece;
+})
+
+module _ {size count pieces : ℕ} {all left : List (Vec (String Global) Global)} {old : List FolderFile} (h : AreMeasured size count pieces all left old)
+    (rest : List (Vec (String Global) Global)) (file : FolderFile) (elements : ℕ) (first : left ≡ file.path ∷ rest)
+    (sized : elements ≡ length file.path.items) where
+  told_behind : (told : Option MakeError) → told ≡ count_refusal count pieces size elements file.length
+      → first_count_refusal size (old ++ file ∷ []) ≡ first_of (told ∷ [])
+  told_behind told is =
+      let same : refusal_behind size old file ≡ told =
+      ap (λ n. count_refusal n (total_piece_count size old) size (length file.path.items) file.length) h.count
+      ∙ ap (λ n. count_refusal count n size (length file.path.items) file.length) h.pieces
+      ∙ ap (λ n. count_refusal count pieces size n file.length) (sym sized) ∙ sym is in
+      refusal_at_last size old file h.faultless ∙ ap (λ t. first_of (t ∷ [])) same
+
+  pub measured_more : (next_count next_pieces : ℕ) (new : List FolderFile) → new ≡ old ++ file ∷ []
+      → None ≡ count_refusal count pieces size elements file.length → file.length ≤ max_file_length → next_count ≡ count + 1
+      → next_pieces ≡ pieces + piece_count size file.length → AreMeasured size next_count next_pieces all rest new
+  measured_more next_count next_pieces new more passes short one_more its_pieces =
+      let S : FolderFile → Type 0 = λ f. f.length ≤ max_file_length in
+      let pieces_of : FolderFile → ℕ = λ f. piece_count size f.length in
+      let sum_is : sum_by pieces_of (old ++ file ∷ []) ≡ sum_by pieces_of old + sum_by pieces_of (file ∷ []) = sum_by-append pieces_of old (file ∷ []) in
+      let last : sum_by pieces_of (file ∷ []) ≡ piece_count size file.length = omega arith in
+      record {
+        each = split_more path_of all left rest old new file h.each first more;
+        faultless = ap (first_count_refusal size) more ∙ told_behind None passes;
+        short = All-same S new (old ++ file ∷ []) more (All-push S old file h.short short);
+        count = ap length more ∙ length_push old file ∙ ap (λ n. n + 1) h.count ∙ sym one_more;
+        pieces = ap (sum_by pieces_of) more ∙ sum_is ∙ ap (λ n. n + sum_by pieces_of (file ∷ [])) h.pieces
+            ∙ ap (λ n. pieces + n) last ∙ sym its_pieces;
+      }
+
+  pub measured_refused : (cause : MakeError) → Some cause ≡ count_refusal count pieces size elements file.length
+      → IsMeasuringFault (map elements_of all) size (make_fault cause)
+  measured_refused cause refused = inr (inr (record {
+    files = old ++ file ∷ [];
+    rest = map elements_of rest;
+    each = ap (map elements_of) (split_more path_of all left rest old (old ++ file ∷ []) file h.each first refl)
+        ∙ split_elements (old ++ file ∷ []) rest;
+    cause = cause;
+    refusal = told_behind (Some cause) refused;
+    is = refl;
+  }))
+
+-- ---- files as they are read
+
+-- the files so far are the first of those found, and have digests, and those that are left are not too long
+pub record HaveContents (layer : ℕ) (all left : List FolderFile) (files : List Made) : Type 0 where
+  pub each : all ≡ map file_of_made files ++ left
+  pub short : All (λ file. file.length ≤ max_file_length) left
+  pub contents : All (HasContent layer) files
+
+pub contents_none : (layer : ℕ) (all left : List FolderFile) (files : List Made) → files ≡ [] → left ≡ all → All (λ file. file.length ≤ max_file_length) all
+    → HaveContents layer all left files
+contents_none layer all left files empty same short = rw empty (record {
+  each = sym same;
+  short = All-same (λ file. file.length ≤ max_file_length) left all same short;
+  contents = All-nil (HasContent layer);
+})
+
+pub contents_more : (layer : ℕ) (all left rest : List FolderFile) (old new : List Made) (found : FolderFile) (file : Made) → left ≡ found ∷ rest
+    → new ≡ old ++ file ∷ [] → file.path ≡ found.path → file.length ≡ found.length → HasContent layer file → HaveContents layer all left old
+    → HaveContents layer all rest new
+contents_more layer all left rest old new found file first more path size is are =
+    let S : FolderFile → Type 0 = λ f. f.length ≤ max_file_length in
+    let as_found : Vec (String Global) Global → ℕ → FolderFile = λ p n. record { path = p; length = n } in
+    let same : found ≡ file_of_made file = sym (ap (λ p. as_found p file.length) path ∙ ap (as_found found.path) size) in
+    record {
+      each = split_more file_of_made all left rest old new file are.each (first ∙ ap (λ f. f ∷ rest) same) more;
+      short = All-tail S found rest (All-same S (found ∷ rest) left (sym first) are.short);
+      contents = All-same (HasContent layer) new (old ++ file ∷ []) more (All-push (HasContent layer) old file are.contents is);
+    }
+
+-- a file that is left is not too long
+pub short_next : (layer : ℕ) (all left rest : List FolderFile) (found : FolderFile) (files : List Made) → left ≡ found ∷ rest
+    → HaveContents layer all left files → found.length ≤ max_file_length
+short_next layer all left rest found files first are =
+    let S : FolderFile → Type 0 = λ f. f.length ≤ max_file_length in
+    All-head S found rest (All-same S (found ∷ rest) left (sym first) are.short)
+
+-- a file that is not too long is refused by a device or for memory alone
+pub read_fault : (size : ℕ) (fault : Fault) → size ≤ max_file_length → IsDigestFault size fault → (fault ≡ device) ⊎ (fault ≡ out_of_memory)
+read_fault size fault short (inl failed) = inl failed
+read_fault size fault short (inr (inl memory)) = inr memory
+read_fault size fault short (inr (inr long)) = let beyond = long.1 in absurd (omega (arith, short, beyond))
+
+made_paths : (files : List Made) → paths_of files ≡ map elements_of (map path_of (map file_of_made files))
+made_paths [] = refl
+made_paths (file ∷ files) = ap (λ l. elements_of file.path ∷ l) (made_paths files)
+
+-- what was made has the paths that were given
+pub paths_kept : (paths : List (Vec (String Global) Global)) (found : List FolderFile) (files : List Made) → map path_of found ≡ paths
+    → map file_of_made files ≡ found → paths_of files ≡ map elements_of paths
+paths_kept paths found files each same = made_paths files ∙ ap (λ l. map elements_of (map path_of l)) same ∙ ap (map elements_of) each

@@ -1,0 +1,9 @@
+-- `make`
+pub mod FolderWalk
+pub mod FolderOrder
+pub mod FolderFiles
+pub mod MakeFault
+pub mod AtomicFilePath
+-- the program
+pub mod CommandLineTask
+pub mod ProgramRun

@@ -1,0 +1,92 @@
+-- Lemmas on what a run does.
+use Rattle.std.proofs.Common.{◌≡◌, ℕ, [], ◌∷◌, ◌++◌, codes, Bool, true, false, ap, append_assoc, List, Option, Result, Ok, Err, IfOk, IfErr, IsErrAnd, refl, sym, subst, ◌∙◌}
+use Rattle.std.specs.Prelude.{◌⊎◌, if◌then◌else◌}
+use Rattle.std.specs.Io.KnownBytes.{Appends, Keeps}
+use Rattle.std.proofs.KnownBytes.{Keeps-refl}
+use Rattle.clap.specs.Words.{Text}
+use Rattle.bt_tree.specs.TreeShape.{IsPieceLength}
+use Rattle.bt_meta.specs.declared.writer.MakeError.TheVariants.{PieceLength}
+use Rattle.bt_commands.specs.CommandLine.{IsTaskOf}
+use Rattle.bt_meta.specs.Torrent.{Metainfo}
+use Rattle.bt_check.specs.Report.{IsReportOn, check_outcome, report_text}
+use Rattle.bt_check.specs.TorrentFile.{HasText}
+use Rattle.bt_commands.specs.Make.{IsMakeFault, IsMakeTorrent}
+use Rattle.bt_commands.specs.Program.{IsCheckResult, IsMakeResult, IsTaskResult, IsTaskEnd, IsRun, IsStart, Writes, no_words, on_words, task_result, task_end}
+use Rattle.bt_commands.specs.ProgramSteps.{status_after}
+use Rattle.hex.specs.Hex.{encode_lower}
+use Rattle.bt_check.specs.Display.{line_text}
+use Rattle.bt_check.specs.Fault.{device, make_fault, out_of_memory, status_of, words_fault}
+use Rattle.bt_commands.specs.declared.make.NewTorrent.{NewTorrent}
+use Rattle.bt_check.specs.declared.report.FileFinding.{FileFinding}
+use Rattle.bt_check.specs.declared.report.Summary.{Summary}
+use Rattle.bt_commands.specs.declared.command_line.MakeTask.{MakeTask}
+use Rattle.bt_check.specs.declared.torrent_file.Source.{Source}
+use Rattle.bt_commands.specs.declared.command_line.Task.{Task}
+use Rattle.bt_commands.specs.declared.command_line.Task.TheVariants.{Make}
+use Rattle.bt_check.specs.declared.fault.Fault.{Fault}
+
+-- nothing was made, and nothing written yet
+pub not_made : {T : Type 0} (r : Result T Fault) (request : MakeTask) (old : Option (List ℕ)) (fault : Fault)
+    → IsMakeFault request.name.now request.piece_length fault → (¬ IsPieceLength request.piece_length → fault ≡ make_fault PieceLength)
+    → IsErrAnd r (λ found. found ≡ fault) → IfErr r (IsTaskEnd (Make request) old old)
+not_made (Ok x) request old fault cause why same = absurd same
+not_made (Err found) request old fault cause why same = record {
+  cause = record { cause = subst (IsMakeFault request.name.now request.piece_length) (sym same) cause; unlawful = λ none. same ∙ why none };
+  refused = λ _. Keeps-refl old;
+}
+
+pub checked : (source : Source) (torrent : Metainfo) (summary : Summary) (old new : Option (List ℕ)) (status : ℕ) → HasText source.is_info torrent
+    → (found : List FileFinding) × IsReportOn torrent found summary × Appends old new (report_text found) → summary.faulty ≡ false
+    → status ≡ (if summary.complete then 0 else 1) → Writes (IsCheckResult source) old new status
+checked source torrent summary old new status loaded r sound is =
+    record {
+      text = report_text r.0;
+      written = r.2;
+      is = record {
+        torrent = torrent;
+        loaded = loaded;
+        found = r.0;
+        summary = summary;
+        report = r.1;
+        sound = sym r.1.report.faulty ∙ sound;
+        lines = refl;
+        answer = is ∙ ap (λ b. if b then 0 else 1) r.1.report.complete;
+      };
+    }
+
+outcome_written : (source : Source) (torrent : Metainfo) (summary : Summary) (old new : Option (List ℕ)) (is_faulty : Bool) → HasText source.is_info torrent
+    → (found : List FileFinding) × IsReportOn torrent found summary × Appends old new (report_text found) → summary.faulty ≡ is_faulty
+    → IfOk (if is_faulty then Err device else Ok (if summary.complete then 0 else 1)) (Writes (IsCheckResult source) old new)
+outcome_written source torrent summary old new true loaded r sound = tt
+outcome_written source torrent summary old new false loaded r sound = checked source torrent summary old new _ loaded r sound refl
+
+-- a check that was done ends as its summary says
+pub check_done : (source : Source) (torrent : Metainfo) (summary : Summary) (old new : Option (List ℕ)) (outcome : Result ℕ Fault)
+    → outcome ≡ check_outcome summary → HasText source.is_info torrent
+    → (found : List FileFinding) × IsReportOn torrent found summary × Appends old new (report_text found)
+    → IfOk outcome (Writes (IsCheckResult source) old new)
+check_done source torrent summary old new outcome is loaded r =
+    subst (λ o. IfOk o (Writes (IsCheckResult source) old new)) (sym is) (outcome_written source torrent summary old new summary.faulty loaded r refl)
+
+pub performed : (words : List Text) (task : Task) (old new : Option (List ℕ)) (r : Result ℕ Fault) → IsTaskOf words task
+    → IfOk r (Writes (IsTaskResult task) old new) → IfErr r (IsTaskEnd task old new) → IsRun words old new (status_after r)
+performed words task old new (Ok status) asked written ended = task_result task asked written
+performed words task old new (Err fault) asked written ended = task_end task fault asked ended refl
+
+pub made : (request : MakeTask) (new : NewTorrent) (old now : Option (List ℕ)) (text line digits : List ℕ)
+    → IsMakeTorrent request.name.now request.piece_length new → text ≡ line → line ≡ codes "infohash " ++ (digits ++ 10 ∷ [])
+    → digits ≡ encode_lower new.infohash → Appends old now text → Writes (IsMakeResult request) old now 0
+made request new old now text line digits is same printed hash put =
+    let whole : text ≡ line_text (codes "infohash " ++ encode_lower new.infohash) =
+    same ∙ printed ∙ ap (λ d. codes "infohash " ++ (d ++ 10 ∷ [])) hash ∙ sym (append_assoc (codes "infohash ") (encode_lower new.infohash) (10 ∷ [])) in
+    record { text = text; written = put; is = record { new = new; made = is; line = whole; answer = refl } }
+
+pub start_on_words : (old new ran : Option (List ℕ)) (status run_status exit : ℕ) (words : List Text) → new ≡ ran → status ≡ run_status → exit ≡ status
+    → IsRun words old ran run_status → IsStart old new exit
+start_on_words old new ran status run_status exit words same is exits run =
+    on_words words (subst (λ w. IsRun words old w exit) (sym same) (subst (IsRun words old ran) (sym (exits ∙ is)) run))
+
+pub start_without_words : (old new : Option (List ℕ)) (status told exit : ℕ) (fault : Fault) → new ≡ old → status ≡ told → exit ≡ status
+    → told ≡ status_of fault → (fault ≡ words_fault) ⊎ (fault ≡ out_of_memory) → IsStart old new exit
+start_without_words old new status told exit fault same is exits code cause =
+    no_words fault cause (exits ∙ is ∙ code) (subst (Keeps old) (sym same) (Keeps-refl old))

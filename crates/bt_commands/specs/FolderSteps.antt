@@ -1,0 +1,14 @@
+-- The entries of one folder: steps of the walk that only private functions cite.
+use Rattle.std.specs.Prelude.{◌≡◌, ◌++◌, ℕ, List, [], ◌∷◌, map, reverse, String, string_bytes, string_cmp}
+use Rattle.std.specs.List.Sorted.{IsStrictlySortedBy}
+use Rattle.std.specs.Global.{Global}
+use Rattle.bt_commands.specs.declared.folder.FolderEntry.{FolderEntry}
+
+-- entries of a folder were put behind those that were there, by their names: the greatest first
+pub record PutsEntries (folder : List (List ℕ)) (old new : List FolderEntry) : Type 0 where
+  pub names : List (String Global)
+  pub ascending : IsStrictlySortedBy string_cmp names
+  pub entries : List FolderEntry
+  pub behind : new ≡ old ++ entries
+  pub inside : map (λ entry. map string_bytes entry.path.items) entries
+      ≡ map (λ name. folder ++ string_bytes name ∷ []) (reverse names)

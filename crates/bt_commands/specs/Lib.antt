@@ -1,0 +1,12 @@
+-- `make`
+pub mod Folder
+pub mod Limits
+pub mod Make
+-- the program
+pub mod CommandLine
+pub mod Program
+-- what private steps cite
+pub mod FolderSteps
+pub mod MakeSteps
+pub mod AtomicFileSteps
+pub mod ProgramSteps

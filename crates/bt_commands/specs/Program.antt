@@ -1,0 +1,108 @@
+-- What the program does with its words: the status that it exits with, and the text that it writes.
+use Rattle.std.specs.Prelude.{◌≡◌, ℕ, ◌++◌, ◌⊎◌, false, List, Option, codes, if◌then◌else◌}
+use Rattle.std.specs.Io.KnownBytes.{Appends, Keeps}
+use Rattle.clap.specs.Words.{Text}
+use Rattle.clap.specs.declared.error.kind.ErrorKind.{ErrorKind}
+use Rattle.clap.specs.declared.error.kind.ErrorKind.TheVariants.{DisplayHelp, DisplayVersion, OutOfMemory}
+use Rattle.hex.specs.Hex.{encode_lower}
+use Rattle.bt_tree.specs.TreeShape.{IsPieceLength}
+use Rattle.bt_meta.specs.Torrent.{Metainfo}
+use Rattle.bt_meta.specs.declared.writer.MakeError.TheVariants.{PieceLength}
+use Rattle.bt_commands.specs.CommandLine.{IsTaskOf, IsNoTaskOf}
+use Rattle.bt_check.specs.Display.{line_text}
+use Rattle.bt_check.specs.Fault.{make_fault, out_of_memory, status_of, words_fault}
+use Rattle.bt_commands.specs.Make.{IsMakeFault, IsMakeTorrent}
+use Rattle.bt_check.specs.Report.{IsReportOn, is_complete_report, is_faulty_report, report_text}
+use Rattle.bt_check.specs.Show.{show_text}
+use Rattle.bt_check.specs.TorrentFile.{HasText, IsLoadFault}
+use Rattle.bt_commands.specs.declared.command_line.MakeTask.{MakeTask}
+use Rattle.bt_check.specs.declared.torrent_file.Source.{Source}
+use Rattle.bt_commands.specs.declared.command_line.Task.{Task}
+use Rattle.bt_commands.specs.declared.command_line.Task.TheVariants.{Make, Show, Check}
+use Rattle.bt_check.specs.declared.fault.Fault.{Fault}
+use Rattle.bt_commands.specs.declared.make.NewTorrent.{NewTorrent}
+use Rattle.bt_check.specs.declared.report.FileFinding.{FileFinding}
+use Rattle.bt_check.specs.declared.report.Summary.{Summary}
+
+-- ---- a task that is done
+
+-- a torrent was made, and the text is a line with its infohash
+pub record IsMakeResult (request : MakeTask) (status : ℕ) (text : List ℕ) : Type 0 where
+  pub new : NewTorrent
+  pub made : IsMakeTorrent request.name.now request.piece_length new
+  pub line : text ≡ line_text (codes "infohash " ++ encode_lower new.infohash)
+  pub answer : status ≡ 0
+
+-- a torrent was read, and the text is what it says
+pub record IsShowResult (source : Source) (status : ℕ) (text : List ℕ) : Type 0 where
+  pub torrent : Metainfo
+  pub loaded : HasText source.is_info torrent
+  pub lines : text ≡ show_text torrent
+  pub answer : status ≡ 0
+
+-- a torrent was read and its files were checked, no device of which failed; the text is the report's, and the
+-- status says whether all are complete
+pub record IsCheckResult (source : Source) (status : ℕ) (text : List ℕ) : Type 0 where
+  pub torrent : Metainfo
+  pub loaded : HasText source.is_info torrent
+  pub found : List FileFinding
+  pub summary : Summary
+  pub report : IsReportOn torrent found summary
+  pub sound : is_faulty_report found ≡ false
+  pub lines : text ≡ report_text found
+  pub answer : status ≡ (if is_complete_report found then 0 else 1)
+
+-- a task was done, with this status and this text
+abbrev pub IsTaskResult : Task → ℕ → List ℕ → Type 0
+IsTaskResult (Make request) status text = IsMakeResult request status text
+IsTaskResult (Show torrent) status text = IsShowResult torrent status text
+IsTaskResult (Check torrent dir) status text = IsCheckResult torrent status text
+
+-- a text was written, and it and the status are as wanted
+pub record Writes (wanted : ℕ → List ℕ → Type 0) (old new : Option (List ℕ)) (status : ℕ) : Type 0 where
+  pub text : List ℕ
+  pub written : Appends old new text
+  pub is : wanted status text
+
+-- ---- what is not done
+
+-- no torrent was made; and where the piece length is not lawful, that is why
+pub record IsMakeEnd (request : MakeTask) (fault : Fault) : Type 0 where
+  pub cause : IsMakeFault request.name.now request.piece_length fault
+  pub unlawful : ¬ IsPieceLength request.piece_length → fault ≡ make_fault PieceLength
+
+-- a fault that can end a task: `show` and `check` end as the reading of a torrent can
+abbrev pub IsTaskFault : Task → Fault → Type 0
+IsTaskFault (Make request) fault = IsMakeEnd request fault
+IsTaskFault (Show torrent) fault = IsLoadFault torrent.is_info fault
+IsTaskFault (Check torrent dir) fault = IsLoadFault torrent.is_info fault
+
+-- a fault ended a task; where it is a refusal, nothing was written
+pub record IsTaskEnd (task : Task) (old new : Option (List ℕ)) (fault : Fault) : Type 0 where
+  pub cause : IsTaskFault task fault
+  pub refused : status_of fault ≡ 2 → Keeps old new
+
+-- status 0 for help and the version, or 3 where the device failed: the kit does not say their text. A mistake
+-- goes to the other stream.
+abbrev pub IsExplanation : ErrorKind → Option (List ℕ) → Option (List ℕ) → ℕ → Type 0
+IsExplanation DisplayHelp old new status = (status ≡ 0) ⊎ (status ≡ 3)
+IsExplanation DisplayVersion old new status = (status ≡ 0) ⊎ (status ≡ 3)
+IsExplanation OutOfMemory old new status = (status ≡ 4) × Keeps old new
+IsExplanation kind old new status = (status ≡ 2) × Keeps old new
+
+-- ---- a run
+
+-- what the words ask for was done, or ended by a fault; or they ask for nothing
+pub data IsRun (words : List Text) (old new : Option (List ℕ)) (status : ℕ) : Type 0 where
+  task_result : (task : Task) → IsTaskOf words task
+      → Writes (IsTaskResult task) old new status → IsRun words old new status
+  task_end : (task : Task) (fault : Fault) → IsTaskOf words task
+      → IsTaskEnd task old new fault → status ≡ status_of fault → IsRun words old new status
+  no_task : (kind : ErrorKind) → IsNoTaskOf words kind
+      → IsExplanation kind old new status → IsRun words old new status
+
+-- a run on some words; or the words could not be had, and nothing was written
+pub data IsStart (old new : Option (List ℕ)) (status : ℕ) : Type 0 where
+  on_words : (words : List Text) → IsRun words old new status → IsStart old new status
+  no_words : (fault : Fault) → (fault ≡ words_fault) ⊎ (fault ≡ out_of_memory) → status ≡ status_of fault
+      → Keeps old new → IsStart old new status

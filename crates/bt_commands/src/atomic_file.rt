@@ -1,0 +1,160 @@
+//! Writing a file wholly or not at all.
+ghost use Rattle.std.specs.Prelude.{◌≡◌, ℕ, ◌⊎◌, string_bytes, IfOk, IfErr, OnOk};
+ghost use Rattle.std.specs.Io.KnownBytes.{Appends};
+ghost use Rattle.std.specs.List.{list_all};
+ghost use Rattle.bt_commands.specs.AtomicFileSteps.{IsLinkTarget, IsSibling, is_digit, is_part_name, part_name};
+ghost use Rattle.bt_check.specs.Fault.{device, out_of_memory};
+
+use bt_check::{Fault, system_fault};
+use std::alloc::{AllocError, Global};
+use std::fs::{self, File, OpenFile, Permissions};
+use std::io::{ErrorKind, Write};
+use std::rt::Files;
+
+/// How many symbolic links are followed from a path to its file, as many as Linux follows.
+const MAX_LINKS: u32 = 40;
+
+/// Writes a file: wholly, or it stays as it was. The bytes go into a new file beside it, which then takes its
+/// name, and the mode of the one that was there.
+///
+/// Where the path is a symbolic link, that is the file that it names, and the link stays. Where there is
+/// something that is no regular file, that is a device fault, and nothing is changed.
+pub fn replace_file<R: Files + AllocGlobal>(rt: &R, path: &str, bytes: &[u8]) -> Result<(), Fault>
+    ensures { IfErr result (λ fault. (fault ≡ device) ⊎ (fault ≡ out_of_memory)) }
+{
+    let Target { path, permissions } = target_of(rt, path)?;
+    let (part, mut file) = create_part(rt, path.as_str())?;
+    let outcome = match write_part(&mut file, permissions, bytes) {
+        Ok(()) => fs::rename(rt, part.as_str(), path.as_str()).map_err(|_| Fault::Device),
+        Err(fault) => Err(fault),
+    };
+    if outcome.is_err() {
+        let _ = fs::remove_file(rt, part.as_str());
+    }
+    outcome
+}
+
+/// The path of a file that is replaced, at which is a regular file with these permissions, or nothing.
+#[derive(Drop)]
+struct Target {
+    path: String,
+    permissions: Option<Permissions>,
+}
+
+/// The file that is replaced: at the path itself, or where symbolic links lead from there.
+fn target_of<R: Files + AllocGlobal>(rt: &R, path: &str) -> Result<Target, Fault>
+    ensures { IfErr result (λ fault. (fault ≡ device) ⊎ (fault ≡ out_of_memory)) }
+{
+    let mut path = String::from_str(rt.alloc(), path)?;
+    // a look at each link, and one at the file behind them
+    for _ in 0..=MAX_LINKS {
+        match fs::symlink_metadata(rt, path.as_str()) {
+            Ok(metadata) if metadata.is_file() => {
+                let permissions = Some(metadata.permissions());
+                return Ok(Target { path, permissions });
+            }
+            Ok(metadata) if metadata.is_symlink() => {
+                path = followed_link(rt, path.as_str())?;
+            }
+            Err(error) if error.kind() == ErrorKind::NotFound => {
+                let permissions = None;
+                return Ok(Target { path, permissions });
+            }
+            Ok(_) | Err(_) => return Err(Fault::Device),
+        }
+    }
+    Err(Fault::Device)
+}
+
+/// The path that a symbolic link leads to.
+fn followed_link<R: Files + AllocGlobal>(rt: &R, path: &str) -> Result<String, Fault>
+    ensures { IfErr result (λ fault. (fault ≡ device) ⊎ (fault ≡ out_of_memory)) }
+{
+    let link = rt
+        .read_link(rt.alloc(), path)
+        .map_err(|e| system_fault(e.kind()))?;
+    Ok(link_target(rt.alloc(), path, link.as_str())?)
+}
+
+/// Where the text of a symbolic link leads: to itself from the top, and else from the folder that the link is
+/// in.
+fn link_target(alloc: Global, path: &str, text: &str) -> Result<String, AllocError>
+    ensures { IfOk result (λ target. IsLinkTarget path.now text.now (string_bytes target)) }
+{
+    if text.as_bytes().starts_with(b"/") {
+        String::from_str(alloc, text)
+    } else {
+        sibling(alloc, path, text)
+    }
+}
+
+/// Makes a new file in the same folder, under the first name that is free. A file that is there is not
+/// opened.
+fn create_part<R: Files + AllocGlobal>(rt: &R, path: &str) -> Result<(String, R::File), Fault>
+    ensures part { IfOk result
+        (λ part. (number : ℕ) × IsSibling path.now (part_name number) (string_bytes part.0)) }
+    ensures fault { IfErr result (λ fault. (fault ≡ device) ⊎ (fault ≡ out_of_memory)) }
+{
+    for number in 0..u32::MAX {
+        let name = format!(in rt.alloc(); ".btseed-{number}.part")?;
+        let part = sibling(rt.alloc(), path, name.as_str())?;
+        match File::create_new(rt, part.as_str()) {
+            Ok(file) => return Ok((part, file)),
+            Err(error) if error.kind() == ErrorKind::AlreadyExists => {}
+            Err(_) => return Err(Fault::Device),
+        }
+    }
+    Err(Fault::Device)
+}
+
+/// Whether a file of this name is left by a run that was ended while it wrote: `.btseed-`, digits and `.part`.
+pub fn is_part_name(name: &[u8]) -> bool
+    ensures { result ≡ is_part_name name.now }
+{
+    name.starts_with(b".btseed-")
+        && name.ends_with(b".part")
+        && name.len() > 13
+        && are_digits(&name[8..name.len() - 5])
+}
+
+fn are_digits(text: &[u8]) -> bool
+    ensures { result ≡ list_all is_digit text.now }
+{
+    text.iter().all(|byte| *byte >= b'0' && *byte <= b'9')
+}
+
+/// The path of a name in the folder of another path.
+fn sibling(alloc: Global, path: &str, name: &str) -> Result<String, AllocError>
+    ensures { IfOk result (λ sibling. IsSibling path.now name.now (string_bytes sibling)) }
+{
+    match path.rsplit_once('/') {
+        Some((folder, _)) => format!(in alloc; "{folder}/{name}"),
+        None => String::from_str(alloc, name),
+    }
+}
+
+/// Gives a new file these permissions, where there are some, and then its bytes.
+fn write_part<F: OpenFile + Write>(
+    file: &mut F,
+    permissions: Option<Permissions>,
+    bytes: &[u8],
+) -> Result<(), Fault>
+    ensures bytes { OnOk result (Appends (F.contents file.old) (F.contents file.new) bytes.now) }
+    ensures fault { IfErr result (λ fault. fault ≡ device) }
+{
+    if let Some(permissions) = permissions {
+        file.set_permissions(permissions)
+            .map_err(|_| Fault::Device)?;
+    }
+    write_bytes(file, bytes)
+}
+
+/// Writes the bytes, and has them put on the device.
+fn write_bytes<F: OpenFile + Write>(file: &mut F, bytes: &[u8]) -> Result<(), Fault>
+    ensures bytes { OnOk result (Appends (F.contents file.old) (F.contents file.new) bytes.now) }
+    ensures fault { IfErr result (λ fault. fault ≡ device) }
+{
+    file.write_all(bytes).map_err(|_| Fault::Device)?;
+    file.flush().map_err(|_| Fault::Device)?;
+    file.sync_all().map_err(|_| Fault::Device)
+}

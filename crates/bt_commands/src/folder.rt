@@ -1,0 +1,164 @@
+//! The files of a folder and its subfolders.
+ghost use Rattle.std.specs.Prelude.{◌≡◌, ◌++◌, ◌⊎◌, [], ◌∷◌, Some, None, true, false, map, string_bytes, IfOk, OnOk, IfErr, if◌then◌else◌};
+ghost use Rattle.std.specs.List.{All};
+ghost use Rattle.std.specs.Fs.{IsDir, IsFile};
+ghost use Rattle.std.specs.String.{string_cmp};
+ghost use Rattle.std.specs.BTreeMap.{IsOrdered};
+ghost use Rattle.bt_check.specs.Fault.{device};
+ghost use Rattle.bt_commands.specs.AtomicFileSteps.{is_part_name};
+ghost use Rattle.bt_commands.specs.Folder.{Ascend, HasElement, IsListingFault, listing_fault};
+ghost use Rattle.bt_commands.specs.FolderSteps.{PutsEntries};
+ghost use Rattle.bt_commands.specs.declared.folder.EntryKind.TheVariants.{File, Folder};
+
+use crate::atomic_file::is_part_name;
+use bt_check::{Fault, found_path, system_fault};
+use bt_meta::MakeError;
+use std::alloc::{AllocError, Global};
+use std::collections::BTreeMap;
+use std::fs::{self, DirEntry, FileType};
+use std::io::ErrorKind;
+use std::rt::Files;
+
+/// What a torrent takes of a folder.
+#[derive(Clone, Copy, PartialEq, Eq)]
+enum EntryKind {
+    File,
+    Folder,
+}
+
+/// A file or a folder, by its path below the folder that is walked.
+#[derive(Drop)]
+struct FolderEntry {
+    path: Vec<String>,
+    kind: EntryKind,
+}
+
+/// The paths of the files in a folder and its subfolders, folder by folder in the order of the names' bytes, and
+/// so in that of their paths.
+/// A symbolic link is left out, and so is anything else that is neither a file nor a folder, and a part file
+/// that a run left which was ended while it wrote.
+///
+/// A name that is not UTF-8 is refused; a folder that can't be listed is a device fault.
+pub fn files_in<R: Files + AllocGlobal + Clone + Drop>(
+    rt: &R,
+    dir: &str,
+) -> Result<Vec<Vec<String>>, Fault>
+    ensures named { IfOk result
+        (λ files. All (λ path. HasElement (map string_bytes path.items)) files.items) }
+    ensures ascending { IfOk result
+        (λ files. Ascend (map (λ path. map string_bytes path.items) files.items)) }
+    ensures fault { IfErr result IsListingFault }
+{
+    let alloc = rt.alloc();
+    let mut files = Vec::new(alloc);
+    let mut waiting = Vec::new(alloc);
+    push_entries(rt, dir, &[], &mut waiting)?;
+    // A bound, so that it ends whatever the system gives.
+    for _ in 0..u64::MAX {
+        let Some(FolderEntry { path, kind }) = waiting.pop() else {
+            return Ok(files);
+        };
+        match kind {
+            EntryKind::File => files.push(path)?,
+            EntryKind::Folder => push_entries(rt, dir, &path, &mut waiting)?,
+        }
+    }
+    Err(Fault::Device)
+}
+
+/// Puts the entries of a folder onto those that wait, the first one last.
+fn push_entries<R: Files + AllocGlobal + Clone + Drop>(
+    rt: &R,
+    dir: &str,
+    folder: &[String],
+    waiting: &mut Vec<FolderEntry>,
+) -> Result<(), Fault>
+    ensures put { OnOk result
+        (PutsEntries (map string_bytes folder.now) waiting.old.items waiting.new.items) }
+    ensures fault { IfErr result IsListingFault }
+{
+    let mut names = names_in(rt, dir, folder)?;
+    while let Some((name, kind)) = names.pop_last() {
+        let path = path_with(rt.alloc(), folder, name)?;
+        waiting.push(FolderEntry { path, kind })?;
+    }
+    Ok(())
+}
+
+/// The names of the files and the folders in a folder.
+fn names_in<R: Files + AllocGlobal + Clone + Drop>(
+    rt: &R,
+    dir: &str,
+    folder: &[String],
+) -> Result<BTreeMap<String, EntryKind>, Fault>
+    ensures ordered { IfOk result (IsOrdered string_cmp) }
+    ensures fault { IfErr result IsListingFault }
+{
+    let alloc = rt.alloc();
+    let mut names = BTreeMap::new(alloc);
+    let folder = found_path(alloc, dir, folder)?;
+    for entry in fs::read_dir(rt, folder).map_err(|e| system_fault(e.kind()))? {
+        let entry = entry.map_err(|e| listing_fault(e.kind()))?;
+        let name = entry.file_name();
+        if let Some(kind) = kind_of(name, entry_type(&entry)?) {
+            names.insert(String::from_str(alloc, name)?, kind)?;
+        }
+    }
+    Ok(names)
+}
+
+/// The type of an entry, also of a link and not of what it leads to. To ask for it takes no memory, so that
+/// fails by the device alone.
+fn entry_type<R: Files>(entry: &DirEntry<R>) -> Result<FileType, Fault>
+    ensures { IfErr result (λ fault. fault ≡ device) }
+{
+    entry.file_type().map_err(|_| Fault::Device)
+}
+
+/// What an entry is to a torrent: none for what is left out, a symbolic link, a pipe, a socket or a device,
+/// and a part file of a run that was ended.
+fn kind_of(name: &str, file_type: FileType) -> Option<EntryKind>
+    ensures file { IsFile file_type → is_part_name name.now ≡ false → result ≡ Some File }
+    ensures part { IsFile file_type → is_part_name name.now ≡ true → result ≡ None }
+    ensures folder { IsDir file_type → result ≡ Some Folder }
+    ensures other { ¬ IsFile file_type → ¬ IsDir file_type → result ≡ None }
+{
+    if file_type.is_file() {
+        file_kind(is_part_name(name.as_bytes()))
+    } else if file_type.is_dir() {
+        Some(EntryKind::Folder)
+    } else {
+        None
+    }
+}
+
+/// What a regular file is to a torrent.
+fn file_kind(is_part: bool) -> Option<EntryKind>
+    ensures { result ≡ (if is_part then None else Some File) }
+{
+    if is_part { None } else { Some(EntryKind::File) }
+}
+
+/// The fault of an error in reading the next name of a folder: here alone a name that is not valid is one
+/// that is not UTF-8.
+fn listing_fault(kind: ErrorKind) -> Fault
+    ensures { result ≡ listing_fault kind }
+{
+    match kind {
+        ErrorKind::InvalidFilename => Fault::Make(MakeError::BadPath),
+        _ => system_fault(kind),
+    }
+}
+
+/// The path of an entry of a folder.
+fn path_with(alloc: Global, folder: &[String], name: String) -> Result<Vec<String>, AllocError>
+    ensures { IfOk result
+        (λ path. map string_bytes path.items ≡ map string_bytes folder.now ++ string_bytes name ∷ []) }
+{
+    let mut path = Vec::new(alloc);
+    for element in folder {
+        path.push(element.clone()?)?;
+    }
+    path.push(name)?;
+    Ok(path)
+}

@@ -1,0 +1,15 @@
+//! The commands of the program `btseed`: what its words ask for, and what is done then.
+#![tactic(auto)]
+
+mod atomic_file;
+mod command_line;
+mod folder;
+mod limits;
+mod make;
+mod program;
+
+pub use atomic_file::replace_file;
+pub use command_line::{MakeTask, Task};
+pub use folder::files_in;
+pub use make::{FolderFile, NewTorrent, open_file};
+pub use program::{run, start};

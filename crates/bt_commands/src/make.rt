@@ -1,0 +1,194 @@
+//! The command `make`.
+ghost use Rattle.std.specs.Prelude.{◌≡◌, ◌≤◌, ◌⊎◌, None, length, map, IfOk, IfErr, IsErrAnd};
+ghost use Rattle.std.specs.List.{All};
+ghost use Rattle.bt_tree.specs.TreeShape.{IsPieceLength};
+ghost use Rattle.bt_meta.specs.declared.writer.MakeError.TheVariants.{PieceLength};
+ghost use Rattle.bt_meta.specs.Limits.{max_file_count, max_piece_count};
+ghost use Rattle.bt_tree.specs.Limits.{max_file_length};
+ghost use Rattle.bt_check.specs.Digests.{IsDigestFault};
+ghost use Rattle.bt_check.specs.Fault.{device, make_fault, out_of_memory};
+ghost use Rattle.bt_commands.specs.Make.{HasContent, IsFilesFault, IsMakeFault, IsMakeTorrent, IsMeasuringFault, IsTorrentOf, elements_of, first_count_refusal, total_piece_count};
+ghost use Rattle.bt_commands.specs.MakeSteps.{file_of_made, path_of};
+
+use crate::command_line::MakeTask;
+use crate::folder::files_in;
+use crate::limits::Counts;
+use bt_check::{BUFFER_LEN, Digests, Fault, PieceSize, digest_reader, found_path};
+use bt_meta::{Made, MakeError, read_torrent};
+use bt_tree::Hash32;
+use std::fs::{self, Metadata};
+use std::os::unix::fs::MetadataExt;
+use std::path::Path;
+use std::rt::Files;
+
+/// A torrent that was made: its bytes, and its infohash.
+#[derive(Drop)]
+pub struct NewTorrent {
+    pub text: Vec<u8>,
+    pub infohash: Hash32,
+}
+
+/// Makes the torrent of a folder. The first fault ends it, and is looked for in the piece length, then in the
+/// folder, then in the file that the torrent is written to, which is to be none of the folder's, and then in
+/// these.
+pub fn make<R: Files + AllocGlobal + Clone + Drop>(
+    rt: &R,
+    request: MakeTask<'_>,
+) -> Result<NewTorrent, Fault>
+    ensures torrent { IfOk result (IsMakeTorrent request.entry.name.now request.entry.piece_length) }
+    ensures length { ¬ IsPieceLength request.entry.piece_length
+        → IsErrAnd result (λ fault. fault ≡ make_fault PieceLength) }
+    ensures fault { IfErr result (IsMakeFault request.entry.name.now request.entry.piece_length) }
+{
+    let Some(size) = PieceSize::new(request.piece_length) else {
+        return Err(Fault::Make(MakeError::PieceLength));
+    };
+    let paths = files_in(rt, request.dir)?;
+    if is_among(rt, request.out, request.dir, &paths)? {
+        return Err(Fault::OutAmongFiles);
+    }
+    torrent_of(rt, request.dir, request.name, size, paths)
+}
+
+/// Whether the file at a path, if there is one, is one of these of a folder: also by another name of it, or by
+/// a link. What else is wrong with it shows when it is written.
+fn is_among<R: Files + AllocGlobal>(
+    rt: &R,
+    out: &str,
+    dir: &str,
+    paths: &[Vec<String>],
+) -> Result<bool, Fault>
+    ensures { IfErr result (λ fault. (fault ≡ device) ⊎ (fault ≡ out_of_memory)) }
+{
+    let Ok(out) = fs::metadata(rt, out) else {
+        return Ok(false);
+    };
+    for path in paths {
+        let path = found_path(rt.alloc(), dir, path)?;
+        let file = fs::metadata(rt, path).map_err(|_| Fault::Device)?;
+        if is_same_file(&out, &file) {
+            return Ok(true);
+        }
+    }
+    Ok(false)
+}
+
+/// Whether two looks met the same file: one inode of one device.
+fn is_same_file(one: &Metadata, other: &Metadata) -> bool {
+    one.dev() == other.dev() && one.ino() == other.ino()
+}
+
+/// Makes the torrent of the files of a folder that have these paths.
+fn torrent_of<R: Files + AllocGlobal>(
+    rt: &R,
+    dir: &str,
+    name: &str,
+    size: PieceSize,
+    paths: Vec<Vec<String>>,
+) -> Result<NewTorrent, Fault>
+    ensures torrent { IfOk result (IsTorrentOf (map elements_of paths.items) name.now size.bytes) }
+    ensures fault { IfErr result (IsFilesFault (map elements_of paths.items) name.now size.bytes) }
+{
+    let alloc = rt.alloc();
+    let files = measured_files(rt, dir, paths, size)?;
+    let files = read_files(rt, dir, files, size)?;
+    let text = bt_meta::make(alloc, name.as_bytes(), size.bytes, &files)?;
+    // read back for the infohash alone: what was made is lawful, so it is refused for memory at most
+    let infohash = read_torrent(alloc, &text)?.infohash();
+    Ok(NewTorrent { text, infohash })
+}
+
+/// A file of the folder: its path below it, and how many bytes it has.
+#[derive(Drop)]
+pub struct FolderFile {
+    pub path: Vec<String>,
+    pub length: u64,
+}
+
+/// The files of a folder that have these paths, with their lengths. Where one is too long for a torrent, or
+/// they are too many, that is told before any is read.
+fn measured_files<R: Files + AllocGlobal>(
+    rt: &R,
+    dir: &str,
+    paths: Vec<Vec<String>>,
+    size: PieceSize,
+) -> Result<Vec<FolderFile>, Fault>
+    ensures each { IfOk result (λ files. map path_of files.items ≡ paths.items) }
+    ensures faultless { IfOk result (λ files. first_count_refusal size.bytes files.items ≡ None) }
+    ensures short { IfOk result (λ files. All (λ file. file.length ≤ max_file_length) files.items) }
+    ensures count { IfOk result (λ files. length files.items ≤ max_file_count) }
+    ensures pieces { IfOk result (λ files. total_piece_count size.bytes files.items ≤ max_piece_count) }
+    ensures fault { IfErr result (IsMeasuringFault (map elements_of paths.items) size.bytes) }
+{
+    let alloc = rt.alloc();
+    let mut counts = Counts::new();
+    let mut files = Vec::new(alloc);
+    for path in paths {
+        let data = found_path(alloc, dir, &path)?;
+        let length = fs::metadata(rt, data).map_err(|_| Fault::Device)?.len();
+        counts = counts.with(path.len(), length, size)?;
+        files.push(FolderFile { path, length })?;
+    }
+    Ok(files)
+}
+
+/// What a torrent says of each of these files of the folder.
+fn read_files<R: Files + AllocGlobal>(
+    rt: &R,
+    dir: &str,
+    files: Vec<FolderFile>,
+    size: PieceSize,
+) -> Result<Vec<Made>, Fault>
+    requires { All (λ file. file.length ≤ max_file_length) files.items }
+    ensures each { IfOk result (λ made. map file_of_made made.items ≡ files.items) }
+    ensures contents { IfOk result (λ made. All (HasContent size.layer) made.items) }
+    ensures fault { IfErr result (λ fault. (fault ≡ device) ⊎ (fault ≡ out_of_memory)) }
+{
+    let mut buffer = [0; BUFFER_LEN];
+    let mut made = Vec::new(rt.alloc());
+    for file in files {
+        made.push(read_file(rt, dir, file, size, &mut buffer)?)?;
+    }
+    Ok(made)
+}
+
+/// What a torrent says of a file of the folder.
+fn read_file<R: Files + AllocGlobal>(
+    rt: &R,
+    dir: &str,
+    file: FolderFile,
+    size: PieceSize,
+    buffer: &mut [u8; BUFFER_LEN],
+) -> Result<Made, Fault>
+    ensures digests { IfOk result (HasContent size.layer) }
+    ensures path { IfOk result (λ made. made.path ≡ file.path) }
+    ensures length { IfOk result (λ made. made.length ≡ file.length) }
+    ensures fault { IfErr result (IsDigestFault file.length) }
+{
+    let alloc = rt.alloc();
+    let FolderFile { path, length } = file;
+    let data = found_path(alloc, dir, &path)?;
+    let mut reader = open_file(rt, data.as_path())?;
+    let Digests { root, layer } = digest_reader(alloc, &mut reader, length, size, buffer)?;
+    Ok(Made {
+        path,
+        length,
+        root,
+        layer,
+    })
+}
+
+/// Opens a file of the folder to read it. What is no regular file any more is a device fault, and is not
+/// opened, since a pipe would wait for a writer.
+pub fn open_file<R: Files>(rt: &R, path: Path<'_>) -> Result<R::File, Fault>
+    ensures { IfErr result (λ fault. fault ≡ device) }
+{
+    match fs::metadata(rt, path) {
+        Ok(metadata) if metadata.is_file() => {}
+        _ => return Err(Fault::Device),
+    }
+    match fs::open(rt, path) {
+        Ok(file) => Ok(file),
+        Err(_) => Err(Fault::Device),
+    }
+}

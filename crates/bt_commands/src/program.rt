@@ -1,0 +1,200 @@
+//! The program, over any runtime and writers.
+ghost use Rattle.std.specs.Prelude.{◌≡◌, ◌≤◌, ◌⊎◌, map, string_bytes, IfOk, IfErr, OnOk};
+ghost use Rattle.std.specs.Io.KnownBytes.{Appends, Keeps};
+ghost use Rattle.std.specs.Process.{exit_status};
+ghost use Rattle.clap.specs.Words.{kind_of};
+ghost use Rattle.bt_check.specs.Fault.{device, out_of_memory, status_of, words_fault};
+ghost use Rattle.bt_commands.specs.Program.{IsCheckResult, IsExplanation, IsMakeResult, IsRun, IsShowResult, IsStart, IsTaskEnd, IsTaskResult, Writes};
+ghost use Rattle.bt_commands.specs.ProgramSteps.{status_after};
+ghost use Rattle.bt_commands.specs.declared.command_line.Task.TheVariants.{Make, Show, Check};
+
+use crate::atomic_file::replace_file;
+use crate::command_line::{MakeTask, Task, parse};
+use crate::make::make;
+use bt_check::{BUFFER_LEN, Fault, Source, check_torrent, load, print, show_torrent};
+use clap::Error;
+use clap::error::ErrorKind;
+use std::env::{self, Env};
+use std::io::{self, Write};
+use std::process::ExitCode;
+use std::rt::Files;
+
+/// Runs the program on the words of its environment, and gives the status that it exits with.
+pub fn start<R: Env + Files + AllocGlobal + Clone + Drop, O: Write, E: Write>(
+    rt: &R,
+    writer: &mut O,
+    faults: &mut E,
+) -> ExitCode
+    ensures answer { IsStart (O.contents writer.old) (O.contents writer.new) (exit_status result) }
+    ensures faultless { exit_status result ≤ 1 → Keeps (E.contents faults.old) (E.contents faults.new) }
+{
+    let status = match words(rt) {
+        Ok(words) => run(rt, words.as_slice(), writer, faults),
+        Err(fault) => report_fault(fault, faults),
+    };
+    ExitCode::from(status)
+}
+
+/// The words that follow the program's name.
+fn words(rt: &(impl Env + AllocGlobal)) -> Result<Vec<String>, Fault>
+    ensures { IfErr result (λ fault. (fault ≡ words_fault) ⊎ (fault ≡ out_of_memory)) }
+{
+    match env::args(rt) {
+        Ok(words) => Ok(words.skip(1).collect(rt.alloc())?),
+        Err(error) if error.kind() == io::ErrorKind::OutOfMemory => Err(Fault::OutOfMemory),
+        Err(_) => Err(Fault::Words),
+    }
+}
+
+/// Does what the words ask for, which follow the program's name, and returns the exit status: 0 where all is
+/// complete or done, 1 where it is not, 2 where the words or the torrent are refused, 3 for a device that
+/// failed and 4 for out of memory.
+///
+/// Results and help go to the writer, faults to `faults`.
+pub fn run<R: Files + AllocGlobal + Clone + Drop, O: Write, E: Write>(
+    rt: &R,
+    words: &[String],
+    writer: &mut O,
+    faults: &mut E,
+) -> u8
+    ensures answer { IsRun
+        (map string_bytes words.now) (O.contents writer.old) (O.contents writer.new) result }
+
+    // where the words or the torrent are refused, nothing is written
+    ensures refused { result ≡ 2 → Keeps (O.contents writer.old) (O.contents writer.new) }
+
+    // where there is a result, no fault is told
+    ensures faultless { result ≤ 1 → Keeps (E.contents faults.old) (E.contents faults.new) }
+{
+    match attempt(rt, words, writer, faults) {
+        Ok(status) => status,
+        Err(fault) => report_fault(fault, faults),
+    }
+}
+
+/// Reads the words, and does what they ask for.
+fn attempt<R: Files + AllocGlobal + Clone + Drop, O: Write, E: Write>(
+    rt: &R,
+    words: &[String],
+    writer: &mut O,
+    faults: &mut E,
+) -> Result<u8, Fault>
+    ensures answer { IsRun
+        (map string_bytes words.now) (O.contents writer.old) (O.contents writer.new) (status_after result) }
+    ensures faultless { status_after result ≤ 1 → Keeps (E.contents faults.old) (E.contents faults.new) }
+{
+    match parse(rt.alloc(), words) {
+        Ok(task) => perform(rt, task, writer),
+        Err(error) => explain(&error, writer, faults),
+    }
+}
+
+/// Does a task, and returns its status.
+fn perform<R: Files + AllocGlobal + Clone + Drop, O: Write>(
+    rt: &R,
+    task: Task<'_>,
+    writer: &mut O,
+) -> Result<u8, Fault>
+    ensures done { IfOk result
+        (Writes (IsTaskResult task.entry) (O.contents writer.old) (O.contents writer.new)) }
+    ensures ended { IfErr result (IsTaskEnd task.entry (O.contents writer.old) (O.contents writer.new)) }
+{
+    match task {
+        Task::Make(request) => perform_make(rt, request, writer),
+        Task::Show { torrent } => perform_show(rt, torrent, writer),
+        Task::Check { torrent, dir } => perform_check(rt, torrent, dir, writer),
+    }
+}
+
+fn perform_make<R: Files + AllocGlobal + Clone + Drop, O: Write>(
+    rt: &R,
+    request: MakeTask<'_>,
+    writer: &mut O,
+) -> Result<u8, Fault>
+    ensures done { IfOk result
+        (Writes (IsMakeResult request.entry) (O.contents writer.old) (O.contents writer.new)) }
+    ensures ended { IfErr result
+        (IsTaskEnd (Make request.entry) (O.contents writer.old) (O.contents writer.new)) }
+{
+    let torrent = make(rt, request)?;
+    let digits = hex::encode(rt.alloc(), &torrent.infohash)?;
+    let line = format!(in rt.alloc(); "infohash {digits}\n")?;
+    publish(rt, request.out, &torrent.text, line.as_str(), writer)?;
+    Ok(0)
+}
+
+/// Writes the text of a torrent to its file, and then the line that tells of it, which has to be there
+/// before: out of memory in forming it leaves the old file.
+fn publish<R: Files + AllocGlobal, O: Write>(
+    rt: &R,
+    path: &str,
+    text: &[u8],
+    line: &str,
+    writer: &mut O,
+) -> Result<(), Fault>
+    ensures line { OnOk result (Appends (O.contents writer.old) (O.contents writer.new) line.now) }
+    ensures fault { IfErr result (λ fault. (fault ≡ device) ⊎ (fault ≡ out_of_memory)) }
+{
+    replace_file(rt, path, text)?;
+    print(writer, line)
+}
+
+fn perform_show<R: Files + AllocGlobal, O: Write>(
+    rt: &R,
+    source: Source<'_>,
+    writer: &mut O,
+) -> Result<u8, Fault>
+    ensures done { IfOk result
+        (Writes (IsShowResult source.entry) (O.contents writer.old) (O.contents writer.new)) }
+    ensures ended { IfErr result
+        (IsTaskEnd (Show source.entry) (O.contents writer.old) (O.contents writer.new)) }
+{
+    let mut buffer = [0; BUFFER_LEN];
+    let torrent = load(rt, source, &mut buffer)?;
+    show_torrent(rt.alloc(), &torrent, writer)?;
+    Ok(0)
+}
+
+fn perform_check<R: Files + AllocGlobal + Clone + Drop, O: Write>(
+    rt: &R,
+    source: Source<'_>,
+    dir: &str,
+    writer: &mut O,
+) -> Result<u8, Fault>
+    ensures done { IfOk result
+        (Writes (IsCheckResult source.entry) (O.contents writer.old) (O.contents writer.new)) }
+    ensures ended { IfErr result
+        (IsTaskEnd (Check source.entry dir.entry) (O.contents writer.old) (O.contents writer.new)) }
+{
+    let mut buffer = [0; BUFFER_LEN];
+    let torrent = load(rt, source, &mut buffer)?;
+    let summary = check_torrent(rt, &torrent, dir, writer)?;
+    summary.outcome()
+}
+
+/// Prints help, or why the words are refused.
+fn explain<O: Write, E: Write>(error: &Error, writer: &mut O, faults: &mut E) -> Result<u8, Fault>
+    ensures answer { IsExplanation
+        (kind_of error.now) (O.contents writer.old) (O.contents writer.new) (status_after result) }
+    ensures faultless { status_after result ≤ 1 → Keeps (E.contents faults.old) (E.contents faults.new) }
+{
+    if error.kind() == ErrorKind::OutOfMemory {
+        return Err(Fault::OutOfMemory);
+    }
+    if error.use_stderr() {
+        let _ = write!(faults, "{error}");
+        Ok(2)
+    } else {
+        write!(writer, "{error}").map_err(|_| Fault::Device)?;
+        writer.flush().map_err(|_| Fault::Device)?;
+        Ok(0)
+    }
+}
+
+/// Says why there is no result, and returns the status. Where it can't be said, there is the status alone.
+pub fn report_fault<E: Write>(fault: Fault, faults: &mut E) -> u8
+    ensures { result ≡ status_of fault }
+{
+    let _ = writeln!(faults, "btseed: {fault}");
+    fault.status()
+}

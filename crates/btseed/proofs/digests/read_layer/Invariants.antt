@@ -1,7 +1,0 @@
--- The pieces so far came, and their digests are kept.
-use Rattle.btseed.proofs.DigestLayer.{IsLayering}
-use Rattle.btseed.proofs.digests.read_layer.Given as goal
-
-abbrev pub invariant-loop-index : goal.invariant-loop-index
-invariant-loop-index g l =
-    IsLayering (g.R.Read.remaining l.initial.reader) (g.R.Read.remaining l.reader) l.fn.geometry l.fn.size.layer l.index l.rest l.layer.items

@@ -1,5 +1,0 @@
-use Rattle.btseed.proofs.FolderWalk.{puts_none}
-use Rattle.btseed.proofs.folder.push_entries.Goals as goal
-
-pub loop-name-init : goal.loop-name-init
-loop-name-init g c = puts_none _ _ _

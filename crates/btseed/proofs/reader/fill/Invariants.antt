@@ -1,6 +1,0 @@
--- What came so far stands at the front of the buffer, and the reader lost just that.
-use Rattle.btseed.proofs.ReaderFill.{IsFilled}
-use Rattle.btseed.proofs.reader.fill.Given as goal
-
-abbrev pub invariant-loop : goal.invariant-loop
-invariant-loop g l = IsFilled (g.R.Read.remaining l.initial.reader) (g.R.Read.remaining l.reader) l.filled l.buffer
