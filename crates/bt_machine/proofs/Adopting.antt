@@ -77,7 +77,6 @@ module _ (dig : Digest) where
   -- ---- marks
 
   module _ (b : BlockId) where
-
     -- a block that was found in some calls is found in more of them, and in a later engine
     found_later : {file calls more mid new : _} → ((c : ℕ × Call) → Contains calls c → Contains more c)
         → ((f : FileState) (k : Facts) → IsFile mid b.file f k → HasExtended new b.file k) → IsFound dig (Adopt file) calls mid b
@@ -161,7 +160,7 @@ module _ (dig : Digest) where
           ]
           | inr r ↦
               let apart = other_file file _ r.meant in
-              let same = groups_others s a.mid file 0 _ total a.adopts apart in
+              let same = groups_others s a.taken_in file 0 _ total a.adopts apart in
               inr (read_back (record {
                 tree = r.facts;
                 bytes = r.bytes;

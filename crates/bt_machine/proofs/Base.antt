@@ -1,6 +1,6 @@
 -- The names of the library and of the crates below that proofs cite, in one place.
 pub use Rattle.std.specs.Cmp.Lexicographic.{pointwise}
-pub use Rattle.std.specs.List.{range_with_len, AllPairs, list_all}
+pub use Rattle.std.specs.List.{range_with_len, AllPairs}
 pub use Rattle.std.specs.Option.{option_and_then, option_map_or}
 pub use Rattle.std.specs.Prelude.{slice_get, Contains, slice_set, option_map, ◌==◌, if◌then◌else◌, ◌&&◌, flat_map, filter, ⊤, cond, is_some, All, IsSome, nat_eq, sum_by, slice_index}
 pub use Rattle.std.specs.Simd.{first_chunks}
@@ -59,7 +59,7 @@ pub use Rattle.bt_store.proofs.AdoptionMarks.{adopt_marks as store_marks, adopt_
 pub use Rattle.bt_store.specs.Adoption.{none, known, accepted, refused as not_accepted, short, unread, Adopts, IsUnknownGroup, claim_of_reads, claimed_digest}
 pub use Rattle.bt_store.specs.Arrival.{states_after_put, PutIsDue, calls_of_put}
 pub use Rattle.bt_store.specs.BlockReads.{BlockRead, given, IsRight, failed, block_of, call_of, is_right, judged, is_leaf, fault_count, is_fault, right_count}
-pub use Rattle.bt_store.specs.BlockStates.{is_marked, is_waiting}
+pub use Rattle.bt_store.specs.BlockStates.{is_waiting}
 pub use Rattle.bt_store.specs.Law.{Extends}
 pub use Rattle.bt_store.specs.Review.{is_waiting_at, waiting_blocks}
 pub use Rattle.bt_store.specs.declared.adoption.Adopted.{Adopted}

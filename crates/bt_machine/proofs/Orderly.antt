@@ -470,7 +470,7 @@ module _ (dig : Digest) where
   adopt_order (busy x y z w e) o = order_is e o
   adopt_order (empty f x y z w v e) o = order_is e o
   adopt_order {s} {file} (adopts total none a y) o =
-      none_order (ap (λ z. z.peers) a.after ∙ ap (λ z. z.peers) a.settles.others ∙ groups_peers s a.mid file 0 _ total a.adopts ∙ none)
+      none_order (ap (λ z. z.peers) a.after ∙ ap (λ z. z.peers) a.settles.others ∙ groups_peers s a.taken_in file 0 _ total a.adopts ∙ none)
   adopt_order {s} {new} {file} (not_adopted none a y) o = none_order (groups_peers s new file 0 _ _ a.adopts ∙ none)
 
   flush_order : {s new calls answer : _} → StepFlush s calls answer new → IsOrderly s → IsOrderly new

@@ -60,8 +60,8 @@ module _ (dig : Digest) where
   next_rooted : {s new key calls answer : _} → StepNext dig s key calls answer new → AreRooted dig s → AreRooted dig new
   next_rooted (no_peer a b c e) r = as_before e r
   next_rooted (waits i p a b c d e) r = as_before e r
-  next_rooted {calls} (keeps_peer i p out a g b) r = as_before g.follows.after (event_rooted _ g.mid i _ _ calls _ g.takes.handles r)
-  next_rooted {calls} (closes i p out a g b) r = as_before g.after (event_rooted _ g.mid i _ _ calls _ g.takes.handles r)
+  next_rooted {calls} (keeps_peer i p out a g b) r = as_before g.follows.after (event_rooted _ g.handled i _ _ calls _ g.takes.handles r)
+  next_rooted {calls} (closes i p out a g b) r = as_before g.after (event_rooted _ g.handled i _ _ calls _ g.takes.handles r)
   next_rooted (faulty i p out a g b) r = as_before g.after r
   next_rooted (no_memory i p a g b) r = as_before g.after r
 
@@ -100,7 +100,7 @@ module _ (dig : Digest) where
   adopt_rooted (no_file a b c e) r = as_before e r
   adopt_rooted (busy a b c d e) r = as_before e r
   adopt_rooted (empty f a b c d g e) r = as_before e r
-  adopt_rooted {s} {file} (adopts total a x b) r = as_before x.after (as_before x.settles.others (groups_rooted s x.mid file 0 _ total x.adopts r))
+  adopt_rooted {s} {file} (adopts total a x b) r = as_before x.after (as_before x.settles.others (groups_rooted s x.taken_in file 0 _ total x.adopts r))
   adopt_rooted {s} {new} {file} (not_adopted a x b) r = groups_rooted s new file 0 _ _ x.adopts r
 
   flush_rooted : {s new calls answer : _} → StepFlush s calls answer new → AreRooted dig s → AreRooted dig new

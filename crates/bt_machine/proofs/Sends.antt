@@ -235,7 +235,7 @@ module _ (dig : Digest) where
       sends_is _ (cc)
       (sends_is _ g.send
       (sends_append _ _ _
-      (sends_append _ _ _ (taken_sends x g.takes) (sends_plain _ _ (plain_haves s g.mid)))
+      (sends_append _ _ _ (taken_sends x g.takes) (sends_plain _ _ (plain_haves s g.handled)))
       (sends_plain _ _ (plain_follows g.follows))))
   next_sends (closes i p out x g e) = nothing _ (ap (λ x. of_next x) (e ∙ ap (λ o. Ok (Some o)) g.is)) plain_none
   next_sends (faulty i p out x g e) = nothing _ (ap (λ x. of_next x) (e ∙ ap (λ o. Ok (Some o)) g.is)) plain_none

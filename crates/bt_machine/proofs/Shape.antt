@@ -235,7 +235,7 @@ module _ (dig : Digest) where
   next_keeps (no_peer x y z e) = is_same e
   next_keeps (waits i p x y z w e) = is_same e
   next_keeps {s} (keeps_peer i p out peer g x) =
-      let pending = with_pending s g.mid g.effect.proofs in
+      let pending = with_pending s g.handled g.effect.proofs in
       keeps_then (keeps_then (taken_keeps g.takes) (pending_keeps s _)) (follow_keeps g.follows)
   next_keeps (closes i p out peer g x) = keeps_then (taken_keeps g.takes) (gone_keeps i g.after)
   next_keeps (faulty i p out peer g x) = gone_keeps i g.after
@@ -286,7 +286,7 @@ module _ (dig : Digest) where
   adopt_keeps {s} {file} (adopts total x a y) =
       let own = groups_keep s file 0 _ total a.adopts in
       let others = settle_keeps a.settles in
-      keeps_then (keeps_then (keeps_then own others) (pending_keeps a.mid [])) (is_same a.after)
+      keeps_then (keeps_then (keeps_then own others) (pending_keeps a.taken_in [])) (is_same a.after)
   adopt_keeps {s} {file} (not_adopted x a y) = groups_keep s file 0 _ _ a.adopts
 
   flush_keeps : {s new calls answer : _} → StepFlush s calls answer new → Keeps s new

@@ -194,11 +194,11 @@ module _ (dig : Digest) where
   next_tame {s} {new} (no_peer x y z e) = quiet s new (cc) (cc) y
   next_tame {s} {new} (waits i p x y z w e) = quiet s new (cc) (cc) z
   next_tame {s} {new} {calls} (keeps_peer i p out x g y) =
-      let t = event_tame _ g.mid i _ _ calls _ g.takes.handles in
-      (like _ _ g.mid new (cc) (cc) t.0, t.1)
+      let t = event_tame _ g.handled i _ _ calls _ g.takes.handles in
+      (like _ _ g.handled new (cc) (cc) t.0, t.1)
   next_tame {s} {new} {calls} (closes i p out x g y) =
-      let t = event_tame _ g.mid i _ _ calls _ g.takes.handles in
-      (like _ _ g.mid new (cc) (cc) t.0, t.1)
+      let t = event_tame _ g.handled i _ _ calls _ g.takes.handles in
+      (like _ _ g.handled new (cc) (cc) t.0, t.1)
   next_tame {s} {new} (faulty i p out x g y) = quiet s new (cc) (cc) g.made
   next_tame {s} {new} (no_memory i p x g y) = quiet s new (cc) (cc) g.made
 
@@ -266,7 +266,7 @@ module _ (dig : Digest) where
   adopt_tame {s} {new} (busy x y z w e) = quiet s new (cc) (cc) z
   adopt_tame {s} {new} (empty f x y z w v e) = quiet s new (cc) (cc) w
   adopt_tame {s} {new} {file} (adopts total x a y) =
-      let groups = groups_tame s a.mid file 0 a.groups total a.adopts in
+      let groups = groups_tame s a.taken_in file 0 a.groups total a.adopts in
       let settled = settled_grows s.files s.trees a.settles groups.0 in (
         like s.files s.trees a.settled new (cc) (cc) settled,
         keeping (keep_is a.made (append_keeps (flat_map (λ c. c) a.groups) a.settling groups.1 (settled_keeps a.settles))),

@@ -287,7 +287,7 @@ module _ (dig : Digest) (b : BlockId) where
   adopt_stays {calls} (no_file x y z e) m = same_stays calls e m
   adopt_stays {calls} (busy x y z w e) m = same_stays calls e m
   adopt_stays {calls} (empty f x y z w v e) m = same_stays calls e m
-  adopt_stays {s} {file} (adopts total x a y) m = elim (groups_stays s a.mid file 0 _ total a.adopts m) [
+  adopt_stays {s} {file} (adopts total x a y) m = elim (groups_stays s a.taken_in file 0 _ total a.adopts m) [
     | inl mid ↦ inl (ap (λ z. state_at z b) a.after ∙ settle_stays a.settles mid)
     | inr w ↦ inr (found_in refl (λ c among. rw a.made (Contains-append_left (flat_map (λ c. c) a.groups) a.settling c among)) w.1)
   ]

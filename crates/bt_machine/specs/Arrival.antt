@@ -43,19 +43,19 @@ pub record Puts (dig : List ℕ → List ℕ) (s : EngineState) (b : BlockId) (b
 -- A block comes that the peer is asked for. It is asked for it no more and its bytes count, whatever the
 -- store answered.
 pub record Arrives (dig : List ℕ → List ℕ) (s : EngineState) (i : ℕ) (p : PeerState) (piece begin : ℕ)
-    (bytes : List ℕ) (calls : DeviceCalls) (effect : Effect) (mid : EngineState) : Type 0 where
+    (bytes : List ℕ) (calls : DeviceCalls) (effect : Effect) (handled : EngineState) : Type 0 where
   pub block : BlockId
   pub stored : EngineState
   pub whole : IsWholeBlock s.torrent piece begin (length bytes) block
   pub asked : Contains p.asked block
   pub puts : Puts dig s block bytes calls effect stored
-  pub after : mid ≡ with_peer stored i
+  pub after : handled ≡ with_peer stored i
       (with_payload (length bytes) (record p { asked = without_block block p.asked }))
 
 pub data HandlesPiece (dig : List ℕ → List ℕ) (s : EngineState) (i : ℕ) (p : PeerState) (piece begin : ℕ)
-    (bytes : List ℕ) (calls : DeviceCalls) (effect : Effect) (mid : EngineState) : Type 0 where
+    (bytes : List ℕ) (calls : DeviceCalls) (effect : Effect) (handled : EngineState) : Type 0 where
   stale : ((b : BlockId) → IsWholeBlock s.torrent piece begin (length bytes) b → ¬ Contains p.asked b)
-      → calls ≡ [] → effect ≡ noting Stale → mid ≡ s
-      → HandlesPiece dig s i p piece begin bytes calls effect mid
-  arrives : Arrives dig s i p piece begin bytes calls effect mid
-      → HandlesPiece dig s i p piece begin bytes calls effect mid
+      → calls ≡ [] → effect ≡ noting Stale → handled ≡ s
+      → HandlesPiece dig s i p piece begin bytes calls effect handled
+  arrives : Arrives dig s i p piece begin bytes calls effect handled
+      → HandlesPiece dig s i p piece begin bytes calls effect handled

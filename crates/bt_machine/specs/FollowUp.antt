@@ -1,7 +1,7 @@
 -- What follows from an event for one peer: interest is told, a hash request sent, and blocks are requested.
 use Rattle.std.specs.Prelude.{[], ◌≡◌, ◌≢◌, ℕ, ◌+◌, ◌≤◌, ◌⊎◌, ◌↔◌, Bool, true, false, List, ◌∷◌, ◌++◌, length, Some, None, slice_get, slice_set, Contains}
 use Rattle.std.specs.List.{AllPairs}
-use Rattle.bt_sparse.specs.SparseTree.{Facts, value_at}
+use Rattle.bt_sparse.specs.SparseTree.{Facts}
 use Rattle.bt_hashreq.specs.Request.{IsPlan}
 use Rattle.bt_hashreq.specs.declared.key.HashKey.{HashKey}
 use Rattle.bt_store.specs.declared.block_states.BlockState.TheVariants.{Missing, Waiting}
@@ -11,7 +11,7 @@ use Rattle.bt_book.specs.Book.{max_requests}
 use Rattle.bt_wire.specs.declared.message.Ask.{Ask}
 use Rattle.bt_wire.specs.declared.message.Message.TheVariants.{Interested, NotInterested, Request, HashRequest}
 use Rattle.bt_machine.specs.State.{Idle, Asked, PeerState, EngineState}
-use Rattle.bt_machine.specs.Blocks.{state_at, tree_of, Has, IsAsked}
+use Rattle.bt_machine.specs.Blocks.{state_at, tree_of, leaf_at, Has, IsAsked}
 use Rattle.bt_machine.specs.Spans.{IsWholeBlock}
 use Rattle.bt_machine.specs.Output.{Sent, sent_to}
 
@@ -40,9 +40,7 @@ pub record TellsInterest (s : EngineState) (old : PeerState) (sent : List Sent) 
 pub record NeedsLeaf (dig : List ℕ → List ℕ) (s : EngineState) (p : PeerState) (b : BlockId) : Type 0 where
   pub has : Has s p b
   pub not_marked : (state_at s b ≡ Some Missing) ⊎ (state_at s b ≡ Some Waiting)
-  pub tree : Facts
-  pub has_tree : tree_of s b.file ≡ Some tree
-  pub unknown : value_at dig tree 0 b.block ≡ None
+  pub unknown : leaf_at dig s b ≡ None
 
 -- the least of them, by file and then by block
 pub record IsLeastNeed (dig : List ℕ → List ℕ) (s : EngineState) (p : PeerState) (b : BlockId) : Type 0 where

@@ -61,7 +61,7 @@ settled_count key = if key.base == 0 then key.length else 0
 
 -- A proof is accepted: the tree grows, and then the blocks of its run are settled in every file of the root.
 pub record AcceptsHashes (dig : List ℕ → List ℕ) (s : EngineState) (i : ℕ) (p : PeerState) (key : HashKey)
-    (digests : List ℕ) (calls : DeviceCalls) (effect : Effect) (mid : EngineState) : Type 0 where
+    (digests : List ℕ) (calls : DeviceCalls) (effect : Effect) (handled : EngineState) : Type 0 where
   pub tree : ℕ
   pub old : Facts
   pub new : Facts
@@ -75,32 +75,32 @@ pub record AcceptsHashes (dig : List ℕ → List ℕ) (s : EngineState) (i : �
   pub settles : Settles dig tree key.index (settled_count key) (with_tree s tree new) calls notes settled
   pub resolves : Resolves key Idle p.hash hash
   pub has_effect : effect ≡ record no_effect { notes = notes; proofs = new_proofs key digests old new }
-  pub after : mid ≡ with_peer settled i (record p { hash = hash })
+  pub after : handled ≡ with_peer settled i (record p { hash = hash })
 
 -- the peer is closed, and nothing else happens
 pub record OnlyCloses (s : EngineState) (fault : ProofError) (calls : DeviceCalls) (effect : Effect)
-    (mid : EngineState) : Type 0 where
+    (handled : EngineState) : Type 0 where
   pub not_memory : fault ≢ OutOfMemory
   pub made : calls ≡ []
   pub has_effect : effect ≡ closing (Proof fault)
-  pub after : mid ≡ s
+  pub after : handled ≡ s
 
 -- Hashes of an unknown root close the peer, as do hashes that make no claim and claims that the tree refuses.
 pub data HandlesHashes (dig : List ℕ → List ℕ) (s : EngineState) (i : ℕ) (p : PeerState) (key : HashKey)
-    (digests : List ℕ) (calls : DeviceCalls) (effect : Effect) (mid : EngineState) : Type 0 where
-  unknown_root : IsUnknownRoot s key.root → calls ≡ [] → effect ≡ closing UnknownRoot → mid ≡ s
-      → HandlesHashes dig s i p key digests calls effect mid
+    (digests : List ℕ) (calls : DeviceCalls) (effect : Effect) (handled : EngineState) : Type 0 where
+  unknown_root : IsUnknownRoot s key.root → calls ≡ [] → effect ≡ closing UnknownRoot → handled ≡ s
+      → HandlesHashes dig s i p key digests calls effect handled
   no_claim : (fault : ProofError) → ¬ IsUnknownRoot s key.root → IsNoClaim key digests fault
-      → OnlyCloses s fault calls effect mid → HandlesHashes dig s i p key digests calls effect mid
+      → OnlyCloses s fault calls effect handled → HandlesHashes dig s i p key digests calls effect handled
   refused : (fault : ProofError) (tree : ℕ) (k : Facts) (claim : Claim) → IsTreeOf s key.root tree k
       → IsClaimBy key digests claim → IsRefused dig k claim fault
-      → OnlyCloses s fault calls effect mid → HandlesHashes dig s i p key digests calls effect mid
-  accepts_hashes : AcceptsHashes dig s i p key digests calls effect mid
-      → HandlesHashes dig s i p key digests calls effect mid
+      → OnlyCloses s fault calls effect handled → HandlesHashes dig s i p key digests calls effect handled
+  accepts_hashes : AcceptsHashes dig s i p key digests calls effect handled
+      → HandlesHashes dig s i p key digests calls effect handled
 
 -- the peer does not have what it was asked for, and is sent no more hash requests
-pub record HandlesReject (s : EngineState) (i : ℕ) (p : PeerState) (key : HashKey) (mid : EngineState)
+pub record HandlesReject (s : EngineState) (i : ℕ) (p : PeerState) (key : HashKey) (handled : EngineState)
     : Type 0 where
   pub hash : HashState
   pub resolves : Resolves key Refused p.hash hash
-  pub after : mid ≡ with_peer s i (record p { hash = hash })
+  pub after : handled ≡ with_peer s i (record p { hash = hash })

@@ -36,37 +36,37 @@ with_pending old s proofs = record s {
 
 -- an event stands first in the peer's bytes; it is taken from them and handled
 pub record TakesEvent (dig : List ℕ → List ℕ) (s : EngineState) (i : ℕ) (p : PeerState)
-    (calls : DeviceCalls) (effect : Effect) (mid : EngineState) : Type 0 where
+    (calls : DeviceCalls) (effect : Effect) (handled : EngineState) : Type 0 where
   pub event : WireEvent
   pub rest : Stream
   pub takes : Takes p.stream event rest
   pub handles : Handles dig (with_peer s i (record p { stream = rest })) i (record p { stream = rest }) event
-      calls effect mid
+      calls effect handled
 
 -- The peer stays: what the event sends, then a have of each piece that has become whole, then what follows
 -- for the peer. The notes of the event come first, then the files that have become complete.
 pub record KeepsPeer (dig : List ℕ → List ℕ) (s : EngineState) (i : ℕ) (p : PeerState)
     (calls : DeviceCalls) (out : Output) (new : EngineState) : Type 0 where
   pub effect : Effect
-  pub mid : EngineState
+  pub handled : EngineState
   pub sent : List Sent
-  pub takes : TakesEvent dig s i p calls effect mid
+  pub takes : TakesEvent dig s i p calls effect handled
   pub stays : effect.close ≡ None
-  pub follows : FollowsUp dig (with_pending s mid effect.proofs) i sent new
-  pub send : out.send ≡ effect.send ++ haves s mid ++ sent
+  pub follows : FollowsUp dig (with_pending s handled effect.proofs) i sent new
+  pub send : out.send ≡ effect.send ++ haves s handled ++ sent
   pub close : out.close ≡ None
-  pub notes : out.notes ≡ effect.notes ++ map (λ file. Complete file) (new_complete_files s mid)
+  pub notes : out.notes ≡ effect.notes ++ map (λ file. Complete file) (new_complete_files s handled)
 
 -- The event closes the peer, and nothing is sent.
 pub record Closes (dig : List ℕ → List ℕ) (s : EngineState) (i : ℕ) (p : PeerState)
     (calls : DeviceCalls) (out : Output) (new : EngineState) : Type 0 where
   pub effect : Effect
-  pub mid : EngineState
+  pub handled : EngineState
   pub why : Why
-  pub takes : TakesEvent dig s i p calls effect mid
+  pub takes : TakesEvent dig s i p calls effect handled
   pub closed : effect.close ≡ Some why
   pub is : out ≡ record { send = []; close = Some why; notes = effect.notes }
-  pub after : new ≡ without_peer i mid
+  pub after : new ≡ without_peer i handled
 
 -- Its bytes show a fault of the wire, which closes the peer.
 pub record ShowsFault (s : EngineState) (i : ℕ) (p : PeerState) (calls : DeviceCalls) (out : Output)

@@ -12,8 +12,8 @@ use Rattle.bt_machine.specs.Blocks.{state_at}
 use Rattle.bt_machine.specs.Start.{Starts}
 use Rattle.bt_machine.specs.Step.{Answer, Step, Run}
 
--- Its key was given out, its stream showed no fault, and each piece has its bit. It is asked for at most 16
--- blocks, each once and missing.
+-- Its key was given out, no fault of its stream was answered, and each piece has its bit. It is asked for at
+-- most 16 blocks, each once and missing.
 pub record IsOrderlyPeer (s : EngineState) (p : PeerState) : Type 0 where
   pub key : p.key.0 < s.next_key
   pub running : p.stream.failed ≡ false

@@ -42,8 +42,8 @@ rechoked s = record s {
 abbrev pub FollowsEach : (List ℕ → List ℕ) → List ℕ → EngineState → List Sent → EngineState → Type 0
 FollowsEach dig [] s sent new = (sent ≡ []) × (new ≡ s)
 FollowsEach dig (i ∷ peers) s sent new =
-    (mid : EngineState) × (one : List Sent) × (more : List Sent)
-    × FollowsUp dig s i one mid × FollowsEach dig peers mid more new × (sent ≡ one ++ more)
+    (next : EngineState) × (one : List Sent) × (more : List Sent)
+    × FollowsUp dig s i one next × FollowsEach dig peers next more new × (sent ≡ one ++ more)
 
 -- chokes and unchokes first, then what follows for each peer in the order of keys
 pub record Rechokes (dig : List ℕ → List ℕ) (s : EngineState) (out : Output) (new : EngineState)

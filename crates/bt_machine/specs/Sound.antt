@@ -30,9 +30,9 @@ abbrev pub RunOn : {D : Type 0} → (D → History) → (D → Type 0) → (D �
     → EngineState → List (Option D) → Type 0
 RunOn {D} history honest faults dig old disks [] [] [] new after = (new ≡ old) × (after ≡ disks)
 RunOn {D} history honest faults dig old disks (event ∷ events) (calls ∷ more) (answer ∷ answers) new after =
-    (mid : EngineState) × (between : List (Option D))
-    × Step dig old event calls answer mid × HaveCalls history honest faults disks calls between
-    × RunOn history honest faults dig mid between events more answers new after
+    (next : EngineState) × (between : List (Option D))
+    × Step dig old event calls answer next × HaveCalls history honest faults disks calls between
+    × RunOn history honest faults dig next between events more answers new after
 RunOn {D} history honest faults dig old disks _ _ _ new after = ⊥
 
 -- So where all blocks of a file are marked and its device is honest, the file stands there with its tree's

@@ -50,5 +50,5 @@ abbrev pub Run : (List ℕ → List ℕ) → EngineState → List Event → List
     → Type 0
 Run dig old [] [] [] new = new ≡ old
 Run dig old (event ∷ events) (calls ∷ more) (answer ∷ answers) new =
-    (mid : EngineState) × Step dig old event calls answer mid × Run dig mid events more answers new
+    (next : EngineState) × Step dig old event calls answer next × Run dig next events more answers new
 Run dig old _ _ _ new = ⊥

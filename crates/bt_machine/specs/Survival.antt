@@ -54,12 +54,13 @@ IsRightSince dig k h t i =
 -- the flush is right in it.
 abbrev pub FlushedBlocksSurvive : {D : Type 0} → (D → History) → (D → Type 0) → (D → ℕ)
     → (List ℕ → List ℕ) → Type 0
-FlushedBlocksSurvive {D} history honest faults dig = (old mid new : EngineState) (synced : DeviceCalls)
+FlushedBlocksSurvive {D} history honest faults dig = (old at_flush new : EngineState) (synced : DeviceCalls)
     (events : List Event) (calls : List DeviceCalls) (answers : List Answer)
     (disks flushed after : List (Option D)) (file i : ℕ) (f : FileState) (k : Facts) (d e : D)
     → IsSound history honest dig old disks
-    → Step dig old Flush synced (of_flush (Ok tt)) mid → HaveCalls history honest faults disks synced flushed
-    → RunOn history honest faults dig mid flushed events calls answers new after
+    → Step dig old Flush synced (of_flush (Ok tt)) at_flush
+    → HaveCalls history honest faults disks synced flushed
+    → RunOn history honest faults dig at_flush flushed events calls answers new after
     → IsFile old file f k → slice_get f.states i ≡ Some Marked
     → slice_get flushed file ≡ Some (Some d) → slice_get after file ≡ Some (Some e) → honest e
     → IsRightSince dig k (history e) (moment_of (history d)) i
@@ -67,15 +68,16 @@ FlushedBlocksSurvive {D} history honest faults dig = (old mid new : EngineState)
 -- So it is after any list of events from the start of a torrent, whatever peers send and devices answer.
 abbrev pub RunsKeepFlushedBlocks : {D : Type 0} → (D → History) → (D → Type 0) → (D → ℕ)
     → (List ℕ → List ℕ) → Type 0
-RunsKeepFlushedBlocks {D} history honest faults dig = (torrent : Metainfo) (first old mid new : EngineState)
+RunsKeepFlushedBlocks {D} history honest faults dig = (torrent : Metainfo)
+    (first old at_flush new : EngineState)
     (events later : List Event) (calls later_calls : List DeviceCalls) (synced : DeviceCalls)
     (answers later_answers : List Answer) (disks before flushed after : List (Option D)) (file i : ℕ)
     (f : FileState) (k : Facts) (d e : D)
     → Starts dig torrent first
     → RunOn history honest faults dig first disks events calls answers old before
-    → Step dig old Flush synced (of_flush (Ok tt)) mid
+    → Step dig old Flush synced (of_flush (Ok tt)) at_flush
     → HaveCalls history honest faults before synced flushed
-    → RunOn history honest faults dig mid flushed later later_calls later_answers new after
+    → RunOn history honest faults dig at_flush flushed later later_calls later_answers new after
     → IsFile old file f k → slice_get f.states i ≡ Some Marked
     → slice_get flushed file ≡ Some (Some d) → slice_get after file ≡ Some (Some e) → honest e
     → IsRightSince dig k (history e) (moment_of (history d)) i

@@ -10,8 +10,8 @@ ghost use Rattle.bt_machine.specs.ProofKeys.{ProofKeysAreAnswered};
 use bt_disk::Disk;
 use bt_tree::NodeHash;
 
-/// After any list of events from the start of a lawful torrent every tree is rooted, and every digest that one
-/// holds lies on a checked path to its root.
+/// After any list of events from the start of a lawful torrent every tree is rooted, and every digest that
+/// one holds lies on a checked path to its root.
 pub fn runs_are_checked<H: NodeHash>(_hash: H)
     ensures { RunsAreChecked H.digest }
 {}
@@ -21,10 +21,10 @@ pub fn right_is_checked<H: NodeHash>(_hash: H)
     ensures { RightIsChecked H.digest }
 {}
 
-/// Each block that a list of events has marked became so at one of them, in one of three ways: it came from a
-/// peer that was asked for it and was written; it waited, and was read back as its leaf was told or another
-/// file of its tree was taken in; or its file was taken in and it was read. In each its digest is its leaf, and
-/// its bytes are of that event.
+/// Each block that a list of events has marked became so at one of them, in one of three ways: it came from
+/// a peer that was asked for it and was written; it waited, and was read back as its leaf was told or
+/// another file of its tree was taken in; or its file was taken in and it was read. In each its digest is
+/// its leaf, and its bytes are of that event.
 pub fn run_marks_by_bytes<H: NodeHash>(_hash: H)
     ensures { RunMarksByBytes H.digest }
 {}
@@ -43,15 +43,15 @@ pub fn complete_files_are_published<D: Disk, H: NodeHash>(_disk: &D, _hash: H)
     ensures { CompleteFilesArePublished D.history D.honest D.faults H.digest }
 {}
 
-/// After any list of events from the start of a torrent, whatever peers send and devices answer: a crash at any
-/// moment after a flush that answered Ok, also within an event, leaves each block right on an honest device
-/// that was marked at the flush.
+/// After any list of events from the start of a torrent, whatever peers send and devices answer: a crash at
+/// any moment after a flush that answered Ok, also within an event, leaves each block right on an honest
+/// device that was marked at the flush.
 pub fn runs_keep_flushed_blocks<D: Disk, H: NodeHash>(_disk: &D, _hash: H)
     ensures { RunsKeepFlushedBlocks D.history D.honest D.faults H.digest }
 {}
 
-/// Where marked blocks are right on honest devices: what every image since a moment has of a marked block, every
-/// image goes on to have over a list of events, also those of a crash within one.
+/// Where marked blocks are right on honest devices: what every image since a moment has of a marked block,
+/// every image goes on to have over a list of events, also those of a crash within one.
 pub fn run_keeps_images<D: Disk, H: NodeHash>(_disk: &D, _hash: H)
     ensures { RunKeepsImages D.history D.honest D.faults H.digest }
 {}
@@ -73,9 +73,9 @@ pub fn step_writes_missing<H: NodeHash>(_hash: H)
     ensures { StepWritesMissing H.digest }
 {}
 
-/// After any list of events from the start of a torrent at most 64 peers are connected, in the order of their
-/// keys, and none was closed for a fault of its stream. Each is asked for at most 16 blocks, which are missing,
-/// and no block is asked twice.
+/// After any list of events from the start of a torrent at most 64 peers are connected, in the order of
+/// their keys, and to none of them was a fault of its stream answered. Each is asked for at most 16 blocks,
+/// which are missing, and no block is asked twice.
 pub fn runs_are_orderly<H: NodeHash>(_hash: H)
     ensures { RunsAreOrderly H.digest }
 {}

@@ -32,7 +32,7 @@ waiting_is_not_complete s b e =
 pub noted_with : {dig s new i p calls out a : _} (g : KeepsPeer dig s i p calls out new) → a ≡ of_next (Ok (Some out))
     → (note : Note) → Contains g.effect.notes note → NotedBy a note
 noted_with {s} {out} g is note c =
-    (out, ap output_of is, rw g.notes (Contains-append_left g.effect.notes (map (λ file. Complete file) (new_complete_files s g.mid)) note c))
+    (out, ap output_of is, rw g.notes (Contains-append_left g.effect.notes (map (λ file. Complete file) (new_complete_files s g.handled)) note c))
 
 pub one_note : {effect note : _} → effect ≡ noting note → Contains effect.notes note
 one_note {note} e = rw (ap (λ x. x.notes) e) (here [] refl)

@@ -131,7 +131,7 @@ module _ (dig : Digest) where
         peer = p;
         is_next = refl;
         is_peer = x;
-        cause = event_causes dig s i p _ g.mid _ calls _ g.takes.takes g.takes.handles why (cc);
+        cause = event_causes dig s i p _ g.handled _ calls _ g.takes.takes g.takes.handles why (cc);
       }
   next_closes {s} {key} (faulty i p out x g e) {why} c =
       let same = output_is (ap (λ x. of_next x) e) c.1 refl in

@@ -25,8 +25,8 @@ HandlesAt dig s i p rest e calls effect mid = Handles dig (with_peer s i (record
 
 pub data Taken (dig : Digest) (s : EngineState) (i : ℕ) (p : PeerState) (e : WireEvent) (rest : Stream) (calls : DeviceCalls) (answer : Answer) (new : EngineState) : Type 0 where
   no_room : NextLacksMemory answer → Taken dig s i p e rest calls answer new
-  goes : (out : Output) (g : KeepsPeer dig s i p calls out new) → HandlesAt dig s i p rest e calls g.effect g.mid → answer ≡ of_next (Ok (Some out)) → Taken dig s i p e rest calls answer new
-  shuts : (out : Output) (g : Closes dig s i p calls out new) → HandlesAt dig s i p rest e calls g.effect g.mid → answer ≡ of_next (Ok (Some out)) → Taken dig s i p e rest calls answer new
+  goes : (out : Output) (g : KeepsPeer dig s i p calls out new) → HandlesAt dig s i p rest e calls g.effect g.handled → answer ≡ of_next (Ok (Some out)) → Taken dig s i p e rest calls answer new
+  shuts : (out : Output) (g : Closes dig s i p calls out new) → HandlesAt dig s i p rest e calls g.effect g.handled → answer ≡ of_next (Ok (Some out)) → Taken dig s i p e rest calls answer new
 
 module _ (dig : Digest) {s : EngineState} (new : EngineState) {key : PeerKey} {i : ℕ} {p : PeerState} (calls : DeviceCalls) {e : WireEvent} {rest : Stream} (one : IsOnlyPeer s key i p) (takes : Takes p.stream e rest) where
   handled_as : {f r : _} (effect mid : _) → Takes p.stream f r → HandlesAt dig s i p r f calls effect mid → HandlesAt dig s i p rest e calls effect mid
@@ -45,10 +45,10 @@ module _ (dig : Digest) {s : EngineState} (new : EngineState) {key : PeerKey} {i
   next_taken (waits j q is w x y z) = absurd ((by_peer (λ n x. Waits x.stream) is w).no_event e takes.bytes rest.unread takes.event takes.front)
   next_taken (keeps_peer j q out is g y) =
       let h = by_peer (λ n x. KeepsPeer dig s n x calls out new) is g in
-      goes out h (handled_as _ h.mid h.takes.takes h.takes.handles) (cc)
+      goes out h (handled_as _ h.handled h.takes.takes h.takes.handles) (cc)
   next_taken (closes j q out is g y) =
       let h = by_peer (λ n x. Closes dig s n x calls out new) is g in
-      shuts out h (handled_as _ h.mid h.takes.takes h.takes.handles) (cc)
+      shuts out h (handled_as _ h.handled h.takes.takes h.takes.handles) (cc)
   next_taken (faulty j q out is g y) =
       let h = by_peer (λ n x. ShowsFault s n x calls out new) is g in
       absurd (fault_alone p.stream.greeted p.stream.unread h.fault h.fails.shown e takes.bytes rest.unread takes.event takes.front)
@@ -61,7 +61,7 @@ module _ (dig : Digest) {s : EngineState} (new : EngineState) {key : PeerKey} {i
 pub sent_with : {dig s new i p calls out a : _} (g : KeepsPeer dig s i p calls out new) → a ≡ of_next (Ok (Some out))
     → {x : _} → Contains g.effect.send x → Contains (sent_by a) x
 sent_with {s} g is {x} c =
-    rw is (rw g.send (Contains-append_left (g.effect.send ++ haves s g.mid) g.sent x (Contains-append_left g.effect.send (haves s g.mid) x c)))
+    rw is (rw g.send (Contains-append_left (g.effect.send ++ haves s g.handled) g.sent x (Contains-append_left g.effect.send (haves s g.handled) x c)))
 
 -- ---- hash requests
 

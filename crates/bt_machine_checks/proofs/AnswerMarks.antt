@@ -122,7 +122,7 @@ module _ (dig : Digest) (s new : EngineState) (key : PeerKey) (calls : DeviceCal
   mark_noted (waits i p x y z w e) = unchanged refl e
   mark_noted (keeps_peer i p out is g e) =
       let rest = record p { stream = g.takes.rest } in
-      elim (event_notes dig (with_peer s i rest) g.mid i rest b g.effect g.takes.event calls g.takes.handles (rw (← (follows_of g.follows).files) now)) [
+      elim (event_notes dig (with_peer s i rest) g.handled i rest b g.effect g.takes.event calls g.takes.handles (rw (← (follows_of g.follows).files) now)) [
         | inl old ↦ absurd (before old)
         | inr noted ↦ noted_with g (ap (λ x. of_next x) e) (NowMarked b) noted
       ]

@@ -109,7 +109,7 @@ groups_peers dig s new file from (calls ∷ more) total f = groups_peers dig f.1
 
 file_peers : {dig s new file calls total : _} → AdoptsFile dig s file calls total new → new.peers ≡ s.peers
 file_peers {dig} {s} {file} f =
-    ap (λ x. x.peers) f.after ∙ ap (λ x. x.peers) f.settles.others ∙ groups_peers dig s f.mid file 0 _ _ f.adopts
+    ap (λ x. x.peers) f.after ∙ ap (λ x. x.peers) f.settles.others ∙ groups_peers dig s f.taken_in file 0 _ _ f.adopts
 
 adopt_keeps : {dig s new file calls r : _} → StepAdopt dig s file calls r new → Keeps dig s (of_adopt r) new ⊎ (new.peers ≡ [])
 adopt_keeps {dig} {s} {new} (no_file x y e z) = inl (same_state dig s new (ap (λ x. of_adopt x) e) refl z)
@@ -130,84 +130,84 @@ step_keeps {dig} {s} {new} Flush calls t = inl (keeps_as t.1 (flush_keeps dig s 
 -- ---- where a peer goes on
 
 module _ {dig : Digest} {s new : EngineState} {key : PeerKey} {i : ℕ} {p : PeerState} {calls : DeviceCalls} {out : Output} (peer : IsPeer s key i p) (g : KeepsPeer dig s i p calls out new) where
-  left : Leaves (with_peer s i (record p { stream = g.takes.rest })) i (record p { stream = g.takes.rest }) g.effect g.mid
+  left : Leaves (with_peer s i (record p { stream = g.takes.rest })) i (record p { stream = g.takes.rest }) g.effect g.handled
   left = event_leaves dig _ i (set_same _ i peer.here) _ calls g.takes.handles
 
-  files_are : new.files ≡ g.mid.files
+  files_are : new.files ≡ g.handled.files
   files_are = (follows_of g.follows).files
 
-  torrent_is : new.torrent ≡ g.mid.torrent
+  torrent_is : new.torrent ≡ g.handled.torrent
   torrent_is = (follows_of g.follows).torrent
 
   -- the same keys are connected
-  connected : {q : _} (j : ℕ) → slice_get g.mid.peers j ≡ Some q → IsConnected new q.key
+  connected : {q : _} (j : ℕ) → slice_get g.handled.peers j ≡ Some q → IsConnected new q.key
   connected {q} j at =
       let f = follows_of g.follows in
       elim (nat_cases i j) [
         | inl e ↦
             let same : f.peer ≡ q = cc in
             (i, f.after, record { here = f.now; same_key = cc })
-        | inr apart ↦ (j, q, record { here = ap (λ l. slice_get l j) f.peers ∙ set_other g.mid.peers i j f.after apart ∙ at; same_key = refl })
+        | inr apart ↦ (j, q, record { here = ap (λ l. slice_get l j) f.peers ∙ set_other g.handled.peers i j f.after apart ∙ at; same_key = refl })
       ]
 
-  was_connected : {k : _} → IsConnected new k → (q : PeerState) × Contains g.mid.peers q × (q.key ≡ k)
+  was_connected : {k : _} → IsConnected new k → (q : PeerState) × Contains g.handled.peers q × (q.key ≡ k)
   was_connected c =
       let f = follows_of g.follows in
-      elim (set_cases g.mid.peers i c.0 (subst (λ l. slice_get l c.0 ≡ Some c.1) f.peers c.2.here)) [
-        | inl one ↦ (f.peer, contains_some g.mid.peers i f.was, sym f.same_key ∙ ap (λ x. x.key) (sym one.1) ∙ c.2.same_key)
-        | inr old ↦ (c.1, contains_some g.mid.peers c.0 old, c.2.same_key)
+      elim (set_cases g.handled.peers i c.0 (subst (λ l. slice_get l c.0 ≡ Some c.1) f.peers c.2.here)) [
+        | inl one ↦ (f.peer, contains_some g.handled.peers i f.was, sym f.same_key ∙ ap (λ x. x.key) (sym one.1) ∙ c.2.same_key)
+        | inr old ↦ (c.1, contains_some g.handled.peers c.0 old, c.2.same_key)
       ]
 
   abbrev piece_in : Frame → ℕ
   piece_in (message_frame (Have piece)) = piece
   piece_in _ = 0
 
-  have_told : (k : _) {piece : ℕ} → Contains (haves s g.mid) (frame_to k (Have piece))
+  have_told : (k : _) {piece : ℕ} → Contains (haves s g.handled) (frame_to k (Have piece))
       → IsConnected new k × (piece < total_pieces new.torrent) × BecomesSo is_whole s new piece
   have_told k {piece} c =
-      let r = contains_flat_map (λ n. map (λ q. sent_to q (Have n)) g.mid.peers) (new_whole_pieces s g.mid) c in
-      let q = contains_map (λ q. sent_to q (Have r.0)) g.mid.peers r.2 in
-      let place = some_at g.mid.peers q.1 in
+      let r = contains_flat_map (λ n. map (λ q. sent_to q (Have n)) g.handled.peers) (new_whole_pieces s g.handled) c in
+      let q = contains_map (λ q. sent_to q (Have r.0)) g.handled.peers r.2 in
+      let place = some_at g.handled.peers q.1 in
       let same = ap (λ x. piece_in x.frame) q.2 in
-      let listed = contains_filter (has_become is_whole s g.mid) (piece_numbers g.mid) (rw (← same) r.1) in
-      let both = and_true (is_whole g.mid piece) listed.1 in
-      let below : piece < total_pieces g.mid.torrent = (let lt = range_below 0 (total_pieces g.mid.torrent) listed.0 in omega arith) in (
+      let listed = contains_filter (has_become is_whole s g.handled) (piece_numbers g.handled) (rw (← same) r.1) in
+      let both = and_true (is_whole g.handled piece) listed.1 in
+      let below : piece < total_pieces g.handled.torrent = (let lt = range_below 0 (total_pieces g.handled.torrent) listed.0 in omega arith) in (
         rw (← (ap (λ x. x.peer) q.2)) (connected place.0 place.1),
         rw torrent_is below,
-        record { before = not_so (is_whole s piece) both.1; after = whole_same g.mid new piece files_are torrent_is ∙ both.0 },
+        record { before = not_so (is_whole s piece) both.1; after = whole_same g.handled new piece files_are torrent_is ∙ both.0 },
       )
 
   tells_have : (k : _) {piece : ℕ} → IsConnected new k → piece < total_pieces new.torrent → BecomesSo is_whole s new piece
       → Contains out.send (frame_to k (Have piece))
   tells_have k {piece} c below b =
       let q = was_connected c in
-      let in_range : Contains (piece_numbers g.mid) piece = range_contains _ (rw (← torrent_is) below) in
-      let whole : is_whole g.mid piece ≡ true = cc in
+      let in_range : Contains (piece_numbers g.handled) piece = range_contains _ (rw (← torrent_is) below) in
+      let whole : is_whole g.handled piece ≡ true = cc in
       let listed = filter_contains _ _ in_range (becomes whole b.before) in
       let told = map_contains (λ q. sent_to q (Have piece)) _ q.1 in
       let among =
-      flat_map_contains (λ n. map (λ q. sent_to q (Have n)) g.mid.peers) _ listed (rw (← q.2) told) in
-      rw g.send (Contains-append_left (g.effect.send ++ haves s g.mid) g.sent (frame_to k (Have piece)) (Contains-append_right g.effect.send (haves s g.mid) (frame_to k (Have piece)) among))
+      flat_map_contains (λ n. map (λ q. sent_to q (Have n)) g.handled.peers) _ listed (rw (← q.2) told) in
+      rw g.send (Contains-append_left (g.effect.send ++ haves s g.handled) g.sent (frame_to k (Have piece)) (Contains-append_right g.effect.send (haves s g.handled) (frame_to k (Have piece)) among))
 
   complete_noted : {file : ℕ} → Contains out.notes (Complete file) → (file < length new.files) × BecomesSo is_complete s new file
   complete_noted {file} c =
-      elim (Contains-append_cases g.effect.notes (map (λ n. Complete n) (new_complete_files s g.mid)) (Complete file) (rw (← g.notes) c)) [
+      elim (Contains-append_cases g.effect.notes (map (λ n. Complete n) (new_complete_files s g.handled)) (Complete file) (rw (← g.notes) c)) [
         | inl one ↦ let wrong = left.noted (Complete file) one in absurd cc
         | inr more ↦
-            let r = contains_map (λ n. Complete n) (new_complete_files s g.mid) more in
+            let r = contains_map (λ n. Complete n) (new_complete_files s g.handled) more in
             let same : r.0 ≡ file = cc in
-            let listed = contains_filter (has_become is_complete s g.mid) (file_numbers g.mid) (rw (← same) r.1) in
-            let both = and_true (is_complete g.mid file) listed.1 in
-            let below : file < length g.mid.files = (let lt = range_below 0 (length g.mid.files) listed.0 in omega arith) in
-            (rw files_are below, record { before = not_so (is_complete s file) both.1; after = complete_same g.mid new file files_are ∙ both.0 })
+            let listed = contains_filter (has_become is_complete s g.handled) (file_numbers g.handled) (rw (← same) r.1) in
+            let both = and_true (is_complete g.handled file) listed.1 in
+            let below : file < length g.handled.files = (let lt = range_below 0 (length g.handled.files) listed.0 in omega arith) in
+            (rw files_are below, record { before = not_so (is_complete s file) both.1; after = complete_same g.handled new file files_are ∙ both.0 })
       ]
 
   notes_complete : {file : ℕ} → file < length new.files → BecomesSo is_complete s new file → Contains out.notes (Complete file)
   notes_complete {file} below b =
-      let in_range : Contains (file_numbers g.mid) file = range_contains _ (rw (← files_are) below) in
-      let complete : is_complete g.mid file ≡ true = cc in
+      let in_range : Contains (file_numbers g.handled) file = range_contains _ (rw (← files_are) below) in
+      let complete : is_complete g.handled file ≡ true = cc in
       let listed = filter_contains _ _ in_range (becomes complete b.before) in
-      rw g.notes (Contains-append_right g.effect.notes (map (λ n. Complete n) (new_complete_files s g.mid)) (Complete file) (map_contains (λ n. Complete n) _ listed))
+      rw g.notes (Contains-append_right g.effect.notes (map (λ n. Complete n) (new_complete_files s g.handled)) (Complete file) (map_contains (λ n. Complete n) _ listed))
 
 -- ---- the laws
 

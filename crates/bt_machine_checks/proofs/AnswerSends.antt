@@ -204,7 +204,7 @@ all_chokes s x c =
 pub data IsSentBy (dig : Digest) (s new : EngineState) (x : Sent) : Type 0 where
   alike : (part : Part) → (part ≡ greets) ⊎ (part ≡ replies) → part_of x.frame ≡ part → IsSentBy dig s new x
   announced : (key : PeerKey) (i : ℕ) (p : PeerState) (calls : DeviceCalls) (out : Output) → IsPeer s key i p → (g : KeepsPeer dig s i p calls out new)
-      → Contains (haves s g.mid) x → IsSentBy dig s new x
+      → Contains (haves s g.handled) x → IsSentBy dig s new x
   followed : (key : PeerKey) (i : ℕ) (p : PeerState) (calls : DeviceCalls) (out : Output) → IsPeer s key i p → (g : KeepsPeer dig s i p calls out new)
       → Contains g.sent x → IsSentBy dig s new x
   chosen : (sent : List Sent) → FollowsEach dig (range_with_len 0 (length s.peers)) (rechoked s) sent new → Contains (chokes_sent s) x → IsSentBy dig s new x
@@ -227,8 +227,8 @@ module _ (dig : Digest) where
   goes_on_sent {s} {key} {i} {p} {calls} {out} peer g x c =
       let rest = record p { stream = g.takes.rest } in
       let left = event_leaves dig _ i (set_same _ i peer.here) _ calls g.takes.handles in
-      elim (Contains-append_cases (g.effect.send ++ haves s g.mid) g.sent x (rw (← g.send) c)) [
-        | inl front ↦ elim (Contains-append_cases g.effect.send (haves s g.mid) x front) [
+      elim (Contains-append_cases (g.effect.send ++ haves s g.handled) g.sent x (rw (← g.send) c)) [
+        | inl front ↦ elim (Contains-append_cases g.effect.send (haves s g.handled) x front) [
           | inl one ↦ alike replies (inr refl) (left.replied x one)
           | inr two ↦ announced key i p calls out peer g two
         ]

@@ -291,8 +291,8 @@ module _ (dig : Digest) (s new : EngineState) (key : PeerKey) (calls : DeviceCal
   next_waits : {r : _} → StepNext dig s key calls r new → Unknown dig s new b
   next_waits (none_such x y z e) = like_old e refl refl
   next_waits (waits i p x y z w e) = like_old e refl refl
-  next_waits (keeps_peer i p out x g e) = after_event i p _ g.mid _ _ g.takes.handles (cc) (cc)
-  next_waits (closes i p out x g e) = after_event i p _ g.mid _ _ g.takes.handles (cc) (cc)
+  next_waits (keeps_peer i p out x g e) = after_event i p _ g.handled _ _ g.takes.handles (cc) (cc)
+  next_waits (closes i p out x g e) = after_event i p _ g.handled _ _ g.takes.handles (cc) (cc)
   next_waits (faulty i p out x g e) = like_old g.after refl refl
   next_waits (no_memory i p x g e) = like_old g.after refl refl
 

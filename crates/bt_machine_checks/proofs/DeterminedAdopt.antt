@@ -218,10 +218,10 @@ module _ (dig : Digest) where
       sized f k is (λ gone. x.some (cc)) ∙ ap (λ g. length g.states) (sym own)
       ) in
       let groups = groups_one s file 0 _ _ blocks x.adopts y.adopts x.all (cc) (sym x.made ∙ y.made) in
-      let settles : SettlesIn dig (is_other file) x.state.tree 0 (length x.state.states) x.mid x.settling y.notes y.settled
+      let settles : SettlesIn dig (is_other file) x.state.tree 0 (length x.state.states) x.taken_in x.settling y.notes y.settled
       = rw state (rw groups.2 (rw groups.0 y.settles)) in
       let settled = settles_one x.settles settles in
-      (groups.1, x.after ∙ ap (λ z. with_pending z x.settled []) groups.2 ∙ ap (λ z. with_pending y.mid z []) settled.1 ∙ sym y.after)
+      (groups.1, x.after ∙ ap (λ z. with_pending z x.settled []) groups.2 ∙ ap (λ z. with_pending y.taken_in z []) settled.1 ∙ sym y.after)
 
   pub adopt_one : {s m n file calls a b : _} → ((f : FileState) (k : Facts) → IsFile s file f k → f.states ≢ [] → blocks_of k ≡ length f.states)
       → StepAdopt dig s file calls a m → StepAdopt dig s file calls b n → a ≢ Err OutOfMemory → b ≢ Err OutOfMemory → AreOne (of_adopt a) m (of_adopt b) n

@@ -1,6 +1,6 @@
 -- What follows for a peer is one and no other, but for the blocks that are requested.
 use Rattle.bt_machine_checks.proofs.Base.{[], ◌≡◌, ℕ, zero, suc, inl, inr, Bool, true, false, not, List, ◌∷◌, ◌++◌, map, Some, refl, sym, ap, ◌∙◌, arith, slice_get, slice_set, ◌↔◌, option_and_then, cases_lt, filter-append, IsPlan, planned_key, BlockId, HashRequest}
-use Rattle.bt_machine_checks.proofs.Machine.{Digest, Asked, PeerState, EngineState, state_at, tree_of, piece_of, Has, sent_to, IsInteresting, interest_sent, TellsInterest, NeedsLeaf, IsLeastNeed, RequestsHashes, requests, rests, RequestsEach, FollowsUp, FollowsEach, is_block_request, other_frames, asked_nothing, without_asked}
+use Rattle.bt_machine_checks.proofs.Machine.{Digest, Asked, PeerState, EngineState, state_at, tree_of, leaf_at, piece_of, Has, sent_to, IsInteresting, interest_sent, TellsInterest, NeedsLeaf, IsLeastNeed, RequestsHashes, requests, rests, RequestsEach, FollowsUp, FollowsEach, is_block_request, other_frames, asked_nothing, without_asked}
 use Rattle.bt_machine.proofs.Lists.{same_some}
 use Rattle.bt_machine_checks.proofs.DeterminedParts.{anchor_one}
 
@@ -50,9 +50,7 @@ module _ (dig : Digest) where
   needs_in {s} {t} {p} {q} {b} same peers x = record {
     has = has_in s t p q b same peers x.has;
     not_marked = elim x.not_marked [ inl e ↦ inl (state_in s t b same ∙ e) | inr e ↦ inr (state_in s t b same ∙ e) ];
-    tree = x.tree;
-    has_tree = ap (λ z. tree_of z b.file) (sym same) ∙ x.has_tree;
-    unknown = x.unknown;
+    unknown = ap (λ z. leaf_at dig z b) (sym same) ∙ x.unknown;
   }
 
   least_one : {s t p q b c : _} → Alike s t → AlikePeers p q → IsLeastNeed dig s p b → IsLeastNeed dig t q c → b ≡ c

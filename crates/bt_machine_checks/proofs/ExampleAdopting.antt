@@ -39,7 +39,7 @@ module _ (dig : Digest) (infohash : List ℕ) where
       (record {
         state = file_in x;
         groups = reads_at 0 3 (read ∷ []) ∷ [];
-        mid = engine y;
+        taken_in = engine y;
         settling = [];
         notes = [];
         settled = engine y;
@@ -130,7 +130,6 @@ abbrev reads_of : ThreeBlocks → List BlockRead
 reads_of b = given 0 b.first ∷ given 1 b.second ∷ given 2 b.third ∷ []
 
 module _ (dig : Digest) (b : ThreeBlocks) (infohash : List ℕ) where
-
   -- ---- then with the right ones
 
   -- the blocks of the second file are read back

@@ -30,7 +30,7 @@ module _ (dig : Digest) (infohash : List ℕ) where
   engine peers = abc_engine dig infohash Missing peers 3
 
   no_need : (peers : List PeerState) (b : _) → ¬ NeedsLeaf dig (engine peers) free_peer b
-  no_need peers b n = no_needs dig infohash Missing free_peer free_peer b (record { has = n.has; not_marked = n.not_marked; tree = n.tree; has_tree = n.has_tree; unknown = n.unknown })
+  no_need peers b n = no_needs dig infohash Missing free_peer free_peer b (record { has = n.has; not_marked = n.not_marked; unknown = n.unknown })
 
   only : (peers : List PeerState) {b : BlockId} → state_at (engine peers) b ≡ Some Missing → the_block ≡ b
   only peers e = the_one dig infohash free_peer e

@@ -1,6 +1,6 @@
 -- The fetch of the file `abc` is a run.
 use Rattle.bt_machine_checks.proofs.Base.{[], ◌≡◌, ℕ, zero, suc, ◌+◌, ◌≤◌, ◌⊎◌, inl, inr, ◌↔◌, true, false, List, ◌∷◌, ◌++◌, length, Some, None, Ok, refl, sym, ap, ◌∙◌, subst, arith, rules, slice_get, Contains, option_and_then, append-nil, root_facts, digest_at_new, BlockState, Missing, Waiting, Marked, PutMarked, bytes_written, BlockId, stream, Takes, handshake_spelling, Message as message_event, Ask, PeerMessage as Message, Interested, NotInterested, Have, Request, Piece}
-use Rattle.bt_machine_checks.proofs.Machine.{Digest, NowMarked, Complete, Idle, PeerState, FileState, EngineState, block_id, state_at, tree_of, Has, IsAsked, IsWholeBlock, Output, noting, ours, right, IsInteresting, NeedsLeaf, FollowsUp, rests, interest_sent, StepNext, waits, StepConnect, joins, greeting, Starts, by_root, Run, abc, abc_file, abc_torrent, abc_engine, served_peer, piece_bytes, abc_events, abc_calls, abc_answers, FetchOfAbcIsRun, first_key, peer_with, all_taken, their_handshake, bitfield_bytes, unchoke_bytes, to_first}
+use Rattle.bt_machine_checks.proofs.Machine.{leaf_at, Digest, NowMarked, Complete, Idle, PeerState, FileState, EngineState, block_id, state_at, tree_of, Has, IsAsked, IsWholeBlock, Output, noting, ours, right, IsInteresting, NeedsLeaf, FollowsUp, rests, interest_sent, StepNext, waits, StepConnect, joins, greeting, Starts, by_root, Run, abc, abc_file, abc_torrent, abc_engine, served_peer, piece_bytes, abc_events, abc_calls, abc_answers, FetchOfAbcIsRun, first_key, peer_with, all_taken, their_handshake, bitfield_bytes, unchoke_bytes, to_first}
 use Rattle.bt_tree.specs.TreeShape.{height_up_to}
 use Rattle.bt_sparse.specs.SparseTree.{value_at}
 use Rattle.bt_machine_checks.proofs.ExamplePeer.{one_there, taken_bits, taken_unchoke, taken_hello, waits_empty, went, comes, fed_first}
@@ -39,8 +39,8 @@ module _ (dig : Digest) (infohash : List ℕ) where
       let y : (y : BlockState) × (state_at (engine x p) b ≡ Some y) = elim needs.not_marked [ inl m ↦ (Missing, m) | inr w ↦ (Waiting, w) ] in
       let one = one_block _ _ y.1 in
       let at_file : tree_of (engine x p) b.file ≡ Some (root_facts 3 (dig abc)) = cc in
-      let same : needs.tree ≡ root_facts 3 (dig abc) = cc in
-      let known = ap (λ k. value_at dig k 0 b.block) same ∙ ap (value_at dig (root_facts 3 (dig abc)) 0) one.1 ∙ value_here dig in
+      let leaf : leaf_at dig (engine x p) b ≡ value_at dig (root_facts 3 (dig abc)) 0 b.block = ap (λ o. option_and_then (λ k. value_at dig k 0 b.block) o) at_file in
+      let known = leaf ∙ ap (value_at dig (root_facts 3 (dig abc)) 0) one.1 ∙ value_here dig in
       absurd cc
 
   pub whole_block : IsWholeBlock (abc_torrent dig infohash) 0 0 3 the_block

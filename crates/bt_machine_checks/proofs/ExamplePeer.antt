@@ -68,7 +68,7 @@ pub went : {dig : Digest} {s new : EngineState} {p : PeerState} {calls : DeviceC
     → StepNext dig s first_key calls (Ok (Some (record { send = send; close = None; notes = notes }))) new
 went effect mid here key stays takes handles follows send notes =
     keeps_peer 0 _ _ (record { here = here; same_key = key })
-    (record { effect = effect; mid = mid; sent = _; takes = record { event = _; rest = all_taken; takes = takes; handles = handles }; stays = stays; follows = follows; send = send; close = refl; notes = notes })
+    (record { effect = effect; handled = mid; sent = _; takes = record { event = _; rest = all_taken; takes = takes; handles = handles }; stays = stays; follows = follows; send = send; close = refl; notes = notes })
     refl
 
 -- a message is taken, and closes the peer
@@ -78,7 +78,7 @@ pub closed_for : {dig : Digest} {s : EngineState} {p : PeerState} {calls : Devic
     → StepNext dig s first_key calls (Ok (Some (record { send = []; close = Some why; notes = [] }))) (without_peer 0 mid)
 closed_for {why} mid here key takes handles =
     closes 0 _ _ (record { here = here; same_key = key })
-    (record { effect = closing why; mid = mid; why = why; takes = record { event = _; rest = all_taken; takes = takes; handles = handles }; closed = refl; is = refl; after = refl })
+    (record { effect = closing why; handled = mid; why = why; takes = record { event = _; rest = all_taken; takes = takes; handles = handles }; closed = refl; is = refl; after = refl })
     refl
 
 -- a block that was asked for comes, and is put into its file

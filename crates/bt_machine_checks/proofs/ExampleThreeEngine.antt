@@ -26,7 +26,6 @@ one_of zero (suc (suc (suc i))) e = absurd cc
 one_of (suc file) i e = absurd cc
 
 module _ (dig : Digest) (b : ThreeBlocks) (infohash : List ℕ) where
-
   -- ---- the steps
 
   -- the key's root is a digest

@@ -25,8 +25,8 @@ pub fn next_notes_marked_blocks<H: NodeHash>(_hash: H)
     ensures { NextNotesMarkedBlocks H.digest }
 {}
 
-/// A block whose leaf a message of a peer tells is settled, in every file of the root: a block that waits after
-/// a message has an unknown leaf, unless it waited before for one that was known.
+/// A block whose leaf a message of a peer tells is settled, in every file of the root: a block that waits
+/// after a message has an unknown leaf, unless it waited before for one that was known.
 pub fn next_settles_waiting_blocks<H: NodeHash>(_hash: H)
     ensures { NextSettlesWaitingBlocks H.digest }
 {}

@@ -1,5 +1,6 @@
-//! That the definitions of `bt_machine` say what they should: that they leave nothing free but which blocks are
-//! requested, that they let certain wrong engines in nowhere, and that they can be met. Nothing stands on it.
+//! That the definitions of `bt_machine` say what they should: that they leave nothing free but which blocks
+//! are requested, that they let certain wrong engines in nowhere, and that they can be met. Nothing stands
+//! on it.
 #![tactic(auto)]
 
 mod answer_due;

@@ -1,0 +1,10 @@
+pub mod WholeBlocks
+pub mod Placing
+pub mod Putting
+pub mod Arriving
+pub mod Standing
+pub mod Bits
+pub mod HashAnswers
+pub mod Settlings
+pub mod SpanReads
+pub mod Servings
