@@ -76,7 +76,10 @@ fn a_key_has_its_numbers_with_the_high_byte_first(rt: HostRuntime) -> Result<(),
 fn only_48_bytes_are_a_key(rt: HostRuntime) -> Result<(), Fail> {
     let bytes = [7; KEY_LEN + 1];
     for len in 0..=KEY_LEN + 1 {
-        assert!(&rt; read_key(&bytes[..len]).is_some() == (len == KEY_LEN), "{len}");
+        assert!(&rt;
+            read_key(&bytes[..len]).is_some() == (len == KEY_LEN),
+            "{len}"
+        );
     }
     Ok(())
 }
@@ -111,38 +114,54 @@ fn the_run_comes_before_the_uncles(rt: HostRuntime) -> Result<(), Fail> {
     Ok(())
 }
 
+/// Expects what is said of a key and of 32 bytes for each of this many digests.
+fn expect_refusal(
+    rt: &(impl AllocGlobal + Abort),
+    key: &HashKey,
+    digests: u16,
+    wanted: Option<ProofError>,
+) -> Result<(), AllocError> {
+    let refused = refusal(rt.alloc(), key, digests)?;
+    assert!(rt; refused == wanted, "{digests}");
+    Ok(())
+}
+
+/// A key of two nodes of this layer.
+fn key_above(base: u32) -> HashKey {
+    HashKey {
+        root: ROOT,
+        base,
+        index: 0,
+        length: 2,
+        layers: 0,
+    }
+}
+
 #[test]
 fn keys_without_a_shape_and_digests_of_another_count(rt: HostRuntime) -> Result<(), Fail> {
-    let alloc = rt.alloc();
     let shape = Some(ProofError::Shape);
     let count = Some(ProofError::Count);
-    let rows = [
-        (key(0, 4, 1), 4, None),
-        (key(0, 4, 2), 4, count),
-        (key(0, 4, 2), 5, None),
-        (key(0, 4, 0), 4, None),
-        (key(0, 4, 0), 3, count),
-        (key(0, 2, 26), 28, None),
-        (key(0, 2, 27), 29, shape),
-        (key(2, 4, 1), 4, shape),
-        (key(0, 3, 1), 3, shape),
-        (key(0, 1, 0), 1, shape),
-        (key(0, 0, 0), 0, shape),
-        (key(0, 512, 8), 512, None),
-        (key(0, 1024, 9), 1024, shape),
-        (key(4294967294, 2, 1), 3, None),
-        (key(4294967295, 2, 1), 3, shape),
-    ];
-    for (key, digests, wanted) in rows {
-        assert!(&rt; refusal(alloc, &key, digests)? == wanted, "{digests}");
+    for (index, length, layers, digests, wanted) in [
+        (0, 4, 1, 4, None),
+        (0, 4, 2, 4, count),
+        (0, 4, 2, 5, None),
+        (0, 4, 0, 4, None),
+        (0, 4, 0, 3, count),
+        (0, 2, 26, 28, None),
+        (0, 2, 27, 29, shape),
+        (2, 4, 1, 4, shape),
+        (0, 3, 1, 3, shape),
+        (0, 1, 0, 1, shape),
+        (0, 0, 0, 0, shape),
+        (0, 512, 8, 512, None),
+        (0, 1024, 9, 1024, shape),
+        (4294967294, 2, 1, 3, None),
+        (4294967295, 2, 1, 3, shape),
+    ] {
+        expect_refusal(&rt, &key(index, length, layers), digests, wanted)?;
     }
-    let high = HashKey {
-        base: 26,
-        ..key(0, 2, 0)
-    };
-    assert!(&rt; refusal(alloc, &high, 2)? == None);
-    let higher = HashKey { base: 27, ..high };
-    assert!(&rt; refusal(alloc, &higher, 2)? == shape);
+    expect_refusal(&rt, &key_above(26), 2, None)?;
+    expect_refusal(&rt, &key_above(27), 2, shape)?;
     Ok(())
 }
 
@@ -162,7 +181,10 @@ fn a_plan_asks_for_the_run_around_a_leaf(rt: HostRuntime) -> Result<(), Fail> {
         (1048577, 64, Some(key(0, 128, 6))),
         (1 << 40, 0x3ffffff, Some(key(0x3fffe00, 512, 25))),
     ] {
-        assert!(&rt; planned(rt.alloc(), length, leaf)? == wanted, "{length} {leaf}");
+        assert!(&rt;
+            planned(rt.alloc(), length, leaf)? == wanted,
+            "{length} {leaf}"
+        );
     }
     Ok(())
 }

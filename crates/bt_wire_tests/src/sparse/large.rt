@@ -42,7 +42,11 @@ fn the_last_leaves_of_the_greatest_file(rt: HostRuntime) -> Result<(), Fail> {
     expect_accept(&rt, &mut tree, &last, Ok(0));
     expect_known(&rt, &tree, LAST_NODES);
     assert!(rt; answers_zeros(rt.alloc(), &tree, (0, 0x3fffe00, 512, 25), 529)?);
-    expect_unknown(&rt, &tree, &[(0x3fffdff, Some(0x3fffdff)), (0x3fffe00, None)]);
+    expect_unknown(
+        &rt,
+        &tree,
+        &[(0x3fffdff, Some(0x3fffdff)), (0x3fffe00, None)],
+    );
     Ok(())
 }
 

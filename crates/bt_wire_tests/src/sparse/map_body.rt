@@ -140,17 +140,17 @@ fn counts(claim: &Claim) -> (u64, u64) {
 
 /// Whether a claim is of a power of two of nodes, two at least, that begins at a multiple of it, and lies in a
 /// tree of this height, run and path.
-fn has_shape(height: u64, claim: &Claim) -> bool {
+fn has_shape(height: u32, claim: &Claim) -> bool {
     let (run, uncles) = counts(claim);
-    let base = claim.base as u64;
-    if base > height || run < 2 || !run.is_power_of_two() {
+    if claim.base > height || run < 2 || !run.is_power_of_two() {
         return false;
     }
-    let width = 1u64.wrapping_shl(height.wrapping_sub(base) as u32);
-    let top = base
-        .wrapping_add(run.trailing_zeros() as u64)
-        .saturating_add(uncles);
-    claim.index as u64 % run == 0 && (claim.index as u64).wrapping_add(run) <= width && top <= height
+    let index = claim.index as u64;
+    let width = 1u64.wrapping_shl(height.wrapping_sub(claim.base));
+    let run_top = claim.base.wrapping_add(run.trailing_zeros()) as u64;
+    index % run == 0
+        && index.saturating_add(run) <= width
+        && run_top.saturating_add(uncles) <= height as u64
 }
 
 /// Adds the pairs that a layer's nodes make, from this index on.
@@ -160,14 +160,16 @@ fn add_pairs(
     first: u32,
     nodes: &[Hash32],
 ) -> Result<(), AllocError> {
+    let mut index = first / 2;
     for i in 0..nodes.len() / 2 {
         let left = i.wrapping_mul(2);
         pairs.push(ClaimedPair {
             layer,
-            index: (first / 2).wrapping_add(i as u32),
+            index,
             left: at(nodes, left),
             right: at(nodes, left.wrapping_add(1)),
         })?;
+        index = index.wrapping_add(1);
     }
     Ok(())
 }
@@ -265,7 +267,7 @@ pub(super) fn map_accept(
     tree: &mut MapTree,
     claim: &Claim,
 ) -> Result<Result<u32, ProofError>, AllocError> {
-    if !has_shape(tree.geometry.height() as u64, claim) {
+    if !has_shape(tree.geometry.height() as u32, claim) {
         return Ok(Err(ProofError::Shape));
     }
     let mut pairs = Vec::new(tree.alloc);

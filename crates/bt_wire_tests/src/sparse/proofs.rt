@@ -91,7 +91,13 @@ fn padding_and_top_are_compared(rt: HostRuntime) -> Result<(), Fail> {
 #[test]
 fn a_proof_below_an_unknown_node(rt: HostRuntime) -> Result<(), Fail> {
     let mut tree = many_blocks_tree(rt.alloc())?;
-    expect_run(&rt, &mut tree, 0, &[ZEROS, ZEROS], Err(ProofError::NoAnchor))?;
+    expect_run(
+        &rt,
+        &mut tree,
+        0,
+        &[ZEROS, ZEROS],
+        Err(ProofError::NoAnchor),
+    )?;
     assert!(rt; known(&tree, 0, 0).is_none());
     Ok(())
 }
@@ -321,7 +327,13 @@ fn expect_layer_tree(
 ) -> Result<(), Fail> {
     let mut tree = layer_tree(rt.alloc(), 2, bytes)?;
     expect_known(rt, &tree, &nodes_of_layer(layer));
-    expect_run(rt, &mut tree, 64, &[last_leaf(), ZEROS, ZEROS, ZEROS], Ok(2))?;
+    expect_run(
+        rt,
+        &mut tree,
+        64,
+        &[last_leaf(), ZEROS, ZEROS, ZEROS],
+        Ok(2),
+    )?;
     Ok(())
 }
 

@@ -91,7 +91,10 @@ fn requests_of_another_shape(rt: HostRuntime) -> Result<(), Fail> {
         (4294967295, 0, 2, 0),
         (0, 0, 2, 4294967295),
     ] {
-        assert!(rt; error_of(&tree, request) == Some(AnswerError::Shape), "{request:?}");
+        assert!(rt;
+            error_of(&tree, request) == Some(AnswerError::Shape),
+            "{request:?}"
+        );
     }
     assert!(rt; error_of(&tree, (0, 0, 4, 1)) == Some(AnswerError::Unknown));
     Ok(())
@@ -190,9 +193,27 @@ fn an_answer_is_written_over_room_that_is_there(rt: HostRuntime) -> Result<(), F
     let leaves = list.as_slice();
     let tree = leaf_tree(&rt, leaves)?;
     let above = Plain.pair(&at(leaves, 0), &at(leaves, 1));
-    expect_room(&rt, &tree, (0, 2, 2, 1), Ok(()), [at(leaves, 2), ZEROS, above]);
-    expect_room(&rt, &tree, (0, 1, 2, 1), Err(AnswerError::Shape), [[9; 32]; 3]);
+    expect_room(
+        &rt,
+        &tree,
+        (0, 2, 2, 1),
+        Ok(()),
+        [at(leaves, 2), ZEROS, above],
+    );
+    expect_room(
+        &rt,
+        &tree,
+        (0, 1, 2, 1),
+        Err(AnswerError::Shape),
+        [[9; 32]; 3],
+    );
     let root = new_tree(rt.alloc(), Plain, 49152, &three_blocks_root())?;
-    expect_room(&rt, &root, (0, 2, 2, 1), Err(AnswerError::Unknown), [[9; 32]; 3]);
+    expect_room(
+        &rt,
+        &root,
+        (0, 2, 2, 1),
+        Err(AnswerError::Unknown),
+        [[9; 32]; 3],
+    );
     Ok(())
 }
