@@ -1,0 +1,5 @@
+pub mod Limits
+pub mod Hint
+pub mod Reader
+pub mod ResumeLog
+pub mod Contents
