@@ -4,3 +4,8 @@ pub mod Spellings
 pub mod Takings
 -- Logs that are read.
 pub mod Readings
+-- Readings of the same bytes.
+pub mod Sequences
+-- Images of a crash.
+pub mod Crashes
+pub mod Holdings

@@ -36,7 +36,8 @@ module _ {D : Type 0} (history : D → History) (honest : D → Type 0) (faults 
     pub lawful : All IsHint taken
     pub size : used ≡ length (hints_spelling taken)
     pub within : used ≤ room
-    pub taken_are : OfBytes history honest faults old (λ bytes. AreTaken (take room (drop at bytes)) taken used)
+    pub taken_are :
+        OfBytes history honest faults old (λ bytes. AreTaken (take room (drop at bytes)) taken used)
 
   -- a part of the device was read, and its hints put behind others
   abbrev pub IsWindowRead : (at room : ℕ) → D → List Hint → Result ℕ LogError → List Hint → D → Type 0

@@ -3,3 +3,4 @@ pub mod Hint
 pub mod Reader
 pub mod ResumeLog
 pub mod Contents
+pub mod Law

@@ -62,8 +62,8 @@ fn is_header(bytes: &[u8], infohash: &Hash32) -> bool
     bytes == header(infohash).as_slice()
 }
 
-/// Reads a part of the device into a window, puts the hints that begin it behind the others, and says how many
-/// bytes spell them.
+/// Reads a part of the device into a window, puts the hints that begin it behind the others, and says how
+/// many bytes spell them.
 fn read_window<D: Disk>(
     alloc: Global,
     disk: &mut D,

@@ -20,7 +20,8 @@ pub(crate) struct FoundHint {
     pub(crate) len: usize,
 }
 
-/// Puts the hints that begin the bytes behind a list, as many as there are, and says how many bytes spell them.
+/// Puts the hints that begin the bytes behind a list, as many as there are, and says how many bytes spell
+/// them.
 pub(crate) fn take_hints(
     alloc: Global,
     bytes: &[u8],

@@ -13,12 +13,11 @@ use std::marker::Model;
 
 /// A log of hints on a device.
 ///
-/// It begins with 40 bytes, `btseed-1` and the torrent's infohash; behind them lies one hint after the other.
-/// The first bytes that are no hint, and all behind them, are ignored and later written over. No checksum is
-/// needed, since a hint is never trusted. The format is this project's own.
+/// It begins with 40 bytes, `btseed-1` and the torrent's infohash; behind them lies one hint after the
+/// other. The first bytes that are no hint, and all behind them, are ignored and later written over. No
+/// checksum is needed, since a hint is never trusted. The format is this project's own.
 ///
-/// Only `attach` and `reload` take memory: in proportion to the hints that are read, beside one buffer of
-/// fixed size.
+/// Only `attach` and `reload` take memory: in proportion to the hints that are read.
 #[derive(Drop)]
 pub struct ResumeLog<D: Disk + Drop> {
     alloc: Global,
@@ -50,13 +49,13 @@ impl<D: Disk + Drop> Model for ResumeLog<D> {
 }
 
 impl<D: Disk + Drop> ResumeLog<D> {
-    /// Opens the log of a torrent, by its infohash. A device without bytes gets a header, which is written and
-    /// synced. The device is given back with a refusal; after `Device` the header may stand there, whole or in
-    /// part.
+    /// Opens the log of a torrent, by its infohash. A device without bytes gets a header, which is written
+    /// and synced. The device is given back with a refusal; after `Device` the header may stand there, whole
+    /// or in part.
     ///
     /// Errors, in this order: `TooLong` where the device has more than 2^40 bytes, before any is read;
-    /// `OtherTorrent` where it is not empty and does not begin with the header; `OutOfMemory`. `Device`, where
-    /// one of its calls failed, may stand in place of each.
+    /// `OtherTorrent` where it is not empty and does not begin with the header; `OutOfMemory`. `Device`,
+    /// where one of its calls failed, may stand in place of each.
     pub fn attach(
         alloc: Global,
         mut disk: D,
@@ -105,8 +104,8 @@ impl<D: Disk + Drop> ResumeLog<D> {
 
     /// Reads the device again. Nothing is written to it.
     ///
-    /// Errors: as `attach`, but that a device without bytes is `OtherTorrent`. They leave the hints as they were,
-    /// and what was appended is not forgotten.
+    /// Errors: as `attach`, but that a device without bytes is `OtherTorrent`. They leave the hints as they
+    /// were, and what was appended is not forgotten.
     pub fn reload(&mut self) -> Result<(), LogError>
         ensures { IsReloaded D.history D.honest D.faults self.old result self.new }
     {
@@ -118,12 +117,13 @@ impl<D: Disk + Drop> ResumeLog<D> {
         Ok(())
     }
 
-    /// Writes a hint behind the last one, by one call of the device. Of a proof, its key and digests are such
-    /// that `to_claim` of `bt_hashreq` makes a claim of them, so that it can be read back. Takes no memory.
+    /// Writes a hint behind the last one, by one call of the device. Of a proof, its key and digests are
+    /// such that `to_claim` of `bt_hashreq` makes a claim of them, so that it can be read back. Takes no
+    /// memory.
     ///
-    /// Errors: `Full` only where the log would get longer than 2^40 bytes, and then nothing is written; `Device`.
-    /// After both, what was appended since the last good flush or reading is forgotten: it is to be appended
-    /// again.
+    /// Errors: `Full` only where the log would get longer than 2^40 bytes, and then nothing is written;
+    /// `Device`. After both, what was appended since the last good flush or reading is forgotten: it is to
+    /// be appended again.
     pub fn append(&mut self, hint: &Hint) -> Result<(), AppendError>
         requires { CanBeRead hint.now }
         ensures { IsAppended D.history D.honest D.faults hint.now self.old result self.new }
@@ -143,11 +143,11 @@ impl<D: Disk + Drop> ResumeLog<D> {
         Ok(())
     }
 
-    /// Syncs the device, by one call: then a crash leaves all hints that were read or appended until now. Takes
-    /// no memory.
+    /// Syncs the device, by one call: then a crash leaves all hints that were read or appended until now.
+    /// Takes no memory.
     ///
-    /// After a fault, what was appended since the last good flush or reading is forgotten: it is to be appended
-    /// again.
+    /// After a fault, what was appended since the last good flush or reading is forgotten: it is to be
+    /// appended again.
     pub fn flush(&mut self) -> Result<(), DeviceFault>
         ensures { IsFlushed D.history D.honest D.faults self.old result self.new }
     {
