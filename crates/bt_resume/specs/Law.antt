@@ -12,8 +12,8 @@ use Rattle.bt_resume.specs.declared.error.AppendError.{AppendError}
 
 -- bytes begin with the spelling of one hint at most
 abbrev pub SpellsOneHint : Type 0
-SpellsOneHint = (a b : Hint) (x y : List ℕ) → IsHint a → IsHint b → hint_spelling a ++ x ≡ hint_spelling b ++ y
-    → (a ≡ b) × (x ≡ y)
+SpellsOneHint = (a b : Hint) (x y : List ℕ) → IsHint a → IsHint b
+    → hint_spelling a ++ x ≡ hint_spelling b ++ y → (a ≡ b) × (x ≡ y)
 
 -- hints that were spelled are read back, whatever lies behind them that begins with no hint
 abbrev pub AreReadBack : Type 0
@@ -64,29 +64,33 @@ module _ {D : Type 0} (history : D → History) (honest : D → Type 0) (faults 
     pub kept_are : HoldsTo log.infohash (history log.disk).now.bytes log.kept kept
     pub hints_are : HoldsTo log.infohash (history log.disk).now.bytes log.end hints
 
-  -- What every image since a moment begins with, every image goes on to begin with, through each call of a log
-  -- on an honest device, and at each moment within it.
+  -- What every image since a moment begins with, every image goes on to begin with, through each call of a
+  -- log on an honest device, and at each moment within it.
 
   abbrev pub AttachKeeps : Type 0
   AttachKeeps = (infohash torrent : List ℕ) (old new : D) (result : Result (List Hint) LogError) (t : ℕ)
-      (hints : List Hint) → length infohash ≡ digest_length → honest old → Opens history honest faults torrent old result new
+      (hints : List Hint) → length infohash ≡ digest_length → honest old
+      → Opens history honest faults torrent old result new
       → AreKeptSince (history old) t infohash hints → AreKeptSince (history new) t infohash hints
 
   abbrev pub ReloadKeeps : Type 0
   ReloadKeeps = (old new : LogView D) (result : Result ⊤ LogError) (t : ℕ) (hints : List Hint)
       → length old.infohash ≡ digest_length → honest old.disk → IsReloaded history honest faults old result new
-      → AreKeptSince (history old.disk) t old.infohash hints → AreKeptSince (history new.disk) t old.infohash hints
+      → AreKeptSince (history old.disk) t old.infohash hints
+      → AreKeptSince (history new.disk) t old.infohash hints
 
   abbrev pub AppendKeeps : Type 0
   AppendKeeps = (hint : Hint) (old new : LogView D) (result : Result ⊤ AppendError) (t : ℕ)
-      (hints : List Hint) → length old.infohash ≡ digest_length → honest old.disk → IsAppended history honest faults hint old result new
-      → log_length hints ≤ old.end
-      → AreKeptSince (history old.disk) t old.infohash hints → AreKeptSince (history new.disk) t old.infohash hints
+      (hints : List Hint) → length old.infohash ≡ digest_length → honest old.disk
+      → IsAppended history honest faults hint old result new → log_length hints ≤ old.end
+      → AreKeptSince (history old.disk) t old.infohash hints
+      → AreKeptSince (history new.disk) t old.infohash hints
 
   abbrev pub FlushKeeps : Type 0
   FlushKeeps = (old new : LogView D) (result : Result ⊤ DeviceFault) (t : ℕ) (hints : List Hint)
       → length old.infohash ≡ digest_length → honest old.disk → IsFlushed history honest faults old result new
-      → AreKeptSince (history old.disk) t old.infohash hints → AreKeptSince (history new.disk) t old.infohash hints
+      → AreKeptSince (history old.disk) t old.infohash hints
+      → AreKeptSince (history new.disk) t old.infohash hints
 
   -- Which hints the device of a log holds, after each call on an honest device.
 
@@ -101,7 +105,8 @@ module _ {D : Type 0} (history : D → History) (honest : D → Type 0) (faults 
 
   abbrev pub AppendHolds : Type 0
   AppendHolds = (hint : Hint) (old new : LogView D) (result : Result ⊤ AppendError) (kept hints : List Hint)
-      → honest old.disk → IsHint hint → IsAppended history honest faults hint old result new → Holds old kept hints
+      → honest old.disk → IsHint hint → IsAppended history honest faults hint old result new
+      → Holds old kept hints
       → MatchResult result (λ _. Holds new kept (hints ++ hint ∷ [])) (λ _. Holds new kept kept)
 
   -- and from a flush that succeeded on, whatever a crash leaves begins with them

@@ -51,8 +51,8 @@ module _ {D : Type 0} (history : D → History) (honest : D → Type 0) (faults 
   abbrev pub OfBytes : D → (List ℕ → Type 0) → Type 0
   OfBytes disk P = honest disk → P (history disk).now.bytes
 
-  -- A log was read, or why it was not. But for the one read that failed no call failed, and no call changed an
-  -- honest device.
+  -- A log was read, or why it was not. But for the one read that failed no call failed, and no call changed
+  -- an honest device.
   pub data Reads (infohash : List ℕ) (old : D) : Result (List Hint) LogError → D → Type 0 where
     read : (hints : List Hint) (new : D) → HasCalls history honest faults old [] new → All IsHint hints
         → log_length hints ≤ max_log_length → OfBytes old (λ bytes. IsLog infohash bytes hints)

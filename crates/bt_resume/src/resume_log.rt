@@ -102,6 +102,14 @@ impl<D: Disk + Drop> ResumeLog<D> {
         &self.disk
     }
 
+    /// Gives the device back, as it stands.
+    pub fn into_disk(self) -> D
+        ensures { result ≡ self.disk }
+    {
+        let ResumeLog { disk, .. } = self;
+        disk
+    }
+
     /// Reads the device again. Nothing is written to it.
     ///
     /// Errors: as `attach`, but that a device without bytes is `OtherTorrent`. They leave the hints as they
@@ -117,9 +125,7 @@ impl<D: Disk + Drop> ResumeLog<D> {
         Ok(())
     }
 
-    /// Writes a hint behind the last one, by one call of the device. Of a proof, its key and digests are
-    /// such that `to_claim` of `bt_hashreq` makes a claim of them, so that it can be read back. Takes no
-    /// memory.
+    /// Writes a hint that can be read back behind the last one, by one call of the device. Takes no memory.
     ///
     /// Errors: `Full` only where the log would get longer than 2^40 bytes, and then nothing is written;
     /// `Device`. After both, what was appended since the last good flush or reading is forgotten: it is to
