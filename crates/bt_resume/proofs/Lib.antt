@@ -1,0 +1,11 @@
+-- How hints are spelled.
+pub mod Spellings
+-- Hints at the front of bytes.
+pub mod Takings
+-- Logs that are read.
+pub mod Readings
+-- Readings of the same bytes.
+pub mod Sequences
+-- Images of a crash.
+pub mod Crashes
+pub mod Holdings

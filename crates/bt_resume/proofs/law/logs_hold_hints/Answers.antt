@@ -1,0 +1,12 @@
+use Rattle.bt_resume.proofs.Holdings.{attach_holds, reload_holds, append_holds, flush_holds}
+use Rattle.bt_resume.proofs.law.logs_hold_hints.Goals as goal
+
+pub returns : goal.returns
+returns g c =
+    let d = g.D.Disk in
+    record {
+      attach = attach_holds d.history d.honest d.faults;
+      reload = reload_holds d.history d.honest d.faults;
+      append = append_holds d.history d.honest d.faults;
+      flush = flush_holds d.history d.honest d.faults;
+    }

@@ -1,0 +1,175 @@
+//! How a log is read from its device, and made on an empty one.
+ghost use Rattle.std.specs.Prelude.{◌≡◌, ◌≢◌, ◌≤◌, IfOk, length};
+ghost use Rattle.std.specs.Bool.{OnTrue, OnFalse};
+ghost use Rattle.bt_resume.specs.Limits.{max_log_length};
+ghost use Rattle.bt_resume.specs.ResumeLog.{header, log_length, Reads, Opens};
+ghost use Rattle.bt_resume.specs.Contents.{hints_of, IsHeaderCheck, IsWindowRead, IsContentsRead, IsMade};
+
+use crate::error::LogError;
+use crate::hint::Hint;
+use crate::reader::take_hints;
+use bt_disk::Disk;
+use bt_hashreq::put;
+use bt_tree::Hash32;
+use std::alloc::Global;
+
+/// How many bytes the header has: those that name the format, and the infohash.
+pub(crate) const HEADER_LEN: usize = 40;
+
+/// How many bytes are read at a time. No hint has more.
+const WINDOW_LEN: usize = 65536;
+
+/// A log has at most so many bytes.
+pub(crate) const MAX_LOG_LEN: u64 = 1 << 40;
+
+/// The hints of a log, and where they end.
+#[derive(Drop)]
+pub(crate) struct Contents {
+    pub(crate) hints: Vec<Hint>,
+    pub(crate) end: u64,
+}
+
+/// The bytes that every log of a torrent begins with.
+pub(crate) fn header(infohash: &Hash32) -> [u8; HEADER_LEN]
+    ensures { result ≡ header infohash.now }
+{
+    let mut bytes = [0; HEADER_LEN];
+    put(&mut bytes, 0, b"btseed-1");
+    put(&mut bytes, 8, infohash);
+    bytes
+}
+
+/// Whether the device begins with the header of the torrent's log: Ok, or OtherTorrent.
+fn check_header<D: Disk>(disk: &mut D, infohash: &Hash32) -> Result<(), LogError>
+    ensures { IsHeaderCheck D.history D.honest D.faults infohash.now disk.old result disk.new }
+{
+    let mut front = [0; HEADER_LEN];
+    let Ok(count) = disk.read_at(0, &mut front) else {
+        return Err(LogError::Device);
+    };
+    if is_header(&front[..count], infohash) {
+        Ok(())
+    } else {
+        Err(LogError::OtherTorrent)
+    }
+}
+
+/// Whether the bytes are the header of the torrent's log.
+fn is_header(bytes: &[u8], infohash: &Hash32) -> bool
+    ensures yes { OnTrue result (bytes.now ≡ header infohash.now) }
+    ensures no { OnFalse result (bytes.now ≢ header infohash.now) }
+{
+    bytes == header(infohash).as_slice()
+}
+
+/// Reads a part of the device into a window, puts the hints that begin it behind the others, and says how
+/// many bytes spell them.
+fn read_window<D: Disk>(
+    alloc: Global,
+    disk: &mut D,
+    at: u64,
+    window: &mut [u8],
+    hints: &mut Vec<Hint>,
+) -> Result<usize, LogError>
+    ensures { IsWindowRead D.history D.honest D.faults at (length window.old) disk.old hints.old.items
+        result hints.new.items disk.new }
+{
+    let Ok(count) = disk.read_at(at, window) else {
+        return Err(LogError::Device);
+    };
+    let Ok(used) = take_hints(alloc, &window[..count], hints) else {
+        return Err(LogError::OutOfMemory);
+    };
+    Ok(used)
+}
+
+/// Reads the hints behind the header of a device of so many bytes.
+fn read_hints<D: Disk>(alloc: Global, disk: &mut D, len: u64) -> Result<Contents, LogError>
+    requires within { len ≤ max_log_length }
+    requires len { D.honest disk.old → len ≡ length (D.history disk.old).now.bytes }
+    ensures { IsContentsRead D.history D.honest D.faults disk.old result disk.new }
+{
+    let mut hints = Vec::new(alloc);
+    let mut end = HEADER_LEN as u64;
+    let mut window = [0; WINDOW_LEN];
+    while end < len {
+        let room = (len - end).min(WINDOW_LEN as u64) as usize;
+        let used = read_window(alloc, disk, end, &mut window[..room], &mut hints)?;
+        if used == 0 {
+            return Ok(Contents { hints, end });
+        }
+        end += used as u64;
+    }
+    Ok(Contents { hints, end })
+}
+
+/// Reads the log of a torrent from a device of so many bytes.
+fn read_contents<D: Disk>(
+    alloc: Global,
+    disk: &mut D,
+    infohash: &Hash32,
+    len: u64,
+) -> Result<Contents, LogError>
+    requires { D.honest disk.old → len ≡ length (D.history disk.old).now.bytes }
+    ensures reads { Reads D.history D.honest D.faults infohash.now disk.old (hints_of result) disk.new }
+    ensures end { IfOk result (λ contents. contents.end ≡ log_length contents.hints.items) }
+    ensures within { IfOk result (λ contents. contents.end ≤ max_log_length) }
+{
+    if len > MAX_LOG_LEN {
+        return Err(LogError::TooLong);
+    }
+    check_header(disk, infohash)?;
+    read_hints(alloc, disk, len)
+}
+
+/// Reads the log of a torrent from its device.
+pub(crate) fn read_log<D: Disk>(
+    alloc: Global,
+    disk: &mut D,
+    infohash: &Hash32,
+) -> Result<Contents, LogError>
+    ensures reads { Reads D.history D.honest D.faults infohash.now disk.old (hints_of result) disk.new }
+    ensures end { IfOk result (λ contents. contents.end ≡ log_length contents.hints.items) }
+    ensures within { IfOk result (λ contents. contents.end ≤ max_log_length) }
+{
+    let Ok(len) = disk.len() else {
+        return Err(LogError::Device);
+    };
+    read_contents(alloc, disk, infohash, len)
+}
+
+/// Opens the log of a torrent: an empty device is given a header, which is synced, and any other is read.
+pub(crate) fn open_log<D: Disk>(
+    alloc: Global,
+    disk: &mut D,
+    infohash: &Hash32,
+) -> Result<Contents, LogError>
+    ensures opens { Opens D.history D.honest D.faults infohash.now disk.old (hints_of result) disk.new }
+    ensures end { IfOk result (λ contents. contents.end ≡ log_length contents.hints.items) }
+    ensures within { IfOk result (λ contents. contents.end ≤ max_log_length) }
+{
+    let Ok(len) = disk.len() else {
+        return Err(LogError::Device);
+    };
+    if len > 0 {
+        return read_contents(alloc, disk, infohash, len);
+    }
+    make_log(disk, infohash)?;
+    Ok(Contents {
+        hints: Vec::new(alloc),
+        end: HEADER_LEN as u64,
+    })
+}
+
+/// Gives an empty device the header of the torrent's log, and syncs it.
+fn make_log<D: Disk>(disk: &mut D, infohash: &Hash32) -> Result<(), LogError>
+    ensures { IsMade D.history D.honest D.faults infohash.now disk.old result disk.new }
+{
+    let Ok(()) = disk.write_at(0, &header(infohash)) else {
+        return Err(LogError::Device);
+    };
+    let Ok(()) = disk.sync() else {
+        return Err(LogError::Device);
+    };
+    Ok(())
+}

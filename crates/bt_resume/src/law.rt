@@ -1,0 +1,37 @@
+//! What hints that were spelled are read as, and what a crash leaves of a log. The functions do nothing when
+//! they run.
+ghost use Rattle.bt_resume.specs.Law.{SpellsOneHint, AreReadBack, HasOneReading, AreReadFirst, KeptLogsOpen, AttachKeeps, ReloadKeeps, AppendKeeps, FlushKeeps, AttachHolds, ReloadHolds, AppendHolds, FlushHolds};
+
+use bt_disk::Disk;
+
+/// Hints that were spelled are read back: no spelling begins another, bytes are read in one way, and what lies
+/// behind the last whole hint does not matter.
+pub fn hints_are_read_back()
+    ensures one { SpellsOneHint }
+    ensures back { AreReadBack }
+    ensures reading { HasOneReading }
+    ensures first { AreReadFirst }
+{}
+
+/// Bytes that begin with a torrent's header and hints are opened as its log, and its hints begin with these.
+pub fn kept_logs_open()
+    ensures { KeptLogsOpen }
+{}
+
+/// What every image since a moment begins with, every image goes on to begin with, through each call of a
+/// log on an honest device, and at each moment within it.
+pub fn logs_keep_hints<D: Disk>()
+    ensures attach { AttachKeeps D.history D.honest D.faults }
+    ensures reload { ReloadKeeps D.history D.honest D.faults }
+    ensures append { AppendKeeps D.history D.honest D.faults }
+    ensures flush { FlushKeeps D.history D.honest D.faults }
+{}
+
+/// Which hints the device of a log holds where the next one is due, after each call of a log on an honest
+/// device. Once a flush succeeded, each later image begins with those that were read or appended until then.
+pub fn logs_hold_hints<D: Disk>()
+    ensures attach { AttachHolds D.history D.honest D.faults }
+    ensures reload { ReloadHolds D.history D.honest D.faults }
+    ensures append { AppendHolds D.history D.honest D.faults }
+    ensures flush { FlushHolds D.history D.honest D.faults }
+{}

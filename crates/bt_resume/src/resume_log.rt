@@ -1,0 +1,167 @@
+ghost use Rattle.std.specs.Prelude.{◌≡◌, IfOk, IfErr, Err};
+ghost use Rattle.bt_resume.specs.Hint.{CanBeRead};
+ghost use Rattle.bt_resume.specs.ResumeLog.{IsAttached, Opens, IsReloaded, IsAppended, IsFlushed};
+
+use crate::contents::{Contents, MAX_LOG_LEN, open_log, read_log};
+use crate::error::{AppendError, LogError, Refused};
+use crate::hint::Hint;
+use crate::writer::{MAX_HINT_LEN, write_hint};
+use bt_disk::{DeviceFault, Disk};
+use bt_tree::Hash32;
+use std::alloc::Global;
+use std::marker::Model;
+
+/// A log of hints on a device.
+///
+/// It begins with 40 bytes, `btseed-1` and the torrent's infohash; behind them lies one hint after the
+/// other. The first bytes that are no hint, and all behind them, are ignored and later written over. No
+/// checksum is needed, since a hint is never trusted. The format is this project's own.
+///
+/// Only `attach` and `reload` take memory: in proportion to the hints that are read.
+#[derive(Drop)]
+pub struct ResumeLog<D: Disk + Drop> {
+    alloc: Global,
+    disk: D,
+    infohash: Hash32,
+    hints: Vec<Hint>,
+    /// Where the next hint is written.
+    end: u64,
+    /// Where the log ended at the last flush or reading that succeeded.
+    kept: u64,
+}
+
+impl<D: Disk + Drop> Model for ResumeLog<D> {
+    ghost use Rattle.std.specs.Prelude.{◌≤◌};
+    ghost use Rattle.bt_resume.specs.Limits.{max_log_length};
+    ghost use Rattle.bt_resume.specs.ResumeLog.{LogView};
+
+    ghost Value = { LogView D };
+
+    ghost view = { λ a. record {
+      disk = a.disk;
+      infohash = a.infohash;
+      hints = a.hints.items;
+      end = a.end;
+      kept = a.kept;
+    } };
+
+    ghost invariant = { λ a. (a.end ≤ max_log_length) × (a.kept ≤ a.end) };
+}
+
+impl<D: Disk + Drop> ResumeLog<D> {
+    /// Opens the log of a torrent, by its infohash. A device without bytes gets a header, which is written
+    /// and synced. The device is given back with a refusal; after `Device` the header may stand there, whole
+    /// or in part.
+    ///
+    /// Errors, in this order: `TooLong` where the device has more than 2^40 bytes, before any is read;
+    /// `OtherTorrent` where it is not empty and does not begin with the header; `OutOfMemory`. `Device`,
+    /// where one of its calls failed, may stand in place of each.
+    pub fn attach(
+        alloc: Global,
+        mut disk: D,
+        infohash: Hash32,
+    ) -> Result<ResumeLog<D>, Refused<D, LogError>>
+        ensures log { IfOk result (IsAttached D.history D.honest D.faults infohash disk) }
+        ensures refused { IfErr result (λ refused. Opens D.history D.honest D.faults infohash disk
+            (Err refused.cause) refused.disk) }
+    {
+        match open_log(alloc, &mut disk, &infohash) {
+            Ok(contents) => {
+                let Contents { hints, end } = contents;
+                Ok(ResumeLog {
+                    alloc,
+                    disk,
+                    infohash,
+                    hints,
+                    end,
+                    kept: end,
+                })
+            }
+            Err(cause) => Err(Refused { disk, cause }),
+        }
+    }
+
+    /// Whose torrent's log it is.
+    pub fn infohash(&self) -> Hash32
+        ensures { result ≡ self.now.infohash }
+    {
+        self.infohash
+    }
+
+    /// The hints, in order, as they were last read from the device: without those that were appended since.
+    pub fn hints(&self) -> &[Hint]
+        ensures { result.now ≡ self.now.hints }
+    {
+        self.hints.as_slice()
+    }
+
+    /// The device.
+    pub fn disk(&self) -> &D
+        ensures { result.now ≡ self.now.disk }
+    {
+        &self.disk
+    }
+
+    /// Gives the device back, as it stands.
+    pub fn into_disk(self) -> D
+        ensures { result ≡ self.disk }
+    {
+        let ResumeLog { disk, .. } = self;
+        disk
+    }
+
+    /// Reads the device again. Nothing is written to it.
+    ///
+    /// Errors: as `attach`, but that a device without bytes is `OtherTorrent`. They leave the hints as they
+    /// were, and what was appended is not forgotten.
+    pub fn reload(&mut self) -> Result<(), LogError>
+        ensures { IsReloaded D.history D.honest D.faults self.old result self.new }
+    {
+        let contents = read_log(self.alloc, &mut self.disk, &self.infohash)?;
+        let Contents { hints, end } = contents;
+        self.hints = hints;
+        self.end = end;
+        self.kept = end;
+        Ok(())
+    }
+
+    /// Writes a hint that can be read back behind the last one, by one call of the device. Takes no memory.
+    ///
+    /// Errors: `Full` only where the log would get longer than 2^40 bytes, and then nothing is written;
+    /// `Device`. After both, what was appended since the last good flush or reading is forgotten: it is to
+    /// be appended again.
+    pub fn append(&mut self, hint: &Hint) -> Result<(), AppendError>
+        requires { CanBeRead hint.now }
+        ensures { IsAppended D.history D.honest D.faults hint.now self.old result self.new }
+    {
+        let mut spelling = [0; MAX_HINT_LEN];
+        let len = write_hint(hint, &mut spelling);
+        let end = self.end + len as u64;
+        if end > MAX_LOG_LEN {
+            self.end = self.kept;
+            return Err(AppendError::Full);
+        }
+        let Ok(()) = self.disk.write_at(self.end, &spelling[..len]) else {
+            self.end = self.kept;
+            return Err(AppendError::Device);
+        };
+        self.end = end;
+        Ok(())
+    }
+
+    /// Syncs the device, by one call: then a crash leaves all hints that were read or appended until now.
+    /// Takes no memory.
+    ///
+    /// After a fault, what was appended since the last good flush or reading is forgotten: it is to be
+    /// appended again.
+    pub fn flush(&mut self) -> Result<(), DeviceFault>
+        ensures { IsFlushed D.history D.honest D.faults self.old result self.new }
+    {
+        let result = self.disk.sync();
+        match result {
+            Ok(()) => self.kept = self.end,
+            Err(_) => self.end = self.kept,
+        }
+        result
+    }
+}
