@@ -292,10 +292,8 @@ fn sizes_of_each_kind(rt: HostRuntime) -> Result<(), Fail> {
 
 #[test]
 fn a_length_that_does_not_fit_shows_with_its_kind(rt: HostRuntime) -> Result<(), Fail> {
-    let alloc = rt.alloc();
-    let stream = greeted(alloc, &[0, 0, 0, 99, 4])?;
-    says(&rt, alloc, &[&stream[..stream.len() - 1]], "hello;")?;
-    says(&rt, alloc, &[&stream], "hello;W3 BadLength;")
+    stream_says(&rt, rt.alloc(), &[0, 0, 0, 99], "hello;")?;
+    stream_says(&rt, rt.alloc(), &[0, 0, 0, 99, 4], "hello;W3 BadLength;")
 }
 
 /// A frame of an unknown kind is skipped, and the message behind it is read.
