@@ -75,7 +75,8 @@ module _ {D : Type 0} (history : D → History) (honest : D → Type 0) (faults 
 
   abbrev pub ReloadKeeps : Type 0
   ReloadKeeps = (old new : LogView D) (result : Result ⊤ LogError) (t : ℕ) (hints : List Hint)
-      → length old.infohash ≡ digest_length → honest old.disk → IsReloaded history honest faults old result new
+      → length old.infohash ≡ digest_length → honest old.disk
+      → IsReloaded history honest faults old result new
       → AreKeptSince (history old.disk) t old.infohash hints
       → AreKeptSince (history new.disk) t old.infohash hints
 
@@ -111,7 +112,8 @@ module _ {D : Type 0} (history : D → History) (honest : D → Type 0) (faults 
 
   -- and from a flush that succeeded on, whatever a crash leaves begins with them
   abbrev pub FlushHolds : Type 0
-  FlushHolds = (old new : LogView D) (result : Result ⊤ DeviceFault) (kept hints : List Hint) → honest old.disk
+  FlushHolds = (old new : LogView D) (result : Result ⊤ DeviceFault) (kept hints : List Hint)
+      → honest old.disk
       → IsFlushed history honest faults old result new → Holds old kept hints
       → MatchResult result
       (λ _. Holds new hints hints
