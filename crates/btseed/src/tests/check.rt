@@ -131,12 +131,12 @@ pub fn many_blocks(alloc: Global) -> Result<Vec<u8>, AllocError> {
 
 /// Checks the file of 65 blocks, by pieces of a length of which the last has one block. So many blocks are
 /// right where a byte of the tenth is changed, and where the last 48,577 bytes are missing.
-fn expect_groups(
+fn expect_groups<'a>(
     rt: &HostRuntime,
-    make: &str,
-    infohash: &str,
-    changed: &str,
-    cut: &str,
+    make: &'a str,
+    infohash: &'a str,
+    changed: &'a str,
+    cut: &'a str,
 ) -> Result<(), Fail> {
     let file = many_blocks(rt.alloc())?;
     let steps = [
