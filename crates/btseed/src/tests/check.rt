@@ -129,48 +129,59 @@ pub fn many_blocks(alloc: Global) -> Result<Vec<u8>, AllocError> {
     Ok(file)
 }
 
-/// Checks the file of 65 blocks, by pieces of a length of which the last has one block. So many blocks are
-/// right where a byte of the tenth is changed, and where the last 48,577 bytes are missing.
-fn expect_groups<'a>(
-    rt: &HostRuntime,
-    make: &'a str,
-    infohash: &'a str,
-    changed: &'a str,
-    cut: &'a str,
-) -> Result<(), Fail> {
+/// Checks the file of 65 blocks by pieces of one: the last 48,577 bytes are missing, a byte of the tenth block is
+/// changed.
+fn pieces_of_a_block_are_checked(rt: &HostRuntime) -> Result<(), Fail> {
     let file = many_blocks(rt.alloc())?;
+    let infohash = "infohash 463665545d66181aec42a42f2aa6b29201db2c78da8eab011f80ac22b784ac89\n";
     let steps = [
         Step::Folder("files"),
         Step::File("files/f", &file),
-        Step::Run(make, 0, infohash),
+        Step::Run(
+            "make @/files @/t --name n --piece-length 16384",
+            0,
+            infohash,
+        ),
         Step::Run(CHECK, 0, "complete f\ncomplete\n"),
         Step::File("files/f", front(&file, 1048576)),
         Step::Run(CHECK, 1, "64 of 65 f\nnot complete\n"),
         Step::File("files/f", front(&file, 1000000)),
-        Step::Run(CHECK, 1, cut),
+        Step::Run(CHECK, 1, "61 of 65 f\nnot complete\n"),
         Step::File("files/f", &file),
         Step::Change("files/f", 150000),
-        Step::Run(CHECK, 1, changed),
+        Step::Run(CHECK, 1, "64 of 65 f\nnot complete\n"),
+    ];
+    play(rt, "groups", &steps)
+}
+
+/// The same by pieces of four blocks, of which the last one has one.
+fn pieces_of_four_blocks_are_checked(rt: &HostRuntime) -> Result<(), Fail> {
+    let file = many_blocks(rt.alloc())?;
+    let infohash = "infohash ffcab4449f81f7a86468ed327ca308e6069242744379daa035f4c9f8ecbf17f8\n";
+    let steps = [
+        Step::Folder("files"),
+        Step::File("files/f", &file),
+        Step::Run(
+            "make @/files @/t --name n --piece-length 65536",
+            0,
+            infohash,
+        ),
+        Step::Run(CHECK, 0, "complete f\ncomplete\n"),
+        Step::File("files/f", front(&file, 1048576)),
+        Step::Run(CHECK, 1, "64 of 65 f\nnot complete\n"),
+        Step::File("files/f", front(&file, 1000000)),
+        Step::Run(CHECK, 1, "60 of 65 f\nnot complete\n"),
+        Step::File("files/f", &file),
+        Step::Change("files/f", 150000),
+        Step::Run(CHECK, 1, "61 of 65 f\nnot complete\n"),
     ];
     play(rt, "groups", &steps)
 }
 
 #[test]
 fn groups_of_blocks_are_checked(rt: HostRuntime) -> Result<(), Fail> {
-    expect_groups(
-        &rt,
-        "make @/files @/t --name n --piece-length 16384",
-        "infohash 463665545d66181aec42a42f2aa6b29201db2c78da8eab011f80ac22b784ac89\n",
-        "64 of 65 f\nnot complete\n",
-        "61 of 65 f\nnot complete\n",
-    )?;
-    expect_groups(
-        &rt,
-        "make @/files @/t --name n --piece-length 65536",
-        "infohash ffcab4449f81f7a86468ed327ca308e6069242744379daa035f4c9f8ecbf17f8\n",
-        "61 of 65 f\nnot complete\n",
-        "60 of 65 f\nnot complete\n",
-    )
+    pieces_of_a_block_are_checked(&rt)?;
+    pieces_of_four_blocks_are_checked(&rt)
 }
 
 #[test]
