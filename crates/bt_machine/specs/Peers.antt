@@ -11,7 +11,8 @@ use Rattle.bt_machine.specs.declared.error.ConnectError.{ConnectError}
 use Rattle.bt_machine.specs.declared.error.ConnectError.TheVariants.{Full, SerialsSpent, OutOfMemory as no_room}
 use Rattle.bt_machine.specs.declared.error.EngineError.{EngineError}
 use Rattle.bt_machine.specs.declared.error.EngineError.TheVariants.{NoPeer, OutOfMemory}
-use Rattle.bt_machine.specs.State.{Idle, PeerState, EngineState}
+use Rattle.bt_machine.specs.declared.hash_state.HashState.TheVariants.{Idle}
+use Rattle.bt_machine.specs.State.{PeerState, EngineState}
 use Rattle.bt_machine.specs.Blocks.{piece_numbers, is_whole, with_peer}
 use Rattle.bt_machine.specs.WireEvents.{bits_in, bitfield_length}
 use Rattle.bt_machine.specs.Output.{Output, sent_to}
