@@ -9,9 +9,9 @@ mod hash_state;
 mod law;
 mod report;
 
-pub use answer::{Frame, Note, Why};
+pub use answer::{Frame, Note, Output, Why};
 pub use error::{AdoptError, ConnectError, EngineError, FlushError};
-pub use event::Event;
+pub use event::{Answer, Event};
 pub use hash_state::HashState;
 pub use law::{
     complete_files_are_published, proof_keys_are_answered, right_is_checked, run_keeps_images,
