@@ -24,3 +24,7 @@ pub mod Headline
 pub mod Crash
 pub mod Unmarks
 pub mod Survival
+pub mod DeviceLaw
+pub mod View
+-- what differs
+pub mod Changes

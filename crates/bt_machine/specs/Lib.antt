@@ -32,3 +32,6 @@ pub mod Unmarks
 pub mod Crash
 pub mod Survival
 pub mod Headline
+pub mod View
+pub mod DeviceLaw
+pub mod Changes
