@@ -3,17 +3,17 @@ use Rattle.std.specs.Prelude.{◌↔◌}
 use Rattle.std.specs.List.{list_all}
 use Rattle.std.proofs.lemmas.Bool.{cases_eq}
 use Rattle.bt_book.specs.Blocks.{IsBefore}
-use Rattle.bt_meta.specs.PieceBlocks.{HasBlock, ArePieceBlocks, IsOfRun, IsBlockRange}
+use Rattle.bt_meta.specs.PieceBlocks.{HasBlock, ArePieceBlocks, IsOfRun}
 use Rattle.bt_meta.specs.Law.{LiesInItsPiece, RunHasBlocks}
 use Rattle.bt_meta.specs.declared.piece_blocks.BlockRun.{BlockRun}
 use Rattle.bt_meta.specs.declared.piece_blocks.PieceRange.{PieceRange}
 use Rattle.bt_store.specs.BlockStates.{is_marked}
 use Rattle.bt_wire.specs.declared.message.Message.TheVariants.{Have}
 use Rattle.bt_tree.specs.TreeShape.{IsPieceLength}
-use Rattle.bt_machine.proofs.Base.{[], ◌≡◌, ◌≢◌, ℕ, zero, suc, ◌+◌, ◌*◌, ◌/◌, ◌%◌, ◌<◌, ◌≤◌, ◌⊎◌, inl, inr, Bool, true, false, not, ◌&&◌, List, ◌∷◌, length, map, Option, Some, refl, sym, ap, ◌∙◌, subst, arith, ◌==◌, eqb-true, eq-eqb, cases_lt, slice_get, Contains, All, AllPairs, AllPairs-filter, All-get_or, filter, flat_map, cond, option_map, option_map_or, option_and_then, range_with_len, Metainfo, File, IsLaidOut, total_pieces, block_length, block_count, BlockState, Missing, Waiting, Marked, None, BlockId}
+use Rattle.bt_machine.proofs.Base.{[], ◌≡◌, ℕ, zero, suc, ◌+◌, ◌*◌, ◌/◌, ◌%◌, ◌<◌, ◌≤◌, ◌⊎◌, inl, inr, Bool, true, false, not, ◌&&◌, List, ◌∷◌, length, map, Option, Some, refl, sym, ap, ◌∙◌, subst, arith, ◌==◌, eqb-true, eq-eqb, slice_get, Contains, All, AllPairs, AllPairs-filter, All-get_or, filter, flat_map, option_map, option_map_or, option_and_then, range_with_len, Metainfo, File, IsLaidOut, total_pieces, block_length, block_count, BlockState, Missing, Waiting, Marked, None, BlockId}
 use Rattle.bt_machine.proofs.Machine.{FileState, EngineState, block_id, file_numbers, state_at, IsShaped, sent_to}
-use Rattle.bt_machine.specs.Blocks.{states_of, piece_of, all_blocks, is_marked_in, is_in_piece, is_whole, is_complete, has_become, new_whole_pieces, piece_numbers}
-use Rattle.bt_machine.specs.Changes.{DifferAt, AreBlocks, ArePiecesOf, AreFilesOf, NewMarkedBlocksAreOfChanges, NewWholePiecesAreOfChanges, HavesAreOfChanges, NewCompleteFilesAreOfChanges, PieceIsWhole, RunIsWhole}
+use Rattle.bt_machine.specs.Blocks.{states_of, piece_of, all_blocks, is_marked_in, is_in_piece, is_whole, is_complete, has_become, piece_numbers}
+use Rattle.bt_machine.specs.Changes.{DifferAt, NewMarkedBlocksAreOfChanges, NewWholePiecesAreOfChanges, HavesAreOfChanges, NewCompleteFilesAreOfChanges, PieceIsWhole, RunIsWhole}
 use Rattle.bt_machine.proofs.Lists.{here, later, contains_none, contains_cases, contains_filter, filter_contains, contains_map, map_contains, contains_flat_map, flat_map_contains, range_limits, range_contains, and_true, some_below, get_some, some_is, map_some}
 use Rattle.bt_machine.proofs.Pairs.{Pairs, to_pairs, from_pairs, pairs_append, pairs_map}
 

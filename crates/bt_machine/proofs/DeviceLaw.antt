@@ -2,11 +2,10 @@
 use Rattle.std.specs.Prelude.{◌↔◌}
 use Rattle.std.proofs.lemmas.Bool.{cases_eq}
 use Rattle.std.proofs.lemmas.List.{map-append}
-use Rattle.bt_disk.specs.Calls.{HasCalls, IsAnswered, count_after_call, count_after_calls}
-use Rattle.bt_machine.proofs.Base.{[], ◌≡◌, ◌≢◌, ℕ, ◌⊎◌, inl, inr, Bool, true, false, List, ◌∷◌, ◌++◌, length, map, Option, Some, None, refl, sym, ap, ◌∙◌, subst, arith, slice_get, slice_set, filter, filter-append, ◌==◌, eqb-true, eq-eqb, length-set, Contains, Contains-append_cases, Call, History, AreAnswered}
+use Rattle.bt_disk.specs.Calls.{HasCalls, count_after_call, count_after_calls}
+use Rattle.bt_machine.proofs.Base.{[], ◌≡◌, ◌≢◌, ℕ, inl, inr, Bool, true, false, List, ◌∷◌, ◌++◌, length, map, Option, Some, None, refl, sym, ap, ◌∙◌, subst, arith, slice_get, slice_set, filter, filter-append, ◌==◌, eqb-true, eq-eqb, length-set, Contains-append_cases, Call, History, AreAnswered}
 use Rattle.bt_machine.proofs.Machine.{DeviceCalls, calls_at, calls_of}
 use Rattle.bt_machine.proofs.Lists.{contains_none, contains_map, set_other, set_same, some_below, get_some}
-use Rattle.bt_machine.specs.Devices.{HaveCalls}
 use Rattle.bt_machine.specs.DeviceLaw.{NoCallsLead, CallsOfOneLead, CallsCompose}
 
 -- ---- one device

@@ -1,6 +1,6 @@
 -- A complete file on an honest device is the published one.
 use Rattle.bt_machine.proofs.Base.{[], ◌≡◌, ℕ, suc, ◌<◌, List, ◌∷◌, length, take, replicate, Option, Some, sym, ap, ◌∙◌, slice_get, History, block_count, file_root, IsDigest, same_or_clash, File, Metainfo, Facts, Missing, Marked}
-use Rattle.bt_machine.proofs.Machine.{Digest, FileState, EngineState, Starts, Step, Run, HasFile, IsSound, RunOn, IsPublished, CompleteFilesArePublished}
+use Rattle.bt_machine.proofs.Machine.{Digest, FileState, EngineState, Starts, Step, Run, HasFile, IsSound, IsPublished, CompleteFilesArePublished}
 use Rattle.bt_machine.proofs.Lists.{get_some, some_below}
 use Rattle.bt_machine.proofs.Rooted.{run_rooted}
 use Rattle.bt_machine.proofs.Start.{start_rooted}

@@ -28,3 +28,5 @@ pub mod DeviceLaw
 pub mod View
 -- what differs
 pub mod Changes
+-- what can be written
+pub mod Frames

@@ -1,6 +1,6 @@
 -- What is sent of blocks.
 use Rattle.bt_machine.proofs.Base.{[], ◌≡◌, ℕ, inl, inr, Bool, true, false, List, ◌∷◌, ◌++◌, map, Some, Result, Ok, Err, refl, sym, ap, ◌∙◌, subst, Contains, Contains-append_cases, IsPlace, Span, Facts, given, call_of, IsRight, StoreError, DeviceFault, Put, Wrong, PutMarked, PutWaiting, PeerKey, Ask, PeerMessage, Have, Bitfield, Request, Piece, HashRequest, Hashes, WireEvent, Hello, Message, Skipped}
-use Rattle.bt_machine.proofs.Machine.{Digest, Frame, hello_frame, message_frame, Connect, Next, Rechoke, PeerState, EngineState, DeviceCalls, tree_of, spanned_blocks, cut_from, Sent, Effect, sent_to, haves, Serves, FindsFault, damaged, fault, HandlesRequest, ignored, no_place, not_marked, served, stopped, HasPutEffect, HandlesPiece, stale, arrives, HandlesHashRequest, answered, rejected, HandlesHashes, unknown_root, no_claim, refused, accepts_hashes, HandlesHello, ours, other, HandlesHave, in_range, out_of_range, HandlesBitfield, right, wrong, HandlesMessage, Handles, FollowsUp, interest_sent, RequestsHashes, requests, rests, RequestsEach, IsPeer, TakesEvent, StepNext, no_peer, waits, keeps_peer, closes, faulty, no_memory, new_peer, StepConnect, joins, full, spent, no_room, FollowsEach, StepRechoke, rechokes, not_rechoked, choking_sent, is_served, Connected, Stepped, Rechoked, Step, Run, sent_by, StepSendsReadBytes, IsServed, IsSoAt}
+use Rattle.bt_machine.proofs.Machine.{Digest, Frame, hello_frame, message_frame, Connect, Next, Rechoke, PeerState, EngineState, DeviceCalls, tree_of, spanned_blocks, cut_from, Sent, Effect, sent_to, haves, Serves, FindsFault, damaged, fault, HandlesRequest, ignored, no_place, not_marked, served, stopped, HasPutEffect, HandlesPiece, stale, arrives, HandlesHashRequest, answered, rejected, HandlesHashes, unknown_root, no_claim, refused, accepts_hashes, HandlesHello, ours, other, HandlesHave, in_range, out_of_range, HandlesBitfield, right, wrong, HandlesMessage, Handles, FollowsUp, interest_sent, RequestsHashes, requests, rests, RequestsEach, IsPeer, TakesEvent, StepNext, no_peer, waits, keeps_peer, closes, faulty, no_memory, new_peer, StepConnect, joins, full, spent, no_room, FollowsEach, StepRechoke, rechokes, not_rechoked, choking_sent, is_served, Connected, Stepped, Rechoked, Run, sent_by, StepSendsReadBytes, IsServed, IsSoAt}
 use Rattle.bt_machine.proofs.Marking.{after_step, at_first}
 use Rattle.bt_machine.proofs.Lists.{contains_none, contains_cases, contains_map, contains_flat_map, map_contains}
 

@@ -1,6 +1,6 @@
 -- Lists of events of an engine with its devices, put together.
-use Rattle.bt_machine.proofs.Base.{[], ◌≡◌, ℕ, List, ◌∷◌, ◌++◌, Option, refl, sym, subst, History}
-use Rattle.bt_machine.proofs.Machine.{EngineState, DeviceCalls, RunOn, Run, Event, Answer}
+use Rattle.bt_machine.proofs.Base.{[], ℕ, List, ◌∷◌, ◌++◌, Option, refl, subst, History}
+use Rattle.bt_machine.proofs.Machine.{EngineState, DeviceCalls, RunOn, Event, Answer}
 use Rattle.bt_machine.specs.View.{NoEventsRun, OneMoreEventRuns, RunsCompose, RunsAreRuns}
 
 module _ {D : Type 0} (history : D → History) (honest : D → Type 0) (faults : D → ℕ) (dig : List ℕ → List ℕ) where

@@ -35,3 +35,4 @@ pub mod Headline
 pub mod View
 pub mod DeviceLaw
 pub mod Changes
+pub mod Frames

@@ -61,9 +61,10 @@ pub record Starts (dig : List ℕ → List ℕ) (torrent : Metainfo) (new : Engi
 abbrev pub device_count : List File → ℕ
 device_count files = count_by (λ file. nat_lt 0 file.length) files
 
--- Each file that has a byte has one of the devices, and an empty file none. They are handed out in the order of
--- files, as they are: no call is made of them.
-pub record AreDevicesOf {D : Type 0} (files : List File) (given : List D) (disks : List (Option D)) : Type 0 where
+-- Each file that has a byte has one of the devices, and an empty file none. They are handed out in the order
+-- of files, as they are: no call is made of them.
+pub record AreDevicesOf {D : Type 0} (files : List File) (given : List D) (disks : List (Option D))
+    : Type 0 where
   pub count : length disks ≡ length files
   pub empty : (i : ℕ) (file : File) → slice_get files i ≡ Some file
       → (slice_get disks i ≡ Some None) ↔ (file.length ≡ 0)
@@ -72,8 +73,9 @@ pub record AreDevicesOf {D : Type 0} (files : List File) (given : List D) (disks
 -- An engine is started with these devices; or it is not, and they are handed back.
 pub data AnswersStart {D : Type 0} (dig : List ℕ → List ℕ) (torrent : Metainfo) (given : List D)
     (answer : Result (EngineView D) (StartRefused D)) : Type 0 where
-  starts : (engine : EngineView D) → Starts dig torrent engine.state → AreDevicesOf torrent.files given engine.disks
-      → answer ≡ Ok engine → AnswersStart dig torrent given answer
+  starts : (engine : EngineView D) → Starts dig torrent engine.state
+      → AreDevicesOf torrent.files given engine.disks → answer ≡ Ok engine
+      → AnswersStart dig torrent given answer
   other_count : (refused : StartRefused D) → length given ≢ device_count torrent.files → answer ≡ Err refused
       → refused.cause ≡ DiskCount → refused.disks.items ≡ given → AnswersStart dig torrent given answer
   no_memory : (refused : StartRefused D) → length given ≡ device_count torrent.files → answer ≡ Err refused

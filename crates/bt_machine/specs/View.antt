@@ -1,5 +1,5 @@
 -- An engine with its devices, and the events that happen to it.
-use Rattle.std.specs.Prelude.{[], ◌≡◌, ℕ, List, ◌∷◌, ◌++◌, Option}
+use Rattle.std.specs.Prelude.{[], ℕ, List, ◌∷◌, ◌++◌, Option}
 use Rattle.bt_disk.specs.History.{History}
 use Rattle.bt_machine.specs.declared.event.Event.{Event}
 use Rattle.bt_machine.specs.declared.event.Answer.{Answer}
@@ -31,7 +31,8 @@ NoEventsRun {D} history honest faults dig = (engine : EngineView D)
     → RunsTo history honest faults dig engine [] [] engine
 
 -- events and one more are a list of events
-abbrev pub OneMoreEventRuns : {D : Type 0} → (D → History) → (D → Type 0) → (D → ℕ) → (List ℕ → List ℕ) → Type 0
+abbrev pub OneMoreEventRuns : {D : Type 0} → (D → History) → (D → Type 0) → (D → ℕ) → (List ℕ → List ℕ)
+    → Type 0
 OneMoreEventRuns {D} history honest faults dig = (old mid new : EngineView D) (events : List Event)
     (answers : List Answer) (event : Event) (answer : Answer)
     → RunsTo history honest faults dig old events answers mid

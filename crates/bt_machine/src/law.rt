@@ -6,6 +6,7 @@ ghost use Rattle.bt_machine.specs.Survival.{RunsKeepFlushedBlocks, RunKeepsImage
 ghost use Rattle.bt_machine.specs.Orderly.{RunsAreOrderly};
 ghost use Rattle.bt_machine.specs.Shape.{RunsKeepShape};
 ghost use Rattle.bt_machine.specs.ProofKeys.{ProofKeysAreAnswered};
+ghost use Rattle.bt_machine.specs.Frames.{StepSendsWhatFits};
 ghost use Rattle.bt_machine.specs.Changes.{NewMarkedBlocksAreOfChanges, NewWholePiecesAreOfChanges, HavesAreOfChanges, NewCompleteFilesAreOfChanges, PieceIsWhole, RunIsWhole};
 ghost use Rattle.bt_machine.specs.DeviceLaw.{NoCallsLead, CallsOfOneLead, CallsCompose};
 ghost use Rattle.bt_machine.specs.View.{NoEventsRun, OneMoreEventRuns, RunsCompose, RunsAreRuns};
@@ -129,4 +130,10 @@ pub fn runs_compose<D: Disk, H: NodeHash>(_disk: &D, _hash: H)
     ensures one_more { OneMoreEventRuns D.history D.honest D.faults H.digest }
     ensures both { RunsCompose D.history D.honest D.faults H.digest }
     ensures are_runs { RunsAreRuns D.history D.honest D.faults H.digest }
+{}
+
+/// Where an engine has the files and trees of a lawful torrent, each tree with digests of 32 bytes, each
+/// frame that an event sends fits and can be written.
+pub fn step_sends_what_fits<H: NodeHash>(_hash: H)
+    ensures { StepSendsWhatFits H.digest }
 {}

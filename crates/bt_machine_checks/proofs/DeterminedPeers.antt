@@ -1,5 +1,5 @@
 -- What is left to an engine where peers come and go, bytes come, peers are chosen, and devices are synced.
-use Rattle.bt_machine_checks.proofs.Base.{[], ◌≡◌, ◌≢◌, ℕ, zero, suc, ◌+◌, ◌*◌, ◌/◌, ◌%◌, ◌<◌, false, List, ◌∷◌, ◌++◌, length, get_or, Option, Some, None, Result, Ok, Err, alloc_error, refl, sym, ap, ◌∙◌, subst, arith, ◌==◌, All, Contains, range_with_len, Contains-append_right, sync_made, sync_fault, IsLaidOut, same_peer}
+use Rattle.bt_machine_checks.proofs.Base.{[], ◌≡◌, ◌≢◌, ℕ, zero, suc, ◌+◌, ◌*◌, ◌/◌, ◌%◌, ◌<◌, false, List, ◌∷◌, ◌++◌, length, get_or, None, Result, Ok, Err, alloc_error, refl, sym, ap, ◌∙◌, subst, arith, ◌==◌, All, Contains, range_with_len, Contains-append_right, sync_made, sync_fault, IsLaidOut, same_peer}
 use Rattle.bt_machine_checks.proofs.Machine.{Digest, no_room_to_connect, EngineState, Sent, Output, bits_of, bits_in, without_peer, IsOurBitfield, StepConnect, joins, full, spent, no_room as no_memory, StepFeed, feeds, not_fed, no_room as no_room_to_feed, StepLost, goes, not_fed as not_lost, chokes_sent, rechoked, StepRechoke, rechokes, not_rechoked, data_files, syncs_of, StepFlush, syncs, fails, IsOrderly, Answer, Connected, Fed, LostAnswer, Rechoked, Flushed, sent_by, other_frames}
 use Rattle.std.specs.declared.alloc.AllocError.{AllocError}
 use Rattle.bt_machine.specs.declared.error.EngineError.TheVariants.{OutOfMemory}

@@ -1,5 +1,5 @@
 -- What is left to an engine: which blocks it requests, and nothing else.
-use Rattle.std.specs.Prelude.{[], ◌≡◌, ◌⊎◌, Bool, true, false, not, ℕ, List, map, filter, Some, None, Ok, Err, All}
+use Rattle.std.specs.Prelude.{[], ◌≡◌, ◌⊎◌, Bool, true, false, not, ℕ, List, map, filter, Some, Ok, Err, All}
 use Rattle.bt_meta.specs.Torrent.{Metainfo, IsLawful}
 use Rattle.bt_store.specs.declared.block_states.BlockState.TheVariants.{Missing}
 use Rattle.bt_book.specs.declared.names.BlockId.{BlockId}
