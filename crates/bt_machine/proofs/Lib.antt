@@ -4,6 +4,7 @@ pub mod Lists
 pub mod Pairs
 pub mod Places
 -- trees
+pub mod Digests
 pub mod Rooted
 pub mod Start
 -- marks

@@ -10,7 +10,8 @@ use Rattle.bt_machine.specs.declared.event.Answer.{Answer}
 use Rattle.bt_machine.specs.State.{EngineState}
 use Rattle.bt_machine.specs.Devices.{DeviceCalls}
 use Rattle.bt_machine.specs.Output.{Sent}
-use Rattle.bt_machine.specs.Step.{Step}
+use Rattle.bt_machine.specs.Start.{Starts}
+use Rattle.bt_machine.specs.Step.{Step, Run}
 use Rattle.bt_machine.specs.Shape.{IsShaped}
 use Rattle.bt_machine.specs.Law.{sent_by}
 
@@ -27,4 +28,12 @@ abbrev pub StepSendsWhatFits : (List ℕ → List ℕ) → Type 0
 StepSendsWhatFits dig = (torrent : Metainfo) (old new : EngineState) (event : Event) (calls : DeviceCalls)
     (answer : Answer) → IsLawful torrent.piece_length torrent.files → IsShaped torrent old
     → AreSparseTrees dig old → Step dig old event calls answer new
+    → (sent : Sent) → Contains (sent_by answer) sent → CanBeWritten sent.1
+
+-- So it is of every event after any list of events from the start of a torrent.
+abbrev pub RunsSendWhatFits : (List ℕ → List ℕ) → Type 0
+RunsSendWhatFits dig = (torrent : Metainfo) (first last new : EngineState) (events : List Event)
+    (calls : List DeviceCalls) (answers : List Answer) (event : Event) (made : DeviceCalls) (answer : Answer)
+    → IsLawful torrent.piece_length torrent.files → Starts dig torrent first
+    → Run dig first events calls answers last → Step dig last event made answer new
     → (sent : Sent) → Contains (sent_by answer) sent → CanBeWritten sent.1

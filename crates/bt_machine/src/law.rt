@@ -6,7 +6,7 @@ ghost use Rattle.bt_machine.specs.Survival.{RunsKeepFlushedBlocks, RunKeepsImage
 ghost use Rattle.bt_machine.specs.Orderly.{RunsAreOrderly};
 ghost use Rattle.bt_machine.specs.Shape.{RunsKeepShape};
 ghost use Rattle.bt_machine.specs.ProofKeys.{ProofKeysAreAnswered};
-ghost use Rattle.bt_machine.specs.Frames.{StepSendsWhatFits};
+ghost use Rattle.bt_machine.specs.Frames.{StepSendsWhatFits, RunsSendWhatFits};
 ghost use Rattle.bt_machine.specs.Changes.{NewMarkedBlocksAreOfChanges, NewWholePiecesAreOfChanges, HavesAreOfChanges, NewCompleteFilesAreOfChanges, PieceIsWhole, RunIsWhole};
 ghost use Rattle.bt_machine.specs.DeviceLaw.{NoCallsLead, CallsOfOneLead, CallsCompose};
 ghost use Rattle.bt_machine.specs.View.{NoEventsRun, OneMoreEventRuns, RunsCompose, RunsAreRuns};
@@ -132,8 +132,9 @@ pub fn runs_compose<D: Disk, H: NodeHash>(_disk: &D, _hash: H)
     ensures are_runs { RunsAreRuns D.history D.honest D.faults H.digest }
 {}
 
-/// Where an engine has the files and trees of a lawful torrent, each tree with digests of 32 bytes, each
-/// frame that an event sends fits and can be written.
-pub fn step_sends_what_fits<H: NodeHash>(_hash: H)
-    ensures { StepSendsWhatFits H.digest }
+/// Each frame that an event sends fits and can be written: where an engine has the files and trees of a lawful
+/// torrent, each tree with digests of 32 bytes, and so after any list of events from the start of one.
+pub fn events_send_what_fits<H: NodeHash>(_hash: H)
+    ensures step { StepSendsWhatFits H.digest }
+    ensures runs { RunsSendWhatFits H.digest }
 {}
