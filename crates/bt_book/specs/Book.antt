@@ -121,7 +121,8 @@ HasNoneUnasked has book = (c : BlockId) → IsUnasked book c → has c false
 pub record AreFirstUnasked (has : BlockId → Bool) (book : BookState) (blocks : List BlockId) : Type 0 where
   pub held : All (λ b. has b ≡ true) blocks
   pub ascending : AllPairs IsBefore blocks
-  pub first : (c : BlockId) → IsUnasked book c → has c ≡ true → Contains blocks c ⊎ All (λ b. IsBefore b c) blocks
+  pub first : (c : BlockId) → IsUnasked book c → has c ≡ true
+      → Contains blocks c ⊎ All (λ b. IsBefore b c) blocks
 
 -- a test is true of a wanted block
 abbrev pub HasWanted : (BlockId → Bool) → BookState → Type 0

@@ -7,11 +7,13 @@ use Rattle.bt_book.specs.Book.{BookState, IsBook, IsJoined, IsPair, peers_of, pa
 
 -- a block counts in a list just where the list has it
 abbrev pub CountedBlocksAreContained : Type 0
-CountedBlocksAreContained = (b : BlockId) (blocks : List BlockId) → (0 < count_by (is_block b) blocks) ↔ Contains blocks b
+CountedBlocksAreContained =
+    (b : BlockId) (blocks : List BlockId) → (0 < count_by (is_block b) blocks) ↔ Contains blocks b
 
 -- a peer has joined just where it is one of the book's peers
 abbrev pub JoinedPeersAreContained : Type 0
-JoinedPeersAreContained = (book : BookState) (key : PeerKey) → IsJoined book key ↔ Contains (peers_of book) key
+JoinedPeersAreContained =
+    (book : BookState) (key : PeerKey) → IsJoined book key ↔ Contains (peers_of book) key
 
 -- a block is in no pair just where no peer is asked for it
 abbrev pub FreeBlocksAreAskedOfNobody : Type 0

@@ -162,8 +162,8 @@ impl Book {
 
     /// Asks a peer for the least wanted block of which `has` says that the peer has it and that no peer is
     /// asked for: the two are a pair from now on. None where there is no such block, where the peer is asked
-    /// for 16, and where it has not joined; nothing changes then. It asks `has` of each block that may be asked
-    /// before the one that it finds: `ask_next` leaps over what the peer lacks.
+    /// for 16, and where it has not joined; nothing changes then. It asks `has` of each block that may be
+    /// asked before the one that it finds: `ask_next` leaps over what the peer lacks.
     pub fn ask<F: Fn(BlockId) -> bool>(&mut self, peer: PeerKey, has: F) -> Option<BlockId>
         requires { (block : BlockId) → IsInRange self.old.wanted block → F.pre has block }
         ensures least { IfSome result (IsLeastUnasked (F.post has) self.old) }
@@ -219,9 +219,9 @@ impl Book {
         Some(block)
     }
 
-    /// Asks a peer for the least wanted blocks that the peer has and that no peer is asked for, until it is asked
-    /// for 16 or there is none left; gives these blocks, in ascending order. None where it has not joined. `next`
-    /// is as for `ask_next`.
+    /// Asks a peer for the least wanted blocks that the peer has and that no peer is asked for, until it is
+    /// asked for 16 or there is none left, and gives these blocks, in ascending order: none where it has not
+    /// joined. `next` is as for `ask_next`.
     pub fn ask_all<F: Fn(BlockId) -> Option<BlockId>>(
         &mut self,
         peer: PeerKey,
@@ -278,7 +278,8 @@ impl Book {
         self.peers[index].push(block);
     }
 
-    /// Whether a peer has a block that is wanted, also one that a peer is asked for. `next` is as for `ask_next`.
+    /// Whether a peer has a block that is wanted, also one that a peer is asked for. `next` is as for
+    /// `ask_next`.
     pub fn wants<F: Fn(BlockId) -> Option<BlockId>>(&self, next: F) -> bool
         requires { (block : BlockId) → IsInRange self.now.wanted block → F.pre next block }
         ensures yes { OnTrue result ((has : BlockId → Bool) → GivesFirst (F.post next) self.now.wanted has

@@ -55,11 +55,12 @@ NoCallsLead {D} history honest faults = (disk : D) → HasCalls history honest f
 -- One call leads to what it leaves: it is counted where it failed, keeps the device honest or not, and is
 -- answered as an honest device does.
 abbrev pub OneCallLeads : {D : Type 0} → (D → History) → (D → Type 0) → (D → ℕ) → Type 0
-OneCallLeads {D} history honest faults = (old : D) (call : Call) (new : D) → faults new ≡ count_after_call (faults old) call
+OneCallLeads {D} history honest faults = (old : D) (call : Call) (new : D)
+    → faults new ≡ count_after_call (faults old) call
     → honest old ↔ honest new → (honest old → IsAnswered (history old) call (history new))
     → HasCalls history honest faults old (call ∷ []) new
 
 -- calls and then others are these calls one after the other
 abbrev pub CallsCompose : {D : Type 0} → (D → History) → (D → Type 0) → (D → ℕ) → Type 0
-CallsCompose {D} history honest faults = (a b c : D) (xs ys : List Call) → HasCalls history honest faults a xs b
-    → HasCalls history honest faults b ys c → HasCalls history honest faults a (xs ++ ys) c
+CallsCompose {D} history honest faults = (a b c : D) (xs ys : List Call)
+    → HasCalls history honest faults a xs b → HasCalls history honest faults b ys c → HasCalls history honest faults a (xs ++ ys) c
