@@ -73,11 +73,6 @@ module _ (next : BlockId → Option BlockId → Type 0) {old : BookState} {key :
     pub peers_now : peers_of mid ≡ peers_of old
     peers_now = ap peers_of a.now ∙ keys_changed key (λ bs. bs ++ blocks) old.peers
 
-    joined_now : IsJoined mid key → IsJoined old key
-    joined_now joined =
-        let same = ap (λ (s : BookState). count_by (is_of key) s.peers) a.now ∙ joined_changed key key (λ bs. bs ++ blocks) old.peers in
-        omega arith
-
     joined_still : IsJoined old key → IsJoined mid key
     joined_still joined =
         let same = ap (λ (s : BookState). count_by (is_of key) s.peers) a.now ∙ joined_changed key key (λ bs. bs ++ blocks) old.peers in
