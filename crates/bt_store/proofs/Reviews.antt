@@ -1,4 +1,4 @@
--- Blocks that are read again, run by run.
+-- Blocks that are read again, batch by batch.
 use Rattle.std.proofs.Common.{◌≡◌, ◌≢◌, ℕ, zero, suc, ◌+◌, ◌-◌, ◌<◌, ◌≤◌, Bool, true, false, cond, List, [], ◌∷◌, ◌++◌, map, refl, sym, ap, ◌∙◌, subst, arith, append-nil, zero-add}
 use Rattle.std.specs.Prelude.{slice_get, slice_set, filter, is_some, ◌&&◌}
 use Rattle.std.specs.Option.{option_map_or}
@@ -95,7 +95,7 @@ past_kept dig k forgiving (read ∷ reads) states i (suc n) j blocks past =
     past_kept dig k forgiving reads (after_read dig k forgiving read states) (i + 1) n j rest (omega arith)
     ∙ read_kept dig k forgiving read states j (λ e. absurd (omega arith))
 
--- ---- from run to run
+-- ---- from batch to batch
 
 module _ {D : Type 0} (history : D → History) (honest : D → Type 0) (faults : D → ℕ) (dig : List ℕ → List ℕ) (k : Facts) where
   -- some blocks, and then others
@@ -164,11 +164,11 @@ module _ {D : Type 0} (history : D → History) (honest : D → Type 0) (faults 
         rest = λ j le. before.rest j (omega arith);
       }
 
-  pub reviewed_run : (review : Review) (from at n : ℕ) (a b c : StoreView D) (tally run total : Tally) (more : List BlockRead) → IsReviewedTo review from at a b tally
+  pub reviewed_batch : (review : Review) (from at n : ℕ) (a b c : StoreView D) (tally run total : Tally) (more : List BlockRead) → IsReviewedTo review from at a b tally
       → ((j : ℕ) → j < n → is_chosen dig k review b.states (at + j) ≡ true) → IsJudged history honest faults dig k (forgives review) (range_with_len at n) b more c
       → IsTallyOf dig k more run → tally_sum run ≡ n → total.right ≡ tally.right + run.right → total.wrong ≡ tally.wrong + run.wrong → total.faults ≡ tally.faults + run.faults
       → IsReviewedTo review from (at + n) a c total
-  reviewed_run review from at n a b c tally run total more before chosen judged counts sum right wrong faulty =
+  reviewed_batch review from at n a b c tally run total more before chosen judged counts sum right wrong faulty =
       let all : (j : ℕ) → j < n → is_chosen dig k review a.states (at + j) ≡ true = λ j lt.
       sym (same_choice dig k review b.states a.states (at + j) (before.rest (at + j) (omega arith))) ∙ chosen j lt in
       let blocks : chosen_blocks dig k review a.states from (at + n - from) ≡ chosen_blocks dig k review a.states from (at - from) ++ range_with_len at n =

@@ -5,13 +5,14 @@
 
 mod adoption;
 mod arrival;
+mod batches;
 mod block_states;
 mod error;
 mod file_store;
 mod groups;
 mod law;
 mod review;
-mod runs;
+
 mod single_block;
 
 pub use adoption::Adopted;

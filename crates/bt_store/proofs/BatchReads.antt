@@ -11,8 +11,8 @@ use Rattle.bt_disk.specs.History.{History}
 use Rattle.bt_disk.specs.Calls.{bytes_given, read_fault, HasCalls, IsAnswered, read_call}
 use Rattle.bt_disk.proofs.CallLists.{has_one, has_then, count_read}
 use Rattle.bt_store.specs.BlockReads.{given, failed, call_of}
-use Rattle.bt_store.specs.RunsSteps.{read_of, run_reads, finding_of}
-use Rattle.bt_store.specs.declared.runs.Finding.TheVariants.{Whole}
+use Rattle.bt_store.specs.BatchesSteps.{read_of, batch_reads, found_of}
+use Rattle.bt_store.specs.declared.batches.BlockFound.TheVariants.{Whole}
 
 -- a part before the one that is written stays
 part_kept : (a k : ℕ) (buffer out : List ℕ) (t : ℕ) → 16384 * t + 16384 ≤ a → a ≤ length buffer → block_at (put_mid a k buffer out) t ≡ block_at buffer t
@@ -30,22 +30,22 @@ part_written a k n t buffer out place inside few small =
 
 -- the reads are those of equal counts and parts
 reads_kept : (first : ℕ) (counts others : List (Option ℕ)) (buffer pasted : List ℕ) (j : ℕ) → ((t : ℕ) → t < j → get_or others t None ≡ get_or counts t None)
-    → ((t : ℕ) → t < j → block_at pasted t ≡ block_at buffer t) → run_reads first others pasted j ≡ run_reads first counts buffer j
-unfolding run_reads
+    → ((t : ℕ) → t < j → block_at pasted t ≡ block_at buffer t) → batch_reads first others pasted j ≡ batch_reads first counts buffer j
+unfolding batch_reads
 reads_kept first counts others buffer pasted zero same parts = refl
 reads_kept first counts others buffer pasted (suc j) same parts =
     let here : read_of (first + j) (get_or others j None) (block_at pasted j) ≡ read_of (first + j) (get_or counts j None) (block_at buffer j) =
     ap (λ c. read_of (first + j) c (block_at pasted j)) (same j (omega arith)) ∙ ap (read_of (first + j) (get_or counts j None)) (parts j (omega arith)) in
     ap (λ xs. xs ++ read_of (first + j) (get_or others j None) (block_at pasted j) ∷ []) (reads_kept first counts others buffer pasted j (λ t lt. same t (omega arith)) (λ t lt. parts t (omega arith)))
-    ∙ ap (λ x. run_reads first counts buffer j ++ x ∷ []) here
+    ∙ ap (λ x. batch_reads first counts buffer j ++ x ∷ []) here
 
-pub reads_none : (first : ℕ) (counts : List (Option ℕ)) (buffer : List ℕ) → run_reads first counts buffer 0 ≡ []
-unfolding run_reads
+pub reads_none : (first : ℕ) (counts : List (Option ℕ)) (buffer : List ℕ) → batch_reads first counts buffer 0 ≡ []
+unfolding batch_reads
 reads_none first counts buffer = refl
 
 pub reads_more : (first : ℕ) (counts : List (Option ℕ)) (buffer : List ℕ) (j : ℕ)
-    → run_reads first counts buffer (suc j) ≡ run_reads first counts buffer j ++ read_of (first + j) (get_or counts j None) (block_at buffer j) ∷ []
-unfolding run_reads
+    → batch_reads first counts buffer (suc j) ≡ batch_reads first counts buffer j ++ read_of (first + j) (get_or counts j None) (block_at buffer j) ∷ []
+unfolding batch_reads
 reads_more first counts buffer j = refl
 
 -- the call that a read is
@@ -62,33 +62,33 @@ written_by j k buffer out (Err e) inside small within = within
 
 -- one read more
 pub run_next : {D E : Type 0} (history : D → History) (honest : D → Type 0) (faults : D → ℕ) (n first j k : ℕ) (a b c : D) (counts : List (Option ℕ)) (buffer out : List ℕ) (r : Result ℕ E)
-    → HasCalls history honest faults a (map (call_of n) (run_reads first counts buffer j)) b → j < length counts → j * 16384 ≤ length buffer
+    → HasCalls history honest faults a (map (call_of n) (batch_reads first counts buffer j)) b → j < length counts → j * 16384 ≤ length buffer
     → length out ≡ block_length n (first + j) → IfOk r (λ count. count ≤ length out)
     → faults c ≡ count_after (faults b) r → honest b ↔ honest c → (honest b → IsAnswered (history b) (read_call (16384 * (first + j)) out r) (history c))
-    → HasCalls history honest faults a (map (call_of n) (run_reads first (set counts j (result_ok r)) (put_mid (j * 16384) k buffer out) (j + 1))) c
+    → HasCalls history honest faults a (map (call_of n) (batch_reads first (set counts j (result_ok r)) (put_mid (j * 16384) k buffer out) (j + 1))) c
 run_next history honest faults n first j k a b c counts buffer out r made in_counts in_buffer size within counted as_honest answered =
     let call = read_call (16384 * (first + j)) out r in
     let after = set counts j (result_ok r) in
     let pasted = put_mid (j * 16384) k buffer out in
     let one : HasCalls history honest faults b (call ∷ []) c =
     has_one history honest faults b call c (counted ∙ count_read (faults b) (16384 * (first + j)) out r) as_honest answered in
-    let both : HasCalls history honest faults a (map (call_of n) (run_reads first counts buffer j) ++ call ∷ []) c = has_then history honest faults a b c _ _ made one in
-    let kept : run_reads first after pasted j ≡ run_reads first counts buffer j =
+    let both : HasCalls history honest faults a (map (call_of n) (batch_reads first counts buffer j) ++ call ∷ []) c = has_then history honest faults a b c _ _ made one in
+    let kept : batch_reads first after pasted j ≡ batch_reads first counts buffer j =
     reads_kept first counts after buffer pasted j (λ t lt. get_or-set_other counts j t (result_ok r) None (λ e. absurd (omega arith)))
     (λ t lt. part_kept (j * 16384) k buffer out t (omega arith) in_buffer) in
     let here : get_or after j None ≡ result_ok r = get_or-set_same counts j (result_ok r) None in_counts in
     let same : call_of n (read_of (first + j) (get_or after j None) (block_at pasted j)) ≡ call =
     ap (λ count. call_of n (read_of (first + j) count (block_at pasted j))) here
     ∙ call_same n (first + j) (block_at pasted j) out r size (written_by j k buffer out r in_buffer (omega (arith, size)) within) in
-    let all : map (call_of n) (run_reads first after pasted (j + 1)) ≡ map (call_of n) (run_reads first counts buffer j) ++ call ∷ [] =
-    ap (λ m. map (call_of n) (run_reads first after pasted m)) (add-one j) ∙ ap (map (call_of n)) (reads_more first after pasted j) ∙ map-append (call_of n) _ _
+    let all : map (call_of n) (batch_reads first after pasted (j + 1)) ≡ map (call_of n) (batch_reads first counts buffer j) ++ call ∷ [] =
+    ap (λ m. map (call_of n) (batch_reads first after pasted m)) (add-one j) ∙ ap (map (call_of n)) (reads_more first after pasted j) ∙ map-append (call_of n) _ _
     ∙ ap (λ xs. map (call_of n) xs ++ call_of n (read_of (first + j) (get_or after j None) (block_at pasted j)) ∷ []) kept
-    ∙ ap (λ x. map (call_of n) (run_reads first counts buffer j) ++ x ∷ []) same in
+    ∙ ap (λ x. map (call_of n) (batch_reads first counts buffer j) ++ x ∷ []) same in
     subst (λ xs. HasCalls history honest faults a xs c) (sym all) both
 
 -- a read that gave a full block found it whole
 pub full_finding : (dig : List ℕ → List ℕ) (n i : ℕ) (count : Option ℕ) (buffer : List ℕ) (j : ℕ) → count ≡ Some 16384 → block_length n i ≡ 16384
-    → Whole (dig (block_at buffer j)) ≡ finding_of dig n i count (block_at buffer j)
+    → Whole (dig (block_at buffer j)) ≡ found_of dig n i count (block_at buffer j)
 full_finding dig n i count buffer j full whole =
     rw (full, whole) (ap (λ bytes. Whole (dig bytes)) (sym (take-take 16384 16384 (drop (16384 * j) buffer) (omega arith))))
 

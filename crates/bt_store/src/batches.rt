@@ -4,22 +4,22 @@ ghost use Rattle.bt_tree.specs.Limits.{full_block_length};
 ghost use Rattle.bt_tree.specs.Blocks.{block_count, block_at, block_length};
 ghost use Rattle.bt_disk.specs.Calls.{HasCalls};
 ghost use Rattle.bt_store.specs.BlockReads.{call_of};
-ghost use Rattle.bt_store.specs.RunsSteps.{run_reads, finding_of};
-ghost use Rattle.bt_store.specs.declared.runs.Finding.TheVariants.{Whole, Failed};
+ghost use Rattle.bt_store.specs.BatchesSteps.{batch_reads, found_of};
+ghost use Rattle.bt_store.specs.declared.batches.BlockFound.TheVariants.{Whole, Failed};
 
 use crate::arrival::place_of;
 use bt_disk::Disk;
 use bt_tree::{BLOCK_LEN, Geometry, Hash32, NodeHash};
 
 /// How many blocks are read, and then digested, at a time.
-pub(crate) const RUN_BLOCKS: usize = 8;
+pub(crate) const BATCH_BLOCKS: usize = 8;
 
 /// How many bytes these have at most.
-pub(crate) const RUN_LEN: usize = RUN_BLOCKS * BLOCK_LEN;
+pub(crate) const BATCH_LEN: usize = BATCH_BLOCKS * BLOCK_LEN;
 
 /// What the read of a block found.
 #[derive(Clone, Copy)]
-pub(crate) enum Finding {
+pub(crate) enum BlockFound {
     /// The whole block, which has this digest.
     Whole(Hash32),
     /// Fewer bytes than the block has.
@@ -30,22 +30,22 @@ pub(crate) enum Finding {
 
 /// Reads blocks that lie next to each other, each by one call, from the first up, each into its part of a
 /// buffer. Says how many bytes each read gave; none for one that failed.
-pub(crate) fn read_run<D: Disk>(
+pub(crate) fn read_batch<D: Disk>(
     disk: &mut D,
     geometry: Geometry,
     first: u32,
     count: usize,
     buffer: &mut [u8],
-) -> [Option<usize>; RUN_BLOCKS]
+) -> [Option<usize>; BATCH_BLOCKS]
     requires few { count ≤ 8 }
     requires inside { first + count ≤ block_count geometry }
     requires room { count * full_block_length ≤ length buffer.old }
     ensures calls { HasCalls D.history D.honest D.faults
-        disk.old (map (call_of geometry) (run_reads first result buffer.new count)) disk.new }
+        disk.old (map (call_of geometry) (batch_reads first result buffer.new count)) disk.new }
     ensures within { (j : ℕ) → j < count
         → IfSome (slice_index_or result j None) (λ given. given ≤ block_length geometry (first + j)) }
 {
-    let mut lengths = [None; RUN_BLOCKS];
+    let mut lengths = [None; BATCH_BLOCKS];
     for j in 0..count {
         let block = first + j as u32;
         let from = j * BLOCK_LEN;
@@ -57,35 +57,35 @@ pub(crate) fn read_run<D: Disk>(
 
 /// What the reads of blocks that lie next to each other found, by how many bytes each gave: eight whole
 /// blocks are digested together.
-pub(crate) fn digest_run<H: NodeHash>(
+pub(crate) fn digest_batch<H: NodeHash>(
     hash: H,
     geometry: Geometry,
     first: u32,
     count: usize,
-    lengths: &[Option<usize>; RUN_BLOCKS],
+    lengths: &[Option<usize>; BATCH_BLOCKS],
     buffer: &[u8],
-) -> [Finding; RUN_BLOCKS]
+) -> [BlockFound; BATCH_BLOCKS]
     requires few { count ≤ 8 }
     requires inside { first + count ≤ block_count geometry }
     requires room { count * full_block_length ≤ length buffer.now }
     ensures { (j : ℕ) → j < count → slice_index_or result j Failed
-        ≡ finding_of H.digest geometry (first + j) (slice_index_or lengths.now j None)
+        ≡ found_of H.digest geometry (first + j) (slice_index_or lengths.now j None)
         (block_at buffer.now j) }
 {
-    if count == RUN_BLOCKS && is_full(geometry, first, lengths) {
+    if count == BATCH_BLOCKS && is_full(geometry, first, lengths) {
         return digest_eight(hash, buffer);
     }
-    let mut findings = [Finding::Failed; RUN_BLOCKS];
+    let mut blocks_found = [BlockFound::Failed; BATCH_BLOCKS];
     for j in 0..count {
         let from = j * BLOCK_LEN;
         let slot = &buffer[from..from + BLOCK_LEN];
-        findings[j] = digest_slot(hash, geometry, first + j as u32, lengths[j], slot);
+        blocks_found[j] = digest_slot(hash, geometry, first + j as u32, lengths[j], slot);
     }
-    findings
+    blocks_found
 }
 
 /// Whether each of eight reads gave a full block.
-fn is_full(geometry: Geometry, first: u32, lengths: &[Option<usize>; RUN_BLOCKS]) -> bool
+fn is_full(geometry: Geometry, first: u32, lengths: &[Option<usize>; BATCH_BLOCKS]) -> bool
     requires { first + 8 ≤ block_count geometry }
     ensures yes { OnTrue result ((j : ℕ) → j < 8
         → (slice_index_or lengths.now j None ≡ Some full_block_length)
@@ -99,35 +99,35 @@ fn is_full(geometry: Geometry, first: u32, lengths: &[Option<usize>; RUN_BLOCKS]
 }
 
 /// Digests eight full blocks together, with which the buffer begins.
-fn digest_eight<H: NodeHash>(hash: H, buffer: &[u8]) -> [Finding; RUN_BLOCKS]
+fn digest_eight<H: NodeHash>(hash: H, buffer: &[u8]) -> [BlockFound; BATCH_BLOCKS]
     requires { 8 * full_block_length ≤ length buffer.now }
     ensures { (j : ℕ) → j < 8 → slice_index_or result j Failed ≡ Whole (H.digest (block_at buffer.now j)) }
 {
-    let digests = hash.blocks8(&buffer[..RUN_LEN]);
-    let mut findings = [Finding::Failed; RUN_BLOCKS];
-    for j in 0..RUN_BLOCKS {
-        findings[j] = Finding::Whole(digests[j]);
+    let digests = hash.blocks8(&buffer[..BATCH_LEN]);
+    let mut blocks_found = [BlockFound::Failed; BATCH_BLOCKS];
+    for j in 0..BATCH_BLOCKS {
+        blocks_found[j] = BlockFound::Whole(digests[j]);
     }
-    findings
+    blocks_found
 }
 
 /// What the read of a block found, by how many bytes it gave into its part of the buffer.
-fn digest_slot<H: NodeHash>(
+pub(crate) fn digest_slot<H: NodeHash>(
     hash: H,
     geometry: Geometry,
     block: u32,
     given: Option<usize>,
     slot: &[u8],
-) -> Finding
+) -> BlockFound
     requires inside { block < block_count geometry }
-    requires room { length slot.now ≡ full_block_length }
-    ensures { result ≡ finding_of H.digest geometry block given slot.now }
+    requires room { block_length geometry block ≤ length slot.now }
+    ensures { result ≡ found_of H.digest geometry block given slot.now }
 {
     match given {
         Some(length) if length == geometry.block_len(block) => {
-            Finding::Whole(hash.block(&slot[..length]))
+            BlockFound::Whole(hash.block(&slot[..length]))
         }
-        Some(_) => Finding::Short,
-        None => Finding::Failed,
+        Some(_) => BlockFound::Short,
+        None => BlockFound::Failed,
     }
 }

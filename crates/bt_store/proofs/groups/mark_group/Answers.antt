@@ -3,7 +3,7 @@ use Rattle.std.specs.Prelude.{slice_set}
 use Rattle.std.proofs.Math.ListN.{length-set}
 use Rattle.bt_store.specs.declared.block_states.BlockState.TheVariants.{Marked}
 use Rattle.bt_store.proofs.Marks.{marked_none, marked_more}
-use Rattle.bt_store.proofs.groups.mark_run.Goals as goal
+use Rattle.bt_store.proofs.groups.mark_group.Goals as goal
 
 pub loop-j-init : goal.loop-j-init
 loop-j-init c = record { states = marked_none c.args.first c.args.states.now; size = refl }

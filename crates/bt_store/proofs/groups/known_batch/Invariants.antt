@@ -1,7 +1,7 @@
 use Rattle.std.proofs.Common.{ℕ, ◌+◌, ◌<◌, ◌≤◌}
 use Rattle.std.specs.Prelude.{IsSome}
 use Rattle.bt_sparse.specs.SparseTree.{blocks_of, value_at}
-use Rattle.bt_store.proofs.groups.known_run.Given as goal
+use Rattle.bt_store.proofs.groups.known_batch.Given as goal
 
 abbrev pub invariant-loop-count : goal.invariant-loop-count
 invariant-loop-count g l = record {

@@ -1,6 +1,6 @@
 use Rattle.std.proofs.Common.{◌≡◌, ℕ, ◌+◌, ◌<◌, ◌≤◌, true}
 use Rattle.bt_store.specs.ReviewSteps.{is_chosen}
-use Rattle.bt_store.proofs.file_store.FileStore.chosen_run.Given as goal
+use Rattle.bt_store.proofs.file_store.FileStore.chosen_batch.Given as goal
 
 abbrev pub invariant-loop-count : goal.invariant-loop-count
 invariant-loop-count g l = record {

@@ -5,9 +5,9 @@ use Rattle.bt_disk.specs.Calls.{HasCalls, IsAnswered, read_call}
 use Rattle.bt_disk.proofs.CallLists.{has_none}
 use Rattle.bt_tree.specs.Blocks.{block_length}
 use Rattle.bt_store.specs.BlockReads.{call_of}
-use Rattle.bt_store.proofs.RunReads.{run_next, reads_none, given_within}
+use Rattle.bt_store.proofs.BatchReads.{run_next, reads_none, given_within}
 use Rattle.bt_store.proofs.Found.{filled_fact}
-use Rattle.bt_store.proofs.runs.read_run.Goals as goal
+use Rattle.bt_store.proofs.batches.read_batch.Goals as goal
 
 pub loop-j-init : goal.loop-j-init
 loop-j-init g c =
