@@ -9,11 +9,11 @@ ghost use Rattle.bt_store.specs.BlockReads.{BlockRead};
 ghost use Rattle.bt_store.specs.Adoption.{IsKnownGroup, IsUnknownGroup, marked_group, IsAdopted, StopsAdopting};
 ghost use Rattle.bt_store.specs.GroupsSteps.{IsGroupRead};
 
+use crate::batches::BATCH_LEN;
 use crate::file_store::FileStore;
 use crate::groups::{
-    ReadTally, Group, claim_leaves, group_below, known_batch, mark_group, padding, read_group,
+    Group, ReadTally, claim_leaves, group_below, known_batch, mark_group, padding, read_group,
 };
-use crate::batches::BATCH_LEN;
 use bt_disk::Disk;
 use bt_sparse::SparseTree;
 use bt_tree::{Hash32, NodeHash};

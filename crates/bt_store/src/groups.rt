@@ -11,8 +11,8 @@ ghost use Rattle.bt_store.specs.BlockReads.{BlockRead};
 ghost use Rattle.bt_store.specs.Adoption.{IsKnownGroup, IsUnknownGroup, leaf_claim, marked_group};
 ghost use Rattle.bt_store.specs.GroupsSteps.{noted, counted, noted_found, counted_found, IsGroupRead};
 
+use crate::batches::{BATCH_BLOCKS, BlockFound, digest_batch, read_batch};
 use crate::block_states::{BlockState, BlockStates};
-use crate::batches::{BlockFound, BATCH_BLOCKS, digest_batch, read_batch};
 use bt_disk::Disk;
 use bt_sparse::{Claim, Digests, ProofError, SparseTree};
 use bt_tree::{Geometry, Hash32, NodeHash, pad};

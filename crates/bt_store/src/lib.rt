@@ -12,7 +12,6 @@ mod file_store;
 mod groups;
 mod law;
 mod review;
-
 mod single_block;
 
 pub use adoption::Adopted;

@@ -7,10 +7,10 @@ ghost use Rattle.bt_store.specs.BlockReads.{BlockRead, IsJudged, right_count, wr
 ghost use Rattle.bt_store.specs.Review.{waiting_blocks, marked_blocks};
 ghost use Rattle.bt_store.specs.ReviewSteps.{is_chosen, chosen_blocks, forgives, verdict_of, after_verdict, judged_found, tally_of, IsTallyOf, tally_sum, added};
 
+use crate::batches::{BATCH_BLOCKS, BATCH_LEN, BlockFound, digest_batch, read_batch};
 use crate::block_states::{BlockState, BlockStates};
 use crate::error::StoreError;
 use crate::file_store::FileStore;
-use crate::batches::{BlockFound, BATCH_BLOCKS, BATCH_LEN, digest_batch, read_batch};
 use bt_disk::Disk;
 use bt_sparse::SparseTree;
 use bt_tree::{BLOCK_LEN, Hash32, NodeHash};
@@ -343,6 +343,13 @@ impl<D: Disk + Drop, H: NodeHash> FileStore<D, H> {
     {
         let lengths = read_batch(&mut self.disk, self.geometry, first, count, buffer);
         let blocks_found = digest_batch(self.hash, self.geometry, first, count, &lengths, buffer);
-        judge_found(&mut self.states, tree, first, &blocks_found, count, forgiving)
+        judge_found(
+            &mut self.states,
+            tree,
+            first,
+            &blocks_found,
+            count,
+            forgiving,
+        )
     }
 }
