@@ -8,6 +8,7 @@ use Rattle.bt_tree.specs.Blocks.{block_length}
 use Rattle.bt_sparse.specs.SparseTree.{Facts, value_at}
 use Rattle.bt_disk.specs.History.{History}
 use Rattle.bt_disk.specs.Calls.{HasCalls}
+use Rattle.bt_store.specs.FileStore.{StoreView}
 use Rattle.bt_store.specs.BlockReads.{BlockRead, given, call_of, is_leaf, is_right, IsRight}
 use Rattle.bt_store.specs.BatchesSteps.{found_of}
 use Rattle.bt_store.specs.ReviewSteps.{verdict_of}
@@ -73,18 +74,19 @@ module _ (dig : List ℕ → List ℕ) (k : Facts) (i : ℕ) (out : List ℕ) wh
       → Restores dig k i states (read ∷ []) (Err Device) states
   restores_none lost fault = not_read lost
 
--- with the read's call of the device
-module _ {D : Type 0} (history : D → History) (honest : D → Type 0) (faults : D → ℕ) (dig : List ℕ → List ℕ) (k : Facts) (i n : ℕ) (read : BlockRead) (a b : D)
-    (old new : List BlockState) (same : n ≡ k.file_length) (made : HasCalls history honest faults a (call_of k.file_length read ∷ []) b) where
-  calls : HasCalls history honest faults a (call_of n read ∷ []) b
-  calls = subst (λ m. HasCalls history honest faults a (call_of m read ∷ []) b) (sym same) made
+moved : {D : Type 0} (history : D → History) (honest : D → Type 0) (faults : D → ℕ) (m n : ℕ) (a c b : D) (read : BlockRead) → a ≡ c → m ≡ n
+    → HasCalls history honest faults a (call_of m read ∷ []) b → HasCalls history honest faults c (call_of n read ∷ []) b
+moved history honest faults m n a c b read disk size made =
+    subst (λ d. HasCalls history honest faults d (call_of n read ∷ []) b) disk (subst (λ l. HasCalls history honest faults a (call_of l read ∷ []) b) size made)
 
-  pub is_lent : (out : List ℕ) (answer : Result ℕ ReadError) → Lends dig k i out old (read ∷ []) answer new
-      → (reads : List BlockRead) × IsLent history honest faults dig k i out (record { file_length = n; disk = a; states = old }) reads answer
-      (record { file_length = n; disk = b; states = new })
-  is_lent out answer lends = (read ∷ [], record { calls = calls; answer = lends; same_file = refl })
+-- with the read's call of the device, in a store that is seen so
+module _ {D : Type 0} (history : D → History) (honest : D → Type 0) (faults : D → ℕ) (dig : List ℕ → List ℕ) (k : Facts) (i : ℕ) {n : ℕ} {a b : D}
+    {old new after : List BlockState} {s : StoreView D} {read : BlockRead} (view : record { file_length = n; disk = a; states = old } ≡ s)
+    (same : k.file_length ≡ s.file_length) (made : HasCalls history honest faults a (call_of k.file_length read ∷ []) b) (states : after ≡ new) where
+  pub is_lent : {out : List ℕ} {answer : Result ℕ ReadError} → Lends dig k i out s.states (read ∷ []) answer new
+      → (reads : List BlockRead) × IsLent history honest faults dig k i out s reads answer (record { file_length = n; disk = b; states = after })
+  is_lent lends = (read ∷ [], record { calls = moved history honest faults k.file_length s.file_length a s.disk b read (ap (λ (t : StoreView D). t.disk) view) same made; answer = rw states lends; same_file = ap (λ (t : StoreView D). t.file_length) view })
 
-  pub is_restored : (answer : Result Bool StoreError) → Restores dig k i old (read ∷ []) answer new
-      → (reads : List BlockRead) × IsRestored history honest faults dig k i (record { file_length = n; disk = a; states = old }) reads answer
-      (record { file_length = n; disk = b; states = new })
-  is_restored answer restores = (read ∷ [], record { calls = calls; answer = restores; same_file = refl })
+  pub is_restored : {answer : Result Bool StoreError} → Restores dig k i s.states (read ∷ []) answer new
+      → (reads : List BlockRead) × IsRestored history honest faults dig k i s reads answer (record { file_length = n; disk = b; states = after })
+  is_restored restores = (read ∷ [], record { calls = moved history honest faults k.file_length s.file_length a s.disk b read (ap (λ (t : StoreView D). t.disk) view) same made; answer = rw states restores; same_file = ap (λ (t : StoreView D). t.file_length) view })
