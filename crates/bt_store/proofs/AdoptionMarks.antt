@@ -18,7 +18,7 @@ use Rattle.bt_sparse.specs.Acceptance.{Accepts}
 use Rattle.bt_sparse.specs.declared.claim.Claim.{Claim}
 use Rattle.bt_sparse.proofs.Joins.{value_kept, claimed_value, keeps_rooted}
 use Rattle.bt_store.specs.BlockReads.{BlockRead, given, failed, block_of, is_leaf, is_right, IsRight, judged}
-use Rattle.bt_store.specs.Adoption.{AreWhole, is_whole, claimed_digest, claim_of_reads, marked_run, Adopts, none, known, accepted, refused, short, unread}
+use Rattle.bt_store.specs.Adoption.{AreWhole, is_whole, claimed_digest, claim_of_reads, marked_group, Adopts, none, known, accepted, refused, short, unread}
 use Rattle.bt_store.specs.Law.{IsReadRight, Extends}
 use Rattle.bt_store.specs.declared.block_states.BlockState.{BlockState}
 use Rattle.bt_store.specs.declared.block_states.BlockState.TheVariants.{Missing, Marked}
@@ -47,7 +47,7 @@ leaf_then : (o : Option (List ℕ)) (d : List ℕ) → is_leaf o d ≡ true → 
 leaf_then None d e = absurd cc
 leaf_then (Some x) d e = ap (λ y. Some y) (same_text x d (sym e))
 
-right_then : (dig : List ℕ → List ℕ) (k : Facts) (i : ℕ) (bytes : List ℕ) → is_right dig k i bytes ≡ true → IsRight dig k i bytes
+pub right_then : (dig : List ℕ → List ℕ) (k : Facts) (i : ℕ) (bytes : List ℕ) → is_right dig k i bytes ≡ true → IsRight dig k i bytes
 right_then dig k i bytes e =
     let both = both_true (length bytes == block_length k.file_length i) (is_leaf (value_at dig k 0 i) (dig bytes)) e in
     record { whole = eqb-true (length bytes) (block_length k.file_length i) both.0; leaf = leaf_then (value_at dig k 0 i) (dig bytes) both.1 }
@@ -89,11 +89,11 @@ judged_marks dig k forgiving (failed b ∷ reads) states i e = elim (judged_mark
 
 -- ---- blocks that are claimed together
 
-marked_cases : (first count : ℕ) (states : List BlockState) (i : ℕ) → slice_get (marked_run first count states) i ≡ Some Marked
+marked_cases : (first count : ℕ) (states : List BlockState) (i : ℕ) → slice_get (marked_group first count states) i ≡ Some Marked
     → (slice_get states i ≡ Some Marked) ⊎ ((j : ℕ) × (j < count) × (i ≡ first + j))
-unfolding marked_run
+unfolding marked_group
 marked_cases first zero states i e = inl e
-marked_cases first (suc count) states i e = elim (set_cases (marked_run first count states) (first + count) i Marked Marked e) [
+marked_cases first (suc count) states i e = elim (set_cases (marked_group first count states) (first + count) i Marked Marked e) [
   | inl here ↦ inr (count, omega arith, here.0)
   | inr before ↦ elim (marked_cases first count states i before) [
     | inl old ↦ inl old

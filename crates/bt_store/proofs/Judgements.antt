@@ -9,13 +9,13 @@ use Rattle.std.proofs.lemmas.List.Sums.{sum_by_push}
 use Rattle.bt_tree.specs.Blocks.{block_length, block_at}
 use Rattle.bt_sparse.specs.SparseTree.{Facts, value_at}
 use Rattle.bt_store.specs.BlockReads.{BlockRead, given, failed, block_of, is_leaf, is_right, is_right_read, is_wrong_read, is_fault, after_read, judged}
-use Rattle.bt_store.specs.RunsSteps.{read_of, run_reads, finding_of}
-use Rattle.bt_store.specs.ReviewSteps.{verdict_of, verdict_at, after_verdict, judged_findings, no_reads, added, tally_of, tally_sum, IsTallyOf}
-use Rattle.bt_store.proofs.RunReads.{reads_none, reads_more}
+use Rattle.bt_store.specs.BatchesSteps.{read_of, batch_reads, found_of}
+use Rattle.bt_store.specs.ReviewSteps.{verdict_of, verdict_at, after_verdict, judged_found, no_reads, added, tally_of, tally_sum, IsTallyOf}
+use Rattle.bt_store.proofs.BatchReads.{reads_none, reads_more}
 use Rattle.bt_store.specs.declared.block_states.BlockState.{BlockState}
 use Rattle.bt_store.specs.declared.block_states.BlockState.TheVariants.{Missing, Marked}
-use Rattle.bt_store.specs.declared.runs.Finding.{Finding}
-use Rattle.bt_store.specs.declared.runs.Finding.TheVariants.{Whole, Short, Failed}
+use Rattle.bt_store.specs.declared.batches.BlockFound.{BlockFound}
+use Rattle.bt_store.specs.declared.batches.BlockFound.TheVariants.{Whole, Short, Failed}
 use Rattle.bt_store.specs.declared.review.Verdict.{Verdict}
 use Rattle.bt_store.specs.declared.review.Verdict.TheVariants.{Right, Wrong, Fault}
 use Rattle.bt_store.specs.declared.review.Tally.{Tally}
@@ -31,21 +31,21 @@ sum_added Right tally = omega arith
 sum_added Wrong tally = omega arith
 sum_added Fault tally = omega arith
 
-module _ (dig : List ℕ → List ℕ) (k : Facts) (first : ℕ) (findings : List Finding) where
-  pub judged_none : (forgiving : Bool) (states : List BlockState) → states ≡ judged_findings dig k forgiving first findings 0 states
-  unfolding judged_findings
+module _ (dig : List ℕ → List ℕ) (k : Facts) (first : ℕ) (blocks_found : List BlockFound) where
+  pub judged_none : (forgiving : Bool) (states : List BlockState) → states ≡ judged_found dig k forgiving first blocks_found 0 states
+  unfolding judged_found
   judged_none forgiving states = refl
 
-  pub judged_next : (forgiving : Bool) (j : ℕ) (states : List BlockState) → judged_findings dig k forgiving first findings (j + 1) states
-      ≡ after_verdict forgiving (first + j) (verdict_at dig k first findings j) (judged_findings dig k forgiving first findings j states)
-  unfolding judged_findings
+  pub judged_next : (forgiving : Bool) (j : ℕ) (states : List BlockState) → judged_found dig k forgiving first blocks_found (j + 1) states
+      ≡ after_verdict forgiving (first + j) (verdict_at dig k first blocks_found j) (judged_found dig k forgiving first blocks_found j states)
+  unfolding judged_found
   judged_next forgiving j states = rw (add-one j) refl
 
-  pub tally_none : no_reads ≡ tally_of dig k first findings 0
+  pub tally_none : no_reads ≡ tally_of dig k first blocks_found 0
   unfolding tally_of
   tally_none = refl
 
-  pub tally_next : (j : ℕ) → tally_of dig k first findings (j + 1) ≡ added (verdict_at dig k first findings j) (tally_of dig k first findings j)
+  pub tally_next : (j : ℕ) → tally_of dig k first blocks_found (j + 1) ≡ added (verdict_at dig k first blocks_found j) (tally_of dig k first blocks_found j)
   unfolding tally_of
   tally_next j = rw (add-one j) refl
 
@@ -69,8 +69,8 @@ by_length true leaf digest known e = ap (λ x. cond x Right Wrong) e
 by_length false leaf digest known e = refl
 
 -- what was found of a slot comes to what its read comes to
-same_verdict : (dig : List ℕ → List ℕ) (k : Facts) (i : ℕ) (count : Option ℕ) (slot : List ℕ) → IfSome count (λ n. n ≤ length slot)
-    → verdict_of_read dig k (read_of i count slot) ≡ verdict_of (value_at dig k 0 i) (finding_of dig k.file_length i count slot)
+pub same_verdict : (dig : List ℕ → List ℕ) (k : Facts) (i : ℕ) (count : Option ℕ) (slot : List ℕ) → IfSome count (λ n. n ≤ length slot)
+    → verdict_of_read dig k (read_of i count slot) ≡ verdict_of (value_at dig k 0 i) (found_of dig k.file_length i count slot)
 same_verdict dig k i None slot within = refl
 same_verdict dig k i (Some n) slot within =
     let size : length (take n slot) ≡ n = length-take-le n slot within in
@@ -95,12 +95,12 @@ range_more a (suc n) =
     let place : a + 1 + n ≡ a + suc n = omega arith in
     ap (λ xs. a ∷ xs) (range_more (a + 1) n ∙ ap (λ x. range_with_len (a + 1) n ++ x ∷ []) place)
 
-pub blocks_of_run : (first : ℕ) (counts : List (Option ℕ)) (buffer : List ℕ) (j : ℕ) → map block_of (run_reads first counts buffer j) ≡ range_with_len first j
-blocks_of_run first counts buffer zero = ap (map block_of) (reads_none first counts buffer)
-blocks_of_run first counts buffer (suc j) =
+pub blocks_of_batch : (first : ℕ) (counts : List (Option ℕ)) (buffer : List ℕ) (j : ℕ) → map block_of (batch_reads first counts buffer j) ≡ range_with_len first j
+blocks_of_batch first counts buffer zero = ap (map block_of) (reads_none first counts buffer)
+blocks_of_batch first counts buffer (suc j) =
     let read = read_of (first + j) (get_or counts j None) (block_at buffer j) in
-    ap (map block_of) (reads_more first counts buffer j) ∙ map-append block_of (run_reads first counts buffer j) (read ∷ [])
-    ∙ ap (λ xs. xs ++ block_of read ∷ []) (blocks_of_run first counts buffer j)
+    ap (map block_of) (reads_more first counts buffer j) ∙ map-append block_of (batch_reads first counts buffer j) (read ∷ [])
+    ∙ ap (λ xs. xs ++ block_of read ∷ []) (blocks_of_batch first counts buffer j)
     ∙ ap (λ x. range_with_len first j ++ x ∷ []) (block_of-read_of (first + j) (get_or counts j None) (block_at buffer j)) ∙ sym (range_more first j)
 
 added_right : (b : Bool) (tally : Tally) → (added (cond b Right Wrong) tally).right ≡ tally.right + cond b 1 0
@@ -137,46 +137,46 @@ abbrev pub IsWithinParts : List (Option ℕ) → List ℕ → ℕ → Type 0
 IsWithinParts counts buffer j = (t : ℕ) → t < j → IfSome (get_or counts t None) (λ n. n ≤ length (block_at buffer t))
 
 -- these were found of the blocks from the first on
-abbrev pub AreFound : (List ℕ → List ℕ) → ℕ → ℕ → List (Option ℕ) → List ℕ → List Finding → ℕ → Type 0
-AreFound dig n first counts buffer findings j =
-    (t : ℕ) → t < j → get_or findings t Failed ≡ finding_of dig n (first + t) (get_or counts t None) (block_at buffer t)
+abbrev pub AreFound : (List ℕ → List ℕ) → ℕ → ℕ → List (Option ℕ) → List ℕ → List BlockFound → ℕ → Type 0
+AreFound dig n first counts buffer blocks_found j =
+    (t : ℕ) → t < j → get_or blocks_found t Failed ≡ found_of dig n (first + t) (get_or counts t None) (block_at buffer t)
 
-module _ (dig : List ℕ → List ℕ) (k : Facts) (first : ℕ) (counts : List (Option ℕ)) (buffer : List ℕ) (findings : List Finding) where
+module _ (dig : List ℕ → List ℕ) (k : Facts) (first : ℕ) (counts : List (Option ℕ)) (buffer : List ℕ) (blocks_found : List BlockFound) where
   read_verdict : (j : ℕ) → IfSome (get_or counts j None) (λ n. n ≤ length (block_at buffer j))
-      → get_or findings j Failed ≡ finding_of dig k.file_length (first + j) (get_or counts j None) (block_at buffer j)
-      → verdict_of_read dig k (read_of (first + j) (get_or counts j None) (block_at buffer j)) ≡ verdict_at dig k first findings j
+      → get_or blocks_found j Failed ≡ found_of dig k.file_length (first + j) (get_or counts j None) (block_at buffer j)
+      → verdict_of_read dig k (read_of (first + j) (get_or counts j None) (block_at buffer j)) ≡ verdict_at dig k first blocks_found j
   read_verdict j within found =
       same_verdict dig k (first + j) (get_or counts j None) (block_at buffer j) within ∙ ap (verdict_of (value_at dig k 0 (first + j))) (sym found)
 
-  pub run_judged : (forgiving : Bool) (states : List BlockState) (j : ℕ) → IsWithinParts counts buffer j → AreFound dig k.file_length first counts buffer findings j
-      → judged dig k forgiving (run_reads first counts buffer j) states ≡ judged_findings dig k forgiving first findings j states
-  run_judged forgiving states zero within found = ap (λ reads. judged dig k forgiving reads states) (reads_none first counts buffer) ∙ judged_none dig k first findings forgiving states
-  run_judged forgiving states (suc j) within found =
+  pub batch_judged : (forgiving : Bool) (states : List BlockState) (j : ℕ) → IsWithinParts counts buffer j → AreFound dig k.file_length first counts buffer blocks_found j
+      → judged dig k forgiving (batch_reads first counts buffer j) states ≡ judged_found dig k forgiving first blocks_found j states
+  batch_judged forgiving states zero within found = ap (λ reads. judged dig k forgiving reads states) (reads_none first counts buffer) ∙ judged_none dig k first blocks_found forgiving states
+  batch_judged forgiving states (suc j) within found =
       let read = read_of (first + j) (get_or counts j None) (block_at buffer j) in
-      let reads = run_reads first counts buffer j in
+      let reads = batch_reads first counts buffer j in
       let verdict = read_verdict j (within j (omega arith)) (found j (omega arith)) in
       let place : block_of read ≡ first + j = block_of-read_of (first + j) (get_or counts j None) (block_at buffer j) in
-      let before = run_judged forgiving states j (λ t lt. within t (omega arith)) (λ t lt. found t (omega arith)) in
+      let before = batch_judged forgiving states j (λ t lt. within t (omega arith)) (λ t lt. found t (omega arith)) in
       ap (λ xs. judged dig k forgiving xs states) (reads_more first counts buffer j) ∙ judged-append dig k forgiving reads (read ∷ []) states
       ∙ after_read-verdict dig k forgiving read (judged dig k forgiving reads states)
       ∙ ap (λ i. after_verdict forgiving i (verdict_of_read dig k read) (judged dig k forgiving reads states)) place
       ∙ ap (λ v. after_verdict forgiving (first + j) v (judged dig k forgiving reads states)) verdict
-      ∙ ap (after_verdict forgiving (first + j) (verdict_at dig k first findings j)) before
-      ∙ sym (judged_next dig k first findings forgiving j states) ∙ ap (λ m. judged_findings dig k forgiving first findings m states) (add-one j)
+      ∙ ap (after_verdict forgiving (first + j) (verdict_at dig k first blocks_found j)) before
+      ∙ sym (judged_next dig k first blocks_found forgiving j states) ∙ ap (λ m. judged_found dig k forgiving first blocks_found m states) (add-one j)
 
-  pub run_tally : (j : ℕ) → IsWithinParts counts buffer j → AreFound dig k.file_length first counts buffer findings j
-      → IsTallyOf dig k (run_reads first counts buffer j) (tally_of dig k first findings j)
-  run_tally zero within found =
-      subst (λ reads. IsTallyOf dig k reads (tally_of dig k first findings 0)) (sym (reads_none first counts buffer))
-      (subst (IsTallyOf dig k []) (tally_none dig k first findings) (record { right = refl; wrong = refl; faults = refl }))
-  run_tally (suc j) within found =
+  pub batch_tally : (j : ℕ) → IsWithinParts counts buffer j → AreFound dig k.file_length first counts buffer blocks_found j
+      → IsTallyOf dig k (batch_reads first counts buffer j) (tally_of dig k first blocks_found j)
+  batch_tally zero within found =
+      subst (λ reads. IsTallyOf dig k reads (tally_of dig k first blocks_found 0)) (sym (reads_none first counts buffer))
+      (subst (IsTallyOf dig k []) (tally_none dig k first blocks_found) (record { right = refl; wrong = refl; faults = refl }))
+  batch_tally (suc j) within found =
       let read = read_of (first + j) (get_or counts j None) (block_at buffer j) in
       let verdict = read_verdict j (within j (omega arith)) (found j (omega arith)) in
-      let before = run_tally j (λ t lt. within t (omega arith)) (λ t lt. found t (omega arith)) in
-      let next : added (verdict_of_read dig k read) (tally_of dig k first findings j) ≡ tally_of dig k first findings (suc j) =
-      ap (λ v. added v (tally_of dig k first findings j)) verdict ∙ sym (tally_next dig k first findings j) ∙ ap (tally_of dig k first findings) (add-one j) in
-      subst (λ reads. IsTallyOf dig k reads (tally_of dig k first findings (suc j))) (sym (reads_more first counts buffer j))
-      (subst (IsTallyOf dig k (run_reads first counts buffer j ++ read ∷ [])) next (tally_more dig k (run_reads first counts buffer j) read (tally_of dig k first findings j) before))
+      let before = batch_tally j (λ t lt. within t (omega arith)) (λ t lt. found t (omega arith)) in
+      let next : added (verdict_of_read dig k read) (tally_of dig k first blocks_found j) ≡ tally_of dig k first blocks_found (suc j) =
+      ap (λ v. added v (tally_of dig k first blocks_found j)) verdict ∙ sym (tally_next dig k first blocks_found j) ∙ ap (tally_of dig k first blocks_found) (add-one j) in
+      subst (λ reads. IsTallyOf dig k reads (tally_of dig k first blocks_found (suc j))) (sym (reads_more first counts buffer j))
+      (subst (IsTallyOf dig k (batch_reads first counts buffer j ++ read ∷ [])) next (tally_more dig k (batch_reads first counts buffer j) read (tally_of dig k first blocks_found j) before))
 
 -- a part of the buffer is full
 part_size : (buffer : List ℕ) (j : ℕ) → j * 16384 + 16384 ≤ length buffer → length (block_at buffer j) ≡ 16384

@@ -55,9 +55,9 @@ claim_of_reads dig n anchor first reads = leaf_claim first
     (map (claimed_digest dig n) reads ++ replicate (2 ^ anchor - length reads) (padding_digest dig 0))
 
 -- so many blocks from the first on are marked
-unfoldable pub marked_run : (first count : ℕ) → List BlockState → List BlockState
-marked_run first zero states = states
-marked_run first (suc count) states = slice_set (marked_run first count states) (first + count) Marked
+unfoldable pub marked_group : (first count : ℕ) → List BlockState → List BlockState
+marked_group first zero states = states
+marked_group first (suc count) states = slice_set (marked_group first count states) (first + count) Marked
 
 -- the reads are those of the group's blocks, each of which was given whole
 pub record AreWhole (n first count : ℕ) (reads : List BlockRead) : Type 0 where
@@ -86,7 +86,7 @@ pub data Adopts (dig : List ℕ → List ℕ) (k : Facts) (from : ℕ) (states :
       → Accepts dig k (claim_of_reads dig k.file_length anchor first reads) grown
       → Adopts dig k from states reads
       (record { next = first + count; anchor = anchor; marked = count; faults = 0 })
-      grown (marked_run first count states)
+      grown (marked_group first count states)
   refused : (anchor first count : ℕ) (reads : List BlockRead) (error : ProofError)
       → IsUnknownGroup k from anchor first count → AreWhole k.file_length first count reads
       → IsRefused dig k (claim_of_reads dig k.file_length anchor first reads) error → error ≢ OutOfMemory

@@ -6,39 +6,39 @@ use Rattle.bt_disk.specs.History.{History}
 use Rattle.bt_disk.specs.Calls.{HasCalls}
 use Rattle.bt_store.specs.BlockReads.{BlockRead, block_of, call_of, fault_count}
 use Rattle.bt_store.specs.Adoption.{is_whole, claimed_digest}
-use Rattle.bt_store.specs.declared.runs.Finding.{Finding}
-use Rattle.bt_store.specs.declared.runs.Finding.TheVariants.{Whole, Short, Failed}
-use Rattle.bt_store.specs.declared.groups.Census.{Census}
+use Rattle.bt_store.specs.declared.batches.BlockFound.{BlockFound}
+use Rattle.bt_store.specs.declared.batches.BlockFound.TheVariants.{Whole, Short, Failed}
+use Rattle.bt_store.specs.declared.groups.ReadTally.{ReadTally}
 
 -- the digests with that of a whole block put at a place
-abbrev pub noted : ℕ → Finding → List (List ℕ) → List (List ℕ)
+abbrev pub noted : ℕ → BlockFound → List (List ℕ) → List (List ℕ)
 noted i (Whole digest) digests = slice_set digests i digest
 noted i Short digests = digests
 noted i Failed digests = digests
 
--- so many findings, from a place on
-unfoldable pub noted_findings : ℕ → List Finding → ℕ → List (List ℕ) → List (List ℕ)
-noted_findings at findings zero digests = digests
-noted_findings at findings (suc j) digests =
-    noted (at + j) (slice_index_or findings j Failed) (noted_findings at findings j digests)
+-- so many blocks_found, from a place on
+unfoldable pub noted_found : ℕ → List BlockFound → ℕ → List (List ℕ) → List (List ℕ)
+noted_found at blocks_found zero digests = digests
+noted_found at blocks_found (suc j) digests =
+    noted (at + j) (slice_index_or blocks_found j Failed) (noted_found at blocks_found j digests)
 
-abbrev pub counted : Finding → Census → Census
-counted (Whole digest) census = record census { whole = census.whole + 1 }
-counted Short census = census
-counted Failed census = record census { faults = census.faults + 1 }
+abbrev pub counted : BlockFound → ReadTally → ReadTally
+counted (Whole digest) tally = record tally { whole = tally.whole + 1 }
+counted Short tally = tally
+counted Failed tally = record tally { faults = tally.faults + 1 }
 
-unfoldable pub counted_findings : List Finding → ℕ → Census → Census
-counted_findings findings zero census = census
-counted_findings findings (suc j) census =
-    counted (slice_index_or findings j Failed) (counted_findings findings j census)
+unfoldable pub counted_found : List BlockFound → ℕ → ReadTally → ReadTally
+counted_found blocks_found zero tally = tally
+counted_found blocks_found (suc j) tally =
+    counted (slice_index_or blocks_found j Failed) (counted_found blocks_found j tally)
 
 -- so many blocks from the first on were read, no other call failed or changed an honest device; the list has
 -- their digests, and padding behind them; and so many were given whole, and failed
 pub record IsGroupRead {D : Type 0} (history : D → History) (honest : D → Type 0) (faults : D → ℕ)
-    (dig : List ℕ → List ℕ) (n first count width : ℕ) (old : D) (reads : List BlockRead) (census : Census)
+    (dig : List ℕ → List ℕ) (n first count width : ℕ) (old : D) (reads : List BlockRead) (tally : ReadTally)
     (new : D) (digests : List (List ℕ)) : Type 0 where
   pub calls : HasCalls history honest faults old (map (call_of n) reads) new
   pub in_order : map block_of reads ≡ range_with_len first count
   pub claims : digests ≡ map (claimed_digest dig n) reads ++ replicate (width - count) (padding_digest dig 0)
-  pub whole : census.whole ≡ count_by (is_whole n) reads
-  pub failed : census.faults ≡ fault_count reads
+  pub whole : tally.whole ≡ count_by (is_whole n) reads
+  pub failed : tally.faults ≡ fault_count reads

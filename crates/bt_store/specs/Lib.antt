@@ -2,10 +2,11 @@ pub mod BlockStates
 pub mod FileStore
 pub mod BlockReads
 pub mod Arrival
-pub mod RunsSteps
+pub mod BatchesSteps
 pub mod Review
 pub mod ReviewSteps
 pub mod SingleBlock
+pub mod SingleBlockSteps
 pub mod Law
 pub mod Adoption
 pub mod GroupsSteps

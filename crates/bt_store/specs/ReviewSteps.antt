@@ -6,8 +6,8 @@ use Rattle.bt_store.specs.BlockReads.{BlockRead, is_leaf, right_count, wrong_cou
 use Rattle.bt_store.specs.Review.{is_waiting_at, is_marked_at}
 use Rattle.bt_store.specs.declared.block_states.BlockState.{BlockState}
 use Rattle.bt_store.specs.declared.block_states.BlockState.TheVariants.{Missing, Marked}
-use Rattle.bt_store.specs.declared.runs.Finding.{Finding}
-use Rattle.bt_store.specs.declared.runs.Finding.TheVariants.{Whole, Short, Failed}
+use Rattle.bt_store.specs.declared.batches.BlockFound.{BlockFound}
+use Rattle.bt_store.specs.declared.batches.BlockFound.TheVariants.{Whole, Short, Failed}
 use Rattle.bt_store.specs.declared.review.Review.{Review}
 use Rattle.bt_store.specs.declared.review.Review.TheVariants.{Waiting as OfWaiting, Marked as OfMarked}
 use Rattle.bt_store.specs.declared.review.Verdict.{Verdict}
@@ -27,7 +27,7 @@ abbrev pub chosen_blocks : (List ℕ → List ℕ) → Facts → Review → List
 chosen_blocks dig k review states from count =
     filter (is_chosen dig k review states) (range_with_len from count)
 
-abbrev pub verdict_of : Option (List ℕ) → Finding → Verdict
+abbrev pub verdict_of : Option (List ℕ) → BlockFound → Verdict
 verdict_of leaf (Whole digest) = if is_leaf leaf digest then Right else Wrong
 verdict_of leaf Short = Wrong
 verdict_of leaf Failed = Fault
@@ -38,17 +38,17 @@ after_verdict forgiving i Wrong states = slice_set states i Missing
 after_verdict forgiving i Fault states = if forgiving then states else slice_set states i Missing
 
 -- what the read of block `first + j` came to
-abbrev pub verdict_at : (List ℕ → List ℕ) → Facts → ℕ → List Finding → ℕ → Verdict
-verdict_at dig k first findings j =
-    verdict_of (value_at dig k 0 (first + j)) (slice_index_or findings j Failed)
+abbrev pub verdict_at : (List ℕ → List ℕ) → Facts → ℕ → List BlockFound → ℕ → Verdict
+verdict_at dig k first blocks_found j =
+    verdict_of (value_at dig k 0 (first + j)) (slice_index_or blocks_found j Failed)
 
 -- the states after so many reads, from block `first` on
-unfoldable pub judged_findings : (List ℕ → List ℕ) → Facts → Bool → ℕ → List Finding → ℕ → List BlockState
+unfoldable pub judged_found : (List ℕ → List ℕ) → Facts → Bool → ℕ → List BlockFound → ℕ → List BlockState
     → List BlockState
-judged_findings dig k forgiving first findings zero states = states
-judged_findings dig k forgiving first findings (suc j) states =
-    after_verdict forgiving (first + j) (verdict_at dig k first findings j)
-    (judged_findings dig k forgiving first findings j states)
+judged_found dig k forgiving first blocks_found zero states = states
+judged_found dig k forgiving first blocks_found (suc j) states =
+    after_verdict forgiving (first + j) (verdict_at dig k first blocks_found j)
+    (judged_found dig k forgiving first blocks_found j states)
 
 abbrev pub no_reads : Tally
 no_reads = record { right = 0; wrong = 0; faults = 0 }
@@ -59,10 +59,10 @@ added Wrong tally = record tally { wrong = tally.wrong + 1 }
 added Fault tally = record tally { faults = tally.faults + 1 }
 
 -- how many of so many reads came to each verdict
-unfoldable pub tally_of : (List ℕ → List ℕ) → Facts → ℕ → List Finding → ℕ → Tally
-tally_of dig k first findings zero = no_reads
-tally_of dig k first findings (suc j) =
-    added (verdict_at dig k first findings j) (tally_of dig k first findings j)
+unfoldable pub tally_of : (List ℕ → List ℕ) → Facts → ℕ → List BlockFound → ℕ → Tally
+tally_of dig k first blocks_found zero = no_reads
+tally_of dig k first blocks_found (suc j) =
+    added (verdict_at dig k first blocks_found j) (tally_of dig k first blocks_found j)
 
 abbrev pub tally_sum : Tally → ℕ
 tally_sum tally = tally.right + tally.wrong + tally.faults

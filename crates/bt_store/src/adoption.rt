@@ -6,14 +6,14 @@ ghost use Rattle.bt_disk.specs.Calls.{HasCalls};
 ghost use Rattle.bt_sparse.specs.SparseTree.{Facts, blocks_of, held_at, value_at};
 ghost use Rattle.bt_sparse.specs.Anchor.{IsAnchor};
 ghost use Rattle.bt_store.specs.BlockReads.{BlockRead};
-ghost use Rattle.bt_store.specs.Adoption.{IsKnownGroup, IsUnknownGroup, marked_run, IsAdopted, StopsAdopting};
+ghost use Rattle.bt_store.specs.Adoption.{IsKnownGroup, IsUnknownGroup, marked_group, IsAdopted, StopsAdopting};
 ghost use Rattle.bt_store.specs.GroupsSteps.{IsGroupRead};
 
+use crate::batches::BATCH_LEN;
 use crate::file_store::FileStore;
 use crate::groups::{
-    Census, Group, claim_leaves, group_below, known_run, mark_run, padding, read_group,
+    Group, ReadTally, claim_leaves, group_below, known_batch, mark_group, padding, read_group,
 };
-use crate::runs::RUN_LEN;
 use bt_disk::Disk;
 use bt_sparse::SparseTree;
 use bt_tree::{Hash32, NodeHash};
@@ -53,6 +53,9 @@ impl<D: Disk + Drop, H: NodeHash> FileStore<D, H> {
             H.digest tree.old from self.old reads self.new) }
         ensures tree { IfErr result (λ _. tree.new ≡ tree.old) }
         ensures unknown { IfErr result (λ _. value_at H.digest tree.old 0 from ≡ None) }
+        ensures onward { from < block_count self.old.file_length
+            → IfOk result (λ adopted. from < adopted.next) }
+        ensures within { IfOk result (λ adopted. adopted.next ≤ block_count self.old.file_length) }
     {
         if from == self.geometry.blocks() {
             return Ok(Adopted {
@@ -77,9 +80,7 @@ impl<D: Disk + Drop, H: NodeHash> FileStore<D, H> {
         ensures { (reads : List BlockRead) × IsAdopted D.history D.honest D.faults
             H.digest tree.now from self.old reads result tree.now self.new }
     {
-        // The clause of this number says that a file has few blocks, so no sum overflows.
-        let _ = self.geometry.blocks();
-        let count = known_run(tree, from);
+        let count = known_batch(tree, from);
         let tally = self.judge_blocks(tree, from, count as usize, true);
         Adopted {
             next: from + count,
@@ -108,32 +109,32 @@ impl<D: Disk + Drop, H: NodeHash> FileStore<D, H> {
         ensures tree { IfErr result (λ _. tree.new ≡ tree.old) }
     {
         let Group { first, count } = group_below(tree, from, anchor);
-        let Ok(mut run) = padding(self.alloc, self.hash, anchor) else {
+        let Ok(mut leaves) = padding(self.alloc, self.hash, anchor) else {
             return Err(AllocError);
         };
-        let census = self.read_group(first, count, run.as_mut_slice());
+        let reads = self.read_group(first, count, leaves.as_mut_slice());
         let unchanged = Adopted {
             next: first + count,
             anchor,
             marked: 0,
-            faults: census.faults,
+            faults: reads.faults,
         };
-        if census.faults > 0 {
+        if reads.faults > 0 {
             return Ok(Adopted {
                 anchor: 0,
                 ..unchanged
             });
         }
-        if census.whole < count {
+        if reads.whole < count {
             return Ok(unchanged);
         }
-        let Ok(is_accepted) = claim_leaves(self.alloc, tree, first, run) else {
+        let Ok(is_accepted) = claim_leaves(self.alloc, tree, first, leaves) else {
             return Err(AllocError);
         };
         if !is_accepted {
             return Ok(unchanged);
         }
-        mark_run(&mut self.states, first, count);
+        mark_group(&mut self.states, first, count);
         Ok(Adopted {
             marked: count,
             ..unchanged
@@ -141,7 +142,7 @@ impl<D: Disk + Drop, H: NodeHash> FileStore<D, H> {
     }
 
     /// Reads blocks that lie next to each other, and puts the digests of whole ones in place of the padding.
-    fn read_group(&mut self, first: u32, count: u32, digests: &mut [Hash32]) -> Census
+    fn read_group(&mut self, first: u32, count: u32, digests: &mut [Hash32]) -> ReadTally
         requires inside { first + count ≤ block_count self.old.file_length }
         requires padded { digests.old ≡ replicate (length digests.old) (padding_digest H.digest 0) }
         requires fits { count ≤ length digests.old }
@@ -150,7 +151,7 @@ impl<D: Disk + Drop, H: NodeHash> FileStore<D, H> {
             self.old.disk reads result self.new.disk digests.new }
         ensures others { self.new ≡ record self.old { disk = self.new.disk } }
     {
-        let mut buffer = [0; RUN_LEN];
+        let mut buffer = [0; BATCH_LEN];
         read_group(
             &mut self.disk,
             self.hash,

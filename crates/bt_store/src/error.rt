@@ -1,6 +1,6 @@
 use thiserror::Error;
 
-/// Why a call that names a block, or a run of blocks, is refused.
+/// Why a call that names a block, or a range of blocks, is refused.
 #[derive(Clone, Copy, Debug, PartialEq, Eq, Error)]
 pub enum StoreError {
     /// The file has no such block, or the block has another length.

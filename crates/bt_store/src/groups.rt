@@ -8,11 +8,11 @@ ghost use Rattle.bt_sparse.specs.Acceptance.{Accepts, IsRefused};
 ghost use Rattle.bt_sparse.specs.declared.claim.ProofError.{ProofError};
 ghost use Rattle.bt_sparse.specs.Anchor.{IsAnchor};
 ghost use Rattle.bt_store.specs.BlockReads.{BlockRead};
-ghost use Rattle.bt_store.specs.Adoption.{IsKnownGroup, IsUnknownGroup, leaf_claim, marked_run};
-ghost use Rattle.bt_store.specs.GroupsSteps.{noted, counted, noted_findings, counted_findings, IsGroupRead};
+ghost use Rattle.bt_store.specs.Adoption.{IsKnownGroup, IsUnknownGroup, leaf_claim, marked_group};
+ghost use Rattle.bt_store.specs.GroupsSteps.{noted, counted, noted_found, counted_found, IsGroupRead};
 
+use crate::batches::{BATCH_BLOCKS, BlockFound, digest_batch, read_batch};
 use crate::block_states::{BlockState, BlockStates};
-use crate::runs::{Finding, RUN_BLOCKS, digest_run, read_run};
 use bt_disk::Disk;
 use bt_sparse::{Claim, Digests, ProofError, SparseTree};
 use bt_tree::{Geometry, Hash32, NodeHash, pad};
@@ -20,27 +20,27 @@ use std::alloc::{AllocError, Global};
 
 /// How many reads of a group gave a whole block, and how many failed.
 #[derive(Clone, Copy)]
-pub(crate) struct Census {
+pub(crate) struct ReadTally {
     pub(crate) whole: u32,
     pub(crate) faults: u32,
 }
 
-impl Census {
+impl ReadTally {
     /// Of one read more.
-    fn with(self, finding: Finding) -> Census
+    fn with(self, found: BlockFound) -> ReadTally
         requires whole { self.whole + 1 < 2 ^ 32 }
         requires faults { self.faults + 1 < 2 ^ 32 }
-        ensures value { result ≡ counted finding self }
+        ensures value { result ≡ counted found self }
         ensures whole { result.whole ≤ self.whole + 1 }
         ensures faults { result.faults ≤ self.faults + 1 }
     {
-        match finding {
-            Finding::Whole(_) => Census {
+        match found {
+            BlockFound::Whole(_) => ReadTally {
                 whole: self.whole + 1,
                 ..self
             },
-            Finding::Short => self,
-            Finding::Failed => Census {
+            BlockFound::Short => self,
+            BlockFound::Failed => ReadTally {
                 faults: self.faults + 1,
                 ..self
             },
@@ -49,10 +49,11 @@ impl Census {
 }
 
 /// How many blocks from one on have leaves that are known, as far as eight.
-pub(crate) fn known_run<H: NodeHash>(tree: &SparseTree<H>, from: u32) -> u32
+pub(crate) fn known_batch<H: NodeHash>(tree: &SparseTree<H>, from: u32) -> u32
     requires inside { from < blocks_of tree.now }
     requires known { IsSome (value_at H.digest tree.now 0 from) }
-    ensures { IsKnownGroup H.digest tree.now from result }
+    ensures group { IsKnownGroup H.digest tree.now from result }
+    ensures limit { blocks_of tree.now ≤ max_block_count }
 {
     let rest = tree.geometry().blocks() - from;
     for count in 1..8u32 {
@@ -137,10 +138,10 @@ pub(crate) fn claim_leaves<H: NodeHash>(
 }
 
 /// Marks blocks that lie next to each other.
-pub(crate) fn mark_run(states: &mut BlockStates, first: u32, count: u32)
+pub(crate) fn mark_group(states: &mut BlockStates, first: u32, count: u32)
     requires inside { first + count ≤ length states.old }
     requires limit { length states.old ≤ max_block_count }
-    ensures value { states.new ≡ marked_run first count states.old }
+    ensures value { states.new ≡ marked_group first count states.old }
     ensures size { length states.new ≡ length states.old }
 {
     for j in 0..count {
@@ -149,38 +150,38 @@ pub(crate) fn mark_run(states: &mut BlockStates, first: u32, count: u32)
 }
 
 /// Puts the digest of a whole block into a list.
-fn note(digests: &mut [Hash32], i: usize, finding: Finding)
+fn note(digests: &mut [Hash32], i: usize, found: BlockFound)
     requires { i < length digests.old }
-    ensures { digests.new ≡ noted i finding digests.old }
+    ensures { digests.new ≡ noted i found digests.old }
 {
-    match finding {
-        Finding::Whole(digest) => digests[i] = digest,
-        Finding::Short => {}
-        Finding::Failed => {}
+    match found {
+        BlockFound::Whole(digest) => digests[i] = digest,
+        BlockFound::Short => {}
+        BlockFound::Failed => {}
     }
 }
 
 /// Puts the digests of whole blocks into a list, from a place on, and counts what the reads found.
-fn note_findings(
+fn note_found(
     digests: &mut [Hash32],
     at: usize,
-    findings: &[Finding; RUN_BLOCKS],
+    blocks_found: &[BlockFound; BATCH_BLOCKS],
     count: usize,
-    census: Census,
-) -> Census
+    tally: ReadTally,
+) -> ReadTally
     requires few { count ≤ 8 }
     requires inside { at + count ≤ length digests.old }
-    requires whole { census.whole + count + 1 < 2 ^ 32 }
-    requires faults { census.faults + count + 1 < 2 ^ 32 }
-    ensures digests { digests.new ≡ noted_findings at findings.now count digests.old }
-    ensures census { result ≡ counted_findings findings.now count census }
+    requires whole { tally.whole + count + 1 < 2 ^ 32 }
+    requires faults { tally.faults + count + 1 < 2 ^ 32 }
+    ensures digests { digests.new ≡ noted_found at blocks_found.now count digests.old }
+    ensures tally { result ≡ counted_found blocks_found.now count tally }
 {
-    let mut census = census;
+    let mut tally = tally;
     for j in 0..count {
-        note(digests, at + j, findings[j]);
-        census = census.with(findings[j]);
+        note(digests, at + j, blocks_found[j]);
+        tally = tally.with(blocks_found[j]);
     }
-    census
+    tally
 }
 
 /// Reads blocks that lie next to each other, eight at a time, and puts the digests of whole ones in place
@@ -193,7 +194,7 @@ pub(crate) fn read_group<D: Disk, H: NodeHash>(
     count: u32,
     digests: &mut [Hash32],
     buffer: &mut [u8],
-) -> Census
+) -> ReadTally
     requires inside { first + count ≤ block_count geometry }
     requires padded { digests.old ≡ replicate (length digests.old) (padding_digest H.digest 0) }
     requires fits { count ≤ length digests.old }
@@ -201,18 +202,18 @@ pub(crate) fn read_group<D: Disk, H: NodeHash>(
     ensures { (reads : List BlockRead) × IsGroupRead D.history D.honest D.faults H.digest geometry
         first count (length digests.old) disk.old reads result disk.new digests.new }
 {
-    let mut census = Census {
+    let mut tally = ReadTally {
         whole: 0,
         faults: 0,
     };
     let mut done = 0;
     while done < count {
-        let run = (count - done).min(8);
+        let batch = (count - done).min(8);
         let block = first + done;
-        let lengths = read_run(disk, geometry, block, run as usize, buffer);
-        let findings = digest_run(hash, geometry, block, run as usize, &lengths, buffer);
-        census = note_findings(digests, done as usize, &findings, run as usize, census);
-        done += run;
+        let lengths = read_batch(disk, geometry, block, batch as usize, buffer);
+        let blocks_found = digest_batch(hash, geometry, block, batch as usize, &lengths, buffer);
+        tally = note_found(digests, done as usize, &blocks_found, batch as usize, tally);
+        done += batch;
     }
-    census
+    tally
 }

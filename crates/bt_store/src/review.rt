@@ -5,12 +5,12 @@ ghost use Rattle.bt_tree.specs.Blocks.{block_count};
 ghost use Rattle.bt_sparse.specs.SparseTree.{value_at};
 ghost use Rattle.bt_store.specs.BlockReads.{BlockRead, IsJudged, right_count, wrong_count, fault_count};
 ghost use Rattle.bt_store.specs.Review.{waiting_blocks, marked_blocks};
-ghost use Rattle.bt_store.specs.ReviewSteps.{is_chosen, chosen_blocks, forgives, verdict_of, after_verdict, judged_findings, tally_of, IsTallyOf, tally_sum, added};
+ghost use Rattle.bt_store.specs.ReviewSteps.{is_chosen, chosen_blocks, forgives, verdict_of, after_verdict, judged_found, tally_of, IsTallyOf, tally_sum, added};
 
+use crate::batches::{BATCH_BLOCKS, BATCH_LEN, BlockFound, digest_batch, read_batch};
 use crate::block_states::{BlockState, BlockStates};
 use crate::error::StoreError;
 use crate::file_store::FileStore;
-use crate::runs::{Finding, RUN_BLOCKS, RUN_LEN, digest_run, read_run};
 use bt_disk::Disk;
 use bt_sparse::SparseTree;
 use bt_tree::{BLOCK_LEN, Hash32, NodeHash};
@@ -123,16 +123,16 @@ impl Tally {
 }
 
 /// What the read of a block comes to that has this leaf, where one is known.
-fn judge(leaf: Option<Hash32>, finding: Finding) -> Verdict
-    ensures { result ≡ verdict_of leaf finding }
+pub(crate) fn verdict_of(leaf: Option<Hash32>, found: BlockFound) -> Verdict
+    ensures { result ≡ verdict_of leaf found }
 {
-    match finding {
-        Finding::Whole(digest) => match leaf {
+    match found {
+        BlockFound::Whole(digest) => match leaf {
             Some(known) if known == digest => Verdict::Right,
             _ => Verdict::Wrong,
         },
-        Finding::Short => Verdict::Wrong,
-        Finding::Failed => Verdict::Fault,
+        BlockFound::Short => Verdict::Wrong,
+        BlockFound::Failed => Verdict::Fault,
     }
 }
 
@@ -150,11 +150,11 @@ fn give_state(states: &mut BlockStates, block: u32, verdict: Verdict, forgiving:
 }
 
 /// Judges blocks that lie next to each other, from the first on, by what their reads found.
-fn judge_findings<H: NodeHash>(
+fn judge_found<H: NodeHash>(
     states: &mut BlockStates,
     tree: &SparseTree<H>,
     first: u32,
-    findings: &[Finding; RUN_BLOCKS],
+    blocks_found: &[BlockFound; BATCH_BLOCKS],
     count: usize,
     forgiving: bool,
 ) -> Tally
@@ -162,15 +162,15 @@ fn judge_findings<H: NodeHash>(
     requires inside { first + count ≤ length states.old }
     requires limit { length states.old ≤ max_block_count }
     ensures states { states.new
-        ≡ judged_findings H.digest tree.now forgiving first findings.now count states.old }
-    ensures tally { result ≡ tally_of H.digest tree.now first findings.now count }
+        ≡ judged_found H.digest tree.now forgiving first blocks_found.now count states.old }
+    ensures tally { result ≡ tally_of H.digest tree.now first blocks_found.now count }
     ensures sum { tally_sum result ≡ count }
     ensures size { length states.new ≡ length states.old }
 {
     let mut tally = Tally::new();
     for j in 0..count {
         let block = first + j as u32;
-        let verdict = judge(tree.known(0, block), findings[j]);
+        let verdict = verdict_of(tree.known(0, block), blocks_found[j]);
         give_state(states, block, verdict, forgiving);
         tally = tally.with(verdict);
     }
@@ -253,12 +253,12 @@ impl<D: Disk + Drop, H: NodeHash> FileStore<D, H> {
         let mut tally = Tally::new();
         let mut at = from;
         while at < end {
-            let count = self.chosen_run(tree, review, at, end);
+            let count = self.chosen_batch(tree, review, at, end);
             if count == 0 {
                 at += 1;
             } else {
-                let run = self.judge_blocks(tree, at, count as usize, review.forgives());
-                tally = tally.plus(run);
+                let batch = self.judge_blocks(tree, at, count as usize, review.forgives());
+                tally = tally.plus(batch);
                 at += count;
             }
         }
@@ -266,7 +266,7 @@ impl<D: Disk + Drop, H: NodeHash> FileStore<D, H> {
     }
 
     /// How many blocks of a review lie next to each other from one on, as far as eight and before another.
-    fn chosen_run(&self, tree: &SparseTree<H>, review: Review, from: u32, end: u32) -> u32
+    fn chosen_batch(&self, tree: &SparseTree<H>, review: Review, from: u32, end: u32) -> u32
         requires upwards { from < end }
         requires inside { end ≤ block_count self.now.file_length }
         ensures few { result ≤ 8 }
@@ -317,13 +317,13 @@ impl<D: Disk + Drop, H: NodeHash> FileStore<D, H> {
         ensures sum { tally_sum result ≡ count }
     {
         if count == 1 {
-            return self.judge_run(tree, first, 1, forgiving, &mut [0; BLOCK_LEN]);
+            return self.judge_batch(tree, first, 1, forgiving, &mut [0; BLOCK_LEN]);
         }
-        self.judge_run(tree, first, count, forgiving, &mut [0; RUN_LEN])
+        self.judge_batch(tree, first, count, forgiving, &mut [0; BATCH_LEN])
     }
 
     /// Reads blocks that lie next to each other, at most eight, into a buffer, and judges each.
-    fn judge_run(
+    fn judge_batch(
         &mut self,
         tree: &SparseTree<H>,
         first: u32,
@@ -341,8 +341,15 @@ impl<D: Disk + Drop, H: NodeHash> FileStore<D, H> {
             × IsTallyOf H.digest tree.now reads result }
         ensures sum { tally_sum result ≡ count }
     {
-        let lengths = read_run(&mut self.disk, self.geometry, first, count, buffer);
-        let findings = digest_run(self.hash, self.geometry, first, count, &lengths, buffer);
-        judge_findings(&mut self.states, tree, first, &findings, count, forgiving)
+        let lengths = read_batch(&mut self.disk, self.geometry, first, count, buffer);
+        let blocks_found = digest_batch(self.hash, self.geometry, first, count, &lengths, buffer);
+        judge_found(
+            &mut self.states,
+            tree,
+            first,
+            &blocks_found,
+            count,
+            forgiving,
+        )
     }
 }

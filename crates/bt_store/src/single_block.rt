@@ -1,15 +1,19 @@
-ghost use Rattle.std.specs.Prelude.{◌≡◌, ◌≢◌, ◌<◌, ◌≤◌, List, Some, IfErr, length, drop, slice_get};
+ghost use Rattle.std.specs.Prelude.{◌≡◌, ◌≢◌, ◌<◌, ◌≤◌, List, [], ◌∷◌, Some, IfErr, length, drop, slice_get};
 ghost use Rattle.std.specs.Bool.{OnTrue, OnFalse};
 ghost use Rattle.bt_tree.specs.Limits.{full_block_length};
 ghost use Rattle.bt_tree.specs.Blocks.{block_count, block_length};
-ghost use Rattle.bt_store.specs.BlockReads.{BlockRead, IsRight};
+ghost use Rattle.bt_disk.specs.Calls.{HasCalls};
+ghost use Rattle.bt_store.specs.BlockReads.{BlockRead, call_of};
+ghost use Rattle.bt_store.specs.SingleBlockSteps.{ComesTo};
 ghost use Rattle.bt_store.specs.Review.{is_marked_at};
 ghost use Rattle.bt_store.specs.SingleBlock.{IsLent, IsLost, IsRestored};
 
 use crate::arrival::place_of;
+use crate::batches::digest_slot;
 use crate::block_states::BlockState;
 use crate::error::{ReadError, StoreError};
 use crate::file_store::FileStore;
+use crate::review::{Verdict, verdict_of};
 use bt_disk::Disk;
 use bt_sparse::SparseTree;
 use bt_tree::{BLOCK_LEN, NodeHash};
@@ -39,15 +43,14 @@ impl<D: Disk + Drop, H: NodeHash> FileStore<D, H> {
         if !self.is_marked(block) {
             return Err(ReadError::NotMarked);
         }
-        let length = self.geometry.block_len(block);
-        let Ok(count) = self.disk.read_at(place_of(block), &mut out[..length]) else {
-            return Err(ReadError::Device);
-        };
-        if !is_right(self.hash, tree, block, &out[..count]) {
-            self.states.set(block, BlockState::Missing);
-            return Err(ReadError::Damaged);
+        match read_block(&mut self.disk, self.hash, tree, block, out) {
+            Verdict::Right => Ok(self.geometry.block_len(block)),
+            Verdict::Wrong => {
+                self.states.set(block, BlockState::Missing);
+                Err(ReadError::Damaged)
+            }
+            Verdict::Fault => Err(ReadError::Device),
         }
-        Ok(count)
     }
 
     /// Reads a missing block whose leaf is known, by one call of the device: it becomes marked where its
@@ -84,15 +87,14 @@ impl<D: Disk + Drop, H: NodeHash> FileStore<D, H> {
         ensures { (reads : List BlockRead) × IsRestored D.history D.honest D.faults H.digest tree.now
             block self.old reads result self.new }
     {
-        let length = self.geometry.block_len(block);
-        let Ok(count) = self.disk.read_at(place_of(block), &mut buffer[..length]) else {
-            return Err(StoreError::Device);
-        };
-        if !is_right(self.hash, tree, block, &buffer[..count]) {
-            return Ok(false);
+        match read_block(&mut self.disk, self.hash, tree, block, buffer) {
+            Verdict::Right => {
+                self.states.set(block, BlockState::Marked);
+                Ok(true)
+            }
+            Verdict::Wrong => Ok(false),
+            Verdict::Fault => Err(StoreError::Device),
         }
-        self.states.set(block, BlockState::Marked);
-        Ok(true)
     }
 
     /// Whether a block is marked.
@@ -106,17 +108,27 @@ impl<D: Disk + Drop, H: NodeHash> FileStore<D, H> {
     }
 }
 
-/// Whether the bytes are a whole block of the tree's file, and their digest is its leaf.
-fn is_right<H: NodeHash>(hash: H, tree: &SparseTree<H>, block: u32, bytes: &[u8]) -> bool
-    requires { block < block_count tree.now.file_length }
-    ensures yes { OnTrue result (IsRight H.digest tree.now block bytes.now) }
-    ensures no { OnFalse result (¬ IsRight H.digest tree.now block bytes.now) }
+/// Reads a block into the front of a buffer, by one call of the device, and says what that comes to.
+fn read_block<D: Disk, H: NodeHash>(
+    disk: &mut D,
+    hash: H,
+    tree: &SparseTree<H>,
+    block: u32,
+    out: &mut [u8],
+) -> Verdict
+    requires inside { block < block_count tree.now.file_length }
+    requires room { block_length tree.now.file_length block ≤ length out.old }
+    ensures read { (read : BlockRead) × HasCalls D.history D.honest D.faults
+        disk.old (call_of tree.now.file_length read ∷ []) disk.new
+        × ComesTo H.digest tree.now block out.new read result }
+    ensures rest { drop (block_length tree.now.file_length block) out.new
+        ≡ drop (block_length tree.now.file_length block) out.old }
 {
-    if bytes.len() != tree.geometry().block_len(block) {
-        return false;
-    }
-    match tree.known(0, block) {
-        Some(leaf) => hash.block(bytes) == leaf,
-        None => false,
-    }
+    let geometry = tree.geometry();
+    let length = geometry.block_len(block);
+    let Ok(count) = disk.read_at(place_of(block), &mut out[..length]) else {
+        return Verdict::Fault;
+    };
+    let found = digest_slot(hash, geometry, block, Some(count), &out[..length]);
+    verdict_of(tree.known(0, block), found)
 }

@@ -1,5 +1,5 @@
 use Rattle.std.proofs.Common.{◌≡◌, ◌+◌, ◌*◌, ◌-◌, ◌≤◌, [], ◌++◌, length, min, refl, ◌∙◌, arith}
-use Rattle.bt_store.specs.RunsSteps.{run_reads}
+use Rattle.bt_store.specs.BatchesSteps.{batch_reads}
 use Rattle.bt_store.proofs.Judgements.{within_parts}
 use Rattle.bt_store.proofs.GroupReads.{group_start, group_next}
 use Rattle.bt_store.proofs.groups.read_group.Goals as goal
@@ -17,23 +17,23 @@ pub loop-done-preserved : goal.loop-done-preserved
 loop-done-preserved g c =
     let d = g.D.Disk in
     let before = c.loop-done.invariant in
-    let m = c.min-run.result in
-    let counts = c.read_run-lengths.result in
-    let buffer = c.read_run-lengths.new.buffer in
-    let room : length buffer ≡ 8 * 16384 = c.read_run-lengths.auto.buffer ∙ before.room in
-    let size : m ≡ min (c.args.count - c.loop-done.done) 8 = c.min-run.ensures in
+    let m = c.min-batch.result in
+    let counts = c.read_batch-lengths.result in
+    let buffer = c.read_batch-lengths.new.buffer in
+    let room : length buffer ≡ 8 * 16384 = c.read_batch-lengths.auto.buffer ∙ before.room in
+    let size : m ≡ min (c.args.count - c.loop-done.done) 8 = c.min-batch.ensures in
     let first = c.args.first + c.loop-done.done in
     let inside : c.loop-done.done + m ≤ c.args.count = omega (arith, size, before.within) in
     let next = group_next d.history d.honest d.faults g.H.NodeHash.digest c.args.geometry c.args.first (length c.args.digests.now) c.loop-done.done m
-    c.args.disk.now c.loop-done.disk c.read_run-lengths.new.disk before.read.0 c.loop-done.census c.loop-done.digests counts buffer c.digest_run-findings.result before.read.1
-    (omega (arith, inside, c.requires.fits)) c.read_run-lengths.ensures.calls
-    (within_parts c.args.geometry first m counts buffer (omega (arith, size, room)) c.read_run-lengths.ensures.within) c.digest_run-findings.ensures in
+    c.args.disk.now c.loop-done.disk c.read_batch-lengths.new.disk before.read.0 c.loop-done.tally c.loop-done.digests counts buffer c.digest_batch-blocks_found.result before.read.1
+    (omega (arith, inside, c.requires.fits)) c.read_batch-lengths.ensures.calls
+    (within_parts c.args.geometry first m counts buffer (omega (arith, size, room)) c.read_batch-lengths.ensures.within) c.digest_batch-blocks_found.ensures in
     record {
       read = (
-        before.read.0 ++ run_reads first counts buffer m,
-        rw (c.note_findings-census.ensures.digests, c.note_findings-census.ensures.census) next,
+        before.read.0 ++ batch_reads first counts buffer m,
+        rw (c.note_found-tally.ensures.digests, c.note_found-tally.ensures.tally) next,
       );
       within = inside;
-      size = c.note_findings-census.auto.digests ∙ before.size;
+      size = c.note_found-tally.auto.digests ∙ before.size;
       room = room;
     }

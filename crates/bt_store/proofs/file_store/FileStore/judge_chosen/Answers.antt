@@ -1,7 +1,7 @@
 use Rattle.std.proofs.Common.{subst, arith}
 use Rattle.std.specs.List.{range_with_len}
 use Rattle.bt_store.specs.BlockReads.{IsJudged}
-use Rattle.bt_store.proofs.Reviews.{reviewed_start, reviewed_past, reviewed_run}
+use Rattle.bt_store.proofs.Reviews.{reviewed_start, reviewed_past, reviewed_batch}
 use Rattle.bt_store.proofs.file_store.FileStore.judge_chosen.Goals as goal
 
 pub loop-at-init : goal.loop-at-init
@@ -13,7 +13,7 @@ loop-at-init g c =
 
 pub plus-tally-requires : goal.plus-tally-requires
 plus-tally-requires g c =
-    omega (arith, c.loop-at.invariant.reviewed.few, c.judge_blocks-run.ensures.sum, c.chosen_run-count.ensures.inside, c.loop-at.invariant.reviewed.low)
+    omega (arith, c.loop-at.invariant.reviewed.few, c.judge_blocks-batch.ensures.sum, c.chosen_batch-count.ensures.inside, c.loop-at.invariant.reviewed.low)
 
 pub loop-at-preserved-then-count-eq0 : goal.loop-at-preserved-then-count-eq0
 loop-at-preserved-then-count-eq0 g c =
@@ -21,7 +21,7 @@ loop-at-preserved-then-count-eq0 g c =
     let before = c.loop-at.invariant in
     record {
       reviewed = reviewed_past d.history d.honest d.faults g.H.NodeHash.digest c.args.tree.now c.args.review c.args.from c.loop-at.at c.args.self.now c.loop-at.self
-          c.loop-at.tally before.reviewed (c.chosen_run-count.ensures.none c.if-count-eq0.true);
+          c.loop-at.tally before.reviewed (c.chosen_batch-count.ensures.none c.if-count-eq0.true);
       high = omega arith;
     }
 
@@ -31,13 +31,13 @@ loop-at-preserved g c =
     let dig = g.H.NodeHash.digest in
     let k = c.args.tree.now in
     let before = c.loop-at.invariant in
-    let n = c.chosen_run-count.result in
+    let n = c.chosen_batch-count.result in
     let total = c.plus-tally.ensures in
-    let run = c.judge_blocks-run.ensures in
-    let judged = subst (λ f. IsJudged d.history d.honest d.faults dig k f (range_with_len c.loop-at.at n) c.loop-at.self run.judged.0 c.judge_blocks-run.new.self) c.forgives.ensures run.judged.1 in
+    let run = c.judge_blocks-batch.ensures in
+    let judged = subst (λ f. IsJudged d.history d.honest d.faults dig k f (range_with_len c.loop-at.at n) c.loop-at.self run.judged.0 c.judge_blocks-batch.new.self) c.forgives.ensures run.judged.1 in
     record {
-      reviewed = reviewed_run d.history d.honest d.faults dig k c.args.review c.args.from c.loop-at.at n c.args.self.now c.loop-at.self c.judge_blocks-run.new.self
-          c.loop-at.tally c.judge_blocks-run.result c.plus-tally.result run.judged.0 before.reviewed c.chosen_run-count.ensures.chosen
+      reviewed = reviewed_batch d.history d.honest d.faults dig k c.args.review c.args.from c.loop-at.at n c.args.self.now c.loop-at.self c.judge_blocks-batch.new.self
+          c.loop-at.tally c.judge_blocks-batch.result c.plus-tally.result run.judged.0 before.reviewed c.chosen_batch-count.ensures.chosen
           judged run.judged.2 run.sum total.right total.wrong total.faults;
-      high = c.chosen_run-count.ensures.inside;
+      high = c.chosen_batch-count.ensures.inside;
     }
