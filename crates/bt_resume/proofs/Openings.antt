@@ -1,13 +1,11 @@
 -- Devices whose bytes begin with a log are opened as one.
-use Rattle.std.proofs.Common.{◌≡◌, ℕ, ◌+◌, ◌≤◌, List, [], ◌∷◌, ◌++◌, length, take, All, Result, Ok, Err, MatchResult, refl, sym, ap, ◌∙◌, subst, arith}
-use Rattle.std.specs.Prelude.{⊤}
+use Rattle.std.proofs.Common.{◌≡◌, ℕ, ◌≤◌, List, [], ◌++◌, length, take, sym, ap, ◌∙◌, arith}
 use Rattle.std.proofs.lemmas.List.{append_assoc, take-take, take_at, length-take, length-append}
 use Rattle.bt_disk.specs.History.{History}
 use Rattle.bt_resume.specs.declared.hint.Hint.{Hint}
-use Rattle.bt_resume.specs.declared.error.LogError.{LogError}
-use Rattle.bt_resume.specs.Hint.{hints_spelling, IsHint}
-use Rattle.bt_resume.specs.ResumeLog.{header, log_length, log_spelling, Reads, read, too_long, other_torrent, no_memory, no_length, unread, opened, unmeasured, made, unwritten, unsynced}
-use Rattle.bt_resume.specs.Law.{Begin, KeepsHints, IsNotOfBytes, KeptDevicesAreRead, KeptDevicesOpen}
+use Rattle.bt_resume.specs.Hint.{hints_spelling}
+use Rattle.bt_resume.specs.ResumeLog.{header, log_length, log_spelling, read, too_long, other_torrent, no_memory, no_length, unread, opened, unmeasured, made, unwritten, unsynced}
+use Rattle.bt_resume.specs.Law.{Begin, KeepsHints, KeptDevicesAreRead, KeptDevicesOpen}
 use Rattle.bt_resume.proofs.Takings.{spelling_append}
 use Rattle.bt_resume.proofs.Sequences.{log_size, kept_logs_open}
 

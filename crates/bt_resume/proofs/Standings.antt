@@ -1,11 +1,11 @@
 -- Hints that stand in a log and in each image of a crash.
-use Rattle.std.proofs.Common.{◌≡◌, ℕ, ◌+◌, ◌≤◌, inl, List, [], ◌∷◌, ◌++◌, Result, Ok, Err, refl, sym, ap, ◌∙◌, subst, arith}
+use Rattle.std.proofs.Common.{◌≡◌, ℕ, ◌≤◌, inl, List, [], ◌∷◌, ◌++◌, Ok, Err, sym, ap, subst, arith}
 use Rattle.bt_disk.specs.State.{IsImage}
 use Rattle.bt_disk.specs.History.{History}
 use Rattle.bt_resume.specs.declared.hint.Hint.{Hint}
 use Rattle.bt_resume.specs.declared.error.AppendError.TheVariants.{Full, Device as AppendDevice}
-use Rattle.bt_resume.specs.ResumeLog.{log_length, LogView, IsAppended}
-use Rattle.bt_resume.specs.Law.{Begin, AreKeptSince, Holds, KeepsFirst, AttachStands, ReloadStands, AppendStands, FlushStands, FlushedStand}
+use Rattle.bt_resume.specs.ResumeLog.{log_length, LogView}
+use Rattle.bt_resume.specs.Law.{Begin, AreKeptSince, Holds, AttachStands, ReloadStands, AppendStands, FlushStands, FlushedStand}
 use Rattle.bt_resume.proofs.Sequences.{begin_same, begin_trans}
 use Rattle.bt_resume.proofs.Openings.{begin_is_shorter, kept_devices_open}
 use Rattle.bt_resume.proofs.Holdings.{attach_holds, reload_holds, append_holds, flush_holds}
