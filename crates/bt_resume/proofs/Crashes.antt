@@ -75,7 +75,7 @@ module _ {D : Type 0} (history : D → History) (honest : D → Type 0) (faults 
   reads_keep infohash torrent old _ _ t hints size h (other_torrent new calls of) = none_keeps infohash hints old new t size h calls
   reads_keep infohash torrent old _ _ t hints size h (no_memory new calls of) = none_keeps infohash hints old new t size h calls
   reads_keep infohash torrent old _ _ t hints size h (no_length new calls) = one_keeps infohash hints old new length_fault t size h calls (record { spares = λ i lt. tt; ends = tt })
-  reads_keep infohash torrent old _ _ t hints size h (unread new at wanted calls) =
+  reads_keep infohash torrent old _ _ t hints size h (unread new at wanted calls of) =
       one_keeps infohash hints old new (read_fault at wanted) t size h calls (record { spares = λ i lt. tt; ends = tt })
 
   -- where every image begins with a header, the device is not empty

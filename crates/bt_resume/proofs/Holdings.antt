@@ -13,9 +13,10 @@ use Rattle.bt_resume.specs.declared.error.LogError.{LogError}
 use Rattle.bt_resume.specs.declared.error.AppendError.TheVariants.{Full, Device as AppendDevice}
 use Rattle.bt_resume.specs.Hint.{hint_spelling, hints_spelling, IsHint}
 use Rattle.bt_resume.specs.ResumeLog.{header, log_length, LogView, IsLog, Reads, read, too_long, other_torrent, no_memory, no_length, unread, Opens, opened, unmeasured, made, unwritten, unsynced}
-use Rattle.bt_resume.specs.Law.{KeepsHints, AreKeptSince, HoldsTo, Holds, AttachHolds, ReloadHolds, AppendHolds, FlushHolds}
+use Rattle.bt_resume.specs.Law.{KeepsHints, OpenLogsKeep, AreKeptSince, HoldsTo, Holds, AttachHolds, ReloadHolds, AppendHolds, FlushHolds}
 use Rattle.bt_resume.proofs.Takings.{spelling_append}
-use Rattle.bt_resume.proofs.Sequences.{log_size}
+use Rattle.bt_resume.proofs.Sequences.{log_size, begin_same, begin_trans}
+use Rattle.bt_resume.proofs.Openings.{spelled_first, kept_devices_are_read}
 
 -- ---- bytes after a call
 
@@ -113,6 +114,12 @@ log_held infohash bytes hints log =
       spelled = take-add 40 n bytes ∙ ap (λ xs. xs ++ take n (drop 40 bytes)) log.begins.header_is ∙ ap (λ xs. header infohash ++ xs) behind;
     }
 
+pub open_logs_keep : OpenLogsKeep
+open_logs_keep infohash bytes hints all size log begins = record {
+  within = log.begins.within;
+  begins = spelled_first infohash bytes hints all size begins (log_held infohash bytes all log).spelled;
+}
+
 module _ {D : Type 0} (history : D → History) (honest : D → Type 0) (faults : D → ℕ) where
   -- the device after a reading that found hints
   abbrev IsFound : List ℕ → D → List Hint → Type 0
@@ -127,7 +134,7 @@ module _ {D : Type 0} (history : D → History) (honest : D → Type 0) (faults 
   reads_found infohash old _ _ h (other_torrent new calls of) = inl (calls.answered h)
   reads_found infohash old _ _ h (no_memory new calls of) = inl (calls.answered h)
   reads_found infohash old _ _ h (no_length new calls) = let a = calls.answered h in inl (a.2 ∙ a.1)
-  reads_found infohash old _ _ h (unread new at wanted calls) = let a = calls.answered h in inl (a.2 ∙ a.1)
+  reads_found infohash old _ _ h (unread new at wanted calls of) = let a = calls.answered h in inl (a.2 ∙ a.1)
 
   made_found : (infohash : List ℕ) (old new : D) → length infohash ≡ 32 → honest old → (history old).now.bytes ≡ []
       → HasCalls history honest faults old (bytes_written 0 (header infohash) ∷ sync_made ∷ []) new → IsFound infohash new []
@@ -159,6 +166,7 @@ module _ {D : Type 0} (history : D → History) (honest : D → Type 0) (faults 
     torrent = size;
     within = found.0;
     ordered = omega (arith, kept);
+    begins = begin_same hints;
     kept_are = rw (kept, end) found.1;
     hints_are = rw end found.1;
   }
@@ -175,17 +183,26 @@ module _ {D : Type 0} (history : D → History) (honest : D → Type 0) (faults 
     torrent = ap length torrent ∙ holds.torrent;
     within = rw same holds.within;
     ordered = omega (arith, kept_is, end_is, holds.ordered);
+    begins = holds.begins;
     kept_are = rw (same, torrent, kept_is) holds.kept_are;
     hints_are = rw (same, torrent, end_is) holds.hints_are;
   }
 
+  -- the device of a log begins with the hints that it holds
+  pub held_keeps : (log : LogView D) (kept hints : List Hint) → Holds history honest faults log kept hints → KeepsHints log.infohash hints (history log.disk).now.bytes
+  held_keeps log kept hints holds = record { within = holds.within; begins = rw (← holds.hints_are.end_is) holds.hints_are.spelled }
+
   pub reload_holds : ReloadHolds history honest faults
-  reload_holds old new (Ok value) kept hints h is holds =
-      subst (λ log. Holds history honest faults log new.hints new.hints) (sym is.1)
-      (found_holds _ new.hints holds.torrent refl refl (reads_found old.infohash old.disk new.disk (Ok new.hints) h is.0))
+  reload_holds old new (Ok value) kept hints h is holds = (
+    subst (λ log. Holds history honest faults log new.hints new.hints) (sym is.1)
+        (found_holds _ new.hints holds.torrent refl refl (reads_found old.infohash old.disk new.disk (Ok new.hints) h is.0)),
+    kept_devices_are_read history honest faults old.infohash old.disk new.disk (Ok new.hints) hints holds.torrent holds.hints_are.lawful h (held_keeps old kept hints holds) is.0,
+  )
   reload_holds old new (Err cause) kept hints h is holds =
-      let same : history new.disk ≡ history old.disk = elim (reads_found old.infohash old.disk new.disk (Err cause) h is.0) [ inl e ↦ e | inr e ↦ e ] in
-      subst (λ log. Holds history honest faults log kept hints) (sym is.1) (moved old (record old { disk = new.disk }) kept hints holds same refl refl refl)
+      let same : history new.disk ≡ history old.disk = elim (reads_found old.infohash old.disk new.disk (Err cause) h is.0) [ inl e ↦ e | inr e ↦ e ] in (
+        subst (λ log. Holds history honest faults log kept hints) (sym is.1) (moved old (record old { disk = new.disk }) kept hints holds same refl refl refl),
+        kept_devices_are_read history honest faults old.infohash old.disk new.disk (Err cause) hints holds.torrent holds.hints_are.lawful h (held_keeps old kept hints holds) is.0,
+      )
 
   pub append_holds : AppendHolds history honest faults
   append_holds hint old new (Ok value) kept hints h lawful is holds =
@@ -201,6 +218,7 @@ module _ {D : Type 0} (history : D → History) (honest : D → Type 0) (faults 
         torrent = holds.torrent;
         within = omega (arith, left.within, holds.within, is.0);
         ordered = omega (arith, holds.ordered);
+        begins = begin_trans kept hints (hints ++ hint ∷ []) holds.begins (hint ∷ [], refl);
         kept_are = held_same old.infohash bytes after old.kept kept (front_kept bytes after old.kept old.end holds.ordered front) holds.kept_are;
         hints_are = held_more old.infohash bytes after old.end hints hint holds.hints_are lawful left;
       })
@@ -217,12 +235,13 @@ module _ {D : Type 0} (history : D → History) (honest : D → Type 0) (faults 
         torrent = holds.torrent;
         within = omega (arith, spared.within, holds.within, is.0);
         ordered = omega arith;
+        begins = begin_same kept;
         kept_are = still;
         hints_are = still;
       })
   append_holds hint old new (Err Full) kept hints h lawful is holds =
       subst (λ log. Holds history honest faults log kept kept) (sym is.1)
-      (record { torrent = holds.torrent; within = holds.within; ordered = omega arith; kept_are = holds.kept_are; hints_are = holds.kept_are })
+      (record { torrent = holds.torrent; within = holds.within; ordered = omega arith; begins = begin_same kept; kept_are = holds.kept_are; hints_are = holds.kept_are })
 
   pub flush_holds : FlushHolds history honest faults
   flush_holds old new (Ok value) kept hints h is holds =
@@ -231,8 +250,8 @@ module _ {D : Type 0} (history : D → History) (honest : D → Type 0) (faults 
       let bytes : (history new.disk).now.bytes ≡ (history old.disk).now.bytes = ap (λ (s : State). s.bytes) synced in
       let held : HoldsTo old.infohash (history new.disk).now.bytes old.end hints = rw bytes holds.hints_are in
       let held_now : Holds history honest faults (record old { disk = new.disk; kept = old.end }) hints hints =
-      record { torrent = holds.torrent; within = rw bytes holds.within; ordered = omega arith; kept_are = held; hints_are = held } in
-      let keeps : KeepsHints old.infohash hints (history old.disk).now.bytes = record { within = holds.within; begins = rw (← holds.hints_are.end_is) holds.hints_are.spelled } in
+      record { torrent = holds.torrent; within = rw bytes holds.within; ordered = omega arith; begins = begin_same hints; kept_are = held; hints_are = held } in
+      let keeps = held_keeps old kept hints holds in
       let since : AreKeptSince (history new.disk) (moment_of (history new.disk)) old.infohash hints =
       from_now (KeepsHints old.infohash hints) (history new.disk)
       (λ image left. subst (KeepsHints old.infohash hints) (sym (synced_image (history old.disk).now.bytes image (subst (λ s. IsImage s image) synced left))) keeps) in
@@ -244,6 +263,7 @@ module _ {D : Type 0} (history : D → History) (honest : D → Type 0) (faults 
         torrent = holds.torrent;
         within = rw same holds.within;
         ordered = omega arith;
+        begins = begin_same kept;
         kept_are = rw same holds.kept_are;
         hints_are = rw same holds.kept_are;
       })

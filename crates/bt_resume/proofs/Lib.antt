@@ -9,3 +9,6 @@ pub mod Sequences
 -- Images of a crash.
 pub mod Crashes
 pub mod Holdings
+pub mod Openings
+-- Hints that stand through all calls.
+pub mod Standings

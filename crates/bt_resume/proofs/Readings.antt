@@ -135,12 +135,13 @@ module _ {D : Type 0} (history : D → History) (honest : D → Type 0) (faults 
   reads_later infohash old mid _ _ first (no_memory new calls of) =
       no_memory new (has_then history honest faults old mid new [] [] first calls) (of_same (HasHeader infohash) old mid first of)
   reads_later infohash old mid _ _ first (no_length new calls) = no_length new (has_then history honest faults old mid new [] _ first calls)
-  reads_later infohash old mid _ _ first (unread new at wanted calls) = unread new at wanted (has_then history honest faults old mid new [] _ first calls)
+  reads_later infohash old mid _ _ first (unread new at wanted calls of) =
+      unread new at wanted (has_then history honest faults old mid new [] _ first calls) (of_same (λ bytes. length bytes ≤ 2 ^ 40) old mid first of)
 
   pub reads_unheaded : (infohash : List ℕ) (old new : D) (cause : LogError) → OfBytes history honest faults old (λ bytes. length bytes ≤ 2 ^ 40)
       → IsHeaderCheck history honest faults infohash old {T = ℕ} (Err cause) new → Reads history honest faults infohash old (Err cause) new
   reads_unheaded infohash old new OtherTorrent within check = other_torrent new check.0 (λ h. record { within = within h; differs = check.1 h })
-  reads_unheaded infohash old new Device within check = unread new 0 40 check
+  reads_unheaded infohash old new Device within check = unread new 0 40 check within
   reads_unheaded infohash old new TooLong within check = absurd check
   reads_unheaded infohash old new OutOfMemory within check = absurd check
 
@@ -155,7 +156,7 @@ module _ {D : Type 0} (history : D → History) (honest : D → Type 0) (faults 
         hints_are = of_same (λ bytes. AreHints (drop 40 bytes) contents.hints.items) old mid first contents_are.hints_are h;
       })
   reads_contents infohash old mid new (Err Device) first headed unread_is =
-      unread new unread_is.0 unread_is.1 (has_then history honest faults old mid new [] _ first unread_is.2)
+      unread new unread_is.0 unread_is.1 (has_then history honest faults old mid new [] _ first unread_is.2) (λ h. (headed h).within)
   reads_contents infohash old mid new (Err OutOfMemory) first headed calls = no_memory new (has_then history honest faults old mid new [] [] first calls) headed
   reads_contents infohash old mid new (Err OtherTorrent) first headed none = absurd none
   reads_contents infohash old mid new (Err TooLong) first headed none = absurd none

@@ -1,11 +1,11 @@
 -- Lists of hints that begin the same bytes.
 use Rattle.std.proofs.Common.{◌≡◌, ℕ, List, [], ◌∷◌, ◌++◌, length, take, drop, refl, sym, ap, ◌∙◌, subst, arith}
-use Rattle.std.proofs.lemmas.List.{append_assoc, take_at, drop_at, take-append-drop, length-append}
+use Rattle.std.proofs.lemmas.List.{append_assoc, append-nil, take_at, drop_at, take-append-drop, length-append}
 use Rattle.std.proofs.lemmas.List.Elements.{All-head, All-tail}
 use Rattle.bt_resume.specs.declared.hint.Hint.{Hint}
 use Rattle.bt_resume.specs.Hint.{hint_spelling, hints_spelling, IsHint, AreHints}
 use Rattle.bt_resume.specs.ResumeLog.{header, log_length, log_spelling}
-use Rattle.bt_resume.specs.Law.{AreReadBack, HasOneReading, AreReadFirst, KeptLogsOpen}
+use Rattle.bt_resume.specs.Law.{AreReadBack, HasOneReading, Begin, AreReadFirst, KeptLogsOpen}
 use Rattle.bt_resume.proofs.Spellings.{same_hint}
 
 pub are_read_back : AreReadBack
@@ -31,6 +31,12 @@ are_read_first (h ∷ hs) (r ∷ rs) rest lawful are =
     (subst (λ bytes. AreHints bytes (r ∷ rs)) (append_assoc (hint_spelling h) (hints_spelling hs) rest) are) in
     let more = are_read_first hs rs rest (All-tail IsHint h hs lawful) next.1 in
     (more.0, ap (λ x. x ∷ rs) (sym next.0) ∙ ap (λ xs. h ∷ xs) more.1)
+
+pub begin_same : (a : List Hint) → Begin a a
+begin_same a = ([], sym (append-nil a))
+
+pub begin_trans : (a b c : List Hint) → Begin a b → Begin b c → Begin a c
+begin_trans a b c p q = (p.0 ++ q.0, q.1 ∙ ap (λ xs. xs ++ q.0) p.1 ∙ append_assoc a p.0 q.0)
 
 pub has_one_reading : HasOneReading
 has_one_reading bytes [] [] p q = refl

@@ -1,13 +1,14 @@
 -- What hints that were spelled are read as, and what a crash leaves of a log.
-use Rattle.std.specs.Prelude.{◌≡◌, ℕ, ◌≤◌, List, [], ◌∷◌, ◌++◌, length, take, All, Result, MatchResult, ⊤}
+use Rattle.std.specs.Prelude.{◌≡◌, ℕ, ◌≤◌, List, [], ◌∷◌, ◌++◌, length, take, All, Result, Ok, MatchResult, ⊤}
 use Rattle.bt_tree.specs.Limits.{digest_length}
 use Rattle.bt_disk.specs.History.{History, moment_of, LeftSince}
 use Rattle.bt_disk.specs.declared.disk.DeviceFault.{DeviceFault}
 use Rattle.bt_resume.specs.Limits.{max_log_length}
 use Rattle.bt_resume.specs.Hint.{hint_spelling, hints_spelling, IsHint, BeginsNoHint, AreHints}
-use Rattle.bt_resume.specs.ResumeLog.{log_spelling, log_length, LogView, HasHeader, IsLog, Opens, IsAttached, IsReloaded, IsAppended, IsFlushed}
+use Rattle.bt_resume.specs.ResumeLog.{log_spelling, log_length, LogView, HasHeader, IsLog, Reads, Opens, IsAttached, IsReloaded, IsAppended, IsFlushed}
 use Rattle.bt_resume.specs.declared.hint.Hint.{Hint}
 use Rattle.bt_resume.specs.declared.error.LogError.{LogError}
+use Rattle.bt_resume.specs.declared.error.LogError.TheVariants.{OtherTorrent, TooLong, Device, OutOfMemory}
 use Rattle.bt_resume.specs.declared.error.AppendError.{AppendError}
 
 -- bytes begin with the spelling of one hint at most
@@ -48,6 +49,18 @@ KeptLogsOpen = (infohash bytes : List ℕ) (hints : List Hint) → length infoha
     → All IsHint hints → KeepsHints infohash hints bytes
     → HasHeader infohash bytes × ((all : List Hint) → IsLog infohash bytes all → Begin hints all)
 
+-- and what is a log of the torrent whose hints begin with these, begins so
+abbrev pub OpenLogsKeep : Type 0
+OpenLogsKeep = (infohash bytes : List ℕ) (hints all : List Hint) → length infohash ≡ digest_length
+    → IsLog infohash bytes all → Begin hints all → KeepsHints infohash hints bytes
+
+-- the refusal does not lie in what the device's bytes are
+abbrev pub IsNotOfBytes : LogError → Type 0
+IsNotOfBytes OtherTorrent = ⊥
+IsNotOfBytes TooLong = ⊥
+IsNotOfBytes Device = ⊤
+IsNotOfBytes OutOfMemory = ⊤
+
 -- the bytes begin with the header and these hints, which end here
 pub record HoldsTo (infohash bytes : List ℕ) (end : ℕ) (hints : List Hint) : Type 0 where
   pub lawful : All IsHint hints
@@ -55,12 +68,30 @@ pub record HoldsTo (infohash bytes : List ℕ) (end : ℕ) (hints : List Hint) :
   pub spelled : take end bytes ≡ log_spelling infohash hints
 
 module _ {D : Type 0} (history : D → History) (honest : D → Type 0) (faults : D → ℕ) where
-  -- The device of a log holds these hints where the next one is due, and the kept ones where it is due once
-  -- the others are forgotten.
+  -- An honest device whose bytes begin with the header and hints is read, and is opened, with these first: it
+  -- is refused only where a call or memory failed.
+
+  abbrev pub KeptDevicesAreRead : Type 0
+  KeptDevicesAreRead = (infohash : List ℕ) (old new : D) (result : Result (List Hint) LogError)
+      (hints : List Hint) → length infohash ≡ digest_length → All IsHint hints → honest old
+      → KeepsHints infohash hints (history old).now.bytes
+      → Reads history honest faults infohash old result new
+      → MatchResult result (Begin hints) IsNotOfBytes
+
+  abbrev pub KeptDevicesOpen : Type 0
+  KeptDevicesOpen = (infohash : List ℕ) (old new : D) (result : Result (List Hint) LogError)
+      (hints : List Hint) → length infohash ≡ digest_length → All IsHint hints → honest old
+      → KeepsHints infohash hints (history old).now.bytes
+      → Opens history honest faults infohash old result new
+      → MatchResult result (Begin hints) IsNotOfBytes
+
+  -- The device of a log holds these hints where the next one is due, and the kept ones, which begin them,
+  -- where it is due once the others are forgotten.
   pub record Holds (log : LogView D) (kept hints : List Hint) : Type 0 where
     pub torrent : length log.infohash ≡ digest_length
     pub within : length (history log.disk).now.bytes ≤ max_log_length
     pub ordered : log.kept ≤ log.end
+    pub begins : Begin kept hints
     pub kept_are : HoldsTo log.infohash (history log.disk).now.bytes log.kept kept
     pub hints_are : HoldsTo log.infohash (history log.disk).now.bytes log.end hints
 
@@ -102,7 +133,8 @@ module _ {D : Type 0} (history : D → History) (honest : D → Type 0) (faults 
   abbrev pub ReloadHolds : Type 0
   ReloadHolds = (old new : LogView D) (result : Result ⊤ LogError) (kept hints : List Hint) → honest old.disk
       → IsReloaded history honest faults old result new → Holds old kept hints
-      → MatchResult result (λ _. Holds new new.hints new.hints) (λ _. Holds new kept hints)
+      → MatchResult result (λ _. Holds new new.hints new.hints × Begin hints new.hints)
+      (λ cause. Holds new kept hints × IsNotOfBytes cause)
 
   abbrev pub AppendHolds : Type 0
   AppendHolds = (hint : Hint) (old new : LogView D) (result : Result ⊤ AppendError) (kept hints : List Hint)
@@ -119,3 +151,41 @@ module _ {D : Type 0} (history : D → History) (honest : D → Type 0) (faults 
       (λ _. Holds new hints hints
       × AreKeptSince (history new.disk) (moment_of (history new.disk)) new.infohash hints)
       (λ _. Holds new kept kept)
+
+  -- The hints that a log keeps begin with these, and so does whatever a crash at moment t or later has left.
+  pub record KeepsFirst (t : ℕ) (hints : List Hint) (log : LogView D) : Type 0 where
+    pub kept : List Hint
+    pub all : List Hint
+    pub holds : Holds log kept all
+    pub begins : Begin hints kept
+    pub since : AreKeptSince (history log.disk) t log.infohash hints
+
+  -- Such hints stand, in the log and in each image, through each call on an honest device, whatever it
+  -- answers.
+
+  abbrev pub AttachStands : Type 0
+  AttachStands = (infohash : List ℕ) (old : D) (log : LogView D) (t : ℕ) (hints : List Hint)
+      → length infohash ≡ digest_length → All IsHint hints → honest old
+      → AreKeptSince (history old) t infohash hints → IsAttached history honest faults infohash old log
+      → KeepsFirst t hints log
+
+  abbrev pub ReloadStands : Type 0
+  ReloadStands = (old new : LogView D) (result : Result ⊤ LogError) (t : ℕ) (hints : List Hint)
+      → honest old.disk → IsReloaded history honest faults old result new → KeepsFirst t hints old
+      → KeepsFirst t hints new
+
+  abbrev pub AppendStands : Type 0
+  AppendStands = (hint : Hint) (old new : LogView D) (result : Result ⊤ AppendError) (t : ℕ)
+      (hints : List Hint) → honest old.disk → IsHint hint
+      → IsAppended history honest faults hint old result new → KeepsFirst t hints old → KeepsFirst t hints new
+
+  abbrev pub FlushStands : Type 0
+  FlushStands = (old new : LogView D) (result : Result ⊤ DeviceFault) (t : ℕ) (hints : List Hint)
+      → honest old.disk → IsFlushed history honest faults old result new → KeepsFirst t hints old
+      → KeepsFirst t hints new
+
+  -- and from a flush that succeeded on, all that were held are such
+  abbrev pub FlushedStand : Type 0
+  FlushedStand = (old new : LogView D) (value : ⊤) (kept hints : List Hint) → honest old.disk
+      → IsFlushed history honest faults old {E = DeviceFault} (Ok value) new → Holds old kept hints
+      → KeepsFirst (moment_of (history new.disk)) hints new

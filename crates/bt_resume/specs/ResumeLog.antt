@@ -52,7 +52,7 @@ module _ {D : Type 0} (history : D → History) (honest : D → Type 0) (faults 
   OfBytes disk P = honest disk → P (history disk).now.bytes
 
   -- A log was read, or why it was not. But for the one read that failed no call failed, and no call changed
-  -- an honest device.
+  -- an honest device. A device that is too long is not read, so no read of it failed.
   pub data Reads (infohash : List ℕ) (old : D) : Result (List Hint) LogError → D → Type 0 where
     read : (hints : List Hint) (new : D) → HasCalls history honest faults old [] new → All IsHint hints
         → log_length hints ≤ max_log_length → OfBytes old (λ bytes. IsLog infohash bytes hints)
@@ -66,7 +66,7 @@ module _ {D : Type 0} (history : D → History) (honest : D → Type 0) (faults 
     no_length : (new : D) → HasCalls history honest faults old (length_fault ∷ []) new
         → Reads infohash old (Err Device) new
     unread : (new : D) (at wanted : ℕ) → HasCalls history honest faults old (read_fault at wanted ∷ []) new
-        → Reads infohash old (Err Device) new
+        → OfBytes old (λ bytes. length bytes ≤ max_log_length) → Reads infohash old (Err Device) new
 
   -- A log was opened, or why it was not: an empty device is given a header, and any other is read.
   pub data Opens (infohash : List ℕ) (old : D) : Result (List Hint) LogError → D → Type 0 where

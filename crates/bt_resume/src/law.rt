@@ -1,11 +1,11 @@
 //! What hints that were spelled are read as, and what a crash leaves of a log. The functions do nothing when
 //! they run.
-ghost use Rattle.bt_resume.specs.Law.{SpellsOneHint, AreReadBack, HasOneReading, AreReadFirst, KeptLogsOpen, AttachKeeps, ReloadKeeps, AppendKeeps, FlushKeeps, AttachHolds, ReloadHolds, AppendHolds, FlushHolds};
+ghost use Rattle.bt_resume.specs.Law.{SpellsOneHint, AreReadBack, HasOneReading, AreReadFirst, KeptLogsOpen, OpenLogsKeep, KeptDevicesAreRead, KeptDevicesOpen, AttachKeeps, ReloadKeeps, AppendKeeps, FlushKeeps, AttachHolds, ReloadHolds, AppendHolds, FlushHolds, AttachStands, ReloadStands, AppendStands, FlushStands, FlushedStand};
 
 use bt_disk::Disk;
 
-/// Hints that were spelled are read back: no spelling begins another, bytes are read in one way, and what lies
-/// behind the last whole hint does not matter.
+/// Hints that were spelled are read back: no spelling begins another, bytes are read in one way, and what
+/// lies behind the last whole hint does not matter.
 pub fn hints_are_read_back()
     ensures one { SpellsOneHint }
     ensures back { AreReadBack }
@@ -13,9 +13,18 @@ pub fn hints_are_read_back()
     ensures first { AreReadFirst }
 {}
 
-/// Bytes that begin with a torrent's header and hints are opened as its log, and its hints begin with these.
+/// Bytes that begin with a torrent's header and hints are a log of it, and its hints begin with these; and so
+/// the other way round.
 pub fn kept_logs_open()
-    ensures { KeptLogsOpen }
+    ensures first { KeptLogsOpen }
+    ensures back { OpenLogsKeep }
+{}
+
+/// An honest device with such bytes is read, and is opened, with these hints first, and is not refused for
+/// what its bytes are.
+pub fn kept_devices_open<D: Disk>()
+    ensures reads { KeptDevicesAreRead D.history D.honest D.faults }
+    ensures opens { KeptDevicesOpen D.history D.honest D.faults }
 {}
 
 /// What every image since a moment begins with, every image goes on to begin with, through each call of a
@@ -34,4 +43,14 @@ pub fn logs_hold_hints<D: Disk>()
     ensures reload { ReloadHolds D.history D.honest D.faults }
     ensures append { AppendHolds D.history D.honest D.faults }
     ensures flush { FlushHolds D.history D.honest D.faults }
+{}
+
+/// Hints that a log keeps, and that every image since a moment begins with, stay so through each call of a
+/// log on an honest device; from a flush that succeeded on, these are all hints that were held.
+pub fn kept_hints_stand<D: Disk>()
+    ensures attach { AttachStands D.history D.honest D.faults }
+    ensures reload { ReloadStands D.history D.honest D.faults }
+    ensures append { AppendStands D.history D.honest D.faults }
+    ensures flush { FlushStands D.history D.honest D.faults }
+    ensures flushed { FlushedStand D.history D.honest D.faults }
 {}

@@ -13,7 +13,10 @@ mod writer;
 
 pub use error::{AppendError, LogError, Refused};
 pub use hint::Hint;
-pub use law::{hints_are_read_back, kept_logs_open, logs_hold_hints, logs_keep_hints};
+pub use law::{
+    hints_are_read_back, kept_devices_open, kept_hints_stand, kept_logs_open, logs_hold_hints,
+    logs_keep_hints,
+};
 pub use resume_log::ResumeLog;
 
 #[cfg(test)]

@@ -1,8 +1,10 @@
 //! What no clause says: that calls succeed, the bytes of a log by hand, and the log that a cut, a fault or a
 //! crash leaves. A log is called through functions without a contract, so that a test's proof carries no clause
 //! of its calls.
+ghost use Rattle.std.specs.Prelude.{◌≡◌, []};
+ghost use Rattle.bt_disk.specs.Limits.{one_more};
 
-use crate::{AppendError, Hint, LogError, ResumeLog};
+use crate::{AppendError, Hint, LogError, Refused, ResumeLog};
 use bt_disk::{DeviceFault, Disk, FaultDisk, Loss, MemoryDisk};
 use bt_hashreq::HashKey;
 use bt_sparse::Digests;
@@ -132,6 +134,56 @@ fn a_log_is_written_and_read_back(rt: HostRuntime) -> Result<(), Fail> {
     Ok(())
 }
 
+/// A proof of a run of two digests, and of two above them, whose key has numbers of different bytes.
+fn high_proof(alloc: Global) -> Result<Hint, AllocError> {
+    let key = HashKey {
+        root: *b"a root is any string of 32 bytes",
+        base: 3,
+        index: 0x01fedcba,
+        length: 2,
+        layers: 2,
+    };
+    let digests = [[1; 32], [2; 32], [3; 32], [4; 32]];
+    Ok(Hint::Proof(key, Digests::new(Vec::from_slice(alloc, &digests)?)))
+}
+
+/// The bytes of that proof, by hand.
+fn push_high_proof(bytes: &mut Vec<u8>) -> Result<(), AllocError> {
+    bytes.extend_from_slice(b"Pa root is any string of 32 bytes")?;
+    bytes.extend_from_slice(b"\0\0\0\x03\x01\xfe\xdc\xba\0\0\0\x02\0\0\0\x02")?;
+    push_pair(bytes, 1, 2)?;
+    push_pair(bytes, 3, 4)
+}
+
+/// Whether a new log with one hint has these bytes behind its header.
+fn is_spelled(alloc: Global, hint: &Hint, bytes: &[u8]) -> bool {
+    let disk = MemoryDisk::new(alloc, Vec::new(alloc));
+    let Ok(mut log) = Fixture::attach(alloc, disk) else {
+        return false;
+    };
+    log.append(hint) == Some(Ok(())) && log.into_disk().bytes().get(40..) == Some(bytes)
+}
+
+#[test]
+fn a_mark_is_nine_bytes(rt: HostRuntime) -> Result<(), Fail> {
+    let hint = Hint::Mark {
+        file: 0x01020304,
+        block: 0xfffefdfc,
+    };
+    assert!(&rt; is_spelled(rt.alloc(), &hint, b"M\x01\x02\x03\x04\xff\xfe\xfd\xfc"));
+    Ok(())
+}
+
+#[test]
+fn a_proof_is_its_key_and_its_digests(rt: HostRuntime) -> Result<(), Fail> {
+    let hint = high_proof(rt.alloc())?;
+    let mut bytes = Vec::new(rt.alloc());
+    push_high_proof(&mut bytes)?;
+    assert_eq!(&rt; bytes.len(), 177);
+    assert!(&rt; is_spelled(rt.alloc(), &hint, &bytes));
+    Ok(())
+}
+
 /// How many hints are read of so many bytes of the log.
 fn hints_of_cut(len: usize) -> Result<usize, LogError> {
     if len == 0 {
@@ -156,6 +208,30 @@ fn a_log_is_read_up_to_a_cut(rt: HostRuntime) -> Result<(), Fail> {
     for len in 0..=LOG_LEN {
         let hints = hints_in(rt.alloc(), bytes.get(..len).ok_or("short")?)?;
         assert!(&rt; hints == hints_of_cut(len), "{len} bytes");
+    }
+    Ok(())
+}
+
+/// How many hints are read once a mark was appended to so many bytes of the log; none where a call failed.
+fn hints_behind_cut(alloc: Global, bytes: &[u8]) -> Result<Option<usize>, AllocError> {
+    let disk = MemoryDisk::new(alloc, Vec::from_slice(alloc, bytes)?);
+    let Ok(mut log) = Fixture::attach(alloc, disk) else {
+        return Ok(None);
+    };
+    if log.mark(7) && log.reload().is_ok() {
+        Ok(Some(log.hint_count()))
+    } else {
+        Ok(None)
+    }
+}
+
+#[test]
+fn what_a_cut_left_is_written_over(rt: HostRuntime) -> Result<(), Fail> {
+    let bytes = log_bytes(rt.alloc())?;
+    for len in 40..=LOG_LEN {
+        let hints = hints_behind_cut(rt.alloc(), bytes.get(..len).ok_or("short")?)?;
+        let read = hints_of_cut(len).ok().map(|count| count.saturating_add(1));
+        assert!(&rt; hints == read, "{len} bytes");
     }
     Ok(())
 }
@@ -265,17 +341,36 @@ fn what_was_not_flushed_is_forgotten_after_a_fault(rt: HostRuntime) -> Result<()
     Ok(())
 }
 
-/// Whether so many hints are read after a crash of a log with three that were flushed and a mark that was not.
-fn has_after_crash(alloc: Global, loss: Loss, hints: usize) -> Result<bool, AllocError> {
-    let Some(mut log) = written(alloc)? else {
-        return Ok(false);
-    };
-    if !log.mark(2) {
-        return Ok(false);
-    }
+/// How many hints are read after a crash of a log; none where it is not opened.
+fn hints_after_crash(alloc: Global, log: Fixture<MemoryDisk>, loss: Loss) -> Option<usize> {
     match Fixture::attach(alloc, log.into_disk().after_crash(loss)) {
-        Ok(log) => Ok(log.hint_count() == hints),
-        Err(_) => Ok(false),
+        Ok(log) => Some(log.hint_count()),
+        Err(_) => None,
+    }
+}
+
+/// How many are read of a log with three that were flushed and a mark that was not.
+fn flushed_after_crash(alloc: Global, loss: Loss) -> Result<Option<usize>, AllocError> {
+    let Some(mut log) = written(alloc)? else {
+        return Ok(None);
+    };
+    if log.mark(2) {
+        Ok(hints_after_crash(alloc, log, loss))
+    } else {
+        Ok(None)
+    }
+}
+
+/// How many are read of a new log with two marks that were not flushed.
+fn unflushed_after_crash(alloc: Global, loss: Loss) -> Option<usize> {
+    let disk = MemoryDisk::new(alloc, Vec::new(alloc));
+    let Ok(mut log) = Fixture::attach(alloc, disk) else {
+        return None;
+    };
+    if log.mark(0) && log.mark(1) {
+        hints_after_crash(alloc, log, loss)
+    } else {
+        None
     }
 }
 
@@ -283,13 +378,118 @@ fn has_after_crash(alloc: Global, loss: Loss, hints: usize) -> Result<bool, Allo
 fn hints_that_were_flushed_outlive_a_crash(rt: HostRuntime) -> Result<(), Fail> {
     // Nine times the letter M is a mark too: hints are not trusted.
     let rows = [
-        (Loss::Kept, 4),
-        (Loss::Filled(0), 3),
-        (Loss::Filled(77), 4),
-        (Loss::Filled(255), 3),
+        (Loss::Kept, 4, 2),
+        (Loss::Filled(0), 3, 0),
+        (Loss::Filled(77), 4, 2),
+        (Loss::Filled(255), 3, 0),
     ];
-    for (loss, hints) in rows {
-        assert!(&rt; has_after_crash(rt.alloc(), loss, hints)?);
+    for (loss, flushed, unflushed) in rows {
+        assert!(&rt; flushed_after_crash(rt.alloc(), loss)? == Some(flushed));
+        assert!(&rt; unflushed_after_crash(rt.alloc(), loss) == Some(unflushed));
+    }
+    Ok(())
+}
+
+/// Reads a log again, which has three hints. Where memory is refused, those that were read before stand, the
+/// next one is still written behind those that were appended, and a second reading succeeds.
+fn is_read_again<D: Disk + Drop>(log: &mut Fixture<D>, appended: usize) -> bool {
+    let before = log.hint_count();
+    match log.reload() {
+        Ok(()) => log.hint_count() == appended,
+        Err(LogError::OutOfMemory) => log.hint_count() == before
+            && log.reload().is_ok()
+            && log.hint_count() == appended,
+        Err(_) => false,
+    }
+}
+
+/// Opens the log on a device. Where memory is refused, the device is given back as it was, and a second call
+/// succeeds.
+fn attached_again(alloc: Global, disk: MemoryDisk) -> Option<Fixture<MemoryDisk>> {
+    let len = disk.bytes().len();
+    match ResumeLog::attach(alloc, disk, INFOHASH) {
+        Ok(log) => Some(Fixture { log }),
+        Err(Refused { disk, cause }) => {
+            if cause == LogError::OutOfMemory && disk.bytes().len() == len {
+                Fixture::attach(alloc, disk).ok()
+            } else {
+                None
+            }
+        }
+    }
+}
+
+/// Run with each allocation refused in turn, this shows what a refusal leaves.
+#[test]
+fn a_refused_growth_leaves_the_log(rt: HostRuntime) -> Result<(), Fail> {
+    let mut log = written(rt.alloc())?.ok_or("not written")?;
+    assert!(&rt; is_read_again(&mut log, 3));
+    assert!(&rt; log.mark(2));
+    assert!(&rt; is_read_again(&mut log, 4));
+    let log = attached_again(rt.alloc(), log.into_disk()).ok_or("not opened")?;
+    assert_eq!(&rt; log.hint_count(), 4);
+    Ok(())
+}
+
+/// A device that says how long it is, and of which no read, write or sync succeeds.
+#[derive(Drop)]
+struct Unreadable {
+    len: u64,
+    faults: u64,
+}
+
+impl Unreadable {
+    fn fault(&mut self) -> DeviceFault
+        ensures { self.new ≡ record self.old { faults = one_more self.old.faults } }
+    {
+        self.faults = self.faults.saturating_add(1);
+        DeviceFault
+    }
+}
+
+impl Disk for Unreadable {
+    ghost use Rattle.bt_disk.specs.History.{new_history};
+
+    ghost history = { λ _. new_history [] };
+
+    ghost honest = { λ _. ⊥ };
+
+    ghost faults = { λ d. d.faults };
+
+    ghost reads_image = { λ d h. absurd h };
+
+    fn len(&mut self) -> Result<u64, DeviceFault> {
+        Ok(self.len)
+    }
+
+    fn read_at(&mut self, _: u64, _: &mut [u8]) -> Result<usize, DeviceFault> {
+        Err(self.fault())
+    }
+
+    fn write_at(&mut self, _: u64, _: &[u8]) -> Result<(), DeviceFault> {
+        Err(self.fault())
+    }
+
+    fn set_len(&mut self, _: u64) -> Result<(), DeviceFault> {
+        Err(self.fault())
+    }
+
+    fn sync(&mut self) -> Result<(), DeviceFault> {
+        Err(self.fault())
+    }
+}
+
+#[test]
+fn a_log_that_is_too_long_is_not_read(rt: HostRuntime) -> Result<(), Fail> {
+    let rows = [
+        (1, LogError::Device),
+        (1 << 40, LogError::Device),
+        ((1 << 40) + 1, LogError::TooLong),
+        (u64::MAX, LogError::TooLong),
+    ];
+    for (len, cause) in rows {
+        let disk = Unreadable { len, faults: 0 };
+        assert!(&rt; Fixture::attach(rt.alloc(), disk).err() == Some(cause));
     }
     Ok(())
 }
