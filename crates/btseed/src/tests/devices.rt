@@ -128,7 +128,7 @@ impl<'a> Files for Device<'a> {
     }
 
     fn open_dir(&self, path: &str) -> io::Result<&'a [u8]> {
-        if path.ends_with("last") {
+        if path.ends_with("last/") {
             self.failing.at(Failing::Opens)?;
         }
         Ok(self.names)
