@@ -30,6 +30,10 @@ split_more f all left rest old new x each first more =
     each ∙ ap (λ l. map f old ++ l) first ∙ sym (append_assoc (map f old) (f x ∷ []) rest)
     ∙ ap (λ l. l ++ rest) (sym (ap (map f) more ∙ map-append f old (x ∷ [])))
 
+-- what comes next is known by another name
+pub next_is : {A : Type 0} (left rest : List A) (next same : A) → left ≡ next ∷ rest → same ≡ next → left ≡ same ∷ rest
+next_is left rest next same first is = first ∙ ap (λ x. x ∷ rest) (sym is)
+
 -- when none is left
 pub split_all : {A B : Type 0} (f : A → B) (all left : List B) (files : List A) → all ≡ map f files ++ left → length left ≡ 0 → map f files ≡ all
 split_all f all [] files each none = sym (each ∙ append-nil (map f files))

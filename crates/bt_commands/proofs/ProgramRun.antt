@@ -11,10 +11,9 @@ use Rattle.bt_meta.specs.Torrent.{Metainfo}
 use Rattle.bt_check.specs.Report.{IsReportOn, check_outcome, report_text}
 use Rattle.bt_check.specs.TorrentFile.{HasText}
 use Rattle.bt_commands.specs.Make.{IsMakeFault, IsMakeTorrent}
-use Rattle.bt_commands.specs.Program.{IsCheckResult, IsMakeResult, IsTaskResult, IsTaskEnd, IsRun, IsStart, Writes, no_words, on_words, task_result, task_end}
+use Rattle.bt_commands.specs.Program.{IsCheckResult, IsMakeResult, IsTaskResult, IsTaskEnd, IsRun, IsStart, Writes, infohash_line, no_words, on_words, task_result, task_end}
 use Rattle.bt_commands.specs.ProgramSteps.{status_after}
 use Rattle.hex.specs.Hex.{encode_lower}
-use Rattle.bt_check.specs.Display.{line_text}
 use Rattle.bt_check.specs.Fault.{device, make_fault, out_of_memory, status_of, words_fault}
 use Rattle.bt_commands.specs.declared.make.NewTorrent.{NewTorrent}
 use Rattle.bt_check.specs.declared.report.FileFinding.{FileFinding}
@@ -73,13 +72,23 @@ pub performed : (words : List Text) (task : Task) (old new : Option (List ℕ)) 
 performed words task old new (Ok status) asked written ended = task_result task asked written
 performed words task old new (Err fault) asked written ended = task_end task fault asked ended refl
 
-pub made : (request : MakeTask) (new : NewTorrent) (old now : Option (List ℕ)) (text line digits : List ℕ)
-    → IsMakeTorrent request.name.now request.piece_length new → text ≡ line → line ≡ codes "infohash " ++ (digits ++ 10 ∷ [])
-    → digits ≡ encode_lower new.infohash → Appends old now text → Writes (IsMakeResult request) old now 0
-made request new old now text line digits is same printed hash put =
-    let whole : text ≡ line_text (codes "infohash " ++ encode_lower new.infohash) =
-    same ∙ printed ∙ ap (λ d. codes "infohash " ++ (d ++ 10 ∷ [])) hash ∙ sym (append_assoc (codes "infohash ") (encode_lower new.infohash) (10 ∷ [])) in
-    record { text = text; written = put; is = record { new = new; made = is; line = whole; answer = refl } }
+-- how the line is put together
+pub line_spelled : (text digits infohash : List ℕ) → text ≡ codes "infohash " ++ (digits ++ 10 ∷ []) → digits ≡ encode_lower infohash
+    → text ≡ infohash_line infohash
+line_spelled text digits infohash printed hash =
+    printed ∙ ap (λ d. codes "infohash " ++ (d ++ 10 ∷ [])) hash ∙ sym (append_assoc (codes "infohash ") (encode_lower infohash) (10 ∷ []))
+
+pub made : (request : MakeTask) (new : NewTorrent) (old now : Option (List ℕ)) (infohash : List ℕ)
+    → IsMakeTorrent request.name.now request.piece_length new → infohash ≡ new.infohash → Appends old now (infohash_line infohash)
+    → Writes (IsMakeResult request) old now 0
+made request new old now infohash is same put =
+    record { text = infohash_line infohash; written = put; is = record { new = new; made = is; line = ap infohash_line same; answer = refl } }
+
+-- a device that fails is not memory that is short
+pub told_by_device : {T : Type 0} (r : Result T Fault) (old new : Option (List ℕ)) → IfErr r (λ fault. fault ≡ device)
+    → IfErr r (λ fault. fault ≡ out_of_memory → Keeps old new)
+told_by_device (Ok x) old new failed = tt
+told_by_device (Err fault) old new failed = λ memory. let bad : device ≡ out_of_memory = sym failed ∙ memory in cc
 
 pub start_on_words : (old new ran : Option (List ℕ)) (status run_status exit : ℕ) (words : List Text) → new ≡ ran → status ≡ run_status → exit ≡ status
     → IsRun words old ran run_status → IsStart old new exit

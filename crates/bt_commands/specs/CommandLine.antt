@@ -1,9 +1,10 @@
 -- What the words of the command line ask for. How words are read is the kit's: `subcommand_of` gives the
 -- subcommand with its matches, a row for each word or option; `fault_of` lists the kinds of error, and is
 -- empty where there is none.
-use Rattle.std.specs.Prelude.{◌≡◌, ℕ, ◌^◌, ◌<◌, ◌⊎◌, true, false, List, [], ◌∷◌, Option, None, Some, codes}
+use Rattle.std.specs.Prelude.{◌≡◌, ℕ, ◌^◌, ◌<◌, ◌⊎◌, true, false, Bool, List, [], ◌∷◌, Option, None, Some, codes}
 use Rattle.std.specs.Str.Parse.{IsNumeral, digits_value}
 use Rattle.clap.specs.Words.{App, IsAmong, Row, Rule, Text, fault_of, first_of, new_app, new_rule, one_of, subcommand_of, with_rule, with_subcommand}
+use Rattle.clap.specs.Simple.{on_top}
 use Rattle.clap.specs.declared.builder.action.ArgAction.TheVariants.{SetTrue}
 use Rattle.clap.specs.declared.error.kind.ErrorKind.{ErrorKind}
 use Rattle.clap.specs.declared.error.kind.ErrorKind.TheVariants.{OutOfMemory, ValueValidation}
@@ -43,16 +44,19 @@ check_app =
     with_rule (with_rule (with_rule (new_app (codes "check"))
     (required_rule (codes "TORRENT"))) (required_rule (codes "DIR"))) info_rule
 
--- a subcommand must be there, and with no word at all there is help
+abbrev pub with_version : App → App
+with_version = on_top (λ shape. record shape { has_version = true })
+
+-- the program's name is none of the words, a subcommand must be there, and with no word at all there is help
+abbrev pub with_demands : App → App
+with_demands = on_top (λ shape. record shape {
+  no_binary_name = true;
+  subcommand_required = true;
+  arg_required_else_help = true;
+})
+
 abbrev pub top_app : App
-top_app = record (new_app (codes "btseed")) {
-  top = record (new_app (codes "btseed")).top {
-    no_binary_name = true;
-    has_version = true;
-    subcommand_required = true;
-    arg_required_else_help = true;
-  };
-}
+top_app = with_demands (with_version (new_app (codes "btseed")))
 
 abbrev pub program_app : App
 program_app =
@@ -78,10 +82,14 @@ pub record IsMakeTaskIn (rows : List Row) (request : MakeTask) : Type 0 where
   pub name : first_of (codes "name") rows ≡ Some request.name.now
   pub piece_length : HasNumber rows (codes "piece-length") request.piece_length
 
+-- a flag is given or not
+pub record IsFlagIn (id : Text) (given : Bool) (rows : List Row) : Type 0 where
+  pub set : one_of id rows ≡ Some (codes "true") → given ≡ true
+  pub unset : one_of id rows ≡ Some (codes "false") → given ≡ false
+
 pub record IsSourceIn (rows : List Row) (source : Source) : Type 0 where
   pub path : first_of (codes "TORRENT") rows ≡ Some source.path.now
-  pub info : one_of (codes "info") rows ≡ Some (codes "true") → source.is_info ≡ true
-  pub whole : one_of (codes "info") rows ≡ Some (codes "false") → source.is_info ≡ false
+  pub info : IsFlagIn (codes "info") source.is_info rows
 
 -- a subcommand of this name with these rows asks for the task
 abbrev pub AsksFor : Text → List Row → Task → Type 0

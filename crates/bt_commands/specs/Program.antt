@@ -26,11 +26,15 @@ use Rattle.bt_check.specs.declared.report.Summary.{Summary}
 
 -- ---- a task that is done
 
+-- the line that tells the infohash of a torrent
+abbrev pub infohash_line : List ℕ → List ℕ
+infohash_line infohash = line_text (codes "infohash " ++ encode_lower infohash)
+
 -- a torrent was made, and the text is a line with its infohash
 pub record IsMakeResult (request : MakeTask) (status : ℕ) (text : List ℕ) : Type 0 where
   pub new : NewTorrent
   pub made : IsMakeTorrent request.name.now request.piece_length new
-  pub line : text ≡ line_text (codes "infohash " ++ encode_lower new.infohash)
+  pub line : text ≡ infohash_line new.infohash
   pub answer : status ≡ 0
 
 -- a torrent was read, and the text is what it says

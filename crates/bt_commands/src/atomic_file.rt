@@ -1,11 +1,13 @@
-//! Writing a file wholly or not at all.
+//! Writing a torrent to its file, wholly or not at all, and the line that tells of it.
 ghost use Rattle.std.specs.Prelude.{◌≡◌, ℕ, ◌⊎◌, string_bytes, IfOk, IfErr, OnOk};
-ghost use Rattle.std.specs.Io.KnownBytes.{Appends};
+ghost use Rattle.std.specs.Io.KnownBytes.{Appends, Keeps};
 ghost use Rattle.std.specs.List.{list_all};
 ghost use Rattle.bt_commands.specs.AtomicFileSteps.{IsLinkTarget, IsSibling, is_digit, is_part_name, part_name};
 ghost use Rattle.bt_check.specs.Fault.{device, out_of_memory};
+ghost use Rattle.bt_commands.specs.Program.{infohash_line};
 
-use bt_check::{Fault, system_fault};
+use bt_check::{Fault, print, system_fault};
+use bt_tree::Hash32;
 use std::alloc::{AllocError, Global};
 use std::fs::{self, File, OpenFile, Permissions};
 use std::io::{ErrorKind, Write};
@@ -14,12 +16,52 @@ use std::rt::Files;
 /// How many symbolic links are followed from a path to its file, as many as Linux follows.
 const MAX_LINKS: u32 = 40;
 
+/// The line that tells the infohash of a torrent.
+#[derive(Drop)]
+pub struct InfohashLine {
+    pub infohash: Hash32,
+    pub text: String,
+    ghost spelled: { string_bytes text ≡ infohash_line infohash },
+}
+
+impl InfohashLine {
+    /// The line of an infohash.
+    pub fn new(alloc: Global, infohash: Hash32) -> Result<InfohashLine, AllocError>
+        ensures { IfOk result (λ line. line.infohash ≡ infohash) }
+    {
+        let digits = hex::encode(alloc, &infohash)?;
+        let text = format!(in alloc; "infohash {digits}\n")?;
+        Ok(InfohashLine { infohash, text })
+    }
+}
+
+/// Writes the text of a torrent to its file, and then the line that tells of it. No file is replaced but here,
+/// with the line at hand: out of memory in forming it leaves the old file.
+pub fn publish<R: Files + AllocGlobal, O: Write>(
+    rt: &R,
+    path: &str,
+    text: &[u8],
+    line: &InfohashLine,
+    writer: &mut O,
+) -> Result<(), Fault>
+    ensures line { OnOk result
+        (Appends (O.contents writer.old) (O.contents writer.new) (infohash_line line.now.infohash)) }
+
+    // the file comes first: nothing is told where memory is short
+    ensures unsaid { IfErr result
+        (λ fault. fault ≡ out_of_memory → Keeps (O.contents writer.old) (O.contents writer.new)) }
+    ensures fault { IfErr result (λ fault. (fault ≡ device) ⊎ (fault ≡ out_of_memory)) }
+{
+    replace_file(rt, path, text)?;
+    print(writer, line.text.as_str())
+}
+
 /// Writes a file: wholly, or it stays as it was. The bytes go into a new file beside it, which then takes its
 /// name, and the mode of the one that was there.
 ///
 /// Where the path is a symbolic link, that is the file that it names, and the link stays. Where there is
 /// something that is no regular file, that is a device fault, and nothing is changed.
-pub fn replace_file<R: Files + AllocGlobal>(rt: &R, path: &str, bytes: &[u8]) -> Result<(), Fault>
+fn replace_file<R: Files + AllocGlobal>(rt: &R, path: &str, bytes: &[u8]) -> Result<(), Fault>
     ensures { IfErr result (λ fault. (fault ≡ device) ⊎ (fault ≡ out_of_memory)) }
 {
     let Target { path, permissions } = target_of(rt, path)?;

@@ -1,8 +1,8 @@
 //! What the words of the command line ask for.
 ghost use Rattle.std.specs.Prelude.{◌≡◌, ℕ, map, false, codes, string_bytes, IfOk, IfErr, IfSome, IfNone};
-ghost use Rattle.clap.specs.Words.{app_of, found_of, kind_of, rows_of, rule_of, subcommand_rows_of, with_rule, with_subcommand};
+ghost use Rattle.clap.specs.Words.{app_of, found_of, kind_of, new_app, rows_of, rule_of, subcommand_rows_of, with_rule, with_subcommand};
 ghost use Rattle.clap.specs.declared.builder.command.Command.TheViews.{out-Command as fields_of};
-ghost use Rattle.bt_commands.specs.CommandLine.{IsTaskOf, IsNoTaskOf, IsTaskIn, IsMakeTaskIn, IsSourceIn, IsNumber, make_app, show_app, check_app, top_app, program_app, required_rule, name_rule, piece_length_rule, info_rule};
+ghost use Rattle.bt_commands.specs.CommandLine.{with_version, with_demands, IsTaskOf, IsNoTaskOf, IsTaskIn, IsMakeTaskIn, IsSourceIn, IsFlagIn, IsNumber, make_app, show_app, check_app, top_app, program_app, required_rule, name_rule, piece_length_rule, info_rule};
 
 use bt_check::Source;
 use clap::error::ErrorKind;
@@ -34,6 +34,21 @@ const ABOUT: &str = "Makes, shows and checks BitTorrent v2 torrents.";
 const VERSION: &str = "0.1.0";
 
 const TORRENT_HELP: &str = "The torrent file";
+
+const MAKE_ABOUT: &str = "Writes the torrent of a folder, and prints its infohash";
+
+const MAKE_DIR_HELP: &str = "The folder whose files the torrent is made of";
+
+const OUT_HELP: &str = "The file that the torrent is written to";
+
+const NAME_HELP: &str = "The name that the torrent gives its files as a whole";
+
+const SHOW_ABOUT: &str = "Prints what a torrent says";
+
+const CHECK_ABOUT: &str =
+    "Tells which files of a folder are those of the torrent, and changes nothing";
+
+const CHECK_DIR_HELP: &str = "The folder in which the torrent's files lie";
 
 /// Reads the words that follow the program's name. Where they ask for help, or are refused, the error has the
 /// text.
@@ -87,10 +102,16 @@ fn source_of<'a>(matches: &ArgMatches<'a>) -> Option<Source<'a>>
     ensures some { IfSome result (IsSourceIn (rows_of (found_of matches.now))) }
     ensures none { IfNone result ((source : Source) → ¬ IsSourceIn (rows_of (found_of matches.now)) source) }
 {
-    Some(Source {
-        path: matches.get_str("TORRENT")?,
-        is_info: matches.get_flag("info"),
-    })
+    let is_info = has_info(matches);
+    let path = matches.get_str("TORRENT")?;
+    Some(Source { path, is_info })
+}
+
+/// Whether the flag `--info` is among the words.
+fn has_info(matches: &ArgMatches<'_>) -> bool
+    ensures { IsFlagIn (codes "info") result (rows_of (found_of matches.now)) }
+{
+    matches.get_flag("info")
 }
 
 /// The number that decimal digits write, if it fits. Leading zeros are allowed, a sign is not.
@@ -130,26 +151,34 @@ fn top_command<'a>(alloc: Global) -> Result<Command<'a>, AllocError>
     ensures { IfOk result (λ command. app_of command ≡ top_app) }
 {
     let command = Command::new(alloc, "btseed").bin_name("btseed")?;
-    Ok(
-        command
-            .about(ABOUT)
-            .version(VERSION)
-            .no_binary_name(true)
-            .subcommand_required(true)
-            .arg_required_else_help(true),
-    )
+    Ok(with_demands(with_version(command, ABOUT, VERSION)))
+}
+
+/// A command that tells what it is for, and its version.
+fn with_version<'a>(command: Command<'a>, about: &'a str, version: &'a str) -> Command<'a>
+    ensures { app_of result ≡ with_version (app_of command.entry) }
+{
+    command.about(about).version(version)
+}
+
+/// A command whose words begin behind the program's name: a subcommand must be there, and with no word at all
+/// there is help.
+fn with_demands<'a>(command: Command<'a>) -> Command<'a>
+    ensures { app_of result ≡ with_demands (app_of command.entry) }
+{
+    command
+        .no_binary_name(true)
+        .subcommand_required(true)
+        .arg_required_else_help(true)
 }
 
 fn make_command<'a>(alloc: Global) -> Result<Command<'a>, AllocError>
     ensures words { IfOk result (λ command. app_of command ≡ make_app) }
     ensures local { IfOk result (λ command. (fields_of command).has_globals ≡ false) }
 {
-    let dir = "The folder whose files the torrent is made of";
-    let out = "The file that the torrent is written to";
-    let about = "Writes the torrent of a folder, and prints its infohash";
-    let command = Command::new(alloc, "make").about(about);
-    let command = with_word(command, needed_word(alloc, "DIR", dir))?;
-    let command = with_word(command, needed_word(alloc, "OUT", out))?;
+    let command = plain_command(alloc, "make", MAKE_ABOUT);
+    let command = with_word(command, needed_word(alloc, "DIR", MAKE_DIR_HELP))?;
+    let command = with_word(command, needed_word(alloc, "OUT", OUT_HELP))?;
     let command = with_word(command, name_word(alloc))?;
     with_word(command, piece_length_word(alloc))
 }
@@ -158,7 +187,7 @@ fn show_command<'a>(alloc: Global) -> Result<Command<'a>, AllocError>
     ensures words { IfOk result (λ command. app_of command ≡ show_app) }
     ensures local { IfOk result (λ command. (fields_of command).has_globals ≡ false) }
 {
-    let command = Command::new(alloc, "show").about("Prints what a torrent says");
+    let command = plain_command(alloc, "show", SHOW_ABOUT);
     let command = with_word(command, needed_word(alloc, "TORRENT", TORRENT_HELP))?;
     with_word(command, info_flag(alloc))
 }
@@ -167,12 +196,18 @@ fn check_command<'a>(alloc: Global) -> Result<Command<'a>, AllocError>
     ensures words { IfOk result (λ command. app_of command ≡ check_app) }
     ensures local { IfOk result (λ command. (fields_of command).has_globals ≡ false) }
 {
-    let dir = "The folder in which the torrent's files lie";
-    let about = "Tells which files of a folder are those of the torrent, and changes nothing";
-    let command = Command::new(alloc, "check").about(about);
+    let command = plain_command(alloc, "check", CHECK_ABOUT);
     let command = with_word(command, needed_word(alloc, "TORRENT", TORRENT_HELP))?;
-    let command = with_word(command, needed_word(alloc, "DIR", dir))?;
+    let command = with_word(command, needed_word(alloc, "DIR", CHECK_DIR_HELP))?;
     with_word(command, info_flag(alloc))
+}
+
+/// A command of this name, with no words.
+fn plain_command<'a>(alloc: Global, name: &'a str, about: &'a str) -> Command<'a>
+    ensures words { app_of result ≡ new_app name.now }
+    ensures local { (fields_of result).has_globals ≡ false }
+{
+    Command::new(alloc, name).about(about)
 }
 
 /// A command with a word more.
@@ -198,10 +233,7 @@ fn name_word<'a>(alloc: Global) -> Arg<'a>
     ensures rule { rule_of result ≡ name_rule }
     ensures local { result.global ≡ false }
 {
-    Arg::new(alloc, "name")
-        .long("name")
-        .required(true)
-        .help("The name that the torrent gives its files as a whole")
+    needed_word(alloc, "name", NAME_HELP).long("name")
 }
 
 fn piece_length_word<'a>(alloc: Global) -> Arg<'a>

@@ -8,7 +8,7 @@ mod limits;
 mod make;
 mod program;
 
-pub use atomic_file::replace_file;
+pub use atomic_file::{InfohashLine, publish};
 pub use command_line::{MakeTask, Task};
 pub use folder::files_in;
 pub use make::{FolderFile, NewTorrent, open_file};

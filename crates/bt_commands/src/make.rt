@@ -120,16 +120,38 @@ fn measured_files<R: Files + AllocGlobal>(
     ensures pieces { IfOk result (λ files. total_piece_count size.bytes files.items ≤ max_piece_count) }
     ensures fault { IfErr result (IsMeasuringFault (map elements_of paths.items) size.bytes) }
 {
-    let alloc = rt.alloc();
     let mut counts = Counts::new();
-    let mut files = Vec::new(alloc);
+    let mut files = Vec::new(rt.alloc());
     for path in paths {
-        let data = found_path(alloc, dir, &path)?;
-        let length = fs::metadata(rt, data).map_err(|_| Fault::Device)?.len();
-        counts = counts.with(path.len(), length, size)?;
-        files.push(FolderFile { path, length })?;
+        let file = measured_file(rt, dir, path)?;
+        counts = counts.with(file.path.len(), file.length, size)?;
+        files.push(file)?;
     }
     Ok(files)
+}
+
+/// The file of a folder that has this path, with its length.
+fn measured_file<R: Files + AllocGlobal>(
+    rt: &R,
+    dir: &str,
+    path: Vec<String>,
+) -> Result<FolderFile, Fault>
+    ensures path { IfOk result (λ file. path_of file ≡ path) }
+    ensures fault { IfErr result (λ fault. (fault ≡ device) ⊎ (fault ≡ out_of_memory)) }
+{
+    let data = found_path(rt.alloc(), dir, &path)?;
+    let length = length_at(rt, data.as_path())?;
+    Ok(FolderFile { path, length })
+}
+
+/// How many bytes the file at a path has.
+fn length_at<R: Files>(rt: &R, path: Path<'_>) -> Result<u64, Fault>
+    ensures { IfErr result (λ fault. fault ≡ device) }
+{
+    match fs::metadata(rt, path) {
+        Ok(metadata) => Ok(metadata.len()),
+        Err(_) => Err(Fault::Device),
+    }
 }
 
 /// What a torrent says of each of these files of the folder.

@@ -1,6 +1,6 @@
 //! The program, over any runtime and writers.
 ghost use Rattle.std.specs.Prelude.{◌≡◌, ◌≤◌, ◌⊎◌, map, string_bytes, IfOk, IfErr, OnOk};
-ghost use Rattle.std.specs.Io.KnownBytes.{Appends, Keeps};
+ghost use Rattle.std.specs.Io.KnownBytes.{Keeps};
 ghost use Rattle.std.specs.Process.{exit_status};
 ghost use Rattle.clap.specs.Words.{kind_of};
 ghost use Rattle.bt_check.specs.Fault.{device, out_of_memory, status_of, words_fault};
@@ -8,10 +8,10 @@ ghost use Rattle.bt_commands.specs.Program.{IsCheckResult, IsExplanation, IsMake
 ghost use Rattle.bt_commands.specs.ProgramSteps.{status_after};
 ghost use Rattle.bt_commands.specs.declared.command_line.Task.TheVariants.{Make, Show, Check};
 
-use crate::atomic_file::replace_file;
+use crate::atomic_file::{InfohashLine, publish};
 use crate::command_line::{MakeTask, Task, parse};
 use crate::make::make;
-use bt_check::{BUFFER_LEN, Fault, Source, check_torrent, load, print, show_torrent};
+use bt_check::{BUFFER_LEN, Fault, Source, check_torrent, load, show_torrent};
 use clap::Error;
 use clap::error::ErrorKind;
 use std::env::{self, Env};
@@ -117,26 +117,9 @@ fn perform_make<R: Files + AllocGlobal + Clone + Drop, O: Write>(
         (IsTaskEnd (Make request.entry) (O.contents writer.old) (O.contents writer.new)) }
 {
     let torrent = make(rt, request)?;
-    let digits = hex::encode(rt.alloc(), &torrent.infohash)?;
-    let line = format!(in rt.alloc(); "infohash {digits}\n")?;
-    publish(rt, request.out, &torrent.text, line.as_str(), writer)?;
+    let line = InfohashLine::new(rt.alloc(), torrent.infohash)?;
+    publish(rt, request.out, &torrent.text, &line, writer)?;
     Ok(0)
-}
-
-/// Writes the text of a torrent to its file, and then the line that tells of it, which has to be there
-/// before: out of memory in forming it leaves the old file.
-fn publish<R: Files + AllocGlobal, O: Write>(
-    rt: &R,
-    path: &str,
-    text: &[u8],
-    line: &str,
-    writer: &mut O,
-) -> Result<(), Fault>
-    ensures line { OnOk result (Appends (O.contents writer.old) (O.contents writer.new) line.now) }
-    ensures fault { IfErr result (λ fault. (fault ≡ device) ⊎ (fault ≡ out_of_memory)) }
-{
-    replace_file(rt, path, text)?;
-    print(writer, line)
 }
 
 fn perform_show<R: Files + AllocGlobal, O: Write>(

@@ -3,7 +3,7 @@
 use super::steps::{Step, expect_bytes, expect_entries, play_in, set_up};
 use super::tools::{confirm, expect, folder, front, path_in, put, remove_folder, three_blocks};
 use bt_check::{Fault, found_path};
-use bt_commands::{files_in, open_file, replace_file, start};
+use bt_commands::{InfohashLine, files_in, open_file, publish, start};
 use bt_meta::MakeError;
 use std::alloc::{AllocError, Allocator, Global};
 use std::env::{Env, FillError};
@@ -26,6 +26,7 @@ enum Failing {
     Flushes,
     Syncs,
     Renames,
+    Modes,
 }
 
 impl Failing {
@@ -41,7 +42,8 @@ impl Failing {
 
 /// The words of a command line, the host's file system, of which some calls fail, in which every folder lists these names, and in which a
 /// path that ends in `pipe` is a device, which neither a read nor a write is to reach. Of looks and opens those
-/// of a path that ends in `last` fail, and of reads the third of each file.
+/// of a path that ends in `last` fail, and of reads the third of each file. A file that has bytes takes no mode
+/// any more. What lies at `proc` and at `sys` has the number 1, each on a device of its own.
 #[derive(Clone, Copy)]
 struct Device<'a> {
     host: &'a HostRuntime,
@@ -67,6 +69,17 @@ fn host_path(path: &str) -> &str {
         "/dev/null"
     } else {
         path
+    }
+}
+
+/// The same for a look that follows links.
+fn followed_path(path: &str) -> &str {
+    if path.ends_with("/proc") {
+        "/proc"
+    } else if path.ends_with("/sys") {
+        "/sys"
+    } else {
+        host_path(path)
     }
 }
 
@@ -110,10 +123,14 @@ impl<'a> Files for Device<'a> {
             file: self.host.open_file(how, path)?,
             failing: self.failing,
             reads: 0,
+            has_bytes: false,
         })
     }
 
-    fn open_dir(&self, _path: &str) -> io::Result<&'a [u8]> {
+    fn open_dir(&self, path: &str) -> io::Result<&'a [u8]> {
+        if path.ends_with("last/") {
+            self.failing.at(Failing::Opens)?;
+        }
         Ok(self.names)
     }
 
@@ -121,10 +138,13 @@ impl<'a> Files for Device<'a> {
         if path.ends_with("last") {
             self.failing.at(Failing::Looks)?;
         }
-        self.host.metadata(host_path(path))
+        self.host.metadata(followed_path(path))
     }
 
     fn symlink_metadata(&self, path: &str) -> io::Result<Metadata> {
+        if path.ends_with("last") {
+            self.failing.at(Failing::Looks)?;
+        }
         self.host.symlink_metadata(host_path(path))
     }
 
@@ -163,6 +183,7 @@ struct DeviceFile {
     file: File,
     failing: Failing,
     reads: u32,
+    has_bytes: bool,
 }
 
 impl Read for DeviceFile {
@@ -178,6 +199,7 @@ impl Read for DeviceFile {
 impl Write for DeviceFile {
     fn write(&mut self, buf: &[u8]) -> io::Result<usize> {
         self.failing.at(Failing::Writes)?;
+        self.has_bytes = true;
         self.file.write(buf)
     }
 
@@ -203,6 +225,10 @@ impl OpenFile for DeviceFile {
     }
 
     fn set_permissions(&self, permissions: Permissions) -> io::Result<()> {
+        self.failing.at(Failing::Modes)?;
+        if self.has_bytes {
+            return Err(io::Error::from(ErrorKind::Other));
+        }
         self.file.set_permissions(permissions)
     }
 
@@ -216,6 +242,13 @@ impl OpenFile for DeviceFile {
     }
 }
 
+/// Writes over a file, and tells of it to an output that nobody reads.
+fn replace<R: Files + AllocGlobal>(rt: &R, path: &str) -> Result<(), Fault> {
+    let line = InfohashLine::new(rt.alloc(), [0; 32])?;
+    let mut output = Vec::new(rt.alloc());
+    publish(rt, path, b"new", &line, &mut output)
+}
+
 /// Writes over the file `kept`, and expects this answer, these bytes in it after, and nothing beside it.
 fn expect_written(
     rt: &HostRuntime,
@@ -226,7 +259,7 @@ fn expect_written(
 ) -> Result<(), Fail> {
     let path = path_in(rt, top, "kept")?;
     let device = Device::new(rt, failing);
-    let found = replace_file(&device, path.as_str(), b"new");
+    let found = replace(&device, path.as_str());
     confirm(found == wanted, "another answer")?;
     expect_bytes(rt, top, "kept", bytes)?;
     expect_entries(rt, top, "", 1)
@@ -237,6 +270,7 @@ const KEPT: &[Failing] = &[
     Failing::Flushes,
     Failing::Syncs,
     Failing::Renames,
+    Failing::Modes,
 ];
 
 fn expect_kept(rt: &HostRuntime, top: &str) -> Result<(), Fail> {
@@ -263,7 +297,7 @@ fn expect_replaced(
     bytes: &[u8],
 ) -> Result<(), Fail> {
     let path = path_in(rt, top, "kept")?;
-    let found = replace_file(&Device::new(rt, failing), path.as_str(), b"new");
+    let found = replace(&Device::new(rt, failing), path.as_str());
     confirm(found.is_ok() == succeeds, "another answer")?;
     expect_bytes(rt, top, "kept", bytes)
 }
@@ -310,7 +344,7 @@ fn a_file_is_written_beside_300_part_files(rt: HostRuntime) -> Result<(), Fail> 
 fn expect_mode_kept(rt: &HostRuntime, top: &str, mode: u32) -> Result<(), Fail> {
     let path = path_in(rt, top, "kept")?;
     fs::set_permissions(rt, path.as_str(), Permissions::from_mode(mode))?;
-    replace_file(rt, path.as_str(), b"new")?;
+    replace(rt, path.as_str())?;
     let found = fs::metadata(rt, path.as_str())?.permissions().mode();
     confirm(found & 0o777 == mode, "another mode")?;
     Ok(())
@@ -329,12 +363,17 @@ fn data_file(rt: &HostRuntime, top: &str, name: &str) -> Result<PathBuf, AllocEr
     found_path(rt.alloc(), top, &[String::from_str(rt.alloc(), name)?])
 }
 
-/// Expects that what stands at `pipe` is not replaced.
-fn expect_not_replaced(rt: &HostRuntime, top: &str) -> Result<(), Fail> {
-    let path = path_in(rt, top, "pipe")?;
-    let written = replace_file(&Device::new(rt, Failing::Nothing), path.as_str(), b"new");
+/// Expects that what stands at a path is not replaced.
+fn expect_not_replaced(
+    rt: &HostRuntime,
+    top: &str,
+    failing: Failing,
+    name: &str,
+) -> Result<(), Fail> {
+    let path = path_in(rt, top, name)?;
+    let written = replace(&Device::new(rt, failing), path.as_str());
     confirm(written == Err(Fault::Device), "it is replaced")?;
-    expect_bytes(rt, top, "pipe", b"old")?;
+    expect_bytes(rt, top, name, b"old")?;
     expect_entries(rt, top, "", 1)
 }
 
@@ -342,7 +381,15 @@ fn expect_not_replaced(rt: &HostRuntime, top: &str) -> Result<(), Fail> {
 #[test]
 fn what_is_no_regular_file_is_not_replaced(rt: HostRuntime) -> Result<(), Fail> {
     let top = set_up(&rt, "pipe", &[Step::File("pipe", b"old")])?;
-    expect_not_replaced(&rt, top.as_str())?;
+    expect_not_replaced(&rt, top.as_str(), Failing::Nothing, "pipe")?;
+    remove_folder(&rt, top.as_str())
+}
+
+/// What can't be looked at may be there.
+#[test]
+fn what_can_not_be_looked_at_is_not_replaced(rt: HostRuntime) -> Result<(), Fail> {
+    let top = set_up(&rt, "unseen", &[Step::File("last", b"old")])?;
+    expect_not_replaced(&rt, top.as_str(), Failing::Looks, "last")?;
     remove_folder(&rt, top.as_str())
 }
 
@@ -438,6 +485,36 @@ fn fault_of_names(rt: &HostRuntime, dir: &str, names: &[u8]) -> Option<Fault> {
         words: &[],
     };
     files_in(&device, dir).err()
+}
+
+#[test]
+fn a_folder_that_can_not_be_listed_is_a_device_fault(rt: HostRuntime) -> Result<(), Fail> {
+    let top = set_up(&rt, "unlisted", &[Step::Folder("last")])?;
+    let device = Device {
+        host: &rt,
+        failing: Failing::Opens,
+        names: b"last\0",
+        words: &[],
+    };
+    let found = files_in(&device, top.as_str()).err();
+    confirm(found == Some(Fault::Device), "it is passed over")?;
+    remove_folder(&rt, top.as_str())
+}
+
+/// Two files of one number lie on two devices: `OUT` is none of the folder's.
+#[test]
+fn a_file_of_another_device_is_another(rt: HostRuntime) -> Result<(), Fail> {
+    let steps = [Step::Folder("files"), Step::File("files/sys", b"abc")];
+    let top = set_up(&rt, "other-device", &steps)?;
+    let device = Device {
+        host: &rt,
+        failing: Failing::Nothing,
+        names: b"sys\0",
+        words: &[],
+    };
+    let line = "make @/files @/proc --name n";
+    expect(&device, top.as_str(), line, 3, "", DEVICE_FAULT)?;
+    remove_folder(&rt, top.as_str())
 }
 
 /// Expects that names that are no text are refused, and that those of no file are device faults.

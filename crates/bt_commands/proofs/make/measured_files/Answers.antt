@@ -1,6 +1,6 @@
 use Rattle.std.proofs.Common.{rules}
 use Rattle.std.proofs.lemmas.Result.{err_from_is_err_and}
-use Rattle.bt_commands.proofs.FolderFiles.{measured_more, measured_none, measured_refused, split_all}
+use Rattle.bt_commands.proofs.FolderFiles.{measured_more, measured_none, measured_refused, next_is, split_all}
 use Rattle.bt_commands.specs.MakeSteps.{path_of}
 use Rattle.bt_commands.proofs.make.measured_files.Goals as goal
 
@@ -11,14 +11,14 @@ loop-path-init g c =
 
 pub loop-path-preserved : goal.loop-path-preserved
 loop-path-preserved g c =
-    measured_more c.loop-path.invariant _ _ _ c.in-Some.ensures.steps.0 (search rules) _ _ _ c.in_ok-push.ensures.items
+    measured_more c.loop-path.invariant _ c.in_ok-file.file _ (next_is _ _ _ _ c.in-Some.ensures.steps.0 c.in_ok-file.ensures.path) (search rules) _ _ _ c.in_ok-push.ensures.items
     c.in_ok-counts.ensures.refused c.in_ok-counts.ensures.short c.in_ok-counts.ensures.files c.in_ok-counts.ensures.pieces
 
 pub returns-in_err-counts-clause-fault : goal.returns-in_err-counts-clause-fault
 returns-in_err-counts-clause-fault g c =
     let q = err_from_is_err_and c.from_residual-in_err-counts.result c.from_residual-in_err-counts.ensures.1 in
-    rw (q.1, q.2) (measured_refused c.loop-path.invariant _ (record { path = c.in-Some.path; length = c.len-length.result }) _
-    c.in-Some.ensures.steps.0 (search rules) _ c.in_err-counts.ensures.refused)
+    rw (q.1, q.2) (measured_refused c.loop-path.invariant _ c.in_ok-file.file _
+    (next_is _ _ _ _ c.in-Some.ensures.steps.0 c.in_ok-file.ensures.path) (search rules) _ c.in_err-counts.ensures.refused)
 
 pub returns-clause-each : goal.returns-clause-each
 returns-clause-each g c = split_all path_of _ _ _ c.loop-path.invariant.each (search rules)

@@ -7,5 +7,4 @@ returns-in_err-torrent-clause-ended g c =
 
 pub returns-clause-done : goal.returns-clause-done
 returns-clause-done g c =
-    made c.args.request c.in_ok-torrent.torrent _ _ _ _ _ c.in_ok-torrent.ensures.torrent c.as_str.ensures.value c.in_ok-line.ensures.ok c.in_ok-digits.ensures
-    c.in_ok-publish.ensures.line
+    made c.args.request c.in_ok-torrent.torrent _ _ _ c.in_ok-torrent.ensures.torrent c.in_ok-line.ensures c.in_ok-publish.ensures.line
