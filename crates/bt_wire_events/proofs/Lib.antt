@@ -6,5 +6,6 @@ pub mod Standing
 pub mod Bits
 pub mod HashAnswers
 pub mod Settlings
+pub mod RunSettlings
 pub mod SpanReads
 pub mod Servings
