@@ -1,18 +1,22 @@
 -- What the reads of a group come to.
-use Rattle.std.proofs.Common.{◌≡◌, ◌≢◌, ℕ, ◌+◌, ◌-◌, ◌^◌, ◌<◌, ◌≤◌, inl, inr, List, [], ◌++◌, map, length, replicate, refl, sym, ap, ◌∙◌, subst, arith}
-use Rattle.std.specs.List.{count_by, range_with_len}
+use Rattle.std.proofs.Common.{◌≡◌, ◌≢◌, ℕ, ◌+◌, ◌-◌, ◌%◌, ◌^◌, ◌<◌, ◌≤◌, inl, inr, List, [], ◌++◌, map, length, replicate, refl, sym, ap, ◌∙◌, subst, arith}
+use Rattle.std.specs.List.{count_by}
 use Rattle.bt_tree.specs.Tree.{padding_digest}
 use Rattle.bt_disk.specs.History.{History}
 use Rattle.bt_disk.specs.Calls.{HasCalls}
+use Rattle.std.proofs.Math.Nat.{mod-lt}
+use Rattle.std.proofs.lemmas.Nat.{div-add-mod', pow_pos}
 use Rattle.bt_disk.proofs.CallLists.{has_none}
-use Rattle.bt_sparse.specs.SparseTree.{Facts}
+use Rattle.bt_sparse.specs.SparseTree.{Facts, blocks_of}
 use Rattle.bt_sparse.specs.Acceptance.{Accepts, IsRefused}
 use Rattle.bt_sparse.specs.declared.claim.ProofError.{ProofError}
 use Rattle.bt_sparse.specs.declared.claim.ProofError.TheVariants.{OutOfMemory}
 use Rattle.bt_store.specs.FileStore.{StoreView}
 use Rattle.bt_store.specs.BlockReads.{BlockRead, call_of}
-use Rattle.bt_store.specs.Adoption.{IsUnknownGroup, claimed_digest, is_whole, leaf_claim, claim_of_reads, marked_run, AreWhole, accepted, refused, short, unread, IsAdopted, StopsAdopting}
+use Rattle.bt_store.specs.Adoption.{Adopts, none as at_end, known, IsUnknownGroup, claimed_digest, is_whole, leaf_claim, claim_of_reads, marked_run, AreWhole, accepted, refused, short, unread, IsAdopted, StopsAdopting}
 use Rattle.bt_store.specs.GroupsSteps.{IsGroupRead}
+use Rattle.bt_store.specs.declared.adoption.Adopted.{Adopted}
+use Rattle.bt_store.specs.declared.block_states.BlockState.{BlockState}
 use Rattle.bt_store.specs.declared.groups.Census.{Census}
 use Rattle.bt_store.proofs.GroupReads.{group_size, group_limits}
 
@@ -105,3 +109,25 @@ module _ {D : Type 0} (history : D → History) (honest : D → Type 0) (faults 
         (subst (λ c. Accepts dig k c grown) (claim_is same read) accepts));
     same_file = ap (λ s. s.file_length) marks ∙ ap (λ s. s.file_length) others;
   }
+
+-- ---- the block after a group
+
+-- it lies behind the block that was adopted, and not behind the file's end
+pub record GoesOn (k : Facts) (from next : ℕ) : Type 0 where
+  pub onward : from < blocks_of k → from < next
+  pub within : next ≤ blocks_of k
+
+unknown_on : (k : Facts) (from anchor first count : ℕ) → IsUnknownGroup k from anchor first count → GoesOn k from (first + count)
+unknown_on k from anchor first count group =
+    let split : first + from % 2 ^ anchor ≡ from = ap (λ n. n + from % 2 ^ anchor) group.starts ∙ div-add-mod' from (2 ^ anchor) in
+    let less : from % 2 ^ anchor < 2 ^ anchor = mod-lt from (pow_pos anchor) in
+    record { onward = λ inside. omega (arith, group.counts, split, less, inside); within = omega (arith, group.counts, group.inside, split) }
+
+pub adopts_on : (dig : List ℕ → List ℕ) (k grown : Facts) (from : ℕ) (old new : List BlockState) (reads : List BlockRead) (adopted : Adopted)
+    → Adopts dig k from old reads adopted grown new → GoesOn k from adopted.next
+adopts_on dig k grown from old new reads adopted (at_end past) = record { onward = λ inside. absurd (omega arith); within = omega arith }
+adopts_on dig k grown from old new reads adopted (known count rs group order) = record { onward = λ inside. omega (arith, group.some); within = group.inside }
+adopts_on dig k grown from old new reads adopted (accepted anchor first count rs g group whole accepts) = unknown_on k from anchor first count group
+adopts_on dig k grown from old new reads adopted (refused anchor first count rs error group whole why other) = unknown_on k from anchor first count group
+adopts_on dig k grown from old new reads adopted (short anchor first count rs group order faults few) = unknown_on k from anchor first count group
+adopts_on dig k grown from old new reads adopted (unread anchor first count rs group order some) = unknown_on k from anchor first count group

@@ -8,6 +8,8 @@ pub mod Found
 pub mod Judgements
 -- Blocks that are read again.
 pub mod Reviews
+-- What is left of the states.
+pub mod Settling
 -- Groups of blocks that are taken in.
 pub mod GroupReads
 pub mod Marks

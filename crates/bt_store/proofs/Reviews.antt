@@ -4,6 +4,7 @@ use Rattle.std.specs.Prelude.{slice_get, slice_set, filter, is_some, ◌&&◌}
 use Rattle.std.specs.Option.{option_map_or}
 use Rattle.std.specs.List.{count_by, range_with_len}
 use Rattle.std.proofs.lemmas.List.{map-append}
+use Rattle.std.proofs.lemmas.List.Elements.{filter-append}
 use Rattle.std.proofs.lemmas.List.Sums.{sum_by-append, sum_by-cons}
 use Rattle.bt_disk.specs.History.{History}
 use Rattle.bt_disk.specs.Calls.{HasCalls}
@@ -29,13 +30,6 @@ range_split a (suc m) n =
     let next : suc m + n ≡ suc (m + n) = omega arith in
     let place : a + 1 + m ≡ a + suc m = omega arith in
     ap (range_with_len a) next ∙ ap (λ xs. a ∷ xs) (range_split (a + 1) m n ∙ ap (λ x. range_with_len (a + 1) m ++ range_with_len x n) place)
-
-filter_append : (p : ℕ → Bool) (xs ys : List ℕ) → filter p (xs ++ ys) ≡ filter p xs ++ filter p ys
-filter_append p [] ys = refl
-filter_append p (x ∷ xs) ys = elim (p x) as (λ b. cond b (x ∷ filter p (xs ++ ys)) (filter p (xs ++ ys)) ≡ cond b (x ∷ filter p xs) (filter p xs) ++ filter p ys) [
-  | true ↦ ap (λ l. x ∷ l) (filter_append p xs ys)
-  | false ↦ filter_append p xs ys
-]
 
 filter_whole : (p : ℕ → Bool) (a n : ℕ) → ((j : ℕ) → j < n → p (a + j) ≡ true) → filter p (range_with_len a n) ≡ range_with_len a n
 filter_whole p a zero all = refl
@@ -64,15 +58,17 @@ none_waits (Waiting ∷ states) none i = absurd (omega (arith, none, sum_by-cons
 none_waits (Marked ∷ states) none zero = refl
 none_waits (Marked ∷ states) none (suc i) = none_waits states (omega (arith, none, sum_by-cons (λ x. cond (is_waiting x) 1 0) Marked states)) i
 
-filter_none : (p : ℕ → Bool) (a n : ℕ) → ((i : ℕ) → p i ≡ false) → filter p (range_with_len a n) ≡ []
+pub filter_none : (p : ℕ → Bool) (a n : ℕ) → ((i : ℕ) → a ≤ i → p i ≡ false) → filter p (range_with_len a n) ≡ []
 filter_none p a zero none = refl
-filter_none p a (suc n) none = ap (λ b. cond b (a ∷ filter p (range_with_len (a + 1) n)) (filter p (range_with_len (a + 1) n))) (none a) ∙ filter_none p (a + 1) n none
+filter_none p a (suc n) none =
+    ap (λ b. cond b (a ∷ filter p (range_with_len (a + 1) n)) (filter p (range_with_len (a + 1) n))) (none a (omega arith))
+    ∙ filter_none p (a + 1) n (λ i le. none i (omega arith))
 
 pub nothing_waits : (dig : List ℕ → List ℕ) (k : Facts) (states : List BlockState) (from count : ℕ) → count_by is_waiting states ≡ 0
     → waiting_blocks dig k states from count ≡ []
 nothing_waits dig k states from count none =
     filter_none (λ i. is_waiting_at states i && is_some (value_at dig k 0 i)) from count
-    (λ i. ap (λ b. b && is_some (value_at dig k 0 i)) (none_waits states none i))
+    (λ i le. ap (λ b. b && is_some (value_at dig k 0 i)) (none_waits states none i))
 
 -- ---- states of other blocks
 
@@ -83,7 +79,7 @@ other_kept (y ∷ xs) zero (suc j) x apart = refl
 other_kept (y ∷ xs) (suc i) zero x apart = refl
 other_kept (y ∷ xs) (suc i) (suc j) x apart = other_kept xs i j x (λ e. apart (ap (λ n. suc n) e))
 
-read_kept : (dig : List ℕ → List ℕ) (k : Facts) (forgiving : Bool) (read : BlockRead) (states : List BlockState) (j : ℕ) → j ≢ block_of read
+pub read_kept : (dig : List ℕ → List ℕ) (k : Facts) (forgiving : Bool) (read : BlockRead) (states : List BlockState) (j : ℕ) → j ≢ block_of read
     → slice_get (after_read dig k forgiving read states) j ≡ slice_get states j
 read_kept dig k forgiving (given i bytes) states j apart = other_kept states i j (cond (is_right dig k i bytes) Marked Missing) apart
 read_kept dig k true (failed i) states j apart = refl
@@ -149,7 +145,7 @@ module _ {D : Type 0} (history : D → History) (honest : D → Type 0) (faults 
       let place : from + (at - from) ≡ at = omega arith in
       let p = is_chosen dig k review states in
       ap (λ m. filter p (range_with_len from m)) size ∙ ap (filter p) (range_split from (at - from) n)
-      ∙ filter_append p (range_with_len from (at - from)) (range_with_len (from + (at - from)) n)
+      ∙ filter-append p (range_with_len from (at - from)) (range_with_len (from + (at - from)) n)
       ∙ ap (λ x. filter p (range_with_len from (at - from)) ++ filter p (range_with_len x n)) place
 
   pub reviewed_past : (review : Review) (from at : ℕ) (old new : StoreView D) (tally : Tally) → IsReviewedTo review from at old new tally

@@ -1,14 +1,15 @@
 -- What follows from the definitions.
-use Rattle.std.specs.Prelude.{◌≡◌, ◌≢◌, ℕ, ◌<◌, ◌⊎◌, List, length, slice_get, Some, Contains}
+use Rattle.std.specs.Prelude.{◌≡◌, ◌≢◌, ℕ, ◌-◌, ◌<◌, ◌⊎◌, min, false, if◌then◌else◌, List, length, map, slice_get, Some, Contains, AllPairs}
 use Rattle.bt_tree.specs.Blocks.{block_at}
 use Rattle.bt_tree.specs.Tree.{file_root}
 use Rattle.bt_sparse.specs.SparseTree.{Facts, blocks_of, value_at, IsRooted, IsSound}
 use Rattle.bt_sparse.specs.Acceptance.{Accepts}
 use Rattle.bt_sparse.specs.Law.{IsClashOnPath}
-use Rattle.bt_store.specs.BlockReads.{BlockRead, given, IsRight}
+use Rattle.bt_store.specs.BlockReads.{BlockRead, given, block_of, IsRight, is_right_read, judged}
+use Rattle.bt_store.specs.Review.{waiting_blocks}
 use Rattle.bt_store.specs.Adoption.{AreWhole, claim_of_reads, Adopts}
 use Rattle.bt_store.specs.declared.block_states.BlockState.{BlockState}
-use Rattle.bt_store.specs.declared.block_states.BlockState.TheVariants.{Marked}
+use Rattle.bt_store.specs.declared.block_states.BlockState.TheVariants.{Missing, Marked}
 use Rattle.bt_store.specs.declared.adoption.Adopted.{Adopted}
 
 -- The bytes are block i of the file; or at one node on its path to the root the input here is another than
@@ -62,3 +63,27 @@ pub record Extends (dig : List ℕ → List ℕ) (k grown : Facts) : Type 0 wher
 abbrev pub AdoptExtends : (List ℕ → List ℕ) → Type 0
 AdoptExtends dig = (k grown : Facts) (from : ℕ) (old new : List BlockState) (reads : List BlockRead)
     (adopted : Adopted) → Adopts dig k from old reads adopted grown new → Extends dig k grown
+
+-- What reads make of states where each decides on its block: the block is marked exactly where its read gave
+-- right bytes, else missing; and a block that is not read has the state that it had.
+pub record DecidesEach (dig : List ℕ → List ℕ) (k : Facts) (reads : List BlockRead) (old new : List BlockState)
+    : Type 0 where
+  pub read : (read : BlockRead) → Contains reads read → block_of read < length old
+      → slice_get new (block_of read) ≡ Some (if is_right_read dig k read then Marked else Missing)
+  pub unread : (i : ℕ) → ¬ Contains (map block_of reads) i → slice_get new i ≡ slice_get old i
+
+-- reads of blocks of which none is read twice do so, where no failed read is forgiven
+abbrev pub ReadsDecideEach : (List ℕ → List ℕ) → Type 0
+ReadsDecideEach dig = (k : Facts) (reads : List BlockRead) (states : List BlockState)
+    → AllPairs (λ i j. i ≢ j) (map block_of reads)
+    → DecidesEach dig k reads states (judged dig k false reads states)
+
+-- none of the waiting blocks stands there twice
+abbrev pub WaitingBlocksDiffer : (List ℕ → List ℕ) → Type 0
+WaitingBlocksDiffer dig = (k : Facts) (states : List BlockState) (from count : ℕ)
+    → AllPairs (λ i j. i ≢ j) (waiting_blocks dig k states from count)
+
+-- none of them lies behind the file's end
+abbrev pub WaitingBlocksLieInside : (List ℕ → List ℕ) → Type 0
+WaitingBlocksLieInside dig = (k : Facts) (states : List BlockState) (from count : ℕ)
+    → waiting_blocks dig k states from count ≡ waiting_blocks dig k states from (min count (length states - from))

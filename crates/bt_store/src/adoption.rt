@@ -53,6 +53,9 @@ impl<D: Disk + Drop, H: NodeHash> FileStore<D, H> {
             H.digest tree.old from self.old reads self.new) }
         ensures tree { IfErr result (λ _. tree.new ≡ tree.old) }
         ensures unknown { IfErr result (λ _. value_at H.digest tree.old 0 from ≡ None) }
+        ensures onward { from < block_count self.old.file_length
+            → IfOk result (λ adopted. from < adopted.next) }
+        ensures within { IfOk result (λ adopted. adopted.next ≤ block_count self.old.file_length) }
     {
         if from == self.geometry.blocks() {
             return Ok(Adopted {

@@ -1,6 +1,7 @@
 ghost use Rattle.std.specs.Prelude.{◌≡◌, ◌≤◌, ◌↔◌, ◌∷◌, [], IsTrue, IfOk, IfErr, length, slice_get};
 ghost use Rattle.std.specs.List.{All, count_by};
 ghost use Rattle.bt_tree.specs.Limits.{max_block_count};
+ghost use Rattle.bt_tree.specs.Blocks.{block_count};
 ghost use Rattle.bt_disk.specs.Calls.{HasCalls, sync_call};
 ghost use Rattle.bt_store.specs.BlockStates.{is_marked, is_waiting};
 ghost use Rattle.bt_store.specs.FileStore.{new_states};
@@ -63,9 +64,10 @@ impl<D: Disk + Drop, H: NodeHash> FileStore<D, H> {
         })
     }
 
-    /// The shape of the file's tree.
+    /// The shape of the file's tree. The store has as many states as the file has blocks.
     pub fn geometry(&self) -> Geometry
         ensures value { result ≡ self.now.file_length }
+        ensures states { length self.now.states ≡ block_count self.now.file_length }
     {
         self.geometry
     }

@@ -1,4 +1,4 @@
-ghost use Rattle.bt_store.specs.Law.{RightBlocksAreFiles, AdoptMarksByBytes, AcceptedReadsAreRight, AdoptExtends};
+ghost use Rattle.bt_store.specs.Law.{RightBlocksAreFiles, AdoptMarksByBytes, AcceptedReadsAreRight, AdoptExtends, ReadsDecideEach, WaitingBlocksDiffer, WaitingBlocksLieInside};
 
 use bt_sparse::leaves_are_files;
 use bt_tree::NodeHash;
@@ -27,4 +27,16 @@ pub fn accepted_reads_are_right<H: NodeHash>(_hash: H)
 /// The tree after `adopt` is of the same file length and root, has every value that it had, and stays rooted.
 pub fn adopt_extends<H: NodeHash>(_hash: H)
     ensures { AdoptExtends H.digest }
+{}
+
+/// What `settle` leaves of each block that it reads, and of those that it doesn't.
+pub fn reads_decide_each<H: NodeHash>(_hash: H)
+    ensures { ReadsDecideEach H.digest }
+{}
+
+/// The blocks that `settle` reads differ from each other, and lie in the file: a range that goes past the
+/// file's end has those of the range that ends there.
+pub fn waiting_blocks_lie_inside<H: NodeHash>(_hash: H)
+    ensures differ { WaitingBlocksDiffer H.digest }
+    ensures inside { WaitingBlocksLieInside H.digest }
 {}

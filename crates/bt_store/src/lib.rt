@@ -20,6 +20,7 @@ pub use block_states::BlockState;
 pub use error::{ReadError, Refused, StoreError};
 pub use file_store::FileStore;
 pub use law::{
-    accepted_reads_are_right, adopt_extends, adopt_marks_by_bytes, right_blocks_are_files,
+    accepted_reads_are_right, adopt_extends, adopt_marks_by_bytes, reads_decide_each,
+    right_blocks_are_files, waiting_blocks_lie_inside,
 };
 pub use review::{Rechecked, Settled};

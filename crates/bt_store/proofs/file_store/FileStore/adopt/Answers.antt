@@ -1,11 +1,12 @@
 use Rattle.std.proofs.Common.{◌≡◌, ◌/◌, ◌^◌, ◌<◌, ◌≤◌, None, [], refl, sym, ap, ◌∙◌, subst, arith}
-use Rattle.std.proofs.lemmas.Result.{IfErr-weaker}
+use Rattle.std.proofs.lemmas.Result.{IfOk-weaker, IfErr-weaker}
 use Rattle.std.specs.Prelude.{IsSome}
 use Rattle.bt_tree.specs.Blocks.{block_count}
 use Rattle.bt_disk.proofs.CallLists.{has_none}
 use Rattle.bt_sparse.specs.SparseTree.{blocks_of, held_at, value_at}
 use Rattle.bt_store.specs.Adoption.{none}
 use Rattle.bt_sparse.proofs.Anchors.{known_above}
+use Rattle.bt_store.proofs.Adoptions.{adopts_on}
 use Rattle.bt_store.proofs.file_store.FileStore.adopt.Goals as goal
 
 pub returns-then-from-blocks-clause-ok : goal.returns-then-from-blocks-clause-ok
@@ -42,3 +43,13 @@ returns-clause-unknown g c =
     let whole : from / 2 ^ 0 ≡ from = omega arith in
     let unknown : value_at dig k 0 from ≡ None = subst (λ i. value_at dig k 0 i ≡ None) whole (known_above dig k from 0 inside (omega arith) ∙ unheld) in
     IfErr-weaker c.adopt_unknown.result _ _ (λ _ _. unknown) c.adopt_unknown.ensures.tree
+
+pub returns-clause-onward : goal.returns-clause-onward
+returns-clause-onward g c = λ inside. IfOk-weaker c.adopt_unknown.result _ _ (λ adopted done.
+    (adopts_on g.H.NodeHash.digest c.args.tree.now _ c.args.from _ _ done.0 adopted done.1.adopts).onward
+    (subst (λ n. c.args.from < block_count n) (sym c.requires.geometry) inside)) c.adopt_unknown.ensures.ok
+
+pub returns-clause-within : goal.returns-clause-within
+returns-clause-within g c = IfOk-weaker c.adopt_unknown.result _ _ (λ adopted done.
+    subst (λ n. adopted.next ≤ block_count n) c.requires.geometry
+    (adopts_on g.H.NodeHash.digest c.args.tree.now _ c.args.from _ _ done.0 adopted done.1.adopts).within) c.adopt_unknown.ensures.ok
