@@ -7,5 +7,7 @@ pub mod Bits
 pub mod HashAnswers
 pub mod Settlings
 pub mod RunSettlings
+pub mod Learnings
+pub mod HashesHandled
 pub mod SpanReads
 pub mod Servings

@@ -1,16 +1,16 @@
 -- The blocks of a run, settled file by file.
-use Rattle.bt_machine.proofs.Base.{◌≡◌, ◌≢◌, ℕ, zero, suc, ◌+◌, ◌-◌, ◌<◌, ◌≤◌, min, ◌⊎◌, inl, inr, Bool, true, false, cond, ◌&&◌, List, [], ◌∷◌, ◌++◌, length, map, filter, flat_map, drop, Option, Some, None, is_some, refl, sym, ap, ◌∙◌, subst, arith, ◌==◌, eq-eqb, eqb-true, slice_get, slice_set, option_map_or, range_with_len, filter-append, append-nil, length-set, Facts, value_at, History, Call, BlockRead, block_of, call_of, judged, waiting_blocks, is_waiting_at, BlockState, cases_lt, option_map}
+use Rattle.bt_machine.proofs.Base.{◌≡◌, ◌≢◌, ℕ, zero, suc, ◌+◌, ◌-◌, ◌<◌, ◌≤◌, min, ◌⊎◌, inl, inr, Bool, true, false, cond, ◌&&◌, List, [], ◌∷◌, ◌++◌, length, map, filter, flat_map, drop, Option, Some, None, is_some, refl, sym, ap, ◌∙◌, subst, arith, ◌==◌, eq-eqb, eqb-true, slice_get, slice_set, option_map_or, range_with_len, filter-append, append-nil, length-set, Facts, value_at, History, BlockRead, call_of, judged, waiting_blocks, is_waiting_at, BlockState, cases_lt, option_map, get_or, All, sum_by}
 use Rattle.std.proofs.Common.{append_assoc}
 use Rattle.std.proofs.lemmas.Grind.{flat_map-append}
+use Rattle.std.proofs.lemmas.List.Sums.{sum_by-drop_more}
+use Rattle.std.proofs.lemmas.Option.{slice_get-get_or, get_or_from_slice_get}
 use Rattle.bt_disk.specs.Calls.{HasCalls}
 use Rattle.bt_disk.proofs.CallLists.{has_none}
-use Rattle.bt_store.specs.BlockReads.{IsJudged}
 use Rattle.bt_store.specs.FileStore.{StoreView}
 use Rattle.bt_store.proofs.Reviews.{range_split}
 use Rattle.bt_machine.proofs.Lists.{some_is, some_below, set_same, set_other}
-use Rattle.bt_machine.specs.State.{FileState}
 use Rattle.bt_machine.specs.declared.answer.Note.{Note}
-use Rattle.bt_machine.specs.Settling.{judged_file, settling_notes, due_blocks}
+use Rattle.bt_machine.specs.Settling.{settling_notes, due_blocks}
 use Rattle.bt_wire_events.specs.Settling.{SettlesBlocks, is_due}
 use Rattle.bt_wire_events.specs.Slot.{file_of, disk_of}
 use Rattle.bt_wire_events.specs.Runs.{HasCallsIfAny, SettlesSlot, SettlesSlots}
@@ -51,14 +51,15 @@ module _ (dig : List ℕ → List ℕ) (k : Facts) (states : List BlockState) wh
 
 -- ---- one file
 
-module _ {D H : Type 0} (history : D → History) (honest : D → Type 0) (faults : D → ℕ) (dig : List ℕ → List ℕ) (k : Facts) (tree from count : ℕ) where
-  nothing_called : (disk : Option D) → HasCallsIfAny history honest faults disk [] disk
-  nothing_called None = (refl, refl)
-  nothing_called (Some disk) = (disk, refl, has_none history honest faults disk)
+nothing_called : {D : Type 0} (history : D → History) (honest : D → Type 0) (faults : D → ℕ) (disk : Option D)
+    → HasCallsIfAny history honest faults disk [] disk
+nothing_called history honest faults None = (refl, refl)
+nothing_called history honest faults (Some disk) = (disk, refl, has_none history honest faults disk)
 
+module _ {D H : Type 0} (history : D → History) (honest : D → Type 0) (faults : D → ℕ) (dig : List ℕ → List ℕ) (k : Facts) (tree from count : ℕ) where
   -- nothing is due
   pub slot_kept : (slot : Slot D H) → due_blocks dig k tree from count (file_of slot) ≡ [] → SettlesSlot history honest faults dig k tree from count slot [] slot
-  slot_kept slot none = record { due = sym none; judged = refl; made = nothing_called (disk_of slot) }
+  slot_kept slot none = record { due = sym none; judged = refl; made = nothing_called history honest faults (disk_of slot) }
 
   pub of_other : (slot : Slot D H) → slot.tree ≢ tree → due_blocks dig k tree from count (file_of slot) ≡ []
   of_other slot apart = by (slot.tree == tree) refl
@@ -107,6 +108,20 @@ flat_map_more f i =
     ∙ ap (λ j. flat_map f (range_with_len 0 i) ++ (f j ++ [])) place
     ∙ ap (λ ys. flat_map f (range_with_len 0 i) ++ ys) (append-nil (f i))
 
+-- these reads at i, and the others elsewhere
+abbrev reads_with : ℕ → List BlockRead → (ℕ → List BlockRead) → ℕ → List BlockRead
+reads_with i reads others file = cond (file == i) reads (others file)
+
+reads_here : (i : ℕ) (reads : List BlockRead) (others : ℕ → List BlockRead) → reads_with i reads others i ≡ reads
+reads_here i reads others = ap (λ b. cond b reads (others i)) (eq-eqb i i refl)
+
+reads_other : (i : ℕ) (reads : List BlockRead) (others : ℕ → List BlockRead) (j : ℕ) → j ≢ i → reads_with i reads others j ≡ others j
+reads_other i reads others j apart = by (j == i) refl
+  where
+    by : (b : Bool) → (j == i) ≡ b → cond b reads (others j) ≡ others j
+    by true e = absurd (apart (eqb-true j i e))
+    by false e = refl
+
 module _ {D H : Type 0} (history : D → History) (honest : D → Type 0) (faults : D → ℕ) (dig : List ℕ → List ℕ) (k : Facts) (tree from count : ℕ)
     (old : List (Slot D H)) (before : List Note) where
   -- a file is settled by these reads
@@ -135,52 +150,35 @@ module _ {D H : Type 0} (history : D → History) (honest : D → Type 0) (fault
       → AreSettledTo i notes now → slice_get now i ≡ Some slot → SettlesSlot history honest faults dig k tree from count slot reads new
       → more ≡ notes ++ settling_notes dig k i reads → AreSettledTo (i + 1) more (slice_set now i new)
   settled_more i notes more now {slot} new reads a at settles noted = record {
-    reads = later;
+    reads = reads_with i reads a.reads;
     each = λ file was lt there. by_file file was lt there (file == i) refl;
     rest = λ file le. set_other now i file new (λ e. absurd (omega arith)) ∙ a.rest file (omega arith);
     size = length-set now i new ∙ a.size;
     noted = noted ∙ ap (λ ns. ns ++ settling_notes dig k i reads) a.noted
         ∙ append_assoc before (flat_map (λ file. settling_notes dig k file (a.reads file)) (range_with_len 0 i)) (settling_notes dig k i reads)
         ∙ ap (λ ns. before ++ (ns ++ settling_notes dig k i reads))
-        (flat_map_alike (λ file. settling_notes dig k file (a.reads file)) (λ file. settling_notes dig k file (later file)) 0 i
-        (λ j low lt. ap (settling_notes dig k j) (sym (later_other j (λ e. absurd (omega arith))))))
-        ∙ ap (λ rs. before ++ (flat_map (λ file. settling_notes dig k file (later file)) (range_with_len 0 i) ++ settling_notes dig k i rs)) (sym later_here)
-        ∙ ap (λ ns. before ++ ns) (sym (flat_map_more (λ file. settling_notes dig k file (later file)) i));
+        (flat_map_alike (λ file. settling_notes dig k file (a.reads file)) (λ file. settling_notes dig k file (reads_with i reads a.reads file)) 0 i
+        (λ j low lt. ap (settling_notes dig k j) (sym (reads_other i reads a.reads j (λ e. absurd (omega arith))))))
+        ∙ ap (λ rs. before ++ (flat_map (λ file. settling_notes dig k file (reads_with i reads a.reads file)) (range_with_len 0 i) ++ settling_notes dig k i rs)) (sym (reads_here i reads a.reads))
+        ∙ ap (λ ns. before ++ ns) (sym (flat_map_more (λ file. settling_notes dig k file (reads_with i reads a.reads file)) i));
   }
     where
-      later : ℕ → List BlockRead
-      later file = cond (file == i) reads (a.reads file)
-
-      later_here : later i ≡ reads
-      unfolding later
-      later_here = ap (λ b. cond b reads (a.reads i)) (eq-eqb i i refl)
-
-      later_other : (j : ℕ) → j ≢ i → later j ≡ a.reads j
-      unfolding later
-      later_other j apart = by (j == i) refl
-        where
-          by : (b : Bool) → (j == i) ≡ b → cond b reads (a.reads j) ≡ a.reads j
-          by true e = absurd (apart (eqb-true j i e))
-          by false e = refl
-
       by_file : (file : ℕ) (was : Slot D H) → file < i + 1 → slice_get old file ≡ Some was → (b : Bool) → (file == i) ≡ b
-          → IsSettled file was (later file) (slice_set now i new)
+          → IsSettled file was (reads_with i reads a.reads file) (slice_set now i new)
       by_file file was lt there true e =
           let same : file ≡ i = eqb-true file i e in
-          let is : slot ≡ was = some_is (sym at ∙ a.rest i (omega arith) ∙ ap (slice_get old) (sym same) ∙ there) in
-          (
+          let is : slot ≡ was = some_is (sym at ∙ a.rest i (omega arith) ∙ ap (slice_get old) (sym same) ∙ there) in (
             new,
             ap (slice_get (slice_set now i new)) same ∙ set_same now i at,
-            subst (λ (r : List BlockRead). SettlesSlot history honest faults dig k tree from count was r new) (sym (ap later same ∙ later_here))
-            (subst (λ (s : Slot D H). SettlesSlot history honest faults dig k tree from count s reads new) is settles),
+            subst (λ (r : List BlockRead). SettlesSlot history honest faults dig k tree from count was r new) (sym (ap (reads_with i reads a.reads) same ∙ reads_here i reads a.reads))
+                (subst (λ (s : Slot D H). SettlesSlot history honest faults dig k tree from count s reads new) is settles),
           )
       by_file file was lt there false e =
           let apart : file ≢ i = (λ same. absurd (let t = eq-eqb file i same in cc)) in
-          let before_it = a.each file was (omega (arith, apart)) there in
-          (
+          let before_it = a.each file was (omega (arith, apart)) there in (
             before_it.0,
             set_other now i file new apart ∙ before_it.1,
-            subst (λ (r : List BlockRead). SettlesSlot history honest faults dig k tree from count was r before_it.0) (sym (later_other file apart)) before_it.2,
+            subst (λ (r : List BlockRead). SettlesSlot history honest faults dig k tree from count was r before_it.0) (sym (reads_other i reads a.reads file apart)) before_it.2,
           )
 
   pub settled_all : (i : ℕ) (notes : List Note) (now : List (Slot D H)) → length old ≡ i → AreSettledTo i notes now
@@ -191,3 +189,15 @@ module _ {D H : Type 0} (history : D → History) (honest : D → Type 0) (fault
     size = a.size;
     noted = a.noted ∙ ap (λ n. before ++ flat_map (λ file. settling_notes dig k file (a.reads file)) (range_with_len 0 n)) (sym whole);
   }
+
+-- ---- a slot that no step has come to yet
+
+module _ {X : Type 0} (old now : List X) (file : ℕ) (d : X) where
+  pub stays_at : file < length now → slice_get now file ≡ slice_get old file → slice_get old file ≡ Some (get_or now file d)
+  stays_at lt same = sym same ∙ slice_get-get_or now file d lt
+
+  pub all_at : (P : X → Type 0) {x : X} → All P old → slice_get old file ≡ Some x → P x
+  all_at P {x} all at = subst P (get_or_from_slice_get old file x d at) (all file d (some_below old file at))
+
+  pub room_at : (f : X → ℕ) {x : X} → slice_get old file ≡ Some x → sum_by f (drop file old) ≡ f x + sum_by f (drop (file + 1) old)
+  room_at f {x} at = sum_by-drop_more f old file d (some_below old file at) ∙ ap (λ y. f y + sum_by f (drop (file + 1) old)) (get_or_from_slice_get old file x d at)

@@ -1,22 +1,35 @@
 -- Blocks that are read back: which they are, how many at most, and what their states tell of each read.
-use Rattle.bt_machine.proofs.Base.{◌≡◌, ◌≢◌, ℕ, zero, suc, ◌+◌, ◌-◌, ◌<◌, ◌≤◌, min, inl, inr, Bool, true, false, cond, ◌&&◌, List, [], ◌∷◌, ◌++◌, length, map, filter, take, drop, Option, Some, None, is_some, refl, sym, ap, ◌∙◌, subst, arith, slice_get, slice_set, option_map_or, AllPairs, Contains, range_with_len, length-range_with_len, length-filter, filter-append, length-set, length-map, AllPairs-filter, Facts, value_at, History, BlockRead, given, failed, block_of, is_right, judged, fault_count, waiting_blocks, is_waiting, is_waiting_at, BlockState, Missing, Marked, Waiting, append-nil}
+use Rattle.bt_machine.proofs.Base.{◌≡◌, ◌≢◌, ℕ, zero, suc, ◌+◌, ◌-◌, ◌<◌, ◌≤◌, Bool, true, false, cond, ◌&&◌, List, [], ◌∷◌, ◌++◌, length, map, filter, drop, Option, Some, None, is_some, refl, sym, ap, ◌∙◌, subst, arith, slice_get, option_map_or, AllPairs, Contains, range_with_len, length-range_with_len, length-filter, filter-append, Facts, value_at, History, BlockRead, given, failed, block_of, is_right, judged, fault_count, waiting_blocks, is_waiting, is_waiting_at, BlockState, Missing, Marked, append-nil}
 use Rattle.std.specs.Prelude.{nat_lt}
 use Rattle.std.proofs.Common.{append_assoc}
 use Rattle.std.specs.List.{count_by}
-use Rattle.std.proofs.lemmas.List.Sums.{sum_by-cons, sum_by-take-drop}
-use Rattle.std.proofs.lemmas.Bool.{lt-ltb}
-use Rattle.bt_store.specs.BlockReads.{after_read, is_right_read, IsJudged}
+use Rattle.std.proofs.lemmas.List.Sums.{sum_by-cons, sum_by-take-drop, count_by-le-length}
+use Rattle.std.proofs.lemmas.Bool.{lt-ltb, le-ltb}
+use Rattle.bt_store.specs.BlockReads.{is_right_read, IsJudged}
 use Rattle.bt_store.specs.FileStore.{StoreView}
-use Rattle.bt_store.specs.Review.{is_marked_at}
 use Rattle.bt_store.proofs.Reviews.{range_split}
-use Rattle.bt_machine.proofs.Lists.{contains_none, contains_cases, contains_filter, contains_map, map_contains, here, later, set_same, get_some, some_below, range_limits, and_true}
-use Rattle.bt_machine.proofs.Pairs.{Pairs, to_pairs, from_pairs}
-use Rattle.bt_machine.proofs.Orderly.{judged_other}
+use Rattle.bt_store.proofs.Settling.{reads_decide, waiting_differ}
+use Rattle.bt_machine.proofs.Lists.{contains_filter, map_contains, here, later, some_below, and_true}
 use Rattle.bt_machine.specs.declared.answer.Note.{Note}
 use Rattle.bt_machine.specs.declared.answer.Note.TheVariants.{Marked as NowMarked, Freed, Device}
 use Rattle.bt_machine.specs.Blocks.{block_id}
-use Rattle.bt_machine.specs.Settling.{read_note, settling_notes}
+use Rattle.bt_machine.specs.Settling.{read_note}
 use Rattle.bt_wire_events.specs.Settling.{SettlesBlocks, note_at, note_room, is_due}
+
+drop_nil : {X : Type 0} (i : ℕ) → drop {A = X} i [] ≡ []
+drop_nil zero = refl
+drop_nil (suc i) = refl
+
+waiting_count : (states : List BlockState) (i : ℕ) (o : Option BlockState) → slice_get states i ≡ o
+    → count_by is_waiting (drop i states) ≡ cond (option_map_or is_waiting o false) 1 0 + count_by is_waiting (drop (i + 1) states)
+waiting_count [] i None at = ap (λ ys. count_by is_waiting ys) (drop_nil i) ∙ ap (λ ys. 0 + count_by is_waiting ys) (sym (drop_nil (i + 1)))
+waiting_count [] zero (Some x) at = absurd cc
+waiting_count [] (suc i) (Some x) at = absurd cc
+waiting_count (x ∷ xs) zero o at =
+    sum_by-cons (λ y. cond (is_waiting y) 1 0) x xs ∙ ap (λ p. cond (option_map_or is_waiting p false) 1 0 + count_by is_waiting xs) at
+waiting_count (x ∷ xs) (suc i) o at =
+    let next : suc (i + 1) ≡ suc i + 1 = omega arith in
+    waiting_count xs i o at ∙ ap (λ n. cond (option_map_or is_waiting o false) 1 0 + count_by is_waiting (drop n (x ∷ xs))) next
 
 -- ---- which blocks are due
 
@@ -39,26 +52,9 @@ module _ (dig : List ℕ → List ℕ) (k : Facts) (states : List BlockState) wh
 
   pub due_length : (from count : ℕ) → length (waiting_blocks dig k states from count) ≤ count
   due_length from count =
-      omega (arith, length-filter (is_due dig k states) (range_with_len from count), length-range_with_len from count)
+      omega (arith, length-filter (is_due dig k states) (range_with_len from count), count_by-le-length (is_due dig k states) (range_with_len from count), length-range_with_len from count)
 
   -- ---- how many they are at most
-
-  waiting_count : (i : ℕ) (o : Option BlockState) → slice_get states i ≡ o
-      → count_by is_waiting (drop i states) ≡ cond (option_map_or is_waiting o false) 1 0 + count_by is_waiting (drop (i + 1) states)
-  waiting_count i o at = counted states i o at
-    where
-      counted : (xs : List BlockState) (i : ℕ) (o : Option BlockState) → slice_get xs i ≡ o
-          → count_by is_waiting (drop i xs) ≡ cond (option_map_or is_waiting o false) 1 0 + count_by is_waiting (drop (i + 1) xs)
-      counted [] i None at = ap (λ ys. count_by is_waiting ys) (drop_nil i) ∙ ap (λ ys. 0 + count_by is_waiting ys) (sym (drop_nil (i + 1)))
-      counted [] zero (Some x) at = absurd cc
-      counted [] (suc i) (Some x) at = absurd cc
-      counted (x ∷ xs) zero o at = sum_by-cons (λ y. cond (is_waiting y) 1 0) x xs ∙ ap (λ p. cond (option_map_or is_waiting p false) 1 0 + count_by is_waiting xs) at
-      counted (x ∷ xs) (suc i) o at = let next : suc i + 1 ≡ suc (i + 1) = omega arith in
-          counted xs i o at ∙ ap (λ n. cond (option_map_or is_waiting o false) 1 0 + count_by is_waiting (drop n (x ∷ xs))) (sym next)
-
-      drop_nil : (i : ℕ) → drop i [] ≡ []
-      drop_nil zero = refl
-      drop_nil (suc i) = refl
 
   due_here : (waits knows : Bool) (i rest : ℕ) (more : List ℕ) → length more ≤ rest → length (cond (waits && knows) (i ∷ more) more) ≤ cond waits 1 0 + rest
   due_here true true i rest more le = omega arith
@@ -68,7 +64,7 @@ module _ (dig : List ℕ → List ℕ) (k : Facts) (states : List BlockState) wh
   due_below : (from count : ℕ) → length (waiting_blocks dig k states from count) ≤ count_by is_waiting (drop from states)
   due_below from zero = omega arith
   due_below from (suc count) =
-      rw (waiting_count from (slice_get states from) refl)
+      rw (waiting_count states from (slice_get states from) refl)
       (due_here (is_waiting_at states from) (is_some (value_at dig k 0 from)) from (count_by is_waiting (drop (from + 1) states))
       (waiting_blocks dig k states (from + 1) count) (due_below (from + 1) count))
 
@@ -76,17 +72,7 @@ module _ (dig : List ℕ → List ℕ) (k : Facts) (states : List BlockState) wh
   due_few from count =
       omega (arith, due_length from count, due_below from count, sum_by-take-drop (λ y. cond (is_waiting y) 1 0) states from)
 
-  -- ---- each is read once, and has a state
-
-  range_pairs : (a n : ℕ) → Pairs (λ i j. i ≢ j) (range_with_len a n)
-  range_pairs a zero = tt
-  range_pairs a (suc n) = ((λ j c e. absurd (let low = (range_limits (a + 1) n c).0 in omega arith)), range_pairs (a + 1) n)
-
-  pub due_once : (from count : ℕ) → Pairs (λ i j. i ≢ j) (waiting_blocks dig k states from count)
-  due_once from count =
-      to_pairs (λ i j. i ≢ j) (waiting_blocks dig k states from count)
-      (AllPairs-filter (λ i j. i ≢ j) (is_due dig k states) (range_with_len from count)
-      (from_pairs (λ i j. i ≢ j) (range_with_len from count) (range_pairs from count)))
+  -- ---- each has a state
 
   has_state : (i : ℕ) (o : Option BlockState) → slice_get states i ≡ o → option_map_or is_waiting o false ≡ true → i < length states
   has_state i None at waits = absurd cc
@@ -97,39 +83,24 @@ module _ (dig : List ℕ → List ℕ) (k : Facts) (states : List BlockState) wh
       let due = contains_filter (is_due dig k states) (range_with_len from count) among in
       has_state i (slice_get states i) refl (and_true (is_waiting_at states i) due.1).0
 
+-- ---- the note of a device
+
+pub with_fault : (notes : List Note) (file failures : ℕ) → 0 < failures → notes ++ Device file ∷ [] ≡ notes ++ cond (nat_lt 0 failures) (Device file ∷ []) []
+with_fault notes file failures some = ap (λ b. notes ++ cond b (Device file ∷ []) []) (sym (lt-ltb 0 failures some))
+
+pub without_fault : (notes : List Note) (file failures : ℕ) → failures ≤ 0 → notes ≡ notes ++ cond (nat_lt 0 failures) (Device file ∷ []) []
+without_fault notes file failures none =
+    sym (append-nil notes) ∙ ap (λ b. notes ++ cond b (Device file ∷ []) []) (sym (le-ltb 0 failures none))
+
 -- ---- what the states tell of each read
 
 module _ (dig : List ℕ → List ℕ) (k : Facts) where
-  -- the state of a block after its read
-  abbrev state_after : BlockRead → BlockState
-  state_after read = cond (is_right_read dig k read) Marked Missing
-
-  read_here : (read : BlockRead) (states : List BlockState) → block_of read < length states
-      → slice_get (after_read dig k false read states) (block_of read) ≡ Some (state_after read)
-  read_here (given i bytes) states lt = set_same states i (get_some states i lt).1
-  read_here (failed i) states lt = set_same states i (get_some states i lt).1
-
-  length-read : (read : BlockRead) (states : List BlockState) → length (after_read dig k false read states) ≡ length states
-  length-read (given i bytes) states = length-set states i (state_after (given i bytes))
-  length-read (failed i) states = length-set states i Missing
-
-  -- each block once
-  settled_state : (reads : List BlockRead) (states : List BlockState) (read : BlockRead) → Pairs (λ i j. i ≢ j) (map block_of reads) → Contains reads read
-      → block_of read < length states → slice_get (judged dig k false reads states) (block_of read) ≡ Some (state_after read)
-  settled_state [] states read once among lt = absurd (contains_none among)
-  settled_state (first ∷ reads) states read once among lt = elim (contains_cases reads among) [
-    | inl same ↦ subst (λ (r : BlockRead). slice_get (judged dig k false reads (after_read dig k false first states)) (block_of r) ≡ Some (state_after r)) same
-        (judged_other dig k false reads (after_read dig k false first states) (block_of first) (λ c. once.0 (block_of first) c refl)
-        ∙ read_here first states (subst (λ (r : BlockRead). block_of r < length states) (sym same) lt))
-    | inr more ↦ settled_state reads (after_read dig k false first states) read once.1 more (let size = length-read first states in omega arith)
-  ]
-
   marked_note : (right : Bool) (file i : ℕ) (states : List BlockState) → slice_get states i ≡ Some (cond right Marked Missing)
       → note_at file states i ≡ cond right (NowMarked (block_id file i)) (Freed (block_id file i))
   marked_note true file i states at = rw at refl
   marked_note false file i states at = rw at refl
 
-  same_note : (file : ℕ) (read : BlockRead) (states : List BlockState) → slice_get states (block_of read) ≡ Some (state_after read)
+  same_note : (file : ℕ) (read : BlockRead) (states : List BlockState) → slice_get states (block_of read) ≡ Some (cond (is_right_read dig k read) Marked Missing)
       → note_at file states (block_of read) ≡ read_note dig k file read
   same_note file (given i bytes) states at = marked_note (is_right dig k i bytes) file i states at
   same_note file (failed i) states at = marked_note false file i states at
@@ -150,11 +121,12 @@ module _ (dig : List ℕ → List ℕ) (k : Facts) where
         → SettlesBlocks history honest faults dig k file from count old before after new
     blocks_settled before after failures judged faulty is =
         let blocks = judged.device.in_order in
-        let once = subst (λ l. Pairs (λ i j. i ≢ j) l) (sym blocks) (due_once dig k old.states from count) in
+        let once = subst (λ l. AllPairs (λ i j. i ≢ j) l) (sym blocks) (waiting_differ dig k old.states from count) in
+        let decides = reads_decide dig k reads old.states once in
         let each : (read : BlockRead) → Contains reads read → note_at file new.states (block_of read) ≡ read_note dig k file read = λ read c.
         same_note file read new.states
         (ap (λ s. slice_get s (block_of read)) judged.states
-        ∙ settled_state reads old.states read once c
+        ∙ decides.read read c
         (due_inside dig k old.states from count (subst (λ l. Contains l (block_of read)) blocks (map_contains block_of reads c)))) in
         record {
           reads = reads;

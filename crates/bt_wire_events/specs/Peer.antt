@@ -1,15 +1,7 @@
 -- What a plain value tells of an engine's peer.
 use Rattle.std.specs.Prelude.{◌≡◌}
-use Rattle.bt_machine.specs.State as machine
 use Rattle.bt_machine.specs.State.{PeerState}
-use Rattle.bt_wire_events.specs.declared.peer.HashState.{HashState}
-use Rattle.bt_wire_events.specs.declared.peer.HashState.TheVariants.{Idle, Asked, Refused}
 use Rattle.bt_wire_events.specs.declared.peer.Peer.{Peer}
-
-abbrev pub hash_of : HashState → machine.HashState
-hash_of Idle = machine.Idle
-hash_of (Asked key) = machine.Asked key
-hash_of Refused = machine.Refused
 
 -- the engine's peer, with the flags, pieces, hash state and blocks of a plain one
 abbrev pub as_told : PeerState → Peer → PeerState
@@ -19,7 +11,7 @@ as_told p plain = record p {
   peer_choking = plain.peer_choking;
   peer_interested = plain.peer_interested;
   has = plain.has.items;
-  hash = hash_of plain.hash;
+  hash = plain.hash;
   asked = plain.asked.items;
 }
 

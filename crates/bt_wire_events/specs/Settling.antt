@@ -1,5 +1,5 @@
 -- Blocks of a file that are read back.
-use Rattle.std.specs.Prelude.{◌≡◌, ℕ, ◌+◌, min, Bool, false, ◌&&◌, is_some, if◌then◌else◌, List, ◌++◌, slice_get}
+use Rattle.std.specs.Prelude.{◌≡◌, ℕ, ◌+◌, min, Bool, false, ◌&&◌, is_some, if◌then◌else◌, List, ◌++◌}
 use Rattle.std.specs.List.{count_by}
 use Rattle.bt_disk.specs.History.{History}
 use Rattle.bt_sparse.specs.SparseTree.{Facts, value_at}

@@ -1,4 +1,4 @@
-ghost use Rattle.std.specs.Prelude.{◌≡◌, ◌≢◌, ◌≤◌, ◌<◌, ℕ, IfOk, IfErr, IfSome, IfNone, length, slice_get};
+ghost use Rattle.std.specs.Prelude.{◌≡◌, ◌≢◌, ◌≤◌, ◌<◌, ◌↔◌, ℕ, IsTrue, IfOk, IfErr, IfSome, IfNone, length, slice_get};
 ghost use Rattle.bt_meta.specs.Limits.{max_file_count};
 ghost use Rattle.bt_sparse.specs.SparseTree.{Facts};
 ghost use Rattle.bt_machine.specs.State.{EngineState, PeerState};
@@ -64,11 +64,18 @@ fn tree_of<H: NodeHash>(trees: &[SparseTree<H>], root: &Hash32) -> Option<usize>
     ensures none { IfNone result (LacksRoot trees.now root.now) }
 {
     for (index, tree) in trees.iter().enumerate() {
-        if tree.root() == *root {
+        if has_root(tree, root) {
             return Some(index);
         }
     }
     None
+}
+
+/// Whether it is the tree of a root.
+fn has_root<H: NodeHash>(tree: &SparseTree<H>, root: &Hash32) -> bool
+    ensures { IsTrue result ↔ (tree.now.root ≡ root.now) }
+{
+    tree.root() == *root
 }
 
 /// How many blocks the hashes may have waited for: with leaves in the run, as many as it has.

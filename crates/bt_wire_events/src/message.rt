@@ -1,14 +1,14 @@
 ghost use Rattle.std.specs.Prelude.{◌≡◌, ◌*◌, ◌<◌, ◌≤◌, ℕ, List, Some, false, length, slice_get, slice_index_or, take};
 ghost use Rattle.bt_meta.specs.Torrent.{total_pieces};
-ghost use Rattle.bt_machine.specs.State.{EngineState, PeerState, Refused};
+ghost use Rattle.bt_machine.specs.State.{EngineState, PeerState};
 ghost use Rattle.bt_machine.specs.HashMessages.{Resolves};
-ghost use Rattle.bt_wire_events.specs.Peer.{IsPeerOf, hash_of};
+ghost use Rattle.bt_wire_events.specs.Peer.{IsPeerOf};
 ghost use Rattle.bt_machine.specs.WireEvents.{bits_in};
 ghost use Rattle.bt_wire_events.specs.Message.{IsOfPeer, TakesMessage, TakesHave, TakesBitfield};
 
-use crate::peer::{HashState, Peer};
+use crate::peer::Peer;
 use bt_hashreq::HashKey;
-use bt_machine::Why;
+use bt_machine::{HashState, Why};
 use bt_wire::Message;
 
 /// Takes a message that changes its peer alone, or nothing: none of those that ask for data or hashes, or
@@ -52,7 +52,7 @@ pub fn take_message(peer: &mut Peer, message: &Message, pieces: u32) -> Option<W
 
 /// Whether a peer may be sent hash requests that rejects one: it may no more, where it is asked this one.
 fn after_reject(hash: HashState, key: HashKey) -> HashState
-    ensures { Resolves key Refused (hash_of hash) (hash_of result) }
+    ensures { Resolves key HashState.Refused hash result }
 {
     if hash == HashState::Asked(key) {
         HashState::Refused

@@ -1,16 +1,5 @@
 use bt_book::BlockId;
-use bt_hashreq::HashKey;
-
-/// Whether a peer may be sent a hash request.
-#[derive(Clone, Copy, Debug, PartialEq, Eq)]
-pub enum HashState {
-    /// It may.
-    Idle,
-    /// It was sent this one, and has not answered.
-    Asked(HashKey),
-    /// It rejected one.
-    Refused,
-}
+use bt_machine::HashState;
 
 /// What an engine knows of a peer, but for its key, its bytes and its count of bytes.
 #[derive(Debug, Drop)]
