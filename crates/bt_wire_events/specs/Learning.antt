@@ -58,8 +58,8 @@ pub record Learns {D H : Type 0} (history : D → History) (honest : D → Type 
       settled
 
 -- refused hashes change nothing
-abbrev pub ChangesByHashes : {D H : Type 0} → (D → History) → (D → Type 0) → (D → ℕ) → (List ℕ → List ℕ) → HashKey
-    → List ℕ → List Facts → List (Slot D H) → Learnt → List Facts → List (Slot D H) → Type 0
+abbrev pub ChangesByHashes : {D H : Type 0} → (D → History) → (D → Type 0) → (D → ℕ) → (List ℕ → List ℕ)
+    → HashKey → List ℕ → List Facts → List (Slot D H) → Learnt → List Facts → List (Slot D H) → Type 0
 ChangesByHashes history honest faults dig key digests trees slots (Refused why) grown settled =
     AreRefused dig trees key digests why × (grown ≡ trees) × (settled ≡ slots)
 ChangesByHashes history honest faults dig key digests trees slots (Settled notes) grown settled =
@@ -76,7 +76,8 @@ abbrev pub effect_of : Learnt → List Hint → Effect
 effect_of (Refused why) proofs = closing why
 effect_of (Settled notes) proofs = record no_effect { notes = notes.items; proofs = proofs }
 
--- the engine then, which has these trees and files, and its i-th peer this hash state where a proof was accepted
+-- The engine then, which has these trees and files. Its i-th peer has this hash state where a proof was
+-- accepted.
 abbrev pub after_hashes : EngineState → ℕ → PeerState → HashState → Learnt → List Facts → List FileState
     → EngineState
 after_hashes s i p hash (Refused why) trees files = record s { trees = trees; files = files }
@@ -89,7 +90,7 @@ abbrev pub TakesHashes : {D H : Type 0} → (D → History) → (D → Type 0) �
 TakesHashes history honest faults dig key digests trees slots learnt grown settled =
     (calls : DeviceCalls) × (proofs : List Hint)
     × HaveCalls history honest faults (map disk_of slots) calls (map disk_of settled)
-    × ((s : EngineState) (i : ℕ) (p : PeerState) (hash : HashState) → s.trees ≡ trees → s.files ≡ map file_of slots
-    → Resolves key Idle p.hash hash
+    × ((s : EngineState) (i : ℕ) (p : PeerState) (hash : HashState) → s.trees ≡ trees
+    → s.files ≡ map file_of slots → Resolves key Idle p.hash hash
     → HandlesHashes dig s i p key digests calls (effect_of learnt proofs)
     (after_hashes s i p hash learnt grown (map file_of settled)))

@@ -14,8 +14,8 @@ use Rattle.bt_wire_events.specs.Slot.{file_of, disk_of}
 use Rattle.bt_wire_events.specs.declared.slot.Slot.{Slot}
 
 -- these calls were made of a device, or none where there is none
-abbrev pub HasCallsIfAny : {D : Type 0} → (D → History) → (D → Type 0) → (D → ℕ) → Option D → List Call → Option D
-    → Type 0
+abbrev pub HasCallsIfAny : {D : Type 0} → (D → History) → (D → Type 0) → (D → ℕ) → Option D → List Call
+    → Option D → Type 0
 HasCallsIfAny history honest faults None calls new = (calls ≡ []) × (new ≡ None)
 HasCallsIfAny {D} history honest faults (Some disk) calls new =
     (after : D) × (new ≡ Some after) × HasCalls history honest faults disk calls after
@@ -26,7 +26,8 @@ pub record SettlesSlot {D H : Type 0} (history : D → History) (honest : D → 
     (new : Slot D H) : Type 0 where
   pub due : map block_of reads ≡ due_blocks dig k tree from count (file_of old)
   pub judged : file_of new ≡ judged_file dig k reads (file_of old)
-  pub made : HasCallsIfAny history honest faults (disk_of old) (map (call_of k.file_length) reads) (disk_of new)
+  pub made : HasCallsIfAny history honest faults
+      (disk_of old) (map (call_of k.file_length) reads) (disk_of new)
 
 -- how many notes there are at most of a file
 abbrev pub slot_room : {D H : Type 0} → (tree count : ℕ) → Slot D H → ℕ

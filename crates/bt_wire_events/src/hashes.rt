@@ -35,8 +35,8 @@ pub fn take_hashes<D: Disk + Drop, H: NodeHash>(
 ) -> Result<Learnt, AllocError>
     requires fit { FitLengths trees.old slots.old }
     requires files { length slots.old ≤ max_file_count }
-    ensures takes { IfOk result (λ learnt. TakesHashes D.history D.honest D.faults H.digest key.now digests.now
-        trees.old slots.old learnt trees.new slots.new) }
+    ensures takes { IfOk result (λ learnt. TakesHashes D.history D.honest D.faults H.digest
+        key.now digests.now trees.old slots.old learnt trees.new slots.new) }
     ensures trees { IfErr result (λ _. trees.new ≡ trees.old) }
     ensures slots { IfErr result (λ _. slots.new ≡ slots.old) }
 {
@@ -90,6 +90,7 @@ fn settled_count(key: &HashKey) -> u32
 fn refusal(fault: ProofError) -> Result<Learnt, AllocError>
     ensures ok { IfOk result (λ learnt. learnt ≡ Learnt.Refused (Why.Proof fault)) }
     ensures other { IfOk result (λ _. fault ≢ ProofError.OutOfMemory) }
+    ensures memory { IfErr result (λ _. fault ≡ ProofError.OutOfMemory) }
 {
     match fault {
         ProofError::OutOfMemory => Err(AllocError),

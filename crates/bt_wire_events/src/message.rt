@@ -43,19 +43,19 @@ pub fn take_message(peer: &mut Peer, message: &Message, pieces: u32) -> Option<W
         Message::Bitfield(bits) => take_bitfield(peer, bits.as_slice(), pieces),
         Message::Cancel(_) => None,
         Message::HashReject(key) => {
-            peer.hash = after_reject(peer.hash, *key);
+            peer.hash = resolved_hash_state(peer.hash, *key, HashState::Refused);
             None
         }
         _ => unreachable!(),
     }
 }
 
-/// Whether a peer may be sent hash requests that rejects one: it may no more, where it is asked this one.
-fn after_reject(hash: HashState, key: HashKey) -> HashState
-    ensures { Resolves key HashState.Refused hash result }
+/// The hash state of a peer that answers a request: the next one, where it is asked this one.
+pub fn resolved_hash_state(hash: HashState, key: HashKey, next: HashState) -> HashState
+    ensures { Resolves key next hash result }
 {
     if hash == HashState::Asked(key) {
-        HashState::Refused
+        next
     } else {
         hash
     }

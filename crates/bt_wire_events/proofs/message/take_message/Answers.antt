@@ -17,8 +17,8 @@ returns-in-HashReject c = λ dig s i p here is counted. rw c.in-HashReject.is (
   refl,
   refl,
   record {
-    hash = c.after_reject-peer.result;
-    resolves = subst (λ h. Resolves c.in-HashReject.key Refused h c.after_reject-peer.result) (sym (ap (λ (q : PeerState). q.hash) is)) c.after_reject-peer.ensures;
-    after = ap (λ (q : PeerState). with_peer s i (record q { hash = c.after_reject-peer.result })) (sym is);
+    hash = c.resolved_hash_state-peer.result;
+    resolves = subst (λ h. Resolves c.in-HashReject.key Refused h c.resolved_hash_state-peer.result) (sym (ap (λ (q : PeerState). q.hash) is)) c.resolved_hash_state-peer.ensures;
+    after = ap (λ (q : PeerState). with_peer s i (record q { hash = c.resolved_hash_state-peer.result })) (sym is);
   },
 )
