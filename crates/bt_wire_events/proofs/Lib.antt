@@ -6,5 +6,8 @@ pub mod Standing
 pub mod Bits
 pub mod HashAnswers
 pub mod Settlings
+pub mod RunSettlings
+pub mod Learnings
+pub mod HashesHandled
 pub mod SpanReads
 pub mod Servings

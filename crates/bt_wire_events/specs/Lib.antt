@@ -1,7 +1,10 @@
 pub mod Peer
+pub mod Slot
 pub mod Requests
 pub mod Message
 pub mod Piece
 pub mod Serving
 pub mod Hashes
 pub mod Settling
+pub mod Runs
+pub mod Learning

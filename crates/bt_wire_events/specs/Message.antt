@@ -10,7 +10,7 @@ use Rattle.bt_machine.specs.WireEvents.{HandlesMessage, HandlesHave, HandlesBitf
 use Rattle.bt_wire_events.specs.Peer.{as_told}
 use Rattle.bt_wire_events.specs.declared.peer.Peer.{Peer}
 
--- the message changes nothing but its peer, and is no hash reject
+-- the message changes nothing but its peer
 abbrev pub IsOfPeer : Sent → Type 0
 IsOfPeer KeepAlive = ⊤
 IsOfPeer Choke = ⊤
@@ -24,7 +24,7 @@ IsOfPeer (Piece piece begin bytes) = ⊥
 IsOfPeer (Cancel ask) = ⊤
 IsOfPeer (HashRequest key) = ⊥
 IsOfPeer (Hashes key digests) = ⊥
-IsOfPeer (HashReject key) = ⊥
+IsOfPeer (HashReject key) = ⊤
 
 -- what the machine does where the peer is closed for this, or stays
 abbrev pub closing_if_any : Option Why → Effect

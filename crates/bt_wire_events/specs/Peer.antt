@@ -3,7 +3,7 @@ use Rattle.std.specs.Prelude.{◌≡◌}
 use Rattle.bt_machine.specs.State.{PeerState}
 use Rattle.bt_wire_events.specs.declared.peer.Peer.{Peer}
 
--- the engine's peer, with the flags, pieces and blocks of a plain one
+-- the engine's peer, with the flags, pieces, hash state and blocks of a plain one
 abbrev pub as_told : PeerState → Peer → PeerState
 as_told p plain = record p {
   am_choking = plain.am_choking;
@@ -11,6 +11,7 @@ as_told p plain = record p {
   peer_choking = plain.peer_choking;
   peer_interested = plain.peer_interested;
   has = plain.has.items;
+  hash = plain.hash;
   asked = plain.asked.items;
 }
 

@@ -4,17 +4,21 @@
 #![tactic(auto)]
 
 mod hashes;
+mod hello;
 mod message;
 mod peer;
 mod piece;
 mod requests;
+mod runs;
 mod serving;
 mod settling;
+mod slot;
 
-pub use hashes::answer_hash_request;
-pub use message::take_message;
+pub use hashes::{Learnt, answer_hash_request, take_hashes};
+pub use hello::hello_fault;
+pub use message::{resolved_hash_state, take_message};
 pub use peer::Peer;
 pub use piece::{Effect, block_of, put_block, take_piece};
 pub use requests::{has_block, request_blocks, request_of};
 pub use serving::{Served, serve};
-pub use settling::settle_blocks;
+pub use slot::Slot;

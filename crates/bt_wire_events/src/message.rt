@@ -1,16 +1,18 @@
 ghost use Rattle.std.specs.Prelude.{◌≡◌, ◌*◌, ◌<◌, ◌≤◌, ℕ, List, Some, false, length, slice_get, slice_index_or, take};
 ghost use Rattle.bt_meta.specs.Torrent.{total_pieces};
 ghost use Rattle.bt_machine.specs.State.{EngineState, PeerState};
+ghost use Rattle.bt_machine.specs.HashMessages.{Resolves};
 ghost use Rattle.bt_wire_events.specs.Peer.{IsPeerOf};
 ghost use Rattle.bt_machine.specs.WireEvents.{bits_in};
 ghost use Rattle.bt_wire_events.specs.Message.{IsOfPeer, TakesMessage, TakesHave, TakesBitfield};
 
 use crate::peer::Peer;
-use bt_machine::Why;
+use bt_hashreq::HashKey;
+use bt_machine::{HashState, Why};
 use bt_wire::Message;
 
 /// Takes a message that changes its peer alone, or nothing: none of those that ask for data or hashes, or
-/// bring them, and no hash reject. It says why the peer is closed, which is then as it was.
+/// bring them. It says why the peer is closed, which is then as it was.
 pub fn take_message(peer: &mut Peer, message: &Message, pieces: u32) -> Option<Why>
     requires few { length peer.old.has.items ≡ pieces }
     requires own { IsOfPeer message.now }
@@ -40,7 +42,22 @@ pub fn take_message(peer: &mut Peer, message: &Message, pieces: u32) -> Option<W
         Message::Have(piece) => take_have(peer, *piece, pieces),
         Message::Bitfield(bits) => take_bitfield(peer, bits.as_slice(), pieces),
         Message::Cancel(_) => None,
+        Message::HashReject(key) => {
+            peer.hash = resolved_hash_state(peer.hash, *key, HashState::Refused);
+            None
+        }
         _ => unreachable!(),
+    }
+}
+
+/// The hash state of a peer that answers a request: the next one, where it is asked this one.
+pub fn resolved_hash_state(hash: HashState, key: HashKey, next: HashState) -> HashState
+    ensures { Resolves key next hash result }
+{
+    if hash == HashState::Asked(key) {
+        next
+    } else {
+        hash
     }
 }
 

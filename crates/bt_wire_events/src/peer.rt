@@ -1,6 +1,7 @@
 use bt_book::BlockId;
+use bt_machine::HashState;
 
-/// What an engine knows of a peer, but for its key, its bytes, its hash requests and its count of bytes.
+/// What an engine knows of a peer, but for its key, its bytes and its count of bytes.
 #[derive(Debug, Drop)]
 pub struct Peer {
     pub am_choking: bool,
@@ -9,6 +10,7 @@ pub struct Peer {
     pub peer_interested: bool,
     /// For each piece whether it has it.
     pub has: Vec<bool>,
+    pub hash: HashState,
     /// The blocks that it is asked for, in the order of asking.
     pub asked: Vec<BlockId>,
 }

@@ -1,82 +1,90 @@
-ghost use Rattle.std.specs.Prelude.{◌≡◌, ◌+◌, ◌<◌, ◌≤◌, IfOk, IfErr};
-ghost use Rattle.std.specs.Option.{option_to_list};
+ghost use Rattle.std.specs.Prelude.{◌≡◌, ◌+◌, ◌<◌, ◌≤◌, ◌++◌, IsTrue, ◌↔◌, length, map, slice_get};
+ghost use Rattle.std.specs.Vec.{vec_len, vec_capacity};
 ghost use Rattle.bt_tree.specs.Blocks.{block_count};
+ghost use Rattle.bt_sparse.specs.Answer.{max_run_length};
 ghost use Rattle.bt_store.specs.Review.{waiting_blocks};
-ghost use Rattle.bt_wire_events.specs.Settling.{AreSettled, SettlesBlocks, note_of};
+ghost use Rattle.bt_wire_events.specs.Settling.{SettlesBlocks, note_room, note_at, is_due};
 
+use arrayvec::ArrayVec;
 use bt_book::BlockId;
 use bt_disk::Disk;
 use bt_machine::Note;
 use bt_sparse::SparseTree;
-use bt_store::{FileStore, Settled};
+use bt_store::{BlockState, FileStore};
 use bt_tree::NodeHash;
-use std::alloc::{AllocError, Global};
 
-/// Reads back those of `count` blocks of this file from `from` on that wait and whose leaf is known, and
-/// notes what became of each, and then whether the device failed.
-///
-/// Out of memory comes before the first read.
-pub fn settle_blocks<D: Disk + Drop, H: NodeHash>(
-    alloc: Global,
+/// Reads back those of `count` blocks of this file from `from` on that wait and whose leaf is known, eight at
+/// a time where they lie next to each other, and adds to the notes what became of each, and then whether the
+/// device failed. The notes have room for that.
+pub(crate) fn settle_blocks<D: Disk + Drop, H: NodeHash>(
+    notes: &mut Vec<Note>,
     file: u32,
     store: &mut FileStore<D, H>,
     tree: &SparseTree<H>,
     from: u32,
     count: u32,
-) -> Result<Vec<Note>, AllocError>
+)
     requires geometry { tree.now.file_length ≡ store.old.file_length }
     requires inside { from + count ≤ block_count store.old.file_length }
-    ensures settles { IfOk result (λ notes. SettlesBlocks D.history D.honest D.faults H.digest tree.now
-        file from count store.old notes.items store.new) }
-    ensures refused { IfErr result (λ _. store.new ≡ store.old) }
+    requires few { count ≤ max_run_length }
+    requires room { vec_len notes.old + note_room count store.old.states ≤ vec_capacity notes.old }
+    ensures settles { SettlesBlocks D.history D.honest D.faults H.digest tree.now file from count
+        store.old notes.old.items notes.new.items store.new }
     ensures same_file { store.new.file_length ≡ store.old.file_length }
+    ensures few { vec_len notes.new ≤ vec_len notes.old + note_room count store.old.states }
+    ensures capacity { vec_capacity notes.old ≤ vec_capacity notes.new }
 {
-    let mut notes = Vec::with_capacity(alloc, count as usize + 1)?;
-    // The clause of this number says that a file has few blocks.
-    let _ = store.geometry().blocks();
-    let mut failed = false;
-    for block in from..from + count {
-        let (note, fault) = settle_block(file, store, tree, block);
-        if let Some(note) = note {
-            notes.push(note).unwrap();
-        }
-        failed = failed || fault;
+    let due = due_blocks(store, tree, from, count);
+    let settled = store.settle(tree, from, count).unwrap();
+    for block in due.as_slice() {
+        notes.push(note_of(store, file, *block)).unwrap();
     }
-    if failed {
+    if settled.faults > 0 {
         notes.push(Note::Device(file)).unwrap();
     }
-    Ok(notes)
 }
 
-/// Reads a block back where it waits and its leaf is known: what became of it, and whether the read failed.
-fn settle_block<D: Disk + Drop, H: NodeHash>(
-    file: u32,
-    store: &mut FileStore<D, H>,
+/// Those blocks that wait and whose leaf is known.
+fn due_blocks<D: Disk + Drop, H: NodeHash>(
+    store: &FileStore<D, H>,
+    tree: &SparseTree<H>,
+    from: u32,
+    count: u32,
+) -> ArrayVec<u32, 512>
+    requires inside { from + count ≤ block_count store.now.file_length }
+    requires few { count ≤ max_run_length }
+    ensures { result.items ≡ waiting_blocks H.digest tree.now store.now.states from count }
+{
+    let mut blocks = ArrayVec::new();
+    // The clause of this number says that a file has few blocks.
+    let _ = store.geometry().blocks();
+    for block in from..from + count {
+        if is_due(store, tree, block) {
+            blocks.push(block);
+        }
+    }
+    blocks
+}
+
+/// Whether a block waits and its leaf is known.
+fn is_due<D: Disk + Drop, H: NodeHash>(
+    store: &FileStore<D, H>,
     tree: &SparseTree<H>,
     block: u32,
-) -> (Option<Note>, bool)
-    requires geometry { tree.now.file_length ≡ store.old.file_length }
-    requires inside { block < block_count store.old.file_length }
-    ensures { AreSettled D.history D.honest D.faults H.digest tree.now file
-        (waiting_blocks H.digest tree.now store.old.states block 1) store.old (option_to_list result.0)
-        result.1 store.new }
+) -> bool
+    ensures { result ≡ is_due H.digest tree.now store.now.states block }
 {
-    let settled = store.settle(tree, block, 1).unwrap();
-    (
-        note_of(settled, BlockId { file, block }),
-        settled.faults > 0,
-    )
+    store.state(block) == Some(BlockState::Waiting) && tree.known(0, block).is_some()
 }
 
-/// What became of a block that was settled.
-fn note_of(settled: Settled, block: BlockId) -> Option<Note>
-    ensures { result ≡ note_of settled.marked settled.freed settled.faults block }
+/// What became of a block that was read back.
+fn note_of<D: Disk + Drop, H: NodeHash>(store: &FileStore<D, H>, file: u32, block: u32) -> Note
+    ensures { result ≡ note_at file store.now.states block }
 {
-    if settled.marked > 0 {
-        Some(Note::Marked(block))
-    } else if settled.freed > 0 || settled.faults > 0 {
-        Some(Note::Freed(block))
+    let block_id = BlockId { file, block };
+    if store.state(block) == Some(BlockState::Marked) {
+        Note::Marked(block_id)
     } else {
-        None
+        Note::Freed(block_id)
     }
 }

@@ -1,0 +1,46 @@
+use Rattle.std.proofs.Common.{◌<◌, length, arith}
+use Rattle.bt_wire_events.specs.Runs.{FitsLength, slot_room}
+use Rattle.bt_wire_events.proofs.RunSettlings.{settled_none, settled_more, settled_all, stays_at, all_at, room_at}
+use Rattle.std.proofs.lemmas.Option.{slice_get-get_or}
+use Rattle.bt_wire_events.proofs.runs.settle_slots.Goals as goal
+
+pub loop-file-init : goal.loop-file-init
+loop-file-init g c =
+    let d = g.D.Disk in
+    record {
+      settled = settled_none d.history d.honest d.faults g.H.NodeHash.digest c.args.tree.now c.args.index c.args.from c.args.count c.args.slots.now c.args.notes.now.items;
+      room = c.requires.room;
+    }
+
+pub settle_slot-requires-clause-fits : goal.settle_slot-requires-clause-fits
+settle_slot-requires-clause-fits g c =
+    let x = c.index-slots-file.result in
+    all_at c.args.slots.now c.loop-file.slots c.loop-file.file x (FitsLength c.args.tree.now c.args.index) c.requires.fits
+    (stays_at c.args.slots.now c.loop-file.slots c.loop-file.file x (omega (arith, c.loop-file-test.true, c.loop-file.auto.slots)) (c.loop-file.invariant.settled.rest c.loop-file.file (omega arith)))
+
+pub settle_slot-requires-clause-room : goal.settle_slot-requires-clause-room
+settle_slot-requires-clause-room g c =
+    let x = c.index-slots-file.result in
+    let at = stays_at c.args.slots.now c.loop-file.slots c.loop-file.file x (omega (arith, c.loop-file-test.true, c.loop-file.auto.slots)) (c.loop-file.invariant.settled.rest c.loop-file.file (omega arith)) in
+    omega (arith, room_at c.args.slots.now c.loop-file.slots c.loop-file.file x (slot_room c.args.index c.args.count) at, c.loop-file.invariant.room)
+
+pub loop-file-preserved : goal.loop-file-preserved
+loop-file-preserved g c =
+    let d = g.D.Disk in
+    let x = c.index-slots-file.result in
+    let now = c.loop-file.slots in
+    let file = c.loop-file.file in
+    let lt : file < length now = omega (arith, c.loop-file-test.true, c.loop-file.auto.slots) in
+    let at = stays_at c.args.slots.now now file x lt (c.loop-file.invariant.settled.rest file (omega arith)) in
+    let r = c.settle_slot.ensures.settles in
+    record {
+      settled = settled_more d.history d.honest d.faults g.H.NodeHash.digest c.args.tree.now c.args.index c.args.from c.args.count c.args.slots.now c.args.notes.now.items
+          file c.loop-file.notes.items c.settle_slot.new.notes.items now c.settle_slot.new.slot r.0 c.loop-file.invariant.settled (slice_get-get_or now file x lt) r.1 r.2;
+      room = omega (arith, room_at c.args.slots.now now file x (slot_room c.args.index c.args.count) at, c.loop-file.invariant.room, c.settle_slot.ensures.few, c.settle_slot.ensures.capacity);
+    }
+
+pub returns : goal.returns
+returns g c =
+    let d = g.D.Disk in
+    settled_all d.history d.honest d.faults g.H.NodeHash.digest c.args.tree.now c.args.index c.args.from c.args.count c.args.slots.now c.args.notes.now.items
+    c.loop-file.file c.loop-file.notes.items c.loop-file.slots (omega (arith, c.loop-file-test.false, c.loop-file.auto.file-end)) c.loop-file.invariant.settled

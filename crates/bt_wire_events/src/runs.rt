@@ -1,0 +1,105 @@
+ghost use Rattle.std.specs.Prelude.{◌≡◌, ◌+◌, ◌<◌, ◌≤◌, ◌++◌, List, length, sum_by};
+ghost use Rattle.std.specs.List.{All};
+ghost use Rattle.std.specs.Vec.{vec_len, vec_capacity};
+ghost use Rattle.bt_meta.specs.Limits.{max_file_count};
+ghost use Rattle.bt_sparse.specs.Answer.{max_run_length};
+ghost use Rattle.bt_store.specs.BlockReads.{BlockRead};
+ghost use Rattle.bt_machine.specs.Settling.{settling_notes};
+ghost use Rattle.bt_wire_events.specs.Runs.{SettlesSlot, SettlesSlots, FitsLength, slot_room};
+
+use crate::settling::settle_blocks;
+use crate::slot::Slot;
+use bt_disk::Disk;
+use bt_machine::Note;
+use bt_sparse::SparseTree;
+use bt_tree::NodeHash;
+
+/// Settles the blocks of a run in every file of a tree, in the order of files, and adds the notes of each,
+/// for which there is room.
+pub(crate) fn settle_slots<D: Disk + Drop, H: NodeHash>(
+    notes: &mut Vec<Note>,
+    slots: &mut [Slot<D, H>],
+    tree: &SparseTree<H>,
+    index: usize,
+    from: u32,
+    count: u32,
+)
+    requires fits { All (FitsLength tree.now index) slots.old }
+    requires files { length slots.old ≤ max_file_count }
+    requires few { count ≤ max_run_length }
+    requires room { vec_len notes.old + sum_by (slot_room index count) slots.old ≤ vec_capacity notes.old }
+    ensures { SettlesSlots D.history D.honest D.faults H.digest tree.now index from count slots.old
+        notes.old.items notes.new.items slots.new }
+{
+    for file in 0..slots.len() {
+        settle_slot(
+            notes,
+            file as u32,
+            &mut slots[file],
+            tree,
+            index,
+            from,
+            count,
+        );
+    }
+}
+
+/// Settles the blocks of a run in one file, where it is of the tree.
+fn settle_slot<D: Disk + Drop, H: NodeHash>(
+    notes: &mut Vec<Note>,
+    file: u32,
+    slot: &mut Slot<D, H>,
+    tree: &SparseTree<H>,
+    index: usize,
+    from: u32,
+    count: u32,
+)
+    requires fits { FitsLength tree.now index slot.old }
+    requires few { count ≤ max_run_length }
+    requires room { vec_len notes.old + slot_room index count slot.old ≤ vec_capacity notes.old }
+    ensures settles { (reads : List BlockRead)
+        × SettlesSlot D.history D.honest D.faults H.digest tree.now index from count slot.old reads slot.new
+        × (notes.new.items ≡ notes.old.items ++ settling_notes H.digest tree.now file reads) }
+    ensures few { vec_len notes.new ≤ vec_len notes.old + slot_room index count slot.old }
+    ensures capacity { vec_capacity notes.old ≤ vec_capacity notes.new }
+{
+    if slot.tree as usize != index {
+        return;
+    }
+    let Some(store) = &mut slot.store else {
+        return;
+    };
+    let blocks = store.geometry().blocks();
+    if from < blocks {
+        settle_blocks(notes, file, store, tree, from, count.min(blocks - from));
+    }
+}
+
+/// How many notes there are at most.
+pub(crate) fn room_for<D: Disk + Drop, H: NodeHash>(
+    slots: &[Slot<D, H>],
+    index: usize,
+    count: u32,
+) -> usize
+    requires files { length slots.now ≤ max_file_count }
+    requires few { count ≤ max_run_length }
+    ensures { result ≡ sum_by (slot_room index count) slots.now }
+{
+    let mut room = 0;
+    for slot in slots {
+        room += slot_room(slot, index, count);
+    }
+    room
+}
+
+/// How many notes there are at most of a file.
+fn slot_room<D: Disk + Drop, H: NodeHash>(slot: &Slot<D, H>, index: usize, count: u32) -> usize
+    requires { count ≤ max_run_length }
+    ensures value { result ≡ slot_room index count slot.now }
+    ensures few { result ≤ max_run_length + 1 }
+{
+    match &slot.store {
+        Some(store) if slot.tree as usize == index => count.min(store.waiting()) as usize + 1,
+        _ => 0,
+    }
+}
