@@ -10,7 +10,8 @@ use Rattle.bt_book.specs.Blocks.{IsBefore}
 use Rattle.bt_book.specs.Book.{max_requests}
 use Rattle.bt_wire.specs.declared.message.Ask.{Ask}
 use Rattle.bt_wire.specs.declared.message.Message.TheVariants.{Interested, NotInterested, Request, HashRequest}
-use Rattle.bt_machine.specs.State.{Idle, Asked, PeerState, EngineState}
+use Rattle.bt_machine.specs.declared.hash_state.HashState.TheVariants.{Idle, Asked}
+use Rattle.bt_machine.specs.State.{PeerState, EngineState}
 use Rattle.bt_machine.specs.Blocks.{state_at, tree_of, leaf_at, Has, IsAsked}
 use Rattle.bt_machine.specs.Spans.{IsWholeBlock}
 use Rattle.bt_machine.specs.Output.{Sent, sent_to}

@@ -7,12 +7,7 @@ use Rattle.bt_store.specs.declared.block_states.BlockState.{BlockState}
 use Rattle.bt_book.specs.declared.names.PeerKey.{PeerKey}
 use Rattle.bt_book.specs.declared.names.BlockId.{BlockId}
 use Rattle.bt_wire.specs.Cutter.{Stream}
-
--- whether a peer may be sent a hash request (BEP 52): it may, it is asked this one, or it rejected one
-pub data HashState : Type 0 where
-  Idle : HashState
-  Asked : (key : HashKey) → HashState
-  Refused : HashState
+use Rattle.bt_machine.specs.declared.hash_state.HashState.{HashState}
 
 -- A peer: the bytes that came from it; the four flags of BEP 3 (who chokes whom, who is interested in whom);
 -- for each piece whether it has it; its hash state; the blocks that it is asked for, in the order of asking;

@@ -5,12 +5,14 @@
 mod answer;
 mod error;
 mod event;
+mod hash_state;
 mod law;
 mod report;
 
 pub use answer::{Frame, Note, Why};
 pub use error::{AdoptError, ConnectError, EngineError, FlushError};
 pub use event::Event;
+pub use hash_state::HashState;
 pub use law::{
     complete_files_are_published, proof_keys_are_answered, right_is_checked, run_keeps_images,
     run_keeps_marks, run_marks_by_bytes, run_sends_read_bytes, runs_are_checked, runs_are_orderly,

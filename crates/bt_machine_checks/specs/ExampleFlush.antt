@@ -10,7 +10,8 @@ use Rattle.bt_wire.specs.declared.message.Message.TheVariants.{Request}
 use Rattle.bt_machine.specs.declared.error.EngineError.TheVariants.{NoPeer}
 use Rattle.bt_machine.specs.declared.error.FlushError.TheVariants.{Device}
 use Rattle.bt_machine.specs.declared.event.Event.TheVariants.{Lost, Flush}
-use Rattle.bt_machine.specs.State.{Idle, PeerState}
+use Rattle.bt_machine.specs.declared.hash_state.HashState.TheVariants.{Idle}
+use Rattle.bt_machine.specs.State.{PeerState}
 use Rattle.bt_machine.specs.Blocks.{block_id}
 use Rattle.bt_machine.specs.Step.{of_lost, of_flush, Run}
 use Rattle.bt_machine_checks.specs.ExamplePeer.{peer_with, all_taken, to_first, fed_answer, taken_answer}

@@ -12,7 +12,8 @@ use Rattle.bt_wire.specs.declared.message.Message.TheVariants.{Interested, NotIn
 use Rattle.bt_machine.specs.declared.answer.Note.TheVariants.{Marked as NowMarked, Complete}
 use Rattle.bt_machine.specs.declared.event.Event.{Event}
 use Rattle.bt_machine.specs.declared.event.Event.TheVariants.{Connect, Feed, Next}
-use Rattle.bt_machine.specs.State.{Idle, PeerState, EngineState}
+use Rattle.bt_machine.specs.declared.hash_state.HashState.TheVariants.{Idle}
+use Rattle.bt_machine.specs.State.{PeerState, EngineState}
 use Rattle.bt_machine.specs.Devices.{DeviceCalls}
 use Rattle.bt_machine.specs.Blocks.{block_id, is_complete}
 use Rattle.bt_machine.specs.Start.{Starts}

@@ -9,7 +9,8 @@ use Rattle.bt_wire.specs.declared.message.Message.TheVariants.{Bitfield}
 use Rattle.bt_machine.specs.declared.answer.Frame.TheVariants.{Hello as hello_frame, Message as message_frame}
 use Rattle.bt_machine.specs.declared.answer.Why.{Why}
 use Rattle.bt_machine.specs.declared.answer.Note.{Note}
-use Rattle.bt_machine.specs.State.{HashState, PeerState}
+use Rattle.bt_machine.specs.declared.hash_state.HashState.{HashState}
+use Rattle.bt_machine.specs.State.{PeerState}
 use Rattle.bt_machine.specs.Output.{Sent}
 use Rattle.bt_machine.specs.Peers.{our_handshake}
 use Rattle.bt_machine.specs.Step.{Answer, of_connect, of_feed, of_next}

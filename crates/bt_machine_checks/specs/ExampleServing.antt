@@ -8,7 +8,8 @@ use Rattle.bt_wire.specs.declared.message.Message.TheVariants.{Unchoke, Piece}
 use Rattle.bt_machine.specs.declared.answer.Why.TheVariants.{BadRequest}
 use Rattle.bt_machine.specs.declared.event.Event.{Event}
 use Rattle.bt_machine.specs.declared.event.Event.TheVariants.{Rechoke}
-use Rattle.bt_machine.specs.State.{Idle, PeerState, EngineState}
+use Rattle.bt_machine.specs.declared.hash_state.HashState.TheVariants.{Idle}
+use Rattle.bt_machine.specs.State.{PeerState, EngineState}
 use Rattle.bt_machine.specs.Devices.{DeviceCalls}
 use Rattle.bt_machine.specs.Step.{Answer, of_rechoke, Run}
 use Rattle.bt_machine_checks.specs.ExamplePeer.{peer_with, all_taken, to_first, fed_answer, taken_answer, closed_answer}

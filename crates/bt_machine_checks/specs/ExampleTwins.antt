@@ -10,7 +10,9 @@ use Rattle.bt_wire.specs.Cutter.{Stream}
 use Rattle.bt_wire.specs.Message.{message_spelling}
 use Rattle.bt_wire.specs.declared.message.Message.TheVariants.{Have}
 use Rattle.bt_machine.specs.declared.answer.Note.TheVariants.{Marked as NowMarked, Complete}
-use Rattle.bt_machine.specs.State.{HashState, Asked, PeerState, FileState, EngineState}
+use Rattle.bt_machine.specs.declared.hash_state.HashState.{HashState}
+use Rattle.bt_machine.specs.declared.hash_state.HashState.TheVariants.{Asked}
+use Rattle.bt_machine.specs.State.{PeerState, FileState, EngineState}
 use Rattle.bt_machine.specs.Devices.{DeviceCalls}
 use Rattle.bt_machine.specs.Blocks.{block_id, is_complete}
 use Rattle.bt_machine.specs.Step.{Answer, Run}
