@@ -1,6 +1,7 @@
 -- The bits of a bitfield, one by one.
 use Rattle.std.proofs.Common.{[], zero, suc, ◌++◌, ◌≡◌, ◌≢◌, ℕ, ◌+◌, ◌-◌, ◌*◌, ◌/◌, ◌%◌, ◌^◌, ◌<◌, ◌≤◌, inl, inr, Bool, true, false, List, ◌∷◌, length, take, get_or, set, replicate, nat_eq, bit_or, w8, refl, sym, ap, ◌∙◌, arith, get_or-set_same, get_or-set_other}
-use Rattle.std.specs.Int.{bit_at}
+use Rattle.std.specs.Int.{div_ceil}
+use Rattle.std.proofs.lemmas.Grind.{div_ceil_times}
 use Rattle.std.proofs.lemmas.Bool.{cases_eq, eq-eqb}
 use Rattle.std.proofs.lemmas.Nat.Bits.{bit_at_set_same, bit_at_set_other}
 use Rattle.std.proofs.lemmas.List.{length-append, length-set, length-take-le, take-replicate, replicate-append-replicate, ext_get_or}
@@ -54,7 +55,7 @@ module _ (bytes : List ℕ) (place byte : ℕ) (inside : place < 8 * length byte
               let bit : n % 8 ≢ place % 8 = λ h. apart (omega arith) in
               let was = others (n % 8) (omega arith) bit in
               let at : get_or (set bytes (place / 8) byte) (n / 8) 0 ≡ byte =
-                  ap (λ k. get_or (set bytes (place / 8) byte) k 0) same ∙ get_or-set_same bytes (place / 8) byte 0 low in
+              ap (λ k. get_or (set bytes (place / 8) byte) k 0) same ∙ get_or-set_same bytes (place / 8) byte 0 low in
               ap (λ b. bit_of b (n % 8)) at ∙ was ∙ ap (λ k. bit_of (get_or bytes k 0) (n % 8)) (sym same) ∙ place_bit bytes n lt ∙ sym kept
           | inr other ↦
               ap (λ b. bit_of b (n % 8)) (get_or-set_other bytes (place / 8) (n / 8) byte 0 other) ∙ place_bit bytes n lt ∙ sym kept
@@ -78,7 +79,7 @@ bit_set bytes place inside =
     (λ j lt ne. ap (λ n. nat_eq n 1) (bit_at_set_other w8 byte (7 - place % 8) (omega arith) (7 - j) (λ h. ne (omega arith))))
 
 -- ---- no bit
-no_bit : (m : ℕ) → bits_in (replicate m 0) ≡ replicate (8 * m) false
+pub no_bit : (m : ℕ) → bits_in (replicate m 0) ≡ replicate (8 * m) false
 no_bit zero = refl
 no_bit (suc m) =
     let more : 8 + 8 * m ≡ 8 * suc m = omega arith in
@@ -86,3 +87,8 @@ no_bit (suc m) =
 
 pub no_bits : (m count : ℕ) → count ≤ 8 * m → take count (bits_in (replicate m 0)) ≡ replicate count false
 no_bits m count enough = ap (take count) (no_bit m) ∙ take-replicate count (8 * m) false enough
+
+-- ---- as many bits as there are pieces
+pub set_length : (bytes : List ℕ) (count : ℕ) → length bytes ≡ div_ceil count 8 → length (take count (bits_in bytes)) ≡ count
+set_length bytes count size =
+    length-take-le count (bits_in bytes) (omega (arith, size, div_ceil_times count 8, length_bits bytes))

@@ -1,5 +1,5 @@
 -- Which peers a book knows.
-use Rattle.bt_machine.proofs.Base.{[], ◌≡◌, ℕ, ◌+◌, not, List, ◌∷◌, map, filter, refl, sym, ap, ◌∙◌, PeerKey, BlockId, cond, ◌==◌}
+use Rattle.bt_machine.proofs.Base.{[], ◌≡◌, ◌+◌, not, List, ◌∷◌, map, filter, refl, sym, ap, ◌∙◌, PeerKey, BlockId, cond, ◌==◌}
 use Rattle.std.specs.List.{count_by}
 use Rattle.bt_book.specs.Book.{PeerRequests, is_of, change_of, without_block_of}
 use Rattle.bt_book.proofs.Once.{count_cons}

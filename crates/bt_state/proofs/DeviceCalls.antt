@@ -48,30 +48,30 @@ module _ {D : Type 0} (history : D → History) (honest : D → Type 0) (faults 
       | inl same ↦ (
         (λ none. absurd (let at = ap (slice_get disks) same in cc)),
         (λ none. absurd (let at = ap (slice_get (slice_set disks i (Some e))) same in let now = set_same disks i {x = Some e} here in cc)),
-        )
+      )
       | inr apart ↦ (
         (λ none. set_other disks i file (Some e) apart ∙ none),
         (λ none. sym (set_other disks i file (Some e) apart) ∙ none),
-        )
+      )
     ];
     of_devices = λ file call c. (
-      let m = contains_map (λ call. (i, call)) calls c in
-      let same : i ≡ file = ap (λ x. x.0) m.2 in
-      (e, ap (slice_get (slice_set disks i (Some e))) (sym same) ∙ set_same disks i here)
-      );
+        let m = contains_map (λ call. (i, call)) calls c in
+        let same : i ≡ file = ap (λ x. x.0) m.2 in
+        (e, ap (slice_get (slice_set disks i (Some e))) (sym same) ∙ set_same disks i here)
+        );
     each = λ file after there. elim (same_or_not file i) [
       | inl same ↦ (
-        let at = ap (slice_get (slice_set disks i (Some e))) same in
-        let now = set_same disks i {x = Some e} here in
-        let is : e ≡ after = cc in
-        let own = ap (λ f. calls_of f (calls_at i calls)) same ∙ own_calls i calls in
-        (d, ap (slice_get disks) same ∙ here, rw own (subst (λ x. HasCalls history honest faults d calls x) is has))
-        )
+          let at = ap (slice_get (slice_set disks i (Some e))) same in
+          let now = set_same disks i {x = Some e} here in
+          let is : e ≡ after = cc in
+          let own = ap (λ f. calls_of f (calls_at i calls)) same ∙ own_calls i calls in
+          (d, ap (slice_get disks) same ∙ here, rw own (subst (λ x. HasCalls history honest faults d calls x) is has))
+          )
       | inr apart ↦ (
         after,
         sym (set_other disks i file (Some e) apart) ∙ there,
         rw (other_calls file i calls apart) (has_none history honest faults after),
-        )
+      )
     ];
   }
 
@@ -104,8 +104,8 @@ module _ {D : Type 0} (history : D → History) (honest : D → Type 0) (faults 
       | inr after ↦ more.of_devices file call after
     ];
     each = λ file after there. (
-      let m = more.each file after there in
-      let l = first.each file m.0 m.1 in
-      (l.0, l.1, rw (calls_append file xs ys) (has_then history honest faults l.0 m.0 after (calls_of file xs) (calls_of file ys) l.2 m.2))
-      );
+        let m = more.each file after there in
+        let l = first.each file m.0 m.1 in
+        (l.0, l.1, rw (calls_append file xs ys) (has_then history honest faults l.0 m.0 after (calls_of file xs) (calls_of file ys) l.2 m.2))
+        );
   }

@@ -55,8 +55,8 @@ get_at (x ∷ xs) (suc i) d lt = get_at xs i d (omega arith)
 pub get_read : {X : Type 0} (xs : List X) (i : ℕ) (x : X) → i < length xs → x ≡ get_or xs i x → slice_get xs i ≡ Some x
 get_read xs i x lt is = get_at xs i x lt ∙ ap (λ y. Some y) (sym is)
 
-pub map_removed : {X Y : Type 0} (f : X → Y) (xs : List X) (i : ℕ) → map f (remove xs i) ≡ take i (map f xs) ++ drop (i + 1) (map f xs)
-map_removed f xs i = map_remove f f xs i (λ j x apart e. refl)
+pub map_removed : {X Y : Type 0} (f : X → Y) (xs : List X) (i : ℕ) → map f (remove xs i) ≡ remove (map f xs) i
+map_removed f xs i = map_gone f f xs i (λ j x apart e. refl)
 
 filter_by : {X Y : Type 0} (f : X → Y) (x : X) (ys : List X) (zs : List Y) (t : Bool) → map f ys ≡ zs
     → map f (cond t (x ∷ ys) ys) ≡ cond t (f x ∷ zs) zs

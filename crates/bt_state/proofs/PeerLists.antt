@@ -1,5 +1,5 @@
 -- The machine's peers, where a peer changes or goes.
-use Rattle.bt_machine.proofs.Base.{◌≡◌, ◌≢◌, ℕ, ◌+◌, ◌<◌, inl, inr, List, ◌++◌, map, take, drop, Some, refl, sym, ap, ◌∙◌, arith, slice_get, slice_set, AllPairs, cases_lt, BlockId}
+use Rattle.bt_machine.proofs.Base.{◌≡◌, ◌≢◌, ℕ, ◌+◌, ◌<◌, inl, inr, List, ◌++◌, map, take, drop, Some, ap, arith, slice_get, slice_set, AllPairs, cases_lt, BlockId}
 use Rattle.std.specs.List.{remove}
 use Rattle.bt_machine.proofs.Pairs.{to_pairs, pairs_at}
 use Rattle.bt_book.specs.Book.{BookState, KeepsOthers}

@@ -1,5 +1,5 @@
 -- What ties the parts of an engine together is kept where a peer changes, comes or goes.
-use Rattle.bt_machine.proofs.Base.{◌≡◌, ◌≢◌, ℕ, ◌+◌, ◌<◌, ◌≤◌, true, not, ◌==◌, List, ◌∷◌, ◌++◌, length, map, filter, get_or, Some, refl, sym, ap, ◌∙◌, arith, subst, slice_get, slice_set, AllPairs, PeerKey, BlockId, BlockState, Metainfo, max_peers, length-map, eq-eqb}
+use Rattle.bt_machine.proofs.Base.{◌≡◌, ℕ, ◌<◌, ◌≤◌, true, not, ◌==◌, List, length, map, filter, get_or, Some, refl, sym, ap, ◌∙◌, arith, subst, slice_get, slice_set, PeerKey, BlockId, Metainfo, max_peers, length-map, eq-eqb}
 use Rattle.std.specs.Prelude.{count_by}
 use Rattle.std.specs.Vec.{with_item, vec_capacity}
 use Rattle.std.specs.List.{remove}
@@ -10,7 +10,6 @@ use Rattle.bt_machine.proofs.Shape.{map_set}
 use Rattle.bt_machine.specs.Blocks.{state_at}
 use Rattle.bt_machine.specs.State.{EngineState, PeerState, FileState}
 use Rattle.bt_machine.specs.Next.{IsPeer, HasNoPeer}
-use Rattle.bt_sparse.specs.SparseTree.{Facts}
 use Rattle.bt_book.specs.Book.{PeerRequests, is_of}
 use Rattle.bt_book.proofs.Once.{filter_one}
 use Rattle.bt_state.specs.Parts.{state_of, peer_of, file_of, IsPeerAt, LacksPeer}

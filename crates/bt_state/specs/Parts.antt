@@ -3,18 +3,10 @@ use Rattle.std.specs.Prelude.{[], ◌≡◌, ◌≢◌, ℕ, ◌+◌, false, Lis
 use Rattle.std.specs.Option.{option_map_or}
 use Rattle.bt_book.specs.Book.{BookState, asked_of}
 use Rattle.bt_book.specs.declared.names.PeerKey.{PeerKey}
-use Rattle.bt_machine.specs.State as machine
 use Rattle.bt_machine.specs.State.{EngineState, PeerState, FileState}
 use Rattle.bt_state.specs.declared.peer.Peer.{Peer}
-use Rattle.bt_state.specs.declared.peer.HashState.{HashState}
-use Rattle.bt_state.specs.declared.peer.HashState.TheVariants.{Idle, Asked, Refused}
 use Rattle.bt_state.specs.declared.slot.Slot.{Slot}
 use Rattle.bt_state.specs.declared.parts.Parts.{Parts}
-
-abbrev pub hash_of : HashState → machine.HashState
-hash_of Idle = machine.Idle
-hash_of (Asked key) = machine.Asked key
-hash_of Refused = machine.Refused
 
 -- the book says what a peer is asked for
 abbrev pub peer_of : BookState → Peer → PeerState
@@ -26,7 +18,7 @@ peer_of book p = record {
   peer_choking = p.peer_choking;
   peer_interested = p.peer_interested;
   has = p.has;
-  hash = hash_of p.hash;
+  hash = p.hash;
   asked = asked_of book p.key;
   payload = p.payload;
 }

@@ -1,6 +1,7 @@
 -- What ties the parts of an engine together, between its events.
-use Rattle.std.specs.Prelude.{◌≡◌, ℕ, ◌<◌, ◌≤◌, ◌↔◌, true, not, List, length, map, filter, count_by, Option, Some, None, slice_get, vec_capacity}
+use Rattle.std.specs.Prelude.{◌≡◌, ℕ, ◌<◌, ◌≤◌, ◌↔◌, true, not, List, length, map, filter, count_by, Some, None, slice_get, vec_capacity}
 use Rattle.std.specs.List.{AllPairs}
+use Rattle.bt_tree.specs.Blocks.{block_count}
 use Rattle.bt_meta.specs.Files.{File}
 use Rattle.bt_meta.specs.Torrent.{total_pieces}
 use Rattle.bt_book.specs.Book.{max_peers}
@@ -31,6 +32,11 @@ pub record FitsFile {D H : Type 0} (files : List File) (trees : List Facts) (i :
   pub listed : slice_get files i ≡ Some file
   pub empty : slot.store ≡ None → file.length ≡ 0
   pub some : (store : StoreView D) → slot.store ≡ Some store → FitsTree trees slot.tree file store
+
+-- there is a state for each block of the store's file
+abbrev pub HasAllStates : {D H : Type 0} → Slot D H → Type 0
+HasAllStates {D} slot = (store : StoreView D) → slot.store ≡ Some store
+    → length store.states ≡ block_count store.file_length
 
 -- how many blocks of the piece are not marked
 abbrev pub unmarked_in : EngineState → ℕ → ℕ

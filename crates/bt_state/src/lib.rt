@@ -3,14 +3,19 @@
 //! done to them.
 #![tactic(auto)]
 
+mod connection;
+mod greeting;
 mod parts;
 mod peer;
 mod peers;
 mod piece_set;
+mod reports;
 mod slot;
 
+pub use connection::connect;
 pub use parts::Parts;
-pub use peer::{HashState, Peer};
+pub use peer::Peer;
 pub use peers::{feed, index_of, lost};
 pub use piece_set::PieceSet;
+pub use reports::{disk, is_complete, peer_count, report};
 pub use slot::Slot;

@@ -1,18 +1,7 @@
 use crate::piece_set::PieceSet;
 use bt_book::PeerKey;
-use bt_hashreq::HashKey;
+use bt_machine::HashState;
 use bt_wire::Cutter;
-
-/// Whether a peer may be sent a hash request.
-#[derive(Clone, Copy, Debug, PartialEq, Eq)]
-pub enum HashState {
-    /// It may.
-    Idle,
-    /// It was sent this one, and has not answered.
-    Asked(HashKey),
-    /// It rejected one.
-    Refused,
-}
 
 /// A connected peer. Which blocks it is asked for stands in the book.
 #[derive(Debug, Drop)]

@@ -1,3 +1,4 @@
+ghost use Rattle.std.specs.List.{All};
 ghost use Rattle.std.specs.Prelude.{◌≡◌, ◌*◌, ◌<◌, ◌≤◌, true, false, length, replicate, slice_index_or, slice_set, take, IfOk};
 ghost use Rattle.std.specs.Int.{div_ceil};
 ghost use Rattle.bt_machine.specs.WireEvents.{bits_in};
@@ -74,9 +75,10 @@ fn bit(bytes: &[u8], place: usize) -> bool
 }
 
 /// Sets a bit, in the same order.
-fn set_bit(bytes: &mut [u8], place: usize)
+pub(crate) fn set_bit(bytes: &mut [u8], place: usize)
     requires { place < 8 * length bytes.old }
-    ensures { bits_in bytes.new ≡ slice_set (bits_in bytes.old) place true }
+    ensures set { bits_in bytes.new ≡ slice_set (bits_in bytes.old) place true }
+    ensures fits { All (λ byte. byte < 256) bytes.old → All (λ byte. byte < 256) bytes.new }
 {
     bytes[place / 8] |= 1 << (7 - place % 8);
 }

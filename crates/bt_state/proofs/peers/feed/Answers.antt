@@ -1,6 +1,6 @@
-use Rattle.std.proofs.Common.{refl, ap, sym, ◌∙◌, List, ℕ}
+use Rattle.std.proofs.Common.{refl, ap, ◌∙◌, List}
 use Rattle.bt_machine.proofs.Lists.{set_id}
-use Rattle.bt_machine.specs.State.{EngineState, PeerState}
+use Rattle.bt_machine.specs.State.{PeerState}
 use Rattle.bt_machine.specs.Blocks.{with_peer}
 use Rattle.bt_machine.specs.Peers.{feeds, no_peer, no_memory}
 use Rattle.bt_wire.specs.Cutter.{Stream}

@@ -1,9 +1,9 @@
-use Rattle.std.proofs.Common.{refl, ap, sym, ◌∙◌, List, ℕ, map, subst, ◌≤◌, ◌<◌}
+use Rattle.std.proofs.Common.{refl, ap, sym, ◌∙◌, List, map, ◌<◌}
 use Rattle.std.proofs.lemmas.List.Quantifiers.{all_pairs_remove}
 use Rattle.bt_machine.proofs.Lists.{some_below}
-use Rattle.bt_machine.specs.State.{EngineState, PeerState}
+use Rattle.bt_machine.specs.State.{PeerState}
 use Rattle.bt_machine.specs.Peers.{goes, no_peer}
-use Rattle.bt_book.specs.Book.{BookState, max_peers}
+use Rattle.bt_book.specs.Book.{BookState}
 use Rattle.bt_state.specs.Parts.{state_of, peer_of}
 use Rattle.bt_state.specs.declared.peer.Peer.{Peer}
 use Rattle.bt_state.proofs.PeerLists.{peers_removed}
