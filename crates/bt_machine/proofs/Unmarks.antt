@@ -1,7 +1,7 @@
 -- How a block ceases to be marked.
 use Rattle.bt_machine.proofs.Base.{[], ◌≡◌, ◌≢◌, ℕ, zero, suc, ◌+◌, ◌⊎◌, inl, inr, Bool, true, false, List, ◌∷◌, ◌++◌, map, Option, Some, refl, sym, ap, ◌∙◌, subst, slice_get, slice_set, option_map, Contains, flat_map, ◌==◌, if◌then◌else◌, Result, Ok, option_and_then, eqb-true, eq-eqb, Contains-append_left, Contains-append_right, History, Call, AreAnswered, Facts, BlockRead, given, failed, block_of, call_of, is_right, judged, IsRight, Adopts, known, accepted, PutIsDue, states_after_put, Missing, Waiting, Marked, StoreError, Put, PutMarked, PutWaiting, Adopted, BlockId, PeerMessage as Sent, KeepAlive, Choke, Unchoke, Interested, NotInterested, Have, Bitfield, Request, Piece, Cancel, HashRequest, Hashes, HashReject, Hello, Message, Skipped}
 use Rattle.bt_machine.proofs.Machine.{Digest, Connect, Feed, Next, Lost, Rechoke, Adopt, Flush, FileState, EngineState, DeviceCalls, calls_of, state_at, tree_of, with_file, IsFile, FindsFault, damaged, fault, StopsAtFault, HandlesRequest, ignored, no_place, not_marked, served, stopped, HandlesPiece, stale, arrives, judged_file, SettlesIn, HandlesHashes, unknown_root, no_claim, refused, accepts_hashes, HandlesHave, in_range, out_of_range, HandlesBitfield, right, wrong, HandlesMessage, Handles, TakesEvent, StepNext, no_peer, waits, keeps_peer, closes, faulty, no_memory, StepConnect, joins, full, spent, no_room, StepFeed, feeds, not_fed, no_room as no_room_to_feed, StepLost, goes, not_fed as not_lost, FollowsEach, StepRechoke, rechokes, not_rechoked, AdoptsGroup, AdoptsGroups, StepAdopt, no_file, busy, empty, adopts, not_adopted, StepFlush, syncs, fails, Step, stored_block, RunOn, IsFoundWrong, StepUnmarksByBytes, StepKeepsMarks, RunKeepsMarks}
-use Rattle.bt_store.specs.Adoption.{marked_run}
+use Rattle.bt_store.specs.Adoption.{marked_group}
 use Rattle.bt_machine.proofs.Lists.{same_some, set_get, set_other, set_same, and_then_some, contains_none, contains_cases, here, later, map_contains}
 use Rattle.bt_machine.proofs.Marks.{state_is, meant_then, right_true}
 use Rattle.bt_machine.proofs.Orderly.{judged_other}
@@ -43,10 +43,10 @@ judged_keeps dig k (given b bytes ∷ reads) states i e = elim (set_get _ b i {y
       λ r. (let yes = right_true r in absurd cc),
     )
 
-marked_keeps : (first count states i : _) → slice_get states i ≡ Some Marked → slice_get (marked_run first count states) i ≡ Some Marked
-unfolding marked_run
+marked_keeps : (first count states i : _) → slice_get states i ≡ Some Marked → slice_get (marked_group first count states) i ≡ Some Marked
+unfolding marked_group
 marked_keeps first zero states i e = e
-marked_keeps first (suc count) states i e = elim (set_get (marked_run first count states) (first + count) i {y = Marked} (marked_keeps first count states i e)) [ inl now ↦ now.1 | inr still ↦ still ]
+marked_keeps first (suc count) states i e = elim (set_get (marked_group first count states) (first + count) i {y = Marked} (marked_keeps first count states i e)) [ inl now ↦ now.1 | inr still ↦ still ]
 
 module _ (dig : Digest) (b : BlockId) where
   abbrev Stays : EngineState → DeviceCalls → EngineState → Type 0

@@ -48,7 +48,7 @@ pub use Rattle.bt_wire.specs.declared.message.Ask.{Ask}
 pub use Rattle.bt_wire.specs.declared.message.Message.{Message as PeerMessage}
 pub use Rattle.bt_wire.specs.declared.message.Message.TheVariants.{Request, Piece, Interested, Have, NotInterested, Bitfield, HashRequest, Unchoke, Hashes, HashReject, KeepAlive, Choke, Cancel}
 pub use Rattle.bt_disk.specs.Calls.{bytes_written, Call, write_fault, bytes_given, sync_made, sync_fault}
-pub use Rattle.bt_store.specs.Adoption.{none, known, accepted, refused as not_accepted, short, unread, Adopts, IsUnknownGroup, claim_of_reads, IsKnownGroup, marked_run}
+pub use Rattle.bt_store.specs.Adoption.{none, known, accepted, refused as not_accepted, short, unread, Adopts, IsUnknownGroup, claim_of_reads, IsKnownGroup, marked_group}
 pub use Rattle.bt_store.specs.Arrival.{states_after_put, PutIsDue, calls_of_put, IsWrong}
 pub use Rattle.bt_store.specs.BlockReads.{BlockRead, given, IsRight, failed, block_of, call_of, is_right, judged, fault_count, is_fault, right_count}
 pub use Rattle.bt_store.specs.BlockStates.{is_marked}

@@ -1,5 +1,5 @@
 -- What is left to an engine where a file is taken in.
-use Rattle.bt_machine_checks.proofs.Base.{[], ◌≡◌, ◌≢◌, ℕ, ◌+◌, ◌-◌, ◌/◌, ◌^◌, ◌<◌, ◌≤◌, inl, inr, min, Bool, true, false, cond, List, ◌∷◌, ◌++◌, length, map, None, refl, sym, ap, ◌∙◌, subst, arith, append_assoc, flat_map, IsSome, Err, AllZip, count_by, range_with_len, cases_lt, length-map, length-range_with_len, sum_by-cons, CoversBlock, real_width, block_count, real_limit, Facts, blocks_of, held_at, value_at, value_covers, given, failed, block_of, is_fault, right_count, fault_count, IsKnownGroup, IsUnknownGroup, claim_of_reads, marked_run, Adopts, none, known, accepted, not_accepted as refused, short, unread, BlockState, Adopted}
+use Rattle.bt_machine_checks.proofs.Base.{[], ◌≡◌, ◌≢◌, ℕ, ◌+◌, ◌-◌, ◌/◌, ◌^◌, ◌<◌, ◌≤◌, inl, inr, min, Bool, true, false, cond, List, ◌∷◌, ◌++◌, length, map, None, refl, sym, ap, ◌∙◌, subst, arith, append_assoc, flat_map, IsSome, Err, AllZip, count_by, range_with_len, cases_lt, length-map, length-range_with_len, sum_by-cons, CoversBlock, real_width, block_count, real_limit, Facts, blocks_of, held_at, value_at, value_covers, given, failed, block_of, is_fault, right_count, fault_count, IsKnownGroup, IsUnknownGroup, claim_of_reads, marked_group, Adopts, none, known, accepted, not_accepted as refused, short, unread, BlockState, Adopted}
 use Rattle.bt_machine_checks.proofs.Machine.{Digest, FileState, EngineState, Hint, reads_at, with_file, with_tree, IsFile, SettlesIn, with_pending, IsProof, AdoptsGroup, adopted_together, AdoptsGroups, is_other, AdoptsFile, StepAdopt, no_file, busy, empty, adopts, not_adopted as no_memory, AdoptedAnswer}
 use Rattle.bt_store.specs.Adoption.{is_whole, AreWhole}
 use Rattle.bt_machine.specs.declared.error.AdoptError.TheVariants.{OutOfMemory}
@@ -109,7 +109,7 @@ result_one {dig} {k} {states} left (accepted a1 f1 c1 rs1 h1 g1 w1 p1) (accepted
     let claim : claim_of_reads dig k.file_length a1 f1 rs1 ≡ claim_of_reads dig k.file_length a2 f2 rs1 = cc in (
       together same.1 same.2 same.0 same.2 refl,
       accepts_one dig (rw (← claim) p1) p2,
-      ap (λ n. marked_run n c1 states) same.1 ∙ ap (λ n. marked_run f2 n states) same.2,
+      ap (λ n. marked_group n c1 states) same.1 ∙ ap (λ n. marked_group f2 n states) same.2,
     ))
 result_one {dig} {k} left (accepted a1 f1 c1 rs1 h1 g1 w1 p1) (refused a2 f2 c2 rs2 e2 g2 w2 p2 o2) = (let same = (unknown_one g1 g2) in absurd (accepts_refused dig p1 (rw (same_claim dig k rs1 same.0 same.1) p2) o2))
 result_one left (accepted a1 f1 c1 rs1 h1 g1 w1 p1) (short a2 f2 c2 rs2 g2 w2 z2 l2) = (let same = (unknown_one g1 g2) in absurd (omega (arith, w1.whole)))

@@ -1,0 +1,13 @@
+use Rattle.bt_engine.proofs.engine.Engine.keeps_laws.Goals as goal
+
+pub returns-clause-orderly : goal.returns-clause-orderly
+returns-clause-orderly g c = rw (← c.self.view_is) c.self.invariant.orderly
+
+pub returns-clause-rooted : goal.returns-clause-rooted
+returns-clause-rooted g c = rw (← c.self.view_is) c.self.invariant.rooted
+
+pub returns-clause-sound : goal.returns-clause-sound
+returns-clause-sound g c = rw (← c.self.view_is) c.self.invariant.sound
+
+pub returns-clause-shaped : goal.returns-clause-shaped
+returns-clause-shaped g c = rw (← c.self.view_is) c.self.invariant.shaped

@@ -1,0 +1,13 @@
+pub mod Lists
+-- pieces
+pub mod Bits
+pub mod Wholes
+-- the book and the peers
+pub mod Books
+pub mod PeerLists
+pub mod Ties
+pub mod Joins
+-- what is told of files
+pub mod Completeness
+-- devices
+pub mod DeviceCalls

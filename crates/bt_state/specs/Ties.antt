@@ -1,0 +1,63 @@
+-- What ties the parts of an engine together, between its events.
+use Rattle.std.specs.Prelude.{◌≡◌, ℕ, ◌<◌, ◌≤◌, ◌↔◌, true, not, List, length, map, filter, count_by, Some, None, slice_get, vec_capacity}
+use Rattle.std.specs.List.{AllPairs}
+use Rattle.bt_tree.specs.Blocks.{block_count}
+use Rattle.bt_meta.specs.Files.{File}
+use Rattle.bt_meta.specs.Torrent.{total_pieces}
+use Rattle.bt_book.specs.Book.{max_peers}
+use Rattle.bt_book.specs.Blocks.{IsInRange, member}
+use Rattle.bt_book.specs.declared.names.BlockId.{BlockId}
+use Rattle.bt_sparse.specs.SparseTree.{Facts}
+use Rattle.bt_store.specs.FileStore.{StoreView}
+use Rattle.bt_store.specs.declared.block_states.BlockState.{BlockState}
+use Rattle.bt_store.specs.declared.block_states.BlockState.TheVariants.{Missing}
+use Rattle.bt_machine.specs.State.{EngineState}
+use Rattle.bt_machine.specs.Blocks.{state_at, is_marked_in, is_in_piece, all_blocks}
+use Rattle.bt_state.specs.Parts.{state_of}
+use Rattle.bt_state.specs.declared.slot.Slot.{Slot}
+use Rattle.bt_state.specs.declared.parts.Parts.{Parts}
+
+-- a store is of this file, and of the tree that stands there
+pub record FitsTree {D : Type 0} (trees : List Facts) (tree : ℕ) (file : File) (store : StoreView D)
+    : Type 0 where
+  pub facts : Facts
+  pub stands : slice_get trees tree ≡ Some facts
+  pub same : facts.file_length ≡ store.file_length
+  pub long : store.file_length ≡ file.length
+
+-- a slot is of the torrent's file at i, and has a store where that has a byte
+pub record FitsFile {D H : Type 0} (files : List File) (trees : List Facts) (i : ℕ) (slot : Slot D H)
+    : Type 0 where
+  pub file : File
+  pub listed : slice_get files i ≡ Some file
+  pub empty : slot.store ≡ None → file.length ≡ 0
+  pub some : (store : StoreView D) → slot.store ≡ Some store → FitsTree trees slot.tree file store
+
+-- there is a state for each block of the store's file
+abbrev pub HasAllStates : {D H : Type 0} → Slot D H → Type 0
+HasAllStates {D} slot = (store : StoreView D) → slot.store ≡ Some store
+    → length store.states ≡ block_count store.file_length
+
+-- how many blocks of the piece are not marked
+abbrev pub unmarked_in : EngineState → ℕ → ℕ
+unmarked_in s piece =
+    count_by (λ b. not (is_marked_in s b)) (filter (is_in_piece s.torrent piece) (all_blocks s))
+
+-- for each piece, so many of its blocks are not marked
+pub record AreUnmarked (s : EngineState) (counts : List ℕ) : Type 0 where
+  pub size : length counts ≡ total_pieces s.torrent
+  pub each : (piece : ℕ) → piece < total_pieces s.torrent → slice_get counts piece ≡ Some (unmarked_in s piece)
+
+-- The peers are the book's, in its order, which is that of their keys, and there is room for all that may be. A
+-- block is wanted exactly while it is missing. There is a slot for each file, and a count for each piece.
+pub record IsTied {D H : Type 0} (parts : Parts D H) : Type 0 where
+  pub joined : map (λ p. p.key) parts.peers.items ≡ map (λ r. r.peer) parts.book.peers
+  pub in_order : AllPairs (λ p q. p.key.0 < q.key.0) parts.peers.items
+  pub room : max_peers ≤ vec_capacity parts.peers
+  pub wanted : (b : BlockId) → (member parts.book.wanted b ≡ true) ↔ (state_at (state_of parts) b ≡ Some Missing)
+  pub ranged : (b : BlockId) (x : BlockState) → state_at (state_of parts) b ≡ Some x
+      → IsInRange parts.book.wanted b
+  pub count : length parts.slots.items ≡ length parts.torrent.files
+  pub each : (i : ℕ) (slot : Slot D H) → slice_get parts.slots.items i ≡ Some slot
+      → FitsFile parts.torrent.files parts.trees.items i slot
+  pub unmarked : AreUnmarked (state_of parts) parts.unmarked.items

@@ -1,0 +1,21 @@
+//! The parts of an engine as plain structs: its torrent, the trees of its roots, the blocks of its files, its
+//! peers and its request book; what of the machine's state they tell, what ties them together, and what is
+//! done to them.
+#![tactic(auto)]
+
+mod connection;
+mod greeting;
+mod parts;
+mod peer;
+mod peers;
+mod piece_set;
+mod reports;
+mod slot;
+
+pub use connection::connect;
+pub use parts::Parts;
+pub use peer::Peer;
+pub use peers::{feed, index_of, lost};
+pub use piece_set::PieceSet;
+pub use reports::{disk, is_complete, peer_count, report};
+pub use slot::Slot;

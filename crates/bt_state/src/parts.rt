@@ -1,0 +1,26 @@
+use crate::peer::Peer;
+use crate::slot::Slot;
+use bt_book::Book;
+use bt_disk::Disk;
+use bt_meta::Torrent;
+use bt_sparse::SparseTree;
+use bt_tree::NodeHash;
+
+/// What an engine has.
+#[derive(Drop)]
+pub struct Parts<D: Disk + Drop, H: NodeHash> {
+    pub torrent: Torrent,
+    /// One for each root.
+    pub trees: Vec<SparseTree<H>>,
+    /// One for each file, in the torrent's order.
+    pub slots: Vec<Slot<D, H>>,
+    /// For each piece how many of its blocks are not marked.
+    pub unmarked: Vec<u32>,
+    /// In the order of their keys.
+    pub peers: Vec<Peer>,
+    /// It wants the missing blocks, and each peer has joined it.
+    pub book: Book,
+    /// How many keys were given out.
+    pub last_key: u64,
+    pub turn: u64,
+}

@@ -1,0 +1,66 @@
+ghost use Rattle.std.specs.Prelude.{◌≡◌, ◌<◌, IfSome, IfNone, length, vec_len};
+ghost use Rattle.bt_machine.specs.Peers.{StepFeed, StepLost};
+ghost use Rattle.bt_state.specs.Parts.{state_of, disks_of, IsPeerAt, LacksPeer};
+ghost use Rattle.bt_state.specs.Ties.{IsTied};
+
+use crate::parts::Parts;
+use bt_book::PeerKey;
+use bt_disk::Disk;
+use bt_machine::EngineError;
+use bt_tree::NodeHash;
+
+/// Where the peer of a key stands, if it stands.
+pub fn index_of<D: Disk + Drop, H: NodeHash>(parts: &Parts<D, H>, key: PeerKey) -> Option<usize>
+    ensures some { IfSome result (IsPeerAt parts.now.peers.items key) }
+    ensures inside { IfSome result (λ i. i < vec_len parts.now.peers) }
+    ensures none { IfNone result (LacksPeer parts.now.peers.items key) }
+{
+    for (index, peer) in parts.peers.iter().enumerate() {
+        if peer.key.0 == key.0 {
+            return Some(index);
+        }
+    }
+    None
+}
+
+/// Puts bytes behind those of a peer that no event was taken from.
+pub fn feed<D: Disk + Drop, H: NodeHash>(
+    parts: &mut Parts<D, H>,
+    key: PeerKey,
+    bytes: &[u8],
+) -> Result<(), EngineError>
+    requires { IsTied parts.old }
+    ensures step { StepFeed (state_of parts.old) key bytes.now result (state_of parts.new) }
+    ensures devices { disks_of parts.new ≡ disks_of parts.old }
+    ensures torrent { parts.new.torrent ≡ parts.old.torrent }
+    ensures tied { IsTied parts.new }
+{
+    let Some(index) = index_of(parts, key) else {
+        return Err(EngineError::NoPeer);
+    };
+    let peer = &mut parts.peers[index];
+    if let Err(_) = peer.cutter.feed(bytes) {
+        return Err(EngineError::OutOfMemory);
+    }
+    Ok(())
+}
+
+/// Lets a peer go. What it was asked for may be asked of others.
+pub fn lost<D: Disk + Drop, H: NodeHash>(
+    parts: &mut Parts<D, H>,
+    key: PeerKey,
+) -> Result<(), EngineError>
+    requires { IsTied parts.old }
+    ensures step { StepLost (state_of parts.old) key result (state_of parts.new) }
+    ensures devices { disks_of parts.new ≡ disks_of parts.old }
+    ensures torrent { parts.new.torrent ≡ parts.old.torrent }
+    ensures tied { IsTied parts.new }
+{
+    let Some(index) = index_of(parts, key) else {
+        return Err(EngineError::NoPeer);
+    };
+    parts.book.keeps_laws();
+    parts.book.lost(key);
+    parts.peers.remove(index);
+    Ok(())
+}

@@ -1,0 +1,84 @@
+ghost use Rattle.std.specs.List.{All};
+ghost use Rattle.std.specs.Prelude.{◌≡◌, ◌*◌, ◌<◌, ◌≤◌, true, false, length, replicate, slice_index_or, slice_set, take, IfOk};
+ghost use Rattle.std.specs.Int.{div_ceil};
+ghost use Rattle.bt_machine.specs.WireEvents.{bits_in};
+
+use std::alloc::{AllocError, Global};
+use std::marker::Model;
+
+/// A set of a torrent's pieces, as a bitfield has them (BEP 3): the high bit of the first byte is piece 0.
+#[derive(Debug, Drop)]
+pub struct PieceSet {
+    pieces: u32,
+    /// As many as the pieces need. The bits behind the last piece's say nothing.
+    bytes: Vec<u8>,
+}
+
+impl Model for PieceSet {
+    ghost use Rattle.std.specs.Prelude.{◌≡◌, List, Bool, length, take};
+    ghost use Rattle.std.specs.Int.{div_ceil};
+    ghost use Rattle.bt_machine.specs.WireEvents.{bits_in};
+
+    ghost Value = { List Bool };
+
+    ghost view = { λ s. take s.pieces (bits_in s.bytes.items) };
+
+    ghost invariant = { λ s. length s.bytes.items ≡ div_ceil s.pieces 8 };
+}
+
+impl PieceSet {
+    /// The set of no piece. Errors: out of memory.
+    pub fn new(alloc: Global, pieces: u32) -> Result<Self, AllocError>
+        ensures { IfOk result (λ s. s ≡ replicate pieces false) }
+    {
+        let bytes = vec![in alloc; 0; pieces.div_ceil(8) as usize]?;
+        Ok(PieceSet { pieces, bytes })
+    }
+
+    /// How many pieces the torrent has.
+    pub fn pieces(&self) -> u32
+        ensures { result ≡ length self.now }
+    {
+        self.pieces
+    }
+
+    /// Whether the piece is in the set; false where there is no such piece.
+    pub fn contains(&self, piece: u32) -> bool
+        ensures { result ≡ slice_index_or self.now piece false }
+    {
+        piece < self.pieces && bit(&self.bytes, piece as usize)
+    }
+
+    pub fn insert(&mut self, piece: u32)
+        requires { piece < length self.old }
+        ensures { self.new ≡ slice_set self.old piece true }
+    {
+        set_bit(&mut self.bytes, piece as usize);
+    }
+
+    /// Makes it the set of the pieces of which a bitfield's bit says so. The bits behind the last piece's say
+    /// nothing.
+    pub fn fill(&mut self, bitfield: &[u8])
+        requires { length bitfield.now ≡ div_ceil (length self.old) 8 }
+        ensures { self.new ≡ take (length self.old) (bits_in bitfield.now) }
+    {
+        self.bytes.copy_from_slice(bitfield);
+    }
+}
+
+/// A bit, of which the high one of the first byte is the first.
+fn bit(bytes: &[u8], place: usize) -> bool
+    requires { place < 8 * length bytes.now }
+    ensures { result ≡ slice_index_or (bits_in bytes.now) place false }
+{
+    (bytes[place / 8] >> (7 - place % 8)) % 2 == 1
+}
+
+/// Sets a bit, in the same order.
+pub(crate) fn set_bit(bytes: &mut [u8], place: usize)
+    requires { place < 8 * length bytes.old }
+    ensures set { bits_in bytes.new ≡ slice_set (bits_in bytes.old) place true }
+    ensures fits { All (λ byte. byte < 256) bytes.old → All (λ byte. byte < 256) bytes.new }
+{
+    bytes[place / 8] |= 1 << (7 - place % 8);
+}
