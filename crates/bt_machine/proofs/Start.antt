@@ -1,5 +1,5 @@
 -- The trees of an engine that has just started are rooted.
-use Rattle.bt_machine.proofs.Base.{[], ◌≡◌, ℕ, zero, suc, ◌*◌, ◌<◌, ◌≤◌, ◌⊎◌, inl, inr, List, ◌∷◌, length, get_or, Some, refl, sym, ap, ◌∙◌, arith, length-drop, slice_get, first_chunks, cases_lt, length-take, IsFileLength, block_count, height_of, real_width, IsDigest, real_limit, Facts, IsRooted, layer_digest, HoldsLayer, IsWhole, All-get_or, File, Metainfo, IsLawful, IsLawfulFile, root_sound, layer_real, layer_past, layer_folds, filled_sound}
+use Rattle.bt_machine.proofs.Base.{[], ◌≡◌, ℕ, zero, suc, ◌*◌, ◌<◌, ◌≤◌, ◌⊎◌, inl, inr, List, ◌∷◌, length, get_or, Some, refl, sym, ap, ◌∙◌, arith, length-drop, slice_get, first_chunks, cases_lt, length-take, IsFileLength, block_count, height_of, real_width, IsDigest, real_limit, Facts, layer_digest, HoldsLayer, IsWhole, All-get_or, File, Metainfo, IsLawful, IsLawfulFile, root_sound, layer_real, layer_past, layer_folds, filled_sound}
 use Rattle.bt_machine.proofs.Machine.{Digest, IsTreeFrom, by_layer, by_root, Starts, AreRooted}
 use Rattle.bt_tree.specs.Peaks.{row_node}
 use Rattle.bt_sparse.specs.SparseTree.{IsSound}
