@@ -24,8 +24,8 @@ abbrev pub effect_of : Said → Effect
 effect_of (Noted note) = noting note
 effect_of (Closed why) = closing why
 
--- the block was put into its file's store by these calls, this was said of it, and the file's blocks have these
--- states then
+-- the block was put into its file's store by these calls, this was said of it, and the file's blocks have
+-- these states then
 abbrev pub PutsBlock : (List ℕ → List ℕ) → EngineState → BlockId → List ℕ → FileState → List Call → Said
     → List BlockState → Type 0
 PutsBlock dig s b bytes file calls said states =

@@ -21,8 +21,8 @@ use Rattle.bt_machine.specs.Request.{with_payload, ReadsRight}
 use Rattle.bt_wire_events.specs.declared.serving.Served.{Served}
 use Rattle.bt_wire_events.specs.declared.serving.Served.TheVariants.{Nothing, Closed, Sent, Found}
 
--- an engine in which a file has this tree and these states of its blocks, and its i-th peer, which we choke or
--- not
+-- an engine in which a file has this tree and these states of its blocks, and its i-th peer, which we choke
+-- or not
 pub record TellsServer (torrent : Metainfo) (tree : Facts) (file : ℕ) (states : List BlockState)
     (am_choking : Bool) (s : EngineState) (i : ℕ) (p : PeerState) (f : FileState) : Type 0 where
   pub same_torrent : s.torrent ≡ torrent
