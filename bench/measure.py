@@ -40,8 +40,11 @@ def built(folder, name, stands_on):
     source = crates / bench / "src"
     source.mkdir(parents=True, exist_ok=True)
     shutil.copy(TOP / "bench" / name / "main.rt.in", source / "main.rt")
-    if (proofs := TOP / "bench" / name / "proofs").exists():
-        shutil.copytree(proofs, crates / bench / "proofs", dirs_exist_ok=True)
+    proofs = TOP / "bench" / name / "proofs"
+    for proof in proofs.rglob("*.antt.in"):
+        copy = crates / bench / "proofs" / proof.relative_to(proofs).with_suffix("")
+        copy.parent.mkdir(parents=True, exist_ok=True)
+        shutil.copy(proof, copy)
     (folder / "crates.txt").write_text("\n".join([*lines.values(), f"{bench}: {' '.join(stands_on)}"]) + "\n")
     program = crates / bench / "out" / bench
     program.unlink(missing_ok=True)
