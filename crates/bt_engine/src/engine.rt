@@ -42,7 +42,7 @@ impl<D: Disk + Drop, H: NodeHash> Model for Engine<D, H> {
 
 impl<D: Disk + Drop, H: NodeHash> Engine<D, H> {
     /// Connects a peer: gives the key by which it is called from then on, and the bitfield that it is to be
-    /// sent behind our handshake. Errors: `Full`, `SerialsSpent`, `OutOfMemory`; the engine is then as it was.
+    /// sent behind our handshake. A refusal leaves the engine as it was.
     pub fn connect(&mut self) -> Result<(PeerKey, Bytes), ConnectError>
         ensures step { StepConnect self.old.state (greeted self.old.state result) self.new.state }
         ensures devices { self.new.disks ≡ self.old.disks }
@@ -94,8 +94,9 @@ impl<D: Disk + Drop, H: NodeHash> Engine<D, H> {
         bt_state::disk(&self.parts, file)
     }
 
-    /// The laws of an engine: it has the torrent's files and the trees of their roots, its peers are in order,
-    /// its trees are rooted, and on honest devices the marked blocks are right. It does nothing when it runs.
+    /// The laws of an engine: it has the torrent's files and the trees of their roots, its peers are in
+    /// order, its trees are rooted, and on honest devices the marked blocks are right. It does nothing when it
+    /// runs.
     pub fn keeps_laws(&self)
         ensures shaped { IsShaped self.now.state.torrent self.now.state }
         ensures orderly { IsOrderly self.now.state }
