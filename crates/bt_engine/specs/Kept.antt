@@ -1,5 +1,5 @@
 -- What holds of the parts of every engine.
-use Rattle.std.specs.Prelude.{◌≡◌, ℕ, List}
+use Rattle.std.specs.Prelude.{ℕ, List}
 use Rattle.bt_disk.specs.History.{History}
 use Rattle.bt_machine.specs.Law.{AreRooted}
 use Rattle.bt_machine.specs.Sound.{IsSound}

@@ -32,6 +32,7 @@ pub record HasJoined (s : EngineState) (key : PeerKey) (new : EngineState) : Typ
   pub after : new ≡ record s { peers = s.peers ++ new_peer s key ∷ []; next_key = s.next_key + 1 }
 
 -- the machine's answer, where the new peer is sent a bitfield of these bytes
-abbrev pub greeted : EngineState → Result (PeerKey × List ℕ) ConnectError → Result (PeerKey × Output) ConnectError
+abbrev pub greeted : EngineState → Result (PeerKey × List ℕ) ConnectError
+    → Result (PeerKey × Output) ConnectError
 greeted s (Ok joined) = Ok (joined.0, greeting s joined.0 joined.1)
 greeted s (Err error) = Err error

@@ -46,15 +46,17 @@ unmarked_in s piece =
 -- for each piece, so many of its blocks are not marked
 pub record AreUnmarked (s : EngineState) (counts : List ℕ) : Type 0 where
   pub size : length counts ≡ total_pieces s.torrent
-  pub each : (piece : ℕ) → piece < total_pieces s.torrent → slice_get counts piece ≡ Some (unmarked_in s piece)
+  pub each : (piece : ℕ) → piece < total_pieces s.torrent
+      → slice_get counts piece ≡ Some (unmarked_in s piece)
 
--- The peers are the book's, in its order, which is that of their keys, and there is room for all that may be. A
--- block is wanted exactly while it is missing. There is a slot for each file, and a count for each piece.
+-- The peers are the book's, in its order, which is that of their keys, and there is room for all that may be.
+-- A block is wanted exactly while it is missing. There is a slot for each file, and a count for each piece.
 pub record IsTied {D H : Type 0} (parts : Parts D H) : Type 0 where
   pub joined : map (λ p. p.key) parts.peers.items ≡ map (λ r. r.peer) parts.book.peers
   pub in_order : AllPairs (λ p q. p.key.0 < q.key.0) parts.peers.items
   pub room : max_peers ≤ vec_capacity parts.peers
-  pub wanted : (b : BlockId) → (member parts.book.wanted b ≡ true) ↔ (state_at (state_of parts) b ≡ Some Missing)
+  pub wanted : (b : BlockId)
+      → (member parts.book.wanted b ≡ true) ↔ (state_at (state_of parts) b ≡ Some Missing)
   pub ranged : (b : BlockId) (x : BlockState) → state_at (state_of parts) b ≡ Some x
       → IsInRange parts.book.wanted b
   pub count : length parts.slots.items ≡ length parts.torrent.files

@@ -28,7 +28,8 @@ pub fn connect<D: Disk + Drop, H: NodeHash>(
 ) -> Result<(PeerKey, Bytes), ConnectError>
     requires tied { IsTied parts.old }
     requires orderly { IsOrderly (state_of parts.old) }
-    ensures step { StepConnect (state_of parts.old) (greeted (state_of parts.old) result) (state_of parts.new) }
+    ensures step { StepConnect (state_of parts.old) (greeted (state_of parts.old) result)
+        (state_of parts.new) }
     ensures devices { disks_of parts.new ≡ disks_of parts.old }
     ensures torrent { parts.new.torrent ≡ parts.old.torrent }
     ensures tied { IsTied parts.new }
