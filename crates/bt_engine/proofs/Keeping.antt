@@ -4,7 +4,8 @@ use Rattle.bt_disk.specs.History.{History}
 use Rattle.bt_meta.specs.Torrent.{Metainfo}
 use Rattle.bt_machine.specs.declared.event.Event.{Event}
 use Rattle.bt_machine.specs.Devices.{DeviceCalls, HaveCalls}
-use Rattle.bt_machine.specs.Step.{Answer, Step}
+use Rattle.bt_machine.specs.declared.event.Answer.{Answer}
+use Rattle.bt_machine.specs.Step.{Step}
 use Rattle.bt_machine.specs.Shape.{IsShaped}
 use Rattle.bt_machine.proofs.Orderly.{order_kept}
 use Rattle.bt_machine.proofs.Shape.{step_shape}

@@ -1,6 +1,6 @@
 use Rattle.std.proofs.Common.{refl}
 use Rattle.bt_machine.specs.declared.event.Event.TheVariants.{Connect}
-use Rattle.bt_machine.specs.Step.{of_connect}
+use Rattle.bt_machine.specs.declared.event.Answer.TheVariants.{Connected}
 use Rattle.bt_state.specs.Parts.{state_of}
 use Rattle.bt_state.specs.Connection.{greeted}
 use Rattle.bt_engine.proofs.Keeping.{kept_without}
@@ -9,7 +9,7 @@ use Rattle.bt_engine.proofs.engine.Engine.connect.Goals as goal
 pub invariant_of-self : goal.invariant_of-self
 invariant_of-self g c =
     let answer = greeted (state_of c.self.inside.parts) c.connect.result in
-    kept_without g.D.Disk.history g.D.Disk.honest g.D.Disk.faults g.H.NodeHash.digest c.self.inside.parts c.connect.new.parts Connect (of_connect answer)
+    kept_without g.D.Disk.history g.D.Disk.honest g.D.Disk.faults g.H.NodeHash.digest c.self.inside.parts c.connect.new.parts Connect (Connected answer)
     c.self.invariant (answer, refl, refl, c.connect.ensures.step) c.connect.ensures.devices c.connect.ensures.torrent c.connect.ensures.tied
 
 pub returns-clause-step : goal.returns-clause-step
