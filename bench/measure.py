@@ -40,6 +40,8 @@ def built(folder, name, stands_on):
     source = crates / bench / "src"
     source.mkdir(parents=True, exist_ok=True)
     shutil.copy(TOP / "bench" / name / "main.rt.in", source / "main.rt")
+    if (proofs := TOP / "bench" / name / "proofs").exists():
+        shutil.copytree(proofs, crates / bench / "proofs", dirs_exist_ok=True)
     (folder / "crates.txt").write_text("\n".join([*lines.values(), f"{bench}: {' '.join(stands_on)}"]) + "\n")
     program = crates / bench / "out" / bench
     program.unlink(missing_ok=True)

@@ -31,7 +31,7 @@ same_number b c (inr h) not_behind = elim (cases_lt b.block c.block) [
   | inr ge ↦ let le = h.1 in omega arith
 ]
 
-same_id : (b c : BlockId) → c.file ≡ b.file → c.block ≡ b.block → c ≡ b
+pub same_id : (b c : BlockId) → c.file ≡ b.file → c.block ≡ b.block → c ≡ b
 same_id b c file block = ap (λ (f : ℕ). record { file = f; block = c.block }) file ∙ ap (λ (n : ℕ). record { file = b.file; block = n }) block
 
 pub further : (from b c : BlockId) → from.block < 2 ^ 32 → c.file < 2 ^ 32 → c.block < 2 ^ 32 → IsFrom from b → IsBefore b c
@@ -49,6 +49,11 @@ none_told next given set same o true is h = tt
 none_told next given set same (Some x) false is h = absurd (true≢false (sym is))
 none_told next given set same None false is h =
     subst (λ (s : Blocks). (has : BlockId → Bool) → GivesFirst next s has → HasNone (says has) s) same h
+
+-- what holds anyway holds where nothing was found
+pub as_none : {X P : Type 0} (o : Option X) → P → IfNone o P
+as_none None p = p
+as_none (Some x) p = tt
 
 -- ---- members and what `next` gives, in turn
 module _ (next : BlockId → Option BlockId → Type 0) (set : Blocks) (from : BlockId)

@@ -1,7 +1,7 @@
 -- The pairs of a book, as its calls change them.
 use Rattle.std.proofs.Common.{◌≡◌, ℕ, ◌+◌, ◌<◌, ◌≤◌, Bool, true, false, not, cond, List, [], ◌∷◌, ◌++◌, length, get_or, set, map, count_by, refl, Option, Some, None, IfSome, is_some, sym, ap, filter, ◌∙◌, arith}
 use Rattle.std.specs.List.{remove}
-use Rattle.std.proofs.lemmas.List.{set-get_or, length-set, length_push, length-map}
+use Rattle.std.proofs.lemmas.List.{get_or_default, set-get_or, length-set, length_push, length-map}
 use Rattle.std.proofs.lemmas.List.Elements.{All-set, All-push, All-filter, All-map, All-weaker}
 use Rattle.std.proofs.lemmas.List.Edits.{length-remove}
 use Rattle.std.proofs.lemmas.List.Sums.{sum_by-cons, sum_by_push, sum_by-set, sum_by-remove, get_or-le-sum_by, length-filter, count_by-le-length}
@@ -11,15 +11,15 @@ use Rattle.bt_book.specs.declared.names.BlockId.{BlockId}
 use Rattle.bt_book.specs.Blocks.{Blocks, of_file, IsInRange, member, is_block, with_block, GivesFirst, IsLeast, HasNone, says}
 use Rattle.bt_book.specs.Book.{PeerRequests, is_of, asked_in, change_of, pairs_in, without_block, without_block_of, IsBook, IsUnasked, IsLeastUnasked, HasNoneUnasked}
 use Rattle.bt_book.proofs.Asked.{asked_at, changed_at, asked_short}
-use Rattle.bt_book.specs.BookSteps.{one_if, IsKept, IsIndexOf, AreAdded}
+use Rattle.bt_book.specs.BookSteps.{one_if, IsKept, IsIndexOf, HasRoomAt, AreAdded}
 use Rattle.bt_book.proofs.BlockSets.{member_with, shape_with, member_in_range}
 use Rattle.bt_book.proofs.Once.{counted, count_cons, filter_none, filter_one}
 
 -- ---- one block among others
-same_block : (b c : BlockId) → is_block b c ≡ true → c ≡ b
+pub same_block : (b c : BlockId) → is_block b c ≡ true → c ≡ b
 same_block b c same = grind (arith, nat_tests)
 
-is_itself : (b : BlockId) → is_block b b ≡ true
+pub is_itself : (b : BlockId) → is_block b b ≡ true
 is_itself b = grind (arith, nat_tests)
 
 is_block_turned : (b c : BlockId) → is_block b c ≡ is_block c b
@@ -32,7 +32,7 @@ count_without c b [] = grind arith
 count_without c b (x ∷ xs) =
     grind (arith, nat_tests, count_cons (is_block b) x (without_block c xs), count_cons (is_block b) x xs, count_without c b xs)
 
-pairs_without : (c b : BlockId) (peers : List PeerRequests) → pairs_in (map (without_block_of c) peers) b ≡ cond (is_block c b) 0 (pairs_in peers b)
+pub pairs_without : (c b : BlockId) (peers : List PeerRequests) → pairs_in (map (without_block_of c) peers) b ≡ cond (is_block c b) 0 (pairs_in peers b)
 pairs_without c b [] = grind arith
 pairs_without c b (r ∷ rs) =
     let counts : PeerRequests → ℕ = λ q. count_by (is_block b) q.blocks in
@@ -220,6 +220,16 @@ module _ {wanted unasked : Blocks} {peers : List PeerRequests} (kept : IsKept wa
     pub kept_choked : (new : Blocks) → AreAdded unasked e.blocks new → IsKept wanted new (set peers i (record e { blocks = [] }))
     kept_choked new added = kept_set new [] (omega arith) added.shape (λ b. omega (arith, added.counts b))
 
+-- a pair is made with the peer at an index
+pub kept_pair : {wanted unasked : Blocks} {peers : List PeerRequests} {i : ℕ} {e : PeerRequests} → IsKept wanted unasked peers → (b : BlockId)
+    → HasRoomAt peers i → e ≡ get_or peers i e → member unasked b ≡ true
+    → IsKept wanted (with_block unasked b false) (set peers i (record e { blocks = e.blocks ++ b ∷ [] }))
+kept_pair {peers = peers} {i = i} {e = e} kept b place read is =
+    let named : (d : PeerRequests) → is_of e.peer (get_or peers i d) ≡ true =
+    λ d. grind (arith, nat_tests, get_or_default peers i d e place.inside, read) in
+    let found : IsIndexOf e.peer peers i = record { inside = place.inside; here = named } in
+    kept_ask kept refl found read b (let room = place.room e in grind (arith, room, read)) is
+
 pub found_joined : (key : PeerKey) {given peers : List PeerRequests} (o : Option ℕ) → given ≡ peers → IfSome o (IsIndexOf key given)
     → is_some o ≡ true → 0 < count_by (is_of key) peers
 found_joined key {given = given} (Some i) same found some =
@@ -235,7 +245,7 @@ module _ {wanted unasked : Blocks} {peers : List PeerRequests} (kept : IsKept wa
     free = grind (arith, kept.counts b);
   }
 
-  is_unasked : (b : BlockId) → IsUnasked (record { wanted = wanted; peers = peers }) b → member unasked b ≡ true
+  pub is_unasked : (b : BlockId) → IsUnasked (record { wanted = wanted; peers = peers }) b → member unasked b ≡ true
   is_unasked b free = grind (arith, kept.counts b, free.wanted, free.free)
 
   module _ (next : BlockId → Option BlockId → Type 0) (has : BlockId → Bool) (gives_first : GivesFirst next wanted has) where

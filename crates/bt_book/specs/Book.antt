@@ -1,5 +1,6 @@
 -- A request book: the blocks that are wanted, the peers, and what each of them is asked for.
-use Rattle.std.specs.Prelude.{◌≡◌, ◌≢◌, ℕ, ◌<◌, ◌≤◌, ◌==◌, Bool, true, false, not, if◌then◌else◌, List, [], ◌∷◌, ◌++◌, length, map, replicate, filter, count_by, sum_by}
+use Rattle.std.specs.Prelude.{◌≡◌, ◌≢◌, ℕ, ◌<◌, ◌≤◌, ◌==◌, Bool, true, false, not, if◌then◌else◌, List, [], ◌∷◌, ◌++◌, length, map, replicate, filter, count_by, sum_by, ◌⊎◌, All, Contains}
+use Rattle.std.specs.List.{AllPairs}
 use Rattle.bt_book.specs.declared.names.PeerKey.{PeerKey}
 use Rattle.bt_book.specs.declared.names.BlockId.{BlockId}
 use Rattle.bt_book.specs.Blocks.{Blocks, member, with_block, is_block, IsBefore}
@@ -27,6 +28,10 @@ max_requests = 16
 
 abbrev pub is_of : PeerKey → PeerRequests → Bool
 is_of key r = r.peer.0 == key.0
+
+-- who has joined, in the order of joining
+abbrev pub peers_of : BookState → List PeerKey
+peers_of book = map (λ r. r.peer) book.peers
 
 abbrev pub IsJoined : BookState → PeerKey → Type 0
 IsJoined book key = 0 < count_by (is_of key) book.peers
@@ -79,6 +84,9 @@ without_peer book key = record book { peers = filter (λ r. not (is_of key r)) b
 abbrev pub with_pair : BookState → PeerKey → BlockId → BookState
 with_pair book key b = with_change book key (λ blocks. blocks ++ b ∷ [])
 
+abbrev pub with_pairs : BookState → PeerKey → List BlockId → BookState
+with_pairs book key more = with_change book key (λ blocks. blocks ++ more)
+
 abbrev pub without_pair : BookState → PeerKey → BlockId → BookState
 without_pair book key b = with_change book key (without_block b)
 
@@ -107,6 +115,14 @@ pub record IsLeastUnasked (has : BlockId → Bool → Type 0) (book : BookState)
 -- of every block that may be asked it says false
 abbrev pub HasNoneUnasked : (BlockId → Bool → Type 0) → BookState → Type 0
 HasNoneUnasked has book = (c : BlockId) → IsUnasked book c → has c false
+
+-- Of the blocks that may be asked and of which `has` is true these are the first: they ascend, and each other
+-- one stands behind them all.
+pub record AreFirstUnasked (has : BlockId → Bool) (book : BookState) (blocks : List BlockId) : Type 0 where
+  pub held : All (λ b. has b ≡ true) blocks
+  pub ascending : AllPairs IsBefore blocks
+  pub first : (c : BlockId) → IsUnasked book c → has c ≡ true
+      → Contains blocks c ⊎ All (λ b. IsBefore b c) blocks
 
 -- a test is true of a wanted block
 abbrev pub HasWanted : (BlockId → Bool) → BookState → Type 0

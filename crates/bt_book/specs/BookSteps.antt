@@ -22,6 +22,11 @@ pub record IsIndexOf (key : PeerKey) (peers : List PeerRequests) (index : ℕ) :
   pub inside : index < length peers
   pub here : (d : PeerRequests) → is_of key (slice_index_or peers index d) ≡ true
 
+-- the peer at this index may be asked for more
+pub record HasRoomAt (peers : List PeerRequests) (index : ℕ) : Type 0 where
+  pub inside : index < length peers
+  pub room : (d : PeerRequests) → length (slice_index_or peers index d).blocks < max_requests
+
 -- these blocks are members now, beside the old ones
 pub record AreAdded (old : Blocks) (blocks : List BlockId) (new : Blocks) : Type 0 where
   pub shape : (file : ℕ) → length (of_file new file) ≡ length (of_file old file)

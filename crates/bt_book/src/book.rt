@@ -1,12 +1,14 @@
-ghost use Rattle.std.specs.Prelude.{◌≡◌, ◌<◌, ◌≤◌, ◌↔◌, ◌⊎◌, Bool, [], ◌∷◌, ◌++◌, length, map, All, count_by, IsTrue, IfSome, OnSome, IfNone, IfOk};
+ghost use Rattle.std.specs.Prelude.{◌≡◌, ◌<◌, ◌≤◌, ◌+◌, ◌↔◌, ◌⊎◌, Bool, true, [], ◌∷◌, ◌++◌, ◌==◌, ◌≢◌, not, length, map, filter, All, Contains, count_by, IsTrue, IfSome, OnSome, IfNone, IfOk};
+ghost use Rattle.std.specs.List.{AllPairs};
 ghost use Rattle.std.specs.Bool.{OnTrue, OnFalse};
 ghost use Rattle.bt_book.specs.Blocks.{IsInRange, is_block, says, GivesFirst};
-ghost use Rattle.bt_book.specs.Book.{IsJoined, empty_book, asked_of, with_peer, without_peer, with_pair, without_pair, without_pairs_of, with_wanted, with_done, without_block, without_block_of, IsLeastUnasked, HasNoneUnasked, HasWanted, HasNoneWanted, IsBook, IsPair, pair_count, KeepsOthers, max_peers, max_requests};
-ghost use Rattle.bt_book.specs.BookSteps.{AreAdded, CanAdd};
+ghost use Rattle.bt_book.specs.Book.{IsJoined, IsUnasked, peers_of, empty_book, asked_of, with_peer, without_peer, with_pair, with_pairs, without_pair, without_pairs_of, with_wanted, with_done, without_block, without_block_of, IsLeastUnasked, HasNoneUnasked, AreFirstUnasked, HasWanted, HasNoneWanted, IsBook, IsPair, pair_count, KeepsOthers, max_peers, max_requests};
+ghost use Rattle.bt_book.specs.BookSteps.{AreAdded, CanAdd, IsIndexOf, HasRoomAt};
 
 use crate::block_set::BlockSet;
 use crate::names::{BlockId, PeerKey};
-use crate::requests::{Requests, index_of};
+use crate::requests::{MAX_REQUESTS, Requests, index_of};
+use arrayvec::ArrayVec;
 use std::alloc::{AllocError, Global};
 use std::marker::Model;
 
@@ -58,6 +60,7 @@ impl Book {
         ensures joined { OnTrue result (self.new ≡ with_peer self.old peer) }
         ensures asked { OnTrue result (asked_of self.new peer ≡ []) }
         ensures others { KeepsOthers self.old self.new peer }
+        ensures peers { OnTrue result (peers_of self.new ≡ peers_of self.old ++ peer ∷ []) }
         ensures kept { OnFalse result (self.new ≡ self.old) }
     {
         if index_of(&self.peers, peer).is_some() || self.peers.len() >= MAX_PEERS {
@@ -71,7 +74,9 @@ impl Book {
     pub fn lost(&mut self, peer: PeerKey)
         ensures now { self.new ≡ without_peer self.old peer }
         ensures nothing_asked { asked_of self.new peer ≡ [] }
+        ensures free { (block : BlockId) → IsPair self.old peer block → pair_count self.new block ≡ 0 }
         ensures others { KeepsOthers self.old self.new peer }
+        ensures peers { peers_of self.new ≡ filter (λ key. not (key.0 == peer.0)) (peers_of self.old) }
     {
         if let Some(index) = index_of(&self.peers, peer) {
             add_all(&mut self.unasked, self.peers[index].blocks());
@@ -84,7 +89,9 @@ impl Book {
     pub fn choked(&mut self, peer: PeerKey)
         ensures now { self.new ≡ without_pairs_of self.old peer }
         ensures nothing_asked { asked_of self.new peer ≡ [] }
+        ensures free { (block : BlockId) → IsPair self.old peer block → pair_count self.new block ≡ 0 }
         ensures others { KeepsOthers self.old self.new peer }
+        ensures peers { peers_of self.new ≡ peers_of self.old }
     {
         if let Some(index) = index_of(&self.peers, peer) {
             add_all(&mut self.unasked, self.peers[index].blocks());
@@ -101,6 +108,7 @@ impl Book {
         ensures free { OnTrue result (pair_count self.new block ≡ 0) }
         ensures kept { OnFalse result (self.new ≡ self.old) }
         ensures others { KeepsOthers self.old self.new peer }
+        ensures peers { peers_of self.new ≡ peers_of self.old }
     {
         let Some(index) = index_of(&self.peers, peer) else {
             return false;
@@ -124,6 +132,7 @@ impl Book {
         requires { IsInRange self.old.wanted block }
         ensures now { self.new ≡ with_wanted self.old block }
         ensures asked { (peer : PeerKey) → asked_of self.new peer ≡ asked_of self.old peer }
+        ensures peers { peers_of self.new ≡ peers_of self.old }
     {
         if !self.wanted.contains(block) {
             self.wanted.insert(block);
@@ -137,6 +146,8 @@ impl Book {
         ensures now { self.new ≡ with_done self.old block }
         ensures asked { (peer : PeerKey)
             → asked_of self.new peer ≡ without_block block (asked_of self.old peer) }
+        ensures free { pair_count self.new block ≡ 0 }
+        ensures peers { peers_of self.new ≡ peers_of self.old }
     {
         if !self.wanted.contains(block) {
             return;
@@ -151,31 +162,25 @@ impl Book {
 
     /// Asks a peer for the least wanted block of which `has` says that the peer has it and that no peer is
     /// asked for: the two are a pair from now on. None where there is no such block, where the peer is asked
-    /// for 16, and where it has not joined; nothing changes then. It asks `has` of each block that may be asked
-    /// before the one that it finds: `ask_next` leaps over what the peer lacks.
+    /// for 16, and where it has not joined; nothing changes then. It asks `has` of each block that may be
+    /// asked before the one that it finds: `ask_next` leaps over what the peer lacks.
     pub fn ask<F: Fn(BlockId) -> bool>(&mut self, peer: PeerKey, has: F) -> Option<BlockId>
         requires { (block : BlockId) → IsInRange self.old.wanted block → F.pre has block }
         ensures least { IfSome result (IsLeastUnasked (F.post has) self.old) }
         ensures now { IfSome result (λ block. self.new ≡ with_pair self.old peer block) }
-        ensures asked { IfSome result (λ block. asked_of self.new peer ≡ asked_of self.old peer ++ block ∷ []) }
+        ensures asked { IfSome result (λ block.
+            asked_of self.new peer ≡ asked_of self.old peer ++ block ∷ []) }
         ensures others { KeepsOthers self.old self.new peer }
+        ensures peers { peers_of self.new ≡ peers_of self.old }
         ensures joined { OnSome result (IsJoined self.old peer) }
         ensures room { OnSome result (length (asked_of self.old peer) < max_requests) }
         ensures none { IfNone result ((¬ IsJoined self.old peer)
             ⊎ (length (asked_of self.old peer) ≡ max_requests) ⊎ HasNoneUnasked (F.post has) self.old) }
         ensures kept { IfNone result (self.new ≡ self.old) }
     {
-        let Some(index) = index_of(&self.peers, peer) else {
-            return None;
-        };
-        if self.peers[index].is_full() {
-            return None;
-        }
-        let Some(block) = self.unasked.least(&has) else {
-            return None;
-        };
-        self.unasked.remove(block);
-        self.peers[index].push(block);
+        let index = self.index_with_room(peer)?;
+        let block = self.unasked.least(&has)?;
+        self.make_pair(index, block);
         Some(block)
     }
 
@@ -194,10 +199,12 @@ impl Book {
         requires { (block : BlockId) → IsInRange self.old.wanted block → F.pre next block }
         ensures least { IfSome result (λ block. (has : BlockId → Bool)
             → GivesFirst (F.post next) self.old.wanted has → IsLeastUnasked (says has) self.old block) }
+        ensures unasked { IfSome result (IsUnasked self.old) }
         ensures now { IfSome result (λ block. self.new ≡ with_pair self.old peer block) }
         ensures asked { IfSome result (λ block.
             asked_of self.new peer ≡ asked_of self.old peer ++ block ∷ []) }
         ensures others { KeepsOthers self.old self.new peer }
+        ensures peers { peers_of self.new ≡ peers_of self.old }
         ensures joined { OnSome result (IsJoined self.old peer) }
         ensures room { OnSome result (length (asked_of self.old peer) < max_requests) }
         ensures none { IfNone result ((¬ IsJoined self.old peer)
@@ -206,21 +213,73 @@ impl Book {
             → HasNoneUnasked (says has) self.old)) }
         ensures kept { IfNone result (self.new ≡ self.old) }
     {
-        let Some(index) = index_of(&self.peers, peer) else {
-            return None;
-        };
-        if self.peers[index].is_full() {
-            return None;
-        }
-        let Some(block) = self.unasked.meet(&next) else {
-            return None;
-        };
-        self.unasked.remove(block);
-        self.peers[index].push(block);
+        let index = self.index_with_room(peer)?;
+        let block = self.unasked.meet(&next)?;
+        self.make_pair(index, block);
         Some(block)
     }
 
-    /// Whether a peer has a block that is wanted, also one that a peer is asked for. `next` is as for `ask_next`.
+    /// Asks a peer for the least wanted blocks that the peer has and that no peer is asked for, until it is
+    /// asked for 16 or there is none left, and gives these blocks, in ascending order: none where it has not
+    /// joined. `next` is as for `ask_next`.
+    pub fn ask_all<F: Fn(BlockId) -> Option<BlockId>>(
+        &mut self,
+        peer: PeerKey,
+        next: F,
+    ) -> ArrayVec<BlockId, MAX_REQUESTS>
+        requires { (block : BlockId) → IsInRange self.old.wanted block → F.pre next block }
+        ensures now { self.new ≡ with_pairs self.old peer result.items }
+        ensures asked { asked_of self.new peer ≡ asked_of self.old peer ++ result.items }
+        ensures others { KeepsOthers self.old self.new peer }
+        ensures peers { peers_of self.new ≡ peers_of self.old }
+        ensures unasked { All (IsUnasked self.old) result.items }
+        ensures distinct { AllPairs (λ b c. b ≢ c) result.items }
+        ensures first { (has : BlockId → Bool) → GivesFirst (F.post next) self.old.wanted has
+            → AreFirstUnasked has self.old result.items }
+        ensures all { (¬ IsJoined self.old peer)
+            ⊎ (length (asked_of self.old peer) + length result.items ≡ max_requests)
+            ⊎ ((has : BlockId → Bool) → GivesFirst (F.post next) self.old.wanted has
+            → (block : BlockId) → IsUnasked self.old block → has block ≡ true → Contains result.items block) }
+    {
+        let mut blocks = ArrayVec::new();
+        self.keeps_laws();
+        for _ in 0..MAX_REQUESTS {
+            let Some(block) = self.ask_next(peer, &next) else {
+                return blocks;
+            };
+            blocks.push(block);
+        }
+        blocks
+    }
+
+    /// The index of a peer that may be asked for more.
+    fn index_with_room(&self, peer: PeerKey) -> Option<usize>
+        ensures here { IfSome result (IsIndexOf peer self.now.peers) }
+        ensures room_here { IfSome result (HasRoomAt self.now.peers) }
+        ensures room { OnSome result (length (asked_of self.now peer) < max_requests) }
+        ensures none { IfNone result ((¬ IsJoined self.now peer)
+            ⊎ (length (asked_of self.now peer) ≡ max_requests)) }
+    {
+        let index = index_of(&self.peers, peer)?;
+        if self.peers[index].is_full() {
+            return None;
+        }
+        Some(index)
+    }
+
+    /// The peer at an index is asked for a block from now on.
+    fn make_pair(&mut self, index: usize, block: BlockId)
+        requires room { HasRoomAt self.old.peers index }
+        requires unasked { IsUnasked self.old block }
+        ensures { (peer : PeerKey) → IsIndexOf peer self.old.peers index
+            → self.new ≡ with_pair self.old peer block }
+    {
+        self.unasked.remove(block);
+        self.peers[index].push(block);
+    }
+
+    /// Whether a peer has a block that is wanted, also one that a peer is asked for. `next` is as for
+    /// `ask_next`.
     pub fn wants<F: Fn(BlockId) -> Option<BlockId>>(&self, next: F) -> bool
         requires { (block : BlockId) → IsInRange self.now.wanted block → F.pre next block }
         ensures yes { OnTrue result ((has : BlockId → Bool) → GivesFirst (F.post next) self.now.wanted has

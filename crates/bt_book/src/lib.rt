@@ -10,9 +10,12 @@ mod bit_set;
 mod block_set;
 mod book;
 mod choking;
+mod law;
 mod names;
 mod requests;
 
 pub use book::Book;
 pub use choking::{Standing, choose};
+pub use law::{counted_blocks_are_contained, joined_peers_are_contained, pairs_are_of_one_peer};
 pub use names::{BlockId, PeerKey};
+pub use requests::MAX_REQUESTS;

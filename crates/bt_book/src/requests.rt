@@ -8,7 +8,7 @@ use arrayvec::ArrayVec;
 use std::marker::Model;
 
 /// How many blocks a peer is asked for at most.
-const MAX_REQUESTS: usize = 16;
+pub const MAX_REQUESTS: usize = 16;
 
 /// What one peer is asked for.
 #[derive(Drop)]

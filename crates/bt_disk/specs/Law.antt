@@ -1,8 +1,8 @@
 -- What calls of an honest device leave in the images of a crash.
-use Rattle.std.specs.Prelude.{◌≡◌, ℕ, List, slice_get, Some, All}
+use Rattle.std.specs.Prelude.{◌≡◌, ℕ, ◌↔◌, List, [], ◌∷◌, ◌++◌, slice_get, Some, All}
 use Rattle.bt_disk.specs.State.{State, IsImage, IsKept, IsWithin}
 use Rattle.bt_disk.specs.History.{History, moment_of, IsKeptSince, IsWithinSince}
-use Rattle.bt_disk.specs.Calls.{Call, sync_made, IsAnswered, AreAnswered, IsRead, Spares, EndsWithin}
+use Rattle.bt_disk.specs.Calls.{Call, sync_made, IsAnswered, AreAnswered, HasCalls, count_after_call, IsRead, Spares, EndsWithin}
 
 -- an image from before the call, with at most other bytes where the call reaches
 pub record IsReached (old : State) (call : Call) (before image : List ℕ) : Type 0 where
@@ -45,3 +45,22 @@ CallsKeepLengths = (old new : History) (calls : List Call) (t n : ℕ) → IsIma
 -- where every image now has at most n bytes, every image since now has
 abbrev pub WithinFromNow : Type 0
 WithinFromNow = (h : History) (n : ℕ) → IsWithin h.now n → IsWithinSince h (moment_of h) n
+
+-- Of a kind of device: its history, which of them are honest, and the count of failed calls.
+
+-- no call leads from a device to itself
+abbrev pub NoCallsLead : {D : Type 0} → (D → History) → (D → Type 0) → (D → ℕ) → Type 0
+NoCallsLead {D} history honest faults = (disk : D) → HasCalls history honest faults disk [] disk
+
+-- One call leads to what it leaves: it is counted where it failed, keeps the device honest or not, and is
+-- answered as an honest device does.
+abbrev pub OneCallLeads : {D : Type 0} → (D → History) → (D → Type 0) → (D → ℕ) → Type 0
+OneCallLeads {D} history honest faults = (old : D) (call : Call) (new : D)
+    → faults new ≡ count_after_call (faults old) call
+    → honest old ↔ honest new → (honest old → IsAnswered (history old) call (history new))
+    → HasCalls history honest faults old (call ∷ []) new
+
+-- calls and then others are these calls one after the other
+abbrev pub CallsCompose : {D : Type 0} → (D → History) → (D → Type 0) → (D → ℕ) → Type 0
+CallsCompose {D} history honest faults = (a b c : D) (xs ys : List Call)
+    → HasCalls history honest faults a xs b → HasCalls history honest faults b ys c → HasCalls history honest faults a (xs ++ ys) c

@@ -1,9 +1,10 @@
 //! What calls of an honest device leave in the images of a crash. A caller that knows which calls it made
 //! knows by these laws what a crash leaves; the functions do nothing when they run.
-ghost use Rattle.std.specs.Prelude.{◌++◌, ◌∷◌, [], ℕ, List, All};
+ghost use Rattle.std.specs.Prelude.{ℕ, List, All};
 ghost use Rattle.bt_disk.specs.History.{IsKeptSince, IsWithinSince};
 ghost use Rattle.bt_disk.specs.Calls.{Call, HasCalls, Spares, EndsWithin};
 ghost use Rattle.bt_disk.specs.Law.{SyncKeepsAll, ReadsChangeNothing, CallsReachTheirRange, CallsKeepBytes, KeptFromNow, CallsKeepLengths, WithinFromNow};
+ghost use Rattle.bt_disk.specs.Law.{NoCallsLead, OneCallLeads, CallsCompose};
 
 use crate::disk::Disk;
 
@@ -35,10 +36,12 @@ pub fn calls_keep_lengths()
     ensures later { CallsKeepLengths }
 {}
 
-/// Calls of a device and then others are these calls one after the other.
+/// No call leads from a device to itself, one call that was answered is a list of one, and calls of a device
+/// and then others are these calls one after the other.
 pub fn calls_compose<D: Disk>()
-    ensures { (a b c : D) (xs ys : List Call) → HasCalls D.history D.honest D.faults a xs b
-        → HasCalls D.history D.honest D.faults b ys c → HasCalls D.history D.honest D.faults a (xs ++ ys) c }
+    ensures none { NoCallsLead D.history D.honest D.faults }
+    ensures one { OneCallLeads D.history D.honest D.faults }
+    ensures both { CallsCompose D.history D.honest D.faults }
 {}
 
 /// Of an honest device, a byte that every image since a moment has, and that no call reaches, is in every

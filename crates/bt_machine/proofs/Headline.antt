@@ -1,11 +1,12 @@
 -- A complete file on an honest device is the published one.
 use Rattle.bt_machine.proofs.Base.{[], ◌≡◌, ℕ, suc, ◌<◌, List, ◌∷◌, length, take, replicate, Option, Some, sym, ap, ◌∙◌, slice_get, History, block_count, file_root, IsDigest, same_or_clash, File, Metainfo, Facts, Missing, Marked}
-use Rattle.bt_machine.proofs.Machine.{Digest, FileState, EngineState, Starts, Step, Run, HasFile, IsSound, RunOn, IsPublished, CompleteFilesArePublished}
+use Rattle.bt_machine.proofs.Machine.{Digest, FileState, EngineState, Starts, Step, Run, HasFile, IsSound, IsPublished, CompleteFilesArePublished}
 use Rattle.bt_machine.proofs.Lists.{get_some, some_below}
 use Rattle.bt_machine.proofs.Rooted.{run_rooted}
 use Rattle.bt_machine.proofs.Start.{start_rooted}
 use Rattle.bt_machine.proofs.Tame.{step_tame}
 use Rattle.bt_machine.proofs.Sound.{run_sound, complete_stands}
+use Rattle.bt_machine.proofs.View.{without_devices}
 
 -- each file's tree has the length and the root that the torrent says
 abbrev IsOf : Metainfo → EngineState → Type 0
@@ -41,13 +42,6 @@ module _ {D : Type 0} (history : D → History) (honest : D → Type 0) (faults 
   run_of torrent old new (e ∷ es) (c ∷ calls) (a ∷ answers) run of = run_of torrent run.0 new es calls answers run.2 (step_of torrent old run.0 e c a run.1 of)
   run_of torrent old new _ _ _ run of = absurd run
 
-  -- a run on devices is a run
-  without_devices : (old new es calls answers : _) (disks after : List (Option D)) → RunOn history honest faults dig old disks es calls answers new after
-      → Run dig old es calls answers new
-  without_devices old new [] [] [] disks after run = run.0
-  without_devices old new (e ∷ es) (c ∷ calls) (a ∷ answers) disks after run = (run.0, run.2, without_devices run.0 new es calls answers run.1 after run.4)
-  without_devices old new _ _ _ disks after run = absurd run
-
   published : IsDigest dig → {file : File} {k : Facts} {bytes : _} → k.file_length ≡ file.length → k.root ≡ file.root → HasFile dig k bytes
       → IsPublished dig file bytes
   published sizes {file} {bytes} size root has =
@@ -61,7 +55,7 @@ module _ {D : Type 0} (history : D → History) (honest : D → Type 0) (faults 
 
   pub files_published : IsDigest dig → CompleteFilesArePublished history honest faults dig
   files_published sizes torrent first last events calls answers disks after number file d lawful starts run complete there honest_now =
-      let plain = without_devices first last events calls answers disks after run in
+      let plain = without_devices history honest faults dig first last disks after events calls answers run in
       let rooted = run_rooted dig first last events calls answers plain (start_rooted sizes lawful starts) in
       let sound = run_sound history honest faults dig first last events calls answers disks after run (start_sound disks starts) in
       let of = run_of torrent first last events calls answers plain (start_of starts) number file complete.state complete.tree complete.listed complete.some complete.here complete.has_tree in

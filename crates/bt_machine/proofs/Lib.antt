@@ -4,6 +4,7 @@ pub mod Lists
 pub mod Pairs
 pub mod Places
 -- trees
+pub mod Digests
 pub mod Rooted
 pub mod Start
 -- marks
@@ -24,3 +25,9 @@ pub mod Headline
 pub mod Crash
 pub mod Unmarks
 pub mod Survival
+pub mod DeviceLaw
+pub mod View
+-- what differs
+pub mod Changes
+-- what can be written
+pub mod Frames

@@ -22,7 +22,9 @@ pub use Rattle.bt_machine.specs.Sound.{RunOn, IsSound, StepKeepsSound, CompleteF
 pub use Rattle.bt_machine.specs.Spans.{IsWholeBlock, spanned_blocks, cut_from}
 pub use Rattle.bt_machine.specs.Start.{Starts, by_root, IsTreeFrom, by_layer}
 pub use Rattle.bt_machine.specs.State.{EngineState, PeerState, FileState, mark_of}
-pub use Rattle.bt_machine.specs.Step.{Answer, Step, Run, of_next, of_rechoke, of_connect, of_flush}
+pub use Rattle.bt_machine.specs.declared.event.Answer.{Answer}
+pub use Rattle.bt_machine.specs.declared.event.Answer.TheVariants.{Stepped, Rechoked, Connected, Flushed}
+pub use Rattle.bt_machine.specs.Step.{Step, Run}
 pub use Rattle.bt_machine.specs.Stored.{stored_block, HasFile, AreRight}
 pub use Rattle.bt_machine.specs.ProofKeys.{HasAnswer, ProofKeysAreAnswered}
 pub use Rattle.bt_machine.specs.Unmarks.{IsFoundWrong, StepUnmarksByBytes, StepKeepsMarks, RunKeepsMarks}

@@ -1,6 +1,6 @@
 -- What is sent of blocks.
 use Rattle.bt_machine.proofs.Base.{[], ◌≡◌, ℕ, inl, inr, Bool, true, false, List, ◌∷◌, ◌++◌, map, Some, Result, Ok, Err, refl, sym, ap, ◌∙◌, subst, Contains, Contains-append_cases, IsPlace, Span, Facts, given, call_of, IsRight, StoreError, DeviceFault, Put, Wrong, PutMarked, PutWaiting, PeerKey, Ask, PeerMessage, Have, Bitfield, Request, Piece, HashRequest, Hashes, WireEvent, Hello, Message, Skipped}
-use Rattle.bt_machine.proofs.Machine.{Digest, Frame, hello_frame, message_frame, Connect, Next, Rechoke, PeerState, EngineState, DeviceCalls, tree_of, spanned_blocks, cut_from, Sent, Effect, sent_to, haves, Serves, FindsFault, damaged, fault, HandlesRequest, ignored, no_place, not_marked, served, stopped, HasPutEffect, HandlesPiece, stale, arrives, HandlesHashRequest, answered, rejected, HandlesHashes, unknown_root, no_claim, refused, accepts_hashes, HandlesHello, ours, other, HandlesHave, in_range, out_of_range, HandlesBitfield, right, wrong, HandlesMessage, Handles, FollowsUp, interest_sent, RequestsHashes, requests, rests, RequestsEach, IsPeer, TakesEvent, StepNext, no_peer, waits, keeps_peer, closes, faulty, no_memory, new_peer, StepConnect, joins, full, spent, no_room, FollowsEach, StepRechoke, rechokes, not_rechoked, choking_sent, is_served, of_connect, of_next, of_rechoke, Step, Run, sent_by, StepSendsReadBytes, IsServed, IsSoAt}
+use Rattle.bt_machine.proofs.Machine.{Digest, Frame, hello_frame, message_frame, Connect, Next, Rechoke, PeerState, EngineState, DeviceCalls, tree_of, spanned_blocks, cut_from, Sent, Effect, sent_to, haves, Serves, FindsFault, damaged, fault, HandlesRequest, ignored, no_place, not_marked, served, stopped, HasPutEffect, HandlesPiece, stale, arrives, HandlesHashRequest, answered, rejected, HandlesHashes, unknown_root, no_claim, refused, accepts_hashes, HandlesHello, ours, other, HandlesHave, in_range, out_of_range, HandlesBitfield, right, wrong, HandlesMessage, Handles, FollowsUp, interest_sent, RequestsHashes, requests, rests, RequestsEach, IsPeer, TakesEvent, StepNext, no_peer, waits, keeps_peer, closes, faulty, no_memory, new_peer, StepConnect, joins, full, spent, no_room, FollowsEach, StepRechoke, rechokes, not_rechoked, choking_sent, is_served, Connected, Stepped, Rechoked, Run, sent_by, StepSendsReadBytes, IsServed, IsSoAt}
 use Rattle.bt_machine.proofs.Marking.{after_step, at_first}
 use Rattle.bt_machine.proofs.Lists.{contains_none, contains_cases, contains_map, contains_flat_map, map_contains}
 
@@ -14,13 +14,13 @@ data_frame (message_frame m) = is_data m
 
 -- no data is among them
 abbrev Plain : List Sent → Type 0
-Plain xs = (x : Sent) → Contains xs x → data_frame x.frame ≡ false
+Plain xs = (x : Sent) → Contains xs x → data_frame x.1 ≡ false
 
 plain_none : Plain []
 plain_none x c = absurd (contains_none c)
 
-plain_one : (x : Sent) (xs : _) → data_frame x.frame ≡ false → Plain xs → Plain (x ∷ xs)
-plain_one x xs e rest y c = elim (contains_cases xs c) [ inl same ↦ ap (λ s. data_frame s.frame) (sym same) ∙ e | inr more ↦ rest y more ]
+plain_one : (x : Sent) (xs : _) → data_frame x.1 ≡ false → Plain xs → Plain (x ∷ xs)
+plain_one x xs e rest y c = elim (contains_cases xs c) [ inl same ↦ ap (λ s. data_frame s.1) (sym same) ∙ e | inr more ↦ rest y more ]
 
 plain_append : (xs ys : _) → Plain xs → Plain ys → Plain (xs ++ ys)
 plain_append xs ys f g x c = elim (Contains-append_cases xs ys x c) [ inl one ↦ f x one | inr more ↦ g x more ]
@@ -32,7 +32,7 @@ plain_haves : (old new : _) → Plain (haves old new)
 plain_haves old new x c =
     let p = contains_flat_map (λ piece. map (λ p. sent_to p (Have piece)) new.peers) _ c in
     let q = contains_map (λ q. sent_to q (Have p.0)) _ p.2 in
-    ap (λ s. data_frame s.frame) (sym q.2)
+    ap (λ s. data_frame s.1) (sym q.2)
 
 plain_interest : (p : _) (was now : Bool) → Plain (interest_sent p was now)
 plain_interest p true true = plain_none
@@ -64,7 +64,7 @@ plain_each dig [] s sent new f = plain_is f.0 plain_none
 plain_each dig (i ∷ peers) s sent new f = plain_is f.5 (plain_append f.1 f.2 (plain_follows f.3) (plain_each dig peers f.0 f.2 new f.4))
 
 abbrev piece_frame : PeerKey → ℕ → ℕ → List ℕ → Sent
-piece_frame key piece begin bytes = record { peer = key; frame = message_frame (Piece piece begin bytes) }
+piece_frame key piece begin bytes = (key, message_frame (Piece piece begin bytes))
 
 -- P holds of every message of the list that has data
 abbrev Sends : (PeerKey → ℕ → ℕ → List ℕ → Type 0) → List Sent → Type 0
@@ -116,14 +116,14 @@ module _ (dig : Digest) where
       let sent = subst (λ l. Contains l (piece_frame key piece begin bytes)) (ap (λ x. x.send) f.sent) c in
       elim (contains_cases [] sent) [
         | inl same ↦
-            let says = ap (λ x. said_in x.frame) same in
+            let says = ap (λ x. said_in x.1) same in
             record {
               ask = ask;
               span = span;
               tree = f.tree;
               blocks = f.bytes;
               is_request = refl;
-              same_key = ap (λ x. x.peer) same;
+              same_key = ap (λ x. x.0) same;
               same_piece = cc;
               same_begin = cc;
               unchoked = open_to;
@@ -228,32 +228,32 @@ module _ (dig : Digest) where
   nothing : (P : PeerKey → ℕ → ℕ → List ℕ → Type 0) {a b : _} → a ≡ b → Plain (sent_by b) → Sends P (sent_by a)
   nothing P {a} e f = sends_plain P _ (plain_is (ap sent_by e) f)
 
-  next_sends : {s new key calls r : _} → StepNext dig s key calls r new → Sends (IsServed dig s (Next key) calls) (sent_by (of_next r))
-  next_sends (no_peer x y e z) = nothing _ (ap (λ x. of_next x) e) plain_none
-  next_sends (waits i p x y z e f) = nothing _ (ap (λ x. of_next x) e) plain_none
+  next_sends : {s new key calls r : _} → StepNext dig s key calls r new → Sends (IsServed dig s (Next key) calls) (sent_by (Stepped r))
+  next_sends (no_peer x y e z) = nothing _ (ap (λ x. Stepped x) e) plain_none
+  next_sends (waits i p x y z e f) = nothing _ (ap (λ x. Stepped x) e) plain_none
   next_sends {s} (keeps_peer i p out x g e) =
       sends_is _ (cc)
       (sends_is _ g.send
       (sends_append _ _ _
       (sends_append _ _ _ (taken_sends x g.takes) (sends_plain _ _ (plain_haves s g.handled)))
       (sends_plain _ _ (plain_follows g.follows))))
-  next_sends (closes i p out x g e) = nothing _ (ap (λ x. of_next x) (e ∙ ap (λ o. Ok (Some o)) g.is)) plain_none
-  next_sends (faulty i p out x g e) = nothing _ (ap (λ x. of_next x) (e ∙ ap (λ o. Ok (Some o)) g.is)) plain_none
-  next_sends (no_memory i p x g e) = nothing _ (ap (λ x. of_next x) e) plain_none
+  next_sends (closes i p out x g e) = nothing _ (ap (λ x. Stepped x) (e ∙ ap (λ o. Ok (Some o)) g.is)) plain_none
+  next_sends (faulty i p out x g e) = nothing _ (ap (λ x. Stepped x) (e ∙ ap (λ o. Ok (Some o)) g.is)) plain_none
+  next_sends (no_memory i p x g e) = nothing _ (ap (λ x. Stepped x) e) plain_none
 
-  connect_sends : (P : PeerKey → ℕ → ℕ → List ℕ → Type 0) {s new r : _} → StepConnect s r new → Sends P (sent_by (of_connect r))
+  connect_sends : (P : PeerKey → ℕ → ℕ → List ℕ → Type 0) {s new r : _} → StepConnect s r new → Sends P (sent_by (Connected r))
   connect_sends P {s} (joins key bytes x y z w e f) =
-      nothing P (ap (λ x. of_connect x) e)
+      nothing P (ap (λ x. Connected x) e)
       (plain_one _ (sent_to (new_peer s key) (Bitfield bytes) ∷ []) refl (plain_one (sent_to (new_peer s key) (Bitfield bytes)) [] refl plain_none))
-  connect_sends P (full x e y) = nothing P (ap (λ x. of_connect x) e) plain_none
-  connect_sends P (spent x y e z) = nothing P (ap (λ x. of_connect x) e) plain_none
-  connect_sends P (no_room x y e z) = nothing P (ap (λ x. of_connect x) e) plain_none
+  connect_sends P (full x e y) = nothing P (ap (λ x. Connected x) e) plain_none
+  connect_sends P (spent x y e z) = nothing P (ap (λ x. Connected x) e) plain_none
+  connect_sends P (no_room x y e z) = nothing P (ap (λ x. Connected x) e) plain_none
 
-  rechoke_sends : (P : PeerKey → ℕ → ℕ → List ℕ → Type 0) {s new r : _} → StepRechoke dig s r new → Sends P (sent_by (of_rechoke r))
+  rechoke_sends : (P : PeerKey → ℕ → ℕ → List ℕ → Type 0) {s new r : _} → StepRechoke dig s r new → Sends P (sent_by (Rechoked r))
   rechoke_sends P {s} {new} (rechokes out x e) =
-      nothing P (ap (λ x. of_rechoke x) (e ∙ ap (λ o. Some o) x.is))
+      nothing P (ap (λ x. Rechoked x) (e ∙ ap (λ o. Ok o) x.is))
       (plain_append _ x.sent (λ y c. let p = contains_flat_map (λ p. choking_sent p p.am_choking (is_served s p)) s.peers c in plain_choking p.0 _ _ y p.2) (plain_each dig _ _ x.sent new x.follows))
-  rechoke_sends P (not_rechoked e x) = nothing P (ap (λ x. of_rechoke x) e) plain_none
+  rechoke_sends P (not_rechoked e x) = nothing P (ap (λ x. Rechoked x) e) plain_none
 
   pub step_sends : StepSendsReadBytes dig
   step_sends s new Connect calls a t = sends_is _ (ap sent_by t.1) (connect_sends _ t.3)

@@ -6,7 +6,7 @@ use Rattle.bt_disk.specs.Calls.{IsAnswered}
 use Rattle.bt_disk.proofs.Images.{synced_image}
 use Rattle.bt_disk.proofs.Histories.{kept_from_now}
 use Rattle.bt_machine.proofs.Base.{[], ◌≡◌, ℕ, ◌+◌, ◌-◌, ◌*◌, ◌<◌, Bool, true, false, not, inl, inr, List, ◌∷◌, length, get_or, Some, Ok, refl, sym, ap, ◌∙◌, subst, arith, slice_get, Contains, ◌==◌, cases_lt, eqb-true, same_number_lists, block_length, IsImage, History, Call, sync_made, AreAnswered, Facts, IsRight, BlockState, Marked, option_map_or}
-use Rattle.bt_machine.proofs.Machine.{Digest, Flush, FileState, EngineState, DeviceCalls, calls_of, state_at, block_id, file_numbers, IsFile, StepFlush, syncs, fails, syncs_of, data_files, of_flush, stored_block}
+use Rattle.bt_machine.proofs.Machine.{Digest, Flush, FileState, EngineState, DeviceCalls, calls_of, state_at, block_id, file_numbers, IsFile, StepFlush, syncs, fails, syncs_of, data_files, Flushed, stored_block}
 use Rattle.bt_machine.specs.Blocks.{states_of}
 use Rattle.bt_machine.specs.Crash.{IsBlockKept}
 use Rattle.bt_machine.specs.Survival.{RunKeepsImages, FlushKeepsBlocks, FlushedBlocksSurvive, RunsKeepFlushedBlocks}
@@ -60,7 +60,7 @@ some_synced : (old new : History) (calls : List Call) → Contains calls sync_ma
 some_synced old new [] among are a = absurd (contains_none among)
 some_synced old new (call ∷ calls) among are a = synced old new call calls are a
 
-flush_ok : {r : _} → of_flush (Ok tt) ≡ of_flush r → r ≡ Ok tt
+flush_ok : {r : _} → Flushed (Ok tt) ≡ Flushed r → r ≡ Ok tt
 flush_ok e = cc
 
 record IsFlushed (s : EngineState) (calls : DeviceCalls) (new : EngineState) : Type 0 where

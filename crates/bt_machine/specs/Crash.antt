@@ -9,7 +9,8 @@ use Rattle.bt_machine.specs.declared.event.Event.{Event}
 use Rattle.bt_machine.specs.State.{FileState, EngineState}
 use Rattle.bt_machine.specs.Devices.{DeviceCalls, HaveCalls}
 use Rattle.bt_machine.specs.Request.{IsFile}
-use Rattle.bt_machine.specs.Step.{Answer, Step}
+use Rattle.bt_machine.specs.declared.event.Answer.{Answer}
+use Rattle.bt_machine.specs.Step.{Step}
 
 -- Whatever a crash at moment t or later has left, these bytes stand in it where block i belongs.
 abbrev pub IsBlockKept : History → (t i : ℕ) → List ℕ → Type 0

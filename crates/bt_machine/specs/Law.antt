@@ -28,7 +28,9 @@ use Rattle.bt_machine.specs.Devices.{DeviceCalls}
 use Rattle.bt_machine.specs.Blocks.{state_at, tree_of}
 use Rattle.bt_machine.specs.Spans.{IsWholeBlock, spanned_blocks, cut_from}
 use Rattle.bt_machine.specs.Next.{IsPeer}
-use Rattle.bt_machine.specs.Step.{Answer, of_connect, of_feed, of_next, of_lost, of_rechoke, of_adopt, of_flush, Step, Run}
+use Rattle.bt_machine.specs.declared.event.Answer.{Answer}
+use Rattle.bt_machine.specs.declared.event.Answer.TheVariants.{Connected, Fed, Stepped, Lost as LostAnswer, Rechoked, Adopted as AdoptedAnswer, Flushed}
+use Rattle.bt_machine.specs.Step.{Step, Run}
 
 -- ---- trees
 
@@ -194,17 +196,17 @@ RunMarksByBytes dig =
 
 -- what an answer sends
 abbrev pub sent_by : Answer → List Sent
-sent_by (of_connect (Ok joined)) = joined.1.send
-sent_by (of_connect (Err _)) = []
-sent_by (of_feed _) = []
-sent_by (of_next (Ok (Some out))) = out.send
-sent_by (of_next (Ok None)) = []
-sent_by (of_next (Err _)) = []
-sent_by (of_lost _) = []
-sent_by (of_rechoke (Some out)) = out.send
-sent_by (of_rechoke None) = []
-sent_by (of_adopt _) = []
-sent_by (of_flush _) = []
+sent_by (Connected (Ok joined)) = joined.1.send
+sent_by (Connected (Err _)) = []
+sent_by (Fed _) = []
+sent_by (Stepped (Ok (Some out))) = out.send
+sent_by (Stepped (Ok None)) = []
+sent_by (Stepped (Err _)) = []
+sent_by (LostAnswer _) = []
+sent_by (Rechoked (Ok out)) = out.send
+sent_by (Rechoked (Err _)) = []
+sent_by (AdoptedAnswer _) = []
+sent_by (Flushed _) = []
 
 -- A peer that we do not choke asked for bytes of a piece in this event. Each block that they lie in was read
 -- in it, whole and with the digest of its leaf, and these are the bytes asked for, cut from the blocks.
@@ -235,7 +237,7 @@ abbrev pub StepSendsReadBytes : (List ℕ → List ℕ) → Type 0
 StepSendsReadBytes dig = (old new : EngineState) (event : Event) (calls : DeviceCalls) (answer : Answer)
     → Step dig old event calls answer new
     → (key : PeerKey) (piece begin : ℕ) (bytes : List ℕ)
-    → Contains (sent_by answer) (record { peer = key; frame = message_frame (Piece piece begin bytes) })
+    → Contains (sent_by answer) (key, message_frame (Piece piece begin bytes))
     → IsServed dig old event calls key piece begin bytes
 
 -- nor by any answer of a run: what one sends was read at its own event
@@ -244,6 +246,6 @@ RunSendsReadBytes dig = (old new : EngineState) (events : List Event) (calls : L
     (before : List Answer) (answer : Answer) (after : List Answer)
     → Run dig old events calls (before ++ answer ∷ after) new
     → (key : PeerKey) (piece begin : ℕ) (bytes : List ℕ)
-    → Contains (sent_by answer) (record { peer = key; frame = message_frame (Piece piece begin bytes) })
+    → Contains (sent_by answer) (key, message_frame (Piece piece begin bytes))
     → IsSoAt dig old events calls before answer after new
     (λ old event calls_then new. IsServed dig old event calls_then key piece begin bytes)

@@ -32,3 +32,7 @@ pub mod Unmarks
 pub mod Crash
 pub mod Survival
 pub mod Headline
+pub mod View
+pub mod DeviceLaw
+pub mod Changes
+pub mod Frames

@@ -10,7 +10,8 @@ use Rattle.bt_machine.specs.State.{PeerState, EngineState}
 use Rattle.bt_machine.specs.Devices.{DeviceCalls}
 use Rattle.bt_machine.specs.Blocks.{state_at}
 use Rattle.bt_machine.specs.Start.{Starts}
-use Rattle.bt_machine.specs.Step.{Answer, Step, Run}
+use Rattle.bt_machine.specs.declared.event.Answer.{Answer}
+use Rattle.bt_machine.specs.Step.{Step, Run}
 
 -- Its key was given out, no fault of its stream was answered, and each piece has its bit. It is asked for at
 -- most 16 blocks, each once and missing.

@@ -9,7 +9,8 @@ use Rattle.bt_machine.specs.declared.event.Event.{Event}
 use Rattle.bt_machine.specs.State.{FileState, EngineState}
 use Rattle.bt_machine.specs.Devices.{DeviceCalls}
 use Rattle.bt_machine.specs.Start.{Starts}
-use Rattle.bt_machine.specs.Step.{Answer, Run}
+use Rattle.bt_machine.specs.declared.event.Answer.{Answer}
+use Rattle.bt_machine.specs.Step.{Run}
 
 -- it has a state for each of the file's blocks, and where there is one, the tree of its root
 pub record HasShapeOf (file : File) (trees : List Facts) (f : FileState) : Type 0 where

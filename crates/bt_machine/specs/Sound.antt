@@ -9,7 +9,8 @@ use Rattle.bt_machine.specs.Devices.{DeviceCalls, HaveCalls}
 use Rattle.bt_machine.specs.Request.{IsFile}
 use Rattle.bt_machine.specs.Stored.{AreRight, HasFile}
 use Rattle.bt_machine.specs.Law.{AreRooted}
-use Rattle.bt_machine.specs.Step.{Answer, Step}
+use Rattle.bt_machine.specs.declared.event.Answer.{Answer}
+use Rattle.bt_machine.specs.Step.{Step}
 
 -- on each honest device the marked blocks of its file are right
 abbrev pub IsSound : {D : Type 0} → (D → History) → (D → Type 0) → (List ℕ → List ℕ)

@@ -1,13 +1,15 @@
--- The engine with which a torrent is begun, without a log.
-use Rattle.std.specs.Prelude.{[], ◌≡◌, ◌≢◌, ℕ, ◌*◌, ◌^◌, ◌<◌, false, List, length, Some, slice_get}
-use Rattle.std.specs.List.{AllPairs}
+-- The engine with which a torrent is begun, without a log, and which of the devices is which file's.
+use Rattle.std.specs.Prelude.{[], ◌≡◌, ◌≢◌, ◌↔◌, ℕ, ◌*◌, ◌^◌, ◌<◌, nat_lt, false, List, length, Option, Some, None, Result, Ok, Err, slice_get, filter_map}
+use Rattle.std.specs.List.{AllPairs, count_by}
 use Rattle.bt_tree.specs.Limits.{full_block_length}
 use Rattle.bt_meta.specs.Files.{File}
 use Rattle.bt_meta.specs.Torrent.{Metainfo}
 use Rattle.bt_sparse.specs.SparseTree.{Facts, root_facts}
 use Rattle.bt_sparse.specs.Layer.{HoldsLayer}
 use Rattle.bt_store.specs.FileStore.{new_states}
-use Rattle.bt_machine.specs.State.{FileState, EngineState}
+use Rattle.bt_machine.specs.declared.error.StartError.TheVariants.{DiskCount, OutOfMemory}
+use Rattle.bt_machine.specs.declared.error.StartRefused.{StartRefused}
+use Rattle.bt_machine.specs.State.{FileState, EngineState, EngineView}
 
 -- what a torrent says of a file's tree: the layer whose digests cover a piece each, or the root alone
 pub data IsTreeFrom (dig : List ℕ → List ℕ) (torrent : Metainfo) (file : File) (k : Facts) : Type 0 where
@@ -52,3 +54,29 @@ pub record Starts (dig : List ℕ → List ℕ) (torrent : Metainfo) (new : Engi
     pending = [];
     hints = [];
   }
+
+-- ---- the devices that it is given
+
+-- how many files have a byte
+abbrev pub device_count : List File → ℕ
+device_count files = count_by (λ file. nat_lt 0 file.length) files
+
+-- Each file that has a byte has one of the devices, and an empty file none. They are handed out in the order
+-- of files, as they are: no call is made of them.
+pub record AreDevicesOf {D : Type 0} (files : List File) (given : List D) (disks : List (Option D))
+    : Type 0 where
+  pub count : length disks ≡ length files
+  pub empty : (i : ℕ) (file : File) → slice_get files i ≡ Some file
+      → (slice_get disks i ≡ Some None) ↔ (file.length ≡ 0)
+  pub in_order : filter_map (λ disk. disk) disks ≡ given
+
+-- An engine is started with these devices; or it is not, and they are handed back.
+pub data AnswersStart {D : Type 0} (dig : List ℕ → List ℕ) (torrent : Metainfo) (given : List D)
+    (answer : Result (EngineView D) (StartRefused D)) : Type 0 where
+  starts : (engine : EngineView D) → Starts dig torrent engine.state
+      → AreDevicesOf torrent.files given engine.disks → answer ≡ Ok engine
+      → AnswersStart dig torrent given answer
+  other_count : (refused : StartRefused D) → length given ≢ device_count torrent.files → answer ≡ Err refused
+      → refused.cause ≡ DiskCount → refused.disks.items ≡ given → AnswersStart dig torrent given answer
+  no_memory : (refused : StartRefused D) → length given ≡ device_count torrent.files → answer ≡ Err refused
+      → refused.cause ≡ OutOfMemory → refused.disks.items ≡ given → AnswersStart dig torrent given answer

@@ -1,5 +1,5 @@
--- What an engine knows of its torrent: the trees, the files' blocks and the peers. Devices are no part of it.
-use Rattle.std.specs.Prelude.{ℕ, Bool, List}
+-- What an engine knows of its torrent: the trees, the files' blocks and the peers. Devices stand beside it.
+use Rattle.std.specs.Prelude.{ℕ, Bool, List, Option}
 use Rattle.bt_meta.specs.Torrent.{Metainfo}
 use Rattle.bt_sparse.specs.SparseTree.{Facts}
 use Rattle.bt_hashreq.specs.declared.key.HashKey.{HashKey}
@@ -47,3 +47,8 @@ pub record EngineState : Type 0 where
   pub logged : Bool
   pub pending : List Hint
   pub hints : List Hint
+
+-- an engine with its devices, one for each file that has a block
+pub record EngineView (D : Type 0) : Type 0 where
+  pub state : EngineState
+  pub disks : List (Option D)

@@ -12,7 +12,9 @@ use Rattle.bt_machine.specs.State.{FileState, EngineState}
 use Rattle.bt_machine.specs.Devices.{DeviceCalls, HaveCalls}
 use Rattle.bt_machine.specs.Request.{IsFile}
 use Rattle.bt_machine.specs.Start.{Starts}
-use Rattle.bt_machine.specs.Step.{Answer, of_flush, Step}
+use Rattle.bt_machine.specs.declared.event.Answer.{Answer}
+use Rattle.bt_machine.specs.declared.event.Answer.TheVariants.{Flushed}
+use Rattle.bt_machine.specs.Step.{Step}
 use Rattle.bt_machine.specs.Stored.{stored_block}
 use Rattle.bt_machine.specs.Sound.{IsSound, RunOn}
 use Rattle.bt_machine.specs.Crash.{IsBlockKept}
@@ -39,7 +41,7 @@ abbrev pub FlushKeepsBlocks : {D : Type 0} → (D → History) → (D → Type 0
     → Type 0
 FlushKeepsBlocks {D} history honest faults dig = (old new : EngineState) (calls : DeviceCalls)
     (disks after : List (Option D)) (file i : ℕ) (f : FileState) (k : Facts) (e : D)
-    → Step dig old Flush calls (of_flush (Ok tt)) new → HaveCalls history honest faults disks calls after
+    → Step dig old Flush calls (Flushed (Ok tt)) new → HaveCalls history honest faults disks calls after
     → IsFile new file f k → slice_get f.states i ≡ Some Marked
     → slice_get after file ≡ Some (Some e) → honest e
     → IsBlockKept (history e) (moment_of (history e)) i
@@ -58,7 +60,7 @@ FlushedBlocksSurvive {D} history honest faults dig = (old at_flush new : EngineS
     (events : List Event) (calls : List DeviceCalls) (answers : List Answer)
     (disks flushed after : List (Option D)) (file i : ℕ) (f : FileState) (k : Facts) (d e : D)
     → IsSound history honest dig old disks
-    → Step dig old Flush synced (of_flush (Ok tt)) at_flush
+    → Step dig old Flush synced (Flushed (Ok tt)) at_flush
     → HaveCalls history honest faults disks synced flushed
     → RunOn history honest faults dig at_flush flushed events calls answers new after
     → IsFile old file f k → slice_get f.states i ≡ Some Marked
@@ -75,7 +77,7 @@ RunsKeepFlushedBlocks {D} history honest faults dig = (torrent : Metainfo)
     (f : FileState) (k : Facts) (d e : D)
     → Starts dig torrent first
     → RunOn history honest faults dig first disks events calls answers old before
-    → Step dig old Flush synced (of_flush (Ok tt)) at_flush
+    → Step dig old Flush synced (Flushed (Ok tt)) at_flush
     → HaveCalls history honest faults before synced flushed
     → RunOn history honest faults dig at_flush flushed later later_calls later_answers new after
     → IsFile old file f k → slice_get f.states i ≡ Some Marked

@@ -10,7 +10,8 @@ use Rattle.bt_machine.specs.State.{EngineState}
 use Rattle.bt_machine.specs.Devices.{DeviceCalls, HaveCalls}
 use Rattle.bt_machine.specs.Blocks.{state_at, tree_of}
 use Rattle.bt_machine.specs.Sound.{IsSound, RunOn}
-use Rattle.bt_machine.specs.Step.{Answer, Step}
+use Rattle.bt_machine.specs.declared.event.Answer.{Answer}
+use Rattle.bt_machine.specs.Step.{Step}
 
 -- it was read in this event, and its device gave other bytes than those of its leaf
 pub record IsFoundWrong (dig : List ℕ → List ℕ) (old : EngineState) (calls : DeviceCalls) (b : BlockId)

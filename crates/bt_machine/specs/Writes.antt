@@ -10,7 +10,8 @@ use Rattle.bt_machine.specs.declared.event.Event.{Event}
 use Rattle.bt_machine.specs.State.{EngineState}
 use Rattle.bt_machine.specs.Devices.{DeviceCalls}
 use Rattle.bt_machine.specs.Blocks.{state_at, tree_of}
-use Rattle.bt_machine.specs.Step.{Answer, Step}
+use Rattle.bt_machine.specs.declared.event.Answer.{Answer}
+use Rattle.bt_machine.specs.Step.{Step}
 
 -- a call that leaves a device's bytes as they are: a read, a sync
 abbrev pub KeepsBytes : Call → Type 0

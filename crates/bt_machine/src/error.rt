@@ -44,3 +44,20 @@ pub enum FlushError {
     #[error("Device")]
     Device,
 }
+
+/// Why no engine is started.
+#[derive(Clone, Copy, Debug, PartialEq, Eq, Error)]
+pub enum StartError {
+    /// There is not one device for each file that has a byte.
+    #[error("DiskCount")]
+    DiskCount,
+    #[error("OutOfMemory")]
+    OutOfMemory,
+}
+
+/// No engine is started. It gives the devices back.
+#[derive(Debug, Drop)]
+pub struct StartRefused<D> {
+    pub disks: Vec<D>,
+    pub cause: StartError,
+}

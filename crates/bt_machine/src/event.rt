@@ -1,5 +1,9 @@
+use crate::answer::Output;
+use crate::error::{AdoptError, ConnectError, EngineError, FlushError};
 use bt_book::PeerKey;
+use bt_store::Adopted;
 use bt_wire::Bytes;
+use std::alloc::AllocError;
 
 /// What happens to an engine.
 #[derive(Debug, Drop)]
@@ -18,4 +22,19 @@ pub enum Event {
     Adopt(u32),
     /// All data devices are synced.
     Flush,
+}
+
+/// What an event answers.
+#[derive(Debug, Drop)]
+pub enum Answer {
+    /// The new peer's key, and what it is sent.
+    Connected(Result<(PeerKey, Output), ConnectError>),
+    Fed(Result<(), EngineError>),
+    /// What the wire event came to; None where no whole one has come.
+    Stepped(Result<Option<Output>, EngineError>),
+    Lost(Result<(), EngineError>),
+    Rechoked(Result<Output, AllocError>),
+    /// What was taken in of the file.
+    Adopted(Result<Adopted, AdoptError>),
+    Flushed(Result<(), FlushError>),
 }

@@ -6,8 +6,13 @@ ghost use Rattle.bt_machine.specs.Survival.{RunsKeepFlushedBlocks, RunKeepsImage
 ghost use Rattle.bt_machine.specs.Orderly.{RunsAreOrderly};
 ghost use Rattle.bt_machine.specs.Shape.{RunsKeepShape};
 ghost use Rattle.bt_machine.specs.ProofKeys.{ProofKeysAreAnswered};
+ghost use Rattle.bt_machine.specs.Frames.{StepSendsWhatFits, RunsSendWhatFits};
+ghost use Rattle.bt_machine.specs.Changes.{NewMarkedBlocksAreOfChanges, NewWholePiecesAreOfChanges, HavesAreOfChanges, NewCompleteFilesAreOfChanges, PieceIsWhole, RunIsWhole};
+ghost use Rattle.bt_machine.specs.DeviceLaw.{NoCallsLead, CallsOfOneLead, CallsCompose};
+ghost use Rattle.bt_machine.specs.View.{NoEventsRun, OneMoreEventRuns, RunsCompose, RunsAreRuns};
 
 use bt_disk::Disk;
+use bt_meta::blocks_and_ranges_agree;
 use bt_tree::NodeHash;
 
 /// After any list of events from the start of a lawful torrent every tree is rooted, and every digest that
@@ -90,4 +95,46 @@ pub fn runs_keep_shape<H: NodeHash>(_hash: H)
 /// that are left for a log, and they are of the right shape.
 pub fn proof_keys_are_answered<H: NodeHash>(_hash: H)
     ensures { ProofKeysAreAnswered H.digest }
+{}
+
+/// What has become marked, whole and complete between two engines is among the blocks in which they differ,
+/// their pieces and their files; so an event's haves and notes need no look at all blocks.
+pub fn news_is_of_changes()
+    ensures marked { NewMarkedBlocksAreOfChanges }
+    ensures whole { NewWholePiecesAreOfChanges }
+    ensures announced { HavesAreOfChanges }
+    ensures complete { NewCompleteFilesAreOfChanges }
+{}
+
+/// A piece is whole exactly where each block that lies in it is marked. In a torrent that has been read those
+/// are the blocks that `Torrent::blocks_of` gives.
+pub fn whole_pieces_are_marked()
+    ensures blocks { PieceIsWhole }
+    ensures run { RunIsWhole }
+{
+    blocks_and_ranges_agree();
+}
+
+/// No call leads from devices to themselves, calls of one file's device are calls of all devices, and calls
+/// and then others, as those of two events, are these calls one after the other.
+pub fn device_calls_compose<D: Disk>(_disk: &D)
+    ensures none { NoCallsLead D.history D.honest D.faults }
+    ensures one { CallsOfOneLead D.history D.honest D.faults }
+    ensures both { CallsCompose D.history D.honest D.faults }
+{}
+
+/// Lists of events of an engine with its devices are put together, event by event or list by list; and what
+/// is said of lists of events whatever the devices are, is said of them.
+pub fn runs_compose<D: Disk, H: NodeHash>(_disk: &D, _hash: H)
+    ensures none { NoEventsRun D.history D.honest D.faults H.digest }
+    ensures one_more { OneMoreEventRuns D.history D.honest D.faults H.digest }
+    ensures both { RunsCompose D.history D.honest D.faults H.digest }
+    ensures are_runs { RunsAreRuns D.history D.honest D.faults H.digest }
+{}
+
+/// Each frame that an event sends fits and can be written: where an engine has the files and trees of a lawful
+/// torrent, each tree with digests of 32 bytes, and so after any list of events from the start of one.
+pub fn events_send_what_fits<H: NodeHash>(_hash: H)
+    ensures step { StepSendsWhatFits H.digest }
+    ensures runs { RunsSendWhatFits H.digest }
 {}

@@ -9,13 +9,15 @@ mod hash_state;
 mod law;
 mod report;
 
-pub use answer::{Frame, Note, Why};
-pub use error::{AdoptError, ConnectError, EngineError, FlushError};
-pub use event::Event;
+pub use answer::{Frame, Note, Output, Why};
+pub use error::{AdoptError, ConnectError, EngineError, FlushError, StartError, StartRefused};
+pub use event::{Answer, Event};
 pub use hash_state::HashState;
 pub use law::{
-    complete_files_are_published, proof_keys_are_answered, right_is_checked, run_keeps_images,
-    run_keeps_marks, run_marks_by_bytes, run_sends_read_bytes, runs_are_checked, runs_are_orderly,
+    complete_files_are_published, device_calls_compose, events_send_what_fits, news_is_of_changes,
+    proof_keys_are_answered, right_is_checked, run_keeps_images, run_keeps_marks,
+    run_marks_by_bytes, run_sends_read_bytes, runs_are_checked, runs_are_orderly, runs_compose,
     runs_keep_flushed_blocks, runs_keep_shape, step_unmarks_by_bytes, step_writes_missing,
+    whole_pieces_are_marked,
 };
 pub use report::FileReport;

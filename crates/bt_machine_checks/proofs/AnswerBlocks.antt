@@ -1,6 +1,6 @@
 -- What becomes of blocks that come and of requests.
 use Rattle.bt_machine_checks.proofs.Base.{[], ◌≡◌, ℕ, zero, suc, ◌⊎◌, inl, inr, Bool, true, false, List, ◌∷◌, length, map, Some, None, Result, Ok, Err, refl, ap, ◌∙◌, subst, slice_get, slice_set, Contains, ◌&&◌, option_map_or, list_all, Contains-append_left, Contains-append_right, IsLawful, IsPlace, Span, Facts, value_at, PutIsDue, states_after_put, BlockRead, given, failed, call_of, IsRight, is_marked, Missing, Waiting, Marked, StoreError, DeviceFault, Put, Wrong, PutMarked, PutWaiting, PeerKey, BlockId, Stream, Message, Ask, Request, Piece}
-use Rattle.bt_machine_checks.proofs.Machine.{Digest, Note, NowMarked, Damaged, Device, Complete, PeerState, FileState, EngineState, DeviceCalls, block_id, state_at, tree_of, with_file, with_peer, new_complete_files, IsWholeBlock, spanned_blocks, cut_from, Effect, noting, sending, AreMarked, IsFile, Serves, StopsAtFault, FindsFault, damaged as found_damaged, fault, HandlesRequest, ignored, no_place, not_marked, served, stopped, HasPutEffect, Arrives, HandlesPiece, stale, arrives, KeepsPeer, Closes, Answer, of_next, NotedBy, output_of, MarksBlock, marked, not_written, NextMarksRightBlock, ServesRange, sent, not_read, NextServesMarkedRange, WaitingIsNotComplete}
+use Rattle.bt_machine_checks.proofs.Machine.{Digest, Note, NowMarked, Damaged, Device, Complete, PeerState, FileState, EngineState, DeviceCalls, block_id, state_at, tree_of, with_file, with_peer, new_complete_files, IsWholeBlock, spanned_blocks, cut_from, Effect, noting, sending, AreMarked, IsFile, Serves, StopsAtFault, FindsFault, damaged as found_damaged, fault, HandlesRequest, ignored, no_place, not_marked, served, stopped, HasPutEffect, Arrives, HandlesPiece, stale, arrives, KeepsPeer, Closes, Answer, Stepped, NotedBy, output_of, MarksBlock, marked, not_written, NextMarksRightBlock, ServesRange, sent, not_read, NextServesMarkedRange, WaitingIsNotComplete}
 use Rattle.bt_machine_checks.specs.AnswerDue.{NextLacksMemory, damaged}
 use Rattle.bt_machine.proofs.Lists.{and_then_some, same_some, here, set_same, map_contains}
 use Rattle.bt_machine_checks.proofs.AnswerSends.{follows_of}
@@ -29,7 +29,7 @@ waiting_is_not_complete s b e =
 
 -- ---- what an event notes is noted
 
-pub noted_with : {dig s new i p calls out a : _} (g : KeepsPeer dig s i p calls out new) → a ≡ of_next (Ok (Some out))
+pub noted_with : {dig s new i p calls out a : _} (g : KeepsPeer dig s i p calls out new) → a ≡ Stepped (Ok (Some out))
     → (note : Note) → Contains g.effect.notes note → NotedBy a note
 noted_with {s} {out} g is note c =
     (out, ap output_of is, rw g.notes (Contains-append_left g.effect.notes (map (λ file. Complete file) (new_complete_files s g.handled)) note c))
@@ -167,7 +167,7 @@ module _ (dig : Digest) (s new : EngineState) (key : PeerKey) (i : ℕ) (p : Pee
   serving {effect} {mid} lawful open_to place are has_tree (stopped other x there y f) =
       stops has_tree (subst (λ l. StopsAtFault dig at_request l calls effect mid) (same_place _ lawful.laid_out _ _ _ there place) f)
 
-  serves_by : {out : _} (g : KeepsPeer dig s i p calls out new) → a ≡ of_next (Ok (Some out)) → p.key ≡ key → Serving g.effect
+  serves_by : {out : _} (g : KeepsPeer dig s i p calls out new) → a ≡ Stepped (Ok (Some out)) → p.key ≡ key → Serving g.effect
       → ServesRange dig tree key ask span calls a
   serves_by g is same (gives bytes right e) = sent bytes right (sent_with g is
       (rw (ap (λ x. x.send) e) (here [] (cc))))

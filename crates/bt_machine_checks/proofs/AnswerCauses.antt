@@ -1,6 +1,6 @@
 -- A peer is closed only for what it sent.
 use Rattle.bt_machine_checks.proofs.Base.{◌≡◌, ℕ, Some, None, Result, Ok, Err, refl, sym, ap, ◌∙◌, PutIsDue, StoreError, Range, Put, Already, Wrong, PeerKey, Stream, Takes, PeerMessage, Have, Bitfield, Request, Piece, HashRequest, Hashes, Hello, Message, Skipped}
-use Rattle.bt_machine_checks.proofs.Machine.{Digest, Why, Event, Connect, Next, Rechoke, PeerState, EngineState, with_peer, Effect, FindsFault, damaged, fault, HandlesRequest, ignored, no_place, not_marked, served, stopped, HasPutEffect, HandlesPiece, stale, arrives, HandlesHashRequest, answered, rejected, HandlesHashes, unknown_root, no_claim, refused, accepts_hashes, HandlesHello, ours, other, HandlesHave, in_range, out_of_range, HandlesBitfield, right, wrong, HandlesMessage, Handles, IsPeer, StepNext, no_peer, waits, keeps_peer, closes, faulty, no_memory, StepConnect, joins, full, spent, no_room, StepRechoke, rechokes, not_rechoked, of_connect, of_next, of_rechoke, Step, output_of, IsCause, wire, other_torrent, past_last_piece, other_length, is_no_place, wrong_block, is_unknown_root, makes_no_claim, is_refused, StepClosesForCause}
+use Rattle.bt_machine_checks.proofs.Machine.{Digest, Why, Event, Connect, Next, Rechoke, PeerState, EngineState, with_peer, Effect, FindsFault, damaged, fault, HandlesRequest, ignored, no_place, not_marked, served, stopped, HasPutEffect, HandlesPiece, stale, arrives, HandlesHashRequest, answered, rejected, HandlesHashes, unknown_root, no_claim, refused, accepts_hashes, HandlesHello, ours, other, HandlesHave, in_range, out_of_range, HandlesBitfield, right, wrong, HandlesMessage, Handles, IsPeer, StepNext, no_peer, waits, keeps_peer, closes, faulty, no_memory, StepConnect, joins, full, spent, no_room, StepRechoke, rechokes, not_rechoked, Connected, Stepped, Rechoked, Step, output_of, IsCause, wire, other_torrent, past_last_piece, other_length, is_no_place, wrong_block, is_unknown_root, makes_no_claim, is_refused, StepClosesForCause}
 use Rattle.bt_machine_checks.specs.AnswerLaw.{ClosesPeer}
 
 -- nothing closes where an effect does not
@@ -118,12 +118,12 @@ module _ (dig : Digest) where
   open_output : {X : Type 0} {a b like why : _} → a ≡ b → output_of b ≡ Some like → like.close ≡ None → ClosesPeer a why → X
   open_output {why} e is none c = absurd cc
 
-  next_closes : {s new key calls r : _} → StepNext dig s key calls r new → {why : _} → ClosesPeer (of_next r) why → IsClosedFor s (Next key) why
-  next_closes (no_peer x y e z) c = no_output (ap (λ x. of_next x) e) refl c
-  next_closes (waits i p x y z e f) c = no_output (ap (λ x. of_next x) e) refl c
-  next_closes (keeps_peer i p out x g e) c = open_output (ap (λ x. of_next x) e) refl g.close c
+  next_closes : {s new key calls r : _} → StepNext dig s key calls r new → {why : _} → ClosesPeer (Stepped r) why → IsClosedFor s (Next key) why
+  next_closes (no_peer x y e z) c = no_output (ap (λ x. Stepped x) e) refl c
+  next_closes (waits i p x y z e f) c = no_output (ap (λ x. Stepped x) e) refl c
+  next_closes (keeps_peer i p out x g e) c = open_output (ap (λ x. Stepped x) e) refl g.close c
   next_closes {s} {key} {calls} (closes i p out x g e) {why} c =
-      let same = output_is (ap (λ x. of_next x) e) c.1 refl in
+      let same = output_is (ap (λ x. Stepped x) e) c.1 refl in
       let is : Some g.why ≡ Some why = cc in
       record {
         key = key;
@@ -134,7 +134,7 @@ module _ (dig : Digest) where
         cause = event_causes dig s i p _ g.handled _ calls _ g.takes.takes g.takes.handles why (cc);
       }
   next_closes {s} {key} (faulty i p out x g e) {why} c =
-      let same = output_is (ap (λ x. of_next x) e) c.1 refl in
+      let same = output_is (ap (λ x. Stepped x) e) c.1 refl in
       record {
         key = key;
         place = i;
@@ -146,17 +146,17 @@ module _ (dig : Digest) where
     where
       some_is : {cause : _} → Some cause ≡ Some why → cause ≡ why
       some_is e = cc
-  next_closes (no_memory i p x g e) c = no_output (ap (λ x. of_next x) e) refl c
+  next_closes (no_memory i p x g e) c = no_output (ap (λ x. Stepped x) e) refl c
 
-  connect_closes : {X : Type 0} {s new r : _} → StepConnect s r new → {why : _} → ClosesPeer (of_connect r) why → X
-  connect_closes (joins key bytes x y z w e f) c = open_output (ap (λ x. of_connect x) e) refl refl c
-  connect_closes (full x e y) c = no_output (ap (λ x. of_connect x) e) refl c
-  connect_closes (spent x y e z) c = no_output (ap (λ x. of_connect x) e) refl c
-  connect_closes (no_room x y e z) c = no_output (ap (λ x. of_connect x) e) refl c
+  connect_closes : {X : Type 0} {s new r : _} → StepConnect s r new → {why : _} → ClosesPeer (Connected r) why → X
+  connect_closes (joins key bytes x y z w e f) c = open_output (ap (λ x. Connected x) e) refl refl c
+  connect_closes (full x e y) c = no_output (ap (λ x. Connected x) e) refl c
+  connect_closes (spent x y e z) c = no_output (ap (λ x. Connected x) e) refl c
+  connect_closes (no_room x y e z) c = no_output (ap (λ x. Connected x) e) refl c
 
-  rechoke_closes : {X : Type 0} {s new r : _} → StepRechoke dig s r new → {why : _} → ClosesPeer (of_rechoke r) why → X
-  rechoke_closes (rechokes out x e) c = open_output (ap (λ x. of_rechoke x) (e ∙ ap (λ o. Some o) x.is)) refl refl c
-  rechoke_closes (not_rechoked e x) c = no_output (ap (λ x. of_rechoke x) e) refl c
+  rechoke_closes : {X : Type 0} {s new r : _} → StepRechoke dig s r new → {why : _} → ClosesPeer (Rechoked r) why → X
+  rechoke_closes (rechokes out x e) c = open_output (ap (λ x. Rechoked x) (e ∙ ap (λ o. Ok o) x.is)) refl refl c
+  rechoke_closes (not_rechoked e x) c = no_output (ap (λ x. Rechoked x) e) refl c
 
   closes_as : {a b why : _} → a ≡ b → ClosesPeer a why → ClosesPeer b why
   closes_as {why} e c = rw (← e) c

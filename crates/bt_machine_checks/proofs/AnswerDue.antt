@@ -1,6 +1,6 @@
 -- What a message must lead to: the event that stands first is the one that is taken.
 use Rattle.bt_machine_checks.proofs.Base.{[], ◌≡◌, ℕ, ◌⊎◌, inl, inr, List, ◌++◌, Some, Ok, ap, ◌∙◌, Contains, Contains-append_left, PeerKey, HashKey, Stream, Takes, Waits, WireEvent, Message, HashRequest, same_event, fault_alone}
-use Rattle.bt_machine_checks.proofs.Machine.{Digest, Next, PeerState, EngineState, DeviceCalls, with_peer, Output, Effect, haves, IsAnswered, HandlesHashRequest, answered, rejected, Handles, IsPeer, KeepsPeer, Closes, ShowsFault, StepNext, no_peer, waits, keeps_peer, closes, faulty, no_memory, Answer, of_next, Step, sent_by, IsOnlyPeer, AnswersHashes, unknown, NextAnswersHashRequest}
+use Rattle.bt_machine_checks.proofs.Machine.{Digest, Next, PeerState, EngineState, DeviceCalls, with_peer, Output, Effect, haves, IsAnswered, HandlesHashRequest, answered, rejected, Handles, IsPeer, KeepsPeer, Closes, ShowsFault, StepNext, no_peer, waits, keeps_peer, closes, faulty, no_memory, Answer, Stepped, Step, sent_by, IsOnlyPeer, AnswersHashes, unknown, NextAnswersHashRequest}
 use Rattle.bt_machine_checks.specs.AnswerDue.{NextLacksMemory, known}
 use Rattle.bt_machine.proofs.Lists.{here}
 
@@ -25,8 +25,8 @@ HandlesAt dig s i p rest e calls effect mid = Handles dig (with_peer s i (record
 
 pub data Taken (dig : Digest) (s : EngineState) (i : ℕ) (p : PeerState) (e : WireEvent) (rest : Stream) (calls : DeviceCalls) (answer : Answer) (new : EngineState) : Type 0 where
   no_room : NextLacksMemory answer → Taken dig s i p e rest calls answer new
-  goes : (out : Output) (g : KeepsPeer dig s i p calls out new) → HandlesAt dig s i p rest e calls g.effect g.handled → answer ≡ of_next (Ok (Some out)) → Taken dig s i p e rest calls answer new
-  shuts : (out : Output) (g : Closes dig s i p calls out new) → HandlesAt dig s i p rest e calls g.effect g.handled → answer ≡ of_next (Ok (Some out)) → Taken dig s i p e rest calls answer new
+  goes : (out : Output) (g : KeepsPeer dig s i p calls out new) → HandlesAt dig s i p rest e calls g.effect g.handled → answer ≡ Stepped (Ok (Some out)) → Taken dig s i p e rest calls answer new
+  shuts : (out : Output) (g : Closes dig s i p calls out new) → HandlesAt dig s i p rest e calls g.effect g.handled → answer ≡ Stepped (Ok (Some out)) → Taken dig s i p e rest calls answer new
 
 module _ (dig : Digest) {s : EngineState} (new : EngineState) {key : PeerKey} {i : ℕ} {p : PeerState} (calls : DeviceCalls) {e : WireEvent} {rest : Stream} (one : IsOnlyPeer s key i p) (takes : Takes p.stream e rest) where
   handled_as : {f r : _} (effect mid : _) → Takes p.stream f r → HandlesAt dig s i p r f calls effect mid → HandlesAt dig s i p rest e calls effect mid
@@ -40,7 +40,7 @@ module _ (dig : Digest) {s : EngineState} (new : EngineState) {key : PeerKey} {i
       let same : q ≡ p = cc in
       rw (← same) (rw (← place) holds)
 
-  next_taken : {r : _} → StepNext dig s key calls r new → Taken dig s i p e rest calls (of_next r) new
+  next_taken : {r : _} → StepNext dig s key calls r new → Taken dig s i p e rest calls (Stepped r) new
   next_taken (no_peer none x y z) = absurd (none i p one.is_peer)
   next_taken (waits j q is w x y z) = absurd ((by_peer (λ n x. Waits x.stream) is w).no_event e takes.bytes rest.unread takes.event takes.front)
   next_taken (keeps_peer j q out is g y) =
@@ -58,7 +58,7 @@ module _ (dig : Digest) {s : EngineState} (new : EngineState) {key : PeerKey} {i
   step_taken t = rw t.1 (next_taken t.2)
 
 -- what the event itself sends is sent
-pub sent_with : {dig s new i p calls out a : _} (g : KeepsPeer dig s i p calls out new) → a ≡ of_next (Ok (Some out))
+pub sent_with : {dig s new i p calls out a : _} (g : KeepsPeer dig s i p calls out new) → a ≡ Stepped (Ok (Some out))
     → {x : _} → Contains g.effect.send x → Contains (sent_by a) x
 sent_with {s} g is {x} c =
     rw is (rw g.send (Contains-append_left (g.effect.send ++ haves s g.handled) g.sent x (Contains-append_left g.effect.send (haves s g.handled) x c)))
@@ -72,7 +72,7 @@ module _ (dig : Digest) {s : EngineState} (new : EngineState) {key : PeerKey} {i
   same_unknown : {digests : _} → IsAnswered dig s asked digests → IsAnswered dig (with_peer s i (record p { stream = rest })) asked digests
   same_unknown k = record { tree = k.tree; facts = k.facts; here = record { here = k.here.here; same_root = k.here.same_root }; request = k.request; answer = k.answer }
 
-  by_hashes : {out : _} (g : KeepsPeer dig s i p calls out new) → a ≡ of_next (Ok (Some out))
+  by_hashes : {out : _} (g : KeepsPeer dig s i p calls out new) → a ≡ Stepped (Ok (Some out))
       → HandlesHashRequest dig (with_peer s i (record p { stream = rest })) (record p { stream = rest }) asked g.effect
       → AnswersHashes dig s a key asked
   by_hashes g is (answered digests k e) = known digests (same_answers k) (sent_with g is

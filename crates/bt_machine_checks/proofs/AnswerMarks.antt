@@ -1,6 +1,6 @@
 -- A block that becomes marked is noted.
 use Rattle.bt_machine_checks.proofs.Base.{◌≡◌, ℕ, ◌⊎◌, inl, inr, false, map, Some, Result, Ok, refl, sym, ap, ◌∙◌, subst, slice_get, Contains, if◌then◌else◌, Contains-append_left, states_after_put, given, judged, Marked, StoreError, Put, PutMarked, PutWaiting, PeerKey, BlockId, Hello, Message, Skipped, PeerMessage, KeepAlive, Choke, Unchoke, Interested, NotInterested, Have, Bitfield, Request, Piece, Cancel, HashRequest, Hashes, HashReject}
-use Rattle.bt_machine_checks.proofs.Machine.{Digest, NowMarked, Freed, PeerState, FileState, EngineState, DeviceCalls, state_at, with_file, with_peer, Effect, noting, FindsFault, damaged as found_damaged, fault, HandlesRequest, ignored, no_place, not_marked, served, stopped, HasPutEffect, HandlesPiece, stale, arrives, Settles, read_note, settling_notes, HandlesHashes, unknown_root, no_claim, refused, accepts_hashes, HandlesHave, in_range, out_of_range, HandlesBitfield, right, wrong, HandlesMessage, Handles, StepNext, no_peer as none_such, waits, keeps_peer, closes, faulty, no_memory, of_next, NotedBy, NextNotesMarkedBlocks}
+use Rattle.bt_machine_checks.proofs.Machine.{Digest, NowMarked, Freed, PeerState, FileState, EngineState, DeviceCalls, state_at, with_file, with_peer, Effect, noting, FindsFault, damaged as found_damaged, fault, HandlesRequest, ignored, no_place, not_marked, served, stopped, HasPutEffect, HandlesPiece, stale, arrives, Settles, read_note, settling_notes, HandlesHashes, unknown_root, no_claim, refused, accepts_hashes, HandlesHave, in_range, out_of_range, HandlesBitfield, right, wrong, HandlesMessage, Handles, StepNext, no_peer as none_such, waits, keeps_peer, closes, faulty, no_memory, Stepped, NotedBy, NextNotesMarkedBlocks}
 use Rattle.bt_machine.proofs.Lists.{and_then_some, map_some, set_cases, set_same, map_contains, flat_map_contains, range_contains, some_below}
 use Rattle.bt_machine.proofs.Marks.{right_true, state_is, file_marked, missing_marks, judged_marks}
 use Rattle.bt_machine_checks.proofs.AnswerParts.{event_leaves}
@@ -117,14 +117,14 @@ module _ (dig : Digest) (s new : EngineState) (key : PeerKey) (calls : DeviceCal
   unchanged : {X : Type 0} {like : EngineState} → like.files ≡ s.files → new ≡ like → X
   unchanged files e = absurd (before (rw (← files) (rw (← e) now)))
 
-  mark_noted : {r : _} → StepNext dig s key calls r new → NotedBy (of_next r) (NowMarked b)
+  mark_noted : {r : _} → StepNext dig s key calls r new → NotedBy (Stepped r) (NowMarked b)
   mark_noted (none_such x y z e) = unchanged refl e
   mark_noted (waits i p x y z w e) = unchanged refl e
   mark_noted (keeps_peer i p out is g e) =
       let rest = record p { stream = g.takes.rest } in
       elim (event_notes dig (with_peer s i rest) g.handled i rest b g.effect g.takes.event calls g.takes.handles (rw (← (follows_of g.follows).files) now)) [
         | inl old ↦ absurd (before old)
-        | inr noted ↦ noted_with g (ap (λ x. of_next x) e) (NowMarked b) noted
+        | inr noted ↦ noted_with g (ap (λ x. Stepped x) e) (NowMarked b) noted
       ]
   mark_noted (closes i p out is g e) =
       let rest = record p { stream = g.takes.rest } in

@@ -34,13 +34,13 @@ part_of (message_frame m) = part_of_message m
 
 -- all of them are sent by this part
 abbrev pub AllOf : Part → List Sent → Type 0
-AllOf part xs = (x : Sent) → Contains xs x → part_of x.frame ≡ part
+AllOf part xs = (x : Sent) → Contains xs x → part_of x.1 ≡ part
 
 pub all_none : (part : Part) → AllOf part []
 all_none part x c = absurd (contains_none c)
 
-pub all_one : {part : _} (x : Sent) (xs : _) → part_of x.frame ≡ part → AllOf part xs → AllOf part (x ∷ xs)
-all_one x xs e rest y c = elim (contains_cases xs c) [ inl same ↦ ap (λ s. part_of s.frame) (sym same) ∙ e | inr more ↦ rest y more ]
+pub all_one : {part : _} (x : Sent) (xs : _) → part_of x.1 ≡ part → AllOf part xs → AllOf part (x ∷ xs)
+all_one x xs e rest y c = elim (contains_cases xs c) [ inl same ↦ ap (λ s. part_of s.1) (sym same) ∙ e | inr more ↦ rest y more ]
 
 pub all_is : (part : Part) {xs ys : _} → xs ≡ ys → AllOf part ys → AllOf part xs
 all_is part e f = rw e f

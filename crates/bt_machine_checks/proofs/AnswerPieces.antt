@@ -1,7 +1,7 @@
 -- Haves and completed files are told exactly where pieces became whole and files complete.
 use Rattle.bt_machine_checks.proofs.Base.{[], ◌≡◌, ℕ, zero, suc, ◌+◌, ◌<◌, ◌⊎◌, inl, inr, ◌↔◌, Bool, true, false, ◌∷◌, ◌++◌, length, map, Some, None, Ok, refl, sym, ap, ◌∙◌, subst, arith, slice_get, Contains, not, ◌&&◌, range_with_len, Contains-append_left, Contains-append_right, Contains-append_cases, total_pieces, Adopted, PeerKey, Have}
-use Rattle.bt_machine_checks.proofs.Machine.{Digest, Frame, message_frame, Complete, Connect, Feed, Next, Lost, Rechoke, Adopt, Flush, PeerState, EngineState, DeviceCalls, with_peer, is_whole, is_complete, has_become, new_whole_pieces, new_complete_files, piece_numbers, file_numbers, Output, sent_to, haves, IsPeer, KeepsPeer, StepNext, no_peer, waits, keeps_peer, closes, faulty, no_memory, StepConnect, joins, full, spent, no_room, StepFeed, feeds, not_fed, no_room as no_room_to_feed, StepLost, goes, not_fed as not_lost, FollowsEach, StepRechoke, rechokes, not_rechoked, rechoked, AdoptsGroups, AdoptsFile, StepAdopt, no_file, busy, empty, adopts, not_adopted as adopt_memory, StepFlush, syncs, fails, Answer, of_connect, of_feed, of_next, of_lost, of_rechoke, of_adopt, of_flush, Step, sent_by, output_of, IsConnected, BecomesSo, NotedBy, StepAnnouncesWholePieces, NextNotesCompleteFiles}
-use Rattle.bt_machine.proofs.Lists.{filter_contains, contains_none, contains_cases, contains_map, contains_flat_map, contains_filter, map_contains, flat_map_contains, range_contains, and_true, set_cases, set_same, here}
+use Rattle.bt_machine_checks.proofs.Machine.{Digest, Frame, message_frame, Complete, Connect, Feed, Next, Lost, Rechoke, Adopt, Flush, PeerState, EngineState, DeviceCalls, with_peer, is_whole, is_complete, has_become, new_whole_pieces, new_complete_files, piece_numbers, file_numbers, Output, sent_to, haves, IsPeer, KeepsPeer, StepNext, no_peer, waits, keeps_peer, closes, faulty, no_memory, StepConnect, joins, full, spent, no_room, StepFeed, feeds, not_fed, no_room as no_room_to_feed, StepLost, goes, not_fed as not_lost, FollowsEach, StepRechoke, rechokes, not_rechoked, rechoked, AdoptsGroups, AdoptsFile, StepAdopt, no_file, busy, empty, adopts, not_adopted as adopt_memory, StepFlush, syncs, fails, Answer, Connected, Fed, Stepped, LostAnswer, Rechoked, AdoptedAnswer, Flushed, Step, sent_by, output_of, IsConnected, BecomesSo, NotedBy, StepAnnouncesWholePieces, NextNotesCompleteFiles}
+use Rattle.bt_machine.proofs.Lists.{filter_contains, contains_none, contains_cases, contains_map, contains_flat_map, contains_filter, map_contains, flat_map_contains, range_contains, and_true, set_cases, set_same}
 use Rattle.bt_machine_checks.proofs.AnswerParts.{greets, replies, announces, NoComplete, Leaves, event_leaves}
 use Rattle.bt_machine.proofs.Pairs.{contains_some, some_at}
 use Rattle.bt_machine_checks.proofs.AnswerSends.{nat_cases, set_other, frame_to, follows_of, IsSentBy, alike, announced, followed, chosen, rechoked_then, all_chokes, step_sent}
@@ -31,7 +31,7 @@ complete_same s new file f = cc
 data Keeps (dig : Digest) (s : EngineState) (answer : Answer) (new : EngineState) : Type 0 where
   keeps : new.files ≡ s.files → new.torrent ≡ s.torrent → ((file : ℕ) → NotedBy answer (Complete file) → ⊥) → Keeps dig s answer new
   goes_further : (key : PeerKey) (i : ℕ) (p : PeerState) (calls : DeviceCalls) (out : Output) → IsPeer s key i p → KeepsPeer dig s i p calls out new
-      → answer ≡ of_next (Ok (Some out)) → Keeps dig s answer new
+      → answer ≡ Stepped (Ok (Some out)) → Keeps dig s answer new
 
 module _ (dig : Digest) (s new : EngineState) where
   -- an answer without an output, or with one without notes
@@ -53,37 +53,37 @@ module _ (dig : Digest) (s new : EngineState) where
   no_notes : NoComplete []
   no_notes note c = absurd (contains_none c)
 
-  next_keeps : {key calls r : _} → StepNext dig s key calls r new → Keeps dig s (of_next r) new
-  next_keeps (no_peer x y e z) = same_state (ap (λ x. of_next x) e) refl z
-  next_keeps (waits i p x y z e f) = same_state (ap (λ x. of_next x) e) refl f
+  next_keeps : {key calls r : _} → StepNext dig s key calls r new → Keeps dig s (Stepped r) new
+  next_keeps (no_peer x y e z) = same_state (ap (λ x. Stepped x) e) refl z
+  next_keeps (waits i p x y z e f) = same_state (ap (λ x. Stepped x) e) refl f
   next_keeps {key} {calls} (keeps_peer i p out x g e) = goes_further key i p calls out x g (cc)
   next_keeps {calls} (closes i p out x g e) =
       let rest = record p { stream = g.takes.rest } in
       let left = event_leaves dig _ i (set_same _ i x.here) _ calls g.takes.handles in
       keeps (ap (λ x. x.files) g.after ∙ left.closed g.why g.closed) (cc)
-      (no_note (ap (λ x. of_next x) (e ∙ ap (λ o. Ok (Some o)) g.is)) refl left.noted)
+      (no_note (ap (λ x. Stepped x) (e ∙ ap (λ o. Ok (Some o)) g.is)) refl left.noted)
   next_keeps (faulty i p out x g e) =
-      keeps (cc) (cc) (no_note (ap (λ x. of_next x) (e ∙ ap (λ o. Ok (Some o)) g.is)) refl no_notes)
-  next_keeps (no_memory i p x g e) = like_state (ap (λ x. of_next x) e) refl refl refl g.after
+      keeps (cc) (cc) (no_note (ap (λ x. Stepped x) (e ∙ ap (λ o. Ok (Some o)) g.is)) refl no_notes)
+  next_keeps (no_memory i p x g e) = like_state (ap (λ x. Stepped x) e) refl refl refl g.after
 
-  connect_keeps : {r : _} → StepConnect s r new → Keeps dig s (of_connect r) new
-  connect_keeps (joins key bytes x y z w e f) = keeps (cc) (cc) (no_note (ap (λ x. of_connect x) e) refl no_notes)
-  connect_keeps (full x e y) = same_state (ap (λ x. of_connect x) e) refl y
-  connect_keeps (spent x y e z) = same_state (ap (λ x. of_connect x) e) refl z
-  connect_keeps (no_room x y e z) = same_state (ap (λ x. of_connect x) e) refl z
+  connect_keeps : {r : _} → StepConnect s r new → Keeps dig s (Connected r) new
+  connect_keeps (joins key bytes x y z w e f) = keeps (cc) (cc) (no_note (ap (λ x. Connected x) e) refl no_notes)
+  connect_keeps (full x e y) = same_state (ap (λ x. Connected x) e) refl y
+  connect_keeps (spent x y e z) = same_state (ap (λ x. Connected x) e) refl z
+  connect_keeps (no_room x y e z) = same_state (ap (λ x. Connected x) e) refl z
 
-  feed_keeps : {key bytes r : _} → StepFeed s key bytes r new → Keeps dig s (of_feed r) new
-  feed_keeps (feeds i p x e y) = like_state (ap (λ x. of_feed x) e) refl refl refl y
-  feed_keeps (not_fed x e y) = same_state (ap (λ x. of_feed x) e) refl y
-  feed_keeps (no_room_to_feed i p x e y) = same_state (ap (λ x. of_feed x) e) refl y
+  feed_keeps : {key bytes r : _} → StepFeed s key bytes r new → Keeps dig s (Fed r) new
+  feed_keeps (feeds i p x e y) = like_state (ap (λ x. Fed x) e) refl refl refl y
+  feed_keeps (not_fed x e y) = same_state (ap (λ x. Fed x) e) refl y
+  feed_keeps (no_room_to_feed i p x e y) = same_state (ap (λ x. Fed x) e) refl y
 
-  lost_keeps : {key r : _} → StepLost s key r new → Keeps dig s (of_lost r) new
-  lost_keeps (goes i p x e y) = like_state (ap (λ x. of_lost x) e) refl refl refl y
-  lost_keeps (not_lost x e y) = same_state (ap (λ x. of_lost x) e) refl y
+  lost_keeps : {key r : _} → StepLost s key r new → Keeps dig s (LostAnswer r) new
+  lost_keeps (goes i p x e y) = like_state (ap (λ x. LostAnswer x) e) refl refl refl y
+  lost_keeps (not_lost x e y) = same_state (ap (λ x. LostAnswer x) e) refl y
 
-  flush_keeps : {calls r : _} → StepFlush s calls r new → Keeps dig s (of_flush r) new
-  flush_keeps (syncs x y e z) = same_state (ap (λ x. of_flush x) e) refl z
-  flush_keeps (fails before file after none x y e z) = same_state (ap (λ x. of_flush x) e) refl z
+  flush_keeps : {calls r : _} → StepFlush s calls r new → Keeps dig s (Flushed r) new
+  flush_keeps (syncs x y e z) = same_state (ap (λ x. Flushed x) e) refl z
+  flush_keeps (fails before file after none x y e z) = same_state (ap (λ x. Flushed x) e) refl z
 
 each_keeps : (dig : Digest) (places s new sent : _) → FollowsEach dig places s sent new → (new.files ≡ s.files) × (new.torrent ≡ s.torrent)
 each_keeps dig [] s new sent f = (ap (λ x. x.files) f.1, ap (λ x. x.torrent) f.1)
@@ -92,11 +92,11 @@ each_keeps dig (i ∷ places) s new sent f =
     let rest = each_keeps dig places f.0 new f.2 f.4 in
     (rest.0 ∙ first.files, rest.1 ∙ first.torrent)
 
-rechoke_keeps : {dig s new r : _} → StepRechoke dig s r new → Keeps dig s (of_rechoke r) new
+rechoke_keeps : {dig s new r : _} → StepRechoke dig s r new → Keeps dig s (Rechoked r) new
 rechoke_keeps {dig} {s} {new} (rechokes out x e) =
     let kept = each_keeps dig _ _ new _ x.follows in
-    keeps kept.0 kept.1 (no_note dig s new (ap (λ x. of_rechoke x) (e ∙ ap (λ o. Some o) x.is)) refl (no_notes dig s new))
-rechoke_keeps {dig} {s} {new} (not_rechoked e x) = same_state dig s new (ap (λ x. of_rechoke x) e) refl x
+    keeps kept.0 kept.1 (no_note dig s new (ap (λ x. Rechoked x) (e ∙ ap (λ o. Ok o) x.is)) refl (no_notes dig s new))
+rechoke_keeps {dig} {s} {new} (not_rechoked e x) = same_state dig s new (ap (λ x. Rechoked x) e) refl x
 
 keeps_as : {dig s new a b : _} → a ≡ b → Keeps dig s b new → Keeps dig s a new
 keeps_as {dig} {s} {new} e k = rw e k
@@ -111,10 +111,10 @@ file_peers : {dig s new file calls total : _} → AdoptsFile dig s file calls to
 file_peers {dig} {s} {file} f =
     ap (λ x. x.peers) f.after ∙ ap (λ x. x.peers) f.settles.others ∙ groups_peers dig s f.taken_in file 0 _ _ f.adopts
 
-adopt_keeps : {dig s new file calls r : _} → StepAdopt dig s file calls r new → Keeps dig s (of_adopt r) new ⊎ (new.peers ≡ [])
-adopt_keeps {dig} {s} {new} (no_file x y e z) = inl (same_state dig s new (ap (λ x. of_adopt x) e) refl z)
-adopt_keeps {dig} {s} {new} (busy x y z e w) = inl (same_state dig s new (ap (λ x. of_adopt x) e) refl w)
-adopt_keeps {dig} {s} {new} (empty f x y z w e v) = inl (same_state dig s new (ap (λ x. of_adopt x) e) refl v)
+adopt_keeps : {dig s new file calls r : _} → StepAdopt dig s file calls r new → Keeps dig s (AdoptedAnswer r) new ⊎ (new.peers ≡ [])
+adopt_keeps {dig} {s} {new} (no_file x y e z) = inl (same_state dig s new (ap (λ x. AdoptedAnswer x) e) refl z)
+adopt_keeps {dig} {s} {new} (busy x y z e w) = inl (same_state dig s new (ap (λ x. AdoptedAnswer x) e) refl w)
+adopt_keeps {dig} {s} {new} (empty f x y z w e v) = inl (same_state dig s new (ap (λ x. AdoptedAnswer x) e) refl v)
 adopt_keeps (adopts total alone f e) = inr (file_peers f ∙ alone)
 adopt_keeps {dig} {s} {new} {file} (adopt_memory alone f e) = inr (groups_peers dig s new file 0 _ _ f.adopts ∙ alone)
 
@@ -168,11 +168,11 @@ module _ {dig : Digest} {s new : EngineState} {key : PeerKey} {i : ℕ} {p : Pee
       let r = contains_flat_map (λ n. map (λ q. sent_to q (Have n)) g.handled.peers) (new_whole_pieces s g.handled) c in
       let q = contains_map (λ q. sent_to q (Have r.0)) g.handled.peers r.2 in
       let place = some_at g.handled.peers q.1 in
-      let same = ap (λ x. piece_in x.frame) q.2 in
+      let same = ap (λ x. piece_in x.1) q.2 in
       let listed = contains_filter (has_become is_whole s g.handled) (piece_numbers g.handled) (rw (← same) r.1) in
       let both = and_true (is_whole g.handled piece) listed.1 in
       let below : piece < total_pieces g.handled.torrent = (let lt = range_below 0 (total_pieces g.handled.torrent) listed.0 in omega arith) in (
-        rw (← (ap (λ x. x.peer) q.2)) (connected place.0 place.1),
+        rw (← (ap (λ x. x.0) q.2)) (connected place.0 place.1),
         rw torrent_is below,
         record { before = not_so (is_whole s piece) both.1; after = whole_same g.handled new piece files_are torrent_is ∙ both.0 },
       )

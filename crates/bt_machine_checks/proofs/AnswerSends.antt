@@ -1,6 +1,6 @@
 -- What each frame of an answer follows from.
 use Rattle.bt_machine_checks.proofs.Base.{[], ◌≡◌, ℕ, zero, suc, ◌⊎◌, inl, inr, ◌↔◌, Bool, true, false, List, ◌∷◌, ◌++◌, length, Some, Ok, refl, sym, ap, ◌∙◌, subst, arith, slice_get, slice_set, Contains, range_with_len, Contains-append_cases, PeerKey, BlockId, Ask, PeerMessage, Interested, NotInterested, Have, Bitfield, Request, Missing}
-use Rattle.bt_machine_checks.proofs.Machine.{Digest, Frame, hello_frame, message_frame, Connect, Next, Rechoke, PeerState, EngineState, DeviceCalls, IsWholeBlock, Sent, Output, sent_to, haves, FollowsUp, RequestsHashes, requests, rests, IsOpen, IsInteresting, RequestsBlock, RequestsEach, interest_sent, IsPeer, KeepsPeer, StepNext, no_peer, waits, keeps_peer, closes, faulty, no_memory, StepConnect, joins, full, spent, no_room, new_peer, our_handshake, greeting, FollowsEach, Rechokes, StepRechoke, rechokes, not_rechoked, choking_sent, chokes_sent, is_served, rechoked, of_connect, of_next, of_rechoke, Step, sent_by, state_at}
+use Rattle.bt_machine_checks.proofs.Machine.{Digest, Frame, hello_frame, message_frame, Connect, Next, Rechoke, PeerState, EngineState, DeviceCalls, IsWholeBlock, Sent, Output, sent_to, haves, FollowsUp, RequestsHashes, requests, rests, IsOpen, IsInteresting, RequestsBlock, RequestsEach, interest_sent, IsPeer, KeepsPeer, StepNext, no_peer, waits, keeps_peer, closes, faulty, no_memory, StepConnect, joins, full, spent, no_room, new_peer, our_handshake, greeting, FollowsEach, Rechokes, StepRechoke, rechokes, not_rechoked, choking_sent, chokes_sent, is_served, rechoked, Connected, Stepped, Rechoked, Step, sent_by, state_at}
 use Rattle.bt_machine.proofs.Lists.{contains_none, contains_cases, contains_flat_map, here, later, set_same, set_other as stays_there}
 use Rattle.bt_machine_checks.proofs.AnswerParts.{Part, greets, replies, interests, chokes, hashes, asks, part_of, AllOf, all_none, all_one, all_is, all_interest, all_hashes, all_asks, IsFollowing, in_interest, in_hash, in_block, following, event_leaves}
 
@@ -17,7 +17,7 @@ set_other xs i j x apart = stays_there xs i j x (λ e. apart (sym e))
 -- ---- what follows for a peer
 
 abbrev pub frame_to : PeerKey → PeerMessage → Sent
-frame_to key m = record { peer = key; frame = message_frame m }
+frame_to key m = (key, message_frame m)
 
 -- what the peer is afterwards, why each message is sent, and that nothing else changes
 pub record Follows (s : EngineState) (i : ℕ) (sent : List Sent) (new : EngineState) : Type 0 where
@@ -94,7 +94,7 @@ ask_in (message_frame (Request ask)) = ask
 ask_in _ = record { piece = 0; begin = 0; length = 0 }
 
 told_interest : (p : _) (was now : Bool) {key : _} → Contains (interest_sent p was now) (frame_to key Interested) → (was ≡ false) × (now ≡ true) × (p.key ≡ key)
-told_interest p false true c = elim (contains_cases [] c) [ inl same ↦ (refl, refl, ap (λ x. x.peer) same) | inr none ↦ absurd (contains_none none) ]
+told_interest p false true c = elim (contains_cases [] c) [ inl same ↦ (refl, refl, ap (λ x. x.0) same) | inr none ↦ absurd (contains_none none) ]
 told_interest p true false {key} c = elim (contains_cases [] c) [ inl same ↦ absurd (not_told same) | inr none ↦ absurd (contains_none none) ]
   where
     is_told : Frame → Bool
@@ -102,12 +102,12 @@ told_interest p true false {key} c = elim (contains_cases [] c) [ inl same ↦ a
     is_told _ = false
 
     not_told : frame_to p.key NotInterested ≡ frame_to key Interested → ⊥
-    not_told same = let wrong = ap (λ x. is_told x.frame) same in absurd cc
+    not_told same = let wrong = ap (λ x. is_told x.1) same in absurd cc
 told_interest p _ _ c = absurd (contains_none c)
 
 told_no_interest : (p : _) (was now : Bool) {key : _} → Contains (interest_sent p was now) (frame_to key NotInterested)
     → (was ≡ true) × (now ≡ false) × (p.key ≡ key)
-told_no_interest p true false c = elim (contains_cases [] c) [ inl same ↦ (refl, refl, ap (λ x. x.peer) same) | inr none ↦ absurd (contains_none none) ]
+told_no_interest p true false c = elim (contains_cases [] c) [ inl same ↦ (refl, refl, ap (λ x. x.0) same) | inr none ↦ absurd (contains_none none) ]
 told_no_interest p false true {key} c = elim (contains_cases [] c) [ inl same ↦ absurd (not_told same) | inr none ↦ absurd (contains_none none) ]
   where
     is_told : Frame → Bool
@@ -115,7 +115,7 @@ told_no_interest p false true {key} c = elim (contains_cases [] c) [ inl same �
     is_told _ = false
 
     not_told : frame_to p.key Interested ≡ frame_to key NotInterested → ⊥
-    not_told same = let wrong = ap (λ x. is_told x.frame) same in absurd cc
+    not_told same = let wrong = ap (λ x. is_told x.1) same in absurd cc
 told_no_interest p _ _ c = absurd (contains_none c)
 
 module _ {dig : Digest} {s : EngineState} {i : ℕ} {sent : List Sent} {new : EngineState} (f : FollowsUp dig s i sent new) where
@@ -125,13 +125,13 @@ module _ {dig : Digest} {s : EngineState} {i : ℕ} {sent : List Sent} {new : En
   place_in : {x : _} → Contains sent x → stands x
   place_in c = following f.all c
 
-  of_interest : {x : _} → Contains f.interest_frames x → part_of x.frame ≡ interests
+  of_interest : {x : _} → Contains f.interest_frames x → part_of x.1 ≡ interests
   of_interest {x} c = all_is interests f.interest.told (all_interest f.peer f.peer.am_interested f.interested.am_interested) x c
 
-  of_hash : {x : _} → Contains f.hash_frames x → part_of x.frame ≡ hashes
+  of_hash : {x : _} → Contains f.hash_frames x → part_of x.1 ≡ hashes
   of_hash {x} c = all_hashes f.hashes x c
 
-  of_block : {x : _} → Contains f.block_frames x → part_of x.frame ≡ asks
+  of_block : {x : _} → Contains f.block_frames x → part_of x.1 ≡ asks
   of_block {x} c = all_asks s _ _ _ f.requests x c
 
   ask_sent : {key : _} (ask : Ask) → stands (frame_to key (Request ask))
@@ -140,8 +140,8 @@ module _ {dig : Digest} {s : EngineState} {i : ℕ} {sent : List Sent} {new : En
   ask_sent ask (in_hash c) = let e = of_hash c in absurd cc
   ask_sent ask (in_block c) =
       let r = each_ask _ _ f.requests c in
-      let same = ap (λ x. ask_in x.frame) r.2.is in
-      (r.0, r.1, subst (λ a. IsWholeBlock s.torrent a.piece a.begin a.length r.0) (sym same) r.2.whole, ap (λ x. x.peer) (sym r.2.is))
+      let same = ap (λ x. ask_in x.1) r.2.is in
+      (r.0, r.1, subst (λ a. IsWholeBlock s.torrent a.piece a.begin a.length r.0) (sym same) r.2.whole, ap (λ x. x.0) (sym r.2.is))
 
   interest_told : {key : _} → stands (frame_to key Interested) → (f.peer.am_interested ≡ false) × (f.interested.am_interested ≡ true) × (f.peer.key ≡ key)
   interest_told {key} (in_interest c) = told_interest f.peer _ _ (rw (← f.interest.told) c)
@@ -202,7 +202,7 @@ all_chokes s x c =
     choking_part q.0 _ _ x q.2
 
 pub data IsSentBy (dig : Digest) (s new : EngineState) (x : Sent) : Type 0 where
-  alike : (part : Part) → (part ≡ greets) ⊎ (part ≡ replies) → part_of x.frame ≡ part → IsSentBy dig s new x
+  alike : (part : Part) → (part ≡ greets) ⊎ (part ≡ replies) → part_of x.1 ≡ part → IsSentBy dig s new x
   announced : (key : PeerKey) (i : ℕ) (p : PeerState) (calls : DeviceCalls) (out : Output) → IsPeer s key i p → (g : KeepsPeer dig s i p calls out new)
       → Contains (haves s g.handled) x → IsSentBy dig s new x
   followed : (key : PeerKey) (i : ℕ) (p : PeerState) (calls : DeviceCalls) (out : Output) → IsPeer s key i p → (g : KeepsPeer dig s i p calls out new)
@@ -235,21 +235,21 @@ module _ (dig : Digest) where
         | inr three ↦ followed key i p calls out peer g three
       ]
 
-  next_sent : {s new key calls r : _} → StepNext dig s key calls r new → Sent_by s new (sent_by (of_next r))
-  next_sent {s} {new} (no_peer x y e z) = nothing_sent s new (ap (λ x. of_next x) e) refl
-  next_sent {s} {new} (waits i p x y z e f) = nothing_sent s new (ap (λ x. of_next x) e) refl
+  next_sent : {s new key calls r : _} → StepNext dig s key calls r new → Sent_by s new (sent_by (Stepped r))
+  next_sent {s} {new} (no_peer x y e z) = nothing_sent s new (ap (λ x. Stepped x) e) refl
+  next_sent {s} {new} (waits i p x y z e f) = nothing_sent s new (ap (λ x. Stepped x) e) refl
   next_sent {s} {new} (keeps_peer i p out peer g e) = sent_is s new (cc) (goes_on_sent peer g)
-  next_sent {s} {new} (closes i p out x g e) = nothing_sent s new (ap (λ x. of_next x) (e ∙ ap (λ o. Ok (Some o)) g.is)) refl
-  next_sent {s} {new} (faulty i p out x g e) = nothing_sent s new (ap (λ x. of_next x) (e ∙ ap (λ o. Ok (Some o)) g.is)) refl
-  next_sent {s} {new} (no_memory i p x g e) = nothing_sent s new (ap (λ x. of_next x) e) refl
+  next_sent {s} {new} (closes i p out x g e) = nothing_sent s new (ap (λ x. Stepped x) (e ∙ ap (λ o. Ok (Some o)) g.is)) refl
+  next_sent {s} {new} (faulty i p out x g e) = nothing_sent s new (ap (λ x. Stepped x) (e ∙ ap (λ o. Ok (Some o)) g.is)) refl
+  next_sent {s} {new} (no_memory i p x g e) = nothing_sent s new (ap (λ x. Stepped x) e) refl
 
-  connect_sent : {s new r : _} → StepConnect s r new → Sent_by s new (sent_by (of_connect r))
+  connect_sent : {s new r : _} → StepConnect s r new → Sent_by s new (sent_by (Connected r))
   connect_sent {s} {new} (joins key bytes x y z w e f) =
-      sent_is s new (ap (λ x. sent_by (of_connect x)) e)
-      (greeting_sent s new (greeting s key bytes).send (all_one (record { peer = key; frame = hello_frame (our_handshake s.torrent.infohash) }) (sent_to (new_peer s key) (Bitfield bytes) ∷ []) refl (all_one (sent_to (new_peer s key) (Bitfield bytes)) [] refl (all_none greets))))
-  connect_sent {s} {new} (full x e y) = nothing_sent s new (ap (λ x. of_connect x) e) refl
-  connect_sent {s} {new} (spent x y e z) = nothing_sent s new (ap (λ x. of_connect x) e) refl
-  connect_sent {s} {new} (no_room x y e z) = nothing_sent s new (ap (λ x. of_connect x) e) refl
+      sent_is s new (ap (λ x. sent_by (Connected x)) e)
+      (greeting_sent s new (greeting s key bytes).send (all_one (key, hello_frame (our_handshake s.torrent.infohash)) (sent_to (new_peer s key) (Bitfield bytes) ∷ []) refl (all_one (sent_to (new_peer s key) (Bitfield bytes)) [] refl (all_none greets))))
+  connect_sent {s} {new} (full x e y) = nothing_sent s new (ap (λ x. Connected x) e) refl
+  connect_sent {s} {new} (spent x y e z) = nothing_sent s new (ap (λ x. Connected x) e) refl
+  connect_sent {s} {new} (no_room x y e z) = nothing_sent s new (ap (λ x. Connected x) e) refl
 
   rechokes_sent : {s new out : _} → Rechokes dig s out new → Sent_by s new out.send
   rechokes_sent {s} r x c =
@@ -258,9 +258,9 @@ module _ (dig : Digest) where
         | inr more ↦ rechoked_then r.sent r.follows more
       ]
 
-  rechoke_sent : {s new r : _} → StepRechoke dig s r new → Sent_by s new (sent_by (of_rechoke r))
+  rechoke_sent : {s new r : _} → StepRechoke dig s r new → Sent_by s new (sent_by (Rechoked r))
   rechoke_sent {s} {new} (rechokes out x e) = sent_is s new (cc) (rechokes_sent x)
-  rechoke_sent {s} {new} (not_rechoked e x) = nothing_sent s new (ap (λ x. of_rechoke x) e) refl
+  rechoke_sent {s} {new} (not_rechoked e x) = nothing_sent s new (ap (λ x. Rechoked x) e) refl
 
   pub step_sent : (s new e calls a : _) → Step dig s e calls a new → Sent_by s new (sent_by a)
   step_sent s new Connect calls a t = sent_is s new (ap sent_by t.1) (connect_sent t.3)

@@ -4,7 +4,7 @@ pub use Rattle.std.specs.List.{range_with_len, AllPairs, concat, list_all, AllZi
 pub use Rattle.std.specs.Option.{option_and_then, option_map_or}
 pub use Rattle.std.specs.Prelude.{slice_get, Contains, slice_set, option_map, ◌==◌, if◌then◌else◌, ◌&&◌, flat_map, filter, ⊤, cond, is_some, All, IsSome}
 pub use Rattle.std.specs.Simd.{first_chunks}
-pub use Rattle.std.proofs.Common.{[], ◌≡◌, ℕ, List, sym, ap, ◌∙◌, Some, subst, refl, ◌∷◌, inl, inr, length, arith, false, true, ◌++◌, suc, zero, Ok, ◌⊎◌, ◌<◌, ◌+◌, map, ◌≢◌, Bool, None, ◌*◌, ◌≤◌, Result, Err, Option, ◌-◌, get_or, drop, take, ◌/◌, ◌^◌, not, ◌%◌, ◌↔◌, replicate, min, length-drop, append_assoc, rules}
+pub use Rattle.std.proofs.Common.{[], ◌≡◌, ℕ, List, sym, ap, ◌∙◌, Some, subst, refl, ◌∷◌, inl, inr, length, arith, false, true, ◌++◌, suc, zero, Ok, ◌⊎◌, ◌<◌, ◌+◌, map, ◌≢◌, Bool, None, ◌*◌, ◌≤◌, Result, Err, Option, ◌-◌, get_or, drop, take, ◌/◌, ◌^◌, not, ◌%◌, ◌↔◌, replicate, min, length-drop, append_assoc, rules, alloc_error}
 pub use Rattle.std.proofs.Math.Nat.{div-add-mod, mod-lt, add_left_cancel}
 pub use Rattle.std.proofs.Math.Seq.{take-append-add}
 pub use Rattle.std.proofs.lemmas.Bool.{cases_lt, eq-eqb}

@@ -1,6 +1,6 @@
 -- What is left to an engine.
 use Rattle.bt_machine_checks.proofs.Base.{[], ◌≡◌, ◌≢◌, ℕ, suc, inl, inr, List, ◌∷◌, length, refl, sym, ap, ◌∙◌, arith, map, ⊤, cases_lt, block_count, Metainfo, IsLaidOut, blocks_of}
-use Rattle.bt_machine_checks.proofs.Machine.{Digest, Connect, Feed, Next, Lost, Rechoke, Adopt, Flush, EngineState, IsFile, Answer, of_connect, of_feed, of_next, of_rechoke, of_adopt, Step, Run, IsOrderly, IsShaped, sent_by, IsOutOfMemory, IsReached, StepIsDetermined, block_requests, StepIsForced, HaveMemory, RunsAreDetermined}
+use Rattle.bt_machine_checks.proofs.Machine.{Digest, Connect, Feed, Next, Lost, Rechoke, Adopt, Flush, EngineState, IsFile, Answer, Connected, Fed, Stepped, Rechoked, AdoptedAnswer, Step, Run, IsOrderly, IsShaped, sent_by, IsOutOfMemory, IsReached, StepIsDetermined, block_requests, StepIsForced, HaveMemory, RunsAreDetermined}
 use Rattle.bt_machine.proofs.Lists.{heads, tails, get_some, same_some, some_below}
 use Rattle.bt_machine.proofs.Orderly.{order_kept, order_of_runs}
 use Rattle.bt_machine.proofs.Shape.{step_shape, shape_kept}
@@ -45,19 +45,19 @@ module _ (dig : Digest) where
       → IsShaped torrent s → IsOrderly s → Step dig s event calls answer new → Step dig s event calls another other → ¬ IsOutOfMemory answer
       → ¬ IsOutOfMemory another → AreOne answer new another other
   step_one Connect calls lay shaped o x y memory room =
-      answers x.1 y.1 (connect_one x.3 y.3 (λ e. remembers (x.1 ∙ ap of_connect e) tt memory) (λ e. remembers (y.1 ∙ ap of_connect e) tt room))
+      answers x.1 y.1 (connect_one x.3 y.3 (λ e. remembers (x.1 ∙ ap Connected e) tt memory) (λ e. remembers (y.1 ∙ ap Connected e) tt room))
   step_one (Feed key bytes) calls lay shaped o x y memory room =
-      answers x.1 y.1 (feed_one o x.3 y.3 (λ e. remembers (x.1 ∙ ap of_feed e) tt memory) (λ e. remembers (y.1 ∙ ap of_feed e) tt room))
+      answers x.1 y.1 (feed_one o x.3 y.3 (λ e. remembers (x.1 ∙ ap Fed e) tt memory) (λ e. remembers (y.1 ∙ ap Fed e) tt room))
   step_one (Next key) calls lay shaped o x y memory room =
       answers x.1 y.1 (next_one dig key calls (laid shaped lay) shaped.roots o x.2 y.2
-      (λ e. remembers (x.1 ∙ ap of_next e) tt memory) (λ e. remembers (y.1 ∙ ap of_next e) tt room))
+      (λ e. remembers (x.1 ∙ ap Stepped e) tt memory) (λ e. remembers (y.1 ∙ ap Stepped e) tt room))
   step_one (Lost key) calls lay shaped o x y memory room = answers x.1 y.1 (lost_one o x.3 y.3)
   step_one Rechoke calls lay shaped o x y memory room =
       answers x.1 y.1
-      (rechoke_one (laid shaped lay) o x.3 y.3 (λ e. remembers (x.1 ∙ ap of_rechoke e) tt memory) (λ e. remembers (y.1 ∙ ap of_rechoke e) tt room))
+      (rechoke_one (laid shaped lay) o x.3 y.3 (λ e. remembers (x.1 ∙ ap Rechoked e) tt memory) (λ e. remembers (y.1 ∙ ap Rechoked e) tt room))
   step_one (Adopt file) calls lay shaped o x y memory room =
       answers x.1 y.1 (adopt_one dig (sized shaped) x.2 y.2
-      (λ e. remembers (x.1 ∙ ap of_adopt e) tt memory) (λ e. remembers (y.1 ∙ ap of_adopt e) tt room))
+      (λ e. remembers (x.1 ∙ ap AdoptedAnswer e) tt memory) (λ e. remembers (y.1 ∙ ap AdoptedAnswer e) tt room))
   step_one Flush calls lay shaped o x y memory room = answers x.1 y.1 (flush_one x.2 y.2)
 
   -- ---- lists of events

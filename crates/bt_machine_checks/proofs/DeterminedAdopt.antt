@@ -1,6 +1,6 @@
 -- What is left to an engine where a file is taken in.
 use Rattle.bt_machine_checks.proofs.Base.{[], ◌≡◌, ◌≢◌, ℕ, ◌+◌, ◌-◌, ◌/◌, ◌^◌, ◌<◌, ◌≤◌, inl, inr, min, Bool, true, false, cond, List, ◌∷◌, ◌++◌, length, map, None, refl, sym, ap, ◌∙◌, subst, arith, append_assoc, flat_map, IsSome, Err, AllZip, count_by, range_with_len, cases_lt, length-map, length-range_with_len, sum_by-cons, CoversBlock, real_width, block_count, real_limit, Facts, blocks_of, held_at, value_at, value_covers, given, failed, block_of, is_fault, right_count, fault_count, IsKnownGroup, IsUnknownGroup, claim_of_reads, marked_run, Adopts, none, known, accepted, not_accepted as refused, short, unread, BlockState, Adopted}
-use Rattle.bt_machine_checks.proofs.Machine.{Digest, FileState, EngineState, Hint, reads_at, with_file, with_tree, IsFile, SettlesIn, with_pending, IsProof, AdoptsGroup, adopted_together, AdoptsGroups, is_other, AdoptsFile, StepAdopt, no_file, busy, empty, adopts, not_adopted as no_memory, of_adopt}
+use Rattle.bt_machine_checks.proofs.Machine.{Digest, FileState, EngineState, Hint, reads_at, with_file, with_tree, IsFile, SettlesIn, with_pending, IsProof, AdoptsGroup, adopted_together, AdoptsGroups, is_other, AdoptsFile, StepAdopt, no_file, busy, empty, adopts, not_adopted as no_memory, AdoptedAnswer}
 use Rattle.bt_store.specs.Adoption.{is_whole, AreWhole}
 use Rattle.bt_machine.specs.declared.error.AdoptError.TheVariants.{OutOfMemory}
 use Rattle.bt_machine.proofs.Lists.{some_not_none, some_below}
@@ -224,20 +224,20 @@ module _ (dig : Digest) where
       (groups.1, x.after ∙ ap (λ z. with_pending z x.settled []) groups.2 ∙ ap (λ z. with_pending y.taken_in z []) settled.1 ∙ sym y.after)
 
   pub adopt_one : {s m n file calls a b : _} → ((f : FileState) (k : Facts) → IsFile s file f k → f.states ≢ [] → blocks_of k ≡ length f.states)
-      → StepAdopt dig s file calls a m → StepAdopt dig s file calls b n → a ≢ Err OutOfMemory → b ≢ Err OutOfMemory → AreOne (of_adopt a) m (of_adopt b) n
+      → StepAdopt dig s file calls a m → StepAdopt dig s file calls b n → a ≢ Err OutOfMemory → b ≢ Err OutOfMemory → AreOne (AdoptedAnswer a) m (AdoptedAnswer b) n
   adopt_one sized (no_memory x y z) q r t = absurd (r z)
   adopt_one sized q (no_memory x y z) r t = absurd (t z)
-  adopt_one sized (no_file x y z w) (no_file u v o q) r t = are_equal (ap of_adopt (cc)) (cc)
+  adopt_one sized (no_file x y z w) (no_file u v o q) r t = are_equal (ap AdoptedAnswer (cc)) (cc)
   adopt_one sized (no_file x y z w) (busy u v o q i) r t = absurd (omega arith)
   adopt_one {s} {file} sized (no_file x y z w) (empty f u v o q i j) r t = absurd (omega (arith, some_below _ file v))
   adopt_one {s} {file} sized (no_file x y z w) (adopts u v o q) r t = absurd (omega (arith, some_below _ file o.here))
   adopt_one sized (busy u v o q i) (no_file x y z w) r t = absurd (omega arith)
-  adopt_one sized (busy x y z w l) (busy u v o q i) r t = are_equal (ap of_adopt (cc)) (cc)
+  adopt_one sized (busy x y z w l) (busy u v o q i) r t = are_equal (ap AdoptedAnswer (cc)) (cc)
   adopt_one sized (busy x y z w l) (empty f u v o q i j) r t = absurd (y u)
   adopt_one sized (busy x y z w l) (adopts u v o q) r t = absurd (y v)
   adopt_one {s} {file} sized (empty f u v o q i j) (no_file x y z w) r t = absurd (omega (arith, some_below _ file v))
   adopt_one sized (empty f u v o q i j) (busy x y z w l) r t = absurd (y u)
-  adopt_one sized (empty f u v o q i j) (empty g x y z w l k) r t = are_equal (ap of_adopt (cc)) (cc)
+  adopt_one sized (empty f u v o q i j) (empty g x y z w l k) r t = are_equal (ap AdoptedAnswer (cc)) (cc)
   adopt_one sized (empty f u v o q i j) (adopts x y z w) r t =
       absurd (z.some (cc))
   adopt_one {s} {file} sized (adopts u v o q) (no_file x y z w) r t = absurd (omega (arith, some_below _ file o.here))
@@ -246,4 +246,4 @@ module _ (dig : Digest) where
       absurd (z.some (cc))
   adopt_one sized (adopts u v o q) (adopts x y z w) r t =
       let same = adopts_one sized o z in
-      are_equal (ap of_adopt (cc)) same.1
+      are_equal (ap AdoptedAnswer (cc)) same.1

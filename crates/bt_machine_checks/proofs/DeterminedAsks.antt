@@ -10,7 +10,7 @@ use Rattle.bt_machine_checks.proofs.DeterminedFollow.{AlikePeers, interest_one, 
 -- ---- why two answers request the same blocks
 
 abbrev pub requests_in : List Sent → List Sent
-requests_in sent = filter (λ x. is_block_request x.frame) sent
+requests_in sent = filter (λ x. is_block_request x.1) sent
 
 -- their requests are the same, the first has none, or at most one block is missing
 pub data SameAsks (m : EngineState) (f g : List Sent) : Type 0 where
@@ -31,7 +31,7 @@ pub asks_to : {m f g h k : _} → f ≡ h → g ≡ k → SameAsks m f g → Sam
 asks_to {m} {g} {h} e i same = rw (← i) (rw (← e) same)
 
 requests_append : (xs ys : _) → requests_in (xs ++ ys) ≡ requests_in xs ++ requests_in ys
-requests_append xs ys = filter-append (λ x. is_block_request x.frame) xs ys
+requests_append xs ys = filter-append (λ x. is_block_request x.1) xs ys
 
 nil_of_append : {X : Type 0} (xs : List X) {ys : List X} → xs ++ ys ≡ [] → (xs ≡ []) × (ys ≡ [])
 nil_of_append [] e = (refl, e)
@@ -68,7 +68,7 @@ frames_one s p (b ∷ blocks) x y =
     ∙ ap (λ zs. y.0 ∷ zs) (frames_one s p blocks x.3 y.3) ∙ sym y.4
 
 ask_sent : (p : _) {a c : _} → sent_to p (Request a) ≡ sent_to p (Request c) → a ≡ c
-ask_sent p e = let frames = ap (λ x. x.frame) e in cc
+ask_sent p e = let frames = ap (λ x. x.1) e in cc
 
 blocks_one : (s : EngineState) (p bs cs f : _) → IsLaidOut s.torrent.piece_length s.torrent.files
     → RequestsEach s p bs f → RequestsEach s p cs f → bs ≡ cs
@@ -125,10 +125,10 @@ only_requests s p (b ∷ blocks) r =
     ∙ ap (λ x. x ∷ r.1) (sym r.2.is) ∙ sym r.4
 
 all_to : (s p blocks sent : _) {z : _} → RequestsEach s p blocks sent → Contains sent z
-    → z.peer ≡ p.key
+    → z.0 ≡ p.key
 all_to s p [] sent {z} r c = absurd (contains_none (subst (λ l. Contains l z) r c))
 all_to s p (b ∷ blocks) sent {z} r c = elim (contains_cases r.1 (subst (λ l. Contains l z) r.4 c)) [
-  | inl one ↦ ap (λ x. x.peer) (sym one ∙ r.2.is)
+  | inl one ↦ ap (λ x. x.0) (sym one ∙ r.2.is)
   | inr more ↦ all_to s p blocks r.1 r.3 more
 ]
 
@@ -210,12 +210,12 @@ module _ (dig : Digest) where
       apart j k u.0 v.0 u.1 v.1 (cc)
 
   own_key : {s i sent new z : _} → (x : FollowsUp dig s i sent new) → Contains (requests_in sent) z
-      → z.peer ≡ x.peer.key
+      → z.0 ≡ x.peer.key
   own_key {s} {z} x c =
       all_to s _ _ _ x.requests (subst (λ l. Contains l z) (requests_of x) c) ∙ (same_plan x.hashes).same_key ∙ ap (λ p. p.key) x.interest.others
 
   each_key : (is s sent new : _) {z : _} → FollowsEach dig is s sent new → Contains (requests_in sent) z
-      → (j : ℕ) × Contains is j × (p : PeerState) × (slice_get s.peers j ≡ Some p) × (z.peer ≡ p.key)
+      → (j : ℕ) × Contains is j × (p : PeerState) × (slice_get s.peers j ≡ Some p) × (z.0 ≡ p.key)
   each_key [] s sent new {z} x c = absurd (contains_none (subst (λ l. Contains (requests_in l) z) x.0 c))
   each_key (i ∷ is) s sent new {z} x c = elim (Contains-append_cases (requests_in x.1) (requests_in x.2) z (rw (← (ap requests_in x.5 ∙ requests_append x.1 x.2)) c)) [
     | inl own ↦ (i, here is refl, x.3.peer, x.3.here, own_key x.3 own)
@@ -258,7 +258,7 @@ module _ (dig : Digest) where
 
       -- what is asked of later peers goes to other keys
       others : {mid h : _} (k new : _) {z : _} → Follows s i h mid → FollowsEach dig is mid k new
-          → Contains (requests_in k) z → z.peer ≡ x.3.peer.key → ⊥
+          → Contains (requests_in k) z → z.0 ≡ x.3.peer.key → ⊥
       others {mid} k new fol each c e =
           let r = each_key is mid k new each c in
           let p = before r.0 fol r.3 in
@@ -269,7 +269,7 @@ module _ (dig : Digest) where
 
       split : SameAsks a f g → SameAsks s x.1 y.1 × SameAsks a x.2 y.2
       split (by_requests e) =
-          let both = split_by (λ z. z.peer ≡ x.3.peer.key) _ _ (λ z c. own_key x.3 c) (λ z c. own_key y.3 c ∙ ap (λ p. p.key) peer_is)
+          let both = split_by (λ z. z.0 ≡ x.3.peer.key) _ _ (λ z c. own_key x.3 c) (λ z c. own_key y.3 c ∙ ap (λ p. p.key) peer_is)
           (λ z c. others x.2 a own x.4 c) (λ z c. others y.2 b (follows_of y.3) y.4 c) (sym parts_of ∙ e ∙ ap requests_in y.5 ∙ requests_append y.1 y.2) in
           (by_requests both.0, by_requests both.1)
       split (by_none e) = let none = nil_of_append _ (sym parts_of ∙ e) in (by_none none.0, by_none none.1)

@@ -104,7 +104,7 @@ map_get f (y ∷ xs) zero e = cc
 map_get f (y ∷ xs) (suc i) e = map_get f xs i e
 
 pub other_append : (xs ys : _) → other_frames (xs ++ ys) ≡ other_frames xs ++ other_frames ys
-other_append xs ys = filter-append (λ x. not (is_block_request x.frame)) xs ys
+other_append xs ys = filter-append (λ x. not (is_block_request x.1)) xs ys
 
 -- ---- all three
 

@@ -1,6 +1,6 @@
 -- What is left to an engine where the next wire event of a peer is taken.
 use Rattle.bt_machine_checks.proofs.Base.{[], ◌≡◌, ◌≢◌, ℕ, List, ◌++◌, map, Option, Some, None, refl, sym, ap, ◌∙◌, subst, Result, Ok, Err, slice_get, AllPairs, IsLaidOut, Facts, PeerKey, Takes}
-use Rattle.bt_machine_checks.proofs.Machine.{Digest, Wire, Complete, EngineError, PeerState, EngineState, DeviceCalls, with_peer, new_complete_files, Sent, Output, Effect, haves, Handles, FollowsUp, IsPeer, without_peer, with_pending, TakesEvent, KeepsPeer, Closes, ShowsFault, StepNext, no_peer, waits, keeps_peer, closes, faulty, no_memory, IsOrderly, Answer, of_next, other_frames, plain_answer, without_asked}
+use Rattle.bt_machine_checks.proofs.Machine.{Digest, Wire, Complete, EngineError, PeerState, EngineState, DeviceCalls, with_peer, new_complete_files, Sent, Output, Effect, haves, Handles, FollowsUp, IsPeer, without_peer, with_pending, TakesEvent, KeepsPeer, Closes, ShowsFault, StepNext, no_peer, waits, keeps_peer, closes, faulty, no_memory, IsOrderly, Answer, Stepped, other_frames, plain_answer, without_asked}
 use Rattle.bt_machine.specs.declared.error.EngineError.TheVariants.{OutOfMemory}
 use Rattle.bt_machine.proofs.Lists.{set_same}
 use Rattle.bt_machine_checks.proofs.AnswerParts.{event_leaves}
@@ -83,7 +83,7 @@ module _ (dig : Digest) where
       state = with_pending s mid effect.proofs
 
       abbrev output : List Sent → Answer
-      output sent = of_next (Ok (Some (record { send = sent; close = None; notes = effect.notes ++ map (λ file. Complete file) (new_complete_files s mid) })))
+      output sent = Stepped (Ok (Some (record { send = sent; close = None; notes = effect.notes ++ map (λ file. Complete file) (new_complete_files s mid) })))
 
       laid : IsLaidOut state.torrent.piece_length state.torrent.files
       laid =
@@ -94,19 +94,19 @@ module _ (dig : Digest) where
       rest : (other_frames x.sent ≡ other_frames y.sent) × (without_asked m ≡ without_asked n)
       rest = follows_one dig refl x.follows y.follows
 
-      on_one : AreOne (of_next a) m (of_next b) n
+      on_one : AreOne (Stepped a) m (Stepped b) n
       on_one = record {
-        plain = ap (λ r. plain_answer (of_next r)) x.is ∙ ap output (other_append first x.sent ∙ ap (λ zs. other_frames first ++ zs) rest.0 ∙ sym (other_append first y.sent)) ∙ sym (cc);
+        plain = ap (λ r. plain_answer (Stepped r)) x.is ∙ ap output (other_append first x.sent ∙ ap (λ zs. other_frames first ++ zs) rest.0 ∙ sym (other_append first y.sent)) ∙ sym (cc);
         rest = rest.1;
         whole = λ same. (
             let asks = asks_to (cc) (cc) same in
             let both = follows_same dig laid x.follows y.follows (asks_behind first (cc) asks) in
-            (ap of_next x.is ∙ ap (λ zs. output (first ++ zs)) both.0 ∙ sym (ap of_next y.is), both.1)
+            (ap Stepped x.is ∙ ap (λ zs. output (first ++ zs)) both.0 ∙ sym (ap Stepped y.is), both.1)
             );
       }
 
     pub next_one : {answer another new other : _} → StepNext dig s key calls answer new → StepNext dig s key calls another other
-        → answer ≢ Err OutOfMemory → another ≢ Err OutOfMemory → AreOne (of_next answer) new (of_next another) other
+        → answer ≢ Err OutOfMemory → another ≢ Err OutOfMemory → AreOne (Stepped answer) new (Stepped another) other
     next_one (no_memory i p is g a) y memory room = absurd (memory a)
     next_one x (no_memory i p is g a) memory room = absurd (room a)
     next_one (keeps_peer i p out is g a) y memory room =
@@ -115,21 +115,21 @@ module _ (dig : Digest) where
     next_one x (keeps_peer i p out is g a) memory room =
         on_one is.here g.takes
         (next_goes is g.takes g.stays x memory) (next_goes is g.takes g.stays (keeps_peer i p out is g a) room)
-    next_one (no_peer xh xc xa xe) (no_peer yh yc ya ye) memory room = are_equal (ap of_next (cc)) (cc)
+    next_one (no_peer xh xc xa xe) (no_peer yh yc ya ye) memory room = are_equal (ap Stepped (cc)) (cc)
     next_one (no_peer xh xc xa xe) (waits yi yp yq yw yc ya ye) memory room = absurd (xh yi yp yq)
     next_one (no_peer xh xc xa xe) (closes yi yp yo yq yg ya) memory room = absurd (xh yi yp yq)
     next_one (no_peer xh xc xa xe) (faulty yi yp yo yq yg ya) memory room = absurd (xh yi yp yq)
     next_one (waits xi xp xq xw xc xa xe) (no_peer yh yc ya ye) memory room = absurd (yh xi xp xq)
-    next_one (waits xi xp xq xw xc xa xe) (waits yi yp yq yw yc ya ye) memory room = are_equal (ap of_next (cc)) (cc)
+    next_one (waits xi xp xq xw xc xa xe) (waits yi yp yq yw yc ya ye) memory room = are_equal (ap Stepped (cc)) (cc)
     next_one (waits xi xp xq xw xc xa xe) (closes yi yp yo yq yg ya) memory room = absurd (takes_waits yg.takes.takes (rw (← (peer_one o xq yq).1) xw))
     next_one (waits xi xp xq xw xc xa xe) (faulty yi yp yo yq yg ya) memory room = absurd (waits_fails (rw (← (peer_one o xq yq).1) xw) yg.fails)
     next_one (closes xi xp xo xq xg xa) (no_peer yh yc ya ye) memory room = absurd (yh xi xp xq)
     next_one (closes xi xp xo xq xg xa) (waits yi yp yq yw yc ya ye) memory room = absurd (takes_waits xg.takes.takes (rw (← (peer_one o yq xq).1) yw))
-    next_one (closes xi xp xo xq xg xa) (closes yi yp yo yq yg ya) memory room = (let r = close_one xg (move_close (peer_one o yq xq) yg) in are_equal (ap of_next (cc)) r.1)
+    next_one (closes xi xp xo xq xg xa) (closes yi yp yo yq yg ya) memory room = (let r = close_one xg (move_close (peer_one o yq xq) yg) in are_equal (ap Stepped (cc)) r.1)
     next_one (closes xi xp xo xq xg xa) (faulty yi yp yo yq yg ya) memory room =
         absurd (takes_fails (subst (λ p. Takes p.stream xg.takes.event xg.takes.rest) (peer_one o xq yq).1 xg.takes.takes) yg.fails)
     next_one (faulty xi xp xo xq xg xa) (no_peer yh yc ya ye) memory room = absurd (yh xi xp xq)
     next_one (faulty xi xp xo xq xg xa) (waits yi yp yq yw yc ya ye) memory room = absurd (waits_fails (rw (← (peer_one o yq xq).1) yw) xg.fails)
     next_one (faulty xi xp xo xq xg xa) (closes yi yp yo yq yg ya) memory room =
         absurd (takes_fails (subst (λ p. Takes p.stream yg.takes.event yg.takes.rest) (peer_one o yq xq).1 yg.takes.takes) xg.fails)
-    next_one (faulty xi xp xo xq xg xa) (faulty yi yp yo yq yg ya) memory room = (let r = fault_one xg (move_fault (peer_one o yq xq) yg) in are_equal (ap of_next (cc)) r.1)
+    next_one (faulty xi xp xo xq xg xa) (faulty yi yp yo yq yg ya) memory room = (let r = fault_one xg (move_fault (peer_one o yq xq) yg) in are_equal (ap Stepped (cc)) r.1)

@@ -1,6 +1,7 @@
 -- What is left to an engine where peers come and go, bytes come, peers are chosen, and devices are synced.
-use Rattle.bt_machine_checks.proofs.Base.{[], ◌≡◌, ◌≢◌, ℕ, zero, suc, ◌+◌, ◌*◌, ◌/◌, ◌%◌, ◌<◌, false, List, ◌∷◌, ◌++◌, length, get_or, Option, Some, None, refl, sym, ap, ◌∙◌, subst, arith, ◌==◌, All, Contains, Err, range_with_len, Contains-append_right, sync_made, sync_fault, IsLaidOut, same_peer}
-use Rattle.bt_machine_checks.proofs.Machine.{Digest, no_room_to_connect, EngineState, Sent, Output, bits_of, bits_in, without_peer, IsOurBitfield, StepConnect, joins, full, spent, no_room as no_memory, StepFeed, feeds, not_fed, no_room as no_room_to_feed, StepLost, goes, not_fed as not_lost, chokes_sent, rechoked, StepRechoke, rechokes, not_rechoked, data_files, syncs_of, StepFlush, syncs, fails, IsOrderly, Answer, of_connect, of_feed, of_lost, of_rechoke, of_flush, sent_by, other_frames}
+use Rattle.bt_machine_checks.proofs.Base.{[], ◌≡◌, ◌≢◌, ℕ, zero, suc, ◌+◌, ◌*◌, ◌/◌, ◌%◌, ◌<◌, false, List, ◌∷◌, ◌++◌, length, get_or, None, Result, Ok, Err, alloc_error, refl, sym, ap, ◌∙◌, subst, arith, ◌==◌, All, Contains, range_with_len, Contains-append_right, sync_made, sync_fault, IsLaidOut, same_peer}
+use Rattle.bt_machine_checks.proofs.Machine.{Digest, no_room_to_connect, EngineState, Sent, Output, bits_of, bits_in, without_peer, IsOurBitfield, StepConnect, joins, full, spent, no_room as no_memory, StepFeed, feeds, not_fed, no_room as no_room_to_feed, StepLost, goes, not_fed as not_lost, chokes_sent, rechoked, StepRechoke, rechokes, not_rechoked, data_files, syncs_of, StepFlush, syncs, fails, IsOrderly, Answer, Connected, Fed, LostAnswer, Rechoked, Flushed, sent_by, other_frames}
+use Rattle.std.specs.declared.alloc.AllocError.{AllocError}
 use Rattle.bt_machine.specs.declared.error.EngineError.TheVariants.{OutOfMemory}
 use Rattle.bt_machine.proofs.Lists.{contains_map, here, get_map}
 use Rattle.bt_machine_checks.proofs.DeterminedParts.{peer_one}
@@ -51,44 +52,44 @@ bitfield_one {s} {xs} {ys} x y =
 -- ---- peers that come and go
 
 pub connect_one : {s m n a b : _} → StepConnect s a m → StepConnect s b n → a ≢ Err no_room_to_connect → b ≢ Err no_room_to_connect
-    → AreOne (of_connect a) m (of_connect b) n
+    → AreOne (Connected a) m (Connected b) n
 connect_one (no_memory x y z w) q r t = absurd (r z)
 connect_one q (no_memory x y z w) r t = absurd (t z)
 connect_one {s} (joins key bytes lt below is bits e f) (joins other more lt2 below2 is2 bits2 e2 f2) r t =
     let keys = same_peer key other (cc) in
     let fields = bitfield_one bits bits2 in
-    are_equal (ap of_connect (cc))
+    are_equal (ap Connected (cc))
     (cc)
 connect_one (joins key bytes lt below is bits e f) (full x y z) r t = absurd (omega arith)
 connect_one (joins key bytes lt below is bits e f) (spent x y z w) r t = absurd (omega arith)
 connect_one (full x y z) (joins key bytes lt below is bits e f) r t = absurd (omega arith)
-connect_one (full x y z) (full u v w) r t = are_equal (ap of_connect (cc)) (cc)
+connect_one (full x y z) (full u v w) r t = are_equal (ap Connected (cc)) (cc)
 connect_one (full x y z) (spent u v w o) r t = absurd (omega arith)
 connect_one (spent x y z w) (joins key bytes lt below is bits e f) r t = absurd (omega arith)
 connect_one (spent u v w o) (full x y z) r t = absurd (omega arith)
-connect_one (spent x y z w) (spent u v o q) r t = are_equal (ap of_connect (cc)) (cc)
+connect_one (spent x y z w) (spent u v o q) r t = are_equal (ap Connected (cc)) (cc)
 
 pub feed_one : {s m n key bytes a b : _} → IsOrderly s → StepFeed s key bytes a m → StepFeed s key bytes b n → a ≢ Err OutOfMemory → b ≢ Err OutOfMemory
-    → AreOne (of_feed a) m (of_feed b) n
+    → AreOne (Fed a) m (Fed b) n
 feed_one o (no_room_to_feed i p x y z) q r t = absurd (r y)
 feed_one o q (no_room_to_feed i p x y z) r t = absurd (t y)
 feed_one {s} {bytes} o (feeds i p x y z) (feeds j q u v w) r t =
     let same = peer_one o x u in
-    are_equal (ap of_feed (cc)) (cc)
+    are_equal (ap Fed (cc)) (cc)
 feed_one o (feeds i p x y z) (not_fed u v w) r t = absurd (u i p x)
 feed_one o (not_fed u v w) (feeds i p x y z) r t = absurd (u i p x)
-feed_one o (not_fed x y z) (not_fed u v w) r t = are_equal (ap of_feed (cc)) (cc)
+feed_one o (not_fed x y z) (not_fed u v w) r t = are_equal (ap Fed (cc)) (cc)
 
-pub lost_one : {s m n key a b : _} → IsOrderly s → StepLost s key a m → StepLost s key b n → AreOne (of_lost a) m (of_lost b) n
-lost_one {s} o (goes i p x y z) (goes j q u v w) = are_equal (ap of_lost (cc)) (z ∙ ap (λ k. without_peer k s) (peer_one o x u).0 ∙ sym w)
+pub lost_one : {s m n key a b : _} → IsOrderly s → StepLost s key a m → StepLost s key b n → AreOne (LostAnswer a) m (LostAnswer b) n
+lost_one {s} o (goes i p x y z) (goes j q u v w) = are_equal (ap LostAnswer (cc)) (z ∙ ap (λ k. without_peer k s) (peer_one o x u).0 ∙ sym w)
 lost_one o (goes i p x y z) (not_lost u v w) = absurd (u i p x)
 lost_one o (not_lost u v w) (goes i p x y z) = absurd (u i p x)
-lost_one o (not_lost x y z) (not_lost u v w) = are_equal (ap of_lost (cc)) (cc)
+lost_one o (not_lost x y z) (not_lost u v w) = are_equal (ap LostAnswer (cc)) (cc)
 
 -- ---- peers to serve
 
 abbrev sends : EngineState → List Sent → Answer
-sends s sent = of_rechoke (Some (record { send = chokes_sent s ++ sent; close = None; notes = [] }))
+sends s sent = Rechoked (Ok (record { send = chokes_sent s ++ sent; close = None; notes = [] }))
 
 -- no two peers of an engine that events lead to have one key
 apart_at_first : {s : _} → IsOrderly s → KeysApart (rechoked s)
@@ -99,15 +100,15 @@ apart_at_first {s} o i j p q x y e =
     (record { here = u.1; same_key = cc })
     (record { here = v.1; same_key = refl })).0
 
-pub rechoke_one : {dig : Digest} {s m n : EngineState} {a b : Option Output} → IsLaidOut s.torrent.piece_length s.torrent.files → IsOrderly s
-    → StepRechoke dig s a m → StepRechoke dig s b n → a ≢ None → b ≢ None → AreOne (of_rechoke a) m (of_rechoke b) n
+pub rechoke_one : {dig : Digest} {s m n : EngineState} {a b : Result Output AllocError} → IsLaidOut s.torrent.piece_length s.torrent.files → IsOrderly s
+    → StepRechoke dig s a m → StepRechoke dig s b n → a ≢ Err alloc_error → b ≢ Err alloc_error → AreOne (Rechoked a) m (Rechoked b) n
 rechoke_one lay o (not_rechoked x y) q r t = absurd (r x)
 rechoke_one lay o q (not_rechoked x y) r t = absurd (t x)
 rechoke_one {dig} {s} {m} {n} {a} {b} lay o (rechokes out x e) (rechokes other y f) r t =
     let each = each_one dig _ (rechoked s) (rechoked s) x.sent y.sent m n refl x.follows y.follows in
     let send = other_append (chokes_sent s) x.sent ∙ ap (λ zs. other_frames (chokes_sent s) ++ zs) each.0 ∙ sym (other_append (chokes_sent s) y.sent) in
-    let own : of_rechoke a ≡ sends s x.sent = cc in
-    let their : of_rechoke b ≡ sends s y.sent = cc in
+    let own : Rechoked a ≡ sends s x.sent = cc in
+    let their : Rechoked b ≡ sends s y.sent = cc in
     record {
       plain = cc;
       rest = each.1;
@@ -131,8 +132,8 @@ synced_or_not files before file e =
     (subst (λ cs. Contains cs (file, sync_fault)) (sym e) (Contains-append_right (syncs_of before) ((file, sync_fault) ∷ []) (file, sync_fault) (here [] refl)))
     refl
 
-pub flush_one : {s m n calls a b : _} → StepFlush s calls a m → StepFlush s calls b n → AreOne (of_flush a) m (of_flush b) n
-flush_one (syncs x y z w) (syncs u v o q) = are_equal (ap of_flush (cc)) (cc)
+pub flush_one : {s m n calls a b : _} → StepFlush s calls a m → StepFlush s calls b n → AreOne (Flushed a) m (Flushed b) n
+flush_one (syncs x y z w) (syncs u v o q) = are_equal (ap Flushed (cc)) (cc)
 flush_one {s} (syncs x y z w) (fails before file after none u v o q) = absurd (synced_or_not (data_files s) before file (cc))
 flush_one {s} (fails before file after none u v o q) (syncs x y z w) = absurd (synced_or_not (data_files s) before file (cc))
-flush_one (fails before file after none u v o q) (fails before2 file2 after2 none2 x y z w) = are_equal (ap of_flush (cc)) (cc)
+flush_one (fails before file after none u v o q) (fails before2 file2 after2 none2 x y z w) = are_equal (ap Flushed (cc)) (cc)

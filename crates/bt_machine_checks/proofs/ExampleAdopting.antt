@@ -1,10 +1,9 @@
 -- What a file's device has is taken in.
 use Rattle.bt_machine_checks.proofs.Base.{[], ◌≡◌, ℕ, zero, suc, ◌+◌, inl, inr, Bool, true, false, List, ◌∷◌, Some, Ok, refl, sym, ap, ◌∙◌, subst, arith, slice_get, if◌then◌else◌, option_map, IsSome, Facts, root_facts, IsKnownGroup, known, BlockRead, given, failed, block_of, is_right, judged, right_count, fault_count, BlockState, Missing, Marked, Adopted, Adopts}
 use Rattle.bt_machine_checks.proofs.Machine.{Digest, FileState, EngineState, reads_at, judged_file, due_blocks, is_other, StepAdopt, no_file, busy, adopts, abc, abc_engine, IsWrongAbc, ThreeBlocks, AdoptedBlockIsRun}
-use Rattle.bt_machine.proofs.Lists.{same_some, here}
+use Rattle.bt_machine.proofs.Lists.{same_some}
 use Rattle.bt_machine.proofs.Marks.{right_then, right_true}
 use Rattle.bt_machine_checks.proofs.ExampleOneBlock.{value_here}
-use Rattle.bt_machine_checks.proofs.ExampleThreeTree.{at_first}
 
 -- ---- one block, whose leaf is known
 

@@ -92,7 +92,7 @@ module _ (dig : Digest) (b : ThreeBlocks) (infohash : List ℕ) (k : Facts) wher
   next_interested =
       went _ _ refl refl refl taken_interested (refl, refl, refl) (nothing_follows refl (omega arith)) refl refl
 
-  unchokes : StepRechoke dig (engine 0 (reader true true 0)) (Some (output_of (to_first Unchoke ∷ []) [])) (engine 1 (reader false true 0))
+  unchokes : StepRechoke dig (engine 0 (reader true true 0)) (Ok (output_of (to_first Unchoke ∷ []) [])) (engine 1 (reader false true 0))
   unchokes =
       rechokes (output_of (to_first Unchoke ∷ []) [])
       (record { sent = []; follows = (engine 1 (reader false true 0), [], [], nothing_follows refl (omega arith), (refl, refl), refl); is = refl })

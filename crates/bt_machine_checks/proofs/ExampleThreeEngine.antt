@@ -1,5 +1,5 @@
 -- The engine that fetches three blocks, and what the messages before the pieces lead to.
-use Rattle.bt_machine_checks.proofs.Base.{[], ◌≡◌, ℕ, zero, suc, ◌+◌, ◌%◌, List, ◌∷◌, ◌++◌, length, Some, None, refl, ap, arith, slice_get, option_and_then, w32, to_be_bytes, length-append, IsDigest, IsKey, key_spelling, BlockState, BlockId, Fits}
+use Rattle.bt_machine_checks.proofs.Base.{[], ◌≡◌, ℕ, zero, suc, ◌%◌, List, ◌∷◌, ◌++◌, length, Some, None, refl, ap, arith, slice_get, option_and_then, w32, to_be_bytes, length-append, IsDigest, IsKey, key_spelling, BlockState, BlockId, Fits}
 use Rattle.bt_machine_checks.proofs.Machine.{Digest, Note, FileState, block_id, Sent, Output, ThreeBlocks, left_node, right_node, three_root, leaves_key, four_leaves, leaves_message}
 use Rattle.bt_machine.proofs.Lists.{some_is}
 use Rattle.bt_machine_checks.proofs.ExampleThreeTree.{leaves_length}

@@ -30,7 +30,9 @@ pub use Rattle.bt_machine.specs.Spans.{IsWholeBlock, spanned_blocks, cut_from}
 pub use Rattle.bt_machine.specs.Start.{Starts, by_root}
 pub use Rattle.bt_machine.specs.declared.hash_state.HashState.TheVariants.{Idle, Asked, Refused}
 pub use Rattle.bt_machine.specs.State.{EngineState, PeerState, FileState, Hint, mark_of}
-pub use Rattle.bt_machine.specs.Step.{Answer, Step, Run, of_next, of_rechoke, of_connect, of_feed, of_adopt, of_lost, of_flush}
+pub use Rattle.bt_machine.specs.declared.event.Answer.{Answer}
+pub use Rattle.bt_machine.specs.declared.event.Answer.TheVariants.{Stepped, Rechoked, Connected, Fed, Adopted as AdoptedAnswer, Lost as LostAnswer, Flushed}
+pub use Rattle.bt_machine.specs.Step.{Step, Run}
 pub use Rattle.bt_machine.specs.WireEvents.{right, Handles, out_of_range, wrong, HandlesHave, in_range, HandlesBitfield, HandlesMessage, ours, HandlesHello, other, bits_of, bits_in}
 pub use Rattle.bt_machine.specs.declared.answer.Frame.{Frame}
 pub use Rattle.bt_machine.specs.declared.answer.Frame.TheVariants.{Message as message_frame, Hello as hello_frame}

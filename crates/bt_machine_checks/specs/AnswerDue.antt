@@ -27,7 +27,9 @@ use Rattle.bt_machine.specs.Spans.{IsWholeBlock, spanned_blocks, cut_from}
 use Rattle.bt_machine.specs.Request.{AreMarked}
 use Rattle.bt_machine.specs.HashMessages.{IsAnswered}
 use Rattle.bt_machine.specs.Next.{IsPeer}
-use Rattle.bt_machine.specs.Step.{Answer, of_next, Step}
+use Rattle.bt_machine.specs.declared.event.Answer.{Answer}
+use Rattle.bt_machine.specs.declared.event.Answer.TheVariants.{Stepped}
+use Rattle.bt_machine.specs.Step.{Step}
 use Rattle.bt_machine_checks.specs.AnswerLaw.{NotedBy, Sends}
 
 -- the peer of the key stands at this place, and no other has the key
@@ -36,7 +38,7 @@ pub record IsOnlyPeer (s : EngineState) (key : PeerKey) (place : ℕ) (p : PeerS
   pub only : (j : ℕ) (q : PeerState) → IsPeer s key j q → j ≡ place
 
 abbrev pub NextLacksMemory : Answer → Type 0
-NextLacksMemory answer = answer ≡ of_next (Err OutOfMemory)
+NextLacksMemory answer = answer ≡ Stepped (Err OutOfMemory)
 
 -- ---- hash requests
 

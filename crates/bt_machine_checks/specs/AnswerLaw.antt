@@ -36,17 +36,19 @@ use Rattle.bt_machine.specs.Output.{Output}
 use Rattle.bt_machine.specs.HashMessages.{IsTreeOf, IsUnknownRoot}
 use Rattle.bt_machine.specs.WireEvents.{short_infohash, bitfield_length}
 use Rattle.bt_machine.specs.Next.{IsPeer}
-use Rattle.bt_machine.specs.Step.{Answer, of_connect, of_next, of_rechoke, Step}
+use Rattle.bt_machine.specs.declared.event.Answer.{Answer}
+use Rattle.bt_machine.specs.declared.event.Answer.TheVariants.{Connected, Stepped, Rechoked}
+use Rattle.bt_machine.specs.Step.{Step}
 use Rattle.bt_machine.specs.Law.{sent_by}
 
 -- the answer sends this message to the peer of this key
 abbrev pub Sends : Answer → PeerKey → PeerMessage → Type 0
-Sends answer key message = Contains (sent_by answer) (record { peer = key; frame = message_frame message })
+Sends answer key message = Contains (sent_by answer) (key, message_frame message)
 
 abbrev pub output_of : Answer → Option Output
-output_of (of_connect (Ok joined)) = Some joined.1
-output_of (of_next (Ok out)) = out
-output_of (of_rechoke out) = out
+output_of (Connected (Ok joined)) = Some joined.1
+output_of (Stepped (Ok out)) = out
+output_of (Rechoked (Ok out)) = Some out
 output_of _ = None
 
 -- the answer has this note

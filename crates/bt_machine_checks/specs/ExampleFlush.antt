@@ -13,7 +13,8 @@ use Rattle.bt_machine.specs.declared.event.Event.TheVariants.{Lost, Flush}
 use Rattle.bt_machine.specs.declared.hash_state.HashState.TheVariants.{Idle}
 use Rattle.bt_machine.specs.State.{PeerState}
 use Rattle.bt_machine.specs.Blocks.{block_id}
-use Rattle.bt_machine.specs.Step.{of_lost, of_flush, Run}
+use Rattle.bt_machine.specs.declared.event.Answer.TheVariants.{Lost as LostAnswer, Flushed}
+use Rattle.bt_machine.specs.Step.{Run}
 use Rattle.bt_machine_checks.specs.ExamplePeer.{peer_with, all_taken, to_first, fed_answer, taken_answer}
 use Rattle.bt_machine_checks.specs.ExampleOneBlock.{abc_engine}
 use Rattle.bt_machine_checks.specs.ExampleThreeBlocks.{ThreeBlocks, told}
@@ -28,7 +29,7 @@ FlushesAreRun dig = (b : ThreeBlocks) (infohash : List ℕ) (k : Facts) (x : Blo
     (((0, sync_fault) ∷ [])
     ∷ ((0, sync_made) ∷ (1, sync_fault) ∷ [])
     ∷ ((0, sync_made) ∷ (1, sync_made) ∷ []) ∷ [])
-    (of_flush (Err Device) ∷ of_flush (Err Device) ∷ of_flush (Ok tt) ∷ [])
+    (Flushed (Err Device) ∷ Flushed (Err Device) ∷ Flushed (Ok tt) ∷ [])
     (twin_engine dig b infohash k x peer)
 
 -- ---- two peers
@@ -53,7 +54,7 @@ LostPeerIsRun dig = (infohash : List ℕ)
     → Run dig (abc_engine dig infohash Missing (free_peer ∷ busy_peer ∷ []) 3)
     (told keepalive_bytes (Lost second_key ∷ told keepalive_bytes (Lost second_key ∷ [])))
     ([] ∷ [] ∷ [] ∷ [] ∷ [] ∷ [] ∷ [])
-    (fed_answer ∷ taken_answer [] [] ∷ of_lost (Ok tt)
+    (fed_answer ∷ taken_answer [] [] ∷ LostAnswer (Ok tt)
     ∷ fed_answer ∷ taken_answer (to_first (Request (record { piece = 0; begin = 0; length = 3 })) ∷ []) []
-    ∷ of_lost (Err NoPeer) ∷ [])
+    ∷ LostAnswer (Err NoPeer) ∷ [])
     (abc_engine dig infohash Missing (record free_peer { asked = block_id 0 0 ∷ [] } ∷ []) 3)

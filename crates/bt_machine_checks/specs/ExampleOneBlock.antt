@@ -17,7 +17,9 @@ use Rattle.bt_machine.specs.State.{PeerState, EngineState}
 use Rattle.bt_machine.specs.Devices.{DeviceCalls}
 use Rattle.bt_machine.specs.Blocks.{block_id, is_complete}
 use Rattle.bt_machine.specs.Start.{Starts}
-use Rattle.bt_machine.specs.Step.{Answer, of_next, Run}
+use Rattle.bt_machine.specs.declared.event.Answer.{Answer}
+use Rattle.bt_machine.specs.declared.event.Answer.TheVariants.{Stepped}
+use Rattle.bt_machine.specs.Step.{Run}
 use Rattle.bt_machine_checks.specs.ExamplePeer.{first_key, peer_with, all_taken, their_handshake, bitfield_bytes, unchoke_bytes, to_first, joined_answer, fed_answer, taken_answer}
 
 -- ---- the torrent: one file of the three bytes `abc`, whose root is their digest
@@ -87,7 +89,7 @@ abc_answers infohash =
     ∷ fed_answer
     ∷ taken_answer (to_first (Have 0) ∷ to_first NotInterested ∷ [])
     (NowMarked (block_id 0 0) ∷ Complete 0 ∷ [])
-    ∷ of_next (Ok None) ∷ []
+    ∷ Stepped (Ok None) ∷ []
 
 -- It starts so, runs so, and the file is complete then.
 pub record AbcIsFetched (dig : List ℕ → List ℕ) (infohash : List ℕ) : Type 0 where

@@ -13,7 +13,8 @@ use Rattle.bt_machine.specs.declared.hash_state.HashState.{HashState}
 use Rattle.bt_machine.specs.State.{PeerState}
 use Rattle.bt_machine.specs.Output.{Sent}
 use Rattle.bt_machine.specs.Peers.{our_handshake}
-use Rattle.bt_machine.specs.Step.{Answer, of_connect, of_feed, of_next}
+use Rattle.bt_machine.specs.declared.event.Answer.{Answer}
+use Rattle.bt_machine.specs.declared.event.Answer.TheVariants.{Connected, Fed, Stepped}
 
 abbrev pub first_key : PeerKey
 first_key = record { 0 = 1 }
@@ -52,24 +53,24 @@ unchoke_bytes = 0 ∷ 0 ∷ 0 ∷ 1 ∷ 1 ∷ []
 -- ---- how it is answered
 
 abbrev pub to_first : Message → Sent
-to_first message = record { peer = first_key; frame = message_frame message }
+to_first message = (first_key, message_frame message)
 
 abbrev pub fed_answer : Answer
-fed_answer = of_feed (Ok tt)
+fed_answer = Fed (Ok tt)
 
 abbrev pub taken_answer : List Sent → List Note → Answer
-taken_answer send notes = of_next (Ok (Some (record { send = send; close = None; notes = notes })))
+taken_answer send notes = Stepped (Ok (Some (record { send = send; close = None; notes = notes })))
 
 -- the peer is closed
 abbrev pub closed_answer : Why → Answer
-closed_answer why = of_next (Ok (Some (record { send = []; close = Some why; notes = [] })))
+closed_answer why = Stepped (Ok (Some (record { send = []; close = Some why; notes = [] })))
 
 -- our handshake and an empty bitfield
 abbrev pub joined_answer : (infohash : List ℕ) → Answer
-joined_answer infohash = of_connect (Ok (
+joined_answer infohash = Connected (Ok (
   first_key,
   record {
-    send = (record { peer = first_key; frame = hello_frame (our_handshake infohash) })
+    send = (first_key, hello_frame (our_handshake infohash))
         ∷ to_first (Bitfield (0 ∷ [])) ∷ [];
     close = None;
     notes = [];

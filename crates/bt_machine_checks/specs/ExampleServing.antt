@@ -1,6 +1,6 @@
 -- A worked example: three blocks are marked, and a peer that is interested is unchoked. It requests a range
 -- of the first two; one that is choked, or requests too much, gets nothing.
-use Rattle.std.specs.Prelude.{[], ◌≡◌, ℕ, Bool, true, false, List, ◌∷◌, ◌++◌, take, drop, Some, None}
+use Rattle.std.specs.Prelude.{[], ◌≡◌, ℕ, Bool, true, false, List, ◌∷◌, ◌++◌, take, drop, Some, None, Ok}
 use Rattle.bt_disk.specs.Calls.{bytes_given}
 use Rattle.bt_sparse.specs.SparseTree.{Facts, value_at}
 use Rattle.bt_store.specs.declared.block_states.BlockState.TheVariants.{Marked}
@@ -11,7 +11,9 @@ use Rattle.bt_machine.specs.declared.event.Event.TheVariants.{Rechoke}
 use Rattle.bt_machine.specs.declared.hash_state.HashState.TheVariants.{Idle}
 use Rattle.bt_machine.specs.State.{PeerState, EngineState}
 use Rattle.bt_machine.specs.Devices.{DeviceCalls}
-use Rattle.bt_machine.specs.Step.{Answer, of_rechoke, Run}
+use Rattle.bt_machine.specs.declared.event.Answer.{Answer}
+use Rattle.bt_machine.specs.declared.event.Answer.TheVariants.{Rechoked}
+use Rattle.bt_machine.specs.Step.{Run}
 use Rattle.bt_machine_checks.specs.ExamplePeer.{peer_with, all_taken, to_first, fed_answer, taken_answer, closed_answer}
 use Rattle.bt_machine_checks.specs.ExampleThreeBlocks.{ThreeBlocks, AreWhole, three_engine, told}
 
@@ -58,7 +60,7 @@ serving_calls b =
 abbrev pub serving_answers : ThreeBlocks → List Answer
 serving_answers b =
     fed_answer ∷ taken_answer [] []
-    ∷ of_rechoke (Some (record { send = to_first Unchoke ∷ []; close = None; notes = [] }))
+    ∷ Rechoked (Ok (record { send = to_first Unchoke ∷ []; close = None; notes = [] }))
     ∷ fed_answer
     ∷ taken_answer (to_first (Piece 0 16334 (drop 16334 b.first ++ take 50 b.second)) ∷ []) [] ∷ []
 

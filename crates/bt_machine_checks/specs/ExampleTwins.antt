@@ -15,7 +15,8 @@ use Rattle.bt_machine.specs.declared.hash_state.HashState.TheVariants.{Asked}
 use Rattle.bt_machine.specs.State.{PeerState, FileState, EngineState}
 use Rattle.bt_machine.specs.Devices.{DeviceCalls}
 use Rattle.bt_machine.specs.Blocks.{block_id, is_complete}
-use Rattle.bt_machine.specs.Step.{Answer, Run}
+use Rattle.bt_machine.specs.declared.event.Answer.{Answer}
+use Rattle.bt_machine.specs.Step.{Run}
 use Rattle.bt_machine_checks.specs.ExamplePeer.{peer_with, all_taken, to_first, fed_answer, taken_answer}
 use Rattle.bt_machine_checks.specs.ExampleThreeBlocks.{ThreeBlocks, AreWhole, three_root, three_file, leaves_key, leaves_message, told}
 

@@ -1,5 +1,5 @@
 -- What is left to an engine: which blocks it requests, and nothing else.
-use Rattle.std.specs.Prelude.{[], ◌≡◌, ◌⊎◌, Bool, true, false, not, ℕ, List, map, filter, Some, None, Ok, Err, All}
+use Rattle.std.specs.Prelude.{[], ◌≡◌, ◌⊎◌, Bool, true, false, not, ℕ, List, map, filter, Some, Ok, Err, All}
 use Rattle.bt_meta.specs.Torrent.{Metainfo, IsLawful}
 use Rattle.bt_store.specs.declared.block_states.BlockState.TheVariants.{Missing}
 use Rattle.bt_book.specs.declared.names.BlockId.{BlockId}
@@ -15,7 +15,9 @@ use Rattle.bt_machine.specs.Devices.{DeviceCalls}
 use Rattle.bt_machine.specs.Blocks.{state_at}
 use Rattle.bt_machine.specs.Output.{Sent, Output}
 use Rattle.bt_machine.specs.Start.{Starts}
-use Rattle.bt_machine.specs.Step.{Answer, of_connect, of_feed, of_next, of_rechoke, of_adopt, Step, Run}
+use Rattle.bt_machine.specs.declared.event.Answer.{Answer}
+use Rattle.bt_machine.specs.declared.event.Answer.TheVariants.{Connected, Fed, Stepped, Rechoked, Adopted as AdoptedAnswer}
+use Rattle.bt_machine.specs.Step.{Step, Run}
 use Rattle.bt_machine.specs.Law.{sent_by}
 
 abbrev pub is_block_request : Frame → Bool
@@ -24,16 +26,16 @@ is_block_request _ = false
 
 -- what is sent but for requests of blocks
 abbrev pub other_frames : List Sent → List Sent
-other_frames sent = filter (λ x. not (is_block_request x.frame)) sent
+other_frames sent = filter (λ x. not (is_block_request x.1)) sent
 
 abbrev pub without_requests : Output → Output
 without_requests out = record out { send = other_frames out.send }
 
 -- an answer but for the requests of blocks that it sends
 abbrev pub plain_answer : Answer → Answer
-plain_answer (of_connect (Ok joined)) = of_connect (Ok (joined.0, without_requests joined.1))
-plain_answer (of_next (Ok (Some out))) = of_next (Ok (Some (without_requests out)))
-plain_answer (of_rechoke (Some out)) = of_rechoke (Some (without_requests out))
+plain_answer (Connected (Ok joined)) = Connected (Ok (joined.0, without_requests joined.1))
+plain_answer (Stepped (Ok (Some out))) = Stepped (Ok (Some (without_requests out)))
+plain_answer (Rechoked (Ok out)) = Rechoked (Ok (without_requests out))
 plain_answer answer = answer
 
 -- an engine but for what its peers are asked for
@@ -44,11 +46,11 @@ abbrev pub without_asked : EngineState → EngineState
 without_asked s = record s { peers = map asked_nothing s.peers }
 
 abbrev pub IsOutOfMemory : Answer → Type 0
-IsOutOfMemory (of_connect (Err no_room_to_connect)) = Unit {0}
-IsOutOfMemory (of_feed (Err OutOfMemory)) = Unit {0}
-IsOutOfMemory (of_next (Err OutOfMemory)) = Unit {0}
-IsOutOfMemory (of_rechoke None) = Unit {0}
-IsOutOfMemory (of_adopt (Err no_room_to_adopt)) = Unit {0}
+IsOutOfMemory (Connected (Err no_room_to_connect)) = Unit {0}
+IsOutOfMemory (Fed (Err OutOfMemory)) = Unit {0}
+IsOutOfMemory (Stepped (Err OutOfMemory)) = Unit {0}
+IsOutOfMemory (Rechoked (Err _)) = Unit {0}
+IsOutOfMemory (AdoptedAnswer (Err no_room_to_adopt)) = Unit {0}
 IsOutOfMemory _ = ⊥
 
 -- events lead to the engine from the start of a lawful torrent
@@ -75,7 +77,7 @@ StepIsDetermined dig = (s new other : EngineState) (event : Event) (calls : Devi
 
 -- the requests of blocks that an answer sends, in their order
 abbrev pub block_requests : Answer → List Sent
-block_requests answer = filter (λ x. is_block_request x.frame) (sent_by answer)
+block_requests answer = filter (λ x. is_block_request x.1) (sent_by answer)
 
 -- at most one block is missing
 abbrev pub LacksOneAtMost : EngineState → Type 0

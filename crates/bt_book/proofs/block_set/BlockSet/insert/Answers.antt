@@ -1,4 +1,4 @@
-use Rattle.std.proofs.Common.{◌≡◌, set, true, false, refl, sym, ap, ◌∙◌, subst, arith, get_or-set_same}
+use Rattle.std.proofs.Common.{set, true, false, refl, sym, ap, ◌∙◌, arith, get_or-set_same}
 use Rattle.std.proofs.lemmas.Bool.{true≢false}
 use Rattle.bt_book.specs.Blocks.{of_file, with_block}
 use Rattle.bt_book.proofs.BlockSets.{file_inside, filled_set, in_range, written_is}

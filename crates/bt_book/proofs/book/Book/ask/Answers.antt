@@ -1,31 +1,21 @@
-use Rattle.std.proofs.Common.{◌<◌, inl, inr, length, arith}
-use Rattle.std.proofs.lemmas.List.{get_or_default}
-use Rattle.bt_book.proofs.Pairs.{kept_ask, asked_is, changed_is, found_joined}
-use Rattle.bt_book.proofs.Asked.{asked_changed, asked_changed_other}
+use Rattle.std.proofs.Common.{[], ◌∷◌, ◌++◌}
+use Rattle.bt_book.proofs.Changes.{joined_at, asked_by, others_by, peers_by}
 use Rattle.bt_book.proofs.book.Book.ask.Goals as goal
 
-pub returns-then-is_full-clause-none : goal.returns-then-is_full-clause-none
-returns-then-is_full-clause-none g c =
-    let asked = asked_is c.self.invariant.0 c.deref.ensures.value c.in-Some.ensures.some c.index.ensures in
-    inr (inl (grind (arith, asked, c.is_full.ensures.full.0)))
-
-pub invariant_of-self : goal.invariant_of-self
-invariant_of-self g c =
-    let room : length c.index.result.now.blocks < 16 = grind (arith, c.is_full.ensures.full.1, c.is_full.ensures.short) in
-    let kept = kept_ask c.self.invariant.0 c.deref.ensures.value c.in-Some.ensures.some c.index_mut.ensures.value in
-    grind (arith, kept c.in-Some-least.block, c.in-Some-least.ensures.some.among, get_or_default c.self.inside.peers.items c.in-Some.index)
-
 pub returns-clause-now : goal.returns-clause-now
-returns-clause-now g c =
-    grind (arith, changed_is c.self.invariant.0 c.deref.ensures.value c.in-Some.ensures.some c.index_mut.ensures.value)
+returns-clause-now g c = c.make_pair.ensures c.args.peer c.in_ok-index.ensures.here
 
-pub returns-clause-room : goal.returns-clause-room
-returns-clause-room g c =
-    let asked = asked_is c.self.invariant.0 c.deref.ensures.value c.in-Some.ensures.some c.index.ensures in
-    grind (arith, asked, c.is_full.ensures.full.1, c.is_full.ensures.short)
+pub returns-clause-joined : goal.returns-clause-joined
+returns-clause-joined g c = joined_at c.args.peer c.args.self.now.peers c.in_ok-index.index c.in_ok-index.ensures.here
 
 pub returns-clause-asked : goal.returns-clause-asked
-returns-clause-asked g c = grind (arith, returns-clause-now g c, asked_changed, found_joined c.args.peer c.index_of.result c.deref.ensures.value c.index_of.ensures.some)
+returns-clause-asked g c =
+    asked_by c.args.peer c.args.self.now c.make_pair.new.self (λ blocks. blocks ++ c.in_ok-block.block ∷ []) (returns-clause-now g c) (returns-clause-joined g c)
 
 pub returns-clause-others : goal.returns-clause-others
-returns-clause-others g c = grind (arith, returns-clause-now g c, asked_changed_other)
+returns-clause-others g c =
+    others_by c.args.peer c.args.self.now c.make_pair.new.self (λ blocks. blocks ++ c.in_ok-block.block ∷ []) (returns-clause-now g c)
+
+pub returns-clause-peers : goal.returns-clause-peers
+returns-clause-peers g c =
+    peers_by c.args.peer c.args.self.now c.make_pair.new.self (λ blocks. blocks ++ c.in_ok-block.block ∷ []) (returns-clause-now g c)

@@ -1,6 +1,8 @@
 use Rattle.std.proofs.Common.{arith}
 use Rattle.bt_book.proofs.Pairs.{asked_once, asked_is, changed_is, forgotten_is, kept_came, free_came}
 use Rattle.bt_book.proofs.Asked.{asked_forgotten, asked_changed_other}
+use Rattle.bt_book.proofs.Changes.{peers_by}
+use Rattle.bt_book.specs.Book.{without_block}
 use Rattle.bt_book.proofs.book.Book.came.Goals as goal
 
 pub forget-requires : goal.forget-requires
@@ -57,3 +59,10 @@ pub returns-clause-free : goal.returns-clause-free
 returns-clause-free c =
     let some = c.forget.ensures.was.0 (grind arith) in
     grind (arith, free_came c.self.invariant.0 c.deref.ensures.value c.in-Some.ensures.some c.index_mut.ensures.value c.args.block some)
+
+pub returns-then-not-forget-clause-peers : goal.returns-then-not-forget-clause-peers
+returns-then-not-forget-clause-peers c =
+    peers_by c.args.peer c.args.self.now _ (without_block c.args.block) (returns-then-not-forget-clause-now c)
+
+pub returns-clause-peers : goal.returns-clause-peers
+returns-clause-peers c = peers_by c.args.peer c.args.self.now _ (without_block c.args.block) (returns-clause-now c)

@@ -1,6 +1,8 @@
-use Rattle.std.proofs.Common.{arith}
+use Rattle.std.proofs.Common.{[], subst, arith}
 use Rattle.std.proofs.lemmas.List.{get_or_default}
-use Rattle.bt_book.proofs.Pairs.{kept_choked, changed_is}
+use Rattle.bt_book.proofs.Pairs.{kept_choked, changed_is, book_is}
+use Rattle.bt_book.proofs.Changes.{peers_by, freed_by}
+use Rattle.bt_book.specs.Book.{IsBook}
 use Rattle.bt_book.proofs.Asked.{asked_cleared, asked_changed_other}
 use Rattle.bt_book.proofs.book.Book.choked.Goals as goal
 
@@ -18,3 +20,10 @@ returns-in-Some-clause-nothing_asked c = grind (arith, returns-in-Some-clause-no
 
 pub returns-in-Some-clause-others : goal.returns-in-Some-clause-others
 returns-in-Some-clause-others c = grind (arith, returns-in-Some-clause-now c, asked_changed_other)
+
+pub returns-in-Some-clause-free : goal.returns-in-Some-clause-free
+returns-in-Some-clause-free c =
+    freed_by c.args.peer c.args.self.now _ (subst IsBook c.self.view_is (book_is c.self.invariant.0)) (returns-in-Some-clause-now c)
+
+pub returns-in-Some-clause-peers : goal.returns-in-Some-clause-peers
+returns-in-Some-clause-peers c = peers_by c.args.peer c.args.self.now _ (λ _. []) (returns-in-Some-clause-now c)

@@ -1,6 +1,7 @@
 use Rattle.std.proofs.Common.{◌∙◌, arith}
 use Rattle.std.proofs.lemmas.List.{with_items_is}
-use Rattle.bt_book.proofs.Pairs.{kept_done_unasked, kept_done_asked, done_unwanted, done_unasked}
+use Rattle.bt_book.proofs.Pairs.{kept_done_unasked, kept_done_asked, done_unwanted, done_unasked, pairs_without, is_itself}
+use Rattle.bt_book.proofs.Changes.{keys_done}
 use Rattle.bt_book.proofs.Asked.{asked_done}
 use Rattle.bt_book.proofs.book.Book.done.Goals as goal
 
@@ -28,3 +29,13 @@ pub returns-else-contains-clause-asked : goal.returns-else-contains-clause-asked
 returns-else-contains-clause-asked c = λ peer.
     let items = with_items_is c.self.inside.peers c.forget_block.new.peers (c.forget_block.auto.peers ∙ c.deref_mut.ensures.len) in
     grind (arith, items, asked_done peer c.args.block c.self.inside.peers.items)
+
+pub returns-else-contains-clause-free : goal.returns-else-contains-clause-free
+returns-else-contains-clause-free c =
+    let items = with_items_is c.self.inside.peers c.forget_block.new.peers (c.forget_block.auto.peers ∙ c.deref_mut.ensures.len) in
+    grind (arith, items, pairs_without c.args.block c.args.block c.self.inside.peers.items, is_itself c.args.block)
+
+pub returns-else-contains-clause-peers : goal.returns-else-contains-clause-peers
+returns-else-contains-clause-peers c =
+    let items = with_items_is c.self.inside.peers c.forget_block.new.peers (c.forget_block.auto.peers ∙ c.deref_mut.ensures.len) in
+    grind (arith, items, keys_done c.args.block c.self.inside.peers.items)

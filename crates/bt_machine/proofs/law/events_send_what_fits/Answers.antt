@@ -1,0 +1,18 @@
+use Rattle.bt_machine.proofs.Frames.{step_fits}
+use Rattle.bt_machine.proofs.Rooted.{run_sparse}
+use Rattle.bt_machine.proofs.Shape.{shape_kept}
+use Rattle.bt_machine.proofs.Start.{start_sparse}
+use Rattle.bt_machine.proofs.law.events_send_what_fits.Goals as goal
+
+pub returns : goal.returns
+returns g c =
+    let dig = g.H.NodeHash.digest in
+    let is = g.met.H.NodeHash.has_32_bytes in
+    record {
+      step = step_fits dig is;
+      runs = λ torrent first last new events calls answers event made answer lawful starts run step.
+          step_fits dig is torrent last new event made answer lawful
+          (shape_kept dig torrent first last events calls answers starts run).0
+          (run_sparse dig is first last events calls answers run (start_sparse is lawful starts))
+          step;
+    }

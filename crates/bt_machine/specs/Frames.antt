@@ -1,0 +1,39 @@
+-- Each frame that an event sends can be written.
+use Rattle.std.specs.Prelude.{◌≡◌, ℕ, List, Some, slice_get, Contains}
+use Rattle.bt_meta.specs.Torrent.{Metainfo, IsLawful}
+use Rattle.bt_sparse.specs.SparseTree.{Facts, IsSound}
+use Rattle.bt_wire.specs.Message.{Fits}
+use Rattle.bt_machine.specs.declared.answer.Frame.{Frame}
+use Rattle.bt_machine.specs.declared.answer.Frame.TheVariants.{Hello, Message}
+use Rattle.bt_machine.specs.declared.event.Event.{Event}
+use Rattle.bt_machine.specs.declared.event.Answer.{Answer}
+use Rattle.bt_machine.specs.State.{EngineState}
+use Rattle.bt_machine.specs.Devices.{DeviceCalls}
+use Rattle.bt_machine.specs.Output.{Sent}
+use Rattle.bt_machine.specs.Start.{Starts}
+use Rattle.bt_machine.specs.Step.{Step, Run}
+use Rattle.bt_machine.specs.Shape.{IsShaped}
+use Rattle.bt_machine.specs.Law.{sent_by}
+
+-- a message that fits; a handshake has its length
+abbrev pub CanBeWritten : Frame → Type 0
+CanBeWritten (Hello h) = Unit {0}
+CanBeWritten (Message m) = Fits m
+
+-- each tree is what a sparse tree of code is: rooted, with digests of 32 bytes, of a file not too long
+abbrev pub AreSparseTrees : (List ℕ → List ℕ) → EngineState → Type 0
+AreSparseTrees dig s = (t : ℕ) (k : Facts) → slice_get s.trees t ≡ Some k → IsSound dig k
+
+abbrev pub StepSendsWhatFits : (List ℕ → List ℕ) → Type 0
+StepSendsWhatFits dig = (torrent : Metainfo) (old new : EngineState) (event : Event) (calls : DeviceCalls)
+    (answer : Answer) → IsLawful torrent.piece_length torrent.files → IsShaped torrent old
+    → AreSparseTrees dig old → Step dig old event calls answer new
+    → (sent : Sent) → Contains (sent_by answer) sent → CanBeWritten sent.1
+
+-- So it is of every event after any list of events from the start of a torrent.
+abbrev pub RunsSendWhatFits : (List ℕ → List ℕ) → Type 0
+RunsSendWhatFits dig = (torrent : Metainfo) (first last new : EngineState) (events : List Event)
+    (calls : List DeviceCalls) (answers : List Answer) (event : Event) (made : DeviceCalls) (answer : Answer)
+    → IsLawful torrent.piece_length torrent.files → Starts dig torrent first
+    → Run dig first events calls answers last → Step dig last event made answer new
+    → (sent : Sent) → Contains (sent_by answer) sent → CanBeWritten sent.1
