@@ -1,5 +1,5 @@
 -- A block that the peer has by its pieces is one that the machine says it has, where the block has a state.
-use Rattle.bt_machine.proofs.Base.{[], ◌∷◌, zero, suc, ◌≡◌, ℕ, ◌<◌, ◌+◌, ◌*◌, ◌/◌, true, false, Bool, List, length, Some, refl, sym, ap, ◌∙◌, arith, slice_get, option_and_then, BlockId, block_count, File}
+use Rattle.bt_machine.proofs.Base.{[], ◌∷◌, zero, suc, ◌≡◌, ℕ, ◌+◌, ◌*◌, ◌/◌, true, false, Bool, List, Some, refl, sym, ap, ◌∙◌, arith, slice_get, BlockId}
 use Rattle.std.specs.Prelude.{slice_index_or}
 use Rattle.bt_meta.specs.PieceBlocks.{HasBlock}
 use Rattle.bt_store.specs.declared.block_states.BlockState.{BlockState}

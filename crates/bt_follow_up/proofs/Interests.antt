@@ -1,11 +1,10 @@
 -- Interest by the wanted blocks.
-use Rattle.bt_machine.proofs.Base.{◌≡◌, ◌≢◌, ℕ, Bool, true, false, List, ◌∷◌, [], Option, Some, None, refl, sym, ap, ◌∙◌, BlockId, slice_get}
+use Rattle.bt_machine.proofs.Base.{Bool, true, false, Option, refl, BlockId}
 use Rattle.std.specs.Prelude.{◌↔◌, IsTrue}
 use Rattle.std.specs.Bool.{OnTrue, OnFalse}
-use Rattle.bt_book.specs.Blocks.{member, GivesFirst}
+use Rattle.bt_book.specs.Blocks.{GivesFirst}
 use Rattle.bt_book.specs.Book.{HasWanted, HasNoneWanted}
-use Rattle.bt_machine.specs.State.{EngineState, PeerState}
-use Rattle.bt_machine.specs.Blocks.{Has, with_peer}
+use Rattle.bt_machine.specs.State.{PeerState}
 use Rattle.bt_machine.specs.Shape.{IsShaped}
 use Rattle.bt_machine.specs.FollowUp.{IsInteresting}
 use Rattle.bt_state.specs.Parts.{state_of}

@@ -1,15 +1,14 @@
 -- The blocks that the book gives a peer are those that the machine asks it for.
-use Rattle.bt_machine.proofs.Base.{◌≡◌, ◌≢◌, ℕ, ◌+◌, ◌<◌, ◌≤◌, ◌⊎◌, inl, inr, Bool, true, false, List, [], ◌∷◌, ◌++◌, length, map, Option, Some, refl, sym, ap, ◌∙◌, arith, subst, slice_get, slice_set, Contains, All, BlockId, PeerKey, append-nil, length-append, AllPairs, cases_lt}
+use Rattle.bt_machine.proofs.Base.{◌≡◌, ◌≢◌, ℕ, ◌+◌, ◌≤◌, ◌⊎◌, inl, inr, Bool, true, false, List, [], ◌++◌, length, map, Option, Some, refl, sym, ap, ◌∙◌, arith, subst, slice_get, Contains, All, BlockId, PeerKey, append-nil, length-append, AllPairs, cases_lt}
 use Rattle.std.specs.Prelude.{count_by}
 use Rattle.bt_machine.proofs.Lists.{contains_map, contains_none, map_contains, set_id}
-use Rattle.bt_machine.proofs.Pairs.{contains_some, some_at}
-use Rattle.bt_book.specs.Book.{BookState, IsBook, IsPair, IsJoined, IsUnasked, AreFirstUnasked, is_of, peers_of, asked_of, pair_count, KeepsOthers, max_requests}
-use Rattle.bt_book.specs.Blocks.{member, GivesFirst}
-use Rattle.bt_book.specs.Law.{CountedBlocksAreContained, JoinedPeersAreContained, FreeBlocksAreAskedOfNobody}
+use Rattle.bt_machine.proofs.Pairs.{contains_some}
+use Rattle.bt_book.specs.Book.{BookState, IsBook, IsPair, IsJoined, IsUnasked, AreFirstUnasked, is_of, asked_of, KeepsOthers, max_requests}
+use Rattle.bt_book.specs.Blocks.{GivesFirst}
 use Rattle.bt_book.proofs.Asked.{asked_none}
 use Rattle.bt_book.proofs.Listed.{counted_blocks, joined_peers, free_blocks}
-use Rattle.bt_machine.specs.State.{EngineState, PeerState}
-use Rattle.bt_machine.specs.Blocks.{state_at, with_peer, Has, IsAsked}
+use Rattle.bt_machine.specs.State.{PeerState}
+use Rattle.bt_machine.specs.Blocks.{with_peer, IsAsked}
 use Rattle.bt_machine.specs.Shape.{IsShaped}
 use Rattle.bt_machine.specs.FollowUp.{IsOpen, AsksBlocks}
 use Rattle.bt_state.specs.Parts.{state_of, peer_of}
@@ -18,7 +17,6 @@ use Rattle.bt_state.specs.declared.peer.Peer.{Peer}
 use Rattle.bt_state.specs.declared.parts.Parts.{Parts}
 use Rattle.bt_state.proofs.Lists.{get_mapped}
 use Rattle.bt_state.proofs.PeerLists.{peers_set}
-use Rattle.bt_state.proofs.Ties.{tied_again}
 use Rattle.bt_follow_up.specs.Held.{is_held}
 use Rattle.bt_follow_up.specs.Asking.{AreBlocksAsked}
 use Rattle.bt_follow_up.proofs.Blocks.{has_of_held, held_of_has}

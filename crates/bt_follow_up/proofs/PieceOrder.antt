@@ -1,6 +1,6 @@
 -- The blocks of a torrent rise with their pieces, so that those that a peer has are found by its pieces.
 use Rattle.bt_machine.proofs.Base.{[], ◌∷◌, zero, suc, ◌≡◌, ℕ, ◌+◌, ◌-◌, ◌*◌, ◌/◌, ◌<◌, ◌≤◌, ◌⊎◌, inl, inr, Bool, true, false, ◌&&◌, List, length, Option, Some, None, refl, sym, ap, ◌∙◌, subst, arith, slice_get, get_or, option_map_or, File, piece_count, Metainfo, IsLaidOut, total_pieces, div_ceil_times, lt_of_mul-lt-mul_right, div-mul-add, cases_lt, lt-ltb, BlockId, block_count, block_length}
-use Rattle.std.specs.Prelude.{slice_index_or, nat_lt, IfSome, IfNone, ◌%◌, ◌≢◌, max}
+use Rattle.std.specs.Prelude.{slice_index_or, nat_lt, ◌%◌, ◌≢◌, max}
 use Rattle.std.proofs.lemmas.Bool.{ltb-true}
 use Rattle.std.proofs.Math.Nat.{div-mul-le_self}
 use Rattle.std.proofs.lemmas.Nat.{le-div}
@@ -32,9 +32,11 @@ module _ (torrent : Metainfo) (pieces : List Bool) (b : BlockId) where
       → (q : ℕ) × LiesIn torrent b q × (slice_index_or pieces q false ≡ true)
   held_by None here e = absurd cc
   held_by (Some f) here e =
-      let both = and_true _ e in
-      (f.first_piece + 16384 * b.block / torrent.piece_length,
-        record { has = record { entry = f; found = here; inside = ltb-true _ _ both.0 }; is = refl }, both.1)
+      let both = and_true _ e in (
+        f.first_piece + 16384 * b.block / torrent.piece_length,
+        record { has = record { entry = f; found = here; inside = ltb-true _ _ both.0 }; is = refl },
+        both.1,
+      )
 
   -- a block that is held lies in a piece of which this says true
   pub held_lies : is_held torrent pieces b ≡ true → (q : ℕ) × LiesIn torrent b q × (slice_index_or pieces q false ≡ true)

@@ -35,9 +35,12 @@ pub fn ask_blocks<D: Disk + Drop, H: NodeHash>(
     }
     let torrent = &parts.torrent;
     let has = &peer.has;
-    let blocks = parts.book.ask_all(peer.key, |block: BlockId| -> Option<BlockId>
-        ensures { IsNextHeld torrent.entry.now has.entry.now block result }
-    { next_held(torrent, has, block) });
+    let blocks = parts.book.ask_all(
+        peer.key,
+        |block: BlockId| -> Option<BlockId>
+            ensures { IsNextHeld torrent.entry.now has.entry.now block result }
+        { next_held(torrent, has, block) },
+    );
     parts.book.keeps_laws();
     blocks
 }

@@ -57,7 +57,9 @@ fn is_interesting<D: Disk + Drop, H: NodeHash>(parts: &Parts<D, H>, has: &PieceS
     ensures { (p : PeerState) → p.has ≡ has.now → IsTrue result ↔ IsInteresting (state_of parts.now) p }
 {
     let torrent = &parts.torrent;
-    parts.book.wants(|block: BlockId| -> Option<BlockId>
-        ensures { IsNextHeld torrent.entry.now has.entry.now block result }
-    { next_held(torrent, has, block) })
+    parts.book.wants(
+        |block: BlockId| -> Option<BlockId>
+            ensures { IsNextHeld torrent.entry.now has.entry.now block result }
+        { next_held(torrent, has, block) },
+    )
 }

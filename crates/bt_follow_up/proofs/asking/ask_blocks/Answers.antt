@@ -1,4 +1,4 @@
-use Rattle.std.proofs.Common.{inl, inr, sym, ap, ◌∙◌}
+use Rattle.std.proofs.Common.{inl, inr}
 use Rattle.bt_state.proofs.Lists.{get_read}
 use Rattle.bt_follow_up.proofs.OpenBlocks.{shut_asks, asks}
 use Rattle.bt_follow_up.proofs.asking.ask_blocks.Goals as goal

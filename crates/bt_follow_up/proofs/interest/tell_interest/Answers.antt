@@ -1,4 +1,4 @@
-use Rattle.std.proofs.Common.{refl, ap, sym, ◌∙◌, ◌≡◌}
+use Rattle.std.proofs.Common.{refl, ap, sym, ◌∙◌}
 use Rattle.bt_machine.proofs.Lists.{some_is}
 use Rattle.bt_state.specs.Parts.{peer_of}
 use Rattle.bt_state.specs.declared.peer.Peer.{Peer}
