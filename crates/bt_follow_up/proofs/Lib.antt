@@ -1,0 +1,4 @@
+pub mod PieceOrder
+pub mod Blocks
+pub mod Interests
+pub mod OpenBlocks

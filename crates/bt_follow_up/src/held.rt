@@ -1,0 +1,64 @@
+//! What a peer has, by leaps.
+ghost use Rattle.std.specs.Prelude.{IfSome, IfNone};
+ghost use Rattle.bt_tree.specs.TreeShape.{IsPieceLength};
+ghost use Rattle.bt_meta.specs.Torrent.{IsLaidOut};
+ghost use Rattle.bt_follow_up.specs.Held.{IsNextPiece, HasNoPiece, IsFirstPiece, HasNoBlock, IsNextHeld};
+
+use bt_book::BlockId;
+use bt_meta::Torrent;
+use bt_state::PieceSet;
+
+/// The first block, from one on, in a piece of the set. The block need not be one of the torrent's.
+pub fn next_held(torrent: &Torrent, has: &PieceSet, from: BlockId) -> Option<BlockId>
+    ensures { IsNextHeld torrent.now has.now from result }
+{
+    keeps_laws(torrent);
+    let first = first_piece(torrent, from)?;
+    let piece = next_piece(has, first)?;
+    let run = torrent.blocks_of(piece)?;
+    let block = if run.file == from.file {
+        run.first.max(from.block)
+    } else {
+        run.first
+    };
+    Some(BlockId {
+        file: run.file,
+        block,
+    })
+}
+
+/// The first piece that has a block at this one or behind it.
+fn first_piece(torrent: &Torrent, from: BlockId) -> Option<u32>
+    ensures some { IfSome result (IsFirstPiece torrent.now from) }
+    ensures none { IfNone result (HasNoBlock torrent.now from) }
+{
+    keeps_laws(torrent);
+    if let Some(range) = torrent.range_of(from.file, from.block) {
+        return Some(range.piece);
+    }
+    let files = torrent.files();
+    let next = files.get(from.file as usize + 1)?;
+    Some(next.first_piece)
+}
+
+/// What every torrent keeps to. It does nothing when it runs.
+fn keeps_laws(torrent: &Torrent)
+    ensures size { IsPieceLength torrent.now.piece_length }
+    ensures laid_out { IsLaidOut torrent.now.piece_length torrent.now.files }
+{
+    let _ = torrent.piece_length();
+    let _ = torrent.files();
+}
+
+/// The first piece of the set, from one on.
+fn next_piece(set: &PieceSet, from: u32) -> Option<u32>
+    ensures some { IfSome result (IsNextPiece set.now from) }
+    ensures none { IfNone result (HasNoPiece set.now from) }
+{
+    for piece in from..set.pieces() {
+        if set.contains(piece) {
+            return Some(piece);
+        }
+    }
+    None
+}
