@@ -1,5 +1,4 @@
 pub mod Peer
-pub mod Slot
 pub mod Requests
 pub mod Message
 pub mod Piece

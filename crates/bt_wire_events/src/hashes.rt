@@ -7,11 +7,11 @@ ghost use Rattle.bt_wire_events.specs.Hashes.{effect_of, IsAnswerBy};
 ghost use Rattle.bt_wire_events.specs.Learning.{HasRoot, LacksRoot, FitLengths, TakesHashes};
 
 use crate::runs::{room_for, settle_slots};
-use crate::slot::Slot;
 use bt_disk::Disk;
 use bt_hashreq::{HashKey, to_claim};
 use bt_machine::{Note, Why};
 use bt_sparse::{AnswerError, ProofError, SparseTree};
+use bt_state::Slot;
 use bt_tree::{Hash32, NodeHash};
 use std::alloc::{AllocError, Global};
 
