@@ -3,7 +3,8 @@ pub mod Placing
 pub mod Putting
 pub mod Arriving
 pub mod Standing
-pub mod Bits
+pub mod AskedStanding
+pub mod Heard
 pub mod HashAnswers
 pub mod Settlings
 pub mod RunSettlings

@@ -1,4 +1,5 @@
 pub mod Peer
+pub mod AskedPeer
 pub mod Requests
 pub mod Message
 pub mod Piece
