@@ -5,6 +5,7 @@ pub mod Arriving
 pub mod Standing
 pub mod AskedStanding
 pub mod Heard
+pub mod Unmarked
 pub mod HashAnswers
 pub mod Settlings
 pub mod RunSettlings
