@@ -19,13 +19,13 @@ use Rattle.bt_machine.specs.Request.{IsFile, with_payload}
 use Rattle.bt_machine.specs.Arrival.{HandlesPiece, stale, arrives}
 use Rattle.bt_machine.specs.Spans.{IsWholeBlock}
 use Rattle.bt_machine.proofs.Lists.{set_id, map_some}
-use Rattle.bt_wire_events.specs.Peer.{IsPeerOf, as_told}
+use Rattle.bt_wire_events.specs.AskedPeer.{IsPeerOf, as_told}
 use Rattle.bt_wire_events.specs.Piece.{PutsBlock, TakesPiece, IsAskedBlock, effect_of}
 use Rattle.bt_wire_events.specs.declared.peer.Peer.{Peer}
 use Rattle.bt_wire_events.specs.declared.piece.Effect.{Effect as Said}
 use Rattle.bt_wire_events.specs.declared.piece.Effect.TheVariants.{Noted}
 use Rattle.bt_machine.specs.declared.answer.Note.TheVariants.{Stale}
-use Rattle.bt_wire_events.proofs.Standing.{kept}
+use Rattle.bt_wire_events.proofs.AskedStanding.{kept}
 
 pub no_calls : {D : Type 0} (history : D → History) (honest : D → Type 0) (faults : D → ℕ) (d : D) → HasCalls history honest faults d [] d
 no_calls history honest faults d = record { counted = refl; as_honest = (λ h. h, λ h. h); answered = λ h. refl }

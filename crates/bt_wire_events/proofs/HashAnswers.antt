@@ -1,6 +1,6 @@
 -- Trees that do not answer a key.
 use Rattle.std.proofs.Common.{◌≡◌, ℕ, ◌+◌, ◌<◌, ◌≤◌, List, length, Some, sym, ◌∙◌, ap, subst, arith, get_or, below_more}
-use Rattle.std.specs.Prelude.{slice_get}
+use Rattle.std.specs.Prelude.{slice_get, Result, Ok, Err, IfOk}
 use Rattle.std.proofs.lemmas.Option.{slice_get-get_or}
 use Rattle.bt_sparse.specs.SparseTree.{Facts}
 use Rattle.bt_hashreq.specs.declared.key.HashKey.{HashKey}
@@ -42,3 +42,8 @@ module _ (dig : List ℕ → List ℕ) (key : HashKey) (trees : List Facts) wher
         let at = ap (λ ts. slice_get ts a.tree) (sym same) ∙ a.here.here in
         none a.tree (omega (arith, some_below trees a.tree at)) a.facts at digests
         (record { root = a.here.same_root; request = a.request; answer = a.answer })
+
+-- what follows from what an Ok says
+pub ok_more : {A E : Type 0} {P Q : A → Type 0} (r : Result A E) → ((x : A) → P x → Q x) → IfOk r P → IfOk r Q
+ok_more (Ok x) more says = more x says
+ok_more (Err e) more says = tt

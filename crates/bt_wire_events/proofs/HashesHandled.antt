@@ -11,10 +11,10 @@ use Rattle.bt_machine.specs.Settling.{judged_file, due_blocks, settling_notes, S
 use Rattle.bt_machine.specs.declared.answer.Note.{Note}
 use Rattle.bt_machine.specs.declared.answer.Why.{Why}
 use Rattle.bt_machine.specs.HashMessages.{HandlesHashes, settled_count, unknown_root as no_such_root, no_claim as makes_no_claim, refused as is_refused, accepts_hashes, new_proofs}
-use Rattle.bt_wire_events.specs.Slot.{file_of, disk_of}
+use Rattle.bt_state.specs.Parts.{file_of, disk_of}
 use Rattle.bt_wire_events.specs.Runs.{HasCallsIfAny, SettlesSlot, SettlesSlots}
 use Rattle.bt_wire_events.specs.Learning.{AreRefused, unknown_root, no_claim, refused, ChangesByHashes, TakesHashes, effect_of}
-use Rattle.bt_wire_events.specs.declared.slot.Slot.{Slot}
+use Rattle.bt_state.specs.declared.slot.Slot.{Slot}
 use Rattle.bt_wire_events.specs.declared.hashes.Learnt.{Learnt}
 use Rattle.bt_wire_events.specs.declared.hashes.Learnt.TheVariants.{Refused, Settled}
 

@@ -5,7 +5,7 @@ use Rattle.std.proofs.lemmas.Option.{slice_get-get_or}
 use Rattle.bt_machine.proofs.Lists.{some_is}
 use Rattle.bt_wire_events.specs.Runs.{FitsLength}
 use Rattle.bt_wire_events.specs.Learning.{HasRoot, FitLengths}
-use Rattle.bt_wire_events.specs.declared.slot.Slot.{Slot}
+use Rattle.bt_state.specs.declared.slot.Slot.{Slot}
 
 -- the tree keeps its length, so each slot of it still fits
 pub fits_all : {D H : Type 0} (trees : List Facts) (slots : List (Slot D H)) (tree : ℕ) (old new : Facts) → FitLengths trees slots

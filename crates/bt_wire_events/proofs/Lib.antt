@@ -3,7 +3,9 @@ pub mod Placing
 pub mod Putting
 pub mod Arriving
 pub mod Standing
-pub mod Bits
+pub mod AskedStanding
+pub mod Heard
+pub mod Unmarked
 pub mod HashAnswers
 pub mod Settlings
 pub mod RunSettlings

@@ -12,9 +12,9 @@ use Rattle.bt_machine.proofs.Lists.{some_is, some_below, set_same, set_other}
 use Rattle.bt_machine.specs.declared.answer.Note.{Note}
 use Rattle.bt_machine.specs.Settling.{settling_notes, due_blocks}
 use Rattle.bt_wire_events.specs.Settling.{SettlesBlocks, is_due}
-use Rattle.bt_wire_events.specs.Slot.{file_of, disk_of}
+use Rattle.bt_state.specs.Parts.{file_of, disk_of}
 use Rattle.bt_wire_events.specs.Runs.{HasCallsIfAny, SettlesSlot, SettlesSlots}
-use Rattle.bt_wire_events.specs.declared.slot.Slot.{Slot}
+use Rattle.bt_state.specs.declared.slot.Slot.{Slot}
 
 -- ---- a run that goes past the file's end
 

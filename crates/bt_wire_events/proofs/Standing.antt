@@ -5,7 +5,7 @@ use Rattle.bt_machine.specs.State.{EngineState, PeerState}
 use Rattle.bt_machine.specs.Blocks.{with_peer}
 use Rattle.bt_machine.proofs.Lists.{set_id}
 use Rattle.bt_wire_events.specs.Peer.{IsPeerOf, as_told}
-use Rattle.bt_wire_events.specs.declared.peer.Peer.{Peer}
+use Rattle.bt_state.specs.declared.peer.Peer.{Peer}
 
 pub kept : (s : EngineState) (i : ℕ) (p : PeerState) (old : Peer) → slice_get s.peers i ≡ Some p → IsPeerOf p old → with_peer s i (as_told p old) ≡ s
 kept s i p old here is =

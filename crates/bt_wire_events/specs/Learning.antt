@@ -18,9 +18,9 @@ use Rattle.bt_machine.specs.Devices.{DeviceCalls, HaveCalls}
 use Rattle.bt_machine.specs.Blocks.{with_peer}
 use Rattle.bt_machine.specs.Output.{Effect, no_effect, closing}
 use Rattle.bt_machine.specs.HashMessages.{settled_count, Resolves, HandlesHashes}
-use Rattle.bt_wire_events.specs.Slot.{file_of, disk_of}
+use Rattle.bt_state.specs.Parts.{file_of, disk_of}
 use Rattle.bt_wire_events.specs.Runs.{SettlesSlots, FitsLength}
-use Rattle.bt_wire_events.specs.declared.slot.Slot.{Slot}
+use Rattle.bt_state.specs.declared.slot.Slot.{Slot}
 use Rattle.bt_wire_events.specs.declared.hashes.Learnt.{Learnt}
 use Rattle.bt_wire_events.specs.declared.hashes.Learnt.TheVariants.{Refused, Settled}
 

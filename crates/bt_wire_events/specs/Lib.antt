@@ -1,5 +1,5 @@
 pub mod Peer
-pub mod Slot
+pub mod AskedPeer
 pub mod Requests
 pub mod Message
 pub mod Piece

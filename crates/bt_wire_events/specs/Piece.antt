@@ -14,7 +14,7 @@ use Rattle.bt_machine.specs.Blocks.{with_file, with_peer}
 use Rattle.bt_machine.specs.Spans.{IsWholeBlock}
 use Rattle.bt_machine.specs.Output.{Effect, noting, closing}
 use Rattle.bt_machine.specs.Arrival.{Puts, HandlesPiece}
-use Rattle.bt_wire_events.specs.Peer.{as_told}
+use Rattle.bt_wire_events.specs.AskedPeer.{as_told}
 use Rattle.bt_wire_events.specs.declared.peer.Peer.{Peer}
 use Rattle.bt_wire_events.specs.declared.piece.Effect.{Effect as Said}
 use Rattle.bt_wire_events.specs.declared.piece.Effect.TheVariants.{Noted, Closed}

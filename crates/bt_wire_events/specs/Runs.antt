@@ -10,8 +10,8 @@ use Rattle.bt_store.specs.BlockReads.{BlockRead, block_of, call_of}
 use Rattle.bt_machine.specs.declared.answer.Note.{Note}
 use Rattle.bt_machine.specs.Settling.{judged_file, settling_notes, due_blocks}
 use Rattle.bt_wire_events.specs.Settling.{note_room}
-use Rattle.bt_wire_events.specs.Slot.{file_of, disk_of}
-use Rattle.bt_wire_events.specs.declared.slot.Slot.{Slot}
+use Rattle.bt_state.specs.Parts.{file_of, disk_of}
+use Rattle.bt_state.specs.declared.slot.Slot.{Slot}
 
 -- these calls were made of a device, or none where there is none
 abbrev pub HasCallsIfAny : {D : Type 0} → (D → History) → (D → Type 0) → (D → ℕ) → Option D → List Call

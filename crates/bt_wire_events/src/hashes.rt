@@ -1,18 +1,21 @@
-ghost use Rattle.std.specs.Prelude.{◌≡◌, ◌≢◌, ◌≤◌, ◌<◌, ◌↔◌, ℕ, IsTrue, IfOk, IfErr, IfSome, IfNone, length, slice_get};
+ghost use Rattle.std.specs.Prelude.{[], ◌≡◌, ◌≢◌, ◌≤◌, ◌<◌, ◌↔◌, ℕ, IsTrue, IfOk, IfErr, IfSome, IfNone, length, slice_get};
 ghost use Rattle.bt_meta.specs.Limits.{max_file_count};
 ghost use Rattle.bt_sparse.specs.SparseTree.{Facts};
 ghost use Rattle.bt_machine.specs.State.{EngineState, PeerState};
 ghost use Rattle.bt_machine.specs.HashMessages.{HandlesHashRequest, settled_count};
+ghost use Rattle.bt_machine.specs.WireEvents.{HandlesMessage};
+ghost use Rattle.bt_state.specs.Parts.{state_of};
 ghost use Rattle.bt_wire_events.specs.Hashes.{effect_of, IsAnswerBy};
 ghost use Rattle.bt_wire_events.specs.Learning.{HasRoot, LacksRoot, FitLengths, TakesHashes};
 
 use crate::runs::{room_for, settle_slots};
-use crate::slot::Slot;
 use bt_disk::Disk;
 use bt_hashreq::{HashKey, to_claim};
 use bt_machine::{Note, Why};
 use bt_sparse::{AnswerError, ProofError, SparseTree};
+use bt_state::{Parts, Slot};
 use bt_tree::{Hash32, NodeHash};
+use bt_wire::Message;
 use std::alloc::{AllocError, Global};
 
 /// What hashes that came come to.
@@ -98,8 +101,19 @@ fn refusal(fault: ProofError) -> Result<Learnt, AllocError>
     }
 }
 
+/// Answers a hash request, or rejects it (None). Nothing changes.
+pub fn take_hash_request<D: Disk + Drop, H: NodeHash>(
+    parts: &Parts<D, H>,
+    key: &HashKey,
+) -> Result<Option<Vec<Hash32>>, AllocError>
+    ensures { IfOk result (λ digests. (i : ℕ) (p : PeerState) → HandlesMessage H.digest (state_of parts.now) i p
+        (Message.HashRequest key.now) [] (effect_of p key.now digests) (state_of parts.now)) }
+{
+    answer_hash_request(&parts.trees, key)
+}
+
 /// The digests that answer a hash request; None where no tree has them all, and the request is rejected.
-pub fn answer_hash_request<H: NodeHash>(
+fn answer_hash_request<H: NodeHash>(
     trees: &[SparseTree<H>],
     key: &HashKey,
 ) -> Result<Option<Vec<Hash32>>, AllocError>

@@ -12,13 +12,11 @@ mod requests;
 mod runs;
 mod serving;
 mod settling;
-mod slot;
 
-pub use hashes::{Learnt, answer_hash_request, take_hashes};
+pub use hashes::{Learnt, take_hash_request, take_hashes};
 pub use hello::hello_fault;
-pub use message::{resolved_hash_state, take_message};
+pub use message::{resolved_hash_state, take_peer_event};
 pub use peer::Peer;
 pub use piece::{Effect, block_of, put_block, take_piece};
 pub use requests::{has_block, request_blocks, request_of};
 pub use serving::{Served, serve};
-pub use slot::Slot;

@@ -1,30 +1,95 @@
-ghost use Rattle.std.specs.Prelude.{◌≡◌, ◌*◌, ◌<◌, ◌≤◌, ℕ, List, Some, false, length, slice_get, slice_index_or, take};
+ghost use Rattle.std.specs.Prelude.{◌≡◌, ◌<◌, ℕ, List, Some, length, slice_get, vec_len};
 ghost use Rattle.bt_meta.specs.Torrent.{total_pieces};
+ghost use Rattle.bt_book.specs.Book.{asked_of, peers_of, KeepsOthers};
 ghost use Rattle.bt_machine.specs.State.{EngineState, PeerState};
 ghost use Rattle.bt_machine.specs.HashMessages.{Resolves};
-ghost use Rattle.bt_wire_events.specs.Peer.{IsPeerOf};
-ghost use Rattle.bt_machine.specs.WireEvents.{bits_in};
-ghost use Rattle.bt_wire_events.specs.Message.{IsOfPeer, TakesMessage, TakesHave, TakesBitfield};
+ghost use Rattle.bt_state.specs.Parts.{state_of, disks_of};
+ghost use Rattle.bt_state.specs.Ties.{IsTied};
+ghost use Rattle.bt_wire_events.specs.Peer.{IsPeerOf, KnowsPieces};
+ghost use Rattle.bt_wire_events.specs.Message.{IsOfPeer, IsPeerEvent, HandlesOfPeer, TakesMessage, TakesHave, TakesBitfield, asked_after};
 
-use crate::peer::Peer;
+use crate::hello::hello_fault;
+use bt_book::{Book, PeerKey};
+use bt_disk::Disk;
 use bt_hashreq::HashKey;
 use bt_machine::{HashState, Why};
-use bt_wire::Message;
+use bt_state::{Parts, Peer};
+use bt_tree::NodeHash;
+use bt_wire::{Message, WireEvent};
 
-/// Takes a message that changes its peer alone, or nothing: none of those that ask for data or hashes, or
-/// bring them. It says why the peer is closed, which is then as it was.
-pub fn take_message(peer: &mut Peer, message: &Message, pieces: u32) -> Option<Why>
-    requires few { length peer.old.has.items ≡ pieces }
+/// Takes a wire event of the peer at `index` that changes this peer alone, or nothing: none of the messages
+/// that ask for data or hashes, or bring them. It says why the peer is closed, which is then as it was.
+pub fn take_peer_event<D: Disk + Drop, H: NodeHash>(
+    parts: &mut Parts<D, H>,
+    index: usize,
+    event: &WireEvent,
+) -> Option<Why>
+    requires tied { IsTied parts.old }
+    requires inside { index < vec_len parts.old.peers }
+    requires there { index < length parts.old.peers.items }
+    requires pieces { KnowsPieces parts.old.torrent parts.old.peers.items index }
+    requires own { IsPeerEvent event.now }
+    ensures step { HandlesOfPeer parts.old index event.now result parts.new }
+    ensures devices { disks_of parts.new ≡ disks_of parts.old }
+    ensures torrent { parts.new.torrent ≡ parts.old.torrent }
+    ensures tied { IsTied parts.new }
+{
+    match event {
+        WireEvent::Hello(handshake) => hello_fault(&parts.torrent, handshake),
+        WireEvent::Message(message) => take_message(parts, index, message),
+        WireEvent::Skipped(_) => None,
+    }
+}
+
+/// The same of a message.
+fn take_message<D: Disk + Drop, H: NodeHash>(
+    parts: &mut Parts<D, H>,
+    index: usize,
+    message: &Message,
+) -> Option<Why>
+    requires tied { IsTied parts.old }
+    requires inside { index < vec_len parts.old.peers }
+    requires there { index < length parts.old.peers.items }
+    requires pieces { KnowsPieces parts.old.torrent parts.old.peers.items index }
     requires own { IsOfPeer message.now }
-    ensures { (dig : List ℕ → List ℕ) (s : EngineState) (i : ℕ) (p : PeerState) → slice_get s.peers i ≡ Some p
-        → IsPeerOf p peer.old → total_pieces s.torrent ≡ pieces
+    ensures step { HandlesOfPeer parts.old index (WireEvent.Message message.now) result parts.new }
+    ensures devices { disks_of parts.new ≡ disks_of parts.old }
+    ensures torrent { parts.new.torrent ≡ parts.old.torrent }
+    ensures tied { IsTied parts.new }
+{
+    let pieces = parts.torrent.pieces();
+    let peer = &mut parts.peers[index];
+    drop_asked(&mut parts.book, peer.key, message);
+    change_peer(peer, message, pieces)
+}
+
+/// A peer that chokes us will send nothing of what it is asked for.
+fn drop_asked(book: &mut Book, key: PeerKey, message: &Message)
+    ensures asked { asked_of book.new key ≡ asked_after message.now (asked_of book.old key) }
+    ensures others { KeepsOthers book.old book.new key }
+    ensures wanted { book.new.wanted ≡ book.old.wanted }
+    ensures peers { peers_of book.new ≡ peers_of book.old }
+{
+    if let Message::Choke = message {
+        book.choked(key);
+    }
+}
+
+/// Changes the peer as a message says that changes nothing else but what the book knows of it.
+fn change_peer(peer: &mut Peer, message: &Message, pieces: u32) -> Option<Why>
+    requires few { length peer.old.has ≡ pieces }
+    requires own { IsOfPeer message.now }
+    ensures takes { (dig : List ℕ → List ℕ) (s : EngineState) (i : ℕ) (p : PeerState)
+        → slice_get s.peers i ≡ Some p → IsPeerOf p peer.old → total_pieces s.torrent ≡ pieces
         → TakesMessage dig s i p message.now peer.new result }
+    ensures key { peer.new.key ≡ peer.old.key }
+    ensures cutter { peer.new.cutter ≡ peer.old.cutter }
+    ensures payload { peer.new.payload ≡ peer.old.payload }
 {
     match message {
         Message::KeepAlive => None,
         Message::Choke => {
             peer.peer_choking = true;
-            peer.asked.clear();
             None
         }
         Message::Unchoke => {
@@ -63,46 +128,30 @@ pub fn resolved_hash_state(hash: HashState, key: HashKey, next: HashState) -> Ha
 
 /// Takes a have: the peer has one more piece, or names one that is not.
 fn take_have(peer: &mut Peer, piece: u32, pieces: u32) -> Option<Why>
-    requires { length peer.old.has.items ≡ pieces }
-    ensures { (s : EngineState) (i : ℕ) (p : PeerState) → slice_get s.peers i ≡ Some p
+    requires { length peer.old.has ≡ pieces }
+    ensures takes { (s : EngineState) (i : ℕ) (p : PeerState) → slice_get s.peers i ≡ Some p
         → IsPeerOf p peer.old → total_pieces s.torrent ≡ pieces → TakesHave s i p piece peer.new result }
+    ensures others { peer.new ≡ record peer.old { has = peer.new.has } }
 {
     if piece >= pieces {
         return Some(Why::BadPiece);
     }
-    peer.has[piece as usize] = true;
+    peer.has.insert(piece);
     None
 }
 
 /// Takes a bitfield: the peer has the pieces of which its bit says so. The bits after the last piece's say
 /// nothing, but there are as many bytes as the pieces need.
 fn take_bitfield(peer: &mut Peer, bytes: &[u8], pieces: u32) -> Option<Why>
-    requires { length peer.old.has.items ≡ pieces }
-    ensures { (s : EngineState) (i : ℕ) (p : PeerState) → slice_get s.peers i ≡ Some p
+    requires { length peer.old.has ≡ pieces }
+    ensures takes { (s : EngineState) (i : ℕ) (p : PeerState) → slice_get s.peers i ≡ Some p
         → IsPeerOf p peer.old → total_pieces s.torrent ≡ pieces
         → TakesBitfield s i p bytes.now peer.new result }
+    ensures others { peer.new ≡ record peer.old { has = peer.new.has } }
 {
     if bytes.len() != pieces.div_ceil(8) as usize {
         return Some(Why::BadBitfield);
     }
-    set_bits(&mut peer.has, bytes);
+    peer.has.fill(bytes);
     None
-}
-
-/// Sets each place to its bit.
-fn set_bits(has: &mut [bool], bytes: &[u8])
-    requires { length has.old ≤ 8 * length bytes.now }
-    ensures { has.new ≡ take (length has.old) (bits_in bytes.now) }
-{
-    for (piece, has_piece) in has.iter_mut().enumerate() {
-        *has_piece = bit(bytes, piece);
-    }
-}
-
-/// A bit, of which the high one of the first byte is the first.
-fn bit(bytes: &[u8], place: usize) -> bool
-    requires { place < 8 * length bytes.now }
-    ensures { result ≡ slice_index_or (bits_in bytes.now) place false }
-{
-    (bytes[place / 8] >> (7 - place % 8)) % 2 == 1
 }

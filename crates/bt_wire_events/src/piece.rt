@@ -6,7 +6,7 @@ ghost use Rattle.bt_store.specs.Arrival.{IsBlock};
 ghost use Rattle.bt_machine.specs.State.{EngineState, FileState, PeerState};
 ghost use Rattle.bt_machine.specs.Request.{IsFile};
 ghost use Rattle.bt_machine.specs.Spans.{IsWholeBlock};
-ghost use Rattle.bt_wire_events.specs.Peer.{IsPeerOf};
+ghost use Rattle.bt_wire_events.specs.AskedPeer.{IsPeerOf};
 ghost use Rattle.bt_wire_events.specs.Piece.{PutsBlock, IsAllOf, IsAskedBlock, IsAwaited, TakesPiece};
 
 use crate::peer::Peer;

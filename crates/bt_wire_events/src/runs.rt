@@ -8,10 +8,10 @@ ghost use Rattle.bt_machine.specs.Settling.{settling_notes};
 ghost use Rattle.bt_wire_events.specs.Runs.{SettlesSlot, SettlesSlots, FitsLength, slot_room};
 
 use crate::settling::settle_blocks;
-use crate::slot::Slot;
 use bt_disk::Disk;
 use bt_machine::Note;
 use bt_sparse::SparseTree;
+use bt_state::Slot;
 use bt_tree::NodeHash;
 
 /// Settles the blocks of a run in every file of a tree, in the order of files, and adds the notes of each,

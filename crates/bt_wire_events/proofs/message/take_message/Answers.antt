@@ -1,24 +1,21 @@
-use Rattle.std.proofs.Common.{refl, ap, sym, subst}
-use Rattle.bt_machine.specs.State.{PeerState}
-use Rattle.bt_machine.specs.Blocks.{with_peer}
-use Rattle.bt_machine.specs.HashMessages.{Resolves}
-use Rattle.bt_machine.specs.declared.hash_state.HashState.TheVariants.{Refused}
-use Rattle.bt_wire_events.proofs.Standing.{kept}
+use Rattle.std.proofs.Common.{refl, sym}
+use Rattle.bt_state.specs.Parts.{state_of, peer_of}
+use Rattle.bt_state.proofs.Lists.{get_read, get_mapped}
+use Rattle.bt_wire_events.proofs.Heard.{tied_heard, heard_so}
 use Rattle.bt_wire_events.proofs.message.take_message.Goals as goal
 
-pub returns-in-KeepAlive : goal.returns-in-KeepAlive
-returns-in-KeepAlive c = λ dig s i p here is counted. rw c.in-KeepAlive.is (refl, refl, kept s i p c.args.peer.now here is)
+pub returns-clause-step : goal.returns-clause-step
+returns-clause-step g c = λ dig x at.
+    let old = c.args.parts.now in
+    let p = c.index_mut-peer.result.now in
+    let here = get_read old.peers.items c.args.index p c.requires.there c.index_mut-peer.ensures.value in
+    heard_so old c.args.index c.change_peer.new.peer c.drop_asked.new.book c.requires.tied here c.change_peer.ensures.key dig c.args.message.now c.change_peer.result x at
+    c.change_peer.ensures.cutter c.change_peer.ensures.payload c.drop_asked.ensures.others c.drop_asked.ensures.asked
+    (c.change_peer.ensures.takes dig (state_of old) c.args.index (peer_of old.book p) (get_mapped (peer_of old.book) old.peers.items c.args.index here) refl (sym c.pieces-pieces.ensures.counted))
 
-pub returns-in-Cancel : goal.returns-in-Cancel
-returns-in-Cancel c = λ dig s i p here is counted. rw c.in-Cancel.is (refl, refl, kept s i p c.args.peer.now here is)
-
-pub returns-in-HashReject : goal.returns-in-HashReject
-returns-in-HashReject c = λ dig s i p here is counted. rw c.in-HashReject.is (
-  refl,
-  refl,
-  record {
-    hash = c.resolved_hash_state-peer.result;
-    resolves = subst (λ h. Resolves c.in-HashReject.key Refused h c.resolved_hash_state-peer.result) (sym (ap (λ (q : PeerState). q.hash) is)) c.resolved_hash_state-peer.ensures;
-    after = ap (λ (q : PeerState). with_peer s i (record q { hash = c.resolved_hash_state-peer.result })) (sym is);
-  },
-)
+pub returns-clause-tied : goal.returns-clause-tied
+returns-clause-tied g c =
+    let old = c.args.parts.now in
+    let p = c.index_mut-peer.result.now in
+    tied_heard old c.args.index c.change_peer.new.peer c.drop_asked.new.book c.requires.tied
+    (get_read old.peers.items c.args.index p c.requires.there c.index_mut-peer.ensures.value) c.change_peer.ensures.key c.drop_asked.ensures.wanted c.drop_asked.ensures.peers
