@@ -5,6 +5,9 @@
 
 mod connection;
 mod greeting;
+mod new_book;
+mod new_slot;
+mod new_tree;
 mod parts;
 mod peer;
 mod peers;
