@@ -3,6 +3,7 @@
 //! done to them.
 #![tactic(auto)]
 
+mod block_counts;
 mod connection;
 mod greeting;
 mod new_book;

@@ -20,7 +20,8 @@ pub(crate) fn new_book(alloc: Global, counts: &[u32]) -> Result<Book, AllocError
 fn want_file(book: &mut Book, file: u32, count: u32)
     requires { slice_get book.old.wanted file ≡ Some (replicate count false) }
     ensures { book.new ≡ record book.old {
-        wanted = slice_set book.old.wanted file (replicate count true) } }
+      wanted = slice_set book.old.wanted file (replicate count true);
+    } }
 {
     for block in 0..count {
         book.want(BlockId { file, block });

@@ -7,9 +7,11 @@ use Rattle.bt_state.proofs.NewBooks.{wanted_below, none_wanted, next_file, one_f
 use Rattle.bt_state.proofs.new_book.new_book.Goals as goal
 
 pub loop-file-init : goal.loop-file-init
-loop-file-init c =
-    (omega arith, ap (λ (b : BookState). b.wanted) c.in_ok-book.ensures ∙ sym (none_wanted c.args.counts.now),
-    ap (λ (b : BookState). b.peers) c.in_ok-book.ensures)
+loop-file-init c = (
+  omega arith,
+  ap (λ (b : BookState). b.wanted) c.in_ok-book.ensures ∙ sym (none_wanted c.args.counts.now),
+  ap (λ (b : BookState). b.peers) c.in_ok-book.ensures,
+)
 
 pub want_file-requires : goal.want_file-requires
 want_file-requires c =
@@ -21,12 +23,13 @@ pub loop-file-preserved : goal.loop-file-preserved
 loop-file-preserved c =
     let counts = c.args.counts.now in
     let lt : c.loop-file.file < length counts = omega (arith, c.loop-file-test.true) in
-    let at = get_at counts c.loop-file.file 0 lt in
-    (omega (arith, lt),
-    ap (λ (b : BookState). b.wanted) c.want_file.ensures
-        ∙ ap (λ (set : Blocks). slice_set set c.loop-file.file (replicate (get_or counts c.loop-file.file 0) true)) c.loop-file.invariant.1
-        ∙ one_file c.loop-file.file counts at,
-    ap (λ (b : BookState). b.peers) c.want_file.ensures ∙ c.loop-file.invariant.2)
+    let at = get_at counts c.loop-file.file 0 lt in (
+      omega (arith, lt),
+      ap (λ (b : BookState). b.wanted) c.want_file.ensures
+          ∙ ap (λ (set : Blocks). slice_set set c.loop-file.file (replicate (get_or counts c.loop-file.file 0) true)) c.loop-file.invariant.1
+          ∙ one_file c.loop-file.file counts at,
+      ap (λ (b : BookState). b.peers) c.want_file.ensures ∙ c.loop-file.invariant.2,
+    )
 
 pub returns-clause-wanted : goal.returns-clause-wanted
 returns-clause-wanted c =

@@ -7,24 +7,28 @@ use Rattle.bt_state.proofs.new_book.want_file.Goals as goal
 
 pub loop-block-init : goal.loop-block-init
 loop-block-init c =
-    let old = c.args.book.now in
-    (omega arith, sym (ap (λ (set : Blocks). record old { wanted = set })
-        (ap (λ (xs : List Bool). slice_set old.wanted c.args.file xs) (none_true c.args.count) ∙ set_own old.wanted c.args.file c.requires)))
+    let old = c.args.book.now in (
+      omega arith,
+      sym (ap (λ (set : Blocks). record old { wanted = set })
+          (ap (λ (xs : List Bool). slice_set old.wanted c.args.file xs) (none_true c.args.count) ∙ set_own old.wanted c.args.file c.requires)),
+    )
 
 pub want-requires : goal.want-requires
 want-requires c =
     let lt : c.loop-block.block < c.args.count = omega (arith, c.loop-block-test.true) in
     subst (λ (set : Blocks). IsInRange set (record { file = c.args.file; block = c.loop-block.block }))
-        (sym (ap (λ (b : BookState). b.wanted) c.loop-block.invariant.1))
-        (in_file c.args.book.now.wanted c.args.file c.loop-block.block c.args.count c.requires lt)
+    (sym (ap (λ (b : BookState). b.wanted) c.loop-block.invariant.1))
+    (in_file c.args.book.now.wanted c.args.file c.loop-block.block c.args.count c.requires lt)
 
 pub loop-block-preserved : goal.loop-block-preserved
 loop-block-preserved c =
     let old = c.args.book.now in
-    let lt : c.loop-block.block < c.args.count = omega (arith, c.loop-block-test.true) in
-    (omega (arith, lt), c.want.ensures.now
-        ∙ ap (λ (b : BookState). with_wanted b (record { file = c.args.file; block = c.loop-block.block })) c.loop-block.invariant.1
-        ∙ ap (λ (set : Blocks). record old { wanted = set }) (one_wanted old.wanted c.args.file c.loop-block.block c.args.count c.requires lt))
+    let lt : c.loop-block.block < c.args.count = omega (arith, c.loop-block-test.true) in (
+      omega (arith, lt),
+      c.want.ensures.now
+          ∙ ap (λ (b : BookState). with_wanted b (record { file = c.args.file; block = c.loop-block.block })) c.loop-block.invariant.1
+          ∙ ap (λ (set : Blocks). record old { wanted = set }) (one_wanted old.wanted c.args.file c.loop-block.block c.args.count c.requires lt),
+    )
 
 pub returns : goal.returns
 returns c =

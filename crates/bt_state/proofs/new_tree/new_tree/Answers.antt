@@ -10,7 +10,7 @@ unreachable-requires g c =
     let file = c.args.file.now in
     let some = not_none file.layer.items (ap (λ m. m == 0) (sym file.layer.ok.0) ∙ sym c.is_empty.ensures ∙ c.if-is_empty.false) in
     let is = has_layer c.requires.digest (file_of file) c.requires.length c.deref.ensures.value
-        (sym c.piece_length.ensures.said ∙ c.piece_layer-layer.ensures.value) c.requires.lawful some c.layers_are_of_trees.ensures in
+    (sym c.piece_length.ensures.said ∙ c.piece_layer-layer.ensures.value) c.requires.lawful some c.layers_are_of_trees.ensures in
     c.with_layer.ensures.size.0 (c.in-Err-Size.is ∙ ap (λ (e : LayerError). Err e) c.in-Err-Size.field-0-is) is.size
 
 pub unreachable-requires-in-Err-Differs : goal.unreachable-requires-in-Err-Differs
@@ -18,7 +18,7 @@ unreachable-requires-in-Err-Differs g c =
     let file = c.args.file.now in
     let some = not_none file.layer.items (ap (λ m. m == 0) (sym file.layer.ok.0) ∙ sym c.is_empty.ensures ∙ c.if-is_empty.false) in
     let is = has_layer c.requires.digest (file_of file) c.requires.length c.deref.ensures.value
-        (sym c.piece_length.ensures.said ∙ c.piece_layer-layer.ensures.value) c.requires.lawful some c.layers_are_of_trees.ensures in
+    (sym c.piece_length.ensures.said ∙ c.piece_layer-layer.ensures.value) c.requires.lawful some c.layers_are_of_trees.ensures in
     (c.with_layer.ensures.differs.0 (c.in-Err-Differs.is ∙ ap (λ (e : LayerError). Err e) c.in-Err-Differs.field-0-is)).1 is
 
 pub returns-in-Ok : goal.returns-in-Ok
