@@ -11,3 +11,6 @@ pub mod Joins
 pub mod Completeness
 -- devices
 pub mod DeviceCalls
+-- the start
+pub mod NewTrees
+pub mod NewBooks
