@@ -1,3 +1,4 @@
 pub mod Held
 pub mod Interest
 pub mod Asking
+pub mod Requests

@@ -5,7 +5,9 @@
 mod asking;
 mod held;
 mod interest;
+mod requests;
 
 pub use asking::ask_blocks;
 pub use held::next_held;
 pub use interest::tell_interest;
+pub use requests::{has_block, request_blocks, request_of};

@@ -11,6 +11,5 @@ pub mod Joins
 pub mod Completeness
 -- devices
 pub mod DeviceCalls
--- the start
-pub mod NewTrees
-pub mod NewBooks
+-- the counts of unmarked blocks
+pub mod Unmarked

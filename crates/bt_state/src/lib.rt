@@ -3,12 +3,8 @@
 //! done to them.
 #![tactic(auto)]
 
-mod block_counts;
 mod connection;
 mod greeting;
-mod new_book;
-mod new_slot;
-mod new_tree;
 mod parts;
 mod peer;
 mod peers;

@@ -1,15 +1,7 @@
-pub mod WholeBlocks
-pub mod Placing
-pub mod Putting
-pub mod Arriving
 pub mod Standing
-pub mod AskedStanding
 pub mod Heard
-pub mod Unmarked
 pub mod HashAnswers
 pub mod Settlings
 pub mod RunSettlings
 pub mod Learnings
 pub mod HashesHandled
-pub mod SpanReads
-pub mod Servings

@@ -1,9 +1,5 @@
 pub mod Peer
-pub mod AskedPeer
-pub mod Requests
 pub mod Message
-pub mod Piece
-pub mod Serving
 pub mod Hashes
 pub mod Settling
 pub mod Runs

@@ -1,0 +1,3 @@
+pub mod AskedPeer
+pub mod Piece
+pub mod Serving

@@ -1,0 +1,136 @@
+-- What a request for a range of one file comes to, and how its blocks are read.
+use Rattle.std.specs.Prelude.{◌≡◌, ℕ, ◌==◌, Bool, if◌then◌else◌, List, [], ◌∷◌, ◌++◌, map, flat_map, Some, slice_get, slice_set, Contains}
+use Rattle.bt_disk.specs.History.{History}
+use Rattle.bt_disk.specs.Calls.{HasCalls}
+use Rattle.bt_meta.specs.Torrent.{Metainfo}
+use Rattle.bt_meta.specs.declared.torrent.Span.{Span}
+use Rattle.bt_sparse.specs.SparseTree.{Facts}
+use Rattle.bt_store.specs.FileStore.{StoreView}
+use Rattle.bt_store.specs.BlockReads.{BlockRead, given, failed, call_of, IsRight}
+use Rattle.bt_store.specs.declared.block_states.BlockState.{BlockState}
+use Rattle.bt_store.specs.declared.block_states.BlockState.TheVariants.{Missing, Marked}
+use Rattle.bt_wire.specs.declared.message.Ask.{Ask}
+use Rattle.bt_wire.specs.declared.message.Message.TheVariants.{Piece}
+use Rattle.bt_machine.specs.declared.answer.Note.{Note}
+use Rattle.bt_machine.specs.declared.answer.Note.TheVariants.{Damaged, Device}
+use Rattle.bt_machine.specs.State.{PeerState, FileState, EngineState}
+use Rattle.bt_machine.specs.Blocks.{block_id}
+use Rattle.bt_machine.specs.Spans.{spanned_blocks, cut_from}
+use Rattle.bt_machine.specs.Output.{Effect, no_effect, noting, closing, sending}
+use Rattle.bt_machine.specs.Request.{with_payload, ReadsRight}
+use Rattle.bt_block_events.specs.declared.serving.Served.{Served}
+use Rattle.bt_block_events.specs.declared.serving.Served.TheVariants.{Nothing, Closed, Sent, Found}
+
+-- an engine in which a file has this tree and these states of its blocks, and its i-th peer, which we choke
+-- or not
+pub record TellsServer (torrent : Metainfo) (tree : Facts) (file : ℕ) (states : List BlockState)
+    (am_choking : Bool) (s : EngineState) (i : ℕ) (p : PeerState) (f : FileState) : Type 0 where
+  pub same_torrent : s.torrent ≡ torrent
+  pub file_here : slice_get s.files file ≡ Some f
+  pub has_tree : slice_get s.trees f.tree ≡ Some tree
+  pub same_states : f.states ≡ states
+  pub here : slice_get s.peers i ≡ Some p
+  pub choking : p.am_choking ≡ am_choking
+
+-- what a request does to the peer and the notes
+abbrev pub effect_of : PeerState → Ask → Served → Effect
+effect_of p ask Nothing = no_effect
+effect_of p ask (Closed why) = closing why
+effect_of p ask (Sent bytes) = sending p (Piece ask.piece ask.begin bytes.items)
+effect_of p ask (Found note) = noting note
+
+-- bytes that are sent are counted
+abbrev pub peer_after : PeerState → Ask → Served → PeerState
+peer_after p ask Nothing = p
+peer_after p ask (Closed why) = p
+peer_after p ask (Sent bytes) = with_payload ask.length p
+peer_after p ask (Found note) = p
+
+-- the engine then, in which the file's blocks have these states
+abbrev pub after_serving : EngineState → ℕ → PeerState → (file : ℕ) → FileState → List BlockState → Ask
+    → Served → EngineState
+after_serving s i p file f states ask served = record s {
+  files = slice_set s.files file (record f { states = states });
+  peers = slice_set s.peers i (peer_after p ask served);
+}
+
+-- the one block, where the first is the last, or the two
+abbrev pub one_or_two : (first last : ℕ) → List ℕ
+one_or_two first last = if first == last then first ∷ [] else first ∷ last ∷ []
+
+-- the block was read and is right
+pub record IsReadRight {D : Type 0} (history : D → History) (honest : D → Type 0) (faults : D → ℕ)
+    (dig : List ℕ → List ℕ) (k : Facts) (block : ℕ) (bytes : List ℕ) (old new : StoreView D) : Type 0 where
+  pub calls : HasCalls history honest faults
+      old.disk (call_of k.file_length (given block bytes) ∷ []) new.disk
+  pub right : IsRight dig k block bytes
+  pub others : new ≡ record old { disk = new.disk }
+
+-- what a read that is not right comes to: the block is missing, or the device failed
+pub data Finds (dig : List ℕ → List ℕ) (k : Facts) (file block : ℕ) (read : BlockRead) (note : Note)
+    (old new : List BlockState) : Type 0 where
+  damaged : (bytes : List ℕ) → read ≡ given block bytes → ¬ IsRight dig k block bytes
+      → note ≡ Damaged (block_id file block) → new ≡ slice_set old block Missing
+      → Finds dig k file block read note old new
+  fault : read ≡ failed block → note ≡ Device file → new ≡ old → Finds dig k file block read note old new
+
+-- the block was read and is not right
+pub record IsReadWrong {D : Type 0} (history : D → History) (honest : D → Type 0) (faults : D → ℕ)
+    (dig : List ℕ → List ℕ) (k : Facts) (file block : ℕ) (note : Note) (old new : StoreView D) : Type 0 where
+  pub read : BlockRead
+  pub calls : HasCalls history honest faults old.disk (call_of k.file_length read ∷ []) new.disk
+  pub finds : Finds dig k file block read note old.states new.states
+  pub same_file : new.file_length ≡ old.file_length
+
+-- all blocks were read and are right, and these are their bytes, one block's after the other's
+pub record AreReadRight {D : Type 0} (history : D → History) (honest : D → Type 0) (faults : D → ℕ)
+    (dig : List ℕ → List ℕ) (k : Facts) (blocks all : List ℕ) (old new : StoreView D) : Type 0 where
+  pub bytes : ℕ → List ℕ
+  pub reads : List BlockRead
+  pub calls : HasCalls history honest faults old.disk (map (call_of k.file_length) reads) new.disk
+  pub right : ReadsRight dig k blocks bytes reads
+  pub together : all ≡ flat_map bytes blocks
+  pub others : new ≡ record old { disk = new.disk }
+
+-- blocks were read up to the first that is not right
+pub record StopAtFault {D : Type 0} (history : D → History) (honest : D → Type 0) (faults : D → ℕ)
+    (dig : List ℕ → List ℕ) (k : Facts) (file : ℕ) (blocks : List ℕ) (note : Note) (old new : StoreView D)
+    : Type 0 where
+  pub before : List ℕ
+  pub block : ℕ
+  pub after : List ℕ
+  pub bytes : ℕ → List ℕ
+  pub reads : List BlockRead
+  pub read : BlockRead
+  pub parts : blocks ≡ before ++ block ∷ after
+  pub right : ReadsRight dig k before bytes reads
+  pub calls : HasCalls history honest faults
+      old.disk (map (call_of k.file_length) (reads ++ read ∷ [])) new.disk
+  pub finds : Finds dig k file block read note old.states new.states
+  pub same_file : new.file_length ≡ old.file_length
+
+-- the blocks of the span are marked
+pub record IsMarkedSpan (states : List BlockState) (span : Span) : Type 0 where
+  pub marked : (i : ℕ) → Contains (spanned_blocks span) i → slice_get states i ≡ Some Marked
+
+-- all blocks of the span were read and are right, and these bytes are cut from them
+pub record SendsSpan {D : Type 0} (history : D → History) (honest : D → Type 0) (faults : D → ℕ)
+    (dig : List ℕ → List ℕ) (k : Facts) (span : Span) (sent : List ℕ) (old new : StoreView D) : Type 0 where
+  pub bytes : ℕ → List ℕ
+  pub reads : List BlockRead
+  pub calls : HasCalls history honest faults old.disk (map (call_of k.file_length) reads) new.disk
+  pub right : ReadsRight dig k (spanned_blocks span) bytes reads
+  pub cut : sent ≡ cut_from span bytes
+  pub others : new ≡ record old { disk = new.disk }
+
+-- what a request for a span comes to
+abbrev pub AnswersSpan : {D : Type 0} → (D → History) → (D → Type 0) → (D → ℕ) → (List ℕ → List ℕ) → Facts
+    → (file : ℕ) → Span → (old new : StoreView D) → Served → Type 0
+AnswersSpan history honest faults dig k file span old new Nothing =
+    (¬ IsMarkedSpan old.states span) × (new ≡ old)
+AnswersSpan history honest faults dig k file span old new (Closed why) = ⊥
+AnswersSpan history honest faults dig k file span old new (Sent bytes) =
+    IsMarkedSpan old.states span × SendsSpan history honest faults dig k span bytes.items old new
+AnswersSpan history honest faults dig k file span old new (Found note) =
+    IsMarkedSpan old.states span
+    × StopAtFault history honest faults dig k file (spanned_blocks span) note old new

@@ -1,0 +1,2 @@
+pub mod NewTrees
+pub mod NewBooks
