@@ -315,6 +315,13 @@ module _ (dig : Digest) where
   event_order {p} i e calls effect at handles o =
       changed at (event_change e calls effect at (o.each p (contains_some _ i at)).pieces handles) o
 
+  -- its peer is another then, of the same key
+  pub event_peer : {s : EngineState} {p : PeerState} (mid : EngineState) (i e calls effect : _) → slice_get s.peers i ≡ Some p → Handles dig s i p e calls effect mid
+      → IsOrderly s → (q : PeerState) × (mid.peers ≡ slice_set s.peers i q) × (q.key ≡ p.key)
+  event_peer {s} {p} mid i e calls effect at handles o =
+      let c : PeerChange s i p mid = event_change e calls effect at (o.each p (contains_some _ i at)).pieces handles in
+      (c.new, c.peers, c.key)
+
   taken_order : {s : EngineState} {mid i p calls effect : _} → slice_get s.peers i ≡ Some p → TakesEvent dig s i p calls effect mid → IsOrderly s
       → IsOrderly mid
   taken_order {s} {i} {calls} {effect} at t o =
