@@ -1,3 +1,4 @@
 pub mod Keeping
 pub mod MarkNotes
-pub mod News
+pub mod NewWholes
+pub mod Announcements

@@ -1,5 +1,5 @@
 -- What has become whole and complete, read off the notes of a wire event.
-use Rattle.std.specs.Prelude.{[], ◌≡◌, ◌≢◌, ℕ, ◌+◌, ◌≤◌, ◌==◌, if◌then◌else◌, Bool, false, List, map, length, Option, Some, None, Contains, vec_len, vec_capacity}
+use Rattle.std.specs.Prelude.{[], ◌≡◌, ◌≢◌, ℕ, ◌+◌, ◌≤◌, ◌==◌, if◌then◌else◌, Bool, false, List, ◌∷◌, map, length, Option, Some, None, Contains, vec_len, vec_capacity}
 use Rattle.std.specs.Option.{option_map_or}
 use Rattle.std.specs.List.{AllPairs}
 use Rattle.std.specs.Global.{Vec}
@@ -10,9 +10,9 @@ use Rattle.bt_book.specs.declared.names.BlockId.{BlockId}
 use Rattle.bt_book.specs.Blocks.{IsBefore}
 use Rattle.bt_wire.specs.declared.message.Message.TheVariants.{Have}
 use Rattle.bt_machine.specs.declared.answer.Note.{Note}
-use Rattle.bt_machine.specs.declared.answer.Note.TheVariants.{Marked as NowMarked}
+use Rattle.bt_machine.specs.declared.answer.Note.TheVariants.{Marked as NowMarked, Complete}
 use Rattle.bt_machine.specs.State.{EngineState}
-use Rattle.bt_machine.specs.Blocks.{states_of, state_at, piece_of, is_whole}
+use Rattle.bt_machine.specs.Blocks.{states_of, state_at, piece_of, is_whole, is_complete}
 use Rattle.bt_machine.specs.Output.{Sent, sent_to}
 
 -- ---- the blocks that notes say are marked
@@ -57,3 +57,7 @@ unless_last (Some n) last = if option_map_or (λ m. m == n) last false then None
 -- what is sent of a piece: a have to every peer, where it is whole
 abbrev pub haves_of : EngineState → ℕ → List Sent
 haves_of s piece = if is_whole s piece then map (λ p. sent_to p (Have piece)) s.peers else []
+
+-- a note of the file, where it is complete
+abbrev pub notes_if_complete : EngineState → ℕ → List Note
+notes_if_complete s file = if is_complete s file then Complete file ∷ [] else []

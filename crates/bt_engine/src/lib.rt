@@ -3,6 +3,7 @@
 #![tactic(auto)]
 
 mod engine;
+mod news;
 
 pub use bt_book::PeerKey;
 pub use bt_machine::{ConnectError, EngineError, FileReport};
