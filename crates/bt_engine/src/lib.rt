@@ -3,7 +3,11 @@
 #![tactic(auto)]
 
 mod engine;
+mod event;
 mod news;
+mod next;
+mod room;
+mod stand_in;
 
 pub use bt_book::PeerKey;
 pub use bt_machine::{ConnectError, EngineError, FileReport};
