@@ -1,16 +1,15 @@
 -- A slot whose store has become another.
-use Rattle.bt_machine.proofs.Base.{[], ◌≡◌, ◌≢◌, ℕ, zero, suc, ◌<◌, inl, inr, List, ◌∷◌, length, map, Option, Some, None, refl, sym, ap, ◌∙◌, arith, subst, slice_get, slice_set, option_and_then, option_map, option_map_or, Contains, BlockId, BlockState, Facts, File, Metainfo, Call, History, length-set}
+use Rattle.bt_machine.proofs.Base.{[], ◌≡◌, ◌≢◌, ℕ, zero, suc, inl, inr, List, ◌∷◌, length, map, Option, Some, refl, sym, ap, ◌∙◌, subst, slice_get, slice_set, option_and_then, option_map, option_map_or, BlockId, BlockState, Facts, File, Call, History, length-set}
 use Rattle.std.proofs.lemmas.Bool.{cases_eq}
 use Rattle.bt_disk.specs.Calls.{HasCalls}
 use Rattle.bt_store.specs.FileStore.{StoreView}
 use Rattle.bt_machine.specs.State.{EngineState, FileState}
 use Rattle.bt_machine.specs.Blocks.{state_at, states_of, block_id}
-use Rattle.bt_machine.specs.Changes.{DifferAt}
 use Rattle.bt_machine.specs.Devices.{calls_at, HaveCalls}
 use Rattle.bt_machine.proofs.Lists.{here as among_here, set_same, set_other, set_cases, some_is}
 use Rattle.bt_state.specs.BlockChange.{OneChanged}
 use Rattle.bt_state.specs.Parts.{file_of, disk_of}
-use Rattle.bt_state.specs.Ties.{FitsFile, FitsTree}
+use Rattle.bt_state.specs.Ties.{FitsTree}
 use Rattle.bt_state.specs.declared.slot.Slot.{Slot}
 use Rattle.bt_state.proofs.BlockChanges.{EachFits}
 use Rattle.bt_state.proofs.DeviceCalls.{have_one}
