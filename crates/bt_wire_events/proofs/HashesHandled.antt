@@ -10,13 +10,16 @@ use Rattle.bt_machine.specs.Blocks.{with_tree, with_peer}
 use Rattle.bt_machine.specs.Settling.{judged_file, due_blocks, settling_notes, SettlesIn}
 use Rattle.bt_machine.specs.declared.answer.Note.{Note}
 use Rattle.bt_machine.specs.declared.answer.Why.{Why}
-use Rattle.bt_machine.specs.HashMessages.{HandlesHashes, settled_count, unknown_root as no_such_root, no_claim as makes_no_claim, refused as is_refused, accepts_hashes, new_proofs}
+use Rattle.bt_machine.specs.declared.hash_state.HashState.{HashState}
+use Rattle.bt_machine.specs.declared.hash_state.HashState.TheVariants.{Idle}
+use Rattle.bt_machine.specs.HashMessages.{HandlesHashes, Resolves, settled_count, unknown_root as no_such_root, no_claim as makes_no_claim, refused as is_refused, accepts_hashes, new_proofs}
 use Rattle.bt_state.specs.Parts.{file_of, disk_of}
-use Rattle.bt_wire_events.specs.Runs.{HasCallsIfAny, SettlesSlot, SettlesSlots}
-use Rattle.bt_wire_events.specs.Learning.{AreRefused, unknown_root, no_claim, refused, ChangesByHashes, TakesHashes, effect_of}
+use Rattle.bt_wire_events.specs.RunSteps.{HasCallsIfAny, SettlesSlot, SettlesSlots}
+use Rattle.bt_wire_events.specs.LearningSteps.{AreRefused, unknown_root, no_claim, refused, ChangesByHashes}
+use Rattle.bt_wire_events.specs.Hashes.{effect_of}
 use Rattle.bt_state.specs.declared.slot.Slot.{Slot}
-use Rattle.bt_wire_events.specs.declared.hashes.Learnt.{Learnt}
-use Rattle.bt_wire_events.specs.declared.hashes.Learnt.TheVariants.{Refused, Settled}
+use Rattle.bt_wire_events.specs.declared.learning.Learnt.{Learnt}
+use Rattle.bt_wire_events.specs.declared.learning.Learnt.TheVariants.{Refused, Settled}
 
 -- ---- reads of one file among those of all
 
@@ -187,6 +190,23 @@ module _ {D H : Type 0} (history : D → History) (honest : D → Type 0) (fault
 
 -- ---- the event
 
+-- The engine then, which has these trees and files. Its i-th peer has this hash state where a proof was
+-- accepted.
+abbrev pub after_hashes : EngineState → ℕ → PeerState → HashState → Learnt → List Facts → List FileState → EngineState
+after_hashes s i p hash (Refused why) trees files = record s { trees = trees; files = files }
+after_hashes s i p hash (Settled notes) trees files = with_peer (record s { trees = trees; files = files }) i (record p { hash = hash })
+
+-- in every engine of these trees and files the machine takes the hashes by calls of these devices
+abbrev pub IsTaken : {D H : Type 0} → (D → History) → (D → Type 0) → (D → ℕ) → (List ℕ → List ℕ) → HashKey
+    → List ℕ → List Facts → List (Slot D H) → Learnt → List Facts → List (Slot D H) → Type 0
+IsTaken history honest faults dig key digests trees slots learnt grown settled =
+    (calls : DeviceCalls) × (proofs : List Hint)
+    × HaveCalls history honest faults (map disk_of slots) calls (map disk_of settled)
+    × ((s : EngineState) (i : ℕ) (p : PeerState) (hash : HashState) → s.trees ≡ trees
+    → s.files ≡ map file_of slots → Resolves key Idle p.hash hash
+    → HandlesHashes dig s i p key digests calls (effect_of learnt proofs)
+    (after_hashes s i p hash learnt grown (map file_of settled)))
+
 module _ {D H : Type 0} (history : D → History) (honest : D → Type 0) (faults : D → ℕ) (dig : List ℕ → List ℕ) (key : HashKey) (digests : List ℕ)
     (trees : List Facts) (slots : List (Slot D H)) (grown : List Facts) (settled : List (Slot D H)) where
   refused_so : (why : Why) → AreRefused dig trees key digests why → (s : EngineState) (i : ℕ) (p : PeerState) (proofs : List Hint) (handled : EngineState)
@@ -201,7 +221,7 @@ module _ {D H : Type 0} (history : D → History) (honest : D → Type 0) (fault
       (record { not_memory = memory; made = refl; has_effect = refl; after = is })
 
   pub takes_so : (learnt : Learnt) → ChangesByHashes history honest faults dig key digests trees slots learnt grown settled
-      → TakesHashes history honest faults dig key digests trees slots learnt grown settled
+      → IsTaken history honest faults dig key digests trees slots learnt grown settled
   takes_so (Refused why) c = (
     [],
     [],

@@ -1,21 +1,17 @@
-ghost use Rattle.std.specs.Prelude.{[], ◌≡◌, ◌≢◌, ◌≤◌, ◌<◌, ◌↔◌, ℕ, IsTrue, IfOk, IfErr, IfSome, IfNone, length, slice_get};
+ghost use Rattle.std.specs.Prelude.{[], ◌≡◌, ◌≢◌, ◌≤◌, ◌<◌, ◌↔◌, ℕ, IsTrue, IfOk, IfErr, IfSome, IfNone, length};
 ghost use Rattle.bt_meta.specs.Limits.{max_file_count};
 ghost use Rattle.bt_sparse.specs.SparseTree.{Facts};
-ghost use Rattle.bt_machine.specs.State.{EngineState, PeerState};
-ghost use Rattle.bt_machine.specs.HashMessages.{HandlesHashRequest, settled_count};
-ghost use Rattle.bt_machine.specs.WireEvents.{HandlesMessage};
-ghost use Rattle.bt_state.specs.Parts.{state_of};
-ghost use Rattle.bt_wire_events.specs.Hashes.{effect_of, IsAnswerBy};
-ghost use Rattle.bt_wire_events.specs.Learning.{HasRoot, LacksRoot, FitLengths, TakesHashes};
+ghost use Rattle.bt_machine.specs.HashMessages.{settled_count};
+ghost use Rattle.bt_wire_events.specs.NoteRooms.{note_count};
+ghost use Rattle.bt_wire_events.specs.LearningSteps.{HasRoot, LacksRoot, FitLengths, IsRoomFor, ChangesByHashes};
 
 use crate::runs::{room_for, settle_slots};
 use bt_disk::Disk;
 use bt_hashreq::{HashKey, to_claim};
 use bt_machine::{Note, Why};
-use bt_sparse::{AnswerError, ProofError, SparseTree};
-use bt_state::{Parts, Slot};
+use bt_sparse::{ProofError, SparseTree};
+use bt_state::Slot;
 use bt_tree::{Hash32, NodeHash};
-use bt_wire::Message;
 use std::alloc::{AllocError, Global};
 
 /// What hashes that came come to.
@@ -27,9 +23,9 @@ pub enum Learnt {
     Settled(Vec<Note>),
 }
 
-/// Takes hashes that come: the tree of their root learns them, and then the blocks of their run are settled
-/// in every file of the root. Where memory is refused, nothing changes.
-pub fn take_hashes<D: Disk + Drop, H: NodeHash>(
+/// The tree of their root learns hashes that come, and then the blocks of their run are settled in every file
+/// of the root. All room is made first. Errors: out of memory, and nothing changes then.
+pub(crate) fn learn_hashes<D: Disk + Drop, H: NodeHash>(
     alloc: Global,
     slots: &mut [Slot<D, H>],
     trees: &mut [SparseTree<H>],
@@ -38,8 +34,10 @@ pub fn take_hashes<D: Disk + Drop, H: NodeHash>(
 ) -> Result<Learnt, AllocError>
     requires fit { FitLengths trees.old slots.old }
     requires files { length slots.old ≤ max_file_count }
-    ensures takes { IfOk result (λ learnt. TakesHashes D.history D.honest D.faults H.digest
+    ensures changes { IfOk result (λ learnt. ChangesByHashes D.history D.honest D.faults H.digest
         key.now digests.now trees.old slots.old learnt trees.new slots.new) }
+    ensures few { IfOk result (λ learnt.
+        (room : ℕ) → IsRoomFor trees.old slots.old key.now room → note_count learnt ≤ room) }
     ensures trees { IfErr result (λ _. trees.new ≡ trees.old) }
     ensures slots { IfErr result (λ _. slots.new ≡ slots.old) }
 {
@@ -61,7 +59,7 @@ pub fn take_hashes<D: Disk + Drop, H: NodeHash>(
 }
 
 /// Where the tree of a root stands, if there is one.
-fn tree_of<H: NodeHash>(trees: &[SparseTree<H>], root: &Hash32) -> Option<usize>
+pub(crate) fn tree_of<H: NodeHash>(trees: &[SparseTree<H>], root: &Hash32) -> Option<usize>
     ensures inside { IfSome result (λ i. i < length trees.now) }
     ensures some { IfSome result (λ i. (k : Facts) × HasRoot trees.now root.now i k) }
     ensures none { IfNone result (LacksRoot trees.now root.now) }
@@ -82,7 +80,7 @@ fn has_root<H: NodeHash>(tree: &SparseTree<H>, root: &Hash32) -> bool
 }
 
 /// How many blocks the hashes may have waited for: with leaves in the run, as many as it has.
-fn settled_count(key: &HashKey) -> u32
+pub(crate) fn settled_count(key: &HashKey) -> u32
     ensures value { result ≡ settled_count key.now }
     ensures few { result ≤ key.now.length }
 {
@@ -98,50 +96,5 @@ fn refusal(fault: ProofError) -> Result<Learnt, AllocError>
     match fault {
         ProofError::OutOfMemory => Err(AllocError),
         _ => Ok(Learnt::Refused(Why::Proof(fault))),
-    }
-}
-
-/// Answers a hash request, or rejects it (None). Nothing changes.
-pub fn take_hash_request<D: Disk + Drop, H: NodeHash>(
-    parts: &Parts<D, H>,
-    key: &HashKey,
-) -> Result<Option<Vec<Hash32>>, AllocError>
-    ensures { IfOk result (λ digests. (i : ℕ) (p : PeerState) → HandlesMessage H.digest (state_of parts.now) i p
-        (Message.HashRequest key.now) [] (effect_of p key.now digests) (state_of parts.now)) }
-{
-    answer_hash_request(&parts.trees, key)
-}
-
-/// The digests that answer a hash request; None where no tree has them all, and the request is rejected.
-fn answer_hash_request<H: NodeHash>(
-    trees: &[SparseTree<H>],
-    key: &HashKey,
-) -> Result<Option<Vec<Hash32>>, AllocError>
-    ensures { IfOk result (λ digests. (s : EngineState) (p : PeerState) → s.trees ≡ trees.now
-        → HandlesHashRequest H.digest s p key.now (effect_of p key.now digests)) }
-{
-    for tree in trees {
-        if let Some(digests) = answer_by(tree, key)? {
-            return Ok(Some(digests));
-        }
-    }
-    Ok(None)
-}
-
-/// What one tree answers.
-fn answer_by<H: NodeHash>(
-    tree: &SparseTree<H>,
-    key: &HashKey,
-) -> Result<Option<Vec<Hash32>>, AllocError>
-    ensures { IfOk result (IsAnswerBy H.digest tree.now key.now) }
-{
-    if tree.root() != key.root {
-        return Ok(None);
-    }
-    match tree.answer(key.base, key.index, key.length, key.layers) {
-        Ok(digests) => Ok(Some(digests)),
-        Err(AnswerError::Shape) => Ok(None),
-        Err(AnswerError::Unknown) => Ok(None),
-        Err(AnswerError::OutOfMemory) => Err(AllocError),
     }
 }
