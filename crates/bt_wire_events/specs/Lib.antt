@@ -6,3 +6,4 @@ pub mod NoteRooms
 pub mod RunSteps
 pub mod LearningSteps
 pub mod Hashes
+pub mod HashesSteps

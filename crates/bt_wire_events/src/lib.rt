@@ -3,7 +3,7 @@
 #![tactic(auto)]
 
 mod hash_request;
-// mod hashes;
+mod hashes;
 mod hello;
 mod learning;
 mod message;
@@ -11,7 +11,7 @@ mod runs;
 mod settling;
 
 pub use hash_request::take_hash_request;
-// pub use hashes::{room_for_notes, take_hashes};
+pub use hashes::{room_for_notes, take_hashes};
 pub use hello::hello_fault;
 pub use learning::Learnt;
 pub use message::{resolved_hash_state, take_peer_event};

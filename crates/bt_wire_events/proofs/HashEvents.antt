@@ -1,0 +1,163 @@
+-- Hashes that come, over the parts of an engine.
+use Rattle.bt_machine.proofs.Base.{[], ◌≡◌, ℕ, ◌<◌, ◌≤◌, inl, inr, List, length, map, Option, Some, None, refl, sym, ap, ◌∙◌, subst, arith, slice_get, slice_set, option_map, PeerKey, File, Facts, History, HashKey, max_peers}
+use Rattle.std.proofs.lemmas.Bool.{cases_eq}
+use Rattle.std.proofs.lemmas.List.{with_items_is}
+use Rattle.std.specs.Vec.{with_item, with_items, vec_len, vec_capacity}
+use Rattle.bt_book.specs.Book.{asked_of, peers_of}
+use Rattle.bt_store.specs.FileStore.{StoreView}
+use Rattle.bt_machine.proofs.Lists.{some_is, map_some, set_same, set_other}
+use Rattle.bt_machine.proofs.Shape.{map_set}
+use Rattle.bt_machine.specs.State.{EngineState, PeerState, FileState}
+use Rattle.bt_machine.specs.Blocks.{with_peer}
+use Rattle.bt_machine.specs.HashMessages.{Resolves, settled_count, new_proofs}
+use Rattle.bt_machine.specs.Shape.{IsShaped}
+use Rattle.bt_machine.specs.declared.answer.Note.{Note}
+use Rattle.bt_machine.specs.declared.answer.Why.{Why}
+use Rattle.bt_machine.specs.declared.hash_state.HashState.{HashState}
+use Rattle.bt_machine.specs.declared.hash_state.HashState.TheVariants.{Idle}
+use Rattle.bt_machine.specs.Devices.{HaveCalls}
+use Rattle.bt_machine.specs.HashMessages.{HandlesHashes}
+use Rattle.bt_machine.specs.Output.{no_effect}
+use Rattle.bt_state.specs.BlockChange.{AreFollowed}
+use Rattle.bt_state.specs.Parts.{state_of, disks_of, peer_of, file_of, disk_of}
+use Rattle.bt_state.specs.Ties.{IsTied, FitsTree}
+use Rattle.bt_state.specs.declared.peer.Peer.{Peer}
+use Rattle.bt_state.specs.declared.slot.Slot.{Slot}
+use Rattle.bt_state.specs.declared.parts.Parts.{Parts}
+use Rattle.bt_state.proofs.BlockChanges.{EachFits, followed_alike, followed_tied, tied_followed, state_kept}
+use Rattle.bt_state.proofs.Lists.{get_mapped}
+use Rattle.bt_state.proofs.Ties.{state_set}
+use Rattle.bt_wire_events.specs.Hashes.{TakesHashes}
+use Rattle.bt_wire_events.specs.HashesSteps.{AreNotesOf, IsBehind}
+use Rattle.bt_wire_events.specs.LearningSteps.{AreRefused, Learns, ChangesByHashes, FitLengths}
+use Rattle.bt_wire_events.specs.RunSteps.{SettlesSlots, length_in}
+use Rattle.bt_wire_events.specs.declared.learning.Learnt.{Learnt}
+use Rattle.bt_wire_events.specs.declared.learning.Learnt.TheVariants.{Refused, Settled}
+use Rattle.bt_wire_events.proofs.HashesHandled.{at_file, nothing_called, refused_so, learning_calls, have_learning_calls, learnt_so}
+use Rattle.bt_wire_events.proofs.NotedBlocks.{slots_noted}
+use Rattle.bt_wire_events.proofs.Vectors.{vec_kept}
+
+-- each slot has a store of its tree's length
+pub fits_trees : {D H : Type 0} (parts : Parts D H) → IsTied parts → FitLengths parts.trees.items parts.slots.items
+fits_trees {D} parts tied file slot k here stands = λ same store has.
+    let of = (tied.each file slot here).some store has in
+    ap (λ (x : Facts). x.file_length) (some_is (sym stands ∙ of.stands)) ∙ of.same
+
+-- the lists that were lent are the parts'
+pub changes_of : {D H : Type 0} (history : D → History) (honest : D → Type 0) (faults : D → ℕ) (dig : List ℕ → List ℕ) (key : HashKey) (digests : List ℕ)
+    (old : Parts D H) (trees : List Facts) (slots : List (Slot D H)) (said learnt : Learnt) (grown : List Facts) (settled : List (Slot D H))
+    → trees ≡ old.trees.items → slots ≡ old.slots.items → said ≡ learnt
+    → ChangesByHashes history honest faults dig key digests trees slots said grown settled
+    → ChangesByHashes history honest faults dig key digests old.trees.items old.slots.items learnt grown settled
+changes_of {D} {H} history honest faults dig key digests old trees slots said learnt grown settled same_trees same_slots is changes =
+    subst (λ (ts : List Facts). ChangesByHashes history honest faults dig key digests ts old.slots.items learnt grown settled) same_trees
+    (subst (λ (ss : List (Slot D H)). ChangesByHashes history honest faults dig key digests trees ss learnt grown settled) same_slots
+    (subst (λ (l : Learnt). ChangesByHashes history honest faults dig key digests trees slots l grown settled) is changes))
+
+-- the same trees and slots were written over the parts'
+pub parts_kept : {D H : Type 0} (old : Parts D H) (trees : List Facts) (slots : List (Slot D H)) → length trees ≡ vec_len old.trees → trees ≡ old.trees.items
+    → length slots ≡ vec_len old.slots → slots ≡ old.slots.items
+    → record old { trees = with_items old.trees trees; slots = with_items old.slots slots } ≡ old
+parts_kept {D} {H} old trees slots tree_count same_trees slot_count same_slots =
+    ap {B = Parts D H} (λ ts. record old { trees = ts; slots = with_items old.slots slots }) (vec_kept old.trees trees tree_count same_trees)
+    ∙ ap {B = Parts D H} (λ ss. record old { slots = ss }) (vec_kept old.slots slots slot_count same_slots)
+
+-- hashes that are refused
+pub takes_refused : {D H : Type 0} (history : D → History) (honest : D → Type 0) (faults : D → ℕ) (dig : List ℕ → List ℕ) (key : HashKey) (digests : List ℕ)
+    (old new : Parts D H) (i : ℕ) (why : Why) → new ≡ old → AreRefused dig old.trees.items key digests why
+    → TakesHashes history honest faults dig old i key digests (Refused why) new
+takes_refused {D} {H} history honest faults dig key digests old new i why same refusal = (
+  [],
+  [],
+  subst (λ (x : Parts D H). HaveCalls history honest faults (disks_of old) [] (disks_of x)) (sym same) (nothing_called history honest faults (disks_of old)),
+  λ p at. refused_so dig key digests old.trees.items why refusal (state_of old) i p (state_of new) refl (ap (λ (x : Parts D H). state_of x) same),
+)
+
+no_store : {D : Type 0} (o : Option (StoreView D)) → option_map (λ store. store.file_length) o ≡ None → o ≡ None
+no_store None e = refl
+no_store (Some store) e = absurd cc
+
+module _ {D H : Type 0} (history : D → History) (honest : D → Type 0) (faults : D → ℕ) (dig : List ℕ → List ℕ) (key : HashKey) (digests : List ℕ)
+    (old : Parts D H) (tied : IsTied old) {notes : List Note} (grown : List Facts) (settled : List (Slot D H))
+    (l : Learns history honest faults dig key digests old.trees.items old.slots.items notes grown settled) where
+  -- the tree grew to one of its length
+  grown_at : (tree : ℕ) (k : Facts) → slice_get old.trees.items tree ≡ Some k
+      → (now : Facts) × (slice_get grown tree ≡ Some now) × (now.file_length ≡ k.file_length)
+  grown_at tree k stands = elim (cases_eq tree l.tree) [
+    | inl same ↦ (
+        l.new,
+        ap (λ ts. slice_get ts tree) l.grows ∙ ap (λ n. slice_get (slice_set old.trees.items l.tree l.new) n) same ∙ set_same old.trees.items l.tree l.here.here,
+        l.accepts.joins.file_length
+            ∙ ap (λ (x : Facts). x.file_length) (some_is (sym l.here.here ∙ ap (λ n. slice_get old.trees.items n) (sym same) ∙ stands)),
+      )
+    | inr apart ↦ (k, ap (λ ts. slice_get ts tree) l.grows ∙ set_other old.trees.items l.tree tree l.new apart ∙ stands, refl)
+  ]
+
+  pub fits_settled : EachFits old.torrent.files grown settled
+  fits_settled i slot at =
+      let o = at_file history honest faults dig l.new l.tree key.index (settled_count key) old.slots.items settled l.settles i at in
+      let was = tied.each i o.0 o.1 in
+      let same_tree : slot.tree ≡ o.0.tree = ap (λ (f : FileState). f.tree) o.2.judged in
+      record {
+        file = was.file;
+        listed = was.listed;
+        empty = λ none. was.empty (no_store o.0.store (sym o.2.same_file ∙ ap (option_map (λ (store : StoreView D). store.file_length)) none));
+        some = λ store has.
+            let before = map_some (λ (store : StoreView D). store.file_length) o.0.store
+            (sym o.2.same_file ∙ ap (option_map (λ (store : StoreView D). store.file_length)) has) in
+            let of = was.some before.0 before.1 in
+            let tree = grown_at o.0.tree of.facts of.stands in
+            record {
+              facts = tree.0;
+              stands = ap (λ n. slice_get grown n) same_tree ∙ tree.1;
+              same = tree.2 ∙ of.same ∙ before.2;
+              long = sym before.2 ∙ of.long;
+            };
+      }
+
+  module _ (next : Parts D H) (i : ℕ) {p : Peer} (q : Peer) (here : slice_get old.peers.items i ≡ Some p) (same : q.key ≡ p.key)
+      (trees : next.trees.items ≡ grown) (slots : next.slots.items ≡ settled) where
+    -- the parts before the notes are followed
+    abbrev learnt_parts : Parts D H
+    learnt_parts = record old { trees = next.trees; slots = next.slots; peers = with_item old.peers i q }
+
+    -- and then
+    abbrev new_parts : Parts D H
+    new_parts = record old { trees = next.trees; slots = next.slots; peers = with_item old.peers i q; book = next.book; unmarked = next.unmarked }
+
+    pub notes_behind : IsShaped old.torrent (state_of old) → IsBehind old.book.wanted old.unmarked.items notes (state_of learnt_parts)
+    notes_behind shaped =
+        let first : EngineState = record (state_of learnt_parts) { files = map file_of old.slots.items } in
+        record {
+          first = first;
+          same_torrent = refl;
+          followed = followed_alike first (followed_tied old tied shaped) refl refl;
+          noted = subst (λ (ss : List (Slot D H)). AreNotesOf first notes (record (state_of learnt_parts) { files = map file_of ss })) (sym slots)
+              (slots_noted dig l.new history honest faults l.tree key.index (settled_count key) old.slots.items settled notes l.settles (state_of learnt_parts));
+        }
+
+    pub keys_kept : map (λ p. p.key) new_parts.peers.items ≡ map (λ p. p.key) old.peers.items
+    keys_kept = map_set (λ p. p.key) old.peers.items i q here same
+
+    pub tied_learnt : peers_of next.book ≡ peers_of old.book → AreFollowed (state_of learnt_parts) next.book.wanted next.unmarked.items → IsTied new_parts
+    tied_learnt joined followed =
+        tied_followed old new_parts tied refl keys_kept tied.room joined
+        (ap (λ (ss : List (Slot D H)). length ss) slots ∙ l.settles.size)
+        (subst (λ (ts : List Facts). EachFits old.torrent.files ts next.slots.items) (sym trees)
+        (subst (λ (ss : List (Slot D H)). EachFits old.torrent.files grown ss) (sym slots) fits_settled))
+        (followed_alike (state_of new_parts) followed refl refl)
+
+    state_learnt : ((key : PeerKey) → asked_of next.book key ≡ asked_of old.book key)
+        → state_of new_parts ≡ with_peer (record (state_of old) { trees = grown; files = map file_of settled }) i (peer_of old.book q)
+    state_learnt asked =
+        state_kept learnt_parts new_parts refl (λ j x at. asked x.key)
+        ∙ ap {A = EngineState} {B = EngineState} (λ s. record s { trees = next.trees.items; files = map file_of next.slots.items }) (state_set old i q tied here same)
+        ∙ ap (λ (ts : List Facts). with_peer (record (state_of old) { trees = ts; files = map file_of next.slots.items }) i (peer_of old.book q)) trees
+        ∙ ap (λ (ss : List (Slot D H)). with_peer (record (state_of old) { trees = grown; files = map file_of ss }) i (peer_of old.book q)) slots
+
+    pub takes_learnt : {said : Learnt} (hash : HashState) → q ≡ record p { hash = hash } → Resolves key Idle p.hash hash
+        → ((key : PeerKey) → asked_of next.book key ≡ asked_of old.book key)
+        → (calls : _) × (proofs : _) × HaveCalls history honest faults (disks_of old) calls (disks_of new_parts)
+        × ((x : PeerState) → slice_get (state_of old).peers i ≡ Some x → HandlesHashes dig (state_of old) i x key digests calls
+        (record no_effect { notes = notes; proofs = proofs }) (state_of new_parts))
+    takes_learnt hash is resolves asked = ?
