@@ -1,12 +1,7 @@
 -- What the parts of an engine owe while the notes of settled blocks are followed, one after the other.
-use Rattle.bt_machine.proofs.Base.{[], ◌≡◌, ◌≢◌, ℕ, ◌<◌, ◌≤◌, inl, inr, List, ◌∷◌, Some, sym, ap, ◌∙◌, subst, arith, PeerKey, BlockId, BlockState, Missing, Metainfo, is_block, without_block, cases_lt}
+use Rattle.bt_machine.proofs.Base.{[], ◌≡◌, ℕ, List, ◌∷◌, sym, ap, ◌∙◌, subst, Metainfo}
 use Rattle.bt_book.specs.Blocks.{Blocks}
-use Rattle.bt_book.specs.Book.{BookState, IsBook, asked_of, pair_count}
-use Rattle.bt_book.proofs.Listed.{asked_le_pairs}
-use Rattle.bt_book.proofs.Once.{filter_none}
-use Rattle.bt_machine.proofs.Lists.{some_is}
 use Rattle.bt_machine.specs.State.{EngineState}
-use Rattle.bt_machine.specs.Blocks.{state_at}
 use Rattle.bt_machine.specs.declared.answer.Note.{Note}
 use Rattle.bt_machine.specs.declared.answer.Note.TheVariants.{Marked, Freed}
 use Rattle.bt_state.specs.BlockChange.{AreFollowed}
@@ -32,13 +27,3 @@ module _ {blocks : Blocks} {counts : List ℕ} {note : Note} {notes : List Note}
 
 pub behind_done : {blocks : Blocks} {counts : List ℕ} {last : EngineState} → IsBehind blocks counts [] last → AreFollowed last blocks counts
 behind_done {blocks} {counts} h = subst (λ (s : EngineState). AreFollowed s blocks counts) (sym h.noted) h.followed
-
--- no peer is asked for a block that is not missing
-pub known_unasked : {s : EngineState} {counts : List ℕ} (b : BlockId) {x : BlockState} (book : BookState) → IsBook book → AreFollowed s book.wanted counts
-    → state_at s b ≡ Some x → x ≢ Missing → (key : PeerKey) → without_block b (asked_of book key) ≡ asked_of book key
-known_unasked b book laws f at known key =
-    let free : pair_count book b ≤ 0 = elim (cases_lt 0 (pair_count book b)) [
-      | inl some ↦ absurd (known (some_is (sym at ∙ (f.wanted b).0 (laws.wanted b some))))
-      | inr le ↦ le
-    ] in
-    filter_none (is_block b) (asked_of book key) (omega (arith, free, asked_le_pairs key b book.peers))

@@ -1,11 +1,10 @@
 -- Hashes that come, over the parts of an engine.
 use Rattle.bt_machine.proofs.Base.{[], ◌≡◌, ℕ, ◌<◌, ◌≤◌, inl, inr, List, length, map, Option, Some, None, refl, sym, ap, ◌∙◌, subst, arith, slice_get, slice_set, option_map, PeerKey, File, Facts, History, HashKey, max_peers}
-use Rattle.std.proofs.lemmas.Bool.{cases_eq}
-use Rattle.std.proofs.lemmas.List.{with_items_is}
-use Rattle.std.specs.Vec.{with_item, with_items, vec_len, vec_capacity}
+use Rattle.std.specs.Global.{Vec}
+use Rattle.std.specs.Vec.{with_item, with_items, vec_len}
 use Rattle.bt_book.specs.Book.{asked_of, peers_of}
 use Rattle.bt_store.specs.FileStore.{StoreView}
-use Rattle.bt_machine.proofs.Lists.{some_is, map_some, set_same, set_other}
+use Rattle.bt_machine.proofs.Lists.{some_is, map_some}
 use Rattle.bt_machine.proofs.Shape.{map_set}
 use Rattle.bt_machine.specs.State.{EngineState, PeerState, FileState}
 use Rattle.bt_machine.specs.Blocks.{with_peer}
@@ -25,11 +24,12 @@ use Rattle.bt_state.specs.declared.peer.Peer.{Peer}
 use Rattle.bt_state.specs.declared.slot.Slot.{Slot}
 use Rattle.bt_state.specs.declared.parts.Parts.{Parts}
 use Rattle.bt_state.proofs.BlockChanges.{EachFits, followed_alike, followed_tied, tied_followed, state_kept}
+use Rattle.bt_state.proofs.SlotChanges.{fits_trees}
 use Rattle.bt_state.proofs.Lists.{get_mapped}
 use Rattle.bt_state.proofs.Ties.{state_set}
-use Rattle.bt_wire_events.specs.Hashes.{TakesHashes}
+use Rattle.bt_wire_events.specs.Hashes.{TakesHashes, IsNoteRoom}
 use Rattle.bt_wire_events.specs.HashesSteps.{AreNotesOf, IsBehind}
-use Rattle.bt_wire_events.specs.LearningSteps.{AreRefused, Learns, ChangesByHashes, FitLengths}
+use Rattle.bt_wire_events.specs.LearningSteps.{AreRefused, Learns, ChangesByHashes, FitLengths, IsRoomFor}
 use Rattle.bt_wire_events.specs.RunSteps.{SettlesSlots, length_in}
 use Rattle.bt_wire_events.specs.declared.learning.Learnt.{Learnt}
 use Rattle.bt_wire_events.specs.declared.learning.Learnt.TheVariants.{Refused, Settled}
@@ -38,8 +38,8 @@ use Rattle.bt_wire_events.proofs.NotedBlocks.{slots_noted}
 use Rattle.bt_wire_events.proofs.Vectors.{vec_kept}
 
 -- each slot has a store of its tree's length
-pub fits_trees : {D H : Type 0} (parts : Parts D H) → IsTied parts → FitLengths parts.trees.items parts.slots.items
-fits_trees {D} parts tied file slot k here stands = λ same store has.
+fits_lengths : {D H : Type 0} (parts : Parts D H) → IsTied parts → FitLengths parts.trees.items parts.slots.items
+fits_lengths {D} parts tied file slot k here stands = λ same store has.
     let of = (tied.each file slot here).some store has in
     ap (λ (x : Facts). x.file_length) (some_is (sym stands ∙ of.stands)) ∙ of.same
 
@@ -78,25 +78,13 @@ no_store None e = refl
 no_store (Some store) e = absurd cc
 
 module _ {D H : Type 0} (history : D → History) (honest : D → Type 0) (faults : D → ℕ) (dig : List ℕ → List ℕ) (key : HashKey) (digests : List ℕ)
-    (old : Parts D H) (tied : IsTied old) {notes : List Note} (grown : List Facts) (settled : List (Slot D H))
-    (l : Learns history honest faults dig key digests old.trees.items old.slots.items notes grown settled) where
-  -- the tree grew to one of its length
-  grown_at : (tree : ℕ) (k : Facts) → slice_get old.trees.items tree ≡ Some k
-      → (now : Facts) × (slice_get grown tree ≡ Some now) × (now.file_length ≡ k.file_length)
-  grown_at tree k stands = elim (cases_eq tree l.tree) [
-    | inl same ↦ (
-        l.new,
-        ap (λ ts. slice_get ts tree) l.grows ∙ ap (λ n. slice_get (slice_set old.trees.items l.tree l.new) n) same ∙ set_same old.trees.items l.tree l.here.here,
-        l.accepts.joins.file_length
-            ∙ ap (λ (x : Facts). x.file_length) (some_is (sym l.here.here ∙ ap (λ n. slice_get old.trees.items n) (sym same) ∙ stands)),
-      )
-    | inr apart ↦ (k, ap (λ ts. slice_get ts tree) l.grows ∙ set_other old.trees.items l.tree tree l.new apart ∙ stands, refl)
-  ]
-
+    (old : Parts D H) (tied : IsTied old) (notes : Vec Note) (grown : List Facts) (settled : List (Slot D H))
+    (l : Learns history honest faults dig key digests old.trees.items old.slots.items notes.items grown settled) where
   pub fits_settled : EachFits old.torrent.files grown settled
   fits_settled i slot at =
       let o = at_file history honest faults dig l.new l.tree key.index (settled_count key) old.slots.items settled l.settles i at in
-      let was = tied.each i o.0 o.1 in
+      let was = subst (λ (ts : List Facts). EachFits old.torrent.files ts old.slots.items) (sym l.grows)
+      (fits_trees old.slots.items l.tree l.new l.here.here l.accepts.joins.file_length tied.each) i o.0 o.1 in
       let same_tree : slot.tree ≡ o.0.tree = ap (λ (f : FileState). f.tree) o.2.judged in
       record {
         file = was.file;
@@ -106,11 +94,10 @@ module _ {D H : Type 0} (history : D → History) (honest : D → Type 0) (fault
             let before = map_some (λ (store : StoreView D). store.file_length) o.0.store
             (sym o.2.same_file ∙ ap (option_map (λ (store : StoreView D). store.file_length)) has) in
             let of = was.some before.0 before.1 in
-            let tree = grown_at o.0.tree of.facts of.stands in
             record {
-              facts = tree.0;
-              stands = ap (λ n. slice_get grown n) same_tree ∙ tree.1;
-              same = tree.2 ∙ of.same ∙ before.2;
+              facts = of.facts;
+              stands = ap (λ n. slice_get grown n) same_tree ∙ of.stands;
+              same = of.same ∙ before.2;
               long = sym before.2 ∙ of.long;
             };
       }
@@ -125,15 +112,15 @@ module _ {D H : Type 0} (history : D → History) (honest : D → Type 0) (fault
     abbrev new_parts : Parts D H
     new_parts = record old { trees = next.trees; slots = next.slots; peers = with_item old.peers i q; book = next.book; unmarked = next.unmarked }
 
-    pub notes_behind : IsShaped old.torrent (state_of old) → IsBehind old.book.wanted old.unmarked.items notes (state_of learnt_parts)
+    pub notes_behind : IsShaped old.torrent (state_of old) → IsBehind old.book.wanted old.unmarked.items notes.items (state_of learnt_parts)
     notes_behind shaped =
         let first : EngineState = record (state_of learnt_parts) { files = map file_of old.slots.items } in
         record {
           first = first;
           same_torrent = refl;
           followed = followed_alike first (followed_tied old tied shaped) refl refl;
-          noted = subst (λ (ss : List (Slot D H)). AreNotesOf first notes (record (state_of learnt_parts) { files = map file_of ss })) (sym slots)
-              (slots_noted dig l.new history honest faults l.tree key.index (settled_count key) old.slots.items settled notes l.settles (state_of learnt_parts));
+          noted = subst (λ (ss : List (Slot D H)). AreNotesOf first notes.items (record (state_of learnt_parts) { files = map file_of ss })) (sym slots)
+              (slots_noted dig l.new history honest faults l.tree key.index (settled_count key) old.slots.items settled notes.items l.settles (state_of learnt_parts));
         }
 
     pub keys_kept : map (λ p. p.key) new_parts.peers.items ≡ map (λ p. p.key) old.peers.items
@@ -147,7 +134,7 @@ module _ {D H : Type 0} (history : D → History) (honest : D → Type 0) (fault
         (subst (λ (ss : List (Slot D H)). EachFits old.torrent.files grown ss) (sym slots) fits_settled))
         (followed_alike (state_of new_parts) followed refl refl)
 
-    state_learnt : ((key : PeerKey) → asked_of next.book key ≡ asked_of old.book key)
+    state_learnt : ((known : PeerKey) → asked_of next.book known ≡ asked_of old.book known)
         → state_of new_parts ≡ with_peer (record (state_of old) { trees = grown; files = map file_of settled }) i (peer_of old.book q)
     state_learnt asked =
         state_kept learnt_parts new_parts refl (λ j x at. asked x.key)
@@ -155,9 +142,38 @@ module _ {D H : Type 0} (history : D → History) (honest : D → Type 0) (fault
         ∙ ap (λ (ts : List Facts). with_peer (record (state_of old) { trees = ts; files = map file_of next.slots.items }) i (peer_of old.book q)) trees
         ∙ ap (λ (ss : List (Slot D H)). with_peer (record (state_of old) { trees = grown; files = map file_of ss }) i (peer_of old.book q)) slots
 
-    pub takes_learnt : {said : Learnt} (hash : HashState) → q ≡ record p { hash = hash } → Resolves key Idle p.hash hash
-        → ((key : PeerKey) → asked_of next.book key ≡ asked_of old.book key)
-        → (calls : _) × (proofs : _) × HaveCalls history honest faults (disks_of old) calls (disks_of new_parts)
-        × ((x : PeerState) → slice_get (state_of old).peers i ≡ Some x → HandlesHashes dig (state_of old) i x key digests calls
-        (record no_effect { notes = notes; proofs = proofs }) (state_of new_parts))
-    takes_learnt hash is resolves asked = ?
+    pub takes_learnt : (hash : HashState) → q ≡ record p { hash = hash } → Resolves key Idle p.hash hash
+        → ((known : PeerKey) → asked_of next.book known ≡ asked_of old.book known)
+        → TakesHashes history honest faults dig old i key digests (Settled notes) new_parts
+    takes_learnt hash is resolves asked =
+        let calls = learning_calls dig key digests old.trees.items history honest faults old.slots.items grown settled l in
+        let proofs = new_proofs key digests l.old l.new in (
+          calls,
+          proofs,
+          subst (λ (ss : List (Slot D H)). HaveCalls history honest faults (disks_of old) calls (map disk_of ss)) (sym slots)
+              (have_learning_calls dig key digests old.trees.items history honest faults old.slots.items grown settled l),
+          λ x at.
+              let own : peer_of old.book p ≡ x = some_is (sym (get_mapped (peer_of old.book) old.peers.items i here) ∙ at) in
+              let after : peer_of old.book q ≡ record x { hash = hash } =
+              ap (peer_of old.book) is ∙ ap {A = PeerState} {B = PeerState} (λ y. record y { hash = hash }) own in
+              let last = state_learnt asked
+              ∙ ap (λ (y : PeerState). with_peer (record (state_of old) { trees = grown; files = map file_of settled }) i y) after in
+              subst (λ (t : EngineState). HandlesHashes dig (state_of old) i x key digests calls (record no_effect { notes = notes.items; proofs = proofs }) t) (sym last)
+              (learnt_so dig key digests old.trees.items history honest faults old.slots.items grown settled l (state_of old) i x hash refl refl
+              (subst (λ (y : PeerState). Resolves key Idle y.hash hash) own resolves)),
+        )
+
+-- room for the notes of the parts is room for those of their trees and slots
+pub room_of : {D H : Type 0} (old : Parts D H) (trees : List Facts) (slots : List (Slot D H)) (key : HashKey) (room : ℕ)
+    → trees ≡ old.trees.items → slots ≡ old.slots.items → IsNoteRoom old key room → IsRoomFor trees slots key room
+room_of {D} {H} old trees slots key room same_trees same_slots enough =
+    subst (λ (ts : List Facts). IsRoomFor ts slots key room) (sym same_trees)
+    (subst (λ (ss : List (Slot D H)). IsRoomFor old.trees.items ss key room) (sym same_slots)
+    (λ i k has. enough i k (record { here = has.here; same_root = has.same_root })))
+
+-- the slots and trees that were lent fit each other
+pub fits_lent : {D H : Type 0} (old : Parts D H) (trees : List Facts) (slots : List (Slot D H)) → trees ≡ old.trees.items → slots ≡ old.slots.items
+    → IsTied old → FitLengths trees slots
+fits_lent {D} {H} old trees slots same_trees same_slots tied =
+    subst (λ (ts : List Facts). FitLengths ts slots) (sym same_trees)
+    (subst (λ (ss : List (Slot D H)). FitLengths old.trees.items ss) (sym same_slots) (fits_lengths old tied))

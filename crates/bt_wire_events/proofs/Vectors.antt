@@ -1,12 +1,13 @@
 -- A `Vec` is told by what it holds, in the room that it has.
-use Rattle.std.proofs.Common.{◌≡◌, ℕ, ◌≤◌, List, length, refl, sym, ap, ◌∙◌, subst, slice_set}
-use Rattle.std.specs.Prelude.{slice_get}
-use Rattle.std.specs.Vec.{with_items, with_item, vec_len}
+use Rattle.std.proofs.Common.{◌≡◌, ℕ, ◌≤◌, List, length, refl, sym, ap, ◌∙◌, subst}
+use Rattle.std.proofs.Math.Nat.{ℕ_set}
+use Rattle.std.proofs.Math.Bridge.{le_prop}
+use Rattle.std.specs.Vec.{with_items, vec_len}
 use Rattle.std.specs.declared.vec.Vec.{Vec}
 use Rattle.std.proofs.lemmas.List.{with_items_is}
 
-one_ok : (len cap n : ℕ) (a b : (len ≡ n) × (len ≤ cap)) → a ≡ b
-one_ok len cap n = hlevel
+one_ok : (len most n : ℕ) (a b : (len ≡ n) × (len ≤ most)) → a ≡ b
+one_ok len most n = hlevel (ℕ_set, le_prop)
 
 module _ {X Z : Type 0} (v : Vec X Z) where
   abbrev holding : (items : List X) → (v.len ≡ length items) × (v.len ≤ v.cap) → Vec X Z

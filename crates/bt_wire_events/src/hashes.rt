@@ -103,8 +103,6 @@ fn follow_note<D: Disk + Drop, H: NodeHash>(parts: &mut Parts<D, H>, note: &Note
     ensures peers { peers_of parts.new.book ≡ peers_of parts.old.book }
     ensures others { parts.new ≡ record parts.old { book = parts.new.book; unmarked = parts.new.unmarked } }
 {
-    // By its laws no peer is asked for a block that waits.
-    parts.book.keeps_laws();
     match note {
         Note::Marked(block) => follow_block(parts, *block, BlockState::Waiting, BlockState::Marked),
         Note::Freed(block) => follow_block(parts, *block, BlockState::Waiting, BlockState::Missing),
