@@ -1,10 +1,11 @@
 -- Hashes that come, over the parts of an engine.
-use Rattle.bt_machine.proofs.Base.{[], ◌≡◌, ℕ, ◌<◌, ◌≤◌, inl, inr, List, length, map, Option, Some, None, refl, sym, ap, ◌∙◌, subst, arith, slice_get, slice_set, option_map, PeerKey, File, Facts, History, HashKey, max_peers}
+use Rattle.bt_machine.proofs.Base.{[], ◌≡◌, ◌≢◌, ℕ, ◌<◌, ◌≤◌, inl, inr, AllPairs, cases_lt, sum_by, List, length, map, Option, Some, None, refl, sym, ap, ◌∙◌, subst, arith, slice_get, slice_set, option_map, PeerKey, File, Facts, History, HashKey, max_peers}
 use Rattle.std.specs.Global.{Vec}
 use Rattle.std.specs.Vec.{with_item, with_items, vec_len}
 use Rattle.bt_book.specs.Book.{asked_of, peers_of}
 use Rattle.bt_store.specs.FileStore.{StoreView}
-use Rattle.bt_machine.proofs.Lists.{some_is, map_some}
+use Rattle.std.proofs.lemmas.Option.{get_or_from_slice_get}
+use Rattle.bt_machine.proofs.Lists.{some_is, some_below, map_some}
 use Rattle.bt_machine.proofs.Shape.{map_set}
 use Rattle.bt_machine.specs.State.{EngineState, PeerState, FileState}
 use Rattle.bt_machine.specs.Blocks.{with_peer}
@@ -28,8 +29,9 @@ use Rattle.bt_state.proofs.SlotChanges.{fits_trees}
 use Rattle.bt_state.proofs.Lists.{get_mapped}
 use Rattle.bt_state.proofs.Ties.{state_set}
 use Rattle.bt_wire_events.specs.Hashes.{TakesHashes, IsNoteRoom}
+use Rattle.bt_wire_events.specs.NoteRooms.{slot_room, run_room}
 use Rattle.bt_wire_events.specs.HashesSteps.{AreNotesOf, IsBehind}
-use Rattle.bt_wire_events.specs.LearningSteps.{AreRefused, Learns, ChangesByHashes, FitLengths, IsRoomFor}
+use Rattle.bt_wire_events.specs.LearningSteps.{HasRoot, AreRefused, Learns, ChangesByHashes, FitLengths, IsRoomFor}
 use Rattle.bt_wire_events.specs.RunSteps.{SettlesSlots, length_in}
 use Rattle.bt_wire_events.specs.declared.learning.Learnt.{Learnt}
 use Rattle.bt_wire_events.specs.declared.learning.Learnt.TheVariants.{Refused, Settled}
@@ -177,3 +179,28 @@ pub fits_lent : {D H : Type 0} (old : Parts D H) (trees : List Facts) (slots : L
 fits_lent {D} {H} old trees slots same_trees same_slots tied =
     subst (λ (ts : List Facts). FitLengths ts slots) (sym same_trees)
     (subst (λ (ss : List (Slot D H)). FitLengths old.trees.items ss) (sym same_slots) (fits_lengths old tied))
+
+-- ---- the room for notes
+
+one_tree : (trees : List Facts) (root : List ℕ) (i j : ℕ) {a b : Facts} → AllPairs (λ j k. j.root ≢ k.root) trees → HasRoot trees root i a → HasRoot trees root j b → i ≡ j
+one_tree trees root i j {a} {b} apart first second = elim (cases_lt i j) [
+  | inl lt ↦ absurd (distinct i j first second lt)
+  | inr le ↦ elim (cases_lt j i) [ inl lt ↦ absurd (distinct j i second first lt) | inr more ↦ omega arith ]
+]
+  where
+    distinct : (m n : ℕ) {c d : Facts} → HasRoot trees root m c → HasRoot trees root n d → m < n → ⊥
+    distinct m n {c} {d} one other lt =
+        apart m n c lt (some_below trees n other.here)
+        (ap (λ (k : Facts). k.root) (get_or_from_slice_get trees m c c one.here) ∙ one.same_root
+        ∙ sym (ap (λ (k : Facts). k.root) (get_or_from_slice_get trees n d c other.here) ∙ other.same_root))
+
+-- the tree that was found is the only one of its root
+pub room_found : {D H : Type 0} (parts : Parts D H) (key : HashKey) (i : ℕ) (k : Facts) (trees : List Facts) (slots : List (Slot D H)) (count room : ℕ)
+    → IsShaped parts.torrent (state_of parts) → trees ≡ parts.trees.items → slots ≡ parts.slots.items → HasRoot trees key.root i k
+    → count ≡ run_room key → room ≡ sum_by (slot_room i count) slots → IsNoteRoom parts key room
+room_found {D} {H} parts key i k trees slots count room shaped same_trees same_slots has counted is tree j of =
+    let found = subst (λ (ts : List Facts). HasRoot ts key.root i k) same_trees has in
+    let same : i ≡ tree = one_tree parts.trees.items key.root i tree shaped.roots found (record { here = of.here; same_root = of.same_root }) in
+    let total = is ∙ ap (λ n. sum_by (slot_room i n) slots) counted ∙ ap (λ (ss : List (Slot D H)). sum_by (slot_room i (run_room key)) ss) same_slots
+    ∙ ap (λ n. sum_by (slot_room n (run_room key)) parts.slots.items) same in
+    omega (arith, total)
