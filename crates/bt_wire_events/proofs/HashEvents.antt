@@ -1,5 +1,5 @@
 -- Hashes that come, over the parts of an engine.
-use Rattle.bt_machine.proofs.Base.{[], ◌≡◌, ◌≢◌, ℕ, ◌<◌, ◌≤◌, inl, inr, AllPairs, cases_lt, sum_by, List, length, map, Option, Some, None, refl, sym, ap, ◌∙◌, subst, arith, slice_get, slice_set, option_map, PeerKey, File, Facts, History, HashKey, max_peers}
+use Rattle.bt_machine.proofs.Base.{[], ◌≡◌, ◌≢◌, ℕ, ◌<◌, inl, inr, AllPairs, cases_lt, sum_by, List, length, map, Option, Some, None, refl, sym, ap, ◌∙◌, subst, arith, slice_get, option_map, PeerKey, Facts, History, HashKey}
 use Rattle.std.specs.Global.{Vec}
 use Rattle.std.specs.Vec.{with_item, with_items, vec_len}
 use Rattle.bt_book.specs.Book.{asked_of, peers_of}
@@ -20,7 +20,7 @@ use Rattle.bt_machine.specs.HashMessages.{HandlesHashes}
 use Rattle.bt_machine.specs.Output.{no_effect}
 use Rattle.bt_state.specs.BlockChange.{AreFollowed}
 use Rattle.bt_state.specs.Parts.{state_of, disks_of, peer_of, file_of, disk_of}
-use Rattle.bt_state.specs.Ties.{IsTied, FitsTree}
+use Rattle.bt_state.specs.Ties.{IsTied}
 use Rattle.bt_state.specs.declared.peer.Peer.{Peer}
 use Rattle.bt_state.specs.declared.slot.Slot.{Slot}
 use Rattle.bt_state.specs.declared.parts.Parts.{Parts}
@@ -32,7 +32,6 @@ use Rattle.bt_wire_events.specs.Hashes.{TakesHashes, IsNoteRoom}
 use Rattle.bt_wire_events.specs.NoteRooms.{slot_room, run_room}
 use Rattle.bt_wire_events.specs.HashesSteps.{AreNotesOf, IsBehind}
 use Rattle.bt_wire_events.specs.LearningSteps.{HasRoot, AreRefused, Learns, ChangesByHashes, FitLengths, IsRoomFor}
-use Rattle.bt_wire_events.specs.RunSteps.{SettlesSlots, length_in}
 use Rattle.bt_wire_events.specs.declared.learning.Learnt.{Learnt}
 use Rattle.bt_wire_events.specs.declared.learning.Learnt.TheVariants.{Refused, Settled}
 use Rattle.bt_wire_events.proofs.HashesHandled.{at_file, nothing_called, refused_so, learning_calls, have_learning_calls, learnt_so}

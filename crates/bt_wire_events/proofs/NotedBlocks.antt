@@ -1,5 +1,5 @@
 -- Blocks that were settled, note by note: each note leads to an engine in which one more block has another state.
-use Rattle.bt_machine.proofs.Base.{[], ◌≡◌, ◌≢◌, ℕ, zero, suc, ◌+◌, ◌<◌, ◌≤◌, Bool, true, false, cond, List, ◌∷◌, ◌++◌, length, map, flat_map, Option, Some, None, refl, sym, ap, ◌∙◌, subst, arith, ◌==◌, inl, inr, length-map, slice_get, slice_set, Contains, range_with_len, Facts, History, BlockRead, given, failed, block_of, is_right, judged, fault_count, waiting_blocks, BlockState, Missing, Waiting, Marked}
+use Rattle.bt_machine.proofs.Base.{[], ◌≡◌, ◌≢◌, ℕ, zero, suc, ◌+◌, ◌<◌, ◌≤◌, Bool, true, false, cond, List, ◌∷◌, ◌++◌, length, map, flat_map, Some, refl, sym, ap, ◌∙◌, subst, arith, ◌==◌, inl, inr, length-map, slice_get, slice_set, Contains, range_with_len, Facts, History, BlockRead, given, failed, block_of, is_right, fault_count, waiting_blocks, Missing, Waiting, Marked}
 use Rattle.std.specs.Prelude.{nat_lt}
 use Rattle.std.proofs.Common.{append_assoc}
 use Rattle.std.proofs.lemmas.Bool.{cases_eq, cases_lt}
@@ -7,7 +7,7 @@ use Rattle.std.proofs.lemmas.Option.{slice_get_past}
 use Rattle.bt_store.specs.BlockReads.{after_read}
 use Rattle.bt_store.proofs.Reviews.{read_kept}
 use Rattle.bt_store.proofs.Settling.{waiting_differ}
-use Rattle.bt_machine.proofs.Lists.{here as first_of, later, set_same, set_other, set_id, get_map, get_some, some_below}
+use Rattle.bt_machine.proofs.Lists.{here as first_of, later, set_same, set_other, set_id, get_some}
 use Rattle.bt_machine.proofs.Marks.{meant_then}
 use Rattle.bt_machine.proofs.Pairs.{Pairs, to_pairs}
 use Rattle.bt_machine.specs.State.{EngineState, FileState}

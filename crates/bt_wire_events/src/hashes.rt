@@ -71,11 +71,7 @@ pub fn room_for_notes<D: Disk + Drop, H: NodeHash>(parts: &Parts<D, H>, key: &Ha
     // A clause of this call says how many files there are at most.
     let _ = parts.torrent.files();
     match tree_of(&parts.trees, &key.root) {
-        Some(index) => room_for(
-            &parts.slots,
-            index,
-            settled_count(key).min(MAX_RUN_LENGTH),
-        ),
+        Some(index) => room_for(&parts.slots, index, settled_count(key).min(MAX_RUN_LENGTH)),
         None => 0,
     }
 }

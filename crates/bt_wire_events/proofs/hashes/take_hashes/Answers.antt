@@ -1,4 +1,4 @@
-use Rattle.std.proofs.Common.{◌≡◌, ◌≤◌, List, map, ap, sym, ◌∙◌, subst, refl}
+use Rattle.std.proofs.Common.{◌≤◌, List, map, ap, sym, ◌∙◌, subst, refl}
 use Rattle.std.proofs.lemmas.List.{with_items_is}
 use Rattle.std.specs.Vec.{with_items, with_item}
 use Rattle.bt_machine.proofs.Shape.{map_set}
@@ -14,7 +14,7 @@ use Rattle.bt_wire_events.proofs.Learnings.{if_err_by}
 use Rattle.bt_wire_events.specs.NoteRooms.{note_count}
 use Rattle.bt_wire_events.specs.declared.learning.Learnt.{Learnt}
 use Rattle.bt_wire_events.specs.declared.learning.Learnt.TheVariants.{Refused, Settled}
-use Rattle.bt_wire_events.proofs.HashEvents.{fits_lent, changes_of, parts_kept, takes_refused, room_of, notes_behind, keys_kept, tied_learnt, takes_learnt}
+use Rattle.bt_wire_events.proofs.HashEvents.{fits_lent, changes_of, parts_kept, takes_refused, room_of, notes_behind, tied_learnt, takes_learnt}
 use Rattle.bt_wire_events.proofs.hashes.take_hashes.Goals as goal
 
 pub learn_hashes-requires-clause-fit : goal.learn_hashes-requires-clause-fit

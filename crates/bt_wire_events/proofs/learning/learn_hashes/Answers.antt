@@ -5,10 +5,8 @@ use Rattle.std.specs.Prelude.{slice_set}
 use Rattle.bt_machine.proofs.Lists.{set_id}
 use Rattle.bt_machine.specs.declared.answer.Note.{Note}
 use Rattle.bt_wire_events.specs.RunSteps.{SettlesSlots}
-use Rattle.bt_machine.specs.declared.answer.Why.TheVariants.{UnknownRoot, Proof}
 use Rattle.bt_wire_events.specs.NoteRooms.{slot_room, run_room}
 use Rattle.bt_wire_events.specs.LearningSteps.{unknown_root, no_claim, refused, ChangesByHashes}
-use Rattle.bt_wire_events.specs.declared.learning.Learnt.TheVariants.{Refused, Settled}
 use Rattle.bt_wire_events.proofs.Learnings.{fits_all, if_ok_by, if_err_by, root_at}
 use Rattle.bt_wire_events.proofs.learning.learn_hashes.Goals as goal
 
