@@ -1,6 +1,5 @@
 pub mod Placing
-pub mod Putting
-pub mod AskedStanding
-pub mod Arriving
 pub mod SpanReads
-pub mod Servings
+pub mod Slots
+pub mod FileStates
+pub mod StoreChanges

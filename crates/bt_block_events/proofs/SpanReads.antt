@@ -16,7 +16,8 @@ use Rattle.bt_machine.specs.declared.answer.Note.{Note}
 use Rattle.bt_machine.specs.declared.answer.Note.TheVariants.{Damaged, Device}
 use Rattle.bt_machine.specs.Blocks.{block_id}
 use Rattle.bt_machine.specs.Spans.{spanned_blocks, first_block, last_block}
-use Rattle.bt_block_events.specs.Serving.{one_or_two, IsReadRight, IsReadWrong, AreReadRight, StopAtFault, Finds, damaged, fault, IsMarkedSpan, SendsSpan}
+use Rattle.bt_block_events.specs.SpansSteps.{IsShortSpan}
+use Rattle.bt_block_events.specs.ServingSteps.{one_or_two, IsReadRight, IsReadWrong, AreReadRight, StopAtFault, Finds, damaged, fault, IsMarkedSpan, SendsSpan}
 
 -- ---- what a read of a marked block comes to
 
@@ -275,18 +276,22 @@ module _ (span : Span) (some : 1 ≤ span.length) (few : span.length ≤ 16384) 
       → (slice_get states (first_block span) ≡ Some Marked) × (slice_get states (last_block span) ≡ Some Marked)
   ends_marked states m = (m.marked (first_block span) spans_first, m.marked (last_block span) spans_last)
 
-  pub stops_span : {D : Type 0} (history : D → History) (honest : D → Type 0) (faults : D → ℕ) (dig : List ℕ → List ℕ) (k : Facts) (file : ℕ) (note : Note) (old new : StoreView D)
-      → StopAtFault history honest faults dig k file (one_or_two (first_block span) (last_block span)) note old new
-      → StopAtFault history honest faults dig k file (spanned_blocks span) note old new
-  stops_span history honest faults dig k file note old new r =
-      subst (λ l. StopAtFault history honest faults dig k file l note old new) (sym (spanned_is span some few)) r
+  module _ (first last : ℕ) (is_first : first ≡ first_block span) (is_last : last ≡ last_block span) where
+   spanned_by : one_or_two first last ≡ spanned_blocks span
+   spanned_by = ap (λ i. one_or_two i last) is_first ∙ ap (λ i. one_or_two (first_block span) i) is_last ∙ sym (spanned_is span some few)
 
-  pub sends_span : {D : Type 0} (history : D → History) (honest : D → Type 0) (faults : D → ℕ) (dig : List ℕ → List ℕ) (k : Facts) (all sent : List ℕ) (old new : StoreView D)
-      → AreReadRight history honest faults dig k (one_or_two (first_block span) (last_block span)) all old new
+   pub stops_span : {D : Type 0} (history : D → History) (honest : D → Type 0) (faults : D → ℕ) (dig : List ℕ → List ℕ) (k : Facts) (file : ℕ) (note : Note) (old new : StoreView D)
+      → StopAtFault history honest faults dig k file (one_or_two first last) note old new
+      → StopAtFault history honest faults dig k file (spanned_blocks span) note old new
+   stops_span history honest faults dig k file note old new r =
+      subst (λ l. StopAtFault history honest faults dig k file l note old new) spanned_by r
+
+   pub sends_span : {D : Type 0} (history : D → History) (honest : D → Type 0) (faults : D → ℕ) (dig : List ℕ → List ℕ) (k : Facts) (all sent : List ℕ) (old new : StoreView D)
+      → AreReadRight history honest faults dig k (one_or_two first last) all old new
       → sent ≡ take span.length (drop (span.start % 16384) all)
       → SendsSpan history honest faults dig k span sent old new
-  sends_span history honest faults dig k all sent old new r cut =
-      let whole = subst (λ l. AreReadRight history honest faults dig k l all old new) (sym (spanned_is span some few)) r in
+   sends_span history honest faults dig k all sent old new r cut =
+      let whole = subst (λ l. AreReadRight history honest faults dig k l all old new) spanned_by r in
       let offset : span.start % 16384 ≡ span.start - 16384 * (span.start / 16384) = omega arith in
       record {
         bytes = whole.bytes;
@@ -301,9 +306,9 @@ module _ (span : Span) (some : 1 ≤ span.length) (few : span.length ≤ 16384) 
 -- ---- where a range lies
 
 pub place_is_short : (torrent : Metainfo) (piece begin count : ℕ) (o : Option Span) → All (IsLawfulFile torrent.piece_length) torrent.files
-    → IfSome o (IsPlace torrent piece begin count) → IfSome o (λ span. span.start + span.length ≤ max_file_length)
+    → IfSome o (IsPlace torrent piece begin count) → IfSome o IsShortSpan
 place_is_short torrent piece begin count None all place = place
 place_is_short torrent piece begin count (Some span) all place =
     let lawful = All-get_or (IsLawfulFile torrent.piece_length) torrent.files span.file place.file place.listed all in
     let short : place.file.length ≤ max_file_length = subst (λ f. f.length ≤ max_file_length) (place.found place.file) lawful.short in
-    omega arith
+    record { some = omega (arith, place.all, place.some); few = omega (arith, place.all, place.block); inside = omega (arith, place.all, place.in_file) }

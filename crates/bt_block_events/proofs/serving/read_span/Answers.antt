@@ -1,26 +1,28 @@
-use Rattle.std.proofs.Common.{take, arith}
-use Rattle.std.proofs.lemmas.Result.{err_from_is_err_and}
-use Rattle.bt_block_events.proofs.SpanReads.{one_block, two_blocks, first_fails, second_fails, both_parts}
+use Rattle.std.proofs.Common.{◌%◌, length, take, drop, ap, ◌∙◌}
+use Rattle.std.proofs.lemmas.List.{take_at}
+use Rattle.bt_block_events.proofs.SpanReads.{ends_marked, stops_span, sends_span}
 use Rattle.bt_block_events.proofs.serving.read_span.Goals as goal
 
-pub returns-in_err-count-clause-wrong : goal.returns-in_err-count-clause-wrong
-returns-in_err-count-clause-wrong g c =
-    let d = g.D.Disk in
-    let p = err_from_is_err_and c.from_residual.result c.from_residual.ensures.1 in
-    rw (p.1, p.2) (first_fails d.history d.honest d.faults g.H.NodeHash.digest c.args.tree.now c.args.file c.args.first c.args.last _ c.args.store.now c.read_block.new.store c.in_err-count.ensures.wrong)
+pub read_blocks-requires-clause-first : goal.read_blocks-requires-clause-first
+read_blocks-requires-clause-first g c =
+    rw c.first_block-first.ensures (ends_marked c.args.span c.requires.short.some c.requires.short.few c.args.store.now.states c.requires.marked).0
 
-pub returns-then-first-last-clause-right : goal.returns-then-first-last-clause-right
-returns-then-first-last-clause-right g c =
-    let d = g.D.Disk in
-    one_block d.history d.honest d.faults g.H.NodeHash.digest c.args.tree.now c.args.file c.args.first c.args.last (take c.in_ok-count.count c.read_block.new.out) c.args.store.now c.read_block.new.store c.if-first-last.true c.in_ok-count.ensures.right
+pub read_blocks-requires-clause-last : goal.read_blocks-requires-clause-last
+read_blocks-requires-clause-last g c =
+    rw c.last_block-last.ensures (ends_marked c.args.span c.requires.short.some c.requires.short.few c.args.store.now.states c.requires.marked).1
 
-pub returns-in_err-more-clause-wrong : goal.returns-in_err-more-clause-wrong
-returns-in_err-more-clause-wrong g c =
+pub returns-in-Ok-clause-right : goal.returns-in-Ok-clause-right
+returns-in-Ok-clause-right g c =
     let d = g.D.Disk in
-    let p = err_from_is_err_and c.from_residual-in_err-more.result c.from_residual-in_err-more.ensures.1 in
-    rw (p.1, p.2) (second_fails d.history d.honest d.faults g.H.NodeHash.digest c.args.tree.now c.args.file c.args.first c.args.last (take c.in_ok-count.count c.read_block.new.out) _ c.args.store.now c.read_block.new.store c.read_block-2.new.store c.if-first-last.false c.in_ok-count.ensures.right c.in_err-more.ensures.wrong)
+    let span = c.args.span in
+    let whole = take_at c.read_blocks.new.out (drop (length c.read_blocks.new.out) c.args.room.items) c.args.room.len (c.read_blocks.auto.out ∙ c.as_mut_slice.ensures.len) in
+    sends_span span c.requires.short.some c.requires.short.few c.first_block-first.result c.last_block-last.result c.first_block-first.ensures c.last_block-last.ensures
+    d.history d.honest d.faults g.H.NodeHash.digest c.args.tree.now _ c.cut.result.items c.args.store.now c.read_blocks.new.store
+    c.in-Ok.ensures.right (c.cut.ensures ∙ ap (λ l. take span.length (drop (span.start % 16384) (take c.in-Ok.count l))) whole)
 
-pub returns-clause-right : goal.returns-clause-right
-returns-clause-right g c =
+pub returns-in-Err-clause-wrong : goal.returns-in-Err-clause-wrong
+returns-in-Err-clause-wrong g c =
     let d = g.D.Disk in
-    two_blocks d.history d.honest d.faults g.H.NodeHash.digest c.args.tree.now c.args.file c.args.first c.args.last (take c.in_ok-count.count c.read_block.new.out) (take c.in_ok-more.more c.read_block-2.new.out) _ c.args.store.now c.read_block.new.store c.read_block-2.new.store c.if-first-last.false (both_parts c.in_ok-count.count c.in_ok-more.more c.read_block.new.out c.read_block-2.new.out (omega arith) c.in_ok-count.ensures.within c.in_ok-more.ensures.within c.read_block-2.auto.out) c.in_ok-count.ensures.right c.in_ok-more.ensures.right
+    stops_span c.args.span c.requires.short.some c.requires.short.few c.first_block-first.result c.last_block-last.result c.first_block-first.ensures c.last_block-last.ensures
+    d.history d.honest d.faults g.H.NodeHash.digest c.args.tree.now c.args.span.file c.in-Err.note
+    c.args.store.now c.read_blocks.new.store c.in-Err.ensures.wrong

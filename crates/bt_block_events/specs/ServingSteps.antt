@@ -1,58 +1,18 @@
--- What a request for a range of one file comes to, and how its blocks are read.
-use Rattle.std.specs.Prelude.{◌≡◌, ℕ, ◌==◌, Bool, if◌then◌else◌, List, [], ◌∷◌, ◌++◌, map, flat_map, Some, slice_get, slice_set, Contains}
+-- How the blocks that a range of a file lies in are read.
+use Rattle.std.specs.Prelude.{◌≡◌, ℕ, ◌==◌, if◌then◌else◌, List, [], ◌∷◌, ◌++◌, map, flat_map, Some, slice_get, slice_set, Contains}
 use Rattle.bt_disk.specs.History.{History}
 use Rattle.bt_disk.specs.Calls.{HasCalls}
-use Rattle.bt_meta.specs.Torrent.{Metainfo}
 use Rattle.bt_meta.specs.declared.torrent.Span.{Span}
 use Rattle.bt_sparse.specs.SparseTree.{Facts}
 use Rattle.bt_store.specs.FileStore.{StoreView}
 use Rattle.bt_store.specs.BlockReads.{BlockRead, given, failed, call_of, IsRight}
 use Rattle.bt_store.specs.declared.block_states.BlockState.{BlockState}
 use Rattle.bt_store.specs.declared.block_states.BlockState.TheVariants.{Missing, Marked}
-use Rattle.bt_wire.specs.declared.message.Ask.{Ask}
-use Rattle.bt_wire.specs.declared.message.Message.TheVariants.{Piece}
 use Rattle.bt_machine.specs.declared.answer.Note.{Note}
 use Rattle.bt_machine.specs.declared.answer.Note.TheVariants.{Damaged, Device}
-use Rattle.bt_machine.specs.State.{PeerState, FileState, EngineState}
 use Rattle.bt_machine.specs.Blocks.{block_id}
 use Rattle.bt_machine.specs.Spans.{spanned_blocks, cut_from}
-use Rattle.bt_machine.specs.Output.{Effect, no_effect, noting, closing, sending}
-use Rattle.bt_machine.specs.Request.{with_payload, ReadsRight}
-use Rattle.bt_block_events.specs.declared.serving.Served.{Served}
-use Rattle.bt_block_events.specs.declared.serving.Served.TheVariants.{Nothing, Closed, Sent, Found}
-
--- an engine in which a file has this tree and these states of its blocks, and its i-th peer, which we choke
--- or not
-pub record TellsServer (torrent : Metainfo) (tree : Facts) (file : ℕ) (states : List BlockState)
-    (am_choking : Bool) (s : EngineState) (i : ℕ) (p : PeerState) (f : FileState) : Type 0 where
-  pub same_torrent : s.torrent ≡ torrent
-  pub file_here : slice_get s.files file ≡ Some f
-  pub has_tree : slice_get s.trees f.tree ≡ Some tree
-  pub same_states : f.states ≡ states
-  pub here : slice_get s.peers i ≡ Some p
-  pub choking : p.am_choking ≡ am_choking
-
--- what a request does to the peer and the notes
-abbrev pub effect_of : PeerState → Ask → Served → Effect
-effect_of p ask Nothing = no_effect
-effect_of p ask (Closed why) = closing why
-effect_of p ask (Sent bytes) = sending p (Piece ask.piece ask.begin bytes.items)
-effect_of p ask (Found note) = noting note
-
--- bytes that are sent are counted
-abbrev pub peer_after : PeerState → Ask → Served → PeerState
-peer_after p ask Nothing = p
-peer_after p ask (Closed why) = p
-peer_after p ask (Sent bytes) = with_payload ask.length p
-peer_after p ask (Found note) = p
-
--- the engine then, in which the file's blocks have these states
-abbrev pub after_serving : EngineState → ℕ → PeerState → (file : ℕ) → FileState → List BlockState → Ask
-    → Served → EngineState
-after_serving s i p file f states ask served = record s {
-  files = slice_set s.files file (record f { states = states });
-  peers = slice_set s.peers i (peer_after p ask served);
-}
+use Rattle.bt_machine.specs.Request.{ReadsRight}
 
 -- the one block, where the first is the last, or the two
 abbrev pub one_or_two : (first last : ℕ) → List ℕ
@@ -122,15 +82,3 @@ pub record SendsSpan {D : Type 0} (history : D → History) (honest : D → Type
   pub right : ReadsRight dig k (spanned_blocks span) bytes reads
   pub cut : sent ≡ cut_from span bytes
   pub others : new ≡ record old { disk = new.disk }
-
--- what a request for a span comes to
-abbrev pub AnswersSpan : {D : Type 0} → (D → History) → (D → Type 0) → (D → ℕ) → (List ℕ → List ℕ) → Facts
-    → (file : ℕ) → Span → (old new : StoreView D) → Served → Type 0
-AnswersSpan history honest faults dig k file span old new Nothing =
-    (¬ IsMarkedSpan old.states span) × (new ≡ old)
-AnswersSpan history honest faults dig k file span old new (Closed why) = ⊥
-AnswersSpan history honest faults dig k file span old new (Sent bytes) =
-    IsMarkedSpan old.states span × SendsSpan history honest faults dig k span bytes.items old new
-AnswersSpan history honest faults dig k file span old new (Found note) =
-    IsMarkedSpan old.states span
-    × StopAtFault history honest faults dig k file (spanned_blocks span) note old new
